@@ -1,0 +1,13 @@
+pub mod Tree
+pub mod Reading
+pub mod Engine
+pub mod Act
+pub mod ActForms
+pub mod Host
+pub mod Names
+pub mod Faults
+pub mod Core
+pub mod Desugar
+pub mod Calls
+pub mod Meaning
+pub mod Run

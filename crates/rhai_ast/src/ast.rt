@@ -1,0 +1,9 @@
+//! The syntax tree.
+
+pub mod expr;
+pub mod script_fn;
+pub mod stmt;
+
+pub use expr::{Expr, FnCallExpr};
+pub use script_fn::{FnAccess, ScriptFuncDef};
+pub use stmt::{FlowControl, Stmt, StmtBlock};

@@ -1,0 +1,4 @@
+pub mod Value
+pub mod Operators
+pub mod Reading
+pub mod formers

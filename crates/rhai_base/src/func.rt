@@ -1,0 +1,5 @@
+//! Built-in functions.
+
+pub mod builtin;
+
+pub use builtin::builtin_binary_op;

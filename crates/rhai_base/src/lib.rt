@@ -1,0 +1,16 @@
+//! Script values, operators, texts, positions and scopes: what the syntax tree is made of.
+#![tactic(auto)]
+
+mod boxed;
+pub mod error;
+pub mod func;
+mod rest;
+mod seq;
+pub mod types;
+
+pub use boxed::Boxed;
+pub use error::{Fault, OutOfMemory};
+pub use func::builtin_binary_op;
+pub use rest::Rest;
+pub use seq::Seq;
+pub use types::{Dynamic, INT, ImmutableString, Position, Scope, ScopeEntry, Span, Token};

@@ -1,0 +1,142 @@
+ghost use Rattle.std.specs.Prelude.{◌≡◌, ◌≢◌, [], ◌∷◌, ◌++◌, length, ◌↔◌, IsTrue, IfOk, MatchOption, OnOk, OnErr};
+ghost use Rattle.std.specs.List.{AllZip};
+ghost use Rattle.std.specs.Hash as fed;
+ghost use Rattle.std.specs.Hash.{on_Alike, items_Alike};
+ghost use Rattle.std.specs.Cmp.Lexicographic.{pointwise, lists_equiv, lists_per};
+
+use crate::Rest;
+use std::alloc::{AllocError, Global};
+use std::hash::{Hash, Hasher};
+use std::marker::Model;
+
+/// A list that contracts see as its items alone, so that a clone equals what it was made of.
+#[derive(Debug, Drop)]
+pub struct Seq<T> {
+    items: Vec<T>,
+}
+
+impl<T> Model for Seq<T> {
+    ghost use Rattle.std.specs.Prelude.{List};
+    ghost use Rattle.std.specs.Coded.{coded_list};
+
+    ghost Value = { List T };
+
+    ghost coded = { coded_list T.code };
+
+    ghost view = { λ it. it.items.items };
+}
+
+impl<T> Seq<T> {
+    pub fn new(alloc: Global) -> Seq<T>
+        ensures { result ≡ [] }
+    {
+        Seq {
+            items: Vec::new(alloc),
+        }
+    }
+
+    pub fn from_vec(items: Vec<T>) -> Seq<T>
+        ensures { result ≡ items.items }
+    {
+        Seq { items }
+    }
+
+    pub fn into_vec(self) -> Vec<T>
+        ensures { result.items ≡ self }
+    {
+        let Seq { items } = self;
+        items
+    }
+
+    /// Its items, to be taken from the front.
+    pub fn into_rest(self) -> Rest<T>
+        ensures { result ≡ self }
+    {
+        let Seq { items } = self;
+        Rest::new(items)
+    }
+
+    pub fn allocator(&self) -> Global {
+        *self.items.allocator()
+    }
+
+    pub fn as_slice(&self) -> &[T]
+        ensures { result.now ≡ self.now }
+    {
+        self.items.as_slice()
+    }
+
+    pub fn len(&self) -> usize
+        ensures { result ≡ length self.now }
+    {
+        self.items.len()
+    }
+
+    pub fn is_empty(&self) -> bool
+        ensures { IsTrue result ↔ (self.now ≡ []) }
+    {
+        self.items.is_empty()
+    }
+}
+
+impl<T: Drop> Seq<T> {
+    pub fn push(&mut self, item: T) -> Result<(), AllocError>
+        ensures ok { OnOk result (self.new ≡ self.old ++ item ∷ []) }
+        ensures err { OnErr result (self.new ≡ self.old) }
+    {
+        self.items.push(item)?;
+        Ok(())
+    }
+
+    /// The item of a list of one.
+    pub fn into_only(mut self) -> Option<T>
+        ensures { MatchOption result (length self ≢ 1) (λ item. self ≡ item ∷ []) }
+    {
+        if self.len() != 1 {
+            return None;
+        }
+        self.items.pop()
+    }
+}
+
+impl<T: Copy> Seq<T> {
+    pub fn from_slice(alloc: Global, items: &[T]) -> Result<Seq<T>, AllocError>
+        ensures { IfOk result (λ s. s ≡ items.now) }
+    {
+        let items = Vec::from_slice(alloc, items)?;
+        Ok(Seq { items })
+    }
+}
+
+impl<T: Clone + Drop> Clone for Seq<T> {
+    ghost is_clone = { λ s t. AllZip T.is_clone s t };
+
+    fn clone(&self) -> Result<Seq<T>, AllocError> {
+        let items = self.items.clone()?;
+        Ok(Seq { items })
+    }
+}
+
+impl<T: PartialEq> PartialEq for Seq<T> {
+    ghost eq = { λ x y. pointwise T.eq x y };
+
+    ghost laws = { lists_per T.laws };
+
+    fn eq(&self, other: &Self) -> bool {
+        self.items.eq(&other.items)
+    }
+}
+
+impl<T: Eq> Eq for Seq<T> {
+    ghost laws = { lists_equiv T.Eq.laws };
+}
+
+impl<T: Hash> Hash for Seq<T> {
+    ghost hash_input = { λ s. fed.slice T.hash_input s };
+
+    ghost respects_eq = { (items_Alike (record { fed = T.respects_eq })).fed };
+
+    fn hash<H: Hasher>(&self, state: &mut H) {
+        self.items.hash(state);
+    }
+}
