@@ -11,3 +11,6 @@ pub mod Desugar
 pub mod Calls
 pub mod Meaning
 pub mod Run
+pub mod Constants
+pub mod Queries
+pub mod Relations

@@ -4,6 +4,6 @@ pub mod expr;
 pub mod script_fn;
 pub mod stmt;
 
-pub use expr::{Expr, FnCallExpr};
+pub use expr::{Expr, FnCallExpr, are_constant};
 pub use script_fn::{FnAccess, ScriptFuncDef};
 pub use stmt::{FlowControl, Stmt, StmtBlock};

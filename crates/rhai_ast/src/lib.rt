@@ -3,4 +3,4 @@
 
 pub mod ast;
 
-pub use ast::{Expr, FlowControl, FnAccess, FnCallExpr, ScriptFuncDef, Stmt, StmtBlock};
+pub use ast::{Expr, FlowControl, FnAccess, FnCallExpr, ScriptFuncDef, Stmt, StmtBlock, are_constant};

@@ -1,4 +1,6 @@
 pub mod Value
 pub mod Operators
 pub mod Reading
+pub mod Builtin
+pub mod Symbols
 pub mod formers

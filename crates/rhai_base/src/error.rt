@@ -1,6 +1,6 @@
 //! What a call answers when it cannot do what it was asked.
 
-use std::alloc::AllocError;
+use std::alloc::{AllocError, AllocFailed};
 
 /// There was no memory for what had to grow.
 #[derive(Clone, Copy, Debug, PartialEq, Eq)]
@@ -8,6 +8,12 @@ pub struct OutOfMemory;
 
 impl From<AllocError> for OutOfMemory {
     fn from(_: AllocError) -> OutOfMemory {
+        OutOfMemory
+    }
+}
+
+impl<T: Drop> From<AllocFailed<T>> for OutOfMemory {
+    fn from(_: AllocFailed<T>) -> OutOfMemory {
         OutOfMemory
     }
 }

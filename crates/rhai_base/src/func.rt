@@ -2,4 +2,4 @@
 
 pub mod builtin;
 
-pub use builtin::builtin_binary_op;
+pub use builtin::{builtin_binary_op, builtin_unary_op};

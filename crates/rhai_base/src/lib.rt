@@ -10,7 +10,9 @@ pub mod types;
 
 pub use boxed::Boxed;
 pub use error::{Fault, OutOfMemory};
-pub use func::builtin_binary_op;
+pub use func::{builtin_binary_op, builtin_unary_op};
 pub use rest::Rest;
 pub use seq::Seq;
-pub use types::{Dynamic, INT, ImmutableString, Position, Scope, ScopeEntry, Span, Token};
+pub use types::{
+    Dynamic, INT, ImmutableString, Position, Scope, ScopeEntry, ScopeIter, Span, Token,
+};

@@ -1,3 +1,4 @@
+//! A list that contracts see as its items.
 ghost use Rattle.std.specs.Prelude.{◌≡◌, ◌≢◌, [], ◌∷◌, ◌++◌, length, ◌↔◌, IsTrue, IfOk, MatchOption, OnOk, OnErr};
 ghost use Rattle.std.specs.List.{AllZip};
 ghost use Rattle.std.specs.Hash as fed;
@@ -27,6 +28,7 @@ impl<T> Model for Seq<T> {
 }
 
 impl<T> Seq<T> {
+    /// A list without items. It takes no memory.
     pub fn new(alloc: Global) -> Seq<T>
         ensures { result ≡ [] }
     {
@@ -35,12 +37,14 @@ impl<T> Seq<T> {
         }
     }
 
+    /// The items of a `Vec`, in its memory.
     pub fn from_vec(items: Vec<T>) -> Seq<T>
         ensures { result ≡ items.items }
     {
         Seq { items }
     }
 
+    /// The items as a `Vec`, in the same memory.
     pub fn into_vec(self) -> Vec<T>
         ensures { result.items ≡ self }
     {
@@ -52,26 +56,29 @@ impl<T> Seq<T> {
     pub fn into_rest(self) -> Rest<T>
         ensures { result ≡ self }
     {
-        let Seq { items } = self;
-        Rest::new(items)
+        Rest::new(self.into_vec())
     }
 
+    /// The allocator that it grows with.
     pub fn allocator(&self) -> Global {
         *self.items.allocator()
     }
 
+    /// Its items, lent.
     pub fn as_slice(&self) -> &[T]
         ensures { result.now ≡ self.now }
     {
         self.items.as_slice()
     }
 
+    /// How many items it has.
     pub fn len(&self) -> usize
         ensures { result ≡ length self.now }
     {
         self.items.len()
     }
 
+    /// Has it no items?
     pub fn is_empty(&self) -> bool
         ensures { IsTrue result ↔ (self.now ≡ []) }
     {
@@ -80,6 +87,7 @@ impl<T> Seq<T> {
 }
 
 impl<T: Drop> Seq<T> {
+    /// Adds an item at the end. A refused call gives the item up.
     pub fn push(&mut self, item: T) -> Result<(), AllocError>
         ensures ok { OnOk result (self.new ≡ self.old ++ item ∷ []) }
         ensures err { OnErr result (self.new ≡ self.old) }
@@ -100,6 +108,7 @@ impl<T: Drop> Seq<T> {
 }
 
 impl<T: Copy> Seq<T> {
+    /// A list of the same items.
     pub fn from_slice(alloc: Global, items: &[T]) -> Result<Seq<T>, AllocError>
         ensures { IfOk result (λ s. s ≡ items.now) }
     {
@@ -138,5 +147,36 @@ impl<T: Hash> Hash for Seq<T> {
 
     fn hash<H: Hasher>(&self, state: &mut H) {
         self.items.hash(state);
+    }
+}
+
+#[cfg(test)]
+mod tests {
+    use super::*;
+    use std::test::Fail;
+
+    #[test]
+    fn holds_items(rt: HostRuntime) -> Result<(), Fail> {
+        let mut items = Seq::new(rt.alloc());
+        assert!(rt; items.is_empty());
+        items.push(1u8)?;
+        items.push(2)?;
+        assert_eq!(rt; (items.len(), items.as_slice()), (2, [1, 2].as_slice()));
+        let copy = items.clone()?;
+        assert_eq!(rt; copy, items);
+        assert_eq!(rt; copy.into_only(), None);
+        let one = Seq::from_slice(items.allocator(), &[9])?;
+        assert_eq!(rt; one.into_only(), Some(9));
+        assert_eq!(rt; Seq::from_vec(items.into_vec()).len(), 2);
+        Ok(())
+    }
+
+    #[test]
+    fn gives_items_from_the_front(rt: HostRuntime) -> Result<(), Fail> {
+        let mut rest = Seq::from_slice(rt.alloc(), &[1u8, 2])?.into_rest();
+        assert_eq!(rt; (rest.next(), rest.is_empty()), (Some(1), false));
+        assert_eq!(rt; (rest.next(), rest.is_empty()), (Some(2), true));
+        assert_eq!(rt; rest.next(), None);
+        Ok(())
     }
 }

@@ -9,5 +9,5 @@ pub mod token;
 pub use dynamic::{Dynamic, INT};
 pub use immutable_string::ImmutableString;
 pub use position::{Position, Span};
-pub use scope::{Scope, ScopeEntry};
+pub use scope::{Scope, ScopeEntry, ScopeIter};
 pub use token::Token;

@@ -1,5 +1,11 @@
 //! Statements.
 
+#![tactic(auto, using(crate::specs::Reading::shapes, crate::proofs::ItemLists::steps))]
+
+ghost use Rattle.std.specs.Prelude.{◌≡◌};
+ghost use Rattle.rhai_ast.specs.Reading.{callee_of, expr_of, stmt_of, stmts_of};
+ghost use Rattle.rhai_ast.specs.Queries as queries;
+
 use crate::ast::{Expr, FnCallExpr};
 use rhai_base::{Boxed, Position, Seq, Span};
 
@@ -39,4 +45,54 @@ pub struct StmtBlock {
     pub block: Seq<Stmt>,
     /// From brace to brace.
     pub span: Span,
+}
+
+impl Stmt {
+    /// Whether it belongs to the list in which it stands, as it may add names there: an unqualified call of
+    /// `eval`, or an expression statement over braces all of whose statements do.
+    #[cycle(is_block_dependent)]
+    pub fn is_block_dependent(&self) -> bool
+        ensures { result ≡ queries.is_block_dependent (stmt_of self.now) }
+    {
+        match self {
+            Stmt::Expr(expr) => is_dependent_expr(expr.get()),
+            Stmt::FnCall(call, _) => is_eval(call.get()),
+            Stmt::Noop(_) | Stmt::If(_, _) | Stmt::Block(_) => false,
+        }
+    }
+}
+
+fn is_eval(call: &FnCallExpr) -> bool
+    ensures { result ≡ queries.is_eval (callee_of call.now) }
+{
+    call.name.as_str() == "eval"
+}
+
+#[cycle(is_block_dependent)]
+fn is_dependent_expr(expr: &Expr) -> bool
+    ensures { result ≡ queries.is_dependent_expr (expr_of expr.now) }
+{
+    match expr {
+        Expr::Stmt(block) => are_all_dependent(block.get().block.as_slice()),
+        Expr::FnCall(call, _) => is_eval(call.get()),
+        Expr::DynamicConstant(_, _)
+        | Expr::BoolConstant(_, _)
+        | Expr::IntegerConstant(_, _)
+        | Expr::CharConstant(_, _)
+        | Expr::StringConstant(_, _)
+        | Expr::Unit(_)
+        | Expr::Array(_, _) => false,
+    }
+}
+
+#[cycle(is_block_dependent)]
+fn are_all_dependent(statements: &[Stmt]) -> bool
+    ensures { result ≡ queries.are_all_dependent (stmts_of statements.now) }
+{
+    for stmt in statements {
+        if !stmt.is_block_dependent() {
+            return false;
+        }
+    }
+    true
 }

@@ -1,13 +1,277 @@
 //! The operators that need no engine.
+#![tactic(auto, using(crate::specs::Reading::kinds), unfolding(crate::specs::Operators::binary, crate::specs::Operators::on_chars, crate::specs::Value::text_of))]
 
-use crate::{Dynamic, Fault, OutOfMemory, Token};
+ghost use Rattle.std.specs.Prelude.{◌≡◌, ◌++◌, IfOk};
+ghost use Rattle.rhai_base.specs.Value as model;
+ghost use Rattle.rhai_base.specs.Reading.{value_of, operator_of};
+ghost use Rattle.rhai_base.specs.Operators as table;
+ghost use Rattle.rhai_base.specs.Builtin.{computed_of, answered, row, binary_at, unary_at, compared, equality_of, number_or_fault, unjoined, is_text, joins};
+
+use crate::{Dynamic, Fault, INT, ImmutableString, OutOfMemory, Token};
 use std::alloc::Global;
+use std::cmp::Ordering;
 
+/// What the table of built-in operators holds for an operator and two values: `None` where it has no
+/// entry. Only a joined text takes memory; rhai answers a function in place of the value.
 pub fn builtin_binary_op(
     alloc: Global,
     op: &Token,
     x: &Dynamic,
     y: &Dynamic,
-) -> Result<Option<Result<Dynamic, Fault>>, OutOfMemory> {
-    Ok(None)
+) -> Result<Option<Result<Dynamic, Fault>>, OutOfMemory>
+    ensures { IfOk result (λ r. computed_of r ≡ binary_at op.now (value_of x.now) (value_of y.now)) }
+{
+    if joins(op, x, y) {
+        let text = join(alloc, x, y)?;
+        return Ok(Some(Ok(Dynamic::Str(text))));
+    }
+    Ok(unjoined(op, x, y))
+}
+
+/// What the table holds for an operator and one value; it is a part of rhai's engine.
+pub fn builtin_unary_op(op: &Token, x: &Dynamic) -> Option<Dynamic>
+    ensures { answered result ≡ unary_at op.now (value_of x.now) }
+{
+    match op {
+        Token::Bang => negation(x),
+        _ => None,
+    }
+}
+
+fn negation(x: &Dynamic) -> Option<Dynamic>
+    ensures { answered result ≡ table.unary table.Not (value_of x.now) }
+{
+    match x {
+        Dynamic::Bool(b) => Some(Dynamic::Bool(!*b)),
+        Dynamic::Unit => None,
+        Dynamic::Int(_) => None,
+        Dynamic::Char(_) => None,
+        Dynamic::Str(_) => None,
+        Dynamic::Array(_) => None,
+    }
+}
+
+/// The text of one value and then that of the other.
+fn join(alloc: Global, x: &Dynamic, y: &Dynamic) -> Result<ImmutableString, OutOfMemory>
+    ensures { IfOk result (λ t. t ≡ model.text_of (value_of x.now) ++ model.text_of (value_of y.now)) }
+{
+    let mut text = String::new(alloc);
+    x.push_text(&mut text)?;
+    y.push_text(&mut text)?;
+    Ok(ImmutableString::new(alloc, text.as_str())?)
+}
+
+/// All entries but those that join texts and characters.
+fn unjoined(op: &Token, x: &Dynamic, y: &Dynamic) -> Option<Result<Dynamic, Fault>>
+    ensures { computed_of result ≡ row (λ o. unjoined o (value_of x.now) (value_of y.now)) (operator_of op.now) }
+{
+    match (x, y) {
+        (Dynamic::Int(x), Dynamic::Int(y)) => integers(op, *x, *y),
+        (Dynamic::Bool(x), Dynamic::Bool(y)) => bools(op, *x, *y),
+        (Dynamic::Str(x), Dynamic::Str(y)) => comparison(op, x.cmp(y)),
+        (Dynamic::Char(x), Dynamic::Char(y)) => comparison(op, x.cmp(y)),
+        (Dynamic::Unit, Dynamic::Unit) => equality(op, true),
+        (Dynamic::Array(_), Dynamic::Array(_)) => None,
+        _ => equality(op, false),
+    }
+}
+
+fn integers(op: &Token, x: INT, y: INT) -> Option<Result<Dynamic, Fault>>
+    ensures { computed_of result ≡ row (λ o. table.on_ints o x y) (operator_of op.now) }
+{
+    match op {
+        Token::Plus => checked(x.checked_add(y)),
+        Token::Minus => checked(x.checked_sub(y)),
+        Token::Multiply => checked(x.checked_mul(y)),
+        Token::Divide => checked(x.checked_div(y)),
+        Token::Modulo => checked(x.checked_rem(y)),
+        Token::Ampersand => checked(Some(x & y)),
+        Token::Pipe => checked(Some(x | y)),
+        Token::XOr => checked(Some(x ^ y)),
+        _ => comparison(op, x.cmp(&y)),
+    }
+}
+
+fn bools(op: &Token, x: bool, y: bool) -> Option<Result<Dynamic, Fault>>
+    ensures { computed_of result ≡ row (λ o. table.on_bools o x y) (operator_of op.now) }
+{
+    match op {
+        Token::Ampersand => truth(x & y),
+        Token::Pipe => truth(x | y),
+        Token::XOr => truth(x ^ y),
+        _ => equality(op, x == y),
+    }
+}
+
+/// What a comparison says of operands that stand in an order.
+fn comparison(op: &Token, order: Ordering) -> Option<Result<Dynamic, Fault>>
+    ensures { computed_of result ≡ row (λ o. compared o order) (operator_of op.now) }
+{
+    match op {
+        Token::LessThan => truth(order.is_lt()),
+        Token::LessThanEqualsTo => truth(order.is_le()),
+        Token::GreaterThan => truth(order.is_gt()),
+        Token::GreaterThanEqualsTo => truth(order.is_ge()),
+        _ => equality(op, order.is_eq()),
+    }
+}
+
+/// What `==` and `!=` say of operands that are equal or not.
+fn equality(op: &Token, is_equal: bool) -> Option<Result<Dynamic, Fault>>
+    ensures { computed_of result ≡ row (λ o. equality_of o is_equal) (operator_of op.now) }
+{
+    match op {
+        Token::EqualsTo => truth(is_equal),
+        Token::NotEqualsTo => truth(!is_equal),
+        _ => None,
+    }
+}
+
+fn truth(holds: bool) -> Option<Result<Dynamic, Fault>>
+    ensures { computed_of result ≡ table.is_bool holds }
+{
+    Some(Ok(Dynamic::Bool(holds)))
+}
+
+/// A number, or the fault where there is none.
+fn checked(number: Option<INT>) -> Option<Result<Dynamic, Fault>>
+    ensures { computed_of result ≡ number_or_fault number }
+{
+    match number {
+        Some(n) => Some(Ok(Dynamic::Int(n))),
+        None => Some(Err(Fault::Arithmetic)),
+    }
+}
+
+/// Does the operator join these values as texts?
+fn joins(op: &Token, x: &Dynamic, y: &Dynamic) -> bool
+    ensures { result ≡ joins op.now (value_of x.now) (value_of y.now) }
+{
+    match op {
+        Token::Plus => is_text(x) && is_text(y),
+        _ => false,
+    }
+}
+
+/// Is this a text or a character?
+fn is_text(value: &Dynamic) -> bool
+    ensures { result ≡ is_text (value_of value.now) }
+{
+    match value {
+        Dynamic::Str(_) => true,
+        Dynamic::Char(_) => true,
+        Dynamic::Unit => false,
+        Dynamic::Bool(_) => false,
+        Dynamic::Int(_) => false,
+        Dynamic::Array(_) => false,
+    }
+}
+
+#[cfg(test)]
+mod tests {
+    use super::*;
+    use crate::Seq;
+    use std::test::Fail;
+
+    fn text(alloc: Global, text: &str) -> Result<Dynamic, OutOfMemory> {
+        Ok(Dynamic::Str(ImmutableString::new(alloc, text)?))
+    }
+
+    #[test]
+    fn computes_with_integers(rt: HostRuntime) -> Result<(), Fail> {
+        let rows = [
+            (INT::MAX - 1, Token::Plus, 1, Ok(INT::MAX)),
+            (INT::MAX, Token::Plus, 1, Err(Fault::Arithmetic)),
+            (5, Token::Minus, 7, Ok(-2)),
+            (-3, Token::Multiply, 4, Ok(-12)),
+            (1, Token::Divide, 0, Err(Fault::Arithmetic)),
+            (INT::MIN, Token::Divide, -1, Err(Fault::Arithmetic)),
+            (INT::MIN, Token::Modulo, -1, Err(Fault::Arithmetic)),
+            (-7, Token::Divide, 2, Ok(-3)),
+            (-7, Token::Modulo, 2, Ok(-1)),
+            (-4, Token::Ampersand, 7, Ok(4)),
+            (-8, Token::Pipe, 3, Ok(-5)),
+            (-1, Token::XOr, 1, Ok(-2)),
+        ];
+        for (x, op, y, want) in rows {
+            let got = builtin_binary_op(rt.alloc(), &op, &Dynamic::Int(x), &Dynamic::Int(y))?;
+            let want = match want {
+                Ok(n) => Ok(Dynamic::Int(n)),
+                Err(fault) => Err(fault),
+            };
+            assert_eq!(rt; got, Some(want), "{x} {op:?} {y}");
+        }
+        Ok(())
+    }
+
+    #[test]
+    fn compares(rt: HostRuntime) -> Result<(), Fail> {
+        let (a, b) = (text(rt.alloc(), "a")?, text(rt.alloc(), "B")?);
+        let (one, two, c) = (Dynamic::Int(1), Dynamic::Int(2), Dynamic::Char('c'));
+        let (yes, no) = (Dynamic::Bool(true), Dynamic::Bool(false));
+        let rows = [
+            (&one, Token::LessThanEqualsTo, &one, true),
+            (&one, Token::LessThan, &one, false),
+            (&two, Token::GreaterThan, &one, true),
+            (&one, Token::GreaterThanEqualsTo, &two, false),
+            (&b, Token::LessThan, &a, true),
+            (&c, Token::GreaterThanEqualsTo, &c, true),
+            (&Dynamic::Unit, Token::EqualsTo, &Dynamic::Unit, true),
+            (&one, Token::EqualsTo, &a, false),
+            (&one, Token::NotEqualsTo, &a, true),
+            (&yes, Token::Ampersand, &no, false),
+            (&yes, Token::Pipe, &no, true),
+            (&yes, Token::XOr, &yes, false),
+        ];
+        for (x, op, y, want) in rows {
+            let got = builtin_binary_op(rt.alloc(), &op, x, y)?;
+            assert_eq!(rt; got, Some(Ok(Dynamic::Bool(want))), "{x:?} {op:?} {y:?}");
+        }
+        Ok(())
+    }
+
+    #[test]
+    fn joins_texts(rt: HostRuntime) -> Result<(), Fail> {
+        let (a, b) = (text(rt.alloc(), "a")?, Dynamic::Char('b'));
+        let rows = [
+            (&a, &b, "ab"),
+            (&b, &a, "ba"),
+            (&b, &b, "bb"),
+            (&a, &a, "aa"),
+        ];
+        for (x, y, want) in rows {
+            let got = builtin_binary_op(rt.alloc(), &Token::Plus, x, y)?;
+            assert_eq!(rt; got, Some(Ok(text(rt.alloc(), want)?)), "{want}");
+        }
+        Ok(())
+    }
+
+    #[test]
+    fn leaves_the_rest(rt: HostRuntime) -> Result<(), Fail> {
+        let mut items = Seq::new(rt.alloc());
+        items.push(Dynamic::Int(1))?;
+        let (array, one, two) = (Dynamic::Array(items), Dynamic::Int(1), Dynamic::Int(2));
+        let rows = [
+            (&array, Token::EqualsTo, &array),
+            (&two, Token::PowerOf, &one),
+            (&one, Token::LeftShift, &two),
+            (&one, Token::Plus, &Dynamic::Unit),
+        ];
+        for (x, op, y) in rows {
+            let got = builtin_binary_op(rt.alloc(), &op, x, y)?;
+            assert_eq!(rt; got, None, "{x:?} {op:?} {y:?}");
+        }
+        Ok(())
+    }
+
+    #[test]
+    fn negates(rt: HostRuntime) {
+        let yes = Dynamic::Bool(true);
+        assert_eq!(rt;
+            builtin_unary_op(&Token::Bang, &yes),
+            Some(Dynamic::Bool(false))
+        );
+        assert_eq!(rt; builtin_unary_op(&Token::UnaryMinus, &yes), None);
+        assert_eq!(rt; builtin_unary_op(&Token::Bang, &Dynamic::Int(1)), None);
+    }
 }

@@ -1,6 +1,15 @@
 //! Script values.
+#![tactic(auto, using(crate::specs::Reading::kinds), unfolding(crate::specs::Value::text_of))]
 
-use crate::{ImmutableString, Seq};
+mod copy;
+#[cfg(test)]
+mod tests;
+mod text;
+
+ghost use Rattle.std.specs.Prelude.{◌≡◌, ◌++◌, IfOk, OnOk, OnErr};
+
+use crate::{ImmutableString, OutOfMemory, Seq};
+use std::alloc::{AllocError, Global};
 
 /// The integers of scripts.
 pub type INT = i64;
@@ -20,4 +29,64 @@ pub enum Dynamic {
     Str(ImmutableString),
     /// an array
     Array(Seq<Dynamic>),
+}
+
+impl Clone for Dynamic {
+    ghost is_clone = { λ v w. w ≡ v };
+
+    fn clone(&self) -> Result<Dynamic, AllocError> {
+        copy::copy(self)
+    }
+}
+
+impl Dynamic {
+    ghost use Rattle.std.specs.String.{string_bytes};
+    ghost use Rattle.rhai_base.specs.Value as model;
+    ghost use Rattle.rhai_base.specs.Reading.{value_of};
+
+    /// The name of the value's type.
+    pub fn type_name(&self) -> &'static str
+        ensures { result.now ≡ model.type_name (value_of self.now) }
+    {
+        match self {
+            Dynamic::Unit => "()",
+            Dynamic::Bool(_) => "bool",
+            Dynamic::Int(_) => "i64",
+            Dynamic::Char(_) => "char",
+            Dynamic::Str(_) => "string",
+            Dynamic::Array(_) => "array",
+        }
+    }
+
+    /// Appends the value as it is written inside an array: texts and characters in quotes, with nothing
+    /// escaped. A refused call leaves the text as it was.
+    pub fn push_inner(&self, text: &mut String) -> Result<(), OutOfMemory>
+        ensures ok { OnOk result (string_bytes text.new ≡ string_bytes text.old ++ model.inner (value_of self.now)) }
+        ensures err { OnErr result (string_bytes text.new ≡ string_bytes text.old) }
+    {
+        let mut form = String::new(*text.allocator());
+        text::push_form(self, &mut form)?;
+        text.push_str(form.as_str())?;
+        Ok(())
+    }
+
+    /// The value as a text: nothing for unit, characters and texts without quotes, all else as inside
+    /// an array.
+    pub fn text_of(&self, alloc: Global) -> Result<ImmutableString, OutOfMemory>
+        ensures { IfOk result (λ t. t ≡ model.text_of (value_of self.now)) }
+    {
+        if let Dynamic::Str(text) = self {
+            return Ok(text.clone()?);
+        }
+        let mut text = String::new(alloc);
+        self.push_text(&mut text)?;
+        Ok(ImmutableString::new(alloc, text.as_str())?)
+    }
+
+    /// Appends what `text_of` answers; a refused call may have appended a beginning of it.
+    pub(crate) fn push_text(&self, text: &mut String) -> Result<(), AllocError>
+        ensures { OnOk result (string_bytes text.new ≡ string_bytes text.old ++ model.text_of (value_of self.now)) }
+    {
+        text::push_text(self, text)
+    }
 }

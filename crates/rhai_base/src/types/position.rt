@@ -39,6 +39,7 @@ impl Span {
         end: Position::NONE,
     };
 
+    /// From the start to the end.
     pub fn new(start: Position, end: Position) -> Span
         ensures start { result.start ≡ start }
         ensures end { result.end ≡ end }
@@ -46,15 +47,31 @@ impl Span {
         Span { start, end }
     }
 
+    /// Where the node starts.
     pub fn start(self) -> Position
         ensures { result ≡ self.start }
     {
         self.start
     }
 
+    /// Where the node ends.
     pub fn end(self) -> Position
         ensures { result ≡ self.end }
     {
         self.end
+    }
+}
+
+#[cfg(test)]
+mod tests {
+    use super::*;
+
+    #[test]
+    fn spans_positions(rt: HostRuntime) {
+        let (start, end) = (Position::new(1, 2), Position::new(3, 4));
+        let span = Span::new(start, end);
+        assert_eq!(rt; (span.start(), span.end()), (start, end));
+        assert_ne!(rt; span, Span::NONE);
+        assert_ne!(rt; start, Position::NONE);
     }
 }

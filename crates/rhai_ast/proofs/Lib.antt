@@ -1,0 +1,5 @@
+pub mod ItemLists
+pub mod Relations
+pub mod Frame
+pub mod Rising
+pub mod Ends

@@ -1,0 +1,71 @@
+-- Values of different kinds in the operators' table.
+use Rattle.std.proofs.Common.{◌≡◌, ℕ, ℤ, List, Bool, false, Option, Some, None, map, refl, sym, ap, ◌∙◌}
+use Rattle.rhai_base.specs.declared.types.dynamic.Dynamic.{Dynamic}
+use Rattle.rhai_base.specs.declared.types.dynamic.Dynamic.TheVariants as dynamic
+use Rattle.rhai_base.specs.Value.{Text, Value, Values, UnitV, BoolV, IntV, CharV, TextV, ArrayV, values}
+use Rattle.rhai_base.specs.Operators.{Operator, Computed, on_ints}
+use Rattle.rhai_base.specs.Builtin.{row, equality_of, unjoined}
+use Rattle.rhai_base.specs.Reading.{value_of, value_of-Unit, value_of-Bool, value_of-Int, value_of-Char, value_of-Str, value_of-Array, kinds, DynamicCase, dynamic_cases, unit_case, bool_case, int_case, char_case, str_case, array_case}
+
+abbrev Differs : Value → Dynamic → Type 0
+Differs v y = (op : Operator) → unjoined op v (value_of y) ≡ equality_of op false
+
+unit_differs : (y : Dynamic) → DynamicCase y → (y ≡ dynamic.Unit → ⊥) → Differs UnitV y
+unit_differs _ unit_case h op = absurd (h refl)
+unit_differs _ _ h op = simp kinds
+
+bool_differs : (y : Dynamic) → DynamicCase y → ((b : Bool) → y ≡ dynamic.Bool b → ⊥) → (b : Bool) → Differs (BoolV b) y
+bool_differs _ (bool_case b) h a op = absurd (h b refl)
+bool_differs _ _ h a op = simp kinds
+
+int_differs : (y : Dynamic) → DynamicCase y → ((n : ℤ) → y ≡ dynamic.Int n → ⊥) → (n : ℤ) → Differs (IntV n) y
+int_differs _ (int_case n) h a op = absurd (h n refl)
+int_differs _ _ h a op = simp kinds
+
+char_differs : (y : Dynamic) → DynamicCase y → ((c : ℕ) → y ≡ dynamic.Char c → ⊥) → (c : ℕ) → Differs (CharV c) y
+char_differs _ (char_case c) h a op = absurd (h c refl)
+char_differs _ _ h a op = simp kinds
+
+str_differs : (y : Dynamic) → DynamicCase y → ((t : Text) → y ≡ dynamic.Str t → ⊥) → (t : Text) → Differs (TextV t) y
+str_differs _ (str_case t) h a op = absurd (h t refl)
+str_differs _ _ h a op = simp kinds
+
+array_differs : (y : Dynamic) → DynamicCase y → ((vs : List Dynamic) → y ≡ dynamic.Array vs → ⊥) → (vs : Values) → Differs (ArrayV vs) y
+array_differs _ (array_case vs) h a op = absurd (h vs refl)
+array_differs _ _ h a op = simp kinds
+
+-- ---- the row, from what a test of both values found
+
+abbrev Row : Option Operator → Dynamic → Dynamic → Computed → Type 0
+Row op x y r = r ≡ row (λ o. unjoined o (value_of x) (value_of y)) op
+
+pub of_kinds : (op : Option Operator) (x y : Dynamic) (v w : Value) (r : Computed) → value_of x ≡ v → value_of y ≡ w → r ≡ row (λ o. unjoined o v w) op → Row op x y r
+of_kinds op x y v w r p q e = e ∙ (λ i. row (λ o. unjoined o (sym p i) (sym q i)) op)
+
+differing : (op : Option Operator) (x y : Dynamic) (v : Value) (r : Computed) → value_of x ≡ v → Differs v y → r ≡ row (λ o. equality_of o false) op → Row op x y r
+differing None x y v r p d e = e
+differing (Some o) x y v r p d e = e ∙ sym (d o) ∙ ap (λ u. unjoined o u (value_of y)) (sym p)
+
+abbrev Unequal : Option Operator → Computed → Type 0
+Unequal op r = r ≡ row (λ o. equality_of o false) op
+
+pub ints_row : (op : Option Operator) (x y : Dynamic) (a b : ℤ) (r : Computed) → x ≡ dynamic.Int a → y ≡ dynamic.Int b → r ≡ row (λ o. on_ints o a b) op → Row op x y r
+ints_row op x y a b r p q e = of_kinds op x y (IntV a) (IntV b) r (ap value_of p ∙ value_of-Int a) (ap value_of q ∙ value_of-Int b) e
+
+pub unit_row : (op : Option Operator) (x y : Dynamic) (r : Computed) → x ≡ dynamic.Unit → (y ≡ dynamic.Unit → ⊥) → Unequal op r → Row op x y r
+unit_row op x y r e h = differing op x y UnitV r (ap value_of e ∙ value_of-Unit) (unit_differs y (dynamic_cases y) h)
+
+pub bool_row : (op : Option Operator) (x y : Dynamic) (b : Bool) (r : Computed) → x ≡ dynamic.Bool b → ((b' : Bool) → y ≡ dynamic.Bool b' → ⊥) → Unequal op r → Row op x y r
+bool_row op x y b r e h = differing op x y (BoolV b) r (ap value_of e ∙ value_of-Bool b) (bool_differs y (dynamic_cases y) h b)
+
+pub int_row : (op : Option Operator) (x y : Dynamic) (n : ℤ) (r : Computed) → x ≡ dynamic.Int n → ((n' : ℤ) → y ≡ dynamic.Int n' → ⊥) → Unequal op r → Row op x y r
+int_row op x y n r e h = differing op x y (IntV n) r (ap value_of e ∙ value_of-Int n) (int_differs y (dynamic_cases y) h n)
+
+pub char_row : (op : Option Operator) (x y : Dynamic) (c : ℕ) (r : Computed) → x ≡ dynamic.Char c → ((c' : ℕ) → y ≡ dynamic.Char c' → ⊥) → Unequal op r → Row op x y r
+char_row op x y c r e h = differing op x y (CharV c) r (ap value_of e ∙ value_of-Char c) (char_differs y (dynamic_cases y) h c)
+
+pub str_row : (op : Option Operator) (x y : Dynamic) (t : Text) (r : Computed) → x ≡ dynamic.Str t → ((t' : Text) → y ≡ dynamic.Str t' → ⊥) → Unequal op r → Row op x y r
+str_row op x y t r e h = differing op x y (TextV t) r (ap value_of e ∙ value_of-Str t) (str_differs y (dynamic_cases y) h t)
+
+pub array_row : (op : Option Operator) (x y : Dynamic) (vs : List Dynamic) (r : Computed) → x ≡ dynamic.Array vs → ((vs' : List Dynamic) → y ≡ dynamic.Array vs' → ⊥) → Unequal op r → Row op x y r
+array_row op x y vs r e h = differing op x y (ArrayV (values (map value_of vs))) r (ap value_of e ∙ value_of-Array vs) (array_differs y (dynamic_cases y) h (values (map value_of vs)))

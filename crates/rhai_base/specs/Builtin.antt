@@ -1,0 +1,74 @@
+-- The built-in operators' table, at the token of an operator and at what the functions answer.
+use Rattle.std.specs.Prelude.{Option, Some, None, Result, Ok, Err, ℤ, Bool, true, false, not, if◌then◌else◌, ◌&&◌}
+use Rattle.std.specs.declared.cmp.Ordering.{Ordering}
+use Rattle.std.specs.Ordering.{nat_cmp, is_eq, is_lt, is_le, is_gt, is_ge}
+use Rattle.std.specs.Cmp.Lexicographic.{slice_cmp}
+use Rattle.rhai_base.specs.declared.types.dynamic.Dynamic.{Dynamic}
+use Rattle.rhai_base.specs.declared.types.token.Token.{Token}
+use Rattle.rhai_base.specs.declared.types.token.Token.TheVariants as token
+use Rattle.rhai_base.specs.declared.error.Fault.{Fault}
+use Rattle.rhai_base.specs.declared.error.Fault.TheVariants.{Arithmetic}
+use Rattle.rhai_base.specs.Value.{Value, UnitV, BoolV, IntV, CharV, TextV, same_text, type_name}
+use Rattle.rhai_base.specs.Operators.{Operator, EqualTo, NotEqualTo, Less, LessOrEqual, Greater, GreaterOrEqual, Computed, NoEntry, Is, Overflows, is_bool, on_ints, on_bools, binary, unary}
+use Rattle.rhai_base.specs.Reading.{value_of, operator_of}
+
+-- what an answer says of the table
+abbrev pub computed_of : Option (Result Dynamic Fault) → Computed
+computed_of None = NoEntry
+computed_of (Some (Ok v)) = Is (value_of v)
+computed_of (Some (Err Arithmetic)) = Overflows
+
+-- the same where nothing can overflow
+abbrev pub answered : Option Dynamic → Computed
+answered None = NoEntry
+answered (Some v) = Is (value_of v)
+
+-- a table's row for an operator, and none for a token that is no operator
+abbrev pub row : (Operator → Computed) → Option Operator → Computed
+row table None = NoEntry
+row table (Some op) = table op
+
+abbrev pub binary_at : Token → Value → Value → Computed
+binary_at op v w = row (λ o. binary o v w) (operator_of op)
+
+abbrev pub unary_at : Token → Value → Computed
+unary_at op v = row (λ o. unary o v) (operator_of op)
+
+-- ---- the table in parts
+
+-- what `==` and `!=` say of operands that are equal or not
+abbrev pub equality_of : Operator → Bool → Computed
+equality_of EqualTo e = is_bool e
+equality_of NotEqualTo e = is_bool (not e)
+equality_of _ e = NoEntry
+
+-- what comparisons say of operands that stand in an order
+abbrev pub compared : Operator → Ordering → Computed
+compared Less o = is_bool (is_lt o)
+compared LessOrEqual o = is_bool (is_le o)
+compared Greater o = is_bool (is_gt o)
+compared GreaterOrEqual o = is_bool (is_ge o)
+compared op o = equality_of op (is_eq o)
+
+abbrev pub number_or_fault : Option ℤ → Computed
+number_or_fault None = Overflows
+number_or_fault (Some n) = Is (IntV n)
+
+abbrev pub is_text : Value → Bool
+is_text (TextV t) = true
+is_text (CharV c) = true
+is_text _ = false
+
+-- the operator joins these values as texts
+abbrev pub joins : Token → Value → Value → Bool
+joins token.Plus v w = is_text v && is_text w
+joins _ v w = false
+
+-- all entries but the ranges and those that join texts and characters
+abbrev pub unjoined : Operator → Value → Value → Computed
+unjoined op (IntV a) (IntV b) = on_ints op a b
+unjoined op (BoolV a) (BoolV b) = on_bools op a b
+unjoined op (TextV a) (TextV b) = compared op (slice_cmp nat_cmp a b)
+unjoined op (CharV a) (CharV b) = compared op (nat_cmp a b)
+unjoined op UnitV UnitV = equality_of op true
+unjoined op v w = if same_text (type_name v) (type_name w) then NoEntry else equality_of op false

@@ -1,0 +1,65 @@
+//! Values as text.
+#![tactic(auto, using(crate::specs::Reading::kinds), unfolding(crate::specs::Value::inner, crate::specs::Value::text_of))]
+
+ghost use Rattle.std.specs.Prelude.{◌≡◌, ◌++◌, OnOk, map};
+ghost use Rattle.std.specs.String.{string_bytes};
+ghost use Rattle.rhai_base.specs.Value.{inner, text_of, values, ArrayV};
+ghost use Rattle.rhai_base.specs.Reading.{value_of};
+
+use crate::{Dynamic, Seq};
+use std::alloc::AllocError;
+
+/// Appends the value without quotes, and nothing for unit.
+pub(super) fn push_text(value: &Dynamic, text: &mut String) -> Result<(), AllocError>
+    ensures { OnOk result (string_bytes text.new ≡ string_bytes text.old ++ text_of (value_of value.now)) }
+{
+    match value {
+        Dynamic::Unit => Ok(()),
+        Dynamic::Char(c) => text.push(*c),
+        Dynamic::Str(t) => text.push_str(t.as_str()),
+        Dynamic::Bool(_) => push_form(value, text),
+        Dynamic::Int(_) => push_form(value, text),
+        Dynamic::Array(_) => push_form(value, text),
+    }
+}
+
+/// Appends the value as it is written inside an array.
+#[cycle(form)]
+pub(super) fn push_form(value: &Dynamic, text: &mut String) -> Result<(), AllocError>
+    ensures { OnOk result (string_bytes text.new ≡ string_bytes text.old ++ inner (value_of value.now)) }
+{
+    match value {
+        Dynamic::Unit => text.push_str("()"),
+        Dynamic::Bool(true) => text.push_str("true"),
+        Dynamic::Bool(false) => text.push_str("false"),
+        Dynamic::Int(n) => write!(text, "{n}"),
+        Dynamic::Char(c) => {
+            text.push_str("'")?;
+            text.push(*c)?;
+            text.push_str("'")?;
+            Ok(())
+        }
+        Dynamic::Str(t) => {
+            text.push_str("\"")?;
+            text.push_str(t.as_str())?;
+            text.push_str("\"")?;
+            Ok(())
+        }
+        Dynamic::Array(items) => push_items(items, text),
+    }
+}
+
+#[cycle(form)]
+fn push_items(items: &Seq<Dynamic>, text: &mut String) -> Result<(), AllocError>
+    ensures { OnOk result (string_bytes text.new ≡ string_bytes text.old ++ inner (ArrayV (values (map value_of items.now)))) }
+{
+    text.push_str("[")?;
+    let mut separator = "";
+    for item in items.as_slice() {
+        text.push_str(separator)?;
+        push_form(item, text)?;
+        separator = ", ";
+    }
+    text.push_str("]")?;
+    Ok(())
+}

@@ -1,0 +1,44 @@
+-- What the program is asked, and what it prints.
+use Rattle.std.specs.Prelude.{◌≡◌, List, [], ◌∷◌, ◌++◌, Option, Some, None, codes, if◌then◌else◌}
+use Rattle.rhai_base.specs.Value.{Text, same_text}
+use Rattle.rhai_ast.specs.Tree.{Stmts, Script}
+use Rattle.rhai_optimizer.specs.declared.optimizer.level.OptimizationLevel.{OptimizationLevel}
+use Rattle.rhai_optimizer.specs.declared.optimizer.level.OptimizationLevel.TheVariants as level
+use Rattle.rhai_opt.specs.declared.scripts.BuiltinScript.{BuiltinScript}
+use Rattle.rhai_opt.specs.declared.request.Request.{Request}
+use Rattle.rhai_opt.specs.declared.request.Request.TheVariants as request
+use Rattle.rhai_opt.specs.Notation.{lines_text, script_text}
+use Rattle.rhai_opt.specs.Scripts.{name_of, all_scripts, script_named, statements_of}
+
+abbrev pub level_named : Text → Option OptimizationLevel
+level_named name =
+    if same_text name (codes "none") then Some level.None
+    else if same_text name (codes "simple") then Some level.Simple
+    else if same_text name (codes "full") then Some level.Full
+    else None
+
+abbrev pub show_of : Option BuiltinScript → Option OptimizationLevel → Option Request
+show_of (Some script) (Some level) = Some (request.Show script level)
+show_of _ _ = None
+
+-- the request that these words make
+abbrev pub request_of : List Text → Option Request
+request_of (command ∷ []) = if same_text command (codes "list") then Some request.List else None
+request_of (command ∷ name ∷ level ∷ []) = if same_text command (codes "show") then show_of (script_named name) (level_named level) else None
+request_of _ = None
+
+abbrev pub usage : Text
+usage = codes "usage: rhai_opt list | show NAME LEVEL | run NAME LEVEL TURNS\n"
+
+-- a name a line
+abbrev pub listing : List BuiltinScript → Text
+listing [] = []
+listing (s ∷ ss) = name_of s ++ codes "\n" ++ listing ss
+
+abbrev pub showing : Stmts → Script → Text
+showing before after = codes "before:\n" ++ lines_text before ++ codes "after:\n" ++ script_text after
+
+-- a text that answers a request
+abbrev pub Answers : Request → Text → Type 0
+Answers request.List text = text ≡ listing all_scripts
+Answers (request.Show script level) text = (after : Script) × (text ≡ showing (statements_of script) after)

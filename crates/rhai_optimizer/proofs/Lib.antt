@@ -1,0 +1,2 @@
+pub mod rewriting
+pub mod soundness

@@ -1,0 +1,17 @@
+pub mod Agreement
+pub mod Close
+pub mod Sound
+pub mod Congruence
+pub mod Scopes
+pub mod Forms
+pub mod Marked
+pub mod Unwanted
+pub mod RunOfConstants
+pub mod RunOfLists
+pub mod Statements
+pub mod Rules
+pub mod Derivation
+pub mod Scripts
+pub mod WellFormed
+pub mod Theorem
+pub mod Promise

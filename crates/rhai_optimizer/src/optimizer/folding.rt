@@ -1,0 +1,120 @@
+//! What operator calls over constants answer without asking the host.
+
+#![tactic(auto, using(rhai_ast::specs::Reading::shapes, rhai_base::specs::Reading::kinds))]
+
+ghost use Rattle.std.specs.Prelude.{◌≡◌, IfOk, Some, [], ◌∷◌, map, ◌||◌, not};
+ghost use Rattle.std.specs.Map.Iter.{deref};
+ghost use Rattle.std.specs.Option.{option_map};
+ghost use Rattle.rhai_base.specs.Reading.{value_of};
+ghost use Rattle.rhai_base.specs.Symbols.{token_text};
+ghost use Rattle.rhai_ast.specs.Engine.{has_override};
+ghost use Rattle.rhai_ast.specs.Reading.{callee_of, expr_of, exprs_of, mark_of};
+ghost use Rattle.rhai_ast.specs.Tree.{expr, no_exprs};
+ghost use Rattle.rhai_run.specs.EngineInfo.{engine_of};
+ghost use Rattle.rhai_optimizer.specs.Folding as spec;
+
+use rhai_ast::{Expr, FnCallExpr};
+use rhai_base::{Dynamic, Fault, OutOfMemory, Token, builtin_binary_op, builtin_unary_op};
+use rhai_run::EngineInfo;
+use std::alloc::Global;
+use std::borrow::Cow;
+
+/// The value of a constant that is no array.
+fn operand(expr: &Expr) -> Result<Option<Cow<'_, Dynamic>>, OutOfMemory>
+    ensures { IfOk result (λ o. spec.held o ≡ spec.operand (expr_of expr.now)) }
+{
+    match expr {
+        Expr::DynamicConstant(value, _) => Ok(Some(Cow::Borrowed(value.get()))),
+        Expr::BoolConstant(b, _) => Ok(Some(Cow::Owned(Dynamic::Bool(*b)))),
+        Expr::IntegerConstant(n, _) => Ok(Some(Cow::Owned(Dynamic::Int(*n)))),
+        Expr::CharConstant(c, _) => Ok(Some(Cow::Owned(Dynamic::Char(*c)))),
+        Expr::StringConstant(text, _) => Ok(Some(Cow::Owned(Dynamic::Str(text.clone()?)))),
+        Expr::Unit(_) => Ok(Some(Cow::Owned(Dynamic::Unit))),
+        Expr::Array(_, _) | Expr::Stmt(_) | Expr::FnCall(_, _) => Ok(None),
+    }
+}
+
+/// Whether the table of operators goes before the host at operands of these types.
+fn is_open(info: &EngineInfo, op: Token, types: &[&str]) -> bool
+    ensures { result ≡ ((engine_of info.now).fast_operators || not (has_override (engine_of info.now).overrides (token_text op) (map deref types.now))) }
+{
+    info.fast_operators() || !info.is_overridden(op.literal_syntax(), types)
+}
+
+/// The value of an operator's answer. A fault is left to the run.
+fn value_alone(answer: Option<Result<Dynamic, Fault>>) -> Option<Dynamic>
+    ensures { option_map value_of result ≡ spec.answer_value answer }
+{
+    match answer {
+        Some(Ok(value)) => Some(value),
+        Some(Err(Fault::Arithmetic)) => None,
+        None => None,
+    }
+}
+
+fn folded_unary(info: &EngineInfo, op: Token, x: &Dynamic) -> Option<Dynamic>
+    ensures { option_map value_of result ≡ spec.folded_values (engine_of info.now) (mark_of (Some op)) (Some (value_of x.now ∷ [])) }
+{
+    if !is_open(info, op, &[x.type_name()]) {
+        return None;
+    }
+    builtin_unary_op(&op, x)
+}
+
+fn folded_binary(
+    alloc: Global,
+    info: &EngineInfo,
+    op: Token,
+    x: &Dynamic,
+    y: &Dynamic,
+) -> Result<Option<Dynamic>, OutOfMemory>
+    ensures { IfOk result (λ v. option_map value_of v ≡ spec.folded_values (engine_of info.now) (mark_of (Some op)) (Some (value_of x.now ∷ value_of y.now ∷ []))) }
+{
+    if !is_open(info, op, &[x.type_name(), y.type_name()]) {
+        return Ok(None);
+    }
+    let answer = builtin_binary_op(alloc, &op, x, y)?;
+    Ok(value_alone(answer))
+}
+
+/// The value of an operator call over constants, where it is built in and answers one.
+pub fn folded(
+    alloc: Global,
+    info: &EngineInfo,
+    call: &FnCallExpr,
+) -> Result<Option<Dynamic>, OutOfMemory>
+    ensures { IfOk result (λ v. option_map value_of v ≡ spec.folded_operands (engine_of info.now) (callee_of call.now) (exprs_of call.now.args)) }
+{
+    let Some(op) = call.op_token else {
+        return Ok(None);
+    };
+    match call.args.as_slice() {
+        [x] => folded_one(info, op, x),
+        [x, y] => folded_two(alloc, info, op, x, y),
+        _ => Ok(None),
+    }
+}
+
+fn folded_one(info: &EngineInfo, op: Token, x: &Expr) -> Result<Option<Dynamic>, OutOfMemory>
+    ensures { IfOk result (λ v. option_map value_of v ≡ spec.folded_values (engine_of info.now) (mark_of (Some op)) (spec.operands (expr (expr_of x.now) no_exprs))) }
+{
+    match operand(x)? {
+        Some(x) => Ok(folded_unary(info, op, &x)),
+        None => Ok(None),
+    }
+}
+
+fn folded_two(
+    alloc: Global,
+    info: &EngineInfo,
+    op: Token,
+    x: &Expr,
+    y: &Expr,
+) -> Result<Option<Dynamic>, OutOfMemory>
+    ensures { IfOk result (λ v. option_map value_of v ≡ spec.folded_values (engine_of info.now) (mark_of (Some op)) (spec.operands (expr (expr_of x.now) (expr (expr_of y.now) no_exprs)))) }
+{
+    match (operand(x)?, operand(y)?) {
+        (Some(x), Some(y)) => folded_binary(alloc, info, op, &x, &y),
+        _ => Ok(None),
+    }
+}

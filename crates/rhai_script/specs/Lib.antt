@@ -1,0 +1,3 @@
+pub mod FnKey
+pub mod Script
+pub mod Table

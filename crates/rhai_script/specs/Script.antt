@@ -1,0 +1,12 @@
+-- The functions that a table holds, and the script that an `AST` stands for.
+use Rattle.std.specs.Prelude.{List, map}
+use Rattle.rhai_ast.specs.Tree.{Function, Script}
+use Rattle.rhai_ast.specs.Reading.{stmts_of, function_of}
+use Rattle.rhai_script.specs.declared.fn_lib.FnLib.{FnLib}
+use Rattle.rhai_script.specs.declared.ast.AST.{AST}
+
+abbrev pub functions_of : FnLib → List Function
+functions_of lib = map function_of lib
+
+abbrev pub script_of : AST → Script
+script_of s = record { statements = stmts_of s.statements; functions = functions_of s.lib.value }
