@@ -14,3 +14,4 @@ pub mod Run
 pub mod Constants
 pub mod Queries
 pub mod Relations
+pub mod WorkedRuns

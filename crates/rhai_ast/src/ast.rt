@@ -3,6 +3,8 @@
 pub mod expr;
 pub mod script_fn;
 pub mod stmt;
+#[cfg(test)]
+mod tests;
 
 pub use expr::{Expr, FnCallExpr, are_constant};
 pub use script_fn::{FnAccess, ScriptFuncDef};

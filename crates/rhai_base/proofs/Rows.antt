@@ -13,7 +13,7 @@ use Rattle.rhai_base.specs.declared.types.token.Token.TheVariants as token
 use Rattle.rhai_base.specs.Value.{Text, Value, UnitV, BoolV, IntV, CharV, TextV, same_text, type_name}
 use Rattle.rhai_base.specs.Operators as table
 use Rattle.rhai_base.specs.Operators.{Operator, Computed, NoEntry, is_bool, binary, on_texts, on_chars, text_lt, is_range}
-use Rattle.rhai_base.specs.Builtin.{row, unary_at, binary_at, equality_of, compared, unjoined, is_text, joins}
+use Rattle.rhai_base.specs.Builtin.{row, binary_at, equality_of, compared, unjoined, is_text, joins}
 use Rattle.rhai_base.specs.Reading.{operator_of}
 
 -- ---- texts and characters in order

@@ -1,6 +1,6 @@
 -- What a text holds after several pushes.
 use Rattle.std.proofs.Common.{◌≡◌, ℕ, ◌+◌, ◌<◌, false, ◌==◌, List, [], ◌∷◌, ◌++◌, codes, length, get_or, drop, refl, ap, ◌∙◌, sym, append_assoc, add-one}
-use Rattle.std.proofs.Math.Seq.{drop-cons}
+use Rattle.std.proofs.Math.Seq.{drop-cons, drop-length}
 use Rattle.rhai_base.specs.Value.{Text}
 use Rattle.rhai_base.specs.declared.types.position.Position.{Position}
 use Rattle.rhai_ast.specs.declared.ast.expr.FnCallExpr.{FnCallExpr}
@@ -8,9 +8,7 @@ use Rattle.rhai_ast.specs.declared.ast.stmt.Stmt.{Stmt}
 use Rattle.rhai_ast.specs.declared.ast.stmt.Stmt.TheVariants as stmt_kind
 use Rattle.rhai_ast.specs.declared.ast.stmt.StmtBlock.{StmtBlock}
 use Rattle.rhai_ast.specs.Reading.{exprs_of, stmt_of, stmts_of, callee_of, stmt_of-Block, stmt_of-FnCall}
-use Rattle.rhai_opt.specs.Notation.{call_text, names_text, stmts_text, stmt_text, block_text, lines_text, script_text}
-use Rattle.rhai_opt.specs.Words.{showing}
-use Rattle.rhai_ast.specs.Tree.{Stmts, Script}
+use Rattle.rhai_opt.specs.Notation.{call_text, names_text, stmts_text, stmt_text, block_text}
 
 -- two pushes are one
 pub pushed_two : (old a b m n : Text) → m ≡ old ++ a → n ≡ m ++ b → n ≡ old ++ (a ++ b)
@@ -50,9 +48,7 @@ pushed_name xs i d before name now m n total h is so_far e f =
     ∙ append_assoc now (before ++ name) (names_text (codes ", ") (drop (i + 1) xs))
     ∙ sym (ap (λ t. now ++ t) step) ∙ so_far
 
--- a script before and after
-pub pushed_show : (shown before : Stmts) (after : Script) (empty a b c d : Text) → shown ≡ before → empty ≡ [] → a ≡ empty ++ codes "before:\n" → b ≡ a ++ lines_text shown
-    → c ≡ b ++ codes "after:\n" → d ≡ c ++ script_text after → d ≡ showing before after
-pushed_show shown before after empty a b c d same h e f g i =
-    let one : a ≡ codes "before:\n" = e ∙ ap (λ t. t ++ codes "before:\n") h in
-    i ∙ ap (λ t. t ++ script_text after) (g ∙ ap (λ t. t ++ codes "after:\n") (f ∙ ap (λ t. t ++ lines_text shown) one ∙ ap (λ (ss : Stmts). codes "before:\n" ++ lines_text ss) same))
+pub names_text-end : (before : Text) (xs : List Text) → names_text before (drop (length xs) xs) ≡ []
+names_text-end before xs = ap (names_text before) (drop-length xs)
+
+pub ruleset name_lists = (names_text-end)

@@ -1,13 +1,16 @@
 -- What the program is asked, and what it prints.
-use Rattle.std.specs.Prelude.{◌≡◌, List, [], ◌∷◌, ◌++◌, Option, Some, None, codes, if◌then◌else◌}
+use Rattle.std.specs.Prelude.{◌≡◌, ◌≢◌, List, [], ◌∷◌, ◌++◌, Option, Some, None, codes, if◌then◌else◌}
 use Rattle.rhai_base.specs.Value.{Text, same_text}
-use Rattle.rhai_ast.specs.Tree.{Stmts, Script}
+use Rattle.rhai_ast.specs.Tree.{Script}
 use Rattle.rhai_optimizer.specs.declared.optimizer.level.OptimizationLevel.{OptimizationLevel}
 use Rattle.rhai_optimizer.specs.declared.optimizer.level.OptimizationLevel.TheVariants as level
+use Rattle.rhai_run.specs.EngineInfo.{nothing_set}
+use Rattle.rhai_optimizer.specs.Residue.{AreReduced}
+use Rattle.rhai_optimizer.specs.SameRuns.{SameRuns}
 use Rattle.rhai_opt.specs.declared.scripts.BuiltinScript.{BuiltinScript}
 use Rattle.rhai_opt.specs.declared.request.Request.{Request}
 use Rattle.rhai_opt.specs.declared.request.Request.TheVariants as request
-use Rattle.rhai_opt.specs.Notation.{lines_text, script_text}
+use Rattle.rhai_opt.specs.Notation.{script_text}
 use Rattle.rhai_opt.specs.Scripts.{name_of, all_scripts, script_named, statements_of}
 
 abbrev pub level_named : Text → Option OptimizationLevel
@@ -35,10 +38,21 @@ abbrev pub listing : List BuiltinScript → Text
 listing [] = []
 listing (s ∷ ss) = name_of s ++ codes "\n" ++ listing ss
 
-abbrev pub showing : Stmts → Script → Text
-showing before after = codes "before:\n" ++ lines_text before ++ codes "after:\n" ++ script_text after
+abbrev pub showing : Script → Script → Text
+showing before after = codes "before:\n" ++ script_text before ++ codes "after:\n" ++ script_text after
+
+-- a built-in script has no functions
+abbrev pub built_in : BuiltinScript → Script
+built_in script = record { statements = statements_of script; functions = [] }
+
+-- what the optimiser makes of a script, where the engine has nothing set: at level `None` the script itself, else
+-- one that runs alike, with nothing left to reduce
+pub record Optimized (at : OptimizationLevel) (before after : Script) : Type 0 where
+  pub kept : at ≡ level.None → after ≡ before
+  pub runs : SameRuns nothing_set before after
+  pub reduced : at ≢ level.None → AreReduced nothing_set after.statements
 
 -- a text that answers a request
 abbrev pub Answers : Request → Text → Type 0
 Answers request.List text = text ≡ listing all_scripts
-Answers (request.Show script level) text = (after : Script) × (text ≡ showing (statements_of script) after)
+Answers (request.Show script at) text = (after : Script) × Optimized at (built_in script) after × (text ≡ showing (built_in script) after)

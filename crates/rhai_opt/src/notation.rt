@@ -1,5 +1,5 @@
 //! Trees in a notation for reading. A refused call can leave a part of what it appends.
-#![tactic(auto, using(rhai_ast::specs::Reading::shapes, rhai_base::specs::Reading::kinds, crate::proofs::Lists::steps))]
+#![tactic(auto, using(rhai_ast::specs::Reading::shapes, rhai_base::specs::Reading::kinds, rhai_ast::proofs::ItemLists::steps, crate::proofs::Pushes::name_lists))]
 
 ghost use Rattle.std.specs.Prelude.{◌≡◌, ◌++◌, [], OnOk, codes, string_bytes};
 ghost use Rattle.rhai_base.specs.Value.{TextV, inner};

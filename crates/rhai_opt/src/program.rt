@@ -1,10 +1,9 @@
 //! The program: words in, text and a status out.
 ghost use Rattle.std.specs.Prelude.{◌≡◌, ◌⊎◌, map, string_bytes, IsNone, IsSome, IfSome, IfOk, OnOk, MatchOption};
 ghost use Rattle.std.specs.Io.KnownBytes.{Appends};
-ghost use Rattle.rhai_opt.specs.Scripts.{all_scripts, statements_of};
-ghost use Rattle.rhai_opt.specs.Words.{request_of, usage, listing, showing, Answers};
+ghost use Rattle.rhai_opt.specs.Scripts.{all_scripts};
+ghost use Rattle.rhai_opt.specs.Words.{request_of, usage, listing, Answers};
 ghost use Rattle.rhai_base.specs.Value.{Text};
-ghost use Rattle.rhai_ast.specs.Tree.{Script};
 
 use crate::notation;
 use crate::request::Request;
@@ -84,7 +83,7 @@ fn show(
     script: BuiltinScript,
     level: OptimizationLevel,
 ) -> Result<String, OutOfMemory>
-    ensures { IfOk result (λ text. (after : Script) × (string_bytes text ≡ showing (statements_of script) after)) }
+    ensures { IfOk result (λ text. Answers (Request.Show script level) (string_bytes text)) }
 {
     let statements = script.statements(alloc)?;
     let mut text = String::new(alloc);

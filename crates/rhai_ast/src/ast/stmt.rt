@@ -2,7 +2,7 @@
 
 #![tactic(auto, using(crate::specs::Reading::shapes, crate::proofs::ItemLists::steps))]
 
-ghost use Rattle.std.specs.Prelude.{◌≡◌};
+ghost use Rattle.std.specs.Prelude.{◌≡◌, ◌↔◌, [], IsTrue, length};
 ghost use Rattle.rhai_ast.specs.Reading.{callee_of, expr_of, stmt_of, stmts_of};
 ghost use Rattle.rhai_ast.specs.Queries as queries;
 
@@ -45,6 +45,43 @@ pub struct StmtBlock {
     pub block: Seq<Stmt>,
     /// From brace to brace.
     pub span: Span,
+}
+
+impl StmtBlock {
+    /// These statements, in braces from the start to the end. It takes no memory.
+    ///
+    /// In rhai the statements come from any iterator.
+    pub fn new(statements: Vec<Stmt>, start: Position, end: Position) -> StmtBlock
+        ensures block { result.block ≡ statements.items }
+        ensures start { result.span.start ≡ start }
+        ensures end { result.span.end ≡ end }
+    {
+        StmtBlock {
+            block: Seq::from_vec(statements),
+            span: Span::new(start, end),
+        }
+    }
+
+    /// The statements.
+    pub fn statements(&self) -> &[Stmt]
+        ensures { result.now ≡ self.now.block }
+    {
+        self.block.as_slice()
+    }
+
+    /// Has it no statements?
+    pub fn is_empty(&self) -> bool
+        ensures { IsTrue result ↔ (self.now.block ≡ []) }
+    {
+        self.block.is_empty()
+    }
+
+    /// How many statements it has, those inside of them not counted.
+    pub fn len(&self) -> usize
+        ensures { result ≡ length self.now.block }
+    {
+        self.block.len()
+    }
 }
 
 impl Stmt {

@@ -1,0 +1,43 @@
+-- What `show` prints.
+use Rattle.std.proofs.Common.{◌≡◌, ◌≢◌, List, [], ◌∷◌, ◌++◌, codes, ap, ◌∙◌, sym, subst, append-nil}
+use Rattle.std.specs.declared.alloc.Global.{Global}
+use Rattle.std.specs.declared.rc.Rc.{Rc}
+use Rattle.rhai_base.specs.Value.{Text}
+use Rattle.rhai_ast.specs.Engine.{Engine}
+use Rattle.rhai_ast.specs.Tree.{Stmts, Script}
+use Rattle.rhai_ast.specs.Reading.{stmts_of}
+use Rattle.rhai_ast.specs.declared.ast.script_fn.ScriptFuncDef.{ScriptFuncDef}
+use Rattle.rhai_ast.specs.declared.ast.stmt.Stmt.{Stmt}
+use Rattle.rhai_run.specs.EngineInfo.{nothing_set}
+use Rattle.rhai_optimizer.specs.Residue.{AreReduced}
+use Rattle.rhai_optimizer.specs.SameRuns.{SameRuns}
+use Rattle.rhai_optimizer.specs.Source.{source_of}
+use Rattle.rhai_optimizer.specs.declared.optimizer.level.OptimizationLevel.{OptimizationLevel}
+use Rattle.rhai_optimizer.specs.declared.optimizer.level.OptimizationLevel.TheVariants as level
+use Rattle.rhai_opt.specs.declared.scripts.BuiltinScript.{BuiltinScript}
+use Rattle.rhai_opt.specs.Notation.{lines_text, script_text}
+use Rattle.rhai_opt.specs.Scripts.{statements_of}
+use Rattle.rhai_opt.specs.Words.{built_in, showing, Optimized}
+
+-- both scripts, push by push
+pub pushed_show : (script : BuiltinScript) (after : Script) (shown : Stmts) (empty a b c d : Text) → shown ≡ statements_of script → empty ≡ []
+    → a ≡ empty ++ codes "before:\n" → b ≡ a ++ lines_text shown → c ≡ b ++ codes "after:\n" → d ≡ c ++ script_text after
+    → d ≡ showing (built_in script) after
+pushed_show script after shown empty a b c d same h e f g i =
+    let start : a ≡ codes "before:\n" = e ∙ ap (λ t. t ++ codes "before:\n") h in
+    let lines : lines_text shown ≡ script_text (built_in script) = ap (λ (ss : Stmts). lines_text ss) same ∙ sym (append-nil (lines_text (statements_of script))) in
+    let before : b ≡ codes "before:\n" ++ script_text (built_in script) = f ∙ ap (λ t. t ++ lines_text shown) start ∙ ap (λ t. codes "before:\n" ++ t) lines in
+    i ∙ ap (λ t. t ++ script_text after) (g ∙ ap (λ t. t ++ codes "after:\n") before)
+
+-- the optimiser's answer for a built-in script
+pub optimized_built_in : (at : OptimizationLevel) (engine : Engine) (ss : List Stmt) (fs : List (Rc ScriptFuncDef Global)) (script : BuiltinScript) (after : Script)
+    → engine ≡ nothing_set → stmts_of ss ≡ statements_of script → fs ≡ []
+    → (at ≡ level.None → after ≡ source_of ss fs) → SameRuns engine (source_of ss fs) after → (at ≢ level.None → AreReduced engine after.statements)
+    → Optimized at (built_in script) after
+optimized_built_in at engine ss fs script after e statements functions kept runs reduced =
+    let source : source_of ss fs ≡ built_in script = ap (source_of ss) functions ∙ ap (λ (x : Stmts). record { statements = x; functions = [] }) statements in
+    record {
+      kept = λ h. kept h ∙ source;
+      runs = subst (λ (x : Engine). SameRuns x (built_in script) after) e (subst (λ (x : Script). SameRuns engine x after) source runs);
+      reduced = λ h. subst (λ (x : Engine). AreReduced x after.statements) e (reduced h);
+    }
