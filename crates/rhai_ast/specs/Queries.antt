@@ -1,5 +1,5 @@
 -- What may be asked of a tree.
-use Rattle.std.specs.Prelude.{Bool, true, false, ◌&&◌, ◌||◌, not, codes}
+use Rattle.std.specs.Prelude.{Bool, true, false, ◌&&◌, ◌||◌, codes}
 use Rattle.rhai_base.specs.Value.{same_text}
 use Rattle.rhai_ast.specs.Tree.{Callee, Expr, DynamicConstant, BoolConstant, IntegerConstant, CharConstant, StringConstant, UnitConstant, ArrayOf, BlockExpr, FnCall, Stmt, Noop, If, Block, ExprStmt, FnCallStmt, Stmts, no_stmts, stmt}
 

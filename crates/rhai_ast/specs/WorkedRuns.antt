@@ -1,12 +1,12 @@
 -- Worked runs of small scripts, computed from the definitions alone.
-use Rattle.std.specs.Prelude.{◌≡◌, ℕ, Bool, true, false, List, [], ◌∷◌, ◌++◌, Option, Some, None, pos, negsuc, codes, refl}
+use Rattle.std.specs.Prelude.{◌≡◌, ℕ, Bool, true, false, List, [], ◌∷◌, ◌++◌, None, pos, codes, refl}
 use Prim.Native.String.{String}
-use Rattle.rhai_base.specs.Value.{Text, Value, UnitV, BoolV, IntV, TextV, ArrayV, items, values, text_of}
+use Rattle.rhai_base.specs.Value.{Text, Value, UnitV, BoolV, IntV, TextV, ArrayV, values, text_of}
 use Rattle.rhai_base.specs.Operators.{Operator, Plus, Multiply, Divide, EqualTo, Not, symbol, computed}
 use Rattle.rhai_ast.specs.Act.{Call, Host, Answer, Answers, AnswersThrow, WrongKind}
 use Rattle.rhai_ast.specs.Desugar.{core_script}
 use Rattle.rhai_ast.specs.Engine.{Engine}
-use Rattle.rhai_ast.specs.Run.{Entrance, AtStatements, End, WithValue, WithThrown, WithStuck, Report, report_of, run_script}
+use Rattle.rhai_ast.specs.Run.{AtStatements, End, WithValue, WithThrown, WithStuck, Report, report_of, run_script}
 use Rattle.rhai_ast.specs.Tree.{OfOperator, NoToken, Expr, IntegerConstant, BoolConstant, DynamicConstant, UnitConstant, ArrayOf, BlockExpr, FnCall, Stmt, If, Block, ExprStmt, FnCallStmt, exprs, stmts}
 
 -- ---- short forms

@@ -1,13 +1,17 @@
 -- What `show` prints.
-use Rattle.std.proofs.Common.{◌≡◌, ◌≢◌, List, [], ◌∷◌, ◌++◌, codes, ap, ◌∙◌, sym, subst, append-nil}
+use Rattle.std.proofs.Common.{◌≡◌, ◌≢◌, List, [], ◌++◌, codes, map, ap, ◌∙◌, sym, subst, append-nil}
 use Rattle.std.specs.declared.alloc.Global.{Global}
 use Rattle.std.specs.declared.rc.Rc.{Rc}
+use Rattle.std.specs.Rc.{rc_value}
 use Rattle.rhai_base.specs.Value.{Text}
 use Rattle.rhai_ast.specs.Engine.{Engine}
-use Rattle.rhai_ast.specs.Tree.{Stmts, Script}
+use Rattle.rhai_ast.specs.Tree.{Stmts, Script, Function}
 use Rattle.rhai_ast.specs.Reading.{stmts_of}
 use Rattle.rhai_ast.specs.declared.ast.script_fn.ScriptFuncDef.{ScriptFuncDef}
 use Rattle.rhai_ast.specs.declared.ast.stmt.Stmt.{Stmt}
+use Rattle.rhai_script.specs.FnKey.{definitions_table}
+use Rattle.rhai_script.specs.Script.{functions_of, script_of}
+use Rattle.rhai_script.specs.declared.ast.AST.{AST}
 use Rattle.rhai_run.specs.EngineInfo.{nothing_set}
 use Rattle.rhai_optimizer.specs.Residue.{AreReduced}
 use Rattle.rhai_optimizer.specs.SameRuns.{SameRuns}
@@ -30,14 +34,18 @@ pushed_show script after shown empty a b c d same h e f g i =
     i ∙ ap (λ t. t ++ script_text after) (g ∙ ap (λ t. t ++ codes "after:\n") before)
 
 -- the optimiser's answer for a built-in script
-pub optimized_built_in : (at : OptimizationLevel) (engine : Engine) (ss : List Stmt) (fs : List (Rc ScriptFuncDef Global)) (script : BuiltinScript) (after : Script)
+pub optimized_built_in : (at : OptimizationLevel) (engine : Engine) (ss : List Stmt) (fs : List (Rc ScriptFuncDef Global)) (script : BuiltinScript) (ast : AST)
     → engine ≡ nothing_set → stmts_of ss ≡ statements_of script → fs ≡ []
-    → (at ≡ level.None → after ≡ source_of ss fs) → SameRuns engine (source_of ss fs) after → (at ≢ level.None → AreReduced engine after.statements)
-    → Optimized at (built_in script) after
-optimized_built_in at engine ss fs script after e statements functions kept runs reduced =
-    let source : source_of ss fs ≡ built_in script = ap (source_of ss) functions ∙ ap (λ (x : Stmts). record { statements = x; functions = [] }) statements in
+    → SameRuns engine (source_of ss fs) (script_of ast) → ast.lib.value ≡ definitions_table (map rc_value fs)
+    → (at ≡ level.None → ast.statements ≡ ss) → (at ≢ level.None → AreReduced engine (script_of ast).statements)
+    → Optimized at (built_in script) (script_of ast)
+optimized_built_in at engine ss fs script ast e statements none runs table kept reduced =
+    let source : source_of ss fs ≡ built_in script = ap (source_of ss) none ∙ ap (λ (x : Stmts). record { statements = x; functions = [] }) statements in
+    let functions : functions_of ast.lib.value ≡ [] = ap functions_of table ∙ ap (λ (x : List (Rc ScriptFuncDef Global)). functions_of (definitions_table (map rc_value x))) none in
     record {
-      kept = λ h. kept h ∙ source;
-      runs = subst (λ (x : Engine). SameRuns x (built_in script) after) e (subst (λ (x : Script). SameRuns engine x after) source runs);
-      reduced = λ h. subst (λ (x : Engine). AreReduced x after.statements) e (reduced h);
+      runs = subst (λ (x : Engine). SameRuns x (built_in script) (script_of ast)) e (subst (λ (x : Script). SameRuns engine x (script_of ast)) source runs);
+      functions = functions;
+      kept = λ h. ap (λ (x : Stmts). record { statements = x; functions = functions_of ast.lib.value }) (ap stmts_of (kept h) ∙ statements)
+          ∙ ap (λ (x : List Function). record { statements = statements_of script; functions = x }) functions;
+      reduced = λ h. subst (λ (x : Engine). AreReduced x (script_of ast).statements) e (reduced h);
     }

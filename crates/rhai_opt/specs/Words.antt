@@ -45,11 +45,12 @@ showing before after = codes "before:\n" ++ script_text before ++ codes "after:\
 abbrev pub built_in : BuiltinScript → Script
 built_in script = record { statements = statements_of script; functions = [] }
 
--- what the optimiser makes of a script, where the engine has nothing set: at level `None` the script itself, else
--- one that runs alike, with nothing left to reduce
+-- what the optimiser makes of a script, where the engine has nothing set: one that runs alike, with the same
+-- functions; at level `None` the script itself, else one whose statements leave nothing to reduce
 pub record Optimized (at : OptimizationLevel) (before after : Script) : Type 0 where
-  pub kept : at ≡ level.None → after ≡ before
   pub runs : SameRuns nothing_set before after
+  pub functions : after.functions ≡ before.functions
+  pub kept : at ≡ level.None → after ≡ before
   pub reduced : at ≢ level.None → AreReduced nothing_set after.statements
 
 -- a text that answers a request

@@ -20,6 +20,8 @@ pub mod level;
 pub mod mark;
 pub mod rules;
 pub mod state;
+#[cfg(test)]
+mod tests;
 
 pub use level::OptimizationLevel;
 pub use state::OptimizerState;
