@@ -1,5 +1,5 @@
 -- The rewrite rules, one constructor each. The two flags are the dirty flag before and after.
-use Rattle.std.specs.Prelude.{◌≡◌, Bool, true, false, List, Option, Some}
+use Rattle.std.specs.Prelude.{◌≡◌, Bool, true, false, List, Some}
 use Rattle.rhai_base.specs.Value.{Value, ArrayV, values}
 use Rattle.rhai_ast.specs.Engine.{Engine}
 use Rattle.rhai_ast.specs.Constants.{constant_values, constant_bool, constant_for}

@@ -1,6 +1,6 @@
 -- What the functions of the optimiser promise: a tree was rewritten, and where the dirty flag is clear afterwards
 -- nothing in it is left to reduce.
-use Rattle.std.specs.Prelude.{◌≡◌, Bool, true, false, List, []}
+use Rattle.std.specs.Prelude.{◌≡◌, Bool, true, false, []}
 use Rattle.rhai_ast.specs.Engine.{Engine}
 use Rattle.rhai_ast.specs.Tree.{Expr, DynamicConstant, BoolConstant, IntegerConstant, CharConstant, StringConstant, UnitConstant, ArrayOf, BlockExpr, FnCall, Exprs, Stmt, Noop, If, Block, ExprStmt, FnCallStmt, Stmts, joined}
 use Rattle.rhai_optimizer.specs.Residue.{IsReducedExpr, AreReducedExprs, IsReduced, AreReduced}

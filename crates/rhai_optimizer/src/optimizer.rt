@@ -23,14 +23,13 @@ pub mod state;
 #[cfg(test)]
 mod tests;
 
-pub use level::OptimizationLevel;
-pub use state::OptimizerState;
-
 use cycle::optimize_statements;
+pub use level::OptimizationLevel;
 use rhai_ast::{ScriptFuncDef, Stmt};
 use rhai_base::{OutOfMemory, Scope, Seq};
 use rhai_run::EngineInfo;
 use rhai_script::{AST, FnLib};
+pub use state::OptimizerState;
 use std::alloc::Global;
 use std::rc::Rc;
 

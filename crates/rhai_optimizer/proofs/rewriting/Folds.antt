@@ -1,5 +1,5 @@
 -- Operator calls over constants, where arrays of constants are values already.
-use Rattle.std.proofs.Common.{◌≡◌, List, Option, Some, None, refl, sym, ap, ◌∙◌}
+use Rattle.std.proofs.Common.{◌≡◌, List, Option, Some, None, refl, ap, ◌∙◌}
 use Rattle.rhai_base.specs.Value.{Value}
 use Rattle.rhai_ast.specs.Constants.{array_value, value_and, constant_value, constant_values}
 use Rattle.rhai_ast.specs.Engine.{Engine}

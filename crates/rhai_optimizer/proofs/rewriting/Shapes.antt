@@ -1,7 +1,7 @@
 -- The shapes that rules look for.
 use Rattle.std.proofs.Common.{◌≡◌, ◌≤◌, true, false, List, [], ◌∷◌, length, refl, arith}
 use Rattle.rhai_ast.specs.declared.ast.stmt.Stmt as declared_stmt
-use Rattle.rhai_ast.specs.Reading.{stmt_of, stmts_of}
+use Rattle.rhai_ast.specs.Reading.{stmts_of}
 use Rattle.rhai_ast.specs.Tree.{Noop, If, Block, ExprStmt, FnCallStmt, Stmts, no_stmts, stmt}
 use Rattle.rhai_optimizer.specs.Rewriting.{block_or_noop}
 use Rattle.rhai_optimizer.specs.Residue.{holds_constant}

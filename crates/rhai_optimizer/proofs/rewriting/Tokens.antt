@@ -8,7 +8,7 @@ use Rattle.rhai_base.specs.declared.types.token.Token.{Token}
 use Rattle.rhai_base.specs.declared.types.token.Token.TheVariants as token
 use Rattle.rhai_ast.specs.declared.ast.expr.Expr.{Expr}
 use Rattle.rhai_base.specs.Builtin.{computed_of, answered, row, binary_at, unary_at}
-use Rattle.rhai_base.specs.Operators.{Operator, Computed, NoEntry, Is, Overflows, computed, unary, binary}
+use Rattle.rhai_base.specs.Operators.{Operator, Computed, NoEntry, computed, unary, binary}
 use Rattle.rhai_base.specs.Reading.{value_of, operator_of}
 use Rattle.rhai_base.specs.Symbols.{token_text}
 use Rattle.rhai_base.specs.Value.{Value, type_name}

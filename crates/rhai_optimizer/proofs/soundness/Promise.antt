@@ -1,5 +1,5 @@
 -- What a derivation over a script's statements promises of the script.
-use Rattle.std.proofs.Common.{◌≡◌, ◌≤◌, Bool, true, [], arith, subst, sym, ap}
+use Rattle.std.proofs.Common.{◌≡◌, ◌≤◌, true, [], arith}
 use Rattle.rhai_ast.specs.Engine.{Engine}
 use Rattle.rhai_ast.specs.Tree.{Script, Stmts}
 use Rattle.rhai_optimizer.specs.Rewriting.{Whole, StmtsTo}

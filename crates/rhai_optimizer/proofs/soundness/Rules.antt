@@ -119,7 +119,7 @@ module _ (w : World) (F : ℕ → Env) (tame : Tame F) (ks : List Known) where
       let ys = Scoped (acts w true (core_stmts y) UnitV) in
       subst (λ z. Sound w F tame ks (deed w (If (core_expr e) (core_stmts x) (core_stmts y))) z) (branch_chosen t x y)
       (s_or_stuck w F tame ks _ (branch (Some t) xs ys) (λ env s n adds ag.
-          or_stuck _ _ s n (branch_given w env (constant_value e) (run w env (act w (core_expr e)) s n) t s n xs ys (expr_given w env e s n) h) (frame w env adds (branch (Some t) xs ys) s n).calls))
+      or_stuck _ _ s n (branch_given w env (constant_value e) (run w env (act w (core_expr e)) s n) t s n xs ys (expr_given w env e s n) h) (frame w env adds (branch (Some t) xs ys) s n).calls))
 
   pub if_decided : (b : Bool) (e : tree.Expr) (t : Bool) (x y : tree.Stmts) → constant_bool e ≡ Some t → SoundStmt w F tame ks b (core_stmt (tree.If e x y)) (core_stmt (block_or_noop (chosen t x y)))
   if_decided b e t x y h =

@@ -25,5 +25,5 @@ keeps_meaning engine host known d d' p p' scope e to same ag =
     let q : Script = record { statements = p'.statements; functions = p.functions } in
     let w = world_of engine host (core_script p).functions in
     let c : Correct (run_script engine host (core_script p) e scope) (run_script engine host (core_script q) e scope) =
-        correct true w known [] (core_script p) (core_script q) scope (inside_nothing w) (record { statements = λ F tame. (stmts_sound w F tame to refl UnitV).closed; functions = functions_same w (core_script p).functions }) ag e in
+    correct true w known [] (core_script p) (core_script q) scope (inside_nothing w) (record { statements = λ F tame. (stmts_sound w F tame to refl UnitV).closed; functions = functions_same w (core_script p).functions }) ag e in
     subst (λ fs. Correct (run_script engine host (core_script p) e scope) (run_script engine host (core_script (record { statements = p'.statements; functions = fs })) e scope)) (sym same) c

@@ -34,11 +34,8 @@ fn truth(value: &Dynamic) -> Option<bool>
 {
     match value {
         Dynamic::Bool(b) => Some(*b),
-        Dynamic::Unit
-        | Dynamic::Int(_)
-        | Dynamic::Char(_)
-        | Dynamic::Str(_)
-        | Dynamic::Array(_) => None,
+        Dynamic::Unit | Dynamic::Int(_) | Dynamic::Char(_) | Dynamic::Str(_) | Dynamic::Array(_) =>
+            None,
     }
 }
 

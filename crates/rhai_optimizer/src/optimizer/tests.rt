@@ -1,9 +1,7 @@
 //! Small scripts before and after.
 
 use super::{OptimizationLevel, OptimizerState, optimize_into_ast};
-use rhai_ast::{
-    Expr, FlowControl, FnAccess, FnCallExpr, ScriptFuncDef, Stmt, StmtBlock,
-};
+use rhai_ast::{Expr, FlowControl, FnAccess, FnCallExpr, ScriptFuncDef, Stmt, StmtBlock};
 use rhai_base::{
     Boxed, Dynamic, INT, ImmutableString, OutOfMemory, Position, Scope, Seq, Span, Token,
 };
@@ -92,7 +90,14 @@ fn optimized_by(
     statements: Vec<Stmt>,
 ) -> Result<AST, OutOfMemory> {
     let functions = Vec::new(alloc);
-    optimize_into_ast(alloc, info, None, statements, functions, OptimizationLevel::Simple)
+    optimize_into_ast(
+        alloc,
+        info,
+        None,
+        statements,
+        functions,
+        OptimizationLevel::Simple,
+    )
 }
 
 fn optimized(alloc: Global, statements: Vec<Stmt>) -> Result<AST, OutOfMemory> {
@@ -135,7 +140,12 @@ fn operators_over_integers_fold_where_they_answer(rt: HostRuntime) -> Result<(),
     let alloc = rt.alloc();
     let rows = [
         (Token::Plus, 1, 2, Some(3)),
-        (Token::Plus, 9223372036854775806, 1, Some(9223372036854775807)),
+        (
+            Token::Plus,
+            9223372036854775806,
+            1,
+            Some(9223372036854775807),
+        ),
         (Token::Plus, 9223372036854775807, 1, None),
         (Token::Divide, 7, 2, Some(3)),
         (Token::Divide, 1, 0, None),
@@ -144,7 +154,11 @@ fn operators_over_integers_fold_where_they_answer(rt: HostRuntime) -> Result<(),
         let name = token.literal_syntax();
         let script = optimized(alloc, alone(alloc, operation(alloc, token, x, y)?)?)?;
         assert_eq!(rt; only_integer(&script), wanted, "at {x} {name} {y}");
-        assert_eq!(rt; is_call(&script, name), wanted.is_none(), "at {x} {name} {y}");
+        assert_eq!(rt;
+            is_call(&script, name),
+            wanted.is_none(),
+            "at {x} {name} {y}"
+        );
     }
     Ok(())
 }
@@ -158,7 +172,10 @@ fn an_overridden_operator_is_left_to_the_host(rt: HostRuntime) -> Result<(), Fai
     info.set_fast_operators(true);
     assert_eq!(rt; only_integer(&optimized_by(alloc, &info, sum()?)?), Some(3));
     let others = overriding(alloc, "+", &["i64", "string"])?;
-    assert_eq!(rt; only_integer(&optimized_by(alloc, &others, sum()?)?), Some(3));
+    assert_eq!(rt;
+        only_integer(&optimized_by(alloc, &others, sum()?)?),
+        Some(3)
+    );
     Ok(())
 }
 
@@ -257,9 +274,7 @@ fn a_condition_without_blocks_is_evaluated_still(rt: HostRuntime) -> Result<(), 
         return Ok(());
     };
     assert!(rt; calls(first, "f"));
-    assert!(rt;
-        matches!(last.get().statements(), [asked, Stmt::Noop(_)] if calls(asked, "g"))
-    );
+    assert!(rt; matches!(last.get().statements(), [asked, Stmt::Noop(_)] if calls(asked, "g")));
     Ok(())
 }
 
@@ -318,7 +333,10 @@ fn functions_come_through_as_they_are(rt: HostRuntime) -> Result<(), Fail> {
     let info = EngineInfo::new(alloc);
     let level = OptimizationLevel::Simple;
     let script = optimize_into_ast(alloc, &info, None, Vec::new(alloc), functions, level)?;
-    assert_eq!(rt; (script.statements().len(), script.shared_lib().len()), (0, 1));
+    assert_eq!(rt;
+        (script.statements().len(), script.shared_lib().len()),
+        (0, 1)
+    );
     for function in script.shared_lib().iter() {
         assert_eq!(rt; function.name.as_str(), "f");
         assert!(rt;

@@ -10,6 +10,6 @@ use Rattle.rhai_optimizer.proofs.rewriting.Folds.{folded-operands}
 use Rattle.rhai_optimizer.proofs.optimizer.rules.expressions.operator_folds.Goals as goal
 
 pub returns : goal.returns
-returns c = 
+returns c =
     let P : Expr → Type 0 = λ e. expr_of e ≡ constant_for (value_of c.args.value) in
     IfOk-weaker _ P _ (λ e x k f es h. expr_fires c.set_dirty.ensures (operator_folds (folded-operands k.engine f es _ h)) x) c.from_dynamic.ensures

@@ -1,4 +1,4 @@
-use Rattle.std.proofs.Common.{refl, sym, ◌∙◌}
+use Rattle.std.proofs.Common.{refl, sym}
 use Rattle.std.proofs.lemmas.Result.{IfOk-weaker}
 use Rattle.rhai_ast.specs.Reading.{expr_of-Array}
 use Rattle.rhai_optimizer.proofs.rewriting.Firing.{expr_kept_as, expr_by_rule}

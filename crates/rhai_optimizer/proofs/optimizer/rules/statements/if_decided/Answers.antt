@@ -7,6 +7,6 @@ use Rattle.rhai_optimizer.proofs.rewriting.Firing.{stmt_fires}
 use Rattle.rhai_optimizer.proofs.optimizer.rules.statements.if_decided.Goals as goal
 
 pub returns : goal.returns
-returns c = 
+returns c =
     let P : Stmt → Type 0 = λ s. stmt_of s ≡ block_or_noop (stmts_of c.chosen.result.block) in
     IfOk-weaker _ P _ (λ s x k w e h. stmt_fires c.set_dirty.ensures (if_decided h) (x ∙ ap block_or_noop c.chosen.ensures)) c.block_or_noop.ensures

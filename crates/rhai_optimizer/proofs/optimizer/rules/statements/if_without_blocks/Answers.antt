@@ -7,6 +7,6 @@ use Rattle.rhai_optimizer.proofs.rewriting.Firing.{stmt_fires}
 use Rattle.rhai_optimizer.proofs.optimizer.rules.statements.if_without_blocks.Goals as goal
 
 pub returns : goal.returns
-returns c = 
+returns c =
     let P : Stmt → Type 0 = λ s. stmt_of s ≡ condition_alone c.args.wanted (expr_of c.args.expr) in
     IfOk-weaker _ P _ (λ s x k. stmt_fires c.set_dirty.ensures if_without_blocks x) c.condition_alone.ensures

@@ -13,5 +13,5 @@ pub returns-in-Ok : goal.returns-in-Ok
 returns-in-Ok c = stmt_by_rule (ap Block c.in-Ok.ensures.0) (c.block_of_statement.ensures _ _)
 
 pub returns-in_ok-new-in-Err : goal.returns-in_ok-new-in-Err
-returns-in_ok-new-in-Err c = 
+returns-in_ok-new-in-Err c =
     stmt_kept_as (stmt_of-Block _ ∙ ap (λ (b : StmtBlock). Block (stmts_of b.block)) c.in_ok-new-in-Err.ensures ∙ ap (λ (l : List Stmt). Block (stmts_of l)) c.in-Err.ensures) (λ p. p)

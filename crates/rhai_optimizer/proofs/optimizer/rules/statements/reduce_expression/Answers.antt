@@ -8,7 +8,7 @@ use Rattle.rhai_optimizer.proofs.rewriting.Firing.{stmt_kept_as, stmt_by_rule}
 use Rattle.rhai_optimizer.proofs.optimizer.rules.statements.reduce_expression.Goals as goal
 
 pub returns-in-Stmt : goal.returns-in-Stmt
-returns-in-Stmt c = 
+returns-in-Stmt c =
     let x = ap ExprStmt (ap expr_of c.in-Stmt.is ∙ expr_of-Stmt _ ∙ ap (λ (b : StmtBlock). BlockExpr (stmts_of b.block)) (sym c.into_inner.ensures)) in
     IfOk-weaker _ _ _ (λ s r. stmt_by_rule x (r _ _)) c.statement_of_braces.ensures
 

@@ -8,7 +8,7 @@ use Rattle.rhai_optimizer.proofs.rewriting.Firing.{stmt_kept_as, stmt_by_rule}
 use Rattle.rhai_optimizer.proofs.optimizer.rules.statements.reduce_if.Goals as goal
 
 pub returns-then-is_empty-2 : goal.returns-then-is_empty-2
-returns-then-is_empty-2 c = 
+returns-then-is_empty-2 c =
     let x = ap (λ (l : List Stmt). If (expr_of c.args.flow.expr) (stmts_of l) (stmts_of c.args.flow.branch.block)) (c.if-is_empty.ensures.0 refl) ∙ ap (λ (l : List Stmt). If (expr_of c.args.flow.expr) no_stmts (stmts_of l)) (c.if-is_empty-2.ensures.0 refl) in
     IfOk-weaker _ _ _ (λ s r. stmt_by_rule x (r _)) c.if_without_blocks.ensures
 

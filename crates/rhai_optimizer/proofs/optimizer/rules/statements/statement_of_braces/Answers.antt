@@ -7,6 +7,6 @@ use Rattle.rhai_optimizer.proofs.rewriting.Firing.{stmt_fires}
 use Rattle.rhai_optimizer.proofs.optimizer.rules.statements.statement_of_braces.Goals as goal
 
 pub returns : goal.returns
-returns c = 
+returns c =
     let P : Stmt → Type 0 = λ s. stmt_of s ≡ block_or_noop (stmts_of c.args.block.block) in
     IfOk-weaker _ P _ (λ s x k w. stmt_fires c.set_dirty.ensures statement_of_braces x) c.block_or_noop.ensures
