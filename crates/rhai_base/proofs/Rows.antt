@@ -1,5 +1,5 @@
 -- Rows of the operators' table.
-use Rattle.std.proofs.Common.{◌≡◌, ◌≢◌, ℕ, ℤ, [], ◌∷◌, ◌++◌, Bool, true, false, not, ◌&&◌, ◌||◌, ◌==◌, nat_lt, nat_le, nat_cmp, refl, sym, ap, ◌∙◌, arith, if◌then◌else◌}
+use Rattle.std.proofs.Common.{◌≡◌, ◌≢◌, ℕ, ℤ, [], ◌∷◌, ◌++◌, Bool, true, false, not, ◌&&◌, ◌||◌, ◌==◌, Option, Some, None, nat_lt, nat_le, nat_cmp, refl, sym, ap, ◌∙◌, arith, if◌then◌else◌}
 use Rattle.std.specs.declared.cmp.Ordering.{Ordering}
 use Rattle.std.specs.declared.cmp.Ordering.TheVariants as order
 use Rattle.std.specs.Ordering.{is_eq, is_lt, is_le, is_gt, is_ge, ordering_then, ordering_reverse}
@@ -138,7 +138,28 @@ unjoined_is op v w r h = ap (λ d. if same_text (type_name v) (type_name w) then
 apart : (a b : Bool) → (a && b) ≡ false → a ≡ true → b ≡ true → ⊥
 apart a b e p q = grind arith
 
+-- neither `+` nor an operator that makes a range
+abbrev is_other : Operator → Bool
+is_other table.Plus = false
+is_other op = not (is_range op)
+
+abbrev is_other_or_none : Option Operator → Bool
+is_other_or_none None = true
+is_other_or_none (Some op) = is_other op
+
+other_is_no_range : (op : Operator) → is_other op ≡ true → is_range op ≡ false
+other_is_no_range table.UpTo h = absurd (cc)
+other_is_no_range table.Through h = absurd (cc)
+other_is_no_range _ h = refl
+
+other_is_no_plus : (op : Operator) → is_other op ≡ true → op ≢ table.Plus
+other_is_no_plus op h e = let f : false ≡ true = ap is_other (sym e) ∙ h in absurd (cc)
+
+row_is : (o : Option Operator) (v w : Value) → is_other_or_none o ≡ true → row (λ op. unjoined op v w) o ≡ row (λ op. binary op v w) o
+row_is None v w h = refl
+row_is (Some op) v w h = unjoined_is op v w (other_is_no_range op h) (λ p q. other_is_no_plus op h)
+
 -- the rows of a token for values that it does not join
 pub unjoined_row : (op : Token) (v w : Value) → joins op v w ≡ false → row (λ o. unjoined o v w) (operator_of op) ≡ binary_at op v w
 unjoined_row token.Plus v w h = unjoined_is table.Plus v w refl (λ p q e. apart (is_text v) (is_text w) h p q)
-unjoined_row _ v w h = unjoined_is _ v w refl (λ p q e. absurd (cc))
+unjoined_row t v w h = row_is (operator_of t) v w refl

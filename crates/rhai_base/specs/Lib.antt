@@ -3,4 +3,11 @@ pub mod Operators
 pub mod Reading
 pub mod Builtin
 pub mod Symbols
+pub mod Tokens
+pub mod Positions
+pub mod Names
+pub mod Refusals
+pub mod Assignments
 pub mod formers
+pub mod Ranges
+pub mod Upward

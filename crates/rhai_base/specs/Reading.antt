@@ -1,5 +1,5 @@
 -- The values and operators that the declared ones stand for.
-use Rattle.std.specs.Prelude.{◌≡◌, ℕ, ℤ, Bool, List, map, Option, Some}
+use Rattle.std.specs.Prelude.{◌≡◌, ℕ, ℤ, Bool, List, map, Option, Some, None}
 use Rattle.std.proofs.Common.{sym, ap, ◌∙◌, subst}
 use Rattle.rhai_base.specs.declared.types.dynamic.Dynamic.{Dynamic}
 use Rattle.rhai_base.specs.declared.types.dynamic.Dynamic.TheOpen as open_one
@@ -102,3 +102,4 @@ operator_of token.LessThanEqualsTo = Some LessOrEqual
 operator_of token.GreaterThan = Some Greater
 operator_of token.GreaterThanEqualsTo = Some GreaterOrEqual
 operator_of token.Bang = Some Not
+operator_of _ = None

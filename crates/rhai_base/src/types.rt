@@ -1,12 +1,14 @@
 //! Values, texts, operators' tokens, positions and scopes.
 
 pub mod dynamic;
+pub mod ident;
 pub mod immutable_string;
 pub mod position;
 pub mod scope;
 pub mod token;
 
 pub use dynamic::{Dynamic, INT};
+pub use ident::Ident;
 pub use immutable_string::ImmutableString;
 pub use position::{Position, Span};
 pub use scope::{Scope, ScopeEntry, ScopeIter};
