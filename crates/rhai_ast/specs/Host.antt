@@ -38,4 +38,3 @@ module_value_of (m ∷ ms) x = if same_text m.name x then Some m.value else modu
 
 abbrev pub host_of : List Row → List ModuleValue → Host
 host_of rows ms = record { answer = answer_of rows; module_value = module_value_of ms }
-

@@ -3,4 +3,6 @@
 
 pub mod ast;
 
-pub use ast::{Expr, FlowControl, FnAccess, FnCallExpr, ScriptFuncDef, Stmt, StmtBlock, are_constant};
+pub use ast::{
+    Expr, FlowControl, FnAccess, FnCallExpr, ScriptFuncDef, Stmt, StmtBlock, are_constant,
+};

@@ -1,4 +1,6 @@
 pub mod Value
+pub mod Names
+pub mod Laws
 pub mod Operators
 pub mod Reading
 pub mod Builtin

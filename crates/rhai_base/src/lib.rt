@@ -6,6 +6,7 @@ pub mod error;
 pub mod func;
 mod rest;
 mod seq;
+mod string_map;
 pub mod types;
 
 pub use boxed::Boxed;
@@ -13,6 +14,8 @@ pub use error::{Fault, OutOfMemory};
 pub use func::{builtin_binary_op, builtin_unary_op};
 pub use rest::Rest;
 pub use seq::Seq;
+pub use string_map::StringMap;
 pub use types::{
-    Dynamic, INT, ImmutableString, Position, Scope, ScopeEntry, ScopeIter, Span, Token,
+    Dynamic, FnName, FnPtr, INT, ImmutableString, Position, Scope, ScopeEntry, ScopeIter, Span,
+    Token,
 };

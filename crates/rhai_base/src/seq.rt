@@ -60,7 +60,7 @@ impl<T> Seq<T> {
     }
 
     /// The allocator that it grows with.
-    pub fn allocator(&self) -> Global {
+    pub(crate) fn allocator(&self) -> Global {
         *self.items.allocator()
     }
 

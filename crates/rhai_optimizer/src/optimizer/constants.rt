@@ -38,7 +38,11 @@ fn truth(value: &Dynamic) -> Option<bool>
         | Dynamic::Int(_)
         | Dynamic::Char(_)
         | Dynamic::Str(_)
-        | Dynamic::Array(_) => None,
+        | Dynamic::Array(_)
+        | Dynamic::Map(_)
+        | Dynamic::FnPtr(_)
+        | Dynamic::Range(_, _)
+        | Dynamic::RangeInclusive(_, _) => None,
     }
 }
 
