@@ -4,3 +4,8 @@ pub mod Differing
 pub mod Applied
 pub mod Upward
 pub mod RangeCases
+pub mod Hashable
+pub mod Sorted
+pub mod Words
+pub mod Exact
+pub mod Ranges

@@ -9,6 +9,7 @@ pub mod func;
 pub mod module;
 mod rest;
 mod seq;
+mod string_map;
 pub mod types;
 
 pub use ast::{ASTFlags, OpAssignment};
@@ -19,6 +20,8 @@ pub use func::{builtin_binary_op, builtin_unary_op};
 pub use module::Namespace;
 pub use rest::Rest;
 pub use seq::Seq;
+pub use string_map::StringMap;
 pub use types::{
-    Dynamic, INT, Ident, ImmutableString, Position, Scope, ScopeEntry, ScopeIter, Span, Token,
+    Dynamic, FnName, FnPtr, INT, Ident, ImmutableString, Position, Scope, ScopeEntry, ScopeIter,
+    Span, Token,
 };

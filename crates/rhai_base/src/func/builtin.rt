@@ -48,6 +48,10 @@ fn negation(x: &Dynamic) -> Option<Dynamic>
         Dynamic::Char(_) => None,
         Dynamic::Str(_) => None,
         Dynamic::Array(_) => None,
+        Dynamic::Map(_) => None,
+        Dynamic::FnPtr(_) => None,
+        Dynamic::Range(_, _) => None,
+        Dynamic::RangeInclusive(_, _) => None,
     }
 }
 
@@ -72,6 +76,10 @@ fn unjoined(op: &Token, x: &Dynamic, y: &Dynamic) -> Option<Result<Dynamic, Faul
         (Dynamic::Char(x), Dynamic::Char(y)) => comparison(op, x.cmp(y)),
         (Dynamic::Unit, Dynamic::Unit) => equality(op, true),
         (Dynamic::Array(_), Dynamic::Array(_)) => None,
+        (Dynamic::Map(_), Dynamic::Map(_)) => None,
+        (Dynamic::FnPtr(_), Dynamic::FnPtr(_)) => None,
+        (Dynamic::Range(_, _), Dynamic::Range(_, _)) => None,
+        (Dynamic::RangeInclusive(_, _), Dynamic::RangeInclusive(_, _)) => None,
         _ => equality(op, false),
     }
 }
@@ -164,6 +172,10 @@ fn is_text(value: &Dynamic) -> bool
         Dynamic::Bool(_) => false,
         Dynamic::Int(_) => false,
         Dynamic::Array(_) => false,
+        Dynamic::Map(_) => false,
+        Dynamic::FnPtr(_) => false,
+        Dynamic::Range(_, _) => false,
+        Dynamic::RangeInclusive(_, _) => false,
     }
 }
 

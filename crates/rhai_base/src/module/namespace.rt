@@ -1,6 +1,6 @@
 //! Paths of modules before a name.
 ghost use Rattle.std.specs.Prelude.{◌≡◌, ◌≢◌, [], ◌∷◌, ◌↔◌, IsTrue, slice_get, option_map, Some};
-ghost use Rattle.rhai_base.specs.Names.{names_joined};
+ghost use Rattle.rhai_base.specs.Paths.{names_joined};
 
 use crate::{Ident, Position, Seq};
 use std::alloc::{AllocError, Global};

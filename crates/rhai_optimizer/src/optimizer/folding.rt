@@ -117,8 +117,11 @@ fn folded_two(
 ) -> Result<Option<Dynamic>, OutOfMemory>
     ensures { IfOk result (λ v. option_map value_of v ≡ spec.folded_values (engine_of info.now) (mark_of (Some op)) (spec.operands (expr (expr_of x.now) (expr (expr_of y.now) no_exprs)))) }
 {
-    match (operand(x)?, operand(y)?) {
-        (Some(x), Some(y)) => folded_binary(alloc, info, op, &x, &y),
-        _ => Ok(None),
-    }
+    let Some(x) = operand(x)? else {
+        return Ok(None);
+    };
+    let Some(y) = operand(y)? else {
+        return Ok(None);
+    };
+    folded_binary(alloc, info, op, &x, &y)
 }

@@ -1,6 +1,6 @@
 use Rattle.std.proofs.Common.{take, flat_map}
 use Rattle.std.specs.Fmt.{HasWritten, IsPlainFormatter}
-use Rattle.rhai_base.specs.Names.{next_name}
+use Rattle.rhai_base.specs.Paths.{next_name}
 use Rattle.rhai_base.proofs.module.namespace.NamespaceDisplay.fmt.Given as goal
 
 abbrev pub invariant-loop-name : goal.invariant-loop-name
