@@ -8,4 +8,5 @@ pub mod Hashable
 pub mod Sorted
 pub mod Words
 pub mod Exact
+pub mod Recovered
 pub mod Ranges

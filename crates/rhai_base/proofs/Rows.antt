@@ -13,7 +13,8 @@ use Rattle.rhai_base.specs.declared.types.token.Token.TheVariants as token
 use Rattle.rhai_base.specs.Value.{Text, Value, UnitV, BoolV, IntV, CharV, TextV, same_text, type_name}
 use Rattle.rhai_base.specs.Operators as table
 use Rattle.rhai_base.specs.Operators.{Operator, Computed, NoEntry, is_bool, binary, on_texts, on_chars, text_lt, is_range}
-use Rattle.rhai_base.specs.Builtin.{row, binary_at, equality_of, compared, unjoined, is_text, joins}
+use Rattle.rhai_base.specs.Tokens.{makes_range}
+use Rattle.rhai_base.specs.Builtin.{plain_operator, row, binary_at, equality_of, compared, unjoined, is_text, joins}
 use Rattle.rhai_base.specs.Reading.{operator_of}
 
 -- ---- texts and characters in order
@@ -159,7 +160,15 @@ row_is : (o : Option Operator) (v w : Value) → is_other_or_none o ≡ true →
 row_is None v w h = refl
 row_is (Some op) v w h = unjoined_is op v w (other_is_no_range op h) (λ p q. other_is_no_plus op h)
 
--- the rows of a token for values that it does not join
-pub unjoined_row : (op : Token) (v w : Value) → joins op v w ≡ false → row (λ o. unjoined o v w) (operator_of op) ≡ binary_at op v w
-unjoined_row token.Plus v w h = unjoined_is table.Plus v w refl (λ p q e. apart (is_text v) (is_text w) h p q)
-unjoined_row t v w h = row_is (operator_of t) v w refl
+-- a token that makes no range
+pub no_range : (op : Token) → (op ≡ token.ExclusiveRange → ⊥) → (op ≡ token.InclusiveRange → ⊥) → makes_range op ≡ false
+no_range token.ExclusiveRange f g = absurd (f refl)
+no_range token.InclusiveRange f g = absurd (g refl)
+no_range _ f g = refl
+
+-- the rows of a token for values that it neither joins nor makes a range of
+pub unjoined_row : (op : Token) (v w : Value) → joins op v w ≡ false → makes_range op ≡ false → row (λ o. unjoined o v w) (plain_operator op) ≡ binary_at op v w
+unjoined_row token.Plus v w h r = unjoined_is table.Plus v w refl (λ p q e. apart (is_text v) (is_text w) h p q)
+unjoined_row token.ExclusiveRange v w h r = absurd (cc)
+unjoined_row token.InclusiveRange v w h r = absurd (cc)
+unjoined_row t v w h r = row_is (operator_of t) v w refl

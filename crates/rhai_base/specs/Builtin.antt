@@ -64,6 +64,12 @@ abbrev pub joins : Token → Value → Value → Bool
 joins token.Plus v w = is_text v && is_text w
 joins _ v w = false
 
+-- the operator of a token, but for those that make ranges
+abbrev pub plain_operator : Token → Option Operator
+plain_operator token.ExclusiveRange = None
+plain_operator token.InclusiveRange = None
+plain_operator t = operator_of t
+
 -- all entries but the ranges and those that join texts and characters
 abbrev pub unjoined : Operator → Value → Value → Computed
 unjoined op (IntV a) (IntV b) = on_ints op a b

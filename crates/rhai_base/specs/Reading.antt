@@ -10,7 +10,7 @@ use Rattle.rhai_base.specs.declared.types.fn_ptr.FnPtr.{FnPtr}
 use Rattle.rhai_base.specs.declared.types.token.Token.{Token}
 use Rattle.rhai_base.specs.declared.types.token.Token.TheVariants as token
 use Rattle.rhai_base.specs.Value.{Text, Value, UnitV, BoolV, IntV, CharV, TextV, ArrayV, MapV, PointerV, RangeV, RangeInclusiveV, Values, values, fields}
-use Rattle.rhai_base.specs.Operators.{Operator, Plus, Minus, Multiply, Divide, Modulo, Power, ShiftLeft, ShiftRight, BitAnd, BitOr, BitXor, EqualTo, NotEqualTo, Less, Greater, LessOrEqual, GreaterOrEqual, Not, Negative, Positive}
+use Rattle.rhai_base.specs.Operators.{Operator, Plus, Minus, Multiply, Divide, Modulo, Power, ShiftLeft, ShiftRight, BitAnd, BitOr, BitXor, EqualTo, NotEqualTo, Less, Greater, LessOrEqual, GreaterOrEqual, UpTo, Through, Not, Negative, Positive}
 
 -- ---- values
 
@@ -150,5 +150,7 @@ operator_of token.LessThan = Some Less
 operator_of token.LessThanEqualsTo = Some LessOrEqual
 operator_of token.GreaterThan = Some Greater
 operator_of token.GreaterThanEqualsTo = Some GreaterOrEqual
+operator_of token.ExclusiveRange = Some UpTo
+operator_of token.InclusiveRange = Some Through
 operator_of token.Bang = Some Not
 operator_of _ = None

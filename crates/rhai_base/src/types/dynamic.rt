@@ -82,7 +82,8 @@ impl Dynamic {
 
     /// Whether the values are equal: `==`, with a contract that says when.
     pub fn is_equal(&self, other: &Dynamic) -> bool
-        ensures { IsTrue result ↔ (self.now ≡ other.now) }
+        ensures exact { IsTrue result ↔ (self.now ≡ other.now) }
+        ensures by_value { IsTrue result ↔ (value_of self.now ≡ value_of other.now) }
     {
         self == other
     }

@@ -47,6 +47,8 @@ folded-token engine token.LessThan vs = refl
 folded-token engine token.LessThanEqualsTo vs = refl
 folded-token engine token.GreaterThan vs = refl
 folded-token engine token.GreaterThanEqualsTo vs = refl
+folded-token engine token.ExclusiveRange vs = refl
+folded-token engine token.InclusiveRange vs = refl
 folded-token engine token.Bang vs = refl
 folded-token engine t vs = no_entry (opens engine t vs)
 
