@@ -1,5 +1,5 @@
 -- Lists of items, one after another.
-use Rattle.std.proofs.Common.{◌≡◌, ℕ, ◌+◌, ◌<◌, ◌&&◌, List, [], ◌∷◌, length, get_or, drop, map, refl, add-one, ap, true}
+use Rattle.std.proofs.Common.{◌≡◌, ℕ, ◌+◌, ◌<◌, ◌&&◌, List, length, get_or, drop, map, refl, add-one, ap, true}
 use Rattle.std.proofs.Math.Seq.{drop-cons, drop-length}
 use Rattle.rhai_base.specs.declared.types.dynamic.Dynamic.{Dynamic}
 use Rattle.rhai_base.specs.Value.{values, is_hashable, are_hashable}

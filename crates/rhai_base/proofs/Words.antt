@@ -1,5 +1,5 @@
 -- Words, letter by letter.
-use Rattle.std.proofs.Common.{◌≡◌, ℕ, ◌+◌, ◌<◌, ◌&&◌, List, [], ◌∷◌, length, get_or, drop, refl, add-one, ap, true}
+use Rattle.std.proofs.Common.{◌≡◌, ℕ, ◌+◌, ◌<◌, ◌&&◌, List, length, get_or, drop, refl, add-one, ap, true}
 use Rattle.std.proofs.Math.Seq.{drop-cons, drop-length}
 use Rattle.rhai_base.specs.Names.{are_all, is_word}
 
