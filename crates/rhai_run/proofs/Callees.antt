@@ -12,7 +12,7 @@ use Rattle.rhai_ast.specs.Core as core
 use Rattle.rhai_ast.specs.Desugar.{callee_by, call_of}
 use Rattle.rhai_ast.specs.Engine.{Engine, is_open}
 use Rattle.rhai_ast.specs.Faults.{has_token, is_barred}
-use Rattle.rhai_ast.specs.Names.{is_among, barred}
+use Rattle.rhai_base.specs.Names.{is_among, barred}
 use Rattle.rhai_ast.specs.Reading.{exprs_of}
 use Rattle.rhai_ast.specs.Tree.{Mark, NoToken, OfOperator, OfOther, Callee, count_exprs}
 use Rattle.rhai_run.specs.Operators.{operator_by, called_operator, built_in_of, built_in_at}
@@ -21,29 +21,6 @@ use Rattle.rhai_run.specs.Small.{IsToken}
 pub count_exprs_of : (xs : List Expr) → count_exprs (exprs_of xs) ≡ length xs
 count_exprs_of [] = refl
 count_exprs_of (x ∷ xs) = ap suc (count_exprs_of xs)
-
--- each token is an operator's
-pub known : (t : Token) → (op : Operator) × (operator_of t ≡ Some op)
-known token.Plus = (Plus, refl)
-known token.UnaryPlus = (Positive, refl)
-known token.Minus = (Minus, refl)
-known token.UnaryMinus = (Negative, refl)
-known token.Multiply = (Multiply, refl)
-known token.Divide = (Divide, refl)
-known token.Modulo = (Modulo, refl)
-known token.PowerOf = (Power, refl)
-known token.LeftShift = (ShiftLeft, refl)
-known token.RightShift = (ShiftRight, refl)
-known token.Ampersand = (BitAnd, refl)
-known token.Pipe = (BitOr, refl)
-known token.XOr = (BitXor, refl)
-known token.EqualsTo = (EqualTo, refl)
-known token.NotEqualsTo = (NotEqualTo, refl)
-known token.LessThan = (Less, refl)
-known token.LessThanEqualsTo = (LessOrEqual, refl)
-known token.GreaterThan = (Greater, refl)
-known token.GreaterThanEqualsTo = (GreaterOrEqual, refl)
-known token.Bang = (Not, refl)
 
 -- no operator's name is barred
 unbarred : (op : Operator) → is_among (symbol op) barred ≡ false

@@ -1,71 +1,73 @@
 use super::*;
 
-/// Each token with its text and with its `op=` form or its operator, as written by hand.
+/// The operators that have an `op=` form, each with its text, the form and the form's text.
 #[test]
-fn names_every_token(rt: HostRuntime) {
+fn names_operators_and_their_forms(rt: HostRuntime) {
     let rows = [
-        (Token::Plus, "+", Some(Token::PlusAssign), None),
-        (Token::UnaryPlus, "+", None, None),
-        (Token::Minus, "-", Some(Token::MinusAssign), None),
-        (Token::UnaryMinus, "-", None, None),
-        (Token::Multiply, "*", Some(Token::MultiplyAssign), None),
-        (Token::Divide, "/", Some(Token::DivideAssign), None),
-        (Token::Modulo, "%", Some(Token::ModuloAssign), None),
-        (Token::PowerOf, "**", Some(Token::PowerOfAssign), None),
-        (Token::LeftShift, "<<", Some(Token::LeftShiftAssign), None),
-        (Token::RightShift, ">>", Some(Token::RightShiftAssign), None),
-        (Token::Ampersand, "&", Some(Token::AndAssign), None),
-        (Token::Pipe, "|", Some(Token::OrAssign), None),
-        (Token::XOr, "^", Some(Token::XOrAssign), None),
-        (Token::EqualsTo, "==", None, None),
-        (Token::NotEqualsTo, "!=", None, None),
-        (Token::LessThan, "<", None, None),
-        (Token::LessThanEqualsTo, "<=", None, None),
-        (Token::GreaterThan, ">", None, None),
-        (Token::GreaterThanEqualsTo, ">=", None, None),
-        (Token::ExclusiveRange, "..", None, None),
-        (Token::InclusiveRange, "..=", None, None),
-        (Token::Bang, "!", None, None),
-        (Token::PlusAssign, "+=", None, Some(Token::Plus)),
-        (Token::MinusAssign, "-=", None, Some(Token::Minus)),
-        (Token::MultiplyAssign, "*=", None, Some(Token::Multiply)),
-        (Token::DivideAssign, "/=", None, Some(Token::Divide)),
-        (Token::ModuloAssign, "%=", None, Some(Token::Modulo)),
-        (Token::PowerOfAssign, "**=", None, Some(Token::PowerOf)),
-        (Token::LeftShiftAssign, "<<=", None, Some(Token::LeftShift)),
-        (
-            Token::RightShiftAssign,
-            ">>=",
-            None,
-            Some(Token::RightShift),
-        ),
-        (Token::AndAssign, "&=", None, Some(Token::Ampersand)),
-        (Token::OrAssign, "|=", None, Some(Token::Pipe)),
-        (Token::XOrAssign, "^=", None, Some(Token::XOr)),
-        (Token::Equals, "=", None, None),
-        (Token::Period, ".", None, None),
-        (Token::Elvis, "?.", None, None),
-        (Token::LeftBracket, "[", None, None),
-        (Token::QuestionBracket, "?[", None, None),
-        (Token::LeftParen, "(", None, None),
-        (Token::Unit, "()", None, None),
-        (Token::DoubleColon, "::", None, None),
+        (Token::Plus, "+", Token::PlusAssign, "+="),
+        (Token::Minus, "-", Token::MinusAssign, "-="),
+        (Token::Multiply, "*", Token::MultiplyAssign, "*="),
+        (Token::Divide, "/", Token::DivideAssign, "/="),
+        (Token::Modulo, "%", Token::ModuloAssign, "%="),
+        (Token::PowerOf, "**", Token::PowerOfAssign, "**="),
+        (Token::LeftShift, "<<", Token::LeftShiftAssign, "<<="),
+        (Token::RightShift, ">>", Token::RightShiftAssign, ">>="),
+        (Token::Ampersand, "&", Token::AndAssign, "&="),
+        (Token::Pipe, "|", Token::OrAssign, "|="),
+        (Token::XOr, "^", Token::XOrAssign, "^="),
     ];
-    for (token, text, form, base) in rows {
+    for (op, text, form, form_text) in rows {
+        assert_eq!(rt; op.literal_syntax(), text);
+        assert_eq!(rt; form.literal_syntax(), form_text);
+        assert_eq!(rt; Token::lookup_symbol_from_syntax(text), Some(op));
+        assert_eq!(rt; Token::lookup_symbol_from_syntax(form_text), Some(form));
+        assert_eq!(rt; op.convert_to_op_assignment(), Some(form));
+        assert_eq!(rt; op.get_base_op_from_assignment(), None);
+        assert_eq!(rt; form.convert_to_op_assignment(), None);
+        assert_eq!(rt; form.get_base_op_from_assignment(), Some(op));
+        assert!(rt; op.has_op_assignment() && !form.has_op_assignment());
+    }
+}
+
+/// All other tokens, each with its text.
+#[test]
+fn names_the_other_tokens(rt: HostRuntime) {
+    let rows = [
+        (Token::EqualsTo, "=="),
+        (Token::NotEqualsTo, "!="),
+        (Token::LessThan, "<"),
+        (Token::LessThanEqualsTo, "<="),
+        (Token::GreaterThan, ">"),
+        (Token::GreaterThanEqualsTo, ">="),
+        (Token::ExclusiveRange, ".."),
+        (Token::InclusiveRange, "..="),
+        (Token::Bang, "!"),
+        (Token::Equals, "="),
+        (Token::Period, "."),
+        (Token::Elvis, "?."),
+        (Token::LeftBracket, "["),
+        (Token::QuestionBracket, "?["),
+        (Token::LeftParen, "("),
+        (Token::Unit, "()"),
+        (Token::DoubleColon, "::"),
+    ];
+    for (token, text) in rows {
         assert_eq!(rt; token.literal_syntax(), text);
-        assert_eq!(rt; token.convert_to_op_assignment(), form, "{text}");
-        assert_eq!(rt; token.get_base_op_from_assignment(), base, "{text}");
-        assert_eq!(rt; token.has_op_assignment(), form.is_some(), "{text}");
-        let found = match token {
-            Token::UnaryPlus => Token::Plus,
-            Token::UnaryMinus => Token::Minus,
-            other => other,
-        };
-        assert_eq!(rt;
-            Token::lookup_symbol_from_syntax(text),
-            Some(found),
-            "{text}"
-        );
+        assert_eq!(rt; Token::lookup_symbol_from_syntax(text), Some(token));
+        assert_eq!(rt; token.convert_to_op_assignment(), None);
+        assert_eq!(rt; token.get_base_op_from_assignment(), None);
+        assert!(rt; !token.has_op_assignment());
+    }
+}
+
+#[test]
+fn names_unary_operators(rt: HostRuntime) {
+    for (token, text) in [(Token::UnaryPlus, "+"), (Token::UnaryMinus, "-")] {
+        assert_eq!(rt; token.literal_syntax(), text);
+        assert_ne!(rt; Token::lookup_symbol_from_syntax(text), Some(token));
+        assert_eq!(rt; token.convert_to_op_assignment(), None);
+        assert_eq!(rt; token.get_base_op_from_assignment(), None);
+        assert!(rt; !token.has_op_assignment());
     }
 }
 
