@@ -1,1 +1,7 @@
 pub mod Overrides
+pub mod Callees
+pub mod Values
+pub mod Scopes
+pub mod Evaluating
+pub mod Nodes
+pub mod Whole

@@ -1,0 +1,140 @@
+-- Operator calls by their tokens.
+use Rattle.std.proofs.Common.{◌≡◌, ℕ, ◌<◌, ◌≤◌, suc, Bool, true, false, not, ◌&&◌, cond, if◌then◌else◌, List, [], ◌∷◌, length, Option, Some, None, refl, sym, ap, ◌∙◌, arith}
+use Rattle.std.proofs.lemmas.Bool.{and_parts}
+use Rattle.std.proofs.lemmas.Slice.Eq.{bytes_eq-Decides}
+use Rattle.rhai_base.specs.declared.types.token.Token.{Token}
+use Rattle.rhai_base.specs.declared.types.token.Token.TheVariants as token
+use Rattle.rhai_base.specs.Operators.{Operator, Plus, Minus, Multiply, Divide, Modulo, Power, ShiftLeft, ShiftRight, BitAnd, BitOr, BitXor, EqualTo, NotEqualTo, Less, Greater, LessOrEqual, GreaterOrEqual, UpTo, Through, Not, Negative, Positive, Computed, NoEntry, computed, symbol}
+use Rattle.rhai_base.specs.Reading.{operator_of}
+use Rattle.rhai_base.specs.Value.{Value, same_text}
+use Rattle.rhai_ast.specs.declared.ast.expr.Expr.{Expr}
+use Rattle.rhai_ast.specs.Core as core
+use Rattle.rhai_ast.specs.Desugar.{callee_by, call_of}
+use Rattle.rhai_ast.specs.Engine.{Engine, is_open}
+use Rattle.rhai_ast.specs.Faults.{has_token, is_barred}
+use Rattle.rhai_ast.specs.Names.{is_among, barred}
+use Rattle.rhai_ast.specs.Reading.{exprs_of}
+use Rattle.rhai_ast.specs.Tree.{Mark, NoToken, OfOperator, OfOther, Callee, count_exprs}
+use Rattle.rhai_run.specs.Operators.{operator_by, called_operator, built_in_of, built_in_at}
+use Rattle.rhai_run.specs.Small.{IsToken}
+
+pub count_exprs_of : (xs : List Expr) → count_exprs (exprs_of xs) ≡ length xs
+count_exprs_of [] = refl
+count_exprs_of (x ∷ xs) = ap suc (count_exprs_of xs)
+
+-- each token is an operator's
+pub known : (t : Token) → (op : Operator) × (operator_of t ≡ Some op)
+known token.Plus = (Plus, refl)
+known token.UnaryPlus = (Positive, refl)
+known token.Minus = (Minus, refl)
+known token.UnaryMinus = (Negative, refl)
+known token.Multiply = (Multiply, refl)
+known token.Divide = (Divide, refl)
+known token.Modulo = (Modulo, refl)
+known token.PowerOf = (Power, refl)
+known token.LeftShift = (ShiftLeft, refl)
+known token.RightShift = (ShiftRight, refl)
+known token.Ampersand = (BitAnd, refl)
+known token.Pipe = (BitOr, refl)
+known token.XOr = (BitXor, refl)
+known token.EqualsTo = (EqualTo, refl)
+known token.NotEqualsTo = (NotEqualTo, refl)
+known token.LessThan = (Less, refl)
+known token.LessThanEqualsTo = (LessOrEqual, refl)
+known token.GreaterThan = (Greater, refl)
+known token.GreaterThanEqualsTo = (GreaterOrEqual, refl)
+known token.Bang = (Not, refl)
+
+-- no operator's name is barred
+unbarred : (op : Operator) → is_among (symbol op) barred ≡ false
+unbarred Plus = refl
+unbarred Minus = refl
+unbarred Multiply = refl
+unbarred Divide = refl
+unbarred Modulo = refl
+unbarred Power = refl
+unbarred ShiftLeft = refl
+unbarred ShiftRight = refl
+unbarred BitAnd = refl
+unbarred BitOr = refl
+unbarred BitXor = refl
+unbarred EqualTo = refl
+unbarred NotEqualTo = refl
+unbarred Less = refl
+unbarred Greater = refl
+unbarred LessOrEqual = refl
+unbarred GreaterOrEqual = refl
+unbarred UpTo = refl
+unbarred Through = refl
+unbarred Not = refl
+unbarred Negative = refl
+unbarred Positive = refl
+
+named : (k : Callee) (n : ℕ) (op : Operator) → has_token k n (OfOperator op) ≡ true → k.name ≡ symbol op
+named k n op h =
+    let two = and_parts _ (not k.captures) h in
+    let one = and_parts (same_text k.name (symbol op)) _ two.0 in
+    (bytes_eq-Decides k.name (symbol op)).0 one.0
+
+callable : (k : Callee) (n : ℕ) (op : Operator) → has_token k n (OfOperator op) ≡ true → (has_token k n (OfOperator op) && not (is_barred k)) ≡ true
+callable k n op h = ap (λ b. b && not (is_barred k)) h ∙ ap (λ t. not (is_among t barred)) (named k n op h) ∙ ap not (unbarred op)
+
+ill_op : (b c : Bool) (op : Operator) (f : core.Expr) → None ≡ (if b then Some op else None) → cond (b && c) f core.Ill ≡ core.Ill
+ill_op true c op f e = cc
+ill_op false c op f e = refl
+
+ill_by : (k : Callee) (n : ℕ) (m : Mark) (es : core.Exprs) → IsToken m → None ≡ operator_by k n m → cond (has_token k n m && not (is_barred k)) (core.FnCall (callee_by k m) es) core.Ill ≡ core.Ill
+ill_by k n NoToken es h e = absurd h
+ill_by k n (OfOperator op) es h e = ill_op (has_token k n (OfOperator op)) (not (is_barred k)) op _ e
+ill_by k n OfOther es h e = refl
+
+-- a call with a token that fits no operator call
+pub call_ill : (k : Callee) (n : ℕ) (es : core.Exprs) → IsToken k.token → None ≡ called_operator k n → call_of k n es ≡ core.Ill
+call_ill k n es h e = ill_by k n k.token es h e
+
+meant_op : (k : Callee) (n : ℕ) (b : Bool) (op o : Operator) (es : core.Exprs) → has_token k n (OfOperator o) ≡ b → Some op ≡ (if b then Some o else None) → cond (has_token k n (OfOperator o) && not (is_barred k)) (core.FnCall (core.OnOperator o) es) core.Ill ≡ core.FnCall (core.OnOperator op) es
+meant_op k n true op o es h e =
+    let same : op ≡ o = cc in
+    ap (λ b. cond b (core.FnCall (core.OnOperator o) es) core.Ill) (callable k n o h) ∙ ap (λ p. core.FnCall (core.OnOperator p) es) (sym same)
+meant_op k n false op o es h e = cc
+
+meant_by : (k : Callee) (n : ℕ) (m : Mark) (op : Operator) (es : core.Exprs) → Some op ≡ operator_by k n m → cond (has_token k n m && not (is_barred k)) (core.FnCall (callee_by k m) es) core.Ill ≡ core.FnCall (core.OnOperator op) es
+meant_by k n NoToken op es e = cc
+meant_by k n (OfOperator o) op es e = meant_op k n (has_token k n (OfOperator o)) op o es refl e
+meant_by k n OfOther op es e = cc
+
+-- a call of an operator
+pub call_operates : (k : Callee) (n : ℕ) (op : Operator) (es : core.Exprs) → Some op ≡ called_operator k n → call_of k n es ≡ core.FnCall (core.OnOperator op) es
+call_operates k n op es e = meant_by k n k.token op es e
+
+-- ---- the table has no entry for no operands, nor for more than two
+
+no_entry : (b : Bool) (c : Computed) → c ≡ NoEntry → NoEntry ≡ (if b then c else NoEntry)
+no_entry true c h = sym h
+no_entry false c h = refl
+
+no_operand : (op : Operator) → computed op [] ≡ NoEntry
+unfolding computed
+no_operand op = refl
+
+three_operands : (op : Operator) (u v w : Value) (vs : List Value) → computed op (u ∷ v ∷ w ∷ vs) ≡ NoEntry
+unfolding computed
+three_operands op u v w vs = refl
+
+few : (e : Engine) (vs : List Value) (o : Option Operator) → length vs < 1 → NoEntry ≡ built_in_of e vs o
+few e vs None h = refl
+few e [] (Some op) h = no_entry (is_open e op []) _ (no_operand op)
+few e (v ∷ vs) (Some op) h = absurd (omega arith)
+
+many : (e : Engine) (vs : List Value) (o : Option Operator) → 3 ≤ length vs → NoEntry ≡ built_in_of e vs o
+many e vs None h = refl
+many e [] (Some op) h = absurd (omega arith)
+many e (u ∷ []) (Some op) h = absurd (omega arith)
+many e (u ∷ v ∷ []) (Some op) h = absurd (omega arith)
+many e (u ∷ v ∷ w ∷ vs) (Some op) h = no_entry (is_open e op (u ∷ v ∷ w ∷ vs)) _ (three_operands op u v w vs)
+
+pub built_in-few : (e : Engine) (op : Token) (vs : List Value) → length vs < 1 → NoEntry ≡ built_in_at e op vs
+built_in-few e op vs h = few e vs (operator_of op) h
+
+pub built_in-many : (e : Engine) (op : Token) (vs : List Value) → 3 ≤ length vs → NoEntry ≡ built_in_at e op vs
+built_in-many e op vs h = many e vs (operator_of op) h

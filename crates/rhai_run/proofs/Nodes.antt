@@ -1,0 +1,81 @@
+-- The run of a node from those of its parts.
+use Rattle.std.proofs.Common.{◌≡◌, ℕ, Bool, true, List, [], map, length, take, None, Some, Result, Ok, Err, refl, sym, ap, ◌∙◌, subst, arith}
+use Rattle.rhai_base.specs.declared.types.dynamic.Dynamic.{Dynamic}
+use Rattle.rhai_base.specs.declared.types.dynamic.Dynamic.TheVariants as value
+use Rattle.rhai_base.specs.declared.types.position.Position.{Position}
+use Rattle.rhai_base.specs.declared.types.token.Token.{Token}
+use Rattle.rhai_base.specs.Operators.{Operator}
+use Rattle.rhai_base.specs.Reading.{value_of, operator_of}
+use Rattle.rhai_base.specs.Value.{UnitV, ArrayV, values}
+use Rattle.rhai_ast.specs.declared.ast.expr.Expr.{Expr}
+use Rattle.rhai_ast.specs.declared.ast.expr.Expr.TheVariants as expr_kind
+use Rattle.rhai_ast.specs.declared.ast.expr.FnCallExpr.{FnCallExpr}
+use Rattle.rhai_ast.specs.Act.{Gives, IsStuck, WrongKind, Ended, Halted, Act, run}
+use Rattle.rhai_ast.specs.ActForms.{give, branch, if_true, ◌>>=◌}
+use Rattle.rhai_ast.specs.Calls.{called, operate}
+use Rattle.rhai_ast.specs.Core as core
+use Rattle.rhai_ast.specs.Desugar.{call_of, core_exprs, core_stmts}
+use Rattle.rhai_ast.specs.Meaning.{act, acts}
+use Rattle.rhai_ast.specs.Reading.{callee_of, expr_of, exprs_of, expr_of-Array}
+use Rattle.rhai_ast.specs.Run.{reversed}
+use Rattle.rhai_ast.specs.Tree as tree
+use Rattle.rhai_run.specs.declared.plain.state.Interrupt.{Interrupt}
+use Rattle.rhai_run.specs.declared.plain.state.State.{State}
+use Rattle.rhai_run.specs.Entries.{variable_meant}
+use Rattle.rhai_run.specs.Evaluating.{Setting, env, Leads, Runs, RunsExpr, RunsExprs, RunsCall, RunsStmts, RunsBlock}
+use Rattle.rhai_run.specs.Host.{call_meant}
+use Rattle.rhai_run.specs.Operators.{called_operator}
+use Rattle.rhai_run.specs.Small.{IsSmallCall, IsSmallExpr, AreSmallExprs}
+use Rattle.rhai_run.specs.State.{store_of}
+use Rattle.rhai_run.proofs.Callees.{count_exprs_of, known, call_ill, call_operates}
+use Rattle.rhai_run.proofs.Evaluating.{lead, args_run, args_stop, braces_run}
+use Rattle.rhai_run.proofs.Scopes.{restore_cut}
+use Rattle.rhai_run.proofs.Values.{truth-other}
+
+module _ (here : Setting) where
+  array_small : (e : Expr) (xs : List Expr) (p : Position) → e ≡ expr_kind.Array xs p → IsSmallExpr (expr_of e) → AreSmallExprs (exprs_of xs)
+  array_small e xs p is h = subst IsSmallExpr (ap expr_of is ∙ expr_of-Array xs p) h
+
+  pub array_stops : (e : Expr) (xs : List Expr) (p : Position) (s s1 : State) (x : Interrupt) → e ≡ expr_kind.Array xs p → (AreSmallExprs (exprs_of xs) → RunsExprs here (exprs_of xs) s (Err x) s1) → IsSmallExpr (expr_of e) → RunsExpr here (expr_of e) s (Err x) s1
+  array_stops e xs p s s1 x is q h =
+      subst (λ y. RunsExpr here y s (Err x) s1) (sym (ap expr_of is ∙ expr_of-Array xs p)) (args_stop here (core_exprs (exprs_of xs)) (λ vs. give (ArrayV (values vs))) s s1 x (q (array_small e xs p is h)))
+
+  -- ---- calls
+
+  -- the operator of a token that fits its call
+  pub operator_known : (c : FnCallExpr) (op : Token) → operator_of op ≡ called_operator (callee_of c) (length c.args) → (o : Operator) × (operator_of op ≡ Some o) × (Some o ≡ called_operator (callee_of c) (tree.count_exprs (exprs_of c.args)))
+  operator_known c op e =
+      let k = known op in
+      (k.0, k.1, sym k.1 ∙ e ∙ ap (called_operator (callee_of c)) (sym (count_exprs_of c.args)))
+
+  -- a call whose token fits no call of its operator
+  pub call_stuck : (c : FnCallExpr) (s : State) → None ≡ called_operator (callee_of c) (length c.args) → IsSmallCall (callee_of c) (exprs_of c.args) → Leads here (act here.world (call_of (callee_of c) (tree.count_exprs (exprs_of c.args)) (core_exprs (exprs_of c.args)))) s (Halted (IsStuck WrongKind)) s
+  call_stuck c s e h =
+      let ill = call_ill (callee_of c) (tree.count_exprs (exprs_of c.args)) (core_exprs (exprs_of c.args)) h.0 (e ∙ ap (called_operator (callee_of c)) (sym (count_exprs_of c.args))) in
+      subst (λ x. Leads here (act here.world x) s (Halted (IsStuck WrongKind)) s) (sym ill) (record { turns = omega arith; runs = λ d le. refl })
+
+  pub call_stops : (c : FnCallExpr) (op : Token) (s s1 : State) (x : Interrupt) → operator_of op ≡ called_operator (callee_of c) (length c.args) → (AreSmallExprs (exprs_of c.args) → RunsExprs here (exprs_of c.args) s (Err x) s1) → IsSmallCall (callee_of c) (exprs_of c.args) → RunsCall here (callee_of c) (exprs_of c.args) s (Err x) s1
+  call_stops c op s s1 x e q h =
+      let o = operator_known c op e in
+      subst (λ y. Runs here (act here.world y) s (Err x) s1) (sym (call_operates (callee_of c) (tree.count_exprs (exprs_of c.args)) o.0 (core_exprs (exprs_of c.args)) o.2))
+      (args_stop here (core_exprs (exprs_of c.args)) (λ vs. called here.world (core.OnOperator o.0) vs) s s1 x (q h.1))
+
+  pub call_runs : (c : FnCallExpr) (op : Token) (s s1 s2 : State) (vs : List Dynamic) (r : Result Dynamic Interrupt) → operator_of op ≡ called_operator (callee_of c) (length c.args) → (AreSmallExprs (exprs_of c.args) → RunsExprs here (exprs_of c.args) s (Ok vs) s1) → ((o : Operator) → operator_of op ≡ Some o → Runs here (operate here.world o (map value_of vs)) s1 r s2) → IsSmallCall (callee_of c) (exprs_of c.args) → RunsCall here (callee_of c) (exprs_of c.args) s r s2
+  call_runs c op s s1 s2 vs r e q k h =
+      let o = operator_known c op e in
+      subst (λ y. Runs here (act here.world y) s r s2) (sym (call_operates (callee_of c) (tree.count_exprs (exprs_of c.args)) o.0 (core_exprs (exprs_of c.args)) o.2))
+      (args_run here (core_exprs (exprs_of c.args)) (λ us. called here.world (core.OnOperator o.0) us) s s1 s2 (map value_of vs) r (q h.1) (k o.0 o.1))
+
+  -- ---- conditions and braces
+
+  -- a condition that is no bool
+  pub choice_stuck : (a b c : Act) (s s1 : State) (v : Dynamic) → ((b : Bool) → v ≡ value.Bool b → ⊥) → Leads here c s (Ended (Gives (value_of v))) s1 → Leads here (c >>= λ u. if_true u a b) s (Halted (IsStuck WrongKind)) s1
+  choice_stuck a b c s s1 v h q =
+      lead here c (λ u. if_true u a b) s s1 s1 (value_of v) (Halted (IsStuck WrongKind)) q
+      (record { turns = omega arith; runs = λ d le. ap (λ t. run here.world (env here d) (branch t a b) (store_of s1) s1.turns) (truth-other v h) })
+
+  -- the names that the list pushed are cut off again
+  pub block_runs : (ss : tree.Stmts) (s s1 s2 : State) (r : Result Dynamic Interrupt) (names long : ℕ) → s2.scope.items ≡ take names s1.scope.items → names ≡ long → long ≡ length s.scope.items → s2.calls ≡ s1.calls → s2.turns ≡ s1.turns → RunsStmts here ss s r s1 → RunsBlock here ss s r s2
+  block_runs ss s s1 s2 r names long h k l g f q =
+      let scope = ap (λ l. reversed (map variable_meant l) []) (h ∙ ap (λ n. take n s1.scope.items) (k ∙ l)) ∙ restore_cut variable_meant s.scope.items s1.scope.items in
+      braces_run here (acts here.world true (core_stmts ss) UnitV) s s1 s2 r (λ i. record { scope = scope i; this = None; calls = map call_meant (g i) }) f q

@@ -1,0 +1,29 @@
+-- Values by their kind.
+use Rattle.std.proofs.Common.{◌≡◌, Bool, false, None, refl, ap}
+use Rattle.rhai_base.specs.declared.types.dynamic.Dynamic.{Dynamic}
+use Rattle.rhai_base.specs.declared.types.dynamic.Dynamic.TheVariants as value
+use Rattle.rhai_base.specs.Reading.{value_of, value_of-Unit, value_of-Bool, value_of-Int, value_of-Char, value_of-Str, value_of-Array, DynamicCase, unit_case, bool_case, int_case, char_case, str_case, array_case, dynamic_cases}
+use Rattle.rhai_ast.specs.ActForms.{truth}
+use Rattle.rhai_ast.specs.Faults.{is_unit}
+
+not_unit : {v : Dynamic} → DynamicCase v → (v ≡ value.Unit → ⊥) → is_unit (value_of v) ≡ false
+not_unit unit_case h = absurd (h refl)
+not_unit (bool_case b) h = ap is_unit (value_of-Bool b)
+not_unit (int_case n) h = ap is_unit (value_of-Int n)
+not_unit (char_case c) h = ap is_unit (value_of-Char c)
+not_unit (str_case t) h = ap is_unit (value_of-Str t)
+not_unit (array_case vs) h = ap is_unit (value_of-Array vs)
+
+pub is_unit-other : (v : Dynamic) → (v ≡ value.Unit → ⊥) → is_unit (value_of v) ≡ false
+is_unit-other v h = not_unit (dynamic_cases v) h
+
+not_truth : {v : Dynamic} → DynamicCase v → ((b : Bool) → v ≡ value.Bool b → ⊥) → truth (value_of v) ≡ None
+not_truth unit_case h = ap truth value_of-Unit
+not_truth (bool_case b) h = absurd (h b refl)
+not_truth (int_case n) h = ap truth (value_of-Int n)
+not_truth (char_case c) h = ap truth (value_of-Char c)
+not_truth (str_case t) h = ap truth (value_of-Str t)
+not_truth (array_case vs) h = ap truth (value_of-Array vs)
+
+pub truth-other : (v : Dynamic) → ((b : Bool) → v ≡ value.Bool b → ⊥) → truth (value_of v) ≡ None
+truth-other v h = not_truth (dynamic_cases v) h

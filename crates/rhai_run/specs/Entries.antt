@@ -1,0 +1,18 @@
+-- The names of a scope.
+use Rattle.std.specs.Prelude.{Bool, List, [], map}
+use Rattle.rhai_base.specs.Value.{Text}
+use Rattle.rhai_base.specs.Reading.{value_of}
+use Rattle.rhai_base.specs.declared.types.dynamic.Dynamic.{Dynamic}
+use Rattle.rhai_base.specs.declared.types.scope.ScopeEntry.{ScopeEntry}
+use Rattle.rhai_ast.specs.Act.{Entry}
+use Rattle.rhai_ast.specs.Run.{reversed}
+
+abbrev pub variable_meant : Text × Bool × Dynamic → Entry
+variable_meant v = record { name = v.0; constant = v.1; value = value_of v.2 }
+
+abbrev pub entry_meant : ScopeEntry → Entry
+entry_meant e = record { name = e.name; constant = e.is_constant; value = value_of e.value }
+
+-- as a run keeps them, latest first
+abbrev pub start_scope : List ScopeEntry → List Entry
+start_scope es = reversed (map entry_meant es) []

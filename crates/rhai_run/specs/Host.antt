@@ -1,0 +1,19 @@
+-- What is asked of a host, and what it answers.
+use Rattle.std.specs.Prelude.{List, map, option_map}
+use Rattle.rhai_base.specs.Reading.{value_of}
+use Rattle.rhai_ast.specs.Act.{Call, Answer, Answers, AnswersThrow, Host}
+use Rattle.rhai_ast.specs.Host.{ModuleValue, module_value_of}
+use Rattle.rhai_run.specs.declared.host.HostCall.{HostCall}
+use Rattle.rhai_run.specs.declared.host.HostAnswer.{HostAnswer}
+use Rattle.rhai_run.specs.declared.host.HostAnswer.TheVariants as answer_kind
+
+abbrev pub call_meant : HostCall → Call
+call_meant c = record { name = c.name; receiver = option_map value_of c.receiver; arguments = map value_of c.args }
+
+abbrev pub answer_meant : HostAnswer → Answer
+answer_meant (answer_kind.Value v r) = Answers (value_of v) (option_map value_of r)
+answer_meant (answer_kind.Throw v) = AnswersThrow (value_of v)
+
+-- the host that answers so and has these values of modules
+abbrev pub host_of : (List Call → Call → Answer) → List ModuleValue → Host
+host_of answers modules = record { answer = answers; module_value = module_value_of modules }

@@ -1,0 +1,53 @@
+-- What a report says.
+use Rattle.std.specs.Prelude.{ℕ, map, None, codes}
+use Rattle.rhai_base.specs.Value.{Text}
+use Rattle.rhai_base.specs.Reading.{value_of}
+use Rattle.rhai_ast.specs.Act as act
+use Rattle.rhai_ast.specs.Run.{End, WithValue, WithThrown, WithStuck, WithoutTurns, Report}
+use Rattle.rhai_run.specs.declared.report.Stuck.{Stuck}
+use Rattle.rhai_run.specs.declared.report.Stuck.TheVariants as stuck
+use Rattle.rhai_run.specs.declared.report.RunEnd.{RunEnd}
+use Rattle.rhai_run.specs.declared.report.RunEnd.TheVariants as ended
+use Rattle.rhai_run.specs.declared.report.RunReport.{RunReport}
+use Rattle.rhai_run.specs.Host.{call_meant}
+use Rattle.rhai_run.specs.Entries.{variable_meant}
+
+abbrev pub stuck_meant : Stuck → act.Stuck
+stuck_meant stuck.Unbound = act.Unbound
+stuck_meant stuck.WrongKind = act.WrongKind
+stuck_meant stuck.WriteToConstant = act.WriteToConstant
+stuck_meant stuck.NoPlace = act.NoPlace
+stuck_meant stuck.CounterTooLarge = act.CounterTooLarge
+stuck_meant stuck.UnboundThis = act.UnboundThis
+
+abbrev pub stuck_number : act.Stuck → ℕ
+stuck_number act.Unbound = 1
+stuck_number act.WrongKind = 2
+stuck_number act.WriteToConstant = 3
+stuck_number act.NoPlace = 4
+stuck_number act.CounterTooLarge = 5
+stuck_number act.UnboundThis = 6
+
+abbrev pub stuck_name : act.Stuck → Text
+stuck_name act.Unbound = codes "Unbound"
+stuck_name act.WrongKind = codes "WrongKind"
+stuck_name act.WriteToConstant = codes "WriteToConstant"
+stuck_name act.NoPlace = codes "NoPlace"
+stuck_name act.CounterTooLarge = codes "CounterTooLarge"
+stuck_name act.UnboundThis = codes "UnboundThis"
+
+abbrev pub end_meant : RunEnd → End
+end_meant (ended.Value v) = WithValue (value_of v)
+end_meant (ended.Thrown v) = WithThrown (value_of v)
+end_meant (ended.Stuck f) = WithStuck (stuck_meant f)
+end_meant ended.OutOfTurns = WithoutTurns
+
+-- at top level `this` is never bound
+abbrev pub report_meant : RunReport → Report
+report_meant r = record {
+  ended = end_meant r.run_end;
+  variables = map variable_meant r.variables;
+  this = None;
+  calls = map call_meant r.calls;
+  turns = r.turns_left;
+}

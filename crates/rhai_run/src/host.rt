@@ -1,0 +1,56 @@
+//! What a script asks its host.
+ghost use Rattle.std.specs.Prelude.{◌≡◌, List, map, option_map, IfOk};
+ghost use Rattle.rhai_base.specs.Reading.{value_of};
+ghost use Rattle.rhai_ast.specs.Act.{Call, Answer};
+ghost use Rattle.rhai_ast.specs.Host.{ModuleValue, module_value_of};
+ghost use Rattle.rhai_run.specs.Host.{call_meant, answer_meant};
+
+use rhai_base::{Dynamic, ImmutableString, OutOfMemory, Seq};
+use std::alloc::Global;
+
+/// A question to the host.
+#[derive(Debug, Drop, PartialEq, Eq)]
+pub struct HostCall {
+    /// The function's name, or the operator's symbol.
+    pub name: ImmutableString,
+    /// The value that a method is called on.
+    pub receiver: Option<Dynamic>,
+    /// The arguments.
+    pub args: Seq<Dynamic>,
+}
+
+/// What the host answers.
+#[derive(Debug, Drop, PartialEq, Eq)]
+pub enum HostAnswer {
+    /// A value.
+    Value {
+        /// The call's value.
+        value: Dynamic,
+        /// The receiver's new value; `None` leaves it as it is.
+        receiver: Option<Dynamic>,
+    },
+    /// A thrown value.
+    Throw(Dynamic),
+}
+
+/// What answers the calls that are neither a script's own nor built in.
+pub trait Host {
+    /// The answer to a call, by the calls before it and the call.
+    ghost answers: { Self → List Call → Call → Answer };
+
+    /// The values of modules, by their names joined by `::`.
+    ghost modules: { Self → List ModuleValue };
+
+    /// Answers a call; `past` are the calls of the run before it. The answer hangs on these two alone.
+    fn answer(
+        &self,
+        alloc: Global,
+        past: &[HostCall],
+        call: &HostCall,
+    ) -> Result<HostAnswer, OutOfMemory>
+        ensures { IfOk result (λ a. answer_meant a ≡ answers self.now (map call_meant past.now) (call_meant call.now)) };
+
+    /// A module's value, by its names joined by `::`.
+    fn module_value(&self, alloc: Global, qualified: &str) -> Result<Option<Dynamic>, OutOfMemory>
+        ensures { IfOk result (λ v. option_map value_of v ≡ module_value_of (modules self.now) qualified.now) };
+}

@@ -1,0 +1,71 @@
+//! The plain evaluator.
+
+mod evaluator;
+mod operators;
+mod state;
+#[cfg(test)]
+mod tests;
+
+ghost use Rattle.std.specs.Prelude.{◌≡◌, IfOk};
+ghost use Rattle.rhai_ast.specs.Desugar.{core_script};
+ghost use Rattle.rhai_ast.specs.Run.{AtStatements, report_of, run_script};
+ghost use Rattle.rhai_script.specs.Script.{script_of};
+ghost use Rattle.rhai_run.specs.EngineInfo.{engine_of};
+ghost use Rattle.rhai_run.specs.Host.{host_of};
+ghost use Rattle.rhai_run.specs.Report.{report_meant};
+ghost use Rattle.rhai_run.specs.Evaluating.{EndsAs};
+ghost use Rattle.rhai_run.specs.Small.{IsSmallScript};
+ghost use Rattle.rhai_run.specs.Entries.{start_scope};
+
+use crate::plain::evaluator::Evaluator;
+use crate::plain::state::{Interrupt, State};
+use crate::{EngineInfo, Host, RunEnd, RunReport};
+use rhai_base::{Dynamic, OutOfMemory, Scope, Seq};
+use rhai_script::AST;
+use std::alloc::Global;
+
+/// Runs a script's statements from a scope, with so many turns. It only borrows the script, and shares nothing with
+/// the optimizer. So far only operators are called: a call of a function is stuck as one of the wrong kind, before
+/// its arguments are run. No part of the language takes a turn yet.
+pub fn plain_run<H: Host>(
+    alloc: Global,
+    ast: &AST,
+    info: &EngineInfo,
+    host: &H,
+    scope: &Scope,
+    turns: u64,
+) -> Result<RunReport, OutOfMemory>
+    ensures { IfOk result (λ r. IsSmallScript (script_of ast.now) → report_meant r ≡ report_of AtStatements (run_script (engine_of info.now) (host_of (H.answers host.now) (H.modules host.now)) (core_script (script_of ast.now)) AtStatements (start_scope scope.now) turns)) }
+{
+    let evaluator = Evaluator {
+        alloc,
+        info,
+        host,
+        functions: ast.shared_lib(),
+    };
+    let mut state = State::new(alloc, scope, turns)?;
+    let ended = evaluator.statements(&mut state, ast.statements());
+    let run_end = run_end(ended)?;
+    let State {
+        scope,
+        calls,
+        turns,
+    } = state;
+    Ok(RunReport {
+        run_end,
+        variables: Seq::from_vec(scope),
+        calls,
+        turns_left: turns,
+    })
+}
+
+fn run_end(ended: Result<Dynamic, Interrupt>) -> Result<RunEnd, OutOfMemory>
+    ensures { IfOk result (λ e. EndsAs ended e) }
+{
+    match ended {
+        Ok(value) => Ok(RunEnd::Value(value)),
+        Err(Interrupt::Throw(value)) => Ok(RunEnd::Thrown(value)),
+        Err(Interrupt::Stuck(stuck)) => Ok(RunEnd::Stuck(stuck)),
+        Err(Interrupt::NoMemory) => Err(OutOfMemory),
+    }
+}

@@ -1,0 +1,180 @@
+//! The recursion over a tree.
+
+#![tactic(auto, using(rhai_ast::specs::Reading::shapes, rhai_base::specs::Reading::kinds))]
+
+ghost use Rattle.std.specs.Prelude.{◌≡◌, Some, map};
+ghost use Rattle.rhai_base.specs.Reading.{value_of, operator_of};
+ghost use Rattle.rhai_ast.specs.Core.{If};
+ghost use Rattle.rhai_ast.specs.Desugar.{core_expr, core_stmts};
+ghost use Rattle.rhai_ast.specs.Reading.{callee_of, expr_of, exprs_of, stmt_of, stmts_of};
+ghost use Rattle.rhai_ast.specs.ActForms.{ask_host};
+ghost use Rattle.rhai_ast.specs.Calls.{operate};
+ghost use Rattle.rhai_run.specs.Small.{IsSmallCall, IsSmallExpr, AreSmallExprs, IsSmall, AreSmall};
+ghost use Rattle.rhai_run.specs.Evaluating.{setting, IsConstant, Runs, RunsDeed, RunsExpr, RunsCall, RunsExprs, RunsStmt, RunsStmts, RunsBlock};
+
+use crate::plain::operators::{builtin, fault_text, operator_called};
+use crate::plain::state::{Interrupt, State};
+use crate::{EngineInfo, Host, HostAnswer, HostCall, Stuck};
+use rhai_ast::{Expr, FlowControl, FnCallExpr, Stmt, StmtBlock};
+use rhai_base::{Dynamic, ImmutableString, Seq, Token};
+use rhai_script::FnLib;
+use std::alloc::Global;
+
+/// What a run is in. Its functions say what the run meaning says of the small language, whose calls are all those of
+/// operators.
+#[derive(Drop)]
+pub struct Evaluator<'a, H> {
+    /// Where values are made.
+    pub alloc: Global,
+    /// The engine's record.
+    pub info: &'a EngineInfo,
+    /// What answers the host's calls.
+    pub host: &'a H,
+    /// The script's functions.
+    pub functions: &'a FnLib,
+}
+
+impl<'a, H: Host> Evaluator<'a, H> {
+    #[cycle(evaluate)]
+    fn expr(&self, state: &mut State, expr: &Expr) -> Result<Dynamic, Interrupt>
+        ensures { IsSmallExpr (expr_of expr.now) → RunsExpr (setting H.answers H.modules self.now) (expr_of expr.now) state.old result state.new }
+    {
+        match expr {
+            Expr::DynamicConstant(value, _) => constant(value.get()),
+            Expr::BoolConstant(b, _) => Ok(Dynamic::Bool(*b)),
+            Expr::IntegerConstant(n, _) => Ok(Dynamic::Int(*n)),
+            Expr::CharConstant(c, _) => Ok(Dynamic::Char(*c)),
+            Expr::StringConstant(text, _) => Ok(Dynamic::Str(text.clone()?)),
+            Expr::Unit(_) => Ok(Dynamic::Unit),
+            Expr::Array(items, _) => Ok(Dynamic::Array(self.exprs(state, items.as_slice())?)),
+            Expr::Stmt(block) => self.block(state, block.get()),
+            Expr::FnCall(call, _) => self.call(state, call.get()),
+        }
+    }
+
+    /// The values of expressions, from the first to the last.
+    #[cycle(evaluate)]
+    fn exprs(&self, state: &mut State, exprs: &[Expr]) -> Result<Seq<Dynamic>, Interrupt>
+        ensures { AreSmallExprs (exprs_of exprs.now) → RunsExprs (setting H.answers H.modules self.now) (exprs_of exprs.now) state.old result state.new }
+    {
+        let mut values = Seq::new(self.alloc);
+        for expr in exprs {
+            let value = self.expr(state, expr)?;
+            values.push(value)?;
+        }
+        Ok(values)
+    }
+
+    /// A call that fits no operator is stuck before its arguments are run.
+    #[cycle(evaluate)]
+    fn call(&self, state: &mut State, call: &FnCallExpr) -> Result<Dynamic, Interrupt>
+        ensures { IsSmallCall (callee_of call.now) (exprs_of call.now.args) → RunsCall (setting H.answers H.modules self.now) (callee_of call.now) (exprs_of call.now.args) state.old result state.new }
+    {
+        let Some(op) = operator_called(call) else {
+            return Err(Interrupt::Stuck(Stuck::WrongKind));
+        };
+        let args = self.exprs(state, call.args.as_slice())?;
+        self.operate(state, op, args)
+    }
+
+    #[cycle(evaluate)]
+    fn statement(&self, state: &mut State, statement: &Stmt) -> Result<Dynamic, Interrupt>
+        ensures { IsSmall (stmt_of statement.now) → RunsStmt (setting H.answers H.modules self.now) (stmt_of statement.now) state.old result state.new }
+    {
+        match statement {
+            Stmt::Noop(_) => Ok(Dynamic::Unit),
+            Stmt::If(flow, _) => self.choice(state, flow.get()),
+            Stmt::Block(block) => self.block(state, block.get()),
+            Stmt::Expr(expr) => self.expr(state, expr.get()),
+            Stmt::FnCall(call, _) => self.call(state, call.get()),
+        }
+    }
+
+    #[cycle(evaluate)]
+    fn choice(&self, state: &mut State, flow: &FlowControl) -> Result<Dynamic, Interrupt>
+        ensures { IsSmallExpr (expr_of flow.now.expr) × AreSmall (stmts_of flow.now.body.block) × AreSmall (stmts_of flow.now.branch.block) → RunsDeed (setting H.answers H.modules self.now) (If (core_expr (expr_of flow.now.expr)) (core_stmts (stmts_of flow.now.body.block)) (core_stmts (stmts_of flow.now.branch.block))) state.old result state.new }
+    {
+        let Dynamic::Bool(holds) = self.expr(state, &flow.expr)? else {
+            return Err(Interrupt::Stuck(Stuck::WrongKind));
+        };
+        if holds {
+            self.block(state, &flow.body)
+        } else {
+            self.block(state, &flow.branch)
+        }
+    }
+
+    /// Runs statements whose names go when they end.
+    #[cycle(evaluate)]
+    fn block(&self, state: &mut State, block: &StmtBlock) -> Result<Dynamic, Interrupt>
+        ensures { AreSmall (stmts_of block.now.block) → RunsBlock (setting H.answers H.modules self.now) (stmts_of block.now.block) state.old result state.new }
+    {
+        let names = state.scope.len();
+        let ended = self.statements(state, block.block.as_slice());
+        state.scope.truncate(names);
+        ended
+    }
+
+    /// Runs statements in turn, for the value of the last one.
+    #[cycle(evaluate)]
+    pub fn statements(&self, state: &mut State, statements: &[Stmt]) -> Result<Dynamic, Interrupt>
+        ensures { AreSmall (stmts_of statements.now) → RunsStmts (setting H.answers H.modules self.now) (stmts_of statements.now) state.old result state.new }
+    {
+        let mut value = Dynamic::Unit;
+        for statement in statements {
+            value = self.statement(state, statement)?;
+        }
+        Ok(value)
+    }
+
+    /// An operator over values: built in, or else the host's.
+    fn operate(
+        &self,
+        state: &mut State,
+        op: Token,
+        args: Seq<Dynamic>,
+    ) -> Result<Dynamic, Interrupt>
+        ensures { let here = setting H.answers H.modules self.now in (o : _) → operator_of op ≡ Some o → Runs here (operate here.world o (map value_of args)) state.old result state.new }
+    {
+        match builtin(self.alloc, self.info, op, args.as_slice())? {
+            Some(Ok(value)) => Ok(value),
+            Some(Err(fault)) => Err(Interrupt::Throw(fault_text(self.alloc, fault)?)),
+            None => {
+                let name = ImmutableString::new(self.alloc, op.literal_syntax())?;
+                self.ask_host(state, name, args)
+            }
+        }
+    }
+
+    /// The call's value, as the host answers it.
+    fn ask_host(
+        &self,
+        state: &mut State,
+        name: ImmutableString,
+        args: Seq<Dynamic>,
+    ) -> Result<Dynamic, Interrupt>
+        ensures { Runs (setting H.answers H.modules self.now) (ask_host name (map value_of args)) state.old result state.new }
+    {
+        let call = HostCall {
+            name,
+            receiver: None,
+            args,
+        };
+        let answer = self.host.answer(self.alloc, state.calls.as_slice(), &call)?;
+        state.calls.push(call)?;
+        match answer {
+            HostAnswer::Value { value, receiver: _ } => Ok(value),
+            HostAnswer::Throw(value) => Err(Interrupt::Throw(value)),
+        }
+    }
+}
+
+/// The value of a constant of its own, which never stands for unit.
+fn constant(value: &Dynamic) -> Result<Dynamic, Interrupt>
+    ensures { IsConstant (value_of value.now) result }
+{
+    match value {
+        Dynamic::Unit => Err(Interrupt::Stuck(Stuck::WrongKind)),
+        other => Ok(other.clone()?),
+    }
+}
