@@ -88,12 +88,11 @@ mod tests {
 
     fn path(alloc: Global, names: &[&str]) -> Result<Namespace, AllocError> {
         let mut path = Namespace::none(alloc);
-        let mut line = 1;
+        let mut pos = Position::new(1, 4);
         for name in names {
             let name = ImmutableString::new(alloc, *name)?;
-            let pos = Position::new(line, 4);
             path.path.push(Ident { name, pos })?;
-            line += 1;
+            pos = Position::NONE;
         }
         Ok(path)
     }
