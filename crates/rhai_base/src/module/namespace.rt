@@ -116,6 +116,7 @@ mod tests {
     #[test]
     fn has_a_root(rt: HostRuntime) -> Result<(), Fail> {
         let names = path(rt.alloc(), &["a", "b"])?;
+        assert!(rt; !names.is_empty());
         assert_eq!(rt;
             (names.root(), names.position()),
             ("a", Position::new(1, 4))
