@@ -93,10 +93,7 @@ mod tests {
     #[test]
     fn says_why(rt: HostRuntime) -> Result<(), Fail> {
         let rows = [
-            (
-                AstError::NotAnOpAssignment,
-                "not an op-assignment operator",
-            ),
+            (AstError::NotAnOpAssignment, "not an op-assignment operator"),
             (
                 AstError::NotABaseOperator,
                 "not an operator with an op-assignment form",
