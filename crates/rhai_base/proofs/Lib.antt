@@ -9,4 +9,5 @@ pub mod Sorted
 pub mod Words
 pub mod Exact
 pub mod Recovered
+pub mod Same
 pub mod Ranges

@@ -84,6 +84,7 @@ impl Dynamic {
     pub fn is_equal(&self, other: &Dynamic) -> bool
         ensures exact { IsTrue result ↔ (self.now ≡ other.now) }
         ensures by_value { IsTrue result ↔ (value_of self.now ≡ value_of other.now) }
+        ensures by_cases { result ≡ model.same (value_of self.now) (value_of other.now) }
     {
         self == other
     }
