@@ -6,7 +6,7 @@ use Rattle.rhai_base.specs.declared.types.token.Token.{Token}
 use Rattle.rhai_base.specs.declared.types.token.Token.TheVariants as token
 use Rattle.rhai_base.specs.Operators.{Operator, Plus, Minus, Multiply, Divide, Modulo, Power, ShiftLeft, ShiftRight, BitAnd, BitOr, BitXor, EqualTo, NotEqualTo, Less, Greater, LessOrEqual, GreaterOrEqual, UpTo, Through, Not, Negative, Positive, Computed, NoEntry, computed, symbol}
 use Rattle.rhai_base.specs.Reading.{operator_of}
-use Rattle.rhai_base.specs.Value.{Value, same_text}
+use Rattle.rhai_base.specs.Value.{Text, Value, same_text}
 use Rattle.rhai_ast.specs.declared.ast.expr.Expr.{Expr}
 use Rattle.rhai_ast.specs.Core as core
 use Rattle.rhai_ast.specs.Desugar.{callee_by, call_of}
@@ -16,7 +16,7 @@ use Rattle.rhai_ast.specs.Names.{is_among, barred}
 use Rattle.rhai_ast.specs.Reading.{exprs_of}
 use Rattle.rhai_ast.specs.Tree.{Mark, NoToken, OfOperator, OfOther, Callee, count_exprs}
 use Rattle.rhai_run.specs.Operators.{operator_by, called_operator, built_in_of, built_in_at}
-use Rattle.rhai_run.specs.Small.{IsToken}
+use Rattle.rhai_run.specs.Small.{small_expr, small_exprs}
 
 pub count_exprs_of : (xs : List Expr) → count_exprs (exprs_of xs) ≡ length xs
 count_exprs_of [] = refl
@@ -83,14 +83,18 @@ ill_op : (b c : Bool) (op : Operator) (f : core.Expr) → None ≡ (if b then So
 ill_op true c op f e = cc
 ill_op false c op f e = refl
 
-ill_by : (k : Callee) (n : ℕ) (m : Mark) (es : core.Exprs) → IsToken m → None ≡ operator_by k n m → cond (has_token k n m && not (is_barred k)) (core.FnCall (callee_by k m) es) core.Ill ≡ core.Ill
-ill_by k n NoToken es h e = absurd h
-ill_by k n (OfOperator op) es h e = ill_op (has_token k n (OfOperator op)) (not (is_barred k)) op _ e
-ill_by k n OfOther es h e = refl
+by_name : (b : Bool) (f : Text) (captures : Bool) (es : core.Exprs) → small_expr (cond b (core.FnCall (core.ByName f captures) es) core.Ill) ≡ core.Ill
+by_name true f captures es = refl
+by_name false f captures es = refl
 
--- a call with a token that fits no operator call
-pub call_ill : (k : Callee) (n : ℕ) (es : core.Exprs) → IsToken k.token → None ≡ called_operator k n → call_of k n es ≡ core.Ill
-call_ill k n es h e = ill_by k n k.token es h e
+ill_by : (k : Callee) (n : ℕ) (m : Mark) (es : core.Exprs) → None ≡ operator_by k n m → small_expr (cond (has_token k n m && not (is_barred k)) (core.FnCall (callee_by k m) es) core.Ill) ≡ core.Ill
+ill_by k n NoToken es e = by_name (has_token k n NoToken && not (is_barred k)) k.name k.captures es
+ill_by k n (OfOperator op) es e = ap small_expr (ill_op (has_token k n (OfOperator op)) (not (is_barred k)) op _ e)
+ill_by k n OfOther es e = refl
+
+-- a call that is no operator's
+pub call_ill : (k : Callee) (n : ℕ) (es : core.Exprs) → None ≡ called_operator k n → small_expr (call_of k n es) ≡ core.Ill
+call_ill k n es e = ill_by k n k.token es e
 
 meant_op : (k : Callee) (n : ℕ) (b : Bool) (op o : Operator) (es : core.Exprs) → has_token k n (OfOperator o) ≡ b → Some op ≡ (if b then Some o else None) → cond (has_token k n (OfOperator o) && not (is_barred k)) (core.FnCall (core.OnOperator o) es) core.Ill ≡ core.FnCall (core.OnOperator op) es
 meant_op k n true op o es h e =
@@ -104,8 +108,8 @@ meant_by k n (OfOperator o) op es e = meant_op k n (has_token k n (OfOperator o)
 meant_by k n OfOther op es e = cc
 
 -- a call of an operator
-pub call_operates : (k : Callee) (n : ℕ) (op : Operator) (es : core.Exprs) → Some op ≡ called_operator k n → call_of k n es ≡ core.FnCall (core.OnOperator op) es
-call_operates k n op es e = meant_by k n k.token op es e
+pub call_operates : (k : Callee) (n : ℕ) (op : Operator) (es : core.Exprs) → Some op ≡ called_operator k n → small_expr (call_of k n es) ≡ core.FnCall (core.OnOperator op) (small_exprs es)
+call_operates k n op es e = ap small_expr (meant_by k n k.token op es e)
 
 -- ---- the table has no entry for no operands, nor for more than two
 

@@ -12,14 +12,13 @@ use Rattle.rhai_ast.specs.Tree as tree
 use Rattle.rhai_ast.specs.Act.{Gives, Outcome, Ended, At, Act, Acts, Scoped, and_then, leave, restore, run, run_all}
 use Rattle.rhai_ast.specs.ActForms.{value_then, each_value, ◌>>=◌}
 use Rattle.rhai_ast.specs.Core as core
-use Rattle.rhai_ast.specs.Desugar.{core_expr, core_exprs, core_stmts}
 use Rattle.rhai_ast.specs.Meaning.{act, acts, deed, with_args}
 use Rattle.rhai_ast.proofs.ItemLists.{exprs_of-drop, stmts_of-drop}
 use Rattle.rhai_run.specs.declared.plain.state.Interrupt.{Interrupt}
 use Rattle.rhai_run.specs.declared.plain.state.Interrupt.TheVariants.{NoMemory, Throw, Stuck}
 use Rattle.rhai_run.specs.declared.plain.state.State.{State}
 use Rattle.rhai_run.specs.Evaluating.{Setting, env, Leads, LeadsAll, Passes, Runs, RunsAll, RunsArgs, RunsLine, RunsExpr, RunsExprs, RunsStmt, RunsStmts}
-use Rattle.rhai_run.specs.Small.{IsSmallExpr, AreSmallExprs, IsSmall, AreSmall}
+use Rattle.rhai_run.specs.Small.{small_expr_of, small_exprs_of, small_stmts_of}
 use Rattle.rhai_run.specs.State.{store_of}
 
 module _ (here : Setting) where
@@ -88,35 +87,31 @@ module _ (here : Setting) where
 
   -- a loop over arguments has come so far
   pub record ArgsAt (xs rest : List Expr) (s : State) (vs : List Dynamic) (s' : State) : Type 0 where
-    pub small : AreSmallExprs (exprs_of rest)
-    pub before : Before (core_exprs (exprs_of xs)) (core_exprs (exprs_of rest)) s (map value_of vs) s'
+    pub before : Before (small_exprs_of (exprs_of xs)) (small_exprs_of (exprs_of rest)) s (map value_of vs) s'
 
-  pub args_start : (xs : List Expr) (s : State) → AreSmallExprs (exprs_of xs) → ArgsAt xs xs s [] s
-  args_start xs s h = record { small = h; before = record { turns = omega arith; runs = λ next d le. refl } }
+  pub args_start : (xs : List Expr) (s : State) → ArgsAt xs xs s [] s
+  args_start xs s = record { before = record { turns = omega arith; runs = λ next d le. refl } }
 
   item_of : (xs : List Expr) (i : ℕ) (e : Expr) → i < length xs → e ≡ get_or xs i e → exprs_of (drop i xs) ≡ tree.expr (expr_of e) (exprs_of (drop (i + 1) xs))
   item_of xs i e h is = exprs_of-drop xs i e h ∙ ap (λ y. tree.expr (expr_of y) (exprs_of (drop (i + 1) xs))) (sym is)
 
-  pub args_next : (xs : List Expr) (i : ℕ) (e : Expr) (s s1 s2 : State) (vs : List Dynamic) (v : Dynamic) → i < length xs → e ≡ get_or xs i e → ArgsAt xs (drop i xs) s vs s1 → (IsSmallExpr (expr_of e) → RunsExpr here (expr_of e) s1 (Ok v) s2) → ArgsAt xs (drop (i + 1) xs) s (vs ++ v ∷ []) s2
+  pub args_next : (xs : List Expr) (i : ℕ) (e : Expr) (s s1 s2 : State) (vs : List Dynamic) (v : Dynamic) → i < length xs → e ≡ get_or xs i e → ArgsAt xs (drop i xs) s vs s1 → RunsExpr here (expr_of e) s1 (Ok v) s2 → ArgsAt xs (drop (i + 1) xs) s (vs ++ v ∷ []) s2
   args_next xs i e s s1 s2 vs v h is p q =
       let split = item_of xs i e h is in
-      let small = subst AreSmallExprs split p.small in
-      let before = subst (λ es. Before (core_exprs (exprs_of xs)) (core_exprs es) s (map value_of vs) s1) split p.before in
+      let before = subst (λ es. Before (small_exprs_of (exprs_of xs)) (small_exprs_of es) s (map value_of vs) s1) split p.before in
       record {
-        small = small.1;
-        before = subst (λ us. Before (core_exprs (exprs_of xs)) (core_exprs (exprs_of (drop (i + 1) xs))) s us s2) (sym (map-append value_of vs (v ∷ []))) (before_more (core_exprs (exprs_of xs)) (core_exprs (exprs_of (drop (i + 1) xs))) (core_expr (expr_of e)) s s1 s2 (map value_of vs) (value_of v) before (q small.0));
+        before = subst (λ us. Before (small_exprs_of (exprs_of xs)) (small_exprs_of (exprs_of (drop (i + 1) xs))) s us s2) (sym (map-append value_of vs (v ∷ []))) (before_more (small_exprs_of (exprs_of xs)) (small_exprs_of (exprs_of (drop (i + 1) xs))) (small_expr_of (expr_of e)) s s1 s2 (map value_of vs) (value_of v) before q);
       }
 
-  pub args_interrupted : (xs : List Expr) (i : ℕ) (e : Expr) (s s1 s2 : State) (vs : List Dynamic) (x : Interrupt) → i < length xs → e ≡ get_or xs i e → ArgsAt xs (drop i xs) s vs s1 → (IsSmallExpr (expr_of e) → RunsExpr here (expr_of e) s1 (Err x) s2) → RunsExprs here (exprs_of xs) s (Err x) s2
+  pub args_interrupted : (xs : List Expr) (i : ℕ) (e : Expr) (s s1 s2 : State) (vs : List Dynamic) (x : Interrupt) → i < length xs → e ≡ get_or xs i e → ArgsAt xs (drop i xs) s vs s1 → RunsExpr here (expr_of e) s1 (Err x) s2 → RunsExprs here (exprs_of xs) s (Err x) s2
   args_interrupted xs i e s s1 s2 vs x h is p q =
       let split = item_of xs i e h is in
-      let small = subst AreSmallExprs split p.small in
-      let before = subst (λ es. Before (core_exprs (exprs_of xs)) (core_exprs es) s (map value_of vs) s1) split p.before in
-      before_stops (core_exprs (exprs_of xs)) (core_exprs (exprs_of (drop (i + 1) xs))) (core_expr (expr_of e)) s s1 s2 (map value_of vs) x before (q small.0)
+      let before = subst (λ es. Before (small_exprs_of (exprs_of xs)) (small_exprs_of es) s (map value_of vs) s1) split p.before in
+      before_stops (small_exprs_of (exprs_of xs)) (small_exprs_of (exprs_of (drop (i + 1) xs))) (small_expr_of (expr_of e)) s s1 s2 (map value_of vs) x before q
 
-  pub args_end : (xs : List Expr) (i : ℕ) (s s1 : State) (vs : List Dynamic) → length xs ≤ i → ArgsAt xs (drop i xs) s vs s1 → Passes here (core_exprs (exprs_of xs)) s (map value_of vs) s1
+  pub args_end : (xs : List Expr) (i : ℕ) (s s1 : State) (vs : List Dynamic) → length xs ≤ i → ArgsAt xs (drop i xs) s vs s1 → Passes here (small_exprs_of (exprs_of xs)) s (map value_of vs) s1
   args_end xs i s s1 vs h p =
-      let before = subst (λ rest. Before (core_exprs (exprs_of xs)) (core_exprs (exprs_of rest)) s (map value_of vs) s1) (drop_all i xs h) p.before in
+      let before = subst (λ rest. Before (small_exprs_of (exprs_of xs)) (small_exprs_of (exprs_of rest)) s (map value_of vs) s1) (drop_all i xs h) p.before in
       record {
         turns = before.turns;
         runs = λ next d le. before.runs next d le ∙ ap (λ us. run here.world (env here d) (next us) (store_of s1) s1.turns) (append-nil (map value_of vs));
@@ -132,32 +127,28 @@ module _ (here : Setting) where
   line_runs c s s1 (Err (Stuck f)) p = λ next. record { turns = p.turns; runs = λ d le. ap (λ r. and_then r (λ e. run_all here.world (env here d) (each_value next e))) (p.runs d le) }
 
   abbrev list_acts : tree.Stmts → Value → Acts
-  list_acts ss v = acts here.world true (core_stmts ss) v
+  list_acts ss v = acts here.world true (small_stmts_of ss) v
 
   -- a loop over statements has come so far
   pub record StmtsAt (xs rest : List Stmt) (s : State) (v : Dynamic) (s' : State) : Type 0 where
-    pub small : AreSmall (stmts_of rest)
     pub turns : s'.turns ≤ s.turns
     pub runs : (d : ℕ) → s.turns ≤ d → run_all here.world (env here d) (list_acts (stmts_of xs) UnitV) (store_of s) s.turns ≡ run_all here.world (env here d) (list_acts (stmts_of rest) (value_of v)) (store_of s') s'.turns
 
-  pub stmts_start : (xs : List Stmt) (s : State) → AreSmall (stmts_of xs) → StmtsAt xs xs s value.Unit s
-  stmts_start xs s h = record { small = h; turns = omega arith; runs = λ d le. ap (λ u. run_all here.world (env here d) (list_acts (stmts_of xs) u) (store_of s) s.turns) (sym value_of-Unit) }
+  pub stmts_start : (xs : List Stmt) (s : State) → StmtsAt xs xs s value.Unit s
+  stmts_start xs s = record { turns = omega arith; runs = λ d le. ap (λ u. run_all here.world (env here d) (list_acts (stmts_of xs) u) (store_of s) s.turns) (sym value_of-Unit) }
 
   line_of : (xs : List Stmt) (i : ℕ) (l : Stmt) → i < length xs → l ≡ get_or xs i l → stmts_of (drop i xs) ≡ tree.stmt (stmt_of l) (stmts_of (drop (i + 1) xs))
   line_of xs i l h is = stmts_of-drop xs i l h ∙ ap (λ y. tree.stmt (stmt_of y) (stmts_of (drop (i + 1) xs))) (sym is)
 
-  pub stmts_next : (xs : List Stmt) (i : ℕ) (l : Stmt) (s s1 s2 : State) (u v : Dynamic) → i < length xs → l ≡ get_or xs i l → StmtsAt xs (drop i xs) s u s1 → (IsSmall (stmt_of l) → RunsStmt here (stmt_of l) s1 (Ok v) s2) → StmtsAt xs (drop (i + 1) xs) s v s2
+  pub stmts_next : (xs : List Stmt) (i : ℕ) (l : Stmt) (s s1 s2 : State) (u v : Dynamic) → i < length xs → l ≡ get_or xs i l → StmtsAt xs (drop i xs) s u s1 → RunsStmt here (stmt_of l) s1 (Ok v) s2 → StmtsAt xs (drop (i + 1) xs) s v s2
   stmts_next xs i l s s1 s2 u v h is p q =
       let split = line_of xs i l h is in
-      let small = subst AreSmall split p.small in
-      let step = q small.0 in
       record {
-        small = small.1;
-        turns = omega (arith, p.turns, step.turns);
+        turns = omega (arith, p.turns, q.turns);
         runs = λ d le.
             p.runs d le
             ∙ ap (λ ss. run_all here.world (env here d) (list_acts ss (value_of u)) (store_of s1) s1.turns) split
-            ∙ step.runs (λ w. list_acts (stmts_of (drop (i + 1) xs)) w) d (omega (arith, p.turns));
+            ∙ q.runs (λ w. list_acts (stmts_of (drop (i + 1) xs)) w) d (omega (arith, p.turns));
       }
 
   stmts_stop : (xs : List Stmt) (l : tree.Stmt) (ls : tree.Stmts) (s s1 s2 : State) (u : Value) (x : Interrupt) → s1.turns ≤ s.turns → ((d : ℕ) → s.turns ≤ d → run_all here.world (env here d) (list_acts (stmts_of xs) UnitV) (store_of s) s.turns ≡ run_all here.world (env here d) (list_acts (tree.stmt l ls) u) (store_of s1) s1.turns) → RunsStmt here l s1 (Err x) s2 → RunsStmts here (stmts_of xs) s (Err x) s2
@@ -165,11 +156,10 @@ module _ (here : Setting) where
   stmts_stop xs l ls s s1 s2 u (Throw v) le p q = let k = q (λ w. list_acts ls w) in record { turns = omega (arith, le, k.turns); runs = λ d m. p d m ∙ k.runs d (omega (arith, le)) }
   stmts_stop xs l ls s s1 s2 u (Stuck f) le p q = let k = q (λ w. list_acts ls w) in record { turns = omega (arith, le, k.turns); runs = λ d m. p d m ∙ k.runs d (omega (arith, le)) }
 
-  pub stmts_interrupted : (xs : List Stmt) (i : ℕ) (l : Stmt) (s s1 s2 : State) (u : Dynamic) (x : Interrupt) → i < length xs → l ≡ get_or xs i l → StmtsAt xs (drop i xs) s u s1 → (IsSmall (stmt_of l) → RunsStmt here (stmt_of l) s1 (Err x) s2) → RunsStmts here (stmts_of xs) s (Err x) s2
+  pub stmts_interrupted : (xs : List Stmt) (i : ℕ) (l : Stmt) (s s1 s2 : State) (u : Dynamic) (x : Interrupt) → i < length xs → l ≡ get_or xs i l → StmtsAt xs (drop i xs) s u s1 → RunsStmt here (stmt_of l) s1 (Err x) s2 → RunsStmts here (stmts_of xs) s (Err x) s2
   stmts_interrupted xs i l s s1 s2 u x h is p q =
       let split = line_of xs i l h is in
-      let small = subst AreSmall split p.small in
-      stmts_stop xs (stmt_of l) (stmts_of (drop (i + 1) xs)) s s1 s2 (value_of u) x p.turns (λ d le. p.runs d le ∙ ap (λ ss. run_all here.world (env here d) (list_acts ss (value_of u)) (store_of s1) s1.turns) split) (q small.0)
+      stmts_stop xs (stmt_of l) (stmts_of (drop (i + 1) xs)) s s1 s2 (value_of u) x p.turns (λ d le. p.runs d le ∙ ap (λ ss. run_all here.world (env here d) (list_acts ss (value_of u)) (store_of s1) s1.turns) split) q
 
   pub stmts_end : (xs : List Stmt) (i : ℕ) (s s1 : State) (u : Dynamic) → length xs ≤ i → StmtsAt xs (drop i xs) s u s1 → RunsStmts here (stmts_of xs) s (Ok u) s1
   stmts_end xs i s s1 u h p = record {

@@ -14,7 +14,7 @@ use Rattle.rhai_ast.specs.Act.{Gives, IsStuck, WrongKind, Ended, Halted, Act, ru
 use Rattle.rhai_ast.specs.ActForms.{give, branch, if_true, ◌>>=◌}
 use Rattle.rhai_ast.specs.Calls.{called, operate}
 use Rattle.rhai_ast.specs.Core as core
-use Rattle.rhai_ast.specs.Desugar.{call_of, core_exprs, core_stmts}
+use Rattle.rhai_ast.specs.Desugar.{call_of, core_exprs}
 use Rattle.rhai_ast.specs.Meaning.{act, acts}
 use Rattle.rhai_ast.specs.Reading.{callee_of, expr_of, exprs_of, expr_of-Array}
 use Rattle.rhai_ast.specs.Run.{reversed}
@@ -25,7 +25,7 @@ use Rattle.rhai_run.specs.Entries.{variable_meant}
 use Rattle.rhai_run.specs.Evaluating.{Setting, env, Leads, Runs, RunsExpr, RunsExprs, RunsCall, RunsStmts, RunsBlock}
 use Rattle.rhai_run.specs.Host.{call_meant}
 use Rattle.rhai_run.specs.Operators.{called_operator}
-use Rattle.rhai_run.specs.Small.{IsSmallCall, IsSmallExpr, AreSmallExprs}
+use Rattle.rhai_run.specs.Small.{small_expr, small_exprs_of, small_stmts_of}
 use Rattle.rhai_run.specs.State.{store_of}
 use Rattle.rhai_run.proofs.Callees.{count_exprs_of, known, call_ill, call_operates}
 use Rattle.rhai_run.proofs.Evaluating.{lead, args_run, args_stop, braces_run}
@@ -33,12 +33,9 @@ use Rattle.rhai_run.proofs.Scopes.{restore_cut}
 use Rattle.rhai_run.proofs.Values.{truth-other}
 
 module _ (here : Setting) where
-  array_small : (e : Expr) (xs : List Expr) (p : Position) → e ≡ expr_kind.Array xs p → IsSmallExpr (expr_of e) → AreSmallExprs (exprs_of xs)
-  array_small e xs p is h = subst IsSmallExpr (ap expr_of is ∙ expr_of-Array xs p) h
-
-  pub array_stops : (e : Expr) (xs : List Expr) (p : Position) (s s1 : State) (x : Interrupt) → e ≡ expr_kind.Array xs p → (AreSmallExprs (exprs_of xs) → RunsExprs here (exprs_of xs) s (Err x) s1) → IsSmallExpr (expr_of e) → RunsExpr here (expr_of e) s (Err x) s1
-  array_stops e xs p s s1 x is q h =
-      subst (λ y. RunsExpr here y s (Err x) s1) (sym (ap expr_of is ∙ expr_of-Array xs p)) (args_stop here (core_exprs (exprs_of xs)) (λ vs. give (ArrayV (values vs))) s s1 x (q (array_small e xs p is h)))
+  pub array_stops : (e : Expr) (xs : List Expr) (p : Position) (s s1 : State) (x : Interrupt) → e ≡ expr_kind.Array xs p → RunsExprs here (exprs_of xs) s (Err x) s1 → RunsExpr here (expr_of e) s (Err x) s1
+  array_stops e xs p s s1 x is q =
+      subst (λ y. RunsExpr here y s (Err x) s1) (sym (ap expr_of is ∙ expr_of-Array xs p)) (args_stop here (small_exprs_of (exprs_of xs)) (λ vs. give (ArrayV (values vs))) s s1 x q)
 
   -- ---- calls
 
@@ -49,22 +46,22 @@ module _ (here : Setting) where
       (k.0, k.1, sym k.1 ∙ e ∙ ap (called_operator (callee_of c)) (sym (count_exprs_of c.args)))
 
   -- a call whose token fits no call of its operator
-  pub call_stuck : (c : FnCallExpr) (s : State) → None ≡ called_operator (callee_of c) (length c.args) → IsSmallCall (callee_of c) (exprs_of c.args) → Leads here (act here.world (call_of (callee_of c) (tree.count_exprs (exprs_of c.args)) (core_exprs (exprs_of c.args)))) s (Halted (IsStuck WrongKind)) s
-  call_stuck c s e h =
-      let ill = call_ill (callee_of c) (tree.count_exprs (exprs_of c.args)) (core_exprs (exprs_of c.args)) h.0 (e ∙ ap (called_operator (callee_of c)) (sym (count_exprs_of c.args))) in
+  pub call_stuck : (c : FnCallExpr) (s : State) → None ≡ called_operator (callee_of c) (length c.args) → Leads here (act here.world (small_expr (call_of (callee_of c) (tree.count_exprs (exprs_of c.args)) (core_exprs (exprs_of c.args))))) s (Halted (IsStuck WrongKind)) s
+  call_stuck c s e =
+      let ill = call_ill (callee_of c) (tree.count_exprs (exprs_of c.args)) (core_exprs (exprs_of c.args)) (e ∙ ap (called_operator (callee_of c)) (sym (count_exprs_of c.args))) in
       subst (λ x. Leads here (act here.world x) s (Halted (IsStuck WrongKind)) s) (sym ill) (record { turns = omega arith; runs = λ d le. refl })
 
-  pub call_stops : (c : FnCallExpr) (op : Token) (s s1 : State) (x : Interrupt) → operator_of op ≡ called_operator (callee_of c) (length c.args) → (AreSmallExprs (exprs_of c.args) → RunsExprs here (exprs_of c.args) s (Err x) s1) → IsSmallCall (callee_of c) (exprs_of c.args) → RunsCall here (callee_of c) (exprs_of c.args) s (Err x) s1
-  call_stops c op s s1 x e q h =
+  pub call_stops : (c : FnCallExpr) (op : Token) (s s1 : State) (x : Interrupt) → operator_of op ≡ called_operator (callee_of c) (length c.args) → RunsExprs here (exprs_of c.args) s (Err x) s1 → RunsCall here (callee_of c) (exprs_of c.args) s (Err x) s1
+  call_stops c op s s1 x e q =
       let o = operator_known c op e in
       subst (λ y. Runs here (act here.world y) s (Err x) s1) (sym (call_operates (callee_of c) (tree.count_exprs (exprs_of c.args)) o.0 (core_exprs (exprs_of c.args)) o.2))
-      (args_stop here (core_exprs (exprs_of c.args)) (λ vs. called here.world (core.OnOperator o.0) vs) s s1 x (q h.1))
+      (args_stop here (small_exprs_of (exprs_of c.args)) (λ vs. called here.world (core.OnOperator o.0) vs) s s1 x q)
 
-  pub call_runs : (c : FnCallExpr) (op : Token) (s s1 s2 : State) (vs : List Dynamic) (r : Result Dynamic Interrupt) → operator_of op ≡ called_operator (callee_of c) (length c.args) → (AreSmallExprs (exprs_of c.args) → RunsExprs here (exprs_of c.args) s (Ok vs) s1) → ((o : Operator) → operator_of op ≡ Some o → Runs here (operate here.world o (map value_of vs)) s1 r s2) → IsSmallCall (callee_of c) (exprs_of c.args) → RunsCall here (callee_of c) (exprs_of c.args) s r s2
-  call_runs c op s s1 s2 vs r e q k h =
+  pub call_runs : (c : FnCallExpr) (op : Token) (s s1 s2 : State) (vs : List Dynamic) (r : Result Dynamic Interrupt) → operator_of op ≡ called_operator (callee_of c) (length c.args) → RunsExprs here (exprs_of c.args) s (Ok vs) s1 → ((o : Operator) → operator_of op ≡ Some o → Runs here (operate here.world o (map value_of vs)) s1 r s2) → RunsCall here (callee_of c) (exprs_of c.args) s r s2
+  call_runs c op s s1 s2 vs r e q k =
       let o = operator_known c op e in
       subst (λ y. Runs here (act here.world y) s r s2) (sym (call_operates (callee_of c) (tree.count_exprs (exprs_of c.args)) o.0 (core_exprs (exprs_of c.args)) o.2))
-      (args_run here (core_exprs (exprs_of c.args)) (λ us. called here.world (core.OnOperator o.0) us) s s1 s2 (map value_of vs) r (q h.1) (k o.0 o.1))
+      (args_run here (small_exprs_of (exprs_of c.args)) (λ us. called here.world (core.OnOperator o.0) us) s s1 s2 (map value_of vs) r q (k o.0 o.1))
 
   -- ---- conditions and braces
 
@@ -78,4 +75,4 @@ module _ (here : Setting) where
   pub block_runs : (ss : tree.Stmts) (s s1 s2 : State) (r : Result Dynamic Interrupt) (names long : ℕ) → s2.scope.items ≡ take names s1.scope.items → names ≡ long → long ≡ length s.scope.items → s2.calls ≡ s1.calls → s2.turns ≡ s1.turns → RunsStmts here ss s r s1 → RunsBlock here ss s r s2
   block_runs ss s s1 s2 r names long h k l g f q =
       let scope = ap (λ l. reversed (map variable_meant l) []) (h ∙ ap (λ n. take n s1.scope.items) (k ∙ l)) ∙ restore_cut variable_meant s.scope.items s1.scope.items in
-      braces_run here (acts here.world true (core_stmts ss) UnitV) s s1 s2 r (λ i. record { scope = scope i; this = None; calls = map call_meant (g i) }) f q
+      braces_run here (acts here.world true (small_stmts_of ss) UnitV) s s1 s2 r (λ i. record { scope = scope i; this = None; calls = map call_meant (g i) }) f q

@@ -3,7 +3,7 @@ use Rattle.std.proofs.Common.{◌≡◌, ℕ, true, List, [], map, None, Result,
 use Rattle.rhai_base.specs.declared.types.dynamic.Dynamic.{Dynamic}
 use Rattle.rhai_base.specs.Value.{UnitV}
 use Rattle.rhai_ast.specs.Act.{Entry, Host, Outcome, returned, returned_outcome, run_all}
-use Rattle.rhai_ast.specs.Desugar.{core_function, core_script, core_stmts}
+use Rattle.rhai_ast.specs.Desugar.{core_function, core_script}
 use Rattle.rhai_ast.specs.Engine.{Engine}
 use Rattle.rhai_ast.specs.Meaning.{acts}
 use Rattle.rhai_ast.specs.Run.{AtStatements, Report, end_of, report_of, run_script, world_of}
@@ -16,6 +16,7 @@ use Rattle.rhai_run.specs.Entries.{variable_meant}
 use Rattle.rhai_run.specs.Evaluating.{Setting, setting_of, env, LeadsAll, RunsStmts, EndsAs}
 use Rattle.rhai_run.specs.Host.{call_meant}
 use Rattle.rhai_run.specs.Report.{end_meant}
+use Rattle.rhai_run.specs.Small.{small_script, small_stmts_of}
 use Rattle.rhai_run.specs.State.{store_of}
 use Rattle.rhai_run.proofs.Scopes.{reversed_twice}
 
@@ -26,14 +27,14 @@ abbrev report_at : State → RunEnd → Report
 report_at s e = record { ended = end_meant e; variables = map variable_meant s.scope.items; this = None; calls = map call_meant s.calls; turns = s.turns }
 
 module _ (engine : Engine) (host : Host) (p : Script) (scope : List Entry) (n : ℕ) (s s1 : State) (at_start : store_of s ≡ record { scope = scope; this = None; calls = [] }) (turns : s.turns ≡ n) where
-  outcome_report : (o : Outcome) (e : RunEnd) → end_meant e ≡ end_of (returned_outcome o) → LeadsAll (script_setting engine host p) (acts (script_setting engine host p).world true (core_stmts p.statements) UnitV) s o s1 → report_at s1 e ≡ report_of AtStatements (run_script engine host (core_script p) AtStatements scope n)
+  outcome_report : (o : Outcome) (e : RunEnd) → end_meant e ≡ end_of (returned_outcome o) → LeadsAll (script_setting engine host p) (acts (script_setting engine host p).world true (small_stmts_of p.statements) UnitV) s o s1 → report_at s1 e ≡ report_of AtStatements (run_script engine host (small_script (core_script p)) AtStatements scope n)
   unfolding run_script
   outcome_report o e h q =
       let here = script_setting engine host p in
-      sym (ap (λ r. report_of AtStatements (returned r)) ((λ i. run_all here.world (env here n) (acts here.world true (core_stmts p.statements) UnitV) (sym at_start i) (sym turns i)) ∙ q.runs n (omega (arith, turns)))
+      sym (ap (λ r. report_of AtStatements (returned r)) ((λ i. run_all here.world (env here n) (acts here.world true (small_stmts_of p.statements) UnitV) (sym at_start i) (sym turns i)) ∙ q.runs n (omega (arith, turns)))
       ∙ (λ i. record { ended = sym h i; variables = reversed_twice (map variable_meant s1.scope.items) i; this = None; calls = map call_meant s1.calls; turns = s1.turns }))
 
-  pub script_report : (ended : Result Dynamic Interrupt) (e : RunEnd) → EndsAs ended e → RunsStmts (script_setting engine host p) p.statements s ended s1 → report_at s1 e ≡ report_of AtStatements (run_script engine host (core_script p) AtStatements scope n)
+  pub script_report : (ended : Result Dynamic Interrupt) (e : RunEnd) → EndsAs ended e → RunsStmts (script_setting engine host p) p.statements s ended s1 → report_at s1 e ≡ report_of AtStatements (run_script engine host (small_script (core_script p)) AtStatements scope n)
   script_report (Ok v) e h q = outcome_report _ e (ap end_meant h) q
   script_report (Err NoMemory) e h q = absurd h
   script_report (Err (Throw v)) e h q = outcome_report _ e (ap end_meant h) q

@@ -6,7 +6,7 @@ use Rattle.rhai_base.specs.Reading.{value_of}
 use Rattle.rhai_ast.specs.Tree as tree
 use Rattle.rhai_ast.specs.Act.{Call, Answer, World, Gives, Throws, IsStuck, WrongKind, Outcome, Ended, Halted, At, Act, Acts, Scoped, Env, run, run_all}
 use Rattle.rhai_ast.specs.Core.{Exprs, Deed, Stmt, Function}
-use Rattle.rhai_ast.specs.Desugar.{call_of, core_expr, core_exprs, core_stmt, core_stmts, core_function}
+use Rattle.rhai_ast.specs.Desugar.{call_of, core_exprs, core_function}
 use Rattle.rhai_ast.specs.Host.{ModuleValue}
 use Rattle.rhai_ast.specs.Meaning.{act, acts, deed, line, with_args}
 use Rattle.rhai_ast.specs.Run.{env_at, world_of}
@@ -21,6 +21,7 @@ use Rattle.rhai_ast.specs.Faults.{is_unit}
 use Rattle.rhai_run.specs.EngineInfo.{engine_of}
 use Rattle.rhai_run.specs.Host.{host_of}
 use Rattle.rhai_run.specs.Report.{stuck_meant}
+use Rattle.rhai_run.specs.Small.{small_expr, small_expr_of, small_exprs_of, small_stmt_of, small_stmts_of}
 use Rattle.rhai_run.specs.State.{store_of}
 
 -- what a run is in
@@ -97,26 +98,26 @@ IsConstant v (Err NoMemory) = Unit {0}
 IsConstant v (Err (Throw u)) = ⊥
 IsConstant v (Err (Stuck f)) = (is_unit v ≡ true) × (stuck_meant f ≡ WrongKind)
 
--- ---- the same at trees
+-- ---- the same at trees, in the small language
 
 abbrev pub RunsExpr : Setting → tree.Expr → State → Result Dynamic Interrupt → State → Type 0
-RunsExpr here e = Runs here (act here.world (core_expr e))
+RunsExpr here e = Runs here (act here.world (small_expr_of e))
 
 abbrev pub RunsExprs : Setting → tree.Exprs → State → Result (List Dynamic) Interrupt → State → Type 0
-RunsExprs here es = RunsArgs here (core_exprs es)
+RunsExprs here es = RunsArgs here (small_exprs_of es)
 
 abbrev pub RunsCall : Setting → tree.Callee → tree.Exprs → State → Result Dynamic Interrupt → State → Type 0
-RunsCall here c es = Runs here (act here.world (call_of c (tree.count_exprs es) (core_exprs es)))
+RunsCall here c es = Runs here (act here.world (small_expr (call_of c (tree.count_exprs es) (core_exprs es))))
 
 abbrev pub RunsDeed : Setting → Deed → State → Result Dynamic Interrupt → State → Type 0
 RunsDeed here c = Runs here (deed here.world c)
 
 abbrev pub RunsStmt : Setting → tree.Stmt → State → Result Dynamic Interrupt → State → Type 0
-RunsStmt here l = RunsLine here (core_stmt l)
+RunsStmt here l = RunsLine here (small_stmt_of l)
 
 -- a list whose names stay, and one whose names go
 abbrev pub RunsStmts : Setting → tree.Stmts → State → Result Dynamic Interrupt → State → Type 0
-RunsStmts here ss = RunsAll here (acts here.world true (core_stmts ss) UnitV)
+RunsStmts here ss = RunsAll here (acts here.world true (small_stmts_of ss) UnitV)
 
 abbrev pub RunsBlock : Setting → tree.Stmts → State → Result Dynamic Interrupt → State → Type 0
-RunsBlock here ss = Runs here (Scoped (acts here.world true (core_stmts ss) UnitV))
+RunsBlock here ss = Runs here (Scoped (acts here.world true (small_stmts_of ss) UnitV))

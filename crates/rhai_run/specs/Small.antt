@@ -1,41 +1,51 @@
--- The small language: scripts all of whose calls are those of operators.
-use Rattle.rhai_ast.specs.Tree.{Mark, NoToken, OfOperator, OfOther, Callee, Expr, DynamicConstant, BoolConstant, IntegerConstant, CharConstant, StringConstant, UnitConstant, ArrayOf, BlockExpr, FnCall, Exprs, no_exprs, expr, Stmt, Noop, If, Block, ExprStmt, FnCallStmt, Stmts, no_stmts, stmt, Script}
+-- The small language: of calls it has those of operators, and a call by a name has no meaning in it.
+use Rattle.rhai_ast.specs.Tree as tree
+use Rattle.rhai_ast.specs.Core.{Callee, OnOperator, ByName, Expr, Ill, Constant, ArrayOf, BlockExpr, FnCall, Exprs, no_exprs, expr, Deed, Noop, If, Block, Evaluate, Stmt, Does, Stmts, no_stmts, stmt, Script}
+use Rattle.rhai_ast.specs.Desugar.{core_expr, core_exprs, core_stmt, core_stmts}
 
-abbrev pub IsToken : Mark → Type 0
-IsToken NoToken = ⊥
-IsToken (OfOperator op) = Unit {0}
-IsToken OfOther = Unit {0}
+abbrev pub small_call : Callee → Exprs → Expr
+small_call (OnOperator op) es = FnCall (OnOperator op) es
+small_call (ByName f captures) es = Ill
 
 abbrev mutual
-  pub IsSmallExpr : Expr → Type 0
-  IsSmallExpr (DynamicConstant v) = Unit {0}
-  IsSmallExpr (BoolConstant b) = Unit {0}
-  IsSmallExpr (IntegerConstant n) = Unit {0}
-  IsSmallExpr (CharConstant c) = Unit {0}
-  IsSmallExpr (StringConstant t) = Unit {0}
-  IsSmallExpr UnitConstant = Unit {0}
-  IsSmallExpr (ArrayOf es) = AreSmallExprs es
-  IsSmallExpr (BlockExpr ss) = AreSmall ss
-  IsSmallExpr (FnCall c es) = IsToken c.token × AreSmallExprs es
+  pub small_expr : Expr → Expr
+  small_expr Ill = Ill
+  small_expr (Constant v) = Constant v
+  small_expr (ArrayOf es) = ArrayOf (small_exprs es)
+  small_expr (BlockExpr ss) = BlockExpr (small_stmts ss)
+  small_expr (FnCall c es) = small_call c (small_exprs es)
 
-  pub AreSmallExprs : Exprs → Type 0
-  AreSmallExprs no_exprs = Unit {0}
-  AreSmallExprs (expr e es) = IsSmallExpr e × AreSmallExprs es
+  pub small_exprs : Exprs → Exprs
+  small_exprs no_exprs = no_exprs
+  small_exprs (expr e es) = expr (small_expr e) (small_exprs es)
 
-  pub IsSmall : Stmt → Type 0
-  IsSmall Noop = Unit {0}
-  IsSmall (If c a b) = IsSmallExpr c × AreSmall a × AreSmall b
-  IsSmall (Block ss) = AreSmall ss
-  IsSmall (ExprStmt e) = IsSmallExpr e
-  IsSmall (FnCallStmt c es) = IsToken c.token × AreSmallExprs es
+  pub small_deed : Deed → Deed
+  small_deed Noop = Noop
+  small_deed (If c a b) = If (small_expr c) (small_stmts a) (small_stmts b)
+  small_deed (Block ss) = Block (small_stmts ss)
+  small_deed (Evaluate e) = Evaluate (small_expr e)
 
-  pub AreSmall : Stmts → Type 0
-  AreSmall no_stmts = Unit {0}
-  AreSmall (stmt s ss) = IsSmall s × AreSmall ss
+  pub small_stmt : Stmt → Stmt
+  small_stmt (Does d) = Does (small_deed d)
 
-abbrev pub IsSmallCall : Callee → Exprs → Type 0
-IsSmallCall c es = IsToken c.token × AreSmallExprs es
+  pub small_stmts : Stmts → Stmts
+  small_stmts no_stmts = no_stmts
+  small_stmts (stmt s ss) = stmt (small_stmt s) (small_stmts ss)
 
--- without calls of functions, their bodies don't matter
-abbrev pub IsSmallScript : Script → Type 0
-IsSmallScript p = AreSmall p.statements
+-- the script as it is, where all its calls are those of operators
+abbrev pub small_script : Script → Script
+small_script p = record { statements = small_stmts p.statements; functions = p.functions }
+
+-- ---- what of a tree is evaluated
+
+abbrev pub small_expr_of : tree.Expr → Expr
+small_expr_of e = small_expr (core_expr e)
+
+abbrev pub small_exprs_of : tree.Exprs → Exprs
+small_exprs_of es = small_exprs (core_exprs es)
+
+abbrev pub small_stmt_of : tree.Stmt → Stmt
+small_stmt_of s = small_stmt (core_stmt s)
+
+abbrev pub small_stmts_of : tree.Stmts → Stmts
+small_stmts_of ss = small_stmts (core_stmts ss)

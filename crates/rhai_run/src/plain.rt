@@ -14,7 +14,7 @@ ghost use Rattle.rhai_run.specs.EngineInfo.{engine_of};
 ghost use Rattle.rhai_run.specs.Host.{host_of};
 ghost use Rattle.rhai_run.specs.Report.{report_meant};
 ghost use Rattle.rhai_run.specs.Evaluating.{EndsAs};
-ghost use Rattle.rhai_run.specs.Small.{IsSmallScript};
+ghost use Rattle.rhai_run.specs.Small.{small_script};
 ghost use Rattle.rhai_run.specs.Entries.{start_scope};
 
 use crate::plain::evaluator::Evaluator;
@@ -35,7 +35,7 @@ pub fn plain_run<H: Host>(
     scope: &Scope,
     turns: u64,
 ) -> Result<RunReport, OutOfMemory>
-    ensures { IfOk result (λ r. IsSmallScript (script_of ast.now) → report_meant r ≡ report_of AtStatements (run_script (engine_of info.now) (host_of (H.answers host.now) (H.modules host.now)) (core_script (script_of ast.now)) AtStatements (start_scope scope.now) turns)) }
+    ensures { IfOk result (λ r. report_meant r ≡ report_of AtStatements (run_script (engine_of info.now) (host_of (H.answers host.now) (H.modules host.now)) (small_script (core_script (script_of ast.now))) AtStatements (start_scope scope.now) turns)) }
 {
     let evaluator = Evaluator {
         alloc,

@@ -5,11 +5,10 @@
 ghost use Rattle.std.specs.Prelude.{◌≡◌, Some, map};
 ghost use Rattle.rhai_base.specs.Reading.{value_of, operator_of};
 ghost use Rattle.rhai_ast.specs.Core.{If};
-ghost use Rattle.rhai_ast.specs.Desugar.{core_expr, core_stmts};
 ghost use Rattle.rhai_ast.specs.Reading.{callee_of, expr_of, exprs_of, stmt_of, stmts_of};
 ghost use Rattle.rhai_ast.specs.ActForms.{ask_host};
 ghost use Rattle.rhai_ast.specs.Calls.{operate};
-ghost use Rattle.rhai_run.specs.Small.{IsSmallCall, IsSmallExpr, AreSmallExprs, IsSmall, AreSmall};
+ghost use Rattle.rhai_run.specs.Small.{small_expr_of, small_stmts_of};
 ghost use Rattle.rhai_run.specs.Evaluating.{setting, IsConstant, Runs, RunsDeed, RunsExpr, RunsCall, RunsExprs, RunsStmt, RunsStmts, RunsBlock};
 
 use crate::plain::operators::{builtin, fault_text, operator_called};
@@ -20,8 +19,7 @@ use rhai_base::{Dynamic, ImmutableString, Seq, Token};
 use rhai_script::FnLib;
 use std::alloc::Global;
 
-/// What a run is in. Its functions say what the run meaning says of the small language, whose calls are all those of
-/// operators.
+/// What a run is in. Its functions do what the run meaning says of the small language.
 #[derive(Drop)]
 pub struct Evaluator<'a, H> {
     /// Where values are made.
@@ -37,7 +35,7 @@ pub struct Evaluator<'a, H> {
 impl<'a, H: Host> Evaluator<'a, H> {
     #[cycle(evaluate)]
     fn expr(&self, state: &mut State, expr: &Expr) -> Result<Dynamic, Interrupt>
-        ensures { IsSmallExpr (expr_of expr.now) → RunsExpr (setting H.answers H.modules self.now) (expr_of expr.now) state.old result state.new }
+        ensures { RunsExpr (setting H.answers H.modules self.now) (expr_of expr.now) state.old result state.new }
     {
         match expr {
             Expr::DynamicConstant(value, _) => constant(value.get()),
@@ -55,7 +53,7 @@ impl<'a, H: Host> Evaluator<'a, H> {
     /// The values of expressions, from the first to the last.
     #[cycle(evaluate)]
     fn exprs(&self, state: &mut State, exprs: &[Expr]) -> Result<Seq<Dynamic>, Interrupt>
-        ensures { AreSmallExprs (exprs_of exprs.now) → RunsExprs (setting H.answers H.modules self.now) (exprs_of exprs.now) state.old result state.new }
+        ensures { RunsExprs (setting H.answers H.modules self.now) (exprs_of exprs.now) state.old result state.new }
     {
         let mut values = Seq::new(self.alloc);
         for expr in exprs {
@@ -65,10 +63,10 @@ impl<'a, H: Host> Evaluator<'a, H> {
         Ok(values)
     }
 
-    /// A call that fits no operator is stuck before its arguments are run.
+    /// A call that is no operator's is stuck before its arguments are run.
     #[cycle(evaluate)]
     fn call(&self, state: &mut State, call: &FnCallExpr) -> Result<Dynamic, Interrupt>
-        ensures { IsSmallCall (callee_of call.now) (exprs_of call.now.args) → RunsCall (setting H.answers H.modules self.now) (callee_of call.now) (exprs_of call.now.args) state.old result state.new }
+        ensures { RunsCall (setting H.answers H.modules self.now) (callee_of call.now) (exprs_of call.now.args) state.old result state.new }
     {
         let Some(op) = operator_called(call) else {
             return Err(Interrupt::Stuck(Stuck::WrongKind));
@@ -79,7 +77,7 @@ impl<'a, H: Host> Evaluator<'a, H> {
 
     #[cycle(evaluate)]
     fn statement(&self, state: &mut State, statement: &Stmt) -> Result<Dynamic, Interrupt>
-        ensures { IsSmall (stmt_of statement.now) → RunsStmt (setting H.answers H.modules self.now) (stmt_of statement.now) state.old result state.new }
+        ensures { RunsStmt (setting H.answers H.modules self.now) (stmt_of statement.now) state.old result state.new }
     {
         match statement {
             Stmt::Noop(_) => Ok(Dynamic::Unit),
@@ -92,7 +90,7 @@ impl<'a, H: Host> Evaluator<'a, H> {
 
     #[cycle(evaluate)]
     fn choice(&self, state: &mut State, flow: &FlowControl) -> Result<Dynamic, Interrupt>
-        ensures { IsSmallExpr (expr_of flow.now.expr) × AreSmall (stmts_of flow.now.body.block) × AreSmall (stmts_of flow.now.branch.block) → RunsDeed (setting H.answers H.modules self.now) (If (core_expr (expr_of flow.now.expr)) (core_stmts (stmts_of flow.now.body.block)) (core_stmts (stmts_of flow.now.branch.block))) state.old result state.new }
+        ensures { RunsDeed (setting H.answers H.modules self.now) (If (small_expr_of (expr_of flow.now.expr)) (small_stmts_of (stmts_of flow.now.body.block)) (small_stmts_of (stmts_of flow.now.branch.block))) state.old result state.new }
     {
         let Dynamic::Bool(holds) = self.expr(state, &flow.expr)? else {
             return Err(Interrupt::Stuck(Stuck::WrongKind));
@@ -107,7 +105,7 @@ impl<'a, H: Host> Evaluator<'a, H> {
     /// Runs statements whose names go when they end.
     #[cycle(evaluate)]
     fn block(&self, state: &mut State, block: &StmtBlock) -> Result<Dynamic, Interrupt>
-        ensures { AreSmall (stmts_of block.now.block) → RunsBlock (setting H.answers H.modules self.now) (stmts_of block.now.block) state.old result state.new }
+        ensures { RunsBlock (setting H.answers H.modules self.now) (stmts_of block.now.block) state.old result state.new }
     {
         let names = state.scope.len();
         let ended = self.statements(state, block.block.as_slice());
@@ -118,7 +116,7 @@ impl<'a, H: Host> Evaluator<'a, H> {
     /// Runs statements in turn, for the value of the last one.
     #[cycle(evaluate)]
     pub fn statements(&self, state: &mut State, statements: &[Stmt]) -> Result<Dynamic, Interrupt>
-        ensures { AreSmall (stmts_of statements.now) → RunsStmts (setting H.answers H.modules self.now) (stmts_of statements.now) state.old result state.new }
+        ensures { RunsStmts (setting H.answers H.modules self.now) (stmts_of statements.now) state.old result state.new }
     {
         let mut value = Dynamic::Unit;
         for statement in statements {

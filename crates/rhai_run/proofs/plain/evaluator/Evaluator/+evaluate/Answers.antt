@@ -7,61 +7,61 @@ use Rattle.rhai_run.proofs.plain.evaluator.Evaluator.+evaluate.Goals as goal
 
 -- arguments
 pub exprs-loop-expr-init : goal.exprs-loop-expr-init
-exprs-loop-expr-init g t c = λ h. rw c.new-values.ensures (args_start _ _ _ h)
+exprs-loop-expr-init g t c = rw c.new-values.ensures (args_start _ _ _)
 
 pub exprs-returns-in_err-value : goal.exprs-returns-in_err-value
-exprs-returns-in_err-value g t c = λ h.
+exprs-returns-in_err-value g t c =
     let p = err_from_is_err_and c.from_residual.result c.from_residual.ensures.1 in
-    rw (p.1, p.2) (args_interrupted _ _ _ _ _ _ _ _ _ c.loop-expr-test.true c.expr-item.is (c.loop-expr.invariant h) c.in_err-value.ensures)
+    rw (p.1, p.2) (args_interrupted _ _ _ _ _ _ _ _ _ c.loop-expr-test.true c.expr-item.is c.loop-expr.invariant c.in_err-value.ensures)
 
 pub exprs-loop-expr-preserved : goal.exprs-loop-expr-preserved
-exprs-loop-expr-preserved g t c = λ h.
-    rw c.in_ok-push.ensures.ok (args_next _ _ _ _ _ _ _ _ _ c.loop-expr-test.true c.expr-item.is (c.loop-expr.invariant h) c.in_ok-value.ensures)
+exprs-loop-expr-preserved g t c =
+    rw c.in_ok-push.ensures.ok (args_next _ _ _ _ _ _ _ _ _ c.loop-expr-test.true c.expr-item.is c.loop-expr.invariant c.in_ok-value.ensures)
 
 pub exprs-returns : goal.exprs-returns
-exprs-returns g t c = λ h. args_end _ _ _ _ _ _ (omega arith) (c.loop-expr.invariant h)
+exprs-returns g t c = args_end _ _ _ _ _ _ (omega arith) c.loop-expr.invariant
 
 -- statements
 pub statements-loop-statement-init : goal.statements-loop-statement-init
-statements-loop-statement-init g t c = λ h. stmts_start _ _ _ h
+statements-loop-statement-init g t c = stmts_start _ _ _
 
 pub statements-returns-in_err-value : goal.statements-returns-in_err-value
-statements-returns-in_err-value g t c = λ h.
+statements-returns-in_err-value g t c =
     let p = err_from_is_err_and c.from_residual.result c.from_residual.ensures.1 in
-    rw (p.1, p.2) (stmts_interrupted _ _ _ _ _ _ _ _ _ c.loop-statement-test.true c.statement-item.is (c.loop-statement.invariant h) c.in_err-value.ensures)
+    rw (p.1, p.2) (stmts_interrupted _ _ _ _ _ _ _ _ _ c.loop-statement-test.true c.statement-item.is c.loop-statement.invariant c.in_err-value.ensures)
 
 pub statements-loop-statement-preserved : goal.statements-loop-statement-preserved
-statements-loop-statement-preserved g t c = λ h.
-    stmts_next _ _ _ _ _ _ _ _ _ c.loop-statement-test.true c.statement-item.is (c.loop-statement.invariant h) c.in_ok-value.ensures
+statements-loop-statement-preserved g t c =
+    stmts_next _ _ _ _ _ _ _ _ _ c.loop-statement-test.true c.statement-item.is c.loop-statement.invariant c.in_ok-value.ensures
 
 pub statements-returns : goal.statements-returns
-statements-returns g t c = λ h. stmts_end _ _ _ _ _ _ (omega arith) (c.loop-statement.invariant h)
+statements-returns g t c = stmts_end _ _ _ _ _ _ (omega arith) c.loop-statement.invariant
 
 pub expr-returns-in_err-exprs-in-Array : goal.expr-returns-in_err-exprs-in-Array
-expr-returns-in_err-exprs-in-Array g t c = λ h.
+expr-returns-in_err-exprs-in-Array g t c =
     let p = err_from_is_err_and c.from_residual-in_err-exprs-in-Array.result c.from_residual-in_err-exprs-in-Array.ensures.1 in
-    rw (p.1, p.2) (array_stops _ _ _ _ _ _ _ c.in-Array.is (rw c.as_slice.ensures at c.in_err-exprs-in-Array.ensures) h)
+    rw (p.1, p.2) (array_stops _ _ _ _ _ _ _ c.in-Array.is (rw c.as_slice.ensures at c.in_err-exprs-in-Array.ensures))
 
 -- calls
 pub call-returns-in_default : goal.call-returns-in_default
-call-returns-in_default g t c = λ h. call_stuck _ _ _ c.in_default.ensures h
+call-returns-in_default g t c = call_stuck _ c.args.call.now _ c.in_default.ensures
 
 pub call-returns-in_err-args : goal.call-returns-in_err-args
-call-returns-in_err-args g t c = λ h.
+call-returns-in_err-args g t c =
     let p = err_from_is_err_and c.from_residual.result c.from_residual.ensures.1 in
-    rw (p.1, p.2) (call_stops _ _ _ _ _ _ c.in-Some.ensures (rw c.as_slice.ensures at c.in_err-args.ensures) h)
+    rw (p.1, p.2) (call_stops _ c.args.call.now _ _ _ _ c.in-Some.ensures (rw c.as_slice.ensures at c.in_err-args.ensures))
 
 pub call-returns : goal.call-returns
-call-returns g t c = λ h.
-    call_runs _ _ _ _ _ _ _ _ c.in-Some.ensures (rw c.as_slice.ensures at c.in_ok-args.ensures) c.operate.ensures h
+call-returns g t c =
+    call_runs _ c.args.call.now _ _ _ _ _ _ c.in-Some.ensures (rw c.as_slice.ensures at c.in_ok-args.ensures) c.operate.ensures
 
 -- conditions and braces
 pub choice-returns-in_default : goal.choice-returns-in_default
-choice-returns-in_default g t c = λ h. choice_stuck _ _ _ _ _ _ _ c.in_default.not-Bool (c.in_ok-holds.ensures h.0)
+choice-returns-in_default g t c = choice_stuck _ _ _ _ _ _ _ c.in_default.not-Bool c.in_ok-holds.ensures
 
 pub block-returns : goal.block-returns
-block-returns g t c = λ h.
+block-returns g t c =
     let old = c.args.state.now in
     let ended = c.statements-ended.new.state in
     let left : State = record { scope = c.truncate.new.self; calls = ended.calls; turns = ended.turns } in
-    block_runs _ _ old ended left _ _ _ c.truncate.ensures.items c.len-names.ensures old.scope.ok.0 refl refl (rw c.as_slice.ensures at c.statements-ended.ensures h)
+    block_runs _ _ old ended left _ _ _ c.truncate.ensures.items c.len-names.ensures old.scope.ok.0 refl refl (rw c.as_slice.ensures at c.statements-ended.ensures)

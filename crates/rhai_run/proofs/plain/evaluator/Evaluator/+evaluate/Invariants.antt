@@ -1,12 +1,10 @@
 use Rattle.std.proofs.Common.{drop}
-use Rattle.rhai_ast.specs.Reading.{exprs_of, stmts_of}
 use Rattle.rhai_run.specs.Evaluating.{setting}
-use Rattle.rhai_run.specs.Small.{AreSmall, AreSmallExprs}
 use Rattle.rhai_run.proofs.Evaluating.{ArgsAt, StmtsAt}
 use Rattle.rhai_run.proofs.plain.evaluator.Evaluator.+evaluate.Given as goal
 
 abbrev pub invariant-exprs-loop-expr : goal.invariant-exprs-loop-expr
-invariant-exprs-loop-expr g l = AreSmallExprs (exprs_of l.exprs) → ArgsAt (setting g.H.Host.answers g.H.Host.modules l.self) l.exprs (drop l.expr-index l.exprs) l.initial.state l.values l.state
+invariant-exprs-loop-expr g l = ArgsAt (setting g.H.Host.answers g.H.Host.modules l.self) l.exprs (drop l.expr-index l.exprs) l.initial.state l.values l.state
 
 abbrev pub invariant-statements-loop-statement : goal.invariant-statements-loop-statement
-invariant-statements-loop-statement g l = AreSmall (stmts_of l.statements) → StmtsAt (setting g.H.Host.answers g.H.Host.modules l.self) l.statements (drop l.statement-index l.statements) l.initial.state l.value l.state
+invariant-statements-loop-statement g l = StmtsAt (setting g.H.Host.answers g.H.Host.modules l.self) l.statements (drop l.statement-index l.statements) l.initial.state l.value l.state
