@@ -33,23 +33,24 @@ is_false : (b : Bool) → (b ≡ true → ⊥) → b ≡ false
 is_false true h = absurd (h refl)
 is_false false h = refl
 
-named_number : {E : Type 0} (ds : Text) (r : Result ℕ E) → 0 < length ds → all_ascii_digits ds ≡ true → ParsesUnsigned 64 10 ds r → result_ok r ≡ named ds
-named_number ds (Ok x) some digits h =
-    let k = parse_digits own 64 ds (Ok x) h digits in
-    let fits : nat_lt (number_after 0 ds) (2 ^ 64) ≡ true = lt-ltb _ _ k.0.1 in
-    ap Some k.1 ∙ sym (ap (λ b. cond b (Some (number_after 0 ds)) None) fits)
-named_number ds (Err x) some digits h =
-    let k = parse_digits own 64 ds (Err x) h digits in
-    let past : nat_lt (number_after 0 ds) (2 ^ 64) ≡ false = is_false _ (λ t. k (some, ltb-true _ _ t)) in
-    sym (ap (λ b. cond b (Some (number_after 0 ds)) None) past)
+module _ (E : Type 0) where
+  named_number : (ds : Text) (r : Result ℕ E) → 0 < length ds → all_ascii_digits ds ≡ true → ParsesUnsigned 64 10 ds r → result_ok r ≡ named ds
+  named_number ds (Ok x) some digits h =
+      let k = parse_digits own {E = E} 64 ds (Ok x) h digits in
+      let fits : nat_lt (number_after 0 ds) (2 ^ 64) ≡ true = lt-ltb _ _ k.0.1 in
+      ap Some k.1 ∙ sym (ap (λ b. cond b (Some (number_after 0 ds)) None) fits)
+  named_number ds (Err x) some digits h =
+      let k = parse_digits own {E = E} 64 ds (Err x) h digits in
+      let past : nat_lt (number_after 0 ds) (2 ^ 64) ≡ false = is_false _ (λ t. k (some, ltb-true _ _ t)) in
+      sym (ap (λ b. cond b (Some (number_after 0 ds)) None) past)
 
--- `parse`, of digits alone
-pub turns_parsed : {E : Type 0} (ds : Text) (r : Result ℕ E) → all_ascii_digits ds ≡ true → ParsesUnsigned 64 10 ds r → result_ok r ≡ turns_named ds
-turns_parsed [] (Ok x) digits h =
-    let k = parse_digits own 64 [] (Ok x) h digits in
-    let some : 0 < 0 = k.0.0 in
-    absurd (omega (arith, some))
-turns_parsed [] (Err x) digits h = refl
-turns_parsed (c ∷ cs) r digits h =
-    let n = number_after 0 (c ∷ cs) in
-    named_number (c ∷ cs) r (omega arith) digits h ∙ ap (λ b. cond (b && nat_lt n (2 ^ 64)) (Some n) None) (sym digits)
+  -- `parse`, of digits alone
+  pub turns_parsed : (ds : Text) (r : Result ℕ E) → all_ascii_digits ds ≡ true → ParsesUnsigned 64 10 ds r → result_ok r ≡ turns_named ds
+  turns_parsed [] (Ok x) digits h =
+      let k = parse_digits own {E = E} 64 [] (Ok x) h digits in
+      let some : 0 < 0 = k.0.0 in
+      absurd (omega (arith, some))
+  turns_parsed [] (Err x) digits h = refl
+  turns_parsed (c ∷ cs) r digits h =
+      let n = number_after 0 (c ∷ cs) in
+      named_number (c ∷ cs) r (omega arith) digits h ∙ ap (λ b. cond (b && nat_lt n (2 ^ 64)) (Some n) None) (sym digits)

@@ -8,7 +8,7 @@ use Rattle.rhai_ast.specs.Tree.{Script}
 use Rattle.rhai_optimizer.specs.declared.optimizer.level.OptimizationLevel.{OptimizationLevel}
 use Rattle.rhai_optimizer.specs.declared.optimizer.level.OptimizationLevel.TheVariants as level
 use Rattle.rhai_run.specs.EngineInfo.{nothing_set}
-use Rattle.rhai_run.specs.Small.{IsSmallScript}
+use Rattle.rhai_run.specs.Small.{small_script}
 use Rattle.rhai_optimizer.specs.Residue.{AreReduced}
 use Rattle.rhai_optimizer.specs.SameRuns.{SameRuns}
 use Rattle.rhai_opt.specs.declared.scripts.BuiltinScript.{BuiltinScript}
@@ -77,12 +77,10 @@ pub record Optimized (at : OptimizationLevel) (before after : Script) : Type 0 w
 
 -- what a run of a script reports: from an empty scope, with nothing set, and with the program's host
 abbrev pub reported : Script → ℕ → Report
-reported script turns = report_of AtStatements (run_script nothing_set program_host (core_script script) AtStatements [] turns)
+reported script turns = report_of AtStatements (run_script nothing_set program_host (small_script (core_script script)) AtStatements [] turns)
 
--- A text that answers a request. What a run prints is told where the optimised script calls operators alone, as the
--- built-in scripts do: of other scripts the evaluator's contract says nothing, and the optimiser's does not say that
--- no other call comes in.
+-- a text that answers a request
 abbrev pub Answers : Request → Text → Type 0
 Answers request.List text = text ≡ listing all_scripts
 Answers (request.Show script at) text = (after : Script) × Optimized at (built_in script) after × (text ≡ showing (built_in script) after)
-Answers (request.Run script at turns) text = (after : Script) × Optimized at (built_in script) after × (IsSmallScript after → text ≡ report_text (reported after turns))
+Answers (request.Run script at turns) text = (after : Script) × Optimized at (built_in script) after × (text ≡ report_text (reported after turns))

@@ -99,9 +99,7 @@ fn show(
     Ok(text)
 }
 
-/// The report of a run from an empty scope with the program's host. It is told where the optimised script calls
-/// operators alone, as the built-in scripts do: of other scripts the evaluator's contract says nothing, and the
-/// optimiser's does not say that no other call comes in.
+/// The report of a run from an empty scope with the program's host.
 fn run(
     alloc: Global,
     script: BuiltinScript,

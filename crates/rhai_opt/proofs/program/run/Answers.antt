@@ -6,5 +6,5 @@ pub returns : goal.returns
 returns c = (
   script_of c.in_ok-after.after,
   c.in_ok-after.ensures,
-  λ small. pushed_run _ _ _ _ _ _ _ c.new-engine.ensures c.new-scope.ensures c.new-text.ensures.bytes (c.in_ok-report.ensures small) c.in_ok-push_report.ensures,
+  pushed_run _ _ _ _ _ _ _ c.new-engine.ensures c.new-scope.ensures c.new-text.ensures.bytes c.in_ok-report.ensures c.in_ok-push_report.ensures,
 )
