@@ -1,5 +1,5 @@
 -- Words that make no request, and words that name a number of turns.
-use Rattle.std.proofs.Common.{rules, ◌≡◌, ℕ, Bool, ◌&&◌, ◌-◌, ◌<◌, ◌≤◌, ◌^◌, true, false, nat_lt, cond, List, [], ◌∷◌, Result, Ok, Err, Option, Some, None, length, refl, sym, ap, ◌∙◌, arith}
+use Rattle.std.proofs.Common.{rules, ◌≡◌, ℕ, Bool, ◌&&◌, ◌<◌, ◌≤◌, ◌^◌, true, false, nat_lt, cond, List, [], ◌∷◌, Result, Ok, Err, Option, Some, None, length, refl, sym, ap, ◌∙◌, arith}
 use Rattle.std.specs.Result.{result_ok}
 use Rattle.std.specs.Str.{all_ascii_digits}
 use Rattle.std.specs.Str.Parse.{ParsesUnsigned}
