@@ -1,10 +1,16 @@
-//! Shows built-in scripts before and after the optimiser.
+//! Shows built-in scripts before and after the optimiser, and runs them.
 #![tactic(auto)]
 
+#[cfg(test)]
+mod differential;
+mod host;
 mod notation;
 mod program;
+mod report;
 mod request;
 mod scripts;
+#[cfg(test)]
+mod trees;
 
 use std::process::ExitCode;
 use std::rt::Env;

@@ -205,4 +205,6 @@ pub fn push_script(script: &AST, text: &mut String) -> Result<(), OutOfMemory>
 }
 
 #[cfg(test)]
+pub mod reader;
+#[cfg(test)]
 mod tests;

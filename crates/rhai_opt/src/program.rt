@@ -2,15 +2,18 @@
 ghost use Rattle.std.specs.Prelude.{◌≡◌, ◌⊎◌, map, string_bytes, IsNone, IsSome, IfSome, IfOk, OnOk, MatchOption};
 ghost use Rattle.std.specs.Io.KnownBytes.{Appends};
 ghost use Rattle.rhai_opt.specs.Scripts.{all_scripts};
-ghost use Rattle.rhai_opt.specs.Words.{request_of, usage, listing, Answers};
+ghost use Rattle.rhai_opt.specs.Words.{request_of, usage, listing, built_in, Answers, Optimized};
 ghost use Rattle.rhai_base.specs.Value.{Text};
+ghost use Rattle.rhai_script.specs.Script.{script_of};
 
-use crate::notation;
+use crate::host::ProgramHost;
 use crate::request::Request;
 use crate::scripts::BuiltinScript;
-use rhai_base::OutOfMemory;
+use crate::{notation, report};
+use rhai_base::{OutOfMemory, Scope};
 use rhai_optimizer::{OptimizationLevel, optimize_into_ast};
-use rhai_run::EngineInfo;
+use rhai_run::{EngineInfo, plain_run};
+use rhai_script::AST;
 use std::alloc::Global;
 use std::io;
 
@@ -64,6 +67,7 @@ fn answer(alloc: Global, request: Request) -> Result<String, OutOfMemory>
     match request {
         Request::List => list(alloc),
         Request::Show(script, level) => show(alloc, script, level),
+        Request::Run(script, level, turns) => run(alloc, script, level, turns),
     }
 }
 
@@ -89,12 +93,43 @@ fn show(
     let mut text = String::new(alloc);
     text.push_str("before:\n")?;
     notation::push_lines(statements.as_slice(), &mut text)?;
-    let engine = EngineInfo::new(alloc);
-    let functions = Vec::new(alloc);
-    let script = optimize_into_ast(alloc, &engine, None, statements, functions, level)?;
+    let after = optimized(alloc, script, level)?;
     text.push_str("after:\n")?;
-    notation::push_script(&script, &mut text)?;
+    notation::push_script(&after, &mut text)?;
     Ok(text)
+}
+
+/// The report of a run from an empty scope with the program's host.
+fn run(
+    alloc: Global,
+    script: BuiltinScript,
+    level: OptimizationLevel,
+    turns: u64,
+) -> Result<String, OutOfMemory>
+    ensures { IfOk result (λ text. Answers (Request.Run script level turns) (string_bytes text)) }
+{
+    let engine = EngineInfo::new(alloc);
+    let after = optimized(alloc, script, level)?;
+    let scope = Scope::new(alloc);
+    let report = plain_run(alloc, &after, &engine, &ProgramHost, &scope, turns)?;
+    let mut text = String::new(alloc);
+    report::push_report(&report, &mut text)?;
+    Ok(text)
+}
+
+/// A built-in script, optimised under a record with nothing set.
+fn optimized(
+    alloc: Global,
+    script: BuiltinScript,
+    level: OptimizationLevel,
+) -> Result<AST, OutOfMemory>
+    ensures { IfOk result (λ after. Optimized level (built_in script) (script_of after)) }
+{
+    let engine = EngineInfo::new(alloc);
+    let statements = script.statements(alloc)?;
+    let functions = Vec::new(alloc);
+    let after = optimize_into_ast(alloc, &engine, None, statements, functions, level)?;
+    Ok(after)
 }
 
 #[cfg(test)]

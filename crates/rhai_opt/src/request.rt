@@ -1,6 +1,7 @@
 //! What the program can be asked.
 ghost use Rattle.std.specs.Prelude.{◌≡◌, map, string_bytes};
-ghost use Rattle.rhai_opt.specs.Words.{level_named, request_of};
+ghost use Rattle.std.specs.Str.{all_ascii_digits};
+ghost use Rattle.rhai_opt.specs.Words.{level_named, request_of, turns_named};
 
 use crate::scripts::BuiltinScript;
 use rhai_optimizer::OptimizationLevel;
@@ -12,6 +13,8 @@ pub enum Request {
     List,
     /// `show NAME LEVEL`: a script before and after the optimiser.
     Show(BuiltinScript, OptimizationLevel),
+    /// `run NAME LEVEL TURNS`: what a run of the optimised script reports, with so many turns.
+    Run(BuiltinScript, OptimizationLevel, u64),
 }
 
 impl Request {
@@ -24,6 +27,11 @@ impl Request {
             [command, name, level] if command.as_str() == "show" => {
                 let script = BuiltinScript::named(name.as_str())?;
                 Some(Request::Show(script, level_by_name(level.as_str())?))
+            }
+            [command, name, level, turns] if command.as_str() == "run" => {
+                let script = BuiltinScript::named(name.as_str())?;
+                let level = level_by_name(level.as_str())?;
+                Some(Request::Run(script, level, turns_by_name(turns.as_str())?))
             }
             _ => None,
         }
@@ -39,4 +47,25 @@ fn level_by_name(name: &str) -> Option<OptimizationLevel>
         "full" => Some(OptimizationLevel::Full),
         _ => None,
     }
+}
+
+/// The number of decimal digits alone; `parse` takes a sign too.
+fn turns_by_name(digits: &str) -> Option<u64>
+    ensures { result ≡ turns_named digits.now }
+{
+    if !are_digits(digits.as_bytes()) {
+        return None;
+    }
+    digits.parse::<u64>().ok()
+}
+
+fn are_digits(bytes: &[u8]) -> bool
+    ensures { result ≡ all_ascii_digits bytes.now }
+{
+    for byte in bytes {
+        if !byte.is_ascii_digit() {
+            return false;
+        }
+    }
+    true
 }

@@ -1,46 +1,26 @@
 //! Each kind of node in print.
 
 use super::{push_lines, push_script};
-use rhai_ast::{Expr, FlowControl, FnAccess, FnCallExpr, ScriptFuncDef, Stmt, StmtBlock};
-use rhai_base::{Boxed, Dynamic, ImmutableString, OutOfMemory, Position, Seq, Span, Token};
+use crate::trees;
+use crate::trees::{
+    NONE, block, braces, choice, held, integer, list, name, over_integers, statement,
+};
+use rhai_ast::{Expr, FnAccess, FnCallExpr, ScriptFuncDef, Stmt, StmtBlock};
+use rhai_base::{Boxed, Dynamic, OutOfMemory, Seq, Token};
 use rhai_script::{AST, FnLib};
 use std::alloc::Global;
 use std::rc::Rc;
 use std::test::Fail;
 
-const NONE: Position = Position::NONE;
-
-fn name(alloc: Global, text: &str) -> Result<ImmutableString, OutOfMemory> {
-    Ok(ImmutableString::new(alloc, text)?)
-}
-
-fn integer(value: i64) -> Expr {
-    Expr::IntegerConstant(value, NONE)
-}
-
-fn block(statements: Vec<Stmt>) -> StmtBlock {
-    StmtBlock {
-        block: Seq::from_vec(statements),
-        span: Span::NONE,
-    }
-}
-
-fn statement(alloc: Global, expr: Expr) -> Result<Stmt, OutOfMemory> {
-    Ok(Stmt::Expr(Boxed::new(alloc, expr)?))
-}
-
+/// What is called, with this flag.
 fn call(
     alloc: Global,
     text: &str,
     args: Vec<Expr>,
     captures: bool,
 ) -> Result<Boxed<FnCallExpr>, OutOfMemory> {
-    let call = FnCallExpr {
-        name: name(alloc, text)?,
-        args: Seq::from_vec(args),
-        capture_parent_scope: captures,
-        op_token: None,
-    };
+    let mut call = trees::call(alloc, text, None, args)?.into_inner();
+    call.capture_parent_scope = captures;
     Ok(Boxed::new(alloc, call)?)
 }
 
@@ -55,7 +35,7 @@ fn constants(alloc: Global) -> Result<Expr, OutOfMemory> {
     ]?;
     parts.push(Expr::CharConstant('é', NONE))?;
     parts.push(Expr::StringConstant(name(alloc, "a\"b")?, NONE))?;
-    parts.push(Expr::DynamicConstant(Boxed::new(alloc, hidden)?, NONE))?;
+    parts.push(held(alloc, hidden)?)?;
     parts.push(Expr::Array(Seq::new(alloc), NONE))?;
     Ok(Expr::Array(Seq::from_vec(parts), NONE))
 }
@@ -68,15 +48,8 @@ fn expressions_are_printed(rt: HostRuntime) -> Result<(), Fail> {
         call(alloc, "g", vec![in alloc; called, integer(2)]?, true)?,
         NONE,
     );
-    let sum = FnCallExpr {
-        name: name(alloc, "+")?,
-        args: Seq::from_vec(vec![in alloc; integer(1), integer(2)]?),
-        capture_parent_scope: false,
-        op_token: Some(Token::Plus),
-    };
-    let sum = Expr::FnCall(Boxed::new(alloc, sum)?, NONE);
-    let inner = block(vec![in alloc; statement(alloc, sum)?, Stmt::Noop(NONE)]?);
-    let braces = Expr::Stmt(Boxed::new(alloc, inner)?);
+    let sum = statement(alloc, over_integers(alloc, Token::Plus, 1, 2)?)?;
+    let braces = braces(alloc, vec![in alloc; sum, Stmt::Noop(NONE)]?)?;
     let mut statements = vec![in alloc; statement(alloc, constants(alloc)?)?]?;
     statements.push(statement(alloc, capturing)?)?;
     statements.push(statement(alloc, braces)?)?;
@@ -90,13 +63,15 @@ fn expressions_are_printed(rt: HostRuntime) -> Result<(), Fail> {
 #[test]
 fn statements_are_printed(rt: HostRuntime) -> Result<(), Fail> {
     let alloc = rt.alloc();
-    let choice = FlowControl {
-        expr: Expr::BoolConstant(false, NONE),
-        body: block(vec![in alloc; Stmt::Noop(NONE), statement(alloc, integer(1))?]?),
-        branch: block(Vec::new(alloc)),
-    };
-    let mut statements = vec![in alloc; Stmt::If(Boxed::new(alloc, choice)?, NONE)]?;
-    statements.push(Stmt::Block(Boxed::new(alloc, block(Vec::new(alloc)))?))?;
+    let body = vec![in alloc; Stmt::Noop(NONE), statement(alloc, integer(1))?]?;
+    let choice = choice(
+        alloc,
+        Expr::BoolConstant(false, NONE),
+        body,
+        Vec::new(alloc),
+    )?;
+    let mut statements = vec![in alloc; choice]?;
+    statements.push(block(alloc, Vec::new(alloc))?)?;
     let args = vec![in alloc; integer(3)]?;
     statements.push(Stmt::FnCall(call(alloc, "f", args, false)?, NONE))?;
     let mut text = String::new(alloc);
@@ -129,9 +104,9 @@ fn function(
 #[test]
 fn functions_are_printed_last(rt: HostRuntime) -> Result<(), Fail> {
     let alloc = rt.alloc();
-    let body = block(vec![in alloc; statement(alloc, integer(2))?]?);
+    let body = list(vec![in alloc; statement(alloc, integer(2))?]?);
     let free = function(alloc, None, body)?;
-    let method = function(alloc, Some("i64"), block(Vec::new(alloc)))?;
+    let method = function(alloc, Some("i64"), list(Vec::new(alloc)))?;
     let lib = FnLib::from_functions(alloc, vec![in alloc; free, method]?)?;
     let statements = vec![in alloc; Stmt::Noop(NONE)]?;
     let script = AST::new(statements, Rc::new(alloc, lib)?);

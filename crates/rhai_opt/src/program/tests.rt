@@ -40,10 +40,11 @@ impl io::Write for Stops {
     }
 }
 
-/// The words of a line.
+/// The words of a line; `''` is the empty one.
 fn words(alloc: Global, line: &str) -> Result<Vec<String>, AllocError> {
     let mut words = Vec::new(alloc);
     for word in line.split_whitespace() {
+        let word = if word == "''" { "" } else { word };
         words.push(String::from_str(alloc, word)?)?;
     }
     Ok(words)
@@ -99,6 +100,35 @@ fn requests_are_answered(rt: HostRuntime) -> Result<(), Fail> {
 }
 
 #[test]
+fn runs_are_reported(rt: HostRuntime) -> Result<(), Fail> {
+    for (line, wanted) in [
+        ("run first simple 0", "end: value 42\nturns left: 0\n"),
+        ("run first none 0", "end: value 42\nturns left: 0\n"),
+        ("run first full 10", "end: value 42\nturns left: 10\n"),
+        (
+            "run divide simple 0",
+            "end: thrown \"arithmetic\"\nturns left: 0\n",
+        ),
+        (
+            "run divide none 3",
+            "end: thrown \"arithmetic\"\nturns left: 3\n",
+        ),
+        ("run empty simple 7", "end: value ()\nturns left: 7\n"),
+        ("run empty none 007", "end: value ()\nturns left: 7\n"),
+        (
+            "run first simple 18446744073709551615",
+            "end: value 42\nturns left: 18446744073709551615\n",
+        ),
+    ] {
+        let run = Run::of(rt.alloc(), line)?;
+        assert_eq!(rt; run.status, 0, "at {line}");
+        assert_eq!(rt; run.out()?, wanted, "at {line}");
+        assert_eq!(rt; run.err()?, "", "at {line}");
+    }
+    Ok(())
+}
+
+#[test]
 fn full_acts_as_simple(rt: HostRuntime) -> Result<(), Fail> {
     for (full, simple) in [
         ("show first full", "show first simple"),
@@ -124,7 +154,16 @@ fn other_words_are_told_the_usage(rt: HostRuntime) -> Result<(), Fail> {
         "show nothing simple",
         "show first fast",
         "show first simple 1",
-        "run first simple 0",
+        "run",
+        "run first simple",
+        "run first simple 18446744073709551616",
+        "run first simple -1",
+        "run first simple +1",
+        "run first simple 1x",
+        "run first simple ''",
+        "run first simple 1 1",
+        "run first fast 0",
+        "run nothing simple 0",
         "usage",
     ] {
         let run = Run::of(rt.alloc(), line)?;
@@ -139,7 +178,13 @@ fn other_words_are_told_the_usage(rt: HostRuntime) -> Result<(), Fail> {
 #[test]
 fn a_failed_write_is_status_1(rt: HostRuntime) -> Result<(), Fail> {
     let alloc = rt.alloc();
-    for line in ["list", "show first simple", "show empty none"] {
+    for line in [
+        "list",
+        "show first simple",
+        "show empty none",
+        "run first simple 0",
+        "run divide none 12",
+    ] {
         let whole = Run::of(alloc, line)?.out;
         let words = words(alloc, line)?;
         for room in 0..=whole.len() {

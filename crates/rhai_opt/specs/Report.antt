@@ -1,0 +1,42 @@
+-- How a run's report is printed.
+use Rattle.std.specs.Prelude.{List, [], ◌∷◌, ◌++◌, Option, Some, None, codes, decimal, if◌then◌else◌}
+use Rattle.rhai_base.specs.Value.{Text, Value, inner}
+use Rattle.rhai_ast.specs.Act.{Entry, Call}
+use Rattle.rhai_ast.specs.Run.{End, WithValue, WithThrown, WithStuck, WithoutTurns, Report}
+use Rattle.rhai_run.specs.Report.{stuck_number, stuck_name}
+
+abbrev pub end_text : End → Text
+end_text (WithValue v) = codes "value " ++ inner v
+end_text (WithThrown v) = codes "thrown " ++ inner v
+end_text (WithStuck f) = codes "stuck " ++ decimal (stuck_number f) ++ codes " " ++ stuck_name f
+end_text WithoutTurns = codes "out of turns"
+
+abbrev pub variable_text : Entry → Text
+variable_text e = (if e.constant then codes "constant " else codes "variable ") ++ e.name ++ codes " = " ++ inner e.value ++ codes "\n"
+
+-- a name a line
+abbrev pub variables_text : List Entry → Text
+variables_text [] = []
+variables_text (e ∷ es) = variable_text e ++ variables_text es
+
+-- values with the text that goes before the first of them, and commas between them
+abbrev pub values_text : Text → List Value → Text
+values_text before [] = []
+values_text before (v ∷ vs) = before ++ inner v ++ values_text (codes ", ") vs
+
+abbrev pub called_on : Option Value → Text
+called_on None = []
+called_on (Some v) = inner v ++ codes "."
+
+abbrev pub call_text : Call → Text
+call_text c = codes "call " ++ called_on c.receiver ++ c.name ++ codes "(" ++ values_text [] c.arguments ++ codes ")\n"
+
+-- a call a line
+abbrev pub calls_text : List Call → Text
+calls_text [] = []
+calls_text (c ∷ cs) = call_text c ++ calls_text cs
+
+-- `this` is not printed: at top level it is never bound
+abbrev pub report_text : Report → Text
+report_text r =
+    codes "end: " ++ end_text r.ended ++ codes "\nturns left: " ++ decimal r.turns ++ codes "\n" ++ variables_text r.variables ++ calls_text r.calls
