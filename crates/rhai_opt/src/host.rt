@@ -115,6 +115,10 @@ fn appended(receiver: &Dynamic, item: &Dynamic) -> Result<HostAnswer, OutOfMemor
         Dynamic::Int(_) => Ok(unit_alone()),
         Dynamic::Char(_) => Ok(unit_alone()),
         Dynamic::Str(_) => Ok(unit_alone()),
+        Dynamic::Map(_) => Ok(unit_alone()),
+        Dynamic::FnPtr(_) => Ok(unit_alone()),
+        Dynamic::Range(_, _) => Ok(unit_alone()),
+        Dynamic::RangeInclusive(_, _) => Ok(unit_alone()),
     }
 }
 

@@ -290,6 +290,8 @@ fn token(symbol: &str, operands: usize) -> Option<Token> {
         ("<=", _) => Some(Token::LessThanEqualsTo),
         (">", _) => Some(Token::GreaterThan),
         (">=", _) => Some(Token::GreaterThanEqualsTo),
+        ("..", _) => Some(Token::ExclusiveRange),
+        ("..=", _) => Some(Token::InclusiveRange),
         _ => None,
     }
 }
