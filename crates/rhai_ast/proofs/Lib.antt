@@ -1,4 +1,5 @@
 pub mod ItemLists
+pub mod Pointers
 pub mod Relations
 pub mod Frame
 pub mod Rising

@@ -1,8 +1,8 @@
 -- Constants, their values, and the constant for a value.
-use Rattle.std.specs.Prelude.{Bool, true, false, List, [], ◌∷◌, Option, Some, None, is_some}
-use Rattle.rhai_base.specs.Value.{Value, UnitV, BoolV, IntV, CharV, TextV, ArrayV, values}
+use Rattle.std.specs.Prelude.{Bool, true, false, List, [], ◌∷◌, Option, Some, None, codes, is_some}
+use Rattle.rhai_base.specs.Value.{Text, Value, UnitV, BoolV, IntV, CharV, TextV, ArrayV, PointerV, no_values, values}
 use Rattle.rhai_ast.specs.ActForms.{truth}
-use Rattle.rhai_ast.specs.Tree.{Expr, DynamicConstant, BoolConstant, IntegerConstant, CharConstant, StringConstant, UnitConstant, ArrayOf, BlockExpr, FnCall, Exprs, no_exprs, expr}
+use Rattle.rhai_ast.specs.Tree.{NoToken, Expr, DynamicConstant, BoolConstant, IntegerConstant, CharConstant, StringConstant, UnitConstant, ArrayOf, BlockExpr, FnCall, Exprs, no_exprs, expr}
 
 abbrev pub array_value : Option (List Value) → Option Value
 array_value (Some vs) = Some (ArrayV (values vs))
@@ -47,11 +47,16 @@ abbrev pub is_literal_unit : Expr → Bool
 is_literal_unit UnitConstant = true
 is_literal_unit _ = false
 
--- the constant for a value
+-- the call that makes a pointer to the function of a name
+abbrev pub pointer_call : Text → Expr
+pointer_call f = FnCall (record { name = codes "Fn"; captures = false; token = NoToken }) (expr (StringConstant f) no_exprs)
+
+-- the expression for a value: a constant, but for a pointer without values, which is the call that makes it
 abbrev pub constant_for : Value → Expr
 constant_for UnitV = UnitConstant
 constant_for (BoolV b) = BoolConstant b
 constant_for (IntV n) = IntegerConstant n
 constant_for (CharV c) = CharConstant c
 constant_for (TextV t) = StringConstant t
+constant_for (PointerV f no_values) = pointer_call f
 constant_for v = DynamicConstant v

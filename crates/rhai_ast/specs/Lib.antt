@@ -1,10 +1,10 @@
 pub mod Tree
 pub mod Reading
+pub mod SwitchTable
 pub mod Engine
 pub mod Act
 pub mod ActForms
 pub mod Host
-pub mod Names
 pub mod Faults
 pub mod Core
 pub mod Desugar

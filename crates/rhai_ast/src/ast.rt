@@ -3,9 +3,11 @@
 pub mod expr;
 pub mod script_fn;
 pub mod stmt;
+pub mod switch;
 #[cfg(test)]
 mod tests;
 
-pub use expr::{Expr, FnCallExpr, are_constant};
+pub use expr::{BinaryExpr, Expr, FnCallExpr, are_constant};
 pub use script_fn::{FnAccess, ScriptFuncDef};
 pub use stmt::{FlowControl, Stmt, StmtBlock};
+pub use switch::{CaseBlocksList, Cases, SwitchCasesCollection};

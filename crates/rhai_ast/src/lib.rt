@@ -4,5 +4,6 @@
 pub mod ast;
 
 pub use ast::{
-    Expr, FlowControl, FnAccess, FnCallExpr, ScriptFuncDef, Stmt, StmtBlock, are_constant,
+    BinaryExpr, CaseBlocksList, Cases, Expr, FlowControl, FnAccess, FnCallExpr, ScriptFuncDef,
+    Stmt, StmtBlock, SwitchCasesCollection, are_constant,
 };

@@ -2,10 +2,11 @@
 use Rattle.std.proofs.Common.{◌≡◌, ℕ, ℤ, List, Bool, false, Option, Some, None, map, refl, sym, ap, ◌∙◌}
 use Rattle.rhai_base.specs.declared.types.dynamic.Dynamic.{Dynamic}
 use Rattle.rhai_base.specs.declared.types.dynamic.Dynamic.TheVariants as dynamic
-use Rattle.rhai_base.specs.Value.{Text, Value, Values, UnitV, BoolV, IntV, CharV, TextV, ArrayV, values}
+use Rattle.rhai_base.specs.declared.types.fn_ptr.FnPtr.{FnPtr}
+use Rattle.rhai_base.specs.Value.{Text, Value, Values, UnitV, BoolV, IntV, CharV, TextV, ArrayV, MapV, PointerV, RangeV, RangeInclusiveV, values, Fields, fields}
 use Rattle.rhai_base.specs.Operators.{Operator, Computed, on_ints}
 use Rattle.rhai_base.specs.Builtin.{row, equality_of, unjoined}
-use Rattle.rhai_base.specs.Reading.{value_of, value_of-Unit, value_of-Bool, value_of-Int, value_of-Char, value_of-Str, value_of-Array, kinds, DynamicCase, dynamic_cases, unit_case, bool_case, int_case, char_case, str_case, array_case}
+use Rattle.rhai_base.specs.Reading.{value_of, value_of-Unit, value_of-Bool, value_of-Int, value_of-Char, value_of-Str, value_of-Array, value_of-Map, value_of-FnPtr, value_of-Range, value_of-RangeInclusive, members_of, kinds, DynamicCase, dynamic_cases, unit_case, bool_case, int_case, char_case, str_case, array_case, map_case, fn_ptr_case, range_case, range_inclusive_case}
 
 abbrev Differs : Value → Dynamic → Type 0
 Differs v y = (op : Operator) → unjoined op v (value_of y) ≡ equality_of op false
@@ -33,6 +34,22 @@ str_differs _ _ h a op = simp kinds
 array_differs : (y : Dynamic) → DynamicCase y → ((vs : List Dynamic) → y ≡ dynamic.Array vs → ⊥) → (vs : Values) → Differs (ArrayV vs) y
 array_differs _ (array_case vs) h a op = absurd (h vs refl)
 array_differs _ _ h a op = simp kinds
+
+map_differs : (y : Dynamic) → DynamicCase y → ((es : List (Text × Dynamic)) → y ≡ dynamic.Map es → ⊥) → (fs : Fields) → Differs (MapV fs) y
+map_differs _ (map_case es) h a op = absurd (h es refl)
+map_differs _ _ h a op = simp kinds
+
+fn_ptr_differs : (y : Dynamic) → DynamicCase y → ((p : FnPtr) → y ≡ dynamic.FnPtr p → ⊥) → (f : Text) (vs : Values) → Differs (PointerV f vs) y
+fn_ptr_differs _ (fn_ptr_case p) h f vs op = absurd (h p refl)
+fn_ptr_differs _ _ h f vs op = simp kinds
+
+range_differs : (y : Dynamic) → DynamicCase y → ((a b : ℤ) → y ≡ dynamic.Range a b → ⊥) → (a b : ℤ) → Differs (RangeV a b) y
+range_differs _ (range_case a b) h c d op = absurd (h a b refl)
+range_differs _ _ h c d op = simp kinds
+
+range_inclusive_differs : (y : Dynamic) → DynamicCase y → ((a b : ℤ) → y ≡ dynamic.RangeInclusive a b → ⊥) → (a b : ℤ) → Differs (RangeInclusiveV a b) y
+range_inclusive_differs _ (range_inclusive_case a b) h c d op = absurd (h a b refl)
+range_inclusive_differs _ _ h c d op = simp kinds
 
 -- ---- the row, from what a test of both values found
 
@@ -69,3 +86,15 @@ str_row op x y t r e h = differing op x y (TextV t) r (ap value_of e ∙ value_o
 
 pub array_row : (op : Option Operator) (x y : Dynamic) (vs : List Dynamic) (r : Computed) → x ≡ dynamic.Array vs → ((vs' : List Dynamic) → y ≡ dynamic.Array vs' → ⊥) → Unequal op r → Row op x y r
 array_row op x y vs r e h = differing op x y (ArrayV (values (map value_of vs))) r (ap value_of e ∙ value_of-Array vs) (array_differs y (dynamic_cases y) h (values (map value_of vs)))
+
+pub map_row : (op : Option Operator) (x y : Dynamic) (es : List (Text × Dynamic)) (r : Computed) → x ≡ dynamic.Map es → ((es' : List (Text × Dynamic)) → y ≡ dynamic.Map es' → ⊥) → Unequal op r → Row op x y r
+map_row op x y es r e h = differing op x y (MapV (fields (members_of es))) r (ap value_of e ∙ value_of-Map es) (map_differs y (dynamic_cases y) h (fields (members_of es)))
+
+pub fn_ptr_row : (op : Option Operator) (x y : Dynamic) (p : FnPtr) (r : Computed) → x ≡ dynamic.FnPtr p → ((p' : FnPtr) → y ≡ dynamic.FnPtr p' → ⊥) → Unequal op r → Row op x y r
+fn_ptr_row op x y p r e h = differing op x y (PointerV p.name (values (map value_of p.curried))) r (ap value_of e ∙ value_of-FnPtr p) (fn_ptr_differs y (dynamic_cases y) h p.name (values (map value_of p.curried)))
+
+pub range_row : (op : Option Operator) (x y : Dynamic) (a b : ℤ) (r : Computed) → x ≡ dynamic.Range a b → ((a' b' : ℤ) → y ≡ dynamic.Range a' b' → ⊥) → Unequal op r → Row op x y r
+range_row op x y a b r e h = differing op x y (RangeV a b) r (ap value_of e ∙ value_of-Range a b) (range_differs y (dynamic_cases y) h a b)
+
+pub range_inclusive_row : (op : Option Operator) (x y : Dynamic) (a b : ℤ) (r : Computed) → x ≡ dynamic.RangeInclusive a b → ((a' b' : ℤ) → y ≡ dynamic.RangeInclusive a' b' → ⊥) → Unequal op r → Row op x y r
+range_inclusive_row op x y a b r e h = differing op x y (RangeInclusiveV a b) r (ap value_of e ∙ value_of-RangeInclusive a b) (range_inclusive_differs y (dynamic_cases y) h a b)

@@ -1,5 +1,5 @@
 -- Rows of the operators' table.
-use Rattle.std.proofs.Common.{◌≡◌, ◌≢◌, ℕ, ℤ, [], ◌∷◌, ◌++◌, Bool, true, false, not, ◌&&◌, ◌||◌, ◌==◌, nat_lt, nat_le, nat_cmp, refl, sym, ap, ◌∙◌, arith, if◌then◌else◌}
+use Rattle.std.proofs.Common.{◌≡◌, ◌≢◌, ℕ, ℤ, [], ◌∷◌, ◌++◌, Bool, true, false, not, ◌&&◌, ◌||◌, ◌==◌, Option, Some, None, nat_lt, nat_le, nat_cmp, refl, sym, ap, ◌∙◌, arith, if◌then◌else◌}
 use Rattle.std.specs.declared.cmp.Ordering.{Ordering}
 use Rattle.std.specs.declared.cmp.Ordering.TheVariants as order
 use Rattle.std.specs.Ordering.{is_eq, is_lt, is_le, is_gt, is_ge, ordering_then, ordering_reverse}
@@ -13,7 +13,8 @@ use Rattle.rhai_base.specs.declared.types.token.Token.TheVariants as token
 use Rattle.rhai_base.specs.Value.{Text, Value, UnitV, BoolV, IntV, CharV, TextV, same_text, type_name}
 use Rattle.rhai_base.specs.Operators as table
 use Rattle.rhai_base.specs.Operators.{Operator, Computed, NoEntry, is_bool, binary, on_texts, on_chars, text_lt, is_range}
-use Rattle.rhai_base.specs.Builtin.{row, binary_at, equality_of, compared, unjoined, is_text, joins}
+use Rattle.rhai_base.specs.Tokens.{makes_range}
+use Rattle.rhai_base.specs.Builtin.{plain_operator, row, binary_at, equality_of, compared, unjoined, is_text, joins}
 use Rattle.rhai_base.specs.Reading.{operator_of}
 
 -- ---- texts and characters in order
@@ -138,7 +139,36 @@ unjoined_is op v w r h = ap (λ d. if same_text (type_name v) (type_name w) then
 apart : (a b : Bool) → (a && b) ≡ false → a ≡ true → b ≡ true → ⊥
 apart a b e p q = grind arith
 
--- the rows of a token for values that it does not join
-pub unjoined_row : (op : Token) (v w : Value) → joins op v w ≡ false → row (λ o. unjoined o v w) (operator_of op) ≡ binary_at op v w
-unjoined_row token.Plus v w h = unjoined_is table.Plus v w refl (λ p q e. apart (is_text v) (is_text w) h p q)
-unjoined_row _ v w h = unjoined_is _ v w refl (λ p q e. absurd (cc))
+-- neither `+` nor an operator that makes a range
+abbrev is_other : Operator → Bool
+is_other table.Plus = false
+is_other op = not (is_range op)
+
+abbrev is_other_or_none : Option Operator → Bool
+is_other_or_none None = true
+is_other_or_none (Some op) = is_other op
+
+other_is_no_range : (op : Operator) → is_other op ≡ true → is_range op ≡ false
+other_is_no_range table.UpTo h = absurd (cc)
+other_is_no_range table.Through h = absurd (cc)
+other_is_no_range _ h = refl
+
+other_is_no_plus : (op : Operator) → is_other op ≡ true → op ≢ table.Plus
+other_is_no_plus op h e = let f : false ≡ true = ap is_other (sym e) ∙ h in absurd (cc)
+
+row_is : (o : Option Operator) (v w : Value) → is_other_or_none o ≡ true → row (λ op. unjoined op v w) o ≡ row (λ op. binary op v w) o
+row_is None v w h = refl
+row_is (Some op) v w h = unjoined_is op v w (other_is_no_range op h) (λ p q. other_is_no_plus op h)
+
+-- a token that makes no range
+pub no_range : (op : Token) → (op ≡ token.ExclusiveRange → ⊥) → (op ≡ token.InclusiveRange → ⊥) → makes_range op ≡ false
+no_range token.ExclusiveRange f g = absurd (f refl)
+no_range token.InclusiveRange f g = absurd (g refl)
+no_range _ f g = refl
+
+-- the rows of a token for values that it neither joins nor makes a range of
+pub unjoined_row : (op : Token) (v w : Value) → joins op v w ≡ false → makes_range op ≡ false → row (λ o. unjoined o v w) (plain_operator op) ≡ binary_at op v w
+unjoined_row token.Plus v w h r = unjoined_is table.Plus v w refl (λ p q e. apart (is_text v) (is_text w) h p q)
+unjoined_row token.ExclusiveRange v w h r = absurd (cc)
+unjoined_row token.InclusiveRange v w h r = absurd (cc)
+unjoined_row t v w h r = row_is (operator_of t) v w refl

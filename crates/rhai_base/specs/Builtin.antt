@@ -1,5 +1,5 @@
 -- The built-in operators' table, at the token of an operator and at what the functions answer.
-use Rattle.std.specs.Prelude.{Option, Some, None, Result, Ok, Err, ℤ, Bool, true, false, not, if◌then◌else◌, ◌&&◌}
+use Rattle.std.specs.Prelude.{Option, Some, None, Result, Ok, Err, ℤ, pos, Bool, true, false, not, if◌then◌else◌, ◌&&◌}
 use Rattle.std.specs.declared.cmp.Ordering.{Ordering}
 use Rattle.std.specs.Ordering.{nat_cmp, is_eq, is_lt, is_le, is_gt, is_ge}
 use Rattle.std.specs.Cmp.Lexicographic.{slice_cmp}
@@ -8,8 +8,8 @@ use Rattle.rhai_base.specs.declared.types.token.Token.{Token}
 use Rattle.rhai_base.specs.declared.types.token.Token.TheVariants as token
 use Rattle.rhai_base.specs.declared.error.Fault.{Fault}
 use Rattle.rhai_base.specs.declared.error.Fault.TheVariants.{Arithmetic}
-use Rattle.rhai_base.specs.Value.{Value, UnitV, BoolV, IntV, CharV, TextV, same_text, type_name}
-use Rattle.rhai_base.specs.Operators.{Operator, EqualTo, NotEqualTo, Less, LessOrEqual, Greater, GreaterOrEqual, Computed, NoEntry, Is, Overflows, is_bool, on_ints, on_bools, binary, unary}
+use Rattle.rhai_base.specs.Value.{Value, UnitV, BoolV, IntV, CharV, TextV, RangeV, RangeInclusiveV, same_text, type_name}
+use Rattle.rhai_base.specs.Operators.{Operator, EqualTo, NotEqualTo, Less, LessOrEqual, Greater, GreaterOrEqual, UpTo, Through, greatest, Computed, NoEntry, Is, Overflows, is_bool, on_ints, on_bools, binary, unary}
 use Rattle.rhai_base.specs.Reading.{value_of, operator_of}
 
 -- what an answer says of the table
@@ -64,6 +64,12 @@ abbrev pub joins : Token → Value → Value → Bool
 joins token.Plus v w = is_text v && is_text w
 joins _ v w = false
 
+-- the operator of a token, but for those that make ranges
+abbrev pub plain_operator : Token → Option Operator
+plain_operator token.ExclusiveRange = None
+plain_operator token.InclusiveRange = None
+plain_operator t = operator_of t
+
 -- all entries but the ranges and those that join texts and characters
 abbrev pub unjoined : Operator → Value → Value → Computed
 unjoined op (IntV a) (IntV b) = on_ints op a b
@@ -72,3 +78,31 @@ unjoined op (TextV a) (TextV b) = compared op (slice_cmp nat_cmp a b)
 unjoined op (CharV a) (CharV b) = compared op (nat_cmp a b)
 unjoined op UnitV UnitV = equality_of op true
 unjoined op v w = if same_text (type_name v) (type_name w) then NoEntry else equality_of op false
+
+-- ---- ranges
+
+-- the operator of ranges with their end, or without it
+abbrev pub range_operator : Bool → Operator
+range_operator true = Through
+range_operator false = UpTo
+
+abbrev pub range_value : Bool → ℤ → ℤ → Value
+range_value true a b = RangeInclusiveV a b
+range_value false a b = RangeV a b
+
+abbrev pub is_unit : Value → Bool
+is_unit UnitV = true
+is_unit _ = false
+
+-- an end of a range, where unit stands for one that is left out
+abbrev pub end_or : ℤ → Value → Option ℤ
+end_or missing UnitV = Some missing
+end_or missing (IntV n) = Some n
+end_or missing _ = None
+
+abbrev pub between : Bool → Option ℤ → Option ℤ → Computed
+between inclusive (Some a) (Some b) = Is (range_value inclusive a b)
+between inclusive _ _ = NoEntry
+
+abbrev pub range_between : Bool → Value → Value → Computed
+range_between inclusive v w = if is_unit v && is_unit w then NoEntry else between inclusive (end_or (pos 0) v) (end_or greatest w)

@@ -1,14 +1,49 @@
 -- How a token is written.
-use Rattle.std.specs.Prelude.{Option, Some, None, []}
+use Rattle.std.specs.Prelude.{codes}
 use Rattle.rhai_base.specs.declared.types.token.Token.{Token}
+use Rattle.rhai_base.specs.declared.types.token.Token.TheVariants as token
 use Rattle.rhai_base.specs.Value.{Text}
-use Rattle.rhai_base.specs.Operators.{Operator, symbol}
-use Rattle.rhai_base.specs.Reading.{operator_of}
 
-abbrev written : Option Operator → Text
-written (Some op) = symbol op
-written None = []
-
--- a token of an operator as the operator's symbol
+-- a unary operator is written as the binary one
 abbrev pub token_text : Token → Text
-token_text op = written (operator_of op)
+token_text token.Plus = codes "+"
+token_text token.UnaryPlus = codes "+"
+token_text token.Minus = codes "-"
+token_text token.UnaryMinus = codes "-"
+token_text token.Multiply = codes "*"
+token_text token.Divide = codes "/"
+token_text token.Modulo = codes "%"
+token_text token.PowerOf = codes "**"
+token_text token.LeftShift = codes "<<"
+token_text token.RightShift = codes ">>"
+token_text token.Ampersand = codes "&"
+token_text token.Pipe = codes "|"
+token_text token.XOr = codes "^"
+token_text token.EqualsTo = codes "=="
+token_text token.NotEqualsTo = codes "!="
+token_text token.LessThan = codes "<"
+token_text token.LessThanEqualsTo = codes "<="
+token_text token.GreaterThan = codes ">"
+token_text token.GreaterThanEqualsTo = codes ">="
+token_text token.ExclusiveRange = codes ".."
+token_text token.InclusiveRange = codes "..="
+token_text token.Bang = codes "!"
+token_text token.PlusAssign = codes "+="
+token_text token.MinusAssign = codes "-="
+token_text token.MultiplyAssign = codes "*="
+token_text token.DivideAssign = codes "/="
+token_text token.ModuloAssign = codes "%="
+token_text token.PowerOfAssign = codes "**="
+token_text token.LeftShiftAssign = codes "<<="
+token_text token.RightShiftAssign = codes ">>="
+token_text token.AndAssign = codes "&="
+token_text token.OrAssign = codes "|="
+token_text token.XOrAssign = codes "^="
+token_text token.Equals = codes "="
+token_text token.Period = codes "."
+token_text token.Elvis = codes "?."
+token_text token.LeftBracket = codes "["
+token_text token.QuestionBracket = codes "?["
+token_text token.LeftParen = codes "("
+token_text token.Unit = codes "()"
+token_text token.DoubleColon = codes "::"

@@ -1,3 +1,4 @@
+pub mod Plain
 pub mod Weights
 pub mod Flags
 pub mod Firing

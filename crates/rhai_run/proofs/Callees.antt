@@ -6,13 +6,17 @@ use Rattle.rhai_base.specs.declared.types.token.Token.{Token}
 use Rattle.rhai_base.specs.declared.types.token.Token.TheVariants as token
 use Rattle.rhai_base.specs.Operators.{Operator, Plus, Minus, Multiply, Divide, Modulo, Power, ShiftLeft, ShiftRight, BitAnd, BitOr, BitXor, EqualTo, NotEqualTo, Less, Greater, LessOrEqual, GreaterOrEqual, UpTo, Through, Not, Negative, Positive, Computed, NoEntry, computed, symbol}
 use Rattle.rhai_base.specs.Reading.{operator_of}
+use Rattle.rhai_base.specs.Symbols.{token_text}
 use Rattle.rhai_base.specs.Value.{Text, Value, same_text}
 use Rattle.rhai_ast.specs.declared.ast.expr.Expr.{Expr}
+use Rattle.rhai_ast.specs.Act.{World}
+use Rattle.rhai_ast.specs.ActForms.{ask_host}
+use Rattle.rhai_ast.specs.Calls.{of_table, operate}
 use Rattle.rhai_ast.specs.Core as core
 use Rattle.rhai_ast.specs.Desugar.{callee_by, call_of}
 use Rattle.rhai_ast.specs.Engine.{Engine, is_open}
 use Rattle.rhai_ast.specs.Faults.{has_token, is_barred}
-use Rattle.rhai_ast.specs.Names.{is_among, barred}
+use Rattle.rhai_base.specs.Names.{is_among, barred}
 use Rattle.rhai_ast.specs.Reading.{exprs_of}
 use Rattle.rhai_ast.specs.Tree.{Mark, NoToken, OfOperator, OfOther, Callee, count_exprs}
 use Rattle.rhai_run.specs.Operators.{operator_by, called_operator, built_in_of, built_in_at}
@@ -21,29 +25,6 @@ use Rattle.rhai_run.specs.Small.{small_expr, small_exprs}
 pub count_exprs_of : (xs : List Expr) → count_exprs (exprs_of xs) ≡ length xs
 count_exprs_of [] = refl
 count_exprs_of (x ∷ xs) = ap suc (count_exprs_of xs)
-
--- each token is an operator's
-pub known : (t : Token) → (op : Operator) × (operator_of t ≡ Some op)
-known token.Plus = (Plus, refl)
-known token.UnaryPlus = (Positive, refl)
-known token.Minus = (Minus, refl)
-known token.UnaryMinus = (Negative, refl)
-known token.Multiply = (Multiply, refl)
-known token.Divide = (Divide, refl)
-known token.Modulo = (Modulo, refl)
-known token.PowerOf = (Power, refl)
-known token.LeftShift = (ShiftLeft, refl)
-known token.RightShift = (ShiftRight, refl)
-known token.Ampersand = (BitAnd, refl)
-known token.Pipe = (BitOr, refl)
-known token.XOr = (BitXor, refl)
-known token.EqualsTo = (EqualTo, refl)
-known token.NotEqualsTo = (NotEqualTo, refl)
-known token.LessThan = (Less, refl)
-known token.LessThanEqualsTo = (LessOrEqual, refl)
-known token.GreaterThan = (Greater, refl)
-known token.GreaterThanEqualsTo = (GreaterOrEqual, refl)
-known token.Bang = (Not, refl)
 
 -- no operator's name is barred
 unbarred : (op : Operator) → is_among (symbol op) barred ≡ false
@@ -142,3 +123,24 @@ built_in-few e op vs h = few e vs (operator_of op) h
 
 pub built_in-many : (e : Engine) (op : Token) (vs : List Value) → 3 ≤ length vs → NoEntry ≡ built_in_at e op vs
 built_in-many e op vs h = many e vs (operator_of op) h
+
+-- ---- the host in place of an operator
+
+symbol_or : Text → Option Operator → Text
+symbol_or t (Some op) = symbol op
+symbol_or t None = t
+
+-- an operator's token is written as the operator
+written : (t : Token) → token_text t ≡ symbol_or (token_text t) (operator_of t)
+unfolding symbol_or
+written token.Plus = refl
+written _ = refl
+
+symbol_written : (t : Token) (op : Operator) → operator_of t ≡ Some op → token_text t ≡ symbol op
+unfolding symbol_or
+symbol_written t op h = written t ∙ ap (symbol_or (token_text t)) h
+
+-- an operator that is not built in at these values is the host's
+pub operates_by_host : (w : World) (t : Token) (op : Operator) (vs : List Value) → NoEntry ≡ built_in_at w.engine t vs → operator_of t ≡ Some op → operate w op vs ≡ ask_host (token_text t) vs
+operates_by_host w t op vs e h =
+    ap (of_table (symbol op) vs) (sym (e ∙ ap (built_in_of w.engine vs) h)) ∙ ap (λ f. ask_host f vs) (sym (symbol_written t op h))

@@ -24,10 +24,10 @@ use Rattle.rhai_run.specs.declared.plain.state.State.{State}
 use Rattle.rhai_run.specs.Entries.{variable_meant}
 use Rattle.rhai_run.specs.Evaluating.{Setting, env, Leads, Runs, RunsExpr, RunsExprs, RunsCall, RunsStmts, RunsBlock}
 use Rattle.rhai_run.specs.Host.{call_meant}
-use Rattle.rhai_run.specs.Operators.{called_operator}
+use Rattle.rhai_run.specs.Operators.{called_operator, StandsFor}
 use Rattle.rhai_run.specs.Small.{small_expr, small_exprs_of, small_stmts_of}
 use Rattle.rhai_run.specs.State.{store_of}
-use Rattle.rhai_run.proofs.Callees.{count_exprs_of, known, call_ill, call_operates}
+use Rattle.rhai_run.proofs.Callees.{count_exprs_of, call_ill, call_operates}
 use Rattle.rhai_run.proofs.Evaluating.{lead, args_run, args_stop, braces_run}
 use Rattle.rhai_run.proofs.Scopes.{restore_cut}
 use Rattle.rhai_run.proofs.Values.{truth-other}
@@ -40,10 +40,8 @@ module _ (here : Setting) where
   -- ---- calls
 
   -- the operator of a token that fits its call
-  pub operator_known : (c : FnCallExpr) (op : Token) → operator_of op ≡ called_operator (callee_of c) (length c.args) → (o : Operator) × (operator_of op ≡ Some o) × (Some o ≡ called_operator (callee_of c) (tree.count_exprs (exprs_of c.args)))
-  operator_known c op e =
-      let k = known op in
-      (k.0, k.1, sym k.1 ∙ e ∙ ap (called_operator (callee_of c)) (sym (count_exprs_of c.args)))
+  pub operator_known : (c : FnCallExpr) (op : Token) → StandsFor (Some op) (called_operator (callee_of c) (length c.args)) → (o : Operator) × (operator_of op ≡ Some o) × (Some o ≡ called_operator (callee_of c) (tree.count_exprs (exprs_of c.args)))
+  operator_known c op e = (e.0, e.1, e.2 ∙ ap (called_operator (callee_of c)) (sym (count_exprs_of c.args)))
 
   -- a call whose token fits no call of its operator
   pub call_stuck : (c : FnCallExpr) (s : State) → None ≡ called_operator (callee_of c) (length c.args) → Leads here (act here.world (small_expr (call_of (callee_of c) (tree.count_exprs (exprs_of c.args)) (core_exprs (exprs_of c.args))))) s (Halted (IsStuck WrongKind)) s
@@ -51,13 +49,13 @@ module _ (here : Setting) where
       let ill = call_ill (callee_of c) (tree.count_exprs (exprs_of c.args)) (core_exprs (exprs_of c.args)) (e ∙ ap (called_operator (callee_of c)) (sym (count_exprs_of c.args))) in
       subst (λ x. Leads here (act here.world x) s (Halted (IsStuck WrongKind)) s) (sym ill) (record { turns = omega arith; runs = λ d le. refl })
 
-  pub call_stops : (c : FnCallExpr) (op : Token) (s s1 : State) (x : Interrupt) → operator_of op ≡ called_operator (callee_of c) (length c.args) → RunsExprs here (exprs_of c.args) s (Err x) s1 → RunsCall here (callee_of c) (exprs_of c.args) s (Err x) s1
+  pub call_stops : (c : FnCallExpr) (op : Token) (s s1 : State) (x : Interrupt) → StandsFor (Some op) (called_operator (callee_of c) (length c.args)) → RunsExprs here (exprs_of c.args) s (Err x) s1 → RunsCall here (callee_of c) (exprs_of c.args) s (Err x) s1
   call_stops c op s s1 x e q =
       let o = operator_known c op e in
       subst (λ y. Runs here (act here.world y) s (Err x) s1) (sym (call_operates (callee_of c) (tree.count_exprs (exprs_of c.args)) o.0 (core_exprs (exprs_of c.args)) o.2))
       (args_stop here (small_exprs_of (exprs_of c.args)) (λ vs. called here.world (core.OnOperator o.0) vs) s s1 x q)
 
-  pub call_runs : (c : FnCallExpr) (op : Token) (s s1 s2 : State) (vs : List Dynamic) (r : Result Dynamic Interrupt) → operator_of op ≡ called_operator (callee_of c) (length c.args) → RunsExprs here (exprs_of c.args) s (Ok vs) s1 → ((o : Operator) → operator_of op ≡ Some o → Runs here (operate here.world o (map value_of vs)) s1 r s2) → RunsCall here (callee_of c) (exprs_of c.args) s r s2
+  pub call_runs : (c : FnCallExpr) (op : Token) (s s1 s2 : State) (vs : List Dynamic) (r : Result Dynamic Interrupt) → StandsFor (Some op) (called_operator (callee_of c) (length c.args)) → RunsExprs here (exprs_of c.args) s (Ok vs) s1 → ((o : Operator) → operator_of op ≡ Some o → Runs here (operate here.world o (map value_of vs)) s1 r s2) → RunsCall here (callee_of c) (exprs_of c.args) s r s2
   call_runs c op s s1 s2 vs r e q k =
       let o = operator_known c op e in
       subst (λ y. Runs here (act here.world y) s r s2) (sym (call_operates (callee_of c) (tree.count_exprs (exprs_of c.args)) o.0 (core_exprs (exprs_of c.args)) o.2))

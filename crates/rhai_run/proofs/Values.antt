@@ -2,7 +2,7 @@
 use Rattle.std.proofs.Common.{◌≡◌, Bool, false, None, refl, ap}
 use Rattle.rhai_base.specs.declared.types.dynamic.Dynamic.{Dynamic}
 use Rattle.rhai_base.specs.declared.types.dynamic.Dynamic.TheVariants as value
-use Rattle.rhai_base.specs.Reading.{value_of, value_of-Unit, value_of-Bool, value_of-Int, value_of-Char, value_of-Str, value_of-Array, DynamicCase, unit_case, bool_case, int_case, char_case, str_case, array_case, dynamic_cases}
+use Rattle.rhai_base.specs.Reading.{value_of, value_of-Unit, value_of-Bool, value_of-Int, value_of-Char, value_of-Str, value_of-Array, value_of-Map, value_of-FnPtr, value_of-Range, value_of-RangeInclusive, DynamicCase, unit_case, bool_case, int_case, char_case, str_case, array_case, map_case, fn_ptr_case, range_case, range_inclusive_case, dynamic_cases}
 use Rattle.rhai_ast.specs.ActForms.{truth}
 use Rattle.rhai_ast.specs.Faults.{is_unit}
 
@@ -13,6 +13,10 @@ not_unit (int_case n) h = ap is_unit (value_of-Int n)
 not_unit (char_case c) h = ap is_unit (value_of-Char c)
 not_unit (str_case t) h = ap is_unit (value_of-Str t)
 not_unit (array_case vs) h = ap is_unit (value_of-Array vs)
+not_unit (map_case es) h = ap is_unit (value_of-Map es)
+not_unit (fn_ptr_case p) h = ap is_unit (value_of-FnPtr p)
+not_unit (range_case a b) h = ap is_unit (value_of-Range a b)
+not_unit (range_inclusive_case a b) h = ap is_unit (value_of-RangeInclusive a b)
 
 pub is_unit-other : (v : Dynamic) → (v ≡ value.Unit → ⊥) → is_unit (value_of v) ≡ false
 is_unit-other v h = not_unit (dynamic_cases v) h
@@ -24,6 +28,10 @@ not_truth (int_case n) h = ap truth (value_of-Int n)
 not_truth (char_case c) h = ap truth (value_of-Char c)
 not_truth (str_case t) h = ap truth (value_of-Str t)
 not_truth (array_case vs) h = ap truth (value_of-Array vs)
+not_truth (map_case es) h = ap truth (value_of-Map es)
+not_truth (fn_ptr_case p) h = ap truth (value_of-FnPtr p)
+not_truth (range_case a b) h = ap truth (value_of-Range a b)
+not_truth (range_inclusive_case a b) h = ap truth (value_of-RangeInclusive a b)
 
 pub truth-other : (v : Dynamic) → ((b : Bool) → v ≡ value.Bool b → ⊥) → truth (value_of v) ≡ None
 truth-other v h = not_truth (dynamic_cases v) h

@@ -1,5 +1,6 @@
 -- The operator of a call, by its token.
-use Rattle.std.specs.Prelude.{ℕ, List, Option, Some, None, if◌then◌else◌}
+use Rattle.std.specs.Prelude.{◌≡◌, ℕ, List, Option, Some, None, if◌then◌else◌}
+use Rattle.std.specs.Option.{option_map}
 use Rattle.rhai_base.specs.declared.types.token.Token.{Token}
 use Rattle.rhai_base.specs.Value.{Value}
 use Rattle.rhai_base.specs.Operators.{Operator, Computed, NoEntry, arity}
@@ -8,12 +9,9 @@ use Rattle.rhai_ast.specs.Engine.{Engine, built_in}
 use Rattle.rhai_ast.specs.Faults.{has_token}
 use Rattle.rhai_ast.specs.Tree.{Mark, NoToken, OfOperator, OfOther, Callee}
 
-abbrev arity_of : Option Operator → ℕ
-arity_of (Some op) = arity op
-arity_of None = 2
-
-abbrev pub token_arity : Token → ℕ
-token_arity op = arity_of (operator_of op)
+-- how many operands a token's operator has, if it stands for one
+abbrev pub token_arity : Token → Option ℕ
+token_arity op = option_map arity (operator_of op)
 
 -- what a token's operator answers at values, where it is built in
 abbrev pub built_in_of : Engine → List Value → Option Operator → Computed
@@ -23,10 +21,6 @@ built_in_of e vs None = NoEntry
 abbrev pub built_in_at : Engine → Token → List Value → Computed
 built_in_at e op vs = built_in_of e vs (operator_of op)
 
-abbrev pub token_operator : Option Token → Option Operator
-token_operator (Some op) = operator_of op
-token_operator None = None
-
 abbrev pub operator_by : Callee → ℕ → Mark → Option Operator
 operator_by c n NoToken = None
 operator_by c n (OfOperator op) = if has_token c n (OfOperator op) then Some op else None
@@ -35,3 +29,8 @@ operator_by c n OfOther = None
 -- the operator that is called over as many operands as it has
 abbrev pub called_operator : Callee → ℕ → Option Operator
 called_operator c n = operator_by c n c.token
+
+-- the token stands for the operator; no token for none
+abbrev pub StandsFor : Option Token → Option Operator → Type 0
+StandsFor (Some op) o = (p : Operator) × (operator_of op ≡ Some p) × (Some p ≡ o)
+StandsFor None o = None ≡ o

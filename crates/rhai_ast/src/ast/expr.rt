@@ -1,14 +1,16 @@
 //! Expressions.
 
-#![tactic(auto, using(crate::specs::Reading::shapes, rhai_base::specs::Reading::kinds, crate::proofs::ItemLists::steps))]
+#![tactic(auto, using(crate::specs::Reading::shapes, rhai_base::specs::Reading::kinds, crate::proofs::ItemLists::steps, crate::proofs::Pointers::pointers))]
 
-ghost use Rattle.std.specs.Prelude.{◌≡◌, IfOk};
+ghost use Rattle.std.specs.Prelude.{◌≡◌, IfOk, map};
 ghost use Rattle.rhai_base.specs.Reading.{value_of};
+ghost use Rattle.rhai_base.specs.Value.{PointerV, values};
 ghost use Rattle.rhai_ast.specs.Reading.{expr_of, exprs_of};
 ghost use Rattle.rhai_ast.specs.Constants as constants;
+ghost use Rattle.rhai_ast.specs.Tree.{DynamicConstant};
 
 use crate::ast::StmtBlock;
-use rhai_base::{Boxed, Dynamic, INT, ImmutableString, OutOfMemory, Position, Seq, Token};
+use rhai_base::{Boxed, Dynamic, FnPtr, INT, ImmutableString, OutOfMemory, Position, Seq, Token};
 use std::alloc::Global;
 
 /// An expression.
@@ -49,8 +51,17 @@ pub struct FnCallExpr {
     pub op_token: Option<Token>,
 }
 
+/// Two expressions; in a `switch`, the condition of an arm and its answer.
+#[derive(Drop)]
+pub struct BinaryExpr {
+    /// The left side.
+    pub lhs: Expr,
+    /// The right side.
+    pub rhs: Expr,
+}
+
 impl Expr {
-    /// The constant for a value.
+    /// The constant for a value. A pointer without values of parameters is the call `Fn("name")`.
     pub fn from_dynamic(alloc: Global, value: Dynamic, pos: Position) -> Result<Expr, OutOfMemory>
         ensures { IfOk result (λ e. expr_of e ≡ constants.constant_for (value_of value)) }
     {
@@ -60,11 +71,24 @@ impl Expr {
             Dynamic::Int(n) => Ok(Expr::IntegerConstant(n, pos)),
             Dynamic::Char(c) => Ok(Expr::CharConstant(c, pos)),
             Dynamic::Str(text) => Ok(Expr::StringConstant(text, pos)),
-            Dynamic::Array(items) => {
-                let value = Boxed::new(alloc, Dynamic::Array(items))?;
-                Ok(Expr::DynamicConstant(value, pos))
+            Dynamic::FnPtr(pointer) => Expr::from_pointer(alloc, pointer, pos),
+            Dynamic::Array(items) => hold(alloc, Dynamic::Array(items), pos),
+            Dynamic::Map(members) => hold(alloc, Dynamic::Map(members), pos),
+            Dynamic::Range(from, to) => hold(alloc, Dynamic::Range(from, to), pos),
+            Dynamic::RangeInclusive(from, to) => {
+                hold(alloc, Dynamic::RangeInclusive(from, to), pos)
             }
         }
+    }
+
+    fn from_pointer(alloc: Global, pointer: FnPtr, pos: Position) -> Result<Expr, OutOfMemory>
+        ensures { IfOk result (λ e. expr_of e ≡ constants.constant_for (PointerV pointer.name (values (map value_of pointer.curried)))) }
+    {
+        if !pointer.curry().is_empty() {
+            return hold(alloc, Dynamic::FnPtr(pointer), pos);
+        }
+        let name = ImmutableString::new(alloc, pointer.fn_name())?;
+        pointer_call(alloc, name, pos)
     }
 
     /// Whether it is a constant: one of the constant kinds, or an array of constants.
@@ -83,6 +107,29 @@ impl Expr {
             Expr::Stmt(_) | Expr::FnCall(_, _) => false,
         }
     }
+}
+
+/// A value as a constant that no other constant stands for.
+fn hold(alloc: Global, value: Dynamic, pos: Position) -> Result<Expr, OutOfMemory>
+    ensures { IfOk result (λ e. expr_of e ≡ DynamicConstant (value_of value)) }
+{
+    let value = Boxed::new(alloc, value)?;
+    Ok(Expr::DynamicConstant(value, pos))
+}
+
+/// `Fn("name")`
+fn pointer_call(alloc: Global, name: ImmutableString, pos: Position) -> Result<Expr, OutOfMemory>
+    ensures { IfOk result (λ e. expr_of e ≡ constants.pointer_call name) }
+{
+    let mut args = Seq::new(alloc);
+    args.push(Expr::StringConstant(name, pos))?;
+    let call = FnCallExpr {
+        name: ImmutableString::new(alloc, "Fn")?,
+        args,
+        capture_parent_scope: false,
+        op_token: None,
+    };
+    Ok(Expr::FnCall(Boxed::new(alloc, call)?, pos))
 }
 
 /// Whether all are constants.

@@ -1,7 +1,7 @@
 //! What trees answer.
 
 use super::{Expr, FnCallExpr, Stmt, StmtBlock, are_constant};
-use rhai_base::{Boxed, Dynamic, ImmutableString, OutOfMemory, Position, Seq};
+use rhai_base::{Boxed, Dynamic, FnPtr, ImmutableString, OutOfMemory, Position, Seq};
 use std::alloc::Global;
 use std::test::Fail;
 
@@ -57,6 +57,15 @@ fn each_value_has_its_constant(rt: HostRuntime) -> Result<(), Fail> {
     let text = Expr::from_dynamic(alloc, text, pos)?;
     assert!(rt;
         matches!(&text, Expr::StringConstant(text, at) if text.as_str() == "a" && *at == pos)
+    );
+    let pointer = FnPtr::new(alloc, ImmutableString::new(alloc, "f")?).ok_or("f")?;
+    let pointer = Expr::from_dynamic(alloc, Dynamic::FnPtr(pointer), pos)?;
+    assert!(rt;
+        matches!(&pointer, Expr::FnCall(call, at) if call.get().name.as_str() == "Fn" && *at == pos)
+    );
+    let range = Expr::from_dynamic(alloc, Dynamic::Range(1, 2), pos)?;
+    assert!(rt;
+        matches!(&range, Expr::DynamicConstant(value, _) if *value.get() == Dynamic::Range(1, 2))
     );
     let items = vec![in alloc; Dynamic::Int(1)]?;
     let array = Expr::from_dynamic(alloc, Dynamic::Array(Seq::from_vec(items)), pos)?;

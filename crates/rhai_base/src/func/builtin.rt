@@ -3,10 +3,11 @@
 
 ghost use Rattle.std.specs.Prelude.{◌≡◌, ◌++◌, IfOk};
 ghost use Rattle.rhai_base.specs.Value as model;
-ghost use Rattle.rhai_base.specs.Reading.{value_of, operator_of};
+ghost use Rattle.rhai_base.specs.Reading.{value_of};
 ghost use Rattle.rhai_base.specs.Operators as table;
-ghost use Rattle.rhai_base.specs.Builtin.{computed_of, answered, row, binary_at, unary_at, compared, equality_of, number_or_fault, unjoined, is_text, joins};
+ghost use Rattle.rhai_base.specs.Builtin.{computed_of, answered, row, binary_at, unary_at, compared, equality_of, number_or_fault, plain_operator, unjoined, is_text, joins};
 
+use crate::func::ranges::range_of;
 use crate::{Dynamic, Fault, INT, ImmutableString, OutOfMemory, Token};
 use std::alloc::Global;
 use std::cmp::Ordering;
@@ -25,7 +26,11 @@ pub fn builtin_binary_op(
         let text = join(alloc, x, y)?;
         return Ok(Some(Ok(Dynamic::Str(text))));
     }
-    Ok(unjoined(op, x, y))
+    match op {
+        Token::ExclusiveRange => Ok(range_of(false, x, y)),
+        Token::InclusiveRange => Ok(range_of(true, x, y)),
+        _ => Ok(unjoined(op, x, y)),
+    }
 }
 
 /// What the table holds for an operator and one value; it is a part of rhai's engine.
@@ -48,6 +53,10 @@ fn negation(x: &Dynamic) -> Option<Dynamic>
         Dynamic::Char(_) => None,
         Dynamic::Str(_) => None,
         Dynamic::Array(_) => None,
+        Dynamic::Map(_) => None,
+        Dynamic::FnPtr(_) => None,
+        Dynamic::Range(_, _) => None,
+        Dynamic::RangeInclusive(_, _) => None,
     }
 }
 
@@ -61,9 +70,9 @@ fn join(alloc: Global, x: &Dynamic, y: &Dynamic) -> Result<ImmutableString, OutO
     Ok(ImmutableString::new(alloc, text.as_str())?)
 }
 
-/// All entries but those that join texts and characters.
+/// All entries but the ranges and those that join texts and characters.
 fn unjoined(op: &Token, x: &Dynamic, y: &Dynamic) -> Option<Result<Dynamic, Fault>>
-    ensures { computed_of result ≡ row (λ o. unjoined o (value_of x.now) (value_of y.now)) (operator_of op.now) }
+    ensures { computed_of result ≡ row (λ o. unjoined o (value_of x.now) (value_of y.now)) (plain_operator op.now) }
 {
     match (x, y) {
         (Dynamic::Int(x), Dynamic::Int(y)) => integers(op, *x, *y),
@@ -72,12 +81,16 @@ fn unjoined(op: &Token, x: &Dynamic, y: &Dynamic) -> Option<Result<Dynamic, Faul
         (Dynamic::Char(x), Dynamic::Char(y)) => comparison(op, x.cmp(y)),
         (Dynamic::Unit, Dynamic::Unit) => equality(op, true),
         (Dynamic::Array(_), Dynamic::Array(_)) => None,
+        (Dynamic::Map(_), Dynamic::Map(_)) => None,
+        (Dynamic::FnPtr(_), Dynamic::FnPtr(_)) => None,
+        (Dynamic::Range(_, _), Dynamic::Range(_, _)) => None,
+        (Dynamic::RangeInclusive(_, _), Dynamic::RangeInclusive(_, _)) => None,
         _ => equality(op, false),
     }
 }
 
 fn integers(op: &Token, x: INT, y: INT) -> Option<Result<Dynamic, Fault>>
-    ensures { computed_of result ≡ row (λ o. table.on_ints o x y) (operator_of op.now) }
+    ensures { computed_of result ≡ row (λ o. table.on_ints o x y) (plain_operator op.now) }
 {
     match op {
         Token::Plus => checked(x.checked_add(y)),
@@ -93,7 +106,7 @@ fn integers(op: &Token, x: INT, y: INT) -> Option<Result<Dynamic, Fault>>
 }
 
 fn bools(op: &Token, x: bool, y: bool) -> Option<Result<Dynamic, Fault>>
-    ensures { computed_of result ≡ row (λ o. table.on_bools o x y) (operator_of op.now) }
+    ensures { computed_of result ≡ row (λ o. table.on_bools o x y) (plain_operator op.now) }
 {
     match op {
         Token::Ampersand => truth(x & y),
@@ -105,7 +118,7 @@ fn bools(op: &Token, x: bool, y: bool) -> Option<Result<Dynamic, Fault>>
 
 /// What a comparison says of operands that stand in an order.
 fn comparison(op: &Token, order: Ordering) -> Option<Result<Dynamic, Fault>>
-    ensures { computed_of result ≡ row (λ o. compared o order) (operator_of op.now) }
+    ensures { computed_of result ≡ row (λ o. compared o order) (plain_operator op.now) }
 {
     match op {
         Token::LessThan => truth(order.is_lt()),
@@ -118,7 +131,7 @@ fn comparison(op: &Token, order: Ordering) -> Option<Result<Dynamic, Fault>>
 
 /// What `==` and `!=` say of operands that are equal or not.
 fn equality(op: &Token, is_equal: bool) -> Option<Result<Dynamic, Fault>>
-    ensures { computed_of result ≡ row (λ o. equality_of o is_equal) (operator_of op.now) }
+    ensures { computed_of result ≡ row (λ o. equality_of o is_equal) (plain_operator op.now) }
 {
     match op {
         Token::EqualsTo => truth(is_equal),
@@ -164,6 +177,10 @@ fn is_text(value: &Dynamic) -> bool
         Dynamic::Bool(_) => false,
         Dynamic::Int(_) => false,
         Dynamic::Array(_) => false,
+        Dynamic::Map(_) => false,
+        Dynamic::FnPtr(_) => false,
+        Dynamic::Range(_, _) => false,
+        Dynamic::RangeInclusive(_, _) => false,
     }
 }
 
@@ -247,6 +264,22 @@ mod tests {
     }
 
     #[test]
+    fn makes_ranges(rt: HostRuntime) -> Result<(), Fail> {
+        let (one, five, unit) = (Dynamic::Int(1), Dynamic::Int(5), Dynamic::Unit);
+        let rows = [
+            (&one, Token::ExclusiveRange, &five, Dynamic::Range(1, 5)),
+            (&one, Token::InclusiveRange, &five, Dynamic::RangeInclusive(1, 5)),
+            (&one, Token::ExclusiveRange, &unit, Dynamic::Range(1, INT::MAX)),
+            (&unit, Token::InclusiveRange, &five, Dynamic::RangeInclusive(0, 5)),
+        ];
+        for (x, op, y, want) in rows {
+            let got = builtin_binary_op(rt.alloc(), &op, x, y)?;
+            assert_eq!(rt; got, Some(Ok(want)), "{x:?} {op:?} {y:?}");
+        }
+        Ok(())
+    }
+
+    #[test]
     fn leaves_the_rest(rt: HostRuntime) -> Result<(), Fail> {
         let mut items = Seq::new(rt.alloc());
         items.push(Dynamic::Int(1))?;
@@ -256,6 +289,8 @@ mod tests {
             (&two, Token::PowerOf, &one),
             (&one, Token::LeftShift, &two),
             (&one, Token::Plus, &Dynamic::Unit),
+            (&Dynamic::Unit, Token::ExclusiveRange, &Dynamic::Unit),
+            (&one, Token::InclusiveRange, &array),
         ];
         for (x, op, y) in rows {
             let got = builtin_binary_op(rt.alloc(), &op, x, y)?;

@@ -2,20 +2,22 @@
 #![tactic(auto, using(crate::specs::Reading::kinds), unfolding(crate::specs::Value::text_of))]
 
 mod copy;
+mod hashable;
 #[cfg(test)]
 mod tests;
 mod text;
 
-ghost use Rattle.std.specs.Prelude.{◌≡◌, ◌++◌, IfOk, OnOk, OnErr};
+ghost use Rattle.std.specs.Prelude.{◌≡◌, ◌++◌, ◌↔◌, IsTrue, IfOk, OnOk, OnErr};
 
-use crate::{ImmutableString, OutOfMemory, Seq};
+use crate::{FnPtr, ImmutableString, OutOfMemory, Seq, StringMap};
 use std::alloc::{AllocError, Global};
 
 /// The integers of scripts.
 pub type INT = i64;
 
 /// A script's value.
-#[derive(Debug, Drop, PartialEq, Eq)]
+#[cycle(dynamic)]
+#[derive(Debug, Drop, PartialEq, Eq, Hash)]
 pub enum Dynamic {
     /// `()`
     Unit,
@@ -29,6 +31,14 @@ pub enum Dynamic {
     Str(ImmutableString),
     /// an array
     Array(Seq<Dynamic>),
+    /// a map from texts, in the order of the keys' bytes
+    Map(StringMap<Dynamic>),
+    /// a pointer to a function
+    FnPtr(FnPtr),
+    /// from the first integer to before the second
+    Range(INT, INT),
+    /// from the first integer to the second
+    RangeInclusive(INT, INT),
 }
 
 impl Clone for Dynamic {
@@ -36,6 +46,14 @@ impl Clone for Dynamic {
 
     fn clone(&self) -> Result<Dynamic, AllocError> {
         copy::copy(self)
+    }
+}
+
+impl Clone for FnPtr {
+    ghost is_clone = { λ p q. q ≡ p };
+
+    fn clone(&self) -> Result<FnPtr, AllocError> {
+        copy::copy_pointer(self)
     }
 }
 
@@ -55,7 +73,26 @@ impl Dynamic {
             Dynamic::Char(_) => "char",
             Dynamic::Str(_) => "string",
             Dynamic::Array(_) => "array",
+            Dynamic::Map(_) => "map",
+            Dynamic::FnPtr(_) => "Fn",
+            Dynamic::Range(_, _) => "range",
+            Dynamic::RangeInclusive(_, _) => "range=",
         }
+    }
+
+    /// Whether the values are equal: `==`, with a contract that says when.
+    pub fn is_equal(&self, other: &Dynamic) -> bool
+        ensures exact { IsTrue result ↔ (self.now ≡ other.now) }
+        ensures by_value { IsTrue result ↔ (value_of self.now ≡ value_of other.now) }
+    {
+        self == other
+    }
+
+    /// Whether it holds no pointer to a function at any depth, so that it can be a key of a `switch`.
+    pub fn is_hashable(&self) -> bool
+        ensures { result ≡ model.is_hashable (value_of self.now) }
+    {
+        hashable::is_hashable(self)
     }
 
     /// Appends the value as it is written inside an array: texts and characters in quotes, with nothing

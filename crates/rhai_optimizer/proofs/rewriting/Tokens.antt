@@ -11,6 +11,7 @@ use Rattle.rhai_base.specs.Builtin.{computed_of, answered, row, binary_at, unary
 use Rattle.rhai_base.specs.Operators.{Operator, Computed, NoEntry, computed, unary, binary}
 use Rattle.rhai_base.specs.Reading.{value_of, operator_of}
 use Rattle.rhai_base.specs.Symbols.{token_text}
+use Rattle.rhai_base.specs.Tokens.{makes_range}
 use Rattle.rhai_base.specs.Value.{Value, type_name}
 use Rattle.rhai_ast.specs.Engine.{Engine, has_override}
 use Rattle.rhai_ast.specs.Constants.{value_and}
@@ -20,7 +21,11 @@ use Rattle.rhai_optimizer.specs.Folding.{computed_value, folded_values, operand,
 
 -- the table goes before the host
 abbrev pub opens : Engine → Token → List Value → Bool
-opens engine t vs = engine.fast_operators || not (has_override engine.overrides (token_text t) (map type_name vs))
+opens engine t vs = makes_range t || engine.fast_operators || not (has_override engine.overrides (token_text t) (map type_name vs))
+
+no_entry : (b : Bool) → None ≡ computed_value (if b then NoEntry else NoEntry)
+no_entry true = refl
+no_entry false = refl
 
 folded-token : (engine : Engine) (t : Token) (vs : List Value) → folded_values engine (mark_of (Some t)) (Some vs) ≡ computed_value (if opens engine t vs then row (λ o. computed o vs) (operator_of t) else NoEntry)
 folded-token engine token.Plus vs = refl
@@ -42,7 +47,10 @@ folded-token engine token.LessThan vs = refl
 folded-token engine token.LessThanEqualsTo vs = refl
 folded-token engine token.GreaterThan vs = refl
 folded-token engine token.GreaterThanEqualsTo vs = refl
+folded-token engine token.ExclusiveRange vs = refl
+folded-token engine token.InclusiveRange vs = refl
 folded-token engine token.Bang vs = refl
+folded-token engine t vs = no_entry (opens engine t vs)
 
 folded-open : (engine : Engine) (t : Token) (vs : List Value) → true ≡ opens engine t vs → folded_values engine (mark_of (Some t)) (Some vs) ≡ computed_value (row (λ o. computed o vs) (operator_of t))
 folded-open engine t vs h = folded-token engine t vs ∙ ap (λ b. computed_value (if b then row (λ o. computed o vs) (operator_of t) else NoEntry)) (sym h)

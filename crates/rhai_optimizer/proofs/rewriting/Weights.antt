@@ -8,6 +8,7 @@ use Rattle.rhai_ast.specs.Tree.{Mark, NoToken, OfOperator, OfOther, Callee, Expr
 use Rattle.rhai_optimizer.specs.Folding.{computed_value, folded_values, folded}
 use Rattle.rhai_optimizer.specs.Rewriting as rewriting
 use Rattle.rhai_optimizer.specs.Rewriting.{Context, block_or_noop, chosen, condition_alone, spliced, ExprTo, same_expr, then_expr, in_array, in_braces, in_call, array_of_constants, braces_empty, braces_of_expression, operator_folds, ExprsTo, exprs_none, exprs_more, StmtTo, same_stmt, then_stmt, in_if, in_block, in_expression, in_call_statement, if_without_blocks, if_decided, block_empty, block_of_statement, statement_of_braces, statement_of_call, call_statement_folds, EachTo, each_none, each_last, each_more, StmtsTo, same_stmts, then_stmts, in_each, block_gives_way}
+use Rattle.rhai_optimizer.proofs.rewriting.Plain.{is_plain_value, folded_plain}
 use Rattle.rhai_optimizer.specs.Weight.{expr_weight, exprs_weight, stmt_weight, weight}
 
 -- one where the flag was set in between
@@ -35,17 +36,18 @@ gap_same : (d : Bool) → gap d d ≡ 0
 gap_same false = refl
 gap_same true = refl
 
-constant_light : (v : Value) → expr_weight (constant_for v) ≤ 2
-constant_light UnitV = omega arith
-constant_light (BoolV b) = omega arith
-constant_light (IntV n) = omega arith
-constant_light (CharV c) = omega arith
-constant_light (TextV t) = omega arith
-constant_light (ArrayV vs) = omega arith
-constant_light (MapV fs) = omega arith
-constant_light (PointerV f vs) = omega arith
-constant_light (RangeV a b) = omega arith
-constant_light (RangeInclusiveV a b) = omega arith
+-- a pointer may be the call that makes it; an operator answers none
+constant_light : (v : Value) → is_plain_value v ≡ true → expr_weight (constant_for v) ≤ 2
+constant_light UnitV p = omega arith
+constant_light (BoolV b) p = omega arith
+constant_light (IntV n) p = omega arith
+constant_light (CharV c) p = omega arith
+constant_light (TextV t) p = omega arith
+constant_light (ArrayV vs) p = omega arith
+constant_light (MapV fs) p = omega arith
+constant_light (PointerV f vs) p = absurd cc
+constant_light (RangeV a b) p = omega arith
+constant_light (RangeInclusiveV a b) p = omega arith
 
 expr_heavy : (e : Expr) → 1 ≤ expr_weight e
 expr_heavy (DynamicConstant v) = omega arith
@@ -108,7 +110,7 @@ mutual
   expr_falls (array_of_constants {d = d} h) = omega (arith, gap_most d true)
   expr_falls (braces_empty {d = d}) = omega (arith, gap_most d true)
   expr_falls (braces_of_expression {d = d}) = omega (arith, gap_most d true)
-  expr_falls (operator_folds {d = d} {v = v} h) = omega (arith, gap_most d true, constant_light v)
+  expr_falls {k = k} (operator_folds {d = d} {c = c} {es = es} {v = v} h) = omega (arith, gap_most d true, constant_light v (folded_plain k.engine c es v h))
 
   pub exprs_fall : {k : Context} {d d' : Bool} {es es' : Exprs} → ExprsTo k d d' es es' → exprs_weight es' + gap d d' ≤ exprs_weight es
   exprs_fall (exprs_none {d = d}) = omega (arith, gap_same d)
@@ -127,7 +129,7 @@ mutual
   stmt_falls (block_of_statement {d = d} h) = omega (arith, gap_most d true)
   stmt_falls (statement_of_braces {d = d} {ss = ss}) = omega (arith, gap_most d true, block_light ss)
   stmt_falls (statement_of_call {d = d}) = omega (arith, gap_most d true)
-  stmt_falls {k = k} (call_statement_folds {d = d} {c = c} {es = es} {v = v} h) = omega (arith, gap_most d true, constant_light v, folded_heavy k.engine c es v h)
+  stmt_falls {k = k} (call_statement_folds {d = d} {c = c} {es = es} {v = v} h) = omega (arith, gap_most d true, constant_light v (folded_plain k.engine c es v h), folded_heavy k.engine c es v h)
 
   each_falls : {k : Context} {m : rewriting.Mark} {d d' : Bool} {ss ss' : Stmts} → EachTo k m d d' ss ss' → weight ss' + gap d d' ≤ weight ss
   each_falls (each_none {d = d}) = omega (arith, gap_same d)

@@ -15,6 +15,7 @@ use Rattle.rhai_ast.proofs.Frame.{frame}
 use Rattle.rhai_optimizer.specs.Folding.{folded}
 use Rattle.rhai_optimizer.specs.Known.{Known}
 use Rattle.rhai_optimizer.specs.Rewriting.{Mark, wanted, block_or_noop, chosen, condition_alone, spliced}
+use Rattle.rhai_optimizer.proofs.rewriting.Plain.{folded_plain}
 use Rattle.rhai_optimizer.proofs.soundness.Close.{Tame}
 use Rattle.rhai_optimizer.proofs.soundness.Sound.{OrStuck, equal, is_stuck, Sound, SoundAll, s_trans, s_all_trans, s_equal, s_all_equal, s_all_refl, s_or_stuck, s_refl}
 use Rattle.rhai_optimizer.proofs.soundness.Forms.{s_bind, s_line}
@@ -68,7 +69,7 @@ module _ (w : World) (F : ℕ → Env) (tame : Tame F) (ks : List Known) where
 
   pub operator_folds : (c : tree.Callee) (es : tree.Exprs) (v : Value) → folded w.engine c es ≡ Some v → Sound w F tame ks (act w (core_expr (tree.FnCall c es))) (act w (core_expr (constant_for v)))
   operator_folds c es v h =
-      subst (λ x. Sound w F tame ks (act w (core_expr (tree.FnCall c es))) (act w x)) (sym (constant_means v))
+      subst (λ x. Sound w F tame ks (act w (core_expr (tree.FnCall c es))) (act w x)) (sym (constant_means v (folded_plain w.engine c es v h)))
       (s_or_stuck w F tame ks (act w (core_expr (tree.FnCall c es))) (give v) (λ env s t adds ag. or_stuck _ _ s t (call_given w env (is_callable c (tree.count_exprs es)) c c.token es v s t h) here))
 
   -- ---- statements

@@ -14,6 +14,7 @@ use Rattle.rhai_ast.specs.Meaning.{act, with_args}
 use Rattle.rhai_ast.specs.Relations.{Begins, calls_of}
 use Rattle.rhai_ast.specs.Tree as tree
 use Rattle.rhai_optimizer.specs.Folding.{computed_value, folded_values}
+use Rattle.rhai_optimizer.proofs.rewriting.Plain.{is_plain_value}
 use Rattle.rhai_optimizer.proofs.soundness.Sound.{OrStuck, equal, is_stuck}
 
 -- r is r', or stuck at once
@@ -38,18 +39,18 @@ some_same : (v w : Value) → Some v ≡ Some w → v ≡ w
 unfolding some_value
 some_same v w h = ap (some_value v) h
 
--- the constant for a value has that value
-pub constant_means : (v : Value) → core_expr (constant_for v) ≡ Constant v
-constant_means UnitV = refl
-constant_means (BoolV b) = refl
-constant_means (IntV n) = refl
-constant_means (CharV c) = refl
-constant_means (TextV t) = refl
-constant_means (ArrayV vs) = refl
-constant_means (MapV fs) = refl
-constant_means (PointerV f vs) = refl
-constant_means (RangeV a b) = refl
-constant_means (RangeInclusiveV a b) = refl
+-- the constant for a value has that value; a pointer may be the call that makes it
+pub constant_means : (v : Value) → is_plain_value v ≡ true → core_expr (constant_for v) ≡ Constant v
+constant_means UnitV p = refl
+constant_means (BoolV b) p = refl
+constant_means (IntV n) p = refl
+constant_means (CharV c) p = refl
+constant_means (TextV t) p = refl
+constant_means (ArrayV vs) p = refl
+constant_means (MapV fs) p = refl
+constant_means (PointerV f vs) p = absurd cc
+constant_means (RangeV a b) p = refl
+constant_means (RangeInclusiveV a b) p = refl
 
 module _ (w : World) (env : Env) where
   -- where there is a value, the result gives it

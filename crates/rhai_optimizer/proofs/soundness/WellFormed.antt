@@ -1,6 +1,6 @@
 -- A well-formed tree stays well-formed.
 use Rattle.std.proofs.Common.{◌≡◌, Bool, true, false, refl, subst}
-use Rattle.rhai_base.specs.Value.{Value, UnitV, BoolV, IntV, CharV, TextV, ArrayV, MapV, PointerV, RangeV, RangeInclusiveV}
+use Rattle.rhai_base.specs.Value.{Value, UnitV, BoolV, IntV, CharV, TextV, ArrayV, MapV, PointerV, RangeV, RangeInclusiveV, no_values, item}
 use Rattle.rhai_ast.specs.Constants.{constant_for}
 use Rattle.rhai_ast.specs.Faults.{has_token, IsWellFormedExpr, AreWellFormedExprs, IsWellFormed, AreWellFormed}
 use Rattle.rhai_ast.specs.Tree.{Callee, Expr, Exprs, count_exprs, Stmt, Block, Stmts, no_stmts, stmt, joined}
@@ -15,7 +15,8 @@ constant_well (CharV c) = tt
 constant_well (TextV t) = tt
 constant_well (ArrayV vs) = refl
 constant_well (MapV fs) = refl
-constant_well (PointerV f vs) = refl
+constant_well (PointerV f no_values) = (refl, (tt, tt))
+constant_well (PointerV f (item v vs)) = refl
 constant_well (RangeV a b) = refl
 constant_well (RangeInclusiveV a b) = refl
 

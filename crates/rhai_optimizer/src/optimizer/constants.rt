@@ -34,8 +34,15 @@ fn truth(value: &Dynamic) -> Option<bool>
 {
     match value {
         Dynamic::Bool(b) => Some(*b),
-        Dynamic::Unit | Dynamic::Int(_) | Dynamic::Char(_) | Dynamic::Str(_) | Dynamic::Array(_) =>
-            None,
+        Dynamic::Unit
+        | Dynamic::Int(_)
+        | Dynamic::Char(_)
+        | Dynamic::Str(_)
+        | Dynamic::Array(_)
+        | Dynamic::Map(_)
+        | Dynamic::FnPtr(_)
+        | Dynamic::Range(_, _)
+        | Dynamic::RangeInclusive(_, _) => None,
     }
 }
 

@@ -7,6 +7,7 @@ ghost use Rattle.std.specs.Map.Iter.{deref};
 ghost use Rattle.std.specs.Option.{option_map};
 ghost use Rattle.rhai_base.specs.Reading.{value_of};
 ghost use Rattle.rhai_base.specs.Symbols.{token_text};
+ghost use Rattle.rhai_base.specs.Tokens.{makes_range};
 ghost use Rattle.rhai_ast.specs.Engine.{has_override};
 ghost use Rattle.rhai_ast.specs.Reading.{callee_of, expr_of, exprs_of, mark_of};
 ghost use Rattle.rhai_ast.specs.Tree.{expr, no_exprs};
@@ -34,11 +35,14 @@ fn operand(expr: &Expr) -> Result<Option<Cow<'_, Dynamic>>, OutOfMemory>
     }
 }
 
-/// Whether the table of operators goes before the host at operands of these types.
+/// Whether the table of operators goes before the host at operands of these types. Ranges cannot be
+/// overridden.
 fn is_open(info: &EngineInfo, op: Token, types: &[&str]) -> bool
-    ensures { result ≡ ((engine_of info.now).fast_operators || not (has_override (engine_of info.now).overrides (token_text op) (map deref types.now))) }
+    ensures { result ≡ (makes_range op || (engine_of info.now).fast_operators || not (has_override (engine_of info.now).overrides (token_text op) (map deref types.now))) }
 {
-    info.fast_operators() || !info.is_overridden(op.literal_syntax(), types)
+    matches!(op, Token::ExclusiveRange | Token::InclusiveRange)
+        || info.fast_operators()
+        || !info.is_overridden(op.literal_syntax(), types)
 }
 
 /// The value of an operator's answer. A fault is left to the run.
@@ -113,8 +117,11 @@ fn folded_two(
 ) -> Result<Option<Dynamic>, OutOfMemory>
     ensures { IfOk result (λ v. option_map value_of v ≡ spec.folded_values (engine_of info.now) (mark_of (Some op)) (spec.operands (expr (expr_of x.now) (expr (expr_of y.now) no_exprs)))) }
 {
-    match (operand(x)?, operand(y)?) {
-        (Some(x), Some(y)) => folded_binary(alloc, info, op, &x, &y),
-        _ => Ok(None),
-    }
+    let Some(x) = operand(x)? else {
+        return Ok(None);
+    };
+    let Some(y) = operand(y)? else {
+        return Ok(None);
+    };
+    folded_binary(alloc, info, op, &x, &y)
 }

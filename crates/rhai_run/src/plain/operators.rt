@@ -7,6 +7,7 @@ ghost use Rattle.std.specs.Map.Iter.{deref};
 ghost use Rattle.rhai_base.specs.Builtin.{computed_of};
 ghost use Rattle.rhai_base.specs.Reading.{value_of};
 ghost use Rattle.rhai_base.specs.Symbols.{token_text};
+ghost use Rattle.rhai_base.specs.Tokens.{makes_range};
 ghost use Rattle.rhai_base.specs.Value.{TextV};
 ghost use Rattle.rhai_ast.specs.Engine.{has_override};
 ghost use Rattle.rhai_ast.specs.Faults.{has_token};
@@ -23,7 +24,7 @@ use std::alloc::{AllocError, Global};
 
 /// The operator of a call that is one over its operands.
 pub fn operator_called(call: &FnCallExpr) -> Option<Token>
-    ensures { spec.token_operator result ≡ spec.called_operator (callee_of call.now) (length call.now.args) }
+    ensures { spec.StandsFor result (spec.called_operator (callee_of call.now) (length call.now.args)) }
 {
     let op = call.op_token?;
     if is_call_of(call, op) { Some(op) } else { None }
@@ -33,17 +34,36 @@ fn is_call_of(call: &FnCallExpr, op: Token) -> bool
     ensures { result ≡ has_token (callee_of call.now) (length call.now.args) (mark_of (Some op)) }
 {
     call.name.as_str() == op.literal_syntax()
-        && call.args.len() == operands(op)
+        && operands(op) == Some(call.args.len())
         && !call.capture_parent_scope
 }
 
-/// How many operands an operator has.
-fn operands(op: Token) -> usize
+/// How many operands the token's operator has; none for a token that is no operator.
+fn operands(op: Token) -> Option<usize>
     ensures { result ≡ spec.token_arity op }
 {
     match op {
-        Token::UnaryPlus | Token::UnaryMinus | Token::Bang => 1,
-        _ => 2,
+        Token::UnaryPlus | Token::UnaryMinus | Token::Bang => Some(1),
+        Token::Plus
+        | Token::Minus
+        | Token::Multiply
+        | Token::Divide
+        | Token::Modulo
+        | Token::PowerOf
+        | Token::LeftShift
+        | Token::RightShift
+        | Token::Ampersand
+        | Token::Pipe
+        | Token::XOr
+        | Token::EqualsTo
+        | Token::NotEqualsTo
+        | Token::LessThan
+        | Token::LessThanEqualsTo
+        | Token::GreaterThan
+        | Token::GreaterThanEqualsTo
+        | Token::ExclusiveRange
+        | Token::InclusiveRange => Some(2),
+        _ => None,
     }
 }
 
@@ -90,11 +110,14 @@ fn builtin_binary(
     builtin_binary_op(alloc, &op, x, y)
 }
 
-/// Whether the table of operators goes before the host at operands of these types.
+/// Whether the table of operators goes before the host at operands of these types. Ranges cannot be
+/// overridden.
 fn is_open(info: &EngineInfo, op: Token, types: &[&str]) -> bool
-    ensures { result ≡ ((engine_of info.now).fast_operators || not (has_override (engine_of info.now).overrides (token_text op) (map deref types.now))) }
+    ensures { result ≡ (makes_range op || (engine_of info.now).fast_operators || not (has_override (engine_of info.now).overrides (token_text op) (map deref types.now))) }
 {
-    info.fast_operators() || !info.is_overridden(op.literal_syntax(), types)
+    matches!(op, Token::ExclusiveRange | Token::InclusiveRange)
+        || info.fast_operators()
+        || !info.is_overridden(op.literal_syntax(), types)
 }
 
 /// What a fault throws.

@@ -15,6 +15,24 @@ fn mixed(alloc: Global) -> Result<Dynamic, OutOfMemory> {
     Ok(Dynamic::Array(items))
 }
 
+/// A map of integers.
+fn members(alloc: Global, rows: &[(&str, INT)]) -> Result<Dynamic, OutOfMemory> {
+    let mut members = StringMap::new(alloc);
+    for (key, value) in rows {
+        members.insert(ImmutableString::new(alloc, key)?, Dynamic::Int(*value))?;
+    }
+    Ok(Dynamic::Map(members))
+}
+
+/// A pointer to `f`, with a value of its first parameter or none.
+fn pointer(alloc: Global, value: Option<INT>) -> Result<Dynamic, Fail> {
+    let mut pointer = FnPtr::new(alloc, ImmutableString::new(alloc, "f")?).ok_or("f")?;
+    if let Some(value) = value {
+        pointer.curried.push(Dynamic::Int(value))?;
+    }
+    Ok(Dynamic::FnPtr(pointer))
+}
+
 #[test]
 fn names_types(rt: HostRuntime) -> Result<(), Fail> {
     let alloc = rt.alloc();
@@ -24,6 +42,10 @@ fn names_types(rt: HostRuntime) -> Result<(), Fail> {
     assert_eq!(rt; Dynamic::Char('c').type_name(), "char");
     assert_eq!(rt; text(alloc, "a")?.type_name(), "string");
     assert_eq!(rt; mixed(alloc)?.type_name(), "array");
+    assert_eq!(rt; members(alloc, &[])?.type_name(), "map");
+    assert_eq!(rt; pointer(alloc, None)?.type_name(), "Fn");
+    assert_eq!(rt; Dynamic::Range(1, 2).type_name(), "range");
+    assert_eq!(rt; Dynamic::RangeInclusive(1, 2).type_name(), "range=");
     Ok(())
 }
 
@@ -44,6 +66,19 @@ fn writes_values(rt: HostRuntime) -> Result<(), Fail> {
     for (value, want) in rows {
         assert_eq!(rt; value.text_of(alloc)?.as_str(), want);
     }
+    let rows = [
+        (members(alloc, &[])?, "#{}"),
+        (
+            members(alloc, &[("b", 2), ("a", 1)])?,
+            "#{\"a\": 1, \"b\": 2}",
+        ),
+        (pointer(alloc, Some(1))?, "Fn(f)"),
+        (Dynamic::Range(-1, 2), "-1..2"),
+        (Dynamic::RangeInclusive(1, 2), "1..=2"),
+    ];
+    for (value, want) in rows {
+        assert_eq!(rt; value.text_of(alloc)?.as_str(), want);
+    }
     Ok(())
 }
 
@@ -53,5 +88,58 @@ fn copies_values(rt: HostRuntime) -> Result<(), Fail> {
     let copy = value.clone()?;
     assert_eq!(rt; copy, value);
     assert_ne!(rt; copy, Dynamic::Unit);
+    Ok(())
+}
+
+#[test]
+fn copies_each_kind(rt: HostRuntime) -> Result<(), Fail> {
+    let alloc = rt.alloc();
+    let rows = [
+        members(alloc, &[("a", 1), ("b", 2)])?,
+        pointer(alloc, Some(1))?,
+        Dynamic::Range(1, 2),
+        Dynamic::RangeInclusive(1, 2),
+    ];
+    for value in rows {
+        assert!(rt; value.clone()?.is_equal(&value), "{value:?}");
+    }
+    Ok(())
+}
+
+#[test]
+fn compares_types_and_parts(rt: HostRuntime) -> Result<(), Fail> {
+    let alloc = rt.alloc();
+    let rows = [
+        (members(alloc, &[("a", 1)])?, members(alloc, &[("b", 1)])?),
+        (members(alloc, &[("a", 1)])?, members(alloc, &[("a", 2)])?),
+        (pointer(alloc, Some(1))?, pointer(alloc, None)?),
+        (Dynamic::Range(1, 2), Dynamic::RangeInclusive(1, 2)),
+        (Dynamic::Range(1, 2), Dynamic::Range(1, 3)),
+    ];
+    for (x, y) in rows {
+        assert_ne!(rt; x, y);
+        assert!(rt; !x.is_equal(&y), "{x:?}");
+    }
+    Ok(())
+}
+
+#[test]
+fn tells_which_can_be_keys(rt: HostRuntime) -> Result<(), Fail> {
+    let alloc = rt.alloc();
+    let mut inside = Seq::new(alloc);
+    inside.push(pointer(alloc, None)?)?;
+    let mut held = StringMap::new(alloc);
+    held.insert(ImmutableString::new(alloc, "k")?, pointer(alloc, None)?)?;
+    let rows = [
+        (mixed(alloc)?, true),
+        (members(alloc, &[("a", 1)])?, true),
+        (Dynamic::Range(1, 2), true),
+        (pointer(alloc, None)?, false),
+        (Dynamic::Array(inside), false),
+        (Dynamic::Map(held), false),
+    ];
+    for (value, want) in rows {
+        assert_eq!(rt; value.is_hashable(), want, "{value:?}");
+    }
     Ok(())
 }

@@ -1,12 +1,13 @@
 //! Values as text.
 #![tactic(auto, using(crate::specs::Reading::kinds), unfolding(crate::specs::Value::inner, crate::specs::Value::text_of))]
 
-ghost use Rattle.std.specs.Prelude.{◌≡◌, ◌++◌, OnOk, map};
+ghost use Rattle.std.specs.Prelude.{◌≡◌, ◌++◌, OnOk, codes, map};
+ghost use Rattle.std.specs.Fmt.{signed_decimal};
 ghost use Rattle.std.specs.String.{string_bytes};
-ghost use Rattle.rhai_base.specs.Value.{inner, text_of, values, ArrayV};
-ghost use Rattle.rhai_base.specs.Reading.{value_of};
+ghost use Rattle.rhai_base.specs.Value.{inner, text_of, values, fields, ArrayV, MapV};
+ghost use Rattle.rhai_base.specs.Reading.{value_of, members_of};
 
-use crate::{Dynamic, Seq};
+use crate::{Dynamic, INT, ImmutableString, Seq, StringMap};
 use std::alloc::AllocError;
 
 /// Appends the value without quotes, and nothing for unit.
@@ -20,6 +21,10 @@ pub(super) fn push_text(value: &Dynamic, text: &mut String) -> Result<(), AllocE
         Dynamic::Bool(_) => push_form(value, text),
         Dynamic::Int(_) => push_form(value, text),
         Dynamic::Array(_) => push_form(value, text),
+        Dynamic::Map(_) => push_form(value, text),
+        Dynamic::FnPtr(_) => push_form(value, text),
+        Dynamic::Range(_, _) => push_form(value, text),
+        Dynamic::RangeInclusive(_, _) => push_form(value, text),
     }
 }
 
@@ -46,6 +51,21 @@ pub(super) fn push_form(value: &Dynamic, text: &mut String) -> Result<(), AllocE
             Ok(())
         }
         Dynamic::Array(items) => push_items(items, text),
+        Dynamic::Map(members) => push_members(members, text),
+        Dynamic::FnPtr(pointer) => {
+            text.push_str("Fn(")?;
+            text.push_str(pointer.fn_name())?;
+            text.push_str(")")?;
+            Ok(())
+        }
+        Dynamic::Range(from, to) => {
+            push_ends(*from, "..", *to, text)?;
+            Ok(())
+        }
+        Dynamic::RangeInclusive(from, to) => {
+            push_ends(*from, "..=", *to, text)?;
+            Ok(())
+        }
     }
 }
 
@@ -61,5 +81,41 @@ fn push_items(items: &Seq<Dynamic>, text: &mut String) -> Result<(), AllocError>
         separator = ", ";
     }
     text.push_str("]")?;
+    Ok(())
+}
+
+#[cycle(form)]
+fn push_members(members: &StringMap<Dynamic>, text: &mut String) -> Result<(), AllocError>
+    ensures { OnOk result (string_bytes text.new ≡ string_bytes text.old ++ inner (MapV (fields (members_of members.now)))) }
+{
+    text.push_str("#{")?;
+    let mut before = "";
+    for (key, member) in members.iter() {
+        text.push_str(before)?;
+        push_key(key, text)?;
+        push_form(member, text)?;
+        before = ", ";
+    }
+    text.push_str("}")?;
+    Ok(())
+}
+
+/// Appends a key of a map and what stands before its value.
+fn push_key(key: &ImmutableString, text: &mut String) -> Result<(), AllocError>
+    ensures { OnOk result (string_bytes text.new ≡ string_bytes text.old ++ (codes "\"" ++ key.now ++ codes "\": ")) }
+{
+    text.push_str("\"")?;
+    text.push_str(key.as_str())?;
+    text.push_str("\": ")?;
+    Ok(())
+}
+
+/// Appends the ends of a range.
+fn push_ends(from: INT, dots: &str, to: INT, text: &mut String) -> Result<(), AllocError>
+    ensures { OnOk result (string_bytes text.new ≡ string_bytes text.old ++ (signed_decimal from ++ dots.now ++ signed_decimal to)) }
+{
+    write!(text, "{from}")?;
+    text.push_str(dots)?;
+    write!(text, "{to}")?;
     Ok(())
 }

@@ -38,8 +38,12 @@ are_some_words None = false
 are_some_words (Some []) = false
 are_some_words (Some (c ∷ cs)) = are_all is_word (c ∷ cs)
 
+-- what the names of functions without a name of their own begin with
+abbrev pub anonymous : Text
+anonymous = codes "anon$"
+
 abbrev pub is_valid_name : Text → Bool
-is_valid_name t = not (is_among t reserved) && (is_identifier t || are_some_words (after (codes "anon$") t))
+is_valid_name t = not (is_among t reserved) && (is_identifier t || are_some_words (after anonymous t))
 
 -- the symbols of the operators
 abbrev pub symbols : List Text

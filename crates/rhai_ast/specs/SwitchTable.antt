@@ -1,0 +1,55 @@
+-- Which tables of a `switch` are refused, and why.
+use Rattle.std.specs.Prelude.{ℕ, Bool, true, false, ◌&&◌, ◌||◌, ◌==◌, nat_lt, List, Option, Some, None, length, slice_get, if◌then◌else◌}
+use Rattle.std.specs.List.{list_all, list_any}
+use Rattle.rhai_base.specs.declared.types.dynamic.Dynamic.{Dynamic}
+use Rattle.rhai_base.specs.Value.{is_hashable}
+use Rattle.rhai_base.specs.Reading.{value_of}
+use Rattle.rhai_base.specs.declared.error.AstError.{AstError}
+use Rattle.rhai_base.specs.declared.error.AstError.TheVariants.{SwitchIndex, SwitchDefaultCondition, SwitchDefaultShared, SwitchKey}
+use Rattle.rhai_ast.specs.declared.ast.expr.BinaryExpr.{BinaryExpr}
+use Rattle.rhai_ast.specs.declared.ast.switch.CaseBlocksList.{CaseBlocksList}
+use Rattle.rhai_base.specs.declared.eval.switch.RangeCase.{RangeCase}
+use Rattle.rhai_base.specs.Ranges.{index_of}
+use Rattle.rhai_ast.specs.Tree.{Expr, BoolConstant}
+use Rattle.rhai_ast.specs.Reading.{expr_of}
+
+abbrev pub are_keys : List (Dynamic × CaseBlocksList) → Bool
+are_keys cases = list_all (λ e. is_hashable (value_of e.0)) cases
+
+-- the places of arms are within the table
+abbrev pub lists_within : ℕ → List (Dynamic × CaseBlocksList) → Bool
+lists_within n cases = list_all (λ e. list_all (λ i. nat_lt i n) e.1.blocks) cases
+
+abbrev pub ranges_within : ℕ → List RangeCase → Bool
+ranges_within n ranges = list_all (λ r. nat_lt (index_of r) n) ranges
+
+-- the arm is named
+abbrev pub lists_name : ℕ → List (Dynamic × CaseBlocksList) → Bool
+lists_name arm cases = list_any (λ e. list_any (λ i. i == arm) e.1.blocks) cases
+
+abbrev pub ranges_name : ℕ → List RangeCase → Bool
+ranges_name arm ranges = list_any (λ r. index_of r == arm) ranges
+
+abbrev pub is_literally_true : Expr → Bool
+is_literally_true (BoolConstant true) = true
+is_literally_true _ = false
+
+-- the arm of the default, if the table has it
+abbrev default_at : Option BinaryExpr → Bool → Option AstError
+default_at None named = Some SwitchIndex
+default_at (Some arm) named =
+    if is_literally_true (expr_of arm.lhs) then (if named then Some SwitchDefaultShared else None) else Some SwitchDefaultCondition
+
+abbrev pub default_refusal : List BinaryExpr → List (Dynamic × CaseBlocksList) → List RangeCase → ℕ → Option AstError
+default_refusal arms cases ranges arm = default_at (slice_get arms arm) (lists_name arm cases || ranges_name arm ranges)
+
+abbrev default_tested : List BinaryExpr → List (Dynamic × CaseBlocksList) → List RangeCase → Option ℕ → Option AstError
+default_tested arms cases ranges None = None
+default_tested arms cases ranges (Some arm) = default_refusal arms cases ranges arm
+
+-- why a table is refused: the first of four tests that fails
+abbrev pub refusal : List BinaryExpr → List (Dynamic × CaseBlocksList) → List RangeCase → Option ℕ → Option AstError
+refusal arms cases ranges default =
+    if are_keys cases
+    then (if lists_within (length arms) cases && ranges_within (length arms) ranges then default_tested arms cases ranges default else Some SwitchIndex)
+    else Some SwitchKey

@@ -1,0 +1,5 @@
+//! Names of modules.
+
+pub mod namespace;
+
+pub use namespace::Namespace;
