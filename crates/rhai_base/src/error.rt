@@ -87,8 +87,37 @@ mod tests {
             assert_eq!(rt; refusal.number(), number);
             number += 1;
         }
-        let text = AstError::NotABaseOperator.to_string(rt.alloc())?;
-        assert_eq!(rt; text.as_str(), "not an operator with an op-assignment form");
+        Ok(())
+    }
+
+    #[test]
+    fn says_why(rt: HostRuntime) -> Result<(), Fail> {
+        let rows = [
+            (AstError::NotAnOpAssignment, "not an op-assignment operator"),
+            (
+                AstError::NotABaseOperator,
+                "not an operator with an op-assignment form",
+            ),
+            (
+                AstError::SwitchIndex,
+                "a switch names an arm past its table",
+            ),
+            (
+                AstError::SwitchDefaultCondition,
+                "the default of a switch has a condition",
+            ),
+            (
+                AstError::SwitchDefaultShared,
+                "the default of a switch is also the arm of a case",
+            ),
+            (
+                AstError::SwitchKey,
+                "a case of a switch has a key that cannot be hashed",
+            ),
+        ];
+        for (refusal, want) in rows {
+            assert_eq!(rt; refusal.to_string(rt.alloc())?.as_str(), want);
+        }
         Ok(())
     }
 }

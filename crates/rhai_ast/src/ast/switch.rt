@@ -250,6 +250,21 @@ mod tests {
     }
 
     #[test]
+    fn keeps_the_cases_in_order(rt: HostRuntime) -> Result<(), Fail> {
+        let alloc = rt.alloc();
+        let mut map = IndexMap::new(alloc);
+        map.insert(Dynamic::Int(2), case(alloc, 0)?)?;
+        map.insert(Dynamic::Int(1), case(alloc, 1)?)?;
+        map.insert(Dynamic::Int(2), case(alloc, 1)?)?;
+        let cases = Cases::from_map(map);
+        assert_eq!(rt; cases.as_map().len(), 2);
+        let first = cases.as_map().get_index(0).ok_or("2")?;
+        assert_eq!(rt; *first.0, Dynamic::Int(2));
+        assert_eq!(rt; first.1.blocks.as_slice(), [1].as_slice());
+        Ok(())
+    }
+
+    #[test]
     fn tests_the_default(rt: HostRuntime) -> Result<(), Fail> {
         let alloc = rt.alloc();
         let rows = [

@@ -268,9 +268,24 @@ mod tests {
         let (one, five, unit) = (Dynamic::Int(1), Dynamic::Int(5), Dynamic::Unit);
         let rows = [
             (&one, Token::ExclusiveRange, &five, Dynamic::Range(1, 5)),
-            (&one, Token::InclusiveRange, &five, Dynamic::RangeInclusive(1, 5)),
-            (&one, Token::ExclusiveRange, &unit, Dynamic::Range(1, INT::MAX)),
-            (&unit, Token::InclusiveRange, &five, Dynamic::RangeInclusive(0, 5)),
+            (
+                &one,
+                Token::InclusiveRange,
+                &five,
+                Dynamic::RangeInclusive(1, 5),
+            ),
+            (
+                &one,
+                Token::ExclusiveRange,
+                &unit,
+                Dynamic::Range(1, INT::MAX),
+            ),
+            (
+                &unit,
+                Token::InclusiveRange,
+                &five,
+                Dynamic::RangeInclusive(0, 5),
+            ),
         ];
         for (x, op, y, want) in rows {
             let got = builtin_binary_op(rt.alloc(), &op, x, y)?;

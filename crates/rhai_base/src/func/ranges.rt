@@ -10,11 +10,7 @@ use crate::{Dynamic, Fault, INT};
 
 /// What the table holds for `..=` where the end belongs to the range, or else for `..`. One end may be
 /// left out, as unit: a missing start is 0, a missing end the greatest integer.
-pub(super) fn range_of(
-    inclusive: bool,
-    x: &Dynamic,
-    y: &Dynamic,
-) -> Option<Result<Dynamic, Fault>>
+pub(super) fn range_of(inclusive: bool, x: &Dynamic, y: &Dynamic) -> Option<Result<Dynamic, Fault>>
     ensures { computed_of result ≡ binary (range_operator inclusive) (value_of x.now) (value_of y.now) }
 {
     match range_between(inclusive, x, y) {

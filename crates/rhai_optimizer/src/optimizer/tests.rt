@@ -195,6 +195,34 @@ fn an_overridden_negation_is_left_to_the_host(rt: HostRuntime) -> Result<(), Fai
     Ok(())
 }
 
+/// A range over its ends, which may be left out.
+fn range(alloc: Global, token: Token, from: Expr, to: Expr) -> Result<Expr, OutOfMemory> {
+    let args = vec![in alloc; from, to]?;
+    call(alloc, token.literal_syntax(), Some(token), args)
+}
+
+#[test]
+fn ranges_over_constants_fold_whatever_is_overridden(rt: HostRuntime) -> Result<(), Fail> {
+    let alloc = rt.alloc();
+    let closed = range(alloc, Token::InclusiveRange, integer(1), integer(5))?;
+    let open = range(alloc, Token::ExclusiveRange, integer(0), Expr::Unit(NONE))?;
+    let rows = [
+        (closed, Dynamic::RangeInclusive(1, 5)),
+        (open, Dynamic::Range(0, 9223372036854775807)),
+    ];
+    let info = overriding(alloc, "..", &["i64", "()"])?;
+    for (range, wanted) in rows {
+        let script = optimized_by(alloc, &info, alone(alloc, range)?)?;
+        assert!(rt;
+            matches!(
+                script.statements(),
+                [Stmt::Expr(expr)] if matches!(expr.get(), Expr::DynamicConstant(value, _) if *value.get() == wanted)
+            )
+        );
+    }
+    Ok(())
+}
+
 #[test]
 fn an_array_of_constants_becomes_its_value(rt: HostRuntime) -> Result<(), Fail> {
     let alloc = rt.alloc();
