@@ -110,6 +110,13 @@ fn operators_over_constants_fold(rt: HostRuntime) -> Result<(), Fail> {
 }
 
 #[test]
+fn ranges_are_made_of_constants(rt: HostRuntime) -> Result<(), Fail> {
+    check_all(&rt, rt.alloc(), &table::RANGES)?;
+    let info = overriding(rt.alloc(), "..", &["i64", "i64"])?;
+    check(&rt, rt.alloc(), &info, &ProgramHost, table::RANGE)
+}
+
+#[test]
 fn faults_are_left_to_the_run(rt: HostRuntime) -> Result<(), Fail> {
     check_all(&rt, rt.alloc(), &table::THROWN)
 }

@@ -110,15 +110,15 @@ fn appended(receiver: &Dynamic, item: &Dynamic) -> Result<HostAnswer, OutOfMemor
                 receiver: Some(Dynamic::Array(items)),
             })
         }
-        Dynamic::Unit => Ok(unit_alone()),
-        Dynamic::Bool(_) => Ok(unit_alone()),
-        Dynamic::Int(_) => Ok(unit_alone()),
-        Dynamic::Char(_) => Ok(unit_alone()),
-        Dynamic::Str(_) => Ok(unit_alone()),
-        Dynamic::Map(_) => Ok(unit_alone()),
-        Dynamic::FnPtr(_) => Ok(unit_alone()),
-        Dynamic::Range(_, _) => Ok(unit_alone()),
-        Dynamic::RangeInclusive(_, _) => Ok(unit_alone()),
+        Dynamic::Unit
+        | Dynamic::Bool(_)
+        | Dynamic::Int(_)
+        | Dynamic::Char(_)
+        | Dynamic::Str(_)
+        | Dynamic::Map(_)
+        | Dynamic::FnPtr(_)
+        | Dynamic::Range(_, _)
+        | Dynamic::RangeInclusive(_, _) => Ok(unit_alone()),
     }
 }
 

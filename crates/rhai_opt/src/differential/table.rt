@@ -68,6 +68,27 @@ pub const OPERATORS: [Row; 9] = [
     ("call +(1, 2)\n", "3\n", "value 3", ""),
 ];
 
+pub const RANGE: Row = ("..(1, 5)\n", "<1..5>\n", "value 1..5", "");
+
+/// A missing start is 0, a missing end the greatest integer.
+pub const RANGES: [Row; 5] = [
+    ("..=(1, 5)\n", "<1..=5>\n", "value 1..=5", ""),
+    ("..((), 5)\n", "<0..5>\n", "value 0..5", ""),
+    (
+        "..=(2, ())\n",
+        "<2..=9223372036854775807>\n",
+        "value 2..=9223372036854775807",
+        "",
+    ),
+    (
+        "..((), ())\n",
+        "call ..((), ())\n",
+        "value ()",
+        "call ..((), ())\n",
+    ),
+    ("==(..(1, 2), 3)\n", "false\n", "value false", ""),
+];
+
 pub const THROWN: [Row; 7] = [
     ("/(1, 0)\n", "call /(1, 0)\n", "thrown \"arithmetic\"", ""),
     ("%(5, 0)\n", "call %(5, 0)\n", "thrown \"arithmetic\"", ""),
