@@ -1,13 +1,13 @@
-//! Reports in print.
+//! Reports in print, part by part.
 
-use super::push_report;
+use super::{push_call, push_end, push_report, push_variable};
 use crate::trees::name;
 use rhai_base::{Dynamic, OutOfMemory, Seq};
 use rhai_run::{HostCall, RunEnd, RunReport, Stuck};
 use std::alloc::Global;
 use std::test::Fail;
 
-/// A report of a run that left no names and asked nothing.
+/// A run that ended so, with nothing else to report.
 fn ended(alloc: Global, run_end: RunEnd, turns_left: u64) -> RunReport {
     RunReport {
         run_end,
@@ -23,22 +23,51 @@ fn printed(alloc: Global, report: &RunReport) -> Result<String, OutOfMemory> {
     Ok(text)
 }
 
+fn printed_end(alloc: Global, end: &RunEnd) -> Result<String, OutOfMemory> {
+    let mut text = String::new(alloc);
+    push_end(end, &mut text)?;
+    Ok(text)
+}
+
+fn printed_variable(
+    alloc: Global,
+    is_constant: bool,
+    value: Dynamic,
+) -> Result<String, OutOfMemory> {
+    let mut text = String::new(alloc);
+    push_variable(&(name(alloc, "x")?, is_constant, value), &mut text)?;
+    Ok(text)
+}
+
+fn printed_call(alloc: Global, call: &HostCall) -> Result<String, OutOfMemory> {
+    let mut text = String::new(alloc);
+    push_call(call, &mut text)?;
+    Ok(text)
+}
+
 fn text(alloc: Global, text: &str) -> Result<Dynamic, OutOfMemory> {
     Ok(Dynamic::Str(name(alloc, text)?))
 }
 
 #[test]
-fn ends_are_printed(rt: HostRuntime) -> Result<(), Fail> {
-    let alloc = rt.alloc();
-    let most = "end: value -5\nturns left: 18446744073709551615\n";
-    let report = ended(alloc, RunEnd::Value(Dynamic::Int(-5)), u64::MAX);
-    assert_eq!(rt; printed(alloc, &report)?.as_str(), most);
-    let report = ended(alloc, RunEnd::Thrown(text(alloc, "a\"b")?), 10);
-    let wanted = "end: thrown \"a\"b\"\nturns left: 10\n";
-    assert_eq!(rt; printed(alloc, &report)?.as_str(), wanted);
-    let report = ended(alloc, RunEnd::OutOfTurns, 0);
-    let wanted = "end: out of turns\nturns left: 0\n";
-    assert_eq!(rt; printed(alloc, &report)?.as_str(), wanted);
+fn values_and_turns_are_printed(rt: HostRuntime) -> Result<(), Fail> {
+    let report = ended(rt.alloc(), RunEnd::Value(Dynamic::Int(-5)), u64::MAX);
+    let wanted = "end: value -5\nturns left: 18446744073709551615\n";
+    assert_eq!(rt; printed(rt.alloc(), &report)?.as_str(), wanted);
+    Ok(())
+}
+
+#[test]
+fn what_is_thrown_is_printed(rt: HostRuntime) -> Result<(), Fail> {
+    let end = RunEnd::Thrown(text(rt.alloc(), "a\"b")?);
+    assert_eq!(rt; printed_end(rt.alloc(), &end)?.as_str(), "thrown \"a\"b\"");
+    Ok(())
+}
+
+#[test]
+fn a_want_of_turns_is_printed(rt: HostRuntime) -> Result<(), Fail> {
+    let end = printed_end(rt.alloc(), &RunEnd::OutOfTurns)?;
+    assert_eq!(rt; end.as_str(), "out of turns");
     Ok(())
 }
 
@@ -69,48 +98,55 @@ fn each_way_to_be_stuck_is_printed(rt: HostRuntime) -> Result<(), Fail> {
 }
 
 #[test]
-fn names_are_printed_in_order(rt: HostRuntime) -> Result<(), Fail> {
-    let alloc = rt.alloc();
-    let mut report = ended(alloc, RunEnd::Value(Dynamic::Unit), 8);
-    report
-        .variables
-        .push((name(alloc, "x")?, false, Dynamic::Char('é')))?;
-    report
-        .variables
-        .push((name(alloc, "k")?, true, Dynamic::Int(42)))?;
-    report
-        .variables
-        .push((name(alloc, "x")?, false, text(alloc, "a")?))?;
-    let wanted =
-        "end: value ()\nturns left: 8\nvariable x = 'é'\nconstant k = 42\nvariable x = \"a\"\n";
-    assert_eq!(rt; printed(alloc, &report)?.as_str(), wanted);
+fn variables_are_printed(rt: HostRuntime) -> Result<(), Fail> {
+    let line = printed_variable(rt.alloc(), false, Dynamic::Char('é'))?;
+    assert_eq!(rt; line.as_str(), "variable x = 'é'\n");
     Ok(())
 }
 
 #[test]
-fn calls_are_printed_in_order(rt: HostRuntime) -> Result<(), Fail> {
-    let alloc = rt.alloc();
-    let mut report = ended(alloc, RunEnd::Value(Dynamic::Bool(true)), 0);
-    let constant = (name(alloc, "c")?, true, Dynamic::Array(Seq::new(alloc)));
-    report.variables.push(constant)?;
-    report.calls.push(HostCall {
+fn constants_are_printed(rt: HostRuntime) -> Result<(), Fail> {
+    let line = printed_variable(rt.alloc(), true, Dynamic::Range(1, 5))?;
+    assert_eq!(rt; line.as_str(), "constant x = 1..5\n");
+    Ok(())
+}
+
+/// `[].f(3)`
+fn method_call(alloc: Global) -> Result<HostCall, OutOfMemory> {
+    let mut args = Seq::new(alloc);
+    args.push(Dynamic::Int(3))?;
+    Ok(HostCall {
         name: name(alloc, "f")?,
-        receiver: None,
-        args: Seq::new(alloc),
-    })?;
-    let items = vec![in alloc; Dynamic::Int(1), Dynamic::Int(2)]?;
-    report.calls.push(HostCall {
-        name: name(alloc, "push")?,
-        receiver: Some(Dynamic::Array(Seq::from_vec(items))),
-        args: Seq::from_vec(vec![in alloc; Dynamic::Int(3)]?),
-    })?;
-    report.calls.push(HostCall {
+        receiver: Some(Dynamic::Array(Seq::new(alloc))),
+        args,
+    })
+}
+
+#[test]
+fn receivers_are_printed(rt: HostRuntime) -> Result<(), Fail> {
+    let call = method_call(rt.alloc())?;
+    assert_eq!(rt; printed_call(rt.alloc(), &call)?.as_str(), "call [].f(3)\n");
+    Ok(())
+}
+
+/// `+("1", ())`
+fn plain_call(alloc: Global) -> Result<HostCall, OutOfMemory> {
+    let mut args = Seq::new(alloc);
+    args.push(text(alloc, "1")?)?;
+    args.push(Dynamic::Unit)?;
+    Ok(HostCall {
         name: name(alloc, "+")?,
         receiver: None,
-        args: Seq::from_vec(vec![in alloc; text(alloc, "1")?, Dynamic::Unit]?),
-    })?;
-    let wanted =
-        "end: value true\nturns left: 0\nconstant c = []\ncall f()\ncall [1, 2].push(3)\ncall +(\"1\", ())\n";
-    assert_eq!(rt; printed(alloc, &report)?.as_str(), wanted);
+        args,
+    })
+}
+
+#[test]
+fn arguments_are_printed(rt: HostRuntime) -> Result<(), Fail> {
+    let call = plain_call(rt.alloc())?;
+    assert_eq!(rt;
+        printed_call(rt.alloc(), &call)?.as_str(),
+        "call +(\"1\", ())\n"
+    );
     Ok(())
 }
