@@ -5,7 +5,7 @@ use Rattle.rhai_base.specs.Operators.{Operator, Computed, NoEntry, Is, Overflows
 use Rattle.rhai_ast.specs.Engine.{built_in, mapped_type_name}
 use Rattle.rhai_ast.specs.Act.{WrongKind, Key, World, Act, Fail, Invoke}
 use Rattle.rhai_ast.specs.Core.{Callee, OnOperator, ByName}
-use Rattle.rhai_base.specs.Names.{is_valid_name}
+use Rattle.rhai_parts.specs.Names.{is_valid_name}
 use Rattle.rhai_ast.specs.ActForms.{give, throw, choose, ask_host}
 
 -- ---- operators

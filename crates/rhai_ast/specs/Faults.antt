@@ -2,7 +2,7 @@
 use Rattle.std.specs.Prelude.{◌≡◌, ℕ, Bool, true, false, not, ◌&&◌, ◌==◌}
 use Rattle.rhai_base.specs.Value.{Value, UnitV, same_text}
 use Rattle.rhai_base.specs.Operators.{symbol, arity}
-use Rattle.rhai_base.specs.Names.{is_among, symbols, barred}
+use Rattle.rhai_parts.specs.Names.{is_among, symbols, barred}
 use Rattle.rhai_ast.specs.Tree.{Mark, NoToken, OfOperator, OfOther, Callee, Expr, DynamicConstant, BoolConstant, IntegerConstant, CharConstant, StringConstant, UnitConstant, ArrayOf, BlockExpr, FnCall, Exprs, no_exprs, expr, count_exprs, Stmt, Noop, If, Block, ExprStmt, FnCallStmt, Stmts, no_stmts, stmt}
 
 -- ---- one node

@@ -2,8 +2,8 @@
 use Rattle.std.specs.Prelude.{◌≡◌, ℕ, ℤ, Bool, List, map, Option, Some, None}
 use Rattle.std.proofs.Common.{sym, ap, ◌∙◌, subst}
 use Rattle.rhai_base.specs.declared.types.dynamic.Dynamic.{Dynamic}
-use Rattle.rhai_base.specs.declared.types.position.Position.{Position}
-use Rattle.rhai_base.specs.declared.types.token.Token.{Token}
+use Rattle.rhai_parts.specs.declared.types.position.Position.{Position}
+use Rattle.rhai_parts.specs.declared.types.token.Token.{Token}
 use Rattle.rhai_base.specs.Value.{Text}
 use Rattle.rhai_base.specs.Operators.{Operator}
 use Rattle.rhai_base.specs.Reading.{value_of, operator_of}

@@ -2,8 +2,8 @@
 use Rattle.std.specs.Prelude.{List, [], Option, Some, None, Result, Ok, Err}
 use Rattle.std.specs.declared.borrow.Cow.{Cow}
 use Rattle.std.specs.Cow.{cow_value}
-use Rattle.rhai_base.specs.declared.error.Fault.{Fault}
-use Rattle.rhai_base.specs.declared.error.Fault.TheVariants.{Arithmetic}
+use Rattle.rhai_parts.specs.declared.error.Fault.{Fault}
+use Rattle.rhai_parts.specs.declared.error.Fault.TheVariants.{Arithmetic}
 use Rattle.rhai_base.specs.declared.types.dynamic.Dynamic.{Dynamic}
 use Rattle.rhai_base.specs.Reading.{value_of}
 use Rattle.rhai_base.specs.Value.{Value, UnitV, BoolV, IntV, CharV, TextV}

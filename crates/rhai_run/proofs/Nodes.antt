@@ -2,8 +2,8 @@
 use Rattle.std.proofs.Common.{◌≡◌, ℕ, Bool, true, List, [], map, length, take, None, Some, Result, Ok, Err, refl, sym, ap, ◌∙◌, subst, arith}
 use Rattle.rhai_base.specs.declared.types.dynamic.Dynamic.{Dynamic}
 use Rattle.rhai_base.specs.declared.types.dynamic.Dynamic.TheVariants as value
-use Rattle.rhai_base.specs.declared.types.position.Position.{Position}
-use Rattle.rhai_base.specs.declared.types.token.Token.{Token}
+use Rattle.rhai_parts.specs.declared.types.position.Position.{Position}
+use Rattle.rhai_parts.specs.declared.types.token.Token.{Token}
 use Rattle.rhai_base.specs.Operators.{Operator}
 use Rattle.rhai_base.specs.Reading.{value_of, operator_of}
 use Rattle.rhai_base.specs.Value.{UnitV, ArrayV, values}

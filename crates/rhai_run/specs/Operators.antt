@@ -1,7 +1,7 @@
 -- The operator of a call, by its token.
 use Rattle.std.specs.Prelude.{◌≡◌, ℕ, List, Option, Some, None, if◌then◌else◌}
 use Rattle.std.specs.Option.{option_map}
-use Rattle.rhai_base.specs.declared.types.token.Token.{Token}
+use Rattle.rhai_parts.specs.declared.types.token.Token.{Token}
 use Rattle.rhai_base.specs.Value.{Value}
 use Rattle.rhai_base.specs.Operators.{Operator, Computed, NoEntry, arity}
 use Rattle.rhai_base.specs.Reading.{operator_of}

@@ -5,7 +5,7 @@ use Rattle.rhai_base.specs.Operators.{Operator, Computed, NoEntry, Is, Overflows
 use Rattle.rhai_ast.specs.Engine.{built_in}
 use Rattle.rhai_ast.specs.Act.{Call, Answer, Answers, AnswersThrow, World, Ending, Gives, Returns, Breaks, Continues, Throws, Again, Stuck, WrongKind, Root, Asked, Act, Stop, Fail, Then, Turn, Read, Write, Ask, Invoke, Loop, Scoped, Acts, Only, Do, Named, Finish}
 use Rattle.rhai_ast.specs.Core.{Callee, OnOperator, ByName}
-use Rattle.rhai_base.specs.Names.{is_valid_name}
+use Rattle.rhai_parts.specs.Names.{is_valid_name}
 use Rattle.rhai_ast.specs.ActForms.{give, value_then, ◌>>=◌, choose, truth, branch, if_true, answered, ask_host, each_value, then_line}
 use Rattle.rhai_ast.specs.Calls.{of_table, operate, pointer_to, curried, has_key, key, call_named, call_pointer, Word, ToHost, TypeOf, IsShared, Fn, Curry, CallFn, word, call_word, called}
 use Rattle.rhai_optimizer.specs.Known.{Known, shadow}
