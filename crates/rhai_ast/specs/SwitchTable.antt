@@ -10,7 +10,7 @@ use Rattle.rhai_ast.specs.declared.ast.expr.BinaryExpr.{BinaryExpr}
 use Rattle.rhai_ast.specs.declared.ast.switch.CaseBlocksList.{CaseBlocksList}
 use Rattle.rhai_base.specs.declared.eval.switch.RangeCase.{RangeCase}
 use Rattle.rhai_base.specs.Ranges.{index_of}
-use Rattle.rhai_ast.specs.Tree.{Expr, BoolConstant}
+use Rattle.rhai_meaning.specs.Tree.{Expr, BoolConstant}
 use Rattle.rhai_ast.specs.Reading.{expr_of}
 
 abbrev pub are_keys : List (Dynamic × CaseBlocksList) → Bool

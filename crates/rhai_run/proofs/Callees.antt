@@ -9,16 +9,16 @@ use Rattle.rhai_base.specs.Reading.{operator_of}
 use Rattle.rhai_parts.specs.Symbols.{token_text}
 use Rattle.rhai_base.specs.Value.{Text, Value, same_text}
 use Rattle.rhai_ast.specs.declared.ast.expr.Expr.{Expr}
-use Rattle.rhai_ast.specs.Act.{World}
-use Rattle.rhai_ast.specs.ActForms.{ask_host}
-use Rattle.rhai_ast.specs.Calls.{of_table, operate}
-use Rattle.rhai_ast.specs.Core as core
-use Rattle.rhai_ast.specs.Desugar.{callee_by, call_of}
-use Rattle.rhai_ast.specs.Engine.{Engine, is_open}
-use Rattle.rhai_ast.specs.Faults.{has_token, is_barred}
+use Rattle.rhai_meaning.specs.Act.{World}
+use Rattle.rhai_meaning.specs.ActForms.{ask_host}
+use Rattle.rhai_meaning.specs.Calls.{of_table, operate}
+use Rattle.rhai_meaning.specs.Core as core
+use Rattle.rhai_meaning.specs.Desugar.{callee_by, call_of}
+use Rattle.rhai_meaning.specs.Engine.{Engine, is_open}
+use Rattle.rhai_meaning.specs.Faults.{has_token, is_barred}
 use Rattle.rhai_parts.specs.Names.{is_among, barred}
 use Rattle.rhai_ast.specs.Reading.{exprs_of}
-use Rattle.rhai_ast.specs.Tree.{Mark, NoToken, OfOperator, OfOther, Callee, count_exprs}
+use Rattle.rhai_meaning.specs.Tree.{Mark, NoToken, OfOperator, OfOther, Callee, count_exprs}
 use Rattle.rhai_run.specs.Operators.{operator_by, called_operator, built_in_of, built_in_at}
 use Rattle.rhai_run.specs.Small.{small_expr, small_exprs}
 

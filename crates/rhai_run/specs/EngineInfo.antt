@@ -4,7 +4,7 @@ use Rattle.rhai_base.specs.Value.{Text}
 use Rattle.rhai_parts.specs.declared.types.token.Token.{Token}
 use Rattle.rhai_parts.specs.Symbols.{token_text}
 use Rattle.rhai_parts.specs.Tokens.{makes_range}
-use Rattle.rhai_ast.specs.Engine.{Engine, has_override}
+use Rattle.rhai_meaning.specs.Engine.{Engine, has_override}
 use Rattle.rhai_run.specs.declared.engine_info.EngineInfo.{EngineInfo}
 
 -- neither constants nor other type names yet

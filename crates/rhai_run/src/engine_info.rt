@@ -1,7 +1,7 @@
 //! What an engine fixes for every script that it runs.
 ghost use Rattle.std.specs.Prelude.{◌≡◌, [], map, false, OnOk, OnErr};
 ghost use Rattle.std.specs.Map.Iter.{deref};
-ghost use Rattle.rhai_ast.specs.Engine.{has_override, same_texts};
+ghost use Rattle.rhai_meaning.specs.Engine.{has_override, same_texts};
 ghost use Rattle.rhai_run.specs.Override.{is_override};
 
 use rhai_base::{ImmutableString, OutOfMemory, Seq, Token};
@@ -16,7 +16,7 @@ struct OperatorOverride {
 }
 
 impl Model for OperatorOverride {
-    ghost use Rattle.rhai_ast.specs.Engine.{Override};
+    ghost use Rattle.rhai_meaning.specs.Engine.{Override};
 
     ghost Value = { Override };
 

@@ -13,11 +13,12 @@ use Rattle.rhai_base.specs.Reading.{value_of, operator_of}
 use Rattle.rhai_parts.specs.Symbols.{token_text}
 use Rattle.rhai_parts.specs.Tokens.{makes_range}
 use Rattle.rhai_base.specs.Value.{Value, type_name}
-use Rattle.rhai_ast.specs.Engine.{Engine, has_override}
-use Rattle.rhai_ast.specs.Constants.{value_and}
+use Rattle.rhai_meaning.specs.Engine.{Engine, has_override}
+use Rattle.rhai_meaning.specs.Constants.{value_and}
 use Rattle.rhai_ast.specs.Reading.{mark_of, expr_of, exprs_of}
-use Rattle.rhai_ast.specs.Tree.{Mark, NoToken, OfOperator, OfOther}
-use Rattle.rhai_optimizer.specs.Folding.{computed_value, folded_values, operand, operands, answer_value}
+use Rattle.rhai_meaning.specs.Tree.{Mark, NoToken, OfOperator, OfOther}
+use Rattle.rhai_rewriting.specs.Folding.{computed_value, folded_values, operand, operands}
+use Rattle.rhai_optimizer.specs.Operands.{answer_value}
 
 -- the table goes before the host
 abbrev pub opens : Engine → Token → List Value → Bool

@@ -6,9 +6,10 @@ ghost use Rattle.std.specs.Prelude.{◌≡◌, IfOk, Some, [], ◌∷◌};
 ghost use Rattle.std.specs.Option.{option_map};
 ghost use Rattle.rhai_base.specs.Reading.{value_of};
 ghost use Rattle.rhai_ast.specs.Reading.{callee_of, expr_of, exprs_of, mark_of};
-ghost use Rattle.rhai_ast.specs.Tree.{expr, no_exprs};
+ghost use Rattle.rhai_meaning.specs.Tree.{expr, no_exprs};
 ghost use Rattle.rhai_run.specs.EngineInfo.{engine_of};
-ghost use Rattle.rhai_optimizer.specs.Folding as spec;
+ghost use Rattle.rhai_optimizer.specs.Operands.{answer_value, held};
+ghost use Rattle.rhai_rewriting.specs.Folding as spec;
 
 use rhai_ast::{Expr, FnCallExpr};
 use rhai_base::{Dynamic, Fault, OutOfMemory, Token, builtin_binary_op, builtin_unary_op};
@@ -18,7 +19,7 @@ use std::borrow::Cow;
 
 /// The value of a constant that is no array.
 fn operand(expr: &Expr) -> Result<Option<Cow<'_, Dynamic>>, OutOfMemory>
-    ensures { IfOk result (λ o. spec.held o ≡ spec.operand (expr_of expr.now)) }
+    ensures { IfOk result (λ o. held o ≡ spec.operand (expr_of expr.now)) }
 {
     match expr {
         Expr::DynamicConstant(value, _) => Ok(Some(Cow::Borrowed(value.get()))),
@@ -33,7 +34,7 @@ fn operand(expr: &Expr) -> Result<Option<Cow<'_, Dynamic>>, OutOfMemory>
 
 /// The value of an operator's answer. A fault is left to the run.
 fn value_alone(answer: Option<Result<Dynamic, Fault>>) -> Option<Dynamic>
-    ensures { option_map value_of result ≡ spec.answer_value answer }
+    ensures { option_map value_of result ≡ answer_value answer }
 {
     match answer {
         Some(Ok(value)) => Some(value),
