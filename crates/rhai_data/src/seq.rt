@@ -60,7 +60,7 @@ impl<T> Seq<T> {
     }
 
     /// The allocator that it grows with.
-    pub(crate) fn allocator(&self) -> Global {
+    pub fn allocator(&self) -> Global {
         *self.items.allocator()
     }
 
