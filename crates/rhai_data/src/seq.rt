@@ -59,8 +59,15 @@ impl<T> Seq<T> {
         Rest::new(self.into_vec())
     }
 
-    /// The allocator that it grows with.
-    pub fn allocator(&self) -> Global {
+    /// A list without items, from the same allocator, with room for as many.
+    pub fn emptied(&self) -> Result<Seq<T>, AllocError>
+        ensures { IfOk result (λ s. s ≡ []) }
+    {
+        let items = Vec::with_capacity(self.allocator(), self.len())?;
+        Ok(Seq { items })
+    }
+
+    fn allocator(&self) -> Global {
         *self.items.allocator()
     }
 
@@ -167,6 +174,7 @@ mod tests {
         assert_eq!(rt; copy.into_only(), None);
         let one = Seq::from_slice(items.allocator(), &[9])?;
         assert_eq!(rt; one.into_only(), Some(9));
+        assert!(rt; items.emptied()?.is_empty());
         assert_eq!(rt; Seq::from_vec(items.into_vec()).len(), 2);
         Ok(())
     }
