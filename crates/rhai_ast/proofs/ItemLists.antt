@@ -4,9 +4,9 @@ use Rattle.std.proofs.Math.Seq.{drop-cons, drop-length}
 use Rattle.rhai_base.specs.Value.{Value}
 use Rattle.rhai_ast.specs.declared.ast.expr.Expr.{Expr}
 use Rattle.rhai_ast.specs.declared.ast.stmt.Stmt.{Stmt}
-use Rattle.rhai_ast.specs.Constants.{array_value, value_and}
+use Rattle.rhai_meaning.specs.Constants.{array_value, value_and}
 use Rattle.rhai_ast.specs.Reading.{expr_of, exprs_of, stmt_of, stmts_of}
-use Rattle.rhai_ast.specs.Tree.{expr, no_exprs, stmt, no_stmts}
+use Rattle.rhai_meaning.specs.Tree.{expr, no_exprs, stmt, no_stmts}
 
 pub exprs_of-drop : (xs : List Expr) (i : ℕ) (d : Expr) → i < length xs → exprs_of (drop i xs) ≡ expr (expr_of (get_or xs i d)) (exprs_of (drop (i + 1) xs))
 exprs_of-drop xs i d h = rw (add-one, drop-cons xs i d) refl

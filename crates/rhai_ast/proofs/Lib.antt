@@ -1,6 +1,2 @@
 pub mod ItemLists
 pub mod Pointers
-pub mod Relations
-pub mod Frame
-pub mod Rising
-pub mod Ends

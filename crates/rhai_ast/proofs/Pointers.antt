@@ -3,8 +3,8 @@ use Rattle.std.proofs.Common.{◌≡◌, ◌≢◌, List, [], ◌∷◌, map, re
 use Rattle.rhai_base.specs.declared.types.dynamic.Dynamic.{Dynamic}
 use Rattle.rhai_base.specs.Value.{Text, PointerV, values}
 use Rattle.rhai_base.specs.Reading.{value_of}
-use Rattle.rhai_ast.specs.Constants.{constant_for, pointer_call}
-use Rattle.rhai_ast.specs.Tree.{DynamicConstant}
+use Rattle.rhai_meaning.specs.Constants.{constant_for, pointer_call}
+use Rattle.rhai_meaning.specs.Tree.{DynamicConstant}
 
 -- a pointer with values is held as it is
 pub constant_for-curried : (f : Text) (vs : List Dynamic) → vs ≢ [] → constant_for (PointerV f (values (map value_of vs))) ≡ DynamicConstant (PointerV f (values (map value_of vs)))

@@ -1,17 +1,2 @@
-pub mod Tree
 pub mod Reading
 pub mod SwitchTable
-pub mod Engine
-pub mod Act
-pub mod ActForms
-pub mod Host
-pub mod Faults
-pub mod Core
-pub mod Desugar
-pub mod Calls
-pub mod Meaning
-pub mod Run
-pub mod Constants
-pub mod Queries
-pub mod Relations
-pub mod WorkedRuns

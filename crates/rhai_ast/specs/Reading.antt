@@ -2,8 +2,8 @@
 use Rattle.std.specs.Prelude.{◌≡◌, ℕ, ℤ, Bool, List, map, Option, Some, None}
 use Rattle.std.proofs.Common.{sym, ap, ◌∙◌, subst}
 use Rattle.rhai_base.specs.declared.types.dynamic.Dynamic.{Dynamic}
-use Rattle.rhai_base.specs.declared.types.position.Position.{Position}
-use Rattle.rhai_base.specs.declared.types.token.Token.{Token}
+use Rattle.rhai_parts.specs.declared.types.position.Position.{Position}
+use Rattle.rhai_parts.specs.declared.types.token.Token.{Token}
 use Rattle.rhai_base.specs.Value.{Text}
 use Rattle.rhai_base.specs.Operators.{Operator}
 use Rattle.rhai_base.specs.Reading.{value_of, operator_of}
@@ -18,7 +18,7 @@ use Rattle.rhai_ast.specs.declared.ast.stmt.StmtBlock.{StmtBlock}
 use Rattle.rhai_ast.specs.declared.ast.expr.FnCallExpr.{FnCallExpr}
 use Rattle.rhai_ast.specs.declared.ast.stmt.FlowControl.{FlowControl}
 use Rattle.rhai_ast.specs.declared.ast.script_fn.ScriptFuncDef.{ScriptFuncDef}
-use Rattle.rhai_ast.specs.Tree.{Mark, NoToken, OfOperator, OfOther, Callee, Expr, DynamicConstant, BoolConstant, IntegerConstant, CharConstant, StringConstant, UnitConstant, ArrayOf, BlockExpr, FnCall, Exprs, Stmt, Noop, If, Block, ExprStmt, FnCallStmt, Stmts, Function, exprs, stmts}
+use Rattle.rhai_meaning.specs.Tree.{Mark, NoToken, OfOperator, OfOther, Callee, Expr, DynamicConstant, BoolConstant, IntegerConstant, CharConstant, StringConstant, UnitConstant, ArrayOf, BlockExpr, FnCall, Exprs, Stmt, Noop, If, Block, ExprStmt, FnCallStmt, Stmts, Function, exprs, stmts}
 
 abbrev pub mark_by : Option Operator → Mark
 mark_by (Some op) = OfOperator op

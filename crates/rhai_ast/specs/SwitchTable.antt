@@ -4,13 +4,13 @@ use Rattle.std.specs.List.{list_all, list_any}
 use Rattle.rhai_base.specs.declared.types.dynamic.Dynamic.{Dynamic}
 use Rattle.rhai_base.specs.Value.{is_hashable}
 use Rattle.rhai_base.specs.Reading.{value_of}
-use Rattle.rhai_base.specs.declared.error.AstError.{AstError}
-use Rattle.rhai_base.specs.declared.error.AstError.TheVariants.{SwitchIndex, SwitchDefaultCondition, SwitchDefaultShared, SwitchKey}
+use Rattle.rhai_parts.specs.declared.error.AstError.{AstError}
+use Rattle.rhai_parts.specs.declared.error.AstError.TheVariants.{SwitchIndex, SwitchDefaultCondition, SwitchDefaultShared, SwitchKey}
 use Rattle.rhai_ast.specs.declared.ast.expr.BinaryExpr.{BinaryExpr}
 use Rattle.rhai_ast.specs.declared.ast.switch.CaseBlocksList.{CaseBlocksList}
 use Rattle.rhai_base.specs.declared.eval.switch.RangeCase.{RangeCase}
 use Rattle.rhai_base.specs.Ranges.{index_of}
-use Rattle.rhai_ast.specs.Tree.{Expr, BoolConstant}
+use Rattle.rhai_meaning.specs.Tree.{Expr, BoolConstant}
 use Rattle.rhai_ast.specs.Reading.{expr_of}
 
 abbrev pub are_keys : List (Dynamic × CaseBlocksList) → Bool

@@ -1,12 +1,9 @@
 pub mod Forms
 pub mod Rows
 pub mod Differing
-pub mod Applied
 pub mod Upward
 pub mod RangeCases
 pub mod Hashable
-pub mod Sorted
-pub mod Words
 pub mod Exact
 pub mod Recovered
 pub mod Same

@@ -1,15 +1,6 @@
 pub mod Value
-pub mod Names
-pub mod Laws
 pub mod Operators
 pub mod Reading
 pub mod Builtin
-pub mod Symbols
-pub mod Tokens
-pub mod Positions
-pub mod Paths
-pub mod Refusals
-pub mod Assignments
-pub mod formers
 pub mod Ranges
 pub mod Upward

@@ -7,8 +7,8 @@ use Rattle.rhai_base.specs.declared.types.dynamic.Dynamic.TheViews as views
 use Rattle.rhai_base.specs.declared.types.dynamic.Dynamic.TheFolds as folds
 use Rattle.rhai_base.specs.declared.types.dynamic.Dynamic.TheVariants as dynamic
 use Rattle.rhai_base.specs.declared.types.fn_ptr.FnPtr.{FnPtr}
-use Rattle.rhai_base.specs.declared.types.token.Token.{Token}
-use Rattle.rhai_base.specs.declared.types.token.Token.TheVariants as token
+use Rattle.rhai_parts.specs.declared.types.token.Token.{Token}
+use Rattle.rhai_parts.specs.declared.types.token.Token.TheVariants as token
 use Rattle.rhai_base.specs.Value.{Text, Value, UnitV, BoolV, IntV, CharV, TextV, ArrayV, MapV, PointerV, RangeV, RangeInclusiveV, Values, values, fields}
 use Rattle.rhai_base.specs.Operators.{Operator, Plus, Minus, Multiply, Divide, Modulo, Power, ShiftLeft, ShiftRight, BitAnd, BitOr, BitXor, EqualTo, NotEqualTo, Less, Greater, LessOrEqual, GreaterOrEqual, UpTo, Through, Not, Negative, Positive}
 

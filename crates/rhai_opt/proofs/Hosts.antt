@@ -4,7 +4,7 @@ use Rattle.rhai_base.specs.Value.{Value, UnitV, ArrayV, item, items, values}
 use Rattle.rhai_base.specs.declared.types.dynamic.Dynamic.{Dynamic}
 use Rattle.rhai_base.specs.declared.types.dynamic.Dynamic.TheVariants as dynamic
 use Rattle.rhai_base.specs.Reading.{value_of, value_of-Unit, value_of-Array}
-use Rattle.rhai_ast.specs.Act.{Answers}
+use Rattle.rhai_meaning.specs.Act.{Answers}
 use Rattle.rhai_opt.specs.Host.{joined_texts, pushed, appended, unit_alone}
 
 pub joined_texts-few : (vs : List Value) → length vs < 2 → unit_alone ≡ joined_texts vs

@@ -2,10 +2,10 @@
 use Rattle.std.proofs.Common.{◌≡◌, ℕ, List, [], ◌++◌, ap, ◌∙◌}
 use Rattle.rhai_base.specs.Value.{Text}
 use Rattle.rhai_base.specs.declared.types.scope.ScopeEntry.{ScopeEntry}
-use Rattle.rhai_ast.specs.Desugar.{core_script}
-use Rattle.rhai_ast.specs.Engine.{Engine}
-use Rattle.rhai_ast.specs.Run.{AtStatements, Report, report_of, run_script}
-use Rattle.rhai_ast.specs.Tree.{Script}
+use Rattle.rhai_meaning.specs.Desugar.{core_script}
+use Rattle.rhai_meaning.specs.Engine.{Engine}
+use Rattle.rhai_meaning.specs.Run.{AtStatements, Report, report_of, run_script}
+use Rattle.rhai_meaning.specs.Tree.{Script}
 use Rattle.rhai_run.specs.EngineInfo.{nothing_set}
 use Rattle.rhai_run.specs.Entries.{start_scope}
 use Rattle.rhai_run.specs.Small.{small_script}

@@ -4,8 +4,8 @@ use Rattle.std.specs.declared.alloc.Global.{Global}
 use Rattle.std.specs.declared.rc.Rc.{Rc}
 use Rattle.std.specs.Rc.{rc_value}
 use Rattle.rhai_base.specs.Value.{Text}
-use Rattle.rhai_ast.specs.Engine.{Engine}
-use Rattle.rhai_ast.specs.Tree.{Stmts, Script, Function}
+use Rattle.rhai_meaning.specs.Engine.{Engine}
+use Rattle.rhai_meaning.specs.Tree.{Stmts, Script, Function}
 use Rattle.rhai_ast.specs.Reading.{stmts_of}
 use Rattle.rhai_ast.specs.declared.ast.script_fn.ScriptFuncDef.{ScriptFuncDef}
 use Rattle.rhai_ast.specs.declared.ast.stmt.Stmt.{Stmt}
@@ -13,8 +13,8 @@ use Rattle.rhai_script.specs.FnKey.{definitions_table}
 use Rattle.rhai_script.specs.Script.{functions_of, script_of}
 use Rattle.rhai_script.specs.declared.ast.AST.{AST}
 use Rattle.rhai_run.specs.EngineInfo.{nothing_set}
-use Rattle.rhai_optimizer.specs.Residue.{AreReduced}
-use Rattle.rhai_optimizer.specs.SameRuns.{SameRuns}
+use Rattle.rhai_rewriting.specs.Residue.{AreReduced}
+use Rattle.rhai_rewriting.specs.SameRuns.{SameRuns}
 use Rattle.rhai_optimizer.specs.Source.{source_of}
 use Rattle.rhai_optimizer.specs.declared.optimizer.level.OptimizationLevel.{OptimizationLevel}
 use Rattle.rhai_optimizer.specs.declared.optimizer.level.OptimizationLevel.TheVariants as level

@@ -1,8 +1,8 @@
 -- How a run's report is printed.
 use Rattle.std.specs.Prelude.{List, [], ◌∷◌, ◌++◌, Option, Some, None, codes, decimal, if◌then◌else◌}
 use Rattle.rhai_base.specs.Value.{Text, Value, inner}
-use Rattle.rhai_ast.specs.Act.{Entry, Call}
-use Rattle.rhai_ast.specs.Run.{End, WithValue, WithThrown, WithStuck, WithoutTurns, Report}
+use Rattle.rhai_meaning.specs.Act.{Entry, Call}
+use Rattle.rhai_meaning.specs.Run.{End, WithValue, WithThrown, WithStuck, WithoutTurns, Report}
 use Rattle.rhai_run.specs.Report.{stuck_number, stuck_name}
 
 abbrev pub end_text : End → Text

@@ -2,7 +2,7 @@
 use Rattle.std.specs.Prelude.{List, [], ◌∷◌, ℤ, pos, Option, Some, None, codes, false, if◌then◌else◌}
 use Rattle.rhai_base.specs.Value.{Text, same_text}
 use Rattle.rhai_base.specs.Operators.{Operator, Plus, Divide, EqualTo, symbol}
-use Rattle.rhai_ast.specs.Tree.{Mark, OfOperator, Expr, IntegerConstant, FnCall, no_exprs, expr, Stmts, no_stmts, stmt, If, ExprStmt}
+use Rattle.rhai_meaning.specs.Tree.{Mark, OfOperator, Expr, IntegerConstant, FnCall, no_exprs, expr, Stmts, no_stmts, stmt, If, ExprStmt}
 use Rattle.rhai_opt.specs.declared.scripts.BuiltinScript.{BuiltinScript}
 use Rattle.rhai_opt.specs.declared.scripts.BuiltinScript.TheVariants as script
 

@@ -2,15 +2,15 @@
 use Rattle.std.specs.Prelude.{◌≡◌, ◌≢◌, ℕ, ◌+◌, ◌-◌, ◌*◌, ◌^◌, ◌&&◌, nat_lt, List, [], ◌∷◌, ◌++◌, Option, Some, None, codes, if◌then◌else◌}
 use Rattle.std.specs.Str.{all_ascii_digits}
 use Rattle.rhai_base.specs.Value.{Text, same_text}
-use Rattle.rhai_ast.specs.Desugar.{core_script}
-use Rattle.rhai_ast.specs.Run.{AtStatements, Report, report_of, run_script}
-use Rattle.rhai_ast.specs.Tree.{Script}
+use Rattle.rhai_meaning.specs.Desugar.{core_script}
+use Rattle.rhai_meaning.specs.Run.{AtStatements, Report, report_of, run_script}
+use Rattle.rhai_meaning.specs.Tree.{Script}
 use Rattle.rhai_optimizer.specs.declared.optimizer.level.OptimizationLevel.{OptimizationLevel}
 use Rattle.rhai_optimizer.specs.declared.optimizer.level.OptimizationLevel.TheVariants as level
 use Rattle.rhai_run.specs.EngineInfo.{nothing_set}
 use Rattle.rhai_run.specs.Small.{small_script}
-use Rattle.rhai_optimizer.specs.Residue.{AreReduced}
-use Rattle.rhai_optimizer.specs.SameRuns.{SameRuns}
+use Rattle.rhai_rewriting.specs.Residue.{AreReduced}
+use Rattle.rhai_rewriting.specs.SameRuns.{SameRuns}
 use Rattle.rhai_opt.specs.declared.scripts.BuiltinScript.{BuiltinScript}
 use Rattle.rhai_opt.specs.declared.request.Request.{Request}
 use Rattle.rhai_opt.specs.declared.request.Request.TheVariants as request

@@ -191,7 +191,7 @@ struct Throws;
 
 impl Host for Throws {
     ghost use Rattle.rhai_base.specs.Value.{TextV};
-    ghost use Rattle.rhai_ast.specs.Act.{AnswersThrow};
+    ghost use Rattle.rhai_meaning.specs.Act.{AnswersThrow};
     ghost use Rattle.std.specs.Prelude.{[]};
 
     ghost answers = { λ host past call. AnswersThrow (TextV call.name) };

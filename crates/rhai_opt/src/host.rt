@@ -5,7 +5,7 @@ ghost use Rattle.std.specs.Prelude.{◌≡◌, ◌++◌, [], IfOk, None, map};
 ghost use Rattle.std.specs.Option.{option_map};
 ghost use Rattle.rhai_base.specs.Reading.{value_of};
 ghost use Rattle.rhai_base.specs.Value.{TextV, text_of};
-ghost use Rattle.rhai_ast.specs.Act.{Answers};
+ghost use Rattle.rhai_meaning.specs.Act.{Answers};
 ghost use Rattle.rhai_run.specs.Host.{answer_meant};
 ghost use Rattle.rhai_opt.specs.Host as spec;
 

@@ -1,2 +1,1 @@
 pub mod rewriting
-pub mod soundness

@@ -1,11 +1,6 @@
-pub mod Plain
-pub mod Weights
-pub mod Flags
-pub mod Firing
 pub mod Passing
 pub mod Nodes
 pub mod Shapes
 pub mod Flattening
 pub mod Values
-pub mod Folds
 pub mod Tokens

@@ -1,11 +1,3 @@
-pub mod Known
-pub mod Folding
-pub mod Rewriting
 pub mod Marks
-pub mod Shapes
-pub mod Weight
-pub mod Residue
-pub mod Steps
-pub mod Correct
-pub mod SameRuns
+pub mod Operands
 pub mod Source

@@ -1,7 +1,7 @@
 -- The mark that a declared one stands for.
 use Rattle.rhai_optimizer.specs.declared.optimizer.mark.ListMark.{ListMark}
 use Rattle.rhai_optimizer.specs.declared.optimizer.mark.ListMark.TheVariants as declared_mark
-use Rattle.rhai_optimizer.specs.Rewriting.{Mark, Whole, Inside}
+use Rattle.rhai_rewriting.specs.Rewriting.{Mark, Whole, Inside}
 
 abbrev pub mark_of : ListMark → Mark
 mark_of declared_mark.Whole = Whole

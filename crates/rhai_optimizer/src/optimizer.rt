@@ -1,17 +1,17 @@
 //! The optimiser: its entry, and the modules that do the work.
 ghost use Rattle.std.specs.Prelude.{◌≡◌, ◌≢◌, ◌≤◌, IfOk, map, true};
-ghost use Rattle.rhai_ast.specs.Faults.{AreWellFormed};
+ghost use Rattle.rhai_meaning.specs.Faults.{AreWellFormed};
 ghost use Rattle.rhai_ast.specs.Reading.{stmts_of};
 ghost use Rattle.rhai_run.specs.EngineInfo.{engine_of};
 ghost use Rattle.rhai_script.specs.FnKey.{definitions_table};
 ghost use Rattle.rhai_script.specs.Script.{script_of};
 ghost use Rattle.std.specs.Rc.{rc_value};
 ghost use Rattle.rhai_optimizer.specs.Source.{source_of};
-ghost use Rattle.rhai_optimizer.specs.Residue.{AreReduced};
-ghost use Rattle.rhai_optimizer.specs.Rewriting.{StmtsTo, Whole};
-ghost use Rattle.rhai_optimizer.specs.SameRuns.{SameRuns};
-ghost use Rattle.rhai_optimizer.specs.Steps.{under};
-ghost use Rattle.rhai_optimizer.specs.Weight.{weight};
+ghost use Rattle.rhai_rewriting.specs.Residue.{AreReduced};
+ghost use Rattle.rhai_rewriting.specs.Rewriting.{StmtsTo, Whole};
+ghost use Rattle.rhai_rewriting.specs.SameRuns.{SameRuns};
+ghost use Rattle.rhai_rewriting.specs.Steps.{under};
+ghost use Rattle.rhai_rewriting.specs.Weight.{weight};
 
 pub mod constants;
 pub mod cycle;

@@ -2,23 +2,23 @@
 use Rattle.std.proofs.Common.{◌≡◌, ℕ, Bool, true, List, [], map, length, take, None, Some, Result, Ok, Err, refl, sym, ap, ◌∙◌, subst, arith}
 use Rattle.rhai_base.specs.declared.types.dynamic.Dynamic.{Dynamic}
 use Rattle.rhai_base.specs.declared.types.dynamic.Dynamic.TheVariants as value
-use Rattle.rhai_base.specs.declared.types.position.Position.{Position}
-use Rattle.rhai_base.specs.declared.types.token.Token.{Token}
+use Rattle.rhai_parts.specs.declared.types.position.Position.{Position}
+use Rattle.rhai_parts.specs.declared.types.token.Token.{Token}
 use Rattle.rhai_base.specs.Operators.{Operator}
 use Rattle.rhai_base.specs.Reading.{value_of, operator_of}
 use Rattle.rhai_base.specs.Value.{UnitV, ArrayV, values}
 use Rattle.rhai_ast.specs.declared.ast.expr.Expr.{Expr}
 use Rattle.rhai_ast.specs.declared.ast.expr.Expr.TheVariants as expr_kind
 use Rattle.rhai_ast.specs.declared.ast.expr.FnCallExpr.{FnCallExpr}
-use Rattle.rhai_ast.specs.Act.{Gives, IsStuck, WrongKind, Ended, Halted, Act, run}
-use Rattle.rhai_ast.specs.ActForms.{give, branch, if_true, ◌>>=◌}
-use Rattle.rhai_ast.specs.Calls.{called, operate}
-use Rattle.rhai_ast.specs.Core as core
-use Rattle.rhai_ast.specs.Desugar.{call_of, core_exprs}
-use Rattle.rhai_ast.specs.Meaning.{act, acts}
+use Rattle.rhai_meaning.specs.Act.{Gives, IsStuck, WrongKind, Ended, Halted, Act, run}
+use Rattle.rhai_meaning.specs.ActForms.{give, branch, if_true, ◌>>=◌}
+use Rattle.rhai_meaning.specs.Calls.{called, operate}
+use Rattle.rhai_meaning.specs.Core as core
+use Rattle.rhai_meaning.specs.Desugar.{call_of, core_exprs}
+use Rattle.rhai_meaning.specs.Meaning.{act, acts}
 use Rattle.rhai_ast.specs.Reading.{callee_of, expr_of, exprs_of, expr_of-Array}
-use Rattle.rhai_ast.specs.Run.{reversed}
-use Rattle.rhai_ast.specs.Tree as tree
+use Rattle.rhai_meaning.specs.Run.{reversed}
+use Rattle.rhai_meaning.specs.Tree as tree
 use Rattle.rhai_run.specs.declared.plain.state.Interrupt.{Interrupt}
 use Rattle.rhai_run.specs.declared.plain.state.State.{State}
 use Rattle.rhai_run.specs.Entries.{variable_meant}

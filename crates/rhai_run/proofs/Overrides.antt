@@ -3,7 +3,7 @@ use Rattle.std.proofs.Common.{◌≡◌, ◌≢◌, ℕ, suc, ◌+◌, ◌<◌, 
 use Rattle.std.specs.Map.Iter.{deref}
 use Rattle.std.proofs.Math.Seq.{drop-cons, drop-length}
 use Rattle.rhai_base.specs.Value.{Text, same_text}
-use Rattle.rhai_ast.specs.Engine.{Override, has_override, same_texts}
+use Rattle.rhai_meaning.specs.Engine.{Override, has_override, same_texts}
 use Rattle.rhai_run.specs.Override.{is_override}
 
 pub has_override-drop : (os : List Override) (i : ℕ) (d : Override) (name : Text) (types : List Text) → i < length os

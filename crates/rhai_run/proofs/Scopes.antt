@@ -1,8 +1,8 @@
 -- Lists of names, turned and cut.
 use Rattle.std.proofs.Common.{◌≡◌, ℕ, ◌+◌, ◌-◌, List, [], ◌∷◌, ◌++◌, map, length, drop, take, refl, sym, ap, ◌∙◌, arith, append-nil, append_assoc}
 use Rattle.std.proofs.lemmas.List.{drop_at, length-drop, length-map, take-append-drop, take-map}
-use Rattle.rhai_ast.specs.Act.{Entry, restore}
-use Rattle.rhai_ast.specs.Run.{reversed}
+use Rattle.rhai_meaning.specs.Act.{Entry, restore}
+use Rattle.rhai_meaning.specs.Run.{reversed}
 
 reversed_onto : (es fs : List Entry) → reversed es fs ≡ reversed es [] ++ fs
 reversed_onto [] fs = refl

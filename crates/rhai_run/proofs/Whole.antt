@@ -2,12 +2,12 @@
 use Rattle.std.proofs.Common.{◌≡◌, ℕ, true, List, [], map, None, Result, Ok, Err, sym, ap, ◌∙◌, arith}
 use Rattle.rhai_base.specs.declared.types.dynamic.Dynamic.{Dynamic}
 use Rattle.rhai_base.specs.Value.{UnitV}
-use Rattle.rhai_ast.specs.Act.{Entry, Host, Outcome, returned, returned_outcome, run_all}
-use Rattle.rhai_ast.specs.Desugar.{core_function, core_script}
-use Rattle.rhai_ast.specs.Engine.{Engine}
-use Rattle.rhai_ast.specs.Meaning.{acts}
-use Rattle.rhai_ast.specs.Run.{AtStatements, Report, end_of, report_of, run_script, world_of}
-use Rattle.rhai_ast.specs.Tree.{Script}
+use Rattle.rhai_meaning.specs.Act.{Entry, Host, Outcome, returned, returned_outcome, run_all}
+use Rattle.rhai_meaning.specs.Desugar.{core_function, core_script}
+use Rattle.rhai_meaning.specs.Engine.{Engine}
+use Rattle.rhai_meaning.specs.Meaning.{acts}
+use Rattle.rhai_meaning.specs.Run.{AtStatements, Report, end_of, report_of, run_script, world_of}
+use Rattle.rhai_meaning.specs.Tree.{Script}
 use Rattle.rhai_run.specs.declared.plain.state.Interrupt.{Interrupt}
 use Rattle.rhai_run.specs.declared.plain.state.Interrupt.TheVariants.{NoMemory, Throw, Stuck}
 use Rattle.rhai_run.specs.declared.plain.state.State.{State}

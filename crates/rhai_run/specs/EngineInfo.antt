@@ -1,7 +1,10 @@
 -- The abstract record that an engine's record stands for.
-use Rattle.std.specs.Prelude.{false, List, [], ◌∷◌, ◌++◌}
+use Rattle.std.specs.Prelude.{Bool, false, not, ◌||◌, List, [], ◌∷◌, ◌++◌}
 use Rattle.rhai_base.specs.Value.{Text}
-use Rattle.rhai_ast.specs.Engine.{Engine}
+use Rattle.rhai_parts.specs.declared.types.token.Token.{Token}
+use Rattle.rhai_parts.specs.Symbols.{token_text}
+use Rattle.rhai_parts.specs.Tokens.{makes_range}
+use Rattle.rhai_meaning.specs.Engine.{Engine, has_override}
 use Rattle.rhai_run.specs.declared.engine_info.EngineInfo.{EngineInfo}
 
 -- neither constants nor other type names yet
@@ -14,3 +17,7 @@ nothing_set = record { constants = []; overrides = []; type_names = []; fast_ope
 -- with one more override, the last
 abbrev pub overriding : Engine → Text → List Text → Engine
 overriding e name types = record e { overrides = e.overrides ++ record { name = name; types = types } ∷ [] }
+
+-- the built-in operator is tried at operands of these types; ranges cannot be overridden
+abbrev pub tries_builtin : Engine → Token → List Text → Bool
+tries_builtin e op types = makes_range op || e.fast_operators || not (has_override e.overrides (token_text op) types)

@@ -4,8 +4,8 @@ use Rattle.rhai_base.specs.Value.{Text}
 use Rattle.rhai_base.specs.Reading.{value_of}
 use Rattle.rhai_base.specs.declared.types.dynamic.Dynamic.{Dynamic}
 use Rattle.rhai_base.specs.declared.types.scope.ScopeEntry.{ScopeEntry}
-use Rattle.rhai_ast.specs.Act.{Entry}
-use Rattle.rhai_ast.specs.Run.{reversed}
+use Rattle.rhai_meaning.specs.Act.{Entry}
+use Rattle.rhai_meaning.specs.Run.{reversed}
 
 abbrev pub variable_meant : Text × Bool × Dynamic → Entry
 variable_meant v = record { name = v.0; constant = v.1; value = value_of v.2 }

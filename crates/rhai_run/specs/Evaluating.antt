@@ -3,13 +3,13 @@ use Rattle.std.specs.Prelude.{◌≡◌, ℕ, ◌≤◌, true, false, List, map,
 use Rattle.rhai_base.specs.Value.{Value, UnitV}
 use Rattle.rhai_base.specs.declared.types.dynamic.Dynamic.{Dynamic}
 use Rattle.rhai_base.specs.Reading.{value_of}
-use Rattle.rhai_ast.specs.Tree as tree
-use Rattle.rhai_ast.specs.Act.{Call, Answer, World, Gives, Throws, IsStuck, WrongKind, Outcome, Ended, Halted, At, Act, Acts, Scoped, Env, run, run_all}
-use Rattle.rhai_ast.specs.Core.{Exprs, Deed, Stmt, Function}
-use Rattle.rhai_ast.specs.Desugar.{call_of, core_exprs, core_function}
-use Rattle.rhai_ast.specs.Host.{ModuleValue}
-use Rattle.rhai_ast.specs.Meaning.{act, acts, deed, line, with_args}
-use Rattle.rhai_ast.specs.Run.{env_at, world_of}
+use Rattle.rhai_meaning.specs.Tree as tree
+use Rattle.rhai_meaning.specs.Act.{Call, Answer, World, Gives, Throws, IsStuck, WrongKind, Outcome, Ended, Halted, At, Act, Acts, Scoped, Env, run, run_all}
+use Rattle.rhai_meaning.specs.Core.{Exprs, Deed, Stmt, Function}
+use Rattle.rhai_meaning.specs.Desugar.{call_of, core_exprs, core_function}
+use Rattle.rhai_meaning.specs.Host.{ModuleValue}
+use Rattle.rhai_meaning.specs.Meaning.{act, acts, deed, line, with_args}
+use Rattle.rhai_meaning.specs.Run.{env_at, world_of}
 use Rattle.rhai_script.specs.Script.{functions_of}
 use Rattle.rhai_run.specs.declared.plain.evaluator.Evaluator.{Evaluator}
 use Rattle.rhai_run.specs.declared.plain.state.Interrupt.{Interrupt}
@@ -17,7 +17,7 @@ use Rattle.rhai_run.specs.declared.plain.state.Interrupt.TheVariants.{NoMemory, 
 use Rattle.rhai_run.specs.declared.plain.state.State.{State}
 use Rattle.rhai_run.specs.declared.report.RunEnd.{RunEnd}
 use Rattle.rhai_run.specs.declared.report.RunEnd.TheVariants as ended
-use Rattle.rhai_ast.specs.Faults.{is_unit}
+use Rattle.rhai_meaning.specs.Faults.{is_unit}
 use Rattle.rhai_run.specs.EngineInfo.{engine_of}
 use Rattle.rhai_run.specs.Host.{host_of}
 use Rattle.rhai_run.specs.Report.{stuck_meant}

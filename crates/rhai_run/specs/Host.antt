@@ -1,8 +1,8 @@
 -- What is asked of a host, and what it answers.
 use Rattle.std.specs.Prelude.{List, map, option_map}
 use Rattle.rhai_base.specs.Reading.{value_of}
-use Rattle.rhai_ast.specs.Act.{Call, Answer, Answers, AnswersThrow, Host}
-use Rattle.rhai_ast.specs.Host.{ModuleValue, module_value_of}
+use Rattle.rhai_meaning.specs.Act.{Call, Answer, Answers, AnswersThrow, Host}
+use Rattle.rhai_meaning.specs.Host.{ModuleValue, module_value_of}
 use Rattle.rhai_run.specs.declared.host.HostCall.{HostCall}
 use Rattle.rhai_run.specs.declared.host.HostAnswer.{HostAnswer}
 use Rattle.rhai_run.specs.declared.host.HostAnswer.TheVariants as answer_kind

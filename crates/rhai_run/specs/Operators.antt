@@ -1,13 +1,13 @@
 -- The operator of a call, by its token.
 use Rattle.std.specs.Prelude.{◌≡◌, ℕ, List, Option, Some, None, if◌then◌else◌}
 use Rattle.std.specs.Option.{option_map}
-use Rattle.rhai_base.specs.declared.types.token.Token.{Token}
+use Rattle.rhai_parts.specs.declared.types.token.Token.{Token}
 use Rattle.rhai_base.specs.Value.{Value}
 use Rattle.rhai_base.specs.Operators.{Operator, Computed, NoEntry, arity}
 use Rattle.rhai_base.specs.Reading.{operator_of}
-use Rattle.rhai_ast.specs.Engine.{Engine, built_in}
-use Rattle.rhai_ast.specs.Faults.{has_token}
-use Rattle.rhai_ast.specs.Tree.{Mark, NoToken, OfOperator, OfOther, Callee}
+use Rattle.rhai_meaning.specs.Engine.{Engine, built_in}
+use Rattle.rhai_meaning.specs.Faults.{has_token}
+use Rattle.rhai_meaning.specs.Tree.{Mark, NoToken, OfOperator, OfOther, Callee}
 
 -- how many operands a token's operator has, if it stands for one
 abbrev pub token_arity : Token → Option ℕ

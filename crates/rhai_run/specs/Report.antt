@@ -2,8 +2,8 @@
 use Rattle.std.specs.Prelude.{ℕ, map, None, codes}
 use Rattle.rhai_base.specs.Value.{Text}
 use Rattle.rhai_base.specs.Reading.{value_of}
-use Rattle.rhai_ast.specs.Act as act
-use Rattle.rhai_ast.specs.Run.{End, WithValue, WithThrown, WithStuck, WithoutTurns, Report}
+use Rattle.rhai_meaning.specs.Act as act
+use Rattle.rhai_meaning.specs.Run.{End, WithValue, WithThrown, WithStuck, WithoutTurns, Report}
 use Rattle.rhai_run.specs.declared.report.Stuck.{Stuck}
 use Rattle.rhai_run.specs.declared.report.Stuck.TheVariants as stuck
 use Rattle.rhai_run.specs.declared.report.RunEnd.{RunEnd}

@@ -1,7 +1,7 @@
 -- The small language: of calls it has those of operators, and a call by a name has no meaning in it.
-use Rattle.rhai_ast.specs.Tree as tree
-use Rattle.rhai_ast.specs.Core.{Callee, OnOperator, ByName, Expr, Ill, Constant, ArrayOf, BlockExpr, FnCall, Exprs, no_exprs, expr, Deed, Noop, If, Block, Evaluate, Stmt, Does, Stmts, no_stmts, stmt, Script}
-use Rattle.rhai_ast.specs.Desugar.{core_expr, core_exprs, core_stmt, core_stmts}
+use Rattle.rhai_meaning.specs.Tree as tree
+use Rattle.rhai_meaning.specs.Core.{Callee, OnOperator, ByName, Expr, Ill, Constant, ArrayOf, BlockExpr, FnCall, Exprs, no_exprs, expr, Deed, Noop, If, Block, Evaluate, Stmt, Does, Stmts, no_stmts, stmt, Script}
+use Rattle.rhai_meaning.specs.Desugar.{core_expr, core_exprs, core_stmt, core_stmts}
 
 abbrev pub small_call : Callee → Exprs → Expr
 small_call (OnOperator op) es = FnCall (OnOperator op) es

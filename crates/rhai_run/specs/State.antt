@@ -1,7 +1,7 @@
 -- Where a run stands.
 use Rattle.std.specs.Prelude.{[], map, None}
-use Rattle.rhai_ast.specs.Act.{Store}
-use Rattle.rhai_ast.specs.Run.{reversed}
+use Rattle.rhai_meaning.specs.Act.{Store}
+use Rattle.rhai_meaning.specs.Run.{reversed}
 use Rattle.rhai_run.specs.declared.plain.state.State.{State}
 use Rattle.rhai_run.specs.Entries.{variable_meant}
 use Rattle.rhai_run.specs.Host.{call_meant}

@@ -1,10 +1,10 @@
 //! What an engine fixes for every script that it runs.
 ghost use Rattle.std.specs.Prelude.{◌≡◌, [], map, false, OnOk, OnErr};
 ghost use Rattle.std.specs.Map.Iter.{deref};
-ghost use Rattle.rhai_ast.specs.Engine.{has_override, same_texts};
+ghost use Rattle.rhai_meaning.specs.Engine.{has_override, same_texts};
 ghost use Rattle.rhai_run.specs.Override.{is_override};
 
-use rhai_base::{ImmutableString, OutOfMemory, Seq};
+use rhai_base::{ImmutableString, OutOfMemory, Seq, Token};
 use std::alloc::Global;
 use std::marker::Model;
 
@@ -16,7 +16,7 @@ struct OperatorOverride {
 }
 
 impl Model for OperatorOverride {
-    ghost use Rattle.rhai_ast.specs.Engine.{Override};
+    ghost use Rattle.rhai_meaning.specs.Engine.{Override};
 
     ghost Value = { Override };
 
@@ -53,7 +53,7 @@ pub struct EngineInfo {
 }
 
 impl EngineInfo {
-    ghost use Rattle.rhai_run.specs.EngineInfo.{engine_of, nothing_set, overriding};
+    ghost use Rattle.rhai_run.specs.EngineInfo.{engine_of, nothing_set, overriding, tries_builtin};
 
     /// Nothing set, fast operators off.
     pub fn new(alloc: Global) -> EngineInfo
@@ -92,6 +92,16 @@ impl EngineInfo {
         false
     }
 
+    /// Whether the built-in operator is tried at operands of these types, and the host is asked only where
+    /// there is none. Ranges cannot be overridden.
+    pub fn tries_builtin(&self, op: Token, types: &[&str]) -> bool
+        ensures { result ≡ tries_builtin (engine_of self.now) op (map deref types.now) }
+    {
+        matches!(op, Token::ExclusiveRange | Token::InclusiveRange)
+            || self.fast_operators
+            || !self.is_overridden(op.literal_syntax(), types)
+    }
+
     /// Whether built-in operators go before the host's.
     pub fn set_fast_operators(&mut self, enable: bool)
         ensures { engine_of self.new ≡ record (engine_of self.old) { fast_operators = enable } }
@@ -124,6 +134,10 @@ mod tests {
         assert!(rt; !info.is_overridden("!", &["i64"]));
         assert!(rt; !info.is_overridden("!", &["bool", "bool"]));
         assert!(rt; !info.is_overridden("-", &["bool"]));
+        assert!(rt; !info.tries_builtin(Token::Bang, &["bool"]));
+        assert!(rt; info.tries_builtin(Token::Bang, &["i64"]));
+        info.set_fast_operators(true);
+        assert!(rt; info.tries_builtin(Token::Bang, &["bool"]));
         Ok(())
     }
 

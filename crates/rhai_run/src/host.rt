@@ -1,8 +1,8 @@
 //! What a script asks its host.
 ghost use Rattle.std.specs.Prelude.{◌≡◌, List, map, option_map, IfOk};
 ghost use Rattle.rhai_base.specs.Reading.{value_of};
-ghost use Rattle.rhai_ast.specs.Act.{Call, Answer};
-ghost use Rattle.rhai_ast.specs.Host.{ModuleValue, module_value_of};
+ghost use Rattle.rhai_meaning.specs.Act.{Call, Answer};
+ghost use Rattle.rhai_meaning.specs.Host.{ModuleValue, module_value_of};
 ghost use Rattle.rhai_run.specs.Host.{call_meant, answer_meant};
 
 use rhai_base::{Dynamic, ImmutableString, OutOfMemory, Seq};

@@ -2,11 +2,11 @@
 use Rattle.std.proofs.Common.{◌≡◌, true, false, not, List, [], ◌∷◌, ◌++◌, map, refl, sym, ap, ◌∙◌, if◌then◌else◌, append_assoc}
 use Rattle.std.proofs.lemmas.Bool.{and_parts, or_parts, or_from, not-true, both_ways, false_from_ne_true}
 use Rattle.std.proofs.lemmas.List.{append-nil}
-use Rattle.rhai_ast.specs.Act.{Key}
-use Rattle.rhai_ast.specs.Calls.{same_key, has_key}
-use Rattle.rhai_ast.specs.Desugar.{core_function}
-use Rattle.rhai_ast.specs.Run as run
-use Rattle.rhai_ast.specs.Tree.{Function}
+use Rattle.rhai_meaning.specs.Act.{Key}
+use Rattle.rhai_meaning.specs.Calls.{same_key, has_key}
+use Rattle.rhai_meaning.specs.Desugar.{core_function}
+use Rattle.rhai_meaning.specs.Run as run
+use Rattle.rhai_meaning.specs.Tree.{Function}
 use Rattle.rhai_script.specs.Table.{put_by, put_all_by, table_of, are_distinct, key_of}
 use Rattle.rhai_script.proofs.Keys.{same_key-true}
 use Rattle.rhai_script.proofs.Tables.{are_distinct-put, map-put_all}

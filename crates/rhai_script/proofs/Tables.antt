@@ -6,8 +6,8 @@ use Rattle.std.specs.Rc.{rc_value}
 use Rattle.std.specs.declared.rc.Rc.{Rc}
 use Rattle.std.specs.declared.alloc.Global.{Global}
 use Rattle.indexmap.specs.IndexMap.{insert_entry}
-use Rattle.rhai_ast.specs.Act.{Key}
-use Rattle.rhai_ast.specs.Calls.{same_key, has_key}
+use Rattle.rhai_meaning.specs.Act.{Key}
+use Rattle.rhai_meaning.specs.Calls.{same_key, has_key}
 use Rattle.rhai_ast.specs.Reading.{function_of}
 use Rattle.rhai_ast.specs.declared.ast.script_fn.ScriptFuncDef.{ScriptFuncDef}
 use Rattle.rhai_script.specs.declared.fn_lib.FnKey.{FnKey}

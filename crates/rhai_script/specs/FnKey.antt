@@ -3,8 +3,8 @@ use Rattle.std.specs.Prelude.{◌≡◌, IsTrue, List, [], map, length}
 use Rattle.std.specs.declared.rc.Rc.{Rc}
 use Rattle.std.specs.declared.alloc.Global.{Global}
 use Rattle.std.specs.Borrow.{Bor}
-use Rattle.rhai_ast.specs.Act.{Key}
-use Rattle.rhai_ast.specs.Calls.{key}
+use Rattle.rhai_meaning.specs.Act.{Key}
+use Rattle.rhai_meaning.specs.Calls.{key}
 use Rattle.rhai_ast.specs.Reading.{function_of}
 use Rattle.rhai_ast.specs.declared.ast.script_fn.ScriptFuncDef.{ScriptFuncDef}
 use Rattle.rhai_script.specs.declared.fn_lib.FnKey.{FnKey}

@@ -6,8 +6,8 @@ ghost use Rattle.std.specs.Prelude.{◌≡◌, IfOk, map};
 ghost use Rattle.rhai_base.specs.Reading.{value_of};
 ghost use Rattle.rhai_base.specs.Value.{PointerV, values};
 ghost use Rattle.rhai_ast.specs.Reading.{expr_of, exprs_of};
-ghost use Rattle.rhai_ast.specs.Constants as constants;
-ghost use Rattle.rhai_ast.specs.Tree.{DynamicConstant};
+ghost use Rattle.rhai_meaning.specs.Constants as constants;
+ghost use Rattle.rhai_meaning.specs.Tree.{DynamicConstant};
 
 use crate::ast::StmtBlock;
 use rhai_base::{Boxed, Dynamic, FnPtr, INT, ImmutableString, OutOfMemory, Position, Seq, Token};

@@ -4,7 +4,7 @@
 
 ghost use Rattle.std.specs.Prelude.{◌≡◌, ◌↔◌, [], IsTrue, length};
 ghost use Rattle.rhai_ast.specs.Reading.{callee_of, expr_of, stmt_of, stmts_of};
-ghost use Rattle.rhai_ast.specs.Queries as queries;
+ghost use Rattle.rhai_meaning.specs.Queries as queries;
 
 use crate::ast::{Expr, FnCallExpr};
 use rhai_base::{Boxed, Position, Seq, Span};

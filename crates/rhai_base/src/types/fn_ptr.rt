@@ -2,7 +2,7 @@
 #![tactic(auto, using(crate::specs::Reading::kinds))]
 
 ghost use Rattle.std.specs.Prelude.{◌≡◌, ◌≢◌, ◌↔◌, ◌++◌, ◌∷◌, [], IsTrue, MatchOption, OnOk, OnErr, true, false};
-ghost use Rattle.rhai_base.specs.Names.{is_valid_name};
+ghost use Rattle.rhai_parts.specs.Names.{is_valid_name};
 
 use crate::{Dynamic, FnName, ImmutableString, Seq};
 use std::alloc::Global;

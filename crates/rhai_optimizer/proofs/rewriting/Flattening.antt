@@ -1,14 +1,14 @@
 -- Blocks in a list: what is done, the statements of the list in hand, and what comes after it.
 use Rattle.std.proofs.Common.{◌≡◌, ◌≤◌, Bool, true, false, List, [], ◌∷◌, ◌++◌, IsTrue, ◌↔◌, refl, sym, ap, ◌∙◌, subst, arith}
-use Rattle.rhai_base.specs.declared.types.position.Position.{Position}
+use Rattle.rhai_parts.specs.declared.types.position.Position.{Position}
 use Rattle.rhai_ast.specs.declared.ast.stmt.Stmt as declared_stmt
 use Rattle.rhai_ast.specs.declared.ast.stmt.Stmt.TheVariants as stmt_kind
-use Rattle.rhai_ast.specs.Queries.{is_any_dependent}
+use Rattle.rhai_meaning.specs.Queries.{is_any_dependent}
 use Rattle.rhai_ast.specs.Reading.{stmt_of, stmts_of, stmt_of-Noop}
-use Rattle.rhai_ast.specs.Tree.{Noop, Block, Stmts, no_stmts, stmt, joined}
-use Rattle.rhai_optimizer.specs.Rewriting.{Context, Mark, wanted, wanted_before, spliced, StmtsTo, same_stmts, then_stmts, block_gives_way}
-use Rattle.rhai_optimizer.specs.Steps.{Moves}
-use Rattle.rhai_optimizer.specs.Weight.{stmt_weight, weight}
+use Rattle.rhai_meaning.specs.Tree.{Noop, Block, Stmts, no_stmts, stmt, joined}
+use Rattle.rhai_rewriting.specs.Rewriting.{Context, Mark, wanted, wanted_before, spliced, StmtsTo, same_stmts, then_stmts, block_gives_way}
+use Rattle.rhai_rewriting.specs.Steps.{Moves}
+use Rattle.rhai_rewriting.specs.Weight.{stmt_weight, weight}
 use Rattle.rhai_optimizer.proofs.rewriting.Passing.{joined-push, joined-no_stmts}
 
 -- whether the value before the rest of a list is wanted

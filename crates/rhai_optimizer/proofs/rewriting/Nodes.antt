@@ -1,21 +1,21 @@
 -- A node whose parts are optimised, and then the node; and the passes over a list.
 use Rattle.std.proofs.Common.{◌≡◌, ◌<◌, Bool, true, false, List, Result, IfOk, refl, sym, subst, arith}
 use Rattle.std.proofs.lemmas.Result.{IfOk-weaker}
-use Rattle.rhai_base.specs.declared.error.OutOfMemory.{OutOfMemory}
-use Rattle.rhai_base.specs.declared.types.position.Position.{Position}
+use Rattle.rhai_parts.specs.declared.error.OutOfMemory.{OutOfMemory}
+use Rattle.rhai_parts.specs.declared.types.position.Position.{Position}
 use Rattle.rhai_ast.specs.declared.ast.expr.Expr as declared_expr
 use Rattle.rhai_ast.specs.declared.ast.expr.Expr.TheVariants as expr_kind
 use Rattle.rhai_ast.specs.declared.ast.expr.FnCallExpr.{FnCallExpr}
 use Rattle.rhai_ast.specs.declared.ast.stmt.Stmt as declared_stmt
 use Rattle.rhai_ast.specs.declared.ast.stmt.StmtBlock.{StmtBlock}
 use Rattle.rhai_ast.specs.Reading.{expr_of, stmt_of, ExprCase, dynamic_case, bool_case, integer_case, char_case, string_case, unit_case, array_case, block_expr_case, call_case, expr_cases, expr_of-DynamicConstant, expr_of-BoolConstant, expr_of-IntegerConstant, expr_of-CharConstant, expr_of-StringConstant, expr_of-Unit}
-use Rattle.rhai_ast.specs.Tree.{Callee, Expr, FnCall, Exprs, Stmt, If, FnCallStmt, Stmts}
-use Rattle.rhai_optimizer.specs.Rewriting.{Context, Mark, Inside, ExprTo, same_expr, then_expr, in_call, ExprsTo, StmtTo, then_stmt, in_call_statement, StmtsTo, in_each}
-use Rattle.rhai_optimizer.specs.Residue.{IsReducedExpr}
-use Rattle.rhai_optimizer.specs.Steps.{ExprRun, ExprStep, ExprParts, StmtRun, StmtStep, StmtParts, EachRun, StmtsRun}
-use Rattle.rhai_optimizer.specs.Weight.{weight}
-use Rattle.rhai_optimizer.proofs.rewriting.Weights.{stmts_fall}
-use Rattle.rhai_optimizer.proofs.rewriting.Flags.{expr_kept, stmt_kept, stmts_kept, stmts_raised}
+use Rattle.rhai_meaning.specs.Tree.{Callee, Expr, FnCall, Exprs, Stmt, If, FnCallStmt, Stmts}
+use Rattle.rhai_rewriting.specs.Rewriting.{Context, Mark, Inside, ExprTo, same_expr, then_expr, in_call, ExprsTo, StmtTo, then_stmt, in_call_statement, StmtsTo, in_each}
+use Rattle.rhai_rewriting.specs.Residue.{IsReducedExpr}
+use Rattle.rhai_rewriting.specs.Steps.{ExprRun, ExprStep, ExprParts, StmtRun, StmtStep, StmtParts, EachRun, StmtsRun}
+use Rattle.rhai_rewriting.specs.Weight.{weight}
+use Rattle.rhai_rewriting.proofs.Weights.{stmts_fall}
+use Rattle.rhai_rewriting.proofs.Flags.{expr_kept, stmt_kept, stmts_kept, stmts_raised}
 
 -- ---- one node
 

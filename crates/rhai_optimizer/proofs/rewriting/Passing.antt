@@ -2,14 +2,14 @@
 use Rattle.std.proofs.Common.{◌≡◌, ◌≤◌, Bool, false, List, [], ◌∷◌, ◌++◌, refl, sym, ap, subst, arith}
 use Rattle.rhai_ast.specs.declared.ast.expr.Expr as declared_expr
 use Rattle.rhai_ast.specs.declared.ast.stmt.Stmt as declared_stmt
-use Rattle.rhai_ast.specs.Engine.{Engine}
+use Rattle.rhai_meaning.specs.Engine.{Engine}
 use Rattle.rhai_ast.specs.Reading.{expr_of, exprs_of, stmt_of, stmts_of}
-use Rattle.rhai_ast.specs.Tree.{Exprs, no_exprs, expr, Stmt, Stmts, no_stmts, stmt, joined}
-use Rattle.rhai_optimizer.specs.Rewriting.{Context, Mark, wanted, wanted_before, ExprsTo, exprs_none, exprs_more, StmtTo, EachTo, each_none, each_last, each_more}
-use Rattle.rhai_optimizer.specs.Residue.{IsReducedExpr, AreReducedExprs, IsReduced, AreReduced}
-use Rattle.rhai_optimizer.specs.Steps.{ExprRun, ExprsRun, StmtRun, EachRun}
-use Rattle.rhai_optimizer.specs.Weight.{expr_weight, exprs_weight, stmt_weight, weight}
-use Rattle.rhai_optimizer.proofs.rewriting.Flags.{expr_kept, stmt_kept}
+use Rattle.rhai_meaning.specs.Tree.{Exprs, no_exprs, expr, Stmt, Stmts, no_stmts, stmt, joined}
+use Rattle.rhai_rewriting.specs.Rewriting.{Context, Mark, wanted, wanted_before, ExprsTo, exprs_none, exprs_more, StmtTo, EachTo, each_none, each_last, each_more}
+use Rattle.rhai_rewriting.specs.Residue.{IsReducedExpr, AreReducedExprs, IsReduced, AreReduced}
+use Rattle.rhai_rewriting.specs.Steps.{ExprRun, ExprsRun, StmtRun, EachRun}
+use Rattle.rhai_rewriting.specs.Weight.{expr_weight, exprs_weight, stmt_weight, weight}
+use Rattle.rhai_rewriting.proofs.Flags.{expr_kept, stmt_kept}
 
 -- ---- expressions
 

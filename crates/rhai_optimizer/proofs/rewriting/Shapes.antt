@@ -2,10 +2,10 @@
 use Rattle.std.proofs.Common.{◌≡◌, ◌≤◌, true, false, List, [], ◌∷◌, length, refl, arith}
 use Rattle.rhai_ast.specs.declared.ast.stmt.Stmt as declared_stmt
 use Rattle.rhai_ast.specs.Reading.{stmts_of}
-use Rattle.rhai_ast.specs.Tree.{Noop, If, Block, ExprStmt, FnCallStmt, Stmts, no_stmts, stmt}
-use Rattle.rhai_optimizer.specs.Rewriting.{block_or_noop}
-use Rattle.rhai_optimizer.specs.Residue.{holds_constant}
-use Rattle.rhai_optimizer.specs.Shapes.{is_lone, is_lone_expression}
+use Rattle.rhai_meaning.specs.Tree.{Noop, If, Block, ExprStmt, FnCallStmt, Stmts, no_stmts, stmt}
+use Rattle.rhai_rewriting.specs.Rewriting.{block_or_noop}
+use Rattle.rhai_rewriting.specs.Residue.{holds_constant}
+use Rattle.rhai_rewriting.specs.Shapes.{is_lone, is_lone_expression}
 
 pub block_or_noop-some : (l : List declared_stmt.Stmt) → (l ≡ [] → ⊥) → Block (stmts_of l) ≡ block_or_noop (stmts_of l)
 block_or_noop-some [] h = absurd (h refl)

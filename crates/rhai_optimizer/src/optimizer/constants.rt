@@ -4,8 +4,8 @@
 
 ghost use Rattle.std.specs.Prelude.{◌≡◌, IfOk, IsSome, Some, map};
 ghost use Rattle.rhai_base.specs.Reading.{value_of};
-ghost use Rattle.rhai_ast.specs.ActForms as forms;
-ghost use Rattle.rhai_ast.specs.Constants as constants;
+ghost use Rattle.rhai_meaning.specs.ActForms as forms;
+ghost use Rattle.rhai_meaning.specs.Constants as constants;
 ghost use Rattle.rhai_ast.specs.Reading.{expr_of, exprs_of};
 
 use rhai_ast::Expr;

@@ -6,8 +6,8 @@ ghost use Rattle.std.specs.Prelude.{◌≡◌, IfOk, true, false};
 ghost use Rattle.rhai_ast.specs.Reading.{callee_of, expr_of, exprs_of, stmt_of, stmts_of};
 ghost use Rattle.rhai_run.specs.EngineInfo.{engine_of};
 ghost use Rattle.rhai_optimizer.specs.Marks.{mark_of};
-ghost use Rattle.rhai_optimizer.specs.Rewriting.{Whole, Inside};
-ghost use Rattle.rhai_optimizer.specs.Steps.{under, ExprRun, ExprsRun, StmtRun, EachRun, StmtsRun};
+ghost use Rattle.rhai_rewriting.specs.Rewriting.{Whole, Inside};
+ghost use Rattle.rhai_rewriting.specs.Steps.{under, ExprRun, ExprsRun, StmtRun, EachRun, StmtsRun};
 
 use crate::optimizer::OptimizerState;
 use crate::optimizer::mark::ListMark;

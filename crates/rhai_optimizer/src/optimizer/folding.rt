@@ -2,17 +2,14 @@
 
 #![tactic(auto, using(rhai_ast::specs::Reading::shapes, rhai_base::specs::Reading::kinds))]
 
-ghost use Rattle.std.specs.Prelude.{◌≡◌, IfOk, Some, [], ◌∷◌, map, ◌||◌, not};
-ghost use Rattle.std.specs.Map.Iter.{deref};
+ghost use Rattle.std.specs.Prelude.{◌≡◌, IfOk, Some, [], ◌∷◌};
 ghost use Rattle.std.specs.Option.{option_map};
 ghost use Rattle.rhai_base.specs.Reading.{value_of};
-ghost use Rattle.rhai_base.specs.Symbols.{token_text};
-ghost use Rattle.rhai_base.specs.Tokens.{makes_range};
-ghost use Rattle.rhai_ast.specs.Engine.{has_override};
 ghost use Rattle.rhai_ast.specs.Reading.{callee_of, expr_of, exprs_of, mark_of};
-ghost use Rattle.rhai_ast.specs.Tree.{expr, no_exprs};
+ghost use Rattle.rhai_meaning.specs.Tree.{expr, no_exprs};
 ghost use Rattle.rhai_run.specs.EngineInfo.{engine_of};
-ghost use Rattle.rhai_optimizer.specs.Folding as spec;
+ghost use Rattle.rhai_optimizer.specs.Operands.{answer_value, held};
+ghost use Rattle.rhai_rewriting.specs.Folding as spec;
 
 use rhai_ast::{Expr, FnCallExpr};
 use rhai_base::{Dynamic, Fault, OutOfMemory, Token, builtin_binary_op, builtin_unary_op};
@@ -22,7 +19,7 @@ use std::borrow::Cow;
 
 /// The value of a constant that is no array.
 fn operand(expr: &Expr) -> Result<Option<Cow<'_, Dynamic>>, OutOfMemory>
-    ensures { IfOk result (λ o. spec.held o ≡ spec.operand (expr_of expr.now)) }
+    ensures { IfOk result (λ o. held o ≡ spec.operand (expr_of expr.now)) }
 {
     match expr {
         Expr::DynamicConstant(value, _) => Ok(Some(Cow::Borrowed(value.get()))),
@@ -35,19 +32,9 @@ fn operand(expr: &Expr) -> Result<Option<Cow<'_, Dynamic>>, OutOfMemory>
     }
 }
 
-/// Whether the table of operators goes before the host at operands of these types. Ranges cannot be
-/// overridden.
-fn is_open(info: &EngineInfo, op: Token, types: &[&str]) -> bool
-    ensures { result ≡ (makes_range op || (engine_of info.now).fast_operators || not (has_override (engine_of info.now).overrides (token_text op) (map deref types.now))) }
-{
-    matches!(op, Token::ExclusiveRange | Token::InclusiveRange)
-        || info.fast_operators()
-        || !info.is_overridden(op.literal_syntax(), types)
-}
-
 /// The value of an operator's answer. A fault is left to the run.
 fn value_alone(answer: Option<Result<Dynamic, Fault>>) -> Option<Dynamic>
-    ensures { option_map value_of result ≡ spec.answer_value answer }
+    ensures { option_map value_of result ≡ answer_value answer }
 {
     match answer {
         Some(Ok(value)) => Some(value),
@@ -59,7 +46,7 @@ fn value_alone(answer: Option<Result<Dynamic, Fault>>) -> Option<Dynamic>
 fn folded_unary(info: &EngineInfo, op: Token, x: &Dynamic) -> Option<Dynamic>
     ensures { option_map value_of result ≡ spec.folded_values (engine_of info.now) (mark_of (Some op)) (Some (value_of x.now ∷ [])) }
 {
-    if !is_open(info, op, &[x.type_name()]) {
+    if !info.tries_builtin(op, &[x.type_name()]) {
         return None;
     }
     builtin_unary_op(&op, x)
@@ -74,7 +61,7 @@ fn folded_binary(
 ) -> Result<Option<Dynamic>, OutOfMemory>
     ensures { IfOk result (λ v. option_map value_of v ≡ spec.folded_values (engine_of info.now) (mark_of (Some op)) (Some (value_of x.now ∷ value_of y.now ∷ []))) }
 {
-    if !is_open(info, op, &[x.type_name(), y.type_name()]) {
+    if !info.tries_builtin(op, &[x.type_name(), y.type_name()]) {
         return Ok(None);
     }
     let answer = builtin_binary_op(alloc, &op, x, y)?;

@@ -4,10 +4,10 @@
 
 ghost use Rattle.std.specs.Prelude.{◌≡◌, Some, map};
 ghost use Rattle.rhai_base.specs.Reading.{value_of, operator_of};
-ghost use Rattle.rhai_ast.specs.Core.{If};
+ghost use Rattle.rhai_meaning.specs.Core.{If};
 ghost use Rattle.rhai_ast.specs.Reading.{callee_of, expr_of, exprs_of, stmt_of, stmts_of};
-ghost use Rattle.rhai_ast.specs.ActForms.{ask_host};
-ghost use Rattle.rhai_ast.specs.Calls.{operate};
+ghost use Rattle.rhai_meaning.specs.ActForms.{ask_host};
+ghost use Rattle.rhai_meaning.specs.Calls.{operate};
 ghost use Rattle.rhai_run.specs.Small.{small_expr_of, small_stmts_of};
 ghost use Rattle.rhai_run.specs.Evaluating.{setting, IsConstant, Runs, RunsDeed, RunsExpr, RunsCall, RunsExprs, RunsStmt, RunsStmts, RunsBlock};
 

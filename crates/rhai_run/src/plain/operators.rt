@@ -2,15 +2,11 @@
 
 #![tactic(auto, using(rhai_base::specs::Reading::kinds), unfolding(rhai_base::specs::Operators::computed))]
 
-ghost use Rattle.std.specs.Prelude.{◌≡◌, IfOk, Some, map, length, codes, not, ◌||◌, [], ◌∷◌};
-ghost use Rattle.std.specs.Map.Iter.{deref};
+ghost use Rattle.std.specs.Prelude.{◌≡◌, IfOk, Some, map, length, codes, [], ◌∷◌};
 ghost use Rattle.rhai_base.specs.Builtin.{computed_of};
 ghost use Rattle.rhai_base.specs.Reading.{value_of};
-ghost use Rattle.rhai_base.specs.Symbols.{token_text};
-ghost use Rattle.rhai_base.specs.Tokens.{makes_range};
 ghost use Rattle.rhai_base.specs.Value.{TextV};
-ghost use Rattle.rhai_ast.specs.Engine.{has_override};
-ghost use Rattle.rhai_ast.specs.Faults.{has_token};
+ghost use Rattle.rhai_meaning.specs.Faults.{has_token};
 ghost use Rattle.rhai_ast.specs.Reading.{callee_of, mark_of};
 ghost use Rattle.rhai_run.specs.EngineInfo.{engine_of};
 ghost use Rattle.rhai_run.specs.Operators as spec;
@@ -86,7 +82,7 @@ pub fn builtin(
 fn builtin_unary(info: &EngineInfo, op: Token, x: &Dynamic) -> Option<Result<Dynamic, Fault>>
     ensures { computed_of result ≡ spec.built_in_at (engine_of info.now) op (value_of x.now ∷ []) }
 {
-    if !is_open(info, op, &[x.type_name()]) {
+    if !info.tries_builtin(op, &[x.type_name()]) {
         return None;
     }
     match builtin_unary_op(&op, x) {
@@ -104,20 +100,10 @@ fn builtin_binary(
 ) -> Result<Option<Result<Dynamic, Fault>>, OutOfMemory>
     ensures { IfOk result (λ r. computed_of r ≡ spec.built_in_at (engine_of info.now) op (value_of x.now ∷ value_of y.now ∷ [])) }
 {
-    if !is_open(info, op, &[x.type_name(), y.type_name()]) {
+    if !info.tries_builtin(op, &[x.type_name(), y.type_name()]) {
         return Ok(None);
     }
     builtin_binary_op(alloc, &op, x, y)
-}
-
-/// Whether the table of operators goes before the host at operands of these types. Ranges cannot be
-/// overridden.
-fn is_open(info: &EngineInfo, op: Token, types: &[&str]) -> bool
-    ensures { result ≡ (makes_range op || (engine_of info.now).fast_operators || not (has_override (engine_of info.now).overrides (token_text op) (map deref types.now))) }
-{
-    matches!(op, Token::ExclusiveRange | Token::InclusiveRange)
-        || info.fast_operators()
-        || !info.is_overridden(op.literal_syntax(), types)
 }
 
 /// What a fault throws.

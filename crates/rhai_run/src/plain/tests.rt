@@ -4,7 +4,7 @@
 
 ghost use Rattle.std.specs.Prelude.{[], ◌∷◌, codes, pos};
 ghost use Rattle.rhai_base.specs.Value.{IntV};
-ghost use Rattle.rhai_ast.specs.Act.{AnswersThrow};
+ghost use Rattle.rhai_meaning.specs.Act.{AnswersThrow};
 
 use crate::{EngineInfo, Host, HostAnswer, HostCall, RunEnd, RunReport, plain_run};
 use rhai_ast::{Expr, FnCallExpr, Stmt};

@@ -35,11 +35,11 @@ pub(super) fn copy_pointer(pointer: &FnPtr) -> Result<FnPtr, AllocError>
 fn copy_items(items: &Seq<Dynamic>) -> Result<Seq<Dynamic>, AllocError>
     ensures { IfOk result (λ v. v ≡ items.now) }
 {
-    let mut copies = Vec::with_capacity(items.allocator(), items.len())?;
+    let mut copies = items.emptied()?;
     for item in items.as_slice() {
         copies.push(copy(item)?)?;
     }
-    Ok(Seq::from_vec(copies))
+    Ok(copies)
 }
 
 #[cycle(copy)]

@@ -1,7 +1,7 @@
 use Rattle.std.proofs.Common.{ap, ◌∙◌}
 use Rattle.rhai_script.specs.Script.{functions_of}
-use Rattle.rhai_optimizer.proofs.soundness.Promise.{same_runs, lighter}
-use Rattle.rhai_optimizer.proofs.soundness.WellFormed.{stmts_well}
+use Rattle.rhai_rewriting.proofs.soundness.Promise.{same_runs, lighter}
+use Rattle.rhai_rewriting.proofs.soundness.WellFormed.{stmts_well}
 use Rattle.rhai_optimizer.proofs.optimizer.optimize_into_ast.Goals as goal
 
 pub returns-clause-same_runs : goal.returns-clause-same_runs

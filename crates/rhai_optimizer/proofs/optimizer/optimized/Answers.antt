@@ -1,4 +1,4 @@
-use Rattle.rhai_optimizer.specs.Rewriting.{same_stmts}
+use Rattle.rhai_rewriting.specs.Rewriting.{same_stmts}
 use Rattle.rhai_optimizer.proofs.optimizer.optimized.Goals as goal
 
 pub returns-in-None-clause-to : goal.returns-in-None-clause-to

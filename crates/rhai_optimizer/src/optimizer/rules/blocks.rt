@@ -3,13 +3,13 @@
 #![tactic(auto, using(rhai_ast::specs::Reading::shapes))]
 
 ghost use Rattle.std.specs.Prelude.{◌≡◌, OnOk, IfOk, false};
-ghost use Rattle.rhai_ast.specs.Queries as queries;
+ghost use Rattle.rhai_meaning.specs.Queries as queries;
 ghost use Rattle.rhai_ast.specs.Reading.{stmt_of, stmts_of};
-ghost use Rattle.rhai_ast.specs.Tree.{Block, no_stmts, stmt};
+ghost use Rattle.rhai_meaning.specs.Tree.{Block, no_stmts, stmt};
 ghost use Rattle.rhai_optimizer.specs.Marks.{mark_of};
-ghost use Rattle.rhai_optimizer.specs.Rewriting as rewriting;
-ghost use Rattle.rhai_optimizer.specs.Rewriting.{Context, StmtsTo};
-ghost use Rattle.rhai_optimizer.specs.Steps.{Moves};
+ghost use Rattle.rhai_rewriting.specs.Rewriting as rewriting;
+ghost use Rattle.rhai_rewriting.specs.Rewriting.{Context, StmtsTo};
+ghost use Rattle.rhai_rewriting.specs.Steps.{Moves};
 
 use crate::optimizer::OptimizerState;
 use crate::optimizer::mark::ListMark;

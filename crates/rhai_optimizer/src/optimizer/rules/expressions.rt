@@ -4,14 +4,14 @@
 
 ghost use Rattle.std.specs.Prelude.{◌≡◌, IfOk, IsSome, Some, MatchResult, true, false};
 ghost use Rattle.rhai_base.specs.Reading.{value_of};
-ghost use Rattle.rhai_ast.specs.Constants as constants;
+ghost use Rattle.rhai_meaning.specs.Constants as constants;
 ghost use Rattle.rhai_ast.specs.Reading.{callee_of, expr_of, exprs_of, stmt_of, stmts_of};
-ghost use Rattle.rhai_ast.specs.Tree.{ArrayOf, BlockExpr, Callee, Exprs, ExprStmt, FnCall, no_stmts, stmt};
+ghost use Rattle.rhai_meaning.specs.Tree.{ArrayOf, BlockExpr, Callee, Exprs, ExprStmt, FnCall, no_stmts, stmt};
 ghost use Rattle.rhai_run.specs.EngineInfo.{engine_of};
-ghost use Rattle.rhai_optimizer.specs.Folding as folding;
-ghost use Rattle.rhai_optimizer.specs.Rewriting.{Context};
-ghost use Rattle.rhai_optimizer.specs.Shapes as shape;
-ghost use Rattle.rhai_optimizer.specs.Steps.{under, ExprRule, ExprStep};
+ghost use Rattle.rhai_rewriting.specs.Folding as folding;
+ghost use Rattle.rhai_rewriting.specs.Rewriting.{Context};
+ghost use Rattle.rhai_rewriting.specs.Shapes as shape;
+ghost use Rattle.rhai_rewriting.specs.Steps.{under, ExprRule, ExprStep};
 
 use crate::optimizer::OptimizerState;
 use crate::optimizer::constants::into_values;

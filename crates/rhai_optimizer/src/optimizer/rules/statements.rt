@@ -4,17 +4,17 @@
 
 ghost use Rattle.std.specs.Prelude.{◌≡◌, IfOk, Some, [], ◌∷◌, MatchResult, false, Bool};
 ghost use Rattle.rhai_base.specs.Reading.{value_of};
-ghost use Rattle.rhai_ast.specs.Constants as constants;
-ghost use Rattle.rhai_ast.specs.Queries as queries;
+ghost use Rattle.rhai_meaning.specs.Constants as constants;
+ghost use Rattle.rhai_meaning.specs.Queries as queries;
 ghost use Rattle.rhai_ast.specs.Reading.{callee_of, expr_of, exprs_of, stmt_of, stmts_of};
-ghost use Rattle.rhai_ast.specs.Tree.{Block, BlockExpr, Callee, Exprs, ExprStmt, FnCall, FnCallStmt, If, no_stmts, stmt};
-ghost use Rattle.rhai_ast.specs.Tree as tree;
+ghost use Rattle.rhai_meaning.specs.Tree.{Block, BlockExpr, Callee, Exprs, ExprStmt, FnCall, FnCallStmt, If, no_stmts, stmt};
+ghost use Rattle.rhai_meaning.specs.Tree as tree;
 ghost use Rattle.rhai_run.specs.EngineInfo.{engine_of};
-ghost use Rattle.rhai_optimizer.specs.Folding as folding;
-ghost use Rattle.rhai_optimizer.specs.Rewriting as rewriting;
-ghost use Rattle.rhai_optimizer.specs.Rewriting.{Context};
-ghost use Rattle.rhai_optimizer.specs.Shapes as shape;
-ghost use Rattle.rhai_optimizer.specs.Steps.{under, StmtRule, StmtStep};
+ghost use Rattle.rhai_rewriting.specs.Folding as folding;
+ghost use Rattle.rhai_rewriting.specs.Rewriting as rewriting;
+ghost use Rattle.rhai_rewriting.specs.Rewriting.{Context};
+ghost use Rattle.rhai_rewriting.specs.Shapes as shape;
+ghost use Rattle.rhai_rewriting.specs.Steps.{under, StmtRule, StmtStep};
 
 use crate::optimizer::OptimizerState;
 use crate::optimizer::constants::constant_bool;

@@ -1,5 +1,5 @@
 use Rattle.std.proofs.Common.{◌≡◌, drop}
-use Rattle.rhai_ast.specs.Constants.{are_constant}
+use Rattle.rhai_meaning.specs.Constants.{are_constant}
 use Rattle.rhai_ast.specs.Reading.{exprs_of}
 use Rattle.rhai_ast.proofs.ast.expr.+is_constant.Given as goal
 

@@ -1,5 +1,5 @@
 use Rattle.std.proofs.Common.{◌≡◌, drop}
-use Rattle.rhai_ast.specs.Queries.{are_all_dependent}
+use Rattle.rhai_meaning.specs.Queries.{are_all_dependent}
 use Rattle.rhai_ast.specs.Reading.{stmts_of}
 use Rattle.rhai_ast.proofs.ast.stmt.+is_block_dependent.Given as goal
 

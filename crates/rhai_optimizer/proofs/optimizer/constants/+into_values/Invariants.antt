@@ -1,6 +1,6 @@
 use Rattle.std.proofs.Common.{◌+◌, ◌*◌, length}
 use Rattle.rhai_ast.specs.Reading.{expr_of, exprs_of}
-use Rattle.rhai_optimizer.specs.Weight.{expr_weight, exprs_weight}
+use Rattle.rhai_rewriting.specs.Weight.{expr_weight, exprs_weight}
 use Rattle.rhai_optimizer.proofs.rewriting.Values.{Reads}
 use Rattle.rhai_optimizer.proofs.optimizer.constants.+into_values.Given as goal
 

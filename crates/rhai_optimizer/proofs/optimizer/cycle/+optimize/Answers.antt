@@ -4,9 +4,9 @@ use Rattle.rhai_ast.specs.declared.ast.expr.FnCallExpr.{FnCallExpr}
 use Rattle.rhai_ast.specs.declared.ast.stmt.FlowControl.{FlowControl}
 use Rattle.rhai_ast.specs.declared.ast.stmt.StmtBlock.{StmtBlock}
 use Rattle.rhai_ast.specs.Reading.{callee_of, expr_of, exprs_of, stmt_of, stmts_of, expr_of-Array, expr_of-Stmt, expr_of-FnCall, stmt_of-Noop, stmt_of-If, stmt_of-Block, stmt_of-Expr, stmt_of-FnCall}
-use Rattle.rhai_ast.specs.Tree.{BlockExpr, FnCall, If, Block, ExprStmt, FnCallStmt}
-use Rattle.rhai_optimizer.specs.Rewriting.{in_array, in_braces, in_if, in_block, in_expression, same_stmt, then_stmts, in_each}
-use Rattle.rhai_optimizer.proofs.rewriting.Weights.{stmts_fall}
+use Rattle.rhai_meaning.specs.Tree.{BlockExpr, FnCall, If, Block, ExprStmt, FnCallStmt}
+use Rattle.rhai_rewriting.specs.Rewriting.{in_array, in_braces, in_if, in_block, in_expression, same_stmt, then_stmts, in_each}
+use Rattle.rhai_rewriting.proofs.Weights.{stmts_fall}
 use Rattle.rhai_optimizer.proofs.rewriting.Nodes.{expr_finish, stmt_finish, leaf, stmts_turn, turn_falls, call_to, call_statement_to, if_parts, stmts_leave}
 use Rattle.rhai_optimizer.proofs.rewriting.Passing.{exprs_next, exprs_end, each_next, each_end}
 use Rattle.rhai_optimizer.proofs.optimizer.cycle.+optimize.Goals as goal

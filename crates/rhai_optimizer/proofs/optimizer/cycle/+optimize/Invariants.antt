@@ -2,9 +2,9 @@ use Rattle.std.proofs.Common.{◌+◌, ◌*◌, length}
 use Rattle.rhai_ast.specs.Reading.{expr_of, exprs_of, stmt_of, stmts_of}
 use Rattle.rhai_run.specs.EngineInfo.{engine_of}
 use Rattle.rhai_optimizer.specs.Marks.{mark_of}
-use Rattle.rhai_optimizer.specs.Rewriting.{StmtsTo}
-use Rattle.rhai_optimizer.specs.Steps.{under}
-use Rattle.rhai_optimizer.specs.Weight.{expr_weight, exprs_weight, stmt_weight, weight}
+use Rattle.rhai_rewriting.specs.Rewriting.{StmtsTo}
+use Rattle.rhai_rewriting.specs.Steps.{under}
+use Rattle.rhai_rewriting.specs.Weight.{expr_weight, exprs_weight, stmt_weight, weight}
 use Rattle.rhai_optimizer.proofs.rewriting.Passing.{ExprsSoFar, EachSoFar}
 use Rattle.rhai_optimizer.proofs.optimizer.cycle.+optimize.Given as goal
 

@@ -3,7 +3,7 @@ use Rattle.rhai_base.specs.declared.types.dynamic.Dynamic.{Dynamic}
 use Rattle.rhai_base.proofs.types.dynamic.copy.+copy.Given as goal
 
 abbrev pub invariant-copy_items-loop-item : goal.invariant-copy_items-loop-item
-invariant-copy_items-loop-item l = l.copies.items ≡ take l.item-index l.item-items
+invariant-copy_items-loop-item l = l.copies ≡ take l.item-index l.item-items
 
 abbrev pub invariant-copy_members-loop-key : goal.invariant-copy_members-loop-key
 invariant-copy_members-loop-key l =

@@ -1,6 +1,6 @@
 use Rattle.std.proofs.Common.{◌+◌, ◌*◌, length}
 use Rattle.rhai_ast.specs.Reading.{stmt_of, stmts_of}
-use Rattle.rhai_optimizer.specs.Weight.{stmt_weight, weight}
+use Rattle.rhai_rewriting.specs.Weight.{stmt_weight, weight}
 use Rattle.rhai_optimizer.proofs.rewriting.Flattening.{MovesSoFar}
 use Rattle.rhai_optimizer.proofs.optimizer.rules.blocks.+flatten.Given as goal
 

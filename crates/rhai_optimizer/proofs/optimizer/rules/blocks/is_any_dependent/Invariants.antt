@@ -1,5 +1,5 @@
 use Rattle.std.proofs.Common.{◌≡◌, drop}
-use Rattle.rhai_ast.specs.Queries.{is_any_dependent}
+use Rattle.rhai_meaning.specs.Queries.{is_any_dependent}
 use Rattle.rhai_ast.specs.Reading.{stmts_of}
 use Rattle.rhai_optimizer.proofs.optimizer.rules.blocks.is_any_dependent.Given as goal
 

@@ -1,9 +1,9 @@
 use Rattle.std.proofs.Common.{ap, ◌∙◌}
 use Rattle.rhai_base.specs.Reading.{value_of, value_of-Array}
-use Rattle.rhai_ast.specs.Tree.{DynamicConstant}
-use Rattle.rhai_optimizer.specs.Rewriting.{array_of_constants}
+use Rattle.rhai_meaning.specs.Tree.{DynamicConstant}
+use Rattle.rhai_rewriting.specs.Rewriting.{array_of_constants}
 use Rattle.rhai_ast.specs.Reading.{expr_of-DynamicConstant}
-use Rattle.rhai_optimizer.proofs.rewriting.Firing.{expr_fires}
+use Rattle.rhai_rewriting.proofs.Firing.{expr_fires}
 use Rattle.rhai_optimizer.proofs.optimizer.rules.expressions.array_of_constants.Goals as goal
 
 pub returns : goal.returns

@@ -1,6 +1,6 @@
-use Rattle.rhai_optimizer.specs.Rewriting.{braces_empty}
+use Rattle.rhai_rewriting.specs.Rewriting.{braces_empty}
 use Rattle.rhai_ast.specs.Reading.{expr_of-Unit}
-use Rattle.rhai_optimizer.proofs.rewriting.Firing.{expr_fires}
+use Rattle.rhai_rewriting.proofs.Firing.{expr_fires}
 use Rattle.rhai_optimizer.proofs.optimizer.rules.expressions.braces_empty.Goals as goal
 
 pub returns : goal.returns

@@ -1,12 +1,12 @@
 use Rattle.std.proofs.Common.{◌≡◌}
 use Rattle.std.proofs.lemmas.Result.{IfOk-weaker}
 use Rattle.rhai_base.specs.Reading.{value_of}
-use Rattle.rhai_ast.specs.Constants.{constant_for}
+use Rattle.rhai_meaning.specs.Constants.{constant_for}
 use Rattle.rhai_ast.specs.declared.ast.expr.Expr.{Expr}
 use Rattle.rhai_ast.specs.Reading.{expr_of}
-use Rattle.rhai_optimizer.specs.Rewriting.{operator_folds}
-use Rattle.rhai_optimizer.proofs.rewriting.Firing.{expr_fires}
-use Rattle.rhai_optimizer.proofs.rewriting.Folds.{folded-operands}
+use Rattle.rhai_rewriting.specs.Rewriting.{operator_folds}
+use Rattle.rhai_rewriting.proofs.Firing.{expr_fires}
+use Rattle.rhai_rewriting.proofs.Folds.{folded-operands}
 use Rattle.rhai_optimizer.proofs.optimizer.rules.expressions.operator_folds.Goals as goal
 
 pub returns : goal.returns

@@ -1,7 +1,7 @@
 use Rattle.std.proofs.Common.{refl, sym}
 use Rattle.std.proofs.lemmas.Result.{IfOk-weaker}
 use Rattle.rhai_ast.specs.Reading.{expr_of-Array}
-use Rattle.rhai_optimizer.proofs.rewriting.Firing.{expr_kept_as, expr_by_rule}
+use Rattle.rhai_rewriting.proofs.Firing.{expr_kept_as, expr_by_rule}
 use Rattle.rhai_optimizer.proofs.rewriting.Values.{is_some-false}
 use Rattle.rhai_optimizer.proofs.optimizer.rules.expressions.reduce_array.Goals as goal
 

@@ -2,8 +2,8 @@ use Rattle.std.proofs.Common.{List, refl, ap, ◌∙◌}
 use Rattle.rhai_ast.specs.declared.ast.stmt.Stmt.{Stmt}
 use Rattle.rhai_ast.specs.declared.ast.stmt.StmtBlock.{StmtBlock}
 use Rattle.rhai_ast.specs.Reading.{stmts_of, expr_of-Stmt}
-use Rattle.rhai_ast.specs.Tree.{BlockExpr}
-use Rattle.rhai_optimizer.proofs.rewriting.Firing.{expr_kept_as, expr_by_rule}
+use Rattle.rhai_meaning.specs.Tree.{BlockExpr}
+use Rattle.rhai_rewriting.proofs.Firing.{expr_kept_as, expr_by_rule}
 use Rattle.rhai_optimizer.proofs.rewriting.Shapes.{holds_constant-none}
 use Rattle.rhai_optimizer.proofs.optimizer.rules.expressions.reduce_braces.Goals as goal
 

@@ -2,8 +2,8 @@ use Rattle.std.proofs.Common.{sym, ap, ◌∙◌}
 use Rattle.std.specs.Option.{option_map}
 use Rattle.rhai_base.specs.Reading.{value_of}
 use Rattle.rhai_ast.specs.Reading.{callee_of, exprs_of, expr_of-FnCall}
-use Rattle.rhai_optimizer.proofs.rewriting.Firing.{expr_kept_as}
-use Rattle.rhai_optimizer.proofs.rewriting.Folds.{folded-reduced}
+use Rattle.rhai_rewriting.proofs.Firing.{expr_kept_as}
+use Rattle.rhai_rewriting.proofs.Folds.{folded-reduced}
 use Rattle.rhai_optimizer.proofs.optimizer.rules.expressions.reduce_call.Goals as goal
 
 pub returns-in_ok-new-in-None : goal.returns-in_ok-new-in-None

@@ -1,6 +1,6 @@
-use Rattle.rhai_optimizer.specs.Rewriting.{block_empty}
+use Rattle.rhai_rewriting.specs.Rewriting.{block_empty}
 use Rattle.rhai_ast.specs.Reading.{stmt_of-Noop}
-use Rattle.rhai_optimizer.proofs.rewriting.Firing.{stmt_fires}
+use Rattle.rhai_rewriting.proofs.Firing.{stmt_fires}
 use Rattle.rhai_optimizer.proofs.optimizer.rules.statements.block_empty.Goals as goal
 
 pub returns : goal.returns

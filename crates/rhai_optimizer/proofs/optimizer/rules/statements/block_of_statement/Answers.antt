@@ -1,6 +1,6 @@
 use Rattle.std.proofs.Common.{refl}
-use Rattle.rhai_optimizer.specs.Rewriting.{block_of_statement}
-use Rattle.rhai_optimizer.proofs.rewriting.Firing.{stmt_fires}
+use Rattle.rhai_rewriting.specs.Rewriting.{block_of_statement}
+use Rattle.rhai_rewriting.proofs.Firing.{stmt_fires}
 use Rattle.rhai_optimizer.proofs.optimizer.rules.statements.block_of_statement.Goals as goal
 
 pub returns : goal.returns

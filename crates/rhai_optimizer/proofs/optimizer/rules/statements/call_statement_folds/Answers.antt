@@ -1,9 +1,9 @@
 use Rattle.std.proofs.Common.{ap, ◌∙◌}
 use Rattle.rhai_ast.specs.Reading.{expr_of, stmt_of-Expr}
-use Rattle.rhai_ast.specs.Tree.{ExprStmt}
-use Rattle.rhai_optimizer.specs.Rewriting.{call_statement_folds}
-use Rattle.rhai_optimizer.proofs.rewriting.Firing.{stmt_fires}
-use Rattle.rhai_optimizer.proofs.rewriting.Folds.{folded-operands}
+use Rattle.rhai_meaning.specs.Tree.{ExprStmt}
+use Rattle.rhai_rewriting.specs.Rewriting.{call_statement_folds}
+use Rattle.rhai_rewriting.proofs.Firing.{stmt_fires}
+use Rattle.rhai_rewriting.proofs.Folds.{folded-operands}
 use Rattle.rhai_optimizer.proofs.optimizer.rules.statements.call_statement_folds.Goals as goal
 
 pub returns : goal.returns

@@ -2,8 +2,8 @@ use Rattle.std.proofs.Common.{List, refl, ap, ◌∙◌}
 use Rattle.rhai_ast.specs.declared.ast.stmt.Stmt.{Stmt}
 use Rattle.rhai_ast.specs.declared.ast.stmt.StmtBlock.{StmtBlock}
 use Rattle.rhai_ast.specs.Reading.{stmts_of, stmt_of-Block}
-use Rattle.rhai_ast.specs.Tree.{Block}
-use Rattle.rhai_optimizer.proofs.rewriting.Firing.{stmt_kept_as, stmt_by_rule}
+use Rattle.rhai_meaning.specs.Tree.{Block}
+use Rattle.rhai_rewriting.proofs.Firing.{stmt_kept_as, stmt_by_rule}
 use Rattle.rhai_optimizer.proofs.optimizer.rules.statements.reduce_block.Goals as goal
 
 pub returns-then-is_empty : goal.returns-then-is_empty

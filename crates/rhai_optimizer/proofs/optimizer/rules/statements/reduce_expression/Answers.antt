@@ -3,8 +3,8 @@ use Rattle.std.proofs.lemmas.Result.{IfOk-weaker}
 use Rattle.rhai_ast.specs.declared.ast.expr.Expr.{Expr}
 use Rattle.rhai_ast.specs.declared.ast.stmt.StmtBlock.{StmtBlock}
 use Rattle.rhai_ast.specs.Reading.{expr_of, stmts_of, expr_of-Stmt, expr_of-FnCall, stmt_of-Expr}
-use Rattle.rhai_ast.specs.Tree.{BlockExpr, ExprStmt}
-use Rattle.rhai_optimizer.proofs.rewriting.Firing.{stmt_kept_as, stmt_by_rule}
+use Rattle.rhai_meaning.specs.Tree.{BlockExpr, ExprStmt}
+use Rattle.rhai_rewriting.proofs.Firing.{stmt_kept_as, stmt_by_rule}
 use Rattle.rhai_optimizer.proofs.optimizer.rules.statements.reduce_expression.Goals as goal
 
 pub returns-in-Stmt : goal.returns-in-Stmt

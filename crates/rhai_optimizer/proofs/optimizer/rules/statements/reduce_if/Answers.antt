@@ -3,8 +3,8 @@ use Rattle.std.proofs.lemmas.Result.{IfOk-weaker}
 use Rattle.rhai_ast.specs.declared.ast.stmt.Stmt.{Stmt}
 use Rattle.rhai_ast.specs.declared.ast.stmt.FlowControl.{FlowControl}
 use Rattle.rhai_ast.specs.Reading.{expr_of, stmts_of, stmt_of-If}
-use Rattle.rhai_ast.specs.Tree.{If, no_stmts}
-use Rattle.rhai_optimizer.proofs.rewriting.Firing.{stmt_kept_as, stmt_by_rule}
+use Rattle.rhai_meaning.specs.Tree.{If, no_stmts}
+use Rattle.rhai_rewriting.proofs.Firing.{stmt_kept_as, stmt_by_rule}
 use Rattle.rhai_optimizer.proofs.optimizer.rules.statements.reduce_if.Goals as goal
 
 pub returns-then-is_empty-2 : goal.returns-then-is_empty-2

@@ -2,8 +2,8 @@ use Rattle.std.proofs.Common.{◌≡◌}
 use Rattle.std.proofs.lemmas.Result.{IfOk-weaker}
 use Rattle.rhai_ast.specs.declared.ast.stmt.Stmt.{Stmt}
 use Rattle.rhai_ast.specs.Reading.{stmt_of, stmts_of}
-use Rattle.rhai_optimizer.specs.Rewriting.{statement_of_braces, block_or_noop}
-use Rattle.rhai_optimizer.proofs.rewriting.Firing.{stmt_fires}
+use Rattle.rhai_rewriting.specs.Rewriting.{statement_of_braces, block_or_noop}
+use Rattle.rhai_rewriting.proofs.Firing.{stmt_fires}
 use Rattle.rhai_optimizer.proofs.optimizer.rules.statements.statement_of_braces.Goals as goal
 
 pub returns : goal.returns

@@ -1,6 +1,6 @@
-use Rattle.rhai_optimizer.specs.Rewriting.{statement_of_call}
+use Rattle.rhai_rewriting.specs.Rewriting.{statement_of_call}
 use Rattle.rhai_ast.specs.Reading.{stmt_of-FnCall}
-use Rattle.rhai_optimizer.proofs.rewriting.Firing.{stmt_fires}
+use Rattle.rhai_rewriting.proofs.Firing.{stmt_fires}
 use Rattle.rhai_optimizer.proofs.optimizer.rules.statements.statement_of_call.Goals as goal
 
 pub returns : goal.returns

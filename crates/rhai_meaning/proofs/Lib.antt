@@ -1,0 +1,4 @@
+pub mod Relations
+pub mod Frame
+pub mod Rising
+pub mod Ends

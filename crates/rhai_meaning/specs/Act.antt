@@ -1,0 +1,227 @@
+-- Acts, of which the meaning of every construct is made, and what an act does from a store with some turns left.
+use Rattle.std.specs.Prelude.{ℕ, zero, suc, ◌-◌, Bool, true, false, cond, List, [], ◌∷◌, ◌++◌, length, drop, Option, Some, None, option_map}
+use Rattle.rhai_base.specs.Value.{Text, Value, UnitV, same_text}
+use Rattle.rhai_meaning.specs.Engine.{Engine, Binding, constant_named}
+
+-- a name of the scope
+pub record Entry : Type 0 where
+  pub name : Text
+  pub constant : Bool
+  pub value : Value
+
+-- a question to the host
+pub record Call : Type 0 where
+  pub name : Text
+  pub receiver : Option Value
+  pub arguments : List Value
+
+-- a value with an optional new receiver, or a thrown value
+pub data Answer : Type 0 where
+  Answers : Value → Option Value → Answer
+  AnswersThrow : Value → Answer
+
+pub record Host : Type 0 where
+  pub answer : List Call → Call → Answer
+  pub module_value : Text → Option Value
+
+-- a script function's name, number of parameters and receiver type
+pub record Key : Type 0 where
+  pub name : Text
+  pub arity : ℕ
+  pub this_type : Option Text
+
+-- what a run is in, beside its script's bodies
+pub record World : Type 0 where
+  pub engine : Engine
+  pub host : Host
+  pub functions : List Key
+
+-- the names, latest first, `this`, and the host calls in order
+pub record Store : Type 0 where
+  pub scope : List Entry
+  pub this : Option Value
+  pub calls : List Call
+
+pub data Stuck : Type 0 where
+  Unbound : Stuck
+  WrongKind : Stuck
+  WriteToConstant : Stuck
+  NoPlace : Stuck
+  CounterTooLarge : Stuck
+  UnboundThis : Stuck
+
+-- an end; Again: the end of a round that another one follows
+pub data Ending : Type 0 where
+  Gives : Value → Ending
+  Returns : Value → Ending
+  Breaks : Value → Ending
+  Continues : Ending
+  Throws : Value → Ending
+  Again : Ending
+
+pub data Halt : Type 0 where
+  IsStuck : Stuck → Halt
+  OutOfTurns : Halt
+
+pub data Outcome : Type 0 where
+  Ended : Ending → Outcome
+  Halted : Halt → Outcome
+
+-- an outcome, the store after it and the turns left
+pub data Result : Type 0 where
+  At : Outcome → Store → ℕ → Result
+
+pub data Root : Type 0 where
+  OfName : Text → Root
+  OfThis : Root
+
+-- a script call
+pub record Asked : Type 0 where
+  pub function : Key
+  pub captures : Bool
+  pub this : Option Value
+  pub arguments : List Value
+
+mutual
+  -- an act leaves the names of the scope as they are
+  pub data Act : Type 0 where
+    -- ends so
+    Stop : Ending → Act
+    -- is stuck
+    Fail : Stuck → Act
+    -- goes on by how the first ends
+    Then : Act → (Ending → Act) → Act
+    -- takes a turn first
+    Turn : Act → Act
+    -- gives the value of a name or of `this`
+    Read : Root → Act
+    -- replaces it, and gives unit
+    Write : Root → Value → Act
+    -- asks the host
+    Ask : Call → (Answer → Act) → Act
+    -- calls a script function; goes on with its value and its last `this`
+    Invoke : Asked → (Value → Option Value → Act) → Act
+    -- rounds, as long as they end in Again
+    Loop : Act → Act
+    -- takes the names away that the list pushed
+    Scoped : Acts → Act
+
+  -- a list of acts may push names; where it is finished a return is its value
+  pub data Acts : Type 0 where
+    Only : Act → Acts
+    Do : Act → (Ending → Acts) → Acts
+    Named : Text → Bool → Value → Acts → Acts
+    Finish : Acts → Acts
+
+-- the rounds of a loop, and a script call: a function of the caller's scope, the calls so far and the turns left
+pub record Env : Type 0 where
+  pub rounds : ℕ
+  pub invoke : Asked → List Entry → List Call → ℕ → Result
+
+abbrev pub and_then : Result → (Ending → Store → ℕ → Result) → Result
+and_then (At (Ended e) st t) next = next e st t
+and_then (At (Halted h) st t) next = At (Halted h) st t
+
+abbrev pub with_turn : ℕ → Store → (Store → ℕ → Result) → Result
+with_turn zero st next = At (Halted OutOfTurns) st zero
+with_turn (suc t) st next = next st t
+
+-- the latest entry of a name, else the record's constant
+abbrev pub found : List Binding → List Entry → Text → Option Entry
+found bs [] x = option_map (λ v. record { name = x; constant = true; value = v }) (constant_named bs x)
+found bs (e ∷ es) x = cond (same_text e.name x) (Some e) (found bs es x)
+
+abbrev pub put : List Entry → Text → Value → List Entry
+put [] x v = []
+put (e ∷ es) x v = cond (same_text e.name x) (record e { value = v } ∷ es) (e ∷ put es x v)
+
+abbrev pub read : Option Entry → Store → ℕ → Result
+read None st t = At (Halted (IsStuck Unbound)) st t
+read (Some e) st t = At (Ended (Gives e.value)) st t
+
+abbrev pub read_this : Option Value → Store → ℕ → Result
+read_this None st t = At (Halted (IsStuck UnboundThis)) st t
+read_this (Some v) st t = At (Ended (Gives v)) st t
+
+abbrev pub read_root : World → Root → Store → ℕ → Result
+read_root w (OfName x) st t = read (found w.engine.constants st.scope x) st t
+read_root w OfThis st t = read_this st.this st t
+
+abbrev pub write_at : Bool → Text → Value → Store → ℕ → Result
+write_at true x v st t = At (Halted (IsStuck WriteToConstant)) st t
+write_at false x v st t = At (Ended (Gives UnitV)) (record st { scope = put st.scope x v }) t
+
+abbrev pub write : Option Entry → Text → Value → Store → ℕ → Result
+write None x v st t = At (Halted (IsStuck Unbound)) st t
+write (Some e) x v st t = write_at e.constant x v st t
+
+abbrev pub write_this : Option Value → Value → Store → ℕ → Result
+write_this None v st t = At (Halted (IsStuck UnboundThis)) st t
+write_this (Some u) v st t = At (Ended (Gives UnitV)) (record st { this = Some v }) t
+
+abbrev pub write_root : World → Root → Value → Store → ℕ → Result
+write_root w (OfName x) v st t = write (found w.engine.constants st.scope x) x v st t
+write_root w OfThis v st t = write_this st.this v st t
+
+-- a block takes its names away
+abbrev pub restore : List Entry → List Entry → List Entry
+restore old new = drop (length new - length old) new
+
+abbrev pub leave : List Entry → Result → Result
+leave old (At o st t) = At o (record st { scope = restore old st.scope }) t
+
+-- after a script call: back in the old store but for the calls
+abbrev pub call_then : Store → Result → (Value → Option Value → Store → ℕ → Result) → Result
+call_then old (At (Ended (Gives v)) st t) next = next v st.this (record old { calls = st.calls }) t
+call_then old (At (Ended (Returns v)) st t) next = At (Ended (Returns v)) (record old { calls = st.calls }) t
+call_then old (At (Ended (Breaks v)) st t) next = At (Ended (Breaks v)) (record old { calls = st.calls }) t
+call_then old (At (Ended Continues) st t) next = At (Ended Continues) (record old { calls = st.calls }) t
+call_then old (At (Ended (Throws v)) st t) next = At (Ended (Throws v)) (record old { calls = st.calls }) t
+call_then old (At (Ended Again) st t) next = At (Ended Again) (record old { calls = st.calls }) t
+call_then old (At (Halted h) st t) next = At (Halted h) (record old { calls = st.calls }) t
+
+-- a return is its value, and no break leaves a body
+abbrev pub returned_outcome : Outcome → Outcome
+returned_outcome (Ended (Gives v)) = Ended (Gives v)
+returned_outcome (Ended (Returns v)) = Ended (Gives v)
+returned_outcome (Ended (Breaks v)) = Halted (IsStuck WrongKind)
+returned_outcome (Ended Continues) = Halted (IsStuck WrongKind)
+returned_outcome (Ended (Throws v)) = Ended (Throws v)
+returned_outcome (Ended Again) = Halted (IsStuck WrongKind)
+returned_outcome (Halted h) = Halted h
+
+abbrev pub returned : Result → Result
+returned (At o st t) = At (returned_outcome o) st t
+
+abbrev pub on_again : Ending → (Store → ℕ → Result) → Store → ℕ → Result
+on_again (Gives v) next st t = At (Ended (Gives v)) st t
+on_again (Returns v) next st t = At (Ended (Returns v)) st t
+on_again (Breaks v) next st t = At (Ended (Breaks v)) st t
+on_again Continues next st t = At (Ended Continues) st t
+on_again (Throws v) next st t = At (Ended (Throws v)) st t
+on_again Again next st t = next st t
+
+-- Each round but the last takes a turn.
+abbrev pub rounds : ℕ → (Store → ℕ → Result) → Store → ℕ → Result
+rounds zero round st t = and_then (round st t) (λ e. on_again e (λ st1 t1. At (Halted OutOfTurns) st1 t1))
+rounds (suc n) round st t = and_then (round st t) (λ e. on_again e (λ st1 t1. rounds n round st1 t1))
+
+abbrev mutual
+  pub run : World → Env → Act → Store → ℕ → Result
+  run w env (Stop e) st t = At (Ended e) st t
+  run w env (Fail f) st t = At (Halted (IsStuck f)) st t
+  run w env (Then a next) st t = and_then (run w env a st t) (λ e. run w env (next e))
+  run w env (Turn a) st t = with_turn t st (run w env a)
+  run w env (Read r) st t = read_root w r st t
+  run w env (Write r v) st t = write_root w r v st t
+  run w env (Ask c next) st t = run w env (next (w.host.answer st.calls c)) (record st { calls = st.calls ++ c ∷ [] }) t
+  run w env (Invoke a next) st t = call_then st (env.invoke a st.scope st.calls t) (λ v u. run w env (next v u))
+  run w env (Loop a) st t = rounds env.rounds (run w env a) st t
+  run w env (Scoped p) st t = leave st.scope (run_all w env p st t)
+
+  pub run_all : World → Env → Acts → Store → ℕ → Result
+  run_all w env (Only a) st t = run w env a st t
+  run_all w env (Do a next) st t = and_then (run w env a st t) (λ e. run_all w env (next e))
+  run_all w env (Named x c v p) st t =
+      run_all w env p (record st { scope = record { name = x; constant = c; value = v } ∷ st.scope }) t
+  run_all w env (Finish p) st t = returned (run_all w env p st t)

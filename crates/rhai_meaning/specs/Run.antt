@@ -1,0 +1,101 @@
+-- Script calls, and the run of a whole script.
+use Rattle.std.specs.Prelude.{ℕ, zero, suc, Bool, true, false, cond, ◌&&◌, List, [], ◌∷◌, length, map, Option, Some, None}
+use Rattle.rhai_base.specs.Value.{Text, Value, UnitV}
+use Rattle.rhai_meaning.specs.Engine.{Engine}
+use Rattle.rhai_meaning.specs.Act.{Entry, Call, Host, Key, World, Store, Stuck, Unbound, WrongKind, Gives, Returns, Breaks, Continues, Throws, Again, IsStuck, OutOfTurns, Outcome, Ended, Halted, Result, At, Asked, Acts, Finish, Env, with_turn, run_all}
+use Rattle.rhai_meaning.specs.Core.{Function, Script, Stmts}
+use Rattle.rhai_meaning.specs.Calls.{same_key, key}
+use Rattle.rhai_meaning.specs.Meaning.{acts}
+
+abbrev pub key_of : Function → Key
+key_of f = key f.name (length f.params) f.this_type
+
+abbrev pub function_of : List Function → Key → Option Function
+function_of [] k = None
+function_of (f ∷ fs) k = cond (same_key (key_of f) k) (Some f) (function_of fs k)
+
+-- the parameters as variables
+abbrev pub bind : List Text → List Value → List Entry → List Entry
+bind [] vs scope = scope
+bind (x ∷ xs) [] scope = scope
+bind (x ∷ xs) (v ∷ vs) scope = bind xs vs (record { name = x; constant = false; value = v } ∷ scope)
+
+abbrev pub seen : Bool → List Entry → List Entry
+seen true scope = scope
+seen false scope = []
+
+-- where a body starts; lends: a body may see the scope of a call that captures
+abbrev pub entered : Bool → Function → Asked → List Entry → List Call → Store
+entered lends f a scope calls = record { scope = bind f.params a.arguments (seen (lends && a.captures) scope); this = a.this; calls = calls }
+
+abbrev pub body_acts : World → Stmts → Acts
+body_acts w ss = Finish (acts w true ss UnitV)
+
+abbrev pub call_body : Bool → World → Env → Option Function → Asked → List Entry → List Call → ℕ → Result
+call_body lends w env None a scope calls t = At (Halted (IsStuck Unbound)) (record { scope = []; this = None; calls = calls }) t
+call_body lends w env (Some f) a scope calls t =
+    with_turn t (entered lends f a scope calls) (λ st t1. run_all w env (body_acts w f.body) st t1)
+
+-- calls nest at most so deep
+abbrev pub invoke_at : Bool → World → List Function → ℕ → Asked → List Entry → List Call → ℕ → Result
+invoke_at lends w fs zero a scope calls t = At (Halted OutOfTurns) (record { scope = []; this = None; calls = calls }) t
+invoke_at lends w fs (suc d) a scope calls t =
+    call_body lends w (record { rounds = d; invoke = λ a1 s1 c1 t1. invoke_at lends w fs d a1 s1 c1 t1 }) (function_of fs a.function) a scope calls t
+
+abbrev pub env_at : Bool → World → List Function → ℕ → Env
+env_at lends w fs d = record { rounds = d; invoke = λ a1 s1 c1 t1. invoke_at lends w fs d a1 s1 c1 t1 }
+
+abbrev pub world_of : Engine → Host → List Function → World
+world_of engine host fs = record { engine = engine; host = host; functions = map key_of fs }
+
+-- the statements, or one function with a receiver or none and its arguments
+pub data Entrance : Type 0 where
+  AtStatements : Entrance
+  AtFunction : Key → Option Value → List Value → Entrance
+
+-- A run with n turns: no more than n rounds and n calls, one within another, can begin, so that the depth is never used up first.
+abbrev pub run_at : Bool → World → Script → Entrance → List Entry → ℕ → Result
+run_at lends w s AtStatements scope n =
+    run_all w (env_at lends w s.functions n) (body_acts w s.statements) (record { scope = scope; this = None; calls = [] }) n
+run_at lends w s (AtFunction k this vs) scope n =
+    call_body lends w (env_at lends w s.functions n) (function_of s.functions k) (record { function = k; captures = false; this = this; arguments = vs }) [] [] n
+
+unfoldable pub run_script : Engine → Host → Script → Entrance → List Entry → ℕ → Result
+run_script engine host s e scope n = run_at true (world_of engine host s.functions) s e scope n
+
+-- ---- reports
+
+pub data End : Type 0 where
+  WithValue : Value → End
+  WithThrown : Value → End
+  WithStuck : Stuck → End
+  WithoutTurns : End
+
+pub record Report : Type 0 where
+  pub ended : End
+  pub variables : List Entry
+  pub this : Option Value
+  pub calls : List Call
+  pub turns : ℕ
+
+abbrev pub end_of : Outcome → End
+end_of (Ended (Gives v)) = WithValue v
+end_of (Ended (Returns v)) = WithValue v
+end_of (Ended (Throws v)) = WithThrown v
+end_of (Ended (Breaks v)) = WithStuck WrongKind
+end_of (Ended Continues) = WithStuck WrongKind
+end_of (Ended Again) = WithStuck WrongKind
+end_of (Halted (IsStuck f)) = WithStuck f
+end_of (Halted OutOfTurns) = WithoutTurns
+
+abbrev pub reversed : List Entry → List Entry → List Entry
+reversed [] es = es
+reversed (f ∷ fs) es = reversed fs (f ∷ es)
+
+-- variables in order, of a function none
+abbrev pub variables_of : Entrance → List Entry → List Entry
+variables_of AtStatements es = reversed es []
+variables_of (AtFunction k this vs) es = []
+
+abbrev pub report_of : Entrance → Result → Report
+report_of e (At o st t) = record { ended = end_of o; variables = variables_of e st.scope; this = st.this; calls = st.calls; turns = t }

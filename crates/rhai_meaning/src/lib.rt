@@ -1,0 +1,1 @@
+//! What a script means, as definitions alone: the abstract tree, its core, acts and their runs.

@@ -1,0 +1,12 @@
+-- Paths of names.
+use Rattle.std.specs.Prelude.{List, [], ◌∷◌, ◌++◌, codes, flat_map}
+use Rattle.rhai_parts.specs.declared.types.ident.Ident.{Ident}
+use Rattle.rhai_data.specs.Text.{Text}
+
+-- a name after another one
+abbrev pub next_name : Ident → Text
+next_name n = codes "::" ++ n.name
+
+abbrev pub names_joined : List Ident → Text
+names_joined [] = []
+names_joined (n ∷ ns) = n.name ++ flat_map next_name ns

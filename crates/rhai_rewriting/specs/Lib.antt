@@ -1,0 +1,9 @@
+pub mod Known
+pub mod Folding
+pub mod Rewriting
+pub mod Shapes
+pub mod Weight
+pub mod Residue
+pub mod Steps
+pub mod Correct
+pub mod SameRuns

@@ -1,0 +1,78 @@
+-- What the functions of the optimiser promise: a tree was rewritten, and where the dirty flag is clear afterwards
+-- nothing in it is left to reduce.
+use Rattle.std.specs.Prelude.{◌≡◌, Bool, true, false, []}
+use Rattle.rhai_meaning.specs.Engine.{Engine}
+use Rattle.rhai_meaning.specs.Tree.{Expr, DynamicConstant, BoolConstant, IntegerConstant, CharConstant, StringConstant, UnitConstant, ArrayOf, BlockExpr, FnCall, Exprs, Stmt, Noop, If, Block, ExprStmt, FnCallStmt, Stmts, joined}
+use Rattle.rhai_rewriting.specs.Residue.{IsReducedExpr, AreReducedExprs, IsReduced, AreReduced}
+use Rattle.rhai_rewriting.specs.Rewriting.{Context, Mark, ExprTo, ExprsTo, StmtTo, EachTo, StmtsTo, wanted, wanted_before}
+
+-- under an engine's record, with no names known
+abbrev pub under : Engine → Context
+under engine = record { engine = engine; known = [] }
+
+-- ---- a tree with its parts
+
+pub record ExprRun (k : Context) (d d' : Bool) (e e' : Expr) : Type 0 where
+  pub to : ExprTo k d d' e e'
+  pub reduced : d' ≡ false → IsReducedExpr k.engine e'
+
+pub record ExprsRun (k : Context) (d d' : Bool) (es es' : Exprs) : Type 0 where
+  pub to : ExprsTo k d d' es es'
+  pub reduced : d' ≡ false → AreReducedExprs k.engine es'
+
+pub record StmtRun (k : Context) (w d d' : Bool) (s s' : Stmt) : Type 0 where
+  pub to : StmtTo k w d d' s s'
+  pub reduced : d' ≡ false → IsReduced k.engine s'
+
+pub record EachRun (k : Context) (m : Mark) (d d' : Bool) (ss ss' : Stmts) : Type 0 where
+  pub to : EachTo k m d d' ss ss'
+  pub reduced : d' ≡ false → AreReduced k.engine ss'
+
+-- a list is passed until nothing changes, whatever the flag was before
+pub record StmtsRun (k : Context) (m : Mark) (d d' : Bool) (ss ss' : Stmts) : Type 0 where
+  pub to : StmtsTo k m d d' ss ss'
+  pub reduced : AreReduced k.engine ss'
+
+-- ---- one node, whose parts are rewritten already
+
+abbrev pub ExprParts : Engine → Expr → Type 0
+ExprParts r (DynamicConstant v) = Unit {0}
+ExprParts r (BoolConstant b) = Unit {0}
+ExprParts r (IntegerConstant n) = Unit {0}
+ExprParts r (CharConstant c) = Unit {0}
+ExprParts r (StringConstant t) = Unit {0}
+ExprParts r UnitConstant = Unit {0}
+ExprParts r (ArrayOf es) = AreReducedExprs r es
+ExprParts r (BlockExpr ss) = AreReduced r ss
+ExprParts r (FnCall c es) = AreReducedExprs r es
+
+abbrev pub StmtParts : Engine → Stmt → Type 0
+StmtParts r Noop = Unit {0}
+StmtParts r (If e a b) = IsReducedExpr r e × AreReduced r a × AreReduced r b
+StmtParts r (Block ss) = AreReduced r ss
+StmtParts r (ExprStmt e) = IsReducedExpr r e
+StmtParts r (FnCallStmt c es) = AreReducedExprs r es
+
+pub record ExprStep (k : Context) (d d' : Bool) (e e' : Expr) : Type 0 where
+  pub to : ExprTo k d d' e e'
+  pub reduced : d' ≡ false → ExprParts k.engine e → IsReducedExpr k.engine e'
+
+pub record StmtStep (k : Context) (w d d' : Bool) (s s' : Stmt) : Type 0 where
+  pub to : StmtTo k w d d' s s'
+  pub reduced : d' ≡ false → StmtParts k.engine s → IsReduced k.engine s'
+
+-- ---- a rule that fired
+
+pub record ExprRule (k : Context) (d d' : Bool) (e e' : Expr) : Type 0 where
+  pub to : ExprTo k d d' e e'
+  pub fired : d' ≡ true
+
+pub record StmtRule (k : Context) (w d d' : Bool) (s s' : Stmt) : Type 0 where
+  pub to : StmtTo k w d d' s s'
+  pub fired : d' ≡ true
+
+-- ---- blocks in a list
+
+-- statements moved behind those that are done, in which blocks gave way; w: whether the last one's value is wanted
+pub record Moves (w d d' : Bool) (done moved done' : Stmts) : Type 0 where
+  pub to : (k : Context) (m : Mark) (back : Stmts) → w ≡ wanted_before (wanted m) back → StmtsTo k m d d' (joined done (joined moved back)) (joined done' back)

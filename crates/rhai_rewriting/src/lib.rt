@@ -1,0 +1,1 @@
+//! What may be rewritten to what, and the proof that it keeps what a script does: definitions and proofs alone.
