@@ -4,6 +4,8 @@
 mod copy;
 mod hashable;
 #[cfg(test)]
+pub mod samples;
+#[cfg(test)]
 mod tests;
 mod text;
 

@@ -6,7 +6,7 @@ ghost use Rattle.std.specs.Prelude.{[], ◌∷◌, codes, pos};
 ghost use Rattle.rhai_base.specs.Value.{IntV};
 ghost use Rattle.rhai_meaning.specs.Act.{AnswersThrow};
 
-use crate::{EngineInfo, Host, HostAnswer, HostCall, RunEnd, RunReport, plain_run};
+use crate::{EngineInfo, Host, HostAnswer, HostCall, RunEnd, plain_run};
 use rhai_ast::{Expr, FnCallExpr, Stmt};
 use rhai_base::{Boxed, Dynamic, ImmutableString, OutOfMemory, Position, Scope, Seq, Token};
 use rhai_script::{AST, FnLib};
@@ -61,21 +61,20 @@ fn negation(alloc: Global) -> Result<Stmt, OutOfMemory> {
 #[test]
 fn the_start_scope_and_the_turns_come_back(rt: HostRuntime) -> Result<(), Fail> {
     let alloc = rt.alloc();
+    let rows = [("x", false, 1), ("k", true, 2)];
     let mut scope = Scope::new(alloc);
     scope.push(ImmutableString::new(alloc, "x")?, Dynamic::Int(1))?;
-    scope.push_constant(ImmutableString::new(alloc, "k")?, Dynamic::Bool(true))?;
+    scope.push_constant(ImmutableString::new(alloc, "k")?, Dynamic::Int(2))?;
     let script = script(alloc, Vec::new(alloc))?;
     let report = plain_run(alloc, &script, &EngineInfo::new(alloc), &Throws, &scope, 10)?;
-    let wanted = RunReport {
-        run_end: RunEnd::Value(Dynamic::Unit),
-        variables: Seq::from_vec(vec![in alloc;
-            (ImmutableString::new(alloc, "x")?, false, Dynamic::Int(1)),
-            (ImmutableString::new(alloc, "k")?, true, Dynamic::Bool(true)),
-        ]?),
-        calls: Seq::new(alloc),
-        turns_left: 10,
-    };
-    assert_eq!(rt; report, wanted);
+    assert_eq!(rt; report.run_end, RunEnd::Value(Dynamic::Unit));
+    assert_eq!(rt; (report.calls.len(), report.turns_left), (0, 10));
+    assert_eq!(rt; report.variables.len(), rows.len());
+    for (row, variable) in rows.iter().zip(report.variables.as_slice()) {
+        let (name, is_constant, value) = variable;
+        assert_eq!(rt; (name.as_str(), *is_constant), (row.0, row.1));
+        assert_eq!(rt; *value, Dynamic::Int(row.2));
+    }
     Ok(())
 }
 
