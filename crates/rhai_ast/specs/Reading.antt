@@ -18,13 +18,13 @@ use Rattle.rhai_ast.specs.declared.ast.stmt.StmtBlock.{StmtBlock}
 use Rattle.rhai_ast.specs.declared.ast.expr.FnCallExpr.{FnCallExpr}
 use Rattle.rhai_ast.specs.declared.ast.stmt.FlowControl.{FlowControl}
 use Rattle.rhai_ast.specs.declared.ast.script_fn.ScriptFuncDef.{ScriptFuncDef}
-use Rattle.rhai_meaning.specs.Tree.{Mark, NoToken, OfOperator, OfOther, Callee, Expr, DynamicConstant, BoolConstant, IntegerConstant, CharConstant, StringConstant, UnitConstant, ArrayOf, BlockExpr, FnCall, Exprs, Stmt, Noop, If, Block, ExprStmt, FnCallStmt, Stmts, Function, exprs, stmts}
+use Rattle.rhai_meaning.specs.Tree.{CallToken, NoToken, OfOperator, OfOther, Callee, Expr, DynamicConstant, BoolConstant, IntegerConstant, CharConstant, StringConstant, UnitConstant, ArrayOf, BlockExpr, FnCall, Exprs, Stmt, Noop, If, Block, ExprStmt, FnCallStmt, Stmts, Function, exprs, stmts}
 
-abbrev pub mark_by : Option Operator → Mark
+abbrev pub mark_by : Option Operator → CallToken
 mark_by (Some op) = OfOperator op
 mark_by None = OfOther
 
-abbrev pub mark_of : Option Token → Mark
+abbrev pub mark_of : Option Token → CallToken
 mark_of None = NoToken
 mark_of (Some t) = mark_by (operator_of t)
 

@@ -1,7 +1,7 @@
 -- A run that ends, with enough depth and turns.
 use Rattle.std.proofs.Common.{List, ◌≡◌, ℕ, zero, suc, ◌+◌, ◌≤◌, Option, refl, ap, ◌∙◌, subst, arith}
 use Rattle.rhai_base.specs.Value.{Value}
-use Rattle.rhai_meaning.specs.Act.{Entry, Call, Store, Ending, Gives, Returns, Breaks, Continues, Throws, Again, Halt, IsStuck, Stuck, OutOfTurns, Outcome, Ended, Halted, Result, At, and_then, with_turn, leave, restore, call_then, returned_outcome, returned, on_again, rounds}
+use Rattle.rhai_meaning.specs.Act.{ScopeEntry, HostCall, Store, Ending, Gives, Returns, Breaks, Continues, Throws, Again, Halt, IsStuck, Stuck, OutOfTurns, Outcome, Ended, Halted, Result, At, and_then, with_turn, leave, restore, call_then, returned_outcome, returned, on_again, rounds}
 use Rattle.rhai_meaning.proofs.Relations.{Follows, same, short, IsOut}
 use Rattle.rhai_meaning.proofs.Rising.{Action}
 
@@ -134,7 +134,7 @@ ends_call_stops p next s o s1 s2 e x = record {
   by = λ d t n le lt. let a = x.by d t n le lt in (a.0, a.1, ap (λ r. call_then s r (λ v u. next v u d)) a.2 ∙ e d a.0);
 }
 
-pub met_call : (p : Run) (next : Value → Option Value → Run) (next' : Value → Option Value → Action) (s : Store) (r : Result) → Met p s r → ((v : Value) (u : Option Value) (cs : List Call) (t1 : ℕ) → Met (next v u) (record s { calls = cs }) (next' v u (record s { calls = cs }) t1)) → Met (call_run p next) s (call_then s r next')
+pub met_call : (p : Run) (next : Value → Option Value → Run) (next' : Value → Option Value → Action) (s : Store) (r : Result) → Met p s r → ((v : Value) (u : Option Value) (cs : List HostCall) (t1 : ℕ) → Met (next v u) (record s { calls = cs }) (next' v u (record s { calls = cs }) t1)) → Met (call_run p next) s (call_then s r next')
 met_call p next next' s r out h = out
 met_call p next next' s r (ended {o = Ended (Gives v)} {s' = s1} {t = t1} x) h =
     met_move (next v s1.this) (call_run p next) (record s { calls = s1.calls }) s _ (λ o s2 y. ends_call p next s v s1 o s2 x y) (h v s1.this s1.calls t1)
@@ -164,7 +164,7 @@ met_turn p next s zero h = out
 met_turn p next s (suc t) h = met_move p _ s s (next s t) (λ o s' x. ends_turn p s o s' x) (h t)
 
 -- names are taken away at the end
-ends_leave : (p : Run) (s : Store) (es : List Entry) (o : Outcome) (s' : Store) → Ends p s o s' → Ends (λ d s t. leave es (p d s t)) s o (record s' { scope = restore es s'.scope })
+ends_leave : (p : Run) (s : Store) (es : List ScopeEntry) (o : Outcome) (s' : Store) → Ends p s o s' → Ends (λ d s t. leave es (p d s t)) s o (record s' { scope = restore es s'.scope })
 ends_leave p s es o s' x = record {
   depth = x.depth;
   turns = x.turns;
@@ -172,7 +172,7 @@ ends_leave p s es o s' x = record {
   by = λ d t n le lt. let a = x.by d t n le lt in (a.0, a.1, ap (leave es) a.2);
 }
 
-pub met_leave : (p : Run) (s : Store) (es : List Entry) (r : Result) → Met p s r → Met (λ d s t. leave es (p d s t)) s (leave es r)
+pub met_leave : (p : Run) (s : Store) (es : List ScopeEntry) (r : Result) → Met p s r → Met (λ d s t. leave es (p d s t)) s (leave es r)
 met_leave p s es r out = out
 met_leave p s es r (ended {o = o} {s' = s'} x) = ended (ends_leave p s es o s' x)
 met_leave p s es r (stuck g s' x) = stuck g _ (ends_leave p s es _ s' x)

@@ -1,7 +1,7 @@
 -- How one result relates to another, and one scope to a later one.
 use Rattle.std.specs.Prelude.{◌≡◌, ℕ, ◌+◌, ◌≤◌, false, List, [], ◌∷◌}
 use Rattle.rhai_base.specs.Value.{Value}
-use Rattle.rhai_meaning.specs.Act.{Entry, Store, Halt, IsStuck, OutOfTurns, Outcome, Halted, Result, At}
+use Rattle.rhai_meaning.specs.Act.{ScopeEntry, Store, Halt, IsStuck, OutOfTurns, Outcome, Halted, Result, At}
 use Rattle.rhai_meaning.specs.Relations.{Begins, calls_of}
 
 -- the second result is the first with k more turns left at least, or the first halted in a way of U
@@ -19,12 +19,12 @@ IsOut (IsStuck f) = ⊥
 IsOut OutOfTurns = Unit {0}
 
 -- the same names, and the same values of constants
-pub data Keeps : List Entry → List Entry → Type 0 where
+pub data Keeps : List ScopeEntry → List ScopeEntry → Type 0 where
   none : Keeps [] []
-  one : {e : Entry} {es fs : List Entry} → Keeps es fs → Keeps (e ∷ es) (e ∷ fs)
-  changed : {e : Entry} {v : Value} {es fs : List Entry} → e.constant ≡ false → Keeps es fs → Keeps (e ∷ es) (record e { value = v } ∷ fs)
+  one : {e : ScopeEntry} {es fs : List ScopeEntry} → Keeps es fs → Keeps (e ∷ es) (e ∷ fs)
+  changed : {e : ScopeEntry} {v : Value} {es fs : List ScopeEntry} → e.constant ≡ false → Keeps es fs → Keeps (e ∷ es) (record e { value = v } ∷ fs)
 
 -- that, under names that were pushed
-pub data Grows : List Entry → List Entry → Type 0 where
-  kept : {es fs : List Entry} → Keeps es fs → Grows es fs
-  pushed : {e : Entry} {es fs : List Entry} → Grows es fs → Grows es (e ∷ fs)
+pub data Grows : List ScopeEntry → List ScopeEntry → Type 0 where
+  kept : {es fs : List ScopeEntry} → Keeps es fs → Grows es fs
+  pushed : {e : ScopeEntry} {es fs : List ScopeEntry} → Grows es fs → Grows es (e ∷ fs)

@@ -1,10 +1,10 @@
 -- One result follows another: how that passes through each part of a run. More turns and a deeper call.
 use Rattle.std.proofs.Common.{ℕ, zero, suc, ◌+◌, ◌≤◌, Bool, true, false, List, [], ◌∷◌, ◌++◌, Option, Some, None, arith}
 use Rattle.rhai_base.specs.Value.{Text, Value}
-use Rattle.rhai_meaning.specs.Act.{Entry, Call, Store, World, Ending, Gives, Returns, Breaks, Continues, Throws, Again, Halt, OutOfTurns, Ended, Halted, Result, At, Root, OfName, OfThis, Asked, Act, Stop, Fail, Then, Turn, Read, Write, Ask, Invoke, Loop, Scoped, Acts, Only, Do, Named, Finish, Env, and_then, with_turn, found, read, read_this, read_root, write_at, write, write_this, write_root, leave, call_then, returned, on_again, rounds, run, run_all}
+use Rattle.rhai_meaning.specs.Act.{ScopeEntry, HostCall, Store, World, Ending, Gives, Returns, Breaks, Continues, Throws, Again, Halt, OutOfTurns, Ended, Halted, Result, At, Root, OfName, OfThis, ScriptCall, Act, Stop, Fail, Then, Turn, Read, Write, AskHost, Invoke, Loop, Scoped, Acts, Only, Do, Named, Finish, Env, and_then, with_turn, found, read, read_this, read_root, write_at, write, write_this, write_root, leave, call_then, returned, on_again, rounds, run, run_all}
 use Rattle.rhai_meaning.specs.Relations.{Begins, here, calls_of, store_of}
 use Rattle.rhai_meaning.proofs.Relations.{Follows, same, short, AnyHalt, IsOut, Keeps}
-use Rattle.rhai_meaning.proofs.Frame.{begins_trans, After, after_same, frame_on_again, frame_rounds, OnlyAdds, frame, frame_all}
+use Rattle.rhai_meaning.proofs.Frame.{begins_trans, After, after_same, frame_on_again, frame_rounds, OnlyAdds, preserves, frame_all}
 
 abbrev pub Action : Type 0
 Action = Store → ℕ → Result
@@ -28,7 +28,7 @@ module _ (U : Halt → Type 0) (out : U OutOfTurns) (k : ℕ) where
   follow_then Q (same {o = Halted f} le) q next next' h g = same le
   follow_then Q (short {r = r'} u p) q next next' h g = short u (begins_trans p (begins_then r' next' g))
 
-  pub follow_call : {r r' : Result} (old : Store) → Follows U k r r' → (next next' : Value → Option Value → Action) → ((v : Value) (u : Option Value) (cs : List Call) (t t' : ℕ) → t + k ≤ t' → Follows U k (next v u (record old { calls = cs }) t) (next' v u (record old { calls = cs }) t')) → ((v : Value) (u : Option Value) (s : Store) (t : ℕ) → Begins s.calls (calls_of (next' v u s t))) → Follows U k (call_then old r next) (call_then old r' next')
+  pub follow_call : {r r' : Result} (old : Store) → Follows U k r r' → (next next' : Value → Option Value → Action) → ((v : Value) (u : Option Value) (cs : List HostCall) (t t' : ℕ) → t + k ≤ t' → Follows U k (next v u (record old { calls = cs }) t) (next' v u (record old { calls = cs }) t')) → ((v : Value) (u : Option Value) (s : Store) (t : ℕ) → Begins s.calls (calls_of (next' v u s t))) → Follows U k (call_then old r next) (call_then old r' next')
   follow_call old (same {o = Ended (Gives v)} {st = s} {t = t} {t' = t'} le) next next' h g = h v s.this s.calls t t' le
   follow_call old (same {o = Ended (Returns v)} le) next next' h g = same le
   follow_call old (same {o = Ended (Breaks v)} le) next next' h g = same le
@@ -52,7 +52,7 @@ module _ (U : Halt → Type 0) (out : U OutOfTurns) (k : ℕ) where
   follow_on_again (Throws v) next next' s t t' le h = same le
   follow_on_again Again next next' s t t' le h = h
 
-  pub follow_leave : (es : List Entry) {r r' : Result} → Follows U k r r' → Follows U k (leave es r) (leave es r')
+  pub follow_leave : (es : List ScopeEntry) {r r' : Result} → Follows U k r r' → Follows U k (leave es r) (leave es r')
   follow_leave es (same le) = same le
   follow_leave es (short {r = At o s t} u p) = short u p
 
@@ -60,7 +60,7 @@ module _ (U : Halt → Type 0) (out : U OutOfTurns) (k : ℕ) where
   follow_returned (same le) = same le
   follow_returned (short {r = At o s t} u p) = short u p
 
-  follow_read : (o : Option Entry) (s : Store) (t t' : ℕ) → t + k ≤ t' → Follows U k (read o s t) (read o s t')
+  follow_read : (o : Option ScopeEntry) (s : Store) (t t' : ℕ) → t + k ≤ t' → Follows U k (read o s t) (read o s t')
   follow_read None s t t' le = same le
   follow_read (Some e) s t t' le = same le
 
@@ -76,7 +76,7 @@ module _ (U : Halt → Type 0) (out : U OutOfTurns) (k : ℕ) where
   follow_write_at true x v s t t' le = same le
   follow_write_at false x v s t t' le = same le
 
-  follow_write : (o : Option Entry) (x : Text) (v : Value) (s : Store) (t t' : ℕ) → t + k ≤ t' → Follows U k (write o x v s t) (write o x v s t')
+  follow_write : (o : Option ScopeEntry) (x : Text) (v : Value) (s : Store) (t t' : ℕ) → t + k ≤ t' → Follows U k (write o x v s t) (write o x v s t')
   follow_write None x v s t t' le = same le
   follow_write (Some e) x v s t t' le = follow_write_at e.constant x v s t t' le
 
@@ -113,30 +113,30 @@ module _ (U : Halt → Type 0) (out : U OutOfTurns) (k : ℕ) where
   -- the second environment goes as deep and deeper
   pub record Deeper (env env' : Env) : Type 0 where
     pub rounds : env.rounds ≤ env'.rounds
-    pub invoke : (a : Asked) (scope : List Entry) (calls : List Call) (t t' : ℕ) → t + k ≤ t' → Follows U k (env.invoke a scope calls t) (env'.invoke a scope calls t')
+    pub invoke : (a : ScriptCall) (scope : List ScopeEntry) (calls : List HostCall) (t t' : ℕ) → t + k ≤ t' → Follows U k (env.invoke a scope calls t) (env'.invoke a scope calls t')
     pub adds : OnlyAdds env'
 
   module _ (w : World) (env env' : Env) (deep : Deeper env env') where
     mutual
-      pub rise : (a : Act) → Rising (run w env a) (run w env' a)
-      rise (Stop e) s t t' le = same le
-      rise (Fail h) s t t' le = same le
-      rise (Then a next) s t t' le =
-          follow_then (λ s. Unit {0}) (rise a s t t' le) tt _ _ (λ e s1 t1 t1' q le1. rise (next e) s1 t1 t1' le1) (λ e s1 t1. (frame w env' deep.adds (next e) s1 t1).calls)
-      rise (Turn a) s t t' le = follow_turn s t t' le _ _ (λ t1 t1' le1. rise a s t1 t1' le1) (λ s1 t1. (frame w env' deep.adds a s1 t1).calls)
-      rise (Read r) s t t' le = follow_read_root w r s t t' le
-      rise (Write r v) s t t' le = follow_write_root w r v s t t' le
-      rise (Ask c next) s t t' le = rise (next (w.host.answer s.calls c)) (record s { calls = s.calls ++ c ∷ [] }) t t' le
-      rise (Invoke a next) s t t' le = follow_call s (deep.invoke a s.scope s.calls t t' le) _ _ (λ v u cs t1 t1' le1. rise (next v u) _ t1 t1' le1) (λ v u s1 t1. (frame w env' deep.adds (next v u) s1 t1).calls)
-      rise (Loop a) s t t' le = follow_rounds (λ s. Unit {0}) env.rounds env'.rounds deep.rounds _ _ (λ s1 t1 t1' q le1. rise a s1 t1 t1' le1) (λ s1 t1 q. tt) (λ s1 t1. frame w env' deep.adds a s1 t1) s t t' tt le
-      rise (Scoped p) s t t' le = follow_leave s.scope (rise_all p s t t' le)
+      pub monotone : (a : Act) → Rising (run w env a) (run w env' a)
+      monotone (Stop e) s t t' le = same le
+      monotone (Fail h) s t t' le = same le
+      monotone (Then a next) s t t' le =
+          follow_then (λ s. Unit {0}) (monotone a s t t' le) tt _ _ (λ e s1 t1 t1' q le1. monotone (next e) s1 t1 t1' le1) (λ e s1 t1. (preserves w env' deep.adds (next e) s1 t1).calls)
+      monotone (Turn a) s t t' le = follow_turn s t t' le _ _ (λ t1 t1' le1. monotone a s t1 t1' le1) (λ s1 t1. (preserves w env' deep.adds a s1 t1).calls)
+      monotone (Read r) s t t' le = follow_read_root w r s t t' le
+      monotone (Write r v) s t t' le = follow_write_root w r v s t t' le
+      monotone (AskHost c next) s t t' le = monotone (next (w.host.answer s.calls c)) (record s { calls = s.calls ++ c ∷ [] }) t t' le
+      monotone (Invoke a next) s t t' le = follow_call s (deep.invoke a s.scope s.calls t t' le) _ _ (λ v u cs t1 t1' le1. monotone (next v u) _ t1 t1' le1) (λ v u s1 t1. (preserves w env' deep.adds (next v u) s1 t1).calls)
+      monotone (Loop a) s t t' le = follow_rounds (λ s. Unit {0}) env.rounds env'.rounds deep.rounds _ _ (λ s1 t1 t1' q le1. monotone a s1 t1 t1' le1) (λ s1 t1 q. tt) (λ s1 t1. preserves w env' deep.adds a s1 t1) s t t' tt le
+      monotone (Scoped p) s t t' le = follow_leave s.scope (monotone_all p s t t' le)
 
-      pub rise_all : (p : Acts) → Rising (run_all w env p) (run_all w env' p)
-      rise_all (Only a) s t t' le = rise a s t t' le
-      rise_all (Do a next) s t t' le =
-          follow_then (λ s. Unit {0}) (rise a s t t' le) tt _ _ (λ e s1 t1 t1' q le1. rise_all (next e) s1 t1 t1' le1) (λ e s1 t1. (frame_all w env' deep.adds (next e) s1 t1).calls)
-      rise_all (Finish p) s t t' le = follow_returned (rise_all p s t t' le)
-      rise_all (Named x c v p) s t t' le = rise_all p _ t t' le
+      pub monotone_all : (p : Acts) → Rising (run_all w env p) (run_all w env' p)
+      monotone_all (Only a) s t t' le = monotone a s t t' le
+      monotone_all (Do a next) s t t' le =
+          follow_then (λ s. Unit {0}) (monotone a s t t' le) tt _ _ (λ e s1 t1 t1' q le1. monotone_all (next e) s1 t1 t1' le1) (λ e s1 t1. (frame_all w env' deep.adds (next e) s1 t1).calls)
+      monotone_all (Finish p) s t t' le = follow_returned (monotone_all p s t t' le)
+      monotone_all (Named x c v p) s t t' le = monotone_all p _ t t' le
 
 pub follows_begins : {U : Halt → Type 0} {k : ℕ} {r r' : Result} → Follows U k r r' → Begins (calls_of r) (calls_of r')
 follows_begins (same le) = here

@@ -4,13 +4,13 @@ use Rattle.rhai_base.specs.Value.{Text, Value, UnitV, same_text}
 use Rattle.rhai_meaning.specs.Engine.{Engine, Binding, constant_named}
 
 -- a name of the scope
-pub record Entry : Type 0 where
+pub record ScopeEntry : Type 0 where
   pub name : Text
   pub constant : Bool
   pub value : Value
 
 -- a question to the host
-pub record Call : Type 0 where
+pub record HostCall : Type 0 where
   pub name : Text
   pub receiver : Option Value
   pub arguments : List Value
@@ -21,7 +21,7 @@ pub data Answer : Type 0 where
   AnswersThrow : Value → Answer
 
 pub record Host : Type 0 where
-  pub answer : List Call → Call → Answer
+  pub answer : List HostCall → HostCall → Answer
   pub module_value : Text → Option Value
 
 -- a script function's name, number of parameters and receiver type
@@ -38,9 +38,9 @@ pub record World : Type 0 where
 
 -- the names, latest first, `this`, and the host calls in order
 pub record Store : Type 0 where
-  pub scope : List Entry
+  pub scope : List ScopeEntry
   pub this : Option Value
-  pub calls : List Call
+  pub calls : List HostCall
 
 pub data Stuck : Type 0 where
   Unbound : Stuck
@@ -76,7 +76,7 @@ pub data Root : Type 0 where
   OfThis : Root
 
 -- a script call
-pub record Asked : Type 0 where
+pub record ScriptCall : Type 0 where
   pub function : Key
   pub captures : Bool
   pub this : Option Value
@@ -98,9 +98,9 @@ mutual
     -- replaces it, and gives unit
     Write : Root → Value → Act
     -- asks the host
-    Ask : Call → (Answer → Act) → Act
+    AskHost : HostCall → (Answer → Act) → Act
     -- calls a script function; goes on with its value and its last `this`
-    Invoke : Asked → (Value → Option Value → Act) → Act
+    Invoke : ScriptCall → (Value → Option Value → Act) → Act
     -- rounds, as long as they end in Again
     Loop : Act → Act
     -- takes the names away that the list pushed
@@ -116,7 +116,7 @@ mutual
 -- the rounds of a loop, and a script call: a function of the caller's scope, the calls so far and the turns left
 pub record Env : Type 0 where
   pub rounds : ℕ
-  pub invoke : Asked → List Entry → List Call → ℕ → Result
+  pub invoke : ScriptCall → List ScopeEntry → List HostCall → ℕ → Result
 
 abbrev pub and_then : Result → (Ending → Store → ℕ → Result) → Result
 and_then (At (Ended e) st t) next = next e st t
@@ -127,15 +127,15 @@ with_turn zero st next = At (Halted OutOfTurns) st zero
 with_turn (suc t) st next = next st t
 
 -- the latest entry of a name, else the record's constant
-abbrev pub found : List Binding → List Entry → Text → Option Entry
+abbrev pub found : List Binding → List ScopeEntry → Text → Option ScopeEntry
 found bs [] x = option_map (λ v. record { name = x; constant = true; value = v }) (constant_named bs x)
 found bs (e ∷ es) x = cond (same_text e.name x) (Some e) (found bs es x)
 
-abbrev pub put : List Entry → Text → Value → List Entry
+abbrev pub put : List ScopeEntry → Text → Value → List ScopeEntry
 put [] x v = []
 put (e ∷ es) x v = cond (same_text e.name x) (record e { value = v } ∷ es) (e ∷ put es x v)
 
-abbrev pub read : Option Entry → Store → ℕ → Result
+abbrev pub read : Option ScopeEntry → Store → ℕ → Result
 read None st t = At (Halted (IsStuck Unbound)) st t
 read (Some e) st t = At (Ended (Gives e.value)) st t
 
@@ -151,7 +151,7 @@ abbrev pub write_at : Bool → Text → Value → Store → ℕ → Result
 write_at true x v st t = At (Halted (IsStuck WriteToConstant)) st t
 write_at false x v st t = At (Ended (Gives UnitV)) (record st { scope = put st.scope x v }) t
 
-abbrev pub write : Option Entry → Text → Value → Store → ℕ → Result
+abbrev pub write : Option ScopeEntry → Text → Value → Store → ℕ → Result
 write None x v st t = At (Halted (IsStuck Unbound)) st t
 write (Some e) x v st t = write_at e.constant x v st t
 
@@ -164,10 +164,10 @@ write_root w (OfName x) v st t = write (found w.engine.constants st.scope x) x v
 write_root w OfThis v st t = write_this st.this v st t
 
 -- a block takes its names away
-abbrev pub restore : List Entry → List Entry → List Entry
+abbrev pub restore : List ScopeEntry → List ScopeEntry → List ScopeEntry
 restore old new = drop (length new - length old) new
 
-abbrev pub leave : List Entry → Result → Result
+abbrev pub leave : List ScopeEntry → Result → Result
 leave old (At o st t) = At o (record st { scope = restore old st.scope }) t
 
 -- after a script call: back in the old store but for the calls
@@ -214,7 +214,7 @@ abbrev mutual
   run w env (Turn a) st t = with_turn t st (run w env a)
   run w env (Read r) st t = read_root w r st t
   run w env (Write r v) st t = write_root w r v st t
-  run w env (Ask c next) st t = run w env (next (w.host.answer st.calls c)) (record st { calls = st.calls ++ c ∷ [] }) t
+  run w env (AskHost c next) st t = run w env (next (w.host.answer st.calls c)) (record st { calls = st.calls ++ c ∷ [] }) t
   run w env (Invoke a next) st t = call_then st (env.invoke a st.scope st.calls t) (λ v u. run w env (next v u))
   run w env (Loop a) st t = rounds env.rounds (run w env a) st t
   run w env (Scoped p) st t = leave st.scope (run_all w env p st t)

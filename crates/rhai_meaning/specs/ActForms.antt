@@ -1,7 +1,7 @@
 -- Short forms of acts.
 use Rattle.std.specs.Prelude.{Bool, true, false, List, Option, Some, None}
 use Rattle.rhai_base.specs.Value.{Text, Value, UnitV, BoolV, TextV}
-use Rattle.rhai_meaning.specs.Act.{Ending, Gives, Returns, Breaks, Continues, Throws, Again, WrongKind, Unbound, Answer, Answers, AnswersThrow, Act, Stop, Fail, Then, Ask, Acts, Only, Do}
+use Rattle.rhai_meaning.specs.Act.{Ending, Gives, Returns, Breaks, Continues, Throws, Again, WrongKind, Unbound, Answer, Answers, AnswersThrow, Act, Stop, Fail, Then, AskHost, Acts, Only, Do}
 
 abbrev pub give : Value → Act
 give v = Stop (Gives v)
@@ -90,7 +90,7 @@ answered next (AnswersThrow v) = Stop (Throws v)
 
 -- a call without receiver, for its value
 abbrev pub ask_host : Text → List Value → Act
-ask_host f vs = Ask (record { name = f; receiver = None; arguments = vs }) (λ a. answered (λ v u. give v) a)
+ask_host f vs = AskHost (record { name = f; receiver = None; arguments = vs }) (λ a. answered (λ v u. give v) a)
 
 abbrev pub ask_method : Text → Value → List Value → (Value → Option Value → Act) → Act
-ask_method f v vs next = Ask (record { name = f; receiver = Some v; arguments = vs }) (λ a. answered next a)
+ask_method f v vs next = AskHost (record { name = f; receiver = Some v; arguments = vs }) (λ a. answered next a)

@@ -5,7 +5,7 @@ use Rattle.rhai_meaning.specs.Tree as tree
 use Rattle.rhai_meaning.specs.Core.{Callee, OnOperator, ByName, Expr, Ill, Constant, ArrayOf, BlockExpr, FnCall, Exprs, no_exprs, expr, Noop, If, Block, Evaluate, Stmt, Does, Stmts, no_stmts, stmt, Function, Script}
 use Rattle.rhai_meaning.specs.Faults.{is_unit, is_callable}
 
-abbrev pub callee_by : tree.Callee → tree.Mark → Callee
+abbrev pub callee_by : tree.Callee → tree.CallToken → Callee
 callee_by c tree.NoToken = ByName c.name c.captures
 callee_by c (tree.OfOperator op) = OnOperator op
 callee_by c tree.OfOther = ByName c.name c.captures

@@ -3,7 +3,7 @@ use Rattle.std.specs.Prelude.{◌≡◌, ℕ, Bool, true, false, not, ◌&&◌, 
 use Rattle.rhai_base.specs.Value.{Value, UnitV, same_text}
 use Rattle.rhai_base.specs.Operators.{symbol, arity}
 use Rattle.rhai_parts.specs.Names.{is_among, symbols, barred}
-use Rattle.rhai_meaning.specs.Tree.{Mark, NoToken, OfOperator, OfOther, Callee, Expr, DynamicConstant, BoolConstant, IntegerConstant, CharConstant, StringConstant, UnitConstant, ArrayOf, BlockExpr, FnCall, Exprs, no_exprs, expr, count_exprs, Stmt, Noop, If, Block, ExprStmt, FnCallStmt, Stmts, no_stmts, stmt}
+use Rattle.rhai_meaning.specs.Tree.{CallToken, NoToken, OfOperator, OfOther, Callee, Expr, DynamicConstant, BoolConstant, IntegerConstant, CharConstant, StringConstant, UnitConstant, ArrayOf, BlockExpr, FnCall, Exprs, no_exprs, expr, count_exprs, Stmt, Noop, If, Block, ExprStmt, FnCallStmt, Stmts, no_stmts, stmt}
 
 -- ---- one node
 
@@ -13,7 +13,7 @@ is_unit UnitV = true
 is_unit _ = false
 
 -- An operator's token has its own name and its count of arguments; an operator's name has its token.
-abbrev pub has_token : Callee → ℕ → Mark → Bool
+abbrev pub has_token : Callee → ℕ → CallToken → Bool
 has_token c n NoToken = not (is_among c.name symbols)
 has_token c n (OfOperator op) = same_text c.name (symbol op) && n == arity op && not c.captures
 has_token c n OfOther = false

@@ -1,11 +1,11 @@
 -- A host by rows.
 use Rattle.std.specs.Prelude.{Bool, true, false, ◌&&◌, List, [], ◌∷◌, Option, Some, None, if◌then◌else◌}
 use Rattle.rhai_base.specs.Value.{Text, Value, UnitV, same, same_items, same_text, values}
-use Rattle.rhai_meaning.specs.Act.{Call, Answer, Answers, Host}
+use Rattle.rhai_meaning.specs.Act.{HostCall, Answer, Answers, Host}
 
 pub record Row : Type 0 where
-  pub past : List Call
-  pub call : Call
+  pub past : List HostCall
+  pub call : HostCall
   pub answer : Answer
 
 pub record ModuleValue : Type 0 where
@@ -17,17 +17,17 @@ same_receiver None None = true
 same_receiver (Some v) (Some w) = same v w
 same_receiver _ _ = false
 
-abbrev pub same_call : Call → Call → Bool
+abbrev pub same_call : HostCall → HostCall → Bool
 same_call a b =
     same_text a.name b.name && same_receiver a.receiver b.receiver && same_items (values a.arguments) (values b.arguments)
 
-abbrev pub same_calls : List Call → List Call → Bool
+abbrev pub same_calls : List HostCall → List HostCall → Bool
 same_calls [] [] = true
 same_calls (a ∷ as') (b ∷ bs) = same_call a b && same_calls as' bs
 same_calls _ _ = false
 
 -- The first row that fits answers, and unit where none does.
-abbrev pub answer_of : List Row → List Call → Call → Answer
+abbrev pub answer_of : List Row → List HostCall → HostCall → Answer
 answer_of [] past call = Answers UnitV None
 answer_of (r ∷ rs) past call =
     if same_calls r.past past && same_call r.call call then r.answer else answer_of rs past call

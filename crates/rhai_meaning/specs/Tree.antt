@@ -5,16 +5,16 @@ use Rattle.rhai_base.specs.Value.{Text, Value}
 use Rattle.rhai_base.specs.Operators.{Operator}
 
 -- the token that a call holds
-pub data Mark : Type 0 where
-  NoToken : Mark
-  OfOperator : Operator → Mark
-  OfOther : Mark
+pub data CallToken : Type 0 where
+  NoToken : CallToken
+  OfOperator : Operator → CallToken
+  OfOther : CallToken
 
 -- what is called
 pub record Callee : Type 0 where
   pub name : Text
   pub captures : Bool
-  pub token : Mark
+  pub token : CallToken
 
 mutual
   pub data Expr : Type 0 where

@@ -3,7 +3,7 @@ use Rattle.std.specs.Prelude.{◌≡◌, ℕ, Bool, true, false, List, [], ◌�
 use Prim.Native.String.{String}
 use Rattle.rhai_base.specs.Value.{Text, Value, UnitV, BoolV, IntV, TextV, ArrayV, values, text_of}
 use Rattle.rhai_base.specs.Operators.{Operator, Plus, Multiply, Divide, EqualTo, Not, symbol, computed}
-use Rattle.rhai_meaning.specs.Act.{Call, Host, Answer, Answers, AnswersThrow, WrongKind}
+use Rattle.rhai_meaning.specs.Act.{HostCall, Host, Answer, Answers, AnswersThrow, WrongKind}
 use Rattle.rhai_meaning.specs.Desugar.{core_script}
 use Rattle.rhai_meaning.specs.Engine.{Engine}
 use Rattle.rhai_meaning.specs.Run.{AtStatements, End, WithValue, WithThrown, WithStuck, Report, report_of, run_script}
@@ -24,7 +24,7 @@ abbrev nothing_set : Engine
 nothing_set = record { constants = []; overrides = []; type_names = []; fast_operators = false }
 
 -- the host of the program answers unit but to `+`, which joins texts
-unfoldable joins : Call → Answer
+unfoldable joins : HostCall → Answer
 unfolding text_of
 joins c = elim c.arguments [ [] ↦ Answers UnitV None | v ∷ vs ↦ elim vs [ [] ↦ Answers UnitV None | w ∷ ws ↦ Answers (TextV (text_of v ++ text_of w)) None ] ]
 
@@ -41,10 +41,10 @@ unfoldable ran : Engine → Host → List Stmt → Report
 unfolding run_script computed joins
 ran engine host ss = report_of AtStatements (run_script engine host (core_script (record { statements = stmts ss; functions = [] })) AtStatements [] 0)
 
-abbrev ends : End → List Call → Report
+abbrev ends : End → List HostCall → Report
 ends e cs = record { ended = e; variables = []; this = None; calls = cs; turns = 0 }
 
-abbrev asked : String → List Value → Call
+abbrev asked : String → List Value → HostCall
 asked f vs = record { name = codes f; receiver = None; arguments = vs }
 
 abbrev i : ℕ → Value

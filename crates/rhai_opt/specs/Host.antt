@@ -1,7 +1,7 @@
 -- What the program's host answers: a function of the call alone.
 use Rattle.std.specs.Prelude.{List, [], ◌∷◌, ◌++◌, Option, Some, None, true, codes, if◌then◌else◌}
 use Rattle.rhai_base.specs.Value.{Value, UnitV, BoolV, TextV, ArrayV, items, values, same_text, text_of}
-use Rattle.rhai_meaning.specs.Act.{Call, Answer, Answers, Host}
+use Rattle.rhai_meaning.specs.Act.{HostCall, Answer, Answers, Host}
 use Rattle.rhai_run.specs.Host.{host_of}
 
 abbrev pub unit_alone : Answer
@@ -22,7 +22,7 @@ pushed (Some r) (v ∷ []) = appended r v
 pushed _ _ = unit_alone
 
 -- `f` is true, `+` joins texts, and the method `push` appends to an array, whatever else the call has
-abbrev pub program_answer : Call → Answer
+abbrev pub program_answer : HostCall → Answer
 program_answer c =
     if same_text c.name (codes "f") then Answers (BoolV true) None
     else if same_text c.name (codes "+") then joined_texts c.arguments

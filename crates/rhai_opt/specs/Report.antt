@@ -1,7 +1,7 @@
 -- How a run's report is printed.
 use Rattle.std.specs.Prelude.{List, [], ◌∷◌, ◌++◌, Option, Some, None, codes, decimal, if◌then◌else◌}
 use Rattle.rhai_base.specs.Value.{Text, Value, inner}
-use Rattle.rhai_meaning.specs.Act.{Entry, Call}
+use Rattle.rhai_meaning.specs.Act.{ScopeEntry, HostCall}
 use Rattle.rhai_meaning.specs.Run.{End, WithValue, WithThrown, WithStuck, WithoutTurns, Report}
 use Rattle.rhai_run.specs.Report.{stuck_number, stuck_name}
 
@@ -11,11 +11,11 @@ end_text (WithThrown v) = codes "thrown " ++ inner v
 end_text (WithStuck f) = codes "stuck " ++ decimal (stuck_number f) ++ codes " " ++ stuck_name f
 end_text WithoutTurns = codes "out of turns"
 
-abbrev pub variable_text : Entry → Text
+abbrev pub variable_text : ScopeEntry → Text
 variable_text e = (if e.constant then codes "constant " else codes "variable ") ++ e.name ++ codes " = " ++ inner e.value ++ codes "\n"
 
 -- a name a line
-abbrev pub variables_text : List Entry → Text
+abbrev pub variables_text : List ScopeEntry → Text
 variables_text [] = []
 variables_text (e ∷ es) = variable_text e ++ variables_text es
 
@@ -28,11 +28,11 @@ abbrev pub called_on : Option Value → Text
 called_on None = []
 called_on (Some v) = inner v ++ codes "."
 
-abbrev pub call_text : Call → Text
+abbrev pub call_text : HostCall → Text
 call_text c = codes "call " ++ called_on c.receiver ++ c.name ++ codes "(" ++ values_text [] c.arguments ++ codes ")\n"
 
 -- a call a line
-abbrev pub calls_text : List Call → Text
+abbrev pub calls_text : List HostCall → Text
 calls_text [] = []
 calls_text (c ∷ cs) = call_text c ++ calls_text cs
 

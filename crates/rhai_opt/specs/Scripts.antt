@@ -2,7 +2,7 @@
 use Rattle.std.specs.Prelude.{List, [], ◌∷◌, ℤ, pos, Option, Some, None, codes, false, if◌then◌else◌}
 use Rattle.rhai_base.specs.Value.{Text, same_text}
 use Rattle.rhai_base.specs.Operators.{Operator, Plus, Divide, EqualTo, symbol}
-use Rattle.rhai_meaning.specs.Tree.{Mark, OfOperator, Expr, IntegerConstant, FnCall, no_exprs, expr, Stmts, no_stmts, stmt, If, ExprStmt}
+use Rattle.rhai_meaning.specs.Tree.{CallToken, OfOperator, Expr, IntegerConstant, FnCall, no_exprs, expr, Stmts, no_stmts, stmt, If, ExprStmt}
 use Rattle.rhai_opt.specs.declared.scripts.BuiltinScript.{BuiltinScript}
 use Rattle.rhai_opt.specs.declared.scripts.BuiltinScript.TheVariants as script
 
@@ -22,7 +22,7 @@ script_among (s ∷ ss) name = if same_text (name_of s) name then Some s else sc
 abbrev pub script_named : Text → Option BuiltinScript
 script_named name = script_among all_scripts name
 
-abbrev pub operation : Text → Mark → Expr → Expr → Expr
+abbrev pub operation : Text → CallToken → Expr → Expr → Expr
 operation name token lhs rhs = FnCall (record { name = name; captures = false; token = token }) (expr lhs (expr rhs no_exprs))
 
 abbrev pub over_integers : Operator → ℤ → ℤ → Expr

@@ -10,7 +10,7 @@ use Rattle.rhai_optimizer.specs.declared.optimizer.level.OptimizationLevel.TheVa
 use Rattle.rhai_run.specs.EngineInfo.{nothing_set}
 use Rattle.rhai_run.specs.Small.{small_script}
 use Rattle.rhai_rewriting.specs.Residue.{AreReduced}
-use Rattle.rhai_rewriting.specs.SameRuns.{SameRuns}
+use Rattle.rhai_rewriting.specs.Refines.{Refines}
 use Rattle.rhai_opt.specs.declared.scripts.BuiltinScript.{BuiltinScript}
 use Rattle.rhai_opt.specs.declared.request.Request.{Request}
 use Rattle.rhai_opt.specs.declared.request.Request.TheVariants as request
@@ -70,7 +70,7 @@ built_in script = record { statements = statements_of script; functions = [] }
 -- what the optimiser makes of a script, where the engine has nothing set: one that runs alike, with the same
 -- functions; at level `None` the script itself, else one whose statements leave nothing to reduce
 pub record Optimized (at : OptimizationLevel) (before after : Script) : Type 0 where
-  pub runs : SameRuns nothing_set before after
+  pub runs : Refines nothing_set before after
   pub functions : after.functions ≡ before.functions
   pub kept : at ≡ level.None → after ≡ before
   pub reduced : at ≢ level.None → AreReduced nothing_set after.statements

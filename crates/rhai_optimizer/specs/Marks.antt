@@ -1,8 +1,8 @@
 -- The mark that a declared one stands for.
 use Rattle.rhai_optimizer.specs.declared.optimizer.mark.ListMark.{ListMark}
 use Rattle.rhai_optimizer.specs.declared.optimizer.mark.ListMark.TheVariants as declared_mark
-use Rattle.rhai_rewriting.specs.Rewriting.{Mark, Whole, Inside}
+use Rattle.rhai_rewriting.specs.Rewriting.{ListKind, Whole, Inside}
 
-abbrev pub mark_of : ListMark → Mark
+abbrev pub mark_of : ListMark → ListKind
 mark_of declared_mark.Whole = Whole
 mark_of (declared_mark.Inside is_wanted) = Inside is_wanted

@@ -9,7 +9,7 @@ ghost use Rattle.std.specs.Rc.{rc_value};
 ghost use Rattle.rhai_optimizer.specs.Source.{source_of};
 ghost use Rattle.rhai_rewriting.specs.Residue.{AreReduced};
 ghost use Rattle.rhai_rewriting.specs.Rewriting.{StmtsTo, Whole};
-ghost use Rattle.rhai_rewriting.specs.SameRuns.{SameRuns};
+ghost use Rattle.rhai_rewriting.specs.Refines.{Refines};
 ghost use Rattle.rhai_rewriting.specs.Steps.{under};
 ghost use Rattle.rhai_rewriting.specs.Weight.{weight};
 
@@ -18,6 +18,7 @@ pub mod cycle;
 pub mod folding;
 pub mod level;
 pub mod mark;
+pub mod nodes;
 pub mod rules;
 pub mod state;
 #[cfg(test)]
@@ -67,7 +68,7 @@ pub fn optimize_into_ast(
     functions: Vec<Rc<ScriptFuncDef>>,
     level: OptimizationLevel,
 ) -> Result<AST, OutOfMemory>
-    ensures same_runs { IfOk result (λ ast. SameRuns (engine_of info.now) (source_of statements.items functions.items) (script_of ast)) }
+    ensures same_runs { IfOk result (λ ast. Refines (engine_of info.now) (source_of statements.items functions.items) (script_of ast)) }
     ensures reduced { level ≢ OptimizationLevel.None → IfOk result (λ ast. AreReduced (engine_of info.now) (script_of ast).statements) }
     ensures lighter { IfOk result (λ ast. weight (script_of ast).statements ≤ weight (stmts_of statements.items)) }
     ensures well_formed { IfOk result (λ ast. AreWellFormed (stmts_of statements.items) → AreWellFormed (script_of ast).statements) }

@@ -1,7 +1,7 @@
 -- A rewriting that leaves the flag clear changed nothing.
 use Rattle.std.proofs.Common.{◌≡◌, Bool, true, false, refl, ap, ◌∙◌}
 use Rattle.rhai_meaning.specs.Tree.{Expr, ArrayOf, BlockExpr, FnCall, Exprs, Stmt, Block, ExprStmt, FnCallStmt, Stmts}
-use Rattle.rhai_rewriting.specs.Rewriting.{Context, Mark, ExprTo, same_expr, then_expr, in_array, in_braces, in_call, braces_empty, braces_of_expression, array_of_constants, operator_folds, ExprsTo, exprs_none, exprs_more, StmtTo, same_stmt, then_stmt, in_if, in_block, in_expression, in_call_statement, if_without_blocks, if_decided, block_empty, block_of_statement, statement_of_braces, statement_of_call, call_statement_folds, EachTo, each_none, each_last, each_more, StmtsTo, same_stmts, then_stmts, in_each, block_gives_way}
+use Rattle.rhai_rewriting.specs.Rewriting.{Context, ListKind, ExprTo, same_expr, then_expr, in_array, in_braces, in_call, braces_empty, braces_of_expression, array_of_constants, operator_folds, ExprsTo, exprs_none, exprs_more, StmtTo, same_stmt, then_stmt, in_if, in_block, in_expression, in_call_statement, if_without_blocks, if_decided, block_empty, block_of_statement, statement_of_braces, statement_of_call, call_statement_folds, EachTo, each_none, each_last, each_more, StmtsTo, same_stmts, then_stmts, in_each, block_gives_way}
 
 -- the flag was clear before, and the two are one
 abbrev pub Kept : {A : Type 0} → Bool → A → A → Type 0
@@ -32,12 +32,12 @@ mutual
   stmt_kept (in_call_statement {c = c} p) h = let k = exprs_kept p h in (k.0, ap (FnCallStmt c) k.1)
   stmt_kept _ h = cc
 
-  each_kept : {k : Context} {m : Mark} {d d' : Bool} {e e' : Stmts} → EachTo k m d d' e e' → d' ≡ false → Kept d e e'
+  each_kept : {k : Context} {m : ListKind} {d d' : Bool} {e e' : Stmts} → EachTo k m d d' e e' → d' ≡ false → Kept d e e'
   each_kept each_none h = (h, refl)
   each_kept (each_last p) h = let k = stmt_kept p h in (k.0, cc)
   each_kept (each_more p q) h = let k = each_kept q h in let j = stmt_kept p k.0 in (j.0, cc)
 
-  pub stmts_kept : {k : Context} {m : Mark} {d d' : Bool} {e e' : Stmts} → StmtsTo k m d d' e e' → d' ≡ false → Kept d e e'
+  pub stmts_kept : {k : Context} {m : ListKind} {d d' : Bool} {e e' : Stmts} → StmtsTo k m d d' e e' → d' ≡ false → Kept d e e'
   stmts_kept same_stmts h = (h, refl)
   stmts_kept (then_stmts p q) h = let k = stmts_kept q h in kept_then (stmts_kept p k.0) k.1
   stmts_kept (in_each p) h = each_kept p h
@@ -75,12 +75,12 @@ mutual
   stmt_raised statement_of_call = statement_of_call
   stmt_raised (call_statement_folds h) = call_statement_folds h
 
-  each_raised : {k : Context} {m : Mark} {d d' : Bool} {e e' : Stmts} → EachTo k m d d' e e' → EachTo k m true true e e'
+  each_raised : {k : Context} {m : ListKind} {d d' : Bool} {e e' : Stmts} → EachTo k m d d' e e' → EachTo k m true true e e'
   each_raised each_none = each_none
   each_raised (each_last p) = each_last (stmt_raised p)
   each_raised (each_more p q) = each_more (stmt_raised p) (each_raised q)
 
-  pub stmts_raised : {k : Context} {m : Mark} {d d' : Bool} {e e' : Stmts} → StmtsTo k m d d' e e' → StmtsTo k m true true e e'
+  pub stmts_raised : {k : Context} {m : ListKind} {d d' : Bool} {e e' : Stmts} → StmtsTo k m d d' e e' → StmtsTo k m true true e e'
   stmts_raised same_stmts = same_stmts
   stmts_raised (then_stmts p q) = then_stmts (stmts_raised p) (stmts_raised q)
   stmts_raised (in_each p) = in_each (each_raised p)

@@ -3,7 +3,7 @@ use Rattle.std.proofs.Common.{◌≡◌, List, Option, Some, None, refl, ap, ◌
 use Rattle.rhai_base.specs.Value.{Value}
 use Rattle.rhai_meaning.specs.Constants.{array_value, value_and, constant_value, constant_values}
 use Rattle.rhai_meaning.specs.Engine.{Engine}
-use Rattle.rhai_meaning.specs.Tree.{Mark, NoToken, OfOperator, OfOther, Callee, Expr, DynamicConstant, BoolConstant, IntegerConstant, CharConstant, StringConstant, UnitConstant, ArrayOf, BlockExpr, FnCall, Exprs, no_exprs, expr}
+use Rattle.rhai_meaning.specs.Tree.{CallToken, NoToken, OfOperator, OfOther, Callee, Expr, DynamicConstant, BoolConstant, IntegerConstant, CharConstant, StringConstant, UnitConstant, ArrayOf, BlockExpr, FnCall, Exprs, no_exprs, expr}
 use Rattle.rhai_rewriting.specs.Folding.{folded_values, folded, operand, operands, folded_operands}
 use Rattle.rhai_rewriting.specs.Residue.{IsReducedExpr, AreReducedExprs}
 
@@ -30,7 +30,7 @@ operands-constant : (es : Exprs) (vs : List Value) → operands es ≡ Some vs �
 operands-constant no_exprs vs h = h
 operands-constant (expr e es) vs h = both-some (operand e) (operands es) (constant_value e) (constant_values es) vs (operand-constant e) (operands-constant es) h
 
-folded-some : (engine : Engine) (m : Mark) (o o' : Option (List Value)) (v : Value) → ((vs : List Value) → o ≡ Some vs → o' ≡ Some vs) → folded_values engine m o ≡ Some v → folded_values engine m o' ≡ Some v
+folded-some : (engine : Engine) (m : CallToken) (o o' : Option (List Value)) (v : Value) → ((vs : List Value) → o ≡ Some vs → o' ≡ Some vs) → folded_values engine m o ≡ Some v → folded_values engine m o' ≡ Some v
 folded-some engine NoToken o o' v f h = absurd cc
 folded-some engine (OfOperator op) None o' v f h = absurd cc
 folded-some engine (OfOperator op) (Some vs) o' v f h = ap (folded_values engine (OfOperator op)) (f vs refl) ∙ h

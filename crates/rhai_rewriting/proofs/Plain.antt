@@ -7,7 +7,7 @@ use Rattle.rhai_base.specs.Operators as table
 use Rattle.rhai_base.specs.Operators.{Operator, Computed, NoEntry, Is, Overflows, fits, quotient, remainder, on_ints, on_bools, on_texts, on_chars, on_units, on_joined, on_from, on_to, on_different, binary, unary, computed}
 use Rattle.rhai_meaning.specs.Engine.{Engine, is_open, built_in}
 use Rattle.rhai_meaning.specs.Constants.{constant_values}
-use Rattle.rhai_meaning.specs.Tree.{Mark, NoToken, OfOperator, OfOther, Callee, Exprs}
+use Rattle.rhai_meaning.specs.Tree.{CallToken, NoToken, OfOperator, OfOther, Callee, Exprs}
 use Rattle.rhai_rewriting.specs.Folding.{computed_value, folded_values, folded}
 
 -- not a pointer
@@ -112,7 +112,7 @@ value_plain NoEntry v p h = absurd cc
 value_plain Overflows v p h = absurd cc
 value_plain (Is u) v p h = let z : Some u ≡ Some v = h in let e : u ≡ v = cc in subst (λ x. is_plain_value x ≡ true) e p
 
-values_plain : (engine : Engine) (m : Mark) (o : Option (List Value)) (v : Value) → folded_values engine m o ≡ Some v → is_plain_value v ≡ true
+values_plain : (engine : Engine) (m : CallToken) (o : Option (List Value)) (v : Value) → folded_values engine m o ≡ Some v → is_plain_value v ≡ true
 values_plain engine NoToken o v h = absurd cc
 values_plain engine OfOther o v h = absurd cc
 values_plain engine (OfOperator op) None v h = absurd cc

@@ -4,7 +4,7 @@ use Rattle.rhai_base.specs.Value.{Value, UnitV, BoolV, IntV, CharV, TextV, Array
 use Rattle.rhai_base.specs.Operators.{Operator, Computed, NoEntry, computed}
 use Rattle.rhai_meaning.specs.Engine.{Engine, is_open}
 use Rattle.rhai_meaning.specs.Constants.{constant_for}
-use Rattle.rhai_meaning.specs.Tree.{Mark, NoToken, OfOperator, OfOther, Callee, Expr, DynamicConstant, BoolConstant, IntegerConstant, CharConstant, StringConstant, UnitConstant, ArrayOf, BlockExpr, FnCall, Exprs, no_exprs, expr, Stmt, Block, Stmts, no_stmts, stmt, joined}
+use Rattle.rhai_meaning.specs.Tree.{CallToken, NoToken, OfOperator, OfOther, Callee, Expr, DynamicConstant, BoolConstant, IntegerConstant, CharConstant, StringConstant, UnitConstant, ArrayOf, BlockExpr, FnCall, Exprs, no_exprs, expr, Stmt, Block, Stmts, no_stmts, stmt, joined}
 use Rattle.rhai_rewriting.specs.Folding.{computed_value, folded_values, folded}
 use Rattle.rhai_rewriting.specs.Rewriting as rewriting
 use Rattle.rhai_rewriting.specs.Rewriting.{Context, block_or_noop, chosen, condition_alone, spliced, ExprTo, same_expr, then_expr, in_array, in_braces, in_call, array_of_constants, braces_empty, braces_of_expression, operator_folds, ExprsTo, exprs_none, exprs_more, StmtTo, same_stmt, then_stmt, in_if, in_block, in_expression, in_call_statement, if_without_blocks, if_decided, block_empty, block_of_statement, statement_of_braces, statement_of_call, call_statement_folds, EachTo, each_none, each_last, each_more, StmtsTo, same_stmts, then_stmts, in_each, block_gives_way}
@@ -69,7 +69,7 @@ no_operands : (op : Operator) → computed op [] ≡ NoEntry
 unfolding computed
 no_operands op = refl
 
-folded-no_exprs : (engine : Engine) (m : Mark) → folded_values engine m (Some []) ≡ None
+folded-no_exprs : (engine : Engine) (m : CallToken) → folded_values engine m (Some []) ≡ None
 folded-no_exprs engine NoToken = refl
 folded-no_exprs engine (OfOperator op) = entry_value (is_open engine op []) (computed op []) (no_operands op)
 folded-no_exprs engine OfOther = refl
@@ -131,12 +131,12 @@ mutual
   stmt_falls (statement_of_call {d = d}) = omega (arith, gap_most d true)
   stmt_falls {k = k} (call_statement_folds {d = d} {c = c} {es = es} {v = v} h) = omega (arith, gap_most d true, constant_light v (folded_plain k.engine c es v h), folded_heavy k.engine c es v h)
 
-  each_falls : {k : Context} {m : rewriting.Mark} {d d' : Bool} {ss ss' : Stmts} → EachTo k m d d' ss ss' → weight ss' + gap d d' ≤ weight ss
+  each_falls : {k : Context} {m : rewriting.ListKind} {d d' : Bool} {ss ss' : Stmts} → EachTo k m d d' ss ss' → weight ss' + gap d d' ≤ weight ss
   each_falls (each_none {d = d}) = omega (arith, gap_same d)
   each_falls (each_last p) = omega (arith, stmt_falls p)
   each_falls (each_more {d = d} {d1 = d1} {d2 = d2} p q) = omega (arith, stmt_falls p, each_falls q, gap_then d d1 d2)
 
-  pub stmts_fall : {k : Context} {m : rewriting.Mark} {d d' : Bool} {ss ss' : Stmts} → StmtsTo k m d d' ss ss' → weight ss' + gap d d' ≤ weight ss
+  pub stmts_fall : {k : Context} {m : rewriting.ListKind} {d d' : Bool} {ss ss' : Stmts} → StmtsTo k m d d' ss ss' → weight ss' + gap d d' ≤ weight ss
   stmts_fall (same_stmts {d = d}) = omega (arith, gap_same d)
   stmts_fall (then_stmts {d = d} {d1 = d1} {d2 = d2} p q) = omega (arith, stmts_fall p, stmts_fall q, gap_then d d1 d2)
   stmts_fall (in_each p) = each_falls p

@@ -4,7 +4,7 @@ use Rattle.rhai_base.specs.Value.{Value, UnitV, BoolV, IntV, CharV, TextV}
 use Rattle.rhai_base.specs.Operators.{Computed, NoEntry, Is, Overflows}
 use Rattle.rhai_meaning.specs.Engine.{Engine, built_in}
 use Rattle.rhai_meaning.specs.Constants.{constant_values, value_and}
-use Rattle.rhai_meaning.specs.Tree.{Mark, NoToken, OfOperator, OfOther, Callee, Expr, DynamicConstant, BoolConstant, IntegerConstant, CharConstant, StringConstant, UnitConstant, ArrayOf, BlockExpr, FnCall, Exprs, no_exprs, expr}
+use Rattle.rhai_meaning.specs.Tree.{CallToken, NoToken, OfOperator, OfOther, Callee, Expr, DynamicConstant, BoolConstant, IntegerConstant, CharConstant, StringConstant, UnitConstant, ArrayOf, BlockExpr, FnCall, Exprs, no_exprs, expr}
 
 -- a value alone: a fault is left to the run
 abbrev pub computed_value : Computed → Option Value
@@ -12,7 +12,7 @@ computed_value NoEntry = None
 computed_value (Is v) = Some v
 computed_value Overflows = None
 
-abbrev pub folded_values : Engine → Mark → Option (List Value) → Option Value
+abbrev pub folded_values : Engine → CallToken → Option (List Value) → Option Value
 folded_values engine (OfOperator op) (Some vs) = computed_value (built_in engine op vs)
 folded_values engine (OfOperator op) None = None
 folded_values engine NoToken vs = None

@@ -2,7 +2,7 @@
 use Rattle.std.specs.Prelude.{◌≡◌, true, cond, List, [], ◌∷◌, Option, Some, None}
 use Rattle.rhai_base.specs.Value.{Text, Value, same_text}
 use Rattle.rhai_meaning.specs.Engine.{Binding}
-use Rattle.rhai_meaning.specs.Act.{Entry, found}
+use Rattle.rhai_meaning.specs.Act.{ScopeEntry, found}
 
 -- a name, with its value where it is a constant
 pub record Known : Type 0 where
@@ -21,12 +21,12 @@ shadow_all [] ks = ks
 shadow_all (x ∷ xs) ks = shadow_all xs (shadow x ks)
 
 -- a constant of this value, or no name at all: then a run that reads it is stuck
-abbrev pub Fits : Value → Option Entry → Type 0
+abbrev pub Fits : Value → Option ScopeEntry → Type 0
 Fits v None = Unit {0}
 Fits v (Some e) = (e.constant ≡ true) × (e.value ≡ v)
 
 -- in a scope and the record's constants
-pub record Agrees (bs : List Binding) (ks : List Known) (es : List Entry) : Type 0 where
+pub record Agrees (bs : List Binding) (ks : List Known) (es : List ScopeEntry) : Type 0 where
   pub is : (x : Text) (v : Value) → look ks x ≡ Some v → Fits v (found bs es x)
 
 -- the record's constants, a later one above an earlier one, above what is known besides
@@ -35,6 +35,6 @@ known_record [] ks = ks
 known_record (b ∷ bs) ks = known_record bs (record { name = b.name; value = Some b.value } ∷ ks)
 
 -- a scope's names, latest first, above what is known besides
-abbrev pub known_scope : List Entry → List Known → List Known
+abbrev pub known_scope : List ScopeEntry → List Known → List Known
 known_scope [] ks = ks
 known_scope (e ∷ es) ks = record { name = e.name; value = cond e.constant (Some e.value) None } ∷ known_scope es ks

@@ -5,5 +5,5 @@ pub mod Shapes
 pub mod Weight
 pub mod Residue
 pub mod Steps
-pub mod Correct
-pub mod SameRuns
+pub mod RunRefines
+pub mod Refines

@@ -14,11 +14,11 @@ pub record Context : Type 0 where
   pub known : List Known
 
 -- what a list is: a script's or a function's, or one inside, whose value is wanted or not
-pub data Mark : Type 0 where
-  Whole : Mark
-  Inside : Bool → Mark
+pub data ListKind : Type 0 where
+  Whole : ListKind
+  Inside : Bool → ListKind
 
-abbrev pub wanted : Mark → Bool
+abbrev pub wanted : ListKind → Bool
 wanted Whole = true
 wanted (Inside b) = b
 
@@ -96,14 +96,14 @@ mutual
     call_statement_folds : {k : Context} {w d : Bool} {c : Callee} {es : Exprs} {v : Value} → folded k.engine c es ≡ Some v → StmtTo k w d true (FnCallStmt c es) (ExprStmt (constant_for v))
 
   -- each statement of a list
-  pub data EachTo : Context → Mark → Bool → Bool → Stmts → Stmts → Type 0 where
-    each_none : {k : Context} {m : Mark} {d : Bool} → EachTo k m d d no_stmts no_stmts
-    each_last : {k : Context} {m : Mark} {d d' : Bool} {s s' : Stmt} → StmtTo k (wanted m) d d' s s' → EachTo k m d d' (stmt s no_stmts) (stmt s' no_stmts)
-    each_more : {k : Context} {m : Mark} {d d1 d2 : Bool} {s s' t : Stmt} {ss ss' : Stmts} → StmtTo k false d d1 s s' → EachTo k m d1 d2 (stmt t ss) ss' → EachTo k m d d2 (stmt s (stmt t ss)) (stmt s' ss')
+  pub data EachTo : Context → ListKind → Bool → Bool → Stmts → Stmts → Type 0 where
+    each_none : {k : Context} {m : ListKind} {d : Bool} → EachTo k m d d no_stmts no_stmts
+    each_last : {k : Context} {m : ListKind} {d d' : Bool} {s s' : Stmt} → StmtTo k (wanted m) d d' s s' → EachTo k m d d' (stmt s no_stmts) (stmt s' no_stmts)
+    each_more : {k : Context} {m : ListKind} {d d1 d2 : Bool} {s s' t : Stmt} {ss ss' : Stmts} → StmtTo k false d d1 s s' → EachTo k m d1 d2 (stmt t ss) ss' → EachTo k m d d2 (stmt s (stmt t ss)) (stmt s' ss')
 
-  pub data StmtsTo : Context → Mark → Bool → Bool → Stmts → Stmts → Type 0 where
-    same_stmts : {k : Context} {m : Mark} {d : Bool} {ss : Stmts} → StmtsTo k m d d ss ss
-    then_stmts : {k : Context} {m : Mark} {d d1 d2 : Bool} {ss ss1 ss2 : Stmts} → StmtsTo k m d d1 ss ss1 → StmtsTo k m d1 d2 ss1 ss2 → StmtsTo k m d d2 ss ss2
-    in_each : {k : Context} {m : Mark} {d d' : Bool} {ss ss' : Stmts} → EachTo k m d d' ss ss' → StmtsTo k m d d' ss ss'
+  pub data StmtsTo : Context → ListKind → Bool → Bool → Stmts → Stmts → Type 0 where
+    same_stmts : {k : Context} {m : ListKind} {d : Bool} {ss : Stmts} → StmtsTo k m d d ss ss
+    then_stmts : {k : Context} {m : ListKind} {d d1 d2 : Bool} {ss ss1 ss2 : Stmts} → StmtsTo k m d d1 ss ss1 → StmtsTo k m d1 d2 ss1 ss2 → StmtsTo k m d d2 ss ss2
+    in_each : {k : Context} {m : ListKind} {d d' : Bool} {ss ss' : Stmts} → EachTo k m d d' ss ss' → StmtsTo k m d d' ss ss'
     -- a block in a list, none of whose statements belongs to it, gives way to its statements
-    block_gives_way : {k : Context} {m : Mark} {d : Bool} (front ss back : Stmts) → is_any_dependent ss ≡ false → StmtsTo k m d true (joined front (stmt (Block ss) back)) (joined front (spliced (wanted m) ss back))
+    block_gives_way : {k : Context} {m : ListKind} {d : Bool} (front ss back : Stmts) → is_any_dependent ss ≡ false → StmtsTo k m d true (joined front (stmt (Block ss) back)) (joined front (spliced (wanted m) ss back))

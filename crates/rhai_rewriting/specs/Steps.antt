@@ -4,7 +4,7 @@ use Rattle.std.specs.Prelude.{◌≡◌, Bool, true, false, []}
 use Rattle.rhai_meaning.specs.Engine.{Engine}
 use Rattle.rhai_meaning.specs.Tree.{Expr, DynamicConstant, BoolConstant, IntegerConstant, CharConstant, StringConstant, UnitConstant, ArrayOf, BlockExpr, FnCall, Exprs, Stmt, Noop, If, Block, ExprStmt, FnCallStmt, Stmts, joined}
 use Rattle.rhai_rewriting.specs.Residue.{IsReducedExpr, AreReducedExprs, IsReduced, AreReduced}
-use Rattle.rhai_rewriting.specs.Rewriting.{Context, Mark, ExprTo, ExprsTo, StmtTo, EachTo, StmtsTo, wanted, wanted_before}
+use Rattle.rhai_rewriting.specs.Rewriting.{Context, ListKind, ExprTo, ExprsTo, StmtTo, EachTo, StmtsTo, wanted, wanted_before}
 
 -- under an engine's record, with no names known
 abbrev pub under : Engine → Context
@@ -24,12 +24,12 @@ pub record StmtRun (k : Context) (w d d' : Bool) (s s' : Stmt) : Type 0 where
   pub to : StmtTo k w d d' s s'
   pub reduced : d' ≡ false → IsReduced k.engine s'
 
-pub record EachRun (k : Context) (m : Mark) (d d' : Bool) (ss ss' : Stmts) : Type 0 where
+pub record EachRun (k : Context) (m : ListKind) (d d' : Bool) (ss ss' : Stmts) : Type 0 where
   pub to : EachTo k m d d' ss ss'
   pub reduced : d' ≡ false → AreReduced k.engine ss'
 
 -- a list is passed until nothing changes, whatever the flag was before
-pub record StmtsRun (k : Context) (m : Mark) (d d' : Bool) (ss ss' : Stmts) : Type 0 where
+pub record StmtsRun (k : Context) (m : ListKind) (d d' : Bool) (ss ss' : Stmts) : Type 0 where
   pub to : StmtsTo k m d d' ss ss'
   pub reduced : AreReduced k.engine ss'
 
@@ -75,4 +75,4 @@ pub record StmtRule (k : Context) (w d d' : Bool) (s s' : Stmt) : Type 0 where
 
 -- statements moved behind those that are done, in which blocks gave way; w: whether the last one's value is wanted
 pub record Moves (w d d' : Bool) (done moved done' : Stmts) : Type 0 where
-  pub to : (k : Context) (m : Mark) (back : Stmts) → w ≡ wanted_before (wanted m) back → StmtsTo k m d d' (joined done (joined moved back)) (joined done' back)
+  pub to : (k : Context) (m : ListKind) (back : Stmts) → w ≡ wanted_before (wanted m) back → StmtsTo k m d d' (joined done (joined moved back)) (joined done' back)

@@ -18,7 +18,7 @@ use Rattle.rhai_meaning.specs.Engine.{Engine, is_open}
 use Rattle.rhai_meaning.specs.Faults.{has_token, is_barred}
 use Rattle.rhai_parts.specs.Names.{is_among, barred}
 use Rattle.rhai_ast.specs.Reading.{exprs_of}
-use Rattle.rhai_meaning.specs.Tree.{Mark, NoToken, OfOperator, OfOther, Callee, count_exprs}
+use Rattle.rhai_meaning.specs.Tree.{CallToken, NoToken, OfOperator, OfOther, Callee, count_exprs}
 use Rattle.rhai_run.specs.Operators.{operator_by, called_operator, built_in_of, built_in_at}
 use Rattle.rhai_run.specs.Small.{small_expr, small_exprs}
 
@@ -68,7 +68,7 @@ by_name : (b : Bool) (f : Text) (captures : Bool) (es : core.Exprs) → small_ex
 by_name true f captures es = refl
 by_name false f captures es = refl
 
-ill_by : (k : Callee) (n : ℕ) (m : Mark) (es : core.Exprs) → None ≡ operator_by k n m → small_expr (cond (has_token k n m && not (is_barred k)) (core.FnCall (callee_by k m) es) core.Ill) ≡ core.Ill
+ill_by : (k : Callee) (n : ℕ) (m : CallToken) (es : core.Exprs) → None ≡ operator_by k n m → small_expr (cond (has_token k n m && not (is_barred k)) (core.FnCall (callee_by k m) es) core.Ill) ≡ core.Ill
 ill_by k n NoToken es e = by_name (has_token k n NoToken && not (is_barred k)) k.name k.captures es
 ill_by k n (OfOperator op) es e = ap small_expr (ill_op (has_token k n (OfOperator op)) (not (is_barred k)) op _ e)
 ill_by k n OfOther es e = refl
@@ -83,7 +83,7 @@ meant_op k n true op o es h e =
     ap (λ b. cond b (core.FnCall (core.OnOperator o) es) core.Ill) (callable k n o h) ∙ ap (λ p. core.FnCall (core.OnOperator p) es) (sym same)
 meant_op k n false op o es h e = cc
 
-meant_by : (k : Callee) (n : ℕ) (m : Mark) (op : Operator) (es : core.Exprs) → Some op ≡ operator_by k n m → cond (has_token k n m && not (is_barred k)) (core.FnCall (callee_by k m) es) core.Ill ≡ core.FnCall (core.OnOperator op) es
+meant_by : (k : Callee) (n : ℕ) (m : CallToken) (op : Operator) (es : core.Exprs) → Some op ≡ operator_by k n m → cond (has_token k n m && not (is_barred k)) (core.FnCall (callee_by k m) es) core.Ill ≡ core.FnCall (core.OnOperator op) es
 meant_by k n NoToken op es e = cc
 meant_by k n (OfOperator o) op es e = meant_op k n (has_token k n (OfOperator o)) op o es refl e
 meant_by k n OfOther op es e = cc

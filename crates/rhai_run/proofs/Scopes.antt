@@ -1,33 +1,33 @@
 -- Lists of names, turned and cut.
 use Rattle.std.proofs.Common.{◌≡◌, ℕ, ◌+◌, ◌-◌, List, [], ◌∷◌, ◌++◌, map, length, drop, take, refl, sym, ap, ◌∙◌, arith, append-nil, append_assoc}
 use Rattle.std.proofs.lemmas.List.{drop_at, length-drop, length-map, take-append-drop, take-map}
-use Rattle.rhai_meaning.specs.Act.{Entry, restore}
+use Rattle.rhai_meaning.specs.Act.{ScopeEntry, restore}
 use Rattle.rhai_meaning.specs.Run.{reversed}
 
-reversed_onto : (es fs : List Entry) → reversed es fs ≡ reversed es [] ++ fs
+reversed_onto : (es fs : List ScopeEntry) → reversed es fs ≡ reversed es [] ++ fs
 reversed_onto [] fs = refl
 reversed_onto (e ∷ es) fs =
     reversed_onto es (e ∷ fs) ∙ sym (append_assoc (reversed es []) (e ∷ []) fs) ∙ ap (λ l. l ++ fs) (sym (reversed_onto es (e ∷ [])))
 
-reversed_parts : (es fs gs : List Entry) → reversed (es ++ fs) gs ≡ reversed fs (reversed es gs)
+reversed_parts : (es fs gs : List ScopeEntry) → reversed (es ++ fs) gs ≡ reversed fs (reversed es gs)
 reversed_parts [] fs gs = refl
 reversed_parts (e ∷ es) fs gs = reversed_parts es fs (e ∷ gs)
 
-reversed_back : (es fs gs : List Entry) → reversed (reversed es fs) gs ≡ reversed fs (es ++ gs)
+reversed_back : (es fs gs : List ScopeEntry) → reversed (reversed es fs) gs ≡ reversed fs (es ++ gs)
 reversed_back [] fs gs = refl
 reversed_back (e ∷ es) fs gs = reversed_back es (e ∷ fs) gs
 
-pub reversed_twice : (es : List Entry) → reversed (reversed es []) [] ≡ es
+pub reversed_twice : (es : List ScopeEntry) → reversed (reversed es []) [] ≡ es
 reversed_twice es = reversed_back es [] [] ∙ append-nil es
 
-length-reversed : (es fs : List Entry) → length (reversed es fs) ≡ length es + length fs
+length-reversed : (es fs : List ScopeEntry) → length (reversed es fs) ≡ length es + length fs
 length-reversed [] fs = omega arith
 length-reversed (e ∷ es) fs = omega (arith, length-reversed es (e ∷ fs))
 
-length-turned : (es : List Entry) → length (reversed es []) ≡ length es
+length-turned : (es : List ScopeEntry) → length (reversed es []) ≡ length es
 length-turned es = omega (arith, length-reversed es [])
 
-cut : (n : ℕ) (es : List Entry) → drop (length es - n) (reversed es []) ≡ reversed (take n es) []
+cut : (n : ℕ) (es : List ScopeEntry) → drop (length es - n) (reversed es []) ≡ reversed (take n es) []
 cut n es =
     let front = take n es in
     let back = drop n es in
@@ -36,7 +36,7 @@ cut n es =
     ap (drop (length es - n)) parts ∙ drop_at (reversed back []) (reversed front []) (length es - n) long
 
 -- cut to its length of before, a scope has only the names of before
-pub restore_cut : {A : Type 0} (f : A → Entry) (old new : List A) → reversed (map f (take (length old) new)) [] ≡ restore (reversed (map f old) []) (reversed (map f new) [])
+pub restore_cut : {A : Type 0} (f : A → ScopeEntry) (old new : List A) → reversed (map f (take (length old) new)) [] ≡ restore (reversed (map f old) []) (reversed (map f new) [])
 restore_cut f old new =
     let lengths : length (reversed (map f new) []) - length (reversed (map f old) []) ≡ length (map f new) - length old = λ i. length-turned (map f new) i - (length-turned (map f old) ∙ length-map old f) i in
     sym (ap (λ n. drop n (reversed (map f new) [])) lengths ∙ cut (length old) (map f new) ∙ ap (λ l. reversed l []) (take-map f (length old) new))

@@ -2,7 +2,7 @@
 use Rattle.std.proofs.Common.{◌≡◌, ℕ, true, List, [], map, None, Result, Ok, Err, sym, ap, ◌∙◌, arith}
 use Rattle.rhai_base.specs.declared.types.dynamic.Dynamic.{Dynamic}
 use Rattle.rhai_base.specs.Value.{UnitV}
-use Rattle.rhai_meaning.specs.Act.{Entry, Host, Outcome, returned, returned_outcome, run_all}
+use Rattle.rhai_meaning.specs.Act.{ScopeEntry, Host, Outcome, returned, returned_outcome, run_all}
 use Rattle.rhai_meaning.specs.Desugar.{core_function, core_script}
 use Rattle.rhai_meaning.specs.Engine.{Engine}
 use Rattle.rhai_meaning.specs.Meaning.{acts}
@@ -26,7 +26,7 @@ script_setting engine host p = let fs = map core_function p.functions in setting
 abbrev report_at : State → RunEnd → Report
 report_at s e = record { ended = end_meant e; variables = map variable_meant s.scope.items; this = None; calls = map call_meant s.calls; turns = s.turns }
 
-module _ (engine : Engine) (host : Host) (p : Script) (scope : List Entry) (n : ℕ) (s s1 : State) (at_start : store_of s ≡ record { scope = scope; this = None; calls = [] }) (turns : s.turns ≡ n) where
+module _ (engine : Engine) (host : Host) (p : Script) (scope : List ScopeEntry) (n : ℕ) (s s1 : State) (at_start : store_of s ≡ record { scope = scope; this = None; calls = [] }) (turns : s.turns ≡ n) where
   outcome_report : (o : Outcome) (e : RunEnd) → end_meant e ≡ end_of (returned_outcome o) → LeadsAll (script_setting engine host p) (acts (script_setting engine host p).world true (small_stmts_of p.statements) UnitV) s o s1 → report_at s1 e ≡ report_of AtStatements (run_script engine host (small_script (core_script p)) AtStatements scope n)
   unfolding run_script
   outcome_report o e h q =

@@ -4,7 +4,7 @@ use Rattle.rhai_base.specs.Value.{Value, UnitV}
 use Rattle.rhai_base.specs.declared.types.dynamic.Dynamic.{Dynamic}
 use Rattle.rhai_base.specs.Reading.{value_of}
 use Rattle.rhai_meaning.specs.Tree as tree
-use Rattle.rhai_meaning.specs.Act.{Call, Answer, World, Gives, Throws, IsStuck, WrongKind, Outcome, Ended, Halted, At, Act, Acts, Scoped, Env, run, run_all}
+use Rattle.rhai_meaning.specs.Act.{HostCall, Answer, World, Gives, Throws, IsStuck, WrongKind, Outcome, Ended, Halted, At, Act, Acts, Scoped, Env, run, run_all}
 use Rattle.rhai_meaning.specs.Core.{Exprs, Deed, Stmt, Function}
 use Rattle.rhai_meaning.specs.Desugar.{call_of, core_exprs, core_function}
 use Rattle.rhai_meaning.specs.Host.{ModuleValue}
@@ -33,7 +33,7 @@ abbrev pub setting_of : World → List Function → Setting
 setting_of w fs = record { world = w; functions = fs }
 
 -- that of an evaluator, by what its host answers and its modules hold
-abbrev pub setting : {H : Type 0} → (H → List Call → Call → Answer) → (H → List ModuleValue) → Evaluator H → Setting
+abbrev pub setting : {H : Type 0} → (H → List HostCall → HostCall → Answer) → (H → List ModuleValue) → Evaluator H → Setting
 setting answers modules e =
     let fs = map core_function (functions_of e.functions.now) in
     setting_of (world_of (engine_of e.info.now) (host_of (answers e.host.now) (modules e.host.now)) fs) fs

@@ -1,13 +1,14 @@
 -- What is asked of a host, and what it answers.
 use Rattle.std.specs.Prelude.{List, map, option_map}
 use Rattle.rhai_base.specs.Reading.{value_of}
-use Rattle.rhai_meaning.specs.Act.{Call, Answer, Answers, AnswersThrow, Host}
+use Rattle.rhai_meaning.specs.Act as act
+use Rattle.rhai_meaning.specs.Act.{Answer, Answers, AnswersThrow, Host}
 use Rattle.rhai_meaning.specs.Host.{ModuleValue, module_value_of}
 use Rattle.rhai_run.specs.declared.host.HostCall.{HostCall}
 use Rattle.rhai_run.specs.declared.host.HostAnswer.{HostAnswer}
 use Rattle.rhai_run.specs.declared.host.HostAnswer.TheVariants as answer_kind
 
-abbrev pub call_meant : HostCall → Call
+abbrev pub call_meant : HostCall → act.HostCall
 call_meant c = record { name = c.name; receiver = option_map value_of c.receiver; arguments = map value_of c.args }
 
 abbrev pub answer_meant : HostAnswer → Answer
@@ -15,5 +16,5 @@ answer_meant (answer_kind.Value v r) = Answers (value_of v) (option_map value_of
 answer_meant (answer_kind.Throw v) = AnswersThrow (value_of v)
 
 -- the host that answers so and has these values of modules
-abbrev pub host_of : (List Call → Call → Answer) → List ModuleValue → Host
+abbrev pub host_of : (List act.HostCall → act.HostCall → Answer) → List ModuleValue → Host
 host_of answers modules = record { answer = answers; module_value = module_value_of modules }

@@ -7,7 +7,7 @@ use Rattle.rhai_base.specs.Operators.{Operator, Computed, NoEntry, arity}
 use Rattle.rhai_base.specs.Reading.{operator_of}
 use Rattle.rhai_meaning.specs.Engine.{Engine, built_in}
 use Rattle.rhai_meaning.specs.Faults.{has_token}
-use Rattle.rhai_meaning.specs.Tree.{Mark, NoToken, OfOperator, OfOther, Callee}
+use Rattle.rhai_meaning.specs.Tree.{CallToken, NoToken, OfOperator, OfOther, Callee}
 
 -- how many operands a token's operator has, if it stands for one
 abbrev pub token_arity : Token → Option ℕ
@@ -21,7 +21,7 @@ built_in_of e vs None = NoEntry
 abbrev pub built_in_at : Engine → Token → List Value → Computed
 built_in_at e op vs = built_in_of e vs (operator_of op)
 
-abbrev pub operator_by : Callee → ℕ → Mark → Option Operator
+abbrev pub operator_by : Callee → ℕ → CallToken → Option Operator
 operator_by c n NoToken = None
 operator_by c n (OfOperator op) = if has_token c n (OfOperator op) then Some op else None
 operator_by c n OfOther = None

@@ -1,7 +1,7 @@
 //! What a script asks its host.
 ghost use Rattle.std.specs.Prelude.{◌≡◌, List, map, option_map, IfOk};
 ghost use Rattle.rhai_base.specs.Reading.{value_of};
-ghost use Rattle.rhai_meaning.specs.Act.{Call, Answer};
+ghost use Rattle.rhai_meaning.specs.Act as act;
 ghost use Rattle.rhai_meaning.specs.Host.{ModuleValue, module_value_of};
 ghost use Rattle.rhai_run.specs.Host.{call_meant, answer_meant};
 
@@ -36,7 +36,7 @@ pub enum HostAnswer {
 /// What answers the calls that are neither a script's own nor built in.
 pub trait Host {
     /// The answer to a call, by the calls before it and the call.
-    ghost answers: { Self → List Call → Call → Answer };
+    ghost answers: { Self → List act.HostCall → act.HostCall → act.Answer };
 
     /// The values of modules, by their names joined by `::`.
     ghost modules: { Self → List ModuleValue };

@@ -6,7 +6,7 @@ use Rattle.rhai_ast.specs.declared.ast.stmt.Stmt.TheVariants as stmt_kind
 use Rattle.rhai_meaning.specs.Queries.{is_any_dependent}
 use Rattle.rhai_ast.specs.Reading.{stmt_of, stmts_of, stmt_of-Noop}
 use Rattle.rhai_meaning.specs.Tree.{Noop, Block, Stmts, no_stmts, stmt, joined}
-use Rattle.rhai_rewriting.specs.Rewriting.{Context, Mark, wanted, wanted_before, spliced, StmtsTo, same_stmts, then_stmts, block_gives_way}
+use Rattle.rhai_rewriting.specs.Rewriting.{Context, ListKind, wanted, wanted_before, spliced, StmtsTo, same_stmts, then_stmts, block_gives_way}
 use Rattle.rhai_rewriting.specs.Steps.{Moves}
 use Rattle.rhai_rewriting.specs.Weight.{stmt_weight, weight}
 use Rattle.rhai_optimizer.proofs.rewriting.Passing.{joined-push, joined-no_stmts}
@@ -64,7 +64,7 @@ moves_noop {w = w} {d = d} {d1 = d1} done new block p e ew eb en = record {
 -- of all, the rest is to come
 pub record MovesSoFar (w d d1 : Bool) (all rest : List declared_stmt.Stmt) (done now : Stmts) : Type 0 where
   pub fits : weight (stmts_of rest) ≤ weight (stmts_of all)
-  pub to : (k : Context) (m : Mark) (back : Stmts) → w ≡ wanted_before (wanted m) back → StmtsTo k m d d1 (joined done (joined (stmts_of all) back)) (joined now (joined (stmts_of rest) back))
+  pub to : (k : Context) (m : ListKind) (back : Stmts) → w ≡ wanted_before (wanted m) back → StmtsTo k m d d1 (joined done (joined (stmts_of all) back)) (joined now (joined (stmts_of rest) back))
 
 pub moves_start : {w d : Bool} {all : List declared_stmt.Stmt} {done : Stmts} → MovesSoFar w d d all all done done
 moves_start = record { fits = omega arith; to = λ k m back h. same_stmts }
@@ -90,7 +90,7 @@ moves_end {w = w} {d = d} {d1 = d1} {all = all} {done = done} {now = now} far i 
     record { to = v.to }
 
 -- a whole list
-pub flattened : {d d1 : Bool} (k : Context) (m : Mark) {w : Bool} {ss new : Stmts} → w ≡ wanted m → Moves w d d1 no_stmts ss new → StmtsTo k m d d1 ss new
+pub flattened : {d d1 : Bool} (k : Context) (m : ListKind) {w : Bool} {ss new : Stmts} → w ≡ wanted m → Moves w d d1 no_stmts ss new → StmtsTo k m d d1 ss new
 flattened {d = d} {d1 = d1} k m {ss = ss} {new = new} h p =
     subst (λ x. StmtsTo k m d d1 x new) (joined-no_stmts ss) (subst (λ x. StmtsTo k m d d1 (joined ss no_stmts) x) (joined-no_stmts new) (p.to k m no_stmts h))
 

@@ -5,7 +5,7 @@ use Rattle.rhai_ast.specs.declared.ast.stmt.Stmt as declared_stmt
 use Rattle.rhai_meaning.specs.Engine.{Engine}
 use Rattle.rhai_ast.specs.Reading.{expr_of, exprs_of, stmt_of, stmts_of}
 use Rattle.rhai_meaning.specs.Tree.{Exprs, no_exprs, expr, Stmt, Stmts, no_stmts, stmt, joined}
-use Rattle.rhai_rewriting.specs.Rewriting.{Context, Mark, wanted, wanted_before, ExprsTo, exprs_none, exprs_more, StmtTo, EachTo, each_none, each_last, each_more}
+use Rattle.rhai_rewriting.specs.Rewriting.{Context, ListKind, wanted, wanted_before, ExprsTo, exprs_none, exprs_more, StmtTo, EachTo, each_none, each_last, each_more}
 use Rattle.rhai_rewriting.specs.Residue.{IsReducedExpr, AreReducedExprs, IsReduced, AreReduced}
 use Rattle.rhai_rewriting.specs.Steps.{ExprRun, ExprsRun, StmtRun, EachRun}
 use Rattle.rhai_rewriting.specs.Weight.{expr_weight, exprs_weight, stmt_weight, weight}
@@ -72,24 +72,24 @@ AreReduced-push r [] s h k = (k, tt)
 AreReduced-push r (x ∷ done) s h k = (h.0, AreReduced-push r done s h.1 k)
 
 -- one statement, and what comes after it
-each_front : {k : Context} {m : Mark} {d1 d2 d3 : Bool} {s s' : Stmt} {rest new : Stmts} → StmtTo k (wanted_before (wanted m) rest) d1 d2 s s' → EachTo k m d2 d3 rest new → EachTo k m d1 d3 (stmt s rest) (stmt s' new)
+each_front : {k : Context} {m : ListKind} {d1 d2 d3 : Bool} {s s' : Stmt} {rest new : Stmts} → StmtTo k (wanted_before (wanted m) rest) d1 d2 s s' → EachTo k m d2 d3 rest new → EachTo k m d1 d3 (stmt s rest) (stmt s' new)
 each_front {rest = no_stmts} p each_none = each_last p
 each_front {rest = stmt t rest} p q = each_more p q
 
-pub record EachSoFar (k : Context) (m : Mark) (d d1 : Bool) (all rest done : List declared_stmt.Stmt) : Type 0 where
+pub record EachSoFar (k : Context) (m : ListKind) (d d1 : Bool) (all rest done : List declared_stmt.Stmt) : Type 0 where
   pub fits : weight (stmts_of rest) ≤ weight (stmts_of all)
   pub to : (d2 : Bool) (new : Stmts) → EachTo k m d1 d2 (stmts_of rest) new → EachTo k m d d2 (stmts_of all) (joined (stmts_of done) new)
   pub reduced : d1 ≡ false → AreReduced k.engine (stmts_of done)
 
-pub each_start : {k : Context} {m : Mark} {d : Bool} {all : List declared_stmt.Stmt} → EachSoFar k m d d all all []
+pub each_start : {k : Context} {m : ListKind} {d : Bool} {all : List declared_stmt.Stmt} → EachSoFar k m d d all all []
 each_start = record { fits = omega arith; to = λ d2 new p. p; reduced = λ _. tt }
 
-pub each_fit : {k : Context} {m : Mark} {d d1 : Bool} {all rest done : List declared_stmt.Stmt} {s : declared_stmt.Stmt} {new : List declared_stmt.Stmt} → EachSoFar k m d d1 all rest done → rest ≡ s ∷ new → stmt_weight (stmt_of s) ≤ weight (stmts_of all)
+pub each_fit : {k : Context} {m : ListKind} {d d1 : Bool} {all rest done : List declared_stmt.Stmt} {s : declared_stmt.Stmt} {new : List declared_stmt.Stmt} → EachSoFar k m d d1 all rest done → rest ≡ s ∷ new → stmt_weight (stmt_of s) ≤ weight (stmts_of all)
 each_fit {k = k} {m = m} {d = d} {d1 = d1} {all = all} {done = done} {s = s} {new = new} far i =
     let v = subst (λ l. EachSoFar k m d d1 all l done) i far in
     omega (arith, v.fits)
 
-pub each_next : {k : Context} {m : Mark} {w d d1 d2 : Bool} {all rest done : List declared_stmt.Stmt} {s : declared_stmt.Stmt} (s' : declared_stmt.Stmt) {new : List declared_stmt.Stmt} → EachSoFar k m d d1 all rest done → rest ≡ s ∷ new → w ≡ wanted_before (wanted m) (stmts_of new) → StmtRun k w d1 d2 (stmt_of s) (stmt_of s') → EachSoFar k m d d2 all new (done ++ s' ∷ [])
+pub each_next : {k : Context} {m : ListKind} {w d d1 d2 : Bool} {all rest done : List declared_stmt.Stmt} {s : declared_stmt.Stmt} (s' : declared_stmt.Stmt) {new : List declared_stmt.Stmt} → EachSoFar k m d d1 all rest done → rest ≡ s ∷ new → w ≡ wanted_before (wanted m) (stmts_of new) → StmtRun k w d1 d2 (stmt_of s) (stmt_of s') → EachSoFar k m d d2 all new (done ++ s' ∷ [])
 each_next {k = k} {m = m} {w = w} {d = d} {d1 = d1} {d2 = d2} {all = all} {done = done} {s = s} s' {new = new} far i q x =
     let v = subst (λ l. EachSoFar k m d d1 all l done) i far in
     let y = subst (λ b. StmtRun k b d1 d2 (stmt_of s) (stmt_of s')) q x in
@@ -99,7 +99,7 @@ each_next {k = k} {m = m} {w = w} {d = d} {d1 = d1} {d2 = d2} {all = all} {done 
       reduced = λ h. AreReduced-push k.engine done s' (v.reduced (stmt_kept y.to h).0) (y.reduced h);
     }
 
-pub each_end : {k : Context} {m : Mark} {d d1 : Bool} {all rest done : List declared_stmt.Stmt} → EachSoFar k m d d1 all rest done → rest ≡ [] → EachRun k m d d1 (stmts_of all) (stmts_of done)
+pub each_end : {k : Context} {m : ListKind} {d d1 : Bool} {all rest done : List declared_stmt.Stmt} → EachSoFar k m d d1 all rest done → rest ≡ [] → EachRun k m d d1 (stmts_of all) (stmts_of done)
 each_end {k = k} {m = m} {d = d} {d1 = d1} {all = all} {done = done} far i =
     let v = subst (λ l. EachSoFar k m d d1 all l done) i far in
     record { to = subst (λ a. EachTo k m d d1 (stmts_of all) a) (joined-no_stmts (stmts_of done)) (v.to d1 no_stmts each_none); reduced = v.reduced }

@@ -16,7 +16,7 @@ use Rattle.rhai_base.specs.Value.{Value, type_name}
 use Rattle.rhai_meaning.specs.Engine.{Engine, has_override}
 use Rattle.rhai_meaning.specs.Constants.{value_and}
 use Rattle.rhai_ast.specs.Reading.{mark_of, expr_of, exprs_of}
-use Rattle.rhai_meaning.specs.Tree.{Mark, NoToken, OfOperator, OfOther}
+use Rattle.rhai_meaning.specs.Tree.{CallToken, NoToken, OfOperator, OfOther}
 use Rattle.rhai_rewriting.specs.Folding.{computed_value, folded_values, operand, operands}
 use Rattle.rhai_optimizer.specs.Operands.{answer_value}
 
@@ -101,7 +101,7 @@ no_value false c h = refl
 folded-no_entry : (engine : Engine) (t : Token) (vs : List Value) → ((o : Operator) → computed o vs ≡ NoEntry) → None ≡ folded_values engine (mark_of (Some t)) (Some vs)
 folded-no_entry engine t vs h = sym (folded-token engine t vs ∙ no_value (opens engine t vs) _ (no_row vs h (operator_of t)))
 
-folded-no_values : (engine : Engine) (m : Mark) → folded_values engine m None ≡ None
+folded-no_values : (engine : Engine) (m : CallToken) → folded_values engine m None ≡ None
 folded-no_values engine NoToken = refl
 folded-no_values engine (OfOperator op) = refl
 folded-no_values engine OfOther = refl

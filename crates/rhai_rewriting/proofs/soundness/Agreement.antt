@@ -2,16 +2,16 @@
 use Rattle.std.proofs.Common.{◌≡◌, Bool, true, false, cond, List, [], ◌∷◌, Some, None, sym, ◌∙◌}
 use Rattle.rhai_base.specs.Value.{Text, Value, same_text}
 use Rattle.rhai_meaning.specs.Engine.{Binding}
-use Rattle.rhai_meaning.specs.Act.{Entry, found}
+use Rattle.rhai_meaning.specs.Act.{ScopeEntry, found}
 use Rattle.rhai_meaning.specs.Run.{bind}
 use Rattle.rhai_meaning.proofs.Relations.{Keeps, none, one, changed}
 use Rattle.rhai_rewriting.specs.Known.{Known, look, shadow, shadow_all, Fits, Agrees}
 
 -- with no names known
-pub agrees_nothing : (bs : List Binding) (es : List Entry) → Agrees bs [] es
+pub agrees_nothing : (bs : List Binding) (es : List ScopeEntry) → Agrees bs [] es
 agrees_nothing bs es = record { is = λ x v h. absurd (let z : None ≡ Some v = h in cc) }
 
-keeps_fits : (bs : List Binding) {es fs : List Entry} (x : Text) (u : Value) → Keeps es fs → Fits u (found bs es x) → Fits u (found bs fs x)
+keeps_fits : (bs : List Binding) {es fs : List ScopeEntry} (x : Text) (u : Value) → Keeps es fs → Fits u (found bs es x) → Fits u (found bs fs x)
 keeps_fits bs x u none = λ h. h
 keeps_fits bs x u (one {e = e} {es = es} {fs = fs} p) =
     elim (same_text e.name x) as (λ b. Fits u (cond b (Some e) (found bs es x)) → Fits u (cond b (Some e) (found bs fs x))) [ true ↦ λ h. h | false ↦ keeps_fits bs x u p ]
@@ -22,11 +22,11 @@ keeps_fits bs x u (changed {e = e} {v = v} {es = es} {fs = fs} c p) =
     ]
 
 -- where constants keep their values
-pub agrees_keeps : {bs : List Binding} {ks : List Known} {es fs : List Entry} → Keeps es fs → Agrees bs ks es → Agrees bs ks fs
+pub agrees_keeps : {bs : List Binding} {ks : List Known} {es fs : List ScopeEntry} → Keeps es fs → Agrees bs ks es → Agrees bs ks fs
 agrees_keeps {bs} p a = record { is = λ x v h. keeps_fits bs x v p (a.is x v h) }
 
 -- under one more name
-pub agrees_shadow : (bs : List Binding) (ks : List Known) (es : List Entry) (x : Text) (c : Bool) (v : Value) → Agrees bs ks es → Agrees bs (shadow x ks) (record { name = x; constant = c; value = v } ∷ es)
+pub agrees_shadow : (bs : List Binding) (ks : List Known) (es : List ScopeEntry) (x : Text) (c : Bool) (v : Value) → Agrees bs ks es → Agrees bs (shadow x ks) (record { name = x; constant = c; value = v } ∷ es)
 agrees_shadow bs ks es x c v a = record {
   is = λ y w. elim (same_text x y) as (λ b. cond b None (look ks y) ≡ Some w → Fits w (cond b (Some (record { name = x; constant = c; value = v })) (found bs es y))) [
     | true ↦ λ h. absurd cc
@@ -35,17 +35,17 @@ agrees_shadow bs ks es x c v a = record {
 }
 
 -- names of which nothing is known any more
-agrees_less : (bs : List Binding) (ks : List Known) (es : List Entry) (x : Text) → Agrees bs ks es → Agrees bs (shadow x ks) es
+agrees_less : (bs : List Binding) (ks : List Known) (es : List ScopeEntry) (x : Text) → Agrees bs ks es → Agrees bs (shadow x ks) es
 agrees_less bs ks es x a = record {
   is = λ y v. elim (same_text x y) as (λ b. cond b None (look ks y) ≡ Some v → Fits v (found bs es y)) [ true ↦ λ h. absurd cc | false ↦ λ h. a.is y v h ];
 }
 
-agrees_none : (bs : List Binding) (xs : List Text) (ks : List Known) (es : List Entry) → Agrees bs ks es → Agrees bs (shadow_all xs ks) es
+agrees_none : (bs : List Binding) (xs : List Text) (ks : List Known) (es : List ScopeEntry) → Agrees bs ks es → Agrees bs (shadow_all xs ks) es
 agrees_none bs [] ks es a = a
 agrees_none bs (x ∷ xs) ks es a = agrees_none bs xs (shadow x ks) es (agrees_less bs ks es x a)
 
 -- under parameters
-pub agrees_bind : (bs : List Binding) (xs : List Text) (vs : List Value) (ks : List Known) (es : List Entry) → Agrees bs ks es → Agrees bs (shadow_all xs ks) (bind xs vs es)
+pub agrees_bind : (bs : List Binding) (xs : List Text) (vs : List Value) (ks : List Known) (es : List ScopeEntry) → Agrees bs ks es → Agrees bs (shadow_all xs ks) (bind xs vs es)
 agrees_bind bs [] vs ks es a = a
 agrees_bind bs (x ∷ xs) [] ks es a = agrees_none bs (x ∷ xs) ks es a
 agrees_bind bs (x ∷ xs) (v ∷ vs) ks es a = agrees_bind bs xs vs (shadow x ks) _ (agrees_shadow bs ks es x false v a)

@@ -3,7 +3,7 @@ use Rattle.std.proofs.Common.{Bool, true, false, List, [], ◌∷◌, ◌++◌, 
 use Rattle.rhai_base.specs.Value.{Text, Value, TextV, PointerV, items}
 use Rattle.rhai_base.specs.Operators.{Operator, Computed, NoEntry, Is, Overflows, symbol}
 use Rattle.rhai_meaning.specs.Engine.{built_in}
-use Rattle.rhai_meaning.specs.Act.{Call, Answer, Answers, AnswersThrow, World, Ending, Gives, Returns, Breaks, Continues, Throws, Again, Stuck, WrongKind, Root, Asked, Act, Stop, Fail, Then, Turn, Read, Write, Ask, Invoke, Loop, Scoped, Acts, Only, Do, Named, Finish}
+use Rattle.rhai_meaning.specs.Act.{HostCall, Answer, Answers, AnswersThrow, World, Ending, Gives, Returns, Breaks, Continues, Throws, Again, Stuck, WrongKind, Root, ScriptCall, Act, Stop, Fail, Then, Turn, Read, Write, AskHost, Invoke, Loop, Scoped, Acts, Only, Do, Named, Finish}
 use Rattle.rhai_meaning.specs.Core.{Callee, OnOperator, ByName}
 use Rattle.rhai_parts.specs.Names.{is_valid_name}
 use Rattle.rhai_meaning.specs.ActForms.{give, value_then, ◌>>=◌, choose, truth, branch, if_true, answered, ask_host, each_value, then_line}
@@ -18,8 +18,8 @@ pub record Congruent (P : List Known → Act → Act → Type 0) (Q : List Known
   pub turn : (ks : List Known) (a b : Act) → P ks a b → P ks (Turn a) (Turn b)
   pub read : (ks : List Known) (r : Root) → P ks (Read r) (Read r)
   pub write : (ks : List Known) (r : Root) (v : Value) → P ks (Write r v) (Write r v)
-  pub ask : (ks : List Known) (c : Call) (next next' : Answer → Act) → ((a : Answer) → P ks (next a) (next' a)) → P ks (Ask c next) (Ask c next')
-  pub invoke : (ks : List Known) (a : Asked) (next next' : Value → Option Value → Act) → Ok a.captures → ((v : Value) (u : Option Value) → P ks (next v u) (next' v u)) → P ks (Invoke a next) (Invoke a next')
+  pub ask : (ks : List Known) (c : HostCall) (next next' : Answer → Act) → ((a : Answer) → P ks (next a) (next' a)) → P ks (AskHost c next) (AskHost c next')
+  pub invoke : (ks : List Known) (a : ScriptCall) (next next' : Value → Option Value → Act) → Ok a.captures → ((v : Value) (u : Option Value) → P ks (next v u) (next' v u)) → P ks (Invoke a next) (Invoke a next')
   pub loop : (ks : List Known) (a b : Act) → P ks a b → P ks (Loop a) (Loop b)
   pub scoped : (ks : List Known) (p q : Acts) → Q ks p q → P ks (Scoped p) (Scoped q)
   pub scoped_named : (ks : List Known) (x : Text) (c : Bool) (v : Value) (p q : Acts) → P (shadow x ks) (Scoped p) (Scoped q) → P ks (Scoped (Named x c v p)) (Scoped (Named x c v q))

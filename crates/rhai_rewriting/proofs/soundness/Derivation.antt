@@ -11,7 +11,7 @@ use Rattle.rhai_meaning.specs.Meaning.{wanted_value, act, with_args, line, acts}
 use Rattle.rhai_meaning.specs.Tree.{Callee, Expr, Exprs, count_exprs, Stmt, Stmts, stmt}
 use Rattle.rhai_rewriting.specs.Folding.{folded}
 use Rattle.rhai_rewriting.specs.Known.{Known}
-use Rattle.rhai_rewriting.specs.Rewriting.{Context, Mark, wanted, ExprTo, same_expr, then_expr, in_array, in_braces, in_call, array_of_constants, braces_empty, braces_of_expression, operator_folds, ExprsTo, exprs_none, exprs_more, StmtTo, same_stmt, then_stmt, in_if, in_block, in_expression, in_call_statement, if_without_blocks, if_decided, block_empty, block_of_statement, statement_of_braces, statement_of_call, call_statement_folds, EachTo, each_none, each_last, each_more, StmtsTo, same_stmts, then_stmts, in_each, block_gives_way}
+use Rattle.rhai_rewriting.specs.Rewriting.{Context, ListKind, wanted, ExprTo, same_expr, then_expr, in_array, in_braces, in_call, array_of_constants, braces_empty, braces_of_expression, operator_folds, ExprsTo, exprs_none, exprs_more, StmtTo, same_stmt, then_stmt, in_if, in_block, in_expression, in_call_statement, if_without_blocks, if_decided, block_empty, block_of_statement, statement_of_braces, statement_of_call, call_statement_folds, EachTo, each_none, each_last, each_more, StmtsTo, same_stmts, then_stmts, in_each, block_gives_way}
 use Rattle.rhai_rewriting.proofs.soundness.Close.{Tame}
 use Rattle.rhai_rewriting.proofs.soundness.Sound.{Sound, SoundAll, s_trans, s_refl, s_all_refl}
 use Rattle.rhai_rewriting.proofs.soundness.Forms.{s_bind, s_if}
@@ -84,7 +84,7 @@ module _ (w : World) (F : ℕ → Env) (tame : Tame F) where
     stmt_sound {k} {b = b} (statement_of_call {c = c} {es = es}) q = rules.statement_of_call w F tame k.known b c es
     stmt_sound {k} {b = b} (call_statement_folds {c = c} {es = es} {v = v} h) q = rules.call_statement_folds w F tame k.known b c es v (sym (ap (λ r. folded r c es) q) ∙ h)
 
-    pub each_sound : {k : Context} {m : Mark} {d d' : Bool} {ss ss' : Stmts} → EachTo k m d d' ss ss' → k.engine ≡ w.engine → (v : Value) → SoundList w F tame m k.known (acts w (wanted m) (core_stmts ss) v) (acts w (wanted m) (core_stmts ss') v)
+    pub each_sound : {k : Context} {m : ListKind} {d d' : Bool} {ss ss' : Stmts} → EachTo k m d d' ss ss' → k.engine ≡ w.engine → (v : Value) → SoundList w F tame m k.known (acts w (wanted m) (core_stmts ss) v) (acts w (wanted m) (core_stmts ss') v)
     each_sound {k} {m = m} each_none q v = l_of w F tame m k.known _ _ (s_all_refl w F tame k.known _)
     each_sound {k} {m = m} (each_last {s = s} {s' = s'} h) q v =
         let r = rest_of (wanted m) in
@@ -95,7 +95,7 @@ module _ (w : World) (F : ℕ → Env) (tame : Tame F) where
         (l_of w F tame m k.known _ _ ((stmt_sound h q).before (acts w (wanted m) (core_stmts (stmt t ss)) v)))
         (rules.line_tail w F tame k.known m (core_stmt s') (λ u. acts w (wanted m) (core_stmts (stmt t ss)) u) (λ u. acts w (wanted m) (core_stmts ss') u) (λ u. each_sound j q u))
 
-    pub stmts_sound : {k : Context} {m : Mark} {d d' : Bool} {ss ss' : Stmts} → StmtsTo k m d d' ss ss' → k.engine ≡ w.engine → (v : Value) → SoundList w F tame m k.known (acts w (wanted m) (core_stmts ss) v) (acts w (wanted m) (core_stmts ss') v)
+    pub stmts_sound : {k : Context} {m : ListKind} {d d' : Bool} {ss ss' : Stmts} → StmtsTo k m d d' ss ss' → k.engine ≡ w.engine → (v : Value) → SoundList w F tame m k.known (acts w (wanted m) (core_stmts ss) v) (acts w (wanted m) (core_stmts ss') v)
     stmts_sound {k} {m = m} (same_stmts {ss = ss}) q v = l_of w F tame m k.known _ _ (s_all_refl w F tame k.known (acts w (wanted m) (core_stmts ss) v))
     stmts_sound {k} {m = m} (then_stmts {ss = ss} {ss1 = ss1} {ss2 = ss2} h j) q v = l_trans w F tame m k.known (acts w (wanted m) (core_stmts ss) v) (acts w (wanted m) (core_stmts ss1) v) (acts w (wanted m) (core_stmts ss2) v) (stmts_sound h q v) (stmts_sound j q v)
     stmts_sound {k} {m = m} (in_each h) q v = each_sound h q v

@@ -11,10 +11,10 @@ use Rattle.rhai_meaning.specs.Meaning.{act, deed, line, acts}
 use Rattle.rhai_meaning.specs.Queries.{is_block_dependent, is_any_dependent}
 use Rattle.rhai_meaning.specs.Relations.{here}
 use Rattle.rhai_meaning.specs.Tree as tree
-use Rattle.rhai_meaning.proofs.Frame.{frame}
+use Rattle.rhai_meaning.proofs.Frame.{preserves}
 use Rattle.rhai_rewriting.specs.Folding.{folded}
 use Rattle.rhai_rewriting.specs.Known.{Known}
-use Rattle.rhai_rewriting.specs.Rewriting.{Mark, wanted, block_or_noop, chosen, condition_alone, spliced}
+use Rattle.rhai_rewriting.specs.Rewriting.{ListKind, wanted, block_or_noop, chosen, condition_alone, spliced}
 use Rattle.rhai_rewriting.proofs.Plain.{folded_plain}
 use Rattle.rhai_rewriting.proofs.soundness.Close.{Tame}
 use Rattle.rhai_rewriting.proofs.soundness.Sound.{OrStuck, equal, is_stuck, Sound, SoundAll, s_trans, s_all_trans, s_equal, s_all_equal, s_all_refl, s_or_stuck, s_refl}
@@ -120,7 +120,7 @@ module _ (w : World) (F : ℕ → Env) (tame : Tame F) (ks : List Known) where
       let ys = Scoped (acts w true (core_stmts y) UnitV) in
       subst (λ z. Sound w F tame ks (deed w (If (core_expr e) (core_stmts x) (core_stmts y))) z) (branch_chosen t x y)
       (s_or_stuck w F tame ks _ (branch (Some t) xs ys) (λ env s n adds ag.
-      or_stuck _ _ s n (branch_given w env (constant_value e) (run w env (act w (core_expr e)) s n) t s n xs ys (expr_given w env e s n) h) (frame w env adds (branch (Some t) xs ys) s n).calls))
+      or_stuck _ _ s n (branch_given w env (constant_value e) (run w env (act w (core_expr e)) s n) t s n xs ys (expr_given w env e s n) h) (preserves w env adds (branch (Some t) xs ys) s n).calls))
 
   pub if_decided : (b : Bool) (e : tree.Expr) (t : Bool) (x y : tree.Stmts) → constant_bool e ≡ Some t → SoundStmt w F tame ks b (core_stmt (tree.If e x y)) (core_stmt (block_or_noop (chosen t x y)))
   if_decided b e t x y h =
@@ -137,9 +137,9 @@ module _ (w : World) (F : ℕ → Env) (tame : Tame F) (ks : List Known) where
 
   -- ---- lists
 
-  pub line_tail : (m : Mark) (l : Stmt) (k k' : Value → Acts) → ((v : Value) → SoundList w F tame m ks (k v) (k' v)) → SoundList w F tame m ks (line w l k) (line w l k')
+  pub line_tail : (m : ListKind) (l : Stmt) (k k' : Value → Acts) → ((v : Value) → SoundList w F tame m ks (k v) (k' v)) → SoundList w F tame m ks (line w l k) (line w l k')
   line_tail m (Does d) k k' h = l_line w F tame m ks (deed w d) k k' h
 
-  pub block_gives_way : (m : Mark) (front ss back : tree.Stmts) → is_any_dependent ss ≡ false → (v : Value) → SoundList w F tame m ks (acts w (wanted m) (core_stmts (tree.joined front (tree.stmt (tree.Block ss) back))) v) (acts w (wanted m) (core_stmts (tree.joined front (spliced (wanted m) ss back))) v)
+  pub block_gives_way : (m : ListKind) (front ss back : tree.Stmts) → is_any_dependent ss ≡ false → (v : Value) → SoundList w F tame m ks (acts w (wanted m) (core_stmts (tree.joined front (tree.stmt (tree.Block ss) back))) v) (acts w (wanted m) (core_stmts (tree.joined front (spliced (wanted m) ss back))) v)
   block_gives_way m tree.no_stmts ss back q v = l_of w F tame m ks _ _ (s_all_equal w F tame ks _ _ (λ env s t adds ag. braces_go w env adds (wanted m) ss back q v s t))
   block_gives_way m (tree.stmt s front) ss back q v = line_tail m (core_stmt s) (λ u. acts w (wanted m) (core_stmts (tree.joined front (tree.stmt (tree.Block ss) back))) u) (λ u. acts w (wanted m) (core_stmts (tree.joined front (spliced (wanted m) ss back))) u) (λ u. block_gives_way m front ss back q u)

@@ -112,7 +112,7 @@ module _ (w : World) (env : Env) where
   operator_given op (Some vs) es v s t (is h) e = is (h ∙ table_given (symbol op) vs (built_in w.engine op vs) v s t e)
   operator_given op (Some vs) es v s t (wrong h) e = wrong h
 
-  pub call_given : (b : Bool) (c : tree.Callee) (m : tree.Mark) (es : tree.Exprs) (v : Value) (s : Store) (t : ℕ) → folded_values w.engine m (constant_values es) ≡ Some v → OrWrong (run w env (act w (cond b (FnCall (callee_by c m) (core_exprs es)) Ill)) s t) (At (Ended (Gives v)) s t) s t
+  pub call_given : (b : Bool) (c : tree.Callee) (m : tree.CallToken) (es : tree.Exprs) (v : Value) (s : Store) (t : ℕ) → folded_values w.engine m (constant_values es) ≡ Some v → OrWrong (run w env (act w (cond b (FnCall (callee_by c m) (core_exprs es)) Ill)) s t) (At (Ended (Gives v)) s t) s t
   call_given false c m es v s t e = wrong refl
   call_given true c tree.NoToken es v s t e = absurd (let z : None ≡ Some v = e in cc)
   call_given true c (tree.OfOperator op) es v s t e = operator_given op (constant_values es) es v s t (exprs_given es (λ vs. called w (OnOperator op) vs) s t) e

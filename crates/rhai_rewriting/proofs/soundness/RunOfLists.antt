@@ -2,7 +2,7 @@
 use Rattle.std.proofs.Common.{◌≡◌, ℕ, Bool, true, false, List, refl, sym, ap, ◌∙◌}
 use Rattle.std.proofs.lemmas.Bool.{or_parts}
 use Rattle.rhai_base.specs.Value.{Value, UnitV}
-use Rattle.rhai_meaning.specs.Act.{World, Entry, Store, Ending, Gives, Returns, Breaks, Continues, Throws, Again, Ended, Halted, Result, At, Scoped, Acts, Only, Env, and_then, leave, run, run_all}
+use Rattle.rhai_meaning.specs.Act.{World, ScopeEntry, Store, Ending, Gives, Returns, Breaks, Continues, Throws, Again, Ended, Halted, Result, At, Scoped, Acts, Only, Env, and_then, leave, run, run_all}
 use Rattle.rhai_meaning.specs.ActForms.{give, each_value}
 use Rattle.rhai_meaning.specs.Core.{Deed, Stmt, Does, Stmts, no_stmts, stmt}
 use Rattle.rhai_meaning.specs.Desugar.{core_stmt, core_stmts}
@@ -11,11 +11,11 @@ use Rattle.rhai_meaning.specs.Queries.{is_block_dependent, is_any_dependent}
 use Rattle.rhai_meaning.specs.Relations.{store_of}
 use Rattle.rhai_meaning.specs.Tree as tree
 use Rattle.rhai_meaning.proofs.Relations.{Keeps}
-use Rattle.rhai_meaning.proofs.Frame.{OnlyAdds, After, after_same, keeps_refl, keeps_weaker, frame, frame_then, restore_keeps}
+use Rattle.rhai_meaning.proofs.Frame.{OnlyAdds, After, after_same, keeps_refl, keeps_weaker, preserves, frame_then, restore_keeps}
 use Rattle.rhai_rewriting.specs.Rewriting.{spliced}
 
 -- nothing is taken away where no name was added
-leave_kept : (es : List Entry) (r : Result) → Keeps es (store_of r).scope → leave es r ≡ r
+leave_kept : (es : List ScopeEntry) (r : Result) → Keeps es (store_of r).scope → leave es r ≡ r
 leave_kept es (At o s t) k = ap (λ fs. At o (record s { scope = fs }) t) (restore_keeps k)
 
 pub leave_same : (s : Store) (o : Ending) (t : ℕ) → leave s.scope (At (Ended o) s t) ≡ At (Ended o) s t
@@ -45,7 +45,7 @@ module _ (w : World) (env : Env) where
   each_stays k h Again s t = after_same s
 
   deed_stays : OnlyAdds env → (d : Deed) (k : Value → Acts) → ((v : Value) (s : Store) (t : ℕ) → After Keeps s (store_of (run_all w env (k v) s t))) → (s : Store) (t : ℕ) → After Keeps s (store_of (run_all w env (line w (Does d) k) s t))
-  deed_stays adds d k h s t = frame_then Keeps keeps_weaker s (run w env (deed w d) s t) (frame w env adds (deed w d) s t) (λ e. run_all w env (each_value k e)) (λ e s1 t1. each_stays k h e s1 t1)
+  deed_stays adds d k h s t = frame_then Keeps keeps_weaker s (run w env (deed w d) s t) (preserves w env adds (deed w d) s t) (λ e. run_all w env (each_value k e)) (λ e s1 t1. each_stays k h e s1 t1)
 
   -- the names of the scope stay
   list_stays : OnlyAdds env → (ss : Stmts) → adds_no_name ss ≡ true → (b : Bool) (v : Value) (st : Store) (t : ℕ) → After Keeps st (store_of (run_all w env (acts w b ss v) st t))

@@ -1,7 +1,7 @@
 -- Sound: an act that stays close to another at every depth. Each primitive keeps this.
 use Rattle.std.proofs.Common.{◌≡◌, ℕ, Bool, List, Option, refl, subst, arith}
 use Rattle.rhai_base.specs.Value.{Text, Value}
-use Rattle.rhai_meaning.specs.Act.{Call, Answer, Store, World, Ending, Stuck, IsStuck, Halted, Result, At, Asked, Act, Then, Turn, Ask, Invoke, Loop, Scoped, Acts, Only, Do, Named, Finish, Env, run, run_all}
+use Rattle.rhai_meaning.specs.Act.{HostCall, Answer, Store, World, Ending, Stuck, IsStuck, Halted, Result, At, ScriptCall, Act, Then, Turn, AskHost, Invoke, Loop, Scoped, Acts, Only, Do, Named, Finish, Env, run, run_all}
 use Rattle.rhai_meaning.specs.Relations.{Begins, calls_of}
 use Rattle.rhai_meaning.proofs.Relations.{Follows, short, AnyHalt}
 use Rattle.rhai_rewriting.specs.Known.{Known, shadow, Agrees}
@@ -49,7 +49,7 @@ module _ (w : World) (F : ℕ → Env) (tame : Tame F) where
     };
   }
 
-  self_invoke : (d : ℕ) (a : Asked) (s : Store) (t : ℕ) → Close (calling F a) d s t ((F d).invoke a s.scope s.calls t)
+  self_invoke : (d : ℕ) (a : ScriptCall) (s : Store) (t : ℕ) → Close (calling F a) d s t ((F d).invoke a s.scope s.calls t)
   self_invoke d a s t = record {
     follows = follows_refl AnyHalt _;
     back = met_self (calling F a) (λ d1 d2 n s1 t1 t1' le lt. (tame.deeper d1 d2 n le).invoke a s1.scope s1.calls t1 t1' lt) d s t;
@@ -91,10 +91,10 @@ module _ (w : World) (F : ℕ → Env) (tame : Tame F) where
   pub s_loop : (ks : List Known) (a a' : Act) → Sound ks a a' → Sound ks (Loop a) (Loop a')
   s_loop ks a a' g = record { at = λ d. good_loop w F tame d (F d) (steady d) ks a a' (omega arith) (g.at d) }
 
-  pub s_ask : (ks : List Known) (c : Call) (next next' : Answer → Act) → ((a : Answer) → Sound ks (next a) (next' a)) → Sound ks (Ask c next) (Ask c next')
+  pub s_ask : (ks : List Known) (c : HostCall) (next next' : Answer → Act) → ((a : Answer) → Sound ks (next a) (next' a)) → Sound ks (AskHost c next) (AskHost c next')
   s_ask ks c next next' g = record { at = λ d. good_ask w F tame d (F d) (steady d) ks c next next' (λ a. (g a).at d) }
 
-  pub s_invoke : (ks : List Known) (a : Asked) (next next' : Value → Option Value → Act) → ((v : Value) (u : Option Value) → Sound ks (next v u) (next' v u)) → Sound ks (Invoke a next) (Invoke a next')
+  pub s_invoke : (ks : List Known) (a : ScriptCall) (next next' : Value → Option Value → Act) → ((v : Value) (u : Option Value) → Sound ks (next v u) (next' v u)) → Sound ks (Invoke a next) (Invoke a next')
   s_invoke ks a next next' g = record { at = λ d. good_invoke w F tame d (F d) (steady d) ks a next next' (self_invoke d a) (λ v u. (g v u).at d) }
 
   -- where the old run is stuck the new one is free

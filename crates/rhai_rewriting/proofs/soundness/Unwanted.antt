@@ -1,7 +1,7 @@
 -- Where a list's value is not wanted: acts that are alike but for it.
 use Rattle.std.proofs.Common.{◌≡◌, ℕ, Bool, true, false, List, Option, Some, None, refl, sym, ap, ◌∙◌}
 use Rattle.rhai_base.specs.Value.{Value, UnitV}
-use Rattle.rhai_meaning.specs.Act.{World, Entry, Store, Gives, Returns, Breaks, Continues, Throws, Again, Ended, Halted, Result, At, Act, Scoped, Acts, Env, and_then, leave, run, run_all}
+use Rattle.rhai_meaning.specs.Act.{World, ScopeEntry, Store, Gives, Returns, Breaks, Continues, Throws, Again, Ended, Halted, Result, At, Act, Scoped, Acts, Env, and_then, leave, run, run_all}
 use Rattle.rhai_meaning.specs.Core.{Expr, Does, If, Block, Stmts, no_stmts, stmt}
 use Rattle.rhai_meaning.specs.ActForms.{value_then, ◌>>=◌, branch, truth, if_true, each_value, then_line}
 use Rattle.rhai_meaning.specs.Meaning.{act, deed, line, acts}
@@ -42,7 +42,7 @@ module _ (w : World) (env : Env) where
   abbrev pub Alike : Act → Act → Type 0
   Alike a b = (s : Store) (t : ℕ) → drop_value (run w env a s t) ≡ drop_value (run w env b s t)
 
-  drop_leave : (es : List Entry) (r : Result) → drop_value (leave es (drop_value r)) ≡ drop_value (leave es r)
+  drop_leave : (es : List ScopeEntry) (r : Result) → drop_value (leave es (drop_value r)) ≡ drop_value (leave es r)
   drop_leave es (At (Ended (Gives v)) s t) = refl
   drop_leave es (At (Ended (Returns v)) s t) = refl
   drop_leave es (At (Ended (Breaks v)) s t) = refl

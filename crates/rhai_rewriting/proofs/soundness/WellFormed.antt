@@ -4,7 +4,7 @@ use Rattle.rhai_base.specs.Value.{Value, UnitV, BoolV, IntV, CharV, TextV, Array
 use Rattle.rhai_meaning.specs.Constants.{constant_for}
 use Rattle.rhai_meaning.specs.Faults.{has_token, IsWellFormedExpr, AreWellFormedExprs, IsWellFormed, AreWellFormed}
 use Rattle.rhai_meaning.specs.Tree.{Callee, Expr, Exprs, count_exprs, Stmt, Block, Stmts, no_stmts, stmt, joined}
-use Rattle.rhai_rewriting.specs.Rewriting.{Context, Mark, wanted, block_or_noop, chosen, condition_alone, spliced, ExprTo, same_expr, then_expr, in_array, in_braces, in_call, array_of_constants, braces_empty, braces_of_expression, operator_folds, ExprsTo, exprs_none, exprs_more, StmtTo, same_stmt, then_stmt, in_if, in_block, in_expression, in_call_statement, if_without_blocks, if_decided, block_empty, block_of_statement, statement_of_braces, statement_of_call, call_statement_folds, EachTo, each_none, each_last, each_more, StmtsTo, same_stmts, then_stmts, in_each, block_gives_way}
+use Rattle.rhai_rewriting.specs.Rewriting.{Context, ListKind, wanted, block_or_noop, chosen, condition_alone, spliced, ExprTo, same_expr, then_expr, in_array, in_braces, in_call, array_of_constants, braces_empty, braces_of_expression, operator_folds, ExprsTo, exprs_none, exprs_more, StmtTo, same_stmt, then_stmt, in_if, in_block, in_expression, in_call_statement, if_without_blocks, if_decided, block_empty, block_of_statement, statement_of_braces, statement_of_call, call_statement_folds, EachTo, each_none, each_last, each_more, StmtsTo, same_stmts, then_stmts, in_each, block_gives_way}
 use Rattle.rhai_rewriting.proofs.soundness.Derivation.{same_count}
 
 constant_well : (v : Value) → IsWellFormedExpr (constant_for v)
@@ -80,12 +80,12 @@ mutual
   stmt_well statement_of_call h = h
   stmt_well (call_statement_folds {v = v} e) h = constant_well v
 
-  pub each_well : {k : Context} {m : Mark} {d d' : Bool} {ss ss' : Stmts} → EachTo k m d d' ss ss' → AreWellFormed ss → AreWellFormed ss'
+  pub each_well : {k : Context} {m : ListKind} {d d' : Bool} {ss ss' : Stmts} → EachTo k m d d' ss ss' → AreWellFormed ss → AreWellFormed ss'
   each_well each_none h = h
   each_well (each_last p) h = (stmt_well p h.0, tt)
   each_well (each_more p q) h = (stmt_well p h.0, each_well q h.1)
 
-  pub stmts_well : {k : Context} {m : Mark} {d d' : Bool} {ss ss' : Stmts} → StmtsTo k m d d' ss ss' → AreWellFormed ss → AreWellFormed ss'
+  pub stmts_well : {k : Context} {m : ListKind} {d d' : Bool} {ss ss' : Stmts} → StmtsTo k m d d' ss ss' → AreWellFormed ss → AreWellFormed ss'
   stmts_well same_stmts h = h
   stmts_well (then_stmts p q) h = stmts_well q (stmts_well p h)
   stmts_well (in_each p) h = each_well p h

@@ -11,7 +11,7 @@ EndsSo r o s = (n : ℕ) × (left : ℕ) × (r n ≡ At o s left)
 -- The new run r' does what the old run r does, each by its number of turns.
 -- A run has ended where it gives a value, returns one or throws; it is stuck where the language says nothing of what
 -- it does; else it is out of turns. A run that is out of turns with every number of turns goes on for ever.
-pub record Correct (r r' : ℕ → Result) : Type 0 where
+pub record RunRefines (r r' : ℕ → Result) : Type 0 where
   -- Where the old run ends, the new one ends in the same way with the same store, and with as many turns left at least.
   pub same_end : (n : ℕ) (o : Ending) (s : Store) (left : ℕ) → r n ≡ At (Ended o) s left → (left' : ℕ) × (left ≤ left') × (r' n ≡ At (Ended o) s left')
   -- However the old run goes, its host calls are a beginning of those of the new one.
