@@ -13,4 +13,5 @@ pub mod Run
 pub mod Constants
 pub mod Queries
 pub mod Relations
+pub mod Agreeing
 pub mod WorkedRuns
