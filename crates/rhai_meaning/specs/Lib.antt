@@ -3,6 +3,7 @@ pub mod Engine
 pub mod Act
 pub mod ActForms
 pub mod Host
+pub mod Walk
 pub mod Faults
 pub mod Core
 pub mod Desugar
@@ -12,4 +13,5 @@ pub mod Run
 pub mod Constants
 pub mod Queries
 pub mod Relations
+pub mod Agreeing
 pub mod WorkedRuns
