@@ -1,9 +1,8 @@
 -- What the functions of the optimiser promise: a tree was rewritten, and where the dirty flag is clear afterwards
 -- nothing in it is left to reduce.
 use Rattle.std.specs.Prelude.{◌≡◌, Bool, true, false}
-use Rattle.rhai_meaning.specs.Engine.{Engine}
-use Rattle.rhai_meaning.specs.Tree.{Expr, DynamicConstant, BoolConstant, IntegerConstant, CharConstant, StringConstant, UnitConstant, ArrayOf, BlockExpr, FnCall, Exprs, Stmt, Noop, If, Block, ExprStmt, FnCallStmt, Stmts, joined}
-use Rattle.rhai_rewriting.specs.Residue.{IsReducedExpr, AreReducedExprs, IsReduced, AreReduced}
+use Rattle.rhai_meaning.specs.Tree.{Expr, Exprs, Stmt, Stmts, joined}
+use Rattle.rhai_rewriting.specs.Residue.{IsReducedExpr, AreReducedExprs, IsReduced, AreReduced, ExprParts, StmtParts}
 use Rattle.rhai_rewriting.specs.Context.{Context, ListKind, wanted, wanted_before}
 use Rattle.rhai_rewriting.specs.Rewriting.{ExprTo, ExprsTo, StmtTo, StmtsTo}
 use Rattle.rhai_rewriting.specs.Rules.{ExprRule, StmtRule}
@@ -33,24 +32,6 @@ pub record StmtsRun (k : Context) (m : ListKind) (d d' : Bool) (ss ss' : Stmts) 
   pub reduced : AreReduced k.engine ss'
 
 -- ---- one node, whose parts are rewritten already
-
-abbrev pub ExprParts : Engine → Expr → Type 0
-ExprParts r (DynamicConstant v) = Unit {0}
-ExprParts r (BoolConstant b) = Unit {0}
-ExprParts r (IntegerConstant n) = Unit {0}
-ExprParts r (CharConstant c) = Unit {0}
-ExprParts r (StringConstant t) = Unit {0}
-ExprParts r UnitConstant = Unit {0}
-ExprParts r (ArrayOf es) = AreReducedExprs r es
-ExprParts r (BlockExpr ss) = AreReduced r ss
-ExprParts r (FnCall c es) = AreReducedExprs r es
-
-abbrev pub StmtParts : Engine → Stmt → Type 0
-StmtParts r Noop = Unit {0}
-StmtParts r (If e a b) = IsReducedExpr r e × AreReduced r a × AreReduced r b
-StmtParts r (Block ss) = AreReduced r ss
-StmtParts r (ExprStmt e) = IsReducedExpr r e
-StmtParts r (FnCallStmt c es) = AreReducedExprs r es
 
 pub record ExprStep (k : Context) (d d' : Bool) (e e' : Expr) : Type 0 where
   pub to : ExprTo k d d' e e'

@@ -1,6 +1,6 @@
 -- The rules of expressions: a lemma each, of the rule's name.
 use Rattle.std.proofs.Common.{◌≡◌, ◌≤◌, List, Some, true, refl, sym, ap, subst, arith}
-use Rattle.rhai_base.specs.Value.{Value, UnitV, BoolV, IntV, CharV, TextV, ArrayV, MapV, PointerV, RangeV, RangeInclusiveV, no_values, item, values}
+use Rattle.rhai_base.specs.Value.{Value, UnitV, BoolV, IntV, CharV, TextV, ArrayV, PointerV, no_values, values}
 use Rattle.rhai_meaning.specs.Act.{Gives, Ended, At}
 use Rattle.rhai_meaning.specs.ActForms.{give}
 use Rattle.rhai_meaning.specs.Constants.{array_value, constant_values, constant_for}
@@ -10,6 +10,7 @@ use Rattle.rhai_meaning.specs.Faults.{is_callable, IsWellFormedExpr}
 use Rattle.rhai_meaning.specs.Meaning.{act}
 use Rattle.rhai_meaning.specs.Relations.{here}
 use Rattle.rhai_meaning.specs.Tree.{Callee, Expr, DynamicConstant, UnitConstant, ArrayOf, BlockExpr, FnCall, Exprs, count_exprs, ExprStmt, no_stmts, stmt}
+use Rattle.rhai_meaning.proofs.Sequencing.{leave_same}
 use Rattle.rhai_rewriting.specs.Context.{Context}
 use Rattle.rhai_rewriting.specs.Folding.{folded}
 use Rattle.rhai_rewriting.specs.Rules as rule
@@ -18,14 +19,14 @@ use Rattle.rhai_rewriting.specs.Weight.{expr_weight}
 use Rattle.rhai_rewriting.proofs.Plain.{is_plain_value, folded_plain}
 use Rattle.rhai_rewriting.proofs.simulation.Setting.{Setting, Start, world, run_from}
 use Rattle.rhai_rewriting.proofs.simulation.Simulation.{Simulates, simulates_equal, simulates_or_stuck}
-use Rattle.rhai_rewriting.proofs.rules.Blocks.{leave_same, scoped_deed}
+use Rattle.rhai_rewriting.proofs.rules.Blocks.{scoped_deed}
 use Rattle.rhai_rewriting.proofs.rules.Constants.{OrWrong, or_stuck, constant_means, Given, expr_given, call_given}
 use Rattle.rhai_rewriting.proofs.rules.Obligation.{ExprObligation}
 
 pub array_of_constants : {k : Context} {es : Exprs} {vs : List Value} → constant_values es ≡ Some vs → ExprObligation k (ArrayOf es) (DynamicConstant (ArrayV (values vs)))
 array_of_constants {k = k} {es = es} {vs = vs} h = record {
   lighter = omega arith;
-  well_formed = λ w. refl;
+  well_formed = λ w. (refl, tt);
   sound = λ c. simulates_or_stuck (λ m. or_stuck _ _ m.store m.turns (array_given c m) here);
 } where
   array_given : (c : Setting k) (m : Start k) → OrWrong (run_from c m (act (world c) (core_expr (ArrayOf es)))) (At (Ended (Gives (ArrayV (values vs)))) m.store m.turns) m.store m.turns
@@ -34,14 +35,14 @@ array_of_constants {k = k} {es = es} {vs = vs} h = record {
 pub braces_empty : {k : Context} → ExprObligation k (BlockExpr no_stmts) UnitConstant
 braces_empty = record {
   lighter = omega arith;
-  well_formed = λ w. tt;
+  well_formed = λ w. (tt, tt);
   sound = λ c. simulates_equal (λ m. leave_same m.store (Gives UnitV) m.turns);
 }
 
 pub braces_of_expression : {k : Context} {e : Expr} → ExprObligation k (BlockExpr (stmt (ExprStmt e) no_stmts)) e
 braces_of_expression {e = e} = record {
   lighter = omega arith;
-  well_formed = λ w. w.0;
+  well_formed = λ w. w.1.0.1;
   sound = λ c. simulates_equal (λ m. scoped_deed (world c) m.env m.adds (core.Evaluate (core_expr e)) m.store m.turns);
 }
 
@@ -49,29 +50,17 @@ braces_of_expression {e = e} = record {
 
 -- a pointer may be the call that makes it; an operator answers none
 pub constant_light : (v : Value) → is_plain_value v ≡ true → expr_weight (constant_for v) ≤ 2
-constant_light UnitV p = omega arith
-constant_light (BoolV b) p = omega arith
-constant_light (IntV n) p = omega arith
-constant_light (CharV c) p = omega arith
-constant_light (TextV t) p = omega arith
-constant_light (ArrayV vs) p = omega arith
-constant_light (MapV fs) p = omega arith
 constant_light (PointerV f vs) p = absurd cc
-constant_light (RangeV a b) p = omega arith
-constant_light (RangeInclusiveV a b) p = omega arith
+constant_light _ p = omega arith
 
 pub constant_well : (v : Value) → IsWellFormedExpr (constant_for v)
-constant_well UnitV = tt
-constant_well (BoolV b) = tt
-constant_well (IntV n) = tt
-constant_well (CharV c) = tt
-constant_well (TextV t) = tt
-constant_well (ArrayV vs) = refl
-constant_well (MapV fs) = refl
-constant_well (PointerV f no_values) = (refl, (tt, tt))
-constant_well (PointerV f (item v vs)) = refl
-constant_well (RangeV a b) = refl
-constant_well (RangeInclusiveV a b) = refl
+constant_well UnitV = (tt, tt)
+constant_well (BoolV b) = (tt, tt)
+constant_well (IntV n) = (tt, tt)
+constant_well (CharV c) = (tt, tt)
+constant_well (TextV t) = (tt, tt)
+constant_well (PointerV f no_values) = (refl, ((tt, tt), tt))
+constant_well _ = (refl, tt)
 
 pub call_folds : {k : Context} (c : Setting k) (f : Callee) (es : Exprs) (v : Value) → folded k.engine f es ≡ Some v → Simulates c (act (world c) (core_expr (FnCall f es))) (act (world c) (core_expr (constant_for v)))
 call_folds {k = k} c f es v h =

@@ -1,7 +1,7 @@
 -- Inside the short forms of acts, and inside statements.
 use Rattle.std.proofs.Common.{Bool, true, false, Option, Some, None}
 use Rattle.rhai_base.specs.Value.{Value}
-use Rattle.rhai_meaning.specs.Act.{Ending, Gives, Returns, Breaks, Continues, Throws, Again, Act, Acts}
+use Rattle.rhai_meaning.specs.Act.{Ending, Gives, Leaves, Act, Acts}
 use Rattle.rhai_meaning.specs.ActForms.{value_then, ◌>>=◌, truth, branch, if_true, each_value, then_line}
 use Rattle.rhai_meaning.specs.Core.{Deed, Stmt, Does}
 use Rattle.rhai_meaning.specs.Meaning.{deed, line}
@@ -13,11 +13,7 @@ use Rattle.rhai_rewriting.proofs.simulation.Simulation.{Simulates, SimulatesAll,
 
 in_value_then : {k : Context} {c : Setting k} {f f' : Value → Act} → ((v : Value) → Simulates c (f v) (f' v)) → (e : Ending) → Simulates c (value_then f e) (value_then f' e)
 in_value_then h (Gives v) = h v
-in_value_then h (Returns v) = simulates_refl
-in_value_then h (Breaks v) = simulates_refl
-in_value_then h Continues = simulates_refl
-in_value_then h (Throws v) = simulates_refl
-in_value_then h Again = simulates_refl
+in_value_then h (Leaves x) = simulates_refl
 
 pub simulates_bind : {k : Context} {c : Setting k} {a b : Act} {f f' : Value → Act} → Simulates c a b → ((v : Value) → Simulates c (f v) (f' v)) → Simulates c (a >>= f) (b >>= f')
 simulates_bind i h = simulates_then i (in_value_then h)
@@ -32,11 +28,7 @@ simulates_if v i h = in_branch (truth v) i h
 
 in_each_value : {k : Context} {c : Setting k} {f f' : Value → Acts} → ((v : Value) → SimulatesAll c (f v) (f' v)) → (e : Ending) → SimulatesAll c (each_value f e) (each_value f' e)
 in_each_value h (Gives v) = h v
-in_each_value h (Returns v) = all_refl
-in_each_value h (Breaks v) = all_refl
-in_each_value h Continues = all_refl
-in_each_value h (Throws v) = all_refl
-in_each_value h Again = all_refl
+in_each_value h (Leaves x) = all_refl
 
 pub all_line : {k : Context} {c : Setting k} {a b : Act} {f f' : Value → Acts} → Simulates c a b → ((v : Value) → SimulatesAll c (f v) (f' v)) → SimulatesAll c (then_line a f) (then_line b f')
 all_line i h = all_do i (in_each_value h)

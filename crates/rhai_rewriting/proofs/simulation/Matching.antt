@@ -4,8 +4,8 @@ use Rattle.rhai_base.specs.Value.{Text, Value}
 use Rattle.rhai_meaning.specs.Act.{HostCall, Answer, Store, Ending, Outcome, Ended, Result, At, ScriptCall, Act, Stop, Fail, Then, Turn, Read, Write, AskHost, Invoke, Loop, Scoped, Acts, Only, Do, Named, Finish, Env, leave, rounds, run, run_all}
 use Rattle.rhai_meaning.specs.Relations.{store_of}
 use Rattle.rhai_meaning.proofs.Relations.{Follows, AnyHalt, IsOut}
-use Rattle.rhai_meaning.proofs.Frame.{preserves, frame_all}
-use Rattle.rhai_meaning.proofs.Rising.{follow_call, follow_then, follow_turn, follow_returned, follow_leave, follow_rounds, Deeper, monotone, monotone_all, follows_refl, follows_trans}
+use Rattle.rhai_meaning.proofs.Preserves.{preserves, preserves_all}
+use Rattle.rhai_meaning.proofs.Monotone.{follow_call, follow_then, follow_turn, follow_returned, follow_leave, follow_rounds, Deeper, monotone, monotone_all, follows_refl, follows_trans}
 use Rattle.rhai_meaning.proofs.Ends.{met_call, Run, Ends, Met, stays, met_self, met_move, met_then, met_turn, met_leave, met_returned, met_rounds}
 use Rattle.rhai_rewriting.specs.Context.{Context}
 use Rattle.rhai_rewriting.proofs.simulation.Agreement.{agrees_keeps, agrees_shadow}
@@ -90,7 +90,7 @@ at_do {k = k} {c = c} {g = g} {a = a} {next = next} {next' = next'} i h = record
   matches = λ s t ag. record {
     forward = follow_then AnyHalt tt 0 (Agreed k) (i.matches s t ag).forward (stays_known c a g.depth s t ag) _ _
         (λ e s1 t1 t1' q le. later_all (h e) s1 t1 t1' q le)
-        (λ e s1 t1. (frame_all (world c) g.env g.steady.adds (next' e) s1 t1).calls);
+        (λ e s1 t1. (preserves_all (world c) g.env g.steady.adds (next' e) s1 t1).calls);
     backward = met_then (by_depth c a) (λ e. all_by_depth c (next e)) _ s _ (i.matches s t ag).backward
         (λ e s1 t1 x. ((h e).matches s1 t1 (ends_known c a s (Ended e) s1 ag x)).backward);
   };

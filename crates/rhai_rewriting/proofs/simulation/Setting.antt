@@ -2,9 +2,9 @@
 use Rattle.std.proofs.Common.{ℕ, ◌≤◌, List, arith}
 use Rattle.rhai_base.specs.Value.{Text}
 use Rattle.rhai_meaning.specs.Act.{Host, Key, Store, World, Result, Act, Acts, Env, run, run_all}
-use Rattle.rhai_meaning.proofs.Frame.{OnlyAdds}
+use Rattle.rhai_meaning.proofs.Preserves.{OnlyAdds}
 use Rattle.rhai_meaning.proofs.Relations.{AnyHalt, IsOut}
-use Rattle.rhai_meaning.proofs.Rising.{Deeper, follows_weak, monotone, monotone_all}
+use Rattle.rhai_meaning.proofs.Monotone.{Deeper, follows_weak, monotone, monotone_all}
 use Rattle.rhai_meaning.proofs.Ends.{Run, Rises}
 use Rattle.rhai_rewriting.specs.Context.{Context}
 use Rattle.rhai_rewriting.specs.Known.{shadow, Agrees}

@@ -3,7 +3,7 @@ use Rattle.std.proofs.Common.{◌≡◌, ℕ, refl, subst, arith}
 use Rattle.rhai_meaning.specs.Act.{Store, Ending, Stuck, IsStuck, Halted, Result, At, Act, Then, Scoped, Acts, Do, Finish}
 use Rattle.rhai_meaning.specs.Relations.{Begins, calls_of}
 use Rattle.rhai_meaning.proofs.Relations.{Follows, short, AnyHalt}
-use Rattle.rhai_meaning.proofs.Rising.{follows_refl, follows_trans}
+use Rattle.rhai_meaning.proofs.Monotone.{follows_refl, follows_trans}
 use Rattle.rhai_meaning.proofs.Ends.{Run, Met, stuck, Rises, ends_of, met_self, met_trans}
 use Rattle.rhai_rewriting.specs.Context.{Context}
 use Rattle.rhai_rewriting.proofs.simulation.Setting.{Setting, environment, Agreed, Start, run_from, run_all_from, by_depth, all_by_depth, steady_at, rises}

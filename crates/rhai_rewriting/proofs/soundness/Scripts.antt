@@ -1,15 +1,14 @@
 -- Whole scripts: calls of script functions, capturing or not, and runs.
 use Rattle.std.proofs.Common.{◌≡◌, ℕ, zero, suc, ◌+◌, ◌≤◌, Bool, true, false, cond, ◌&&◌, ◌⊎◌, inl, inr, List, [], ◌∷◌, length, Option, Some, None, refl, sym, ◌∙◌, subst, arith}
 use Rattle.rhai_base.specs.Value.{Text}
-use Rattle.rhai_meaning.specs.Act.{World, ScopeEntry, HostCall, Key, ScriptCall, Store, Ending, Stuck, IsStuck, Outcome, Ended, Halted, Result, At, Acts, Env, with_turn, run_all}
+use Rattle.rhai_meaning.specs.Act.{World, ScopeEntry, Key, ScriptCall, Store, Ending, Stuck, IsStuck, Outcome, Ended, Halted, Result, At, Acts, Env, with_turn, run_all}
 use Rattle.rhai_meaning.specs.Core.{Function, Script, Stmts}
 use Rattle.rhai_meaning.specs.Calls.{same_key, key}
 use Rattle.rhai_meaning.specs.Run.{function_of, seen, entered, body_acts, call_body, env_at, EntryPoint, AtStatements, AtFunction, run_at}
-use Rattle.rhai_meaning.specs.Relations.{Begins, here, calls_of}
-use Rattle.rhai_meaning.proofs.Relations.{Follows, same, short, AnyHalt, IsOut}
-use Rattle.rhai_meaning.proofs.Frame.{OnlyAdds, frame_all}
-use Rattle.rhai_meaning.proofs.Rising.{Action, Deeper, follow_turn, follows_begins, follows_refl, monotone_all}
+use Rattle.rhai_meaning.proofs.Relations.{Follows, same, AnyHalt}
+use Rattle.rhai_meaning.proofs.Monotone.{Action, follows_begins, follows_refl}
 use Rattle.rhai_meaning.proofs.Ends.{Run, Ends, Met, out, ended, stuck, Rises, met_self, met_move, met_turn}
+use Rattle.rhai_meaning.proofs.Depths.{deeper_at}
 use Rattle.rhai_rewriting.specs.Known.{Known, shadow_all, Agrees}
 use Rattle.rhai_rewriting.specs.Refines.{EndsSo, RunRefines}
 use Rattle.rhai_rewriting.proofs.simulation.Agreement.{agrees_nothing, agrees_bind}
@@ -19,39 +18,8 @@ use Rattle.rhai_rewriting.proofs.simulation.Simulation.{SimulatesAll, along}
 
 -- ---- the environments of a script
 
-module _ (lends : Bool) (w : World) (fs : List Function) where
-  begins_turn : (calls : List HostCall) (s : Store) (t : ℕ) (next : Action) → Begins calls s.calls → ((t1 : ℕ) → Begins calls (calls_of (next s t1))) → Begins calls (calls_of (with_turn t s next))
-  begins_turn calls s zero next b h = b
-  begins_turn calls s (suc t) next b h = h t
-
-  body_adds : (env : Env) → OnlyAdds env → (o : Option Function) (a : ScriptCall) (scope : List ScopeEntry) (calls : List HostCall) (t : ℕ) → Begins calls (calls_of (call_body lends w env o a scope calls t))
-  body_adds env adds None a scope calls t = here
-  body_adds env adds (Some f) a scope calls t =
-      let s = entered lends f a scope calls in
-      begins_turn calls s t _ here (λ t1. (frame_all w env adds (body_acts w f.body) s t1).calls)
-
-  adds_to : (d : ℕ) → OnlyAdds (env_at lends w fs d)
-  adds_to zero a scope calls t = here
-  adds_to (suc d) a scope calls t = body_adds (env_at lends w fs d) (adds_to d) (function_of fs a.function) a scope calls t
-
-  body_rises : (n : ℕ) (env env' : Env) → Deeper IsOut tt n env env' → (o : Option Function) (a : ScriptCall) (scope : List ScopeEntry) (calls : List HostCall) (t t' : ℕ) → t + n ≤ t' → Follows IsOut n (call_body lends w env o a scope calls t) (call_body lends w env' o a scope calls t')
-  body_rises n env env' deep None a scope calls t t' le = same le
-  body_rises n env env' deep (Some f) a scope calls t t' le =
-      follow_turn IsOut tt n _ t t' le _ _
-      (λ t1 t1' le1. monotone_all IsOut tt n w env env' deep (body_acts w f.body) _ t1 t1' le1)
-      (λ s1 t1. (frame_all w env' deep.adds (body_acts w f.body) s1 t1).calls)
-
-  pub deeper_at : (d d' n : ℕ) → d ≤ d' → Deeper IsOut tt n (env_at lends w fs d) (env_at lends w fs d')
-  deeper_at zero d' n le = record { rounds = le; adds = adds_to d'; invoke = λ a scope calls t t' lt. short tt (adds_to d' a scope calls t') }
-  deeper_at (suc d) zero n le = absurd (omega arith)
-  deeper_at (suc d) (suc d') n le = record {
-    rounds = le;
-    adds = adds_to (suc d');
-    invoke = λ a scope calls t t' lt. body_rises n _ _ (deeper_at d d' n (omega arith)) (function_of fs a.function) a scope calls t t' lt;
-  }
-
-  abbrev pub environments : Environments
-  environments = record { by_depth = env_at lends w fs; deeper = deeper_at; reaches = λ d. omega arith }
+abbrev pub environments : Bool → World → List Function → Environments
+environments lends w fs = record { by_depth = env_at lends w fs; deeper = deeper_at lends w fs; reaches = λ d. omega arith }
 
 -- ---- functions that may stand for others: a function keeps its name, parameters and receiver type
 

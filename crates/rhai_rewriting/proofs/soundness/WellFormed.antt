@@ -21,8 +21,8 @@ mutual
   expr_well same_expr h = h
   expr_well (then_expr p q) h = expr_well q (expr_well p h)
   expr_well (by_expr_rule r) h = (expr_rule r).well_formed h
-  expr_well (in_array p) h = exprs_well p h
-  expr_well (in_braces p) h = stmts_well p h
+  expr_well (in_array p) h = (h.0, exprs_well p h.1)
+  expr_well (in_braces p) h = (h.0, stmts_well p h.1)
   expr_well (in_call {c = c} p) h = (token_stays c p h.0, exprs_well p h.1)
 
   exprs_well : {k : Context} {d d' : Bool} {es es' : Exprs} → ExprsTo k d d' es es' → AreWellFormedExprs es → AreWellFormedExprs es'
@@ -33,9 +33,9 @@ mutual
   stmt_well same_stmt h = h
   stmt_well (then_stmt p q) h = stmt_well q (stmt_well p h)
   stmt_well (by_stmt_rule r) h = (stmt_rule r).well_formed h
-  stmt_well (in_if p q r) h = (expr_well p h.0, stmts_well q h.1, stmts_well r h.2)
-  stmt_well (in_block p) h = stmts_well p h
-  stmt_well (in_expression p) h = expr_well p h
+  stmt_well (in_if p q r) h = (h.0, (expr_well p h.1.0, (stmts_well q h.1.1.0, stmts_well r h.1.1.1)))
+  stmt_well (in_block p) h = (h.0, stmts_well p h.1)
+  stmt_well (in_expression p) h = (h.0, expr_well p h.1)
   stmt_well (in_call_statement {c = c} p) h = (token_stays c p h.0, exprs_well p h.1)
 
   pub stmts_well : {k : Context} {m : ListKind} {d d' : Bool} {ss ss' : Stmts} → StmtsTo k m d d' ss ss' → AreWellFormed ss → AreWellFormed ss'
