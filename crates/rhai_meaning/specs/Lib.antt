@@ -3,6 +3,7 @@ pub mod Engine
 pub mod Act
 pub mod ActForms
 pub mod Host
+pub mod Walk
 pub mod Faults
 pub mod Core
 pub mod Desugar
