@@ -3,8 +3,6 @@
 mod evaluator;
 mod operators;
 mod state;
-#[cfg(test)]
-mod tests;
 
 ghost use Rattle.std.specs.Prelude.{◌≡◌, IfOk};
 ghost use Rattle.rhai_meaning.specs.Desugar.{core_script};
