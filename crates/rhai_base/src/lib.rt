@@ -3,7 +3,7 @@
 
 mod builtin;
 mod range_case;
-mod ranges;
+mod range_operators;
 
 pub use builtin::{builtin_binary_op, builtin_unary_op};
 pub use range_case::{RangeCase, RangeCaseIter};

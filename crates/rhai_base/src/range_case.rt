@@ -1,7 +1,6 @@
 //! The ranges of a `switch`.
 #![tactic(auto, using(rhai_values::specs::Reading::kinds))]
 
-
 ghost use Rattle.std.specs.Prelude.{◌≡◌, ◌<◌, ◌-◌, ◌^◌, [], ◌↔◌, IsTrue, length, pos};
 ghost use Rattle.std.specs.Option.{SomeIff};
 ghost use Rattle.rhai_values.specs.Reading.{value_of};

@@ -3,7 +3,9 @@ ghost use Rattle.std.specs.Prelude.{⊤, ◌≡◌, ◌-◌, ◌^◌, [], ◌∷
 ghost use Rattle.std.specs.Int.RustNames.{bit_and, bit_or, bit_xor};
 
 use bitflags::{Flag, Flags};
-use std::ops::{BitAnd, BitAndAssign, BitOr, BitOrAssign, BitXor, Not, Sub, SubAssign};
+use std::ops::{
+    BitAnd, BitAndAssign, BitOr, BitOrAssign, BitXor, BitXorAssign, Not, Sub, SubAssign,
+};
 
 /// What is set on a node, as a set of bits. The flags are ordered by their bits; `bitflags::Flags` has
 /// their further calls.
@@ -113,6 +115,14 @@ impl BitXor for ASTFlags {
 
     fn bitxor(self, other: ASTFlags) -> ASTFlags {
         ASTFlags(self.0 ^ other.0)
+    }
+}
+
+impl BitXorAssign for ASTFlags {
+    ghost bitxor_assign_gives = { λ a b r. r.0 ≡ bit_xor a.0 b.0 };
+
+    fn bitxor_assign(&mut self, other: ASTFlags) {
+        self.0 ^= other.0;
     }
 }
 

@@ -6,7 +6,8 @@ use std::alloc::{AllocError, AllocFailed};
 use thiserror::Error;
 
 /// There was no memory for what had to grow.
-#[derive(Clone, Copy, Debug, PartialEq, Eq)]
+#[derive(Clone, Copy, Debug, PartialEq, Eq, Error)]
+#[error("out of memory")]
 pub struct OutOfMemory;
 
 impl From<AllocError> for OutOfMemory {

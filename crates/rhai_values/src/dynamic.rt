@@ -3,7 +3,6 @@
 
 mod copy;
 mod hashable;
-
 mod text;
 
 ghost use Rattle.std.specs.Prelude.{◌≡◌, ◌++◌, ◌↔◌, IsTrue, IfOk, OnOk, OnErr};

@@ -7,6 +7,7 @@ ghost use Rattle.rhai_parts.specs.Names.{is_valid_name};
 use crate::Dynamic;
 use rhai_data::{ImmutableString, Seq};
 use rhai_parts::FnName;
+use rhai_tokens::OutOfMemory;
 use std::alloc::Global;
 
 /// A pointer to a function, by its name, with the values of its first parameters.
@@ -43,6 +44,16 @@ impl FnPtr {
         ensures { result.now ≡ self.now.curried }
     {
         self.curried.as_slice()
+    }
+
+    /// Adds the value of the next parameter. A refused call gives the value up. rhai answers the pointer.
+    pub fn add_curry(&mut self, value: Dynamic) -> Result<(), OutOfMemory>
+        ensures name { self.new.name ≡ self.old.name }
+        ensures ok { OnOk result (self.new.curried ≡ self.old.curried ++ value ∷ []) }
+        ensures err { OnErr result (self.new.curried ≡ self.old.curried) }
+    {
+        self.curried.push(value)?;
+        Ok(())
     }
 
     /// Whether it has values of parameters.
