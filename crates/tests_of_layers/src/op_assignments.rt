@@ -42,8 +42,14 @@ fn texts(made: Result<OpAssignment, AstError>) -> Answer {
 fn makes_op_assignments(rt: HostRuntime) {
     for (text, form, base) in &ROWS {
         let pos = Position::new(1, 7);
-        assert!(rt; texts(OpAssignment::new_op_assignment(text, pos)) == *form, "{text}");
-        assert!(rt; texts(OpAssignment::new_op_assignment_from_base(text, pos)) == *base, "{text}");
+        assert!(rt;
+            texts(OpAssignment::new_op_assignment(text, pos)) == *form,
+            "{text}"
+        );
+        assert!(rt;
+            texts(OpAssignment::new_op_assignment_from_base(text, pos)) == *base,
+            "{text}"
+        );
     }
 }
 

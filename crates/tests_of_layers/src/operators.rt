@@ -23,26 +23,126 @@ const SUMS: [(INT, Token, INT, Option<INT>); 12] = [
 
 /// Values and what an operator answers.
 const ANSWERS: [(Sample, Token, Sample, Sample); 20] = [
-    (Sample::Int(1), Token::LessThanEqualsTo, Sample::Int(1), Sample::Bool(true)),
-    (Sample::Int(1), Token::LessThan, Sample::Int(1), Sample::Bool(false)),
-    (Sample::Int(2), Token::GreaterThan, Sample::Int(1), Sample::Bool(true)),
-    (Sample::Int(1), Token::GreaterThanEqualsTo, Sample::Int(2), Sample::Bool(false)),
-    (Sample::Text("B"), Token::LessThan, Sample::Text("a"), Sample::Bool(true)),
-    (Sample::Char('c'), Token::GreaterThanEqualsTo, Sample::Char('c'), Sample::Bool(true)),
-    (Sample::Unit, Token::EqualsTo, Sample::Unit, Sample::Bool(true)),
-    (Sample::Int(1), Token::EqualsTo, Sample::Text("a"), Sample::Bool(false)),
-    (Sample::Int(1), Token::NotEqualsTo, Sample::Text("a"), Sample::Bool(true)),
-    (Sample::Bool(true), Token::Ampersand, Sample::Bool(false), Sample::Bool(false)),
-    (Sample::Bool(true), Token::Pipe, Sample::Bool(false), Sample::Bool(true)),
-    (Sample::Bool(true), Token::XOr, Sample::Bool(true), Sample::Bool(false)),
-    (Sample::Text("a"), Token::Plus, Sample::Char('b'), Sample::Text("ab")),
-    (Sample::Char('b'), Token::Plus, Sample::Text("a"), Sample::Text("ba")),
-    (Sample::Char('b'), Token::Plus, Sample::Char('b'), Sample::Text("bb")),
-    (Sample::Text("a"), Token::Plus, Sample::Text("a"), Sample::Text("aa")),
-    (Sample::Int(1), Token::ExclusiveRange, Sample::Int(5), Sample::Range(1, 5)),
-    (Sample::Int(1), Token::InclusiveRange, Sample::Int(5), Sample::RangeInclusive(1, 5)),
-    (Sample::Int(1), Token::ExclusiveRange, Sample::Unit, Sample::Range(1, INT::MAX)),
-    (Sample::Unit, Token::InclusiveRange, Sample::Int(5), Sample::RangeInclusive(0, 5)),
+    (
+        Sample::Int(1),
+        Token::LessThanEqualsTo,
+        Sample::Int(1),
+        Sample::Bool(true),
+    ),
+    (
+        Sample::Int(1),
+        Token::LessThan,
+        Sample::Int(1),
+        Sample::Bool(false),
+    ),
+    (
+        Sample::Int(2),
+        Token::GreaterThan,
+        Sample::Int(1),
+        Sample::Bool(true),
+    ),
+    (
+        Sample::Int(1),
+        Token::GreaterThanEqualsTo,
+        Sample::Int(2),
+        Sample::Bool(false),
+    ),
+    (
+        Sample::Text("B"),
+        Token::LessThan,
+        Sample::Text("a"),
+        Sample::Bool(true),
+    ),
+    (
+        Sample::Char('c'),
+        Token::GreaterThanEqualsTo,
+        Sample::Char('c'),
+        Sample::Bool(true),
+    ),
+    (
+        Sample::Unit,
+        Token::EqualsTo,
+        Sample::Unit,
+        Sample::Bool(true),
+    ),
+    (
+        Sample::Int(1),
+        Token::EqualsTo,
+        Sample::Text("a"),
+        Sample::Bool(false),
+    ),
+    (
+        Sample::Int(1),
+        Token::NotEqualsTo,
+        Sample::Text("a"),
+        Sample::Bool(true),
+    ),
+    (
+        Sample::Bool(true),
+        Token::Ampersand,
+        Sample::Bool(false),
+        Sample::Bool(false),
+    ),
+    (
+        Sample::Bool(true),
+        Token::Pipe,
+        Sample::Bool(false),
+        Sample::Bool(true),
+    ),
+    (
+        Sample::Bool(true),
+        Token::XOr,
+        Sample::Bool(true),
+        Sample::Bool(false),
+    ),
+    (
+        Sample::Text("a"),
+        Token::Plus,
+        Sample::Char('b'),
+        Sample::Text("ab"),
+    ),
+    (
+        Sample::Char('b'),
+        Token::Plus,
+        Sample::Text("a"),
+        Sample::Text("ba"),
+    ),
+    (
+        Sample::Char('b'),
+        Token::Plus,
+        Sample::Char('b'),
+        Sample::Text("bb"),
+    ),
+    (
+        Sample::Text("a"),
+        Token::Plus,
+        Sample::Text("a"),
+        Sample::Text("aa"),
+    ),
+    (
+        Sample::Int(1),
+        Token::ExclusiveRange,
+        Sample::Int(5),
+        Sample::Range(1, 5),
+    ),
+    (
+        Sample::Int(1),
+        Token::InclusiveRange,
+        Sample::Int(5),
+        Sample::RangeInclusive(1, 5),
+    ),
+    (
+        Sample::Int(1),
+        Token::ExclusiveRange,
+        Sample::Unit,
+        Sample::Range(1, INT::MAX),
+    ),
+    (
+        Sample::Unit,
+        Token::InclusiveRange,
+        Sample::Int(5),
+        Sample::RangeInclusive(0, 5),
+    ),
 ];
 
 /// Values for which the table has no entry.
@@ -76,7 +176,10 @@ fn computes(alloc: Global, x: INT, op: &Token, y: INT, want: Option<INT>) -> Res
 fn answers_values(rt: HostRuntime) -> Result<(), Fail> {
     for (x, op, y, want) in &ANSWERS {
         let want = want.value(rt.alloc())?;
-        assert!(rt; answers(rt.alloc(), *x, op, *y, &want)?, "{x:?} {op:?} {y:?}");
+        assert!(rt;
+            answers(rt.alloc(), *x, op, *y, &want)?,
+            "{x:?} {op:?} {y:?}"
+        );
     }
     Ok(())
 }
@@ -103,7 +206,10 @@ fn answer(
 fn leaves_the_rest(rt: HostRuntime) -> Result<(), Fail> {
     for (x, op, y) in &LEFT {
         let x_value = x.value(rt.alloc())?;
-        assert!(rt; answer(rt.alloc(), &x_value, op, *y)?.is_none(), "{x:?} {op:?} {y:?}");
+        assert!(rt;
+            answer(rt.alloc(), &x_value, op, *y)?.is_none(),
+            "{x:?} {op:?} {y:?}"
+        );
     }
     Ok(())
 }

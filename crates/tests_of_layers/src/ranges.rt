@@ -26,10 +26,16 @@ const CLOSED: [(INT, INT, Option<INT>); 6] = [
 #[test]
 fn measures_ranges(rt: HostRuntime) {
     for (start, end, want) in &OPEN {
-        assert!(rt; is_measured(&RangeCase::from(*start..*end), *want), "{start}..{end}");
+        assert!(rt;
+            is_measured(&RangeCase::from(*start..*end), *want),
+            "{start}..{end}"
+        );
     }
     for (start, end, want) in &CLOSED {
-        assert!(rt; is_measured(&RangeCase::from(*start..=*end), *want), "{start}..={end}");
+        assert!(rt;
+            is_measured(&RangeCase::from(*start..=*end), *want),
+            "{start}..={end}"
+        );
     }
     assert!(rt; RangeCase::from(0..=9).len() == 10);
 }

@@ -6,12 +6,36 @@ use std::test::Fail;
 
 /// Each refusal with its number and its text.
 const ROWS: [(AstError, u8, &str); 6] = [
-    (AstError::NotAnOpAssignment, 2, "not an op-assignment operator"),
-    (AstError::NotABaseOperator, 3, "not an operator with an op-assignment form"),
-    (AstError::SwitchIndex, 4, "a switch names an arm past its table"),
-    (AstError::SwitchDefaultCondition, 5, "the default of a switch has a condition"),
-    (AstError::SwitchDefaultShared, 6, "the default of a switch is also the arm of a case"),
-    (AstError::SwitchKey, 7, "a case of a switch has a key that cannot be hashed"),
+    (
+        AstError::NotAnOpAssignment,
+        2,
+        "not an op-assignment operator",
+    ),
+    (
+        AstError::NotABaseOperator,
+        3,
+        "not an operator with an op-assignment form",
+    ),
+    (
+        AstError::SwitchIndex,
+        4,
+        "a switch names an arm past its table",
+    ),
+    (
+        AstError::SwitchDefaultCondition,
+        5,
+        "the default of a switch has a condition",
+    ),
+    (
+        AstError::SwitchDefaultShared,
+        6,
+        "the default of a switch is also the arm of a case",
+    ),
+    (
+        AstError::SwitchKey,
+        7,
+        "a case of a switch has a key that cannot be hashed",
+    ),
 ];
 
 #[test]

@@ -46,7 +46,10 @@ const UNKNOWN: [&str; 10] = [
 #[test]
 fn names_operators_and_their_forms(rt: HostRuntime) {
     for (op, text, form, form_text) in &FORMS {
-        assert!(rt; is_written(*op, text) && is_written(*form, form_text), "{text}");
+        assert!(rt;
+            is_written(*op, text) && is_written(*form, form_text),
+            "{text}"
+        );
         assert!(rt; is_form_of(*form, *op), "{text}");
     }
 }

@@ -114,7 +114,10 @@ fn is_other(alloc: Global, value: &Dynamic, other: Sample) -> Result<bool, Fail>
 #[test]
 fn tells_which_can_be_keys(rt: HostRuntime) -> Result<(), Fail> {
     for (sample, is_key) in &KEYS {
-        assert!(rt; sample.value(rt.alloc())?.is_hashable() == *is_key, "{sample:?}");
+        assert!(rt;
+            sample.value(rt.alloc())?.is_hashable() == *is_key,
+            "{sample:?}"
+        );
     }
     Ok(())
 }
