@@ -1,6 +1,6 @@
 -- Constants, their values, and the constant for a value.
 use Rattle.std.specs.Prelude.{Bool, true, false, List, [], ◌∷◌, Option, Some, None, codes, is_some}
-use Rattle.rhai_base.specs.Value.{Text, Value, UnitV, BoolV, IntV, CharV, TextV, ArrayV, PointerV, no_values, values}
+use Rattle.rhai_values.specs.Value.{Text, Value, UnitV, BoolV, IntV, CharV, TextV, ArrayV, PointerV, no_values, values}
 use Rattle.rhai_meaning.specs.ActForms.{truth}
 use Rattle.rhai_meaning.specs.Tree.{NoToken, Expr, DynamicConstant, BoolConstant, IntegerConstant, CharConstant, StringConstant, UnitConstant, ArrayOf, BlockExpr, FnCall, Exprs, no_exprs, expr}
 

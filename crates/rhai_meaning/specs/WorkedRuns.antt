@@ -1,7 +1,7 @@
 -- Worked runs of small scripts, computed from the definitions alone.
 use Rattle.std.specs.Prelude.{◌≡◌, ℕ, Bool, true, false, List, [], ◌∷◌, ◌++◌, None, pos, codes, refl}
 use Prim.Native.String.{String}
-use Rattle.rhai_base.specs.Value.{Text, Value, UnitV, BoolV, IntV, TextV, ArrayV, values, text_of}
+use Rattle.rhai_values.specs.Value.{Text, Value, UnitV, BoolV, IntV, TextV, ArrayV, values, text_of}
 use Rattle.rhai_base.specs.Operators.{Operator, Plus, Multiply, Divide, EqualTo, Not, symbol, computed}
 use Rattle.rhai_meaning.specs.Act.{HostCall, Host, Answer, Answers, AnswersThrow, WrongKind}
 use Rattle.rhai_meaning.specs.Desugar.{core_script}

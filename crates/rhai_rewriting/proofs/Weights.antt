@@ -1,6 +1,6 @@
 -- Each rewrite that sets the dirty flag lowers the weight, and none raises it.
 use Rattle.std.proofs.Common.{◌≡◌, ℕ, ◌+◌, ◌≤◌, Bool, true, false, [], Some, None, if◌then◌else◌, refl, ap, arith}
-use Rattle.rhai_base.specs.Value.{Value, UnitV, BoolV, IntV, CharV, TextV, ArrayV, MapV, PointerV, RangeV, RangeInclusiveV}
+use Rattle.rhai_values.specs.Value.{Value, UnitV, BoolV, IntV, CharV, TextV, ArrayV, MapV, PointerV, RangeV, RangeInclusiveV}
 use Rattle.rhai_base.specs.Operators.{Operator, Computed, NoEntry, computed}
 use Rattle.rhai_meaning.specs.Engine.{Engine, is_open}
 use Rattle.rhai_meaning.specs.Constants.{constant_for}

@@ -1,6 +1,6 @@
 -- The rewrite rules, one constructor each. The two flags are the dirty flag before and after.
 use Rattle.std.specs.Prelude.{◌≡◌, Bool, true, false, List, Some}
-use Rattle.rhai_base.specs.Value.{Value, ArrayV, values}
+use Rattle.rhai_values.specs.Value.{Value, ArrayV, values}
 use Rattle.rhai_meaning.specs.Engine.{Engine}
 use Rattle.rhai_meaning.specs.Constants.{constant_values, constant_bool, constant_for}
 use Rattle.rhai_meaning.specs.Queries.{is_block_dependent, is_any_dependent}

@@ -1,9 +1,9 @@
 -- The abstract record that an engine's record stands for.
 use Rattle.std.specs.Prelude.{Bool, false, not, ◌||◌, List, [], ◌∷◌, ◌++◌}
-use Rattle.rhai_base.specs.Value.{Text}
-use Rattle.rhai_parts.specs.declared.types.token.Token.{Token}
-use Rattle.rhai_parts.specs.Symbols.{token_text}
-use Rattle.rhai_parts.specs.Tokens.{makes_range}
+use Rattle.rhai_values.specs.Value.{Text}
+use Rattle.rhai_tokens.specs.declared.token.Token.{Token}
+use Rattle.rhai_tokens.specs.Symbols.{token_text}
+use Rattle.rhai_tokens.specs.Tokens.{makes_range}
 use Rattle.rhai_meaning.specs.Engine.{Engine, has_override}
 use Rattle.rhai_run.specs.declared.engine_info.EngineInfo.{EngineInfo}
 

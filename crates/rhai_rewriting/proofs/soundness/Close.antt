@@ -1,6 +1,6 @@
 -- An act that stays close to another: it follows it, and ends only where that one does. Each primitive keeps this.
 use Rattle.std.proofs.Common.{◌≡◌, ℕ, ◌+◌, ◌≤◌, Bool, List, [], ◌∷◌, ◌++◌, Option, refl, subst, arith}
-use Rattle.rhai_base.specs.Value.{Text, Value}
+use Rattle.rhai_values.specs.Value.{Text, Value}
 use Rattle.rhai_meaning.specs.Act.{HostCall, Answer, Store, World, Ending, Outcome, Ended, Result, ScriptCall, Act, Stop, Fail, Then, Turn, Read, Write, AskHost, Invoke, Loop, Scoped, Acts, Only, Do, Named, Finish, Env, leave, rounds, run, run_all}
 use Rattle.rhai_meaning.specs.Relations.{store_of}
 use Rattle.rhai_rewriting.proofs.soundness.Agreement.{agrees_keeps, agrees_shadow}

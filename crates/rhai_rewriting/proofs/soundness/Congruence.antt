@@ -1,6 +1,6 @@
 -- What is kept by each primitive act is kept by each construct.
 use Rattle.std.proofs.Common.{Bool, true, false, List, [], ◌∷◌, ◌++◌, length, Option, Some, None}
-use Rattle.rhai_base.specs.Value.{Text, Value, TextV, PointerV, items}
+use Rattle.rhai_values.specs.Value.{Text, Value, TextV, PointerV, items}
 use Rattle.rhai_base.specs.Operators.{Operator, Computed, NoEntry, Is, Overflows, symbol}
 use Rattle.rhai_meaning.specs.Engine.{built_in}
 use Rattle.rhai_meaning.specs.Act.{HostCall, Answer, Answers, AnswersThrow, World, Ending, Gives, Returns, Breaks, Continues, Throws, Again, Stuck, WrongKind, Root, ScriptCall, Act, Stop, Fail, Then, Turn, Read, Write, AskHost, Invoke, Loop, Scoped, Acts, Only, Do, Named, Finish}

@@ -1,6 +1,6 @@
 -- What the optimiser makes of a tree does what the tree does: by induction on the rules that it used.
 use Rattle.std.proofs.Common.{◌≡◌, ℕ, suc, Bool, true, false, cond, List, [], ◌∷◌, refl, sym, ap, ◌∙◌, subst}
-use Rattle.rhai_base.specs.Value.{Value, UnitV, ArrayV, values}
+use Rattle.rhai_values.specs.Value.{Value, UnitV, ArrayV, values}
 use Rattle.rhai_meaning.specs.Act.{World, Act, Acts, Only, Env}
 use Rattle.rhai_meaning.specs.ActForms.{give}
 use Rattle.rhai_meaning.specs.Calls.{called}

@@ -1,6 +1,6 @@
 -- Soundness passes through every primitive act, and so through the short forms.
 use Rattle.std.proofs.Common.{ℕ, Bool, List}
-use Rattle.rhai_base.specs.Value.{Value}
+use Rattle.rhai_values.specs.Value.{Value}
 use Rattle.rhai_meaning.specs.Act.{World, Act, Acts, Env}
 use Rattle.rhai_meaning.specs.ActForms.{◌>>=◌, if_true, then_line}
 use Rattle.rhai_rewriting.specs.Known.{Known}

@@ -1,6 +1,6 @@
 -- Lists, closed at their end: a whole one by its return, an inside one by taking its names away.
 use Rattle.std.proofs.Common.{◌≡◌, ℕ, List, refl, sym}
-use Rattle.rhai_base.specs.Value.{Value}
+use Rattle.rhai_values.specs.Value.{Value}
 use Rattle.rhai_meaning.specs.Act.{World, Store, Ending, Gives, Returns, Breaks, Continues, Throws, Again, Ended, Halted, Result, At, Act, Then, Scoped, Acts, Do, Finish, Env, and_then, returned, run, run_all}
 use Rattle.rhai_meaning.specs.ActForms.{each_value, then_line}
 use Rattle.rhai_rewriting.specs.Known.{Known}

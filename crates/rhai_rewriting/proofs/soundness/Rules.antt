@@ -1,6 +1,6 @@
 -- Each rule by itself: what it makes of a node does what the node does. A lemma has the name of its rule.
 use Rattle.std.proofs.Common.{◌≡◌, ℕ, Bool, true, false, List, Option, Some, None, refl, sym, ap, ◌∙◌, subst}
-use Rattle.rhai_base.specs.Value.{Value, UnitV, ArrayV, values}
+use Rattle.rhai_values.specs.Value.{Value, UnitV, ArrayV, values}
 use Rattle.rhai_meaning.specs.Act.{World, Store, Gives, Returns, Breaks, Continues, Throws, Again, WrongKind, Ended, Halted, Result, At, Act, Scoped, Acts, Only, Env, and_then, run, run_all}
 use Rattle.rhai_meaning.specs.ActForms.{give, unit, value_then, ◌>>=◌, truth, branch, if_true, each_value, then_line}
 use Rattle.rhai_meaning.specs.Constants.{array_value, constant_value, constant_values, constant_bool, constant_for}

@@ -1,6 +1,6 @@
 -- Names that are taken away: a list under a name, and acts before it.
 use Rattle.std.proofs.Common.{◌≡◌, ℕ, ◌-◌, length, drop, Bool, List, ◌∷◌, refl, sym, ap, ◌∙◌}
-use Rattle.rhai_base.specs.Value.{Text, Value}
+use Rattle.rhai_values.specs.Value.{Text, Value}
 use Rattle.rhai_meaning.specs.Act.{World, ScopeEntry, Store, Ending, Ended, Halted, Result, At, Scoped, Acts, Only, Named, Env, and_then, leave, run, run_all}
 use Rattle.rhai_meaning.specs.Relations.{store_of}
 use Rattle.rhai_meaning.proofs.Relations.{Keeps, Grows}

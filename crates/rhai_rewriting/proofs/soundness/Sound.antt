@@ -1,6 +1,6 @@
 -- Sound: an act that stays close to another at every depth. Each primitive keeps this.
 use Rattle.std.proofs.Common.{◌≡◌, ℕ, Bool, List, Option, refl, subst, arith}
-use Rattle.rhai_base.specs.Value.{Text, Value}
+use Rattle.rhai_values.specs.Value.{Text, Value}
 use Rattle.rhai_meaning.specs.Act.{HostCall, Answer, Store, World, Ending, Stuck, IsStuck, Halted, Result, At, ScriptCall, Act, Then, Turn, AskHost, Invoke, Loop, Scoped, Acts, Only, Do, Named, Finish, Env, run, run_all}
 use Rattle.rhai_meaning.specs.Relations.{Begins, calls_of}
 use Rattle.rhai_meaning.proofs.Relations.{Follows, short, AnyHalt}

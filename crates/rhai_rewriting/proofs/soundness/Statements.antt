@@ -1,6 +1,6 @@
 -- A statement that may stand for another, before what asks for its value or before what doesn't.
 use Rattle.std.proofs.Common.{ℕ, Bool, true, false, List}
-use Rattle.rhai_base.specs.Value.{Value}
+use Rattle.rhai_values.specs.Value.{Value}
 use Rattle.rhai_meaning.specs.Act.{World, Acts, Env}
 use Rattle.rhai_meaning.specs.Core.{Deed, Stmt, Does}
 use Rattle.rhai_meaning.specs.Meaning.{deed, line}

@@ -1,6 +1,6 @@
 -- A well-formed tree stays well-formed.
 use Rattle.std.proofs.Common.{◌≡◌, Bool, true, false, refl, subst}
-use Rattle.rhai_base.specs.Value.{Value, UnitV, BoolV, IntV, CharV, TextV, ArrayV, MapV, PointerV, RangeV, RangeInclusiveV, no_values, item}
+use Rattle.rhai_values.specs.Value.{Value, UnitV, BoolV, IntV, CharV, TextV, ArrayV, MapV, PointerV, RangeV, RangeInclusiveV, no_values, item}
 use Rattle.rhai_meaning.specs.Constants.{constant_for}
 use Rattle.rhai_meaning.specs.Faults.{has_token, IsWellFormedExpr, AreWellFormedExprs, IsWellFormed, AreWellFormed}
 use Rattle.rhai_meaning.specs.Tree.{Callee, Expr, Exprs, count_exprs, Stmt, Block, Stmts, no_stmts, stmt, joined}

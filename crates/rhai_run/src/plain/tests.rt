@@ -1,9 +1,9 @@
 //! What a run takes from outside: the start scope, the turns, and what a host throws. The runs of scripts are tested with
 //! the program, before and after the optimiser.
-#![tactic(auto, using(rhai_base::specs::Reading::kinds))]
+#![tactic(auto, using(rhai_values::specs::Reading::kinds))]
 
 ghost use Rattle.std.specs.Prelude.{[], ◌∷◌, codes, pos};
-ghost use Rattle.rhai_base.specs.Value.{IntV};
+ghost use Rattle.rhai_values.specs.Value.{IntV};
 ghost use Rattle.rhai_meaning.specs.Act.{AnswersThrow};
 
 use crate::{EngineInfo, Host, HostAnswer, HostCall, RunEnd, plain_run};
