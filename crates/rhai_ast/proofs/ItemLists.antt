@@ -1,7 +1,7 @@
 -- Lists of trees, item by item, for a loop that goes over one.
 use Rattle.std.proofs.Common.{◌≡◌, ℕ, ◌+◌, ◌<◌, ◌&&◌, List, Option, Some, None, is_some, length, get_or, drop, refl, add-one, ap}
 use Rattle.std.proofs.Math.Seq.{drop-cons, drop-length}
-use Rattle.rhai_base.specs.Value.{Value}
+use Rattle.rhai_values.specs.Value.{Value}
 use Rattle.rhai_ast.specs.declared.ast.expr.Expr.{Expr}
 use Rattle.rhai_ast.specs.declared.ast.stmt.Stmt.{Stmt}
 use Rattle.rhai_meaning.specs.Constants.{array_value, value_and}

@@ -1,8 +1,8 @@
 -- Expressions for pointers.
 use Rattle.std.proofs.Common.{◌≡◌, ◌≢◌, List, [], ◌∷◌, map, refl, ap}
-use Rattle.rhai_base.specs.declared.types.dynamic.Dynamic.{Dynamic}
-use Rattle.rhai_base.specs.Value.{Text, PointerV, values}
-use Rattle.rhai_base.specs.Reading.{value_of}
+use Rattle.rhai_values.specs.declared.dynamic.Dynamic.{Dynamic}
+use Rattle.rhai_values.specs.Value.{Text, PointerV, values}
+use Rattle.rhai_values.specs.Reading.{value_of}
 use Rattle.rhai_meaning.specs.Constants.{constant_for, pointer_call}
 use Rattle.rhai_meaning.specs.Tree.{DynamicConstant}
 

@@ -1,12 +1,13 @@
 -- The tree that a declared tree stands for.
 use Rattle.std.specs.Prelude.{◌≡◌, ℕ, ℤ, Bool, List, map, Option, Some, None}
 use Rattle.std.proofs.Common.{sym, ap, ◌∙◌, subst}
-use Rattle.rhai_base.specs.declared.types.dynamic.Dynamic.{Dynamic}
-use Rattle.rhai_parts.specs.declared.types.position.Position.{Position}
-use Rattle.rhai_parts.specs.declared.types.token.Token.{Token}
-use Rattle.rhai_base.specs.Value.{Text}
+use Rattle.rhai_values.specs.declared.dynamic.Dynamic.{Dynamic}
+use Rattle.rhai_tokens.specs.declared.position.Position.{Position}
+use Rattle.rhai_tokens.specs.declared.token.Token.{Token}
+use Rattle.rhai_values.specs.Value.{Text}
 use Rattle.rhai_base.specs.Operators.{Operator}
-use Rattle.rhai_base.specs.Reading.{value_of, operator_of}
+use Rattle.rhai_values.specs.Reading.{value_of}
+use Rattle.rhai_base.specs.Builtin.{operator_of}
 use Rattle.rhai_ast.specs.declared.ast.expr.Expr as declared_expr
 use Rattle.rhai_ast.specs.declared.ast.expr.Expr.TheOpen as open_one
 use Rattle.rhai_ast.specs.declared.ast.expr.Expr.TheViews as views

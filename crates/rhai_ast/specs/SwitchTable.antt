@@ -1,14 +1,14 @@
 -- Which tables of a `switch` are refused, and why.
 use Rattle.std.specs.Prelude.{ℕ, Bool, true, false, ◌&&◌, ◌||◌, ◌==◌, nat_lt, List, Option, Some, None, length, slice_get, if◌then◌else◌}
 use Rattle.std.specs.List.{list_all, list_any}
-use Rattle.rhai_base.specs.declared.types.dynamic.Dynamic.{Dynamic}
-use Rattle.rhai_base.specs.Value.{is_hashable}
-use Rattle.rhai_base.specs.Reading.{value_of}
-use Rattle.rhai_parts.specs.declared.error.AstError.{AstError}
-use Rattle.rhai_parts.specs.declared.error.AstError.TheVariants.{SwitchIndex, SwitchDefaultCondition, SwitchDefaultShared, SwitchKey}
+use Rattle.rhai_values.specs.declared.dynamic.Dynamic.{Dynamic}
+use Rattle.rhai_values.specs.Value.{is_hashable}
+use Rattle.rhai_values.specs.Reading.{value_of}
+use Rattle.rhai_tokens.specs.declared.error.AstError.{AstError}
+use Rattle.rhai_tokens.specs.declared.error.AstError.TheVariants.{SwitchIndex, SwitchDefaultCondition, SwitchDefaultShared, SwitchKey}
 use Rattle.rhai_ast.specs.declared.ast.expr.BinaryExpr.{BinaryExpr}
 use Rattle.rhai_ast.specs.declared.ast.switch.CaseBlocksList.{CaseBlocksList}
-use Rattle.rhai_base.specs.declared.eval.switch.RangeCase.{RangeCase}
+use Rattle.rhai_base.specs.declared.range_case.RangeCase.{RangeCase}
 use Rattle.rhai_base.specs.Ranges.{index_of}
 use Rattle.rhai_meaning.specs.Tree.{Expr, BoolConstant}
 use Rattle.rhai_ast.specs.Reading.{expr_of}

@@ -1,10 +1,5 @@
-pub mod Forms
 pub mod Rows
 pub mod Differing
 pub mod Upward
 pub mod RangeCases
-pub mod Hashable
-pub mod Exact
-pub mod Recovered
-pub mod Same
 pub mod Ranges

@@ -8,13 +8,13 @@ use Rattle.std.specs.Range.{range_inclusive_start, range_inclusive_end, range_in
 use Rattle.std.specs.declared.ops.Range.{Range}
 use Rattle.std.specs.declared.ops.RangeInclusive.{RangeInclusive}
 use Rattle.std.proofs.lemmas.Int.{ints}
-use Rattle.rhai_base.specs.declared.eval.switch.RangeCase.{RangeCase}
-use Rattle.rhai_base.specs.declared.eval.switch.RangeCase.TheVariants.{ExclusiveInt, InclusiveInt}
-use Rattle.rhai_base.specs.declared.types.dynamic.Dynamic.{Dynamic}
-use Rattle.rhai_base.specs.declared.types.dynamic.Dynamic.TheVariants as dynamic
-use Rattle.rhai_base.specs.declared.eval.switch.RangeCaseIter.{RangeCaseIter}
+use Rattle.rhai_base.specs.declared.range_case.RangeCase.{RangeCase}
+use Rattle.rhai_base.specs.declared.range_case.RangeCase.TheVariants.{ExclusiveInt, InclusiveInt}
+use Rattle.rhai_values.specs.declared.dynamic.Dynamic.{Dynamic}
+use Rattle.rhai_values.specs.declared.dynamic.Dynamic.TheVariants as dynamic
+use Rattle.rhai_base.specs.declared.range_case.RangeCaseIter.{RangeCaseIter}
 use Rattle.rhai_base.specs.Ranges.{left, holds_value, numbers, AreNumbersOf}
-use Rattle.rhai_base.specs.Reading.{value_of, kinds, DynamicCase, int_case}
+use Rattle.rhai_values.specs.Reading.{value_of, kinds, DynamicCase, int_case}
 use Rattle.rhai_base.specs.Upward.{upward}
 use Rattle.rhai_base.proofs.Upward.{some_upward, gap_above, checked_is, length_is, len_closed, rising, within, contained, taken_open, one_taken}
 

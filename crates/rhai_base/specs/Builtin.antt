@@ -3,14 +3,40 @@ use Rattle.std.specs.Prelude.{Option, Some, None, Result, Ok, Err, ℤ, pos, Boo
 use Rattle.std.specs.declared.cmp.Ordering.{Ordering}
 use Rattle.std.specs.Ordering.{nat_cmp, is_eq, is_lt, is_le, is_gt, is_ge}
 use Rattle.std.specs.Cmp.Lexicographic.{slice_cmp}
-use Rattle.rhai_base.specs.declared.types.dynamic.Dynamic.{Dynamic}
-use Rattle.rhai_parts.specs.declared.types.token.Token.{Token}
-use Rattle.rhai_parts.specs.declared.types.token.Token.TheVariants as token
-use Rattle.rhai_parts.specs.declared.error.Fault.{Fault}
-use Rattle.rhai_parts.specs.declared.error.Fault.TheVariants.{Arithmetic}
-use Rattle.rhai_base.specs.Value.{Value, UnitV, BoolV, IntV, CharV, TextV, RangeV, RangeInclusiveV, same_text, type_name}
-use Rattle.rhai_base.specs.Operators.{Operator, EqualTo, NotEqualTo, Less, LessOrEqual, Greater, GreaterOrEqual, UpTo, Through, greatest, Computed, NoEntry, Is, Overflows, is_bool, on_ints, on_bools, binary, unary}
-use Rattle.rhai_base.specs.Reading.{value_of, operator_of}
+use Rattle.rhai_values.specs.declared.dynamic.Dynamic.{Dynamic}
+use Rattle.rhai_tokens.specs.declared.token.Token.{Token}
+use Rattle.rhai_tokens.specs.declared.token.Token.TheVariants as token
+use Rattle.rhai_tokens.specs.declared.error.Fault.{Fault}
+use Rattle.rhai_tokens.specs.declared.error.Fault.TheVariants.{Arithmetic}
+use Rattle.rhai_values.specs.Value.{Value, UnitV, BoolV, IntV, CharV, TextV, RangeV, RangeInclusiveV, same_text, type_name}
+use Rattle.rhai_base.specs.Operators.{Operator, Plus, Minus, Multiply, Divide, Modulo, Power, ShiftLeft, ShiftRight, BitAnd, BitOr, BitXor, EqualTo, NotEqualTo, Less, LessOrEqual, Greater, GreaterOrEqual, UpTo, Through, Not, Negative, Positive, greatest, Computed, NoEntry, Is, Overflows, is_bool, on_ints, on_bools, binary, unary}
+use Rattle.rhai_values.specs.Reading.{value_of}
+
+-- the operator that a token stands for, if any
+abbrev pub operator_of : Token → Option Operator
+operator_of token.Plus = Some Plus
+operator_of token.UnaryPlus = Some Positive
+operator_of token.Minus = Some Minus
+operator_of token.UnaryMinus = Some Negative
+operator_of token.Multiply = Some Multiply
+operator_of token.Divide = Some Divide
+operator_of token.Modulo = Some Modulo
+operator_of token.PowerOf = Some Power
+operator_of token.LeftShift = Some ShiftLeft
+operator_of token.RightShift = Some ShiftRight
+operator_of token.Ampersand = Some BitAnd
+operator_of token.Pipe = Some BitOr
+operator_of token.XOr = Some BitXor
+operator_of token.EqualsTo = Some EqualTo
+operator_of token.NotEqualsTo = Some NotEqualTo
+operator_of token.LessThan = Some Less
+operator_of token.LessThanEqualsTo = Some LessOrEqual
+operator_of token.GreaterThan = Some Greater
+operator_of token.GreaterThanEqualsTo = Some GreaterOrEqual
+operator_of token.ExclusiveRange = Some UpTo
+operator_of token.InclusiveRange = Some Through
+operator_of token.Bang = Some Not
+operator_of _ = None
 
 -- what an answer says of the table
 abbrev pub computed_of : Option (Result Dynamic Fault) → Computed

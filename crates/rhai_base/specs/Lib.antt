@@ -1,6 +1,4 @@
-pub mod Value
 pub mod Operators
-pub mod Reading
 pub mod Builtin
 pub mod Ranges
 pub mod Upward

@@ -2,11 +2,11 @@
 use Rattle.std.specs.Prelude.{◌≡◌, ◌↔◌, ℕ, Bool, true, false, not, ◌&&◌, IsTrue, List, ℤ, ◌<ℤ◌, int_lt, int_le, Contains, AllPairs}
 use Rattle.std.specs.Int.{int_gap}
 use Rattle.std.specs.Range.{range_inclusive_start, range_inclusive_end, range_inclusive_exhausted, range_inclusive_left}
-use Rattle.rhai_base.specs.declared.eval.switch.RangeCase.{RangeCase}
-use Rattle.rhai_base.specs.declared.eval.switch.RangeCase.TheVariants.{ExclusiveInt, InclusiveInt}
-use Rattle.rhai_base.specs.declared.eval.switch.RangeCaseIter.{RangeCaseIter}
+use Rattle.rhai_base.specs.declared.range_case.RangeCase.{RangeCase}
+use Rattle.rhai_base.specs.declared.range_case.RangeCase.TheVariants.{ExclusiveInt, InclusiveInt}
+use Rattle.rhai_base.specs.declared.range_case.RangeCaseIter.{RangeCaseIter}
 use Rattle.rhai_base.specs.Upward.{upward}
-use Rattle.rhai_base.specs.Value.{Value, IntV}
+use Rattle.rhai_values.specs.Value.{Value, IntV}
 
 -- the integer is in the range; a range that was iterated over to its end holds none
 abbrev pub holds : RangeCase → ℤ → Bool

@@ -1,15 +1,13 @@
-//! Script values, operators, ranges and scopes; and, passed on, the parts of a syntax tree that hold no value.
+//! Operators that need no engine, and ranges; and, passed on, values, names, tokens and lists.
 #![tactic(auto)]
 
-pub mod eval;
-pub mod func;
-pub mod types;
+mod builtin;
+mod range_case;
+mod range_operators;
 
-pub use eval::{RangeCase, RangeCaseIter};
-pub use func::{builtin_binary_op, builtin_unary_op};
+pub use builtin::{builtin_binary_op, builtin_unary_op};
+pub use range_case::{RangeCase, RangeCaseIter};
 pub use rhai_data::{Boxed, ImmutableString, Rest, Seq, StringMap};
-pub use rhai_parts::{
-    ASTFlags, AstError, Fault, FnName, Ident, Namespace, OpAssignment, OutOfMemory, Position, Span,
-    Token,
-};
-pub use types::{Dynamic, FnPtr, INT, Scope, ScopeEntry, ScopeIter};
+pub use rhai_parts::{ASTFlags, FnName, Ident, Namespace};
+pub use rhai_tokens::{AstError, Fault, OpAssignment, OutOfMemory, Position, Span, Token};
+pub use rhai_values::{Dynamic, FnPtr, INT, Scope, ScopeEntry, ScopeIter};

@@ -118,27 +118,3 @@ impl<V: Hash> Hash for StringMap<V> {
         self.map.hash(state);
     }
 }
-
-#[cfg(test)]
-mod tests {
-    use super::*;
-    use std::test::Fail;
-
-    #[test]
-    fn keeps_entries_in_order(rt: HostRuntime) -> Result<(), Fail> {
-        let alloc = rt.alloc();
-        let mut members = StringMap::new(alloc);
-        for (key, value) in [("b", 1u8), ("a", 2), ("b", 3)] {
-            members.insert(ImmutableString::new(alloc, key)?, value)?;
-        }
-        assert_eq!(rt; members.len(), 2);
-        let mut entries = members.iter();
-        let first = entries.next().ok_or("a")?;
-        assert_eq!(rt; (first.0.as_str(), *first.1), ("a", 2));
-        let second = entries.next().ok_or("b")?;
-        assert_eq!(rt; (second.0.as_str(), *second.1), ("b", 3));
-        assert_eq!(rt; members.clone()?, members);
-        assert_eq!(rt; members.emptied()?.len(), 0);
-        Ok(())
-    }
-}

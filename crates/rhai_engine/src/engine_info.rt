@@ -2,7 +2,7 @@
 ghost use Rattle.std.specs.Prelude.{◌≡◌, [], ◌∷◌, map, false, IfOk, OnOk, OnErr};
 ghost use Rattle.std.specs.Map.Iter.{deref};
 ghost use Rattle.rhai_base.specs.Builtin.{answered, computed_of};
-ghost use Rattle.rhai_base.specs.Reading.{value_of};
+ghost use Rattle.rhai_values.specs.Reading.{value_of};
 ghost use Rattle.rhai_meaning.specs.Engine.{has_override, same_texts};
 ghost use Rattle.rhai_engine.specs.Override.{is_override};
 

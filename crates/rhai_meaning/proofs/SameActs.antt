@@ -1,6 +1,6 @@
 -- What a script means doesn't depend on what a host answers: worlds that differ in that alone make the same acts of it.
 use Rattle.std.proofs.Common.{◌≡◌, Bool, true, List, [], ◌∷◌, refl}
-use Rattle.rhai_base.specs.Value.{Text, Value, UnitV, PointerV}
+use Rattle.rhai_values.specs.Value.{Text, Value, UnitV, PointerV}
 use Rattle.rhai_meaning.specs.Engine.{Engine}
 use Rattle.rhai_meaning.specs.Act.{Host, Key, World, Act, Then, Scoped, Acts, Do, Finish}
 use Rattle.rhai_meaning.specs.ActForms.{value_then, each_value, if_true}

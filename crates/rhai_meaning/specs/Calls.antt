@@ -1,6 +1,6 @@
 -- Calls: operators, the language's own functions, script functions and the host.
 use Rattle.std.specs.Prelude.{ℕ, Bool, true, false, ◌&&◌, ◌||◌, List, [], ◌∷◌, ◌++◌, length, Option, Some, None, cond, codes, ◌==◌}
-use Rattle.rhai_base.specs.Value.{Text, Value, BoolV, TextV, PointerV, items, values, same_text}
+use Rattle.rhai_values.specs.Value.{Text, Value, BoolV, TextV, PointerV, items, values, same_text}
 use Rattle.rhai_base.specs.Operators.{Operator, Computed, NoEntry, Is, Overflows, symbol}
 use Rattle.rhai_meaning.specs.Engine.{built_in, mapped_type_name}
 use Rattle.rhai_meaning.specs.Act.{WrongKind, Key, World, Act, Fail, Invoke}

@@ -1,6 +1,6 @@
 -- From trees to their core: each test of a node is made here, once.
 use Rattle.std.specs.Prelude.{ℕ, cond, map}
-use Rattle.rhai_base.specs.Value.{UnitV, BoolV, IntV, CharV, TextV}
+use Rattle.rhai_values.specs.Value.{UnitV, BoolV, IntV, CharV, TextV}
 use Rattle.rhai_meaning.specs.Tree as tree
 use Rattle.rhai_meaning.specs.Core.{Callee, OnOperator, ByName, Expr, Ill, Constant, ArrayOf, BlockExpr, FnCall, Exprs, no_exprs, expr, Noop, If, Block, Evaluate, Stmt, Does, Stmts, no_stmts, stmt, Function, Script}
 use Rattle.rhai_meaning.specs.Faults.{is_unit, is_callable}

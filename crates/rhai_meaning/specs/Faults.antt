@@ -1,6 +1,6 @@
 -- Which nodes have a meaning, and which trees are well-formed: tests that run nothing.
 use Rattle.std.specs.Prelude.{◌≡◌, ℕ, Bool, true, false, not, ◌&&◌, ◌==◌}
-use Rattle.rhai_base.specs.Value.{Value, UnitV, same_text}
+use Rattle.rhai_values.specs.Value.{Value, UnitV, same_text}
 use Rattle.rhai_base.specs.Operators.{symbol, arity}
 use Rattle.rhai_parts.specs.Names.{is_among, symbols, barred}
 use Rattle.rhai_meaning.specs.Tree.{CallToken, NoToken, OfOperator, OfOther, Callee, Expr, DynamicConstant, FnCall, Exprs, count_exprs, Stmt, FnCallStmt, Stmts}

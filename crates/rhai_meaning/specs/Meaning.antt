@@ -1,6 +1,6 @@
 -- What scripts do: the act of each construct, by recursion on the core alone.
 use Rattle.std.specs.Prelude.{Bool, true, false, List, [], ◌∷◌}
-use Rattle.rhai_base.specs.Value.{Value, UnitV, ArrayV, values}
+use Rattle.rhai_values.specs.Value.{Value, UnitV, ArrayV, values}
 use Rattle.rhai_meaning.specs.Act.{WrongKind, World, Act, Fail, Scoped, Acts, Only}
 use Rattle.rhai_meaning.specs.Core.{Expr, Ill, Constant, ArrayOf, BlockExpr, FnCall, Exprs, no_exprs, expr, Deed, Noop, If, Block, Evaluate, Stmt, Does, Stmts, no_stmts, stmt}
 use Rattle.rhai_meaning.specs.ActForms.{give, unit, if_true, ◌>>=◌, then_line}

@@ -1,6 +1,6 @@
 -- What may be asked of a tree.
 use Rattle.std.specs.Prelude.{Bool, true, false, ◌&&◌, ◌||◌, codes}
-use Rattle.rhai_base.specs.Value.{same_text}
+use Rattle.rhai_values.specs.Value.{same_text}
 use Rattle.rhai_meaning.specs.Tree.{Callee, Expr, BlockExpr, FnCall, Stmt, ExprStmt, FnCallStmt, Stmts, no_stmts, stmt}
 
 abbrev pub is_eval : Callee → Bool

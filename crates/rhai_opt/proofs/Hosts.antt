@@ -1,9 +1,9 @@
 -- What the program's host answers where arguments are too few or too many, and what it appends to an array.
 use Rattle.std.proofs.Common.{◌≡◌, ◌<◌, ◌≤◌, List, [], ◌∷◌, ◌++◌, Some, length, map, refl, ap, arith}
-use Rattle.rhai_base.specs.Value.{Value, UnitV, ArrayV, item, items, values}
-use Rattle.rhai_base.specs.declared.types.dynamic.Dynamic.{Dynamic}
-use Rattle.rhai_base.specs.declared.types.dynamic.Dynamic.TheVariants as dynamic
-use Rattle.rhai_base.specs.Reading.{value_of, value_of-Unit, value_of-Array}
+use Rattle.rhai_values.specs.Value.{Value, UnitV, ArrayV, item, items, values}
+use Rattle.rhai_values.specs.declared.dynamic.Dynamic.{Dynamic}
+use Rattle.rhai_values.specs.declared.dynamic.Dynamic.TheVariants as dynamic
+use Rattle.rhai_values.specs.Reading.{value_of, value_of-Unit, value_of-Array}
 use Rattle.rhai_meaning.specs.Act.{Answers}
 use Rattle.rhai_opt.specs.Host.{joined_texts, pushed, appended, unit_alone}
 

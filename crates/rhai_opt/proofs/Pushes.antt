@@ -1,8 +1,8 @@
 -- What a text holds after several pushes.
 use Rattle.std.proofs.Common.{◌≡◌, ℕ, ◌+◌, ◌<◌, false, ◌==◌, List, [], ◌∷◌, ◌++◌, codes, length, get_or, drop, refl, ap, ◌∙◌, sym, append_assoc, add-one}
 use Rattle.std.proofs.Math.Seq.{drop-cons, drop-length}
-use Rattle.rhai_base.specs.Value.{Text}
-use Rattle.rhai_parts.specs.declared.types.position.Position.{Position}
+use Rattle.rhai_values.specs.Value.{Text}
+use Rattle.rhai_tokens.specs.declared.position.Position.{Position}
 use Rattle.rhai_ast.specs.declared.ast.expr.FnCallExpr.{FnCallExpr}
 use Rattle.rhai_ast.specs.declared.ast.stmt.Stmt.{Stmt}
 use Rattle.rhai_ast.specs.declared.ast.stmt.Stmt.TheVariants as stmt_kind

@@ -1,7 +1,7 @@
 -- What `run` prints.
 use Rattle.std.proofs.Common.{◌≡◌, ℕ, List, [], ◌++◌, ap, ◌∙◌}
-use Rattle.rhai_base.specs.Value.{Text}
-use Rattle.rhai_base.specs.declared.types.scope.ScopeEntry.{ScopeEntry}
+use Rattle.rhai_values.specs.Value.{Text}
+use Rattle.rhai_values.specs.declared.scope.ScopeEntry.{ScopeEntry}
 use Rattle.rhai_meaning.specs.Desugar.{core_script}
 use Rattle.rhai_meaning.specs.Engine.{Engine}
 use Rattle.rhai_meaning.specs.Run.{AtStatements, Report, report_of, run_script}

@@ -3,7 +3,7 @@ use Rattle.std.proofs.Common.{◌≡◌, ◌≢◌, List, [], ◌++◌, codes, m
 use Rattle.std.specs.declared.alloc.Global.{Global}
 use Rattle.std.specs.declared.rc.Rc.{Rc}
 use Rattle.std.specs.Rc.{rc_value}
-use Rattle.rhai_base.specs.Value.{Text}
+use Rattle.rhai_values.specs.Value.{Text}
 use Rattle.rhai_meaning.specs.Engine.{Engine}
 use Rattle.rhai_meaning.specs.Tree.{Stmts, Script, Function}
 use Rattle.rhai_ast.specs.Reading.{stmts_of}

@@ -1,6 +1,6 @@
 -- How a tree is printed. Two trees may print alike.
 use Rattle.std.specs.Prelude.{List, [], ◌∷◌, ◌++◌, Option, Some, None, codes, if◌then◌else◌}
-use Rattle.rhai_base.specs.Value.{Text, UnitV, BoolV, IntV, CharV, TextV, inner}
+use Rattle.rhai_values.specs.Value.{Text, UnitV, BoolV, IntV, CharV, TextV, inner}
 use Rattle.rhai_meaning.specs.Tree.{Callee, Expr, DynamicConstant, BoolConstant, IntegerConstant, CharConstant, StringConstant, UnitConstant, ArrayOf, BlockExpr, FnCall, Exprs, no_exprs, expr, Stmt, Noop, If, Block, ExprStmt, FnCallStmt, Stmts, no_stmts, stmt, Function, Script}
 
 -- what is called; an operator by its symbol

@@ -1,6 +1,6 @@
 -- The built-in scripts.
 use Rattle.std.specs.Prelude.{List, [], ◌∷◌, ℤ, pos, Option, Some, None, codes, false, if◌then◌else◌}
-use Rattle.rhai_base.specs.Value.{Text, same_text}
+use Rattle.rhai_values.specs.Value.{Text, same_text}
 use Rattle.rhai_base.specs.Operators.{Operator, Plus, Divide, EqualTo, symbol}
 use Rattle.rhai_meaning.specs.Tree.{CallToken, OfOperator, Expr, IntegerConstant, FnCall, no_exprs, expr, Stmts, no_stmts, stmt, If, ExprStmt}
 use Rattle.rhai_opt.specs.declared.scripts.BuiltinScript.{BuiltinScript}

@@ -1,5 +1,5 @@
 //! Scripts before and after the optimiser: what they become in print, and that both run alike.
-#![tactic(auto, using(rhai_base::specs::Reading::kinds))]
+#![tactic(auto, using(rhai_values::specs::Reading::kinds))]
 
 mod table;
 
@@ -190,7 +190,7 @@ fn other_overrides_and_fast_operators_ask_nothing(rt: HostRuntime) -> Result<(),
 struct Throws;
 
 impl Host for Throws {
-    ghost use Rattle.rhai_base.specs.Value.{TextV};
+    ghost use Rattle.rhai_values.specs.Value.{TextV};
     ghost use Rattle.rhai_meaning.specs.Act.{AnswersThrow};
     ghost use Rattle.std.specs.Prelude.{[]};
 

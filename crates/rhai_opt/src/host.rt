@@ -1,10 +1,10 @@
 //! The program's host.
-#![tactic(auto, using(rhai_base::specs::Reading::kinds))]
+#![tactic(auto, using(rhai_values::specs::Reading::kinds))]
 
 ghost use Rattle.std.specs.Prelude.{◌≡◌, ◌++◌, [], IfOk, None, map};
 ghost use Rattle.std.specs.Option.{option_map};
-ghost use Rattle.rhai_base.specs.Reading.{value_of};
-ghost use Rattle.rhai_base.specs.Value.{TextV, text_of};
+ghost use Rattle.rhai_values.specs.Reading.{value_of};
+ghost use Rattle.rhai_values.specs.Value.{TextV, text_of};
 ghost use Rattle.rhai_meaning.specs.Act.{Answers};
 ghost use Rattle.rhai_run.specs.Host.{answer_meant};
 ghost use Rattle.rhai_opt.specs.Host as spec;

@@ -1,9 +1,9 @@
 //! Trees in a notation for reading. A refused call can leave a part of what it appends.
-#![tactic(auto, using(rhai_ast::specs::Reading::shapes, rhai_base::specs::Reading::kinds, rhai_ast::proofs::ItemLists::steps, crate::proofs::Pushes::name_lists))]
+#![tactic(auto, using(rhai_ast::specs::Reading::shapes, rhai_values::specs::Reading::kinds, rhai_ast::proofs::ItemLists::steps, crate::proofs::Pushes::name_lists))]
 
 ghost use Rattle.std.specs.Prelude.{◌≡◌, ◌++◌, [], OnOk, codes, string_bytes};
-ghost use Rattle.rhai_base.specs.Value.{TextV, inner};
-ghost use Rattle.rhai_base.specs.Reading.{value_of};
+ghost use Rattle.rhai_values.specs.Value.{TextV, inner};
+ghost use Rattle.rhai_values.specs.Reading.{value_of};
 ghost use Rattle.rhai_ast.specs.Reading.{expr_of, exprs_of, stmt_of, stmts_of, callee_of, function_of};
 ghost use Rattle.rhai_opt.specs.Notation.{callee_text, expr_text, exprs_text, call_text, stmt_text, block_text, stmts_text, lines_text, names_text, receiver_text, function_text, script_text};
 ghost use Rattle.rhai_script.specs.Script.{script_of};
@@ -41,7 +41,7 @@ fn push_value(value: &Dynamic, text: &mut String) -> Result<(), OutOfMemory>
 }
 
 /// Appends a text in quotes.
-#[tactic(auto, unfolding(rhai_base::specs::Value::inner))]
+#[tactic(auto, unfolding(rhai_values::specs::Value::inner))]
 fn push_quoted(value: &str, text: &mut String) -> Result<(), OutOfMemory>
     ensures { OnOk result (string_bytes text.new ≡ string_bytes text.old ++ inner (TextV value.now)) }
 {

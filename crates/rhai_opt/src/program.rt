@@ -3,7 +3,7 @@ ghost use Rattle.std.specs.Prelude.{◌≡◌, ◌⊎◌, map, string_bytes, IsN
 ghost use Rattle.std.specs.Io.KnownBytes.{Appends};
 ghost use Rattle.rhai_opt.specs.Scripts.{all_scripts};
 ghost use Rattle.rhai_opt.specs.Words.{request_of, usage, listing, built_in, Answers, Optimized};
-ghost use Rattle.rhai_base.specs.Value.{Text};
+ghost use Rattle.rhai_values.specs.Value.{Text};
 ghost use Rattle.rhai_script.specs.Script.{script_of};
 
 use crate::host::ProgramHost;

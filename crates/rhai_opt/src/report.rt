@@ -1,8 +1,8 @@
 //! A run's report in print. A refused call can leave a part of what it appends.
-#![tactic(auto, using(rhai_base::specs::Reading::kinds, crate::proofs::Reports::steps))]
+#![tactic(auto, using(rhai_values::specs::Reading::kinds, crate::proofs::Reports::steps))]
 
 ghost use Rattle.std.specs.Prelude.{◌≡◌, ◌++◌, [], OnOk, map, string_bytes};
-ghost use Rattle.rhai_base.specs.Reading.{value_of};
+ghost use Rattle.rhai_values.specs.Reading.{value_of};
 ghost use Rattle.rhai_run.specs.Entries.{variable_meant};
 ghost use Rattle.rhai_run.specs.Host.{call_meant};
 ghost use Rattle.rhai_run.specs.Report.{end_meant, report_meant};

@@ -2,7 +2,7 @@
 #![tactic(auto, using(rhai_ast::specs::Reading::shapes))]
 
 ghost use Rattle.std.specs.Prelude.{◌≡◌, IfOk, Some};
-ghost use Rattle.rhai_parts.specs.Symbols.{token_text};
+ghost use Rattle.rhai_tokens.specs.Symbols.{token_text};
 ghost use Rattle.rhai_ast.specs.Reading.{expr_of, stmt_of, stmts_of, mark_of};
 ghost use Rattle.rhai_meaning.specs.Tree.{IntegerConstant};
 ghost use Rattle.rhai_opt.specs.Scripts.{operation, evaluates, first_statements};

@@ -2,11 +2,11 @@
 use Rattle.std.specs.Prelude.{Option, Some, None, Result, Ok, Err}
 use Rattle.std.specs.declared.borrow.Cow.{Cow}
 use Rattle.std.specs.Cow.{cow_value}
-use Rattle.rhai_parts.specs.declared.error.Fault.{Fault}
-use Rattle.rhai_parts.specs.declared.error.Fault.TheVariants.{Arithmetic}
-use Rattle.rhai_base.specs.declared.types.dynamic.Dynamic.{Dynamic}
-use Rattle.rhai_base.specs.Reading.{value_of}
-use Rattle.rhai_base.specs.Value.{Value}
+use Rattle.rhai_tokens.specs.declared.error.Fault.{Fault}
+use Rattle.rhai_tokens.specs.declared.error.Fault.TheVariants.{Arithmetic}
+use Rattle.rhai_values.specs.declared.dynamic.Dynamic.{Dynamic}
+use Rattle.rhai_values.specs.Reading.{value_of}
+use Rattle.rhai_values.specs.Value.{Value}
 
 -- the value that a borrowed or an owned one stands for
 abbrev pub held : Option (Cow Dynamic) → Option Value

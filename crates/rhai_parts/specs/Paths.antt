@@ -1,6 +1,6 @@
 -- Paths of names.
 use Rattle.std.specs.Prelude.{List, [], ◌∷◌, ◌++◌, codes, flat_map}
-use Rattle.rhai_parts.specs.declared.types.ident.Ident.{Ident}
+use Rattle.rhai_parts.specs.declared.ident.Ident.{Ident}
 use Rattle.rhai_data.specs.Text.{Text}
 
 -- a name after another one

@@ -1,12 +1,12 @@
-//! Tokens, names, positions, flags and refusals: the parts of a syntax tree's nodes that hold no value.
+//! Names, paths of modules, and flags: the parts of a syntax tree's nodes that hold no value.
 #![tactic(auto)]
 
-pub mod ast;
-pub mod error;
-pub mod module;
-pub mod types;
+mod flags;
+mod fn_name;
+mod ident;
+mod namespace;
 
-pub use ast::{ASTFlags, OpAssignment};
-pub use error::{AstError, Fault, OutOfMemory};
-pub use module::Namespace;
-pub use types::{FnName, Ident, Position, Span, Token};
+pub use flags::ASTFlags;
+pub use fn_name::FnName;
+pub use ident::Ident;
+pub use namespace::Namespace;

@@ -2,12 +2,12 @@
 use Rattle.std.proofs.Common.{◌≡◌, ℕ, ◌<◌, ◌≤◌, suc, Bool, true, false, not, ◌&&◌, cond, if◌then◌else◌, List, [], ◌∷◌, length, Option, Some, None, refl, sym, ap, ◌∙◌, arith}
 use Rattle.std.proofs.lemmas.Bool.{and_parts}
 use Rattle.std.proofs.lemmas.Slice.Eq.{bytes_eq-Decides}
-use Rattle.rhai_parts.specs.declared.types.token.Token.{Token}
-use Rattle.rhai_parts.specs.declared.types.token.Token.TheVariants as token
+use Rattle.rhai_tokens.specs.declared.token.Token.{Token}
+use Rattle.rhai_tokens.specs.declared.token.Token.TheVariants as token
 use Rattle.rhai_base.specs.Operators.{Operator, Plus, Minus, Multiply, Divide, Modulo, Power, ShiftLeft, ShiftRight, BitAnd, BitOr, BitXor, EqualTo, NotEqualTo, Less, Greater, LessOrEqual, GreaterOrEqual, UpTo, Through, Not, Negative, Positive, Computed, NoEntry, computed, symbol}
-use Rattle.rhai_base.specs.Reading.{operator_of}
-use Rattle.rhai_parts.specs.Symbols.{token_text}
-use Rattle.rhai_base.specs.Value.{Text, Value, same_text}
+use Rattle.rhai_base.specs.Builtin.{operator_of}
+use Rattle.rhai_tokens.specs.Symbols.{token_text}
+use Rattle.rhai_values.specs.Value.{Text, Value, same_text}
 use Rattle.rhai_ast.specs.declared.ast.expr.Expr.{Expr}
 use Rattle.rhai_meaning.specs.Act.{World}
 use Rattle.rhai_meaning.specs.ActForms.{ask_host}

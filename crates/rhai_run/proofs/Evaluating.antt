@@ -1,10 +1,10 @@
 -- How the run of a whole comes from the runs of its parts.
 use Rattle.std.proofs.lemmas.List.{map-append, drop_all}
 use Rattle.std.proofs.Common.{◌≡◌, ℕ, ◌+◌, ◌<◌, ◌≤◌, true, List, [], ◌∷◌, ◌++◌, map, length, drop, get_or, Result, Ok, Err, refl, sym, ap, ◌∙◌, subst, append_assoc, append-nil, arith}
-use Rattle.rhai_base.specs.declared.types.dynamic.Dynamic.{Dynamic}
-use Rattle.rhai_base.specs.declared.types.dynamic.Dynamic.TheVariants as value
-use Rattle.rhai_base.specs.Reading.{value_of, value_of-Unit}
-use Rattle.rhai_base.specs.Value.{Value, UnitV}
+use Rattle.rhai_values.specs.declared.dynamic.Dynamic.{Dynamic}
+use Rattle.rhai_values.specs.declared.dynamic.Dynamic.TheVariants as value
+use Rattle.rhai_values.specs.Reading.{value_of, value_of-Unit}
+use Rattle.rhai_values.specs.Value.{Value, UnitV}
 use Rattle.rhai_ast.specs.declared.ast.expr.Expr.{Expr}
 use Rattle.rhai_ast.specs.declared.ast.stmt.Stmt.{Stmt}
 use Rattle.rhai_ast.specs.Reading.{expr_of, exprs_of, stmt_of, stmts_of}

@@ -1,12 +1,13 @@
 -- The run of a node from those of its parts.
 use Rattle.std.proofs.Common.{◌≡◌, ℕ, Bool, true, List, [], map, length, take, None, Some, Result, Ok, Err, refl, sym, ap, ◌∙◌, subst, arith}
-use Rattle.rhai_base.specs.declared.types.dynamic.Dynamic.{Dynamic}
-use Rattle.rhai_base.specs.declared.types.dynamic.Dynamic.TheVariants as value
-use Rattle.rhai_parts.specs.declared.types.position.Position.{Position}
-use Rattle.rhai_parts.specs.declared.types.token.Token.{Token}
+use Rattle.rhai_values.specs.declared.dynamic.Dynamic.{Dynamic}
+use Rattle.rhai_values.specs.declared.dynamic.Dynamic.TheVariants as value
+use Rattle.rhai_tokens.specs.declared.position.Position.{Position}
+use Rattle.rhai_tokens.specs.declared.token.Token.{Token}
 use Rattle.rhai_base.specs.Operators.{Operator}
-use Rattle.rhai_base.specs.Reading.{value_of, operator_of}
-use Rattle.rhai_base.specs.Value.{UnitV, ArrayV, values}
+use Rattle.rhai_values.specs.Reading.{value_of}
+use Rattle.rhai_base.specs.Builtin.{operator_of}
+use Rattle.rhai_values.specs.Value.{UnitV, ArrayV, values}
 use Rattle.rhai_ast.specs.declared.ast.expr.Expr.{Expr}
 use Rattle.rhai_ast.specs.declared.ast.expr.Expr.TheVariants as expr_kind
 use Rattle.rhai_ast.specs.declared.ast.expr.FnCallExpr.{FnCallExpr}

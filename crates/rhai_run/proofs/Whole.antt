@@ -1,7 +1,7 @@
 -- The report on a whole run.
 use Rattle.std.proofs.Common.{◌≡◌, ℕ, true, List, [], map, None, Result, Ok, Err, sym, ap, ◌∙◌, arith}
-use Rattle.rhai_base.specs.declared.types.dynamic.Dynamic.{Dynamic}
-use Rattle.rhai_base.specs.Value.{UnitV}
+use Rattle.rhai_values.specs.declared.dynamic.Dynamic.{Dynamic}
+use Rattle.rhai_values.specs.Value.{UnitV}
 use Rattle.rhai_meaning.specs.Act.{ScopeEntry, Host, Outcome, returned, returned_outcome, run_all}
 use Rattle.rhai_meaning.specs.Desugar.{core_function, core_script}
 use Rattle.rhai_meaning.specs.Engine.{Engine}

@@ -1,9 +1,9 @@
 -- The names of a scope.
 use Rattle.std.specs.Prelude.{Bool, List, [], map}
-use Rattle.rhai_base.specs.Value.{Text}
-use Rattle.rhai_base.specs.Reading.{value_of}
-use Rattle.rhai_base.specs.declared.types.dynamic.Dynamic.{Dynamic}
-use Rattle.rhai_base.specs.declared.types.scope.ScopeEntry.{ScopeEntry}
+use Rattle.rhai_values.specs.Value.{Text}
+use Rattle.rhai_values.specs.Reading.{value_of}
+use Rattle.rhai_values.specs.declared.dynamic.Dynamic.{Dynamic}
+use Rattle.rhai_values.specs.declared.scope.ScopeEntry.{ScopeEntry}
 use Rattle.rhai_meaning.specs.Act as act
 use Rattle.rhai_meaning.specs.Run.{reversed}
 

@@ -1,8 +1,8 @@
 -- What the evaluator's functions answer.
 use Rattle.std.specs.Prelude.{◌≡◌, ℕ, ◌≤◌, true, false, List, map, Result, Ok, Err}
-use Rattle.rhai_base.specs.Value.{Value, UnitV}
-use Rattle.rhai_base.specs.declared.types.dynamic.Dynamic.{Dynamic}
-use Rattle.rhai_base.specs.Reading.{value_of}
+use Rattle.rhai_values.specs.Value.{Value, UnitV}
+use Rattle.rhai_values.specs.declared.dynamic.Dynamic.{Dynamic}
+use Rattle.rhai_values.specs.Reading.{value_of}
 use Rattle.rhai_meaning.specs.Tree as tree
 use Rattle.rhai_meaning.specs.Act.{HostCall, Answer, World, Gives, Leaves, Throws, IsStuck, WrongKind, Outcome, Ended, Halted, At, Act, Acts, Scoped, Env, run, run_all}
 use Rattle.rhai_meaning.specs.Core.{Exprs, Deed, Stmt, Function}

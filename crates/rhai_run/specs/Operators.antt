@@ -1,9 +1,9 @@
 -- The operator of a call, by its token.
 use Rattle.std.specs.Prelude.{◌≡◌, ℕ, Option, Some, None, if◌then◌else◌}
 use Rattle.std.specs.Option.{option_map}
-use Rattle.rhai_parts.specs.declared.types.token.Token.{Token}
+use Rattle.rhai_tokens.specs.declared.token.Token.{Token}
 use Rattle.rhai_base.specs.Operators.{Operator, arity}
-use Rattle.rhai_base.specs.Reading.{operator_of}
+use Rattle.rhai_base.specs.Builtin.{operator_of}
 use Rattle.rhai_meaning.specs.Faults.{has_token}
 use Rattle.rhai_meaning.specs.Tree.{CallToken, NoToken, OfOperator, OfOther, Callee}
 

@@ -1,8 +1,8 @@
 //! What a run takes from outside: the start scope, the turns, and what a host answers.
-#![tactic(auto, using(rhai_base::specs::Reading::kinds))]
+#![tactic(auto, using(rhai_values::specs::Reading::kinds))]
 
 ghost use Rattle.std.specs.Prelude.{[], ◌∷◌, codes, pos, None, length, ◌==◌};
-ghost use Rattle.rhai_base.specs.Value.{BoolV, IntV};
+ghost use Rattle.rhai_values.specs.Value.{BoolV, IntV};
 ghost use Rattle.rhai_meaning.specs.Act.{Answers, AnswersThrow};
 
 use rhai_ast::{Expr, FnCallExpr, Stmt};

@@ -1,10 +1,10 @@
 //! Expressions.
 
-#![tactic(auto, using(crate::specs::Reading::shapes, rhai_base::specs::Reading::kinds, crate::proofs::ItemLists::steps, crate::proofs::Pointers::pointers))]
+#![tactic(auto, using(crate::specs::Reading::shapes, rhai_values::specs::Reading::kinds, crate::proofs::ItemLists::steps, crate::proofs::Pointers::pointers))]
 
 ghost use Rattle.std.specs.Prelude.{◌≡◌, IfOk, map};
-ghost use Rattle.rhai_base.specs.Reading.{value_of};
-ghost use Rattle.rhai_base.specs.Value.{PointerV, values};
+ghost use Rattle.rhai_values.specs.Reading.{value_of};
+ghost use Rattle.rhai_values.specs.Value.{PointerV, values};
 ghost use Rattle.rhai_ast.specs.Reading.{expr_of, exprs_of};
 ghost use Rattle.rhai_meaning.specs.Constants as constants;
 ghost use Rattle.rhai_meaning.specs.Tree.{DynamicConstant};

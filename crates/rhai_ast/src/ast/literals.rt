@@ -1,13 +1,13 @@
 //! The values of literals.
 
-#![tactic(auto, using(crate::specs::Reading::shapes, rhai_base::specs::Reading::kinds, crate::proofs::ItemLists::steps, crate::proofs::Literals::literals), unfolding(rhai_base::specs::Operators::binary))]
+#![tactic(auto, using(crate::specs::Reading::shapes, rhai_values::specs::Reading::kinds, crate::proofs::ItemLists::steps, crate::proofs::Literals::literals), unfolding(rhai_base::specs::Operators::binary))]
 
 ghost use Rattle.std.specs.Prelude.{◌≡◌, IfOk, Some, map};
 ghost use Rattle.std.specs.Cow.{cow_value};
 ghost use Rattle.std.specs.Option.{option_map};
 ghost use Rattle.rhai_base.specs.Operators as operators;
 ghost use Rattle.rhai_base.specs.Builtin.{range_operator};
-ghost use Rattle.rhai_base.specs.Reading.{value_of};
+ghost use Rattle.rhai_values.specs.Reading.{value_of};
 ghost use Rattle.rhai_ast.specs.Literals.{lent_value};
 ghost use Rattle.rhai_ast.specs.Reading.{expr_of, exprs_of};
 ghost use Rattle.rhai_meaning.specs.Constants as constants;

@@ -1,11 +1,11 @@
 //! The table of a `switch`.
 
-#![tactic(auto, using(crate::specs::Reading::shapes, rhai_base::specs::Reading::kinds))]
+#![tactic(auto, using(crate::specs::Reading::shapes, rhai_values::specs::Reading::kinds))]
 
 ghost use Rattle.std.specs.Prelude.{◌≡◌, ◌==◌, nat_lt, None, Some, slice_get, MatchResult};
 ghost use Rattle.std.specs.List.{list_all, list_any};
-ghost use Rattle.rhai_base.specs.Value as model;
-ghost use Rattle.rhai_base.specs.Reading.{value_of};
+ghost use Rattle.rhai_values.specs.Value as model;
+ghost use Rattle.rhai_values.specs.Reading.{value_of};
 ghost use Rattle.rhai_ast.specs.Reading.{expr_of};
 ghost use Rattle.rhai_ast.specs.SwitchTable as table;
 
@@ -30,9 +30,9 @@ pub struct Cases {
 impl Model for Cases {
     ghost use Rattle.std.specs.Prelude.{List};
     ghost use Rattle.std.specs.Coded.{coded_list, coded×};
-    ghost use Rattle.rhai_base.specs.declared.types.dynamic.Dynamic.{Dynamic};
+    ghost use Rattle.rhai_values.specs.declared.dynamic.Dynamic.{Dynamic};
     ghost use Rattle.rhai_ast.specs.declared.ast.switch.CaseBlocksList.{CaseBlocksList};
-    ghost use Rattle.rhai_base.specs.contracts.types.dynamic.Dynamic as value;
+    ghost use Rattle.rhai_values.specs.contracts.dynamic.Dynamic as value;
     ghost use Rattle.rhai_ast.specs.contracts.ast.switch.CaseBlocksList as blocks;
 
     ghost Value = { List (Dynamic × CaseBlocksList) };

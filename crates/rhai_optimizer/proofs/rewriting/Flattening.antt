@@ -1,6 +1,6 @@
 -- Blocks in a list: what is done, the statements of the list in hand, and what comes after it.
 use Rattle.std.proofs.Common.{◌≡◌, ◌≤◌, Bool, true, false, List, [], ◌∷◌, ◌++◌, IsTrue, ◌↔◌, refl, sym, ap, ◌∙◌, subst, arith}
-use Rattle.rhai_parts.specs.declared.types.position.Position.{Position}
+use Rattle.rhai_tokens.specs.declared.position.Position.{Position}
 use Rattle.rhai_ast.specs.declared.ast.stmt.Stmt as declared_stmt
 use Rattle.rhai_ast.specs.declared.ast.stmt.Stmt.TheVariants as stmt_kind
 use Rattle.rhai_meaning.specs.Queries.{is_any_dependent}

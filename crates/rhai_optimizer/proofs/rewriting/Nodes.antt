@@ -1,8 +1,8 @@
 -- A node whose parts are optimised, and then the node; and the passes over a list.
 use Rattle.std.proofs.Common.{◌≡◌, ◌<◌, Bool, true, false, List, [], Result, IfOk, refl, sym, subst, arith}
 use Rattle.std.proofs.lemmas.Result.{IfOk-weaker}
-use Rattle.rhai_parts.specs.declared.error.OutOfMemory.{OutOfMemory}
-use Rattle.rhai_parts.specs.declared.types.position.Position.{Position}
+use Rattle.rhai_tokens.specs.declared.error.OutOfMemory.{OutOfMemory}
+use Rattle.rhai_tokens.specs.declared.position.Position.{Position}
 use Rattle.rhai_ast.specs.declared.ast.expr.Expr as declared_expr
 use Rattle.rhai_ast.specs.declared.ast.expr.Expr.TheVariants as expr_kind
 use Rattle.rhai_ast.specs.declared.ast.expr.FnCallExpr.{FnCallExpr}

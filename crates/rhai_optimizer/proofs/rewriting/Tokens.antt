@@ -1,18 +1,19 @@
 -- Operators by their tokens: what a call over values folds to.
 use Rattle.std.proofs.Common.{◌≡◌, ◌<◌, ◌≤◌, length, arith, Bool, true, false, ◌||◌, not, if◌then◌else◌, List, [], ◌∷◌, map, Option, Some, None, Result, Ok, Err, refl, sym, ap, ◌∙◌}
 use Rattle.std.specs.Option.{option_map}
-use Rattle.rhai_parts.specs.declared.error.Fault.{Fault}
-use Rattle.rhai_parts.specs.declared.error.Fault.TheVariants.{Arithmetic}
-use Rattle.rhai_base.specs.declared.types.dynamic.Dynamic.{Dynamic}
-use Rattle.rhai_parts.specs.declared.types.token.Token.{Token}
-use Rattle.rhai_parts.specs.declared.types.token.Token.TheVariants as token
+use Rattle.rhai_tokens.specs.declared.error.Fault.{Fault}
+use Rattle.rhai_tokens.specs.declared.error.Fault.TheVariants.{Arithmetic}
+use Rattle.rhai_values.specs.declared.dynamic.Dynamic.{Dynamic}
+use Rattle.rhai_tokens.specs.declared.token.Token.{Token}
+use Rattle.rhai_tokens.specs.declared.token.Token.TheVariants as token
 use Rattle.rhai_ast.specs.declared.ast.expr.Expr.{Expr}
 use Rattle.rhai_base.specs.Builtin.{computed_of, answered, row, binary_at, unary_at}
 use Rattle.rhai_base.specs.Operators.{Operator, Computed, NoEntry, computed, unary, binary}
-use Rattle.rhai_base.specs.Reading.{value_of, operator_of}
-use Rattle.rhai_parts.specs.Symbols.{token_text}
-use Rattle.rhai_parts.specs.Tokens.{makes_range}
-use Rattle.rhai_base.specs.Value.{Value, type_name}
+use Rattle.rhai_values.specs.Reading.{value_of}
+use Rattle.rhai_base.specs.Builtin.{operator_of}
+use Rattle.rhai_tokens.specs.Symbols.{token_text}
+use Rattle.rhai_tokens.specs.Tokens.{makes_range}
+use Rattle.rhai_values.specs.Value.{Value, type_name}
 use Rattle.rhai_meaning.specs.Engine.{Engine, has_override}
 use Rattle.rhai_meaning.specs.Constants.{value_and}
 use Rattle.rhai_ast.specs.Reading.{mark_of, expr_of, exprs_of}

@@ -1,9 +1,9 @@
 -- The values of constants, taken one after another.
 use Rattle.std.proofs.Common.{◌≡◌, ◌≤◌, false, List, [], ◌∷◌, ◌++◌, map, Option, Some, None, IsSome, is_some, refl, sym, ap, ◌∙◌, subst, arith, append_assoc, append-nil}
 use Rattle.std.proofs.lemmas.List.{map-append}
-use Rattle.rhai_base.specs.declared.types.dynamic.Dynamic.{Dynamic}
-use Rattle.rhai_base.specs.Reading.{value_of}
-use Rattle.rhai_base.specs.Value.{Value}
+use Rattle.rhai_values.specs.declared.dynamic.Dynamic.{Dynamic}
+use Rattle.rhai_values.specs.Reading.{value_of}
+use Rattle.rhai_values.specs.Value.{Value}
 use Rattle.rhai_ast.specs.declared.ast.expr.Expr as declared_expr
 use Rattle.rhai_meaning.specs.Constants.{array_value, value_and, constant_value, constant_values}
 use Rattle.rhai_ast.specs.Reading.{expr_of, exprs_of}

@@ -1,9 +1,9 @@
 //! Constants and their values.
 
-#![tactic(auto, using(rhai_ast::specs::Reading::shapes, rhai_base::specs::Reading::kinds))]
+#![tactic(auto, using(rhai_ast::specs::Reading::shapes, rhai_values::specs::Reading::kinds))]
 
 ghost use Rattle.std.specs.Prelude.{◌≡◌, IfOk, IsSome, Some, map};
-ghost use Rattle.rhai_base.specs.Reading.{value_of};
+ghost use Rattle.rhai_values.specs.Reading.{value_of};
 ghost use Rattle.rhai_meaning.specs.ActForms as forms;
 ghost use Rattle.rhai_meaning.specs.Constants as constants;
 ghost use Rattle.rhai_ast.specs.Reading.{expr_of, exprs_of};

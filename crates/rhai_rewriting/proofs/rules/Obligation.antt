@@ -1,6 +1,6 @@
 -- What each rule owes: its tree is lighter, well-formed where the old one is, and does what the old one does.
 use Rattle.std.proofs.Common.{◌<◌, Bool}
-use Rattle.rhai_base.specs.Value.{Value}
+use Rattle.rhai_values.specs.Value.{Value}
 use Rattle.rhai_meaning.specs.Desugar.{core_expr, core_stmt, core_stmts}
 use Rattle.rhai_meaning.specs.Faults.{IsWellFormedExpr, IsWellFormed, AreWellFormed}
 use Rattle.rhai_meaning.specs.Meaning.{act, acts}

@@ -1,5 +1,5 @@
 -- Lists, closed at their end: a whole one by its return, an inside one by taking its names away.
-use Rattle.rhai_base.specs.Value.{Value}
+use Rattle.rhai_values.specs.Value.{Value}
 use Rattle.std.proofs.Common.{sym}
 use Rattle.rhai_meaning.specs.Act.{Ending, Gives, Leaves, Act, Scoped, Acts, Do, Finish}
 use Rattle.rhai_meaning.specs.ActForms.{each_value, then_line}

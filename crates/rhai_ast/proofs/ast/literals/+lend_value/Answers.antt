@@ -1,7 +1,7 @@
 use Rattle.std.proofs.Common.{List, Some, map, sym, ap, ◌∙◌, arith}
-use Rattle.rhai_base.specs.declared.types.dynamic.Dynamic.{Dynamic}
-use Rattle.rhai_base.specs.Reading.{value_of, value_of-Array}
-use Rattle.rhai_base.specs.Value.{ArrayV, values}
+use Rattle.rhai_values.specs.declared.dynamic.Dynamic.{Dynamic}
+use Rattle.rhai_values.specs.Reading.{value_of, value_of-Array}
+use Rattle.rhai_values.specs.Value.{ArrayV, values}
 use Rattle.rhai_meaning.specs.Constants.{array_value}
 use Rattle.rhai_ast.proofs.Literals.{values_before-all}
 use Rattle.rhai_ast.proofs.ast.literals.+lend_value.Goals as goal

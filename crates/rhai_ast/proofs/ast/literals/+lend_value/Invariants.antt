@@ -1,5 +1,5 @@
 use Rattle.std.proofs.Common.{◌≡◌, drop, map}
-use Rattle.rhai_base.specs.Reading.{value_of}
+use Rattle.rhai_values.specs.Reading.{value_of}
 use Rattle.rhai_meaning.specs.Constants.{constant_values}
 use Rattle.rhai_ast.specs.Reading.{exprs_of}
 use Rattle.rhai_ast.proofs.Literals.{values_before}

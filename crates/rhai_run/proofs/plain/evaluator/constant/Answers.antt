@@ -1,5 +1,5 @@
 use Rattle.std.proofs.Common.{ap}
-use Rattle.rhai_base.specs.Reading.{value_of}
+use Rattle.rhai_values.specs.Reading.{value_of}
 use Rattle.rhai_run.proofs.Values.{is_unit-other}
 use Rattle.rhai_run.proofs.plain.evaluator.constant.Goals as goal
 

@@ -1,5 +1,5 @@
 use Rattle.std.proofs.lemmas.List.{length-map}
-use Rattle.rhai_base.specs.Reading.{value_of-Bool}
+use Rattle.rhai_values.specs.Reading.{value_of-Bool}
 use Rattle.tests_of_scripts.proofs.evaluator.FirstHost.answer.Goals as goal
 
 pub returns : goal.returns

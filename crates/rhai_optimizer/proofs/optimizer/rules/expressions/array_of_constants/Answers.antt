@@ -1,5 +1,5 @@
 use Rattle.std.proofs.Common.{ap, ◌∙◌}
-use Rattle.rhai_base.specs.Reading.{value_of, value_of-Array}
+use Rattle.rhai_values.specs.Reading.{value_of, value_of-Array}
 use Rattle.rhai_meaning.specs.Tree.{DynamicConstant}
 use Rattle.rhai_rewriting.specs.Rewriting.{array_of_constants}
 use Rattle.rhai_ast.specs.Reading.{expr_of-DynamicConstant}

@@ -1,6 +1,6 @@
 use Rattle.std.proofs.Common.{◌≡◌}
 use Rattle.std.proofs.lemmas.Result.{IfOk-weaker}
-use Rattle.rhai_base.specs.Reading.{value_of}
+use Rattle.rhai_values.specs.Reading.{value_of}
 use Rattle.rhai_meaning.specs.Constants.{constant_for}
 use Rattle.rhai_ast.specs.declared.ast.expr.Expr.{Expr}
 use Rattle.rhai_ast.specs.Reading.{expr_of}

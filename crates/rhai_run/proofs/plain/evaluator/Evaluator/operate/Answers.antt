@@ -1,6 +1,6 @@
 use Rattle.std.proofs.Common.{◌≡◌, ◌∙◌, map, sym, subst}
 use Rattle.rhai_base.specs.Operators.{NoEntry}
-use Rattle.rhai_base.specs.Reading.{value_of}
+use Rattle.rhai_values.specs.Reading.{value_of}
 use Rattle.rhai_meaning.specs.ActForms.{ask_host}
 use Rattle.rhai_run.specs.Evaluating.{setting, Runs}
 use Rattle.rhai_engine.specs.EngineInfo.{built_in_at}

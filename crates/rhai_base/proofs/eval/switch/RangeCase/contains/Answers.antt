@@ -1,6 +1,0 @@
-use Rattle.rhai_base.specs.Reading.{dynamic_cases}
-use Rattle.rhai_base.proofs.RangeCases.{not_integer}
-use Rattle.rhai_base.proofs.eval.switch.RangeCase.contains.Goals as goal
-
-pub returns-in_default : goal.returns-in_default
-returns-in_default c = not_integer c.args.self.now c.args.value.now (dynamic_cases _) c.in_default.not-Int

@@ -1,5 +1,0 @@
-//! What a `switch` chooses by.
-
-pub mod switch;
-
-pub use switch::{RangeCase, RangeCaseIter};

@@ -1,5 +1,0 @@
-use Rattle.rhai_parts.proofs.Applied.{written_form}
-use Rattle.rhai_parts.proofs.ast.op_assignment.OpAssignment.new_op_assignment_from_token.Goals as goal
-
-pub returns-clause-as_text : goal.returns-clause-as_text
-returns-clause-as_text c = written_form c.args.op_assign c.requires

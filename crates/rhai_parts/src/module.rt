@@ -1,5 +1,0 @@
-//! Names of modules.
-
-pub mod namespace;
-
-pub use namespace::Namespace;

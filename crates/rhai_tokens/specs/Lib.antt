@@ -1,0 +1,5 @@
+pub mod Symbols
+pub mod Tokens
+pub mod Positions
+pub mod Refusals
+pub mod Assignments

@@ -1,0 +1,5 @@
+pub mod Forms
+pub mod Hashable
+pub mod Exact
+pub mod Recovered
+pub mod Same

@@ -1,0 +1,130 @@
+//! Script values.
+#![tactic(auto, using(crate::specs::Reading::kinds), unfolding(crate::specs::Value::text_of))]
+
+mod copy;
+mod hashable;
+mod text;
+
+ghost use Rattle.std.specs.Prelude.{◌≡◌, ◌++◌, ◌↔◌, IsTrue, IfOk, OnOk, OnErr};
+
+use crate::FnPtr;
+use rhai_data::{ImmutableString, Seq, StringMap};
+use rhai_tokens::OutOfMemory;
+use std::alloc::{AllocError, Global};
+
+/// The integers of scripts.
+pub type INT = i64;
+
+/// A script's value.
+#[cycle(dynamic)]
+#[derive(Debug, Drop, PartialEq, Eq, Hash)]
+pub enum Dynamic {
+    /// `()`
+    Unit,
+    /// `true`, `false`
+    Bool(bool),
+    /// an integer of 64 bits with sign
+    Int(INT),
+    /// a character
+    Char(char),
+    /// a text
+    Str(ImmutableString),
+    /// an array
+    Array(Seq<Dynamic>),
+    /// a map from texts, in the order of the keys' bytes
+    Map(StringMap<Dynamic>),
+    /// a pointer to a function
+    FnPtr(FnPtr),
+    /// from the first integer to before the second
+    Range(INT, INT),
+    /// from the first integer to the second
+    RangeInclusive(INT, INT),
+}
+
+impl Clone for Dynamic {
+    ghost is_clone = { λ v w. w ≡ v };
+
+    fn clone(&self) -> Result<Dynamic, AllocError> {
+        copy::copy(self)
+    }
+}
+
+impl Clone for FnPtr {
+    ghost is_clone = { λ p q. q ≡ p };
+
+    fn clone(&self) -> Result<FnPtr, AllocError> {
+        copy::copy_pointer(self)
+    }
+}
+
+impl Dynamic {
+    ghost use Rattle.std.specs.String.{string_bytes};
+    ghost use Rattle.rhai_values.specs.Value as model;
+    ghost use Rattle.rhai_values.specs.Reading.{value_of};
+
+    /// The name of the value's type.
+    pub fn type_name(&self) -> &'static str
+        ensures { result.now ≡ model.type_name (value_of self.now) }
+    {
+        match self {
+            Dynamic::Unit => "()",
+            Dynamic::Bool(_) => "bool",
+            Dynamic::Int(_) => "i64",
+            Dynamic::Char(_) => "char",
+            Dynamic::Str(_) => "string",
+            Dynamic::Array(_) => "array",
+            Dynamic::Map(_) => "map",
+            Dynamic::FnPtr(_) => "Fn",
+            Dynamic::Range(_, _) => "range",
+            Dynamic::RangeInclusive(_, _) => "range=",
+        }
+    }
+
+    /// Whether the values are equal: `==`, with a contract that says when.
+    pub fn is_equal(&self, other: &Dynamic) -> bool
+        ensures exact { IsTrue result ↔ (self.now ≡ other.now) }
+        ensures by_value { IsTrue result ↔ (value_of self.now ≡ value_of other.now) }
+        ensures by_cases { result ≡ model.same (value_of self.now) (value_of other.now) }
+    {
+        self == other
+    }
+
+    /// Whether it holds no pointer to a function at any depth, so that it can be a key of a `switch`.
+    pub fn is_hashable(&self) -> bool
+        ensures { result ≡ model.is_hashable (value_of self.now) }
+    {
+        hashable::is_hashable(self)
+    }
+
+    /// Appends the value as it is written inside an array: texts and characters in quotes, with nothing
+    /// escaped. A refused call leaves the text as it was.
+    pub fn push_inner(&self, text: &mut String) -> Result<(), OutOfMemory>
+        ensures ok { OnOk result (string_bytes text.new ≡ string_bytes text.old ++ model.inner (value_of self.now)) }
+        ensures err { OnErr result (string_bytes text.new ≡ string_bytes text.old) }
+    {
+        let mut form = String::new(*text.allocator());
+        text::push_form(self, &mut form)?;
+        text.push_str(form.as_str())?;
+        Ok(())
+    }
+
+    /// The value as a text: nothing for unit, characters and texts without quotes, all else as inside
+    /// an array.
+    pub fn text_of(&self, alloc: Global) -> Result<ImmutableString, OutOfMemory>
+        ensures { IfOk result (λ t. t ≡ model.text_of (value_of self.now)) }
+    {
+        if let Dynamic::Str(text) = self {
+            return Ok(text.clone()?);
+        }
+        let mut text = String::new(alloc);
+        self.push_text(&mut text)?;
+        Ok(ImmutableString::new(alloc, text.as_str())?)
+    }
+
+    /// Appends what `text_of` answers. A refused call may have appended a beginning of it.
+    pub fn push_text(&self, text: &mut String) -> Result<(), AllocError>
+        ensures { OnOk result (string_bytes text.new ≡ string_bytes text.old ++ model.text_of (value_of self.now)) }
+    {
+        text::push_text(self, text)
+    }
+}

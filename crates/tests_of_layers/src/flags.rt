@@ -1,0 +1,46 @@
+//! Flags of nodes.
+
+use bitflags::Flags;
+use rhai_base::ASTFlags;
+
+/// Each flag with its name and its bit.
+const ROWS: [(ASTFlags, &str, u8); 4] = [
+    (ASTFlags::CONSTANT, "CONSTANT", 1),
+    (ASTFlags::EXPORTED, "EXPORTED", 2),
+    (ASTFlags::NEGATED, "NEGATED", 4),
+    (ASTFlags::BREAK, "BREAK", 8),
+];
+
+#[test]
+fn has_bits(rt: HostRuntime) {
+    for (flag, name, bits) in &ROWS {
+        assert!(rt; flag.bits() == *bits, "{name}");
+        assert!(rt; ASTFlags::from_name(name) == Some(*flag), "{name}");
+        assert!(rt; ASTFlags::from_bits(*bits) == Some(*flag), "{name}");
+        assert!(rt; ASTFlags::NONE < *flag, "{name}");
+    }
+    assert!(rt; ASTFlags::NONE.is_empty() && ASTFlags::from_bits(16).is_none());
+    assert!(rt; ASTFlags::NEGATED < ASTFlags::BREAK);
+}
+
+#[test]
+fn joins_flags(rt: HostRuntime) {
+    let both = ASTFlags::NEGATED | ASTFlags::BREAK;
+    assert!(rt; both.contains(ASTFlags::BREAK) && !both.contains(ASTFlags::CONSTANT));
+    assert!(rt; both - ASTFlags::BREAK == ASTFlags::NEGATED);
+    assert!(rt; both & ASTFlags::BREAK == ASTFlags::BREAK);
+    assert!(rt; both ^ ASTFlags::BREAK == ASTFlags::NEGATED);
+    assert!(rt; !both == ASTFlags::CONSTANT | ASTFlags::EXPORTED);
+}
+
+#[test]
+fn changes_flags(rt: HostRuntime) {
+    let mut flags = ASTFlags::NONE;
+    flags |= ASTFlags::NEGATED | ASTFlags::BREAK;
+    flags -= ASTFlags::NEGATED;
+    assert!(rt; flags == ASTFlags::BREAK);
+    flags ^= ASTFlags::BREAK | ASTFlags::CONSTANT;
+    assert!(rt; flags == ASTFlags::CONSTANT);
+    flags &= ASTFlags::BREAK;
+    assert!(rt; flags == ASTFlags::NONE);
+}

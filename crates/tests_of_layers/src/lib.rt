@@ -1,0 +1,29 @@
+//! The tests of the crates below: each public call once, and what their contracts do not say.
+#![tactic(auto)]
+
+#[cfg(test)]
+mod flags;
+#[cfg(test)]
+mod lists;
+#[cfg(test)]
+mod names;
+#[cfg(test)]
+mod op_assignments;
+#[cfg(test)]
+mod operators;
+#[cfg(test)]
+mod positions;
+#[cfg(test)]
+mod ranges;
+#[cfg(test)]
+mod refusals;
+#[cfg(test)]
+mod samples;
+#[cfg(test)]
+mod scopes;
+#[cfg(test)]
+mod texts;
+#[cfg(test)]
+mod tokens;
+#[cfg(test)]
+mod values;
