@@ -1,3 +1,4 @@
+pub mod Lasting
 pub mod WellFormed
 pub mod Derivation
 pub mod Scripts
