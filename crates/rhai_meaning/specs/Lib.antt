@@ -10,8 +10,14 @@ pub mod Desugar
 pub mod Calls
 pub mod Meaning
 pub mod Run
+pub mod Small
 pub mod Constants
 pub mod Queries
 pub mod Relations
 pub mod Agreeing
+pub mod WorkedForms
 pub mod WorkedRuns
+pub mod WorkedCalls
+pub mod WorkedNames
+pub mod WorkedHosts
+pub mod WorkedTrees
