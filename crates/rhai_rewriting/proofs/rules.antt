@@ -1,3 +1,4 @@
+pub mod Lasting
 pub mod Obligation
 pub mod Constants
 pub mod Blocks

@@ -1,4 +1,6 @@
+pub mod Lasting
 pub mod WellFormed
+pub mod Small
 pub mod Derivation
 pub mod Scripts
 pub mod Theorem

@@ -8,13 +8,13 @@ use Rattle.rhai_meaning.specs.Constants.{constant_value, constant_bool, constant
 use Rattle.rhai_meaning.specs.Core as core
 use Rattle.rhai_meaning.specs.Desugar.{core_expr, core_stmt, core_stmts}
 use Rattle.rhai_meaning.specs.Engine.{Engine, is_open}
-use Rattle.rhai_meaning.specs.Faults.{IsWellFormedExpr, IsWellFormed, AreWellFormed}
 use Rattle.rhai_meaning.specs.Meaning.{act, deed, acts}
 use Rattle.rhai_meaning.specs.Queries.{is_block_dependent}
 use Rattle.rhai_meaning.specs.Relations.{here}
 use Rattle.rhai_meaning.specs.Tree.{CallToken, NoToken, OfOperator, OfOther, Callee, Expr, UnitConstant, ArrayOf, BlockExpr, FnCall, Exprs, no_exprs, expr, Stmt, Noop, If, Block, ExprStmt, FnCallStmt, Stmts, no_stmts, stmt}
 use Rattle.rhai_meaning.proofs.Preserves.{preserves}
 use Rattle.rhai_meaning.proofs.Sequencing.{leave_same, SameRunAll, line_only, line_same, line_unit}
+use Rattle.rhai_meaning.specs.Walk.{Node, every, over_expr, over_stmt, over_stmts}
 use Rattle.rhai_rewriting.specs.Context.{Context}
 use Rattle.rhai_rewriting.specs.Folding.{computed_value, folded_values, folded}
 use Rattle.rhai_rewriting.specs.Rules as rule
@@ -27,7 +27,8 @@ use Rattle.rhai_rewriting.proofs.simulation.Forms.{simulates_bind, all_line, Sim
 use Rattle.rhai_rewriting.proofs.rules.Blocks.{scoped_deed, scoped_list}
 use Rattle.rhai_rewriting.proofs.simulation.Unwanted.{before_any}
 use Rattle.rhai_rewriting.proofs.rules.Constants.{or_stuck, expr_given, branch_given}
-use Rattle.rhai_rewriting.proofs.rules.Expressions.{constant_light, constant_well, call_folds}
+use Rattle.rhai_rewriting.proofs.rules.Expressions.{constant_light, constant_keeps, call_folds}
+use Rattle.rhai_rewriting.proofs.rules.Lasting.{Lasting}
 use Rattle.rhai_rewriting.proofs.rules.Obligation.{StmtObligation}
 
 -- ---- an `if` whose blocks are empty: its condition, and then unit
@@ -46,9 +47,9 @@ condition_light : (w : Bool) (e : Expr) → stmt_weight (condition_alone w e) �
 condition_light true e = omega arith
 condition_light false e = omega arith
 
-condition_well : (b : Bool) (e : Expr) → IsWellFormedExpr e → IsWellFormed (condition_alone b e)
-condition_well true e h = (tt, ((tt, h), ((tt, tt), tt)))
-condition_well false e h = (tt, h)
+condition_keeps : (P : Node → Type 0) → Lasting P → (b : Bool) (e : Expr) → over_expr (every P) e → over_stmt (every P) (condition_alone b e)
+condition_keeps P lasts true e h = (lasts.block _, ((lasts.expression e, h), ((lasts.noop, tt), tt)))
+condition_keeps P lasts false e h = (lasts.expression e, h)
 
 -- the condition, and then unit
 abbrev alone : {k : Context} → Setting k → Expr → Act
@@ -67,7 +68,7 @@ if_alone c false e = record {
 pub if_without_blocks : {k : Context} {w : Bool} {e : Expr} → StmtObligation k w (If e no_stmts no_stmts) (condition_alone w e)
 if_without_blocks {w = w} {e = e} = record {
   lighter = omega (arith, condition_light w e);
-  well_formed = λ h. condition_well w e h.1.0;
+  keeps = λ P lasts h. condition_keeps P lasts w e h.1.0;
   sound = λ c. if_alone c w e;
 }
 
@@ -76,7 +77,7 @@ if_without_blocks {w = w} {e = e} = record {
 pub block_empty : {k : Context} {w : Bool} → StmtObligation k w (Block no_stmts) Noop
 block_empty = record {
   lighter = omega arith;
-  well_formed = λ h. (tt, tt);
+  keeps = λ P lasts h. (lasts.noop, tt);
   sound = λ c. stmt_of_deed (simulates_equal (λ m. leave_same m.store (Gives UnitV) m.turns));
 }
 
@@ -91,7 +92,7 @@ lone_statement c w _ q = braces_of_deed c w _
 pub block_of_statement : {k : Context} {w : Bool} {s : Stmt} → is_block_dependent s ≡ false → StmtObligation k w (Block (stmt s no_stmts)) s
 block_of_statement {w = w} {s = s} q = record {
   lighter = omega arith;
-  well_formed = λ h. h.1.0;
+  keeps = λ P lasts h. h.1.0;
   sound = λ c. lone_statement c w s q;
 }
 
@@ -100,9 +101,9 @@ block_light : (ss : Stmts) → stmt_weight (block_or_noop ss) ≤ 3 + weight ss
 block_light no_stmts = omega arith
 block_light (stmt s ss) = omega arith
 
-block_or_noop_well : (ss : Stmts) → AreWellFormed ss → IsWellFormed (block_or_noop ss)
-block_or_noop_well no_stmts h = (tt, tt)
-block_or_noop_well (stmt s ss) h = (tt, h)
+block_keeps : (P : Node → Type 0) → Lasting P → (ss : Stmts) → over_stmts (every P) ss → over_stmt (every P) (block_or_noop ss)
+block_keeps P lasts no_stmts h = (lasts.noop, tt)
+block_keeps P lasts (stmt s ss) h = (lasts.block (stmt s ss), h)
 
 or_noop : {k : Context} (c : Setting k) (w : Bool) (ss : Stmts) → SimulatesStmt c w (core_stmt (Block ss)) (core_stmt (block_or_noop ss))
 or_noop c w no_stmts = block_empty.sound c
@@ -114,9 +115,9 @@ chosen_light : (t : Bool) (a b : Stmts) → weight (chosen t a b) ≤ weight a +
 chosen_light true a b = omega arith
 chosen_light false a b = omega arith
 
-chosen_well : (t : Bool) (a b : Stmts) → AreWellFormed a → AreWellFormed b → AreWellFormed (chosen t a b)
-chosen_well true a b h k = h
-chosen_well false a b h k = k
+chosen_keeps : (P : Node → Type 0) (t : Bool) (a b : Stmts) → over_stmts (every P) a → over_stmts (every P) b → over_stmts (every P) (chosen t a b)
+chosen_keeps P true a b h k = h
+chosen_keeps P false a b h k = k
 
 branch_chosen : (w : World) (t : Bool) (x y : Stmts) → branch (Some t) (Scoped (acts w true (core_stmts x) UnitV)) (Scoped (acts w true (core_stmts y) UnitV)) ≡ Scoped (acts w true (core_stmts (chosen t x y)) UnitV)
 branch_chosen w true x y = refl
@@ -134,7 +135,7 @@ if_to_block c e t x y h =
 pub if_decided : {k : Context} {w t : Bool} {e : Expr} {a b : Stmts} → constant_bool e ≡ Some t → StmtObligation k w (If e a b) (block_or_noop (chosen t a b))
 if_decided {w = w} {t = t} {e = e} {a = a} {b = b} q = record {
   lighter = omega (arith, block_light (chosen t a b), chosen_light t a b);
-  well_formed = λ h. block_or_noop_well (chosen t a b) (chosen_well t a b h.1.1.0 h.1.1.1);
+  keeps = λ P lasts h. block_keeps P lasts (chosen t a b) (chosen_keeps P t a b h.1.1.0 h.1.1.1);
   sound = λ c. stmt_trans (stmt_of_deed (if_to_block c e t a b q)) (or_noop c w (chosen t a b));
 }
 
@@ -143,14 +144,14 @@ if_decided {w = w} {t = t} {e = e} {a = a} {b = b} q = record {
 pub statement_of_braces : {k : Context} {w : Bool} {ss : Stmts} → StmtObligation k w (ExprStmt (BlockExpr ss)) (block_or_noop ss)
 statement_of_braces {w = w} {ss = ss} = record {
   lighter = omega (arith, block_light ss);
-  well_formed = λ h. block_or_noop_well ss h.1.1;
+  keeps = λ P lasts h. block_keeps P lasts ss h.1.1;
   sound = λ c. record { before = λ rest. (or_noop c w ss).before rest };
 }
 
 pub statement_of_call : {k : Context} {w : Bool} {c : Callee} {es : Exprs} → StmtObligation k w (ExprStmt (FnCall c es)) (FnCallStmt c es)
-statement_of_call = record {
+statement_of_call {c = c} {es = es} = record {
   lighter = omega arith;
-  well_formed = λ h. h.1;
+  keeps = λ P lasts h. (lasts.call_statement c es h.1.0, h.1.1);
   sound = λ c. stmt_refl;
 }
 
@@ -180,10 +181,10 @@ folded_heavy engine c no_exprs v h = let k = folded-no_exprs engine c.token in a
 folded_heavy engine c (expr e es) v h = omega (arith, expr_heavy e)
 
 pub call_statement_folds : {k : Context} {w : Bool} {c : Callee} {es : Exprs} {v : Value} → folded k.engine c es ≡ Some v → StmtObligation k w (FnCallStmt c es) (ExprStmt (constant_for v))
-call_statement_folds {k = k} {c = c} {es = es} {v = v} h = record {
-  lighter = omega (arith, constant_light v (folded_plain k.engine c es v h), folded_heavy k.engine c es v h);
-  well_formed = λ w. (tt, constant_well v);
-  sound = λ s. stmt_of_deed (call_folds s c es v h);
+call_statement_folds {k = k} {c = c} {es = es} {v = v} q = record {
+  lighter = omega (arith, constant_light v (folded_plain k.engine c es v q), folded_heavy k.engine c es v q);
+  keeps = λ P lasts h. (lasts.expression (constant_for v), constant_keeps P lasts v (folded_plain k.engine c es v q));
+  sound = λ s. stmt_of_deed (call_folds s c es v q);
 }
 
 -- ---- every rule

@@ -19,7 +19,7 @@ use Rattle.rhai_rewriting.proofs.simulation.Unwanted.{unwanted_if, unwanted_bloc
 use Rattle.rhai_rewriting.proofs.rules.Expressions.{expr_rule}
 use Rattle.rhai_rewriting.proofs.rules.Statements.{stmt_rule}
 use Rattle.rhai_rewriting.proofs.rules.Lists.{list_rule}
-use Rattle.rhai_rewriting.proofs.soundness.WellFormed.{same_count}
+use Rattle.rhai_rewriting.proofs.soundness.Lasting.{same_count}
 
 -- ---- nodes whose parts are rewritten
 
