@@ -1,5 +1,5 @@
 -- Where a declared expression stands, and what it is called with.
-use Rattle.std.specs.Prelude.{◌≡◌, ℕ, ℤ, Bool, List, []}
+use Rattle.std.specs.Prelude.{◌≡◌, ℕ, ℤ, Bool, List, [], map}
 use Rattle.std.proofs.Common.{sym, ap, ◌∙◌}
 use Rattle.rhai_base.specs.declared.types.dynamic.Dynamic.{Dynamic}
 use Rattle.rhai_parts.specs.declared.types.position.Position.{Position}
@@ -38,6 +38,10 @@ position_of e = position_in (views.out-Expr e)
 -- the arguments of a call, and none of another node
 pub arguments_of : Expr → List Expr
 arguments_of e = arguments_in (views.out-Expr e)
+
+-- all of them stand there
+abbrev pub AreAt : Position → List Expr → Type 0
+AreAt p es = map position_of es ≡ map (λ e. p) es
 
 position_of-roll : (x : Layer) → position_of (views.roll-Expr x) ≡ position_in x
 unfolding position_of

@@ -2,10 +2,10 @@
 
 #![tactic(auto, using(crate::specs::Reading::shapes, rhai_base::specs::Reading::kinds, crate::proofs::ItemLists::steps, crate::proofs::Pointers::pointers, crate::specs::Positions::places))]
 
-ghost use Rattle.std.specs.Prelude.{◌≡◌, ◌∷◌, [], IfOk, map};
+ghost use Rattle.std.specs.Prelude.{◌≡◌, [], IfOk, map};
 ghost use Rattle.rhai_base.specs.Reading.{value_of};
 ghost use Rattle.rhai_base.specs.Value.{PointerV, values};
-ghost use Rattle.rhai_ast.specs.Positions.{arguments_of, position_of};
+ghost use Rattle.rhai_ast.specs.Positions.{AreAt, arguments_of, position_of};
 ghost use Rattle.rhai_ast.specs.Reading.{expr_of, exprs_of};
 ghost use Rattle.rhai_meaning.specs.Constants as constants;
 ghost use Rattle.rhai_meaning.specs.Tree.{DynamicConstant};
@@ -66,7 +66,7 @@ impl Expr {
     pub fn from_dynamic(alloc: Global, value: Dynamic, pos: Position) -> Result<Expr, OutOfMemory>
         ensures value { IfOk result (λ e. expr_of e ≡ constants.constant_for (value_of value)) }
         ensures position { IfOk result (λ e. position_of e ≡ pos) }
-        ensures arguments { IfOk result (λ e. map position_of (arguments_of e) ≡ map (λ a. pos) (arguments_of e)) }
+        ensures arguments { IfOk result (λ e. AreAt pos (arguments_of e)) }
     {
         match value {
             Dynamic::Unit => Ok(Expr::Unit(pos)),
@@ -87,7 +87,7 @@ impl Expr {
     fn from_pointer(alloc: Global, pointer: FnPtr, pos: Position) -> Result<Expr, OutOfMemory>
         ensures value { IfOk result (λ e. expr_of e ≡ constants.constant_for (PointerV pointer.name (values (map value_of pointer.curried)))) }
         ensures position { IfOk result (λ e. position_of e ≡ pos) }
-        ensures arguments { IfOk result (λ e. map position_of (arguments_of e) ≡ map (λ a. pos) (arguments_of e)) }
+        ensures arguments { IfOk result (λ e. AreAt pos (arguments_of e)) }
     {
         if !pointer.curry().is_empty() {
             return hold(alloc, Dynamic::FnPtr(pointer), pos);
@@ -128,7 +128,7 @@ fn hold(alloc: Global, value: Dynamic, pos: Position) -> Result<Expr, OutOfMemor
 fn pointer_call(alloc: Global, name: ImmutableString, pos: Position) -> Result<Expr, OutOfMemory>
     ensures value { IfOk result (λ e. expr_of e ≡ constants.pointer_call name) }
     ensures position { IfOk result (λ e. position_of e ≡ pos) }
-    ensures arguments { IfOk result (λ e. map position_of (arguments_of e) ≡ pos ∷ []) }
+    ensures arguments { IfOk result (λ e. AreAt pos (arguments_of e)) }
 {
     let mut args = Seq::new(alloc);
     args.push(Expr::StringConstant(name, pos))?;
