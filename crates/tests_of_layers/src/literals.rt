@@ -23,24 +23,48 @@ const ROWS: [Row; 24] = [
         true,
         Some(("array", "[1, 'c', 3..4]")),
     ),
-    Row(Plan::Nested(&[Leaf::Int(1)]), true, Some(("array", "[[1]]"))),
+    Row(
+        Plan::Nested(&[Leaf::Int(1)]),
+        true,
+        Some(("array", "[[1]]")),
+    ),
     Row(Plan::ArrayOfCall("f"), false, None),
     Row(Plan::Braces(None), false, None),
     Row(Plan::Call("f", &[]), false, None),
-    Row(Plan::Call("Fn", &[Leaf::Text("f")]), false, Some(("Fn", "Fn(f)"))),
+    Row(
+        Plan::Call("Fn", &[Leaf::Text("f")]),
+        false,
+        Some(("Fn", "Fn(f)")),
+    ),
     Row(Plan::Call("Fn", &[Leaf::Text("print")]), false, None),
     Row(Plan::Call("Fn", &[Leaf::Int(1)]), false, None),
-    Row(Plan::Call("Fn", &[Leaf::Text("f"), Leaf::Unit]), false, None),
+    Row(
+        Plan::Call("Fn", &[Leaf::Text("f"), Leaf::Unit]),
+        false,
+        None,
+    ),
     Row(Plan::Call("f", &[Leaf::Text("f")]), false, None),
-    Row(Plan::Call("..", &[Leaf::Int(1), Leaf::Int(5)]), false, Some(("range", "1..5"))),
-    Row(Plan::Call("..", &[Leaf::Unit, Leaf::Int(5)]), false, Some(("range", "0..5"))),
+    Row(
+        Plan::Call("..", &[Leaf::Int(1), Leaf::Int(5)]),
+        false,
+        Some(("range", "1..5")),
+    ),
+    Row(
+        Plan::Call("..", &[Leaf::Unit, Leaf::Int(5)]),
+        false,
+        Some(("range", "0..5")),
+    ),
     Row(
         Plan::Call("..=", &[Leaf::Int(1), Leaf::Unit]),
         false,
         Some(("range=", "1..=9223372036854775807")),
     ),
     Row(Plan::Call("..=", &[Leaf::Unit, Leaf::Unit]), false, None),
-    Row(Plan::Call("..", &[Leaf::Char('a'), Leaf::Int(1)]), false, None),
+    Row(
+        Plan::Call("..", &[Leaf::Char('a'), Leaf::Int(1)]),
+        false,
+        None,
+    ),
     Row(Plan::Call("..", &[Leaf::Int(1)]), false, None),
     Row(Plan::Call("+", &[Leaf::Int(1), Leaf::Int(2)]), false, None),
 ];
@@ -56,10 +80,12 @@ fn literals_have_values(rt: HostRuntime) -> Result<(), Fail> {
 fn reads(alloc: Global, row: &Row) -> Result<bool, Fail> {
     let Row(plan, is_constant, wanted) = row;
     let expr = expr(alloc, plan)?;
-    Ok(expr.is_constant() == *is_constant
-        && expr.constant_value(alloc)?.is_some() == *is_constant
-        && has_value(alloc, &expr, *wanted)?
-        && has_value(alloc, &expr.clone()?, *wanted)?)
+    Ok(
+        expr.is_constant() == *is_constant
+            && expr.constant_value(alloc)?.is_some() == *is_constant
+            && has_value(alloc, &expr, *wanted)?
+            && has_value(alloc, &expr.clone()?, *wanted)?,
+    )
 }
 
 fn has_value(
@@ -87,7 +113,10 @@ fn is_written(
 fn lists_of_constants_are_told(rt: HostRuntime) -> Result<(), Fail> {
     let leaves = constants(rt.alloc(), &[Leaf::Int(1), Leaf::Unit])?;
     assert!(rt; are_constant(leaves.as_slice()));
-    let mixed = [Expr::Unit(Position::NONE), expr(rt.alloc(), &Plan::Braces(None))?];
+    let mixed = [
+        Expr::Unit(Position::NONE),
+        expr(rt.alloc(), &Plan::Braces(None))?,
+    ];
     assert!(rt; !are_constant(&mixed));
     Ok(())
 }

@@ -30,14 +30,56 @@ enum Key {
 
 const ROWS: [Row; 10] = [
     Row(&[true], &[(Key::Int(1), 0)], Some(0), None, None),
-    Row(&[true], &[(Key::Pointer, 9)], None, None, Some(AstError::SwitchKey)),
-    Row(&[true], &[(Key::Int(1), 1)], None, None, Some(AstError::SwitchIndex)),
-    Row(&[true, true, true], &[], Some(3), None, Some(AstError::SwitchIndex)),
+    Row(
+        &[true],
+        &[(Key::Pointer, 9)],
+        None,
+        None,
+        Some(AstError::SwitchKey),
+    ),
+    Row(
+        &[true],
+        &[(Key::Int(1), 1)],
+        None,
+        None,
+        Some(AstError::SwitchIndex),
+    ),
+    Row(
+        &[true, true, true],
+        &[],
+        Some(3),
+        None,
+        Some(AstError::SwitchIndex),
+    ),
     Row(&[true], &[], None, Some(1), Some(AstError::SwitchIndex)),
-    Row(&[false, true], &[], Some(1), Some(0), Some(AstError::SwitchDefaultCondition)),
-    Row(&[false], &[], Some(0), Some(0), Some(AstError::SwitchDefaultCondition)),
-    Row(&[true, true], &[], Some(0), Some(0), Some(AstError::SwitchDefaultShared)),
-    Row(&[true], &[(Key::Int(1), 0)], None, Some(0), Some(AstError::SwitchDefaultShared)),
+    Row(
+        &[false, true],
+        &[],
+        Some(1),
+        Some(0),
+        Some(AstError::SwitchDefaultCondition),
+    ),
+    Row(
+        &[false],
+        &[],
+        Some(0),
+        Some(0),
+        Some(AstError::SwitchDefaultCondition),
+    ),
+    Row(
+        &[true, true],
+        &[],
+        Some(0),
+        Some(0),
+        Some(AstError::SwitchDefaultShared),
+    ),
+    Row(
+        &[true],
+        &[(Key::Int(1), 0)],
+        None,
+        Some(0),
+        Some(AstError::SwitchDefaultShared),
+    ),
     Row(&[true, true], &[(Key::Int(1), 1)], Some(1), Some(0), None),
 ];
 
@@ -58,10 +100,7 @@ fn is_met(alloc: Global, row: &Row) -> Result<bool, Fail> {
     }
 }
 
-fn table(
-    alloc: Global,
-    row: &Row,
-) -> Result<Result<SwitchCasesCollection, AstError>, Fail> {
+fn table(alloc: Global, row: &Row) -> Result<Result<SwitchCasesCollection, AstError>, Fail> {
     let Row(conditions, cases, range, default, _) = row;
     let arms = arms(alloc, conditions)?;
     let cases = map(alloc, cases)?;
@@ -89,10 +128,7 @@ fn arms(alloc: Global, conditions: &[bool]) -> Result<Vec<BinaryExpr>, OutOfMemo
     Ok(arms)
 }
 
-fn map(
-    alloc: Global,
-    cases: &[(Key, usize)],
-) -> Result<IndexMap<Dynamic, CaseBlocksList>, Fail> {
+fn map(alloc: Global, cases: &[(Key, usize)]) -> Result<IndexMap<Dynamic, CaseBlocksList>, Fail> {
     let mut map = IndexMap::new(alloc);
     for (key, arm) in cases {
         map.insert(value(alloc, *key)?, case(alloc, *arm)?)?;
