@@ -6,11 +6,15 @@ mod flags;
 #[cfg(test)]
 mod lists;
 #[cfg(test)]
+mod literals;
+#[cfg(test)]
 mod names;
 #[cfg(test)]
 mod op_assignments;
 #[cfg(test)]
 mod operators;
+#[cfg(test)]
+mod plans;
 #[cfg(test)]
 mod positions;
 #[cfg(test)]
@@ -22,8 +26,14 @@ mod samples;
 #[cfg(test)]
 mod scopes;
 #[cfg(test)]
+mod scripts;
+#[cfg(test)]
+mod switches;
+#[cfg(test)]
 mod texts;
 #[cfg(test)]
 mod tokens;
+#[cfg(test)]
+mod trees;
 #[cfg(test)]
 mod values;
