@@ -2,54 +2,69 @@
 
 use rhai_base::{AstError, OpAssignment, Position, Token};
 
-/// Texts, with what each gives as an `op=` and as an operator: the two texts, or the number of the refusal.
-const ROWS: [(&str, Answer, Answer); 19] = [
-    ("+=", Ok(("+=", "+")), Err(3)),
-    ("-=", Ok(("-=", "-")), Err(3)),
-    ("*=", Ok(("*=", "*")), Err(3)),
-    ("/=", Ok(("/=", "/")), Err(3)),
-    ("%=", Ok(("%=", "%")), Err(3)),
-    ("**=", Ok(("**=", "**")), Err(3)),
-    ("<<=", Ok(("<<=", "<<")), Err(3)),
-    (">>=", Ok((">>=", ">>")), Err(3)),
-    ("&=", Ok(("&=", "&")), Err(3)),
-    ("|=", Ok(("|=", "|")), Err(3)),
-    ("^=", Ok(("^=", "^")), Err(3)),
-    ("+", Err(2), Ok(("+=", "+"))),
-    ("-", Err(2), Ok(("-=", "-"))),
-    ("**", Err(2), Ok(("**=", "**"))),
-    ("==", Err(2), Err(3)),
-    ("=", Err(2), Err(3)),
-    ("!", Err(2), Err(3)),
-    ("..", Err(2), Err(3)),
-    ("", Err(2), Err(3)),
+/// Each `op=` with its operator.
+const FORMS: [(&str, &str); 11] = [
+    ("+=", "+"),
+    ("-=", "-"),
+    ("*=", "*"),
+    ("/=", "/"),
+    ("%=", "%"),
+    ("**=", "**"),
+    ("<<=", "<<"),
+    (">>=", ">>"),
+    ("&=", "&"),
+    ("|=", "|"),
+    ("^=", "^"),
 ];
 
-type Answer = Result<(&'static str, &'static str), u8>;
+/// Texts that are neither.
+const OTHERS: [&str; 5] = ["==", "=", "!", "..", ""];
 
-/// The texts of an op-assignment and of its operator, or the number of the refusal.
-fn texts(made: Result<OpAssignment, AstError>) -> Answer {
-    match made {
-        Ok(made) => match made.get_op_assignment_info() {
-            Some((_, form, _, operator)) => Ok((form, operator)),
-            None => Ok(("=", "=")),
-        },
-        Err(refusal) => Err(refusal.number()),
+const POS: Position = Position::NONE;
+
+#[test]
+fn makes_op_assignments(rt: HostRuntime) {
+    for (form, op) in &FORMS {
+        assert!(rt;
+            has_texts(OpAssignment::new_op_assignment(form, POS), form, op),
+            "{form}"
+        );
+        assert!(rt;
+            has_texts(OpAssignment::new_op_assignment_from_base(op, POS), form, op),
+            "{op}"
+        );
+        assert!(rt; is_no_form(op) && is_no_operator(form), "{form}");
     }
 }
 
 #[test]
-fn makes_op_assignments(rt: HostRuntime) {
-    for (text, form, base) in &ROWS {
-        let pos = Position::new(1, 7);
-        assert!(rt;
-            texts(OpAssignment::new_op_assignment(text, pos)) == *form,
-            "{text}"
-        );
-        assert!(rt;
-            texts(OpAssignment::new_op_assignment_from_base(text, pos)) == *base,
-            "{text}"
-        );
+fn refuses_other_texts(rt: HostRuntime) {
+    for text in &OTHERS {
+        assert!(rt; is_no_form(text) && is_no_operator(text), "{text}");
+    }
+}
+
+fn has_texts(made: Result<OpAssignment, AstError>, form: &str, op: &str) -> bool {
+    let Ok(made) = made else {
+        return false;
+    };
+    match made.get_op_assignment_info() {
+        Some((_, form_text, _, operator)) => form_text == form && operator == op,
+        None => false,
+    }
+}
+
+fn is_no_form(text: &str) -> bool {
+    match OpAssignment::new_op_assignment(text, POS) {
+        Ok(_) => false,
+        Err(refusal) => refusal.number() == 2,
+    }
+}
+
+fn is_no_operator(text: &str) -> bool {
+    match OpAssignment::new_op_assignment_from_base(text, POS) {
+        Ok(_) => false,
+        Err(refusal) => refusal.number() == 3,
     }
 }
 
@@ -58,8 +73,7 @@ fn makes_op_assignments_of_tokens(rt: HostRuntime) {
     let pos = Position::new(1, 7);
     let sum = OpAssignment::new_op_assignment_from_token(Token::PlusAssign, pos);
     assert!(rt; sum == OpAssignment::new_op_assignment_from_base_token(&Token::Plus, pos));
-    assert!(rt; OpAssignment::new_op_assignment("+=", pos) == Ok(sum));
-    assert!(rt; texts(Ok(sum)) == Ok(("+=", "+")));
+    assert!(rt; has_texts(Ok(sum), "+=", "+"));
     assert!(rt; sum.is_op_assignment() && sum.position() == pos);
 }
 

@@ -5,7 +5,7 @@ use std::alloc::Global;
 use std::test::Fail;
 
 /// A value that is yet to be made.
-#[derive(Clone, Copy, Debug)]
+#[derive(Clone, Copy)]
 pub enum Sample {
     /// `()`
     Unit,

@@ -5,36 +5,55 @@ use rhai_base::{Dynamic, FnPtr, INT, ImmutableString};
 use std::alloc::Global;
 use std::test::Fail;
 
-/// Each kind of value, with the name of its type, its text, and how an array writes it.
-const KINDS: [(Sample, &str, &str, &str); 13] = [
-    (Sample::Unit, "()", "", "()"),
-    (Sample::Bool(false), "bool", "false", "false"),
+/// A value, the name of its type, its text, how an array writes it, and whether it can be a key.
+type Row = (Sample, &'static str, &'static str, &'static str, bool);
+
+const ROWS: [Row; 15] = [
+    (Sample::Unit, "()", "", "()", true),
+    (Sample::Bool(false), "bool", "false", "false", true),
     (
         Sample::Int(INT::MIN),
         "i64",
         "-9223372036854775808",
         "-9223372036854775808",
+        true,
     ),
-    (Sample::Char('c'), "char", "c", "'c'"),
-    (Sample::Text("a"), "string", "a", "\"a\""),
-    (Sample::Empty, "array", "[]", "[]"),
+    (Sample::Char('c'), "char", "c", "'c'", true),
+    (Sample::Text("a"), "string", "a", "\"a\"", true),
+    (Sample::Empty, "array", "[]", "[]", true),
     (
         Sample::Mixed,
         "array",
         "[1, \"a\", 'c', ()]",
         "[1, \"a\", 'c', ()]",
+        true,
     ),
-    (Sample::Members(&[]), "map", "#{}", "#{}"),
+    (Sample::Members(&[]), "map", "#{}", "#{}", true),
     (
         Sample::Members(&[("b", 2), ("a", 1)]),
         "map",
         "#{\"a\": 1, \"b\": 2}",
         "#{\"a\": 1, \"b\": 2}",
+        true,
     ),
-    (Sample::Pointer(None), "Fn", "Fn(f)", "Fn(f)"),
-    (Sample::Pointer(Some(1)), "Fn", "Fn(f)", "Fn(f)"),
-    (Sample::Range(-1, 2), "range", "-1..2", "-1..2"),
-    (Sample::RangeInclusive(1, 2), "range=", "1..=2", "1..=2"),
+    (Sample::Pointer(None), "Fn", "Fn(f)", "Fn(f)", false),
+    (Sample::Pointer(Some(1)), "Fn", "Fn(f)", "Fn(f)", false),
+    (Sample::ArrayOfPointer, "array", "[Fn(f)]", "[Fn(f)]", false),
+    (
+        Sample::MapOfPointer,
+        "map",
+        "#{\"k\": Fn(f)}",
+        "#{\"k\": Fn(f)}",
+        false,
+    ),
+    (Sample::Range(-1, 2), "range", "-1..2", "-1..2", true),
+    (
+        Sample::RangeInclusive(1, 2),
+        "range=",
+        "1..=2",
+        "1..=2",
+        true,
+    ),
 ];
 
 /// Values that are not equal.
@@ -47,24 +66,19 @@ const DIFFERENT: [(Sample, Sample); 6] = [
     (Sample::Range(1, 2), Sample::Range(1, 3)),
 ];
 
-/// Values, and whether they can be keys of a `switch`.
-const KEYS: [(Sample, bool); 6] = [
-    (Sample::Mixed, true),
-    (Sample::Members(&[("a", 1)]), true),
-    (Sample::Range(1, 2), true),
-    (Sample::Pointer(None), false),
-    (Sample::ArrayOfPointer, false),
-    (Sample::MapOfPointer, false),
-];
-
 #[test]
-fn names_and_writes_each_kind(rt: HostRuntime) -> Result<(), Fail> {
-    for (sample, name, text, inner) in &KINDS {
-        let value = sample.value(rt.alloc())?;
-        assert!(rt; value.type_name() == *name, "{sample:?}");
-        assert!(rt; is_written(rt.alloc(), &value, text, inner)?, "{sample:?}");
+fn describes_each_kind(rt: HostRuntime) -> Result<(), Fail> {
+    for row in &ROWS {
+        assert!(rt; is_described(rt.alloc(), row)?, "{}", row.2);
     }
     Ok(())
+}
+
+fn is_described(alloc: Global, row: &Row) -> Result<bool, Fail> {
+    let (sample, type_name, text, inner, is_key) = row;
+    let value = sample.value(alloc)?;
+    let is_named = value.type_name() == *type_name && value.is_hashable() == *is_key;
+    Ok(is_named && is_written(alloc, &value, text, inner)? && is_copied(&value)?)
 }
 
 /// Is the value's text this one, and its form inside an array that one?
@@ -73,6 +87,11 @@ fn is_written(alloc: Global, value: &Dynamic, text: &str, inner: &str) -> Result
     let mut form = String::from_str(alloc, text)?;
     value.push_inner(&mut form)?;
     Ok(is_text && form.as_str().strip_prefix(text) == Some(inner))
+}
+
+fn is_copied(value: &Dynamic) -> Result<bool, Fail> {
+    let copy = value.clone()?;
+    Ok(copy.is_equal(value) && copy == *value)
 }
 
 #[test]
@@ -85,41 +104,21 @@ fn appends_texts(rt: HostRuntime) -> Result<(), Fail> {
 }
 
 #[test]
-fn copies_each_kind(rt: HostRuntime) -> Result<(), Fail> {
-    for (sample, _, _, _) in &KINDS {
-        assert!(rt; is_copied(&sample.value(rt.alloc())?)?, "{sample:?}");
-    }
-    Ok(())
-}
-
-fn is_copied(value: &Dynamic) -> Result<bool, Fail> {
-    let copy = value.clone()?;
-    Ok(copy.is_equal(value) && copy == *value)
-}
-
-#[test]
 fn compares_types_and_parts(rt: HostRuntime) -> Result<(), Fail> {
     for (one, other) in &DIFFERENT {
-        let one_value = one.value(rt.alloc())?;
-        assert!(rt; is_other(rt.alloc(), &one_value, *other)?, "{one:?}");
+        assert!(rt; are_different(rt.alloc(), *one, *other)?);
     }
     Ok(())
 }
 
-fn is_other(alloc: Global, value: &Dynamic, other: Sample) -> Result<bool, Fail> {
+fn are_different(alloc: Global, one: Sample, other: Sample) -> Result<bool, Fail> {
+    let one = one.value(alloc)?;
+    differs(alloc, &one, other)
+}
+
+fn differs(alloc: Global, value: &Dynamic, other: Sample) -> Result<bool, Fail> {
     let other = other.value(alloc)?;
     Ok(*value != other && !value.is_equal(&other))
-}
-
-#[test]
-fn tells_which_can_be_keys(rt: HostRuntime) -> Result<(), Fail> {
-    for (sample, is_key) in &KEYS {
-        assert!(rt;
-            sample.value(rt.alloc())?.is_hashable() == *is_key,
-            "{sample:?}"
-        );
-    }
-    Ok(())
 }
 
 #[test]
