@@ -1,7 +1,7 @@
 -- Laws of the walk: what holds of two walks at each node holds of them over a whole tree.
-use Rattle.std.proofs.Common.{◌≡◌, ℕ, ◌+◌, List, [], ◌∷◌, arith}
-use Rattle.rhai_meaning.specs.Tree.{Expr, ArrayOf, BlockExpr, FnCall, Exprs, no_exprs, expr, Stmt, If, Block, ExprStmt, FnCallStmt, Stmts, no_stmts, stmt, joined, Function, Script}
-use Rattle.rhai_meaning.specs.Walk.{Node, Walk, parts_of_expr, parts_of_stmt, over_exprs, over_stmts, over_expr, over_stmt, over_functions, over_script, every, total}
+use Rattle.std.proofs.Common.{◌≡◌, ℕ, ◌+◌, arith}
+use Rattle.rhai_meaning.specs.Tree.{Expr, ArrayOf, BlockExpr, FnCall, Exprs, no_exprs, expr, Stmt, If, Block, ExprStmt, FnCallStmt, Stmts, no_stmts, stmt, joined}
+use Rattle.rhai_meaning.specs.Walk.{Node, Walk, parts_of_expr, parts_of_stmt, over_exprs, over_stmts, every, total}
 
 -- R is kept by both walks, step by step
 pub record Alongside {ℓ κ μ} {A : Type ℓ} {B : Type κ} (R : A → B → Type μ) (w : Walk A) (v : Walk B) : Type (ℓ ⊔ κ ⊔ μ) where
@@ -31,19 +31,6 @@ module _ {ℓ κ μ} {A : Type ℓ} {B : Type κ} (R : A → B → Type μ) (w :
     pub stmts_alongside : (ss : Stmts) → R (over_stmts w ss) (over_stmts v ss)
     stmts_alongside no_stmts = g.none
     stmts_alongside (stmt s ss) = g.both _ _ _ _ (g.node _ _ _ (stmt_parts_alongside s)) (stmts_alongside ss)
-
-  pub expr_alongside : (e : Expr) → R (over_expr w e) (over_expr v e)
-  expr_alongside e = g.node _ _ _ (parts_alongside e)
-
-  pub stmt_alongside : (s : Stmt) → R (over_stmt w s) (over_stmt v s)
-  stmt_alongside s = g.node _ _ _ (stmt_parts_alongside s)
-
-  functions_alongside : (fs : List Function) → R (over_functions w fs) (over_functions v fs)
-  functions_alongside [] = g.none
-  functions_alongside (f ∷ fs) = g.both _ _ _ _ (stmts_alongside f.body) (functions_alongside fs)
-
-  pub script_alongside : (p : Script) → R (over_script w p) (over_script v p)
-  script_alongside p = g.both _ _ _ _ (stmts_alongside p.statements) (functions_alongside p.functions)
 
 -- ---- one list after another
 
