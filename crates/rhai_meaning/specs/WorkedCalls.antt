@@ -3,13 +3,14 @@ use Rattle.std.specs.Prelude.{◌≡◌, Bool, true, false, List, [], ◌∷◌,
 use Prim.Native.String.{String}
 use Rattle.rhai_base.specs.Value.{Text, Value, UnitV, BoolV, TextV, PointerV, values}
 use Rattle.rhai_base.specs.Operators.{computed}
-use Rattle.rhai_meaning.specs.Act.{ScopeEntry, Unbound, WrongKind, Key, Gives, Ended, At, ScriptCall, IsStuck, OutOfTurns, Halted, World, Invoke}
+use Rattle.rhai_meaning.specs.Act.{ScopeEntry, Unbound, WrongKind, Key, Gives, Ended, At, ScriptCall, run_all, IsStuck, OutOfTurns, Halted, World, Invoke}
 use Rattle.rhai_meaning.specs.Calls.{key, call_named, call_pointer}
 use Rattle.rhai_meaning.specs.ActForms.{give}
 use Rattle.rhai_meaning.specs.Desugar.{core_expr}
 use Rattle.rhai_meaning.specs.Core as core
 use Rattle.rhai_meaning.specs.Engine.{Engine}
-use Rattle.rhai_meaning.specs.Run.{AtFunction, WithValue, WithThrown, WithStuck, WithoutTurns, Report, invoke_at, report_of, run_script, world_of}
+use Rattle.rhai_meaning.specs.Meaning.{acts}
+use Rattle.rhai_meaning.specs.Run.{AtFunction, WithValue, WithThrown, WithStuck, WithoutTurns, Report, entered, env_at, invoke_at, report_of, run_script, world_of}
 use Rattle.rhai_meaning.specs.Tree.{Function, Expr, StringConstant, Stmt, ExprStmt, stmts, FnCall, NoToken, exprs}
 use Rattle.rhai_meaning.specs.WorkedForms.{int, call, nothing_set, joins, joining, ran_with, ran, ends, asked, i}
 
@@ -176,6 +177,13 @@ too_deep = refl
 -- no such function
 no_function : invoke_at true world [] 1 (the_call false) [] [] 4 ≡ At (Halted (IsStuck Unbound)) (record { scope = []; this = None; calls = [] }) 4
 no_function = refl
+
+-- the value of a list, and that of one whose value isn't wanted
+value_wanted : run_all world (env_at true world [] 0) (acts world true body UnitV) (entered true two_parameters (the_call false) [] []) 0 ≡ At (Ended (Gives (i 7))) (entered true two_parameters (the_call false) [] []) 0
+value_wanted = refl
+
+value_unwanted : run_all world (env_at true world [] 0) (acts world false body UnitV) (entered true two_parameters (the_call false) [] []) 0 ≡ At (Ended (Gives UnitV)) (entered true two_parameters (the_call false) [] []) 0
+value_unwanted = refl
 
 -- ---- a function as entry: it takes a turn, and has `this` but no variables
 
