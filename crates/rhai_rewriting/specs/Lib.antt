@@ -8,3 +8,4 @@ pub mod Weight
 pub mod Residue
 pub mod Steps
 pub mod Refines
+pub mod WorkedWeights
