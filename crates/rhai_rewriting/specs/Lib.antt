@@ -8,3 +8,6 @@ pub mod Weight
 pub mod Residue
 pub mod Steps
 pub mod Refines
+pub mod WorkedWeights
+pub mod WorkedRewrites
+pub mod WorkedKnown
