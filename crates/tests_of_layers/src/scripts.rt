@@ -38,14 +38,23 @@ const WANTED: [&str; 5] = [
 
 fn function(alloc: Global, row: &Row) -> Result<ScriptFuncDef, OutOfMemory> {
     let Row(name, params, this_type, comment) = row;
-    Ok(ScriptFuncDef {
+    let mut function = named(alloc, ImmutableString::new(alloc, name)?);
+    function.this_type = maybe(alloc, *this_type)?;
+    function.params = texts(alloc, params)?;
+    function.comments = texts(alloc, &[*comment])?;
+    Ok(function)
+}
+
+/// A function without parameters.
+fn named(alloc: Global, name: ImmutableString) -> ScriptFuncDef {
+    ScriptFuncDef {
         body: StmtBlock::new(Vec::new(alloc), NONE, NONE),
-        name: ImmutableString::new(alloc, name)?,
-        this_type: maybe(alloc, *this_type)?,
+        name,
+        this_type: None,
         access: FnAccess::Public,
-        params: texts(alloc, params)?,
-        comments: texts(alloc, &[*comment])?,
-    })
+        params: Seq::new(alloc),
+        comments: Seq::new(alloc),
+    }
 }
 
 fn maybe(alloc: Global, text: Option<&str>) -> Result<Option<ImmutableString>, OutOfMemory> {
@@ -99,7 +108,7 @@ fn a_key_equals_its_clone(rt: HostRuntime) -> Result<(), Fail> {
     let key = FnKey {
         name: ImmutableString::new(rt.alloc(), "f")?,
         params: 1,
-        this_type: maybe(rt.alloc(), Some("i64"))?,
+        this_type: None,
     };
     assert!(rt; key == key.clone()?);
     Ok(())
@@ -107,10 +116,16 @@ fn a_key_equals_its_clone(rt: HostRuntime) -> Result<(), Fail> {
 
 #[test]
 fn a_script_holds_its_statements_and_its_table(rt: HostRuntime) -> Result<(), Fail> {
-    let statements = vec![in rt.alloc(); Stmt::Noop(Position::new(3, 4))]?;
-    let lib = Rc::new(rt.alloc(), FnLib::new(rt.alloc()))?;
-    assert!(rt; is_script(&AST::new(statements, lib)));
+    let script = script(rt.alloc())?;
+    assert!(rt; is_script(&script));
+    assert!(rt; is_script(&script.clone()?));
     Ok(())
+}
+
+fn script(alloc: Global) -> Result<AST, OutOfMemory> {
+    let lib = Rc::new(alloc, FnLib::new(alloc))?;
+    let statements = vec![in alloc; Stmt::Noop(Position::new(3, 4))]?;
+    Ok(AST::new(statements, lib))
 }
 
 fn is_script(script: &AST) -> bool {

@@ -102,9 +102,9 @@ fn is_met(alloc: Global, row: &Row) -> Result<bool, Fail> {
 
 fn table(alloc: Global, row: &Row) -> Result<Result<SwitchCasesCollection, AstError>, Fail> {
     let Row(conditions, cases, range, default, _) = row;
-    let arms = arms(alloc, conditions)?;
-    let cases = map(alloc, cases)?;
     let ranges = ranges(alloc, *range)?;
+    let cases = map(alloc, cases)?;
+    let arms = arms(alloc, conditions)?;
     Ok(SwitchCasesCollection::new(arms, cases, ranges, *default))
 }
 

@@ -40,13 +40,16 @@ fn belongs(alloc: Global, (line, wanted): &(Line, bool)) -> Result<bool, OutOfMe
 #[test]
 fn a_block_holds_its_statements(rt: HostRuntime) -> Result<(), Fail> {
     let (start, end) = (Position::new(1, 2), Position::new(3, 4));
-    let statements = vec![in rt.alloc(); Stmt::Noop(start), Stmt::Noop(end)]?;
-    let block = StmtBlock::new(statements, start, end);
+    let block = block(rt.alloc(), start, end)?;
     assert!(rt; is_block(&block, start, end));
     assert!(rt; is_block(&block.clone()?, start, end));
-    let empty = StmtBlock::new(Vec::new(rt.alloc()), start, end);
-    assert!(rt; empty.is_empty());
+    assert!(rt; StmtBlock::new(Vec::new(rt.alloc()), start, end).is_empty());
     Ok(())
+}
+
+fn block(alloc: Global, start: Position, end: Position) -> Result<StmtBlock, OutOfMemory> {
+    let statements = vec![in alloc; Stmt::Noop(start), Stmt::Noop(end)]?;
+    Ok(StmtBlock::new(statements, start, end))
 }
 
 /// Whether the block has a statement at its start and one at its end.
@@ -64,14 +67,19 @@ fn is_block(block: &StmtBlock, start: Position, end: Position) -> bool {
 
 #[test]
 fn a_choice_is_copied_with_its_blocks(rt: HostRuntime) -> Result<(), Fail> {
-    let alloc = rt.alloc();
-    let choice = FlowControl {
-        expr: Expr::BoolConstant(true, NONE),
-        body: StmtBlock::new(vec![in alloc; Stmt::Noop(NONE)]?, NONE, NONE),
-        branch: StmtBlock::new(Vec::new(alloc), NONE, NONE),
-    };
+    let choice = choice(rt.alloc())?;
+    assert!(rt; is_choice(&choice));
     assert!(rt; is_choice(&choice.clone()?));
     Ok(())
+}
+
+fn choice(alloc: Global) -> Result<FlowControl, OutOfMemory> {
+    let statements = vec![in alloc; Stmt::Noop(NONE)]?;
+    Ok(FlowControl {
+        expr: Expr::BoolConstant(true, NONE),
+        body: StmtBlock::new(statements, NONE, NONE),
+        branch: StmtBlock::new(Vec::new(alloc), NONE, NONE),
+    })
 }
 
 fn is_choice(choice: &FlowControl) -> bool {
