@@ -13,4 +13,10 @@ pub mod Run
 pub mod Constants
 pub mod Queries
 pub mod Relations
+pub mod Agreeing
+pub mod WorkedForms
 pub mod WorkedRuns
+pub mod WorkedCalls
+pub mod WorkedNames
+pub mod WorkedHosts
+pub mod WorkedTrees
