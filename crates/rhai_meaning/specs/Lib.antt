@@ -10,6 +10,7 @@ pub mod Desugar
 pub mod Calls
 pub mod Meaning
 pub mod Run
+pub mod Small
 pub mod Constants
 pub mod Queries
 pub mod Relations
