@@ -21,7 +21,7 @@ use Rattle.rhai_ast.specs.Reading.{exprs_of}
 use Rattle.rhai_meaning.specs.Tree.{CallToken, NoToken, OfOperator, OfOther, Callee, count_exprs}
 use Rattle.rhai_engine.specs.EngineInfo.{built_in_of, built_in_at}
 use Rattle.rhai_run.specs.Operators.{operator_by, called_operator}
-use Rattle.rhai_run.specs.Small.{small_expr, small_exprs}
+use Rattle.rhai_meaning.specs.Small.{small_expr, small_exprs}
 
 pub count_exprs_of : (xs : List Expr) → count_exprs (exprs_of xs) ≡ length xs
 count_exprs_of [] = refl
