@@ -21,7 +21,7 @@ use Rattle.rhai_meaning.specs.Faults.{is_unit}
 use Rattle.rhai_engine.specs.EngineInfo.{engine_of}
 use Rattle.rhai_run.specs.Host.{host_of}
 use Rattle.rhai_run.specs.Report.{stuck_meant}
-use Rattle.rhai_run.specs.Small.{small_expr, small_expr_of, small_exprs_of, small_stmt_of, small_stmts_of}
+use Rattle.rhai_meaning.specs.Small.{small_expr, small_expr_of, small_exprs_of, small_stmt_of, small_stmts_of}
 use Rattle.rhai_run.specs.State.{store_of}
 
 -- what a run is in

@@ -2,6 +2,5 @@ pub mod Host
 pub mod Entries
 pub mod Report
 pub mod State
-pub mod Small
 pub mod Operators
 pub mod Evaluating
