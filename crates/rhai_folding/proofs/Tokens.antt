@@ -18,7 +18,7 @@ use Rattle.rhai_meaning.specs.Constants.{value_and}
 use Rattle.rhai_ast.specs.Reading.{mark_of, expr_of, exprs_of}
 use Rattle.rhai_meaning.specs.Tree.{CallToken, NoToken, OfOperator, OfOther}
 use Rattle.rhai_rewriting.specs.Folding.{computed_value, folded_values, operand, operands}
-use Rattle.rhai_optimizer.specs.Operands.{answer_value}
+use Rattle.rhai_folding.specs.Operands.{answer_value}
 
 -- the table goes before the host
 abbrev pub opens : Engine → Token → List Value → Bool

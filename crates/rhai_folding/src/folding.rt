@@ -8,7 +8,7 @@ ghost use Rattle.rhai_base.specs.Reading.{value_of};
 ghost use Rattle.rhai_ast.specs.Reading.{callee_of, expr_of, exprs_of, mark_of};
 ghost use Rattle.rhai_meaning.specs.Tree.{expr, no_exprs};
 ghost use Rattle.rhai_run.specs.EngineInfo.{engine_of};
-ghost use Rattle.rhai_optimizer.specs.Operands.{answer_value, held};
+ghost use Rattle.rhai_folding.specs.Operands.{answer_value, held};
 ghost use Rattle.rhai_rewriting.specs.Folding as spec;
 
 use rhai_ast::{Expr, FnCallExpr};

@@ -1,7 +1,7 @@
 use Rattle.std.proofs.Common.{◌∙◌}
 use Rattle.rhai_run.specs.EngineInfo.{engine_of}
-use Rattle.rhai_optimizer.proofs.rewriting.Tokens.{folded-two}
-use Rattle.rhai_optimizer.proofs.optimizer.folding.folded_binary.Goals as goal
+use Rattle.rhai_folding.proofs.Tokens.{folded-two}
+use Rattle.rhai_folding.proofs.folding.folded_binary.Goals as goal
 
 pub returns : goal.returns
 returns c =
