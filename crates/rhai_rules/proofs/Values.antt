@@ -1,5 +1,5 @@
 -- The values of constants, taken one after another.
-use Rattle.std.proofs.Common.{◌≡◌, ◌≤◌, false, List, [], ◌∷◌, ◌++◌, map, Option, Some, None, IsSome, is_some, refl, sym, ap, ◌∙◌, subst, arith, append_assoc, append-nil}
+use Rattle.std.proofs.Common.{◌≡◌, ◌≤◌, false, List, [], ◌∷◌, ◌++◌, map, Option, Some, None, IsSome, refl, sym, ap, ◌∙◌, subst, arith, append_assoc, append-nil}
 use Rattle.std.proofs.lemmas.List.{map-append}
 use Rattle.rhai_base.specs.declared.types.dynamic.Dynamic.{Dynamic}
 use Rattle.rhai_base.specs.Reading.{value_of}
@@ -50,6 +50,3 @@ reads_end all rest read r i =
     let w : Reads all [] read = subst (λ l. Reads all l read) i r in
     w.gives [] refl ∙ ap Some (append-nil (map value_of read))
 
-pub is_some-false : (o : Option (List Value)) → is_some o ≡ false → o ≡ None
-is_some-false None h = refl
-is_some-false (Some vs) h = cc

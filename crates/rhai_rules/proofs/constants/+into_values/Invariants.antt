@@ -1,8 +1,8 @@
 use Rattle.std.proofs.Common.{◌+◌, ◌*◌, length}
 use Rattle.rhai_ast.specs.Reading.{expr_of, exprs_of}
 use Rattle.rhai_rewriting.specs.Weight.{expr_weight, exprs_weight}
-use Rattle.rhai_optimizer.proofs.rewriting.Values.{Reads}
-use Rattle.rhai_optimizer.proofs.optimizer.constants.+into_values.Given as goal
+use Rattle.rhai_rules.proofs.Values.{Reads}
+use Rattle.rhai_rules.proofs.constants.+into_values.Given as goal
 
 abbrev pub decreases-into_value : goal.decreases-into_value
 decreases-into_value l = 2 * expr_weight (expr_of l.expr)

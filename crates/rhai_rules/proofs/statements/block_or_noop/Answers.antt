@@ -1,7 +1,7 @@
 use Rattle.std.proofs.Common.{◌≡◌, [], ◌∙◌}
 use Rattle.rhai_ast.specs.Reading.{stmt_of-Block}
-use Rattle.rhai_optimizer.proofs.rewriting.Shapes.{block_or_noop-some}
-use Rattle.rhai_optimizer.proofs.optimizer.rules.statements.block_or_noop.Goals as goal
+use Rattle.rhai_rules.proofs.Shapes.{block_or_noop-some}
+use Rattle.rhai_rules.proofs.statements.block_or_noop.Goals as goal
 
 pub returns : goal.returns
 returns c =

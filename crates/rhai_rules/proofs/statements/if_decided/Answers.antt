@@ -4,7 +4,7 @@ use Rattle.rhai_ast.specs.declared.ast.stmt.Stmt.{Stmt}
 use Rattle.rhai_ast.specs.Reading.{stmt_of, stmts_of}
 use Rattle.rhai_rewriting.specs.Rewriting.{if_decided, block_or_noop}
 use Rattle.rhai_rewriting.proofs.Firing.{stmt_fires}
-use Rattle.rhai_optimizer.proofs.optimizer.rules.statements.if_decided.Goals as goal
+use Rattle.rhai_rules.proofs.statements.if_decided.Goals as goal
 
 pub returns : goal.returns
 returns c =
