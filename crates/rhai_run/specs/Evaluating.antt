@@ -18,7 +18,7 @@ use Rattle.rhai_run.specs.declared.plain.state.State.{State}
 use Rattle.rhai_run.specs.declared.report.RunEnd.{RunEnd}
 use Rattle.rhai_run.specs.declared.report.RunEnd.TheVariants as ended
 use Rattle.rhai_meaning.specs.Faults.{is_unit}
-use Rattle.rhai_run.specs.EngineInfo.{engine_of}
+use Rattle.rhai_engine.specs.EngineInfo.{engine_of}
 use Rattle.rhai_run.specs.Host.{host_of}
 use Rattle.rhai_run.specs.Report.{stuck_meant}
 use Rattle.rhai_run.specs.Small.{small_expr, small_expr_of, small_exprs_of, small_stmt_of, small_stmts_of}

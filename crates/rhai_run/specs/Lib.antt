@@ -1,5 +1,3 @@
-pub mod EngineInfo
-pub mod Override
 pub mod Host
 pub mod Entries
 pub mod Report

@@ -10,7 +10,7 @@ ghost use Rattle.std.specs.Prelude.{◌≡◌, IfOk};
 ghost use Rattle.rhai_meaning.specs.Desugar.{core_script};
 ghost use Rattle.rhai_meaning.specs.Run.{AtStatements, report_of, run_script};
 ghost use Rattle.rhai_script.specs.Script.{script_of};
-ghost use Rattle.rhai_run.specs.EngineInfo.{engine_of};
+ghost use Rattle.rhai_engine.specs.EngineInfo.{engine_of};
 ghost use Rattle.rhai_run.specs.Host.{host_of};
 ghost use Rattle.rhai_run.specs.Report.{report_meant};
 ghost use Rattle.rhai_run.specs.Evaluating.{EndsAs};

@@ -1,5 +1,5 @@
 use Rattle.rhai_script.specs.Script.{script_of}
-use Rattle.rhai_run.specs.EngineInfo.{engine_of}
+use Rattle.rhai_engine.specs.EngineInfo.{engine_of}
 use Rattle.rhai_run.specs.Entries.{start_scope}
 use Rattle.rhai_run.specs.Host.{host_of}
 use Rattle.rhai_run.proofs.Whole.{script_report}
