@@ -7,13 +7,13 @@ ghost use Rattle.std.specs.Option.{option_map};
 ghost use Rattle.rhai_base.specs.Reading.{value_of};
 ghost use Rattle.rhai_ast.specs.Reading.{callee_of, expr_of, exprs_of, mark_of};
 ghost use Rattle.rhai_meaning.specs.Tree.{expr, no_exprs};
-ghost use Rattle.rhai_run.specs.EngineInfo.{engine_of};
+ghost use Rattle.rhai_engine.specs.EngineInfo.{engine_of};
 ghost use Rattle.rhai_folding.specs.Operands.{answer_value, held};
 ghost use Rattle.rhai_rewriting.specs.Folding as spec;
 
 use rhai_ast::{Expr, FnCallExpr};
-use rhai_base::{Dynamic, Fault, OutOfMemory, Token, builtin_binary_op, builtin_unary_op};
-use rhai_run::EngineInfo;
+use rhai_base::{Dynamic, Fault, OutOfMemory, Token};
+use rhai_engine::EngineInfo;
 use std::alloc::Global;
 use std::borrow::Cow;
 
@@ -43,31 +43,6 @@ fn value_alone(answer: Option<Result<Dynamic, Fault>>) -> Option<Dynamic>
     }
 }
 
-fn folded_unary(info: &EngineInfo, op: Token, x: &Dynamic) -> Option<Dynamic>
-    ensures { option_map value_of result ≡ spec.folded_values (engine_of info.now) (mark_of (Some op)) (Some (value_of x.now ∷ [])) }
-{
-    if !info.tries_builtin(op, &[x.type_name()]) {
-        return None;
-    }
-    builtin_unary_op(&op, x)
-}
-
-fn folded_binary(
-    alloc: Global,
-    info: &EngineInfo,
-    op: Token,
-    x: &Dynamic,
-    y: &Dynamic,
-) -> Result<Option<Dynamic>, OutOfMemory>
-    ensures { IfOk result (λ v. option_map value_of v ≡ spec.folded_values (engine_of info.now) (mark_of (Some op)) (Some (value_of x.now ∷ value_of y.now ∷ []))) }
-{
-    if !info.tries_builtin(op, &[x.type_name(), y.type_name()]) {
-        return Ok(None);
-    }
-    let answer = builtin_binary_op(alloc, &op, x, y)?;
-    Ok(value_alone(answer))
-}
-
 /// The value of an operator call over constants, where it is built in and answers one.
 pub fn folded(
     alloc: Global,
@@ -90,7 +65,7 @@ fn folded_one(info: &EngineInfo, op: Token, x: &Expr) -> Result<Option<Dynamic>,
     ensures { IfOk result (λ v. option_map value_of v ≡ spec.folded_values (engine_of info.now) (mark_of (Some op)) (spec.operands (expr (expr_of x.now) no_exprs))) }
 {
     match operand(x)? {
-        Some(x) => Ok(folded_unary(info, op, &x)),
+        Some(x) => Ok(info.builtin_unary(op, &x)),
         None => Ok(None),
     }
 }
@@ -110,5 +85,6 @@ fn folded_two(
     let Some(y) = operand(y)? else {
         return Ok(None);
     };
-    folded_binary(alloc, info, op, &x, &y)
+    let answer = info.builtin_binary(alloc, op, &x, &y)?;
+    Ok(value_alone(answer))
 }

@@ -1,6 +1,6 @@
 -- The mark that a declared one stands for.
-use Rattle.rhai_optimizer.specs.declared.optimizer.mark.ListMark.{ListMark}
-use Rattle.rhai_optimizer.specs.declared.optimizer.mark.ListMark.TheVariants as declared_mark
+use Rattle.rhai_optimizer.specs.declared.mark.ListMark.{ListMark}
+use Rattle.rhai_optimizer.specs.declared.mark.ListMark.TheVariants as declared_mark
 use Rattle.rhai_rewriting.specs.Rewriting.{ListKind, Whole, Inside}
 
 abbrev pub mark_of : ListMark → ListKind

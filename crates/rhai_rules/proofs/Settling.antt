@@ -9,7 +9,7 @@ use Rattle.rhai_rewriting.specs.Folding.{folded_operands}
 use Rattle.rhai_rewriting.specs.Residue.{IsReducedExpr, IsReduced}
 use Rattle.rhai_rewriting.specs.Rewriting as rule
 use Rattle.rhai_rewriting.specs.Rewriting.{Context, ExprTo, StmtTo}
-use Rattle.rhai_rewriting.specs.Steps.{ExprParts, StmtParts}
+use Rattle.rhai_rewriting.specs.Steps.{ExprParts, ExprRule, StmtParts, StmtRule}
 use Rattle.rhai_rewriting.proofs.Folds.{folded-operands, folded-reduced}
 use Rattle.rhai_rules.specs.Settled.{is_empty, is_settled_expr, is_settled_if, is_settled_stmt, folded_expr, constant_statement, folded_stmt}
 use Rattle.rhai_rules.proofs.Shapes.{not-true, braces-settled}
@@ -80,3 +80,11 @@ stmt_folds Noop s' h = absurd cc
 stmt_folds (If e a b) s' h = absurd cc
 stmt_folds (Block ss) s' h = absurd cc
 stmt_folds (ExprStmt e) s' h = absurd cc
+
+-- ---- a rule fired at a tree that is spelled so
+
+pub expr_rule_as : {d d' : Bool} {e e1 e' : Expr} → e ≡ e1 → ((k : Context) → ExprRule k d d' e1 e') → (k : Context) → ExprRule k d d' e e'
+expr_rule_as {d = d} {d' = d'} {e' = e'} x r k = subst (λ a. ExprRule k d d' a e') (sym x) (r k)
+
+pub stmt_rule_as : {w d d' : Bool} {s s1 s' : Stmt} → s ≡ s1 → ((k : Context) → StmtRule k w d d' s1 s') → (k : Context) → StmtRule k w d d' s s'
+stmt_rule_as {w = w} {d = d} {d' = d'} {s' = s'} x r k = subst (λ a. StmtRule k w d d' a s') (sym x) (r k)

@@ -1,16 +1,20 @@
 -- The shapes that rules look for.
 use Rattle.std.proofs.Common.{◌≡◌, ◌≢◌, ◌≤◌, Bool, true, false, not, ◌&&◌, ◌↔◌, IsTrue, List, [], ◌∷◌, length, Option, Some, None, is_some, refl, arith}
-use Rattle.rhai_base.specs.Value.{Value}
 use Rattle.rhai_ast.specs.declared.ast.stmt.Stmt as declared_stmt
 use Rattle.rhai_ast.specs.Reading.{stmts_of}
-use Rattle.rhai_meaning.specs.Tree.{Noop, If, Block, ExprStmt, FnCallStmt, Stmts, no_stmts, stmt}
+use Rattle.rhai_meaning.specs.Constants.{constant_bool}
+use Rattle.rhai_meaning.specs.Tree.{Expr, Noop, If, Block, ExprStmt, FnCallStmt, Stmts, no_stmts, stmt}
 use Rattle.rhai_rewriting.specs.Rewriting.{block_or_noop}
 use Rattle.rhai_rewriting.specs.Residue.{holds_constant}
-use Rattle.rhai_rules.specs.Settled.{is_empty, is_settled_braces, is_settled_block}
+use Rattle.rhai_rules.specs.Settled.{is_empty, is_settled_braces, is_settled_if, is_settled_block}
 
-pub block_or_noop-some : (l : List declared_stmt.Stmt) → (l ≡ [] → ⊥) → Block (stmts_of l) ≡ block_or_noop (stmts_of l)
-block_or_noop-some [] h = absurd (h refl)
-block_or_noop-some (s ∷ l) h = refl
+pub block_or_noop-none : (ss : Stmts) → true ≡ is_empty ss → Noop ≡ block_or_noop ss
+block_or_noop-none no_stmts h = refl
+block_or_noop-none (stmt s ss) h = absurd cc
+
+pub block_or_noop-some : (ss : Stmts) → false ≡ is_empty ss → Block ss ≡ block_or_noop ss
+block_or_noop-some no_stmts h = absurd cc
+block_or_noop-some (stmt s ss) h = refl
 
 -- ---- lists of none, of one and of more
 
@@ -38,6 +42,36 @@ pub block-none : (l : List declared_stmt.Stmt) → length l ≢ 1 → is_settled
 block-none [] n h = refl
 block-none (x ∷ []) n h = absurd (n refl)
 block-none (x ∷ y ∷ l) n h = absurd cc
+
+-- ---- an `if`
+
+pub bare-if : (e : Expr) (a b : Stmts) → true ≡ is_empty a && is_empty b → If e a b ≡ If e no_stmts no_stmts
+bare-if e no_stmts no_stmts h = refl
+bare-if e no_stmts (stmt s b) h = absurd cc
+bare-if e (stmt s a) b h = absurd cc
+
+pub settled_if-none : (e : Expr) (a b : Stmts) → true ≡ is_empty a && is_empty b → false ≡ is_settled_if e a b
+settled_if-none e no_stmts no_stmts h = refl
+settled_if-none e no_stmts (stmt s b) h = absurd cc
+settled_if-none e (stmt s a) b h = absurd cc
+
+tests-agree : (empty : Bool) (o : Option Bool) (r : Bool) → false ≡ empty → (IsTrue r ↔ (o ≡ None)) → r ≡ not empty && not (is_some o)
+tests-agree true o r h i = absurd cc
+tests-agree false None r h i = i.1 refl
+tests-agree false (Some x) true h i = let k = i.0 refl in absurd cc
+tests-agree false (Some x) false h i = refl
+
+pub settled_if-some : (e : Expr) (a b : Stmts) (r : Bool) → false ≡ is_empty a && is_empty b → (IsTrue r ↔ (constant_bool e ≡ None)) → r ≡ is_settled_if e a b
+settled_if-some e a b r h i = tests-agree (is_empty a && is_empty b) (constant_bool e) r h i
+
+decided-if : (empty : Bool) (o : Option Bool) → false ≡ empty → o ≡ None → not empty && not (is_some o) ≡ false → ⊥
+decided-if true o h i j = cc
+decided-if false None h i j = cc
+decided-if false (Some x) h i j = cc
+
+-- an `if` with statements that does not stay is decided
+pub undecided : (e : Expr) (a b : Stmts) → false ≡ is_empty a && is_empty b → constant_bool e ≡ None → is_settled_if e a b ≡ false → ⊥
+undecided e a b h i j = decided-if (is_empty a && is_empty b) (constant_bool e) h i j
 
 -- ---- tests
 

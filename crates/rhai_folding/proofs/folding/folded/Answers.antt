@@ -1,7 +1,7 @@
 use Rattle.std.proofs.Common.{List, length, ap, arith}
 use borrow.Author.Tests.{ltb-true, ltb-false}
 use Rattle.rhai_ast.specs.declared.ast.expr.Expr.{Expr}
-use Rattle.rhai_run.specs.EngineInfo.{engine_of}
+use Rattle.rhai_engine.specs.EngineInfo.{engine_of}
 use Rattle.rhai_folding.proofs.Tokens.{folded-few, folded-many}
 use Rattle.rhai_folding.proofs.folding.folded.Goals as goal
 use Rattle.rhai_folding.proofs.folding.folded.Goals.{in_default-as_slice-via-then-as_slice-lt1, in_default-as_slice-via-else-as_slice-lt1+else-this-lt2+else-this-lt3}

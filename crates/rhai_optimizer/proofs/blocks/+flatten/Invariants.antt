@@ -1,8 +1,8 @@
 use Rattle.std.proofs.Common.{◌+◌, ◌*◌, length}
 use Rattle.rhai_ast.specs.Reading.{stmt_of, stmts_of}
 use Rattle.rhai_rewriting.specs.Weight.{stmt_weight, weight}
-use Rattle.rhai_optimizer.proofs.rewriting.Flattening.{MovesSoFar}
-use Rattle.rhai_optimizer.proofs.optimizer.rules.blocks.+flatten.Given as goal
+use Rattle.rhai_optimizer.proofs.Flattening.{MovesSoFar}
+use Rattle.rhai_optimizer.proofs.blocks.+flatten.Given as goal
 
 abbrev pub decreases-block_gives_way : goal.decreases-block_gives_way
 decreases-block_gives_way l = 3 * weight (stmts_of l.block.block) + 2

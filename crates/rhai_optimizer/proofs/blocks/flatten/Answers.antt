@@ -1,5 +1,5 @@
-use Rattle.rhai_optimizer.proofs.rewriting.Flattening.{flattened}
-use Rattle.rhai_optimizer.proofs.optimizer.rules.blocks.flatten.Goals as goal
+use Rattle.rhai_optimizer.proofs.Flattening.{flat_kept}
+use Rattle.rhai_optimizer.proofs.blocks.flatten.Goals as goal
 
-pub returns : goal.returns
-returns c = λ k. flattened k _ c.is_wanted.ensures (rw c.new-done.ensures at c.in_ok-flatten_statements.ensures)
+pub returns-then-not-any_gives_way : goal.returns-then-not-any_gives_way
+returns-then-not-any_gives_way c = ?

@@ -1,40 +1,19 @@
--- A node whose parts are optimised, and then the node; and the passes over a list.
-use Rattle.std.proofs.Common.{◌≡◌, ◌<◌, Bool, true, false, List, [], Result, IfOk, refl, sym, subst, arith}
-use Rattle.std.proofs.lemmas.Result.{IfOk-weaker}
-use Rattle.rhai_parts.specs.declared.error.OutOfMemory.{OutOfMemory}
+-- A tree's parts, then its node; and the passes over a list.
+use Rattle.std.proofs.Common.{◌≡◌, ◌<◌, Bool, true, false, List, refl, sym, subst, arith}
 use Rattle.rhai_parts.specs.declared.types.position.Position.{Position}
 use Rattle.rhai_ast.specs.declared.ast.expr.Expr as declared_expr
 use Rattle.rhai_ast.specs.declared.ast.expr.Expr.TheVariants as expr_kind
 use Rattle.rhai_ast.specs.declared.ast.expr.FnCallExpr.{FnCallExpr}
-use Rattle.rhai_ast.specs.declared.ast.stmt.Stmt as declared_stmt
 use Rattle.rhai_ast.specs.declared.ast.stmt.StmtBlock.{StmtBlock}
-use Rattle.rhai_ast.specs.Reading.{expr_of, stmt_of, ExprCase, dynamic_case, bool_case, integer_case, char_case, string_case, unit_case, array_case, block_expr_case, call_case, expr_cases, expr_of-DynamicConstant, expr_of-BoolConstant, expr_of-IntegerConstant, expr_of-CharConstant, expr_of-StringConstant, expr_of-Unit}
+use Rattle.rhai_ast.specs.Reading.{expr_of, ExprCase, dynamic_case, bool_case, integer_case, char_case, string_case, unit_case, array_case, block_expr_case, call_case, expr_cases, expr_of-DynamicConstant, expr_of-BoolConstant, expr_of-IntegerConstant, expr_of-CharConstant, expr_of-StringConstant, expr_of-Unit}
 use Rattle.rhai_meaning.specs.Engine.{Engine}
 use Rattle.rhai_meaning.specs.Tree.{Callee, Expr, FnCall, Exprs, Stmt, If, FnCallStmt, Stmts}
 use Rattle.rhai_rewriting.specs.Rewriting.{Context, ListKind, Inside, ExprTo, same_expr, then_expr, in_call, ExprsTo, StmtTo, then_stmt, in_call_statement, in_if, StmtsTo, in_each}
-use Rattle.rhai_rewriting.specs.Residue.{IsReducedExpr}
 use Rattle.rhai_rewriting.specs.Steps.{ExprRun, ExprStep, ExprParts, StmtRun, StmtStep, StmtParts, EachRun, StmtsRun}
 use Rattle.rhai_optimizer.specs.Parts.{ExprPartsRun, StmtPartsRun}
 use Rattle.rhai_rewriting.specs.Weight.{weight}
 use Rattle.rhai_rewriting.proofs.Weights.{stmts_fall}
 use Rattle.rhai_rewriting.proofs.Flags.{expr_kept, stmt_kept, stmts_kept, stmts_raised}
-
--- ---- one node
-
--- a constant with no parts
-leaf_case : (k : Context) {e : declared_expr.Expr} → ExprCase e → ((xs : List declared_expr.Expr) (p : Position) → e ≡ expr_kind.Array xs p → ⊥) → ((b : StmtBlock) → e ≡ expr_kind.Stmt b → ⊥) → ((c : FnCallExpr) (p : Position) → e ≡ expr_kind.FnCall c p → ⊥) → IsReducedExpr k.engine (expr_of e)
-leaf_case k (dynamic_case v p) a s c = subst (IsReducedExpr k.engine) (sym (expr_of-DynamicConstant v p)) tt
-leaf_case k (bool_case b p) a s c = subst (IsReducedExpr k.engine) (sym (expr_of-BoolConstant b p)) tt
-leaf_case k (integer_case n p) a s c = subst (IsReducedExpr k.engine) (sym (expr_of-IntegerConstant n p)) tt
-leaf_case k (char_case n p) a s c = subst (IsReducedExpr k.engine) (sym (expr_of-CharConstant n p)) tt
-leaf_case k (string_case t p) a s c = subst (IsReducedExpr k.engine) (sym (expr_of-StringConstant t p)) tt
-leaf_case k (unit_case p) a s c = subst (IsReducedExpr k.engine) (sym (expr_of-Unit p)) tt
-leaf_case k (array_case xs p) a s c = absurd (a xs p refl)
-leaf_case k (block_expr_case b) a s c = absurd (s b refl)
-leaf_case k (call_case f p) a s c = absurd (c f p refl)
-
-pub leaf_reduced : (r : Engine) {e : declared_expr.Expr} → ((xs : List declared_expr.Expr) (p : Position) → e ≡ expr_kind.Array xs p → ⊥) → ((b : StmtBlock) → e ≡ expr_kind.Stmt b → ⊥) → ((c : FnCallExpr) (p : Position) → e ≡ expr_kind.FnCall c p → ⊥) → IsReducedExpr r (expr_of e)
-leaf_reduced r {e = e} a s c = leaf_case (record { engine = r; known = [] }) (expr_cases e) a s c
 
 -- a call whose callee is kept
 pub call_to : {k : Context} {d d1 : Bool} (c c1 : Callee) {es es1 : Exprs} → c1 ≡ c → ExprsTo k d d1 es es1 → ExprTo k d d1 (FnCall c es) (FnCall c1 es1)

@@ -1,0 +1,8 @@
+use Rattle.rhai_rules.proofs.Shapes.{settled_if-none, settled_if-some}
+use Rattle.rhai_rules.proofs.statements.is_settled_if.Goals as goal
+
+pub returns-then-has_no_statements : goal.returns-then-has_no_statements
+returns-then-has_no_statements c = ?
+
+pub returns : goal.returns
+returns c = ?
