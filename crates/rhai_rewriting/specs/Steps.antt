@@ -1,14 +1,12 @@
 -- What the functions of the optimiser promise: a tree was rewritten, and where the dirty flag is clear afterwards
 -- nothing in it is left to reduce.
-use Rattle.std.specs.Prelude.{◌≡◌, Bool, true, false, []}
+use Rattle.std.specs.Prelude.{◌≡◌, Bool, true, false}
 use Rattle.rhai_meaning.specs.Engine.{Engine}
 use Rattle.rhai_meaning.specs.Tree.{Expr, DynamicConstant, BoolConstant, IntegerConstant, CharConstant, StringConstant, UnitConstant, ArrayOf, BlockExpr, FnCall, Exprs, Stmt, Noop, If, Block, ExprStmt, FnCallStmt, Stmts, joined}
 use Rattle.rhai_rewriting.specs.Residue.{IsReducedExpr, AreReducedExprs, IsReduced, AreReduced}
-use Rattle.rhai_rewriting.specs.Rewriting.{Context, ListKind, ExprTo, ExprsTo, StmtTo, EachTo, StmtsTo, wanted, wanted_before}
-
--- under an engine's record, with no names known
-abbrev pub under : Engine → Context
-under engine = record { engine = engine; known = [] }
+use Rattle.rhai_rewriting.specs.Context.{Context, ListKind, wanted, wanted_before}
+use Rattle.rhai_rewriting.specs.Rewriting.{ExprTo, ExprsTo, StmtTo, StmtsTo}
+use Rattle.rhai_rewriting.specs.Rules.{ExprRule, StmtRule}
 
 -- ---- a tree with its parts
 
@@ -24,8 +22,9 @@ pub record StmtRun (k : Context) (w d d' : Bool) (s s' : Stmt) : Type 0 where
   pub to : StmtTo k w d d' s s'
   pub reduced : d' ≡ false → IsReduced k.engine s'
 
+-- each statement of a list once
 pub record EachRun (k : Context) (m : ListKind) (d d' : Bool) (ss ss' : Stmts) : Type 0 where
-  pub to : EachTo k m d d' ss ss'
+  pub to : StmtsTo k m d d' ss ss'
   pub reduced : d' ≡ false → AreReduced k.engine ss'
 
 -- a list is passed until nothing changes, whatever the flag was before
@@ -61,14 +60,14 @@ pub record StmtStep (k : Context) (w d d' : Bool) (s s' : Stmt) : Type 0 where
   pub to : StmtTo k w d d' s s'
   pub reduced : d' ≡ false → StmtParts k.engine s → IsReduced k.engine s'
 
--- ---- a rule that fired
+-- ---- a rule that fired, and set the flag
 
-pub record ExprRule (k : Context) (d d' : Bool) (e e' : Expr) : Type 0 where
-  pub to : ExprTo k d d' e e'
+pub record ExprFired (k : Context) (d' : Bool) (e e' : Expr) : Type 0 where
+  pub rule : ExprRule k e e'
   pub fired : d' ≡ true
 
-pub record StmtRule (k : Context) (w d d' : Bool) (s s' : Stmt) : Type 0 where
-  pub to : StmtTo k w d d' s s'
+pub record StmtFired (k : Context) (w d' : Bool) (s s' : Stmt) : Type 0 where
+  pub rule : StmtRule k w s s'
   pub fired : d' ≡ true
 
 -- ---- blocks in a list

@@ -5,10 +5,10 @@ use Rattle.rhai_meaning.specs.Act.{World, ScopeEntry, Store, Gives, Returns, Bre
 use Rattle.rhai_meaning.specs.Core.{Expr, Does, If, Block, Stmts, no_stmts, stmt}
 use Rattle.rhai_meaning.specs.ActForms.{value_then, ◌>>=◌, branch, truth, if_true, each_value, then_line}
 use Rattle.rhai_meaning.specs.Meaning.{act, deed, line, acts}
-use Rattle.rhai_rewriting.specs.Known.{Known}
-use Rattle.rhai_rewriting.proofs.soundness.Close.{Tame}
-use Rattle.rhai_rewriting.proofs.soundness.Sound.{Sound, SoundAll, s_all_trans, s_all_equal, s_all_refl}
-use Rattle.rhai_rewriting.proofs.soundness.Forms.{s_bind, s_line, s_if}
+use Rattle.rhai_rewriting.specs.Context.{Context}
+use Rattle.rhai_rewriting.proofs.simulation.Setting.{Setting, world}
+use Rattle.rhai_rewriting.proofs.simulation.Simulation.{Simulates, SimulatesAll, all_trans, all_equal, all_refl}
+use Rattle.rhai_rewriting.proofs.simulation.Forms.{simulates_bind, simulates_if, all_line}
 
 -- a result whose value is unit
 abbrev pub drop_value : Result → Result
@@ -85,18 +85,19 @@ module _ (w : World) (env : Env) where
   choice_alike : (c : Expr) (ss rs : Stmts) → Alike (choice w true c ss rs) (choice w false c ss rs)
   choice_alike c ss rs s t = bind_result (run w env (act w c) s t) _ _ (λ v. alike_branch (truth v) _ _ _ _ (alike_list ss UnitV) (alike_list rs UnitV))
 
-module _ (w : World) (F : ℕ → Env) (tame : Tame F) (ks : List Known) where
-  by_alike : (a a' b b' : Act) (p : Acts) → ((env : Env) → Alike w env a b) → ((env : Env) → Alike w env a' b') → Sound w F tame ks b b' → SoundAll w F tame ks (then_line a (λ v. p)) (then_line a' (λ v. p))
-  by_alike a a' b b' p h h' k =
-      s_all_trans w F tame ks _ (then_line b (λ v. p)) _ (s_all_equal w F tame ks _ _ (λ env s t adds ag. do_alike w env a b p (h env) s t))
-      (s_all_trans w F tame ks _ (then_line b' (λ v. p)) _ (s_line w F tame ks b b' _ _ k (λ v. s_all_refl w F tame ks p))
-      (s_all_equal w F tame ks _ _ (λ env s t adds ag. sym (do_alike w env a' b' p (h' env) s t))))
+-- what comes next asks for no value
+by_alike : {k : Context} {c : Setting k} (a a' b b' : Act) (p : Acts) → ((env : Env) → Alike (world c) env a b) → ((env : Env) → Alike (world c) env a' b') → Simulates c b b' → SimulatesAll c (then_line a (λ v. p)) (then_line a' (λ v. p))
+by_alike {c = c} a a' b b' p h h' i =
+    all_trans (all_equal (λ m. do_alike (world c) m.env a b p (h m.env) m.store m.turns))
+    (all_trans (all_line i (λ v. all_refl)) (all_equal (λ m. sym (do_alike (world c) m.env a' b' p (h' m.env) m.store m.turns))))
 
-  pub unwanted_if : (p : Acts) (c c' : Expr) (ss ss' rs rs' : Stmts) → Sound w F tame ks (act w c) (act w c') → Sound w F tame ks (Scoped (acts w false ss UnitV)) (Scoped (acts w false ss' UnitV)) → Sound w F tame ks (Scoped (acts w false rs UnitV)) (Scoped (acts w false rs' UnitV)) → SoundAll w F tame ks (line w (Does (If c ss rs)) (λ v. p)) (line w (Does (If c' ss' rs')) (λ v. p))
-  unwanted_if p c c' ss ss' rs rs' k h j =
-      by_alike (choice w true c ss rs) (choice w true c' ss' rs') (choice w false c ss rs) (choice w false c' ss' rs') p (λ env. choice_alike w env c ss rs) (λ env. choice_alike w env c' ss' rs')
-      (s_bind w F tame ks _ _ _ _ k (λ v. s_if w F tame ks v _ _ _ _ h j))
+pub unwanted_if : {k : Context} {c : Setting k} (p : Acts) (e e' : Expr) (x x' y y' : Stmts) → Simulates c (act (world c) e) (act (world c) e') → Simulates c (Scoped (acts (world c) false x UnitV)) (Scoped (acts (world c) false x' UnitV)) → Simulates c (Scoped (acts (world c) false y UnitV)) (Scoped (acts (world c) false y' UnitV)) → SimulatesAll c (line (world c) (Does (If e x y)) (λ v. p)) (line (world c) (Does (If e' x' y')) (λ v. p))
+unwanted_if {c = c} p e e' x x' y y' i h j =
+    let w = world c in
+    by_alike (choice w true e x y) (choice w true e' x' y') (choice w false e x y) (choice w false e' x' y') p (λ env. choice_alike w env e x y) (λ env. choice_alike w env e' x' y')
+    (simulates_bind i (λ v. simulates_if v h j))
 
-  pub unwanted_block : (p : Acts) (ss ss' : Stmts) → Sound w F tame ks (Scoped (acts w false ss UnitV)) (Scoped (acts w false ss' UnitV)) → SoundAll w F tame ks (line w (Does (Block ss)) (λ v. p)) (line w (Does (Block ss')) (λ v. p))
-  unwanted_block p ss ss' h =
-      by_alike (Scoped (acts w true ss UnitV)) (Scoped (acts w true ss' UnitV)) (Scoped (acts w false ss UnitV)) (Scoped (acts w false ss' UnitV)) p (λ env. alike_list w env ss UnitV) (λ env. alike_list w env ss' UnitV) h
+pub unwanted_block : {k : Context} {c : Setting k} (p : Acts) (ss ss' : Stmts) → Simulates c (Scoped (acts (world c) false ss UnitV)) (Scoped (acts (world c) false ss' UnitV)) → SimulatesAll c (line (world c) (Does (Block ss)) (λ v. p)) (line (world c) (Does (Block ss')) (λ v. p))
+unwanted_block {c = c} p ss ss' i =
+    let w = world c in
+    by_alike (Scoped (acts w true ss UnitV)) (Scoped (acts w true ss' UnitV)) (Scoped (acts w false ss UnitV)) (Scoped (acts w false ss' UnitV)) p (λ env. alike_list w env ss UnitV) (λ env. alike_list w env ss' UnitV) i

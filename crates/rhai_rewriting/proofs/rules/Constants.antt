@@ -15,7 +15,7 @@ use Rattle.rhai_meaning.specs.Relations.{Begins, calls_of}
 use Rattle.rhai_meaning.specs.Tree as tree
 use Rattle.rhai_rewriting.specs.Folding.{computed_value, folded_values}
 use Rattle.rhai_rewriting.proofs.Plain.{is_plain_value}
-use Rattle.rhai_rewriting.proofs.soundness.Sound.{OrStuck, equal, is_stuck}
+use Rattle.rhai_rewriting.proofs.simulation.Simulation.{OrStuck, equal, is_stuck}
 
 -- r is r', or stuck at once
 pub data OrWrong (r r' : Result) (s : Store) (t : ℕ) : Type 0 where

@@ -12,7 +12,7 @@ use Rattle.rhai_meaning.specs.Relations.{store_of}
 use Rattle.rhai_meaning.specs.Tree as tree
 use Rattle.rhai_meaning.proofs.Relations.{Keeps}
 use Rattle.rhai_meaning.proofs.Frame.{OnlyAdds, After, after_same, keeps_refl, keeps_weaker, preserves, frame_then, restore_keeps}
-use Rattle.rhai_rewriting.specs.Rewriting.{spliced}
+use Rattle.rhai_rewriting.specs.Rules.{spliced}
 
 -- nothing is taken away where no name was added
 leave_kept : (es : List ScopeEntry) (r : Result) → Keeps es (store_of r).scope → leave es r ≡ r
