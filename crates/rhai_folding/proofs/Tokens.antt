@@ -4,14 +4,14 @@ use Rattle.rhai_parts.specs.declared.types.token.Token.{Token}
 use Rattle.rhai_base.specs.Operators.{Operator}
 use Rattle.rhai_base.specs.Reading.{operator_of}
 use Rattle.rhai_base.specs.Value.{Value}
-use Rattle.rhai_meaning.specs.Constants.{value_and}
+use Rattle.rhai_meaning.specs.Constants.{value_and, constant_value, constant_values}
 use Rattle.rhai_meaning.specs.Engine.{Engine}
 use Rattle.rhai_meaning.specs.Tree.{CallToken, NoToken, OfOperator, OfOther}
 use Rattle.rhai_engine.specs.EngineInfo.{built_in_of, built_in_at}
 use Rattle.rhai_engine.proofs.Operands.{built_in-few, built_in-many}
 use Rattle.rhai_ast.specs.declared.ast.expr.Expr.{Expr}
 use Rattle.rhai_ast.specs.Reading.{mark_by, mark_of, expr_of, exprs_of}
-use Rattle.rhai_rewriting.specs.Folding.{computed_value, folded_values, operand, operands}
+use Rattle.rhai_rewriting.specs.Folding.{computed_value, folded_values}
 
 folded-by : (engine : Engine) (vs : List Value) (o : Option Operator) → folded_values engine (mark_by o) (Some vs) ≡ computed_value (built_in_of engine vs o)
 folded-by engine vs None = refl
@@ -36,12 +36,12 @@ folded-three engine t (Some a) (Some b) (Some c) (Some vs) =
     let many = built_in-many engine t (a ∷ b ∷ c ∷ vs) (omega arith) in
     ap computed_value many ∙ sym (folded-at engine t (a ∷ b ∷ c ∷ vs))
 
-pub folded-few : (engine : Engine) (t : Token) (l : List Expr) → length l < 1 → None ≡ folded_values engine (mark_of (Some t)) (operands (exprs_of l))
+pub folded-few : (engine : Engine) (t : Token) (l : List Expr) → length l < 1 → None ≡ folded_values engine (mark_of (Some t)) (constant_values (exprs_of l))
 folded-few engine t [] h = ap computed_value (built_in-few engine t [] h) ∙ sym (folded-at engine t [])
 folded-few engine t (e ∷ l) h = absurd (omega arith)
 
-pub folded-many : (engine : Engine) (t : Token) (l : List Expr) → 3 ≤ length l → None ≡ folded_values engine (mark_of (Some t)) (operands (exprs_of l))
+pub folded-many : (engine : Engine) (t : Token) (l : List Expr) → 3 ≤ length l → None ≡ folded_values engine (mark_of (Some t)) (constant_values (exprs_of l))
 folded-many engine t [] h = absurd (omega arith)
 folded-many engine t (a ∷ []) h = absurd (omega arith)
 folded-many engine t (a ∷ b ∷ []) h = absurd (omega arith)
-folded-many engine t (a ∷ b ∷ c ∷ l) h = folded-three engine t (operand (expr_of a)) (operand (expr_of b)) (operand (expr_of c)) (operands (exprs_of l))
+folded-many engine t (a ∷ b ∷ c ∷ l) h = folded-three engine t (constant_value (expr_of a)) (constant_value (expr_of b)) (constant_value (expr_of c)) (constant_values (exprs_of l))

@@ -6,31 +6,16 @@ ghost use Rattle.std.specs.Prelude.{◌≡◌, IfOk, Some, [], ◌∷◌};
 ghost use Rattle.std.specs.Option.{option_map};
 ghost use Rattle.rhai_base.specs.Reading.{value_of};
 ghost use Rattle.rhai_ast.specs.Reading.{callee_of, expr_of, exprs_of, mark_of};
+ghost use Rattle.rhai_meaning.specs.Constants as constants;
 ghost use Rattle.rhai_meaning.specs.Tree.{expr, no_exprs};
 ghost use Rattle.rhai_engine.specs.EngineInfo.{engine_of};
-ghost use Rattle.rhai_folding.specs.Operands.{answer_value, held};
+ghost use Rattle.rhai_folding.specs.Answers.{answer_value};
 ghost use Rattle.rhai_rewriting.specs.Folding as spec;
 
 use rhai_ast::{Expr, FnCallExpr};
 use rhai_base::{Dynamic, Fault, OutOfMemory, Token};
 use rhai_engine::EngineInfo;
 use std::alloc::Global;
-use std::borrow::Cow;
-
-/// The value of a constant that is no array.
-fn operand(expr: &Expr) -> Result<Option<Cow<'_, Dynamic>>, OutOfMemory>
-    ensures { IfOk result (λ o. held o ≡ spec.operand (expr_of expr.now)) }
-{
-    match expr {
-        Expr::DynamicConstant(value, _) => Ok(Some(Cow::Borrowed(value.get()))),
-        Expr::BoolConstant(b, _) => Ok(Some(Cow::Owned(Dynamic::Bool(*b)))),
-        Expr::IntegerConstant(n, _) => Ok(Some(Cow::Owned(Dynamic::Int(*n)))),
-        Expr::CharConstant(c, _) => Ok(Some(Cow::Owned(Dynamic::Char(*c)))),
-        Expr::StringConstant(text, _) => Ok(Some(Cow::Owned(Dynamic::Str(text.clone()?)))),
-        Expr::Unit(_) => Ok(Some(Cow::Owned(Dynamic::Unit))),
-        Expr::Array(_, _) | Expr::Stmt(_) | Expr::FnCall(_, _) => Ok(None),
-    }
-}
 
 /// The value of an operator's answer. A fault is left to the run.
 fn value_alone(answer: Option<Result<Dynamic, Fault>>) -> Option<Dynamic>
@@ -49,22 +34,27 @@ pub fn folded(
     info: &EngineInfo,
     call: &FnCallExpr,
 ) -> Result<Option<Dynamic>, OutOfMemory>
-    ensures { IfOk result (λ v. option_map value_of v ≡ spec.folded_operands (engine_of info.now) (callee_of call.now) (exprs_of call.now.args)) }
+    ensures { IfOk result (λ v. option_map value_of v ≡ spec.folded (engine_of info.now) (callee_of call.now) (exprs_of call.now.args)) }
 {
     let Some(op) = call.op_token else {
         return Ok(None);
     };
     match call.args.as_slice() {
-        [x] => folded_one(info, op, x),
+        [x] => folded_one(alloc, info, op, x),
         [x, y] => folded_two(alloc, info, op, x, y),
         _ => Ok(None),
     }
 }
 
-fn folded_one(info: &EngineInfo, op: Token, x: &Expr) -> Result<Option<Dynamic>, OutOfMemory>
-    ensures { IfOk result (λ v. option_map value_of v ≡ spec.folded_values (engine_of info.now) (mark_of (Some op)) (spec.operands (expr (expr_of x.now) no_exprs))) }
+fn folded_one(
+    alloc: Global,
+    info: &EngineInfo,
+    op: Token,
+    x: &Expr,
+) -> Result<Option<Dynamic>, OutOfMemory>
+    ensures { IfOk result (λ v. option_map value_of v ≡ spec.folded_values (engine_of info.now) (mark_of (Some op)) (constants.constant_values (expr (expr_of x.now) no_exprs))) }
 {
-    match operand(x)? {
+    match x.constant_value(alloc)? {
         Some(x) => Ok(info.builtin_unary(op, &x)),
         None => Ok(None),
     }
@@ -77,12 +67,12 @@ fn folded_two(
     x: &Expr,
     y: &Expr,
 ) -> Result<Option<Dynamic>, OutOfMemory>
-    ensures { IfOk result (λ v. option_map value_of v ≡ spec.folded_values (engine_of info.now) (mark_of (Some op)) (spec.operands (expr (expr_of x.now) (expr (expr_of y.now) no_exprs)))) }
+    ensures { IfOk result (λ v. option_map value_of v ≡ spec.folded_values (engine_of info.now) (mark_of (Some op)) (constants.constant_values (expr (expr_of x.now) (expr (expr_of y.now) no_exprs)))) }
 {
-    let Some(x) = operand(x)? else {
+    let Some(x) = x.constant_value(alloc)? else {
         return Ok(None);
     };
-    let Some(y) = operand(y)? else {
+    let Some(y) = y.constant_value(alloc)? else {
         return Ok(None);
     };
     let answer = info.builtin_binary(alloc, op, &x, &y)?;

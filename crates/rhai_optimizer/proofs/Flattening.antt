@@ -6,7 +6,10 @@ use Rattle.rhai_ast.specs.declared.ast.stmt.Stmt.TheVariants as stmt_kind
 use Rattle.rhai_meaning.specs.Queries.{is_any_dependent}
 use Rattle.rhai_ast.specs.Reading.{stmt_of, stmts_of, stmt_of-Noop}
 use Rattle.rhai_meaning.specs.Tree.{Noop, Block, Stmts, no_stmts, stmt, joined}
-use Rattle.rhai_rewriting.specs.Rewriting.{Context, ListKind, wanted, wanted_before, spliced, StmtsTo, same_stmts, then_stmts, block_gives_way}
+use Rattle.rhai_rewriting.specs.Context.{Context, ListKind, wanted, wanted_before}
+use Rattle.rhai_rewriting.specs.Rewriting.{StmtsTo, same_stmts, then_stmts, by_list_rule}
+use Rattle.rhai_rewriting.specs.Rules.{spliced, block_gives_way}
+use Rattle.rhai_rewriting.proofs.Firing.{in_back}
 use Rattle.rhai_rewriting.specs.Steps.{Moves}
 use Rattle.rhai_rewriting.specs.Weight.{stmt_weight, weight}
 use Rattle.rhai_optimizer.specs.Blocks.{gives_way, any_gives_way, Flattens, FlatList}
@@ -66,7 +69,7 @@ moves_block : {w d d1 d2 : Bool} {done ss new : Stmts} → d1 ≡ true → is_an
 moves_block {w = w} {d = d} {d1 = d1} {d2 = d2} {done = done} {ss = ss} {new = new} e h n p = record {
   to = λ k m back q.
       let spelled = nothing_stands (wanted m) ss back (λ a b. n a (b ∙ sym q)) in
-      let gives_way = subst (λ x. StmtsTo k m d true (joined done (stmt (Block ss) back)) (joined done x)) spelled (block_gives_way done ss back h) in
+      let gives_way = subst (λ x. StmtsTo k m d true (joined done (stmt (Block ss) back)) (joined done x)) spelled (in_back done (by_list_rule (block_gives_way h))) in
       then_stmts (subst (λ x. StmtsTo k m d x (joined done (stmt (Block ss) back)) (joined done (joined ss back))) (sym e) gives_way) (p.to k m back q);
 }
 
@@ -74,7 +77,7 @@ moves_block {w = w} {d = d} {d1 = d1} {d2 = d2} {done = done} {ss = ss} {new = n
 moves_noop : {w d d1 : Bool} (done new block : List declared_stmt.Stmt) (p : Position) → d1 ≡ true → w ≡ true → block ≡ [] → new ≡ done ++ stmt_kind.Noop p ∷ [] → Moves w d d1 (stmts_of done) (stmt (Block (stmts_of block)) no_stmts) (stmts_of new)
 moves_noop {w = w} {d = d} {d1 = d1} done new block p e ew eb en = record {
   to = λ k m back q.
-      let gives_way = subst (λ x. StmtsTo k m d true (joined (stmts_of done) (stmt (Block no_stmts) back)) (joined (stmts_of done) x)) (noop_stands (wanted m) back (sym ew ∙ q)) (block_gives_way (stmts_of done) no_stmts back refl) in
+      let gives_way = subst (λ x. StmtsTo k m d true (joined (stmts_of done) (stmt (Block no_stmts) back)) (joined (stmts_of done) x)) (noop_stands (wanted m) back (sym ew ∙ q)) (in_back (stmts_of done) (by_list_rule (block_gives_way refl))) in
       let spelled = ap (λ (l : List declared_stmt.Stmt). joined (stmts_of l) back) en ∙ joined-push done (stmt_kind.Noop p) back ∙ ap (λ x. joined (stmts_of done) (stmt x back)) (stmt_of-Noop p) in
       subst (λ (l : List declared_stmt.Stmt). StmtsTo k m d d1 (joined (stmts_of done) (stmt (Block (stmts_of l)) back)) (joined (stmts_of new) back)) (sym eb)
       (subst (λ x. StmtsTo k m d d1 (joined (stmts_of done) (stmt (Block no_stmts) back)) x) (sym spelled)

@@ -8,12 +8,13 @@ use Rattle.rhai_ast.specs.declared.ast.stmt.StmtBlock.{StmtBlock}
 use Rattle.rhai_ast.specs.Reading.{expr_of, ExprCase, dynamic_case, bool_case, integer_case, char_case, string_case, unit_case, array_case, block_expr_case, call_case, expr_cases, expr_of-DynamicConstant, expr_of-BoolConstant, expr_of-IntegerConstant, expr_of-CharConstant, expr_of-StringConstant, expr_of-Unit}
 use Rattle.rhai_meaning.specs.Engine.{Engine}
 use Rattle.rhai_meaning.specs.Tree.{Callee, Expr, FnCall, Exprs, Stmt, If, FnCallStmt, Stmts}
-use Rattle.rhai_rewriting.specs.Rewriting.{Context, ListKind, Inside, ExprTo, same_expr, then_expr, in_call, ExprsTo, StmtTo, then_stmt, in_call_statement, in_if, StmtsTo, in_each}
+use Rattle.rhai_rewriting.specs.Context.{Context, ListKind, Inside}
+use Rattle.rhai_rewriting.specs.Rewriting.{ExprTo, same_expr, then_expr, in_call, ExprsTo, StmtTo, then_stmt, in_call_statement, in_if, StmtsTo, flag_forgotten}
 use Rattle.rhai_rewriting.specs.Steps.{ExprRun, ExprStep, ExprParts, StmtRun, StmtStep, StmtParts, EachRun, StmtsRun}
 use Rattle.rhai_optimizer.specs.Parts.{ExprPartsRun, StmtPartsRun}
 use Rattle.rhai_rewriting.specs.Weight.{weight}
 use Rattle.rhai_rewriting.proofs.Weights.{stmts_fall}
-use Rattle.rhai_rewriting.proofs.Flags.{expr_kept, stmt_kept, stmts_kept, stmts_raised}
+use Rattle.rhai_rewriting.proofs.Flags.{expr_kept, stmt_kept, stmts_kept}
 
 -- a call whose callee is kept
 pub call_to : {k : Context} {d d1 : Bool} (c c1 : Callee) {es es1 : Exprs} → c1 ≡ c → ExprsTo k d d1 es es1 → ExprTo k d d1 (FnCall c es) (FnCall c1 es1)
@@ -64,7 +65,7 @@ if_run p q s = record { to = in_if p.to q.to s.to; parts = if_parts p q s }
 -- a pass from a clear flag, after which the flag is set
 pub stmts_again : {k : Context} {m : ListKind} (d : Bool) {s s' : Stmts} → StmtsTo k m false true s s' → StmtsTo k m d true s s'
 stmts_again false p = p
-stmts_again true p = stmts_raised p
+stmts_again true p = flag_forgotten p
 
 -- a pass that set the flag, and one that left it clear
 pub stmts_turn : {k : Context} {m : ListKind} {a b : Bool} (d : Bool) {s s' : Stmts} → a ≡ false → b ≡ true → StmtsTo k m a b s s' → StmtsTo k m d true s s'
@@ -78,9 +79,9 @@ turn_falls {k = k} {m = m} {a = a} {b = b} {s = s} {s' = s'} ea eb p =
 -- the passes end
 pub stmts_leave : {k : Context} {m : ListKind} {d d' f a b : Bool} {s s1 s2 : Stmts} → d' ≡ f → StmtsTo k m d f s s1 → EachRun k m a b s1 s2 → b ≡ false → StmtsRun k m d d' s s2
 stmts_leave {k = k} {m = m} {d = d} {f = f} {s = s} {s2 = s2} ef p e h =
-    let i = (stmts_kept (in_each e.to) h).1 in
+    let i = (stmts_kept e.to h).1 in
     record { to = subst (λ x. StmtsTo k m d x s s2) (sym ef) (subst (λ x. StmtsTo k m d f s x) i p); reduced = e.reduced h }
 
 -- whatever the flag was
 pub run_forgetting : {k : Context} {m : ListKind} {d d' : Bool} {s s' : Stmts} → StmtsRun k m d d' s s' → StmtsRun k m true true s s'
-run_forgetting r = record { to = stmts_raised r.to; reduced = r.reduced }
+run_forgetting r = record { to = flag_forgotten r.to; reduced = r.reduced }

@@ -4,8 +4,8 @@ use Rattle.std.proofs.lemmas.List.{drop_more, drop_all, take_all, take_more_set,
 use Rattle.rhai_ast.specs.declared.ast.expr.Expr as declared_expr
 use Rattle.rhai_ast.specs.declared.ast.stmt.Stmt as declared_stmt
 use Rattle.rhai_ast.specs.Reading.{expr_of, exprs_of, stmt_of, stmts_of}
-use Rattle.rhai_meaning.specs.Tree.{Stmt, Stmts, no_stmts, stmt}
-use Rattle.rhai_rewriting.specs.Rewriting.{Context, ListKind, wanted, wanted_before, exprs_none, exprs_more, StmtTo, EachTo, each_none, each_last, each_more, in_each}
+use Rattle.rhai_rewriting.specs.Context.{Context, ListKind, wanted, wanted_before}
+use Rattle.rhai_rewriting.specs.Rewriting.{exprs_none, exprs_more, same_stmts, then_stmts, in_head, in_tail}
 use Rattle.rhai_rewriting.specs.Steps.{ExprRun, ExprsRun, StmtRun, EachRun}
 use Rattle.rhai_rewriting.specs.Weight.{expr_weight, exprs_weight, stmt_weight, weight}
 use Rattle.rhai_rewriting.proofs.Flags.{exprs_kept, stmts_kept}
@@ -97,14 +97,12 @@ pub record StmtItem (k : Context) (m : ListKind) (rest : List declared_stmt.Stmt
 pub record StmtItems (k : Context) (m : ListKind) (d d' : Bool) (ss ss' : List declared_stmt.Stmt) : Type 0 where
   pub run : EachRun k m d d' (stmts_of ss) (stmts_of ss')
 
--- one statement, and what comes after it
-each_front : {k : Context} {m : ListKind} {d1 d2 d3 : Bool} {s s' : Stmt} {rest new : Stmts} → StmtTo k (wanted_before (wanted m) rest) d1 d2 s s' → EachTo k m d2 d3 rest new → EachTo k m d1 d3 (stmt s rest) (stmt s' new)
-each_front {rest = no_stmts} p each_none = each_last p
-each_front {rest = stmt t rest} p q = each_more p q
+pub stmt_item : {k : Context} {m : ListKind} {w d d' : Bool} {rest : List declared_stmt.Stmt} {s s' : declared_stmt.Stmt} → w ≡ wanted_before (wanted m) (stmts_of rest) → StmtRun k w d d' (stmt_of s) (stmt_of s') → StmtItem k m rest d d' s s'
+stmt_item {k = k} {d = d} {d' = d'} {s = s} {s' = s'} h r = record { run = subst (λ w. StmtRun k w d d' (stmt_of s) (stmt_of s')) h r }
 
 pub stmts_by : (k : Context) (m : ListKind) → ByItems stmt_weighs stmts_weigh (StmtItem k m) (StmtItems k m)
 stmts_by k m = record {
-  none = record { run = record { to = each_none; reduced = λ h. tt } };
-  more = λ i r. record { run = record { to = each_front i.run.to r.run.to; reduced = λ h. (i.run.reduced (stmts_kept (in_each r.run.to) h).0, r.run.reduced h) } };
+  none = record { run = record { to = same_stmts; reduced = λ h. tt } };
+  more = λ i r. record { run = record { to = then_stmts (in_head i.run.to) (in_tail r.run.to); reduced = λ h. (i.run.reduced (stmts_kept (in_tail r.run.to) h).0, r.run.reduced h) } };
   heavier = λ x rest. omega arith;
 }

@@ -2,7 +2,8 @@
 use Rattle.std.specs.Prelude.{◌≡◌, Bool, true, false, not, ◌||◌}
 use Rattle.rhai_meaning.specs.Queries.{is_any_dependent}
 use Rattle.rhai_meaning.specs.Tree.{Stmt, Noop, If, Block, ExprStmt, FnCallStmt, Stmts, no_stmts, stmt}
-use Rattle.rhai_rewriting.specs.Rewriting.{Context, ListKind, StmtsTo}
+use Rattle.rhai_rewriting.specs.Context.{Context, ListKind}
+use Rattle.rhai_rewriting.specs.Rewriting.{StmtsTo}
 use Rattle.rhai_rewriting.specs.Steps.{Moves}
 
 abbrev pub gives_way : Stmt → Bool

@@ -1,6 +1,6 @@
 //! What a list of statements is to those around it.
 ghost use Rattle.std.specs.Prelude.{◌≡◌};
-ghost use Rattle.rhai_rewriting.specs.Rewriting.{wanted};
+ghost use Rattle.rhai_rewriting.specs.Context.{wanted};
 
 /// What a list of statements is to those around it.
 #[derive(Clone, Copy, Debug, PartialEq, Eq)]

@@ -5,12 +5,12 @@ use Rattle.rhai_base.specs.Value.{Value}
 use Rattle.rhai_meaning.specs.Constants.{are_constant, constant_bool, constant_for, constant_values}
 use Rattle.rhai_meaning.specs.Engine.{Engine}
 use Rattle.rhai_meaning.specs.Tree.{Callee, Expr, DynamicConstant, BoolConstant, IntegerConstant, CharConstant, StringConstant, UnitConstant, ArrayOf, BlockExpr, FnCall, Exprs, Stmt, Noop, If, Block, ExprStmt, FnCallStmt, Stmts}
-use Rattle.rhai_rewriting.specs.Folding.{folded_operands}
+use Rattle.rhai_rewriting.specs.Context.{Context}
+use Rattle.rhai_rewriting.specs.Folding.{folded}
 use Rattle.rhai_rewriting.specs.Residue.{IsReducedExpr, IsReduced}
-use Rattle.rhai_rewriting.specs.Rewriting as rule
-use Rattle.rhai_rewriting.specs.Rewriting.{Context, ExprTo, StmtTo}
-use Rattle.rhai_rewriting.specs.Steps.{ExprParts, ExprRule, StmtParts, StmtRule}
-use Rattle.rhai_rewriting.proofs.Folds.{folded-operands, folded-reduced}
+use Rattle.rhai_rewriting.specs.Rules as rule
+use Rattle.rhai_rewriting.specs.Rules.{ExprRule, StmtRule}
+use Rattle.rhai_rewriting.specs.Steps.{ExprParts, ExprFired, StmtParts, StmtFired}
 use Rattle.rhai_rules.specs.Settled.{is_empty, is_settled_expr, is_settled_if, is_settled_stmt, folded_expr, constant_statement, folded_stmt}
 use Rattle.rhai_rules.proofs.Shapes.{not-true, braces-settled}
 
@@ -37,7 +37,7 @@ settled_expr r (StringConstant t) h n p = tt
 settled_expr r UnitConstant h n p = tt
 settled_expr r (ArrayOf es) h n p = (none-of (constant_values es) (not-true (are_constant es) h), p)
 settled_expr r (BlockExpr ss) h n p = (braces-settled ss h, p)
-settled_expr r (FnCall c es) h n p = (folded-reduced r c es p (unmapped constant_for (folded_operands r c es) n), p)
+settled_expr r (FnCall c es) h n p = (unmapped constant_for (folded r c es) n, p)
 
 settled_if : (e : Expr) (a b : Stmts) → is_settled_if e a b ≡ true → constant_bool e ≡ None
 settled_if e a b h = none-of (constant_bool e) (not-true (is_some (constant_bool e)) (right-true (not (is_empty a && is_empty b)) _ h))
@@ -47,44 +47,44 @@ settled_stmt r Noop h n p = tt
 settled_stmt r (If e a b) h n p = (settled_if e a b h, p.0, p.1, p.2)
 settled_stmt r (Block ss) h n p = p
 settled_stmt r (ExprStmt e) h n p = p
-settled_stmt r (FnCallStmt c es) h n p = (folded-reduced r c es p (unmapped constant_statement (folded_operands r c es) n), p)
+settled_stmt r (FnCallStmt c es) h n p = (unmapped constant_statement (folded r c es) n, p)
 
 -- ---- a call that folds
 
-call_folds : {k : Context} {d : Bool} (c : Callee) (es : Exprs) (o : Option Value) (e : Expr) → folded_operands k.engine c es ≡ o → Some e ≡ option_map constant_for o → ExprTo k d true (FnCall c es) e
-call_folds c es None e i h = absurd cc
-call_folds {k = k} {d = d} c es (Some v) e i h =
+call_folds : (k : Context) (c : Callee) (es : Exprs) (o : Option Value) (e : Expr) → folded k.engine c es ≡ o → Some e ≡ option_map constant_for o → ExprRule k (FnCall c es) e
+call_folds k c es None e i h = absurd cc
+call_folds k c es (Some v) e i h =
     let same : constant_for v ≡ e = cc in
-    subst (λ x. ExprTo k d true (FnCall c es) x) same (rule.operator_folds (folded-operands k.engine c es v i))
+    subst (λ x. ExprRule k (FnCall c es) x) same (rule.operator_folds i)
 
-pub expr_folds : {k : Context} {d : Bool} (e e' : Expr) → Some e' ≡ folded_expr k.engine e → ExprTo k d true e e'
-expr_folds {k = k} (FnCall c es) e' h = call_folds c es (folded_operands k.engine c es) e' refl h
-expr_folds (DynamicConstant v) e' h = absurd cc
-expr_folds (BoolConstant b) e' h = absurd cc
-expr_folds (IntegerConstant n) e' h = absurd cc
-expr_folds (CharConstant n) e' h = absurd cc
-expr_folds (StringConstant t) e' h = absurd cc
-expr_folds UnitConstant e' h = absurd cc
-expr_folds (ArrayOf es) e' h = absurd cc
-expr_folds (BlockExpr ss) e' h = absurd cc
+pub expr_folds : (k : Context) (e e' : Expr) → Some e' ≡ folded_expr k.engine e → ExprRule k e e'
+expr_folds k (FnCall c es) e' h = call_folds k c es (folded k.engine c es) e' refl h
+expr_folds k (DynamicConstant v) e' h = absurd cc
+expr_folds k (BoolConstant b) e' h = absurd cc
+expr_folds k (IntegerConstant n) e' h = absurd cc
+expr_folds k (CharConstant n) e' h = absurd cc
+expr_folds k (StringConstant t) e' h = absurd cc
+expr_folds k UnitConstant e' h = absurd cc
+expr_folds k (ArrayOf es) e' h = absurd cc
+expr_folds k (BlockExpr ss) e' h = absurd cc
 
-statement_folds : {k : Context} {w d : Bool} (c : Callee) (es : Exprs) (o : Option Value) (s : Stmt) → folded_operands k.engine c es ≡ o → Some s ≡ option_map constant_statement o → StmtTo k w d true (FnCallStmt c es) s
-statement_folds c es None s i h = absurd cc
-statement_folds {k = k} {w = w} {d = d} c es (Some v) s i h =
+statement_folds : (k : Context) {w : Bool} (c : Callee) (es : Exprs) (o : Option Value) (s : Stmt) → folded k.engine c es ≡ o → Some s ≡ option_map constant_statement o → StmtRule k w (FnCallStmt c es) s
+statement_folds k c es None s i h = absurd cc
+statement_folds k {w = w} c es (Some v) s i h =
     let same : constant_statement v ≡ s = cc in
-    subst (λ x. StmtTo k w d true (FnCallStmt c es) x) same (rule.call_statement_folds (folded-operands k.engine c es v i))
+    subst (λ x. StmtRule k w (FnCallStmt c es) x) same (rule.call_statement_folds i)
 
-pub stmt_folds : {k : Context} {w d : Bool} (s s' : Stmt) → Some s' ≡ folded_stmt k.engine s → StmtTo k w d true s s'
-stmt_folds {k = k} (FnCallStmt c es) s' h = statement_folds c es (folded_operands k.engine c es) s' refl h
-stmt_folds Noop s' h = absurd cc
-stmt_folds (If e a b) s' h = absurd cc
-stmt_folds (Block ss) s' h = absurd cc
-stmt_folds (ExprStmt e) s' h = absurd cc
+pub stmt_folds : (k : Context) {w : Bool} (s s' : Stmt) → Some s' ≡ folded_stmt k.engine s → StmtRule k w s s'
+stmt_folds k (FnCallStmt c es) s' h = statement_folds k c es (folded k.engine c es) s' refl h
+stmt_folds k Noop s' h = absurd cc
+stmt_folds k (If e a b) s' h = absurd cc
+stmt_folds k (Block ss) s' h = absurd cc
+stmt_folds k (ExprStmt e) s' h = absurd cc
 
 -- ---- a rule fired at a tree that is spelled so
 
-pub expr_rule_as : {d d' : Bool} {e e1 e' : Expr} → e ≡ e1 → ((k : Context) → ExprRule k d d' e1 e') → (k : Context) → ExprRule k d d' e e'
-expr_rule_as {d = d} {d' = d'} {e' = e'} x r k = subst (λ a. ExprRule k d d' a e') (sym x) (r k)
+pub expr_fired_as : {d' : Bool} {e e1 e' : Expr} → e ≡ e1 → ((k : Context) → ExprFired k d' e1 e') → (k : Context) → ExprFired k d' e e'
+expr_fired_as {d' = d'} {e' = e'} x r k = subst (λ a. ExprFired k d' a e') (sym x) (r k)
 
-pub stmt_rule_as : {w d d' : Bool} {s s1 s' : Stmt} → s ≡ s1 → ((k : Context) → StmtRule k w d d' s1 s') → (k : Context) → StmtRule k w d d' s s'
-stmt_rule_as {w = w} {d = d} {d' = d'} {s' = s'} x r k = subst (λ a. StmtRule k w d d' a s') (sym x) (r k)
+pub stmt_fired_as : {w d' : Bool} {s s1 s' : Stmt} → s ≡ s1 → ((k : Context) → StmtFired k w d' s1 s') → (k : Context) → StmtFired k w d' s s'
+stmt_fired_as {w = w} {d' = d'} {s' = s'} x r k = subst (λ a. StmtFired k w d' a s') (sym x) (r k)

@@ -1,10 +1,10 @@
 -- The shapes that rules look for.
-use Rattle.std.proofs.Common.{◌≡◌, ◌≢◌, ◌≤◌, Bool, true, false, not, ◌&&◌, ◌↔◌, IsTrue, List, [], ◌∷◌, length, Option, Some, None, is_some, refl, arith}
+use Rattle.std.proofs.Common.{◌≡◌, ◌≢◌, ◌≤◌, Bool, true, false, not, ◌&&◌, ◌↔◌, IsTrue, List, [], ◌∷◌, length, Option, Some, None, is_some, refl, sym, ap, arith}
 use Rattle.rhai_ast.specs.declared.ast.stmt.Stmt as declared_stmt
 use Rattle.rhai_ast.specs.Reading.{stmts_of}
 use Rattle.rhai_meaning.specs.Constants.{constant_bool}
 use Rattle.rhai_meaning.specs.Tree.{Expr, Noop, If, Block, ExprStmt, FnCallStmt, Stmts, no_stmts, stmt}
-use Rattle.rhai_rewriting.specs.Rewriting.{block_or_noop}
+use Rattle.rhai_rewriting.specs.Rules.{block_or_noop}
 use Rattle.rhai_rewriting.specs.Residue.{holds_constant}
 use Rattle.rhai_rules.specs.Settled.{is_empty, is_settled_braces, is_settled_if, is_settled_block}
 
@@ -55,13 +55,12 @@ settled_if-none e no_stmts no_stmts h = refl
 settled_if-none e no_stmts (stmt s b) h = absurd cc
 settled_if-none e (stmt s a) b h = absurd cc
 
-tests-agree : (empty : Bool) (o : Option Bool) (r : Bool) → false ≡ empty → (IsTrue r ↔ (o ≡ None)) → r ≡ not empty && not (is_some o)
+tests-agree : (empty : Bool) (o : Option Bool) (r : Bool) → false ≡ empty → is_some o ≡ not r → r ≡ not empty && not (is_some o)
 tests-agree true o r h i = absurd cc
-tests-agree false None r h i = i.1 refl
-tests-agree false (Some x) true h i = let k = i.0 refl in absurd cc
-tests-agree false (Some x) false h i = refl
+tests-agree false o true h i = sym (ap not i)
+tests-agree false o false h i = sym (ap not i)
 
-pub settled_if-some : (e : Expr) (a b : Stmts) (r : Bool) → false ≡ is_empty a && is_empty b → (IsTrue r ↔ (constant_bool e ≡ None)) → r ≡ is_settled_if e a b
+pub settled_if-some : (e : Expr) (a b : Stmts) (r : Bool) → false ≡ is_empty a && is_empty b → is_some (constant_bool e) ≡ not r → r ≡ is_settled_if e a b
 settled_if-some e a b r h i = tests-agree (is_empty a && is_empty b) (constant_bool e) r h i
 
 decided-if : (empty : Bool) (o : Option Bool) → false ≡ empty → o ≡ None → not empty && not (is_some o) ≡ false → ⊥

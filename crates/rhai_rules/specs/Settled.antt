@@ -6,7 +6,7 @@ use Rattle.rhai_meaning.specs.Constants.{are_constant, constant_bool, constant_f
 use Rattle.rhai_meaning.specs.Engine.{Engine}
 use Rattle.rhai_meaning.specs.Queries.{is_block_dependent}
 use Rattle.rhai_meaning.specs.Tree.{Expr, DynamicConstant, BoolConstant, IntegerConstant, CharConstant, StringConstant, UnitConstant, ArrayOf, BlockExpr, FnCall, Stmt, Noop, If, Block, ExprStmt, FnCallStmt, Stmts, no_stmts, stmt}
-use Rattle.rhai_rewriting.specs.Folding.{folded_operands}
+use Rattle.rhai_rewriting.specs.Folding.{folded}
 use Rattle.rhai_rewriting.specs.Shapes.{is_expression}
 
 abbrev pub is_empty : Stmts → Bool
@@ -56,12 +56,12 @@ is_settled_stmt (FnCallStmt c es) = true
 -- ---- what a call folds to, if it does
 
 abbrev pub folded_expr : Engine → Expr → Option Expr
-folded_expr r (FnCall c es) = option_map constant_for (folded_operands r c es)
+folded_expr r (FnCall c es) = option_map constant_for (folded r c es)
 folded_expr r _ = None
 
 abbrev pub constant_statement : Value → Stmt
 constant_statement v = ExprStmt (constant_for v)
 
 abbrev pub folded_stmt : Engine → Stmt → Option Stmt
-folded_stmt r (FnCallStmt c es) = option_map constant_statement (folded_operands r c es)
+folded_stmt r (FnCallStmt c es) = option_map constant_statement (folded r c es)
 folded_stmt r _ = None

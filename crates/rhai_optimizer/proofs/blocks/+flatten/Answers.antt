@@ -14,11 +14,11 @@ block_gives_way-returns t c =
       | block_gives_way-else-is_wanted-via-else-is_wanted v ↦ differ (sym (w ∙ v.if-is_wanted.false))
     ]) p) c.flatten_statements.ensures
 
-pub flatten_statement-returns-in_ok-push-in-Block : goal.flatten_statement-returns-in_ok-push-in-Block
-flatten_statement-returns-in_ok-push-in-Block t c = rw c.in-Block.is (moves_push _ _ _ c.in_ok-push-in-Block.ensures.ok)
+pub flatten_statement-returns-then-not-gives_way : goal.flatten_statement-returns-then-not-gives_way
+flatten_statement-returns-then-not-gives_way t c = flattens_push _ _ _ (sym c.if-not-gives_way.ensures) c.in_ok-push.ensures.ok
 
-pub flatten_statement-returns-in_ok-push-in_default : goal.flatten_statement-returns-in_ok-push-in_default
-flatten_statement-returns-in_ok-push-in_default t c = moves_push _ _ _ c.in_ok-push-in_default.ensures.ok
+pub flatten_statement-returns-in-Block : goal.flatten_statement-returns-in-Block
+flatten_statement-returns-in-Block t c = ?
 
 pub flatten_statements-loop-statement-init : goal.flatten_statements-loop-statement-init
 flatten_statements-loop-statement-init t c = moves_start

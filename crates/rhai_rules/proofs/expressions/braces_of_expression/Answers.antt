@@ -1,5 +1,5 @@
 use Rattle.std.proofs.Common.{refl}
-use Rattle.rhai_rewriting.specs.Rewriting.{braces_of_expression}
+use Rattle.rhai_rewriting.specs.Rules.{braces_of_expression}
 use Rattle.rhai_rewriting.proofs.Firing.{expr_fires}
 use Rattle.rhai_rules.proofs.expressions.braces_of_expression.Goals as goal
 

@@ -1,20 +1,14 @@
-use Rattle.std.proofs.Common.{rules, ◌≡◌, IfOk, true, false, ℕ, ◌+◌, ◌-◌, ◌*◌, ◌<◌, ◌≤◌, length, ◌/◌, ◌%◌, Bool, nat_eq, nat_lt, List, [], ◌∷◌, ◌++◌, slice_index_or, slice_set, bit_and, bit_or, Fits, w8, w32, w64, Bor, MutBor}
-use Rattle.std.specs.Option.{option_map}
-use Rattle.rhai_meaning.specs.Constants as constants
-use Rattle.rhai_ast.specs.Reading.{callee_of, expr_of, exprs_of, stmt_of, stmts_of}
-use Rattle.rhai_meaning.specs.Tree.{ArrayOf, BlockExpr, ExprStmt, no_stmts, stmt}
-use Rattle.rhai_engine.specs.EngineInfo.{engine_of}
-use Rattle.rhai_rules.specs.Settled as settled
-use Rattle.rhai_rewriting.specs.Folding as folding
-use Rattle.rhai_rewriting.specs.Shapes as shape
-use Rattle.rhai_rewriting.specs.Rewriting.{Context}
-use Rattle.rhai_rewriting.specs.Steps.{ExprRule}
+use Rattle.std.proofs.Common.{List, ap, ◌∙◌}
+use Rattle.rhai_ast.specs.declared.ast.stmt.Stmt.{Stmt}
+use Rattle.rhai_ast.specs.Reading.{stmts_of}
+use Rattle.rhai_meaning.specs.Tree.{BlockExpr, no_stmts, stmt}
+use Rattle.rhai_rules.proofs.Settling.{expr_fired_as}
+use Rattle.rhai_rules.proofs.Shapes.{braces-none}
 use Rattle.rhai_rules.proofs.expressions.reduce_braces.Goals as goal
 
--- src/expressions.rt:88:1
 pub returns-in-Some : goal.returns-in-Some
-returns-in-Some c = ?
+returns-in-Some c =
+    expr_fired_as (ap (λ (l : List Stmt). BlockExpr (stmts_of l)) c.in-Some.ensures ∙ ap (λ s. BlockExpr (stmt s no_stmts)) c.into_expression.ensures) c.braces_of_expression.ensures
 
--- src/expressions.rt:88:1
 pub returns-in-None : goal.returns-in-None
-returns-in-None c = ?
+returns-in-None c = expr_fired_as (ap BlockExpr (braces-none _ c.in-None.ensures c.requires)) c.braces_empty.ensures

@@ -1,16 +1,14 @@
-use Rattle.std.proofs.Common.{rules, ◌≡◌, OnOk, IfOk, false, ℕ, ◌+◌, ◌-◌, ◌*◌, ◌<◌, ◌≤◌, length, ◌/◌, ◌%◌, Bool, true, nat_eq, nat_lt, List, [], ◌∷◌, ◌++◌, slice_index_or, slice_set, bit_and, bit_or, Fits, w8, w32, w64, Bor, MutBor}
-use Rattle.std.specs.Option.{option_map}
-use Rattle.rhai_ast.specs.Reading.{expr_of, stmt_of}
-use Rattle.rhai_engine.specs.EngineInfo.{engine_of}
-use Rattle.rhai_rules.specs.Settled as settled
-use Rattle.rhai_rewriting.specs.Rewriting.{Context}
-use Rattle.rhai_rewriting.specs.Steps.{under, ExprRule, ExprStep, StmtRule, StmtStep}
+use Rattle.std.proofs.Common.{sym, ap, ◌∙◌}
+use Rattle.std.proofs.lemmas.Result.{IfOk-weaker}
+use Rattle.rhai_ast.specs.declared.ast.stmt.StmtBlock.{StmtBlock}
+use Rattle.rhai_ast.specs.Reading.{expr_of, stmts_of, expr_of-Array, expr_of-Stmt}
+use Rattle.rhai_meaning.specs.Tree.{BlockExpr}
+use Rattle.rhai_rules.proofs.Settling.{expr_fired_as}
 use Rattle.rhai_rules.proofs.nodes.rewritten_expr.Goals as goal
 
--- src/nodes.rt:61:1
 pub returns-in-Array : goal.returns-in-Array
-returns-in-Array c = ?
+returns-in-Array c = IfOk-weaker _ _ _ (λ e r. expr_fired_as (ap expr_of c.in-Array.is ∙ expr_of-Array _ _) r) c.array_of_constants.ensures
 
--- src/nodes.rt:61:1
 pub returns-in-Stmt : goal.returns-in-Stmt
-returns-in-Stmt c = ?
+returns-in-Stmt c =
+    expr_fired_as (ap expr_of c.in-Stmt.is ∙ expr_of-Stmt _ ∙ ap (λ (b : StmtBlock). BlockExpr (stmts_of b.block)) (sym c.into_inner.ensures)) c.reduce_braces.ensures

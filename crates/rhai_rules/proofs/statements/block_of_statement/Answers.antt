@@ -1,5 +1,5 @@
 use Rattle.std.proofs.Common.{refl}
-use Rattle.rhai_rewriting.specs.Rewriting.{block_of_statement}
+use Rattle.rhai_rewriting.specs.Rules.{block_of_statement}
 use Rattle.rhai_rewriting.proofs.Firing.{stmt_fires}
 use Rattle.rhai_rules.proofs.statements.block_of_statement.Goals as goal
 

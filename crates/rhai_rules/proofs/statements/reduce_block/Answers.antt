@@ -1,22 +1,13 @@
-use Rattle.std.proofs.Common.{rules, ◌≡◌, IfOk, Some, false, Bool, ℕ, ◌+◌, ◌-◌, ◌*◌, ◌<◌, ◌≤◌, length, ◌/◌, ◌%◌, true, nat_eq, nat_lt, List, [], ◌∷◌, ◌++◌, slice_index_or, slice_set, bit_and, bit_or, Fits, w8, w32, w64, Bor, MutBor}
-use Rattle.std.specs.Option.{option_map}
-use Rattle.rhai_meaning.specs.Constants as constants
-use Rattle.rhai_meaning.specs.Queries as queries
-use Rattle.rhai_meaning.specs.Tree as tree
-use Rattle.rhai_ast.specs.Reading.{callee_of, expr_of, exprs_of, stmt_of, stmts_of}
-use Rattle.rhai_meaning.specs.Tree.{Block, BlockExpr, ExprStmt, FnCall, FnCallStmt, If, no_stmts, stmt}
-use Rattle.rhai_engine.specs.EngineInfo.{engine_of}
-use Rattle.rhai_rules.specs.Settled as settled
-use Rattle.rhai_rewriting.specs.Folding as folding
-use Rattle.rhai_rewriting.specs.Rewriting as rewriting
-use Rattle.rhai_rewriting.specs.Rewriting.{Context}
-use Rattle.rhai_rewriting.specs.Steps.{StmtRule}
+use Rattle.std.proofs.Common.{List, ap}
+use Rattle.rhai_ast.specs.declared.ast.stmt.Stmt.{Stmt}
+use Rattle.rhai_ast.specs.Reading.{stmts_of}
+use Rattle.rhai_meaning.specs.Tree.{Block}
+use Rattle.rhai_rules.proofs.Settling.{stmt_fired_as}
+use Rattle.rhai_rules.proofs.Shapes.{block-none}
 use Rattle.rhai_rules.proofs.statements.reduce_block.Goals as goal
 
--- src/statements.rt:149:1
 pub returns-in-Some : goal.returns-in-Some
-returns-in-Some c = ?
+returns-in-Some c = λ k w. stmt_fired_as (ap (λ (l : List Stmt). Block (stmts_of l)) c.in-Some.ensures) (λ j. c.block_of_statement.ensures j w) k
 
--- src/statements.rt:149:1
 pub returns-in-None : goal.returns-in-None
-returns-in-None c = ?
+returns-in-None c = λ k w. stmt_fired_as (ap Block (block-none _ c.in-None.ensures c.requires)) (λ j. c.block_empty.ensures j w) k

@@ -1,22 +1,11 @@
-use Rattle.std.proofs.Common.{rules, ◌≡◌, IfOk, Some, false, Bool, ℕ, ◌+◌, ◌-◌, ◌*◌, ◌<◌, ◌≤◌, length, ◌/◌, ◌%◌, true, nat_eq, nat_lt, List, [], ◌∷◌, ◌++◌, slice_index_or, slice_set, bit_and, bit_or, Fits, w8, w32, w64, Bor, MutBor}
-use Rattle.std.specs.Option.{option_map}
-use Rattle.rhai_meaning.specs.Constants as constants
-use Rattle.rhai_meaning.specs.Queries as queries
-use Rattle.rhai_meaning.specs.Tree as tree
-use Rattle.rhai_ast.specs.Reading.{callee_of, expr_of, exprs_of, stmt_of, stmts_of}
-use Rattle.rhai_meaning.specs.Tree.{Block, BlockExpr, ExprStmt, FnCall, FnCallStmt, If, no_stmts, stmt}
-use Rattle.rhai_engine.specs.EngineInfo.{engine_of}
-use Rattle.rhai_rules.specs.Settled as settled
-use Rattle.rhai_rewriting.specs.Folding as folding
-use Rattle.rhai_rewriting.specs.Rewriting as rewriting
-use Rattle.rhai_rewriting.specs.Rewriting.{Context}
-use Rattle.rhai_rewriting.specs.Steps.{StmtRule}
+use Rattle.std.proofs.Common.{ap, ◌∙◌}
+use Rattle.rhai_ast.specs.Reading.{expr_of, expr_of-Stmt, expr_of-FnCall}
+use Rattle.rhai_meaning.specs.Tree.{ExprStmt}
+use Rattle.rhai_rules.proofs.Settling.{stmt_fired_as}
 use Rattle.rhai_rules.proofs.statements.reduce_expression.Goals as goal
 
--- src/statements.rt:196:1
 pub returns-in-Stmt : goal.returns-in-Stmt
-returns-in-Stmt c = ?
+returns-in-Stmt c = λ k w. stmt_fired_as (ap ExprStmt (ap expr_of c.in-Stmt.is ∙ expr_of-Stmt _)) (λ j. c.statement_of_braces.ensures j w) k
 
--- src/statements.rt:196:1
 pub returns-in-FnCall : goal.returns-in-FnCall
-returns-in-FnCall c = ?
+returns-in-FnCall c = λ k w. stmt_fired_as (ap ExprStmt (ap expr_of c.in-FnCall.is ∙ expr_of-FnCall _ _)) (λ j. c.statement_of_call.ensures j w) k

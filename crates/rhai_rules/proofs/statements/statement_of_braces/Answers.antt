@@ -1,22 +1,13 @@
-use Rattle.std.proofs.Common.{rules, ◌≡◌, IfOk, Some, false, Bool, ℕ, ◌+◌, ◌-◌, ◌*◌, ◌<◌, ◌≤◌, length, ◌/◌, ◌%◌, true, nat_eq, nat_lt, List, [], ◌∷◌, ◌++◌, slice_index_or, slice_set, bit_and, bit_or, Fits, w8, w32, w64, Bor, MutBor}
-use Rattle.std.specs.Option.{option_map}
-use Rattle.rhai_meaning.specs.Constants as constants
-use Rattle.rhai_meaning.specs.Queries as queries
-use Rattle.rhai_meaning.specs.Tree as tree
-use Rattle.rhai_ast.specs.Reading.{callee_of, expr_of, exprs_of, stmt_of, stmts_of}
-use Rattle.rhai_meaning.specs.Tree.{Block, BlockExpr, ExprStmt, FnCall, FnCallStmt, If, no_stmts, stmt}
-use Rattle.rhai_engine.specs.EngineInfo.{engine_of}
-use Rattle.rhai_rules.specs.Settled as settled
-use Rattle.rhai_rewriting.specs.Folding as folding
-use Rattle.rhai_rewriting.specs.Rewriting as rewriting
-use Rattle.rhai_rewriting.specs.Rewriting.{Context}
-use Rattle.rhai_rewriting.specs.Steps.{StmtRule}
+use Rattle.std.proofs.Common.{ap, ◌∙◌}
+use Rattle.rhai_ast.specs.declared.ast.stmt.StmtBlock.{StmtBlock}
+use Rattle.rhai_ast.specs.Reading.{stmts_of, stmt_of-Block, stmt_of-Noop}
+use Rattle.rhai_rewriting.specs.Rules.{statement_of_braces}
+use Rattle.rhai_rewriting.proofs.Firing.{stmt_fires}
+use Rattle.rhai_rules.proofs.Shapes.{block_or_noop-none, block_or_noop-some}
 use Rattle.rhai_rules.proofs.statements.statement_of_braces.Goals as goal
 
--- src/statements.rt:166:9
 pub returns-then-is_empty : goal.returns-then-is_empty
-returns-then-is_empty c = ?
+returns-then-is_empty c = λ k w. stmt_fires c.set_dirty.ensures statement_of_braces (stmt_of-Noop _ ∙ block_or_noop-none (stmts_of c.args.block.block) (rw c.get.ensures at c.if-is_empty.ensures))
 
--- src/statements.rt:161:1
 pub returns : goal.returns
-returns c = ?
+returns c = λ k w. stmt_fires c.set_dirty.ensures statement_of_braces (stmt_of-Block _ ∙ block_or_noop-some (stmts_of c.args.block.block) (rw c.get.ensures at c.if-is_empty.ensures))
