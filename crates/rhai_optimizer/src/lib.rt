@@ -8,5 +8,5 @@ mod mark;
 mod optimizer;
 
 pub use level::OptimizationLevel;
-pub use optimizer::optimize_into_ast;
+pub use optimizer::{optimize_into_ast, optimize_top_level};
 pub use rhai_rules::OptimizerState;

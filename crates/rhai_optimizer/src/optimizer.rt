@@ -26,7 +26,7 @@ use std::alloc::Global;
 use std::rc::Rc;
 
 /// The statements of a script are optimised in place. Where there is nothing to reduce, it takes no memory.
-pub fn optimize_statements(
+pub fn optimize_top_level(
     alloc: Global,
     info: &EngineInfo,
     statements: &mut Seq<Stmt>,
@@ -53,7 +53,7 @@ fn optimized(
         OptimizationLevel::None => Ok(statements),
         OptimizationLevel::Simple | OptimizationLevel::Full => {
             let mut statements = Seq::from_vec(statements);
-            optimize_statements(alloc, info, &mut statements)?;
+            optimize_top_level(alloc, info, &mut statements)?;
             Ok(statements.into_vec())
         }
     }
