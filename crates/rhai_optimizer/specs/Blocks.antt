@@ -1,5 +1,5 @@
 -- Blocks in a list that give way to their statements.
-use Rattle.std.specs.Prelude.{◌≡◌, Bool, true, false, not, ◌||◌}
+use Rattle.std.specs.Prelude.{◌≡◌, Bool, false, not, ◌||◌}
 use Rattle.rhai_meaning.specs.Queries.{is_any_dependent}
 use Rattle.rhai_meaning.specs.Tree.{Stmt, Noop, If, Block, ExprStmt, FnCallStmt, Stmts, no_stmts, stmt}
 use Rattle.rhai_rewriting.specs.Context.{Context, ListKind}
