@@ -6,9 +6,9 @@ use Rattle.rhai_meaning.specs.Desugar.{core_script}
 use Rattle.rhai_meaning.specs.Engine.{Engine}
 use Rattle.rhai_meaning.specs.Run.{AtStatements, Report, report_of, run_script}
 use Rattle.rhai_meaning.specs.Tree.{Script}
-use Rattle.rhai_run.specs.EngineInfo.{nothing_set}
+use Rattle.rhai_engine.specs.EngineInfo.{nothing_set}
 use Rattle.rhai_run.specs.Entries.{start_scope}
-use Rattle.rhai_run.specs.Small.{small_script}
+use Rattle.rhai_meaning.specs.Small.{small_script}
 use Rattle.rhai_opt.specs.Host.{program_host}
 use Rattle.rhai_opt.specs.Report.{report_text}
 use Rattle.rhai_opt.specs.Words.{reported}

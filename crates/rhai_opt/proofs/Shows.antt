@@ -12,7 +12,7 @@ use Rattle.rhai_ast.specs.declared.ast.stmt.Stmt.{Stmt}
 use Rattle.rhai_script.specs.FnKey.{definitions_table}
 use Rattle.rhai_script.specs.Script.{functions_of, script_of}
 use Rattle.rhai_script.specs.declared.ast.AST.{AST}
-use Rattle.rhai_run.specs.EngineInfo.{nothing_set}
+use Rattle.rhai_engine.specs.EngineInfo.{nothing_set}
 use Rattle.rhai_rewriting.specs.Residue.{AreReduced}
 use Rattle.rhai_rewriting.specs.Refines.{Refines}
 use Rattle.rhai_optimizer.specs.Source.{source_of}

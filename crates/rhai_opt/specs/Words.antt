@@ -7,8 +7,8 @@ use Rattle.rhai_meaning.specs.Run.{AtStatements, Report, report_of, run_script}
 use Rattle.rhai_meaning.specs.Tree.{Script}
 use Rattle.rhai_optimizer.specs.declared.optimizer.level.OptimizationLevel.{OptimizationLevel}
 use Rattle.rhai_optimizer.specs.declared.optimizer.level.OptimizationLevel.TheVariants as level
-use Rattle.rhai_run.specs.EngineInfo.{nothing_set}
-use Rattle.rhai_run.specs.Small.{small_script}
+use Rattle.rhai_engine.specs.EngineInfo.{nothing_set}
+use Rattle.rhai_meaning.specs.Small.{small_script}
 use Rattle.rhai_rewriting.specs.Residue.{AreReduced}
 use Rattle.rhai_rewriting.specs.Refines.{Refines}
 use Rattle.rhai_opt.specs.declared.scripts.BuiltinScript.{BuiltinScript}
