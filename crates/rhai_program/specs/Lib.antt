@@ -1,0 +1,4 @@
+pub mod Host
+pub mod Report
+pub mod Scripts
+pub mod Words

@@ -1,0 +1,135 @@
+//! The program: words in, text and a status out.
+ghost use Rattle.std.specs.Prelude.{◌≡◌, ◌⊎◌, map, string_bytes, IsNone, IsSome, IfSome, IfOk, OnOk, MatchOption};
+ghost use Rattle.std.specs.Io.KnownBytes.{Appends};
+ghost use Rattle.rhai_program.specs.Scripts.{all_scripts};
+ghost use Rattle.rhai_program.specs.Words.{request_of, usage, listing, built_in, Answers, Optimized};
+ghost use Rattle.rhai_base.specs.Value.{Text};
+ghost use Rattle.rhai_script.specs.Script.{script_of};
+
+use crate::host::ProgramHost;
+use crate::request::Request;
+use crate::scripts::BuiltinScript;
+use crate::report;
+use rhai_base::{OutOfMemory, Scope};
+use rhai_notation::{push_lines, push_script};
+use rhai_optimizer::{OptimizationLevel, optimize_into_ast};
+use rhai_run::{EngineInfo, plain_run};
+use rhai_script::AST;
+use std::alloc::Global;
+use std::io;
+
+/// The line that other words than a request's are answered with.
+const USAGE: &str = "usage: rhai_opt list | show NAME LEVEL | run NAME LEVEL TURNS\n";
+
+/// Does what the words ask, and answers the status: 0, or 1 for want of memory or a failed write, or 2 for
+/// words that ask nothing, after a line on `err` that says which do. A failed write of that line is 1 too.
+pub fn run_words<W: io::Write, E: io::Write>(
+    alloc: Global,
+    words: &[String],
+    out: &mut W,
+    err: &mut E,
+) -> u8
+    // A request is never answered by 2, and other words never by 0.
+    ensures status { MatchOption (request_of (map string_bytes words.now)) ((result ≡ 1) ⊎ (result ≡ 2)) (λ _. (result ≡ 0) ⊎ (result ≡ 1)) }
+
+    // Each writes to one side alone.
+    ensures request { IsSome (request_of (map string_bytes words.now)) → err.new ≡ err.old }
+    ensures other_words { IsNone (request_of (map string_bytes words.now)) → out.new ≡ out.old }
+
+    ensures answer { result ≡ 0 → IfSome (request_of (map string_bytes words.now)) (λ r. (text : Text) × Answers r text × Appends (W.contents out.old) (W.contents out.new) text) }
+    ensures usage { result ≡ 2 → Appends (E.contents err.old) (E.contents err.new) usage }
+{
+    let Some(request) = Request::parse(words) else {
+        return match put(USAGE, err) {
+            Ok(()) => 2,
+            Err(_) => 1,
+        };
+    };
+    let Ok(text) = answer(alloc, request) else {
+        return 1;
+    };
+    match put(text.as_str(), out) {
+        Ok(()) => 0,
+        Err(_) => 1,
+    }
+}
+
+fn put<W: io::Write>(text: &str, to: &mut W) -> io::Result<()>
+    ensures { OnOk result (Appends (W.contents to.old) (W.contents to.new) text.now) }
+{
+    to.write_all(text.as_bytes())?;
+    to.flush()
+}
+
+/// The text that answers a request.
+fn answer(alloc: Global, request: Request) -> Result<String, OutOfMemory>
+    ensures { IfOk result (λ text. Answers request (string_bytes text)) }
+{
+    match request {
+        Request::List => list(alloc),
+        Request::Show(script, level) => show(alloc, script, level),
+        Request::Run(script, level, turns) => run(alloc, script, level, turns),
+    }
+}
+
+fn list(alloc: Global) -> Result<String, OutOfMemory>
+    ensures { IfOk result (λ text. string_bytes text ≡ listing all_scripts) }
+{
+    let mut text = String::new(alloc);
+    for script in BuiltinScript::ALL {
+        text.push_str(script.name())?;
+        text.push_str("\n")?;
+    }
+    Ok(text)
+}
+
+fn show(
+    alloc: Global,
+    script: BuiltinScript,
+    level: OptimizationLevel,
+) -> Result<String, OutOfMemory>
+    ensures { IfOk result (λ text. Answers (Request.Show script level) (string_bytes text)) }
+{
+    let statements = script.statements(alloc)?;
+    let mut text = String::new(alloc);
+    text.push_str("before:\n")?;
+    push_lines(statements.as_slice(), &mut text)?;
+    let after = optimized(alloc, script, level)?;
+    text.push_str("after:\n")?;
+    push_script(&after, &mut text)?;
+    Ok(text)
+}
+
+/// The report of a run from an empty scope with the program's host.
+fn run(
+    alloc: Global,
+    script: BuiltinScript,
+    level: OptimizationLevel,
+    turns: u64,
+) -> Result<String, OutOfMemory>
+    ensures { IfOk result (λ text. Answers (Request.Run script level turns) (string_bytes text)) }
+{
+    let engine = EngineInfo::new(alloc);
+    let after = optimized(alloc, script, level)?;
+    let scope = Scope::new(alloc);
+    let report = plain_run(alloc, &after, &engine, &ProgramHost, &scope, turns)?;
+    let mut text = String::new(alloc);
+    report::push_report(&report, &mut text)?;
+    Ok(text)
+}
+
+/// A built-in script, optimised under a record with nothing set.
+fn optimized(
+    alloc: Global,
+    script: BuiltinScript,
+    level: OptimizationLevel,
+) -> Result<AST, OutOfMemory>
+    ensures { IfOk result (λ after. Optimized level (built_in script) (script_of after)) }
+{
+    let engine = EngineInfo::new(alloc);
+    let statements = script.statements(alloc)?;
+    let functions = Vec::new(alloc);
+    let after = optimize_into_ast(alloc, &engine, None, statements, functions, level)?;
+    Ok(after)
+}
+
