@@ -1,94 +1,22 @@
 //! Scripts before and after the optimiser: what they become in print, and that both run alike.
-#![tactic(auto, using(rhai_base::specs::Reading::kinds))]
 
-mod table;
-
-use crate::host::ProgramHost;
-use crate::notation::push_script;
-use crate::notation::reader::read_lines;
-use crate::report::push_report;
-use crate::trees::name;
+use crate::rows::{Row, is_met, is_printed, is_run, script};
+use crate::table;
+use crate::trees::{name, negated_integer, statement};
 use rhai_ast::Stmt;
-use rhai_base::{Dynamic, INT, OutOfMemory, Scope};
+use rhai_base::{Dynamic, INT, ImmutableString, OutOfMemory, Scope};
 use rhai_optimizer::{OptimizationLevel, optimize_into_ast};
-use rhai_run::{EngineInfo, Host, HostAnswer, HostCall, RunEnd, RunReport, plain_run};
-use rhai_script::AST;
+use rhai_program::ProgramHost;
+use rhai_run::{EngineInfo, Host, HostAnswer, HostCall, RunEnd, plain_run};
 use std::alloc::Global;
 use std::process::Abort;
 use std::test::Fail;
-use table::Row;
-
-/// A script of these statements at a level.
-fn script(
-    alloc: Global,
-    info: &EngineInfo,
-    statements: Vec<Stmt>,
-    level: OptimizationLevel,
-) -> Result<AST, OutOfMemory> {
-    let functions = Vec::new(alloc);
-    optimize_into_ast(alloc, info, None, statements, functions, level)
-}
-
-/// A run from an empty scope with three turns.
-fn run_of<H: Host>(
-    alloc: Global,
-    script: &AST,
-    info: &EngineInfo,
-    host: &H,
-) -> Result<RunReport, OutOfMemory> {
-    let scope = Scope::new(alloc);
-    plain_run(alloc, script, info, host, &scope, 3)
-}
-
-fn printed_script(alloc: Global, script: &AST) -> Result<String, OutOfMemory> {
-    let mut text = String::new(alloc);
-    push_script(script, &mut text)?;
-    Ok(text)
-}
-
-fn printed_report(alloc: Global, report: &RunReport) -> Result<String, OutOfMemory> {
-    let mut text = String::new(alloc);
-    push_report(report, &mut text)?;
-    Ok(text)
-}
-
-/// Checks a script under an engine's record with a host: it is printed as it was read, it is optimised to what is
-/// wanted, and both run alike and as is wanted.
-fn check<H: Host>(
-    rt: &impl Abort,
-    alloc: Global,
-    info: &EngineInfo,
-    host: &H,
-    row: Row,
-) -> Result<(), Fail> {
-    let (source, printed, end, calls) = row;
-    let statements = read_lines(alloc, source)?;
-    let before = script(alloc, info, statements, OptimizationLevel::None)?;
-    assert_eq!(rt; printed_script(alloc, &before)?.as_str(), source);
-    let statements = read_lines(alloc, source)?;
-    let after = script(alloc, info, statements, OptimizationLevel::Simple)?;
-    assert_eq!(rt;
-        printed_script(alloc, &after)?.as_str(),
-        printed,
-        "at {source}"
-    );
-    let wanted = run_of(alloc, &before, info, host)?;
-    let report = run_of(alloc, &after, info, host)?;
-    assert_eq!(rt; report, wanted, "at {source}");
-    let wanted = format!(in alloc; "end: {}\nturns left: 3\n{}", end, calls)?;
-    assert_eq!(rt;
-        printed_report(alloc, &report)?.as_str(),
-        wanted.as_str(),
-        "at {source}"
-    );
-    Ok(())
-}
 
 /// Checks scripts with nothing set and with the program's host.
 fn check_all(rt: &impl Abort, alloc: Global, rows: &[Row]) -> Result<(), Fail> {
     let info = EngineInfo::new(alloc);
     for row in rows {
-        check(rt, alloc, &info, &ProgramHost, *row)?;
+        assert!(rt; is_met(alloc, &info, &ProgramHost, row)?, "{row:?}");
     }
     Ok(())
 }
@@ -111,9 +39,7 @@ fn operators_over_constants_fold(rt: HostRuntime) -> Result<(), Fail> {
 
 #[test]
 fn ranges_are_made_of_constants(rt: HostRuntime) -> Result<(), Fail> {
-    check_all(&rt, rt.alloc(), &table::RANGES)?;
-    let info = overriding(rt.alloc(), "..", &["i64", "i64"])?;
-    check(&rt, rt.alloc(), &info, &ProgramHost, table::RANGE)
+    check_all(&rt, rt.alloc(), &table::RANGES)
 }
 
 #[test]
@@ -143,50 +69,59 @@ fn stuck_scripts_stay_stuck(rt: HostRuntime) -> Result<(), Fail> {
     check_all(&rt, rt.alloc(), &table::STUCK)
 }
 
+/// An operator that an engine leaves to the host at these types, whether it has fast operators, and a script under it.
+type Override = (&'static str, &'static [&'static str], bool, Row);
+
+const OVERRIDES: [Override; 9] = [
+    ("!", &["bool"], false, table::NEGATION_ASKED),
+    ("!", &["bool"], false, table::NEGATION_UNDECIDED),
+    ("!", &["bool"], true, table::NEGATION),
+    ("+", &["i64", "i64"], false, table::SUM_ASKED),
+    ("+", &["i64", "i64"], false, table::SUM_IN_AN_ARRAY),
+    ("+", &["i64", "i64"], false, table::SUM_OF_A_SUM),
+    ("+", &["i64", "i64"], true, table::SUM),
+    ("+", &["i64", "string"], false, table::SUM),
+    ("..", &["i64", "i64"], false, table::RANGE),
+];
+
+fn is_met_under(alloc: Global, row: &Override) -> Result<bool, Fail> {
+    let (operator, types, fast, row) = row;
+    let info = overriding(alloc, operator, types, *fast)?;
+    Ok(is_met(alloc, &info, &ProgramHost, row)?)
+}
+
 /// An engine that leaves an operator at these types to the host.
-fn overriding(alloc: Global, operator: &str, types: &[&str]) -> Result<EngineInfo, OutOfMemory> {
-    let mut named = Vec::new(alloc);
-    for text in types {
-        named.push(name(alloc, text)?)?;
-    }
+fn overriding(
+    alloc: Global,
+    operator: &str,
+    types: &[&str],
+    fast: bool,
+) -> Result<EngineInfo, OutOfMemory> {
     let mut info = EngineInfo::new(alloc);
-    info.override_operator(name(alloc, operator)?, named)?;
+    info.set_fast_operators(fast);
+    info.override_operator(name(alloc, operator)?, names(alloc, types)?)?;
     Ok(info)
 }
 
-#[test]
-fn an_overridden_negation_asks_the_host(rt: HostRuntime) -> Result<(), Fail> {
-    let info = overriding(rt.alloc(), "!", &["bool"])?;
-    for row in table::NEGATION_OVERRIDDEN {
-        check(&rt, rt.alloc(), &info, &ProgramHost, row)?;
+fn names(alloc: Global, texts: &[&str]) -> Result<Vec<ImmutableString>, OutOfMemory> {
+    let mut names = Vec::new(alloc);
+    for text in texts {
+        names.push(name(alloc, text)?)?;
     }
-    Ok(())
+    Ok(names)
 }
 
 #[test]
-fn an_overridden_sum_asks_the_host(rt: HostRuntime) -> Result<(), Fail> {
-    let info = overriding(rt.alloc(), "+", &["i64", "i64"])?;
-    for row in table::SUM_OVERRIDDEN {
-        check(&rt, rt.alloc(), &info, &ProgramHost, row)?;
+fn overridden_operators_ask_the_host_unless_operators_are_fast(
+    rt: HostRuntime,
+) -> Result<(), Fail> {
+    for row in &OVERRIDES {
+        assert!(rt; is_met_under(rt.alloc(), row)?, "{row:?}");
     }
     Ok(())
-}
-
-#[test]
-fn other_overrides_and_fast_operators_ask_nothing(rt: HostRuntime) -> Result<(), Fail> {
-    let alloc = rt.alloc();
-    let info = overriding(alloc, "+", &["i64", "string"])?;
-    check(&rt, alloc, &info, &ProgramHost, table::SUM)?;
-    let mut info = overriding(alloc, "+", &["i64", "i64"])?;
-    info.set_fast_operators(true);
-    check(&rt, alloc, &info, &ProgramHost, table::SUM)?;
-    let mut info = overriding(alloc, "!", &["bool"])?;
-    info.set_fast_operators(true);
-    check(&rt, alloc, &info, &ProgramHost, table::NEGATION)
 }
 
 /// A host that throws the name of what it is asked.
-#[derive(Clone, Copy, Debug, PartialEq, Eq)]
 struct Throws;
 
 impl Host for Throws {
@@ -219,30 +154,89 @@ impl Host for Throws {
 #[test]
 fn what_the_host_throws_ends_the_run(rt: HostRuntime) -> Result<(), Fail> {
     let info = EngineInfo::new(rt.alloc());
-    for row in table::HOST_THROWS {
-        check(&rt, rt.alloc(), &info, &Throws, row)?;
+    for row in &table::HOST_THROWS {
+        assert!(rt; is_met(rt.alloc(), &info, &Throws, row)?, "{row:?}");
     }
     Ok(())
+}
+
+/// A host that counts: its answer to a call is whether it is the first.
+struct First;
+
+impl Host for First {
+    ghost use Rattle.rhai_base.specs.Value.{BoolV};
+    ghost use Rattle.rhai_meaning.specs.Act.{Answers};
+    ghost use Rattle.std.specs.Prelude.{[], None, length, ◌==◌};
+
+    ghost answers = { λ host past call. Answers (BoolV (length past == 0)) None };
+
+    ghost modules = { λ host. [] };
+
+    fn answer(
+        &self,
+        _alloc: Global,
+        past: &[HostCall],
+        _call: &HostCall,
+    ) -> Result<HostAnswer, OutOfMemory> {
+        Ok(HostAnswer::Value {
+            value: Dynamic::Bool(past.is_empty()),
+            receiver: None,
+        })
+    }
+
+    fn module_value(
+        &self,
+        _alloc: Global,
+        _qualified: &str,
+    ) -> Result<Option<Dynamic>, OutOfMemory> {
+        Ok(None)
+    }
+}
+
+#[test]
+fn the_host_is_told_the_calls_before(rt: HostRuntime) -> Result<(), Fail> {
+    let info = EngineInfo::new(rt.alloc());
+    for row in &table::FIRST_CALLS {
+        assert!(rt; is_met(rt.alloc(), &info, &First, row)?, "{row:?}");
+    }
+    Ok(())
+}
+
+/// A level, and how a script ends at it that is stuck as it is written.
+const STUCK_BEFORE: [(OptimizationLevel, &str, &str); 2] = [
+    (
+        OptimizationLevel::None,
+        "if 5 {} else {}\n",
+        "stuck 2 WrongKind",
+    ),
+    (OptimizationLevel::Simple, "block { 5; noop }\n", "value ()"),
+];
+
+fn is_stuck_before(
+    alloc: Global,
+    row: &(OptimizationLevel, &'static str, &'static str),
+) -> Result<bool, Fail> {
+    let (level, printed, end) = *row;
+    let info = EngineInfo::new(alloc);
+    let script = script(alloc, &info, "if 5 {} else {}\n", level)?;
+    Ok(
+        is_printed(alloc, &script, printed)?
+            && is_run(alloc, &info, &ProgramHost, &script, end, "")?,
+    )
 }
 
 /// A stuck script's optimised form may end: all that the promise says of it is that its calls go before.
 #[test]
 fn a_stuck_script_may_end(rt: HostRuntime) -> Result<(), Fail> {
-    let alloc = rt.alloc();
-    let info = EngineInfo::new(alloc);
-    for (level, wanted) in [
-        (
-            OptimizationLevel::None,
-            "end: stuck 2 WrongKind\nturns left: 3\n",
-        ),
-        (OptimizationLevel::Simple, "end: value ()\nturns left: 3\n"),
-    ] {
-        let statements = read_lines(alloc, "if 5 {} else {}\n")?;
-        let script = script(alloc, &info, statements, level)?;
-        let report = run_of(alloc, &script, &info, &ProgramHost)?;
-        assert_eq!(rt; printed_report(alloc, &report)?.as_str(), wanted);
+    for row in &STUCK_BEFORE {
+        assert!(rt; is_stuck_before(rt.alloc(), row)?, "{row:?}");
     }
     Ok(())
+}
+
+#[test]
+fn the_default_level_is_simple(rt: HostRuntime) {
+    assert!(rt; matches!(OptimizationLevel::default(), OptimizationLevel::Simple));
 }
 
 const MANY: INT = 1000;
@@ -251,26 +245,54 @@ const MANY: INT = 1000;
 fn many_asked(alloc: Global) -> Result<Vec<Stmt>, OutOfMemory> {
     let mut statements = Vec::new(alloc);
     for value in 0..MANY {
-        let asked = crate::trees::negated_integer(alloc, value)?;
-        statements.push(crate::trees::statement(alloc, asked)?)?;
+        push_asked(alloc, value, &mut statements)?;
     }
     Ok(statements)
 }
 
-#[test]
-fn many_calls_are_recorded_in_order(rt: HostRuntime) -> Result<(), Fail> {
-    let alloc = rt.alloc();
-    let info = EngineInfo::new(alloc);
-    for level in [OptimizationLevel::None, OptimizationLevel::Simple] {
-        let script = script(alloc, &info, many_asked(alloc)?, level)?;
-        let report = run_of(alloc, &script, &info, &ProgramHost)?;
-        assert_eq!(rt; report.run_end, RunEnd::Value(Dynamic::Unit));
-        assert_eq!(rt; report.calls.len(), 1000);
-        for (value, call) in (0..MANY).zip(report.calls.as_slice()) {
-            assert_eq!(rt; call.name.as_str(), "!", "at {value}");
-            assert_eq!(rt; call.receiver, None, "at {value}");
-            assert_eq!(rt; call.args.as_slice(), [Dynamic::Int(value)].as_slice());
+fn push_asked(alloc: Global, value: INT, statements: &mut Vec<Stmt>) -> Result<(), OutOfMemory> {
+    let asked = negated_integer(alloc, value)?;
+    statements.push(statement(alloc, asked)?)?;
+    Ok(())
+}
+
+/// Whether the calls are `!(0)`, `!(1)`, ..
+fn are_asked(calls: &[HostCall]) -> bool {
+    let mut values = 0..MANY;
+    for call in calls {
+        match values.next() {
+            Some(value) if is_asked(call, value) => {}
+            _ => return false,
         }
     }
+    values.next().is_none()
+}
+
+fn is_asked(call: &HostCall, value: INT) -> bool {
+    match call.args.as_slice() {
+        [Dynamic::Int(asked)] => {
+            call.name.as_str() == "!" && call.receiver.is_none() && *asked == value
+        }
+        _ => false,
+    }
+}
+
+fn are_many_asked(alloc: Global, level: OptimizationLevel) -> Result<bool, OutOfMemory> {
+    let info = EngineInfo::new(alloc);
+    let statements = many_asked(alloc)?;
+    let functions = Vec::new(alloc);
+    let script = optimize_into_ast(alloc, &info, None, statements, functions, level)?;
+    let scope = Scope::new(alloc);
+    let report = plain_run(alloc, &script, &info, &ProgramHost, &scope, 0)?;
+    Ok(
+        matches!(&report.run_end, RunEnd::Value(Dynamic::Unit))
+            && are_asked(report.calls.as_slice()),
+    )
+}
+
+#[test]
+fn many_calls_are_recorded_in_order(rt: HostRuntime) -> Result<(), Fail> {
+    assert!(rt; are_many_asked(rt.alloc(), OptimizationLevel::None)?);
+    assert!(rt; are_many_asked(rt.alloc(), OptimizationLevel::Simple)?);
     Ok(())
 }

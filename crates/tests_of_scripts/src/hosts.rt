@@ -1,98 +1,115 @@
 //! What the program's host answers, call by call.
 
-use super::ProgramHost;
+use crate::reader::{Unread, read_value};
 use crate::trees::name;
 use rhai_base::{Dynamic, OutOfMemory, Seq};
+use rhai_program::ProgramHost;
 use rhai_run::{Host, HostAnswer, HostCall};
 use std::alloc::Global;
 use std::test::Fail;
 
-fn answer_to(
-    alloc: Global,
-    called: &str,
-    receiver: Option<Dynamic>,
-    args: Vec<Dynamic>,
-) -> Result<HostAnswer, OutOfMemory> {
-    let call = HostCall {
-        name: name(alloc, called)?,
-        receiver,
-        args: Seq::from_vec(args),
-    };
-    ProgramHost.answer(alloc, &[], &call)
+/// A value in print; nothing stands for none.
+type Printed = &'static str;
+
+/// A call's name, receiver and arguments; the value that is answered, and the receiver's new one.
+type Row = (&'static str, Printed, &'static [Printed], Printed, Printed);
+
+const ROWS: [Row; 12] = [
+    ("f", "", &[], "true", ""),
+    ("f", "", &["1"], "true", ""),
+    ("+", "", &["4", "\"2\""], "\"42\"", ""),
+    ("+", "", &["['a', ()]", "'é'"], "\"['a', ()]é\"", ""),
+    ("+", "", &["()", "false"], "\"false\"", ""),
+    ("push", "[1]", &["true"], "()", "[1, true]"),
+    ("g", "", &[], "()", ""),
+    ("", "[]", &["1"], "()", ""),
+    ("+", "", &["1"], "()", ""),
+    ("push", "", &["1"], "()", ""),
+    ("push", "2", &["1"], "()", ""),
+    ("push", "[]", &[], "()", ""),
+];
+
+fn read_receiver(alloc: Global, text: Printed) -> Result<Option<Dynamic>, Unread> {
+    if text.is_empty() {
+        return Ok(None);
+    }
+    Ok(Some(read_value(alloc, text)?))
 }
 
-fn value(value: Dynamic) -> HostAnswer {
-    HostAnswer::Value {
-        value,
-        receiver: None,
+fn read_values(alloc: Global, texts: &[Printed]) -> Result<Seq<Dynamic>, Unread> {
+    let mut values = Seq::new(alloc);
+    for text in texts {
+        values.push(read_value(alloc, text)?)?;
+    }
+    Ok(values)
+}
+
+fn read_call(alloc: Global, row: &Row) -> Result<HostCall, Unread> {
+    let (called, receiver, args, _, _) = *row;
+    Ok(HostCall {
+        name: name(alloc, called)?,
+        receiver: read_receiver(alloc, receiver)?,
+        args: read_values(alloc, args)?,
+    })
+}
+
+fn is_met(alloc: Global, row: &Row) -> Result<bool, Unread> {
+    let (_, _, _, value, changed) = *row;
+    let call = read_call(alloc, row)?;
+    Ok(is_answered(alloc, &call, value, changed)?)
+}
+
+fn is_answered(
+    alloc: Global,
+    call: &HostCall,
+    value: Printed,
+    changed: Printed,
+) -> Result<bool, OutOfMemory> {
+    let answer = ProgramHost.answer(alloc, &[], call)?;
+    is_answer(alloc, &answer, value, changed)
+}
+
+fn is_answer(
+    alloc: Global,
+    answer: &HostAnswer,
+    wanted: Printed,
+    changed: Printed,
+) -> Result<bool, OutOfMemory> {
+    match answer {
+        HostAnswer::Value { value, receiver } => {
+            Ok(is_value(alloc, value, wanted)? && is_receiver(alloc, receiver, changed)?)
+        }
+        HostAnswer::Throw(_) => Ok(false),
     }
 }
 
-fn text(alloc: Global, text: &str) -> Result<Dynamic, OutOfMemory> {
-    Ok(Dynamic::Str(name(alloc, text)?))
+fn is_receiver(
+    alloc: Global,
+    receiver: &Option<Dynamic>,
+    wanted: Printed,
+) -> Result<bool, OutOfMemory> {
+    match receiver {
+        Some(value) => is_value(alloc, value, wanted),
+        None => Ok(wanted.is_empty()),
+    }
+}
+
+fn is_value(alloc: Global, value: &Dynamic, wanted: Printed) -> Result<bool, OutOfMemory> {
+    let mut text = String::new(alloc);
+    value.push_inner(&mut text)?;
+    Ok(text.as_str() == wanted)
 }
 
 #[test]
-fn f_is_true(rt: HostRuntime) -> Result<(), Fail> {
-    let alloc = rt.alloc();
-    let wanted = value(Dynamic::Bool(true));
-    assert_eq!(rt; answer_to(alloc, "f", None, Vec::new(alloc))?, wanted);
-    let args = vec![in alloc; Dynamic::Int(1)]?;
-    assert_eq!(rt; answer_to(alloc, "f", None, args)?, wanted);
-    Ok(())
-}
-
-#[test]
-fn plus_joins_texts(rt: HostRuntime) -> Result<(), Fail> {
-    let alloc = rt.alloc();
-    let args = vec![in alloc; Dynamic::Int(4), text(alloc, "2")?]?;
-    let wanted = value(text(alloc, "42")?);
-    assert_eq!(rt; answer_to(alloc, "+", None, args)?, wanted);
-    let items = vec![in alloc; Dynamic::Char('a'), Dynamic::Unit]?;
-    let args = vec![in alloc; Dynamic::Array(Seq::from_vec(items)), Dynamic::Char('é')]?;
-    let wanted = value(text(alloc, "['a', ()]é")?);
-    assert_eq!(rt; answer_to(alloc, "+", None, args)?, wanted);
-    let args = vec![in alloc; Dynamic::Unit, Dynamic::Bool(false)]?;
-    let wanted = value(text(alloc, "false")?);
-    assert_eq!(rt; answer_to(alloc, "+", None, args)?, wanted);
-    Ok(())
-}
-
-#[test]
-fn push_appends(rt: HostRuntime) -> Result<(), Fail> {
-    let alloc = rt.alloc();
-    let items = vec![in alloc; Dynamic::Int(1)]?;
-    let receiver = Some(Dynamic::Array(Seq::from_vec(items)));
-    let args = vec![in alloc; Dynamic::Bool(true)]?;
-    let items = vec![in alloc; Dynamic::Int(1), Dynamic::Bool(true)]?;
-    let wanted = HostAnswer::Value {
-        value: Dynamic::Unit,
-        receiver: Some(Dynamic::Array(Seq::from_vec(items))),
-    };
-    assert_eq!(rt; answer_to(alloc, "push", receiver, args)?, wanted);
-    Ok(())
-}
-
-#[test]
-fn all_else_is_unit(rt: HostRuntime) -> Result<(), Fail> {
-    let alloc = rt.alloc();
-    let one = || vec![in alloc; Dynamic::Int(1)];
-    let empty = || Some(Dynamic::Array(Seq::new(alloc)));
-    let unit = value(Dynamic::Unit);
-    assert_eq!(rt; answer_to(alloc, "g", None, Vec::new(alloc))?, unit);
-    assert_eq!(rt; answer_to(alloc, "", empty(), one()?)?, unit);
-    assert_eq!(rt; answer_to(alloc, "+", None, one()?)?, unit);
-    assert_eq!(rt; answer_to(alloc, "push", None, one()?)?, unit);
-    assert_eq!(rt;
-        answer_to(alloc, "push", Some(Dynamic::Int(2)), one()?)?,
-        unit
-    );
-    assert_eq!(rt; answer_to(alloc, "push", empty(), Vec::new(alloc))?, unit);
+fn calls_are_answered(rt: HostRuntime) -> Result<(), Fail> {
+    for row in &ROWS {
+        assert!(rt; is_met(rt.alloc(), row)?, "{row:?}");
+    }
     Ok(())
 }
 
 #[test]
 fn there_are_no_modules(rt: HostRuntime) -> Result<(), Fail> {
-    assert_eq!(rt; ProgramHost.module_value(rt.alloc(), "a::x")?, None);
+    assert!(rt; ProgramHost.module_value(rt.alloc(), "a::x")?.is_none());
     Ok(())
 }

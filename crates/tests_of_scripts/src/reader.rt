@@ -1,5 +1,4 @@
-//! Reads trees as they are printed, for tests. It goes so deep and no deeper, and takes so many items of a list and no
-//! more.
+//! Reads trees as they are printed. It goes so deep and no deeper, and takes so many items of a list and no more.
 
 ghost use Rattle.std.specs.Prelude.{◌<◌, IfOk};
 
@@ -50,6 +49,15 @@ pub fn read_lines(alloc: Global, text: &str) -> Result<Vec<Stmt>, Unread> {
         reader.expect("\n")?;
     }
     Err(Unread::Wanted("fewer lines"))
+}
+
+/// The value of a text: one that is no list, or a list of such.
+pub fn read_value(alloc: Global, text: &str) -> Result<Dynamic, Unread> {
+    let mut reader = Reader {
+        alloc,
+        rest: text.as_bytes(),
+    };
+    reader.value()?.ok_or(Unread::Wanted("a value"))
 }
 
 fn push<T: Drop>(items: &mut Vec<T>, item: T) -> Result<(), OutOfMemory> {
@@ -109,7 +117,9 @@ impl<'a> Reader<'a> {
     /// An integer, where one stands next.
     fn integer(&mut self) -> Option<INT> {
         let mut letters = self.rest.iter();
-        let count = letters.position(|letter| !b"-0123456789".contains(letter))?;
+        let count = letters
+            .position(|letter| !b"-0123456789".contains(letter))
+            .unwrap_or(self.rest.len());
         let (digits, rest) = self.rest.split_at_checked(count)?;
         let integer = str::from_utf8(digits).ok()?.parse::<INT>().ok()?;
         self.rest = rest;
@@ -140,17 +150,21 @@ impl<'a> Reader<'a> {
         Ok(self.integer().map(Dynamic::Int))
     }
 
+    /// A value or a list of values, where one stands next.
+    fn value(&mut self) -> Result<Option<Dynamic>, Unread> {
+        if self.skip("[") {
+            return Ok(Some(Dynamic::Array(self.scalars()?)));
+        }
+        self.scalar()
+    }
+
     /// A constant of its own between `<` and `>`, where one stands next: a value or a list of values.
     fn constant(&mut self) -> Result<Option<Dynamic>, Unread> {
         let before = self.rest;
         if !self.skip("<") {
             return Ok(None);
         }
-        let value = if self.skip("[") {
-            Some(Dynamic::Array(self.scalars()?))
-        } else {
-            self.scalar()?
-        };
+        let value = self.value()?;
         match value {
             Some(_) => self.expect(">")?,
             None => self.rest = before,
@@ -262,8 +276,13 @@ impl<'a> Reader<'a> {
         let depth = below(depth)?;
         let name = self.until(b'(').ok_or(Unread::Wanted("a call"))?;
         let args = self.exprs(")", depth)?;
-        let token = token(name, args.len());
-        Ok(trees::call(self.alloc, name, token, args)?)
+        match name.strip_suffix("!") {
+            Some(name) if !name.is_empty() => Ok(trees::capturing(self.alloc, name, args)?),
+            _ => {
+                let token = token(name, args.len());
+                Ok(trees::call(self.alloc, name, token, args)?)
+            }
+        }
     }
 }
 

@@ -1,9 +1,10 @@
-//! Reports in print, part by part.
+//! Reports in print.
 
-use super::{push_call, push_end, push_report, push_variable};
+use crate::reader::{Unread, read_value};
 use crate::trees::name;
 use rhai_base::{Dynamic, OutOfMemory, Seq};
-use rhai_run::{HostCall, RunEnd, RunReport, Stuck};
+use rhai_program::push_report;
+use rhai_run::{HostCall, RunEnd, RunReport, Stuck, Variable};
 use std::alloc::Global;
 use std::test::Fail;
 
@@ -17,136 +18,110 @@ fn ended(alloc: Global, run_end: RunEnd, turns_left: u64) -> RunReport {
     }
 }
 
-fn printed(alloc: Global, report: &RunReport) -> Result<String, OutOfMemory> {
+fn is_printed(alloc: Global, report: &RunReport, wanted: &str) -> Result<bool, OutOfMemory> {
     let mut text = String::new(alloc);
     push_report(report, &mut text)?;
-    Ok(text)
-}
-
-fn printed_end(alloc: Global, end: &RunEnd) -> Result<String, OutOfMemory> {
-    let mut text = String::new(alloc);
-    push_end(end, &mut text)?;
-    Ok(text)
-}
-
-fn printed_variable(
-    alloc: Global,
-    is_constant: bool,
-    value: Dynamic,
-) -> Result<String, OutOfMemory> {
-    let mut text = String::new(alloc);
-    push_variable(&(name(alloc, "x")?, is_constant, value), &mut text)?;
-    Ok(text)
-}
-
-fn printed_call(alloc: Global, call: &HostCall) -> Result<String, OutOfMemory> {
-    let mut text = String::new(alloc);
-    push_call(call, &mut text)?;
-    Ok(text)
-}
-
-fn text(alloc: Global, text: &str) -> Result<Dynamic, OutOfMemory> {
-    Ok(Dynamic::Str(name(alloc, text)?))
+    Ok(text.as_str() == wanted)
 }
 
 #[test]
 fn values_and_turns_are_printed(rt: HostRuntime) -> Result<(), Fail> {
     let report = ended(rt.alloc(), RunEnd::Value(Dynamic::Int(-5)), u64::MAX);
     let wanted = "end: value -5\nturns left: 18446744073709551615\n";
-    assert_eq!(rt; printed(rt.alloc(), &report)?.as_str(), wanted);
+    assert!(rt; is_printed(rt.alloc(), &report, wanted)?);
     Ok(())
 }
 
 #[test]
 fn what_is_thrown_is_printed(rt: HostRuntime) -> Result<(), Fail> {
-    let end = RunEnd::Thrown(text(rt.alloc(), "a\"b")?);
-    assert_eq!(rt; printed_end(rt.alloc(), &end)?.as_str(), "thrown \"a\"b\"");
+    let report = ended(
+        rt.alloc(),
+        RunEnd::Thrown(read_value(rt.alloc(), "\"ab\"")?),
+        0,
+    );
+    assert!(rt; is_printed(rt.alloc(), &report, "end: thrown \"ab\"\nturns left: 0\n")?);
     Ok(())
 }
 
 #[test]
 fn a_want_of_turns_is_printed(rt: HostRuntime) -> Result<(), Fail> {
-    let end = printed_end(rt.alloc(), &RunEnd::OutOfTurns)?;
-    assert_eq!(rt; end.as_str(), "out of turns");
+    let report = ended(rt.alloc(), RunEnd::OutOfTurns, 0);
+    assert!(rt; is_printed(rt.alloc(), &report, "end: out of turns\nturns left: 0\n")?);
     Ok(())
+}
+
+const STUCK: [(Stuck, &str); 6] = [
+    (Stuck::Unbound, "end: stuck 1 Unbound\nturns left: 1\n"),
+    (Stuck::WrongKind, "end: stuck 2 WrongKind\nturns left: 1\n"),
+    (
+        Stuck::WriteToConstant,
+        "end: stuck 3 WriteToConstant\nturns left: 1\n",
+    ),
+    (Stuck::NoPlace, "end: stuck 4 NoPlace\nturns left: 1\n"),
+    (
+        Stuck::CounterTooLarge,
+        "end: stuck 5 CounterTooLarge\nturns left: 1\n",
+    ),
+    (
+        Stuck::UnboundThis,
+        "end: stuck 6 UnboundThis\nturns left: 1\n",
+    ),
+];
+
+fn is_printed_stuck(alloc: Global, stuck: Stuck, wanted: &str) -> Result<bool, OutOfMemory> {
+    let report = ended(alloc, RunEnd::Stuck(stuck), 1);
+    is_printed(alloc, &report, wanted)
 }
 
 #[test]
 fn each_way_to_be_stuck_is_printed(rt: HostRuntime) -> Result<(), Fail> {
-    let alloc = rt.alloc();
-    for (stuck, wanted) in [
-        (Stuck::Unbound, "end: stuck 1 Unbound\nturns left: 1\n"),
-        (Stuck::WrongKind, "end: stuck 2 WrongKind\nturns left: 1\n"),
-        (
-            Stuck::WriteToConstant,
-            "end: stuck 3 WriteToConstant\nturns left: 1\n",
-        ),
-        (Stuck::NoPlace, "end: stuck 4 NoPlace\nturns left: 1\n"),
-        (
-            Stuck::CounterTooLarge,
-            "end: stuck 5 CounterTooLarge\nturns left: 1\n",
-        ),
-        (
-            Stuck::UnboundThis,
-            "end: stuck 6 UnboundThis\nturns left: 1\n",
-        ),
-    ] {
-        let report = ended(alloc, RunEnd::Stuck(stuck), 1);
-        assert_eq!(rt; printed(alloc, &report)?.as_str(), wanted);
+    for (stuck, wanted) in &STUCK {
+        assert!(rt; is_printed_stuck(rt.alloc(), *stuck, wanted)?, "{wanted}");
     }
     Ok(())
 }
 
-#[test]
-fn variables_are_printed(rt: HostRuntime) -> Result<(), Fail> {
-    let line = printed_variable(rt.alloc(), false, Dynamic::Char('é'))?;
-    assert_eq!(rt; line.as_str(), "variable x = 'é'\n");
+fn variable(alloc: Global, is_constant: bool, value: &str) -> Result<Variable, Unread> {
+    Ok((name(alloc, "x")?, is_constant, read_value(alloc, value)?))
+}
+
+fn push_values(alloc: Global, texts: &[&str], values: &mut Seq<Dynamic>) -> Result<(), Unread> {
+    for text in texts {
+        values.push(read_value(alloc, text)?)?;
+    }
     Ok(())
 }
 
-#[test]
-fn constants_are_printed(rt: HostRuntime) -> Result<(), Fail> {
-    let line = printed_variable(rt.alloc(), true, Dynamic::Range(1, 5))?;
-    assert_eq!(rt; line.as_str(), "constant x = 1..5\n");
-    Ok(())
-}
-
-/// `[].f(3)`
-fn method_call(alloc: Global) -> Result<HostCall, OutOfMemory> {
-    let mut args = Seq::new(alloc);
-    args.push(Dynamic::Int(3))?;
-    Ok(HostCall {
+fn call(alloc: Global, receiver: Option<Dynamic>, args: &[&str]) -> Result<HostCall, Unread> {
+    let mut call = HostCall {
         name: name(alloc, "f")?,
-        receiver: Some(Dynamic::Array(Seq::new(alloc))),
-        args,
-    })
+        receiver,
+        args: Seq::new(alloc),
+    };
+    push_values(alloc, args, &mut call.args)?;
+    Ok(call)
 }
 
-#[test]
-fn receivers_are_printed(rt: HostRuntime) -> Result<(), Fail> {
-    let call = method_call(rt.alloc())?;
-    assert_eq!(rt; printed_call(rt.alloc(), &call)?.as_str(), "call [].f(3)\n");
+fn push_variables(alloc: Global, report: &mut RunReport) -> Result<(), Unread> {
+    report.variables.push(variable(alloc, false, "'é'")?)?;
+    report.variables.push(variable(alloc, true, "[1, ()]")?)?;
     Ok(())
 }
 
-/// `+("1", ())`
-fn plain_call(alloc: Global) -> Result<HostCall, OutOfMemory> {
-    let mut args = Seq::new(alloc);
-    args.push(text(alloc, "1")?)?;
-    args.push(Dynamic::Unit)?;
-    Ok(HostCall {
-        name: name(alloc, "+")?,
-        receiver: None,
-        args,
-    })
+fn push_calls(alloc: Global, report: &mut RunReport) -> Result<(), Unread> {
+    report.calls.push(call(alloc, None, &["\"1\"", "()"])?)?;
+    let receiver = Some(Dynamic::Bool(true));
+    report.calls.push(call(alloc, receiver, &[])?)?;
+    Ok(())
 }
 
 #[test]
-fn arguments_are_printed(rt: HostRuntime) -> Result<(), Fail> {
-    let call = plain_call(rt.alloc())?;
-    assert_eq!(rt;
-        printed_call(rt.alloc(), &call)?.as_str(),
-        "call +(\"1\", ())\n"
-    );
+fn variables_are_printed_and_then_calls(rt: HostRuntime) -> Result<(), Fail> {
+    let mut report = ended(rt.alloc(), RunEnd::Value(Dynamic::Unit), 2);
+    push_variables(rt.alloc(), &mut report)?;
+    push_calls(rt.alloc(), &mut report)?;
+    let wanted = "end: value ()\nturns left: 2\n\
+        variable x = 'é'\nconstant x = [1, ()]\ncall f(\"1\", ())\ncall true.f()\n";
+    assert!(rt; is_printed(rt.alloc(), &report, wanted)?);
     Ok(())
 }

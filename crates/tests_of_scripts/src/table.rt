@@ -1,7 +1,6 @@
 //! Scripts, and by hand what is wanted of them.
 
-/// A script in print, what it is optimised to, how its run ends, and the calls that the run makes.
-pub type Row = (&'static str, &'static str, &'static str, &'static str);
+use crate::rows::Row;
 
 pub const VALUES: [Row; 8] = [
     ("", "", "value ()", ""),
@@ -321,39 +320,39 @@ pub const STUCK: [Row; 6] = [
 
 pub const NEGATION: Row = ("!(true)\n", "false\n", "value false", "");
 
-pub const NEGATION_OVERRIDDEN: [Row; 2] = [
-    ("!(true)\n", "call !(true)\n", "value ()", "call !(true)\n"),
-    (
-        "if !(true) { 1 } else { 2 }\n",
-        "if !(true) { 1 } else { 2 }\n",
-        "stuck 2 WrongKind",
-        "call !(true)\n",
-    ),
-];
+pub const NEGATION_ASKED: Row = ("!(true)\n", "call !(true)\n", "value ()", "call !(true)\n");
+
+pub const NEGATION_UNDECIDED: Row = (
+    "if !(true) { 1 } else { 2 }\n",
+    "if !(true) { 1 } else { 2 }\n",
+    "stuck 2 WrongKind",
+    "call !(true)\n",
+);
 
 pub const SUM: Row = ("+(1, 2)\n", "3\n", "value 3", "");
 
-pub const SUM_OVERRIDDEN: [Row; 3] = [
-    (
-        "+(1, 2)\n",
-        "call +(1, 2)\n",
-        "value \"12\"",
-        "call +(1, 2)\n",
-    ),
-    (
-        "[+(1, 2), !(true)]\n",
-        "[+(1, 2), false]\n",
-        "value [\"12\", false]",
-        "call +(1, 2)\n",
-    ),
-    (
-        "+(+(1, 2), 3)\n",
-        "call +(+(1, 2), 3)\n",
-        "value \"123\"",
-        "call +(1, 2)\ncall +(\"12\", 3)\n",
-    ),
-];
+pub const SUM_ASKED: Row = (
+    "+(1, 2)\n",
+    "call +(1, 2)\n",
+    "value \"12\"",
+    "call +(1, 2)\n",
+);
 
+pub const SUM_IN_AN_ARRAY: Row = (
+    "[+(1, 2), !(true)]\n",
+    "[+(1, 2), false]\n",
+    "value [\"12\", false]",
+    "call +(1, 2)\n",
+);
+
+pub const SUM_OF_A_SUM: Row = (
+    "+(+(1, 2), 3)\n",
+    "call +(+(1, 2), 3)\n",
+    "value \"123\"",
+    "call +(1, 2)\ncall +(\"12\", 3)\n",
+);
+
+/// With a host that throws the name of what it is asked.
 pub const HOST_THROWS: [Row; 2] = [
     (
         "!(5)\n!(6)\n",
@@ -366,5 +365,21 @@ pub const HOST_THROWS: [Row; 2] = [
         "call +(**(1, 2), **(3, 4))\n",
         "thrown \"**\"",
         "call **(1, 2)\n",
+    ),
+];
+
+/// With a host that answers whether a call is the first.
+pub const FIRST_CALLS: [Row; 2] = [
+    (
+        "[!(5), !(6)]\n",
+        "[!(5), !(6)]\n",
+        "value [true, false]",
+        "call !(5)\ncall !(6)\n",
+    ),
+    (
+        "if !(5) { !(6) } else { 7 }\n",
+        "if !(5) { call !(6) } else { 7 }\n",
+        "value false",
+        "call !(5)\ncall !(6)\n",
     ),
 ];

@@ -39,24 +39,30 @@ pub fn call(
     Ok(Boxed::new(alloc, call)?)
 }
 
-/// An operator over these operands.
-pub fn operator(alloc: Global, token: Token, operands: Vec<Expr>) -> Result<Expr, OutOfMemory> {
-    let call = call(alloc, token.literal_syntax(), Some(token), operands)?;
-    Ok(Expr::FnCall(call, NONE))
+/// A function that sees the caller's names.
+pub fn capturing(
+    alloc: Global,
+    text: &str,
+    args: Vec<Expr>,
+) -> Result<Boxed<FnCallExpr>, OutOfMemory> {
+    let call = FnCallExpr {
+        name: name(alloc, text)?,
+        args: Seq::from_vec(args),
+        capture_parent_scope: true,
+        op_token: None,
+    };
+    Ok(Boxed::new(alloc, call)?)
 }
 
-pub fn binary(alloc: Global, token: Token, lhs: Expr, rhs: Expr) -> Result<Expr, OutOfMemory> {
-    operator(alloc, token, vec![in alloc; lhs, rhs]?)
+/// An operator over these operands.
+fn operator(alloc: Global, token: Token, operands: Vec<Expr>) -> Result<Expr, OutOfMemory> {
+    let call = call(alloc, token.literal_syntax(), Some(token), operands)?;
+    Ok(Expr::FnCall(call, NONE))
 }
 
 /// The operator `!` over an integer.
 pub fn negated_integer(alloc: Global, value: INT) -> Result<Expr, OutOfMemory> {
     operator(alloc, Token::Bang, vec![in alloc; integer(value)]?)
-}
-
-/// An operator over two integers.
-pub fn over_integers(alloc: Global, token: Token, x: INT, y: INT) -> Result<Expr, OutOfMemory> {
-    binary(alloc, token, integer(x), integer(y))
 }
 
 pub fn statement(alloc: Global, expr: Expr) -> Result<Stmt, OutOfMemory> {

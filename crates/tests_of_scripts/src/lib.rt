@@ -1,0 +1,24 @@
+//! Tests over the whole: what scripts become, how they run, and how trees and reports are printed. A test goes over
+//! rows of text; a helper makes what a row speaks of and answers whether the row is met.
+#![tactic(auto)]
+
+#[cfg(test)]
+mod differential;
+#[cfg(test)]
+mod hosts;
+#[cfg(test)]
+mod notation;
+#[cfg(test)]
+mod program;
+#[cfg(test)]
+mod reader;
+#[cfg(test)]
+mod readme;
+#[cfg(test)]
+mod reports;
+#[cfg(test)]
+mod rows;
+#[cfg(test)]
+mod table;
+#[cfg(test)]
+mod trees;
