@@ -62,21 +62,24 @@ fn twice(alloc: Global, this_type: &str, body: &str) -> Result<ScriptFuncDef, Un
     })
 }
 
-fn push_twice(
+fn push_shared(
     alloc: Global,
-    this_type: &str,
-    body: &str,
+    function: ScriptFuncDef,
     functions: &mut Vec<Rc<ScriptFuncDef>>,
-) -> Result<(), Unread> {
-    functions.push(Rc::new(alloc, twice(alloc, this_type, body)?)?)?;
+) -> Result<(), OutOfMemory> {
+    functions.push(Rc::new(alloc, function)?)?;
     Ok(())
+}
+
+fn shared_lib(alloc: Global, functions: Vec<Rc<ScriptFuncDef>>) -> Result<Rc<FnLib>, OutOfMemory> {
+    Ok(Rc::new(alloc, FnLib::from_functions(alloc, functions)?)?)
 }
 
 fn library(alloc: Global) -> Result<Rc<FnLib>, Unread> {
     let mut functions = Vec::new(alloc);
-    push_twice(alloc, "", "2\n", &mut functions)?;
-    push_twice(alloc, "i64", "", &mut functions)?;
-    Ok(Rc::new(alloc, FnLib::from_functions(alloc, functions)?)?)
+    push_shared(alloc, twice(alloc, "", "2\n")?, &mut functions)?;
+    push_shared(alloc, twice(alloc, "i64", "")?, &mut functions)?;
+    Ok(shared_lib(alloc, functions)?)
 }
 
 fn with_functions(alloc: Global) -> Result<AST, Unread> {
