@@ -2,14 +2,14 @@
 #![tactic(auto, using(rhai_ast::specs::Reading::shapes, rhai_base::specs::Reading::kinds, rhai_ast::proofs::ItemLists::steps, crate::proofs::Pushes::name_lists))]
 
 ghost use Rattle.std.specs.Prelude.{◌≡◌, ◌++◌, [], OnOk, codes, string_bytes};
-ghost use Rattle.rhai_base.specs.Value.{TextV, inner};
+ghost use Rattle.rhai_base.specs.Value.{UnitV, BoolV, IntV, CharV, TextV, inner};
 ghost use Rattle.rhai_base.specs.Reading.{value_of};
 ghost use Rattle.rhai_ast.specs.Reading.{expr_of, exprs_of, stmt_of, stmts_of, callee_of, function_of};
 ghost use Rattle.rhai_notation.specs.Notation.{callee_text, expr_text, exprs_text, call_text, stmt_text, block_text, stmts_text, lines_text, names_text, receiver_text, function_text, script_text};
 ghost use Rattle.rhai_script.specs.Script.{script_of};
 
 use rhai_ast::{Expr, FlowControl, FnCallExpr, ScriptFuncDef, Stmt, StmtBlock};
-use rhai_base::{Dynamic, ImmutableString, OutOfMemory};
+use rhai_base::{Dynamic, INT, ImmutableString, OutOfMemory};
 use rhai_script::AST;
 
 /// Appends an expression.
@@ -19,11 +19,11 @@ fn push_expr(expr: &Expr, text: &mut String) -> Result<(), OutOfMemory>
 {
     match expr {
         Expr::DynamicConstant(value, _) => push_value(value.get(), text),
-        Expr::BoolConstant(value, _) => Dynamic::Bool(*value).push_inner(text),
-        Expr::IntegerConstant(value, _) => Dynamic::Int(*value).push_inner(text),
-        Expr::CharConstant(value, _) => Dynamic::Char(*value).push_inner(text),
+        Expr::BoolConstant(value, _) => push_bool(*value, text),
+        Expr::IntegerConstant(value, _) => push_integer(*value, text),
+        Expr::CharConstant(value, _) => push_char(*value, text),
         Expr::StringConstant(value, _) => push_quoted(value.as_str(), text),
-        Expr::Unit(_) => Dynamic::Unit.push_inner(text),
+        Expr::Unit(_) => push_unit(text),
         Expr::Array(items, _) => push_array(items.as_slice(), text),
         Expr::Stmt(block) => push_block(block.get(), text),
         Expr::FnCall(call, _) => push_call(call.get(), text),
@@ -37,6 +37,45 @@ fn push_value(value: &Dynamic, text: &mut String) -> Result<(), OutOfMemory>
     text.push_str("<")?;
     value.push_inner(text)?;
     text.push_str(">")?;
+    Ok(())
+}
+
+#[tactic(auto, unfolding(rhai_base::specs::Value::inner))]
+fn push_bool(value: bool, text: &mut String) -> Result<(), OutOfMemory>
+    ensures { OnOk result (string_bytes text.new ≡ string_bytes text.old ++ inner (BoolV value)) }
+{
+    if value {
+        text.push_str("true")?;
+    } else {
+        text.push_str("false")?;
+    }
+    Ok(())
+}
+
+#[tactic(auto, unfolding(rhai_base::specs::Value::inner))]
+fn push_integer(value: INT, text: &mut String) -> Result<(), OutOfMemory>
+    ensures { OnOk result (string_bytes text.new ≡ string_bytes text.old ++ inner (IntV value)) }
+{
+    write!(text, "{value}")?;
+    Ok(())
+}
+
+#[tactic(auto, unfolding(rhai_base::specs::Value::inner))]
+fn push_unit(text: &mut String) -> Result<(), OutOfMemory>
+    ensures { OnOk result (string_bytes text.new ≡ string_bytes text.old ++ inner UnitV) }
+{
+    text.push_str("()")?;
+    Ok(())
+}
+
+/// Appends a character in quotes.
+#[tactic(auto, unfolding(rhai_base::specs::Value::inner))]
+fn push_char(value: char, text: &mut String) -> Result<(), OutOfMemory>
+    ensures { OnOk result (string_bytes text.new ≡ string_bytes text.old ++ inner (CharV value)) }
+{
+    text.push_str("'")?;
+    text.push(value)?;
+    text.push_str("'")?;
     Ok(())
 }
 

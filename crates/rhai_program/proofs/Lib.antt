@@ -3,3 +3,4 @@ pub mod Reports
 pub mod Runs
 pub mod Shows
 pub mod Turns
+pub mod Writes

@@ -1,6 +1,7 @@
 //! The program: words in, text and a status out.
-ghost use Rattle.std.specs.Prelude.{◌≡◌, ◌⊎◌, map, string_bytes, IsNone, IsSome, IfSome, IfOk, OnOk, MatchOption};
-ghost use Rattle.std.specs.Io.KnownBytes.{Appends};
+ghost use Rattle.std.specs.Prelude.{◌≡◌, ◌≤◌, ◌⊎◌, length, map, string_bytes, IsNone, IsSome, IfSome, IfOk, OnOk, MatchOption};
+ghost use Rattle.std.specs.Io.KnownBytes.{Appends, Keeps, WriteAppends};
+ghost use Rattle.rhai_program.specs.Output.{AppendsStart};
 ghost use Rattle.rhai_program.specs.Scripts.{all_scripts};
 ghost use Rattle.rhai_program.specs.Words.{request_of, usage, listing, built_in, Answers, Optimized};
 ghost use Rattle.rhai_base.specs.Value.{Text};
@@ -38,6 +39,10 @@ pub fn run_words<W: io::Write, E: io::Write>(
 
     ensures answer { result ≡ 0 → IfSome (request_of (map string_bytes words.now)) (λ r. (text : Text) × Answers r text × Appends (W.contents out.old) (W.contents out.new) text) }
     ensures usage { result ≡ 2 → Appends (E.contents err.old) (E.contents err.new) usage }
+
+    // Whatever the status, no more is written than a beginning of the answer, or of the usage.
+    ensures start_of_answer { IfSome (request_of (map string_bytes words.now)) (λ r. Keeps (W.contents out.old) (W.contents out.new) ⊎ ((text : Text) × Answers r text × AppendsStart (W.contents out.old) (W.contents out.new) text)) }
+    ensures start_of_usage { IsNone (request_of (map string_bytes words.now)) → AppendsStart (E.contents err.old) (E.contents err.new) usage }
 {
     let Some(request) = Request::parse(words) else {
         return match put(USAGE, err) {
@@ -54,11 +59,33 @@ pub fn run_words<W: io::Write, E: io::Write>(
     }
 }
 
+/// Writes a text and flushes; where a write is refused, a beginning of the text is written.
 fn put<W: io::Write>(text: &str, to: &mut W) -> io::Result<()>
-    ensures { OnOk result (Appends (W.contents to.old) (W.contents to.new) text.now) }
+    ensures whole { OnOk result (Appends (W.contents to.old) (W.contents to.new) text.now) }
+    ensures start { AppendsStart (W.contents to.old) (W.contents to.new) text.now }
 {
-    to.write_all(text.as_bytes())?;
-    to.flush()
+    let bytes = text.as_bytes();
+    let mut written = 0;
+    for _ in 0..u64::MAX {
+        if written >= bytes.len() {
+            return to.flush();
+        }
+        written += put_some(&bytes[written..], to)?;
+    }
+    Err(io::Error::from(io::ErrorKind::TimedOut))
+}
+
+/// Writes some of the bytes, and answers how many: none where the write was interrupted.
+fn put_some<W: io::Write>(bytes: &[u8], to: &mut W) -> io::Result<usize>
+    ensures bound { IfOk result (λ n. n ≤ length bytes.now) }
+    ensures bytes { WriteAppends (W.contents to.old) (W.contents to.new) result bytes.now }
+{
+    match to.write(bytes) {
+        Ok(0) => Err(io::Error::from(io::ErrorKind::WriteZero)),
+        Ok(count) => Ok(count),
+        Err(error) if error.kind() == io::ErrorKind::Interrupted => Ok(0),
+        Err(error) => Err(error),
+    }
 }
 
 /// The text that answers a request.
