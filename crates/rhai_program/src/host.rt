@@ -121,4 +121,3 @@ fn appended(receiver: &Dynamic, item: &Dynamic) -> Result<HostAnswer, OutOfMemor
         | Dynamic::RangeInclusive(_, _) => Ok(unit_alone()),
     }
 }
-

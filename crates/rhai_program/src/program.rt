@@ -8,9 +8,9 @@ ghost use Rattle.rhai_base.specs.Value.{Text};
 ghost use Rattle.rhai_script.specs.Script.{script_of};
 
 use crate::host::ProgramHost;
+use crate::report;
 use crate::request::Request;
 use crate::scripts::BuiltinScript;
-use crate::report;
 use rhai_base::{OutOfMemory, Scope};
 use rhai_notation::{push_lines, push_script};
 use rhai_optimizer::{OptimizationLevel, optimize_into_ast};
@@ -159,4 +159,3 @@ fn optimized(
     let after = optimize_into_ast(alloc, &engine, None, statements, functions, level)?;
     Ok(after)
 }
-

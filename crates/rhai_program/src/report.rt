@@ -111,4 +111,3 @@ fn push_values(values: &[Dynamic], text: &mut String) -> Result<(), OutOfMemory>
     }
     Ok(())
 }
-
