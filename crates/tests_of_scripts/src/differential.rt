@@ -9,64 +9,17 @@ use rhai_optimizer::{OptimizationLevel, optimize_into_ast};
 use rhai_program::ProgramHost;
 use rhai_run::{EngineInfo, Host, HostAnswer, HostCall, RunEnd, plain_run};
 use std::alloc::Global;
-use std::process::Abort;
 use std::test::Fail;
 
-/// Checks scripts with nothing set and with the program's host.
-fn check_all(rt: &impl Abort, alloc: Global, rows: &[Row]) -> Result<(), Fail> {
-    let info = EngineInfo::new(alloc);
-    for row in rows {
-        assert!(rt; is_met(alloc, &info, &ProgramHost, row)?, "{row:?}");
+#[test]
+fn scripts_become_and_do_what_is_wanted(rt: HostRuntime) -> Result<(), Fail> {
+    let info = EngineInfo::new(rt.alloc());
+    for rows in &table::FAMILIES {
+        for row in *rows {
+            assert!(rt; is_met(rt.alloc(), &info, &ProgramHost, row)?, "{row:?}");
+        }
     }
     Ok(())
-}
-
-#[test]
-fn values_stay(rt: HostRuntime) -> Result<(), Fail> {
-    check_all(&rt, rt.alloc(), &table::VALUES)
-}
-
-#[test]
-fn arrays_of_constants_become_values(rt: HostRuntime) -> Result<(), Fail> {
-    check_all(&rt, rt.alloc(), &table::ARRAYS)
-}
-
-#[test]
-fn operators_over_constants_fold(rt: HostRuntime) -> Result<(), Fail> {
-    check_all(&rt, rt.alloc(), &table::INTEGERS)?;
-    check_all(&rt, rt.alloc(), &table::OPERATORS)
-}
-
-#[test]
-fn ranges_are_made_of_constants(rt: HostRuntime) -> Result<(), Fail> {
-    check_all(&rt, rt.alloc(), &table::RANGES)
-}
-
-#[test]
-fn faults_are_left_to_the_run(rt: HostRuntime) -> Result<(), Fail> {
-    check_all(&rt, rt.alloc(), &table::THROWN)
-}
-
-#[test]
-fn operators_that_are_not_built_in_ask_the_host(rt: HostRuntime) -> Result<(), Fail> {
-    check_all(&rt, rt.alloc(), &table::ASKED)
-}
-
-#[test]
-fn choices(rt: HostRuntime) -> Result<(), Fail> {
-    check_all(&rt, rt.alloc(), &table::DECIDED)?;
-    check_all(&rt, rt.alloc(), &table::UNDECIDED)
-}
-
-#[test]
-fn blocks(rt: HostRuntime) -> Result<(), Fail> {
-    check_all(&rt, rt.alloc(), &table::BLOCKS)?;
-    check_all(&rt, rt.alloc(), &table::BRACES)
-}
-
-#[test]
-fn stuck_scripts_stay_stuck(rt: HostRuntime) -> Result<(), Fail> {
-    check_all(&rt, rt.alloc(), &table::STUCK)
 }
 
 /// An operator that an engine leaves to the host at these types, whether it has fast operators, and a script under it.
@@ -121,24 +74,30 @@ fn overridden_operators_ask_the_host_unless_operators_are_fast(
     Ok(())
 }
 
-/// A host that throws the name of what it is asked.
-struct Throws;
+/// A host that answers `true` once, and then throws the name of what it is asked.
+struct TrueOnce;
 
-impl Host for Throws {
-    ghost use Rattle.rhai_base.specs.Value.{TextV};
-    ghost use Rattle.rhai_meaning.specs.Act.{AnswersThrow};
-    ghost use Rattle.std.specs.Prelude.{[]};
+impl Host for TrueOnce {
+    ghost use Rattle.rhai_base.specs.Value.{BoolV, TextV};
+    ghost use Rattle.rhai_meaning.specs.Act.{Answers, AnswersThrow};
+    ghost use Rattle.std.specs.Prelude.{[], None, true, length, ◌==◌, if◌then◌else◌};
 
-    ghost answers = { λ host past call. AnswersThrow (TextV call.name) };
+    ghost answers = { λ host past call. if length past == 0 then Answers (BoolV true) None else AnswersThrow (TextV call.name) };
 
     ghost modules = { λ host. [] };
 
     fn answer(
         &self,
         _alloc: Global,
-        _past: &[HostCall],
+        past: &[HostCall],
         call: &HostCall,
     ) -> Result<HostAnswer, OutOfMemory> {
+        if past.is_empty() {
+            return Ok(HostAnswer::Value {
+                value: Dynamic::Bool(true),
+                receiver: None,
+            });
+        }
         Ok(HostAnswer::Throw(Dynamic::Str(call.name.clone()?)))
     }
 
@@ -152,52 +111,10 @@ impl Host for Throws {
 }
 
 #[test]
-fn what_the_host_throws_ends_the_run(rt: HostRuntime) -> Result<(), Fail> {
+fn a_host_of_its_own_is_told_the_calls_before_and_may_throw(rt: HostRuntime) -> Result<(), Fail> {
     let info = EngineInfo::new(rt.alloc());
-    for row in &table::HOST_THROWS {
-        assert!(rt; is_met(rt.alloc(), &info, &Throws, row)?, "{row:?}");
-    }
-    Ok(())
-}
-
-/// A host that counts: its answer to a call is whether it is the first.
-struct First;
-
-impl Host for First {
-    ghost use Rattle.rhai_base.specs.Value.{BoolV};
-    ghost use Rattle.rhai_meaning.specs.Act.{Answers};
-    ghost use Rattle.std.specs.Prelude.{[], None, length, ◌==◌};
-
-    ghost answers = { λ host past call. Answers (BoolV (length past == 0)) None };
-
-    ghost modules = { λ host. [] };
-
-    fn answer(
-        &self,
-        _alloc: Global,
-        past: &[HostCall],
-        _call: &HostCall,
-    ) -> Result<HostAnswer, OutOfMemory> {
-        Ok(HostAnswer::Value {
-            value: Dynamic::Bool(past.is_empty()),
-            receiver: None,
-        })
-    }
-
-    fn module_value(
-        &self,
-        _alloc: Global,
-        _qualified: &str,
-    ) -> Result<Option<Dynamic>, OutOfMemory> {
-        Ok(None)
-    }
-}
-
-#[test]
-fn the_host_is_told_the_calls_before(rt: HostRuntime) -> Result<(), Fail> {
-    let info = EngineInfo::new(rt.alloc());
-    for row in &table::FIRST_CALLS {
-        assert!(rt; is_met(rt.alloc(), &info, &First, row)?, "{row:?}");
+    for row in &table::TRUE_ONCE {
+        assert!(rt; is_met(rt.alloc(), &info, &TrueOnce, row)?, "{row:?}");
     }
     Ok(())
 }

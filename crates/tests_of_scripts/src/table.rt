@@ -2,6 +2,7 @@
 
 use crate::rows::Row;
 
+/// Constants stay as they are.
 pub const VALUES: [Row; 8] = [
     ("", "", "value ()", ""),
     ("()\n", "()\n", "value ()", ""),
@@ -13,6 +14,7 @@ pub const VALUES: [Row; 8] = [
     ("<['a', ()]>\n", "<['a', ()]>\n", "value ['a', ()]", ""),
 ];
 
+/// Arrays of constants become values.
 pub const ARRAYS: [Row; 4] = [
     ("[]\n", "<[]>\n", "value []", ""),
     (
@@ -35,6 +37,7 @@ pub const ARRAYS: [Row; 4] = [
     ),
 ];
 
+/// Operators over integer constants fold.
 pub const INTEGERS: [Row; 12] = [
     ("+(1, 2)\n", "3\n", "value 3", ""),
     (
@@ -55,6 +58,7 @@ pub const INTEGERS: [Row; 12] = [
     ("!=(1, 1)\n", "false\n", "value false", ""),
 ];
 
+/// Operators over other constants, and over what folds.
 pub const OPERATORS: [Row; 9] = [
     ("+(\"a\", 'b')\n", "\"ab\"\n", "value \"ab\"", ""),
     ("==((), ())\n", "true\n", "value true", ""),
@@ -88,6 +92,7 @@ pub const RANGES: [Row; 5] = [
     ("==(..(1, 2), 3)\n", "false\n", "value false", ""),
 ];
 
+/// Faults are left to the run.
 pub const THROWN: [Row; 7] = [
     ("/(1, 0)\n", "call /(1, 0)\n", "thrown \"arithmetic\"", ""),
     ("%(5, 0)\n", "call %(5, 0)\n", "thrown \"arithmetic\"", ""),
@@ -123,6 +128,7 @@ pub const THROWN: [Row; 7] = [
     ),
 ];
 
+/// Operators that are not built in ask the host.
 pub const ASKED: [Row; 9] = [
     ("!(5)\n", "call !(5)\n", "value ()", "call !(5)\n"),
     ("-(5)\n", "call -(5)\n", "value ()", "call -(5)\n"),
@@ -165,6 +171,7 @@ pub const ASKED: [Row; 9] = [
     ),
 ];
 
+/// Choices over constants.
 pub const DECIDED: [Row; 12] = [
     ("if ==(1, 1) { 3 } else {}\n", "3\n", "value 3", ""),
     ("if false { 1 } else {}\n", "noop\n", "value ()", ""),
@@ -210,6 +217,7 @@ pub const DECIDED: [Row; 12] = [
     ),
 ];
 
+/// Choices that are left to the run.
 pub const UNDECIDED: [Row; 4] = [
     (
         "if { 1; true } { 2 } else {}\n",
@@ -237,6 +245,7 @@ pub const UNDECIDED: [Row; 4] = [
     ),
 ];
 
+/// Blocks as statements.
 pub const BLOCKS: [Row; 8] = [
     ("42\nblock {}\n", "42\nnoop\n", "value ()", ""),
     ("block {}\n1\n", "1\n", "value 1", ""),
@@ -293,6 +302,7 @@ pub const BRACES: [Row; 11] = [
     ("+({ 1; 2 }, 3)\n", "call +({ 1; 2 }, 3)\n", "value 5", ""),
 ];
 
+/// Stuck scripts stay stuck.
 pub const STUCK: [Row; 6] = [
     (
         "if 5 { 1 } else {}\n",
@@ -352,34 +362,36 @@ pub const SUM_OF_A_SUM: Row = (
     "call +(1, 2)\ncall +(\"12\", 3)\n",
 );
 
-/// With a host that throws the name of what it is asked.
-pub const HOST_THROWS: [Row; 2] = [
+/// With a host that answers `true` once, and then throws the name of what it is asked.
+pub const TRUE_ONCE: [Row; 4] = [
     (
-        "!(5)\n!(6)\n",
-        "call !(5)\ncall !(6)\n",
-        "thrown \"!\"",
+        "[!(5), 1]\n",
+        "[!(5), 1]\n",
+        "value [true, 1]",
         "call !(5)\n",
     ),
     (
-        "+(**(1, 2), **(3, 4))\n",
-        "call +(**(1, 2), **(3, 4))\n",
+        "!(5)\n!(6)\n7\n",
+        "call !(5)\ncall !(6)\n7\n",
+        "thrown \"!\"",
+        "call !(5)\ncall !(6)\n",
+    ),
+    (
+        "if !(5) { **(1, 2) } else { 7 }\n",
+        "if !(5) { call **(1, 2) } else { 7 }\n",
         "thrown \"**\"",
-        "call **(1, 2)\n",
+        "call !(5)\ncall **(1, 2)\n",
+    ),
+    (
+        "+(**(1, 2), +(3, true))\n",
+        "call +(**(1, 2), +(3, true))\n",
+        "thrown \"+\"",
+        "call **(1, 2)\ncall +(3, true)\n",
     ),
 ];
 
-/// With a host that answers whether a call is the first.
-pub const FIRST_CALLS: [Row; 2] = [
-    (
-        "[!(5), !(6)]\n",
-        "[!(5), !(6)]\n",
-        "value [true, false]",
-        "call !(5)\ncall !(6)\n",
-    ),
-    (
-        "if !(5) { !(6) } else { 7 }\n",
-        "if !(5) { call !(6) } else { 7 }\n",
-        "value false",
-        "call !(5)\ncall !(6)\n",
-    ),
+/// The scripts that run with nothing set and with the program's host.
+pub const FAMILIES: [&[Row]; 12] = [
+    &VALUES, &ARRAYS, &INTEGERS, &OPERATORS, &RANGES, &THROWN, &ASKED, &DECIDED, &UNDECIDED,
+    &BLOCKS, &BRACES, &STUCK,
 ];
