@@ -1,9 +1,9 @@
 -- A run that ends, with enough depth and turns.
 use Rattle.std.proofs.Common.{List, ◌≡◌, ℕ, zero, suc, ◌+◌, ◌≤◌, Option, refl, ap, ◌∙◌, subst, arith}
 use Rattle.rhai_base.specs.Value.{Value}
-use Rattle.rhai_meaning.specs.Act.{ScopeEntry, HostCall, Store, Ending, Gives, Returns, Breaks, Continues, Throws, Again, Halt, IsStuck, Stuck, OutOfTurns, Outcome, Ended, Halted, Result, At, and_then, with_turn, leave, restore, call_then, returned_outcome, returned, on_again, rounds}
+use Rattle.rhai_meaning.specs.Act.{ScopeEntry, HostCall, Store, Returns, Throws, Again, Ending, Gives, Leaves, Halt, IsStuck, Stuck, OutOfTurns, Outcome, Ended, Halted, Result, At, and_then, with_turn, leave, restore, call_then, returned_outcome, returned, on_again, rounds}
 use Rattle.rhai_meaning.proofs.Relations.{Follows, same, short, IsOut}
-use Rattle.rhai_meaning.proofs.Rising.{Action}
+use Rattle.rhai_meaning.proofs.Monotone.{Action}
 
 -- what is run at a depth
 abbrev pub Run : Type 0
@@ -138,12 +138,7 @@ pub met_call : (p : Run) (next : Value → Option Value → Run) (next' : Value 
 met_call p next next' s r out h = out
 met_call p next next' s r (ended {o = Ended (Gives v)} {s' = s1} {t = t1} x) h =
     met_move (next v s1.this) (call_run p next) (record s { calls = s1.calls }) s _ (λ o s2 y. ends_call p next s v s1 o s2 x y) (h v s1.this s1.calls t1)
-met_call p next next' s r (ended {o = Ended (Returns v)} {s' = s1} x) h = ended (ends_call_stops p next s _ s1 _ (λ d l. refl) x)
-met_call p next next' s r (ended {o = Ended (Breaks v)} {s' = s1} x) h = ended (ends_call_stops p next s _ s1 _ (λ d l. refl) x)
-met_call p next next' s r (ended {o = Ended Continues} {s' = s1} x) h = ended (ends_call_stops p next s _ s1 _ (λ d l. refl) x)
-met_call p next next' s r (ended {o = Ended (Throws v)} {s' = s1} x) h = ended (ends_call_stops p next s _ s1 _ (λ d l. refl) x)
-met_call p next next' s r (ended {o = Ended Again} {s' = s1} x) h = ended (ends_call_stops p next s _ s1 _ (λ d l. refl) x)
-met_call p next next' s r (ended {o = Halted f} {s' = s1} x) h = ended (ends_call_stops p next s _ s1 _ (λ d l. refl) x)
+met_call p next next' s r (ended {s' = s1} x) h = ended (ends_call_stops p next s _ s1 _ (λ d l. refl) x)
 met_call p next next' s r (stuck f s1 x) h = stuck f (record s { calls = s1.calls }) (ends_call_stops p next s _ s1 _ (λ d l. refl) x)
 
 -- a turn
@@ -179,13 +174,11 @@ met_leave p s es r (stuck g s' x) = stuck g _ (ends_leave p s es _ s' x)
 
 -- a return is its value
 over_returned : (o : Outcome) → Over o → Over (returned_outcome o)
+over_returned (Ended (Leaves (Returns v))) h = tt
+over_returned (Ended (Leaves (Throws v))) h = tt
+over_returned (Ended (Leaves x)) h = tt
 over_returned (Ended (Gives v)) h = tt
-over_returned (Ended (Returns v)) h = tt
-over_returned (Ended (Breaks v)) h = tt
-over_returned (Ended Continues) h = tt
-over_returned (Ended (Throws v)) h = tt
-over_returned (Ended Again) h = tt
-over_returned (Halted h) o = o
+over_returned (Halted f) h = h
 
 ends_returned : (p : Run) (s : Store) (o : Outcome) (s' : Store) → Ends p s o s' → Ends (λ d s t. returned (p d s t)) s (returned_outcome o) s'
 ends_returned p s o s' x = record {
@@ -205,12 +198,8 @@ met_now : (o : Outcome) (s : Store) (t : ℕ) → Over o → Met (λ d s t. At o
 met_now o s t over = ended (record { depth = 0; turns = 0; over = over; by = λ d t n le lt. (t, omega arith, refl) })
 
 met_on_again : (e : Ending) (p : Run) (next : Action) (s : Store) (t : ℕ) → Met p s (next s t) → Met (λ d. on_again e (p d)) s (on_again e next s t)
-met_on_again (Gives v) p next s t h = met_now _ s t tt
-met_on_again (Returns v) p next s t h = met_now _ s t tt
-met_on_again (Breaks v) p next s t h = met_now _ s t tt
-met_on_again Continues p next s t h = met_now _ s t tt
-met_on_again (Throws v) p next s t h = met_now _ s t tt
-met_on_again Again p next s t h = h
+met_on_again (Leaves Again) p next s t h = h
+met_on_again e p next s t h = met_now _ s t tt
 
 -- a number of rounds
 pub met_rounds : (Q : Store → Type 0) (p : Run) (p' : Action) → ((s : Store) (t : ℕ) → Q s → Met p s (p' s t)) → ((s : Store) (e : Ending) (s1 : Store) → Q s → Ends p s (Ended e) s1 → Q s1) → (n : ℕ) (s : Store) (t : ℕ) → Q s → Met (λ d. rounds n (p d)) s (rounds n p' s t)

@@ -1,4 +1,10 @@
 pub mod Relations
-pub mod Frame
-pub mod Rising
+pub mod Preserves
+pub mod Monotone
 pub mod Ends
+pub mod Sequencing
+pub mod Walk
+pub mod Agreeing
+pub mod Depths
+pub mod SameActs
+pub mod Small

@@ -50,14 +50,18 @@ pub data Stuck : Type 0 where
   CounterTooLarge : Stuck
   UnboundThis : Stuck
 
--- an end; Again: the end of a round that another one follows
+-- a way to leave what is run; Again: the end of a round that another one follows
+pub data Exit : Type 0 where
+  Returns : Value → Exit
+  Breaks : Value → Exit
+  Continues : Exit
+  Throws : Value → Exit
+  Again : Exit
+
+-- an end: a value for what follows, or a way to leave it
 pub data Ending : Type 0 where
   Gives : Value → Ending
-  Returns : Value → Ending
-  Breaks : Value → Ending
-  Continues : Ending
-  Throws : Value → Ending
-  Again : Ending
+  Leaves : Exit → Ending
 
 pub data Halt : Type 0 where
   IsStuck : Stuck → Halt
@@ -173,33 +177,25 @@ leave old (At o st t) = At o (record st { scope = restore old st.scope }) t
 -- after a script call: back in the old store but for the calls
 abbrev pub call_then : Store → Result → (Value → Option Value → Store → ℕ → Result) → Result
 call_then old (At (Ended (Gives v)) st t) next = next v st.this (record old { calls = st.calls }) t
-call_then old (At (Ended (Returns v)) st t) next = At (Ended (Returns v)) (record old { calls = st.calls }) t
-call_then old (At (Ended (Breaks v)) st t) next = At (Ended (Breaks v)) (record old { calls = st.calls }) t
-call_then old (At (Ended Continues) st t) next = At (Ended Continues) (record old { calls = st.calls }) t
-call_then old (At (Ended (Throws v)) st t) next = At (Ended (Throws v)) (record old { calls = st.calls }) t
-call_then old (At (Ended Again) st t) next = At (Ended Again) (record old { calls = st.calls }) t
-call_then old (At (Halted h) st t) next = At (Halted h) (record old { calls = st.calls }) t
+call_then old (At o st t) next = At o (record old { calls = st.calls }) t
 
--- a return is its value, and no break leaves a body
+-- how a body ends that is left so: a return is its value, and no break leaves a body
+abbrev pub left_body : Exit → Outcome
+left_body (Returns v) = Ended (Gives v)
+left_body (Throws v) = Ended (Leaves (Throws v))
+left_body _ = Halted (IsStuck WrongKind)
+
 abbrev pub returned_outcome : Outcome → Outcome
-returned_outcome (Ended (Gives v)) = Ended (Gives v)
-returned_outcome (Ended (Returns v)) = Ended (Gives v)
-returned_outcome (Ended (Breaks v)) = Halted (IsStuck WrongKind)
-returned_outcome (Ended Continues) = Halted (IsStuck WrongKind)
-returned_outcome (Ended (Throws v)) = Ended (Throws v)
-returned_outcome (Ended Again) = Halted (IsStuck WrongKind)
-returned_outcome (Halted h) = Halted h
+returned_outcome (Ended (Leaves x)) = left_body x
+returned_outcome o = o
 
 abbrev pub returned : Result → Result
 returned (At o st t) = At (returned_outcome o) st t
 
+-- another round, or the end
 abbrev pub on_again : Ending → (Store → ℕ → Result) → Store → ℕ → Result
-on_again (Gives v) next st t = At (Ended (Gives v)) st t
-on_again (Returns v) next st t = At (Ended (Returns v)) st t
-on_again (Breaks v) next st t = At (Ended (Breaks v)) st t
-on_again Continues next st t = At (Ended Continues) st t
-on_again (Throws v) next st t = At (Ended (Throws v)) st t
-on_again Again next st t = next st t
+on_again (Leaves Again) next st t = next st t
+on_again e next st t = At (Ended e) st t
 
 -- Each round but the last takes a turn.
 abbrev pub rounds : ℕ → (Store → ℕ → Result) → Store → ℕ → Result

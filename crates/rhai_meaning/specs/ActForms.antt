@@ -1,7 +1,7 @@
 -- Short forms of acts.
 use Rattle.std.specs.Prelude.{Bool, true, false, List, Option, Some, None}
 use Rattle.rhai_base.specs.Value.{Text, Value, UnitV, BoolV, TextV}
-use Rattle.rhai_meaning.specs.Act.{Ending, Gives, Returns, Breaks, Continues, Throws, Again, WrongKind, Unbound, Answer, Answers, AnswersThrow, Act, Stop, Fail, Then, AskHost, Acts, Only, Do}
+use Rattle.rhai_meaning.specs.Act.{Breaks, Continues, Throws, Again, Ending, Gives, Leaves, WrongKind, Unbound, Answer, Answers, AnswersThrow, Act, Stop, Fail, Then, AskHost, Acts, Only, Do}
 
 abbrev pub give : Value → Act
 give v = Stop (Gives v)
@@ -10,16 +10,12 @@ abbrev pub unit : Act
 unit = Stop (Gives UnitV)
 
 abbrev pub throw : Text → Act
-throw t = Stop (Throws (TextV t))
+throw t = Stop (Leaves (Throws (TextV t)))
 
 -- goes on with a value alone
 abbrev pub value_then : (Value → Act) → Ending → Act
 value_then next (Gives v) = next v
-value_then next (Returns v) = Stop (Returns v)
-value_then next (Breaks v) = Stop (Breaks v)
-value_then next Continues = Stop Continues
-value_then next (Throws v) = Stop (Throws v)
-value_then next Again = Stop Again
+value_then next (Leaves x) = Stop (Leaves x)
 
 infixl 10 ◌>>=◌
 abbrev pub ◌>>=◌ : Act → (Value → Act) → Act
@@ -28,11 +24,7 @@ a >>= next = Then a (λ e. value_then next e)
 -- the same in a list
 abbrev pub each_value : (Value → Acts) → Ending → Acts
 each_value next (Gives v) = next v
-each_value next (Returns v) = Only (Stop (Returns v))
-each_value next (Breaks v) = Only (Stop (Breaks v))
-each_value next Continues = Only (Stop Continues)
-each_value next (Throws v) = Only (Stop (Throws v))
-each_value next Again = Only (Stop Again)
+each_value next (Leaves x) = Only (Stop (Leaves x))
 
 abbrev pub then_line : Act → (Value → Acts) → Acts
 then_line a next = Do a (λ e. each_value next e)
@@ -56,28 +48,19 @@ if_true v a b = branch (truth v) a b
 -- what is thrown goes to the branch
 abbrev pub on_throw : (Value → Act) → Ending → Act
 on_throw next (Gives v) = unit
-on_throw next (Returns v) = Stop (Returns v)
-on_throw next (Breaks v) = Stop (Breaks v)
-on_throw next Continues = Stop Continues
-on_throw next (Throws v) = next v
-on_throw next Again = Stop Again
+on_throw next (Leaves (Throws v)) = next v
+on_throw next (Leaves x) = Stop (Leaves x)
 
 -- how a loop's body ends a round
 abbrev pub end_round : Ending → Act
-end_round (Gives v) = Stop Again
-end_round (Returns v) = Stop (Returns v)
-end_round (Breaks v) = give v
-end_round Continues = Stop Again
-end_round (Throws v) = Stop (Throws v)
-end_round Again = Stop Again
+end_round (Gives v) = Stop (Leaves Again)
+end_round (Leaves (Breaks v)) = give v
+end_round (Leaves Continues) = Stop (Leaves Again)
+end_round (Leaves x) = Stop (Leaves x)
 
 abbrev pub again_then : Act → Ending → Act
-again_then next (Gives v) = Stop (Gives v)
-again_then next (Returns v) = Stop (Returns v)
-again_then next (Breaks v) = Stop (Breaks v)
-again_then next Continues = Stop Continues
-again_then next (Throws v) = Stop (Throws v)
-again_then next Again = next
+again_then next (Leaves Again) = next
+again_then next e = Stop e
 
 abbrev pub of_constant : Option Value → Act
 of_constant (Some v) = give v
@@ -86,7 +69,7 @@ of_constant None = Fail Unbound
 -- the host's answer
 abbrev pub answered : (Value → Option Value → Act) → Answer → Act
 answered next (Answers v r) = next v r
-answered next (AnswersThrow v) = Stop (Throws v)
+answered next (AnswersThrow v) = Stop (Leaves (Throws v))
 
 -- a call without receiver, for its value
 abbrev pub ask_host : Text → List Value → Act

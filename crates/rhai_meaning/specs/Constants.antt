@@ -2,7 +2,7 @@
 use Rattle.std.specs.Prelude.{Bool, true, false, List, [], ◌∷◌, Option, Some, None, codes, is_some}
 use Rattle.rhai_base.specs.Value.{Text, Value, UnitV, BoolV, IntV, CharV, TextV, ArrayV, PointerV, no_values, values}
 use Rattle.rhai_meaning.specs.ActForms.{truth}
-use Rattle.rhai_meaning.specs.Tree.{NoToken, Expr, DynamicConstant, BoolConstant, IntegerConstant, CharConstant, StringConstant, UnitConstant, ArrayOf, BlockExpr, FnCall, Exprs, no_exprs, expr}
+use Rattle.rhai_meaning.specs.Tree.{NoToken, Expr, DynamicConstant, BoolConstant, IntegerConstant, CharConstant, StringConstant, UnitConstant, ArrayOf, FnCall, Exprs, no_exprs, expr}
 
 abbrev pub array_value : Option (List Value) → Option Value
 array_value (Some vs) = Some (ArrayV (values vs))
@@ -22,8 +22,7 @@ abbrev mutual
   constant_value (StringConstant t) = Some (TextV t)
   constant_value UnitConstant = Some UnitV
   constant_value (ArrayOf es) = array_value (constant_values es)
-  constant_value (BlockExpr ss) = None
-  constant_value (FnCall c es) = None
+  constant_value _ = None
 
   pub constant_values : Exprs → Option (List Value)
   constant_values no_exprs = Some []

@@ -3,7 +3,8 @@ use Rattle.std.specs.Prelude.{◌≡◌, ℕ, Bool, true, false, not, ◌&&◌, 
 use Rattle.rhai_base.specs.Value.{Value, UnitV, same_text}
 use Rattle.rhai_base.specs.Operators.{symbol, arity}
 use Rattle.rhai_parts.specs.Names.{is_among, symbols, barred}
-use Rattle.rhai_meaning.specs.Tree.{CallToken, NoToken, OfOperator, OfOther, Callee, Expr, DynamicConstant, BoolConstant, IntegerConstant, CharConstant, StringConstant, UnitConstant, ArrayOf, BlockExpr, FnCall, Exprs, no_exprs, expr, count_exprs, Stmt, Noop, If, Block, ExprStmt, FnCallStmt, Stmts, no_stmts, stmt}
+use Rattle.rhai_meaning.specs.Tree.{CallToken, NoToken, OfOperator, OfOther, Callee, Expr, DynamicConstant, FnCall, Exprs, count_exprs, Stmt, FnCallStmt, Stmts}
+use Rattle.rhai_meaning.specs.Walk.{Node, OfExpr, OfStmt, every, over_expr, over_exprs, over_stmt, over_stmts}
 
 -- ---- one node
 
@@ -25,32 +26,24 @@ is_barred c = is_among c.name barred
 abbrev pub is_callable : Callee → ℕ → Bool
 is_callable c n = has_token c n c.token && not (is_barred c)
 
+-- what a node by itself must have
+abbrev pub HasNoFault : Node → Type 0
+HasNoFault (OfExpr (DynamicConstant v)) = is_unit v ≡ false
+HasNoFault (OfExpr (FnCall c es)) = has_token c (count_exprs es) c.token ≡ true
+HasNoFault (OfStmt (FnCallStmt c es)) = has_token c (count_exprs es) c.token ≡ true
+HasNoFault _ = Unit {0}
+
 -- ---- trees
 
 -- no node has a fault
-abbrev mutual
-  pub IsWellFormedExpr : Expr → Type 0
-  IsWellFormedExpr (DynamicConstant v) = is_unit v ≡ false
-  IsWellFormedExpr (BoolConstant b) = Unit {0}
-  IsWellFormedExpr (IntegerConstant n) = Unit {0}
-  IsWellFormedExpr (CharConstant c) = Unit {0}
-  IsWellFormedExpr (StringConstant t) = Unit {0}
-  IsWellFormedExpr UnitConstant = Unit {0}
-  IsWellFormedExpr (ArrayOf es) = AreWellFormedExprs es
-  IsWellFormedExpr (BlockExpr ss) = AreWellFormed ss
-  IsWellFormedExpr (FnCall c es) = (has_token c (count_exprs es) c.token ≡ true) × AreWellFormedExprs es
+abbrev pub IsWellFormedExpr : Expr → Type 0
+IsWellFormedExpr e = over_expr (every HasNoFault) e
 
-  pub AreWellFormedExprs : Exprs → Type 0
-  AreWellFormedExprs no_exprs = Unit {0}
-  AreWellFormedExprs (expr e es) = IsWellFormedExpr e × AreWellFormedExprs es
+abbrev pub AreWellFormedExprs : Exprs → Type 0
+AreWellFormedExprs es = over_exprs (every HasNoFault) es
 
-  pub IsWellFormed : Stmt → Type 0
-  IsWellFormed Noop = Unit {0}
-  IsWellFormed (If c a b) = IsWellFormedExpr c × AreWellFormed a × AreWellFormed b
-  IsWellFormed (Block ss) = AreWellFormed ss
-  IsWellFormed (ExprStmt e) = IsWellFormedExpr e
-  IsWellFormed (FnCallStmt c es) = (has_token c (count_exprs es) c.token ≡ true) × AreWellFormedExprs es
+abbrev pub IsWellFormed : Stmt → Type 0
+IsWellFormed s = over_stmt (every HasNoFault) s
 
-  pub AreWellFormed : Stmts → Type 0
-  AreWellFormed no_stmts = Unit {0}
-  AreWellFormed (stmt s ss) = IsWellFormed s × AreWellFormed ss
+abbrev pub AreWellFormed : Stmts → Type 0
+AreWellFormed ss = over_stmts (every HasNoFault) ss

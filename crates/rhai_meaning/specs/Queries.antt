@@ -1,7 +1,7 @@
 -- What may be asked of a tree.
 use Rattle.std.specs.Prelude.{Bool, true, false, ◌&&◌, ◌||◌, codes}
 use Rattle.rhai_base.specs.Value.{same_text}
-use Rattle.rhai_meaning.specs.Tree.{Callee, Expr, DynamicConstant, BoolConstant, IntegerConstant, CharConstant, StringConstant, UnitConstant, ArrayOf, BlockExpr, FnCall, Stmt, Noop, If, Block, ExprStmt, FnCallStmt, Stmts, no_stmts, stmt}
+use Rattle.rhai_meaning.specs.Tree.{Callee, Expr, BlockExpr, FnCall, Stmt, ExprStmt, FnCallStmt, Stmts, no_stmts, stmt}
 
 abbrev pub is_eval : Callee → Bool
 is_eval c = same_text c.name (codes "eval")
@@ -9,22 +9,14 @@ is_eval c = same_text c.name (codes "eval")
 -- whether a statement belongs to the list in which it stands, as it may add names there
 abbrev mutual
   pub is_block_dependent : Stmt → Bool
-  is_block_dependent Noop = false
-  is_block_dependent (If c a b) = false
-  is_block_dependent (Block ss) = false
   is_block_dependent (ExprStmt e) = is_dependent_expr e
   is_block_dependent (FnCallStmt c es) = is_eval c
+  is_block_dependent _ = false
 
   pub is_dependent_expr : Expr → Bool
   is_dependent_expr (BlockExpr ss) = are_all_dependent ss
   is_dependent_expr (FnCall c es) = is_eval c
-  is_dependent_expr (DynamicConstant v) = false
-  is_dependent_expr (BoolConstant b) = false
-  is_dependent_expr (IntegerConstant n) = false
-  is_dependent_expr (CharConstant c) = false
-  is_dependent_expr (StringConstant t) = false
-  is_dependent_expr UnitConstant = false
-  is_dependent_expr (ArrayOf es) = false
+  is_dependent_expr _ = false
 
   pub are_all_dependent : Stmts → Bool
   are_all_dependent no_stmts = true

@@ -2,7 +2,7 @@
 use Rattle.std.specs.Prelude.{ℕ, zero, suc, Bool, true, false, cond, ◌&&◌, List, [], ◌∷◌, length, map, Option, Some, None}
 use Rattle.rhai_base.specs.Value.{Text, Value, UnitV}
 use Rattle.rhai_meaning.specs.Engine.{Engine}
-use Rattle.rhai_meaning.specs.Act.{ScopeEntry, HostCall, Host, Key, World, Store, Stuck, Unbound, WrongKind, Gives, Returns, Breaks, Continues, Throws, Again, IsStuck, OutOfTurns, Outcome, Ended, Halted, Result, At, ScriptCall, Acts, Finish, Env, with_turn, run_all}
+use Rattle.rhai_meaning.specs.Act.{ScopeEntry, HostCall, Host, Key, World, Store, Stuck, Unbound, WrongKind, Returns, Throws, Gives, Leaves, IsStuck, OutOfTurns, Outcome, Ended, Halted, Result, At, ScriptCall, Acts, Finish, Env, with_turn, run_all}
 use Rattle.rhai_meaning.specs.Core.{Function, Script, Stmts}
 use Rattle.rhai_meaning.specs.Calls.{same_key, key}
 use Rattle.rhai_meaning.specs.Meaning.{acts}
@@ -80,11 +80,9 @@ pub record Report : Type 0 where
 
 abbrev pub end_of : Outcome → End
 end_of (Ended (Gives v)) = WithValue v
-end_of (Ended (Returns v)) = WithValue v
-end_of (Ended (Throws v)) = WithThrown v
-end_of (Ended (Breaks v)) = WithStuck WrongKind
-end_of (Ended Continues) = WithStuck WrongKind
-end_of (Ended Again) = WithStuck WrongKind
+end_of (Ended (Leaves (Returns v))) = WithValue v
+end_of (Ended (Leaves (Throws v))) = WithThrown v
+end_of (Ended (Leaves x)) = WithStuck WrongKind
 end_of (Halted (IsStuck f)) = WithStuck f
 end_of (Halted OutOfTurns) = WithoutTurns
 

@@ -1,56 +1,11 @@
--- Worked runs of small scripts, computed from the definitions alone.
-use Rattle.std.specs.Prelude.{◌≡◌, ℕ, Bool, true, false, List, [], ◌∷◌, ◌++◌, None, pos, codes, refl}
-use Prim.Native.String.{String}
-use Rattle.rhai_base.specs.Value.{Text, Value, UnitV, BoolV, IntV, TextV, ArrayV, values, text_of}
-use Rattle.rhai_base.specs.Operators.{Operator, Plus, Multiply, Divide, EqualTo, Not, symbol, computed}
-use Rattle.rhai_meaning.specs.Act.{HostCall, Host, Answer, Answers, AnswersThrow, WrongKind}
-use Rattle.rhai_meaning.specs.Desugar.{core_script}
-use Rattle.rhai_meaning.specs.Engine.{Engine}
-use Rattle.rhai_meaning.specs.Run.{AtStatements, End, WithValue, WithThrown, WithStuck, Report, report_of, run_script}
-use Rattle.rhai_meaning.specs.Tree.{OfOperator, NoToken, Expr, IntegerConstant, BoolConstant, DynamicConstant, UnitConstant, ArrayOf, BlockExpr, FnCall, Stmt, If, Block, ExprStmt, FnCallStmt, exprs, stmts}
-
--- ---- short forms
-
-abbrev int : ℕ → Expr
-int n = IntegerConstant (pos n)
-
-abbrev op : Operator → List Expr → Expr
-op o es = FnCall (record { name = symbol o; captures = false; token = OfOperator o }) (exprs es)
-
-abbrev call : String → List Expr → Expr
-call f es = FnCall (record { name = codes f; captures = false; token = NoToken }) (exprs es)
-
-abbrev nothing_set : Engine
-nothing_set = record { constants = []; overrides = []; type_names = []; fast_operators = false }
-
--- the host of the program answers unit but to `+`, which joins texts
-unfoldable joins : HostCall → Answer
-unfolding text_of
-joins c = elim c.arguments [ [] ↦ Answers UnitV None | v ∷ vs ↦ elim vs [ [] ↦ Answers UnitV None | w ∷ ws ↦ Answers (TextV (text_of v ++ text_of w)) None ] ]
-
-abbrev joining : Host
-joining = record { answer = λ past c. joins c; module_value = λ x. None }
-
-abbrev throwing : Host
-throwing = record { answer = λ past c. AnswersThrow (TextV c.name); module_value = λ x. None }
-
-abbrev overriding : Text → List Text → Bool → Engine
-overriding f types fast = record nothing_set { overrides = record { name = f; types = types } ∷ []; fast_operators = fast }
-
-unfoldable ran : Engine → Host → List Stmt → Report
-unfolding run_script computed joins
-ran engine host ss = report_of AtStatements (run_script engine host (core_script (record { statements = stmts ss; functions = [] })) AtStatements [] 0)
-
-abbrev ends : End → List HostCall → Report
-ends e cs = record { ended = e; variables = []; this = None; calls = cs; turns = 0 }
-
-abbrev asked : String → List Value → HostCall
-asked f vs = record { name = codes f; receiver = None; arguments = vs }
-
-abbrev i : ℕ → Value
-i n = IntV (pos n)
-
--- ---- runs
+-- Worked runs of small scripts, computed from the definitions alone: constants, operators, blocks and lists.
+use Rattle.std.specs.Prelude.{◌≡◌, true, false, [], ◌∷◌, codes, refl}
+use Rattle.rhai_base.specs.Value.{UnitV, BoolV, TextV, ArrayV, values}
+use Rattle.rhai_base.specs.Operators.{Plus, Multiply, Divide, EqualTo, Not}
+use Rattle.rhai_meaning.specs.Act.{WrongKind}
+use Rattle.rhai_meaning.specs.Run.{WithValue, WithThrown, WithStuck}
+use Rattle.rhai_meaning.specs.Tree.{OfOperator, BoolConstant, DynamicConstant, UnitConstant, ArrayOf, BlockExpr, If, Block, ExprStmt, FnCallStmt, exprs, stmts}
+use Rattle.rhai_meaning.specs.WorkedForms.{int, op, call, nothing_set, joining, throwing, overriding, ran, ends, asked, i}
 
 -- no statements
 no_statements : ran nothing_set joining [] ≡ ends (WithValue UnitV) []

@@ -1,10 +1,10 @@
 -- One result follows another: how that passes through each part of a run. More turns and a deeper call.
 use Rattle.std.proofs.Common.{ℕ, zero, suc, ◌+◌, ◌≤◌, Bool, true, false, List, [], ◌∷◌, ◌++◌, Option, Some, None, arith}
 use Rattle.rhai_base.specs.Value.{Text, Value}
-use Rattle.rhai_meaning.specs.Act.{ScopeEntry, HostCall, Store, World, Ending, Gives, Returns, Breaks, Continues, Throws, Again, Halt, OutOfTurns, Ended, Halted, Result, At, Root, OfName, OfThis, ScriptCall, Act, Stop, Fail, Then, Turn, Read, Write, AskHost, Invoke, Loop, Scoped, Acts, Only, Do, Named, Finish, Env, and_then, with_turn, found, read, read_this, read_root, write_at, write, write_this, write_root, leave, call_then, returned, on_again, rounds, run, run_all}
+use Rattle.rhai_meaning.specs.Act.{ScopeEntry, HostCall, Store, World, Again, Ending, Gives, Leaves, Halt, OutOfTurns, Ended, Halted, Result, At, Root, OfName, OfThis, ScriptCall, Act, Stop, Fail, Then, Turn, Read, Write, AskHost, Invoke, Loop, Scoped, Acts, Only, Do, Named, Finish, Env, and_then, with_turn, found, read, read_this, read_root, write_at, write, write_this, write_root, leave, call_then, returned, on_again, rounds, run, run_all}
 use Rattle.rhai_meaning.specs.Relations.{Begins, here, calls_of, store_of}
 use Rattle.rhai_meaning.proofs.Relations.{Follows, same, short, AnyHalt, IsOut, Keeps}
-use Rattle.rhai_meaning.proofs.Frame.{begins_trans, After, after_same, frame_on_again, frame_rounds, OnlyAdds, preserves, frame_all}
+use Rattle.rhai_meaning.proofs.Preserves.{begins_trans, After, after_same, preserves_on_again, preserves_rounds, OnlyAdds, preserves, preserves_all}
 
 abbrev pub Action : Type 0
 Action = Store → ℕ → Result
@@ -15,12 +15,7 @@ begins_then (At (Halted f) s t) next h = here
 
 begins_call : (old : Store) (r : Result) (next : Value → Option Value → Action) → ((v : Value) (u : Option Value) (s : Store) (t : ℕ) → Begins s.calls (calls_of (next v u s t))) → Begins (calls_of r) (calls_of (call_then old r next))
 begins_call old (At (Ended (Gives v)) s t) next h = h v s.this (record old { calls = s.calls }) t
-begins_call old (At (Ended (Returns v)) s t) next h = here
-begins_call old (At (Ended (Breaks v)) s t) next h = here
-begins_call old (At (Ended Continues) s t) next h = here
-begins_call old (At (Ended (Throws v)) s t) next h = here
-begins_call old (At (Ended Again) s t) next h = here
-begins_call old (At (Halted f) s t) next h = here
+begins_call old (At o s t) next h = here
 
 module _ (U : Halt → Type 0) (out : U OutOfTurns) (k : ℕ) where
   pub follow_then : {r r' : Result} (Q : Store → Type 0) → Follows U k r r' → Q (store_of r) → (next next' : Ending → Action) → ((e : Ending) (s : Store) (t t' : ℕ) → Q s → t + k ≤ t' → Follows U k (next e s t) (next' e s t')) → ((e : Ending) (s : Store) (t : ℕ) → Begins s.calls (calls_of (next' e s t))) → Follows U k (and_then r next) (and_then r' next')
@@ -30,12 +25,7 @@ module _ (U : Halt → Type 0) (out : U OutOfTurns) (k : ℕ) where
 
   pub follow_call : {r r' : Result} (old : Store) → Follows U k r r' → (next next' : Value → Option Value → Action) → ((v : Value) (u : Option Value) (cs : List HostCall) (t t' : ℕ) → t + k ≤ t' → Follows U k (next v u (record old { calls = cs }) t) (next' v u (record old { calls = cs }) t')) → ((v : Value) (u : Option Value) (s : Store) (t : ℕ) → Begins s.calls (calls_of (next' v u s t))) → Follows U k (call_then old r next) (call_then old r' next')
   follow_call old (same {o = Ended (Gives v)} {st = s} {t = t} {t' = t'} le) next next' h g = h v s.this s.calls t t' le
-  follow_call old (same {o = Ended (Returns v)} le) next next' h g = same le
-  follow_call old (same {o = Ended (Breaks v)} le) next next' h g = same le
-  follow_call old (same {o = Ended Continues} le) next next' h g = same le
-  follow_call old (same {o = Ended (Throws v)} le) next next' h g = same le
-  follow_call old (same {o = Ended Again} le) next next' h g = same le
-  follow_call old (same {o = Halted f} le) next next' h g = same le
+  follow_call old (same le) next next' h g = same le
   follow_call old (short {r = r'} u p) next next' h g = short u (begins_trans p (begins_call old r' next' g))
 
   pub follow_turn : (s : Store) (t t' : ℕ) → t + k ≤ t' → (next next' : Action) → ((t1 t1' : ℕ) → t1 + k ≤ t1' → Follows U k (next s t1) (next' s t1')) → ((s1 : Store) (t1 : ℕ) → Begins s1.calls (calls_of (next' s1 t1))) → Follows U k (with_turn t s next) (with_turn t' s next')
@@ -45,12 +35,8 @@ module _ (U : Halt → Type 0) (out : U OutOfTurns) (k : ℕ) where
   follow_turn s (suc t) (suc t') le next next' h g = h t t' (omega arith)
 
   follow_on_again : (e : Ending) (next next' : Action) (s : Store) (t t' : ℕ) → t + k ≤ t' → Follows U k (next s t) (next' s t') → Follows U k (on_again e next s t) (on_again e next' s t')
-  follow_on_again (Gives v) next next' s t t' le h = same le
-  follow_on_again (Returns v) next next' s t t' le h = same le
-  follow_on_again (Breaks v) next next' s t t' le h = same le
-  follow_on_again Continues next next' s t t' le h = same le
-  follow_on_again (Throws v) next next' s t t' le h = same le
-  follow_on_again Again next next' s t t' le h = h
+  follow_on_again (Leaves Again) next next' s t t' le h = h
+  follow_on_again e next next' s t t' le h = same le
 
   pub follow_leave : (es : List ScopeEntry) {r r' : Result} → Follows U k r r' → Follows U k (leave es r) (leave es r')
   follow_leave es (same le) = same le
@@ -99,16 +85,16 @@ module _ (U : Halt → Type 0) (out : U OutOfTurns) (k : ℕ) where
   follow_rounds Q zero zero le r r' h qr ar s t t' q lt =
       follow_then Q (h s t t' q lt) (qr s t q) _ _
       (λ e s1 t1 t1' q1 lt1. follow_on_again e _ _ s1 t1 t1' lt1 (same lt1))
-      (λ e s1 t1. (frame_on_again e _ s1 t1 (after_same s1)).calls)
+      (λ e s1 t1. (preserves_on_again e _ s1 t1 (after_same s1)).calls)
   follow_rounds Q zero (suc n') le r r' h qr ar s t t' q lt =
       follow_then Q (h s t t' q lt) (qr s t q) _ _
-      (λ e s1 t1 t1' q1 lt1. follow_on_again e _ _ s1 t1 t1' lt1 (short out (frame_rounds n' r' ar s1 t1').calls))
-      (λ e s1 t1. (frame_on_again e _ s1 t1 (frame_rounds n' r' ar s1 t1)).calls)
+      (λ e s1 t1 t1' q1 lt1. follow_on_again e _ _ s1 t1 t1' lt1 (short out (preserves_rounds n' r' ar s1 t1').calls))
+      (λ e s1 t1. (preserves_on_again e _ s1 t1 (preserves_rounds n' r' ar s1 t1)).calls)
   follow_rounds Q (suc n) zero le r r' h qr ar s t t' q lt = absurd (omega arith)
   follow_rounds Q (suc n) (suc n') le r r' h qr ar s t t' q lt =
       follow_then Q (h s t t' q lt) (qr s t q) _ _
       (λ e s1 t1 t1' q1 lt1. follow_on_again e _ _ s1 t1 t1' lt1 (follow_rounds Q n n' (omega arith) r r' h qr ar s1 t1 t1' q1 lt1))
-      (λ e s1 t1. (frame_on_again e _ s1 t1 (frame_rounds n' r' ar s1 t1)).calls)
+      (λ e s1 t1. (preserves_on_again e _ s1 t1 (preserves_rounds n' r' ar s1 t1)).calls)
 
   -- the second environment goes as deep and deeper
   pub record Deeper (env env' : Env) : Type 0 where
@@ -134,7 +120,7 @@ module _ (U : Halt → Type 0) (out : U OutOfTurns) (k : ℕ) where
       pub monotone_all : (p : Acts) → Rising (run_all w env p) (run_all w env' p)
       monotone_all (Only a) s t t' le = monotone a s t t' le
       monotone_all (Do a next) s t t' le =
-          follow_then (λ s. Unit {0}) (monotone a s t t' le) tt _ _ (λ e s1 t1 t1' q le1. monotone_all (next e) s1 t1 t1' le1) (λ e s1 t1. (frame_all w env' deep.adds (next e) s1 t1).calls)
+          follow_then (λ s. Unit {0}) (monotone a s t t' le) tt _ _ (λ e s1 t1 t1' q le1. monotone_all (next e) s1 t1 t1' le1) (λ e s1 t1. (preserves_all w env' deep.adds (next e) s1 t1).calls)
       monotone_all (Finish p) s t t' le = follow_returned (monotone_all p s t t' le)
       monotone_all (Named x c v p) s t t' le = monotone_all p _ t t' le
 
