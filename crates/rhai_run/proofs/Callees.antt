@@ -19,8 +19,9 @@ use Rattle.rhai_meaning.specs.Faults.{has_token, is_barred}
 use Rattle.rhai_parts.specs.Names.{is_among, barred}
 use Rattle.rhai_ast.specs.Reading.{exprs_of}
 use Rattle.rhai_meaning.specs.Tree.{CallToken, NoToken, OfOperator, OfOther, Callee, count_exprs}
-use Rattle.rhai_run.specs.Operators.{operator_by, called_operator, built_in_of, built_in_at}
-use Rattle.rhai_run.specs.Small.{small_expr, small_exprs}
+use Rattle.rhai_engine.specs.EngineInfo.{built_in_of, built_in_at}
+use Rattle.rhai_run.specs.Operators.{operator_by, called_operator}
+use Rattle.rhai_meaning.specs.Small.{small_expr, small_exprs}
 
 pub count_exprs_of : (xs : List Expr) → count_exprs (exprs_of xs) ≡ length xs
 count_exprs_of [] = refl
@@ -91,38 +92,6 @@ meant_by k n OfOther op es e = cc
 -- a call of an operator
 pub call_operates : (k : Callee) (n : ℕ) (op : Operator) (es : core.Exprs) → Some op ≡ called_operator k n → small_expr (call_of k n es) ≡ core.FnCall (core.OnOperator op) (small_exprs es)
 call_operates k n op es e = ap small_expr (meant_by k n k.token op es e)
-
--- ---- the table has no entry for no operands, nor for more than two
-
-no_entry : (b : Bool) (c : Computed) → c ≡ NoEntry → NoEntry ≡ (if b then c else NoEntry)
-no_entry true c h = sym h
-no_entry false c h = refl
-
-no_operand : (op : Operator) → computed op [] ≡ NoEntry
-unfolding computed
-no_operand op = refl
-
-three_operands : (op : Operator) (u v w : Value) (vs : List Value) → computed op (u ∷ v ∷ w ∷ vs) ≡ NoEntry
-unfolding computed
-three_operands op u v w vs = refl
-
-few : (e : Engine) (vs : List Value) (o : Option Operator) → length vs < 1 → NoEntry ≡ built_in_of e vs o
-few e vs None h = refl
-few e [] (Some op) h = no_entry (is_open e op []) _ (no_operand op)
-few e (v ∷ vs) (Some op) h = absurd (omega arith)
-
-many : (e : Engine) (vs : List Value) (o : Option Operator) → 3 ≤ length vs → NoEntry ≡ built_in_of e vs o
-many e vs None h = refl
-many e [] (Some op) h = absurd (omega arith)
-many e (u ∷ []) (Some op) h = absurd (omega arith)
-many e (u ∷ v ∷ []) (Some op) h = absurd (omega arith)
-many e (u ∷ v ∷ w ∷ vs) (Some op) h = no_entry (is_open e op (u ∷ v ∷ w ∷ vs)) _ (three_operands op u v w vs)
-
-pub built_in-few : (e : Engine) (op : Token) (vs : List Value) → length vs < 1 → NoEntry ≡ built_in_at e op vs
-built_in-few e op vs h = few e vs (operator_of op) h
-
-pub built_in-many : (e : Engine) (op : Token) (vs : List Value) → 3 ≤ length vs → NoEntry ≡ built_in_at e op vs
-built_in-many e op vs h = many e vs (operator_of op) h
 
 -- ---- the host in place of an operator
 

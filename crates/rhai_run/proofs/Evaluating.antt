@@ -18,7 +18,7 @@ use Rattle.rhai_run.specs.declared.plain.state.Interrupt.{Interrupt}
 use Rattle.rhai_run.specs.declared.plain.state.Interrupt.TheVariants.{NoMemory, Throw, Stuck}
 use Rattle.rhai_run.specs.declared.plain.state.State.{State}
 use Rattle.rhai_run.specs.Evaluating.{Setting, env, Leads, LeadsAll, Passes, Runs, RunsAll, RunsArgs, RunsLine, RunsExpr, RunsExprs, RunsStmt, RunsStmts}
-use Rattle.rhai_run.specs.Small.{small_expr_of, small_exprs_of, small_stmts_of}
+use Rattle.rhai_meaning.specs.Small.{small_expr_of, small_exprs_of, small_stmts_of}
 use Rattle.rhai_run.specs.State.{store_of}
 
 module _ (here : Setting) where

@@ -1,4 +1,3 @@
-pub mod Overrides
 pub mod Callees
 pub mod Values
 pub mod Scopes

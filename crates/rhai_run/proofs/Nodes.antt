@@ -25,7 +25,7 @@ use Rattle.rhai_run.specs.Entries.{variable_meant}
 use Rattle.rhai_run.specs.Evaluating.{Setting, env, Leads, Runs, RunsExpr, RunsExprs, RunsCall, RunsStmts, RunsBlock}
 use Rattle.rhai_run.specs.Host.{call_meant}
 use Rattle.rhai_run.specs.Operators.{called_operator, StandsFor}
-use Rattle.rhai_run.specs.Small.{small_expr, small_exprs_of, small_stmts_of}
+use Rattle.rhai_meaning.specs.Small.{small_expr, small_exprs_of, small_stmts_of}
 use Rattle.rhai_run.specs.State.{store_of}
 use Rattle.rhai_run.proofs.Callees.{count_exprs_of, call_ill, call_operates}
 use Rattle.rhai_run.proofs.Evaluating.{lead, args_run, args_stop, braces_run}

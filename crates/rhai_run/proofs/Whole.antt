@@ -1,8 +1,10 @@
 -- The report on a whole run.
-use Rattle.std.proofs.Common.{◌≡◌, ℕ, true, List, [], map, None, Result, Ok, Err, sym, ap, ◌∙◌, arith}
+use Rattle.std.proofs.Common.{◌≡◌, ℕ, true, List, [], map, None, Result, Ok, Err, refl, sym, ap, subst, ◌∙◌, arith}
 use Rattle.rhai_base.specs.declared.types.dynamic.Dynamic.{Dynamic}
 use Rattle.rhai_base.specs.Value.{UnitV}
 use Rattle.rhai_meaning.specs.Act.{ScopeEntry, Host, Outcome, returned, returned_outcome, run_all}
+use Rattle.rhai_meaning.specs.Agreeing.{AgreeOn}
+use Rattle.rhai_meaning.specs.Core as core
 use Rattle.rhai_meaning.specs.Desugar.{core_function, core_script}
 use Rattle.rhai_meaning.specs.Engine.{Engine}
 use Rattle.rhai_meaning.specs.Meaning.{acts}
@@ -15,9 +17,11 @@ use Rattle.rhai_run.specs.declared.report.RunEnd.{RunEnd}
 use Rattle.rhai_run.specs.Entries.{variable_meant}
 use Rattle.rhai_run.specs.Evaluating.{Setting, setting_of, env, LeadsAll, RunsStmts, EndsAs}
 use Rattle.rhai_run.specs.Host.{call_meant}
-use Rattle.rhai_run.specs.Report.{end_meant}
-use Rattle.rhai_run.specs.Small.{small_script, small_stmts_of}
+use Rattle.rhai_run.specs.Report.{end_meant, ReportsRun}
+use Rattle.rhai_meaning.specs.Small.{CallsOperatorsAlone, small_script, small_stmts_of}
 use Rattle.rhai_run.specs.State.{store_of}
+use Rattle.rhai_meaning.proofs.Agreeing.{same_report}
+use Rattle.rhai_meaning.proofs.Small.{small_itself}
 use Rattle.rhai_run.proofs.Scopes.{reversed_twice}
 
 abbrev pub script_setting : Engine → Host → Script → Setting
@@ -25,6 +29,18 @@ script_setting engine host p = let fs = map core_function p.functions in setting
 
 abbrev report_at : State → RunEnd → Report
 report_at s e = record { ended = end_meant e; variables = map variable_meant s.scope.items; this = None; calls = map call_meant s.calls; turns = s.turns }
+
+-- the run with one host is that with each that answers the calls alike
+with_agreeing : (engine : Engine) (host : Host) (p : core.Script) (scope : List ScopeEntry) (n : ℕ) (r : Report) → r ≡ report_of AtStatements (run_script engine host p AtStatements scope n) → ReportsRun engine host p scope n r
+with_agreeing engine host p scope n r e h g = e ∙ same_report engine host h p AtStatements scope n (subst (λ x. AgreeOn host h x.calls) e g)
+
+-- a host answers as it does itself
+pub with_itself : (engine : Engine) (host : Host) (p : core.Script) (scope : List ScopeEntry) (n : ℕ) (r : Report) → ReportsRun engine host p scope n r → r ≡ report_of AtStatements (run_script engine host p AtStatements scope n)
+with_itself engine host p scope n r q = q host (record { answers = λ past c b. refl; modules = λ x. refl })
+
+-- a script whose calls are those of operators is its own small one
+pub operators_report : (engine : Engine) (host : Host) (p : Script) (scope : List ScopeEntry) (n : ℕ) (r : Report) → ReportsRun engine host (small_script (core_script p)) scope n r → CallsOperatorsAlone p → ReportsRun engine host (core_script p) scope n r
+operators_report engine host p scope n r q h = subst (λ c. ReportsRun engine host c scope n r) (small_itself p h) q
 
 module _ (engine : Engine) (host : Host) (p : Script) (scope : List ScopeEntry) (n : ℕ) (s s1 : State) (at_start : store_of s ≡ record { scope = scope; this = None; calls = [] }) (turns : s.turns ≡ n) where
   outcome_report : (o : Outcome) (e : RunEnd) → end_meant e ≡ end_of (returned_outcome o) → LeadsAll (script_setting engine host p) (acts (script_setting engine host p).world true (small_stmts_of p.statements) UnitV) s o s1 → report_at s1 e ≡ report_of AtStatements (run_script engine host (small_script (core_script p)) AtStatements scope n)
@@ -34,8 +50,11 @@ module _ (engine : Engine) (host : Host) (p : Script) (scope : List ScopeEntry) 
       sym (ap (λ r. report_of AtStatements (returned r)) ((λ i. run_all here.world (env here n) (acts here.world true (small_stmts_of p.statements) UnitV) (sym at_start i) (sym turns i)) ∙ q.runs n (omega (arith, turns)))
       ∙ (λ i. record { ended = sym h i; variables = reversed_twice (map variable_meant s1.scope.items) i; this = None; calls = map call_meant s1.calls; turns = s1.turns }))
 
-  pub script_report : (ended : Result Dynamic Interrupt) (e : RunEnd) → EndsAs ended e → RunsStmts (script_setting engine host p) p.statements s ended s1 → report_at s1 e ≡ report_of AtStatements (run_script engine host (small_script (core_script p)) AtStatements scope n)
-  script_report (Ok v) e h q = outcome_report _ e (ap end_meant h) q
-  script_report (Err NoMemory) e h q = absurd h
-  script_report (Err (Throw v)) e h q = outcome_report _ e (ap end_meant h) q
-  script_report (Err (Stuck f)) e h q = outcome_report _ e (ap end_meant h) q
+  ended_report : (ended : Result Dynamic Interrupt) (e : RunEnd) → EndsAs ended e → RunsStmts (script_setting engine host p) p.statements s ended s1 → report_at s1 e ≡ report_of AtStatements (run_script engine host (small_script (core_script p)) AtStatements scope n)
+  ended_report (Ok v) e h q = outcome_report _ e (ap end_meant h) q
+  ended_report (Err NoMemory) e h q = absurd h
+  ended_report (Err (Throw v)) e h q = outcome_report _ e (ap end_meant h) q
+  ended_report (Err (Stuck f)) e h q = outcome_report _ e (ap end_meant h) q
+
+  pub script_report : (ended : Result Dynamic Interrupt) (e : RunEnd) → EndsAs ended e → RunsStmts (script_setting engine host p) p.statements s ended s1 → ReportsRun engine host (small_script (core_script p)) scope n (report_at s1 e)
+  script_report ended e h q = with_agreeing engine host (small_script (core_script p)) scope n (report_at s1 e) (ended_report ended e h q)

@@ -4,7 +4,7 @@ use Rattle.rhai_base.specs.Value.{Value, UnitV}
 use Rattle.rhai_base.specs.declared.types.dynamic.Dynamic.{Dynamic}
 use Rattle.rhai_base.specs.Reading.{value_of}
 use Rattle.rhai_meaning.specs.Tree as tree
-use Rattle.rhai_meaning.specs.Act.{HostCall, Answer, World, Gives, Throws, IsStuck, WrongKind, Outcome, Ended, Halted, At, Act, Acts, Scoped, Env, run, run_all}
+use Rattle.rhai_meaning.specs.Act.{HostCall, Answer, World, Gives, Leaves, Throws, IsStuck, WrongKind, Outcome, Ended, Halted, At, Act, Acts, Scoped, Env, run, run_all}
 use Rattle.rhai_meaning.specs.Core.{Exprs, Deed, Stmt, Function}
 use Rattle.rhai_meaning.specs.Desugar.{call_of, core_exprs, core_function}
 use Rattle.rhai_meaning.specs.Host.{ModuleValue}
@@ -18,10 +18,10 @@ use Rattle.rhai_run.specs.declared.plain.state.State.{State}
 use Rattle.rhai_run.specs.declared.report.RunEnd.{RunEnd}
 use Rattle.rhai_run.specs.declared.report.RunEnd.TheVariants as ended
 use Rattle.rhai_meaning.specs.Faults.{is_unit}
-use Rattle.rhai_run.specs.EngineInfo.{engine_of}
+use Rattle.rhai_engine.specs.EngineInfo.{engine_of}
 use Rattle.rhai_run.specs.Host.{host_of}
 use Rattle.rhai_run.specs.Report.{stuck_meant}
-use Rattle.rhai_run.specs.Small.{small_expr, small_expr_of, small_exprs_of, small_stmt_of, small_stmts_of}
+use Rattle.rhai_meaning.specs.Small.{small_expr, small_expr_of, small_exprs_of, small_stmt_of, small_stmts_of}
 use Rattle.rhai_run.specs.State.{store_of}
 
 -- what a run is in
@@ -64,7 +64,7 @@ pub record Steps (here : Setting) (l : Stmt) (s : State) (v : Value) (s' : State
 -- An end without a value has the outcome; nothing is said where there was no memory.
 abbrev pub Interrupted : Interrupt → (Outcome → Type 0) → Type 0
 Interrupted NoMemory P = Unit {0}
-Interrupted (Throw v) P = P (Ended (Throws (value_of v)))
+Interrupted (Throw v) P = P (Ended (Leaves (Throws (value_of v))))
 Interrupted (Stuck f) P = P (Halted (IsStuck (stuck_meant f)))
 
 -- what is answered for an act, a list of acts, arguments, and a statement in its list

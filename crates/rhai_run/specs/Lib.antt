@@ -1,9 +1,6 @@
-pub mod EngineInfo
-pub mod Override
 pub mod Host
 pub mod Entries
 pub mod Report
 pub mod State
-pub mod Small
 pub mod Operators
 pub mod Evaluating

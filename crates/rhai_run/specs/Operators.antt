@@ -1,25 +1,15 @@
 -- The operator of a call, by its token.
-use Rattle.std.specs.Prelude.{◌≡◌, ℕ, List, Option, Some, None, if◌then◌else◌}
+use Rattle.std.specs.Prelude.{◌≡◌, ℕ, Option, Some, None, if◌then◌else◌}
 use Rattle.std.specs.Option.{option_map}
 use Rattle.rhai_parts.specs.declared.types.token.Token.{Token}
-use Rattle.rhai_base.specs.Value.{Value}
-use Rattle.rhai_base.specs.Operators.{Operator, Computed, NoEntry, arity}
+use Rattle.rhai_base.specs.Operators.{Operator, arity}
 use Rattle.rhai_base.specs.Reading.{operator_of}
-use Rattle.rhai_meaning.specs.Engine.{Engine, built_in}
 use Rattle.rhai_meaning.specs.Faults.{has_token}
 use Rattle.rhai_meaning.specs.Tree.{CallToken, NoToken, OfOperator, OfOther, Callee}
 
 -- how many operands a token's operator has, if it stands for one
 abbrev pub token_arity : Token → Option ℕ
 token_arity op = option_map arity (operator_of op)
-
--- what a token's operator answers at values, where it is built in
-abbrev pub built_in_of : Engine → List Value → Option Operator → Computed
-built_in_of e vs (Some op) = built_in e op vs
-built_in_of e vs None = NoEntry
-
-abbrev pub built_in_at : Engine → Token → List Value → Computed
-built_in_at e op vs = built_in_of e vs (operator_of op)
 
 abbrev pub operator_by : Callee → ℕ → CallToken → Option Operator
 operator_by c n NoToken = None

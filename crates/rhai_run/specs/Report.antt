@@ -1,9 +1,12 @@
 -- What a report says.
-use Rattle.std.specs.Prelude.{ℕ, map, None, codes}
+use Rattle.std.specs.Prelude.{◌≡◌, ℕ, List, map, None, codes}
 use Rattle.rhai_base.specs.Value.{Text}
 use Rattle.rhai_base.specs.Reading.{value_of}
 use Rattle.rhai_meaning.specs.Act as act
-use Rattle.rhai_meaning.specs.Run.{End, WithValue, WithThrown, WithStuck, WithoutTurns, Report}
+use Rattle.rhai_meaning.specs.Agreeing.{AgreeOn}
+use Rattle.rhai_meaning.specs.Core.{Script}
+use Rattle.rhai_meaning.specs.Engine.{Engine}
+use Rattle.rhai_meaning.specs.Run.{AtStatements, End, WithValue, WithThrown, WithStuck, WithoutTurns, Report, report_of, run_script}
 use Rattle.rhai_run.specs.declared.report.Stuck.{Stuck}
 use Rattle.rhai_run.specs.declared.report.Stuck.TheVariants as stuck
 use Rattle.rhai_run.specs.declared.report.RunEnd.{RunEnd}
@@ -51,3 +54,8 @@ report_meant r = record {
   calls = map call_meant r.calls;
   turns = r.turns_left;
 }
+
+-- A report on the run of a script's statements: so runs the script with each host, by rows for one, that has the same
+-- module values and answers the reported calls as this one does.
+abbrev pub ReportsRun : Engine → act.Host → Script → List act.ScopeEntry → ℕ → Report → Type 0
+ReportsRun engine host p scope n r = (h : act.Host) → AgreeOn host h r.calls → r ≡ report_of AtStatements (run_script engine h p AtStatements scope n)

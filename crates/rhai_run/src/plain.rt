@@ -3,18 +3,15 @@
 mod evaluator;
 mod operators;
 mod state;
-#[cfg(test)]
-mod tests;
 
 ghost use Rattle.std.specs.Prelude.{◌≡◌, IfOk};
 ghost use Rattle.rhai_meaning.specs.Desugar.{core_script};
-ghost use Rattle.rhai_meaning.specs.Run.{AtStatements, report_of, run_script};
 ghost use Rattle.rhai_script.specs.Script.{script_of};
-ghost use Rattle.rhai_run.specs.EngineInfo.{engine_of};
+ghost use Rattle.rhai_engine.specs.EngineInfo.{engine_of};
 ghost use Rattle.rhai_run.specs.Host.{host_of};
-ghost use Rattle.rhai_run.specs.Report.{report_meant};
+ghost use Rattle.rhai_run.specs.Report.{report_meant, ReportsRun};
 ghost use Rattle.rhai_run.specs.Evaluating.{EndsAs};
-ghost use Rattle.rhai_run.specs.Small.{small_script};
+ghost use Rattle.rhai_meaning.specs.Small.{CallsOperatorsAlone, small_script};
 ghost use Rattle.rhai_run.specs.Entries.{start_scope};
 
 use crate::plain::evaluator::Evaluator;
@@ -25,8 +22,11 @@ use rhai_script::AST;
 use std::alloc::Global;
 
 /// Runs a script's statements from a scope, with so many turns. It only borrows the script, and shares nothing with
-/// the optimizer. So far only operators are called: a call of a function is stuck as one of the wrong kind, before
+/// the optimiser. So far only operators are called: a call of a function is stuck as one of the wrong kind, before
 /// its arguments are run. No part of the language takes a turn yet.
+///
+/// The report is that of the run with every host that answers the reported calls as this one did: nothing else of the
+/// host is asked.
 pub fn plain_run<H: Host>(
     alloc: Global,
     ast: &AST,
@@ -35,7 +35,10 @@ pub fn plain_run<H: Host>(
     scope: &Scope,
     turns: u64,
 ) -> Result<RunReport, OutOfMemory>
-    ensures { IfOk result (λ r. report_meant r ≡ report_of AtStatements (run_script (engine_of info.now) (host_of (H.answers host.now) (H.modules host.now)) (small_script (core_script (script_of ast.now))) AtStatements (start_scope scope.now) turns)) }
+    ensures run { IfOk result (λ r. ReportsRun (engine_of info.now) (host_of (H.answers host.now) (H.modules host.now)) (small_script (core_script (script_of ast.now))) (start_scope scope.now) turns (report_meant r)) }
+
+    // A script all of whose calls are those of operators is run as it is.
+    ensures operators { IfOk result (λ r. CallsOperatorsAlone (script_of ast.now) → ReportsRun (engine_of info.now) (host_of (H.answers host.now) (H.modules host.now)) (core_script (script_of ast.now)) (start_scope scope.now) turns (report_meant r)) }
 {
     let evaluator = Evaluator {
         alloc,

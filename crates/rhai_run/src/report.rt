@@ -80,23 +80,3 @@ pub struct RunReport {
     /// The turns left.
     pub turns_left: u64,
 }
-
-#[cfg(test)]
-mod tests {
-    use super::*;
-
-    #[test]
-    fn stuck_runs_have_numbers_and_names(rt: HostRuntime) {
-        let rows = [
-            (Stuck::Unbound, 1, "Unbound"),
-            (Stuck::WrongKind, 2, "WrongKind"),
-            (Stuck::WriteToConstant, 3, "WriteToConstant"),
-            (Stuck::NoPlace, 4, "NoPlace"),
-            (Stuck::CounterTooLarge, 5, "CounterTooLarge"),
-            (Stuck::UnboundThis, 6, "UnboundThis"),
-        ];
-        for (stuck, number, name) in rows {
-            assert_eq!(rt; (stuck.number(), stuck.name()), (number, name));
-        }
-    }
-}

@@ -5,6 +5,10 @@
 #[cfg(test)]
 mod differential;
 #[cfg(test)]
+mod engine;
+#[cfg(test)]
+mod evaluator;
+#[cfg(test)]
 mod hosts;
 #[cfg(test)]
 mod notation;

@@ -8,7 +8,7 @@ ghost use Rattle.rhai_meaning.specs.Core.{If};
 ghost use Rattle.rhai_ast.specs.Reading.{callee_of, expr_of, exprs_of, stmt_of, stmts_of};
 ghost use Rattle.rhai_meaning.specs.ActForms.{ask_host};
 ghost use Rattle.rhai_meaning.specs.Calls.{operate};
-ghost use Rattle.rhai_run.specs.Small.{small_expr_of, small_stmts_of};
+ghost use Rattle.rhai_meaning.specs.Small.{small_expr_of, small_stmts_of};
 ghost use Rattle.rhai_run.specs.Evaluating.{setting, IsConstant, Runs, RunsDeed, RunsExpr, RunsCall, RunsExprs, RunsStmt, RunsStmts, RunsBlock};
 
 use crate::plain::operators::{builtin, fault_text, operator_called};

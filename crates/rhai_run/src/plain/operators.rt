@@ -1,21 +1,19 @@
 //! Operators over values.
 
-#![tactic(auto, using(rhai_base::specs::Reading::kinds), unfolding(rhai_base::specs::Operators::computed))]
+#![tactic(auto, using(rhai_base::specs::Reading::kinds))]
 
-ghost use Rattle.std.specs.Prelude.{◌≡◌, IfOk, Some, map, length, codes, [], ◌∷◌};
-ghost use Rattle.rhai_base.specs.Builtin.{computed_of};
+ghost use Rattle.std.specs.Prelude.{◌≡◌, IfOk, Some, map, length, codes};
+ghost use Rattle.rhai_base.specs.Builtin.{answered, computed_of};
 ghost use Rattle.rhai_base.specs.Reading.{value_of};
 ghost use Rattle.rhai_base.specs.Value.{TextV};
 ghost use Rattle.rhai_meaning.specs.Faults.{has_token};
 ghost use Rattle.rhai_ast.specs.Reading.{callee_of, mark_of};
-ghost use Rattle.rhai_run.specs.EngineInfo.{engine_of};
+ghost use Rattle.rhai_engine.specs.EngineInfo.{built_in_at, engine_of};
 ghost use Rattle.rhai_run.specs.Operators as spec;
 
 use crate::EngineInfo;
 use rhai_ast::FnCallExpr;
-use rhai_base::{
-    Dynamic, Fault, ImmutableString, OutOfMemory, Token, builtin_binary_op, builtin_unary_op,
-};
+use rhai_base::{Dynamic, Fault, ImmutableString, OutOfMemory, Token};
 use std::alloc::{AllocError, Global};
 
 /// The operator of a call that is one over its operands.
@@ -70,40 +68,23 @@ pub fn builtin(
     op: Token,
     args: &[Dynamic],
 ) -> Result<Option<Result<Dynamic, Fault>>, OutOfMemory>
-    ensures { IfOk result (λ r. computed_of r ≡ spec.built_in_at (engine_of info.now) op (map value_of args.now)) }
+    ensures { IfOk result (λ r. computed_of r ≡ built_in_at (engine_of info.now) op (map value_of args.now)) }
 {
     match args {
-        [x] => Ok(builtin_unary(info, op, x)),
-        [x, y] => builtin_binary(alloc, info, op, x, y),
+        [x] => Ok(unfailing(info.builtin_unary(op, x))),
+        [x, y] => info.builtin_binary(alloc, op, x, y),
         _ => Ok(None),
     }
 }
 
-fn builtin_unary(info: &EngineInfo, op: Token, x: &Dynamic) -> Option<Result<Dynamic, Fault>>
-    ensures { computed_of result ≡ spec.built_in_at (engine_of info.now) op (value_of x.now ∷ []) }
+/// The answer of an operator that has no fault.
+fn unfailing(answer: Option<Dynamic>) -> Option<Result<Dynamic, Fault>>
+    ensures { computed_of result ≡ answered answer }
 {
-    if !info.tries_builtin(op, &[x.type_name()]) {
-        return None;
-    }
-    match builtin_unary_op(&op, x) {
+    match answer {
         Some(value) => Some(Ok(value)),
         None => None,
     }
-}
-
-fn builtin_binary(
-    alloc: Global,
-    info: &EngineInfo,
-    op: Token,
-    x: &Dynamic,
-    y: &Dynamic,
-) -> Result<Option<Result<Dynamic, Fault>>, OutOfMemory>
-    ensures { IfOk result (λ r. computed_of r ≡ spec.built_in_at (engine_of info.now) op (value_of x.now ∷ value_of y.now ∷ [])) }
-{
-    if !info.tries_builtin(op, &[x.type_name(), y.type_name()]) {
-        return Ok(None);
-    }
-    builtin_binary_op(alloc, &op, x, y)
 }
 
 /// What a fault throws.

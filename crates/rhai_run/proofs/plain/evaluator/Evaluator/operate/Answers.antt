@@ -3,7 +3,7 @@ use Rattle.rhai_base.specs.Operators.{NoEntry}
 use Rattle.rhai_base.specs.Reading.{value_of}
 use Rattle.rhai_meaning.specs.ActForms.{ask_host}
 use Rattle.rhai_run.specs.Evaluating.{setting, Runs}
-use Rattle.rhai_run.specs.Operators.{built_in_at}
+use Rattle.rhai_engine.specs.EngineInfo.{built_in_at}
 use Rattle.rhai_run.proofs.Callees.{operates_by_host}
 use Rattle.rhai_run.proofs.plain.evaluator.Evaluator.operate.Goals as goal
 

@@ -1,11 +1,13 @@
 -- The abstract record that an engine's record stands for.
-use Rattle.std.specs.Prelude.{Bool, false, not, ◌||◌, List, [], ◌∷◌, ◌++◌}
-use Rattle.rhai_base.specs.Value.{Text}
+use Rattle.std.specs.Prelude.{Bool, false, not, ◌||◌, List, [], ◌∷◌, ◌++◌, Option, Some, None}
+use Rattle.rhai_base.specs.Value.{Text, Value}
+use Rattle.rhai_base.specs.Operators.{Operator, Computed, NoEntry}
+use Rattle.rhai_base.specs.Reading.{operator_of}
 use Rattle.rhai_parts.specs.declared.types.token.Token.{Token}
 use Rattle.rhai_parts.specs.Symbols.{token_text}
 use Rattle.rhai_parts.specs.Tokens.{makes_range}
-use Rattle.rhai_meaning.specs.Engine.{Engine, has_override}
-use Rattle.rhai_run.specs.declared.engine_info.EngineInfo.{EngineInfo}
+use Rattle.rhai_meaning.specs.Engine.{Engine, built_in, has_override}
+use Rattle.rhai_engine.specs.declared.engine_info.EngineInfo.{EngineInfo}
 
 -- neither constants nor other type names yet
 abbrev pub engine_of : EngineInfo → Engine
@@ -21,3 +23,11 @@ overriding e name types = record e { overrides = e.overrides ++ record { name = 
 -- the built-in operator is tried at operands of these types; ranges cannot be overridden
 abbrev pub tries_builtin : Engine → Token → List Text → Bool
 tries_builtin e op types = makes_range op || e.fast_operators || not (has_override e.overrides (token_text op) types)
+
+-- what a token's operator answers at values, where it is built in
+abbrev pub built_in_of : Engine → List Value → Option Operator → Computed
+built_in_of e vs (Some op) = built_in e op vs
+built_in_of e vs None = NoEntry
+
+abbrev pub built_in_at : Engine → Token → List Value → Computed
+built_in_at e op vs = built_in_of e vs (operator_of op)

@@ -1,7 +1,7 @@
 use Rattle.std.proofs.Common.{◌≡◌, map, drop}
 use Rattle.std.specs.Map.Iter.{deref}
 use Rattle.rhai_meaning.specs.Engine.{has_override}
-use Rattle.rhai_run.proofs.engine_info.EngineInfo.is_overridden.Given as goal
+use Rattle.rhai_engine.proofs.engine_info.EngineInfo.is_overridden.Given as goal
 
 -- what is left decides
 abbrev pub invariant-loop-operator : goal.invariant-loop-operator

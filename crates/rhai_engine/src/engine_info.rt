@@ -1,10 +1,14 @@
 //! What an engine fixes for every script that it runs.
-ghost use Rattle.std.specs.Prelude.{◌≡◌, [], map, false, OnOk, OnErr};
+ghost use Rattle.std.specs.Prelude.{◌≡◌, [], ◌∷◌, map, false, IfOk, OnOk, OnErr};
 ghost use Rattle.std.specs.Map.Iter.{deref};
+ghost use Rattle.rhai_base.specs.Builtin.{answered, computed_of};
+ghost use Rattle.rhai_base.specs.Reading.{value_of};
 ghost use Rattle.rhai_meaning.specs.Engine.{has_override, same_texts};
-ghost use Rattle.rhai_run.specs.Override.{is_override};
+ghost use Rattle.rhai_engine.specs.Override.{is_override};
 
-use rhai_base::{ImmutableString, OutOfMemory, Seq, Token};
+use rhai_base::{
+    Dynamic, Fault, ImmutableString, OutOfMemory, Seq, Token, builtin_binary_op, builtin_unary_op,
+};
 use std::alloc::Global;
 use std::marker::Model;
 
@@ -53,7 +57,7 @@ pub struct EngineInfo {
 }
 
 impl EngineInfo {
-    ghost use Rattle.rhai_run.specs.EngineInfo.{engine_of, nothing_set, overriding, tries_builtin};
+    ghost use Rattle.rhai_engine.specs.EngineInfo.{built_in_at, engine_of, nothing_set, overriding, tries_builtin};
 
     /// Nothing set, fast operators off.
     pub fn new(alloc: Global) -> EngineInfo
@@ -92,16 +96,6 @@ impl EngineInfo {
         false
     }
 
-    /// Whether the built-in operator is tried at operands of these types, and the host is asked only where
-    /// there is none. Ranges cannot be overridden.
-    pub fn tries_builtin(&self, op: Token, types: &[&str]) -> bool
-        ensures { result ≡ tries_builtin (engine_of self.now) op (map deref types.now) }
-    {
-        matches!(op, Token::ExclusiveRange | Token::InclusiveRange)
-            || self.fast_operators
-            || !self.is_overridden(op.literal_syntax(), types)
-    }
-
     /// Whether built-in operators go before the host's.
     pub fn set_fast_operators(&mut self, enable: bool)
         ensures { engine_of self.new ≡ record (engine_of self.old) { fast_operators = enable } }
@@ -115,37 +109,42 @@ impl EngineInfo {
     {
         self.fast_operators
     }
-}
 
-#[cfg(test)]
-mod tests {
-    use super::*;
-    use std::test::Fail;
-
-    #[test]
-    fn an_override_is_known_by_name_and_types(rt: HostRuntime) -> Result<(), Fail> {
-        let alloc = rt.alloc();
-        let mut info = EngineInfo::new(alloc);
-        assert!(rt; !info.is_overridden("!", &["bool"]));
-        let mut types = Vec::new(alloc);
-        types.push(ImmutableString::new(alloc, "bool")?)?;
-        info.override_operator(ImmutableString::new(alloc, "!")?, types)?;
-        assert!(rt; info.is_overridden("!", &["bool"]));
-        assert!(rt; !info.is_overridden("!", &["i64"]));
-        assert!(rt; !info.is_overridden("!", &["bool", "bool"]));
-        assert!(rt; !info.is_overridden("-", &["bool"]));
-        assert!(rt; !info.tries_builtin(Token::Bang, &["bool"]));
-        assert!(rt; info.tries_builtin(Token::Bang, &["i64"]));
-        info.set_fast_operators(true);
-        assert!(rt; info.tries_builtin(Token::Bang, &["bool"]));
-        Ok(())
+    /// What the built-in operator answers at a value, where it is tried before the host.
+    #[tactic(auto, unfolding(rhai_base::specs::Operators::computed))]
+    pub fn builtin_unary(&self, op: Token, x: &Dynamic) -> Option<Dynamic>
+        ensures { answered result ≡ built_in_at (engine_of self.now) op (value_of x.now ∷ []) }
+    {
+        if !self.tries_builtin(op, &[x.type_name()]) {
+            return None;
+        }
+        builtin_unary_op(&op, x)
     }
 
-    #[test]
-    fn fast_operators_are_off_until_they_are_set(rt: HostRuntime) {
-        let mut info = EngineInfo::new(rt.alloc());
-        assert!(rt; !info.fast_operators());
-        info.set_fast_operators(true);
-        assert!(rt; info.fast_operators());
+    /// What the built-in operator answers at two values, where it is tried before the host: a value or a fault.
+    #[tactic(auto, unfolding(rhai_base::specs::Operators::computed))]
+    pub fn builtin_binary(
+        &self,
+        alloc: Global,
+        op: Token,
+        x: &Dynamic,
+        y: &Dynamic,
+    ) -> Result<Option<Result<Dynamic, Fault>>, OutOfMemory>
+        ensures { IfOk result (λ r. computed_of r ≡ built_in_at (engine_of self.now) op (value_of x.now ∷ value_of y.now ∷ [])) }
+    {
+        if !self.tries_builtin(op, &[x.type_name(), y.type_name()]) {
+            return Ok(None);
+        }
+        builtin_binary_op(alloc, &op, x, y)
+    }
+
+    /// Whether the built-in operator is tried at operands of these types, and the host is asked only where
+    /// there is none. Ranges cannot be overridden.
+    fn tries_builtin(&self, op: Token, types: &[&str]) -> bool
+        ensures { result ≡ tries_builtin (engine_of self.now) op (map deref types.now) }
+    {
+        matches!(op, Token::ExclusiveRange | Token::InclusiveRange)
+            || self.fast_operators
+            || !self.is_overridden(op.literal_syntax(), types)
     }
 }

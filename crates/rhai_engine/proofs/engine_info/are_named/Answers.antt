@@ -2,8 +2,8 @@ use Rattle.std.proofs.Common.{sym, ap, ◌∙◌}
 use Rattle.std.proofs.lemmas.Bool.{not-false, not-true}
 use Rattle.rhai_base.specs.Value.{same_text}
 use Rattle.std.proofs.lemmas.Slice.Zip.{Zip-more, either_empty_from_Zip}
-use Rattle.rhai_run.proofs.Overrides.{same_texts-other, same_texts-same, same_texts-lengths, same_texts-none, lengths-rest}
-use Rattle.rhai_run.proofs.engine_info.are_named.Goals as goal
+use Rattle.rhai_engine.proofs.Overrides.{same_texts-other, same_texts-same, same_texts-lengths, same_texts-none, lengths-rest}
+use Rattle.rhai_engine.proofs.engine_info.are_named.Goals as goal
 
 pub returns-then-names-types : goal.returns-then-names-types
 returns-then-names-types c = sym (same_texts-lengths c.args.names.now c.args.types.now c.if-names-types.true)

@@ -3,7 +3,7 @@ use Rattle.std.specs.Map.Iter.{deref}
 use Rattle.std.specs.Iterator.Adapters.{zip_first, zip_second}
 use Rattle.std.specs.Slice.Iter.{iter_rest}
 use Rattle.rhai_meaning.specs.Engine.{same_texts}
-use Rattle.rhai_run.proofs.engine_info.are_named.Given as goal
+use Rattle.rhai_engine.proofs.engine_info.are_named.Given as goal
 
 -- what is left decides
 abbrev pub invariant-loop-name : goal.invariant-loop-name

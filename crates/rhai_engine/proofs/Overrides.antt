@@ -4,7 +4,7 @@ use Rattle.std.specs.Map.Iter.{deref}
 use Rattle.std.proofs.Math.Seq.{drop-cons, drop-length}
 use Rattle.rhai_base.specs.Value.{Text, same_text}
 use Rattle.rhai_meaning.specs.Engine.{Override, has_override, same_texts}
-use Rattle.rhai_run.specs.Override.{is_override}
+use Rattle.rhai_engine.specs.Override.{is_override}
 
 pub has_override-drop : (os : List Override) (i : ℕ) (d : Override) (name : Text) (types : List Text) → i < length os
     → has_override (drop i os) name types ≡ (is_override (get_or os i d) name types || has_override (drop (i + 1) os) name types)

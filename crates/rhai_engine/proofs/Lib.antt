@@ -1,0 +1,2 @@
+mod Overrides
+pub mod Operands

@@ -1,0 +1,2 @@
+pub mod EngineInfo
+pub mod Override

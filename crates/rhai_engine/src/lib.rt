@@ -1,0 +1,6 @@
+//! The engine's record: what an engine fixes for every script, below the evaluator and the optimiser.
+#![tactic(auto, using(crate::proofs::Overrides::steps))]
+
+mod engine_info;
+
+pub use engine_info::EngineInfo;

@@ -1,0 +1,195 @@
+//! What a run takes from outside: the start scope, the turns, and what a host answers.
+#![tactic(auto, using(rhai_base::specs::Reading::kinds))]
+
+ghost use Rattle.std.specs.Prelude.{[], ◌∷◌, codes, pos, None, length, ◌==◌};
+ghost use Rattle.rhai_base.specs.Value.{BoolV, IntV};
+ghost use Rattle.rhai_meaning.specs.Act.{Answers, AnswersThrow};
+
+use rhai_ast::{Expr, FnCallExpr, Stmt};
+use rhai_base::{Boxed, Dynamic, ImmutableString, OutOfMemory, Position, Scope, Seq, Token};
+use rhai_run::{
+    EngineInfo, Host, HostAnswer, HostCall, RunEnd, RunReport, Stuck, Variable, plain_run,
+};
+use rhai_script::{AST, FnLib};
+use std::alloc::Global;
+use std::rc::Rc;
+use std::test::Fail;
+
+/// Throws 7 at each call, and knows one module.
+#[derive(Drop)]
+struct Throws;
+
+impl Host for Throws {
+    ghost answers = { λ h past c. AnswersThrow (IntV (pos 7)) };
+
+    ghost modules = { λ h. record { name = codes "limits::least"; value = IntV (pos 1) } ∷ [] };
+
+    fn answer(
+        &self,
+        _alloc: Global,
+        _past: &[HostCall],
+        _call: &HostCall,
+    ) -> Result<HostAnswer, OutOfMemory> {
+        Ok(HostAnswer::Throw(Dynamic::Int(7)))
+    }
+
+    fn module_value(
+        &self,
+        _alloc: Global,
+        qualified: &str,
+    ) -> Result<Option<Dynamic>, OutOfMemory> {
+        if "limits::least" == qualified {
+            Ok(Some(Dynamic::Int(1)))
+        } else {
+            Ok(None)
+        }
+    }
+}
+
+/// Answers whether a call is the first one.
+#[derive(Drop)]
+struct First;
+
+impl Host for First {
+    ghost answers = { λ h past c. Answers (BoolV (length past == 0)) None };
+
+    ghost modules = { λ h. [] };
+
+    fn answer(
+        &self,
+        _alloc: Global,
+        past: &[HostCall],
+        _call: &HostCall,
+    ) -> Result<HostAnswer, OutOfMemory> {
+        Ok(HostAnswer::Value {
+            value: Dynamic::Bool(past.len() == 0),
+            receiver: None,
+        })
+    }
+
+    fn module_value(
+        &self,
+        _alloc: Global,
+        _qualified: &str,
+    ) -> Result<Option<Dynamic>, OutOfMemory> {
+        Ok(None)
+    }
+}
+
+/// `-1`, which the host is asked for.
+fn negation(alloc: Global) -> Result<Stmt, OutOfMemory> {
+    let call = FnCallExpr {
+        name: ImmutableString::new(alloc, "-")?,
+        args: Seq::from_vec(vec![in alloc; Expr::IntegerConstant(1, Position::NONE)]?),
+        capture_parent_scope: false,
+        op_token: Some(Token::UnaryMinus),
+    };
+    Ok(Stmt::FnCall(Boxed::new(alloc, call)?, Position::NONE))
+}
+
+/// So many negations.
+fn script(alloc: Global, negations: usize) -> Result<AST, OutOfMemory> {
+    let mut statements = Vec::new(alloc);
+    for _ in 0..negations {
+        statements.push(negation(alloc)?)?;
+    }
+    Ok(AST::new(statements, Rc::new(alloc, FnLib::new(alloc))?))
+}
+
+/// Runs so many negations from a scope, with ten turns.
+fn ran<H: Host>(
+    alloc: Global,
+    host: &H,
+    scope: &Scope,
+    negations: usize,
+) -> Result<RunReport, OutOfMemory> {
+    let script = script(alloc, negations)?;
+    plain_run(alloc, &script, &EngineInfo::new(alloc), host, scope, 10)
+}
+
+/// Whether the run has this end, after so many calls, and has used no turn.
+fn is_ended(report: &RunReport, run_end: &RunEnd, calls: usize) -> bool {
+    report.run_end == *run_end && report.calls.len() == calls && report.turns_left == 10
+}
+
+/// A start scope with the variable `x` and the constant `k`.
+fn start(alloc: Global) -> Result<Scope, OutOfMemory> {
+    let mut scope = Scope::new(alloc);
+    scope.push(ImmutableString::new(alloc, "x")?, Dynamic::Int(1))?;
+    scope.push_constant(ImmutableString::new(alloc, "k")?, Dynamic::Int(2))?;
+    Ok(scope)
+}
+
+const START: [(&str, bool, i64); 2] = [("x", false, 1), ("k", true, 2)];
+
+fn is_variable(variable: &Variable, name: &str, is_constant: bool, value: i64) -> bool {
+    variable.0.as_str() == name && variable.1 == is_constant && variable.2 == Dynamic::Int(value)
+}
+
+fn are_started(variables: &[Variable]) -> bool {
+    for (variable, (name, is_constant, value)) in variables.iter().zip(&START) {
+        if !is_variable(variable, *name, *is_constant, *value) {
+            return false;
+        }
+    }
+    variables.len() == START.len()
+}
+
+#[test]
+fn the_start_scope_and_the_turns_come_back(rt: HostRuntime) -> Result<(), Fail> {
+    let report = ran(rt.alloc(), &Throws, &start(rt.alloc())?, 0)?;
+    assert!(rt; is_ended(&report, &RunEnd::Value(Dynamic::Unit), 0));
+    assert!(rt; are_started(report.variables.as_slice()));
+    Ok(())
+}
+
+#[test]
+fn a_thrown_answer_ends_the_run(rt: HostRuntime) -> Result<(), Fail> {
+    let report = ran(rt.alloc(), &Throws, &Scope::new(rt.alloc()), 2)?;
+    assert!(rt; is_ended(&report, &RunEnd::Thrown(Dynamic::Int(7)), 1));
+    Ok(())
+}
+
+/// How many calls are made, and what the last one is answered by a host that knows those before it.
+const ANSWERS: [(usize, bool); 3] = [(1, true), (2, false), (3, false)];
+
+fn is_answered(alloc: Global, calls: usize, answer: bool) -> Result<bool, OutOfMemory> {
+    let report = ran(alloc, &First, &Scope::new(alloc), calls)?;
+    Ok(is_ended(&report, &RunEnd::Value(Dynamic::Bool(answer)), calls))
+}
+
+#[test]
+fn a_script_runs_with_a_host_of_its_own(rt: HostRuntime) -> Result<(), Fail> {
+    for (calls, answer) in &ANSWERS {
+        assert!(rt; is_answered(rt.alloc(), *calls, *answer)?, "{calls}");
+    }
+    Ok(())
+}
+
+#[test]
+fn a_host_knows_its_modules(rt: HostRuntime) -> Result<(), Fail> {
+    let value = Throws.module_value(rt.alloc(), "limits::least")?;
+    assert!(rt; matches!(value, Some(Dynamic::Int(1))));
+    assert!(rt; Throws.module_value(rt.alloc(), "limits::most")?.is_none());
+    assert!(rt; First.module_value(rt.alloc(), "limits::least")?.is_none());
+    Ok(())
+}
+
+const STUCK: [(Stuck, u8, &str); 6] = [
+    (Stuck::Unbound, 1, "Unbound"),
+    (Stuck::WrongKind, 2, "WrongKind"),
+    (Stuck::WriteToConstant, 3, "WriteToConstant"),
+    (Stuck::NoPlace, 4, "NoPlace"),
+    (Stuck::CounterTooLarge, 5, "CounterTooLarge"),
+    (Stuck::UnboundThis, 6, "UnboundThis"),
+];
+
+#[test]
+fn stuck_runs_have_numbers_and_names(rt: HostRuntime) {
+    for (stuck, number, name) in &STUCK {
+        assert!(rt;
+            (*stuck).number() == *number && (*stuck).name() == *name,
+            "{name}"
+        );
+    }
+}
