@@ -1,6 +1,7 @@
 //! The syntax tree.
 
 pub mod expr;
+mod literals;
 pub mod script_fn;
 pub mod stmt;
 pub mod switch;

@@ -1,6 +1,9 @@
 -- Constants, their values, and the constant for a value.
-use Rattle.std.specs.Prelude.{Bool, true, false, List, [], ◌∷◌, Option, Some, None, codes, is_some}
-use Rattle.rhai_base.specs.Value.{Text, Value, UnitV, BoolV, IntV, CharV, TextV, ArrayV, PointerV, no_values, values}
+use Rattle.std.specs.Prelude.{Bool, true, false, List, [], ◌∷◌, Option, Some, None, codes, is_some, if◌then◌else◌}
+use Rattle.rhai_meaning.specs.Engine.{or_else}
+use Rattle.rhai_parts.specs.Names.{is_valid_name}
+use Rattle.rhai_base.specs.Value.{Text, Value, UnitV, BoolV, IntV, CharV, TextV, ArrayV, PointerV, no_values, values, same_text}
+use Rattle.rhai_base.specs.Operators.{Operator, UpTo, Through, Computed, NoEntry, Is, Overflows, binary}
 use Rattle.rhai_meaning.specs.ActForms.{truth}
 use Rattle.rhai_meaning.specs.Tree.{NoToken, Expr, DynamicConstant, BoolConstant, IntegerConstant, CharConstant, StringConstant, UnitConstant, ArrayOf, FnCall, Exprs, no_exprs, expr}
 
@@ -59,3 +62,47 @@ constant_for (CharV c) = CharConstant c
 constant_for (TextV t) = StringConstant t
 constant_for (PointerV f no_values) = pointer_call f
 constant_for v = DynamicConstant v
+
+-- ---- literals: constants, and the calls that make a pointer or a range of constants
+
+-- the value of an operator's answer; a fault is none
+abbrev pub computed_value : Computed → Option Value
+computed_value NoEntry = None
+computed_value (Is v) = Some v
+computed_value Overflows = None
+
+-- the pointer to the function of a name, where a function may have it
+abbrev pub pointer_to : Text → Option Value
+pointer_to f = if is_valid_name f then Some (PointerV f no_values) else None
+
+abbrev pub pointer_literal : Expr → Option Value
+pointer_literal (StringConstant f) = pointer_to f
+pointer_literal _ = None
+
+-- an end of a range that is written out, unit where it is left out
+abbrev pub range_end : Expr → Option Value
+range_end (IntegerConstant n) = Some (IntV n)
+range_end UnitConstant = Some UnitV
+range_end _ = None
+
+-- what a range's operator makes of its ends
+abbrev pub range_literal : Operator → Option Value → Option Value → Option Value
+range_literal op (Some v) (Some w) = computed_value (binary op v w)
+range_literal op _ _ = None
+
+-- the value that a call of a name writes out: a pointer or a range
+abbrev pub named_value : Text → Exprs → Option Value
+named_value f (expr e no_exprs) = if same_text f (codes "Fn") then pointer_literal e else None
+named_value f (expr d (expr e no_exprs)) =
+    if same_text f (codes "..") then range_literal UpTo (range_end d) (range_end e)
+    else if same_text f (codes "..=") then range_literal Through (range_end d) (range_end e)
+    else None
+named_value f _ = None
+
+abbrev pub call_value : Expr → Option Value
+call_value (FnCall c es) = named_value c.name es
+call_value _ = None
+
+-- the value of a literal; None: no literal
+abbrev pub literal_value : Expr → Option Value
+literal_value e = or_else (constant_value e) (call_value e)

@@ -1,1 +1,3 @@
-pub mod rewriting
+pub mod Flattening
+pub mod Parts
+pub mod UpTo

@@ -1,6 +1,12 @@
 //! The optimiser of scripts.
 #![tactic(auto)]
 
-pub mod optimizer;
+mod blocks;
+mod cycle;
+mod level;
+mod mark;
+mod optimizer;
 
-pub use optimizer::{OptimizationLevel, OptimizerState, optimize_into_ast};
+pub use level::OptimizationLevel;
+pub use optimizer::{optimize_into_ast, optimize_top_level};
+pub use rhai_rules::OptimizerState;

@@ -1,38 +1,42 @@
-//! The optimiser: its entry, and the modules that do the work.
-ghost use Rattle.std.specs.Prelude.{◌≡◌, ◌≢◌, ◌≤◌, IfOk, map, true};
-ghost use Rattle.rhai_meaning.specs.Faults.{AreWellFormed};
+//! The entry to the optimiser.
+ghost use Rattle.std.specs.Prelude.{◌≡◌, ◌≢◌, ◌≤◌, IfOk, OnOk, map, true};
+ghost use Rattle.std.specs.Rc.{rc_value};
 ghost use Rattle.rhai_ast.specs.Reading.{stmts_of};
-ghost use Rattle.rhai_run.specs.EngineInfo.{engine_of};
+ghost use Rattle.rhai_engine.specs.EngineInfo.{engine_of};
+ghost use Rattle.rhai_meaning.specs.Faults.{AreWellFormed};
+ghost use Rattle.rhai_optimizer.specs.Source.{source_of};
+ghost use Rattle.rhai_rewriting.specs.Refines.{Refines};
+ghost use Rattle.rhai_rewriting.specs.Residue.{AreReduced};
+ghost use Rattle.rhai_rewriting.specs.Context.{Whole, under};
+ghost use Rattle.rhai_rewriting.specs.Rewriting.{StmtsTo};
+ghost use Rattle.rhai_rewriting.specs.Steps.{StmtsRun};
+ghost use Rattle.rhai_rewriting.specs.Weight.{weight};
 ghost use Rattle.rhai_script.specs.FnKey.{definitions_table};
 ghost use Rattle.rhai_script.specs.Script.{script_of};
-ghost use Rattle.std.specs.Rc.{rc_value};
-ghost use Rattle.rhai_optimizer.specs.Source.{source_of};
-ghost use Rattle.rhai_rewriting.specs.Residue.{AreReduced};
-ghost use Rattle.rhai_rewriting.specs.Rewriting.{StmtsTo, Whole};
-ghost use Rattle.rhai_rewriting.specs.Refines.{Refines};
-ghost use Rattle.rhai_rewriting.specs.Steps.{under};
-ghost use Rattle.rhai_rewriting.specs.Weight.{weight};
 
-pub mod constants;
-pub mod cycle;
-pub mod folding;
-pub mod level;
-pub mod mark;
-pub mod nodes;
-pub mod rules;
-pub mod state;
-#[cfg(test)]
-mod tests;
-
-use cycle::optimize_statements;
-pub use level::OptimizationLevel;
+use crate::cycle::Optimizer;
+use crate::level::OptimizationLevel;
+use crate::mark::ListMark;
 use rhai_ast::{ScriptFuncDef, Stmt};
 use rhai_base::{OutOfMemory, Scope, Seq};
-use rhai_run::EngineInfo;
+use rhai_engine::EngineInfo;
+use rhai_rules::OptimizerState;
 use rhai_script::{AST, FnLib};
-pub use state::OptimizerState;
 use std::alloc::Global;
 use std::rc::Rc;
+
+/// The statements of a script are optimised in place. Where there is nothing to reduce, it takes no memory.
+pub fn optimize_top_level(
+    alloc: Global,
+    info: &EngineInfo,
+    statements: &mut Seq<Stmt>,
+) -> Result<(), OutOfMemory>
+    ensures { OnOk result (StmtsRun (under (engine_of info.now)) Whole true true (stmts_of statements.old) (stmts_of statements.new)) }
+{
+    let mut state = OptimizerState::new();
+    let optimizer = Optimizer { alloc, info };
+    optimizer.stmt_block(&mut state, statements, ListMark::Whole)
+}
 
 /// The statements of a script, at a level.
 fn optimized(
@@ -48,7 +52,8 @@ fn optimized(
     match level {
         OptimizationLevel::None => Ok(statements),
         OptimizationLevel::Simple | OptimizationLevel::Full => {
-            let statements = optimize_statements(alloc, info, Seq::from_vec(statements))?;
+            let mut statements = Seq::from_vec(statements);
+            optimize_top_level(alloc, info, &mut statements)?;
             Ok(statements.into_vec())
         }
     }

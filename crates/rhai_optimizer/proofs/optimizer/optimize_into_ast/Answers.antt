@@ -1,12 +1,12 @@
 use Rattle.std.proofs.Common.{ap, ◌∙◌}
 use Rattle.rhai_script.specs.Script.{functions_of}
-use Rattle.rhai_rewriting.proofs.soundness.Promise.{same_runs, lighter}
+use Rattle.rhai_rewriting.proofs.soundness.Theorem.{refines, lighter}
 use Rattle.rhai_rewriting.proofs.soundness.WellFormed.{stmts_well}
 use Rattle.rhai_optimizer.proofs.optimizer.optimize_into_ast.Goals as goal
 
 pub returns-clause-same_runs : goal.returns-clause-same_runs
 returns-clause-same_runs c =
-    same_runs (rw c.new-2.ensures.statements c.in_ok-statements.ensures.to)
+    refines (rw c.new-2.ensures.statements c.in_ok-statements.ensures.to)
     (ap (λ l. functions_of l.value) c.new-2.ensures.lib ∙ ap functions_of c.in_ok-lib.ensures.ok ∙ c.in_ok-from_functions.ensures.table)
 
 pub returns-clause-lighter : goal.returns-clause-lighter

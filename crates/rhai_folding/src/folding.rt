@@ -1,0 +1,80 @@
+//! What operator calls over constants answer without asking the host.
+
+#![tactic(auto, using(rhai_ast::specs::Reading::shapes, rhai_base::specs::Reading::kinds))]
+
+ghost use Rattle.std.specs.Prelude.{◌≡◌, IfOk, Some, [], ◌∷◌};
+ghost use Rattle.std.specs.Option.{option_map};
+ghost use Rattle.rhai_base.specs.Reading.{value_of};
+ghost use Rattle.rhai_ast.specs.Reading.{callee_of, expr_of, exprs_of, mark_of};
+ghost use Rattle.rhai_meaning.specs.Constants as constants;
+ghost use Rattle.rhai_meaning.specs.Tree.{expr, no_exprs};
+ghost use Rattle.rhai_engine.specs.EngineInfo.{engine_of};
+ghost use Rattle.rhai_folding.specs.Answers.{answer_value};
+ghost use Rattle.rhai_rewriting.specs.Folding as spec;
+
+use rhai_ast::{Expr, FnCallExpr};
+use rhai_base::{Dynamic, Fault, OutOfMemory, Token};
+use rhai_engine::EngineInfo;
+use std::alloc::Global;
+
+/// The value of an operator's answer. A fault is left to the run.
+fn value_alone(answer: Option<Result<Dynamic, Fault>>) -> Option<Dynamic>
+    ensures { option_map value_of result ≡ answer_value answer }
+{
+    match answer {
+        Some(Ok(value)) => Some(value),
+        Some(Err(Fault::Arithmetic)) => None,
+        None => None,
+    }
+}
+
+/// The value of an operator call over constants, where it is built in and answers one.
+pub fn folded(
+    alloc: Global,
+    info: &EngineInfo,
+    call: &FnCallExpr,
+) -> Result<Option<Dynamic>, OutOfMemory>
+    ensures { IfOk result (λ v. option_map value_of v ≡ spec.folded (engine_of info.now) (callee_of call.now) (exprs_of call.now.args)) }
+{
+    let Some(op) = call.op_token else {
+        return Ok(None);
+    };
+    match call.args.as_slice() {
+        [x] => folded_one(alloc, info, op, x),
+        [x, y] => folded_two(alloc, info, op, x, y),
+        _ => Ok(None),
+    }
+}
+
+fn folded_one(
+    alloc: Global,
+    info: &EngineInfo,
+    op: Token,
+    x: &Expr,
+) -> Result<Option<Dynamic>, OutOfMemory>
+    ensures { IfOk result (λ v. option_map value_of v ≡ spec.folded_values (engine_of info.now) (mark_of (Some op)) (constants.constant_values (expr (expr_of x.now) no_exprs))) }
+{
+    match x.constant_value(alloc)? {
+        Some(x) => Ok(info.builtin_unary(op, &x)),
+        None => Ok(None),
+    }
+}
+
+fn folded_two(
+    alloc: Global,
+    info: &EngineInfo,
+    op: Token,
+    x: &Expr,
+    y: &Expr,
+) -> Result<Option<Dynamic>, OutOfMemory>
+    ensures { IfOk result (λ v. option_map value_of v ≡ spec.folded_values (engine_of info.now) (mark_of (Some op)) (constants.constant_values (expr (expr_of x.now) (expr (expr_of y.now) no_exprs)))) }
+{
+    let Some(x) = x.constant_value(alloc)? else {
+        return Ok(None);
+    };
+    let Some(y) = y.constant_value(alloc)? else {
+        return Ok(None);
+    };
+    let answer = info.builtin_binary(alloc, op, &x, &y)?;
+    Ok(value_alone(answer))
+}

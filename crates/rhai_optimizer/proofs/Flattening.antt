@@ -1,0 +1,153 @@
+-- Blocks in a list: what is done, the statements of the list in hand, and what comes after it.
+use Rattle.std.proofs.Common.{◌≡◌, ◌≤◌, Bool, true, false, List, [], ◌∷◌, ◌++◌, IsTrue, ◌↔◌, ◌||◌, refl, sym, ap, ◌∙◌, subst, arith}
+use Rattle.rhai_parts.specs.declared.types.position.Position.{Position}
+use Rattle.rhai_ast.specs.declared.ast.stmt.Stmt as declared_stmt
+use Rattle.rhai_ast.specs.declared.ast.stmt.Stmt.TheVariants as stmt_kind
+use Rattle.rhai_meaning.specs.Queries.{is_any_dependent}
+use Rattle.rhai_ast.specs.Reading.{stmt_of, stmts_of, stmt_of-Noop}
+use Rattle.rhai_meaning.specs.Tree.{Noop, Block, Stmts, no_stmts, stmt, joined}
+use Rattle.rhai_rewriting.specs.Context.{Context, ListKind, wanted, wanted_before}
+use Rattle.rhai_rewriting.specs.Rewriting.{StmtsTo, same_stmts, then_stmts, by_list_rule}
+use Rattle.rhai_rewriting.specs.Rules.{spliced, block_gives_way}
+use Rattle.rhai_rewriting.proofs.Firing.{in_back}
+use Rattle.rhai_rewriting.specs.Steps.{Moves}
+use Rattle.rhai_rewriting.specs.Weight.{stmt_weight, weight}
+use Rattle.rhai_optimizer.specs.Blocks.{gives_way, any_gives_way, Flattens, FlatList}
+
+joined-push : (done : List declared_stmt.Stmt) (s : declared_stmt.Stmt) (new : Stmts) → joined (stmts_of (done ++ s ∷ [])) new ≡ joined (stmts_of done) (stmt (stmt_of s) new)
+joined-push [] s new = refl
+joined-push (x ∷ done) s new = ap (stmt (stmt_of x)) (joined-push done s new)
+
+joined-no_stmts : (ss : Stmts) → joined ss no_stmts ≡ ss
+joined-no_stmts no_stmts = refl
+joined-no_stmts (stmt s ss) = ap (stmt s) (joined-no_stmts ss)
+
+-- one more statement that does not give way
+or-false : (a b : Bool) → a ≡ false → b ≡ false → a || b ≡ false
+or-false a b p q = λ i. p i || q i
+
+both-clear : (a b : Bool) → a || b ≡ false → (a ≡ false) × (b ≡ false)
+both-clear true b h = absurd cc
+both-clear false b h = (refl, h)
+
+any-push : (done : List declared_stmt.Stmt) (s : declared_stmt.Stmt) → gives_way (stmt_of s) ≡ false → any_gives_way (stmts_of done) ≡ false → any_gives_way (stmts_of (done ++ s ∷ [])) ≡ false
+any-push [] s g h = or-false _ _ g refl
+any-push (x ∷ done) s g h = let p = both-clear (gives_way (stmt_of x)) _ h in or-false _ _ p.0 (any-push done s g p.1)
+
+-- whether the value before the rest of a list is wanted
+pub wanted_before-rest : (w b : Bool) (rest : List declared_stmt.Stmt) → w ≡ true → (IsTrue b ↔ (rest ≡ [])) → b ≡ wanted_before w (stmts_of rest)
+wanted_before-rest w b [] e h = h.1 refl ∙ sym e
+wanted_before-rest w true (s ∷ rest) e h = let k = h.0 refl in cc
+wanted_before-rest w false (s ∷ rest) e h = refl
+
+wanted_before-joined : (w : Bool) (a b : Stmts) → wanted_before (wanted_before w b) a ≡ wanted_before w (joined a b)
+wanted_before-joined w no_stmts b = refl
+wanted_before-joined w (stmt s a) b = refl
+
+-- ---- an empty block
+
+noop_stands : (w : Bool) (back : Stmts) → true ≡ wanted_before w back → spliced w no_stmts back ≡ stmt Noop back
+noop_stands true no_stmts h = refl
+noop_stands false no_stmts h = cc
+noop_stands w (stmt s back) h = cc
+
+nothing_stands : (w : Bool) (ss back : Stmts) → (ss ≡ no_stmts → true ≡ wanted_before w back → ⊥) → spliced w ss back ≡ joined ss back
+nothing_stands w (stmt s ss) back h = refl
+nothing_stands w no_stmts (stmt s back) h = refl
+nothing_stands true no_stmts no_stmts h = absurd (h refl refl)
+nothing_stands false no_stmts no_stmts h = refl
+
+-- ---- statements that move behind those that are done
+
+moves_push : {w d : Bool} (done new : List declared_stmt.Stmt) (s : declared_stmt.Stmt) → new ≡ done ++ s ∷ [] → Moves w d d (stmts_of done) (stmt (stmt_of s) no_stmts) (stmts_of new)
+moves_push {w = w} {d = d} done new s e = record {
+  to = λ k m back h. subst (λ x. StmtsTo k m d d (joined (stmts_of done) (stmt (stmt_of s) back)) x) (sym (ap (λ (l : List declared_stmt.Stmt). joined (stmts_of l) back) e ∙ joined-push done s back)) same_stmts;
+}
+
+-- a block that gives way to its statements
+moves_block : {w d d1 d2 : Bool} {done ss new : Stmts} → d1 ≡ true → is_any_dependent ss ≡ false → (ss ≡ no_stmts → true ≡ w → ⊥) → Moves w d1 d2 done ss new → Moves w d d2 done (stmt (Block ss) no_stmts) new
+moves_block {w = w} {d = d} {d1 = d1} {d2 = d2} {done = done} {ss = ss} {new = new} e h n p = record {
+  to = λ k m back q.
+      let spelled = nothing_stands (wanted m) ss back (λ a b. n a (b ∙ sym q)) in
+      let gives_way = subst (λ x. StmtsTo k m d true (joined done (stmt (Block ss) back)) (joined done x)) spelled (in_back done (by_list_rule (block_gives_way h))) in
+      then_stmts (subst (λ x. StmtsTo k m d x (joined done (stmt (Block ss) back)) (joined done (joined ss back))) (sym e) gives_way) (p.to k m back q);
+}
+
+-- an empty block at the end of a wanted list
+moves_noop : {w d d1 : Bool} (done new block : List declared_stmt.Stmt) (p : Position) → d1 ≡ true → w ≡ true → block ≡ [] → new ≡ done ++ stmt_kind.Noop p ∷ [] → Moves w d d1 (stmts_of done) (stmt (Block (stmts_of block)) no_stmts) (stmts_of new)
+moves_noop {w = w} {d = d} {d1 = d1} done new block p e ew eb en = record {
+  to = λ k m back q.
+      let gives_way = subst (λ x. StmtsTo k m d true (joined (stmts_of done) (stmt (Block no_stmts) back)) (joined (stmts_of done) x)) (noop_stands (wanted m) back (sym ew ∙ q)) (in_back (stmts_of done) (by_list_rule (block_gives_way refl))) in
+      let spelled = ap (λ (l : List declared_stmt.Stmt). joined (stmts_of l) back) en ∙ joined-push done (stmt_kind.Noop p) back ∙ ap (λ x. joined (stmts_of done) (stmt x back)) (stmt_of-Noop p) in
+      subst (λ (l : List declared_stmt.Stmt). StmtsTo k m d d1 (joined (stmts_of done) (stmt (Block (stmts_of l)) back)) (joined (stmts_of new) back)) (sym eb)
+      (subst (λ x. StmtsTo k m d d1 (joined (stmts_of done) (stmt (Block no_stmts) back)) x) (sym spelled)
+      (subst (λ x. StmtsTo k m d x (joined (stmts_of done) (stmt (Block no_stmts) back)) (joined (stmts_of done) (stmt Noop back))) (sym e) gives_way));
+}
+
+-- ---- and leave no block that gives way
+
+pub flattens_push : {w d : Bool} (done new : List declared_stmt.Stmt) (s : declared_stmt.Stmt) → gives_way (stmt_of s) ≡ false → new ≡ done ++ s ∷ [] → Flattens w d d (stmts_of done) (stmt (stmt_of s) no_stmts) (stmts_of new)
+flattens_push done new s g e = record {
+  moves = moves_push done new s e;
+  flat = λ h. subst (λ (l : List declared_stmt.Stmt). any_gives_way (stmts_of l) ≡ false) (sym e) (any-push done s g h);
+}
+
+pub flattens_block : {w d d1 d2 : Bool} {done ss new : Stmts} → d1 ≡ true → is_any_dependent ss ≡ false → (ss ≡ no_stmts → true ≡ w → ⊥) → Flattens w d1 d2 done ss new → Flattens w d d2 done (stmt (Block ss) no_stmts) new
+flattens_block e h n p = record { moves = moves_block e h n p.moves; flat = p.flat }
+
+noop_stays : (p : Position) → gives_way (stmt_of (stmt_kind.Noop p)) ≡ false
+noop_stays p = ap gives_way (stmt_of-Noop p)
+
+pub flattens_noop : {w d d1 : Bool} (done new block : List declared_stmt.Stmt) (p : Position) → d1 ≡ true → w ≡ true → block ≡ [] → new ≡ done ++ stmt_kind.Noop p ∷ [] → Flattens w d d1 (stmts_of done) (stmt (Block (stmts_of block)) no_stmts) (stmts_of new)
+flattens_noop done new block p e ew eb en = record {
+  moves = moves_noop done new block p e ew eb en;
+  flat = λ h. subst (λ (l : List declared_stmt.Stmt). any_gives_way (stmts_of l) ≡ false) (sym en) (any-push done (stmt_kind.Noop p) (noop_stays p) h);
+}
+
+-- of all, the rest is to come
+pub record MovesSoFar (w d d1 : Bool) (all rest : List declared_stmt.Stmt) (done now : Stmts) : Type 0 where
+  pub fits : weight (stmts_of rest) ≤ weight (stmts_of all)
+  pub to : (k : Context) (m : ListKind) (back : Stmts) → w ≡ wanted_before (wanted m) back → StmtsTo k m d d1 (joined done (joined (stmts_of all) back)) (joined now (joined (stmts_of rest) back))
+  pub flat : any_gives_way done ≡ false → any_gives_way now ≡ false
+
+pub moves_start : {w d : Bool} {all : List declared_stmt.Stmt} {done : Stmts} → MovesSoFar w d d all all done done
+moves_start = record { fits = omega arith; to = λ k m back h. same_stmts; flat = λ h. h }
+
+pub moves_fit : {w d d1 : Bool} {all rest new : List declared_stmt.Stmt} {done now : Stmts} {s : declared_stmt.Stmt} → MovesSoFar w d d1 all rest done now → rest ≡ s ∷ new → stmt_weight (stmt_of s) ≤ weight (stmts_of all)
+moves_fit {w = w} {d = d} {d1 = d1} {all = all} {new = new} {done = done} {now = now} {s = s} far i =
+    let v = subst (λ l. MovesSoFar w d d1 all l done now) i far in
+    omega (arith, v.fits)
+
+pub moves_next : {w w1 d d1 d2 : Bool} {all rest new : List declared_stmt.Stmt} {done now next : Stmts} {s : declared_stmt.Stmt} → MovesSoFar w d d1 all rest done now → rest ≡ s ∷ new → w1 ≡ wanted_before w (stmts_of new) → Flattens w1 d1 d2 now (stmt (stmt_of s) no_stmts) next → MovesSoFar w d d2 all new done next
+moves_next {w = w} {w1 = w1} {d = d} {d1 = d1} {d2 = d2} {all = all} {rest = rest} {new = new} {done = done} {now = now} {next = next} {s = s} far i e p =
+    let v = subst (λ l. MovesSoFar w d d1 all l done now) i far in
+    record {
+      fits = omega (arith, v.fits);
+      to = λ k m back h.
+          let q : w1 ≡ wanted_before (wanted m) (joined (stmts_of new) back) = e ∙ ap (λ b. wanted_before b (stmts_of new)) h ∙ wanted_before-joined (wanted m) (stmts_of new) back in
+          then_stmts (v.to k m back h) (p.moves.to k m (joined (stmts_of new) back) q);
+      flat = λ h. p.flat (v.flat h);
+    }
+
+pub moves_end : {w d d1 : Bool} {all rest : List declared_stmt.Stmt} {done now : Stmts} → MovesSoFar w d d1 all rest done now → rest ≡ [] → Flattens w d d1 done (stmts_of all) now
+moves_end {w = w} {d = d} {d1 = d1} {all = all} {done = done} {now = now} far i =
+    let v = subst (λ l. MovesSoFar w d d1 all l done now) i far in
+    record { moves = record { to = v.to }; flat = v.flat }
+
+-- a whole list
+flattened_to : {d d1 : Bool} (k : Context) (m : ListKind) {w : Bool} {ss new : Stmts} → w ≡ wanted m → Moves w d d1 no_stmts ss new → StmtsTo k m d d1 ss new
+flattened_to {d = d} {d1 = d1} k m {ss = ss} {new = new} h p =
+    subst (λ x. StmtsTo k m d d1 x new) (joined-no_stmts ss) (subst (λ x. StmtsTo k m d d1 (joined ss no_stmts) x) (joined-no_stmts new) (p.to k m no_stmts h))
+
+pub flattened : {d d1 : Bool} (m : ListKind) {w : Bool} {ss new : Stmts} → w ≡ wanted m → Flattens w d d1 no_stmts ss new → FlatList m d d1 ss new
+flattened m h p = record { to = λ k. flattened_to k m h p.moves; flat = p.flat refl }
+
+pub flat_kept : {m : ListKind} {d : Bool} (ss : Stmts) → any_gives_way ss ≡ false → FlatList m d d ss ss
+flat_kept ss h = record { to = λ k. same_stmts; flat = h }
+
+pub empty-stmts_of : (l : List declared_stmt.Stmt) → stmts_of l ≡ no_stmts → l ≡ []
+empty-stmts_of [] h = refl
+empty-stmts_of (s ∷ l) h = absurd cc
+
+pub differ : false ≡ true → ⊥
+differ h = cc

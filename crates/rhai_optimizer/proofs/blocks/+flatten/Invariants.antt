@@ -1,0 +1,20 @@
+use Rattle.std.proofs.Common.{◌+◌, ◌*◌, length}
+use Rattle.rhai_ast.specs.Reading.{stmt_of, stmts_of}
+use Rattle.rhai_rewriting.specs.Weight.{stmt_weight, weight}
+use Rattle.rhai_optimizer.proofs.Flattening.{MovesSoFar}
+use Rattle.rhai_optimizer.proofs.blocks.+flatten.Given as goal
+
+abbrev pub decreases-block_gives_way : goal.decreases-block_gives_way
+decreases-block_gives_way l = 3 * weight (stmts_of l.block.block) + 2
+
+abbrev pub decreases-flatten_statement : goal.decreases-flatten_statement
+decreases-flatten_statement l = 3 * stmt_weight (stmt_of l.statement)
+
+abbrev pub decreases-flatten_statements : goal.decreases-flatten_statements
+decreases-flatten_statements l = 3 * weight (stmts_of l.statements) + 1
+
+abbrev pub invariant-flatten_statements-loop-statement : goal.invariant-flatten_statements-loop-statement
+invariant-flatten_statements-loop-statement l = MovesSoFar l.is_wanted l.initial.state.is_dirty l.state.is_dirty l.initial.rest l.rest (stmts_of l.initial.done) (stmts_of l.done)
+
+abbrev pub decreases-flatten_statements-loop-statement : goal.decreases-flatten_statements-loop-statement
+decreases-flatten_statements-loop-statement l = length l.rest

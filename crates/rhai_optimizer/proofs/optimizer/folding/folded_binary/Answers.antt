@@ -1,8 +1,0 @@
-use Rattle.std.proofs.Common.{◌∙◌}
-use Rattle.rhai_run.specs.EngineInfo.{engine_of}
-use Rattle.rhai_optimizer.proofs.rewriting.Tokens.{folded-two}
-use Rattle.rhai_optimizer.proofs.optimizer.folding.folded_binary.Goals as goal
-
-pub returns : goal.returns
-returns c =
-    c.value_alone.ensures ∙ folded-two (engine_of c.args.info.now) _ _ _ _ (rw (c.type_name.ensures, c.type_name-2.ensures) at c.if-not-tries_builtin.ensures) c.in_ok-answer.ensures

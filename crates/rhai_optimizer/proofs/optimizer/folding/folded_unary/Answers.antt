@@ -1,6 +1,0 @@
-use Rattle.rhai_run.specs.EngineInfo.{engine_of}
-use Rattle.rhai_optimizer.proofs.rewriting.Tokens.{folded-one}
-use Rattle.rhai_optimizer.proofs.optimizer.folding.folded_unary.Goals as goal
-
-pub returns : goal.returns
-returns c = folded-one (engine_of c.args.info.now) _ _ _ (rw c.type_name.ensures at c.if-not-tries_builtin.ensures) c.builtin_unary_op.ensures

@@ -1,7 +1,0 @@
-use Rattle.rhai_rewriting.specs.Rewriting.{braces_empty}
-use Rattle.rhai_ast.specs.Reading.{expr_of-Unit}
-use Rattle.rhai_rewriting.proofs.Firing.{expr_fires}
-use Rattle.rhai_optimizer.proofs.optimizer.rules.expressions.braces_empty.Goals as goal
-
-pub returns : goal.returns
-returns c = λ k. expr_fires c.set_dirty.ensures braces_empty (expr_of-Unit _)

@@ -1,7 +1,0 @@
-use Rattle.std.proofs.Common.{refl}
-use Rattle.rhai_rewriting.specs.Rewriting.{braces_of_expression}
-use Rattle.rhai_rewriting.proofs.Firing.{expr_fires}
-use Rattle.rhai_optimizer.proofs.optimizer.rules.expressions.braces_of_expression.Goals as goal
-
-pub returns : goal.returns
-returns c = λ k. expr_fires c.set_dirty.ensures braces_of_expression refl

@@ -1,0 +1,90 @@
+-- Nodes that are settled, and calls that fold.
+use Rattle.std.proofs.Common.{◌≡◌, Bool, true, false, not, ◌&&◌, List, Option, Some, None, is_some, refl, sym, subst}
+use Rattle.std.specs.Option.{option_map}
+use Rattle.rhai_base.specs.Value.{Value}
+use Rattle.rhai_meaning.specs.Constants.{are_constant, constant_bool, constant_for, constant_values}
+use Rattle.rhai_meaning.specs.Engine.{Engine}
+use Rattle.rhai_meaning.specs.Tree.{Callee, Expr, DynamicConstant, BoolConstant, IntegerConstant, CharConstant, StringConstant, UnitConstant, ArrayOf, BlockExpr, FnCall, Exprs, Stmt, Noop, If, Block, ExprStmt, FnCallStmt, Stmts}
+use Rattle.rhai_rewriting.specs.Context.{Context}
+use Rattle.rhai_rewriting.specs.Folding.{folded}
+use Rattle.rhai_rewriting.specs.Residue.{IsReducedExpr, IsReduced}
+use Rattle.rhai_rewriting.specs.Rules as rule
+use Rattle.rhai_rewriting.specs.Rules.{ExprRule, StmtRule}
+use Rattle.rhai_rewriting.specs.Steps.{ExprParts, ExprFired, StmtParts, StmtFired}
+use Rattle.rhai_rules.specs.Settled.{is_empty, is_settled_expr, is_settled_if, is_settled_stmt, folded_expr, constant_statement, folded_stmt}
+use Rattle.rhai_rules.proofs.Shapes.{not-true, braces-settled}
+
+none-of : {A : Type 0} (o : Option A) → is_some o ≡ false → o ≡ None
+none-of None h = refl
+none-of (Some x) h = absurd cc
+
+unmapped : {A B : Type 0} (f : A → B) (o : Option A) → None ≡ option_map f o → o ≡ None
+unmapped f None h = refl
+unmapped f (Some x) h = absurd cc
+
+right-true : (a b : Bool) → a && b ≡ true → b ≡ true
+right-true true b h = h
+right-true false b h = absurd cc
+
+-- ---- a settled node is reduced where its parts are
+
+pub settled_expr : (r : Engine) (e : Expr) → is_settled_expr e ≡ true → None ≡ folded_expr r e → ExprParts r e → IsReducedExpr r e
+settled_expr r (DynamicConstant v) h n p = tt
+settled_expr r (BoolConstant b) h n p = tt
+settled_expr r (IntegerConstant i) h n p = tt
+settled_expr r (CharConstant c) h n p = tt
+settled_expr r (StringConstant t) h n p = tt
+settled_expr r UnitConstant h n p = tt
+settled_expr r (ArrayOf es) h n p = (none-of (constant_values es) (not-true (are_constant es) h), p)
+settled_expr r (BlockExpr ss) h n p = (braces-settled ss h, p)
+settled_expr r (FnCall c es) h n p = (unmapped constant_for (folded r c es) n, p)
+
+settled_if : (e : Expr) (a b : Stmts) → is_settled_if e a b ≡ true → constant_bool e ≡ None
+settled_if e a b h = none-of (constant_bool e) (not-true (is_some (constant_bool e)) (right-true (not (is_empty a && is_empty b)) _ h))
+
+pub settled_stmt : (r : Engine) (s : Stmt) → is_settled_stmt s ≡ true → None ≡ folded_stmt r s → StmtParts r s → IsReduced r s
+settled_stmt r Noop h n p = tt
+settled_stmt r (If e a b) h n p = (settled_if e a b h, p.0, p.1, p.2)
+settled_stmt r (Block ss) h n p = p
+settled_stmt r (ExprStmt e) h n p = p
+settled_stmt r (FnCallStmt c es) h n p = (unmapped constant_statement (folded r c es) n, p)
+
+-- ---- a call that folds
+
+call_folds : (k : Context) (c : Callee) (es : Exprs) (o : Option Value) (e : Expr) → folded k.engine c es ≡ o → Some e ≡ option_map constant_for o → ExprRule k (FnCall c es) e
+call_folds k c es None e i h = absurd cc
+call_folds k c es (Some v) e i h =
+    let same : constant_for v ≡ e = cc in
+    subst (λ x. ExprRule k (FnCall c es) x) same (rule.operator_folds i)
+
+pub expr_folds : (k : Context) (e e' : Expr) → Some e' ≡ folded_expr k.engine e → ExprRule k e e'
+expr_folds k (FnCall c es) e' h = call_folds k c es (folded k.engine c es) e' refl h
+expr_folds k (DynamicConstant v) e' h = absurd cc
+expr_folds k (BoolConstant b) e' h = absurd cc
+expr_folds k (IntegerConstant n) e' h = absurd cc
+expr_folds k (CharConstant n) e' h = absurd cc
+expr_folds k (StringConstant t) e' h = absurd cc
+expr_folds k UnitConstant e' h = absurd cc
+expr_folds k (ArrayOf es) e' h = absurd cc
+expr_folds k (BlockExpr ss) e' h = absurd cc
+
+statement_folds : (k : Context) {w : Bool} (c : Callee) (es : Exprs) (o : Option Value) (s : Stmt) → folded k.engine c es ≡ o → Some s ≡ option_map constant_statement o → StmtRule k w (FnCallStmt c es) s
+statement_folds k c es None s i h = absurd cc
+statement_folds k {w = w} c es (Some v) s i h =
+    let same : constant_statement v ≡ s = cc in
+    subst (λ x. StmtRule k w (FnCallStmt c es) x) same (rule.call_statement_folds i)
+
+pub stmt_folds : (k : Context) {w : Bool} (s s' : Stmt) → Some s' ≡ folded_stmt k.engine s → StmtRule k w s s'
+stmt_folds k (FnCallStmt c es) s' h = statement_folds k c es (folded k.engine c es) s' refl h
+stmt_folds k Noop s' h = absurd cc
+stmt_folds k (If e a b) s' h = absurd cc
+stmt_folds k (Block ss) s' h = absurd cc
+stmt_folds k (ExprStmt e) s' h = absurd cc
+
+-- ---- a rule fired at a tree that is spelled so
+
+pub expr_fired_as : {d' : Bool} {e e1 e' : Expr} → e ≡ e1 → ((k : Context) → ExprFired k d' e1 e') → (k : Context) → ExprFired k d' e e'
+expr_fired_as {d' = d'} {e' = e'} x r k = subst (λ a. ExprFired k d' a e') (sym x) (r k)
+
+pub stmt_fired_as : {w d' : Bool} {s s1 s' : Stmt} → s ≡ s1 → ((k : Context) → StmtFired k w d' s1 s') → (k : Context) → StmtFired k w d' s s'
+stmt_fired_as {w = w} {d' = d'} {s' = s'} x r k = subst (λ a. StmtFired k w d' a s') (sym x) (r k)

@@ -1,0 +1,11 @@
+//! The rewrite rules at a node whose parts are optimised already, a function each.
+#![tactic(auto)]
+
+mod constants;
+mod expressions;
+mod nodes;
+mod state;
+mod statements;
+
+pub use nodes::{reduce_expr, reduce_stmt};
+pub use state::OptimizerState;

@@ -1,0 +1,284 @@
+//! What the table of scripts does not say of the optimiser: levels, functions, depth, length, positions, memory, and each
+//! of its calls below the entry.
+
+use crate::trees::{NONE, block, call, choice, integer, list, name, statement};
+use rhai_ast::{Expr, FnAccess, ScriptFuncDef, Stmt};
+use rhai_base::{Boxed, Dynamic, INT, OutOfMemory, Position, Scope, Seq, Span, Token};
+use rhai_folding::{constant_bool, folded};
+use rhai_optimizer::{OptimizationLevel, OptimizerState, optimize_into_ast, optimize_top_level};
+use rhai_rules::{reduce_expr, reduce_stmt};
+use rhai_run::EngineInfo;
+use rhai_script::AST;
+use std::alloc::Global;
+use std::rc::Rc;
+use std::test::Fail;
+
+// ---- scripts
+
+/// `1 + 2`
+fn sum(alloc: Global) -> Result<Expr, OutOfMemory> {
+    let args = vec![in alloc; integer(1), integer(2)]?;
+    Ok(Expr::FnCall(call(alloc, "+", Some(Token::Plus), args)?, NONE))
+}
+
+/// `{ 1 + 2 }`
+fn sum_in_a_block(alloc: Global) -> Result<Vec<Stmt>, OutOfMemory> {
+    let inner = vec![in alloc; statement(alloc, sum(alloc)?)?]?;
+    Ok(vec![in alloc; block(alloc, inner)?]?)
+}
+
+fn optimized(
+    alloc: Global,
+    statements: Vec<Stmt>,
+    level: OptimizationLevel,
+) -> Result<AST, OutOfMemory> {
+    let info = EngineInfo::new(alloc);
+    let scope = Scope::new(alloc);
+    let functions = Vec::new(alloc);
+    optimize_into_ast(alloc, &info, Some(&scope), statements, functions, level)
+}
+
+fn is_integer(statement: &Stmt, wanted: INT) -> bool {
+    match statement {
+        Stmt::Expr(expr) => matches!(expr.get(), Expr::IntegerConstant(n, _) if *n == wanted),
+        _ => false,
+    }
+}
+
+fn are_integers(statements: &[Stmt], count: usize, wanted: INT) -> bool {
+    for statement in statements {
+        if !is_integer(statement, wanted) {
+            return false;
+        }
+    }
+    statements.len() == count
+}
+
+/// Whether it is one block of one statement.
+fn is_block(statements: &[Stmt]) -> bool {
+    matches!(statements, [Stmt::Block(kept)] if kept.get().len() == 1)
+}
+
+// ---- levels
+
+/// A level, and whether something is done at it.
+const LEVELS: [(OptimizationLevel, bool); 3] = [
+    (OptimizationLevel::None, false),
+    (OptimizationLevel::Simple, true),
+    (OptimizationLevel::Full, true),
+];
+
+fn is_done_at(alloc: Global, row: &(OptimizationLevel, bool)) -> Result<bool, OutOfMemory> {
+    let (level, is_done) = *row;
+    let script = optimized(alloc, sum_in_a_block(alloc)?, level)?;
+    let statements = script.statements();
+    Ok(are_integers(statements, 1, 3) == is_done && is_block(statements) != is_done)
+}
+
+#[test]
+fn levels_say_how_much_is_done(rt: HostRuntime) -> Result<(), Fail> {
+    for row in &LEVELS {
+        assert!(rt; is_done_at(rt.alloc(), row)?, "{row:?}");
+    }
+    Ok(())
+}
+
+// ---- functions
+
+fn function(alloc: Global) -> Result<Rc<ScriptFuncDef>, OutOfMemory> {
+    let definition = ScriptFuncDef {
+        body: list(sum_in_a_block(alloc)?),
+        name: name(alloc, "f")?,
+        this_type: None,
+        access: FnAccess::Public,
+        params: Seq::new(alloc),
+        comments: Seq::new(alloc),
+    };
+    Ok(Rc::new(alloc, definition)?)
+}
+
+fn is_kept(function: &ScriptFuncDef) -> bool {
+    function.name.as_str() == "f" && is_block(function.body.statements())
+}
+
+fn are_functions_kept(alloc: Global) -> Result<bool, OutOfMemory> {
+    let functions = vec![in alloc; function(alloc)?]?;
+    let info = EngineInfo::new(alloc);
+    let level = OptimizationLevel::Simple;
+    let script = optimize_into_ast(alloc, &info, None, Vec::new(alloc), functions, level)?;
+    let mut count = 0;
+    for function in script.shared_lib().iter() {
+        if count == 0 && is_kept(function) {
+            count = 1;
+        }
+    }
+    Ok(count == 1 && script.shared_lib().len() == 1 && script.statements().is_empty())
+}
+
+#[test]
+fn functions_come_through_as_they_are(rt: HostRuntime) -> Result<(), Fail> {
+    assert!(rt; are_functions_kept(rt.alloc())?);
+    Ok(())
+}
+
+// ---- depth and length
+
+const DEPTH: usize = 100;
+
+const LENGTH: usize = 100_000;
+
+/// `if true { .. }`, so deep, around 42.
+fn nested(alloc: Global) -> Result<Vec<Stmt>, OutOfMemory> {
+    let mut inner = statement(alloc, integer(42))?;
+    for _ in 0..DEPTH {
+        inner = certain(alloc, inner)?;
+    }
+    Ok(vec![in alloc; inner]?)
+}
+
+fn certain(alloc: Global, inner: Stmt) -> Result<Stmt, OutOfMemory> {
+    let body = vec![in alloc; inner]?;
+    choice(alloc, Expr::BoolConstant(true, NONE), body, Vec::new(alloc))
+}
+
+#[test]
+fn nested_choices_become_the_innermost_value(rt: HostRuntime) -> Result<(), Fail> {
+    let alloc = rt.alloc();
+    let script = optimized(alloc, nested(alloc)?, OptimizationLevel::Simple)?;
+    assert!(rt; are_integers(script.statements(), 1, 42));
+    Ok(())
+}
+
+/// `1 + 2; 1 + 2; ..`
+fn many(alloc: Global) -> Result<Vec<Stmt>, OutOfMemory> {
+    let mut statements = Vec::with_capacity(alloc, LENGTH)?;
+    for _ in 0..LENGTH {
+        push_sum(alloc, &mut statements)?;
+    }
+    Ok(statements)
+}
+
+fn push_sum(alloc: Global, statements: &mut Vec<Stmt>) -> Result<(), OutOfMemory> {
+    statements.push(statement(alloc, sum(alloc)?)?)?;
+    Ok(())
+}
+
+#[test]
+fn a_long_script_is_optimised_soon(rt: HostRuntime) -> Result<(), Fail> {
+    let alloc = rt.alloc();
+    let script = optimized(alloc, many(alloc)?, OptimizationLevel::Simple)?;
+    assert!(rt; are_integers(script.statements(), LENGTH, 3));
+    Ok(())
+}
+
+// ---- positions
+
+/// An empty block at the end becomes nothing, where it began.
+fn is_end_kept(alloc: Global) -> Result<bool, OutOfMemory> {
+    let end = Position::new(1, 5);
+    let mut empty = list(Vec::new(alloc));
+    empty.span = Span::new(end, end);
+    let statements = vec![in alloc;
+        statement(alloc, integer(42))?,
+        Stmt::Block(Boxed::new(alloc, empty)?),
+    ]?;
+    let script = optimized(alloc, statements, OptimizationLevel::Simple)?;
+    Ok(
+        matches!(script.statements(), [first, Stmt::Noop(at)] if is_integer(first, 42) && *at == end),
+    )
+}
+
+#[test]
+fn what_becomes_nothing_keeps_its_place(rt: HostRuntime) -> Result<(), Fail> {
+    assert!(rt; is_end_kept(rt.alloc())?);
+    Ok(())
+}
+
+// ---- memory
+
+/// `f(1, 2)`
+fn asked(alloc: Global) -> Result<Expr, OutOfMemory> {
+    let args = vec![in alloc; integer(1), integer(2)]?;
+    Ok(Expr::FnCall(call(alloc, "f", None, args)?, NONE))
+}
+
+fn asked_statement(alloc: Global) -> Result<Stmt, OutOfMemory> {
+    let args = vec![in alloc; asked(alloc)?, Expr::Array(list_of_asked(alloc)?, NONE)]?;
+    Ok(Stmt::FnCall(call(alloc, "f", None, args)?, NONE))
+}
+
+fn list_of_asked(alloc: Global) -> Result<Seq<Expr>, OutOfMemory> {
+    Ok(Seq::from_vec(vec![in alloc; asked(alloc)?, integer(2)]?))
+}
+
+/// A script of each kind of node in which nothing is to be reduced.
+fn settled(alloc: Global) -> Result<Seq<Stmt>, OutOfMemory> {
+    let (body, branch) = (
+        vec![in alloc; asked_statement(alloc)?]?,
+        vec![in alloc; asked_statement(alloc)?]?,
+    );
+    let statements = vec![in alloc;
+        asked_statement(alloc)?,
+        choice(alloc, asked(alloc)?, body, branch)?,
+        statement(alloc, integer(1))?,
+    ]?;
+    Ok(Seq::from_vec(statements))
+}
+
+/// The last request for memory is that of `settled`: where each later one is refused, as by `rt try --test --fail-alloc`
+/// with the number after that of the last one, the script is passed all the same.
+#[test]
+fn a_script_with_nothing_to_reduce_takes_no_memory(rt: HostRuntime) -> Result<(), Fail> {
+    let alloc = rt.alloc();
+    let info = EngineInfo::new(alloc);
+    let mut statements = settled(alloc)?;
+    assert!(rt; optimize_top_level(alloc, &info, &mut statements).is_ok());
+    assert!(rt; statements.len() == 3);
+    Ok(())
+}
+
+// ---- the calls below the entry
+
+fn is_folded(alloc: Global) -> Result<bool, OutOfMemory> {
+    let info = EngineInfo::new(alloc);
+    let args = vec![in alloc; integer(1), integer(2)]?;
+    let call = call(alloc, "+", Some(Token::Plus), args)?;
+    let value = folded(alloc, &info, call.get())?;
+    Ok(matches!(value, Some(Dynamic::Int(3))))
+}
+
+fn is_expr_reduced(alloc: Global) -> Result<bool, OutOfMemory> {
+    let info = EngineInfo::new(alloc);
+    let mut state = OptimizerState::new();
+    let mut expr = sum(alloc)?;
+    reduce_expr(alloc, &info, &mut state, &mut expr)?;
+    Ok(matches!(expr, Expr::IntegerConstant(3, _)) && state.is_dirty())
+}
+
+fn is_stmt_reduced(alloc: Global) -> Result<bool, OutOfMemory> {
+    let info = EngineInfo::new(alloc);
+    let mut state = OptimizerState::new();
+    let mut statement = certain(alloc, Stmt::Noop(NONE))?;
+    reduce_stmt(alloc, &info, &mut state, &mut statement, true)?;
+    Ok(matches!(statement, Stmt::Block(_)) && state.is_dirty())
+}
+
+#[test]
+fn a_node_is_reduced_in_its_place(rt: HostRuntime) -> Result<(), Fail> {
+    let alloc = rt.alloc();
+    assert!(rt; constant_bool(&Expr::BoolConstant(true, NONE)) == Some(true));
+    assert!(rt; is_folded(alloc)?);
+    assert!(rt; is_expr_reduced(alloc)?);
+    assert!(rt; is_stmt_reduced(alloc)?);
+    Ok(())
+}
+
+#[test]
+fn a_state_knows_whether_it_was_changed(rt: HostRuntime) {
+    let mut state = OptimizerState::new();
+    assert!(rt; !state.is_dirty());
+    state.set_dirty();
+    assert!(rt; state.is_dirty());
+    state.clear_dirty();
+    assert!(rt; !state.is_dirty());
+}
