@@ -362,31 +362,19 @@ pub const SUM_OF_A_SUM: Row = (
     "call +(1, 2)\ncall +(\"12\", 3)\n",
 );
 
-/// With a host that answers `true` once, and then throws the name of what it is asked.
-pub const TRUE_ONCE: [Row; 4] = [
+/// With a host that throws the name of what it is asked.
+pub const HOST_THROWS: [Row; 2] = [
     (
-        "[!(5), 1]\n",
-        "[!(5), 1]\n",
-        "value [true, 1]",
+        "!(5)\n!(6)\n",
+        "call !(5)\ncall !(6)\n",
+        "thrown \"!\"",
         "call !(5)\n",
     ),
     (
-        "!(5)\n!(6)\n7\n",
-        "call !(5)\ncall !(6)\n7\n",
-        "thrown \"!\"",
-        "call !(5)\ncall !(6)\n",
-    ),
-    (
-        "if !(5) { **(1, 2) } else { 7 }\n",
-        "if !(5) { call **(1, 2) } else { 7 }\n",
+        "+(**(1, 2), **(3, 4))\n",
+        "call +(**(1, 2), **(3, 4))\n",
         "thrown \"**\"",
-        "call !(5)\ncall **(1, 2)\n",
-    ),
-    (
-        "+(**(1, 2), +(3, true))\n",
-        "call +(**(1, 2), +(3, true))\n",
-        "thrown \"+\"",
-        "call **(1, 2)\ncall +(3, true)\n",
+        "call **(1, 2)\n",
     ),
 ];
 
