@@ -10,7 +10,8 @@ use Rattle.rhai_meaning.specs.Engine.{Engine}
 use Rattle.rhai_meaning.specs.Tree.{Callee, Expr, FnCall, Exprs, Stmt, If, FnCallStmt, Stmts}
 use Rattle.rhai_rewriting.specs.Context.{Context, ListKind, Inside}
 use Rattle.rhai_rewriting.specs.Rewriting.{ExprTo, same_expr, then_expr, in_call, ExprsTo, StmtTo, then_stmt, in_call_statement, in_if, StmtsTo, flag_forgotten}
-use Rattle.rhai_rewriting.specs.Steps.{ExprRun, ExprStep, ExprParts, StmtRun, StmtStep, StmtParts, EachRun, StmtsRun}
+use Rattle.rhai_rewriting.specs.Steps.{ExprRun, ExprStep, StmtRun, StmtStep, EachRun, StmtsRun}
+use Rattle.rhai_rewriting.specs.Residue.{ExprParts, StmtParts}
 use Rattle.rhai_optimizer.specs.Parts.{ExprPartsRun, StmtPartsRun}
 use Rattle.rhai_rewriting.specs.Weight.{weight}
 use Rattle.rhai_rewriting.proofs.Weights.{stmts_fall}

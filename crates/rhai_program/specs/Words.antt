@@ -3,12 +3,12 @@ use Rattle.std.specs.Prelude.{◌≡◌, ◌≢◌, ℕ, ◌+◌, ◌-◌, ◌*�
 use Rattle.std.specs.Str.{all_ascii_digits}
 use Rattle.rhai_base.specs.Value.{Text, same_text}
 use Rattle.rhai_meaning.specs.Desugar.{core_script}
+use Rattle.rhai_meaning.specs.Small.{CallsOperatorsAlone}
 use Rattle.rhai_meaning.specs.Run.{AtStatements, Report, report_of, run_script}
 use Rattle.rhai_meaning.specs.Tree.{Script}
-use Rattle.rhai_optimizer.specs.declared.optimizer.level.OptimizationLevel.{OptimizationLevel}
-use Rattle.rhai_optimizer.specs.declared.optimizer.level.OptimizationLevel.TheVariants as level
-use Rattle.rhai_run.specs.EngineInfo.{nothing_set}
-use Rattle.rhai_run.specs.Small.{small_script}
+use Rattle.rhai_optimizer.specs.declared.level.OptimizationLevel.{OptimizationLevel}
+use Rattle.rhai_optimizer.specs.declared.level.OptimizationLevel.TheVariants as level
+use Rattle.rhai_engine.specs.EngineInfo.{nothing_set}
 use Rattle.rhai_rewriting.specs.Residue.{AreReduced}
 use Rattle.rhai_rewriting.specs.Refines.{Refines}
 use Rattle.rhai_program.specs.declared.scripts.BuiltinScript.{BuiltinScript}
@@ -68,16 +68,18 @@ abbrev pub built_in : BuiltinScript → Script
 built_in script = record { statements = statements_of script; functions = [] }
 
 -- what the optimiser makes of a script, where the engine has nothing set: one that runs alike, with the same
--- functions; at level `None` the script itself, else one whose statements leave nothing to reduce
+-- functions, and that calls operators alone where the script does; at level `None` the script itself, else one whose
+-- statements leave nothing to reduce
 pub record Optimized (at : OptimizationLevel) (before after : Script) : Type 0 where
   pub runs : Refines nothing_set before after
   pub functions : after.functions ≡ before.functions
+  pub operators : CallsOperatorsAlone before → CallsOperatorsAlone after
   pub kept : at ≡ level.None → after ≡ before
   pub reduced : at ≢ level.None → AreReduced nothing_set after.statements
 
 -- what a run of a script reports: from an empty scope, with nothing set, and with the program's host
 abbrev pub reported : Script → ℕ → Report
-reported script turns = report_of AtStatements (run_script nothing_set program_host (small_script (core_script script)) AtStatements [] turns)
+reported script turns = report_of AtStatements (run_script nothing_set program_host (core_script script) AtStatements [] turns)
 
 -- a text that answers a request
 abbrev pub Answers : Request → Text → Type 0

@@ -7,10 +7,10 @@ use Rattle.rhai_meaning.specs.Engine.{Engine}
 use Rattle.rhai_meaning.specs.Tree.{Callee, Expr, DynamicConstant, BoolConstant, IntegerConstant, CharConstant, StringConstant, UnitConstant, ArrayOf, BlockExpr, FnCall, Exprs, Stmt, Noop, If, Block, ExprStmt, FnCallStmt, Stmts}
 use Rattle.rhai_rewriting.specs.Context.{Context}
 use Rattle.rhai_rewriting.specs.Folding.{folded}
-use Rattle.rhai_rewriting.specs.Residue.{IsReducedExpr, IsReduced}
+use Rattle.rhai_rewriting.specs.Residue.{IsReducedExpr, IsReduced, ExprParts, StmtParts}
 use Rattle.rhai_rewriting.specs.Rules as rule
 use Rattle.rhai_rewriting.specs.Rules.{ExprRule, StmtRule}
-use Rattle.rhai_rewriting.specs.Steps.{ExprParts, ExprFired, StmtParts, StmtFired}
+use Rattle.rhai_rewriting.specs.Steps.{ExprFired, StmtFired}
 use Rattle.rhai_rules.specs.Settled.{is_empty, is_settled_expr, is_settled_if, is_settled_stmt, folded_expr, constant_statement, folded_stmt}
 use Rattle.rhai_rules.proofs.Shapes.{not-true, braces-settled}
 
