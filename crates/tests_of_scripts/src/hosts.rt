@@ -29,28 +29,30 @@ const ROWS: [Row; 12] = [
     ("push", "[]", &[], "()", ""),
 ];
 
-fn read_receiver(alloc: Global, text: Printed) -> Result<Option<Dynamic>, Unread> {
-    if text.is_empty() {
-        return Ok(None);
+fn read_args(alloc: Global, texts: &[Printed], call: &mut HostCall) -> Result<(), Unread> {
+    for text in texts {
+        call.args.push(read_value(alloc, text)?)?;
     }
-    Ok(Some(read_value(alloc, text)?))
+    Ok(())
 }
 
-fn read_values(alloc: Global, texts: &[Printed]) -> Result<Seq<Dynamic>, Unread> {
-    let mut values = Seq::new(alloc);
-    for text in texts {
-        values.push(read_value(alloc, text)?)?;
+fn read_receiver(alloc: Global, text: Printed, call: &mut HostCall) -> Result<(), Unread> {
+    if !text.is_empty() {
+        call.receiver = Some(read_value(alloc, text)?);
     }
-    Ok(values)
+    Ok(())
 }
 
 fn read_call(alloc: Global, row: &Row) -> Result<HostCall, Unread> {
     let (called, receiver, args, _, _) = *row;
-    Ok(HostCall {
+    let mut call = HostCall {
         name: name(alloc, called)?,
-        receiver: read_receiver(alloc, receiver)?,
-        args: read_values(alloc, args)?,
-    })
+        receiver: None,
+        args: Seq::new(alloc),
+    };
+    read_receiver(alloc, receiver, &mut call)?;
+    read_args(alloc, args, &mut call)?;
+    Ok(call)
 }
 
 fn is_met(alloc: Global, row: &Row) -> Result<bool, Unread> {

@@ -3,7 +3,7 @@
 use crate::reader::{Unread, read_lines};
 use crate::trees::{list, name};
 use rhai_ast::{FnAccess, ScriptFuncDef};
-use rhai_base::{ImmutableString, OutOfMemory, Seq};
+use rhai_base::{OutOfMemory, Seq};
 use rhai_notation::{push_lines, push_script};
 use rhai_script::{AST, FnLib};
 use std::alloc::Global;
@@ -37,29 +37,22 @@ fn nodes_are_printed_as_they_are_read(rt: HostRuntime) -> Result<(), Fail> {
     Ok(())
 }
 
-/// The names `x` and `y`.
-fn params(alloc: Global) -> Result<Seq<ImmutableString>, OutOfMemory> {
-    let mut names = Seq::new(alloc);
-    names.push(name(alloc, "x")?)?;
-    names.push(name(alloc, "y")?)?;
-    Ok(names)
-}
-
-/// A function `twice`, with a receiver's type where one is named.
+/// A function `twice(x, y)` with this body, called on values of a type where one is named.
 fn twice(alloc: Global, this_type: &str, body: &str) -> Result<ScriptFuncDef, Unread> {
-    let receiver = if this_type.is_empty() {
-        None
-    } else {
-        Some(name(alloc, this_type)?)
-    };
-    Ok(ScriptFuncDef {
+    let mut function = ScriptFuncDef {
         body: list(read_lines(alloc, body)?),
         name: name(alloc, "twice")?,
-        this_type: receiver,
+        this_type: None,
         access: FnAccess::Public,
-        params: params(alloc)?,
+        params: Seq::new(alloc),
         comments: Seq::new(alloc),
-    })
+    };
+    function.params.push(name(alloc, "x")?)?;
+    function.params.push(name(alloc, "y")?)?;
+    if !this_type.is_empty() {
+        function.this_type = Some(name(alloc, this_type)?);
+    }
+    Ok(function)
 }
 
 fn push_shared(

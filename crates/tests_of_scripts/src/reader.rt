@@ -209,12 +209,12 @@ impl<'a> Reader<'a> {
     #[cycle(read)]
     fn choice(&mut self, depth: u32) -> Result<Stmt, Unread> {
         let depth = below(depth)?;
-        let condition = self.expr(depth)?;
+        let mut flow = trees::flow(self.alloc, self.expr(depth)?);
         self.expect(" ")?;
-        let body = self.block(depth)?;
+        flow.body = trees::list(self.block(depth)?);
         self.expect(" else ")?;
-        let branch = self.block(depth)?;
-        Ok(trees::choice(self.alloc, condition, body, branch)?)
+        flow.branch = trees::list(self.block(depth)?);
+        Ok(trees::choice(self.alloc, flow)?)
     }
 
     #[cycle(read)]

@@ -4,7 +4,7 @@ use crate::reader::{Unread, read_value};
 use crate::trees::name;
 use rhai_base::{Dynamic, OutOfMemory, Seq};
 use rhai_program::push_report;
-use rhai_run::{HostCall, RunEnd, RunReport, Stuck, Variable};
+use rhai_run::{HostCall, RunEnd, RunReport, Stuck};
 use std::alloc::Global;
 use std::test::Fail;
 
@@ -81,44 +81,47 @@ fn each_way_to_be_stuck_is_printed(rt: HostRuntime) -> Result<(), Fail> {
     Ok(())
 }
 
-fn variable(alloc: Global, is_constant: bool, value: &str) -> Result<Variable, Unread> {
-    Ok((name(alloc, "x")?, is_constant, read_value(alloc, value)?))
-}
-
-fn push_values(alloc: Global, texts: &[&str], values: &mut Seq<Dynamic>) -> Result<(), Unread> {
-    for text in texts {
-        values.push(read_value(alloc, text)?)?;
-    }
+fn push_variable(
+    alloc: Global,
+    is_constant: bool,
+    value: &str,
+    report: &mut RunReport,
+) -> Result<(), Unread> {
+    let value = read_value(alloc, value)?;
+    report
+        .variables
+        .push((name(alloc, "x")?, is_constant, value))?;
     Ok(())
 }
 
-fn call(alloc: Global, receiver: Option<Dynamic>, args: &[&str]) -> Result<HostCall, Unread> {
-    let mut call = HostCall {
+/// A call of `f` with no arguments.
+fn call(alloc: Global, receiver: Option<Dynamic>) -> Result<HostCall, OutOfMemory> {
+    Ok(HostCall {
         name: name(alloc, "f")?,
         receiver,
         args: Seq::new(alloc),
-    };
-    push_values(alloc, args, &mut call.args)?;
+    })
+}
+
+/// `f("1", ())`
+fn with_arguments(alloc: Global) -> Result<HostCall, Unread> {
+    let mut call = call(alloc, None)?;
+    call.args.push(read_value(alloc, "\"1\"")?)?;
+    call.args.push(Dynamic::Unit)?;
     Ok(call)
 }
 
-fn push_variables(alloc: Global, report: &mut RunReport) -> Result<(), Unread> {
-    report.variables.push(variable(alloc, false, "'é'")?)?;
-    report.variables.push(variable(alloc, true, "[1, ()]")?)?;
-    Ok(())
-}
-
 fn push_calls(alloc: Global, report: &mut RunReport) -> Result<(), Unread> {
-    report.calls.push(call(alloc, None, &["\"1\"", "()"])?)?;
-    let receiver = Some(Dynamic::Bool(true));
-    report.calls.push(call(alloc, receiver, &[])?)?;
+    report.calls.push(with_arguments(alloc)?)?;
+    report.calls.push(call(alloc, Some(Dynamic::Bool(true)))?)?;
     Ok(())
 }
 
 #[test]
 fn variables_are_printed_and_then_calls(rt: HostRuntime) -> Result<(), Fail> {
     let mut report = ended(rt.alloc(), RunEnd::Value(Dynamic::Unit), 2);
-    push_variables(rt.alloc(), &mut report)?;
+    push_variable(rt.alloc(), false, "'é'", &mut report)?;
+    push_variable(rt.alloc(), true, "[1, ()]", &mut report)?;
     push_calls(rt.alloc(), &mut report)?;
     let wanted = "end: value ()\nturns left: 2\n\
         variable x = 'é'\nconstant x = [1, ()]\ncall f(\"1\", ())\ncall true.f()\n";

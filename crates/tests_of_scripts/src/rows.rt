@@ -15,6 +15,9 @@ pub type Row = (&'static str, &'static str, &'static str, &'static str);
 /// The turns that a script of a row is run with; none of them is used.
 const TURNS: u64 = 3;
 
+/// What a script is printed as, how its run ends, and the calls that the run makes.
+type Wanted = (&'static str, &'static str, &'static str);
+
 /// Whether a script is printed as it was read and is optimised to what is wanted, and both run as is wanted.
 pub fn is_met<H: Host>(
     alloc: Global,
@@ -23,12 +26,24 @@ pub fn is_met<H: Host>(
     row: &Row,
 ) -> Result<bool, Unread> {
     let (source, optimized, end, calls) = *row;
-    let before = script(alloc, info, source, OptimizationLevel::None)?;
-    if !is_script(alloc, info, host, &before, (source, end, calls))? {
-        return Ok(false);
-    }
-    let after = script(alloc, info, source, OptimizationLevel::Simple)?;
-    is_script(alloc, info, host, &after, (optimized, end, calls))
+    let before = (source, end, calls);
+    let after = (optimized, end, calls);
+    Ok(
+        is_met_at(alloc, info, host, source, OptimizationLevel::None, before)?
+            && is_met_at(alloc, info, host, source, OptimizationLevel::Simple, after)?,
+    )
+}
+
+fn is_met_at<H: Host>(
+    alloc: Global,
+    info: &EngineInfo,
+    host: &H,
+    source: &str,
+    level: OptimizationLevel,
+    wanted: Wanted,
+) -> Result<bool, Unread> {
+    let script = script(alloc, info, source, level)?;
+    Ok(is_script(alloc, info, host, &script, wanted)?)
 }
 
 /// The script of these lines, at a level.
@@ -49,8 +64,8 @@ fn is_script<H: Host>(
     info: &EngineInfo,
     host: &H,
     script: &AST,
-    wanted: (&str, &str, &str),
-) -> Result<bool, Unread> {
+    wanted: Wanted,
+) -> Result<bool, OutOfMemory> {
     let (printed, end, calls) = wanted;
     Ok(is_printed(alloc, script, printed)? && is_run(alloc, info, host, script, end, calls)?)
 }

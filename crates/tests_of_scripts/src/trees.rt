@@ -85,16 +85,15 @@ pub fn braces(alloc: Global, statements: Vec<Stmt>) -> Result<Expr, OutOfMemory>
     Ok(Expr::Stmt(Boxed::new(alloc, list(statements))?))
 }
 
-pub fn choice(
-    alloc: Global,
-    expr: Expr,
-    body: Vec<Stmt>,
-    branch: Vec<Stmt>,
-) -> Result<Stmt, OutOfMemory> {
-    let flow = FlowControl {
+/// A choice with nothing to choose between yet.
+pub fn flow(alloc: Global, expr: Expr) -> FlowControl {
+    FlowControl {
         expr,
-        body: list(body),
-        branch: list(branch),
-    };
+        body: list(Vec::new(alloc)),
+        branch: list(Vec::new(alloc)),
+    }
+}
+
+pub fn choice(alloc: Global, flow: FlowControl) -> Result<Stmt, OutOfMemory> {
     Ok(Stmt::If(Boxed::new(alloc, flow)?, NONE))
 }
