@@ -1,5 +1,5 @@
 -- What `run` prints.
-use Rattle.std.proofs.Common.{◌≡◌, ℕ, List, [], ◌++◌, refl, ap, ◌∙◌, tt}
+use Rattle.std.proofs.Common.{◌≡◌, ℕ, List, [], ◌++◌, refl, ap, ◌∙◌}
 use Rattle.rhai_base.specs.Value.{Text}
 use Rattle.rhai_base.specs.declared.types.scope.ScopeEntry.{ScopeEntry}
 use Rattle.rhai_meaning.specs.Agreeing.{AgreeOn}
