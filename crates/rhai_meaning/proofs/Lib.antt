@@ -8,3 +8,4 @@ pub mod Agreeing
 pub mod Depths
 pub mod SameActs
 pub mod Small
+pub mod Rows

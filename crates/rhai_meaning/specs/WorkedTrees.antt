@@ -6,8 +6,8 @@ use Rattle.rhai_meaning.specs.Constants.{constant_value, constant_bool, constant
 use Rattle.rhai_meaning.specs.Faults.{is_callable, HasNoFault}
 use Rattle.rhai_meaning.specs.Queries.{is_block_dependent, is_any_dependent}
 use Rattle.rhai_meaning.specs.Tree.{CallToken, NoToken, OfOperator, OfOther, Callee, Expr, DynamicConstant, BoolConstant, IntegerConstant, CharConstant, StringConstant, UnitConstant, ArrayOf, BlockExpr, Noop, If, Block, ExprStmt, FnCallStmt, Script, exprs, stmts}
-use Rattle.rhai_meaning.specs.Walk.{Node, OfExpr, over_script, total}
-use Rattle.rhai_meaning.specs.WorkedForms.{int, call, i}
+use Rattle.rhai_meaning.specs.Walk.{OfStmt, Node, OfExpr, over_script, total}
+use Rattle.rhai_meaning.specs.WorkedForms.{op, int, call, i}
 
 abbrev callee : List ℕ → CallToken → Callee
 callee f t = record { name = f; captures = false; token = t }
@@ -35,8 +35,17 @@ all_nodes = refl
 
 -- ---- faults
 
-abbrev no_unit_constant : HasNoFault (OfExpr (DynamicConstant (BoolV true)))
-no_unit_constant = refl
+no_fault : HasNoFault (OfExpr (DynamicConstant (BoolV true)))
+no_fault = refl
+
+unit_constant : HasNoFault (OfExpr (DynamicConstant UnitV)) → ⊥
+unit_constant h = cc
+
+call_of_one : HasNoFault (OfExpr (op Plus (int 1 ∷ []))) → ⊥
+call_of_one h = cc
+
+statement_of_one : HasNoFault (OfStmt (FnCallStmt (callee (codes "+") (OfOperator Plus)) (exprs (int 1 ∷ [])))) → ⊥
+statement_of_one h = cc
 
 operator_with_token : is_callable (callee (codes "+") (OfOperator Plus)) 2 ≡ true
 operator_with_token = refl
