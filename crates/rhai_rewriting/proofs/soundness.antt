@@ -4,3 +4,4 @@ pub mod Small
 pub mod Derivation
 pub mod Scripts
 pub mod Theorem
+pub mod Unrefined

@@ -9,3 +9,5 @@ pub mod Residue
 pub mod Steps
 pub mod Refines
 pub mod WorkedWeights
+pub mod WorkedRewrites
+pub mod WorkedKnown
