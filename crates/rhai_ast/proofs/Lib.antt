@@ -1,3 +1,4 @@
+pub mod Copies
 pub mod ItemLists
 pub mod Literals
 pub mod Pointers
