@@ -1,10 +1,10 @@
 -- Operator calls by their tokens.
-use Rattle.std.proofs.Common.{◌≡◌, ℕ, ◌<◌, ◌≤◌, suc, Bool, true, false, not, ◌&&◌, cond, if◌then◌else◌, List, [], ◌∷◌, length, Option, Some, None, refl, sym, ap, ◌∙◌, arith}
+use Rattle.std.proofs.Common.{◌≡◌, ℕ, suc, Bool, true, false, not, ◌&&◌, cond, if◌then◌else◌, List, [], ◌∷◌, length, Option, Some, None, refl, sym, ap, ◌∙◌}
 use Rattle.std.proofs.lemmas.Bool.{and_parts}
 use Rattle.std.proofs.lemmas.Slice.Eq.{bytes_eq-Decides}
 use Rattle.rhai_parts.specs.declared.types.token.Token.{Token}
 use Rattle.rhai_parts.specs.declared.types.token.Token.TheVariants as token
-use Rattle.rhai_base.specs.Operators.{Operator, Plus, Minus, Multiply, Divide, Modulo, Power, ShiftLeft, ShiftRight, BitAnd, BitOr, BitXor, EqualTo, NotEqualTo, Less, Greater, LessOrEqual, GreaterOrEqual, UpTo, Through, Not, Negative, Positive, Computed, NoEntry, computed, symbol}
+use Rattle.rhai_base.specs.Operators.{Operator, Plus, Minus, Multiply, Divide, Modulo, Power, ShiftLeft, ShiftRight, BitAnd, BitOr, BitXor, EqualTo, NotEqualTo, Less, Greater, LessOrEqual, GreaterOrEqual, UpTo, Through, Not, Negative, Positive, NoEntry, symbol}
 use Rattle.rhai_base.specs.Reading.{operator_of}
 use Rattle.rhai_parts.specs.Symbols.{token_text}
 use Rattle.rhai_base.specs.Value.{Text, Value, same_text}
@@ -14,7 +14,6 @@ use Rattle.rhai_meaning.specs.ActForms.{ask_host}
 use Rattle.rhai_meaning.specs.Calls.{of_table, operate}
 use Rattle.rhai_meaning.specs.Core as core
 use Rattle.rhai_meaning.specs.Desugar.{callee_by, call_of}
-use Rattle.rhai_meaning.specs.Engine.{Engine, is_open}
 use Rattle.rhai_meaning.specs.Faults.{has_token, is_barred}
 use Rattle.rhai_parts.specs.Names.{is_among, barred}
 use Rattle.rhai_ast.specs.Reading.{exprs_of}
