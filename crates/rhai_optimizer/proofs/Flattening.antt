@@ -1,11 +1,11 @@
 -- Blocks in a list: what is done, the statements of the list in hand, and what comes after it.
-use Rattle.std.proofs.Common.{◌≡◌, ◌≤◌, Bool, true, false, List, [], ◌∷◌, ◌++◌, IsTrue, ◌↔◌, ◌||◌, refl, sym, ap, ◌∙◌, subst, arith}
+use Rattle.std.proofs.Common.{◌≡◌, ◌≤◌, Bool, true, false, List, [], ◌∷◌, ◌++◌, IsTrue, ◌↔◌, ◌||◌, not, refl, sym, ap, ◌∙◌, subst, arith}
 use Rattle.rhai_parts.specs.declared.types.position.Position.{Position}
 use Rattle.rhai_ast.specs.declared.ast.stmt.Stmt as declared_stmt
 use Rattle.rhai_ast.specs.declared.ast.stmt.Stmt.TheVariants as stmt_kind
 use Rattle.rhai_meaning.specs.Queries.{is_any_dependent}
 use Rattle.rhai_ast.specs.Reading.{stmt_of, stmts_of, stmt_of-Noop}
-use Rattle.rhai_meaning.specs.Tree.{Noop, Block, Stmts, no_stmts, stmt, joined}
+use Rattle.rhai_meaning.specs.Tree.{Stmt, Noop, Block, Stmts, no_stmts, stmt, joined}
 use Rattle.rhai_rewriting.specs.Context.{Context, ListKind, wanted, wanted_before}
 use Rattle.rhai_rewriting.specs.Rewriting.{StmtsTo, same_stmts, then_stmts, by_list_rule}
 use Rattle.rhai_rewriting.specs.Rules.{spliced, block_gives_way}
@@ -86,6 +86,13 @@ moves_noop {w = w} {d = d} {d1 = d1} done new block p e ew eb en = record {
 
 -- ---- and leave no block that gives way
 
+clear-of : (b : Bool) → true ≡ not b → b ≡ false
+clear-of true h = absurd cc
+clear-of false h = refl
+
+pub giving-block : (s : Stmt) (ss : Stmts) → s ≡ Block ss → true ≡ gives_way s → is_any_dependent ss ≡ false
+giving-block s ss e h = clear-of (is_any_dependent ss) (h ∙ ap gives_way e)
+
 pub flattens_push : {w d : Bool} (done new : List declared_stmt.Stmt) (s : declared_stmt.Stmt) → gives_way (stmt_of s) ≡ false → new ≡ done ++ s ∷ [] → Flattens w d d (stmts_of done) (stmt (stmt_of s) no_stmts) (stmts_of new)
 flattens_push done new s g e = record {
   moves = moves_push done new s e;
@@ -103,6 +110,10 @@ flattens_noop done new block p e ew eb en = record {
   moves = moves_noop done new block p e ew eb en;
   flat = λ h. subst (λ (l : List declared_stmt.Stmt). any_gives_way (stmts_of l) ≡ false) (sym en) (any-push done (stmt_kind.Noop p) (noop_stays p) h);
 }
+
+-- a statement that is spelled so
+pub flattens_as : {w d d' : Bool} {s s1 : Stmt} {done new : Stmts} → s ≡ s1 → Flattens w d d' done (stmt s1 no_stmts) new → Flattens w d d' done (stmt s no_stmts) new
+flattens_as {w = w} {d = d} {d' = d'} {done = done} {new = new} e p = subst (λ x. Flattens w d d' done (stmt x no_stmts) new) (sym e) p
 
 -- of all, the rest is to come
 pub record MovesSoFar (w d d1 : Bool) (all rest : List declared_stmt.Stmt) (done now : Stmts) : Type 0 where

@@ -103,6 +103,6 @@ stmt_item {k = k} {d = d} {d' = d'} {s = s} {s' = s'} h r = record { run = subst
 pub stmts_by : (k : Context) (m : ListKind) → ByItems stmt_weighs stmts_weigh (StmtItem k m) (StmtItems k m)
 stmts_by k m = record {
   none = record { run = record { to = same_stmts; reduced = λ h. tt } };
-  more = λ i r. record { run = record { to = then_stmts (in_head i.run.to) (in_tail r.run.to); reduced = λ h. (i.run.reduced (stmts_kept (in_tail r.run.to) h).0, r.run.reduced h) } };
+  more = λ i r. record { run = record { to = then_stmts (in_head i.run.to) (in_tail r.run.to); reduced = λ h. (i.run.reduced (stmts_kept r.run.to h).0, r.run.reduced h) } };
   heavier = λ x rest. omega arith;
 }

@@ -1,5 +1,5 @@
 -- The values of constants, taken one after another.
-use Rattle.std.proofs.Common.{◌≡◌, ◌≤◌, false, List, [], ◌∷◌, ◌++◌, map, Option, Some, None, IsSome, refl, sym, ap, ◌∙◌, subst, arith, append_assoc, append-nil}
+use Rattle.std.proofs.Common.{◌≡◌, ◌≤◌, List, [], ◌∷◌, ◌++◌, map, Option, Some, None, IsSome, refl, sym, ap, ◌∙◌, subst, arith, append_assoc, append-nil}
 use Rattle.std.proofs.lemmas.List.{map-append}
 use Rattle.rhai_base.specs.declared.types.dynamic.Dynamic.{Dynamic}
 use Rattle.rhai_base.specs.Reading.{value_of}
@@ -49,4 +49,3 @@ pub reads_end : (all rest : List declared_expr.Expr) (read : List Dynamic) → R
 reads_end all rest read r i =
     let w : Reads all [] read = subst (λ l. Reads all l read) i r in
     w.gives [] refl ∙ ap Some (append-nil (map value_of read))
-

@@ -1,6 +1,7 @@
-use Rattle.std.proofs.Common.{refl, sym, ◌∙◌}
+use Rattle.std.proofs.Common.{refl, sym, ap, ◌∙◌, arith}
 use Rattle.std.proofs.lemmas.Result.{on_ok_weaker}
-use Rattle.rhai_optimizer.proofs.Flattening.{flattens_noop, flattens_block, flattens_push, moves_start, moves_next, moves_end, empty-stmts_of, differ}
+use Rattle.rhai_optimizer.proofs.Flattening.{flattens_noop, flattens_block, flattens_push, flattens_as, giving-block, moves_start, moves_next, moves_end, empty-stmts_of, differ}
+use Rattle.rhai_rewriting.specs.Weight.{stmt_weight}
 use Rattle.rhai_optimizer.proofs.blocks.+flatten.Goals as goal
 use Rattle.rhai_optimizer.proofs.blocks.+flatten.Goals.{block_gives_way-else-is_wanted-via-then-is_wanted+else-is_empty, block_gives_way-else-is_wanted-via-else-is_wanted}
 
@@ -17,8 +18,11 @@ block_gives_way-returns t c =
 pub flatten_statement-returns-then-not-gives_way : goal.flatten_statement-returns-then-not-gives_way
 flatten_statement-returns-then-not-gives_way t c = flattens_push _ _ _ (sym c.if-not-gives_way.ensures) c.in_ok-push.ensures.ok
 
-pub flatten_statement-returns-in-Block : goal.flatten_statement-returns-in-Block
-flatten_statement-returns-in-Block t c = ?
+pub flatten_statement-block_gives_way-requires : goal.flatten_statement-block_gives_way-requires
+flatten_statement-block_gives_way-requires t c = (omega (arith, ap stmt_weight c.into_block.ensures), giving-block _ _ c.into_block.ensures c.if-not-gives_way.ensures)
+
+pub flatten_statement-returns : goal.flatten_statement-returns
+flatten_statement-returns t c = on_ok_weaker _ (flattens_as c.into_block.ensures) c.block_gives_way.ensures
 
 pub flatten_statements-loop-statement-init : goal.flatten_statements-loop-statement-init
 flatten_statements-loop-statement-init t c = moves_start

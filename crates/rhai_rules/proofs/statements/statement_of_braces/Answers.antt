@@ -1,5 +1,4 @@
-use Rattle.std.proofs.Common.{ap, ◌∙◌}
-use Rattle.rhai_ast.specs.declared.ast.stmt.StmtBlock.{StmtBlock}
+use Rattle.std.proofs.Common.{◌∙◌}
 use Rattle.rhai_ast.specs.Reading.{stmts_of, stmt_of-Block, stmt_of-Noop}
 use Rattle.rhai_rewriting.specs.Rules.{statement_of_braces}
 use Rattle.rhai_rewriting.proofs.Firing.{stmt_fires}
