@@ -1,17 +1,7 @@
 //! Shows built-in scripts before and after the optimiser, and runs them.
 #![tactic(auto)]
 
-#[cfg(test)]
-mod differential;
-mod host;
-mod notation;
-mod program;
-mod report;
-mod request;
-mod scripts;
-#[cfg(test)]
-mod trees;
-
+use rhai_program::run_words;
 use std::process::ExitCode;
 use std::rt::Env;
 use std::{env, io};
@@ -23,7 +13,7 @@ fn main(rt: HostRuntime) -> ExitCode {
         Err(error) if error.kind() == io::ErrorKind::InvalidData => Vec::new(rt.alloc()),
         Err(_) => return ExitCode::FAILURE,
     };
-    let status = program::run_words(
+    let status = run_words(
         rt.alloc(),
         words.as_slice(),
         &mut rt.stdout(),

@@ -3,6 +3,26 @@
 #![tactic(auto)]
 
 #[cfg(test)]
+mod differential;
+#[cfg(test)]
 mod engine;
 #[cfg(test)]
 mod evaluator;
+#[cfg(test)]
+mod hosts;
+#[cfg(test)]
+mod notation;
+#[cfg(test)]
+mod program;
+#[cfg(test)]
+mod reader;
+#[cfg(test)]
+mod readme;
+#[cfg(test)]
+mod reports;
+#[cfg(test)]
+mod rows;
+#[cfg(test)]
+mod table;
+#[cfg(test)]
+mod trees;

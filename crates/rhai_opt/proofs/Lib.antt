@@ -1,6 +1,0 @@
-pub mod Hosts
-pub mod Pushes
-pub mod Reports
-pub mod Runs
-pub mod Shows
-pub mod Turns

@@ -1,7 +1,0 @@
-use Rattle.rhai_opt.proofs.Shows.{optimized_built_in}
-use Rattle.rhai_opt.proofs.program.optimized.Goals as goal
-
-pub returns : goal.returns
-returns c =
-    optimized_built_in _ _ _ _ _ c.in_ok-after.after c.new-engine.ensures c.in_ok-statements.ensures c.new-functions.ensures.items
-    c.in_ok-after.ensures.same_runs c.in_ok-after.ensures.functions c.in_ok-after.ensures.kept c.in_ok-after.ensures.reduced

@@ -1,0 +1,5 @@
+pub mod Host
+pub mod Output
+pub mod Report
+pub mod Scripts
+pub mod Words
