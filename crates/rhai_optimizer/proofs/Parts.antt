@@ -26,7 +26,7 @@ call_statement_to {k = k} {w = w} {d = d} {d1 = d1} c c1 {es = es} {es1 = es1} h
 
 -- an `if`, part by part
 pub if_parts : {k : Context} {w d d1 d2 d3 : Bool} {e e' : Expr} {a a' b b' : Stmts} → ExprRun k d d1 e e' → StmtsRun k (Inside w) d1 d2 a a' → StmtsRun k (Inside w) d2 d3 b b' → d3 ≡ false → StmtParts k.engine (If e' a' b')
-if_parts p q s h = let i = (stmts_kept s.to h).0 in let j = (stmts_kept q.to i).0 in (p.reduced j, q.reduced, s.reduced)
+if_parts p q s h = let i = (stmts_kept s.to h).0 in let j = (stmts_kept q.to i).0 in (p.reduced j, (q.reduced, s.reduced))
 
 -- ---- parts first, then the node
 

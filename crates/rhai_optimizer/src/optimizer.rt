@@ -4,6 +4,7 @@ ghost use Rattle.std.specs.Rc.{rc_value};
 ghost use Rattle.rhai_ast.specs.Reading.{stmts_of};
 ghost use Rattle.rhai_engine.specs.EngineInfo.{engine_of};
 ghost use Rattle.rhai_meaning.specs.Faults.{AreWellFormed};
+ghost use Rattle.rhai_meaning.specs.Small.{CallsOperatorsAlone};
 ghost use Rattle.rhai_optimizer.specs.Source.{source_of};
 ghost use Rattle.rhai_rewriting.specs.Refines.{Refines};
 ghost use Rattle.rhai_rewriting.specs.Residue.{AreReduced};
@@ -73,10 +74,11 @@ pub fn optimize_into_ast(
     functions: Vec<Rc<ScriptFuncDef>>,
     level: OptimizationLevel,
 ) -> Result<AST, OutOfMemory>
-    ensures same_runs { IfOk result (λ ast. Refines (engine_of info.now) (source_of statements.items functions.items) (script_of ast)) }
+    ensures refines { IfOk result (λ ast. Refines (engine_of info.now) (source_of statements.items functions.items) (script_of ast)) }
     ensures reduced { level ≢ OptimizationLevel.None → IfOk result (λ ast. AreReduced (engine_of info.now) (script_of ast).statements) }
     ensures lighter { IfOk result (λ ast. weight (script_of ast).statements ≤ weight (stmts_of statements.items)) }
     ensures well_formed { IfOk result (λ ast. AreWellFormed (stmts_of statements.items) → AreWellFormed (script_of ast).statements) }
+    ensures operators { IfOk result (λ ast. CallsOperatorsAlone (source_of statements.items functions.items) → CallsOperatorsAlone (script_of ast)) }
     ensures functions { IfOk result (λ ast. ast.lib.value ≡ definitions_table (map rc_value functions.items)) }
     ensures kept { level ≡ OptimizationLevel.None → IfOk result (λ ast. ast.statements ≡ statements.items) }
 {

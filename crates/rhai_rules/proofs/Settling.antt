@@ -1,13 +1,14 @@
 -- Nodes that are settled, and calls that fold.
-use Rattle.std.proofs.Common.{◌≡◌, Bool, true, false, not, ◌&&◌, Option, Some, None, is_some, refl, sym, subst}
+use Rattle.std.proofs.Common.{◌≡◌, Bool, true, false, not, ◌&&◌, List, Option, Some, None, is_some, refl, sym, subst}
 use Rattle.std.specs.Option.{option_map}
 use Rattle.rhai_values.specs.Value.{Value}
 use Rattle.rhai_meaning.specs.Constants.{are_constant, constant_bool, constant_for, constant_values}
 use Rattle.rhai_meaning.specs.Engine.{Engine}
 use Rattle.rhai_meaning.specs.Tree.{Callee, Expr, DynamicConstant, BoolConstant, IntegerConstant, CharConstant, StringConstant, UnitConstant, ArrayOf, BlockExpr, FnCall, Exprs, Stmt, Noop, If, Block, ExprStmt, FnCallStmt, Stmts}
+use Rattle.rhai_meaning.specs.Walk.{OfExpr, OfStmt}
 use Rattle.rhai_rewriting.specs.Context.{Context}
 use Rattle.rhai_rewriting.specs.Folding.{folded}
-use Rattle.rhai_rewriting.specs.Residue.{IsReducedExpr, IsReduced, ExprParts, StmtParts}
+use Rattle.rhai_rewriting.specs.Residue.{IsReducedNode}
 use Rattle.rhai_rewriting.specs.Rules as rule
 use Rattle.rhai_rewriting.specs.Rules.{ExprRule, StmtRule}
 use Rattle.rhai_rewriting.specs.Steps.{ExprFired, StmtFired}
@@ -26,28 +27,21 @@ right-true : (a b : Bool) → a && b ≡ true → b ≡ true
 right-true true b h = h
 right-true false b h = absurd cc
 
--- ---- a settled node is reduced where its parts are
+-- ---- nothing is left to reduce at a settled node
 
-pub settled_expr : (r : Engine) (e : Expr) → is_settled_expr e ≡ true → None ≡ folded_expr r e → ExprParts r e → IsReducedExpr r e
-settled_expr r (DynamicConstant v) h n p = tt
-settled_expr r (BoolConstant b) h n p = tt
-settled_expr r (IntegerConstant i) h n p = tt
-settled_expr r (CharConstant c) h n p = tt
-settled_expr r (StringConstant t) h n p = tt
-settled_expr r UnitConstant h n p = tt
-settled_expr r (ArrayOf es) h n p = (none-of (constant_values es) (not-true (are_constant es) h), p)
-settled_expr r (BlockExpr ss) h n p = (braces-settled ss h, p)
-settled_expr r (FnCall c es) h n p = (unmapped constant_for (folded r c es) n, p)
+pub settled_expr : (r : Engine) (e : Expr) → is_settled_expr e ≡ true → None ≡ folded_expr r e → IsReducedNode r (OfExpr e)
+settled_expr r (ArrayOf es) h n = none-of (constant_values es) (not-true (are_constant es) h)
+settled_expr r (BlockExpr ss) h n = braces-settled ss h
+settled_expr r (FnCall c es) h n = unmapped constant_for (folded r c es) n
+settled_expr r _ h n = tt
 
 settled_if : (e : Expr) (a b : Stmts) → is_settled_if e a b ≡ true → constant_bool e ≡ None
 settled_if e a b h = none-of (constant_bool e) (not-true (is_some (constant_bool e)) (right-true (not (is_empty a && is_empty b)) _ h))
 
-pub settled_stmt : (r : Engine) (s : Stmt) → is_settled_stmt s ≡ true → None ≡ folded_stmt r s → StmtParts r s → IsReduced r s
-settled_stmt r Noop h n p = tt
-settled_stmt r (If e a b) h n p = (settled_if e a b h, p.0, p.1, p.2)
-settled_stmt r (Block ss) h n p = p
-settled_stmt r (ExprStmt e) h n p = p
-settled_stmt r (FnCallStmt c es) h n p = (unmapped constant_statement (folded r c es) n, p)
+pub settled_stmt : (r : Engine) (s : Stmt) → is_settled_stmt s ≡ true → None ≡ folded_stmt r s → IsReducedNode r (OfStmt s)
+settled_stmt r (If e a b) h n = settled_if e a b h
+settled_stmt r (FnCallStmt c es) h n = unmapped constant_statement (folded r c es) n
+settled_stmt r _ h n = tt
 
 -- ---- a call that folds
 

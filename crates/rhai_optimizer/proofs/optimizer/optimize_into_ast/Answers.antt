@@ -1,11 +1,12 @@
 use Rattle.std.proofs.Common.{ap, ◌∙◌}
 use Rattle.rhai_script.specs.Script.{functions_of}
 use Rattle.rhai_rewriting.proofs.soundness.Theorem.{refines, lighter}
+use Rattle.rhai_rewriting.proofs.soundness.Small.{calls_stay}
 use Rattle.rhai_rewriting.proofs.soundness.WellFormed.{stmts_well}
 use Rattle.rhai_optimizer.proofs.optimizer.optimize_into_ast.Goals as goal
 
-pub returns-clause-same_runs : goal.returns-clause-same_runs
-returns-clause-same_runs c =
+pub returns-clause-refines : goal.returns-clause-refines
+returns-clause-refines c =
     refines (rw c.new-2.ensures.statements c.in_ok-statements.ensures.to)
     (ap (λ l. functions_of l.value) c.new-2.ensures.lib ∙ ap functions_of c.in_ok-lib.ensures.ok ∙ c.in_ok-from_functions.ensures.table)
 
@@ -14,3 +15,6 @@ returns-clause-lighter c = rw c.new-2.ensures.statements (lighter c.in_ok-statem
 
 pub returns-clause-well_formed : goal.returns-clause-well_formed
 returns-clause-well_formed c = rw c.new-2.ensures.statements (stmts_well c.in_ok-statements.ensures.to)
+
+pub returns-clause-operators : goal.returns-clause-operators
+returns-clause-operators c = rw c.new-2.ensures.statements (calls_stay c.in_ok-statements.ensures.to)
