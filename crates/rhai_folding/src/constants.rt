@@ -1,6 +1,6 @@
 //! What a constant condition decides.
 
-#![tactic(auto, using(rhai_ast::specs::Reading::shapes, rhai_values::specs::Reading::kinds))]
+#![tactic(auto, using(rhai_ast::specs::Reading::shapes, rhai_values::specs::Reading::kinds, crate::proofs::Arrays::array_decides_nothing))]
 
 ghost use Rattle.std.specs.Prelude.{◌≡◌};
 ghost use Rattle.rhai_values.specs.Reading.{value_of};
