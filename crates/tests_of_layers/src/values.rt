@@ -106,17 +106,17 @@ fn appends_texts(rt: HostRuntime) -> Result<(), Fail> {
 #[test]
 fn compares_types_and_parts(rt: HostRuntime) -> Result<(), Fail> {
     for (one, other) in &DIFFERENT {
-        assert!(rt; are_different(rt.alloc(), *one, *other)?);
+        assert!(rt; are_different(rt.alloc(), one, other)?);
     }
     Ok(())
 }
 
-fn are_different(alloc: Global, one: Sample, other: Sample) -> Result<bool, Fail> {
+fn are_different(alloc: Global, one: &Sample, other: &Sample) -> Result<bool, Fail> {
     let one = one.value(alloc)?;
     differs(alloc, &one, other)
 }
 
-fn differs(alloc: Global, value: &Dynamic, other: Sample) -> Result<bool, Fail> {
+fn differs(alloc: Global, value: &Dynamic, other: &Sample) -> Result<bool, Fail> {
     let other = other.value(alloc)?;
     Ok(*value != other && !value.is_equal(&other))
 }
