@@ -123,11 +123,28 @@ fn differs(alloc: Global, value: &Dynamic, other: &Sample) -> Result<bool, Fail>
 
 #[test]
 fn points_to_functions(rt: HostRuntime) -> Result<(), Fail> {
-    assert!(rt; FnPtr::new(rt.alloc(), ImmutableString::new(rt.alloc(), "1a")?).is_none());
-    let mut pointer = FnPtr::new(rt.alloc(), ImmutableString::new(rt.alloc(), "f")?).ok_or("f")?;
-    assert!(rt; pointer.fn_name() == "f" && !pointer.is_curried());
-    pointer.add_curry(Dynamic::Int(1))?;
-    assert!(rt; pointer.is_curried() && pointer.clone()? == pointer);
-    assert!(rt; pointer.curry().len() == 1 && pointer.curry()[0] == Dynamic::Int(1));
+    assert!(rt; pointer(rt.alloc(), "1a")?.is_none());
+    let mut pointer = pointer(rt.alloc(), "f")?.ok_or("f")?;
+    assert!(rt; gains_a_value(&mut pointer)?);
     Ok(())
+}
+
+fn pointer(alloc: Global, name: &str) -> Result<Option<FnPtr>, Fail> {
+    let name = ImmutableString::new(alloc, name)?;
+    Ok(FnPtr::new(alloc, name))
+}
+
+fn gains_a_value(pointer: &mut FnPtr) -> Result<bool, Fail> {
+    let is_plain = pointer.fn_name() == "f" && !pointer.is_curried();
+    pointer.add_curry(Dynamic::Int(1))?;
+    Ok(is_plain && is_curried(pointer)?)
+}
+
+fn is_curried(pointer: &FnPtr) -> Result<bool, Fail> {
+    let copy = pointer.clone()?;
+    let has_one = match pointer.curry() {
+        [Dynamic::Int(n)] => *n == 1,
+        _ => false,
+    };
+    Ok(has_one && pointer.is_curried() && copy == *pointer)
 }
