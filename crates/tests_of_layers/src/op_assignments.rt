@@ -25,16 +25,19 @@ const POS: Position = Position::NONE;
 #[test]
 fn makes_op_assignments(rt: HostRuntime) {
     for (form, op) in &FORMS {
-        assert!(rt;
-            has_texts(OpAssignment::new_op_assignment(form, POS), form, op),
-            "{form}"
-        );
-        assert!(rt;
-            has_texts(OpAssignment::new_op_assignment_from_base(op, POS), form, op),
-            "{op}"
-        );
-        assert!(rt; is_no_form(op) && is_no_operator(form), "{form}");
+        assert!(rt; is_made(form, op), "{form}");
     }
+}
+
+fn is_made(form: &str, op: &str) -> bool {
+    has_texts(&OpAssignment::new_op_assignment(form, POS), form, op)
+        && has_texts(
+            &OpAssignment::new_op_assignment_from_base(op, POS),
+            form,
+            op,
+        )
+        && is_no_form(op)
+        && is_no_operator(form)
 }
 
 #[test]
@@ -44,7 +47,7 @@ fn refuses_other_texts(rt: HostRuntime) {
     }
 }
 
-fn has_texts(made: Result<OpAssignment, AstError>, form: &str, op: &str) -> bool {
+fn has_texts(made: &Result<OpAssignment, AstError>, form: &str, op: &str) -> bool {
     let Ok(made) = made else {
         return false;
     };
@@ -70,17 +73,24 @@ fn is_no_operator(text: &str) -> bool {
 
 #[test]
 fn makes_op_assignments_of_tokens(rt: HostRuntime) {
-    let pos = Position::new(1, 7);
-    let sum = OpAssignment::new_op_assignment_from_token(Token::PlusAssign, pos);
-    assert!(rt; sum == OpAssignment::new_op_assignment_from_base_token(&Token::Plus, pos));
-    assert!(rt; has_texts(Ok(sum), "+=", "+"));
-    assert!(rt; sum.is_op_assignment() && sum.position() == pos);
+    let sum = OpAssignment::new_op_assignment_from_token(Token::PlusAssign, here());
+    assert!(rt; is_sum(sum));
+    assert!(rt; is_sum(OpAssignment::new_op_assignment_from_base_token(&Token::Plus, here())));
+}
+
+fn is_sum(made: OpAssignment) -> bool {
+    made.is_op_assignment() && made.position() == here() && has_texts(&Ok(made), "+=", "+")
 }
 
 #[test]
 fn makes_straight_assignments(rt: HostRuntime) {
-    let pos = Position::new(1, 7);
-    let straight = OpAssignment::new_assignment(pos);
-    assert!(rt; !straight.is_op_assignment() && straight.position() == pos);
-    assert!(rt; straight.get_op_assignment_info().is_none());
+    assert!(rt; is_straight(&OpAssignment::new_assignment(here())));
+}
+
+fn is_straight(made: &OpAssignment) -> bool {
+    !made.is_op_assignment() && made.position() == here() && made.get_op_assignment_info().is_none()
+}
+
+fn here() -> Position {
+    Position::new(1, 7)
 }

@@ -7,7 +7,7 @@ use std::alloc::Global;
 const NONE: Position = Position::NONE;
 
 /// A constant without parts.
-#[derive(Clone, Copy, Debug)]
+#[derive(Clone, Copy)]
 pub enum Leaf {
     /// `()`
     Unit,
@@ -24,7 +24,7 @@ pub enum Leaf {
 }
 
 /// An expression.
-#[derive(Clone, Copy, Debug)]
+#[derive(Clone, Copy)]
 pub enum Plan {
     /// A constant.
     One(Leaf),
@@ -41,7 +41,7 @@ pub enum Plan {
 }
 
 /// A statement.
-#[derive(Clone, Copy, Debug)]
+#[derive(Clone, Copy)]
 pub enum Line {
     /// Nothing.
     Noop,

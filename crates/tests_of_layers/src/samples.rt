@@ -5,7 +5,6 @@ use std::alloc::Global;
 use std::test::Fail;
 
 /// A value that is yet to be made.
-#[derive(Clone, Copy)]
 pub enum Sample {
     /// `()`
     Unit,
@@ -37,21 +36,21 @@ pub enum Sample {
 
 impl Sample {
     /// The value.
-    pub fn value(self, alloc: Global) -> Result<Dynamic, Fail> {
+    pub fn value(&self, alloc: Global) -> Result<Dynamic, Fail> {
         match self {
             Sample::Unit => Ok(Dynamic::Unit),
-            Sample::Bool(b) => Ok(Dynamic::Bool(b)),
-            Sample::Int(n) => Ok(Dynamic::Int(n)),
-            Sample::Char(c) => Ok(Dynamic::Char(c)),
+            Sample::Bool(b) => Ok(Dynamic::Bool(*b)),
+            Sample::Int(n) => Ok(Dynamic::Int(*n)),
+            Sample::Char(c) => Ok(Dynamic::Char(*c)),
             Sample::Text(t) => Ok(text(alloc, t)?),
             Sample::Empty => Ok(Dynamic::Array(Seq::new(alloc))),
             Sample::Mixed => Ok(mixed(alloc)?),
             Sample::Members(rows) => Ok(members(alloc, rows)?),
-            Sample::Pointer(value) => Ok(Dynamic::FnPtr(pointer(alloc, value)?)),
+            Sample::Pointer(value) => Ok(Dynamic::FnPtr(pointer(alloc, *value)?)),
             Sample::ArrayOfPointer => array_of_pointer(alloc),
             Sample::MapOfPointer => map_of_pointer(alloc),
-            Sample::Range(start, end) => Ok(Dynamic::Range(start, end)),
-            Sample::RangeInclusive(start, end) => Ok(Dynamic::RangeInclusive(start, end)),
+            Sample::Range(start, end) => Ok(Dynamic::Range(*start, *end)),
+            Sample::RangeInclusive(start, end) => Ok(Dynamic::RangeInclusive(*start, *end)),
         }
     }
 }

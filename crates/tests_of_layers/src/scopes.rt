@@ -6,13 +6,15 @@ use std::test::Fail;
 
 #[test]
 fn keeps_names_in_order(rt: HostRuntime) -> Result<(), Fail> {
-    let scope = two_names(rt.alloc())?;
-    assert!(rt; scope.len() == 2);
-    let mut names = scope.iter();
-    assert!(rt; names.next() == Some(("x", false, &Dynamic::Int(1))));
-    assert!(rt; names.next() == Some(("k", true, &Dynamic::Unit)));
-    assert!(rt; names.next().is_none());
+    assert!(rt; are_two(&two_names(rt.alloc())?));
     Ok(())
+}
+
+fn are_two(scope: &Scope) -> bool {
+    let mut names = scope.iter();
+    let first = matches!(names.next(), Some(("x", false, Dynamic::Int(1))));
+    let second = matches!(names.next(), Some(("k", true, Dynamic::Unit)));
+    scope.len() == 2 && first && second && names.next().is_none()
 }
 
 /// A variable and a constant.

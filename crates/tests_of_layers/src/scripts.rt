@@ -11,7 +11,6 @@ const NONE: Position = Position::NONE;
 
 /// A function without statements: its name, its parameters, the type of its receiver, and a comment to know
 /// it by.
-#[derive(Debug)]
 struct Row(
     &'static str,
     &'static [&'static str],
@@ -75,9 +74,19 @@ fn texts(alloc: Global, texts: &[&str]) -> Result<Seq<ImmutableString>, OutOfMem
 fn functions(alloc: Global) -> Result<Vec<Rc<ScriptFuncDef>>, OutOfMemory> {
     let mut functions = Vec::new(alloc);
     for row in &ROWS {
-        functions.push(Rc::new(alloc, function(alloc, row)?.clone()?)?)?;
+        functions.push(shared(alloc, row)?)?;
     }
     Ok(functions)
+}
+
+/// A copy of the function, to be shared.
+fn shared(alloc: Global, row: &Row) -> Result<Rc<ScriptFuncDef>, OutOfMemory> {
+    let copy = copied(&function(alloc, row)?)?;
+    Ok(Rc::new(alloc, copy)?)
+}
+
+fn copied(function: &ScriptFuncDef) -> Result<ScriptFuncDef, OutOfMemory> {
+    Ok(function.clone()?)
 }
 
 fn has_comment(function: &ScriptFuncDef, wanted: &str) -> bool {
@@ -89,12 +98,23 @@ fn has_comment(function: &ScriptFuncDef, wanted: &str) -> bool {
 
 #[test]
 fn a_later_function_takes_the_place_of_its_key(rt: HostRuntime) -> Result<(), Fail> {
-    let lib = FnLib::from_functions(rt.alloc(), functions(rt.alloc())?)?;
-    assert!(rt; lib.len() == WANTED.len() && !lib.is_empty());
-    for (function, wanted) in lib.iter().zip(WANTED) {
-        assert!(rt; has_comment(function, wanted), "{wanted}");
-    }
+    assert!(rt; is_kept(&table(rt.alloc())?));
     Ok(())
+}
+
+fn table(alloc: Global) -> Result<FnLib, OutOfMemory> {
+    FnLib::from_functions(alloc, functions(alloc)?)
+}
+
+fn is_kept(lib: &FnLib) -> bool {
+    let mut functions = lib.iter();
+    for wanted in &WANTED {
+        match functions.next() {
+            Some(function) if has_comment(function, wanted) => {}
+            _ => return false,
+        }
+    }
+    lib.len() == WANTED.len() && !lib.is_empty()
 }
 
 #[test]
@@ -105,21 +125,32 @@ fn an_empty_table(rt: HostRuntime) {
 
 #[test]
 fn a_key_equals_its_clone(rt: HostRuntime) -> Result<(), Fail> {
-    let key = FnKey {
-        name: ImmutableString::new(rt.alloc(), "f")?,
+    let name = ImmutableString::new(rt.alloc(), "f")?;
+    assert!(rt; is_copied(&key(name))?);
+    Ok(())
+}
+
+fn key(name: ImmutableString) -> FnKey {
+    FnKey {
+        name,
         params: 1,
         this_type: None,
-    };
-    assert!(rt; key == key.clone()?);
-    Ok(())
+    }
+}
+
+fn is_copied(key: &FnKey) -> Result<bool, OutOfMemory> {
+    Ok(key.clone()? == *key)
 }
 
 #[test]
 fn a_script_holds_its_statements_and_its_table(rt: HostRuntime) -> Result<(), Fail> {
-    let script = script(rt.alloc())?;
-    assert!(rt; is_script(&script));
-    assert!(rt; is_script(&script.clone()?));
+    assert!(rt; is_held(&script(rt.alloc())?)?);
     Ok(())
+}
+
+fn is_held(script: &AST) -> Result<bool, OutOfMemory> {
+    let copy = script.clone()?;
+    Ok(is_script(script) && is_script(&copy))
 }
 
 fn script(alloc: Global) -> Result<AST, OutOfMemory> {

@@ -26,25 +26,36 @@ const ROWS: [(Line, bool); 11] = [
 #[test]
 fn statements_that_may_add_names_belong_to_their_block(rt: HostRuntime) -> Result<(), Fail> {
     for row in &ROWS {
-        assert!(rt; belongs(rt.alloc(), row)?, "{row:?}");
+        assert!(rt; belongs(rt.alloc(), row)?);
     }
     Ok(())
 }
 
 fn belongs(alloc: Global, (line, wanted): &(Line, bool)) -> Result<bool, OutOfMemory> {
     let statement = statement(alloc, line)?;
+    Ok(statement.is_block_dependent() == *wanted && is_copied(&statement, *wanted)?)
+}
+
+fn is_copied(statement: &Stmt, wanted: bool) -> Result<bool, OutOfMemory> {
     let copy = statement.clone()?;
-    Ok(statement.is_block_dependent() == *wanted && copy.is_block_dependent() == *wanted)
+    Ok(copy.is_block_dependent() == wanted)
 }
 
 #[test]
 fn a_block_holds_its_statements(rt: HostRuntime) -> Result<(), Fail> {
-    let (start, end) = (Position::new(1, 2), Position::new(3, 4));
-    let block = block(rt.alloc(), start, end)?;
-    assert!(rt; is_block(&block, start, end));
-    assert!(rt; is_block(&block.clone()?, start, end));
-    assert!(rt; StmtBlock::new(Vec::new(rt.alloc()), start, end).is_empty());
+    assert!(rt; holds_two(rt.alloc(), Position::new(1, 2), Position::new(3, 4))?);
+    assert!(rt; StmtBlock::new(Vec::new(rt.alloc()), NONE, NONE).is_empty());
     Ok(())
+}
+
+fn holds_two(alloc: Global, start: Position, end: Position) -> Result<bool, OutOfMemory> {
+    let block = block(alloc, start, end)?;
+    Ok(is_block(&block, start, end) && is_block_copied(&block, start, end)?)
+}
+
+fn is_block_copied(block: &StmtBlock, start: Position, end: Position) -> Result<bool, OutOfMemory> {
+    let copy = block.clone()?;
+    Ok(is_block(&copy, start, end))
 }
 
 fn block(alloc: Global, start: Position, end: Position) -> Result<StmtBlock, OutOfMemory> {
@@ -67,23 +78,30 @@ fn is_block(block: &StmtBlock, start: Position, end: Position) -> bool {
 
 #[test]
 fn a_choice_is_copied_with_its_blocks(rt: HostRuntime) -> Result<(), Fail> {
-    let choice = choice(rt.alloc())?;
-    assert!(rt; is_choice(&choice));
-    assert!(rt; is_choice(&choice.clone()?));
+    assert!(rt; is_chosen(rt.alloc())?);
     Ok(())
 }
 
-fn choice(alloc: Global) -> Result<FlowControl, OutOfMemory> {
-    let statements = vec![in alloc; Stmt::Noop(NONE)]?;
-    Ok(FlowControl {
+fn is_chosen(alloc: Global) -> Result<bool, OutOfMemory> {
+    let choice = choice(alloc, block(alloc, NONE, NONE)?);
+    Ok(is_choice(&choice) && is_choice_copied(&choice)?)
+}
+
+fn is_choice_copied(choice: &FlowControl) -> Result<bool, OutOfMemory> {
+    let copy = choice.clone()?;
+    Ok(is_choice(&copy))
+}
+
+fn choice(alloc: Global, body: StmtBlock) -> FlowControl {
+    FlowControl {
         expr: Expr::BoolConstant(true, NONE),
-        body: StmtBlock::new(statements, NONE, NONE),
+        body,
         branch: StmtBlock::new(Vec::new(alloc), NONE, NONE),
-    })
+    }
 }
 
 fn is_choice(choice: &FlowControl) -> bool {
     matches!(&choice.expr, Expr::BoolConstant(true, _))
-        && choice.body.len() == 1
+        && choice.body.len() == 2
         && choice.branch.is_empty()
 }

@@ -106,28 +106,45 @@ fn appends_texts(rt: HostRuntime) -> Result<(), Fail> {
 #[test]
 fn compares_types_and_parts(rt: HostRuntime) -> Result<(), Fail> {
     for (one, other) in &DIFFERENT {
-        assert!(rt; are_different(rt.alloc(), *one, *other)?);
+        assert!(rt; are_different(rt.alloc(), one, other)?);
     }
     Ok(())
 }
 
-fn are_different(alloc: Global, one: Sample, other: Sample) -> Result<bool, Fail> {
+fn are_different(alloc: Global, one: &Sample, other: &Sample) -> Result<bool, Fail> {
     let one = one.value(alloc)?;
     differs(alloc, &one, other)
 }
 
-fn differs(alloc: Global, value: &Dynamic, other: Sample) -> Result<bool, Fail> {
+fn differs(alloc: Global, value: &Dynamic, other: &Sample) -> Result<bool, Fail> {
     let other = other.value(alloc)?;
     Ok(*value != other && !value.is_equal(&other))
 }
 
 #[test]
 fn points_to_functions(rt: HostRuntime) -> Result<(), Fail> {
-    assert!(rt; FnPtr::new(rt.alloc(), ImmutableString::new(rt.alloc(), "1a")?).is_none());
-    let mut pointer = FnPtr::new(rt.alloc(), ImmutableString::new(rt.alloc(), "f")?).ok_or("f")?;
-    assert!(rt; pointer.fn_name() == "f" && !pointer.is_curried());
-    pointer.add_curry(Dynamic::Int(1))?;
-    assert!(rt; pointer.is_curried() && pointer.clone()? == pointer);
-    assert!(rt; pointer.curry().len() == 1 && pointer.curry()[0] == Dynamic::Int(1));
+    assert!(rt; pointer(rt.alloc(), "1a")?.is_none());
+    let mut pointer = pointer(rt.alloc(), "f")?.ok_or("f")?;
+    assert!(rt; gains_a_value(&mut pointer)?);
     Ok(())
+}
+
+fn pointer(alloc: Global, name: &str) -> Result<Option<FnPtr>, Fail> {
+    let name = ImmutableString::new(alloc, name)?;
+    Ok(FnPtr::new(alloc, name))
+}
+
+fn gains_a_value(pointer: &mut FnPtr) -> Result<bool, Fail> {
+    let is_plain = pointer.fn_name() == "f" && !pointer.is_curried();
+    pointer.add_curry(Dynamic::Int(1))?;
+    Ok(is_plain && is_curried(pointer)?)
+}
+
+fn is_curried(pointer: &FnPtr) -> Result<bool, Fail> {
+    let copy = pointer.clone()?;
+    let has_one = match pointer.curry() {
+        [Dynamic::Int(n)] => *n == 1,
+        _ => false,
+    };
+    Ok(has_one && pointer.is_curried() && copy == *pointer)
 }
