@@ -13,6 +13,8 @@ mod hosts;
 #[cfg(test)]
 mod notation;
 #[cfg(test)]
+mod optimizer;
+#[cfg(test)]
 mod program;
 #[cfg(test)]
 mod reader;

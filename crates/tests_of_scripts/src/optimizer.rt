@@ -1,7 +1,7 @@
 //! What the table of scripts does not say of the optimiser: levels, functions, depth, length, positions, memory, and each
 //! of its calls below the entry.
 
-use crate::trees::{NONE, block, call, choice, integer, list, name, statement};
+use crate::trees::{NONE, block, call, choice, flow, integer, list, name, statement};
 use rhai_ast::{Expr, FnAccess, ScriptFuncDef, Stmt};
 use rhai_base::{Boxed, Dynamic, INT, OutOfMemory, Position, Scope, Seq, Span, Token};
 use rhai_folding::{constant_bool, folded};
@@ -137,8 +137,9 @@ fn nested(alloc: Global) -> Result<Vec<Stmt>, OutOfMemory> {
 }
 
 fn certain(alloc: Global, inner: Stmt) -> Result<Stmt, OutOfMemory> {
-    let body = vec![in alloc; inner]?;
-    choice(alloc, Expr::BoolConstant(true, NONE), body, Vec::new(alloc))
+    let mut parts = flow(alloc, Expr::BoolConstant(true, NONE));
+    parts.body = list(vec![in alloc; inner]?);
+    choice(alloc, parts)
 }
 
 #[test]
@@ -213,13 +214,12 @@ fn list_of_asked(alloc: Global) -> Result<Seq<Expr>, OutOfMemory> {
 
 /// A script of each kind of node in which nothing is to be reduced.
 fn settled(alloc: Global) -> Result<Seq<Stmt>, OutOfMemory> {
-    let (body, branch) = (
-        vec![in alloc; asked_statement(alloc)?]?,
-        vec![in alloc; asked_statement(alloc)?]?,
-    );
+    let mut parts = flow(alloc, asked(alloc)?);
+    parts.body = list(vec![in alloc; asked_statement(alloc)?]?);
+    parts.branch = list(vec![in alloc; asked_statement(alloc)?]?);
     let statements = vec![in alloc;
         asked_statement(alloc)?,
-        choice(alloc, asked(alloc)?, body, branch)?,
+        choice(alloc, parts)?,
         statement(alloc, integer(1))?,
     ]?;
     Ok(Seq::from_vec(statements))
