@@ -242,4 +242,3 @@ pub fn push_script(script: &AST, text: &mut String) -> Result<(), OutOfMemory>
     }
     Ok(())
 }
-
