@@ -3,3 +3,4 @@ pub mod Preserves
 pub mod Monotone
 pub mod Ends
 pub mod Sequencing
+pub mod Walk

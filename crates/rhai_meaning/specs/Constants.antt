@@ -1,16 +1,35 @@
--- Constants, their values, and the constant for a value.
-use Rattle.std.specs.Prelude.{Bool, true, false, List, [], ◌∷◌, Option, Some, None, codes, is_some}
-use Rattle.rhai_base.specs.Value.{Text, Value, UnitV, BoolV, IntV, CharV, TextV, ArrayV, PointerV, no_values, values}
+-- Constants and literals, their values, and the constant for a value.
+use Rattle.std.specs.Prelude.{Bool, true, false, List, [], ◌∷◌, Option, Some, None, codes, is_some, ℤ, pos, if◌then◌else◌}
+use Rattle.rhai_base.specs.Value.{Text, Value, UnitV, BoolV, IntV, CharV, TextV, ArrayV, MapV, PointerV, RangeV, RangeInclusiveV, no_values, values, same_text}
+use Rattle.rhai_base.specs.Operators.{greatest}
+use Rattle.rhai_parts.specs.Names.{is_valid_name}
 use Rattle.rhai_meaning.specs.ActForms.{truth}
-use Rattle.rhai_meaning.specs.Tree.{NoToken, Expr, DynamicConstant, BoolConstant, IntegerConstant, CharConstant, StringConstant, UnitConstant, ArrayOf, BlockExpr, FnCall, Exprs, no_exprs, expr}
+use Rattle.rhai_meaning.specs.Control.{texts_joined}
+use Rattle.rhai_meaning.specs.Elements.{fields_of}
+use Rattle.rhai_meaning.specs.Shape.{is_none}
+use Rattle.rhai_meaning.specs.Tree.{NoToken, Expr, DynamicConstant, BoolConstant, IntegerConstant, CharConstant, StringConstant, UnitConstant, InterpolatedString, ArrayOf, MapOf, FnCall, Exprs, no_exprs, expr, Pairs, no_pairs, pair}
+
+-- ---- constants
 
 abbrev pub array_value : Option (List Value) → Option Value
 array_value (Some vs) = Some (ArrayV (values vs))
 array_value None = None
 
+abbrev pub map_value : Option (List (Text × Value)) → Option Value
+map_value (Some vs) = Some (MapV (fields_of vs))
+map_value None = None
+
+abbrev pub joined_value : Option (List Value) → Option Value
+joined_value (Some vs) = Some (TextV (texts_joined vs))
+joined_value None = None
+
 abbrev pub value_and : Option Value → Option (List Value) → Option (List Value)
 value_and (Some v) (Some vs) = Some (v ∷ vs)
 value_and _ _ = None
+
+abbrev pub entry_and : Text → Option Value → Option (List (Text × Value)) → Option (List (Text × Value))
+entry_and k (Some v) (Some vs) = Some ((k, v) ∷ vs)
+entry_and k _ _ = None
 
 -- the value of a constant; None: no constant
 abbrev mutual
@@ -21,13 +40,18 @@ abbrev mutual
   constant_value (CharConstant c) = Some (CharV c)
   constant_value (StringConstant t) = Some (TextV t)
   constant_value UnitConstant = Some UnitV
+  constant_value (InterpolatedString es) = joined_value (constant_values es)
   constant_value (ArrayOf es) = array_value (constant_values es)
-  constant_value (BlockExpr ss) = None
-  constant_value (FnCall c es) = None
+  constant_value (MapOf ps template) = map_value (constant_entries ps)
+  constant_value _ = None
 
   pub constant_values : Exprs → Option (List Value)
   constant_values no_exprs = Some []
   constant_values (expr e es) = value_and (constant_value e) (constant_values es)
+
+  pub constant_entries : Pairs → Option (List (Text × Value))
+  constant_entries no_pairs = Some []
+  constant_entries (pair k e ps) = entry_and k (constant_value e) (constant_entries ps)
 
 abbrev pub is_constant : Expr → Bool
 is_constant e = is_some (constant_value e)
@@ -47,9 +71,47 @@ abbrev pub is_literal_unit : Expr → Bool
 is_literal_unit UnitConstant = true
 is_literal_unit _ = false
 
+-- ---- literals
+
+-- an integer, or None where it is left out
+abbrev pub Bound : Type 0
+Bound = Option ℤ
+
+-- None: no end of a literal range
+abbrev pub bound : Expr → Option Bound
+bound (IntegerConstant n) = Some (Some n)
+bound UnitConstant = Some None
+bound _ = None
+
+-- at most one end is left out
+abbrev pub range_value : (ℤ → ℤ → Value) → Option Bound → Option Bound → Option Value
+range_value range (Some (Some a)) (Some (Some b)) = Some (range a b)
+range_value range (Some (Some a)) (Some None) = Some (range a greatest)
+range_value range (Some None) (Some (Some b)) = Some (range (pos 0) b)
+range_value range _ _ = None
+
+abbrev pub pointer_value : Expr → Option Value
+pointer_value (StringConstant t) = if is_valid_name t then Some (PointerV t no_values) else None
+pointer_value _ = None
+
+-- `Fn` of a valid name, and ranges between literal ends
+abbrev pub call_value : Text → Exprs → Option Value
+call_value f (expr a no_exprs) = if same_text f (codes "Fn") then pointer_value a else None
+call_value f (expr a (expr b no_exprs)) =
+    if same_text f (codes "..") then range_value RangeV (bound a) (bound b)
+    else (if same_text f (codes "..=") then range_value RangeInclusiveV (bound a) (bound b) else None)
+call_value f _ = None
+
+-- the value of a literal: of a constant, or of a call that makes a pointer or a range
+abbrev pub literal_value : Expr → Option Value
+literal_value (FnCall c es) = if is_none c.namespace then call_value c.name es else None
+literal_value e = constant_value e
+
+-- ---- the constant for a value
+
 -- the call that makes a pointer to the function of a name
 abbrev pub pointer_call : Text → Expr
-pointer_call f = FnCall (record { name = codes "Fn"; captures = false; token = NoToken }) (expr (StringConstant f) no_exprs)
+pointer_call f = FnCall (record { namespace = []; name = codes "Fn"; captures = false; token = NoToken }) (expr (StringConstant f) no_exprs)
 
 -- the expression for a value: a constant, but for a pointer without values, which is the call that makes it
 abbrev pub constant_for : Value → Expr

@@ -48,9 +48,13 @@ with_entry (field l v fs) k w =
     if same_text l k then field k w fs
     else (if text_lt k l then field k w (field l v fs) else field l v (with_entry fs k w))
 
+-- entries added one after another, the later of two with one key in place of the earlier
+abbrev pub with_entries : Fields → List (Text × Value) → Fields
+with_entries fs [] = fs
+with_entries fs (p ∷ ps) = with_entries (with_entry fs p.0 p.1) ps
+
 abbrev pub fields_of : List (Text × Value) → Fields
-fields_of [] = no_fields
-fields_of (p ∷ ps) = with_entry (fields_of ps) p.0 p.1
+fields_of ps = with_entries no_fields ps
 
 unfoldable pub character : Text → ℤ → Option Value
 unfolding chars

@@ -1,56 +1,183 @@
--- Which nodes have a meaning, and which trees are well-formed: tests that run nothing.
-use Rattle.std.specs.Prelude.{◌≡◌, ℕ, Bool, true, false, not, ◌&&◌, ◌==◌}
-use Rattle.rhai_base.specs.Value.{Value, UnitV, same_text}
-use Rattle.rhai_base.specs.Operators.{symbol, arity}
-use Rattle.rhai_parts.specs.Names.{is_among, symbols, barred}
-use Rattle.rhai_meaning.specs.Tree.{CallToken, NoToken, OfOperator, OfOther, Callee, Expr, DynamicConstant, BoolConstant, IntegerConstant, CharConstant, StringConstant, UnitConstant, ArrayOf, BlockExpr, FnCall, Exprs, no_exprs, expr, count_exprs, Stmt, Noop, If, Block, ExprStmt, FnCallStmt, Stmts, no_stmts, stmt}
+-- Which trees are well-formed, and what is wrong with others: tests that run nothing.
+use Rattle.std.specs.Prelude.{◌≡◌, ℕ, Bool, true, false, not, ◌&&◌, ◌||◌, List, [], ◌∷◌, Option, Some, None, if◌then◌else◌}
+use Rattle.rhai_base.specs.Value.{Text}
+use Rattle.rhai_parts.specs.Names.{is_among, reserved, symbols}
+use Rattle.rhai_meaning.specs.Engine.{or_else}
+use Rattle.rhai_meaning.specs.Shape.{is_unit, has_token, is_rest, is_table, is_left_side, catch_name, keys, are_distinct, are_among}
+use Rattle.rhai_meaning.specs.Tree.{Callee, Expr, DynamicConstant, MapOf, Property, MethodCall, FnCall, Dot, Index, And, Or, Coalesce, Exprs, no_exprs, expr, count_exprs, Stmt, Switch, Assignment, FnCallStmt, TryCatch, BreakLoop, Stmts, Function, Script}
+use Rattle.rhai_meaning.specs.Walk.{Node, OfExpr, OfStmt, Spot, LoopBody, LeftSide, RightSide, Walk, over_expr, over_exprs, over_stmt, over_stmts, arms_at, listed}
 
--- ---- one node
+pub data TreeFault : Type 0 where
+  DuplicateMapKey : TreeFault
+  MapTemplate : TreeFault
+  NoOperands : TreeFault
+  UnitAsConstant : TreeFault
+  BreakOutsideLoop : TreeFault
+  ReservedName : TreeFault
+  ChainShape : TreeFault
+  AssignTarget : TreeFault
+  OperatorName : TreeFault
+  CatchName : TreeFault
+  SwitchFault : TreeFault
 
--- a constant of its own stands for unit
-abbrev pub is_unit : Value → Bool
-is_unit UnitV = true
-is_unit _ = false
+abbrev pub number_of : TreeFault → ℕ
+number_of DuplicateMapKey = 20
+number_of MapTemplate = 21
+number_of NoOperands = 22
+number_of UnitAsConstant = 23
+number_of BreakOutsideLoop = 24
+number_of ReservedName = 25
+number_of ChainShape = 26
+number_of AssignTarget = 27
+number_of OperatorName = 28
+number_of CatchName = 29
+number_of SwitchFault = 31
 
--- An operator's token has its own name and its count of arguments; an operator's name has its token.
-abbrev pub has_token : Callee → ℕ → CallToken → Bool
-has_token c n NoToken = not (is_among c.name symbols)
-has_token c n (OfOperator op) = same_text c.name (symbol op) && n == arity op && not c.captures
-has_token c n OfOther = false
+-- ---- what stands around a node
 
--- a plain script doesn't call these
-abbrev pub is_barred : Callee → Bool
-is_barred c = is_among c.name barred
+-- a whole expression; the property or method of a `Dot`; the rest of a chain, whose left side is a `Dot`'s argument or not
+pub data Role : Type 0 where
+  Whole : Role
+  Member : Role
+  Rest : Bool → Role
 
-abbrev pub is_callable : Callee → ℕ → Bool
-is_callable c n = has_token c n c.token && not (is_barred c)
+-- whether a loop's body stands around, in the same function
+pub record Around : Type 0 where
+  pub in_loop : Bool
+  pub role : Role
+
+abbrev pub outermost : Around
+outermost = record { in_loop = false; role = Whole }
+
+abbrev pub left_role : Role → Role
+left_role (Rest true) = Member
+left_role _ = Whole
+
+abbrev pub right_role : (dot breaks : Bool) → Expr → Role
+right_role dot true r = if dot then Member else Whole
+right_role dot false (Dot k l r) = Rest dot
+right_role dot false (Index k l r) = Rest dot
+right_role dot false _ = if dot then Member else Whole
+
+abbrev pub around_spot : Spot → Around → Around
+around_spot LoopBody a = record a { in_loop = true }
+around_spot LeftSide a = record a { role = left_role a.role }
+around_spot (RightSide dot k r) a = record a { role = right_role dot k.breaks r }
+
+-- around the parts of a node: whole expressions, but for the sides of a `Dot` or an `Index`
+abbrev pub around_parts : Node → Around → Around
+around_parts (OfExpr (Dot k l r)) a = a
+around_parts (OfExpr (Index k l r)) a = a
+around_parts _ a = record a { role = Whole }
+
+-- ---- the fault of one node
+
+infixr 20 ◌then◌
+abbrev pub ◌then◌ : Option TreeFault → Option TreeFault → Option TreeFault
+a then b = or_else a b
+
+abbrev pub unless : Bool → TreeFault → Option TreeFault
+unless true f = None
+unless false f = Some f
+
+abbrev pub has_operands : Exprs → Bool
+has_operands no_exprs = false
+has_operands (expr e es) = true
+
+abbrev pub is_catch : Option (Option Text) → Bool
+is_catch None = false
+is_catch (Some x) = true
+
+abbrev pub call_fault : Callee → ℕ → Option TreeFault
+call_fault c n = unless (has_token c n c.token) OperatorName
+
+abbrev pub map_fault : List Text → List Text → Option TreeFault
+map_fault ks template = unless (are_distinct ks) DuplicateMapKey then unless (are_among ks template && are_among template ks) MapTemplate
+
+abbrev pub is_member_role : Role → Bool
+is_member_role Member = true
+is_member_role _ = false
+
+-- a chain is tested at its outermost node
+abbrev pub is_inside_chain : Role → Bool
+is_inside_chain (Rest dot) = true
+is_inside_chain _ = false
+
+abbrev pub expr_fault : Around → Expr → Option TreeFault
+expr_fault a (DynamicConstant v) = unless (not (is_unit v)) UnitAsConstant
+expr_fault a (MapOf ps template) = map_fault (keys ps) template
+expr_fault a (Property p) = unless (is_member_role a.role) ChainShape
+expr_fault a (MethodCall c es) = unless (is_member_role a.role) ChainShape then call_fault c (count_exprs es)
+expr_fault a (FnCall c es) = call_fault c (count_exprs es)
+expr_fault a (Dot k l r) = unless (is_inside_chain a.role || is_rest true k.breaks r) ChainShape
+expr_fault a (Index k l r) = unless (is_inside_chain a.role || is_rest false k.breaks r) ChainShape
+expr_fault a (And es) = unless (has_operands es) NoOperands
+expr_fault a (Or es) = unless (has_operands es) NoOperands
+expr_fault a (Coalesce es) = unless (has_operands es) NoOperands
+expr_fault a _ = None
+
+abbrev pub stmt_fault : Around → Stmt → Option TreeFault
+stmt_fault a (Switch e as' t) = unless (is_table as' t) SwitchFault
+stmt_fault a (Assignment op l e) = unless (is_left_side l) AssignTarget
+stmt_fault a (FnCallStmt c es) = call_fault c (count_exprs es)
+stmt_fault a (TryCatch x b c) = unless (is_catch (catch_name x)) CatchName
+stmt_fault a (BreakLoop breaks m) = unless a.in_loop BreakOutsideLoop
+stmt_fault a _ = None
+
+-- the smallest of a node
+abbrev pub fault_of : Around → Node → Option TreeFault
+fault_of a (OfExpr e) = expr_fault a e
+fault_of a (OfStmt s) = stmt_fault a s
 
 -- ---- trees
 
--- no node has a fault
-abbrev mutual
-  pub IsWellFormedExpr : Expr → Type 0
-  IsWellFormedExpr (DynamicConstant v) = is_unit v ≡ false
-  IsWellFormedExpr (BoolConstant b) = Unit {0}
-  IsWellFormedExpr (IntegerConstant n) = Unit {0}
-  IsWellFormedExpr (CharConstant c) = Unit {0}
-  IsWellFormedExpr (StringConstant t) = Unit {0}
-  IsWellFormedExpr UnitConstant = Unit {0}
-  IsWellFormedExpr (ArrayOf es) = AreWellFormedExprs es
-  IsWellFormedExpr (BlockExpr ss) = AreWellFormed ss
-  IsWellFormedExpr (FnCall c es) = (has_token c (count_exprs es) c.token ≡ true) × AreWellFormedExprs es
+-- at no node stands a fault
+abbrev pub faultless : Walk (Around → Type 0)
+faultless = record {
+  none = λ a. Unit {0};
+  both = λ p q a. p a × q a;
+  node = λ n p a. (fault_of a n ≡ None) × p (around_parts n a);
+  within = λ s p a. p (around_spot s a);
+  arms = λ t ps. arms_at (λ a. Unit {0}) (λ p q a. p a × q a) ps (listed t);
+}
 
-  pub AreWellFormedExprs : Exprs → Type 0
-  AreWellFormedExprs no_exprs = Unit {0}
-  AreWellFormedExprs (expr e es) = IsWellFormedExpr e × AreWellFormedExprs es
+abbrev pub IsWellFormedExpr : Around → Expr → Type 0
+IsWellFormedExpr a e = over_expr faultless e a
 
-  pub IsWellFormed : Stmt → Type 0
-  IsWellFormed Noop = Unit {0}
-  IsWellFormed (If c a b) = IsWellFormedExpr c × AreWellFormed a × AreWellFormed b
-  IsWellFormed (Block ss) = AreWellFormed ss
-  IsWellFormed (ExprStmt e) = IsWellFormedExpr e
-  IsWellFormed (FnCallStmt c es) = (has_token c (count_exprs es) c.token ≡ true) × AreWellFormedExprs es
+abbrev pub AreWellFormedExprs : Around → Exprs → Type 0
+AreWellFormedExprs a es = over_exprs faultless es a
 
-  pub AreWellFormed : Stmts → Type 0
-  AreWellFormed no_stmts = Unit {0}
-  AreWellFormed (stmt s ss) = IsWellFormed s × AreWellFormed ss
+abbrev pub IsWellFormed : Around → Stmt → Type 0
+IsWellFormed a s = over_stmt faultless s a
+
+abbrev pub AreWellFormed : Around → Stmts → Type 0
+AreWellFormed a ss = over_stmts faultless ss a
+
+-- a name that no function may have
+abbrev pub is_reserved : Text → Bool
+is_reserved f = is_among f reserved || is_among f symbols
+
+abbrev pub AreWellFormedFunctions : List Function → Type 0
+AreWellFormedFunctions [] = Unit {0}
+AreWellFormedFunctions (f ∷ fs) = (is_reserved f.name ≡ false) × AreWellFormed outermost f.body × AreWellFormedFunctions fs
+
+abbrev pub IsWellFormedScript : Script → Type 0
+IsWellFormedScript p = AreWellFormed outermost p.statements × AreWellFormedFunctions p.functions
+
+-- the first fault in the walk's order
+abbrev pub finding : Walk (Around → Option TreeFault)
+finding = record {
+  none = λ a. None;
+  both = λ p q a. p a then q a;
+  node = λ n p a. fault_of a n then p (around_parts n a);
+  within = λ s p a. p (around_spot s a);
+  arms = λ t ps. arms_at (λ a. None) (λ p q a. p a then q a) ps (listed t);
+}
+
+-- a function's name before its body
+abbrev pub functions_fault : List Function → Option TreeFault
+functions_fault [] = None
+functions_fault (f ∷ fs) = unless (not (is_reserved f.name)) ReservedName then (over_stmts finding f.body outermost then functions_fault fs)
+
+abbrev pub script_fault : Script → Option TreeFault
+script_fault p = over_stmts finding p.statements outermost then functions_fault p.functions

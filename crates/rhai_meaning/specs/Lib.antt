@@ -3,7 +3,10 @@ pub mod Engine
 pub mod Act
 pub mod ActForms
 pub mod Host
+pub mod Walk
 pub mod Shape
+pub mod Faults
+pub mod Plain
 pub mod Core
 pub mod Desugar
 pub mod Elements
@@ -13,4 +16,8 @@ pub mod Chains
 pub mod Control
 pub mod Meaning
 pub mod Run
+pub mod Constants
+pub mod Queries
+pub mod Weight
+pub mod Paths
 pub mod Relations

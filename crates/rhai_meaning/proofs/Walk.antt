@@ -1,0 +1,128 @@
+-- Laws of the walk: what holds of two walks at each node holds of them over a whole tree.
+use Rattle.std.proofs.Common.{◌≡◌, ℕ, zero, suc, ◌+◌, ◌≤◌, List, [], ◌∷◌, arith}
+use Rattle.rhai_meaning.specs.Tree.{SwitchTable, Expr, InterpolatedString, ArrayOf, MapOf, MethodCall, BlockExpr, FnCall, Dot, Index, And, Or, Coalesce, Exprs, no_exprs, expr, Pairs, no_pairs, pair, MaybeExpr, no_expr, an_expr, Arms, no_arms, arm, Stmt, If, Switch, While, Do, For, Var, Assignment, FnCallStmt, Block, TryCatch, ExprStmt, BreakLoop, Return, Import, Stmts, no_stmts, stmt, joined, Function, Script}
+use Rattle.rhai_meaning.specs.Walk.{Node, Spot, Walk, parts_of_expr, parts_of_stmt, over_exprs, over_pairs, over_maybe, over_arms, over_stmts, over_expr, over_stmt, over_functions, over_script, arm_at, arms_at, listed, sum_of, every, total}
+
+-- R is kept by both walks, step by step
+pub record Alongside {ℓ κ μ} {A : Type ℓ} {B : Type κ} (R : A → B → Type μ) (w : Walk A) (v : Walk B) : Type (ℓ ⊔ κ ⊔ μ) where
+  pub none : R w.none v.none
+  pub both : (a a' : A) (b b' : B) → R a b → R a' b' → R (w.both a a') (v.both b b')
+  pub node : (n : Node) (a : A) (b : B) → R a b → R (w.node n a) (v.node n b)
+  pub within : (s : Spot) (a : A) (b : B) → R a b → R (w.within s a) (v.within s b)
+  pub arms : (t : SwitchTable) (as' : List A) (bs : List B) → ((i : ℕ) → R (arm_at w.none as' i) (arm_at v.none bs i)) → R (w.arms t as') (v.arms t bs)
+
+module _ {ℓ κ μ} {A : Type ℓ} {B : Type κ} (R : A → B → Type μ) (w : Walk A) (v : Walk B) (g : Alongside R w v) where
+  mutual
+    pub parts_alongside : (e : Expr) → R (parts_of_expr w e) (parts_of_expr v e)
+    parts_alongside (InterpolatedString es) = exprs_alongside es
+    parts_alongside (ArrayOf es) = exprs_alongside es
+    parts_alongside (MapOf ps template) = pairs_alongside ps
+    parts_alongside (MethodCall c es) = exprs_alongside es
+    parts_alongside (BlockExpr ss) = stmts_alongside ss
+    parts_alongside (FnCall c es) = exprs_alongside es
+    parts_alongside (Dot k l r) = g.both _ _ _ _ (g.within _ _ _ (g.node _ _ _ (parts_alongside l))) (g.within _ _ _ (g.node _ _ _ (parts_alongside r)))
+    parts_alongside (Index k l r) = g.both _ _ _ _ (g.within _ _ _ (g.node _ _ _ (parts_alongside l))) (g.within _ _ _ (g.node _ _ _ (parts_alongside r)))
+    parts_alongside (And es) = exprs_alongside es
+    parts_alongside (Or es) = exprs_alongside es
+    parts_alongside (Coalesce es) = exprs_alongside es
+    parts_alongside _ = g.none
+
+    pub stmt_parts_alongside : (s : Stmt) → R (parts_of_stmt w s) (parts_of_stmt v s)
+    stmt_parts_alongside (If c a b) = g.both _ _ _ _ (g.node _ _ _ (parts_alongside c)) (g.both _ _ _ _ (stmts_alongside a) (stmts_alongside b))
+    stmt_parts_alongside (Switch e as' t) = g.both _ _ _ _ (g.node _ _ _ (parts_alongside e)) (g.arms _ _ _ (λ i. arms_alongside as' i))
+    stmt_parts_alongside (While e b) = g.both _ _ _ _ (g.node _ _ _ (parts_alongside e)) (g.within _ _ _ (stmts_alongside b))
+    stmt_parts_alongside (Do negated e b) = g.both _ _ _ _ (g.node _ _ _ (parts_alongside e)) (g.within _ _ _ (stmts_alongside b))
+    stmt_parts_alongside (For x i e b) = g.both _ _ _ _ (g.node _ _ _ (parts_alongside e)) (g.within _ _ _ (stmts_alongside b))
+    stmt_parts_alongside (Var constant exported x e) = g.node _ _ _ (parts_alongside e)
+    stmt_parts_alongside (Assignment op l e) = g.both _ _ _ _ (g.node _ _ _ (parts_alongside l)) (g.node _ _ _ (parts_alongside e))
+    stmt_parts_alongside (FnCallStmt c es) = exprs_alongside es
+    stmt_parts_alongside (Block ss) = stmts_alongside ss
+    stmt_parts_alongside (TryCatch x a b) = g.both _ _ _ _ (stmts_alongside a) (stmts_alongside b)
+    stmt_parts_alongside (ExprStmt e) = g.node _ _ _ (parts_alongside e)
+    stmt_parts_alongside (BreakLoop breaks m) = maybe_alongside m
+    stmt_parts_alongside (Return throws m) = maybe_alongside m
+    stmt_parts_alongside (Import e x) = g.node _ _ _ (parts_alongside e)
+    stmt_parts_alongside _ = g.none
+
+    pub exprs_alongside : (es : Exprs) → R (over_exprs w es) (over_exprs v es)
+    exprs_alongside no_exprs = g.none
+    exprs_alongside (expr e es) = g.both _ _ _ _ (g.node _ _ _ (parts_alongside e)) (exprs_alongside es)
+
+    pub pairs_alongside : (ps : Pairs) → R (over_pairs w ps) (over_pairs v ps)
+    pairs_alongside no_pairs = g.none
+    pairs_alongside (pair k e ps) = g.both _ _ _ _ (g.node _ _ _ (parts_alongside e)) (pairs_alongside ps)
+
+    pub maybe_alongside : (m : MaybeExpr) → R (over_maybe w m) (over_maybe v m)
+    maybe_alongside no_expr = g.none
+    maybe_alongside (an_expr e) = g.node _ _ _ (parts_alongside e)
+
+    -- each arm by its index
+    pub arms_alongside : (as' : Arms) (i : ℕ) → R (arm_at w.none (over_arms w as') i) (arm_at v.none (over_arms v as') i)
+    arms_alongside no_arms i = g.none
+    arms_alongside (arm c a as') zero = g.both _ _ _ _ (g.node _ _ _ (parts_alongside c)) (g.node _ _ _ (parts_alongside a))
+    arms_alongside (arm c a as') (suc i) = arms_alongside as' i
+
+    pub stmts_alongside : (ss : Stmts) → R (over_stmts w ss) (over_stmts v ss)
+    stmts_alongside no_stmts = g.none
+    stmts_alongside (stmt s ss) = g.both _ _ _ _ (g.node _ _ _ (stmt_parts_alongside s)) (stmts_alongside ss)
+
+  pub expr_alongside : (e : Expr) → R (over_expr w e) (over_expr v e)
+  expr_alongside e = g.node _ _ _ (parts_alongside e)
+
+  pub stmt_alongside : (s : Stmt) → R (over_stmt w s) (over_stmt v s)
+  stmt_alongside s = g.node _ _ _ (stmt_parts_alongside s)
+
+  functions_alongside : (fs : List Function) → R (over_functions w fs) (over_functions v fs)
+  functions_alongside [] = g.none
+  functions_alongside (f ∷ fs) = g.both _ _ _ _ (stmts_alongside f.body) (functions_alongside fs)
+
+  pub script_alongside : (p : Script) → R (over_script w p) (over_script v p)
+  script_alongside p = g.both _ _ _ _ (stmts_alongside p.statements) (functions_alongside p.functions)
+
+-- what is kept at each arm is kept of the arms that a table lists
+pub every_arm : (ps qs : List (Type 0)) → ((i : ℕ) → arm_at (Unit {0}) ps i → arm_at (Unit {0}) qs i) → (is : List ℕ) → arms_at (Unit {0}) (λ p q. p × q) ps is → arms_at (Unit {0}) (λ p q. p × q) qs is
+every_arm ps qs h [] x = tt
+every_arm ps qs h (i ∷ is) x = (h i x.0, every_arm ps qs h is x.1)
+
+sum_most : (ns ms : List ℕ) → ((i : ℕ) → arm_at 0 ns i ≤ arm_at 0 ms i) → sum_of ns ≤ sum_of ms
+sum_most [] ms h = omega arith
+sum_most (n ∷ ns) [] h = omega (arith, h 0, sum_most ns [] (λ i. h (suc i)))
+sum_most (n ∷ ns) (m ∷ ms) h = omega (arith, h 0, sum_most ns ms (λ i. h (suc i)))
+
+-- what follows at each node follows over the whole
+pub every_weaker : (P Q : Node → Type 0) → ((n : Node) → P n → Q n) → Alongside (λ p q. p → q) (every P) (every Q)
+every_weaker P Q h = record {
+  none = λ u. u;
+  both = λ p p' q q' f f' x. (f x.0, f' x.1);
+  node = λ n p q f x. (h n x.0, f x.1);
+  within = λ s p q f. f;
+  arms = λ t ps qs fs. every_arm ps qs fs (listed t);
+}
+
+-- a lighter sum
+pub total_most : (f g : Node → ℕ) → ((n : Node) → f n ≤ g n) → Alongside (λ a b. a ≤ b) (total f) (total g)
+total_most f g h = record {
+  none = omega arith;
+  both = λ a a' b b' k k'. omega (arith, k, k');
+  node = λ n a b k. omega (arith, h n, k);
+  within = λ s a b k. k;
+  arms = λ t ns ms ks. sum_most ns ms ks;
+}
+
+-- ---- one list after another
+
+pub every_joined : (P : Node → Type 0) (front back : Stmts) → over_stmts (every P) front → over_stmts (every P) back → over_stmts (every P) (joined front back)
+every_joined P no_stmts back h k = k
+every_joined P (stmt s front) back h k = (h.0, every_joined P front back h.1 k)
+
+pub every_front : (P : Node → Type 0) (front back : Stmts) → over_stmts (every P) (joined front back) → over_stmts (every P) front
+every_front P no_stmts back h = tt
+every_front P (stmt s front) back h = (h.0, every_front P front back h.1)
+
+pub every_back : (P : Node → Type 0) (front back : Stmts) → over_stmts (every P) (joined front back) → over_stmts (every P) back
+every_back P no_stmts back h = h
+every_back P (stmt s front) back h = every_back P front back h.1
+
+pub total_joined : (f : Node → ℕ) (front back : Stmts) → over_stmts (total f) (joined front back) ≡ over_stmts (total f) front + over_stmts (total f) back
+total_joined f no_stmts back = omega arith
+total_joined f (stmt s front) back = omega (arith, total_joined f front back)
