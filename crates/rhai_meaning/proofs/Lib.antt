@@ -4,3 +4,6 @@ pub mod Monotone
 pub mod Ends
 pub mod Sequencing
 pub mod Walk
+pub mod Agreeing
+pub mod Depths
+pub mod SameActs

@@ -21,3 +21,4 @@ pub mod Queries
 pub mod Weight
 pub mod Paths
 pub mod Relations
+pub mod Agreeing

@@ -1,14 +1,14 @@
 -- Runs of scripts, as an independent evaluator computed them.
 use Rattle.std.specs.Prelude.{◌≡◌, ℕ, zero, suc, Bool, true, false, cond, List, [], ◌∷◌, length, Option, None, Some, pos, negsuc, codes, refl}
 use Rattle.rhai_base.specs.Value.{Text, Value, UnitV, BoolV, IntV, CharV, TextV, ArrayV, MapV, PointerV, RangeV, RangeInclusiveV, values, field, no_fields, same_text, text_of}
-use Rattle.rhai_base.specs.Operators.{Plus, Minus, Multiply, Divide, Modulo, Power, ShiftLeft, ShiftRight, BitAnd, BitOr, BitXor, EqualTo, NotEqualTo, Less, Greater, LessOrEqual, GreaterOrEqual, UpTo, Through, Not, Negative, Positive, computed, on_chars}
-use Rattle.rhai_meaning.specs.Act.{ScopeEntry, HostCall, Key, Host, Answer, Answers, AnswersThrow, Unbound, WrongKind, WriteToConstant, NoPlace, CounterTooLarge, UnboundThis}
+use Rattle.rhai_base.specs.Operators.{Plus, computed, on_chars}
+use Rattle.rhai_meaning.specs.Act.{ScopeEntry, HostCall, Key, Host, Answer, Answers, Unbound, WrongKind, WriteToConstant, NoPlace, UnboundThis}
 use Rattle.rhai_meaning.specs.Control.{texts_joined}
 use Rattle.rhai_meaning.specs.Desugar.{core_script}
 use Rattle.rhai_meaning.specs.Elements.{character}
 use Rattle.rhai_meaning.specs.Engine.{Engine, Binding, Override, TypeName}
-use Rattle.rhai_meaning.specs.Run.{EntryPoint, AtStatements, AtFunction, End, WithValue, WithThrown, WithStuck, WithoutTurns, Report, report_of, run_script}
-use Rattle.rhai_meaning.specs.Tree.{CallToken, OfOperator, NoToken, OfOther, Callee, ChainFlags, ExclusiveInt, InclusiveInt, SwitchCase, SwitchRange, SwitchTable, Expr, DynamicConstant, BoolConstant, IntegerConstant, CharConstant, StringConstant, UnitConstant, InterpolatedString, ArrayOf, MapOf, Variable, ThisPtr, Property, MethodCall, BlockExpr, FnCall, Dot, Index, And, Or, Coalesce, pair, no_pairs, no_expr, an_expr, arm, no_arms, Stmt, Noop, If, Switch, While, Do, For, Var, Assignment, FnCallStmt, Block, TryCatch, ExprStmt, BreakLoop, Return, Import, Export, Share, Function, exprs, stmts}
+use Rattle.rhai_meaning.specs.Run.{EntryPoint, AtStatements, End, WithValue, WithThrown, WithStuck, Report, report_of, run_script}
+use Rattle.rhai_meaning.specs.Tree.{CallToken, OfOperator, NoToken, Callee, ChainFlags, ExclusiveInt, SwitchCase, SwitchRange, SwitchTable, Expr, DynamicConstant, BoolConstant, IntegerConstant, CharConstant, StringConstant, UnitConstant, ArrayOf, MapOf, Variable, ThisPtr, Property, MethodCall, BlockExpr, FnCall, Dot, Index, And, Coalesce, pair, no_pairs, no_expr, an_expr, arm, no_arms, Stmt, Switch, While, Do, For, Var, Assignment, TryCatch, ExprStmt, BreakLoop, Return, Function, exprs, stmts}
 
 abbrev callee : List Text → Text → Bool → CallToken → Callee
 callee ns f c m = record { namespace = ns; name = f; captures = c; token = m }

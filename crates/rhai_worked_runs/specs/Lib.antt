@@ -1,1 +1,4 @@
+pub mod Terms
+pub mod Runs
+pub mod CallRuns
 pub mod DirectedRuns1
