@@ -86,7 +86,6 @@ this_unbound : ran (ExprStmt ThisPtr ∷ []) 0 ≡ report (WithStuck UnboundThis
 unfolding ran
 this_unbound = refl
 
-
 -- ---- loops: the guard of a `do` belongs to the loop around
 
 abbrev guard_breaks : Stmt
