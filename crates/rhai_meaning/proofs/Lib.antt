@@ -7,3 +7,4 @@ pub mod Walk
 pub mod Agreeing
 pub mod Depths
 pub mod SameActs
+pub mod Small

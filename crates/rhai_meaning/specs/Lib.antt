@@ -16,6 +16,7 @@ pub mod Chains
 pub mod Control
 pub mod Meaning
 pub mod Run
+pub mod Small
 pub mod Constants
 pub mod Queries
 pub mod Weight

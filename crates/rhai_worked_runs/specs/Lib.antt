@@ -5,3 +5,9 @@ pub mod DirectedRuns
 pub mod MoreRuns
 pub mod TreeTests
 pub mod PathTests
+pub mod WorkedForms
+pub mod WorkedRuns
+pub mod WorkedCalls
+pub mod WorkedNames
+pub mod WorkedHosts
+pub mod WorkedTrees
