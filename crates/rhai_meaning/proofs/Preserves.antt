@@ -4,6 +4,7 @@ use Rattle.rhai_base.specs.Value.{Text, Value, same_text}
 use Rattle.rhai_meaning.specs.Engine.{Binding}
 use Rattle.rhai_meaning.specs.Act.{ScopeEntry, HostCall, Store, World, Again, Ending, Gives, Leaves, Ended, Halted, Result, At, Root, OfName, OfThis, ScriptCall, Act, Stop, Fail, Then, Turn, Read, Write, AskHost, Invoke, Loop, Scoped, Acts, Only, Do, Named, Finish, Env, and_then, with_turn, found, put, read, read_this, read_root, write_at, write, write_this, write_root, restore, leave, call_then, returned, on_again, rounds, run, run_all}
 use Rattle.rhai_meaning.specs.Relations.{Begins, here, more, calls_of, store_of}
+pub use Rattle.rhai_meaning.specs.Relations.{OnlyAdds}
 use Rattle.rhai_meaning.proofs.Relations.{Keeps, none, one, changed, Grows, kept, pushed}
 
 pub begins_trans : {bs cs ds : List HostCall} → Begins bs cs → Begins cs ds → Begins bs ds
@@ -90,7 +91,7 @@ grows_tail (kept (one p)) = pushed (kept p)
 grows_tail (kept (changed c p)) = pushed (kept p)
 grows_tail (pushed p) = pushed (grows_tail p)
 
-restore_pushed : (es fs : List ScopeEntry) (y : ScopeEntry) → Grows es fs → restore es (y ∷ fs) ≡ restore es fs
+pub restore_pushed : (es fs : List ScopeEntry) (y : ScopeEntry) → Grows es fs → restore es (y ∷ fs) ≡ restore es fs
 restore_pushed es fs y p =
     let e : length (y ∷ fs) - length es ≡ suc (length fs - length es) = omega (arith, length_grows p) in
     ap (λ n. drop n (y ∷ fs)) e
@@ -149,10 +150,6 @@ preserves_leave s (At o s1 t1) p = record { calls = p.calls; scope = restore_gro
 preserves_call : (s : Store) (r : Result) → Begins s.calls (calls_of r) → (next : Value → Option Value → Store → ℕ → Result) → ((v : Value) (u : Option Value) (s1 : Store) (t1 : ℕ) → After Keeps s1 (store_of (next v u s1 t1))) → After Keeps s (store_of (call_then s r next))
 preserves_call s (At (Ended (Gives v)) s1 t1) p next h = let q = h v s1.this (record s { calls = s1.calls }) t1 in record { calls = begins_trans p q.calls; scope = q.scope }
 preserves_call s (At o s1 t1) p next h = record { calls = p; scope = keeps_refl s.scope }
-
--- a script call adds calls alone
-abbrev pub OnlyAdds : Env → Type 0
-OnlyAdds env = (a : ScriptCall) (scope : List ScopeEntry) (calls : List HostCall) (t : ℕ) → Begins calls (calls_of (env.invoke a scope calls t))
 
 module _ (w : World) (env : Env) (adds : OnlyAdds env) where
   mutual

@@ -22,4 +22,5 @@ pub mod Queries
 pub mod Weight
 pub mod Paths
 pub mod Relations
+pub mod Laws
 pub mod Agreeing
