@@ -11,7 +11,7 @@ use Rattle.rhai_meaning.specs.Laws.{Gave}
 use Rattle.rhai_meaning.specs.Meaning.{act, with_args, with_pairs, both, either, first_some, arm_acts, loop, deed, acts, wanted_value}
 use Rattle.rhai_meaning.specs.Queries.{is_literally, ArmPurity, is_pure_arm, listed_arms_are_pure, answer_is_pure, default_is_pure, table_is_pure, is_pure_expr, are_pure_exprs, are_pure_pairs, arm_purities, is_pure, are_pure, is_internally_pure, is_internally_pure_expr, are_internally_pure}
 use Rattle.rhai_meaning.specs.Shape.{is_unit, is_map, is_table, catch_name}
-use Rattle.rhai_meaning.specs.Tree.{SwitchCase, SwitchRange, SwitchTable, Expr, DynamicConstant, BoolConstant, IntegerConstant, CharConstant, StringConstant, UnitConstant, InterpolatedString, ArrayOf, MapOf, Variable, ThisPtr, Property, MethodCall, BlockExpr, FnCall, Dot, Index, And, Or, Coalesce, Exprs, no_exprs, expr, Pairs, no_pairs, pair, Arms, no_arms, arm, Stmt, Noop, If, Switch, While, Do, For, Var, Assignment, FnCallStmt, Block, TryCatch, ExprStmt, BreakLoop, Return, Import, Export, Share, Stmts, no_stmts, stmt}
+use Rattle.rhai_meaning.specs.Tree.{SwitchCase, SwitchRange, SwitchTable, Expr, DynamicConstant, BoolConstant, IntegerConstant, CharConstant, StringConstant, UnitConstant, InterpolatedString, ArrayOf, MapOf, Variable, ThisPtr, Property, MethodCall, BlockExpr, FnCall, Dot, Index, And, Or, Coalesce, Exprs, no_exprs, expr, Pairs, no_pairs, pair, Arms, no_arms, arm, Stmt, Noop, If, Switch, While, Do, For, Var, Block, TryCatch, ExprStmt, Import, Export, Stmts, no_stmts, stmt}
 use Rattle.rhai_meaning.specs.Walk.{arm_at, arms_of_cases, arms_of_ranges}
 use Rattle.rhai_meaning.proofs.PureActs.{Pure, PureList, p_give, p_fail, p_bind, p_choose, p_if, p_loop, l_only, l_named, l_line, p_round, p_for_each, p_for_count, p_try}
 

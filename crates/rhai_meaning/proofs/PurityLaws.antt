@@ -1,11 +1,11 @@
 -- The laws on purity and dependence.
-use Rattle.std.proofs.Common.{◌≡◌, ℕ, zero, suc, ◌+◌, ◌-◌, ◌≤◌, Bool, true, false, cond, List, [], ◌∷◌, Option, Some, None, refl, sym, ap, ◌∙◌, subst, arith}
-use Rattle.rhai_base.specs.Value.{Text, Value}
-use Rattle.rhai_meaning.specs.Act.{World, ScopeEntry, Store, Ending, Gives, Leaves, Stuck, IsStuck, OutOfTurns, Outcome, Ended, Halted, Result, At, Act, Acts, Only, Named, Env, and_then, run, run_all}
+use Rattle.std.proofs.Common.{◌≡◌, ℕ, zero, suc, ◌+◌, ◌-◌, ◌≤◌, Bool, true, false, List, refl, sym, ap, ◌∙◌, subst, arith}
+use Rattle.rhai_base.specs.Value.{Value}
+use Rattle.rhai_meaning.specs.Act.{World, ScopeEntry, Store, Outcome, Result, At, Act, Acts, Only, Named, Env, and_then, run, run_all}
 use Rattle.rhai_meaning.specs.ActForms.{give, unit, each_value, then_line}
 use Rattle.rhai_meaning.specs.Core as core
 use Rattle.rhai_meaning.specs.Desugar.{core_expr, core_stmt}
-use Rattle.rhai_meaning.specs.Laws.{spend, Settled, Gave, Stopped, settled, Quiet, a_value, is_stuck, out_of_turns, outcome_of, ChangesNothing, OneMore, no_more, one_more, AddsOne, SameNames, no_names, same_name, run_expr, run_stmt, Anywhere, PureExprLaw, PureLaw, InternallyPureLaw, IndependentLaw}
+use Rattle.rhai_meaning.specs.Laws.{spend, Settled, Gave, Stopped, settled, Quiet, a_value, is_stuck, out_of_turns, outcome_of, ChangesNothing, no_more, one_more, AddsOne, SameNames, no_names, same_name, PureExprLaw, PureLaw, InternallyPureLaw, IndependentLaw}
 use Rattle.rhai_meaning.specs.Meaning.{act, deed, line}
 use Rattle.rhai_meaning.specs.Queries.{is_block_dependent}
 use Rattle.rhai_meaning.specs.Relations.{OnlyAdds, store_of}
@@ -13,7 +13,7 @@ use Rattle.rhai_meaning.specs.Tree.{Expr, Stmt, Noop, If, Switch, While, Do, For
 use Rattle.rhai_meaning.proofs.Relations.{Keeps, none, one, changed}
 use Rattle.rhai_meaning.proofs.Preserves.{preserves}
 use Rattle.rhai_meaning.proofs.PureActs.{Pure, spend_enough}
-use Rattle.rhai_meaning.proofs.PureTrees.{no, PureStmt, pure_deed, InternalStmt, declares, internal_deed, pure_expr, pure_stmt, internal_stmt}
+use Rattle.rhai_meaning.proofs.PureTrees.{PureStmt, pure_deed, InternalStmt, declares, internal_deed, pure_expr, pure_stmt, internal_stmt}
 use Rattle.rhai_meaning.proofs.Sequencing.{line_unit}
 
 spend_store : (n : ℕ) (o : Outcome) (s : Store) (t : ℕ) → store_of (spend n o s t) ≡ s

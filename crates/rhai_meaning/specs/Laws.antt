@@ -1,9 +1,10 @@
 -- What is promised of runs of pure and of literal trees.
 use Rattle.std.specs.Prelude.{◌≡◌, ℕ, zero, suc, ◌-◌, ◌≤◌, Bool, true, false, List, [], ◌∷◌, Some}
-use Rattle.rhai_base.specs.Value.{Value}
+use Rattle.rhai_base.specs.Value.{Value, PointerV}
+use Rattle.rhai_parts.specs.Names.{is_valid_name}
 use Rattle.rhai_meaning.specs.Act.{World, ScopeEntry, Store, Gives, Stuck, IsStuck, OutOfTurns, Outcome, Ended, Halted, Result, At, Only, Env, run, run_all}
 use Rattle.rhai_meaning.specs.ActForms.{give}
-use Rattle.rhai_meaning.specs.Constants.{literal_value}
+use Rattle.rhai_meaning.specs.Constants.{constant_value, literal_value, constant_for}
 use Rattle.rhai_meaning.specs.Desugar.{core_expr, core_stmt}
 use Rattle.rhai_meaning.specs.Faults.{Around, IsWellFormedExpr}
 use Rattle.rhai_meaning.specs.Meaning.{act, line}
@@ -93,3 +94,16 @@ IndependentLaw l = is_block_dependent l ≡ false → Anywhere (λ w env loop s.
 -- The value of a literal is that of each run, at once.
 abbrev pub LiteralLaw : Expr → Type 0
 LiteralLaw e = (a : Around) → IsWellFormedExpr a e → (v : Value) → literal_value e ≡ Some v → Anywhere (λ w env loop s. (t : ℕ) → run_expr w env loop e s t ≡ At (Ended (Gives v)) s t)
+
+-- a constant has a literal value: its own
+abbrev pub ConstantLaw : Expr → Type 0
+ConstantLaw e = (v : Value) → constant_value e ≡ Some v → literal_value e ≡ Some v
+
+-- a pointer's name is one that a function may have
+abbrev pub IsNamed : Value → Type 0
+IsNamed (PointerV f vs) = is_valid_name f ≡ true
+IsNamed _ = Unit {0}
+
+-- the literal value of the constant for a value is that value
+abbrev pub ConstantForLaw : Value → Type 0
+ConstantForLaw v = IsNamed v → literal_value (constant_for v) ≡ Some v
