@@ -12,3 +12,4 @@ pub mod PureActs
 pub mod PureTrees
 pub mod PurityLaws
 pub mod LiteralLaws
+pub mod FaultLaws

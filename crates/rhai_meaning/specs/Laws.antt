@@ -1,16 +1,16 @@
 -- What is promised of runs of pure and of literal trees.
-use Rattle.std.specs.Prelude.{◌≡◌, ℕ, zero, suc, ◌-◌, ◌≤◌, Bool, true, false, List, [], ◌∷◌, Some}
+use Rattle.std.specs.Prelude.{◌≡◌, ℕ, zero, suc, ◌-◌, ◌≤◌, Bool, true, false, List, [], ◌∷◌, Some, None}
 use Rattle.rhai_base.specs.Value.{Value, PointerV}
 use Rattle.rhai_parts.specs.Names.{is_valid_name}
 use Rattle.rhai_meaning.specs.Act.{World, ScopeEntry, Store, Gives, Stuck, IsStuck, OutOfTurns, Outcome, Ended, Halted, Result, At, Only, Env, run, run_all}
 use Rattle.rhai_meaning.specs.ActForms.{give}
 use Rattle.rhai_meaning.specs.Constants.{constant_value, literal_value, constant_for}
 use Rattle.rhai_meaning.specs.Desugar.{core_expr, core_stmt}
-use Rattle.rhai_meaning.specs.Faults.{Around, IsWellFormedExpr}
+use Rattle.rhai_meaning.specs.Faults.{Around, IsWellFormedExpr, IsWellFormedScript, script_fault}
 use Rattle.rhai_meaning.specs.Meaning.{act, line}
 use Rattle.rhai_meaning.specs.Queries.{is_pure_expr, is_pure, is_internally_pure, is_block_dependent}
 use Rattle.rhai_meaning.specs.Relations.{OnlyAdds, store_of}
-use Rattle.rhai_meaning.specs.Tree.{Expr, Stmt}
+use Rattle.rhai_meaning.specs.Tree.{Expr, Stmt, Script}
 
 -- ---- runs that change nothing
 
@@ -107,3 +107,7 @@ IsNamed _ = Unit {0}
 -- the literal value of the constant for a value is that value
 abbrev pub ConstantForLaw : Value → Type 0
 ConstantForLaw v = IsNamed v → literal_value (constant_for v) ≡ Some v
+
+-- a script is well-formed exactly where it has no first fault
+abbrev pub WellFormedLaw : Script → Type 0
+WellFormedLaw p = (script_fault p ≡ None → IsWellFormedScript p) × (IsWellFormedScript p → script_fault p ≡ None)
