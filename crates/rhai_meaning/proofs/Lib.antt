@@ -13,3 +13,4 @@ pub mod PureTrees
 pub mod PurityLaws
 pub mod LiteralLaws
 pub mod FaultLaws
+pub mod Rows

@@ -2,7 +2,7 @@
 -- leaves takes nothing of what follows with it. Braces and the end of a body pass through.
 use Rattle.std.proofs.Common.{◌≡◌, ℕ, ◌-◌, List, length, drop, refl, ap, ◌∙◌}
 use Rattle.rhai_base.specs.Value.{Value}
-use Rattle.rhai_meaning.specs.Act.{ScopeEntry, Store, World, Exit, Returns, Throws, Ending, Gives, Leaves, Ended, Halted, Result, At, Act, Stop, Then, Scoped, Acts, Only, Do, Finish, Env, and_then, leave, returned, run, run_all}
+use Rattle.rhai_meaning.specs.Act.{ScopeEntry, Store, World, Exit, Ending, Gives, Leaves, Ended, Halted, Result, At, Act, Stop, Then, Scoped, Acts, Only, Do, Finish, Env, and_then, leave, returned, run, run_all}
 use Rattle.rhai_meaning.specs.ActForms.{give, value_then, ◌>>=◌, each_value, then_line}
 use Rattle.rhai_meaning.specs.Relations.{store_of}
 use Rattle.rhai_meaning.proofs.Relations.{Keeps}
@@ -127,11 +127,3 @@ module _ (w : World) (env : Env) where
   -- the end of a body: an act may stand before it
   pub finish_do : (a : Act) (next : Ending → Acts) → SameRunAll (Finish (Do a next)) (Do a (λ e. Finish (next e)))
   finish_do a next s t = returned_then (run w env a s t) _
-
-  returned_again : (r : Result) → returned (returned r) ≡ returned r
-  returned_again (At (Ended (Leaves (Returns v))) s t) = refl
-  returned_again (At (Ended (Leaves (Throws v))) s t) = refl
-  returned_again (At o s t) = refl
-
-  pub finish_twice : (p : Acts) → SameRunAll (Finish (Finish p)) (Finish p)
-  finish_twice p s t = returned_again (run_all w env p s t)

@@ -1,5 +1,5 @@
 -- A host by rows.
-use Rattle.std.specs.Prelude.{Bool, true, false, ◌&&◌, List, [], ◌∷◌, Option, Some, None, if◌then◌else◌}
+use Rattle.std.specs.Prelude.{Bool, true, false, ◌&&◌, List, [], ◌∷◌, ◌++◌, Option, Some, None, if◌then◌else◌}
 use Rattle.rhai_base.specs.Value.{Text, Value, UnitV, same, same_items, same_text, values}
 use Rattle.rhai_meaning.specs.Act.{HostCall, Answer, Answers, Host}
 
@@ -38,3 +38,8 @@ module_value_of (m ∷ ms) x = if same_text m.name x then Some m.value else modu
 
 abbrev pub host_of : List Row → List ModuleValue → Host
 host_of rows ms = record { answer = answer_of rows; module_value = module_value_of ms }
+
+-- the rows of a run's calls: each with those before it, and with the answer of a host; past: the calls before all of them
+abbrev pub rows_of : Host → List HostCall → List HostCall → List Row
+rows_of h past [] = []
+rows_of h past (c ∷ cs) = record { past = past; call = c; answer = h.answer past c } ∷ rows_of h (past ++ c ∷ []) cs

@@ -3,12 +3,14 @@ use Rattle.std.specs.Prelude.{◌≡◌, Bool, true, false, List, [], ◌∷◌,
 use Prim.Native.String.{String}
 use Rattle.rhai_base.specs.Value.{Text, Value, UnitV, BoolV, TextV, PointerV, values}
 use Rattle.rhai_base.specs.Operators.{computed}
-use Rattle.rhai_meaning.specs.Act.{ScopeEntry, Unbound, WrongKind, Key, Gives, Ended, At, ScriptCall, IsStuck, OutOfTurns, Halted, World}
-use Rattle.rhai_meaning.specs.Calls.{key}
+use Rattle.rhai_meaning.specs.Act.{ScopeEntry, Unbound, WrongKind, Key, Gives, Ended, At, ScriptCall, IsStuck, OutOfTurns, Halted, World, Invoke}
+use Rattle.rhai_meaning.specs.Calls.{key, call_named, call_pointer}
+use Rattle.rhai_meaning.specs.ActForms.{give}
+use Rattle.rhai_meaning.specs.Desugar.{core_expr}
 use Rattle.rhai_meaning.specs.Core as core
 use Rattle.rhai_meaning.specs.Engine.{Engine}
 use Rattle.rhai_meaning.specs.Run.{AtFunction, WithValue, WithThrown, WithStuck, WithoutTurns, Report, invoke_at, report_of, run_script, world_of}
-use Rattle.rhai_meaning.specs.Tree.{Function, Expr, StringConstant, Stmt, ExprStmt, stmts}
+use Rattle.rhai_meaning.specs.Tree.{Function, Expr, StringConstant, Stmt, ExprStmt, stmts, FnCall, NoToken, exprs}
 use Rattle.rhai_worked_runs.specs.WorkedForms.{int, call, nothing_set, joins, joining, ran_with, ran, ends, asked, i}
 
 -- ---- short forms
@@ -144,6 +146,16 @@ world = world_of nothing_set joining (two_parameters ∷ [])
 
 abbrev the_call : Bool → ScriptCall
 the_call captures = record { function = key (codes "f") 2 None; captures = captures; this = Some (i 5); arguments = i 1 ∷ i 2 ∷ [] }
+
+-- f!(1, 2): the call of a function, capturing or not, without `this`
+named_call : (captures : Bool) → call_named world captures (codes "f") (i 1 ∷ i 2 ∷ []) ≡ Invoke (record (the_call captures) { this = None }) (λ v u. give v)
+named_call captures = refl
+
+pointer_call : (captures : Bool) → call_pointer world captures (PointerV (codes "f") (values (i 1 ∷ []))) (i 2 ∷ []) ≡ Invoke (record (the_call captures) { this = None }) (λ v u. give v)
+pointer_call captures = refl
+
+captures_kept : core_expr false (FnCall (record { namespace = []; name = codes "f"; captures = true; token = NoToken }) (exprs (int 1 ∷ []))) ≡ core.FnCall (core.ByName (codes "f") true) (core.expr (core.Constant (i 1)) core.no_exprs)
+captures_kept = refl
 
 -- the parameters in order, the latest first; of the caller's scope nothing
 enters_alone : invoke_at true world (two_parameters ∷ []) 1 (the_call false) (variable "z" (i 3) ∷ []) (asked "g" [] ∷ []) 4 ≡ At (Ended (Gives (i 7))) (record { scope = variable "y" (i 2) ∷ variable "x" (i 1) ∷ []; this = Some (i 5); calls = asked "g" [] ∷ [] }) 3

@@ -51,6 +51,9 @@ by_receiver = refl
 module_named : (host_of [] (record { name = codes "m::x"; value = i 1 } ∷ record { name = codes "m::x"; value = i 2 } ∷ [])).module_value (codes "m::x") ≡ Some (i 1)
 module_named = refl
 
+module_after : (host_of [] (record { name = codes "m::x"; value = i 1 } ∷ record { name = codes "m::y"; value = i 2 } ∷ [])).module_value (codes "m::y") ≡ Some (i 2)
+module_after = refl
+
 module_missing : (host_of [] (record { name = codes "m::x"; value = i 1 } ∷ [])).module_value (codes "x") ≡ None
 module_missing = refl
 

@@ -5,7 +5,7 @@ use Rattle.rhai_base.specs.Value.{Value, UnitV, TextV}
 use Rattle.rhai_meaning.specs.Act.{ScopeEntry, Store, Unbound, UnboundThis, WriteToConstant, WrongKind, Ending, Exit, Returns, Breaks, Continues, Throws, Again, Gives, Leaves, IsStuck, OutOfTurns, Ended, Halted, Result, At, Root, OfName, OfThis, Act, Stop, Fail, Then, Turn, Read, Write, Invoke, Loop, Scoped, Acts, Only, Named, Finish, Env, World, run, run_all}
 use Rattle.rhai_meaning.specs.ActForms.{give, unit, ◌>>=◌, then_line, on_throw, end_round, again_then, ask_host, ask_method}
 use Rattle.rhai_meaning.specs.Engine.{Engine}
-use Rattle.rhai_meaning.specs.Run.{AtStatements, report_of, world_of}
+use Rattle.rhai_meaning.specs.Run.{AtStatements, report_of, world_of, WithValue, WithThrown, WithStuck, end_of}
 use Rattle.rhai_worked_runs.specs.WorkedForms.{nothing_set, joins, joining, throwing, asked, i}
 
 -- ---- short forms
@@ -156,6 +156,19 @@ continue_of_no_loop = refl
 
 again_of_no_loop : finished (Leaves Again) ≡ At (Halted (IsStuck WrongKind)) (stored []) 0
 again_of_no_loop = refl
+
+-- how a run is reported that is left so
+report_return : end_of (Ended (Leaves (Returns (i 1)))) ≡ WithValue (i 1)
+report_return = refl
+
+report_thrown : end_of (Ended (Leaves (Throws (i 1)))) ≡ WithThrown (i 1)
+report_thrown = refl
+
+report_break : end_of (Ended (Leaves (Breaks (i 1)))) ≡ WithStuck WrongKind
+report_break = refl
+
+report_stuck : end_of (Halted (IsStuck Unbound)) ≡ WithStuck Unbound
+report_stuck = refl
 
 -- ---- loops and turns
 

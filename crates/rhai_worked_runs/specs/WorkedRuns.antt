@@ -1,10 +1,10 @@
 -- Worked runs of small scripts, computed from the definitions alone: constants, operators, blocks and lists.
 use Rattle.std.specs.Prelude.{◌≡◌, true, false, [], ◌∷◌, codes, refl}
-use Rattle.rhai_base.specs.Value.{UnitV, BoolV, TextV, ArrayV, values}
+use Rattle.rhai_base.specs.Value.{UnitV, BoolV, CharV, TextV, ArrayV, values}
 use Rattle.rhai_base.specs.Operators.{Plus, Multiply, Divide, EqualTo, Not}
 use Rattle.rhai_meaning.specs.Act.{WrongKind}
 use Rattle.rhai_meaning.specs.Run.{WithValue, WithThrown, WithStuck}
-use Rattle.rhai_meaning.specs.Tree.{OfOperator, BoolConstant, DynamicConstant, UnitConstant, ArrayOf, BlockExpr, If, Block, ExprStmt, FnCallStmt, exprs, stmts}
+use Rattle.rhai_meaning.specs.Tree.{OfOperator, BoolConstant, DynamicConstant, UnitConstant, CharConstant, StringConstant, ArrayOf, BlockExpr, If, Block, ExprStmt, FnCallStmt, exprs, stmts}
 use Rattle.rhai_worked_runs.specs.WorkedForms.{int, op, call, nothing_set, joining, throwing, overriding, ran, ends, asked, i}
 
 -- no statements
@@ -67,6 +67,11 @@ no_meaning = refl
 too_few_operands : ran nothing_set joining (ExprStmt (op Plus (call "f" [] ∷ [])) ∷ []) ≡ ends (WithStuck WrongKind) []
 unfolding ran
 too_few_operands = refl
+
+-- [(), true, 1, 'A', "t", a value]
+all_constants : ran nothing_set joining (ExprStmt (ArrayOf (exprs (UnitConstant ∷ BoolConstant true ∷ int 1 ∷ CharConstant 65 ∷ StringConstant (codes "t") ∷ DynamicConstant (ArrayV (values [])) ∷ []))) ∷ []) ≡ ends (WithValue (ArrayV (values (UnitV ∷ BoolV true ∷ i 1 ∷ CharV 65 ∷ TextV (codes "t") ∷ ArrayV (values []) ∷ [])))) []
+unfolding ran
+all_constants = refl
 
 -- [1, f(), 2 * 3], and a host that throws
 array_of_parts : ran nothing_set joining (ExprStmt (ArrayOf (exprs (int 1 ∷ call "f" [] ∷ op Multiply (int 2 ∷ int 3 ∷ []) ∷ []))) ∷ []) ≡ ends (WithValue (ArrayV (values (i 1 ∷ UnitV ∷ i 6 ∷ [])))) (asked "f" [] ∷ [])
