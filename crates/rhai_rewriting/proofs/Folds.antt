@@ -3,22 +3,15 @@ use Rattle.std.proofs.Common.{◌≡◌, List, Option, Some, None, refl, ap, ◌
 use Rattle.rhai_base.specs.Value.{Value}
 use Rattle.rhai_meaning.specs.Constants.{array_value, value_and, constant_value, constant_values}
 use Rattle.rhai_meaning.specs.Engine.{Engine}
-use Rattle.rhai_meaning.specs.Tree.{CallToken, NoToken, OfOperator, OfOther, Callee, Expr, DynamicConstant, BoolConstant, IntegerConstant, CharConstant, StringConstant, UnitConstant, ArrayOf, BlockExpr, FnCall, Exprs, no_exprs, expr}
+use Rattle.rhai_meaning.specs.Tree.{CallToken, NoToken, OfOperator, OfOther, Callee, Expr, ArrayOf, Exprs, no_exprs, expr}
 use Rattle.rhai_rewriting.specs.Folding.{folded_values, folded, operand, operands, folded_operands}
 use Rattle.rhai_rewriting.specs.Residue.{IsReducedExpr, AreReducedExprs}
 
 -- ---- operands are constants
 
 operand-constant : (e : Expr) (v : Value) → operand e ≡ Some v → constant_value e ≡ Some v
-operand-constant (DynamicConstant u) v h = h
-operand-constant (BoolConstant b) v h = h
-operand-constant (IntegerConstant n) v h = h
-operand-constant (CharConstant c) v h = h
-operand-constant (StringConstant t) v h = h
-operand-constant UnitConstant v h = h
 operand-constant (ArrayOf es) v h = absurd cc
-operand-constant (BlockExpr ss) v h = absurd cc
-operand-constant (FnCall c es) v h = absurd cc
+operand-constant _ v h = h
 
 both-some : (a : Option Value) (b : Option (List Value)) (a' : Option Value) (b' : Option (List Value)) (vs : List Value) → ((v : Value) → a ≡ Some v → a' ≡ Some v) → ((us : List Value) → b ≡ Some us → b' ≡ Some us) → value_and a b ≡ Some vs → value_and a' b' ≡ Some vs
 both-some None None a' b' vs f g h = absurd cc
@@ -42,15 +35,8 @@ folded-operands engine c es v h = folded-some engine c.token (operands es) (cons
 -- ---- and reduced constants are operands
 
 operand-reduced : (engine : Engine) (e : Expr) → IsReducedExpr engine e → constant_value e ≡ operand e
-operand-reduced engine (DynamicConstant v) h = refl
-operand-reduced engine (BoolConstant b) h = refl
-operand-reduced engine (IntegerConstant n) h = refl
-operand-reduced engine (CharConstant c) h = refl
-operand-reduced engine (StringConstant t) h = refl
-operand-reduced engine UnitConstant h = refl
 operand-reduced engine (ArrayOf es) h = ap array_value h.0
-operand-reduced engine (BlockExpr ss) h = refl
-operand-reduced engine (FnCall c es) h = refl
+operand-reduced engine _ h = refl
 
 operands-reduced : (engine : Engine) (es : Exprs) → AreReducedExprs engine es → constant_values es ≡ operands es
 operands-reduced engine no_exprs h = refl

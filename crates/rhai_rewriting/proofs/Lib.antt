@@ -1,6 +1,8 @@
+pub mod Firing
+pub mod Flags
+pub mod Folds
 pub mod Plain
 pub mod Weights
-pub mod Flags
-pub mod Firing
-pub mod Folds
+pub mod simulation
+pub mod rules
 pub mod soundness

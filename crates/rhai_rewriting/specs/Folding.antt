@@ -4,7 +4,7 @@ use Rattle.rhai_base.specs.Value.{Value, UnitV, BoolV, IntV, CharV, TextV}
 use Rattle.rhai_base.specs.Operators.{Computed, NoEntry, Is, Overflows}
 use Rattle.rhai_meaning.specs.Engine.{Engine, built_in}
 use Rattle.rhai_meaning.specs.Constants.{constant_values, value_and}
-use Rattle.rhai_meaning.specs.Tree.{CallToken, NoToken, OfOperator, OfOther, Callee, Expr, DynamicConstant, BoolConstant, IntegerConstant, CharConstant, StringConstant, UnitConstant, ArrayOf, BlockExpr, FnCall, Exprs, no_exprs, expr}
+use Rattle.rhai_meaning.specs.Tree.{CallToken, OfOperator, Callee, Expr, DynamicConstant, BoolConstant, IntegerConstant, CharConstant, StringConstant, UnitConstant, Exprs, no_exprs, expr}
 
 -- a value alone: a fault is left to the run
 abbrev pub computed_value : Computed → Option Value
@@ -14,9 +14,7 @@ computed_value Overflows = None
 
 abbrev pub folded_values : Engine → CallToken → Option (List Value) → Option Value
 folded_values engine (OfOperator op) (Some vs) = computed_value (built_in engine op vs)
-folded_values engine (OfOperator op) None = None
-folded_values engine NoToken vs = None
-folded_values engine OfOther vs = None
+folded_values engine _ vs = None
 
 -- the value of an operator call whose arguments are constant, where it is built in and answers one
 abbrev pub folded : Engine → Callee → Exprs → Option Value
@@ -30,9 +28,7 @@ operand (IntegerConstant n) = Some (IntV n)
 operand (CharConstant c) = Some (CharV c)
 operand (StringConstant t) = Some (TextV t)
 operand UnitConstant = Some UnitV
-operand (ArrayOf es) = None
-operand (BlockExpr ss) = None
-operand (FnCall c es) = None
+operand _ = None
 
 abbrev pub operands : Exprs → Option (List Value)
 operands no_exprs = Some []

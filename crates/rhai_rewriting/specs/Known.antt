@@ -28,13 +28,3 @@ Fits v (Some e) = (e.constant ≡ true) × (e.value ≡ v)
 -- in a scope and the record's constants
 pub record Agrees (bs : List Binding) (ks : List Known) (es : List ScopeEntry) : Type 0 where
   pub is : (x : Text) (v : Value) → look ks x ≡ Some v → Fits v (found bs es x)
-
--- the record's constants, a later one above an earlier one, above what is known besides
-abbrev pub known_record : List Binding → List Known → List Known
-known_record [] ks = ks
-known_record (b ∷ bs) ks = known_record bs (record { name = b.name; value = Some b.value } ∷ ks)
-
--- a scope's names, latest first, above what is known besides
-abbrev pub known_scope : List ScopeEntry → List Known → List Known
-known_scope [] ks = ks
-known_scope (e ∷ es) ks = record { name = e.name; value = cond e.constant (Some e.value) None } ∷ known_scope es ks

@@ -1,9 +1,12 @@
 pub mod Known
+pub mod Context
 pub mod Folding
+pub mod Rules
 pub mod Rewriting
 pub mod Shapes
 pub mod Weight
 pub mod Residue
 pub mod Steps
-pub mod RunRefines
 pub mod Refines
+pub mod WorkedWeights
+pub mod WorkedRewrites

@@ -2,7 +2,8 @@
 use Rattle.std.specs.Prelude.{◌≡◌, Bool, false, ◌&&◌, not, None}
 use Rattle.rhai_meaning.specs.Engine.{Engine}
 use Rattle.rhai_meaning.specs.Constants.{constant_bool, constant_values, is_constant, is_literal_unit}
-use Rattle.rhai_meaning.specs.Tree.{Expr, DynamicConstant, BoolConstant, IntegerConstant, CharConstant, StringConstant, UnitConstant, ArrayOf, BlockExpr, FnCall, Exprs, no_exprs, expr, Stmt, Noop, If, Block, ExprStmt, FnCallStmt, Stmts, no_stmts, stmt}
+use Rattle.rhai_meaning.specs.Tree.{Expr, ArrayOf, BlockExpr, FnCall, Exprs, Stmt, If, ExprStmt, FnCallStmt, Stmts, no_stmts, stmt}
+use Rattle.rhai_meaning.specs.Walk.{Node, OfExpr, OfStmt, every, parts_of_expr, parts_of_stmt, over_expr, over_exprs, over_stmt, over_stmts}
 use Rattle.rhai_rewriting.specs.Folding.{folded}
 
 -- one expression statement alone, over a constant that isn't unit
@@ -10,31 +11,33 @@ abbrev pub holds_constant : Stmts → Bool
 holds_constant (stmt (ExprStmt e) no_stmts) = is_constant e && not (is_literal_unit e)
 holds_constant _ = false
 
--- At no depth stands an `if` over a constant bool, an operator call that folds, a block expression that holds one
--- constant other than unit alone, or an array of constants.
-abbrev mutual
-  pub IsReducedExpr : Engine → Expr → Type 0
-  IsReducedExpr r (DynamicConstant v) = Unit {0}
-  IsReducedExpr r (BoolConstant b) = Unit {0}
-  IsReducedExpr r (IntegerConstant n) = Unit {0}
-  IsReducedExpr r (CharConstant c) = Unit {0}
-  IsReducedExpr r (StringConstant t) = Unit {0}
-  IsReducedExpr r UnitConstant = Unit {0}
-  IsReducedExpr r (ArrayOf es) = (constant_values es ≡ None) × AreReducedExprs r es
-  IsReducedExpr r (BlockExpr ss) = (holds_constant ss ≡ false) × AreReduced r ss
-  IsReducedExpr r (FnCall c es) = (folded r c es ≡ None) × AreReducedExprs r es
+-- A node by itself: it is no array of constants, no block expression that holds one constant other than unit alone, no
+-- operator call that folds, no `if` over a constant bool.
+abbrev pub IsReducedNode : Engine → Node → Type 0
+IsReducedNode r (OfExpr (ArrayOf es)) = constant_values es ≡ None
+IsReducedNode r (OfExpr (BlockExpr ss)) = holds_constant ss ≡ false
+IsReducedNode r (OfExpr (FnCall c es)) = folded r c es ≡ None
+IsReducedNode r (OfStmt (If c a b)) = constant_bool c ≡ None
+IsReducedNode r (OfStmt (FnCallStmt c es)) = folded r c es ≡ None
+IsReducedNode r _ = Unit {0}
 
-  pub AreReducedExprs : Engine → Exprs → Type 0
-  AreReducedExprs r no_exprs = Unit {0}
-  AreReducedExprs r (expr e es) = IsReducedExpr r e × AreReducedExprs r es
+-- ---- at every depth
 
-  pub IsReduced : Engine → Stmt → Type 0
-  IsReduced r Noop = Unit {0}
-  IsReduced r (If e a b) = (constant_bool e ≡ None) × IsReducedExpr r e × AreReduced r a × AreReduced r b
-  IsReduced r (Block ss) = AreReduced r ss
-  IsReduced r (ExprStmt e) = IsReducedExpr r e
-  IsReduced r (FnCallStmt c es) = (folded r c es ≡ None) × AreReducedExprs r es
+abbrev pub IsReducedExpr : Engine → Expr → Type 0
+IsReducedExpr r e = over_expr (every (IsReducedNode r)) e
 
-  pub AreReduced : Engine → Stmts → Type 0
-  AreReduced r no_stmts = Unit {0}
-  AreReduced r (stmt s ss) = IsReduced r s × AreReduced r ss
+abbrev pub AreReducedExprs : Engine → Exprs → Type 0
+AreReducedExprs r es = over_exprs (every (IsReducedNode r)) es
+
+abbrev pub IsReduced : Engine → Stmt → Type 0
+IsReduced r s = over_stmt (every (IsReducedNode r)) s
+
+abbrev pub AreReduced : Engine → Stmts → Type 0
+AreReduced r ss = over_stmts (every (IsReducedNode r)) ss
+
+-- in the parts of a node
+abbrev pub ExprParts : Engine → Expr → Type 0
+ExprParts r e = parts_of_expr (every (IsReducedNode r)) e
+
+abbrev pub StmtParts : Engine → Stmt → Type 0
+StmtParts r s = parts_of_stmt (every (IsReducedNode r)) s

@@ -1,14 +1,11 @@
 -- The shapes that rules look for.
 use Rattle.std.specs.Prelude.{Bool, true, false, not}
 use Rattle.rhai_meaning.specs.Queries.{is_block_dependent}
-use Rattle.rhai_meaning.specs.Tree.{Stmt, Noop, If, Block, ExprStmt, FnCallStmt, Stmts, no_stmts, stmt}
+use Rattle.rhai_meaning.specs.Tree.{Stmt, ExprStmt, Stmts, no_stmts, stmt}
 
 abbrev pub is_expression : Stmt → Bool
-is_expression Noop = false
-is_expression (If e a b) = false
-is_expression (Block ss) = false
 is_expression (ExprStmt e) = true
-is_expression (FnCallStmt c es) = false
+is_expression _ = false
 
 -- one expression statement alone
 abbrev pub is_lone_expression : Stmts → Bool

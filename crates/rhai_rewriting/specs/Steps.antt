@@ -1,14 +1,11 @@
 -- What the functions of the optimiser promise: a tree was rewritten, and where the dirty flag is clear afterwards
 -- nothing in it is left to reduce.
-use Rattle.std.specs.Prelude.{◌≡◌, Bool, true, false, []}
-use Rattle.rhai_meaning.specs.Engine.{Engine}
-use Rattle.rhai_meaning.specs.Tree.{Expr, DynamicConstant, BoolConstant, IntegerConstant, CharConstant, StringConstant, UnitConstant, ArrayOf, BlockExpr, FnCall, Exprs, Stmt, Noop, If, Block, ExprStmt, FnCallStmt, Stmts, joined}
-use Rattle.rhai_rewriting.specs.Residue.{IsReducedExpr, AreReducedExprs, IsReduced, AreReduced}
-use Rattle.rhai_rewriting.specs.Rewriting.{Context, ListKind, ExprTo, ExprsTo, StmtTo, EachTo, StmtsTo, wanted, wanted_before}
-
--- under an engine's record, with no names known
-abbrev pub under : Engine → Context
-under engine = record { engine = engine; known = [] }
+use Rattle.std.specs.Prelude.{◌≡◌, Bool, true, false}
+use Rattle.rhai_meaning.specs.Tree.{Expr, Exprs, Stmt, Stmts, joined}
+use Rattle.rhai_rewriting.specs.Residue.{IsReducedExpr, AreReducedExprs, IsReduced, AreReduced, ExprParts, StmtParts}
+use Rattle.rhai_rewriting.specs.Context.{Context, ListKind, wanted, wanted_before}
+use Rattle.rhai_rewriting.specs.Rewriting.{ExprTo, ExprsTo, StmtTo, StmtsTo}
+use Rattle.rhai_rewriting.specs.Rules.{ExprRule, StmtRule}
 
 -- ---- a tree with its parts
 
@@ -24,8 +21,9 @@ pub record StmtRun (k : Context) (w d d' : Bool) (s s' : Stmt) : Type 0 where
   pub to : StmtTo k w d d' s s'
   pub reduced : d' ≡ false → IsReduced k.engine s'
 
+-- each statement of a list once
 pub record EachRun (k : Context) (m : ListKind) (d d' : Bool) (ss ss' : Stmts) : Type 0 where
-  pub to : EachTo k m d d' ss ss'
+  pub to : StmtsTo k m d d' ss ss'
   pub reduced : d' ≡ false → AreReduced k.engine ss'
 
 -- a list is passed until nothing changes, whatever the flag was before
@@ -35,24 +33,6 @@ pub record StmtsRun (k : Context) (m : ListKind) (d d' : Bool) (ss ss' : Stmts) 
 
 -- ---- one node, whose parts are rewritten already
 
-abbrev pub ExprParts : Engine → Expr → Type 0
-ExprParts r (DynamicConstant v) = Unit {0}
-ExprParts r (BoolConstant b) = Unit {0}
-ExprParts r (IntegerConstant n) = Unit {0}
-ExprParts r (CharConstant c) = Unit {0}
-ExprParts r (StringConstant t) = Unit {0}
-ExprParts r UnitConstant = Unit {0}
-ExprParts r (ArrayOf es) = AreReducedExprs r es
-ExprParts r (BlockExpr ss) = AreReduced r ss
-ExprParts r (FnCall c es) = AreReducedExprs r es
-
-abbrev pub StmtParts : Engine → Stmt → Type 0
-StmtParts r Noop = Unit {0}
-StmtParts r (If e a b) = IsReducedExpr r e × AreReduced r a × AreReduced r b
-StmtParts r (Block ss) = AreReduced r ss
-StmtParts r (ExprStmt e) = IsReducedExpr r e
-StmtParts r (FnCallStmt c es) = AreReducedExprs r es
-
 pub record ExprStep (k : Context) (d d' : Bool) (e e' : Expr) : Type 0 where
   pub to : ExprTo k d d' e e'
   pub reduced : d' ≡ false → ExprParts k.engine e → IsReducedExpr k.engine e'
@@ -61,14 +41,14 @@ pub record StmtStep (k : Context) (w d d' : Bool) (s s' : Stmt) : Type 0 where
   pub to : StmtTo k w d d' s s'
   pub reduced : d' ≡ false → StmtParts k.engine s → IsReduced k.engine s'
 
--- ---- a rule that fired
+-- ---- a rule that fired, and set the flag
 
-pub record ExprRule (k : Context) (d d' : Bool) (e e' : Expr) : Type 0 where
-  pub to : ExprTo k d d' e e'
+pub record ExprFired (k : Context) (d' : Bool) (e e' : Expr) : Type 0 where
+  pub rule : ExprRule k e e'
   pub fired : d' ≡ true
 
-pub record StmtRule (k : Context) (w d d' : Bool) (s s' : Stmt) : Type 0 where
-  pub to : StmtTo k w d d' s s'
+pub record StmtFired (k : Context) (w d' : Bool) (s s' : Stmt) : Type 0 where
+  pub rule : StmtRule k w s s'
   pub fired : d' ≡ true
 
 -- ---- blocks in a list

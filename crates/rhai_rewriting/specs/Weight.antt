@@ -1,30 +1,29 @@
--- The weight of a tree, which each rewrite lowers.
-use Rattle.std.specs.Prelude.{ℕ, ◌+◌}
-use Rattle.rhai_meaning.specs.Tree.{Expr, DynamicConstant, BoolConstant, IntegerConstant, CharConstant, StringConstant, UnitConstant, ArrayOf, BlockExpr, FnCall, Exprs, no_exprs, expr, Stmt, Noop, If, Block, ExprStmt, FnCallStmt, Stmts, no_stmts, stmt}
+-- The weight of a tree, which each rewrite lowers: the sum of what each node weighs.
+use Rattle.std.specs.Prelude.{ℕ}
+use Rattle.rhai_meaning.specs.Tree.{Expr, UnitConstant, ArrayOf, BlockExpr, FnCall, Exprs, Stmt, Noop, If, Block, ExprStmt, FnCallStmt, Stmts}
+use Rattle.rhai_meaning.specs.Walk.{Node, OfExpr, OfStmt, total, over_expr, over_exprs, over_stmt, over_stmts}
 
-abbrev mutual
-  pub expr_weight : Expr → ℕ
-  expr_weight (DynamicConstant v) = 2
-  expr_weight (BoolConstant b) = 2
-  expr_weight (IntegerConstant n) = 2
-  expr_weight (CharConstant c) = 2
-  expr_weight (StringConstant t) = 2
-  expr_weight UnitConstant = 1
-  expr_weight (ArrayOf es) = 3 + exprs_weight es
-  expr_weight (BlockExpr ss) = 4 + weight ss
-  expr_weight (FnCall c es) = 4 + exprs_weight es
+-- what a node by itself weighs; in the last arm, a constant
+abbrev pub own_weight : Node → ℕ
+own_weight (OfExpr UnitConstant) = 1
+own_weight (OfExpr (ArrayOf es)) = 3
+own_weight (OfExpr (BlockExpr ss)) = 4
+own_weight (OfExpr (FnCall c es)) = 4
+own_weight (OfStmt Noop) = 1
+own_weight (OfStmt (If c a b)) = 10
+own_weight (OfStmt (Block ss)) = 3
+own_weight (OfStmt (ExprStmt e)) = 1
+own_weight (OfStmt (FnCallStmt c es)) = 3
+own_weight (OfExpr _) = 2
 
-  pub exprs_weight : Exprs → ℕ
-  exprs_weight no_exprs = 0
-  exprs_weight (expr e es) = expr_weight e + exprs_weight es
+abbrev pub expr_weight : Expr → ℕ
+expr_weight e = over_expr (total own_weight) e
 
-  pub stmt_weight : Stmt → ℕ
-  stmt_weight Noop = 1
-  stmt_weight (If e a b) = 10 + expr_weight e + weight a + weight b
-  stmt_weight (Block ss) = 3 + weight ss
-  stmt_weight (ExprStmt e) = 1 + expr_weight e
-  stmt_weight (FnCallStmt c es) = 3 + exprs_weight es
+abbrev pub exprs_weight : Exprs → ℕ
+exprs_weight es = over_exprs (total own_weight) es
 
-  pub weight : Stmts → ℕ
-  weight no_stmts = 0
-  weight (stmt s ss) = stmt_weight s + weight ss
+abbrev pub stmt_weight : Stmt → ℕ
+stmt_weight s = over_stmt (total own_weight) s
+
+abbrev pub weight : Stmts → ℕ
+weight ss = over_stmts (total own_weight) ss

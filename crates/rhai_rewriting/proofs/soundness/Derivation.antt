@@ -1,102 +1,89 @@
--- What the optimiser makes of a tree does what the tree does: by induction on the rules that it used.
-use Rattle.std.proofs.Common.{◌≡◌, ℕ, suc, Bool, true, false, cond, List, [], ◌∷◌, refl, sym, ap, ◌∙◌, subst}
-use Rattle.rhai_base.specs.Value.{Value, UnitV, ArrayV, values}
-use Rattle.rhai_meaning.specs.Act.{World, Act, Acts, Only, Env}
+-- What a tree was rewritten to does what the tree does: by induction on the derivation.
+use Rattle.std.proofs.Common.{◌≡◌, ℕ, Bool, true, false, cond, List, ◌∷◌, refl, subst}
+use Rattle.rhai_base.specs.Value.{Value, UnitV}
+use Rattle.rhai_meaning.specs.Act.{Act, Acts, Only}
 use Rattle.rhai_meaning.specs.ActForms.{give}
 use Rattle.rhai_meaning.specs.Calls.{called}
 use Rattle.rhai_meaning.specs.Core as core
 use Rattle.rhai_meaning.specs.Desugar.{callee_by, call_of, core_expr, core_exprs, core_stmt, core_stmts}
 use Rattle.rhai_meaning.specs.Faults.{is_callable}
 use Rattle.rhai_meaning.specs.Meaning.{wanted_value, act, with_args, line, acts}
-use Rattle.rhai_meaning.specs.Tree.{Callee, Expr, Exprs, count_exprs, Stmt, Stmts, stmt}
-use Rattle.rhai_rewriting.specs.Folding.{folded}
-use Rattle.rhai_rewriting.specs.Known.{Known}
-use Rattle.rhai_rewriting.specs.Rewriting.{Context, ListKind, wanted, ExprTo, same_expr, then_expr, in_array, in_braces, in_call, array_of_constants, braces_empty, braces_of_expression, operator_folds, ExprsTo, exprs_none, exprs_more, StmtTo, same_stmt, then_stmt, in_if, in_block, in_expression, in_call_statement, if_without_blocks, if_decided, block_empty, block_of_statement, statement_of_braces, statement_of_call, call_statement_folds, EachTo, each_none, each_last, each_more, StmtsTo, same_stmts, then_stmts, in_each, block_gives_way}
-use Rattle.rhai_rewriting.proofs.soundness.Close.{Tame}
-use Rattle.rhai_rewriting.proofs.soundness.Sound.{Sound, SoundAll, s_trans, s_refl, s_all_refl}
-use Rattle.rhai_rewriting.proofs.soundness.Forms.{s_bind, s_if}
-use Rattle.rhai_rewriting.proofs.soundness.Marked.{SoundList, l_of, l_trans}
-use Rattle.rhai_rewriting.proofs.soundness.Unwanted.{unwanted_if, unwanted_block}
-use Rattle.rhai_rewriting.proofs.soundness.Statements.{Rest, after, SoundStmt, stmt_same, stmt_trans, stmt_of_deed}
-use Rattle.rhai_rewriting.proofs.soundness.Rules as rules
+use Rattle.rhai_meaning.specs.Tree.{Callee, Expr, Exprs, Stmt, Stmts, no_stmts, stmt}
+use Rattle.rhai_rewriting.specs.Context.{Context, ListKind, Inside, wanted, wanted_before}
+use Rattle.rhai_rewriting.specs.Rewriting.{ExprTo, same_expr, then_expr, by_expr_rule, in_array, in_braces, in_call, ExprsTo, exprs_none, exprs_more, StmtTo, same_stmt, then_stmt, by_stmt_rule, in_if, in_block, in_expression, in_call_statement, StmtsTo, same_stmts, then_stmts, by_list_rule, in_head, in_tail, flag_forgotten}
+use Rattle.rhai_rewriting.proofs.simulation.Setting.{Setting, world}
+use Rattle.rhai_rewriting.proofs.simulation.Simulation.{Simulates, SimulatesAll, simulates_trans, simulates_refl}
+use Rattle.rhai_rewriting.proofs.simulation.Forms.{simulates_bind, simulates_if, Rest, after, SimulatesStmt, stmt_refl, stmt_trans, stmt_of_deed}
+use Rattle.rhai_rewriting.proofs.simulation.Lists.{SimulatesList, list_of_all, list_refl, list_trans, list_line}
+use Rattle.rhai_rewriting.proofs.simulation.Unwanted.{unwanted_if, unwanted_block}
+use Rattle.rhai_rewriting.proofs.rules.Expressions.{expr_rule}
+use Rattle.rhai_rewriting.proofs.rules.Statements.{stmt_rule}
+use Rattle.rhai_rewriting.proofs.rules.Lists.{list_rule}
+use Rattle.rhai_rewriting.proofs.soundness.Lasting.{same_count}
 
--- arguments keep their number
-pub same_count : {k : Context} {d d' : Bool} {es es' : Exprs} → ExprsTo k d d' es es' → count_exprs es ≡ count_exprs es'
-same_count exprs_none = refl
-same_count (exprs_more p q) = ap suc (same_count q)
+-- ---- nodes whose parts are rewritten
+
+-- a call; b: whether it has a meaning
+call_sound : {k : Context} (c : Setting k) (b : Bool) (f : core.Callee) (es es' : core.Exprs) → ((next : List Value → Act) → Simulates c (with_args (world c) es next) (with_args (world c) es' next)) → Simulates c (act (world c) (cond b (core.FnCall f es) core.Ill)) (act (world c) (cond b (core.FnCall f es') core.Ill))
+call_sound c true f es es' h = h (λ vs. called (world c) f vs)
+call_sound c false f es es' h = simulates_refl
+
+counted_sound : {k : Context} (c : Setting k) (f : Callee) {n n' : ℕ} (es es' : core.Exprs) → n ≡ n' → ((next : List Value → Act) → Simulates c (with_args (world c) es next) (with_args (world c) es' next)) → Simulates c (act (world c) (call_of f n es)) (act (world c) (call_of f n' es'))
+counted_sound c f {n = n} es es' e h = subst (λ m. Simulates c (act (world c) (call_of f n es)) (act (world c) (call_of f m es'))) e (call_sound c (is_callable f n) (callee_by f f.token) es es' h)
+
+if_sound : {k : Context} (c : Setting k) (w : Bool) {e e' : core.Expr} {a a' b b' : core.Stmts} → Simulates c (act (world c) e) (act (world c) e') → SimulatesList c (Inside w) (acts (world c) w a UnitV) (acts (world c) w a' UnitV) → SimulatesList c (Inside w) (acts (world c) w b UnitV) (acts (world c) w b' UnitV) → SimulatesStmt c w (core.Does (core.If e a b)) (core.Does (core.If e' a' b'))
+if_sound c true i h j = stmt_of_deed (simulates_bind i (λ v. simulates_if v h.closed j.closed))
+if_sound c false {e = e} {e' = e'} {a = a} {a' = a'} {b = b} {b' = b'} i h j = record { before = λ p. unwanted_if p e e' a a' b b' i h.closed j.closed }
+
+block_sound : {k : Context} (c : Setting k) (w : Bool) {ss ss' : core.Stmts} → SimulatesList c (Inside w) (acts (world c) w ss UnitV) (acts (world c) w ss' UnitV) → SimulatesStmt c w (core.Does (core.Block ss)) (core.Does (core.Block ss'))
+block_sound c true h = stmt_of_deed h.closed
+block_sound c false {ss = ss} {ss' = ss'} h = record { before = λ p. unwanted_block p ss ss' h.closed }
+
+-- ---- in a list
 
 -- what comes after a list's last statement
-rest_of : (b : Bool) → (k : Rest b) × (after b k ≡ (λ u. Only (give (wanted_value b u))))
+rest_of : (b : Bool) → (rest : Rest b) × (after b rest ≡ (λ u. Only (give (wanted_value b u))))
 rest_of true = ((λ v. Only (give v)), refl)
 rest_of false = (Only (give UnitV), refl)
 
-module _ (w : World) (F : ℕ → Env) (tame : Tame F) where
-  abbrev P : List Known → Act → Act → Type 0
-  P ks a b = Sound w F tame ks a b
+head_sound : {k : Context} (c : Setting k) (m : ListKind) (l l' : core.Stmt) (ss : Stmts) (v : Value) → SimulatesStmt c (wanted_before (wanted m) ss) l l' → SimulatesList c m (line (world c) l (λ u. acts (world c) (wanted m) (core_stmts ss) u)) (line (world c) l' (λ u. acts (world c) (wanted m) (core_stmts ss) u))
+head_sound c m l l' no_stmts v h =
+    let r = rest_of (wanted m) in
+    let R : (Value → Acts) → Type 0 = λ f. SimulatesAll c (line (world c) l f) (line (world c) l' f) in
+    list_of_all m (subst R r.1 (h.before r.0))
+head_sound c m l l' (stmt t ss) v h = list_of_all m (h.before (acts (world c) (wanted m) (core_stmts (stmt t ss)) v))
 
-  abbrev Q : List Known → Acts → Acts → Type 0
-  Q ks p q = SoundAll w F tame ks p q
+tail_sound : {k : Context} (c : Setting k) (m : ListKind) (l : core.Stmt) {f f' : Value → Acts} → ((v : Value) → SimulatesList c m (f v) (f' v)) → SimulatesList c m (line (world c) l f) (line (world c) l f')
+tail_sound c m (core.Does d) h = list_line m _ h
 
-  -- a call whose arguments are rewritten; b: whether it has a meaning
-  call_sound : (ks : List Known) (b : Bool) (c : core.Callee) (es es' : core.Exprs) → ((f : List Value → Act) → P ks (with_args w es f) (with_args w es' f)) → P ks (act w (cond b (core.FnCall c es) core.Ill)) (act w (cond b (core.FnCall c es') core.Ill))
-  call_sound ks true c es es' h = h (λ vs. called w c vs)
-  call_sound ks false c es es' h = s_refl w F tame ks _
+-- ---- derivations
 
-  counted_sound : (ks : List Known) (c : Callee) (n n' : ℕ) (es es' : core.Exprs) → n ≡ n' → ((f : List Value → Act) → P ks (with_args w es f) (with_args w es' f)) → P ks (act w (call_of c n es)) (act w (call_of c n' es'))
-  counted_sound ks c n n' es es' e h = subst (λ m. P ks (act w (call_of c n es)) (act w (call_of c m es'))) e (call_sound ks (is_callable c n) (callee_by c c.token) es es' h)
+mutual
+  pub expr_sound : {k : Context} {d d' : Bool} {e e' : Expr} → ExprTo k d d' e e' → (c : Setting k) → Simulates c (act (world c) (core_expr e)) (act (world c) (core_expr e'))
+  expr_sound same_expr c = simulates_refl
+  expr_sound (then_expr h j) c = simulates_trans (expr_sound h c) (expr_sound j c)
+  expr_sound (by_expr_rule r) c = (expr_rule r).sound c
+  expr_sound (in_array h) c = args_sound h c (λ vs. _)
+  expr_sound (in_braces h) c = (stmts_sound h c UnitV).closed
+  expr_sound (in_call {c = f} {es = es} {es' = es'} h) c = counted_sound c f (core_exprs es) (core_exprs es') (same_count h) (λ next. args_sound h c next)
 
-  mutual
-    pub expr_sound : {k : Context} {d d' : Bool} {e e' : Expr} → ExprTo k d d' e e' → k.engine ≡ w.engine → P k.known (act w (core_expr e)) (act w (core_expr e'))
-    expr_sound {k} (same_expr {e = e}) q = s_refl w F tame k.known (act w (core_expr e))
-    expr_sound {k} (then_expr {e = e} {e1 = e1} {e2 = e2} h j) q = s_trans w F tame k.known (act w (core_expr e)) (act w (core_expr e1)) (act w (core_expr e2)) (expr_sound h q) (expr_sound j q)
-    expr_sound {k} (in_array h) q = args_sound h q (λ vs. give (ArrayV (values vs))) (λ vs. give (ArrayV (values vs))) (λ vs. s_refl w F tame k.known _)
-    expr_sound {k} (in_braces h) q = (stmts_sound h q UnitV).closed
-    expr_sound {k} (in_call {c = c} {es = es} {es' = es'} h) q = counted_sound k.known c (count_exprs es) (count_exprs es') (core_exprs es) (core_exprs es') (same_count h) (λ f. args_sound h q f f (λ vs. s_refl w F tame k.known (f vs)))
-    expr_sound {k} (array_of_constants {es = es} {vs = vs} h) q = rules.array_of_constants w F tame k.known es vs h
-    expr_sound {k} braces_empty q = rules.braces_empty w F tame k.known
-    expr_sound {k} (braces_of_expression {e = e}) q = rules.braces_of_expression w F tame k.known e
-    expr_sound {k} (operator_folds {c = c} {es = es} {v = v} h) q = rules.operator_folds w F tame k.known c es v (sym (ap (λ r. folded r c es) q) ∙ h)
+  args_sound : {k : Context} {d d' : Bool} {es es' : Exprs} → ExprsTo k d d' es es' → (c : Setting k) (next : List Value → Act) → Simulates c (with_args (world c) (core_exprs es) next) (with_args (world c) (core_exprs es') next)
+  args_sound exprs_none c next = simulates_refl
+  args_sound (exprs_more h i) c next = simulates_bind (expr_sound h c) (λ v. args_sound i c (λ vs. next (v ∷ vs)))
 
-    args_sound : {k : Context} {d d' : Bool} {es es' : Exprs} → ExprsTo k d d' es es' → k.engine ≡ w.engine → (f f' : List Value → Act) → ((vs : List Value) → P k.known (f vs) (f' vs)) → P k.known (with_args w (core_exprs es) f) (with_args w (core_exprs es') f')
-    args_sound {k} exprs_none q f f' j = j []
-    args_sound {k} (exprs_more h i) q f f' j = s_bind w F tame k.known _ _ _ _ (expr_sound h q) (λ v. args_sound i q _ _ (λ vs. j (v ∷ vs)))
+  stmt_sound : {k : Context} {w d d' : Bool} {s s' : Stmt} → StmtTo k w d d' s s' → (c : Setting k) → SimulatesStmt c w (core_stmt s) (core_stmt s')
+  stmt_sound same_stmt c = stmt_refl
+  stmt_sound (then_stmt h j) c = stmt_trans (stmt_sound h c) (stmt_sound j c)
+  stmt_sound (by_stmt_rule r) c = (stmt_rule r).sound c
+  stmt_sound {w = w} (in_if h i j) c = if_sound c w (expr_sound h c) (stmts_sound i c UnitV) (stmts_sound j c UnitV)
+  stmt_sound {w = w} (in_block h) c = block_sound c w (stmts_sound h c UnitV)
+  stmt_sound (in_expression h) c = stmt_of_deed (expr_sound h c)
+  stmt_sound (in_call_statement {c = f} {es = es} {es' = es'} h) c = stmt_of_deed (counted_sound c f (core_exprs es) (core_exprs es') (same_count h) (λ next. args_sound h c next))
 
-    pub stmt_sound : {k : Context} {b d d' : Bool} {s s' : Stmt} → StmtTo k b d d' s s' → k.engine ≡ w.engine → SoundStmt w F tame k.known b (core_stmt s) (core_stmt s')
-    stmt_sound {k} {b = b} (same_stmt {s = s}) q = stmt_same w F tame k.known b (core_stmt s)
-    stmt_sound {k} {b = b} (then_stmt {s = s} {s1 = s1} {s2 = s2} h j) q = stmt_trans w F tame k.known b (core_stmt s) (core_stmt s1) (core_stmt s2) (stmt_sound h q) (stmt_sound j q)
-    stmt_sound {k} {b = true} (in_if {e = e} {e' = e'} {a = x} {a' = x'} {b = y} {b' = y'} h i j) q =
-        stmt_of_deed w F tame k.known true (core.If (core_expr e) (core_stmts x) (core_stmts y)) (core.If (core_expr e') (core_stmts x') (core_stmts y'))
-        (s_bind w F tame k.known _ _ _ _ (expr_sound h q) (λ v. s_if w F tame k.known v _ _ _ _ (stmts_sound i q UnitV).closed (stmts_sound j q UnitV).closed))
-    stmt_sound {k} {b = false} (in_if {e = e} {e' = e'} {a = x} {a' = x'} {b = y} {b' = y'} h i j) q = record {
-      before = λ p. unwanted_if w F tame k.known p (core_expr e) (core_expr e') (core_stmts x) (core_stmts x') (core_stmts y) (core_stmts y') (expr_sound h q) (stmts_sound i q UnitV).closed (stmts_sound j q UnitV).closed;
-    }
-    stmt_sound {k} {b = true} (in_block {ss = ss} {ss' = ss'} h) q = stmt_of_deed w F tame k.known true (core.Block (core_stmts ss)) (core.Block (core_stmts ss')) (stmts_sound h q UnitV).closed
-    stmt_sound {k} {b = false} (in_block {ss = ss} {ss' = ss'} h) q = record { before = λ p. unwanted_block w F tame k.known p (core_stmts ss) (core_stmts ss') (stmts_sound h q UnitV).closed }
-    stmt_sound {k} {b = b} (in_expression {e = e} {e' = e'} h) q = stmt_of_deed w F tame k.known b (core.Evaluate (core_expr e)) (core.Evaluate (core_expr e')) (expr_sound h q)
-    stmt_sound {k} {b = b} (in_call_statement {c = c} {es = es} {es' = es'} h) q =
-        stmt_of_deed w F tame k.known b (core.Evaluate (call_of c (count_exprs es) (core_exprs es))) (core.Evaluate (call_of c (count_exprs es') (core_exprs es')))
-        (counted_sound k.known c (count_exprs es) (count_exprs es') (core_exprs es) (core_exprs es') (same_count h) (λ f. args_sound h q f f (λ vs. s_refl w F tame k.known (f vs))))
-    stmt_sound {k} {b = b} (if_without_blocks {e = e}) q = rules.if_without_blocks w F tame k.known b e
-    stmt_sound {k} {b = b} (if_decided {t = t} {e = e} {a = x} {b = y} h) q = rules.if_decided w F tame k.known b e t x y h
-    stmt_sound {k} {b = b} block_empty q = rules.block_empty w F tame k.known b
-    stmt_sound {k} {b = b} (block_of_statement {s = s} h) q = rules.block_of_statement w F tame k.known b s h
-    stmt_sound {k} {b = b} (statement_of_braces {ss = ss}) q = rules.statement_of_braces w F tame k.known b ss
-    stmt_sound {k} {b = b} (statement_of_call {c = c} {es = es}) q = rules.statement_of_call w F tame k.known b c es
-    stmt_sound {k} {b = b} (call_statement_folds {c = c} {es = es} {v = v} h) q = rules.call_statement_folds w F tame k.known b c es v (sym (ap (λ r. folded r c es) q) ∙ h)
-
-    pub each_sound : {k : Context} {m : ListKind} {d d' : Bool} {ss ss' : Stmts} → EachTo k m d d' ss ss' → k.engine ≡ w.engine → (v : Value) → SoundList w F tame m k.known (acts w (wanted m) (core_stmts ss) v) (acts w (wanted m) (core_stmts ss') v)
-    each_sound {k} {m = m} each_none q v = l_of w F tame m k.known _ _ (s_all_refl w F tame k.known _)
-    each_sound {k} {m = m} (each_last {s = s} {s' = s'} h) q v =
-        let r = rest_of (wanted m) in
-        let R : (Value → Acts) → Type 0 = λ f. Q k.known (line w (core_stmt s) f) (line w (core_stmt s') f) in
-        l_of w F tame m k.known _ _ (subst R r.1 ((stmt_sound h q).before r.0))
-    each_sound {k} {m = m} (each_more {s = s} {s' = s'} {t = t} {ss = ss} {ss' = ss'} h j) q v =
-        l_trans w F tame m k.known _ (line w (core_stmt s') (λ u. acts w (wanted m) (core_stmts (stmt t ss)) u)) _
-        (l_of w F tame m k.known _ _ ((stmt_sound h q).before (acts w (wanted m) (core_stmts (stmt t ss)) v)))
-        (rules.line_tail w F tame k.known m (core_stmt s') (λ u. acts w (wanted m) (core_stmts (stmt t ss)) u) (λ u. acts w (wanted m) (core_stmts ss') u) (λ u. each_sound j q u))
-
-    pub stmts_sound : {k : Context} {m : ListKind} {d d' : Bool} {ss ss' : Stmts} → StmtsTo k m d d' ss ss' → k.engine ≡ w.engine → (v : Value) → SoundList w F tame m k.known (acts w (wanted m) (core_stmts ss) v) (acts w (wanted m) (core_stmts ss') v)
-    stmts_sound {k} {m = m} (same_stmts {ss = ss}) q v = l_of w F tame m k.known _ _ (s_all_refl w F tame k.known (acts w (wanted m) (core_stmts ss) v))
-    stmts_sound {k} {m = m} (then_stmts {ss = ss} {ss1 = ss1} {ss2 = ss2} h j) q v = l_trans w F tame m k.known (acts w (wanted m) (core_stmts ss) v) (acts w (wanted m) (core_stmts ss1) v) (acts w (wanted m) (core_stmts ss2) v) (stmts_sound h q v) (stmts_sound j q v)
-    stmts_sound {k} {m = m} (in_each h) q v = each_sound h q v
-    stmts_sound {k} {m = m} (block_gives_way front ss back h) q v = rules.block_gives_way w F tame k.known m front ss back h v
+  pub stmts_sound : {k : Context} {m : ListKind} {d d' : Bool} {ss ss' : Stmts} → StmtsTo k m d d' ss ss' → (c : Setting k) (v : Value) → SimulatesList c m (acts (world c) (wanted m) (core_stmts ss) v) (acts (world c) (wanted m) (core_stmts ss') v)
+  stmts_sound same_stmts c v = list_refl
+  stmts_sound {m = m} (then_stmts h j) c v = list_trans m (stmts_sound h c v) (stmts_sound j c v)
+  stmts_sound (by_list_rule r) c v = (list_rule r).sound c v
+  stmts_sound {m = m} (in_head {s = s} {s' = s'} {ss = ss} h) c v = head_sound c m (core_stmt s) (core_stmt s') ss v (stmt_sound h c)
+  stmts_sound {m = m} (in_tail {s = s} h) c v = tail_sound c m (core_stmt s) (λ u. stmts_sound h c u)
+  stmts_sound (flag_forgotten h) c v = stmts_sound h c v

@@ -1,6 +1,6 @@
 -- Constants give their values, or are stuck where a node has no meaning.
 use Rattle.std.proofs.Common.{◌≡◌, ℕ, Bool, true, false, cond, List, ◌∷◌, Option, Some, None, refl, sym, ap, ◌∙◌, subst}
-use Rattle.rhai_base.specs.Value.{Value, UnitV, BoolV, IntV, CharV, TextV, ArrayV, MapV, PointerV, RangeV, RangeInclusiveV, values}
+use Rattle.rhai_base.specs.Value.{Value, ArrayV, PointerV, values}
 use Rattle.rhai_base.specs.Operators.{Operator, Computed, NoEntry, Is, Overflows, symbol}
 use Rattle.rhai_meaning.specs.Engine.{built_in}
 use Rattle.rhai_meaning.specs.Act.{World, Store, Gives, WrongKind, IsStuck, Ended, Halted, Result, At, Act, Env, and_then, run}
@@ -15,7 +15,7 @@ use Rattle.rhai_meaning.specs.Relations.{Begins, calls_of}
 use Rattle.rhai_meaning.specs.Tree as tree
 use Rattle.rhai_rewriting.specs.Folding.{computed_value, folded_values}
 use Rattle.rhai_rewriting.proofs.Plain.{is_plain_value}
-use Rattle.rhai_rewriting.proofs.soundness.Sound.{OrStuck, equal, is_stuck}
+use Rattle.rhai_rewriting.proofs.simulation.Simulation.{OrStuck, equal, is_stuck}
 
 -- r is r', or stuck at once
 pub data OrWrong (r r' : Result) (s : Store) (t : ℕ) : Type 0 where
@@ -41,16 +41,8 @@ some_same v w h = ap (some_value v) h
 
 -- the constant for a value has that value; a pointer may be the call that makes it
 pub constant_means : (v : Value) → is_plain_value v ≡ true → core_expr (constant_for v) ≡ Constant v
-constant_means UnitV p = refl
-constant_means (BoolV b) p = refl
-constant_means (IntV n) p = refl
-constant_means (CharV c) p = refl
-constant_means (TextV t) p = refl
-constant_means (ArrayV vs) p = refl
-constant_means (MapV fs) p = refl
 constant_means (PointerV f vs) p = absurd cc
-constant_means (RangeV a b) p = refl
-constant_means (RangeInclusiveV a b) p = refl
+constant_means _ p = refl
 
 module _ (w : World) (env : Env) where
   -- where there is a value, the result gives it
@@ -83,14 +75,10 @@ module _ (w : World) (env : Env) where
   mutual
     pub expr_given : (e : tree.Expr) (s : Store) (t : ℕ) → Given (constant_value e) (run w env (act w (core_expr e)) s t) s t
     expr_given (tree.DynamicConstant v) s t = given_own (is_unit v) v s t
-    expr_given (tree.BoolConstant b) s t = is refl
-    expr_given (tree.IntegerConstant n) s t = is refl
-    expr_given (tree.CharConstant c) s t = is refl
-    expr_given (tree.StringConstant u) s t = is refl
-    expr_given tree.UnitConstant s t = is refl
     expr_given (tree.ArrayOf es) s t = given_array (constant_values es) es s t (exprs_given es (λ vs. give (ArrayV (values vs))) s t)
     expr_given (tree.BlockExpr ss) s t = tt
     expr_given (tree.FnCall c es) s t = tt
+    expr_given _ s t = is refl
 
     pub exprs_given : (es : tree.Exprs) (next : List Value → Act) (s : Store) (t : ℕ) → GivenAll (constant_values es) es next s t
     exprs_given tree.no_exprs next s t = is refl

@@ -1,0 +1,43 @@
+-- Lists, closed at their end: a whole one by its return, an inside one by taking its names away.
+use Rattle.rhai_base.specs.Value.{Value}
+use Rattle.std.proofs.Common.{sym}
+use Rattle.rhai_meaning.specs.Act.{Ending, Gives, Leaves, Act, Scoped, Acts, Do, Finish}
+use Rattle.rhai_meaning.specs.ActForms.{each_value, then_line}
+use Rattle.rhai_meaning.proofs.Sequencing.{scoped_do, finish_do}
+use Rattle.rhai_rewriting.specs.Context.{Context, ListKind, Whole, Inside}
+use Rattle.rhai_rewriting.proofs.simulation.Setting.{Setting, world}
+use Rattle.rhai_rewriting.proofs.simulation.Simulation.{Simulates, SimulatesAll, simulates_trans, all_trans, simulates_equal, all_equal, simulates_refl, all_refl, simulates_then, all_do, all_finish, simulates_scoped}
+
+abbrev pub Closed : {k : Context} → Setting k → ListKind → Acts → Acts → Type 0
+Closed c Whole p q = SimulatesAll c (Finish p) (Finish q)
+Closed c (Inside b) p q = Simulates c (Scoped p) (Scoped q)
+
+pub record SimulatesList {k : Context} (c : Setting k) (m : ListKind) (p q : Acts) : Type 0 where
+  pub closed : Closed c m p q
+
+pub list_of_all : {k : Context} {c : Setting k} (m : ListKind) {p q : Acts} → SimulatesAll c p q → SimulatesList c m p q
+list_of_all Whole i = record { closed = all_finish i }
+list_of_all (Inside b) i = record { closed = simulates_scoped i }
+
+pub list_refl : {k : Context} {c : Setting k} {m : ListKind} {p : Acts} → SimulatesList c m p p
+list_refl {m = m} = list_of_all m all_refl
+
+pub list_trans : {k : Context} {c : Setting k} (m : ListKind) {p q r : Acts} → SimulatesList c m p q → SimulatesList c m q r → SimulatesList c m p r
+list_trans Whole i h = record { closed = all_trans i.closed h.closed }
+list_trans (Inside b) i h = record { closed = simulates_trans i.closed h.closed }
+
+list_do : {k : Context} {c : Setting k} (m : ListKind) (a : Act) {next next' : Ending → Acts} → ((e : Ending) → SimulatesList c m (next e) (next' e)) → SimulatesList c m (Do a next) (Do a next')
+list_do {c = c} Whole a {next = next} {next' = next'} h = record {
+  closed = all_trans (all_equal (λ n. finish_do (world c) n.env a next n.store n.turns)) (all_trans (all_do (simulates_refl {a = a}) (λ e. (h e).closed)) (all_equal (λ n. sym (finish_do (world c) n.env a next' n.store n.turns))));
+}
+list_do {c = c} (Inside b) a {next = next} {next' = next'} h = record {
+  closed = simulates_trans (simulates_equal (λ n. scoped_do (world c) n.env n.adds a next n.store n.turns)) (simulates_trans (simulates_then (simulates_refl {a = a}) (λ e. (h e).closed)) (simulates_equal (λ n. sym (scoped_do (world c) n.env n.adds a next' n.store n.turns))));
+}
+
+in_each_value : {k : Context} {c : Setting k} (m : ListKind) {f f' : Value → Acts} → ((v : Value) → SimulatesList c m (f v) (f' v)) → (e : Ending) → SimulatesList c m (each_value f e) (each_value f' e)
+in_each_value m h (Gives v) = h v
+in_each_value m h (Leaves x) = list_refl
+
+-- behind an act that stays
+pub list_line : {k : Context} {c : Setting k} (m : ListKind) (a : Act) {f f' : Value → Acts} → ((v : Value) → SimulatesList c m (f v) (f' v)) → SimulatesList c m (then_line a f) (then_line a f')
+list_line m a h = list_do m a (in_each_value m h)

@@ -1,0 +1,74 @@
+-- What lemmas on runs share: where a tree stands, the world, and the environments by depth.
+use Rattle.std.proofs.Common.{ℕ, ◌≤◌, List, arith}
+use Rattle.rhai_base.specs.Value.{Text}
+use Rattle.rhai_meaning.specs.Act.{Host, Key, Store, World, Result, Act, Acts, Env, run, run_all}
+use Rattle.rhai_meaning.proofs.Preserves.{OnlyAdds}
+use Rattle.rhai_meaning.proofs.Relations.{AnyHalt, IsOut}
+use Rattle.rhai_meaning.proofs.Monotone.{Deeper, follows_weak, monotone, monotone_all}
+use Rattle.rhai_meaning.proofs.Ends.{Run, Rises}
+use Rattle.rhai_rewriting.specs.Context.{Context}
+use Rattle.rhai_rewriting.specs.Known.{shadow, Agrees}
+
+-- a deeper one does what a shallower one does unless that is out of turns, and loops go round as often as it is deep
+pub record Environments : Type 0 where
+  pub by_depth : ℕ → Env
+  pub deeper : (d d' n : ℕ) → d ≤ d' → Deeper IsOut tt n (by_depth d) (by_depth d')
+  pub reaches : (d : ℕ) → d ≤ (by_depth d).rounds
+
+pub record Setting (k : Context) : Type 0 where
+  pub host : Host
+  pub functions : List Key
+  pub environments : Environments
+
+abbrev pub world : {k : Context} → Setting k → World
+world {k} c = record { engine = k.engine; host = c.host; functions = c.functions }
+
+abbrev pub environment : {k : Context} → Setting k → ℕ → Env
+environment c d = c.environments.by_depth d
+
+-- under one more name
+abbrev pub naming : Text → Context → Context
+naming x k = record k { known = shadow x k.known }
+
+abbrev pub beneath : {k : Context} (x : Text) → Setting k → Setting (naming x k)
+beneath x c = record { host = c.host; functions = c.functions; environments = c.environments }
+
+-- what is known holds in the store
+abbrev pub Agreed : Context → Store → Type 0
+Agreed k s = Agrees k.engine.constants k.known s.scope
+
+-- where a run may start
+pub record Start (k : Context) : Type 0 where
+  pub env : Env
+  pub store : Store
+  pub turns : ℕ
+  pub adds : OnlyAdds env
+  pub agrees : Agreed k store
+
+abbrev pub run_from : {k : Context} → Setting k → Start k → Act → Result
+run_from c m a = run (world c) m.env a m.store m.turns
+
+abbrev pub run_all_from : {k : Context} → Setting k → Start k → Acts → Result
+run_all_from c m p = run_all (world c) m.env p m.store m.turns
+
+-- ---- runs by depth
+
+abbrev pub by_depth : {k : Context} → Setting k → Act → Run
+by_depth c a d = run (world c) (environment c d) a
+
+abbrev pub all_by_depth : {k : Context} → Setting k → Acts → Run
+all_by_depth c p d = run_all (world c) (environment c d) p
+
+pub adds_at : {k : Context} (c : Setting k) (d : ℕ) → OnlyAdds (environment c d)
+adds_at c d = (c.environments.deeper d d 0 (omega arith)).adds
+
+pub steady_at : {k : Context} (c : Setting k) (d : ℕ) → Deeper AnyHalt tt 0 (environment c d) (environment c d)
+steady_at c d =
+    let h = c.environments.deeper d d 0 (omega arith) in
+    record { rounds = h.rounds; invoke = λ a scope calls t t' le. follows_weak (h.invoke a scope calls t t' le); adds = h.adds }
+
+pub rises : {k : Context} (c : Setting k) (a : Act) → Rises (by_depth c a)
+rises c a d1 d2 n s t t' le lt = monotone IsOut tt n (world c) (environment c d1) (environment c d2) (c.environments.deeper d1 d2 n le) a s t t' lt
+
+pub rises_all : {k : Context} (c : Setting k) (p : Acts) → Rises (all_by_depth c p)
+rises_all c p d1 d2 n s t t' le lt = monotone_all IsOut tt n (world c) (environment c d1) (environment c d2) (c.environments.deeper d1 d2 n le) p s t t' lt
