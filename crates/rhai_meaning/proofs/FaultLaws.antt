@@ -1,9 +1,9 @@
 -- A tree is well-formed exactly where it has no first fault.
 use Rattle.std.proofs.Common.{◌≡◌, ℕ, Bool, true, false, not, List, [], ◌∷◌, Option, Some, None, refl}
-use Rattle.rhai_meaning.specs.Faults.{TreeFault, ReservedName, Around, outermost, around_spot, around_parts, fault_of, unless, faultless, finding, is_reserved, AreWellFormedFunctions, functions_fault, ◌then◌}
+use Rattle.rhai_meaning.specs.Faults.{TreeFault, ReservedName, fault_of, unless, faultless, finding, is_reserved, AreWellFormedFunctions, functions_fault, ◌then◌}
 use Rattle.rhai_meaning.specs.Laws.{WellFormedLaw}
 use Rattle.rhai_meaning.specs.Tree.{Function, Script, Stmts}
-use Rattle.rhai_meaning.specs.Walk.{arm_at, arms_at, listed, over_stmts}
+use Rattle.rhai_meaning.specs.Walk.{Around, outermost, around_spot, around_parts, arm_at, arms_at, listed, over_stmts}
 use Rattle.rhai_meaning.proofs.Walk.{Alongside, stmts_alongside}
 
 -- no fault is found exactly where P holds, wherever the part stands

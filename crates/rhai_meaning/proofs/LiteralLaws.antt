@@ -11,12 +11,12 @@ use Rattle.rhai_meaning.specs.Constants.{array_value, map_value, joined_value, v
 use Rattle.rhai_meaning.specs.Control.{texts_joined}
 use Rattle.rhai_meaning.specs.Core as core
 use Rattle.rhai_meaning.specs.Desugar.{core_expr, core_exprs, core_pairs, call_of}
-use Rattle.rhai_meaning.specs.Faults.{Around, TreeFault, ◌then◌, unless, map_fault, faultless, IsWellFormedExpr, AreWellFormedExprs}
+use Rattle.rhai_meaning.specs.Faults.{TreeFault, ◌then◌, unless, map_fault, faultless, IsWellFormedExpr, AreWellFormedExprs}
 use Rattle.rhai_meaning.specs.Laws.{LiteralLaw, IsNamed}
 use Rattle.rhai_meaning.specs.Meaning.{act, with_args, with_pairs}
 use Rattle.rhai_meaning.specs.Shape.{is_none, is_unit, is_map, has_token, keys, are_distinct, are_among}
 use Rattle.rhai_meaning.specs.Tree.{CallToken, NoToken, OfOperator, OfOther, Callee, Expr, DynamicConstant, BoolConstant, IntegerConstant, CharConstant, StringConstant, UnitConstant, InterpolatedString, ArrayOf, MapOf, FnCall, Exprs, no_exprs, expr, count_exprs, Pairs, no_pairs, pair}
-use Rattle.rhai_meaning.specs.Walk.{over_pairs}
+use Rattle.rhai_meaning.specs.Walk.{Around, over_pairs}
 use Rattle.rhai_meaning.proofs.PureTrees.{no, split}
 
 abbrev or_this : {A : Type 0} → A → Option A → A

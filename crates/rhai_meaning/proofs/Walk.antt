@@ -1,7 +1,7 @@
 -- Laws of the walk: what holds of two walks at each node holds of them over a whole tree.
 use Rattle.std.proofs.Common.{◌≡◌, ℕ, zero, suc, ◌+◌, ◌≤◌, List, [], ◌∷◌, arith}
 use Rattle.rhai_meaning.specs.Tree.{SwitchTable, Expr, InterpolatedString, ArrayOf, MapOf, MethodCall, BlockExpr, FnCall, Dot, Index, And, Or, Coalesce, Exprs, no_exprs, expr, Pairs, no_pairs, pair, MaybeExpr, no_expr, an_expr, Arms, no_arms, arm, Stmt, If, Switch, While, Do, For, Var, Assignment, FnCallStmt, Block, TryCatch, ExprStmt, BreakLoop, Return, Import, Stmts, no_stmts, stmt, joined, Function, Script}
-use Rattle.rhai_meaning.specs.Walk.{Node, Spot, Walk, parts_of_expr, parts_of_stmt, over_exprs, over_pairs, over_maybe, over_arms, over_stmts, over_expr, over_stmt, over_functions, over_script, arm_at, arms_at, listed, sum_of, every, total}
+use Rattle.rhai_meaning.specs.Walk.{Node, Spot, Walk, parts_of_expr, parts_of_stmt, over_exprs, over_pairs, over_maybe, over_arms, over_stmts, over_expr, over_stmt, over_functions, over_script, arm_at, arms_at, listed, sum_of, every, total, Around, around_spot, around_parts, throughout}
 
 -- R is kept by both walks, step by step
 pub record Alongside {ℓ κ μ} {A : Type ℓ} {B : Type κ} (R : A → B → Type μ) (w : Walk A) (v : Walk B) : Type (ℓ ⊔ κ ⊔ μ) where
@@ -89,6 +89,12 @@ sum_most [] ms h = omega arith
 sum_most (n ∷ ns) [] h = omega (arith, h 0, sum_most ns [] (λ i. h (suc i)))
 sum_most (n ∷ ns) (m ∷ ms) h = omega (arith, h 0, sum_most ns ms (λ i. h (suc i)))
 
+arms_throughout : (ps : List (Type 0)) (qs : List (Around → Type 0)) → ((i : ℕ) (a : Around) → (arm_at (Unit {0}) ps i → arm_at (λ b. Unit {0}) qs i a) × (arm_at (λ b. Unit {0}) qs i a → arm_at (Unit {0}) ps i)) → (is : List ℕ) (a : Around) → (arms_at (Unit {0}) (λ p q. p × q) ps is → arms_at (λ b. Unit {0}) (λ p q b. p b × q b) qs is a) × (arms_at (λ b. Unit {0}) (λ p q b. p b × q b) qs is a → arms_at (Unit {0}) (λ p q. p × q) ps is)
+arms_throughout ps qs h [] a = ((λ u. u), (λ u. u))
+arms_throughout ps qs h (i ∷ is) a =
+    let z = arms_throughout ps qs h is a in
+    ((λ x. ((h i a).0 x.0, z.0 x.1)), (λ x. ((h i a).1 x.0, z.1 x.1)))
+
 -- what follows at each node follows over the whole
 pub every_weaker : (P Q : Node → Type 0) → ((n : Node) → P n → Q n) → Alongside (λ p q. p → q) (every P) (every Q)
 every_weaker P Q h = record {
@@ -126,3 +132,17 @@ every_back P (stmt s front) back h = every_back P front back h.1
 pub total_joined : (f : Node → ℕ) (front back : Stmts) → over_stmts (total f) (joined front back) ≡ over_stmts (total f) front + over_stmts (total f) back
 total_joined f no_stmts back = omega arith
 total_joined f (stmt s front) back = omega (arith, total_joined f front back)
+
+pub throughout_joined : (P : Around → Node → Type 0) (a : Around) (front back : Stmts) → over_stmts (throughout P) front a → over_stmts (throughout P) back a → over_stmts (throughout P) (joined front back) a
+throughout_joined P a no_stmts back h k = k
+throughout_joined P a (stmt s front) back h k = (h.0, throughout_joined P a front back h.1 k)
+
+-- what doesn't ask where a node stands
+pub every_throughout : (P : Node → Type 0) → Alongside (λ p q. (a : Around) → (p → q a) × (q a → p)) (every P) (throughout (λ a n. P n))
+every_throughout P = record {
+  none = λ a. ((λ u. u), (λ u. u));
+  both = λ p p' q q' h k a. ((λ x. ((h a).0 x.0, (k a).0 x.1)), (λ x. ((h a).1 x.0, (k a).1 x.1)));
+  node = λ n p q h a. ((λ x. (x.0, (h (around_parts n a)).0 x.1)), (λ x. (x.0, (h (around_parts n a)).1 x.1)));
+  within = λ s p q h a. h (around_spot s a);
+  arms = λ t ps qs h. arms_throughout ps qs h (listed t);
+}

@@ -5,7 +5,7 @@ use Rattle.rhai_parts.specs.Names.{is_among, reserved, symbols}
 use Rattle.rhai_meaning.specs.Engine.{or_else}
 use Rattle.rhai_meaning.specs.Shape.{is_unit, has_token, is_rest, is_table, is_left_side, catch_name, keys, are_distinct, are_among}
 use Rattle.rhai_meaning.specs.Tree.{Callee, Expr, DynamicConstant, MapOf, Property, MethodCall, FnCall, Dot, Index, And, Or, Coalesce, Exprs, no_exprs, expr, count_exprs, Stmt, Switch, Assignment, FnCallStmt, TryCatch, BreakLoop, Stmts, Function, Script}
-use Rattle.rhai_meaning.specs.Walk.{Node, OfExpr, OfStmt, Spot, LoopBody, LeftSide, RightSide, Walk, over_expr, over_exprs, over_stmt, over_stmts, arms_at, listed}
+use Rattle.rhai_meaning.specs.Walk.{Node, OfExpr, OfStmt, Role, Member, Rest, Around, outermost, around_spot, around_parts, Walk, throughout, over_expr, over_exprs, over_stmt, over_stmts, arms_at, listed}
 
 pub data TreeFault : Type 0 where
   DuplicateMapKey : TreeFault
@@ -32,43 +32,6 @@ number_of AssignTarget = 27
 number_of OperatorName = 28
 number_of CatchName = 29
 number_of SwitchFault = 31
-
--- ---- what stands around a node
-
--- a whole expression; the property or method of a `Dot`; the rest of a chain, whose left side is a `Dot`'s argument or not
-pub data Role : Type 0 where
-  Whole : Role
-  Member : Role
-  Rest : Bool → Role
-
--- whether a loop's body stands around, in the same function
-pub record Around : Type 0 where
-  pub in_loop : Bool
-  pub role : Role
-
-abbrev pub outermost : Around
-outermost = record { in_loop = false; role = Whole }
-
-abbrev pub left_role : Role → Role
-left_role (Rest true) = Member
-left_role _ = Whole
-
-abbrev pub right_role : (dot breaks : Bool) → Expr → Role
-right_role dot true r = if dot then Member else Whole
-right_role dot false (Dot k l r) = Rest dot
-right_role dot false (Index k l r) = Rest dot
-right_role dot false _ = if dot then Member else Whole
-
-abbrev pub around_spot : Spot → Around → Around
-around_spot LoopBody a = record a { in_loop = true }
-around_spot LeftSide a = record a { role = left_role a.role }
-around_spot (RightSide dot k r) a = record a { role = right_role dot k.breaks r }
-
--- around the parts of a node: whole expressions, but for the sides of a `Dot` or an `Index`
-abbrev pub around_parts : Node → Around → Around
-around_parts (OfExpr (Dot k l r)) a = a
-around_parts (OfExpr (Index k l r)) a = a
-around_parts _ a = record a { role = Whole }
 
 -- ---- the fault of one node
 
@@ -132,14 +95,11 @@ fault_of a (OfStmt s) = stmt_fault a s
 -- ---- trees
 
 -- at no node stands a fault
+abbrev pub IsFaultless : Around → Node → Type 0
+IsFaultless a n = fault_of a n ≡ None
+
 abbrev pub faultless : Walk (Around → Type 0)
-faultless = record {
-  none = λ a. Unit {0};
-  both = λ p q a. p a × q a;
-  node = λ n p a. (fault_of a n ≡ None) × p (around_parts n a);
-  within = λ s p a. p (around_spot s a);
-  arms = λ t ps. arms_at (λ a. Unit {0}) (λ p q a. p a × q a) ps (listed t);
-}
+faultless = throughout IsFaultless
 
 abbrev pub IsWellFormedExpr : Around → Expr → Type 0
 IsWellFormedExpr a e = over_expr faultless e a

@@ -6,10 +6,11 @@ use Rattle.rhai_meaning.specs.Act.{World, ScopeEntry, Store, Gives, Stuck, IsStu
 use Rattle.rhai_meaning.specs.ActForms.{give}
 use Rattle.rhai_meaning.specs.Constants.{constant_value, literal_value, constant_for}
 use Rattle.rhai_meaning.specs.Desugar.{core_expr, core_stmt}
-use Rattle.rhai_meaning.specs.Faults.{Around, IsWellFormedExpr, IsWellFormedScript, script_fault}
+use Rattle.rhai_meaning.specs.Faults.{IsWellFormedExpr, IsWellFormedScript, script_fault}
 use Rattle.rhai_meaning.specs.Meaning.{act, line}
 use Rattle.rhai_meaning.specs.Queries.{is_pure_expr, is_pure, is_internally_pure, is_block_dependent}
 use Rattle.rhai_meaning.specs.Relations.{OnlyAdds, store_of}
+use Rattle.rhai_meaning.specs.Walk.{Around}
 use Rattle.rhai_meaning.specs.Tree.{Expr, Stmt, Script}
 
 -- ---- runs that change nothing

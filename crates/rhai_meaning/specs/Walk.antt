@@ -1,5 +1,5 @@
 -- One walk over the parts of a tree, the only recursion that lists them: what is made of a node, and of its parts.
-use Rattle.std.specs.Prelude.{ℕ, zero, suc, ◌+◌, Bool, true, false, List, [], ◌∷◌, ◌++◌, Option, Some, None}
+use Rattle.std.specs.Prelude.{ℕ, zero, suc, ◌+◌, Bool, true, false, List, [], ◌∷◌, ◌++◌, Option, Some, None, if◌then◌else◌}
 use Rattle.rhai_meaning.specs.Tree.{ChainFlags, SwitchCase, SwitchRange, SwitchTable, Expr, InterpolatedString, ArrayOf, MapOf, MethodCall, BlockExpr, FnCall, Dot, Index, And, Or, Coalesce, Exprs, no_exprs, expr, Pairs, no_pairs, pair, MaybeExpr, no_expr, an_expr, Arms, no_arms, arm, Stmt, If, Switch, While, Do, For, Var, Assignment, FnCallStmt, Block, TryCatch, ExprStmt, BreakLoop, Return, Import, Stmts, no_stmts, stmt, Function, Script}
 
 pub data Node : Type 0 where
@@ -131,3 +131,54 @@ sum_of (n ∷ ns) = n + sum_of ns
 -- the sum over all nodes, also those of arms that no table lists
 abbrev pub total : (Node → ℕ) → Walk ℕ
 total f = record { none = 0; both = λ a b. a + b; node = λ n a. f n + a; within = λ s a. a; arms = λ t as'. sum_of as' }
+
+-- ---- what stands around a node
+
+-- a whole expression; the property or method of a `Dot`; the rest of a chain, whose left side is a `Dot`'s argument or not
+pub data Role : Type 0 where
+  Whole : Role
+  Member : Role
+  Rest : Bool → Role
+
+-- whether a loop's body stands around, in the same function
+pub record Around : Type 0 where
+  pub in_loop : Bool
+  pub role : Role
+
+-- a whole expression or a statement
+abbrev pub whole : Bool → Around
+whole in_loop = record { in_loop = in_loop; role = Whole }
+
+abbrev pub outermost : Around
+outermost = whole false
+
+abbrev pub left_role : Role → Role
+left_role (Rest true) = Member
+left_role _ = Whole
+
+abbrev pub right_role : (dot breaks : Bool) → Expr → Role
+right_role dot true r = if dot then Member else Whole
+right_role dot false (Dot k l r) = Rest dot
+right_role dot false (Index k l r) = Rest dot
+right_role dot false _ = if dot then Member else Whole
+
+abbrev pub around_spot : Spot → Around → Around
+around_spot LoopBody a = record a { in_loop = true }
+around_spot LeftSide a = record a { role = left_role a.role }
+around_spot (RightSide dot k r) a = record a { role = right_role dot k.breaks r }
+
+-- around the parts of a node: whole expressions, but for the sides of a `Dot` or an `Index`
+abbrev pub around_parts : Node → Around → Around
+around_parts (OfExpr (Dot k l r)) a = a
+around_parts (OfExpr (Index k l r)) a = a
+around_parts _ a = record a { role = Whole }
+
+-- P holds of every node, where it stands
+abbrev pub throughout : (Around → Node → Type 0) → Walk (Around → Type 0)
+throughout P = record {
+  none = λ a. Unit {0};
+  both = λ p q a. p a × q a;
+  node = λ n p a. P a n × p (around_parts n a);
+  within = λ s p a. p (around_spot s a);
+  arms = λ t ps. arms_at (λ a. Unit {0}) (λ p q a. p a × q a) ps (listed t);
+}
