@@ -2,14 +2,14 @@
 use Rattle.std.proofs.Common.{◌≡◌, ℕ, zero, suc, ◌+◌, Bool, true, false, cond, List, [], ◌∷◌, Option, Some, None, refl, sym, ap, ◌∙◌, arith}
 use Rattle.std.specs.Prelude.{nat_lt, ◌^◌, ℤ, pos, ◌+ℤ◌}
 use Rattle.rhai_base.specs.Value.{Text, Value, UnitV, IntV}
-use Rattle.rhai_meaning.specs.Act.{World, run_all, ScopeEntry, Store, Ending, Gives, Leaves, Again, Stuck, WrongKind, CounterTooLarge, Halt, IsStuck, OutOfTurns, Outcome, Ended, Halted, Result, At, Act, Stop, Fail, Then, Turn, Loop, Scoped, Acts, Only, Do, Named, Env, and_then, with_turn, leave, restore, rounds, on_again, run}
+use Rattle.rhai_meaning.specs.Act.{World, ScopeEntry, Store, Ending, Gives, Leaves, Again, Stuck, WrongKind, CounterTooLarge, Halt, IsStuck, OutOfTurns, Outcome, Ended, Halted, Result, At, Act, Stop, Fail, Then, Turn, Loop, Scoped, Acts, Only, Do, Named, Env, and_then, with_turn, leave, restore, rounds, on_again, run}
 use Rattle.rhai_meaning.specs.ActForms.{give, ◌>>=◌, choose, truth, branch, if_true, on_throw, end_round, again_then, then_line}
 use Rattle.rhai_meaning.specs.Control.{round, counted, for_each, for_count}
 use Rattle.rhai_meaning.specs.Laws.{Settled, Gave, Stopped, settled, spend}
-use Rattle.rhai_meaning.specs.Relations.{OnlyAdds, store_of}
-use Rattle.rhai_meaning.proofs.Relations.{Grows, kept}
-use Rattle.rhai_meaning.proofs.Preserves.{keeps_refl, restore_keeps, restore_pushed, restore_twice, preserves_all}
-use Rattle.rhai_meaning.proofs.Sequencing.{scoped_do}
+use Rattle.rhai_meaning.specs.Relations.{OnlyAdds}
+use Rattle.rhai_meaning.proofs.Relations.{kept}
+use Rattle.rhai_meaning.proofs.Preserves.{keeps_refl, restore_keeps, restore_pushed}
+use Rattle.rhai_meaning.proofs.Sequencing.{scoped_do, scoped_named}
 
 -- addition that computes on its first number
 abbrev pub plus : ℕ → ℕ → ℕ
@@ -56,17 +56,7 @@ spend_settled zero (Stopped f) s t next = refl
 spend_settled (suc n) z s zero next = refl
 spend_settled (suc n) z s (suc t) next = spend_settled n z s t next
 
--- names of a list in a list may be taken away one by one
-leave_twice : (es : List ScopeEntry) (x : ScopeEntry) (r : Result) → Grows (x ∷ es) (store_of r).scope → leave es r ≡ leave es (leave (x ∷ es) r)
-leave_twice es x (At o s t) g = ap (λ fs. At o (record s { scope = fs }) t) (restore_twice es s.scope x g)
-
 module _ (w : World) where
-  scoped_named : (env : Env) → OnlyAdds env → (x : Text) (c : Bool) (v : Value) (p : Acts) (s : Store) (t : ℕ) → run w env (Scoped (Named x c v p)) s t ≡ run w env (Scoped (Named x c v (Only (Scoped p)))) s t
-  scoped_named env adds x c v p s t =
-      let e : ScopeEntry = record { name = x; constant = c; value = v } in
-      let s1 : Store = record s { scope = e ∷ s.scope } in
-      leave_twice s.scope e (run_all w env p s1 t) (preserves_all w env adds p s1 t).scope
-
   -- it runs so from every store
   pub record Runs (a : Act) (n : ℕ) (o : Outcome) : Type 0 where
     pub by : (env : Env) → OnlyAdds env → (s : Store) (t : ℕ) → run w env a s t ≡ spend n o s t
@@ -147,7 +137,7 @@ module _ (w : World) where
             by = λ env adds s t.
                 let e : ScopeEntry = record { name = x; constant = c; value = v } in
                 let s1 : Store = record s { scope = e ∷ s.scope } in
-                scoped_named env adds x c v p s t ∙ ap (leave s.scope) (q.runs.by env adds s1 t) ∙ spend_named q.cost (settled q.end) s e t;
+                scoped_named w env adds x c v p s t ∙ ap (leave s.scope) (q.runs.by env adds s1 t) ∙ spend_named q.cost (settled q.end) s e t;
           };
         };
       }

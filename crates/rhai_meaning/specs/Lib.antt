@@ -24,3 +24,4 @@ pub mod Paths
 pub mod Relations
 pub mod Laws
 pub mod Agreeing
+pub mod WorkedForms

@@ -1,10 +1,10 @@
 -- What operator calls over constants answer without asking the host.
 use Rattle.std.specs.Prelude.{List, [], Option, Some, None}
-use Rattle.rhai_base.specs.Value.{Value, UnitV, BoolV, IntV, CharV, TextV}
+use Rattle.rhai_base.specs.Value.{Value}
 use Rattle.rhai_base.specs.Operators.{Computed, NoEntry, Is, Overflows}
 use Rattle.rhai_meaning.specs.Engine.{Engine, built_in}
-use Rattle.rhai_meaning.specs.Constants.{constant_values, value_and}
-use Rattle.rhai_meaning.specs.Tree.{CallToken, OfOperator, Callee, Expr, DynamicConstant, BoolConstant, IntegerConstant, CharConstant, StringConstant, UnitConstant, Exprs, no_exprs, expr}
+use Rattle.rhai_meaning.specs.Constants.{constant_value, constant_values, value_and}
+use Rattle.rhai_meaning.specs.Tree.{CallToken, OfOperator, Callee, Expr, ArrayOf, Exprs, no_exprs, expr}
 
 -- a value alone: a fault is left to the run
 abbrev pub computed_value : Computed → Option Value
@@ -22,13 +22,8 @@ folded engine c es = folded_values engine c.token (constant_values es)
 
 -- the same where arrays of constants are values already
 abbrev pub operand : Expr → Option Value
-operand (DynamicConstant v) = Some v
-operand (BoolConstant b) = Some (BoolV b)
-operand (IntegerConstant n) = Some (IntV n)
-operand (CharConstant c) = Some (CharV c)
-operand (StringConstant t) = Some (TextV t)
-operand UnitConstant = Some UnitV
-operand _ = None
+operand (ArrayOf es) = None
+operand e = constant_value e
 
 abbrev pub operands : Exprs → Option (List Value)
 operands no_exprs = Some []

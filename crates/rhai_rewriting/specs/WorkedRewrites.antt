@@ -15,11 +15,11 @@ abbrev Row : List Stmt → List Stmt → Report → Type 0
 Row before after r = StmtsTo (under nothing_set) Whole false true (stmts before) (stmts after) × (ran nothing_set joining before ≡ r) × (ran nothing_set joining after ≡ r)
 
 abbrev plus : Callee
-plus = record { name = codes "+"; captures = false; token = OfOperator Plus }
+plus = record { namespace = []; name = codes "+"; captures = false; token = OfOperator Plus }
 
 -- f()
 abbrev f : Stmt
-f = FnCallStmt (record { name = codes "f"; captures = false; token = NoToken }) (exprs [])
+f = FnCallStmt (record { namespace = []; name = codes "f"; captures = false; token = NoToken }) (exprs [])
 
 abbrev asks_f : List HostCall
 asks_f = asked "f" [] ∷ []

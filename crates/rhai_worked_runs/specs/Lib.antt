@@ -5,7 +5,6 @@ pub mod DirectedRuns
 pub mod MoreRuns
 pub mod TreeTests
 pub mod PathTests
-pub mod WorkedForms
 pub mod WorkedRuns
 pub mod WorkedCalls
 pub mod WorkedNames

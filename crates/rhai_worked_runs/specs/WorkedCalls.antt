@@ -11,7 +11,7 @@ use Rattle.rhai_meaning.specs.Core as core
 use Rattle.rhai_meaning.specs.Engine.{Engine}
 use Rattle.rhai_meaning.specs.Run.{AtFunction, WithValue, WithThrown, WithStuck, WithoutTurns, Report, invoke_at, report_of, run_script, world_of}
 use Rattle.rhai_meaning.specs.Tree.{Function, Expr, StringConstant, Stmt, ExprStmt, stmts, FnCall, NoToken, exprs}
-use Rattle.rhai_worked_runs.specs.WorkedForms.{int, call, nothing_set, joins, joining, ran_with, ran, ends, asked, i}
+use Rattle.rhai_meaning.specs.WorkedForms.{int, call, nothing_set, joins, joining, ran_with, ran, ends, asked, i}
 
 -- ---- short forms
 

@@ -6,7 +6,7 @@ use Rattle.rhai_meaning.specs.Act.{HostCall, Answers, AnswersThrow, Host}
 use Rattle.rhai_meaning.specs.Host.{Row, host_of}
 use Rattle.rhai_meaning.specs.Run.{WithValue, WithThrown}
 use Rattle.rhai_meaning.specs.Tree.{BoolConstant, ExprStmt}
-use Rattle.rhai_worked_runs.specs.WorkedForms.{int, op, call, nothing_set, joining, overriding, ran, ends, asked, i}
+use Rattle.rhai_meaning.specs.WorkedForms.{int, op, call, nothing_set, joining, overriding, ran, ends, asked, i}
 
 abbrev answers : List HostCall → HostCall → Value → Row
 answers past c v = record { past = past; call = c; answer = Answers v None }

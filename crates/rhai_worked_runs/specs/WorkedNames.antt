@@ -6,7 +6,7 @@ use Rattle.rhai_meaning.specs.Act.{ScopeEntry, Store, Unbound, UnboundThis, Writ
 use Rattle.rhai_meaning.specs.ActForms.{give, unit, ◌>>=◌, then_line, on_throw, end_round, again_then, ask_host, ask_method}
 use Rattle.rhai_meaning.specs.Engine.{Engine}
 use Rattle.rhai_meaning.specs.Run.{AtStatements, report_of, world_of, WithValue, WithThrown, WithStuck, end_of}
-use Rattle.rhai_worked_runs.specs.WorkedForms.{nothing_set, joins, joining, throwing, asked, i}
+use Rattle.rhai_meaning.specs.WorkedForms.{nothing_set, joins, joining, throwing, asked, i}
 
 -- ---- short forms
 

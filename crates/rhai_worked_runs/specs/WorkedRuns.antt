@@ -5,7 +5,7 @@ use Rattle.rhai_base.specs.Operators.{Plus, Multiply, Divide, EqualTo, Not}
 use Rattle.rhai_meaning.specs.Act.{WrongKind}
 use Rattle.rhai_meaning.specs.Run.{WithValue, WithThrown, WithStuck}
 use Rattle.rhai_meaning.specs.Tree.{OfOperator, BoolConstant, DynamicConstant, UnitConstant, CharConstant, StringConstant, ArrayOf, BlockExpr, If, Block, ExprStmt, FnCallStmt, exprs, stmts}
-use Rattle.rhai_worked_runs.specs.WorkedForms.{int, op, call, nothing_set, joining, throwing, overriding, ran, ends, asked, i}
+use Rattle.rhai_meaning.specs.WorkedForms.{int, op, call, nothing_set, joining, throwing, overriding, ran, ends, asked, i}
 
 -- no statements
 no_statements : ran nothing_set joining [] ≡ ends (WithValue UnitV) []

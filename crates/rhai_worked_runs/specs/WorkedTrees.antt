@@ -7,7 +7,7 @@ use Rattle.rhai_meaning.specs.Shape.{is_callable}
 use Rattle.rhai_meaning.specs.Queries.{is_block_dependent, is_any_dependent}
 use Rattle.rhai_meaning.specs.Tree.{CallToken, NoToken, OfOperator, OfOther, Callee, Expr, DynamicConstant, BoolConstant, IntegerConstant, CharConstant, StringConstant, UnitConstant, ArrayOf, BlockExpr, Noop, If, Block, ExprStmt, FnCallStmt, Script, exprs, stmts}
 use Rattle.rhai_meaning.specs.Walk.{Node, OfExpr, over_script, total}
-use Rattle.rhai_worked_runs.specs.WorkedForms.{int, call, i}
+use Rattle.rhai_meaning.specs.WorkedForms.{int, call, i}
 
 abbrev callee : List ℕ → CallToken → Callee
 callee f t = record { namespace = []; name = f; captures = false; token = t }
