@@ -66,68 +66,18 @@ module _ {ℓ κ μ} {A : Type ℓ} {B : Type κ} (R : A → B → Type μ) (w :
     stmts_alongside no_stmts = g.none
     stmts_alongside (stmt s ss) = g.both _ _ _ _ (g.node _ _ _ (stmt_parts_alongside s)) (stmts_alongside ss)
 
-  pub expr_alongside : (e : Expr) → R (over_expr w e) (over_expr v e)
-  expr_alongside e = g.node _ _ _ (parts_alongside e)
-
-  pub stmt_alongside : (s : Stmt) → R (over_stmt w s) (over_stmt v s)
-  stmt_alongside s = g.node _ _ _ (stmt_parts_alongside s)
-
-  functions_alongside : (fs : List Function) → R (over_functions w fs) (over_functions v fs)
-  functions_alongside [] = g.none
-  functions_alongside (f ∷ fs) = g.both _ _ _ _ (stmts_alongside f.body) (functions_alongside fs)
-
-  pub script_alongside : (p : Script) → R (over_script w p) (over_script v p)
-  script_alongside p = g.both _ _ _ _ (stmts_alongside p.statements) (functions_alongside p.functions)
-
 -- what is kept at each arm is kept of the arms that a table lists
-pub every_arm : (ps qs : List (Type 0)) → ((i : ℕ) → arm_at (Unit {0}) ps i → arm_at (Unit {0}) qs i) → (is : List ℕ) → arms_at (Unit {0}) (λ p q. p × q) ps is → arms_at (Unit {0}) (λ p q. p × q) qs is
-every_arm ps qs h [] x = tt
-every_arm ps qs h (i ∷ is) x = (h i x.0, every_arm ps qs h is x.1)
-
-sum_most : (ns ms : List ℕ) → ((i : ℕ) → arm_at 0 ns i ≤ arm_at 0 ms i) → sum_of ns ≤ sum_of ms
-sum_most [] ms h = omega arith
-sum_most (n ∷ ns) [] h = omega (arith, h 0, sum_most ns [] (λ i. h (suc i)))
-sum_most (n ∷ ns) (m ∷ ms) h = omega (arith, h 0, sum_most ns ms (λ i. h (suc i)))
-
 arms_throughout : (ps : List (Type 0)) (qs : List (Around → Type 0)) → ((i : ℕ) (a : Around) → (arm_at (Unit {0}) ps i → arm_at (λ b. Unit {0}) qs i a) × (arm_at (λ b. Unit {0}) qs i a → arm_at (Unit {0}) ps i)) → (is : List ℕ) (a : Around) → (arms_at (Unit {0}) (λ p q. p × q) ps is → arms_at (λ b. Unit {0}) (λ p q b. p b × q b) qs is a) × (arms_at (λ b. Unit {0}) (λ p q b. p b × q b) qs is a → arms_at (Unit {0}) (λ p q. p × q) ps is)
 arms_throughout ps qs h [] a = ((λ u. u), (λ u. u))
 arms_throughout ps qs h (i ∷ is) a =
     let z = arms_throughout ps qs h is a in
     ((λ x. ((h i a).0 x.0, z.0 x.1)), (λ x. ((h i a).1 x.0, z.1 x.1)))
 
--- what follows at each node follows over the whole
-pub every_weaker : (P Q : Node → Type 0) → ((n : Node) → P n → Q n) → Alongside (λ p q. p → q) (every P) (every Q)
-every_weaker P Q h = record {
-  none = λ u. u;
-  both = λ p p' q q' f f' x. (f x.0, f' x.1);
-  node = λ n p q f x. (h n x.0, f x.1);
-  within = λ s p q f. f;
-  arms = λ t ps qs fs. every_arm ps qs fs (listed t);
-}
-
--- a lighter sum
-pub total_most : (f g : Node → ℕ) → ((n : Node) → f n ≤ g n) → Alongside (λ a b. a ≤ b) (total f) (total g)
-total_most f g h = record {
-  none = omega arith;
-  both = λ a a' b b' k k'. omega (arith, k, k');
-  node = λ n a b k. omega (arith, h n, k);
-  within = λ s a b k. k;
-  arms = λ t ns ms ks. sum_most ns ms ks;
-}
-
 -- ---- one list after another
 
 pub every_joined : (P : Node → Type 0) (front back : Stmts) → over_stmts (every P) front → over_stmts (every P) back → over_stmts (every P) (joined front back)
 every_joined P no_stmts back h k = k
 every_joined P (stmt s front) back h k = (h.0, every_joined P front back h.1 k)
-
-pub every_front : (P : Node → Type 0) (front back : Stmts) → over_stmts (every P) (joined front back) → over_stmts (every P) front
-every_front P no_stmts back h = tt
-every_front P (stmt s front) back h = (h.0, every_front P front back h.1)
-
-pub every_back : (P : Node → Type 0) (front back : Stmts) → over_stmts (every P) (joined front back) → over_stmts (every P) back
-every_back P no_stmts back h = h
-every_back P (stmt s front) back h = every_back P front back h.1
 
 pub total_joined : (f : Node → ℕ) (front back : Stmts) → over_stmts (total f) (joined front back) ≡ over_stmts (total f) front + over_stmts (total f) back
 total_joined f no_stmts back = omega arith

@@ -3,16 +3,16 @@ use Rattle.std.proofs.Common.{◌≡◌, Bool, true, sym, subst}
 use Rattle.rhai_meaning.specs.Tree.{Expr, Stmt, Stmts, no_stmts, stmt, joined}
 use Rattle.rhai_meaning.specs.Walk.{OfExpr, OfStmt}
 use Rattle.rhai_rewriting.specs.Context.{Context, ListKind}
-use Rattle.rhai_rewriting.specs.Residue.{IsReducedNode, ExprParts, StmtParts}
+use Rattle.rhai_rewriting.specs.Residue.{IsReducedNode}
 use Rattle.rhai_rewriting.specs.Rewriting.{ExprTo, same_expr, by_expr_rule, StmtTo, same_stmt, by_stmt_rule, StmtsTo, in_tail}
 use Rattle.rhai_rewriting.specs.Rules.{ExprRule, StmtRule}
 use Rattle.rhai_rewriting.specs.Steps.{ExprFired, ExprStep, StmtFired, StmtStep}
 
-pub expr_kept_as : {k : Context} {d : Bool} {e e' : Expr} → e' ≡ e → (ExprParts k.engine e → IsReducedNode k.engine (OfExpr e)) → ExprStep k d d e e'
-expr_kept_as {k = k} {d = d} {e = e} x f = subst (λ a. ExprStep k d d e a) (sym x) (record { to = same_expr; reduced = λ h p. (f p, p) })
+pub expr_kept_as : {k : Context} {d : Bool} {e e' : Expr} → e' ≡ e → IsReducedNode k.engine (OfExpr e) → ExprStep k d d e e'
+expr_kept_as {k = k} {d = d} {e = e} x h = subst (λ a. ExprStep k d d e a) (sym x) (record { to = same_expr; reduced = λ _ p. (h, p) })
 
-pub stmt_kept_as : {k : Context} {w d : Bool} {s s' : Stmt} → s' ≡ s → (StmtParts k.engine s → IsReducedNode k.engine (OfStmt s)) → StmtStep k w d d s s'
-stmt_kept_as {k = k} {w = w} {d = d} {s = s} x f = subst (λ a. StmtStep k w d d s a) (sym x) (record { to = same_stmt; reduced = λ h p. (f p, p) })
+pub stmt_kept_as : {k : Context} {w d : Bool} {s s' : Stmt} → s' ≡ s → IsReducedNode k.engine (OfStmt s) → StmtStep k w d d s s'
+stmt_kept_as {k = k} {w = w} {d = d} {s = s} x h = subst (λ a. StmtStep k w d d s a) (sym x) (record { to = same_stmt; reduced = λ _ p. (h, p) })
 
 -- a rule fired, and gave a tree that is spelled so
 pub expr_fires : {k : Context} {d' : Bool} {e e1 e' : Expr} → d' ≡ true → ExprRule k e e1 → e' ≡ e1 → ExprFired k d' e e'

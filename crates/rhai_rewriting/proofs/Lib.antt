@@ -1,6 +1,5 @@
 pub mod Firing
 pub mod Flags
-pub mod Folds
 pub mod Plain
 pub mod Weights
 pub mod simulation

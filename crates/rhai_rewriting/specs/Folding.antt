@@ -1,10 +1,10 @@
 -- What operator calls over constants answer without asking the host.
-use Rattle.std.specs.Prelude.{List, [], Option, Some, None}
+use Rattle.std.specs.Prelude.{List, Option, Some, None}
 use Rattle.rhai_base.specs.Value.{Value}
 use Rattle.rhai_base.specs.Operators.{Computed, NoEntry, Is, Overflows}
 use Rattle.rhai_meaning.specs.Engine.{Engine, built_in}
-use Rattle.rhai_meaning.specs.Constants.{constant_value, constant_values, value_and}
-use Rattle.rhai_meaning.specs.Tree.{CallToken, OfOperator, Callee, Expr, ArrayOf, Exprs, no_exprs, expr}
+use Rattle.rhai_meaning.specs.Constants.{constant_values}
+use Rattle.rhai_meaning.specs.Tree.{CallToken, OfOperator, Callee, Exprs}
 
 -- a value alone: a fault is left to the run
 abbrev pub computed_value : Computed → Option Value
@@ -19,15 +19,3 @@ folded_values engine _ vs = None
 -- the value of an operator call whose arguments are constant, where it is built in and answers one
 abbrev pub folded : Engine → Callee → Exprs → Option Value
 folded engine c es = folded_values engine c.token (constant_values es)
-
--- the same where arrays of constants are values already
-abbrev pub operand : Expr → Option Value
-operand (ArrayOf es) = None
-operand e = constant_value e
-
-abbrev pub operands : Exprs → Option (List Value)
-operands no_exprs = Some []
-operands (expr e es) = value_and (operand e) (operands es)
-
-abbrev pub folded_operands : Engine → Callee → Exprs → Option Value
-folded_operands engine c es = folded_values engine c.token (operands es)

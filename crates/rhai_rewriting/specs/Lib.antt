@@ -9,3 +9,4 @@ pub mod Steps
 pub mod Refines
 pub mod WorkedWeights
 pub mod WorkedRewrites
+pub mod WorkedKnown

@@ -5,7 +5,7 @@ use Rattle.rhai_base.specs.Operators.{Plus, Divide, EqualTo, NotEqualTo, compute
 use Rattle.rhai_meaning.specs.Tree.{Callee, NoToken, OfOperator, OfOther, DynamicConstant, BoolConstant, CharConstant, StringConstant, UnitConstant, ArrayOf, BlockExpr, Noop, If, Block, ExprStmt, FnCallStmt, exprs, stmts}
 use Rattle.rhai_meaning.specs.Walk.{Node, OfExpr, OfStmt}
 use Rattle.rhai_meaning.specs.WorkedForms.{int, op, call, nothing_set, overriding, i}
-use Rattle.rhai_rewriting.specs.Folding.{folded, folded_operands, operand}
+use Rattle.rhai_rewriting.specs.Folding.{folded}
 use Rattle.rhai_rewriting.specs.Residue.{holds_constant, IsReducedNode}
 use Rattle.rhai_meaning.specs.Weight.{expr_weight, stmt_weight, weight}
 
@@ -93,20 +93,10 @@ sum_folds : folded nothing_set plus (exprs (int 40 ∷ int 2 ∷ [])) ≡ Some (
 unfolding computed
 sum_folds = refl
 
--- [1] != 2: an array of constants is a constant, but no operand before it is its value
+-- [1] != 2: an array of constants is a constant
 array_folds : folded nothing_set (record { namespace = []; name = codes "!="; captures = false; token = OfOperator NotEqualTo }) (exprs (ArrayOf (exprs (int 1 ∷ [])) ∷ int 2 ∷ [])) ≡ Some (BoolV true)
 unfolding computed
 array_folds = refl
-
-value_is_operand : operand (DynamicConstant (ArrayV (values (i 1 ∷ [])))) ≡ Some (ArrayV (values (i 1 ∷ [])))
-value_is_operand = refl
-
-array_is_no_operand : operand (ArrayOf (exprs (int 1 ∷ []))) ≡ None
-array_is_no_operand = refl
-
-operands_fold : folded_operands nothing_set plus (exprs (int 40 ∷ int 2 ∷ [])) ≡ Some (i 42)
-unfolding computed
-operands_fold = refl
 
 -- 1 / 0 and 9223372036854775807 + 1 are left to the run
 division_by_zero_stays : folded nothing_set (record { namespace = []; name = codes "/"; captures = false; token = OfOperator Divide }) (exprs (int 1 ∷ int 0 ∷ [])) ≡ None

@@ -2,16 +2,18 @@
 use Rattle.std.specs.Prelude.{◌≡◌, Bool, true, false, List, [], ◌∷◌, Some, None, codes, refl}
 use Prim.Native.String.{String}
 use Rattle.rhai_base.specs.Value.{Text, Value, UnitV, BoolV, TextV, PointerV, values}
-use Rattle.rhai_base.specs.Operators.{computed}
-use Rattle.rhai_meaning.specs.Act.{ScopeEntry, Unbound, WrongKind, Key, Gives, Ended, At, ScriptCall, IsStuck, OutOfTurns, Halted, World, Invoke}
+use Rattle.rhai_base.specs.Operators.{Plus, computed}
+use Rattle.rhai_meaning.specs.Act.{ScopeEntry, Unbound, WrongKind, Key, Gives, Ended, At, ScriptCall, run_all, IsStuck, OutOfTurns, Halted, World, Invoke}
 use Rattle.rhai_meaning.specs.Calls.{key, call_named, call_pointer}
 use Rattle.rhai_meaning.specs.ActForms.{give}
-use Rattle.rhai_meaning.specs.Desugar.{core_expr}
+use Rattle.rhai_meaning.specs.Desugar.{core_expr, core_script}
+use Rattle.rhai_meaning.specs.Small.{small_script}
 use Rattle.rhai_meaning.specs.Core as core
 use Rattle.rhai_meaning.specs.Engine.{Engine}
-use Rattle.rhai_meaning.specs.Run.{AtFunction, WithValue, WithThrown, WithStuck, WithoutTurns, Report, invoke_at, report_of, run_script, world_of}
+use Rattle.rhai_meaning.specs.Meaning.{acts}
+use Rattle.rhai_meaning.specs.Run.{AtStatements, AtFunction, WithValue, WithThrown, WithStuck, WithoutTurns, Report, entered, env_at, invoke_at, report_of, run_script, world_of}
 use Rattle.rhai_meaning.specs.Tree.{Function, Expr, StringConstant, Stmt, ExprStmt, stmts, FnCall, NoToken, exprs}
-use Rattle.rhai_meaning.specs.WorkedForms.{int, call, nothing_set, joins, joining, ran_with, ran, ends, asked, i}
+use Rattle.rhai_meaning.specs.WorkedForms.{int, call, nothing_set, joins, joining, ran_with, ran, ends, asked, i, op}
 
 -- ---- short forms
 
@@ -125,6 +127,10 @@ print_of_the_host : ran_with nothing_set joining (function "print" [] (does (int
 unfolding ran_with
 print_of_the_host = refl
 
+debug_of_the_host : ran_with nothing_set joining (function "debug" [] (does (int 1)) ∷ []) 1 (does (call "debug" [])) ≡ record (ends (WithValue UnitV) (asked "debug" [] ∷ [])) { turns = 1 }
+unfolding ran_with
+debug_of_the_host = refl
+
 -- fn f(x, y) { 7 } Fn("f").call by a pointer with one value: call(curry(Fn("f"), 1), 2)
 pointer_to_function : ran_with nothing_set joining (function "f" (codes "x" ∷ codes "y" ∷ []) (does (int 7)) ∷ []) 1 (does (call "call" (call "curry" (call "Fn" (text "f" ∷ []) ∷ int 1 ∷ []) ∷ int 2 ∷ []))) ≡ ends (WithValue (i 7)) []
 unfolding ran_with
@@ -177,6 +183,13 @@ too_deep = refl
 no_function : invoke_at true world [] 1 (the_call false) [] [] 4 ≡ At (Halted (IsStuck Unbound)) (record { scope = []; this = None; calls = [] }) 4
 no_function = refl
 
+-- the value of a list, and that of one whose value isn't wanted
+value_wanted : run_all world (env_at true world [] 0) (acts world true body UnitV) (entered true two_parameters (the_call false) [] []) 0 ≡ At (Ended (Gives (i 7))) (entered true two_parameters (the_call false) [] []) 0
+value_wanted = refl
+
+value_unwanted : run_all world (env_at true world [] 0) (acts world false body UnitV) (entered true two_parameters (the_call false) [] []) 0 ≡ At (Ended (Gives UnitV)) (entered true two_parameters (the_call false) [] []) 0
+value_unwanted = refl
+
 -- ---- a function as entry: it takes a turn, and has `this` but no variables
 
 unfoldable entered_by : core.Function → Key → Report
@@ -190,3 +203,17 @@ function_entered = refl
 function_missed : entered_by two_parameters (key (codes "f") 1 None) ≡ record { ended = WithStuck Unbound; variables = []; this = None; calls = []; turns = 1 }
 unfolding entered_by
 function_missed = refl
+
+-- ---- the small language: of 1 + f(g()) no call is asked; 1 + 2
+
+unfoldable small_ran : List Stmt → Report
+unfolding run_script computed joins
+small_ran ss = report_of AtStatements (run_script nothing_set joining (small_script (core_script (record { statements = stmts ss; functions = [] }))) AtStatements [] 0)
+
+small_call_by_name : small_ran (ExprStmt (op Plus (int 1 ∷ call "f" (call "g" [] ∷ []) ∷ [])) ∷ []) ≡ ends (WithStuck WrongKind) []
+unfolding small_ran
+small_call_by_name = refl
+
+small_operator : small_ran (ExprStmt (op Plus (int 1 ∷ int 2 ∷ [])) ∷ []) ≡ ends (WithValue (i 3)) []
+unfolding small_ran
+small_operator = refl

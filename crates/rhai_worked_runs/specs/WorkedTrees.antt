@@ -3,11 +3,12 @@ use Rattle.std.specs.Prelude.{◌≡◌, ℕ, true, false, List, [], ◌∷◌, 
 use Rattle.rhai_base.specs.Value.{UnitV, BoolV, CharV, TextV, ArrayV, PointerV, values}
 use Rattle.rhai_base.specs.Operators.{Plus, Not}
 use Rattle.rhai_meaning.specs.Constants.{constant_value, constant_bool, constant_for}
+use Rattle.rhai_meaning.specs.Faults.{IsFaultless}
 use Rattle.rhai_meaning.specs.Shape.{is_callable}
 use Rattle.rhai_meaning.specs.Queries.{is_block_dependent, is_any_dependent}
 use Rattle.rhai_meaning.specs.Tree.{CallToken, NoToken, OfOperator, OfOther, Callee, Expr, DynamicConstant, BoolConstant, IntegerConstant, CharConstant, StringConstant, UnitConstant, ArrayOf, BlockExpr, Noop, If, Block, ExprStmt, FnCallStmt, Script, exprs, stmts}
-use Rattle.rhai_meaning.specs.Walk.{Node, OfExpr, over_script, total}
-use Rattle.rhai_meaning.specs.WorkedForms.{int, call, i}
+use Rattle.rhai_meaning.specs.Walk.{OfStmt, outermost, Node, OfExpr, over_script, total}
+use Rattle.rhai_meaning.specs.WorkedForms.{op, int, call, i}
 
 abbrev callee : List ℕ → CallToken → Callee
 callee f t = record { namespace = []; name = f; captures = false; token = t }
@@ -34,6 +35,18 @@ all_nodes : over_script (total (λ n. 1)) parts ≡ 22
 all_nodes = refl
 
 -- ---- faults
+
+no_fault : IsFaultless outermost (OfExpr (DynamicConstant (BoolV true)))
+no_fault = refl
+
+unit_constant : IsFaultless outermost (OfExpr (DynamicConstant UnitV)) → ⊥
+unit_constant h = cc
+
+call_of_one : IsFaultless outermost (OfExpr (op Plus (int 1 ∷ []))) → ⊥
+call_of_one h = cc
+
+statement_of_one : IsFaultless outermost (OfStmt (FnCallStmt (callee (codes "+") (OfOperator Plus)) (exprs (int 1 ∷ [])))) → ⊥
+statement_of_one h = cc
 
 operator_with_token : is_callable (callee (codes "+") (OfOperator Plus)) 2 ≡ true
 operator_with_token = refl

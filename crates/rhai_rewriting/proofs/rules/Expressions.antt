@@ -1,6 +1,6 @@
 -- The rules of expressions: a lemma each, of the rule's name.
 use Rattle.std.proofs.Common.{◌≡◌, ◌≤◌, Bool, List, Some, true, refl, sym, ap, subst, arith}
-use Rattle.rhai_base.specs.Value.{Value, UnitV, BoolV, ArrayV, PointerV, values}
+use Rattle.rhai_base.specs.Value.{Value, UnitV, ArrayV, PointerV, values}
 use Rattle.rhai_meaning.specs.Act.{Gives, Ended, At}
 use Rattle.rhai_meaning.specs.ActForms.{give}
 use Rattle.rhai_meaning.specs.Constants.{array_value, constant_values, constant_for}
@@ -57,8 +57,6 @@ constant_light _ p = omega arith
 
 -- a constant has no parts
 pub constant_keeps : (P : Around → Node → Type 0) (l : Bool) → Lasting P l → (v : Value) → is_plain_value v ≡ true → over_expr (throughout P) (constant_for v) (whole l)
-constant_keeps P l lasts UnitV p = (lasts.constant UnitV p, tt)
-constant_keeps P l lasts (BoolV b) p = (lasts.constant (BoolV b) p, tt)
 constant_keeps P l lasts (PointerV f vs) p = absurd cc
 constant_keeps P l lasts v p = (lasts.constant v p, tt)
 

@@ -6,16 +6,21 @@ use Rattle.rhai_meaning.specs.Tree.{Callee, Expr, ArrayOf, BlockExpr, FnCall, Ex
 use Rattle.rhai_meaning.specs.Walk.{Node, OfExpr, OfStmt, Around, whole}
 use Rattle.rhai_rewriting.proofs.Plain.{is_plain_value}
 
--- what rules make has it
+-- the same node with other parts, a call with as many
+pub data SameNode : Node → Node → Type 0 where
+  same_array : {es es' : Exprs} → SameNode (OfExpr (ArrayOf es)) (OfExpr (ArrayOf es'))
+  same_braces : {ss ss' : Stmts} → SameNode (OfExpr (BlockExpr ss)) (OfExpr (BlockExpr ss'))
+  same_call : {c : Callee} {es es' : Exprs} → count_exprs es ≡ count_exprs es' → SameNode (OfExpr (FnCall c es)) (OfExpr (FnCall c es'))
+  same_if : {e e' : Expr} {a a' b b' : Stmts} → SameNode (OfStmt (If e a b)) (OfStmt (If e' a' b'))
+  same_block : {ss ss' : Stmts} → SameNode (OfStmt (Block ss)) (OfStmt (Block ss'))
+  same_expression : {e e' : Expr} → SameNode (OfStmt (ExprStmt e)) (OfStmt (ExprStmt e'))
+  same_call_statement : {c : Callee} {es es' : Exprs} → count_exprs es ≡ count_exprs es' → SameNode (OfStmt (FnCallStmt c es)) (OfStmt (FnCallStmt c es'))
+
+-- the same node has it again, and what rules make has it
 pub record Lasting (P : Around → Node → Type 0) (l : Bool) : Type 0 where
+  pub again : {n n' : Node} → SameNode n n' → P (whole l) n → P (whole l) n'
   pub constant : (v : Value) → is_plain_value v ≡ true → P (whole l) (OfExpr (constant_for v))
   pub noop : P (whole l) (OfStmt Noop)
   pub block : (ss : Stmts) → P (whole l) (OfStmt (Block ss))
   pub expression : (e : Expr) → P (whole l) (OfStmt (ExprStmt e))
   pub call_statement : (c : Callee) (es : Exprs) → P (whole l) (OfExpr (FnCall c es)) → P (whole l) (OfStmt (FnCallStmt c es))
-  -- and nodes with other parts, of a call as many
-  pub array_again : (es es' : Exprs) → P (whole l) (OfExpr (ArrayOf es)) → P (whole l) (OfExpr (ArrayOf es'))
-  pub braces_again : (ss ss' : Stmts) → P (whole l) (OfExpr (BlockExpr ss)) → P (whole l) (OfExpr (BlockExpr ss'))
-  pub call_again : (c : Callee) (es es' : Exprs) → count_exprs es ≡ count_exprs es' → P (whole l) (OfExpr (FnCall c es)) → P (whole l) (OfExpr (FnCall c es'))
-  pub call_statement_again : (c : Callee) (es es' : Exprs) → count_exprs es ≡ count_exprs es' → P (whole l) (OfStmt (FnCallStmt c es)) → P (whole l) (OfStmt (FnCallStmt c es'))
-  pub if_again : (e e' : Expr) (a a' b b' : Stmts) → P (whole l) (OfStmt (If e a b)) → P (whole l) (OfStmt (If e' a' b'))

@@ -9,7 +9,7 @@ use Rattle.rhai_meaning.proofs.Monotone.{follow_call, follow_then, follow_turn, 
 use Rattle.rhai_meaning.proofs.Ends.{met_call, Run, Ends, Met, stays, met_self, met_move, met_then, met_turn, met_leave, met_returned, met_rounds}
 use Rattle.rhai_rewriting.specs.Context.{Context}
 use Rattle.rhai_rewriting.proofs.simulation.Agreement.{agrees_keeps, agrees_shadow}
-use Rattle.rhai_rewriting.proofs.simulation.Setting.{Setting, world, environment, beneath, Agreed, by_depth, all_by_depth, adds_at, rises, rises_all}
+use Rattle.rhai_rewriting.proofs.simulation.Setting.{Setting, world, environment, beneath, Agreed, run_by_depth, run_all_by_depth, adds_at, rises, rises_all}
 
 -- The result r is what a run p may give: it follows p from this depth and these turns, and p meets it with enough of them.
 pub record Matches (p : Run) (d : ℕ) (s : Store) (t : ℕ) (r : Result) : Type 0 where
@@ -23,24 +23,24 @@ pub record Stage : Type 0 where
   pub steady : Deeper AnyHalt tt 0 env env
 
 pub record SimulatesAt {k : Context} (c : Setting k) (g : Stage) (a b : Act) : Type 0 where
-  pub matches : (s : Store) (t : ℕ) → Agreed k s → Matches (by_depth c a) g.depth s t (run (world c) g.env b s t)
+  pub matches : (s : Store) (t : ℕ) → Agreed k s → Matches (run_by_depth c a) g.depth s t (run (world c) g.env b s t)
 
 pub record SimulatesAllAt {k : Context} (c : Setting k) (g : Stage) (p q : Acts) : Type 0 where
-  pub matches : (s : Store) (t : ℕ) → Agreed k s → Matches (all_by_depth c p) g.depth s t (run_all (world c) g.env q s t)
+  pub matches : (s : Store) (t : ℕ) → Agreed k s → Matches (run_all_by_depth c p) g.depth s t (run_all (world c) g.env q s t)
 
 -- ---- steps
 
 -- with more turns
-later : {k : Context} {c : Setting k} {g : Stage} {a b : Act} → SimulatesAt c g a b → (s : Store) (t t' : ℕ) → Agreed k s → t + 0 ≤ t' → Follows AnyHalt 0 (by_depth c a g.depth s t) (run (world c) g.env b s t')
+later : {k : Context} {c : Setting k} {g : Stage} {a b : Act} → SimulatesAt c g a b → (s : Store) (t t' : ℕ) → Agreed k s → t + 0 ≤ t' → Follows AnyHalt 0 (run_by_depth c a g.depth s t) (run (world c) g.env b s t')
 later {c = c} {g = g} {b = b} h s t t' ag le = follows_trans (h.matches s t ag).forward (monotone AnyHalt tt 0 (world c) g.env g.env g.steady b s t t' le)
 
-later_all : {k : Context} {c : Setting k} {g : Stage} {p q : Acts} → SimulatesAllAt c g p q → (s : Store) (t t' : ℕ) → Agreed k s → t + 0 ≤ t' → Follows AnyHalt 0 (all_by_depth c p g.depth s t) (run_all (world c) g.env q s t')
+later_all : {k : Context} {c : Setting k} {g : Stage} {p q : Acts} → SimulatesAllAt c g p q → (s : Store) (t t' : ℕ) → Agreed k s → t + 0 ≤ t' → Follows AnyHalt 0 (run_all_by_depth c p g.depth s t) (run_all (world c) g.env q s t')
 later_all {c = c} {g = g} {q = q} h s t t' ag le = follows_trans (h.matches s t ag).forward (monotone_all AnyHalt tt 0 (world c) g.env g.env g.steady q s t t' le)
 
-stays_known : {k : Context} (c : Setting k) (a : Act) (d : ℕ) (s : Store) (t : ℕ) → Agreed k s → Agreed k (store_of (by_depth c a d s t))
+stays_known : {k : Context} (c : Setting k) (a : Act) (d : ℕ) (s : Store) (t : ℕ) → Agreed k s → Agreed k (store_of (run_by_depth c a d s t))
 stays_known c a d s t ag = agrees_keeps (preserves (world c) (environment c d) (adds_at c d) a s t).scope ag
 
-ends_known : {k : Context} (c : Setting k) (a : Act) (s : Store) (o : Outcome) (s1 : Store) → Agreed k s → Ends (by_depth c a) s o s1 → Agreed k s1
+ends_known : {k : Context} (c : Setting k) (a : Act) (s : Store) (o : Outcome) (s1 : Store) → Agreed k s → Ends (run_by_depth c a) s o s1 → Agreed k s1
 ends_known {k = k} c a s o s1 ag x =
     let z = x.by x.depth x.turns 0 (omega arith) (omega arith) in
     let P : Result → Type 0 = λ r. Agreed k (store_of r) in
@@ -58,19 +58,19 @@ ends_as {p = p} {q = q} {s = s} {s1 = s1} h {o = o} {s' = s'} x = record {
 -- ---- each basic act
 
 -- the same result
-pub at_equal : {k : Context} {c : Setting k} {g : Stage} {a b : Act} → ((s : Store) (t : ℕ) → Agreed k s → by_depth c a g.depth s t ≡ run (world c) g.env b s t) → SimulatesAt c g a b
+pub at_equal : {k : Context} {c : Setting k} {g : Stage} {a b : Act} → ((s : Store) (t : ℕ) → Agreed k s → run_by_depth c a g.depth s t ≡ run (world c) g.env b s t) → SimulatesAt c g a b
 at_equal {c = c} {g = g} {a = a} h = record {
   matches = λ s t ag. record {
-    forward = subst (Follows AnyHalt 0 (by_depth c a g.depth s t)) (h s t ag) (follows_refl AnyHalt _);
-    backward = subst (Met (by_depth c a) s) (h s t ag) (met_self (by_depth c a) (rises c a) g.depth s t);
+    forward = subst (Follows AnyHalt 0 (run_by_depth c a g.depth s t)) (h s t ag) (follows_refl AnyHalt _);
+    backward = subst (Met (run_by_depth c a) s) (h s t ag) (met_self (run_by_depth c a) (rises c a) g.depth s t);
   };
 }
 
-pub all_at_equal : {k : Context} {c : Setting k} {g : Stage} {p q : Acts} → ((s : Store) (t : ℕ) → Agreed k s → all_by_depth c p g.depth s t ≡ run_all (world c) g.env q s t) → SimulatesAllAt c g p q
+pub all_at_equal : {k : Context} {c : Setting k} {g : Stage} {p q : Acts} → ((s : Store) (t : ℕ) → Agreed k s → run_all_by_depth c p g.depth s t ≡ run_all (world c) g.env q s t) → SimulatesAllAt c g p q
 all_at_equal {c = c} {g = g} {p = p} h = record {
   matches = λ s t ag. record {
-    forward = subst (Follows AnyHalt 0 (all_by_depth c p g.depth s t)) (h s t ag) (follows_refl AnyHalt _);
-    backward = subst (Met (all_by_depth c p) s) (h s t ag) (met_self (all_by_depth c p) (rises_all c p) g.depth s t);
+    forward = subst (Follows AnyHalt 0 (run_all_by_depth c p g.depth s t)) (h s t ag) (follows_refl AnyHalt _);
+    backward = subst (Met (run_all_by_depth c p) s) (h s t ag) (met_self (run_all_by_depth c p) (rises_all c p) g.depth s t);
   };
 }
 
@@ -80,7 +80,7 @@ at_then {k = k} {c = c} {g = g} {a = a} {next = next} {next' = next'} i h = reco
     forward = follow_then AnyHalt tt 0 (Agreed k) (i.matches s t ag).forward (stays_known c a g.depth s t ag) _ _
         (λ e s1 t1 t1' q le. later (h e) s1 t1 t1' q le)
         (λ e s1 t1. (preserves (world c) g.env g.steady.adds (next' e) s1 t1).calls);
-    backward = met_then (by_depth c a) (λ e. by_depth c (next e)) _ s _ (i.matches s t ag).backward
+    backward = met_then (run_by_depth c a) (λ e. run_by_depth c (next e)) _ s _ (i.matches s t ag).backward
         (λ e s1 t1 x. ((h e).matches s1 t1 (ends_known c a s (Ended e) s1 ag x)).backward);
   };
 }
@@ -91,7 +91,7 @@ at_do {k = k} {c = c} {g = g} {a = a} {next = next} {next' = next'} i h = record
     forward = follow_then AnyHalt tt 0 (Agreed k) (i.matches s t ag).forward (stays_known c a g.depth s t ag) _ _
         (λ e s1 t1 t1' q le. later_all (h e) s1 t1 t1' q le)
         (λ e s1 t1. (preserves_all (world c) g.env g.steady.adds (next' e) s1 t1).calls);
-    backward = met_then (by_depth c a) (λ e. all_by_depth c (next e)) _ s _ (i.matches s t ag).backward
+    backward = met_then (run_by_depth c a) (λ e. run_all_by_depth c (next e)) _ s _ (i.matches s t ag).backward
         (λ e s1 t1 x. ((h e).matches s1 t1 (ends_known c a s (Ended e) s1 ag x)).backward);
   };
 }
@@ -100,14 +100,14 @@ pub at_only : {k : Context} {c : Setting k} {g : Stage} {a b : Act} → Simulate
 at_only {c = c} {a = a} i = record {
   matches = λ s t ag.
       let z = i.matches s t ag in
-      record { forward = z.forward; backward = met_move (by_depth c a) (all_by_depth c (Only a)) s s _ (λ o s' x. ends_as (λ d t1. refl) x) z.backward };
+      record { forward = z.forward; backward = met_move (run_by_depth c a) (run_all_by_depth c (Only a)) s s _ (λ o s' x. ends_as (λ d t1. refl) x) z.backward };
 }
 
 pub at_finish : {k : Context} {c : Setting k} {g : Stage} {p q : Acts} → SimulatesAllAt c g p q → SimulatesAllAt c g (Finish p) (Finish q)
 at_finish {c = c} {p = p} i = record {
   matches = λ s t ag. record {
     forward = follow_returned AnyHalt tt 0 (i.matches s t ag).forward;
-    backward = met_returned (all_by_depth c p) s _ (i.matches s t ag).backward;
+    backward = met_returned (run_all_by_depth c p) s _ (i.matches s t ag).backward;
   };
 }
 
@@ -115,7 +115,7 @@ at_turn : {k : Context} {c : Setting k} {g : Stage} {a b : Act} → SimulatesAt 
 at_turn {c = c} {g = g} {a = a} {b = b} i = record {
   matches = λ s t ag. record {
     forward = follow_turn AnyHalt tt 0 s t t (omega arith) _ _ (λ t1 t1' le. later i s t1 t1' ag le) (λ s1 t1. (preserves (world c) g.env g.steady.adds b s1 t1).calls);
-    backward = met_turn (by_depth c a) _ s t (λ t1. (i.matches s t1 ag).backward);
+    backward = met_turn (run_by_depth c a) _ s t (λ t1. (i.matches s t1 ag).backward);
   };
 }
 
@@ -123,7 +123,7 @@ pub at_scoped : {k : Context} {c : Setting k} {g : Stage} {p q : Acts} → Simul
 at_scoped {c = c} {p = p} i = record {
   matches = λ s t ag. record {
     forward = follow_leave AnyHalt tt 0 s.scope (i.matches s t ag).forward;
-    backward = met_move (λ d s1 t1. leave s.scope (all_by_depth c p d s1 t1)) (by_depth c (Scoped p)) s s _ (λ o s' x. ends_as (λ d t1. refl) x) (met_leave (all_by_depth c p) s s.scope _ (i.matches s t ag).backward);
+    backward = met_move (λ d s1 t1. leave s.scope (run_all_by_depth c p d s1 t1)) (run_by_depth c (Scoped p)) s s _ (λ o s' x. ends_as (λ d t1. refl) x) (met_leave (run_all_by_depth c p) s s.scope _ (i.matches s t ag).backward);
   };
 }
 
@@ -132,7 +132,7 @@ at_named {k = k} {c = c} x b v {p = p} i = record {
   matches = λ s t ag.
       let s1 : Store = record s { scope = record { name = x; constant = b; value = v } ∷ s.scope } in
       let z = i.matches s1 t (agrees_shadow k.engine.constants k.known s.scope x b v ag) in
-      record { forward = z.forward; backward = met_move (all_by_depth c p) (all_by_depth c (Named x b v p)) s1 s _ (λ o s' y. ends_as (λ d t1. refl) y) z.backward };
+      record { forward = z.forward; backward = met_move (run_all_by_depth c p) (run_all_by_depth c (Named x b v p)) s1 s _ (λ o s' y. ends_as (λ d t1. refl) y) z.backward };
 }
 
 at_ask : {k : Context} {c : Setting k} {g : Stage} (call : HostCall) {next next' : Answer → Act} → ((a : Answer) → SimulatesAt c g (next a) (next' a)) → SimulatesAt c g (AskHost call next) (AskHost call next')
@@ -141,20 +141,20 @@ at_ask {c = c} call {next = next} h = record {
       let r = c.host.answer s.calls call in
       let s1 : Store = record s { calls = s.calls ++ call ∷ [] } in
       let z = (h r).matches s1 t ag in
-      record { forward = z.forward; backward = met_move (by_depth c (next r)) (by_depth c (AskHost call next)) s1 s _ (λ o s' x. ends_as (λ d t1. refl) x) z.backward };
+      record { forward = z.forward; backward = met_move (run_by_depth c (next r)) (run_by_depth c (AskHost call next)) s1 s _ (λ o s' x. ends_as (λ d t1. refl) x) z.backward };
 }
 
 -- as many rounds as there may be
-ends_loop : {k : Context} (c : Setting k) (a : Act) (n : ℕ) (s : Store) (o : Outcome) (s' : Store) → Ends (λ d. rounds n (by_depth c a d)) s o s' → Ends (by_depth c (Loop a)) s o s'
+ends_loop : {k : Context} (c : Setting k) (a : Act) (n : ℕ) (s : Store) (o : Outcome) (s' : Store) → Ends (λ d. rounds n (run_by_depth c a d)) s o s' → Ends (run_by_depth c (Loop a)) s o s'
 ends_loop c a n s o s' x = record {
   depth = x.depth + n;
   turns = x.turns;
   over = x.over;
   by = λ d t m le lt.
       let y = x.by d t m (omega arith) lt in
-      let up = follow_rounds IsOut tt 0 (λ s. Unit {0}) n (environment c d).rounds (omega (arith, c.environments.reaches d)) (by_depth c a d) (by_depth c a d) (λ s1 t1 t1' q le1. rises c a d d 0 s1 t1 t1' (omega arith) le1) (λ s1 t1 q. tt) (λ s1 t1. preserves (world c) (environment c d) (adds_at c d) a s1 t1) s t t tt (omega arith) in
-      let P : Result → Type 0 = λ r. Follows IsOut 0 r (by_depth c (Loop a) d s t) in
-      let z = stays 0 o s' y.0 (by_depth c (Loop a) d s t) x.over (subst P y.2 up) in
+      let up = follow_rounds IsOut tt 0 (λ s. Unit {0}) n (environment c d).rounds (omega (arith, c.environments.reaches d)) (run_by_depth c a d) (run_by_depth c a d) (λ s1 t1 t1' q le1. rises c a d d 0 s1 t1 t1' (omega arith) le1) (λ s1 t1 q. tt) (λ s1 t1. preserves (world c) (environment c d) (adds_at c d) a s1 t1) s t t tt (omega arith) in
+      let P : Result → Type 0 = λ r. Follows IsOut 0 r (run_by_depth c (Loop a) d s t) in
+      let z = stays 0 o s' y.0 (run_by_depth c (Loop a) d s t) x.over (subst P y.2 up) in
       (z.0, omega (arith, z.1, y.1), z.2);
 }
 
@@ -165,8 +165,8 @@ at_loop {k = k} {c = c} {g = g} {a = a} {b = b} le i = record {
         (λ s1 t1 t1' q le1. later i s1 t1 t1' q le1)
         (λ s1 t1 q. stays_known c a g.depth s1 t1 q)
         (λ s1 t1. preserves (world c) g.env g.steady.adds b s1 t1) s t t ag (omega arith);
-    backward = met_move _ (by_depth c (Loop a)) s s _ (λ o s' x. ends_loop c a g.env.rounds s o s' x)
-        (met_rounds (Agreed k) (by_depth c a) _ (λ s1 t1 q. (i.matches s1 t1 q).backward)
+    backward = met_move _ (run_by_depth c (Loop a)) s s _ (λ o s' x. ends_loop c a g.env.rounds s o s' x)
+        (met_rounds (Agreed k) (run_by_depth c a) _ (λ s1 t1 q. (i.matches s1 t1 q).backward)
         (λ s1 e s2 q x. ends_known c a s1 (Ended e) s2 q x) g.env.rounds s t ag);
   };
 }
@@ -183,7 +183,7 @@ at_invoke : {k : Context} {c : Setting k} {g : Stage} (a : ScriptCall) {next nex
 at_invoke {c = c} {g = g} a {next = next} {next' = next'} m h = record {
   matches = λ s t ag. record {
     forward = follow_call AnyHalt tt 0 s (m.calls a s t).forward _ _ (λ v u cs t1 t1' le. later (h v u) (record s { calls = cs }) t1 t1' ag le) (λ v u s1 t1. (preserves (world c) g.env g.steady.adds (next' v u) s1 t1).calls);
-    backward = met_call (calling c.environments.by_depth a) (λ v u. by_depth c (next v u)) _ s _ (m.calls a s t).backward (λ v u cs t1. ((h v u).matches (record s { calls = cs }) t1 ag).backward);
+    backward = met_call (calling c.environments.by_depth a) (λ v u. run_by_depth c (next v u)) _ s _ (m.calls a s t).backward (λ v u cs t1. ((h v u).matches (record s { calls = cs }) t1 ag).backward);
   };
 }
 

@@ -55,11 +55,11 @@ run_all_from c m p = run_all (world c) m.env p m.store m.turns
 
 -- ---- runs by depth
 
-abbrev pub by_depth : {k : Context} → Setting k → Act → Run
-by_depth c a d = run (world c) (environment c d) a
+abbrev pub run_by_depth : {k : Context} → Setting k → Act → Run
+run_by_depth c a d = run (world c) (environment c d) a
 
-abbrev pub all_by_depth : {k : Context} → Setting k → Acts → Run
-all_by_depth c p d = run_all (world c) (environment c d) p
+abbrev pub run_all_by_depth : {k : Context} → Setting k → Acts → Run
+run_all_by_depth c p d = run_all (world c) (environment c d) p
 
 pub adds_at : {k : Context} (c : Setting k) (d : ℕ) → OnlyAdds (environment c d)
 adds_at c d = (c.environments.deeper d d 0 (omega arith)).adds
@@ -69,8 +69,8 @@ steady_at c d =
     let h = c.environments.deeper d d 0 (omega arith) in
     record { rounds = h.rounds; invoke = λ a scope calls t t' le. follows_weak (h.invoke a scope calls t t' le); adds = h.adds }
 
-pub rises : {k : Context} (c : Setting k) (a : Act) → Rises (by_depth c a)
+pub rises : {k : Context} (c : Setting k) (a : Act) → Rises (run_by_depth c a)
 rises c a d1 d2 n s t t' le lt = monotone IsOut tt n (world c) (environment c d1) (environment c d2) (c.environments.deeper d1 d2 n le) a s t t' lt
 
-pub rises_all : {k : Context} (c : Setting k) (p : Acts) → Rises (all_by_depth c p)
+pub rises_all : {k : Context} (c : Setting k) (p : Acts) → Rises (run_all_by_depth c p)
 rises_all c p d1 d2 n s t t' le lt = monotone_all IsOut tt n (world c) (environment c d1) (environment c d2) (c.environments.deeper d1 d2 n le) p s t t' lt

@@ -7,7 +7,7 @@ use Rattle.rhai_meaning.proofs.Relations.{Follows, short, AnyHalt}
 use Rattle.rhai_meaning.proofs.Monotone.{follows_refl, follows_trans}
 use Rattle.rhai_meaning.proofs.Ends.{Run, Met, stuck, Rises, ends_of, met_self, met_trans}
 use Rattle.rhai_rewriting.specs.Context.{Context}
-use Rattle.rhai_rewriting.proofs.simulation.Setting.{Setting, beneath, environment, Agreed, Start, run_from, run_all_from, by_depth, all_by_depth, steady_at, rises}
+use Rattle.rhai_rewriting.proofs.simulation.Setting.{Setting, beneath, environment, Agreed, Start, run_from, run_all_from, run_by_depth, run_all_by_depth, steady_at, rises}
 use Rattle.rhai_rewriting.proofs.simulation.Matching.{Stage, SimulatesAt, SimulatesAllAt, CallsMatch, calling, at_equal, all_at_equal, at_then, at_do, at_scoped, at_finish, at_only, at_named, at_refl, all_at_refl}
 
 -- the new run in the old one's environment
@@ -28,7 +28,7 @@ pub along : {k : Context} {c : Setting k} {g : Stage} (p q r : Acts) → Simulat
 along {c = c} {g = g} p q r i h = record {
   matches = λ s t ag. record {
     forward = follows_trans ((i.at g.depth).matches s t ag).forward (h.matches s t ag).forward;
-    backward = met_trans (all_by_depth c p) (all_by_depth c q) s _ (λ n t'. ((i.at n).matches s t' ag).backward) (h.matches s t ag).backward;
+    backward = met_trans (run_all_by_depth c p) (run_all_by_depth c q) s _ (λ n t'. ((i.at n).matches s t' ag).backward) (h.matches s t ag).backward;
   };
 }
 
@@ -40,7 +40,7 @@ simulates_trans {c = c} {a = a} {b = b} i h = record {
   at = λ d. record {
     matches = λ s t ag. record {
       forward = follows_trans ((i.at d).matches s t ag).forward ((h.at d).matches s t ag).forward;
-      backward = met_trans (by_depth c a) (by_depth c b) s _ (λ n t'. ((i.at n).matches s t' ag).backward) ((h.at d).matches s t ag).backward;
+      backward = met_trans (run_by_depth c a) (run_by_depth c b) s _ (λ n t'. ((i.at n).matches s t' ag).backward) ((h.at d).matches s t ag).backward;
     };
   };
 }
@@ -115,7 +115,7 @@ simulates_or_stuck {c = c} {a = a} h = record {
   at = λ d. record {
     matches = λ s t ag. record {
       forward = or_follows _ _ (h (at_depth c d s t ag));
-      backward = or_met (by_depth c a) (rises c a) d s t _ _ refl (h (at_depth c d s t ag));
+      backward = or_met (run_by_depth c a) (rises c a) d s t _ _ refl (h (at_depth c d s t ag));
     };
   };
 }

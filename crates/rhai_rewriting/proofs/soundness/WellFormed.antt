@@ -4,29 +4,30 @@ use Rattle.rhai_base.specs.Value.{Value, PointerV}
 use Rattle.rhai_meaning.specs.Constants.{constant_for}
 use Rattle.rhai_meaning.specs.Faults.{call_fault, IsFaultless, AreWellFormed}
 use Rattle.rhai_meaning.specs.Tree.{Stmts}
-use Rattle.rhai_meaning.specs.Walk.{OfExpr, whole}
+use Rattle.rhai_meaning.specs.Walk.{Node, OfExpr, whole}
 use Rattle.rhai_rewriting.specs.Context.{Context, ListKind}
 use Rattle.rhai_rewriting.specs.Rewriting.{StmtsTo}
 use Rattle.rhai_rewriting.proofs.Plain.{is_plain_value}
-use Rattle.rhai_rewriting.proofs.rules.Lasting.{Lasting}
+use Rattle.rhai_rewriting.proofs.rules.Lasting.{SameNode, same_call, same_call_statement, Lasting}
 use Rattle.rhai_rewriting.proofs.soundness.Lasting.{stmts_keep}
 
 constant_faultless : (l : Bool) (v : Value) → is_plain_value v ≡ true → IsFaultless (whole l) (OfExpr (constant_for v))
 constant_faultless l (PointerV f vs) p = absurd cc
 constant_faultless l _ p = refl
 
+faultless_again : (l : Bool) {n n' : Node} → SameNode n n' → IsFaultless (whole l) n → IsFaultless (whole l) n'
+faultless_again l (same_call {c = c} e) h = subst (λ n. call_fault c n ≡ None) e h
+faultless_again l (same_call_statement {c = c} e) h = subst (λ n. call_fault c n ≡ None) e h
+faultless_again l _ h = refl
+
 faultless_lasts : (l : Bool) → Lasting IsFaultless l
 faultless_lasts l = record {
+  again = λ s h. faultless_again l s h;
   constant = constant_faultless l;
   noop = refl;
   block = λ ss. refl;
   expression = λ e. refl;
   call_statement = λ c es h. h;
-  array_again = λ es es' h. refl;
-  braces_again = λ ss ss' h. refl;
-  call_again = λ c es es' e h. subst (λ n. call_fault c n ≡ None) e h;
-  call_statement_again = λ c es es' e h. subst (λ n. call_fault c n ≡ None) e h;
-  if_again = λ e e' a a' b b' h. refl;
 }
 
 pub stmts_well : {k : Context} {m : ListKind} {d d' : Bool} {ss ss' : Stmts} (l : Bool) → StmtsTo k m d d' ss ss' → AreWellFormed (whole l) ss → AreWellFormed (whole l) ss'
