@@ -72,6 +72,11 @@ curried_twice : ran nothing_set joining (does (call "curry" (call "curry" (call 
 unfolding ran
 curried_twice = refl
 
+-- curry(1, 2)
+curried_number : ran nothing_set joining (does (call "curry" (int 1 ∷ int 2 ∷ []))) ≡ ends (WithStuck WrongKind) []
+unfolding ran
+curried_number = refl
+
 -- call(curry(Fn("f"), 1), 2, 3): the curried values stand before the arguments
 curried_called : ran nothing_set joining (does (call "call" (call "curry" (call "Fn" (text "f" ∷ []) ∷ int 1 ∷ []) ∷ int 2 ∷ int 3 ∷ []))) ≡ ends (WithValue (TextV (codes "12"))) (asked "f" (i 1 ∷ i 2 ∷ i 3 ∷ []) ∷ [])
 unfolding ran
