@@ -131,14 +131,14 @@ module _ (w : World) (env : Env) (loop : Bool) where
   pointer_chosen true v other h s t = refl
   pointer_chosen false v other h s t = no h
 
-  another_name : (a b c d : Bool) → a ≡ false → a && b && c && d ≡ true → false ≡ true
-  another_name true b c d h k = absurd (let z : true ≡ false = h in cc)
-  another_name false b c d h k = k
+  another_name : (a b c : Bool) → a ≡ false → a && b && c ≡ true → false ≡ true
+  another_name true b c h k = absurd (let z : true ≡ false = h in cc)
+  another_name false b c h k = k
 
   pointer_runs : (captures : Bool) (token : CallToken) (x : Text) → has_token (callee (codes "Fn") captures token) 1 token ≡ true → is_valid_name x ≡ true → CallRuns (callee (codes "Fn") captures token) (expr (StringConstant x) no_exprs) (PointerV x no_values)
   unfolding CallRuns
   pointer_runs captures NoToken x g h s t = pointer_chosen (is_valid_name x) (PointerV x no_values) _ h s t
-  pointer_runs captures (OfOperator op) x g h s t = no (another_name (same_text (codes "Fn") (symbol op)) (1 == arity op) true (not captures) (no_symbol op) g)
+  pointer_runs captures (OfOperator op) x g h s t = no (another_name (same_text (codes "Fn") (symbol op)) (1 == arity op) (not captures) (no_symbol op) g)
   pointer_runs captures OfOther x g h s t = no g
 
   -- `..` and `..=` between literal ends

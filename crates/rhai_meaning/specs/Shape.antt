@@ -14,7 +14,7 @@ is_none (x ∷ xs) = false
 -- An operator's token has its own name and its count of arguments; an operator's name has its token.
 abbrev pub has_token : Callee → ℕ → CallToken → Bool
 has_token c n NoToken = not (is_among c.name symbols)
-has_token c n (OfOperator op) = same_text c.name (symbol op) && n == arity op && is_none c.namespace && not c.captures
+has_token c n (OfOperator op) = is_none c.namespace && same_text c.name (symbol op) && n == arity op && not c.captures
 has_token c n OfOther = false
 
 -- a plain script doesn't call these
