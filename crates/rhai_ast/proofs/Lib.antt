@@ -1,2 +1,4 @@
+pub mod Copies
 pub mod ItemLists
+pub mod Literals
 pub mod Pointers

@@ -1,2 +1,4 @@
+pub mod Literals
+pub mod Positions
 pub mod Reading
 pub mod SwitchTable

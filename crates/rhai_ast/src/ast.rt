@@ -1,11 +1,11 @@
 //! The syntax tree.
 
+mod copy;
 pub mod expr;
+mod literals;
 pub mod script_fn;
 pub mod stmt;
 pub mod switch;
-#[cfg(test)]
-mod tests;
 
 pub use expr::{BinaryExpr, Expr, FnCallExpr, are_constant};
 pub use script_fn::{FnAccess, ScriptFuncDef};

@@ -3,16 +3,17 @@ use Rattle.std.proofs.Common.{◌≡◌, ℕ, Bool, true, false, not, cond, ◌&
 use Rattle.std.specs.Prelude.{codes, if◌then◌else◌, ◌==◌}
 use Rattle.std.proofs.lemmas.Slice.Eq.{bytes_eq-Decides}
 use Rattle.rhai_base.specs.Value.{Text, Value, UnitV, TextV, ArrayV, PointerV, RangeV, RangeInclusiveV, no_values, item, values, same_text}
-use Rattle.rhai_base.specs.Operators.{Operator, Plus, UpTo, Through, symbol, arity, computed}
+use Rattle.rhai_base.specs.Operators.{Operator, Plus, UpTo, Through, symbol, arity, computed, binary}
 use Rattle.rhai_parts.specs.Names.{is_valid_name}
 use Rattle.rhai_meaning.specs.Act.{World, Store, Gives, Ended, At, Act, Env, and_then, run}
 use Rattle.rhai_meaning.specs.ActForms.{give, value_then, choose}
-use Rattle.rhai_meaning.specs.Constants.{array_value, map_value, joined_value, value_and, entry_and, constant_value, constant_values, constant_entries, bound, range_value, pointer_value, call_value, literal_value, constant_for}
+use Rattle.rhai_meaning.specs.Constants.{array_value, map_value, joined_value, value_and, entry_and, constant_value, constant_values, constant_entries, range_end, range_literal, pointer_literal, named_value, call_value, literal_value, constant_for}
+use Rattle.rhai_meaning.specs.Engine.{or_else}
 use Rattle.rhai_meaning.specs.Control.{texts_joined}
 use Rattle.rhai_meaning.specs.Core as core
 use Rattle.rhai_meaning.specs.Desugar.{core_expr, core_exprs, core_pairs, call_of}
 use Rattle.rhai_meaning.specs.Faults.{TreeFault, ◌then◌, unless, map_fault, faultless, IsWellFormedExpr, AreWellFormedExprs}
-use Rattle.rhai_meaning.specs.Laws.{LiteralLaw, IsNamed}
+use Rattle.rhai_meaning.specs.Laws.{LiteralLaw, ConstantLaw, IsNamed}
 use Rattle.rhai_meaning.specs.Meaning.{act, with_args, with_pairs}
 use Rattle.rhai_meaning.specs.Shape.{is_none, is_unit, is_map, has_token, keys, are_distinct, are_among}
 use Rattle.rhai_meaning.specs.Tree.{CallToken, NoToken, OfOperator, OfOther, Callee, Expr, DynamicConstant, BoolConstant, IntegerConstant, CharConstant, StringConstant, UnitConstant, InterpolatedString, ArrayOf, MapOf, FnCall, Exprs, no_exprs, expr, count_exprs, Pairs, no_pairs, pair}
@@ -41,6 +42,10 @@ passed_two false b f g h = absurd (let z : Some f ≡ None = h in cc)
 not_true : (b : Bool) → not b ≡ true → b ≡ false
 not_true false h = refl
 not_true true h = no h
+
+or_none : (o : Option Value) (v : Value) → or_else o None ≡ Some v → o ≡ Some v
+or_none None v h = h
+or_none (Some u) v h = h
 
 module _ (w : World) (env : Env) (loop : Bool) where
   abbrev Runs : Expr → Value → Type 0
@@ -145,21 +150,21 @@ module _ (w : World) (env : Env) (loop : Bool) where
   abbrev ends_run : Operator → Expr → Expr → Value → Type 0
   ends_run op a b v = (s : Store) (t : ℕ) → run w env (act w (core.FnCall (core.OnOperator op) (core_exprs loop (expr a (expr b no_exprs))))) s t ≡ At (Ended (Gives v)) s t
 
-  open_ends : (a b : Expr) (v : Value) → range_value RangeV (bound a) (bound b) ≡ Some v → ends_run UpTo a b v
-  unfolding computed
+  open_ends : (a b : Expr) (v : Value) → range_literal UpTo (range_end a) (range_end b) ≡ Some v → ends_run UpTo a b v
+  unfolding computed binary
   open_ends (IntegerConstant m) (IntegerConstant n) v h s t = ap (λ z. At (Ended (Gives z)) s t) (some_is _ v h)
   open_ends (IntegerConstant m) UnitConstant v h s t = ap (λ z. At (Ended (Gives z)) s t) (some_is _ v h)
   open_ends UnitConstant (IntegerConstant n) v h s t = ap (λ z. At (Ended (Gives z)) s t) (some_is _ v h)
   open_ends _ _ v h s t = no_value h
 
-  closed_ends : (a b : Expr) (v : Value) → range_value RangeInclusiveV (bound a) (bound b) ≡ Some v → ends_run Through a b v
-  unfolding computed
+  closed_ends : (a b : Expr) (v : Value) → range_literal Through (range_end a) (range_end b) ≡ Some v → ends_run Through a b v
+  unfolding computed binary
   closed_ends (IntegerConstant m) (IntegerConstant n) v h s t = ap (λ z. At (Ended (Gives z)) s t) (some_is _ v h)
   closed_ends (IntegerConstant m) UnitConstant v h s t = ap (λ z. At (Ended (Gives z)) s t) (some_is _ v h)
   closed_ends UnitConstant (IntegerConstant n) v h s t = ap (λ z. At (Ended (Gives z)) s t) (some_is _ v h)
   closed_ends _ _ v h s t = no_value h
 
-  open_runs : (captures : Bool) (token : CallToken) (a b : Expr) (v : Value) → has_token (callee (codes "..") captures token) 2 token ≡ true → range_value RangeV (bound a) (bound b) ≡ Some v → CallRuns (callee (codes "..") captures token) (expr a (expr b no_exprs)) v
+  open_runs : (captures : Bool) (token : CallToken) (a b : Expr) (v : Value) → has_token (callee (codes "..") captures token) 2 token ≡ true → range_literal UpTo (range_end a) (range_end b) ≡ Some v → CallRuns (callee (codes "..") captures token) (expr a (expr b no_exprs)) v
   unfolding CallRuns
   open_runs false (OfOperator UpTo) a b v g h s t = open_ends a b v h s t
   open_runs true (OfOperator UpTo) a b v g h s t = no g
@@ -167,7 +172,7 @@ module _ (w : World) (env : Env) (loop : Bool) where
   open_runs captures NoToken a b v g h s t = no g
   open_runs captures OfOther a b v g h s t = no g
 
-  closed_runs : (captures : Bool) (token : CallToken) (a b : Expr) (v : Value) → has_token (callee (codes "..=") captures token) 2 token ≡ true → range_value RangeInclusiveV (bound a) (bound b) ≡ Some v → CallRuns (callee (codes "..=") captures token) (expr a (expr b no_exprs)) v
+  closed_runs : (captures : Bool) (token : CallToken) (a b : Expr) (v : Value) → has_token (callee (codes "..=") captures token) 2 token ≡ true → range_literal Through (range_end a) (range_end b) ≡ Some v → CallRuns (callee (codes "..=") captures token) (expr a (expr b no_exprs)) v
   unfolding CallRuns
   closed_runs false (OfOperator Through) a b v g h s t = closed_ends a b v h s t
   closed_runs true (OfOperator Through) a b v g h s t = no g
@@ -184,33 +189,33 @@ module _ (w : World) (env : Env) (loop : Bool) where
   valid_runs captures token x v true p h g s t = pointer_runs captures token x g p s t ∙ ap (λ z. At (Ended (Gives z)) s t) (some_is _ v h)
   valid_runs captures token x v false p h g s t = no_value h
 
-  fn_runs : (captures : Bool) (token : CallToken) (a : Expr) (v : Value) → pointer_value a ≡ Some v → Named (codes "Fn") captures token (expr a no_exprs) v
+  fn_runs : (captures : Bool) (token : CallToken) (a : Expr) (v : Value) → pointer_literal a ≡ Some v → Named (codes "Fn") captures token (expr a no_exprs) v
   fn_runs captures token (StringConstant x) v h = valid_runs captures token x v (is_valid_name x) refl h
   fn_runs captures token _ v h = no_value h
 
   is_name : (f g : Text) → same_text f g ≡ true → f ≡ g
   is_name f g h = (bytes_eq-Decides f g).0 h
 
-  one_runs : (f : Text) (captures : Bool) (token : CallToken) (a : Expr) (v : Value) (b : Bool) → same_text f (codes "Fn") ≡ b → (if b then pointer_value a else None) ≡ Some v → Named f captures token (expr a no_exprs) v
+  one_runs : (f : Text) (captures : Bool) (token : CallToken) (a : Expr) (v : Value) (b : Bool) → same_text f (codes "Fn") ≡ b → (if b then pointer_literal a else None) ≡ Some v → Named f captures token (expr a no_exprs) v
   one_runs f captures token a v true p h = subst (λ g. Named g captures token (expr a no_exprs) v) (sym (is_name f (codes "Fn") p)) (fn_runs captures token a v h)
   one_runs f captures token a v false p h = no_value h
 
-  two_closed : (f : Text) (captures : Bool) (token : CallToken) (a b : Expr) (v : Value) (d : Bool) → same_text f (codes "..=") ≡ d → (if d then range_value RangeInclusiveV (bound a) (bound b) else None) ≡ Some v → Named f captures token (expr a (expr b no_exprs)) v
+  two_closed : (f : Text) (captures : Bool) (token : CallToken) (a b : Expr) (v : Value) (d : Bool) → same_text f (codes "..=") ≡ d → (if d then range_literal Through (range_end a) (range_end b) else None) ≡ Some v → Named f captures token (expr a (expr b no_exprs)) v
   two_closed f captures token a b v true p h = subst (λ g. Named g captures token (expr a (expr b no_exprs)) v) (sym (is_name f (codes "..=") p)) (λ g. closed_runs captures token a b v g h)
   two_closed f captures token a b v false p h = no_value h
 
-  two_runs : (f : Text) (captures : Bool) (token : CallToken) (a b : Expr) (v : Value) (d : Bool) → same_text f (codes "..") ≡ d → (if d then range_value RangeV (bound a) (bound b) else (if same_text f (codes "..=") then range_value RangeInclusiveV (bound a) (bound b) else None)) ≡ Some v → Named f captures token (expr a (expr b no_exprs)) v
+  two_runs : (f : Text) (captures : Bool) (token : CallToken) (a b : Expr) (v : Value) (d : Bool) → same_text f (codes "..") ≡ d → (if d then range_literal UpTo (range_end a) (range_end b) else (if same_text f (codes "..=") then range_literal Through (range_end a) (range_end b) else None)) ≡ Some v → Named f captures token (expr a (expr b no_exprs)) v
   two_runs f captures token a b v true p h = subst (λ g. Named g captures token (expr a (expr b no_exprs)) v) (sym (is_name f (codes "..") p)) (λ g. open_runs captures token a b v g h)
   two_runs f captures token a b v false p h = two_closed f captures token a b v (same_text f (codes "..=")) refl h
 
-  call_runs : (f : Text) (captures : Bool) (token : CallToken) (es : Exprs) (v : Value) → call_value f es ≡ Some v → Named f captures token es v
+  call_runs : (f : Text) (captures : Bool) (token : CallToken) (es : Exprs) (v : Value) → named_value f es ≡ Some v → Named f captures token es v
   call_runs f captures token no_exprs v h = no_value h
   call_runs f captures token (expr a no_exprs) v h = one_runs f captures token a v (same_text f (codes "Fn")) refl h
   call_runs f captures token (expr a (expr b no_exprs)) v h = two_runs f captures token a b v (same_text f (codes "..")) refl h
   call_runs f captures token (expr a (expr b (expr d es))) v h = no_value h
 
   -- a call with a namespace is no literal
-  unqualified_runs : (ns : List Text) (f : Text) (captures : Bool) (token : CallToken) (es : Exprs) (v : Value) → (if is_none ns then call_value f es else None) ≡ Some v → has_token (record { namespace = ns; name = f; captures = captures; token = token }) (count_exprs es) token ≡ true → CallRuns (record { namespace = ns; name = f; captures = captures; token = token }) es v
+  unqualified_runs : (ns : List Text) (f : Text) (captures : Bool) (token : CallToken) (es : Exprs) (v : Value) → (if is_none ns then named_value f es else None) ≡ Some v → has_token (record { namespace = ns; name = f; captures = captures; token = token }) (count_exprs es) token ≡ true → CallRuns (record { namespace = ns; name = f; captures = captures; token = token }) es v
   unqualified_runs [] f captures token es v h g = call_runs f captures token es v h g
   unqualified_runs (m ∷ ms) f captures token es v h g = no_value h
 
@@ -223,9 +228,9 @@ module _ (w : World) (env : Env) (loop : Bool) where
   literal_runs a (CharConstant c) g v h s t = constant_runs a (CharConstant c) g v h s t
   literal_runs a (StringConstant x) g v h s t = constant_runs a (StringConstant x) g v h s t
   literal_runs a UnitConstant g v h s t = constant_runs a UnitConstant g v h s t
-  literal_runs a (InterpolatedString es) g v h s t = constant_runs a (InterpolatedString es) g v h s t
-  literal_runs a (ArrayOf es) g v h s t = constant_runs a (ArrayOf es) g v h s t
-  literal_runs a (MapOf ps template) g v h s t = constant_runs a (MapOf ps template) g v h s t
+  literal_runs a (InterpolatedString es) g v h s t = constant_runs a (InterpolatedString es) g v (or_none _ v h) s t
+  literal_runs a (ArrayOf es) g v h s t = constant_runs a (ArrayOf es) g v (or_none _ v h) s t
+  literal_runs a (MapOf ps template) g v h s t = constant_runs a (MapOf ps template) g v (or_none _ v h) s t
   literal_runs a _ g v h s t = no_value h
 
 -- the value of a literal is that of each run
@@ -233,18 +238,8 @@ pub literal_law : (e : Expr) → LiteralLaw e
 literal_law e a g v h = record { at = λ w env adds loop s t. literal_runs w env loop a e g v h s t }
 
 -- a constant has a literal value
-pub constant_is_literal : (e : Expr) (v : Value) → constant_value e ≡ Some v → literal_value e ≡ Some v
-constant_is_literal (FnCall c es) v h = no_value h
-constant_is_literal (DynamicConstant u) v h = h
-constant_is_literal (BoolConstant b) v h = h
-constant_is_literal (IntegerConstant n) v h = h
-constant_is_literal (CharConstant c) v h = h
-constant_is_literal (StringConstant x) v h = h
-constant_is_literal UnitConstant v h = h
-constant_is_literal (InterpolatedString es) v h = h
-constant_is_literal (ArrayOf es) v h = h
-constant_is_literal (MapOf ps template) v h = h
-constant_is_literal _ v h = no_value h
+pub constant_is_literal : (e : Expr) → ConstantLaw e
+constant_is_literal e v h = ap (λ o. or_else o (call_value e)) h
 
 valid_or_none : (b : Bool) (v : Value) → b ≡ true → (if b then Some v else None) ≡ Some v
 valid_or_none true v h = refl

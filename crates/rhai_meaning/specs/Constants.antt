@@ -1,11 +1,12 @@
 -- Constants and literals, their values, and the constant for a value.
-use Rattle.std.specs.Prelude.{Bool, true, false, List, [], ◌∷◌, Option, Some, None, codes, is_some, ℤ, pos, if◌then◌else◌}
-use Rattle.rhai_base.specs.Value.{Text, Value, UnitV, BoolV, IntV, CharV, TextV, ArrayV, MapV, PointerV, RangeV, RangeInclusiveV, no_values, values, same_text}
-use Rattle.rhai_base.specs.Operators.{greatest}
+use Rattle.std.specs.Prelude.{Bool, true, false, List, [], ◌∷◌, Option, Some, None, codes, is_some, if◌then◌else◌}
+use Rattle.rhai_base.specs.Value.{Text, Value, UnitV, BoolV, IntV, CharV, TextV, ArrayV, MapV, PointerV, no_values, values, same_text}
+use Rattle.rhai_base.specs.Operators.{Operator, UpTo, Through, Computed, NoEntry, Is, Overflows, binary}
 use Rattle.rhai_parts.specs.Names.{is_valid_name}
 use Rattle.rhai_meaning.specs.ActForms.{truth}
 use Rattle.rhai_meaning.specs.Control.{texts_joined}
 use Rattle.rhai_meaning.specs.Elements.{fields_of}
+use Rattle.rhai_meaning.specs.Engine.{or_else}
 use Rattle.rhai_meaning.specs.Shape.{is_none}
 use Rattle.rhai_meaning.specs.Tree.{NoToken, Expr, DynamicConstant, BoolConstant, IntegerConstant, CharConstant, StringConstant, UnitConstant, InterpolatedString, ArrayOf, MapOf, FnCall, Exprs, no_exprs, expr, Pairs, no_pairs, pair}
 
@@ -71,42 +72,6 @@ abbrev pub is_literal_unit : Expr → Bool
 is_literal_unit UnitConstant = true
 is_literal_unit _ = false
 
--- ---- literals
-
--- an integer, or None where it is left out
-abbrev pub Bound : Type 0
-Bound = Option ℤ
-
--- None: no end of a literal range
-abbrev pub bound : Expr → Option Bound
-bound (IntegerConstant n) = Some (Some n)
-bound UnitConstant = Some None
-bound _ = None
-
--- at most one end is left out
-abbrev pub range_value : (ℤ → ℤ → Value) → Option Bound → Option Bound → Option Value
-range_value range (Some (Some a)) (Some (Some b)) = Some (range a b)
-range_value range (Some (Some a)) (Some None) = Some (range a greatest)
-range_value range (Some None) (Some (Some b)) = Some (range (pos 0) b)
-range_value range _ _ = None
-
-abbrev pub pointer_value : Expr → Option Value
-pointer_value (StringConstant t) = if is_valid_name t then Some (PointerV t no_values) else None
-pointer_value _ = None
-
--- `Fn` of a valid name, and ranges between literal ends
-abbrev pub call_value : Text → Exprs → Option Value
-call_value f (expr a no_exprs) = if same_text f (codes "Fn") then pointer_value a else None
-call_value f (expr a (expr b no_exprs)) =
-    if same_text f (codes "..") then range_value RangeV (bound a) (bound b)
-    else (if same_text f (codes "..=") then range_value RangeInclusiveV (bound a) (bound b) else None)
-call_value f _ = None
-
--- the value of a literal: of a constant, or of a call that makes a pointer or a range
-abbrev pub literal_value : Expr → Option Value
-literal_value (FnCall c es) = if is_none c.namespace then call_value c.name es else None
-literal_value e = constant_value e
-
 -- ---- the constant for a value
 
 -- the call that makes a pointer to the function of a name
@@ -122,3 +87,48 @@ constant_for (CharV c) = CharConstant c
 constant_for (TextV t) = StringConstant t
 constant_for (PointerV f no_values) = pointer_call f
 constant_for v = DynamicConstant v
+
+-- ---- literals: constants, and the calls that make a pointer or a range of constants
+
+-- the value of an operator's answer; a fault is none
+abbrev pub computed_value : Computed → Option Value
+computed_value NoEntry = None
+computed_value (Is v) = Some v
+computed_value Overflows = None
+
+-- the pointer to the function of a name, where a function may have it
+abbrev pub pointer_to : Text → Option Value
+pointer_to f = if is_valid_name f then Some (PointerV f no_values) else None
+
+abbrev pub pointer_literal : Expr → Option Value
+pointer_literal (StringConstant f) = pointer_to f
+pointer_literal _ = None
+
+-- an end of a range that is written out, unit where it is left out
+abbrev pub range_end : Expr → Option Value
+range_end (IntegerConstant n) = Some (IntV n)
+range_end UnitConstant = Some UnitV
+range_end _ = None
+
+-- what a range's operator makes of its ends
+abbrev pub range_literal : Operator → Option Value → Option Value → Option Value
+range_literal op (Some v) (Some w) = computed_value (binary op v w)
+range_literal op _ _ = None
+
+-- the value that a call of a name writes out: a pointer or a range
+abbrev pub named_value : Text → Exprs → Option Value
+named_value f (expr e no_exprs) = if same_text f (codes "Fn") then pointer_literal e else None
+named_value f (expr d (expr e no_exprs)) =
+    if same_text f (codes "..") then range_literal UpTo (range_end d) (range_end e)
+    else if same_text f (codes "..=") then range_literal Through (range_end d) (range_end e)
+    else None
+named_value f _ = None
+
+-- a call under a namespace is none
+abbrev pub call_value : Expr → Option Value
+call_value (FnCall c es) = if is_none c.namespace then named_value c.name es else None
+call_value _ = None
+
+-- the value of a literal; None: no literal
+abbrev pub literal_value : Expr → Option Value
+literal_value e = or_else (constant_value e) (call_value e)

@@ -5,12 +5,24 @@ ghost use Rattle.rhai_ast.specs.Reading.{stmts_of};
 use crate::SharedLib;
 use rhai_ast::Stmt;
 use rhai_base::Seq;
+use std::alloc::AllocError;
 
 /// A script: its statements and its functions.
 #[derive(Drop)]
 pub struct AST {
     statements: Seq<Stmt>,
     lib: SharedLib,
+}
+
+impl Clone for AST {
+    ghost is_clone = { λ s t. (t.statements ≡ s.statements) × (t.lib.value ≡ s.lib.value) };
+
+    #[tactic(auto, using(rhai_ast::proofs::Copies::copies))]
+    fn clone(&self) -> Result<AST, AllocError> {
+        let statements = self.statements.clone()?;
+        let lib = self.lib.clone()?;
+        Ok(AST { statements, lib })
+    }
 }
 
 impl AST {
@@ -40,28 +52,5 @@ impl AST {
         ensures { result.now ≡ self.now.lib }
     {
         &self.lib
-    }
-}
-
-#[cfg(test)]
-mod tests {
-    use super::*;
-    use crate::FnLib;
-    use rhai_base::Position;
-    use std::rc::Rc;
-    use std::test::Fail;
-
-    #[test]
-    fn a_script_holds_its_statements_and_its_table(rt: HostRuntime) -> Result<(), Fail> {
-        let mut statements = Vec::new(rt.alloc());
-        statements.push(Stmt::Noop(Position::new(3, 4)))?;
-        let lib = Rc::new(rt.alloc(), FnLib::new(rt.alloc()))?;
-        let script = AST::new(statements, lib);
-        assert_eq!(rt; script.statements().len(), 1);
-        assert!(rt;
-            matches!(&script.statements()[0], Stmt::Noop(position) if *position == Position::new(3, 4))
-        );
-        assert!(rt; script.shared_lib().is_empty());
-        Ok(())
     }
 }

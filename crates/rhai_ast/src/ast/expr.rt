@@ -1,10 +1,11 @@
 //! Expressions.
 
-#![tactic(auto, using(crate::specs::Reading::shapes, rhai_base::specs::Reading::kinds, crate::proofs::ItemLists::steps, crate::proofs::Pointers::pointers))]
+#![tactic(auto, using(crate::specs::Reading::shapes, rhai_base::specs::Reading::kinds, crate::proofs::ItemLists::steps, crate::proofs::Pointers::pointers, crate::specs::Positions::places))]
 
-ghost use Rattle.std.specs.Prelude.{◌≡◌, IfOk, map};
+ghost use Rattle.std.specs.Prelude.{◌≡◌, [], IfOk, map};
 ghost use Rattle.rhai_base.specs.Reading.{value_of};
 ghost use Rattle.rhai_base.specs.Value.{PointerV, values};
+ghost use Rattle.rhai_ast.specs.Positions.{AreAt, arguments_of, position_of};
 ghost use Rattle.rhai_ast.specs.Reading.{expr_of, exprs_of};
 ghost use Rattle.rhai_meaning.specs.Constants as constants;
 ghost use Rattle.rhai_meaning.specs.Tree.{DynamicConstant};
@@ -63,7 +64,9 @@ pub struct BinaryExpr {
 impl Expr {
     /// The constant for a value. A pointer without values of parameters is the call `Fn("name")`.
     pub fn from_dynamic(alloc: Global, value: Dynamic, pos: Position) -> Result<Expr, OutOfMemory>
-        ensures { IfOk result (λ e. expr_of e ≡ constants.constant_for (value_of value)) }
+        ensures value { IfOk result (λ e. expr_of e ≡ constants.constant_for (value_of value)) }
+        ensures position { IfOk result (λ e. position_of e ≡ pos) }
+        ensures arguments { IfOk result (λ e. AreAt pos (arguments_of e)) }
     {
         match value {
             Dynamic::Unit => Ok(Expr::Unit(pos)),
@@ -82,7 +85,9 @@ impl Expr {
     }
 
     fn from_pointer(alloc: Global, pointer: FnPtr, pos: Position) -> Result<Expr, OutOfMemory>
-        ensures { IfOk result (λ e. expr_of e ≡ constants.constant_for (PointerV pointer.name (values (map value_of pointer.curried)))) }
+        ensures value { IfOk result (λ e. expr_of e ≡ constants.constant_for (PointerV pointer.name (values (map value_of pointer.curried)))) }
+        ensures position { IfOk result (λ e. position_of e ≡ pos) }
+        ensures arguments { IfOk result (λ e. AreAt pos (arguments_of e)) }
     {
         if !pointer.curry().is_empty() {
             return hold(alloc, Dynamic::FnPtr(pointer), pos);
@@ -111,7 +116,9 @@ impl Expr {
 
 /// A value as a constant that no other constant stands for.
 fn hold(alloc: Global, value: Dynamic, pos: Position) -> Result<Expr, OutOfMemory>
-    ensures { IfOk result (λ e. expr_of e ≡ DynamicConstant (value_of value)) }
+    ensures value { IfOk result (λ e. expr_of e ≡ DynamicConstant (value_of value)) }
+    ensures position { IfOk result (λ e. position_of e ≡ pos) }
+    ensures arguments { IfOk result (λ e. arguments_of e ≡ []) }
 {
     let value = Boxed::new(alloc, value)?;
     Ok(Expr::DynamicConstant(value, pos))
@@ -119,7 +126,9 @@ fn hold(alloc: Global, value: Dynamic, pos: Position) -> Result<Expr, OutOfMemor
 
 /// `Fn("name")`
 fn pointer_call(alloc: Global, name: ImmutableString, pos: Position) -> Result<Expr, OutOfMemory>
-    ensures { IfOk result (λ e. expr_of e ≡ constants.pointer_call name) }
+    ensures value { IfOk result (λ e. expr_of e ≡ constants.pointer_call name) }
+    ensures position { IfOk result (λ e. position_of e ≡ pos) }
+    ensures arguments { IfOk result (λ e. AreAt pos (arguments_of e)) }
 {
     let mut args = Seq::new(alloc);
     args.push(Expr::StringConstant(name, pos))?;

