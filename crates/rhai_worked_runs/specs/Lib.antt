@@ -1,6 +1,7 @@
 pub mod Terms
 pub mod Runs
 pub mod CallRuns
+pub mod EvaluatedForms
 pub mod DirectedRuns
 pub mod MoreRuns
 pub mod TreeTests
@@ -10,3 +11,4 @@ pub mod WorkedCalls
 pub mod WorkedNames
 pub mod WorkedHosts
 pub mod WorkedTrees
+pub mod RandomRuns

@@ -2,7 +2,7 @@
 use Rattle.std.specs.Prelude.{◌≡◌, ℕ, Bool, true, false, List, [], ◌∷◌, Option, Some, None, pos, negsuc, codes, refl, option_map}
 use Prim.Native.String.{String}
 use Rattle.rhai_base.specs.Value.{Value, UnitV, IntV, TextV, ArrayV, MapV, PointerV, RangeV, RangeInclusiveV, no_values, values, field, no_fields}
-use Rattle.rhai_base.specs.Operators.{Plus, UpTo, Through}
+use Rattle.rhai_base.specs.Operators.{Plus, UpTo, Through, binary}
 use Rattle.rhai_parts.specs.declared.types.token.Token.TheVariants as token
 use Rattle.rhai_meaning.specs.Constants.{is_constant, literal_value, constant_for}
 use Rattle.rhai_meaning.specs.Control.{texts_joined}
@@ -137,6 +137,7 @@ literals (e ∷ es) = literal_value e ∷ literals es
 -- 0.., ..=5, ()..(), Fn("1x"), Fn("print"), Fn("f")
 literal_calls : literals (op UpTo (int 0 ∷ UnitConstant ∷ []) ∷ op Through (UnitConstant ∷ int 5 ∷ []) ∷ op UpTo (UnitConstant ∷ UnitConstant ∷ []) ∷ fn "Fn" (StringConstant (codes "1x") ∷ []) ∷ fn "Fn" (StringConstant (codes "print") ∷ []) ∷ fn "Fn" (StringConstant (codes "f") ∷ []) ∷ [])
     ≡ Some (RangeV (pos 0) (pos 9223372036854775807)) ∷ Some (RangeInclusiveV (pos 0) (pos 5)) ∷ None ∷ None ∷ None ∷ Some (PointerV (codes "f") no_values) ∷ []
+unfolding binary
 literal_calls = refl
 
 -- [1, #{a: 2}], `a1`, [x], 1 + 2
