@@ -6,9 +6,9 @@ use Rattle.rhai_base.specs.Operators.{Plus, UpTo}
 use Rattle.rhai_meaning.specs.Host.{host_of}
 use Rattle.rhai_meaning.specs.Tree.{NoToken, FnCall, Stmt, IntegerConstant, BoolConstant, UnitConstant, StringConstant, Variable, ThisPtr, Dot, Index, BlockExpr, Assignment, ExprStmt, While, BreakLoop, Do, no_expr, an_expr, no_stmts, stmts, exprs}
 use Rattle.rhai_meaning.specs.Run.{AtFunction, WithThrown, WithStuck, WithoutTurns}
-use Rattle.rhai_worked_runs.specs.Terms.{run, World, int, var, op, fn, let', const', array, at, dot, prop, meth, map_one, plain_engine, world_with, asked, var_is, const_is}
+use Rattle.rhai_worked_runs.specs.Terms.{i, run, World, int, var, op, fn, let', const', array, at, dot, prop, meth, map_one, nothing_set, world_with, asked, var_is, const_is}
 use Rattle.rhai_meaning.specs.Calls.{key}
-use Rattle.rhai_worked_runs.specs.Runs.{ran_in, ran, report, gives, i, throws, fact, double}
+use Rattle.rhai_worked_runs.specs.Runs.{ran_in, ran, report, gives, throws, fact, double}
 
 -- ---- a function as entry
 
@@ -42,7 +42,7 @@ type_of_a_range = refl
 -- ---- a host by rows: the second call answers by a throw
 
 abbrev by_rows : World
-by_rows = record { engine = plain_engine; functions = []; host = host_of (record { past = []; call = asked "f" []; answer = Answers (i 7) None } ∷ record { past = asked "f" [] ∷ []; call = asked "f" []; answer = AnswersThrow (i 8) } ∷ []) (record { name = codes "a::x"; value = i 9 } ∷ []) }
+by_rows = record { engine = nothing_set; functions = []; host = host_of (record { past = []; call = asked "f" []; answer = Answers (i 7) None } ∷ record { past = asked "f" [] ∷ []; call = asked "f" []; answer = AnswersThrow (i 8) } ∷ []) (record { name = codes "a::x"; value = i 9 } ∷ []) }
 
 host_by_rows : ran_in by_rows (let' "x" (fn "f" []) ∷ ExprStmt (fn "f" []) ∷ []) 0 ≡ report (WithThrown (i 8)) (var_is "x" (i 7) ∷ []) (asked "f" [] ∷ asked "f" [] ∷ []) 0
 unfolding ran

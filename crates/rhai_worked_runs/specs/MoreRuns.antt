@@ -6,8 +6,8 @@ use Rattle.rhai_meaning.specs.Act.{AnswersThrow, WrongKind}
 use Rattle.rhai_meaning.specs.Engine.{Engine}
 use Rattle.rhai_meaning.specs.Run.{WithThrown, WithStuck, WithoutTurns}
 use Rattle.rhai_meaning.specs.Tree.{NoToken, BoolConstant, StringConstant, UnitConstant, DynamicConstant, FnCall, And, Or, Coalesce, Function, ExclusiveInt, Stmt, If, Switch, While, For, TryCatch, ExprStmt, Return, Assignment, an_expr, arms, no_stmts, no_exprs, exprs, stmts}
-use Rattle.rhai_worked_runs.specs.Terms.{World, int, var, op, fn, let', const', array, dot, prop, meth, map_one, program_host, plain_engine, world_with, asked, var_is, const_is}
-use Rattle.rhai_worked_runs.specs.Runs.{ran_in, ran, report, gives, i}
+use Rattle.rhai_worked_runs.specs.Terms.{i, World, int, var, op, fn, let', const', array, dot, prop, meth, map_one, program_host, nothing_set, world_with, asked, var_is, const_is}
+use Rattle.rhai_worked_runs.specs.Runs.{ran_in, ran, report, gives}
 
 abbrev in_engine : Engine → World
 in_engine e = record { engine = e; host = program_host; functions = [] }
@@ -15,17 +15,17 @@ in_engine e = record { engine = e; host = program_host; functions = [] }
 -- ---- the record
 
 -- two constants c = 1 and c = 2: the later one
-later_constant : ran_in (in_engine (record plain_engine { constants = record { name = codes "c"; value = i 1 } ∷ record { name = codes "c"; value = i 2 } ∷ [] })) (ExprStmt (var "c") ∷ []) 0 ≡ report (gives (i 2)) [] [] 0
+later_constant : ran_in (in_engine (record nothing_set { constants = record { name = codes "c"; value = i 1 } ∷ record { name = codes "c"; value = i 2 } ∷ [] })) (ExprStmt (var "c") ∷ []) 0 ≡ report (gives (i 2)) [] [] 0
 unfolding ran
 later_constant = refl
 
 -- let c = 3; c
-variable_before_record : ran_in (in_engine (record plain_engine { constants = record { name = codes "c"; value = i 1 } ∷ [] })) (let' "c" (int 3) ∷ ExprStmt (var "c") ∷ []) 0 ≡ report (gives (i 3)) (var_is "c" (i 3) ∷ []) [] 0
+variable_before_record : ran_in (in_engine (record nothing_set { constants = record { name = codes "c"; value = i 1 } ∷ [] })) (let' "c" (int 3) ∷ ExprStmt (var "c") ∷ []) 0 ≡ report (gives (i 3)) (var_is "c" (i 3) ∷ []) [] 0
 unfolding ran
 variable_before_record = refl
 
 abbrev names_types : Engine
-names_types = record plain_engine { type_names = record { from = codes "i64"; to = codes "Integer" } ∷ [] }
+names_types = record nothing_set { type_names = record { from = codes "i64"; to = codes "Integer" } ∷ [] }
 
 -- type_of(1), 1.type_of(), type_of("a")
 mapped_type_name : ran_in (in_engine names_types) (ExprStmt (array (fn "type_of" (int 1 ∷ []) ∷ dot (int 1) (meth "type_of" []) ∷ fn "type_of" (StringConstant (codes "a") ∷ []) ∷ [])) ∷ []) 0 ≡ report (gives (ArrayV (values (TextV (codes "Integer") ∷ TextV (codes "Integer") ∷ TextV (codes "string") ∷ [])))) [] [] 0
@@ -33,7 +33,7 @@ unfolding ran
 mapped_type_name = refl
 
 -- `1 + 2`, overridden, with fast operators
-fast_operators : ran_in (in_engine (record plain_engine { overrides = record { name = codes "+"; types = codes "i64" ∷ codes "i64" ∷ [] } ∷ []; fast_operators = true })) (ExprStmt (op Plus (int 1 ∷ int 2 ∷ [])) ∷ []) 0 ≡ report (gives (i 3)) [] [] 0
+fast_operators : ran_in (in_engine (record nothing_set { overrides = record { name = codes "+"; types = codes "i64" ∷ codes "i64" ∷ [] } ∷ []; fast_operators = true })) (ExprStmt (op Plus (int 1 ∷ int 2 ∷ [])) ∷ []) 0 ≡ report (gives (i 3)) [] [] 0
 unfolding ran
 fast_operators = refl
 
@@ -41,11 +41,11 @@ fast_operators = refl
 abbrev adds_two : List Stmt
 adds_two = let' "x" (int 1) ∷ Assignment (Some Plus) (var "x") (int 2) ∷ []
 
-assigning_overridden : ran_in (in_engine (record plain_engine { overrides = record { name = codes "+="; types = codes "i64" ∷ codes "i64" ∷ [] } ∷ [] })) adds_two 0 ≡ report (gives UnitV) (var_is "x" UnitV ∷ []) (asked "+=" (i 1 ∷ i 2 ∷ []) ∷ []) 0
+assigning_overridden : ran_in (in_engine (record nothing_set { overrides = record { name = codes "+="; types = codes "i64" ∷ codes "i64" ∷ [] } ∷ [] })) adds_two 0 ≡ report (gives UnitV) (var_is "x" UnitV ∷ []) (asked "+=" (i 1 ∷ i 2 ∷ []) ∷ []) 0
 unfolding ran
 assigning_overridden = refl
 
-base_overridden : ran_in (in_engine (record plain_engine { overrides = record { name = codes "+"; types = codes "i64" ∷ codes "i64" ∷ [] } ∷ [] })) adds_two 0 ≡ report (gives UnitV) (var_is "x" (TextV (codes "12")) ∷ []) (asked "+" (i 1 ∷ i 2 ∷ []) ∷ []) 0
+base_overridden : ran_in (in_engine (record nothing_set { overrides = record { name = codes "+"; types = codes "i64" ∷ codes "i64" ∷ [] } ∷ [] })) adds_two 0 ≡ report (gives UnitV) (var_is "x" (TextV (codes "12")) ∷ []) (asked "+" (i 1 ∷ i 2 ∷ []) ∷ []) 0
 unfolding ran
 base_overridden = refl
 
@@ -201,7 +201,7 @@ condition_no_bool : ran (If (int 5) (stmts (ExprStmt (int 1) ∷ [])) no_stmts �
 unfolding ran
 condition_no_bool = refl
 
-host_throws : ran_in (record { engine = plain_engine; host = record { answer = λ past c. AnswersThrow (TextV c.name); module_value = λ x. None }; functions = [] }) (ExprStmt (op Plus (fn "f" [] ∷ fn "g" [] ∷ [])) ∷ ExprStmt (fn "h" []) ∷ []) 0 ≡ report (WithThrown (TextV (codes "f"))) [] (asked "f" [] ∷ []) 0
+host_throws : ran_in (record { engine = nothing_set; host = record { answer = λ past c. AnswersThrow (TextV c.name); module_value = λ x. None }; functions = [] }) (ExprStmt (op Plus (fn "f" [] ∷ fn "g" [] ∷ [])) ∷ ExprStmt (fn "h" []) ∷ []) 0 ≡ report (WithThrown (TextV (codes "f"))) [] (asked "f" [] ∷ []) 0
 unfolding ran
 host_throws = refl
 

@@ -1,7 +1,7 @@
 -- Runs of small scripts, computed from the definitions alone.
 use Rattle.std.specs.Prelude.{◌≡◌, ℕ, true, false, List, [], ◌∷◌, Some, None, pos, negsuc, codes, refl}
 use Prim.Native.String.{String}
-use Rattle.rhai_base.specs.Value.{Value, UnitV, BoolV, IntV, TextV, ArrayV, MapV, values, field, no_fields, text_of}
+use Rattle.rhai_base.specs.Value.{Value, UnitV, BoolV, TextV, ArrayV, MapV, values, field, no_fields, text_of}
 use Rattle.rhai_meaning.specs.Act.{HostCall, ScopeEntry, Unbound, WrongKind, WriteToConstant, Answers}
 use Rattle.rhai_base.specs.Operators.{Plus, Divide, Minus, Multiply, LessOrEqual, Not, computed}
 use Rattle.rhai_meaning.specs.Engine.{Engine}
@@ -9,7 +9,7 @@ use Rattle.rhai_meaning.specs.Tree.{NoToken, FnCall, Function, ExclusiveInt, Inc
 use Rattle.rhai_meaning.specs.Elements.{character}
 use Rattle.rhai_meaning.specs.Control.{texts_joined}
 use Rattle.rhai_meaning.specs.Run.{Report, End, AtStatements, WithValue, WithThrown, WithStuck, WithoutTurns}
-use Rattle.rhai_worked_runs.specs.Terms.{run, World, int, var, op, fn, let', const', array, at, dot, prop, meth, map_one, program_answer, program_host, plain_engine, world, world_with, asked, var_is, const_is}
+use Rattle.rhai_worked_runs.specs.Terms.{i, run, World, int, var, op, fn, let', const', array, at, dot, prop, meth, map_one, program_answer, program_host, nothing_set, world, world_with, asked, var_is, const_is}
 
 abbrev pub report : End → List ScopeEntry → List HostCall → ℕ → Report
 report e names cs n = record { ended = e; variables = names; this = None; calls = cs; turns = n }
@@ -25,9 +25,6 @@ ran = ran_in world
 
 abbrev pub gives : Value → End
 gives v = WithValue v
-
-abbrev pub i : ℕ → Value
-i n = IntV (pos n)
 
 abbrev pub throws : String → End
 throws t = WithThrown (TextV (codes t))
@@ -140,7 +137,7 @@ unfolding ran
 guarded_case_answers = refl
 
 abbrev says_false : World
-says_false = record { engine = plain_engine; host = record { answer = λ past c. Answers (BoolV false) None; module_value = λ x. None }; functions = [] }
+says_false = record { engine = nothing_set; host = record { answer = λ past c. Answers (BoolV false) None; module_value = λ x. None }; functions = [] }
 
 guarded_case_passes : ran_in says_false (guarded ∷ []) 0 ≡ report (gives (i 2)) [] (asked "f" [] ∷ []) 0
 unfolding ran
@@ -166,7 +163,7 @@ unfolding ran
 endless_loop = refl
 
 abbrev overriding : Engine
-overriding = record plain_engine { overrides = record { name = codes "!"; types = codes "bool" ∷ [] } ∷ record { name = codes "+"; types = codes "i64" ∷ codes "i64" ∷ [] } ∷ [] }
+overriding = record nothing_set { overrides = record { name = codes "!"; types = codes "bool" ∷ [] } ∷ record { name = codes "+"; types = codes "i64" ∷ codes "i64" ∷ [] } ∷ [] }
 
 abbrev overridden : World
 overridden = record { engine = overriding; host = program_host; functions = [] }
@@ -261,7 +258,7 @@ abbrev reads : String → String → Function
 reads f x = record { name = codes f; this_type = None; params = []; body = stmts (ExprStmt (var x) ∷ []) }
 
 -- fn f() { c } f() + c, with the record's constant c = 1 and the scope's c = 2
-scope_constant_before_record : run (record { engine = record plain_engine { constants = record { name = codes "c"; value = i 1 } ∷ [] }; host = program_host; functions = reads "f" "c" ∷ [] })
+scope_constant_before_record : run (record { engine = record nothing_set { constants = record { name = codes "c"; value = i 1 } ∷ [] }; host = program_host; functions = reads "f" "c" ∷ [] })
     (stmts (ExprStmt (op Plus (fn "f" [] ∷ var "c" ∷ [])) ∷ [])) AtStatements (const_is "c" (i 2) ∷ []) 1
     ≡ report (gives (i 3)) (const_is "c" (i 2) ∷ []) [] 0
 unfolding ran

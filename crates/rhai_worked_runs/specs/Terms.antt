@@ -1,22 +1,16 @@
 -- Short forms for trees that are written by hand, and the host of the program.
-use Rattle.std.specs.Prelude.{ℕ, true, false, List, [], ◌∷◌, ◌++◌, Option, Some, None, pos, codes, if◌then◌else◌}
+use Rattle.std.specs.Prelude.{ℕ, true, false, List, [], ◌∷◌, ◌++◌, Option, Some, None, codes, if◌then◌else◌}
 use Prim.Native.String.{String}
 use Rattle.rhai_base.specs.Value.{Value, UnitV, BoolV, TextV, ArrayV, items, values, same_text, text_of}
 use Rattle.rhai_meaning.specs.Act.{HostCall, ScopeEntry, Host, Answer, Answers}
 use Rattle.rhai_meaning.specs.Engine.{Engine}
-use Rattle.rhai_base.specs.Operators.{Operator, symbol}
-use Rattle.rhai_meaning.specs.Tree.{Callee, NoToken, OfOperator, Function, Expr, Stmt, Stmts, IntegerConstant, Variable, FnCall, Dot, Index, Property, MethodCall, exprs, Var, ArrayOf, MapOf, pair, no_pairs}
+use Rattle.rhai_meaning.specs.Tree.{Callee, NoToken, Function, Expr, Stmt, Stmts, Variable, FnCall, Dot, Index, Property, MethodCall, exprs, Var, ArrayOf, MapOf, pair, no_pairs}
 use Rattle.rhai_meaning.specs.Desugar.{core_script}
 use Rattle.rhai_meaning.specs.Run.{EntryPoint, Report, report_of, run_script}
-
-abbrev pub int : ℕ → Expr
-int n = IntegerConstant (pos n)
+pub use Rattle.rhai_meaning.specs.WorkedForms.{int, op, asked, i, nothing_set}
 
 abbrev pub var : String → Expr
 var x = Variable [] (codes x)
-
-abbrev pub op : Operator → List Expr → Expr
-op o es = FnCall (record { namespace = []; name = symbol o; captures = false; token = OfOperator o }) (exprs es)
 
 abbrev pub callee : String → Callee
 callee f = record { namespace = []; name = codes f; captures = false; token = NoToken }
@@ -70,9 +64,6 @@ program_answer past call =
 abbrev pub program_host : Host
 program_host = record { answer = λ past call. program_answer past call; module_value = λ x. None }
 
-abbrev pub plain_engine : Engine
-plain_engine = record { constants = []; overrides = []; type_names = []; fast_operators = false }
-
 -- record, host and functions of a run
 pub record World : Type 0 where
   pub engine : Engine
@@ -80,13 +71,10 @@ pub record World : Type 0 where
   pub functions : List Function
 
 abbrev pub world_with : List Function → World
-world_with ds = record { engine = plain_engine; host = program_host; functions = ds }
+world_with ds = record { engine = nothing_set; host = program_host; functions = ds }
 
 abbrev pub world : World
 world = world_with []
-
-abbrev pub asked : String → List Value → HostCall
-asked f vs = record { name = codes f; receiver = None; arguments = vs }
 
 abbrev pub var_is : String → Value → ScopeEntry
 var_is x v = record { name = codes x; constant = false; value = v }
