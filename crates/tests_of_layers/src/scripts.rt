@@ -122,7 +122,7 @@ fn a_script_holds_its_statements_and_its_table(rt: HostRuntime) -> Result<(), Fa
     Ok(())
 }
 
-fn script(alloc: Global) -> Result<AST, OutOfMemory> {
+fn script(alloc: Global) -> Result<AST, Fail> {
     let lib = Rc::new(alloc, FnLib::new(alloc))?;
     let statements = vec![in alloc; Stmt::Noop(Position::new(3, 4))]?;
     Ok(AST::new(statements, lib))

@@ -47,7 +47,7 @@ fn a_block_holds_its_statements(rt: HostRuntime) -> Result<(), Fail> {
     Ok(())
 }
 
-fn block(alloc: Global, start: Position, end: Position) -> Result<StmtBlock, OutOfMemory> {
+fn block(alloc: Global, start: Position, end: Position) -> Result<StmtBlock, Fail> {
     let statements = vec![in alloc; Stmt::Noop(start), Stmt::Noop(end)]?;
     Ok(StmtBlock::new(statements, start, end))
 }
@@ -73,7 +73,7 @@ fn a_choice_is_copied_with_its_blocks(rt: HostRuntime) -> Result<(), Fail> {
     Ok(())
 }
 
-fn choice(alloc: Global) -> Result<FlowControl, OutOfMemory> {
+fn choice(alloc: Global) -> Result<FlowControl, Fail> {
     let statements = vec![in alloc; Stmt::Noop(NONE)]?;
     Ok(FlowControl {
         expr: Expr::BoolConstant(true, NONE),
