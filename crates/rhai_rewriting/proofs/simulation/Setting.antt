@@ -15,6 +15,7 @@ pub record Environments : Type 0 where
   pub deeper : (d d' n : ℕ) → d ≤ d' → Deeper IsOut tt n (by_depth d) (by_depth d')
   pub reaches : (d : ℕ) → d ≤ (by_depth d).rounds
 
+-- a world with this engine's record, and environments
 pub record Setting (k : Context) : Type 0 where
   pub host : Host
   pub functions : List Key
