@@ -1,6 +1,6 @@
 -- A run depends on its host only at the calls that it makes: a host that answers these alike gives the same result.
 use Rattle.std.proofs.Common.{◌≡◌, ℕ, zero, suc, Bool, true, List, [], ◌∷◌, ◌++◌, map, Option, Some, None, refl, ap, subst, ◌∙◌}
-use Rattle.rhai_values.specs.Value.{Text, Value}
+use Rattle.rhai_base.specs.Value.{Text, Value}
 use Rattle.rhai_meaning.specs.Engine.{Engine}
 use Rattle.rhai_meaning.specs.Act.{ScopeEntry, HostCall, Host, Key, Store, World, Again, Ending, Gives, Leaves, Ended, Halted, Result, At, OfName, OfThis, ScriptCall, Act, Stop, Fail, Then, Turn, Read, Write, AskHost, Invoke, Loop, Scoped, Acts, Only, Do, Named, Finish, Env, and_then, with_turn, leave, call_then, returned, on_again, rounds, run, run_all}
 use Rattle.rhai_meaning.specs.Agreeing.{SameAnswers, AgreeOn}
@@ -74,8 +74,8 @@ module _ (h h' : Host) where
         same_run (Turn a) s t q = same_turn t s _ _ (λ t1. same_run a s t1) q
         same_run (Read (OfName x)) s t q = refl
         same_run (Read OfThis) s t q = refl
-        same_run (Write (OfName x) v) s t q = refl
-        same_run (Write OfThis v) s t q = refl
+        same_run (Write must (OfName x) v) s t q = refl
+        same_run (Write must OfThis v) s t q = refl
         same_run (AskHost c next) s t q =
             let s1 = record s { calls = s.calls ++ c ∷ [] } in
             let b = (preserves w env g.adds (next (h.answer s.calls c)) s1 t).calls in

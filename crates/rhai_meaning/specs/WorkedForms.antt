@@ -1,7 +1,7 @@
 -- Short forms for worked runs: trees and hosts that are written by hand.
 use Rattle.std.specs.Prelude.{ℕ, Bool, false, List, [], ◌∷◌, ◌++◌, None, pos, codes}
 use Prim.Native.String.{String}
-use Rattle.rhai_values.specs.Value.{Text, Value, UnitV, IntV, TextV, text_of}
+use Rattle.rhai_base.specs.Value.{Text, Value, UnitV, IntV, TextV, text_of}
 use Rattle.rhai_base.specs.Operators.{Operator, symbol, computed}
 use Rattle.rhai_meaning.specs.Act.{HostCall, Host, Answer, Answers, AnswersThrow}
 use Rattle.rhai_meaning.specs.Desugar.{core_script}
@@ -13,10 +13,10 @@ abbrev pub int : ℕ → Expr
 int n = IntegerConstant (pos n)
 
 abbrev pub op : Operator → List Expr → Expr
-op o es = FnCall (record { name = symbol o; captures = false; token = OfOperator o }) (exprs es)
+op o es = FnCall (record { namespace = []; name = symbol o; captures = false; token = OfOperator o }) (exprs es)
 
 abbrev pub call : String → List Expr → Expr
-call f es = FnCall (record { name = codes f; captures = false; token = NoToken }) (exprs es)
+call f es = FnCall (record { namespace = []; name = codes f; captures = false; token = NoToken }) (exprs es)
 
 abbrev pub nothing_set : Engine
 nothing_set = record { constants = []; overrides = []; type_names = []; fast_operators = false }

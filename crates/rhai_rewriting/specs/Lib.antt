@@ -4,7 +4,6 @@ pub mod Folding
 pub mod Rules
 pub mod Rewriting
 pub mod Shapes
-pub mod Weight
 pub mod Residue
 pub mod Steps
 pub mod Refines

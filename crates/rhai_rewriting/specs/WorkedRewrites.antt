@@ -1,6 +1,6 @@
 -- For each rule a small script, what it may be rewritten to, and what both do.
 use Rattle.std.specs.Prelude.{◌≡◌, true, false, List, [], ◌∷◌, codes, refl}
-use Rattle.rhai_values.specs.Value.{UnitV, ArrayV, values}
+use Rattle.rhai_base.specs.Value.{UnitV, ArrayV, values}
 use Rattle.rhai_base.specs.Operators.{Plus, computed}
 use Rattle.rhai_meaning.specs.Act.{HostCall}
 use Rattle.rhai_meaning.specs.Run.{Report, WithValue}
@@ -15,11 +15,11 @@ abbrev Row : List Stmt → List Stmt → Report → Type 0
 Row before after r = StmtsTo (under nothing_set) Whole false true (stmts before) (stmts after) × (ran nothing_set joining before ≡ r) × (ran nothing_set joining after ≡ r)
 
 abbrev plus : Callee
-plus = record { name = codes "+"; captures = false; token = OfOperator Plus }
+plus = record { namespace = []; name = codes "+"; captures = false; token = OfOperator Plus }
 
 -- f()
 abbrev f : Stmt
-f = FnCallStmt (record { name = codes "f"; captures = false; token = NoToken }) (exprs [])
+f = FnCallStmt (record { namespace = []; name = codes "f"; captures = false; token = NoToken }) (exprs [])
 
 abbrev asks_f : List HostCall
 asks_f = asked "f" [] ∷ []

@@ -1,22 +1,22 @@
 -- The rules of expressions: a lemma each, of the rule's name.
-use Rattle.std.proofs.Common.{◌≡◌, ◌≤◌, List, Some, true, refl, sym, ap, subst, arith}
-use Rattle.rhai_values.specs.Value.{Value, UnitV, ArrayV, PointerV, values}
+use Rattle.std.proofs.Common.{◌≡◌, ◌≤◌, Bool, List, Some, true, refl, sym, ap, subst, arith}
+use Rattle.rhai_base.specs.Value.{Value, UnitV, ArrayV, PointerV, values}
 use Rattle.rhai_meaning.specs.Act.{Gives, Ended, At}
 use Rattle.rhai_meaning.specs.ActForms.{give}
 use Rattle.rhai_meaning.specs.Constants.{array_value, constant_values, constant_for}
 use Rattle.rhai_meaning.specs.Core as core
 use Rattle.rhai_meaning.specs.Desugar.{core_expr}
-use Rattle.rhai_meaning.specs.Faults.{is_callable}
+use Rattle.rhai_meaning.specs.Shape.{is_callable}
 use Rattle.rhai_meaning.specs.Meaning.{act}
 use Rattle.rhai_meaning.specs.Relations.{here}
 use Rattle.rhai_meaning.specs.Tree.{Callee, Expr, DynamicConstant, UnitConstant, ArrayOf, BlockExpr, FnCall, Exprs, count_exprs, ExprStmt, no_stmts, stmt}
 use Rattle.rhai_meaning.proofs.Sequencing.{leave_same}
-use Rattle.rhai_meaning.specs.Walk.{Node, every, over_expr}
+use Rattle.rhai_meaning.specs.Walk.{Node, Around, whole, throughout, over_expr}
 use Rattle.rhai_rewriting.specs.Context.{Context}
 use Rattle.rhai_rewriting.specs.Folding.{folded}
 use Rattle.rhai_rewriting.specs.Rules as rule
 use Rattle.rhai_rewriting.specs.Rules.{ExprRule}
-use Rattle.rhai_rewriting.specs.Weight.{expr_weight}
+use Rattle.rhai_meaning.specs.Weight.{expr_weight}
 use Rattle.rhai_rewriting.proofs.Plain.{is_plain_value, folded_plain}
 use Rattle.rhai_rewriting.proofs.simulation.Setting.{Setting, Start, world, run_from}
 use Rattle.rhai_rewriting.proofs.simulation.Simulation.{Simulates, simulates_equal, simulates_or_stuck}
@@ -28,24 +28,24 @@ use Rattle.rhai_rewriting.proofs.rules.Obligation.{ExprObligation}
 pub array_of_constants : {k : Context} {es : Exprs} {vs : List Value} → constant_values es ≡ Some vs → ExprObligation k (ArrayOf es) (DynamicConstant (ArrayV (values vs)))
 array_of_constants {k = k} {es = es} {vs = vs} h = record {
   lighter = omega arith;
-  keeps = λ P lasts h. (lasts.constant (ArrayV (values vs)) refl, tt);
+  keeps = λ P l lasts h. (lasts.constant (ArrayV (values vs)) refl, tt);
   sound = λ c. simulates_or_stuck (λ m. or_stuck _ _ m.store m.turns (array_given c m) here);
 } where
-  array_given : (c : Setting k) (m : Start k) → OrWrong (run_from c m (act (world c) (core_expr (ArrayOf es)))) (At (Ended (Gives (ArrayV (values vs)))) m.store m.turns) m.store m.turns
-  array_given c m = subst (λ o. Given (world c) m.env o (run_from c m (act (world c) (core_expr (ArrayOf es)))) m.store m.turns) (ap array_value h) (expr_given (world c) m.env (ArrayOf es) m.store m.turns)
+  array_given : (c : Setting k) (m : Start k) → OrWrong (run_from c m (act (world c) (core_expr c.in_loop (ArrayOf es)))) (At (Ended (Gives (ArrayV (values vs)))) m.store m.turns) m.store m.turns
+  array_given c m = subst (λ o. Given (world c) m.env c.in_loop o (run_from c m (act (world c) (core_expr c.in_loop (ArrayOf es)))) m.store m.turns) (ap array_value h) (expr_given (world c) m.env c.in_loop (ArrayOf es) m.store m.turns)
 
 pub braces_empty : {k : Context} → ExprObligation k (BlockExpr no_stmts) UnitConstant
 braces_empty = record {
   lighter = omega arith;
-  keeps = λ P lasts h. (lasts.constant UnitV refl, tt);
+  keeps = λ P l lasts h. (lasts.constant UnitV refl, tt);
   sound = λ c. simulates_equal (λ m. leave_same m.store (Gives UnitV) m.turns);
 }
 
 pub braces_of_expression : {k : Context} {e : Expr} → ExprObligation k (BlockExpr (stmt (ExprStmt e) no_stmts)) e
 braces_of_expression {e = e} = record {
   lighter = omega arith;
-  keeps = λ P lasts h. h.1.0.1;
-  sound = λ c. simulates_equal (λ m. scoped_deed (world c) m.env m.adds (core.Evaluate (core_expr e)) m.store m.turns);
+  keeps = λ P l lasts h. h.1.0.1;
+  sound = λ c. simulates_equal (λ m. scoped_deed (world c) m.env c.in_loop m.adds (core.Evaluate (core_expr c.in_loop e)) m.store m.turns);
 }
 
 -- ---- an operator that folds
@@ -56,19 +56,19 @@ constant_light (PointerV f vs) p = absurd cc
 constant_light _ p = omega arith
 
 -- a constant has no parts
-pub constant_keeps : (P : Node → Type 0) → Lasting P → (v : Value) → is_plain_value v ≡ true → over_expr (every P) (constant_for v)
-constant_keeps P lasts (PointerV f vs) p = absurd cc
-constant_keeps P lasts v p = (lasts.constant v p, tt)
+pub constant_keeps : (P : Around → Node → Type 0) (l : Bool) → Lasting P l → (v : Value) → is_plain_value v ≡ true → over_expr (throughout P) (constant_for v) (whole l)
+constant_keeps P l lasts (PointerV f vs) p = absurd cc
+constant_keeps P l lasts v p = (lasts.constant v p, tt)
 
-pub call_folds : {k : Context} (c : Setting k) (f : Callee) (es : Exprs) (v : Value) → folded k.engine f es ≡ Some v → Simulates c (act (world c) (core_expr (FnCall f es))) (act (world c) (core_expr (constant_for v)))
+pub call_folds : {k : Context} (c : Setting k) (f : Callee) (es : Exprs) (v : Value) → folded k.engine f es ≡ Some v → Simulates c (act (world c) (core_expr c.in_loop (FnCall f es))) (act (world c) (core_expr c.in_loop (constant_for v)))
 call_folds {k = k} c f es v h =
-    subst (λ x. Simulates c (act (world c) (core_expr (FnCall f es))) (act (world c) x)) (sym (constant_means v (folded_plain k.engine f es v h)))
-    (simulates_or_stuck {b = give v} (λ m. or_stuck _ _ m.store m.turns (call_given (world c) m.env (is_callable f (count_exprs es)) f f.token es v m.store m.turns h) here))
+    subst (λ x. Simulates c (act (world c) (core_expr c.in_loop (FnCall f es))) (act (world c) x)) (sym (constant_means c.in_loop v (folded_plain k.engine f es v h)))
+    (simulates_or_stuck {b = give v} (λ m. or_stuck _ _ m.store m.turns (call_given (world c) m.env c.in_loop (is_callable f (count_exprs es)) f f.token es v m.store m.turns h) here))
 
 pub operator_folds : {k : Context} {c : Callee} {es : Exprs} {v : Value} → folded k.engine c es ≡ Some v → ExprObligation k (FnCall c es) (constant_for v)
 operator_folds {k = k} {c = c} {es = es} {v = v} q = record {
   lighter = omega (arith, constant_light v (folded_plain k.engine c es v q));
-  keeps = λ P lasts h. constant_keeps P lasts v (folded_plain k.engine c es v q);
+  keeps = λ P l lasts h. constant_keeps P l lasts v (folded_plain k.engine c es v q);
   sound = λ s. call_folds s c es v q;
 }
 

@@ -1,9 +1,9 @@
--- What may be asked of every node, so that each rewriting keeps it.
-use Rattle.std.proofs.Common.{◌≡◌, true}
-use Rattle.rhai_values.specs.Value.{Value}
+-- What may be asked of every node, so that each rewriting keeps it; l: whether the tree stands in a loop's body.
+use Rattle.std.proofs.Common.{◌≡◌, Bool, true}
+use Rattle.rhai_base.specs.Value.{Value}
 use Rattle.rhai_meaning.specs.Constants.{constant_for}
 use Rattle.rhai_meaning.specs.Tree.{Callee, Expr, ArrayOf, BlockExpr, FnCall, Exprs, count_exprs, Noop, If, Block, ExprStmt, FnCallStmt, Stmts}
-use Rattle.rhai_meaning.specs.Walk.{Node, OfExpr, OfStmt}
+use Rattle.rhai_meaning.specs.Walk.{Node, OfExpr, OfStmt, Around, whole}
 use Rattle.rhai_rewriting.proofs.Plain.{is_plain_value}
 
 -- the same node with other parts, a call with as many
@@ -17,10 +17,10 @@ pub data SameNode : Node → Node → Type 0 where
   same_call_statement : {c : Callee} {es es' : Exprs} → count_exprs es ≡ count_exprs es' → SameNode (OfStmt (FnCallStmt c es)) (OfStmt (FnCallStmt c es'))
 
 -- the same node has it again, and what rules make has it
-pub record Lasting (P : Node → Type 0) : Type 0 where
-  pub again : {n n' : Node} → SameNode n n' → P n → P n'
-  pub constant : (v : Value) → is_plain_value v ≡ true → P (OfExpr (constant_for v))
-  pub noop : P (OfStmt Noop)
-  pub block : (ss : Stmts) → P (OfStmt (Block ss))
-  pub expression : (e : Expr) → P (OfStmt (ExprStmt e))
-  pub call_statement : (c : Callee) (es : Exprs) → P (OfExpr (FnCall c es)) → P (OfStmt (FnCallStmt c es))
+pub record Lasting (P : Around → Node → Type 0) (l : Bool) : Type 0 where
+  pub again : {n n' : Node} → SameNode n n' → P (whole l) n → P (whole l) n'
+  pub constant : (v : Value) → is_plain_value v ≡ true → P (whole l) (OfExpr (constant_for v))
+  pub noop : P (whole l) (OfStmt Noop)
+  pub block : (ss : Stmts) → P (whole l) (OfStmt (Block ss))
+  pub expression : (e : Expr) → P (whole l) (OfStmt (ExprStmt e))
+  pub call_statement : (c : Callee) (es : Exprs) → P (whole l) (OfExpr (FnCall c es)) → P (whole l) (OfStmt (FnCallStmt c es))

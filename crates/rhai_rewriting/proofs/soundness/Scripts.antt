@@ -1,6 +1,6 @@
 -- Whole scripts: calls of script functions, capturing or not, and runs.
 use Rattle.std.proofs.Common.{◌≡◌, ℕ, zero, suc, ◌+◌, ◌≤◌, Bool, true, false, cond, ◌&&◌, ◌⊎◌, inl, inr, List, [], ◌∷◌, length, Option, Some, None, refl, sym, ◌∙◌, subst, arith}
-use Rattle.rhai_values.specs.Value.{Text}
+use Rattle.rhai_base.specs.Value.{Text}
 use Rattle.rhai_meaning.specs.Act.{World, ScopeEntry, Key, ScriptCall, Store, Ending, Stuck, IsStuck, Outcome, Ended, Halted, Result, At, Acts, Env, with_turn, run_all}
 use Rattle.rhai_meaning.specs.Core.{Function, Script, Stmts}
 use Rattle.rhai_meaning.specs.Calls.{same_key, key}
@@ -25,7 +25,7 @@ environments lends w fs = record { by_depth = env_at lends w fs; deeper = deeper
 
 -- in a world, whatever the environments
 abbrev pub setting_in : (w : World) (known : List Known) → Environments → Setting (record { engine = w.engine; known = known })
-setting_in w known envs = record { host = w.host; functions = w.functions; environments = envs }
+setting_in w known envs = record { host = w.host; functions = w.functions; environments = envs; in_loop = false }
 
 pub record BodySimulates (w : World) (known : List Known) (ss ss' : Stmts) : Type 0 where
   pub body : (envs : Environments) → SimulatesAll (setting_in w known envs) (body_acts w ss) (body_acts w ss')

@@ -1,7 +1,7 @@
 -- Worked runs of calls: the language's own functions, function pointers and script functions.
 use Rattle.std.specs.Prelude.{◌≡◌, Bool, true, false, List, [], ◌∷◌, Some, None, codes, refl}
 use Prim.Native.String.{String}
-use Rattle.rhai_values.specs.Value.{Text, Value, UnitV, BoolV, TextV, PointerV, values}
+use Rattle.rhai_base.specs.Value.{Text, Value, UnitV, BoolV, TextV, PointerV, values}
 use Rattle.rhai_base.specs.Operators.{Plus, computed}
 use Rattle.rhai_meaning.specs.Act.{ScopeEntry, Unbound, WrongKind, Key, Gives, Ended, At, ScriptCall, run_all, IsStuck, OutOfTurns, Halted, World, Invoke}
 use Rattle.rhai_meaning.specs.Calls.{key, call_named, call_pointer}
@@ -165,7 +165,7 @@ named_call captures = refl
 pointer_call : (captures : Bool) → call_pointer world captures (PointerV (codes "f") (values (i 1 ∷ []))) (i 2 ∷ []) ≡ Invoke (record (the_call captures) { this = None }) (λ v u. give v)
 pointer_call captures = refl
 
-captures_kept : core_expr (FnCall (record { name = codes "f"; captures = true; token = NoToken }) (exprs (int 1 ∷ []))) ≡ core.FnCall (core.ByName (codes "f") true) (core.expr (core.Constant (i 1)) core.no_exprs)
+captures_kept : core_expr false (FnCall (record { namespace = []; name = codes "f"; captures = true; token = NoToken }) (exprs (int 1 ∷ []))) ≡ core.FnCall (core.ByName (codes "f") true) (core.expr (core.Constant (i 1)) core.no_exprs)
 captures_kept = refl
 
 -- the parameters in order, the latest first; of the caller's scope nothing

@@ -1,7 +1,7 @@
 -- Worked runs of acts: names, `this`, braces, ends, loops and turns.
 use Rattle.std.specs.Prelude.{◌≡◌, ℕ, true, false, List, [], ◌∷◌, Some, None, codes, refl}
 use Prim.Native.String.{String}
-use Rattle.rhai_values.specs.Value.{Value, UnitV, TextV}
+use Rattle.rhai_base.specs.Value.{Value, UnitV, TextV}
 use Rattle.rhai_meaning.specs.Act.{ScopeEntry, Store, Unbound, UnboundThis, WriteToConstant, WrongKind, Ending, Exit, Returns, Breaks, Continues, Throws, Again, Gives, Leaves, IsStuck, OutOfTurns, Ended, Halted, Result, At, Root, OfName, OfThis, Act, Stop, Fail, Then, Turn, Read, Write, Invoke, Loop, Scoped, Acts, Only, Named, Finish, Env, World, run, run_all}
 use Rattle.rhai_meaning.specs.ActForms.{give, unit, ◌>>=◌, then_line, on_throw, end_round, again_then, ask_host, ask_method}
 use Rattle.rhai_meaning.specs.Engine.{Engine}
@@ -63,16 +63,16 @@ constant_of_record = refl
 no_such_name : ran (Read (name "q")) (stored some_names) 0 ≡ At (Halted (IsStuck Unbound)) (stored some_names) 0
 no_such_name = refl
 
-latest_written : ran (Write (name "x") (i 5)) (stored some_names) 0 ≡ ended (Gives UnitV) (stored (variable "x" (i 5) ∷ variable "y" (i 2) ∷ variable "x" (i 3) ∷ constant "c" (i 4) ∷ []))
+latest_written : ran (Write true (name "x") (i 5)) (stored some_names) 0 ≡ ended (Gives UnitV) (stored (variable "x" (i 5) ∷ variable "y" (i 2) ∷ variable "x" (i 3) ∷ constant "c" (i 4) ∷ []))
 latest_written = refl
 
-constant_not_written : ran (Write (name "c") (i 5)) (stored some_names) 0 ≡ At (Halted (IsStuck WriteToConstant)) (stored some_names) 0
+constant_not_written : ran (Write true (name "c") (i 5)) (stored some_names) 0 ≡ At (Halted (IsStuck WriteToConstant)) (stored some_names) 0
 constant_not_written = refl
 
-record_not_written : ran (Write (name "k") (i 5)) (stored some_names) 0 ≡ At (Halted (IsStuck WriteToConstant)) (stored some_names) 0
+record_not_written : ran (Write true (name "k") (i 5)) (stored some_names) 0 ≡ At (Halted (IsStuck WriteToConstant)) (stored some_names) 0
 record_not_written = refl
 
-no_name_written : ran (Write (name "q") (i 5)) (stored some_names) 0 ≡ At (Halted (IsStuck Unbound)) (stored some_names) 0
+no_name_written : ran (Write true (name "q") (i 5)) (stored some_names) 0 ≡ At (Halted (IsStuck Unbound)) (stored some_names) 0
 no_name_written = refl
 
 abbrev with_this : Store
@@ -81,25 +81,25 @@ with_this = record (stored []) { this = Some (i 1) }
 this_read : ran (Read OfThis) with_this 0 ≡ ended (Gives (i 1)) with_this
 this_read = refl
 
-this_written : ran (Write OfThis (i 2)) with_this 0 ≡ ended (Gives UnitV) (record with_this { this = Some (i 2) })
+this_written : ran (Write true OfThis (i 2)) with_this 0 ≡ ended (Gives UnitV) (record with_this { this = Some (i 2) })
 this_written = refl
 
 no_this : ran (Read OfThis) (stored []) 0 ≡ At (Halted (IsStuck UnboundThis)) (stored []) 0
 no_this = refl
 
-no_this_written : ran (Write OfThis (i 2)) (stored []) 0 ≡ At (Halted (IsStuck UnboundThis)) (stored []) 0
+no_this_written : ran (Write true OfThis (i 2)) (stored []) 0 ≡ At (Halted (IsStuck UnboundThis)) (stored []) 0
 no_this_written = refl
 
 -- ---- braces: { const x = 10; { let x = 20; x = 21; y = 22; } x }
 
 abbrev inner : Acts
-inner = Named (codes "x") false (i 20) (then_line (Write (name "x") (i 21)) (λ v. then_line (Write (name "y") (i 22)) (λ u. Only unit)))
+inner = Named (codes "x") false (i 20) (then_line (Write true (name "x") (i 21)) (λ v. then_line (Write true (name "y") (i 22)) (λ u. Only unit)))
 
 braces_in_braces : ran (Scoped (Named (codes "x") true (i 10) (then_line (Scoped inner) (λ v. Only (Read (name "x")))))) (stored some_names) 0 ≡ ended (Gives (i 10)) (stored (variable "x" (i 1) ∷ variable "y" (i 22) ∷ variable "x" (i 3) ∷ constant "c" (i 4) ∷ []))
 braces_in_braces = refl
 
 -- const x = 10; x = 11: a constant hides the variable
-hidden_by_constant : ran (Scoped (Named (codes "x") true (i 10) (Only (Write (name "x") (i 11))))) (stored some_names) 0 ≡ At (Halted (IsStuck WriteToConstant)) (stored some_names) 0
+hidden_by_constant : ran (Scoped (Named (codes "x") true (i 10) (Only (Write true (name "x") (i 11))))) (stored some_names) 0 ≡ At (Halted (IsStuck WriteToConstant)) (stored some_names) 0
 hidden_by_constant = refl
 
 -- what leaves braces takes their names away too
@@ -116,10 +116,10 @@ in_order = refl
 
 -- ---- one after another
 
-value_goes_on : ran (give (i 5) >>= λ v. Write (name "x") v) (stored (variable "x" (i 1) ∷ [])) 0 ≡ ended (Gives UnitV) (stored (variable "x" (i 5) ∷ []))
+value_goes_on : ran (give (i 5) >>= λ v. Write true (name "x") v) (stored (variable "x" (i 1) ∷ [])) 0 ≡ ended (Gives UnitV) (stored (variable "x" (i 5) ∷ []))
 value_goes_on = refl
 
-leaving_goes_past : ran (leaving (Throws (i 1)) >>= λ v. Write (name "x") (i 9)) (stored some_names) 0 ≡ ended (Leaves (Throws (i 1))) (stored some_names)
+leaving_goes_past : ran (leaving (Throws (i 1)) >>= λ v. Write true (name "x") (i 9)) (stored some_names) 0 ≡ ended (Leaves (Throws (i 1))) (stored some_names)
 leaving_goes_past = refl
 
 thrown_is_caught : ran (Then (leaving (Throws (i 4))) (on_throw give)) (stored []) 0 ≡ ended (Gives (i 4)) (stored [])
@@ -215,7 +215,7 @@ a_turn = refl
 -- ---- after a script call: the caller's names and `this`, the calls of both; the last `this` of the body is at hand
 
 abbrev calling : Act
-calling = Invoke (record { function = record { name = codes "f"; arity = 0; this_type = None }; captures = false; this = None; arguments = [] }) (λ v u. elim u [ None ↦ unit | Some x ↦ Write (name "x") x ])
+calling = Invoke (record { function = record { name = codes "f"; arity = 0; this_type = None }; captures = false; this = None; arguments = [] }) (λ v u. elim u [ None ↦ unit | Some x ↦ Write true (name "x") x ])
 
 call_and_back : ran calling (stored (variable "x" (i 1) ∷ [])) 0 ≡ ended (Gives UnitV) (record (stored (variable "x" (i 6) ∷ [])) { calls = asked "g" [] ∷ [] })
 call_and_back = refl

@@ -1,16 +1,17 @@
 -- Worked answers on trees: the walk, faults, constants and what belongs to its block.
 use Rattle.std.specs.Prelude.{◌≡◌, ℕ, true, false, List, [], ◌∷◌, ◌++◌, Some, None, codes, refl}
-use Rattle.rhai_values.specs.Value.{UnitV, BoolV, CharV, TextV, ArrayV, PointerV, values}
+use Rattle.rhai_base.specs.Value.{UnitV, BoolV, CharV, TextV, ArrayV, PointerV, values}
 use Rattle.rhai_base.specs.Operators.{Plus, Not}
 use Rattle.rhai_meaning.specs.Constants.{constant_value, constant_bool, constant_for}
-use Rattle.rhai_meaning.specs.Faults.{is_callable, HasNoFault}
+use Rattle.rhai_meaning.specs.Faults.{IsFaultless}
+use Rattle.rhai_meaning.specs.Shape.{is_callable}
 use Rattle.rhai_meaning.specs.Queries.{is_block_dependent, is_any_dependent}
 use Rattle.rhai_meaning.specs.Tree.{CallToken, NoToken, OfOperator, OfOther, Callee, Expr, DynamicConstant, BoolConstant, IntegerConstant, CharConstant, StringConstant, UnitConstant, ArrayOf, BlockExpr, Noop, If, Block, ExprStmt, FnCallStmt, Script, exprs, stmts}
-use Rattle.rhai_meaning.specs.Walk.{OfStmt, Node, OfExpr, over_script, total}
+use Rattle.rhai_meaning.specs.Walk.{OfStmt, outermost, Node, OfExpr, over_script, total}
 use Rattle.rhai_meaning.specs.WorkedForms.{op, int, call, i}
 
 abbrev callee : List ℕ → CallToken → Callee
-callee f t = record { name = f; captures = false; token = t }
+callee f t = record { namespace = []; name = f; captures = false; token = t }
 
 -- ---- the walk
 
@@ -26,7 +27,7 @@ own_integer (OfExpr (IntegerConstant n)) es = IntegerConstant n ∷ es
 own_integer _ es = es
 
 -- its integers, in the order in which they stand
-in_order : over_script (record { none = []; both = λ a b. a ++ b; node = own_integer }) parts ≡ int 1 ∷ int 2 ∷ int 3 ∷ int 4 ∷ int 5 ∷ int 6 ∷ int 7 ∷ int 8 ∷ int 9 ∷ []
+in_order : over_script (record { none = []; both = λ a b. a ++ b; node = own_integer; within = λ s a. a; arms = λ t as'. [] }) parts ≡ int 1 ∷ int 2 ∷ int 3 ∷ int 4 ∷ int 5 ∷ int 6 ∷ int 7 ∷ int 8 ∷ int 9 ∷ []
 in_order = refl
 
 -- nine integers, three expressions around them, four statements at top, five within them and one of the function
@@ -35,16 +36,16 @@ all_nodes = refl
 
 -- ---- faults
 
-no_fault : HasNoFault (OfExpr (DynamicConstant (BoolV true)))
+no_fault : IsFaultless outermost (OfExpr (DynamicConstant (BoolV true)))
 no_fault = refl
 
-unit_constant : HasNoFault (OfExpr (DynamicConstant UnitV)) → ⊥
+unit_constant : IsFaultless outermost (OfExpr (DynamicConstant UnitV)) → ⊥
 unit_constant h = cc
 
-call_of_one : HasNoFault (OfExpr (op Plus (int 1 ∷ []))) → ⊥
+call_of_one : IsFaultless outermost (OfExpr (op Plus (int 1 ∷ []))) → ⊥
 call_of_one h = cc
 
-statement_of_one : HasNoFault (OfStmt (FnCallStmt (callee (codes "+") (OfOperator Plus)) (exprs (int 1 ∷ [])))) → ⊥
+statement_of_one : IsFaultless outermost (OfStmt (FnCallStmt (callee (codes "+") (OfOperator Plus)) (exprs (int 1 ∷ [])))) → ⊥
 statement_of_one h = cc
 
 operator_with_token : is_callable (callee (codes "+") (OfOperator Plus)) 2 ≡ true

@@ -1,6 +1,6 @@
 -- Worked runs of small scripts, computed from the definitions alone: constants, operators, blocks and lists.
 use Rattle.std.specs.Prelude.{◌≡◌, true, false, [], ◌∷◌, codes, refl}
-use Rattle.rhai_values.specs.Value.{UnitV, BoolV, CharV, TextV, ArrayV, values}
+use Rattle.rhai_base.specs.Value.{UnitV, BoolV, CharV, TextV, ArrayV, values}
 use Rattle.rhai_base.specs.Operators.{Plus, Multiply, Divide, EqualTo, Not}
 use Rattle.rhai_meaning.specs.Act.{WrongKind}
 use Rattle.rhai_meaning.specs.Run.{WithValue, WithThrown, WithStuck}
@@ -46,7 +46,7 @@ unfolding ran
 negation_overridden = refl
 
 -- 1 + 2, where the host joins texts, and with fast operators
-sum_overridden : ran (overriding (codes "+") (codes "i64" ∷ codes "i64" ∷ []) false) joining (FnCallStmt (record { name = codes "+"; captures = false; token = OfOperator Plus }) (exprs (int 1 ∷ int 2 ∷ [])) ∷ []) ≡ ends (WithValue (TextV (codes "12"))) (asked "+" (i 1 ∷ i 2 ∷ []) ∷ [])
+sum_overridden : ran (overriding (codes "+") (codes "i64" ∷ codes "i64" ∷ []) false) joining (FnCallStmt (record { namespace = []; name = codes "+"; captures = false; token = OfOperator Plus }) (exprs (int 1 ∷ int 2 ∷ [])) ∷ []) ≡ ends (WithValue (TextV (codes "12"))) (asked "+" (i 1 ∷ i 2 ∷ []) ∷ [])
 unfolding ran
 sum_overridden = refl
 
