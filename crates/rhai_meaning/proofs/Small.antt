@@ -1,6 +1,6 @@
 -- A script all of whose calls are those of operators is its own small script.
 use Rattle.std.proofs.Common.{◌≡◌, Bool, true, false, cond, refl}
-use Rattle.rhai_base.specs.Value.{Value}
+use Rattle.rhai_values.specs.Value.{Value}
 use Rattle.rhai_meaning.specs.Core.{Ill, Constant, ArrayOf, BlockExpr, FnCall, Exprs, expr, If, Block, Evaluate, Does, stmt}
 use Rattle.rhai_meaning.specs.Desugar.{callee_by, core_expr, core_exprs, core_stmt, core_stmts, core_script}
 use Rattle.rhai_meaning.specs.Shape.{is_unit, is_callable}

@@ -1,6 +1,6 @@
 -- Which trees are well-formed, and what is wrong with others: tests that run nothing.
 use Rattle.std.specs.Prelude.{◌≡◌, ℕ, Bool, true, false, not, ◌&&◌, ◌||◌, List, [], ◌∷◌, Option, Some, None, if◌then◌else◌}
-use Rattle.rhai_base.specs.Value.{Text}
+use Rattle.rhai_values.specs.Value.{Text}
 use Rattle.rhai_parts.specs.Names.{is_among, reserved, symbols}
 use Rattle.rhai_meaning.specs.Engine.{or_else}
 use Rattle.rhai_meaning.specs.Shape.{is_unit, has_token, is_rest, is_table, is_left_side, catch_name, keys, are_distinct, are_among}

@@ -1,6 +1,6 @@
 -- What is promised of runs of pure and of literal trees.
 use Rattle.std.specs.Prelude.{◌≡◌, ℕ, zero, suc, ◌-◌, ◌≤◌, Bool, true, false, List, [], ◌∷◌, Some, None}
-use Rattle.rhai_base.specs.Value.{Value, PointerV}
+use Rattle.rhai_values.specs.Value.{Value, PointerV}
 use Rattle.rhai_parts.specs.Names.{is_valid_name}
 use Rattle.rhai_meaning.specs.Act.{World, ScopeEntry, Store, Gives, Stuck, IsStuck, OutOfTurns, Outcome, Ended, Halted, Result, At, Only, Env, run, run_all}
 use Rattle.rhai_meaning.specs.ActForms.{give}

@@ -1,6 +1,6 @@
 -- For each rule a small script, what it may be rewritten to, and what both do.
 use Rattle.std.specs.Prelude.{◌≡◌, true, false, List, [], ◌∷◌, codes, refl}
-use Rattle.rhai_base.specs.Value.{UnitV, ArrayV, values}
+use Rattle.rhai_values.specs.Value.{UnitV, ArrayV, values}
 use Rattle.rhai_base.specs.Operators.{Plus, computed}
 use Rattle.rhai_meaning.specs.Act.{HostCall}
 use Rattle.rhai_meaning.specs.Run.{Report, WithValue}

@@ -1,6 +1,6 @@
 -- What may be asked of every node, so that each rewriting keeps it; l: whether the tree stands in a loop's body.
 use Rattle.std.proofs.Common.{◌≡◌, Bool, true}
-use Rattle.rhai_base.specs.Value.{Value}
+use Rattle.rhai_values.specs.Value.{Value}
 use Rattle.rhai_meaning.specs.Constants.{constant_for}
 use Rattle.rhai_meaning.specs.Tree.{Callee, Expr, ArrayOf, BlockExpr, FnCall, Exprs, count_exprs, Noop, If, Block, ExprStmt, FnCallStmt, Stmts}
 use Rattle.rhai_meaning.specs.Walk.{Node, OfExpr, OfStmt, Around, whole}

@@ -1,6 +1,6 @@
 -- What is known goes on to hold, under names that are added and values that change.
 use Rattle.std.proofs.Common.{◌≡◌, Bool, true, false, cond, List, [], ◌∷◌, Some, None, sym, ◌∙◌}
-use Rattle.rhai_base.specs.Value.{Text, Value, same_text}
+use Rattle.rhai_values.specs.Value.{Text, Value, same_text}
 use Rattle.rhai_meaning.specs.Engine.{Binding}
 use Rattle.rhai_meaning.specs.Act.{ScopeEntry, found}
 use Rattle.rhai_meaning.specs.Run.{bind}

@@ -1,6 +1,6 @@
 -- An act that does what another does, at every depth.
 use Rattle.std.proofs.Common.{◌≡◌, ℕ, Bool, refl, subst, arith}
-use Rattle.rhai_base.specs.Value.{Text, Value}
+use Rattle.rhai_values.specs.Value.{Text, Value}
 use Rattle.rhai_meaning.specs.Act.{Store, Ending, Stuck, IsStuck, Halted, Result, At, Act, Then, Scoped, Acts, Only, Do, Named, Finish}
 use Rattle.rhai_meaning.specs.Relations.{Begins, calls_of}
 use Rattle.rhai_meaning.proofs.Relations.{Follows, short, AnyHalt}

@@ -1,6 +1,6 @@
 -- What a tree was rewritten to does what the tree does: by induction on the derivation.
 use Rattle.std.proofs.Common.{◌≡◌, ℕ, Bool, true, false, cond, List, ◌∷◌, refl, subst}
-use Rattle.rhai_base.specs.Value.{Text, Value, UnitV}
+use Rattle.rhai_values.specs.Value.{Text, Value, UnitV}
 use Rattle.rhai_meaning.specs.Act.{Act, Acts, Only}
 use Rattle.rhai_meaning.specs.ActForms.{give}
 use Rattle.rhai_meaning.specs.Calls.{called}

@@ -1,6 +1,6 @@
 -- The theorem: a script whose statements were rewritten does what it did.
 use Rattle.std.proofs.Common.{◌≡◌, ◌≤◌, Bool, true, List, [], ◌∷◌, sym, subst, arith}
-use Rattle.rhai_base.specs.Value.{UnitV}
+use Rattle.rhai_values.specs.Value.{UnitV}
 use Rattle.rhai_meaning.specs.Engine.{Engine}
 use Rattle.rhai_meaning.specs.Act.{ScopeEntry, Host, World}
 use Rattle.rhai_meaning.specs.Core as core

@@ -1,6 +1,6 @@
 -- A well-formed tree stays well-formed.
 use Rattle.std.proofs.Common.{◌≡◌, Bool, true, None, refl, subst}
-use Rattle.rhai_base.specs.Value.{Value, PointerV}
+use Rattle.rhai_values.specs.Value.{Value, PointerV}
 use Rattle.rhai_meaning.specs.Constants.{constant_for}
 use Rattle.rhai_meaning.specs.Faults.{call_fault, IsFaultless, AreWellFormed}
 use Rattle.rhai_meaning.specs.Tree.{Stmts}
