@@ -2,6 +2,11 @@ pub mod Lasting
 pub mod Obligation
 pub mod Constants
 pub mod Blocks
+pub mod Given
+pub mod Logic
+pub mod Texts
+pub mod Words
+pub mod Control
 pub mod Expressions
 pub mod Statements
 pub mod Lists

@@ -1,6 +1,8 @@
 pub mod Known
 pub mod Context
 pub mod Folding
+pub mod Parts
+pub mod Operands
 pub mod Rules
 pub mod Rewriting
 pub mod Shapes

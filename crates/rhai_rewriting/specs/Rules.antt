@@ -1,11 +1,18 @@
 -- The rewrite rules, one constructor each: what may stand for what. Each family is flat; `Rewriting` closes over them.
-use Rattle.std.specs.Prelude.{◌≡◌, Bool, true, false, List, Some}
-use Rattle.rhai_base.specs.Value.{Value, ArrayV, values}
-use Rattle.rhai_meaning.specs.Constants.{constant_values, constant_bool, constant_for}
-use Rattle.rhai_meaning.specs.Queries.{is_block_dependent, is_any_dependent}
-use Rattle.rhai_meaning.specs.Tree.{Callee, Expr, DynamicConstant, UnitConstant, ArrayOf, BlockExpr, FnCall, Exprs, Stmt, Noop, If, Block, ExprStmt, FnCallStmt, Stmts, no_stmts, stmt, joined}
+use Rattle.std.specs.Prelude.{◌≡◌, Bool, true, false, List, [], ◌++◌, Some, codes}
+use Rattle.rhai_base.specs.Value.{Text, Value, TextV, ArrayV, MapV, PointerV, Values, values, items}
+use Rattle.rhai_parts.specs.Names.{is_valid_name}
+use Rattle.rhai_meaning.specs.Constants.{constant_value, constant_values, constant_entries, constant_bool, constant_for}
+use Rattle.rhai_meaning.specs.Control.{texts_joined}
+use Rattle.rhai_meaning.specs.Elements.{fields_of}
+use Rattle.rhai_meaning.specs.Engine.{mapped_type_name}
+use Rattle.rhai_meaning.specs.Faults.{has_operands}
+use Rattle.rhai_meaning.specs.Queries.{is_block_dependent, is_any_dependent, are_pure}
+use Rattle.rhai_meaning.specs.Tree.{Callee, Expr, DynamicConstant, BoolConstant, StringConstant, UnitConstant, InterpolatedString, ArrayOf, MapOf, BlockExpr, FnCall, And, Or, Coalesce, Exprs, no_exprs, expr, Pairs, Stmt, Noop, If, While, Block, TryCatch, ExprStmt, FnCallStmt, Stmts, no_stmts, stmt, joined}
 use Rattle.rhai_rewriting.specs.Context.{Context, ListKind, wanted}
 use Rattle.rhai_rewriting.specs.Folding.{folded}
+use Rattle.rhai_rewriting.specs.Operands.{OperandsTo, CoalesceTo, TextTo}
+use Rattle.rhai_rewriting.specs.Parts.{named}
 
 -- ---- what stands for what
 
@@ -42,6 +49,26 @@ pub data ExprRule (k : Context) : Expr → Expr → Type 0 where
   braces_of_expression : {e : Expr} → ExprRule k (BlockExpr (stmt (ExprStmt e) no_stmts)) e
   -- an operator over constants that is built in is its value
   operator_folds : {c : Callee} {es : Exprs} {v : Value} → folded k.engine c es ≡ Some v → ExprRule k (FnCall c es) (constant_for v)
+  -- operands of `&&`, `||` and `??`; one stays
+  and_changes : {es es' : Exprs} → OperandsTo true es es' → has_operands es' ≡ true → ExprRule k (And es) (And es')
+  or_changes : {es es' : Exprs} → OperandsTo false es es' → has_operands es' ≡ true → ExprRule k (Or es) (Or es')
+  coalesce_changes : {es es' : Exprs} → CoalesceTo es es' → has_operands es' ≡ true → ExprRule k (Coalesce es) (Coalesce es')
+  and_of_one : {e : Expr} → ExprRule k (And (expr e no_exprs)) e
+  or_of_one : {e : Expr} → ExprRule k (Or (expr e no_exprs)) e
+  coalesce_of_one : {e : Expr} → ExprRule k (Coalesce (expr e no_exprs)) e
+  and_of_none : ExprRule k (And no_exprs) (BoolConstant true)
+  or_of_none : ExprRule k (Or no_exprs) (BoolConstant false)
+  coalesce_of_none : ExprRule k (Coalesce no_exprs) UnitConstant
+  -- an interpolated text: its parts, and where all are constant its value
+  text_changes : {es es' : Exprs} → TextTo es es' → ExprRule k (InterpolatedString es) (InterpolatedString es')
+  text_folds : {es : Exprs} (vs : List Value) → constant_values es ≡ Some vs → ExprRule k (InterpolatedString es) (StringConstant (texts_joined vs))
+  -- a map of constants is its value
+  map_of_constants : {ps : Pairs} {template : List Text} (vs : List (Text × Value)) → constant_entries ps ≡ Some vs → ExprRule k (MapOf ps template) (DynamicConstant (MapV (fields_of vs)))
+  -- the language's own functions over constants
+  type_of_folds : {captures : Bool} {e : Expr} (v : Value) → constant_value e ≡ Some v → ExprRule k (FnCall (named (codes "type_of") captures) (expr e no_exprs)) (StringConstant (mapped_type_name k.engine v))
+  is_shared_folds : {captures : Bool} {e : Expr} (v : Value) → constant_value e ≡ Some v → ExprRule k (FnCall (named (codes "is_shared") captures) (expr e no_exprs)) (BoolConstant false)
+  fn_folds : {captures : Bool} {e : Expr} (f : Text) → constant_value e ≡ Some (TextV f) → is_valid_name f ≡ true → ExprRule k (FnCall (named (codes "Fn") captures) (expr e no_exprs)) (DynamicConstant (PointerV f (values [])))
+  curry_folds : {captures : Bool} {e : Expr} {es : Exprs} (f : Text) (us : Values) (vs : List Value) → constant_value e ≡ Some (PointerV f us) → constant_values es ≡ Some vs → ExprRule k (FnCall (named (codes "curry") captures) (expr e es)) (DynamicConstant (PointerV f (values (items us ++ vs))))
 
 -- of statements; w: whether the statement's value is wanted
 pub data StmtRule (k : Context) (w : Bool) : Stmt → Stmt → Type 0 where
@@ -59,6 +86,11 @@ pub data StmtRule (k : Context) (w : Bool) : Stmt → Stmt → Type 0 where
   statement_of_call : {c : Callee} {es : Exprs} → StmtRule k w (ExprStmt (FnCall c es)) (FnCallStmt c es)
   -- a call statement of an operator over constants that is built in is its value
   call_statement_folds : {c : Callee} {es : Exprs} {v : Value} → folded k.engine c es ≡ Some v → StmtRule k w (FnCallStmt c es) (ExprStmt (constant_for v))
+  -- a `while` over false does nothing, and one over true is a `loop`
+  while_false : {e : Expr} {body : Stmts} → constant_bool e ≡ Some false → StmtRule k w (While e body) Noop
+  while_true : {e : Expr} {body : Stmts} → constant_bool e ≡ Some true → StmtRule k w (While e body) (While UnitConstant body)
+  -- a `try` over a pure body does nothing
+  pure_try : {x : Expr} {body branch : Stmts} → are_pure body ≡ true → StmtRule k w (TryCatch x body branch) Noop
 
 -- of lists, at their first statement
 pub data ListRule (k : Context) (m : ListKind) : Stmts → Stmts → Type 0 where

@@ -1,12 +1,12 @@
 -- The laws of acts one after another, as simulations. A pure act whose value isn't needed may go.
-use Rattle.std.proofs.Common.{◌≡◌, ℕ, zero, suc, Bool, true, false, List, Option, Some, None, refl, sym, ap, ◌∙◌, subst, arith}
-use Rattle.rhai_base.specs.Value.{Text, Value, UnitV}
-use Rattle.rhai_meaning.specs.Act.{World, Store, Ending, Gives, Stuck, IsStuck, OutOfTurns, Ended, Halted, Result, At, Act, Fail, Then, Turn, Scoped, Only, Env, and_then, with_turn, leave, run}
+use Rattle.std.proofs.Common.{◌≡◌, ℕ, zero, suc, Bool, true, false, Option, Some, None, refl, sym, ap, ◌∙◌, arith}
+use Rattle.rhai_base.specs.Value.{Value, UnitV}
+use Rattle.rhai_meaning.specs.Act.{World, Store, Ending, Gives, Stuck, IsStuck, Ended, Halted, Act, Fail, Then, Turn, Scoped, Only, Env, and_then, with_turn, leave, run}
 use Rattle.rhai_meaning.specs.ActForms.{give, unit, ◌>>=◌, truth, branch, if_true, then_line}
 use Rattle.rhai_meaning.specs.Laws.{Settled, Gave, Stopped, settled, spend}
 use Rattle.rhai_meaning.proofs.Relations.{Follows, short, AnyHalt}
 use Rattle.rhai_meaning.proofs.Monotone.{monotone, follows_trans}
-use Rattle.rhai_meaning.proofs.Ends.{Met, met_move, ends_turn}
+use Rattle.rhai_meaning.proofs.Ends.{met_move, ends_turn}
 use Rattle.rhai_meaning.proofs.Preserves.{preserves}
 use Rattle.rhai_meaning.proofs.PureActs.{Runs, Pure}
 use Rattle.rhai_meaning.proofs.Sequencing.{bind_unit, bind_assoc, line_unit, scoped_only, leave_same}

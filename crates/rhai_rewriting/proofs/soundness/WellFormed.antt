@@ -1,14 +1,15 @@
 -- A well-formed tree stays well-formed.
-use Rattle.std.proofs.Common.{◌≡◌, Bool, true, None, refl, subst}
-use Rattle.rhai_base.specs.Value.{Value, PointerV}
+use Rattle.std.proofs.Common.{◌≡◌, Bool, true, None, refl, ap, subst}
+use Rattle.rhai_base.specs.Value.{Value, UnitV, PointerV}
 use Rattle.rhai_meaning.specs.Constants.{constant_for}
-use Rattle.rhai_meaning.specs.Faults.{call_fault, IsFaultless, AreWellFormed}
+use Rattle.rhai_meaning.specs.Faults.{NoOperands, unless, call_fault, IsFaultless, AreWellFormed}
 use Rattle.rhai_meaning.specs.Tree.{Stmts}
 use Rattle.rhai_meaning.specs.Walk.{Node, OfExpr, whole}
 use Rattle.rhai_rewriting.specs.Context.{Context, ListKind}
 use Rattle.rhai_rewriting.specs.Rewriting.{StmtsTo}
+use Rattle.rhai_rewriting.specs.Parts.{constant_of}
 use Rattle.rhai_rewriting.proofs.Plain.{is_plain_value}
-use Rattle.rhai_rewriting.proofs.rules.Lasting.{SameNode, same_call, same_call_statement, Lasting}
+use Rattle.rhai_rewriting.proofs.rules.Lasting.{SameNode, same_call, same_call_statement, same_and, same_or, same_coalesce, Lasting}
 use Rattle.rhai_rewriting.proofs.soundness.Lasting.{stmts_keep}
 
 constant_faultless : (l : Bool) (v : Value) → is_plain_value v ≡ true → IsFaultless (whole l) (OfExpr (constant_for v))
@@ -18,12 +19,20 @@ constant_faultless l _ p = refl
 faultless_again : (l : Bool) {n n' : Node} → SameNode n n' → IsFaultless (whole l) n → IsFaultless (whole l) n'
 faultless_again l (same_call {c = c} e) h = subst (λ n. call_fault c n ≡ None) e h
 faultless_again l (same_call_statement {c = c} e) h = subst (λ n. call_fault c n ≡ None) e h
+faultless_again l (same_and e) h = ap (λ b. unless b NoOperands) e
+faultless_again l (same_or e) h = ap (λ b. unless b NoOperands) e
+faultless_again l (same_coalesce e) h = ap (λ b. unless b NoOperands) e
 faultless_again l _ h = refl
+
+value_faultless : (l : Bool) (v : Value) → IsFaultless (whole l) (OfExpr (constant_of v))
+value_faultless l UnitV = refl
+value_faultless l _ = refl
 
 faultless_lasts : (l : Bool) → Lasting IsFaultless l
 faultless_lasts l = record {
   again = λ s h. faultless_again l s h;
   constant = constant_faultless l;
+  value = value_faultless l;
   noop = refl;
   block = λ ss. refl;
   expression = λ e. refl;
