@@ -6,6 +6,8 @@ pub mod Given
 pub mod Logic
 pub mod Texts
 pub mod Words
+pub mod Entries
+pub mod Chains
 pub mod Control
 pub mod Expressions
 pub mod Statements

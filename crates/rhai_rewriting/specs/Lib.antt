@@ -3,6 +3,7 @@ pub mod Context
 pub mod Folding
 pub mod Parts
 pub mod Operands
+pub mod Indexing
 pub mod Rules
 pub mod Rewriting
 pub mod Shapes

@@ -1,18 +1,20 @@
 -- The rewrite rules, one constructor each: what may stand for what. Each family is flat; `Rewriting` closes over them.
-use Rattle.std.specs.Prelude.{◌≡◌, Bool, true, false, List, [], ◌++◌, Some, codes}
-use Rattle.rhai_base.specs.Value.{Text, Value, TextV, ArrayV, MapV, PointerV, Values, values, items}
+use Rattle.std.specs.Prelude.{◌≡◌, ℕ, ℤ, Bool, true, false, ◌&&◌, List, [], ◌++◌, Some, codes}
+use Rattle.rhai_base.specs.Value.{Text, Value, UnitV, IntV, TextV, ArrayV, MapV, PointerV, Values, Fields, values, items}
 use Rattle.rhai_parts.specs.Names.{is_valid_name}
 use Rattle.rhai_meaning.specs.Constants.{constant_value, constant_values, constant_entries, constant_bool, constant_for}
 use Rattle.rhai_meaning.specs.Control.{texts_joined}
-use Rattle.rhai_meaning.specs.Elements.{fields_of}
+use Rattle.rhai_meaning.specs.Elements.{index_in, entry, fields_of}
 use Rattle.rhai_meaning.specs.Engine.{mapped_type_name}
 use Rattle.rhai_meaning.specs.Faults.{has_operands}
-use Rattle.rhai_meaning.specs.Queries.{is_block_dependent, is_any_dependent, are_pure}
-use Rattle.rhai_meaning.specs.Tree.{Callee, Expr, DynamicConstant, BoolConstant, StringConstant, UnitConstant, InterpolatedString, ArrayOf, MapOf, BlockExpr, FnCall, And, Or, Coalesce, Exprs, no_exprs, expr, Pairs, Stmt, Noop, If, While, Block, TryCatch, ExprStmt, FnCallStmt, Stmts, no_stmts, stmt, joined}
+use Rattle.rhai_meaning.specs.Queries.{is_block_dependent, is_any_dependent, are_pure_exprs, are_pure_pairs, are_pure}
+use Rattle.rhai_meaning.specs.Shape.{is_unit}
+use Rattle.rhai_meaning.specs.Tree.{ChainFlags, PropertyNames, Callee, Expr, DynamicConstant, BoolConstant, StringConstant, UnitConstant, InterpolatedString, ArrayOf, MapOf, Property, MethodCall, BlockExpr, FnCall, Dot, Index, And, Or, Coalesce, Exprs, no_exprs, expr, count_exprs, Pairs, Stmt, Noop, If, While, Block, TryCatch, ExprStmt, FnCallStmt, Stmts, no_stmts, stmt, joined}
 use Rattle.rhai_rewriting.specs.Context.{Context, ListKind, wanted}
 use Rattle.rhai_rewriting.specs.Folding.{folded}
 use Rattle.rhai_rewriting.specs.Operands.{OperandsTo, CoalesceTo, TextTo}
-use Rattle.rhai_rewriting.specs.Parts.{named}
+use Rattle.rhai_rewriting.specs.Indexing.{indexed, expr_at, pair_for, or_unit}
+use Rattle.rhai_rewriting.specs.Parts.{constant_of, named}
 
 -- ---- what stands for what
 
@@ -69,6 +71,19 @@ pub data ExprRule (k : Context) : Expr → Expr → Type 0 where
   is_shared_folds : {captures : Bool} {e : Expr} (v : Value) → constant_value e ≡ Some v → ExprRule k (FnCall (named (codes "is_shared") captures) (expr e no_exprs)) (BoolConstant false)
   fn_folds : {captures : Bool} {e : Expr} (f : Text) → constant_value e ≡ Some (TextV f) → is_valid_name f ≡ true → ExprRule k (FnCall (named (codes "Fn") captures) (expr e no_exprs)) (DynamicConstant (PointerV f (values [])))
   curry_folds : {captures : Bool} {e : Expr} {es : Exprs} (f : Text) (us : Values) (vs : List Value) → constant_value e ≡ Some (PointerV f us) → constant_values es ≡ Some vs → ExprRule k (FnCall (named (codes "curry") captures) (expr e es)) (DynamicConstant (PointerV f (values (items us ++ vs))))
+  -- past a `?` a unit ends the chain with unit
+  unit_ends_dot : {f : ChainFlags} {e r : Expr} → f.negated ≡ true → constant_value e ≡ Some UnitV → ExprRule k (Dot f e r) UnitConstant
+  unit_ends_index : {f : ChainFlags} {e r : Expr} → f.negated ≡ true → constant_value e ≡ Some UnitV → ExprRule k (Index f e r) UnitConstant
+  -- a part of a constant
+  property_of_constant : {f : ChainFlags} {e : Expr} {p : PropertyNames} (fs : Fields) → constant_value e ≡ Some (MapV fs) → ExprRule k (Dot f e (Property p)) (constant_of (entry fs p.name))
+  index_of_constant : {f : ChainFlags} {e i : Expr} (v j u : Value) → constant_value e ≡ Some v → constant_value i ≡ Some j → indexed v j ≡ Some u → ExprRule k (Index f e i) (constant_of u)
+  -- a part of a literal whose parts are pure
+  element_of_array : {f : ChainFlags} {es : Exprs} {i e : Expr} (n : ℤ) (j : ℕ) → are_pure_exprs es ≡ true → constant_value i ≡ Some (IntV n) → index_in (count_exprs es) n ≡ Some j → expr_at es j ≡ Some e → ExprRule k (Index f (ArrayOf es) i) e
+  property_of_map : {f : ChainFlags} {ps : Pairs} {template : List Text} {p : PropertyNames} → are_pure_pairs ps ≡ true → ExprRule k (Dot f (MapOf ps template) (Property p)) (or_unit (pair_for ps p.name))
+  entry_of_map : {f : ChainFlags} {ps : Pairs} {template : List Text} {i : Expr} (x : Text) → are_pure_pairs ps ≡ true → constant_value i ≡ Some (TextV x) → ExprRule k (Index f (MapOf ps template) i) (or_unit (pair_for ps x))
+  -- `type_of` and `is_shared` of a constant as methods; past a `?` a unit is left
+  type_of_method : {f : ChainFlags} {captures : Bool} {e : Expr} (v : Value) → constant_value e ≡ Some v → (f.negated && is_unit v) ≡ false → ExprRule k (Dot f e (MethodCall (named (codes "type_of") captures) no_exprs)) (StringConstant (mapped_type_name k.engine v))
+  is_shared_method : {f : ChainFlags} {captures : Bool} {e : Expr} (v : Value) → constant_value e ≡ Some v → (f.negated && is_unit v) ≡ false → ExprRule k (Dot f e (MethodCall (named (codes "is_shared") captures) no_exprs)) (BoolConstant false)
 
 -- of statements; w: whether the statement's value is wanted
 pub data StmtRule (k : Context) (w : Bool) : Stmt → Stmt → Type 0 where

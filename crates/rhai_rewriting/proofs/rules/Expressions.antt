@@ -25,6 +25,7 @@ use Rattle.rhai_rewriting.proofs.rules.Constants.{OrWrong, or_stuck, constant_me
 use Rattle.rhai_rewriting.proofs.rules.Logic as logic
 use Rattle.rhai_rewriting.proofs.rules.Texts as text
 use Rattle.rhai_rewriting.proofs.rules.Words as word
+use Rattle.rhai_rewriting.proofs.rules.Chains as chain
 use Rattle.rhai_rewriting.proofs.rules.Lasting.{Lasting}
 use Rattle.rhai_rewriting.proofs.rules.Obligation.{ExprObligation}
 
@@ -98,3 +99,12 @@ expr_rule (rule.type_of_folds v h) = word.type_of_folds v h
 expr_rule (rule.is_shared_folds v h) = word.is_shared_folds v h
 expr_rule (rule.fn_folds f h j) = word.fn_folds f h j
 expr_rule (rule.curry_folds f us vs h j) = word.curry_folds f us vs h j
+expr_rule (rule.unit_ends_dot h j) = chain.unit_ends_dot h j
+expr_rule (rule.unit_ends_index h j) = chain.unit_ends_index h j
+expr_rule (rule.property_of_constant fs h) = chain.property_of_constant fs h
+expr_rule (rule.index_of_constant v j u h q r) = chain.index_of_constant v j u h q r
+expr_rule (rule.element_of_array n j h q r x) = chain.element_of_array n j h q r x
+expr_rule (rule.property_of_map h) = chain.property_of_map h
+expr_rule (rule.entry_of_map x h q) = chain.entry_of_map x h q
+expr_rule (rule.type_of_method v h q) = chain.type_of_method v h q
+expr_rule (rule.is_shared_method v h q) = chain.is_shared_method v h q

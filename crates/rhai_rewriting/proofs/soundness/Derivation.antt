@@ -87,6 +87,15 @@ expr_rule_at ks (rule.type_of_folds v h) = rule.type_of_folds v h
 expr_rule_at ks (rule.is_shared_folds v h) = rule.is_shared_folds v h
 expr_rule_at ks (rule.fn_folds f h j) = rule.fn_folds f h j
 expr_rule_at ks (rule.curry_folds f us vs h j) = rule.curry_folds f us vs h j
+expr_rule_at ks (rule.unit_ends_dot h j) = rule.unit_ends_dot h j
+expr_rule_at ks (rule.unit_ends_index h j) = rule.unit_ends_index h j
+expr_rule_at ks (rule.property_of_constant fs h) = rule.property_of_constant fs h
+expr_rule_at ks (rule.index_of_constant v j u h q r) = rule.index_of_constant v j u h q r
+expr_rule_at ks (rule.element_of_array n j h q r x) = rule.element_of_array n j h q r x
+expr_rule_at ks (rule.property_of_map h) = rule.property_of_map h
+expr_rule_at ks (rule.entry_of_map x h q) = rule.entry_of_map x h q
+expr_rule_at ks (rule.type_of_method v h q) = rule.type_of_method v h q
+expr_rule_at ks (rule.is_shared_method v h q) = rule.is_shared_method v h q
 
 stmt_rule_at : {k : Context} {w : Bool} (ks : List Known) {s s' : Stmt} → StmtRule k w s s' → StmtRule (knowing k ks) w s s'
 stmt_rule_at ks rule.if_without_blocks = rule.if_without_blocks
