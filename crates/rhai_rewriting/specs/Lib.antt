@@ -12,4 +12,6 @@ pub mod Steps
 pub mod Refines
 pub mod WorkedWeights
 pub mod WorkedRewrites
+pub mod WorkedNodes
+pub mod WorkedConditions
 pub mod WorkedKnown
