@@ -9,6 +9,8 @@ pub mod Words
 pub mod Entries
 pub mod Chains
 pub mod Control
+pub mod Arms
+pub mod Switches
 pub mod Expressions
 pub mod Statements
 pub mod Lists

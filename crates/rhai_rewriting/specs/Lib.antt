@@ -4,6 +4,7 @@ pub mod Folding
 pub mod Parts
 pub mod Operands
 pub mod Indexing
+pub mod Tables
 pub mod Rules
 pub mod Rewriting
 pub mod Shapes

@@ -29,6 +29,7 @@ pub record Lasting (P : Around → Node → Type 0) (l : Bool) : Type 0 where
   pub constant : (v : Value) → is_plain_value v ≡ true → P (whole l) (OfExpr (constant_for v))
   pub value : (v : Value) → P (whole l) (OfExpr (constant_of v))
   pub noop : P (whole l) (OfStmt Noop)
+  pub branching : (e : Expr) (a b : Stmts) → P (whole l) (OfStmt (If e a b))
   pub block : (ss : Stmts) → P (whole l) (OfStmt (Block ss))
   pub expression : (e : Expr) → P (whole l) (OfStmt (ExprStmt e))
   pub call_statement : (c : Callee) (es : Exprs) → P (whole l) (OfExpr (FnCall c es)) → P (whole l) (OfStmt (FnCallStmt c es))

@@ -43,6 +43,9 @@ simulates_either v g h = in_branches (truth v) g h
 pub simulates_braces : {k : Context} {c : Setting k} (a : Act) → Simulates c (Scoped (then_line a (λ v. Only (give v)))) a
 simulates_braces {c = c} a = simulates_equal (λ m. ap (leave m.store.scope) (line_unit (world c) m.env a m.store m.turns) ∙ scoped_only (world c) m.env m.adds a m.store m.turns)
 
+pub simulates_to_braces : {k : Context} {c : Setting k} (a : Act) → Simulates c a (Scoped (then_line a (λ v. Only (give v))))
+simulates_to_braces {c = c} a = simulates_equal (λ m. sym (ap (leave m.store.scope) (line_unit (world c) m.env a m.store m.turns) ∙ scoped_only (world c) m.env m.adds a m.store m.turns))
+
 pub simulates_to_empty : {k : Context} {c : Setting k} → Simulates c unit (Scoped (Only unit))
 simulates_to_empty = simulates_equal (λ m. sym (leave_same m.store (Gives UnitV) m.turns))
 

@@ -38,6 +38,7 @@ operators_last = record {
   constant = constant_callless;
   value = value_callless;
   noop = tt;
+  branching = λ e a b. tt;
   block = λ ss. tt;
   expression = λ e. tt;
   call_statement = λ c es h. h;

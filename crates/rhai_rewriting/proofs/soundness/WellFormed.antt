@@ -34,6 +34,7 @@ faultless_lasts l = record {
   constant = constant_faultless l;
   value = value_faultless l;
   noop = refl;
+  branching = λ e a b. refl;
   block = λ ss. refl;
   expression = λ e. refl;
   call_statement = λ c es h. h;
