@@ -10,7 +10,9 @@ pub mod Entries
 pub mod Chains
 pub mod Control
 pub mod Arms
+pub mod Equality
 pub mod Switches
+pub mod Tables
 pub mod Expressions
 pub mod Statements
 pub mod Lists

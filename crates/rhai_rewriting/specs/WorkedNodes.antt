@@ -1,18 +1,20 @@
 -- For each rule on operands, texts, maps, the language's own functions, chains, loops and `try` a small script, what it
 -- may be rewritten to, and what both do.
-use Rattle.std.specs.Prelude.{◌≡◌, true, false, List, [], ◌∷◌, pos, codes, refl}
+use Rattle.std.specs.Prelude.{◌≡◌, true, false, ℕ, List, [], ◌∷◌, Option, Some, None, pos, codes, refl}
 use Prim.Native.String.{String}
+use native.Mathlib.Bridge.{le_by_compare, IsLe}
 use Rattle.rhai_base.specs.Value.{Value, UnitV, BoolV, TextV, ArrayV, MapV, PointerV, values, field, no_fields, text_of}
-use Rattle.rhai_meaning.specs.Act.{HostCall}
+use Rattle.rhai_meaning.specs.Act.{HostCall, WrongKind}
 use Rattle.rhai_meaning.specs.Control.{texts_joined}
-use Rattle.rhai_meaning.specs.Run.{WithValue}
-use Rattle.rhai_meaning.specs.Tree.{ChainFlags, Expr, DynamicConstant, BoolConstant, StringConstant, UnitConstant, InterpolatedString, ArrayOf, MapOf, Property, MethodCall, FnCall, Dot, Index, And, Or, Coalesce, Noop, While, TryCatch, ExprStmt, BreakLoop, no_expr, exprs, pairs, stmts}
+use Rattle.rhai_meaning.specs.Run.{WithValue, WithStuck}
+use Rattle.rhai_meaning.specs.Tree.{SwitchCase, SwitchTable, ChainFlags, Expr, DynamicConstant, BoolConstant, StringConstant, UnitConstant, InterpolatedString, ArrayOf, MapOf, Property, MethodCall, FnCall, Dot, Index, And, Or, Coalesce, Noop, While, TryCatch, ExprStmt, BreakLoop, no_expr, exprs, pairs, arms, stmts, BlockExpr, If, Switch, Block}
 use Rattle.rhai_meaning.specs.WorkedForms.{int, call, nothing_set, joining, ran, ran_with, ends, i}
 use Rattle.rhai_rewriting.specs.Context.{under}
 use Rattle.rhai_rewriting.specs.Operands.{passing_goes, after_deciding_go, pure_before_deciding_goes, in_other_operands, unit_goes, after_some_go, texts_join, empty_goes, in_other_parts}
 use Rattle.rhai_rewriting.specs.Parts.{named}
 use Rattle.rhai_rewriting.specs.Rewriting.{by_expr_rule, by_stmt_rule, in_expression, in_head}
-use Rattle.rhai_rewriting.specs.Rules.{StmtRule, and_changes, or_changes, coalesce_changes, and_of_one, or_of_one, coalesce_of_one, text_changes, text_folds, map_of_constants, type_of_folds, is_shared_folds, fn_folds, curry_folds, unit_ends_dot, unit_ends_index, property_of_constant, index_of_constant, element_of_array, property_of_map, entry_of_map, type_of_method, is_shared_method, while_false, while_true, pure_try}
+use Rattle.rhai_rewriting.specs.Rules.{StmtRule, and_changes, or_changes, coalesce_changes, and_of_one, or_of_one, coalesce_of_one, text_changes, text_folds, map_of_constants, type_of_folds, is_shared_folds, fn_folds, curry_folds, unit_ends_dot, unit_ends_index, property_of_constant, index_of_constant, element_of_array, property_of_map, entry_of_map, type_of_method, is_shared_method, while_false, while_true, pure_try, switch_answers, switch_is_if, switch_defaults, switch_narrows, switch_shrinks}
+use Rattle.rhai_rewriting.specs.Tables.{no_ranges, no_cases, case_shrinks, empty_case_goes}
 use Rattle.rhai_rewriting.specs.WorkedRewrites.{Row, f, asks_f}
 
 -- one expression as a statement
@@ -207,3 +209,41 @@ while_true_runs = (refl, refl)
 pure_try_row : Row (TryCatch UnitConstant (stmts (ExprStmt (int 1) ∷ [])) (stmts (f ∷ [])) ∷ []) (Noop ∷ []) (ends (WithValue UnitV) [])
 unfolding ran
 pure_try_row = (in_head (by_stmt_rule (pure_try refl)), refl, refl)
+
+-- ---- `switch`
+
+-- the table of one value and a default
+abbrev cases : List SwitchCase → Option ℕ → SwitchTable
+cases cs d = record { cases = cs; ranges = []; default = d }
+
+abbrev on : ℕ → List ℕ → SwitchCase
+on v is = record { value = i v; arms = is }
+
+-- switch 1 { 1 => f(), _ => 2 }
+switch_answers_row : Row (Switch (int 1) (arms ((t, ask) ∷ (t, int 2) ∷ [])) (cases (on 1 (0 ∷ []) ∷ []) (Some 1)) ∷ []) (ExprStmt ask ∷ []) (ends (WithValue UnitV) asks_f)
+unfolding ran
+switch_answers_row = (in_head (by_stmt_rule (switch_answers (i 1) 0 [] refl refl refl refl)), refl, refl)
+
+-- switch 1 { 1 if false => 3, 1 if {true} => f(), _ => 2 }
+switch_is_if_row : Row (Switch (int 1) (arms ((n, int 3) ∷ (BlockExpr (stmts (ExprStmt t ∷ [])), ask) ∷ (t, int 2) ∷ [])) (cases (on 1 (0 ∷ 1 ∷ []) ∷ []) (Some 2)) ∷ []) (If (BlockExpr (stmts (ExprStmt t ∷ []))) (stmts (ExprStmt ask ∷ [])) (stmts (ExprStmt (int 2) ∷ [])) ∷ []) (ends (WithValue UnitV) asks_f)
+unfolding ran
+switch_is_if_row = (in_head (by_stmt_rule (switch_is_if (i 1) 1 refl refl refl (λ h. absurd cc))), refl, refl)
+
+-- switch 3 { 1 => f(), _ => 2 }, and without a default
+switch_defaults_row : Row (Switch (int 3) (arms ((t, ask) ∷ (t, int 2) ∷ [])) (cases (on 1 (0 ∷ []) ∷ []) (Some 1)) ∷ []) (ExprStmt (int 2) ∷ []) (ends (WithValue (i 2)) [])
+unfolding ran
+switch_defaults_row = (in_head (by_stmt_rule (switch_defaults (i 3) refl refl)), refl, refl)
+
+switch_nothing_row : Row (Switch (int 3) (arms ((t, ask) ∷ [])) (cases (on 1 (0 ∷ []) ∷ []) None) ∷ []) (Block (stmts []) ∷ []) (ends (WithValue UnitV) [])
+unfolding ran
+switch_nothing_row = (in_head (by_stmt_rule (switch_defaults (i 3) refl refl)), refl, refl)
+
+-- switch 1 { 1 if false => 3, 1 if f() => 4, 1 => 5, 1 => 6 }: the false arm and the last go
+switch_narrows_row : Row (Switch (int 1) (arms ((n, int 3) ∷ (ask, int 4) ∷ (t, int 5) ∷ (t, int 6) ∷ [])) (cases (on 1 (0 ∷ 1 ∷ 2 ∷ 3 ∷ []) ∷ on 2 (3 ∷ []) ∷ []) None) ∷ []) (Switch (int 1) (arms ((n, int 3) ∷ (ask, int 4) ∷ (t, int 5) ∷ (t, int 6) ∷ [])) (cases (on 1 (1 ∷ 2 ∷ []) ∷ []) None) ∷ []) (ends (WithStuck WrongKind) asks_f)
+unfolding ran IsLe
+switch_narrows_row = (in_head (by_stmt_rule (switch_narrows (i 1) refl refl refl refl (λ h. refl) (le_by_compare 4 7 tt))), refl, refl)
+
+-- switch {1} { 1 if false => 3, 1 => 5, 1 => 6, 2 if false => 7 }: a false arm, one after a true one, and an empty list go
+switch_shrinks_row : Row (Switch (BlockExpr (stmts (ExprStmt (int 1) ∷ []))) (arms ((n, int 3) ∷ (t, int 5) ∷ (t, int 6) ∷ (n, int 7) ∷ [])) (cases (on 1 (0 ∷ 1 ∷ 2 ∷ []) ∷ on 2 (3 ∷ []) ∷ []) None) ∷ []) (Switch (BlockExpr (stmts (ExprStmt (int 1) ∷ []))) (arms ((n, int 3) ∷ (t, int 5) ∷ (t, int 6) ∷ (n, int 7) ∷ [])) (cases (on 1 (1 ∷ []) ∷ []) None) ∷ []) (ends (WithValue (i 5)) [])
+unfolding ran IsLe
+switch_shrinks_row = (in_head (by_stmt_rule (switch_shrinks (case_shrinks (empty_case_goes refl refl refl no_cases)) no_ranges (λ h. refl) (le_by_compare 3 6 tt))), refl, refl)

@@ -133,3 +133,12 @@ bool_core loop (InterpolatedString es) b h = no_text (constant_values es) b h
 bool_core loop (ArrayOf es) b h = no_array (constant_values es) b h
 bool_core loop (MapOf ps template) b h = no_map (constant_entries ps) b h
 bool_core loop _ b h = no_bool b h
+
+-- after it the one does what the other does, for its value alone
+constant_back : {k : Context} (c : Setting k) (e : Expr) (v : Value) (g : Value → Act) → constant_value e ≡ Some v → Simulates c (act (world c) (core_expr c.in_loop e) >>= λ u. g v) (act (world c) (core_expr c.in_loop e) >>= g)
+constant_back c e v g h = constant_both c e v (λ u. g v) g h (λ env s t. refl)
+
+pub constant_alike : {k : Context} (c : Setting k) (e : Expr) (v : Value) (f g : Value → Act) → constant_value e ≡ Some v → Simulates c (f v) (g v) → Simulates c (act (world c) (core_expr c.in_loop e) >>= f) (act (world c) (core_expr c.in_loop e) >>= g)
+constant_alike c e v f g h j =
+    simulates_trans (constant_both c e v f (λ u. f v) h (λ env s t. refl))
+    (simulates_trans (simulates_bind {f = λ u. f v} {f' = λ u. g v} simulates_refl (λ u. j)) (constant_back c e v g h))

@@ -2,8 +2,9 @@
 use Rattle.std.proofs.Common.{◌≡◌, Bool, true}
 use Rattle.rhai_base.specs.Value.{Value}
 use Rattle.rhai_meaning.specs.Constants.{constant_for}
-use Rattle.rhai_meaning.specs.Tree.{Callee, Expr, InterpolatedString, ArrayOf, BlockExpr, FnCall, And, Or, Coalesce, Exprs, count_exprs, Noop, If, While, Block, ExprStmt, FnCallStmt, Stmts}
+use Rattle.rhai_meaning.specs.Tree.{SwitchTable, Arms, Callee, Expr, InterpolatedString, ArrayOf, BlockExpr, FnCall, And, Or, Coalesce, Exprs, count_exprs, Noop, If, Switch, While, Block, ExprStmt, FnCallStmt, Stmts}
 use Rattle.rhai_meaning.specs.Faults.{has_operands}
+use Rattle.rhai_meaning.specs.Shape.{is_table}
 use Rattle.rhai_meaning.specs.Walk.{Node, OfExpr, OfStmt, Around, whole}
 use Rattle.rhai_rewriting.specs.Parts.{constant_of}
 use Rattle.rhai_rewriting.proofs.Plain.{is_plain_value}
@@ -22,6 +23,7 @@ pub data SameNode : Node → Node → Type 0 where
   same_coalesce : {es es' : Exprs} → has_operands es' ≡ true → SameNode (OfExpr (Coalesce es)) (OfExpr (Coalesce es'))
   same_text : {es es' : Exprs} → SameNode (OfExpr (InterpolatedString es)) (OfExpr (InterpolatedString es'))
   same_while : {e e' : Expr} {b b' : Stmts} → SameNode (OfStmt (While e b)) (OfStmt (While e' b'))
+  same_switch : {e : Expr} {as' : Arms} {t t' : SwitchTable} → (is_table as' t ≡ true → is_table as' t' ≡ true) → SameNode (OfStmt (Switch e as' t)) (OfStmt (Switch e as' t'))
 
 -- the same node has it again, and what rules make has it
 pub record Lasting (P : Around → Node → Type 0) (l : Bool) : Type 0 where

@@ -25,23 +25,23 @@ use Rattle.rhai_rewriting.proofs.rules.Lasting.{Lasting}
 use Rattle.rhai_rewriting.proofs.rules.Obligation.{StmtObligation}
 
 module _ {k : Context} (c : Setting k) where
-  abbrev here_of : Expr → core.Expr
+  abbrev pub here_of : Expr → core.Expr
   here_of e = core_expr c.in_loop e
 
-  abbrev acts_of : Arms → List ArmActs
+  abbrev pub acts_of : Arms → List ArmActs
   acts_of as' = arm_acts (world c) (core_arms c.in_loop as')
 
   -- an arm's acts
-  abbrev of_arm : Option (Expr × Expr) → Option ArmActs
+  abbrev pub of_arm : Option (Expr × Expr) → Option ArmActs
   of_arm None = None
   of_arm (Some p) = Some (record { guard = act (world c) (here_of p.0); answer = act (world c) (here_of p.1) })
 
-  arm_found : (as' : Arms) (i : ℕ) → slice_get (acts_of as') i ≡ of_arm (arm_of as' i)
+  pub arm_found : (as' : Arms) (i : ℕ) → slice_get (acts_of as') i ≡ of_arm (arm_of as' i)
   arm_found no_arms i = refl
   arm_found (arm d a as') zero = refl
   arm_found (arm d a as') (suc i) = arm_found as' i
 
-  same_arm : (o : Option ArmActs) (n n' : Act) → Simulates c n n' → Simulates c (try_arm o n) (try_arm o n')
+  pub same_arm : (o : Option ArmActs) (n n' : Act) → Simulates c n n' → Simulates c (try_arm o n) (try_arm o n')
   same_arm None n n' h = h
   same_arm (Some a) n n' h = simulates_bind simulates_refl (λ v. simulates_if v simulates_refl h)
 
@@ -56,7 +56,7 @@ module _ {k : Context} (c : Setting k) where
   true_alone (Some p) n n' h = bool_value (constant_value p.0) true h (λ v q.
       constant_both c p.0 v _ _ q (λ env s t i. run (world c) env (branch_alike (truth v) (act (world c) (here_of p.1)) n n' (sym (ap truth_of q) ∙ h) i) s t))
 
-  false_goes : (o : Option (Expr × Expr)) (n : Act) → arm_decides o ≡ Some false → Simulates c (try_arm (of_arm o) n) n
+  pub false_goes : (o : Option (Expr × Expr)) (n : Act) → arm_decides o ≡ Some false → Simulates c (try_arm (of_arm o) n) n
   false_goes None n h = simulates_refl
   false_goes (Some p) n h = bool_then c p.0 false (act (world c) (here_of p.1)) n h
 
@@ -65,7 +65,7 @@ module _ {k : Context} (c : Setting k) where
   left_by as' i o (Some true) is js n e h ih = subst (λ x. Simulates c (try_arm (of_arm o) (first_arm (acts_of as') is n)) (try_arm x n)) (sym (arm_found as' i ∙ ap of_arm e)) (true_alone o _ n h)
   left_by as' i o None is js n e h ih = subst (λ x. Simulates c (try_arm (of_arm o) (first_arm (acts_of as') is n)) (try_arm x (first_arm (acts_of as') js n))) (sym (arm_found as' i ∙ ap of_arm e)) (same_arm (of_arm o) _ _ ih)
 
-  arms_left : (as' : Arms) (is : List ℕ) (n : Act) → Simulates c (first_arm (acts_of as') is n) (first_arm (acts_of as') (left_arms as' is) n)
+  pub arms_left : (as' : Arms) (is : List ℕ) (n : Act) → Simulates c (first_arm (acts_of as') is n) (first_arm (acts_of as') (left_arms as' is) n)
   arms_left as' [] n = simulates_refl
   arms_left as' (i ∷ is) n = subst (λ x. Simulates c (try_arm x (first_arm (acts_of as') is n)) (first_arm (acts_of as') (left_arms as' (i ∷ is)) n)) (sym (arm_found as' i)) (left_by as' i (arm_of as' i) (arm_decides (arm_of as' i)) is (left_arms as' is) n refl refl (arms_left as' is n))
 

@@ -1,20 +1,25 @@
 -- A well-formed tree stays well-formed.
-use Rattle.std.proofs.Common.{◌≡◌, Bool, true, None, refl, ap, subst}
+use Rattle.std.proofs.Common.{◌≡◌, Bool, true, false, Some, None, refl, ap, subst}
 use Rattle.rhai_base.specs.Value.{Value, UnitV, PointerV}
 use Rattle.rhai_meaning.specs.Constants.{constant_for}
-use Rattle.rhai_meaning.specs.Faults.{NoOperands, unless, call_fault, IsFaultless, AreWellFormed}
+use Rattle.rhai_meaning.specs.Faults.{NoOperands, SwitchFault, unless, call_fault, IsFaultless, AreWellFormed}
+use Rattle.rhai_meaning.specs.Shape.{is_table}
 use Rattle.rhai_meaning.specs.Tree.{Stmts}
 use Rattle.rhai_meaning.specs.Walk.{Node, OfExpr, whole}
 use Rattle.rhai_rewriting.specs.Context.{Context, ListKind}
 use Rattle.rhai_rewriting.specs.Rewriting.{StmtsTo}
 use Rattle.rhai_rewriting.specs.Parts.{constant_of}
 use Rattle.rhai_rewriting.proofs.Plain.{is_plain_value}
-use Rattle.rhai_rewriting.proofs.rules.Lasting.{SameNode, same_call, same_call_statement, same_and, same_or, same_coalesce, Lasting}
+use Rattle.rhai_rewriting.proofs.rules.Lasting.{SameNode, same_call, same_call_statement, same_and, same_or, same_coalesce, same_switch, Lasting}
 use Rattle.rhai_rewriting.proofs.soundness.Lasting.{stmts_keep}
 
 constant_faultless : (l : Bool) (v : Value) → is_plain_value v ≡ true → IsFaultless (whole l) (OfExpr (constant_for v))
 constant_faultless l (PointerV f vs) p = absurd cc
 constant_faultless l _ p = refl
+
+table_again : (b b' : Bool) → (b ≡ true → b' ≡ true) → unless b SwitchFault ≡ None → unless b' SwitchFault ≡ None
+table_again true b' e h = ap (λ x. unless x SwitchFault) (e refl)
+table_again false b' e h = absurd (let z : Some SwitchFault ≡ None = h in cc)
 
 faultless_again : (l : Bool) {n n' : Node} → SameNode n n' → IsFaultless (whole l) n → IsFaultless (whole l) n'
 faultless_again l (same_call {c = c} e) h = subst (λ n. call_fault c n ≡ None) e h
@@ -22,6 +27,7 @@ faultless_again l (same_call_statement {c = c} e) h = subst (λ n. call_fault c 
 faultless_again l (same_and e) h = ap (λ b. unless b NoOperands) e
 faultless_again l (same_or e) h = ap (λ b. unless b NoOperands) e
 faultless_again l (same_coalesce e) h = ap (λ b. unless b NoOperands) e
+faultless_again l (same_switch {as' = as'} {t = t} {t' = t'} e) h = table_again (is_table as' t) (is_table as' t') e h
 faultless_again l _ h = refl
 
 value_faultless : (l : Bool) (v : Value) → IsFaultless (whole l) (OfExpr (constant_of v))
