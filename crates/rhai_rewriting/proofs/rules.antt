@@ -13,6 +13,7 @@ pub mod Arms
 pub mod Equality
 pub mod Switches
 pub mod Tables
+pub mod Forgetting
 pub mod Expressions
 pub mod Statements
 pub mod Lists

@@ -2,14 +2,14 @@
 use Rattle.std.specs.Prelude.{◌≡◌, ◌<◌, ℕ, ℤ, Bool, true, false, ◌&&◌, List, [], ◌∷◌, ◌++◌, Some, codes}
 use Rattle.rhai_base.specs.Value.{Text, Value, UnitV, IntV, TextV, ArrayV, MapV, PointerV, Values, Fields, values, items}
 use Rattle.rhai_parts.specs.Names.{is_valid_name}
-use Rattle.rhai_meaning.specs.Constants.{constant_value, constant_values, constant_entries, constant_bool, constant_for}
+use Rattle.rhai_meaning.specs.Constants.{constant_value, constant_values, constant_entries, constant_bool, constant_for, is_literal_unit}
 use Rattle.rhai_meaning.specs.Control.{texts_joined}
 use Rattle.rhai_meaning.specs.Control.{chosen as cases_for}
 use Rattle.rhai_meaning.specs.Elements.{index_in, entry, fields_of}
 use Rattle.rhai_meaning.specs.Engine.{mapped_type_name}
 use Rattle.rhai_meaning.specs.Faults.{has_operands}
 use Rattle.rhai_meaning.specs.Queries.{is_block_dependent, is_any_dependent, are_pure_exprs, are_pure_pairs, are_pure}
-use Rattle.rhai_meaning.specs.Shape.{is_unit, is_table}
+use Rattle.rhai_meaning.specs.Shape.{is_unit, is_table, names_arm}
 use Rattle.rhai_meaning.specs.Walk.{listed}
 use Rattle.rhai_meaning.specs.Weight.{table_weight}
 use Rattle.rhai_meaning.specs.Tree.{SwitchCase, SwitchRange, SwitchTable, Arms, ChainFlags, PropertyNames, Callee, Expr, DynamicConstant, BoolConstant, StringConstant, UnitConstant, InterpolatedString, ArrayOf, MapOf, Property, MethodCall, BlockExpr, FnCall, Dot, Index, And, Or, Coalesce, Exprs, no_exprs, expr, count_exprs, Pairs, Stmt, Noop, If, Switch, While, Block, TryCatch, ExprStmt, FnCallStmt, Stmts, no_stmts, stmt, joined}
@@ -18,7 +18,7 @@ use Rattle.rhai_rewriting.specs.Folding.{folded}
 use Rattle.rhai_rewriting.specs.Operands.{OperandsTo, CoalesceTo, TextTo}
 use Rattle.rhai_rewriting.specs.Indexing.{indexed, expr_at, pair_for, or_unit}
 use Rattle.rhai_rewriting.specs.Parts.{constant_of, named}
-use Rattle.rhai_rewriting.specs.Tables.{CasesTo, RangesTo, are_of, arm_of, left_arms, default_answer, default_stmt, default_branch}
+use Rattle.rhai_rewriting.specs.Tables.{forgotten, CasesTo, RangesTo, are_of, arm_of, left_arms, default_answer, default_stmt, default_branch}
 
 -- ---- what stands for what
 
@@ -116,6 +116,8 @@ pub data StmtRule (k : Context) (w : Bool) : Stmt → Stmt → Type 0 where
   switch_narrows : {e : Expr} {as' : Arms} {t t' : SwitchTable} (v : Value) → constant_value e ≡ Some v → cases_for t' v ≡ left_arms as' (cases_for t v) → t'.default ≡ t.default → are_of (listed t') (listed t) ≡ true → (is_table as' t ≡ true → is_table as' t' ≡ true) → table_weight t' < table_weight t → StmtRule k w (Switch e as' t) (Switch e as' t')
   -- over any subject: false arms and ranges go, arms after a true one in a list go, empty lists go
   switch_shrinks : {e : Expr} {as' : Arms} {t : SwitchTable} {cs : List SwitchCase} {qs : List SwitchRange} → CasesTo as' qs t.cases cs → RangesTo as' t.ranges qs → (is_table as' t ≡ true → is_table as' (record { cases = cs; ranges = qs; default = t.default }) ≡ true) → table_weight (record { cases = cs; ranges = qs; default = t.default }) < table_weight t → StmtRule k w (Switch e as' t) (Switch e as' (record { cases = cs; ranges = qs; default = t.default }))
+  -- the answer of an arm that no list names is unit
+  switch_forgets : {e : Expr} {as' : Arms} {t : SwitchTable} {c a : Expr} (j : ℕ) → arm_of as' j ≡ Some (c, a) → is_literal_unit a ≡ false → names_arm j (listed t) ≡ false → StmtRule k w (Switch e as' t) (Switch e (forgotten as' j) t)
   -- a `try` over a pure body does nothing
   pure_try : {x : Expr} {body branch : Stmts} → are_pure body ≡ true → StmtRule k w (TryCatch x body branch) Noop
 

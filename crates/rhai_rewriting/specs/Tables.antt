@@ -5,7 +5,7 @@ use Rattle.rhai_parts.specs.Names.{are_all}
 use Rattle.rhai_meaning.specs.Constants.{constant_bool}
 use Rattle.rhai_meaning.specs.Control.{case_for}
 use Rattle.rhai_meaning.specs.Shape.{names_arm}
-use Rattle.rhai_meaning.specs.Tree.{SwitchCase, SwitchRange, Expr, Arms, no_arms, arm, Stmt, Block, ExprStmt, Stmts, no_stmts, stmt}
+use Rattle.rhai_meaning.specs.Tree.{SwitchCase, SwitchRange, Expr, UnitConstant, Arms, no_arms, arm, Stmt, Block, ExprStmt, Stmts, no_stmts, stmt}
 
 -- its condition and its answer
 abbrev pub arm_of : Arms → ℕ → Option (Expr × Expr)
@@ -65,3 +65,11 @@ pub data CasesTo (as' : Arms) (qs : List SwitchRange) : List SwitchCase → List
 -- every arm of the one list is of the other
 abbrev pub are_of : List ℕ → List ℕ → Bool
 are_of js is = are_all (λ j. names_arm j is) js
+
+-- ---- an arm that no list names
+
+-- with unit as the answer of the i-th
+abbrev pub forgotten : Arms → ℕ → Arms
+forgotten no_arms i = no_arms
+forgotten (arm c a as') zero = arm c UnitConstant as'
+forgotten (arm c a as') (suc i) = arm c a (forgotten as' i)

@@ -13,7 +13,7 @@ use Rattle.rhai_rewriting.specs.Context.{under}
 use Rattle.rhai_rewriting.specs.Operands.{passing_goes, after_deciding_go, pure_before_deciding_goes, in_other_operands, unit_goes, after_some_go, texts_join, empty_goes, in_other_parts}
 use Rattle.rhai_rewriting.specs.Parts.{named}
 use Rattle.rhai_rewriting.specs.Rewriting.{by_expr_rule, by_stmt_rule, in_expression, in_head}
-use Rattle.rhai_rewriting.specs.Rules.{StmtRule, and_changes, or_changes, coalesce_changes, and_of_one, or_of_one, coalesce_of_one, text_changes, text_folds, map_of_constants, type_of_folds, is_shared_folds, fn_folds, curry_folds, unit_ends_dot, unit_ends_index, property_of_constant, index_of_constant, element_of_array, property_of_map, entry_of_map, type_of_method, is_shared_method, while_false, while_true, pure_try, switch_answers, switch_is_if, switch_defaults, switch_narrows, switch_shrinks}
+use Rattle.rhai_rewriting.specs.Rules.{StmtRule, and_changes, or_changes, coalesce_changes, and_of_one, or_of_one, coalesce_of_one, text_changes, text_folds, map_of_constants, type_of_folds, is_shared_folds, fn_folds, curry_folds, unit_ends_dot, unit_ends_index, property_of_constant, index_of_constant, element_of_array, property_of_map, entry_of_map, type_of_method, is_shared_method, while_false, while_true, pure_try, switch_answers, switch_is_if, switch_defaults, switch_narrows, switch_shrinks, switch_forgets, and_of_none, or_of_none, coalesce_of_none}
 use Rattle.rhai_rewriting.specs.Tables.{no_ranges, no_cases, case_shrinks, empty_case_goes}
 use Rattle.rhai_rewriting.specs.WorkedRewrites.{Row, f, asks_f}
 
@@ -247,3 +247,22 @@ switch_narrows_row = (in_head (by_stmt_rule (switch_narrows (i 1) refl refl refl
 switch_shrinks_row : Row (Switch (BlockExpr (stmts (ExprStmt (int 1) ∷ []))) (arms ((n, int 3) ∷ (t, int 5) ∷ (t, int 6) ∷ (n, int 7) ∷ [])) (cases (on 1 (0 ∷ 1 ∷ 2 ∷ []) ∷ on 2 (3 ∷ []) ∷ []) None) ∷ []) (Switch (BlockExpr (stmts (ExprStmt (int 1) ∷ []))) (arms ((n, int 3) ∷ (t, int 5) ∷ (t, int 6) ∷ (n, int 7) ∷ [])) (cases (on 1 (1 ∷ []) ∷ []) None) ∷ []) (ends (WithValue (i 5)) [])
 unfolding ran IsLe
 switch_shrinks_row = (in_head (by_stmt_rule (switch_shrinks (case_shrinks (empty_case_goes refl refl refl no_cases)) no_ranges (λ h. refl) (le_by_compare 3 6 tt))), refl, refl)
+
+-- switch {1} { 1 => 5 } with an arm that no list names
+switch_forgets_row : Row (Switch (BlockExpr (stmts (ExprStmt (int 1) ∷ []))) (arms ((t, int 5) ∷ (n, ask) ∷ [])) (cases (on 1 (0 ∷ []) ∷ []) None) ∷ []) (Switch (BlockExpr (stmts (ExprStmt (int 1) ∷ []))) (arms ((t, int 5) ∷ (n, UnitConstant) ∷ [])) (cases (on 1 (0 ∷ []) ∷ []) None) ∷ []) (ends (WithValue (i 5)) [])
+unfolding ran
+switch_forgets_row = (in_head (by_stmt_rule (switch_forgets 1 refl refl refl)), refl, refl)
+
+-- ---- operands without any: no well-formed tree has them
+
+and_of_none_row : ExprRow (And (exprs [])) t (BoolV true) []
+unfolding ran
+and_of_none_row = (in_head (in_expression (by_expr_rule and_of_none)), refl, refl)
+
+or_of_none_row : ExprRow (Or (exprs [])) n (BoolV false) []
+unfolding ran
+or_of_none_row = (in_head (in_expression (by_expr_rule or_of_none)), refl, refl)
+
+coalesce_of_none_row : ExprRow (Coalesce (exprs [])) UnitConstant UnitV []
+unfolding ran
+coalesce_of_none_row = (in_head (in_expression (by_expr_rule coalesce_of_none)), refl, refl)

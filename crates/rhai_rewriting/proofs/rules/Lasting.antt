@@ -23,7 +23,7 @@ pub data SameNode : Node → Node → Type 0 where
   same_coalesce : {es es' : Exprs} → has_operands es' ≡ true → SameNode (OfExpr (Coalesce es)) (OfExpr (Coalesce es'))
   same_text : {es es' : Exprs} → SameNode (OfExpr (InterpolatedString es)) (OfExpr (InterpolatedString es'))
   same_while : {e e' : Expr} {b b' : Stmts} → SameNode (OfStmt (While e b)) (OfStmt (While e' b'))
-  same_switch : {e : Expr} {as' : Arms} {t t' : SwitchTable} → (is_table as' t ≡ true → is_table as' t' ≡ true) → SameNode (OfStmt (Switch e as' t)) (OfStmt (Switch e as' t'))
+  same_switch : {e : Expr} {as' bs : Arms} {t t' : SwitchTable} → (is_table as' t ≡ true → is_table bs t' ≡ true) → SameNode (OfStmt (Switch e as' t)) (OfStmt (Switch e bs t'))
 
 -- the same node has it again, and what rules make has it
 pub record Lasting (P : Around → Node → Type 0) (l : Bool) : Type 0 where

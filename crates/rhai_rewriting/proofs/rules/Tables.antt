@@ -83,7 +83,7 @@ module _ {k : Context} (c : Setting k) (as' : Arms) where
       subst (λ is. Tried is (or_ranges (record { cases = cs; ranges = qs; default = t.default }) v o')) (sym (or_is t v o)) (subst (λ js. Tried (by_list t.ranges v o) js) (sym (or_is (record { cases = cs; ranges = qs; default = t.default }) v o')) z)
 
 -- the new node has a meaning where the old one has
-meant_again : {k : Context} (c : Setting k) (b b' : Bool) (x y : core.Deed) → (b ≡ true → b' ≡ true) → Simulates c (deed (world c) x) (deed (world c) y) → Simulates c (deed (world c) (cond b x core.IllDeed)) (deed (world c) (cond b' y core.IllDeed))
+pub meant_again : {k : Context} (c : Setting k) (b b' : Bool) (x y : core.Deed) → (b ≡ true → b' ≡ true) → Simulates c (deed (world c) x) (deed (world c) y) → Simulates c (deed (world c) (cond b x core.IllDeed)) (deed (world c) (cond b' y core.IllDeed))
 meant_again c true b' x y h j = subst (λ z. Simulates c (deed (world c) x) (deed (world c) (cond z y core.IllDeed))) (sym (h refl)) j
 meant_again c false b' x y h j = simulates_stuck WrongKind (deed (world c) (cond b' y core.IllDeed))
 
@@ -109,7 +109,7 @@ module _ (Q : ℕ → Type 0) (as' : Arms) where
       let z = all_split Q (arms_of_cases t.cases) (arms_of_ranges t.ranges) y.0 in
       all_join (arms_of_cases cs ++ arms_of_ranges qs) (arm_of_default t.default) (all_join (arms_of_cases cs) (arms_of_ranges qs) (cases_hold p z.0) (ranges_hold q z.1)) y.1
 
-held_again : (P : Around → Node → Type 0) (l : Bool) (as' : Arms) (is : List ℕ) → AllArms (ArmHolds P l as') is → arms_at (λ a. Unit {0}) (λ p q a. p a × q a) (over_arms (throughout P) as') is (whole l)
+pub held_again : (P : Around → Node → Type 0) (l : Bool) (as' : Arms) (is : List ℕ) → AllArms (ArmHolds P l as') is → arms_at (λ a. Unit {0}) (λ p q a. p a × q a) (over_arms (throughout P) as') is (whole l)
 held_again P l as' [] h = tt
 held_again P l as' (i ∷ is) h = (h.0, held_again P l as' is h.1)
 

@@ -111,6 +111,7 @@ stmt_rule_at ks (rule.pure_try h) = rule.pure_try h
 stmt_rule_at ks (rule.switch_answers v j js h q r x) = rule.switch_answers v j js h q r x
 stmt_rule_at ks (rule.switch_is_if v j h q r x) = rule.switch_is_if v j h q r x
 stmt_rule_at ks (rule.switch_defaults v h q) = rule.switch_defaults v h q
+stmt_rule_at ks (rule.switch_forgets j h q x) = rule.switch_forgets j h q x
 stmt_rule_at ks (rule.switch_narrows v h q d o x y) = rule.switch_narrows v h q d o x y
 stmt_rule_at ks (rule.switch_shrinks h q x y) = rule.switch_shrinks h q x y
 

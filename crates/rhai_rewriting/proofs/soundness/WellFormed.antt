@@ -27,7 +27,7 @@ faultless_again l (same_call_statement {c = c} e) h = subst (λ n. call_fault c 
 faultless_again l (same_and e) h = ap (λ b. unless b NoOperands) e
 faultless_again l (same_or e) h = ap (λ b. unless b NoOperands) e
 faultless_again l (same_coalesce e) h = ap (λ b. unless b NoOperands) e
-faultless_again l (same_switch {as' = as'} {t = t} {t' = t'} e) h = table_again (is_table as' t) (is_table as' t') e h
+faultless_again l (same_switch {as' = as'} {bs = bs} {t = t} {t' = t'} e) h = table_again (is_table as' t) (is_table bs t') e h
 faultless_again l _ h = refl
 
 value_faultless : (l : Bool) (v : Value) → IsFaultless (whole l) (OfExpr (constant_of v))
