@@ -1,6 +1,10 @@
 pub mod Known
 pub mod Context
 pub mod Folding
+pub mod Parts
+pub mod Operands
+pub mod Indexing
+pub mod Tables
 pub mod Rules
 pub mod Rewriting
 pub mod Shapes
@@ -9,4 +13,6 @@ pub mod Steps
 pub mod Refines
 pub mod WorkedWeights
 pub mod WorkedRewrites
+pub mod WorkedNodes
+pub mod WorkedConditions
 pub mod WorkedKnown

@@ -53,7 +53,7 @@ module _ (w : World) (env : Env) (loop : Bool) where
   Given (Some v) r s t = OrWrong r (At (Ended (Gives v)) s t) s t
 
   -- where there are values, what comes after the arguments has them
-  abbrev GivenAll : Option (List Value) → tree.Exprs → (List Value → Act) → Store → ℕ → Type 0
+  abbrev pub GivenAll : Option (List Value) → tree.Exprs → (List Value → Act) → Store → ℕ → Type 0
   GivenAll None es next s t = Unit {0}
   GivenAll (Some vs) es next s t = OrWrong (run w env (with_args w (core_exprs loop es) next) s t) (run w env (next vs) s t) s t
 
@@ -70,7 +70,7 @@ module _ (w : World) (env : Env) (loop : Bool) where
   given_text (Some vs) es s t h = h
 
   -- where there are entries, what comes after the pairs has them
-  abbrev GivenPairs : Option (List (Text × Value)) → tree.Pairs → (List (Text × Value) → Act) → Store → ℕ → Type 0
+  abbrev pub GivenPairs : Option (List (Text × Value)) → tree.Pairs → (List (Text × Value) → Act) → Store → ℕ → Type 0
   GivenPairs None ps next s t = Unit {0}
   GivenPairs (Some vs) ps next s t = OrWrong (run w env (with_pairs w (core_pairs loop ps) next) s t) (run w env (next vs) s t) s t
 
@@ -110,7 +110,7 @@ module _ (w : World) (env : Env) (loop : Bool) where
     exprs_given tree.no_exprs next s t = is refl
     exprs_given (tree.expr e es) next s t = given_more (constant_value e) (constant_values es) e es next s t (expr_given e s t) (λ v. exprs_given es (λ vs. next (v ∷ vs)) s t)
 
-    pairs_given : (ps : tree.Pairs) (next : List (Text × Value) → Act) (s : Store) (t : ℕ) → GivenPairs (constant_entries ps) ps next s t
+    pub pairs_given : (ps : tree.Pairs) (next : List (Text × Value) → Act) (s : Store) (t : ℕ) → GivenPairs (constant_entries ps) ps next s t
     pairs_given tree.no_pairs next s t = is refl
     pairs_given (tree.pair n e ps) next s t = given_entry (constant_value e) (constant_entries ps) n e ps next s t (expr_given e s t) (λ v. pairs_given ps (λ vs. next ((n, v) ∷ vs)) s t)
 

@@ -22,6 +22,10 @@ use Rattle.rhai_rewriting.proofs.simulation.Setting.{Setting, Start, world, run_
 use Rattle.rhai_rewriting.proofs.simulation.Simulation.{Simulates, simulates_equal, simulates_or_stuck}
 use Rattle.rhai_rewriting.proofs.rules.Blocks.{scoped_deed}
 use Rattle.rhai_rewriting.proofs.rules.Constants.{OrWrong, or_stuck, constant_means, Given, expr_given, call_given}
+use Rattle.rhai_rewriting.proofs.rules.Logic as logic
+use Rattle.rhai_rewriting.proofs.rules.Texts as text
+use Rattle.rhai_rewriting.proofs.rules.Words as word
+use Rattle.rhai_rewriting.proofs.rules.Chains as chain
 use Rattle.rhai_rewriting.proofs.rules.Lasting.{Lasting}
 use Rattle.rhai_rewriting.proofs.rules.Obligation.{ExprObligation}
 
@@ -79,3 +83,28 @@ expr_rule (rule.array_of_constants h) = array_of_constants h
 expr_rule rule.braces_empty = braces_empty
 expr_rule rule.braces_of_expression = braces_of_expression
 expr_rule (rule.operator_folds h) = operator_folds h
+expr_rule (rule.and_changes h j) = logic.and_changes h j
+expr_rule (rule.or_changes h j) = logic.or_changes h j
+expr_rule (rule.coalesce_changes h j) = logic.coalesce_changes h j
+expr_rule rule.and_of_one = logic.and_of_one
+expr_rule rule.or_of_one = logic.or_of_one
+expr_rule rule.coalesce_of_one = logic.coalesce_of_one
+expr_rule rule.and_of_none = logic.and_of_none
+expr_rule rule.or_of_none = logic.or_of_none
+expr_rule rule.coalesce_of_none = logic.coalesce_of_none
+expr_rule (rule.text_changes h) = text.text_changes h
+expr_rule (rule.text_folds vs h) = text.text_folds vs h
+expr_rule (rule.map_of_constants vs h) = text.map_of_constants vs h
+expr_rule (rule.type_of_folds v h) = word.type_of_folds v h
+expr_rule (rule.is_shared_folds v h) = word.is_shared_folds v h
+expr_rule (rule.fn_folds f h j) = word.fn_folds f h j
+expr_rule (rule.curry_folds f us vs h j) = word.curry_folds f us vs h j
+expr_rule (rule.unit_ends_dot h j) = chain.unit_ends_dot h j
+expr_rule (rule.unit_ends_index h j) = chain.unit_ends_index h j
+expr_rule (rule.property_of_constant fs h) = chain.property_of_constant fs h
+expr_rule (rule.index_of_constant v j u h q r) = chain.index_of_constant v j u h q r
+expr_rule (rule.element_of_array n j h q r x) = chain.element_of_array n j h q r x
+expr_rule (rule.property_of_map h) = chain.property_of_map h
+expr_rule (rule.entry_of_map x h q) = chain.entry_of_map x h q
+expr_rule (rule.type_of_method v h q) = chain.type_of_method v h q
+expr_rule (rule.is_shared_method v h q) = chain.is_shared_method v h q

@@ -28,6 +28,10 @@ use Rattle.rhai_rewriting.proofs.rules.Blocks.{scoped_deed, scoped_list}
 use Rattle.rhai_rewriting.proofs.simulation.Unwanted.{before_any}
 use Rattle.rhai_rewriting.proofs.rules.Constants.{or_stuck, expr_given, branch_given}
 use Rattle.rhai_rewriting.proofs.rules.Expressions.{constant_light, constant_keeps, call_folds}
+use Rattle.rhai_rewriting.proofs.rules.Control as control
+use Rattle.rhai_rewriting.proofs.rules.Forgetting as forgetting
+use Rattle.rhai_rewriting.proofs.rules.Tables as tables
+use Rattle.rhai_rewriting.proofs.rules.Switches as switches
 use Rattle.rhai_rewriting.proofs.rules.Lasting.{Lasting}
 use Rattle.rhai_rewriting.proofs.rules.Obligation.{StmtObligation}
 
@@ -197,3 +201,12 @@ stmt_rule (rule.block_of_statement h) = block_of_statement h
 stmt_rule rule.statement_of_braces = statement_of_braces
 stmt_rule rule.statement_of_call = statement_of_call
 stmt_rule (rule.call_statement_folds h) = call_statement_folds h
+stmt_rule (rule.while_false h) = control.while_false h
+stmt_rule (rule.while_true h) = control.while_true h
+stmt_rule (rule.pure_try h) = control.pure_try h
+stmt_rule (rule.switch_answers v j js h q r x) = switches.switch_answers v j js h q r x
+stmt_rule (rule.switch_is_if v j h q r x) = switches.switch_is_if v j h q r x
+stmt_rule (rule.switch_defaults v h q) = switches.switch_defaults v h q
+stmt_rule (rule.switch_forgets j h q x) = forgetting.switch_forgets j h q x
+stmt_rule (rule.switch_narrows v h q d o x y) = tables.switch_narrows v h q d o x y
+stmt_rule (rule.switch_shrinks h q x y) = tables.switch_shrinks h q x y

@@ -71,6 +71,31 @@ expr_rule_at ks (rule.array_of_constants h) = rule.array_of_constants h
 expr_rule_at ks rule.braces_empty = rule.braces_empty
 expr_rule_at ks rule.braces_of_expression = rule.braces_of_expression
 expr_rule_at ks (rule.operator_folds h) = rule.operator_folds h
+expr_rule_at ks (rule.and_changes h j) = rule.and_changes h j
+expr_rule_at ks (rule.or_changes h j) = rule.or_changes h j
+expr_rule_at ks (rule.coalesce_changes h j) = rule.coalesce_changes h j
+expr_rule_at ks rule.and_of_one = rule.and_of_one
+expr_rule_at ks rule.or_of_one = rule.or_of_one
+expr_rule_at ks rule.coalesce_of_one = rule.coalesce_of_one
+expr_rule_at ks rule.and_of_none = rule.and_of_none
+expr_rule_at ks rule.or_of_none = rule.or_of_none
+expr_rule_at ks rule.coalesce_of_none = rule.coalesce_of_none
+expr_rule_at ks (rule.text_changes h) = rule.text_changes h
+expr_rule_at ks (rule.text_folds vs h) = rule.text_folds vs h
+expr_rule_at ks (rule.map_of_constants vs h) = rule.map_of_constants vs h
+expr_rule_at ks (rule.type_of_folds v h) = rule.type_of_folds v h
+expr_rule_at ks (rule.is_shared_folds v h) = rule.is_shared_folds v h
+expr_rule_at ks (rule.fn_folds f h j) = rule.fn_folds f h j
+expr_rule_at ks (rule.curry_folds f us vs h j) = rule.curry_folds f us vs h j
+expr_rule_at ks (rule.unit_ends_dot h j) = rule.unit_ends_dot h j
+expr_rule_at ks (rule.unit_ends_index h j) = rule.unit_ends_index h j
+expr_rule_at ks (rule.property_of_constant fs h) = rule.property_of_constant fs h
+expr_rule_at ks (rule.index_of_constant v j u h q r) = rule.index_of_constant v j u h q r
+expr_rule_at ks (rule.element_of_array n j h q r x) = rule.element_of_array n j h q r x
+expr_rule_at ks (rule.property_of_map h) = rule.property_of_map h
+expr_rule_at ks (rule.entry_of_map x h q) = rule.entry_of_map x h q
+expr_rule_at ks (rule.type_of_method v h q) = rule.type_of_method v h q
+expr_rule_at ks (rule.is_shared_method v h q) = rule.is_shared_method v h q
 
 stmt_rule_at : {k : Context} {w : Bool} (ks : List Known) {s s' : Stmt} → StmtRule k w s s' → StmtRule (knowing k ks) w s s'
 stmt_rule_at ks rule.if_without_blocks = rule.if_without_blocks
@@ -80,6 +105,15 @@ stmt_rule_at ks (rule.block_of_statement h) = rule.block_of_statement h
 stmt_rule_at ks rule.statement_of_braces = rule.statement_of_braces
 stmt_rule_at ks rule.statement_of_call = rule.statement_of_call
 stmt_rule_at ks (rule.call_statement_folds h) = rule.call_statement_folds h
+stmt_rule_at ks (rule.while_false h) = rule.while_false h
+stmt_rule_at ks (rule.while_true h) = rule.while_true h
+stmt_rule_at ks (rule.pure_try h) = rule.pure_try h
+stmt_rule_at ks (rule.switch_answers v j js h q r x) = rule.switch_answers v j js h q r x
+stmt_rule_at ks (rule.switch_is_if v j h q r x) = rule.switch_is_if v j h q r x
+stmt_rule_at ks (rule.switch_defaults v h q) = rule.switch_defaults v h q
+stmt_rule_at ks (rule.switch_forgets j h q x) = rule.switch_forgets j h q x
+stmt_rule_at ks (rule.switch_narrows v h q d o x y) = rule.switch_narrows v h q d o x y
+stmt_rule_at ks (rule.switch_shrinks h q x y) = rule.switch_shrinks h q x y
 
 list_rule_at : {k : Context} {m : ListKind} (ks : List Known) {ss ss' : Stmts} → ListRule k m ss ss' → ListRule (knowing k ks) m ss ss'
 list_rule_at ks (rule.block_gives_way h) = rule.block_gives_way h
