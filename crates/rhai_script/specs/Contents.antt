@@ -3,7 +3,6 @@ use Rattle.std.specs.Prelude.{List, [], ◌++◌, Option, None}
 use Rattle.rhai_values.specs.Value.{Text}
 use Rattle.rhai_ast.specs.declared.ast.stmt.Stmt.{Stmt}
 use Rattle.rhai_ast.specs.declared.ast.script_fn.ScriptFuncDef.{ScriptFuncDef}
-use Rattle.rhai_script.specs.declared.fn_lib.FnLib.{FnLib}
 use Rattle.rhai_script.specs.declared.ast.AST.{AST}
 use Rattle.rhai_script.specs.FnKey.{definition_key}
 use Rattle.rhai_script.specs.Table.{put_all_by}

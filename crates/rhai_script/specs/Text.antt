@@ -1,5 +1,5 @@
 -- Names and doc texts of scripts.
-use Rattle.std.specs.Prelude.{List, [], ◌∷◌, ◌++◌, Option, Some, None}
+use Rattle.std.specs.Prelude.{[], ◌∷◌, ◌++◌, Option, Some, None}
 use Rattle.rhai_values.specs.Value.{Text}
 
 -- an empty name is none

@@ -1,5 +1,5 @@
 //! The table of a script's functions.
-ghost use Rattle.std.specs.Prelude.{◌≡◌, [], length, map, ◌↔◌, IsTrue, IfOk, OnOk, OnErr, Option, None};
+ghost use Rattle.std.specs.Prelude.{◌≡◌, [], length, map, ◌↔◌, IsTrue, IfOk, OnOk, OnErr, None};
 ghost use Rattle.std.specs.Option.{option_copied, option_map};
 ghost use Rattle.std.specs.Rc.{rc_value};
 ghost use Rattle.rhai_ast.specs.Reading.{function_of};

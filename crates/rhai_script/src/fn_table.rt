@@ -1,5 +1,5 @@
 //! Functions by their keys.
-ghost use Rattle.std.specs.Prelude.{◌≡◌, ◌++◌, [], length, map, ◌↔◌, IsTrue, IfOk, OnOk, OnErr, Option, Some, None};
+ghost use Rattle.std.specs.Prelude.{◌≡◌, [], length, map, IsTrue, IfOk, OnOk, OnErr};
 ghost use Rattle.std.specs.Option.{option_copied, option_map};
 ghost use Rattle.std.specs.List.Retain.{IsFiltered};
 ghost use Rattle.std.specs.Rc.{rc_value};
