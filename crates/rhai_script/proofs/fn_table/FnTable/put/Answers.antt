@@ -2,7 +2,7 @@ use Rattle.std.proofs.Common.{ap, ◌∙◌}
 use Rattle.rhai_script.specs.FnKey.{fn_key_of, definition_key}
 use Rattle.rhai_script.specs.Table.{put_by}
 use Rattle.rhai_script.proofs.Tables.{functions-after, IsTable-after}
-use Rattle.rhai_script.proofs.fn_lib.FnLib.put.Goals as goal
+use Rattle.rhai_script.proofs.fn_table.FnTable.put.Goals as goal
 
 pub invariant_of-self-2 : goal.invariant_of-self-2
 invariant_of-self-2 c =
