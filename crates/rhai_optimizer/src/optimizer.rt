@@ -80,7 +80,7 @@ pub fn optimize_into_ast(
     ensures lighter { IfOk result (λ ast. weight (script_of ast).statements ≤ weight (stmts_of statements.items)) }
     ensures well_formed { IfOk result (λ ast. AreWellFormed outermost (stmts_of statements.items) → AreWellFormed outermost (script_of ast).statements) }
     ensures operators { IfOk result (λ ast. CallsOperatorsAlone (source_of statements.items functions.items) → CallsOperatorsAlone (script_of ast)) }
-    ensures functions { IfOk result (λ ast. ast.lib.value ≡ definitions_table (map rc_value functions.items)) }
+    ensures functions { IfOk result (λ ast. ast.lib.value.functions ≡ definitions_table (map rc_value functions.items)) }
     ensures kept { level ≡ OptimizationLevel.None → IfOk result (λ ast. ast.statements ≡ statements.items) }
 {
     let statements = optimized(alloc, info, statements, level)?;
