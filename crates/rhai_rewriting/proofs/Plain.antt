@@ -6,9 +6,9 @@ use Rattle.rhai_values.specs.Value.{Text, Value, UnitV, BoolV, IntV, CharV, Text
 use Rattle.rhai_base.specs.Operators as table
 use Rattle.rhai_base.specs.Operators.{Operator, Computed, NoEntry, Is, Overflows, fits, quotient, remainder, on_ints, on_bools, on_texts, on_chars, on_units, on_joined, on_from, on_to, on_different, binary, unary, computed}
 use Rattle.rhai_meaning.specs.Engine.{Engine, is_open, built_in}
-use Rattle.rhai_meaning.specs.Constants.{constant_values}
+use Rattle.rhai_meaning.specs.Constants.{computed_value, constant_values}
 use Rattle.rhai_meaning.specs.Tree.{CallToken, NoToken, OfOperator, OfOther, Callee, Exprs}
-use Rattle.rhai_rewriting.specs.Folding.{computed_value, folded_values, folded}
+use Rattle.rhai_rewriting.specs.Folding.{folded_values, folded}
 
 -- not a pointer
 abbrev pub is_plain_value : Value → Bool

@@ -1,16 +1,9 @@
 -- What operator calls over constants answer without asking the host.
 use Rattle.std.specs.Prelude.{List, Option, Some, None}
 use Rattle.rhai_values.specs.Value.{Value}
-use Rattle.rhai_base.specs.Operators.{Computed, NoEntry, Is, Overflows}
 use Rattle.rhai_meaning.specs.Engine.{Engine, built_in}
-use Rattle.rhai_meaning.specs.Constants.{constant_values}
+use Rattle.rhai_meaning.specs.Constants.{computed_value, constant_values}
 use Rattle.rhai_meaning.specs.Tree.{CallToken, OfOperator, Callee, Exprs}
-
--- a value alone: a fault is left to the run
-abbrev pub computed_value : Computed → Option Value
-computed_value NoEntry = None
-computed_value (Is v) = Some v
-computed_value Overflows = None
 
 abbrev pub folded_values : Engine → CallToken → Option (List Value) → Option Value
 folded_values engine (OfOperator op) (Some vs) = computed_value (built_in engine op vs)

@@ -6,14 +6,14 @@ use Rattle.rhai_meaning.specs.Engine.{built_in}
 use Rattle.rhai_meaning.specs.Act.{World, Store, Gives, WrongKind, IsStuck, Ended, Halted, Result, At, Act, Env, and_then, run}
 use Rattle.rhai_meaning.specs.ActForms.{give, value_then, branch, truth}
 use Rattle.rhai_meaning.specs.Calls.{of_table, called}
-use Rattle.rhai_meaning.specs.Constants.{array_value, value_and, constant_value, constant_values, truth_of, constant_for}
+use Rattle.rhai_meaning.specs.Constants.{computed_value, array_value, value_and, constant_value, constant_values, truth_of, constant_for}
 use Rattle.rhai_meaning.specs.Core.{OnOperator, Ill, Constant, ArrayOf, FnCall}
 use Rattle.rhai_meaning.specs.Desugar.{callee_by, core_expr, core_exprs}
 use Rattle.rhai_meaning.specs.Faults.{is_unit}
 use Rattle.rhai_meaning.specs.Meaning.{act, with_args}
 use Rattle.rhai_meaning.specs.Relations.{Begins, calls_of}
 use Rattle.rhai_meaning.specs.Tree as tree
-use Rattle.rhai_rewriting.specs.Folding.{computed_value, folded_values}
+use Rattle.rhai_rewriting.specs.Folding.{folded_values}
 use Rattle.rhai_rewriting.proofs.Plain.{is_plain_value}
 use Rattle.rhai_rewriting.proofs.simulation.Simulation.{OrStuck, equal, is_stuck}
 

@@ -4,7 +4,7 @@ use Rattle.rhai_values.specs.Value.{Value, UnitV}
 use Rattle.rhai_base.specs.Operators.{Operator, Computed, NoEntry, computed}
 use Rattle.rhai_meaning.specs.Act.{World, Store, Gives, WrongKind, Act, Scoped, Only, Env, run}
 use Rattle.rhai_meaning.specs.ActForms.{give, unit, ◌>>=◌, truth, branch, then_line}
-use Rattle.rhai_meaning.specs.Constants.{constant_value, constant_bool, constant_for}
+use Rattle.rhai_meaning.specs.Constants.{computed_value, constant_value, constant_bool, constant_for}
 use Rattle.rhai_meaning.specs.Core as core
 use Rattle.rhai_meaning.specs.Desugar.{core_expr, core_stmt, core_stmts}
 use Rattle.rhai_meaning.specs.Engine.{Engine, is_open}
@@ -16,7 +16,7 @@ use Rattle.rhai_meaning.proofs.Preserves.{preserves}
 use Rattle.rhai_meaning.proofs.Sequencing.{leave_same, SameRunAll, line_only, line_same, line_unit}
 use Rattle.rhai_meaning.specs.Walk.{Node, every, over_expr, over_stmt, over_stmts}
 use Rattle.rhai_rewriting.specs.Context.{Context}
-use Rattle.rhai_rewriting.specs.Folding.{computed_value, folded_values, folded}
+use Rattle.rhai_rewriting.specs.Folding.{folded_values, folded}
 use Rattle.rhai_rewriting.specs.Rules as rule
 use Rattle.rhai_rewriting.specs.Rules.{block_or_noop, chosen, condition_alone, StmtRule}
 use Rattle.rhai_rewriting.specs.Weight.{expr_weight, exprs_weight, stmt_weight, weight}
