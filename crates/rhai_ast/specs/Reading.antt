@@ -1,5 +1,5 @@
 -- The tree that a declared tree stands for.
-use Rattle.std.specs.Prelude.{◌≡◌, ℕ, ℤ, Bool, List, map, Option, Some, None}
+use Rattle.std.specs.Prelude.{[], ◌≡◌, ℕ, ℤ, Bool, List, map, Option, Some, None}
 use Rattle.std.proofs.Common.{sym, ap, ◌∙◌, subst}
 use Rattle.rhai_values.specs.declared.dynamic.Dynamic.{Dynamic}
 use Rattle.rhai_tokens.specs.declared.position.Position.{Position}
@@ -64,13 +64,13 @@ abbrev flow_step : open_one.FlowControl-F Expr Stmt CallParts ChoiceParts Stmts 
 flow_step f = record { condition = f.expr; body = f.body; branch = f.branch }
 
 abbrev call_step : open_one.FnCallExpr-F Expr Stmt CallParts ChoiceParts Stmts → CallParts
-call_step c = record { callee = record { name = c.name; captures = c.capture_parent_scope; token = mark_of c.op_token }; args = exprs c.args }
+call_step c = record { callee = record { namespace = []; name = c.name; captures = c.capture_parent_scope; token = mark_of c.op_token }; args = exprs c.args }
 
 abbrev block_step : open_one.StmtBlock-F Expr Stmt CallParts ChoiceParts Stmts → Stmts
 block_step b = stmts b.block
 
 abbrev pub callee_of : FnCallExpr → Callee
-callee_of c = record { name = c.name; captures = c.capture_parent_scope; token = mark_of c.op_token }
+callee_of c = record { namespace = []; name = c.name; captures = c.capture_parent_scope; token = mark_of c.op_token }
 
 pub expr_of : declared_expr.Expr → Expr
 expr_of = folds.fold-Expr Expr Stmt CallParts ChoiceParts Stmts expr_step stmt_step call_step flow_step block_step

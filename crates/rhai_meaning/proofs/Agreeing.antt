@@ -74,8 +74,8 @@ module _ (h h' : Host) where
         same_run (Turn a) s t q = same_turn t s _ _ (λ t1. same_run a s t1) q
         same_run (Read (OfName x)) s t q = refl
         same_run (Read OfThis) s t q = refl
-        same_run (Write (OfName x) v) s t q = refl
-        same_run (Write OfThis v) s t q = refl
+        same_run (Write must (OfName x) v) s t q = refl
+        same_run (Write must OfThis v) s t q = refl
         same_run (AskHost c next) s t q =
             let s1 = record s { calls = s.calls ++ c ∷ [] } in
             let b = (preserves w env g.adds (next (h.answer s.calls c)) s1 t).calls in

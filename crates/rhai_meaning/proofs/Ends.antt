@@ -146,7 +146,7 @@ ends_turn_at : (p : Run) (s : Store) (o : Outcome) (s' : Store) → Ends p s o s
 ends_turn_at p s o s' x turns d zero n h lt = absurd (omega arith)
 ends_turn_at p s o s' x turns d (suc t) n h lt = h t (omega arith)
 
-ends_turn : (p : Run) (s : Store) (o : Outcome) (s' : Store) → Ends p s o s' → Ends (λ d s t. with_turn t s (p d)) s o s'
+pub ends_turn : (p : Run) (s : Store) (o : Outcome) (s' : Store) → Ends p s o s' → Ends (λ d s t. with_turn t s (p d)) s o s'
 ends_turn p s o s' x = record {
   depth = x.depth;
   turns = suc x.turns;

@@ -8,4 +8,9 @@ pub mod Agreeing
 pub mod Depths
 pub mod SameActs
 pub mod Small
+pub mod PureActs
+pub mod PureTrees
+pub mod PurityLaws
+pub mod LiteralLaws
+pub mod FaultLaws
 pub mod Rows

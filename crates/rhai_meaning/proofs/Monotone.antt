@@ -58,21 +58,22 @@ module _ (U : Halt → Type 0) (out : U OutOfTurns) (k : ℕ) where
   follow_read_root w (OfName x) s t t' le = follow_read (found w.engine.constants s.scope x) s t t' le
   follow_read_root w OfThis s t t' le = follow_read_this s.this s t t' le
 
-  follow_write_at : (b : Bool) (x : Text) (v : Value) (s : Store) (t t' : ℕ) → t + k ≤ t' → Follows U k (write_at b x v s t) (write_at b x v s t')
-  follow_write_at true x v s t t' le = same le
-  follow_write_at false x v s t t' le = same le
+  follow_write_at : (must b : Bool) (x : Text) (v : Value) (s : Store) (t t' : ℕ) → t + k ≤ t' → Follows U k (write_at must b x v s t) (write_at must b x v s t')
+  follow_write_at true true x v s t t' le = same le
+  follow_write_at false true x v s t t' le = same le
+  follow_write_at must false x v s t t' le = same le
 
-  follow_write : (o : Option ScopeEntry) (x : Text) (v : Value) (s : Store) (t t' : ℕ) → t + k ≤ t' → Follows U k (write o x v s t) (write o x v s t')
-  follow_write None x v s t t' le = same le
-  follow_write (Some e) x v s t t' le = follow_write_at e.constant x v s t t' le
+  follow_write : (must : Bool) (o : Option ScopeEntry) (x : Text) (v : Value) (s : Store) (t t' : ℕ) → t + k ≤ t' → Follows U k (write must o x v s t) (write must o x v s t')
+  follow_write must None x v s t t' le = same le
+  follow_write must (Some e) x v s t t' le = follow_write_at must e.constant x v s t t' le
 
   follow_write_this : (o : Option Value) (v : Value) (s : Store) (t t' : ℕ) → t + k ≤ t' → Follows U k (write_this o v s t) (write_this o v s t')
   follow_write_this None v s t t' le = same le
   follow_write_this (Some u) v s t t' le = same le
 
-  follow_write_root : (w : World) (r : Root) (v : Value) (s : Store) (t t' : ℕ) → t + k ≤ t' → Follows U k (write_root w r v s t) (write_root w r v s t')
-  follow_write_root w (OfName x) v s t t' le = follow_write (found w.engine.constants s.scope x) x v s t t' le
-  follow_write_root w OfThis v s t t' le = follow_write_this s.this v s t t' le
+  follow_write_root : (w : World) (must : Bool) (r : Root) (v : Value) (s : Store) (t t' : ℕ) → t + k ≤ t' → Follows U k (write_root w must r v s t) (write_root w must r v s t')
+  follow_write_root w must (OfName x) v s t t' le = follow_write must (found w.engine.constants s.scope x) x v s t t' le
+  follow_write_root w must OfThis v s t t' le = follow_write_this s.this v s t t' le
 
   abbrev Rising : Action → Action → Type 0
   Rising a b = (s : Store) (t t' : ℕ) → t + k ≤ t' → Follows U k (a s t) (b s t')
@@ -111,7 +112,7 @@ module _ (U : Halt → Type 0) (out : U OutOfTurns) (k : ℕ) where
           follow_then (λ s. Unit {0}) (monotone a s t t' le) tt _ _ (λ e s1 t1 t1' q le1. monotone (next e) s1 t1 t1' le1) (λ e s1 t1. (preserves w env' deep.adds (next e) s1 t1).calls)
       monotone (Turn a) s t t' le = follow_turn s t t' le _ _ (λ t1 t1' le1. monotone a s t1 t1' le1) (λ s1 t1. (preserves w env' deep.adds a s1 t1).calls)
       monotone (Read r) s t t' le = follow_read_root w r s t t' le
-      monotone (Write r v) s t t' le = follow_write_root w r v s t t' le
+      monotone (Write must r v) s t t' le = follow_write_root w must r v s t t' le
       monotone (AskHost c next) s t t' le = monotone (next (w.host.answer s.calls c)) (record s { calls = s.calls ++ c ∷ [] }) t t' le
       monotone (Invoke a next) s t t' le = follow_call s (deep.invoke a s.scope s.calls t t' le) _ _ (λ v u cs t1 t1' le1. monotone (next v u) _ t1 t1' le1) (λ v u s1 t1. (preserves w env' deep.adds (next v u) s1 t1).calls)
       monotone (Loop a) s t t' le = follow_rounds (λ s. Unit {0}) env.rounds env'.rounds deep.rounds _ _ (λ s1 t1 t1' q le1. monotone a s1 t1 t1' le1) (λ s1 t1 q. tt) (λ s1 t1. preserves w env' deep.adds a s1 t1) s t t' tt le

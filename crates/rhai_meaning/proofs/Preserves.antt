@@ -2,8 +2,9 @@
 use Rattle.std.proofs.Common.{◌≡◌, ℕ, zero, suc, ◌-◌, ◌≤◌, Bool, true, false, cond, List, [], ◌∷◌, ◌++◌, length, drop, Option, Some, None, refl, sym, ap, ◌∙◌, subst, arith}
 use Rattle.rhai_values.specs.Value.{Text, Value, same_text}
 use Rattle.rhai_meaning.specs.Engine.{Binding}
-use Rattle.rhai_meaning.specs.Act.{ScopeEntry, HostCall, Store, World, Again, Ending, Gives, Leaves, Ended, Halted, Result, At, Root, OfName, OfThis, ScriptCall, Act, Stop, Fail, Then, Turn, Read, Write, AskHost, Invoke, Loop, Scoped, Acts, Only, Do, Named, Finish, Env, and_then, with_turn, found, put, read, read_this, read_root, write_at, write, write_this, write_root, restore, leave, call_then, returned, on_again, rounds, run, run_all}
+use Rattle.rhai_meaning.specs.Act.{ScopeEntry, HostCall, Store, World, Again, Ending, Gives, Leaves, Ended, Halted, Result, At, Root, OfName, OfThis, Act, Stop, Fail, Then, Turn, Read, Write, AskHost, Invoke, Loop, Scoped, Acts, Only, Do, Named, Finish, Env, and_then, with_turn, found, put, read, read_this, read_root, write_at, write, write_this, write_root, restore, leave, call_then, returned, on_again, rounds, run, run_all}
 use Rattle.rhai_meaning.specs.Relations.{Begins, here, more, calls_of, store_of}
+pub use Rattle.rhai_meaning.specs.Relations.{OnlyAdds}
 use Rattle.rhai_meaning.proofs.Relations.{Keeps, none, one, changed, Grows, kept, pushed}
 
 pub begins_trans : {bs cs ds : List HostCall} → Begins bs cs → Begins cs ds → Begins bs ds
@@ -90,7 +91,7 @@ grows_tail (kept (one p)) = pushed (kept p)
 grows_tail (kept (changed c p)) = pushed (kept p)
 grows_tail (pushed p) = pushed (grows_tail p)
 
-restore_pushed : (es fs : List ScopeEntry) (y : ScopeEntry) → Grows es fs → restore es (y ∷ fs) ≡ restore es fs
+pub restore_pushed : (es fs : List ScopeEntry) (y : ScopeEntry) → Grows es fs → restore es (y ∷ fs) ≡ restore es fs
 restore_pushed es fs y p =
     let e : length (y ∷ fs) - length es ≡ suc (length fs - length es) = omega (arith, length_grows p) in
     ap (λ n. drop n (y ∷ fs)) e
@@ -122,13 +123,14 @@ preserves_read_this : (o : Option Value) (s : Store) (t : ℕ) → After Keeps s
 preserves_read_this None s t = after_same s
 preserves_read_this (Some v) s t = after_same s
 
-preserves_write_at : (bs : List Binding) (b : Bool) (e : ScopeEntry) (x : Text) (v : Value) (s : Store) (t : ℕ) → e.constant ≡ b → found bs s.scope x ≡ Some e → After Keeps s (store_of (write_at b x v s t))
-preserves_write_at bs true e x v s t c f = after_same s
-preserves_write_at bs false e x v s t c f = record { calls = here; scope = put_keeps bs s.scope x v e f c }
+preserves_write_at : (bs : List Binding) (must b : Bool) (e : ScopeEntry) (x : Text) (v : Value) (s : Store) (t : ℕ) → e.constant ≡ b → found bs s.scope x ≡ Some e → After Keeps s (store_of (write_at must b x v s t))
+preserves_write_at bs true true e x v s t c f = after_same s
+preserves_write_at bs false true e x v s t c f = after_same s
+preserves_write_at bs must false e x v s t c f = record { calls = here; scope = put_keeps bs s.scope x v e f c }
 
-preserves_write : (bs : List Binding) (o : Option ScopeEntry) (x : Text) (v : Value) (s : Store) (t : ℕ) → found bs s.scope x ≡ o → After Keeps s (store_of (write o x v s t))
-preserves_write bs None x v s t f = after_same s
-preserves_write bs (Some e) x v s t f = preserves_write_at bs e.constant e x v s t refl f
+preserves_write : (bs : List Binding) (must : Bool) (o : Option ScopeEntry) (x : Text) (v : Value) (s : Store) (t : ℕ) → found bs s.scope x ≡ o → After Keeps s (store_of (write must o x v s t))
+preserves_write bs must None x v s t f = after_same s
+preserves_write bs must (Some e) x v s t f = preserves_write_at bs must e.constant e x v s t refl f
 
 preserves_write_this : (o : Option Value) (v : Value) (s : Store) (t : ℕ) → After Keeps s (store_of (write_this o v s t))
 preserves_write_this None v s t = after_same s
@@ -138,9 +140,9 @@ preserves_read_root : (w : World) (r : Root) (s : Store) (t : ℕ) → After Kee
 preserves_read_root w (OfName x) s t = preserves_read (found w.engine.constants s.scope x) s t
 preserves_read_root w OfThis s t = preserves_read_this s.this s t
 
-preserves_write_root : (w : World) (r : Root) (v : Value) (s : Store) (t : ℕ) → After Keeps s (store_of (write_root w r v s t))
-preserves_write_root w (OfName x) v s t = preserves_write w.engine.constants (found w.engine.constants s.scope x) x v s t refl
-preserves_write_root w OfThis v s t = preserves_write_this s.this v s t
+preserves_write_root : (w : World) (must : Bool) (r : Root) (v : Value) (s : Store) (t : ℕ) → After Keeps s (store_of (write_root w must r v s t))
+preserves_write_root w must (OfName x) v s t = preserves_write w.engine.constants must (found w.engine.constants s.scope x) x v s t refl
+preserves_write_root w must OfThis v s t = preserves_write_this s.this v s t
 
 preserves_leave : (s : Store) (r : Result) → After Grows s (store_of r) → After Keeps s (store_of (leave s.scope r))
 preserves_leave s (At o s1 t1) p = record { calls = p.calls; scope = restore_grows p.scope }
@@ -148,10 +150,6 @@ preserves_leave s (At o s1 t1) p = record { calls = p.calls; scope = restore_gro
 preserves_call : (s : Store) (r : Result) → Begins s.calls (calls_of r) → (next : Value → Option Value → Store → ℕ → Result) → ((v : Value) (u : Option Value) (s1 : Store) (t1 : ℕ) → After Keeps s1 (store_of (next v u s1 t1))) → After Keeps s (store_of (call_then s r next))
 preserves_call s (At (Ended (Gives v)) s1 t1) p next h = let q = h v s1.this (record s { calls = s1.calls }) t1 in record { calls = begins_trans p q.calls; scope = q.scope }
 preserves_call s (At o s1 t1) p next h = record { calls = p; scope = keeps_refl s.scope }
-
--- a script call adds calls alone
-abbrev pub OnlyAdds : Env → Type 0
-OnlyAdds env = (a : ScriptCall) (scope : List ScopeEntry) (calls : List HostCall) (t : ℕ) → Begins calls (calls_of (env.invoke a scope calls t))
 
 module _ (w : World) (env : Env) (adds : OnlyAdds env) where
   mutual
@@ -161,7 +159,7 @@ module _ (w : World) (env : Env) (adds : OnlyAdds env) where
     preserves (Then a next) s t = preserves_then Keeps keeps_weaker s (run w env a s t) (preserves a s t) _ (λ e s1 t1. preserves (next e) s1 t1)
     preserves (Turn a) s t = preserves_turn t s _ (λ t1. preserves a s t1)
     preserves (Read r) s t = preserves_read_root w r s t
-    preserves (Write r v) s t = preserves_write_root w r v s t
+    preserves (Write must r v) s t = preserves_write_root w must r v s t
     preserves (AskHost c next) s t =
         let q = preserves (next (w.host.answer s.calls c)) (record s { calls = s.calls ++ c ∷ [] }) t in
         record { calls = more c q.calls; scope = q.scope }

@@ -1,12 +1,12 @@
 -- The laws of sequencing: unit, associativity and extensionality, of results, of acts by their value, and of lists; what
 -- leaves takes nothing of what follows with it. Braces and the end of a body pass through.
-use Rattle.std.proofs.Common.{◌≡◌, ℕ, ◌-◌, List, length, drop, refl, ap, ◌∙◌}
-use Rattle.rhai_values.specs.Value.{Value}
-use Rattle.rhai_meaning.specs.Act.{ScopeEntry, Store, World, Exit, Ending, Gives, Leaves, Ended, Halted, Result, At, Act, Stop, Then, Scoped, Acts, Only, Do, Finish, Env, and_then, leave, returned, run, run_all}
+use Rattle.std.proofs.Common.{◌≡◌, ℕ, ◌-◌, Bool, List, ◌∷◌, length, drop, refl, ap, ◌∙◌}
+use Rattle.rhai_values.specs.Value.{Text, Value}
+use Rattle.rhai_meaning.specs.Act.{ScopeEntry, Store, World, Exit, Ending, Gives, Leaves, Ended, Halted, Result, At, Act, Stop, Then, Scoped, Acts, Only, Do, Named, Finish, Env, and_then, leave, returned, run, run_all}
 use Rattle.rhai_meaning.specs.ActForms.{give, value_then, ◌>>=◌, each_value, then_line}
 use Rattle.rhai_meaning.specs.Relations.{store_of}
-use Rattle.rhai_meaning.proofs.Relations.{Keeps}
-use Rattle.rhai_meaning.proofs.Preserves.{OnlyAdds, keeps_refl, length_keeps, preserves, restore_keeps}
+use Rattle.rhai_meaning.proofs.Relations.{Keeps, Grows}
+use Rattle.rhai_meaning.proofs.Preserves.{OnlyAdds, keeps_refl, length_keeps, preserves, restore_keeps, restore_twice, preserves_all}
 use Rattle.rhai_meaning.proofs.Monotone.{Action}
 
 -- ---- results, and what comes after by how they end
@@ -46,6 +46,10 @@ leave_then es (At (Halted h) s t) next k = leave_kept es (At (Halted h) s t) k
 pub returned_then : (r : Result) (next : Ending → Action) → returned (and_then r next) ≡ and_then r (λ e s t. returned (next e s t))
 returned_then (At (Ended e) s t) next = refl
 returned_then (At (Halted h) s t) next = refl
+
+-- names of a list in a list may be taken away one by one
+leave_twice : (es : List ScopeEntry) (x : ScopeEntry) (r : Result) → Grows (x ∷ es) (store_of r).scope → leave es r ≡ leave es (leave (x ∷ es) r)
+leave_twice es x (At o s t) g = ap (λ fs. At o (record s { scope = fs }) t) (restore_twice es s.scope x g)
 
 -- ---- acts and lists in one world
 
@@ -123,6 +127,13 @@ module _ (w : World) (env : Env) where
     scoped_do a next s t =
         let k = (preserves w env adds a s t).scope in
         leave_then s.scope (run w env a s t) _ k ∙ then_same_at (λ s1. Keeps s.scope s1.scope) (run w env a s t) _ _ k (λ e s1 t1 q. leave_by s.scope s1.scope q (run_all w env (next e) s1 t1))
+
+    -- a name may be taken away by itself
+    pub scoped_named : (x : Text) (c : Bool) (v : Value) (p : Acts) → SameRun (Scoped (Named x c v p)) (Scoped (Named x c v (Only (Scoped p))))
+    scoped_named x c v p s t =
+        let e : ScopeEntry = record { name = x; constant = c; value = v } in
+        let s1 : Store = record s { scope = e ∷ s.scope } in
+        leave_twice s.scope e (run_all w env p s1 t) (preserves_all w env adds p s1 t).scope
 
   -- the end of a body: an act may stand before it
   pub finish_do : (a : Act) (next : Ending → Acts) → SameRunAll (Finish (Do a next)) (Do a (λ e. Finish (next e)))

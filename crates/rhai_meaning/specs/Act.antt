@@ -99,8 +99,8 @@ mutual
     Turn : Act → Act
     -- gives the value of a name or of `this`
     Read : Root → Act
-    -- replaces it, and gives unit
-    Write : Root → Value → Act
+    -- replaces it, and gives unit; a constant that must be written is stuck, and else stays as it is
+    Write : Bool → Root → Value → Act
     -- asks the host
     AskHost : HostCall → (Answer → Act) → Act
     -- calls a script function; goes on with its value and its last `this`
@@ -151,21 +151,23 @@ abbrev pub read_root : World → Root → Store → ℕ → Result
 read_root w (OfName x) st t = read (found w.engine.constants st.scope x) st t
 read_root w OfThis st t = read_this st.this st t
 
-abbrev pub write_at : Bool → Text → Value → Store → ℕ → Result
-write_at true x v st t = At (Halted (IsStuck WriteToConstant)) st t
-write_at false x v st t = At (Ended (Gives UnitV)) (record st { scope = put st.scope x v }) t
+-- by whether it must be written, and whether it is a constant
+abbrev pub write_at : Bool → Bool → Text → Value → Store → ℕ → Result
+write_at true true x v st t = At (Halted (IsStuck WriteToConstant)) st t
+write_at false true x v st t = At (Ended (Gives UnitV)) st t
+write_at must false x v st t = At (Ended (Gives UnitV)) (record st { scope = put st.scope x v }) t
 
-abbrev pub write : Option ScopeEntry → Text → Value → Store → ℕ → Result
-write None x v st t = At (Halted (IsStuck Unbound)) st t
-write (Some e) x v st t = write_at e.constant x v st t
+abbrev pub write : Bool → Option ScopeEntry → Text → Value → Store → ℕ → Result
+write must None x v st t = At (Halted (IsStuck Unbound)) st t
+write must (Some e) x v st t = write_at must e.constant x v st t
 
 abbrev pub write_this : Option Value → Value → Store → ℕ → Result
 write_this None v st t = At (Halted (IsStuck UnboundThis)) st t
 write_this (Some u) v st t = At (Ended (Gives UnitV)) (record st { this = Some v }) t
 
-abbrev pub write_root : World → Root → Value → Store → ℕ → Result
-write_root w (OfName x) v st t = write (found w.engine.constants st.scope x) x v st t
-write_root w OfThis v st t = write_this st.this v st t
+abbrev pub write_root : World → Bool → Root → Value → Store → ℕ → Result
+write_root w must (OfName x) v st t = write must (found w.engine.constants st.scope x) x v st t
+write_root w must OfThis v st t = write_this st.this v st t
 
 -- a block takes its names away
 abbrev pub restore : List ScopeEntry → List ScopeEntry → List ScopeEntry
@@ -209,7 +211,7 @@ abbrev mutual
   run w env (Then a next) st t = and_then (run w env a st t) (λ e. run w env (next e))
   run w env (Turn a) st t = with_turn t st (run w env a)
   run w env (Read r) st t = read_root w r st t
-  run w env (Write r v) st t = write_root w r v st t
+  run w env (Write must r v) st t = write_root w must r v st t
   run w env (AskHost c next) st t = run w env (next (w.host.answer st.calls c)) (record st { calls = st.calls ++ c ∷ [] }) t
   run w env (Invoke a next) st t = call_then st (env.invoke a st.scope st.calls t) (λ v u. run w env (next v u))
   run w env (Loop a) st t = rounds env.rounds (run w env a) st t

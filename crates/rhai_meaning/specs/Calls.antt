@@ -2,9 +2,9 @@
 use Rattle.std.specs.Prelude.{ℕ, Bool, true, false, ◌&&◌, ◌||◌, List, [], ◌∷◌, ◌++◌, length, Option, Some, None, cond, codes, ◌==◌}
 use Rattle.rhai_values.specs.Value.{Text, Value, BoolV, TextV, PointerV, items, values, same_text}
 use Rattle.rhai_base.specs.Operators.{Operator, Computed, NoEntry, Is, Overflows, symbol}
-use Rattle.rhai_meaning.specs.Engine.{built_in, mapped_type_name}
+use Rattle.rhai_meaning.specs.Engine.{built_in, asks_assigning, assigning, mapped_type_name}
 use Rattle.rhai_meaning.specs.Act.{WrongKind, Key, World, Act, Fail, Invoke}
-use Rattle.rhai_meaning.specs.Core.{Callee, OnOperator, ByName}
+use Rattle.rhai_meaning.specs.Core.{Callee, OnOperator, Qualified, ByName}
 use Rattle.rhai_parts.specs.Names.{is_valid_name}
 use Rattle.rhai_meaning.specs.ActForms.{give, throw, choose, ask_host}
 
@@ -17,6 +17,12 @@ of_table f vs Overflows = throw (codes "arithmetic")
 
 abbrev pub operate : World → Operator → List Value → Act
 operate w op vs = of_table (symbol op) vs (built_in w.engine op vs)
+
+-- `old op= new`, and `=`
+abbrev pub assigned : World → Option Operator → Value → Value → Act
+assigned w None old new = give new
+assigned w (Some op) old new =
+    choose (asks_assigning w.engine op (old ∷ new ∷ [])) (ask_host (assigning op) (old ∷ new ∷ [])) (operate w op (old ∷ new ∷ []))
 
 -- ---- function pointers
 
@@ -88,4 +94,5 @@ call_word w captures f _ vs = call_named w captures f vs
 
 abbrev pub called : World → Callee → List Value → Act
 called w (OnOperator op) vs = operate w op vs
+called w (Qualified f) vs = ask_host f vs
 called w (ByName f captures) vs = call_word w captures f (word f) vs

@@ -1,19 +1,36 @@
--- Constants, their values, and the constant for a value.
+-- Constants and literals, their values, and the constant for a value.
 use Rattle.std.specs.Prelude.{Bool, true, false, List, [], ◌∷◌, Option, Some, None, codes, is_some, if◌then◌else◌}
-use Rattle.rhai_meaning.specs.Engine.{or_else}
-use Rattle.rhai_parts.specs.Names.{is_valid_name}
-use Rattle.rhai_values.specs.Value.{Text, Value, UnitV, BoolV, IntV, CharV, TextV, ArrayV, PointerV, no_values, values, same_text}
+use Rattle.rhai_values.specs.Value.{Text, Value, UnitV, BoolV, IntV, CharV, TextV, ArrayV, MapV, PointerV, no_values, values, same_text}
 use Rattle.rhai_base.specs.Operators.{Operator, UpTo, Through, Computed, NoEntry, Is, Overflows, binary}
+use Rattle.rhai_parts.specs.Names.{is_valid_name}
 use Rattle.rhai_meaning.specs.ActForms.{truth}
-use Rattle.rhai_meaning.specs.Tree.{NoToken, Expr, DynamicConstant, BoolConstant, IntegerConstant, CharConstant, StringConstant, UnitConstant, ArrayOf, FnCall, Exprs, no_exprs, expr}
+use Rattle.rhai_meaning.specs.Control.{texts_joined}
+use Rattle.rhai_meaning.specs.Elements.{fields_of}
+use Rattle.rhai_meaning.specs.Engine.{or_else}
+use Rattle.rhai_meaning.specs.Shape.{is_none}
+use Rattle.rhai_meaning.specs.Tree.{NoToken, Expr, DynamicConstant, BoolConstant, IntegerConstant, CharConstant, StringConstant, UnitConstant, InterpolatedString, ArrayOf, MapOf, FnCall, Exprs, no_exprs, expr, Pairs, no_pairs, pair}
+
+-- ---- constants
 
 abbrev pub array_value : Option (List Value) → Option Value
 array_value (Some vs) = Some (ArrayV (values vs))
 array_value None = None
 
+abbrev pub map_value : Option (List (Text × Value)) → Option Value
+map_value (Some vs) = Some (MapV (fields_of vs))
+map_value None = None
+
+abbrev pub joined_value : Option (List Value) → Option Value
+joined_value (Some vs) = Some (TextV (texts_joined vs))
+joined_value None = None
+
 abbrev pub value_and : Option Value → Option (List Value) → Option (List Value)
 value_and (Some v) (Some vs) = Some (v ∷ vs)
 value_and _ _ = None
+
+abbrev pub entry_and : Text → Option Value → Option (List (Text × Value)) → Option (List (Text × Value))
+entry_and k (Some v) (Some vs) = Some ((k, v) ∷ vs)
+entry_and k _ _ = None
 
 -- the value of a constant; None: no constant
 abbrev mutual
@@ -24,12 +41,18 @@ abbrev mutual
   constant_value (CharConstant c) = Some (CharV c)
   constant_value (StringConstant t) = Some (TextV t)
   constant_value UnitConstant = Some UnitV
+  constant_value (InterpolatedString es) = joined_value (constant_values es)
   constant_value (ArrayOf es) = array_value (constant_values es)
+  constant_value (MapOf ps template) = map_value (constant_entries ps)
   constant_value _ = None
 
   pub constant_values : Exprs → Option (List Value)
   constant_values no_exprs = Some []
   constant_values (expr e es) = value_and (constant_value e) (constant_values es)
+
+  pub constant_entries : Pairs → Option (List (Text × Value))
+  constant_entries no_pairs = Some []
+  constant_entries (pair k e ps) = entry_and k (constant_value e) (constant_entries ps)
 
 abbrev pub is_constant : Expr → Bool
 is_constant e = is_some (constant_value e)
@@ -49,9 +72,11 @@ abbrev pub is_literal_unit : Expr → Bool
 is_literal_unit UnitConstant = true
 is_literal_unit _ = false
 
+-- ---- the constant for a value
+
 -- the call that makes a pointer to the function of a name
 abbrev pub pointer_call : Text → Expr
-pointer_call f = FnCall (record { name = codes "Fn"; captures = false; token = NoToken }) (expr (StringConstant f) no_exprs)
+pointer_call f = FnCall (record { namespace = []; name = codes "Fn"; captures = false; token = NoToken }) (expr (StringConstant f) no_exprs)
 
 -- the expression for a value: a constant, but for a pointer without values, which is the call that makes it
 abbrev pub constant_for : Value → Expr
@@ -99,8 +124,9 @@ named_value f (expr d (expr e no_exprs)) =
     else None
 named_value f _ = None
 
+-- a call under a namespace is none
 abbrev pub call_value : Expr → Option Value
-call_value (FnCall c es) = named_value c.name es
+call_value (FnCall c es) = if is_none c.namespace then named_value c.name es else None
 call_value _ = None
 
 -- the value of a literal; None: no literal

@@ -1,7 +1,7 @@
 -- The engine's record: what it fixes for every script.
-use Rattle.std.specs.Prelude.{Bool, true, false, not, ◌&&◌, ◌||◌, List, [], ◌∷◌, map, Option, Some, None, if◌then◌else◌}
+use Rattle.std.specs.Prelude.{Bool, true, false, not, ◌&&◌, ◌||◌, List, [], ◌∷◌, ◌++◌, map, Option, Some, None, if◌then◌else◌, codes}
 use Rattle.rhai_values.specs.Value.{Text, Value, type_name, same_text}
-use Rattle.rhai_base.specs.Operators.{Operator, Computed, NoEntry, computed, symbol, is_range}
+use Rattle.rhai_base.specs.Operators.{Operator, Computed, NoEntry, Is, Overflows, computed, symbol, is_range}
 
 pub record Binding : Type 0 where
   pub name : Text
@@ -60,3 +60,16 @@ is_open e op vs = is_range op || e.fast_operators || not (is_overridden e (symbo
 
 abbrev pub built_in : Engine → Operator → List Value → Computed
 built_in e op vs = if is_open e op vs then computed op vs else NoEntry
+
+abbrev pub has_entry : Computed → Bool
+has_entry NoEntry = false
+has_entry (Is v) = true
+has_entry Overflows = true
+
+-- how `op=` is written
+abbrev pub assigning : Operator → Text
+assigning op = symbol op ++ codes "="
+
+-- whether `op=` is a host call of that name
+abbrev pub asks_assigning : Engine → Operator → List Value → Bool
+asks_assigning e op vs = is_overridden e (assigning op) vs && not (e.fast_operators && has_entry (computed op vs))

@@ -13,10 +13,10 @@ abbrev pub int : ℕ → Expr
 int n = IntegerConstant (pos n)
 
 abbrev pub op : Operator → List Expr → Expr
-op o es = FnCall (record { name = symbol o; captures = false; token = OfOperator o }) (exprs es)
+op o es = FnCall (record { namespace = []; name = symbol o; captures = false; token = OfOperator o }) (exprs es)
 
 abbrev pub call : String → List Expr → Expr
-call f es = FnCall (record { name = codes f; captures = false; token = NoToken }) (exprs es)
+call f es = FnCall (record { namespace = []; name = codes f; captures = false; token = NoToken }) (exprs es)
 
 abbrev pub nothing_set : Engine
 nothing_set = record { constants = []; overrides = []; type_names = []; fast_operators = false }

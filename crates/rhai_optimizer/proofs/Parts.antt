@@ -13,7 +13,7 @@ use Rattle.rhai_rewriting.specs.Rewriting.{ExprTo, same_expr, then_expr, in_call
 use Rattle.rhai_rewriting.specs.Steps.{ExprRun, ExprStep, StmtRun, StmtStep, EachRun, StmtsRun}
 use Rattle.rhai_rewriting.specs.Residue.{ExprParts, StmtParts}
 use Rattle.rhai_optimizer.specs.Parts.{ExprPartsRun, StmtPartsRun}
-use Rattle.rhai_rewriting.specs.Weight.{weight}
+use Rattle.rhai_meaning.specs.Weight.{weight}
 use Rattle.rhai_rewriting.proofs.Weights.{stmts_fall}
 use Rattle.rhai_rewriting.proofs.Flags.{expr_kept, stmt_kept, stmts_kept}
 

@@ -7,7 +7,7 @@ use Rattle.rhai_ast.specs.Reading.{expr_of, exprs_of, stmt_of, stmts_of}
 use Rattle.rhai_rewriting.specs.Context.{Context, ListKind, wanted, wanted_before}
 use Rattle.rhai_rewriting.specs.Rewriting.{exprs_none, exprs_more, same_stmts, then_stmts, in_head, in_tail}
 use Rattle.rhai_rewriting.specs.Steps.{ExprRun, ExprsRun, StmtRun, EachRun}
-use Rattle.rhai_rewriting.specs.Weight.{expr_weight, exprs_weight, stmt_weight, weight}
+use Rattle.rhai_meaning.specs.Weight.{expr_weight, exprs_weight, stmt_weight, weight}
 use Rattle.rhai_rewriting.proofs.Flags.{exprs_kept, stmts_kept}
 
 -- ---- for any items

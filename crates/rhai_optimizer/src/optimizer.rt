@@ -1,4 +1,5 @@
 //! The entry to the optimiser.
+ghost use Rattle.rhai_meaning.specs.Walk.{outermost};
 ghost use Rattle.std.specs.Prelude.{◌≡◌, ◌≢◌, ◌≤◌, IfOk, OnOk, map, true};
 ghost use Rattle.std.specs.Rc.{rc_value};
 ghost use Rattle.rhai_ast.specs.Reading.{stmts_of};
@@ -11,7 +12,7 @@ ghost use Rattle.rhai_rewriting.specs.Residue.{AreReduced};
 ghost use Rattle.rhai_rewriting.specs.Context.{Whole, under};
 ghost use Rattle.rhai_rewriting.specs.Rewriting.{StmtsTo};
 ghost use Rattle.rhai_rewriting.specs.Steps.{StmtsRun};
-ghost use Rattle.rhai_rewriting.specs.Weight.{weight};
+ghost use Rattle.rhai_meaning.specs.Weight.{weight};
 ghost use Rattle.rhai_script.specs.FnKey.{definitions_table};
 ghost use Rattle.rhai_script.specs.Script.{script_of};
 
@@ -77,9 +78,9 @@ pub fn optimize_into_ast(
     ensures refines { IfOk result (λ ast. Refines (engine_of info.now) (source_of statements.items functions.items) (script_of ast)) }
     ensures reduced { level ≢ OptimizationLevel.None → IfOk result (λ ast. AreReduced (engine_of info.now) (script_of ast).statements) }
     ensures lighter { IfOk result (λ ast. weight (script_of ast).statements ≤ weight (stmts_of statements.items)) }
-    ensures well_formed { IfOk result (λ ast. AreWellFormed (stmts_of statements.items) → AreWellFormed (script_of ast).statements) }
+    ensures well_formed { IfOk result (λ ast. AreWellFormed outermost (stmts_of statements.items) → AreWellFormed outermost (script_of ast).statements) }
     ensures operators { IfOk result (λ ast. CallsOperatorsAlone (source_of statements.items functions.items) → CallsOperatorsAlone (script_of ast)) }
-    ensures functions { IfOk result (λ ast. ast.lib.value ≡ definitions_table (map rc_value functions.items)) }
+    ensures functions { IfOk result (λ ast. ast.lib.value.functions ≡ definitions_table (map rc_value functions.items)) }
     ensures kept { level ≡ OptimizationLevel.None → IfOk result (λ ast. ast.statements ≡ statements.items) }
 {
     let statements = optimized(alloc, info, statements, level)?;

@@ -23,7 +23,7 @@ abbrev pub script_named : Text → Option BuiltinScript
 script_named name = script_among all_scripts name
 
 abbrev pub operation : Text → CallToken → Expr → Expr → Expr
-operation name token lhs rhs = FnCall (record { name = name; captures = false; token = token }) (expr lhs (expr rhs no_exprs))
+operation name token lhs rhs = FnCall (record { namespace = []; name = name; captures = false; token = token }) (expr lhs (expr rhs no_exprs))
 
 abbrev pub over_integers : Operator → ℤ → ℤ → Expr
 over_integers op m n = operation (symbol op) (OfOperator op) (IntegerConstant m) (IntegerConstant n)

@@ -3,7 +3,7 @@ use Rattle.std.proofs.Common.{◌≡◌, ℕ, ◌+◌, ◌≤◌, Bool, true, fa
 use Rattle.rhai_meaning.specs.Tree.{Expr, Exprs, Stmt, Stmts}
 use Rattle.rhai_rewriting.specs.Context.{Context, ListKind}
 use Rattle.rhai_rewriting.specs.Rewriting.{ExprTo, same_expr, then_expr, by_expr_rule, in_array, in_braces, in_call, ExprsTo, exprs_none, exprs_more, StmtTo, same_stmt, then_stmt, by_stmt_rule, in_if, in_block, in_expression, in_call_statement, StmtsTo, same_stmts, then_stmts, by_list_rule, in_head, in_tail, flag_forgotten}
-use Rattle.rhai_rewriting.specs.Weight.{expr_weight, exprs_weight, stmt_weight, weight}
+use Rattle.rhai_meaning.specs.Weight.{expr_weight, exprs_weight, stmt_weight, weight}
 use Rattle.rhai_rewriting.proofs.rules.Expressions.{expr_rule}
 use Rattle.rhai_rewriting.proofs.rules.Statements.{stmt_rule}
 use Rattle.rhai_rewriting.proofs.rules.Lists.{list_rule}

@@ -5,3 +5,4 @@ pub mod Simulation
 pub mod Forms
 pub mod Lists
 pub mod Unwanted
+pub mod Laws

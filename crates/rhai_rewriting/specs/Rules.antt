@@ -1,11 +1,24 @@
 -- The rewrite rules, one constructor each: what may stand for what. Each family is flat; `Rewriting` closes over them.
-use Rattle.std.specs.Prelude.{◌≡◌, Bool, true, false, List, Some}
-use Rattle.rhai_values.specs.Value.{Value, ArrayV, values}
-use Rattle.rhai_meaning.specs.Constants.{constant_values, constant_bool, constant_for}
-use Rattle.rhai_meaning.specs.Queries.{is_block_dependent, is_any_dependent}
-use Rattle.rhai_meaning.specs.Tree.{Callee, Expr, DynamicConstant, UnitConstant, ArrayOf, BlockExpr, FnCall, Exprs, Stmt, Noop, If, Block, ExprStmt, FnCallStmt, Stmts, no_stmts, stmt, joined}
+use Rattle.std.specs.Prelude.{◌≡◌, ◌<◌, ℕ, ℤ, Bool, true, false, ◌&&◌, List, [], ◌∷◌, ◌++◌, Some, codes}
+use Rattle.rhai_values.specs.Value.{Text, Value, UnitV, IntV, TextV, ArrayV, MapV, PointerV, Values, Fields, values, items}
+use Rattle.rhai_parts.specs.Names.{is_valid_name}
+use Rattle.rhai_meaning.specs.Constants.{constant_value, constant_values, constant_entries, constant_bool, constant_for, is_literal_unit}
+use Rattle.rhai_meaning.specs.Control.{texts_joined}
+use Rattle.rhai_meaning.specs.Control.{chosen as cases_for}
+use Rattle.rhai_meaning.specs.Elements.{index_in, entry, fields_of}
+use Rattle.rhai_meaning.specs.Engine.{mapped_type_name}
+use Rattle.rhai_meaning.specs.Faults.{has_operands}
+use Rattle.rhai_meaning.specs.Queries.{is_block_dependent, is_any_dependent, are_pure_exprs, are_pure_pairs, are_pure}
+use Rattle.rhai_meaning.specs.Shape.{is_unit, is_table, names_arm}
+use Rattle.rhai_meaning.specs.Walk.{listed}
+use Rattle.rhai_meaning.specs.Weight.{table_weight}
+use Rattle.rhai_meaning.specs.Tree.{SwitchCase, SwitchRange, SwitchTable, Arms, ChainFlags, PropertyNames, Callee, Expr, DynamicConstant, BoolConstant, StringConstant, UnitConstant, InterpolatedString, ArrayOf, MapOf, Property, MethodCall, BlockExpr, FnCall, Dot, Index, And, Or, Coalesce, Exprs, no_exprs, expr, count_exprs, Pairs, Stmt, Noop, If, Switch, While, Block, TryCatch, ExprStmt, FnCallStmt, Stmts, no_stmts, stmt, joined}
 use Rattle.rhai_rewriting.specs.Context.{Context, ListKind, wanted}
 use Rattle.rhai_rewriting.specs.Folding.{folded}
+use Rattle.rhai_rewriting.specs.Operands.{OperandsTo, CoalesceTo, TextTo}
+use Rattle.rhai_rewriting.specs.Indexing.{indexed, expr_at, pair_for, or_unit}
+use Rattle.rhai_rewriting.specs.Parts.{constant_of, named}
+use Rattle.rhai_rewriting.specs.Tables.{forgotten, CasesTo, RangesTo, are_of, arm_of, left_arms, default_answer, default_stmt, default_branch}
 
 -- ---- what stands for what
 
@@ -42,6 +55,39 @@ pub data ExprRule (k : Context) : Expr → Expr → Type 0 where
   braces_of_expression : {e : Expr} → ExprRule k (BlockExpr (stmt (ExprStmt e) no_stmts)) e
   -- an operator over constants that is built in is its value
   operator_folds : {c : Callee} {es : Exprs} {v : Value} → folded k.engine c es ≡ Some v → ExprRule k (FnCall c es) (constant_for v)
+  -- operands of `&&`, `||` and `??`; one stays
+  and_changes : {es es' : Exprs} → OperandsTo true es es' → has_operands es' ≡ true → ExprRule k (And es) (And es')
+  or_changes : {es es' : Exprs} → OperandsTo false es es' → has_operands es' ≡ true → ExprRule k (Or es) (Or es')
+  coalesce_changes : {es es' : Exprs} → CoalesceTo es es' → has_operands es' ≡ true → ExprRule k (Coalesce es) (Coalesce es')
+  and_of_one : {e : Expr} → ExprRule k (And (expr e no_exprs)) e
+  or_of_one : {e : Expr} → ExprRule k (Or (expr e no_exprs)) e
+  coalesce_of_one : {e : Expr} → ExprRule k (Coalesce (expr e no_exprs)) e
+  and_of_none : ExprRule k (And no_exprs) (BoolConstant true)
+  or_of_none : ExprRule k (Or no_exprs) (BoolConstant false)
+  coalesce_of_none : ExprRule k (Coalesce no_exprs) UnitConstant
+  -- an interpolated text: its parts, and where all are constant its value
+  text_changes : {es es' : Exprs} → TextTo es es' → ExprRule k (InterpolatedString es) (InterpolatedString es')
+  text_folds : {es : Exprs} (vs : List Value) → constant_values es ≡ Some vs → ExprRule k (InterpolatedString es) (StringConstant (texts_joined vs))
+  -- a map of constants is its value
+  map_of_constants : {ps : Pairs} {template : List Text} (vs : List (Text × Value)) → constant_entries ps ≡ Some vs → ExprRule k (MapOf ps template) (DynamicConstant (MapV (fields_of vs)))
+  -- the language's own functions over constants
+  type_of_folds : {captures : Bool} {e : Expr} (v : Value) → constant_value e ≡ Some v → ExprRule k (FnCall (named (codes "type_of") captures) (expr e no_exprs)) (StringConstant (mapped_type_name k.engine v))
+  is_shared_folds : {captures : Bool} {e : Expr} (v : Value) → constant_value e ≡ Some v → ExprRule k (FnCall (named (codes "is_shared") captures) (expr e no_exprs)) (BoolConstant false)
+  fn_folds : {captures : Bool} {e : Expr} (f : Text) → constant_value e ≡ Some (TextV f) → is_valid_name f ≡ true → ExprRule k (FnCall (named (codes "Fn") captures) (expr e no_exprs)) (DynamicConstant (PointerV f (values [])))
+  curry_folds : {captures : Bool} {e : Expr} {es : Exprs} (f : Text) (us : Values) (vs : List Value) → constant_value e ≡ Some (PointerV f us) → constant_values es ≡ Some vs → ExprRule k (FnCall (named (codes "curry") captures) (expr e es)) (DynamicConstant (PointerV f (values (items us ++ vs))))
+  -- past a `?` a unit ends the chain with unit
+  unit_ends_dot : {f : ChainFlags} {e r : Expr} → f.negated ≡ true → constant_value e ≡ Some UnitV → ExprRule k (Dot f e r) UnitConstant
+  unit_ends_index : {f : ChainFlags} {e r : Expr} → f.negated ≡ true → constant_value e ≡ Some UnitV → ExprRule k (Index f e r) UnitConstant
+  -- a part of a constant
+  property_of_constant : {f : ChainFlags} {e : Expr} {p : PropertyNames} (fs : Fields) → constant_value e ≡ Some (MapV fs) → ExprRule k (Dot f e (Property p)) (constant_of (entry fs p.name))
+  index_of_constant : {f : ChainFlags} {e i : Expr} (v j u : Value) → constant_value e ≡ Some v → constant_value i ≡ Some j → indexed v j ≡ Some u → ExprRule k (Index f e i) (constant_of u)
+  -- a part of a literal whose parts are pure
+  element_of_array : {f : ChainFlags} {es : Exprs} {i e : Expr} (n : ℤ) (j : ℕ) → are_pure_exprs es ≡ true → constant_value i ≡ Some (IntV n) → index_in (count_exprs es) n ≡ Some j → expr_at es j ≡ Some e → ExprRule k (Index f (ArrayOf es) i) e
+  property_of_map : {f : ChainFlags} {ps : Pairs} {template : List Text} {p : PropertyNames} → are_pure_pairs ps ≡ true → ExprRule k (Dot f (MapOf ps template) (Property p)) (or_unit (pair_for ps p.name))
+  entry_of_map : {f : ChainFlags} {ps : Pairs} {template : List Text} {i : Expr} (x : Text) → are_pure_pairs ps ≡ true → constant_value i ≡ Some (TextV x) → ExprRule k (Index f (MapOf ps template) i) (or_unit (pair_for ps x))
+  -- `type_of` and `is_shared` of a constant as methods; past a `?` a unit is left
+  type_of_method : {f : ChainFlags} {captures : Bool} {e : Expr} (v : Value) → constant_value e ≡ Some v → (f.negated && is_unit v) ≡ false → ExprRule k (Dot f e (MethodCall (named (codes "type_of") captures) no_exprs)) (StringConstant (mapped_type_name k.engine v))
+  is_shared_method : {f : ChainFlags} {captures : Bool} {e : Expr} (v : Value) → constant_value e ≡ Some v → (f.negated && is_unit v) ≡ false → ExprRule k (Dot f e (MethodCall (named (codes "is_shared") captures) no_exprs)) (BoolConstant false)
 
 -- of statements; w: whether the statement's value is wanted
 pub data StmtRule (k : Context) (w : Bool) : Stmt → Stmt → Type 0 where
@@ -59,6 +105,21 @@ pub data StmtRule (k : Context) (w : Bool) : Stmt → Stmt → Type 0 where
   statement_of_call : {c : Callee} {es : Exprs} → StmtRule k w (ExprStmt (FnCall c es)) (FnCallStmt c es)
   -- a call statement of an operator over constants that is built in is its value
   call_statement_folds : {c : Callee} {es : Exprs} {v : Value} → folded k.engine c es ≡ Some v → StmtRule k w (FnCallStmt c es) (ExprStmt (constant_for v))
+  -- a `while` over false does nothing, and one over true is a `loop`
+  while_false : {e : Expr} {body : Stmts} → constant_bool e ≡ Some false → StmtRule k w (While e body) Noop
+  while_true : {e : Expr} {body : Stmts} → constant_bool e ≡ Some true → StmtRule k w (While e body) (While UnitConstant body)
+  -- a `switch` over a constant: of the arms that are left the first is true, or there is one, or none
+  switch_answers : {e : Expr} {as' : Arms} {t : SwitchTable} {c a : Expr} (v : Value) (j : ℕ) (js : List ℕ) → constant_value e ≡ Some v → left_arms as' (cases_for t v) ≡ j ∷ js → arm_of as' j ≡ Some (c, a) → constant_bool c ≡ Some true → StmtRule k w (Switch e as' t) (ExprStmt a)
+  switch_is_if : {e : Expr} {as' : Arms} {t : SwitchTable} {c a : Expr} (v : Value) (j : ℕ) → constant_value e ≡ Some v → left_arms as' (cases_for t v) ≡ j ∷ [] → arm_of as' j ≡ Some (c, a) → (t.default ≡ Some j → ⊥) → StmtRule k w (Switch e as' t) (If c (stmt (ExprStmt a) no_stmts) (default_branch (default_answer as' t.default)))
+  switch_defaults : {e : Expr} {as' : Arms} {t : SwitchTable} (v : Value) → constant_value e ≡ Some v → left_arms as' (cases_for t v) ≡ [] → StmtRule k w (Switch e as' t) (default_stmt (default_answer as' t.default))
+  -- of a table over a constant the arms that are left alone
+  switch_narrows : {e : Expr} {as' : Arms} {t t' : SwitchTable} (v : Value) → constant_value e ≡ Some v → cases_for t' v ≡ left_arms as' (cases_for t v) → t'.default ≡ t.default → are_of (listed t') (listed t) ≡ true → (is_table as' t ≡ true → is_table as' t' ≡ true) → table_weight t' < table_weight t → StmtRule k w (Switch e as' t) (Switch e as' t')
+  -- over any subject: false arms and ranges go, arms after a true one in a list go, empty lists go
+  switch_shrinks : {e : Expr} {as' : Arms} {t : SwitchTable} {cs : List SwitchCase} {qs : List SwitchRange} → CasesTo as' qs t.cases cs → RangesTo as' t.ranges qs → (is_table as' t ≡ true → is_table as' (record { cases = cs; ranges = qs; default = t.default }) ≡ true) → table_weight (record { cases = cs; ranges = qs; default = t.default }) < table_weight t → StmtRule k w (Switch e as' t) (Switch e as' (record { cases = cs; ranges = qs; default = t.default }))
+  -- the answer of an arm that no list names is unit
+  switch_forgets : {e : Expr} {as' : Arms} {t : SwitchTable} {c a : Expr} (j : ℕ) → arm_of as' j ≡ Some (c, a) → is_literal_unit a ≡ false → names_arm j (listed t) ≡ false → StmtRule k w (Switch e as' t) (Switch e (forgotten as' j) t)
+  -- a `try` over a pure body does nothing
+  pure_try : {x : Expr} {body branch : Stmts} → are_pure body ≡ true → StmtRule k w (TryCatch x body branch) Noop
 
 -- of lists, at their first statement
 pub data ListRule (k : Context) (m : ListKind) : Stmts → Stmts → Type 0 where

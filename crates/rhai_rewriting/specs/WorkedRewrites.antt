@@ -11,17 +11,17 @@ use Rattle.rhai_rewriting.specs.Rewriting.{StmtsTo, then_stmts, by_stmt_rule, by
 use Rattle.rhai_rewriting.specs.Rules.{array_of_constants, braces_empty, braces_of_expression, operator_folds, if_without_blocks, if_decided, block_empty, block_of_statement, statement_of_braces, statement_of_call, call_statement_folds, block_gives_way}
 
 -- the one is rewritten to the other, and this is what each does with the host that joins texts
-abbrev Row : List Stmt → List Stmt → Report → Type 0
+abbrev pub Row : List Stmt → List Stmt → Report → Type 0
 Row before after r = StmtsTo (under nothing_set) Whole false true (stmts before) (stmts after) × (ran nothing_set joining before ≡ r) × (ran nothing_set joining after ≡ r)
 
 abbrev plus : Callee
-plus = record { name = codes "+"; captures = false; token = OfOperator Plus }
+plus = record { namespace = []; name = codes "+"; captures = false; token = OfOperator Plus }
 
 -- f()
-abbrev f : Stmt
-f = FnCallStmt (record { name = codes "f"; captures = false; token = NoToken }) (exprs [])
+abbrev pub f : Stmt
+f = FnCallStmt (record { namespace = []; name = codes "f"; captures = false; token = NoToken }) (exprs [])
 
-abbrev asks_f : List HostCall
+abbrev pub asks_f : List HostCall
 asks_f = asked "f" [] ∷ []
 
 -- ---- expressions

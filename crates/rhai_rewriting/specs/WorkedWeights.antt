@@ -7,7 +7,7 @@ use Rattle.rhai_meaning.specs.Walk.{Node, OfExpr, OfStmt}
 use Rattle.rhai_meaning.specs.WorkedForms.{int, op, call, nothing_set, overriding, i}
 use Rattle.rhai_rewriting.specs.Folding.{folded}
 use Rattle.rhai_rewriting.specs.Residue.{holds_constant, IsReducedNode}
-use Rattle.rhai_rewriting.specs.Weight.{expr_weight, stmt_weight, weight}
+use Rattle.rhai_meaning.specs.Weight.{expr_weight, stmt_weight, weight}
 
 -- ---- weights
 
@@ -71,7 +71,7 @@ blocks_of_an_if_weigh : stmt_weight (If UnitConstant (stmts (Noop ∷ [])) (stmt
 blocks_of_an_if_weigh = refl
 
 -- 1 + 2 as a call statement
-call_statement_weighs : stmt_weight (FnCallStmt (record { name = codes "+"; captures = false; token = OfOperator Plus }) (exprs (int 1 ∷ int 2 ∷ []))) ≡ 7
+call_statement_weighs : stmt_weight (FnCallStmt (record { namespace = []; name = codes "+"; captures = false; token = OfOperator Plus }) (exprs (int 1 ∷ int 2 ∷ []))) ≡ 7
 call_statement_weighs = refl
 
 nothing_weighs : weight (stmts []) ≡ 0
@@ -87,19 +87,19 @@ optimised_weighs = refl
 -- ---- folding
 
 abbrev plus : Callee
-plus = record { name = codes "+"; captures = false; token = OfOperator Plus }
+plus = record { namespace = []; name = codes "+"; captures = false; token = OfOperator Plus }
 
 sum_folds : folded nothing_set plus (exprs (int 40 ∷ int 2 ∷ [])) ≡ Some (i 42)
 unfolding computed
 sum_folds = refl
 
 -- [1] != 2: an array of constants is a constant
-array_folds : folded nothing_set (record { name = codes "!="; captures = false; token = OfOperator NotEqualTo }) (exprs (ArrayOf (exprs (int 1 ∷ [])) ∷ int 2 ∷ [])) ≡ Some (BoolV true)
+array_folds : folded nothing_set (record { namespace = []; name = codes "!="; captures = false; token = OfOperator NotEqualTo }) (exprs (ArrayOf (exprs (int 1 ∷ [])) ∷ int 2 ∷ [])) ≡ Some (BoolV true)
 unfolding computed
 array_folds = refl
 
 -- 1 / 0 and 9223372036854775807 + 1 are left to the run
-division_by_zero_stays : folded nothing_set (record { name = codes "/"; captures = false; token = OfOperator Divide }) (exprs (int 1 ∷ int 0 ∷ [])) ≡ None
+division_by_zero_stays : folded nothing_set (record { namespace = []; name = codes "/"; captures = false; token = OfOperator Divide }) (exprs (int 1 ∷ int 0 ∷ [])) ≡ None
 unfolding computed
 division_by_zero_stays = refl
 

@@ -7,7 +7,7 @@ use Rattle.rhai_values.specs.Value.{Value}
 use Rattle.rhai_ast.specs.declared.ast.expr.Expr as declared_expr
 use Rattle.rhai_meaning.specs.Constants.{array_value, value_and, constant_value, constant_values}
 use Rattle.rhai_ast.specs.Reading.{expr_of, exprs_of}
-use Rattle.rhai_rewriting.specs.Weight.{expr_weight, exprs_weight}
+use Rattle.rhai_meaning.specs.Weight.{expr_weight, exprs_weight}
 
 pub some_of_array : (vs : Option (List Value)) → IsSome (array_value vs) → IsSome vs
 some_of_array None h = cc

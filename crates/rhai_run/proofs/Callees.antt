@@ -13,8 +13,9 @@ use Rattle.rhai_meaning.specs.Act.{World}
 use Rattle.rhai_meaning.specs.ActForms.{ask_host}
 use Rattle.rhai_meaning.specs.Calls.{of_table, operate}
 use Rattle.rhai_meaning.specs.Core as core
+use Rattle.rhai_meaning.specs.Desugar as desugar
 use Rattle.rhai_meaning.specs.Desugar.{callee_by, call_of}
-use Rattle.rhai_meaning.specs.Faults.{has_token, is_barred}
+use Rattle.rhai_meaning.specs.Shape.{is_none, has_token, is_barred}
 use Rattle.rhai_parts.specs.Names.{is_among, barred}
 use Rattle.rhai_ast.specs.Reading.{exprs_of}
 use Rattle.rhai_meaning.specs.Tree.{CallToken, NoToken, OfOperator, OfOther, Callee, count_exprs}
@@ -51,25 +52,30 @@ unbarred Not = refl
 unbarred Negative = refl
 unbarred Positive = refl
 
-named : (k : Callee) (n : ℕ) (op : Operator) → has_token k n (OfOperator op) ≡ true → k.name ≡ symbol op
-named k n op h =
-    let two = and_parts _ (not k.captures) h in
-    let one = and_parts (same_text k.name (symbol op)) _ two.0 in
-    (bytes_eq-Decides k.name (symbol op)).0 one.0
+-- an operator's token stands under no namespace, and has its own name
+unqualified : (k : Callee) (n : ℕ) (op : Operator) → has_token k n (OfOperator op) ≡ true → (is_none k.namespace ≡ true) × (k.name ≡ symbol op)
+unqualified k n op h =
+    let three = and_parts _ (not k.captures) h in
+    let two = and_parts (is_none k.namespace && same_text k.name (symbol op)) _ three.0 in
+    let one = and_parts (is_none k.namespace) (same_text k.name (symbol op)) two.0 in
+    (one.0, (bytes_eq-Decides k.name (symbol op)).0 one.1)
 
 callable : (k : Callee) (n : ℕ) (op : Operator) → has_token k n (OfOperator op) ≡ true → (has_token k n (OfOperator op) && not (is_barred k)) ≡ true
-callable k n op h = ap (λ b. b && not (is_barred k)) h ∙ ap (λ t. not (is_among t barred)) (named k n op h) ∙ ap not (unbarred op)
+callable k n op h =
+    let own = unqualified k n op h in
+    ap (λ b. b && not (is_barred k)) h ∙ ap (λ b. not (b && is_among k.name barred)) own.0 ∙ ap (λ t. not (is_among t barred)) own.1 ∙ ap not (unbarred op)
 
 ill_op : (b c : Bool) (op : Operator) (f : core.Expr) → None ≡ (if b then Some op else None) → cond (b && c) f core.Ill ≡ core.Ill
 ill_op true c op f e = cc
 ill_op false c op f e = refl
 
-by_name : (b : Bool) (f : Text) (captures : Bool) (es : core.Exprs) → small_expr (cond b (core.FnCall (core.ByName f captures) es) core.Ill) ≡ core.Ill
-by_name true f captures es = refl
-by_name false f captures es = refl
+by_name : (b : Bool) (k : Callee) (ns : List Text) (es : core.Exprs) → small_expr (cond b (core.FnCall (desugar.by_name k ns) es) core.Ill) ≡ core.Ill
+by_name true k [] es = refl
+by_name true k (m ∷ ms) es = refl
+by_name false k ns es = refl
 
 ill_by : (k : Callee) (n : ℕ) (m : CallToken) (es : core.Exprs) → None ≡ operator_by k n m → small_expr (cond (has_token k n m && not (is_barred k)) (core.FnCall (callee_by k m) es) core.Ill) ≡ core.Ill
-ill_by k n NoToken es e = by_name (has_token k n NoToken && not (is_barred k)) k.name k.captures es
+ill_by k n NoToken es e = by_name (has_token k n NoToken && not (is_barred k)) k k.namespace es
 ill_by k n (OfOperator op) es e = ap small_expr (ill_op (has_token k n (OfOperator op)) (not (is_barred k)) op _ e)
 ill_by k n OfOther es e = refl
 

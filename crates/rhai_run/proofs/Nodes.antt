@@ -1,5 +1,5 @@
 -- The run of a node from those of its parts.
-use Rattle.std.proofs.Common.{◌≡◌, ℕ, Bool, true, List, [], map, length, take, None, Some, Result, Ok, Err, refl, sym, ap, ◌∙◌, subst, arith}
+use Rattle.std.proofs.Common.{◌≡◌, ℕ, Bool, true, List, [], map, length, take, None, Some, Result, Ok, Err, refl, sym, ap, ◌∙◌, subst, arith, false}
 use Rattle.rhai_values.specs.declared.dynamic.Dynamic.{Dynamic}
 use Rattle.rhai_values.specs.declared.dynamic.Dynamic.TheVariants as value
 use Rattle.rhai_tokens.specs.declared.position.Position.{Position}
@@ -45,21 +45,21 @@ module _ (here : Setting) where
   operator_known c op e = (e.0, e.1, e.2 ∙ ap (called_operator (callee_of c)) (sym (count_exprs_of c.args)))
 
   -- a call whose token fits no call of its operator
-  pub call_stuck : (c : FnCallExpr) (s : State) → None ≡ called_operator (callee_of c) (length c.args) → Leads here (act here.world (small_expr (call_of (callee_of c) (tree.count_exprs (exprs_of c.args)) (core_exprs (exprs_of c.args))))) s (Halted (IsStuck WrongKind)) s
+  pub call_stuck : (c : FnCallExpr) (s : State) → None ≡ called_operator (callee_of c) (length c.args) → Leads here (act here.world (small_expr (call_of (callee_of c) (tree.count_exprs (exprs_of c.args)) (core_exprs false (exprs_of c.args))))) s (Halted (IsStuck WrongKind)) s
   call_stuck c s e =
-      let ill = call_ill (callee_of c) (tree.count_exprs (exprs_of c.args)) (core_exprs (exprs_of c.args)) (e ∙ ap (called_operator (callee_of c)) (sym (count_exprs_of c.args))) in
+      let ill = call_ill (callee_of c) (tree.count_exprs (exprs_of c.args)) (core_exprs false (exprs_of c.args)) (e ∙ ap (called_operator (callee_of c)) (sym (count_exprs_of c.args))) in
       subst (λ x. Leads here (act here.world x) s (Halted (IsStuck WrongKind)) s) (sym ill) (record { turns = omega arith; runs = λ d le. refl })
 
   pub call_stops : (c : FnCallExpr) (op : Token) (s s1 : State) (x : Interrupt) → StandsFor (Some op) (called_operator (callee_of c) (length c.args)) → RunsExprs here (exprs_of c.args) s (Err x) s1 → RunsCall here (callee_of c) (exprs_of c.args) s (Err x) s1
   call_stops c op s s1 x e q =
       let o = operator_known c op e in
-      subst (λ y. Runs here (act here.world y) s (Err x) s1) (sym (call_operates (callee_of c) (tree.count_exprs (exprs_of c.args)) o.0 (core_exprs (exprs_of c.args)) o.2))
+      subst (λ y. Runs here (act here.world y) s (Err x) s1) (sym (call_operates (callee_of c) (tree.count_exprs (exprs_of c.args)) o.0 (core_exprs false (exprs_of c.args)) o.2))
       (args_stop here (small_exprs_of (exprs_of c.args)) (λ vs. called here.world (core.OnOperator o.0) vs) s s1 x q)
 
   pub call_runs : (c : FnCallExpr) (op : Token) (s s1 s2 : State) (vs : List Dynamic) (r : Result Dynamic Interrupt) → StandsFor (Some op) (called_operator (callee_of c) (length c.args)) → RunsExprs here (exprs_of c.args) s (Ok vs) s1 → ((o : Operator) → operator_of op ≡ Some o → Runs here (operate here.world o (map value_of vs)) s1 r s2) → RunsCall here (callee_of c) (exprs_of c.args) s r s2
   call_runs c op s s1 s2 vs r e q k =
       let o = operator_known c op e in
-      subst (λ y. Runs here (act here.world y) s r s2) (sym (call_operates (callee_of c) (tree.count_exprs (exprs_of c.args)) o.0 (core_exprs (exprs_of c.args)) o.2))
+      subst (λ y. Runs here (act here.world y) s r s2) (sym (call_operates (callee_of c) (tree.count_exprs (exprs_of c.args)) o.0 (core_exprs false (exprs_of c.args)) o.2))
       (args_run here (small_exprs_of (exprs_of c.args)) (λ us. called here.world (core.OnOperator o.0) us) s s1 s2 (map value_of vs) r q (k o.0 o.1))
 
   -- ---- conditions and braces

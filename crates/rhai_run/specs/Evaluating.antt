@@ -17,7 +17,7 @@ use Rattle.rhai_run.specs.declared.plain.state.Interrupt.TheVariants.{NoMemory, 
 use Rattle.rhai_run.specs.declared.plain.state.State.{State}
 use Rattle.rhai_run.specs.declared.report.RunEnd.{RunEnd}
 use Rattle.rhai_run.specs.declared.report.RunEnd.TheVariants as ended
-use Rattle.rhai_meaning.specs.Faults.{is_unit}
+use Rattle.rhai_meaning.specs.Shape.{is_unit}
 use Rattle.rhai_engine.specs.EngineInfo.{engine_of}
 use Rattle.rhai_run.specs.Host.{host_of}
 use Rattle.rhai_run.specs.Report.{stuck_meant}
@@ -107,7 +107,7 @@ abbrev pub RunsExprs : Setting → tree.Exprs → State → Result (List Dynamic
 RunsExprs here es = RunsArgs here (small_exprs_of es)
 
 abbrev pub RunsCall : Setting → tree.Callee → tree.Exprs → State → Result Dynamic Interrupt → State → Type 0
-RunsCall here c es = Runs here (act here.world (small_expr (call_of c (tree.count_exprs es) (core_exprs es))))
+RunsCall here c es = Runs here (act here.world (small_expr (call_of c (tree.count_exprs es) (core_exprs false es))))
 
 abbrev pub RunsDeed : Setting → Deed → State → Result Dynamic Interrupt → State → Type 0
 RunsDeed here c = Runs here (deed here.world c)

@@ -4,7 +4,7 @@ use Rattle.std.specs.Option.{option_map}
 use Rattle.rhai_tokens.specs.declared.token.Token.{Token}
 use Rattle.rhai_base.specs.Operators.{Operator, arity}
 use Rattle.rhai_base.specs.Builtin.{operator_of}
-use Rattle.rhai_meaning.specs.Faults.{has_token}
+use Rattle.rhai_meaning.specs.Shape.{has_token}
 use Rattle.rhai_meaning.specs.Tree.{CallToken, NoToken, OfOperator, OfOther, Callee}
 
 -- how many operands a token's operator has, if it stands for one

@@ -6,8 +6,8 @@ use Rattle.std.specs.Option.{option_eq}
 use Rattle.rhai_values.specs.Value.{Text, same_text}
 use Rattle.rhai_meaning.specs.Act.{Key}
 use Rattle.rhai_meaning.specs.Calls.{same_key, same_type}
-use Rattle.rhai_script.specs.declared.fn_lib.FnKey.{FnKey}
-use Rattle.rhai_script.specs.contracts.fn_lib.FnKeyPartialEq.TheImpl as derived
+use Rattle.rhai_script.specs.declared.fn_table.FnKey.{FnKey}
+use Rattle.rhai_script.specs.contracts.fn_table.FnKeyPartialEq.TheImpl as derived
 use Rattle.rhai_script.specs.FnKey.{key_meant}
 
 abbrev pub same_written : FnKey → FnKey → Bool

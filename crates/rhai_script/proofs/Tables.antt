@@ -1,7 +1,9 @@
 -- Tables of functions: keys stay apart, and a map's entries are the table of its functions.
-use Rattle.std.proofs.Common.{◌≡◌, Bool, true, false, not, ◌||◌, List, [], ◌∷◌, map, refl, sym, ap, subst, ◌∙◌, if◌then◌else◌}
+use Rattle.std.proofs.Common.{◌≡◌, Bool, true, false, not, ◌||◌, List, [], ◌∷◌, Option, Some, map, refl, sym, ap, subst, ◌∙◌, if◌then◌else◌}
+use Rattle.std.specs.List.{AllZip}
+use Rattle.std.specs.Option.{option_map}
 use Rattle.std.proofs.lemmas.Bool.{and_parts, and_from}
-use Rattle.std.specs.Map.{keys_of, values_of}
+use Rattle.std.specs.Map.{keys_of, values_of, lookup}
 use Rattle.std.specs.Rc.{rc_value}
 use Rattle.std.specs.declared.rc.Rc.{Rc}
 use Rattle.std.specs.declared.alloc.Global.{Global}
@@ -10,9 +12,9 @@ use Rattle.rhai_meaning.specs.Act.{Key}
 use Rattle.rhai_meaning.specs.Calls.{same_key, has_key}
 use Rattle.rhai_ast.specs.Reading.{function_of}
 use Rattle.rhai_ast.specs.declared.ast.script_fn.ScriptFuncDef.{ScriptFuncDef}
-use Rattle.rhai_script.specs.declared.fn_lib.FnKey.{FnKey}
+use Rattle.rhai_script.specs.declared.fn_table.FnKey.{FnKey}
 use Rattle.rhai_script.specs.FnKey.{key_meant, fn_key_of, definition_key, IsTable}
-use Rattle.rhai_script.specs.Table.{put_by, put_all_by, are_distinct, key_of}
+use Rattle.rhai_script.specs.Table.{put_by, put_all_by, find_by, are_distinct, key_of}
 use Rattle.rhai_script.proofs.Keys.{same_written, same_written-meant, same_key-true, key_meant-one}
 
 or_again : (a b : Bool) → (a || b) ≡ (a || b || a)
@@ -142,3 +144,41 @@ module _ (es fresh : List (FnKey × Shared)) (k : FnKey) (f : Shared) (own : k �
         ∙ ap (λ fs. are_distinct (map key_of fs)) (map-put function_of key_of (functions es) f.value)
         ∙ are_distinct-put key_of (map function_of (functions es)) (function_of f.value) old.distinct;
   }
+
+-- ---- looking up, copies
+
+lookup-find : (es : List (FnKey × Shared)) (k : FnKey) → Keyed es → option_map rc_value (lookup (same_written k) es) ≡ find_by definition_key (key_meant k) (functions es)
+lookup-find [] k h = refl
+lookup-find (e ∷ es) k h =
+    by (same_written k e.0) (lookup-find es k (keyed-others e es h))
+    ∙ ap (λ b. if b then Some e.1.value else find_by definition_key (key_meant k) (functions es)) (same_written-meant k e.0 ∙ ap (λ l. same_key (key_meant k) (key_meant l)) (keyed-first e es h))
+  where
+    by : (b : Bool) → option_map rc_value (lookup (same_written k) es) ≡ find_by definition_key (key_meant k) (functions es)
+        → option_map rc_value (if b then Some e.1 else lookup (same_written k) es) ≡ (if b then Some e.1.value else find_by definition_key (key_meant k) (functions es))
+    by true rest = refl
+    by false rest = rest
+
+pub find-looked_up : (es : List (FnKey × Shared)) (k : FnKey) (found : Option Shared) → found ≡ lookup (same_written k) es → IsTable (keys_of es) (functions es)
+    → option_map rc_value found ≡ find_by definition_key (key_meant k) (functions es)
+find-looked_up es k found e old = ap (option_map rc_value) e ∙ lookup-find es k old.keyed
+
+abbrev Copies : List (FnKey × Shared) → List (FnKey × Shared) → Type 0
+Copies es fs = AllZip (λ p q. (q.0 ≡ p.0) × (q.1.value ≡ p.1.value)) es fs
+
+pub keys-copied : (es fs : List (FnKey × Shared)) → Copies es fs → keys_of fs ≡ keys_of es
+keys-copied [] [] h = refl
+keys-copied [] (f ∷ fs) h = absurd h
+keys-copied (e ∷ es) [] h = absurd h
+keys-copied (e ∷ es) (f ∷ fs) h = λ i. h.0.0 i ∷ keys-copied es fs h.1 i
+
+pub functions-copied : (es fs : List (FnKey × Shared)) → Copies es fs → functions fs ≡ functions es
+functions-copied [] [] h = refl
+functions-copied [] (f ∷ fs) h = absurd h
+functions-copied (e ∷ es) [] h = absurd h
+functions-copied (e ∷ es) (f ∷ fs) h = λ i. h.0.1 i ∷ functions-copied es fs h.1 i
+
+pub IsTable-copied : (es fs : List (FnKey × Shared)) → Copies es fs → IsTable (keys_of es) (functions es) → IsTable (keys_of fs) (functions fs)
+IsTable-copied es fs h old = record {
+  keyed = keys-copied es fs h ∙ old.keyed ∙ ap (map fn_key_of) (sym (functions-copied es fs h));
+  distinct = ap (λ fs. are_distinct (map key_of (map function_of fs))) (functions-copied es fs h) ∙ old.distinct;
+}

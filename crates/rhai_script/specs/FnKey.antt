@@ -7,7 +7,7 @@ use Rattle.rhai_meaning.specs.Act.{Key}
 use Rattle.rhai_meaning.specs.Calls.{key}
 use Rattle.rhai_ast.specs.Reading.{function_of}
 use Rattle.rhai_ast.specs.declared.ast.script_fn.ScriptFuncDef.{ScriptFuncDef}
-use Rattle.rhai_script.specs.declared.fn_lib.FnKey.{FnKey}
+use Rattle.rhai_script.specs.declared.fn_table.FnKey.{FnKey}
 use Rattle.rhai_script.specs.Table.{key_of, put_all_by, are_distinct}
 
 -- what a key says

@@ -1,5 +1,5 @@
 -- Tables of functions: each key once, in the order in which the keys came first.
-use Rattle.std.specs.Prelude.{Bool, true, not, ◌&&◌, List, [], ◌∷◌, length, if◌then◌else◌}
+use Rattle.std.specs.Prelude.{Bool, true, not, ◌&&◌, List, [], ◌∷◌, length, Option, Some, None, if◌then◌else◌}
 use Rattle.rhai_meaning.specs.Act.{Key}
 use Rattle.rhai_meaning.specs.Calls.{key, same_key, has_key}
 use Rattle.rhai_meaning.specs.Tree.{Function}
@@ -14,6 +14,11 @@ module _ {F : Type 0} (key_of : F → Key) where
   abbrev pub put_all_by : List F → List F → List F
   put_all_by table [] = table
   put_all_by table (f ∷ fs) = put_all_by (put_by table f) fs
+
+  -- the one of this key
+  abbrev pub find_by : Key → List F → Option F
+  find_by k [] = None
+  find_by k (f ∷ fs) = if same_key k (key_of f) then Some f else find_by k fs
 
 abbrev pub key_of : Function → Key
 key_of f = key f.name (length f.params) f.this_type

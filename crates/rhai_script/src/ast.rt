@@ -1,43 +1,169 @@
 //! A whole script.
-ghost use Rattle.std.specs.Prelude.{◌≡◌};
+ghost use Rattle.std.specs.Prelude.{◌≡◌, ◌≢◌, ◌++◌, [], List, map, ◌↔◌, IsTrue, IfOk, OnOk, OnErr, None};
+ghost use Rattle.std.specs.Option.{option_copied};
+ghost use Rattle.std.specs.Rc.{rc_value};
+ghost use Rattle.std.specs.List.Retain.{IsFiltered};
 ghost use Rattle.rhai_ast.specs.Reading.{stmts_of};
+ghost use Rattle.rhai_ast.specs.declared.ast.script_fn.ScriptFuncDef.{ScriptFuncDef as definition};
+ghost use Rattle.rhai_script.specs.Contents.{contents, with_source, without_source, with_doc, with_table, with_functions, without_statements, merged, combined};
+ghost use Rattle.rhai_script.specs.Filter.{Answers, AnswersShort};
+ghost use Rattle.rhai_script.specs.FnKey.{definitions_table};
 
-use crate::SharedLib;
-use rhai_ast::Stmt;
-use rhai_base::Seq;
-use std::alloc::AllocError;
+use crate::filter::FnNamespace;
+use crate::fn_lib::{FnLib, SharedLib};
+use crate::text::{Doc, name_of};
+use rhai_ast::{FnAccess, ScriptFuncDef, Stmt};
+use rhai_base::{ImmutableString, OutOfMemory, Seq};
+use std::alloc::{AllocError, Global};
+use std::rc::Rc;
 
-/// A script: its statements and its functions.
+/// A script: its source, its doc text, its statements and its functions. What its calls need of memory comes from
+/// the allocator of its table.
 #[derive(Drop)]
 pub struct AST {
+    source: Option<ImmutableString>,
+    doc: Doc,
     statements: Seq<Stmt>,
     lib: SharedLib,
 }
 
 impl Clone for AST {
-    ghost is_clone = { λ s t. (t.statements ≡ s.statements) × (t.lib.value ≡ s.lib.value) };
+    ghost is_clone = { λ s t. contents t ≡ contents s };
 
     #[tactic(auto, using(rhai_ast::proofs::Copies::copies))]
     fn clone(&self) -> Result<AST, AllocError> {
+        let source = self.source.clone()?;
+        let doc = self.doc.clone()?;
         let statements = self.statements.clone()?;
         let lib = self.lib.clone()?;
-        Ok(AST { statements, lib })
+        Ok(AST {
+            source,
+            doc,
+            statements,
+            lib,
+        })
     }
+}
+
+/// The statements of both.
+fn joined(first: &Seq<Stmt>, second: &Seq<Stmt>) -> Result<Seq<Stmt>, OutOfMemory>
+    ensures { IfOk result (λ s. s ≡ first.now ++ second.now) }
+{
+    let mut all = first.clone()?.into_vec();
+    let mut more = second.clone()?.into_vec();
+    all.append(&mut more)?;
+    Ok(Seq::from_vec(all))
+}
+
+/// Moves statements to the end.
+fn append(alloc: Global, statements: &mut Seq<Stmt>, more: Seq<Stmt>) -> Result<(), OutOfMemory>
+    ensures ok { OnOk result (statements.new ≡ statements.old ++ more) }
+    ensures err { OnErr result (statements.new ≡ statements.old) }
+{
+    let mut all = std::mem::replace(statements, Seq::new(alloc)).into_vec();
+    let mut more = more.into_vec();
+    let appended = all.append(&mut more);
+    *statements = Seq::from_vec(all);
+    Ok(appended?)
 }
 
 impl AST {
     ghost use Rattle.rhai_script.specs.Script.{functions_of, script_of};
 
-    /// A script of these statements and functions. It takes no memory.
+    /// A script of these statements and functions, without a source and a doc. It takes no memory.
     pub fn new(statements: Vec<Stmt>, functions: SharedLib) -> AST
         ensures script { script_of result ≡ record { statements = stmts_of statements.items; functions = functions_of functions.value } }
         ensures statements { result.statements ≡ statements.items }
         ensures lib { result.lib ≡ functions }
+        ensures contents { contents result ≡ record { source = None; doc = []; statements = statements.items; id = functions.value.id; functions = functions.value.functions } }
     {
         AST {
+            source: None,
+            doc: Doc::none(),
             statements: Seq::from_vec(statements),
             lib: functions,
         }
+    }
+
+    /// The same with a source, which the table's id follows. A table that other scripts share is copied.
+    pub fn new_with_source(
+        statements: Vec<Stmt>,
+        functions: SharedLib,
+        source: &str,
+    ) -> Result<AST, OutOfMemory>
+        ensures { IfOk result (λ s. contents s ≡ with_source source.now (record { source = None; doc = []; statements = statements.items; id = functions.value.id; functions = functions.value.functions })) }
+    {
+        let mut script = AST::new(statements, functions);
+        script.set_source(source)?;
+        Ok(script)
+    }
+
+    /// A script of a table alone, whose id is the source.
+    pub fn new_from_module(functions: SharedLib) -> Result<AST, OutOfMemory>
+        ensures { IfOk result (λ s. contents s ≡ record { source = functions.value.id; doc = []; statements = []; id = functions.value.id; functions = functions.value.functions }) }
+    {
+        let source = functions.copy_id()?;
+        Ok(AST {
+            source,
+            doc: Doc::none(),
+            statements: Seq::new(functions.allocator()),
+            lib: functions,
+        })
+    }
+
+    /// A script of nothing.
+    pub fn empty(alloc: Global) -> Result<AST, OutOfMemory>
+        ensures { IfOk result (λ s. contents s ≡ record { source = None; doc = []; statements = []; id = None; functions = [] }) }
+    {
+        let lib = Rc::new(alloc, FnLib::new(alloc))?;
+        Ok(AST::new(Vec::new(alloc), lib))
+    }
+
+    /// The source, where there is one.
+    pub fn source(&self) -> Option<&str>
+        ensures { option_copied result ≡ self.now.source }
+    {
+        match &self.source {
+            Some(source) => Some(source.as_str()),
+            None => None,
+        }
+    }
+
+    /// Sets the source, which the table's id follows; an empty one is none. A table that other scripts share is
+    /// copied. A refused call changes nothing.
+    pub fn set_source(&mut self, source: &str) -> Result<(), OutOfMemory>
+        ensures ok { OnOk result (contents self.new ≡ with_source source.now (contents self.old)) }
+        ensures err { OnErr result (contents self.new ≡ contents self.old) }
+    {
+        let source = name_of(self.lib.allocator(), source)?;
+        let id = source.clone()?;
+        let lib = Rc::make_mut(&mut self.lib)?;
+        lib.take_id(id);
+        self.source = source;
+        Ok(())
+    }
+
+    /// Leaves no source. The table's id stays.
+    pub fn clear_source(&mut self)
+        ensures { contents self.new ≡ without_source (contents self.old) }
+    {
+        self.source = None;
+    }
+
+    /// The doc text.
+    pub fn doc(&self) -> &str
+        ensures { result.now ≡ self.now.doc }
+    {
+        self.doc.as_str()
+    }
+
+    /// Sets the doc text. A refused call changes nothing.
+    pub fn set_doc(&mut self, doc: &str) -> Result<(), OutOfMemory>
+        ensures ok { OnOk result (contents self.new ≡ with_doc doc.now (contents self.old)) }
+        ensures err { OnErr result (contents self.new ≡ contents self.old) }
+    {
+        self.doc = Doc::new(self.lib.allocator(), doc)?;
+        Ok(())
     }
 
     /// The statements.
@@ -47,10 +173,179 @@ impl AST {
         self.statements.as_slice()
     }
 
+    /// Whether there are functions.
+    pub fn has_functions(&self) -> bool
+        ensures { IsTrue result ↔ (self.now.lib.value.functions ≢ []) }
+    {
+        !self.lib.is_empty()
+    }
+
     /// The table of functions.
     pub fn shared_lib(&self) -> &SharedLib
         ensures { result.now ≡ self.now.lib }
     {
         &self.lib
+    }
+
+    /// A script of the source, the doc and this table alone.
+    fn only(&self, lib: FnLib) -> Result<AST, OutOfMemory>
+        requires { lib.id ≡ None }
+        ensures { IfOk result (λ s. contents s ≡ without_statements (with_table lib.functions (contents self.now))) }
+    {
+        let alloc = self.lib.allocator();
+        let source = self.source.clone()?;
+        let doc = self.doc.clone()?;
+        let lib = Rc::new(alloc, lib)?;
+        Ok(AST {
+            source,
+            doc,
+            statements: Seq::new(alloc),
+            lib,
+        })
+    }
+
+    /// A script of the source, the doc and the functions, in a table of its own without an id.
+    pub fn clone_functions_only(&self) -> Result<AST, OutOfMemory>
+        ensures { IfOk result (λ s. contents s ≡ without_statements (with_table self.now.lib.value.functions (contents self.now))) }
+    {
+        self.only(self.lib.without_id()?)
+    }
+
+    /// A script of the source, the doc and the functions that the filter chooses. It is asked of each function once, in
+    /// the table's order.
+    pub fn clone_functions_only_filtered<F: Fn(FnNamespace, FnAccess, bool, &str, usize) -> bool>(
+        &self,
+        filter: F,
+    ) -> Result<AST, OutOfMemory>
+        requires { F.IsAlwaysCallable filter }
+        ensures { IfOk result (λ s. (chosen : List definition) × IsFiltered (Answers F.Fn) filter self.now.lib.value.functions chosen × (contents s ≡ without_statements (with_table (definitions_table chosen) (contents self.now)))) }
+    {
+        let chosen = self.lib.table().chosen(&filter)?;
+        self.only(FnLib::from_functions(self.lib.allocator(), chosen)?)
+    }
+
+    /// A script of the source, the doc and the statements, with a table of its own.
+    pub fn clone_statements_only(&self) -> Result<AST, OutOfMemory>
+        ensures { IfOk result (λ s. contents s ≡ with_table [] (contents self.now)) }
+    {
+        let mut script = self.clone()?;
+        script.clear_functions()?;
+        Ok(script)
+    }
+
+    fn merged_with(
+        &self,
+        other: &AST,
+        functions: Vec<Rc<ScriptFuncDef>>,
+    ) -> Result<AST, OutOfMemory>
+        ensures { IfOk result (λ s. contents s ≡ merged (contents self.now) (contents other.now) (map rc_value functions.items)) }
+    {
+        let alloc = self.lib.allocator();
+        let source = other.source.clone()?;
+        let doc = self.doc.joined(alloc, &other.doc)?;
+        let statements = joined(&self.statements, &other.statements)?;
+        let lib = Rc::new(alloc, self.lib.with_all(&other.source, functions)?)?;
+        Ok(AST {
+            source,
+            doc,
+            statements,
+            lib,
+        })
+    }
+
+    /// A script in place of two: the second's statements come after the first's, and its functions take the places of
+    /// those of their keys. Its source is the second's.
+    pub fn merge(&self, other: &AST) -> Result<AST, OutOfMemory>
+        ensures { IfOk result (λ s. contents s ≡ merged (contents self.now) (contents other.now) other.now.lib.value.functions) }
+    {
+        self.merged_with(other, other.lib.table().all()?)
+    }
+
+    /// The same with those functions of the second that the filter chooses. It is asked of each of them once, in the
+    /// table's order.
+    pub fn merge_filtered<F: Fn(FnNamespace, FnAccess, bool, &str, usize) -> bool>(
+        &self,
+        other: &AST,
+        filter: F,
+    ) -> Result<AST, OutOfMemory>
+        requires { F.IsAlwaysCallable filter }
+        ensures { IfOk result (λ s. (chosen : List definition) × IsFiltered (Answers F.Fn) filter other.now.lib.value.functions chosen × (contents s ≡ merged (contents self.now) (contents other.now) chosen)) }
+    {
+        self.merged_with(other, other.lib.table().chosen(&filter)?)
+    }
+
+    fn combine_with(
+        &mut self,
+        other: AST,
+        functions: Vec<Rc<ScriptFuncDef>>,
+    ) -> Result<(), OutOfMemory>
+        ensures ok { OnOk result (contents self.new ≡ combined (contents self.old) (contents other) (map rc_value functions.items)) }
+        ensures err { OnErr result (contents self.new ≡ contents self.old) }
+    {
+        let alloc = self.lib.allocator();
+        let doc = self.doc.joined(alloc, &other.doc)?;
+        let lib = Rc::new(alloc, self.lib.with_all(&None, functions)?)?;
+        append(alloc, &mut self.statements, other.statements)?;
+        self.doc = doc;
+        self.lib = lib;
+        Ok(())
+    }
+
+    /// Takes in a second script: its statements come after the first's, and its functions take the places of those of
+    /// their keys. The source stays. A refused call changes nothing.
+    pub fn combine(&mut self, other: AST) -> Result<(), OutOfMemory>
+        ensures ok { OnOk result (contents self.new ≡ combined (contents self.old) (contents other) other.lib.value.functions) }
+        ensures err { OnErr result (contents self.new ≡ contents self.old) }
+    {
+        let functions = other.lib.table().all()?;
+        self.combine_with(other, functions)
+    }
+
+    /// The same with those functions of the second that the filter chooses. It is asked of each of them once, in the
+    /// table's order.
+    pub fn combine_filtered<F: Fn(FnNamespace, FnAccess, bool, &str, usize) -> bool>(
+        &mut self,
+        other: AST,
+        filter: F,
+    ) -> Result<(), OutOfMemory>
+        requires { F.IsAlwaysCallable filter }
+        ensures ok { OnOk result ((chosen : List definition) × IsFiltered (Answers F.Fn) filter other.lib.value.functions chosen × (contents self.new ≡ combined (contents self.old) (contents other) chosen)) }
+        ensures err { OnErr result (contents self.new ≡ contents self.old) }
+    {
+        let functions = other.lib.table().chosen(&filter)?;
+        self.combine_with(other, functions)
+    }
+
+    /// Keeps the functions that the filter chooses, and the table's id. The filter is asked of each function once, in
+    /// the table's order. A table that other scripts share stays as it is. A refused call changes nothing.
+    pub fn retain_functions<F: Fn(FnNamespace, FnAccess, &str, usize) -> bool>(
+        &mut self,
+        filter: F,
+    ) -> Result<(), OutOfMemory>
+        requires { F.IsAlwaysCallable filter }
+        ensures ok { OnOk result ((kept : List definition) × IsFiltered (AnswersShort F.Fn) filter self.old.lib.value.functions kept × (contents self.new ≡ with_functions (definitions_table kept) (contents self.old))) }
+        ensures err { OnErr result (contents self.new ≡ contents self.old) }
+    {
+        let kept = self.lib.table().kept(&filter)?;
+        let lib = self.lib.replaced(kept)?;
+        self.lib = Rc::new(self.lib.allocator(), lib)?;
+        Ok(())
+    }
+
+    /// Leaves no functions, in a table of its own without an id. A refused call changes nothing.
+    pub fn clear_functions(&mut self) -> Result<(), OutOfMemory>
+        ensures ok { OnOk result (contents self.new ≡ with_table [] (contents self.old)) }
+        ensures err { OnErr result (contents self.new ≡ contents self.old) }
+    {
+        let alloc = self.lib.allocator();
+        self.lib = Rc::new(alloc, FnLib::new(alloc))?;
+        Ok(())
+    }
+
+    /// Leaves no statements.
+    pub fn clear_statements(&mut self)
+        ensures { contents self.new ≡ without_statements (contents self.old) }
+    {
+        self.statements = Seq::new(self.lib.allocator());
     }
 }

@@ -1,92 +1,51 @@
 //! The table of a script's functions.
-ghost use Rattle.std.specs.Prelude.{◌≡◌, ◌∷◌, [], length, map, ◌↔◌, IsTrue, IfOk, OnOk, OnErr};
+ghost use Rattle.std.specs.Prelude.{◌≡◌, [], length, map, ◌↔◌, IsTrue, IfOk, OnOk, OnErr, None};
+ghost use Rattle.std.specs.Option.{option_copied, option_map};
 ghost use Rattle.std.specs.Rc.{rc_value};
-ghost use Rattle.std.specs.Iterator.{YieldsFirstBy, item_count};
 ghost use Rattle.rhai_ast.specs.Reading.{function_of};
-ghost use Rattle.rhai_script.specs.Table.{table_of, are_distinct, key_of};
-ghost use Rattle.rhai_script.specs.FnKey.{definition_key, definitions_table, fn_key_of, shown};
+ghost use Rattle.rhai_script.specs.FnKey.{definition_key, definitions_table, key_meant};
+ghost use Rattle.rhai_script.specs.Table.{table_of, are_distinct, key_of, put_all_by, find_by};
+ghost use Rattle.rhai_script.specs.Text.{named, first_name};
 
-use indexmap::IndexMap;
-use indexmap::map::Values;
+use crate::fn_table::{FnKey, FnLibIter, FnTable};
+use crate::text::name_of;
 use rhai_ast::ScriptFuncDef;
 use rhai_base::{ImmutableString, OutOfMemory};
 use std::alloc::{AllocError, Global};
-use std::marker::Model;
 use std::rc::Rc;
 
-/// What tells the functions of a table apart.
-#[derive(Debug, Drop, PartialEq, Eq, Hash)]
-pub struct FnKey {
-    /// The name.
-    pub name: ImmutableString,
-    /// How many parameters there are.
-    pub params: usize,
-    /// The type of the receiver, where the function is a method of one type alone.
-    pub this_type: Option<ImmutableString>,
-}
-
-impl Clone for FnKey {
-    ghost is_clone = { λ k l. l ≡ k };
-
-    fn clone(&self) -> Result<FnKey, AllocError> {
-        Ok(FnKey {
-            name: self.name.clone()?,
-            params: self.params,
-            this_type: self.this_type.clone()?,
-        })
-    }
-}
-
-impl FnKey {
-    fn of(function: &ScriptFuncDef) -> Result<FnKey, AllocError>
-        ensures { IfOk result (λ k. k ≡ fn_key_of function.now) }
-    {
-        Ok(FnKey {
-            name: function.name.clone()?,
-            params: function.params.len(),
-            this_type: function.this_type.clone()?,
-        })
-    }
-}
-
 /// The functions of a script by name, number of parameters and receiver type, in the order in which their keys
-/// came first.
+/// came first; and the table's id.
 #[derive(Drop)]
 pub struct FnLib {
-    functions: IndexMap<FnKey, Rc<ScriptFuncDef>>,
-}
-
-impl Model for FnLib {
-    ghost use Rattle.std.specs.Prelude.{List, map};
-    ghost use Rattle.std.specs.Coded.{coded_list};
-    ghost use Rattle.std.specs.Rc.{rc_value};
-    ghost use Rattle.indexmap.specs.IndexMap.{keys, values};
-    ghost use Rattle.rhai_ast.specs.declared.ast.script_fn.ScriptFuncDef.{ScriptFuncDef};
-    ghost use Rattle.rhai_ast.specs.contracts.ast.script_fn.ScriptFuncDef as function;
-    ghost use Rattle.rhai_script.specs.FnKey.{IsTable};
-
-    ghost Value = { List ScriptFuncDef };
-
-    ghost coded = { coded_list function.the_row.coded };
-
-    ghost view = { λ l. map rc_value (values l.functions) };
-
-    ghost invariant = { λ l. IsTable (keys l.functions) (map rc_value (values l.functions)) };
+    id: Option<ImmutableString>,
+    functions: FnTable,
 }
 
 /// A table that scripts share.
 pub type SharedLib = Rc<FnLib>;
 
+impl Clone for FnLib {
+    ghost is_clone = { λ l m. m ≡ l };
+
+    fn clone(&self) -> Result<FnLib, AllocError> {
+        let id = self.id.clone()?;
+        let functions = self.functions.clone()?;
+        Ok(FnLib { id, functions })
+    }
+}
+
 impl FnLib {
     ghost use Rattle.rhai_script.specs.Script.{functions_of};
-    ghost use Rattle.rhai_script.specs.Table.{put_by};
 
-    /// A table without functions.
+    /// A table without functions and id.
     pub fn new(alloc: Global) -> FnLib
-        ensures { result ≡ [] }
+        ensures id { result.id ≡ None }
+        ensures functions { result.functions ≡ [] }
     {
         FnLib {
-            functions: IndexMap::new(alloc),
+            id: None,
+            functions: FnTable::new(alloc),
         }
     }
 
@@ -96,77 +55,124 @@ impl FnLib {
         functions: Vec<Rc<ScriptFuncDef>>,
     ) -> Result<FnLib, OutOfMemory>
         ensures table { IfOk result (λ lib. functions_of lib ≡ table_of (map function_of (map rc_value functions.items))) }
-        ensures definitions { IfOk result (λ lib. lib ≡ definitions_table (map rc_value functions.items)) }
+        ensures definitions { IfOk result (λ lib. lib.functions ≡ definitions_table (map rc_value functions.items)) }
+        ensures id { IfOk result (λ lib. lib.id ≡ None) }
     {
-        let mut lib = FnLib::new(alloc);
-        for function in functions {
-            lib.put(function)?;
-        }
-        Ok(lib)
+        let functions = FnTable::new(alloc).with_all(functions)?;
+        Ok(FnLib {
+            id: None,
+            functions,
+        })
     }
 
-    fn put(&mut self, function: Rc<ScriptFuncDef>) -> Result<(), OutOfMemory>
-        ensures ok { OnOk result (self.new ≡ put_by definition_key self.old function.value) }
-        ensures err { OnErr result (self.new ≡ self.old) }
+    pub(crate) fn allocator(&self) -> Global {
+        self.functions.allocator()
+    }
+
+    /// The table's id.
+    pub fn id(&self) -> Option<&str>
+        ensures { option_copied result ≡ self.now.id }
     {
-        let key = FnKey::of(&function)?;
-        self.functions.insert(key, function)?;
+        match &self.id {
+            Some(id) => Some(id.as_str()),
+            None => None,
+        }
+    }
+
+    pub(crate) fn copy_id(&self) -> Result<Option<ImmutableString>, OutOfMemory>
+        ensures { IfOk result (λ id. id ≡ self.now.id) }
+    {
+        Ok(self.id.clone()?)
+    }
+
+    /// Sets the id; an empty one is none.
+    pub fn set_id(&mut self, id: &str) -> Result<(), OutOfMemory>
+        ensures ok { OnOk result (self.new.id ≡ named id.now) }
+        ensures err { OnErr result (self.new.id ≡ self.old.id) }
+        ensures functions { self.new.functions ≡ self.old.functions }
+    {
+        self.id = name_of(self.allocator(), id)?;
         Ok(())
+    }
+
+    pub(crate) fn take_id(&mut self, id: Option<ImmutableString>)
+        ensures id { self.new.id ≡ id }
+        ensures functions { self.new.functions ≡ self.old.functions }
+    {
+        self.id = id;
+    }
+
+    /// A table of the same functions and these, each put in in turn, with the id, or else this one's.
+    pub(crate) fn with_all(
+        &self,
+        id: &Option<ImmutableString>,
+        functions: Vec<Rc<ScriptFuncDef>>,
+    ) -> Result<FnLib, OutOfMemory>
+        ensures id { IfOk result (λ lib. lib.id ≡ first_name id.now self.now.id) }
+        ensures functions { IfOk result (λ lib. lib.functions ≡ put_all_by definition_key self.now.functions (map rc_value functions.items)) }
+    {
+        let id = match id {
+            Some(id) => Some(id.clone()?),
+            None => self.id.clone()?,
+        };
+        let functions = self.functions.clone()?.with_all(functions)?;
+        Ok(FnLib { id, functions })
+    }
+
+    /// A table of the same functions without an id.
+    pub(crate) fn without_id(&self) -> Result<FnLib, OutOfMemory>
+        ensures id { IfOk result (λ lib. lib.id ≡ None) }
+        ensures functions { IfOk result (λ lib. lib.functions ≡ self.now.functions) }
+    {
+        let functions = self.functions.clone()?;
+        Ok(FnLib {
+            id: None,
+            functions,
+        })
+    }
+
+    /// A table of these functions with this one's id.
+    pub(crate) fn replaced(&self, functions: Vec<Rc<ScriptFuncDef>>) -> Result<FnLib, OutOfMemory>
+        ensures id { IfOk result (λ lib. lib.id ≡ self.now.id) }
+        ensures functions { IfOk result (λ lib. lib.functions ≡ definitions_table (map rc_value functions.items)) }
+    {
+        let id = self.id.clone()?;
+        let functions = FnTable::new(self.allocator()).with_all(functions)?;
+        Ok(FnLib { id, functions })
+    }
+
+    pub(crate) fn table(&self) -> &FnTable
+        ensures { result.now ≡ self.now.functions }
+    {
+        &self.functions
     }
 
     /// How many functions there are.
     pub fn len(&self) -> usize
-        ensures { result ≡ length self.now }
+        ensures { result ≡ length self.now.functions }
     {
         self.functions.len()
     }
 
     /// Whether there are none.
     pub fn is_empty(&self) -> bool
-        ensures { IsTrue result ↔ (self.now ≡ []) }
+        ensures { IsTrue result ↔ (self.now.functions ≡ []) }
     {
-        self.functions.is_empty()
+        self.functions.len() == 0
+    }
+
+    /// The function of a key.
+    pub fn get(&self, key: &FnKey) -> Option<&Rc<ScriptFuncDef>>
+        ensures { option_map rc_value (option_copied result) ≡ find_by definition_key (key_meant key.now) self.now.functions }
+    {
+        self.functions.get(key)
     }
 
     /// The functions, in the table's order.
     pub fn iter(&self) -> FnLibIter<'_>
-        ensures rest { result ≡ self.now }
+        ensures rest { result ≡ self.now.functions }
         ensures distinct { IsTrue (are_distinct (map key_of (functions_of self.now))) }
     {
-        FnLibIter {
-            values: self.functions.values(),
-        }
-    }
-}
-
-/// The functions of a table, in its order.
-#[derive(Drop)]
-pub struct FnLibIter<'a> {
-    values: Values<'a, FnKey, Rc<ScriptFuncDef>>,
-}
-
-impl<'a> Model for FnLibIter<'a> {
-    ghost use Rattle.std.specs.Prelude.{List, map};
-    ghost use Rattle.std.specs.Coded.{coded_list};
-    ghost use Rattle.std.specs.Rc.{rc_value};
-    ghost use Rattle.rhai_ast.specs.declared.ast.script_fn.ScriptFuncDef.{ScriptFuncDef};
-    ghost use Rattle.rhai_ast.specs.contracts.ast.script_fn.ScriptFuncDef as function;
-
-    ghost Value = { List ScriptFuncDef };
-
-    ghost coded = { coded_list function.the_row.coded };
-
-    ghost view = { λ i. map rc_value i.values };
-}
-
-impl<'a> Iterator for FnLibIter<'a> {
-    type Item = &'a Rc<ScriptFuncDef>;
-
-    ghost next_gives = { YieldsFirstBy shown (λ i. i) };
-
-    ghost remaining = { item_count (λ i. i) };
-
-    fn next(&mut self) -> Option<&'a Rc<ScriptFuncDef>> {
-        self.values.next()
+        self.functions.iter()
     }
 }

@@ -2,7 +2,12 @@
 #![tactic(auto)]
 
 mod ast;
+mod filter;
 mod fn_lib;
+mod fn_table;
+mod text;
 
 pub use ast::AST;
-pub use fn_lib::{FnKey, FnLib, FnLibIter, SharedLib};
+pub use filter::FnNamespace;
+pub use fn_lib::{FnLib, SharedLib};
+pub use fn_table::{FnKey, FnLibIter};

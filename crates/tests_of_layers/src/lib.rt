@@ -28,6 +28,8 @@ mod scopes;
 #[cfg(test)]
 mod scripts;
 #[cfg(test)]
+mod scripts_joined;
+#[cfg(test)]
 mod switches;
 #[cfg(test)]
 mod texts;

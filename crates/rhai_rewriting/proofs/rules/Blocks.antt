@@ -2,11 +2,11 @@
 use Rattle.std.proofs.Common.{◌≡◌, ℕ, Bool, true, false, refl, sym, ap, ◌∙◌}
 use Rattle.std.proofs.lemmas.Bool.{or_parts}
 use Rattle.rhai_values.specs.Value.{Value, UnitV}
-use Rattle.rhai_meaning.specs.Act.{World, Store, Ending, Gives, Leaves, Stop, Scoped, Acts, Only, Env, and_then, leave, run, run_all}
+use Rattle.rhai_meaning.specs.Act.{World, Store, Ending, Gives, Leaves, Stop, Scoped, Acts, Only, Named, Env, and_then, leave, run, run_all}
 use Rattle.rhai_meaning.specs.ActForms.{give, each_value}
-use Rattle.rhai_meaning.specs.Core.{Deed, Stmt, Does, Stmts, no_stmts, stmt}
+use Rattle.rhai_meaning.specs.Core.{Deed, Stmt, Var, Does, Stmts, no_stmts, stmt}
 use Rattle.rhai_meaning.specs.Desugar.{core_stmt, core_stmts}
-use Rattle.rhai_meaning.specs.Meaning.{wanted_value, deed, line, acts}
+use Rattle.rhai_meaning.specs.Meaning.{wanted_value, act, deed, line, acts}
 use Rattle.rhai_meaning.specs.Queries.{is_block_dependent, is_any_dependent}
 use Rattle.rhai_meaning.specs.Tree as tree
 use Rattle.rhai_meaning.proofs.Preserves.{OnlyAdds}
@@ -17,14 +17,15 @@ use Rattle.rhai_rewriting.specs.Rules.{spliced}
 abbrev pub adds_no_name : Stmts → Bool
 adds_no_name no_stmts = true
 adds_no_name (stmt (Does d) ss) = adds_no_name ss
+adds_no_name (stmt (Var c x e) ss) = false
 
 -- a statement that adds a name belongs to its block
-no_name_added : (ss : tree.Stmts) → is_any_dependent ss ≡ false → adds_no_name (core_stmts ss) ≡ true
-no_name_added tree.no_stmts q = refl
-no_name_added (tree.stmt tree.Noop ss) q = no_name_added ss (or_parts (is_block_dependent tree.Noop) (is_any_dependent ss) q).1
-no_name_added (tree.stmt s ss) q = no_name_added ss (or_parts (is_block_dependent s) (is_any_dependent ss) q).1
+no_name_added : (loop : Bool) (ss : tree.Stmts) → is_any_dependent ss ≡ false → adds_no_name (core_stmts loop ss) ≡ true
+no_name_added loop tree.no_stmts q = refl
+no_name_added loop (tree.stmt (tree.Var c n x e) ss) q = absurd (let z : true ≡ false = q in cc)
+no_name_added loop (tree.stmt s ss) q = no_name_added loop ss (or_parts (is_block_dependent s) (is_any_dependent ss) q).1
 
-module _ (w : World) (env : Env) where
+module _ (w : World) (env : Env) (loop : Bool) where
   -- braces around one deed
   pub scoped_deed : OnlyAdds env → (d : Deed) (s : Store) (t : ℕ) → run w env (Scoped (line w (Does d) (λ v. Only (give v)))) s t ≡ run w env (deed w d) s t
   scoped_deed adds d s t = ap (leave s.scope) (line_unit w env (deed w d) s t) ∙ scoped_only w env adds (deed w d) s t
@@ -36,6 +37,7 @@ module _ (w : World) (env : Env) where
   -- braces around a list that adds no name
   pub scoped_list : OnlyAdds env → (ss : Stmts) → adds_no_name ss ≡ true → (b : Bool) (v : Value) (s : Store) (t : ℕ) → run w env (Scoped (acts w b ss v)) s t ≡ run_all w env (acts w b ss v) s t
   scoped_list adds no_stmts q b v s t = scoped_only w env adds (give (wanted_value b v)) s t
+  scoped_list adds (stmt (Var c x e) ss) q b v s t = absurd (let z : false ≡ true = q in cc)
   scoped_list adds (stmt (Does d) ss) q b v s t =
       scoped_do w env adds (deed w d) (λ e. each_value (λ u. acts w b ss u) e) s t ∙ then_same (run w env (deed w d) s t) _ _ (scoped_each adds (λ u. acts w b ss u) (λ u s1 t1. scoped_list adds ss q b u s1 t1))
 
@@ -47,16 +49,18 @@ module _ (w : World) (env : Env) where
 
   line_joined : (l : Stmt) (k k1 next : Value → Acts) → ((v : Value) (s : Store) (t : ℕ) → run_all w env (k v) s t ≡ and_then (run_all w env (k1 v) s t) (λ e. run_all w env (each_value next e))) → (s : Store) (t : ℕ) → run_all w env (line w l k) s t ≡ and_then (run_all w env (line w l k1) s t) (λ e. run_all w env (each_value next e))
   line_joined (Does d) k k1 next h s t = then_same (run w env (deed w d) s t) _ _ (each_joined k k1 next h) ∙ sym (then_assoc (run w env (deed w d) s t) _ _)
+  line_joined (Var c x e) k k1 next h s t =
+      then_same (run w env (act w e) s t) _ _ (each_joined (λ v. Named x c v (k UnitV)) (λ v. Named x c v (k1 UnitV)) next (λ v s1 t1. h UnitV _ t1)) ∙ sym (then_assoc (run w env (act w e) s t) _ _)
 
-  list_joined : (b : Bool) (ss back : tree.Stmts) (v : Value) (s : Store) (t : ℕ) → run_all w env (acts w b (core_stmts (tree.joined ss back)) v) s t ≡ and_then (run_all w env (acts w true (core_stmts ss) v) s t) (λ e. run_all w env (each_value (λ u. acts w b (core_stmts back) u) e))
+  list_joined : (b : Bool) (ss back : tree.Stmts) (v : Value) (s : Store) (t : ℕ) → run_all w env (acts w b (core_stmts loop (tree.joined ss back)) v) s t ≡ and_then (run_all w env (acts w true (core_stmts loop ss) v) s t) (λ e. run_all w env (each_value (λ u. acts w b (core_stmts loop back) u) e))
   list_joined b tree.no_stmts back v s t = refl
-  list_joined b (tree.stmt l ss) back v s t = line_joined (core_stmt l) (λ u. acts w b (core_stmts (tree.joined ss back)) u) (λ u. acts w true (core_stmts ss) u) (λ u. acts w b (core_stmts back) u) (λ u s1 t1. list_joined b ss back u s1 t1) s t
+  list_joined b (tree.stmt l ss) back v s t = line_joined (core_stmt loop l) (λ u. acts w b (core_stmts loop (tree.joined ss back)) u) (λ u. acts w true (core_stmts loop ss) u) (λ u. acts w b (core_stmts loop back) u) (λ u s1 t1. list_joined b ss back u s1 t1) s t
 
-  braces_joined : OnlyAdds env → (b : Bool) (ss back : tree.Stmts) → is_any_dependent ss ≡ false → (s : Store) (t : ℕ) → run_all w env (line w (core_stmt (tree.Block ss)) (λ u. acts w b (core_stmts back) u)) s t ≡ run_all w env (acts w b (core_stmts (tree.joined ss back)) UnitV) s t
-  braces_joined adds b ss back q s t = ap (λ r. and_then r (λ e. run_all w env (each_value (λ u. acts w b (core_stmts back) u) e))) (scoped_list adds (core_stmts ss) (no_name_added ss q) true UnitV s t) ∙ sym (list_joined b ss back UnitV s t)
+  braces_joined : OnlyAdds env → (b : Bool) (ss back : tree.Stmts) → is_any_dependent ss ≡ false → (s : Store) (t : ℕ) → run_all w env (line w (core_stmt loop (tree.Block ss)) (λ u. acts w b (core_stmts loop back) u)) s t ≡ run_all w env (acts w b (core_stmts loop (tree.joined ss back)) UnitV) s t
+  braces_joined adds b ss back q s t = ap (λ r. and_then r (λ e. run_all w env (each_value (λ u. acts w b (core_stmts loop back) u) e))) (scoped_list adds (core_stmts loop ss) (no_name_added loop ss q) true UnitV s t) ∙ sym (list_joined b ss back UnitV s t)
 
   -- a block in a list gives way to its statements
-  pub braces_go : OnlyAdds env → (b : Bool) (ss back : tree.Stmts) → is_any_dependent ss ≡ false → (v : Value) (s : Store) (t : ℕ) → run_all w env (line w (core_stmt (tree.Block ss)) (λ u. acts w b (core_stmts back) u)) s t ≡ run_all w env (acts w b (core_stmts (spliced b ss back)) v) s t
+  pub braces_go : OnlyAdds env → (b : Bool) (ss back : tree.Stmts) → is_any_dependent ss ≡ false → (v : Value) (s : Store) (t : ℕ) → run_all w env (line w (core_stmt loop (tree.Block ss)) (λ u. acts w b (core_stmts loop back) u)) s t ≡ run_all w env (acts w b (core_stmts loop (spliced b ss back)) v) s t
   braces_go adds b (tree.stmt l ss) back q v s t = braces_joined adds b (tree.stmt l ss) back q s t
   braces_go adds b tree.no_stmts (tree.stmt l back) q v s t = braces_joined adds b tree.no_stmts (tree.stmt l back) q s t
   braces_go adds true tree.no_stmts tree.no_stmts q v s t = braces_joined adds true tree.no_stmts tree.no_stmts q s t

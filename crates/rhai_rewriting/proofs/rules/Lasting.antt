@@ -1,9 +1,12 @@
--- What may be asked of every node, so that each rewriting keeps it.
-use Rattle.std.proofs.Common.{◌≡◌, true}
+-- What may be asked of every node, so that each rewriting keeps it; l: whether the tree stands in a loop's body.
+use Rattle.std.proofs.Common.{◌≡◌, Bool, true}
 use Rattle.rhai_values.specs.Value.{Value}
 use Rattle.rhai_meaning.specs.Constants.{constant_for}
-use Rattle.rhai_meaning.specs.Tree.{Callee, Expr, ArrayOf, BlockExpr, FnCall, Exprs, count_exprs, Noop, If, Block, ExprStmt, FnCallStmt, Stmts}
-use Rattle.rhai_meaning.specs.Walk.{Node, OfExpr, OfStmt}
+use Rattle.rhai_meaning.specs.Tree.{SwitchTable, Arms, Callee, Expr, InterpolatedString, ArrayOf, BlockExpr, FnCall, And, Or, Coalesce, Exprs, count_exprs, Noop, If, Switch, While, Block, ExprStmt, FnCallStmt, Stmts}
+use Rattle.rhai_meaning.specs.Faults.{has_operands}
+use Rattle.rhai_meaning.specs.Shape.{is_table}
+use Rattle.rhai_meaning.specs.Walk.{Node, OfExpr, OfStmt, Around, whole}
+use Rattle.rhai_rewriting.specs.Parts.{constant_of}
 use Rattle.rhai_rewriting.proofs.Plain.{is_plain_value}
 
 -- the same node with other parts, a call with as many
@@ -15,12 +18,20 @@ pub data SameNode : Node → Node → Type 0 where
   same_block : {ss ss' : Stmts} → SameNode (OfStmt (Block ss)) (OfStmt (Block ss'))
   same_expression : {e e' : Expr} → SameNode (OfStmt (ExprStmt e)) (OfStmt (ExprStmt e'))
   same_call_statement : {c : Callee} {es es' : Exprs} → count_exprs es ≡ count_exprs es' → SameNode (OfStmt (FnCallStmt c es)) (OfStmt (FnCallStmt c es'))
+  same_and : {es es' : Exprs} → has_operands es' ≡ true → SameNode (OfExpr (And es)) (OfExpr (And es'))
+  same_or : {es es' : Exprs} → has_operands es' ≡ true → SameNode (OfExpr (Or es)) (OfExpr (Or es'))
+  same_coalesce : {es es' : Exprs} → has_operands es' ≡ true → SameNode (OfExpr (Coalesce es)) (OfExpr (Coalesce es'))
+  same_text : {es es' : Exprs} → SameNode (OfExpr (InterpolatedString es)) (OfExpr (InterpolatedString es'))
+  same_while : {e e' : Expr} {b b' : Stmts} → SameNode (OfStmt (While e b)) (OfStmt (While e' b'))
+  same_switch : {e : Expr} {as' bs : Arms} {t t' : SwitchTable} → (is_table as' t ≡ true → is_table bs t' ≡ true) → SameNode (OfStmt (Switch e as' t)) (OfStmt (Switch e bs t'))
 
 -- the same node has it again, and what rules make has it
-pub record Lasting (P : Node → Type 0) : Type 0 where
-  pub again : {n n' : Node} → SameNode n n' → P n → P n'
-  pub constant : (v : Value) → is_plain_value v ≡ true → P (OfExpr (constant_for v))
-  pub noop : P (OfStmt Noop)
-  pub block : (ss : Stmts) → P (OfStmt (Block ss))
-  pub expression : (e : Expr) → P (OfStmt (ExprStmt e))
-  pub call_statement : (c : Callee) (es : Exprs) → P (OfExpr (FnCall c es)) → P (OfStmt (FnCallStmt c es))
+pub record Lasting (P : Around → Node → Type 0) (l : Bool) : Type 0 where
+  pub again : {n n' : Node} → SameNode n n' → P (whole l) n → P (whole l) n'
+  pub constant : (v : Value) → is_plain_value v ≡ true → P (whole l) (OfExpr (constant_for v))
+  pub value : (v : Value) → P (whole l) (OfExpr (constant_of v))
+  pub noop : P (whole l) (OfStmt Noop)
+  pub branching : (e : Expr) (a b : Stmts) → P (whole l) (OfStmt (If e a b))
+  pub block : (ss : Stmts) → P (whole l) (OfStmt (Block ss))
+  pub expression : (e : Expr) → P (whole l) (OfStmt (ExprStmt e))
+  pub call_statement : (c : Callee) (es : Exprs) → P (whole l) (OfExpr (FnCall c es)) → P (whole l) (OfStmt (FnCallStmt c es))

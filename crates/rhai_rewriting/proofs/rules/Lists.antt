@@ -2,12 +2,12 @@
 use Rattle.std.proofs.Common.{◌≡◌, ◌+◌, ◌≤◌, Bool, true, false, arith}
 use Rattle.rhai_meaning.specs.Queries.{is_any_dependent}
 use Rattle.rhai_meaning.specs.Tree.{Block, Stmts, no_stmts, stmt}
-use Rattle.rhai_meaning.specs.Walk.{Node, every, over_stmts}
-use Rattle.rhai_meaning.proofs.Walk.{every_joined, total_joined}
+use Rattle.rhai_meaning.specs.Walk.{Node, Around, whole, throughout, over_stmts}
+use Rattle.rhai_meaning.proofs.Walk.{throughout_joined, total_joined}
 use Rattle.rhai_rewriting.specs.Context.{Context, ListKind, wanted}
 use Rattle.rhai_rewriting.specs.Rules as rule
 use Rattle.rhai_rewriting.specs.Rules.{spliced, ListRule}
-use Rattle.rhai_rewriting.specs.Weight.{own_weight, weight}
+use Rattle.rhai_meaning.specs.Weight.{own_weight, weight}
 use Rattle.rhai_rewriting.proofs.simulation.Setting.{world}
 use Rattle.rhai_rewriting.proofs.simulation.Simulation.{all_equal}
 use Rattle.rhai_rewriting.proofs.simulation.Lists.{list_of_all}
@@ -21,17 +21,17 @@ spliced_light w no_stmts (stmt s back) = omega arith
 spliced_light true no_stmts no_stmts = omega arith
 spliced_light false no_stmts no_stmts = omega arith
 
-spliced_keeps : (P : Node → Type 0) → Lasting P → (b : Bool) (ss back : Stmts) → over_stmts (every P) ss → over_stmts (every P) back → over_stmts (every P) (spliced b ss back)
-spliced_keeps P lasts b (stmt s ss) back h k = every_joined P (stmt s ss) back h k
-spliced_keeps P lasts b no_stmts (stmt s back) h k = k
-spliced_keeps P lasts true no_stmts no_stmts h k = ((lasts.noop, tt), tt)
-spliced_keeps P lasts false no_stmts no_stmts h k = tt
+spliced_keeps : (P : Around → Node → Type 0) (l : Bool) → Lasting P l → (b : Bool) (ss back : Stmts) → over_stmts (throughout P) ss (whole l) → over_stmts (throughout P) back (whole l) → over_stmts (throughout P) (spliced b ss back) (whole l)
+spliced_keeps P l lasts b (stmt s ss) back h k = throughout_joined P (whole l) (stmt s ss) back h k
+spliced_keeps P l lasts b no_stmts (stmt s back) h k = k
+spliced_keeps P l lasts true no_stmts no_stmts h k = ((lasts.noop, tt), tt)
+spliced_keeps P l lasts false no_stmts no_stmts h k = tt
 
 pub block_gives_way : {k : Context} {m : ListKind} {ss back : Stmts} → is_any_dependent ss ≡ false → ListObligation k m (stmt (Block ss) back) (spliced (wanted m) ss back)
 block_gives_way {m = m} {ss = ss} {back = back} q = record {
   lighter = omega (arith, spliced_light (wanted m) ss back);
-  keeps = λ P lasts h. spliced_keeps P lasts (wanted m) ss back h.0.1 h.1;
-  sound = λ c v. list_of_all m (all_equal (λ n. braces_go (world c) n.env n.adds (wanted m) ss back q v n.store n.turns));
+  keeps = λ P l lasts h. spliced_keeps P l lasts (wanted m) ss back h.0.1 h.1;
+  sound = λ c v. list_of_all m (all_equal (λ n. braces_go (world c) n.env c.in_loop n.adds (wanted m) ss back q v n.store n.turns));
 }
 
 -- ---- every rule

@@ -4,9 +4,9 @@ use Rattle.rhai_values.specs.Value.{Value}
 use Rattle.rhai_meaning.specs.Desugar.{core_expr, core_stmt, core_stmts}
 use Rattle.rhai_meaning.specs.Meaning.{act, acts}
 use Rattle.rhai_meaning.specs.Tree.{Expr, Stmt, Stmts}
-use Rattle.rhai_meaning.specs.Walk.{Node, every, over_expr, over_stmt, over_stmts}
+use Rattle.rhai_meaning.specs.Walk.{Node, Around, whole, throughout, over_expr, over_stmt, over_stmts}
 use Rattle.rhai_rewriting.specs.Context.{Context, ListKind, wanted}
-use Rattle.rhai_rewriting.specs.Weight.{expr_weight, stmt_weight, weight}
+use Rattle.rhai_meaning.specs.Weight.{expr_weight, stmt_weight, weight}
 use Rattle.rhai_rewriting.proofs.simulation.Setting.{Setting, world}
 use Rattle.rhai_rewriting.proofs.simulation.Simulation.{Simulates}
 use Rattle.rhai_rewriting.proofs.simulation.Forms.{SimulatesStmt}
@@ -15,15 +15,15 @@ use Rattle.rhai_rewriting.proofs.rules.Lasting.{Lasting}
 
 pub record ExprObligation (k : Context) (e e' : Expr) : Type 1 where
   pub lighter : expr_weight e' < expr_weight e
-  pub keeps : (P : Node → Type 0) → Lasting P → over_expr (every P) e → over_expr (every P) e'
-  pub sound : (c : Setting k) → Simulates c (act (world c) (core_expr e)) (act (world c) (core_expr e'))
+  pub keeps : (P : Around → Node → Type 0) (l : Bool) → Lasting P l → over_expr (throughout P) e (whole l) → over_expr (throughout P) e' (whole l)
+  pub sound : (c : Setting k) → Simulates c (act (world c) (core_expr c.in_loop e)) (act (world c) (core_expr c.in_loop e'))
 
 pub record StmtObligation (k : Context) (w : Bool) (s s' : Stmt) : Type 1 where
   pub lighter : stmt_weight s' < stmt_weight s
-  pub keeps : (P : Node → Type 0) → Lasting P → over_stmt (every P) s → over_stmt (every P) s'
-  pub sound : (c : Setting k) → SimulatesStmt c w (core_stmt s) (core_stmt s')
+  pub keeps : (P : Around → Node → Type 0) (l : Bool) → Lasting P l → over_stmt (throughout P) s (whole l) → over_stmt (throughout P) s' (whole l)
+  pub sound : (c : Setting k) → SimulatesStmt c w (core_stmt c.in_loop s) (core_stmt c.in_loop s')
 
 pub record ListObligation (k : Context) (m : ListKind) (ss ss' : Stmts) : Type 1 where
   pub lighter : weight ss' < weight ss
-  pub keeps : (P : Node → Type 0) → Lasting P → over_stmts (every P) ss → over_stmts (every P) ss'
-  pub sound : (c : Setting k) (v : Value) → SimulatesList c m (acts (world c) (wanted m) (core_stmts ss) v) (acts (world c) (wanted m) (core_stmts ss') v)
+  pub keeps : (P : Around → Node → Type 0) (l : Bool) → Lasting P l → over_stmts (throughout P) ss (whole l) → over_stmts (throughout P) ss' (whole l)
+  pub sound : (c : Setting k) (v : Value) → SimulatesList c m (acts (world c) (wanted m) (core_stmts c.in_loop ss) v) (acts (world c) (wanted m) (core_stmts c.in_loop ss') v)

@@ -11,15 +11,15 @@ use Rattle.rhai_meaning.specs.Engine.{Engine, is_open}
 use Rattle.rhai_meaning.specs.Meaning.{act, deed, acts}
 use Rattle.rhai_meaning.specs.Queries.{is_block_dependent}
 use Rattle.rhai_meaning.specs.Relations.{here}
-use Rattle.rhai_meaning.specs.Tree.{CallToken, NoToken, OfOperator, OfOther, Callee, Expr, UnitConstant, ArrayOf, BlockExpr, FnCall, Exprs, no_exprs, expr, Stmt, Noop, If, Block, ExprStmt, FnCallStmt, Stmts, no_stmts, stmt}
+use Rattle.rhai_meaning.specs.Tree.{CallToken, NoToken, OfOperator, OfOther, Callee, Expr, UnitConstant, ArrayOf, BlockExpr, FnCall, Exprs, no_exprs, expr, Stmt, Noop, If, Var, Block, ExprStmt, FnCallStmt, Stmts, no_stmts, stmt}
 use Rattle.rhai_meaning.proofs.Preserves.{preserves}
 use Rattle.rhai_meaning.proofs.Sequencing.{leave_same, SameRunAll, line_only, line_same, line_unit}
-use Rattle.rhai_meaning.specs.Walk.{Node, every, over_expr, over_stmt, over_stmts}
+use Rattle.rhai_meaning.specs.Walk.{Node, Around, whole, throughout, over_expr, over_stmt, over_stmts}
 use Rattle.rhai_rewriting.specs.Context.{Context}
 use Rattle.rhai_rewriting.specs.Folding.{folded_values, folded}
 use Rattle.rhai_rewriting.specs.Rules as rule
 use Rattle.rhai_rewriting.specs.Rules.{block_or_noop, chosen, condition_alone, StmtRule}
-use Rattle.rhai_rewriting.specs.Weight.{expr_weight, exprs_weight, stmt_weight, weight}
+use Rattle.rhai_meaning.specs.Weight.{expr_weight, exprs_weight, stmt_weight, weight}
 use Rattle.rhai_rewriting.proofs.Plain.{folded_plain}
 use Rattle.rhai_rewriting.proofs.simulation.Setting.{Setting, world, run_from}
 use Rattle.rhai_rewriting.proofs.simulation.Simulation.{OrStuck, equal, is_stuck, Simulates, simulates_trans, all_trans, simulates_equal, all_equal, all_refl, simulates_or_stuck, simulates_refl}
@@ -28,6 +28,10 @@ use Rattle.rhai_rewriting.proofs.rules.Blocks.{scoped_deed, scoped_list}
 use Rattle.rhai_rewriting.proofs.simulation.Unwanted.{before_any}
 use Rattle.rhai_rewriting.proofs.rules.Constants.{or_stuck, expr_given, branch_given}
 use Rattle.rhai_rewriting.proofs.rules.Expressions.{constant_light, constant_keeps, call_folds}
+use Rattle.rhai_rewriting.proofs.rules.Control as control
+use Rattle.rhai_rewriting.proofs.rules.Forgetting as forgetting
+use Rattle.rhai_rewriting.proofs.rules.Tables as tables
+use Rattle.rhai_rewriting.proofs.rules.Switches as switches
 use Rattle.rhai_rewriting.proofs.rules.Lasting.{Lasting}
 use Rattle.rhai_rewriting.proofs.rules.Obligation.{StmtObligation}
 
@@ -47,28 +51,28 @@ condition_light : (w : Bool) (e : Expr) → stmt_weight (condition_alone w e) �
 condition_light true e = omega arith
 condition_light false e = omega arith
 
-condition_keeps : (P : Node → Type 0) → Lasting P → (b : Bool) (e : Expr) → over_expr (every P) e → over_stmt (every P) (condition_alone b e)
-condition_keeps P lasts true e h = (lasts.block _, ((lasts.expression e, h), ((lasts.noop, tt), tt)))
-condition_keeps P lasts false e h = (lasts.expression e, h)
+condition_keeps : (P : Around → Node → Type 0) (l : Bool) → Lasting P l → (b : Bool) (e : Expr) → over_expr (throughout P) e (whole l) → over_stmt (throughout P) (condition_alone b e) (whole l)
+condition_keeps P l lasts true e h = (lasts.block _, ((lasts.expression e, h), ((lasts.noop, tt), tt)))
+condition_keeps P l lasts false e h = (lasts.expression e, h)
 
 -- the condition, and then unit
 abbrev alone : {k : Context} → Setting k → Expr → Act
-alone c e = act (world c) (core_expr e) >>= λ v. unit
+alone c e = act (world c) (core_expr c.in_loop e) >>= λ v. unit
 
-if_to_alone : {k : Context} (c : Setting k) (e : Expr) → Simulates c (deed (world c) (core.If (core_expr e) core.no_stmts core.no_stmts)) (alone c e)
+if_to_alone : {k : Context} (c : Setting k) (e : Expr) → Simulates c (deed (world c) (core.If (core_expr c.in_loop e) core.no_stmts core.no_stmts)) (alone c e)
 if_to_alone c e = simulates_bind simulates_refl (λ v. simulates_or_stuck (λ m. empty_blocks (world c) m.env (truth v) m.store m.turns))
 
-if_alone : {k : Context} (c : Setting k) (w : Bool) (e : Expr) → SimulatesStmt c w (core_stmt (If e no_stmts no_stmts)) (core_stmt (condition_alone w e))
+if_alone : {k : Context} (c : Setting k) (w : Bool) (e : Expr) → SimulatesStmt c w (core_stmt c.in_loop (If e no_stmts no_stmts)) (core_stmt c.in_loop (condition_alone w e))
 if_alone c true e = stmt_of_deed (simulates_trans (if_to_alone c e)
-    (simulates_equal (λ m. noop_list (world c) m.env (act (world c) (core_expr e)) m.store m.turns ∙ sym (scoped_list (world c) m.env m.adds (core_stmts (stmt (ExprStmt e) (stmt Noop no_stmts))) refl true UnitV m.store m.turns))))
+    (simulates_equal (λ m. noop_list (world c) m.env (act (world c) (core_expr c.in_loop e)) m.store m.turns ∙ sym (scoped_list (world c) m.env c.in_loop m.adds (core_stmts c.in_loop (stmt (ExprStmt e) (stmt Noop no_stmts))) refl true UnitV m.store m.turns))))
 if_alone c false e = record {
-  before = λ p. all_trans (all_line (if_to_alone c e) (λ v. all_refl {p = p})) (all_equal (λ m. before_any (world c) m.env (act (world c) (core_expr e)) p m.store m.turns));
+  before = λ p. all_trans (all_line (if_to_alone c e) (λ v. all_refl {p = p})) (all_equal (λ m. before_any (world c) m.env (act (world c) (core_expr c.in_loop e)) p m.store m.turns));
 }
 
 pub if_without_blocks : {k : Context} {w : Bool} {e : Expr} → StmtObligation k w (If e no_stmts no_stmts) (condition_alone w e)
 if_without_blocks {w = w} {e = e} = record {
   lighter = omega (arith, condition_light w e);
-  keeps = λ P lasts h. condition_keeps P lasts w e h.1.0;
+  keeps = λ P l lasts h. condition_keeps P l lasts w e h.1.0;
   sound = λ c. if_alone c w e;
 }
 
@@ -77,22 +81,22 @@ if_without_blocks {w = w} {e = e} = record {
 pub block_empty : {k : Context} {w : Bool} → StmtObligation k w (Block no_stmts) Noop
 block_empty = record {
   lighter = omega arith;
-  keeps = λ P lasts h. (lasts.noop, tt);
+  keeps = λ P l lasts h. (lasts.noop, tt);
   sound = λ c. stmt_of_deed (simulates_equal (λ m. leave_same m.store (Gives UnitV) m.turns));
 }
 
 -- braces around one deed
 braces_of_deed : {k : Context} (c : Setting k) (w : Bool) (d : core.Deed) → SimulatesStmt c w (core.Does (core.Block (core.stmt (core.Does d) core.no_stmts))) (core.Does d)
-braces_of_deed c w d = stmt_of_deed (simulates_equal (λ m. scoped_deed (world c) m.env m.adds d m.store m.turns))
+braces_of_deed c w d = stmt_of_deed (simulates_equal (λ m. scoped_deed (world c) m.env c.in_loop m.adds d m.store m.turns))
 
-lone_statement : {k : Context} (c : Setting k) (w : Bool) (s : Stmt) → is_block_dependent s ≡ false → SimulatesStmt c w (core_stmt (Block (stmt s no_stmts))) (core_stmt s)
-lone_statement c w Noop q = braces_of_deed c w _
+lone_statement : {k : Context} (c : Setting k) (w : Bool) (s : Stmt) → is_block_dependent s ≡ false → SimulatesStmt c w (core_stmt c.in_loop (Block (stmt s no_stmts))) (core_stmt c.in_loop s)
+lone_statement c w (Var d n x e) q = absurd (let z : true ≡ false = q in cc)
 lone_statement c w _ q = braces_of_deed c w _
 
 pub block_of_statement : {k : Context} {w : Bool} {s : Stmt} → is_block_dependent s ≡ false → StmtObligation k w (Block (stmt s no_stmts)) s
 block_of_statement {w = w} {s = s} q = record {
   lighter = omega arith;
-  keeps = λ P lasts h. h.1.0;
+  keeps = λ P l lasts h. h.1.0;
   sound = λ c. lone_statement c w s q;
 }
 
@@ -101,11 +105,11 @@ block_light : (ss : Stmts) → stmt_weight (block_or_noop ss) ≤ 3 + weight ss
 block_light no_stmts = omega arith
 block_light (stmt s ss) = omega arith
 
-block_keeps : (P : Node → Type 0) → Lasting P → (ss : Stmts) → over_stmts (every P) ss → over_stmt (every P) (block_or_noop ss)
-block_keeps P lasts no_stmts h = (lasts.noop, tt)
-block_keeps P lasts (stmt s ss) h = (lasts.block (stmt s ss), h)
+block_keeps : (P : Around → Node → Type 0) (l : Bool) → Lasting P l → (ss : Stmts) → over_stmts (throughout P) ss (whole l) → over_stmt (throughout P) (block_or_noop ss) (whole l)
+block_keeps P l lasts no_stmts h = (lasts.noop, tt)
+block_keeps P l lasts (stmt s ss) h = (lasts.block (stmt s ss), h)
 
-or_noop : {k : Context} (c : Setting k) (w : Bool) (ss : Stmts) → SimulatesStmt c w (core_stmt (Block ss)) (core_stmt (block_or_noop ss))
+or_noop : {k : Context} (c : Setting k) (w : Bool) (ss : Stmts) → SimulatesStmt c w (core_stmt c.in_loop (Block ss)) (core_stmt c.in_loop (block_or_noop ss))
 or_noop c w no_stmts = block_empty.sound c
 or_noop c w (stmt s ss) = stmt_refl
 
@@ -115,27 +119,27 @@ chosen_light : (t : Bool) (a b : Stmts) → weight (chosen t a b) ≤ weight a +
 chosen_light true a b = omega arith
 chosen_light false a b = omega arith
 
-chosen_keeps : (P : Node → Type 0) (t : Bool) (a b : Stmts) → over_stmts (every P) a → over_stmts (every P) b → over_stmts (every P) (chosen t a b)
-chosen_keeps P true a b h k = h
-chosen_keeps P false a b h k = k
+chosen_keeps : (P : Around → Node → Type 0) (l : Bool) (t : Bool) (a b : Stmts) → over_stmts (throughout P) a (whole l) → over_stmts (throughout P) b (whole l) → over_stmts (throughout P) (chosen t a b) (whole l)
+chosen_keeps P l true a b h k = h
+chosen_keeps P l false a b h k = k
 
-branch_chosen : (w : World) (t : Bool) (x y : Stmts) → branch (Some t) (Scoped (acts w true (core_stmts x) UnitV)) (Scoped (acts w true (core_stmts y) UnitV)) ≡ Scoped (acts w true (core_stmts (chosen t x y)) UnitV)
-branch_chosen w true x y = refl
-branch_chosen w false x y = refl
+branch_chosen : (w : World) (l t : Bool) (x y : Stmts) → branch (Some t) (Scoped (acts w true (core_stmts l x) UnitV)) (Scoped (acts w true (core_stmts l y) UnitV)) ≡ Scoped (acts w true (core_stmts l (chosen t x y)) UnitV)
+branch_chosen w l true x y = refl
+branch_chosen w l false x y = refl
 
-if_to_block : {k : Context} (c : Setting k) (e : Expr) (t : Bool) (x y : Stmts) → constant_bool e ≡ Some t → Simulates c (deed (world c) (core.If (core_expr e) (core_stmts x) (core_stmts y))) (deed (world c) (core.Block (core_stmts (chosen t x y))))
+if_to_block : {k : Context} (c : Setting k) (e : Expr) (t : Bool) (x y : Stmts) → constant_bool e ≡ Some t → Simulates c (deed (world c) (core.If (core_expr c.in_loop e) (core_stmts c.in_loop x) (core_stmts c.in_loop y))) (deed (world c) (core.Block (core_stmts c.in_loop (chosen t x y))))
 if_to_block c e t x y h =
     let w = world c in
-    let xs = Scoped (acts w true (core_stmts x) UnitV) in
-    let ys = Scoped (acts w true (core_stmts y) UnitV) in
-    subst (λ z. Simulates c (deed w (core.If (core_expr e) (core_stmts x) (core_stmts y))) z) (branch_chosen w t x y)
+    let xs = Scoped (acts w true (core_stmts c.in_loop x) UnitV) in
+    let ys = Scoped (acts w true (core_stmts c.in_loop y) UnitV) in
+    subst (λ z. Simulates c (deed w (core.If (core_expr c.in_loop e) (core_stmts c.in_loop x) (core_stmts c.in_loop y))) z) (branch_chosen w c.in_loop t x y)
     (simulates_or_stuck {b = branch (Some t) xs ys} (λ m.
-    or_stuck _ _ m.store m.turns (branch_given w m.env (constant_value e) (run_from c m (act w (core_expr e))) t m.store m.turns xs ys (expr_given w m.env e m.store m.turns) h) (preserves w m.env m.adds (branch (Some t) xs ys) m.store m.turns).calls))
+    or_stuck _ _ m.store m.turns (branch_given w m.env c.in_loop (constant_value e) (run_from c m (act w (core_expr c.in_loop e))) t m.store m.turns xs ys (expr_given w m.env c.in_loop e m.store m.turns) h) (preserves w m.env m.adds (branch (Some t) xs ys) m.store m.turns).calls))
 
 pub if_decided : {k : Context} {w t : Bool} {e : Expr} {a b : Stmts} → constant_bool e ≡ Some t → StmtObligation k w (If e a b) (block_or_noop (chosen t a b))
 if_decided {w = w} {t = t} {e = e} {a = a} {b = b} q = record {
   lighter = omega (arith, block_light (chosen t a b), chosen_light t a b);
-  keeps = λ P lasts h. block_keeps P lasts (chosen t a b) (chosen_keeps P t a b h.1.1.0 h.1.1.1);
+  keeps = λ P l lasts h. block_keeps P l lasts (chosen t a b) (chosen_keeps P l t a b h.1.1.0 h.1.1.1);
   sound = λ c. stmt_trans (stmt_of_deed (if_to_block c e t a b q)) (or_noop c w (chosen t a b));
 }
 
@@ -144,14 +148,14 @@ if_decided {w = w} {t = t} {e = e} {a = a} {b = b} q = record {
 pub statement_of_braces : {k : Context} {w : Bool} {ss : Stmts} → StmtObligation k w (ExprStmt (BlockExpr ss)) (block_or_noop ss)
 statement_of_braces {w = w} {ss = ss} = record {
   lighter = omega (arith, block_light ss);
-  keeps = λ P lasts h. block_keeps P lasts ss h.1.1;
+  keeps = λ P l lasts h. block_keeps P l lasts ss h.1.1;
   sound = λ c. record { before = λ rest. (or_noop c w ss).before rest };
 }
 
 pub statement_of_call : {k : Context} {w : Bool} {c : Callee} {es : Exprs} → StmtObligation k w (ExprStmt (FnCall c es)) (FnCallStmt c es)
 statement_of_call {c = c} {es = es} = record {
   lighter = omega arith;
-  keeps = λ P lasts h. (lasts.call_statement c es h.1.0, h.1.1);
+  keeps = λ P l lasts h. (lasts.call_statement c es h.1.0, h.1.1);
   sound = λ c. stmt_refl;
 }
 
@@ -183,7 +187,7 @@ folded_heavy engine c (expr e es) v h = omega (arith, expr_heavy e)
 pub call_statement_folds : {k : Context} {w : Bool} {c : Callee} {es : Exprs} {v : Value} → folded k.engine c es ≡ Some v → StmtObligation k w (FnCallStmt c es) (ExprStmt (constant_for v))
 call_statement_folds {k = k} {c = c} {es = es} {v = v} q = record {
   lighter = omega (arith, constant_light v (folded_plain k.engine c es v q), folded_heavy k.engine c es v q);
-  keeps = λ P lasts h. (lasts.expression (constant_for v), constant_keeps P lasts v (folded_plain k.engine c es v q));
+  keeps = λ P l lasts h. (lasts.expression (constant_for v), constant_keeps P l lasts v (folded_plain k.engine c es v q));
   sound = λ s. stmt_of_deed (call_folds s c es v q);
 }
 
@@ -197,3 +201,12 @@ stmt_rule (rule.block_of_statement h) = block_of_statement h
 stmt_rule rule.statement_of_braces = statement_of_braces
 stmt_rule rule.statement_of_call = statement_of_call
 stmt_rule (rule.call_statement_folds h) = call_statement_folds h
+stmt_rule (rule.while_false h) = control.while_false h
+stmt_rule (rule.while_true h) = control.while_true h
+stmt_rule (rule.pure_try h) = control.pure_try h
+stmt_rule (rule.switch_answers v j js h q r x) = switches.switch_answers v j js h q r x
+stmt_rule (rule.switch_is_if v j h q r x) = switches.switch_is_if v j h q r x
+stmt_rule (rule.switch_defaults v h q) = switches.switch_defaults v h q
+stmt_rule (rule.switch_forgets j h q x) = forgetting.switch_forgets j h q x
+stmt_rule (rule.switch_narrows v h q d o x y) = tables.switch_narrows v h q d o x y
+stmt_rule (rule.switch_shrinks h q x y) = tables.switch_shrinks h q x y

@@ -96,7 +96,7 @@ at_do {k = k} {c = c} {g = g} {a = a} {next = next} {next' = next'} i h = record
   };
 }
 
-at_only : {k : Context} {c : Setting k} {g : Stage} {a b : Act} → SimulatesAt c g a b → SimulatesAllAt c g (Only a) (Only b)
+pub at_only : {k : Context} {c : Setting k} {g : Stage} {a b : Act} → SimulatesAt c g a b → SimulatesAllAt c g (Only a) (Only b)
 at_only {c = c} {a = a} i = record {
   matches = λ s t ag.
       let z = i.matches s t ag in
@@ -127,7 +127,7 @@ at_scoped {c = c} {p = p} i = record {
   };
 }
 
-at_named : {k : Context} {c : Setting k} {g : Stage} (x : Text) (b : Bool) (v : Value) {p q : Acts} → SimulatesAllAt (beneath x c) g p q → SimulatesAllAt c g (Named x b v p) (Named x b v q)
+pub at_named : {k : Context} {c : Setting k} {g : Stage} (x : Text) (b : Bool) (v : Value) {p q : Acts} → SimulatesAllAt (beneath x c) g p q → SimulatesAllAt c g (Named x b v p) (Named x b v q)
 at_named {k = k} {c = c} x b v {p = p} i = record {
   matches = λ s t ag.
       let s1 : Store = record s { scope = record { name = x; constant = b; value = v } ∷ s.scope } in
@@ -195,7 +195,7 @@ mutual
   at_refl (Then a next) c g m = at_then (at_refl a c g m) (λ e. at_refl (next e) c g m)
   at_refl (Turn a) c g m = at_turn (at_refl a c g m)
   at_refl (Read r) c g m = at_equal (λ s t ag. refl)
-  at_refl (Write r v) c g m = at_equal (λ s t ag. refl)
+  at_refl (Write must r v) c g m = at_equal (λ s t ag. refl)
   at_refl (AskHost call next) c g m = at_ask call (λ a. at_refl (next a) c g m)
   at_refl (Invoke a next) c g m = at_invoke a m (λ v u. at_refl (next v u) c g m)
   at_refl (Loop a) c g m = at_loop m.rounds (at_refl a c g m)

@@ -1,5 +1,5 @@
 -- What lemmas on runs share: where a tree stands, the world, and the environments by depth.
-use Rattle.std.proofs.Common.{ℕ, ◌≤◌, List, arith}
+use Rattle.std.proofs.Common.{ℕ, ◌≤◌, Bool, List, arith}
 use Rattle.rhai_values.specs.Value.{Text}
 use Rattle.rhai_meaning.specs.Act.{Host, Key, Store, World, Result, Act, Acts, Env, run, run_all}
 use Rattle.rhai_meaning.proofs.Preserves.{OnlyAdds}
@@ -15,10 +15,13 @@ pub record Environments : Type 0 where
   pub deeper : (d d' n : ℕ) → d ≤ d' → Deeper IsOut tt n (by_depth d) (by_depth d')
   pub reaches : (d : ℕ) → d ≤ (by_depth d).rounds
 
+-- a world with this engine's record, and environments
 pub record Setting (k : Context) : Type 0 where
   pub host : Host
   pub functions : List Key
   pub environments : Environments
+  -- whether the tree stands in a loop's body
+  pub in_loop : Bool
 
 abbrev pub world : {k : Context} → Setting k → World
 world {k} c = record { engine = k.engine; host = c.host; functions = c.functions }
@@ -31,7 +34,7 @@ abbrev pub naming : Text → Context → Context
 naming x k = record k { known = shadow x k.known }
 
 abbrev pub beneath : {k : Context} (x : Text) → Setting k → Setting (naming x k)
-beneath x c = record { host = c.host; functions = c.functions; environments = c.environments }
+beneath x c = record { host = c.host; functions = c.functions; environments = c.environments; in_loop = c.in_loop }
 
 -- what is known holds in the store
 abbrev pub Agreed : Context → Store → Type 0
@@ -62,7 +65,7 @@ run_all_by_depth c p d = run_all (world c) (environment c d) p
 pub adds_at : {k : Context} (c : Setting k) (d : ℕ) → OnlyAdds (environment c d)
 adds_at c d = (c.environments.deeper d d 0 (omega arith)).adds
 
-pub steady_at : {k : Context} (c : Setting k) (d : ℕ) → Deeper AnyHalt tt 0 (environment c d) (environment c d)
+abbrev pub steady_at : {k : Context} (c : Setting k) (d : ℕ) → Deeper AnyHalt tt 0 (environment c d) (environment c d)
 steady_at c d =
     let h = c.environments.deeper d d 0 (omega arith) in
     record { rounds = h.rounds; invoke = λ a scope calls t t' le. follows_weak (h.invoke a scope calls t t' le); adds = h.adds }

@@ -25,7 +25,7 @@ environments lends w fs = record { by_depth = env_at lends w fs; deeper = deeper
 
 -- in a world, whatever the environments
 abbrev pub setting_in : (w : World) (known : List Known) → Environments → Setting (record { engine = w.engine; known = known })
-setting_in w known envs = record { host = w.host; functions = w.functions; environments = envs }
+setting_in w known envs = record { host = w.host; functions = w.functions; environments = envs; in_loop = false }
 
 pub record BodySimulates (w : World) (known : List Known) (ss ss' : Stmts) : Type 0 where
   pub body : (envs : Environments) → SimulatesAll (setting_in w known envs) (body_acts w ss) (body_acts w ss')

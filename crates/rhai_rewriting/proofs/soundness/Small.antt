@@ -1,14 +1,16 @@
 -- Statements all of whose calls are those of operators stay so.
-use Rattle.std.proofs.Common.{◌≡◌, Bool, true}
-use Rattle.rhai_values.specs.Value.{Value, PointerV}
+use Rattle.std.proofs.Common.{◌≡◌, Bool, true, false}
+use Rattle.rhai_values.specs.Value.{Value, UnitV, PointerV}
 use Rattle.rhai_meaning.specs.Constants.{constant_for}
 use Rattle.rhai_meaning.specs.Small.{CallsOperator}
 use Rattle.rhai_meaning.specs.Tree.{Stmts}
-use Rattle.rhai_meaning.specs.Walk.{Node, OfExpr, every, over_stmts}
+use Rattle.rhai_meaning.specs.Walk.{Node, OfExpr, Around, outermost, every, throughout, over_stmts}
+use Rattle.rhai_meaning.proofs.Walk.{stmts_alongside, every_throughout}
 use Rattle.rhai_rewriting.specs.Context.{Context, ListKind}
 use Rattle.rhai_rewriting.specs.Rewriting.{StmtsTo}
+use Rattle.rhai_rewriting.specs.Parts.{constant_of}
 use Rattle.rhai_rewriting.proofs.Plain.{is_plain_value}
-use Rattle.rhai_rewriting.proofs.rules.Lasting.{SameNode, same_call, same_call_statement, Lasting}
+use Rattle.rhai_rewriting.proofs.rules.Lasting.{SameNode, same_call, same_call_statement, same_and, same_or, same_coalesce, same_text, same_while, same_switch, Lasting}
 use Rattle.rhai_rewriting.proofs.soundness.Lasting.{stmts_keep}
 
 -- a constant is no call
@@ -19,17 +21,33 @@ constant_callless _ p = tt
 callee_again : {n n' : Node} → SameNode n n' → CallsOperator n → CallsOperator n'
 callee_again (same_call e) h = h
 callee_again (same_call_statement e) h = h
+callee_again (same_and e) h = h
+callee_again (same_or e) h = h
+callee_again (same_coalesce e) h = h
+callee_again same_text h = h
+callee_again same_while h = h
+callee_again (same_switch e) h = h
 callee_again _ h = tt
 
-operators_last : Lasting CallsOperator
+value_callless : (v : Value) → CallsOperator (OfExpr (constant_of v))
+value_callless UnitV = tt
+value_callless _ = tt
+
+operators_last : Lasting (λ a n. CallsOperator n) false
 operators_last = record {
   again = callee_again;
   constant = constant_callless;
+  value = value_callless;
   noop = tt;
+  branching = λ e a b. tt;
   block = λ ss. tt;
   expression = λ e. tt;
   call_statement = λ c es h. h;
 }
 
 pub calls_stay : {k : Context} {m : ListKind} {d d' : Bool} {ss ss' : Stmts} → StmtsTo k m d d' ss ss' → over_stmts (every CallsOperator) ss → over_stmts (every CallsOperator) ss'
-calls_stay to h = stmts_keep CallsOperator operators_last to h
+calls_stay {ss = ss} {ss' = ss'} to h =
+    let before = stmts_alongside (λ p q. (a : Around) → (p → q a) × (q a → p)) (every CallsOperator) (throughout (λ a n. CallsOperator n)) (every_throughout CallsOperator) ss outermost in
+    let after = stmts_alongside (λ p q. (a : Around) → (p → q a) × (q a → p)) (every CallsOperator) (throughout (λ a n. CallsOperator n)) (every_throughout CallsOperator) ss' outermost in
+    after.1 (stmts_keep (λ a n. CallsOperator n) false operators_last to (before.0 h))
+

@@ -11,7 +11,7 @@ use Rattle.rhai_rewriting.specs.Context.{Whole, under}
 use Rattle.rhai_rewriting.specs.Known.{Known, Agrees}
 use Rattle.rhai_rewriting.specs.Refines.{RunRefines, Refines}
 use Rattle.rhai_rewriting.specs.Rewriting.{StmtsTo}
-use Rattle.rhai_rewriting.specs.Weight.{weight}
+use Rattle.rhai_meaning.specs.Weight.{weight}
 use Rattle.rhai_rewriting.proofs.Weights.{stmts_fall}
 use Rattle.rhai_rewriting.proofs.simulation.Agreement.{agrees_nothing}
 use Rattle.rhai_rewriting.proofs.simulation.Simulation.{all_refl}
@@ -30,7 +30,7 @@ keeps_meaning engine host known d d' p p' scope e to same ag =
     let w = world_of engine host (core_script p).functions in
     let c : RunRefines (run_script engine host (core_script p) e scope) (run_script engine host (core_script q) e scope) =
     run_refines true w known [] (core_script p) (core_script q) scope (inside_nothing w) (record {
-      statements = record { body = λ envs. (stmts_sound to (setting_in w known envs) UnitV).closed };
+      statements = record { body = λ envs. (stmts_sound to known (setting_in w known envs) UnitV).closed };
       functions = functions_same w (core_script p).functions;
     }) ag e in
     subst (λ fs. RunRefines (run_script engine host (core_script p) e scope) (run_script engine host (core_script (record { statements = p'.statements; functions = fs })) e scope)) (sym same) c

@@ -1,39 +1,50 @@
 -- A well-formed tree stays well-formed.
-use Rattle.std.proofs.Common.{◌≡◌, Bool, true, refl, subst}
-use Rattle.rhai_values.specs.Value.{Value, UnitV, BoolV, IntV, CharV, TextV, PointerV}
+use Rattle.std.proofs.Common.{◌≡◌, Bool, true, false, Some, None, refl, ap, subst}
+use Rattle.rhai_values.specs.Value.{Value, UnitV, PointerV}
 use Rattle.rhai_meaning.specs.Constants.{constant_for}
-use Rattle.rhai_meaning.specs.Faults.{has_token, HasNoFault, AreWellFormed}
+use Rattle.rhai_meaning.specs.Faults.{NoOperands, SwitchFault, unless, call_fault, IsFaultless, AreWellFormed}
+use Rattle.rhai_meaning.specs.Shape.{is_table}
 use Rattle.rhai_meaning.specs.Tree.{Stmts}
-use Rattle.rhai_meaning.specs.Walk.{Node, OfExpr}
+use Rattle.rhai_meaning.specs.Walk.{Node, OfExpr, whole}
 use Rattle.rhai_rewriting.specs.Context.{Context, ListKind}
 use Rattle.rhai_rewriting.specs.Rewriting.{StmtsTo}
+use Rattle.rhai_rewriting.specs.Parts.{constant_of}
 use Rattle.rhai_rewriting.proofs.Plain.{is_plain_value}
-use Rattle.rhai_rewriting.proofs.rules.Lasting.{SameNode, same_call, same_call_statement, Lasting}
+use Rattle.rhai_rewriting.proofs.rules.Lasting.{SameNode, same_call, same_call_statement, same_and, same_or, same_coalesce, same_switch, Lasting}
 use Rattle.rhai_rewriting.proofs.soundness.Lasting.{stmts_keep}
 
-constant_faultless : (v : Value) → is_plain_value v ≡ true → HasNoFault (OfExpr (constant_for v))
-constant_faultless UnitV p = tt
-constant_faultless (BoolV b) p = tt
-constant_faultless (IntV n) p = tt
-constant_faultless (CharV c) p = tt
-constant_faultless (TextV t) p = tt
-constant_faultless (PointerV f vs) p = absurd cc
-constant_faultless _ p = refl
+constant_faultless : (l : Bool) (v : Value) → is_plain_value v ≡ true → IsFaultless (whole l) (OfExpr (constant_for v))
+constant_faultless l (PointerV f vs) p = absurd cc
+constant_faultless l _ p = refl
 
-faultless_again : {n n' : Node} → SameNode n n' → HasNoFault n → HasNoFault n'
-faultless_again (same_call {c = c} e) h = subst (λ n. has_token c n c.token ≡ true) e h
-faultless_again (same_call_statement {c = c} e) h = subst (λ n. has_token c n c.token ≡ true) e h
-faultless_again _ h = tt
+table_again : (b b' : Bool) → (b ≡ true → b' ≡ true) → unless b SwitchFault ≡ None → unless b' SwitchFault ≡ None
+table_again true b' e h = ap (λ x. unless x SwitchFault) (e refl)
+table_again false b' e h = absurd (let z : Some SwitchFault ≡ None = h in cc)
 
-faultless_lasts : Lasting HasNoFault
-faultless_lasts = record {
-  again = faultless_again;
-  constant = constant_faultless;
-  noop = tt;
-  block = λ ss. tt;
-  expression = λ e. tt;
+faultless_again : (l : Bool) {n n' : Node} → SameNode n n' → IsFaultless (whole l) n → IsFaultless (whole l) n'
+faultless_again l (same_call {c = c} e) h = subst (λ n. call_fault c n ≡ None) e h
+faultless_again l (same_call_statement {c = c} e) h = subst (λ n. call_fault c n ≡ None) e h
+faultless_again l (same_and e) h = ap (λ b. unless b NoOperands) e
+faultless_again l (same_or e) h = ap (λ b. unless b NoOperands) e
+faultless_again l (same_coalesce e) h = ap (λ b. unless b NoOperands) e
+faultless_again l (same_switch {as' = as'} {bs = bs} {t = t} {t' = t'} e) h = table_again (is_table as' t) (is_table bs t') e h
+faultless_again l _ h = refl
+
+value_faultless : (l : Bool) (v : Value) → IsFaultless (whole l) (OfExpr (constant_of v))
+value_faultless l UnitV = refl
+value_faultless l _ = refl
+
+faultless_lasts : (l : Bool) → Lasting IsFaultless l
+faultless_lasts l = record {
+  again = λ s h. faultless_again l s h;
+  constant = constant_faultless l;
+  value = value_faultless l;
+  noop = refl;
+  branching = λ e a b. refl;
+  block = λ ss. refl;
+  expression = λ e. refl;
   call_statement = λ c es h. h;
 }
 
-pub stmts_well : {k : Context} {m : ListKind} {d d' : Bool} {ss ss' : Stmts} → StmtsTo k m d d' ss ss' → AreWellFormed ss → AreWellFormed ss'
-stmts_well p h = stmts_keep HasNoFault faultless_lasts p h
+pub stmts_well : {k : Context} {m : ListKind} {d d' : Bool} {ss ss' : Stmts} (l : Bool) → StmtsTo k m d d' ss ss' → AreWellFormed (whole l) ss → AreWellFormed (whole l) ss'
+stmts_well l p h = stmts_keep IsFaultless l (faultless_lasts l) p h

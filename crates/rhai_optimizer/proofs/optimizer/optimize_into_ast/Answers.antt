@@ -1,4 +1,4 @@
-use Rattle.std.proofs.Common.{ap, ◌∙◌}
+use Rattle.std.proofs.Common.{ap, ◌∙◌, false}
 use Rattle.rhai_script.specs.Script.{functions_of}
 use Rattle.rhai_rewriting.proofs.soundness.Theorem.{refines, lighter}
 use Rattle.rhai_rewriting.proofs.soundness.Small.{calls_stay}
@@ -14,7 +14,7 @@ pub returns-clause-lighter : goal.returns-clause-lighter
 returns-clause-lighter c = rw c.new-2.ensures.statements (lighter c.in_ok-statements.ensures.to)
 
 pub returns-clause-well_formed : goal.returns-clause-well_formed
-returns-clause-well_formed c = rw c.new-2.ensures.statements (stmts_well c.in_ok-statements.ensures.to)
+returns-clause-well_formed c = rw c.new-2.ensures.statements (stmts_well false c.in_ok-statements.ensures.to)
 
 pub returns-clause-operators : goal.returns-clause-operators
 returns-clause-operators c = rw c.new-2.ensures.statements (calls_stay c.in_ok-statements.ensures.to)

@@ -1,7 +1,8 @@
 use Rattle.std.proofs.Common.{refl, arith}
 use Rattle.std.proofs.lemmas.Result.{err_from_is_err_and}
+use Rattle.rhai_ast.specs.Reading.{stmt_of-If}
 use Rattle.rhai_run.specs.declared.plain.state.State.{State}
-use Rattle.rhai_run.proofs.Evaluating.{args_start, args_next, args_interrupted, args_end, stmts_start, stmts_next, stmts_interrupted, stmts_end}
+use Rattle.rhai_run.proofs.Evaluating.{line_runs, args_start, args_next, args_interrupted, args_end, stmts_start, stmts_next, stmts_interrupted, stmts_end}
 use Rattle.rhai_run.proofs.Nodes.{array_stops, call_stuck, call_stops, call_runs, choice_stuck, block_runs}
 use Rattle.rhai_run.proofs.plain.evaluator.Evaluator.+evaluate.Goals as goal
 
@@ -65,3 +66,6 @@ block-returns g t c =
     let ended = c.statements-ended.new.state in
     let left : State = record { scope = c.truncate.new.self; calls = ended.calls; turns = ended.turns } in
     block_runs _ _ old ended left _ _ _ c.truncate.ensures.items c.len-names.ensures old.scope.ok.0 refl refl (rw c.as_slice.ensures at c.statements-ended.ensures)
+
+pub statement-returns-in-If : goal.statement-returns-in-If
+statement-returns-in-If g t c = rw (c.in-If.is, stmt_of-If) (line_runs _ _ _ _ _ (rw c.get.ensures at c.choice.ensures))

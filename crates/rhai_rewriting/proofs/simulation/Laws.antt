@@ -1,0 +1,99 @@
+-- The laws of acts one after another, as simulations. A pure act whose value isn't needed may go.
+use Rattle.std.proofs.Common.{◌≡◌, ℕ, zero, suc, Bool, true, false, Option, Some, None, refl, sym, ap, ◌∙◌, arith}
+use Rattle.rhai_values.specs.Value.{Value, UnitV}
+use Rattle.rhai_meaning.specs.Act.{World, Store, Ending, Gives, Stuck, IsStuck, Ended, Halted, Act, Fail, Then, Turn, Scoped, Only, Env, and_then, with_turn, leave, run}
+use Rattle.rhai_meaning.specs.ActForms.{give, unit, ◌>>=◌, truth, branch, if_true, then_line}
+use Rattle.rhai_meaning.specs.Laws.{Settled, Gave, Stopped, settled, spend}
+use Rattle.rhai_meaning.proofs.Relations.{Follows, short, AnyHalt}
+use Rattle.rhai_meaning.proofs.Monotone.{monotone, follows_trans}
+use Rattle.rhai_meaning.proofs.Ends.{met_move, ends_turn}
+use Rattle.rhai_meaning.proofs.Preserves.{preserves}
+use Rattle.rhai_meaning.proofs.PureActs.{Runs, Pure}
+use Rattle.rhai_meaning.proofs.Sequencing.{bind_unit, bind_assoc, line_unit, scoped_only, leave_same}
+use Rattle.rhai_rewriting.specs.Context.{Context}
+use Rattle.rhai_rewriting.proofs.simulation.Setting.{Setting, Agreed, world, environment, run_by_depth, adds_at, steady_at}
+use Rattle.rhai_rewriting.proofs.simulation.Matching.{SimulatesAt, ends_as}
+use Rattle.rhai_rewriting.proofs.simulation.Simulation.{stage, Simulates, is_stuck, simulates_trans, simulates_refl, simulates_equal, simulates_or_stuck}
+use Rattle.rhai_rewriting.proofs.simulation.Forms.{simulates_bind}
+
+pub simulates_assoc : {k : Context} {c : Setting k} (a : Act) (f g : Value → Act) → Simulates c ((a >>= f) >>= g) (a >>= λ v. f v >>= g)
+simulates_assoc {c = c} a f g = simulates_equal (λ m. bind_assoc (world c) m.env a f g m.store m.turns)
+
+pub simulates_unassoc : {k : Context} {c : Setting k} (a : Act) (f g : Value → Act) → Simulates c (a >>= λ v. f v >>= g) ((a >>= f) >>= g)
+simulates_unassoc {c = c} a f g = simulates_equal (λ m. sym (bind_assoc (world c) m.env a f g m.store m.turns))
+
+-- a value is as good as what follows from it
+pub simulates_alone : {k : Context} {c : Setting k} (a : Act) (f : Value → Act) → ((v : Value) → Simulates c (f v) (give v)) → Simulates c (a >>= f) a
+simulates_alone {c = c} a f h = simulates_trans (simulates_bind {f' = give} (simulates_refl {a = a}) h) (simulates_equal (λ m. bind_unit (world c) m.env a m.store m.turns))
+
+-- what is stuck may become anything
+pub simulates_stuck : {k : Context} {c : Setting k} (f : Stuck) (b : Act) → Simulates c (Fail f) b
+simulates_stuck {c = c} f b = simulates_or_stuck (λ m. is_stuck f m.turns (preserves (world c) m.env m.adds b m.store m.turns).calls)
+
+-- by the bool that a value is
+in_branches : {k : Context} {c : Setting k} (o : Option Bool) {a a' b : Act} → Simulates c a b → Simulates c a' b → Simulates c (branch o a a') b
+in_branches None {b = b} g h = simulates_stuck _ b
+in_branches (Some true) g h = g
+in_branches (Some false) g h = h
+
+pub simulates_either : {k : Context} {c : Setting k} (v : Value) {a a' b : Act} → Simulates c a b → Simulates c a' b → Simulates c (if_true v a a') b
+simulates_either v g h = in_branches (truth v) g h
+
+-- braces around one act, and around nothing
+pub simulates_braces : {k : Context} {c : Setting k} (a : Act) → Simulates c (Scoped (then_line a (λ v. Only (give v)))) a
+simulates_braces {c = c} a = simulates_equal (λ m. ap (leave m.store.scope) (line_unit (world c) m.env a m.store m.turns) ∙ scoped_only (world c) m.env m.adds a m.store m.turns)
+
+pub simulates_to_braces : {k : Context} {c : Setting k} (a : Act) → Simulates c a (Scoped (then_line a (λ v. Only (give v))))
+simulates_to_braces {c = c} a = simulates_equal (λ m. sym (ap (leave m.store.scope) (line_unit (world c) m.env a m.store m.turns) ∙ scoped_only (world c) m.env m.adds a m.store m.turns))
+
+pub simulates_to_empty : {k : Context} {c : Setting k} → Simulates c unit (Scoped (Only unit))
+simulates_to_empty = simulates_equal (λ m. sym (leave_same m.store (Gives UnitV) m.turns))
+
+-- ---- a turn may be saved
+
+turn_follows : {k : Context} (c : Setting k) (d : ℕ) (a b : Act) → SimulatesAt c (stage c d) a b → (s : Store) (t : ℕ) → Agreed k s → Follows AnyHalt 0 (with_turn t s (run_by_depth c a d)) (run (world c) (environment c d) b s t)
+turn_follows c d a b h s zero ag = short tt (preserves (world c) (environment c d) (adds_at c d) b s zero).calls
+turn_follows c d a b h s (suc t) ag = follows_trans (h.matches s t ag).forward (monotone AnyHalt tt 0 (world c) (environment c d) (environment c d) (steady_at c d) b s t (suc t) (omega arith))
+
+pub turn_goes : {k : Context} {c : Setting k} {a b : Act} → Simulates c a b → Simulates c (Turn a) b
+turn_goes {c = c} {a = a} {b = b} h = record {
+  at = λ d. record {
+    matches = λ s t ag. record {
+      forward = turn_follows c d a b (h.at d) s t ag;
+      backward = met_move (run_by_depth c a) (run_by_depth c (Turn a)) s s _ (λ o s' x. ends_as (λ d1 t1. refl) (ends_turn (run_by_depth c a) s o s' x)) ((h.at d).matches s t ag).backward;
+    };
+  };
+}
+
+-- so many turns first
+abbrev after_turns : ℕ → Act → Act
+after_turns zero a = a
+after_turns (suc n) a = Turn (after_turns n a)
+
+turns_go : {k : Context} {c : Setting k} (n : ℕ) {a b : Act} → Simulates c a b → Simulates c (after_turns n a) b
+turns_go zero h = h
+turns_go (suc n) h = turn_goes (turns_go n h)
+
+module _ (w : World) (env : Env) where
+  given_late : (n : ℕ) (v : Value) (next : Ending → Act) (s : Store) (t : ℕ) → and_then (spend n (Ended (Gives v)) s t) (λ e. run w env (next e)) ≡ run w env (after_turns n (next (Gives v))) s t
+  given_late zero v next s t = refl
+  given_late (suc n) v next s zero = refl
+  given_late (suc n) v next s (suc t) = given_late n v next s t
+
+  stuck_late : (n : ℕ) (f : Stuck) (next : Ending → Act) (s : Store) (t : ℕ) → and_then (spend n (Halted (IsStuck f)) s t) (λ e. run w env (next e)) ≡ run w env (after_turns n (Fail f)) s t
+  stuck_late zero f next s t = refl
+  stuck_late (suc n) f next s zero = refl
+  stuck_late (suc n) f next s (suc t) = stuck_late n f next s t
+
+settled_goes : {k : Context} {c : Setting k} (a : Act) (next : Ending → Act) (b : Act) (n : ℕ) (z : Settled) → Runs (world c) a n (settled z) → ((v : Value) → Simulates c (next (Gives v)) b) → Simulates c (Then a next) b
+settled_goes {c = c} a next b n (Gave v) r h =
+    simulates_trans {b = after_turns n (next (Gives v))} (simulates_equal (λ m. ap (λ q. and_then q (λ e. run (world c) m.env (next e))) (r.by m.env m.adds m.store m.turns) ∙ given_late (world c) m.env n v next m.store m.turns)) (turns_go n (h v))
+settled_goes {c = c} a next b n (Stopped f) r h =
+    simulates_trans {b = after_turns n (Fail f)} (simulates_equal (λ m. ap (λ q. and_then q (λ e. run (world c) m.env (next e))) (r.by m.env m.adds m.store m.turns) ∙ stuck_late (world c) m.env n f next m.store m.turns)) (turns_go n (simulates_stuck f b))
+
+-- a pure act may go, whatever comes after by how it ends
+pub pure_ending_goes : {k : Context} {c : Setting k} (a : Act) (next : Ending → Act) (b : Act) → Pure (world c) a → ((v : Value) → Simulates c (next (Gives v)) b) → Simulates c (Then a next) b
+pure_ending_goes a next b p h = settled_goes a next b p.cost p.end p.runs h
+
+pub pure_goes : {k : Context} {c : Setting k} (a : Act) (f : Value → Act) (b : Act) → Pure (world c) a → ((v : Value) → Simulates c (f v) b) → Simulates c (a >>= f) b
+pure_goes a f b p h = pure_ending_goes a _ b p h

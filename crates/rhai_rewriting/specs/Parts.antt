@@ -1,0 +1,17 @@
+-- The constant that a rule leaves, and the callees of the language's own functions.
+use Rattle.std.specs.Prelude.{Bool, []}
+use Rattle.rhai_values.specs.Value.{Text, Value, UnitV, BoolV, IntV, CharV, TextV}
+use Rattle.rhai_meaning.specs.Tree.{Callee, NoToken, Expr, DynamicConstant, BoolConstant, IntegerConstant, CharConstant, StringConstant, UnitConstant}
+
+-- the constant of a value; a pointer is one too
+abbrev pub constant_of : Value → Expr
+constant_of UnitV = UnitConstant
+constant_of (BoolV b) = BoolConstant b
+constant_of (IntV n) = IntegerConstant n
+constant_of (CharV c) = CharConstant c
+constant_of (TextV t) = StringConstant t
+constant_of v = DynamicConstant v
+
+-- a callee by a name alone; captures: it sees the caller's names
+abbrev pub named : Text → Bool → Callee
+named f captures = record { namespace = []; name = f; captures = captures; token = NoToken }

@@ -1,0 +1,99 @@
+-- For each condition of a rule two scripts that the rule without it would take for one, and what each does.
+use Rattle.std.specs.Prelude.{◌≡◌, true, false, List, [], ◌∷◌, Some, codes, refl, ℕ, pos, None}
+use Rattle.rhai_values.specs.Value.{UnitV, BoolV, TextV}
+use Rattle.rhai_meaning.specs.Act.{WrongKind}
+use Rattle.rhai_meaning.specs.Faults.{NoOperands, fault_of}
+use Rattle.rhai_meaning.specs.Run.{Report, WithValue, WithThrown, WithStuck, WithoutTurns}
+use Rattle.rhai_meaning.specs.Tree.{Expr, BoolConstant, StringConstant, UnitConstant, ArrayOf, BlockExpr, FnCall, Dot, Index, MethodCall, And, Coalesce, Stmt, Noop, While, TryCatch, ExprStmt, Return, an_expr, exprs, stmts, SwitchRange, SwitchTable, ExclusiveInt, Switch, arms}
+use Rattle.rhai_meaning.specs.Walk.{OfExpr, outermost}
+use Rattle.rhai_meaning.specs.WorkedForms.{int, call, nothing_set, joining, ran, ends, i}
+use Rattle.rhai_rewriting.specs.Parts.{named}
+use Rattle.rhai_rewriting.specs.WorkedNodes.{safe, index}
+use Rattle.rhai_rewriting.specs.WorkedRewrites.{f, asks_f}
+
+-- what the two do
+abbrev Differ : List Stmt → Report → List Stmt → Report → Type 0
+Differ a r b q = (ran nothing_set joining a ≡ r) × (ran nothing_set joining b ≡ q)
+
+abbrev shown : Expr → List Stmt
+shown e = ExprStmt e ∷ []
+
+abbrev t : Expr
+t = BoolConstant true
+
+abbrev n : Expr
+n = BoolConstant false
+
+abbrev ask : Expr
+ask = call "f" []
+
+-- a pure operand goes only directly before one that decides: {false} && f() && false calls nobody, f() && false calls f
+pure_operand_keeps_a_call_away : Differ (shown (And (exprs (BlockExpr (stmts (ExprStmt n ∷ [])) ∷ ask ∷ n ∷ [])))) (ends (WithValue (BoolV false)) []) (shown (And (exprs (ask ∷ n ∷ [])))) (ends (WithStuck WrongKind) asks_f)
+unfolding ran
+pure_operand_keeps_a_call_away = (refl, refl)
+
+-- an operand that isn't pure stays: f() && false, and false
+call_before_deciding_stays : Differ (shown (And (exprs (ask ∷ n ∷ [])))) (ends (WithStuck WrongKind) asks_f) (shown (And (exprs (n ∷ [])))) (ends (WithValue (BoolV false)) [])
+unfolding ran
+call_before_deciding_stays = (refl, refl)
+
+-- `false` doesn't go from `&&`: false && true, and true
+deciding_stays : Differ (shown (And (exprs (n ∷ t ∷ [])))) (ends (WithValue (BoolV false)) []) (shown (And (exprs (t ∷ [])))) (ends (WithValue (BoolV true)) [])
+unfolding ran
+deciding_stays = (refl, refl)
+
+-- one operand stays, as `&&` without one is no well-formed node
+no_operands_left : fault_of outermost (OfExpr (And (exprs []))) ≡ Some NoOperands
+no_operands_left = refl
+
+-- after a `??` constant that is unit the others stay: () ?? 1, and ()
+unit_decides_nothing : Differ (shown (Coalesce (exprs (UnitConstant ∷ int 1 ∷ [])))) (ends (WithValue (i 1)) []) (shown (Coalesce (exprs (UnitConstant ∷ [])))) (ends (WithValue UnitV) [])
+unfolding ran
+unit_decides_nothing = (refl, refl)
+
+-- `()?.type_of()` is unit, not "()"
+type_of_past_unit : Differ (shown (Dot safe UnitConstant (MethodCall (named (codes "type_of") false) (exprs [])))) (ends (WithValue UnitV) []) (shown (StringConstant (codes "()"))) (ends (WithValue (TextV (codes "()"))) [])
+unfolding ran
+type_of_past_unit = (refl, refl)
+
+-- the other parts of a literal are pure: [f(), 1][1], and 1
+other_parts_call : Differ (shown (Index index (ArrayOf (exprs (ask ∷ int 1 ∷ []))) (int 1))) (ends (WithValue (i 1)) asks_f) (shown (int 1)) (ends (WithValue (i 1)) [])
+unfolding ran
+other_parts_call = (refl, refl)
+
+-- the name of a pointer is valid: Fn("1") throws
+name_is_invalid : ran nothing_set joining (shown (FnCall (named (codes "Fn") false) (exprs (StringConstant (codes "1") ∷ [])))) ≡ ends (WithThrown (TextV (codes "function name"))) []
+unfolding ran
+name_is_invalid = refl
+
+-- no rule makes the guard of a `while` a literal unit, but for true: while {()} {} is stuck, and loop {} has no end
+unit_guard : Differ (While (BlockExpr (stmts (ExprStmt UnitConstant ∷ []))) (stmts []) ∷ []) (ends (WithStuck WrongKind) []) (While UnitConstant (stmts []) ∷ []) (ends WithoutTurns [])
+unfolding ran
+unit_guard = (refl, refl)
+
+-- the body of a `try` that goes is pure: try { throw 1 } catch { f() }, and nothing
+throwing_body : Differ (TryCatch UnitConstant (stmts (Return true (an_expr (int 1)) ∷ [])) (stmts (f ∷ [])) ∷ []) (ends (WithValue UnitV) asks_f) (Noop ∷ []) (ends (WithValue UnitV) [])
+unfolding ran
+throwing_body = (refl, refl)
+
+-- ranges are tried in order until one answers, so what stands after a true one in another range stays:
+-- switch 7 { 0..5 => 1, 3..10 => 2 }, and without the second
+abbrev ranges : List SwitchRange → SwitchTable
+ranges rs = record { cases = []; ranges = rs; default = None }
+
+abbrev from_to : ℕ → ℕ → ℕ → SwitchRange
+from_to a b j = record { range = ExclusiveInt (pos a) (pos b); arm = j }
+
+later_range_stays : Differ (Switch (int 7) (arms ((t, int 1) ∷ (t, int 2) ∷ [])) (ranges (from_to 0 5 0 ∷ from_to 3 10 1 ∷ [])) ∷ []) (ends (WithValue (i 2)) []) (Switch (int 7) (arms ((t, int 1) ∷ (t, int 2) ∷ [])) (ranges (from_to 0 5 0 ∷ [])) ∷ []) (ends (WithValue UnitV) [])
+unfolding ran
+later_range_stays = (refl, refl)
+
+-- an empty case list stays where a range stands: switch 1 { 1 if false => 1, 0..5 => 2 } is unit
+empty_list_hides_ranges : Differ (Switch (int 1) (arms ((n, int 1) ∷ (t, int 2) ∷ [])) (record { cases = record { value = i 1; arms = [] } ∷ []; ranges = from_to 0 5 1 ∷ []; default = None }) ∷ []) (ends (WithValue UnitV) []) (Switch (int 1) (arms ((n, int 1) ∷ (t, int 2) ∷ [])) (ranges (from_to 0 5 1 ∷ [])) ∷ []) (ends (WithValue (i 2)) [])
+unfolding ran
+empty_list_hides_ranges = (refl, refl)
+
+-- and where a later list of its value stands
+empty_list_hides_list : Differ (Switch (int 1) (arms ((t, int 1) ∷ [])) (record { cases = record { value = i 1; arms = [] } ∷ record { value = i 1; arms = 0 ∷ [] } ∷ []; ranges = []; default = None }) ∷ []) (ends (WithValue UnitV) []) (Switch (int 1) (arms ((t, int 1) ∷ [])) (record { cases = record { value = i 1; arms = 0 ∷ [] } ∷ []; ranges = []; default = None }) ∷ []) (ends (WithValue (i 1)) [])
+unfolding ran
+empty_list_hides_list = (refl, refl)

@@ -1,0 +1,37 @@
+-- What a filter chooses of a list, item by item; tables of functions that were chosen.
+use Rattle.std.proofs.Common.{◌≡◌, suc, Bool, true, false, List, [], ◌∷◌, ◌++◌, refl, sym, ap, subst, ◌∙◌, append_assoc}
+use Rattle.std.proofs.lemmas.List.{append-nil}
+use Rattle.std.specs.List.Retain.{IsFiltered}
+
+-- what was chosen of those before, and what is chosen of those that are left, is chosen of all
+pub record Chooses {X P : Type 0} (R : P → X → Bool → P → Type 0) (p : P) (all left before : List X) : Type 0 where
+  pub whole : (ys : List X) → IsFiltered R p left ys → IsFiltered R p all (before ++ ys)
+
+module _ {X P : Type 0} (R : P → X → Bool → P → Type 0) (p : P) where
+  pub taken : (x : X) (xs ys : List X) → R p x true p → IsFiltered R p xs ys → IsFiltered R p (x ∷ xs) (x ∷ ys)
+  taken x xs ys r h = (true ∷ h.0, h.1, ap suc h.2, (p, r, h.3), ap (λ l. x ∷ l) h.4)
+
+  pub passed : (x : X) (xs ys : List X) → R p x false p → IsFiltered R p xs ys → IsFiltered R p (x ∷ xs) ys
+  passed x xs ys r h = (false ∷ h.0, h.1, ap suc h.2, (p, r, h.3), h.4)
+
+  pub chooses-start : (all left before : List X) → left ≡ all → before ≡ [] → Chooses R p all left before
+  chooses-start all left before e none = record {
+    whole = λ ys h. subst (λ l. IsFiltered R p all (l ++ ys)) (sym none) (subst (λ l. IsFiltered R p l ys) e h);
+  }
+
+  pub chooses-taken : (all left rest before after : List X) (x : X) → Chooses R p all left before → left ≡ x ∷ rest → R p x true p → after ≡ before ++ x ∷ [] → Chooses R p all rest after
+  chooses-taken all left rest before after x old e r more = record {
+    whole = λ ys h.
+        subst (λ l. IsFiltered R p all l) (sym (ap (λ l. l ++ ys) more ∙ append_assoc before (x ∷ []) ys))
+        (old.whole (x ∷ ys) (subst (λ l. IsFiltered R p l (x ∷ ys)) (sym e) (taken x rest ys r h)));
+  }
+
+  pub chooses-passed : (all left rest before : List X) (x : X) → Chooses R p all left before → left ≡ x ∷ rest → R p x false p → Chooses R p all rest before
+  chooses-passed all left rest before x old e r = record {
+    whole = λ ys h. old.whole ys (subst (λ l. IsFiltered R p l ys) (sym e) (passed x rest ys r h));
+  }
+
+  pub chooses-end : (all left before : List X) → Chooses R p all left before → left ≡ [] → IsFiltered R p all before
+  chooses-end all left before old e =
+      subst (λ l. IsFiltered R p all l) (append-nil before)
+      (old.whole [] (subst (λ l. IsFiltered R p l []) (sym e) ([], p, refl, refl, refl)))

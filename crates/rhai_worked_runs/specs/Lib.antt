@@ -1,0 +1,14 @@
+pub mod Terms
+pub mod Runs
+pub mod CallRuns
+pub mod EvaluatedForms
+pub mod DirectedRuns
+pub mod MoreRuns
+pub mod TreeTests
+pub mod PathTests
+pub mod WorkedRuns
+pub mod WorkedCalls
+pub mod WorkedNames
+pub mod WorkedHosts
+pub mod WorkedTrees
+pub mod RandomRuns
