@@ -1,0 +1,358 @@
+//! Copies of trees.
+ghost use Rattle.std.specs.Prelude.{◌≡◌, IfOk};
+
+use crate::{
+    BinaryExpr, Expr, FlowControl, FnCallExpr, Stmt, StmtBlock, SwitchBlock, SwitchCasesCollection,
+};
+use rhai_base::{
+    Boxed, Dynamic, Ident, ImmutableString, Namespace, OpAssignment, RangeCase, Seq, StringMap,
+};
+use std::alloc::AllocError;
+use std::num::NonZeroUsize;
+
+impl Clone for Expr {
+    ghost is_clone = { λ e f. f ≡ e };
+
+    fn clone(&self) -> Result<Expr, AllocError> {
+        copy_expr(self)
+    }
+}
+
+impl Clone for Stmt {
+    ghost is_clone = { λ s t. t ≡ s };
+
+    fn clone(&self) -> Result<Stmt, AllocError> {
+        copy_stmt(self)
+    }
+}
+
+#[cycle(copy)]
+fn copy_expr(expr: &Expr) -> Result<Expr, AllocError>
+    ensures { IfOk result (λ e. e ≡ expr.now) }
+{
+    match expr {
+        Expr::DynamicConstant(value, pos) => Ok(Expr::DynamicConstant(value.clone()?, *pos)),
+        Expr::BoolConstant(b, pos) => Ok(Expr::BoolConstant(*b, *pos)),
+        Expr::IntegerConstant(n, pos) => Ok(Expr::IntegerConstant(*n, *pos)),
+        Expr::CharConstant(c, pos) => Ok(Expr::CharConstant(*c, *pos)),
+        Expr::StringConstant(text, pos) => Ok(Expr::StringConstant(text.clone()?, *pos)),
+        Expr::InterpolatedString(parts, pos) => {
+            Ok(Expr::InterpolatedString(copy_exprs(parts)?, *pos))
+        }
+        Expr::Array(items, pos) => Ok(Expr::Array(copy_exprs(items)?, *pos)),
+        Expr::Map(map, pos) => {
+            let template = map.get().1.clone()?;
+            let parts = (copy_pairs(&map.get().0)?, template);
+            Ok(Expr::Map(Boxed::new(map.allocator(), parts)?, *pos))
+        }
+        Expr::Unit(pos) => Ok(Expr::Unit(*pos)),
+        Expr::Variable(parts, short, pos) => {
+            Ok(Expr::Variable(copy_variable(parts)?, *short, *pos))
+        }
+        Expr::ThisPtr(pos) => Ok(Expr::ThisPtr(*pos)),
+        Expr::Property(names, pos) => Ok(Expr::Property(copy_names(names)?, *pos)),
+        Expr::MethodCall(call, pos) => Ok(Expr::MethodCall(copy_boxed_call(call)?, *pos)),
+        Expr::Stmt(block) => Ok(Expr::Stmt(copy_boxed_block(block)?)),
+        Expr::FnCall(call, pos) => Ok(Expr::FnCall(copy_boxed_call(call)?, *pos)),
+        Expr::Dot(sides, flags, pos) => Ok(Expr::Dot(copy_boxed_sides(sides)?, *flags, *pos)),
+        Expr::Index(sides, flags, pos) => Ok(Expr::Index(copy_boxed_sides(sides)?, *flags, *pos)),
+        Expr::And(operands, pos) => Ok(Expr::And(copy_boxed_exprs(operands)?, *pos)),
+        Expr::Or(operands, pos) => Ok(Expr::Or(copy_boxed_exprs(operands)?, *pos)),
+        Expr::Coalesce(operands, pos) => Ok(Expr::Coalesce(copy_boxed_exprs(operands)?, *pos)),
+    }
+}
+
+fn copy_variable(
+    parts: &Boxed<(Option<NonZeroUsize>, ImmutableString, Namespace)>,
+) -> Result<Boxed<(Option<NonZeroUsize>, ImmutableString, Namespace)>, AllocError>
+    ensures { IfOk result (λ p. p ≡ parts.now) }
+{
+    let (index, name, namespace) = parts.get();
+    let name = name.clone()?;
+    let namespace = namespace.clone()?;
+    Boxed::new(parts.allocator(), (*index, name, namespace))
+}
+
+fn copy_names(
+    names: &Boxed<(ImmutableString, ImmutableString, ImmutableString)>,
+) -> Result<Boxed<(ImmutableString, ImmutableString, ImmutableString)>, AllocError>
+    ensures { IfOk result (λ n. n ≡ names.now) }
+{
+    let (getter, setter, name) = names.get();
+    let getter = getter.clone()?;
+    let setter = setter.clone()?;
+    let name = name.clone()?;
+    Boxed::new(names.allocator(), (getter, setter, name))
+}
+
+#[cycle(copy)]
+fn copy_exprs(exprs: &Seq<Expr>) -> Result<Seq<Expr>, AllocError>
+    ensures { IfOk result (λ es. es ≡ exprs.now) }
+{
+    let mut copies = exprs.emptied()?;
+    for expr in exprs.as_slice() {
+        copies.push(copy_expr(expr)?)?;
+    }
+    Ok(copies)
+}
+
+#[cycle(copy)]
+fn copy_boxed_exprs(exprs: &Boxed<Seq<Expr>>) -> Result<Boxed<Seq<Expr>>, AllocError>
+    ensures { IfOk result (λ es. es ≡ exprs.now) }
+{
+    Boxed::new(exprs.allocator(), copy_exprs(exprs.get())?)
+}
+
+#[cycle(copy)]
+fn copy_pairs(pairs: &Seq<(Ident, Expr)>) -> Result<Seq<(Ident, Expr)>, AllocError>
+    ensures { IfOk result (λ ps. ps ≡ pairs.now) }
+{
+    let mut copies = pairs.emptied()?;
+    for pair in pairs.as_slice() {
+        let name = pair.0.clone()?;
+        copies.push((name, copy_expr(&pair.1)?))?;
+    }
+    Ok(copies)
+}
+
+#[cycle(copy)]
+fn copy_boxed_expr(expr: &Boxed<Expr>) -> Result<Boxed<Expr>, AllocError>
+    ensures { IfOk result (λ e. e ≡ expr.now) }
+{
+    Boxed::new(expr.allocator(), copy_expr(expr.get())?)
+}
+
+#[cycle(copy)]
+fn copy_optional_expr(expr: &Option<Boxed<Expr>>) -> Result<Option<Boxed<Expr>>, AllocError>
+    ensures { IfOk result (λ e. e ≡ expr.now) }
+{
+    match expr {
+        Some(expr) => Ok(Some(Boxed::new(expr.allocator(), copy_expr(expr.get())?)?)),
+        None => Ok(None),
+    }
+}
+
+#[cycle(copy)]
+fn copy_sides(sides: &BinaryExpr) -> Result<BinaryExpr, AllocError>
+    ensures { IfOk result (λ s. s ≡ sides.now) }
+{
+    let lhs = copy_expr(&sides.lhs)?;
+    let rhs = copy_expr(&sides.rhs)?;
+    Ok(BinaryExpr { lhs, rhs })
+}
+
+#[cycle(copy)]
+fn copy_boxed_sides(sides: &Boxed<BinaryExpr>) -> Result<Boxed<BinaryExpr>, AllocError>
+    ensures { IfOk result (λ s. s ≡ sides.now) }
+{
+    Boxed::new(sides.allocator(), copy_sides(sides.get())?)
+}
+
+#[cycle(copy)]
+fn copy_call(call: &FnCallExpr) -> Result<FnCallExpr, AllocError>
+    ensures { IfOk result (λ c. c ≡ call.now) }
+{
+    let namespace = call.namespace.clone()?;
+    let name = call.name.clone()?;
+    let args = copy_exprs(&call.args)?;
+    Ok(FnCallExpr {
+        namespace,
+        name,
+        args,
+        capture_parent_scope: call.capture_parent_scope,
+        op_token: call.op_token,
+    })
+}
+
+#[cycle(copy)]
+fn copy_boxed_call(call: &Boxed<FnCallExpr>) -> Result<Boxed<FnCallExpr>, AllocError>
+    ensures { IfOk result (λ c. c ≡ call.now) }
+{
+    Boxed::new(call.allocator(), copy_call(call.get())?)
+}
+
+#[cycle(copy)]
+fn copy_block(block: &StmtBlock) -> Result<StmtBlock, AllocError>
+    ensures { IfOk result (λ b. b ≡ block.now) }
+{
+    Ok(StmtBlock {
+        block: copy_stmts(&block.block)?,
+        span: block.span,
+    })
+}
+
+#[cycle(copy)]
+fn copy_boxed_block(block: &Boxed<StmtBlock>) -> Result<Boxed<StmtBlock>, AllocError>
+    ensures { IfOk result (λ b. b ≡ block.now) }
+{
+    Boxed::new(block.allocator(), copy_block(block.get())?)
+}
+
+#[cycle(copy)]
+fn copy_stmts(stmts: &Seq<Stmt>) -> Result<Seq<Stmt>, AllocError>
+    ensures { IfOk result (λ ss. ss ≡ stmts.now) }
+{
+    let mut copies = stmts.emptied()?;
+    for stmt in stmts.as_slice() {
+        copies.push(copy_stmt(stmt)?)?;
+    }
+    Ok(copies)
+}
+
+#[cycle(copy)]
+fn copy_stmt(stmt: &Stmt) -> Result<Stmt, AllocError>
+    ensures { IfOk result (λ s. s ≡ stmt.now) }
+{
+    match stmt {
+        Stmt::Noop(pos) => Ok(Stmt::Noop(*pos)),
+        Stmt::If(flow, pos) => Ok(Stmt::If(copy_boxed_flow(flow)?, *pos)),
+        Stmt::Switch(switch, pos) => Ok(Stmt::Switch(copy_boxed_switch(switch)?, *pos)),
+        Stmt::While(flow, pos) => Ok(Stmt::While(copy_boxed_flow(flow)?, *pos)),
+        Stmt::Do(flow, flags, pos) => Ok(Stmt::Do(copy_boxed_flow(flow)?, *flags, *pos)),
+        Stmt::For(parts, pos) => Ok(Stmt::For(copy_for(parts)?, *pos)),
+        Stmt::Var(parts, flags, pos) => Ok(Stmt::Var(copy_var(parts)?, *flags, *pos)),
+        Stmt::Assignment(parts) => Ok(Stmt::Assignment(copy_assignment(parts)?)),
+        Stmt::FnCall(call, pos) => Ok(Stmt::FnCall(copy_boxed_call(call)?, *pos)),
+        Stmt::Block(block) => Ok(Stmt::Block(copy_boxed_block(block)?)),
+        Stmt::TryCatch(flow, pos) => Ok(Stmt::TryCatch(copy_boxed_flow(flow)?, *pos)),
+        Stmt::Expr(expr) => Ok(Stmt::Expr(copy_boxed_expr(expr)?)),
+        Stmt::BreakLoop(expr, flags, pos) => {
+            Ok(Stmt::BreakLoop(copy_optional_expr(expr)?, *flags, *pos))
+        }
+        Stmt::Return(expr, flags, pos) => {
+            Ok(Stmt::Return(copy_optional_expr(expr)?, *flags, *pos))
+        }
+        Stmt::Import(parts, pos) => Ok(Stmt::Import(copy_import(parts)?, *pos)),
+        Stmt::Export(names, pos) => Ok(Stmt::Export(copy_export(names)?, *pos)),
+        Stmt::Share(names) => Ok(Stmt::Share(copy_shared(names)?)),
+    }
+}
+
+#[cycle(copy)]
+fn copy_flow(flow: &FlowControl) -> Result<FlowControl, AllocError>
+    ensures { IfOk result (λ f. f ≡ flow.now) }
+{
+    let expr = copy_expr(&flow.expr)?;
+    let body = copy_block(&flow.body)?;
+    let branch = copy_block(&flow.branch)?;
+    Ok(FlowControl { expr, body, branch })
+}
+
+#[cycle(copy)]
+fn copy_boxed_flow(flow: &Boxed<FlowControl>) -> Result<Boxed<FlowControl>, AllocError>
+    ensures { IfOk result (λ f. f ≡ flow.now) }
+{
+    Boxed::new(flow.allocator(), copy_flow(flow.get())?)
+}
+
+#[cycle(copy)]
+fn copy_for(
+    parts: &Boxed<(Ident, Option<Ident>, FlowControl)>,
+) -> Result<Boxed<(Ident, Option<Ident>, FlowControl)>, AllocError>
+    ensures { IfOk result (λ p. p ≡ parts.now) }
+{
+    let (name, counter, flow) = parts.get();
+    let name = name.clone()?;
+    let counter = counter.clone()?;
+    Boxed::new(parts.allocator(), (name, counter, copy_flow(flow)?))
+}
+
+#[cycle(copy)]
+fn copy_var(
+    parts: &Boxed<(Ident, Expr, Option<NonZeroUsize>)>,
+) -> Result<Boxed<(Ident, Expr, Option<NonZeroUsize>)>, AllocError>
+    ensures { IfOk result (λ p. p ≡ parts.now) }
+{
+    let (name, expr, index) = parts.get();
+    let name = name.clone()?;
+    Boxed::new(parts.allocator(), (name, copy_expr(expr)?, *index))
+}
+
+#[cycle(copy)]
+fn copy_assignment(
+    parts: &Boxed<(OpAssignment, BinaryExpr)>,
+) -> Result<Boxed<(OpAssignment, BinaryExpr)>, AllocError>
+    ensures { IfOk result (λ p. p ≡ parts.now) }
+{
+    let (op, sides) = parts.get();
+    Boxed::new(parts.allocator(), (*op, copy_sides(sides)?))
+}
+
+#[cycle(copy)]
+fn copy_import(parts: &Boxed<(Expr, Ident)>) -> Result<Boxed<(Expr, Ident)>, AllocError>
+    ensures { IfOk result (λ p. p ≡ parts.now) }
+{
+    let (path, alias) = parts.get();
+    let alias = alias.clone()?;
+    Boxed::new(parts.allocator(), (copy_expr(path)?, alias))
+}
+
+fn copy_export(names: &Boxed<(Ident, Ident)>) -> Result<Boxed<(Ident, Ident)>, AllocError>
+    ensures { IfOk result (λ n. n ≡ names.now) }
+{
+    let (name, alias) = names.get();
+    let name = name.clone()?;
+    let alias = alias.clone()?;
+    Boxed::new(names.allocator(), (name, alias))
+}
+
+fn copy_shared(
+    names: &Boxed<Seq<(Ident, Option<NonZeroUsize>)>>,
+) -> Result<Boxed<Seq<(Ident, Option<NonZeroUsize>)>>, AllocError>
+    ensures { IfOk result (λ n. n ≡ names.now) }
+{
+    let mut copies = names.get().emptied()?;
+    for pair in names.get().as_slice() {
+        let name = pair.0.clone()?;
+        copies.push((name, pair.1))?;
+    }
+    Boxed::new(names.allocator(), copies)
+}
+
+#[cycle(copy)]
+fn copy_boxed_switch(switch: &Boxed<SwitchBlock>) -> Result<Boxed<SwitchBlock>, AllocError>
+    ensures { IfOk result (λ s. s ≡ switch.now) }
+{
+    Boxed::new(switch.allocator(), copy_switch(switch.get())?)
+}
+
+#[cycle(copy)]
+fn copy_switch(switch: &SwitchBlock) -> Result<SwitchBlock, AllocError>
+    ensures { IfOk result (λ s. s ≡ switch.now) }
+{
+    let expr = copy_expr(&switch.expr)?;
+    let cases = copy_table(&switch.cases)?;
+    Ok(SwitchBlock { expr, cases })
+}
+
+#[cycle(copy)]
+fn copy_table(table: &SwitchCasesCollection) -> Result<SwitchCasesCollection, AllocError>
+    ensures { IfOk result (λ t. t ≡ table.now) }
+{
+    let cases = table.cases.clone()?;
+    let ranges = copy_ranges(&table.ranges)?;
+    Ok(SwitchCasesCollection {
+        expressions: copy_arms(&table.expressions)?,
+        cases,
+        ranges,
+        def_case: table.def_case,
+    })
+}
+
+#[tactic(auto, using(crate::proofs::Copies::copies))]
+fn copy_ranges(ranges: &Seq<RangeCase>) -> Result<Seq<RangeCase>, AllocError>
+    ensures { IfOk result (λ rs. rs ≡ ranges.now) }
+{
+    ranges.clone()
+}
+
+#[cycle(copy)]
+fn copy_arms(arms: &Seq<BinaryExpr>) -> Result<Seq<BinaryExpr>, AllocError>
+    ensures { IfOk result (λ bs. bs ≡ arms.now) }
+{
+    let mut copies = arms.emptied()?;
+    for arm in arms.as_slice() {
+        copies.push(copy_sides(arm)?)?;
+    }
+    Ok(copies)
+}

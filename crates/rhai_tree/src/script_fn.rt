@@ -1,0 +1,37 @@
+//! The functions of a script.
+
+ghost use Rattle.std.specs.Prelude.{◌≡◌};
+
+use crate::StmtBlock;
+use rhai_base::{ImmutableString, Seq};
+
+/// Whether other scripts see a function.
+#[derive(Clone, Copy, Debug, PartialEq, Eq)]
+pub enum FnAccess {
+    Private,
+    Public,
+}
+
+/// Where a function is looked up.
+#[derive(Clone, Copy, Debug, PartialEq, Eq)]
+pub enum FnNamespace {
+    Internal,
+    Global,
+}
+
+/// A function of a script.
+#[derive(Drop)]
+pub struct ScriptFuncDef {
+    /// What it does.
+    pub body: StmtBlock,
+    /// Its name.
+    pub name: ImmutableString,
+    /// The type of its receiver, where it is a method of one type alone.
+    pub this_type: Option<ImmutableString>,
+    /// Whether other scripts see it.
+    pub access: FnAccess,
+    /// The names of its parameters.
+    pub params: Seq<ImmutableString>,
+    /// The lines of its doc comment.
+    pub comments: Seq<ImmutableString>,
+}

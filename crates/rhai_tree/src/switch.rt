@@ -1,0 +1,97 @@
+//! The table of a `switch`.
+
+ghost use Rattle.std.specs.Prelude.{◌≡◌};
+
+use crate::{BinaryExpr, Expr};
+use indexmap::IndexMap;
+use rhai_base::{Dynamic, RangeCase, Seq};
+use std::alloc::AllocError;
+use std::marker::Model;
+
+/// The arms of one case, by their places in the table.
+#[derive(Drop)]
+pub struct CaseBlocksList {
+    /// The places.
+    pub blocks: Seq<usize>,
+}
+
+impl Clone for CaseBlocksList {
+    ghost is_clone = { λ b c. c ≡ b };
+
+    #[tactic(auto, using(crate::proofs::Copies::copies))]
+    fn clone(&self) -> Result<CaseBlocksList, AllocError> {
+        let blocks = self.blocks.clone()?;
+        Ok(CaseBlocksList { blocks })
+    }
+}
+
+/// The cases of a `switch` by their values, in the order in which they came.
+#[derive(Drop)]
+pub struct Cases {
+    map: IndexMap<Dynamic, CaseBlocksList>,
+}
+
+impl Model for Cases {
+    ghost use Rattle.std.specs.Prelude.{List};
+    ghost use Rattle.std.specs.Coded.{coded_list, coded×};
+    ghost use Rattle.rhai_values.specs.declared.dynamic.Dynamic.{Dynamic};
+    ghost use Rattle.rhai_tree.specs.declared.switch.CaseBlocksList.{CaseBlocksList};
+    ghost use Rattle.rhai_values.specs.contracts.dynamic.Dynamic as value;
+    ghost use Rattle.rhai_tree.specs.contracts.switch.CaseBlocksList as blocks;
+
+    ghost Value = { List (Dynamic × CaseBlocksList) };
+
+    ghost coded = { coded_list (coded× value.the_row.coded blocks.the_row.coded) };
+
+    ghost view = { λ c. c.map.entries };
+}
+
+impl Clone for Cases {
+    ghost is_clone = { λ c d. d ≡ c };
+
+    #[tactic(auto, using(crate::proofs::Copies::copies))]
+    fn clone(&self) -> Result<Cases, AllocError> {
+        let copies = self.map.clone()?;
+        Ok(Cases { map: copies })
+    }
+}
+
+impl Cases {
+    /// The cases of a map.
+    pub fn from_map(map: IndexMap<Dynamic, CaseBlocksList>) -> Cases
+        ensures { result ≡ map.entries }
+    {
+        Cases { map }
+    }
+
+    /// The cases as a map, lent.
+    pub fn as_map(&self) -> &IndexMap<Dynamic, CaseBlocksList>
+        ensures { result.now.entries ≡ self.now }
+    {
+        &self.map
+    }
+}
+
+/// All that a `switch` chooses from. It can be made by hand, also a bad one, of which `check_tree` speaks.
+#[cycle(tree)]
+#[derive(Drop)]
+pub struct SwitchCasesCollection {
+    /// The arms: conditions with answers.
+    pub expressions: Seq<BinaryExpr>,
+    /// The cases by their values.
+    pub cases: Cases,
+    /// The ranges.
+    pub ranges: Seq<RangeCase>,
+    /// The place of the default arm.
+    pub def_case: Option<usize>,
+}
+
+/// A subject with the table from which it chooses.
+#[cycle(tree)]
+#[derive(Drop)]
+pub struct SwitchBlock {
+    /// The subject.
+    pub expr: Expr,
+    /// The table.
+    pub cases: SwitchCasesCollection,
+}
