@@ -1,5 +1,8 @@
 //! Copies of trees.
-ghost use Rattle.std.specs.Prelude.{◌≡◌, IfOk};
+//!
+//! No function here holds a copy while it makes the next one: what is dropped after a refusal is dropped by
+//! `both` and `pushed`, which know no tree. A function that drops trees is dear to prove.
+ghost use Rattle.std.specs.Prelude.{◌≡◌, ◌++◌, ◌∷◌, [], IfOk, Ok};
 
 use crate::{
     BinaryExpr, Expr, FlowControl, FnCallExpr, Stmt, StmtBlock, SwitchBlock, SwitchCasesCollection,
@@ -26,6 +29,69 @@ impl Clone for Stmt {
     }
 }
 
+impl Clone for BinaryExpr {
+    ghost is_clone = { λ a b. b ≡ a };
+
+    fn clone(&self) -> Result<BinaryExpr, AllocError> {
+        copy_sides(self)
+    }
+}
+
+impl Clone for FnCallExpr {
+    ghost is_clone = { λ a b. b ≡ a };
+
+    fn clone(&self) -> Result<FnCallExpr, AllocError> {
+        copy_call(self)
+    }
+}
+
+impl Clone for StmtBlock {
+    ghost is_clone = { λ a b. b ≡ a };
+
+    fn clone(&self) -> Result<StmtBlock, AllocError> {
+        copy_block(self)
+    }
+}
+
+impl Clone for FlowControl {
+    ghost is_clone = { λ a b. b ≡ a };
+
+    fn clone(&self) -> Result<FlowControl, AllocError> {
+        copy_flow(self)
+    }
+}
+
+impl Clone for SwitchCasesCollection {
+    ghost is_clone = { λ a b. b ≡ a };
+
+    fn clone(&self) -> Result<SwitchCasesCollection, AllocError> {
+        copy_table(self)
+    }
+}
+
+impl Clone for SwitchBlock {
+    ghost is_clone = { λ a b. b ≡ a };
+
+    fn clone(&self) -> Result<SwitchBlock, AllocError> {
+        copy_switch(self)
+    }
+}
+
+/// What was made before beside what is made next, where that is not refused.
+fn both<A: Drop, B>(first: A, second: Result<B, AllocError>) -> Result<(A, B), AllocError>
+    ensures { IfOk result (λ p. (p.0 ≡ first) × (second ≡ Ok p.1)) }
+{
+    Ok((first, second?))
+}
+
+/// The items and one more.
+fn pushed<T: Drop>(mut items: Seq<T>, item: T) -> Result<Seq<T>, AllocError>
+    ensures { IfOk result (λ longer. longer ≡ items ++ item ∷ []) }
+{
+    items.push(item)?;
+    Ok(items)
+}
+
 #[cycle(copy)]
 fn copy_expr(expr: &Expr) -> Result<Expr, AllocError>
     ensures { IfOk result (λ e. e ≡ expr.now) }
@@ -41,9 +107,8 @@ fn copy_expr(expr: &Expr) -> Result<Expr, AllocError>
         }
         Expr::Array(items, pos) => Ok(Expr::Array(copy_exprs(items)?, *pos)),
         Expr::Map(map, pos) => {
-            let template = map.get().1.clone()?;
-            let parts = (copy_pairs(&map.get().0)?, template);
-            Ok(Expr::Map(Boxed::new(map.allocator(), parts)?, *pos))
+            let (pairs, template) = both(copy_pairs(&map.get().0)?, map.get().1.clone())?;
+            Ok(Expr::Map(Boxed::new(map.allocator(), (pairs, template))?, *pos))
         }
         Expr::Unit(pos) => Ok(Expr::Unit(*pos)),
         Expr::Variable(parts, short, pos) => {
@@ -91,7 +156,8 @@ fn copy_exprs(exprs: &Seq<Expr>) -> Result<Seq<Expr>, AllocError>
 {
     let mut copies = exprs.emptied()?;
     for expr in exprs.as_slice() {
-        copies.push(copy_expr(expr)?)?;
+        let (items, item) = both(copies, copy_expr(expr))?;
+        copies = pushed(items, item)?;
     }
     Ok(copies)
 }
@@ -109,8 +175,9 @@ fn copy_pairs(pairs: &Seq<(Ident, Expr)>) -> Result<Seq<(Ident, Expr)>, AllocErr
 {
     let mut copies = pairs.emptied()?;
     for pair in pairs.as_slice() {
-        let name = pair.0.clone()?;
-        copies.push((name, copy_expr(&pair.1)?))?;
+        let start = both(copies, copy_expr(&pair.1))?;
+        let ((items, item), name) = both(start, pair.0.clone())?;
+        copies = pushed(items, (name, item))?;
     }
     Ok(copies)
 }
@@ -136,8 +203,7 @@ fn copy_optional_expr(expr: &Option<Boxed<Expr>>) -> Result<Option<Boxed<Expr>>,
 fn copy_sides(sides: &BinaryExpr) -> Result<BinaryExpr, AllocError>
     ensures { IfOk result (λ s. s ≡ sides.now) }
 {
-    let lhs = copy_expr(&sides.lhs)?;
-    let rhs = copy_expr(&sides.rhs)?;
+    let (lhs, rhs) = both(copy_expr(&sides.lhs)?, copy_expr(&sides.rhs))?;
     Ok(BinaryExpr { lhs, rhs })
 }
 
@@ -152,9 +218,8 @@ fn copy_boxed_sides(sides: &Boxed<BinaryExpr>) -> Result<Boxed<BinaryExpr>, Allo
 fn copy_call(call: &FnCallExpr) -> Result<FnCallExpr, AllocError>
     ensures { IfOk result (λ c. c ≡ call.now) }
 {
-    let namespace = call.namespace.clone()?;
-    let name = call.name.clone()?;
-    let args = copy_exprs(&call.args)?;
+    let path = both(call.namespace.clone()?, call.name.clone())?;
+    let ((namespace, name), args) = both(path, copy_exprs(&call.args))?;
     Ok(FnCallExpr {
         namespace,
         name,
@@ -194,7 +259,8 @@ fn copy_stmts(stmts: &Seq<Stmt>) -> Result<Seq<Stmt>, AllocError>
 {
     let mut copies = stmts.emptied()?;
     for stmt in stmts.as_slice() {
-        copies.push(copy_stmt(stmt)?)?;
+        let (items, item) = both(copies, copy_stmt(stmt))?;
+        copies = pushed(items, item)?;
     }
     Ok(copies)
 }
@@ -232,9 +298,8 @@ fn copy_stmt(stmt: &Stmt) -> Result<Stmt, AllocError>
 fn copy_flow(flow: &FlowControl) -> Result<FlowControl, AllocError>
     ensures { IfOk result (λ f. f ≡ flow.now) }
 {
-    let expr = copy_expr(&flow.expr)?;
-    let body = copy_block(&flow.body)?;
-    let branch = copy_block(&flow.branch)?;
+    let start = both(copy_expr(&flow.expr)?, copy_block(&flow.body))?;
+    let ((expr, body), branch) = both(start, copy_block(&flow.branch))?;
     Ok(FlowControl { expr, body, branch })
 }
 
@@ -252,9 +317,9 @@ fn copy_for(
     ensures { IfOk result (λ p. p ≡ parts.now) }
 {
     let (name, counter, flow) = parts.get();
-    let name = name.clone()?;
-    let counter = counter.clone()?;
-    Boxed::new(parts.allocator(), (name, counter, copy_flow(flow)?))
+    let names = both(name.clone()?, counter.clone())?;
+    let ((name, counter), flow) = both(names, copy_flow(flow))?;
+    Boxed::new(parts.allocator(), (name, counter, flow))
 }
 
 #[cycle(copy)]
@@ -264,8 +329,8 @@ fn copy_var(
     ensures { IfOk result (λ p. p ≡ parts.now) }
 {
     let (name, expr, index) = parts.get();
-    let name = name.clone()?;
-    Boxed::new(parts.allocator(), (name, copy_expr(expr)?, *index))
+    let (name, expr) = both(name.clone()?, copy_expr(expr))?;
+    Boxed::new(parts.allocator(), (name, expr, *index))
 }
 
 #[cycle(copy)]
@@ -283,17 +348,14 @@ fn copy_import(parts: &Boxed<(Expr, Ident)>) -> Result<Boxed<(Expr, Ident)>, All
     ensures { IfOk result (λ p. p ≡ parts.now) }
 {
     let (path, alias) = parts.get();
-    let alias = alias.clone()?;
-    Boxed::new(parts.allocator(), (copy_expr(path)?, alias))
+    Boxed::new(parts.allocator(), both(copy_expr(path)?, alias.clone())?)
 }
 
 fn copy_export(names: &Boxed<(Ident, Ident)>) -> Result<Boxed<(Ident, Ident)>, AllocError>
     ensures { IfOk result (λ n. n ≡ names.now) }
 {
     let (name, alias) = names.get();
-    let name = name.clone()?;
-    let alias = alias.clone()?;
-    Boxed::new(names.allocator(), (name, alias))
+    Boxed::new(names.allocator(), both(name.clone()?, alias.clone())?)
 }
 
 fn copy_shared(
@@ -320,8 +382,7 @@ fn copy_boxed_switch(switch: &Boxed<SwitchBlock>) -> Result<Boxed<SwitchBlock>, 
 fn copy_switch(switch: &SwitchBlock) -> Result<SwitchBlock, AllocError>
     ensures { IfOk result (λ s. s ≡ switch.now) }
 {
-    let expr = copy_expr(&switch.expr)?;
-    let cases = copy_table(&switch.cases)?;
+    let (expr, cases) = both(copy_expr(&switch.expr)?, copy_table(&switch.cases))?;
     Ok(SwitchBlock { expr, cases })
 }
 
@@ -329,10 +390,10 @@ fn copy_switch(switch: &SwitchBlock) -> Result<SwitchBlock, AllocError>
 fn copy_table(table: &SwitchCasesCollection) -> Result<SwitchCasesCollection, AllocError>
     ensures { IfOk result (λ t. t ≡ table.now) }
 {
-    let cases = table.cases.clone()?;
-    let ranges = copy_ranges(&table.ranges)?;
+    let start = both(copy_arms(&table.expressions)?, table.cases.clone())?;
+    let ((expressions, cases), ranges) = both(start, copy_ranges(&table.ranges))?;
     Ok(SwitchCasesCollection {
-        expressions: copy_arms(&table.expressions)?,
+        expressions,
         cases,
         ranges,
         def_case: table.def_case,
@@ -352,7 +413,8 @@ fn copy_arms(arms: &Seq<BinaryExpr>) -> Result<Seq<BinaryExpr>, AllocError>
 {
     let mut copies = arms.emptied()?;
     for arm in arms.as_slice() {
-        copies.push(copy_sides(arm)?)?;
+        let (items, item) = both(copies, copy_sides(arm))?;
+        copies = pushed(items, item)?;
     }
     Ok(copies)
 }

@@ -1,5 +1,9 @@
 //! Expressions.
 
+ghost use Rattle.std.specs.Prelude.{◌≡◌};
+ghost use Rattle.rhai_tree.specs.Defaults.{nowhere};
+ghost use Rattle.rhai_tree.specs.declared.expr.Expr.TheVariants.{Unit};
+
 use crate::StmtBlock;
 use rhai_base::{
     ASTFlags, Boxed, Dynamic, INT, Ident, ImmutableString, Namespace, Position, Seq, StringMap,
@@ -39,10 +43,7 @@ pub enum Expr {
     /// `this`
     ThisPtr(Position),
     /// A property: the names of the functions that read and write it, and its own.
-    Property(
-        Boxed<(ImmutableString, ImmutableString, ImmutableString)>,
-        Position,
-    ),
+    Property(Boxed<(ImmutableString, ImmutableString, ImmutableString)>, Position),
     /// `method ( expr, .. )`, at the right of a `.`
     MethodCall(Boxed<FnCallExpr>, Position),
     /// `{ stmt; .. }`
@@ -85,4 +86,23 @@ pub struct FnCallExpr {
     pub capture_parent_scope: bool,
     /// The operator's token, where this is an operator over its operands.
     pub op_token: Option<Token>,
+}
+
+impl Default for Expr {
+    ghost is_default = { λ e. e ≡ Unit nowhere };
+
+    fn default() -> Expr {
+        Expr::Unit(Position::NONE)
+    }
+}
+
+impl Default for BinaryExpr {
+    ghost is_default = { λ b. (b.lhs ≡ Unit nowhere) × (b.rhs ≡ Unit nowhere) };
+
+    fn default() -> BinaryExpr {
+        BinaryExpr {
+            lhs: Expr::default(),
+            rhs: Expr::default(),
+        }
+    }
 }

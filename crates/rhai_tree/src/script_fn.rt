@@ -4,6 +4,7 @@ ghost use Rattle.std.specs.Prelude.{◌≡◌};
 
 use crate::StmtBlock;
 use rhai_base::{ImmutableString, Seq};
+use std::alloc::AllocError;
 
 /// Whether other scripts see a function.
 #[derive(Clone, Copy, Debug, PartialEq, Eq)]
@@ -34,4 +35,25 @@ pub struct ScriptFuncDef {
     pub params: Seq<ImmutableString>,
     /// The lines of its doc comment.
     pub comments: Seq<ImmutableString>,
+}
+
+impl Clone for ScriptFuncDef {
+    ghost is_clone = { λ f g. g ≡ f };
+
+    #[tactic(auto, using(crate::proofs::Copies::copies))]
+    fn clone(&self) -> Result<ScriptFuncDef, AllocError> {
+        let body = self.body.clone()?;
+        let name = self.name.clone()?;
+        let this_type = self.this_type.clone()?;
+        let params = self.params.clone()?;
+        let comments = self.comments.clone()?;
+        Ok(ScriptFuncDef {
+            body,
+            name,
+            this_type,
+            access: self.access,
+            params,
+            comments,
+        })
+    }
 }

@@ -1,7 +1,11 @@
 //! Statements.
 
-use crate::{BinaryExpr, Expr, FnCallExpr, SwitchBlock};
-use rhai_base::{ASTFlags, Boxed, Ident, OpAssignment, Position, Seq, Span};
+ghost use Rattle.std.specs.Prelude.{◌≡◌};
+ghost use Rattle.rhai_tree.specs.Defaults.{nowhere};
+ghost use Rattle.rhai_tree.specs.declared.stmt.Stmt.TheVariants.{Noop};
+
+use crate::{BinaryExpr, Expr, FnCallExpr, StmtBlock, SwitchBlock};
+use rhai_base::{ASTFlags, Boxed, Ident, OpAssignment, Position, Seq};
 use std::num::NonZeroUsize;
 
 /// A statement.
@@ -21,11 +25,7 @@ pub enum Stmt {
     /// `for name in expr { stmt; .. }`, or with a counter `for (name, counter) in expr { stmt; .. }`
     For(Boxed<(Ident, Option<Ident>, FlowControl)>, Position),
     /// `let name = expr`, and an index of which nothing is claimed; CONSTANT is `const`, EXPORTED `export`.
-    Var(
-        Boxed<(Ident, Expr, Option<NonZeroUsize>)>,
-        ASTFlags,
-        Position,
-    ),
+    Var(Boxed<(Ident, Expr, Option<NonZeroUsize>)>, ASTFlags, Position),
     /// `expr = expr`, `expr op= expr`
     Assignment(Boxed<(OpAssignment, BinaryExpr)>),
     /// A call whose value, if it is not the last one, goes.
@@ -60,13 +60,10 @@ pub struct FlowControl {
     pub branch: StmtBlock,
 }
 
-/// The list of a block.
-pub type StmtBlockContainer = Seq<Stmt>;
+impl Default for Stmt {
+    ghost is_default = { λ s. s ≡ Noop nowhere };
 
-/// A list of statements in braces.
-#[cycle(tree)]
-#[derive(Drop)]
-pub struct StmtBlock {
-    pub(crate) block: Seq<Stmt>,
-    pub(crate) span: Span,
+    fn default() -> Stmt {
+        Stmt::Noop(Position::NONE)
+    }
 }

@@ -1,0 +1,66 @@
+//! Constants.
+
+#![tactic(auto, using(rhai_reading::specs::Reading::shapes, rhai_reading::proofs::ItemLists::steps))]
+
+ghost use Rattle.std.specs.Prelude.{◌≡◌};
+ghost use Rattle.rhai_reading.specs.Reading.{expr_of, exprs_of, pairs_of};
+ghost use Rattle.rhai_meaning.specs.Constants as constants;
+ghost use Rattle.std.specs.Prelude.{is_some};
+
+use rhai_base::Ident;
+use rhai_tree::Expr;
+
+/// Whether it is a constant: one of the constant kinds, or an array, a map or a text all of whose parts are.
+#[cycle(constant)]
+pub(crate) fn is_constant(expr: &Expr) -> bool
+    ensures { result ≡ constants.is_constant (expr_of expr.now) }
+{
+    match expr {
+        Expr::DynamicConstant(_, _)
+        | Expr::BoolConstant(_, _)
+        | Expr::IntegerConstant(_, _)
+        | Expr::CharConstant(_, _)
+        | Expr::StringConstant(_, _)
+        | Expr::Unit(_) => true,
+        Expr::InterpolatedString(parts, _) | Expr::Array(parts, _) => {
+            are_constant(parts.as_slice())
+        }
+        Expr::Map(map, _) => are_constant_members(map.get().0.as_slice()),
+        Expr::Variable(_, _, _)
+        | Expr::ThisPtr(_)
+        | Expr::Property(_, _)
+        | Expr::MethodCall(_, _)
+        | Expr::Stmt(_)
+        | Expr::FnCall(_, _)
+        | Expr::Dot(_, _, _)
+        | Expr::Index(_, _, _)
+        | Expr::And(_, _)
+        | Expr::Or(_, _)
+        | Expr::Coalesce(_, _) => false,
+    }
+}
+
+/// Whether all are constants.
+#[cycle(constant)]
+pub fn are_constant(exprs: &[Expr]) -> bool
+    ensures { result ≡ constants.are_constant (exprs_of exprs.now) }
+{
+    for expr in exprs {
+        if !is_constant(expr) {
+            return false;
+        }
+    }
+    true
+}
+
+#[cycle(constant)]
+fn are_constant_members(members: &[(Ident, Expr)]) -> bool
+    ensures { result ≡ is_some (constants.constant_entries (pairs_of members.now)) }
+{
+    for member in members {
+        if !is_constant(&member.1) {
+            return false;
+        }
+    }
+    true
+}

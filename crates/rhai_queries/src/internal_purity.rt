@@ -1,0 +1,75 @@
+//! Purity but for names that the list around takes away.
+
+#![tactic(auto, using(rhai_reading::specs::Reading::shapes, rhai_reading::proofs::ItemLists::steps))]
+
+ghost use Rattle.std.specs.Prelude.{◌≡◌};
+ghost use Rattle.rhai_reading.specs.Reading.{expr_of, stmt_of, stmts_of};
+ghost use Rattle.rhai_meaning.specs.Queries as queries;
+
+use crate::purity::{is_pure, is_pure_expr};
+use rhai_tree::{Expr, Stmt};
+
+#[cycle(internally_pure)]
+pub(crate) fn is_internally_pure(stmt: &Stmt) -> bool
+    ensures { result ≡ queries.is_internally_pure (stmt_of stmt.now) }
+{
+    match stmt {
+        Stmt::Var(parts, _, _) => is_pure_expr(&parts.get().1),
+        Stmt::Expr(expr) => is_internally_pure_expr(expr.get()),
+        Stmt::Import(parts, _) => is_pure_expr(&parts.get().0),
+        Stmt::Export(_, _) => true,
+        Stmt::Noop(_)
+        | Stmt::If(_, _)
+        | Stmt::Switch(_, _)
+        | Stmt::While(_, _)
+        | Stmt::Do(_, _, _)
+        | Stmt::For(_, _)
+        | Stmt::Assignment(_)
+        | Stmt::FnCall(_, _)
+        | Stmt::Block(_)
+        | Stmt::TryCatch(_, _)
+        | Stmt::BreakLoop(_, _, _)
+        | Stmt::Return(_, _, _)
+        | Stmt::Share(_) => is_pure(stmt),
+    }
+}
+
+#[cycle(internally_pure)]
+fn is_internally_pure_expr(expr: &Expr) -> bool
+    ensures { result ≡ queries.is_internally_pure_expr (expr_of expr.now) }
+{
+    match expr {
+        Expr::Stmt(block) => are_internally_pure(block.get().statements()),
+        Expr::DynamicConstant(_, _)
+        | Expr::BoolConstant(_, _)
+        | Expr::IntegerConstant(_, _)
+        | Expr::CharConstant(_, _)
+        | Expr::StringConstant(_, _)
+        | Expr::InterpolatedString(_, _)
+        | Expr::Array(_, _)
+        | Expr::Map(_, _)
+        | Expr::Unit(_)
+        | Expr::Variable(_, _, _)
+        | Expr::ThisPtr(_)
+        | Expr::Property(_, _)
+        | Expr::MethodCall(_, _)
+        | Expr::FnCall(_, _)
+        | Expr::Dot(_, _, _)
+        | Expr::Index(_, _, _)
+        | Expr::And(_, _)
+        | Expr::Or(_, _)
+        | Expr::Coalesce(_, _) => is_pure_expr(expr),
+    }
+}
+
+#[cycle(internally_pure)]
+fn are_internally_pure(statements: &[Stmt]) -> bool
+    ensures { result ≡ queries.are_internally_pure (stmts_of statements.now) }
+{
+    for stmt in statements {
+        if !is_internally_pure(stmt) {
+            return false;
+        }
+    }
+    true
+}
