@@ -3,7 +3,8 @@
 #![tactic(auto, using(rhai_reading::specs::Positions::places))]
 
 ghost use Rattle.std.specs.Prelude.{◌≡◌, map};
-ghost use Rattle.rhai_reading.specs.Positions.{first_or, nowhere, position_of, start_of, stmt_position_of};
+ghost use Rattle.rhai_tree.specs.Defaults.{nowhere};
+ghost use Rattle.rhai_reading.specs.Positions.{first_or, position_of, start_of, stmt_position_of};
 
 use rhai_base::{Ident, Position};
 use rhai_tree::{Expr, Stmt};

@@ -8,7 +8,10 @@ use Rattle.rhai_tokens.specs.declared.position.Span.{Span}
 use Rattle.rhai_parts.specs.declared.flags.ASTFlags.{ASTFlags}
 use Rattle.rhai_parts.specs.declared.ident.Ident.{Ident}
 use Rattle.rhai_parts.specs.declared.namespace.Namespace.{Namespace}
+use Rattle.std.specs.declared.num.NonZeroU8.{NonZeroU8}
+use Rattle.std.specs.declared.num.NonZeroUsize.{NonZeroUsize}
 use Rattle.rhai_values.specs.Value.{Text}
+use Rattle.rhai_tree.specs.Defaults.{nowhere}
 use Rattle.rhai_tree.specs.declared.expr.Expr as declared_expr
 use Rattle.rhai_tree.specs.declared.expr.Expr.TheOpen as open_one
 use Rattle.rhai_tree.specs.declared.expr.Expr.TheViews as views
@@ -16,7 +19,7 @@ use Rattle.rhai_tree.specs.declared.expr.Expr.TheFolds as folds
 use Rattle.rhai_tree.specs.declared.expr.Expr.TheVariants as expr_kind
 use Rattle.rhai_tree.specs.declared.stmt.Stmt.TheVariants as stmt_kind
 use Rattle.rhai_tree.specs.declared.stmt.Stmt as declared_stmt
-use Rattle.rhai_tree.specs.declared.stmt.StmtBlock.{StmtBlock}
+use Rattle.rhai_tree.specs.declared.block.StmtBlock.{StmtBlock}
 use Rattle.rhai_tree.specs.declared.expr.BinaryExpr.{BinaryExpr}
 use Rattle.rhai_tree.specs.declared.expr.FnCallExpr.{FnCallExpr}
 use Rattle.rhai_tree.specs.declared.stmt.FlowControl.{FlowControl}
@@ -28,17 +31,14 @@ abbrev pub first_or : Position → List Position → Position
 first_or p [] = p
 first_or p (q ∷ qs) = q
 
-abbrev pub nowhere : Position
-nowhere = record { line = 0; pos = 0 }
-
 abbrev pub no_flags : ASTFlags
 no_flags = record { 0 = 0 }
 
 abbrev pub ExprLayer : Type 0
-ExprLayer = open_one.Expr-F declared_expr.Expr declared_stmt.Stmt BinaryExpr FnCallExpr FlowControl StmtBlock SwitchBlock SwitchCasesCollection
+ExprLayer = open_one.Expr-F declared_expr.Expr declared_stmt.Stmt StmtBlock BinaryExpr FnCallExpr FlowControl SwitchBlock SwitchCasesCollection
 
 abbrev pub StmtLayer : Type 0
-StmtLayer = open_one.Stmt-F declared_expr.Expr declared_stmt.Stmt BinaryExpr FnCallExpr FlowControl StmtBlock SwitchBlock SwitchCasesCollection
+StmtLayer = open_one.Stmt-F declared_expr.Expr declared_stmt.Stmt StmtBlock BinaryExpr FnCallExpr FlowControl SwitchBlock SwitchCasesCollection
 
 -- where a node stands; braces stand where they begin
 abbrev position_in : ExprLayer → Position
@@ -70,7 +70,7 @@ position_of e = position_in (views.out-Expr e)
 abbrev first_name : Position → Namespace → Position
 first_name p n = first_or p (map (λ i. i.pos) n.path)
 
-abbrev start_step : open_one.Expr-F Position (Unit {0}) Position (Unit {0}) (Unit {0}) Position (Unit {0}) (Unit {0}) → Position
+abbrev start_step : open_one.Expr-F Position (Unit {0}) Position Position (Unit {0}) (Unit {0}) (Unit {0}) (Unit {0}) → Position
 start_step (open_one.DynamicConstant v p) = p
 start_step (open_one.BoolConstant b p) = p
 start_step (open_one.IntegerConstant n p) = p
@@ -93,20 +93,20 @@ start_step (open_one.Or xs p) = first_or p xs
 start_step (open_one.Coalesce xs p) = first_or p xs
 
 pub start_of : declared_expr.Expr → Position
-start_of = folds.fold-Expr Position (Unit {0}) Position (Unit {0}) (Unit {0}) Position (Unit {0}) (Unit {0}) start_step (λ s. tt) (λ b. b.lhs) (λ c. tt) (λ f. tt) (λ b. b.span.start) (λ s. tt) (λ t. tt)
+start_of = folds.fold-Expr Position (Unit {0}) Position Position (Unit {0}) (Unit {0}) (Unit {0}) (Unit {0}) start_step (λ s. tt) (λ b. b.span.start) (λ b. b.lhs) (λ c. tt) (λ f. tt) (λ s. tt) (λ t. tt)
 
 abbrev fold_sides : BinaryExpr → Position
-fold_sides = folds.fold-BinaryExpr Position (Unit {0}) Position (Unit {0}) (Unit {0}) Position (Unit {0}) (Unit {0}) start_step (λ s. tt) (λ b. b.lhs) (λ c. tt) (λ f. tt) (λ b. b.span.start) (λ s. tt) (λ t. tt)
+fold_sides = folds.fold-BinaryExpr Position (Unit {0}) Position Position (Unit {0}) (Unit {0}) (Unit {0}) (Unit {0}) start_step (λ s. tt) (λ b. b.span.start) (λ b. b.lhs) (λ c. tt) (λ f. tt) (λ s. tt) (λ t. tt)
 
 abbrev fold_block : StmtBlock → Position
-fold_block = folds.fold-StmtBlock Position (Unit {0}) Position (Unit {0}) (Unit {0}) Position (Unit {0}) (Unit {0}) start_step (λ s. tt) (λ b. b.lhs) (λ c. tt) (λ f. tt) (λ b. b.span.start) (λ s. tt) (λ t. tt)
+fold_block = folds.fold-StmtBlock Position (Unit {0}) Position Position (Unit {0}) (Unit {0}) (Unit {0}) (Unit {0}) start_step (λ s. tt) (λ b. b.span.start) (λ b. b.lhs) (λ c. tt) (λ f. tt) (λ s. tt) (λ t. tt)
 
 sides_start : (b : BinaryExpr) → fold_sides b ≡ start_of b.lhs
 unfolding start_of
-sides_start b = folds.fold_out-BinaryExpr Position (Unit {0}) Position (Unit {0}) (Unit {0}) Position (Unit {0}) (Unit {0}) start_step (λ s. tt) (λ b. b.lhs) (λ c. tt) (λ f. tt) (λ b. b.span.start) (λ s. tt) (λ t. tt) b ∙ ap (λ (o : open_one.BinaryExpr-F declared_expr.Expr declared_stmt.Stmt BinaryExpr FnCallExpr FlowControl StmtBlock SwitchBlock SwitchCasesCollection). start_of o.lhs) (views.outs-struct-BinaryExpr b)
+sides_start b = folds.fold_out-BinaryExpr Position (Unit {0}) Position Position (Unit {0}) (Unit {0}) (Unit {0}) (Unit {0}) start_step (λ s. tt) (λ b. b.span.start) (λ b. b.lhs) (λ c. tt) (λ f. tt) (λ s. tt) (λ t. tt) b ∙ ap (λ (o : open_one.BinaryExpr-F declared_expr.Expr declared_stmt.Stmt StmtBlock BinaryExpr FnCallExpr FlowControl SwitchBlock SwitchCasesCollection). start_of o.lhs) (views.outs-struct-BinaryExpr b)
 
 block_start : (b : StmtBlock) → fold_block b ≡ b.span.start
-block_start b = folds.fold_out-StmtBlock Position (Unit {0}) Position (Unit {0}) (Unit {0}) Position (Unit {0}) (Unit {0}) start_step (λ s. tt) (λ b. b.lhs) (λ c. tt) (λ f. tt) (λ b. b.span.start) (λ s. tt) (λ t. tt) b ∙ ap (λ (o : open_one.StmtBlock-F declared_expr.Expr declared_stmt.Stmt BinaryExpr FnCallExpr FlowControl StmtBlock SwitchBlock SwitchCasesCollection). o.span.start) (views.outs-struct-StmtBlock b)
+block_start b = folds.fold_out-StmtBlock Position (Unit {0}) Position Position (Unit {0}) (Unit {0}) (Unit {0}) (Unit {0}) start_step (λ s. tt) (λ b. b.span.start) (λ b. b.lhs) (λ c. tt) (λ f. tt) (λ s. tt) (λ t. tt) b ∙ ap (λ (o : open_one.StmtBlock-F declared_expr.Expr declared_stmt.Stmt StmtBlock BinaryExpr FnCallExpr FlowControl SwitchBlock SwitchCasesCollection). o.span.start) (views.outs-struct-StmtBlock b)
 
 abbrev options_in : ExprLayer → ASTFlags
 options_in (open_one.Dot x k p) = k
@@ -183,9 +183,9 @@ stmt_options_of-roll : (x : StmtLayer) → stmt_options_of (views.roll-Stmt x) �
 unfolding stmt_options_of
 stmt_options_of-roll x = ap stmt_options_in (views.out-roll-Stmt x)
 
-start_of-roll : (x : ExprLayer) → start_of (views.roll-Expr x) ≡ start_step (folds.map-Expr _ _ _ _ _ _ _ _ _ _ _ _ _ _ _ _ start_of (folds.fold-Stmt Position (Unit {0}) Position (Unit {0}) (Unit {0}) Position (Unit {0}) (Unit {0}) start_step (λ s. tt) (λ b. b.lhs) (λ c. tt) (λ f. tt) (λ b. b.span.start) (λ s. tt) (λ t. tt)) (folds.fold-BinaryExpr Position (Unit {0}) Position (Unit {0}) (Unit {0}) Position (Unit {0}) (Unit {0}) start_step (λ s. tt) (λ b. b.lhs) (λ c. tt) (λ f. tt) (λ b. b.span.start) (λ s. tt) (λ t. tt)) (folds.fold-FnCallExpr Position (Unit {0}) Position (Unit {0}) (Unit {0}) Position (Unit {0}) (Unit {0}) start_step (λ s. tt) (λ b. b.lhs) (λ c. tt) (λ f. tt) (λ b. b.span.start) (λ s. tt) (λ t. tt)) (folds.fold-FlowControl Position (Unit {0}) Position (Unit {0}) (Unit {0}) Position (Unit {0}) (Unit {0}) start_step (λ s. tt) (λ b. b.lhs) (λ c. tt) (λ f. tt) (λ b. b.span.start) (λ s. tt) (λ t. tt)) (folds.fold-StmtBlock Position (Unit {0}) Position (Unit {0}) (Unit {0}) Position (Unit {0}) (Unit {0}) start_step (λ s. tt) (λ b. b.lhs) (λ c. tt) (λ f. tt) (λ b. b.span.start) (λ s. tt) (λ t. tt)) (folds.fold-SwitchBlock Position (Unit {0}) Position (Unit {0}) (Unit {0}) Position (Unit {0}) (Unit {0}) start_step (λ s. tt) (λ b. b.lhs) (λ c. tt) (λ f. tt) (λ b. b.span.start) (λ s. tt) (λ t. tt)) (folds.fold-SwitchCasesCollection Position (Unit {0}) Position (Unit {0}) (Unit {0}) Position (Unit {0}) (Unit {0}) start_step (λ s. tt) (λ b. b.lhs) (λ c. tt) (λ f. tt) (λ b. b.span.start) (λ s. tt) (λ t. tt)) x)
+start_of-roll : (x : ExprLayer) → start_of (views.roll-Expr x) ≡ start_step (folds.map-Expr _ _ _ _ _ _ _ _ _ _ _ _ _ _ _ _ start_of (folds.fold-Stmt Position (Unit {0}) Position Position (Unit {0}) (Unit {0}) (Unit {0}) (Unit {0}) start_step (λ s. tt) (λ b. b.span.start) (λ b. b.lhs) (λ c. tt) (λ f. tt) (λ s. tt) (λ t. tt)) (folds.fold-StmtBlock Position (Unit {0}) Position Position (Unit {0}) (Unit {0}) (Unit {0}) (Unit {0}) start_step (λ s. tt) (λ b. b.span.start) (λ b. b.lhs) (λ c. tt) (λ f. tt) (λ s. tt) (λ t. tt)) (folds.fold-BinaryExpr Position (Unit {0}) Position Position (Unit {0}) (Unit {0}) (Unit {0}) (Unit {0}) start_step (λ s. tt) (λ b. b.span.start) (λ b. b.lhs) (λ c. tt) (λ f. tt) (λ s. tt) (λ t. tt)) (folds.fold-FnCallExpr Position (Unit {0}) Position Position (Unit {0}) (Unit {0}) (Unit {0}) (Unit {0}) start_step (λ s. tt) (λ b. b.span.start) (λ b. b.lhs) (λ c. tt) (λ f. tt) (λ s. tt) (λ t. tt)) (folds.fold-FlowControl Position (Unit {0}) Position Position (Unit {0}) (Unit {0}) (Unit {0}) (Unit {0}) start_step (λ s. tt) (λ b. b.span.start) (λ b. b.lhs) (λ c. tt) (λ f. tt) (λ s. tt) (λ t. tt)) (folds.fold-SwitchBlock Position (Unit {0}) Position Position (Unit {0}) (Unit {0}) (Unit {0}) (Unit {0}) start_step (λ s. tt) (λ b. b.span.start) (λ b. b.lhs) (λ c. tt) (λ f. tt) (λ s. tt) (λ t. tt)) (folds.fold-SwitchCasesCollection Position (Unit {0}) Position Position (Unit {0}) (Unit {0}) (Unit {0}) (Unit {0}) start_step (λ s. tt) (λ b. b.span.start) (λ b. b.lhs) (λ c. tt) (λ f. tt) (λ s. tt) (λ t. tt)) x)
 unfolding start_of
-start_of-roll x = folds.fold-roll-Expr Position (Unit {0}) Position (Unit {0}) (Unit {0}) Position (Unit {0}) (Unit {0}) start_step (λ s. tt) (λ b. b.lhs) (λ c. tt) (λ f. tt) (λ b. b.span.start) (λ s. tt) (λ t. tt) x
+start_of-roll x = folds.fold-roll-Expr Position (Unit {0}) Position Position (Unit {0}) (Unit {0}) (Unit {0}) (Unit {0}) start_step (λ s. tt) (λ b. b.span.start) (λ b. b.lhs) (λ c. tt) (λ f. tt) (λ s. tt) (λ t. tt) x
 
 pub position_of-DynamicConstant : (v : Dynamic) (p : Position) → position_of (expr_kind.DynamicConstant v p) ≡ p
 position_of-DynamicConstant v p = ap position_of (sym (expr_kind.rolls-DynamicConstant v p)) ∙ position_of-roll (open_one.DynamicConstant v p)
@@ -214,7 +214,7 @@ position_of-Map m p = ap position_of (sym (expr_kind.rolls-Map m p)) ∙ positio
 pub position_of-Unit : (p : Position) → position_of (expr_kind.Unit p) ≡ p
 position_of-Unit p = ap position_of (sym (expr_kind.rolls-Unit p)) ∙ position_of-roll (open_one.Unit p)
 
-pub position_of-Variable : (x : Option ℕ × Text × Namespace) (short : Option ℕ) (p : Position) → position_of (expr_kind.Variable x short p) ≡ p
+pub position_of-Variable : (x : Option NonZeroUsize × Text × Namespace) (short : Option NonZeroU8) (p : Position) → position_of (expr_kind.Variable x short p) ≡ p
 position_of-Variable x short p = ap position_of (sym (expr_kind.rolls-Variable x short p)) ∙ position_of-roll (open_one.Variable x short p)
 
 pub position_of-ThisPtr : (p : Position) → position_of (expr_kind.ThisPtr p) ≡ p
@@ -274,7 +274,7 @@ start_of-Map m p = ap start_of (sym (expr_kind.rolls-Map m p)) ∙ start_of-roll
 pub start_of-Unit : (p : Position) → start_of (expr_kind.Unit p) ≡ p
 start_of-Unit p = ap start_of (sym (expr_kind.rolls-Unit p)) ∙ start_of-roll (open_one.Unit p)
 
-pub start_of-Variable : (x : Option ℕ × Text × Namespace) (short : Option ℕ) (p : Position) → start_of (expr_kind.Variable x short p) ≡ first_name p x.2
+pub start_of-Variable : (x : Option NonZeroUsize × Text × Namespace) (short : Option NonZeroU8) (p : Position) → start_of (expr_kind.Variable x short p) ≡ first_name p x.2
 start_of-Variable x short p = ap start_of (sym (expr_kind.rolls-Variable x short p)) ∙ start_of-roll (open_one.Variable x short p)
 
 pub start_of-ThisPtr : (p : Position) → start_of (expr_kind.ThisPtr p) ≡ p
@@ -334,7 +334,7 @@ options_of-Map m p = ap options_of (sym (expr_kind.rolls-Map m p)) ∙ options_o
 pub options_of-Unit : (p : Position) → options_of (expr_kind.Unit p) ≡ no_flags
 options_of-Unit p = ap options_of (sym (expr_kind.rolls-Unit p)) ∙ options_of-roll (open_one.Unit p)
 
-pub options_of-Variable : (x : Option ℕ × Text × Namespace) (short : Option ℕ) (p : Position) → options_of (expr_kind.Variable x short p) ≡ no_flags
+pub options_of-Variable : (x : Option NonZeroUsize × Text × Namespace) (short : Option NonZeroU8) (p : Position) → options_of (expr_kind.Variable x short p) ≡ no_flags
 options_of-Variable x short p = ap options_of (sym (expr_kind.rolls-Variable x short p)) ∙ options_of-roll (open_one.Variable x short p)
 
 pub options_of-ThisPtr : (p : Position) → options_of (expr_kind.ThisPtr p) ≡ no_flags
@@ -385,7 +385,7 @@ stmt_position_of-Do x k p = ap stmt_position_of (sym (stmt_kind.rolls-Do x k p))
 pub stmt_position_of-For : (x : Ident × Option Ident × FlowControl) (p : Position) → stmt_position_of (stmt_kind.For x p) ≡ p
 stmt_position_of-For x p = ap stmt_position_of (sym (stmt_kind.rolls-For x p)) ∙ stmt_position_of-roll (open_one.For x p)
 
-pub stmt_position_of-Var : (x : Ident × declared_expr.Expr × Option ℕ) (k : ASTFlags) (p : Position) → stmt_position_of (stmt_kind.Var x k p) ≡ p
+pub stmt_position_of-Var : (x : Ident × declared_expr.Expr × Option NonZeroUsize) (k : ASTFlags) (p : Position) → stmt_position_of (stmt_kind.Var x k p) ≡ p
 stmt_position_of-Var x k p = ap stmt_position_of (sym (stmt_kind.rolls-Var x k p)) ∙ stmt_position_of-roll (open_one.Var x k p)
 
 pub stmt_position_of-Assignment : (x : OpAssignment × BinaryExpr) → stmt_position_of (stmt_kind.Assignment x) ≡ x.0.pos
@@ -415,7 +415,7 @@ stmt_position_of-Import x p = ap stmt_position_of (sym (stmt_kind.rolls-Import x
 pub stmt_position_of-Export : (x : Ident × Ident) (p : Position) → stmt_position_of (stmt_kind.Export x p) ≡ p
 stmt_position_of-Export x p = ap stmt_position_of (sym (stmt_kind.rolls-Export x p)) ∙ stmt_position_of-roll (open_one.Export x p)
 
-pub stmt_position_of-Share : (xs : List (Ident × Option ℕ)) → stmt_position_of (stmt_kind.Share xs) ≡ first_or nowhere (map (λ x. x.0.pos) xs)
+pub stmt_position_of-Share : (xs : List (Ident × Option NonZeroUsize)) → stmt_position_of (stmt_kind.Share xs) ≡ first_or nowhere (map (λ x. x.0.pos) xs)
 stmt_position_of-Share xs = ap stmt_position_of (sym (stmt_kind.rolls-Share xs)) ∙ stmt_position_of-roll (open_one.Share xs)
 
 pub stmt_options_of-Noop : (p : Position) → stmt_options_of (stmt_kind.Noop p) ≡ no_flags
@@ -436,7 +436,7 @@ stmt_options_of-Do x k p = ap stmt_options_of (sym (stmt_kind.rolls-Do x k p)) �
 pub stmt_options_of-For : (x : Ident × Option Ident × FlowControl) (p : Position) → stmt_options_of (stmt_kind.For x p) ≡ no_flags
 stmt_options_of-For x p = ap stmt_options_of (sym (stmt_kind.rolls-For x p)) ∙ stmt_options_of-roll (open_one.For x p)
 
-pub stmt_options_of-Var : (x : Ident × declared_expr.Expr × Option ℕ) (k : ASTFlags) (p : Position) → stmt_options_of (stmt_kind.Var x k p) ≡ k
+pub stmt_options_of-Var : (x : Ident × declared_expr.Expr × Option NonZeroUsize) (k : ASTFlags) (p : Position) → stmt_options_of (stmt_kind.Var x k p) ≡ k
 stmt_options_of-Var x k p = ap stmt_options_of (sym (stmt_kind.rolls-Var x k p)) ∙ stmt_options_of-roll (open_one.Var x k p)
 
 pub stmt_options_of-Assignment : (x : OpAssignment × BinaryExpr) → stmt_options_of (stmt_kind.Assignment x) ≡ no_flags
@@ -466,7 +466,7 @@ stmt_options_of-Import x p = ap stmt_options_of (sym (stmt_kind.rolls-Import x p
 pub stmt_options_of-Export : (x : Ident × Ident) (p : Position) → stmt_options_of (stmt_kind.Export x p) ≡ no_flags
 stmt_options_of-Export x p = ap stmt_options_of (sym (stmt_kind.rolls-Export x p)) ∙ stmt_options_of-roll (open_one.Export x p)
 
-pub stmt_options_of-Share : (xs : List (Ident × Option ℕ)) → stmt_options_of (stmt_kind.Share xs) ≡ no_flags
+pub stmt_options_of-Share : (xs : List (Ident × Option NonZeroUsize)) → stmt_options_of (stmt_kind.Share xs) ≡ no_flags
 stmt_options_of-Share xs = ap stmt_options_of (sym (stmt_kind.rolls-Share xs)) ∙ stmt_options_of-roll (open_one.Share xs)
 
 pub arguments_of-DynamicConstant : (v : Dynamic) (p : Position) → arguments_of (expr_kind.DynamicConstant v p) ≡ []

@@ -13,6 +13,8 @@ use Rattle.rhai_parts.specs.declared.ident.Ident.{Ident}
 use Rattle.rhai_parts.specs.declared.namespace.Namespace.{Namespace}
 use Rattle.rhai_base.specs.declared.range_case.RangeCase.{RangeCase}
 use Rattle.rhai_base.specs.declared.range_case.RangeCase.TheVariants as range_kind
+use Rattle.std.specs.declared.num.NonZeroU8.{NonZeroU8}
+use Rattle.std.specs.declared.num.NonZeroUsize.{NonZeroUsize}
 use Rattle.rhai_values.specs.Value.{Text}
 use Rattle.rhai_base.specs.Operators.{Operator}
 use Rattle.rhai_values.specs.Reading.{value_of}
@@ -24,7 +26,7 @@ use Rattle.rhai_tree.specs.declared.expr.Expr.TheFolds as folds
 use Rattle.rhai_tree.specs.declared.expr.Expr.TheVariants as expr_kind
 use Rattle.rhai_tree.specs.declared.stmt.Stmt.TheVariants as stmt_kind
 use Rattle.rhai_tree.specs.declared.stmt.Stmt as declared_stmt
-use Rattle.rhai_tree.specs.declared.stmt.StmtBlock.{StmtBlock}
+use Rattle.rhai_tree.specs.declared.block.StmtBlock.{StmtBlock}
 use Rattle.rhai_tree.specs.declared.expr.BinaryExpr.{BinaryExpr}
 use Rattle.rhai_tree.specs.declared.expr.FnCallExpr.{FnCallExpr}
 use Rattle.rhai_tree.specs.declared.stmt.FlowControl.{FlowControl}
@@ -73,7 +75,7 @@ property_names x = record { getter = x.0; setter = x.1; name = x.2 }
 abbrev pub counter_of : Option Ident → Option Text
 counter_of i = option_map (λ j. j.name) i
 
-abbrev pub shared_names : List (Ident × Option ℕ) → List Text
+abbrev pub shared_names : List (Ident × Option NonZeroUsize) → List Text
 shared_names xs = map (λ x. x.0.name) xs
 
 abbrev pub keys_of : List (Text × Dynamic) → List Text
@@ -95,8 +97,17 @@ range_of (range_kind.InclusiveInt r i) = record {
 abbrev pub table_by : List (Dynamic × CaseBlocksList) → List RangeCase → Option ℕ → SwitchTable
 table_by cases ranges default = record { cases = map case_of cases; ranges = map range_of ranges; default = default }
 
+abbrev pub expressions_of : SwitchCasesCollection → List BinaryExpr
+expressions_of t = (views.out-SwitchCasesCollection t).expressions
+
 abbrev pub table_of : SwitchCasesCollection → SwitchTable
-table_of t = table_by t.cases t.ranges t.def_case
+table_of t = let o = views.out-SwitchCasesCollection t in table_by o.cases o.ranges o.def_case
+
+abbrev pub subject_of : SwitchBlock → declared_expr.Expr
+subject_of s = (views.out-SwitchBlock s).expr
+
+abbrev pub cases_of : SwitchBlock → SwitchCasesCollection
+cases_of s = (views.out-SwitchBlock s).cases
 
 -- ---- the fold, a layer at a time
 
@@ -138,10 +149,10 @@ abbrev pub callee_of : FnCallExpr → Callee
 callee_of c = record { namespace = path_of c.namespace; name = c.name; captures = c.capture_parent_scope; token = mark_of c.op_token }
 
 abbrev ExprLayer : Type 0
-ExprLayer = open_one.Expr-F Expr Stmt SidesParts CallParts FlowParts Stmts SwitchParts TableParts
+ExprLayer = open_one.Expr-F Expr Stmt Stmts SidesParts CallParts FlowParts SwitchParts TableParts
 
 abbrev StmtLayer : Type 0
-StmtLayer = open_one.Stmt-F Expr Stmt SidesParts CallParts FlowParts Stmts SwitchParts TableParts
+StmtLayer = open_one.Stmt-F Expr Stmt Stmts SidesParts CallParts FlowParts SwitchParts TableParts
 
 abbrev expr_step : ExprLayer → Expr
 expr_step (open_one.DynamicConstant v p) = DynamicConstant (value_of v)
@@ -184,29 +195,29 @@ stmt_step (open_one.Import x p) = Import x.0 x.1.name
 stmt_step (open_one.Export x p) = Export x.0.name x.1.name
 stmt_step (open_one.Share xs) = Share (shared_names xs)
 
-abbrev sides_step : open_one.BinaryExpr-F Expr Stmt SidesParts CallParts FlowParts Stmts SwitchParts TableParts → SidesParts
+abbrev sides_step : open_one.BinaryExpr-F Expr Stmt Stmts SidesParts CallParts FlowParts SwitchParts TableParts → SidesParts
 sides_step b = record { lhs = b.lhs; rhs = b.rhs }
 
-abbrev call_step : open_one.FnCallExpr-F Expr Stmt SidesParts CallParts FlowParts Stmts SwitchParts TableParts → CallParts
+abbrev call_step : open_one.FnCallExpr-F Expr Stmt Stmts SidesParts CallParts FlowParts SwitchParts TableParts → CallParts
 call_step c = record { callee = record { namespace = path_of c.namespace; name = c.name; captures = c.capture_parent_scope; token = mark_of c.op_token }; args = exprs c.args }
 
-abbrev flow_step : open_one.FlowControl-F Expr Stmt SidesParts CallParts FlowParts Stmts SwitchParts TableParts → FlowParts
+abbrev flow_step : open_one.FlowControl-F Expr Stmt Stmts SidesParts CallParts FlowParts SwitchParts TableParts → FlowParts
 flow_step f = record { expr = f.expr; body = f.body; branch = f.branch }
 
-abbrev block_step : open_one.StmtBlock-F Expr Stmt SidesParts CallParts FlowParts Stmts SwitchParts TableParts → Stmts
+abbrev block_step : open_one.StmtBlock-F Expr Stmt Stmts SidesParts CallParts FlowParts SwitchParts TableParts → Stmts
 block_step b = stmts b.block
 
-abbrev switch_step : open_one.SwitchBlock-F Expr Stmt SidesParts CallParts FlowParts Stmts SwitchParts TableParts → SwitchParts
+abbrev switch_step : open_one.SwitchBlock-F Expr Stmt Stmts SidesParts CallParts FlowParts SwitchParts TableParts → SwitchParts
 switch_step s = record { subject = s.expr; arms = s.cases.arms; table = s.cases.table }
 
-abbrev table_step : open_one.SwitchCasesCollection-F Expr Stmt SidesParts CallParts FlowParts Stmts SwitchParts TableParts → TableParts
+abbrev table_step : open_one.SwitchCasesCollection-F Expr Stmt Stmts SidesParts CallParts FlowParts SwitchParts TableParts → TableParts
 table_step t = record { arms = arms_by t.expressions; table = table_by t.cases t.ranges t.def_case }
 
 pub expr_of : declared_expr.Expr → Expr
-expr_of = folds.fold-Expr Expr Stmt SidesParts CallParts FlowParts Stmts SwitchParts TableParts expr_step stmt_step sides_step call_step flow_step block_step switch_step table_step
+expr_of = folds.fold-Expr Expr Stmt Stmts SidesParts CallParts FlowParts SwitchParts TableParts expr_step stmt_step block_step sides_step call_step flow_step switch_step table_step
 
 pub stmt_of : declared_stmt.Stmt → Stmt
-stmt_of = folds.fold-Stmt Expr Stmt SidesParts CallParts FlowParts Stmts SwitchParts TableParts expr_step stmt_step sides_step call_step flow_step block_step switch_step table_step
+stmt_of = folds.fold-Stmt Expr Stmt Stmts SidesParts CallParts FlowParts SwitchParts TableParts expr_step stmt_step block_step sides_step call_step flow_step switch_step table_step
 
 abbrev pub exprs_of : List declared_expr.Expr → Exprs
 exprs_of xs = exprs (map expr_of xs)
@@ -229,60 +240,58 @@ maybe_of e = maybe (option_map expr_of e)
 -- ---- the structs between the layers
 
 abbrev fold_sides : BinaryExpr → SidesParts
-fold_sides = folds.fold-BinaryExpr Expr Stmt SidesParts CallParts FlowParts Stmts SwitchParts TableParts expr_step stmt_step sides_step call_step flow_step block_step switch_step table_step
+fold_sides = folds.fold-BinaryExpr Expr Stmt Stmts SidesParts CallParts FlowParts SwitchParts TableParts expr_step stmt_step block_step sides_step call_step flow_step switch_step table_step
 
 abbrev fold_call : FnCallExpr → CallParts
-fold_call = folds.fold-FnCallExpr Expr Stmt SidesParts CallParts FlowParts Stmts SwitchParts TableParts expr_step stmt_step sides_step call_step flow_step block_step switch_step table_step
+fold_call = folds.fold-FnCallExpr Expr Stmt Stmts SidesParts CallParts FlowParts SwitchParts TableParts expr_step stmt_step block_step sides_step call_step flow_step switch_step table_step
 
 abbrev fold_flow : FlowControl → FlowParts
-fold_flow = folds.fold-FlowControl Expr Stmt SidesParts CallParts FlowParts Stmts SwitchParts TableParts expr_step stmt_step sides_step call_step flow_step block_step switch_step table_step
+fold_flow = folds.fold-FlowControl Expr Stmt Stmts SidesParts CallParts FlowParts SwitchParts TableParts expr_step stmt_step block_step sides_step call_step flow_step switch_step table_step
 
 abbrev fold_block : StmtBlock → Stmts
-fold_block = folds.fold-StmtBlock Expr Stmt SidesParts CallParts FlowParts Stmts SwitchParts TableParts expr_step stmt_step sides_step call_step flow_step block_step switch_step table_step
+fold_block = folds.fold-StmtBlock Expr Stmt Stmts SidesParts CallParts FlowParts SwitchParts TableParts expr_step stmt_step block_step sides_step call_step flow_step switch_step table_step
 
 abbrev fold_switch : SwitchBlock → SwitchParts
-fold_switch = folds.fold-SwitchBlock Expr Stmt SidesParts CallParts FlowParts Stmts SwitchParts TableParts expr_step stmt_step sides_step call_step flow_step block_step switch_step table_step
+fold_switch = folds.fold-SwitchBlock Expr Stmt Stmts SidesParts CallParts FlowParts SwitchParts TableParts expr_step stmt_step block_step sides_step call_step flow_step switch_step table_step
 
 abbrev fold_table : SwitchCasesCollection → TableParts
-fold_table = folds.fold-SwitchCasesCollection Expr Stmt SidesParts CallParts FlowParts Stmts SwitchParts TableParts expr_step stmt_step sides_step call_step flow_step block_step switch_step table_step
+fold_table = folds.fold-SwitchCasesCollection Expr Stmt Stmts SidesParts CallParts FlowParts SwitchParts TableParts expr_step stmt_step block_step sides_step call_step flow_step switch_step table_step
 
 block_is : (b : StmtBlock) → fold_block b ≡ stmts_of b.block
 unfolding expr_of stmt_of
-block_is b = folds.fold_out-StmtBlock Expr Stmt SidesParts CallParts FlowParts Stmts SwitchParts TableParts expr_step stmt_step sides_step call_step flow_step block_step switch_step table_step b ∙ ap (λ o. block_step (folds.map-StmtBlock _ _ _ _ _ _ _ _ _ _ _ _ _ _ _ _ expr_of stmt_of fold_sides fold_call fold_flow fold_block fold_switch fold_table o)) (views.outs-struct-StmtBlock b)
+block_is b = folds.fold_out-StmtBlock Expr Stmt Stmts SidesParts CallParts FlowParts SwitchParts TableParts expr_step stmt_step block_step sides_step call_step flow_step switch_step table_step b ∙ ap (λ o. block_step (folds.map-StmtBlock _ _ _ _ _ _ _ _ _ _ _ _ _ _ _ _ expr_of stmt_of fold_block fold_sides fold_call fold_flow fold_switch fold_table o)) (views.outs-struct-StmtBlock b)
 
 sides_are : (b : BinaryExpr) → fold_sides b ≡ sides_of b
 unfolding expr_of stmt_of
-sides_are b = folds.fold_out-BinaryExpr Expr Stmt SidesParts CallParts FlowParts Stmts SwitchParts TableParts expr_step stmt_step sides_step call_step flow_step block_step switch_step table_step b ∙ ap (λ o. sides_step (folds.map-BinaryExpr _ _ _ _ _ _ _ _ _ _ _ _ _ _ _ _ expr_of stmt_of fold_sides fold_call fold_flow fold_block fold_switch fold_table o)) (views.outs-struct-BinaryExpr b)
+sides_are b = folds.fold_out-BinaryExpr Expr Stmt Stmts SidesParts CallParts FlowParts SwitchParts TableParts expr_step stmt_step block_step sides_step call_step flow_step switch_step table_step b ∙ ap (λ o. sides_step (folds.map-BinaryExpr _ _ _ _ _ _ _ _ _ _ _ _ _ _ _ _ expr_of stmt_of fold_block fold_sides fold_call fold_flow fold_switch fold_table o)) (views.outs-struct-BinaryExpr b)
 
 call_is : (c : FnCallExpr) → fold_call c ≡ record { callee = callee_of c; args = exprs_of c.args }
 unfolding expr_of stmt_of
-call_is c = folds.fold_out-FnCallExpr Expr Stmt SidesParts CallParts FlowParts Stmts SwitchParts TableParts expr_step stmt_step sides_step call_step flow_step block_step switch_step table_step c ∙ ap (λ o. call_step (folds.map-FnCallExpr _ _ _ _ _ _ _ _ _ _ _ _ _ _ _ _ expr_of stmt_of fold_sides fold_call fold_flow fold_block fold_switch fold_table o)) (views.outs-struct-FnCallExpr c)
+call_is c = folds.fold_out-FnCallExpr Expr Stmt Stmts SidesParts CallParts FlowParts SwitchParts TableParts expr_step stmt_step block_step sides_step call_step flow_step switch_step table_step c ∙ ap (λ o. call_step (folds.map-FnCallExpr _ _ _ _ _ _ _ _ _ _ _ _ _ _ _ _ expr_of stmt_of fold_block fold_sides fold_call fold_flow fold_switch fold_table o)) (views.outs-struct-FnCallExpr c)
 
 flow_is : (f : FlowControl) → fold_flow f ≡ record { expr = expr_of f.expr; body = stmts_of f.body.block; branch = stmts_of f.branch.block }
 unfolding expr_of stmt_of
-flow_is f = folds.fold_out-FlowControl Expr Stmt SidesParts CallParts FlowParts Stmts SwitchParts TableParts expr_step stmt_step sides_step call_step flow_step block_step switch_step table_step f ∙ ap (λ o. flow_step (folds.map-FlowControl _ _ _ _ _ _ _ _ _ _ _ _ _ _ _ _ expr_of stmt_of fold_sides fold_call fold_flow fold_block fold_switch fold_table o)) (views.outs-struct-FlowControl f)
+flow_is f = folds.fold_out-FlowControl Expr Stmt Stmts SidesParts CallParts FlowParts SwitchParts TableParts expr_step stmt_step block_step sides_step call_step flow_step switch_step table_step f ∙ ap (λ o. flow_step (folds.map-FlowControl _ _ _ _ _ _ _ _ _ _ _ _ _ _ _ _ expr_of stmt_of fold_block fold_sides fold_call fold_flow fold_switch fold_table o)) (views.outs-struct-FlowControl f)
     ∙ ap (λ b. record { expr = expr_of f.expr; body = b; branch = fold_block f.branch }) (block_is f.body)
     ∙ ap (λ b. record { expr = expr_of f.expr; body = stmts_of f.body.block; branch = b }) (block_is f.branch)
 
-table_is : (t : SwitchCasesCollection) → fold_table t ≡ record { arms = arms_of t.expressions; table = table_of t }
+table_is : (t : SwitchCasesCollection) → fold_table t ≡ record { arms = arms_of (expressions_of t); table = table_of t }
 unfolding expr_of stmt_of
-table_is t = folds.fold_out-SwitchCasesCollection Expr Stmt SidesParts CallParts FlowParts Stmts SwitchParts TableParts expr_step stmt_step sides_step call_step flow_step block_step switch_step table_step t ∙ ap (λ o. table_step (folds.map-SwitchCasesCollection _ _ _ _ _ _ _ _ _ _ _ _ _ _ _ _ expr_of stmt_of fold_sides fold_call fold_flow fold_block fold_switch fold_table o)) (views.outs-struct-SwitchCasesCollection t)
-    ∙ ap (λ (f : BinaryExpr → SidesParts). record { arms = arms_by (map f t.expressions); table = table_of t }) (λ i b. sides_are b i)
+table_is t = folds.fold_out-SwitchCasesCollection Expr Stmt Stmts SidesParts CallParts FlowParts SwitchParts TableParts expr_step stmt_step block_step sides_step call_step flow_step switch_step table_step t ∙ ap (λ (f : BinaryExpr → SidesParts). record { arms = arms_by (map f (expressions_of t)); table = table_of t }) (λ i b. sides_are b i)
 
-switch_is : (s : SwitchBlock) → fold_switch s ≡ record { subject = expr_of s.expr; arms = arms_of s.cases.expressions; table = table_of s.cases }
+switch_is : (s : SwitchBlock) → fold_switch s ≡ record { subject = expr_of (subject_of s); arms = arms_of (expressions_of (cases_of s)); table = table_of (cases_of s) }
 unfolding expr_of stmt_of
-switch_is s = folds.fold_out-SwitchBlock Expr Stmt SidesParts CallParts FlowParts Stmts SwitchParts TableParts expr_step stmt_step sides_step call_step flow_step block_step switch_step table_step s ∙ ap (λ o. switch_step (folds.map-SwitchBlock _ _ _ _ _ _ _ _ _ _ _ _ _ _ _ _ expr_of stmt_of fold_sides fold_call fold_flow fold_block fold_switch fold_table o)) (views.outs-struct-SwitchBlock s)
-    ∙ ap (λ t. record { subject = expr_of s.expr; arms = t.arms; table = t.table }) (table_is s.cases)
+switch_is s = folds.fold_out-SwitchBlock Expr Stmt Stmts SidesParts CallParts FlowParts SwitchParts TableParts expr_step stmt_step block_step sides_step call_step flow_step switch_step table_step s ∙ ap (λ t. record { subject = expr_of (subject_of s); arms = t.arms; table = t.table }) (table_is (cases_of s))
 
 -- ---- an expression of each kind
 
-expr_rolled : (x : open_one.Expr-F declared_expr.Expr declared_stmt.Stmt BinaryExpr FnCallExpr FlowControl StmtBlock SwitchBlock SwitchCasesCollection) → expr_of (views.roll-Expr x) ≡ expr_step (folds.map-Expr _ _ _ _ _ _ _ _ _ _ _ _ _ _ _ _ expr_of stmt_of fold_sides fold_call fold_flow fold_block fold_switch fold_table x)
+expr_rolled : (x : open_one.Expr-F declared_expr.Expr declared_stmt.Stmt StmtBlock BinaryExpr FnCallExpr FlowControl SwitchBlock SwitchCasesCollection) → expr_of (views.roll-Expr x) ≡ expr_step (folds.map-Expr _ _ _ _ _ _ _ _ _ _ _ _ _ _ _ _ expr_of stmt_of fold_block fold_sides fold_call fold_flow fold_switch fold_table x)
 unfolding expr_of stmt_of
-expr_rolled x = folds.fold-roll-Expr Expr Stmt SidesParts CallParts FlowParts Stmts SwitchParts TableParts expr_step stmt_step sides_step call_step flow_step block_step switch_step table_step x
+expr_rolled x = folds.fold-roll-Expr Expr Stmt Stmts SidesParts CallParts FlowParts SwitchParts TableParts expr_step stmt_step block_step sides_step call_step flow_step switch_step table_step x
 
-stmt_rolled : (x : open_one.Stmt-F declared_expr.Expr declared_stmt.Stmt BinaryExpr FnCallExpr FlowControl StmtBlock SwitchBlock SwitchCasesCollection) → stmt_of (views.roll-Stmt x) ≡ stmt_step (folds.map-Stmt _ _ _ _ _ _ _ _ _ _ _ _ _ _ _ _ expr_of stmt_of fold_sides fold_call fold_flow fold_block fold_switch fold_table x)
+stmt_rolled : (x : open_one.Stmt-F declared_expr.Expr declared_stmt.Stmt StmtBlock BinaryExpr FnCallExpr FlowControl SwitchBlock SwitchCasesCollection) → stmt_of (views.roll-Stmt x) ≡ stmt_step (folds.map-Stmt _ _ _ _ _ _ _ _ _ _ _ _ _ _ _ _ expr_of stmt_of fold_block fold_sides fold_call fold_flow fold_switch fold_table x)
 unfolding expr_of stmt_of
-stmt_rolled x = folds.fold-roll-Stmt Expr Stmt SidesParts CallParts FlowParts Stmts SwitchParts TableParts expr_step stmt_step sides_step call_step flow_step block_step switch_step table_step x
+stmt_rolled x = folds.fold-roll-Stmt Expr Stmt Stmts SidesParts CallParts FlowParts SwitchParts TableParts expr_step stmt_step block_step sides_step call_step flow_step switch_step table_step x
 
 pub expr_of-DynamicConstant : (v : Dynamic) (p : Position) → expr_of (expr_kind.DynamicConstant v p) ≡ DynamicConstant (value_of v)
 expr_of-DynamicConstant v p = ap expr_of (sym (expr_kind.rolls-DynamicConstant v p)) ∙ expr_rolled (open_one.DynamicConstant v p)
@@ -311,7 +320,7 @@ expr_of-Map m p = ap expr_of (sym (expr_kind.rolls-Map m p)) ∙ expr_rolled (op
 pub expr_of-Unit : (p : Position) → expr_of (expr_kind.Unit p) ≡ UnitConstant
 expr_of-Unit p = ap expr_of (sym (expr_kind.rolls-Unit p)) ∙ expr_rolled (open_one.Unit p)
 
-pub expr_of-Variable : (x : Option ℕ × Text × Namespace) (short : Option ℕ) (p : Position) → expr_of (expr_kind.Variable x short p) ≡ Variable (path_of x.2) x.1
+pub expr_of-Variable : (x : Option NonZeroUsize × Text × Namespace) (short : Option NonZeroU8) (p : Position) → expr_of (expr_kind.Variable x short p) ≡ Variable (path_of x.2) x.1
 expr_of-Variable x short p = ap expr_of (sym (expr_kind.rolls-Variable x short p)) ∙ expr_rolled (open_one.Variable x short p)
 
 pub expr_of-ThisPtr : (p : Position) → expr_of (expr_kind.ThisPtr p) ≡ ThisPtr
@@ -352,7 +361,7 @@ stmt_of-Noop p = ap stmt_of (sym (stmt_kind.rolls-Noop p)) ∙ stmt_rolled (open
 pub stmt_of-If : (x : FlowControl) (p : Position) → stmt_of (stmt_kind.If x p) ≡ If (expr_of x.expr) (stmts_of x.body.block) (stmts_of x.branch.block)
 stmt_of-If x p = ap stmt_of (sym (stmt_kind.rolls-If x p)) ∙ stmt_rolled (open_one.If x p) ∙ ap (λ f. If f.expr f.body f.branch) (flow_is x)
 
-pub stmt_of-Switch : (x : SwitchBlock) (p : Position) → stmt_of (stmt_kind.Switch x p) ≡ Switch (expr_of x.expr) (arms_of x.cases.expressions) (table_of x.cases)
+pub stmt_of-Switch : (x : SwitchBlock) (p : Position) → stmt_of (stmt_kind.Switch x p) ≡ Switch (expr_of (subject_of x)) (arms_of (expressions_of (cases_of x))) (table_of (cases_of x))
 stmt_of-Switch x p = ap stmt_of (sym (stmt_kind.rolls-Switch x p)) ∙ stmt_rolled (open_one.Switch x p) ∙ ap (λ s. Switch s.subject s.arms s.table) (switch_is x)
 
 pub stmt_of-While : (x : FlowControl) (p : Position) → stmt_of (stmt_kind.While x p) ≡ While (expr_of x.expr) (stmts_of x.body.block)
@@ -364,7 +373,7 @@ stmt_of-Do x k p = ap stmt_of (sym (stmt_kind.rolls-Do x k p)) ∙ stmt_rolled (
 pub stmt_of-For : (x : Ident × Option Ident × FlowControl) (p : Position) → stmt_of (stmt_kind.For x p) ≡ For x.0.name (counter_of x.1) (expr_of x.2.expr) (stmts_of x.2.body.block)
 stmt_of-For x p = ap stmt_of (sym (stmt_kind.rolls-For x p)) ∙ stmt_rolled (open_one.For x p) ∙ ap (λ f. For x.0.name (counter_of x.1) f.expr f.body) (flow_is x.2)
 
-pub stmt_of-Var : (x : Ident × declared_expr.Expr × Option ℕ) (k : ASTFlags) (p : Position) → stmt_of (stmt_kind.Var x k p) ≡ Var (is_const k) (is_exported k) x.0.name (expr_of x.1)
+pub stmt_of-Var : (x : Ident × declared_expr.Expr × Option NonZeroUsize) (k : ASTFlags) (p : Position) → stmt_of (stmt_kind.Var x k p) ≡ Var (is_const k) (is_exported k) x.0.name (expr_of x.1)
 stmt_of-Var x k p = ap stmt_of (sym (stmt_kind.rolls-Var x k p)) ∙ stmt_rolled (open_one.Var x k p)
 
 pub stmt_of-Assignment : (x : OpAssignment × BinaryExpr) → stmt_of (stmt_kind.Assignment x) ≡ Assignment (operator_of x.0.op) (expr_of x.1.lhs) (expr_of x.1.rhs)
@@ -383,10 +392,12 @@ pub stmt_of-Expr : (e : declared_expr.Expr) → stmt_of (stmt_kind.Expr e) ≡ E
 stmt_of-Expr e = ap stmt_of (sym (stmt_kind.rolls-Expr e)) ∙ stmt_rolled (open_one.Expr e)
 
 pub stmt_of-BreakLoop : (e : Option declared_expr.Expr) (k : ASTFlags) (p : Position) → stmt_of (stmt_kind.BreakLoop e k p) ≡ BreakLoop (breaks k) (maybe_of e)
-stmt_of-BreakLoop e k p = ap stmt_of (sym (stmt_kind.rolls-BreakLoop e k p)) ∙ stmt_rolled (open_one.BreakLoop e k p)
+stmt_of-BreakLoop None k p = ap stmt_of (sym (stmt_kind.rolls-BreakLoop None k p)) ∙ stmt_rolled (open_one.BreakLoop None k p)
+stmt_of-BreakLoop (Some e) k p = ap stmt_of (sym (stmt_kind.rolls-BreakLoop (Some e) k p)) ∙ stmt_rolled (open_one.BreakLoop (Some e) k p)
 
 pub stmt_of-Return : (e : Option declared_expr.Expr) (k : ASTFlags) (p : Position) → stmt_of (stmt_kind.Return e k p) ≡ Return (breaks k) (maybe_of e)
-stmt_of-Return e k p = ap stmt_of (sym (stmt_kind.rolls-Return e k p)) ∙ stmt_rolled (open_one.Return e k p)
+stmt_of-Return None k p = ap stmt_of (sym (stmt_kind.rolls-Return None k p)) ∙ stmt_rolled (open_one.Return None k p)
+stmt_of-Return (Some e) k p = ap stmt_of (sym (stmt_kind.rolls-Return (Some e) k p)) ∙ stmt_rolled (open_one.Return (Some e) k p)
 
 pub stmt_of-Import : (x : declared_expr.Expr × Ident) (p : Position) → stmt_of (stmt_kind.Import x p) ≡ Import (expr_of x.0) x.1.name
 stmt_of-Import x p = ap stmt_of (sym (stmt_kind.rolls-Import x p)) ∙ stmt_rolled (open_one.Import x p)
@@ -394,7 +405,7 @@ stmt_of-Import x p = ap stmt_of (sym (stmt_kind.rolls-Import x p)) ∙ stmt_roll
 pub stmt_of-Export : (x : Ident × Ident) (p : Position) → stmt_of (stmt_kind.Export x p) ≡ Export x.0.name x.1.name
 stmt_of-Export x p = ap stmt_of (sym (stmt_kind.rolls-Export x p)) ∙ stmt_rolled (open_one.Export x p)
 
-pub stmt_of-Share : (xs : List (Ident × Option ℕ)) → stmt_of (stmt_kind.Share xs) ≡ Share (shared_names xs)
+pub stmt_of-Share : (xs : List (Ident × Option NonZeroUsize)) → stmt_of (stmt_kind.Share xs) ≡ Share (shared_names xs)
 stmt_of-Share xs = ap stmt_of (sym (stmt_kind.rolls-Share xs)) ∙ stmt_rolled (open_one.Share xs)
 
 pub ruleset shapes = (

@@ -1,0 +1,58 @@
+-- The arms that a table of a `switch` lists, and those that the declared table holds.
+use Rattle.std.proofs.Common.{◌≡◌, ℕ, zero, suc, Bool, true, false, ◌&&◌, List, [], ◌∷◌, ◌++◌, Option, Some, None, slice_get, map, ◌+◌, ◌<◌, length, get_or, drop, add-one, refl, sym, ap, ◌∙◌}
+use Rattle.std.proofs.Math.Seq.{drop-cons, drop-length}
+use Rattle.rhai_base.specs.declared.range_case.RangeCase.{RangeCase}
+use Rattle.rhai_base.specs.declared.range_case.RangeCase.TheVariants.{ExclusiveInt, InclusiveInt}
+use Rattle.rhai_base.specs.Ranges.{index_of}
+use Rattle.rhai_tree.specs.declared.expr.BinaryExpr.{BinaryExpr}
+use Rattle.rhai_meaning.specs.Queries.{ArmPurity, arm_purities, is_pure_arm, is_pure_expr, listed_arms_are_pure}
+use Rattle.rhai_meaning.specs.Walk.{arm_at, arms_of_ranges}
+use Rattle.rhai_reading.specs.Reading.{arms_of, expr_of, range_of}
+
+and_assoc : (a b c : Bool) → ((a && b) && c) ≡ (a && (b && c))
+and_assoc true b c = refl
+and_assoc false b c = refl
+
+-- one list of places after another
+pub listed_append : (ps : List ArmPurity) (is js : List ℕ) → listed_arms_are_pure ps (is ++ js) ≡ (listed_arms_are_pure ps is && listed_arms_are_pure ps js)
+listed_append ps [] js = refl
+listed_append ps (i ∷ is) js =
+    let p = is_pure_arm (arm_at (true, true) ps i) in
+    ap (λ b. p && b) (listed_append ps is js) ∙ sym (and_assoc p (listed_arms_are_pure ps is) (listed_arms_are_pure ps js))
+
+-- the arm at a place
+pub arm_at-some : (d : ArmPurity) (bs : List BinaryExpr) (i : ℕ) (b : BinaryExpr) → slice_get bs i ≡ Some b → arm_at d (arm_purities (arms_of bs)) i ≡ (is_pure_expr (expr_of b.lhs), is_pure_expr (expr_of b.rhs))
+arm_at-some d [] i b h = absurd (let z : None ≡ Some b = h in cc)
+arm_at-some d (c ∷ bs) zero b h = let e : c ≡ b = cc in ap (λ (x : BinaryExpr). (is_pure_expr (expr_of x.lhs), is_pure_expr (expr_of x.rhs))) e
+arm_at-some d (c ∷ bs) (suc i) b h = arm_at-some d bs i b h
+
+pub arm_at-none : (d : ArmPurity) (bs : List BinaryExpr) (i : ℕ) → slice_get bs i ≡ None → arm_at d (arm_purities (arms_of bs)) i ≡ d
+arm_at-none d [] i h = refl
+arm_at-none d (c ∷ bs) zero h = absurd (let z : Some c ≡ None = h in cc)
+arm_at-none d (c ∷ bs) (suc i) h = arm_at-none d bs i h
+
+-- ---- item by item, for a loop
+
+pub listed-drop : (ps : List ArmPurity) (is : List ℕ) (i d : ℕ) → i < length is → listed_arms_are_pure ps (drop i is) ≡ (is_pure_arm (arm_at (true, true) ps (get_or is i d)) && listed_arms_are_pure ps (drop (i + 1) is))
+listed-drop ps is i d h = rw (add-one, drop-cons is i d) refl
+
+pub listed-end : (ps : List ArmPurity) (is : List ℕ) → listed_arms_are_pure ps (drop (length is) is) ≡ true
+listed-end ps is = ap (listed_arms_are_pure ps) (drop-length is)
+
+abbrev pub listed_by_ranges : List ArmPurity → List RangeCase → Bool
+listed_by_ranges ps rs = listed_arms_are_pure ps (arms_of_ranges (map range_of rs))
+
+range_arm : (r : RangeCase) → (range_of r).arm ≡ index_of r
+range_arm (ExclusiveInt r i) = refl
+range_arm (InclusiveInt r i) = refl
+
+ranges_step : (ps : List ArmPurity) (r : RangeCase) (rs : List RangeCase) → listed_by_ranges ps (r ∷ rs) ≡ (is_pure_arm (arm_at (true, true) ps (index_of r)) && listed_by_ranges ps rs)
+ranges_step ps r rs = ap (λ i. is_pure_arm (arm_at (true, true) ps i) && listed_by_ranges ps rs) (range_arm r)
+
+pub ranges-drop : (ps : List ArmPurity) (rs : List RangeCase) (i : ℕ) (d : RangeCase) → i < length rs → listed_by_ranges ps (drop i rs) ≡ (is_pure_arm (arm_at (true, true) ps (index_of (get_or rs i d))) && listed_by_ranges ps (drop (i + 1) rs))
+ranges-drop ps rs i d h = rw (add-one, drop-cons rs i d) (ranges_step ps (get_or rs i d) (drop (suc i) rs))
+
+pub ranges-end : (ps : List ArmPurity) (rs : List RangeCase) → listed_by_ranges ps (drop (length rs) rs) ≡ true
+ranges-end ps rs = ap (listed_by_ranges ps) (drop-length rs)
+
+pub ruleset tables = (listed_append, arm_at-some, arm_at-none, listed-drop, listed-end, ranges-drop, ranges-end)
