@@ -1,1 +1,2 @@
+pub mod ConstantLists
 pub mod Tables

@@ -1,13 +1,14 @@
 -- The arms that a table of a `switch` lists, and those that the declared table holds.
-use Rattle.std.proofs.Common.{◌≡◌, ℕ, zero, suc, Bool, true, false, ◌&&◌, List, [], ◌∷◌, ◌++◌, Option, Some, None, slice_get, map, ◌+◌, ◌<◌, length, get_or, drop, add-one, refl, sym, ap, ◌∙◌}
+use Rattle.std.proofs.Common.{◌≡◌, ℕ, zero, suc, Bool, true, false, ◌&&◌, List, [], ◌∷◌, ◌++◌, slice_get, map, ◌+◌, ◌<◌, length, get_or, drop, add-one, refl, sym, ap, ◌∙◌}
 use Rattle.std.proofs.Math.Seq.{drop-cons, drop-length}
 use Rattle.rhai_base.specs.declared.range_case.RangeCase.{RangeCase}
 use Rattle.rhai_base.specs.declared.range_case.RangeCase.TheVariants.{ExclusiveInt, InclusiveInt}
 use Rattle.rhai_base.specs.Ranges.{index_of}
 use Rattle.rhai_tree.specs.declared.expr.BinaryExpr.{BinaryExpr}
-use Rattle.rhai_meaning.specs.Queries.{ArmPurity, arm_purities, is_pure_arm, is_pure_expr, listed_arms_are_pure}
+use Rattle.rhai_meaning.specs.Queries.{ArmPurity, answer_is_pure, arm_purities, is_pure_arm, listed_arms_are_pure}
 use Rattle.rhai_meaning.specs.Walk.{arm_at, arms_of_ranges}
-use Rattle.rhai_reading.specs.Reading.{arms_of, expr_of, range_of}
+use Rattle.rhai_reading.specs.Reading.{arms_of, range_of}
+use Rattle.rhai_queries.specs.Arms.{has_pure_answer, is_pure_if_any}
 
 and_assoc : (a b c : Bool) → ((a && b) && c) ≡ (a && (b && c))
 and_assoc true b c = refl
@@ -21,15 +22,15 @@ listed_append ps (i ∷ is) js =
     ap (λ b. p && b) (listed_append ps is js) ∙ sym (and_assoc p (listed_arms_are_pure ps is) (listed_arms_are_pure ps js))
 
 -- the arm at a place
-pub arm_at-some : (d : ArmPurity) (bs : List BinaryExpr) (i : ℕ) (b : BinaryExpr) → slice_get bs i ≡ Some b → arm_at d (arm_purities (arms_of bs)) i ≡ (is_pure_expr (expr_of b.lhs), is_pure_expr (expr_of b.rhs))
-arm_at-some d [] i b h = absurd (let z : None ≡ Some b = h in cc)
-arm_at-some d (c ∷ bs) zero b h = let e : c ≡ b = cc in ap (λ (x : BinaryExpr). (is_pure_expr (expr_of x.lhs), is_pure_expr (expr_of x.rhs))) e
-arm_at-some d (c ∷ bs) (suc i) b h = arm_at-some d bs i b h
+pub arm-get : (bs : List BinaryExpr) (i : ℕ) → is_pure_arm (arm_at (true, true) (arm_purities (arms_of bs)) i) ≡ is_pure_if_any (slice_get bs i)
+arm-get [] i = refl
+arm-get (b ∷ bs) zero = refl
+arm-get (b ∷ bs) (suc i) = arm-get bs i
 
-pub arm_at-none : (d : ArmPurity) (bs : List BinaryExpr) (i : ℕ) → slice_get bs i ≡ None → arm_at d (arm_purities (arms_of bs)) i ≡ d
-arm_at-none d [] i h = refl
-arm_at-none d (c ∷ bs) zero h = absurd (let z : Some c ≡ None = h in cc)
-arm_at-none d (c ∷ bs) (suc i) h = arm_at-none d bs i h
+pub answer-get : (bs : List BinaryExpr) (i : ℕ) → answer_is_pure (arm_purities (arms_of bs)) i ≡ has_pure_answer (slice_get bs i)
+answer-get [] i = refl
+answer-get (b ∷ bs) zero = refl
+answer-get (b ∷ bs) (suc i) = answer-get bs i
 
 -- ---- item by item, for a loop
 
@@ -55,4 +56,4 @@ ranges-drop ps rs i d h = rw (add-one, drop-cons rs i d) (ranges_step ps (get_or
 pub ranges-end : (ps : List ArmPurity) (rs : List RangeCase) → listed_by_ranges ps (drop (length rs) rs) ≡ true
 ranges-end ps rs = ap (listed_by_ranges ps) (drop-length rs)
 
-pub ruleset tables = (listed_append, arm_at-some, arm_at-none, listed-drop, listed-end, ranges-drop, ranges-end)
+pub ruleset tables = (listed_append, arm-get, answer-get, listed-drop, listed-end, ranges-drop, ranges-end)

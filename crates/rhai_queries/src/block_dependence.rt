@@ -3,9 +3,11 @@
 #![tactic(auto, using(rhai_reading::specs::Reading::shapes, rhai_reading::proofs::ItemLists::steps))]
 
 ghost use Rattle.std.specs.Prelude.{◌≡◌};
-ghost use Rattle.rhai_reading.specs.Reading.{callee_of, expr_of, stmt_of, stmts_of};
+ghost use Rattle.rhai_reading.specs.Reading.{callee_of, expr_of, path_of, stmt_of, stmts_of};
 ghost use Rattle.rhai_meaning.specs.Queries as queries;
+ghost use Rattle.rhai_meaning.specs.Shape.{is_none};
 
+use rhai_base::Namespace;
 use rhai_tree::{Expr, FnCallExpr, Stmt};
 
 #[cycle(dependent)]
@@ -74,5 +76,11 @@ fn are_all_dependent(statements: &[Stmt]) -> bool
 fn is_eval(call: &FnCallExpr) -> bool
     ensures { result ≡ queries.is_eval (callee_of call.now) }
 {
-    call.namespace.is_empty() && call.name.as_str() == "eval"
+    is_unqualified(&call.namespace) && call.name.as_str() == "eval"
+}
+
+fn is_unqualified(namespace: &Namespace) -> bool
+    ensures { result ≡ is_none (path_of namespace.now) }
+{
+    namespace.is_empty()
 }

@@ -2,8 +2,9 @@
 
 #![tactic(auto, using(rhai_reading::specs::Reading::shapes, rhai_reading::proofs::ItemLists::steps, crate::proofs::Tables::tables))]
 
-ghost use Rattle.std.specs.Prelude.{◌≡◌, ◌&&◌, true, map};
-ghost use Rattle.rhai_reading.specs.Reading.{arms_of, case_of, expr_of, exprs_of, pairs_of, range_of, stmt_of, stmts_of, table_of};
+ghost use Rattle.std.specs.Prelude.{◌≡◌, ◌&&◌, true, map, slice_get};
+ghost use Rattle.rhai_queries.specs.Arms.{has_pure_answer, is_pure_if_any};
+ghost use Rattle.rhai_reading.specs.Reading.{arms_of, case_of, cases_of, expr_of, expressions_of, exprs_of, pairs_of, range_of, stmt_of, stmts_of, subject_of, table_of};
 ghost use Rattle.rhai_meaning.specs.Queries as queries;
 ghost use Rattle.rhai_meaning.specs.Walk.{arm_at, arms_of_cases, arms_of_ranges};
 
@@ -151,14 +152,14 @@ fn is_literally(condition: &Expr, truth: bool) -> bool
 
 #[cycle(pure)]
 fn is_pure_switch(switch: &SwitchBlock) -> bool
-    ensures { result ≡ (queries.is_pure_expr (expr_of switch.now.expr) && queries.table_is_pure (queries.arm_purities (arms_of switch.now.cases.expressions)) (table_of switch.now.cases)) }
+    ensures { result ≡ (queries.is_pure_expr (expr_of (subject_of switch.now)) && queries.table_is_pure (queries.arm_purities (arms_of (expressions_of (cases_of switch.now)))) (table_of (cases_of switch.now))) }
 {
     is_pure_expr(&switch.expr) && is_pure_table(&switch.cases)
 }
 
 #[cycle(pure)]
 fn is_pure_table(table: &SwitchCasesCollection) -> bool
-    ensures { result ≡ queries.table_is_pure (queries.arm_purities (arms_of table.now.expressions)) (table_of table.now) }
+    ensures { result ≡ queries.table_is_pure (queries.arm_purities (arms_of (expressions_of table.now))) (table_of table.now) }
 {
     let arms = table.expressions.as_slice();
     are_pure_cases(arms, &table.cases)
@@ -209,6 +210,13 @@ fn are_pure_arms(arms: &[BinaryExpr], places: &[usize]) -> bool
 fn is_pure_arm(arms: &[BinaryExpr], place: usize) -> bool
     ensures { result ≡ queries.is_pure_arm (arm_at (true, true) (queries.arm_purities (arms_of arms.now)) place) }
 {
+    is_pure_at(arms, place)
+}
+
+#[cycle(pure)]
+fn is_pure_at(arms: &[BinaryExpr], place: usize) -> bool
+    ensures { result ≡ is_pure_if_any (slice_get arms.now place) }
+{
     match arms.get(place) {
         Some(arm) => is_pure_expr(&arm.lhs) && is_pure_expr(&arm.rhs),
         None => true,
@@ -221,10 +229,17 @@ fn is_pure_default(arms: &[BinaryExpr], default: Option<usize>) -> bool
     ensures { result ≡ queries.default_is_pure (queries.arm_purities (arms_of arms.now)) default }
 {
     match default {
-        Some(place) => match arms.get(place) {
-            Some(arm) => is_pure_expr(&arm.rhs),
-            None => false,
-        },
+        Some(place) => has_pure_answer_at(arms, place),
+        None => false,
+    }
+}
+
+#[cycle(pure)]
+fn has_pure_answer_at(arms: &[BinaryExpr], place: usize) -> bool
+    ensures { result ≡ has_pure_answer (slice_get arms.now place) }
+{
+    match arms.get(place) {
+        Some(arm) => is_pure_expr(&arm.rhs),
         None => false,
     }
 }

@@ -95,8 +95,7 @@ impl StmtQueries for Stmt {
         ensures { result ≡ queries.is_control_flow_break (stmt_of self.now) }
     {
         match self {
-            Stmt::BreakLoop(_, _, _)
-            | Stmt::Return(_, _, _) => true,
+            Stmt::BreakLoop(_, _, _) | Stmt::Return(_, _, _) => true,
             Stmt::Noop(_)
             | Stmt::If(_, _)
             | Stmt::Switch(_, _)

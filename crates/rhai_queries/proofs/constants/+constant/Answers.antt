@@ -1,0 +1,15 @@
+use Rattle.std.proofs.Common.{◌≡◌, Bool, true, ◌&&◌, ◌+◌, drop, sym, ap, ◌∙◌}
+use Rattle.rhai_parts.specs.declared.ident.Ident.{Ident}
+use Rattle.rhai_tree.specs.declared.expr.Expr.{Expr}
+use Rattle.rhai_meaning.specs.Constants.{is_constant}
+use Rattle.rhai_reading.specs.Reading.{expr_of}
+use Rattle.rhai_queries.proofs.ConstantLists.{members_constant, members-drop}
+use Rattle.rhai_queries.proofs.constants.+constant.Goals as goal
+
+pub are_constant_members-loop-member-preserved : goal.are_constant_members-loop-member-preserved
+are_constant_members-loop-member-preserved t c =
+    let rest = members_constant (drop (c.loop-member.member-index + 1) c.args.members.now) in
+    c.loop-member.invariant
+    ∙ members-drop c.args.members.now c.loop-member.member-index c.member-item.result c.loop-member-test.true
+    ∙ ap (λ (m : Ident × Expr). is_constant (expr_of m.1) && rest) (sym c.member-item.is)
+    ∙ ap (λ b. b && rest) (sym c.is_constant.ensures ∙ c.if-not-is_constant.false)
