@@ -6,12 +6,12 @@ use Rattle.rhai_values.specs.Value.{is_hashable}
 use Rattle.rhai_values.specs.Reading.{value_of}
 use Rattle.rhai_tokens.specs.declared.error.AstError.{AstError}
 use Rattle.rhai_tokens.specs.declared.error.AstError.TheVariants.{SwitchIndex, SwitchDefaultCondition, SwitchDefaultShared, SwitchKey}
-use Rattle.rhai_ast.specs.declared.ast.expr.BinaryExpr.{BinaryExpr}
-use Rattle.rhai_ast.specs.declared.ast.switch.CaseBlocksList.{CaseBlocksList}
+use Rattle.rhai_tree.specs.declared.expr.BinaryExpr.{BinaryExpr}
+use Rattle.rhai_tree.specs.declared.switch.CaseBlocksList.{CaseBlocksList}
 use Rattle.rhai_base.specs.declared.range_case.RangeCase.{RangeCase}
 use Rattle.rhai_base.specs.Ranges.{index_of}
 use Rattle.rhai_meaning.specs.Tree.{Expr, BoolConstant}
-use Rattle.rhai_ast.specs.Reading.{expr_of}
+use Rattle.rhai_reading.specs.Reading.{expr_of}
 
 abbrev pub are_keys : List (Dynamic × CaseBlocksList) → Bool
 are_keys cases = list_all (λ e. is_hashable (value_of e.0)) cases

@@ -1,39 +1,54 @@
 //! The values of literals.
 
-#![tactic(auto, using(crate::specs::Reading::shapes, rhai_values::specs::Reading::kinds, crate::proofs::ItemLists::steps, crate::proofs::Literals::literals), unfolding(rhai_base::specs::Operators::binary))]
+#![tactic(auto, using(rhai_reading::specs::Reading::shapes, rhai_values::specs::Reading::kinds, rhai_reading::proofs::ItemLists::steps, crate::proofs::LiteralLists::literals), unfolding(rhai_base::specs::Operators::binary))]
 
-ghost use Rattle.std.specs.Prelude.{◌≡◌, IfOk, Some, map};
+ghost use Rattle.std.specs.Prelude.{◌≡◌, ◌++◌, IfOk, OnOk, Some};
 ghost use Rattle.std.specs.Cow.{cow_value};
 ghost use Rattle.std.specs.Option.{option_map};
 ghost use Rattle.rhai_base.specs.Operators as operators;
 ghost use Rattle.rhai_base.specs.Builtin.{range_operator};
-ghost use Rattle.rhai_values.specs.Reading.{value_of};
-ghost use Rattle.rhai_ast.specs.Literals.{lent_value};
-ghost use Rattle.rhai_ast.specs.Reading.{expr_of, exprs_of};
+ghost use Rattle.rhai_values.specs.Reading.{members_of, value_of};
+ghost use Rattle.rhai_values.specs.Value.{fields, text_of};
+ghost use Rattle.rhai_meaning.specs.Elements.{with_entry};
+ghost use Rattle.std.specs.String.{string_bytes};
+ghost use Rattle.rhai_nodes.specs.Lent.{lent_value};
+ghost use Rattle.rhai_reading.specs.Reading.{callee_of, expr_of, exprs_of, pairs_of};
 ghost use Rattle.rhai_meaning.specs.Constants as constants;
-ghost use Rattle.rhai_meaning.specs.Tree.{expr, no_exprs};
+ghost use Rattle.rhai_meaning.specs.Laws.{ConstantLaw, LiteralLaw};
+ghost use Rattle.rhai_meaning.specs.Tree.{FnCall, expr, no_exprs};
 
-use crate::ast::{Expr, FnCallExpr};
 use rhai_base::{
-    Dynamic, Fault, FnPtr, ImmutableString, OutOfMemory, Seq, Token, builtin_binary_op,
+    Dynamic, Fault, FnPtr, Ident, ImmutableString, OutOfMemory, Seq, StringMap, Token,
+    builtin_binary_op,
 };
+use rhai_queries::{ExprQueries, is_unqualified};
+use rhai_tree::{Expr, FnCallExpr};
 use std::alloc::Global;
 use std::borrow::Cow;
 
-impl Expr {
+/// The values of literals.
+pub trait Literals {
     /// The value of a literal: of a constant, of the call `Fn("name")` where a function may have the
     /// name, of `..` and `..=` over integers, one of which may be left out.
-    pub fn get_literal_value(&self, alloc: Global) -> Result<Option<Dynamic>, OutOfMemory>
-        ensures { IfOk result (λ v. option_map value_of v ≡ constants.literal_value (expr_of self.now)) }
+    ///
+    /// In rhai it takes the global state too, which it asks nothing.
+    fn get_literal_value(&self, alloc: Global) -> Result<Option<Dynamic>, OutOfMemory>;
+
+    /// The value of a constant, lent where the tree holds it whole. It is not in rhai.
+    fn constant_value(&self, alloc: Global) -> Result<Option<Cow<'_, Dynamic>>, OutOfMemory>;
+}
+
+impl Literals for Expr {
+    #[tactic(auto, using(rhai_meaning::proofs::LiteralLaws::literal_law, rhai_meaning::proofs::LiteralLaws::constant_is_literal))]
+    fn get_literal_value(&self, alloc: Global) -> Result<Option<Dynamic>, OutOfMemory>
+        ensures value { IfOk result (λ v. option_map value_of v ≡ constants.literal_value (expr_of self.now)) }
+        ensures runs { LiteralLaw (expr_of self.now) }
+        ensures of_constants { ConstantLaw (expr_of self.now) }
     {
-        match self.constant_value(alloc)? {
-            Some(value) => Ok(Some(owned(value)?)),
-            None => self.call_value(alloc),
-        }
+        literal_value(alloc, self)
     }
 
-    /// The value of a constant, lent where the tree holds it whole. Only an array takes memory.
-    pub fn constant_value(&self, alloc: Global) -> Result<Option<Cow<'_, Dynamic>>, OutOfMemory>
+    fn constant_value(&self, alloc: Global) -> Result<Option<Cow<'_, Dynamic>>, OutOfMemory>
         ensures { IfOk result (λ v. lent_value v ≡ constants.constant_value (expr_of self.now)) }
     {
         if !self.is_constant() {
@@ -41,21 +56,51 @@ impl Expr {
         }
         lend_value(alloc, self)
     }
+}
 
-    fn call_value(&self, alloc: Global) -> Result<Option<Dynamic>, OutOfMemory>
-        ensures { IfOk result (λ v. option_map value_of v ≡ constants.call_value (expr_of self.now)) }
-    {
-        match self {
-            Expr::FnCall(call, _) => named_value(alloc, call.get()),
-            Expr::DynamicConstant(_, _)
-            | Expr::BoolConstant(_, _)
-            | Expr::IntegerConstant(_, _)
-            | Expr::CharConstant(_, _)
-            | Expr::StringConstant(_, _)
-            | Expr::Unit(_)
-            | Expr::Array(_, _)
-            | Expr::Stmt(_) => Ok(None),
-        }
+fn literal_value(alloc: Global, expr: &Expr) -> Result<Option<Dynamic>, OutOfMemory>
+    ensures { IfOk result (λ v. option_map value_of v ≡ constants.literal_value (expr_of expr.now)) }
+{
+    match expr.constant_value(alloc)? {
+        Some(value) => Ok(Some(owned(value)?)),
+        None => call_value(alloc, expr),
+    }
+}
+
+fn call_value(alloc: Global, expr: &Expr) -> Result<Option<Dynamic>, OutOfMemory>
+    ensures { IfOk result (λ v. option_map value_of v ≡ constants.call_value (expr_of expr.now)) }
+{
+    match expr {
+        Expr::FnCall(call, _) => unqualified_value(alloc, call.get()),
+        Expr::DynamicConstant(_, _)
+        | Expr::BoolConstant(_, _)
+        | Expr::IntegerConstant(_, _)
+        | Expr::CharConstant(_, _)
+        | Expr::StringConstant(_, _)
+        | Expr::InterpolatedString(_, _)
+        | Expr::Array(_, _)
+        | Expr::Map(_, _)
+        | Expr::Unit(_)
+        | Expr::Variable(_, _, _)
+        | Expr::ThisPtr(_)
+        | Expr::Property(_, _)
+        | Expr::MethodCall(_, _)
+        | Expr::Stmt(_)
+        | Expr::Dot(_, _, _)
+        | Expr::Index(_, _, _)
+        | Expr::And(_, _)
+        | Expr::Or(_, _)
+        | Expr::Coalesce(_, _) => Ok(None),
+    }
+}
+
+fn unqualified_value(alloc: Global, call: &FnCallExpr) -> Result<Option<Dynamic>, OutOfMemory>
+    ensures { IfOk result (λ v. option_map value_of v ≡ constants.call_value (FnCall (callee_of call.now) (exprs_of call.now.args))) }
+{
+    if is_unqualified(&call.namespace) {
+        named_value(alloc, call)
+    } else {
+        Ok(None)
     }
 }
 
@@ -71,8 +116,20 @@ fn lend_value(alloc: Global, expr: &Expr) -> Result<Option<Cow<'_, Dynamic>>, Ou
         Expr::CharConstant(c, _) => Ok(Some(Cow::Owned(Dynamic::Char(*c)))),
         Expr::StringConstant(text, _) => Ok(Some(Cow::Owned(Dynamic::Str(text.clone()?)))),
         Expr::Unit(_) => Ok(Some(Cow::Owned(Dynamic::Unit))),
+        Expr::InterpolatedString(parts, _) => joined_value(alloc, parts.as_slice()),
         Expr::Array(items, _) => array_value(alloc, items.as_slice()),
-        Expr::Stmt(_) | Expr::FnCall(_, _) => Ok(None),
+        Expr::Map(map, _) => map_value(alloc, map.get().0.as_slice()),
+        Expr::Variable(_, _, _)
+        | Expr::ThisPtr(_)
+        | Expr::Property(_, _)
+        | Expr::MethodCall(_, _)
+        | Expr::Stmt(_)
+        | Expr::FnCall(_, _)
+        | Expr::Dot(_, _, _)
+        | Expr::Index(_, _, _)
+        | Expr::And(_, _)
+        | Expr::Or(_, _)
+        | Expr::Coalesce(_, _) => Ok(None),
     }
 }
 
@@ -97,6 +154,64 @@ fn array_value<'a>(
         }
     }
     Ok(Some(Cow::Owned(Dynamic::Array(Seq::from_vec(values)))))
+}
+
+/// The value of an interpolated text.
+#[cycle(lend_value)]
+fn joined_value<'a>(
+    alloc: Global,
+    parts: &'a [Expr],
+) -> Result<Option<Cow<'a, Dynamic>>, OutOfMemory>
+    ensures { IfOk result (λ v. lent_value v ≡ constants.joined_value (constants.constant_values (exprs_of parts.now))) }
+{
+    let mut text = String::new(alloc);
+    for part in parts {
+        match lend_value(alloc, part)? {
+            Some(value) => push_text(&value, &mut text)?,
+            None => return Ok(None),
+        }
+    }
+    let text = ImmutableString::new(alloc, text.as_str())?;
+    Ok(Some(Cow::Owned(Dynamic::Str(text))))
+}
+
+fn push_text(value: &Cow<'_, Dynamic>, text: &mut String) -> Result<(), OutOfMemory>
+    ensures { OnOk result (string_bytes text.new ≡ string_bytes text.old ++ text_of (value_of (cow_value value.now))) }
+{
+    value.push_text(text)?;
+    Ok(())
+}
+
+/// The value of a map's literal, from its pairs alone.
+#[cycle(lend_value)]
+fn map_value<'a>(
+    alloc: Global,
+    members: &'a [(Ident, Expr)],
+) -> Result<Option<Cow<'a, Dynamic>>, OutOfMemory>
+    ensures { IfOk result (λ v. lent_value v ≡ constants.map_value (constants.constant_entries (pairs_of members.now))) }
+{
+    let mut map = StringMap::new(alloc);
+    for member in members {
+        match lend_value(alloc, &member.1)? {
+            Some(value) => put(&mut map, &member.0, value)?,
+            None => return Ok(None),
+        }
+    }
+    Ok(Some(Cow::Owned(Dynamic::Map(map))))
+}
+
+/// Puts a value under a name, in place of what was there.
+#[tactic(auto, using(crate::proofs::Entries::insert_is))]
+fn put(
+    map: &mut StringMap<Dynamic>,
+    name: &Ident,
+    value: Cow<'_, Dynamic>,
+) -> Result<(), OutOfMemory>
+    ensures { OnOk result (fields (members_of map.new) ≡ with_entry (fields (members_of map.old)) name.now.name (value_of (cow_value value.entry))) }
+{
+    let name = name.name.clone()?;
+    map.insert(name, owned(value)?)?;
+    Ok(())
 }
 
 fn named_value(alloc: Global, call: &FnCallExpr) -> Result<Option<Dynamic>, OutOfMemory>
@@ -129,10 +244,21 @@ fn pointer_literal(alloc: Global, name: &Expr) -> Result<Option<Dynamic>, OutOfM
         | Expr::BoolConstant(_, _)
         | Expr::IntegerConstant(_, _)
         | Expr::CharConstant(_, _)
-        | Expr::Unit(_)
+        | Expr::InterpolatedString(_, _)
         | Expr::Array(_, _)
+        | Expr::Map(_, _)
+        | Expr::Unit(_)
+        | Expr::Variable(_, _, _)
+        | Expr::ThisPtr(_)
+        | Expr::Property(_, _)
+        | Expr::MethodCall(_, _)
         | Expr::Stmt(_)
-        | Expr::FnCall(_, _) => Ok(None),
+        | Expr::FnCall(_, _)
+        | Expr::Dot(_, _, _)
+        | Expr::Index(_, _, _)
+        | Expr::And(_, _)
+        | Expr::Or(_, _)
+        | Expr::Coalesce(_, _) => Ok(None),
     }
 }
 
@@ -172,9 +298,20 @@ fn range_end(end: &Expr) -> Option<Dynamic>
         | Expr::BoolConstant(_, _)
         | Expr::CharConstant(_, _)
         | Expr::StringConstant(_, _)
+        | Expr::InterpolatedString(_, _)
         | Expr::Array(_, _)
+        | Expr::Map(_, _)
+        | Expr::Variable(_, _, _)
+        | Expr::ThisPtr(_)
+        | Expr::Property(_, _)
+        | Expr::MethodCall(_, _)
         | Expr::Stmt(_)
-        | Expr::FnCall(_, _) => None,
+        | Expr::FnCall(_, _)
+        | Expr::Dot(_, _, _)
+        | Expr::Index(_, _, _)
+        | Expr::And(_, _)
+        | Expr::Or(_, _)
+        | Expr::Coalesce(_, _) => None,
     }
 }
 

@@ -79,7 +79,8 @@ fn is_eval(call: &FnCallExpr) -> bool
     is_unqualified(&call.namespace) && call.name.as_str() == "eval"
 }
 
-fn is_unqualified(namespace: &Namespace) -> bool
+/// Does a path name no module?
+pub fn is_unqualified(namespace: &Namespace) -> bool
     ensures { result ≡ is_none (path_of namespace.now) }
 {
     namespace.is_empty()

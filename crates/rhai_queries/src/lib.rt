@@ -10,6 +10,7 @@ mod positions;
 mod purity;
 mod stmt;
 
+pub use block_dependence::is_unqualified;
 pub use call::CallQueries;
 pub use constants::are_constant;
 pub use expr::ExprQueries;

@@ -1,0 +1,6 @@
+//! Making nodes, changing them, and the values of literals.
+#![tactic(auto)]
+
+pub use literals::Literals;
+
+mod literals;
