@@ -1,9 +1,11 @@
 -- Expressions for pointers.
-use Rattle.std.proofs.Common.{◌≡◌, ◌≢◌, List, [], ◌∷◌, map, refl, ap}
+use Rattle.std.proofs.Common.{◌≡◌, ◌≢◌, List, [], ◌∷◌, map, true, Some, refl, sym, ap, ◌∙◌}
 use Rattle.rhai_values.specs.declared.dynamic.Dynamic.{Dynamic}
-use Rattle.rhai_values.specs.Value.{Text, PointerV, values}
+use Rattle.rhai_values.specs.Value.{Text, PointerV, no_values, values}
 use Rattle.rhai_values.specs.Reading.{value_of}
-use Rattle.rhai_meaning.specs.Constants.{constant_for, pointer_call}
+use Rattle.rhai_meaning.specs.Constants.{constant_for, literal_value, pointer_call}
+use Rattle.rhai_meaning.proofs.LiteralLaws.{constant_for_law}
+use Rattle.rhai_parts.specs.Names.{is_valid_name}
 use Rattle.rhai_meaning.specs.Tree.{DynamicConstant}
 
 -- a pointer with values is held as it is
@@ -15,4 +17,8 @@ constant_for-curried f (v ∷ vs) h = refl
 pub constant_for-bare : (f : Text) (vs : List Dynamic) → vs ≡ [] → constant_for (PointerV f (values (map value_of vs))) ≡ pointer_call f
 constant_for-bare f vs h = ap (λ us. constant_for (PointerV f (values (map value_of us)))) h
 
-pub ruleset pointers = (constant_for-curried, constant_for-bare)
+-- the call for a pointer writes the pointer out
+pub pointer_written : (f : Text) (vs : List Dynamic) → is_valid_name f ≡ true → vs ≡ [] → literal_value (pointer_call f) ≡ Some (PointerV f (values (map value_of vs)))
+pointer_written f vs h e = constant_for_law (PointerV f no_values) h ∙ ap (λ (us : List Dynamic). Some (PointerV f (values (map value_of us)))) (sym e)
+
+pub ruleset pointers = (constant_for-curried, constant_for-bare, pointer_written)

@@ -1,6 +1,11 @@
-//! Making nodes, changing them, and the values of literals.
+//! Making nodes, taking them out, and the values of literals.
 #![tactic(auto)]
 
-pub use literals::Literals;
-
+mod constant;
 mod literals;
+mod switch;
+mod take;
+
+pub use literals::Literals;
+pub use switch::SwitchCases;
+pub use take::{IntoExpr, Take};

@@ -13,12 +13,14 @@ ghost use Rattle.rhai_meaning.specs.Elements.{with_entry};
 ghost use Rattle.std.specs.String.{string_bytes};
 ghost use Rattle.rhai_nodes.specs.Lent.{lent_value};
 ghost use Rattle.rhai_reading.specs.Reading.{callee_of, expr_of, exprs_of, pairs_of};
+ghost use Rattle.rhai_reading.specs.Positions.{AreAt, arguments_of, position_of};
 ghost use Rattle.rhai_meaning.specs.Constants as constants;
 ghost use Rattle.rhai_meaning.specs.Laws.{ConstantLaw, LiteralLaw};
 ghost use Rattle.rhai_meaning.specs.Tree.{FnCall, expr, no_exprs};
 
+use crate::constant::constant_for;
 use rhai_base::{
-    Dynamic, Fault, FnPtr, Ident, ImmutableString, OutOfMemory, Seq, StringMap, Token,
+    Dynamic, Fault, FnPtr, Ident, ImmutableString, OutOfMemory, Position, Seq, StringMap, Token,
     builtin_binary_op,
 };
 use rhai_queries::{ExprQueries, is_unqualified};
@@ -27,7 +29,7 @@ use std::alloc::Global;
 use std::borrow::Cow;
 
 /// The values of literals.
-pub trait Literals {
+pub trait Literals: Sized {
     /// The value of a literal: of a constant, of the call `Fn("name")` where a function may have the
     /// name, of `..` and `..=` over integers, one of which may be left out.
     ///
@@ -36,6 +38,9 @@ pub trait Literals {
 
     /// The value of a constant, lent where the tree holds it whole. It is not in rhai.
     fn constant_value(&self, alloc: Global) -> Result<Option<Cow<'_, Dynamic>>, OutOfMemory>;
+
+    /// The constant for a value. A pointer without values of parameters is the call `Fn("name")`.
+    fn from_dynamic(alloc: Global, value: Dynamic, pos: Position) -> Result<Self, OutOfMemory>;
 }
 
 impl Literals for Expr {
@@ -55,6 +60,15 @@ impl Literals for Expr {
             return Ok(None);
         }
         lend_value(alloc, self)
+    }
+
+    fn from_dynamic(alloc: Global, value: Dynamic, pos: Position) -> Result<Expr, OutOfMemory>
+        ensures value { IfOk result (λ e. expr_of e ≡ constants.constant_for (value_of value)) }
+        ensures round_trip { IfOk result (λ e. constants.literal_value (expr_of e) ≡ Some (value_of value)) }
+        ensures position { IfOk result (λ e. position_of e ≡ pos) }
+        ensures arguments { IfOk result (λ e. AreAt pos (arguments_of e)) }
+    {
+        constant_for(alloc, value, pos)
     }
 }
 

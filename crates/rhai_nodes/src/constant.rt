@@ -1,0 +1,81 @@
+//! Constants for values.
+
+#![tactic(auto, using(rhai_reading::specs::Reading::shapes, rhai_values::specs::Reading::kinds, rhai_reading::specs::Positions::places, crate::proofs::Pointers::pointers))]
+
+ghost use Rattle.std.specs.Prelude.{◌≡◌, [], IfOk, Some, map};
+ghost use Rattle.rhai_values.specs.Reading.{value_of};
+ghost use Rattle.rhai_values.specs.Value.{PointerV, values};
+ghost use Rattle.rhai_reading.specs.Positions.{AreAt, arguments_of, position_of};
+ghost use Rattle.rhai_reading.specs.Reading.{expr_of};
+ghost use Rattle.rhai_meaning.specs.Constants as constants;
+ghost use Rattle.rhai_meaning.specs.Tree.{DynamicConstant};
+
+use rhai_base::{Boxed, Dynamic, FnPtr, ImmutableString, Namespace, OutOfMemory, Position, Seq};
+use rhai_tree::{Expr, FnCallExpr};
+use std::alloc::Global;
+
+/// The constant for a value.
+pub(crate) fn constant_for(
+    alloc: Global,
+    value: Dynamic,
+    pos: Position,
+) -> Result<Expr, OutOfMemory>
+    ensures value { IfOk result (λ e. expr_of e ≡ constants.constant_for (value_of value)) }
+    ensures round_trip { IfOk result (λ e. constants.literal_value (expr_of e) ≡ Some (value_of value)) }
+    ensures position { IfOk result (λ e. position_of e ≡ pos) }
+    ensures arguments { IfOk result (λ e. AreAt pos (arguments_of e)) }
+{
+    match value {
+        Dynamic::Unit => Ok(Expr::Unit(pos)),
+        Dynamic::Bool(b) => Ok(Expr::BoolConstant(b, pos)),
+        Dynamic::Int(n) => Ok(Expr::IntegerConstant(n, pos)),
+        Dynamic::Char(c) => Ok(Expr::CharConstant(c, pos)),
+        Dynamic::Str(text) => Ok(Expr::StringConstant(text, pos)),
+        Dynamic::FnPtr(pointer) => for_pointer(alloc, pointer, pos),
+        Dynamic::Array(items) => hold(alloc, Dynamic::Array(items), pos),
+        Dynamic::Map(members) => hold(alloc, Dynamic::Map(members), pos),
+        Dynamic::Range(from, to) => hold(alloc, Dynamic::Range(from, to), pos),
+        Dynamic::RangeInclusive(from, to) => hold(alloc, Dynamic::RangeInclusive(from, to), pos),
+    }
+}
+
+fn for_pointer(alloc: Global, pointer: FnPtr, pos: Position) -> Result<Expr, OutOfMemory>
+    ensures value { IfOk result (λ e. expr_of e ≡ constants.constant_for (PointerV pointer.name (values (map value_of pointer.curried)))) }
+    ensures round_trip { IfOk result (λ e. constants.literal_value (expr_of e) ≡ Some (PointerV pointer.name (values (map value_of pointer.curried)))) }
+    ensures position { IfOk result (λ e. position_of e ≡ pos) }
+    ensures arguments { IfOk result (λ e. AreAt pos (arguments_of e)) }
+{
+    if !pointer.curry().is_empty() {
+        return hold(alloc, Dynamic::FnPtr(pointer), pos);
+    }
+    let name = ImmutableString::new(alloc, pointer.fn_name())?;
+    pointer_call(alloc, name, pos)
+}
+
+/// A value as a constant that no other constant stands for.
+fn hold(alloc: Global, value: Dynamic, pos: Position) -> Result<Expr, OutOfMemory>
+    ensures value { IfOk result (λ e. expr_of e ≡ DynamicConstant (value_of value)) }
+    ensures position { IfOk result (λ e. position_of e ≡ pos) }
+    ensures arguments { IfOk result (λ e. arguments_of e ≡ []) }
+{
+    let value = Boxed::new(alloc, value)?;
+    Ok(Expr::DynamicConstant(value, pos))
+}
+
+/// `Fn("name")`
+fn pointer_call(alloc: Global, name: ImmutableString, pos: Position) -> Result<Expr, OutOfMemory>
+    ensures value { IfOk result (λ e. expr_of e ≡ constants.pointer_call name) }
+    ensures position { IfOk result (λ e. position_of e ≡ pos) }
+    ensures arguments { IfOk result (λ e. AreAt pos (arguments_of e)) }
+{
+    let mut args = Seq::new(alloc);
+    args.push(Expr::StringConstant(name, pos))?;
+    let call = FnCallExpr {
+        namespace: Namespace::none(alloc),
+        name: ImmutableString::new(alloc, "Fn")?,
+        args,
+        capture_parent_scope: false,
+        op_token: None,
+    };
+    Ok(Expr::FnCall(Boxed::new(alloc, call)?, pos))
+}
