@@ -1,9 +1,10 @@
-//! The syntax tree of scripts, and what a script means.
+//! The syntax tree of scripts: its nodes, what may be asked of them, and the tests of a tree.
 #![tactic(auto)]
 
-pub mod ast;
-
-pub use ast::{
-    BinaryExpr, CaseBlocksList, Cases, Expr, FlowControl, FnAccess, FnCallExpr, ScriptFuncDef,
-    Stmt, StmtBlock, SwitchCasesCollection, are_constant,
+pub use rhai_faults::is_plain;
+pub use rhai_nodes::{IntoExpr, Literals, SwitchCases, Take};
+pub use rhai_queries::{CallQueries, ExprQueries, StmtQueries, are_constant, is_unqualified};
+pub use rhai_tree::{
+    BinaryExpr, CaseBlocksList, Cases, Expr, FlowControl, FnAccess, FnCallExpr, FnNamespace,
+    ScriptFuncDef, Stmt, StmtBlock, StmtBlockContainer, SwitchBlock, SwitchCasesCollection,
 };

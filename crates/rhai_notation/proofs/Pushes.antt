@@ -3,11 +3,11 @@ use Rattle.std.proofs.Common.{◌≡◌, ℕ, ◌+◌, ◌<◌, false, ◌==◌,
 use Rattle.std.proofs.Math.Seq.{drop-cons, drop-length}
 use Rattle.rhai_values.specs.Value.{Text}
 use Rattle.rhai_tokens.specs.declared.position.Position.{Position}
-use Rattle.rhai_ast.specs.declared.ast.expr.FnCallExpr.{FnCallExpr}
-use Rattle.rhai_ast.specs.declared.ast.stmt.Stmt.{Stmt}
-use Rattle.rhai_ast.specs.declared.ast.stmt.Stmt.TheVariants as stmt_kind
-use Rattle.rhai_ast.specs.declared.ast.stmt.StmtBlock.{StmtBlock}
-use Rattle.rhai_ast.specs.Reading.{exprs_of, stmt_of, stmts_of, callee_of, stmt_of-Block, stmt_of-FnCall}
+use Rattle.rhai_tree.specs.declared.expr.FnCallExpr.{FnCallExpr}
+use Rattle.rhai_tree.specs.declared.stmt.Stmt.{Stmt}
+use Rattle.rhai_tree.specs.declared.stmt.Stmt.TheVariants as stmt_kind
+use Rattle.rhai_tree.specs.declared.block.StmtBlock.{StmtBlock}
+use Rattle.rhai_reading.specs.Reading.{exprs_of, stmt_of, stmts_of, callee_of, stmt_of-Block, stmt_of-FnCall}
 use Rattle.rhai_notation.specs.Notation.{call_text, names_text, stmts_text, stmt_text, block_text}
 
 -- two pushes are one

@@ -1,10 +1,10 @@
 //! Trees in a notation for reading. A refused call can leave a part of what it appends.
-#![tactic(auto, using(rhai_ast::specs::Reading::shapes, rhai_values::specs::Reading::kinds, rhai_ast::proofs::ItemLists::steps, crate::proofs::Pushes::name_lists))]
+#![tactic(auto, using(rhai_reading::specs::Reading::shapes, rhai_values::specs::Reading::kinds, rhai_reading::proofs::ItemLists::steps, crate::proofs::Pushes::name_lists))]
 
 ghost use Rattle.std.specs.Prelude.{◌≡◌, ◌++◌, [], OnOk, codes, string_bytes};
 ghost use Rattle.rhai_values.specs.Value.{UnitV, BoolV, IntV, CharV, TextV, inner};
 ghost use Rattle.rhai_values.specs.Reading.{value_of};
-ghost use Rattle.rhai_ast.specs.Reading.{expr_of, exprs_of, stmt_of, stmts_of, callee_of, function_of};
+ghost use Rattle.rhai_reading.specs.Reading.{expr_of, exprs_of, stmt_of, stmts_of, callee_of, function_of};
 ghost use Rattle.rhai_notation.specs.Notation.{callee_text, expr_text, exprs_text, call_text, stmt_text, block_text, stmts_text, lines_text, names_text, receiver_text, function_text, script_text};
 ghost use Rattle.rhai_script.specs.Script.{script_of};
 

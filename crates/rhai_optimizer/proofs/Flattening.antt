@@ -1,10 +1,10 @@
 -- Blocks in a list: what is done, the statements of the list in hand, and what comes after it.
 use Rattle.std.proofs.Common.{◌≡◌, ◌≤◌, Bool, true, false, List, [], ◌∷◌, ◌++◌, IsTrue, ◌↔◌, ◌||◌, not, refl, sym, ap, ◌∙◌, subst, arith}
 use Rattle.rhai_tokens.specs.declared.position.Position.{Position}
-use Rattle.rhai_ast.specs.declared.ast.stmt.Stmt as declared_stmt
-use Rattle.rhai_ast.specs.declared.ast.stmt.Stmt.TheVariants as stmt_kind
+use Rattle.rhai_tree.specs.declared.stmt.Stmt as declared_stmt
+use Rattle.rhai_tree.specs.declared.stmt.Stmt.TheVariants as stmt_kind
 use Rattle.rhai_meaning.specs.Queries.{is_any_dependent}
-use Rattle.rhai_ast.specs.Reading.{stmt_of, stmts_of, stmt_of-Noop}
+use Rattle.rhai_reading.specs.Reading.{stmt_of, stmts_of, stmt_of-Noop}
 use Rattle.rhai_meaning.specs.Tree.{Stmt, Noop, Block, Stmts, no_stmts, stmt, joined}
 use Rattle.rhai_rewriting.specs.Context.{Context, ListKind, wanted, wanted_before}
 use Rattle.rhai_rewriting.specs.Rewriting.{StmtsTo, same_stmts, then_stmts, by_list_rule}

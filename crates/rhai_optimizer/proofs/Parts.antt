@@ -1,11 +1,11 @@
 -- A tree's parts, then its node; and the passes over a list.
 use Rattle.std.proofs.Common.{◌≡◌, ◌<◌, Bool, true, false, List, refl, sym, subst, arith}
 use Rattle.rhai_tokens.specs.declared.position.Position.{Position}
-use Rattle.rhai_ast.specs.declared.ast.expr.Expr as declared_expr
-use Rattle.rhai_ast.specs.declared.ast.expr.Expr.TheVariants as expr_kind
-use Rattle.rhai_ast.specs.declared.ast.expr.FnCallExpr.{FnCallExpr}
-use Rattle.rhai_ast.specs.declared.ast.stmt.StmtBlock.{StmtBlock}
-use Rattle.rhai_ast.specs.Reading.{expr_of, ExprCase, dynamic_case, bool_case, integer_case, char_case, string_case, unit_case, array_case, block_expr_case, call_case, expr_cases, expr_of-DynamicConstant, expr_of-BoolConstant, expr_of-IntegerConstant, expr_of-CharConstant, expr_of-StringConstant, expr_of-Unit}
+use Rattle.rhai_tree.specs.declared.expr.Expr as declared_expr
+use Rattle.rhai_tree.specs.declared.expr.Expr.TheVariants as expr_kind
+use Rattle.rhai_tree.specs.declared.expr.FnCallExpr.{FnCallExpr}
+use Rattle.rhai_tree.specs.declared.block.StmtBlock.{StmtBlock}
+use Rattle.rhai_reading.specs.Reading.{expr_of, ExprCase, dynamic_case, bool_case, integer_case, char_case, string_case, unit_case, array_case, block_expr_case, call_case, expr_cases, expr_of-DynamicConstant, expr_of-BoolConstant, expr_of-IntegerConstant, expr_of-CharConstant, expr_of-StringConstant, expr_of-Unit}
 use Rattle.rhai_meaning.specs.Engine.{Engine}
 use Rattle.rhai_meaning.specs.Tree.{Callee, Expr, FnCall, Exprs, Stmt, If, FnCallStmt, Stmts}
 use Rattle.rhai_rewriting.specs.Context.{Context, ListKind, Inside}

@@ -1,9 +1,9 @@
 -- A list that is rewritten in its own memory, an item at a time: the first n are done, the others are to come.
 use Rattle.std.proofs.Common.{◌≡◌, ◌<◌, ◌≤◌, ℕ, ◌+◌, Bool, List, [], ◌∷◌, ◌++◌, length, get_or, set, take, drop, refl, sym, ap, ◌∙◌, subst, arith, append_assoc, append-nil}
 use Rattle.std.proofs.lemmas.List.{drop_more, drop_all, take_all, take_more_set, drop-set-lt, length-set}
-use Rattle.rhai_ast.specs.declared.ast.expr.Expr as declared_expr
-use Rattle.rhai_ast.specs.declared.ast.stmt.Stmt as declared_stmt
-use Rattle.rhai_ast.specs.Reading.{expr_of, exprs_of, stmt_of, stmts_of}
+use Rattle.rhai_tree.specs.declared.expr.Expr as declared_expr
+use Rattle.rhai_tree.specs.declared.stmt.Stmt as declared_stmt
+use Rattle.rhai_reading.specs.Reading.{expr_of, exprs_of, stmt_of, stmts_of}
 use Rattle.rhai_rewriting.specs.Context.{Context, ListKind, wanted, wanted_before}
 use Rattle.rhai_rewriting.specs.Rewriting.{exprs_none, exprs_more, same_stmts, then_stmts, in_head, in_tail}
 use Rattle.rhai_rewriting.specs.Steps.{ExprRun, ExprsRun, StmtRun, EachRun}

@@ -3,9 +3,9 @@ use Rattle.std.specs.Prelude.{List, map}
 use Rattle.std.specs.Rc.{rc_value}
 use Rattle.std.specs.declared.alloc.Global.{Global}
 use Rattle.std.specs.declared.rc.Rc.{Rc}
-use Rattle.rhai_ast.specs.declared.ast.script_fn.ScriptFuncDef.{ScriptFuncDef}
-use Rattle.rhai_ast.specs.declared.ast.stmt.Stmt.{Stmt}
-use Rattle.rhai_ast.specs.Reading.{stmts_of, function_of}
+use Rattle.rhai_tree.specs.declared.script_fn.ScriptFuncDef.{ScriptFuncDef}
+use Rattle.rhai_tree.specs.declared.stmt.Stmt.{Stmt}
+use Rattle.rhai_reading.specs.Reading.{stmts_of, function_of}
 use Rattle.rhai_meaning.specs.Tree.{Script}
 use Rattle.rhai_script.specs.Table.{table_of}
 

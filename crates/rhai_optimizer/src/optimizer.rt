@@ -2,7 +2,7 @@
 ghost use Rattle.rhai_meaning.specs.Walk.{outermost};
 ghost use Rattle.std.specs.Prelude.{◌≡◌, ◌≢◌, ◌≤◌, IfOk, OnOk, map, true};
 ghost use Rattle.std.specs.Rc.{rc_value};
-ghost use Rattle.rhai_ast.specs.Reading.{stmts_of};
+ghost use Rattle.rhai_reading.specs.Reading.{stmts_of};
 ghost use Rattle.rhai_engine.specs.EngineInfo.{engine_of};
 ghost use Rattle.rhai_meaning.specs.Faults.{AreWellFormed};
 ghost use Rattle.rhai_meaning.specs.Small.{CallsOperatorsAlone};

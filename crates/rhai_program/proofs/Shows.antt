@@ -7,9 +7,9 @@ use Rattle.rhai_values.specs.Value.{Text}
 use Rattle.rhai_meaning.specs.Engine.{Engine}
 use Rattle.rhai_meaning.specs.Small.{CallsOperatorsAlone}
 use Rattle.rhai_meaning.specs.Tree.{Stmts, Script, Function}
-use Rattle.rhai_ast.specs.Reading.{stmts_of, function_of}
-use Rattle.rhai_ast.specs.declared.ast.script_fn.ScriptFuncDef.{ScriptFuncDef}
-use Rattle.rhai_ast.specs.declared.ast.stmt.Stmt.{Stmt}
+use Rattle.rhai_reading.specs.Reading.{stmts_of, function_of}
+use Rattle.rhai_tree.specs.declared.script_fn.ScriptFuncDef.{ScriptFuncDef}
+use Rattle.rhai_tree.specs.declared.stmt.Stmt.{Stmt}
 use Rattle.rhai_script.specs.FnKey.{definitions_table}
 use Rattle.rhai_script.specs.Script.{functions_of, script_of}
 use Rattle.rhai_script.specs.declared.ast.AST.{AST}

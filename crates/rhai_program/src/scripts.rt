@@ -1,9 +1,9 @@
 //! The scripts that the program knows.
-#![tactic(auto, using(rhai_ast::specs::Reading::shapes))]
+#![tactic(auto, using(rhai_reading::specs::Reading::shapes))]
 
 ghost use Rattle.std.specs.Prelude.{◌≡◌, IfOk, Some};
 ghost use Rattle.rhai_tokens.specs.Symbols.{token_text};
-ghost use Rattle.rhai_ast.specs.Reading.{expr_of, stmt_of, stmts_of, mark_of};
+ghost use Rattle.rhai_reading.specs.Reading.{expr_of, stmt_of, stmts_of, mark_of};
 ghost use Rattle.rhai_meaning.specs.Tree.{IntegerConstant};
 ghost use Rattle.rhai_program.specs.Scripts.{operation, evaluates, first_statements};
 

@@ -1,7 +1,7 @@
 -- The shapes that rules look for.
 use Rattle.std.proofs.Common.{◌≡◌, ◌≢◌, ◌≤◌, Bool, true, false, not, ◌&&◌, ◌↔◌, IsTrue, List, [], ◌∷◌, length, Option, Some, None, is_some, refl, sym, ap, arith}
-use Rattle.rhai_ast.specs.declared.ast.stmt.Stmt as declared_stmt
-use Rattle.rhai_ast.specs.Reading.{stmts_of}
+use Rattle.rhai_tree.specs.declared.stmt.Stmt as declared_stmt
+use Rattle.rhai_reading.specs.Reading.{stmts_of}
 use Rattle.rhai_meaning.specs.Constants.{constant_bool}
 use Rattle.rhai_meaning.specs.Tree.{Expr, Noop, If, Block, ExprStmt, FnCallStmt, Stmts, no_stmts, stmt}
 use Rattle.rhai_rewriting.specs.Rules.{block_or_noop}

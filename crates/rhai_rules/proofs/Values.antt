@@ -4,9 +4,9 @@ use Rattle.std.proofs.lemmas.List.{map-append}
 use Rattle.rhai_values.specs.declared.dynamic.Dynamic.{Dynamic}
 use Rattle.rhai_values.specs.Reading.{value_of}
 use Rattle.rhai_values.specs.Value.{Value}
-use Rattle.rhai_ast.specs.declared.ast.expr.Expr as declared_expr
+use Rattle.rhai_tree.specs.declared.expr.Expr as declared_expr
 use Rattle.rhai_meaning.specs.Constants.{array_value, value_and, constant_value, constant_values}
-use Rattle.rhai_ast.specs.Reading.{expr_of, exprs_of}
+use Rattle.rhai_reading.specs.Reading.{expr_of, exprs_of}
 use Rattle.rhai_meaning.specs.Weight.{expr_weight, exprs_weight}
 
 pub some_of_array : (vs : Option (List Value)) → IsSome (array_value vs) → IsSome vs

@@ -1,11 +1,11 @@
 //! The values of constants.
 
-#![tactic(auto, using(rhai_ast::specs::Reading::shapes, rhai_values::specs::Reading::kinds))]
+#![tactic(auto, using(rhai_reading::specs::Reading::shapes, rhai_values::specs::Reading::kinds))]
 
 ghost use Rattle.std.specs.Prelude.{◌≡◌, IfOk, IsSome, Some, map};
 ghost use Rattle.rhai_values.specs.Reading.{value_of};
 ghost use Rattle.rhai_meaning.specs.Constants as constants;
-ghost use Rattle.rhai_ast.specs.Reading.{expr_of, exprs_of};
+ghost use Rattle.rhai_reading.specs.Reading.{expr_of, exprs_of};
 
 use rhai_ast::Expr;
 use rhai_base::{Dynamic, OutOfMemory, Seq};

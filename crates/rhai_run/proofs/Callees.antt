@@ -8,7 +8,7 @@ use Rattle.rhai_base.specs.Operators.{Operator, Plus, Minus, Multiply, Divide, M
 use Rattle.rhai_base.specs.Builtin.{operator_of}
 use Rattle.rhai_tokens.specs.Symbols.{token_text}
 use Rattle.rhai_values.specs.Value.{Text, Value, same_text}
-use Rattle.rhai_ast.specs.declared.ast.expr.Expr.{Expr}
+use Rattle.rhai_tree.specs.declared.expr.Expr.{Expr}
 use Rattle.rhai_meaning.specs.Act.{World}
 use Rattle.rhai_meaning.specs.ActForms.{ask_host}
 use Rattle.rhai_meaning.specs.Calls.{of_table, operate}
@@ -17,7 +17,7 @@ use Rattle.rhai_meaning.specs.Desugar as desugar
 use Rattle.rhai_meaning.specs.Desugar.{callee_by, call_of}
 use Rattle.rhai_meaning.specs.Shape.{is_none, has_token, is_barred}
 use Rattle.rhai_parts.specs.Names.{is_among, barred}
-use Rattle.rhai_ast.specs.Reading.{exprs_of}
+use Rattle.rhai_reading.specs.Reading.{exprs_of}
 use Rattle.rhai_meaning.specs.Tree.{CallToken, NoToken, OfOperator, OfOther, Callee, count_exprs}
 use Rattle.rhai_engine.specs.EngineInfo.{built_in_of, built_in_at}
 use Rattle.rhai_run.specs.Operators.{operator_by, called_operator}

@@ -5,15 +5,15 @@ use Rattle.rhai_values.specs.declared.dynamic.Dynamic.{Dynamic}
 use Rattle.rhai_values.specs.declared.dynamic.Dynamic.TheVariants as value
 use Rattle.rhai_values.specs.Reading.{value_of, value_of-Unit}
 use Rattle.rhai_values.specs.Value.{Value, UnitV}
-use Rattle.rhai_ast.specs.declared.ast.expr.Expr.{Expr}
-use Rattle.rhai_ast.specs.declared.ast.stmt.Stmt.{Stmt}
-use Rattle.rhai_ast.specs.Reading.{expr_of, exprs_of, stmt_of, stmts_of}
+use Rattle.rhai_tree.specs.declared.expr.Expr.{Expr}
+use Rattle.rhai_tree.specs.declared.stmt.Stmt.{Stmt}
+use Rattle.rhai_reading.specs.Reading.{expr_of, exprs_of, stmt_of, stmts_of}
 use Rattle.rhai_meaning.specs.Tree as tree
 use Rattle.rhai_meaning.specs.Act.{Gives, Outcome, Ended, At, Act, Acts, Scoped, and_then, leave, restore, run, run_all}
 use Rattle.rhai_meaning.specs.ActForms.{value_then, each_value, ◌>>=◌}
 use Rattle.rhai_meaning.specs.Core as core
 use Rattle.rhai_meaning.specs.Meaning.{act, acts, deed, with_args}
-use Rattle.rhai_ast.proofs.ItemLists.{exprs_of-drop, stmts_of-drop}
+use Rattle.rhai_reading.proofs.ItemLists.{exprs_of-drop, stmts_of-drop}
 use Rattle.rhai_run.specs.declared.plain.state.Interrupt.{Interrupt}
 use Rattle.rhai_run.specs.declared.plain.state.Interrupt.TheVariants.{NoMemory, Throw, Stuck}
 use Rattle.rhai_run.specs.declared.plain.state.State.{State}

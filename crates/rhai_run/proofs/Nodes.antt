@@ -8,16 +8,16 @@ use Rattle.rhai_base.specs.Operators.{Operator}
 use Rattle.rhai_values.specs.Reading.{value_of}
 use Rattle.rhai_base.specs.Builtin.{operator_of}
 use Rattle.rhai_values.specs.Value.{UnitV, ArrayV, values}
-use Rattle.rhai_ast.specs.declared.ast.expr.Expr.{Expr}
-use Rattle.rhai_ast.specs.declared.ast.expr.Expr.TheVariants as expr_kind
-use Rattle.rhai_ast.specs.declared.ast.expr.FnCallExpr.{FnCallExpr}
+use Rattle.rhai_tree.specs.declared.expr.Expr.{Expr}
+use Rattle.rhai_tree.specs.declared.expr.Expr.TheVariants as expr_kind
+use Rattle.rhai_tree.specs.declared.expr.FnCallExpr.{FnCallExpr}
 use Rattle.rhai_meaning.specs.Act.{Gives, IsStuck, WrongKind, Ended, Halted, Act, run}
 use Rattle.rhai_meaning.specs.ActForms.{give, branch, if_true, ◌>>=◌}
 use Rattle.rhai_meaning.specs.Calls.{called, operate}
 use Rattle.rhai_meaning.specs.Core as core
 use Rattle.rhai_meaning.specs.Desugar.{call_of, core_exprs}
 use Rattle.rhai_meaning.specs.Meaning.{act, acts}
-use Rattle.rhai_ast.specs.Reading.{callee_of, expr_of, exprs_of, expr_of-Array}
+use Rattle.rhai_reading.specs.Reading.{callee_of, expr_of, exprs_of, expr_of-Array}
 use Rattle.rhai_meaning.specs.Run.{reversed}
 use Rattle.rhai_meaning.specs.Tree as tree
 use Rattle.rhai_run.specs.declared.plain.state.Interrupt.{Interrupt}

@@ -1,8 +1,8 @@
 -- What a script is: a source, a doc, a list of statements and a table of functions with an id; and what is made of two.
 use Rattle.std.specs.Prelude.{List, [], ◌++◌, Option, None}
 use Rattle.rhai_values.specs.Value.{Text}
-use Rattle.rhai_ast.specs.declared.ast.stmt.Stmt.{Stmt}
-use Rattle.rhai_ast.specs.declared.ast.script_fn.ScriptFuncDef.{ScriptFuncDef}
+use Rattle.rhai_tree.specs.declared.stmt.Stmt.{Stmt}
+use Rattle.rhai_tree.specs.declared.script_fn.ScriptFuncDef.{ScriptFuncDef}
 use Rattle.rhai_script.specs.declared.ast.AST.{AST}
 use Rattle.rhai_script.specs.FnKey.{definition_key}
 use Rattle.rhai_script.specs.Table.{put_all_by}

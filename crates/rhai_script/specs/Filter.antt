@@ -2,8 +2,8 @@
 use Rattle.std.specs.Prelude.{◌≡◌, ℕ, Bool, true, List, length}
 use Rattle.std.specs.Borrow.{Bor}
 use Rattle.std.specs.Fn.{Shared}
-use Rattle.rhai_ast.specs.declared.ast.script_fn.FnAccess.{FnAccess}
-use Rattle.rhai_ast.specs.declared.ast.script_fn.ScriptFuncDef.{ScriptFuncDef}
+use Rattle.rhai_tree.specs.declared.script_fn.FnAccess.{FnAccess}
+use Rattle.rhai_tree.specs.declared.script_fn.ScriptFuncDef.{ScriptFuncDef}
 use Rattle.rhai_script.specs.declared.filter.FnNamespace.{FnNamespace}
 use Rattle.rhai_script.specs.declared.filter.FnNamespace.TheVariants.{Internal}
 

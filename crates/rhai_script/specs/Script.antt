@@ -1,7 +1,7 @@
 -- The functions that a table holds, and the script that an `AST` stands for.
 use Rattle.std.specs.Prelude.{List, map}
 use Rattle.rhai_meaning.specs.Tree.{Function, Script}
-use Rattle.rhai_ast.specs.Reading.{stmts_of, function_of}
+use Rattle.rhai_reading.specs.Reading.{stmts_of, function_of}
 use Rattle.rhai_script.specs.declared.fn_lib.FnLib.{FnLib}
 use Rattle.rhai_script.specs.declared.ast.AST.{AST}
 

@@ -3,8 +3,8 @@ ghost use Rattle.std.specs.Prelude.{◌≡◌, ◌≢◌, ◌++◌, [], List, ma
 ghost use Rattle.std.specs.Option.{option_copied};
 ghost use Rattle.std.specs.Rc.{rc_value};
 ghost use Rattle.std.specs.List.Retain.{IsFiltered};
-ghost use Rattle.rhai_ast.specs.Reading.{stmts_of};
-ghost use Rattle.rhai_ast.specs.declared.ast.script_fn.ScriptFuncDef.{ScriptFuncDef as definition};
+ghost use Rattle.rhai_reading.specs.Reading.{stmts_of};
+ghost use Rattle.rhai_tree.specs.declared.script_fn.ScriptFuncDef.{ScriptFuncDef as definition};
 ghost use Rattle.rhai_script.specs.Contents.{contents, with_source, without_source, with_doc, with_table, with_functions, without_statements, merged, combined};
 ghost use Rattle.rhai_script.specs.Filter.{Answers, AnswersShort};
 ghost use Rattle.rhai_script.specs.FnKey.{definitions_table};
@@ -30,7 +30,7 @@ pub struct AST {
 impl Clone for AST {
     ghost is_clone = { λ s t. contents t ≡ contents s };
 
-    #[tactic(auto, using(rhai_ast::proofs::Copies::copies))]
+    #[tactic(auto, using(rhai_tree::proofs::Copies::copies))]
     fn clone(&self) -> Result<AST, AllocError> {
         let source = self.source.clone()?;
         let doc = self.doc.clone()?;

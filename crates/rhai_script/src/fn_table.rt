@@ -4,7 +4,7 @@ ghost use Rattle.std.specs.Option.{option_copied, option_map};
 ghost use Rattle.std.specs.List.Retain.{IsFiltered};
 ghost use Rattle.std.specs.Rc.{rc_value};
 ghost use Rattle.std.specs.Iterator.{YieldsFirstBy, item_count};
-ghost use Rattle.rhai_ast.specs.Reading.{function_of};
+ghost use Rattle.rhai_reading.specs.Reading.{function_of};
 ghost use Rattle.rhai_script.specs.Table.{are_distinct, key_of, put_by, put_all_by, find_by};
 ghost use Rattle.rhai_script.specs.FnKey.{definition_key, fn_key_of, key_meant, shown};
 ghost use Rattle.rhai_script.specs.Filter.{Answers, AnswersShort};
@@ -64,8 +64,8 @@ impl Model for FnTable {
     ghost use Rattle.std.specs.Coded.{coded_list};
     ghost use Rattle.std.specs.Rc.{rc_value};
     ghost use Rattle.indexmap.specs.IndexMap.{keys, values};
-    ghost use Rattle.rhai_ast.specs.declared.ast.script_fn.ScriptFuncDef.{ScriptFuncDef};
-    ghost use Rattle.rhai_ast.specs.contracts.ast.script_fn.ScriptFuncDef as function;
+    ghost use Rattle.rhai_tree.specs.declared.script_fn.ScriptFuncDef.{ScriptFuncDef};
+    ghost use Rattle.rhai_tree.specs.contracts.script_fn.ScriptFuncDef as function;
     ghost use Rattle.rhai_script.specs.FnKey.{IsTable};
 
     ghost Value = { List ScriptFuncDef };
@@ -202,8 +202,8 @@ impl<'a> Model for FnLibIter<'a> {
     ghost use Rattle.std.specs.Prelude.{List, map};
     ghost use Rattle.std.specs.Coded.{coded_list};
     ghost use Rattle.std.specs.Rc.{rc_value};
-    ghost use Rattle.rhai_ast.specs.declared.ast.script_fn.ScriptFuncDef.{ScriptFuncDef};
-    ghost use Rattle.rhai_ast.specs.contracts.ast.script_fn.ScriptFuncDef as function;
+    ghost use Rattle.rhai_tree.specs.declared.script_fn.ScriptFuncDef.{ScriptFuncDef};
+    ghost use Rattle.rhai_tree.specs.contracts.script_fn.ScriptFuncDef as function;
 
     ghost Value = { List ScriptFuncDef };
 

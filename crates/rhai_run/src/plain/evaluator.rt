@@ -1,12 +1,12 @@
 //! The recursion over a tree.
 
-#![tactic(auto, using(rhai_ast::specs::Reading::shapes, rhai_values::specs::Reading::kinds))]
+#![tactic(auto, using(rhai_reading::specs::Reading::shapes, rhai_values::specs::Reading::kinds))]
 
 ghost use Rattle.std.specs.Prelude.{◌≡◌, Some, map};
 ghost use Rattle.rhai_values.specs.Reading.{value_of};
 ghost use Rattle.rhai_base.specs.Builtin.{operator_of};
 ghost use Rattle.rhai_meaning.specs.Core.{If};
-ghost use Rattle.rhai_ast.specs.Reading.{callee_of, expr_of, exprs_of, stmt_of, stmts_of};
+ghost use Rattle.rhai_reading.specs.Reading.{callee_of, expr_of, exprs_of, stmt_of, stmts_of};
 ghost use Rattle.rhai_meaning.specs.ActForms.{ask_host};
 ghost use Rattle.rhai_meaning.specs.Calls.{operate};
 ghost use Rattle.rhai_meaning.specs.Small.{small_expr_of, small_stmts_of};

@@ -7,7 +7,7 @@ ghost use Rattle.rhai_base.specs.Builtin.{answered, computed_of};
 ghost use Rattle.rhai_values.specs.Reading.{value_of};
 ghost use Rattle.rhai_values.specs.Value.{TextV};
 ghost use Rattle.rhai_meaning.specs.Shape.{has_token};
-ghost use Rattle.rhai_ast.specs.Reading.{callee_of, mark_of};
+ghost use Rattle.rhai_reading.specs.Reading.{callee_of, mark_of};
 ghost use Rattle.rhai_engine.specs.EngineInfo.{built_in_at, engine_of};
 ghost use Rattle.rhai_run.specs.Operators as spec;
 

@@ -1,6 +1,6 @@
 use Rattle.std.proofs.Common.{List, length, ap, arith}
 use borrow.Author.Tests.{ltb-true, ltb-false}
-use Rattle.rhai_ast.specs.declared.ast.expr.Expr.{Expr}
+use Rattle.rhai_tree.specs.declared.expr.Expr.{Expr}
 use Rattle.rhai_engine.specs.EngineInfo.{engine_of}
 use Rattle.rhai_folding.proofs.Tokens.{folded-few, folded-many}
 use Rattle.rhai_folding.proofs.folding.folded.Goals as goal

@@ -1,7 +1,7 @@
 use Rattle.std.proofs.Common.{◌≡◌, [], ◌++◌, drop, string_bytes}
 use denote.Text.{Utf8}
 use denote.Shadow.{shadow}
-use Rattle.rhai_ast.specs.Reading.{exprs_of, stmts_of}
+use Rattle.rhai_reading.specs.Reading.{exprs_of, stmts_of}
 use Rattle.rhai_notation.specs.Notation.{exprs_text, stmts_text}
 use Rattle.rhai_notation.proofs.notation.+notation.Given as goal
 

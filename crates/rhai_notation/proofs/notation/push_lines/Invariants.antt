@@ -1,5 +1,5 @@
 use Rattle.std.proofs.Common.{◌≡◌, ◌++◌, drop, string_bytes}
-use Rattle.rhai_ast.specs.Reading.{stmts_of}
+use Rattle.rhai_reading.specs.Reading.{stmts_of}
 use Rattle.rhai_notation.specs.Notation.{lines_text}
 use Rattle.rhai_notation.proofs.notation.push_lines.Given as goal
 

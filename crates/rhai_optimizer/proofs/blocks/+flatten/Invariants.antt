@@ -1,5 +1,5 @@
 use Rattle.std.proofs.Common.{◌+◌, ◌*◌, length}
-use Rattle.rhai_ast.specs.Reading.{stmt_of, stmts_of}
+use Rattle.rhai_reading.specs.Reading.{stmt_of, stmts_of}
 use Rattle.rhai_meaning.specs.Weight.{stmt_weight, weight}
 use Rattle.rhai_optimizer.proofs.Flattening.{MovesSoFar}
 use Rattle.rhai_optimizer.proofs.blocks.+flatten.Given as goal

@@ -1,5 +1,5 @@
 use Rattle.std.proofs.Common.{ap, ◌∙◌}
-use Rattle.rhai_ast.specs.Reading.{stmts_of}
+use Rattle.rhai_reading.specs.Reading.{stmts_of}
 use Rattle.rhai_script.specs.Script.{script_of}
 use Rattle.rhai_program.proofs.Shows.{pushed_show}
 use Rattle.rhai_program.proofs.program.show.Goals as goal

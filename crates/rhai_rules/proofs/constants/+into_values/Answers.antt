@@ -1,6 +1,6 @@
 use Rattle.std.proofs.Common.{List, ap, ◌∙◌, arith}
-use Rattle.rhai_ast.specs.declared.ast.expr.Expr.{Expr}
-use Rattle.rhai_ast.specs.Reading.{expr_of, exprs_of, expr_of-Array}
+use Rattle.rhai_tree.specs.declared.expr.Expr.{Expr}
+use Rattle.rhai_reading.specs.Reading.{expr_of, exprs_of, expr_of-Array}
 use Rattle.rhai_meaning.specs.Weight.{expr_weight, exprs_weight}
 use Rattle.rhai_rules.proofs.Values.{some_of_array, reads_more, reads_first, reads_end}
 use Rattle.rhai_rules.proofs.constants.+into_values.Goals as goal

@@ -1,5 +1,5 @@
 use Rattle.std.proofs.Common.{◌+◌, ◌*◌, length}
-use Rattle.rhai_ast.specs.Reading.{expr_of, exprs_of}
+use Rattle.rhai_reading.specs.Reading.{expr_of, exprs_of}
 use Rattle.rhai_meaning.specs.Weight.{expr_weight, exprs_weight}
 use Rattle.rhai_rules.proofs.Values.{Reads}
 use Rattle.rhai_rules.proofs.constants.+into_values.Given as goal

@@ -1,6 +1,6 @@
 use Rattle.std.proofs.Common.{List, ap, ◌∙◌}
-use Rattle.rhai_ast.specs.declared.ast.stmt.Stmt.{Stmt}
-use Rattle.rhai_ast.specs.Reading.{stmts_of}
+use Rattle.rhai_tree.specs.declared.stmt.Stmt.{Stmt}
+use Rattle.rhai_reading.specs.Reading.{stmts_of}
 use Rattle.rhai_meaning.specs.Tree.{BlockExpr, no_stmts, stmt}
 use Rattle.rhai_rules.proofs.Settling.{expr_fired_as}
 use Rattle.rhai_rules.proofs.Shapes.{braces-none}

@@ -1,7 +1,7 @@
 use Rattle.std.proofs.Common.{sym, ap, ◌∙◌}
 use Rattle.std.proofs.lemmas.Result.{IfOk-weaker}
-use Rattle.rhai_ast.specs.declared.ast.stmt.StmtBlock.{StmtBlock}
-use Rattle.rhai_ast.specs.Reading.{expr_of, stmts_of, expr_of-Array, expr_of-Stmt}
+use Rattle.rhai_tree.specs.declared.block.StmtBlock.{StmtBlock}
+use Rattle.rhai_reading.specs.Reading.{expr_of, stmts_of, expr_of-Array, expr_of-Stmt}
 use Rattle.rhai_meaning.specs.Tree.{BlockExpr}
 use Rattle.rhai_rules.proofs.Settling.{expr_fired_as}
 use Rattle.rhai_rules.proofs.Shapes.{not-false}

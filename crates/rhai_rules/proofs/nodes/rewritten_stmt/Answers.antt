@@ -1,9 +1,9 @@
 use Rattle.std.proofs.Common.{sym, ap, ◌∙◌}
 use Rattle.std.proofs.lemmas.Result.{IfOk-weaker}
-use Rattle.rhai_ast.specs.declared.ast.expr.Expr.{Expr}
-use Rattle.rhai_ast.specs.declared.ast.stmt.FlowControl.{FlowControl}
-use Rattle.rhai_ast.specs.declared.ast.stmt.StmtBlock.{StmtBlock}
-use Rattle.rhai_ast.specs.Reading.{expr_of, stmt_of, stmts_of, stmt_of-If, stmt_of-Block, stmt_of-Expr}
+use Rattle.rhai_tree.specs.declared.expr.Expr.{Expr}
+use Rattle.rhai_tree.specs.declared.stmt.FlowControl.{FlowControl}
+use Rattle.rhai_tree.specs.declared.block.StmtBlock.{StmtBlock}
+use Rattle.rhai_reading.specs.Reading.{expr_of, stmt_of, stmts_of, stmt_of-If, stmt_of-Block, stmt_of-Expr}
 use Rattle.rhai_meaning.specs.Tree.{If, Block, ExprStmt}
 use Rattle.rhai_rules.proofs.Settling.{stmt_fired_as}
 use Rattle.rhai_rules.proofs.nodes.rewritten_stmt.Goals as goal

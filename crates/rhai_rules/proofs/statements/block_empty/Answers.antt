@@ -1,5 +1,5 @@
 use Rattle.rhai_rewriting.specs.Rules.{block_empty}
-use Rattle.rhai_ast.specs.Reading.{stmt_of-Noop}
+use Rattle.rhai_reading.specs.Reading.{stmt_of-Noop}
 use Rattle.rhai_rewriting.proofs.Firing.{stmt_fires}
 use Rattle.rhai_rules.proofs.statements.block_empty.Goals as goal
 

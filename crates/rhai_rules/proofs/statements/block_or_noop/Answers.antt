@@ -1,5 +1,5 @@
 use Rattle.std.proofs.Common.{◌∙◌}
-use Rattle.rhai_ast.specs.Reading.{stmts_of, stmt_of-Noop, stmt_of-Block}
+use Rattle.rhai_reading.specs.Reading.{stmts_of, stmt_of-Noop, stmt_of-Block}
 use Rattle.rhai_rules.proofs.Shapes.{block_or_noop-none, block_or_noop-some}
 use Rattle.rhai_rules.proofs.statements.block_or_noop.Goals as goal
 

@@ -1,7 +1,7 @@
 use Rattle.std.proofs.Common.{◌≡◌, ap, ◌∙◌}
 use Rattle.std.proofs.lemmas.Result.{IfOk-weaker}
-use Rattle.rhai_ast.specs.declared.ast.stmt.Stmt.{Stmt}
-use Rattle.rhai_ast.specs.Reading.{stmt_of, stmts_of}
+use Rattle.rhai_tree.specs.declared.stmt.Stmt.{Stmt}
+use Rattle.rhai_reading.specs.Reading.{stmt_of, stmts_of}
 use Rattle.rhai_rewriting.specs.Rules.{if_decided, block_or_noop}
 use Rattle.rhai_rewriting.proofs.Firing.{stmt_fires}
 use Rattle.rhai_rules.proofs.statements.if_decided.Goals as goal

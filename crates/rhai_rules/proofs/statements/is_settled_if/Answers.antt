@@ -1,4 +1,4 @@
-use Rattle.rhai_ast.specs.Reading.{expr_of}
+use Rattle.rhai_reading.specs.Reading.{expr_of}
 use Rattle.rhai_rules.proofs.Shapes.{settled_if-none, settled_if-some}
 use Rattle.rhai_rules.proofs.statements.is_settled_if.Goals as goal
 

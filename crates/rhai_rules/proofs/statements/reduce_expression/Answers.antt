@@ -1,5 +1,5 @@
 use Rattle.std.proofs.Common.{ap, ◌∙◌}
-use Rattle.rhai_ast.specs.Reading.{expr_of, expr_of-Stmt, expr_of-FnCall}
+use Rattle.rhai_reading.specs.Reading.{expr_of, expr_of-Stmt, expr_of-FnCall}
 use Rattle.rhai_meaning.specs.Tree.{ExprStmt}
 use Rattle.rhai_rules.proofs.Settling.{stmt_fired_as}
 use Rattle.rhai_rules.proofs.statements.reduce_expression.Goals as goal

@@ -1,6 +1,6 @@
 use Rattle.std.proofs.Common.{refl, sym, ◌∙◌}
 use Rattle.std.proofs.lemmas.Result.{IfOk-weaker}
-use Rattle.rhai_ast.specs.Reading.{expr_of}
+use Rattle.rhai_reading.specs.Reading.{expr_of}
 use Rattle.rhai_rules.proofs.Settling.{stmt_fired_as}
 use Rattle.rhai_rules.proofs.Shapes.{bare-if, undecided}
 use Rattle.rhai_rules.proofs.statements.reduce_if.Goals as goal

@@ -1,5 +1,5 @@
 use Rattle.std.proofs.Common.{◌∙◌}
-use Rattle.rhai_ast.specs.Reading.{stmts_of, stmt_of-Block, stmt_of-Noop}
+use Rattle.rhai_reading.specs.Reading.{stmts_of, stmt_of-Block, stmt_of-Noop}
 use Rattle.rhai_rewriting.specs.Rules.{statement_of_braces}
 use Rattle.rhai_rewriting.proofs.Firing.{stmt_fires}
 use Rattle.rhai_rules.proofs.Shapes.{block_or_noop-none, block_or_noop-some}

@@ -1,5 +1,5 @@
 use Rattle.rhai_rewriting.specs.Rules.{statement_of_call}
-use Rattle.rhai_ast.specs.Reading.{stmt_of-FnCall}
+use Rattle.rhai_reading.specs.Reading.{stmt_of-FnCall}
 use Rattle.rhai_rewriting.proofs.Firing.{stmt_fires}
 use Rattle.rhai_rules.proofs.statements.statement_of_call.Goals as goal
 

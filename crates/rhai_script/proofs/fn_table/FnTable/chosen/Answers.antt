@@ -1,7 +1,7 @@
 use Rattle.std.proofs.Common.{◌≡◌, [], ◌∷◌, ◌++◌, true, false, map, subst, arith}
 use Rattle.std.proofs.lemmas.Grind.{common_steps}
 use Rattle.std.specs.Rc.{rc_value}
-use Rattle.rhai_ast.specs.declared.ast.script_fn.ScriptFuncDef.{ScriptFuncDef}
+use Rattle.rhai_tree.specs.declared.script_fn.ScriptFuncDef.{ScriptFuncDef}
 use Rattle.rhai_script.specs.Filter.{Answers}
 use Rattle.rhai_script.proofs.Choices.{chooses-taken, chooses-passed, chooses-end}
 use Rattle.rhai_script.proofs.fn_table.FnTable.chosen.Goals as goal

@@ -1,5 +1,5 @@
 use Rattle.std.proofs.Common.{map, ap, sym, ◌∙◌}
-use Rattle.rhai_ast.specs.Reading.{function_of}
+use Rattle.rhai_reading.specs.Reading.{function_of}
 use Rattle.rhai_script.specs.Table.{are_distinct, key_of}
 use Rattle.rhai_script.proofs.fn_table.FnTable.iter.Goals as goal
 

@@ -1,6 +1,6 @@
 use Rattle.std.proofs.Common.{refl, arith}
 use Rattle.std.proofs.lemmas.Result.{err_from_is_err_and}
-use Rattle.rhai_ast.specs.Reading.{stmt_of-If}
+use Rattle.rhai_reading.specs.Reading.{stmt_of-If}
 use Rattle.rhai_run.specs.declared.plain.state.State.{State}
 use Rattle.rhai_run.proofs.Evaluating.{line_runs, args_start, args_next, args_interrupted, args_end, stmts_start, stmts_next, stmts_interrupted, stmts_end}
 use Rattle.rhai_run.proofs.Nodes.{array_stops, call_stuck, call_stops, call_runs, choice_stuck, block_runs}

@@ -1,4 +1,0 @@
-pub mod Copies
-pub mod ItemLists
-pub mod Literals
-pub mod Pointers

@@ -1,4 +1,0 @@
-pub mod Literals
-pub mod Positions
-pub mod Reading
-pub mod SwitchTable

@@ -1,0 +1,2 @@
+pub mod PlainArms
+pub mod Scripts
