@@ -78,7 +78,10 @@ impl Clone for SwitchBlock {
 }
 
 /// What was made before beside what is made next, where that is not refused.
-fn both<A: Drop, B>(first: A, second: Result<B, AllocError>) -> Result<(A, B), AllocError>
+pub(crate) fn both<A: Drop, B>(
+    first: A,
+    second: Result<B, AllocError>,
+) -> Result<(A, B), AllocError>
     ensures { IfOk result (λ p. (p.0 ≡ first) × (second ≡ Ok p.1)) }
 {
     Ok((first, second?))

@@ -3,6 +3,7 @@
 ghost use Rattle.std.specs.Prelude.{◌≡◌};
 
 use crate::StmtBlock;
+use crate::copy::both;
 use rhai_base::{ImmutableString, Seq};
 use std::alloc::AllocError;
 
@@ -42,11 +43,10 @@ impl Clone for ScriptFuncDef {
 
     #[tactic(auto, using(crate::proofs::Copies::copies))]
     fn clone(&self) -> Result<ScriptFuncDef, AllocError> {
-        let body = self.body.clone()?;
-        let name = self.name.clone()?;
-        let this_type = self.this_type.clone()?;
-        let params = self.params.clone()?;
-        let comments = self.comments.clone()?;
+        let start = both(self.body.clone()?, self.name.clone())?;
+        let start = both(start, self.this_type.clone())?;
+        let start = both(start, self.params.clone())?;
+        let ((((body, name), this_type), params), comments) = both(start, self.comments.clone())?;
         Ok(ScriptFuncDef {
             body,
             name,
