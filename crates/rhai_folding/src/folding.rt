@@ -12,7 +12,7 @@ ghost use Rattle.rhai_engine.specs.EngineInfo.{engine_of};
 ghost use Rattle.rhai_folding.specs.Answers.{answer_value};
 ghost use Rattle.rhai_rewriting.specs.Folding as spec;
 
-use rhai_ast::{Expr, FnCallExpr};
+use rhai_ast::{Expr, FnCallExpr, Literals};
 use rhai_base::{Dynamic, Fault, OutOfMemory, Token};
 use rhai_engine::EngineInfo;
 use std::alloc::Global;

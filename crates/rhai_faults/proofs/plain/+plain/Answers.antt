@@ -18,9 +18,9 @@ are_plain_ranges-returns-then-not-is_plain_at t c =
     let arms = c.args.arms.now in
     let rest = ranges_plain arms (drop (c.loop-range.range-index + 1) c.args.ranges.now) in
     sym
-      (c.loop-range.invariant ∙ ranges-drop arms c.args.ranges.now c.loop-range.range-index _ c.loop-range-test.true
-      ∙ ap (λ (i : ℕ). is_plain_if_any (slice_get arms i) && rest) (sym c.index.ensures)
-      ∙ ap (λ b. b && rest) (sym c.is_plain_at.ensures ∙ c.if-not-is_plain_at.true))
+    (c.loop-range.invariant ∙ ranges-drop arms c.args.ranges.now c.loop-range.range-index _ c.loop-range-test.true
+    ∙ ap (λ (i : ℕ). is_plain_if_any (slice_get arms i) && rest) (sym c.index.ensures)
+    ∙ ap (λ b. b && rest) (sym c.is_plain_at.ensures ∙ c.if-not-is_plain_at.true))
 
 pub are_plain_ranges-loop-range-preserved : goal.are_plain_ranges-loop-range-preserved
 are_plain_ranges-loop-range-preserved t c =
