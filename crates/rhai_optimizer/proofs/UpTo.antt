@@ -1,13 +1,14 @@
 -- A list that is rewritten in its own memory, an item at a time: the first n are done, the others are to come.
-use Rattle.std.proofs.Common.{◌≡◌, ◌<◌, ◌≤◌, ℕ, ◌+◌, Bool, List, [], ◌∷◌, ◌++◌, length, get_or, set, take, drop, refl, sym, ap, ◌∙◌, subst, arith, append_assoc, append-nil}
+use Rattle.std.proofs.Common.{◌≡◌, ◌<◌, ◌≤◌, ℕ, ◌+◌, Bool, true, false, List, [], ◌∷◌, ◌++◌, length, get_or, set, take, drop, refl, sym, ap, ◌∙◌, subst, arith, append_assoc, append-nil}
 use Rattle.std.proofs.lemmas.List.{drop_more, drop_all, take_all, take_more_set, drop-set-lt, length-set}
 use Rattle.rhai_tree.specs.declared.expr.Expr as declared_expr
 use Rattle.rhai_tree.specs.declared.stmt.Stmt as declared_stmt
-use Rattle.rhai_reading.specs.Reading.{expr_of, exprs_of, stmt_of, stmts_of}
+use Rattle.rhai_reading.specs.Reading.{expr_of, exprs_of, stmt_of, stmts_of, StmtCase, stmt_cases, noop_case, if_case, block_case, expr_case, stmt_call_case, stmt_of-Noop, stmt_of-If, stmt_of-Block, stmt_of-Expr, stmt_of-FnCall}
 use Rattle.rhai_rewriting.specs.Context.{Context, ListKind, wanted, wanted_before}
-use Rattle.rhai_rewriting.specs.Rewriting.{exprs_none, exprs_more, same_stmts, then_stmts, in_head, in_tail}
+use Rattle.rhai_rewriting.specs.Rewriting.{exprs_none, exprs_more, same_stmts, then_stmts, in_head}
 use Rattle.rhai_rewriting.specs.Steps.{ExprRun, ExprsRun, StmtRun, EachRun}
 use Rattle.rhai_meaning.specs.Weight.{expr_weight, exprs_weight, stmt_weight, weight}
+use Rattle.rhai_rewriting.proofs.Firing.{declares, in_tail_same}
 use Rattle.rhai_rewriting.proofs.Flags.{exprs_kept, stmts_kept}
 
 -- ---- for any items
@@ -25,17 +26,8 @@ pub record UpTo {X : Type 0} (weigh_all : List X → ℕ) (Items : Bool → Bool
   pub fits : weigh_all (drop n here) ≤ weigh_all all
   pub to : (d2 : Bool) (new : List X) → Items d1 d2 (drop n here) new → Items d d2 all (take n here ++ new)
 
-pub up_start : {X : Type 0} {weigh_all : List X → ℕ} {Items : Bool → Bool → List X → List X → Type 0} {d : Bool} {all : List X} → UpTo weigh_all Items d d all all 0
-up_start = record { len = refl; fits = omega arith; to = λ d2 new p. p }
-
 drop-item : {X : Type 0} (xs : List X) (n : ℕ) (x : X) → n < length xs → x ≡ get_or xs n x → drop n xs ≡ x ∷ drop (n + 1) xs
 drop-item xs n x lt h = drop_more xs n x lt ∙ ap (λ y. y ∷ drop (n + 1) xs) (sym h)
-
-pub up_fit : {X : Type 0} {weigh : X → ℕ} {weigh_all : List X → ℕ} {Item : List X → Bool → Bool → X → X → Type 0} {Items : Bool → Bool → List X → List X → Type 0} {d d1 : Bool} {all here : List X} {n : ℕ} (x : X) → ByItems weigh weigh_all Item Items → UpTo weigh_all Items d d1 all here n → n < length all → x ≡ get_or here n x → weigh x ≤ weigh_all all
-up_fit {weigh = weigh} {weigh_all = weigh_all} {all = all} {here = here} {n = n} x by s lt h =
-    let l = s.len in
-    let fits : weigh_all (x ∷ drop (n + 1) here) ≤ weigh_all all = subst (λ rest. weigh_all rest ≤ weigh_all all) (drop-item here n x (omega arith) h) s.fits in
-    omega (arith, by.heavier x (drop (n + 1) here))
 
 pub up_next : {X : Type 0} {weigh : X → ℕ} {weigh_all : List X → ℕ} {Item : List X → Bool → Bool → X → X → Type 0} {Items : Bool → Bool → List X → List X → Type 0} {d d1 d2 : Bool} {all here : List X} {n : ℕ} {x : X} (y : X) → ByItems weigh weigh_all Item Items → UpTo weigh_all Items d d1 all here n → n < length all → x ≡ get_or here n x → Item (drop (n + 1) here) d1 d2 x y → UpTo weigh_all Items d d2 all (set here n y) (n + 1)
 up_next {weigh_all = weigh_all} {Items = Items} {d = d} {d1 = d1} {d2 = d2} {all = all} {here = here} {n = n} {x = x} y by s lt h i =
@@ -100,9 +92,20 @@ pub record StmtItems (k : Context) (m : ListKind) (d d' : Bool) (ss ss' : List d
 pub stmt_item : {k : Context} {m : ListKind} {w d d' : Bool} {rest : List declared_stmt.Stmt} {s s' : declared_stmt.Stmt} → w ≡ wanted_before (wanted m) (stmts_of rest) → StmtRun k w d d' (stmt_of s) (stmt_of s') → StmtItem k m rest d d' s s'
 stmt_item {k = k} {d = d} {d' = d'} {s = s} {s' = s'} h r = record { run = subst (λ w. StmtRun k w d d' (stmt_of s) (stmt_of s')) h r }
 
+-- the declared statements declare no name
+declares_case : {s : declared_stmt.Stmt} → StmtCase s → declares (stmt_of s) ≡ false
+declares_case (noop_case p) = ap declares (stmt_of-Noop p)
+declares_case (if_case x p) = ap declares (stmt_of-If x p)
+declares_case (block_case b) = ap declares (stmt_of-Block b)
+declares_case (expr_case e) = ap declares (stmt_of-Expr e)
+declares_case (stmt_call_case c p) = ap declares (stmt_of-FnCall c p)
+
+declares_none : (s : declared_stmt.Stmt) → declares (stmt_of s) ≡ false
+declares_none s = declares_case (stmt_cases s)
+
 pub stmts_by : (k : Context) (m : ListKind) → ByItems stmt_weighs stmts_weigh (StmtItem k m) (StmtItems k m)
 stmts_by k m = record {
-  none = record { run = record { to = same_stmts; reduced = λ h. tt } };
-  more = λ i r. record { run = record { to = then_stmts (in_head i.run.to) (in_tail r.run.to); reduced = λ h. (i.run.reduced (stmts_kept r.run.to h).0, r.run.reduced h) } };
+  none = record { run = record { to = λ u. same_stmts; reduced = λ h. tt } };
+  more = λ {x = x} {y = y} i r. record { run = record { to = λ u. then_stmts (in_head i.run.to) (in_tail_same (declares_none y) r.run.to); reduced = λ h. (i.run.reduced (stmts_kept (r.run.to true) h).0, r.run.reduced h) } };
   heavier = λ x rest. omega arith;
 }

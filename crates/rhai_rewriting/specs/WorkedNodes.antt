@@ -1,20 +1,21 @@
--- For each rule on operands, texts, maps, the language's own functions, chains, loops and `try` a small script, what it
+-- For rules on operands, texts, maps, the language's own functions, chains, loops, `try` and `switch` a small script, what it
 -- may be rewritten to, and what both do.
 use Rattle.std.specs.Prelude.{◌≡◌, true, false, ℕ, List, [], ◌∷◌, Option, Some, None, pos, codes, refl}
 use Prim.Native.String.{String}
 use native.Mathlib.Bridge.{le_by_compare, IsLe}
-use Rattle.rhai_values.specs.Value.{Value, UnitV, BoolV, TextV, ArrayV, MapV, PointerV, values, field, no_fields, text_of}
+use Rattle.rhai_values.specs.Value.{Value, UnitV, BoolV, TextV, ArrayV, MapV, PointerV, values, field, no_fields, text_of, CharV}
+use Rattle.rhai_meaning.specs.Elements.{character}
 use Rattle.rhai_meaning.specs.Act.{HostCall, WrongKind}
 use Rattle.rhai_meaning.specs.Control.{texts_joined}
 use Rattle.rhai_meaning.specs.Run.{WithValue, WithStuck}
-use Rattle.rhai_meaning.specs.Tree.{SwitchCase, SwitchTable, ChainFlags, Expr, DynamicConstant, BoolConstant, StringConstant, UnitConstant, InterpolatedString, ArrayOf, MapOf, Property, MethodCall, FnCall, Dot, Index, And, Or, Coalesce, Noop, While, TryCatch, ExprStmt, BreakLoop, no_expr, exprs, pairs, arms, stmts, BlockExpr, If, Switch, Block}
+use Rattle.rhai_meaning.specs.Tree.{FnCallStmt, SwitchCase, SwitchTable, ChainFlags, Expr, DynamicConstant, BoolConstant, StringConstant, UnitConstant, InterpolatedString, ArrayOf, MapOf, Property, MethodCall, FnCall, Dot, Index, And, Or, Coalesce, Noop, While, TryCatch, ExprStmt, BreakLoop, no_expr, exprs, pairs, arms, stmts, BlockExpr, If, Switch, Block, Var, SwitchRange, ExclusiveInt, Arms}
 use Rattle.rhai_meaning.specs.WorkedForms.{int, call, nothing_set, joining, ran, ran_with, ends, i}
 use Rattle.rhai_rewriting.specs.Context.{under}
 use Rattle.rhai_rewriting.specs.Operands.{passing_goes, after_deciding_go, pure_before_deciding_goes, in_other_operands, unit_goes, after_some_go, texts_join, empty_goes, in_other_parts}
 use Rattle.rhai_rewriting.specs.Parts.{named}
 use Rattle.rhai_rewriting.specs.Rewriting.{by_expr_rule, by_stmt_rule, in_expression, in_head}
-use Rattle.rhai_rewriting.specs.Rules.{StmtRule, and_changes, or_changes, coalesce_changes, and_of_one, or_of_one, coalesce_of_one, text_changes, text_folds, map_of_constants, type_of_folds, is_shared_folds, fn_folds, curry_folds, unit_ends_dot, unit_ends_index, property_of_constant, index_of_constant, element_of_array, property_of_map, entry_of_map, type_of_method, is_shared_method, while_false, while_true, pure_try, switch_answers, switch_is_if, switch_defaults, switch_narrows, switch_shrinks, switch_forgets, and_of_none, or_of_none, coalesce_of_none}
-use Rattle.rhai_rewriting.specs.Tables.{no_ranges, no_cases, case_shrinks, empty_case_goes}
+use Rattle.rhai_rewriting.specs.Rules.{StmtRule, type_of_statement_folds, is_shared_statement_folds, fn_statement_folds, curry_statement_folds, and_changes, or_changes, coalesce_changes, and_of_one, or_of_one, coalesce_of_one, text_changes, text_folds, map_of_constants, type_of_folds, is_shared_folds, fn_folds, curry_folds, unit_ends_dot, unit_ends_index, property_of_constant, index_of_constant, element_of_array, property_of_map, entry_of_map, type_of_method, is_shared_method, while_false, while_true, pure_try, switch_answers, switch_is_if, switch_defaults, switch_narrows, switch_shrinks, switch_forgets, and_of_none, or_of_none, coalesce_of_none, property_of_constant_first, index_of_constant_first, type_of_method_first, is_shared_method_first}
+use Rattle.rhai_rewriting.specs.Tables.{no_ranges, no_cases, case_shrinks, empty_case_goes, range_stays, false_range_goes}
 use Rattle.rhai_rewriting.specs.WorkedRewrites.{Row, f, asks_f}
 
 -- one expression as a statement
@@ -76,6 +77,11 @@ or_deciding_row : ExprRow (Or (exprs (t ∷ ask ∷ []))) (Or (exprs (t ∷ []))
 unfolding ran
 or_deciding_row = (in_head (in_expression (by_expr_rule (or_changes (after_deciding_go refl) refl))), refl, refl)
 
+-- (true && true) || true
+or_pure_operand_row : ExprRow (Or (exprs (And (exprs (t ∷ t ∷ [])) ∷ t ∷ []))) (Or (exprs (t ∷ []))) (BoolV true) []
+unfolding ran
+or_pure_operand_row = (in_head (in_expression (by_expr_rule (or_changes (pure_before_deciding_goes refl refl) refl))), refl, refl)
+
 -- () ?? f(), and 1 ?? f()
 unit_option_row : ExprRow (Coalesce (exprs (UnitConstant ∷ ask ∷ []))) (Coalesce (exprs (ask ∷ []))) UnitV asks_f
 unfolding ran
@@ -110,6 +116,11 @@ empty_goes_row : ExprRow (InterpolatedString (exprs (ask ∷ UnitConstant ∷ []
 unfolding ran texts_joined text_of
 empty_goes_row = (in_head (in_expression (by_expr_rule (text_changes (in_other_parts (empty_goes UnitV refl refl))))), refl, refl)
 
+-- `${f()}${""}`
+empty_text_row : ExprRow (InterpolatedString (exprs (ask ∷ text "" ∷ []))) (InterpolatedString (exprs (ask ∷ []))) (TextV []) asks_f
+unfolding ran texts_joined text_of
+empty_text_row = (in_head (in_expression (by_expr_rule (text_changes (in_other_parts (empty_goes (TextV []) refl refl))))), refl, refl)
+
 -- `a${true}`
 text_folds_row : ExprRow (InterpolatedString (exprs (text "a" ∷ t ∷ []))) (StringConstant (codes "atrue")) (TextV (codes "atrue")) []
 unfolding ran texts_joined text_of
@@ -137,6 +148,23 @@ fn_row = (in_head (in_expression (by_expr_rule (fn_folds (codes "f") refl refl))
 curry_row : ExprRow (FnCall (named (codes "curry") false) (exprs (DynamicConstant (PointerV (codes "f") (values [])) ∷ int 1 ∷ []))) (DynamicConstant (PointerV (codes "f") (values (i 1 ∷ [])))) (PointerV (codes "f") (values (i 1 ∷ []))) []
 unfolding ran
 curry_row = (in_head (in_expression (by_expr_rule (curry_folds (codes "f") (values []) (i 1 ∷ []) refl refl))), refl, refl)
+
+-- the same as call statements
+type_of_statement_row : Row (FnCallStmt (named (codes "type_of") false) (exprs (int 1 ∷ [])) ∷ []) (ExprStmt (text "i64") ∷ []) (ends (WithValue (TextV (codes "i64"))) [])
+unfolding ran
+type_of_statement_row = (in_head (by_stmt_rule (type_of_statement_folds (i 1) refl)), refl, refl)
+
+is_shared_statement_row : Row (FnCallStmt (named (codes "is_shared") false) (exprs (int 1 ∷ [])) ∷ []) (ExprStmt n ∷ []) (ends (WithValue (BoolV false)) [])
+unfolding ran
+is_shared_statement_row = (in_head (by_stmt_rule (is_shared_statement_folds (i 1) refl)), refl, refl)
+
+fn_statement_row : Row (FnCallStmt (named (codes "Fn") false) (exprs (text "f" ∷ [])) ∷ []) (ExprStmt (DynamicConstant (PointerV (codes "f") (values []))) ∷ []) (ends (WithValue (PointerV (codes "f") (values []))) [])
+unfolding ran
+fn_statement_row = (in_head (by_stmt_rule (fn_statement_folds (codes "f") refl refl)), refl, refl)
+
+curry_statement_row : Row (FnCallStmt (named (codes "curry") false) (exprs (DynamicConstant (PointerV (codes "f") (values [])) ∷ int 1 ∷ [])) ∷ []) (ExprStmt (DynamicConstant (PointerV (codes "f") (values (i 1 ∷ [])))) ∷ []) (ends (WithValue (PointerV (codes "f") (values (i 1 ∷ [])))) [])
+unfolding ran
+curry_statement_row = (in_head (by_stmt_rule (curry_statement_folds (codes "f") (values []) (i 1 ∷ []) refl refl)), refl, refl)
 
 -- ---- chains
 
@@ -190,6 +218,25 @@ is_shared_method_row : ExprRow (Dot dot UnitConstant (MethodCall (named (codes "
 unfolding ran
 is_shared_method_row = (in_head (in_expression (by_expr_rule (is_shared_method UnitV refl refl))), refl, refl)
 
+-- #{a: "xy"}.a[0]: the chain goes on from "xy"
+property_first_row : ExprRow (Dot dot (DynamicConstant (MapV (field (codes "a") (TextV (codes "xy")) no_fields))) (Index index (property "a") (int 0))) (Index index (text "xy") (int 0)) (CharV 120) []
+unfolding ran character
+property_first_row = (in_head (in_expression (by_expr_rule (property_of_constant_first false index (record { getter = codes "get"; setter = codes "set"; name = codes "a" }) (int 0) (field (codes "a") (TextV (codes "xy")) no_fields) refl refl))), refl, refl)
+
+-- [5][0].is_shared()
+index_first_row : ExprRow (Index dot (DynamicConstant (ArrayV (values (i 5 ∷ [])))) (Dot dot (int 0) (MethodCall (named (codes "is_shared") false) (exprs [])))) (Dot dot (int 5) (MethodCall (named (codes "is_shared") false) (exprs []))) (BoolV false) []
+unfolding ran
+index_first_row = (in_head (in_expression (by_expr_rule (index_of_constant_first true dot (int 0) (MethodCall (named (codes "is_shared") false) (exprs [])) (ArrayV (values (i 5 ∷ []))) (i 0) (i 5) refl refl refl refl))), refl, refl)
+
+-- 1.type_of().is_shared(), 1.is_shared().type_of()
+type_of_first_row : ExprRow (Dot dot (int 1) (Dot dot (MethodCall (named (codes "type_of") false) (exprs [])) (MethodCall (named (codes "is_shared") false) (exprs [])))) (Dot dot (text "i64") (MethodCall (named (codes "is_shared") false) (exprs []))) (BoolV false) []
+unfolding ran
+type_of_first_row = (in_head (in_expression (by_expr_rule (type_of_method_first true false dot (MethodCall (named (codes "is_shared") false) (exprs [])) (i 1) refl refl refl))), refl, refl)
+
+is_shared_first_row : ExprRow (Dot dot (int 1) (Dot dot (MethodCall (named (codes "is_shared") false) (exprs [])) (MethodCall (named (codes "type_of") false) (exprs [])))) (Dot dot n (MethodCall (named (codes "type_of") false) (exprs []))) (TextV (codes "bool")) []
+unfolding ran
+is_shared_first_row = (in_head (in_expression (by_expr_rule (is_shared_method_first true false dot (MethodCall (named (codes "type_of") false) (exprs [])) (i 1) refl refl refl))), refl, refl)
+
 -- ---- loops and `try`
 
 -- while false { f() }
@@ -209,6 +256,11 @@ while_true_runs = (refl, refl)
 pure_try_row : Row (TryCatch UnitConstant (stmts (ExprStmt (int 1) ∷ [])) (stmts (f ∷ [])) ∷ []) (Noop ∷ []) (ends (WithValue UnitV) [])
 unfolding ran
 pure_try_row = (in_head (by_stmt_rule (pure_try refl)), refl, refl)
+
+-- try { const a = 1; } catch { f() }: the body's names are its own
+inner_try_row : Row (TryCatch UnitConstant (stmts (Var true false (codes "a") (int 1) ∷ [])) (stmts (f ∷ [])) ∷ []) (Noop ∷ []) (ends (WithValue UnitV) [])
+unfolding ran
+inner_try_row = (in_head (by_stmt_rule (pure_try refl)), refl, refl)
 
 -- ---- `switch`
 
@@ -252,6 +304,36 @@ switch_shrinks_row = (in_head (by_stmt_rule (switch_shrinks (case_shrinks (empty
 switch_forgets_row : Row (Switch (BlockExpr (stmts (ExprStmt (int 1) ∷ []))) (arms ((t, int 5) ∷ (n, ask) ∷ [])) (cases (on 1 (0 ∷ []) ∷ []) None) ∷ []) (Switch (BlockExpr (stmts (ExprStmt (int 1) ∷ []))) (arms ((t, int 5) ∷ (n, UnitConstant) ∷ [])) (cases (on 1 (0 ∷ []) ∷ []) None) ∷ []) (ends (WithValue (i 5)) [])
 unfolding ran
 switch_forgets_row = (in_head (by_stmt_rule (switch_forgets 1 refl refl refl)), refl, refl)
+
+-- ---- `switch` with ranges
+
+abbrev between : ℕ → ℕ → ℕ → SwitchRange
+between a b j = record { range = ExclusiveInt (pos a) (pos b); arm = j }
+
+-- the table of ranges and a default
+abbrev ranges : List SwitchRange → Option ℕ → SwitchTable
+ranges rs d = record { cases = []; ranges = rs; default = d }
+
+-- switch 6 { 5..8 if f() => 1, _ => 2 }
+range_is_if : Row (Switch (int 6) (arms ((ask, int 1) ∷ (t, int 2) ∷ [])) (ranges (between 5 8 0 ∷ []) (Some 1)) ∷ []) (If ask (stmts (ExprStmt (int 1) ∷ [])) (stmts (ExprStmt (int 2) ∷ [])) ∷ []) (ends (WithStuck WrongKind) asks_f)
+unfolding ran
+range_is_if = (in_head (by_stmt_rule (switch_is_if (i 6) 0 refl refl refl (λ h. absurd cc))), refl, refl)
+
+-- switch 6 { 5..8 if f() => 1, 1..2 => 2, 6..7 => 3 }: the second doesn't hold 6
+abbrev three_arms : Arms
+three_arms = arms ((ask, int 1) ∷ (t, int 2) ∷ (t, int 3) ∷ [])
+
+ranges_narrow : Row (Switch (int 6) three_arms (ranges (between 5 8 0 ∷ between 1 2 1 ∷ between 6 7 2 ∷ []) None) ∷ []) (Switch (int 6) three_arms (ranges (between 5 8 0 ∷ between 6 7 2 ∷ []) None) ∷ []) (ends (WithStuck WrongKind) asks_f)
+unfolding ran IsLe
+ranges_narrow = (in_head (by_stmt_rule (switch_narrows (i 6) refl refl refl refl (λ h. refl) (le_by_compare 3 3 tt))), refl, refl)
+
+-- switch {6} { 5..8 if false => 1, 1..9 => 2 }: a false range goes, and the other stays
+abbrev six : Expr
+six = BlockExpr (stmts (ExprStmt (int 6) ∷ []))
+
+false_range : Row (Switch six (arms ((n, int 1) ∷ (t, int 2) ∷ [])) (ranges (between 5 8 0 ∷ between 1 9 1 ∷ []) None) ∷ []) (Switch six (arms ((n, int 1) ∷ (t, int 2) ∷ [])) (ranges (between 1 9 1 ∷ []) None) ∷ []) (ends (WithValue (i 2)) [])
+unfolding ran IsLe
+false_range = (in_head (by_stmt_rule (switch_shrinks no_cases (false_range_goes refl (range_stays no_ranges)) (λ h. refl) (le_by_compare 2 2 tt))), refl, refl)
 
 -- ---- operands without any: no well-formed tree has them
 
