@@ -6,10 +6,10 @@ ghost use Rattle.std.specs.Prelude.{◌≡◌, IfOk, Some, [], ◌∷◌};
 ghost use Rattle.std.specs.Option.{option_map};
 ghost use Rattle.rhai_values.specs.Reading.{value_of};
 ghost use Rattle.rhai_ast.specs.Reading.{callee_of, expr_of, exprs_of, mark_of};
+ghost use Rattle.rhai_base.specs.Builtin.{computed_of};
 ghost use Rattle.rhai_meaning.specs.Constants as constants;
 ghost use Rattle.rhai_meaning.specs.Tree.{expr, no_exprs};
 ghost use Rattle.rhai_engine.specs.EngineInfo.{engine_of};
-ghost use Rattle.rhai_folding.specs.Answers.{answer_value};
 ghost use Rattle.rhai_rewriting.specs.Folding as spec;
 
 use rhai_ast::{Expr, FnCallExpr};
@@ -19,7 +19,7 @@ use std::alloc::Global;
 
 /// The value of an operator's answer. A fault is left to the run.
 fn value_alone(answer: Option<Result<Dynamic, Fault>>) -> Option<Dynamic>
-    ensures { option_map value_of result ≡ answer_value answer }
+    ensures { option_map value_of result ≡ constants.computed_value (computed_of answer) }
 {
     match answer {
         Some(Ok(value)) => Some(value),

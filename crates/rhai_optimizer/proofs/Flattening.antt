@@ -124,11 +124,6 @@ pub record MovesSoFar (w d d1 : Bool) (all rest : List declared_stmt.Stmt) (done
 pub moves_start : {w d : Bool} {all : List declared_stmt.Stmt} {done : Stmts} → MovesSoFar w d d all all done done
 moves_start = record { fits = omega arith; to = λ k m back h. same_stmts; flat = λ h. h }
 
-pub moves_fit : {w d d1 : Bool} {all rest new : List declared_stmt.Stmt} {done now : Stmts} {s : declared_stmt.Stmt} → MovesSoFar w d d1 all rest done now → rest ≡ s ∷ new → stmt_weight (stmt_of s) ≤ weight (stmts_of all)
-moves_fit {w = w} {d = d} {d1 = d1} {all = all} {new = new} {done = done} {now = now} {s = s} far i =
-    let v = subst (λ l. MovesSoFar w d d1 all l done now) i far in
-    omega (arith, v.fits)
-
 pub moves_next : {w w1 d d1 d2 : Bool} {all rest new : List declared_stmt.Stmt} {done now next : Stmts} {s : declared_stmt.Stmt} → MovesSoFar w d d1 all rest done now → rest ≡ s ∷ new → w1 ≡ wanted_before w (stmts_of new) → Flattens w1 d1 d2 now (stmt (stmt_of s) no_stmts) next → MovesSoFar w d d2 all new done next
 moves_next {w = w} {w1 = w1} {d = d} {d1 = d1} {d2 = d2} {all = all} {rest = rest} {new = new} {done = done} {now = now} {next = next} {s = s} far i e p =
     let v = subst (λ l. MovesSoFar w d d1 all l done now) i far in

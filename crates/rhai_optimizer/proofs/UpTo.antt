@@ -25,17 +25,8 @@ pub record UpTo {X : Type 0} (weigh_all : List X → ℕ) (Items : Bool → Bool
   pub fits : weigh_all (drop n here) ≤ weigh_all all
   pub to : (d2 : Bool) (new : List X) → Items d1 d2 (drop n here) new → Items d d2 all (take n here ++ new)
 
-pub up_start : {X : Type 0} {weigh_all : List X → ℕ} {Items : Bool → Bool → List X → List X → Type 0} {d : Bool} {all : List X} → UpTo weigh_all Items d d all all 0
-up_start = record { len = refl; fits = omega arith; to = λ d2 new p. p }
-
 drop-item : {X : Type 0} (xs : List X) (n : ℕ) (x : X) → n < length xs → x ≡ get_or xs n x → drop n xs ≡ x ∷ drop (n + 1) xs
 drop-item xs n x lt h = drop_more xs n x lt ∙ ap (λ y. y ∷ drop (n + 1) xs) (sym h)
-
-pub up_fit : {X : Type 0} {weigh : X → ℕ} {weigh_all : List X → ℕ} {Item : List X → Bool → Bool → X → X → Type 0} {Items : Bool → Bool → List X → List X → Type 0} {d d1 : Bool} {all here : List X} {n : ℕ} (x : X) → ByItems weigh weigh_all Item Items → UpTo weigh_all Items d d1 all here n → n < length all → x ≡ get_or here n x → weigh x ≤ weigh_all all
-up_fit {weigh = weigh} {weigh_all = weigh_all} {all = all} {here = here} {n = n} x by s lt h =
-    let l = s.len in
-    let fits : weigh_all (x ∷ drop (n + 1) here) ≤ weigh_all all = subst (λ rest. weigh_all rest ≤ weigh_all all) (drop-item here n x (omega arith) h) s.fits in
-    omega (arith, by.heavier x (drop (n + 1) here))
 
 pub up_next : {X : Type 0} {weigh : X → ℕ} {weigh_all : List X → ℕ} {Item : List X → Bool → Bool → X → X → Type 0} {Items : Bool → Bool → List X → List X → Type 0} {d d1 d2 : Bool} {all here : List X} {n : ℕ} {x : X} (y : X) → ByItems weigh weigh_all Item Items → UpTo weigh_all Items d d1 all here n → n < length all → x ≡ get_or here n x → Item (drop (n + 1) here) d1 d2 x y → UpTo weigh_all Items d d2 all (set here n y) (n + 1)
 up_next {weigh_all = weigh_all} {Items = Items} {d = d} {d1 = d1} {d2 = d2} {all = all} {here = here} {n = n} {x = x} y by s lt h i =

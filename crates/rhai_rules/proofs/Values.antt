@@ -25,9 +25,6 @@ pub record Reads (all rest : List declared_expr.Expr) (read : List Dynamic) : Ty
   pub gives : (vs : List Value) → constant_values (exprs_of rest) ≡ Some vs → constant_values (exprs_of all) ≡ Some (map value_of read ++ vs)
   pub constant : IsSome (constant_values (exprs_of rest))
 
-pub reads_all : (all : List declared_expr.Expr) → IsSome (constant_values (exprs_of all)) → Reads all all []
-reads_all all h = record { fits = omega arith; gives = λ vs e. e; constant = h }
-
 pub reads_more : (all rest new : List declared_expr.Expr) (e : declared_expr.Expr) (read : List Dynamic) (v : Dynamic) → Reads all rest read → rest ≡ e ∷ new → constant_value (expr_of e) ≡ Some (value_of v) → Reads all new (read ++ v ∷ [])
 reads_more all rest new e read v r i h =
     let w : Reads all (e ∷ new) read = subst (λ l. Reads all l read) i r in

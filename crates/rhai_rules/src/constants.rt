@@ -34,7 +34,7 @@ pub(crate) fn into_values(alloc: Global, items: Seq<Expr>) -> Result<Seq<Dynamic
     requires { IsSome (constants.constant_values (exprs_of items)) }
     ensures { IfOk result (λ vs. constants.constant_values (exprs_of items) ≡ Some (map value_of vs)) }
 {
-    let mut values = Seq::from_vec(Vec::with_capacity(alloc, items.len())?);
+    let mut values = Seq::with_capacity(alloc, items.len())?;
     let mut rest = items.into_rest();
     while let Some(expr) = rest.next() {
         values.push(into_value(alloc, expr)?)?;

@@ -22,7 +22,10 @@ fn holds_items(rt: HostRuntime) -> Result<(), Fail> {
     items.push(1u8)?;
     items.push(2)?;
     assert!(rt; holds(&items, &[1, 2])?);
-    *items.item_mut(1) = 5;
+    if let Some(item) = items.get_mut(1) {
+        *item = 5;
+    }
+    assert!(rt; items.get_mut(2).is_none());
     items.as_mut_slice()[0] = 4;
     assert!(rt; holds(&items, &[4, 5])?);
     assert!(rt; items.emptied()?.is_empty());

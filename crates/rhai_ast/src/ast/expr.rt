@@ -130,8 +130,7 @@ fn pointer_call(alloc: Global, name: ImmutableString, pos: Position) -> Result<E
     ensures position { IfOk result (λ e. position_of e ≡ pos) }
     ensures arguments { IfOk result (λ e. AreAt pos (arguments_of e)) }
 {
-    let mut args = Seq::new(alloc);
-    args.push(Expr::StringConstant(name, pos))?;
+    let args = Seq::from_array(alloc, [Expr::StringConstant(name, pos)])?;
     let call = FnCallExpr {
         name: ImmutableString::new(alloc, "Fn")?,
         args,

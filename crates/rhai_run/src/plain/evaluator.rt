@@ -56,7 +56,7 @@ impl<'a, H: Host> Evaluator<'a, H> {
     fn exprs(&self, state: &mut State, exprs: &[Expr]) -> Result<Seq<Dynamic>, Interrupt>
         ensures { RunsExprs (setting H.answers H.modules self.now) (exprs_of exprs.now) state.old result state.new }
     {
-        let mut values = Seq::new(self.alloc);
+        let mut values = Seq::with_capacity(self.alloc, exprs.len())?;
         for expr in exprs {
             let value = self.expr(state, expr)?;
             values.push(value)?;
