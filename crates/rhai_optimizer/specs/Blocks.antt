@@ -1,17 +1,14 @@
 -- Blocks in a list that give way to their statements.
 use Rattle.std.specs.Prelude.{◌≡◌, Bool, false, not, ◌||◌}
 use Rattle.rhai_meaning.specs.Queries.{is_any_dependent}
-use Rattle.rhai_meaning.specs.Tree.{Stmt, Noop, If, Block, ExprStmt, FnCallStmt, Stmts, no_stmts, stmt}
+use Rattle.rhai_meaning.specs.Tree.{Stmt, Block, Stmts, no_stmts, stmt}
 use Rattle.rhai_rewriting.specs.Context.{Context, ListKind}
 use Rattle.rhai_rewriting.specs.Rewriting.{StmtsTo}
 use Rattle.rhai_rewriting.specs.Steps.{Moves}
 
 abbrev pub gives_way : Stmt → Bool
-gives_way Noop = false
-gives_way (If e a b) = false
 gives_way (Block ss) = not (is_any_dependent ss)
-gives_way (ExprStmt e) = false
-gives_way (FnCallStmt c es) = false
+gives_way _ = false
 
 abbrev pub any_gives_way : Stmts → Bool
 any_gives_way no_stmts = false

@@ -4,7 +4,7 @@ use Rattle.std.specs.Option.{option_map}
 use Rattle.rhai_values.specs.Value.{Value}
 use Rattle.rhai_meaning.specs.Constants.{are_constant, constant_bool, constant_for, constant_values}
 use Rattle.rhai_meaning.specs.Engine.{Engine}
-use Rattle.rhai_meaning.specs.Tree.{Callee, Expr, DynamicConstant, BoolConstant, IntegerConstant, CharConstant, StringConstant, UnitConstant, ArrayOf, BlockExpr, FnCall, Exprs, Stmt, Noop, If, Block, ExprStmt, FnCallStmt, Stmts}
+use Rattle.rhai_meaning.specs.Tree.{Callee, Expr, DynamicConstant, BoolConstant, IntegerConstant, CharConstant, StringConstant, UnitConstant, ArrayOf, BlockExpr, FnCall, InterpolatedString, MapOf, Variable, ThisPtr, Property, MethodCall, Dot, Index, And, Or, Coalesce, Exprs, Stmt, Switch, While, Do, For, Var, Assignment, TryCatch, BreakLoop, Return, Import, Export, Share, Noop, If, Block, ExprStmt, FnCallStmt, Stmts}
 use Rattle.rhai_meaning.specs.Walk.{OfExpr, OfStmt}
 use Rattle.rhai_rewriting.specs.Context.{Context}
 use Rattle.rhai_rewriting.specs.Folding.{folded}
@@ -61,6 +61,17 @@ expr_folds k (StringConstant t) e' h = absurd cc
 expr_folds k UnitConstant e' h = absurd cc
 expr_folds k (ArrayOf es) e' h = absurd cc
 expr_folds k (BlockExpr ss) e' h = absurd cc
+expr_folds k (InterpolatedString es) e' h = absurd cc
+expr_folds k (MapOf ps t) e' h = absurd cc
+expr_folds k (Variable ms x) e' h = absurd cc
+expr_folds k ThisPtr e' h = absurd cc
+expr_folds k (Property p) e' h = absurd cc
+expr_folds k (MethodCall c es) e' h = absurd cc
+expr_folds k (Dot f a b) e' h = absurd cc
+expr_folds k (Index f a b) e' h = absurd cc
+expr_folds k (And es) e' h = absurd cc
+expr_folds k (Or es) e' h = absurd cc
+expr_folds k (Coalesce es) e' h = absurd cc
 
 statement_folds : (k : Context) {w : Bool} (c : Callee) (es : Exprs) (o : Option Value) (s : Stmt) → folded k.engine c es ≡ o → Some s ≡ option_map constant_statement o → StmtRule k w (FnCallStmt c es) s
 statement_folds k c es None s i h = absurd cc
@@ -74,6 +85,18 @@ stmt_folds k Noop s' h = absurd cc
 stmt_folds k (If e a b) s' h = absurd cc
 stmt_folds k (Block ss) s' h = absurd cc
 stmt_folds k (ExprStmt e) s' h = absurd cc
+stmt_folds k (Switch e a t) s' h = absurd cc
+stmt_folds k (While e b) s' h = absurd cc
+stmt_folds k (Do n e b) s' h = absurd cc
+stmt_folds k (For x i e b) s' h = absurd cc
+stmt_folds k (Var c x y e) s' h = absurd cc
+stmt_folds k (Assignment o l e) s' h = absurd cc
+stmt_folds k (TryCatch x a b) s' h = absurd cc
+stmt_folds k (BreakLoop b e) s' h = absurd cc
+stmt_folds k (Return b e) s' h = absurd cc
+stmt_folds k (Import e x) s' h = absurd cc
+stmt_folds k (Export x y) s' h = absurd cc
+stmt_folds k (Share xs) s' h = absurd cc
 
 -- ---- a rule fired at a tree that is spelled so
 

@@ -5,7 +5,7 @@ use Rattle.rhai_values.specs.Value.{Value}
 use Rattle.rhai_meaning.specs.Constants.{are_constant, constant_bool, constant_for}
 use Rattle.rhai_meaning.specs.Engine.{Engine}
 use Rattle.rhai_meaning.specs.Queries.{is_block_dependent}
-use Rattle.rhai_meaning.specs.Tree.{Expr, DynamicConstant, BoolConstant, IntegerConstant, CharConstant, StringConstant, UnitConstant, ArrayOf, BlockExpr, FnCall, Stmt, Noop, If, Block, ExprStmt, FnCallStmt, Stmts, no_stmts, stmt}
+use Rattle.rhai_meaning.specs.Tree.{Expr, ArrayOf, BlockExpr, FnCall, Stmt, If, Block, ExprStmt, FnCallStmt, Stmts, no_stmts, stmt}
 use Rattle.rhai_rewriting.specs.Folding.{folded}
 use Rattle.rhai_rewriting.specs.Shapes.{is_expression}
 
@@ -20,15 +20,9 @@ is_settled_braces (stmt s no_stmts) = not (is_expression s)
 is_settled_braces (stmt s (stmt t ss)) = true
 
 abbrev pub is_settled_expr : Expr → Bool
-is_settled_expr (DynamicConstant v) = true
-is_settled_expr (BoolConstant b) = true
-is_settled_expr (IntegerConstant n) = true
-is_settled_expr (CharConstant c) = true
-is_settled_expr (StringConstant t) = true
-is_settled_expr UnitConstant = true
 is_settled_expr (ArrayOf es) = not (are_constant es)
 is_settled_expr (BlockExpr ss) = is_settled_braces ss
-is_settled_expr (FnCall c es) = true
+is_settled_expr _ = true
 
 -- an `if` that has a statement and is not decided
 abbrev pub is_settled_if : Expr → Stmts → Stmts → Bool
@@ -47,11 +41,10 @@ is_settled_expression (FnCall c es) = false
 is_settled_expression _ = true
 
 abbrev pub is_settled_stmt : Stmt → Bool
-is_settled_stmt Noop = true
 is_settled_stmt (If e a b) = is_settled_if e a b
 is_settled_stmt (Block ss) = is_settled_block ss
 is_settled_stmt (ExprStmt e) = is_settled_expression e
-is_settled_stmt (FnCallStmt c es) = true
+is_settled_stmt _ = true
 
 -- ---- what a call folds to, if it does
 
