@@ -7,7 +7,7 @@ use Rattle.rhai_ast.specs.declared.ast.script_fn.ScriptFuncDef.{ScriptFuncDef}
 use Rattle.rhai_ast.specs.declared.ast.stmt.Stmt.{Stmt}
 use Rattle.rhai_ast.specs.Reading.{stmts_of, function_of}
 use Rattle.rhai_meaning.specs.Tree.{Script}
-use Rattle.rhai_script.specs.Table.{table_of}
+use Rattle.rhai_functions.specs.Table.{table_of}
 
 -- its statements, and the table of its functions
 abbrev pub source_of : List Stmt → List (Rc ScriptFuncDef Global) → Script

@@ -13,7 +13,7 @@ ghost use Rattle.rhai_rewriting.specs.Context.{Whole, under};
 ghost use Rattle.rhai_rewriting.specs.Rewriting.{StmtsTo};
 ghost use Rattle.rhai_rewriting.specs.Steps.{StmtsRun};
 ghost use Rattle.rhai_meaning.specs.Weight.{weight};
-ghost use Rattle.rhai_script.specs.FnKey.{definitions_table};
+ghost use Rattle.rhai_functions.specs.FnKey.{definitions_table};
 ghost use Rattle.rhai_script.specs.Script.{script_of};
 
 use crate::cycle::Optimizer;

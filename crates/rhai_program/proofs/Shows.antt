@@ -10,8 +10,9 @@ use Rattle.rhai_meaning.specs.Tree.{Stmts, Script, Function}
 use Rattle.rhai_ast.specs.Reading.{stmts_of, function_of}
 use Rattle.rhai_ast.specs.declared.ast.script_fn.ScriptFuncDef.{ScriptFuncDef}
 use Rattle.rhai_ast.specs.declared.ast.stmt.Stmt.{Stmt}
-use Rattle.rhai_script.specs.FnKey.{definitions_table}
-use Rattle.rhai_script.specs.Script.{functions_of, script_of}
+use Rattle.rhai_functions.specs.FnKey.{definitions_table}
+use Rattle.rhai_functions.specs.FnLib.{functions_of}
+use Rattle.rhai_script.specs.Script.{script_of}
 use Rattle.rhai_script.specs.declared.ast.AST.{AST}
 use Rattle.rhai_engine.specs.EngineInfo.{nothing_set}
 use Rattle.rhai_rewriting.specs.Residue.{AreReduced}

@@ -10,7 +10,7 @@ use Rattle.rhai_meaning.specs.Desugar.{call_of, core_exprs, core_function}
 use Rattle.rhai_meaning.specs.Host.{ModuleValue}
 use Rattle.rhai_meaning.specs.Meaning.{act, acts, deed, line, with_args}
 use Rattle.rhai_meaning.specs.Run.{env_at, world_of}
-use Rattle.rhai_script.specs.Script.{functions_of}
+use Rattle.rhai_functions.specs.FnLib.{functions_of}
 use Rattle.rhai_run.specs.declared.plain.evaluator.Evaluator.{Evaluator}
 use Rattle.rhai_run.specs.declared.plain.state.Interrupt.{Interrupt}
 use Rattle.rhai_run.specs.declared.plain.state.Interrupt.TheVariants.{NoMemory, Throw, Stuck}

@@ -1,4 +1,1 @@
 pub mod Choices
-pub mod Keys
-pub mod Laws
-pub mod Tables

@@ -4,9 +4,10 @@ use Rattle.rhai_values.specs.Value.{Text}
 use Rattle.rhai_ast.specs.declared.ast.stmt.Stmt.{Stmt}
 use Rattle.rhai_ast.specs.declared.ast.script_fn.ScriptFuncDef.{ScriptFuncDef}
 use Rattle.rhai_script.specs.declared.ast.AST.{AST}
-use Rattle.rhai_script.specs.FnKey.{definition_key}
-use Rattle.rhai_script.specs.Table.{put_all_by}
-use Rattle.rhai_script.specs.Text.{named, join_docs, first_name}
+use Rattle.rhai_functions.specs.FnKey.{definition_key}
+use Rattle.rhai_functions.specs.Table.{put_all_by}
+use Rattle.rhai_functions.specs.Ids.{named, first_name}
+use Rattle.rhai_script.specs.Text.{join_docs}
 
 pub record Contents : Type 0 where
   pub source : Option Text

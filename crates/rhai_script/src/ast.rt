@@ -7,13 +7,15 @@ ghost use Rattle.rhai_ast.specs.Reading.{stmts_of};
 ghost use Rattle.rhai_ast.specs.declared.ast.script_fn.ScriptFuncDef.{ScriptFuncDef as definition};
 ghost use Rattle.rhai_script.specs.Contents.{contents, with_source, without_source, with_doc, with_table, with_functions, without_statements, merged, combined};
 ghost use Rattle.rhai_script.specs.Filter.{Answers, AnswersShort};
-ghost use Rattle.rhai_script.specs.FnKey.{definitions_table};
+ghost use Rattle.rhai_functions.specs.FnKey.{definitions_table};
 
-use crate::filter::FnNamespace;
-use crate::fn_lib::{FnLib, SharedLib};
-use crate::text::{Doc, name_of};
+use crate::filter::{FnNamespace, all, chosen, kept};
+use crate::text::Doc;
 use rhai_ast::{FnAccess, ScriptFuncDef, Stmt};
 use rhai_base::{ImmutableString, OutOfMemory, Seq};
+use rhai_functions::{
+    FnLib, SharedLib, allocator_of, copy_of_id, name_of, replaced, take_id, with_all, without_id,
+};
 use std::alloc::{AllocError, Global};
 use std::rc::Rc;
 
@@ -68,7 +70,8 @@ fn append(alloc: Global, statements: &mut Seq<Stmt>, more: Seq<Stmt>) -> Result<
 }
 
 impl AST {
-    ghost use Rattle.rhai_script.specs.Script.{functions_of, script_of};
+    ghost use Rattle.rhai_functions.specs.FnLib.{functions_of};
+    ghost use Rattle.rhai_script.specs.Script.{script_of};
 
     /// A script of these statements and functions, without a source and a doc. It takes no memory.
     pub fn new(statements: Vec<Stmt>, functions: SharedLib) -> AST
@@ -102,11 +105,11 @@ impl AST {
     pub fn new_from_module(functions: SharedLib) -> Result<AST, OutOfMemory>
         ensures { IfOk result (λ s. contents s ≡ record { source = functions.value.id; doc = []; statements = []; id = functions.value.id; functions = functions.value.functions }) }
     {
-        let source = functions.copy_id()?;
+        let source = copy_of_id(&functions)?;
         Ok(AST {
             source,
             doc: Doc::none(),
-            statements: Seq::new(functions.allocator()),
+            statements: Seq::new(allocator_of(&functions)),
             lib: functions,
         })
     }
@@ -135,10 +138,9 @@ impl AST {
         ensures ok { OnOk result (contents self.new ≡ with_source source.now (contents self.old)) }
         ensures err { OnErr result (contents self.new ≡ contents self.old) }
     {
-        let source = name_of(self.lib.allocator(), source)?;
+        let source = name_of(allocator_of(&self.lib), source)?;
         let id = source.clone()?;
-        let lib = Rc::make_mut(&mut self.lib)?;
-        lib.take_id(id);
+        take_id(Rc::make_mut(&mut self.lib)?, id);
         self.source = source;
         Ok(())
     }
@@ -162,7 +164,7 @@ impl AST {
         ensures ok { OnOk result (contents self.new ≡ with_doc doc.now (contents self.old)) }
         ensures err { OnErr result (contents self.new ≡ contents self.old) }
     {
-        self.doc = Doc::new(self.lib.allocator(), doc)?;
+        self.doc = Doc::new(allocator_of(&self.lib), doc)?;
         Ok(())
     }
 
@@ -192,7 +194,7 @@ impl AST {
         requires { lib.id ≡ None }
         ensures { IfOk result (λ s. contents s ≡ without_statements (with_table lib.functions (contents self.now))) }
     {
-        let alloc = self.lib.allocator();
+        let alloc = allocator_of(&self.lib);
         let source = self.source.clone()?;
         let doc = self.doc.clone()?;
         let lib = Rc::new(alloc, lib)?;
@@ -208,7 +210,7 @@ impl AST {
     pub fn clone_functions_only(&self) -> Result<AST, OutOfMemory>
         ensures { IfOk result (λ s. contents s ≡ without_statements (with_table self.now.lib.value.functions (contents self.now))) }
     {
-        self.only(self.lib.without_id()?)
+        self.only(without_id(&self.lib)?)
     }
 
     /// A script of the source, the doc and the functions that the filter chooses. It is asked of each function once, in
@@ -220,8 +222,8 @@ impl AST {
         requires { F.IsAlwaysCallable filter }
         ensures { IfOk result (λ s. (chosen : List definition) × IsFiltered (Answers F.Fn) filter self.now.lib.value.functions chosen × (contents s ≡ without_statements (with_table (definitions_table chosen) (contents self.now)))) }
     {
-        let chosen = self.lib.table().chosen(&filter)?;
-        self.only(FnLib::from_functions(self.lib.allocator(), chosen)?)
+        let chosen = chosen(&self.lib, &filter)?;
+        self.only(FnLib::from_functions(allocator_of(&self.lib), chosen)?)
     }
 
     /// A script of the source, the doc and the statements, with a table of its own.
@@ -240,11 +242,11 @@ impl AST {
     ) -> Result<AST, OutOfMemory>
         ensures { IfOk result (λ s. contents s ≡ merged (contents self.now) (contents other.now) (map rc_value functions.items)) }
     {
-        let alloc = self.lib.allocator();
+        let alloc = allocator_of(&self.lib);
         let source = other.source.clone()?;
         let doc = self.doc.joined(alloc, &other.doc)?;
         let statements = joined(&self.statements, &other.statements)?;
-        let lib = Rc::new(alloc, self.lib.with_all(&other.source, functions)?)?;
+        let lib = Rc::new(alloc, with_all(&self.lib, &other.source, functions)?)?;
         Ok(AST {
             source,
             doc,
@@ -258,7 +260,7 @@ impl AST {
     pub fn merge(&self, other: &AST) -> Result<AST, OutOfMemory>
         ensures { IfOk result (λ s. contents s ≡ merged (contents self.now) (contents other.now) other.now.lib.value.functions) }
     {
-        self.merged_with(other, other.lib.table().all()?)
+        self.merged_with(other, all(&other.lib)?)
     }
 
     /// The same with those functions of the second that the filter chooses. It is asked of each of them once, in the
@@ -271,7 +273,7 @@ impl AST {
         requires { F.IsAlwaysCallable filter }
         ensures { IfOk result (λ s. (chosen : List definition) × IsFiltered (Answers F.Fn) filter other.now.lib.value.functions chosen × (contents s ≡ merged (contents self.now) (contents other.now) chosen)) }
     {
-        self.merged_with(other, other.lib.table().chosen(&filter)?)
+        self.merged_with(other, chosen(&other.lib, &filter)?)
     }
 
     fn combine_with(
@@ -282,9 +284,9 @@ impl AST {
         ensures ok { OnOk result (contents self.new ≡ combined (contents self.old) (contents other) (map rc_value functions.items)) }
         ensures err { OnErr result (contents self.new ≡ contents self.old) }
     {
-        let alloc = self.lib.allocator();
+        let alloc = allocator_of(&self.lib);
         let doc = self.doc.joined(alloc, &other.doc)?;
-        let lib = Rc::new(alloc, self.lib.with_all(&None, functions)?)?;
+        let lib = Rc::new(alloc, with_all(&self.lib, &None, functions)?)?;
         append(alloc, &mut self.statements, other.statements)?;
         self.doc = doc;
         self.lib = lib;
@@ -297,7 +299,7 @@ impl AST {
         ensures ok { OnOk result (contents self.new ≡ combined (contents self.old) (contents other) other.lib.value.functions) }
         ensures err { OnErr result (contents self.new ≡ contents self.old) }
     {
-        let functions = other.lib.table().all()?;
+        let functions = all(&other.lib)?;
         self.combine_with(other, functions)
     }
 
@@ -312,7 +314,7 @@ impl AST {
         ensures ok { OnOk result ((chosen : List definition) × IsFiltered (Answers F.Fn) filter other.lib.value.functions chosen × (contents self.new ≡ combined (contents self.old) (contents other) chosen)) }
         ensures err { OnErr result (contents self.new ≡ contents self.old) }
     {
-        let functions = other.lib.table().chosen(&filter)?;
+        let functions = chosen(&other.lib, &filter)?;
         self.combine_with(other, functions)
     }
 
@@ -326,9 +328,9 @@ impl AST {
         ensures ok { OnOk result ((kept : List definition) × IsFiltered (AnswersShort F.Fn) filter self.old.lib.value.functions kept × (contents self.new ≡ with_functions (definitions_table kept) (contents self.old))) }
         ensures err { OnErr result (contents self.new ≡ contents self.old) }
     {
-        let kept = self.lib.table().kept(&filter)?;
-        let lib = self.lib.replaced(kept)?;
-        self.lib = Rc::new(self.lib.allocator(), lib)?;
+        let kept = kept(&self.lib, &filter)?;
+        let lib = replaced(&self.lib, kept)?;
+        self.lib = Rc::new(allocator_of(&self.lib), lib)?;
         Ok(())
     }
 
@@ -337,7 +339,7 @@ impl AST {
         ensures ok { OnOk result (contents self.new ≡ with_table [] (contents self.old)) }
         ensures err { OnErr result (contents self.new ≡ contents self.old) }
     {
-        let alloc = self.lib.allocator();
+        let alloc = allocator_of(&self.lib);
         self.lib = Rc::new(alloc, FnLib::new(alloc))?;
         Ok(())
     }
@@ -346,6 +348,6 @@ impl AST {
     pub fn clear_statements(&mut self)
         ensures { contents self.new ≡ without_statements (contents self.old) }
     {
-        self.statements = Seq::new(self.lib.allocator());
+        self.statements = Seq::new(allocator_of(&self.lib));
     }
 }

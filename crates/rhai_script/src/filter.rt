@@ -1,7 +1,13 @@
-//! Filters of functions: what they are asked.
+//! Filters of functions: what they are asked, and which functions they choose.
+ghost use Rattle.std.specs.Prelude.{◌≡◌, map, IfOk};
+ghost use Rattle.std.specs.List.Retain.{IsFiltered};
+ghost use Rattle.std.specs.Rc.{rc_value};
 ghost use Rattle.rhai_script.specs.Filter.{Answers, AnswersShort};
 
 use rhai_ast::{FnAccess, ScriptFuncDef};
+use rhai_base::OutOfMemory;
+use rhai_functions::{FnLib, allocator_of};
+use std::rc::Rc;
 
 /// Where a function stands.
 #[derive(Clone, Copy, Debug, PartialEq, Eq)]
@@ -36,4 +42,49 @@ pub fn asks_short<F: Fn(FnNamespace, FnAccess, &str, usize) -> bool>(
     let name = function.name.as_str();
     let params = function.params.len();
     filter(FnNamespace::Internal, function.access, name, params)
+}
+
+/// All functions of a table, in its order.
+pub fn all(lib: &FnLib) -> Result<Vec<Rc<ScriptFuncDef>>, OutOfMemory>
+    ensures { IfOk result (λ all. map rc_value all.items ≡ lib.now.functions) }
+{
+    let mut all = Vec::new(allocator_of(lib));
+    for function in lib.iter() {
+        all.push(function.clone()?)?;
+    }
+    Ok(all)
+}
+
+/// The functions of which the filter says `true`, in the table's order, in which it is asked of each once.
+pub fn chosen<F: Fn(FnNamespace, FnAccess, bool, &str, usize) -> bool>(
+    lib: &FnLib,
+    filter: &F,
+) -> Result<Vec<Rc<ScriptFuncDef>>, OutOfMemory>
+    requires { F.IsAlwaysCallable filter.now }
+    ensures { IfOk result (λ chosen. IsFiltered (Answers F.Fn) filter.now lib.now.functions (map rc_value chosen.items)) }
+{
+    let mut chosen = Vec::new(allocator_of(lib));
+    for function in lib.iter() {
+        if asks(filter, function) {
+            chosen.push(function.clone()?)?;
+        }
+    }
+    Ok(chosen)
+}
+
+/// The same by the short form of a filter.
+pub fn kept<F: Fn(FnNamespace, FnAccess, &str, usize) -> bool>(
+    lib: &FnLib,
+    filter: &F,
+) -> Result<Vec<Rc<ScriptFuncDef>>, OutOfMemory>
+    requires { F.IsAlwaysCallable filter.now }
+    ensures { IfOk result (λ kept. IsFiltered (AnswersShort F.Fn) filter.now lib.now.functions (map rc_value kept.items)) }
+{
+    let mut kept = Vec::new(allocator_of(lib));
+    for function in lib.iter() {
+        if asks_short(filter, function) {
+            kept.push(function.clone()?)?;
+        }
+    }
+    Ok(kept)
 }

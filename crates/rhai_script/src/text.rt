@@ -1,20 +1,11 @@
-//! Names and doc texts of scripts.
+//! Doc texts of scripts.
 ghost use Rattle.std.specs.Prelude.{◌≡◌, [], IfOk};
-ghost use Rattle.rhai_script.specs.Text.{named, join_docs};
+ghost use Rattle.rhai_script.specs.Text.{join_docs};
 
 use rhai_base::{ImmutableString, OutOfMemory};
+use rhai_functions::name_of;
 use std::alloc::{AllocError, Global};
 use std::marker::Model;
-
-/// A name as it is kept: an empty one is none.
-pub fn name_of(alloc: Global, name: &str) -> Result<Option<ImmutableString>, OutOfMemory>
-    ensures { IfOk result (λ n. n ≡ named name.now) }
-{
-    if name.is_empty() {
-        return Ok(None);
-    }
-    Ok(Some(ImmutableString::new(alloc, name)?))
-}
 
 /// The doc text of a script, seen as its bytes. An empty one takes no memory.
 #[derive(Drop)]

@@ -4,6 +4,8 @@
 #[cfg(test)]
 mod flags;
 #[cfg(test)]
+mod guide;
+#[cfg(test)]
 mod lists;
 #[cfg(test)]
 mod literals;
@@ -26,9 +28,13 @@ mod samples;
 #[cfg(test)]
 mod scopes;
 #[cfg(test)]
+mod script_samples;
+#[cfg(test)]
 mod scripts;
 #[cfg(test)]
 mod scripts_joined;
+#[cfg(test)]
+mod scripts_refused;
 #[cfg(test)]
 mod switches;
 #[cfg(test)]

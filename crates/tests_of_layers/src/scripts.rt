@@ -1,22 +1,12 @@
 //! Scripts and their tables of functions.
 
-use rhai_ast::{FnAccess, ScriptFuncDef, Stmt, StmtBlock};
-use rhai_base::{ImmutableString, OutOfMemory, Position, Seq};
+use crate::script_samples::{Row, has, table};
+use rhai_ast::Stmt;
+use rhai_base::{ImmutableString, OutOfMemory, Position};
 use rhai_script::{AST, FnKey, FnLib};
 use std::alloc::Global;
 use std::rc::Rc;
 use std::test::Fail;
-
-const NONE: Position = Position::NONE;
-
-/// A function without statements: its name, its parameters, the type of its receiver, and a comment to know
-/// it by.
-struct Row(
-    &'static str,
-    &'static [&'static str],
-    Option<&'static str>,
-    &'static str,
-);
 
 const ROWS: [Row; 6] = [
     Row("f", &["x"], None, "first f"),
@@ -35,86 +25,11 @@ const WANTED: [&str; 5] = [
     "f of a text",
 ];
 
-fn function(alloc: Global, row: &Row) -> Result<ScriptFuncDef, OutOfMemory> {
-    let Row(name, params, this_type, comment) = row;
-    let mut function = named(alloc, ImmutableString::new(alloc, name)?);
-    function.this_type = maybe(alloc, *this_type)?;
-    function.params = texts(alloc, params)?;
-    function.comments = texts(alloc, &[*comment])?;
-    Ok(function)
-}
-
-/// A function without parameters.
-fn named(alloc: Global, name: ImmutableString) -> ScriptFuncDef {
-    ScriptFuncDef {
-        body: StmtBlock::new(Vec::new(alloc), NONE, NONE),
-        name,
-        this_type: None,
-        access: FnAccess::Public,
-        params: Seq::new(alloc),
-        comments: Seq::new(alloc),
-    }
-}
-
-fn maybe(alloc: Global, text: Option<&str>) -> Result<Option<ImmutableString>, OutOfMemory> {
-    match text {
-        Some(text) => Ok(Some(ImmutableString::new(alloc, text)?)),
-        None => Ok(None),
-    }
-}
-
-fn texts(alloc: Global, texts: &[&str]) -> Result<Seq<ImmutableString>, OutOfMemory> {
-    let mut made = Seq::new(alloc);
-    for text in texts {
-        made.push(ImmutableString::new(alloc, text)?)?;
-    }
-    Ok(made)
-}
-
-fn functions(alloc: Global) -> Result<Vec<Rc<ScriptFuncDef>>, OutOfMemory> {
-    let mut functions = Vec::new(alloc);
-    for row in &ROWS {
-        functions.push(shared(alloc, row)?)?;
-    }
-    Ok(functions)
-}
-
-/// A copy of the function, to be shared.
-fn shared(alloc: Global, row: &Row) -> Result<Rc<ScriptFuncDef>, OutOfMemory> {
-    let copy = copied(&function(alloc, row)?)?;
-    Ok(Rc::new(alloc, copy)?)
-}
-
-fn copied(function: &ScriptFuncDef) -> Result<ScriptFuncDef, OutOfMemory> {
-    Ok(function.clone()?)
-}
-
-fn has_comment(function: &ScriptFuncDef, wanted: &str) -> bool {
-    match function.comments.as_slice() {
-        [comment] => comment.as_str() == wanted,
-        _ => false,
-    }
-}
-
 #[test]
 fn a_later_function_takes_the_place_of_its_key(rt: HostRuntime) -> Result<(), Fail> {
-    assert!(rt; is_kept(&table(rt.alloc())?));
+    let lib = table(rt.alloc(), &ROWS)?;
+    assert!(rt; has(&lib, &WANTED) && !lib.is_empty());
     Ok(())
-}
-
-fn table(alloc: Global) -> Result<FnLib, OutOfMemory> {
-    FnLib::from_functions(alloc, functions(alloc)?)
-}
-
-fn is_kept(lib: &FnLib) -> bool {
-    let mut functions = lib.iter();
-    for wanted in &WANTED {
-        match functions.next() {
-            Some(function) if has_comment(function, wanted) => {}
-            _ => return false,
-        }
-    }
-    lib.len() == WANTED.len() && !lib.is_empty()
 }
 
 #[test]

@@ -1,144 +1,128 @@
 //! Scripts that are merged and filtered, their sources, ids and docs.
 
-use rhai_ast::{FnAccess, ScriptFuncDef, Stmt, StmtBlock};
-use rhai_base::{ImmutableString, OutOfMemory, Position, Seq};
-use rhai_script::{AST, FnKey, FnLib, FnNamespace, SharedLib};
+use crate::script_samples::{Row, has, is_known_by, script, stands, table};
+use rhai_ast::FnAccess;
+use rhai_base::{ImmutableString, OutOfMemory};
+use rhai_script::{AST, FnKey, FnLib, FnNamespace};
 use std::alloc::Global;
 use std::rc::Rc;
 use std::test::Fail;
 
-const NONE: Position = Position::NONE;
+/// `fn foo(x) { .. }`
+const FOO: [Row; 1] = [Row("foo", &["x"], None, "first foo")];
 
-/// A function without statements: its name, its parameters, and a comment to know it by.
-#[derive(Debug)]
-struct Row(&'static str, &'static [&'static str], &'static str);
+/// Another.
+const OTHER_FOO: [Row; 1] = [Row("foo", &["n"], None, "second foo")];
 
-const FIRST: [Row; 2] = [Row("f", &["x"], "first f"), Row("g", &[], "g")];
-
-const SECOND: [Row; 2] = [Row("h", &[], "h"), Row("f", &["n"], "second f")];
-
-const MERGED: [&str; 3] = ["second f", "g", "h"];
-
-/// `foo` and, of the second, an `error` beside it.
-const FOO: [Row; 1] = [Row("foo", &["x"], "first foo")];
-
-const FOO_ERROR: [Row; 2] = [Row("foo", &["n"], "second foo"), Row("error", &[], "error")];
-
-const WITH_ERROR: [&str; 2] = ["first foo", "error"];
-
-const THREE: [Row; 3] = [
-    Row("foo", &["n"], "foo of one"),
-    Row("bar", &[], "bar"),
-    Row("foo", &[], "foo of none"),
+/// The other, and `fn error() { .. }`.
+const FOO_ERROR: [Row; 2] = [
+    Row("foo", &["n"], None, "second foo"),
+    Row("error", &[], None, "error"),
 ];
 
-fn function(alloc: Global, row: &Row) -> Result<ScriptFuncDef, OutOfMemory> {
-    let Row(name, params, comment) = row;
-    Ok(ScriptFuncDef {
-        body: StmtBlock::new(Vec::new(alloc), NONE, NONE),
-        name: ImmutableString::new(alloc, name)?,
-        this_type: None,
-        access: FnAccess::Public,
-        params: texts(alloc, params)?,
-        comments: texts(alloc, &[*comment])?,
-    })
+const F_G: [Row; 2] = [Row("f", &["x"], None, "first f"), Row("g", &[], None, "g")];
+
+const H_F: [Row; 2] = [Row("h", &[], None, "h"), Row("f", &["n"], None, "second f")];
+
+/// `foo(n)`, `bar()`, `foo()`
+const THREE: [Row; 3] = [
+    Row("foo", &["n"], None, "foo of one"),
+    Row("bar", &[], None, "bar"),
+    Row("foo", &[], None, "foo of none"),
+];
+
+/// The functions of the first and of the second; those of both, and those of the first with the errors of the
+/// second.
+struct Joining {
+    first: &'static [Row],
+    second: &'static [Row],
+    joined: &'static [&'static str],
+    filtered: &'static [&'static str],
 }
 
-fn texts(alloc: Global, texts: &[&str]) -> Result<Seq<ImmutableString>, OutOfMemory> {
-    let mut made = Seq::new(alloc);
-    for text in texts {
-        made.push(ImmutableString::new(alloc, text)?)?;
-    }
-    Ok(made)
-}
-
-fn table(alloc: Global, rows: &[Row]) -> Result<SharedLib, OutOfMemory> {
-    let mut functions = Vec::new(alloc);
-    for row in rows {
-        functions.push(Rc::new(alloc, function(alloc, row)?)?)?;
-    }
-    Ok(Rc::new(alloc, FnLib::from_functions(alloc, functions)?)?)
-}
-
-/// A script of one statement, these functions and a source.
-fn script(alloc: Global, rows: &[Row], source: &str) -> Result<AST, OutOfMemory> {
-    let statements = vec![in alloc; Stmt::Noop(Position::new(3, 4))]?;
-    AST::new_with_source(statements, table(alloc, rows)?, source)
-}
-
-fn has(script: &AST, wanted: &[&str]) -> bool {
-    let lib = script.shared_lib();
-    if lib.len() != wanted.len() {
-        return false;
-    }
-    for (function, comment) in lib.iter().zip(wanted) {
-        if !is_known_by(function, comment) {
-            return false;
-        }
-    }
-    true
-}
-
-fn is_known_by(function: &ScriptFuncDef, wanted: &str) -> bool {
-    match function.comments.as_slice() {
-        [comment] => comment.as_str() == wanted,
-        _ => false,
-    }
-}
-
-/// Source, id, and how many statements there are.
-fn stands(script: &AST, source: Option<&str>, id: Option<&str>, statements: usize) -> bool {
-    script.source() == source
-        && script.shared_lib().id() == id
-        && script.statements().len() == statements
-}
+const JOININGS: [Joining; 3] = [
+    Joining {
+        first: &FOO,
+        second: &OTHER_FOO,
+        joined: &["second foo"],
+        filtered: &["first foo"],
+    },
+    Joining {
+        first: &FOO,
+        second: &FOO_ERROR,
+        joined: &["second foo", "error"],
+        filtered: &["first foo", "error"],
+    },
+    Joining {
+        first: &F_G,
+        second: &H_F,
+        joined: &["second f", "g", "h"],
+        filtered: &["first f", "g"],
+    },
+];
 
 #[test]
-fn a_function_of_the_second_takes_the_place_of_its_key(rt: HostRuntime) -> Result<(), Fail> {
-    let first = script(rt.alloc(), &FIRST, "a")?;
-    let second = script(rt.alloc(), &SECOND, "b")?;
+fn scripts_are_joined(rt: HostRuntime) -> Result<(), Fail> {
+    for row in &JOININGS {
+        assert!(rt; is_joined(rt.alloc(), row)?);
+    }
+    Ok(())
+}
+
+/// A merged script has the second's source and id, a combined one the first's.
+fn is_joined(alloc: Global, row: &Joining) -> Result<bool, OutOfMemory> {
+    let mut first = script(alloc, row.first, "a")?;
+    if !is_merged(alloc, &first, row)? {
+        return Ok(false);
+    }
+    let mut again = first.clone()?;
+    first.combine(script(alloc, row.second, "b")?)?;
+    again.combine_filtered(script(alloc, row.second, "b")?, is_error)?;
+    Ok(
+        stands(&first, Some("a"), Some("a"), 2)
+            && stands(&again, Some("a"), Some("a"), 2)
+            && has(first.shared_lib(), row.joined)
+            && has(again.shared_lib(), row.filtered),
+    )
+}
+
+fn is_merged(alloc: Global, first: &AST, row: &Joining) -> Result<bool, OutOfMemory> {
+    let second = script(alloc, row.second, "b")?;
     let both = first.merge(&second)?;
-    assert!(rt; has(&both, &MERGED) && stands(&both, Some("b"), Some("b"), 2));
-    Ok(())
-}
-
-#[test]
-fn combine_keeps_the_source(rt: HostRuntime) -> Result<(), Fail> {
-    let mut first = script(rt.alloc(), &FIRST, "a")?;
-    first.combine(script(rt.alloc(), &SECOND, "b")?)?;
-    assert!(rt; has(&first, &MERGED) && stands(&first, Some("a"), Some("a"), 2));
-    Ok(())
-}
-
-#[test]
-fn a_filter_chooses_of_the_second(rt: HostRuntime) -> Result<(), Fail> {
-    let first = script(rt.alloc(), &FOO, "")?;
-    let second = script(rt.alloc(), &FOO_ERROR, "")?;
-    let both = first.merge_filtered(&second, is_error)?;
-    assert!(rt; has(&both, &WITH_ERROR) && stands(&both, None, None, 2));
-    let mut first = first.clone()?;
-    first.combine_filtered(second, is_error)?;
-    assert!(rt; has(&first, &WITH_ERROR));
-    let only = first.clone_functions_only_filtered(is_error)?;
-    assert!(rt; has(&only, &["error"]) && stands(&only, None, None, 0));
-    Ok(())
+    let some = first.merge_filtered(&second, is_error)?;
+    Ok(
+        stands(&both, Some("b"), Some("b"), 2)
+            && stands(&some, Some("b"), Some("b"), 2)
+            && has(both.shared_lib(), row.joined)
+            && has(some.shared_lib(), row.filtered),
+    )
 }
 
 fn is_error(
-    _namespace: FnNamespace,
+    namespace: FnNamespace,
     _access: FnAccess,
     of_script: bool,
     name: &str,
     params: usize,
 ) -> bool {
-    of_script && name == "error" && params == 0
+    namespace == FnNamespace::Internal && of_script && name == "error" && params == 0
 }
 
 #[test]
-fn retained_functions(rt: HostRuntime) -> Result<(), Fail> {
+fn functions_are_chosen(rt: HostRuntime) -> Result<(), Fail> {
+    let second = script(rt.alloc(), &FOO_ERROR, "")?;
+    let only = second.clone_functions_only_filtered(is_error)?;
+    assert!(rt; has(only.shared_lib(), &["error"]) && stands(&only, None, None, 0));
+    Ok(())
+}
+
+#[test]
+fn functions_are_retained(rt: HostRuntime) -> Result<(), Fail> {
     let mut script = script(rt.alloc(), &THREE, "a")?;
     script.retain_functions(is_foo_of_one)?;
-    assert!(rt; has(&script, &["foo of one"]) && stands(&script, Some("a"), Some("a"), 1));
+    assert!(rt;
+        has(script.shared_lib(), &["foo of one"]) && stands(&script, Some("a"), Some("a"), 1)
+    );
     Ok(())
 }
 
@@ -151,9 +135,8 @@ fn the_id_follows_the_source(rt: HostRuntime) -> Result<(), Fail> {
     let mut first = script(rt.alloc(), &FOO, "a")?;
     let mut second = first.clone()?;
     second.set_source("z")?;
-    assert!(rt;
-        stands(&first, Some("a"), Some("a"), 1) && stands(&second, Some("z"), Some("z"), 1)
-    );
+    assert!(rt; stands(&first, Some("a"), Some("a"), 1));
+    assert!(rt; stands(&second, Some("z"), Some("z"), 1));
     first.clear_source();
     assert!(rt; stands(&first, None, Some("a"), 1));
     first.set_source("")?;
@@ -174,16 +157,24 @@ fn docs_are_joined(rt: HostRuntime) -> Result<(), Fail> {
 
 #[test]
 fn parts_of_a_script(rt: HostRuntime) -> Result<(), Fail> {
-    let mut whole = script(rt.alloc(), &FIRST, "a")?;
-    let functions = whole.clone_functions_only()?;
-    assert!(rt; has(&functions, &["first f", "g"]) && stands(&functions, Some("a"), None, 0));
-    let statements = whole.clone_statements_only()?;
-    assert!(rt; !statements.has_functions() && stands(&statements, Some("a"), None, 1));
+    let mut whole = script(rt.alloc(), &F_G, "a")?;
+    assert!(rt; has_its_parts(&whole)?);
     whole.clear_statements();
     assert!(rt; whole.has_functions() && stands(&whole, Some("a"), Some("a"), 0));
     whole.clear_functions()?;
-    assert!(rt; stands(&whole, Some("a"), None, 0));
+    assert!(rt; !whole.has_functions() && stands(&whole, Some("a"), None, 0));
     Ok(())
+}
+
+fn has_its_parts(whole: &AST) -> Result<bool, OutOfMemory> {
+    let functions = whole.clone_functions_only()?;
+    let statements = whole.clone_statements_only()?;
+    Ok(
+        has(functions.shared_lib(), &["first f", "g"])
+            && stands(&functions, Some("a"), None, 0)
+            && has(statements.shared_lib(), &[])
+            && stands(&statements, Some("a"), None, 1),
+    )
 }
 
 #[test]
@@ -199,15 +190,22 @@ fn a_table_and_its_id(rt: HostRuntime) -> Result<(), Fail> {
 #[test]
 fn a_function_is_found_by_its_key(rt: HostRuntime) -> Result<(), Fail> {
     let lib = table(rt.alloc(), &THREE)?;
-    let key = FnKey {
-        name: ImmutableString::new(rt.alloc(), "foo")?,
+    let name = ImmutableString::new(rt.alloc(), "foo")?;
+    assert!(rt; is_found(&lib, &key(name)));
+    Ok(())
+}
+
+fn key(name: ImmutableString) -> FnKey {
+    FnKey {
+        name,
         params: 1,
         this_type: None,
-    };
-    let is_there = match lib.get(&key) {
+    }
+}
+
+fn is_found(lib: &FnLib, key: &FnKey) -> bool {
+    match lib.get(key) {
         Some(function) => is_known_by(function, "foo of one"),
         None => false,
-    };
-    assert!(rt; is_there);
-    Ok(())
+    }
 }

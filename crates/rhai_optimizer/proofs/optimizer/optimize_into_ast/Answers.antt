@@ -1,5 +1,5 @@
 use Rattle.std.proofs.Common.{ap, ◌∙◌, false}
-use Rattle.rhai_script.specs.Script.{functions_of}
+use Rattle.rhai_functions.specs.FnLib.{functions_of}
 use Rattle.rhai_rewriting.proofs.soundness.Theorem.{refines, lighter}
 use Rattle.rhai_rewriting.proofs.soundness.Small.{calls_stay}
 use Rattle.rhai_rewriting.proofs.soundness.WellFormed.{stmts_well}

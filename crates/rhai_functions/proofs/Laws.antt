@@ -1,0 +1,61 @@
+-- Laws of tables, for those who make one of another.
+use Rattle.std.proofs.Common.{◌≡◌, true, false, not, List, [], ◌∷◌, ◌++◌, map, refl, sym, ap, ◌∙◌, if◌then◌else◌, append_assoc}
+use Rattle.std.proofs.lemmas.Bool.{and_parts, or_parts, or_from, not-true, both_ways, false_from_ne_true}
+use Rattle.std.proofs.lemmas.List.{append-nil}
+use Rattle.rhai_meaning.specs.Act.{Key}
+use Rattle.rhai_meaning.specs.Calls.{same_key, has_key}
+use Rattle.rhai_meaning.specs.Desugar.{core_function}
+use Rattle.rhai_meaning.specs.Run as run
+use Rattle.rhai_meaning.specs.Tree.{Function}
+use Rattle.rhai_functions.specs.Table.{put_by, put_all_by, table_of, are_distinct, key_of}
+use Rattle.rhai_functions.proofs.Keys.{same_key-true}
+use Rattle.rhai_functions.proofs.Tables.{are_distinct-put, map-put_all}
+
+-- a run knows a function by the same key
+pub key_of-core : (f : Function) → run.key_of (core_function f) ≡ key_of f
+key_of-core f = refl
+
+-- in a table no key comes twice
+pub are_distinct-table : (fs : List Function) → are_distinct (map key_of (table_of fs)) ≡ true
+are_distinct-table fs = from [] fs refl
+  where
+    from : (table fs : List Function) → are_distinct (map key_of table) ≡ true → are_distinct (map key_of (put_all_by key_of table fs)) ≡ true
+    from table [] h = h
+    from table (f ∷ fs) h = from (put_by key_of table f) fs (are_distinct-put key_of table f h)
+
+-- what leaves the keys as they are goes through a table
+pub table_of-map : (change : Function → Function) → ((f : Function) → key_of (change f) ≡ key_of f) → (fs : List Function) → table_of (map change fs) ≡ map change (table_of fs)
+table_of-map change keeps fs = sym (map-put_all change key_of [] fs) ∙ (λ i. map change (put_all_by (λ f. keeps f i) [] fs))
+
+other_way : (k l : Key) → same_key k l ≡ false → same_key l k ≡ false
+other_way k l h = false_from_ne_true (same_key l k) (λ e. let one = same_key-true l k e in both_ways (same_key k l) h ((λ i. same_key (sym one i) (one i)) ∙ e))
+
+-- a function of a new key goes last
+put-last : (fs : List Function) (f : Function) → has_key (map key_of fs) (key_of f) ≡ false → put_by key_of fs f ≡ fs ++ f ∷ []
+put-last [] f h = refl
+put-last (g ∷ gs) f h =
+    let parts = or_parts (same_key (key_of g) (key_of f)) (has_key (map key_of gs) (key_of f)) h in
+    ap (λ b. if b then f ∷ gs else g ∷ put_by key_of gs f) (other_way (key_of g) (key_of f) parts.0) ∙ ap (λ l. g ∷ l) (put-last gs f parts.1)
+
+unlike-inner : (gs : List Function) (f : Function) (fs : List Function) (k : Key) → has_key (map key_of (gs ++ f ∷ fs)) k ≡ false → same_key (key_of f) k ≡ false
+unlike-inner [] f fs k h = (or_parts (same_key (key_of f) k) (has_key (map key_of fs) k) h).0
+unlike-inner (g ∷ gs) f fs k h = unlike-inner gs f fs k (or_parts (same_key (key_of g) k) (has_key (map key_of (gs ++ f ∷ fs)) k) h).1
+
+-- where the keys are distinct, no earlier one is that of a later one
+new-inner : (gs : List Function) (f : Function) (fs : List Function) → are_distinct (map key_of (gs ++ f ∷ fs)) ≡ true → has_key (map key_of gs) (key_of f) ≡ false
+new-inner [] f fs h = refl
+new-inner (g ∷ gs) f fs h =
+    let parts = and_parts (not (has_key (map key_of (gs ++ f ∷ fs)) (key_of g))) (are_distinct (map key_of (gs ++ f ∷ fs))) h in
+    let unlike = other_way (key_of f) (key_of g) (unlike-inner gs f fs (key_of g) (not-true (has_key (map key_of (gs ++ f ∷ fs)) (key_of g)) parts.0)) in
+    or_from (same_key (key_of g) (key_of f)) (has_key (map key_of gs) (key_of f)) unlike (new-inner gs f fs parts.1)
+
+-- functions of distinct keys are their own table
+pub table_of-distinct : (fs : List Function) → are_distinct (map key_of fs) ≡ true → table_of fs ≡ fs
+table_of-distinct fs h = from [] fs h
+  where
+    from : (gs fs : List Function) → are_distinct (map key_of (gs ++ fs)) ≡ true → put_all_by key_of gs fs ≡ gs ++ fs
+    from gs [] h = sym (append-nil gs)
+    from gs (f ∷ fs) h =
+        ap (λ table. put_all_by key_of table fs) (put-last gs f (new-inner gs f fs h))
+        ∙ from (gs ++ f ∷ []) fs (ap (λ l. are_distinct (map key_of l)) (append_assoc gs (f ∷ []) fs) ∙ h)
+        ∙ append_assoc gs (f ∷ []) fs

@@ -1,0 +1,4 @@
+pub mod FnKey
+pub mod FnLib
+pub mod Ids
+pub mod Table

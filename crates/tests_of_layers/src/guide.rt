@@ -1,0 +1,79 @@
+//! The pieces of docs/GUIDE.md on scripts.
+
+use rhai_ast::{FnAccess, ScriptFuncDef, StmtBlock};
+use rhai_base::{ImmutableString, OutOfMemory, Position, Seq};
+use rhai_script::{AST, FnLib};
+use std::alloc::Global;
+use std::rc::Rc;
+use std::test::Fail;
+
+/// `fn NAME() {}`, as a parser would build it.
+fn function(alloc: Global, name: &str) -> Result<Rc<ScriptFuncDef>, OutOfMemory> {
+    let function = ScriptFuncDef {
+        body: StmtBlock::new(Vec::new(alloc), Position::NONE, Position::NONE),
+        name: ImmutableString::new(alloc, name)?,
+        this_type: None,
+        access: FnAccess::Public,
+        params: Seq::new(alloc),
+        comments: Seq::new(alloc),
+    };
+    Ok(Rc::new(alloc, function)?)
+}
+
+/// A script of these functions.
+fn script(alloc: Global, source: &str, names: &[&str]) -> Result<AST, OutOfMemory> {
+    let mut functions = Vec::new(alloc);
+    for name in names {
+        functions.push(function(alloc, name)?)?;
+    }
+    let table = Rc::new(alloc, FnLib::from_functions(alloc, functions)?)?;
+    AST::new_with_source(Vec::new(alloc), table, source)
+}
+
+/// The names of its functions, in order.
+fn names(alloc: Global, script: &AST) -> Result<String, OutOfMemory> {
+    let mut text = String::new(alloc);
+    for function in script.shared_lib().iter() {
+        text.push_str(function.name.as_str())?;
+        text.push(' ')?;
+    }
+    Ok(text)
+}
+
+#[test]
+fn two_scripts_are_merged(rt: HostRuntime) -> Result<(), Fail> {
+    let alloc = rt.alloc();
+    let base = script(alloc, "base", &["start", "stop"])?;
+    let own = script(alloc, "own", &["log", "stop"])?;
+
+    let both = base.merge(&own)?; // a new script; the two stay as they are
+    assert_eq!(rt; names(alloc, &both)?.as_str(), "start stop log "); // `stop` is that of `own`
+    assert_eq!(rt; both.source(), Some("own"));
+    Ok(())
+}
+
+#[test]
+fn a_script_takes_another_in(rt: HostRuntime) -> Result<(), Fail> {
+    let alloc = rt.alloc();
+    let mut base = script(alloc, "base", &["start", "stop"])?;
+    base.combine(script(alloc, "own", &["log", "stop"])?)?; // refused, `base` is as it was
+    assert_eq!(rt; names(alloc, &base)?.as_str(), "start stop log ");
+    assert_eq!(rt; base.source(), Some("base"));
+    Ok(())
+}
+
+#[test]
+fn functions_are_chosen_by_a_closure(rt: HostRuntime) -> Result<(), Fail> {
+    let alloc = rt.alloc();
+    let base = script(alloc, "base", &["start", "stop"])?;
+    let own = script(alloc, "own", &["log", "stop"])?;
+
+    // of the functions of `own` those that are not called `stop`
+    let mut both = base.merge_filtered(&own, |_, _, _, name, _| name != "stop")?;
+    assert_eq!(rt; names(alloc, &both)?.as_str(), "start stop log ");
+
+    // of all functions those without parameters that are called `log`
+    both.retain_functions(|_, _, name, params| name == "log" && params == 0)?;
+    assert_eq!(rt; names(alloc, &both)?.as_str(), "log ");
+    Ok(())
+}
