@@ -12,7 +12,7 @@ use Rattle.rhai_rewriting.specs.Residue.{IsReducedNode}
 use Rattle.rhai_rewriting.specs.Rules as rule
 use Rattle.rhai_rewriting.specs.Rules.{ExprRule, StmtRule}
 use Rattle.rhai_rewriting.specs.Steps.{ExprFired, StmtFired}
-use Rattle.rhai_rules.specs.Settled.{is_empty, is_settled_expr, is_settled_if, is_settled_stmt, folded_expr, constant_statement, folded_stmt}
+use Rattle.rhai_rules.specs.Settled.{is_empty, is_leaf, is_settled_expr, is_settled_if, is_settled_stmt, folded_expr, constant_statement, folded_stmt}
 use Rattle.rhai_rules.proofs.Shapes.{not-true, braces-settled}
 
 none-of : {A : Type 0} (o : Option A) → is_some o ≡ false → o ≡ None
@@ -34,6 +34,12 @@ settled_expr r (ArrayOf es) h n = none-of (constant_values es) (not-true (are_co
 settled_expr r (BlockExpr ss) h n = braces-settled ss h
 settled_expr r (FnCall c es) h n = unmapped constant_for (folded r c es) n
 settled_expr r _ h n = tt
+
+pub settled_leaf : (r : Engine) (e : Expr) → is_leaf e ≡ true → IsReducedNode r (OfExpr e)
+settled_leaf r (ArrayOf es) h = absurd cc
+settled_leaf r (BlockExpr ss) h = absurd cc
+settled_leaf r (FnCall c es) h = absurd cc
+settled_leaf r _ h = tt
 
 settled_if : (e : Expr) (a b : Stmts) → is_settled_if e a b ≡ true → constant_bool e ≡ None
 settled_if e a b h = none-of (constant_bool e) (not-true (is_some (constant_bool e)) (right-true (not (is_empty a && is_empty b)) _ h))

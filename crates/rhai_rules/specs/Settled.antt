@@ -5,7 +5,7 @@ use Rattle.rhai_values.specs.Value.{Value}
 use Rattle.rhai_meaning.specs.Constants.{are_constant, constant_bool, constant_for}
 use Rattle.rhai_meaning.specs.Engine.{Engine}
 use Rattle.rhai_meaning.specs.Queries.{is_block_dependent}
-use Rattle.rhai_meaning.specs.Tree.{Expr, ArrayOf, BlockExpr, FnCall, Stmt, If, Block, ExprStmt, FnCallStmt, Stmts, no_stmts, stmt}
+use Rattle.rhai_meaning.specs.Tree.{Expr, DynamicConstant, BoolConstant, IntegerConstant, CharConstant, StringConstant, UnitConstant, ArrayOf, BlockExpr, FnCall, Stmt, If, Block, ExprStmt, FnCallStmt, Stmts, no_stmts, stmt}
 use Rattle.rhai_rewriting.specs.Folding.{folded}
 use Rattle.rhai_rewriting.specs.Shapes.{is_expression}
 
@@ -23,6 +23,16 @@ abbrev pub is_settled_expr : Expr → Bool
 is_settled_expr (ArrayOf es) = not (are_constant es)
 is_settled_expr (BlockExpr ss) = is_settled_braces ss
 is_settled_expr _ = true
+
+-- a constant without parts
+abbrev pub is_leaf : Expr → Bool
+is_leaf (DynamicConstant v) = true
+is_leaf (BoolConstant b) = true
+is_leaf (IntegerConstant n) = true
+is_leaf (CharConstant n) = true
+is_leaf (StringConstant t) = true
+is_leaf UnitConstant = true
+is_leaf _ = false
 
 -- an `if` that has a statement and is not decided
 abbrev pub is_settled_if : Expr → Stmts → Stmts → Bool

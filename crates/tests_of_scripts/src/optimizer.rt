@@ -225,8 +225,8 @@ fn settled(alloc: Global) -> Result<Seq<Stmt>, OutOfMemory> {
     Ok(Seq::from_vec(statements))
 }
 
-/// The last request for memory is that of `settled`: where each later one is refused, as by `rt try --test --fail-alloc`
-/// with the number after that of the last one, the script is passed all the same.
+/// The last request for memory is that of `settled`. Where the one after it is refused, as by `rt try --test --fail-alloc`
+/// with its number, the test passes all the same: the pass makes none.
 #[test]
 fn a_script_with_nothing_to_reduce_takes_no_memory(rt: HostRuntime) -> Result<(), Fail> {
     let alloc = rt.alloc();
