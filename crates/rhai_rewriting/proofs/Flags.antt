@@ -2,7 +2,7 @@
 use Rattle.std.proofs.Common.{◌≡◌, Bool, false, refl, ap, ◌∙◌}
 use Rattle.rhai_meaning.specs.Tree.{Expr, ArrayOf, BlockExpr, FnCall, Exprs, Stmt, Block, ExprStmt, FnCallStmt, Stmts, stmt}
 use Rattle.rhai_rewriting.specs.Context.{Context, ListKind}
-use Rattle.rhai_rewriting.specs.Rewriting.{ExprTo, same_expr, then_expr, by_expr_rule, in_array, in_braces, in_call, ExprsTo, exprs_none, exprs_more, StmtTo, same_stmt, then_stmt, by_stmt_rule, in_if, in_block, in_expression, in_call_statement, StmtsTo, same_stmts, then_stmts, by_list_rule, in_head, in_tail, flag_forgotten}
+use Rattle.rhai_rewriting.specs.Rewriting.{ExprTo, same_expr, then_expr, by_expr_rule, in_array, in_braces, in_call, ExprsTo, exprs_none, exprs_more, StmtTo, same_stmt, then_stmt, by_stmt_rule, in_if, in_block, in_expression, in_call_statement, RestTo, same_stmts, then_stmts, by_list_rule, in_head, in_tail, flag_forgotten}
 
 -- the flag was clear before, and the two are one
 abbrev pub Kept : {A : Type 0} → Bool → A → A → Type 0
@@ -33,7 +33,7 @@ mutual
   stmt_kept (in_expression p) h = let k = expr_kept p h in (k.0, ap ExprStmt k.1)
   stmt_kept (in_call_statement {c = c} p) h = let k = exprs_kept p h in (k.0, ap (FnCallStmt c) k.1)
 
-  pub stmts_kept : {k : Context} {m : ListKind} {d d' : Bool} {e e' : Stmts} → StmtsTo k m d d' e e' → d' ≡ false → Kept d e e'
+  pub stmts_kept : {k : Context} {m : ListKind} {u d d' : Bool} {e e' : Stmts} → RestTo k m u d d' e e' → d' ≡ false → Kept d e e'
   stmts_kept same_stmts h = (h, refl)
   stmts_kept (then_stmts p q) h = let k = stmts_kept q h in kept_then (stmts_kept p k.0) k.1
   stmts_kept (by_list_rule r) h = cc

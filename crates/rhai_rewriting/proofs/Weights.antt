@@ -2,7 +2,7 @@
 use Rattle.std.proofs.Common.{◌≡◌, ℕ, ◌+◌, ◌≤◌, Bool, true, false, refl, arith}
 use Rattle.rhai_meaning.specs.Tree.{Expr, Exprs, Stmt, Stmts}
 use Rattle.rhai_rewriting.specs.Context.{Context, ListKind}
-use Rattle.rhai_rewriting.specs.Rewriting.{ExprTo, same_expr, then_expr, by_expr_rule, in_array, in_braces, in_call, ExprsTo, exprs_none, exprs_more, StmtTo, same_stmt, then_stmt, by_stmt_rule, in_if, in_block, in_expression, in_call_statement, StmtsTo, same_stmts, then_stmts, by_list_rule, in_head, in_tail, flag_forgotten}
+use Rattle.rhai_rewriting.specs.Rewriting.{ExprTo, same_expr, then_expr, by_expr_rule, in_array, in_braces, in_call, ExprsTo, exprs_none, exprs_more, StmtTo, same_stmt, then_stmt, by_stmt_rule, in_if, in_block, in_expression, in_call_statement, RestTo, same_stmts, then_stmts, by_list_rule, in_head, in_tail, flag_forgotten}
 use Rattle.rhai_meaning.specs.Weight.{expr_weight, exprs_weight, stmt_weight, weight}
 use Rattle.rhai_rewriting.proofs.rules.Expressions.{expr_rule}
 use Rattle.rhai_rewriting.proofs.rules.Statements.{stmt_rule}
@@ -55,7 +55,7 @@ mutual
   stmt_falls (in_expression p) = omega (arith, expr_falls p)
   stmt_falls (in_call_statement p) = omega (arith, exprs_fall p)
 
-  pub stmts_fall : {k : Context} {m : ListKind} {d d' : Bool} {ss ss' : Stmts} → StmtsTo k m d d' ss ss' → weight ss' + gap d d' ≤ weight ss
+  pub stmts_fall : {k : Context} {m : ListKind} {u d d' : Bool} {ss ss' : Stmts} → RestTo k m u d d' ss ss' → weight ss' + gap d d' ≤ weight ss
   stmts_fall (same_stmts {d = d}) = omega (arith, gap_same d)
   stmts_fall (then_stmts {d = d} {d1 = d1} {d2 = d2} p q) = omega (arith, stmts_fall p, stmts_fall q, gap_then d d1 d2)
   stmts_fall (by_list_rule {d = d} r) = omega (arith, gap_most d true, (list_rule r).lighter)

@@ -1,5 +1,6 @@
 pub mod Known
 pub mod Context
+pub mod SurelyUnit
 pub mod Folding
 pub mod Parts
 pub mod Operands

@@ -121,7 +121,7 @@ pub data StmtRule (k : Context) (w : Bool) : Stmt → Stmt → Type 0 where
   -- a `try` over a pure body does nothing
   pure_try : {x : Expr} {body branch : Stmts} → are_pure body ≡ true → StmtRule k w (TryCatch x body branch) Noop
 
--- of lists, at their first statement
-pub data ListRule (k : Context) (m : ListKind) : Stmts → Stmts → Type 0 where
+-- of lists, at their first statement; u: whether what stands before is surely unit, or nothing
+pub data ListRule (k : Context) (m : ListKind) (u : Bool) : Stmts → Stmts → Type 0 where
   -- a block in a list, none of whose statements belongs to it, gives way to its statements
-  block_gives_way : {ss back : Stmts} → is_any_dependent ss ≡ false → ListRule k m (stmt (Block ss) back) (spliced (wanted m) ss back)
+  block_gives_way : {ss back : Stmts} → is_any_dependent ss ≡ false → ListRule k m u (stmt (Block ss) back) (spliced (wanted m) ss back)

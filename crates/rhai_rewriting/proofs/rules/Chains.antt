@@ -265,9 +265,9 @@ method_answers : {k : Context} (c : Setting k) (f : ChainFlags) (captures : Bool
 method_answers c f captures e m v u h n j =
     expr_meant (is_rest true f.breaks (MethodCall (named m captures) no_exprs)) (core.Chain (based (root_of e) (core_expr c.in_loop e)) (core.last f.negated (member_of c.in_loop (MethodCall (named m captures) no_exprs))))
     (by (is_callable (named m captures) 0)) where
-  by : (b : Bool) → Simulates c (act (world c) (core.Chain (based (root_of e) (core_expr c.in_loop e)) (core.last f.negated (cond b (core.Method m core.no_exprs) core.IllStep)))) (give u)
-  by true = chain_over c e v (core.last f.negated (core.Method m core.no_exprs)) (give u) h (not_unit c (f.negated && is_unit v) _ _ _ n j)
-  by false = chain_over c e v (core.last f.negated core.IllStep) (give u) h (not_unit c (f.negated && is_unit v) _ _ _ n (simulates_stuck WrongKind (give u)))
+      by : (b : Bool) → Simulates c (act (world c) (core.Chain (based (root_of e) (core_expr c.in_loop e)) (core.last f.negated (cond b (core.Method m core.no_exprs) core.IllStep)))) (give u)
+      by true = chain_over c e v (core.last f.negated (core.Method m core.no_exprs)) (give u) h (not_unit c (f.negated && is_unit v) _ _ _ n j)
+      by false = chain_over c e v (core.last f.negated core.IllStep) (give u) h (not_unit c (f.negated && is_unit v) _ _ _ n (simulates_stuck WrongKind (give u)))
 
 pub type_of_method : {k : Context} {f : ChainFlags} {captures : Bool} {e : Expr} (v : Value) → constant_value e ≡ Some v → (f.negated && is_unit v) ≡ false → ExprObligation k (Dot f e (MethodCall (named (codes "type_of") captures) no_exprs)) (StringConstant (mapped_type_name k.engine v))
 type_of_method {k = k} {f = f} {captures = captures} {e = e} v h n = record {

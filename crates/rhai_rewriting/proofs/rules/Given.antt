@@ -95,9 +95,9 @@ pub constant_both : {k : Context} (c : Setting k) (e : Expr) (v : Value) (f g : 
 constant_both c e v f g h j = simulates_equal (λ m.
     let r = run_from c m (act (world c) (core_expr c.in_loop e)) in
     alike m.env r m.store m.turns (subst (λ o. Given (world c) m.env c.in_loop o r m.store m.turns) h (expr_given (world c) m.env c.in_loop e m.store m.turns))) where
-  alike : (env : Env) (r : Result) (s : Store) (t : ℕ) → OrWrong r (At (Ended (Gives v)) s t) s t → and_then r (λ x. run (world c) env (value_then f x)) ≡ and_then r (λ x. run (world c) env (value_then g x))
-  alike env r s t (is q) = ap (λ z. and_then z (λ x. run (world c) env (value_then f x))) q ∙ j env s t ∙ sym (ap (λ z. and_then z (λ x. run (world c) env (value_then g x))) q)
-  alike env r s t (wrong q) = ap (λ z. and_then z (λ x. run (world c) env (value_then f x))) q ∙ sym (ap (λ z. and_then z (λ x. run (world c) env (value_then g x))) q)
+      alike : (env : Env) (r : Result) (s : Store) (t : ℕ) → OrWrong r (At (Ended (Gives v)) s t) s t → and_then r (λ x. run (world c) env (value_then f x)) ≡ and_then r (λ x. run (world c) env (value_then g x))
+      alike env r s t (is q) = ap (λ z. and_then z (λ x. run (world c) env (value_then f x))) q ∙ j env s t ∙ sym (ap (λ z. and_then z (λ x. run (world c) env (value_then g x))) q)
+      alike env r s t (wrong q) = ap (λ z. and_then z (λ x. run (world c) env (value_then f x))) q ∙ sym (ap (λ z. and_then z (λ x. run (world c) env (value_then g x))) q)
 
 -- ---- a constant bool, as core
 

@@ -27,14 +27,14 @@ spliced_keeps P l lasts b no_stmts (stmt s back) h k = k
 spliced_keeps P l lasts true no_stmts no_stmts h k = ((lasts.noop, tt), tt)
 spliced_keeps P l lasts false no_stmts no_stmts h k = tt
 
-pub block_gives_way : {k : Context} {m : ListKind} {ss back : Stmts} → is_any_dependent ss ≡ false → ListObligation k m (stmt (Block ss) back) (spliced (wanted m) ss back)
+pub block_gives_way : {k : Context} {m : ListKind} {u : Bool} {ss back : Stmts} → is_any_dependent ss ≡ false → ListObligation k m u (stmt (Block ss) back) (spliced (wanted m) ss back)
 block_gives_way {m = m} {ss = ss} {back = back} q = record {
   lighter = omega (arith, spliced_light (wanted m) ss back);
   keeps = λ P l lasts h. spliced_keeps P l lasts (wanted m) ss back h.0.1 h.1;
-  sound = λ c v. list_of_all m (all_equal (λ n. braces_go (world c) n.env c.in_loop n.adds (wanted m) ss back q v n.store n.turns));
+  sound = λ c v h. list_of_all m (all_equal (λ n. braces_go (world c) n.env c.in_loop n.adds (wanted m) ss back q v n.store n.turns));
 }
 
 -- ---- every rule
 
-pub list_rule : {k : Context} {m : ListKind} {ss ss' : Stmts} → ListRule k m ss ss' → ListObligation k m ss ss'
+pub list_rule : {k : Context} {m : ListKind} {u : Bool} {ss ss' : Stmts} → ListRule k m u ss ss' → ListObligation k m u ss ss'
 list_rule (rule.block_gives_way h) = block_gives_way h

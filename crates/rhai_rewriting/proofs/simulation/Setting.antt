@@ -1,13 +1,14 @@
 -- What lemmas on runs share: where a tree stands, the world, and the environments by depth.
-use Rattle.std.proofs.Common.{ℕ, ◌≤◌, Bool, List, arith}
-use Rattle.rhai_values.specs.Value.{Text}
+use Rattle.std.proofs.Common.{ℕ, ◌≤◌, Bool, List, Option, None, arith}
+use Rattle.rhai_values.specs.Value.{Text, Value}
 use Rattle.rhai_meaning.specs.Act.{Host, Key, Store, World, Result, Act, Acts, Env, run, run_all}
 use Rattle.rhai_meaning.proofs.Preserves.{OnlyAdds}
 use Rattle.rhai_meaning.proofs.Relations.{AnyHalt, IsOut}
 use Rattle.rhai_meaning.proofs.Monotone.{Deeper, follows_weak, monotone, monotone_all}
 use Rattle.rhai_meaning.proofs.Ends.{Run, Rises}
-use Rattle.rhai_rewriting.specs.Context.{Context}
-use Rattle.rhai_rewriting.specs.Known.{shadow, Agrees}
+use Rattle.rhai_meaning.specs.Tree.{Stmt}
+use Rattle.rhai_rewriting.specs.Context.{Context, noting, behind}
+use Rattle.rhai_rewriting.specs.Known.{Agrees}
 
 -- a deeper one does what a shallower one does unless that is out of turns, and loops go round as often as it is deep
 pub record Environments : Type 0 where
@@ -29,12 +30,19 @@ world {k} c = record { engine = k.engine; host = c.host; functions = c.functions
 abbrev pub environment : {k : Context} → Setting k → ℕ → Env
 environment c d = c.environments.by_depth d
 
--- under one more name
+-- under one more name: a constant of this value, or one of which nothing is known
+abbrev pub noted : {k : Context} (x : Text) (o : Option Value) → Setting k → Setting (noting x o k)
+noted x o c = record { host = c.host; functions = c.functions; environments = c.environments; in_loop = c.in_loop }
+
 abbrev pub naming : Text → Context → Context
-naming x k = record k { known = shadow x k.known }
+naming x k = noting x None k
 
 abbrev pub beneath : {k : Context} (x : Text) → Setting k → Setting (naming x k)
-beneath x c = record { host = c.host; functions = c.functions; environments = c.environments; in_loop = c.in_loop }
+beneath x c = noted x None c
+
+-- behind a statement
+abbrev pub past : {k : Context} (s : Stmt) → Setting k → Setting (behind s k)
+past s c = record { host = c.host; functions = c.functions; environments = c.environments; in_loop = c.in_loop }
 
 -- what is known holds in the store
 abbrev pub Agreed : Context → Store → Type 0

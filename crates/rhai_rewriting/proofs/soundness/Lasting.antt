@@ -3,7 +3,7 @@ use Rattle.std.proofs.Common.{◌≡◌, suc, Bool, refl, ap}
 use Rattle.rhai_meaning.specs.Tree.{Expr, Exprs, count_exprs, Stmt, Stmts}
 use Rattle.rhai_meaning.specs.Walk.{Node, Around, whole, throughout, over_expr, over_exprs, over_stmt, over_stmts}
 use Rattle.rhai_rewriting.specs.Context.{Context, ListKind}
-use Rattle.rhai_rewriting.specs.Rewriting.{ExprTo, same_expr, then_expr, by_expr_rule, in_array, in_braces, in_call, ExprsTo, exprs_none, exprs_more, StmtTo, same_stmt, then_stmt, by_stmt_rule, in_if, in_block, in_expression, in_call_statement, StmtsTo, same_stmts, then_stmts, by_list_rule, in_head, in_tail, flag_forgotten}
+use Rattle.rhai_rewriting.specs.Rewriting.{ExprTo, same_expr, then_expr, by_expr_rule, in_array, in_braces, in_call, ExprsTo, exprs_none, exprs_more, StmtTo, same_stmt, then_stmt, by_stmt_rule, in_if, in_block, in_expression, in_call_statement, RestTo, same_stmts, then_stmts, by_list_rule, in_head, in_tail, flag_forgotten}
 use Rattle.rhai_rewriting.proofs.rules.Lasting.{same_array, same_braces, same_call, same_if, same_block, same_expression, same_call_statement, Lasting}
 use Rattle.rhai_rewriting.proofs.rules.Expressions.{expr_rule}
 use Rattle.rhai_rewriting.proofs.rules.Statements.{stmt_rule}
@@ -37,7 +37,7 @@ module _ (P : Around → Node → Type 0) (l : Bool) (lasts : Lasting P l) where
     stmt_keeps (in_expression p) h = (lasts.again same_expression h.0, expr_keeps p h.1)
     stmt_keeps (in_call_statement p) h = (lasts.again (same_call_statement (same_count p)) h.0, exprs_keep p h.1)
 
-    pub stmts_keep : {k : Context} {m : ListKind} {d d' : Bool} {ss ss' : Stmts} → StmtsTo k m d d' ss ss' → over_stmts (throughout P) ss (whole l) → over_stmts (throughout P) ss' (whole l)
+    pub stmts_keep : {k : Context} {m : ListKind} {u d d' : Bool} {ss ss' : Stmts} → RestTo k m u d d' ss ss' → over_stmts (throughout P) ss (whole l) → over_stmts (throughout P) ss' (whole l)
     stmts_keep same_stmts h = h
     stmts_keep (then_stmts p q) h = stmts_keep q (stmts_keep p h)
     stmts_keep (by_list_rule r) h = (list_rule r).keeps P l lasts h

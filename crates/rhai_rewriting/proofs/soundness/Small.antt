@@ -50,4 +50,3 @@ calls_stay {ss = ss} {ss' = ss'} to h =
     let before = stmts_alongside (λ p q. (a : Around) → (p → q a) × (q a → p)) (every CallsOperator) (throughout (λ a n. CallsOperator n)) (every_throughout CallsOperator) ss outermost in
     let after = stmts_alongside (λ p q. (a : Around) → (p → q a) × (q a → p)) (every CallsOperator) (throughout (λ a n. CallsOperator n)) (every_throughout CallsOperator) ss' outermost in
     after.1 (stmts_keep (λ a n. CallsOperator n) false operators_last to (before.0 h))
-
