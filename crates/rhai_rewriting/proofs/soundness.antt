@@ -1,3 +1,4 @@
+pub mod Standing
 pub mod Lasting
 pub mod WellFormed
 pub mod Small
@@ -6,3 +7,4 @@ pub mod Derivation
 pub mod Scripts
 pub mod Theorem
 pub mod Unrefined
+pub mod Congruence

@@ -111,7 +111,7 @@ at_finish {c = c} {p = p} i = record {
   };
 }
 
-at_turn : {k : Context} {c : Setting k} {g : Stage} {a b : Act} → SimulatesAt c g a b → SimulatesAt c g (Turn a) (Turn b)
+pub at_turn : {k : Context} {c : Setting k} {g : Stage} {a b : Act} → SimulatesAt c g a b → SimulatesAt c g (Turn a) (Turn b)
 at_turn {c = c} {g = g} {a = a} {b = b} i = record {
   matches = λ s t ag. record {
     forward = follow_turn AnyHalt tt 0 s t t (omega arith) _ _ (λ t1 t1' le. later i s t1 t1' ag le) (λ s1 t1. (preserves (world c) g.env g.steady.adds b s1 t1).calls);
@@ -139,7 +139,7 @@ at_noted {k = k} {c = c} x o b v f {p = p} i = record {
 pub at_named : {k : Context} {c : Setting k} {g : Stage} (x : Text) (b : Bool) (v : Value) {p q : Acts} → SimulatesAllAt (beneath x c) g p q → SimulatesAllAt c g (Named x b v p) (Named x b v q)
 at_named x b v i = at_noted x None b v (λ w h. absurd (let z : None ≡ Some w = h in cc)) i
 
-at_ask : {k : Context} {c : Setting k} {g : Stage} (call : HostCall) {next next' : Answer → Act} → ((a : Answer) → SimulatesAt c g (next a) (next' a)) → SimulatesAt c g (AskHost call next) (AskHost call next')
+pub at_ask : {k : Context} {c : Setting k} {g : Stage} (call : HostCall) {next next' : Answer → Act} → ((a : Answer) → SimulatesAt c g (next a) (next' a)) → SimulatesAt c g (AskHost call next) (AskHost call next')
 at_ask {c = c} call {next = next} h = record {
   matches = λ s t ag.
       let r = c.host.answer s.calls call in
@@ -162,7 +162,7 @@ ends_loop c a n s o s' x = record {
       (z.0, omega (arith, z.1, y.1), z.2);
 }
 
-at_loop : {k : Context} {c : Setting k} {g : Stage} {a b : Act} → (environment c g.depth).rounds ≤ g.env.rounds → SimulatesAt c g a b → SimulatesAt c g (Loop a) (Loop b)
+pub at_loop : {k : Context} {c : Setting k} {g : Stage} {a b : Act} → (environment c g.depth).rounds ≤ g.env.rounds → SimulatesAt c g a b → SimulatesAt c g (Loop a) (Loop b)
 at_loop {k = k} {c = c} {g = g} {a = a} {b = b} le i = record {
   matches = λ s t ag. record {
     forward = follow_rounds AnyHalt tt 0 (Agreed k) (environment c g.depth).rounds g.env.rounds le _ _
@@ -183,7 +183,7 @@ pub record CallsMatch {k : Context} (c : Setting k) (g : Stage) : Type 0 where
   pub rounds : (environment c g.depth).rounds ≤ g.env.rounds
   pub calls : (a : ScriptCall) (s : Store) (t : ℕ) → Matches (calling c.environments.by_depth a) g.depth s t (g.env.invoke a s.scope s.calls t)
 
-at_invoke : {k : Context} {c : Setting k} {g : Stage} (a : ScriptCall) {next next' : Value → Option Value → Act} → CallsMatch c g → ((v : Value) (u : Option Value) → SimulatesAt c g (next v u) (next' v u)) → SimulatesAt c g (Invoke a next) (Invoke a next')
+pub at_invoke : {k : Context} {c : Setting k} {g : Stage} (a : ScriptCall) {next next' : Value → Option Value → Act} → CallsMatch c g → ((v : Value) (u : Option Value) → SimulatesAt c g (next v u) (next' v u)) → SimulatesAt c g (Invoke a next) (Invoke a next')
 at_invoke {c = c} {g = g} a {next = next} {next' = next'} m h = record {
   matches = λ s t ag. record {
     forward = follow_call AnyHalt tt 0 s (m.calls a s t).forward _ _ (λ v u cs t1 t1' le. later (h v u) (record s { calls = cs }) t1 t1' ag le) (λ v u s1 t1. (preserves (world c) g.env g.steady.adds (next' v u) s1 t1).calls);

@@ -7,7 +7,7 @@ use Rattle.rhai_meaning.proofs.Relations.{AnyHalt, IsOut}
 use Rattle.rhai_meaning.proofs.Monotone.{Deeper, follows_weak, monotone, monotone_all}
 use Rattle.rhai_meaning.proofs.Ends.{Run, Rises}
 use Rattle.rhai_meaning.specs.Tree.{Stmt}
-use Rattle.rhai_rewriting.specs.Context.{Context, noting, behind}
+use Rattle.rhai_rewriting.specs.Context.{Context, noting, naming, behind}
 use Rattle.rhai_rewriting.specs.Known.{Agrees}
 
 -- a deeper one does what a shallower one does unless that is out of turns, and loops go round as often as it is deep
@@ -33,9 +33,6 @@ environment c d = c.environments.by_depth d
 -- under one more name: a constant of this value, or one of which nothing is known
 abbrev pub noted : {k : Context} (x : Text) (o : Option Value) → Setting k → Setting (noting x o k)
 noted x o c = record { host = c.host; functions = c.functions; environments = c.environments; in_loop = c.in_loop }
-
-abbrev pub naming : Text → Context → Context
-naming x k = noting x None k
 
 abbrev pub beneath : {k : Context} (x : Text) → Setting k → Setting (naming x k)
 beneath x c = noted x None c
