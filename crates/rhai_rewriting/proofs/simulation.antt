@@ -6,3 +6,4 @@ pub mod Forms
 pub mod Lists
 pub mod Unwanted
 pub mod Laws
+pub mod Dropped
