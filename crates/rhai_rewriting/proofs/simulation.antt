@@ -7,3 +7,4 @@ pub mod Lists
 pub mod Unwanted
 pub mod Laws
 pub mod Congruent
+pub mod Dropped

@@ -13,6 +13,8 @@ use Rattle.rhai_rewriting.proofs.simulation.Simulation.{all_equal}
 use Rattle.rhai_rewriting.proofs.simulation.Lists.{list_of_all}
 use Rattle.rhai_rewriting.proofs.rules.Blocks.{braces_go}
 use Rattle.rhai_rewriting.proofs.rules.Lasting.{Lasting}
+use Rattle.rhai_rewriting.proofs.rules.Leaving as leaving
+use Rattle.rhai_rewriting.proofs.rules.Pure as pure
 use Rattle.rhai_rewriting.proofs.rules.Obligation.{ListObligation}
 
 spliced_light : (w : Bool) (ss back : Stmts) → weight (spliced w ss back) ≤ 1 + weight ss + weight back
@@ -38,3 +40,10 @@ block_gives_way {m = m} {ss = ss} {back = back} q = record {
 
 pub list_rule : {k : Context} {m : ListKind} {u : Bool} {ss ss' : Stmts} → ListRule k m u ss ss' → ListObligation k m u ss ss'
 list_rule (rule.block_gives_way h) = block_gives_way h
+list_rule (rule.after_leave h) = leaving.after_leave h
+list_rule (rule.pure_goes h j) = pure.pure_goes h j
+list_rule (rule.lone_goes h) = pure.lone_goes h
+list_rule (rule.pure_inside_goes h j i) = pure.pure_inside_goes h j i
+list_rule rule.last_return = leaving.last_return
+list_rule rule.last_return_goes = leaving.last_return_goes
+list_rule rule.last_return_noop = leaving.last_return_noop

@@ -42,6 +42,9 @@ rule_not_true (rule.property_of_map h) = refl
 rule_not_true (rule.entry_of_map x h q) = refl
 rule_not_true (rule.type_of_method v h q) = refl
 rule_not_true (rule.is_shared_method v h q) = refl
+rule_not_true (rule.known_name v h) = refl
+rule_not_true (rule.known_property fs h) = refl
+rule_not_true (rule.known_entry fs y h q) = refl
 
 true_stays : {k : Context} {d d' : Bool} {e e' : Expr} → ExprTo k d d' e e' → is_true e ≡ true → is_true e' ≡ true
 true_stays same_expr h = h
