@@ -10,9 +10,11 @@ pub mod Rules
 pub mod Rewriting
 pub mod Shapes
 pub mod Residue
+pub mod Reducible
 pub mod Steps
 pub mod Refines
 pub mod WorkedWeights
+pub mod WorkedReducible
 pub mod WorkedRewrites
 pub mod WorkedNodes
 pub mod WorkedConditions
