@@ -19,4 +19,5 @@ pub mod Expressions
 pub mod Statements
 pub mod Leaving
 pub mod Pure
+pub mod LastUnit
 pub mod Lists

@@ -8,7 +8,7 @@ use Rattle.rhai_meaning.specs.Control.{chosen as cases_for}
 use Rattle.rhai_meaning.specs.Elements.{index_in, entry, fields_of}
 use Rattle.rhai_meaning.specs.Engine.{mapped_type_name}
 use Rattle.rhai_meaning.specs.Faults.{has_operands}
-use Rattle.rhai_meaning.specs.Queries.{is_block_dependent, is_any_dependent, are_pure_exprs, are_pure_pairs, is_pure, are_pure, is_internally_pure, are_internally_pure, is_control_flow_break}
+use Rattle.rhai_meaning.specs.Queries.{is_block_dependent, is_any_dependent, are_pure_exprs, are_pure_pairs, is_pure, are_pure, is_internally_pure, are_internally_pure, is_control_flow_break, is_noop}
 use Rattle.rhai_meaning.specs.Shape.{is_unit, is_table, names_arm}
 use Rattle.rhai_meaning.specs.Walk.{listed}
 use Rattle.rhai_meaning.specs.Weight.{table_weight}
@@ -19,6 +19,7 @@ use Rattle.rhai_rewriting.specs.Folding.{folded}
 use Rattle.rhai_rewriting.specs.Operands.{OperandsTo, CoalesceTo, TextTo}
 use Rattle.rhai_rewriting.specs.Indexing.{indexed, expr_at, pair_for, or_unit}
 use Rattle.rhai_rewriting.specs.Parts.{constant_of, named}
+use Rattle.rhai_rewriting.specs.SurelyUnit.{is_surely_unit}
 use Rattle.rhai_rewriting.specs.Tables.{forgotten, CasesTo, RangesTo, are_of, arm_of, left_arms, default_answer, default_stmt, default_branch}
 
 -- ---- what stands for what
@@ -43,6 +44,11 @@ spliced b (stmt s ss) back = joined (stmt s ss) back
 spliced b no_stmts (stmt s back) = stmt s back
 spliced true no_stmts no_stmts = stmt Noop no_stmts
 spliced false no_stmts no_stmts = no_stmts
+
+-- a list inside takes away the names that it adds
+abbrev pub is_pure_in : ListKind → Stmt → Bool
+is_pure_in Whole s = is_pure s
+is_pure_in (Inside b) s = is_internally_pure s
 
 -- ---- the rules
 
@@ -141,3 +147,6 @@ pub data ListRule (k : Context) : ListKind → Bool → Stmts → Stmts → Type
   last_return : {u : Bool} {e : Expr} → ListRule k Whole u (stmt (Return false (an_expr e)) no_stmts) (stmt (ExprStmt e) no_stmts)
   last_return_goes : ListRule k Whole true (stmt (Return false no_expr) no_stmts) no_stmts
   last_return_noop : {u : Bool} → ListRule k Whole u (stmt (Return false no_expr) no_stmts) (stmt Noop no_stmts)
+  -- a last statement that is pure and surely unit goes behind unit, and else does nothing
+  last_unit_goes : {m : ListKind} {s : Stmt} → is_pure_in m s ≡ true → is_surely_unit s ≡ true → ListRule k m true (stmt s no_stmts) no_stmts
+  last_unit_noop : {m : ListKind} {u : Bool} {s : Stmt} → is_pure_in m s ≡ true → is_surely_unit s ≡ true → is_noop s ≡ false → ListRule k m u (stmt s no_stmts) (stmt Noop no_stmts)

@@ -13,6 +13,7 @@ use Rattle.rhai_rewriting.proofs.simulation.Simulation.{all_equal}
 use Rattle.rhai_rewriting.proofs.simulation.Lists.{list_of_all}
 use Rattle.rhai_rewriting.proofs.rules.Blocks.{braces_go}
 use Rattle.rhai_rewriting.proofs.rules.Lasting.{Lasting}
+use Rattle.rhai_rewriting.proofs.rules.LastUnit as unit
 use Rattle.rhai_rewriting.proofs.rules.Leaving as leaving
 use Rattle.rhai_rewriting.proofs.rules.Pure as pure
 use Rattle.rhai_rewriting.proofs.rules.Obligation.{ListObligation}
@@ -47,3 +48,5 @@ list_rule (rule.pure_inside_goes h j i) = pure.pure_inside_goes h j i
 list_rule rule.last_return = leaving.last_return
 list_rule rule.last_return_goes = leaving.last_return_goes
 list_rule rule.last_return_noop = leaving.last_return_noop
+list_rule (rule.last_unit_goes h j) = unit.last_unit_goes h j
+list_rule (rule.last_unit_noop h j i) = unit.last_unit_noop h j i

@@ -9,12 +9,15 @@ use Rattle.rhai_meaning.proofs.Ends.{Run, Rises}
 use Rattle.rhai_meaning.specs.Tree.{Stmt}
 use Rattle.rhai_rewriting.specs.Context.{Context, noting, naming, behind}
 use Rattle.rhai_rewriting.specs.Known.{Agrees}
+use Rattle.rhai_rewriting.proofs.unit.Within.{Valueless, CallsIn}
 
--- a deeper one does what a shallower one does unless that is out of turns, and loops go round as often as it is deep
+-- A deeper one does what a shallower one does unless that is out of turns, and loops go round as often as it is deep.
+-- No call leaves a loop with a value.
 pub record Environments : Type 0 where
   pub by_depth : ℕ → Env
   pub deeper : (d d' n : ℕ) → d ≤ d' → Deeper IsOut tt n (by_depth d) (by_depth d')
   pub reaches : (d : ℕ) → d ≤ (by_depth d).rounds
+  pub unbroken : (d : ℕ) → CallsIn Valueless (by_depth d)
 
 -- a world with this engine's record, and environments
 pub record Setting (k : Context) : Type 0 where
@@ -51,6 +54,7 @@ pub record Start (k : Context) : Type 0 where
   pub store : Store
   pub turns : ℕ
   pub adds : OnlyAdds env
+  pub unbroken : CallsIn Valueless env
   pub agrees : Agreed k store
 
 abbrev pub run_from : {k : Context} → Setting k → Start k → Act → Result

@@ -65,7 +65,7 @@ all_refl {c = c} {p = p} = record { at = λ d. all_at_refl p c (stage c d) (self
 -- ---- the same result
 
 at_depth : {k : Context} (c : Setting k) (d : ℕ) (s : Store) (t : ℕ) → Agreed k s → Start k
-at_depth c d s t ag = record { env = environment c d; store = s; turns = t; adds = (steady_at c d).adds; agrees = ag }
+at_depth c d s t ag = record { env = environment c d; store = s; turns = t; adds = (steady_at c d).adds; unbroken = c.environments.unbroken d; agrees = ag }
 
 pub simulates_equal : {k : Context} {c : Setting k} {a b : Act} → ((m : Start k) → run_from c m a ≡ run_from c m b) → Simulates c a b
 unfolding at_depth
