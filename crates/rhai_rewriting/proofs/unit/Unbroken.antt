@@ -234,10 +234,10 @@ module _ (w : World) (env : Env) (calls : CallsIn Valueless env) where
     target_calm l ThisPtr h op v = assign_root_in w env Valueless throws_carry calls AnyValue tt op v OfThis
     target_calm l (Dot k a r) h op v =
         let z = split (over_expr W a) (over_expr W r) h in
-        target_or_ill (is_rest true k.breaks r) _ op v (part_calm (root_of a) (ends_in_call k.breaks r) _ (steps_calm l true k (member_of l r) r (member_calm l r z.1) z.1) op v)
+        target_or_ill (is_rest true k.breaks r) _ op v (part_calm (root_of a) (ends_in_call true k.breaks r) _ (steps_calm l true k (member_of l r) r (member_calm l r z.1) z.1) op v)
     target_calm l (Index k a r) h op v =
         let z = split (over_expr W a) (over_expr W r) h in
-        target_or_ill (is_rest false k.breaks r) _ op v (part_calm (root_of a) (ends_in_call k.breaks r) _ (steps_calm l false k (core.Index (core_expr l r)) r (index_calm _ (expr_calm l r z.1)) z.1) op v)
+        target_or_ill (is_rest false k.breaks r) _ op v (part_calm (root_of a) (ends_in_call false k.breaks r) _ (steps_calm l false k (core.Index (core_expr l r)) r (index_calm _ (expr_calm l r z.1)) z.1) op v)
     target_calm l _ h op v = in_fail w env _
 
     args_calm : (l : Bool) (es : Exprs) → over_exprs W es ≡ true → {f : List Value → Act} → ((vs : List Value) → Calm (f vs)) → Calm (with_args w (core_exprs l es) f)
