@@ -8,3 +8,5 @@ pub mod Scripts
 pub mod Theorem
 pub mod Unrefined
 pub mod Congruence
+pub mod Apart
+pub mod Capturing

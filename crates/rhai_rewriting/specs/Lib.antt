@@ -11,6 +11,7 @@ pub mod Rewriting
 pub mod Shapes
 pub mod Residue
 pub mod Reducible
+pub mod Scripts
 pub mod Steps
 pub mod Refines
 pub mod WorkedWeights
