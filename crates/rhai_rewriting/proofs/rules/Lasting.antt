@@ -1,8 +1,8 @@
 -- What may be asked of every node, so that each rewriting keeps it; l: whether the tree stands in a loop's body.
-use Rattle.std.proofs.Common.{◌≡◌, Bool, true}
-use Rattle.rhai_values.specs.Value.{Value}
+use Rattle.std.proofs.Common.{◌≡◌, Bool, true, List}
+use Rattle.rhai_values.specs.Value.{Text, Value}
 use Rattle.rhai_meaning.specs.Constants.{constant_for}
-use Rattle.rhai_meaning.specs.Tree.{SwitchTable, Arms, Callee, Expr, InterpolatedString, ArrayOf, BlockExpr, FnCall, And, Or, Coalesce, Exprs, count_exprs, Noop, If, Switch, While, Block, ExprStmt, FnCallStmt, Stmts}
+use Rattle.rhai_meaning.specs.Tree.{SwitchTable, Arms, Callee, Expr, InterpolatedString, ArrayOf, BlockExpr, FnCall, And, Or, Coalesce, Exprs, count_exprs, Noop, If, Switch, While, Block, ExprStmt, FnCallStmt, Share, Stmts}
 use Rattle.rhai_meaning.specs.Faults.{has_operands}
 use Rattle.rhai_meaning.specs.Shape.{is_table}
 use Rattle.rhai_meaning.specs.Walk.{Node, OfExpr, OfStmt, Around, whole}
@@ -23,6 +23,7 @@ pub data SameNode : Node → Node → Type 0 where
   same_coalesce : {es es' : Exprs} → has_operands es' ≡ true → SameNode (OfExpr (Coalesce es)) (OfExpr (Coalesce es'))
   same_text : {es es' : Exprs} → SameNode (OfExpr (InterpolatedString es)) (OfExpr (InterpolatedString es'))
   same_while : {e e' : Expr} {b b' : Stmts} → SameNode (OfStmt (While e b)) (OfStmt (While e' b'))
+  same_share : {xs ys : List Text} → SameNode (OfStmt (Share xs)) (OfStmt (Share ys))
   same_switch : {e : Expr} {as' bs : Arms} {t t' : SwitchTable} → (is_table as' t ≡ true → is_table bs t' ≡ true) → SameNode (OfStmt (Switch e as' t)) (OfStmt (Switch e bs t'))
 
 -- the same node has it again, and what rules make has it
@@ -34,4 +35,5 @@ pub record Lasting (P : Around → Node → Type 0) (l : Bool) : Type 0 where
   pub branching : (e : Expr) (a b : Stmts) → P (whole l) (OfStmt (If e a b))
   pub block : (ss : Stmts) → P (whole l) (OfStmt (Block ss))
   pub expression : (e : Expr) → P (whole l) (OfStmt (ExprStmt e))
+  pub conjunction : (es : Exprs) → has_operands es ≡ true → P (whole l) (OfExpr (And es))
   pub call_statement : (c : Callee) (es : Exprs) → P (whole l) (OfExpr (FnCall c es)) → P (whole l) (OfStmt (FnCallStmt c es))

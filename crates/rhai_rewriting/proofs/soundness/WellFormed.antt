@@ -43,6 +43,7 @@ faultless_lasts l = record {
   branching = λ e a b. refl;
   block = λ ss. refl;
   expression = λ e. refl;
+  conjunction = λ es h. ap (λ b. unless b NoOperands) h;
   call_statement = λ c es h. h;
 }
 
