@@ -131,7 +131,6 @@ pub data StmtRule (k : Context) (w : Bool) : Stmt → Stmt → Type 0 where
   switch_forgets : {e : Expr} {as' : Arms} {t : SwitchTable} {c a : Expr} (j : ℕ) → arm_of as' j ≡ Some (c, a) → is_literal_unit a ≡ false → names_arm j (listed t) ≡ false → StmtRule k w (Switch e as' t) (Switch e (forgotten as' j) t)
   -- a `try` over a pure body does nothing
   pure_try : {x : Expr} {body branch : Stmts} → are_pure body ≡ true → StmtRule k w (TryCatch x body branch) Noop
-
   -- an `if` alone in an `if`, both without an `else`
   nested_if : {a b : Expr} {ss : Stmts} → StmtRule k w (If a (stmt (If b ss no_stmts) no_stmts) no_stmts) (If (And (expr a (expr b no_exprs))) ss no_stmts)
   -- of shared names those that are known go; of none nothing is left

@@ -6,14 +6,11 @@ use Rattle.rhai_meaning.specs.ActForms.{give, unit, ◌>>=◌, truth, branch, if
 use Rattle.rhai_meaning.specs.Constants.{constant_bool}
 use Rattle.rhai_meaning.specs.Control.{round}
 use Rattle.rhai_meaning.specs.Core as core
-use Rattle.rhai_meaning.specs.Desugar.{core_expr, core_stmt, core_stmts, guard_by, try_by}
-use Rattle.rhai_meaning.specs.Faults.{has_operands}
+use Rattle.rhai_meaning.specs.Desugar.{core_expr, core_stmts, guard_by, try_by}
 use Rattle.rhai_meaning.specs.Meaning.{act, both, loop, deed, acts}
 use Rattle.rhai_meaning.specs.Queries.{are_pure}
 use Rattle.rhai_meaning.specs.Shape.{catch_name}
-use Rattle.rhai_meaning.specs.Tree.{Expr, UnitConstant, And, Exprs, no_exprs, expr, Stmt, Noop, If, While, TryCatch, Share, Stmts, no_stmts, stmt}
-use Rattle.rhai_meaning.specs.Walk.{Node, OfExpr, Around, whole, throughout, over_stmt}
-use Rattle.rhai_meaning.specs.Weight.{stmt_weight}
+use Rattle.rhai_meaning.specs.Tree.{Expr, UnitConstant, And, no_exprs, expr, Stmt, Noop, If, While, TryCatch, Share, Stmts, no_stmts, stmt}
 use Rattle.rhai_meaning.proofs.PureTrees.{pure_list}
 use Rattle.rhai_rewriting.specs.Context.{Context}
 use Rattle.rhai_rewriting.specs.Known.{unknown}
@@ -22,7 +19,7 @@ use Rattle.rhai_rewriting.proofs.simulation.Setting.{Setting, world}
 use Rattle.rhai_rewriting.proofs.simulation.Simulation.{Simulates, simulates_trans, simulates_refl, simulates_equal}
 use Rattle.rhai_rewriting.proofs.simulation.Forms.{simulates_bind, simulates_if, stmt_refl, stmt_of_deed}
 use Rattle.rhai_rewriting.proofs.rules.Given.{bool_core, bool_heavy}
-use Rattle.rhai_rewriting.proofs.rules.Lasting.{same_while, same_share, Lasting}
+use Rattle.rhai_rewriting.proofs.rules.Lasting.{same_while, same_share}
 use Rattle.rhai_rewriting.proofs.rules.Obligation.{StmtObligation}
 
 -- ---- `while`
