@@ -20,3 +20,5 @@ pub mod WorkedRewrites
 pub mod WorkedNodes
 pub mod WorkedConditions
 pub mod WorkedKnown
+pub mod WorkedLists
+pub mod WorkedListConditions

@@ -27,7 +27,7 @@ use Rattle.rhai_rewriting.proofs.rules.Lists.{list_rule}
 use Rattle.rhai_rewriting.proofs.soundness.Behind.{tail_sound}
 use Rattle.rhai_rewriting.proofs.rules.Tables.{meant_again}
 use Rattle.rhai_rewriting.proofs.soundness.Congruence.{Any, congruent, InsideAlike, StepAlike, step_refl, index_alike, method_alike, StepsAlike, steps_refl, last_alike, more_alike, chain_alike, target_alike, switch_alike, body_alike, rounds_alike, try_alike}
-use Rattle.rhai_rewriting.proofs.soundness.Lasting.{same_count, same_keys, rest_fits, target_fits}
+use Rattle.rhai_rewriting.proofs.soundness.Lasting.{same_count, same_keys, rest_fits, calls_fit, target_fits}
 use Rattle.rhai_rewriting.proofs.soundness.Standing.{table_stays}
 
 -- ---- nodes whose parts are rewritten
@@ -95,19 +95,6 @@ steps_end : (loop : Bool) (f : ChainFlags) (p : core.Step) (r : Expr) → f.brea
 steps_end loop f p (Dot m l r) h = ap (λ b. cond b (core.last f.negated p) (core.more f.negated (core.Index (core_expr loop l)) (steps_of loop true m (member_of loop r) r))) h
 steps_end loop f p (Index m l r) h = ap (λ b. cond b (core.last f.negated p) (core.more f.negated (core.Index (core_expr loop l)) (steps_of loop false m (core.Index (core_expr loop r)) r))) h
 steps_end loop f p _ h = refl
-
-no_call : (e : Expr) → ends_in_call false true e ≡ false
-no_call (MethodCall c es) = refl
-no_call (Dot f l r) = refl
-no_call (Index f l r) = refl
-no_call _ = refl
-
-calls_fit : {k : Context} {dot breaks d d' : Bool} {e e' : Expr} → StepsTo k dot breaks d d' e e' → ends_in_call dot breaks e ≡ ends_in_call dot breaks e'
-calls_fit same_steps = refl
-calls_fit (last_method p) = refl
-calls_fit (last_index {e = e} {e' = e'} p) = no_call e ∙ sym (no_call e')
-calls_fit (more_dot p q) = calls_fit q
-calls_fit (more_index p q) = calls_fit q
 
 -- behind a chain that goes on
 goes_on : {k : Context} (c : Setting k) (b : Bool) (x x' y y' : core.Steps) → b ≡ false → StepsAlike c y y' → StepsAlike c (cond b x y) (cond b x' y')

@@ -1,7 +1,9 @@
 -- What may be asked of every node so that it lasts, lasts over a derivation.
 use Rattle.std.proofs.Common.{◌≡◌, ℕ, zero, suc, Bool, true, false, List, [], ◌∷◌, refl, sym, ap, ◌∙◌, subst}
 use Rattle.std.specs.Prelude.{not, ◌&&◌, ◌||◌}
+use Rattle.rhai_meaning.specs.Desugar.{ends_in_call}
 use Rattle.rhai_meaning.specs.Faults.{has_operands}
+use Rattle.rhai_rewriting.specs.Scripts.{has_root, is_place}
 use Rattle.rhai_meaning.specs.Shape.{keys, is_member, is_argument, is_rest, is_left_side}
 use Rattle.rhai_meaning.specs.Tree.{Expr, MethodCall, Dot, Index, And, Or, Coalesce, Exprs, count_exprs, Pairs, pair, MaybeExpr, Arms, Stmt, Stmts}
 use Rattle.rhai_meaning.specs.Walk.{Node, OfExpr, Role, Rest, Around, left_role, right_role, whole, throughout, over_expr, over_exprs, over_pairs, over_maybe, over_arms, arm_at, arms_at, listed, over_stmt, over_stmts}
@@ -42,10 +44,29 @@ rest_fits (last_index {e = e} {e' = e'} p) = rest_ends e ∙ sym (rest_ends e')
 rest_fits (more_dot {f = f} {r' = r'} p q) = λ i. argument_fits p i && rest_fits q i
 rest_fits (more_index {f = f} {r' = r'} p q) = λ i. argument_fits p i && rest_fits q i
 
+no_call : (e : Expr) → ends_in_call false true e ≡ false
+no_call (MethodCall c es) = refl
+no_call (Dot f l r) = refl
+no_call (Index f l r) = refl
+no_call _ = refl
+
+pub calls_fit : {k : Context} {dot breaks d d' : Bool} {e e' : Expr} → StepsTo k dot breaks d d' e e' → ends_in_call dot breaks e ≡ ends_in_call dot breaks e'
+calls_fit same_steps = refl
+calls_fit (last_method p) = refl
+calls_fit (last_index {e = e} {e' = e'} p) = no_call e ∙ sym (no_call e')
+calls_fit (more_dot p q) = calls_fit q
+calls_fit (more_index p q) = calls_fit q
+
 pub target_fits : {k : Context} {d d' : Bool} {e e' : Expr} → TargetTo k d d' e e' → is_left_side e ≡ is_left_side e'
 target_fits same_target = refl
 target_fits (in_target (in_dot p q)) = refl
 target_fits (in_target (in_index p q)) = refl
+
+-- a left side that was a place still is one, and nothing else becomes one
+pub target_stays : {k : Context} {d d' : Bool} {e e' : Expr} → TargetTo k d d' e e' → is_place e ≡ is_place e'
+target_stays same_target = refl
+target_stays (in_target (in_dot (base p u) q)) = λ i. rest_fits q i && (has_root (sym u i) && not (calls_fit q i))
+target_stays (in_target (in_index (base p u) q)) = λ i. rest_fits q i && (has_root (sym u i) && not (calls_fit q i))
 
 abbrev standing : Bool → Role → Around
 standing l r = record { in_loop = l; role = r }
@@ -137,7 +158,7 @@ module _ (P : Around → Node → Type 0) (lasts : (l : Bool) → Lasting P l) w
     stmt_keeps l (in_do p q) h = ((lasts l).again same_do h.0, (expr_keeps l p h.1.0, stmts_keep true q h.1.1))
     stmt_keeps l (in_for p q) h = ((lasts l).again same_for h.0, (expr_keeps l p h.1.0, stmts_keep true q h.1.1))
     stmt_keeps l (in_var p) h = ((lasts l).again same_var h.0, expr_keeps l p h.1)
-    stmt_keeps l (in_assignment p q) h = ((lasts l).again (same_assignment (target_fits p)) h.0, (target_keeps l p h.1.0, expr_keeps l q h.1.1))
+    stmt_keeps l (in_assignment p q) h = ((lasts l).again (same_assignment (target_fits p) (target_stays p)) h.0, (target_keeps l p h.1.0, expr_keeps l q h.1.1))
     stmt_keeps l (in_block p) h = ((lasts l).again same_block h.0, stmts_keep l p h.1)
     stmt_keeps l (in_try p q) h = ((lasts l).again same_try h.0, (stmts_keep l p h.1.0, stmts_keep l q h.1.1))
     stmt_keeps l (in_expression p) h = ((lasts l).again same_expression h.0, expr_keeps l p h.1)

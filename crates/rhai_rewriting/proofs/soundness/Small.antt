@@ -10,7 +10,7 @@ use Rattle.rhai_rewriting.specs.Context.{Context, ListKind}
 use Rattle.rhai_rewriting.specs.Rewriting.{StmtsTo}
 use Rattle.rhai_rewriting.specs.Parts.{constant_of}
 use Rattle.rhai_rewriting.proofs.Plain.{is_plain_value}
-use Rattle.rhai_rewriting.proofs.rules.Lasting.{SameNode, same_call, same_call_statement, same_and, same_or, same_coalesce, same_text, same_while, same_switch, same_map, same_method, same_dot, same_index, same_do, same_for, same_var, same_assignment, same_try, same_break, same_return, same_import, Lasting}
+use Rattle.rhai_rewriting.proofs.rules.Lasting.{SameNode, same_call, same_call_statement, same_and, same_or, same_coalesce, same_text, same_while, same_share, same_switch, same_map, same_method, same_dot, same_index, same_do, same_for, same_var, same_assignment, same_try, same_break, same_return, same_import, Lasting}
 use Rattle.rhai_rewriting.proofs.soundness.Lasting.{stmts_keep}
 
 -- a constant is no call
@@ -31,10 +31,11 @@ callee_again (same_map e) h = h
 callee_again (same_method e) h = h
 callee_again (same_dot e) h = h
 callee_again (same_index e) h = h
+callee_again same_share h = h
 callee_again same_do h = h
 callee_again same_for h = h
 callee_again same_var h = h
-callee_again (same_assignment e) h = h
+callee_again (same_assignment e q) h = h
 callee_again same_try h = h
 callee_again same_break h = h
 callee_again same_return h = h
@@ -54,6 +55,7 @@ operators_last l = record {
   branching = λ e a b. tt;
   block = λ ss. tt;
   expression = λ e. tt;
+  conjunction = λ es h. tt;
   call_statement = λ c es h. h;
 }
 

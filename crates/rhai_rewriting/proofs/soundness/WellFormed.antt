@@ -33,7 +33,7 @@ faultless_again a (same_map {template = template} e) h = subst (λ ks. map_fault
 faultless_again a (same_method {c = c} e) h = subst (λ n. (unless (is_member_role a.role) ChainShape then call_fault c n) ≡ None) e h
 faultless_again a (same_dot e) h = subst (λ b. unless (is_inside_chain a.role || b) ChainShape ≡ None) e h
 faultless_again a (same_index e) h = subst (λ b. unless (is_inside_chain a.role || b) ChainShape ≡ None) e h
-faultless_again a (same_assignment e) h = subst (λ b. unless b AssignTarget ≡ None) e h
+faultless_again a (same_assignment e q) h = subst (λ b. unless b AssignTarget ≡ None) e h
 faultless_again a same_try h = h
 faultless_again a same_break h = h
 faultless_again a _ h = refl
@@ -51,6 +51,7 @@ faultless_lasts l = record {
   branching = λ e a b. refl;
   block = λ ss. refl;
   expression = λ e. refl;
+  conjunction = λ es h. ap (λ b. unless b NoOperands) h;
   call_statement = λ c es h. h;
 }
 
