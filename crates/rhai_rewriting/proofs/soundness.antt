@@ -10,3 +10,4 @@ pub mod Unrefined
 pub mod Congruence
 pub mod Apart
 pub mod Capturing
+pub mod Kept
