@@ -11,3 +11,5 @@ pub mod Congruence
 pub mod Apart
 pub mod Capturing
 pub mod Kept
+pub mod Start
+pub mod Whole

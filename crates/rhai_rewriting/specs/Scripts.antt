@@ -87,6 +87,11 @@ pub record ScriptTo (engine : Engine) (top inner : List Known) (p p' : Script) :
   pub statements : StmtsTo (record { engine = engine; known = top }) Whole true true p.statements p'.statements
   pub functions : FunctionsTo (record { engine = engine; known = inner }) p.functions p'.functions
 
+-- what bodies may know: nothing, or what holds without a scope, where no call of the script captures
+pub data MayKnow (p : Script) : List Known → Type 0 where
+  nothing_known : MayKnow p []
+  none_capture : {ks : List Known} → captures_nothing p ≡ true → MayKnow p ks
+
 -- a script rewritten by what a record and a scope fix
 abbrev pub OptimisedTo : Engine → List ScopeEntry → Script → Script → Type 0
 OptimisedTo engine scope p p' = ScriptTo engine (known_at_top engine scope) (known_inside engine scope p) p p'
