@@ -8,6 +8,7 @@ pub mod Texts
 pub mod Words
 pub mod Entries
 pub mod Chains
+pub mod Names
 pub mod Control
 pub mod Arms
 pub mod Equality
@@ -16,4 +17,7 @@ pub mod Tables
 pub mod Forgetting
 pub mod Expressions
 pub mod Statements
+pub mod Leaving
+pub mod Pure
+pub mod LastUnit
 pub mod Lists

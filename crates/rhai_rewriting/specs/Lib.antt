@@ -1,5 +1,6 @@
 pub mod Known
 pub mod Context
+pub mod SurelyUnit
 pub mod Folding
 pub mod Parts
 pub mod Operands
@@ -9,10 +10,15 @@ pub mod Rules
 pub mod Rewriting
 pub mod Shapes
 pub mod Residue
+pub mod Reducible
+pub mod Scripts
 pub mod Steps
 pub mod Refines
 pub mod WorkedWeights
+pub mod WorkedReducible
 pub mod WorkedRewrites
 pub mod WorkedNodes
 pub mod WorkedConditions
 pub mod WorkedKnown
+pub mod WorkedLists
+pub mod WorkedListConditions

@@ -12,7 +12,7 @@ use Rattle.rhai_rewriting.specs.WorkedNodes.{safe, index}
 use Rattle.rhai_rewriting.specs.WorkedRewrites.{f, asks_f}
 
 -- what the two do
-abbrev Differ : List Stmt → Report → List Stmt → Report → Type 0
+abbrev pub Differ : List Stmt → Report → List Stmt → Report → Type 0
 Differ a r b q = (ran nothing_set joining a ≡ r) × (ran nothing_set joining b ≡ q)
 
 abbrev shown : Expr → List Stmt

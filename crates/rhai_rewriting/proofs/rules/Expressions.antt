@@ -26,6 +26,7 @@ use Rattle.rhai_rewriting.proofs.rules.Logic as logic
 use Rattle.rhai_rewriting.proofs.rules.Texts as text
 use Rattle.rhai_rewriting.proofs.rules.Words as word
 use Rattle.rhai_rewriting.proofs.rules.Chains as chain
+use Rattle.rhai_rewriting.proofs.rules.Names as names
 use Rattle.rhai_rewriting.proofs.rules.Lasting.{Lasting}
 use Rattle.rhai_rewriting.proofs.rules.Obligation.{ExprObligation}
 
@@ -108,3 +109,6 @@ expr_rule (rule.property_of_map h) = chain.property_of_map h
 expr_rule (rule.entry_of_map x h q) = chain.entry_of_map x h q
 expr_rule (rule.type_of_method v h q) = chain.type_of_method v h q
 expr_rule (rule.is_shared_method v h q) = chain.is_shared_method v h q
+expr_rule (rule.known_name v h) = names.known_name v h
+expr_rule (rule.known_property fs h) = names.known_property fs h
+expr_rule (rule.known_entry fs y h q) = names.known_entry fs y h q

@@ -210,3 +210,6 @@ stmt_rule (rule.switch_defaults v h q) = switches.switch_defaults v h q
 stmt_rule (rule.switch_forgets j h q x) = forgetting.switch_forgets j h q x
 stmt_rule (rule.switch_narrows v h q d o x y) = tables.switch_narrows v h q d o x y
 stmt_rule (rule.switch_shrinks h q x y) = tables.switch_shrinks h q x y
+stmt_rule rule.nested_if = control.nested_if
+stmt_rule (rule.share_known h) = control.share_known h
+stmt_rule rule.share_nothing = control.share_nothing

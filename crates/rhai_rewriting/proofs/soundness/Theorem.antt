@@ -1,5 +1,5 @@
 -- The theorem: a script whose statements were rewritten does what it did.
-use Rattle.std.proofs.Common.{◌≡◌, ◌≤◌, Bool, true, List, [], ◌∷◌, sym, subst, arith}
+use Rattle.std.proofs.Common.{◌≡◌, ◌≤◌, Bool, true, List, [], ◌∷◌, refl, sym, subst, arith}
 use Rattle.rhai_values.specs.Value.{UnitV}
 use Rattle.rhai_meaning.specs.Engine.{Engine}
 use Rattle.rhai_meaning.specs.Act.{ScopeEntry, Host, World}
@@ -30,7 +30,7 @@ keeps_meaning engine host known d d' p p' scope e to same ag =
     let w = world_of engine host (core_script p).functions in
     let c : RunRefines (run_script engine host (core_script p) e scope) (run_script engine host (core_script q) e scope) =
     run_refines true w known [] (core_script p) (core_script q) scope (inside_nothing w) (record {
-      statements = record { body = λ envs. (stmts_sound to known (setting_in w known envs) UnitV).closed };
+      statements = record { body = λ envs. (stmts_sound to (setting_in w known envs) UnitV (λ h. refl)).closed };
       functions = functions_same w (core_script p).functions;
     }) ag e in
     subst (λ fs. RunRefines (run_script engine host (core_script p) e scope) (run_script engine host (core_script (record { statements = p'.statements; functions = fs })) e scope)) (sym same) c

@@ -1,0 +1,103 @@
+-- For each condition of the rules on known names and of lists two scripts that the rule without it would take for one, and
+-- what each does.
+use Rattle.std.specs.Prelude.{◌≡◌, true, false, [], ◌∷◌, None, codes, refl}
+use Rattle.rhai_values.specs.Value.{UnitV, ArrayV, values}
+use Rattle.rhai_meaning.specs.Act.{Unbound}
+use Rattle.rhai_meaning.specs.Run.{WithValue, WithStuck}
+use Rattle.rhai_meaning.specs.Tree.{Expr, BoolConstant, DynamicConstant, BlockExpr, no_expr, an_expr, Stmt, Noop, If, While, For, Assignment, Block, ExprStmt, BreakLoop, Return, stmts}
+use Rattle.rhai_meaning.specs.WorkedForms.{int, nothing_set, joining, ran, ran_with, ends, i}
+use Rattle.rhai_rewriting.specs.WorkedConditions.{Differ}
+use Rattle.rhai_rewriting.specs.WorkedLists.{var, let', const, variable, constant, ends_with}
+use Rattle.rhai_rewriting.specs.WorkedRewrites.{f, asks_f}
+
+abbrev show : Expr → Stmt
+show e = ExprStmt e
+
+-- ---- names that are known
+
+-- the latest of a name: const x = 1; let x = 2; x, and 1 at its end
+shadowed_name_stays : Differ (const "x" (int 1) ∷ let' "x" (int 2) ∷ show (var "x") ∷ []) (ends_with (WithValue (i 2)) (constant "x" (i 1) ∷ variable "x" (i 2) ∷ []) []) (const "x" (int 1) ∷ let' "x" (int 2) ∷ show (int 1) ∷ []) (ends_with (WithValue (i 1)) (constant "x" (i 1) ∷ variable "x" (i 2) ∷ []) [])
+unfolding ran
+shadowed_name_stays = (refl, refl)
+
+-- a variable isn't known: let x = 1; x = 2; x, and 1 at its end
+variable_stays : Differ (let' "x" (int 1) ∷ Assignment None (var "x") (int 2) ∷ show (var "x") ∷ []) (ends_with (WithValue (i 2)) (variable "x" (i 2) ∷ []) []) (let' "x" (int 1) ∷ Assignment None (var "x") (int 2) ∷ show (int 1) ∷ []) (ends_with (WithValue (i 1)) (variable "x" (i 2) ∷ []) [])
+unfolding ran
+variable_stays = (refl, refl)
+
+-- the name of a loop isn't the constant around it: const x = 1; for x in [2] { return x }, and return 1
+abbrev for_x : Expr → Stmt
+for_x e = For (codes "x") None (DynamicConstant (ArrayV (values (i 2 ∷ [])))) (stmts (Return false (an_expr e) ∷ []))
+
+loop_name_stays : (ran_with nothing_set joining [] 1 (const "x" (int 1) ∷ for_x (var "x") ∷ []) ≡ ends_with (WithValue (i 2)) (constant "x" (i 1) ∷ []) []) × (ran_with nothing_set joining [] 1 (const "x" (int 1) ∷ for_x (int 1) ∷ []) ≡ ends_with (WithValue (i 1)) (constant "x" (i 1) ∷ []) [])
+unfolding ran_with
+loop_name_stays = (refl, refl)
+
+-- a block's constant is not known behind it: { const x = 1; } x, and 1
+block_forgets : Differ (Block (stmts (const "x" (int 1) ∷ [])) ∷ show (var "x") ∷ []) (ends (WithStuck Unbound) []) (Block (stmts (const "x" (int 1) ∷ [])) ∷ show (int 1) ∷ []) (ends (WithValue (i 1)) [])
+unfolding ran
+block_forgets = (refl, refl)
+
+-- ---- lists
+
+-- a statement that may not leave keeps what follows: if false { return 1; } 2
+may_go_on : Differ (If (BoolConstant false) (stmts (Return false (an_expr (int 1)) ∷ [])) (stmts []) ∷ show (int 2) ∷ []) (ends (WithValue (i 2)) []) (If (BoolConstant false) (stmts (Return false (an_expr (int 1)) ∷ [])) (stmts []) ∷ []) (ends (WithValue UnitV) [])
+unfolding ran
+may_go_on = (refl, refl)
+
+-- a pure statement whose value is wanted stays: f(); 42
+wanted_value_stays : Differ (f ∷ show (int 42) ∷ []) (ends (WithValue (i 42)) asks_f) (f ∷ []) (ends (WithValue UnitV) asks_f)
+unfolding ran
+wanted_value_stays = (refl, refl)
+
+-- what isn't pure stays: f(); 1
+call_stays : Differ (f ∷ show (int 1) ∷ []) (ends (WithValue (i 1)) asks_f) (show (int 1) ∷ []) (ends (WithValue (i 1)) [])
+unfolding ran
+call_stays = (refl, refl)
+
+-- a script's own declaration is seen from outside: let x = 1; 2
+declaration_stays : Differ (let' "x" (int 1) ∷ show (int 2) ∷ []) (ends_with (WithValue (i 2)) (variable "x" (i 1) ∷ []) []) (show (int 2) ∷ []) (ends (WithValue (i 2)) [])
+unfolding ran
+declaration_stays = (refl, refl)
+
+-- inside it goes only where all that follows is pure: { let x = 1; x }
+read_inside : Differ (Block (stmts (let' "x" (int 1) ∷ show (var "x") ∷ [])) ∷ []) (ends (WithValue (i 1)) []) (Block (stmts (show (var "x") ∷ [])) ∷ []) (ends (WithStuck Unbound) [])
+unfolding ran
+read_inside = (refl, refl)
+
+-- a `return` inside leaves more than its block: { return 1; } 2
+return_inside : Differ (Block (stmts (Return false (an_expr (int 1)) ∷ [])) ∷ show (int 2) ∷ []) (ends (WithValue (i 1)) []) (Block (stmts (show (int 1) ∷ [])) ∷ show (int 2) ∷ []) (ends (WithValue (i 2)) [])
+unfolding ran
+return_inside = (refl, refl)
+
+-- a last `return;` goes only behind unit: 1; return;
+return_behind_value : Differ (show (int 1) ∷ Return false no_expr ∷ []) (ends (WithValue UnitV) []) (show (int 1) ∷ []) (ends (WithValue (i 1)) [])
+unfolding ran
+return_behind_value = (refl, refl)
+
+-- and so does what gives unit: a loop that a `break` leaves with a value is not surely unit. for x in [2] { break 5 } noop
+abbrev broken : Stmt
+broken = For (codes "x") None (DynamicConstant (ArrayV (values (i 2 ∷ [])))) (stmts (BreakLoop true (an_expr (int 5)) ∷ []))
+
+unit_behind_value : (ran_with nothing_set joining [] 1 (broken ∷ Noop ∷ []) ≡ ends (WithValue UnitV) []) × (ran_with nothing_set joining [] 1 (broken ∷ []) ≡ ends (WithValue (i 5)) [])
+unfolding ran_with
+unit_behind_value = (refl, refl)
+
+-- nor is it one itself: what follows it must not go as if it were. A `break` in a guard belongs to the loop around:
+-- for x in [2] { while { break 5 } {} } is 5
+guard_breaks_out : ran_with nothing_set joining [] 1 (For (codes "x") None (DynamicConstant (ArrayV (values (i 2 ∷ [])))) (stmts (While (BlockExpr (stmts (BreakLoop true (an_expr (int 5)) ∷ []))) (stmts []) ∷ [])) ∷ []) ≡ ends (WithValue (i 5)) []
+unfolding ran_with
+guard_breaks_out = refl
+
+-- a last statement that gives another value stays: 1; 2
+last_value_stays : Differ (show (int 1) ∷ show (int 2) ∷ []) (ends (WithValue (i 2)) []) (show (int 1) ∷ Noop ∷ []) (ends (WithValue UnitV) [])
+unfolding ran
+last_value_stays = (refl, refl)
+
+-- an `if` in an `if` with an `else` is no `&&`: if true { if false { f() } else { 1 } }
+abbrev inner : Stmt
+inner = If (BoolConstant false) (stmts (f ∷ [])) (stmts (show (int 1) ∷ []))
+
+else_inside : Differ (If (BoolConstant true) (stmts (inner ∷ [])) (stmts []) ∷ []) (ends (WithValue (i 1)) []) (If (BoolConstant false) (stmts (f ∷ [])) (stmts []) ∷ []) (ends (WithValue UnitV) [])
+unfolding ran
+else_inside = (refl, refl)
