@@ -8,11 +8,11 @@ use Rattle.rhai_run.proofs.plain.evaluator.Evaluator.+evaluate.Goals as goal
 
 -- arguments
 pub exprs-loop-expr-init : goal.exprs-loop-expr-init
-exprs-loop-expr-init g t c = rw c.new-values.ensures (args_start _ _ _)
+exprs-loop-expr-init g t c = rw c.in_ok-values.ensures (args_start _ _ _)
 
 pub exprs-returns-in_err-value : goal.exprs-returns-in_err-value
 exprs-returns-in_err-value g t c =
-    let p = err_from_is_err_and c.from_residual.result c.from_residual.ensures.1 in
+    let p = err_from_is_err_and c.from_residual-in_err-value.result c.from_residual-in_err-value.ensures.1 in
     rw (p.1, p.2) (args_interrupted _ _ _ _ _ _ _ _ _ c.loop-expr-test.true c.expr-item.is c.loop-expr.invariant c.in_err-value.ensures)
 
 pub exprs-loop-expr-preserved : goal.exprs-loop-expr-preserved
