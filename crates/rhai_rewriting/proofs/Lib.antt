@@ -3,6 +3,6 @@ pub mod Flags
 pub mod Plain
 pub mod Weights
 pub mod simulation
-pub mod unit
+pub mod acts
 pub mod rules
 pub mod soundness
