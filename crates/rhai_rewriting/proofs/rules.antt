@@ -10,6 +10,7 @@ pub mod Entries
 pub mod Chains
 pub mod Names
 pub mod Control
+pub mod SelfAssign
 pub mod Arms
 pub mod Equality
 pub mod Switches

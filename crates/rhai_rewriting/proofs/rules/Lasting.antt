@@ -1,10 +1,11 @@
 -- What may be asked of every node, so that each rewriting keeps it; l: whether the tree stands in a loop's body.
-use Rattle.std.proofs.Common.{◌≡◌, Bool, true, List}
+use Rattle.std.proofs.Common.{◌≡◌, Bool, true, List, Option}
 use Rattle.rhai_values.specs.Value.{Text, Value}
+use Rattle.rhai_base.specs.Operators.{Operator}
 use Rattle.rhai_meaning.specs.Constants.{constant_for}
-use Rattle.rhai_meaning.specs.Tree.{SwitchTable, Arms, Callee, Expr, InterpolatedString, ArrayOf, BlockExpr, FnCall, And, Or, Coalesce, Exprs, count_exprs, Noop, If, Switch, While, Block, ExprStmt, FnCallStmt, Share, Stmts}
+use Rattle.rhai_meaning.specs.Tree.{SwitchTable, Arms, Callee, Expr, InterpolatedString, ArrayOf, BlockExpr, FnCall, And, Or, Coalesce, Exprs, count_exprs, Noop, If, Switch, While, Assignment, Block, ExprStmt, FnCallStmt, Share, Stmts}
 use Rattle.rhai_meaning.specs.Faults.{has_operands}
-use Rattle.rhai_meaning.specs.Shape.{is_table}
+use Rattle.rhai_meaning.specs.Shape.{is_table, is_left_side}
 use Rattle.rhai_meaning.specs.Walk.{Node, OfExpr, OfStmt, Around, whole}
 use Rattle.rhai_rewriting.specs.Parts.{constant_of}
 use Rattle.rhai_rewriting.proofs.Plain.{is_plain_value}
@@ -23,6 +24,7 @@ pub data SameNode : Node → Node → Type 0 where
   same_coalesce : {es es' : Exprs} → has_operands es' ≡ true → SameNode (OfExpr (Coalesce es)) (OfExpr (Coalesce es'))
   same_text : {es es' : Exprs} → SameNode (OfExpr (InterpolatedString es)) (OfExpr (InterpolatedString es'))
   same_while : {e e' : Expr} {b b' : Stmts} → SameNode (OfStmt (While e b)) (OfStmt (While e' b'))
+  same_assignment : {op op' : Option Operator} {l l' e e' : Expr} → is_left_side l ≡ is_left_side l' → SameNode (OfStmt (Assignment op l e)) (OfStmt (Assignment op' l' e'))
   same_share : {xs ys : List Text} → SameNode (OfStmt (Share xs)) (OfStmt (Share ys))
   same_switch : {e : Expr} {as' bs : Arms} {t t' : SwitchTable} → (is_table as' t ≡ true → is_table bs t' ≡ true) → SameNode (OfStmt (Switch e as' t)) (OfStmt (Switch e bs t'))
 

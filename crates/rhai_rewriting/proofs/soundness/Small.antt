@@ -10,7 +10,7 @@ use Rattle.rhai_rewriting.specs.Context.{Context, ListKind}
 use Rattle.rhai_rewriting.specs.Rewriting.{StmtsTo}
 use Rattle.rhai_rewriting.specs.Parts.{constant_of}
 use Rattle.rhai_rewriting.proofs.Plain.{is_plain_value}
-use Rattle.rhai_rewriting.proofs.rules.Lasting.{SameNode, same_call, same_call_statement, same_and, same_or, same_coalesce, same_text, same_while, same_share, same_switch, Lasting}
+use Rattle.rhai_rewriting.proofs.rules.Lasting.{SameNode, same_call, same_call_statement, same_and, same_or, same_coalesce, same_text, same_while, same_assignment, same_share, same_switch, Lasting}
 use Rattle.rhai_rewriting.proofs.soundness.Lasting.{stmts_keep}
 
 -- a constant is no call
@@ -27,6 +27,7 @@ callee_again (same_coalesce e) h = h
 callee_again same_text h = h
 callee_again same_while h = h
 callee_again (same_switch e) h = h
+callee_again (same_assignment e) h = h
 callee_again same_share h = h
 callee_again _ h = tt
 

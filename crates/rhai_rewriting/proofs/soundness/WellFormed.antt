@@ -1,8 +1,8 @@
 -- A well-formed tree stays well-formed.
-use Rattle.std.proofs.Common.{◌≡◌, Bool, true, false, Some, None, refl, ap, subst}
+use Rattle.std.proofs.Common.{◌≡◌, Bool, true, false, Some, None, refl, sym, ap, ◌∙◌, subst}
 use Rattle.rhai_values.specs.Value.{Value, UnitV, PointerV}
 use Rattle.rhai_meaning.specs.Constants.{constant_for}
-use Rattle.rhai_meaning.specs.Faults.{NoOperands, SwitchFault, unless, call_fault, IsFaultless, AreWellFormed}
+use Rattle.rhai_meaning.specs.Faults.{NoOperands, SwitchFault, AssignTarget, unless, call_fault, IsFaultless, AreWellFormed}
 use Rattle.rhai_meaning.specs.Shape.{is_table}
 use Rattle.rhai_meaning.specs.Tree.{Stmts}
 use Rattle.rhai_meaning.specs.Walk.{Node, OfExpr, whole}
@@ -10,7 +10,7 @@ use Rattle.rhai_rewriting.specs.Context.{Context, ListKind}
 use Rattle.rhai_rewriting.specs.Rewriting.{StmtsTo}
 use Rattle.rhai_rewriting.specs.Parts.{constant_of}
 use Rattle.rhai_rewriting.proofs.Plain.{is_plain_value}
-use Rattle.rhai_rewriting.proofs.rules.Lasting.{SameNode, same_call, same_call_statement, same_and, same_or, same_coalesce, same_switch, Lasting}
+use Rattle.rhai_rewriting.proofs.rules.Lasting.{SameNode, same_call, same_call_statement, same_and, same_or, same_coalesce, same_assignment, same_switch, Lasting}
 use Rattle.rhai_rewriting.proofs.soundness.Lasting.{stmts_keep}
 
 constant_faultless : (l : Bool) (v : Value) → is_plain_value v ≡ true → IsFaultless (whole l) (OfExpr (constant_for v))
@@ -28,6 +28,7 @@ faultless_again l (same_and e) h = ap (λ b. unless b NoOperands) e
 faultless_again l (same_or e) h = ap (λ b. unless b NoOperands) e
 faultless_again l (same_coalesce e) h = ap (λ b. unless b NoOperands) e
 faultless_again l (same_switch {as' = as'} {bs = bs} {t = t} {t' = t'} e) h = table_again (is_table as' t) (is_table bs t') e h
+faultless_again l (same_assignment e) h = ap (λ b. unless b AssignTarget) (sym e) ∙ h
 faultless_again l _ h = refl
 
 value_faultless : (l : Bool) (v : Value) → IsFaultless (whole l) (OfExpr (constant_of v))
