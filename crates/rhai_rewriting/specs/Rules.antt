@@ -19,7 +19,7 @@ use Rattle.rhai_rewriting.specs.Known.{look, unknown}
 use Rattle.rhai_rewriting.specs.Folding.{folded}
 use Rattle.rhai_rewriting.specs.Operands.{OperandsTo, CoalesceTo, TextTo}
 use Rattle.rhai_rewriting.specs.Indexing.{indexed, expr_at, pair_for, or_unit}
-use Rattle.rhai_rewriting.specs.Parts.{constant_of, named}
+use Rattle.rhai_rewriting.specs.Parts.{constant_of, named, link}
 use Rattle.rhai_rewriting.specs.SelfAssign.{leaves_names, overrides_any}
 use Rattle.rhai_rewriting.specs.SurelyUnit.{is_surely_unit}
 use Rattle.rhai_rewriting.specs.Tables.{forgotten, CasesTo, RangesTo, are_of, arm_of, left_arms, default_answer, default_stmt, default_branch}
@@ -97,6 +97,11 @@ pub data ExprRule (k : Context) : Expr → Expr → Type 0 where
   -- `type_of` and `is_shared` of a constant as methods; past a `?` a unit is left
   type_of_method : {f : ChainFlags} {captures : Bool} {e : Expr} (v : Value) → constant_value e ≡ Some v → (f.negated && is_unit v) ≡ false → ExprRule k (Dot f e (MethodCall (named (codes "type_of") captures) no_exprs)) (StringConstant (mapped_type_name k.engine v))
   is_shared_method : {f : ChainFlags} {captures : Bool} {e : Expr} (v : Value) → constant_value e ≡ Some v → (f.negated && is_unit v) ≡ false → ExprRule k (Dot f e (MethodCall (named (codes "is_shared") captures) no_exprs)) (BoolConstant false)
+  -- the first step of a longer chain, over a constant: the chain goes on from its answer
+  property_of_constant_first : {f : ChainFlags} {e : Expr} (dot : Bool) (m : ChainFlags) (p : PropertyNames) (r : Expr) (fs : Fields) → f.breaks ≡ false → constant_value e ≡ Some (MapV fs) → ExprRule k (Dot f e (link dot m (Property p) r)) (link dot m (constant_of (entry fs p.name)) r)
+  index_of_constant_first : {f : ChainFlags} {e : Expr} (dot : Bool) (m : ChainFlags) (i r : Expr) (v j u : Value) → f.breaks ≡ false → constant_value e ≡ Some v → constant_value i ≡ Some j → indexed v j ≡ Some u → ExprRule k (Index f e (link dot m i r)) (link dot m (constant_of u) r)
+  type_of_method_first : {f : ChainFlags} {e : Expr} (dot captures : Bool) (m : ChainFlags) (r : Expr) (v : Value) → f.breaks ≡ false → constant_value e ≡ Some v → (f.negated && is_unit v) ≡ false → ExprRule k (Dot f e (link dot m (MethodCall (named (codes "type_of") captures) no_exprs) r)) (link dot m (StringConstant (mapped_type_name k.engine v)) r)
+  is_shared_method_first : {f : ChainFlags} {e : Expr} (dot captures : Bool) (m : ChainFlags) (r : Expr) (v : Value) → f.breaks ≡ false → constant_value e ≡ Some v → (f.negated && is_unit v) ≡ false → ExprRule k (Dot f e (link dot m (MethodCall (named (codes "is_shared") captures) no_exprs) r)) (link dot m (BoolConstant false) r)
   -- a name that is known as a constant is its value; of a constant map a part
   known_name : {x : Text} (v : Value) → look k.known x ≡ Some v → ExprRule k (Variable [] x) (constant_of v)
   known_property : {f : ChainFlags} {x : Text} {p : PropertyNames} (fs : Fields) → look k.known x ≡ Some (MapV fs) → ExprRule k (Dot f (Variable [] x) (Property p)) (constant_of (entry fs p.name))
