@@ -1,16 +1,16 @@
 -- A tree without assignments, method calls and calls but those of operators writes nothing.
 use Rattle.std.proofs.Common.{◌≡◌, ℕ, zero, suc, Bool, true, false, cond, List, [], ◌∷◌, Option, Some, None}
 use Rattle.std.specs.Prelude.{ℤ, pos, ◌+ℤ◌, ◌-ℤ◌, ◌^◌, nat_lt, codes, option_map}
-use Rattle.rhai_values.specs.Value.{Text, Value, UnitV, IntV, TextV, ArrayV, MapV, RangeV, RangeInclusiveV, items}
-use Rattle.rhai_base.specs.Operators.{Operator, Computed, NoEntry, Is, Overflows, symbol}
+use Rattle.rhai_values.specs.Value.{Text, Value, IntV, TextV, ArrayV, MapV, RangeV, RangeInclusiveV, items}
+use Rattle.rhai_base.specs.Operators.{Computed, NoEntry, Is, Overflows, symbol}
 use Rattle.rhai_meaning.specs.Engine.{built_in}
-use Rattle.rhai_meaning.specs.Act.{World, Answer, Answers, AnswersThrow, Breaks, Continues, Throws, Again, Ending, Gives, Leaves, CounterTooLarge, Act, Then, Acts, Named}
+use Rattle.rhai_meaning.specs.Act.{World, Answer, Answers, AnswersThrow, Breaks, Continues, Throws, Again, Ending, Gives, Leaves, Act, Acts}
 use Rattle.rhai_meaning.specs.ActForms.{value_then, ◌>>=◌, each_value, choose, truth, branch, if_true, on_throw, end_round, again_then, answered}
-use Rattle.rhai_meaning.specs.Calls.{of_table, operate, called}
+use Rattle.rhai_meaning.specs.Calls.{of_table, called}
 use Rattle.rhai_meaning.specs.Chains.{or_throw, ask_for, property, index}
 use Rattle.rhai_meaning.specs.Control.{round, do_loop, counted, for_each, for_count, size, for_all, named, end_branch}
 use Rattle.rhai_meaning.specs.Desugar.{callee_by, core_expr}
-use Rattle.rhai_meaning.specs.Elements.{element, entry, character, bit}
+use Rattle.rhai_meaning.specs.Elements.{element, character, bit}
 use Rattle.rhai_meaning.specs.Meaning.{act}
 use Rattle.rhai_meaning.specs.Places.{AtIndex, Place, Current, along, or_no_place, part, without_place, again_at}
 use Rattle.rhai_meaning.specs.Shape.{is_unit}

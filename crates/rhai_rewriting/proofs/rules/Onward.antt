@@ -1,10 +1,10 @@
 -- The rules of the first step of a longer chain over a constant: a lemma each, of the rule's name.
-use Rattle.std.proofs.Common.{◌≡◌, ◌+◌, ◌≤◌, ℕ, Bool, true, false, cond, List, [], Option, Some, None, refl, sym, ap, ◌∙◌, subst, arith}
+use Rattle.std.proofs.Common.{◌≡◌, ◌+◌, Bool, true, false, cond, [], Some, None, refl, sym, ap, ◌∙◌, subst, arith}
 use Rattle.std.specs.Prelude.{◌&&◌, not, codes, if◌then◌else◌}
 use Rattle.rhai_values.specs.Value.{Text, Value, Fields, UnitV, BoolV, TextV, MapV}
 use Rattle.rhai_meaning.specs.Act.{WrongKind, Act}
-use Rattle.rhai_meaning.specs.ActForms.{give, ◌>>=◌, choose}
-use Rattle.rhai_meaning.specs.Chains.{Access, OfProperty, OfIndex, OfMethod, applied, unless_unit}
+use Rattle.rhai_meaning.specs.ActForms.{◌>>=◌}
+use Rattle.rhai_meaning.specs.Chains.{OfIndex, OfMethod, applied, unless_unit}
 use Rattle.rhai_meaning.specs.Constants.{constant_value}
 use Rattle.rhai_meaning.specs.Core as core
 use Rattle.rhai_meaning.specs.Desugar.{root_of, based, core_expr, member_of, steps_of}
@@ -13,7 +13,7 @@ use Rattle.rhai_meaning.specs.Engine.{mapped_type_name}
 use Rattle.rhai_meaning.specs.Meaning.{act, access, steps}
 use Rattle.rhai_meaning.specs.Places.{Current, without_place, refreshed}
 use Rattle.rhai_meaning.specs.Shape.{is_unit, is_argument, is_rest, is_callable}
-use Rattle.rhai_meaning.specs.Tree.{ChainFlags, PropertyNames, Expr, BoolConstant, StringConstant, UnitConstant, Property, MethodCall, Dot, Index, no_exprs}
+use Rattle.rhai_meaning.specs.Tree.{ChainFlags, PropertyNames, Expr, BoolConstant, StringConstant, Property, MethodCall, Dot, Index, no_exprs}
 use Rattle.rhai_meaning.specs.Walk.{Node, Around, whole, throughout, over_expr}
 use Rattle.rhai_meaning.specs.Weight.{expr_weight}
 use Rattle.rhai_rewriting.specs.Context.{Context}

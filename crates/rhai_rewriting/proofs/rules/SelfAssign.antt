@@ -1,20 +1,18 @@
 -- The rule of an assignment of an operator over its own name: a lemma of the rule's name.
-use Rattle.std.proofs.Common.{◌≡◌, ◌+◌, ◌≤◌, ℕ, Bool, true, false, cond, List, [], ◌∷◌, Option, Some, None, refl, sym, ap, ◌∙◌, subst, arith}
-use Rattle.std.specs.Prelude.{◌&&◌, ◌||◌, not, map}
+use Rattle.std.proofs.Common.{◌≡◌, ℕ, Bool, true, false, cond, List, [], ◌∷◌, Option, Some, None, refl, sym, ap, ◌∙◌, subst, arith}
+use Rattle.std.specs.Prelude.{◌&&◌, ◌||◌, map}
 use Rattle.std.proofs.lemmas.Bool.{or_parts}
 use Rattle.rhai_values.specs.Value.{Text, Value, same_text, type_name}
-use Rattle.rhai_base.specs.Operators.{Operator, computed}
-use Rattle.rhai_meaning.specs.Engine.{Engine, Override, same_texts, has_override, has_entry, asks_assigning, assigning}
+use Rattle.rhai_base.specs.Operators.{Operator}
+use Rattle.rhai_meaning.specs.Engine.{Engine, Override, same_texts, has_override, asks_assigning, assigning}
 use Rattle.rhai_meaning.specs.Act.{World, ScopeEntry, Store, Gives, Leaves, Unbound, WrongKind, Ended, Halted, Result, At, OfName, Act, Fail, Read, Write, Env, and_then, found, read, run}
 use Rattle.rhai_meaning.specs.ActForms.{value_then, ◌>>=◌, choose, ask_host}
-use Rattle.rhai_meaning.specs.Calls.{operate, assigned, called}
+use Rattle.rhai_meaning.specs.Calls.{operate, assigned}
 use Rattle.rhai_meaning.specs.Core as core
-use Rattle.rhai_meaning.specs.Desugar.{callee_by, core_expr, core_stmt}
-use Rattle.rhai_meaning.specs.Meaning.{act, deed}
-use Rattle.rhai_meaning.specs.Relations.{store_of}
+use Rattle.rhai_meaning.specs.Desugar.{callee_by, core_expr}
+use Rattle.rhai_meaning.specs.Meaning.{act}
 use Rattle.rhai_meaning.specs.Shape.{is_callable}
-use Rattle.rhai_meaning.specs.Tree.{CallToken, OfOperator, Callee, Expr, Variable, FnCall, no_exprs, expr, Assignment}
-use Rattle.rhai_meaning.specs.Weight.{expr_weight}
+use Rattle.rhai_meaning.specs.Tree.{OfOperator, Callee, Expr, Variable, FnCall, no_exprs, expr, Assignment}
 use Rattle.rhai_meaning.proofs.Preserves.{preserves}
 use Rattle.rhai_rewriting.specs.Context.{Context}
 use Rattle.rhai_rewriting.specs.SelfAssign.{leaves_names, overrides_any}
