@@ -6,6 +6,7 @@ pub mod Parts
 pub mod Operands
 pub mod Indexing
 pub mod Tables
+pub mod SelfAssign
 pub mod Rules
 pub mod Rewriting
 pub mod Shapes
