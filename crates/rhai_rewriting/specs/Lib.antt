@@ -17,6 +17,7 @@ pub mod Steps
 pub mod Refines
 pub mod WorkedWeights
 pub mod WorkedReducible
+pub mod WorkedClosure
 pub mod WorkedRewrites
 pub mod WorkedNodes
 pub mod WorkedConditions
