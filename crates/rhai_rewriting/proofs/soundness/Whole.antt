@@ -11,8 +11,10 @@ use Rattle.rhai_meaning.specs.Run.{key_of, world_of, body_acts, EntryPoint, run_
 use Rattle.rhai_meaning.specs.Tree.{Function, Stmts, Script}
 use Rattle.rhai_meaning.specs.Walk.{over_stmts, over_functions}
 use Rattle.rhai_meaning.proofs.PureTrees.{split}
+use Rattle.rhai_rewriting.specs.Context.{Context}
 use Rattle.rhai_rewriting.specs.Known.{Known, shadow_all, Agrees}
 use Rattle.rhai_rewriting.specs.Refines.{RunRefines, RefinesWhere}
+use Rattle.rhai_rewriting.specs.Rewriting.{same_stmts}
 use Rattle.rhai_rewriting.specs.Scripts.{captures_nothing, known_at_top, known_in_bodies, known_inside, FunctionTo, FunctionsTo, no_functions, functions, ScriptTo, MayKnow, nothing_known, none_capture, OptimisedTo}
 use Rattle.rhai_rewriting.proofs.simulation.Agreement.{agrees_nothing}
 use Rattle.rhai_rewriting.proofs.simulation.Simulation.{SimulatesAll}
@@ -44,11 +46,16 @@ script_simulates w top inner to = record {
   functions = bodies_simulate w inner to.functions;
 }
 
+-- functions as they were
+pub functions_same : (k : Context) (fs : List Function) → FunctionsTo k fs fs
+functions_same k [] = no_functions
+functions_same k (f ∷ fs) = functions (record { name = refl; this_type = refl; params = refl; body = same_stmts }) (functions_same k fs)
+
 -- keys stay, in order
-one_key : {k : _} {f f' : Function} → FunctionTo k f f' → key_of (core_function f') ≡ key_of (core_function f)
+one_key : {k : Context} {f f' : Function} → FunctionTo k f f' → key_of (core_function f') ≡ key_of (core_function f)
 one_key p = λ i. key (p.name i) (length (p.params i)) (p.this_type i)
 
-pub same_keys : {k : _} {fs fs' : List Function} → FunctionsTo k fs fs' → map key_of (map core_function fs') ≡ map key_of (map core_function fs)
+pub same_keys : {k : Context} {fs fs' : List Function} → FunctionsTo k fs fs' → map key_of (map core_function fs') ≡ map key_of (map core_function fs)
 same_keys no_functions = refl
 same_keys (functions p q) = λ i. one_key p i ∷ same_keys q i
 
