@@ -4,6 +4,6 @@ pub mod Plain
 pub mod Reducing
 pub mod Weights
 pub mod simulation
-pub mod unit
+pub mod acts
 pub mod rules
 pub mod soundness

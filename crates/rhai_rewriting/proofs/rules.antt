@@ -9,7 +9,9 @@ pub mod Words
 pub mod Entries
 pub mod Chains
 pub mod Names
+pub mod Onward
 pub mod Control
+pub mod SelfAssign
 pub mod Arms
 pub mod Equality
 pub mod Switches

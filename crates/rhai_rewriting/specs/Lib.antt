@@ -6,6 +6,7 @@ pub mod Parts
 pub mod Operands
 pub mod Indexing
 pub mod Tables
+pub mod SelfAssign
 pub mod Rules
 pub mod Rewriting
 pub mod Shapes
@@ -16,6 +17,7 @@ pub mod Steps
 pub mod Refines
 pub mod WorkedWeights
 pub mod WorkedReducible
+pub mod WorkedClosure
 pub mod WorkedRewrites
 pub mod WorkedNodes
 pub mod WorkedConditions

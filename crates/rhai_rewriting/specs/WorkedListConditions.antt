@@ -1,11 +1,15 @@
 -- For each condition of the rules on known names and of lists two scripts that the rule without it would take for one, and
 -- what each does.
-use Rattle.std.specs.Prelude.{◌≡◌, true, false, [], ◌∷◌, None, codes, refl}
+use Rattle.std.specs.Prelude.{◌≡◌, true, false, [], ◌∷◌, None, codes, refl, List, Some}
 use Rattle.rhai_values.specs.Value.{UnitV, ArrayV, values}
-use Rattle.rhai_meaning.specs.Act.{Unbound}
+use Rattle.rhai_base.specs.Operators.{Plus, computed}
+use Rattle.rhai_rewriting.specs.Parts.{named}
+use Rattle.rhai_rewriting.specs.WorkedNodes.{dot}
+use Rattle.rhai_meaning.specs.Engine.{Engine}
+use Rattle.rhai_meaning.specs.Act.{Unbound, HostCall, Host, Answers}
 use Rattle.rhai_meaning.specs.Run.{WithValue, WithStuck}
-use Rattle.rhai_meaning.specs.Tree.{Expr, BoolConstant, DynamicConstant, BlockExpr, no_expr, an_expr, Stmt, Noop, If, While, For, Assignment, Block, ExprStmt, BreakLoop, Return, stmts}
-use Rattle.rhai_meaning.specs.WorkedForms.{int, nothing_set, joining, ran, ran_with, ends, i}
+use Rattle.rhai_meaning.specs.Tree.{Expr, BoolConstant, DynamicConstant, BlockExpr, no_expr, an_expr, Stmt, Noop, If, While, For, Assignment, Block, ExprStmt, BreakLoop, Return, stmts, Dot, MethodCall, exprs}
+use Rattle.rhai_meaning.specs.WorkedForms.{int, nothing_set, joining, ran, ran_with, ends, i, op, asked, overriding}
 use Rattle.rhai_rewriting.specs.WorkedConditions.{Differ}
 use Rattle.rhai_rewriting.specs.WorkedLists.{var, let', const, variable, constant, ends_with}
 use Rattle.rhai_rewriting.specs.WorkedRewrites.{f, asks_f}
@@ -101,3 +105,35 @@ inner = If (BoolConstant false) (stmts (f ∷ [])) (stmts (show (int 1) ∷ []))
 else_inside : Differ (If (BoolConstant true) (stmts (inner ∷ [])) (stmts []) ∷ []) (ends (WithValue (i 1)) []) (If (BoolConstant false) (stmts (f ∷ [])) (stmts []) ∷ []) (ends (WithValue UnitV) [])
 unfolding ran
 else_inside = (refl, refl)
+
+-- ---- assignments of an operator over their own name
+
+-- the name is read first: let x = 1; x = x + { x = 5; 1 }; x
+abbrev writing : Expr
+writing = BlockExpr (stmts (Assignment None (var "x") (int 5) ∷ show (int 1) ∷ []))
+
+assignment_inside : Differ (let' "x" (int 1) ∷ Assignment None (var "x") (op Plus (var "x" ∷ writing ∷ [])) ∷ []) (ends_with (WithValue UnitV) (variable "x" (i 2) ∷ []) []) (let' "x" (int 1) ∷ Assignment (Some Plus) (var "x") writing ∷ []) (ends_with (WithValue UnitV) (variable "x" (i 6) ∷ []) [])
+unfolding ran computed
+assignment_inside = (refl, refl)
+
+-- a method may give its receiver another value: x = x + x.f() where f makes it 5 and answers 1
+abbrev changing : Host
+changing = record { answer = λ past c. Answers (i 1) (Some (i 5)); module_value = λ x. None }
+
+abbrev method : Expr
+method = Dot dot (var "x") (MethodCall (named (codes "f") false) (exprs []))
+
+abbrev method_asked : List HostCall
+method_asked = record { name = codes "f"; receiver = Some (i 1); arguments = [] } ∷ []
+
+method_inside : (ran nothing_set changing (let' "x" (int 1) ∷ Assignment None (var "x") (op Plus (var "x" ∷ method ∷ [])) ∷ []) ≡ ends_with (WithValue UnitV) (variable "x" (i 2) ∷ []) method_asked) × (ran nothing_set changing (let' "x" (int 1) ∷ Assignment (Some Plus) (var "x") method ∷ []) ≡ ends_with (WithValue UnitV) (variable "x" (i 6) ∷ []) method_asked)
+unfolding ran computed
+method_inside = (refl, refl)
+
+-- the host answers where `+=` is overridden
+abbrev overridden : Engine
+overridden = overriding (codes "+=") (codes "i64" ∷ codes "i64" ∷ []) false
+
+overridden_assignment : (ran overridden changing (let' "x" (int 1) ∷ Assignment None (var "x") (op Plus (var "x" ∷ int 2 ∷ [])) ∷ []) ≡ ends_with (WithValue UnitV) (variable "x" (i 3) ∷ []) []) × (ran overridden changing (let' "x" (int 1) ∷ Assignment (Some Plus) (var "x") (int 2) ∷ []) ≡ ends_with (WithValue UnitV) (variable "x" (i 1) ∷ []) (asked "+=" (i 1 ∷ i 2 ∷ []) ∷ []))
+unfolding ran computed
+overridden_assignment = (refl, refl)

@@ -3,13 +3,14 @@ use Rattle.std.specs.Prelude.{◌≡◌, true, false, List, [], ◌∷◌, Some,
 use Prim.Native.String.{String}
 use native.Mathlib.Bridge.{le_by_compare, IsLe}
 use Rattle.rhai_values.specs.Value.{Value, UnitV, ArrayV, MapV, PointerV, values, field, no_fields}
+use Rattle.rhai_base.specs.Operators.{Plus, computed}
 use Rattle.rhai_meaning.specs.Act.{HostCall, ScopeEntry, WrongKind}
 use Rattle.rhai_meaning.specs.Run.{End, Report, WithValue, WithStuck}
-use Rattle.rhai_meaning.specs.Tree.{Expr, DynamicConstant, StringConstant, BoolConstant, UnitConstant, Variable, Dot, Index, And, no_expr, an_expr, Stmt, Noop, If, While, Do, For, Var, Block, TryCatch, ExprStmt, Return, Share, exprs, stmts}
-use Rattle.rhai_meaning.specs.WorkedForms.{int, nothing_set, joining, ran, ends, i}
+use Rattle.rhai_meaning.specs.Tree.{Expr, DynamicConstant, StringConstant, BoolConstant, UnitConstant, Variable, Dot, Index, And, no_expr, an_expr, Stmt, Noop, If, While, Do, For, Var, Block, TryCatch, ExprStmt, Return, Share, exprs, stmts, Assignment, BlockExpr}
+use Rattle.rhai_meaning.specs.WorkedForms.{int, nothing_set, joining, ran, ends, i, op}
 use Rattle.rhai_rewriting.specs.Context.{Inside, noting, under}
 use Rattle.rhai_rewriting.specs.Rewriting.{RestTo, then_stmts, by_expr_rule, by_stmt_rule, by_list_rule, in_expression, in_block, in_head, in_tail}
-use Rattle.rhai_rewriting.specs.Rules.{StmtRule, known_name, known_property, known_entry, nested_if, share_known, share_nothing, after_leave, pure_goes, lone_goes, pure_inside_goes, last_return, last_return_goes, last_return_noop, last_unit_goes, last_unit_noop}
+use Rattle.rhai_rewriting.specs.Rules.{StmtRule, known_name, known_property, known_entry, nested_if, share_known, share_nothing, after_leave, pure_goes, lone_goes, pure_inside_goes, last_return, last_return_goes, last_return_noop, last_unit_goes, last_unit_noop, self_assign}
 use Rattle.rhai_rewriting.specs.WorkedNodes.{dot, index, property}
 use Rattle.rhai_rewriting.specs.WorkedRewrites.{Row, f, asks_f}
 
@@ -74,6 +75,16 @@ known_entry_row = (in_tail (in_head (in_expression (by_expr_rule (known_entry (f
 nested_if_row : Row (If t (stmts (If t (stmts (f ∷ [])) (stmts []) ∷ [])) (stmts []) ∷ []) (If (And (exprs (t ∷ t ∷ []))) (stmts (f ∷ [])) (stmts []) ∷ []) (ends (WithValue UnitV) asks_f)
 unfolding ran
 nested_if_row = (in_head (by_stmt_rule nested_if), refl, refl)
+
+-- let x = 1; x = x + 2; x
+self_assign_row : Row (let' "x" (int 1) ∷ Assignment None (var "x") (op Plus (var "x" ∷ int 2 ∷ [])) ∷ show (var "x") ∷ []) (let' "x" (int 1) ∷ Assignment (Some Plus) (var "x") (int 2) ∷ show (var "x") ∷ []) (ends_with (WithValue (i 3)) (variable "x" (i 3) ∷ []) [])
+unfolding ran computed
+self_assign_row = (in_tail (in_head (by_stmt_rule (self_assign refl refl refl))), refl, refl)
+
+-- x = x + { let x = 2; x }: what a block declares is its own
+self_assign_block_row : Row (let' "x" (int 1) ∷ Assignment None (var "x") (op Plus (var "x" ∷ BlockExpr (stmts (let' "x" (int 2) ∷ show (var "x") ∷ [])) ∷ [])) ∷ []) (let' "x" (int 1) ∷ Assignment (Some Plus) (var "x") (BlockExpr (stmts (let' "x" (int 2) ∷ show (var "x") ∷ []))) ∷ []) (ends_with (WithValue UnitV) (variable "x" (i 3) ∷ []) [])
+unfolding ran computed
+self_assign_block_row = (in_tail (in_head (by_stmt_rule (self_assign refl refl refl))), refl, refl)
 
 -- share x, y where x is known: neither has a meaning, and both are stuck
 share_known_row : StmtRule (noting (codes "x") (Some (i 1)) (under nothing_set)) false (Share (codes "x" ∷ codes "y" ∷ [])) (Share (codes "y" ∷ []))

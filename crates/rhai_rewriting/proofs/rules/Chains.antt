@@ -41,7 +41,7 @@ some_is d e h = ap (or_unit_of d) h where
 -- ---- chains as core
 
 -- a constant is no place
-constant_root : (e : Expr) (v : Value) → constant_value e ≡ Some v → root_of e ≡ None
+pub constant_root : (e : Expr) (v : Value) → constant_value e ≡ Some v → root_of e ≡ None
 constant_root (Variable ns x) v h = absurd (let z : None ≡ Some v = h in cc)
 constant_root ThisPtr v h = absurd (let z : None ≡ Some v = h in cc)
 constant_root _ v h = refl
@@ -97,7 +97,7 @@ module _ {k : Context} (c : Setting k) where
   property_step : (o : Bool) (p : PropertyNames) (fs : Fields) → Simulates c (steps (world c) (core.last o (core.Property p)) (without_place (MapV fs))) (give (entry fs p.name))
   property_step o p fs = not_unit (o && is_unit (MapV fs)) _ _ _ (no_unit o false refl) simulates_refl
 
-  indexed_is : (v j u : Value) → indexed v j ≡ Some u → is_unit v ≡ false
+  pub indexed_is : (v j u : Value) → indexed v j ≡ Some u → is_unit v ≡ false
   indexed_is UnitV j u h = absurd (let z : None ≡ Some u = h in cc)
   indexed_is _ j u h = refl
 

@@ -18,8 +18,8 @@ use Rattle.rhai_rewriting.proofs.simulation.Setting.{Setting, Start, world}
 use Rattle.rhai_rewriting.proofs.simulation.Simulation.{all_trans, all_equal}
 use Rattle.rhai_rewriting.proofs.simulation.Lists.{SimulatesList, list_of_all, list_trans}
 use Rattle.rhai_rewriting.proofs.simulation.Dropped.{from_any, all_goes}
-use Rattle.rhai_rewriting.proofs.unit.Within.{unit_first}
-use Rattle.rhai_rewriting.proofs.unit.SurelyUnit.{no, UnitOnly, UnitStmt, unit_of, surely_unit}
+use Rattle.rhai_rewriting.proofs.acts.Within.{unit_first}
+use Rattle.rhai_rewriting.proofs.acts.SurelyUnit.{no, UnitOnly, UnitStmt, unit_of, surely_unit}
 use Rattle.rhai_rewriting.proofs.rules.Leaving.{stmt_heavy}
 use Rattle.rhai_rewriting.proofs.rules.Pure.{inside_goes}
 use Rattle.rhai_rewriting.proofs.rules.Obligation.{ListObligation}

@@ -7,7 +7,7 @@ use Rattle.rhai_meaning.specs.Tree.{ChainFlags, SwitchTable, Arms, Callee, Expr,
 use Rattle.rhai_meaning.specs.Faults.{has_operands}
 use Rattle.rhai_meaning.specs.Shape.{keys, is_rest, is_table, is_left_side}
 use Rattle.rhai_meaning.specs.Walk.{Node, OfExpr, OfStmt, Around, whole}
-use Rattle.rhai_rewriting.specs.Parts.{constant_of}
+use Rattle.rhai_rewriting.specs.Parts.{constant_of, link}
 use Rattle.rhai_rewriting.specs.Scripts.{is_place}
 use Rattle.rhai_rewriting.proofs.Plain.{is_plain_value}
 
@@ -49,5 +49,6 @@ pub record Lasting (P : Around → Node → Type 0) (l : Bool) : Type 0 where
   pub branching : (e : Expr) (a b : Stmts) → P (whole l) (OfStmt (If e a b))
   pub block : (ss : Stmts) → P (whole l) (OfStmt (Block ss))
   pub expression : (e : Expr) → P (whole l) (OfStmt (ExprStmt e))
+  pub onward : (dot dot' : Bool) (f m : ChainFlags) (e a e' r : Expr) → f.breaks ≡ false → P (whole l) (OfExpr (link dot f e (link dot' m a r))) → P (whole l) (OfExpr (link dot' m e' r))
   pub conjunction : (es : Exprs) → has_operands es ≡ true → P (whole l) (OfExpr (And es))
   pub call_statement : (c : Callee) (es : Exprs) → P (whole l) (OfExpr (FnCall c es)) → P (whole l) (OfStmt (FnCallStmt c es))

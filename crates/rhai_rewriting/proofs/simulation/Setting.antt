@@ -9,7 +9,7 @@ use Rattle.rhai_meaning.proofs.Ends.{Run, Rises}
 use Rattle.rhai_meaning.specs.Tree.{Stmt}
 use Rattle.rhai_rewriting.specs.Context.{Context, noting, naming, behind}
 use Rattle.rhai_rewriting.specs.Known.{Agrees}
-use Rattle.rhai_rewriting.proofs.unit.Within.{Valueless, CallsIn}
+use Rattle.rhai_rewriting.proofs.acts.Within.{Valueless, CallsIn}
 
 -- A deeper one does what a shallower one does unless that is out of turns, and loops go round as often as it is deep.
 -- No call leaves a loop with a value.

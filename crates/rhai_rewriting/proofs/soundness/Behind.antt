@@ -12,8 +12,8 @@ use Rattle.rhai_rewriting.specs.SurelyUnit.{is_surely_unit}
 use Rattle.rhai_rewriting.proofs.simulation.Setting.{Setting, Start, noted, past, world}
 use Rattle.rhai_rewriting.proofs.simulation.Simulation.{all_equal}
 use Rattle.rhai_rewriting.proofs.simulation.Lists.{SimulatesList, list_of_all, list_trans, list_line, list_noted}
-use Rattle.rhai_rewriting.proofs.unit.Within.{unit_first}
-use Rattle.rhai_rewriting.proofs.unit.SurelyUnit.{no, UnitOnly, unit_of, surely_unit}
+use Rattle.rhai_rewriting.proofs.acts.Within.{unit_first}
+use Rattle.rhai_rewriting.proofs.acts.SurelyUnit.{no, UnitOnly, unit_of, surely_unit}
 use Rattle.rhai_rewriting.proofs.rules.Constants.{OrWrong, is, wrong, Given, expr_given}
 
 -- what comes after a constant has its value, or isn't reached

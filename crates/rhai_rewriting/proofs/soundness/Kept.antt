@@ -7,14 +7,14 @@ use Rattle.rhai_meaning.specs.Constants.{constant_for}
 use Rattle.rhai_meaning.specs.Engine.{Engine}
 use Rattle.rhai_meaning.specs.Faults.{is_reserved, AreWellFormedFunctions, IsWellFormedScript}
 use Rattle.rhai_meaning.specs.Plain.{all_true, is_plain_node, is_plain}
-use Rattle.rhai_meaning.specs.Tree.{SwitchTable, Callee, FnCall, FnCallStmt, Stmts, Function, Script}
+use Rattle.rhai_meaning.specs.Tree.{ChainFlags, SwitchTable, Callee, Expr, FnCall, FnCallStmt, Stmts, Function, Script}
 use Rattle.rhai_meaning.specs.Walk.{Node, OfExpr, OfStmt, Around, around_spot, around_parts, outermost, every, throughout, over_stmts, over_functions, over_script, arm_at, arms_at, listed}
 use Rattle.rhai_meaning.specs.Weight.{weight}
 use Rattle.rhai_meaning.proofs.PureTrees.{split}
 use Rattle.rhai_meaning.proofs.Walk.{Alongside, stmts_alongside, every_throughout}
 use Rattle.rhai_rewriting.specs.Context.{Context, ListKind}
 use Rattle.rhai_rewriting.specs.Known.{Known}
-use Rattle.rhai_rewriting.specs.Parts.{constant_of}
+use Rattle.rhai_rewriting.specs.Parts.{constant_of, link}
 use Rattle.rhai_rewriting.specs.Rewriting.{RestTo}
 use Rattle.rhai_rewriting.specs.Scripts.{is_capturing, captures_nothing, is_place, assigns_to_place, FunctionTo, FunctionsTo, no_functions, functions, ScriptTo}
 use Rattle.rhai_rewriting.proofs.Plain.{is_plain_value}
@@ -80,6 +80,10 @@ value_plain : (v : Value) → is_plain_node (OfExpr (constant_of v)) ≡ true
 value_plain UnitV = refl
 value_plain _ = refl
 
+onward_plain : (dot dot' : Bool) (f m : ChainFlags) (e a e' r : Expr) → f.breaks ≡ false → is_plain_node (OfExpr (link dot f e (link dot' m a r))) ≡ true → is_plain_node (OfExpr (link dot' m e' r)) ≡ true
+onward_plain dot true f m e a e' r q h = refl
+onward_plain dot false f m e a e' r q h = refl
+
 plain_lasts : (l : Bool) → Lasting (λ a n. is_plain_node n ≡ true) l
 plain_lasts l = record {
   again = plain_again;
@@ -89,6 +93,7 @@ plain_lasts l = record {
   branching = λ e a b. refl;
   block = λ ss. refl;
   expression = λ e. refl;
+  onward = onward_plain;
   conjunction = λ es h. refl;
   call_statement = λ c es h. h;
 }
@@ -114,6 +119,7 @@ places_last l = record {
   branching = λ e a b. refl;
   block = λ ss. refl;
   expression = λ e. refl;
+  onward = λ dot dot' f m e a e' r q h. refl;
   conjunction = λ es h. refl;
   call_statement = λ c es h. refl;
 }
@@ -135,6 +141,10 @@ value_apart : (v : Value) → not (is_capturing (OfExpr (constant_of v))) ≡ tr
 value_apart UnitV = refl
 value_apart _ = refl
 
+onward_apart : (dot dot' : Bool) (f m : ChainFlags) (e a e' r : Expr) → f.breaks ≡ false → not (is_capturing (OfExpr (link dot f e (link dot' m a r)))) ≡ true → not (is_capturing (OfExpr (link dot' m e' r))) ≡ true
+onward_apart dot true f m e a e' r q h = refl
+onward_apart dot false f m e a e' r q h = refl
+
 apart_lasts : (l : Bool) → Lasting (λ a n. not (is_capturing n) ≡ true) l
 apart_lasts l = record {
   again = apart_again;
@@ -144,6 +154,7 @@ apart_lasts l = record {
   branching = λ e a b. refl;
   block = λ ss. refl;
   expression = λ e. refl;
+  onward = onward_apart;
   conjunction = λ es h. refl;
   call_statement = λ c es h. h;
 }
@@ -170,6 +181,10 @@ module _ (Q : Callee → Type 0) where
   value_captures UnitV = tt
   value_captures _ = tt
 
+  onward_captures : (dot dot' : Bool) (f m : ChainFlags) (e a e' r : Expr) → f.breaks ≡ false → Captures Q (OfExpr (link dot f e (link dot' m a r))) → Captures Q (OfExpr (link dot' m e' r))
+  onward_captures dot true f m e a e' r q h = tt
+  onward_captures dot false f m e a e' r q h = tt
+
   captures_last : (l : Bool) → Lasting (λ a n. Captures Q n) l
   captures_last l = record {
     again = captures_again;
@@ -179,6 +194,7 @@ module _ (Q : Callee → Type 0) where
     branching = λ e a b. tt;
     block = λ ss. tt;
     expression = λ e. tt;
+    onward = onward_captures;
     conjunction = λ es h. tt;
     call_statement = λ c es h. h;
   }

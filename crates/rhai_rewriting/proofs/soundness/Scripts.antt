@@ -11,7 +11,7 @@ use Rattle.rhai_meaning.proofs.Ends.{Run, Ends, Met, out, ended, stuck, Rises, m
 use Rattle.rhai_meaning.proofs.Depths.{deeper_at}
 use Rattle.rhai_rewriting.specs.Known.{Known, shadow_all, Agrees}
 use Rattle.rhai_rewriting.specs.Refines.{EndsSo, RunRefines}
-use Rattle.rhai_rewriting.proofs.unit.Within.{AnyValue, Valueless, ResultIn, CallsIn, in_turn, returned_carries}
+use Rattle.rhai_rewriting.proofs.acts.Within.{AnyValue, Valueless, ResultIn, CallsIn, in_turn, returned_carries}
 use Rattle.rhai_rewriting.proofs.simulation.Agreement.{agrees_nothing, agrees_bind}
 use Rattle.rhai_rewriting.proofs.simulation.Setting.{Environments, Setting, steady_at}
 use Rattle.rhai_rewriting.proofs.simulation.Matching.{Matches, Stage, SimulatesAllAt, calling, ends_as, all_at_refl}

@@ -3,12 +3,12 @@ use Rattle.std.proofs.Common.{◌≡◌, Bool, true, false}
 use Rattle.rhai_values.specs.Value.{Value, UnitV, PointerV}
 use Rattle.rhai_meaning.specs.Constants.{constant_for}
 use Rattle.rhai_meaning.specs.Small.{CallsOperator}
-use Rattle.rhai_meaning.specs.Tree.{Stmts}
+use Rattle.rhai_meaning.specs.Tree.{ChainFlags, Expr, Stmts}
 use Rattle.rhai_meaning.specs.Walk.{Node, OfExpr, Around, outermost, every, throughout, over_stmts}
 use Rattle.rhai_meaning.proofs.Walk.{stmts_alongside, every_throughout}
 use Rattle.rhai_rewriting.specs.Context.{Context, ListKind}
 use Rattle.rhai_rewriting.specs.Rewriting.{StmtsTo}
-use Rattle.rhai_rewriting.specs.Parts.{constant_of}
+use Rattle.rhai_rewriting.specs.Parts.{constant_of, link}
 use Rattle.rhai_rewriting.proofs.Plain.{is_plain_value}
 use Rattle.rhai_rewriting.proofs.rules.Lasting.{SameNode, same_call, same_call_statement, same_and, same_or, same_coalesce, same_text, same_while, same_share, same_switch, same_map, same_method, same_dot, same_index, same_do, same_for, same_var, same_assignment, same_try, same_break, same_return, same_import, Lasting}
 use Rattle.rhai_rewriting.proofs.soundness.Lasting.{stmts_keep}
@@ -46,6 +46,10 @@ value_callless : (v : Value) → CallsOperator (OfExpr (constant_of v))
 value_callless UnitV = tt
 value_callless _ = tt
 
+no_chain : (dot dot' : Bool) (f m : ChainFlags) (e a e' r : Expr) → f.breaks ≡ false → CallsOperator (OfExpr (link dot f e (link dot' m a r))) → CallsOperator (OfExpr (link dot' m e' r))
+no_chain true dot' f m e a e' r q h = absurd h
+no_chain false dot' f m e a e' r q h = absurd h
+
 operators_last : (l : Bool) → Lasting (λ a n. CallsOperator n) l
 operators_last l = record {
   again = callee_again;
@@ -55,6 +59,7 @@ operators_last l = record {
   branching = λ e a b. tt;
   block = λ ss. tt;
   expression = λ e. tt;
+  onward = no_chain;
   conjunction = λ es h. tt;
   call_statement = λ c es h. h;
 }

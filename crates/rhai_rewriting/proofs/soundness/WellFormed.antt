@@ -1,15 +1,15 @@
 -- A well-formed tree stays well-formed.
-use Rattle.std.proofs.Common.{◌≡◌, Bool, true, false, Some, None, refl, ap, subst}
-use Rattle.std.specs.Prelude.{◌||◌}
+use Rattle.std.proofs.Common.{◌≡◌, Bool, true, false, Some, None, refl, sym, ap, ◌∙◌, subst}
+use Rattle.std.specs.Prelude.{◌||◌, ◌&&◌, not, if◌then◌else◌}
 use Rattle.rhai_values.specs.Value.{Value, UnitV, PointerV}
 use Rattle.rhai_meaning.specs.Constants.{constant_for}
 use Rattle.rhai_meaning.specs.Faults.{NoOperands, ChainShape, AssignTarget, SwitchFault, unless, call_fault, map_fault, is_member_role, is_inside_chain, ◌then◌, IsFaultless, AreWellFormed}
-use Rattle.rhai_meaning.specs.Shape.{is_table}
-use Rattle.rhai_meaning.specs.Tree.{Stmts}
+use Rattle.rhai_meaning.specs.Shape.{is_argument, is_rest, is_table}
+use Rattle.rhai_meaning.specs.Tree.{ChainFlags, Expr, Stmts}
 use Rattle.rhai_meaning.specs.Walk.{Node, OfExpr, Around, whole}
 use Rattle.rhai_rewriting.specs.Context.{Context, ListKind}
 use Rattle.rhai_rewriting.specs.Rewriting.{StmtsTo}
-use Rattle.rhai_rewriting.specs.Parts.{constant_of}
+use Rattle.rhai_rewriting.specs.Parts.{constant_of, link}
 use Rattle.rhai_rewriting.proofs.Plain.{is_plain_value}
 use Rattle.rhai_rewriting.proofs.rules.Lasting.{SameNode, same_call, same_call_statement, same_and, same_or, same_coalesce, same_switch, same_map, same_method, same_dot, same_index, same_assignment, same_try, same_break, Lasting}
 use Rattle.rhai_rewriting.proofs.soundness.Lasting.{stmts_keep}
@@ -42,6 +42,22 @@ value_faultless : (l : Bool) (v : Value) → IsFaultless (whole l) (OfExpr (cons
 value_faultless l UnitV = refl
 value_faultless l _ = refl
 
+-- the rest of a chain fits its second step as it fitted the first
+rest_fits : (x y : Bool) → unless (x && y) ChainShape ≡ None → unless y ChainShape ≡ None
+rest_fits true y h = h
+rest_fits false true h = refl
+rest_fits false false h = h
+
+fits_onward : (dot dot' : Bool) (f m : ChainFlags) (a r : Expr) → f.breaks ≡ false → unless (is_rest dot f.breaks (link dot' m a r)) ChainShape ≡ None → unless (is_rest dot' m.breaks r) ChainShape ≡ None
+fits_onward dot true f m a r q h = rest_fits (is_argument dot a) (is_rest true m.breaks r) (subst (λ b. unless (if b then not dot else (is_argument dot a && is_rest true m.breaks r)) ChainShape ≡ None) q h)
+fits_onward dot false f m a r q h = rest_fits (is_argument dot a) (is_rest false m.breaks r) (subst (λ b. unless (if b then not dot else (is_argument dot a && is_rest false m.breaks r)) ChainShape ≡ None) q h)
+
+onward_faultless : (l dot dot' : Bool) (f m : ChainFlags) (e a e' r : Expr) → f.breaks ≡ false → IsFaultless (whole l) (OfExpr (link dot f e (link dot' m a r))) → IsFaultless (whole l) (OfExpr (link dot' m e' r))
+onward_faultless l true true f m e a e' r q h = fits_onward true true f m a r q h
+onward_faultless l true false f m e a e' r q h = fits_onward true false f m a r q h
+onward_faultless l false true f m e a e' r q h = fits_onward false true f m a r q h
+onward_faultless l false false f m e a e' r q h = fits_onward false false f m a r q h
+
 faultless_lasts : (l : Bool) → Lasting IsFaultless l
 faultless_lasts l = record {
   again = λ {a} s h. faultless_again a s h;
@@ -51,6 +67,7 @@ faultless_lasts l = record {
   branching = λ e a b. refl;
   block = λ ss. refl;
   expression = λ e. refl;
+  onward = onward_faultless l;
   conjunction = λ es h. ap (λ b. unless b NoOperands) h;
   call_statement = λ c es h. h;
 }

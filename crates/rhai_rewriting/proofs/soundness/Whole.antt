@@ -1,6 +1,5 @@
 -- The theorem over whole scripts: one whose statements and functions were rewritten does what it did.
 use Rattle.std.proofs.Common.{◌≡◌, Bool, true, false, cond, List, [], ◌∷◌, length, map, refl, sym, ap, ◌∙◌, subst}
-use Rattle.std.specs.Prelude.{◌&&◌, not}
 use Rattle.rhai_values.specs.Value.{UnitV}
 use Rattle.rhai_meaning.specs.Act.{World, ScopeEntry, Host, Key}
 use Rattle.rhai_meaning.specs.Calls.{key}
@@ -10,16 +9,17 @@ use Rattle.rhai_meaning.specs.Engine.{Engine}
 use Rattle.rhai_meaning.specs.Plain.{all_true}
 use Rattle.rhai_meaning.specs.Run.{key_of, world_of, body_acts, EntryPoint, run_at, run_script}
 use Rattle.rhai_meaning.specs.Tree.{Function, Stmts, Script}
-use Rattle.rhai_meaning.specs.Walk.{Node, every, over_stmts, over_functions, arm_at, arms_at, listed}
+use Rattle.rhai_meaning.specs.Walk.{over_stmts, over_functions}
 use Rattle.rhai_meaning.proofs.PureTrees.{split}
-use Rattle.rhai_meaning.proofs.Walk.{Alongside, stmts_alongside}
+use Rattle.rhai_rewriting.specs.Context.{Context}
 use Rattle.rhai_rewriting.specs.Known.{Known, shadow_all, Agrees}
 use Rattle.rhai_rewriting.specs.Refines.{RunRefines, RefinesWhere}
-use Rattle.rhai_rewriting.specs.Scripts.{is_capturing, captures_nothing, known_at_top, known_in_bodies, known_inside, FunctionTo, FunctionsTo, no_functions, functions, ScriptTo, MayKnow, nothing_known, none_capture, OptimisedTo}
+use Rattle.rhai_rewriting.specs.Rewriting.{same_stmts}
+use Rattle.rhai_rewriting.specs.Scripts.{captures_nothing, known_at_top, known_in_bodies, known_inside, FunctionTo, FunctionsTo, no_functions, functions, ScriptTo, MayKnow, nothing_known, none_capture, OptimisedTo}
 use Rattle.rhai_rewriting.proofs.simulation.Agreement.{agrees_nothing}
 use Rattle.rhai_rewriting.proofs.simulation.Simulation.{SimulatesAll}
 use Rattle.rhai_rewriting.proofs.soundness.Apart.{AllApart, apart_finish, BodiesApart, same_script}
-use Rattle.rhai_rewriting.proofs.soundness.Capturing.{Apartness, list_apart}
+use Rattle.rhai_rewriting.proofs.soundness.Capturing.{is_apart, list_apart}
 use Rattle.rhai_rewriting.proofs.soundness.Derivation.{stmts_sound}
 use Rattle.rhai_rewriting.proofs.soundness.Kept.{captures_nothing_still}
 use Rattle.rhai_rewriting.proofs.soundness.Scripts.{setting_in, FunctionsTo as FunctionsSimulate, FunctionTo as FunctionSimulates, no_functions as none_simulate, functions as more_simulate, function, KnownInside, inside_nothing, ScriptTo as ScriptSimulates, run_refines}
@@ -46,47 +46,32 @@ script_simulates w top inner to = record {
   functions = bodies_simulate w inner to.functions;
 }
 
+-- functions as they were
+pub functions_same : (k : Context) (fs : List Function) → FunctionsTo k fs fs
+functions_same k [] = no_functions
+functions_same k (f ∷ fs) = functions (record { name = refl; this_type = refl; params = refl; body = same_stmts }) (functions_same k fs)
+
 -- keys stay, in order
-one_key : {k : _} {f f' : Function} → FunctionTo k f f' → key_of (core_function f') ≡ key_of (core_function f)
+one_key : {k : Context} {f f' : Function} → FunctionTo k f f' → key_of (core_function f') ≡ key_of (core_function f)
 one_key p = λ i. key (p.name i) (length (p.params i)) (p.this_type i)
 
-pub same_keys : {k : _} {fs fs' : List Function} → FunctionsTo k fs fs' → map key_of (map core_function fs') ≡ map key_of (map core_function fs)
+pub same_keys : {k : Context} {fs fs' : List Function} → FunctionsTo k fs fs' → map key_of (map core_function fs') ≡ map key_of (map core_function fs)
 same_keys no_functions = refl
 same_keys (functions p q) = λ i. one_key p i ∷ same_keys q i
 
 -- ---- scripts in which no call captures
 
-abbrev Holds : Bool → Type 0 → Type 0
-Holds b p = b ≡ true → p
+body_apart : (w : World) (ss : Stmts) → over_stmts (all_true is_apart) ss ≡ true → AllApart (body_acts w (core_stmts false ss))
+body_apart w ss h = apart_finish (list_apart w ss h)
 
-each_listed : (bs : List Bool) (ps : List (Type 0)) → ((i : _) → Holds (arm_at true bs i) (arm_at (Unit {0}) ps i)) → (is : List _) → Holds (arms_at true (λ p q. p && q) bs is) (arms_at (Unit {0}) (λ p q. p × q) ps is)
-each_listed bs ps f [] h = tt
-each_listed bs ps f (i ∷ is) h = let z = split (arm_at true bs i) (arms_at true (λ p q. p && q) bs is) h in (f i z.0, each_listed bs ps f is z.1)
-
-none_captures : (b : Bool) → not b ≡ true → b ≡ false
-none_captures true h = absurd (let z : false ≡ true = h in cc)
-none_captures false h = refl
-
-apart_alongside : Alongside Holds (all_true (λ n. not (is_capturing n))) (every Apartness)
-apart_alongside = record {
-  none = λ h. tt;
-  both = λ b c p q h k x. let y = split b c x in (h y.0, k y.1);
-  node = λ n b p h x. let y = split (not (is_capturing n)) b x in (none_captures (is_capturing n) y.0, h y.1);
-  within = λ s b p h. h;
-  arms = λ t bs ps h. each_listed bs ps h (listed t);
-}
-
-body_apart : (w : World) (ss : Stmts) → over_stmts (all_true (λ n. not (is_capturing n))) ss ≡ true → AllApart (body_acts w (core_stmts false ss))
-body_apart w ss h = apart_finish (list_apart w false ss (stmts_alongside Holds (all_true (λ n. not (is_capturing n))) (every Apartness) apart_alongside ss h) true UnitV)
-
-bodies_apart : (w : World) (fs : List Function) → over_functions (all_true (λ n. not (is_capturing n))) fs ≡ true → BodiesApart w (map core_function fs)
+bodies_apart : (w : World) (fs : List Function) → over_functions (all_true is_apart) fs ≡ true → BodiesApart w (map core_function fs)
 bodies_apart w [] h = tt
-bodies_apart w (f ∷ fs) h = let z = split (over_stmts (all_true (λ n. not (is_capturing n))) f.body) (over_functions (all_true (λ n. not (is_capturing n))) fs) h in (body_apart w f.body z.0, bodies_apart w fs z.1)
+bodies_apart w (f ∷ fs) h = let z = split (over_stmts (all_true is_apart) f.body) (over_functions (all_true is_apart) fs) h in (body_apart w f.body z.0, bodies_apart w fs z.1)
 
 -- it makes no difference whether a body may see the scope of a call
 lends_nothing : (w : World) (p : Script) → captures_nothing p ≡ true → (e : EntryPoint) (scope : List ScopeEntry) → run_at true w (core_script p) e scope ≡ run_at false w (core_script p) e scope
 lends_nothing w p h e scope =
-    let z = split (over_stmts (all_true (λ n. not (is_capturing n))) p.statements) (over_functions (all_true (λ n. not (is_capturing n))) p.functions) h in
+    let z = split (over_stmts (all_true is_apart) p.statements) (over_functions (all_true is_apart) p.functions) h in
     λ i n. same_script w (core_script p) (body_apart w p.statements z.0) (bodies_apart w p.functions z.1) e scope n i
 
 -- ---- what may be known in bodies

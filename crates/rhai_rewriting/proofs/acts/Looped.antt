@@ -8,7 +8,7 @@ use Rattle.rhai_meaning.specs.Control.{round, do_loop, counted, for_each, for_co
 use Rattle.rhai_meaning.specs.Core.{Expr, Always, When}
 use Rattle.rhai_meaning.specs.Meaning.{act, loop}
 use Rattle.rhai_meaning.specs.Shape.{is_unit}
-use Rattle.rhai_rewriting.proofs.unit.Within.{AnyValue, EndingIn, Within, WithinAll, in_give, in_stop, in_fail, then_in, bind_in, choose_in, if_in, loop_in, scoped_in, only_in, named_in, round_in}
+use Rattle.rhai_rewriting.proofs.acts.Within.{AnyValue, EndingIn, Within, WithinAll, in_give, in_stop, in_fail, then_in, bind_in, choose_in, if_in, loop_in, scoped_in, only_in, named_in, round_in}
 
 -- L, what the body may leave by; M and V, what the loop may
 module _ (w : World) (env : Env) (L M : Exit → Type 0) (V : Value → Type 0) (wider : (x : Exit) → L x → M x) (again : M Again) (broken : (v : Value) → L (Breaks v) → V v) (unit : V UnitV) where

@@ -13,7 +13,7 @@ use Rattle.rhai_meaning.specs.Core.{Callee, OnOperator, Qualified, ByName}
 use Rattle.rhai_meaning.specs.Elements.{element, character, bit}
 use Rattle.rhai_meaning.specs.Places.{AtIndex, Place, Current, along, with_along, or_no_place, write_place, part, without_place, again_at, refreshed, put_at, put_back}
 use Rattle.rhai_meaning.specs.Tree.{PropertyNames}
-use Rattle.rhai_rewriting.proofs.unit.Within.{AnyValue, CallsIn, Within, in_give, in_stop, in_fail, bind_in, choose_in, read_in, write_in, ask_in, answered_in, invoke_in}
+use Rattle.rhai_rewriting.proofs.acts.Within.{AnyValue, CallsIn, Within, in_give, in_stop, in_fail, bind_in, choose_in, read_in, write_in, ask_in, answered_in, invoke_in}
 
 module _ (w : World) (env : Env) (L : Exit → Type 0) (th : (v : Value) → L (Throws v)) (calls : CallsIn L env) where
   abbrev Any : Act → Type 0

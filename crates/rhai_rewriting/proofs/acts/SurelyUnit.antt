@@ -11,10 +11,10 @@ use Rattle.rhai_meaning.specs.Places.{Current}
 use Rattle.rhai_meaning.specs.Shape.{is_left_side, catch_name}
 use Rattle.rhai_meaning.specs.Tree.{Expr, UnitConstant, Stmt, Noop, While, Do, For, Var, Assignment, TryCatch}
 use Rattle.rhai_rewriting.specs.SurelyUnit.{is_surely_unit}
-use Rattle.rhai_rewriting.proofs.unit.Within.{AnyValue, AnyExit, IsUnit, Valueless, CallsIn, Within, WithinAll, in_any, any_calls, any_list, in_give, in_fail, bind_in, choose_in, read_in}
-use Rattle.rhai_rewriting.proofs.unit.Chained.{refreshed_in, applied_in, assign_last_in, assign_root_in}
-use Rattle.rhai_rewriting.proofs.unit.Looped.{always_in, when_in, do_in, for_in, try_in}
-use Rattle.rhai_rewriting.proofs.unit.Unbroken.{list_calm}
+use Rattle.rhai_rewriting.proofs.acts.Within.{AnyValue, AnyExit, IsUnit, Valueless, CallsIn, Within, WithinAll, in_any, any_calls, any_list, in_give, in_fail, bind_in, choose_in, read_in}
+use Rattle.rhai_rewriting.proofs.acts.Chained.{refreshed_in, applied_in, assign_last_in, assign_root_in}
+use Rattle.rhai_rewriting.proofs.acts.Looped.{always_in, when_in, do_in, for_in, try_in}
+use Rattle.rhai_rewriting.proofs.acts.Unbroken.{list_unbroken}
 
 pub no : {A : Type 0} → false ≡ true → A
 no h = absurd (let z : false ≡ true = h in cc)
@@ -78,7 +78,7 @@ module _ (w : World) (env : Env) where
   surely_unit calls l (Var c b x e) h = var_unit b c x _
   surely_unit calls l (Assignment op a e) h = unit_deed (deed_or_ill (is_left_side a) _ (bind_in w env (in_any w env (act w (core_expr l e))) (λ v y. target_unit (target_of l a) op v)))
   surely_unit calls l (TryCatch x a b) h = unit_deed (try_unit (catch_name x) _ _)
-  surely_unit calls l (While e b) h = unit_deed (while_unit e _ (list_calm w env calls true false b h UnitV))
-  surely_unit calls l (Do n e b) h = unit_deed (do_in w env Valueless AnyExit IsUnit (λ y j. tt) tt (λ v j. j) refl n (in_any w env (act w (core_expr l e))) (list_calm w env calls true false b h UnitV))
-  surely_unit calls l (For x i e b) h = unit_deed (bind_in w env (in_any w env (act w (core_expr l e))) (λ v y. for_in w env Valueless AnyExit IsUnit (λ z j. tt) tt (λ u j. j) refl x i (list_calm w env calls true false b h UnitV) v))
+  surely_unit calls l (While e b) h = unit_deed (while_unit e _ (list_unbroken w env calls true false b h UnitV))
+  surely_unit calls l (Do n e b) h = unit_deed (do_in w env Valueless AnyExit IsUnit (λ y j. tt) tt (λ v j. j) refl n (in_any w env (act w (core_expr l e))) (list_unbroken w env calls true false b h UnitV))
+  surely_unit calls l (For x i e b) h = unit_deed (bind_in w env (in_any w env (act w (core_expr l e))) (λ v y. for_in w env Valueless AnyExit IsUnit (λ z j. tt) tt (λ u j. j) refl x i (list_unbroken w env calls true false b h UnitV) v))
   surely_unit calls l _ h = no h
