@@ -20,3 +20,4 @@ pub mod WorkedConditions
 pub mod WorkedKnown
 pub mod WorkedLists
 pub mod WorkedListConditions
+pub mod WorkedQueries
