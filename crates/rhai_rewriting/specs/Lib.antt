@@ -24,3 +24,4 @@ pub mod WorkedConditions
 pub mod WorkedKnown
 pub mod WorkedLists
 pub mod WorkedListConditions
+pub mod WorkedQueries

@@ -3,13 +3,13 @@ use Rattle.std.specs.Prelude.{◌≡◌, ◌<◌, ℕ, ℤ, Bool, true, false, �
 use Rattle.rhai_values.specs.Value.{Text, Value, UnitV, IntV, TextV, ArrayV, MapV, PointerV, Values, Fields, values, items}
 use Rattle.rhai_base.specs.Operators.{Operator}
 use Rattle.rhai_parts.specs.Names.{is_valid_name}
-use Rattle.rhai_meaning.specs.Constants.{constant_value, constant_values, constant_entries, constant_bool, constant_for, is_literal_unit}
+use Rattle.rhai_meaning.specs.Constants.{constant_value, constant_values, constant_entries, constant_bool, constant_for, is_literal_unit, pointer_call}
 use Rattle.rhai_meaning.specs.Control.{texts_joined}
 use Rattle.rhai_meaning.specs.Control.{chosen as cases_for}
 use Rattle.rhai_meaning.specs.Elements.{index_in, entry, fields_of}
 use Rattle.rhai_meaning.specs.Engine.{mapped_type_name, assigning}
 use Rattle.rhai_meaning.specs.Faults.{has_operands}
-use Rattle.rhai_meaning.specs.Queries.{is_block_dependent, is_any_dependent, are_pure_exprs, are_pure_pairs, is_pure, are_pure, is_internally_pure, are_internally_pure, is_control_flow_break, is_noop}
+use Rattle.rhai_meaning.specs.Queries.{is_block_dependent, is_any_dependent, are_pure_exprs, are_pure_pairs, is_pure, is_internally_pure, are_internally_pure, is_control_flow_break, is_noop}
 use Rattle.rhai_meaning.specs.Shape.{is_unit, is_table, names_arm}
 use Rattle.rhai_meaning.specs.Walk.{listed}
 use Rattle.rhai_meaning.specs.Weight.{table_weight}
@@ -104,6 +104,8 @@ pub data ExprRule (k : Context) : Expr → Expr → Type 0 where
   is_shared_method_first : {f : ChainFlags} {e : Expr} (dot captures : Bool) (m : ChainFlags) (r : Expr) (v : Value) → f.breaks ≡ false → constant_value e ≡ Some v → (f.negated && is_unit v) ≡ false → ExprRule k (Dot f e (link dot m (MethodCall (named (codes "is_shared") captures) no_exprs) r)) (link dot m (BoolConstant false) r)
   -- a name that is known as a constant is its value; of a constant map a part
   known_name : {x : Text} (v : Value) → look k.known x ≡ Some v → ExprRule k (Variable [] x) (constant_of v)
+  -- a pointer without values may be the call that makes it
+  known_pointer : {x : Text} (f : Text) → look k.known x ≡ Some (PointerV f (values [])) → is_valid_name f ≡ true → ExprRule k (Variable [] x) (pointer_call f)
   known_property : {f : ChainFlags} {x : Text} {p : PropertyNames} (fs : Fields) → look k.known x ≡ Some (MapV fs) → ExprRule k (Dot f (Variable [] x) (Property p)) (constant_of (entry fs p.name))
   known_entry : {f : ChainFlags} {x : Text} {i : Expr} (fs : Fields) (y : Text) → look k.known x ≡ Some (MapV fs) → constant_value i ≡ Some (TextV y) → ExprRule k (Index f (Variable [] x) i) (constant_of (entry fs y))
 
@@ -136,8 +138,8 @@ pub data StmtRule (k : Context) (w : Bool) : Stmt → Stmt → Type 0 where
   switch_shrinks : {e : Expr} {as' : Arms} {t : SwitchTable} {cs : List SwitchCase} {qs : List SwitchRange} → CasesTo as' qs t.cases cs → RangesTo as' t.ranges qs → (is_table as' t ≡ true → is_table as' (record { cases = cs; ranges = qs; default = t.default }) ≡ true) → table_weight (record { cases = cs; ranges = qs; default = t.default }) < table_weight t → StmtRule k w (Switch e as' t) (Switch e as' (record { cases = cs; ranges = qs; default = t.default }))
   -- the answer of an arm that no list names is unit
   switch_forgets : {e : Expr} {as' : Arms} {t : SwitchTable} {c a : Expr} (j : ℕ) → arm_of as' j ≡ Some (c, a) → is_literal_unit a ≡ false → names_arm j (listed t) ≡ false → StmtRule k w (Switch e as' t) (Switch e (forgotten as' j) t)
-  -- a `try` over a pure body does nothing
-  pure_try : {x : Expr} {body branch : Stmts} → are_pure body ≡ true → StmtRule k w (TryCatch x body branch) Noop
+  -- a `try` over a body that is pure inside does nothing
+  pure_try : {x : Expr} {body branch : Stmts} → are_internally_pure body ≡ true → StmtRule k w (TryCatch x body branch) Noop
   -- an `if` alone in an `if`, both without an `else`
   nested_if : {a b : Expr} {ss : Stmts} → StmtRule k w (If a (stmt (If b ss no_stmts) no_stmts) no_stmts) (If (And (expr a (expr b no_exprs))) ss no_stmts)
   -- `x = x op e` is `x op= e`, where e writes nothing and no `op=` is overridden

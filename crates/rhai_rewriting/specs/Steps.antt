@@ -21,9 +21,9 @@ pub record StmtRun (k : Context) (w d d' : Bool) (s s' : Stmt) : Type 0 where
   pub to : StmtTo k w d d' s s'
   pub reduced : d' ≡ false → IsReduced k.engine s'
 
--- each statement of a list once
+-- each statement of a list once, whatever stands before it
 pub record EachRun (k : Context) (m : ListKind) (d d' : Bool) (ss ss' : Stmts) : Type 0 where
-  pub to : StmtsTo k m d d' ss ss'
+  pub to : (u : Bool) → RestTo k m u d d' ss ss'
   pub reduced : d' ≡ false → AreReduced k.engine ss'
 
 -- a list is passed until nothing changes, whatever the flag was before

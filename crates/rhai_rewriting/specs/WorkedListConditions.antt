@@ -1,15 +1,15 @@
 -- For each condition of the rules on known names and of lists two scripts that the rule without it would take for one, and
 -- what each does.
 use Rattle.std.specs.Prelude.{◌≡◌, true, false, [], ◌∷◌, None, codes, refl, List, Some}
-use Rattle.rhai_values.specs.Value.{UnitV, ArrayV, values}
+use Rattle.rhai_values.specs.Value.{UnitV, ArrayV, values, TextV, PointerV}
 use Rattle.rhai_base.specs.Operators.{Plus, computed}
 use Rattle.rhai_rewriting.specs.Parts.{named}
 use Rattle.rhai_rewriting.specs.WorkedNodes.{dot}
 use Rattle.rhai_meaning.specs.Engine.{Engine}
 use Rattle.rhai_meaning.specs.Act.{Unbound, HostCall, Host, Answers}
-use Rattle.rhai_meaning.specs.Run.{WithValue, WithStuck}
-use Rattle.rhai_meaning.specs.Tree.{Expr, BoolConstant, DynamicConstant, BlockExpr, no_expr, an_expr, Stmt, Noop, If, While, For, Assignment, Block, ExprStmt, BreakLoop, Return, stmts, Dot, MethodCall, exprs}
-use Rattle.rhai_meaning.specs.WorkedForms.{int, nothing_set, joining, ran, ran_with, ends, i, op, asked, overriding}
+use Rattle.rhai_meaning.specs.Run.{WithValue, WithStuck, WithThrown}
+use Rattle.rhai_meaning.specs.Tree.{Expr, BoolConstant, DynamicConstant, BlockExpr, no_expr, an_expr, Stmt, Noop, If, While, For, Assignment, Block, ExprStmt, BreakLoop, Return, stmts, Dot, MethodCall, exprs, StringConstant}
+use Rattle.rhai_meaning.specs.WorkedForms.{int, nothing_set, joining, ran, ran_with, ends, i, op, asked, overriding, call}
 use Rattle.rhai_rewriting.specs.WorkedConditions.{Differ}
 use Rattle.rhai_rewriting.specs.WorkedLists.{var, let', const, variable, constant, ends_with}
 use Rattle.rhai_rewriting.specs.WorkedRewrites.{f, asks_f}
@@ -41,6 +41,11 @@ loop_name_stays = (refl, refl)
 block_forgets : Differ (Block (stmts (const "x" (int 1) ∷ [])) ∷ show (var "x") ∷ []) (ends (WithStuck Unbound) []) (Block (stmts (const "x" (int 1) ∷ [])) ∷ show (int 1) ∷ []) (ends (WithValue (i 1)) [])
 unfolding ran
 block_forgets = (refl, refl)
+
+-- a pointer's name is valid: the call throws where the constant is a value
+pointer_name : Differ (show (DynamicConstant (PointerV (codes "1") (values []))) ∷ []) (ends (WithValue (PointerV (codes "1") (values []))) []) (show (call "Fn" (StringConstant (codes "1") ∷ [])) ∷ []) (ends (WithThrown (TextV (codes "function name"))) [])
+unfolding ran
+pointer_name = (refl, refl)
 
 -- ---- lists
 

@@ -7,10 +7,10 @@ use Rattle.rhai_base.specs.Operators.{Plus, computed}
 use Rattle.rhai_meaning.specs.Act.{HostCall, ScopeEntry, WrongKind}
 use Rattle.rhai_meaning.specs.Run.{End, Report, WithValue, WithStuck}
 use Rattle.rhai_meaning.specs.Tree.{Expr, DynamicConstant, StringConstant, BoolConstant, UnitConstant, Variable, Dot, Index, And, no_expr, an_expr, Stmt, Noop, If, While, Do, For, Var, Block, TryCatch, ExprStmt, Return, Share, exprs, stmts, Assignment, BlockExpr}
-use Rattle.rhai_meaning.specs.WorkedForms.{int, nothing_set, joining, ran, ends, i, op}
+use Rattle.rhai_meaning.specs.WorkedForms.{int, nothing_set, joining, ran, ends, i, op, call}
 use Rattle.rhai_rewriting.specs.Context.{Inside, noting, under}
 use Rattle.rhai_rewriting.specs.Rewriting.{RestTo, then_stmts, by_expr_rule, by_stmt_rule, by_list_rule, in_expression, in_block, in_head, in_tail}
-use Rattle.rhai_rewriting.specs.Rules.{StmtRule, known_name, known_property, known_entry, nested_if, share_known, share_nothing, after_leave, pure_goes, lone_goes, pure_inside_goes, last_return, last_return_goes, last_return_noop, last_unit_goes, last_unit_noop, self_assign}
+use Rattle.rhai_rewriting.specs.Rules.{StmtRule, known_name, known_property, known_entry, nested_if, share_known, share_nothing, after_leave, pure_goes, lone_goes, pure_inside_goes, last_return, last_return_goes, last_return_noop, last_unit_goes, last_unit_noop, self_assign, known_pointer}
 use Rattle.rhai_rewriting.specs.WorkedNodes.{dot, index, property}
 use Rattle.rhai_rewriting.specs.WorkedRewrites.{Row, f, asks_f}
 
@@ -46,10 +46,14 @@ known_name_row : Row (const "x" (int 1) ∷ show (var "x") ∷ []) (const "x" (i
 unfolding ran
 known_name_row = (in_tail (in_head (in_expression (by_expr_rule (known_name (i 1) refl)))), refl, refl)
 
--- const p = Fn(f), a constant; p
-known_pointer_row : Row (const "p" (DynamicConstant (PointerV (codes "f") (values []))) ∷ show (var "p") ∷ []) (const "p" (DynamicConstant (PointerV (codes "f") (values []))) ∷ show (DynamicConstant (PointerV (codes "f") (values []))) ∷ []) (ends_with (WithValue (PointerV (codes "f") (values []))) (constant "p" (PointerV (codes "f") (values [])) ∷ []) [])
+-- const p = Fn(f), a constant; p: the call that makes it, or the constant
+known_pointer_row : Row (const "p" (DynamicConstant (PointerV (codes "f") (values []))) ∷ show (var "p") ∷ []) (const "p" (DynamicConstant (PointerV (codes "f") (values []))) ∷ show (call "Fn" (StringConstant (codes "f") ∷ [])) ∷ []) (ends_with (WithValue (PointerV (codes "f") (values []))) (constant "p" (PointerV (codes "f") (values [])) ∷ []) [])
 unfolding ran
-known_pointer_row = (in_tail (in_head (in_expression (by_expr_rule (known_name (PointerV (codes "f") (values [])) refl)))), refl, refl)
+known_pointer_row = (in_tail (in_head (in_expression (by_expr_rule (known_pointer (codes "f") refl refl)))), refl, refl)
+
+pointer_value_row : Row (const "p" (DynamicConstant (PointerV (codes "f") (values []))) ∷ show (var "p") ∷ []) (const "p" (DynamicConstant (PointerV (codes "f") (values []))) ∷ show (DynamicConstant (PointerV (codes "f") (values []))) ∷ []) (ends_with (WithValue (PointerV (codes "f") (values []))) (constant "p" (PointerV (codes "f") (values [])) ∷ []) [])
+unfolding ran
+pointer_value_row = (in_tail (in_head (in_expression (by_expr_rule (known_name (PointerV (codes "f") (values [])) refl)))), refl, refl)
 
 -- const x = 1; { let y = 2; x }: a block knows it too
 inner_name_row : Row (const "x" (int 1) ∷ Block (stmts (let' "y" (int 2) ∷ show (var "x") ∷ [])) ∷ []) (const "x" (int 1) ∷ Block (stmts (let' "y" (int 2) ∷ show (int 1) ∷ [])) ∷ []) (ends_with (WithValue (i 1)) (constant "x" (i 1) ∷ []) [])

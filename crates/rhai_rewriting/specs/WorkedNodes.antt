@@ -8,7 +8,7 @@ use Rattle.rhai_meaning.specs.Elements.{character}
 use Rattle.rhai_meaning.specs.Act.{HostCall, WrongKind}
 use Rattle.rhai_meaning.specs.Control.{texts_joined}
 use Rattle.rhai_meaning.specs.Run.{WithValue, WithStuck}
-use Rattle.rhai_meaning.specs.Tree.{SwitchCase, SwitchTable, ChainFlags, Expr, DynamicConstant, BoolConstant, StringConstant, UnitConstant, InterpolatedString, ArrayOf, MapOf, Property, MethodCall, FnCall, Dot, Index, And, Or, Coalesce, Noop, While, TryCatch, ExprStmt, BreakLoop, no_expr, exprs, pairs, arms, stmts, BlockExpr, If, Switch, Block}
+use Rattle.rhai_meaning.specs.Tree.{SwitchCase, SwitchTable, ChainFlags, Expr, DynamicConstant, BoolConstant, StringConstant, UnitConstant, InterpolatedString, ArrayOf, MapOf, Property, MethodCall, FnCall, Dot, Index, And, Or, Coalesce, Noop, While, TryCatch, ExprStmt, BreakLoop, no_expr, exprs, pairs, arms, stmts, BlockExpr, If, Switch, Block, Var}
 use Rattle.rhai_meaning.specs.WorkedForms.{int, call, nothing_set, joining, ran, ran_with, ends, i}
 use Rattle.rhai_rewriting.specs.Context.{under}
 use Rattle.rhai_rewriting.specs.Operands.{passing_goes, after_deciding_go, pure_before_deciding_goes, in_other_operands, unit_goes, after_some_go, texts_join, empty_goes, in_other_parts}
@@ -229,6 +229,11 @@ while_true_runs = (refl, refl)
 pure_try_row : Row (TryCatch UnitConstant (stmts (ExprStmt (int 1) ∷ [])) (stmts (f ∷ [])) ∷ []) (Noop ∷ []) (ends (WithValue UnitV) [])
 unfolding ran
 pure_try_row = (in_head (by_stmt_rule (pure_try refl)), refl, refl)
+
+-- try { const a = 1; } catch { f() }: the body's names are its own
+inner_try_row : Row (TryCatch UnitConstant (stmts (Var true false (codes "a") (int 1) ∷ [])) (stmts (f ∷ [])) ∷ []) (Noop ∷ []) (ends (WithValue UnitV) [])
+unfolding ran
+inner_try_row = (in_head (by_stmt_rule (pure_try refl)), refl, refl)
 
 -- ---- `switch`
 

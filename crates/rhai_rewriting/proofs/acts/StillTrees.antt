@@ -18,7 +18,7 @@ use Rattle.rhai_meaning.specs.Small.{is_operator}
 use Rattle.rhai_meaning.specs.Tree.{CallToken, NoToken, OfOperator, OfOther, Callee, PropertyNames, Expr}
 use Rattle.rhai_rewriting.specs.SelfAssign.{writes_nothing, leaves_names}
 use Rattle.rhai_rewriting.proofs.acts.Still.{Still, still_stop, still_fail, still_then, still_turn, still_read, still_ask, still_loop, still_scoped, StillList, still_only, still_do, still_named}
-use Rattle.rhai_rewriting.proofs.acts.Trees.{Closed, expr_calm}
+use Rattle.rhai_rewriting.proofs.acts.Trees.{Closed, expr_held}
 
 no : {A : Type 0} → false ≡ true → A
 no h = absurd (let z : false ≡ true = h in cc)
@@ -177,4 +177,4 @@ still_closed w = record {
 }
 
 pub still_expr : (w : World) (l : Bool) (e : Expr) → leaves_names e ≡ true → Still (act w (core_expr l e))
-still_expr w l e h = expr_calm w Still StillList writes_nothing (still_closed w) l e h
+still_expr w l e h = expr_held w Still StillList writes_nothing (still_closed w) l e h

@@ -72,273 +72,273 @@ module _ (w : World) (C : Act → Type 0) (D : Acts → Type 0) (P : Node → Bo
   inner_stmt : (s : Stmt) → over_stmt W s ≡ true → parts_of_stmt W s ≡ true
   inner_stmt s h = (split (P (OfStmt s)) (parts_of_stmt W s) h).1
 
-  chosen_calm : (b : Bool) {a c : Act} → C a → C c → C (choose b a c)
-  chosen_calm true h k = h
-  chosen_calm false h k = k
+  chosen_held : (b : Bool) {a c : Act} → C a → C c → C (choose b a c)
+  chosen_held true h k = h
+  chosen_held false h k = k
 
-  branch_calm : (o : Option Bool) {a c : Act} → C a → C c → C (branch o a c)
-  branch_calm None h k = g.fail _
-  branch_calm (Some b) h k = chosen_calm b h k
+  branch_held : (o : Option Bool) {a c : Act} → C a → C c → C (branch o a c)
+  branch_held None h k = g.fail _
+  branch_held (Some b) h k = chosen_held b h k
 
-  if_calm : (v : Value) {a c : Act} → C a → C c → C (if_true v a c)
-  if_calm v h k = branch_calm (truth v) h k
+  if_held : (v : Value) {a c : Act} → C a → C c → C (if_true v a c)
+  if_held v h k = branch_held (truth v) h k
 
   -- ---- nodes with a test
 
-  expr_calm_or_ill : (b : Bool) (e : core.Expr) → C (act w e) → C (act w (cond b e core.Ill))
-  expr_calm_or_ill true e h = h
-  expr_calm_or_ill false e h = g.fail _
+  expr_held_or_ill : (b : Bool) (e : core.Expr) → C (act w e) → C (act w (cond b e core.Ill))
+  expr_held_or_ill true e h = h
+  expr_held_or_ill false e h = g.fail _
 
-  deed_calm_or_ill : (b : Bool) (d : core.Deed) → C (deed w d) → C (deed w (cond b d core.IllDeed))
-  deed_calm_or_ill true d h = h
-  deed_calm_or_ill false d h = g.fail _
+  deed_held_or_ill : (b : Bool) (d : core.Deed) → C (deed w d) → C (deed w (cond b d core.IllDeed))
+  deed_held_or_ill true d h = h
+  deed_held_or_ill false d h = g.fail _
 
-  constant_calm : (b : Bool) (v : Value) → C (act w (cond b core.Ill (core.Constant v)))
-  constant_calm true v = g.fail _
-  constant_calm false v = g.gives v
+  constant_held : (b : Bool) (v : Value) → C (act w (cond b core.Ill (core.Constant v)))
+  constant_held true v = g.fail _
+  constant_held false v = g.gives v
 
-  module_calm : (o : Option Value) → C (of_constant o)
-  module_calm None = g.fail _
-  module_calm (Some v) = g.gives v
+  module_held : (o : Option Value) → C (of_constant o)
+  module_held None = g.fail _
+  module_held (Some v) = g.gives v
 
-  variable_calm : (ns : List Text) (x : Text) → C (act w (variable ns x))
-  variable_calm [] x = g.read _
-  variable_calm (n ∷ ns) x = module_calm _
+  variable_held : (ns : List Text) (x : Text) → C (act w (variable ns x))
+  variable_held [] x = g.read _
+  variable_held (n ∷ ns) x = module_held _
 
   -- ---- chains
 
-  record CalmStep (p : core.Step) : Type 0 where
+  record HeldStep (p : core.Step) : Type 0 where
     pub reaches : {next : Access → Act} → ((r : Access) → Applies w C r → C (next r)) → C (access w p next)
 
-  record CalmSteps (sts : core.Steps) : Type 0 where
+  record HeldSteps (sts : core.Steps) : Type 0 where
     pub walks : (c : Current) → C (steps w sts c)
     pub assigns : Writes w C → (o : Option Operator) (v : Value) (c : Current) → C (assign_steps w o v sts c)
 
-  last_calm : (o : Bool) (p : core.Step) → CalmStep p → CalmSteps (core.last o p)
-  last_calm o p h = record {
-    walks = λ c. chosen_calm _ (g.gives UnitV) (h.reaches (λ r a. g.refreshes c (λ d. a.by d (λ x. g.gives _))));
-    assigns = λ q op v c. chosen_calm _ (g.gives UnitV) (h.reaches (λ r a. g.refreshes c (λ d. q.last op v r d)));
+  last_held : (o : Bool) (p : core.Step) → HeldStep p → HeldSteps (core.last o p)
+  last_held o p h = record {
+    walks = λ c. chosen_held _ (g.gives UnitV) (h.reaches (λ r a. g.refreshes c (λ d. a.by d (λ x. g.gives _))));
+    assigns = λ q op v c. chosen_held _ (g.gives UnitV) (h.reaches (λ r a. g.refreshes c (λ d. q.last op v r d)));
   }
 
-  more_calm : (o : Bool) (p : core.Step) (sts : core.Steps) → CalmStep p → CalmSteps sts → CalmSteps (core.more o p sts)
-  more_calm o p sts h k = record {
-    walks = λ c. chosen_calm _ (g.gives UnitV) (h.reaches (λ r a. g.refreshes c (λ d. a.by d (λ x. k.walks x))));
-    assigns = λ q op v c. chosen_calm _ (g.gives UnitV) (h.reaches (λ r a. g.refreshes c (λ d. a.by d (λ x. k.assigns q op v x))));
+  more_held : (o : Bool) (p : core.Step) (sts : core.Steps) → HeldStep p → HeldSteps sts → HeldSteps (core.more o p sts)
+  more_held o p sts h k = record {
+    walks = λ c. chosen_held _ (g.gives UnitV) (h.reaches (λ r a. g.refreshes c (λ d. a.by d (λ x. k.walks x))));
+    assigns = λ q op v c. chosen_held _ (g.gives UnitV) (h.reaches (λ r a. g.refreshes c (λ d. a.by d (λ x. k.assigns q op v x))));
   }
 
-  either_steps : (b : Bool) (p q : core.Steps) → CalmSteps p → CalmSteps q → CalmSteps (cond b p q)
+  either_steps : (b : Bool) (p q : core.Steps) → HeldSteps p → HeldSteps q → HeldSteps (cond b p q)
   either_steps true p q h k = h
   either_steps false p q h k = k
 
-  either_step : (b : Bool) (p q : core.Step) → CalmStep p → CalmStep q → CalmStep (cond b p q)
+  either_step : (b : Bool) (p q : core.Step) → HeldStep p → HeldStep q → HeldStep (cond b p q)
   either_step true p q h k = h
   either_step false p q h k = k
 
-  ill_step : CalmStep core.IllStep
+  ill_step : HeldStep core.IllStep
   ill_step = record { reaches = λ h. g.fail _ }
 
-  index_calm : (e : core.Expr) → C (act w e) → CalmStep (core.Index e)
-  index_calm e h = record { reaches = λ k. g.bind h (λ v. k _ (g.index v)) }
+  index_held : (e : core.Expr) → C (act w e) → HeldStep (core.Index e)
+  index_held e h = record { reaches = λ k. g.bind h (λ v. k _ (g.index v)) }
 
-  base_calm : (o : Option Root) (e : core.Expr) {next : Current → Act} → C (act w e) → ((c : Current) → C (next c)) → C (at_base w (based o e) next)
-  base_calm None e h k = g.bind h (λ v. k _)
-  base_calm (Some r) e h k = g.bind (g.read r) (λ v. k _)
+  base_held : (o : Option Root) (e : core.Expr) {next : Current → Act} → C (act w e) → ((c : Current) → C (next c)) → C (at_base w (based o e) next)
+  base_held None e h k = g.bind h (λ v. k _)
+  base_held (Some r) e h k = g.bind (g.read r) (λ v. k _)
 
-  part_calm : (o : Option Root) (b : Bool) (sts : core.Steps) → CalmSteps sts → Writes w C → (op : Option Operator) (v : Value) → C (assign w op (part_target o b sts) v)
-  part_calm None b sts h q op v = g.fail _
-  part_calm (Some r) true sts h q op v = g.fail _
-  part_calm (Some r) false sts h q op v = g.bind (g.read r) (λ u. h.assigns q op v _)
+  part_held : (o : Option Root) (b : Bool) (sts : core.Steps) → HeldSteps sts → Writes w C → (op : Option Operator) (v : Value) → C (assign w op (part_target o b sts) v)
+  part_held None b sts h q op v = g.fail _
+  part_held (Some r) true sts h q op v = g.fail _
+  part_held (Some r) false sts h q op v = g.bind (g.read r) (λ u. h.assigns q op v _)
 
   target_or_ill : (b : Bool) (t : core.Target) (op : Option Operator) (v : Value) → C (assign w op t v) → C (assign w op (cond b t core.IllTarget) v)
   target_or_ill true t op v h = h
   target_or_ill false t op v h = g.fail _
 
-  name_calm : (ns : List Text) (x : Text) → Writes w C → (op : Option Operator) (v : Value) → C (assign w op (name_target ns x) v)
-  name_calm [] x q op v = q.root op v _
-  name_calm (n ∷ ns) x q op v = g.fail _
+  name_held : (ns : List Text) (x : Text) → Writes w C → (op : Option Operator) (v : Value) → C (assign w op (name_target ns x) v)
+  name_held [] x q op v = q.root op v _
+  name_held (n ∷ ns) x q op v = g.fail _
 
   -- ---- `switch`
 
-  record CalmArm (b : Bool) (a : ArmActs) : Type 0 where
+  record HeldArm (b : Bool) (a : ArmActs) : Type 0 where
     pub guards : b ≡ true → C a.guard
     pub answers : b ≡ true → C a.answer
 
-  data CalmArms : List Bool → List ArmActs → Type 0 where
-    no_arm : CalmArms [] []
-    one_arm : {b : Bool} {a : ArmActs} {bs : List Bool} {as' : List ArmActs} → CalmArm b a → CalmArms bs as' → CalmArms (b ∷ bs) (a ∷ as')
+  data HeldArms : List Bool → List ArmActs → Type 0 where
+    no_arm : HeldArms [] []
+    one_arm : {b : Bool} {a : ArmActs} {bs : List Bool} {as' : List ArmActs} → HeldArm b a → HeldArms bs as' → HeldArms (b ∷ bs) (a ∷ as')
 
-  try_calm : {bs : List Bool} {as' : List ArmActs} → CalmArms bs as' → (i : ℕ) → arm_at true bs i ≡ true → (next : Act) → C next → C (try_arm (slice_get as' i) next)
-  try_calm no_arm i h next k = k
-  try_calm (one_arm p ps) zero h next k = g.bind (p.guards h) (λ v. if_calm v (p.answers h) k)
-  try_calm (one_arm p ps) (suc i) h next k = try_calm ps i h next k
+  try_held : {bs : List Bool} {as' : List ArmActs} → HeldArms bs as' → (i : ℕ) → arm_at true bs i ≡ true → (next : Act) → C next → C (try_arm (slice_get as' i) next)
+  try_held no_arm i h next k = k
+  try_held (one_arm p ps) zero h next k = g.bind (p.guards h) (λ v. if_held v (p.answers h) k)
+  try_held (one_arm p ps) (suc i) h next k = try_held ps i h next k
 
-  first_calm : {bs : List Bool} {as' : List ArmActs} → CalmArms bs as' → (is : List ℕ) → AllArms (λ i. arm_at true bs i ≡ true) is → (d : Act) → C d → C (first_arm as' is d)
-  first_calm p [] h d k = k
-  first_calm {bs} {as'} p (i ∷ is) h d k = try_calm p i h.0 (first_arm as' is d) (first_calm p is h.1 d k)
+  first_held : {bs : List Bool} {as' : List ArmActs} → HeldArms bs as' → (is : List ℕ) → AllArms (λ i. arm_at true bs i ≡ true) is → (d : Act) → C d → C (first_arm as' is d)
+  first_held p [] h d k = k
+  first_held {bs} {as'} p (i ∷ is) h d k = try_held p i h.0 (first_arm as' is d) (first_held p is h.1 d k)
 
-  answer_calm : {bs : List Bool} {as' : List ArmActs} → CalmArms bs as' → (i : ℕ) → arm_at true bs i ≡ true → C (answer_of (slice_get as' i))
-  answer_calm no_arm i h = g.gives UnitV
-  answer_calm (one_arm p ps) zero h = p.answers h
-  answer_calm (one_arm p ps) (suc i) h = answer_calm ps i h
+  answer_held : {bs : List Bool} {as' : List ArmActs} → HeldArms bs as' → (i : ℕ) → arm_at true bs i ≡ true → C (answer_of (slice_get as' i))
+  answer_held no_arm i h = g.gives UnitV
+  answer_held (one_arm p ps) zero h = p.answers h
+  answer_held (one_arm p ps) (suc i) h = answer_held ps i h
 
-  default_calm : {bs : List Bool} {as' : List ArmActs} → CalmArms bs as' → (o : Option ℕ) → AllArms (λ i. arm_at true bs i ≡ true) (arm_of_default o) → C (default_of as' o)
-  default_calm p None h = g.gives UnitV
-  default_calm p (Some i) h = answer_calm p i h.0
+  default_held : {bs : List Bool} {as' : List ArmActs} → HeldArms bs as' → (o : Option ℕ) → AllArms (λ i. arm_at true bs i ≡ true) (arm_of_default o) → C (default_of as' o)
+  default_held p None h = g.gives UnitV
+  default_held p (Some i) h = answer_held p i h.0
 
-  listed_calm : (bs : List Bool) (is : List ℕ) → arms_at true (λ p q. p && q) bs is ≡ true → AllArms (λ i. arm_at true bs i ≡ true) is
-  listed_calm bs [] h = tt
-  listed_calm bs (i ∷ is) h = let z = split (arm_at true bs i) (arms_at true (λ p q. p && q) bs is) h in (z.0, listed_calm bs is z.1)
+  listed_held : (bs : List Bool) (is : List ℕ) → arms_at true (λ p q. p && q) bs is ≡ true → AllArms (λ i. arm_at true bs i ≡ true) is
+  listed_held bs [] h = tt
+  listed_held bs (i ∷ is) h = let z = split (arm_at true bs i) (arms_at true (λ p q. p && q) bs is) h in (z.0, listed_held bs is z.1)
 
-  switch_calm : {bs : List Bool} {as' : List ArmActs} → CalmArms bs as' → (t : SwitchTable) → arms_at true (λ p q. p && q) bs (listed t) ≡ true → (v : Value) → C (switch_on as' t v)
-  switch_calm {bs} {as'} p t h v =
-      let z = listed_calm bs (listed t) h in
-      first_calm p (chosen t v) (all_chosen (λ i. arm_at true bs i ≡ true) t v z) (default_of as' t.default) (default_calm p t.default (all_default (λ i. arm_at true bs i ≡ true) t z))
+  switch_held : {bs : List Bool} {as' : List ArmActs} → HeldArms bs as' → (t : SwitchTable) → arms_at true (λ p q. p && q) bs (listed t) ≡ true → (v : Value) → C (switch_on as' t v)
+  switch_held {bs} {as'} p t h v =
+      let z = listed_held bs (listed t) h in
+      first_held p (chosen t v) (all_chosen (λ i. arm_at true bs i ≡ true) t v z) (default_of as' t.default) (default_held p t.default (all_default (λ i. arm_at true bs i ≡ true) t z))
 
   -- ---- statements
 
-  data CalmStmt : core.Stmt → Type 0 where
-    calm_deed : {d : core.Deed} → C (deed w d) → CalmStmt (core.Does d)
-    calm_var : {c : Bool} {x : Text} {e : core.Expr} → C (act w e) → CalmStmt (core.Var c x e)
+  data HeldStmt : core.Stmt → Type 0 where
+    held_deed : {d : core.Deed} → C (deed w d) → HeldStmt (core.Does d)
+    held_var : {c : Bool} {x : Text} {e : core.Expr} → C (act w e) → HeldStmt (core.Var c x e)
 
-  line_calm : {l : core.Stmt} → CalmStmt l → {f : Value → Acts} → ((v : Value) → D (f v)) → D (line w l f)
-  line_calm (calm_deed h) k = g.line h (λ v. k v)
-  line_calm (calm_var {c = c} {x = x} h) k = g.line h (λ v. g.named x c v (k UnitV))
+  line_held : {l : core.Stmt} → HeldStmt l → {f : Value → Acts} → ((v : Value) → D (f v)) → D (line w l f)
+  line_held (held_deed h) k = g.line h (λ v. k v)
+  line_held (held_var {c = c} {x = x} h) k = g.line h (λ v. g.named x c v (k UnitV))
 
-  var_calm : (b c : Bool) (x : Text) (e : core.Expr) → C (act w e) → CalmStmt (cond b (core.Does core.IllDeed) (core.Var c x e))
-  var_calm true c x e h = calm_deed (g.fail _)
-  var_calm false c x e h = calm_var h
+  var_held : (b c : Bool) (x : Text) (e : core.Expr) → C (act w e) → HeldStmt (cond b (core.Does core.IllDeed) (core.Var c x e))
+  var_held true c x e h = held_deed (g.fail _)
+  var_held false c x e h = held_var h
 
-  while_calm : (e : Expr) (x : core.Expr) {p : Acts} → C (act w x) → D p → C (loop w (guard_by e x) p)
-  while_calm UnitConstant x q h = g.always h
-  while_calm _ x q h = g.when x q h
+  while_held : (e : Expr) (x : core.Expr) {p : Acts} → C (act w x) → D p → C (loop w (guard_by e x) p)
+  while_held UnitConstant x q h = g.always h
+  while_held _ x q h = g.when x q h
 
   try_or_ill : (o : Option (Option Text)) (a b : core.Stmts) → D (acts w false a UnitV) → D (acts w false b UnitV) → C (deed w (try_by o a b))
   try_or_ill None a b h k = g.fail _
   try_or_ill (Some x) a b h k = g.tries x h k
 
-  return_calm : (b : Bool) {a : Act} → C a → C (a >>= λ v. Stop (Leaves (exit (return_kind b) v)))
-  return_calm true h = g.bind h (λ v. g.throws v)
-  return_calm false h = g.bind h (λ v. g.returns v)
+  return_held : (b : Bool) {a : Act} → C a → C (a >>= λ v. Stop (Leaves (exit (return_kind b) v)))
+  return_held true h = g.bind h (λ v. g.throws v)
+  return_held false h = g.bind h (λ v. g.returns v)
 
-  break_calm : (l b : Bool) (m : MaybeExpr) → P (OfStmt (BreakLoop b m)) ≡ true → C (act w (core_maybe l m)) → C (deed w (core.Leave (break_kind b) (core_maybe l m)))
-  break_calm l true no_expr c h = g.breaks
-  break_calm l true (an_expr e) c h = g.bind h (λ v. g.breaks_with e c v)
-  break_calm l false m c h = g.bind h (λ v. g.continues)
+  break_held : (l b : Bool) (m : MaybeExpr) → P (OfStmt (BreakLoop b m)) ≡ true → C (act w (core_maybe l m)) → C (deed w (core.Leave (break_kind b) (core_maybe l m)))
+  break_held l true no_expr c h = g.breaks
+  break_held l true (an_expr e) c h = g.bind h (λ v. g.breaks_with e c v)
+  break_held l false m c h = g.bind h (λ v. g.continues)
 
   mutual
-    pub expr_calm : (l : Bool) (e : Expr) → over_expr W e ≡ true → C (act w (core_expr l e))
-    expr_calm l (DynamicConstant v) h = constant_calm (is_unit v) v
-    expr_calm l (BoolConstant b) h = g.gives _
-    expr_calm l (IntegerConstant n) h = g.gives _
-    expr_calm l (CharConstant c) h = g.gives _
-    expr_calm l (StringConstant t) h = g.gives _
-    expr_calm l UnitConstant h = g.gives _
-    expr_calm l (InterpolatedString es) h = args_calm l es (inner (InterpolatedString es) h) (λ vs. g.gives _)
-    expr_calm l (ArrayOf es) h = args_calm l es (inner (ArrayOf es) h) (λ vs. g.gives _)
-    expr_calm l (MapOf ps template) h = expr_calm_or_ill (is_map template ps) _ (pairs_calm l ps (inner (MapOf ps template) h) (λ vs. g.gives _))
-    expr_calm l (Variable ns x) h = variable_calm ns x
-    expr_calm l ThisPtr h = g.read OfThis
-    expr_calm l (Property p) h = g.fail _
-    expr_calm l (MethodCall c es) h = g.fail _
-    expr_calm l (BlockExpr ss) h = g.scoped (list_calm l true ss (inner (BlockExpr ss) h) UnitV)
-    expr_calm l (FnCall c es) h = expr_calm_or_ill (is_callable c (count_exprs es)) _ (args_calm l es (inner (FnCall c es) h) (λ vs. g.call c es (own (FnCall c es) h) vs))
-    expr_calm l (Dot k a r) h =
+    pub expr_held : (l : Bool) (e : Expr) → over_expr W e ≡ true → C (act w (core_expr l e))
+    expr_held l (DynamicConstant v) h = constant_held (is_unit v) v
+    expr_held l (BoolConstant b) h = g.gives _
+    expr_held l (IntegerConstant n) h = g.gives _
+    expr_held l (CharConstant c) h = g.gives _
+    expr_held l (StringConstant t) h = g.gives _
+    expr_held l UnitConstant h = g.gives _
+    expr_held l (InterpolatedString es) h = args_held l es (inner (InterpolatedString es) h) (λ vs. g.gives _)
+    expr_held l (ArrayOf es) h = args_held l es (inner (ArrayOf es) h) (λ vs. g.gives _)
+    expr_held l (MapOf ps template) h = expr_held_or_ill (is_map template ps) _ (pairs_held l ps (inner (MapOf ps template) h) (λ vs. g.gives _))
+    expr_held l (Variable ns x) h = variable_held ns x
+    expr_held l ThisPtr h = g.read OfThis
+    expr_held l (Property p) h = g.fail _
+    expr_held l (MethodCall c es) h = g.fail _
+    expr_held l (BlockExpr ss) h = g.scoped (list_held l true ss (inner (BlockExpr ss) h) UnitV)
+    expr_held l (FnCall c es) h = expr_held_or_ill (is_callable c (count_exprs es)) _ (args_held l es (inner (FnCall c es) h) (λ vs. g.call c es (own (FnCall c es) h) vs))
+    expr_held l (Dot k a r) h =
         let z = split (over_expr W a) (over_expr W r) (inner (Dot k a r) h) in
-        let q = steps_calm l true k (member_of l r) r (member_calm l r z.1) z.1 in
-        expr_calm_or_ill (is_rest true k.breaks r) _ (base_calm (root_of a) _ (expr_calm l a z.0) (λ c. q.walks c))
-    expr_calm l (Index k a r) h =
+        let q = steps_held l true k (member_of l r) r (member_held l r z.1) z.1 in
+        expr_held_or_ill (is_rest true k.breaks r) _ (base_held (root_of a) _ (expr_held l a z.0) (λ c. q.walks c))
+    expr_held l (Index k a r) h =
         let z = split (over_expr W a) (over_expr W r) (inner (Index k a r) h) in
-        let q = steps_calm l false k (core.Index (core_expr l r)) r (index_calm _ (expr_calm l r z.1)) z.1 in
-        expr_calm_or_ill (is_rest false k.breaks r) _ (base_calm (root_of a) _ (expr_calm l a z.0) (λ c. q.walks c))
-    expr_calm l (And es) h = both_calm l es (inner (And es) h)
-    expr_calm l (Or es) h = either_calm l es (inner (Or es) h)
-    expr_calm l (Coalesce es) h = some_calm l es (inner (Coalesce es) h)
+        let q = steps_held l false k (core.Index (core_expr l r)) r (index_held _ (expr_held l r z.1)) z.1 in
+        expr_held_or_ill (is_rest false k.breaks r) _ (base_held (root_of a) _ (expr_held l a z.0) (λ c. q.walks c))
+    expr_held l (And es) h = both_held l es (inner (And es) h)
+    expr_held l (Or es) h = either_held l es (inner (Or es) h)
+    expr_held l (Coalesce es) h = some_held l es (inner (Coalesce es) h)
 
-    member_calm : (l : Bool) (e : Expr) → over_expr W e ≡ true → CalmStep (member_of l e)
-    member_calm l (Property p) h = record { reaches = λ k. k _ (g.property p) }
-    member_calm l (MethodCall c es) h = either_step (is_callable c (count_exprs es)) _ _ (record { reaches = λ k. args_calm l es (inner (MethodCall c es) h) (λ vs. k _ (g.method c es (own (MethodCall c es) h) vs)) }) ill_step
-    member_calm l _ h = ill_step
+    member_held : (l : Bool) (e : Expr) → over_expr W e ≡ true → HeldStep (member_of l e)
+    member_held l (Property p) h = record { reaches = λ k. k _ (g.property p) }
+    member_held l (MethodCall c es) h = either_step (is_callable c (count_exprs es)) _ _ (record { reaches = λ k. args_held l es (inner (MethodCall c es) h) (λ vs. k _ (g.method c es (own (MethodCall c es) h) vs)) }) ill_step
+    member_held l _ h = ill_step
 
-    steps_calm : (l dot : Bool) (k : ChainFlags) (p : core.Step) (e : Expr) → CalmStep p → over_expr W e ≡ true → CalmSteps (steps_of l dot k p e)
-    steps_calm l dot k p (Dot m a r) j h =
+    steps_held : (l dot : Bool) (k : ChainFlags) (p : core.Step) (e : Expr) → HeldStep p → over_expr W e ≡ true → HeldSteps (steps_of l dot k p e)
+    steps_held l dot k p (Dot m a r) j h =
         let z = split (over_expr W a) (over_expr W r) (inner (Dot m a r) h) in
-        either_steps k.breaks _ _ (last_calm k.negated p j)
-        (more_calm k.negated _ _ (either_step dot _ _ (member_calm l a z.0) (index_calm _ (expr_calm l a z.0))) (steps_calm l true m (member_of l r) r (member_calm l r z.1) z.1))
-    steps_calm l dot k p (Index m a r) j h =
+        either_steps k.breaks _ _ (last_held k.negated p j)
+        (more_held k.negated _ _ (either_step dot _ _ (member_held l a z.0) (index_held _ (expr_held l a z.0))) (steps_held l true m (member_of l r) r (member_held l r z.1) z.1))
+    steps_held l dot k p (Index m a r) j h =
         let z = split (over_expr W a) (over_expr W r) (inner (Index m a r) h) in
-        either_steps k.breaks _ _ (last_calm k.negated p j)
-        (more_calm k.negated _ _ (either_step dot _ _ (member_calm l a z.0) (index_calm _ (expr_calm l a z.0))) (steps_calm l false m (core.Index (core_expr l r)) r (index_calm _ (expr_calm l r z.1)) z.1))
-    steps_calm l dot k p _ j h = last_calm k.negated p j
+        either_steps k.breaks _ _ (last_held k.negated p j)
+        (more_held k.negated _ _ (either_step dot _ _ (member_held l a z.0) (index_held _ (expr_held l a z.0))) (steps_held l false m (core.Index (core_expr l r)) r (index_held _ (expr_held l r z.1)) z.1))
+    steps_held l dot k p _ j h = last_held k.negated p j
 
-    target_calm : (l : Bool) (e : Expr) → over_expr W e ≡ true → Writes w C → (op : Option Operator) (v : Value) → C (assign w op (target_of l e) v)
-    target_calm l (Variable ns x) h q op v = name_calm ns x q op v
-    target_calm l ThisPtr h q op v = q.root op v OfThis
-    target_calm l (Dot k a r) h q op v =
+    target_held : (l : Bool) (e : Expr) → over_expr W e ≡ true → Writes w C → (op : Option Operator) (v : Value) → C (assign w op (target_of l e) v)
+    target_held l (Variable ns x) h q op v = name_held ns x q op v
+    target_held l ThisPtr h q op v = q.root op v OfThis
+    target_held l (Dot k a r) h q op v =
         let z = split (over_expr W a) (over_expr W r) (inner (Dot k a r) h) in
-        target_or_ill (is_rest true k.breaks r) _ op v (part_calm (root_of a) (ends_in_call true k.breaks r) _ (steps_calm l true k (member_of l r) r (member_calm l r z.1) z.1) q op v)
-    target_calm l (Index k a r) h q op v =
+        target_or_ill (is_rest true k.breaks r) _ op v (part_held (root_of a) (ends_in_call true k.breaks r) _ (steps_held l true k (member_of l r) r (member_held l r z.1) z.1) q op v)
+    target_held l (Index k a r) h q op v =
         let z = split (over_expr W a) (over_expr W r) (inner (Index k a r) h) in
-        target_or_ill (is_rest false k.breaks r) _ op v (part_calm (root_of a) (ends_in_call false k.breaks r) _ (steps_calm l false k (core.Index (core_expr l r)) r (index_calm _ (expr_calm l r z.1)) z.1) q op v)
-    target_calm l _ h q op v = g.fail _
+        target_or_ill (is_rest false k.breaks r) _ op v (part_held (root_of a) (ends_in_call false k.breaks r) _ (steps_held l false k (core.Index (core_expr l r)) r (index_held _ (expr_held l r z.1)) z.1) q op v)
+    target_held l _ h q op v = g.fail _
 
-    args_calm : (l : Bool) (es : Exprs) → over_exprs W es ≡ true → {f : List Value → Act} → ((vs : List Value) → C (f vs)) → C (with_args w (core_exprs l es) f)
-    args_calm l no_exprs h k = k []
-    args_calm l (expr e es) h k = let z = split (over_expr W e) (over_exprs W es) h in g.bind (expr_calm l e z.0) (λ v. args_calm l es z.1 (λ vs. k (v ∷ vs)))
+    args_held : (l : Bool) (es : Exprs) → over_exprs W es ≡ true → {f : List Value → Act} → ((vs : List Value) → C (f vs)) → C (with_args w (core_exprs l es) f)
+    args_held l no_exprs h k = k []
+    args_held l (expr e es) h k = let z = split (over_expr W e) (over_exprs W es) h in g.bind (expr_held l e z.0) (λ v. args_held l es z.1 (λ vs. k (v ∷ vs)))
 
-    pairs_calm : (l : Bool) (ps : Pairs) → over_pairs W ps ≡ true → {f : List (Text × Value) → Act} → ((vs : List (Text × Value)) → C (f vs)) → C (with_pairs w (core_pairs l ps) f)
-    pairs_calm l no_pairs h k = k []
-    pairs_calm l (pair n e ps) h k = let z = split (over_expr W e) (over_pairs W ps) h in g.bind (expr_calm l e z.0) (λ v. pairs_calm l ps z.1 (λ vs. k ((n, v) ∷ vs)))
+    pairs_held : (l : Bool) (ps : Pairs) → over_pairs W ps ≡ true → {f : List (Text × Value) → Act} → ((vs : List (Text × Value)) → C (f vs)) → C (with_pairs w (core_pairs l ps) f)
+    pairs_held l no_pairs h k = k []
+    pairs_held l (pair n e ps) h k = let z = split (over_expr W e) (over_pairs W ps) h in g.bind (expr_held l e z.0) (λ v. pairs_held l ps z.1 (λ vs. k ((n, v) ∷ vs)))
 
-    both_calm : (l : Bool) (es : Exprs) → over_exprs W es ≡ true → C (both w (core_exprs l es))
-    both_calm l no_exprs h = g.gives _
-    both_calm l (expr e es) h = let z = split (over_expr W e) (over_exprs W es) h in g.bind (expr_calm l e z.0) (λ v. if_calm v (both_calm l es z.1) (g.gives _))
+    both_held : (l : Bool) (es : Exprs) → over_exprs W es ≡ true → C (both w (core_exprs l es))
+    both_held l no_exprs h = g.gives _
+    both_held l (expr e es) h = let z = split (over_expr W e) (over_exprs W es) h in g.bind (expr_held l e z.0) (λ v. if_held v (both_held l es z.1) (g.gives _))
 
-    either_calm : (l : Bool) (es : Exprs) → over_exprs W es ≡ true → C (either w (core_exprs l es))
-    either_calm l no_exprs h = g.gives _
-    either_calm l (expr e es) h = let z = split (over_expr W e) (over_exprs W es) h in g.bind (expr_calm l e z.0) (λ v. if_calm v (g.gives _) (either_calm l es z.1))
+    either_held : (l : Bool) (es : Exprs) → over_exprs W es ≡ true → C (either w (core_exprs l es))
+    either_held l no_exprs h = g.gives _
+    either_held l (expr e es) h = let z = split (over_expr W e) (over_exprs W es) h in g.bind (expr_held l e z.0) (λ v. if_held v (g.gives _) (either_held l es z.1))
 
-    some_calm : (l : Bool) (es : Exprs) → over_exprs W es ≡ true → C (first_some w (core_exprs l es))
-    some_calm l no_exprs h = g.gives _
-    some_calm l (expr e es) h = let z = split (over_expr W e) (over_exprs W es) h in g.bind (expr_calm l e z.0) (λ v. chosen_calm (is_unit v) (some_calm l es z.1) (g.gives v))
+    some_held : (l : Bool) (es : Exprs) → over_exprs W es ≡ true → C (first_some w (core_exprs l es))
+    some_held l no_exprs h = g.gives _
+    some_held l (expr e es) h = let z = split (over_expr W e) (over_exprs W es) h in g.bind (expr_held l e z.0) (λ v. chosen_held (is_unit v) (some_held l es z.1) (g.gives v))
 
-    maybe_calm : (l : Bool) (m : MaybeExpr) → over_maybe W m ≡ true → C (act w (core_maybe l m))
-    maybe_calm l no_expr h = g.gives UnitV
-    maybe_calm l (an_expr e) h = expr_calm l e h
+    maybe_held : (l : Bool) (m : MaybeExpr) → over_maybe W m ≡ true → C (act w (core_maybe l m))
+    maybe_held l no_expr h = g.gives UnitV
+    maybe_held l (an_expr e) h = expr_held l e h
 
-    arms_calm : (l : Bool) (as' : Arms) → CalmArms (over_arms W as') (arm_acts w (core_arms l as'))
-    arms_calm l no_arms = no_arm
-    arms_calm l (arm c a as') = one_arm (record {
-      guards = λ h. expr_calm l c (split (over_expr W c) (over_expr W a) h).0;
-      answers = λ h. expr_calm l a (split (over_expr W c) (over_expr W a) h).1;
-    }) (arms_calm l as')
+    arms_held : (l : Bool) (as' : Arms) → HeldArms (over_arms W as') (arm_acts w (core_arms l as'))
+    arms_held l no_arms = no_arm
+    arms_held l (arm c a as') = one_arm (record {
+      guards = λ h. expr_held l c (split (over_expr W c) (over_expr W a) h).0;
+      answers = λ h. expr_held l a (split (over_expr W c) (over_expr W a) h).1;
+    }) (arms_held l as')
 
-    stmt_calm : (l : Bool) (s : Stmt) → over_stmt W s ≡ true → CalmStmt (core_stmt l s)
-    stmt_calm l Noop h = calm_deed (g.gives UnitV)
-    stmt_calm l (If c a b) h =
+    stmt_held : (l : Bool) (s : Stmt) → over_stmt W s ≡ true → HeldStmt (core_stmt l s)
+    stmt_held l Noop h = held_deed (g.gives UnitV)
+    stmt_held l (If c a b) h =
         let y = split (over_expr W c) (over_stmts W a && over_stmts W b) (inner_stmt (If c a b) h) in
         let z = split (over_stmts W a) (over_stmts W b) y.1 in
-        calm_deed (g.bind (expr_calm l c y.0) (λ v. if_calm v (g.scoped (list_calm l true a z.0 UnitV)) (g.scoped (list_calm l true b z.1 UnitV))))
-    stmt_calm l (Switch e as' t) h =
+        held_deed (g.bind (expr_held l c y.0) (λ v. if_held v (g.scoped (list_held l true a z.0 UnitV)) (g.scoped (list_held l true b z.1 UnitV))))
+    stmt_held l (Switch e as' t) h =
         let z = split (over_expr W e) (arms_at true (λ p q. p && q) (over_arms W as') (listed t)) (inner_stmt (Switch e as' t) h) in
-        calm_deed (deed_calm_or_ill (is_table as' t) _ (g.bind (expr_calm l e z.0) (λ v. switch_calm (arms_calm l as') t z.1 v)))
-    stmt_calm l (While e b) h = let z = split (over_expr W e) (over_stmts W b) (inner_stmt (While e b) h) in calm_deed (while_calm e _ (expr_calm l e z.0) (list_calm true false b z.1 UnitV))
-    stmt_calm l (Do n e b) h = let z = split (over_expr W e) (over_stmts W b) (inner_stmt (Do n e b) h) in calm_deed (g.again n (expr_calm l e z.0) (list_calm true false b z.1 UnitV))
-    stmt_calm l (For x i e b) h = let z = split (over_expr W e) (over_stmts W b) (inner_stmt (For x i e b) h) in calm_deed (g.bind (expr_calm l e z.0) (λ v. g.each x i (list_calm true false b z.1 UnitV) v))
-    stmt_calm l (Var c exported x e) h = var_calm exported c x _ (expr_calm l e (inner_stmt (Var c exported x e) h))
-    stmt_calm l (Assignment op a e) h =
+        held_deed (deed_held_or_ill (is_table as' t) _ (g.bind (expr_held l e z.0) (λ v. switch_held (arms_held l as') t z.1 v)))
+    stmt_held l (While e b) h = let z = split (over_expr W e) (over_stmts W b) (inner_stmt (While e b) h) in held_deed (while_held e _ (expr_held l e z.0) (list_held true false b z.1 UnitV))
+    stmt_held l (Do n e b) h = let z = split (over_expr W e) (over_stmts W b) (inner_stmt (Do n e b) h) in held_deed (g.again n (expr_held l e z.0) (list_held true false b z.1 UnitV))
+    stmt_held l (For x i e b) h = let z = split (over_expr W e) (over_stmts W b) (inner_stmt (For x i e b) h) in held_deed (g.bind (expr_held l e z.0) (λ v. g.each x i (list_held true false b z.1 UnitV) v))
+    stmt_held l (Var c exported x e) h = var_held exported c x _ (expr_held l e (inner_stmt (Var c exported x e) h))
+    stmt_held l (Assignment op a e) h =
         let z = split (over_expr W a) (over_expr W e) (inner_stmt (Assignment op a e) h) in
         let q = g.writes op a e (own_stmt (Assignment op a e) h) in
-        calm_deed (deed_calm_or_ill (is_left_side a) _ (g.bind (expr_calm l e z.1) (λ v. target_calm l a z.0 q op v)))
-    stmt_calm l (FnCallStmt c es) h = calm_deed (expr_calm_or_ill (is_callable c (count_exprs es)) _ (args_calm l es (inner_stmt (FnCallStmt c es) h) (λ vs. g.call_statement c es (own_stmt (FnCallStmt c es) h) vs)))
-    stmt_calm l (Block ss) h = calm_deed (g.scoped (list_calm l true ss (inner_stmt (Block ss) h) UnitV))
-    stmt_calm l (TryCatch x a b) h = let z = split (over_stmts W a) (over_stmts W b) (inner_stmt (TryCatch x a b) h) in calm_deed (try_or_ill (catch_name x) _ _ (list_calm l false a z.0 UnitV) (list_calm l false b z.1 UnitV))
-    stmt_calm l (ExprStmt e) h = calm_deed (expr_calm l e (inner_stmt (ExprStmt e) h))
-    stmt_calm l (BreakLoop b m) h = calm_deed (deed_calm_or_ill l _ (break_calm l b m (own_stmt (BreakLoop b m) h) (maybe_calm l m (inner_stmt (BreakLoop b m) h))))
-    stmt_calm l (Return b m) h = calm_deed (return_calm b (maybe_calm l m (inner_stmt (Return b m) h)))
-    stmt_calm l (Import e x) h = calm_deed (g.fail _)
-    stmt_calm l (Export x y) h = calm_deed (g.fail _)
-    stmt_calm l (Share xs) h = calm_deed (g.fail _)
+        held_deed (deed_held_or_ill (is_left_side a) _ (g.bind (expr_held l e z.1) (λ v. target_held l a z.0 q op v)))
+    stmt_held l (FnCallStmt c es) h = held_deed (expr_held_or_ill (is_callable c (count_exprs es)) _ (args_held l es (inner_stmt (FnCallStmt c es) h) (λ vs. g.call_statement c es (own_stmt (FnCallStmt c es) h) vs)))
+    stmt_held l (Block ss) h = held_deed (g.scoped (list_held l true ss (inner_stmt (Block ss) h) UnitV))
+    stmt_held l (TryCatch x a b) h = let z = split (over_stmts W a) (over_stmts W b) (inner_stmt (TryCatch x a b) h) in held_deed (try_or_ill (catch_name x) _ _ (list_held l false a z.0 UnitV) (list_held l false b z.1 UnitV))
+    stmt_held l (ExprStmt e) h = held_deed (expr_held l e (inner_stmt (ExprStmt e) h))
+    stmt_held l (BreakLoop b m) h = held_deed (deed_held_or_ill l _ (break_held l b m (own_stmt (BreakLoop b m) h) (maybe_held l m (inner_stmt (BreakLoop b m) h))))
+    stmt_held l (Return b m) h = held_deed (return_held b (maybe_held l m (inner_stmt (Return b m) h)))
+    stmt_held l (Import e x) h = held_deed (g.fail _)
+    stmt_held l (Export x y) h = held_deed (g.fail _)
+    stmt_held l (Share xs) h = held_deed (g.fail _)
 
-    pub list_calm : (l b : Bool) (ss : Stmts) → over_stmts W ss ≡ true → (v : Value) → D (acts w b (core_stmts l ss) v)
-    list_calm l b no_stmts h v = g.only (g.gives (wanted_value b v))
-    list_calm l b (stmt s ss) h v = let z = split (over_stmt W s) (over_stmts W ss) h in line_calm (stmt_calm l s z.0) (λ u. list_calm l b ss z.1 u)
+    pub list_held : (l b : Bool) (ss : Stmts) → over_stmts W ss ≡ true → (v : Value) → D (acts w b (core_stmts l ss) v)
+    list_held l b no_stmts h v = g.only (g.gives (wanted_value b v))
+    list_held l b (stmt s ss) h v = let z = split (over_stmt W s) (over_stmts W ss) h in line_held (stmt_held l s z.0) (λ u. list_held l b ss z.1 u)

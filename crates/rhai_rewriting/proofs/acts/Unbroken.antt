@@ -10,7 +10,7 @@ use Rattle.rhai_rewriting.specs.SurelyUnit.{carries_nothing, breaks_carry_nothin
 use Rattle.rhai_rewriting.proofs.acts.Within.{AnyValue, Valueless, CallsIn, Within, WithinAll, in_give, in_stop, in_fail, bind_in, scoped_in, read_in, only_in, line_in, named_in}
 use Rattle.rhai_rewriting.proofs.acts.Chained.{called_in, refreshed_in, applied_in, assign_last_in, assign_root_in}
 use Rattle.rhai_rewriting.proofs.acts.Looped.{always_in, when_in, do_in, for_in, try_in}
-use Rattle.rhai_rewriting.proofs.acts.Trees.{Closed, list_calm}
+use Rattle.rhai_rewriting.proofs.acts.Trees.{Closed, list_held}
 
 throws_carry : (v : Value) → Valueless (Throws v)
 throws_carry v = tt
@@ -49,4 +49,4 @@ module _ (w : World) (env : Env) (calls : CallsIn Valueless env) where
   }
 
   pub list_unbroken : (l b : Bool) (ss : Stmts) → breaks_carry_nothing ss ≡ true → (v : Value) → WithinAll w env Valueless AnyValue (acts w b (core_stmts l ss) v)
-  list_unbroken l b ss h v = list_calm w (Within w env Valueless AnyValue) (WithinAll w env Valueless AnyValue) carries_nothing unbroken_closed l b ss h v
+  list_unbroken l b ss h v = list_held w (Within w env Valueless AnyValue) (WithinAll w env Valueless AnyValue) carries_nothing unbroken_closed l b ss h v

@@ -8,10 +8,10 @@ use Rattle.rhai_meaning.specs.Control.{round}
 use Rattle.rhai_meaning.specs.Core as core
 use Rattle.rhai_meaning.specs.Desugar.{core_expr, core_stmts, guard_by, try_by}
 use Rattle.rhai_meaning.specs.Meaning.{act, both, loop, deed, acts}
-use Rattle.rhai_meaning.specs.Queries.{are_pure}
+use Rattle.rhai_meaning.specs.Queries.{are_internally_pure}
 use Rattle.rhai_meaning.specs.Shape.{catch_name}
 use Rattle.rhai_meaning.specs.Tree.{Expr, UnitConstant, And, no_exprs, expr, Stmt, Noop, If, While, TryCatch, Share, Stmts, no_stmts, stmt}
-use Rattle.rhai_meaning.proofs.PureTrees.{pure_list}
+use Rattle.rhai_meaning.proofs.PureTrees.{internal_list}
 use Rattle.rhai_rewriting.specs.Context.{Context}
 use Rattle.rhai_rewriting.specs.Known.{unknown}
 use Rattle.rhai_rewriting.proofs.simulation.Laws.{simulates_unassoc, simulates_stuck, simulates_braces, pure_ending_goes}
@@ -56,11 +56,11 @@ while_true {e = e} {body = body} h = record {
 
 -- ---- `try`
 
-try_goes : {k : Context} (c : Setting k) (x : Option (Option Text)) (body branch : Stmts) → are_pure body ≡ true → Simulates c (deed (world c) (try_by x (core_stmts c.in_loop body) (core_stmts c.in_loop branch))) unit
+try_goes : {k : Context} (c : Setting k) (x : Option (Option Text)) (body branch : Stmts) → are_internally_pure body ≡ true → Simulates c (deed (world c) (try_by x (core_stmts c.in_loop body) (core_stmts c.in_loop branch))) unit
 try_goes c None body branch h = simulates_stuck WrongKind unit
-try_goes c (Some x) body branch h = pure_ending_goes _ _ unit (pure_list (world c) c.in_loop false body h UnitV).scoped (λ v. simulates_refl)
+try_goes c (Some x) body branch h = pure_ending_goes _ _ unit (internal_list (world c) c.in_loop false body h UnitV).scoped (λ v. simulates_refl)
 
-pub pure_try : {k : Context} {w : Bool} {x : Expr} {body branch : Stmts} → are_pure body ≡ true → StmtObligation k w (TryCatch x body branch) Noop
+pub pure_try : {k : Context} {w : Bool} {x : Expr} {body branch : Stmts} → are_internally_pure body ≡ true → StmtObligation k w (TryCatch x body branch) Noop
 pure_try {x = x} {body = body} {branch = branch} h = record {
   lighter = omega arith;
   keeps = λ P l lasts j. (lasts.noop, tt);

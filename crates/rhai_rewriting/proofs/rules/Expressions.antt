@@ -111,6 +111,7 @@ expr_rule (rule.entry_of_map x h q) = chain.entry_of_map x h q
 expr_rule (rule.type_of_method v h q) = chain.type_of_method v h q
 expr_rule (rule.is_shared_method v h q) = chain.is_shared_method v h q
 expr_rule (rule.known_name v h) = names.known_name v h
+expr_rule (rule.known_pointer f h q) = names.known_pointer f h q
 expr_rule (rule.known_property fs h) = names.known_property fs h
 expr_rule (rule.known_entry fs y h q) = names.known_entry fs y h q
 expr_rule (rule.property_of_constant_first dot m p r fs q h) = onward.property_of_constant_first dot m p r fs q h

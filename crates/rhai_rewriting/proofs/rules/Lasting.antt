@@ -1,9 +1,9 @@
 -- What may be asked of every node, so that each rewriting keeps it; l: whether the tree stands in a loop's body.
-use Rattle.std.proofs.Common.{◌≡◌, Bool, true, false, List, Option}
+use Rattle.std.proofs.Common.{◌≡◌, Bool, true, false, List, Option, []}
 use Rattle.rhai_values.specs.Value.{Text, Value}
 use Rattle.rhai_base.specs.Operators.{Operator}
-use Rattle.rhai_meaning.specs.Constants.{constant_for}
-use Rattle.rhai_meaning.specs.Tree.{ChainFlags, SwitchTable, Arms, Callee, Expr, InterpolatedString, ArrayOf, MapOf, MethodCall, BlockExpr, FnCall, Dot, Index, And, Or, Coalesce, Exprs, count_exprs, Pairs, MaybeExpr, Noop, If, Switch, While, Do, For, Var, Assignment, Block, TryCatch, ExprStmt, FnCallStmt, BreakLoop, Return, Import, Share, Stmts}
+use Rattle.rhai_meaning.specs.Constants.{constant_for, pointer_call}
+use Rattle.rhai_meaning.specs.Tree.{ChainFlags, SwitchTable, Arms, Callee, Expr, InterpolatedString, ArrayOf, MapOf, MethodCall, BlockExpr, FnCall, Dot, Index, And, Or, Coalesce, Exprs, count_exprs, Pairs, MaybeExpr, Noop, If, Switch, While, Do, For, Var, Assignment, Block, TryCatch, ExprStmt, FnCallStmt, BreakLoop, Return, Import, Share, Stmts, Variable}
 use Rattle.rhai_meaning.specs.Faults.{has_operands}
 use Rattle.rhai_meaning.specs.Shape.{keys, is_rest, is_table, is_left_side}
 use Rattle.rhai_meaning.specs.Walk.{Node, OfExpr, OfStmt, Around, whole}
@@ -45,6 +45,7 @@ pub record Lasting (P : Around → Node → Type 0) (l : Bool) : Type 0 where
   pub again : {a : Around} {n n' : Node} → SameNode n n' → P a n → P a n'
   pub constant : (v : Value) → is_plain_value v ≡ true → P (whole l) (OfExpr (constant_for v))
   pub value : (v : Value) → P (whole l) (OfExpr (constant_of v))
+  pub pointer : (x f : Text) → P (whole l) (OfExpr (Variable [] x)) → P (whole l) (OfExpr (pointer_call f))
   pub noop : P (whole l) (OfStmt Noop)
   pub branching : (e : Expr) (a b : Stmts) → P (whole l) (OfStmt (If e a b))
   pub block : (ss : Stmts) → P (whole l) (OfStmt (Block ss))

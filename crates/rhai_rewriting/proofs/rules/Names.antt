@@ -1,11 +1,12 @@
 -- The rules of names that are known: a lemma each, of the rule's name.
-use Rattle.std.proofs.Common.{◌≡◌, ℕ, Bool, false, [], Option, Some, None, refl, sym, subst, arith}
-use Rattle.std.specs.Prelude.{◌&&◌}
-use Rattle.rhai_values.specs.Value.{Text, Value, Fields, TextV, MapV}
+use Rattle.std.proofs.Common.{◌≡◌, true, ℕ, Bool, false, [], Option, Some, None, refl, sym, subst, arith, ap}
+use Rattle.std.specs.Prelude.{◌&&◌, codes}
+use Rattle.rhai_values.specs.Value.{Text, Value, Fields, TextV, MapV, PointerV, values}
+use Rattle.rhai_parts.specs.Names.{is_valid_name}
 use Rattle.rhai_meaning.specs.Act.{ScopeEntry, Store, Unbound, Gives, Ended, At, OfName, Act, Read, found, read}
-use Rattle.rhai_meaning.specs.ActForms.{give, ◌>>=◌}
+use Rattle.rhai_meaning.specs.ActForms.{give, throw, choose, ◌>>=◌}
 use Rattle.rhai_meaning.specs.Chains.{OfProperty, OfIndex, applied}
-use Rattle.rhai_meaning.specs.Constants.{constant_value}
+use Rattle.rhai_meaning.specs.Constants.{constant_value, pointer_call}
 use Rattle.rhai_meaning.specs.Core as core
 use Rattle.rhai_meaning.specs.Desugar.{core_expr, steps_of}
 use Rattle.rhai_meaning.specs.Elements.{entry}
@@ -17,7 +18,7 @@ use Rattle.rhai_meaning.specs.Tree.{ChainFlags, PropertyNames, Expr, Variable, P
 use Rattle.rhai_rewriting.specs.Context.{Context}
 use Rattle.rhai_rewriting.specs.Known.{look, Fits}
 use Rattle.rhai_rewriting.specs.Parts.{constant_of}
-use Rattle.rhai_rewriting.proofs.simulation.Setting.{Setting, world}
+use Rattle.rhai_rewriting.proofs.simulation.Setting.{Setting, world, run_from}
 use Rattle.rhai_rewriting.proofs.simulation.Simulation.{OrStuck, equal, is_stuck, Simulates, simulates_trans, simulates_refl, simulates_equal, simulates_or_stuck}
 use Rattle.rhai_rewriting.proofs.simulation.Forms.{simulates_bind}
 use Rattle.rhai_rewriting.proofs.rules.Chains.{not_unit, no_unit, to_constant, index_last}
@@ -62,6 +63,14 @@ known_name {x = x} v h = record {
   lighter = omega (arith, constant_of_light v);
   keeps = λ P l lasts j. constant_of_keeps P l lasts v;
   sound = λ c. to_constant c (Read (OfName x)) v (reads c x v h);
+}
+
+pub known_pointer : {k : Context} {x : Text} (f : Text) → look k.known x ≡ Some (PointerV f (values [])) → is_valid_name f ≡ true → ExprObligation k (Variable [] x) (pointer_call f)
+known_pointer {x = x} f h q = record {
+  lighter = omega arith;
+  keeps = λ P l lasts j. (lasts.pointer x f j.0, ((lasts.value (TextV f), tt), tt));
+  sound = λ c. simulates_trans (reads c x (PointerV f (values [])) h)
+      (simulates_equal (λ m. ap (λ b. run_from c m (choose b (give (PointerV f (values []))) (throw (codes "function name")))) (sym q)));
 }
 
 pub known_property : {k : Context} {f : ChainFlags} {x : Text} {p : PropertyNames} (fs : Fields) → look k.known x ≡ Some (MapV fs) → ExprObligation k (Dot f (Variable [] x) (Property p)) (constant_of (entry fs p.name))

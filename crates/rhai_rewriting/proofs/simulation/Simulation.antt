@@ -7,8 +7,8 @@ use Rattle.rhai_meaning.proofs.Relations.{Follows, short, AnyHalt}
 use Rattle.rhai_meaning.proofs.Monotone.{follows_refl, follows_trans}
 use Rattle.rhai_meaning.proofs.Ends.{Run, Met, stuck, Rises, ends_of, met_self, met_trans}
 use Rattle.rhai_rewriting.specs.Context.{Context}
-use Rattle.rhai_rewriting.proofs.simulation.Setting.{Setting, noted, beneath, environment, Agreed, Start, run_from, run_all_from, run_by_depth, run_all_by_depth, steady_at, rises}
-use Rattle.rhai_rewriting.proofs.simulation.Matching.{Stage, SimulatesAt, SimulatesAllAt, CallsMatch, calling, at_equal, all_at_equal, at_then, at_turn, at_ask, at_invoke, at_loop, at_do, at_scoped, at_finish, at_only, at_named, at_noted, at_refl, all_at_refl}
+use Rattle.rhai_rewriting.proofs.simulation.Setting.{Setting, noted, environment, Agreed, Start, run_from, run_all_from, run_by_depth, run_all_by_depth, steady_at, rises}
+use Rattle.rhai_rewriting.proofs.simulation.Matching.{Stage, SimulatesAt, SimulatesAllAt, CallsMatch, calling, at_equal, all_at_equal, at_then, at_turn, at_ask, at_invoke, at_loop, at_do, at_scoped, at_finish, at_only, at_noted, at_refl, all_at_refl}
 
 -- the new run in the old one's environment
 abbrev pub stage : {k : Context} → Setting k → ℕ → Stage
@@ -88,9 +88,6 @@ all_finish i = record { at = λ d. at_finish (i.at d) }
 
 pub all_only : {k : Context} {c : Setting k} {a b : Act} → Simulates c a b → SimulatesAll c (Only a) (Only b)
 all_only i = record { at = λ d. at_only (i.at d) }
-
-pub all_named : {k : Context} {c : Setting k} (x : Text) (b : Bool) (v : Value) {p q : Acts} → SimulatesAll (beneath x c) p q → SimulatesAll c (Named x b v p) (Named x b v q)
-all_named x b v i = record { at = λ d. at_named x b v (i.at d) }
 
 pub all_noted : {k : Context} {c : Setting k} (x : Text) (o : Option Value) (b : Bool) (v : Value) → ((w : Value) → o ≡ Some w → (b ≡ true) × (v ≡ w)) → {p q : Acts} → SimulatesAll (noted x o c) p q → SimulatesAll c (Named x b v p) (Named x b v q)
 all_noted x o b v f i = record { at = λ d. at_noted x o b v f (i.at d) }

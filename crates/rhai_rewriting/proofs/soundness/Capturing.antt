@@ -12,7 +12,7 @@ use Rattle.rhai_meaning.specs.Plain.{all_true}
 use Rattle.rhai_meaning.specs.Tree.{Callee, CallToken, NoToken, OfOperator, OfOther, Stmts}
 use Rattle.rhai_meaning.specs.Walk.{Node, over_stmts}
 use Rattle.rhai_rewriting.specs.Scripts.{is_capturing}
-use Rattle.rhai_rewriting.proofs.acts.Trees.{Closed, list_calm}
+use Rattle.rhai_rewriting.proofs.acts.Trees.{Closed, list_held}
 use Rattle.rhai_rewriting.proofs.simulation.Congruent.{c_bind, c_called, AllowedCallee, c_refreshed, c_applied, c_assign_last, c_assign_root, c_round, c_while, c_do, c_for_all, c_try}
 use Rattle.rhai_rewriting.proofs.soundness.Apart.{Apart, apart_stop, apart_fail, apart_then, apart_read, apart_loop, apart_scoped, AllApart, apart_only, apart_do, apart_named, IsFalse, apart_congruent}
 
@@ -89,4 +89,4 @@ apart_closed w = record {
 }
 
 pub list_apart : (w : World) (ss : Stmts) → over_stmts (all_true is_apart) ss ≡ true → AllApart (acts w true (core_stmts false ss) UnitV)
-list_apart w ss h = list_calm w Apart AllApart is_apart (apart_closed w) false true ss h UnitV
+list_apart w ss h = list_held w Apart AllApart is_apart (apart_closed w) false true ss h UnitV

@@ -55,6 +55,7 @@ operators_last l = record {
   again = callee_again;
   constant = constant_callless;
   value = value_callless;
+  pointer = λ x f h. absurd h;
   noop = tt;
   branching = λ e a b. tt;
   block = λ ss. tt;

@@ -47,6 +47,7 @@ rule_not_true (rule.index_of_constant_first dot m i r v j u h q x y) = refl
 rule_not_true (rule.type_of_method_first dot captures m r v h q x) = refl
 rule_not_true (rule.is_shared_method_first dot captures m r v h q x) = refl
 rule_not_true (rule.known_name v h) = refl
+rule_not_true (rule.known_pointer f h q) = refl
 rule_not_true (rule.known_property fs h) = refl
 rule_not_true (rule.known_entry fs y h q) = refl
 

@@ -63,6 +63,7 @@ faultless_lasts l = record {
   again = λ {a} s h. faultless_again a s h;
   constant = constant_faultless l;
   value = value_faultless l;
+  pointer = λ x f h. refl;
   noop = refl;
   branching = λ e a b. refl;
   block = λ ss. refl;
