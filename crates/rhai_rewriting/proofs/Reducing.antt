@@ -3,24 +3,23 @@ use Rattle.std.proofs.Common.{◌≡◌, ℕ, zero, suc, Bool, true, false, cond
 use Rattle.std.specs.Prelude.{◌&&◌, ◌||◌, not, is_some, nat_lt}
 use Rattle.std.proofs.lemmas.Slice.Eq.{bytes_eq-Decides}
 use Rattle.rhai_values.specs.Value.{Text, Value, MapV, same_text, is_hashable}
-use Rattle.rhai_meaning.specs.Constants.{constant_value, constant_values, constant_entries, constant_bool, truth_of, array_value, map_value, joined_value, value_and, entry_and, is_constant}
+use Rattle.rhai_meaning.specs.Constants.{constant_value, constant_values, constant_entries, constant_bool, array_value, map_value, joined_value, value_and, entry_and, is_constant}
 use Rattle.rhai_meaning.specs.Control.{case_for, ranges_with, or_ranges, chosen}
 use Rattle.rhai_meaning.specs.Elements.{entry}
 use Rattle.rhai_meaning.specs.Engine.{Engine}
 use Rattle.rhai_meaning.specs.Faults.{has_operands}
 use Rattle.rhai_meaning.specs.Queries.{is_control_flow_break, is_pure_expr, are_pure_exprs, are_pure_pairs, is_pure}
-use Rattle.rhai_meaning.specs.Shape.{is_unit, is_true, condition_at, case_fits, spares, default_fits, is_table}
+use Rattle.rhai_meaning.specs.Shape.{is_unit, condition_at, case_fits, spares, default_fits, is_table}
 use Rattle.rhai_meaning.specs.Tree.{ChainFlags, SwitchTable, Callee, Expr, DynamicConstant, BoolConstant, InterpolatedString, ArrayOf, MapOf, Variable, Property, BlockExpr, FnCall, Dot, Index, And, Or, Coalesce, Exprs, no_exprs, expr, Pairs, no_pairs, pair, Arms, no_arms, arm, count_arms, Stmt, Noop, If, Switch, While, Var, FnCallStmt, ExprStmt, Return, an_expr, Stmts, no_stmts, stmt}
 use Rattle.rhai_meaning.specs.Walk.{Node, OfExpr, OfStmt, every, over_stmts, arms_at, arm_at, listed}
 use Rattle.rhai_meaning.proofs.Walk.{Alongside, stmts_alongside}
 use Rattle.rhai_parts.specs.Names.{are_all}
-use Rattle.rhai_rewriting.specs.Context.{Context, behind, known_behind, ListKind, Whole, wanted, wanted_before}
+use Rattle.rhai_rewriting.specs.Context.{Context, known_behind, ListKind, Whole}
 use Rattle.rhai_rewriting.specs.Folding.{folded}
-use Rattle.rhai_rewriting.specs.Indexing.{indexed}
 use Rattle.rhai_rewriting.specs.Known.{Known, look}
 use Rattle.rhai_rewriting.specs.Operands.{OperandsTo, in_other_operands, after_deciding_go, CoalesceTo, in_other_options, after_some_go}
 use Rattle.rhai_rewriting.specs.Parts.{constant_of}
-use Rattle.rhai_rewriting.specs.Reducible.{is_that, is_always, follows_deciding, is_some_value, follows_some, property_of, index_of, without_question, chain_answer, is_short, is_short_for, is_chosen, goes_on_after_leaving, tests_name, tests_constant, is_idle, idles, ends_in_return, IsIrreducibleAlone, IsIrreducibleNode}
+use Rattle.rhai_rewriting.specs.Reducible.{is_that, is_always, follows_deciding, is_some_value, follows_some, property_of, index_of, without_question, chain_answer, is_short, is_chosen, goes_on_after_leaving, tests_name, tests_constant, is_idle, idles, ends_in_return, IsIrreducibleAlone, IsIrreducibleNode}
 use Rattle.rhai_rewriting.specs.Residue.{holds_constant, IsReducedNode, AreReduced}
 use Rattle.rhai_rewriting.specs.Rules as rule
 use Rattle.rhai_rewriting.specs.Rules.{chosen as chosen_block, block_or_noop, ExprRule, StmtRule}

@@ -18,6 +18,7 @@ pub mod Refines
 pub mod WorkedWeights
 pub mod WorkedReducible
 pub mod WorkedClosure
+pub mod WorkedScopes
 pub mod WorkedRewrites
 pub mod WorkedNodes
 pub mod WorkedConditions

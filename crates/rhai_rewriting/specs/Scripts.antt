@@ -1,12 +1,12 @@
 -- Scripts whose statements and functions are rewritten, and what is known where.
 use Rattle.std.specs.Prelude.{◌≡◌, Bool, true, false, not, ◌&&◌, List, [], ◌∷◌, ◌++◌, Option, Some, None, cond}
-use Rattle.rhai_values.specs.Value.{Text, Value}
+use Rattle.rhai_values.specs.Value.{Text}
 use Rattle.rhai_meaning.specs.Act.{ScopeEntry, Root}
 use Rattle.rhai_meaning.specs.Desugar.{root_of, ends_in_call}
 use Rattle.rhai_meaning.specs.Engine.{Engine, Binding}
 use Rattle.rhai_meaning.specs.Plain.{all_true}
 use Rattle.rhai_meaning.specs.Shape.{is_rest}
-use Rattle.rhai_meaning.specs.Tree.{Callee, Expr, Variable, ThisPtr, FnCall, Dot, Index, Stmt, Assignment, FnCallStmt, Function, Script}
+use Rattle.rhai_meaning.specs.Tree.{Expr, Variable, ThisPtr, FnCall, Dot, Index, Assignment, FnCallStmt, Function, Script}
 use Rattle.rhai_meaning.specs.Walk.{Node, OfExpr, OfStmt, over_script}
 use Rattle.rhai_rewriting.specs.Context.{Context, Whole}
 use Rattle.rhai_rewriting.specs.Known.{Known, shadow_all}

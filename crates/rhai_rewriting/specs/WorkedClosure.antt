@@ -2,14 +2,12 @@
 use Rattle.std.specs.Prelude.{◌≡◌, Bool, true, false, [], ◌∷◌, Some, None, codes, refl}
 use Rattle.rhai_values.specs.Value.{Text, BoolV}
 use Rattle.rhai_meaning.specs.Act.{ScopeEntry}
-use Rattle.rhai_meaning.specs.Engine.{Engine}
-use Rattle.rhai_meaning.specs.Tree.{ChainFlags, PropertyNames, Callee, NoToken, SwitchTable, Expr, BoolConstant, InterpolatedString, MapOf, Variable, Property, MethodCall, BlockExpr, Dot, Index, And, Or, Coalesce, Exprs, no_exprs, expr, exprs, no_pairs, pair, an_expr, no_arms, arm, Stmt, If, Switch, While, Do, For, Var, Assignment, FnCallStmt, TryCatch, ExprStmt, BreakLoop, Return, Stmts, no_stmts, stmt, stmts, Function, Script}
+use Rattle.rhai_meaning.specs.Tree.{ChainFlags, Callee, NoToken, SwitchTable, Expr, BoolConstant, InterpolatedString, MapOf, Variable, MethodCall, BlockExpr, Dot, Index, And, Or, Coalesce, no_exprs, expr, exprs, no_pairs, pair, an_expr, no_arms, arm, If, Switch, While, Do, For, Var, Assignment, FnCallStmt, TryCatch, ExprStmt, BreakLoop, Return, no_stmts, stmts, Function, Script}
 use Rattle.rhai_meaning.specs.WorkedForms.{int, nothing_set, i}
-use Rattle.rhai_rewriting.specs.Context.{Context, Inside, under, noting}
-use Rattle.rhai_rewriting.specs.Known.{look}
+use Rattle.rhai_rewriting.specs.Context.{Context, under, noting}
 use Rattle.rhai_rewriting.specs.Rules.{braces_of_expression, known_name}
-use Rattle.rhai_rewriting.specs.Rewriting.{ExprTo, same_expr, by_expr_rule, in_text, in_map, in_chain, in_and, in_or, in_coalesce, ExprsTo, exprs_none, exprs_more, pairs_none, pairs_more, in_dot, in_index, BaseTo, base, in_method, in_brackets, same_steps, last_method, last_index, more_index, same_argument, in_target, GuardTo, guard, maybe_some, arms_none, arms_more, StmtTo, in_if, in_switch, in_while, in_do, in_for, in_var, in_assignment, in_try, in_expression, in_break, in_return, RestTo, same_stmts, in_head, flag_forgotten}
-use Rattle.rhai_rewriting.specs.Scripts.{known_inside, is_place, FunctionTo, no_functions, functions, OptimisedTo}
+use Rattle.rhai_rewriting.specs.Rewriting.{ExprTo, same_expr, by_expr_rule, in_text, in_map, in_chain, in_and, in_or, in_coalesce, ExprsTo, exprs_none, exprs_more, pairs_none, pairs_more, in_dot, in_index, BaseTo, base, last_method, last_index, more_index, same_argument, in_target, GuardTo, guard, maybe_some, arms_none, arms_more, StmtTo, in_if, in_switch, in_while, in_do, in_for, in_var, in_assignment, in_try, in_expression, in_break, in_return, same_stmts, in_head}
+use Rattle.rhai_rewriting.specs.Scripts.{known_inside, is_place, no_functions, functions, OptimisedTo}
 
 abbrev k : Context
 k = under nothing_set

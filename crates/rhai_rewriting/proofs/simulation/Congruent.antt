@@ -10,11 +10,10 @@ use Rattle.rhai_meaning.specs.Act.{HostCall, Answer, Answers, AnswersThrow, Key,
 use Rattle.rhai_meaning.specs.ActForms.{give, value_then, ◌>>=◌, choose, truth, branch, if_true, on_throw, end_round, again_then, answered, ask_host, ask_method, of_constant}
 use Rattle.rhai_meaning.specs.Calls.{of_table, operate, assigned, pointer_to, curried, has_key, key, call_named, call_pointer, Word, ToHost, TypeOf, IsShared, Fn, Curry, CallFn, word, call_word, called}
 use Rattle.rhai_meaning.specs.Chains.{Access, OfProperty, OfIndex, OfMethod, or_throw, ask_for, property, index, after_method, method_key, to_method, value_alone, method, applied, unless_unit, set_by_host, set_element, set_property, set_index, set_placed, set_at, assign_last, assign_root}
-use Rattle.rhai_meaning.specs.Control.{ArmActs, try_arm, first_arm, answer_of, default_of, switch_on, chosen, round, while_guarded, do_loop, counted, for_each, for_count, for_all, named, end_branch, try_of}
+use Rattle.rhai_meaning.specs.Control.{ArmActs, try_arm, first_arm, answer_of, round, while_guarded, do_loop, counted, for_each, for_count, for_all, named, end_branch, try_of}
 use Rattle.rhai_meaning.specs.Core.{Callee, OnOperator, Qualified, ByName}
 use Rattle.rhai_meaning.specs.Places.{AtIndex, Place, Current, or_no_place, along, with_along, read_place, write_place, part, without_place, again_at, refreshed, put_at, put_back}
-use Rattle.rhai_meaning.specs.Shape.{is_unit}
-use Rattle.rhai_meaning.specs.Tree.{PropertyNames, SwitchTable}
+use Rattle.rhai_meaning.specs.Tree.{PropertyNames}
 
 -- P of acts; Allowed: whether a call may capture
 pub record Congruent (P : Act → Act → Type 0) (Allowed : Bool → Type 0) : Type 0 where

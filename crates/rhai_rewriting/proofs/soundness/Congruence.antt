@@ -1,12 +1,11 @@
 -- Simulations go through every construct of the language, and through chains and loops whose parts simulate.
-use Rattle.std.proofs.Common.{◌≡◌, ℕ, zero, suc, Bool, true, false, cond, List, [], ◌∷◌, Option, Some, None, refl, sym, ap, subst}
+use Rattle.std.proofs.Common.{ℕ, Bool, true, false, cond, List, [], ◌∷◌, Option, Some, None}
 use Rattle.std.specs.Prelude.{slice_get, pos, ◌^◌, nat_lt}
 use Rattle.rhai_values.specs.Value.{Text, Value, UnitV, IntV}
 use Rattle.rhai_base.specs.Operators.{Operator}
-use Rattle.rhai_meaning.specs.Act.{WrongKind, Root, Act, Fail, Scoped, Acts, Named, Only, CounterTooLarge}
-use Rattle.rhai_meaning.specs.ActForms.{give, ◌>>=◌, if_true}
+use Rattle.rhai_meaning.specs.Act.{Root, Act, Fail, Scoped, Acts, Named, Only, CounterTooLarge}
 use Rattle.rhai_meaning.specs.Chains.{Access}
-use Rattle.rhai_meaning.specs.Control.{ArmActs, switch_on, default_of, chosen, counted, named}
+use Rattle.rhai_meaning.specs.Control.{ArmActs, switch_on, default_of, chosen}
 use Rattle.rhai_meaning.specs.Core as core
 use Rattle.rhai_meaning.specs.Core.{Step, IllStep, Property, Index, Method, Steps, last, more}
 use Rattle.rhai_meaning.specs.Desugar.{based, part_target, try_by, core_stmts}
@@ -14,8 +13,7 @@ use Rattle.rhai_meaning.specs.Meaning.{act, with_args, at_base, access, steps, a
 use Rattle.rhai_meaning.specs.Places.{Current, at_root, without_place}
 use Rattle.rhai_meaning.specs.Tree.{SwitchTable, Stmts}
 use Rattle.rhai_rewriting.specs.Context.{Context, Inside, naming, naming_some, naming_catch}
-use Rattle.rhai_rewriting.proofs.simulation.Congruent.{Congruent, c_bind, c_unless, c_refreshed, c_applied, c_assign_last, c_first, c_answer, c_try, RoundsAlike, MaybeAlike, ArmsAlike, no_arms_alike, arms_alike}
-use Rattle.rhai_rewriting.proofs.simulation.Laws.{simulates_stuck}
+use Rattle.rhai_rewriting.proofs.simulation.Congruent.{Congruent, c_bind, c_unless, c_refreshed, c_applied, c_first, c_answer, c_try, RoundsAlike, MaybeAlike, ArmsAlike, no_arms_alike, arms_alike}
 use Rattle.rhai_rewriting.proofs.simulation.Lists.{SimulatesList, list_named}
 use Rattle.rhai_rewriting.proofs.simulation.Setting.{Setting, beneath, world}
 use Rattle.rhai_rewriting.proofs.simulation.Simulation.{Simulates, simulates_trans, simulates_refl, simulates_then, simulates_turn, simulates_ask, simulates_invoke, simulates_loop}

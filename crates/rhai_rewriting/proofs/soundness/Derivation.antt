@@ -1,20 +1,20 @@
 -- What a tree was rewritten to does what the tree does: by induction on the derivation.
-use Rattle.std.proofs.Common.{◌≡◌, ℕ, zero, suc, Bool, true, false, cond, ◌∷◌, List, Option, Some, None, refl, sym, ap, ◌∙◌, subst}
-use Rattle.std.specs.Prelude.{◌&&◌, not, slice_get}
-use Rattle.rhai_values.specs.Value.{Text, Value, UnitV, BoolV}
+use Rattle.std.proofs.Common.{◌≡◌, ℕ, zero, suc, Bool, true, false, cond, ◌∷◌, List, Option, refl, sym, ap, ◌∙◌, subst}
+use Rattle.std.specs.Prelude.{◌&&◌, slice_get}
+use Rattle.rhai_values.specs.Value.{Text, Value, UnitV}
 use Rattle.rhai_base.specs.Operators.{Operator}
 use Rattle.rhai_meaning.specs.Act.{Act, Acts, Only}
-use Rattle.rhai_meaning.specs.ActForms.{give, ◌>>=◌}
+use Rattle.rhai_meaning.specs.ActForms.{give}
 use Rattle.rhai_meaning.specs.Calls.{called}
 use Rattle.rhai_meaning.specs.Core as core
-use Rattle.rhai_meaning.specs.Desugar.{callee_by, call_of, root_of, based, ends_in_call, part_target, guard_by, break_kind, return_kind, core_expr, core_exprs, core_pairs, member_of, method_of, steps_of, target_of, core_arms, core_maybe, core_stmt, core_stmts}
+use Rattle.rhai_meaning.specs.Desugar.{callee_by, call_of, root_of, based, ends_in_call, part_target, guard_by, break_kind, core_expr, core_exprs, core_pairs, member_of, method_of, steps_of, target_of, core_arms, core_maybe, core_stmt, core_stmts}
 use Rattle.rhai_meaning.specs.Queries.{is_unit}
 use Rattle.rhai_meaning.specs.Shape.{is_unit as is_unit_value}
-use Rattle.rhai_meaning.specs.Shape.{is_map, is_rest, is_callable, is_table, is_left_side, keys, are_distinct, are_among, catch_name}
-use Rattle.rhai_meaning.specs.Meaning.{wanted_value, act, with_args, with_pairs, both, either, first_some, arm_acts, loop, assign, exit, deed, line, acts}
-use Rattle.rhai_meaning.specs.Tree.{ChainFlags, Callee, Expr, UnitConstant, Variable, ThisPtr, Property, MethodCall, Dot, Index, Exprs, count_exprs, Pairs, MaybeExpr, Arms, Stmt, Stmts, no_stmts, stmt}
+use Rattle.rhai_meaning.specs.Shape.{is_rest, is_callable, is_table, is_left_side, keys, are_distinct, are_among, catch_name}
+use Rattle.rhai_meaning.specs.Meaning.{wanted_value, act, with_args, with_pairs, both, either, first_some, arm_acts, loop, assign, deed, line, acts}
+use Rattle.rhai_meaning.specs.Tree.{ChainFlags, Callee, Expr, UnitConstant, MethodCall, Dot, Index, Exprs, count_exprs, Pairs, MaybeExpr, Arms, Stmt, Stmts, no_stmts, stmt}
 use Rattle.rhai_rewriting.specs.Context.{Context, ListKind, Inside, wanted, wanted_before}
-use Rattle.rhai_rewriting.specs.Rewriting.{ExprTo, same_expr, then_expr, by_expr_rule, in_text, in_array, in_map, in_braces, in_call, in_chain, in_and, in_or, in_coalesce, ExprsTo, exprs_none, exprs_more, PairsTo, pairs_none, pairs_more, ChainTo, in_dot, in_index, BaseTo, base, ArgumentTo, same_argument, in_method, in_brackets, StepsTo, same_steps, last_method, last_index, more_dot, more_index, TargetTo, same_target, in_target, GuardTo, guard, MaybeTo, maybe_none, maybe_some, ArmsTo, arms_none, arms_more, StmtTo, same_stmt, then_stmt, by_stmt_rule, in_if, in_switch, in_while, in_do, in_for, in_var, in_assignment, in_block, in_try, in_expression, in_call_statement, in_break, in_return, in_import, RestTo, same_stmts, then_stmts, by_list_rule, in_head, in_tail, flag_forgotten}
+use Rattle.rhai_rewriting.specs.Rewriting.{ExprTo, same_expr, then_expr, by_expr_rule, in_text, in_array, in_map, in_braces, in_call, in_chain, in_and, in_or, in_coalesce, ExprsTo, exprs_none, exprs_more, PairsTo, pairs_none, pairs_more, ChainTo, in_dot, in_index, base, ArgumentTo, same_argument, in_method, in_brackets, StepsTo, same_steps, last_method, last_index, more_dot, more_index, TargetTo, same_target, in_target, guard, MaybeTo, maybe_none, maybe_some, ArmsTo, arms_none, arms_more, StmtTo, same_stmt, then_stmt, by_stmt_rule, in_if, in_switch, in_while, in_do, in_for, in_var, in_assignment, in_block, in_try, in_expression, in_call_statement, in_break, in_return, in_import, RestTo, same_stmts, then_stmts, by_list_rule, in_head, in_tail, flag_forgotten}
 use Rattle.rhai_rewriting.proofs.simulation.Congruent.{c_choose, c_while, c_do, c_round, c_for_all, MaybeAlike, no_arm_alike, arm_alike}
 use Rattle.rhai_rewriting.proofs.simulation.Setting.{Setting, past, world}
 use Rattle.rhai_rewriting.proofs.simulation.Simulation.{Simulates, SimulatesAll, all_refl, simulates_trans, simulates_refl, simulates_loop}

@@ -1,13 +1,13 @@
 -- What is asked of every node of a script lasts over its rewriting: it stays plain and well-formed, its left sides places,
 -- and no call that captures is made anew.
-use Rattle.std.proofs.Common.{◌≡◌, ◌≤◌, ℕ, Bool, true, false, List, [], ◌∷◌, refl, sym, ap, ◌∙◌, subst, arith}
+use Rattle.std.proofs.Common.{◌≡◌, ◌≤◌, ℕ, Bool, true, false, List, [], ◌∷◌, refl, sym, ap, ◌∙◌, arith}
 use Rattle.std.specs.Prelude.{◌&&◌, not}
 use Rattle.rhai_values.specs.Value.{Value, UnitV, PointerV}
 use Rattle.rhai_meaning.specs.Constants.{constant_for}
 use Rattle.rhai_meaning.specs.Engine.{Engine}
 use Rattle.rhai_meaning.specs.Faults.{is_reserved, AreWellFormedFunctions, IsWellFormedScript}
 use Rattle.rhai_meaning.specs.Plain.{all_true, is_plain_node, is_plain}
-use Rattle.rhai_meaning.specs.Tree.{ChainFlags, SwitchTable, Callee, Expr, FnCall, FnCallStmt, Stmts, Function, Script}
+use Rattle.rhai_meaning.specs.Tree.{ChainFlags, Callee, Expr, FnCall, FnCallStmt, Stmts, Function, Script}
 use Rattle.rhai_meaning.specs.Walk.{Node, OfExpr, OfStmt, Around, around_spot, around_parts, outermost, every, throughout, over_stmts, over_functions, over_script, arm_at, arms_at, listed}
 use Rattle.rhai_meaning.specs.Weight.{weight}
 use Rattle.rhai_meaning.proofs.PureTrees.{split}
@@ -16,7 +16,7 @@ use Rattle.rhai_rewriting.specs.Context.{Context, ListKind}
 use Rattle.rhai_rewriting.specs.Known.{Known}
 use Rattle.rhai_rewriting.specs.Parts.{constant_of, link}
 use Rattle.rhai_rewriting.specs.Rewriting.{RestTo}
-use Rattle.rhai_rewriting.specs.Scripts.{is_capturing, captures_nothing, is_place, assigns_to_place, FunctionTo, FunctionsTo, no_functions, functions, ScriptTo}
+use Rattle.rhai_rewriting.specs.Scripts.{is_capturing, captures_nothing, assigns_to_place, FunctionTo, FunctionsTo, no_functions, functions, ScriptTo}
 use Rattle.rhai_rewriting.proofs.Plain.{is_plain_value}
 use Rattle.rhai_rewriting.proofs.Weights.{stmts_fall}
 use Rattle.rhai_rewriting.proofs.rules.Lasting.{SameNode, same_call, same_assignment, Lasting}

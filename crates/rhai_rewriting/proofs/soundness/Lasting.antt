@@ -1,11 +1,10 @@
 -- What may be asked of every node so that it lasts, lasts over a derivation.
-use Rattle.std.proofs.Common.{◌≡◌, ℕ, zero, suc, Bool, true, false, List, [], ◌∷◌, refl, sym, ap, ◌∙◌, subst}
-use Rattle.std.specs.Prelude.{not, ◌&&◌, ◌||◌}
+use Rattle.std.proofs.Common.{◌≡◌, ℕ, zero, suc, Bool, true, false, List, [], ◌∷◌, refl, sym, ap, ◌∙◌}
+use Rattle.std.specs.Prelude.{not, ◌&&◌}
 use Rattle.rhai_meaning.specs.Desugar.{ends_in_call}
-use Rattle.rhai_meaning.specs.Faults.{has_operands}
 use Rattle.rhai_rewriting.specs.Scripts.{has_root, is_place}
-use Rattle.rhai_meaning.specs.Shape.{keys, is_member, is_argument, is_rest, is_left_side}
-use Rattle.rhai_meaning.specs.Tree.{Expr, MethodCall, Dot, Index, And, Or, Coalesce, Exprs, count_exprs, Pairs, pair, MaybeExpr, Arms, Stmt, Stmts}
+use Rattle.rhai_meaning.specs.Shape.{keys, is_argument, is_rest, is_left_side}
+use Rattle.rhai_meaning.specs.Tree.{Expr, MethodCall, Dot, Index, And, Or, Coalesce, Exprs, count_exprs, Pairs, MaybeExpr, Arms, Stmt, Stmts}
 use Rattle.rhai_meaning.specs.Walk.{Node, OfExpr, Role, Rest, Around, left_role, right_role, whole, throughout, over_expr, over_exprs, over_pairs, over_maybe, over_arms, arm_at, arms_at, listed, over_stmt, over_stmts}
 use Rattle.rhai_rewriting.specs.Context.{Context, ListKind}
 use Rattle.rhai_rewriting.specs.Rewriting.{ExprTo, same_expr, then_expr, by_expr_rule, in_text, in_array, in_map, in_braces, in_call, in_chain, in_and, in_or, in_coalesce, ExprsTo, exprs_none, exprs_more, PairsTo, pairs_none, pairs_more, ChainTo, in_dot, in_index, BaseTo, base, ArgumentTo, same_argument, in_method, in_brackets, StepsTo, same_steps, last_method, last_index, more_dot, more_index, TargetTo, same_target, in_target, GuardTo, guard, MaybeTo, maybe_none, maybe_some, ArmsTo, arms_none, arms_more, StmtTo, same_stmt, then_stmt, by_stmt_rule, in_if, in_switch, in_while, in_do, in_for, in_var, in_assignment, in_block, in_try, in_expression, in_call_statement, in_break, in_return, in_import, RestTo, same_stmts, then_stmts, by_list_rule, in_head, in_tail, flag_forgotten}

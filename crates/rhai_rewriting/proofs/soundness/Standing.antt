@@ -1,5 +1,5 @@
 -- What the parts of a node may not become: a condition that is literally true stays so, a place stays the same place.
-use Rattle.std.proofs.Common.{◌≡◌, ℕ, zero, suc, Bool, true, false, Option, Some, None, refl, sym, ap, ◌∙◌, subst}
+use Rattle.std.proofs.Common.{◌≡◌, ℕ, zero, suc, Bool, true, false, Option, Some, None, refl, sym, ap, ◌∙◌}
 use Rattle.std.specs.Prelude.{◌&&◌, nat_lt}
 use Rattle.rhai_parts.specs.Names.{are_all}
 use Rattle.rhai_meaning.specs.Shape.{is_true, condition_at, case_fits, spares, default_fits, is_table}
@@ -7,7 +7,7 @@ use Rattle.rhai_meaning.specs.Tree.{SwitchTable, Expr, Arms, count_arms}
 use Rattle.rhai_rewriting.specs.Context.{Context}
 use Rattle.rhai_rewriting.specs.Rules as rule
 use Rattle.rhai_rewriting.specs.Rules.{ExprRule}
-use Rattle.rhai_rewriting.specs.Rewriting.{ExprTo, same_expr, then_expr, by_expr_rule, in_text, in_array, in_map, in_braces, in_call, in_chain, in_and, in_or, in_coalesce, ChainTo, in_dot, in_index, ArmsTo, arms_none, arms_more}
+use Rattle.rhai_rewriting.specs.Rewriting.{ExprTo, same_expr, then_expr, by_expr_rule, in_text, in_array, in_map, in_braces, in_call, in_chain, in_and, in_or, in_coalesce, in_dot, in_index, ArmsTo, arms_none, arms_more}
 
 -- ---- literal conditions
 

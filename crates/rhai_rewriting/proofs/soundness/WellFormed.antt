@@ -1,5 +1,5 @@
 -- A well-formed tree stays well-formed.
-use Rattle.std.proofs.Common.{◌≡◌, Bool, true, false, Some, None, refl, sym, ap, ◌∙◌, subst}
+use Rattle.std.proofs.Common.{◌≡◌, Bool, true, false, Some, None, refl, ap, subst}
 use Rattle.std.specs.Prelude.{◌||◌, ◌&&◌, not, if◌then◌else◌}
 use Rattle.rhai_values.specs.Value.{Value, UnitV, PointerV}
 use Rattle.rhai_meaning.specs.Constants.{constant_for}

@@ -1,7 +1,7 @@
 -- The theorem over whole scripts: one whose statements and functions were rewritten does what it did.
-use Rattle.std.proofs.Common.{◌≡◌, Bool, true, false, cond, List, [], ◌∷◌, length, map, refl, sym, ap, ◌∙◌, subst}
+use Rattle.std.proofs.Common.{◌≡◌, Bool, true, false, cond, List, [], ◌∷◌, length, map, refl, sym, subst}
 use Rattle.rhai_values.specs.Value.{UnitV}
-use Rattle.rhai_meaning.specs.Act.{World, ScopeEntry, Host, Key}
+use Rattle.rhai_meaning.specs.Act.{World, ScopeEntry}
 use Rattle.rhai_meaning.specs.Calls.{key}
 use Rattle.rhai_meaning.specs.Core as core
 use Rattle.rhai_meaning.specs.Desugar.{core_function, core_script, core_stmts}
@@ -16,8 +16,6 @@ use Rattle.rhai_rewriting.specs.Known.{Known, shadow_all, Agrees}
 use Rattle.rhai_rewriting.specs.Refines.{RunRefines, RefinesWhere}
 use Rattle.rhai_rewriting.specs.Rewriting.{same_stmts}
 use Rattle.rhai_rewriting.specs.Scripts.{captures_nothing, known_at_top, known_in_bodies, known_inside, FunctionTo, FunctionsTo, no_functions, functions, ScriptTo, MayKnow, nothing_known, none_capture, OptimisedTo}
-use Rattle.rhai_rewriting.proofs.simulation.Agreement.{agrees_nothing}
-use Rattle.rhai_rewriting.proofs.simulation.Simulation.{SimulatesAll}
 use Rattle.rhai_rewriting.proofs.soundness.Apart.{AllApart, apart_finish, BodiesApart, same_script}
 use Rattle.rhai_rewriting.proofs.soundness.Capturing.{is_apart, list_apart}
 use Rattle.rhai_rewriting.proofs.soundness.Derivation.{stmts_sound}
