@@ -142,6 +142,14 @@ module _ (w : World) where
         };
       }
 
+  -- before a list that reads no name, a name makes no difference
+  pub unnamed : (x : Text) (c : Bool) (v : Value) (p : Acts) → PureList p → (env : Env) → OnlyAdds env → (s : Store) (t : ℕ) → run w env (Scoped (Named x c v p)) s t ≡ run w env (Scoped p) s t
+  unnamed x c v p h env adds s t =
+      let q = h.scoped in
+      let e : ScopeEntry = record { name = x; constant = c; value = v } in
+      let s1 : Store = record s { scope = e ∷ s.scope } in
+      scoped_named w env adds x c v p s t ∙ ap (leave s.scope) (q.runs.by env adds s1 t) ∙ spend_named q.cost (settled q.end) s e t ∙ sym (q.runs.by env adds s t)
+
   l_do : (a : Act) (next : Ending → Acts) (n m : ℕ) (e : Ending) (z : Settled) → Runs a n (Ended e) → Runs (Scoped (next e)) m (settled z) → PureList (Do a next)
   l_do a next n m e z h k = record {
     scoped = record {

@@ -1,7 +1,7 @@
 -- A script all of whose calls are those of operators is its own small script.
 use Rattle.std.proofs.Common.{◌≡◌, Bool, true, false, cond, refl}
 use Rattle.rhai_values.specs.Value.{Value}
-use Rattle.rhai_meaning.specs.Core.{Ill, Constant, ArrayOf, BlockExpr, FnCall, Exprs, expr, If, Block, Evaluate, Does, stmt}
+use Rattle.rhai_meaning.specs.Core.{Ill, Constant, ArrayOf, BlockExpr, FnCall, And, Exprs, expr, If, Block, Evaluate, Does, stmt}
 use Rattle.rhai_meaning.specs.Desugar.{callee_by, core_expr, core_exprs, core_stmt, core_stmts, core_script}
 use Rattle.rhai_meaning.specs.Shape.{is_unit, is_callable}
 use Rattle.rhai_meaning.specs.Small.{small_expr, small_exprs, small_expr_of, small_exprs_of, small_stmt_of, small_stmts_of, small_script, is_operator, CallsOperator, CallsOperatorsAlone}
@@ -24,6 +24,7 @@ mutual
   expr_itself (tree.ArrayOf es) h = λ i. ArrayOf (exprs_itself es h.1 i)
   expr_itself (tree.BlockExpr ss) h = λ i. BlockExpr (stmts_itself ss h.1 i)
   expr_itself (tree.FnCall c es) h = call_itself (is_callable c (tree.count_exprs es)) c c.token (core_exprs false es) h.0 (exprs_itself es h.1)
+  expr_itself (tree.And es) h = λ i. And (exprs_itself es h.1 i)
   expr_itself (tree.BoolConstant b) h = refl
   expr_itself (tree.IntegerConstant n) h = refl
   expr_itself (tree.CharConstant c) h = refl

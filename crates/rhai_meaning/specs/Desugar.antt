@@ -39,12 +39,12 @@ abbrev pub based : Option Root → Expr → Base
 based (Some r) e = OnPlace r
 based None e = OnValue e
 
--- whether the last step is a call
-abbrev pub ends_in_call : Bool → tree.Expr → Bool
-ends_in_call breaks (tree.MethodCall c es) = true
-ends_in_call breaks (tree.Dot k l r) = not breaks && ends_in_call k.breaks r
-ends_in_call breaks (tree.Index k l r) = not breaks && ends_in_call k.breaks r
-ends_in_call breaks _ = false
+-- whether the last step is a call, by the right side of a `Dot` (dot) or an `Index`
+abbrev pub ends_in_call : (dot breaks : Bool) → tree.Expr → Bool
+ends_in_call dot breaks (tree.MethodCall c es) = dot
+ends_in_call dot breaks (tree.Dot k l r) = not breaks && ends_in_call true k.breaks r
+ends_in_call dot breaks (tree.Index k l r) = not breaks && ends_in_call false k.breaks r
+ends_in_call dot breaks _ = false
 
 abbrev pub part_target : Option Root → Bool → Steps → Target
 part_target None call sts = Nowhere
@@ -123,8 +123,8 @@ abbrev mutual
   pub target_of : Bool → tree.Expr → Target
   target_of loop (tree.Variable p x) = name_target p x
   target_of loop tree.ThisPtr = ToRoot OfThis
-  target_of loop (tree.Dot k l r) = cond (is_rest true k.breaks r) (part_target (root_of l) (ends_in_call k.breaks r) (steps_of loop true k (member_of loop r) r)) IllTarget
-  target_of loop (tree.Index k l r) = cond (is_rest false k.breaks r) (part_target (root_of l) (ends_in_call k.breaks r) (steps_of loop false k (Index (core_expr loop r)) r)) IllTarget
+  target_of loop (tree.Dot k l r) = cond (is_rest true k.breaks r) (part_target (root_of l) (ends_in_call true k.breaks r) (steps_of loop true k (member_of loop r) r)) IllTarget
+  target_of loop (tree.Index k l r) = cond (is_rest false k.breaks r) (part_target (root_of l) (ends_in_call false k.breaks r) (steps_of loop false k (Index (core_expr loop r)) r)) IllTarget
   target_of loop _ = IllTarget
 
   pub core_arms : Bool → tree.Arms → Arms

@@ -1,8 +1,8 @@
--- The small language: constants, arrays, braces, `if`, and of calls those of operators. All else has no meaning in it.
+-- The small language: constants, arrays, braces, `&&`, `if`, and of calls those of operators. All else has no meaning in it.
 use Rattle.std.specs.Prelude.{◌≡◌, Bool, true, false}
 use Rattle.rhai_meaning.specs.Tree as tree
 use Rattle.rhai_meaning.specs.Tree.{CallToken, OfOperator}
-use Rattle.rhai_meaning.specs.Core.{Callee, OnOperator, Expr, Ill, Constant, ArrayOf, BlockExpr, FnCall, Exprs, no_exprs, expr, Deed, IllDeed, Noop, If, Block, Evaluate, Stmt, Var, Does, Stmts, no_stmts, stmt, Script}
+use Rattle.rhai_meaning.specs.Core.{Callee, OnOperator, Expr, Ill, Constant, ArrayOf, BlockExpr, FnCall, And, Exprs, no_exprs, expr, Deed, IllDeed, Noop, If, Block, Evaluate, Stmt, Var, Does, Stmts, no_stmts, stmt, Script}
 use Rattle.rhai_meaning.specs.Desugar.{core_expr, core_exprs, core_stmt, core_stmts}
 use Rattle.rhai_meaning.specs.Walk.{Node, OfExpr, OfStmt, every, over_stmts}
 
@@ -16,6 +16,7 @@ abbrev mutual
   small_expr (ArrayOf es) = ArrayOf (small_exprs es)
   small_expr (BlockExpr ss) = BlockExpr (small_stmts ss)
   small_expr (FnCall c es) = small_call c (small_exprs es)
+  small_expr (And es) = And (small_exprs es)
   small_expr _ = Ill
 
   pub small_exprs : Exprs → Exprs
@@ -72,6 +73,7 @@ CallsOperator (OfExpr tree.UnitConstant) = Unit {0}
 CallsOperator (OfExpr (tree.ArrayOf es)) = Unit {0}
 CallsOperator (OfExpr (tree.BlockExpr ss)) = Unit {0}
 CallsOperator (OfExpr (tree.FnCall c es)) = is_operator c.token ≡ true
+CallsOperator (OfExpr (tree.And es)) = Unit {0}
 CallsOperator (OfStmt tree.Noop) = Unit {0}
 CallsOperator (OfStmt (tree.If c a b)) = Unit {0}
 CallsOperator (OfStmt (tree.Block ss)) = Unit {0}

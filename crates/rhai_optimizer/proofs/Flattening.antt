@@ -7,7 +7,7 @@ use Rattle.rhai_meaning.specs.Queries.{is_any_dependent}
 use Rattle.rhai_ast.specs.Reading.{stmt_of, stmts_of, stmt_of-Noop}
 use Rattle.rhai_meaning.specs.Tree.{Stmt, Noop, Block, Stmts, no_stmts, stmt, joined}
 use Rattle.rhai_rewriting.specs.Context.{Context, ListKind, wanted, wanted_before}
-use Rattle.rhai_rewriting.specs.Rewriting.{StmtsTo, same_stmts, then_stmts, by_list_rule}
+use Rattle.rhai_rewriting.specs.Rewriting.{RestTo, StmtsTo, same_stmts, then_stmts, by_list_rule}
 use Rattle.rhai_rewriting.specs.Rules.{spliced, block_gives_way}
 use Rattle.rhai_rewriting.proofs.Firing.{in_back}
 use Rattle.rhai_rewriting.specs.Steps.{Moves}
@@ -61,27 +61,27 @@ nothing_stands false no_stmts no_stmts h = refl
 
 moves_push : {w d : Bool} (done new : List declared_stmt.Stmt) (s : declared_stmt.Stmt) → new ≡ done ++ s ∷ [] → Moves w d d (stmts_of done) (stmt (stmt_of s) no_stmts) (stmts_of new)
 moves_push {w = w} {d = d} done new s e = record {
-  to = λ k m back h. subst (λ x. StmtsTo k m d d (joined (stmts_of done) (stmt (stmt_of s) back)) x) (sym (ap (λ (l : List declared_stmt.Stmt). joined (stmts_of l) back) e ∙ joined-push done s back)) same_stmts;
+  to = λ k m u back h. subst (λ x. RestTo k m u d d (joined (stmts_of done) (stmt (stmt_of s) back)) x) (sym (ap (λ (l : List declared_stmt.Stmt). joined (stmts_of l) back) e ∙ joined-push done s back)) same_stmts;
 }
 
 -- a block that gives way to its statements
 moves_block : {w d d1 d2 : Bool} {done ss new : Stmts} → d1 ≡ true → is_any_dependent ss ≡ false → (ss ≡ no_stmts → true ≡ w → ⊥) → Moves w d1 d2 done ss new → Moves w d d2 done (stmt (Block ss) no_stmts) new
 moves_block {w = w} {d = d} {d1 = d1} {d2 = d2} {done = done} {ss = ss} {new = new} e h n p = record {
-  to = λ k m back q.
+  to = λ k m u back q.
       let spelled = nothing_stands (wanted m) ss back (λ a b. n a (b ∙ sym q)) in
-      let gives_way = subst (λ x. StmtsTo k m d true (joined done (stmt (Block ss) back)) (joined done x)) spelled (in_back done (by_list_rule (block_gives_way h))) in
-      then_stmts (subst (λ x. StmtsTo k m d x (joined done (stmt (Block ss) back)) (joined done (joined ss back))) (sym e) gives_way) (p.to k m back q);
+      let gives_way = subst (λ x. RestTo k m u d true (joined done (stmt (Block ss) back)) (joined done x)) spelled (in_back done (by_list_rule (block_gives_way h))) in
+      then_stmts (subst (λ x. RestTo k m u d x (joined done (stmt (Block ss) back)) (joined done (joined ss back))) (sym e) gives_way) (p.to k m u back q);
 }
 
 -- an empty block at the end of a wanted list
 moves_noop : {w d d1 : Bool} (done new block : List declared_stmt.Stmt) (p : Position) → d1 ≡ true → w ≡ true → block ≡ [] → new ≡ done ++ stmt_kind.Noop p ∷ [] → Moves w d d1 (stmts_of done) (stmt (Block (stmts_of block)) no_stmts) (stmts_of new)
 moves_noop {w = w} {d = d} {d1 = d1} done new block p e ew eb en = record {
-  to = λ k m back q.
-      let gives_way = subst (λ x. StmtsTo k m d true (joined (stmts_of done) (stmt (Block no_stmts) back)) (joined (stmts_of done) x)) (noop_stands (wanted m) back (sym ew ∙ q)) (in_back (stmts_of done) (by_list_rule (block_gives_way refl))) in
+  to = λ k m u back q.
+      let gives_way = subst (λ x. RestTo k m u d true (joined (stmts_of done) (stmt (Block no_stmts) back)) (joined (stmts_of done) x)) (noop_stands (wanted m) back (sym ew ∙ q)) (in_back (stmts_of done) (by_list_rule (block_gives_way refl))) in
       let spelled = ap (λ (l : List declared_stmt.Stmt). joined (stmts_of l) back) en ∙ joined-push done (stmt_kind.Noop p) back ∙ ap (λ x. joined (stmts_of done) (stmt x back)) (stmt_of-Noop p) in
-      subst (λ (l : List declared_stmt.Stmt). StmtsTo k m d d1 (joined (stmts_of done) (stmt (Block (stmts_of l)) back)) (joined (stmts_of new) back)) (sym eb)
-      (subst (λ x. StmtsTo k m d d1 (joined (stmts_of done) (stmt (Block no_stmts) back)) x) (sym spelled)
-      (subst (λ x. StmtsTo k m d x (joined (stmts_of done) (stmt (Block no_stmts) back)) (joined (stmts_of done) (stmt Noop back))) (sym e) gives_way));
+      subst (λ (l : List declared_stmt.Stmt). RestTo k m u d d1 (joined (stmts_of done) (stmt (Block (stmts_of l)) back)) (joined (stmts_of new) back)) (sym eb)
+      (subst (λ x. RestTo k m u d d1 (joined (stmts_of done) (stmt (Block no_stmts) back)) x) (sym spelled)
+      (subst (λ x. RestTo k m u d x (joined (stmts_of done) (stmt (Block no_stmts) back)) (joined (stmts_of done) (stmt Noop back))) (sym e) gives_way));
 }
 
 -- ---- and leave no block that gives way
@@ -118,20 +118,20 @@ flattens_as {w = w} {d = d} {d' = d'} {done = done} {new = new} e p = subst (λ 
 -- of all, the rest is to come
 pub record MovesSoFar (w d d1 : Bool) (all rest : List declared_stmt.Stmt) (done now : Stmts) : Type 0 where
   pub fits : weight (stmts_of rest) ≤ weight (stmts_of all)
-  pub to : (k : Context) (m : ListKind) (back : Stmts) → w ≡ wanted_before (wanted m) back → StmtsTo k m d d1 (joined done (joined (stmts_of all) back)) (joined now (joined (stmts_of rest) back))
+  pub to : (k : Context) (m : ListKind) (u : Bool) (back : Stmts) → w ≡ wanted_before (wanted m) back → RestTo k m u d d1 (joined done (joined (stmts_of all) back)) (joined now (joined (stmts_of rest) back))
   pub flat : any_gives_way done ≡ false → any_gives_way now ≡ false
 
 pub moves_start : {w d : Bool} {all : List declared_stmt.Stmt} {done : Stmts} → MovesSoFar w d d all all done done
-moves_start = record { fits = omega arith; to = λ k m back h. same_stmts; flat = λ h. h }
+moves_start = record { fits = omega arith; to = λ k m u back h. same_stmts; flat = λ h. h }
 
 pub moves_next : {w w1 d d1 d2 : Bool} {all rest new : List declared_stmt.Stmt} {done now next : Stmts} {s : declared_stmt.Stmt} → MovesSoFar w d d1 all rest done now → rest ≡ s ∷ new → w1 ≡ wanted_before w (stmts_of new) → Flattens w1 d1 d2 now (stmt (stmt_of s) no_stmts) next → MovesSoFar w d d2 all new done next
 moves_next {w = w} {w1 = w1} {d = d} {d1 = d1} {d2 = d2} {all = all} {rest = rest} {new = new} {done = done} {now = now} {next = next} {s = s} far i e p =
     let v = subst (λ l. MovesSoFar w d d1 all l done now) i far in
     record {
       fits = omega (arith, v.fits);
-      to = λ k m back h.
+      to = λ k m u back h.
           let q : w1 ≡ wanted_before (wanted m) (joined (stmts_of new) back) = e ∙ ap (λ b. wanted_before b (stmts_of new)) h ∙ wanted_before-joined (wanted m) (stmts_of new) back in
-          then_stmts (v.to k m back h) (p.moves.to k m (joined (stmts_of new) back) q);
+          then_stmts (v.to k m u back h) (p.moves.to k m u (joined (stmts_of new) back) q);
       flat = λ h. p.flat (v.flat h);
     }
 
@@ -143,7 +143,7 @@ moves_end {w = w} {d = d} {d1 = d1} {all = all} {done = done} {now = now} far i 
 -- a whole list
 flattened_to : {d d1 : Bool} (k : Context) (m : ListKind) {w : Bool} {ss new : Stmts} → w ≡ wanted m → Moves w d d1 no_stmts ss new → StmtsTo k m d d1 ss new
 flattened_to {d = d} {d1 = d1} k m {ss = ss} {new = new} h p =
-    subst (λ x. StmtsTo k m d d1 x new) (joined-no_stmts ss) (subst (λ x. StmtsTo k m d d1 (joined ss no_stmts) x) (joined-no_stmts new) (p.to k m no_stmts h))
+    subst (λ x. StmtsTo k m d d1 x new) (joined-no_stmts ss) (subst (λ x. StmtsTo k m d d1 (joined ss no_stmts) x) (joined-no_stmts new) (p.to k m true no_stmts h))
 
 pub flattened : {d d1 : Bool} (m : ListKind) {w : Bool} {ss new : Stmts} → w ≡ wanted m → Flattens w d d1 no_stmts ss new → FlatList m d d1 ss new
 flattened m h p = record { to = λ k. flattened_to k m h p.moves; flat = p.flat refl }

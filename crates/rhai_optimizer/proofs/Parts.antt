@@ -80,7 +80,7 @@ turn_falls {k = k} {m = m} {a = a} {b = b} {s = s} {s' = s'} ea eb p =
 -- the passes end
 pub stmts_leave : {k : Context} {m : ListKind} {d d' f a b : Bool} {s s1 s2 : Stmts} → d' ≡ f → StmtsTo k m d f s s1 → EachRun k m a b s1 s2 → b ≡ false → StmtsRun k m d d' s s2
 stmts_leave {k = k} {m = m} {d = d} {f = f} {s = s} {s2 = s2} ef p e h =
-    let i = (stmts_kept e.to h).1 in
+    let i = (stmts_kept (e.to true) h).1 in
     record { to = subst (λ x. StmtsTo k m d x s s2) (sym ef) (subst (λ x. StmtsTo k m d f s x) i p); reduced = e.reduced h }
 
 -- whatever the flag was

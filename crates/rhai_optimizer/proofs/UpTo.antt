@@ -1,13 +1,18 @@
 -- A list that is rewritten in its own memory, an item at a time: the first n are done, the others are to come.
+<<<<<<< HEAD
 use Rattle.std.proofs.Common.{◌≡◌, ◌<◌, ◌≤◌, ℕ, ◌+◌, Bool, List, [], ◌∷◌, ◌++◌, length, get_or, set, take, drop, sym, ap, ◌∙◌, subst, arith, append_assoc, append-nil}
+=======
+use Rattle.std.proofs.Common.{◌≡◌, ◌<◌, ◌≤◌, ℕ, ◌+◌, Bool, true, false, List, [], ◌∷◌, ◌++◌, length, get_or, set, take, drop, refl, sym, ap, ◌∙◌, subst, arith, append_assoc, append-nil}
+>>>>>>> joined
 use Rattle.std.proofs.lemmas.List.{drop_more, drop_all, take_all, take_more_set, drop-set-lt, length-set}
 use Rattle.rhai_ast.specs.declared.ast.expr.Expr as declared_expr
 use Rattle.rhai_ast.specs.declared.ast.stmt.Stmt as declared_stmt
-use Rattle.rhai_ast.specs.Reading.{expr_of, exprs_of, stmt_of, stmts_of}
+use Rattle.rhai_ast.specs.Reading.{expr_of, exprs_of, stmt_of, stmts_of, StmtCase, stmt_cases, noop_case, if_case, block_case, expr_case, stmt_call_case, stmt_of-Noop, stmt_of-If, stmt_of-Block, stmt_of-Expr, stmt_of-FnCall}
 use Rattle.rhai_rewriting.specs.Context.{Context, ListKind, wanted, wanted_before}
-use Rattle.rhai_rewriting.specs.Rewriting.{exprs_none, exprs_more, same_stmts, then_stmts, in_head, in_tail}
+use Rattle.rhai_rewriting.specs.Rewriting.{exprs_none, exprs_more, same_stmts, then_stmts, in_head}
 use Rattle.rhai_rewriting.specs.Steps.{ExprRun, ExprsRun, StmtRun, EachRun}
 use Rattle.rhai_meaning.specs.Weight.{expr_weight, exprs_weight, stmt_weight, weight}
+use Rattle.rhai_rewriting.proofs.Firing.{declares, in_tail_same}
 use Rattle.rhai_rewriting.proofs.Flags.{exprs_kept, stmts_kept}
 
 -- ---- for any items
@@ -91,9 +96,20 @@ pub record StmtItems (k : Context) (m : ListKind) (d d' : Bool) (ss ss' : List d
 pub stmt_item : {k : Context} {m : ListKind} {w d d' : Bool} {rest : List declared_stmt.Stmt} {s s' : declared_stmt.Stmt} → w ≡ wanted_before (wanted m) (stmts_of rest) → StmtRun k w d d' (stmt_of s) (stmt_of s') → StmtItem k m rest d d' s s'
 stmt_item {k = k} {d = d} {d' = d'} {s = s} {s' = s'} h r = record { run = subst (λ w. StmtRun k w d d' (stmt_of s) (stmt_of s')) h r }
 
+-- the declared statements declare no name
+declares_case : {s : declared_stmt.Stmt} → StmtCase s → declares (stmt_of s) ≡ false
+declares_case (noop_case p) = ap declares (stmt_of-Noop p)
+declares_case (if_case x p) = ap declares (stmt_of-If x p)
+declares_case (block_case b) = ap declares (stmt_of-Block b)
+declares_case (expr_case e) = ap declares (stmt_of-Expr e)
+declares_case (stmt_call_case c p) = ap declares (stmt_of-FnCall c p)
+
+declares_none : (s : declared_stmt.Stmt) → declares (stmt_of s) ≡ false
+declares_none s = declares_case (stmt_cases s)
+
 pub stmts_by : (k : Context) (m : ListKind) → ByItems stmt_weighs stmts_weigh (StmtItem k m) (StmtItems k m)
 stmts_by k m = record {
-  none = record { run = record { to = same_stmts; reduced = λ h. tt } };
-  more = λ i r. record { run = record { to = then_stmts (in_head i.run.to) (in_tail r.run.to); reduced = λ h. (i.run.reduced (stmts_kept r.run.to h).0, r.run.reduced h) } };
+  none = record { run = record { to = λ u. same_stmts; reduced = λ h. tt } };
+  more = λ {x = x} {y = y} i r. record { run = record { to = λ u. then_stmts (in_head i.run.to) (in_tail_same (declares_none y) r.run.to); reduced = λ h. (i.run.reduced (stmts_kept (r.run.to true) h).0, r.run.reduced h) } };
   heavier = λ x rest. omega arith;
 }

@@ -1,12 +1,13 @@
 -- A node kept as it is where nothing is left to reduce at it, a node that a rule rewrote, and a list that was rewritten behind its front.
-use Rattle.std.proofs.Common.{◌≡◌, Bool, true, sym, subst}
-use Rattle.rhai_meaning.specs.Tree.{Expr, Stmt, Stmts, no_stmts, stmt, joined}
+use Rattle.std.proofs.Common.{◌≡◌, Bool, true, false, refl, sym, subst}
+use Rattle.rhai_meaning.specs.Tree.{Expr, Stmt, Var, Stmts, no_stmts, stmt, joined}
 use Rattle.rhai_meaning.specs.Walk.{OfExpr, OfStmt}
-use Rattle.rhai_rewriting.specs.Context.{Context, ListKind}
+use Rattle.rhai_rewriting.specs.Context.{Context, behind, ListKind}
 use Rattle.rhai_rewriting.specs.Residue.{IsReducedNode}
-use Rattle.rhai_rewriting.specs.Rewriting.{ExprTo, same_expr, by_expr_rule, StmtTo, same_stmt, by_stmt_rule, StmtsTo, in_tail}
+use Rattle.rhai_rewriting.specs.Rewriting.{ExprTo, same_expr, by_expr_rule, StmtTo, same_stmt, by_stmt_rule, RestTo, in_tail}
 use Rattle.rhai_rewriting.specs.Rules.{ExprRule, StmtRule}
 use Rattle.rhai_rewriting.specs.Steps.{ExprFired, ExprStep, StmtFired, StmtStep}
+use Rattle.rhai_rewriting.specs.SurelyUnit.{is_surely_unit}
 
 pub expr_kept_as : {k : Context} {d : Bool} {e e' : Expr} → e' ≡ e → IsReducedNode k.engine (OfExpr e) → ExprStep k d d e e'
 expr_kept_as {k = k} {d = d} {e = e} x h = subst (λ a. ExprStep k d d e a) (sym x) (record { to = same_expr; reduced = λ _ p. (h, p) })
@@ -34,7 +35,30 @@ stmt_by_rule {k = k} {w = w} {d = d} {d' = d'} {s = s} {s' = s'} x r = record {
   reduced = λ h p. let f = r.fired in absurd cc;
 }
 
--- behind statements that stay
-pub in_back : {k : Context} {m : ListKind} {d d' : Bool} (front : Stmts) {ss ss' : Stmts} → StmtsTo k m d d' ss ss' → StmtsTo k m d d' (joined front ss) (joined front ss')
+-- ---- behind statements that stay
+
+-- what is known there, and whether what stands before is surely unit
+abbrev pub behind_all : Stmts → Context → Context
+behind_all no_stmts k = k
+behind_all (stmt s front) k = behind_all front (behind s k)
+
+abbrev pub unit_behind : Stmts → Bool → Bool
+unit_behind no_stmts u = u
+unit_behind (stmt s front) u = unit_behind front (is_surely_unit s)
+
+pub in_back : (front : Stmts) {k : Context} {m : ListKind} {u d d' : Bool} {ss ss' : Stmts} → RestTo (behind_all front k) m (unit_behind front u) d d' ss ss' → RestTo k m u d d' (joined front ss) (joined front ss')
 in_back no_stmts p = p
 in_back (stmt s front) p = in_tail (in_back front p)
+
+-- ---- behind a statement that declares no name, what is rewritten whatever stands before
+
+abbrev pub declares : Stmt → Bool
+declares (Var constant exported x e) = true
+declares s = false
+
+pub behind_same : (s : Stmt) (k : Context) → declares s ≡ false → behind s k ≡ k
+behind_same (Var constant exported x e) k h = absurd (let z : true ≡ false = h in cc)
+behind_same _ k h = refl
+
+pub in_tail_same : {k : Context} {m : ListKind} {u d d' : Bool} {s : Stmt} {ss ss' : Stmts} → declares s ≡ false → ((v : Bool) → RestTo k m v d d' ss ss') → RestTo k m u d d' (stmt s ss) (stmt s ss')
+in_tail_same {k = k} {m = m} {d = d} {d' = d'} {s = s} {ss = ss} {ss' = ss'} h p = in_tail (subst (λ c. RestTo c m (is_surely_unit s) d d' ss ss') (sym (behind_same s k h)) (p (is_surely_unit s)))

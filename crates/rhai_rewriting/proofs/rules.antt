@@ -8,7 +8,10 @@ pub mod Texts
 pub mod Words
 pub mod Entries
 pub mod Chains
+pub mod Names
+pub mod Onward
 pub mod Control
+pub mod SelfAssign
 pub mod Arms
 pub mod Equality
 pub mod Switches
@@ -16,4 +19,7 @@ pub mod Tables
 pub mod Forgetting
 pub mod Expressions
 pub mod Statements
+pub mod Leaving
+pub mod Pure
+pub mod LastUnit
 pub mod Lists

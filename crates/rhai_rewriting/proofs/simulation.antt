@@ -6,3 +6,5 @@ pub mod Forms
 pub mod Lists
 pub mod Unwanted
 pub mod Laws
+pub mod Congruent
+pub mod Dropped

@@ -1,7 +1,15 @@
+pub mod Standing
 pub mod Lasting
 pub mod WellFormed
 pub mod Small
+pub mod Behind
 pub mod Derivation
 pub mod Scripts
 pub mod Theorem
 pub mod Unrefined
+pub mod Congruence
+pub mod Apart
+pub mod Capturing
+pub mod Kept
+pub mod Start
+pub mod Whole

@@ -1,8 +1,10 @@
 -- Where a tree stands: what its rewriting may rely on, and what the list is in which a statement stands.
-use Rattle.std.specs.Prelude.{Bool, true, false, List, []}
+use Rattle.std.specs.Prelude.{Bool, true, false, List, [], ◌∷◌, Option, Some, None}
+use Rattle.rhai_values.specs.Value.{Text, Value}
+use Rattle.rhai_meaning.specs.Constants.{constant_value}
 use Rattle.rhai_meaning.specs.Engine.{Engine}
-use Rattle.rhai_meaning.specs.Tree.{Stmts, no_stmts, stmt}
-use Rattle.rhai_rewriting.specs.Known.{Known}
+use Rattle.rhai_meaning.specs.Tree.{Stmt, Var, Stmts, no_stmts, stmt}
+use Rattle.rhai_rewriting.specs.Known.{Known, shadow}
 
 -- the engine's record, and the names known
 pub record Context : Type 0 where
@@ -12,6 +14,31 @@ pub record Context : Type 0 where
 -- under an engine's record, with no names known
 abbrev pub under : Engine → Context
 under engine = record { engine = engine; known = [] }
+
+-- under one more name, a constant of this value or of which nothing is known
+abbrev pub noting : Text → Option Value → Context → Context
+noting x o k = record { engine = k.engine; known = record { name = x; value = o } ∷ k.known }
+
+-- under names that are variables: any, one or none, a catch name if it is one
+abbrev pub naming : Text → Context → Context
+naming x k = noting x None k
+
+abbrev pub naming_some : Option Text → Context → Context
+naming_some None k = k
+naming_some (Some x) k = naming x k
+
+abbrev pub naming_catch : Option (Option Text) → Context → Context
+naming_catch None k = k
+naming_catch (Some x) k = naming_some x k
+
+-- what is known behind a statement of a list: a constant with a constant expression has its value
+abbrev pub known_behind : Stmt → List Known → List Known
+known_behind (Var true exported x e) ks = record { name = x; value = constant_value e } ∷ ks
+known_behind (Var false exported x e) ks = shadow x ks
+known_behind s ks = ks
+
+abbrev pub behind : Stmt → Context → Context
+behind s k = record { engine = k.engine; known = known_behind s k.known }
 
 -- what a list is: a script's or a function's, or one inside, whose value is wanted or not
 pub data ListKind : Type 0 where

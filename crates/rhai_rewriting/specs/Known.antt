@@ -13,8 +13,17 @@ abbrev pub look : List Known → Text → Option Value
 look [] x = None
 look (k ∷ ks) x = cond (same_text k.name x) k.value (look ks x)
 
+abbrev pub unless_known : Option Value → Text → List Text → List Text
+unless_known None x xs = x ∷ xs
+unless_known (Some v) x xs = xs
+
 abbrev pub shadow : Text → List Known → List Known
 shadow x ks = record { name = x; value = None } ∷ ks
+
+-- the names of which nothing is known
+abbrev pub unknown : List Known → List Text → List Text
+unknown ks [] = []
+unknown ks (x ∷ xs) = unless_known (look ks x) x (unknown ks xs)
 
 abbrev pub shadow_all : List Text → List Known → List Known
 shadow_all [] ks = ks

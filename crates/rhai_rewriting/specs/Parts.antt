@@ -1,7 +1,7 @@
--- The constant that a rule leaves, and the callees of the language's own functions.
-use Rattle.std.specs.Prelude.{Bool, []}
+-- The constant that a rule leaves, the callees of the language's own functions, and the nodes of chains.
+use Rattle.std.specs.Prelude.{Bool, true, false, []}
 use Rattle.rhai_values.specs.Value.{Text, Value, UnitV, BoolV, IntV, CharV, TextV}
-use Rattle.rhai_meaning.specs.Tree.{Callee, NoToken, Expr, DynamicConstant, BoolConstant, IntegerConstant, CharConstant, StringConstant, UnitConstant}
+use Rattle.rhai_meaning.specs.Tree.{ChainFlags, Callee, NoToken, Expr, DynamicConstant, BoolConstant, IntegerConstant, CharConstant, StringConstant, UnitConstant, Dot, Index}
 
 -- the constant of a value; a pointer is one too
 abbrev pub constant_of : Value → Expr
@@ -15,3 +15,8 @@ constant_of v = DynamicConstant v
 -- a callee by a name alone; captures: it sees the caller's names
 abbrev pub named : Text → Bool → Callee
 named f captures = record { namespace = []; name = f; captures = captures; token = NoToken }
+
+-- a `Dot` (dot) or an `Index`
+abbrev pub link : (dot : Bool) → ChainFlags → Expr → Expr → Expr
+link true f l r = Dot f l r
+link false f l r = Index f l r

@@ -6,6 +6,7 @@ use Rattle.rhai_meaning.specs.Engine.{Engine}
 use Rattle.rhai_meaning.specs.Relations.{Begins, calls_of}
 use Rattle.rhai_meaning.specs.Run.{EntryPoint, run_script}
 use Rattle.rhai_meaning.specs.Tree.{Script}
+use Rattle.rhai_rewriting.specs.Known.{Known, Agrees}
 
 -- A run by its number of turns: with some number of turns it ends in this outcome and this store.
 -- The store holds the scope, `this` and the host calls in order.
@@ -28,3 +29,7 @@ pub record RunRefines (r r' : ℕ → Result) : Type 0 where
 -- The script p' refines p under an engine's record: for every host, start scope and entrance, and for every number of turns.
 pub record Refines (engine : Engine) (p p' : Script) : Type 0 where
   pub runs : (host : Host) (scope : List ScopeEntry) (e : EntryPoint) → RunRefines (run_script engine host (core_script p) e scope) (run_script engine host (core_script p') e scope)
+
+-- So it does where the start scope agrees with what was known.
+pub record RefinesWhere (engine : Engine) (known : List Known) (p p' : Script) : Type 0 where
+  pub runs : (host : Host) (scope : List ScopeEntry) (e : EntryPoint) → Agrees engine.constants known scope → RunRefines (run_script engine host (core_script p) e scope) (run_script engine host (core_script p') e scope)

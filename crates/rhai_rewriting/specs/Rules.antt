@@ -1,23 +1,27 @@
 -- The rewrite rules, one constructor each: what may stand for what. Each family is flat; `Rewriting` closes over them.
-use Rattle.std.specs.Prelude.{◌≡◌, ◌<◌, ℕ, ℤ, Bool, true, false, ◌&&◌, List, [], ◌∷◌, ◌++◌, Some, codes}
+use Rattle.std.specs.Prelude.{◌≡◌, ◌<◌, ℕ, ℤ, Bool, true, false, ◌&&◌, List, [], ◌∷◌, ◌++◌, length, Some, None, codes}
 use Rattle.rhai_values.specs.Value.{Text, Value, UnitV, IntV, TextV, ArrayV, MapV, PointerV, Values, Fields, values, items}
+use Rattle.rhai_base.specs.Operators.{Operator}
 use Rattle.rhai_parts.specs.Names.{is_valid_name}
-use Rattle.rhai_meaning.specs.Constants.{constant_value, constant_values, constant_entries, constant_bool, constant_for, is_literal_unit}
+use Rattle.rhai_meaning.specs.Constants.{constant_value, constant_values, constant_entries, constant_bool, constant_for, is_literal_unit, pointer_call}
 use Rattle.rhai_meaning.specs.Control.{texts_joined}
 use Rattle.rhai_meaning.specs.Control.{chosen as cases_for}
 use Rattle.rhai_meaning.specs.Elements.{index_in, entry, fields_of}
-use Rattle.rhai_meaning.specs.Engine.{mapped_type_name}
+use Rattle.rhai_meaning.specs.Engine.{mapped_type_name, assigning}
 use Rattle.rhai_meaning.specs.Faults.{has_operands}
-use Rattle.rhai_meaning.specs.Queries.{is_block_dependent, is_any_dependent, are_pure_exprs, are_pure_pairs, are_pure}
+use Rattle.rhai_meaning.specs.Queries.{is_block_dependent, is_any_dependent, are_pure_exprs, are_pure_pairs, is_pure, is_internally_pure, are_internally_pure, is_control_flow_break, is_noop}
 use Rattle.rhai_meaning.specs.Shape.{is_unit, is_table, names_arm}
 use Rattle.rhai_meaning.specs.Walk.{listed}
 use Rattle.rhai_meaning.specs.Weight.{table_weight}
-use Rattle.rhai_meaning.specs.Tree.{SwitchCase, SwitchRange, SwitchTable, Arms, ChainFlags, PropertyNames, Callee, Expr, DynamicConstant, BoolConstant, StringConstant, UnitConstant, InterpolatedString, ArrayOf, MapOf, Property, MethodCall, BlockExpr, FnCall, Dot, Index, And, Or, Coalesce, Exprs, no_exprs, expr, count_exprs, Pairs, Stmt, Noop, If, Switch, While, Block, TryCatch, ExprStmt, FnCallStmt, Stmts, no_stmts, stmt, joined}
-use Rattle.rhai_rewriting.specs.Context.{Context, ListKind, wanted}
+use Rattle.rhai_meaning.specs.Tree.{SwitchCase, SwitchRange, SwitchTable, Arms, OfOperator, ChainFlags, PropertyNames, Callee, Expr, DynamicConstant, BoolConstant, StringConstant, UnitConstant, InterpolatedString, ArrayOf, MapOf, Variable, Property, MethodCall, BlockExpr, FnCall, Dot, Index, And, Or, Coalesce, Exprs, no_exprs, expr, count_exprs, Pairs, Stmt, Noop, If, Switch, While, Assignment, Block, TryCatch, ExprStmt, FnCallStmt, Share, Return, no_expr, an_expr, Stmts, no_stmts, stmt, joined}
+use Rattle.rhai_rewriting.specs.Context.{Context, ListKind, Whole, Inside, wanted, wanted_before}
+use Rattle.rhai_rewriting.specs.Known.{look, unknown}
 use Rattle.rhai_rewriting.specs.Folding.{folded}
 use Rattle.rhai_rewriting.specs.Operands.{OperandsTo, CoalesceTo, TextTo}
 use Rattle.rhai_rewriting.specs.Indexing.{indexed, expr_at, pair_for, or_unit}
-use Rattle.rhai_rewriting.specs.Parts.{constant_of, named}
+use Rattle.rhai_rewriting.specs.Parts.{constant_of, named, link}
+use Rattle.rhai_rewriting.specs.SelfAssign.{leaves_names, overrides_any}
+use Rattle.rhai_rewriting.specs.SurelyUnit.{is_surely_unit}
 use Rattle.rhai_rewriting.specs.Tables.{forgotten, CasesTo, RangesTo, are_of, arm_of, left_arms, default_answer, default_stmt, default_branch}
 
 -- ---- what stands for what
@@ -42,6 +46,11 @@ spliced b (stmt s ss) back = joined (stmt s ss) back
 spliced b no_stmts (stmt s back) = stmt s back
 spliced true no_stmts no_stmts = stmt Noop no_stmts
 spliced false no_stmts no_stmts = no_stmts
+
+-- a list inside takes away the names that it adds
+abbrev pub is_pure_in : ListKind → Stmt → Bool
+is_pure_in Whole s = is_pure s
+is_pure_in (Inside b) s = is_internally_pure s
 
 -- ---- the rules
 
@@ -88,6 +97,17 @@ pub data ExprRule (k : Context) : Expr → Expr → Type 0 where
   -- `type_of` and `is_shared` of a constant as methods; past a `?` a unit is left
   type_of_method : {f : ChainFlags} {captures : Bool} {e : Expr} (v : Value) → constant_value e ≡ Some v → (f.negated && is_unit v) ≡ false → ExprRule k (Dot f e (MethodCall (named (codes "type_of") captures) no_exprs)) (StringConstant (mapped_type_name k.engine v))
   is_shared_method : {f : ChainFlags} {captures : Bool} {e : Expr} (v : Value) → constant_value e ≡ Some v → (f.negated && is_unit v) ≡ false → ExprRule k (Dot f e (MethodCall (named (codes "is_shared") captures) no_exprs)) (BoolConstant false)
+  -- the first step of a longer chain, over a constant: the chain goes on from its answer
+  property_of_constant_first : {f : ChainFlags} {e : Expr} (dot : Bool) (m : ChainFlags) (p : PropertyNames) (r : Expr) (fs : Fields) → f.breaks ≡ false → constant_value e ≡ Some (MapV fs) → ExprRule k (Dot f e (link dot m (Property p) r)) (link dot m (constant_of (entry fs p.name)) r)
+  index_of_constant_first : {f : ChainFlags} {e : Expr} (dot : Bool) (m : ChainFlags) (i r : Expr) (v j u : Value) → f.breaks ≡ false → constant_value e ≡ Some v → constant_value i ≡ Some j → indexed v j ≡ Some u → ExprRule k (Index f e (link dot m i r)) (link dot m (constant_of u) r)
+  type_of_method_first : {f : ChainFlags} {e : Expr} (dot captures : Bool) (m : ChainFlags) (r : Expr) (v : Value) → f.breaks ≡ false → constant_value e ≡ Some v → (f.negated && is_unit v) ≡ false → ExprRule k (Dot f e (link dot m (MethodCall (named (codes "type_of") captures) no_exprs) r)) (link dot m (StringConstant (mapped_type_name k.engine v)) r)
+  is_shared_method_first : {f : ChainFlags} {e : Expr} (dot captures : Bool) (m : ChainFlags) (r : Expr) (v : Value) → f.breaks ≡ false → constant_value e ≡ Some v → (f.negated && is_unit v) ≡ false → ExprRule k (Dot f e (link dot m (MethodCall (named (codes "is_shared") captures) no_exprs) r)) (link dot m (BoolConstant false) r)
+  -- a name that is known as a constant is its value; of a constant map a part
+  known_name : {x : Text} (v : Value) → look k.known x ≡ Some v → ExprRule k (Variable [] x) (constant_of v)
+  -- a pointer without values may be the call that makes it
+  known_pointer : {x : Text} (f : Text) → look k.known x ≡ Some (PointerV f (values [])) → is_valid_name f ≡ true → ExprRule k (Variable [] x) (pointer_call f)
+  known_property : {f : ChainFlags} {x : Text} {p : PropertyNames} (fs : Fields) → look k.known x ≡ Some (MapV fs) → ExprRule k (Dot f (Variable [] x) (Property p)) (constant_of (entry fs p.name))
+  known_entry : {f : ChainFlags} {x : Text} {i : Expr} (fs : Fields) (y : Text) → look k.known x ≡ Some (MapV fs) → constant_value i ≡ Some (TextV y) → ExprRule k (Index f (Variable [] x) i) (constant_of (entry fs y))
 
 -- of statements; w: whether the statement's value is wanted
 pub data StmtRule (k : Context) (w : Bool) : Stmt → Stmt → Type 0 where
@@ -118,10 +138,31 @@ pub data StmtRule (k : Context) (w : Bool) : Stmt → Stmt → Type 0 where
   switch_shrinks : {e : Expr} {as' : Arms} {t : SwitchTable} {cs : List SwitchCase} {qs : List SwitchRange} → CasesTo as' qs t.cases cs → RangesTo as' t.ranges qs → (is_table as' t ≡ true → is_table as' (record { cases = cs; ranges = qs; default = t.default }) ≡ true) → table_weight (record { cases = cs; ranges = qs; default = t.default }) < table_weight t → StmtRule k w (Switch e as' t) (Switch e as' (record { cases = cs; ranges = qs; default = t.default }))
   -- the answer of an arm that no list names is unit
   switch_forgets : {e : Expr} {as' : Arms} {t : SwitchTable} {c a : Expr} (j : ℕ) → arm_of as' j ≡ Some (c, a) → is_literal_unit a ≡ false → names_arm j (listed t) ≡ false → StmtRule k w (Switch e as' t) (Switch e (forgotten as' j) t)
-  -- a `try` over a pure body does nothing
-  pure_try : {x : Expr} {body branch : Stmts} → are_pure body ≡ true → StmtRule k w (TryCatch x body branch) Noop
+  -- a `try` over a body that is pure inside does nothing
+  pure_try : {x : Expr} {body branch : Stmts} → are_internally_pure body ≡ true → StmtRule k w (TryCatch x body branch) Noop
+  -- an `if` alone in an `if`, both without an `else`
+  nested_if : {a b : Expr} {ss : Stmts} → StmtRule k w (If a (stmt (If b ss no_stmts) no_stmts) no_stmts) (If (And (expr a (expr b no_exprs))) ss no_stmts)
+  -- `x = x op e` is `x op= e`, where e writes nothing and no `op=` is overridden
+  self_assign : {op : Operator} {f : Callee} {x : Text} {e : Expr} → f.token ≡ OfOperator op → leaves_names e ≡ true → overrides_any k.engine.overrides (assigning op) ≡ false → StmtRule k w (Assignment None (Variable [] x) (FnCall f (expr (Variable [] x) (expr e no_exprs)))) (Assignment (Some op) (Variable [] x) e)
+  -- of shared names those that are known go; of none nothing is left
+  share_known : {xs : List Text} → length (unknown k.known xs) < length xs → StmtRule k w (Share xs) (Share (unknown k.known xs))
+  share_nothing : StmtRule k w (Share []) Noop
 
--- of lists, at their first statement
-pub data ListRule (k : Context) (m : ListKind) : Stmts → Stmts → Type 0 where
+-- of lists, at their first statement; the test is whether what stands before is surely unit, or nothing
+pub data ListRule (k : Context) : ListKind → Bool → Stmts → Stmts → Type 0 where
   -- a block in a list, none of whose statements belongs to it, gives way to its statements
-  block_gives_way : {ss back : Stmts} → is_any_dependent ss ≡ false → ListRule k m (stmt (Block ss) back) (spliced (wanted m) ss back)
+  block_gives_way : {m : ListKind} {u : Bool} {ss back : Stmts} → is_any_dependent ss ≡ false → ListRule k m u (stmt (Block ss) back) (spliced (wanted m) ss back)
+  -- statements after one that leaves the list go
+  after_leave : {m : ListKind} {u : Bool} {s t : Stmt} {ss : Stmts} → is_control_flow_break s ≡ true → ListRule k m u (stmt s (stmt t ss)) (stmt s no_stmts)
+  -- a pure statement goes where its value is not wanted, and so does a name alone
+  pure_goes : {m : ListKind} {u : Bool} {s : Stmt} {ss : Stmts} → wanted_before (wanted m) ss ≡ false → is_pure s ≡ true → ListRule k m u (stmt s ss) ss
+  lone_goes : {m : ListKind} {u : Bool} {ns : List Text} {x : Text} {ss : Stmts} → wanted_before (wanted m) ss ≡ false → ListRule k m u (stmt (ExprStmt (Variable ns x)) ss) ss
+  -- inside a declaration does too, where nothing that follows reads a name
+  pure_inside_goes : {b u : Bool} {s : Stmt} {ss : Stmts} → wanted_before b ss ≡ false → is_internally_pure s ≡ true → are_internally_pure ss ≡ true → ListRule k (Inside b) u (stmt s ss) ss
+  -- a last `return e` of a script or a function is `e`; a last `return;` goes behind unit, and else does nothing
+  last_return : {u : Bool} {e : Expr} → ListRule k Whole u (stmt (Return false (an_expr e)) no_stmts) (stmt (ExprStmt e) no_stmts)
+  last_return_goes : ListRule k Whole true (stmt (Return false no_expr) no_stmts) no_stmts
+  last_return_noop : {u : Bool} → ListRule k Whole u (stmt (Return false no_expr) no_stmts) (stmt Noop no_stmts)
+  -- a last statement that is pure and surely unit goes behind unit, and else does nothing
+  last_unit_goes : {m : ListKind} {s : Stmt} → is_pure_in m s ≡ true → is_surely_unit s ≡ true → ListRule k m true (stmt s no_stmts) no_stmts
+  last_unit_noop : {m : ListKind} {u : Bool} {s : Stmt} → is_pure_in m s ≡ true → is_surely_unit s ≡ true → is_noop s ≡ false → ListRule k m u (stmt s no_stmts) (stmt Noop no_stmts)

@@ -4,7 +4,7 @@ use Rattle.std.specs.Prelude.{◌≡◌, Bool, true, false}
 use Rattle.rhai_meaning.specs.Tree.{Expr, Exprs, Stmt, Stmts, joined}
 use Rattle.rhai_rewriting.specs.Residue.{IsReducedExpr, AreReducedExprs, IsReduced, AreReduced, ExprParts, StmtParts}
 use Rattle.rhai_rewriting.specs.Context.{Context, ListKind, wanted, wanted_before}
-use Rattle.rhai_rewriting.specs.Rewriting.{ExprTo, ExprsTo, StmtTo, StmtsTo}
+use Rattle.rhai_rewriting.specs.Rewriting.{ExprTo, ExprsTo, StmtTo, RestTo, StmtsTo}
 use Rattle.rhai_rewriting.specs.Rules.{ExprRule, StmtRule}
 
 -- ---- a tree with its parts
@@ -21,9 +21,9 @@ pub record StmtRun (k : Context) (w d d' : Bool) (s s' : Stmt) : Type 0 where
   pub to : StmtTo k w d d' s s'
   pub reduced : d' ≡ false → IsReduced k.engine s'
 
--- each statement of a list once
+-- each statement of a list once, whatever stands before it
 pub record EachRun (k : Context) (m : ListKind) (d d' : Bool) (ss ss' : Stmts) : Type 0 where
-  pub to : StmtsTo k m d d' ss ss'
+  pub to : (u : Bool) → RestTo k m u d d' ss ss'
   pub reduced : d' ≡ false → AreReduced k.engine ss'
 
 -- a list is passed until nothing changes, whatever the flag was before
@@ -55,4 +55,4 @@ pub record StmtFired (k : Context) (w d' : Bool) (s s' : Stmt) : Type 0 where
 
 -- statements moved behind those that are done, in which blocks gave way; w: whether the last one's value is wanted
 pub record Moves (w d d' : Bool) (done moved done' : Stmts) : Type 0 where
-  pub to : (k : Context) (m : ListKind) (back : Stmts) → w ≡ wanted_before (wanted m) back → StmtsTo k m d d' (joined done (joined moved back)) (joined done' back)
+  pub to : (k : Context) (m : ListKind) (u : Bool) (back : Stmts) → w ≡ wanted_before (wanted m) back → RestTo k m u d d' (joined done (joined moved back)) (joined done' back)

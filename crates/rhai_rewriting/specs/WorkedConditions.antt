@@ -1,18 +1,18 @@
 -- For each condition of a rule two scripts that the rule without it would take for one, and what each does.
 use Rattle.std.specs.Prelude.{◌≡◌, true, false, List, [], ◌∷◌, Some, codes, refl, ℕ, pos, None}
-use Rattle.rhai_values.specs.Value.{UnitV, BoolV, TextV}
+use Rattle.rhai_values.specs.Value.{UnitV, BoolV, TextV, ArrayV, values}
 use Rattle.rhai_meaning.specs.Act.{WrongKind}
 use Rattle.rhai_meaning.specs.Faults.{NoOperands, fault_of}
 use Rattle.rhai_meaning.specs.Run.{Report, WithValue, WithThrown, WithStuck, WithoutTurns}
-use Rattle.rhai_meaning.specs.Tree.{Expr, BoolConstant, StringConstant, UnitConstant, ArrayOf, BlockExpr, FnCall, Dot, Index, MethodCall, And, Coalesce, Stmt, Noop, While, TryCatch, ExprStmt, Return, an_expr, exprs, stmts, SwitchRange, SwitchTable, ExclusiveInt, Switch, arms}
+use Rattle.rhai_meaning.specs.Tree.{Expr, BoolConstant, StringConstant, UnitConstant, ArrayOf, BlockExpr, FnCall, Dot, Index, MethodCall, And, Coalesce, Stmt, Noop, While, TryCatch, ExprStmt, Return, an_expr, exprs, stmts, SwitchRange, SwitchTable, ExclusiveInt, Switch, arms, DynamicConstant}
 use Rattle.rhai_meaning.specs.Walk.{OfExpr, outermost}
 use Rattle.rhai_meaning.specs.WorkedForms.{int, call, nothing_set, joining, ran, ends, i}
 use Rattle.rhai_rewriting.specs.Parts.{named}
-use Rattle.rhai_rewriting.specs.WorkedNodes.{safe, index}
+use Rattle.rhai_rewriting.specs.WorkedNodes.{safe, index, dot}
 use Rattle.rhai_rewriting.specs.WorkedRewrites.{f, asks_f}
 
 -- what the two do
-abbrev Differ : List Stmt → Report → List Stmt → Report → Type 0
+abbrev pub Differ : List Stmt → Report → List Stmt → Report → Type 0
 Differ a r b q = (ran nothing_set joining a ≡ r) × (ran nothing_set joining b ≡ q)
 
 abbrev shown : Expr → List Stmt
@@ -55,6 +55,16 @@ unit_decides_nothing = (refl, refl)
 type_of_past_unit : Differ (shown (Dot safe UnitConstant (MethodCall (named (codes "type_of") false) (exprs [])))) (ends (WithValue UnitV) []) (shown (StringConstant (codes "()"))) (ends (WithValue (TextV (codes "()"))) [])
 unfolding ran
 type_of_past_unit = (refl, refl)
+
+-- nor where the chain goes on: ()?.type_of().is_shared() is unit
+type_of_first_past_unit : Differ (shown (Dot safe UnitConstant (Dot dot (MethodCall (named (codes "type_of") false) (exprs [])) (MethodCall (named (codes "is_shared") false) (exprs []))))) (ends (WithValue UnitV) []) (shown (Dot dot (StringConstant (codes "()")) (MethodCall (named (codes "is_shared") false) (exprs [])))) (ends (WithValue (BoolV false)) [])
+unfolding ran
+type_of_first_past_unit = (refl, refl)
+
+-- an index that ends its chain is a whole expression, and no first step: [7, 8][1[0]] asks the host, and 8[0] is false
+index_is_whole : Differ (shown (Index index (DynamicConstant (ArrayV (values (i 7 ∷ i 8 ∷ [])))) (Index index (int 1) (int 0)))) (ends (WithValue UnitV) (record { name = codes "index$get$"; receiver = Some (ArrayV (values (i 7 ∷ i 8 ∷ []))); arguments = BoolV true ∷ [] } ∷ [])) (shown (Index index (int 8) (int 0))) (ends (WithValue (BoolV false)) [])
+unfolding ran
+index_is_whole = (refl, refl)
 
 -- the other parts of a literal are pure: [f(), 1][1], and 1
 other_parts_call : Differ (shown (Index index (ArrayOf (exprs (ask ∷ int 1 ∷ []))) (int 1))) (ends (WithValue (i 1)) asks_f) (shown (int 1)) (ends (WithValue (i 1)) [])

@@ -3,17 +3,18 @@
 use Rattle.std.specs.Prelude.{◌≡◌, true, false, ℕ, List, [], ◌∷◌, Option, Some, None, pos, codes, refl}
 use Prim.Native.String.{String}
 use native.Mathlib.Bridge.{le_by_compare, IsLe}
-use Rattle.rhai_values.specs.Value.{Value, UnitV, BoolV, TextV, ArrayV, MapV, PointerV, values, field, no_fields, text_of}
+use Rattle.rhai_values.specs.Value.{Value, UnitV, BoolV, TextV, ArrayV, MapV, PointerV, values, field, no_fields, text_of, CharV}
+use Rattle.rhai_meaning.specs.Elements.{character}
 use Rattle.rhai_meaning.specs.Act.{HostCall, WrongKind}
 use Rattle.rhai_meaning.specs.Control.{texts_joined}
 use Rattle.rhai_meaning.specs.Run.{WithValue, WithStuck}
-use Rattle.rhai_meaning.specs.Tree.{SwitchCase, SwitchTable, ChainFlags, Expr, DynamicConstant, BoolConstant, StringConstant, UnitConstant, InterpolatedString, ArrayOf, MapOf, Property, MethodCall, FnCall, Dot, Index, And, Or, Coalesce, Noop, While, TryCatch, ExprStmt, BreakLoop, no_expr, exprs, pairs, arms, stmts, BlockExpr, If, Switch, Block}
+use Rattle.rhai_meaning.specs.Tree.{SwitchCase, SwitchTable, ChainFlags, Expr, DynamicConstant, BoolConstant, StringConstant, UnitConstant, InterpolatedString, ArrayOf, MapOf, Property, MethodCall, FnCall, Dot, Index, And, Or, Coalesce, Noop, While, TryCatch, ExprStmt, BreakLoop, no_expr, exprs, pairs, arms, stmts, BlockExpr, If, Switch, Block, Var}
 use Rattle.rhai_meaning.specs.WorkedForms.{int, call, nothing_set, joining, ran, ran_with, ends, i}
 use Rattle.rhai_rewriting.specs.Context.{under}
 use Rattle.rhai_rewriting.specs.Operands.{passing_goes, after_deciding_go, pure_before_deciding_goes, in_other_operands, unit_goes, after_some_go, texts_join, empty_goes, in_other_parts}
 use Rattle.rhai_rewriting.specs.Parts.{named}
 use Rattle.rhai_rewriting.specs.Rewriting.{by_expr_rule, by_stmt_rule, in_expression, in_head}
-use Rattle.rhai_rewriting.specs.Rules.{StmtRule, and_changes, or_changes, coalesce_changes, and_of_one, or_of_one, coalesce_of_one, text_changes, text_folds, map_of_constants, type_of_folds, is_shared_folds, fn_folds, curry_folds, unit_ends_dot, unit_ends_index, property_of_constant, index_of_constant, element_of_array, property_of_map, entry_of_map, type_of_method, is_shared_method, while_false, while_true, pure_try, switch_answers, switch_is_if, switch_defaults, switch_narrows, switch_shrinks, switch_forgets, and_of_none, or_of_none, coalesce_of_none}
+use Rattle.rhai_rewriting.specs.Rules.{StmtRule, and_changes, or_changes, coalesce_changes, and_of_one, or_of_one, coalesce_of_one, text_changes, text_folds, map_of_constants, type_of_folds, is_shared_folds, fn_folds, curry_folds, unit_ends_dot, unit_ends_index, property_of_constant, index_of_constant, element_of_array, property_of_map, entry_of_map, type_of_method, is_shared_method, while_false, while_true, pure_try, switch_answers, switch_is_if, switch_defaults, switch_narrows, switch_shrinks, switch_forgets, and_of_none, or_of_none, coalesce_of_none, property_of_constant_first, index_of_constant_first, type_of_method_first, is_shared_method_first}
 use Rattle.rhai_rewriting.specs.Tables.{no_ranges, no_cases, case_shrinks, empty_case_goes}
 use Rattle.rhai_rewriting.specs.WorkedRewrites.{Row, f, asks_f}
 
@@ -190,6 +191,25 @@ is_shared_method_row : ExprRow (Dot dot UnitConstant (MethodCall (named (codes "
 unfolding ran
 is_shared_method_row = (in_head (in_expression (by_expr_rule (is_shared_method UnitV refl refl))), refl, refl)
 
+-- #{a: "xy"}.a[0]: the chain goes on from "xy"
+property_first_row : ExprRow (Dot dot (DynamicConstant (MapV (field (codes "a") (TextV (codes "xy")) no_fields))) (Index index (property "a") (int 0))) (Index index (text "xy") (int 0)) (CharV 120) []
+unfolding ran character
+property_first_row = (in_head (in_expression (by_expr_rule (property_of_constant_first false index (record { getter = codes "get"; setter = codes "set"; name = codes "a" }) (int 0) (field (codes "a") (TextV (codes "xy")) no_fields) refl refl))), refl, refl)
+
+-- [5][0].is_shared()
+index_first_row : ExprRow (Index dot (DynamicConstant (ArrayV (values (i 5 ∷ [])))) (Dot dot (int 0) (MethodCall (named (codes "is_shared") false) (exprs [])))) (Dot dot (int 5) (MethodCall (named (codes "is_shared") false) (exprs []))) (BoolV false) []
+unfolding ran
+index_first_row = (in_head (in_expression (by_expr_rule (index_of_constant_first true dot (int 0) (MethodCall (named (codes "is_shared") false) (exprs [])) (ArrayV (values (i 5 ∷ []))) (i 0) (i 5) refl refl refl refl))), refl, refl)
+
+-- 1.type_of().is_shared(), 1.is_shared().type_of()
+type_of_first_row : ExprRow (Dot dot (int 1) (Dot dot (MethodCall (named (codes "type_of") false) (exprs [])) (MethodCall (named (codes "is_shared") false) (exprs [])))) (Dot dot (text "i64") (MethodCall (named (codes "is_shared") false) (exprs []))) (BoolV false) []
+unfolding ran
+type_of_first_row = (in_head (in_expression (by_expr_rule (type_of_method_first true false dot (MethodCall (named (codes "is_shared") false) (exprs [])) (i 1) refl refl refl))), refl, refl)
+
+is_shared_first_row : ExprRow (Dot dot (int 1) (Dot dot (MethodCall (named (codes "is_shared") false) (exprs [])) (MethodCall (named (codes "type_of") false) (exprs [])))) (Dot dot n (MethodCall (named (codes "type_of") false) (exprs []))) (TextV (codes "bool")) []
+unfolding ran
+is_shared_first_row = (in_head (in_expression (by_expr_rule (is_shared_method_first true false dot (MethodCall (named (codes "type_of") false) (exprs [])) (i 1) refl refl refl))), refl, refl)
+
 -- ---- loops and `try`
 
 -- while false { f() }
@@ -209,6 +229,11 @@ while_true_runs = (refl, refl)
 pure_try_row : Row (TryCatch UnitConstant (stmts (ExprStmt (int 1) ∷ [])) (stmts (f ∷ [])) ∷ []) (Noop ∷ []) (ends (WithValue UnitV) [])
 unfolding ran
 pure_try_row = (in_head (by_stmt_rule (pure_try refl)), refl, refl)
+
+-- try { const a = 1; } catch { f() }: the body's names are its own
+inner_try_row : Row (TryCatch UnitConstant (stmts (Var true false (codes "a") (int 1) ∷ [])) (stmts (f ∷ [])) ∷ []) (Noop ∷ []) (ends (WithValue UnitV) [])
+unfolding ran
+inner_try_row = (in_head (by_stmt_rule (pure_try refl)), refl, refl)
 
 -- ---- `switch`
 

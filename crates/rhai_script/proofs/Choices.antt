@@ -1,7 +1,22 @@
 -- What a filter chooses of a list, item by item; tables of functions that were chosen.
-use Rattle.std.proofs.Common.{◌≡◌, suc, Bool, true, false, List, [], ◌∷◌, ◌++◌, refl, sym, ap, subst, ◌∙◌, append_assoc}
+use Rattle.std.proofs.Common.{◌≡◌, suc, Bool, true, false, List, [], ◌∷◌, ◌++◌, map, refl, sym, ap, subst, ◌∙◌, append_assoc}
 use Rattle.std.proofs.lemmas.List.{append-nil}
 use Rattle.std.specs.List.Retain.{IsFiltered}
+use Rattle.rhai_ast.specs.Reading.{function_of}
+use Rattle.rhai_ast.specs.declared.ast.script_fn.ScriptFuncDef.{ScriptFuncDef}
+use Rattle.rhai_functions.specs.FnKey.{definition_key, definitions_table}
+use Rattle.rhai_functions.specs.Table.{key_of, are_distinct}
+use Rattle.rhai_functions.proofs.Laws.{own_table, are_distinct-chosen}
+
+map_twice : (fs : List ScriptFuncDef) → map key_of (map function_of fs) ≡ map definition_key fs
+map_twice [] = refl
+map_twice (f ∷ fs) = ap (λ ks. definition_key f ∷ ks) (map_twice fs)
+
+-- what is chosen of a table is a table
+pub table-chosen : {P : Type 0} (R : P → ScriptFuncDef → Bool → P → Type 0) (p : P) (fs chosen : List ScriptFuncDef) → IsFiltered R p fs chosen → are_distinct (map key_of (map function_of fs)) ≡ true → definitions_table chosen ≡ chosen
+table-chosen R p fs chosen h distinct =
+    own_table definition_key chosen
+    (ap (λ gs. are_distinct (map definition_key gs)) h.4 ∙ are_distinct-chosen definition_key h.0 fs (sym (ap are_distinct (map_twice fs)) ∙ distinct))
 
 -- what was chosen of those before, and what is chosen of those that are left, is chosen of all
 pub record Chooses {X P : Type 0} (R : P → X → Bool → P → Type 0) (p : P) (all left before : List X) : Type 0 where

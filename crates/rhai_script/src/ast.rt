@@ -7,7 +7,6 @@ ghost use Rattle.rhai_ast.specs.Reading.{stmts_of};
 ghost use Rattle.rhai_ast.specs.declared.ast.script_fn.ScriptFuncDef.{ScriptFuncDef as definition};
 ghost use Rattle.rhai_script.specs.Contents.{contents, with_source, without_source, with_doc, with_table, with_functions, without_statements, merged, combined};
 ghost use Rattle.rhai_script.specs.Filter.{Answers, AnswersShort};
-ghost use Rattle.rhai_functions.specs.FnKey.{definitions_table};
 
 use crate::filter::{FnNamespace, all, chosen, kept};
 use crate::text::Doc;
@@ -220,7 +219,7 @@ impl AST {
         filter: F,
     ) -> Result<AST, OutOfMemory>
         requires { F.IsAlwaysCallable filter }
-        ensures { IfOk result (λ s. (chosen : List definition) × IsFiltered (Answers F.Fn) filter self.now.lib.value.functions chosen × (contents s ≡ without_statements (with_table (definitions_table chosen) (contents self.now)))) }
+        ensures { IfOk result (λ s. (chosen : List definition) × IsFiltered (Answers F.Fn) filter self.now.lib.value.functions chosen × (contents s ≡ without_statements (with_table chosen (contents self.now)))) }
     {
         let chosen = chosen(&self.lib, &filter)?;
         self.only(FnLib::from_functions(allocator_of(&self.lib), chosen)?)
@@ -325,7 +324,7 @@ impl AST {
         filter: F,
     ) -> Result<(), OutOfMemory>
         requires { F.IsAlwaysCallable filter }
-        ensures ok { OnOk result ((kept : List definition) × IsFiltered (AnswersShort F.Fn) filter self.old.lib.value.functions kept × (contents self.new ≡ with_functions (definitions_table kept) (contents self.old))) }
+        ensures ok { OnOk result ((kept : List definition) × IsFiltered (AnswersShort F.Fn) filter self.old.lib.value.functions kept × (contents self.new ≡ with_functions kept (contents self.old))) }
         ensures err { OnErr result (contents self.new ≡ contents self.old) }
     {
         let kept = kept(&self.lib, &filter)?;

@@ -2,6 +2,7 @@
 ghost use Rattle.std.specs.Prelude.{◌≡◌, map, IfOk};
 ghost use Rattle.std.specs.List.Retain.{IsFiltered};
 ghost use Rattle.std.specs.Rc.{rc_value};
+ghost use Rattle.rhai_functions.specs.FnKey.{definitions_table};
 ghost use Rattle.rhai_script.specs.Filter.{Answers, AnswersShort};
 
 use rhai_ast::{FnAccess, ScriptFuncDef};
@@ -61,7 +62,8 @@ pub fn chosen<F: Fn(FnNamespace, FnAccess, bool, &str, usize) -> bool>(
     filter: &F,
 ) -> Result<Vec<Rc<ScriptFuncDef>>, OutOfMemory>
     requires { F.IsAlwaysCallable filter.now }
-    ensures { IfOk result (λ chosen. IsFiltered (Answers F.Fn) filter.now lib.now.functions (map rc_value chosen.items)) }
+    ensures filtered { IfOk result (λ chosen. IsFiltered (Answers F.Fn) filter.now lib.now.functions (map rc_value chosen.items)) }
+    ensures table { IfOk result (λ chosen. definitions_table (map rc_value chosen.items) ≡ map rc_value chosen.items) }
 {
     let mut chosen = Vec::new(allocator_of(lib));
     for function in lib.iter() {
@@ -78,7 +80,8 @@ pub fn kept<F: Fn(FnNamespace, FnAccess, &str, usize) -> bool>(
     filter: &F,
 ) -> Result<Vec<Rc<ScriptFuncDef>>, OutOfMemory>
     requires { F.IsAlwaysCallable filter.now }
-    ensures { IfOk result (λ kept. IsFiltered (AnswersShort F.Fn) filter.now lib.now.functions (map rc_value kept.items)) }
+    ensures filtered { IfOk result (λ kept. IsFiltered (AnswersShort F.Fn) filter.now lib.now.functions (map rc_value kept.items)) }
+    ensures table { IfOk result (λ kept. definitions_table (map rc_value kept.items) ≡ map rc_value kept.items) }
 {
     let mut kept = Vec::new(allocator_of(lib));
     for function in lib.iter() {

@@ -1,5 +1,5 @@
 //! Calls on scripts that are refused: everything is as it was. With all memory that they want these tests show
-//! that the calls do what they should; `rt try --test --fail-alloc 1..` refuses each growth in turn.
+//! that the calls do what they should; `rt try --test --fail-alloc N` refuses the Nth growth.
 
 use crate::script_samples::{Row, has, script, stands};
 use rhai_ast::FnAccess;

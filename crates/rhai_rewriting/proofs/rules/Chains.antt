@@ -41,7 +41,7 @@ some_is d e h = ap (or_unit_of d) h where
 -- ---- chains as core
 
 -- a constant is no place
-constant_root : (e : Expr) (v : Value) → constant_value e ≡ Some v → root_of e ≡ None
+pub constant_root : (e : Expr) (v : Value) → constant_value e ≡ Some v → root_of e ≡ None
 constant_root (Variable ns x) v h = absurd (let z : None ≡ Some v = h in cc)
 constant_root ThisPtr v h = absurd (let z : None ≡ Some v = h in cc)
 constant_root _ v h = refl
@@ -61,7 +61,7 @@ optional_of loop dot f p (Index m a b) = optional_first f.breaks f.negated p _ _
 optional_of loop dot f p _ = refl
 
 -- the right side of an index that is constant is the last
-index_last : (loop : Bool) (f : ChainFlags) (p : core.Step) (i : Expr) (v : Value) → constant_value i ≡ Some v → steps_of loop false f p i ≡ core.last f.negated p
+pub index_last : (loop : Bool) (f : ChainFlags) (p : core.Step) (i : Expr) (v : Value) → constant_value i ≡ Some v → steps_of loop false f p i ≡ core.last f.negated p
 index_last loop f p (Dot m a b) v h = absurd (let z : None ≡ Some v = h in cc)
 index_last loop f p (Index m a b) v h = absurd (let z : None ≡ Some v = h in cc)
 index_last loop f p _ v h = refl
@@ -83,21 +83,21 @@ module _ {k : Context} (c : Setting k) where
   unit_stops (core.more false p sts) h = absurd (let z : false ≡ true = h in cc)
 
   -- as the constant that is left
-  to_constant : (a : Act) (v : Value) → Simulates c a (give v) → Simulates c a (act (world c) (here_of (constant_of v)))
+  pub to_constant : (a : Act) (v : Value) → Simulates c a (give v) → Simulates c a (act (world c) (here_of (constant_of v)))
   to_constant a v h = subst (λ x. Simulates c a (act (world c) x)) (sym (constant_of_means c.in_loop v)) h
 
-  not_unit : (b : Bool) (x y a : Act) → b ≡ false → Simulates c y a → Simulates c (choose b x y) a
+  pub not_unit : (b : Bool) (x y a : Act) → b ≡ false → Simulates c y a → Simulates c (choose b x y) a
   not_unit true x y a h j = absurd (let z : true ≡ false = h in cc)
   not_unit false x y a h j = j
 
-  no_unit : (o b : Bool) → b ≡ false → (o && b) ≡ false
+  pub no_unit : (o b : Bool) → b ≡ false → (o && b) ≡ false
   no_unit true b h = h
   no_unit false b h = refl
 
   property_step : (o : Bool) (p : PropertyNames) (fs : Fields) → Simulates c (steps (world c) (core.last o (core.Property p)) (without_place (MapV fs))) (give (entry fs p.name))
   property_step o p fs = not_unit (o && is_unit (MapV fs)) _ _ _ (no_unit o false refl) simulates_refl
 
-  indexed_is : (v j u : Value) → indexed v j ≡ Some u → is_unit v ≡ false
+  pub indexed_is : (v j u : Value) → indexed v j ≡ Some u → is_unit v ≡ false
   indexed_is UnitV j u h = absurd (let z : None ≡ Some u = h in cc)
   indexed_is _ j u h = refl
 

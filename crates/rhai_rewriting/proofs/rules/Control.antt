@@ -1,27 +1,25 @@
 -- The rules of loops, `try` and nested `if`s: a lemma each, of the rule's name.
-use Rattle.std.proofs.Common.{◌≡◌, ◌<◌, ℕ, zero, suc, Bool, true, false, Option, Some, None, refl, sym, subst, arith}
+use Rattle.std.proofs.Common.{◌≡◌, ◌<◌, ℕ, zero, suc, Bool, true, false, List, [], length, Option, Some, None, refl, sym, subst, arith}
 use Rattle.rhai_values.specs.Value.{Text, Value, UnitV, BoolV}
 use Rattle.rhai_meaning.specs.Act.{World, Store, WrongKind, Act, Scoped, Acts, Env, rounds, run}
 use Rattle.rhai_meaning.specs.ActForms.{give, unit, ◌>>=◌, truth, branch, if_true}
 use Rattle.rhai_meaning.specs.Constants.{constant_bool}
 use Rattle.rhai_meaning.specs.Control.{round}
 use Rattle.rhai_meaning.specs.Core as core
-use Rattle.rhai_meaning.specs.Desugar.{core_expr, core_stmt, core_stmts, guard_by, try_by}
-use Rattle.rhai_meaning.specs.Faults.{has_operands}
+use Rattle.rhai_meaning.specs.Desugar.{core_expr, core_stmts, guard_by, try_by}
 use Rattle.rhai_meaning.specs.Meaning.{act, both, loop, deed, acts}
-use Rattle.rhai_meaning.specs.Queries.{are_pure}
+use Rattle.rhai_meaning.specs.Queries.{are_internally_pure}
 use Rattle.rhai_meaning.specs.Shape.{catch_name}
-use Rattle.rhai_meaning.specs.Tree.{Expr, UnitConstant, And, Exprs, no_exprs, expr, Stmt, Noop, If, While, TryCatch, Stmts, no_stmts, stmt}
-use Rattle.rhai_meaning.specs.Walk.{Node, OfExpr, Around, whole, throughout, over_stmt}
-use Rattle.rhai_meaning.specs.Weight.{stmt_weight}
-use Rattle.rhai_meaning.proofs.PureTrees.{pure_list}
+use Rattle.rhai_meaning.specs.Tree.{Expr, UnitConstant, And, no_exprs, expr, Stmt, Noop, If, While, TryCatch, Share, Stmts, no_stmts, stmt}
+use Rattle.rhai_meaning.proofs.PureTrees.{internal_list}
 use Rattle.rhai_rewriting.specs.Context.{Context}
+use Rattle.rhai_rewriting.specs.Known.{unknown}
 use Rattle.rhai_rewriting.proofs.simulation.Laws.{simulates_unassoc, simulates_stuck, simulates_braces, pure_ending_goes}
 use Rattle.rhai_rewriting.proofs.simulation.Setting.{Setting, world}
 use Rattle.rhai_rewriting.proofs.simulation.Simulation.{Simulates, simulates_trans, simulates_refl, simulates_equal}
-use Rattle.rhai_rewriting.proofs.simulation.Forms.{simulates_bind, simulates_if, SimulatesStmt, stmt_of_deed}
+use Rattle.rhai_rewriting.proofs.simulation.Forms.{simulates_bind, simulates_if, stmt_refl, stmt_of_deed}
 use Rattle.rhai_rewriting.proofs.rules.Given.{bool_core, bool_heavy}
-use Rattle.rhai_rewriting.proofs.rules.Lasting.{same_while, Lasting}
+use Rattle.rhai_rewriting.proofs.rules.Lasting.{same_while, same_share}
 use Rattle.rhai_rewriting.proofs.rules.Obligation.{StmtObligation}
 
 -- ---- `while`
@@ -58,11 +56,11 @@ while_true {e = e} {body = body} h = record {
 
 -- ---- `try`
 
-try_goes : {k : Context} (c : Setting k) (x : Option (Option Text)) (body branch : Stmts) → are_pure body ≡ true → Simulates c (deed (world c) (try_by x (core_stmts c.in_loop body) (core_stmts c.in_loop branch))) unit
+try_goes : {k : Context} (c : Setting k) (x : Option (Option Text)) (body branch : Stmts) → are_internally_pure body ≡ true → Simulates c (deed (world c) (try_by x (core_stmts c.in_loop body) (core_stmts c.in_loop branch))) unit
 try_goes c None body branch h = simulates_stuck WrongKind unit
-try_goes c (Some x) body branch h = pure_ending_goes _ _ unit (pure_list (world c) c.in_loop false body h UnitV).scoped (λ v. simulates_refl)
+try_goes c (Some x) body branch h = pure_ending_goes _ _ unit (internal_list (world c) c.in_loop false body h UnitV).scoped (λ v. simulates_refl)
 
-pub pure_try : {k : Context} {w : Bool} {x : Expr} {body branch : Stmts} → are_pure body ≡ true → StmtObligation k w (TryCatch x body branch) Noop
+pub pure_try : {k : Context} {w : Bool} {x : Expr} {body branch : Stmts} → are_internally_pure body ≡ true → StmtObligation k w (TryCatch x body branch) Noop
 pure_try {x = x} {body = body} {branch = branch} h = record {
   lighter = omega arith;
   keeps = λ P l lasts j. (lasts.noop, tt);
@@ -104,12 +102,25 @@ outer a b ss = If a (stmt (If b ss no_stmts) no_stmts) no_stmts
 abbrev joined_if : Expr → Expr → Stmts → Stmt
 joined_if a b ss = If (And (expr a (expr b no_exprs))) ss no_stmts
 
--- The three parts of its rule. A `&&` that wasn't there has to have what is asked of every node.
-pub nested_if_falls : (a b : Expr) (ss : Stmts) → stmt_weight (joined_if a b ss) < stmt_weight (outer a b ss)
-nested_if_falls a b ss = omega arith
+pub nested_if : {k : Context} {w : Bool} {a b : Expr} {ss : Stmts} → StmtObligation k w (outer a b ss) (joined_if a b ss)
+nested_if {w = w} {a = a} {b = b} {ss = ss} = record {
+  lighter = omega arith;
+  keeps = λ P l lasts h. (lasts.branching _ _ _, ((lasts.conjunction _ refl, (h.1.0, (h.1.1.0.0.1.0, tt))), (h.1.1.0.0.1.1.0, tt)));
+  sound = λ c. stmt_of_deed (if_in_if c (core_stmts c.in_loop ss) (core_expr c.in_loop a) (core_expr c.in_loop b));
+}
 
-pub nested_if_keeps : (P : Around → Node → Type 0) (l : Bool) → Lasting P l → ((es : Exprs) → has_operands es ≡ true → P (whole l) (OfExpr (And es))) → (a b : Expr) (ss : Stmts) → over_stmt (throughout P) (outer a b ss) (whole l) → over_stmt (throughout P) (joined_if a b ss) (whole l)
-nested_if_keeps P l lasts conjunction a b ss h = (lasts.branching _ _ _, ((conjunction _ refl, (h.1.0, (h.1.1.0.0.1.0, tt))), (h.1.1.0.0.1.1.0, tt)))
+-- ---- shared names, which have no meaning here
 
-pub nested_if_sound : {k : Context} (c : Setting k) (w : Bool) (a b : Expr) (ss : Stmts) → SimulatesStmt c w (core_stmt c.in_loop (outer a b ss)) (core_stmt c.in_loop (joined_if a b ss))
-nested_if_sound c w a b ss = stmt_of_deed (if_in_if c (core_stmts c.in_loop ss) (core_expr c.in_loop a) (core_expr c.in_loop b))
+pub share_known : {k : Context} {w : Bool} {xs : List Text} → length (unknown k.known xs) < length xs → StmtObligation k w (Share xs) (Share (unknown k.known xs))
+share_known h = record {
+  lighter = omega (arith, h);
+  keeps = λ P l lasts j. (lasts.again same_share j.0, tt);
+  sound = λ c. stmt_refl;
+}
+
+pub share_nothing : {k : Context} {w : Bool} → StmtObligation k w (Share []) Noop
+share_nothing = record {
+  lighter = omega arith;
+  keeps = λ P l lasts j. (lasts.noop, tt);
+  sound = λ c. stmt_of_deed (simulates_stuck WrongKind unit);
+}

@@ -16,7 +16,7 @@ both_true false b h = false_true _ h
 pub nat_is : (a b : ℕ) → (a == b) ≡ true → a ≡ b
 nat_is a b h = (Decides-eqb a b).0 h
 
-text_is : (a b : Text) → same_text a b ≡ true → a ≡ b
+pub text_is : (a b : Text) → same_text a b ≡ true → a ≡ b
 text_is a b h = (bytes_eq-Decides a b).0 h
 
 int_is : (a b : ℤ) → same_int a b ≡ true → a ≡ b

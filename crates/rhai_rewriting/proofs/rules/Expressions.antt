@@ -26,6 +26,8 @@ use Rattle.rhai_rewriting.proofs.rules.Logic as logic
 use Rattle.rhai_rewriting.proofs.rules.Texts as text
 use Rattle.rhai_rewriting.proofs.rules.Words as word
 use Rattle.rhai_rewriting.proofs.rules.Chains as chain
+use Rattle.rhai_rewriting.proofs.rules.Names as names
+use Rattle.rhai_rewriting.proofs.rules.Onward as onward
 use Rattle.rhai_rewriting.proofs.rules.Lasting.{Lasting}
 use Rattle.rhai_rewriting.proofs.rules.Obligation.{ExprObligation}
 
@@ -108,3 +110,11 @@ expr_rule (rule.property_of_map h) = chain.property_of_map h
 expr_rule (rule.entry_of_map x h q) = chain.entry_of_map x h q
 expr_rule (rule.type_of_method v h q) = chain.type_of_method v h q
 expr_rule (rule.is_shared_method v h q) = chain.is_shared_method v h q
+expr_rule (rule.known_name v h) = names.known_name v h
+expr_rule (rule.known_pointer f h q) = names.known_pointer f h q
+expr_rule (rule.known_property fs h) = names.known_property fs h
+expr_rule (rule.known_entry fs y h q) = names.known_entry fs y h q
+expr_rule (rule.property_of_constant_first dot m p r fs q h) = onward.property_of_constant_first dot m p r fs q h
+expr_rule (rule.index_of_constant_first dot m i r v j u b h q n) = onward.index_of_constant_first dot m i r v j u b h q n
+expr_rule (rule.type_of_method_first dot f m r v q h n) = onward.type_of_method_first dot f m r v q h n
+expr_rule (rule.is_shared_method_first dot f m r v q h n) = onward.is_shared_method_first dot f m r v q h n

@@ -13,6 +13,9 @@ use Rattle.rhai_rewriting.proofs.simulation.Simulation.{all_equal}
 use Rattle.rhai_rewriting.proofs.simulation.Lists.{list_of_all}
 use Rattle.rhai_rewriting.proofs.rules.Blocks.{braces_go}
 use Rattle.rhai_rewriting.proofs.rules.Lasting.{Lasting}
+use Rattle.rhai_rewriting.proofs.rules.LastUnit as unit
+use Rattle.rhai_rewriting.proofs.rules.Leaving as leaving
+use Rattle.rhai_rewriting.proofs.rules.Pure as pure
 use Rattle.rhai_rewriting.proofs.rules.Obligation.{ListObligation}
 
 spliced_light : (w : Bool) (ss back : Stmts) → weight (spliced w ss back) ≤ 1 + weight ss + weight back
@@ -27,14 +30,23 @@ spliced_keeps P l lasts b no_stmts (stmt s back) h k = k
 spliced_keeps P l lasts true no_stmts no_stmts h k = ((lasts.noop, tt), tt)
 spliced_keeps P l lasts false no_stmts no_stmts h k = tt
 
-pub block_gives_way : {k : Context} {m : ListKind} {ss back : Stmts} → is_any_dependent ss ≡ false → ListObligation k m (stmt (Block ss) back) (spliced (wanted m) ss back)
+pub block_gives_way : {k : Context} {m : ListKind} {u : Bool} {ss back : Stmts} → is_any_dependent ss ≡ false → ListObligation k m u (stmt (Block ss) back) (spliced (wanted m) ss back)
 block_gives_way {m = m} {ss = ss} {back = back} q = record {
   lighter = omega (arith, spliced_light (wanted m) ss back);
   keeps = λ P l lasts h. spliced_keeps P l lasts (wanted m) ss back h.0.1 h.1;
-  sound = λ c v. list_of_all m (all_equal (λ n. braces_go (world c) n.env c.in_loop n.adds (wanted m) ss back q v n.store n.turns));
+  sound = λ c v h. list_of_all m (all_equal (λ n. braces_go (world c) n.env c.in_loop n.adds (wanted m) ss back q v n.store n.turns));
 }
 
 -- ---- every rule
 
-pub list_rule : {k : Context} {m : ListKind} {ss ss' : Stmts} → ListRule k m ss ss' → ListObligation k m ss ss'
+pub list_rule : {k : Context} {m : ListKind} {u : Bool} {ss ss' : Stmts} → ListRule k m u ss ss' → ListObligation k m u ss ss'
 list_rule (rule.block_gives_way h) = block_gives_way h
+list_rule (rule.after_leave h) = leaving.after_leave h
+list_rule (rule.pure_goes h j) = pure.pure_goes h j
+list_rule (rule.lone_goes h) = pure.lone_goes h
+list_rule (rule.pure_inside_goes h j i) = pure.pure_inside_goes h j i
+list_rule rule.last_return = leaving.last_return
+list_rule rule.last_return_goes = leaving.last_return_goes
+list_rule rule.last_return_noop = leaving.last_return_noop
+list_rule (rule.last_unit_goes h j) = unit.last_unit_goes h j
+list_rule (rule.last_unit_noop h j i) = unit.last_unit_noop h j i

@@ -1,6 +1,6 @@
 -- What each rule owes: its tree is lighter, has at every node what the old one has there, and does what the old one does.
-use Rattle.std.proofs.Common.{◌<◌, Bool}
-use Rattle.rhai_values.specs.Value.{Value}
+use Rattle.std.proofs.Common.{◌≡◌, ◌<◌, Bool, true}
+use Rattle.rhai_values.specs.Value.{Value, UnitV}
 use Rattle.rhai_meaning.specs.Desugar.{core_expr, core_stmt, core_stmts}
 use Rattle.rhai_meaning.specs.Meaning.{act, acts}
 use Rattle.rhai_meaning.specs.Tree.{Expr, Stmt, Stmts}
@@ -23,7 +23,8 @@ pub record StmtObligation (k : Context) (w : Bool) (s s' : Stmt) : Type 1 where
   pub keeps : (P : Around → Node → Type 0) (l : Bool) → Lasting P l → over_stmt (throughout P) s (whole l) → over_stmt (throughout P) s' (whole l)
   pub sound : (c : Setting k) → SimulatesStmt c w (core_stmt c.in_loop s) (core_stmt c.in_loop s')
 
-pub record ListObligation (k : Context) (m : ListKind) (ss ss' : Stmts) : Type 1 where
+-- u: whether the value before the list is unit
+pub record ListObligation (k : Context) (m : ListKind) (u : Bool) (ss ss' : Stmts) : Type 1 where
   pub lighter : weight ss' < weight ss
   pub keeps : (P : Around → Node → Type 0) (l : Bool) → Lasting P l → over_stmts (throughout P) ss (whole l) → over_stmts (throughout P) ss' (whole l)
-  pub sound : (c : Setting k) (v : Value) → SimulatesList c m (acts (world c) (wanted m) (core_stmts c.in_loop ss) v) (acts (world c) (wanted m) (core_stmts c.in_loop ss') v)
+  pub sound : (c : Setting k) (v : Value) → (u ≡ true → v ≡ UnitV) → SimulatesList c m (acts (world c) (wanted m) (core_stmts c.in_loop ss) v) (acts (world c) (wanted m) (core_stmts c.in_loop ss') v)

@@ -29,6 +29,7 @@ use Rattle.rhai_rewriting.proofs.simulation.Unwanted.{before_any}
 use Rattle.rhai_rewriting.proofs.rules.Constants.{or_stuck, expr_given, branch_given}
 use Rattle.rhai_rewriting.proofs.rules.Expressions.{constant_light, constant_keeps, call_folds}
 use Rattle.rhai_rewriting.proofs.rules.Control as control
+use Rattle.rhai_rewriting.proofs.rules.SelfAssign as assign
 use Rattle.rhai_rewriting.proofs.rules.Forgetting as forgetting
 use Rattle.rhai_rewriting.proofs.rules.Tables as tables
 use Rattle.rhai_rewriting.proofs.rules.Switches as switches
@@ -210,3 +211,7 @@ stmt_rule (rule.switch_defaults v h q) = switches.switch_defaults v h q
 stmt_rule (rule.switch_forgets j h q x) = forgetting.switch_forgets j h q x
 stmt_rule (rule.switch_narrows v h q d o x y) = tables.switch_narrows v h q d o x y
 stmt_rule (rule.switch_shrinks h q x y) = tables.switch_shrinks h q x y
+stmt_rule rule.nested_if = control.nested_if
+stmt_rule (rule.share_known h) = control.share_known h
+stmt_rule rule.share_nothing = control.share_nothing
+stmt_rule (rule.self_assign q h j) = assign.self_assign q h j

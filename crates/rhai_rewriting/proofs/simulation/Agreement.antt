@@ -1,5 +1,5 @@
 -- What is known goes on to hold, under names that are added and values that change.
-use Rattle.std.proofs.Common.{◌≡◌, Bool, true, false, cond, List, [], ◌∷◌, Some, None, sym, ◌∙◌}
+use Rattle.std.proofs.Common.{◌≡◌, Bool, true, false, cond, List, [], ◌∷◌, Option, Some, None, sym, ◌∙◌}
 use Rattle.rhai_values.specs.Value.{Text, Value, same_text}
 use Rattle.rhai_meaning.specs.Engine.{Binding}
 use Rattle.rhai_meaning.specs.Act.{ScopeEntry, found}
@@ -30,6 +30,15 @@ pub agrees_shadow : (bs : List Binding) (ks : List Known) (es : List ScopeEntry)
 agrees_shadow bs ks es x c v a = record {
   is = λ y w. elim (same_text x y) as (λ b. cond b None (look ks y) ≡ Some w → Fits w (cond b (Some (record { name = x; constant = c; value = v })) (found bs es y))) [
     | true ↦ λ h. absurd cc
+    | false ↦ λ h. a.is y w h
+  ];
+}
+
+-- under a constant whose value is known, or a name of which nothing is known
+pub agrees_noting : (bs : List Binding) (ks : List Known) (es : List ScopeEntry) (x : Text) (o : Option Value) (c : Bool) (v : Value) → ((w : Value) → o ≡ Some w → (c ≡ true) × (v ≡ w)) → Agrees bs ks es → Agrees bs (record { name = x; value = o } ∷ ks) (record { name = x; constant = c; value = v } ∷ es)
+agrees_noting bs ks es x o c v f a = record {
+  is = λ y w. elim (same_text x y) as (λ b. cond b o (look ks y) ≡ Some w → Fits w (cond b (Some (record { name = x; constant = c; value = v })) (found bs es y))) [
+    | true ↦ λ h. f w h
     | false ↦ λ h. a.is y w h
   ];
 }

@@ -1,12 +1,12 @@
 -- Lists, closed at their end: a whole one by its return, an inside one by taking its names away.
-use Rattle.std.proofs.Common.{Bool, refl, sym}
+use Rattle.std.proofs.Common.{◌≡◌, Bool, true, Option, Some, None, refl, sym}
 use Rattle.rhai_values.specs.Value.{Text, Value}
 use Rattle.rhai_meaning.specs.Act.{Ending, Gives, Leaves, Act, Scoped, Acts, Do, Named, Finish}
 use Rattle.rhai_meaning.specs.ActForms.{each_value, then_line}
 use Rattle.rhai_meaning.proofs.Sequencing.{scoped_do, scoped_named, finish_do}
 use Rattle.rhai_rewriting.specs.Context.{Context, ListKind, Whole, Inside}
-use Rattle.rhai_rewriting.proofs.simulation.Setting.{Setting, beneath, world}
-use Rattle.rhai_rewriting.proofs.simulation.Simulation.{Simulates, SimulatesAll, simulates_trans, all_trans, simulates_equal, all_equal, simulates_refl, all_refl, simulates_then, all_do, all_finish, all_only, all_named, simulates_scoped}
+use Rattle.rhai_rewriting.proofs.simulation.Setting.{Setting, noted, beneath, world}
+use Rattle.rhai_rewriting.proofs.simulation.Simulation.{Simulates, SimulatesAll, simulates_trans, all_trans, simulates_equal, all_equal, simulates_refl, all_refl, simulates_then, all_do, all_finish, all_only, all_noted, simulates_scoped}
 
 abbrev pub Closed : {k : Context} → Setting k → ListKind → Acts → Acts → Type 0
 Closed c Whole p q = SimulatesAll c (Finish p) (Finish q)
@@ -42,11 +42,14 @@ in_each_value m h (Leaves x) = list_refl
 pub list_line : {k : Context} {c : Setting k} (m : ListKind) (a : Act) {f f' : Value → Acts} → ((v : Value) → SimulatesList c m (f v) (f' v)) → SimulatesList c m (then_line a f) (then_line a f')
 list_line m a h = list_do m a (in_each_value m h)
 
--- behind a name that is added
+-- behind a name that is added, of which this is known
+pub list_noted : {k : Context} {c : Setting k} (m : ListKind) (x : Text) (o : Option Value) (b : Bool) (v : Value) → ((w : Value) → o ≡ Some w → (b ≡ true) × (v ≡ w)) → {p q : Acts} → SimulatesList (noted x o c) m p q → SimulatesList c m (Named x b v p) (Named x b v q)
+list_noted Whole x o b v f {p = p} {q = q} h = record {
+  closed = all_trans (all_equal (λ n. refl)) (all_trans (all_noted x o b v f h.closed) (all_equal (λ n. refl)));
+}
+list_noted {c = c} (Inside w) x o b v f {p = p} {q = q} h = record {
+  closed = simulates_trans (simulates_equal (λ n. scoped_named (world c) n.env n.adds x b v p n.store n.turns)) (simulates_trans (simulates_scoped (all_noted x o b v f (all_only h.closed))) (simulates_equal (λ n. sym (scoped_named (world c) n.env n.adds x b v q n.store n.turns))));
+}
+
 pub list_named : {k : Context} {c : Setting k} (m : ListKind) (x : Text) (b : Bool) (v : Value) {p q : Acts} → SimulatesList (beneath x c) m p q → SimulatesList c m (Named x b v p) (Named x b v q)
-list_named Whole x b v {p = p} {q = q} h = record {
-  closed = all_trans (all_equal (λ n. refl)) (all_trans (all_named x b v h.closed) (all_equal (λ n. refl)));
-}
-list_named {c = c} (Inside w) x b v {p = p} {q = q} h = record {
-  closed = simulates_trans (simulates_equal (λ n. scoped_named (world c) n.env n.adds x b v p n.store n.turns)) (simulates_trans (simulates_scoped (all_named x b v (all_only h.closed))) (simulates_equal (λ n. sym (scoped_named (world c) n.env n.adds x b v q n.store n.turns))));
-}
+list_named m x b v h = list_noted m x None b v (λ w z. absurd (let y : None ≡ Some w = z in cc)) h

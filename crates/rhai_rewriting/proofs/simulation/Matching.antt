@@ -1,5 +1,5 @@
 -- At one depth: an act whose runs match those of another. Each basic act keeps this.
-use Rattle.std.proofs.Common.{◌≡◌, ℕ, ◌+◌, ◌≤◌, Bool, [], ◌∷◌, ◌++◌, Option, refl, subst, arith}
+use Rattle.std.proofs.Common.{◌≡◌, ℕ, ◌+◌, ◌≤◌, Bool, true, [], ◌∷◌, ◌++◌, Option, Some, None, refl, subst, arith}
 use Rattle.rhai_values.specs.Value.{Text, Value}
 use Rattle.rhai_meaning.specs.Act.{HostCall, Answer, Store, Ending, Outcome, Ended, Result, At, ScriptCall, Act, Stop, Fail, Then, Turn, Read, Write, AskHost, Invoke, Loop, Scoped, Acts, Only, Do, Named, Finish, Env, leave, rounds, run, run_all}
 use Rattle.rhai_meaning.specs.Relations.{store_of}
@@ -8,8 +8,8 @@ use Rattle.rhai_meaning.proofs.Preserves.{preserves, preserves_all}
 use Rattle.rhai_meaning.proofs.Monotone.{follow_call, follow_then, follow_turn, follow_returned, follow_leave, follow_rounds, Deeper, monotone, monotone_all, follows_refl, follows_trans}
 use Rattle.rhai_meaning.proofs.Ends.{met_call, Run, Ends, Met, stays, met_self, met_move, met_then, met_turn, met_leave, met_returned, met_rounds}
 use Rattle.rhai_rewriting.specs.Context.{Context}
-use Rattle.rhai_rewriting.proofs.simulation.Agreement.{agrees_keeps, agrees_shadow}
-use Rattle.rhai_rewriting.proofs.simulation.Setting.{Setting, world, environment, beneath, Agreed, run_by_depth, run_all_by_depth, adds_at, rises, rises_all}
+use Rattle.rhai_rewriting.proofs.simulation.Agreement.{agrees_keeps, agrees_noting}
+use Rattle.rhai_rewriting.proofs.simulation.Setting.{Setting, world, environment, noted, beneath, Agreed, run_by_depth, run_all_by_depth, adds_at, rises, rises_all}
 
 -- The result r is what a run p may give: it follows p from this depth and these turns, and p meets it with enough of them.
 pub record Matches (p : Run) (d : ℕ) (s : Store) (t : ℕ) (r : Result) : Type 0 where
@@ -111,7 +111,7 @@ at_finish {c = c} {p = p} i = record {
   };
 }
 
-at_turn : {k : Context} {c : Setting k} {g : Stage} {a b : Act} → SimulatesAt c g a b → SimulatesAt c g (Turn a) (Turn b)
+pub at_turn : {k : Context} {c : Setting k} {g : Stage} {a b : Act} → SimulatesAt c g a b → SimulatesAt c g (Turn a) (Turn b)
 at_turn {c = c} {g = g} {a = a} {b = b} i = record {
   matches = λ s t ag. record {
     forward = follow_turn AnyHalt tt 0 s t t (omega arith) _ _ (λ t1 t1' le. later i s t1 t1' ag le) (λ s1 t1. (preserves (world c) g.env g.steady.adds b s1 t1).calls);
@@ -127,15 +127,19 @@ at_scoped {c = c} {p = p} i = record {
   };
 }
 
-pub at_named : {k : Context} {c : Setting k} {g : Stage} (x : Text) (b : Bool) (v : Value) {p q : Acts} → SimulatesAllAt (beneath x c) g p q → SimulatesAllAt c g (Named x b v p) (Named x b v q)
-at_named {k = k} {c = c} x b v {p = p} i = record {
+-- under a name, of which this is known
+pub at_noted : {k : Context} {c : Setting k} {g : Stage} (x : Text) (o : Option Value) (b : Bool) (v : Value) → ((w : Value) → o ≡ Some w → (b ≡ true) × (v ≡ w)) → {p q : Acts} → SimulatesAllAt (noted x o c) g p q → SimulatesAllAt c g (Named x b v p) (Named x b v q)
+at_noted {k = k} {c = c} x o b v f {p = p} i = record {
   matches = λ s t ag.
       let s1 : Store = record s { scope = record { name = x; constant = b; value = v } ∷ s.scope } in
-      let z = i.matches s1 t (agrees_shadow k.engine.constants k.known s.scope x b v ag) in
+      let z = i.matches s1 t (agrees_noting k.engine.constants k.known s.scope x o b v f ag) in
       record { forward = z.forward; backward = met_move (run_all_by_depth c p) (run_all_by_depth c (Named x b v p)) s1 s _ (λ o s' y. ends_as (λ d t1. refl) y) z.backward };
 }
 
-at_ask : {k : Context} {c : Setting k} {g : Stage} (call : HostCall) {next next' : Answer → Act} → ((a : Answer) → SimulatesAt c g (next a) (next' a)) → SimulatesAt c g (AskHost call next) (AskHost call next')
+pub at_named : {k : Context} {c : Setting k} {g : Stage} (x : Text) (b : Bool) (v : Value) {p q : Acts} → SimulatesAllAt (beneath x c) g p q → SimulatesAllAt c g (Named x b v p) (Named x b v q)
+at_named x b v i = at_noted x None b v (λ w h. absurd (let z : None ≡ Some w = h in cc)) i
+
+pub at_ask : {k : Context} {c : Setting k} {g : Stage} (call : HostCall) {next next' : Answer → Act} → ((a : Answer) → SimulatesAt c g (next a) (next' a)) → SimulatesAt c g (AskHost call next) (AskHost call next')
 at_ask {c = c} call {next = next} h = record {
   matches = λ s t ag.
       let r = c.host.answer s.calls call in
@@ -158,7 +162,7 @@ ends_loop c a n s o s' x = record {
       (z.0, omega (arith, z.1, y.1), z.2);
 }
 
-at_loop : {k : Context} {c : Setting k} {g : Stage} {a b : Act} → (environment c g.depth).rounds ≤ g.env.rounds → SimulatesAt c g a b → SimulatesAt c g (Loop a) (Loop b)
+pub at_loop : {k : Context} {c : Setting k} {g : Stage} {a b : Act} → (environment c g.depth).rounds ≤ g.env.rounds → SimulatesAt c g a b → SimulatesAt c g (Loop a) (Loop b)
 at_loop {k = k} {c = c} {g = g} {a = a} {b = b} le i = record {
   matches = λ s t ag. record {
     forward = follow_rounds AnyHalt tt 0 (Agreed k) (environment c g.depth).rounds g.env.rounds le _ _
@@ -179,7 +183,7 @@ pub record CallsMatch {k : Context} (c : Setting k) (g : Stage) : Type 0 where
   pub rounds : (environment c g.depth).rounds ≤ g.env.rounds
   pub calls : (a : ScriptCall) (s : Store) (t : ℕ) → Matches (calling c.environments.by_depth a) g.depth s t (g.env.invoke a s.scope s.calls t)
 
-at_invoke : {k : Context} {c : Setting k} {g : Stage} (a : ScriptCall) {next next' : Value → Option Value → Act} → CallsMatch c g → ((v : Value) (u : Option Value) → SimulatesAt c g (next v u) (next' v u)) → SimulatesAt c g (Invoke a next) (Invoke a next')
+pub at_invoke : {k : Context} {c : Setting k} {g : Stage} (a : ScriptCall) {next next' : Value → Option Value → Act} → CallsMatch c g → ((v : Value) (u : Option Value) → SimulatesAt c g (next v u) (next' v u)) → SimulatesAt c g (Invoke a next) (Invoke a next')
 at_invoke {c = c} {g = g} a {next = next} {next' = next'} m h = record {
   matches = λ s t ag. record {
     forward = follow_call AnyHalt tt 0 s (m.calls a s t).forward _ _ (λ v u cs t1 t1' le. later (h v u) (record s { calls = cs }) t1 t1' ag le) (λ v u s1 t1. (preserves (world c) g.env g.steady.adds (next' v u) s1 t1).calls);

@@ -1,19 +1,23 @@
 -- What lemmas on runs share: where a tree stands, the world, and the environments by depth.
-use Rattle.std.proofs.Common.{ℕ, ◌≤◌, Bool, List, arith}
-use Rattle.rhai_values.specs.Value.{Text}
+use Rattle.std.proofs.Common.{ℕ, ◌≤◌, Bool, List, Option, None, arith}
+use Rattle.rhai_values.specs.Value.{Text, Value}
 use Rattle.rhai_meaning.specs.Act.{Host, Key, Store, World, Result, Act, Acts, Env, run, run_all}
 use Rattle.rhai_meaning.proofs.Preserves.{OnlyAdds}
 use Rattle.rhai_meaning.proofs.Relations.{AnyHalt, IsOut}
 use Rattle.rhai_meaning.proofs.Monotone.{Deeper, follows_weak, monotone, monotone_all}
 use Rattle.rhai_meaning.proofs.Ends.{Run, Rises}
-use Rattle.rhai_rewriting.specs.Context.{Context}
-use Rattle.rhai_rewriting.specs.Known.{shadow, Agrees}
+use Rattle.rhai_meaning.specs.Tree.{Stmt}
+use Rattle.rhai_rewriting.specs.Context.{Context, noting, naming, behind}
+use Rattle.rhai_rewriting.specs.Known.{Agrees}
+use Rattle.rhai_rewriting.proofs.acts.Within.{Valueless, CallsIn}
 
--- a deeper one does what a shallower one does unless that is out of turns, and loops go round as often as it is deep
+-- A deeper one does what a shallower one does unless that is out of turns, and loops go round as often as it is deep.
+-- No call leaves a loop with a value.
 pub record Environments : Type 0 where
   pub by_depth : ℕ → Env
   pub deeper : (d d' n : ℕ) → d ≤ d' → Deeper IsOut tt n (by_depth d) (by_depth d')
   pub reaches : (d : ℕ) → d ≤ (by_depth d).rounds
+  pub unbroken : (d : ℕ) → CallsIn Valueless (by_depth d)
 
 -- a world with this engine's record, and environments
 pub record Setting (k : Context) : Type 0 where
@@ -29,12 +33,16 @@ world {k} c = record { engine = k.engine; host = c.host; functions = c.functions
 abbrev pub environment : {k : Context} → Setting k → ℕ → Env
 environment c d = c.environments.by_depth d
 
--- under one more name
-abbrev pub naming : Text → Context → Context
-naming x k = record k { known = shadow x k.known }
+-- under one more name: a constant of this value, or one of which nothing is known
+abbrev pub noted : {k : Context} (x : Text) (o : Option Value) → Setting k → Setting (noting x o k)
+noted x o c = record { host = c.host; functions = c.functions; environments = c.environments; in_loop = c.in_loop }
 
 abbrev pub beneath : {k : Context} (x : Text) → Setting k → Setting (naming x k)
-beneath x c = record { host = c.host; functions = c.functions; environments = c.environments; in_loop = c.in_loop }
+beneath x c = noted x None c
+
+-- behind a statement
+abbrev pub past : {k : Context} (s : Stmt) → Setting k → Setting (behind s k)
+past s c = record { host = c.host; functions = c.functions; environments = c.environments; in_loop = c.in_loop }
 
 -- what is known holds in the store
 abbrev pub Agreed : Context → Store → Type 0
@@ -46,6 +54,7 @@ pub record Start (k : Context) : Type 0 where
   pub store : Store
   pub turns : ℕ
   pub adds : OnlyAdds env
+  pub unbroken : CallsIn Valueless env
   pub agrees : Agreed k store
 
 abbrev pub run_from : {k : Context} → Setting k → Start k → Act → Result

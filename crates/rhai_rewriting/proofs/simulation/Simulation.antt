@@ -1,14 +1,14 @@
 -- An act that does what another does, at every depth.
-use Rattle.std.proofs.Common.{◌≡◌, ℕ, Bool, refl, subst, arith}
+use Rattle.std.proofs.Common.{◌≡◌, ℕ, Bool, true, Option, Some, refl, subst, arith}
 use Rattle.rhai_values.specs.Value.{Text, Value}
-use Rattle.rhai_meaning.specs.Act.{Store, Ending, Stuck, IsStuck, Halted, Result, At, Act, Then, Scoped, Acts, Only, Do, Named, Finish}
+use Rattle.rhai_meaning.specs.Act.{HostCall, Answer, Store, Ending, Stuck, IsStuck, Halted, Result, At, ScriptCall, Act, Then, Turn, AskHost, Invoke, Loop, Scoped, Acts, Only, Do, Named, Finish}
 use Rattle.rhai_meaning.specs.Relations.{Begins, calls_of}
 use Rattle.rhai_meaning.proofs.Relations.{Follows, short, AnyHalt}
 use Rattle.rhai_meaning.proofs.Monotone.{follows_refl, follows_trans}
 use Rattle.rhai_meaning.proofs.Ends.{Run, Met, stuck, Rises, ends_of, met_self, met_trans}
 use Rattle.rhai_rewriting.specs.Context.{Context}
-use Rattle.rhai_rewriting.proofs.simulation.Setting.{Setting, beneath, environment, Agreed, Start, run_from, run_all_from, run_by_depth, run_all_by_depth, steady_at, rises}
-use Rattle.rhai_rewriting.proofs.simulation.Matching.{Stage, SimulatesAt, SimulatesAllAt, CallsMatch, calling, at_equal, all_at_equal, at_then, at_do, at_scoped, at_finish, at_only, at_named, at_refl, all_at_refl}
+use Rattle.rhai_rewriting.proofs.simulation.Setting.{Setting, noted, environment, Agreed, Start, run_from, run_all_from, run_by_depth, run_all_by_depth, steady_at, rises}
+use Rattle.rhai_rewriting.proofs.simulation.Matching.{Stage, SimulatesAt, SimulatesAllAt, CallsMatch, calling, at_equal, all_at_equal, at_then, at_turn, at_ask, at_invoke, at_loop, at_do, at_scoped, at_finish, at_only, at_noted, at_refl, all_at_refl}
 
 -- the new run in the old one's environment
 abbrev pub stage : {k : Context} → Setting k → ℕ → Stage
@@ -65,7 +65,7 @@ all_refl {c = c} {p = p} = record { at = λ d. all_at_refl p c (stage c d) (self
 -- ---- the same result
 
 at_depth : {k : Context} (c : Setting k) (d : ℕ) (s : Store) (t : ℕ) → Agreed k s → Start k
-at_depth c d s t ag = record { env = environment c d; store = s; turns = t; adds = (steady_at c d).adds; agrees = ag }
+at_depth c d s t ag = record { env = environment c d; store = s; turns = t; adds = (steady_at c d).adds; unbroken = c.environments.unbroken d; agrees = ag }
 
 pub simulates_equal : {k : Context} {c : Setting k} {a b : Act} → ((m : Start k) → run_from c m a ≡ run_from c m b) → Simulates c a b
 unfolding at_depth
@@ -89,11 +89,23 @@ all_finish i = record { at = λ d. at_finish (i.at d) }
 pub all_only : {k : Context} {c : Setting k} {a b : Act} → Simulates c a b → SimulatesAll c (Only a) (Only b)
 all_only i = record { at = λ d. at_only (i.at d) }
 
-pub all_named : {k : Context} {c : Setting k} (x : Text) (b : Bool) (v : Value) {p q : Acts} → SimulatesAll (beneath x c) p q → SimulatesAll c (Named x b v p) (Named x b v q)
-all_named x b v i = record { at = λ d. at_named x b v (i.at d) }
+pub all_noted : {k : Context} {c : Setting k} (x : Text) (o : Option Value) (b : Bool) (v : Value) → ((w : Value) → o ≡ Some w → (b ≡ true) × (v ≡ w)) → {p q : Acts} → SimulatesAll (noted x o c) p q → SimulatesAll c (Named x b v p) (Named x b v q)
+all_noted x o b v f i = record { at = λ d. at_noted x o b v f (i.at d) }
 
 pub simulates_scoped : {k : Context} {c : Setting k} {p q : Acts} → SimulatesAll c p q → Simulates c (Scoped p) (Scoped q)
 simulates_scoped i = record { at = λ d. at_scoped (i.at d) }
+
+pub simulates_turn : {k : Context} {c : Setting k} {a b : Act} → Simulates c a b → Simulates c (Turn a) (Turn b)
+simulates_turn i = record { at = λ d. at_turn (i.at d) }
+
+pub simulates_ask : {k : Context} {c : Setting k} (call : HostCall) {next next' : Answer → Act} → ((a : Answer) → Simulates c (next a) (next' a)) → Simulates c (AskHost call next) (AskHost call next')
+simulates_ask call h = record { at = λ d. at_ask call (λ a. (h a).at d) }
+
+pub simulates_invoke : {k : Context} {c : Setting k} (a : ScriptCall) {next next' : Value → Option Value → Act} → ((v : Value) (u : Option Value) → Simulates c (next v u) (next' v u)) → Simulates c (Invoke a next) (Invoke a next')
+simulates_invoke {c = c} a h = record { at = λ d. at_invoke a (self_match c d) (λ v u. (h v u).at d) }
+
+pub simulates_loop : {k : Context} {c : Setting k} {a b : Act} → Simulates c a b → Simulates c (Loop a) (Loop b)
+simulates_loop i = record { at = λ d. at_loop (omega arith) (i.at d) }
 
 -- ---- the same result, or the old run is stuck, where the new one is free
 

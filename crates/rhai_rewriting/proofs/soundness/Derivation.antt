@@ -1,28 +1,34 @@
 -- What a tree was rewritten to does what the tree does: by induction on the derivation.
-use Rattle.std.proofs.Common.{◌≡◌, ℕ, Bool, true, false, cond, List, ◌∷◌, refl, subst}
-use Rattle.rhai_values.specs.Value.{Text, Value, UnitV}
+use Rattle.std.proofs.Common.{◌≡◌, ℕ, zero, suc, Bool, true, false, cond, ◌∷◌, List, Option, Some, None, refl, sym, ap, ◌∙◌, subst}
+use Rattle.std.specs.Prelude.{◌&&◌, not, slice_get}
+use Rattle.rhai_values.specs.Value.{Text, Value, UnitV, BoolV}
+use Rattle.rhai_base.specs.Operators.{Operator}
 use Rattle.rhai_meaning.specs.Act.{Act, Acts, Only}
-use Rattle.rhai_meaning.specs.ActForms.{give}
+use Rattle.rhai_meaning.specs.ActForms.{give, ◌>>=◌}
 use Rattle.rhai_meaning.specs.Calls.{called}
 use Rattle.rhai_meaning.specs.Core as core
-use Rattle.rhai_meaning.specs.Desugar.{callee_by, call_of, core_expr, core_exprs, core_stmt, core_stmts}
-use Rattle.rhai_meaning.specs.Shape.{is_callable}
-use Rattle.rhai_meaning.specs.Meaning.{wanted_value, act, with_args, line, acts}
-use Rattle.rhai_meaning.specs.Tree.{Callee, Expr, Exprs, Stmt, Stmts, no_stmts, stmt}
+use Rattle.rhai_meaning.specs.Desugar.{callee_by, call_of, root_of, based, ends_in_call, part_target, guard_by, break_kind, return_kind, core_expr, core_exprs, core_pairs, member_of, method_of, steps_of, target_of, core_arms, core_maybe, core_stmt, core_stmts}
+use Rattle.rhai_meaning.specs.Queries.{is_unit}
+use Rattle.rhai_meaning.specs.Shape.{is_unit as is_unit_value}
+use Rattle.rhai_meaning.specs.Shape.{is_map, is_rest, is_callable, is_table, is_left_side, keys, are_distinct, are_among, catch_name}
+use Rattle.rhai_meaning.specs.Meaning.{wanted_value, act, with_args, with_pairs, both, either, first_some, arm_acts, loop, assign, exit, deed, line, acts}
+use Rattle.rhai_meaning.specs.Tree.{ChainFlags, Callee, Expr, UnitConstant, Variable, ThisPtr, Property, MethodCall, Dot, Index, Exprs, count_exprs, Pairs, MaybeExpr, Arms, Stmt, Stmts, no_stmts, stmt}
 use Rattle.rhai_rewriting.specs.Context.{Context, ListKind, Inside, wanted, wanted_before}
-use Rattle.rhai_rewriting.specs.Known.{Known, shadow}
-use Rattle.rhai_rewriting.specs.Rules as rule
-use Rattle.rhai_rewriting.specs.Rules.{ExprRule, StmtRule, ListRule}
-use Rattle.rhai_rewriting.specs.Rewriting.{ExprTo, same_expr, then_expr, by_expr_rule, in_array, in_braces, in_call, ExprsTo, exprs_none, exprs_more, StmtTo, same_stmt, then_stmt, by_stmt_rule, in_if, in_block, in_expression, in_call_statement, StmtsTo, same_stmts, then_stmts, by_list_rule, in_head, in_tail, flag_forgotten}
-use Rattle.rhai_rewriting.proofs.simulation.Setting.{Setting, beneath, world}
-use Rattle.rhai_rewriting.proofs.simulation.Simulation.{Simulates, SimulatesAll, simulates_trans, simulates_refl}
-use Rattle.rhai_rewriting.proofs.simulation.Forms.{simulates_bind, simulates_if, Rest, after, SimulatesStmt, stmt_refl, stmt_trans, stmt_of_deed}
-use Rattle.rhai_rewriting.proofs.simulation.Lists.{SimulatesList, list_of_all, list_refl, list_trans, list_line, list_named}
+use Rattle.rhai_rewriting.specs.Rewriting.{ExprTo, same_expr, then_expr, by_expr_rule, in_text, in_array, in_map, in_braces, in_call, in_chain, in_and, in_or, in_coalesce, ExprsTo, exprs_none, exprs_more, PairsTo, pairs_none, pairs_more, ChainTo, in_dot, in_index, BaseTo, base, ArgumentTo, same_argument, in_method, in_brackets, StepsTo, same_steps, last_method, last_index, more_dot, more_index, TargetTo, same_target, in_target, GuardTo, guard, MaybeTo, maybe_none, maybe_some, ArmsTo, arms_none, arms_more, StmtTo, same_stmt, then_stmt, by_stmt_rule, in_if, in_switch, in_while, in_do, in_for, in_var, in_assignment, in_block, in_try, in_expression, in_call_statement, in_break, in_return, in_import, RestTo, same_stmts, then_stmts, by_list_rule, in_head, in_tail, flag_forgotten}
+use Rattle.rhai_rewriting.proofs.simulation.Congruent.{c_choose, c_while, c_do, c_round, c_for_all, MaybeAlike, no_arm_alike, arm_alike}
+use Rattle.rhai_rewriting.proofs.simulation.Setting.{Setting, past, world}
+use Rattle.rhai_rewriting.proofs.simulation.Simulation.{Simulates, SimulatesAll, all_refl, simulates_trans, simulates_refl, simulates_loop}
+use Rattle.rhai_rewriting.proofs.simulation.Forms.{simulates_bind, simulates_if, all_line, Rest, after, SimulatesStmt, stmt_refl, stmt_trans, stmt_of_deed}
+use Rattle.rhai_rewriting.proofs.simulation.Lists.{SimulatesList, list_of_all, list_refl, list_trans}
 use Rattle.rhai_rewriting.proofs.simulation.Unwanted.{unwanted_if, unwanted_block}
 use Rattle.rhai_rewriting.proofs.rules.Expressions.{expr_rule}
 use Rattle.rhai_rewriting.proofs.rules.Statements.{stmt_rule}
 use Rattle.rhai_rewriting.proofs.rules.Lists.{list_rule}
-use Rattle.rhai_rewriting.proofs.soundness.Lasting.{same_count}
+use Rattle.rhai_rewriting.proofs.soundness.Behind.{tail_sound}
+use Rattle.rhai_rewriting.proofs.rules.Tables.{meant_again}
+use Rattle.rhai_rewriting.proofs.soundness.Congruence.{Any, congruent, InsideAlike, StepAlike, step_refl, index_alike, method_alike, StepsAlike, steps_refl, last_alike, more_alike, chain_alike, target_alike, switch_alike, body_alike, rounds_alike, try_alike}
+use Rattle.rhai_rewriting.proofs.soundness.Lasting.{same_count, same_keys, rest_fits, calls_fit, target_fits}
+use Rattle.rhai_rewriting.proofs.soundness.Standing.{table_stays}
 
 -- ---- nodes whose parts are rewritten
 
@@ -42,6 +48,64 @@ block_sound : {k : Context} (c : Setting k) (w : Bool) {ss ss' : core.Stmts} →
 block_sound c true h = stmt_of_deed h.closed
 block_sound c false {ss = ss} {ss' = ss'} h = record { before = λ p. unwanted_block p ss ss' h.closed }
 
+map_sound : {k : Context} (c : Setting k) (template : List Text) (ks ks' : List Text) (ps ps' : core.Pairs) → ks ≡ ks' → ((next : List (Text × Value) → Act) → Simulates c (with_pairs (world c) ps next) (with_pairs (world c) ps' next)) → Simulates c (act (world c) (cond (are_distinct ks && are_among ks template && are_among template ks) (core.MapOf ps) core.Ill)) (act (world c) (cond (are_distinct ks' && are_among ks' template && are_among template ks') (core.MapOf ps') core.Ill))
+map_sound c template ks ks' ps ps' e h =
+    subst (λ ls. Simulates c (act (world c) (cond (are_distinct ks && are_among ks template && are_among template ks) (core.MapOf ps) core.Ill)) (act (world c) (cond (are_distinct ls && are_among ls template && are_among template ls) (core.MapOf ps') core.Ill))) e (by (are_distinct ks && are_among ks template && are_among template ks)) where
+      by : (b : Bool) → Simulates c (act (world c) (cond b (core.MapOf ps) core.Ill)) (act (world c) (cond b (core.MapOf ps') core.Ill))
+      by true = h (λ vs. _)
+      by false = simulates_refl
+
+-- a statement with a test
+test_sound : {k : Context} (c : Setting k) (w b b' : Bool) (x y : core.Deed) → b ≡ b' → Simulates c (deed (world c) x) (deed (world c) y) → SimulatesStmt c w (core.Does (cond b x core.IllDeed)) (core.Does (cond b' y core.IllDeed))
+test_sound c w b b' x y e h = stmt_of_deed (meant_again c b b' x y (λ z. sym e ∙ z) h)
+
+var_sound : {k : Context} (c : Setting k) (w exported constant : Bool) (x : Text) (e e' : core.Expr) → Simulates c (act (world c) e) (act (world c) e') → SimulatesStmt c w (cond exported (core.Does core.IllDeed) (core.Var constant x e)) (cond exported (core.Does core.IllDeed) (core.Var constant x e'))
+var_sound c w true constant x e e' h = stmt_refl
+var_sound c w false constant x e e' h = record { before = λ rest. all_line h (λ v. all_refl) }
+
+-- ---- a guard
+
+guard_is : (e : Expr) → is_unit e ≡ false → (x : core.Expr) → guard_by e x ≡ core.When x
+guard_is UnitConstant h x = absurd (let z : true ≡ false = h in cc)
+guard_is _ h x = refl
+
+guard_always : (e : Expr) → is_unit e ≡ true → (x : core.Expr) → guard_by e x ≡ core.Always
+guard_always UnitConstant h x = refl
+guard_always _ h x = absurd (let z : false ≡ true = h in cc)
+
+while_sound : {k : Context} (c : Setting k) (e e' : Expr) (ss ss' : Stmts) → Simulates c (act (world c) (core_expr c.in_loop e)) (act (world c) (core_expr c.in_loop e')) → is_unit e' ≡ is_unit e → InsideAlike k ss ss' → Simulates c (loop (world c) (guard_by e (core_expr c.in_loop e)) (acts (world c) false (core_stmts true ss) UnitV)) (loop (world c) (guard_by e' (core_expr c.in_loop e')) (acts (world c) false (core_stmts true ss') UnitV))
+while_sound c e e' ss ss' h u j = by (is_unit e) refl where
+  by : (b : Bool) → is_unit e ≡ b → Simulates c (loop (world c) (guard_by e (core_expr c.in_loop e)) (acts (world c) false (core_stmts true ss) UnitV)) (loop (world c) (guard_by e' (core_expr c.in_loop e')) (acts (world c) false (core_stmts true ss') UnitV))
+  by true q =
+      subst (λ g. Simulates c (loop (world c) g (acts (world c) false (core_stmts true ss) UnitV)) (loop (world c) (guard_by e' (core_expr c.in_loop e')) (acts (world c) false (core_stmts true ss') UnitV))) (sym (guard_always e q (core_expr c.in_loop e)))
+      (subst (λ g. Simulates c (loop (world c) core.Always (acts (world c) false (core_stmts true ss) UnitV)) (loop (world c) g (acts (world c) false (core_stmts true ss') UnitV))) (sym (guard_always e' (u ∙ q) (core_expr c.in_loop e')))
+      (simulates_loop (c_round (λ a b. Simulates c a b) Any (congruent c) _ _ (body_alike c ss ss' j))))
+  by false q =
+      subst (λ g. Simulates c (loop (world c) g (acts (world c) false (core_stmts true ss) UnitV)) (loop (world c) (guard_by e' (core_expr c.in_loop e')) (acts (world c) false (core_stmts true ss') UnitV))) (sym (guard_is e q (core_expr c.in_loop e)))
+      (subst (λ g. Simulates c (loop (world c) (core.When (core_expr c.in_loop e)) (acts (world c) false (core_stmts true ss) UnitV)) (loop (world c) g (acts (world c) false (core_stmts true ss') UnitV))) (sym (guard_is e' (u ∙ q) (core_expr c.in_loop e')))
+      (c_while (λ a b. Simulates c a b) Any (congruent c) _ _ _ _ h (body_alike c ss ss' j)))
+
+-- ---- the shape of a chain
+
+-- its last argument, of a `Dot` (dot) or an `Index`
+abbrev last_step : (loop dot : Bool) → Expr → core.Step
+last_step loop dot e = cond dot (member_of loop e) (core.Index (core_expr loop e))
+
+steps_end : (loop : Bool) (f : ChainFlags) (p : core.Step) (r : Expr) → f.breaks ≡ true → steps_of loop false f p r ≡ core.last f.negated p
+steps_end loop f p (Dot m l r) h = ap (λ b. cond b (core.last f.negated p) (core.more f.negated (core.Index (core_expr loop l)) (steps_of loop true m (member_of loop r) r))) h
+steps_end loop f p (Index m l r) h = ap (λ b. cond b (core.last f.negated p) (core.more f.negated (core.Index (core_expr loop l)) (steps_of loop false m (core.Index (core_expr loop r)) r))) h
+steps_end loop f p _ h = refl
+
+-- behind a chain that goes on
+goes_on : {k : Context} (c : Setting k) (b : Bool) (x x' y y' : core.Steps) → b ≡ false → StepsAlike c y y' → StepsAlike c (cond b x y) (cond b x' y')
+goes_on c true x x' y y' e h = absurd (let z : true ≡ false = e in cc)
+goes_on c false x x' y y' e h = h
+
+member_sound : {k : Context} (c : Setting k) (f : Callee) (es es' : Exprs) → count_exprs es ≡ count_exprs es' → ((next : List Value → Act) → Simulates c (with_args (world c) (core_exprs c.in_loop es) next) (with_args (world c) (core_exprs c.in_loop es') next)) → StepAlike c (member_of c.in_loop (MethodCall f es)) (member_of c.in_loop (MethodCall f es'))
+member_sound c f es es' e h =
+    subst (λ n. StepAlike c (method_of f (count_exprs es) (core_exprs c.in_loop es)) (method_of f n (core_exprs c.in_loop es'))) e
+    (method_alike c (is_callable f (count_exprs es)) f.name (core_exprs c.in_loop es) (core_exprs c.in_loop es') h)
+
 -- ---- in a list
 
 -- what comes after a list's last statement
@@ -56,96 +120,128 @@ head_sound c m l l' no_stmts v h =
     list_of_all m (subst R r.1 (h.before r.0))
 head_sound c m l l' (stmt t ss) v h = list_of_all m (h.before (acts (world c) (wanted m) (core_stmts c.in_loop (stmt t ss)) v))
 
--- behind a statement that stays; a name that it adds is no longer known
-tail_sound : {k : Context} (c : Setting k) (m : ListKind) (l : core.Stmt) {f f' : Value → Acts} → ((v : Value) → SimulatesList c m (f v) (f' v)) → ((x : Text) (v : Value) → SimulatesList (beneath x c) m (f v) (f' v)) → SimulatesList c m (line (world c) l f) (line (world c) l f')
-tail_sound c m (core.Does d) h j = list_line m _ h
-tail_sound c m (core.Var b x e) h j = list_line m _ (λ v. list_named m x b v (j x UnitV))
-
--- ---- rules ask for no name that is known
-
-abbrev knowing : Context → List Known → Context
-knowing k ks = record k { known = ks }
-
-expr_rule_at : {k : Context} (ks : List Known) {e e' : Expr} → ExprRule k e e' → ExprRule (knowing k ks) e e'
-expr_rule_at ks (rule.array_of_constants h) = rule.array_of_constants h
-expr_rule_at ks rule.braces_empty = rule.braces_empty
-expr_rule_at ks rule.braces_of_expression = rule.braces_of_expression
-expr_rule_at ks (rule.operator_folds h) = rule.operator_folds h
-expr_rule_at ks (rule.and_changes h j) = rule.and_changes h j
-expr_rule_at ks (rule.or_changes h j) = rule.or_changes h j
-expr_rule_at ks (rule.coalesce_changes h j) = rule.coalesce_changes h j
-expr_rule_at ks rule.and_of_one = rule.and_of_one
-expr_rule_at ks rule.or_of_one = rule.or_of_one
-expr_rule_at ks rule.coalesce_of_one = rule.coalesce_of_one
-expr_rule_at ks rule.and_of_none = rule.and_of_none
-expr_rule_at ks rule.or_of_none = rule.or_of_none
-expr_rule_at ks rule.coalesce_of_none = rule.coalesce_of_none
-expr_rule_at ks (rule.text_changes h) = rule.text_changes h
-expr_rule_at ks (rule.text_folds vs h) = rule.text_folds vs h
-expr_rule_at ks (rule.map_of_constants vs h) = rule.map_of_constants vs h
-expr_rule_at ks (rule.type_of_folds v h) = rule.type_of_folds v h
-expr_rule_at ks (rule.is_shared_folds v h) = rule.is_shared_folds v h
-expr_rule_at ks (rule.fn_folds f h j) = rule.fn_folds f h j
-expr_rule_at ks (rule.curry_folds f us vs h j) = rule.curry_folds f us vs h j
-expr_rule_at ks (rule.unit_ends_dot h j) = rule.unit_ends_dot h j
-expr_rule_at ks (rule.unit_ends_index h j) = rule.unit_ends_index h j
-expr_rule_at ks (rule.property_of_constant fs h) = rule.property_of_constant fs h
-expr_rule_at ks (rule.index_of_constant v j u h q r) = rule.index_of_constant v j u h q r
-expr_rule_at ks (rule.element_of_array n j h q r x) = rule.element_of_array n j h q r x
-expr_rule_at ks (rule.property_of_map h) = rule.property_of_map h
-expr_rule_at ks (rule.entry_of_map x h q) = rule.entry_of_map x h q
-expr_rule_at ks (rule.type_of_method v h q) = rule.type_of_method v h q
-expr_rule_at ks (rule.is_shared_method v h q) = rule.is_shared_method v h q
-
-stmt_rule_at : {k : Context} {w : Bool} (ks : List Known) {s s' : Stmt} → StmtRule k w s s' → StmtRule (knowing k ks) w s s'
-stmt_rule_at ks rule.if_without_blocks = rule.if_without_blocks
-stmt_rule_at ks (rule.if_decided h) = rule.if_decided h
-stmt_rule_at ks rule.block_empty = rule.block_empty
-stmt_rule_at ks (rule.block_of_statement h) = rule.block_of_statement h
-stmt_rule_at ks rule.statement_of_braces = rule.statement_of_braces
-stmt_rule_at ks rule.statement_of_call = rule.statement_of_call
-stmt_rule_at ks (rule.call_statement_folds h) = rule.call_statement_folds h
-stmt_rule_at ks (rule.while_false h) = rule.while_false h
-stmt_rule_at ks (rule.while_true h) = rule.while_true h
-stmt_rule_at ks (rule.pure_try h) = rule.pure_try h
-stmt_rule_at ks (rule.switch_answers v j js h q r x) = rule.switch_answers v j js h q r x
-stmt_rule_at ks (rule.switch_is_if v j h q r x) = rule.switch_is_if v j h q r x
-stmt_rule_at ks (rule.switch_defaults v h q) = rule.switch_defaults v h q
-stmt_rule_at ks (rule.switch_forgets j h q x) = rule.switch_forgets j h q x
-stmt_rule_at ks (rule.switch_narrows v h q d o x y) = rule.switch_narrows v h q d o x y
-stmt_rule_at ks (rule.switch_shrinks h q x y) = rule.switch_shrinks h q x y
-
-list_rule_at : {k : Context} {m : ListKind} (ks : List Known) {ss ss' : Stmts} → ListRule k m ss ss' → ListRule (knowing k ks) m ss ss'
-list_rule_at ks (rule.block_gives_way h) = rule.block_gives_way h
-
 -- ---- derivations
 
 mutual
-  pub expr_sound : {k : Context} {d d' : Bool} {e e' : Expr} → ExprTo k d d' e e' → (ks : List Known) (c : Setting (knowing k ks)) → Simulates c (act (world c) (core_expr c.in_loop e)) (act (world c) (core_expr c.in_loop e'))
-  expr_sound same_expr ks c = simulates_refl
-  expr_sound (then_expr h j) ks c = simulates_trans (expr_sound h ks c) (expr_sound j ks c)
-  expr_sound (by_expr_rule r) ks c = (expr_rule (expr_rule_at ks r)).sound c
-  expr_sound (in_array h) ks c = args_sound h ks c (λ vs. _)
-  expr_sound (in_braces h) ks c = (stmts_sound h ks c UnitV).closed
-  expr_sound (in_call {c = f} {es = es} {es' = es'} h) ks c = counted_sound c f (core_exprs c.in_loop es) (core_exprs c.in_loop es') (same_count h) (λ next. args_sound h ks c next)
+  pub expr_sound : {k : Context} {d d' : Bool} {e e' : Expr} → ExprTo k d d' e e' → (c : Setting k) → Simulates c (act (world c) (core_expr c.in_loop e)) (act (world c) (core_expr c.in_loop e'))
+  expr_sound same_expr c = simulates_refl
+  expr_sound (then_expr h j) c = simulates_trans (expr_sound h c) (expr_sound j c)
+  expr_sound (by_expr_rule r) c = (expr_rule r).sound c
+  expr_sound (in_text h) c = args_sound h c (λ vs. _)
+  expr_sound (in_array h) c = args_sound h c (λ vs. _)
+  expr_sound (in_map {ps = ps} {ps' = ps'} {template = template} h) c = map_sound c template (keys ps) (keys ps') (core_pairs c.in_loop ps) (core_pairs c.in_loop ps') (same_keys h) (λ next. pairs_sound h c next)
+  expr_sound (in_braces h) c = (stmts_sound h c UnitV (λ z. refl)).closed
+  expr_sound (in_call {c = f} {es = es} {es' = es'} h) c = counted_sound c f (core_exprs c.in_loop es) (core_exprs c.in_loop es') (same_count h) (λ next. args_sound h c next)
+  expr_sound (in_chain h) c = chain_sound h c
+  expr_sound (in_and h) c = both_sound h c
+  expr_sound (in_or h) c = either_sound h c
+  expr_sound (in_coalesce h) c = some_sound h c
 
-  args_sound : {k : Context} {d d' : Bool} {es es' : Exprs} → ExprsTo k d d' es es' → (ks : List Known) (c : Setting (knowing k ks)) (next : List Value → Act) → Simulates c (with_args (world c) (core_exprs c.in_loop es) next) (with_args (world c) (core_exprs c.in_loop es') next)
-  args_sound exprs_none ks c next = simulates_refl
-  args_sound (exprs_more h i) ks c next = simulates_bind (expr_sound h ks c) (λ v. args_sound i ks c (λ vs. next (v ∷ vs)))
+  args_sound : {k : Context} {d d' : Bool} {es es' : Exprs} → ExprsTo k d d' es es' → (c : Setting k) (next : List Value → Act) → Simulates c (with_args (world c) (core_exprs c.in_loop es) next) (with_args (world c) (core_exprs c.in_loop es') next)
+  args_sound exprs_none c next = simulates_refl
+  args_sound (exprs_more h i) c next = simulates_bind (expr_sound h c) (λ v. args_sound i c (λ vs. next (v ∷ vs)))
 
-  stmt_sound : {k : Context} {w d d' : Bool} {s s' : Stmt} → StmtTo k w d d' s s' → (ks : List Known) (c : Setting (knowing k ks)) → SimulatesStmt c w (core_stmt c.in_loop s) (core_stmt c.in_loop s')
-  stmt_sound same_stmt ks c = stmt_refl
-  stmt_sound (then_stmt h j) ks c = stmt_trans (stmt_sound h ks c) (stmt_sound j ks c)
-  stmt_sound (by_stmt_rule r) ks c = (stmt_rule (stmt_rule_at ks r)).sound c
-  stmt_sound {w = w} (in_if h i j) ks c = if_sound c w (expr_sound h ks c) (stmts_sound i ks c UnitV) (stmts_sound j ks c UnitV)
-  stmt_sound {w = w} (in_block h) ks c = block_sound c w (stmts_sound h ks c UnitV)
-  stmt_sound (in_expression h) ks c = stmt_of_deed (expr_sound h ks c)
-  stmt_sound (in_call_statement {c = f} {es = es} {es' = es'} h) ks c = stmt_of_deed (counted_sound c f (core_exprs c.in_loop es) (core_exprs c.in_loop es') (same_count h) (λ next. args_sound h ks c next))
+  both_sound : {k : Context} {d d' : Bool} {es es' : Exprs} → ExprsTo k d d' es es' → (c : Setting k) → Simulates c (both (world c) (core_exprs c.in_loop es)) (both (world c) (core_exprs c.in_loop es'))
+  both_sound exprs_none c = simulates_refl
+  both_sound (exprs_more h i) c = simulates_bind (expr_sound h c) (λ v. simulates_if v (both_sound i c) simulates_refl)
 
-  pub stmts_sound : {k : Context} {m : ListKind} {d d' : Bool} {ss ss' : Stmts} → StmtsTo k m d d' ss ss' → (ks : List Known) (c : Setting (knowing k ks)) (v : Value) → SimulatesList c m (acts (world c) (wanted m) (core_stmts c.in_loop ss) v) (acts (world c) (wanted m) (core_stmts c.in_loop ss') v)
-  stmts_sound same_stmts ks c v = list_refl
-  stmts_sound {m = m} (then_stmts h j) ks c v = list_trans m (stmts_sound h ks c v) (stmts_sound j ks c v)
-  stmts_sound (by_list_rule r) ks c v = (list_rule (list_rule_at ks r)).sound c v
-  stmts_sound {m = m} (in_head {s = s} {s' = s'} {ss = ss} h) ks c v = head_sound c m (core_stmt c.in_loop s) (core_stmt c.in_loop s') ss v (stmt_sound h ks c)
-  stmts_sound {m = m} (in_tail {s = s} h) ks c v = tail_sound c m (core_stmt c.in_loop s) (λ u. stmts_sound h ks c u) (λ x u. stmts_sound h (shadow x ks) (beneath x c) u)
-  stmts_sound (flag_forgotten h) ks c v = stmts_sound h ks c v
+  either_sound : {k : Context} {d d' : Bool} {es es' : Exprs} → ExprsTo k d d' es es' → (c : Setting k) → Simulates c (either (world c) (core_exprs c.in_loop es)) (either (world c) (core_exprs c.in_loop es'))
+  either_sound exprs_none c = simulates_refl
+  either_sound (exprs_more h i) c = simulates_bind (expr_sound h c) (λ v. simulates_if v simulates_refl (either_sound i c))
+
+  some_sound : {k : Context} {d d' : Bool} {es es' : Exprs} → ExprsTo k d d' es es' → (c : Setting k) → Simulates c (first_some (world c) (core_exprs c.in_loop es)) (first_some (world c) (core_exprs c.in_loop es'))
+  some_sound exprs_none c = simulates_refl
+  some_sound (exprs_more h i) c = simulates_bind (expr_sound h c) (λ v. c_choose (λ a b. Simulates c a b) Any (congruent c) (is_unit_value v) _ _ (give v) (give v) (some_sound i c) simulates_refl)
+
+  pairs_sound : {k : Context} {d d' : Bool} {ps ps' : Pairs} → PairsTo k d d' ps ps' → (c : Setting k) (next : List (Text × Value) → Act) → Simulates c (with_pairs (world c) (core_pairs c.in_loop ps) next) (with_pairs (world c) (core_pairs c.in_loop ps') next)
+  pairs_sound pairs_none c next = simulates_refl
+  pairs_sound (pairs_more {x = x} h i) c next = simulates_bind (expr_sound h c) (λ v. pairs_sound i c (λ vs. next ((x, v) ∷ vs)))
+
+  chain_sound : {k : Context} {d d' : Bool} {e e' : Expr} → ChainTo k d d' e e' → (c : Setting k) → Simulates c (act (world c) (core_expr c.in_loop e)) (act (world c) (core_expr c.in_loop e'))
+  chain_sound (in_dot {f = f} {l = l} {l' = l'} {r = r} {r' = r'} (base h u) i) c =
+      let A = act (world c) (core_expr c.in_loop (Dot f l r)) in
+      let sts = steps_of c.in_loop true f (member_of c.in_loop r') r' in
+      subst (λ b. Simulates c A (act (world c) (cond b (core.Chain (based (root_of l') (core_expr c.in_loop l')) sts) core.Ill))) (rest_fits i)
+      (subst (λ o. Simulates c A (act (world c) (cond (is_rest true f.breaks r) (core.Chain (based o (core_expr c.in_loop l')) sts) core.Ill))) (sym u)
+      (chain_alike c (is_rest true f.breaks r) (root_of l) (core_expr c.in_loop l) (core_expr c.in_loop l') (expr_sound h c) (steps_sound i c f refl)))
+  chain_sound (in_index {f = f} {l = l} {l' = l'} {r = r} {r' = r'} (base h u) i) c =
+      let A = act (world c) (core_expr c.in_loop (Index f l r)) in
+      let sts = steps_of c.in_loop false f (core.Index (core_expr c.in_loop r')) r' in
+      subst (λ b. Simulates c A (act (world c) (cond b (core.Chain (based (root_of l') (core_expr c.in_loop l')) sts) core.Ill))) (rest_fits i)
+      (subst (λ o. Simulates c A (act (world c) (cond (is_rest false f.breaks r) (core.Chain (based o (core_expr c.in_loop l')) sts) core.Ill))) (sym u)
+      (chain_alike c (is_rest false f.breaks r) (root_of l) (core_expr c.in_loop l) (core_expr c.in_loop l') (expr_sound h c) (steps_sound i c f refl)))
+
+  argument_sound : {k : Context} {dot d d' : Bool} {e e' : Expr} → ArgumentTo k dot d d' e e' → (c : Setting k) → StepAlike c (last_step c.in_loop dot e) (last_step c.in_loop dot e')
+  argument_sound same_argument c = step_refl c _
+  argument_sound (in_method {c = f} {es = es} {es' = es'} h) c = member_sound c f es es' (same_count h) (λ next. args_sound h c next)
+  argument_sound (in_brackets {e = e} {e' = e'} h) c = index_alike c (core_expr c.in_loop e) (core_expr c.in_loop e') (expr_sound h c)
+
+  steps_sound : {k : Context} {dot breaks d d' : Bool} {r r' : Expr} → StepsTo k dot breaks d d' r r' → (c : Setting k) (f : ChainFlags) → f.breaks ≡ breaks → StepsAlike c (steps_of c.in_loop dot f (last_step c.in_loop dot r) r) (steps_of c.in_loop dot f (last_step c.in_loop dot r') r')
+  steps_sound same_steps c f z = steps_refl c _
+  steps_sound (last_method {c = m} {es = es} {es' = es'} h) c f z = last_alike c f.negated (member_sound c m es es' (same_count h) (λ next. args_sound h c next))
+  steps_sound (last_index {e = e} {e' = e'} h) c f z =
+      let p = core.Index (core_expr c.in_loop e) in
+      let p' = core.Index (core_expr c.in_loop e') in
+      subst (λ sts. StepsAlike c sts (steps_of c.in_loop false f p' e')) (sym (steps_end c.in_loop f p e z))
+      (subst (λ sts. StepsAlike c (core.last f.negated p) sts) (sym (steps_end c.in_loop f p' e' z))
+      (last_alike c f.negated (index_alike c (core_expr c.in_loop e) (core_expr c.in_loop e') (expr_sound h c))))
+  steps_sound (more_dot {f = m} h i) c f z = goes_on c f.breaks _ _ _ _ z (more_alike c f.negated (argument_sound h c) (steps_sound i c m refl))
+  steps_sound (more_index {f = m} h i) c f z = goes_on c f.breaks _ _ _ _ z (more_alike c f.negated (argument_sound h c) (steps_sound i c m refl))
+
+  target_sound : {k : Context} {d d' : Bool} {e e' : Expr} → TargetTo k d d' e e' → (c : Setting k) (op : Option Operator) (v : Value) → Simulates c (assign (world c) op (target_of c.in_loop e) v) (assign (world c) op (target_of c.in_loop e') v)
+  target_sound same_target c op v = simulates_refl
+  target_sound (in_target (in_dot {f = f} {l = l} {l' = l'} {r = r} {r' = r'} (base h u) i)) c op v =
+      let A = assign (world c) op (target_of c.in_loop (Dot f l r)) v in
+      let sts = steps_of c.in_loop true f (member_of c.in_loop r') r' in
+      subst (λ b. Simulates c A (assign (world c) op (cond b (part_target (root_of l') (ends_in_call true f.breaks r') sts) core.IllTarget) v)) (rest_fits i)
+      (subst (λ o. Simulates c A (assign (world c) op (cond (is_rest true f.breaks r) (part_target o (ends_in_call true f.breaks r') sts) core.IllTarget) v)) (sym u)
+      (subst (λ b. Simulates c A (assign (world c) op (cond (is_rest true f.breaks r) (part_target (root_of l) b sts) core.IllTarget) v)) (calls_fit i)
+      (target_alike c (is_rest true f.breaks r) (root_of l) (ends_in_call true f.breaks r) (steps_sound i c f refl) op v)))
+  target_sound (in_target (in_index {f = f} {l = l} {l' = l'} {r = r} {r' = r'} (base h u) i)) c op v =
+      let A = assign (world c) op (target_of c.in_loop (Index f l r)) v in
+      let sts = steps_of c.in_loop false f (core.Index (core_expr c.in_loop r')) r' in
+      subst (λ b. Simulates c A (assign (world c) op (cond b (part_target (root_of l') (ends_in_call false f.breaks r') sts) core.IllTarget) v)) (rest_fits i)
+      (subst (λ o. Simulates c A (assign (world c) op (cond (is_rest false f.breaks r) (part_target o (ends_in_call false f.breaks r') sts) core.IllTarget) v)) (sym u)
+      (subst (λ b. Simulates c A (assign (world c) op (cond (is_rest false f.breaks r) (part_target (root_of l) b sts) core.IllTarget) v)) (calls_fit i)
+      (target_alike c (is_rest false f.breaks r) (root_of l) (ends_in_call false f.breaks r) (steps_sound i c f refl) op v)))
+
+  maybe_sound : {k : Context} {d d' : Bool} {e e' : MaybeExpr} → MaybeTo k d d' e e' → (c : Setting k) → Simulates c (act (world c) (core_maybe c.in_loop e)) (act (world c) (core_maybe c.in_loop e'))
+  maybe_sound maybe_none c = simulates_refl
+  maybe_sound (maybe_some h) c = expr_sound h c
+
+  arm_sound : {k : Context} {d d' : Bool} {as' bs : Arms} → ArmsTo k d d' as' bs → (c : Setting k) (i : ℕ) → MaybeAlike (λ a b. Simulates c a b) Any (congruent c) (slice_get (arm_acts (world c) (core_arms c.in_loop as')) i) (slice_get (arm_acts (world c) (core_arms c.in_loop bs)) i)
+  arm_sound arms_none c i = no_arm_alike
+  arm_sound (arms_more h i j) c zero = arm_alike (record { guard = expr_sound h c; answer = expr_sound i c })
+  arm_sound (arms_more h i j) c (suc n) = arm_sound j c n
+
+  stmt_sound : {k : Context} {w d d' : Bool} {s s' : Stmt} → StmtTo k w d d' s s' → (c : Setting k) → SimulatesStmt c w (core_stmt c.in_loop s) (core_stmt c.in_loop s')
+  stmt_sound same_stmt c = stmt_refl
+  stmt_sound (then_stmt h j) c = stmt_trans (stmt_sound h c) (stmt_sound j c)
+  stmt_sound (by_stmt_rule r) c = (stmt_rule r).sound c
+  stmt_sound {w = w} (in_if h i j) c = if_sound c w (expr_sound h c) (stmts_sound i c UnitV (λ z. refl)) (stmts_sound j c UnitV (λ z. refl))
+  stmt_sound (in_switch {e = e} {e' = e'} {as' = as'} {bs = bs} {t = t} h i) c =
+      stmt_of_deed (meant_again c (is_table as' t) (is_table bs t) (core.Switch (core_expr c.in_loop e) (core_arms c.in_loop as') t) (core.Switch (core_expr c.in_loop e') (core_arms c.in_loop bs) t) (table_stays i t)
+      (simulates_bind (expr_sound h c) (λ v. switch_alike c (arm_acts (world c) (core_arms c.in_loop as')) (arm_acts (world c) (core_arms c.in_loop bs)) (arm_sound i c) t v)))
+  stmt_sound (in_while {e = e} {e' = e'} {b = b} {b' = b'} (guard h u) i) c = stmt_of_deed (while_sound c e e' b b' (expr_sound h c) u (λ k. stmts_sound i k UnitV (λ z. refl)))
+  stmt_sound (in_do {negated = n} {b = b} {b' = b'} h i) c = stmt_of_deed (c_do (λ x y. Simulates c x y) Any (congruent c) n _ _ _ _ (body_alike c b b' (λ k. stmts_sound i k UnitV (λ z. refl))) (expr_sound h c))
+  stmt_sound (in_for {x = x} {i = n} {b = b} {b' = b'} h i) c = stmt_of_deed (simulates_bind (expr_sound h c) (λ v. c_for_all (λ y z. Simulates c y z) Any (congruent c) x n _ _ (rounds_alike c x n b b' (λ k. stmts_sound i k UnitV (λ z. refl))) v))
+  stmt_sound {w = w} (in_var {constant = b} {exported = o} {x = x} {e = e} {e' = e'} h) c = var_sound c w o b x (core_expr c.in_loop e) (core_expr c.in_loop e') (expr_sound h c)
+  stmt_sound {w = w} (in_assignment {op = op} {l = l} {l' = l'} {e = e} {e' = e'} h i) c =
+      test_sound c w (is_left_side l) (is_left_side l') (core.Assignment op (target_of c.in_loop l) (core_expr c.in_loop e)) (core.Assignment op (target_of c.in_loop l') (core_expr c.in_loop e')) (target_fits h)
+      (simulates_bind (expr_sound i c) (λ v. target_sound h c op v))
+  stmt_sound {w = w} (in_block h) c = block_sound c w (stmts_sound h c UnitV (λ z. refl))
+  stmt_sound (in_try {x = x} {a = a} {a' = a'} {b = b} {b' = b'} h i) c = stmt_of_deed (try_alike c (catch_name x) a a' b b' (λ k. stmts_sound h k UnitV (λ z. refl)) (λ k. stmts_sound i k UnitV (λ z. refl)))
+  stmt_sound (in_expression h) c = stmt_of_deed (expr_sound h c)
+  stmt_sound (in_call_statement {c = f} {es = es} {es' = es'} h) c = stmt_of_deed (counted_sound c f (core_exprs c.in_loop es) (core_exprs c.in_loop es') (same_count h) (λ next. args_sound h c next))
+  stmt_sound {w = w} (in_break {breaks = b} {m = m} {m' = m'} h) c =
+      test_sound c w c.in_loop c.in_loop (core.Leave (break_kind b) (core_maybe c.in_loop m)) (core.Leave (break_kind b) (core_maybe c.in_loop m')) refl (simulates_bind (maybe_sound h c) (λ v. simulates_refl))
+  stmt_sound (in_return h) c = stmt_of_deed (simulates_bind (maybe_sound h c) (λ v. simulates_refl))
+  stmt_sound (in_import h) c = stmt_refl
+
+  pub stmts_sound : {k : Context} {m : ListKind} {u d d' : Bool} {ss ss' : Stmts} → RestTo k m u d d' ss ss' → (c : Setting k) (v : Value) → (u ≡ true → v ≡ UnitV) → SimulatesList c m (acts (world c) (wanted m) (core_stmts c.in_loop ss) v) (acts (world c) (wanted m) (core_stmts c.in_loop ss') v)
+  stmts_sound same_stmts c v z = list_refl
+  stmts_sound {m = m} (then_stmts h j) c v z = list_trans m (stmts_sound h c v z) (stmts_sound j c v z)
+  stmts_sound (by_list_rule r) c v z = (list_rule r).sound c v z
+  stmts_sound {m = m} (in_head {s = s} {s' = s'} {ss = ss} h) c v z = head_sound c m (core_stmt c.in_loop s) (core_stmt c.in_loop s') ss v (stmt_sound h c)
+  stmts_sound {m = m} (in_tail {s = s} h) c v z = tail_sound c m s (λ u y. stmts_sound h (past s c) u y)
+  stmts_sound (flag_forgotten h) c v z = stmts_sound h c v z

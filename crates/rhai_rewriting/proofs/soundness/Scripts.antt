@@ -11,6 +11,7 @@ use Rattle.rhai_meaning.proofs.Ends.{Run, Ends, Met, out, ended, stuck, Rises, m
 use Rattle.rhai_meaning.proofs.Depths.{deeper_at}
 use Rattle.rhai_rewriting.specs.Known.{Known, shadow_all, Agrees}
 use Rattle.rhai_rewriting.specs.Refines.{EndsSo, RunRefines}
+use Rattle.rhai_rewriting.proofs.acts.Within.{AnyValue, Valueless, ResultIn, CallsIn, in_turn, returned_carries}
 use Rattle.rhai_rewriting.proofs.simulation.Agreement.{agrees_nothing, agrees_bind}
 use Rattle.rhai_rewriting.proofs.simulation.Setting.{Environments, Setting, steady_at}
 use Rattle.rhai_rewriting.proofs.simulation.Matching.{Matches, Stage, SimulatesAllAt, calling, ends_as, all_at_refl}
@@ -18,8 +19,16 @@ use Rattle.rhai_rewriting.proofs.simulation.Simulation.{SimulatesAll, along}
 
 -- ---- the environments of a script
 
+-- a call ends as a body does
+pub calls_unbroken : (lends : Bool) (w : World) (fs : List Function) (d : ℕ) → CallsIn Valueless (env_at lends w fs d)
+calls_unbroken lends w fs zero a scope calls t = tt
+calls_unbroken lends w fs (suc d) a scope calls t = by (function_of fs a.function) where
+  by : (o : Option Function) → ResultIn Valueless AnyValue (call_body lends w (env_at lends w fs d) o a scope calls t)
+  by None = tt
+  by (Some f) = in_turn Valueless AnyValue t (entered lends f a scope calls) (run_all w (env_at lends w fs d) (body_acts w f.body)) (λ t1. returned_carries _)
+
 abbrev pub environments : Bool → World → List Function → Environments
-environments lends w fs = record { by_depth = env_at lends w fs; deeper = deeper_at lends w fs; reaches = λ d. omega arith }
+environments lends w fs = record { by_depth = env_at lends w fs; deeper = deeper_at lends w fs; reaches = λ d. omega arith; unbroken = calls_unbroken lends w fs }
 
 -- ---- functions that may stand for others: a function keeps its name, parameters and receiver type
 

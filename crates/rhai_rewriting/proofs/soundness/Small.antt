@@ -3,14 +3,14 @@ use Rattle.std.proofs.Common.{◌≡◌, Bool, true, false}
 use Rattle.rhai_values.specs.Value.{Value, UnitV, PointerV}
 use Rattle.rhai_meaning.specs.Constants.{constant_for}
 use Rattle.rhai_meaning.specs.Small.{CallsOperator}
-use Rattle.rhai_meaning.specs.Tree.{Stmts}
+use Rattle.rhai_meaning.specs.Tree.{ChainFlags, Expr, Stmts}
 use Rattle.rhai_meaning.specs.Walk.{Node, OfExpr, Around, outermost, every, throughout, over_stmts}
 use Rattle.rhai_meaning.proofs.Walk.{stmts_alongside, every_throughout}
 use Rattle.rhai_rewriting.specs.Context.{Context, ListKind}
 use Rattle.rhai_rewriting.specs.Rewriting.{StmtsTo}
-use Rattle.rhai_rewriting.specs.Parts.{constant_of}
+use Rattle.rhai_rewriting.specs.Parts.{constant_of, link}
 use Rattle.rhai_rewriting.proofs.Plain.{is_plain_value}
-use Rattle.rhai_rewriting.proofs.rules.Lasting.{SameNode, same_call, same_call_statement, same_and, same_or, same_coalesce, same_text, same_while, same_switch, Lasting}
+use Rattle.rhai_rewriting.proofs.rules.Lasting.{SameNode, same_call, same_call_statement, same_and, same_or, same_coalesce, same_text, same_while, same_share, same_switch, same_map, same_method, same_dot, same_index, same_do, same_for, same_var, same_assignment, same_try, same_break, same_return, same_import, Lasting}
 use Rattle.rhai_rewriting.proofs.soundness.Lasting.{stmts_keep}
 
 -- a constant is no call
@@ -27,21 +27,41 @@ callee_again (same_coalesce e) h = h
 callee_again same_text h = h
 callee_again same_while h = h
 callee_again (same_switch e) h = h
+callee_again (same_map e) h = h
+callee_again (same_method e) h = h
+callee_again (same_dot e) h = h
+callee_again (same_index e) h = h
+callee_again same_share h = h
+callee_again same_do h = h
+callee_again same_for h = h
+callee_again same_var h = h
+callee_again (same_assignment e q) h = h
+callee_again same_try h = h
+callee_again same_break h = h
+callee_again same_return h = h
+callee_again same_import h = h
 callee_again _ h = tt
 
 value_callless : (v : Value) → CallsOperator (OfExpr (constant_of v))
 value_callless UnitV = tt
 value_callless _ = tt
 
-operators_last : Lasting (λ a n. CallsOperator n) false
-operators_last = record {
+no_chain : (dot dot' : Bool) (f m : ChainFlags) (e a e' r : Expr) → f.breaks ≡ false → CallsOperator (OfExpr (link dot f e (link dot' m a r))) → CallsOperator (OfExpr (link dot' m e' r))
+no_chain true dot' f m e a e' r q h = absurd h
+no_chain false dot' f m e a e' r q h = absurd h
+
+operators_last : (l : Bool) → Lasting (λ a n. CallsOperator n) l
+operators_last l = record {
   again = callee_again;
   constant = constant_callless;
   value = value_callless;
+  pointer = λ x f h. absurd h;
   noop = tt;
   branching = λ e a b. tt;
   block = λ ss. tt;
   expression = λ e. tt;
+  onward = no_chain;
+  conjunction = λ es h. tt;
   call_statement = λ c es h. h;
 }
 
@@ -49,4 +69,4 @@ pub calls_stay : {k : Context} {m : ListKind} {d d' : Bool} {ss ss' : Stmts} →
 calls_stay {ss = ss} {ss' = ss'} to h =
     let before = stmts_alongside (λ p q. (a : Around) → (p → q a) × (q a → p)) (every CallsOperator) (throughout (λ a n. CallsOperator n)) (every_throughout CallsOperator) ss outermost in
     let after = stmts_alongside (λ p q. (a : Around) → (p → q a) × (q a → p)) (every CallsOperator) (throughout (λ a n. CallsOperator n)) (every_throughout CallsOperator) ss' outermost in
-    after.1 (stmts_keep (λ a n. CallsOperator n) false operators_last to (before.0 h))
+    after.1 (stmts_keep (λ a n. CallsOperator n) operators_last false to (before.0 h))

@@ -1,39 +1,25 @@
--- The theorem: a script whose statements were rewritten does what it did.
-use Rattle.std.proofs.Common.{◌≡◌, ◌≤◌, Bool, true, List, [], ◌∷◌, sym, subst, arith}
-use Rattle.rhai_values.specs.Value.{UnitV}
+-- The theorem over a script's statements alone, its functions as they were.
+use Rattle.std.proofs.Common.{◌≡◌, ◌≤◌, Bool, true, List, [], sym, subst, arith}
 use Rattle.rhai_meaning.specs.Engine.{Engine}
-use Rattle.rhai_meaning.specs.Act.{ScopeEntry, Host, World}
-use Rattle.rhai_meaning.specs.Core as core
+use Rattle.rhai_meaning.specs.Act.{ScopeEntry, Host}
 use Rattle.rhai_meaning.specs.Desugar.{core_script}
-use Rattle.rhai_meaning.specs.Run.{world_of, EntryPoint, run_script}
+use Rattle.rhai_meaning.specs.Run.{EntryPoint, run_script}
 use Rattle.rhai_meaning.specs.Tree.{Script, Stmts}
-use Rattle.rhai_rewriting.specs.Context.{Whole, under}
+use Rattle.rhai_rewriting.specs.Context.{Context, Whole, under}
 use Rattle.rhai_rewriting.specs.Known.{Known, Agrees}
 use Rattle.rhai_rewriting.specs.Refines.{RunRefines, Refines}
-use Rattle.rhai_rewriting.specs.Rewriting.{StmtsTo}
+use Rattle.rhai_rewriting.specs.Rewriting.{StmtsTo, flag_forgotten}
+use Rattle.rhai_rewriting.specs.Scripts.{FunctionsTo, ScriptTo, nothing_known}
 use Rattle.rhai_meaning.specs.Weight.{weight}
 use Rattle.rhai_rewriting.proofs.Weights.{stmts_fall}
 use Rattle.rhai_rewriting.proofs.simulation.Agreement.{agrees_nothing}
-use Rattle.rhai_rewriting.proofs.simulation.Simulation.{all_refl}
-use Rattle.rhai_rewriting.proofs.soundness.Derivation.{stmts_sound}
-use Rattle.rhai_rewriting.proofs.soundness.Scripts.{setting_in, FunctionsTo, no_functions, functions, function, inside_nothing, run_refines}
-
--- functions as they were
-functions_same : (w : World) (fs : List core.Function) → FunctionsTo w [] fs fs
-functions_same w [] = no_functions
-functions_same w (f ∷ fs) = functions (function (record { body = λ envs. all_refl })) (functions_same w fs)
+use Rattle.rhai_rewriting.proofs.soundness.Whole.{functions_same, script_refines}
 
 pub keeps_meaning : (engine : Engine) (host : Host) (known : List Known) (d d' : Bool) (p p' : Script) (scope : List ScopeEntry) (e : EntryPoint) → StmtsTo (record { engine = engine; known = known }) Whole d d' p.statements p'.statements → p'.functions ≡ p.functions → Agrees engine.constants known scope → RunRefines (run_script engine host (core_script p) e scope) (run_script engine host (core_script p') e scope)
-unfolding run_script
 keeps_meaning engine host known d d' p p' scope e to same ag =
-    let q : Script = record { statements = p'.statements; functions = p.functions } in
-    let w = world_of engine host (core_script p).functions in
-    let c : RunRefines (run_script engine host (core_script p) e scope) (run_script engine host (core_script q) e scope) =
-    run_refines true w known [] (core_script p) (core_script q) scope (inside_nothing w) (record {
-      statements = record { body = λ envs. (stmts_sound to known (setting_in w known envs) UnitV).closed };
-      functions = functions_same w (core_script p).functions;
-    }) ag e in
-    subst (λ fs. RunRefines (run_script engine host (core_script p) e scope) (run_script engine host (core_script (record { statements = p'.statements; functions = fs })) e scope)) (sym same) c
+    let k : Context = record { engine = engine; known = [] } in
+    let c : ScriptTo engine known [] p p' = record { statements = flag_forgotten to; functions = subst (λ fs. FunctionsTo k p.functions fs) (sym same) (functions_same k p.functions) } in
+    (script_refines c nothing_known (agrees_nothing engine.constants [])).runs host scope e ag
 
 -- ---- what a derivation over a script's statements promises of the script
 

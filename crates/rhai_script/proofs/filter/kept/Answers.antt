@@ -3,7 +3,7 @@ use Rattle.std.proofs.lemmas.Grind.{common_steps}
 use Rattle.std.specs.Rc.{rc_value}
 use Rattle.rhai_ast.specs.declared.ast.script_fn.ScriptFuncDef.{ScriptFuncDef}
 use Rattle.rhai_script.specs.Filter.{AnswersShort}
-use Rattle.rhai_script.proofs.Choices.{chooses-taken, chooses-passed, chooses-end}
+use Rattle.rhai_script.proofs.Choices.{chooses-taken, chooses-passed, chooses-end, table-chosen}
 use Rattle.rhai_script.proofs.filter.kept.Goals as goal
 
 pub loop-function-preserved-in_ok-push : goal.loop-function-preserved-in_ok-push
@@ -25,7 +25,13 @@ loop-function-preserved g c =
     chooses-passed (AnswersShort g.F.Fn) c.args.filter.now c.args.lib.now.functions c.loop-function.function-iterator c.next.new.self
     (map rc_value c.loop-function.kept.items) c.in-Some.function.now.value c.loop-function.invariant left answer
 
-pub returns : goal.returns
-returns g c =
+pub returns-clause-filtered : goal.returns-clause-filtered
+returns-clause-filtered g c =
     let none : c.loop-function.function-iterator ≡ [] = grind (arith, common_steps) in
     chooses-end (AnswersShort g.F.Fn) c.args.filter.now c.args.lib.now.functions c.loop-function.function-iterator (map rc_value c.loop-function.kept.items) c.loop-function.invariant none
+
+pub returns-clause-table : goal.returns-clause-table
+returns-clause-table g c =
+    let none : c.loop-function.function-iterator ≡ [] = grind (arith, common_steps) in
+    table-chosen (AnswersShort g.F.Fn) c.args.filter.now c.args.lib.now.functions (map rc_value c.loop-function.kept.items)
+    (chooses-end (AnswersShort g.F.Fn) c.args.filter.now c.args.lib.now.functions c.loop-function.function-iterator (map rc_value c.loop-function.kept.items) c.loop-function.invariant none) c.iter-function-items.ensures.distinct

@@ -1,0 +1,91 @@
+-- The rules of lists by which pure statements go: a lemma each, of the rule's name.
+use Rattle.std.proofs.Common.{◌≡◌, Bool, true, false, List, [], ◌∷◌, Option, Some, None, refl, ap, arith}
+use Rattle.rhai_values.specs.Value.{Text, Value}
+use Rattle.rhai_meaning.specs.Act.{World, ScopeEntry, Store, Unbound, Scoped, Acts, Named, found, read}
+use Rattle.rhai_meaning.specs.ActForms.{each_value, then_line, of_constant}
+use Rattle.rhai_meaning.specs.Core as core
+use Rattle.rhai_meaning.specs.Desugar.{variable, qualified, core_stmt, core_stmts}
+use Rattle.rhai_meaning.specs.Laws.{Gave, Stopped}
+use Rattle.rhai_meaning.specs.Meaning.{act, deed, line, acts}
+use Rattle.rhai_meaning.specs.Queries.{is_pure, is_internally_pure, are_internally_pure}
+use Rattle.rhai_meaning.specs.Tree.{Variable, Stmt, ExprStmt, Stmts, no_stmts, stmt}
+use Rattle.rhai_meaning.proofs.PureActs.{PureList, unnamed}
+use Rattle.rhai_meaning.proofs.PureTrees.{PureStmt, pure_deed, InternalStmt, declares, internal_deed, pure_stmt, internal_stmt, internal_list}
+use Rattle.rhai_meaning.proofs.Sequencing.{scoped_do}
+use Rattle.rhai_rewriting.specs.Context.{Context, ListKind, Inside, wanted, wanted_before}
+use Rattle.rhai_rewriting.proofs.simulation.Setting.{Setting, world, run_from, run_all_from}
+use Rattle.rhai_rewriting.proofs.simulation.Simulation.{Simulates, simulates_trans, all_trans, simulates_equal, all_equal, simulates_refl}
+use Rattle.rhai_rewriting.proofs.simulation.Laws.{pure_ending_goes}
+use Rattle.rhai_rewriting.proofs.simulation.Lists.{SimulatesList, list_of_all}
+use Rattle.rhai_rewriting.proofs.simulation.Dropped.{PureFrom, from_any, all_goes}
+use Rattle.rhai_rewriting.proofs.rules.Leaving.{stmt_heavy}
+use Rattle.rhai_rewriting.proofs.rules.Obligation.{ListObligation}
+
+-- a value that nobody asks for
+not_wanted : (w : World) (l b : Bool) (ss : Stmts) → wanted_before b ss ≡ false → (u v : Value) → acts w b (core_stmts l ss) u ≡ acts w b (core_stmts l ss) v
+not_wanted w l true no_stmts h u v = absurd (let z : true ≡ false = h in cc)
+not_wanted w l false no_stmts h u v = refl
+not_wanted w l b (stmt s ss) h u v = refl
+
+module _ {k : Context} (c : Setting k) where
+  -- a deed that changes nothing
+  deed_goes : (m : ListKind) (d : core.Deed) (ss : Stmts) (v : Value) → wanted_before (wanted m) ss ≡ false → ((s : Store) → PureFrom (world c) (deed (world c) d) s) → SimulatesList c m (then_line (deed (world c) d) (λ u. acts (world c) (wanted m) (core_stmts c.in_loop ss) u)) (acts (world c) (wanted m) (core_stmts c.in_loop ss) v)
+  deed_goes m d ss v n p = list_of_all m
+      (all_trans {q = then_line (deed (world c) d) (λ u. acts (world c) (wanted m) (core_stmts c.in_loop ss) v)}
+      (all_equal (λ i. ap (λ f. run_all_from c i (then_line (deed (world c) d) f)) (λ j u. not_wanted (world c) c.in_loop (wanted m) ss n u v j)))
+      (all_goes c (deed (world c) d) _ p))
+
+  stmt_goes : (m : ListKind) (l : core.Stmt) (ss : Stmts) (v : Value) → wanted_before (wanted m) ss ≡ false → PureStmt (world c) l → SimulatesList c m (line (world c) l (λ u. acts (world c) (wanted m) (core_stmts c.in_loop ss) u)) (acts (world c) (wanted m) (core_stmts c.in_loop ss) v)
+  stmt_goes m _ ss v n (pure_deed {d = d} p) = deed_goes m d ss v n (from_any (deed (world c) d) p)
+
+  -- ---- a name alone
+
+  read_from : (x : Text) (s : Store) (o : Option ScopeEntry) → found (world c).engine.constants s.scope x ≡ o → PureFrom (world c) (act (world c) (core.Variable x)) s
+  read_from x s None q = record { cost = 0; end = Stopped Unbound; by = λ env adds t. ap (λ z. read z s t) q }
+  read_from x s (Some e) q = record { cost = 0; end = Gave e.value; by = λ env adds t. ap (λ z. read z s t) q }
+
+  constant_from : (o : Option Value) (s : Store) → PureFrom (world c) (of_constant o) s
+  constant_from None s = record { cost = 0; end = Stopped Unbound; by = λ env adds t. refl }
+  constant_from (Some v) s = record { cost = 0; end = Gave v; by = λ env adds t. refl }
+
+  name_from : (ns : List Text) (x : Text) (s : Store) → PureFrom (world c) (act (world c) (variable ns x)) s
+  name_from [] x s = read_from x s _ refl
+  name_from (n ∷ ns) x s = constant_from (c.host.module_value (qualified (n ∷ ns) x)) s
+
+  -- ---- a statement that is pure inside, before a list that changes nothing
+
+  pub inside_goes : (l : core.Stmt) (p : Acts) → InternalStmt (world c) l → PureList (world c) p → Simulates c (Scoped (line (world c) l (λ u. p))) (Scoped p)
+  inside_goes _ p (declares {c = b} {x = x} {e = e} h) q =
+      let a = act (world c) e in
+      let next : Value → Acts = λ v. Named x b v p in
+      simulates_trans (simulates_equal (λ n. scoped_do (world c) n.env n.adds a (λ z. each_value next z) n.store n.turns))
+      (pure_ending_goes a (λ z. Scoped (each_value next z)) (Scoped p) h (λ v. simulates_equal (λ n. unnamed (world c) x b v p q n.env n.adds n.store n.turns)))
+  inside_goes _ p (internal_deed {d = d} h) q =
+      let a = deed (world c) d in
+      simulates_trans (simulates_equal (λ n. scoped_do (world c) n.env n.adds a (λ z. each_value (λ v. p) z) n.store n.turns))
+      (pure_ending_goes a (λ z. Scoped (each_value (λ v. p) z)) (Scoped p) h (λ v. simulates_refl))
+
+pub pure_goes : {k : Context} {m : ListKind} {u : Bool} {s : Stmt} {ss : Stmts} → wanted_before (wanted m) ss ≡ false → is_pure s ≡ true → ListObligation k m u (stmt s ss) ss
+pure_goes {m = m} {s = s} {ss = ss} n h = record {
+  lighter = omega (arith, stmt_heavy s);
+  keeps = λ P l lasts j. j.1;
+  sound = λ c v z. stmt_goes c m (core_stmt c.in_loop s) ss v n (pure_stmt (world c) c.in_loop s h);
+}
+
+pub lone_goes : {k : Context} {m : ListKind} {u : Bool} {ns : List Text} {x : Text} {ss : Stmts} → wanted_before (wanted m) ss ≡ false → ListObligation k m u (stmt (ExprStmt (Variable ns x)) ss) ss
+lone_goes {m = m} {ns = ns} {x = x} {ss = ss} n = record {
+  lighter = omega arith;
+  keeps = λ P l lasts j. j.1;
+  sound = λ c v z. deed_goes c m (core.Evaluate (variable ns x)) ss v n (λ s. name_from c ns x s);
+}
+
+pub pure_inside_goes : {k : Context} {b u : Bool} {s : Stmt} {ss : Stmts} → wanted_before b ss ≡ false → is_internally_pure s ≡ true → are_internally_pure ss ≡ true → ListObligation k (Inside b) u (stmt s ss) ss
+pure_inside_goes {b = b} {s = s} {ss = ss} n h j = record {
+  lighter = omega (arith, stmt_heavy s);
+  keeps = λ P l lasts i. i.1;
+  sound = λ c v z. record {
+    closed = simulates_trans
+        (simulates_equal (λ i. ap (λ f. run_from c i (Scoped (line (world c) (core_stmt c.in_loop s) f))) (λ y u. not_wanted (world c) c.in_loop b ss n u v y)))
+        (inside_goes c (core_stmt c.in_loop s) (acts (world c) b (core_stmts c.in_loop ss) v) (internal_stmt (world c) c.in_loop s h) (internal_list (world c) c.in_loop b ss j v));
+  };
+}

@@ -1,0 +1,25 @@
+-- When `x = x op e` is `x op= e`.
+use Rattle.std.specs.Prelude.{Bool, true, false, ◌||◌, List, [], ◌∷◌}
+use Rattle.rhai_values.specs.Value.{Text, same_text}
+use Rattle.rhai_meaning.specs.Engine.{Override}
+use Rattle.rhai_meaning.specs.Plain.{all_true}
+use Rattle.rhai_meaning.specs.Small.{is_operator}
+use Rattle.rhai_meaning.specs.Tree.{Expr, MethodCall, FnCall, Assignment, FnCallStmt}
+use Rattle.rhai_meaning.specs.Walk.{Node, OfExpr, OfStmt, over_expr}
+
+-- no assignment, no method call, and no call but an operator's
+abbrev pub writes_nothing : Node → Bool
+writes_nothing (OfExpr (MethodCall c es)) = false
+writes_nothing (OfExpr (FnCall c es)) = is_operator c.token
+writes_nothing (OfStmt (Assignment op l e)) = false
+writes_nothing (OfStmt (FnCallStmt c es)) = is_operator c.token
+writes_nothing n = true
+
+-- at any depth
+abbrev pub leaves_names : Expr → Bool
+leaves_names e = over_expr (all_true writes_nothing) e
+
+-- whether a name is overridden for any types
+abbrev pub overrides_any : List Override → Text → Bool
+overrides_any [] f = false
+overrides_any (o ∷ os) f = same_text o.name f || overrides_any os f

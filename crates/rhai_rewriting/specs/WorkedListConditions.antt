@@ -1,0 +1,144 @@
+-- For each condition of the rules on known names and of lists two scripts that the rule without it would take for one, and
+-- what each does.
+use Rattle.std.specs.Prelude.{◌≡◌, true, false, [], ◌∷◌, None, codes, refl, List, Some}
+use Rattle.rhai_values.specs.Value.{UnitV, ArrayV, values, TextV, PointerV}
+use Rattle.rhai_base.specs.Operators.{Plus, computed}
+use Rattle.rhai_rewriting.specs.Parts.{named}
+use Rattle.rhai_rewriting.specs.WorkedNodes.{dot}
+use Rattle.rhai_meaning.specs.Engine.{Engine}
+use Rattle.rhai_meaning.specs.Act.{Unbound, HostCall, Host, Answers}
+use Rattle.rhai_meaning.specs.Run.{WithValue, WithStuck, WithThrown}
+use Rattle.rhai_meaning.specs.Tree.{Expr, BoolConstant, DynamicConstant, BlockExpr, no_expr, an_expr, Stmt, Noop, If, While, For, Assignment, Block, ExprStmt, BreakLoop, Return, stmts, Dot, MethodCall, exprs, StringConstant}
+use Rattle.rhai_meaning.specs.WorkedForms.{int, nothing_set, joining, ran, ran_with, ends, i, op, asked, overriding, call}
+use Rattle.rhai_rewriting.specs.WorkedConditions.{Differ}
+use Rattle.rhai_rewriting.specs.WorkedLists.{var, let', const, variable, constant, ends_with}
+use Rattle.rhai_rewriting.specs.WorkedRewrites.{f, asks_f}
+
+abbrev show : Expr → Stmt
+show e = ExprStmt e
+
+-- ---- names that are known
+
+-- the latest of a name: const x = 1; let x = 2; x, and 1 at its end
+shadowed_name_stays : Differ (const "x" (int 1) ∷ let' "x" (int 2) ∷ show (var "x") ∷ []) (ends_with (WithValue (i 2)) (constant "x" (i 1) ∷ variable "x" (i 2) ∷ []) []) (const "x" (int 1) ∷ let' "x" (int 2) ∷ show (int 1) ∷ []) (ends_with (WithValue (i 1)) (constant "x" (i 1) ∷ variable "x" (i 2) ∷ []) [])
+unfolding ran
+shadowed_name_stays = (refl, refl)
+
+-- a variable isn't known: let x = 1; x = 2; x, and 1 at its end
+variable_stays : Differ (let' "x" (int 1) ∷ Assignment None (var "x") (int 2) ∷ show (var "x") ∷ []) (ends_with (WithValue (i 2)) (variable "x" (i 2) ∷ []) []) (let' "x" (int 1) ∷ Assignment None (var "x") (int 2) ∷ show (int 1) ∷ []) (ends_with (WithValue (i 1)) (variable "x" (i 2) ∷ []) [])
+unfolding ran
+variable_stays = (refl, refl)
+
+-- the name of a loop isn't the constant around it: const x = 1; for x in [2] { return x }, and return 1
+abbrev for_x : Expr → Stmt
+for_x e = For (codes "x") None (DynamicConstant (ArrayV (values (i 2 ∷ [])))) (stmts (Return false (an_expr e) ∷ []))
+
+loop_name_stays : (ran_with nothing_set joining [] 1 (const "x" (int 1) ∷ for_x (var "x") ∷ []) ≡ ends_with (WithValue (i 2)) (constant "x" (i 1) ∷ []) []) × (ran_with nothing_set joining [] 1 (const "x" (int 1) ∷ for_x (int 1) ∷ []) ≡ ends_with (WithValue (i 1)) (constant "x" (i 1) ∷ []) [])
+unfolding ran_with
+loop_name_stays = (refl, refl)
+
+-- a block's constant is not known behind it: { const x = 1; } x, and 1
+block_forgets : Differ (Block (stmts (const "x" (int 1) ∷ [])) ∷ show (var "x") ∷ []) (ends (WithStuck Unbound) []) (Block (stmts (const "x" (int 1) ∷ [])) ∷ show (int 1) ∷ []) (ends (WithValue (i 1)) [])
+unfolding ran
+block_forgets = (refl, refl)
+
+-- a pointer's name is valid: the call throws where the constant is a value
+pointer_name : Differ (show (DynamicConstant (PointerV (codes "1") (values []))) ∷ []) (ends (WithValue (PointerV (codes "1") (values []))) []) (show (call "Fn" (StringConstant (codes "1") ∷ [])) ∷ []) (ends (WithThrown (TextV (codes "function name"))) [])
+unfolding ran
+pointer_name = (refl, refl)
+
+-- ---- lists
+
+-- a statement that may not leave keeps what follows: if false { return 1; } 2
+may_go_on : Differ (If (BoolConstant false) (stmts (Return false (an_expr (int 1)) ∷ [])) (stmts []) ∷ show (int 2) ∷ []) (ends (WithValue (i 2)) []) (If (BoolConstant false) (stmts (Return false (an_expr (int 1)) ∷ [])) (stmts []) ∷ []) (ends (WithValue UnitV) [])
+unfolding ran
+may_go_on = (refl, refl)
+
+-- a pure statement whose value is wanted stays: f(); 42
+wanted_value_stays : Differ (f ∷ show (int 42) ∷ []) (ends (WithValue (i 42)) asks_f) (f ∷ []) (ends (WithValue UnitV) asks_f)
+unfolding ran
+wanted_value_stays = (refl, refl)
+
+-- what isn't pure stays: f(); 1
+call_stays : Differ (f ∷ show (int 1) ∷ []) (ends (WithValue (i 1)) asks_f) (show (int 1) ∷ []) (ends (WithValue (i 1)) [])
+unfolding ran
+call_stays = (refl, refl)
+
+-- a script's own declaration is seen from outside: let x = 1; 2
+declaration_stays : Differ (let' "x" (int 1) ∷ show (int 2) ∷ []) (ends_with (WithValue (i 2)) (variable "x" (i 1) ∷ []) []) (show (int 2) ∷ []) (ends (WithValue (i 2)) [])
+unfolding ran
+declaration_stays = (refl, refl)
+
+-- inside it goes only where all that follows is pure: { let x = 1; x }
+read_inside : Differ (Block (stmts (let' "x" (int 1) ∷ show (var "x") ∷ [])) ∷ []) (ends (WithValue (i 1)) []) (Block (stmts (show (var "x") ∷ [])) ∷ []) (ends (WithStuck Unbound) [])
+unfolding ran
+read_inside = (refl, refl)
+
+-- a `return` inside leaves more than its block: { return 1; } 2
+return_inside : Differ (Block (stmts (Return false (an_expr (int 1)) ∷ [])) ∷ show (int 2) ∷ []) (ends (WithValue (i 1)) []) (Block (stmts (show (int 1) ∷ [])) ∷ show (int 2) ∷ []) (ends (WithValue (i 2)) [])
+unfolding ran
+return_inside = (refl, refl)
+
+-- a last `return;` goes only behind unit: 1; return;
+return_behind_value : Differ (show (int 1) ∷ Return false no_expr ∷ []) (ends (WithValue UnitV) []) (show (int 1) ∷ []) (ends (WithValue (i 1)) [])
+unfolding ran
+return_behind_value = (refl, refl)
+
+-- and so does what gives unit: a loop that a `break` leaves with a value is not surely unit. for x in [2] { break 5 } noop
+abbrev broken : Stmt
+broken = For (codes "x") None (DynamicConstant (ArrayV (values (i 2 ∷ [])))) (stmts (BreakLoop true (an_expr (int 5)) ∷ []))
+
+unit_behind_value : (ran_with nothing_set joining [] 1 (broken ∷ Noop ∷ []) ≡ ends (WithValue UnitV) []) × (ran_with nothing_set joining [] 1 (broken ∷ []) ≡ ends (WithValue (i 5)) [])
+unfolding ran_with
+unit_behind_value = (refl, refl)
+
+-- nor is it one itself: what follows it must not go as if it were. A `break` in a guard belongs to the loop around:
+-- for x in [2] { while { break 5 } {} } is 5
+guard_breaks_out : ran_with nothing_set joining [] 1 (For (codes "x") None (DynamicConstant (ArrayV (values (i 2 ∷ [])))) (stmts (While (BlockExpr (stmts (BreakLoop true (an_expr (int 5)) ∷ []))) (stmts []) ∷ [])) ∷ []) ≡ ends (WithValue (i 5)) []
+unfolding ran_with
+guard_breaks_out = refl
+
+-- a last statement that gives another value stays: 1; 2
+last_value_stays : Differ (show (int 1) ∷ show (int 2) ∷ []) (ends (WithValue (i 2)) []) (show (int 1) ∷ Noop ∷ []) (ends (WithValue UnitV) [])
+unfolding ran
+last_value_stays = (refl, refl)
+
+-- an `if` in an `if` with an `else` is no `&&`: if true { if false { f() } else { 1 } }
+abbrev inner : Stmt
+inner = If (BoolConstant false) (stmts (f ∷ [])) (stmts (show (int 1) ∷ []))
+
+else_inside : Differ (If (BoolConstant true) (stmts (inner ∷ [])) (stmts []) ∷ []) (ends (WithValue (i 1)) []) (If (BoolConstant false) (stmts (f ∷ [])) (stmts []) ∷ []) (ends (WithValue UnitV) [])
+unfolding ran
+else_inside = (refl, refl)
+
+-- ---- assignments of an operator over their own name
+
+-- the name is read first: let x = 1; x = x + { x = 5; 1 }; x
+abbrev writing : Expr
+writing = BlockExpr (stmts (Assignment None (var "x") (int 5) ∷ show (int 1) ∷ []))
+
+assignment_inside : Differ (let' "x" (int 1) ∷ Assignment None (var "x") (op Plus (var "x" ∷ writing ∷ [])) ∷ []) (ends_with (WithValue UnitV) (variable "x" (i 2) ∷ []) []) (let' "x" (int 1) ∷ Assignment (Some Plus) (var "x") writing ∷ []) (ends_with (WithValue UnitV) (variable "x" (i 6) ∷ []) [])
+unfolding ran computed
+assignment_inside = (refl, refl)
+
+-- a method may give its receiver another value: x = x + x.f() where f makes it 5 and answers 1
+abbrev changing : Host
+changing = record { answer = λ past c. Answers (i 1) (Some (i 5)); module_value = λ x. None }
+
+abbrev method : Expr
+method = Dot dot (var "x") (MethodCall (named (codes "f") false) (exprs []))
+
+abbrev method_asked : List HostCall
+method_asked = record { name = codes "f"; receiver = Some (i 1); arguments = [] } ∷ []
+
+method_inside : (ran nothing_set changing (let' "x" (int 1) ∷ Assignment None (var "x") (op Plus (var "x" ∷ method ∷ [])) ∷ []) ≡ ends_with (WithValue UnitV) (variable "x" (i 2) ∷ []) method_asked) × (ran nothing_set changing (let' "x" (int 1) ∷ Assignment (Some Plus) (var "x") method ∷ []) ≡ ends_with (WithValue UnitV) (variable "x" (i 6) ∷ []) method_asked)
+unfolding ran computed
+method_inside = (refl, refl)
+
+-- the host answers where `+=` is overridden
+abbrev overridden : Engine
+overridden = overriding (codes "+=") (codes "i64" ∷ codes "i64" ∷ []) false
+
+overridden_assignment : (ran overridden changing (let' "x" (int 1) ∷ Assignment None (var "x") (op Plus (var "x" ∷ int 2 ∷ [])) ∷ []) ≡ ends_with (WithValue UnitV) (variable "x" (i 3) ∷ []) []) × (ran overridden changing (let' "x" (int 1) ∷ Assignment (Some Plus) (var "x") (int 2) ∷ []) ≡ ends_with (WithValue UnitV) (variable "x" (i 1) ∷ []) (asked "+=" (i 1 ∷ i 2 ∷ []) ∷ []))
+unfolding ran computed
+overridden_assignment = (refl, refl)
