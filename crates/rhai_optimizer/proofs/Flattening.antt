@@ -11,7 +11,7 @@ use Rattle.rhai_rewriting.specs.Rewriting.{RestTo, StmtsTo, same_stmts, then_stm
 use Rattle.rhai_rewriting.specs.Rules.{spliced, block_gives_way}
 use Rattle.rhai_rewriting.proofs.Firing.{in_back}
 use Rattle.rhai_rewriting.specs.Steps.{Moves}
-use Rattle.rhai_meaning.specs.Weight.{stmt_weight, weight}
+use Rattle.rhai_meaning.specs.Weight.{weight}
 use Rattle.rhai_optimizer.specs.Blocks.{gives_way, any_gives_way, Flattens, FlatList}
 
 joined-push : (done : List declared_stmt.Stmt) (s : declared_stmt.Stmt) (new : Stmts) → joined (stmts_of (done ++ s ∷ [])) new ≡ joined (stmts_of done) (stmt (stmt_of s) new)

@@ -1,5 +1,5 @@
 -- Nodes that are settled, and calls that fold.
-use Rattle.std.proofs.Common.{◌≡◌, Bool, true, false, not, ◌&&◌, List, Option, Some, None, is_some, refl, sym, subst}
+use Rattle.std.proofs.Common.{◌≡◌, Bool, true, false, not, ◌&&◌, Option, Some, None, is_some, refl, sym, subst}
 use Rattle.std.specs.Option.{option_map}
 use Rattle.rhai_values.specs.Value.{Value}
 use Rattle.rhai_meaning.specs.Constants.{are_constant, constant_bool, constant_for, constant_values}
