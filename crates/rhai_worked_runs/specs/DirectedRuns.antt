@@ -56,9 +56,9 @@ qualified_name_is_no_place = refl
 
 -- let x = 1
 -- Dot(x, Dot(g(), p)) = h()
-getter_gives_no_place : ran (engine [] [] [] false) (host (named (codes "f") [] ∷ named (codes "g") [] ∷ []) (Answers (IntV (pos 3)) (Some (IntV (pos 4))) ∷ []) []) [] ((Var false false (codes "x") (IntegerConstant (pos 1))) ∷ (Assignment None (Dot (flags false false) (Variable [] (codes "x")) (Dot (flags false false) (MethodCall (callee [] (codes "g") false NoToken) (exprs [])) (property (codes "get$p") (codes "set$p") (codes "p")))) (FnCall (callee [] (codes "h") false NoToken) (exprs []))) ∷ []) AtStatements [] 3 ≡ ends (WithStuck NoPlace) (entry (codes "x") false (IntV (pos 1)) ∷ []) None (asked None (codes "h") [] ∷ asked (Some (IntV (pos 1))) (codes "g") [] ∷ []) 3
+method_gives_no_place : ran (engine [] [] [] false) (host (named (codes "f") [] ∷ named (codes "g") [] ∷ []) (Answers (IntV (pos 3)) (Some (IntV (pos 4))) ∷ []) []) [] ((Var false false (codes "x") (IntegerConstant (pos 1))) ∷ (Assignment None (Dot (flags false false) (Variable [] (codes "x")) (Dot (flags false false) (MethodCall (callee [] (codes "g") false NoToken) (exprs [])) (property (codes "get$p") (codes "set$p") (codes "p")))) (FnCall (callee [] (codes "h") false NoToken) (exprs []))) ∷ []) AtStatements [] 3 ≡ ends (WithStuck NoPlace) (entry (codes "x") false (IntV (pos 1)) ∷ []) None (asked None (codes "h") [] ∷ asked (Some (IntV (pos 1))) (codes "g") [] ∷ []) 3
 unfolding ran
-getter_gives_no_place = refl
+method_gives_no_place = refl
 
 -- let x = 1
 -- Index!(x, 0) = true

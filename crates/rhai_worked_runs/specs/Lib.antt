@@ -12,3 +12,5 @@ pub mod WorkedNames
 pub mod WorkedHosts
 pub mod WorkedTrees
 pub mod RandomRuns
+pub mod RunCases
+pub mod TreeCases
