@@ -125,6 +125,11 @@ pub data StmtRule (k : Context) (w : Bool) : Stmt → Stmt → Type 0 where
   statement_of_call : {c : Callee} {es : Exprs} → StmtRule k w (ExprStmt (FnCall c es)) (FnCallStmt c es)
   -- a call statement of an operator over constants that is built in is its value
   call_statement_folds : {c : Callee} {es : Exprs} {v : Value} → folded k.engine c es ≡ Some v → StmtRule k w (FnCallStmt c es) (ExprStmt (constant_for v))
+  -- so is one of the language's own functions over constants
+  type_of_statement_folds : {captures : Bool} {e : Expr} (v : Value) → constant_value e ≡ Some v → StmtRule k w (FnCallStmt (named (codes "type_of") captures) (expr e no_exprs)) (ExprStmt (StringConstant (mapped_type_name k.engine v)))
+  is_shared_statement_folds : {captures : Bool} {e : Expr} (v : Value) → constant_value e ≡ Some v → StmtRule k w (FnCallStmt (named (codes "is_shared") captures) (expr e no_exprs)) (ExprStmt (BoolConstant false))
+  fn_statement_folds : {captures : Bool} {e : Expr} (f : Text) → constant_value e ≡ Some (TextV f) → is_valid_name f ≡ true → StmtRule k w (FnCallStmt (named (codes "Fn") captures) (expr e no_exprs)) (ExprStmt (DynamicConstant (PointerV f (values []))))
+  curry_statement_folds : {captures : Bool} {e : Expr} {es : Exprs} (f : Text) (us : Values) (vs : List Value) → constant_value e ≡ Some (PointerV f us) → constant_values es ≡ Some vs → StmtRule k w (FnCallStmt (named (codes "curry") captures) (expr e es)) (ExprStmt (DynamicConstant (PointerV f (values (items us ++ vs)))))
   -- a `while` over false does nothing, and one over true is a `loop`
   while_false : {e : Expr} {body : Stmts} → constant_bool e ≡ Some false → StmtRule k w (While e body) Noop
   while_true : {e : Expr} {body : Stmts} → constant_bool e ≡ Some true → StmtRule k w (While e body) (While UnitConstant body)
