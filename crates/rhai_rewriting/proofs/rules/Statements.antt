@@ -1,12 +1,9 @@
 -- The rules of statements: a lemma each, of the rule's name.
 use Rattle.std.proofs.Common.{◌≡◌, ◌+◌, ◌≤◌, ℕ, Bool, true, false, [], Option, Some, None, if◌then◌else◌, refl, sym, ap, ◌∙◌, subst, arith, List, ◌++◌, ◌∷◌}
 use Rattle.std.specs.Prelude.{codes}
-use Rattle.rhai_parts.specs.Names.{is_valid_name}
-use Rattle.rhai_rewriting.specs.Parts.{named, constant_of}
-use Rattle.rhai_rewriting.proofs.rules.Given.{constant_of_light, constant_of_keeps}
-use Rattle.rhai_rewriting.proofs.rules.Words as word
 use Rattle.rhai_values.specs.Value.{Text, Value, UnitV, BoolV, TextV, PointerV, Values, values, items}
 use Rattle.rhai_base.specs.Operators.{Operator, Computed, NoEntry, computed}
+use Rattle.rhai_parts.specs.Names.{is_valid_name}
 use Rattle.rhai_meaning.specs.Act.{World, Store, Gives, WrongKind, Act, Scoped, Only, Env, run}
 use Rattle.rhai_meaning.specs.ActForms.{give, unit, ◌>>=◌, truth, branch, then_line}
 use Rattle.rhai_meaning.specs.Constants.{computed_value, constant_value, constant_bool, constant_for, constant_values}
@@ -22,6 +19,7 @@ use Rattle.rhai_meaning.proofs.Sequencing.{leave_same, SameRunAll, line_only, li
 use Rattle.rhai_meaning.specs.Walk.{Node, Around, whole, throughout, over_expr, over_stmt, over_stmts}
 use Rattle.rhai_rewriting.specs.Context.{Context}
 use Rattle.rhai_rewriting.specs.Folding.{folded_values, folded}
+use Rattle.rhai_rewriting.specs.Parts.{named, constant_of}
 use Rattle.rhai_rewriting.specs.Rules as rule
 use Rattle.rhai_rewriting.specs.Rules.{block_or_noop, chosen, condition_alone, StmtRule}
 use Rattle.rhai_meaning.specs.Weight.{expr_weight, exprs_weight, stmt_weight, weight}
@@ -33,6 +31,8 @@ use Rattle.rhai_rewriting.proofs.rules.Blocks.{scoped_deed, scoped_list}
 use Rattle.rhai_rewriting.proofs.simulation.Unwanted.{before_any}
 use Rattle.rhai_rewriting.proofs.rules.Constants.{or_stuck, expr_given, branch_given}
 use Rattle.rhai_rewriting.proofs.rules.Expressions.{constant_light, constant_keeps, call_folds}
+use Rattle.rhai_rewriting.proofs.rules.Given.{constant_of_light, constant_of_keeps}
+use Rattle.rhai_rewriting.proofs.rules.Words as word
 use Rattle.rhai_rewriting.proofs.rules.Control as control
 use Rattle.rhai_rewriting.proofs.rules.SelfAssign as assign
 use Rattle.rhai_rewriting.proofs.rules.Forgetting as forgetting
@@ -243,4 +243,4 @@ stmt_rule (rule.switch_shrinks h q x y) = tables.switch_shrinks h q x y
 stmt_rule rule.nested_if = control.nested_if
 stmt_rule (rule.share_known h) = control.share_known h
 stmt_rule rule.share_nothing = control.share_nothing
-stmt_rule (rule.self_assign q h j) = assign.self_assign q h j
+stmt_rule (rule.self_assign q a h j) = assign.self_assign q a h j
