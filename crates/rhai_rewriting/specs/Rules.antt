@@ -20,7 +20,7 @@ use Rattle.rhai_rewriting.specs.Folding.{folded}
 use Rattle.rhai_rewriting.specs.Operands.{OperandsTo, CoalesceTo, TextTo}
 use Rattle.rhai_rewriting.specs.Indexing.{indexed, expr_at, pair_for, or_unit}
 use Rattle.rhai_rewriting.specs.Parts.{constant_of, named, link}
-use Rattle.rhai_rewriting.specs.SelfAssign.{has_assignment, leaves_names, overrides_any}
+use Rattle.rhai_rewriting.specs.SelfAssign.{has_op_assignment, leaves_names, overrides_any}
 use Rattle.rhai_rewriting.specs.SurelyUnit.{is_surely_unit}
 use Rattle.rhai_rewriting.specs.Tables.{forgotten, CasesTo, RangesTo, are_of, arm_of, left_arms, default_answer, default_stmt, default_branch}
 
@@ -148,7 +148,7 @@ pub data StmtRule (k : Context) (w : Bool) : Stmt → Stmt → Type 0 where
   -- an `if` alone in an `if`, both without an `else`
   nested_if : {a b : Expr} {ss : Stmts} → StmtRule k w (If a (stmt (If b ss no_stmts) no_stmts) no_stmts) (If (And (expr a (expr b no_exprs))) ss no_stmts)
   -- `x = x op e` is `x op= e` where there is such an operator, e writes nothing and no `op=` is overridden
-  self_assign : {op : Operator} {f : Callee} {x : Text} {e : Expr} → f.token ≡ OfOperator op → has_assignment op ≡ true → leaves_names e ≡ true → overrides_any k.engine.overrides (assigning op) ≡ false → StmtRule k w (Assignment None (Variable [] x) (FnCall f (expr (Variable [] x) (expr e no_exprs)))) (Assignment (Some op) (Variable [] x) e)
+  self_assign : {op : Operator} {f : Callee} {x : Text} {e : Expr} → f.token ≡ OfOperator op → has_op_assignment op ≡ true → leaves_names e ≡ true → overrides_any k.engine.overrides (assigning op) ≡ false → StmtRule k w (Assignment None (Variable [] x) (FnCall f (expr (Variable [] x) (expr e no_exprs)))) (Assignment (Some op) (Variable [] x) e)
   -- of shared names those that are known go; of none nothing is left
   share_known : {xs : List Text} → length (unknown k.known xs) < length xs → StmtRule k w (Share xs) (Share (unknown k.known xs))
   share_nothing : StmtRule k w (Share []) Noop

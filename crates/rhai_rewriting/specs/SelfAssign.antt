@@ -26,16 +26,16 @@ overrides_any [] f = false
 overrides_any (o ∷ os) f = same_text o.name f || overrides_any os f
 
 -- whether the language has its `op=`
-abbrev pub has_assignment : Operator → Bool
-has_assignment Plus = true
-has_assignment Minus = true
-has_assignment Multiply = true
-has_assignment Divide = true
-has_assignment Modulo = true
-has_assignment Power = true
-has_assignment ShiftLeft = true
-has_assignment ShiftRight = true
-has_assignment BitAnd = true
-has_assignment BitOr = true
-has_assignment BitXor = true
-has_assignment _ = false
+abbrev pub has_op_assignment : Operator → Bool
+has_op_assignment Plus = true
+has_op_assignment Minus = true
+has_op_assignment Multiply = true
+has_op_assignment Divide = true
+has_op_assignment Modulo = true
+has_op_assignment Power = true
+has_op_assignment ShiftLeft = true
+has_op_assignment ShiftRight = true
+has_op_assignment BitAnd = true
+has_op_assignment BitOr = true
+has_op_assignment BitXor = true
+has_op_assignment _ = false

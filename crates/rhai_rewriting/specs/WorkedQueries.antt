@@ -8,7 +8,7 @@ use Rattle.rhai_rewriting.specs.Context.{Whole, Inside, known_behind}
 use Rattle.rhai_rewriting.specs.Known.{look, unknown}
 use Rattle.rhai_rewriting.specs.Parts.{named}
 use Rattle.rhai_rewriting.specs.Rules.{is_pure_in}
-use Rattle.rhai_rewriting.specs.SelfAssign.{has_assignment, leaves_names, overrides_any}
+use Rattle.rhai_rewriting.specs.SelfAssign.{has_op_assignment, leaves_names, overrides_any}
 use Rattle.rhai_rewriting.specs.SurelyUnit.{is_surely_unit}
 use Rattle.rhai_rewriting.specs.WorkedLists.{var, let', const}
 use Rattle.rhai_rewriting.specs.WorkedNodes.{dot}
@@ -102,17 +102,17 @@ another_is_overridden = refl
 
 -- ---- which operators have an assignment
 
-sum_assigns : has_assignment Plus ≡ true
+sum_assigns : has_op_assignment Plus ≡ true
 sum_assigns = refl
 
-exclusive_or_assigns : has_assignment BitXor ≡ true
+exclusive_or_assigns : has_op_assignment BitXor ≡ true
 exclusive_or_assigns = refl
 
-equality_doesnt : has_assignment EqualTo ≡ false
+equality_doesnt : has_op_assignment EqualTo ≡ false
 equality_doesnt = refl
 
-range_doesnt : has_assignment UpTo ≡ false
+range_doesnt : has_op_assignment UpTo ≡ false
 range_doesnt = refl
 
-negation_doesnt : has_assignment Not ≡ false
+negation_doesnt : has_op_assignment Not ≡ false
 negation_doesnt = refl

@@ -1,5 +1,5 @@
 -- The rules of statements: a lemma each, of the rule's name.
-use Rattle.std.proofs.Common.{◌≡◌, ◌+◌, ◌≤◌, ℕ, Bool, true, false, [], Option, Some, None, if◌then◌else◌, refl, sym, ap, ◌∙◌, subst, arith, List, ◌++◌, ◌∷◌}
+use Rattle.std.proofs.Common.{◌≡◌, ◌+◌, ◌≤◌, ℕ, Bool, true, false, [], Option, Some, None, if◌then◌else◌, refl, sym, ap, ◌∙◌, subst, arith, List, ◌++◌}
 use Rattle.std.specs.Prelude.{codes}
 use Rattle.rhai_values.specs.Value.{Text, Value, UnitV, BoolV, TextV, PointerV, Values, values, items}
 use Rattle.rhai_base.specs.Operators.{Operator, Computed, NoEntry, computed}
