@@ -2,15 +2,17 @@
 use Rattle.std.proofs.Common.{◌≡◌, ℕ, zero, suc, Bool, true, false, cond, List, [], ◌∷◌, Option, Some, None, refl, sym, ap, ◌∙◌, subst}
 use Rattle.std.specs.Prelude.{◌&&◌, ◌||◌, not, is_some, nat_lt}
 use Rattle.std.proofs.lemmas.Slice.Eq.{bytes_eq-Decides}
-use Rattle.rhai_values.specs.Value.{Text, Value, MapV, same_text, is_hashable}
-use Rattle.rhai_meaning.specs.Constants.{constant_value, constant_values, constant_entries, constant_bool, array_value, map_value, joined_value, value_and, entry_and, is_constant}
+use Rattle.rhai_values.specs.Value.{Text, Value, UnitV, MapV, PointerV, no_values, item, same_text, is_hashable}
+use Rattle.rhai_meaning.specs.Constants.{constant_value, constant_values, constant_entries, constant_bool, array_value, map_value, joined_value, value_and, entry_and, is_constant, is_literal_unit, constant_for}
 use Rattle.rhai_meaning.specs.Control.{case_for, ranges_with, or_ranges, chosen}
+use Rattle.rhai_meaning.specs.Desugar.{root_of}
 use Rattle.rhai_meaning.specs.Elements.{entry}
 use Rattle.rhai_meaning.specs.Engine.{Engine}
 use Rattle.rhai_meaning.specs.Faults.{has_operands}
 use Rattle.rhai_meaning.specs.Queries.{is_control_flow_break, is_pure_expr, are_pure_exprs, are_pure_pairs, is_pure}
+use Rattle.rhai_meaning.specs.Queries.{is_unit as is_unit_expr}
 use Rattle.rhai_meaning.specs.Shape.{is_unit, condition_at, case_fits, spares, default_fits, is_table}
-use Rattle.rhai_meaning.specs.Tree.{ChainFlags, SwitchTable, Callee, Expr, DynamicConstant, BoolConstant, InterpolatedString, ArrayOf, MapOf, Variable, Property, BlockExpr, FnCall, Dot, Index, And, Or, Coalesce, Exprs, no_exprs, expr, Pairs, no_pairs, pair, Arms, no_arms, arm, count_arms, Stmt, Noop, If, Switch, While, Var, FnCallStmt, ExprStmt, Return, an_expr, Stmts, no_stmts, stmt}
+use Rattle.rhai_meaning.specs.Tree.{ChainFlags, SwitchTable, Callee, Expr, DynamicConstant, BoolConstant, UnitConstant, InterpolatedString, ArrayOf, MapOf, Variable, ThisPtr, Property, BlockExpr, FnCall, Dot, Index, And, Or, Coalesce, Exprs, no_exprs, expr, Pairs, no_pairs, pair, Arms, no_arms, arm, count_arms, Stmt, Noop, If, Switch, While, Var, FnCallStmt, ExprStmt, Return, an_expr, Stmts, no_stmts, stmt}
 use Rattle.rhai_meaning.specs.Walk.{Node, OfExpr, OfStmt, every, over_stmts, arms_at, arm_at, listed}
 use Rattle.rhai_meaning.proofs.Walk.{Alongside, stmts_alongside}
 use Rattle.rhai_parts.specs.Names.{are_all}
@@ -23,7 +25,7 @@ use Rattle.rhai_rewriting.specs.Reducible.{is_that, is_always, follows_deciding,
 use Rattle.rhai_rewriting.specs.Residue.{holds_constant, IsReducedNode, AreReduced}
 use Rattle.rhai_rewriting.specs.Rules as rule
 use Rattle.rhai_rewriting.specs.Rules.{chosen as chosen_block, block_or_noop, ExprRule, StmtRule}
-use Rattle.rhai_rewriting.specs.Rewriting.{by_expr_rule, in_if, RestTo, same_stmts, by_list_rule, in_head, in_tail}
+use Rattle.rhai_rewriting.specs.Rewriting.{BaseTo, base, GuardTo, guard, by_expr_rule, in_if, RestTo, same_stmts, by_list_rule, in_head, in_tail}
 use Rattle.rhai_rewriting.specs.Tables.{arm_of, arm_decides, left_with, left_arms}
 use Rattle.rhai_rewriting.proofs.rules.Equality.{text_is}
 
@@ -42,8 +44,16 @@ all_of false b h f = no h
 
 -- ---- an expression or a statement to which a rule applies
 
-abbrev pub ExprGoes : Context → Expr → Type 0
-ExprGoes k e = (e' : Expr) × ExprRule k e e'
+-- Its answer is a place where it was one. Unless u, it is a literal unit where it was one.
+abbrev pub ExprGoes : Context → (u : Bool) → Expr → Type 0
+ExprGoes k u e = (e' : Expr) × ExprRule k e e' × (root_of e' ≡ root_of e) × (u ≡ false → is_unit_expr e' ≡ is_unit_expr e)
+
+-- so it goes as a base, and unless u as a guard
+pub base_goes : {k : Context} {u : Bool} {e : Expr} → ExprGoes k u e → (d : Bool) → (e' : Expr) × BaseTo k d true e e'
+base_goes z d = (z.0, base (by_expr_rule z.1) z.2)
+
+pub guard_goes : {k : Context} {u : Bool} {e : Expr} → ExprGoes k u e → u ≡ false → (d : Bool) → (e' : Expr) × GuardTo k d true e e'
+guard_goes z h d = (z.0, guard (by_expr_rule z.1) (z.3 h))
 
 abbrev pub StmtGoes : Context → Stmt → Type 0
 StmtGoes k s = (w : Bool) → (s' : Stmt) × StmtRule k w s s'
@@ -52,20 +62,52 @@ StmtGoes k s = (w : Bool) → (s' : Stmt) × StmtRule k w s s'
 pub decided_if_goes : {k : Context} {c : Expr} {a b : Stmts} (t : Bool) → constant_bool c ≡ Some t → StmtGoes k (If c a b)
 decided_if_goes {a = a} {b = b} t h w = (block_or_noop (chosen_block t a b), rule.if_decided h)
 
+-- ---- constants are no places, and literal units where their values are unit
+
+root_of_value : (v : Value) → root_of (constant_of v) ≡ None
+root_of_value UnitV = refl
+root_of_value _ = refl
+
+unit_of_value : (v : Value) → is_unit_expr (constant_of v) ≡ is_unit v
+unit_of_value UnitV = refl
+unit_of_value _ = refl
+
+root_for_value : (v : Value) → root_of (constant_for v) ≡ None
+root_for_value (PointerV f no_values) = refl
+root_for_value (PointerV f (item v vs)) = refl
+root_for_value _ = refl
+
+unit_for_value : (v : Value) → is_unit_expr (constant_for v) ≡ is_unit v
+unit_for_value (PointerV f no_values) = refl
+unit_for_value (PointerV f (item v vs)) = refl
+unit_for_value _ = refl
+
+root_of_constant : (e : Expr) → is_constant e ≡ true → root_of e ≡ None
+root_of_constant (Variable p x) h = no h
+root_of_constant ThisPtr h = no h
+root_of_constant _ h = refl
+
+no_literal_unit : (e : Expr) → not (is_literal_unit e) ≡ true → is_unit_expr e ≡ false
+no_literal_unit UnitConstant h = no h
+no_literal_unit _ h = refl
+
+-- ---- one node
+
 -- an operator over constants: `operator_folds`, `call_statement_folds`
-pub operator_goes : {k : Context} {c : Callee} {es : Exprs} (v : Value) → folded k.engine c es ≡ Some v → ExprGoes k (FnCall c es)
-operator_goes v h = (_, rule.operator_folds h)
+pub operator_goes : {k : Context} {c : Callee} {es : Exprs} (v : Value) → folded k.engine c es ≡ Some v → ExprGoes k (is_unit v) (FnCall c es)
+operator_goes v h = (_, rule.operator_folds h, root_for_value v, λ u. unit_for_value v ∙ u)
 
 pub operator_statement_goes : {k : Context} {c : Callee} {es : Exprs} (v : Value) → folded k.engine c es ≡ Some v → StmtGoes k (FnCallStmt c es)
 operator_statement_goes v h w = (_, rule.call_statement_folds h)
 
 -- an array of constants: `array_of_constants`
-pub constant_array_goes : {k : Context} {es : Exprs} (vs : List Value) → constant_values es ≡ Some vs → ExprGoes k (ArrayOf es)
-constant_array_goes vs h = (_, rule.array_of_constants h)
+pub constant_array_goes : {k : Context} {es : Exprs} (vs : List Value) → constant_values es ≡ Some vs → ExprGoes k false (ArrayOf es)
+constant_array_goes vs h = (_, rule.array_of_constants h, refl, λ u. refl)
 
 -- braces around one constant: `braces_of_expression`
-pub braced_constant_goes : {k : Context} (ss : Stmts) → holds_constant ss ≡ true → ExprGoes k (BlockExpr ss)
-braced_constant_goes (stmt (ExprStmt e) no_stmts) h = (e, rule.braces_of_expression)
+pub braced_constant_goes : {k : Context} (ss : Stmts) → holds_constant ss ≡ true → ExprGoes k false (BlockExpr ss)
+braced_constant_goes (stmt (ExprStmt e) no_stmts) h =
+    all_of (is_constant e) (not (is_literal_unit e)) h (λ a b. (e, rule.braces_of_expression, root_of_constant e a, λ u. no_literal_unit e b))
 braced_constant_goes _ h = no h
 
 -- a `while` over false: `while_false`
@@ -105,12 +147,12 @@ after_true (expr e (expr f es)) h =
     (λ x. let z = after_true (expr f es) x in (expr e z.0, in_other_operands z.1, refl))
 
 -- what follows false in an `&&`: `and_changes`, by `after_deciding_go`
-pub operand_after_false_goes : {k : Context} (es : Exprs) → follows_deciding false es ≡ true → ExprGoes k (And es)
-operand_after_false_goes es h = let z = after_false es h in (And z.0, rule.and_changes z.1 z.2)
+pub operand_after_false_goes : {k : Context} (es : Exprs) → follows_deciding false es ≡ true → ExprGoes k false (And es)
+operand_after_false_goes es h = let z = after_false es h in (And z.0, rule.and_changes z.1 z.2, refl, λ u. refl)
 
 -- what follows true in an `||`: `or_changes`
-pub operand_after_true_goes : {k : Context} (es : Exprs) → follows_deciding true es ≡ true → ExprGoes k (Or es)
-operand_after_true_goes es h = let z = after_true es h in (Or z.0, rule.or_changes z.1 z.2)
+pub operand_after_true_goes : {k : Context} (es : Exprs) → follows_deciding true es ≡ true → ExprGoes k false (Or es)
+operand_after_true_goes es h = let z = after_true es h in (Or z.0, rule.or_changes z.1 z.2, refl, λ u. refl)
 
 some_value : {A : Type 0} (o : Option Value) → is_some_value o ≡ true → ((v : Value) → o ≡ Some v → is_unit v ≡ false → A) → A
 some_value None h f = no h
@@ -128,8 +170,8 @@ after_some (expr e (expr f es)) h =
     (λ x. let z = after_some (expr f es) x in (expr e z.0, in_other_options z.1, refl))
 
 -- what follows a constant in a `??`: `coalesce_changes`, by `after_some_go`
-pub operand_after_some_goes : {k : Context} (es : Exprs) → follows_some es ≡ true → ExprGoes k (Coalesce es)
-operand_after_some_goes es h = let z = after_some es h in (Coalesce z.0, rule.coalesce_changes z.1 z.2)
+pub operand_after_some_goes : {k : Context} (es : Exprs) → follows_some es ≡ true → ExprGoes k false (Coalesce es)
+operand_after_some_goes es h = let z = after_some es h in (Coalesce z.0, rule.coalesce_changes z.1 z.2, refl, λ u. refl)
 
 -- ---- chains
 
@@ -140,19 +182,20 @@ asked false o v h = h
 none_is : {A B : Type 0} {v : B} → None ≡ Some v → A
 none_is {v = v} h = absurd (let z : None ≡ Some v = h in cc)
 
-property_goes : {k : Context} (f : ChainFlags) (e p : Expr) (x : Text) (o : Option Value) (v : Value) → constant_value e ≡ o → property_of o x ≡ Some v → ((fs : _) → constant_value e ≡ Some (MapV fs) → entry fs x ≡ v → ExprGoes k (Dot f e p)) → ExprGoes k (Dot f e p)
+property_goes : {k : Context} (f : ChainFlags) (e p : Expr) (x : Text) (o : Option Value) (v : Value) → constant_value e ≡ o → property_of o x ≡ Some v → ((fs : _) → constant_value e ≡ Some (MapV fs) → entry fs x ≡ v → ExprGoes k (is_unit v) (Dot f e p)) → ExprGoes k (is_unit v) (Dot f e p)
 property_goes f e p x (Some (MapV fs)) v q h g = g fs q (let z : Some (entry fs x) ≡ Some v = h in cc)
 property_goes f e p x _ v q h g = none_is h
 
-index_goes : {k : Context} (f : ChainFlags) (e i : Expr) (o u : Option Value) (v : Value) → constant_value e ≡ o → constant_value i ≡ u → index_of o u ≡ Some v → ExprGoes k (Index f e i)
-index_goes f e i (Some a) (Some b) v q r h = (constant_of v, rule.index_of_constant a b v q r h)
+index_goes : {k : Context} (f : ChainFlags) (e i : Expr) (o u : Option Value) (v : Value) → constant_value e ≡ o → constant_value i ≡ u → index_of o u ≡ Some v → ExprGoes k (is_unit v) (Index f e i)
+index_goes f e i (Some a) (Some b) v q r h = (constant_of v, rule.index_of_constant a b v q r h, root_of_value v, λ u. unit_of_value v ∙ u)
 index_goes f e i (Some a) None v q r h = none_is h
 index_goes f e i None u v q r h = none_is h
 
 -- a chain of one step over a constant: `property_of_constant`, `index_of_constant`
-pub constant_chain_goes : {k : Context} (e : Expr) (v : Value) → chain_answer e ≡ Some v → ExprGoes k e
+pub constant_chain_goes : {k : Context} (e : Expr) (v : Value) → chain_answer e ≡ Some v → ExprGoes k (is_unit v) e
 constant_chain_goes (Dot f e (Property p)) v h =
-    property_goes f e (Property p) p.name (constant_value e) v refl (asked f.negated _ v h) (λ fs q r. (constant_of (entry fs p.name), rule.property_of_constant fs q))
+    property_goes f e (Property p) p.name (constant_value e) v refl (asked f.negated _ v h) (λ fs q r.
+    (constant_of (entry fs p.name), rule.property_of_constant fs q, root_of_value (entry fs p.name), λ u. unit_of_value (entry fs p.name) ∙ ap is_unit r ∙ u))
 constant_chain_goes (Index f e i) v h = index_goes f e i (constant_value e) (constant_value i) v refl refl (asked f.negated _ v h)
 constant_chain_goes _ v h = none_is h
 

@@ -20,7 +20,7 @@ use Rattle.rhai_rewriting.specs.Folding.{folded}
 use Rattle.rhai_rewriting.specs.Operands.{OperandsTo, CoalesceTo, TextTo}
 use Rattle.rhai_rewriting.specs.Indexing.{indexed, expr_at, pair_for, or_unit}
 use Rattle.rhai_rewriting.specs.Parts.{constant_of, named, link}
-use Rattle.rhai_rewriting.specs.SelfAssign.{leaves_names, overrides_any}
+use Rattle.rhai_rewriting.specs.SelfAssign.{has_op_assignment, leaves_names, overrides_any}
 use Rattle.rhai_rewriting.specs.SurelyUnit.{is_surely_unit}
 use Rattle.rhai_rewriting.specs.Tables.{forgotten, CasesTo, RangesTo, are_of, arm_of, left_arms, default_answer, default_stmt, default_branch}
 
@@ -125,6 +125,11 @@ pub data StmtRule (k : Context) (w : Bool) : Stmt → Stmt → Type 0 where
   statement_of_call : {c : Callee} {es : Exprs} → StmtRule k w (ExprStmt (FnCall c es)) (FnCallStmt c es)
   -- a call statement of an operator over constants that is built in is its value
   call_statement_folds : {c : Callee} {es : Exprs} {v : Value} → folded k.engine c es ≡ Some v → StmtRule k w (FnCallStmt c es) (ExprStmt (constant_for v))
+  -- so is one of the language's own functions over constants
+  type_of_statement_folds : {captures : Bool} {e : Expr} (v : Value) → constant_value e ≡ Some v → StmtRule k w (FnCallStmt (named (codes "type_of") captures) (expr e no_exprs)) (ExprStmt (StringConstant (mapped_type_name k.engine v)))
+  is_shared_statement_folds : {captures : Bool} {e : Expr} (v : Value) → constant_value e ≡ Some v → StmtRule k w (FnCallStmt (named (codes "is_shared") captures) (expr e no_exprs)) (ExprStmt (BoolConstant false))
+  fn_statement_folds : {captures : Bool} {e : Expr} (f : Text) → constant_value e ≡ Some (TextV f) → is_valid_name f ≡ true → StmtRule k w (FnCallStmt (named (codes "Fn") captures) (expr e no_exprs)) (ExprStmt (DynamicConstant (PointerV f (values []))))
+  curry_statement_folds : {captures : Bool} {e : Expr} {es : Exprs} (f : Text) (us : Values) (vs : List Value) → constant_value e ≡ Some (PointerV f us) → constant_values es ≡ Some vs → StmtRule k w (FnCallStmt (named (codes "curry") captures) (expr e es)) (ExprStmt (DynamicConstant (PointerV f (values (items us ++ vs)))))
   -- a `while` over false does nothing, and one over true is a `loop`
   while_false : {e : Expr} {body : Stmts} → constant_bool e ≡ Some false → StmtRule k w (While e body) Noop
   while_true : {e : Expr} {body : Stmts} → constant_bool e ≡ Some true → StmtRule k w (While e body) (While UnitConstant body)
@@ -142,8 +147,8 @@ pub data StmtRule (k : Context) (w : Bool) : Stmt → Stmt → Type 0 where
   pure_try : {x : Expr} {body branch : Stmts} → are_internally_pure body ≡ true → StmtRule k w (TryCatch x body branch) Noop
   -- an `if` alone in an `if`, both without an `else`
   nested_if : {a b : Expr} {ss : Stmts} → StmtRule k w (If a (stmt (If b ss no_stmts) no_stmts) no_stmts) (If (And (expr a (expr b no_exprs))) ss no_stmts)
-  -- `x = x op e` is `x op= e`, where e writes nothing and no `op=` is overridden
-  self_assign : {op : Operator} {f : Callee} {x : Text} {e : Expr} → f.token ≡ OfOperator op → leaves_names e ≡ true → overrides_any k.engine.overrides (assigning op) ≡ false → StmtRule k w (Assignment None (Variable [] x) (FnCall f (expr (Variable [] x) (expr e no_exprs)))) (Assignment (Some op) (Variable [] x) e)
+  -- `x = x op e` is `x op= e` where there is such an operator, e writes nothing and no `op=` is overridden
+  self_assign : {op : Operator} {f : Callee} {x : Text} {e : Expr} → f.token ≡ OfOperator op → has_op_assignment op ≡ true → leaves_names e ≡ true → overrides_any k.engine.overrides (assigning op) ≡ false → StmtRule k w (Assignment None (Variable [] x) (FnCall f (expr (Variable [] x) (expr e no_exprs)))) (Assignment (Some op) (Variable [] x) e)
   -- of shared names those that are known go; of none nothing is left
   share_known : {xs : List Text} → length (unknown k.known xs) < length xs → StmtRule k w (Share xs) (Share (unknown k.known xs))
   share_nothing : StmtRule k w (Share []) Noop

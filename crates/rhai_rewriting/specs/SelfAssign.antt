@@ -1,6 +1,7 @@
 -- When `x = x op e` is `x op= e`.
 use Rattle.std.specs.Prelude.{Bool, true, false, ◌||◌, List, [], ◌∷◌}
 use Rattle.rhai_values.specs.Value.{Text, same_text}
+use Rattle.rhai_base.specs.Operators.{Operator, Plus, Minus, Multiply, Divide, Modulo, Power, ShiftLeft, ShiftRight, BitAnd, BitOr, BitXor}
 use Rattle.rhai_meaning.specs.Engine.{Override}
 use Rattle.rhai_meaning.specs.Plain.{all_true}
 use Rattle.rhai_meaning.specs.Small.{is_operator}
@@ -23,3 +24,18 @@ leaves_names e = over_expr (all_true writes_nothing) e
 abbrev pub overrides_any : List Override → Text → Bool
 overrides_any [] f = false
 overrides_any (o ∷ os) f = same_text o.name f || overrides_any os f
+
+-- whether the language has its `op=`
+abbrev pub has_op_assignment : Operator → Bool
+has_op_assignment Plus = true
+has_op_assignment Minus = true
+has_op_assignment Multiply = true
+has_op_assignment Divide = true
+has_op_assignment Modulo = true
+has_op_assignment Power = true
+has_op_assignment ShiftLeft = true
+has_op_assignment ShiftRight = true
+has_op_assignment BitAnd = true
+has_op_assignment BitOr = true
+has_op_assignment BitXor = true
+has_op_assignment _ = false

@@ -83,12 +83,12 @@ nested_if_row = (in_head (by_stmt_rule nested_if), refl, refl)
 -- let x = 1; x = x + 2; x
 self_assign_row : Row (let' "x" (int 1) ∷ Assignment None (var "x") (op Plus (var "x" ∷ int 2 ∷ [])) ∷ show (var "x") ∷ []) (let' "x" (int 1) ∷ Assignment (Some Plus) (var "x") (int 2) ∷ show (var "x") ∷ []) (ends_with (WithValue (i 3)) (variable "x" (i 3) ∷ []) [])
 unfolding ran computed
-self_assign_row = (in_tail (in_head (by_stmt_rule (self_assign refl refl refl))), refl, refl)
+self_assign_row = (in_tail (in_head (by_stmt_rule (self_assign refl refl refl refl))), refl, refl)
 
 -- x = x + { let x = 2; x }: what a block declares is its own
 self_assign_block_row : Row (let' "x" (int 1) ∷ Assignment None (var "x") (op Plus (var "x" ∷ BlockExpr (stmts (let' "x" (int 2) ∷ show (var "x") ∷ [])) ∷ [])) ∷ []) (let' "x" (int 1) ∷ Assignment (Some Plus) (var "x") (BlockExpr (stmts (let' "x" (int 2) ∷ show (var "x") ∷ []))) ∷ []) (ends_with (WithValue UnitV) (variable "x" (i 3) ∷ []) [])
 unfolding ran computed
-self_assign_block_row = (in_tail (in_head (by_stmt_rule (self_assign refl refl refl))), refl, refl)
+self_assign_block_row = (in_tail (in_head (by_stmt_rule (self_assign refl refl refl refl))), refl, refl)
 
 -- share x, y where x is known: neither has a meaning, and both are stuck
 share_known_row : StmtRule (noting (codes "x") (Some (i 1)) (under nothing_set)) false (Share (codes "x" ∷ codes "y" ∷ [])) (Share (codes "y" ∷ []))

@@ -8,13 +8,13 @@ use Rattle.rhai_meaning.specs.Elements.{character}
 use Rattle.rhai_meaning.specs.Act.{HostCall, WrongKind}
 use Rattle.rhai_meaning.specs.Control.{texts_joined}
 use Rattle.rhai_meaning.specs.Run.{WithValue, WithStuck}
-use Rattle.rhai_meaning.specs.Tree.{SwitchCase, SwitchTable, ChainFlags, Expr, DynamicConstant, BoolConstant, StringConstant, UnitConstant, InterpolatedString, ArrayOf, MapOf, Property, MethodCall, FnCall, Dot, Index, And, Or, Coalesce, Noop, While, TryCatch, ExprStmt, BreakLoop, no_expr, exprs, pairs, arms, stmts, BlockExpr, If, Switch, Block, Var}
+use Rattle.rhai_meaning.specs.Tree.{FnCallStmt, SwitchCase, SwitchTable, ChainFlags, Expr, DynamicConstant, BoolConstant, StringConstant, UnitConstant, InterpolatedString, ArrayOf, MapOf, Property, MethodCall, FnCall, Dot, Index, And, Or, Coalesce, Noop, While, TryCatch, ExprStmt, BreakLoop, no_expr, exprs, pairs, arms, stmts, BlockExpr, If, Switch, Block, Var}
 use Rattle.rhai_meaning.specs.WorkedForms.{int, call, nothing_set, joining, ran, ran_with, ends, i}
 use Rattle.rhai_rewriting.specs.Context.{under}
 use Rattle.rhai_rewriting.specs.Operands.{passing_goes, after_deciding_go, pure_before_deciding_goes, in_other_operands, unit_goes, after_some_go, texts_join, empty_goes, in_other_parts}
 use Rattle.rhai_rewriting.specs.Parts.{named}
 use Rattle.rhai_rewriting.specs.Rewriting.{by_expr_rule, by_stmt_rule, in_expression, in_head}
-use Rattle.rhai_rewriting.specs.Rules.{StmtRule, and_changes, or_changes, coalesce_changes, and_of_one, or_of_one, coalesce_of_one, text_changes, text_folds, map_of_constants, type_of_folds, is_shared_folds, fn_folds, curry_folds, unit_ends_dot, unit_ends_index, property_of_constant, index_of_constant, element_of_array, property_of_map, entry_of_map, type_of_method, is_shared_method, while_false, while_true, pure_try, switch_answers, switch_is_if, switch_defaults, switch_narrows, switch_shrinks, switch_forgets, and_of_none, or_of_none, coalesce_of_none, property_of_constant_first, index_of_constant_first, type_of_method_first, is_shared_method_first}
+use Rattle.rhai_rewriting.specs.Rules.{StmtRule, type_of_statement_folds, is_shared_statement_folds, fn_statement_folds, curry_statement_folds, and_changes, or_changes, coalesce_changes, and_of_one, or_of_one, coalesce_of_one, text_changes, text_folds, map_of_constants, type_of_folds, is_shared_folds, fn_folds, curry_folds, unit_ends_dot, unit_ends_index, property_of_constant, index_of_constant, element_of_array, property_of_map, entry_of_map, type_of_method, is_shared_method, while_false, while_true, pure_try, switch_answers, switch_is_if, switch_defaults, switch_narrows, switch_shrinks, switch_forgets, and_of_none, or_of_none, coalesce_of_none, property_of_constant_first, index_of_constant_first, type_of_method_first, is_shared_method_first}
 use Rattle.rhai_rewriting.specs.Tables.{no_ranges, no_cases, case_shrinks, empty_case_goes}
 use Rattle.rhai_rewriting.specs.WorkedRewrites.{Row, f, asks_f}
 
@@ -138,6 +138,23 @@ fn_row = (in_head (in_expression (by_expr_rule (fn_folds (codes "f") refl refl))
 curry_row : ExprRow (FnCall (named (codes "curry") false) (exprs (DynamicConstant (PointerV (codes "f") (values [])) ∷ int 1 ∷ []))) (DynamicConstant (PointerV (codes "f") (values (i 1 ∷ [])))) (PointerV (codes "f") (values (i 1 ∷ []))) []
 unfolding ran
 curry_row = (in_head (in_expression (by_expr_rule (curry_folds (codes "f") (values []) (i 1 ∷ []) refl refl))), refl, refl)
+
+-- the same as call statements
+type_of_statement_row : Row (FnCallStmt (named (codes "type_of") false) (exprs (int 1 ∷ [])) ∷ []) (ExprStmt (text "i64") ∷ []) (ends (WithValue (TextV (codes "i64"))) [])
+unfolding ran
+type_of_statement_row = (in_head (by_stmt_rule (type_of_statement_folds (i 1) refl)), refl, refl)
+
+is_shared_statement_row : Row (FnCallStmt (named (codes "is_shared") false) (exprs (int 1 ∷ [])) ∷ []) (ExprStmt n ∷ []) (ends (WithValue (BoolV false)) [])
+unfolding ran
+is_shared_statement_row = (in_head (by_stmt_rule (is_shared_statement_folds (i 1) refl)), refl, refl)
+
+fn_statement_row : Row (FnCallStmt (named (codes "Fn") false) (exprs (text "f" ∷ [])) ∷ []) (ExprStmt (DynamicConstant (PointerV (codes "f") (values []))) ∷ []) (ends (WithValue (PointerV (codes "f") (values []))) [])
+unfolding ran
+fn_statement_row = (in_head (by_stmt_rule (fn_statement_folds (codes "f") refl refl)), refl, refl)
+
+curry_statement_row : Row (FnCallStmt (named (codes "curry") false) (exprs (DynamicConstant (PointerV (codes "f") (values [])) ∷ int 1 ∷ [])) ∷ []) (ExprStmt (DynamicConstant (PointerV (codes "f") (values (i 1 ∷ [])))) ∷ []) (ends (WithValue (PointerV (codes "f") (values (i 1 ∷ [])))) [])
+unfolding ran
+curry_statement_row = (in_head (by_stmt_rule (curry_statement_folds (codes "f") (values []) (i 1 ∷ []) refl refl)), refl, refl)
 
 -- ---- chains
 

@@ -1,13 +1,14 @@
--- Worked answers on what rules ask: which names are known behind a statement, what surely is unit, what writes nothing.
+-- Worked answers on what rules ask: which names are known behind a statement, what surely is unit, what writes nothing,
+-- which operators have an assignment.
 use Rattle.std.specs.Prelude.{◌≡◌, true, false, [], ◌∷◌, Some, None, codes, refl}
-use Rattle.rhai_base.specs.Operators.{Plus}
+use Rattle.rhai_base.specs.Operators.{Plus, BitXor, EqualTo, UpTo, Not}
 use Rattle.rhai_meaning.specs.Tree.{UnitConstant, BoolConstant, ArrayOf, BlockExpr, Dot, MethodCall, no_expr, an_expr, Stmt, If, While, Do, For, Assignment, TryCatch, ExprStmt, BreakLoop, exprs, stmts}
 use Rattle.rhai_meaning.specs.WorkedForms.{int, op, call, overriding, i}
 use Rattle.rhai_rewriting.specs.Context.{Whole, Inside, known_behind}
 use Rattle.rhai_rewriting.specs.Known.{look, unknown}
 use Rattle.rhai_rewriting.specs.Parts.{named}
 use Rattle.rhai_rewriting.specs.Rules.{is_pure_in}
-use Rattle.rhai_rewriting.specs.SelfAssign.{leaves_names, overrides_any}
+use Rattle.rhai_rewriting.specs.SelfAssign.{has_op_assignment, leaves_names, overrides_any}
 use Rattle.rhai_rewriting.specs.SurelyUnit.{is_surely_unit}
 use Rattle.rhai_rewriting.specs.WorkedLists.{var, let', const}
 use Rattle.rhai_rewriting.specs.WorkedNodes.{dot}
@@ -98,3 +99,20 @@ overridden_somewhere = refl
 
 another_is_overridden : overrides_any (overriding (codes "-=") (codes "string" ∷ []) false).overrides (codes "+=") ≡ false
 another_is_overridden = refl
+
+-- ---- which operators have an assignment
+
+sum_assigns : has_op_assignment Plus ≡ true
+sum_assigns = refl
+
+exclusive_or_assigns : has_op_assignment BitXor ≡ true
+exclusive_or_assigns = refl
+
+equality_doesnt : has_op_assignment EqualTo ≡ false
+equality_doesnt = refl
+
+range_doesnt : has_op_assignment UpTo ≡ false
+range_doesnt = refl
+
+negation_doesnt : has_op_assignment Not ≡ false
+negation_doesnt = refl

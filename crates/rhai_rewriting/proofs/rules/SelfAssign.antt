@@ -15,7 +15,7 @@ use Rattle.rhai_meaning.specs.Shape.{is_callable}
 use Rattle.rhai_meaning.specs.Tree.{OfOperator, Callee, Expr, Variable, FnCall, no_exprs, expr, Assignment}
 use Rattle.rhai_meaning.proofs.Preserves.{preserves}
 use Rattle.rhai_rewriting.specs.Context.{Context}
-use Rattle.rhai_rewriting.specs.SelfAssign.{leaves_names, overrides_any}
+use Rattle.rhai_rewriting.specs.SelfAssign.{has_op_assignment, leaves_names, overrides_any}
 use Rattle.rhai_rewriting.proofs.simulation.Laws.{simulates_stuck}
 use Rattle.rhai_rewriting.proofs.simulation.Setting.{Setting, Start, world}
 use Rattle.rhai_rewriting.proofs.simulation.Simulation.{OrStuck, equal, is_stuck, Simulates, simulates_trans, simulates_equal, simulates_or_stuck}
@@ -81,8 +81,8 @@ assigns_call : {k : Context} (c : Setting k) (b : Bool) (g : core.Callee) (op : 
 assigns_call c true g op x e q h = subst (λ f. Simulates c (act (world c) (core.FnCall f (core.expr (core.Variable x) (core.expr e core.no_exprs))) >>= λ z. Write true (OfName x) z) (by_operator c op x e)) (sym q) h
 assigns_call c false g op x e q h = simulates_trans {b = Fail WrongKind} (simulates_equal (λ m. refl)) (simulates_stuck WrongKind (by_operator c op x e))
 
-pub self_assign : {k : Context} {w : Bool} {op : Operator} {f : Callee} {x : Text} {e : Expr} → f.token ≡ OfOperator op → leaves_names e ≡ true → overrides_any k.engine.overrides (assigning op) ≡ false → StmtObligation k w (Assignment None (Variable [] x) (FnCall f (expr (Variable [] x) (expr e no_exprs)))) (Assignment (Some op) (Variable [] x) e)
-self_assign {op = op} {f = f} {x = x} {e = e} q h j = record {
+pub self_assign : {k : Context} {w : Bool} {op : Operator} {f : Callee} {x : Text} {e : Expr} → f.token ≡ OfOperator op → has_op_assignment op ≡ true → leaves_names e ≡ true → overrides_any k.engine.overrides (assigning op) ≡ false → StmtObligation k w (Assignment None (Variable [] x) (FnCall f (expr (Variable [] x) (expr e no_exprs)))) (Assignment (Some op) (Variable [] x) e)
+self_assign {op = op} {f = f} {x = x} {e = e} q a h j = record {
   lighter = omega arith;
   keeps = λ P l lasts i. (lasts.again (same_assignment refl refl) i.0, (i.1.0, i.1.1.1.1.0));
   sound = λ c.

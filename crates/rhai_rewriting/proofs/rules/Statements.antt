@@ -1,22 +1,25 @@
 -- The rules of statements: a lemma each, of the rule's name.
-use Rattle.std.proofs.Common.{◌≡◌, ◌+◌, ◌≤◌, ℕ, Bool, true, false, [], Option, Some, None, if◌then◌else◌, refl, sym, ap, ◌∙◌, subst, arith}
-use Rattle.rhai_values.specs.Value.{Value, UnitV}
+use Rattle.std.proofs.Common.{◌≡◌, ◌+◌, ◌≤◌, ℕ, Bool, true, false, [], Option, Some, None, if◌then◌else◌, refl, sym, ap, ◌∙◌, subst, arith, List, ◌++◌}
+use Rattle.std.specs.Prelude.{codes}
+use Rattle.rhai_values.specs.Value.{Text, Value, UnitV, BoolV, TextV, PointerV, Values, values, items}
 use Rattle.rhai_base.specs.Operators.{Operator, Computed, NoEntry, computed}
+use Rattle.rhai_parts.specs.Names.{is_valid_name}
 use Rattle.rhai_meaning.specs.Act.{World, Store, Gives, WrongKind, Act, Scoped, Only, Env, run}
 use Rattle.rhai_meaning.specs.ActForms.{give, unit, ◌>>=◌, truth, branch, then_line}
-use Rattle.rhai_meaning.specs.Constants.{computed_value, constant_value, constant_bool, constant_for}
+use Rattle.rhai_meaning.specs.Constants.{computed_value, constant_value, constant_bool, constant_for, constant_values}
 use Rattle.rhai_meaning.specs.Core as core
 use Rattle.rhai_meaning.specs.Desugar.{core_expr, core_stmt, core_stmts}
-use Rattle.rhai_meaning.specs.Engine.{Engine, is_open}
+use Rattle.rhai_meaning.specs.Engine.{Engine, is_open, mapped_type_name}
 use Rattle.rhai_meaning.specs.Meaning.{act, deed, acts}
 use Rattle.rhai_meaning.specs.Queries.{is_block_dependent}
 use Rattle.rhai_meaning.specs.Relations.{here}
-use Rattle.rhai_meaning.specs.Tree.{CallToken, NoToken, OfOperator, OfOther, Callee, Expr, UnitConstant, ArrayOf, BlockExpr, FnCall, Exprs, no_exprs, expr, Stmt, Noop, If, Var, Block, ExprStmt, FnCallStmt, Stmts, no_stmts, stmt}
+use Rattle.rhai_meaning.specs.Tree.{CallToken, NoToken, OfOperator, OfOther, Callee, Expr, UnitConstant, DynamicConstant, BoolConstant, StringConstant, ArrayOf, BlockExpr, FnCall, Exprs, no_exprs, expr, Stmt, Noop, If, Var, Block, ExprStmt, FnCallStmt, Stmts, no_stmts, stmt}
 use Rattle.rhai_meaning.proofs.Preserves.{preserves}
 use Rattle.rhai_meaning.proofs.Sequencing.{leave_same, SameRunAll, line_only, line_same, line_unit}
 use Rattle.rhai_meaning.specs.Walk.{Node, Around, whole, throughout, over_expr, over_stmt, over_stmts}
 use Rattle.rhai_rewriting.specs.Context.{Context}
 use Rattle.rhai_rewriting.specs.Folding.{folded_values, folded}
+use Rattle.rhai_rewriting.specs.Parts.{named, constant_of}
 use Rattle.rhai_rewriting.specs.Rules as rule
 use Rattle.rhai_rewriting.specs.Rules.{block_or_noop, chosen, condition_alone, StmtRule}
 use Rattle.rhai_meaning.specs.Weight.{expr_weight, exprs_weight, stmt_weight, weight}
@@ -28,6 +31,8 @@ use Rattle.rhai_rewriting.proofs.rules.Blocks.{scoped_deed, scoped_list}
 use Rattle.rhai_rewriting.proofs.simulation.Unwanted.{before_any}
 use Rattle.rhai_rewriting.proofs.rules.Constants.{or_stuck, expr_given, branch_given}
 use Rattle.rhai_rewriting.proofs.rules.Expressions.{constant_light, constant_keeps, call_folds}
+use Rattle.rhai_rewriting.proofs.rules.Given.{constant_of_light, constant_of_keeps}
+use Rattle.rhai_rewriting.proofs.rules.Words as word
 use Rattle.rhai_rewriting.proofs.rules.Control as control
 use Rattle.rhai_rewriting.proofs.rules.SelfAssign as assign
 use Rattle.rhai_rewriting.proofs.rules.Forgetting as forgetting
@@ -192,6 +197,26 @@ call_statement_folds {k = k} {c = c} {es = es} {v = v} q = record {
   sound = λ s. stmt_of_deed (call_folds s c es v q);
 }
 
+-- a call statement by a name whose first argument is constant
+named_folds : {k : Context} {w : Bool} (f : Text) (captures : Bool) (e : Expr) (es : Exprs) (v : Value) → ((c : Setting k) → Simulates c (act (world c) (core_expr c.in_loop (FnCall (named f captures) (expr e es)))) (act (world c) (core_expr c.in_loop (constant_of v)))) → StmtObligation k w (FnCallStmt (named f captures) (expr e es)) (ExprStmt (constant_of v))
+named_folds f captures e es v h = record {
+  lighter = omega (arith, constant_of_light v, expr_heavy e);
+  keeps = λ P l lasts j. (lasts.expression (constant_of v), constant_of_keeps P l lasts v);
+  sound = λ s. stmt_of_deed (h s);
+}
+
+pub type_of_statement_folds : {k : Context} {w captures : Bool} {e : Expr} (v : Value) → constant_value e ≡ Some v → StmtObligation k w (FnCallStmt (named (codes "type_of") captures) (expr e no_exprs)) (ExprStmt (StringConstant (mapped_type_name k.engine v)))
+type_of_statement_folds {k = k} {captures = captures} {e = e} v h = named_folds (codes "type_of") captures e no_exprs (TextV (mapped_type_name k.engine v)) (word.type_of_folds {captures = captures} {e = e} v h).sound
+
+pub is_shared_statement_folds : {k : Context} {w captures : Bool} {e : Expr} (v : Value) → constant_value e ≡ Some v → StmtObligation k w (FnCallStmt (named (codes "is_shared") captures) (expr e no_exprs)) (ExprStmt (BoolConstant false))
+is_shared_statement_folds {captures = captures} {e = e} v h = named_folds (codes "is_shared") captures e no_exprs (BoolV false) (word.is_shared_folds {captures = captures} {e = e} v h).sound
+
+pub fn_statement_folds : {k : Context} {w captures : Bool} {e : Expr} (f : Text) → constant_value e ≡ Some (TextV f) → is_valid_name f ≡ true → StmtObligation k w (FnCallStmt (named (codes "Fn") captures) (expr e no_exprs)) (ExprStmt (DynamicConstant (PointerV f (values []))))
+fn_statement_folds {captures = captures} {e = e} f h q = named_folds (codes "Fn") captures e no_exprs (PointerV f (values [])) (word.fn_folds {captures = captures} {e = e} f h q).sound
+
+pub curry_statement_folds : {k : Context} {w captures : Bool} {e : Expr} {es : Exprs} (f : Text) (us : Values) (vs : List Value) → constant_value e ≡ Some (PointerV f us) → constant_values es ≡ Some vs → StmtObligation k w (FnCallStmt (named (codes "curry") captures) (expr e es)) (ExprStmt (DynamicConstant (PointerV f (values (items us ++ vs)))))
+curry_statement_folds {captures = captures} {e = e} {es = es} f us vs h q = named_folds (codes "curry") captures e es (PointerV f (values (items us ++ vs))) (word.curry_folds {captures = captures} {e = e} {es = es} f us vs h q).sound
+
 -- ---- every rule
 
 pub stmt_rule : {k : Context} {w : Bool} {s s' : Stmt} → StmtRule k w s s' → StmtObligation k w s s'
@@ -202,6 +227,10 @@ stmt_rule (rule.block_of_statement h) = block_of_statement h
 stmt_rule rule.statement_of_braces = statement_of_braces
 stmt_rule rule.statement_of_call = statement_of_call
 stmt_rule (rule.call_statement_folds h) = call_statement_folds h
+stmt_rule (rule.type_of_statement_folds v h) = type_of_statement_folds v h
+stmt_rule (rule.is_shared_statement_folds v h) = is_shared_statement_folds v h
+stmt_rule (rule.fn_statement_folds f h q) = fn_statement_folds f h q
+stmt_rule (rule.curry_statement_folds f us vs h q) = curry_statement_folds f us vs h q
 stmt_rule (rule.while_false h) = control.while_false h
 stmt_rule (rule.while_true h) = control.while_true h
 stmt_rule (rule.pure_try h) = control.pure_try h
@@ -214,4 +243,4 @@ stmt_rule (rule.switch_shrinks h q x y) = tables.switch_shrinks h q x y
 stmt_rule rule.nested_if = control.nested_if
 stmt_rule (rule.share_known h) = control.share_known h
 stmt_rule rule.share_nothing = control.share_nothing
-stmt_rule (rule.self_assign q h j) = assign.self_assign q h j
+stmt_rule (rule.self_assign q a h j) = assign.self_assign q a h j
