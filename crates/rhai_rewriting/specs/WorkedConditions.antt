@@ -73,10 +73,14 @@ overridden_call : (ran (overriding (codes "+") (codes "i64" ∷ codes "i64" ∷ 
 unfolding ran computed
 overridden_call = (refl, refl)
 
--- without `?` a unit goes on, and the host is asked: ().a, and ()
+-- without `?` a unit goes on, and the host is asked: ().a, ()[0], and ()
 unit_without_question : Differ (shown (Dot dot UnitConstant (property "a"))) (ends (WithValue UnitV) (record { name = codes "get"; receiver = Some UnitV; arguments = [] } ∷ [])) (shown UnitConstant) (ends (WithValue UnitV) [])
 unfolding ran
 unit_without_question = (refl, refl)
+
+unit_index_without_question : Differ (shown (Index index UnitConstant (int 0))) (ends (WithValue UnitV) (record { name = codes "index$get$"; receiver = Some UnitV; arguments = i 0 ∷ [] } ∷ [])) (shown UnitConstant) (ends (WithValue UnitV) [])
+unfolding ran
+unit_index_without_question = (refl, refl)
 
 -- `()?.type_of()` is unit, not "()"
 type_of_past_unit : Differ (shown (Dot safe UnitConstant (MethodCall (named (codes "type_of") false) (exprs [])))) (ends (WithValue UnitV) []) (shown (StringConstant (codes "()"))) (ends (WithValue (TextV (codes "()"))) [])

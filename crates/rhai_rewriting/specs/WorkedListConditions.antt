@@ -8,7 +8,7 @@ use Rattle.rhai_rewriting.specs.WorkedNodes.{dot}
 use Rattle.rhai_meaning.specs.Engine.{Engine}
 use Rattle.rhai_meaning.specs.Act.{Unbound, HostCall, Host, Answers}
 use Rattle.rhai_meaning.specs.Run.{WithValue, WithStuck, WithThrown}
-use Rattle.rhai_meaning.specs.Tree.{Expr, BoolConstant, DynamicConstant, BlockExpr, no_expr, an_expr, Stmt, Noop, If, While, For, Assignment, Block, ExprStmt, BreakLoop, Return, stmts, Dot, MethodCall, exprs, StringConstant, And, Coalesce, UnitConstant}
+use Rattle.rhai_meaning.specs.Tree.{Expr, BoolConstant, DynamicConstant, BlockExpr, no_expr, an_expr, Stmt, Noop, If, While, For, Assignment, Block, ExprStmt, BreakLoop, Return, stmts, Dot, MethodCall, exprs, StringConstant, And, Coalesce, UnitConstant, Function}
 use Rattle.rhai_meaning.specs.WorkedForms.{int, nothing_set, joining, ran, ran_with, ends, i, op, asked, overriding, call}
 use Rattle.rhai_rewriting.specs.WorkedConditions.{Differ}
 use Rattle.rhai_rewriting.specs.WorkedLists.{var, let', const, variable, constant, ends_with}
@@ -49,6 +49,20 @@ counter_name_stays = (refl, refl)
 block_forgets : Differ (Block (stmts (const "x" (int 1) ∷ [])) ∷ show (var "x") ∷ []) (ends (WithStuck Unbound) []) (Block (stmts (const "x" (int 1) ∷ [])) ∷ show (int 1) ∷ []) (ends (WithValue (i 1)) [])
 unfolding ran
 block_forgets = (refl, refl)
+
+-- in a body the record's constant goes first: under a record's constant x = 2, const x = 1; g(), where fn g() { x } and fn g() { 1 }
+abbrev knowing : Engine
+knowing = record nothing_set { constants = record { name = codes "x"; value = i 2 } ∷ [] }
+
+abbrev answers : Expr → Function
+answers e = record { name = codes "g"; this_type = None; params = []; body = stmts (show e ∷ []) }
+
+abbrev calls_g : List Stmt
+calls_g = const "x" (int 1) ∷ show (call "g" []) ∷ []
+
+record_before_scope : (ran_with knowing joining (answers (var "x") ∷ []) 1 calls_g ≡ ends_with (WithValue (i 2)) (constant "x" (i 1) ∷ []) []) × (ran_with knowing joining (answers (int 1) ∷ []) 1 calls_g ≡ ends_with (WithValue (i 1)) (constant "x" (i 1) ∷ []) [])
+unfolding ran_with
+record_before_scope = (refl, refl)
 
 -- a pointer's name is valid: the call throws where the constant is a value
 pointer_name : Differ (show (DynamicConstant (PointerV (codes "1") (values []))) ∷ []) (ends (WithValue (PointerV (codes "1") (values []))) []) (show (call "Fn" (StringConstant (codes "1") ∷ [])) ∷ []) (ends (WithThrown (TextV (codes "function name"))) [])
@@ -116,10 +130,19 @@ last_write_stays : Differ (let' "x" (int 1) ∷ Assignment None (var "x") (int 2
 unfolding ran
 last_write_stays = (refl, refl)
 
--- a block keeps what belongs to it, alone and in a list: { let x = 1; }, and let x = 1
+-- and a script's own declaration, which is pure inside alone: let x = 1, and nothing
+last_declaration_stays : Differ (let' "x" (int 1) ∷ []) (ends_with (WithValue UnitV) (variable "x" (i 1) ∷ []) []) [] (ends (WithValue UnitV) [])
+unfolding ran
+last_declaration_stays = (refl, refl)
+
+-- a block keeps what belongs to it, alone and in a list: { let x = 1; }, and let x = 1; { let x = 1; } 2, and let x = 1; 2
 block_keeps_its_names : Differ (Block (stmts (let' "x" (int 1) ∷ [])) ∷ []) (ends (WithValue UnitV) []) (let' "x" (int 1) ∷ []) (ends_with (WithValue UnitV) (variable "x" (i 1) ∷ []) [])
 unfolding ran
 block_keeps_its_names = (refl, refl)
+
+block_in_list_keeps_its_names : Differ (Block (stmts (let' "x" (int 1) ∷ [])) ∷ show (int 2) ∷ []) (ends (WithValue (i 2)) []) (let' "x" (int 1) ∷ show (int 2) ∷ []) (ends_with (WithValue (i 2)) (variable "x" (i 1) ∷ []) [])
+unfolding ran
+block_in_list_keeps_its_names = (refl, refl)
 
 -- a name alone whose value is wanted stays: let x = 1; x
 wanted_name_stays : Differ (let' "x" (int 1) ∷ show (var "x") ∷ []) (ends_with (WithValue (i 1)) (variable "x" (i 1) ∷ []) []) (let' "x" (int 1) ∷ []) (ends_with (WithValue UnitV) (variable "x" (i 1) ∷ []) [])
