@@ -1,13 +1,15 @@
--- For each place in which a rule may apply a derivation: `{ 3 }` becomes 3 there.
+-- For places in which a rule may apply a derivation, most of them `{ 3 }` that becomes 3 there; what stays that place and what
+-- becomes none; rules one after another; names; scripts. Arrays stand in `WorkedRewrites`, blocks in `WorkedLists`.
 use Rattle.std.specs.Prelude.{◌≡◌, Bool, true, false, [], ◌∷◌, Some, None, codes, refl}
 use Rattle.rhai_values.specs.Value.{Text, BoolV}
 use Rattle.rhai_meaning.specs.Act.{ScopeEntry}
-use Rattle.rhai_meaning.specs.Tree.{ChainFlags, Callee, NoToken, SwitchTable, Expr, BoolConstant, InterpolatedString, MapOf, Variable, MethodCall, BlockExpr, Dot, Index, And, Or, Coalesce, no_exprs, expr, exprs, no_pairs, pair, an_expr, no_arms, arm, If, Switch, While, Do, For, Var, Assignment, FnCallStmt, TryCatch, ExprStmt, BreakLoop, Return, no_stmts, stmts, Function, Script}
+use Rattle.rhai_meaning.specs.Tree.{ChainFlags, Callee, NoToken, SwitchTable, Expr, BoolConstant, InterpolatedString, MapOf, Variable, MethodCall, BlockExpr, Dot, Index, And, Or, Coalesce, no_exprs, expr, exprs, no_pairs, pair, an_expr, no_arms, arm, If, Switch, While, Do, For, Var, Assignment, FnCallStmt, TryCatch, ExprStmt, BreakLoop, Return, no_stmts, stmts, Function, Script, FnCall, Import}
 use Rattle.rhai_meaning.specs.WorkedForms.{int, nothing_set, i}
-use Rattle.rhai_rewriting.specs.Context.{Context, under, noting}
-use Rattle.rhai_rewriting.specs.Rules.{braces_of_expression, known_name}
-use Rattle.rhai_rewriting.specs.Rewriting.{ExprTo, same_expr, by_expr_rule, in_text, in_map, in_chain, in_and, in_or, in_coalesce, ExprsTo, exprs_none, exprs_more, pairs_none, pairs_more, in_dot, in_index, BaseTo, base, last_method, last_index, more_index, same_argument, in_target, GuardTo, guard, maybe_some, arms_none, arms_more, StmtTo, in_if, in_switch, in_while, in_do, in_for, in_var, in_assignment, in_try, in_expression, in_break, in_return, same_stmts, in_head}
+use Rattle.rhai_rewriting.specs.Context.{Context, under, noting, Whole}
+use Rattle.rhai_rewriting.specs.Rules.{braces_of_expression, known_name, statement_of_braces, block_of_statement}
+use Rattle.rhai_rewriting.specs.Rewriting.{ExprTo, same_expr, by_expr_rule, in_text, in_map, in_chain, in_and, in_or, in_coalesce, ExprsTo, exprs_none, exprs_more, pairs_none, pairs_more, in_dot, in_index, BaseTo, base, last_method, last_index, more_index, same_argument, in_target, GuardTo, guard, maybe_some, arms_none, arms_more, StmtTo, in_if, in_switch, in_while, in_do, in_for, in_var, in_assignment, in_try, in_expression, in_break, in_return, same_stmts, in_head, then_expr, in_braces, in_call, in_method, in_brackets, more_dot, then_stmt, by_stmt_rule, in_call_statement, in_import, StmtsTo, flag_forgotten}
 use Rattle.rhai_rewriting.specs.Scripts.{known_inside, is_place, no_functions, functions, OptimisedTo}
+use Rattle.rhai_meaning.specs.Engine.{Engine}
 
 abbrev k : Context
 k = under nothing_set
@@ -54,6 +56,13 @@ or_row = in_or alone
 coalesce_row : ExprTo k false true (Coalesce (expr braced no_exprs)) (Coalesce (expr (int 3) no_exprs))
 coalesce_row = in_coalesce alone
 
+-- { { 3 }; x }, f({ 3 })
+braces_row : ExprTo k false true (BlockExpr (stmts (ExprStmt braced ∷ ExprStmt x ∷ []))) (BlockExpr (stmts (ExprStmt (int 3) ∷ ExprStmt x ∷ [])))
+braces_row = in_braces (in_head (in_expression unbraced))
+
+call_row : ExprTo k false true (FnCall f (expr braced no_exprs)) (FnCall f (expr (int 3) no_exprs))
+call_row = in_call alone
+
 -- { 3 }.f({ 3 })
 method_row : ExprTo k false true (Dot ends braced (MethodCall f (expr braced no_exprs))) (Dot ends (int 3) (MethodCall f (expr (int 3) no_exprs)))
 method_row = in_chain (in_dot (base unbraced refl) (last_method alone))
@@ -64,6 +73,13 @@ index_row = in_chain (in_index (base same_expr refl) (last_index unbraced))
 
 later_index_row : ExprTo k false true (Index goes_on x (Index ends (int 1) braced)) (Index goes_on x (Index ends (int 1) (int 3)))
 later_index_row = in_chain (in_index (base same_expr refl) (more_index same_argument (last_index unbraced)))
+
+-- x.f({ 3 }).f({ 3 }), x[{ 3 }].f({ 3 })
+later_method_row : ExprTo k false true (Dot goes_on x (Dot ends (MethodCall f (expr braced no_exprs)) (MethodCall f (expr braced no_exprs)))) (Dot goes_on x (Dot ends (MethodCall f (expr (int 3) no_exprs)) (MethodCall f (expr (int 3) no_exprs))))
+later_method_row = in_chain (in_dot (base same_expr refl) (more_dot (in_method alone) (last_method alone)))
+
+first_index_row : ExprTo k false true (Index goes_on x (Dot ends braced (MethodCall f (expr braced no_exprs)))) (Index goes_on x (Dot ends (int 3) (MethodCall f (expr (int 3) no_exprs))))
+first_index_row = in_chain (in_index (base same_expr refl) (more_dot (in_brackets unbraced) (last_method alone)))
 
 -- a base doesn't become a name: { x }.f()
 no_new_place : BaseTo k false true (BlockExpr (stmts (ExprStmt x ∷ []))) x → ⊥
@@ -110,6 +126,30 @@ break_row = in_break (maybe_some unbraced)
 return_row : StmtTo k true false true (Return true (an_expr braced)) (Return true (an_expr (int 3)))
 return_row = in_return (maybe_some unbraced)
 
+-- f({ 3 }) as a statement, import { 3 } as a
+call_statement_row : StmtTo k true false true (FnCallStmt f (expr braced no_exprs)) (FnCallStmt f (expr (int 3) no_exprs))
+call_statement_row = in_call_statement alone
+
+import_row : StmtTo k true false true (Import braced a) (Import (int 3) a)
+import_row = in_import unbraced
+
+-- ---- one after another
+
+-- { { 3 } }: the outer braces, then the inner
+two_expressions_row : ExprTo k false true (BlockExpr (stmts (ExprStmt braced ∷ []))) (int 3)
+two_expressions_row = then_expr (by_expr_rule braces_of_expression) unbraced
+
+-- { 3 } as a statement: a block, then what is in it
+two_statements_row : StmtTo k true false true (ExprStmt braced) (ExprStmt (int 3))
+two_statements_row = then_stmt (by_stmt_rule statement_of_braces) (by_stmt_rule (block_of_statement refl))
+
+-- a pass that began with a clear flag, and the same where the flag was set before
+clear_flag_row : StmtsTo k Whole false true (stmts (ExprStmt braced ∷ [])) (stmts (ExprStmt (int 3) ∷ []))
+clear_flag_row = in_head (in_expression unbraced)
+
+forgotten_flag_row : StmtsTo k Whole true true (stmts (ExprStmt braced ∷ [])) (stmts (ExprStmt (int 3) ∷ []))
+forgotten_flag_row = flag_forgotten clear_flag_row
+
 -- ---- names
 
 abbrev known : Context
@@ -149,3 +189,13 @@ parameter_row = record {
 -- x; g!(1): a call that captures, so that nothing from outside is known in bodies
 nothing_inside : known_inside nothing_set (scope ∷ []) (record { statements = stmts (FnCallStmt (record f { captures = true }) (exprs (int 1 ∷ [])) ∷ []); functions = function (codes "y") x ∷ [] }) ≡ []
 nothing_inside = refl
+
+-- in a body the record's constant goes before the scope's, at top level after it
+abbrev knowing : Engine
+knowing = record nothing_set { constants = record { name = codes "x"; value = BoolV false } ∷ [] }
+
+record_first_row : OptimisedTo knowing (scope ∷ []) (script x (codes "y") x) (script (BoolConstant true) (codes "y") (BoolConstant false))
+record_first_row = record {
+  statements = in_head (in_expression (by_expr_rule (known_name (BoolV true) refl)));
+  functions = functions (record { name = refl; this_type = refl; params = refl; body = in_head (in_expression (by_expr_rule (known_name (BoolV false) refl))) }) no_functions;
+}

@@ -1,15 +1,17 @@
--- For each condition of a rule two scripts that the rule without it would take for one, and what each does.
+-- For conditions of rules on nodes, `switch` among them: two scripts that the rule without it would take for one, and what each does.
 use Rattle.std.specs.Prelude.{◌≡◌, true, false, List, [], ◌∷◌, Some, codes, refl, ℕ, pos, None}
-use Rattle.rhai_values.specs.Value.{UnitV, BoolV, TextV, ArrayV, values}
+use Rattle.rhai_values.specs.Value.{UnitV, BoolV, TextV, ArrayV, values, text_of}
 use Rattle.rhai_meaning.specs.Act.{WrongKind}
 use Rattle.rhai_meaning.specs.Faults.{NoOperands, fault_of}
 use Rattle.rhai_meaning.specs.Run.{Report, WithValue, WithThrown, WithStuck, WithoutTurns}
-use Rattle.rhai_meaning.specs.Tree.{Expr, BoolConstant, StringConstant, UnitConstant, ArrayOf, BlockExpr, FnCall, Dot, Index, MethodCall, And, Coalesce, Stmt, Noop, While, TryCatch, ExprStmt, Return, an_expr, exprs, stmts, SwitchRange, SwitchTable, ExclusiveInt, Switch, arms, DynamicConstant}
+use Rattle.rhai_meaning.specs.Tree.{Expr, BoolConstant, StringConstant, UnitConstant, ArrayOf, BlockExpr, FnCall, Dot, Index, MethodCall, And, Coalesce, Stmt, Noop, While, TryCatch, ExprStmt, Return, an_expr, exprs, stmts, SwitchRange, SwitchTable, ExclusiveInt, Switch, arms, DynamicConstant, If, MapOf, pairs, InterpolatedString}
 use Rattle.rhai_meaning.specs.Walk.{OfExpr, outermost}
-use Rattle.rhai_meaning.specs.WorkedForms.{int, call, nothing_set, joining, ran, ends, i}
+use Rattle.rhai_meaning.specs.WorkedForms.{int, call, nothing_set, joining, ran, ends, i, op, asked, overriding}
 use Rattle.rhai_rewriting.specs.Parts.{named}
-use Rattle.rhai_rewriting.specs.WorkedNodes.{safe, index, dot}
+use Rattle.rhai_rewriting.specs.WorkedNodes.{safe, index, dot, property}
 use Rattle.rhai_rewriting.specs.WorkedRewrites.{f, asks_f}
+use Rattle.rhai_base.specs.Operators.{Plus, computed}
+use Rattle.rhai_meaning.specs.Control.{texts_joined}
 
 -- what the two do
 abbrev pub Differ : List Stmt → Report → List Stmt → Report → Type 0
@@ -42,6 +44,11 @@ deciding_stays : Differ (shown (And (exprs (n ∷ t ∷ [])))) (ends (WithValue 
 unfolding ran
 deciding_stays = (refl, refl)
 
+-- nor does what follows a constant that doesn't decide: true && false, and true
+passing_decides_nothing : Differ (shown (And (exprs (t ∷ n ∷ [])))) (ends (WithValue (BoolV false)) []) (shown (And (exprs (t ∷ [])))) (ends (WithValue (BoolV true)) [])
+unfolding ran
+passing_decides_nothing = (refl, refl)
+
 -- one operand stays, as `&&` without one is no well-formed node
 no_operands_left : fault_of outermost (OfExpr (And (exprs []))) ≡ Some NoOperands
 no_operands_left = refl
@@ -50,6 +57,30 @@ no_operands_left = refl
 unit_decides_nothing : Differ (shown (Coalesce (exprs (UnitConstant ∷ int 1 ∷ [])))) (ends (WithValue (i 1)) []) (shown (Coalesce (exprs (UnitConstant ∷ [])))) (ends (WithValue UnitV) [])
 unfolding ran
 unit_decides_nothing = (refl, refl)
+
+-- only unit goes from `??`: 1 ?? 2, and 2
+some_stays : Differ (shown (Coalesce (exprs (int 1 ∷ int 2 ∷ [])))) (ends (WithValue (i 1)) []) (shown (Coalesce (exprs (int 2 ∷ [])))) (ends (WithValue (i 2)) [])
+unfolding ran
+some_stays = (refl, refl)
+
+-- a constant goes from a text only where its own text is empty: `1`, and ``
+text_of_constant_stays : Differ (shown (InterpolatedString (exprs (int 1 ∷ [])))) (ends (WithValue (TextV (codes "1"))) []) (shown (InterpolatedString (exprs []))) (ends (WithValue (TextV [])) [])
+unfolding ran texts_joined text_of
+text_of_constant_stays = (refl, refl)
+
+-- what is built in is no more where it is overridden: 1 + 2, and 3
+overridden_call : (ran (overriding (codes "+") (codes "i64" ∷ codes "i64" ∷ []) false) joining (shown (op Plus (int 1 ∷ int 2 ∷ []))) ≡ ends (WithValue (TextV (codes "12"))) (asked "+" (i 1 ∷ i 2 ∷ []) ∷ [])) × (ran (overriding (codes "+") (codes "i64" ∷ codes "i64" ∷ []) false) joining (shown (int 3)) ≡ ends (WithValue (i 3)) [])
+unfolding ran computed
+overridden_call = (refl, refl)
+
+-- without `?` a unit goes on, and the host is asked: ().a, ()[0], and ()
+unit_without_question : Differ (shown (Dot dot UnitConstant (property "a"))) (ends (WithValue UnitV) (record { name = codes "get"; receiver = Some UnitV; arguments = [] } ∷ [])) (shown UnitConstant) (ends (WithValue UnitV) [])
+unfolding ran
+unit_without_question = (refl, refl)
+
+unit_index_without_question : Differ (shown (Index index UnitConstant (int 0))) (ends (WithValue UnitV) (record { name = codes "index$get$"; receiver = Some UnitV; arguments = i 0 ∷ [] } ∷ [])) (shown UnitConstant) (ends (WithValue UnitV) [])
+unfolding ran
+unit_index_without_question = (refl, refl)
 
 -- `()?.type_of()` is unit, not "()"
 type_of_past_unit : Differ (shown (Dot safe UnitConstant (MethodCall (named (codes "type_of") false) (exprs [])))) (ends (WithValue UnitV) []) (shown (StringConstant (codes "()"))) (ends (WithValue (TextV (codes "()"))) [])
@@ -71,10 +102,27 @@ other_parts_call : Differ (shown (Index index (ArrayOf (exprs (ask ∷ int 1 ∷
 unfolding ran
 other_parts_call = (refl, refl)
 
+-- so are those of a map: #{a: f(), b: 1}.b, #{a: f(), b: 1}["b"], and 1
+abbrev calling_map : Expr
+calling_map = MapOf (pairs ((codes "a", ask) ∷ (codes "b", int 1) ∷ [])) (codes "a" ∷ codes "b" ∷ [])
+
+other_properties_call : Differ (shown (Dot dot calling_map (property "b"))) (ends (WithValue (i 1)) asks_f) (shown (int 1)) (ends (WithValue (i 1)) [])
+unfolding ran
+other_properties_call = (refl, refl)
+
+other_entries_call : Differ (shown (Index index calling_map (StringConstant (codes "b")))) (ends (WithValue (i 1)) asks_f) (shown (int 1)) (ends (WithValue (i 1)) [])
+unfolding ran
+other_entries_call = (refl, refl)
+
 -- the name of a pointer is valid: Fn("1") throws
 name_is_invalid : ran nothing_set joining (shown (FnCall (named (codes "Fn") false) (exprs (StringConstant (codes "1") ∷ [])))) ≡ ends (WithThrown (TextV (codes "function name"))) []
 unfolding ran
 name_is_invalid = refl
+
+-- where the value of an `if` without statements is wanted, its condition isn't all: if true {} else {}, and true
+wanted_condition : Differ (If t (stmts []) (stmts []) ∷ []) (ends (WithValue UnitV) []) (shown t) (ends (WithValue (BoolV true)) [])
+unfolding ran
+wanted_condition = (refl, refl)
 
 -- no rule makes the guard of a `while` a literal unit, but for true: while {()} {} is stuck, and loop {} has no end
 unit_guard : Differ (While (BlockExpr (stmts (ExprStmt UnitConstant ∷ []))) (stmts []) ∷ []) (ends (WithStuck WrongKind) []) (While UnitConstant (stmts []) ∷ []) (ends WithoutTurns [])
@@ -107,3 +155,11 @@ empty_list_hides_ranges = (refl, refl)
 empty_list_hides_list : Differ (Switch (int 1) (arms ((t, int 1) ∷ [])) (record { cases = record { value = i 1; arms = [] } ∷ record { value = i 1; arms = 0 ∷ [] } ∷ []; ranges = []; default = None }) ∷ []) (ends (WithValue UnitV) []) (Switch (int 1) (arms ((t, int 1) ∷ [])) (record { cases = record { value = i 1; arms = 0 ∷ [] } ∷ []; ranges = []; default = None }) ∷ []) (ends (WithValue (i 1)) [])
 unfolding ran
 empty_list_hides_list = (refl, refl)
+
+-- the answer of an arm that a list names stays: switch 1 { 1 => 5 }, and switch 1 { 1 => () }
+abbrev one_case : SwitchTable
+one_case = record { cases = record { value = i 1; arms = 0 ∷ [] } ∷ []; ranges = []; default = None }
+
+listed_answer : Differ (Switch (int 1) (arms ((t, int 5) ∷ [])) one_case ∷ []) (ends (WithValue (i 5)) []) (Switch (int 1) (arms ((t, UnitConstant) ∷ [])) one_case ∷ []) (ends (WithValue UnitV) [])
+unfolding ran
+listed_answer = (refl, refl)

@@ -1,5 +1,5 @@
--- For each condition of the rules on known names and of lists two scripts that the rule without it would take for one, and
--- what each does.
+-- For conditions of the rules on known names, on lists and blocks, on the bases of chains and on assignments: two scripts that
+-- the rule without it would take for one, and what each does.
 use Rattle.std.specs.Prelude.{◌≡◌, true, false, [], ◌∷◌, None, codes, refl, List, Some}
 use Rattle.rhai_values.specs.Value.{UnitV, ArrayV, values, TextV, PointerV}
 use Rattle.rhai_base.specs.Operators.{Plus, computed}
@@ -8,7 +8,7 @@ use Rattle.rhai_rewriting.specs.WorkedNodes.{dot}
 use Rattle.rhai_meaning.specs.Engine.{Engine}
 use Rattle.rhai_meaning.specs.Act.{Unbound, HostCall, Host, Answers}
 use Rattle.rhai_meaning.specs.Run.{WithValue, WithStuck, WithThrown}
-use Rattle.rhai_meaning.specs.Tree.{Expr, BoolConstant, DynamicConstant, BlockExpr, no_expr, an_expr, Stmt, Noop, If, While, For, Assignment, Block, ExprStmt, BreakLoop, Return, stmts, Dot, MethodCall, exprs, StringConstant}
+use Rattle.rhai_meaning.specs.Tree.{Expr, BoolConstant, DynamicConstant, BlockExpr, no_expr, an_expr, Stmt, Noop, If, While, For, Assignment, Block, ExprStmt, BreakLoop, Return, stmts, Dot, MethodCall, exprs, StringConstant, And, Coalesce, UnitConstant, Function}
 use Rattle.rhai_meaning.specs.WorkedForms.{int, nothing_set, joining, ran, ran_with, ends, i, op, asked, overriding, call}
 use Rattle.rhai_rewriting.specs.WorkedConditions.{Differ}
 use Rattle.rhai_rewriting.specs.WorkedLists.{var, let', const, variable, constant, ends_with}
@@ -37,10 +37,32 @@ loop_name_stays : (ran_with nothing_set joining [] 1 (const "x" (int 1) ∷ for_
 unfolding ran_with
 loop_name_stays = (refl, refl)
 
+-- nor is its counter's: const x = 1; for y, x in [2] { return x }, and return 1
+abbrev counted_by_x : Expr → Stmt
+counted_by_x e = For (codes "y") (Some (codes "x")) (DynamicConstant (ArrayV (values (i 2 ∷ [])))) (stmts (Return false (an_expr e) ∷ []))
+
+counter_name_stays : (ran_with nothing_set joining [] 1 (const "x" (int 1) ∷ counted_by_x (var "x") ∷ []) ≡ ends_with (WithValue (i 0)) (constant "x" (i 1) ∷ []) []) × (ran_with nothing_set joining [] 1 (const "x" (int 1) ∷ counted_by_x (int 1) ∷ []) ≡ ends_with (WithValue (i 1)) (constant "x" (i 1) ∷ []) [])
+unfolding ran_with
+counter_name_stays = (refl, refl)
+
 -- a block's constant is not known behind it: { const x = 1; } x, and 1
 block_forgets : Differ (Block (stmts (const "x" (int 1) ∷ [])) ∷ show (var "x") ∷ []) (ends (WithStuck Unbound) []) (Block (stmts (const "x" (int 1) ∷ [])) ∷ show (int 1) ∷ []) (ends (WithValue (i 1)) [])
 unfolding ran
 block_forgets = (refl, refl)
+
+-- in a body the record's constant goes first: under a record's constant x = 2, const x = 1; g(), where fn g() { x } and fn g() { 1 }
+abbrev knowing : Engine
+knowing = record nothing_set { constants = record { name = codes "x"; value = i 2 } ∷ [] }
+
+abbrev answers : Expr → Function
+answers e = record { name = codes "g"; this_type = None; params = []; body = stmts (show e ∷ []) }
+
+abbrev calls_g : List Stmt
+calls_g = const "x" (int 1) ∷ show (call "g" []) ∷ []
+
+record_before_scope : (ran_with knowing joining (answers (var "x") ∷ []) 1 calls_g ≡ ends_with (WithValue (i 2)) (constant "x" (i 1) ∷ []) []) × (ran_with knowing joining (answers (int 1) ∷ []) 1 calls_g ≡ ends_with (WithValue (i 1)) (constant "x" (i 1) ∷ []) [])
+unfolding ran_with
+record_before_scope = (refl, refl)
 
 -- a pointer's name is valid: the call throws where the constant is a value
 pointer_name : Differ (show (DynamicConstant (PointerV (codes "1") (values []))) ∷ []) (ends (WithValue (PointerV (codes "1") (values []))) []) (show (call "Fn" (StringConstant (codes "1") ∷ [])) ∷ []) (ends (WithThrown (TextV (codes "function name"))) [])
@@ -103,6 +125,30 @@ last_value_stays : Differ (show (int 1) ∷ show (int 2) ∷ []) (ends (WithValu
 unfolding ran
 last_value_stays = (refl, refl)
 
+-- and one that is surely unit but writes: let x = 1; x = 2
+last_write_stays : Differ (let' "x" (int 1) ∷ Assignment None (var "x") (int 2) ∷ []) (ends_with (WithValue UnitV) (variable "x" (i 2) ∷ []) []) (let' "x" (int 1) ∷ []) (ends_with (WithValue UnitV) (variable "x" (i 1) ∷ []) [])
+unfolding ran
+last_write_stays = (refl, refl)
+
+-- and a script's own declaration, which is pure inside alone: let x = 1, and nothing
+last_declaration_stays : Differ (let' "x" (int 1) ∷ []) (ends_with (WithValue UnitV) (variable "x" (i 1) ∷ []) []) [] (ends (WithValue UnitV) [])
+unfolding ran
+last_declaration_stays = (refl, refl)
+
+-- a block keeps what belongs to it, alone and in a list: { let x = 1; }, and let x = 1; { let x = 1; } 2, and let x = 1; 2
+block_keeps_its_names : Differ (Block (stmts (let' "x" (int 1) ∷ [])) ∷ []) (ends (WithValue UnitV) []) (let' "x" (int 1) ∷ []) (ends_with (WithValue UnitV) (variable "x" (i 1) ∷ []) [])
+unfolding ran
+block_keeps_its_names = (refl, refl)
+
+block_in_list_keeps_its_names : Differ (Block (stmts (let' "x" (int 1) ∷ [])) ∷ show (int 2) ∷ []) (ends (WithValue (i 2)) []) (let' "x" (int 1) ∷ show (int 2) ∷ []) (ends_with (WithValue (i 2)) (variable "x" (i 1) ∷ []) [])
+unfolding ran
+block_in_list_keeps_its_names = (refl, refl)
+
+-- a name alone whose value is wanted stays: let x = 1; x
+wanted_name_stays : Differ (let' "x" (int 1) ∷ show (var "x") ∷ []) (ends_with (WithValue (i 1)) (variable "x" (i 1) ∷ []) []) (let' "x" (int 1) ∷ []) (ends_with (WithValue UnitV) (variable "x" (i 1) ∷ []) [])
+unfolding ran
+wanted_name_stays = (refl, refl)
+
 -- an `if` in an `if` with an `else` is no `&&`: if true { if false { f() } else { 1 } }
 abbrev inner : Stmt
 inner = If (BoolConstant false) (stmts (f ∷ [])) (stmts (show (int 1) ∷ []))
@@ -110,6 +156,27 @@ inner = If (BoolConstant false) (stmts (f ∷ [])) (stmts (show (int 1) ∷ []))
 else_inside : Differ (If (BoolConstant true) (stmts (inner ∷ [])) (stmts []) ∷ []) (ends (WithValue (i 1)) []) (If (BoolConstant false) (stmts (f ∷ [])) (stmts []) ∷ []) (ends (WithValue UnitV) [])
 unfolding ran
 else_inside = (refl, refl)
+
+-- nor is one with an `else` outside: if false { if true { f() } } else { 1 }
+else_outside : Differ (If (BoolConstant false) (stmts (If (BoolConstant true) (stmts (f ∷ [])) (stmts []) ∷ [])) (stmts (show (int 1) ∷ [])) ∷ []) (ends (WithValue (i 1)) []) (If (And (exprs (BoolConstant false ∷ BoolConstant true ∷ []))) (stmts (f ∷ [])) (stmts []) ∷ []) (ends (WithValue UnitV) [])
+unfolding ran
+else_outside = (refl, refl)
+
+-- ---- bases of chains
+
+-- a base that is no place doesn't become one: let x = 1; (() ?? x).m(), and x.m(), where the method gives its receiver 2
+abbrev renewing : Host
+renewing = record { answer = λ past c. Answers UnitV (Some (i 2)); module_value = λ y. None }
+
+abbrev calls_method : Expr → List Stmt
+calls_method e = let' "x" (int 1) ∷ show (Dot dot e (MethodCall (named (codes "m") false) (exprs []))) ∷ []
+
+abbrev asks_method : List HostCall
+asks_method = record { name = codes "m"; receiver = Some (i 1); arguments = [] } ∷ []
+
+one_operand : (ran nothing_set renewing (calls_method (Coalesce (exprs (UnitConstant ∷ var "x" ∷ [])))) ≡ ends_with (WithValue UnitV) (variable "x" (i 1) ∷ []) asks_method) × (ran nothing_set renewing (calls_method (var "x")) ≡ ends_with (WithValue UnitV) (variable "x" (i 2) ∷ []) asks_method)
+unfolding ran
+one_operand = (refl, refl)
 
 -- ---- assignments of an operator over their own name
 

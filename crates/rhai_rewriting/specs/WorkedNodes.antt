@@ -1,4 +1,4 @@
--- For each rule on operands, texts, maps, the language's own functions, chains, loops and `try` a small script, what it
+-- For rules on operands, texts, maps, the language's own functions, chains, loops, `try` and `switch` a small script, what it
 -- may be rewritten to, and what both do.
 use Rattle.std.specs.Prelude.{◌≡◌, true, false, ℕ, List, [], ◌∷◌, Option, Some, None, pos, codes, refl}
 use Prim.Native.String.{String}
@@ -8,14 +8,14 @@ use Rattle.rhai_meaning.specs.Elements.{character}
 use Rattle.rhai_meaning.specs.Act.{HostCall, WrongKind}
 use Rattle.rhai_meaning.specs.Control.{texts_joined}
 use Rattle.rhai_meaning.specs.Run.{WithValue, WithStuck}
-use Rattle.rhai_meaning.specs.Tree.{FnCallStmt, SwitchCase, SwitchTable, ChainFlags, Expr, DynamicConstant, BoolConstant, StringConstant, UnitConstant, InterpolatedString, ArrayOf, MapOf, Property, MethodCall, FnCall, Dot, Index, And, Or, Coalesce, Noop, While, TryCatch, ExprStmt, BreakLoop, no_expr, exprs, pairs, arms, stmts, BlockExpr, If, Switch, Block, Var}
+use Rattle.rhai_meaning.specs.Tree.{FnCallStmt, SwitchCase, SwitchTable, ChainFlags, Expr, DynamicConstant, BoolConstant, StringConstant, UnitConstant, InterpolatedString, ArrayOf, MapOf, Property, MethodCall, FnCall, Dot, Index, And, Or, Coalesce, Noop, While, TryCatch, ExprStmt, BreakLoop, no_expr, exprs, pairs, arms, stmts, BlockExpr, If, Switch, Block, Var, SwitchRange, ExclusiveInt, Arms}
 use Rattle.rhai_meaning.specs.WorkedForms.{int, call, nothing_set, joining, ran, ran_with, ends, i}
 use Rattle.rhai_rewriting.specs.Context.{under}
 use Rattle.rhai_rewriting.specs.Operands.{passing_goes, after_deciding_go, pure_before_deciding_goes, in_other_operands, unit_goes, after_some_go, texts_join, empty_goes, in_other_parts}
 use Rattle.rhai_rewriting.specs.Parts.{named}
 use Rattle.rhai_rewriting.specs.Rewriting.{by_expr_rule, by_stmt_rule, in_expression, in_head}
 use Rattle.rhai_rewriting.specs.Rules.{StmtRule, type_of_statement_folds, is_shared_statement_folds, fn_statement_folds, curry_statement_folds, and_changes, or_changes, coalesce_changes, and_of_one, or_of_one, coalesce_of_one, text_changes, text_folds, map_of_constants, type_of_folds, is_shared_folds, fn_folds, curry_folds, unit_ends_dot, unit_ends_index, property_of_constant, index_of_constant, element_of_array, property_of_map, entry_of_map, type_of_method, is_shared_method, while_false, while_true, pure_try, switch_answers, switch_is_if, switch_defaults, switch_narrows, switch_shrinks, switch_forgets, and_of_none, or_of_none, coalesce_of_none, property_of_constant_first, index_of_constant_first, type_of_method_first, is_shared_method_first}
-use Rattle.rhai_rewriting.specs.Tables.{no_ranges, no_cases, case_shrinks, empty_case_goes}
+use Rattle.rhai_rewriting.specs.Tables.{no_ranges, no_cases, case_shrinks, empty_case_goes, range_stays, false_range_goes}
 use Rattle.rhai_rewriting.specs.WorkedRewrites.{Row, f, asks_f}
 
 -- one expression as a statement
@@ -77,6 +77,11 @@ or_deciding_row : ExprRow (Or (exprs (t ∷ ask ∷ []))) (Or (exprs (t ∷ []))
 unfolding ran
 or_deciding_row = (in_head (in_expression (by_expr_rule (or_changes (after_deciding_go refl) refl))), refl, refl)
 
+-- (true && true) || true
+or_pure_operand_row : ExprRow (Or (exprs (And (exprs (t ∷ t ∷ [])) ∷ t ∷ []))) (Or (exprs (t ∷ []))) (BoolV true) []
+unfolding ran
+or_pure_operand_row = (in_head (in_expression (by_expr_rule (or_changes (pure_before_deciding_goes refl refl) refl))), refl, refl)
+
 -- () ?? f(), and 1 ?? f()
 unit_option_row : ExprRow (Coalesce (exprs (UnitConstant ∷ ask ∷ []))) (Coalesce (exprs (ask ∷ []))) UnitV asks_f
 unfolding ran
@@ -110,6 +115,11 @@ texts_join_row = (in_head (in_expression (by_expr_rule (text_changes texts_join)
 empty_goes_row : ExprRow (InterpolatedString (exprs (ask ∷ UnitConstant ∷ []))) (InterpolatedString (exprs (ask ∷ []))) (TextV []) asks_f
 unfolding ran texts_joined text_of
 empty_goes_row = (in_head (in_expression (by_expr_rule (text_changes (in_other_parts (empty_goes UnitV refl refl))))), refl, refl)
+
+-- `${f()}${""}`
+empty_text_row : ExprRow (InterpolatedString (exprs (ask ∷ text "" ∷ []))) (InterpolatedString (exprs (ask ∷ []))) (TextV []) asks_f
+unfolding ran texts_joined text_of
+empty_text_row = (in_head (in_expression (by_expr_rule (text_changes (in_other_parts (empty_goes (TextV []) refl refl))))), refl, refl)
 
 -- `a${true}`
 text_folds_row : ExprRow (InterpolatedString (exprs (text "a" ∷ t ∷ []))) (StringConstant (codes "atrue")) (TextV (codes "atrue")) []
@@ -294,6 +304,36 @@ switch_shrinks_row = (in_head (by_stmt_rule (switch_shrinks (case_shrinks (empty
 switch_forgets_row : Row (Switch (BlockExpr (stmts (ExprStmt (int 1) ∷ []))) (arms ((t, int 5) ∷ (n, ask) ∷ [])) (cases (on 1 (0 ∷ []) ∷ []) None) ∷ []) (Switch (BlockExpr (stmts (ExprStmt (int 1) ∷ []))) (arms ((t, int 5) ∷ (n, UnitConstant) ∷ [])) (cases (on 1 (0 ∷ []) ∷ []) None) ∷ []) (ends (WithValue (i 5)) [])
 unfolding ran
 switch_forgets_row = (in_head (by_stmt_rule (switch_forgets 1 refl refl refl)), refl, refl)
+
+-- ---- `switch` with ranges
+
+abbrev between : ℕ → ℕ → ℕ → SwitchRange
+between a b j = record { range = ExclusiveInt (pos a) (pos b); arm = j }
+
+-- the table of ranges and a default
+abbrev ranges : List SwitchRange → Option ℕ → SwitchTable
+ranges rs d = record { cases = []; ranges = rs; default = d }
+
+-- switch 6 { 5..8 if f() => 1, _ => 2 }
+range_is_if : Row (Switch (int 6) (arms ((ask, int 1) ∷ (t, int 2) ∷ [])) (ranges (between 5 8 0 ∷ []) (Some 1)) ∷ []) (If ask (stmts (ExprStmt (int 1) ∷ [])) (stmts (ExprStmt (int 2) ∷ [])) ∷ []) (ends (WithStuck WrongKind) asks_f)
+unfolding ran
+range_is_if = (in_head (by_stmt_rule (switch_is_if (i 6) 0 refl refl refl (λ h. absurd cc))), refl, refl)
+
+-- switch 6 { 5..8 if f() => 1, 1..2 => 2, 6..7 => 3 }: the second doesn't hold 6
+abbrev three_arms : Arms
+three_arms = arms ((ask, int 1) ∷ (t, int 2) ∷ (t, int 3) ∷ [])
+
+ranges_narrow : Row (Switch (int 6) three_arms (ranges (between 5 8 0 ∷ between 1 2 1 ∷ between 6 7 2 ∷ []) None) ∷ []) (Switch (int 6) three_arms (ranges (between 5 8 0 ∷ between 6 7 2 ∷ []) None) ∷ []) (ends (WithStuck WrongKind) asks_f)
+unfolding ran IsLe
+ranges_narrow = (in_head (by_stmt_rule (switch_narrows (i 6) refl refl refl refl (λ h. refl) (le_by_compare 3 3 tt))), refl, refl)
+
+-- switch {6} { 5..8 if false => 1, 1..9 => 2 }: a false range goes, and the other stays
+abbrev six : Expr
+six = BlockExpr (stmts (ExprStmt (int 6) ∷ []))
+
+false_range : Row (Switch six (arms ((n, int 1) ∷ (t, int 2) ∷ [])) (ranges (between 5 8 0 ∷ between 1 9 1 ∷ []) None) ∷ []) (Switch six (arms ((n, int 1) ∷ (t, int 2) ∷ [])) (ranges (between 1 9 1 ∷ []) None) ∷ []) (ends (WithValue (i 2)) [])
+unfolding ran IsLe
+false_range = (in_head (by_stmt_rule (switch_shrinks no_cases (false_range_goes refl (range_stays no_ranges)) (λ h. refl) (le_by_compare 2 2 tt))), refl, refl)
 
 -- ---- operands without any: no well-formed tree has them
 

@@ -1,9 +1,10 @@
 -- Worked answers: what of the whole language is left to reduce, and what comes near it.
 use Rattle.std.specs.Prelude.{◌≡◌, true, false, [], ◌∷◌, Some, None, pos, negsuc, codes, refl}
 use Rattle.rhai_values.specs.Value.{ArrayV, MapV, values, field, no_fields}
-use Rattle.rhai_meaning.specs.Tree.{ChainFlags, SwitchTable, ExclusiveInt, Expr, DynamicConstant, IntegerConstant, BoolConstant, UnitConstant, Variable, Property, Dot, Index, Noop, If, Var, ExprStmt, BreakLoop, Return, no_expr, an_expr, no_stmts, exprs, stmts}
-use Rattle.rhai_meaning.specs.WorkedForms.{int, call, i}
-use Rattle.rhai_rewriting.specs.Reducible.{is_always, follows_deciding, follows_some, chain_answer, is_chosen, goes_on_after_leaving, tests_constant, idles, ends_in_return}
+use Rattle.rhai_meaning.specs.Tree.{ChainFlags, SwitchTable, ExclusiveInt, Expr, DynamicConstant, IntegerConstant, BoolConstant, UnitConstant, Variable, Property, Dot, Index, Noop, If, Var, ExprStmt, BreakLoop, Return, no_expr, an_expr, no_stmts, exprs, stmts, Assignment, While, Script, Stmt, Stmts}
+use Rattle.rhai_meaning.specs.WorkedForms.{int, call, i, nothing_set}
+use Rattle.rhai_rewriting.specs.Reducible.{is_always, follows_deciding, follows_some, chain_answer, is_chosen, goes_on_after_leaving, tests_constant, idles, ends_in_return, IsIrreducibleList, IsIrreducibleNode, IsIrreducibleBody, IsIrreducibleScript}
+use Rattle.rhai_meaning.specs.Walk.{OfExpr, OfStmt, every, over_expr}
 
 abbrev plain : ChainFlags
 plain = record { negated = false; breaks = true }
@@ -106,3 +107,85 @@ returns = refl
 
 returns_unit : ends_in_return (stmts (Return false no_expr ∷ [])) ≡ false
 returns_unit = refl
+
+-- ---- nodes, and trees at every depth
+
+abbrev goes_on_from : ChainFlags
+goes_on_from = record { negated = false; breaks = false }
+
+abbrev IsIrreducible : Expr → Type 0
+IsIrreducible e = over_expr (every (IsIrreducibleNode nothing_set)) e
+
+-- [1][0], which answers 1
+abbrev first : Expr
+first = Index plain (DynamicConstant (ArrayV (values (i 1 ∷ [])))) (int 0)
+
+first_answers : chain_answer first ≡ Some (i 1)
+first_answers = refl
+
+-- [1][0] = x: a left side is no expression; x = [1][0]: a right side is one
+left_side_stays : IsIrreducibleNode nothing_set (OfStmt (Assignment None first x))
+left_side_stays = record { alone = tt; lists = tt; expressions = refl }
+
+right_side_reduces : IsIrreducibleNode nothing_set (OfStmt (Assignment None x first)) → ⊥
+right_side_reduces h = absurd (let e : true ≡ false = h.expressions in cc)
+
+-- x[[1]][0]: nor is the rest of a chain; x[[1][0]][2]: an index in the rest is one
+rest_stays : IsIrreducible (Index goes_on_from x first)
+rest_stays = (record { alone = tt; lists = tt; expressions = (refl, λ h. absurd cc) }, ((record { alone = tt; lists = tt; expressions = tt }, tt), (record { alone = tt; lists = tt; expressions = (refl, λ h. refl) }, ((record { alone = tt; lists = tt; expressions = tt }, tt), (record { alone = tt; lists = tt; expressions = tt }, tt)))))
+
+index_in_rest_reduces : IsIrreducible (Index goes_on_from x (Index plain first (int 2))) → ⊥
+index_in_rest_reduces h = absurd (let e : true ≡ false = h.1.1.0.expressions.0 in cc)
+
+-- x[x[0]], x[[1][0]]: what ends a chain in brackets is an expression
+last_index_stays : IsIrreducibleNode nothing_set (OfExpr (Index plain x (Index plain x (int 0))))
+last_index_stays = record { alone = tt; lists = tt; expressions = (refl, λ h. refl) }
+
+last_index_reduces : IsIrreducibleNode nothing_set (OfExpr (Index plain x first)) → ⊥
+last_index_reduces h = absurd (let e : true ≡ false = h.expressions.1 refl in cc)
+
+-- ---- lists
+
+abbrev ask : Stmt
+ask = ExprStmt (call "f" [])
+
+-- f(); x, and 1; x
+list_stays : IsIrreducibleList (stmts (ask ∷ ExprStmt x ∷ []))
+list_stays = record { ends_where_left = refl; tests_no_constant = refl; never_idles = refl }
+
+list_reduces : IsIrreducibleList (stmts (ExprStmt (int 1) ∷ ExprStmt x ∷ [])) → ⊥
+list_reduces h = absurd (let e : true ≡ false = h.never_idles in cc)
+
+-- while x { f(); break; }, while x { break; f(); }
+loop_body_stays : IsIrreducibleNode nothing_set (OfStmt (While x (stmts (ask ∷ BreakLoop true no_expr ∷ []))))
+loop_body_stays = record { alone = refl; lists = record { ends_where_left = refl; tests_no_constant = refl; never_idles = refl }; expressions = (refl, (tt, (tt, tt))) }
+
+loop_body_reduces : IsIrreducibleNode nothing_set (OfStmt (While x (stmts (BreakLoop true no_expr ∷ ask ∷ [])))) → ⊥
+loop_body_reduces h = absurd (let e : true ≡ false = h.lists.ends_where_left in cc)
+
+-- ---- bodies and scripts
+
+-- f(), and f(); return 1
+body_stays : IsIrreducibleBody nothing_set (stmts (ask ∷ []))
+body_stays = record {
+  list = record { ends_where_left = refl; tests_no_constant = refl; never_idles = refl };
+  returns_nothing = refl;
+  nodes = ((record { alone = tt; lists = tt; expressions = refl }, (record { alone = refl; lists = tt; expressions = tt }, tt)), tt);
+}
+
+body_reduces : IsIrreducibleBody nothing_set (stmts (ask ∷ Return false (an_expr (int 1)) ∷ [])) → ⊥
+body_reduces h = absurd (let e : true ≡ false = h.returns_nothing in cc)
+
+-- a script of these statements and one function of that body
+abbrev script : Stmts → Stmts → Script
+script ss body = record { statements = ss; functions = record { name = codes "g"; this_type = None; params = []; body = body } ∷ [] }
+
+-- f(), and fn g() { f() }; where g ends in return 1; where the script does
+script_stays : IsIrreducibleScript nothing_set (script (stmts (ask ∷ [])) (stmts (ask ∷ [])))
+script_stays = record { statements = body_stays; functions = (body_stays, tt) }
+
+function_body_reduces : IsIrreducibleScript nothing_set (script (stmts (ask ∷ [])) (stmts (ask ∷ Return false (an_expr (int 1)) ∷ []))) → ⊥
+function_body_reduces h = body_reduces h.functions.0
+
+script_reduces : IsIrreducibleScript nothing_set (script (stmts (ask ∷ Return false (an_expr (int 1)) ∷ [])) (stmts (ask ∷ []))) → ⊥
+script_reduces h = body_reduces h.statements
