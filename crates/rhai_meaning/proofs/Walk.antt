@@ -1,7 +1,7 @@
 -- Laws of the walk: what holds of two walks at each node holds of them over a whole tree.
-use Rattle.std.proofs.Common.{◌≡◌, ℕ, zero, suc, ◌+◌, ◌≤◌, List, [], ◌∷◌, arith}
-use Rattle.rhai_meaning.specs.Tree.{SwitchTable, Expr, InterpolatedString, ArrayOf, MapOf, MethodCall, BlockExpr, FnCall, Dot, Index, And, Or, Coalesce, Exprs, no_exprs, expr, Pairs, no_pairs, pair, MaybeExpr, no_expr, an_expr, Arms, no_arms, arm, Stmt, If, Switch, While, Do, For, Var, Assignment, FnCallStmt, Block, TryCatch, ExprStmt, BreakLoop, Return, Import, Stmts, no_stmts, stmt, joined, Function, Script}
-use Rattle.rhai_meaning.specs.Walk.{Node, Spot, Walk, parts_of_expr, parts_of_stmt, over_exprs, over_pairs, over_maybe, over_arms, over_stmts, over_expr, over_stmt, over_functions, over_script, arm_at, arms_at, listed, sum_of, every, total, Around, around_spot, around_parts, throughout}
+use Rattle.std.proofs.Common.{◌≡◌, ℕ, zero, suc, ◌+◌, List, [], ◌∷◌, arith}
+use Rattle.rhai_meaning.specs.Tree.{SwitchTable, Expr, InterpolatedString, ArrayOf, MapOf, MethodCall, BlockExpr, FnCall, Dot, Index, And, Or, Coalesce, Exprs, no_exprs, expr, Pairs, no_pairs, pair, MaybeExpr, no_expr, an_expr, Arms, no_arms, arm, Stmt, If, Switch, While, Do, For, Var, Assignment, FnCallStmt, Block, TryCatch, ExprStmt, BreakLoop, Return, Import, Stmts, no_stmts, stmt, joined}
+use Rattle.rhai_meaning.specs.Walk.{Node, Spot, Walk, parts_of_expr, parts_of_stmt, over_exprs, over_pairs, over_maybe, over_arms, over_stmts, arm_at, arms_at, listed, every, total, Around, around_spot, around_parts, throughout}
 
 -- R is kept by both walks, step by step
 pub record Alongside {ℓ κ μ} {A : Type ℓ} {B : Type κ} (R : A → B → Type μ) (w : Walk A) (v : Walk B) : Type (ℓ ⊔ κ ⊔ μ) where
