@@ -140,7 +140,7 @@ abbrev mutual
   core_stmt loop (tree.If e a b) = Does (If (core_expr loop e) (core_stmts loop a) (core_stmts loop b))
   core_stmt loop (tree.Switch e as' t) = Does (cond (is_table as' t) (Switch (core_expr loop e) (core_arms loop as') t) IllDeed)
   core_stmt loop (tree.While e body) = Does (While (guard_by e (core_expr loop e)) (core_stmts true body))
-  core_stmt loop (tree.Do negated exported e body) = Does (cond exported IllDeed (Do negated (core_expr loop e) (core_stmts true body)))
+  core_stmt loop (tree.Do negated exported e body) = Does (cond (not exported) (Do negated (core_expr loop e) (core_stmts true body)) IllDeed)
   core_stmt loop (tree.For x i e body) = Does (For x i (core_expr loop e) (core_stmts true body))
   core_stmt loop (tree.Var constant exported x e) = cond exported (Does IllDeed) (Var constant x (core_expr loop e))
   core_stmt loop (tree.Assignment op l e) = Does (cond (is_left_side l) (Assignment op (target_of loop l) (core_expr loop e)) IllDeed)
@@ -149,7 +149,7 @@ abbrev mutual
   core_stmt loop (tree.TryCatch x a b) = Does (try_by (catch_name x) (core_stmts loop a) (core_stmts loop b))
   core_stmt loop (tree.ExprStmt e) = Does (Evaluate (core_expr loop e))
   core_stmt loop (tree.BreakLoop is_break exported m) = Does (cond (loop && not exported) (Leave (break_kind is_break) (core_maybe loop m)) IllDeed)
-  core_stmt loop (tree.Return is_throw exported m) = Does (cond exported IllDeed (Leave (return_kind is_throw) (core_maybe loop m)))
+  core_stmt loop (tree.Return is_throw exported m) = Does (cond (not exported) (Leave (return_kind is_throw) (core_maybe loop m)) IllDeed)
   core_stmt loop (tree.Import e x) = Does IllDeed
   core_stmt loop (tree.Export x y) = Does IllDeed
   core_stmt loop (tree.Share xs) = Does IllDeed
