@@ -3,7 +3,7 @@
 
 ghost use Rattle.std.specs.Prelude.{◌≡◌, ◌++◌, [], OnOk, codes, string_bytes};
 ghost use Rattle.rhai_base.specs.Builtin.{operator_of};
-ghost use Rattle.rhai_reading.specs.Reading.{arms_of, callee_of, cases_of, chain_flags, counter_of, expr_of, expressions_of, exprs_of, is_const, is_exported, maybe_of, pairs_of, shared_names, stmt_of, stmts_of, subject_of, table_of};
+ghost use Rattle.rhai_reading.specs.Reading.{arms_of, breaks, callee_of, cases_of, chain_flags, counter_of, expr_of, expressions_of, exprs_of, is_const, is_exported, is_negated, maybe_of, pairs_of, shared_names, stmt_of, stmts_of, subject_of, table_of};
 ghost use Rattle.rhai_meaning.specs.Tree.{Assignment, Block, BreakLoop, Do, Export, FnCallStmt, For, If, Import, Return, Share, Switch, TryCatch, Var, While};
 ghost use Rattle.rhai_notation.specs.Notation.{after_word, arms_text, block_text, call_text, expr_text, exprs_text, flags_text, guard_text, pairs_text, stmt_text, stmts_text};
 
@@ -146,9 +146,7 @@ pub(crate) fn push_stmt(stmt: &Stmt, text: &mut String) -> Result<(), OutOfMemor
         Stmt::If(flow, _) => push_if(flow.get(), text),
         Stmt::Switch(switch, _) => push_switch(switch.get(), text),
         Stmt::While(flow, _) => push_while(flow.get(), text),
-        Stmt::Do(flow, options, _) => {
-            push_do(flow.get(), options.contains(ASTFlags::NEGATED), text)
-        }
+        Stmt::Do(flow, options, _) => push_do(flow.get(), *options, text),
         Stmt::For(parts, _) => push_for(parts.get(), text),
         Stmt::Var(parts, options, _) => push_var(&parts.get().0, &parts.get().1, *options, text),
         Stmt::Assignment(parts) => push_assignment(parts.get(), text),
@@ -156,12 +154,8 @@ pub(crate) fn push_stmt(stmt: &Stmt, text: &mut String) -> Result<(), OutOfMemor
         Stmt::Block(block) => push_inner_block(block.get(), text),
         Stmt::TryCatch(flow, _) => push_try(flow.get(), text),
         Stmt::Expr(expr) => push_expr(expr.get(), text),
-        Stmt::BreakLoop(value, options, _) => {
-            push_break(options.contains(ASTFlags::BREAK), value, text)
-        }
-        Stmt::Return(value, options, _) => {
-            push_return(options.contains(ASTFlags::BREAK), value, text)
-        }
+        Stmt::BreakLoop(value, options, _) => push_break(value, *options, text),
+        Stmt::Return(value, options, _) => push_return(value, *options, text),
         Stmt::Import(parts, _) => push_import(&parts.get().0, &parts.get().1, text),
         Stmt::Export(names, _) => push_export(&names.get().0, &names.get().1, text),
         Stmt::Share(names) => push_share(names.get().as_slice(), text),
@@ -233,12 +227,12 @@ fn push_guard(guard: &Expr, text: &mut String) -> Result<(), OutOfMemory>
 }
 
 #[cycle(nodes)]
-fn push_do(flow: &FlowControl, negated: bool, text: &mut String) -> Result<(), OutOfMemory>
-    ensures { OnOk result (string_bytes text.new ≡ string_bytes text.old ++ stmt_text (Do negated (expr_of flow.now.expr) (stmts_of flow.now.body.block))) }
+fn push_do(flow: &FlowControl, options: ASTFlags, text: &mut String) -> Result<(), OutOfMemory>
+    ensures { OnOk result (string_bytes text.new ≡ string_bytes text.old ++ stmt_text (Do (is_negated options) (is_exported options) (expr_of flow.now.expr) (stmts_of flow.now.body.block))) }
 {
     text.push_str("do ")?;
     push_block(&flow.body, text)?;
-    if negated {
+    if options.contains(ASTFlags::NEGATED) {
         text.push_str(" until ")?;
     } else {
         text.push_str(" while ")?;
@@ -316,13 +310,13 @@ fn push_try(flow: &FlowControl, text: &mut String) -> Result<(), OutOfMemory>
 /// Appends a `break` or a `continue`.
 #[cycle(nodes)]
 fn push_break(
-    breaks: bool,
     value: &Option<Boxed<Expr>>,
+    options: ASTFlags,
     text: &mut String,
 ) -> Result<(), OutOfMemory>
-    ensures { OnOk result (string_bytes text.new ≡ string_bytes text.old ++ stmt_text (BreakLoop breaks (maybe_of value.now))) }
+    ensures { OnOk result (string_bytes text.new ≡ string_bytes text.old ++ stmt_text (BreakLoop (breaks options) (is_exported options) (maybe_of value.now))) }
 {
-    if breaks {
+    if options.contains(ASTFlags::BREAK) {
         text.push_str("break")?;
     } else {
         text.push_str("continue")?;
@@ -333,13 +327,13 @@ fn push_break(
 /// Appends a `throw` or a `return`.
 #[cycle(nodes)]
 fn push_return(
-    throws: bool,
     value: &Option<Boxed<Expr>>,
+    options: ASTFlags,
     text: &mut String,
 ) -> Result<(), OutOfMemory>
-    ensures { OnOk result (string_bytes text.new ≡ string_bytes text.old ++ stmt_text (Return throws (maybe_of value.now))) }
+    ensures { OnOk result (string_bytes text.new ≡ string_bytes text.old ++ stmt_text (Return (breaks options) (is_exported options) (maybe_of value.now))) }
 {
-    if throws {
+    if options.contains(ASTFlags::BREAK) {
         text.push_str("throw")?;
     } else {
         text.push_str("return")?;

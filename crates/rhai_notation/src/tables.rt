@@ -5,8 +5,8 @@ ghost use Rattle.std.specs.Prelude.{◌≡◌, ◌++◌, [], OnOk, codes, map, s
 ghost use Rattle.rhai_reading.specs.Reading.{case_of, range_of, table_of};
 ghost use Rattle.rhai_notation.specs.Notation.{cases_text, default_text, numbers_text, range_text, ranges_text, table_text};
 
-use rhai_base::{OutOfMemory, RangeCase};
 use rhai_ast::{Cases, SwitchCasesCollection};
+use rhai_base::{OutOfMemory, RangeCase};
 
 /// Appends cases, ranges and default.
 pub(crate) fn push_table(
