@@ -7,6 +7,7 @@ pub mod Logic
 pub mod Texts
 pub mod Words
 pub mod Entries
+pub mod Literals
 pub mod Chains
 pub mod Names
 pub mod Onward

@@ -1,7 +1,7 @@
 -- For conditions of rules on nodes, `switch` among them: two scripts that the rule without it would take for one, and what each does.
 use Rattle.std.specs.Prelude.{◌≡◌, true, false, List, [], ◌∷◌, Some, codes, refl, ℕ, pos, None}
-use Rattle.rhai_values.specs.Value.{UnitV, BoolV, TextV, ArrayV, values, text_of}
-use Rattle.rhai_meaning.specs.Act.{WrongKind}
+use Rattle.rhai_values.specs.Value.{Value, UnitV, BoolV, TextV, ArrayV, MapV, values, field, no_fields, text_of}
+use Rattle.rhai_meaning.specs.Act.{HostCall, WrongKind}
 use Rattle.rhai_meaning.specs.Faults.{NoOperands, fault_of}
 use Rattle.rhai_meaning.specs.Run.{Report, WithValue, WithThrown, WithStuck, WithoutTurns}
 use Rattle.rhai_meaning.specs.Tree.{Expr, BoolConstant, StringConstant, UnitConstant, ArrayOf, BlockExpr, FnCall, Dot, Index, MethodCall, And, Coalesce, Stmt, Noop, While, TryCatch, ExprStmt, Return, an_expr, exprs, stmts, SwitchRange, SwitchTable, ExclusiveInt, Switch, arms, DynamicConstant, If, MapOf, pairs, InterpolatedString}
@@ -113,6 +113,37 @@ other_properties_call = (refl, refl)
 other_entries_call : Differ (shown (Index index calling_map (StringConstant (codes "b")))) (ends (WithValue (i 1)) asks_f) (shown (int 1)) (ends (WithValue (i 1)) [])
 unfolding ran
 other_entries_call = (refl, refl)
+
+-- and so they are where the chain goes on: [f(), #{c: 1}][1].c, #{a: f(), b: #{c: 1}}.b.c, #{a: f(), b: #{c: 1}}["b"].c, and #{c: 1}.c
+abbrev inner_map : Expr
+inner_map = MapOf (pairs ((codes "c", int 1) ∷ [])) (codes "c" ∷ [])
+
+abbrev outer_map : Expr
+outer_map = MapOf (pairs ((codes "a", ask) ∷ (codes "b", inner_map) ∷ [])) (codes "a" ∷ codes "b" ∷ [])
+
+other_parts_call_first : Differ (shown (Index dot (ArrayOf (exprs (ask ∷ inner_map ∷ []))) (Dot dot (int 1) (property "c")))) (ends (WithValue (i 1)) asks_f) (shown (Dot dot inner_map (property "c"))) (ends (WithValue (i 1)) [])
+unfolding ran
+other_parts_call_first = (refl, refl)
+
+other_properties_call_first : Differ (shown (Dot dot outer_map (Dot dot (property "b") (property "c")))) (ends (WithValue (i 1)) asks_f) (shown (Dot dot inner_map (property "c"))) (ends (WithValue (i 1)) [])
+unfolding ran
+other_properties_call_first = (refl, refl)
+
+other_entries_call_first : Differ (shown (Index dot outer_map (Dot dot (StringConstant (codes "b")) (property "c")))) (ends (WithValue (i 1)) asks_f) (shown (Dot dot inner_map (property "c"))) (ends (WithValue (i 1)) [])
+unfolding ran
+other_entries_call_first = (refl, refl)
+
+-- what ends a chain in brackets is no first step of a literal either: [7, 8][1[0]], #{c: 1}["c"["d"]]
+abbrev asks_index : Value → Value → HostCall
+asks_index v j = record { name = codes "index$get$"; receiver = Some v; arguments = j ∷ [] }
+
+literal_index_is_whole : Differ (shown (Index index (ArrayOf (exprs (int 7 ∷ int 8 ∷ []))) (Index index (int 1) (int 0)))) (ends (WithValue UnitV) (asks_index (ArrayV (values (i 7 ∷ i 8 ∷ []))) (BoolV true) ∷ [])) (shown (Index index (int 8) (int 0))) (ends (WithValue (BoolV false)) [])
+unfolding ran
+literal_index_is_whole = (refl, refl)
+
+map_index_is_whole : Differ (shown (Index index inner_map (Index index (StringConstant (codes "c")) (StringConstant (codes "d"))))) (ends (WithValue UnitV) (asks_index (TextV (codes "c")) (TextV (codes "d")) ∷ asks_index (MapV (field (codes "c") (i 1) no_fields)) UnitV ∷ [])) (shown (Index index (int 1) (StringConstant (codes "d")))) (ends (WithValue UnitV) (asks_index (i 1) (TextV (codes "d")) ∷ []))
+unfolding ran
+map_index_is_whole = (refl, refl)
 
 -- the name of a pointer is valid: Fn("1") throws
 name_is_invalid : ran nothing_set joining (shown (FnCall (named (codes "Fn") false) (exprs (StringConstant (codes "1") ∷ [])))) ≡ ends (WithThrown (TextV (codes "function name"))) []

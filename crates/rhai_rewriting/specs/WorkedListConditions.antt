@@ -8,7 +8,7 @@ use Rattle.rhai_rewriting.specs.WorkedNodes.{dot}
 use Rattle.rhai_meaning.specs.Engine.{Engine}
 use Rattle.rhai_meaning.specs.Act.{Unbound, HostCall, Host, Answers}
 use Rattle.rhai_meaning.specs.Run.{WithValue, WithStuck, WithThrown}
-use Rattle.rhai_meaning.specs.Tree.{Expr, BoolConstant, DynamicConstant, BlockExpr, no_expr, an_expr, Stmt, Noop, If, While, For, Assignment, Block, ExprStmt, BreakLoop, Return, stmts, Dot, MethodCall, exprs, StringConstant, And, Coalesce, UnitConstant, Function}
+use Rattle.rhai_meaning.specs.Tree.{Expr, BoolConstant, DynamicConstant, BlockExpr, no_expr, an_expr, Stmt, Noop, If, While, For, Assignment, Block, ExprStmt, BreakLoop, Return, stmts, ArrayOf, Dot, Index, MethodCall, exprs, StringConstant, And, Coalesce, UnitConstant, Function}
 use Rattle.rhai_meaning.specs.WorkedForms.{int, nothing_set, joining, ran, ran_with, ends, i, op, asked, overriding, call}
 use Rattle.rhai_rewriting.specs.WorkedConditions.{Differ}
 use Rattle.rhai_rewriting.specs.WorkedLists.{var, let', const, variable, constant, ends_with}
@@ -177,6 +177,11 @@ asks_method = record { name = codes "m"; receiver = Some (i 1); arguments = [] }
 one_operand : (ran nothing_set renewing (calls_method (Coalesce (exprs (UnitConstant ∷ var "x" ∷ [])))) ≡ ends_with (WithValue UnitV) (variable "x" (i 1) ∷ []) asks_method) × (ran nothing_set renewing (calls_method (var "x")) ≡ ends_with (WithValue UnitV) (variable "x" (i 2) ∷ []) asks_method)
 unfolding ran
 one_operand = (refl, refl)
+
+-- a part of a literal that is a name isn't pure, so it doesn't become the base: let x = 1; [x][0].m()
+part_is_no_place : (ran nothing_set renewing (let' "x" (int 1) ∷ show (Index dot (ArrayOf (exprs (var "x" ∷ []))) (Dot dot (int 0) (MethodCall (named (codes "m") false) (exprs [])))) ∷ []) ≡ ends_with (WithValue UnitV) (variable "x" (i 1) ∷ []) asks_method) × (ran nothing_set renewing (calls_method (var "x")) ≡ ends_with (WithValue UnitV) (variable "x" (i 2) ∷ []) asks_method)
+unfolding ran
+part_is_no_place = (refl, refl)
 
 -- ---- assignments of an operator over their own name
 
