@@ -16,6 +16,7 @@ pub mod SelfAssign
 pub mod Arms
 pub mod Equality
 pub mod Switches
+pub mod Fitting
 pub mod Tables
 pub mod Forgetting
 pub mod Expressions

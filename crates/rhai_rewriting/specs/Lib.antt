@@ -22,6 +22,7 @@ pub mod WorkedScopes
 pub mod WorkedRewrites
 pub mod WorkedNodes
 pub mod WorkedConditions
+pub mod WorkedTables
 pub mod WorkedKnown
 pub mod WorkedLists
 pub mod WorkedListConditions

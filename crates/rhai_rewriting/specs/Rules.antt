@@ -144,7 +144,7 @@ pub data StmtRule (k : Context) (w : Bool) : Stmt → Stmt → Type 0 where
   -- of a table over a constant the arms that are left alone
   switch_narrows : {e : Expr} {as' : Arms} {t t' : SwitchTable} (v : Value) → constant_value e ≡ Some v → cases_for t' v ≡ left_arms as' (cases_for t v) → t'.default ≡ t.default → are_of (listed t') (listed t) ≡ true → (is_table as' t ≡ true → is_table as' t' ≡ true) → table_weight t' < table_weight t → StmtRule k w (Switch e as' t) (Switch e as' t')
   -- over any subject: false arms and ranges go, arms after a true one in a list go, empty lists go
-  switch_shrinks : {e : Expr} {as' : Arms} {t : SwitchTable} {cs : List SwitchCase} {qs : List SwitchRange} → CasesTo as' qs t.cases cs → RangesTo as' t.ranges qs → (is_table as' t ≡ true → is_table as' (record { cases = cs; ranges = qs; default = t.default }) ≡ true) → table_weight (record { cases = cs; ranges = qs; default = t.default }) < table_weight t → StmtRule k w (Switch e as' t) (Switch e as' (record { cases = cs; ranges = qs; default = t.default }))
+  switch_shrinks : {e : Expr} {as' : Arms} {t : SwitchTable} {cs : List SwitchCase} {qs : List SwitchRange} → CasesTo as' qs t.cases cs → RangesTo as' t.ranges qs → table_weight (record { cases = cs; ranges = qs; default = t.default }) < table_weight t → StmtRule k w (Switch e as' t) (Switch e as' (record { cases = cs; ranges = qs; default = t.default }))
   -- the answer of an arm that no list names is unit
   switch_forgets : {e : Expr} {as' : Arms} {t : SwitchTable} {c a : Expr} (j : ℕ) → arm_of as' j ≡ Some (c, a) → is_literal_unit a ≡ false → names_arm j (listed t) ≡ false → StmtRule k w (Switch e as' t) (Switch e (forgotten as' j) t)
   -- a `try` over a body that is pure inside does nothing

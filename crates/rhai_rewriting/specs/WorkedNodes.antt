@@ -322,7 +322,7 @@ switch_narrows_row = (in_head (by_stmt_rule (switch_narrows (i 1) refl refl refl
 -- switch {1} { 1 if false => 3, 1 => 5, 1 => 6, 2 if false => 7 }: a false arm, one after a true one, and an empty list go
 switch_shrinks_row : Row (Switch (BlockExpr (stmts (ExprStmt (int 1) ∷ []))) (arms ((n, int 3) ∷ (t, int 5) ∷ (t, int 6) ∷ (n, int 7) ∷ [])) (cases (on 1 (0 ∷ 1 ∷ 2 ∷ []) ∷ on 2 (3 ∷ []) ∷ []) None) ∷ []) (Switch (BlockExpr (stmts (ExprStmt (int 1) ∷ []))) (arms ((n, int 3) ∷ (t, int 5) ∷ (t, int 6) ∷ (n, int 7) ∷ [])) (cases (on 1 (1 ∷ []) ∷ []) None) ∷ []) (ends (WithValue (i 5)) [])
 unfolding ran IsLe
-switch_shrinks_row = (in_head (by_stmt_rule (switch_shrinks (case_shrinks (empty_case_goes refl refl refl no_cases)) no_ranges (λ h. refl) (le_by_compare 3 6 tt))), refl, refl)
+switch_shrinks_row = (in_head (by_stmt_rule (switch_shrinks (case_shrinks (empty_case_goes refl refl refl no_cases)) no_ranges (le_by_compare 3 6 tt))), refl, refl)
 
 -- switch {1} { 1 => 5 } with an arm that no list names
 switch_forgets_row : Row (Switch (BlockExpr (stmts (ExprStmt (int 1) ∷ []))) (arms ((t, int 5) ∷ (n, ask) ∷ [])) (cases (on 1 (0 ∷ []) ∷ []) None) ∷ []) (Switch (BlockExpr (stmts (ExprStmt (int 1) ∷ []))) (arms ((t, int 5) ∷ (n, UnitConstant) ∷ [])) (cases (on 1 (0 ∷ []) ∷ []) None) ∷ []) (ends (WithValue (i 5)) [])
@@ -357,7 +357,7 @@ six = BlockExpr (stmts (ExprStmt (int 6) ∷ []))
 
 false_range : Row (Switch six (arms ((n, int 1) ∷ (t, int 2) ∷ [])) (ranges (between 5 8 0 ∷ between 1 9 1 ∷ []) None) ∷ []) (Switch six (arms ((n, int 1) ∷ (t, int 2) ∷ [])) (ranges (between 1 9 1 ∷ []) None) ∷ []) (ends (WithValue (i 2)) [])
 unfolding ran IsLe
-false_range = (in_head (by_stmt_rule (switch_shrinks no_cases (false_range_goes refl (range_stays no_ranges)) (λ h. refl) (le_by_compare 2 2 tt))), refl, refl)
+false_range = (in_head (by_stmt_rule (switch_shrinks no_cases (false_range_goes refl (range_stays no_ranges)) (le_by_compare 2 2 tt))), refl, refl)
 
 -- ---- operands without any: no well-formed tree has them
 
