@@ -13,6 +13,7 @@ pub mod Shapes
 pub mod Residue
 pub mod Reducible
 pub mod Scripts
+pub mod Finished
 pub mod Steps
 pub mod Refines
 pub mod WorkedWeights

@@ -43,7 +43,7 @@ array_of_constants {k = k} {es = es} {vs = vs} h = record {
 pub braces_empty : {k : Context} → ExprObligation k (BlockExpr no_stmts) UnitConstant
 braces_empty = record {
   lighter = omega arith;
-  keeps = λ P l lasts h. (lasts.constant UnitV refl, tt);
+  keeps = λ P l lasts h. (lasts.value UnitV, tt);
   sound = λ c. simulates_equal (λ m. leave_same m.store (Gives UnitV) m.turns);
 }
 
