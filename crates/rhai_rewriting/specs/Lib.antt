@@ -24,6 +24,7 @@ pub mod WorkedRewrites
 pub mod WorkedNodes
 pub mod WorkedConditions
 pub mod WorkedTables
+pub mod WorkedConstants
 pub mod WorkedKnown
 pub mod WorkedLists
 pub mod WorkedListConditions
