@@ -387,10 +387,10 @@ mutual
       (list_by k (Inside w) true b (items_decided k (Inside w) true l b h.1.1.1))
   stmt_decided k w l (Switch e as' t) h = switch_by k w e as' t (meets SwitchFault (is_table as' t) h.0) (expr_decided k l e h.1.0) (each_listed k.engine l as' (listed t) h.1.1 (λ i x. arms_decided k l as' i x))
   stmt_decided k w l (While e b) h = while_by k w e b (expr_decided k l e h.1.0) (list_by k (Inside false) true b (items_decided k (Inside false) true true b h.1.1))
-  stmt_decided k w l (Do negated e b) h =
-      unless_other (other (λ z. (Do negated z.0 b, in_do z.1 same_stmts)) (expr_decided k l e h.1.0)) (λ x.
+  stmt_decided k w l (Do negated exported e b) h =
+      unless_other (other (λ z. (Do negated exported z.0 b, in_do z.1 same_stmts)) (expr_decided k l e h.1.0)) (λ x.
       first (λ y. (record { alone = tt; lists = y.0; expressions = (x.0, no_answers k b) }, (x.1, y.1)))
-      (other (λ z. (Do negated e z.0, in_do same_expr z.1)) (list_by k (Inside false) true b (items_decided k (Inside false) true true b h.1.1))))
+      (other (λ z. (Do negated exported e z.0, in_do same_expr z.1)) (list_by k (Inside false) true b (items_decided k (Inside false) true true b h.1.1))))
   stmt_decided k w l (For x i e b) h =
       let inside = naming x (naming_some i k) in
       unless_other (other (λ z. (For x i z.0 b, in_for z.1 same_stmts)) (expr_decided k l e h.1.0)) (λ y.
@@ -410,8 +410,8 @@ mutual
       first (λ v. (record { alone = tt; lists = (y.0, v.0); expressions = (no_answers k a, no_answers k b) }, (y.1, v.1)))
       (other (λ z. (TryCatch x a z.0, in_try same_stmts z.1)) (of_engine b (engine_catch (catch_name x) k) (list_by inside (Inside false) true b (items_decided inside (Inside false) true l b h.1.1)))))
   stmt_decided k w l (ExprStmt e) h = first (λ x. (record { alone = tt; lists = tt; expressions = x.0 }, x.1)) (other (λ z. (ExprStmt z.0, in_expression z.1)) (expr_decided k l e h.1))
-  stmt_decided k w l (BreakLoop breaks m) h = first (λ x. (record { alone = tt; lists = tt; expressions = x.0 }, x.1)) (other (λ z. (BreakLoop breaks z.0, in_break z.1)) (maybe_decided k l m h.1))
-  stmt_decided k w l (Return throws m) h = first (λ x. (record { alone = tt; lists = tt; expressions = x.0 }, x.1)) (other (λ z. (Return throws z.0, in_return z.1)) (maybe_decided k l m h.1))
+  stmt_decided k w l (BreakLoop breaks exported m) h = first (λ x. (record { alone = tt; lists = tt; expressions = x.0 }, x.1)) (other (λ z. (BreakLoop breaks exported z.0, in_break z.1)) (maybe_decided k l m h.1))
+  stmt_decided k w l (Return throws exported m) h = first (λ x. (record { alone = tt; lists = tt; expressions = x.0 }, x.1)) (other (λ z. (Return throws exported z.0, in_return z.1)) (maybe_decided k l m h.1))
   stmt_decided k w l (Import e x) h = first (λ y. (record { alone = tt; lists = tt; expressions = y.0 }, y.1)) (other (λ z. (Import z.0 x, in_import z.1)) (expr_decided k l e h.1))
   stmt_decided k w l _ h = inl (record { alone = tt; lists = tt; expressions = tt }, tt)
 

@@ -77,6 +77,26 @@ module _ {k : Context} (c : Setting k) where
       let z = split (is_pure_expr e) (are_pure_exprs es) h in
       pure_goes _ _ b (pure_expr (world c) c.in_loop e z.0) (λ v. args_go es z.1 _ b (λ vs n. j (v ∷ vs) (ap suc n)))
 
+  pairs_go : (ps : Pairs) → are_pure_pairs ps ≡ true → (f : List (Text × Value) → Act) (b : Act) → ((vs : List (Text × Value)) → Simulates c (f vs) b) → Simulates c (with_pairs (world c) (core_pairs c.in_loop ps) f) b
+  pairs_go no_pairs h f b j = j []
+  pairs_go (pair x e ps) h f b j =
+      let z = split (is_pure_expr e) (are_pure_pairs ps) h in
+      pure_goes _ _ b (pure_expr (world c) c.in_loop e z.0) (λ v. pairs_go ps z.1 _ b (λ vs. j ((x, v) ∷ vs)))
+
+  -- a literal goes before what is the same for every array, or map
+  pub array_goes : (es : Exprs) (f : Value → Act) (b : Act) → are_pure_exprs es ≡ true → ((vs : List Value) → Simulates c (f (ArrayV (values vs))) b) → Simulates c (act (world c) (here_of (ArrayOf es)) >>= f) b
+  array_goes es f b h j =
+      simulates_trans (args_then (core_exprs c.in_loop es) (λ vs. give (ArrayV (values vs))) f)
+      (args_go es h _ b (λ vs n. simulates_trans (simulates_equal {b = f (ArrayV (values vs))} (λ y. refl)) (j vs)))
+
+  pub map_goes : (ps : Pairs) (template : List Text) (f : Value → Act) (b : Act) → are_pure_pairs ps ≡ true → ((fs : Fields) → Simulates c (f (MapV fs)) b) → Simulates c (act (world c) (here_of (MapOf ps template)) >>= f) b
+  map_goes ps template f b h j = by (is_map template ps) where
+    by : (x : Bool) → Simulates c (act (world c) (cond x (core.MapOf (core_pairs c.in_loop ps)) core.Ill) >>= f) b
+    by false = simulates_trans (simulates_equal {b = Fail WrongKind} (λ m. refl)) (simulates_stuck WrongKind _)
+    by true =
+        simulates_trans (pairs_then (core_pairs c.in_loop ps) (λ vs. give (MapV (fields_of vs))) f)
+        (pairs_go ps h _ b (λ vs. simulates_trans (simulates_equal {b = f (MapV (fields_of vs))} (λ m. refl)) (j (fields_of vs))))
+
   args_pick : (es : Exprs) → are_pure_exprs es ≡ true → (i : ℕ) (e : Expr) → expr_at es i ≡ Some e → (f : List Value → Act) (g : Value → Act) → ((vs : List Value) (u : Value) → length vs ≡ count_exprs es → value_at (values vs) i ≡ Some u → Simulates c (f vs) (g u)) → Simulates c (with_args (world c) (core_exprs c.in_loop es) f) (act (world c) (here_of e) >>= g)
   args_pick no_exprs h i e q f g j = absurd (let z : None ≡ Some e = q in cc)
   args_pick (expr d es) h zero e q f g j =
