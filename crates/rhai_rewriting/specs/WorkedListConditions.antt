@@ -2,13 +2,13 @@
 -- the rule without it would take for one, and what each does.
 use Rattle.std.specs.Prelude.{◌≡◌, true, false, [], ◌∷◌, None, codes, refl, List, Some}
 use Rattle.rhai_values.specs.Value.{UnitV, ArrayV, values, TextV, PointerV}
-use Rattle.rhai_base.specs.Operators.{Plus, computed}
+use Rattle.rhai_base.specs.Operators.{Plus, Minus, computed}
 use Rattle.rhai_rewriting.specs.Parts.{named}
 use Rattle.rhai_rewriting.specs.WorkedNodes.{dot}
 use Rattle.rhai_meaning.specs.Engine.{Engine}
 use Rattle.rhai_meaning.specs.Act.{Unbound, HostCall, Host, Answers}
-use Rattle.rhai_meaning.specs.Run.{WithValue, WithStuck, WithThrown}
-use Rattle.rhai_meaning.specs.Tree.{Expr, BoolConstant, DynamicConstant, BlockExpr, no_expr, an_expr, Stmt, Noop, If, While, For, Assignment, Block, ExprStmt, BreakLoop, Return, stmts, Dot, MethodCall, exprs, StringConstant, And, Coalesce, UnitConstant, Function}
+use Rattle.rhai_meaning.specs.Run.{Report, WithValue, WithStuck, WithThrown}
+use Rattle.rhai_meaning.specs.Tree.{Expr, BoolConstant, DynamicConstant, BlockExpr, FnCall, no_expr, an_expr, Stmt, Noop, If, While, For, Assignment, Block, ExprStmt, BreakLoop, Return, stmts, ArrayOf, Dot, Index, MethodCall, exprs, StringConstant, And, Coalesce, UnitConstant, Function}
 use Rattle.rhai_meaning.specs.WorkedForms.{int, nothing_set, joining, ran, ran_with, ends, i, op, asked, overriding, call}
 use Rattle.rhai_rewriting.specs.WorkedConditions.{Differ}
 use Rattle.rhai_rewriting.specs.WorkedLists.{var, let', const, variable, constant, ends_with}
@@ -31,7 +31,7 @@ variable_stays = (refl, refl)
 
 -- the name of a loop isn't the constant around it: const x = 1; for x in [2] { return x }, and return 1
 abbrev for_x : Expr → Stmt
-for_x e = For (codes "x") None (DynamicConstant (ArrayV (values (i 2 ∷ [])))) (stmts (Return false (an_expr e) ∷ []))
+for_x e = For (codes "x") None (DynamicConstant (ArrayV (values (i 2 ∷ [])))) (stmts (Return false false (an_expr e) ∷ []))
 
 loop_name_stays : (ran_with nothing_set joining [] 1 (const "x" (int 1) ∷ for_x (var "x") ∷ []) ≡ ends_with (WithValue (i 2)) (constant "x" (i 1) ∷ []) []) × (ran_with nothing_set joining [] 1 (const "x" (int 1) ∷ for_x (int 1) ∷ []) ≡ ends_with (WithValue (i 1)) (constant "x" (i 1) ∷ []) [])
 unfolding ran_with
@@ -39,7 +39,7 @@ loop_name_stays = (refl, refl)
 
 -- nor is its counter's: const x = 1; for y, x in [2] { return x }, and return 1
 abbrev counted_by_x : Expr → Stmt
-counted_by_x e = For (codes "y") (Some (codes "x")) (DynamicConstant (ArrayV (values (i 2 ∷ [])))) (stmts (Return false (an_expr e) ∷ []))
+counted_by_x e = For (codes "y") (Some (codes "x")) (DynamicConstant (ArrayV (values (i 2 ∷ [])))) (stmts (Return false false (an_expr e) ∷ []))
 
 counter_name_stays : (ran_with nothing_set joining [] 1 (const "x" (int 1) ∷ counted_by_x (var "x") ∷ []) ≡ ends_with (WithValue (i 0)) (constant "x" (i 1) ∷ []) []) × (ran_with nothing_set joining [] 1 (const "x" (int 1) ∷ counted_by_x (int 1) ∷ []) ≡ ends_with (WithValue (i 1)) (constant "x" (i 1) ∷ []) [])
 unfolding ran_with
@@ -72,7 +72,7 @@ pointer_name = (refl, refl)
 -- ---- lists
 
 -- a statement that may not leave keeps what follows: if false { return 1; } 2
-may_go_on : Differ (If (BoolConstant false) (stmts (Return false (an_expr (int 1)) ∷ [])) (stmts []) ∷ show (int 2) ∷ []) (ends (WithValue (i 2)) []) (If (BoolConstant false) (stmts (Return false (an_expr (int 1)) ∷ [])) (stmts []) ∷ []) (ends (WithValue UnitV) [])
+may_go_on : Differ (If (BoolConstant false) (stmts (Return false false (an_expr (int 1)) ∷ [])) (stmts []) ∷ show (int 2) ∷ []) (ends (WithValue (i 2)) []) (If (BoolConstant false) (stmts (Return false false (an_expr (int 1)) ∷ [])) (stmts []) ∷ []) (ends (WithValue UnitV) [])
 unfolding ran
 may_go_on = (refl, refl)
 
@@ -97,18 +97,18 @@ unfolding ran
 read_inside = (refl, refl)
 
 -- a `return` inside leaves more than its block: { return 1; } 2
-return_inside : Differ (Block (stmts (Return false (an_expr (int 1)) ∷ [])) ∷ show (int 2) ∷ []) (ends (WithValue (i 1)) []) (Block (stmts (show (int 1) ∷ [])) ∷ show (int 2) ∷ []) (ends (WithValue (i 2)) [])
+return_inside : Differ (Block (stmts (Return false false (an_expr (int 1)) ∷ [])) ∷ show (int 2) ∷ []) (ends (WithValue (i 1)) []) (Block (stmts (show (int 1) ∷ [])) ∷ show (int 2) ∷ []) (ends (WithValue (i 2)) [])
 unfolding ran
 return_inside = (refl, refl)
 
 -- a last `return;` goes only behind unit: 1; return;
-return_behind_value : Differ (show (int 1) ∷ Return false no_expr ∷ []) (ends (WithValue UnitV) []) (show (int 1) ∷ []) (ends (WithValue (i 1)) [])
+return_behind_value : Differ (show (int 1) ∷ Return false false no_expr ∷ []) (ends (WithValue UnitV) []) (show (int 1) ∷ []) (ends (WithValue (i 1)) [])
 unfolding ran
 return_behind_value = (refl, refl)
 
 -- and so does what gives unit: a loop that a `break` leaves with a value is not surely unit. for x in [2] { break 5 } noop
 abbrev broken : Stmt
-broken = For (codes "x") None (DynamicConstant (ArrayV (values (i 2 ∷ [])))) (stmts (BreakLoop true (an_expr (int 5)) ∷ []))
+broken = For (codes "x") None (DynamicConstant (ArrayV (values (i 2 ∷ [])))) (stmts (BreakLoop true false (an_expr (int 5)) ∷ []))
 
 unit_behind_value : (ran_with nothing_set joining [] 1 (broken ∷ Noop ∷ []) ≡ ends (WithValue UnitV) []) × (ran_with nothing_set joining [] 1 (broken ∷ []) ≡ ends (WithValue (i 5)) [])
 unfolding ran_with
@@ -116,7 +116,7 @@ unit_behind_value = (refl, refl)
 
 -- nor is it one itself: what follows it must not go as if it were. A `break` in a guard belongs to the loop around:
 -- for x in [2] { while { break 5 } {} } is 5
-guard_breaks_out : ran_with nothing_set joining [] 1 (For (codes "x") None (DynamicConstant (ArrayV (values (i 2 ∷ [])))) (stmts (While (BlockExpr (stmts (BreakLoop true (an_expr (int 5)) ∷ []))) (stmts []) ∷ [])) ∷ []) ≡ ends (WithValue (i 5)) []
+guard_breaks_out : ran_with nothing_set joining [] 1 (For (codes "x") None (DynamicConstant (ArrayV (values (i 2 ∷ [])))) (stmts (While (BlockExpr (stmts (BreakLoop true false (an_expr (int 5)) ∷ []))) (stmts []) ∷ [])) ∷ []) ≡ ends (WithValue (i 5)) []
 unfolding ran_with
 guard_breaks_out = refl
 
@@ -178,6 +178,11 @@ one_operand : (ran nothing_set renewing (calls_method (Coalesce (exprs (UnitCons
 unfolding ran
 one_operand = (refl, refl)
 
+-- a part of a literal that is a name isn't pure, so it doesn't become the base: let x = 1; [x][0].m()
+part_is_no_place : (ran nothing_set renewing (let' "x" (int 1) ∷ show (Index dot (ArrayOf (exprs (var "x" ∷ []))) (Dot dot (int 0) (MethodCall (named (codes "m") false) (exprs [])))) ∷ []) ≡ ends_with (WithValue UnitV) (variable "x" (i 1) ∷ []) asks_method) × (ran nothing_set renewing (calls_method (var "x")) ≡ ends_with (WithValue UnitV) (variable "x" (i 2) ∷ []) asks_method)
+unfolding ran
+part_is_no_place = (refl, refl)
+
 -- ---- assignments of an operator over their own name
 
 -- the name is read first: let x = 1; x = x + { x = 5; 1 }; x
@@ -209,3 +214,23 @@ overridden = overriding (codes "+=") (codes "i64" ∷ codes "i64" ∷ []) false
 overridden_assignment : (ran overridden changing (let' "x" (int 1) ∷ Assignment None (var "x") (op Plus (var "x" ∷ int 2 ∷ [])) ∷ []) ≡ ends_with (WithValue UnitV) (variable "x" (i 3) ∷ []) []) × (ran overridden changing (let' "x" (int 1) ∷ Assignment (Some Plus) (var "x") (int 2) ∷ []) ≡ ends_with (WithValue UnitV) (variable "x" (i 1) ∷ []) (asked "+=" (i 1 ∷ i 2 ∷ []) ∷ []))
 unfolding ran computed
 overridden_assignment = (refl, refl)
+
+-- another operator is another assignment: x = x + 2, and x -= 2
+other_operator : Differ (let' "x" (int 3) ∷ Assignment None (var "x") (op Plus (var "x" ∷ int 2 ∷ [])) ∷ []) (ends_with (WithValue UnitV) (variable "x" (i 5) ∷ []) []) (let' "x" (int 3) ∷ Assignment (Some Minus) (var "x") (int 2) ∷ []) (ends_with (WithValue UnitV) (variable "x" (i 1) ∷ []) [])
+unfolding ran computed
+other_operator = (refl, refl)
+
+-- a call by name would be harmless, also one that captures, since it writes to a copy of what it sees:
+-- let x = 1; x = x + g!(), and x += g!(), where fn g() { x = 5; 1 }
+abbrev g : Expr
+g = FnCall (named (codes "g") true) (exprs [])
+
+abbrev writes_x : Function
+writes_x = record { name = codes "g"; this_type = None; params = []; body = stmts (Assignment None (var "x") (int 5) ∷ show (int 1) ∷ []) }
+
+abbrev two : Report
+two = ends_with (WithValue UnitV) (variable "x" (i 2) ∷ []) []
+
+call_inside : (ran_with nothing_set joining (writes_x ∷ []) 1 (let' "x" (int 1) ∷ Assignment None (var "x") (op Plus (var "x" ∷ g ∷ [])) ∷ []) ≡ two) × (ran_with nothing_set joining (writes_x ∷ []) 1 (let' "x" (int 1) ∷ Assignment (Some Plus) (var "x") g ∷ []) ≡ two)
+unfolding ran_with computed
+call_inside = (refl, refl)

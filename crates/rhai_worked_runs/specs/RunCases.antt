@@ -1,12 +1,12 @@
 -- Runs for single cases of the definitions: places, receivers, left sides, loops and kinds.
-use Rattle.std.specs.Prelude.{◌≡◌, ℕ, true, false, List, [], ◌∷◌, Option, Some, None, codes, refl, map}
+use Rattle.std.specs.Prelude.{◌≡◌, ℕ, true, false, List, [], ◌∷◌, Option, Some, None, codes, refl}
 use Rattle.rhai_values.specs.Value.{UnitV, BoolV, CharV, TextV, ArrayV, values}
 use Rattle.rhai_base.specs.Operators.{Plus, Minus, UpTo, Through}
 use Rattle.rhai_meaning.specs.Calls.{key}
 use Rattle.rhai_meaning.specs.Act.{Unbound, WrongKind, WriteToConstant, NoPlace, CounterTooLarge, Answers, Acts, Only, Fail}
 use Rattle.rhai_meaning.specs.Control.{counted}
-use Rattle.rhai_meaning.specs.Run.{AtStatements, AtFunction, WithThrown, WithStuck}
-use Rattle.rhai_meaning.specs.Tree.{Expr, BoolConstant, StringConstant, UnitConstant, MapOf, ThisPtr, BlockExpr, Dot, Index, And, Function, Switch, For, Assignment, TryCatch, ExprStmt, BreakLoop, Return, no_expr, an_expr, arms, pairs, no_stmts, no_exprs, stmts}
+use Rattle.rhai_meaning.specs.Run.{AtStatements, AtFunction, WithThrown, WithStuck, Report}
+use Rattle.rhai_meaning.specs.Tree.{Expr, BoolConstant, StringConstant, UnitConstant, MapOf, ThisPtr, BlockExpr, Dot, Index, And, Function, Stmt, Switch, While, Do, For, Assignment, TryCatch, ExprStmt, BreakLoop, Return, no_expr, an_expr, arms, pairs, no_stmts, no_exprs, stmts}
 use Rattle.rhai_worked_runs.specs.Terms.{i, run, World, int, var, op, fn, let', const', array, at, dot, prop, meth, program_host, nothing_set, world_with, asked, var_is, const_is}
 use Rattle.rhai_worked_runs.specs.Runs.{ran_in, ran, report, gives}
 
@@ -65,12 +65,12 @@ unfolding ran
 constant_receiver = refl
 
 -- `let x = [[1]]; x[0][{ x = []; 0 }]`
-broken_path : (ran (let' "x" (array (array (int 1 ∷ []) ∷ [])) ∷ ExprStmt (Index (record { negated = false; breaks = false }) (var "x") (at (int 0) (BlockExpr (stmts (Assignment None (var "x") (array []) ∷ ExprStmt (int 0) ∷ []))))) ∷ []) 0).ended ≡ WithStuck NoPlace
+broken_path : (ran (let' "x" (array (array (int 1 ∷ []) ∷ [])) ∷ ExprStmt (Index (record { negated = false; breaks = false; exported = false }) (var "x") (at (int 0) (BlockExpr (stmts (Assignment None (var "x") (array []) ∷ ExprStmt (int 0) ∷ []))))) ∷ []) 0).ended ≡ WithStuck NoPlace
 unfolding ran
 broken_path = refl
 
 -- `let u = (); u?.g(f())`
-optional_before_arguments : ran (let' "u" UnitConstant ∷ ExprStmt (Dot (record { negated = true; breaks = false }) (var "u") (meth "g" (fn "f" [] ∷ []))) ∷ []) 0 ≡ report (gives UnitV) (var_is "u" UnitV ∷ []) [] 0
+optional_before_arguments : ran (let' "u" UnitConstant ∷ ExprStmt (Dot (record { negated = true; breaks = false; exported = false }) (var "u") (meth "g" (fn "f" [] ∷ []))) ∷ []) 0 ≡ report (gives UnitV) (var_is "u" UnitV ∷ []) [] 0
 unfolding ran
 optional_before_arguments = refl
 
@@ -85,17 +85,17 @@ unfolding ran
 setter_writes = refl
 
 -- `for x in [1] { continue f(); }`
-continue_evaluates : ran (For (codes "x") None (array (int 1 ∷ [])) (stmts (BreakLoop false (an_expr (fn "f" [])) ∷ [])) ∷ []) 1 ≡ report (gives UnitV) [] (asked "f" [] ∷ []) 0
+continue_evaluates : ran (For (codes "x") None (array (int 1 ∷ [])) (stmts (BreakLoop false false (an_expr (fn "f" [])) ∷ [])) ∷ []) 1 ≡ report (gives UnitV) [] (asked "f" [] ∷ []) 0
 unfolding ran
 continue_evaluates = refl
 
 -- `1 = f()`, which has no left side; `a[0] = f()` as a chain that does not end
-ill_targets : (ran (Assignment None (int 1) (fn "f" []) ∷ []) 0) ∷ (ran (Assignment None (Index (record { negated = false; breaks = false }) (var "a") (int 0)) (fn "f" []) ∷ []) 0) ∷ [] ≡ report (WithStuck WrongKind) [] [] 0 ∷ report (WithStuck WrongKind) [] (asked "f" [] ∷ []) 0 ∷ []
+ill_targets : (ran (Assignment None (int 1) (fn "f" []) ∷ []) 0) ∷ (ran (Assignment None (Index (record { negated = false; breaks = false; exported = false }) (var "a") (int 0)) (fn "f" []) ∷ []) 0) ∷ [] ≡ report (WithStuck WrongKind) [] [] 0 ∷ report (WithStuck WrongKind) [] (asked "f" [] ∷ []) 0 ∷ []
 unfolding ran
 ill_targets = refl
 
 -- `fn g() { this = 5; throw 1 }` as entry
-entry_that_throws : run (world_with (record { name = codes "g"; this_type = None; params = []; body = stmts (Assignment None ThisPtr (int 5) ∷ Return true (an_expr (int 1)) ∷ []) } ∷ [])) no_stmts (AtFunction (key (codes "g") 0 None) (Some (i 0)) []) [] 1
+entry_that_throws : run (world_with (record { name = codes "g"; this_type = None; params = []; body = stmts (Assignment None ThisPtr (int 5) ∷ Return true false (an_expr (int 1)) ∷ []) } ∷ [])) no_stmts (AtFunction (key (codes "g") 0 None) (Some (i 0)) []) [] 1
     ≡ record { ended = WithThrown (i 1); variables = []; this = Some (i 5); calls = []; turns = 0 }
 unfolding ran
 entry_that_throws = refl
@@ -111,7 +111,7 @@ unfolding ran
 guarded_text_passes = refl
 
 -- an iterable that is no array and no range; `throw` without a value; a stuck run is not caught
-kinds : (ran (For (codes "x") None (int 1) no_stmts ∷ []) 1).ended ∷ (ran (Return true no_expr ∷ []) 0).ended ∷ (ran (TryCatch UnitConstant (stmts (ExprStmt (var "q") ∷ [])) no_stmts ∷ []) 0).ended ∷ [] ≡ WithStuck WrongKind ∷ WithThrown UnitV ∷ WithStuck Unbound ∷ []
+kinds : (ran (For (codes "x") None (int 1) no_stmts ∷ []) 1).ended ∷ (ran (Return true false no_expr ∷ []) 0).ended ∷ (ran (TryCatch UnitConstant (stmts (ExprStmt (var "q") ∷ [])) no_stmts ∷ []) 0).ended ∷ [] ≡ WithStuck WrongKind ∷ WithThrown UnitV ∷ WithStuck Unbound ∷ []
 unfolding ran
 kinds = refl
 
@@ -136,7 +136,7 @@ unfolding ran
 switch_of_nothing = refl
 
 -- `f()[0] = g()` as a chain that does not end
-shape_before_place : ran (Assignment None (Index (record { negated = false; breaks = false }) (fn "f" []) (int 0)) (fn "g" []) ∷ []) 0 ≡ report (WithStuck WrongKind) [] (asked "g" [] ∷ []) 0
+shape_before_place : ran (Assignment None (Index (record { negated = false; breaks = false; exported = false }) (fn "f" []) (int 0)) (fn "g" []) ∷ []) 0 ≡ report (WithStuck WrongKind) [] (asked "g" [] ∷ []) 0
 unfolding ran
 shape_before_place = refl
 
@@ -149,3 +149,37 @@ equal_keys_have_no_run = refl
 empty_operands_run : (ran (ExprStmt (And no_exprs) ∷ []) 0).ended ≡ gives (BoolV true)
 unfolding ran
 empty_operands_run = refl
+
+-- ---- nodes with EXPORTED
+
+abbrev exported_dot : Expr → Expr → Expr
+exported_dot l r = Dot (record { negated = false; breaks = false; exported = true }) l r
+
+abbrev exported_index : Expr → Expr → Expr
+exported_index l r = Index (record { negated = false; breaks = true; exported = true }) l r
+
+abbrev reports : List Stmt → List Report
+reports [] = []
+reports (s ∷ ss) = ran (s ∷ []) 1 ∷ reports ss
+
+-- do { f() } while false; return f(); f().a; f()[0]; and loop { break f() }, whose body takes its turn
+exported_nodes : reports (Do false true (BoolConstant false) (stmts (ExprStmt (fn "f" []) ∷ [])) ∷ Return false true (an_expr (fn "f" [])) ∷ ExprStmt (exported_dot (fn "f" []) (prop "a")) ∷ ExprStmt (exported_index (fn "f" []) (int 0)) ∷ While UnitConstant (stmts (BreakLoop true true (an_expr (fn "f" [])) ∷ [])) ∷ [])
+    ≡ report (WithStuck WrongKind) [] [] 1 ∷ report (WithStuck WrongKind) [] [] 1 ∷ report (WithStuck WrongKind) [] [] 1 ∷ report (WithStuck WrongKind) [] [] 1 ∷ report (WithStuck WrongKind) [] [] 0 ∷ []
+unfolding ran
+exported_nodes = refl
+
+-- f()[g()].a, whose second node has it: stuck where the first step is reached, before its index; ()?[g()].a does not reach it
+exported_rest : reports (ExprStmt (Index (record { negated = false; breaks = false; exported = false }) (fn "f" []) (exported_dot (fn "g" []) (prop "a"))) ∷ ExprStmt (Index (record { negated = true; breaks = false; exported = false }) UnitConstant (exported_dot (fn "g" []) (prop "a"))) ∷ [])
+    ≡ report (WithStuck WrongKind) [] (asked "f" [] ∷ []) 1 ∷ report (gives UnitV) [] [] 1 ∷ []
+unfolding ran
+exported_rest = refl
+
+-- a.b = f(), where a is unbound: stuck behind the right side
+exported_left_side : ran (Assignment None (exported_dot (var "a") (prop "b")) (fn "f" []) ∷ []) 0 ≡ report (WithStuck WrongKind) [] (asked "f" [] ∷ []) 0
+unfolding ran
+exported_left_side = refl
+
+-- let a = 1; a.b[0] = f(), whose second node has it: before the getter of b is asked
+exported_rest_of_a_left_side : ran (let' "a" (int 1) ∷ Assignment None (dot (var "a") (exported_index (prop "b") (int 0))) (fn "f" []) ∷ []) 0 ≡ report (WithStuck WrongKind) (var_is "a" (i 1) ∷ []) (asked "f" [] ∷ []) 0
+unfolding ran
+exported_rest_of_a_left_side = refl
