@@ -5,11 +5,15 @@ use Rattle.rhai_tree.specs.declared.expr.Expr as declared_expr
 use Rattle.rhai_tree.specs.declared.expr.Expr.TheVariants as expr_kind
 use Rattle.rhai_tree.specs.declared.expr.FnCallExpr.{FnCallExpr}
 use Rattle.rhai_tree.specs.declared.block.StmtBlock.{StmtBlock}
-use Rattle.rhai_reading.specs.Reading.{expr_of, ExprCase, dynamic_case, bool_case, integer_case, char_case, string_case, unit_case, array_case, block_expr_case, call_case, expr_cases, expr_of-DynamicConstant, expr_of-BoolConstant, expr_of-IntegerConstant, expr_of-CharConstant, expr_of-StringConstant, expr_of-Unit}
+use Rattle.rhai_tree.specs.declared.stmt.FlowControl.{FlowControl}
+use Rattle.rhai_tree.specs.declared.stmt.Stmt as declared_stmt
+use Rattle.rhai_tree.specs.declared.stmt.Stmt.TheVariants as stmt_kind
+use Rattle.rhai_reading.specs.Reading.{expr_of, stmt_of}
+use Rattle.rhai_reading.proofs.Cases.{ExprCase, array_case, braces_case, call_case, expr_cases, StmtCase, if_case, block_case, expression_case, call_statement_case, stmt_cases}
 use Rattle.rhai_meaning.specs.Engine.{Engine}
 use Rattle.rhai_meaning.specs.Tree.{Callee, Expr, FnCall, Exprs, Stmt, If, FnCallStmt, Stmts}
 use Rattle.rhai_rewriting.specs.Context.{Context, ListKind, Inside}
-use Rattle.rhai_rewriting.specs.Rewriting.{ExprTo, same_expr, then_expr, in_call, ExprsTo, StmtTo, then_stmt, in_call_statement, in_if, StmtsTo, flag_forgotten}
+use Rattle.rhai_rewriting.specs.Rewriting.{ExprTo, same_expr, then_expr, in_call, ExprsTo, StmtTo, same_stmt, then_stmt, in_call_statement, in_if, StmtsTo, flag_forgotten}
 use Rattle.rhai_rewriting.specs.Steps.{ExprRun, ExprStep, StmtRun, StmtStep, EachRun, StmtsRun}
 use Rattle.rhai_rewriting.specs.Residue.{ExprParts, StmtParts}
 use Rattle.rhai_optimizer.specs.Parts.{ExprPartsRun, StmtPartsRun}
@@ -43,20 +47,26 @@ expr_parts_as {k = k} {d = d} {d' = d'} {e1 = e1} {e' = e'} {e1' = e1'} i j p f 
 pub stmt_parts_as : {k : Context} {w d d' : Bool} {s s1 s' s1' : Stmt} → s ≡ s1 → s' ≡ s1' → StmtTo k w d d' s1 s1' → (d' ≡ false → StmtParts k.engine s1') → StmtPartsRun k w d d' s s'
 stmt_parts_as {k = k} {w = w} {d = d} {d' = d'} {s1 = s1} {s' = s'} {s1' = s1'} i j p f = subst (λ a. StmtPartsRun k w d d' a s') (sym i) (subst (λ b. StmtPartsRun k w d d' s1 b) (sym j) (record { to = p; parts = f }))
 
--- a constant has no parts
-leaf_parts_case : (r : Engine) {e : declared_expr.Expr} → ExprCase e → ((xs : List declared_expr.Expr) (p : Position) → e ≡ expr_kind.Array xs p → ⊥) → ((b : StmtBlock) → e ≡ expr_kind.Stmt b → ⊥) → ((c : FnCallExpr) (p : Position) → e ≡ expr_kind.FnCall c p → ⊥) → ExprParts r (expr_of e)
-leaf_parts_case r (dynamic_case v p) a s c = subst (ExprParts r) (sym (expr_of-DynamicConstant v p)) tt
-leaf_parts_case r (bool_case b p) a s c = subst (ExprParts r) (sym (expr_of-BoolConstant b p)) tt
-leaf_parts_case r (integer_case n p) a s c = subst (ExprParts r) (sym (expr_of-IntegerConstant n p)) tt
-leaf_parts_case r (char_case n p) a s c = subst (ExprParts r) (sym (expr_of-CharConstant n p)) tt
-leaf_parts_case r (string_case t p) a s c = subst (ExprParts r) (sym (expr_of-StringConstant t p)) tt
-leaf_parts_case r (unit_case p) a s c = subst (ExprParts r) (sym (expr_of-Unit p)) tt
-leaf_parts_case r (array_case xs p) a s c = absurd (a xs p refl)
-leaf_parts_case r (block_expr_case b) a s c = absurd (s b refl)
-leaf_parts_case r (call_case f p) a s c = absurd (c f p refl)
+-- ---- a node that is not opened is kept as it is
 
-pub leaf_parts : {k : Context} {d : Bool} {e : declared_expr.Expr} → ((xs : List declared_expr.Expr) (p : Position) → e ≡ expr_kind.Array xs p → ⊥) → ((b : StmtBlock) → e ≡ expr_kind.Stmt b → ⊥) → ((c : FnCallExpr) (p : Position) → e ≡ expr_kind.FnCall c p → ⊥) → ExprPartsRun k d d (expr_of e) (expr_of e)
-leaf_parts {k = k} {e = e} a s c = record { to = same_expr; parts = λ h. leaf_parts_case k.engine (expr_cases e) a s c }
+expr_not_opened : (r : Engine) {x : declared_expr.Expr} {e : Expr} → ExprCase x e → ((xs : List declared_expr.Expr) (p : Position) → x ≡ expr_kind.Array xs p → ⊥) → ((b : StmtBlock) → x ≡ expr_kind.Stmt b → ⊥) → ((c : FnCallExpr) (p : Position) → x ≡ expr_kind.FnCall c p → ⊥) → ExprParts r e
+expr_not_opened r (array_case xs p) a s c = absurd (a xs p refl)
+expr_not_opened r (braces_case b) a s c = absurd (s b refl)
+expr_not_opened r (call_case f p) a s c = absurd (c f p refl)
+expr_not_opened r _ a s c = tt
+
+pub expr_stays : {k : Context} {d : Bool} {x : declared_expr.Expr} → ((xs : List declared_expr.Expr) (p : Position) → x ≡ expr_kind.Array xs p → ⊥) → ((b : StmtBlock) → x ≡ expr_kind.Stmt b → ⊥) → ((c : FnCallExpr) (p : Position) → x ≡ expr_kind.FnCall c p → ⊥) → ExprPartsRun k d d (expr_of x) (expr_of x)
+expr_stays {k = k} {x = x} a s c = record { to = same_expr; parts = λ h. expr_not_opened k.engine (expr_cases x) a s c }
+
+stmt_not_opened : (r : Engine) {x : declared_stmt.Stmt} {s : Stmt} → StmtCase x s → ((f : FlowControl) (p : Position) → x ≡ stmt_kind.If f p → ⊥) → ((b : StmtBlock) → x ≡ stmt_kind.Block b → ⊥) → ((e : declared_expr.Expr) → x ≡ stmt_kind.Expr e → ⊥) → ((c : FnCallExpr) (p : Position) → x ≡ stmt_kind.FnCall c p → ⊥) → StmtParts r s
+stmt_not_opened r (if_case f p) i b e c = absurd (i f p refl)
+stmt_not_opened r (block_case y) i b e c = absurd (b y refl)
+stmt_not_opened r (expression_case y) i b e c = absurd (e y refl)
+stmt_not_opened r (call_statement_case f p) i b e c = absurd (c f p refl)
+stmt_not_opened r _ i b e c = tt
+
+pub stmt_stays : {k : Context} {w d : Bool} {x : declared_stmt.Stmt} → ((f : FlowControl) (p : Position) → x ≡ stmt_kind.If f p → ⊥) → ((b : StmtBlock) → x ≡ stmt_kind.Block b → ⊥) → ((e : declared_expr.Expr) → x ≡ stmt_kind.Expr e → ⊥) → ((c : FnCallExpr) (p : Position) → x ≡ stmt_kind.FnCall c p → ⊥) → StmtPartsRun k w d d (stmt_of x) (stmt_of x)
+stmt_stays {k = k} {x = x} i b e c = record { to = same_stmt; parts = λ h. stmt_not_opened k.engine (stmt_cases x) i b e c }
 
 pub if_run : {k : Context} {w d d1 d2 d3 : Bool} {e e' : Expr} {a a' b b' : Stmts} → ExprRun k d d1 e e' → StmtsRun k (Inside w) d1 d2 a a' → StmtsRun k (Inside w) d2 d3 b b' → StmtPartsRun k w d d3 (If e a b) (If e' a' b')
 if_run p q s = record { to = in_if p.to q.to s.to; parts = if_parts p q s }
