@@ -1,2 +1,3 @@
+pub mod Kept
 pub mod Settling
 pub mod Shapes

@@ -1,9 +1,9 @@
 -- Nodes that are settled, and nodes that fold to a value.
 use Rattle.std.proofs.Common.{◌≡◌, Bool, true, false, not, ◌&&◌, List, Option, Some, None, is_some, refl, sym, ap, ◌∙◌, subst}
-use Rattle.rhai_values.specs.Value.{Value}
-use Rattle.rhai_meaning.specs.Constants.{array_value, constant_bool, constant_for, constant_value, constant_values}
+use Rattle.rhai_values.specs.Value.{Value, ArrayV, values}
+use Rattle.rhai_meaning.specs.Constants.{array_value, constant_bool, constant_for, constant_values, literal_value}
 use Rattle.rhai_meaning.specs.Engine.{Engine, or_else}
-use Rattle.rhai_meaning.specs.Tree.{Expr, ArrayOf, BlockExpr, FnCall, Stmt, If, ExprStmt, FnCallStmt, Stmts}
+use Rattle.rhai_meaning.specs.Tree.{Expr, ArrayOf, BlockExpr, FnCall, Exprs, Stmt, If, ExprStmt, FnCallStmt, Stmts}
 use Rattle.rhai_meaning.specs.Walk.{OfExpr, OfStmt}
 use Rattle.rhai_rewriting.specs.Context.{Context}
 use Rattle.rhai_rewriting.specs.Residue.{IsReducedNode}
@@ -43,9 +43,18 @@ settled_stmt r _ h n = tt
 
 -- ---- a node that folds to a value
 
-array_folds : {k : Context} {es : _} {v : Value} (o : Option (List Value)) → constant_values es ≡ o → Some v ≡ array_value o → ExprRule k (ArrayOf es) (constant_for v)
+alone : {A : Type 0} (o : Option A) → or_else o None ≡ o
+alone None = refl
+alone (Some x) = refl
+
+pub array_literal : (r : Engine) (es : Exprs) → literal_value (ArrayOf es) ≡ folded_value r (ArrayOf es)
+array_literal r es = alone (array_value (constant_values es))
+
+array_folds : {k : Context} {es : Exprs} {v : Value} (o : Option (List Value)) → constant_values es ≡ o → Some v ≡ array_value o → ExprRule k (ArrayOf es) (constant_for v)
 array_folds None i h = absurd cc
-array_folds {k = k} {es = es} {v = v} (Some vs) i h = ?
+array_folds {k = k} {es = es} {v = v} (Some vs) i h =
+    let same : ArrayV (values vs) ≡ v = cc in
+    subst (λ x. ExprRule k (ArrayOf es) (constant_for x)) same (rule.array_of_constants i)
 
 pub expr_folds : (k : Context) (e : Expr) (v : Value) → Some v ≡ folded_value k.engine e → ExprRule k e (constant_for v)
 expr_folds k (ArrayOf es) v h = array_folds (constant_values es) refl h
