@@ -4,6 +4,7 @@ use Rattle.std.specs.Fmt.{decimal, signed_decimal}
 use Rattle.rhai_values.specs.Value.{Text, UnitV, BoolV, IntV, CharV, TextV, inner}
 use Rattle.rhai_base.specs.Operators.{Operator, symbol}
 use Rattle.rhai_meaning.specs.Desugar.{qualified}
+use Rattle.rhai_meaning.specs.Queries.{is_unit}
 use Rattle.rhai_meaning.specs.Tree.{Callee, ChainFlags, IntRange, ExclusiveInt, InclusiveInt, SwitchCase, SwitchRange, SwitchTable, Expr, DynamicConstant, BoolConstant, IntegerConstant, CharConstant, StringConstant, UnitConstant, InterpolatedString, ArrayOf, MapOf, Variable, ThisPtr, Property, MethodCall, BlockExpr, FnCall, Dot, Index, And, Or, Coalesce, Exprs, no_exprs, expr, Pairs, no_pairs, pair, MaybeExpr, no_expr, an_expr, Arms, no_arms, arm, Stmt, Noop, If, Switch, While, Do, For, Var, Assignment, FnCallStmt, Block, TryCatch, ExprStmt, BreakLoop, Return, Import, Export, Share, Stmts, no_stmts, stmt, Function, Script}
 
 -- texts with commas between them; the first has that text before it
@@ -135,6 +136,10 @@ abbrev mutual
 
 abbrev pub call_text : Callee → Exprs → Text
 call_text f es = callee_text f ++ codes "(" ++ exprs_text [] es ++ codes ")"
+
+-- the guard of a loop, with its word
+abbrev pub guard_text : Expr → Text
+guard_text e = if is_unit e then codes "loop " else codes "while " ++ expr_text e ++ codes " "
 
 -- a statement a line
 abbrev pub lines_text : Stmts → Text

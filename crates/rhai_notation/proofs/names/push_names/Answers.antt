@@ -1,6 +1,6 @@
 use Rattle.std.proofs.Common.{rules, ◌∙◌}
-use Rattle.rhai_notation.proofs.Pushes.{pushed_name}
-use Rattle.rhai_notation.proofs.notation.push_names.Goals as goal
+use Rattle.rhai_notation.proofs.NameLists.{pushed_name}
+use Rattle.rhai_notation.proofs.names.push_names.Goals as goal
 
 pub loop-name-preserved : goal.loop-name-preserved
 loop-name-preserved c = (

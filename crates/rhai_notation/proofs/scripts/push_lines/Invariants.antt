@@ -1,7 +1,7 @@
 use Rattle.std.proofs.Common.{◌≡◌, ◌++◌, drop, string_bytes}
 use Rattle.rhai_reading.specs.Reading.{stmts_of}
 use Rattle.rhai_notation.specs.Notation.{lines_text}
-use Rattle.rhai_notation.proofs.notation.push_lines.Given as goal
+use Rattle.rhai_notation.proofs.scripts.push_lines.Given as goal
 
 abbrev pub invariant-loop-line : goal.invariant-loop-line
 invariant-loop-line l =

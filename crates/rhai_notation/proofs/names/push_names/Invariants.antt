@@ -2,7 +2,7 @@ use Rattle.std.proofs.Common.{◌≡◌, [], ◌++◌, drop, string_bytes}
 use denote.Text.{Utf8}
 use denote.Shadow.{shadow}
 use Rattle.rhai_notation.specs.Notation.{names_text}
-use Rattle.rhai_notation.proofs.notation.push_names.Given as goal
+use Rattle.rhai_notation.proofs.names.push_names.Given as goal
 
 abbrev pub invariant-loop-name : goal.invariant-loop-name
 invariant-loop-name l =

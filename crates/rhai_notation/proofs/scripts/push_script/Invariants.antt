@@ -1,7 +1,7 @@
 use Rattle.std.proofs.Common.{◌≡◌, ◌++◌, map, string_bytes}
 use Rattle.rhai_reading.specs.Reading.{function_of}
 use Rattle.rhai_notation.specs.Notation.{functions_text}
-use Rattle.rhai_notation.proofs.notation.push_script.Given as goal
+use Rattle.rhai_notation.proofs.scripts.push_script.Given as goal
 
 abbrev pub invariant-loop-function : goal.invariant-loop-function
 invariant-loop-function l =
