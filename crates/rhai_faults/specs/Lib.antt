@@ -1,2 +1,4 @@
+pub mod MapKeys
 pub mod PlainArms
+pub mod Refusals
 pub mod Scripts
