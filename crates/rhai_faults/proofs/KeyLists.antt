@@ -85,6 +85,12 @@ within-from_among (x ∷ xs) ys h =
 abbrev pub are_same : List Text → List Text → Bool
 are_same xs ys = are_among xs ys && are_among ys xs
 
+-- two lists of the same names
+pub is_among-same : (t : Text) (xs ys : List Text) → are_same xs ys ≡ true → is_among t xs ≡ is_among t ys
+is_among-same t xs ys h =
+    let parts = each_true (are_among xs ys) (are_among ys xs) h in
+    is_among-has t xs ∙ same (has xs t) (has ys t) (within-from_among xs ys parts.0 t) (within-from_among ys xs parts.1 t) ∙ sym (is_among-has t ys)
+
 -- the order does not matter
 pub are_same-permutation : (xs ys zs : List Text) → IsPermutation xs ys → are_same ys zs ≡ are_same xs zs
 are_same-permutation xs ys zs p =

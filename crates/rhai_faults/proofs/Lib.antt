@@ -1,2 +1,3 @@
 pub mod KeyLists
+pub mod Operations
 pub mod PlainLists

@@ -1,4 +1,6 @@
 pub mod MapKeys
+pub mod Places
 pub mod PlainArms
 pub mod Refusals
 pub mod Scripts
+pub mod Tokens
