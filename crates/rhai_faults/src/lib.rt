@@ -2,10 +2,13 @@
 #![tactic(auto)]
 
 mod around;
+mod check;
 mod fault;
 mod map_keys;
 mod plain;
 mod shape;
+mod table;
 
+pub use check::check_tree;
 pub use fault::TreeFault;
 pub use plain::is_plain;
