@@ -2,7 +2,7 @@
 use Rattle.std.proofs.Common.{◌≡◌, ℕ, Bool, true, false, not, cond, ◌&&◌, List, [], ◌∷◌, Option, Some, None, refl, sym, ap, ◌∙◌, subst}
 use Rattle.std.specs.Prelude.{codes, if◌then◌else◌, ◌==◌}
 use Rattle.std.proofs.lemmas.Slice.Eq.{bytes_eq-Decides}
-use Rattle.rhai_values.specs.Value.{Text, Value, UnitV, TextV, ArrayV, PointerV, RangeV, RangeInclusiveV, no_values, item, values, same_text}
+use Rattle.rhai_values.specs.Value.{Text, Value, UnitV, TextV, ArrayV, PointerV, no_values, item, values, same_text}
 use Rattle.rhai_base.specs.Operators.{Operator, Plus, UpTo, Through, symbol, arity, computed, binary}
 use Rattle.rhai_parts.specs.Names.{is_valid_name}
 use Rattle.rhai_meaning.specs.Act.{World, Store, Gives, Ended, At, Act, Env, and_then, run}

@@ -1,5 +1,5 @@
 -- What is pure changes nothing, calls nobody, throws nothing, and gives a value or is stuck after some turns.
-use Rattle.std.proofs.Common.{◌≡◌, ℕ, zero, suc, Bool, true, false, cond, ◌&&◌, List, [], ◌∷◌, ◌++◌, Option, Some, None, refl, ap, ◌∙◌}
+use Rattle.std.proofs.Common.{◌≡◌, ℕ, zero, suc, Bool, true, false, not, cond, ◌&&◌, List, [], ◌∷◌, ◌++◌, Option, Some, None, refl, ap, ◌∙◌}
 use Rattle.std.specs.Prelude.{slice_get, ◌+ℤ◌, ◌-ℤ◌, pos}
 use Rattle.rhai_values.specs.Value.{Text, Value, UnitV, BoolV, ArrayV, RangeV, RangeInclusiveV, items, is_hashable, same}
 use Rattle.rhai_meaning.specs.Act.{World, WrongKind, Act, Stop, Leaves, Again, Acts}
@@ -217,7 +217,7 @@ module _ (w : World) where
         let z = split (is_pure_expr e) (table_is_pure (arm_purities as') t) h in
         pure_deed (deed_or_ill (is_table as' t) _ (p_bind w _ _ (pure_expr l e z.0) (λ v. switch_pure (pure_arms l as') t z.1 v)))
     pure_stmt l (While e b) h = pure_deed (never_pure l e h _)
-    pure_stmt l (Do n e b) h = let z = split (is_literally n e) (are_pure b) h in pure_deed (once_pure l n e z.0 _ (pure_list true false b z.1 UnitV))
+    pure_stmt l (Do n exported e b) h = let z = split (is_literally n e) (are_pure b) h in pure_deed (deed_or_ill (not exported) _ (once_pure l n e z.0 _ (pure_list true false b z.1 UnitV)))
     pure_stmt l (For x i e b) h = let z = split (is_pure_expr e) (are_pure b) h in pure_deed (p_bind w _ _ (pure_expr l e z.0) (λ v. for_pure x i _ (pure_list true false b z.1 UnitV) v))
     pure_stmt l (Block ss) h = pure_deed (pure_list l true ss h UnitV).scoped
     pure_stmt l (TryCatch x a b) h =
@@ -267,7 +267,7 @@ module _ (w : World) where
     internal_stmt l (If c a b) h = internal (pure_stmt l (If c a b) h)
     internal_stmt l (Switch e as' t) h = internal (pure_stmt l (Switch e as' t) h)
     internal_stmt l (While e b) h = internal (pure_stmt l (While e b) h)
-    internal_stmt l (Do n e b) h = internal (pure_stmt l (Do n e b) h)
+    internal_stmt l (Do n exported e b) h = internal (pure_stmt l (Do n exported e b) h)
     internal_stmt l (For x i e b) h = internal (pure_stmt l (For x i e b) h)
     internal_stmt l (Block ss) h = internal (pure_stmt l (Block ss) h)
     internal_stmt l (TryCatch x a b) h = internal (pure_stmt l (TryCatch x a b) h)

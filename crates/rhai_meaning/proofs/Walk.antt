@@ -1,7 +1,7 @@
 -- Laws of the walk: what holds of two walks at each node holds of them over a whole tree.
-use Rattle.std.proofs.Common.{◌≡◌, ℕ, zero, suc, ◌+◌, ◌≤◌, List, [], ◌∷◌, arith}
-use Rattle.rhai_meaning.specs.Tree.{SwitchTable, Expr, InterpolatedString, ArrayOf, MapOf, MethodCall, BlockExpr, FnCall, Dot, Index, And, Or, Coalesce, Exprs, no_exprs, expr, Pairs, no_pairs, pair, MaybeExpr, no_expr, an_expr, Arms, no_arms, arm, Stmt, If, Switch, While, Do, For, Var, Assignment, FnCallStmt, Block, TryCatch, ExprStmt, BreakLoop, Return, Import, Stmts, no_stmts, stmt, joined, Function, Script}
-use Rattle.rhai_meaning.specs.Walk.{Node, Spot, Walk, parts_of_expr, parts_of_stmt, over_exprs, over_pairs, over_maybe, over_arms, over_stmts, over_expr, over_stmt, over_functions, over_script, arm_at, arms_at, listed, sum_of, every, total, Around, around_spot, around_parts, throughout}
+use Rattle.std.proofs.Common.{◌≡◌, ℕ, zero, suc, ◌+◌, List, [], ◌∷◌, arith}
+use Rattle.rhai_meaning.specs.Tree.{SwitchTable, Expr, InterpolatedString, ArrayOf, MapOf, MethodCall, BlockExpr, FnCall, Dot, Index, And, Or, Coalesce, Exprs, no_exprs, expr, Pairs, no_pairs, pair, MaybeExpr, no_expr, an_expr, Arms, no_arms, arm, Stmt, If, Switch, While, Do, For, Var, Assignment, FnCallStmt, Block, TryCatch, ExprStmt, BreakLoop, Return, Import, Stmts, no_stmts, stmt, joined}
+use Rattle.rhai_meaning.specs.Walk.{Node, Spot, Walk, parts_of_expr, parts_of_stmt, over_exprs, over_pairs, over_maybe, over_arms, over_stmts, arm_at, arms_at, listed, every, total, Around, around_spot, around_parts, throughout}
 
 -- R is kept by both walks, step by step
 pub record Alongside {ℓ κ μ} {A : Type ℓ} {B : Type κ} (R : A → B → Type μ) (w : Walk A) (v : Walk B) : Type (ℓ ⊔ κ ⊔ μ) where
@@ -31,7 +31,7 @@ module _ {ℓ κ μ} {A : Type ℓ} {B : Type κ} (R : A → B → Type μ) (w :
     stmt_parts_alongside (If c a b) = g.both _ _ _ _ (g.node _ _ _ (parts_alongside c)) (g.both _ _ _ _ (stmts_alongside a) (stmts_alongside b))
     stmt_parts_alongside (Switch e as' t) = g.both _ _ _ _ (g.node _ _ _ (parts_alongside e)) (g.arms _ _ _ (λ i. arms_alongside as' i))
     stmt_parts_alongside (While e b) = g.both _ _ _ _ (g.node _ _ _ (parts_alongside e)) (g.within _ _ _ (stmts_alongside b))
-    stmt_parts_alongside (Do negated e b) = g.both _ _ _ _ (g.node _ _ _ (parts_alongside e)) (g.within _ _ _ (stmts_alongside b))
+    stmt_parts_alongside (Do negated exported e b) = g.both _ _ _ _ (g.node _ _ _ (parts_alongside e)) (g.within _ _ _ (stmts_alongside b))
     stmt_parts_alongside (For x i e b) = g.both _ _ _ _ (g.node _ _ _ (parts_alongside e)) (g.within _ _ _ (stmts_alongside b))
     stmt_parts_alongside (Var constant exported x e) = g.node _ _ _ (parts_alongside e)
     stmt_parts_alongside (Assignment op l e) = g.both _ _ _ _ (g.node _ _ _ (parts_alongside l)) (g.node _ _ _ (parts_alongside e))
@@ -39,8 +39,8 @@ module _ {ℓ κ μ} {A : Type ℓ} {B : Type κ} (R : A → B → Type μ) (w :
     stmt_parts_alongside (Block ss) = stmts_alongside ss
     stmt_parts_alongside (TryCatch x a b) = g.both _ _ _ _ (stmts_alongside a) (stmts_alongside b)
     stmt_parts_alongside (ExprStmt e) = g.node _ _ _ (parts_alongside e)
-    stmt_parts_alongside (BreakLoop breaks m) = maybe_alongside m
-    stmt_parts_alongside (Return throws m) = maybe_alongside m
+    stmt_parts_alongside (BreakLoop breaks exported m) = maybe_alongside m
+    stmt_parts_alongside (Return throws exported m) = maybe_alongside m
     stmt_parts_alongside (Import e x) = g.node _ _ _ (parts_alongside e)
     stmt_parts_alongside _ = g.none
 

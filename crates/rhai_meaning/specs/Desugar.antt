@@ -4,7 +4,7 @@ use Rattle.rhai_values.specs.Value.{Text, UnitV, BoolV, IntV, CharV, TextV}
 use Rattle.rhai_meaning.specs.Act.{Root, OfName, OfThis}
 use Rattle.rhai_meaning.specs.Tree as tree
 use Rattle.rhai_meaning.specs.Core.{Callee, OnOperator, Qualified, ByName, ExitKind, Breaking, Continuing, Returning, Throwing, Expr, Ill, Constant, InterpolatedString, ArrayOf, MapOf, Variable, ModuleVariable, ThisPtr, BlockExpr, FnCall, Chain, And, Or, Coalesce, Exprs, no_exprs, expr, Pairs, no_pairs, pair, Base, OnPlace, OnValue, Step, IllStep, Property, Index, Method, Steps, last, more, Target, IllTarget, Nowhere, ToRoot, ToPart, Guard, Always, When, Arms, no_arms, arm, Deed, IllDeed, Noop, If, Switch, While, Do, For, Assignment, Block, TryCatch, Evaluate, Leave, Stmt, Var, Does, Stmts, no_stmts, stmt, Function, Script}
-use Rattle.rhai_meaning.specs.Shape.{is_unit, is_map, is_rest, is_callable, is_table, is_left_side, catch_name}
+use Rattle.rhai_meaning.specs.Shape.{is_unit, is_map, is_chain, is_callable, is_table, is_left_side, catch_name}
 
 -- the names of the namespace and the name, joined by `::`
 abbrev pub qualified : List Text → Text → Text
@@ -90,8 +90,8 @@ abbrev mutual
   core_expr loop (tree.MethodCall c es) = Ill
   core_expr loop (tree.BlockExpr ss) = BlockExpr (core_stmts loop ss)
   core_expr loop (tree.FnCall c es) = call_of c (tree.count_exprs es) (core_exprs loop es)
-  core_expr loop (tree.Dot k l r) = cond (is_rest true k.breaks r) (Chain (based (root_of l) (core_expr loop l)) (steps_of loop true k (member_of loop r) r)) Ill
-  core_expr loop (tree.Index k l r) = cond (is_rest false k.breaks r) (Chain (based (root_of l) (core_expr loop l)) (steps_of loop false k (Index (core_expr loop r)) r)) Ill
+  core_expr loop (tree.Dot k l r) = cond (is_chain true k r) (Chain (based (root_of l) (core_expr loop l)) (steps_of loop true k (member_of loop r) r)) Ill
+  core_expr loop (tree.Index k l r) = cond (is_chain false k r) (Chain (based (root_of l) (core_expr loop l)) (steps_of loop false k (Index (core_expr loop r)) r)) Ill
   core_expr loop (tree.And es) = And (core_exprs loop es)
   core_expr loop (tree.Or es) = Or (core_exprs loop es)
   core_expr loop (tree.Coalesce es) = Coalesce (core_exprs loop es)
@@ -114,17 +114,17 @@ abbrev mutual
   pub steps_of : Bool → (dot : Bool) → tree.ChainFlags → Step → tree.Expr → Steps
   steps_of loop dot k p (tree.Dot m l r) =
       cond k.breaks (last k.negated p)
-      (more k.negated (cond dot (member_of loop l) (Index (core_expr loop l))) (steps_of loop true m (member_of loop r) r))
+      (more k.negated (cond m.exported IllStep (cond dot (member_of loop l) (Index (core_expr loop l)))) (steps_of loop true m (member_of loop r) r))
   steps_of loop dot k p (tree.Index m l r) =
       cond k.breaks (last k.negated p)
-      (more k.negated (cond dot (member_of loop l) (Index (core_expr loop l))) (steps_of loop false m (Index (core_expr loop r)) r))
+      (more k.negated (cond m.exported IllStep (cond dot (member_of loop l) (Index (core_expr loop l)))) (steps_of loop false m (Index (core_expr loop r)) r))
   steps_of loop dot k p _ = last k.negated p
 
   pub target_of : Bool → tree.Expr → Target
   target_of loop (tree.Variable p x) = name_target p x
   target_of loop tree.ThisPtr = ToRoot OfThis
-  target_of loop (tree.Dot k l r) = cond (is_rest true k.breaks r) (part_target (root_of l) (ends_in_call true k.breaks r) (steps_of loop true k (member_of loop r) r)) IllTarget
-  target_of loop (tree.Index k l r) = cond (is_rest false k.breaks r) (part_target (root_of l) (ends_in_call false k.breaks r) (steps_of loop false k (Index (core_expr loop r)) r)) IllTarget
+  target_of loop (tree.Dot k l r) = cond (is_chain true k r) (part_target (root_of l) (ends_in_call true k.breaks r) (steps_of loop true k (member_of loop r) r)) IllTarget
+  target_of loop (tree.Index k l r) = cond (is_chain false k r) (part_target (root_of l) (ends_in_call false k.breaks r) (steps_of loop false k (Index (core_expr loop r)) r)) IllTarget
   target_of loop _ = IllTarget
 
   pub core_arms : Bool → tree.Arms → Arms
@@ -140,7 +140,7 @@ abbrev mutual
   core_stmt loop (tree.If e a b) = Does (If (core_expr loop e) (core_stmts loop a) (core_stmts loop b))
   core_stmt loop (tree.Switch e as' t) = Does (cond (is_table as' t) (Switch (core_expr loop e) (core_arms loop as') t) IllDeed)
   core_stmt loop (tree.While e body) = Does (While (guard_by e (core_expr loop e)) (core_stmts true body))
-  core_stmt loop (tree.Do negated e body) = Does (Do negated (core_expr loop e) (core_stmts true body))
+  core_stmt loop (tree.Do negated exported e body) = Does (cond (not exported) (Do negated (core_expr loop e) (core_stmts true body)) IllDeed)
   core_stmt loop (tree.For x i e body) = Does (For x i (core_expr loop e) (core_stmts true body))
   core_stmt loop (tree.Var constant exported x e) = cond exported (Does IllDeed) (Var constant x (core_expr loop e))
   core_stmt loop (tree.Assignment op l e) = Does (cond (is_left_side l) (Assignment op (target_of loop l) (core_expr loop e)) IllDeed)
@@ -148,8 +148,8 @@ abbrev mutual
   core_stmt loop (tree.Block ss) = Does (Block (core_stmts loop ss))
   core_stmt loop (tree.TryCatch x a b) = Does (try_by (catch_name x) (core_stmts loop a) (core_stmts loop b))
   core_stmt loop (tree.ExprStmt e) = Does (Evaluate (core_expr loop e))
-  core_stmt loop (tree.BreakLoop is_break m) = Does (cond loop (Leave (break_kind is_break) (core_maybe loop m)) IllDeed)
-  core_stmt loop (tree.Return is_throw m) = Does (Leave (return_kind is_throw) (core_maybe loop m))
+  core_stmt loop (tree.BreakLoop is_break exported m) = Does (cond (loop && not exported) (Leave (break_kind is_break) (core_maybe loop m)) IllDeed)
+  core_stmt loop (tree.Return is_throw exported m) = Does (cond (not exported) (Leave (return_kind is_throw) (core_maybe loop m)) IllDeed)
   core_stmt loop (tree.Import e x) = Does IllDeed
   core_stmt loop (tree.Export x y) = Does IllDeed
   core_stmt loop (tree.Share xs) = Does IllDeed

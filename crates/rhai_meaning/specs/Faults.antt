@@ -84,7 +84,7 @@ stmt_fault a (Switch e as' t) = unless (is_table as' t) SwitchFault
 stmt_fault a (Assignment op l e) = unless (is_left_side l) AssignTarget
 stmt_fault a (FnCallStmt c es) = call_fault c (count_exprs es)
 stmt_fault a (TryCatch x b c) = unless (is_catch (catch_name x)) CatchName
-stmt_fault a (BreakLoop breaks m) = unless a.in_loop BreakOutsideLoop
+stmt_fault a (BreakLoop breaks exported m) = unless a.in_loop BreakOutsideLoop
 stmt_fault a _ = None
 
 -- the smallest of a node

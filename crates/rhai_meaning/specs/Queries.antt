@@ -67,7 +67,7 @@ abbrev mutual
   is_pure (If c a b) = is_pure_expr c && (are_pure a && are_pure b)
   is_pure (Switch e as' t) = is_pure_expr e && table_is_pure (arm_purities as') t
   is_pure (While e b) = is_literally false e
-  is_pure (Do negated e b) = is_literally negated e && are_pure b
+  is_pure (Do negated exported e b) = is_literally negated e && are_pure b
   is_pure (For x i e b) = is_pure_expr e && are_pure b
   is_pure (Block ss) = are_pure ss
   is_pure (TryCatch x a b) = is_pure_expr x && (are_pure a && are_pure b)
@@ -144,8 +144,8 @@ is_self_terminated (TryCatch x a b) = true
 is_self_terminated _ = false
 
 abbrev pub is_control_flow_break : Stmt → Bool
-is_control_flow_break (Return throws m) = true
-is_control_flow_break (BreakLoop breaks m) = true
+is_control_flow_break (Return throws exported m) = true
+is_control_flow_break (BreakLoop breaks exported m) = true
 is_control_flow_break _ = false
 
 abbrev pub is_noop : Stmt → Bool

@@ -3,7 +3,7 @@ use Rattle.std.specs.Prelude.{ℕ, zero, suc, Bool, true, false, not, ◌&&◌, 
 use Rattle.rhai_values.specs.Value.{Text, Value, UnitV, same_text, is_hashable}
 use Rattle.rhai_base.specs.Operators.{symbol, arity}
 use Rattle.rhai_parts.specs.Names.{is_among, are_all, symbols, barred}
-use Rattle.rhai_meaning.specs.Tree.{CallToken, NoToken, OfOperator, OfOther, Callee, SwitchCase, SwitchTable, Expr, Pairs, Arms, BoolConstant, UnitConstant, Variable, ThisPtr, Property, MethodCall, Dot, Index, no_pairs, pair, no_arms, arm, count_arms}
+use Rattle.rhai_meaning.specs.Tree.{CallToken, NoToken, OfOperator, OfOther, Callee, ChainFlags, SwitchCase, SwitchTable, Expr, Pairs, Arms, BoolConstant, UnitConstant, Variable, ThisPtr, Property, MethodCall, Dot, Index, no_pairs, pair, no_arms, arm, count_arms}
 
 abbrev pub is_none : {A : Type 0} → List A → Bool
 is_none [] = true
@@ -56,6 +56,10 @@ abbrev pub is_rest : (dot breaks : Bool) → Expr → Bool
 is_rest dot breaks (Dot k l r) = if breaks then not dot else (is_argument dot l && is_rest true k.breaks r)
 is_rest dot breaks (Index k l r) = if breaks then not dot else (is_argument dot l && is_rest false k.breaks r)
 is_rest dot breaks e = if dot then is_member e else breaks
+
+-- the outermost node of a chain that has a meaning
+abbrev pub is_chain : (dot : Bool) → ChainFlags → Expr → Bool
+is_chain dot k r = is_rest dot k.breaks r && not k.exported
 
 -- ---- the table of a `switch`
 

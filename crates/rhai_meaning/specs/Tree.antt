@@ -17,10 +17,11 @@ pub record Callee : Type 0 where
   pub captures : Bool
   pub token : CallToken
 
--- the flags of a `Dot` or an `Index`: NEGATED is `?.` or `?[`, BREAK ends the chain
+-- the flags of a `Dot` or an `Index`: NEGATED is `?.` or `?[`, BREAK ends the chain; EXPORTED
 pub record ChainFlags : Type 0 where
   pub negated : Bool
   pub breaks : Bool
+  pub exported : Bool
 
 -- the functions by which the host reads and writes a property, and its name in a map
 pub record PropertyNames : Type 0 where
@@ -97,8 +98,8 @@ mutual
     Switch : Expr → Arms → SwitchTable → Stmt
     -- a guard that is `UnitConstant`: `loop`
     While : Expr → Stmts → Stmt
-    -- NEGATED: `until`
-    Do : Bool → Expr → Stmts → Stmt
+    -- NEGATED: `until`; EXPORTED
+    Do : Bool → Bool → Expr → Stmts → Stmt
     -- the loop name, and the counter's
     For : Text → Option Text → Expr → Stmts → Stmt
     -- CONSTANT: `const`; EXPORTED
@@ -110,10 +111,10 @@ mutual
     -- the catch name, the body, the branch
     TryCatch : Expr → Stmts → Stmts → Stmt
     ExprStmt : Expr → Stmt
-    -- BREAK: `break`, else `continue`
-    BreakLoop : Bool → MaybeExpr → Stmt
-    -- BREAK: `throw`, else `return`
-    Return : Bool → MaybeExpr → Stmt
+    -- BREAK: `break`, else `continue`; EXPORTED
+    BreakLoop : Bool → Bool → MaybeExpr → Stmt
+    -- BREAK: `throw`, else `return`; EXPORTED
+    Return : Bool → Bool → MaybeExpr → Stmt
     -- a path, and an alias
     Import : Expr → Text → Stmt
     -- a name, and an alias

@@ -42,7 +42,7 @@ abbrev mutual
   parts_of_stmt w (If c a b) = w.both (w.node (OfExpr c) (parts_of_expr w c)) (w.both (over_stmts w a) (over_stmts w b))
   parts_of_stmt w (Switch e as' t) = w.both (w.node (OfExpr e) (parts_of_expr w e)) (w.arms t (over_arms w as'))
   parts_of_stmt w (While e b) = w.both (w.node (OfExpr e) (parts_of_expr w e)) (w.within LoopBody (over_stmts w b))
-  parts_of_stmt w (Do negated e b) = w.both (w.node (OfExpr e) (parts_of_expr w e)) (w.within LoopBody (over_stmts w b))
+  parts_of_stmt w (Do negated exported e b) = w.both (w.node (OfExpr e) (parts_of_expr w e)) (w.within LoopBody (over_stmts w b))
   parts_of_stmt w (For x i e b) = w.both (w.node (OfExpr e) (parts_of_expr w e)) (w.within LoopBody (over_stmts w b))
   parts_of_stmt w (Var constant exported x e) = w.node (OfExpr e) (parts_of_expr w e)
   parts_of_stmt w (Assignment op l e) = w.both (w.node (OfExpr l) (parts_of_expr w l)) (w.node (OfExpr e) (parts_of_expr w e))
@@ -50,8 +50,8 @@ abbrev mutual
   parts_of_stmt w (Block ss) = over_stmts w ss
   parts_of_stmt w (TryCatch x a b) = w.both (over_stmts w a) (over_stmts w b)
   parts_of_stmt w (ExprStmt e) = w.node (OfExpr e) (parts_of_expr w e)
-  parts_of_stmt w (BreakLoop breaks m) = over_maybe w m
-  parts_of_stmt w (Return throws m) = over_maybe w m
+  parts_of_stmt w (BreakLoop breaks exported m) = over_maybe w m
+  parts_of_stmt w (Return throws exported m) = over_maybe w m
   parts_of_stmt w (Import e x) = w.node (OfExpr e) (parts_of_expr w e)
   parts_of_stmt w _ = w.none
 

@@ -55,7 +55,7 @@ abbrev pub breaks : ASTFlags → Bool
 breaks k = has_bits 8 k
 
 abbrev pub chain_flags : ASTFlags → ChainFlags
-chain_flags k = record { negated = is_negated k; breaks = breaks k }
+chain_flags k = record { negated = is_negated k; breaks = breaks k; exported = is_exported k }
 
 abbrev pub mark_by : Option Operator → CallToken
 mark_by (Some op) = OfOperator op
@@ -181,7 +181,7 @@ stmt_step (open_one.Noop p) = Noop
 stmt_step (open_one.If x p) = If x.expr x.body x.branch
 stmt_step (open_one.Switch x p) = Switch x.subject x.arms x.table
 stmt_step (open_one.While x p) = While x.expr x.body
-stmt_step (open_one.Do x k p) = Do (is_negated k) x.expr x.body
+stmt_step (open_one.Do x k p) = Do (is_negated k) (is_exported k) x.expr x.body
 stmt_step (open_one.For x p) = For x.0.name (counter_of x.1) x.2.expr x.2.body
 stmt_step (open_one.Var x k p) = Var (is_const k) (is_exported k) x.0.name x.1
 stmt_step (open_one.Assignment x) = Assignment (operator_of x.0.op) x.1.lhs x.1.rhs
@@ -189,8 +189,8 @@ stmt_step (open_one.Stmt::FnCall c p) = FnCallStmt c.callee c.args
 stmt_step (open_one.Block b) = Block b
 stmt_step (open_one.TryCatch x p) = TryCatch x.expr x.body x.branch
 stmt_step (open_one.Expr e) = ExprStmt e
-stmt_step (open_one.BreakLoop e k p) = BreakLoop (breaks k) (maybe e)
-stmt_step (open_one.Return e k p) = Return (breaks k) (maybe e)
+stmt_step (open_one.BreakLoop e k p) = BreakLoop (breaks k) (is_exported k) (maybe e)
+stmt_step (open_one.Return e k p) = Return (breaks k) (is_exported k) (maybe e)
 stmt_step (open_one.Import x p) = Import x.0 x.1.name
 stmt_step (open_one.Export x p) = Export x.0.name x.1.name
 stmt_step (open_one.Share xs) = Share (shared_names xs)
@@ -367,8 +367,8 @@ stmt_of-Switch x p = ap stmt_of (sym (stmt_kind.rolls-Switch x p)) ∙ stmt_roll
 pub stmt_of-While : (x : FlowControl) (p : Position) → stmt_of (stmt_kind.While x p) ≡ While (expr_of x.expr) (stmts_of x.body.block)
 stmt_of-While x p = ap stmt_of (sym (stmt_kind.rolls-While x p)) ∙ stmt_rolled (open_one.While x p) ∙ ap (λ f. While f.expr f.body) (flow_is x)
 
-pub stmt_of-Do : (x : FlowControl) (k : ASTFlags) (p : Position) → stmt_of (stmt_kind.Do x k p) ≡ Do (is_negated k) (expr_of x.expr) (stmts_of x.body.block)
-stmt_of-Do x k p = ap stmt_of (sym (stmt_kind.rolls-Do x k p)) ∙ stmt_rolled (open_one.Do x k p) ∙ ap (λ f. Do (is_negated k) f.expr f.body) (flow_is x)
+pub stmt_of-Do : (x : FlowControl) (k : ASTFlags) (p : Position) → stmt_of (stmt_kind.Do x k p) ≡ Do (is_negated k) (is_exported k) (expr_of x.expr) (stmts_of x.body.block)
+stmt_of-Do x k p = ap stmt_of (sym (stmt_kind.rolls-Do x k p)) ∙ stmt_rolled (open_one.Do x k p) ∙ ap (λ f. Do (is_negated k) (is_exported k) f.expr f.body) (flow_is x)
 
 pub stmt_of-For : (x : Ident × Option Ident × FlowControl) (p : Position) → stmt_of (stmt_kind.For x p) ≡ For x.0.name (counter_of x.1) (expr_of x.2.expr) (stmts_of x.2.body.block)
 stmt_of-For x p = ap stmt_of (sym (stmt_kind.rolls-For x p)) ∙ stmt_rolled (open_one.For x p) ∙ ap (λ f. For x.0.name (counter_of x.1) f.expr f.body) (flow_is x.2)
@@ -391,11 +391,11 @@ stmt_of-TryCatch x p = ap stmt_of (sym (stmt_kind.rolls-TryCatch x p)) ∙ stmt_
 pub stmt_of-Expr : (e : declared_expr.Expr) → stmt_of (stmt_kind.Expr e) ≡ ExprStmt (expr_of e)
 stmt_of-Expr e = ap stmt_of (sym (stmt_kind.rolls-Expr e)) ∙ stmt_rolled (open_one.Expr e)
 
-pub stmt_of-BreakLoop : (e : Option declared_expr.Expr) (k : ASTFlags) (p : Position) → stmt_of (stmt_kind.BreakLoop e k p) ≡ BreakLoop (breaks k) (maybe_of e)
+pub stmt_of-BreakLoop : (e : Option declared_expr.Expr) (k : ASTFlags) (p : Position) → stmt_of (stmt_kind.BreakLoop e k p) ≡ BreakLoop (breaks k) (is_exported k) (maybe_of e)
 stmt_of-BreakLoop None k p = ap stmt_of (sym (stmt_kind.rolls-BreakLoop None k p)) ∙ stmt_rolled (open_one.BreakLoop None k p)
 stmt_of-BreakLoop (Some e) k p = ap stmt_of (sym (stmt_kind.rolls-BreakLoop (Some e) k p)) ∙ stmt_rolled (open_one.BreakLoop (Some e) k p)
 
-pub stmt_of-Return : (e : Option declared_expr.Expr) (k : ASTFlags) (p : Position) → stmt_of (stmt_kind.Return e k p) ≡ Return (breaks k) (maybe_of e)
+pub stmt_of-Return : (e : Option declared_expr.Expr) (k : ASTFlags) (p : Position) → stmt_of (stmt_kind.Return e k p) ≡ Return (breaks k) (is_exported k) (maybe_of e)
 stmt_of-Return None k p = ap stmt_of (sym (stmt_kind.rolls-Return None k p)) ∙ stmt_rolled (open_one.Return None k p)
 stmt_of-Return (Some e) k p = ap stmt_of (sym (stmt_kind.rolls-Return (Some e) k p)) ∙ stmt_rolled (open_one.Return (Some e) k p)
 

@@ -83,8 +83,8 @@ mutual
   stmt_kept (in_try p q) h = let k = stmts_kept q h in let j = stmts_kept p k.0 in (j.0, cc)
   stmt_kept (in_expression p) h = let k = expr_kept p h in (k.0, ap ExprStmt k.1)
   stmt_kept (in_call_statement {c = c} p) h = let k = exprs_kept p h in (k.0, ap (FnCallStmt c) k.1)
-  stmt_kept (in_break {breaks = b} p) h = let k = maybe_kept p h in (k.0, ap (BreakLoop b) k.1)
-  stmt_kept (in_return {throws = b} p) h = let k = maybe_kept p h in (k.0, ap (Return b) k.1)
+  stmt_kept (in_break {breaks = b} {exported = o} p) h = let k = maybe_kept p h in (k.0, ap (BreakLoop b o) k.1)
+  stmt_kept (in_return {throws = b} {exported = o} p) h = let k = maybe_kept p h in (k.0, ap (Return b o) k.1)
   stmt_kept (in_import {x = x} p) h = let k = expr_kept p h in (k.0, ap (λ e. Import e x) k.1)
 
   pub stmts_kept : {k : Context} {m : ListKind} {u d d' : Bool} {e e' : Stmts} → RestTo k m u d d' e e' → d' ≡ false → Kept d e e'

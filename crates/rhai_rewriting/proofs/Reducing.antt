@@ -313,7 +313,7 @@ idle_goes (stmt s (stmt t ss)) h d =
 -- a last `return e`: `last_return`
 pub return_goes : (ss : Stmts) {k : Context} {u : Bool} → ends_in_return ss ≡ true → ListGoes k Whole u ss
 return_goes no_stmts h d = no h
-return_goes (stmt (Return false (an_expr e)) no_stmts) h d = (stmt (ExprStmt e) no_stmts, by_list_rule rule.last_return)
+return_goes (stmt (Return false exported (an_expr e)) no_stmts) h d = (stmt (ExprStmt e) no_stmts, by_list_rule rule.last_return)
 return_goes (stmt s no_stmts) h d = no h
 return_goes (stmt s (stmt t ss)) h d = let z = return_goes (stmt t ss) h d in (stmt s z.0, in_tail z.1)
 

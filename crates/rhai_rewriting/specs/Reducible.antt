@@ -131,7 +131,7 @@ idles (stmt s (stmt t ss)) = is_idle s || idles (stmt t ss)
 -- the last statement returns an expression
 abbrev pub ends_in_return : Stmts → Bool
 ends_in_return no_stmts = false
-ends_in_return (stmt (Return false (an_expr e)) no_stmts) = true
+ends_in_return (stmt (Return false exported (an_expr e)) no_stmts) = true
 ends_in_return (stmt s no_stmts) = false
 ends_in_return (stmt s (stmt t ss)) = ends_in_return (stmt t ss)
 
@@ -145,7 +145,7 @@ abbrev pub InLists : (Stmts → Type 0) → Node → Type 0
 InLists Q (OfExpr (BlockExpr ss)) = Q ss
 InLists Q (OfStmt (If c a b)) = Q a × Q b
 InLists Q (OfStmt (While e b)) = Q b
-InLists Q (OfStmt (Do negated e b)) = Q b
+InLists Q (OfStmt (Do negated exported e b)) = Q b
 InLists Q (OfStmt (For x i e b)) = Q b
 InLists Q (OfStmt (Block ss)) = Q ss
 InLists Q (OfStmt (TryCatch x a b)) = Q a × Q b

@@ -83,7 +83,7 @@ mutual
     in_if : {k : Context} {w d d1 d2 d3 : Bool} {e e' : Expr} {a a' b b' : Stmts} → ExprTo k d d1 e e' → RestTo k (Inside w) true d1 d2 a a' → RestTo k (Inside w) true d2 d3 b b' → StmtTo k w d d3 (If e a b) (If e' a' b')
     in_switch : {k : Context} {w d d1 d2 : Bool} {e e' : Expr} {as' bs : Arms} {t : SwitchTable} → ExprTo k d d1 e e' → ArmsTo k d1 d2 as' bs → StmtTo k w d d2 (Switch e as' t) (Switch e' bs t)
     in_while : {k : Context} {w d d1 d2 : Bool} {e e' : Expr} {b b' : Stmts} → GuardTo k d d1 e e' → RestTo k (Inside false) true d1 d2 b b' → StmtTo k w d d2 (While e b) (While e' b')
-    in_do : {k : Context} {w d d1 d2 negated : Bool} {e e' : Expr} {b b' : Stmts} → ExprTo k d d1 e e' → RestTo k (Inside false) true d1 d2 b b' → StmtTo k w d d2 (Do negated e b) (Do negated e' b')
+    in_do : {k : Context} {w d d1 d2 negated exported : Bool} {e e' : Expr} {b b' : Stmts} → ExprTo k d d1 e e' → RestTo k (Inside false) true d1 d2 b b' → StmtTo k w d d2 (Do negated exported e b) (Do negated exported e' b')
     -- in its body the loop name and the counter's are variables
     in_for : {k : Context} {w d d1 d2 : Bool} {x : Text} {i : Option Text} {e e' : Expr} {b b' : Stmts} → ExprTo k d d1 e e' → RestTo (naming x (naming_some i k)) (Inside false) true d1 d2 b b' → StmtTo k w d d2 (For x i e b) (For x i e' b')
     in_var : {k : Context} {w d d' constant exported : Bool} {x : Text} {e e' : Expr} → ExprTo k d d' e e' → StmtTo k w d d' (Var constant exported x e) (Var constant exported x e')
@@ -93,8 +93,8 @@ mutual
     in_try : {k : Context} {w d d1 d2 : Bool} {x : Expr} {a a' b b' : Stmts} → RestTo k (Inside false) true d d1 a a' → RestTo (naming_catch (catch_name x) k) (Inside false) true d1 d2 b b' → StmtTo k w d d2 (TryCatch x a b) (TryCatch x a' b')
     in_expression : {k : Context} {w d d' : Bool} {e e' : Expr} → ExprTo k d d' e e' → StmtTo k w d d' (ExprStmt e) (ExprStmt e')
     in_call_statement : {k : Context} {w d d' : Bool} {c : Callee} {es es' : Exprs} → ExprsTo k d d' es es' → StmtTo k w d d' (FnCallStmt c es) (FnCallStmt c es')
-    in_break : {k : Context} {w d d' breaks : Bool} {m m' : MaybeExpr} → MaybeTo k d d' m m' → StmtTo k w d d' (BreakLoop breaks m) (BreakLoop breaks m')
-    in_return : {k : Context} {w d d' throws : Bool} {m m' : MaybeExpr} → MaybeTo k d d' m m' → StmtTo k w d d' (Return throws m) (Return throws m')
+    in_break : {k : Context} {w d d' breaks exported : Bool} {m m' : MaybeExpr} → MaybeTo k d d' m m' → StmtTo k w d d' (BreakLoop breaks exported m) (BreakLoop breaks exported m')
+    in_return : {k : Context} {w d d' throws exported : Bool} {m m' : MaybeExpr} → MaybeTo k d d' m m' → StmtTo k w d d' (Return throws exported m) (Return throws exported m')
     in_import : {k : Context} {w d d' : Bool} {x : Text} {e e' : Expr} → ExprTo k d d' e e' → StmtTo k w d d' (Import e x) (Import e' x)
 
   -- a list; the first test is whether what stands before it is surely unit, or nothing

@@ -165,9 +165,9 @@ pub data ListRule (k : Context) : ListKind → Bool → Stmts → Stmts → Type
   -- inside a declaration does too, where nothing that follows reads a name
   pure_inside_goes : {b u : Bool} {s : Stmt} {ss : Stmts} → wanted_before b ss ≡ false → is_internally_pure s ≡ true → are_internally_pure ss ≡ true → ListRule k (Inside b) u (stmt s ss) ss
   -- a last `return e` of a script or a function is `e`; a last `return;` goes behind unit, and else does nothing
-  last_return : {u : Bool} {e : Expr} → ListRule k Whole u (stmt (Return false (an_expr e)) no_stmts) (stmt (ExprStmt e) no_stmts)
-  last_return_goes : ListRule k Whole true (stmt (Return false no_expr) no_stmts) no_stmts
-  last_return_noop : {u : Bool} → ListRule k Whole u (stmt (Return false no_expr) no_stmts) (stmt Noop no_stmts)
+  last_return : {u exported : Bool} {e : Expr} → ListRule k Whole u (stmt (Return false exported (an_expr e)) no_stmts) (stmt (ExprStmt e) no_stmts)
+  last_return_goes : {exported : Bool} → ListRule k Whole true (stmt (Return false exported no_expr) no_stmts) no_stmts
+  last_return_noop : {u exported : Bool} → ListRule k Whole u (stmt (Return false exported no_expr) no_stmts) (stmt Noop no_stmts)
   -- a last statement that is pure and surely unit goes behind unit, and else does nothing
   last_unit_goes : {m : ListKind} {s : Stmt} → is_pure_in m s ≡ true → is_surely_unit s ≡ true → ListRule k m true (stmt s no_stmts) no_stmts
   last_unit_noop : {m : ListKind} {u : Bool} {s : Stmt} → is_pure_in m s ≡ true → is_surely_unit s ≡ true → is_noop s ≡ false → ListRule k m u (stmt s no_stmts) (stmt Noop no_stmts)

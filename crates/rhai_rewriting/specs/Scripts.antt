@@ -5,7 +5,7 @@ use Rattle.rhai_meaning.specs.Act.{ScopeEntry, Root}
 use Rattle.rhai_meaning.specs.Desugar.{root_of, ends_in_call}
 use Rattle.rhai_meaning.specs.Engine.{Engine, Binding}
 use Rattle.rhai_meaning.specs.Plain.{all_true}
-use Rattle.rhai_meaning.specs.Shape.{is_rest}
+use Rattle.rhai_meaning.specs.Shape.{is_chain}
 use Rattle.rhai_meaning.specs.Tree.{Expr, Variable, ThisPtr, FnCall, Dot, Index, Assignment, FnCallStmt, Function, Script}
 use Rattle.rhai_meaning.specs.Walk.{Node, OfExpr, OfStmt, over_script}
 use Rattle.rhai_rewriting.specs.Context.{Context, Whole}
@@ -56,8 +56,8 @@ has_root (Some r) = true
 abbrev pub is_place : Expr → Bool
 is_place (Variable [] x) = true
 is_place ThisPtr = true
-is_place (Dot f l r) = is_rest true f.breaks r && (has_root (root_of l) && not (ends_in_call true f.breaks r))
-is_place (Index f l r) = is_rest false f.breaks r && (has_root (root_of l) && not (ends_in_call false f.breaks r))
+is_place (Dot f l r) = is_chain true f r && (has_root (root_of l) && not (ends_in_call true f.breaks r))
+is_place (Index f l r) = is_chain false f r && (has_root (root_of l) && not (ends_in_call false f.breaks r))
 is_place _ = false
 
 abbrev pub assigns_to_place : Node → Bool

@@ -6,7 +6,7 @@ use Rattle.rhai_meaning.specs.Walk.{Node, OfStmt, over_stmts}
 
 -- no `break` with an expression
 abbrev pub carries_nothing : Node → Bool
-carries_nothing (OfStmt (BreakLoop true (an_expr e))) = false
+carries_nothing (OfStmt (BreakLoop true exported (an_expr e))) = false
 carries_nothing n = true
 
 -- at any depth
@@ -19,6 +19,6 @@ is_surely_unit (Var constant exported x e) = true
 is_surely_unit (Assignment op l e) = true
 is_surely_unit (TryCatch x a b) = true
 is_surely_unit (While e b) = breaks_carry_nothing b
-is_surely_unit (Do negated e b) = breaks_carry_nothing b
+is_surely_unit (Do negated exported e b) = breaks_carry_nothing b
 is_surely_unit (For x i e b) = breaks_carry_nothing b
 is_surely_unit _ = false

@@ -28,10 +28,10 @@ abbrev x : Expr
 x = Variable [] (codes "x")
 
 abbrev goes_on : ChainFlags
-goes_on = record { negated = false; breaks = false }
+goes_on = record { negated = false; breaks = false; exported = false }
 
 abbrev ends : ChainFlags
-ends = record { negated = false; breaks = true }
+ends = record { negated = false; breaks = true; exported = false }
 
 abbrev f : Callee
 f = record { namespace = []; name = codes "f"; captures = false; token = NoToken }
@@ -101,7 +101,7 @@ while_row = in_while (guard unbraced refl) (in_head (in_expression unbraced))
 no_new_loop : GuardTo k false true (BlockExpr no_stmts) Expr.UnitConstant → ⊥
 no_new_loop (guard p h) = absurd cc
 
-do_row : StmtTo k true false true (Do true braced no_stmts) (Do true (int 3) no_stmts)
+do_row : StmtTo k true false true (Do true false braced no_stmts) (Do true false (int 3) no_stmts)
 do_row = in_do unbraced same_stmts
 
 try_row : StmtTo k true false true (TryCatch x (stmts (ExprStmt braced ∷ [])) (stmts (ExprStmt braced ∷ []))) (TryCatch x (stmts (ExprStmt (int 3) ∷ [])) (stmts (ExprStmt (int 3) ∷ [])))
@@ -120,10 +120,10 @@ is_still_place = refl
 is_no_place : is_place (Dot ends x (MethodCall f no_exprs)) ≡ false
 is_no_place = refl
 
-break_row : StmtTo k true false true (BreakLoop true (an_expr braced)) (BreakLoop true (an_expr (int 3)))
+break_row : StmtTo k true false true (BreakLoop true false (an_expr braced)) (BreakLoop true false (an_expr (int 3)))
 break_row = in_break (maybe_some unbraced)
 
-return_row : StmtTo k true false true (Return true (an_expr braced)) (Return true (an_expr (int 3)))
+return_row : StmtTo k true false true (Return true false (an_expr braced)) (Return true false (an_expr (int 3)))
 return_row = in_return (maybe_some unbraced)
 
 -- f({ 3 }) as a statement, import { 3 } as a

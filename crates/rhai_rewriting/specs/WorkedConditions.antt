@@ -130,7 +130,7 @@ unfolding ran
 unit_guard = (refl, refl)
 
 -- the body of a `try` that goes is pure: try { throw 1 } catch { f() }, and nothing
-throwing_body : Differ (TryCatch UnitConstant (stmts (Return true (an_expr (int 1)) ∷ [])) (stmts (f ∷ [])) ∷ []) (ends (WithValue UnitV) asks_f) (Noop ∷ []) (ends (WithValue UnitV) [])
+throwing_body : Differ (TryCatch UnitConstant (stmts (Return true false (an_expr (int 1)) ∷ [])) (stmts (f ∷ [])) ∷ []) (ends (WithValue UnitV) asks_f) (Noop ∷ []) (ends (WithValue UnitV) [])
 unfolding ran
 throwing_body = (refl, refl)
 

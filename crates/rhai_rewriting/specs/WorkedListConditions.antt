@@ -31,7 +31,7 @@ variable_stays = (refl, refl)
 
 -- the name of a loop isn't the constant around it: const x = 1; for x in [2] { return x }, and return 1
 abbrev for_x : Expr → Stmt
-for_x e = For (codes "x") None (DynamicConstant (ArrayV (values (i 2 ∷ [])))) (stmts (Return false (an_expr e) ∷ []))
+for_x e = For (codes "x") None (DynamicConstant (ArrayV (values (i 2 ∷ [])))) (stmts (Return false false (an_expr e) ∷ []))
 
 loop_name_stays : (ran_with nothing_set joining [] 1 (const "x" (int 1) ∷ for_x (var "x") ∷ []) ≡ ends_with (WithValue (i 2)) (constant "x" (i 1) ∷ []) []) × (ran_with nothing_set joining [] 1 (const "x" (int 1) ∷ for_x (int 1) ∷ []) ≡ ends_with (WithValue (i 1)) (constant "x" (i 1) ∷ []) [])
 unfolding ran_with
@@ -39,7 +39,7 @@ loop_name_stays = (refl, refl)
 
 -- nor is its counter's: const x = 1; for y, x in [2] { return x }, and return 1
 abbrev counted_by_x : Expr → Stmt
-counted_by_x e = For (codes "y") (Some (codes "x")) (DynamicConstant (ArrayV (values (i 2 ∷ [])))) (stmts (Return false (an_expr e) ∷ []))
+counted_by_x e = For (codes "y") (Some (codes "x")) (DynamicConstant (ArrayV (values (i 2 ∷ [])))) (stmts (Return false false (an_expr e) ∷ []))
 
 counter_name_stays : (ran_with nothing_set joining [] 1 (const "x" (int 1) ∷ counted_by_x (var "x") ∷ []) ≡ ends_with (WithValue (i 0)) (constant "x" (i 1) ∷ []) []) × (ran_with nothing_set joining [] 1 (const "x" (int 1) ∷ counted_by_x (int 1) ∷ []) ≡ ends_with (WithValue (i 1)) (constant "x" (i 1) ∷ []) [])
 unfolding ran_with
@@ -72,7 +72,7 @@ pointer_name = (refl, refl)
 -- ---- lists
 
 -- a statement that may not leave keeps what follows: if false { return 1; } 2
-may_go_on : Differ (If (BoolConstant false) (stmts (Return false (an_expr (int 1)) ∷ [])) (stmts []) ∷ show (int 2) ∷ []) (ends (WithValue (i 2)) []) (If (BoolConstant false) (stmts (Return false (an_expr (int 1)) ∷ [])) (stmts []) ∷ []) (ends (WithValue UnitV) [])
+may_go_on : Differ (If (BoolConstant false) (stmts (Return false false (an_expr (int 1)) ∷ [])) (stmts []) ∷ show (int 2) ∷ []) (ends (WithValue (i 2)) []) (If (BoolConstant false) (stmts (Return false false (an_expr (int 1)) ∷ [])) (stmts []) ∷ []) (ends (WithValue UnitV) [])
 unfolding ran
 may_go_on = (refl, refl)
 
@@ -97,18 +97,18 @@ unfolding ran
 read_inside = (refl, refl)
 
 -- a `return` inside leaves more than its block: { return 1; } 2
-return_inside : Differ (Block (stmts (Return false (an_expr (int 1)) ∷ [])) ∷ show (int 2) ∷ []) (ends (WithValue (i 1)) []) (Block (stmts (show (int 1) ∷ [])) ∷ show (int 2) ∷ []) (ends (WithValue (i 2)) [])
+return_inside : Differ (Block (stmts (Return false false (an_expr (int 1)) ∷ [])) ∷ show (int 2) ∷ []) (ends (WithValue (i 1)) []) (Block (stmts (show (int 1) ∷ [])) ∷ show (int 2) ∷ []) (ends (WithValue (i 2)) [])
 unfolding ran
 return_inside = (refl, refl)
 
 -- a last `return;` goes only behind unit: 1; return;
-return_behind_value : Differ (show (int 1) ∷ Return false no_expr ∷ []) (ends (WithValue UnitV) []) (show (int 1) ∷ []) (ends (WithValue (i 1)) [])
+return_behind_value : Differ (show (int 1) ∷ Return false false no_expr ∷ []) (ends (WithValue UnitV) []) (show (int 1) ∷ []) (ends (WithValue (i 1)) [])
 unfolding ran
 return_behind_value = (refl, refl)
 
 -- and so does what gives unit: a loop that a `break` leaves with a value is not surely unit. for x in [2] { break 5 } noop
 abbrev broken : Stmt
-broken = For (codes "x") None (DynamicConstant (ArrayV (values (i 2 ∷ [])))) (stmts (BreakLoop true (an_expr (int 5)) ∷ []))
+broken = For (codes "x") None (DynamicConstant (ArrayV (values (i 2 ∷ [])))) (stmts (BreakLoop true false (an_expr (int 5)) ∷ []))
 
 unit_behind_value : (ran_with nothing_set joining [] 1 (broken ∷ Noop ∷ []) ≡ ends (WithValue UnitV) []) × (ran_with nothing_set joining [] 1 (broken ∷ []) ≡ ends (WithValue (i 5)) [])
 unfolding ran_with
@@ -116,7 +116,7 @@ unit_behind_value = (refl, refl)
 
 -- nor is it one itself: what follows it must not go as if it were. A `break` in a guard belongs to the loop around:
 -- for x in [2] { while { break 5 } {} } is 5
-guard_breaks_out : ran_with nothing_set joining [] 1 (For (codes "x") None (DynamicConstant (ArrayV (values (i 2 ∷ [])))) (stmts (While (BlockExpr (stmts (BreakLoop true (an_expr (int 5)) ∷ []))) (stmts []) ∷ [])) ∷ []) ≡ ends (WithValue (i 5)) []
+guard_breaks_out : ran_with nothing_set joining [] 1 (For (codes "x") None (DynamicConstant (ArrayV (values (i 2 ∷ [])))) (stmts (While (BlockExpr (stmts (BreakLoop true false (an_expr (int 5)) ∷ []))) (stmts []) ∷ [])) ∷ []) ≡ ends (WithValue (i 5)) []
 unfolding ran_with
 guard_breaks_out = refl
 

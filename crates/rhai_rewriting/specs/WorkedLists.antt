@@ -110,7 +110,7 @@ share_nothing_runs = (refl, refl)
 -- ---- lists
 
 -- f(); return 1; f(); 2
-after_leave_row : Row (f ∷ Return false (an_expr (int 1)) ∷ f ∷ show (int 2) ∷ []) (f ∷ Return false (an_expr (int 1)) ∷ []) (ends (WithValue (i 1)) asks_f)
+after_leave_row : Row (f ∷ Return false false (an_expr (int 1)) ∷ f ∷ show (int 2) ∷ []) (f ∷ Return false false (an_expr (int 1)) ∷ []) (ends (WithValue (i 1)) asks_f)
 unfolding ran
 after_leave_row = (in_tail (by_list_rule (after_leave refl)), refl, refl)
 
@@ -137,22 +137,22 @@ pure_inside_goes_row = (in_head (in_block (in_tail (then_stmts (by_list_rule (pu
 unwanted_tail_row : RestTo (under nothing_set) (Inside false) true false true (stmts (f ∷ show (int 3) ∷ [])) (stmts (f ∷ []))
 unwanted_tail_row = in_tail (by_list_rule (pure_goes refl refl))
 
-unwanted_tail_runs : (ran nothing_set joining (Do true t (stmts []) ∷ TryCatch UnitConstant (stmts (f ∷ show (int 3) ∷ [])) (stmts []) ∷ []) ≡ ran nothing_set joining (Do true t (stmts []) ∷ TryCatch UnitConstant (stmts (f ∷ [])) (stmts []) ∷ []))
+unwanted_tail_runs : (ran nothing_set joining (Do true false t (stmts []) ∷ TryCatch UnitConstant (stmts (f ∷ show (int 3) ∷ [])) (stmts []) ∷ []) ≡ ran nothing_set joining (Do true false t (stmts []) ∷ TryCatch UnitConstant (stmts (f ∷ [])) (stmts []) ∷ []))
 unfolding ran
 unwanted_tail_runs = refl
 
 -- f(); return 42;
-last_return_row : Row (f ∷ Return false (an_expr (int 42)) ∷ []) (f ∷ show (int 42) ∷ []) (ends (WithValue (i 42)) asks_f)
+last_return_row : Row (f ∷ Return false false (an_expr (int 42)) ∷ []) (f ∷ show (int 42) ∷ []) (ends (WithValue (i 42)) asks_f)
 unfolding ran
 last_return_row = (in_tail (by_list_rule last_return), refl, refl)
 
 -- let x = 1; return;
-last_return_goes_row : Row (let' "x" (int 1) ∷ Return false no_expr ∷ []) (let' "x" (int 1) ∷ []) (ends_with (WithValue UnitV) (variable "x" (i 1) ∷ []) [])
+last_return_goes_row : Row (let' "x" (int 1) ∷ Return false false no_expr ∷ []) (let' "x" (int 1) ∷ []) (ends_with (WithValue UnitV) (variable "x" (i 1) ∷ []) [])
 unfolding ran
 last_return_goes_row = (in_tail (by_list_rule last_return_goes), refl, refl)
 
 -- f(); return;
-last_return_noop_row : Row (f ∷ Return false no_expr ∷ []) (f ∷ Noop ∷ []) (ends (WithValue UnitV) asks_f)
+last_return_noop_row : Row (f ∷ Return false false no_expr ∷ []) (f ∷ Noop ∷ []) (ends (WithValue UnitV) asks_f)
 unfolding ran
 last_return_noop_row = (in_tail (by_list_rule last_return_noop), refl, refl)
 

@@ -36,17 +36,17 @@ text x = StringConstant (codes x)
 
 -- `.` and `?.`
 abbrev pub dot : ChainFlags
-dot = record { negated = false; breaks = false }
+dot = record { negated = false; breaks = false; exported = false }
 
 abbrev pub safe : ChainFlags
-safe = record { negated = true; breaks = false }
+safe = record { negated = true; breaks = false; exported = false }
 
 -- the last index, `[` and `?[`
 abbrev pub index : ChainFlags
-index = record { negated = false; breaks = true }
+index = record { negated = false; breaks = true; exported = false }
 
 abbrev pub safe_index : ChainFlags
-safe_index = record { negated = true; breaks = true }
+safe_index = record { negated = true; breaks = true; exported = false }
 
 abbrev pub property : String → Expr
 property x = Property (record { getter = codes "get"; setter = codes "set"; name = codes x })
@@ -245,10 +245,10 @@ unfolding ran
 while_false_row = (in_head (by_stmt_rule (while_false refl)), refl, refl)
 
 -- while true { break }, which takes a turn that is not there
-while_true_row : StmtRule (under nothing_set) true (While t (stmts (BreakLoop true no_expr ∷ []))) (While UnitConstant (stmts (BreakLoop true no_expr ∷ [])))
+while_true_row : StmtRule (under nothing_set) true (While t (stmts (BreakLoop true false no_expr ∷ []))) (While UnitConstant (stmts (BreakLoop true false no_expr ∷ [])))
 while_true_row = while_true refl
 
-while_true_runs : (ran_with nothing_set joining [] 1 (While t (stmts (BreakLoop true no_expr ∷ [])) ∷ []) ≡ ends (WithValue UnitV) []) × (ran_with nothing_set joining [] 1 (While UnitConstant (stmts (BreakLoop true no_expr ∷ [])) ∷ []) ≡ ends (WithValue UnitV) [])
+while_true_runs : (ran_with nothing_set joining [] 1 (While t (stmts (BreakLoop true false no_expr ∷ [])) ∷ []) ≡ ends (WithValue UnitV) []) × (ran_with nothing_set joining [] 1 (While UnitConstant (stmts (BreakLoop true false no_expr ∷ [])) ∷ []) ≡ ends (WithValue UnitV) [])
 unfolding ran_with
 while_true_runs = (refl, refl)
 

@@ -34,10 +34,10 @@ unknown_names = refl
 -- ---- what surely is unit
 
 abbrev breaks : Stmt
-breaks = BreakLoop true no_expr
+breaks = BreakLoop true false no_expr
 
 abbrev breaks_with_value : Stmt
-breaks_with_value = BreakLoop true (an_expr (int 5))
+breaks_with_value = BreakLoop true false (an_expr (int 5))
 
 declaration_is_unit : is_surely_unit (let' "x" (int 1)) ≡ true
 declaration_is_unit = refl
@@ -51,7 +51,7 @@ try_is_unit = refl
 loop_is_unit : is_surely_unit (While UnitConstant (stmts (If (BoolConstant true) (stmts (breaks ∷ [])) (stmts []) ∷ []))) ≡ true
 loop_is_unit = refl
 
-broken_loop_isnt : is_surely_unit (Do true (BoolConstant true) (stmts (breaks_with_value ∷ []))) ≡ false
+broken_loop_isnt : is_surely_unit (Do true false (BoolConstant true) (stmts (breaks_with_value ∷ []))) ≡ false
 broken_loop_isnt = refl
 
 -- in an expression, at any depth

@@ -7,10 +7,10 @@ use Rattle.rhai_rewriting.specs.Reducible.{is_always, follows_deciding, follows_
 use Rattle.rhai_meaning.specs.Walk.{OfExpr, OfStmt, every, over_expr}
 
 abbrev plain : ChainFlags
-plain = record { negated = false; breaks = true }
+plain = record { negated = false; breaks = true; exported = false }
 
 abbrev questioned : ChainFlags
-questioned = record { negated = true; breaks = true }
+questioned = record { negated = true; breaks = true; exported = false }
 
 abbrev property : Expr
 property = Property (record { getter = codes "get$a"; setter = codes "set$a"; name = codes "a" })
@@ -78,10 +78,10 @@ two_arms : is_chosen (DynamicConstant (i 1)) (record one_case { cases = record {
 two_arms = refl
 
 -- break; f()
-after_break : goes_on_after_leaving (stmts (BreakLoop true no_expr ∷ ExprStmt (call "f" []) ∷ [])) ≡ true
+after_break : goes_on_after_leaving (stmts (BreakLoop true false no_expr ∷ ExprStmt (call "f" []) ∷ [])) ≡ true
 after_break = refl
 
-break_last : goes_on_after_leaving (stmts (ExprStmt (call "f" []) ∷ BreakLoop true no_expr ∷ [])) ≡ false
+break_last : goes_on_after_leaving (stmts (ExprStmt (call "f" []) ∷ BreakLoop true false no_expr ∷ [])) ≡ false
 break_last = refl
 
 -- const x = false; if x {}; and with x declared again in between
@@ -102,16 +102,16 @@ last_stays : idles (stmts (ExprStmt (call "f" []) ∷ ExprStmt (int 1) ∷ [])) 
 last_stays = refl
 
 -- return 1, return
-returns : ends_in_return (stmts (Noop ∷ Return false (an_expr (int 1)) ∷ [])) ≡ true
+returns : ends_in_return (stmts (Noop ∷ Return false false (an_expr (int 1)) ∷ [])) ≡ true
 returns = refl
 
-returns_unit : ends_in_return (stmts (Return false no_expr ∷ [])) ≡ false
+returns_unit : ends_in_return (stmts (Return false false no_expr ∷ [])) ≡ false
 returns_unit = refl
 
 -- ---- nodes, and trees at every depth
 
 abbrev goes_on_from : ChainFlags
-goes_on_from = record { negated = false; breaks = false }
+goes_on_from = record { negated = false; breaks = false; exported = false }
 
 abbrev IsIrreducible : Expr → Type 0
 IsIrreducible e = over_expr (every (IsIrreducibleNode nothing_set)) e
@@ -157,10 +157,10 @@ list_reduces : IsIrreducibleList (stmts (ExprStmt (int 1) ∷ ExprStmt x ∷ [])
 list_reduces h = absurd (let e : true ≡ false = h.never_idles in cc)
 
 -- while x { f(); break; }, while x { break; f(); }
-loop_body_stays : IsIrreducibleNode nothing_set (OfStmt (While x (stmts (ask ∷ BreakLoop true no_expr ∷ []))))
+loop_body_stays : IsIrreducibleNode nothing_set (OfStmt (While x (stmts (ask ∷ BreakLoop true false no_expr ∷ []))))
 loop_body_stays = record { alone = refl; lists = record { ends_where_left = refl; tests_no_constant = refl; never_idles = refl }; expressions = (refl, (tt, (tt, tt))) }
 
-loop_body_reduces : IsIrreducibleNode nothing_set (OfStmt (While x (stmts (BreakLoop true no_expr ∷ ask ∷ [])))) → ⊥
+loop_body_reduces : IsIrreducibleNode nothing_set (OfStmt (While x (stmts (BreakLoop true false no_expr ∷ ask ∷ [])))) → ⊥
 loop_body_reduces h = absurd (let e : true ≡ false = h.lists.ends_where_left in cc)
 
 -- ---- bodies and scripts
@@ -173,7 +173,7 @@ body_stays = record {
   nodes = ((record { alone = tt; lists = tt; expressions = refl }, (record { alone = refl; lists = tt; expressions = tt }, tt)), tt);
 }
 
-body_reduces : IsIrreducibleBody nothing_set (stmts (ask ∷ Return false (an_expr (int 1)) ∷ [])) → ⊥
+body_reduces : IsIrreducibleBody nothing_set (stmts (ask ∷ Return false false (an_expr (int 1)) ∷ [])) → ⊥
 body_reduces h = absurd (let e : true ≡ false = h.returns_nothing in cc)
 
 -- a script of these statements and one function of that body
@@ -184,8 +184,8 @@ script ss body = record { statements = ss; functions = record { name = codes "g"
 script_stays : IsIrreducibleScript nothing_set (script (stmts (ask ∷ [])) (stmts (ask ∷ [])))
 script_stays = record { statements = body_stays; functions = (body_stays, tt) }
 
-function_body_reduces : IsIrreducibleScript nothing_set (script (stmts (ask ∷ [])) (stmts (ask ∷ Return false (an_expr (int 1)) ∷ []))) → ⊥
+function_body_reduces : IsIrreducibleScript nothing_set (script (stmts (ask ∷ [])) (stmts (ask ∷ Return false false (an_expr (int 1)) ∷ []))) → ⊥
 function_body_reduces h = body_reduces h.functions.0
 
-script_reduces : IsIrreducibleScript nothing_set (script (stmts (ask ∷ Return false (an_expr (int 1)) ∷ [])) (stmts (ask ∷ []))) → ⊥
+script_reduces : IsIrreducibleScript nothing_set (script (stmts (ask ∷ Return false false (an_expr (int 1)) ∷ [])) (stmts (ask ∷ []))) → ⊥
 script_reduces h = body_reduces h.statements

@@ -32,7 +32,7 @@ loop_name = (refl, refl)
 
 -- const x = 1; try { throw 2 } catch (x) { f(x) }
 abbrev catching : Expr → List Stmt
-catching e = const_x ∷ TryCatch x (stmts (Return true (an_expr (int 2)) ∷ [])) (stmts (f e ∷ [])) ∷ []
+catching e = const_x ∷ TryCatch x (stmts (Return true false (an_expr (int 2)) ∷ [])) (stmts (f e ∷ [])) ∷ []
 
 catch_name : (calls [] 0 (catching x) ≡ f_of 2) × (calls [] 0 (catching (int 1)) ≡ f_of 1)
 unfolding ran_with
@@ -62,7 +62,7 @@ abbrev renewing : Host
 renewing = record { answer = λ past c. Answers UnitV (Some (i 2)); module_value = λ y. None }
 
 abbrev based : Expr → List Stmt
-based e = Var false false (codes "x") (int 1) ∷ ExprStmt (Dot (record { negated = false; breaks = true }) e (MethodCall (record { namespace = []; name = codes "m"; captures = false; token = NoToken }) (exprs []))) ∷ f x ∷ []
+based e = Var false false (codes "x") (int 1) ∷ ExprStmt (Dot (record { negated = false; breaks = true; exported = false }) e (MethodCall (record { namespace = []; name = codes "m"; captures = false; token = NoToken }) (exprs []))) ∷ f x ∷ []
 
 abbrev m : HostCall
 m = record { name = codes "m"; receiver = Some (i 1); arguments = [] }

@@ -1,7 +1,7 @@
 -- What a filter chooses of a list, item by item; tables of functions that were chosen.
-use Rattle.std.proofs.Common.{◌≡◌, suc, Bool, true, false, List, [], ◌∷◌, ◌++◌, map, refl, sym, ap, subst, ◌∙◌, append_assoc}
+use Rattle.std.proofs.Common.{◌≡◌, suc, Result, Ok, Err, IfOk, Bool, true, false, List, [], ◌∷◌, ◌++◌, map, refl, sym, ap, subst, ◌∙◌, append_assoc}
 use Rattle.std.proofs.lemmas.List.{append-nil}
-use Rattle.std.specs.List.Retain.{IsFiltered}
+use Rattle.std.specs.List.Retain.{IsFiltered, ReturnsInTurn}
 use Rattle.rhai_reading.specs.Reading.{function_of}
 use Rattle.rhai_tree.specs.declared.script_fn.ScriptFuncDef.{ScriptFuncDef}
 use Rattle.rhai_functions.specs.FnKey.{definition_key, definitions_table}
@@ -50,3 +50,19 @@ module _ {X P : Type 0} (R : P → X → Bool → P → Type 0) (p : P) where
   chooses-end all left before old e =
       subst (λ l. IsFiltered R p all l) (append-nil before)
       (old.whole [] (subst (λ l. IsFiltered R p l []) (sym e) ([], p, refl, refl, refl)))
+
+-- what a test chooses, another does that may answer the same
+module _ {X P Q : Type 0} (R : P → X → Bool → P → Type 0) (S : Q → X → Bool → Q → Type 0) (p : P) (q : Q) (h : (x : X) (b : Bool) (r : P) → R p x b r → (r ≡ p) × S q x b q) where
+  answers-alike : (bs : List Bool) (xs : List X) (end r : P) → r ≡ p → ReturnsInTurn R r bs xs end → ReturnsInTurn S q bs xs q
+  answers-alike [] xs end r e t = refl
+  answers-alike (b ∷ bs) [] end r e t = elim t [ ]
+  answers-alike (b ∷ bs) (x ∷ xs) end r e t =
+      let own = h x b t.0 (subst (λ s. R s x b t.0) e t.1) in
+      (q, own.1, answers-alike bs xs end t.0 own.0 t.2)
+
+  pub chosen-alike : (xs ys : List X) → IsFiltered R p xs ys → IsFiltered S q xs ys
+  chosen-alike xs ys f = (f.0, q, f.2, answers-alike f.0 xs f.1 p refl f.3, f.4)
+
+pub ok_alike : {T E : Type 0} (r : Result T E) (P Q : T → Type 0) → ((t : T) → P t → Q t) → IfOk r P → IfOk r Q
+ok_alike (Ok t) P Q f x = f t x
+ok_alike (Err e) P Q f x = tt

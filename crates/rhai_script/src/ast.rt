@@ -8,9 +8,9 @@ ghost use Rattle.rhai_tree.specs.declared.script_fn.ScriptFuncDef.{ScriptFuncDef
 ghost use Rattle.rhai_script.specs.Contents.{contents, with_source, without_source, with_doc, with_table, with_functions, without_statements, merged, combined};
 ghost use Rattle.rhai_script.specs.Filter.{Answers, AnswersShort};
 
-use crate::filter::{FnNamespace, all, chosen, kept};
+use crate::filter::{all, chosen, kept};
 use crate::text::Doc;
-use rhai_ast::{FnAccess, ScriptFuncDef, Stmt};
+use rhai_ast::{FnAccess, FnNamespace, ScriptFuncDef, Stmt};
 use rhai_base::{ImmutableString, OutOfMemory, Seq};
 use rhai_functions::{
     FnLib, SharedLib, allocator_of, copy_of_id, name_of, replaced, take_id, with_all, without_id,
@@ -47,13 +47,12 @@ impl Clone for AST {
 }
 
 /// The statements of both.
-fn joined(first: &Seq<Stmt>, second: &Seq<Stmt>) -> Result<Seq<Stmt>, OutOfMemory>
+fn joined(alloc: Global, first: &Seq<Stmt>, second: &Seq<Stmt>) -> Result<Seq<Stmt>, OutOfMemory>
     ensures { IfOk result (λ s. s ≡ first.now ++ second.now) }
 {
-    let mut all = first.clone()?.into_vec();
-    let mut more = second.clone()?.into_vec();
-    all.append(&mut more)?;
-    Ok(Seq::from_vec(all))
+    let mut all = first.clone()?;
+    append(alloc, &mut all, second.clone()?)?;
+    Ok(all)
 }
 
 /// Moves statements to the end.
@@ -244,7 +243,7 @@ impl AST {
         let alloc = allocator_of(&self.lib);
         let source = other.source.clone()?;
         let doc = self.doc.joined(alloc, &other.doc)?;
-        let statements = joined(&self.statements, &other.statements)?;
+        let statements = joined(alloc, &self.statements, &other.statements)?;
         let lib = Rc::new(alloc, with_all(&self.lib, &other.source, functions)?)?;
         Ok(AST {
             source,

@@ -5,19 +5,10 @@ ghost use Rattle.std.specs.Rc.{rc_value};
 ghost use Rattle.rhai_functions.specs.FnKey.{definitions_table};
 ghost use Rattle.rhai_script.specs.Filter.{Answers, AnswersShort};
 
-use rhai_ast::{FnAccess, ScriptFuncDef};
+use rhai_ast::{FnAccess, FnNamespace, ScriptFuncDef};
 use rhai_base::OutOfMemory;
 use rhai_functions::{FnLib, allocator_of};
 use std::rc::Rc;
-
-/// Where a function stands.
-#[derive(Clone, Copy, Debug, PartialEq, Eq)]
-pub enum FnNamespace {
-    /// In the script or module alone. The functions of a script do.
-    Internal,
-    /// Where everyone sees it.
-    Global,
-}
 
 /// What a filter answers of a function of a script.
 pub fn asks<F: Fn(FnNamespace, FnAccess, bool, &str, usize) -> bool>(
@@ -30,19 +21,6 @@ pub fn asks<F: Fn(FnNamespace, FnAccess, bool, &str, usize) -> bool>(
     let name = function.name.as_str();
     let params = function.params.len();
     filter(FnNamespace::Internal, function.access, true, name, params)
-}
-
-/// The same, of a filter that is not told that the function is of a script.
-pub fn asks_short<F: Fn(FnNamespace, FnAccess, &str, usize) -> bool>(
-    filter: &F,
-    function: &ScriptFuncDef,
-) -> bool
-    requires { F.IsAlwaysCallable filter.now }
-    ensures { AnswersShort F.Fn filter.now function.now result filter.now }
-{
-    let name = function.name.as_str();
-    let params = function.params.len();
-    filter(FnNamespace::Internal, function.access, name, params)
 }
 
 /// All functions of a table, in its order.
@@ -83,11 +61,10 @@ pub fn kept<F: Fn(FnNamespace, FnAccess, &str, usize) -> bool>(
     ensures filtered { IfOk result (λ kept. IsFiltered (AnswersShort F.Fn) filter.now lib.now.functions (map rc_value kept.items)) }
     ensures table { IfOk result (λ kept. definitions_table (map rc_value kept.items) ≡ map rc_value kept.items) }
 {
-    let mut kept = Vec::new(allocator_of(lib));
-    for function in lib.iter() {
-        if asks_short(filter, function) {
-            kept.push(function.clone()?)?;
-        }
-    }
-    Ok(kept)
+    chosen(
+        lib,
+        &|namespace: FnNamespace, access: FnAccess, _: bool, name: &str, params: usize| {
+            filter(namespace, access, name, params)
+        },
+    )
 }

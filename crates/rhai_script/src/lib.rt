@@ -6,5 +6,4 @@ mod filter;
 mod text;
 
 pub use ast::AST;
-pub use filter::FnNamespace;
 pub use rhai_functions::{FnKey, FnLib, FnLibIter, SharedLib};

@@ -59,13 +59,13 @@ character_of_two_bytes : ran (ExprStmt (at (StringConstant (97 ∷ 195 ∷ 169 �
 unfolding ran
 character_of_two_bytes = refl
 
-element_of_an_entry : ran (let' "m" (map_one "a" (array (int 1 ∷ []))) ∷ Assignment (Some Plus) (Dot (record { negated = false; breaks = false }) (var "m") (Index (record { negated = false; breaks = true }) (prop "a") (int 0))) (int 4) ∷ []) 0
+element_of_an_entry : ran (let' "m" (map_one "a" (array (int 1 ∷ []))) ∷ Assignment (Some Plus) (Dot (record { negated = false; breaks = false; exported = false }) (var "m") (Index (record { negated = false; breaks = true; exported = false }) (prop "a") (int 0))) (int 4) ∷ []) 0
     ≡ report (gives UnitV) (var_is "m" (MapV (field (codes "a") (ArrayV (values (i 5 ∷ []))) no_fields)) ∷ []) [] 0
 unfolding ran
 element_of_an_entry = refl
 
 -- m?.b?.c over a missing b: unit, without a call
-optional_steps : ran (let' "m" (map_one "a" (int 1)) ∷ ExprStmt (Dot (record { negated = true; breaks = false }) (var "m") (Dot (record { negated = true; breaks = false }) (prop "b") (prop "c"))) ∷ []) 0
+optional_steps : ran (let' "m" (map_one "a" (int 1)) ∷ ExprStmt (Dot (record { negated = true; breaks = false; exported = false }) (var "m") (Dot (record { negated = true; breaks = false; exported = false }) (prop "b") (prop "c"))) ∷ []) 0
     ≡ report (gives UnitV) (var_is "m" (MapV (field (codes "a") (i 1) no_fields)) ∷ []) [] 0
 unfolding ran
 optional_steps = refl
@@ -78,7 +78,7 @@ bounds_before_constants : ran (const' "a" (array []) ∷ Assignment None (at (va
 unfolding ran
 bounds_before_constants = refl
 
-break_outside_a_loop : ran (BreakLoop true (an_expr (fn "f" [])) ∷ []) 0 ≡ report (WithStuck WrongKind) [] [] 0
+break_outside_a_loop : ran (BreakLoop true false (an_expr (fn "f" [])) ∷ []) 0 ≡ report (WithStuck WrongKind) [] [] 0
 unfolding ran
 break_outside_a_loop = refl
 
@@ -89,14 +89,14 @@ this_unbound = refl
 -- ---- loops: the guard of a `do` belongs to the loop around
 
 abbrev guard_breaks : Stmt
-guard_breaks = While UnitConstant (stmts (Do false (BlockExpr (stmts (BreakLoop true (an_expr (int 5)) ∷ ExprStmt (BoolConstant true) ∷ []))) no_stmts ∷ []))
+guard_breaks = While UnitConstant (stmts (Do false false (BlockExpr (stmts (BreakLoop true false (an_expr (int 5)) ∷ ExprStmt (BoolConstant true) ∷ []))) no_stmts ∷ []))
 
 guard_breaks_the_loop_around : ran (guard_breaks ∷ []) 3 ≡ report (gives (i 5)) [] [] 1
 unfolding ran
 guard_breaks_the_loop_around = refl
 
 abbrev guard_continues : Stmt
-guard_continues = While UnitConstant (stmts (Do false (BlockExpr (stmts (BreakLoop false no_expr ∷ ExprStmt (BoolConstant true) ∷ []))) no_stmts ∷ ExprStmt (fn "f" []) ∷ []))
+guard_continues = While UnitConstant (stmts (Do false false (BlockExpr (stmts (BreakLoop false false no_expr ∷ ExprStmt (BoolConstant true) ∷ []))) no_stmts ∷ ExprStmt (fn "f" []) ∷ []))
 
 guard_continues_the_loop_around : ran (guard_continues ∷ []) 4 ≡ report WithoutTurns [] [] 0
 unfolding ran

@@ -88,7 +88,7 @@ unfolding ran
 iterable_is_evaluated_once = refl
 
 -- try { throw 1 } catch x { x = 2; throw }
-branch_that_throws_unit : ran (engine [] [] [] false) (host (named (codes "f") [] ∷ named (codes "g") [] ∷ []) (Answers (IntV (pos 3)) (Some (IntV (pos 4))) ∷ []) []) [] ((TryCatch (Variable [] (codes "x")) (stmts ((Return true (an_expr (IntegerConstant (pos 1)))) ∷ [])) (stmts ((Assignment None (Variable [] (codes "x")) (IntegerConstant (pos 2))) ∷ (Return true no_expr) ∷ []))) ∷ []) AtStatements [] 3 ≡ ends (WithThrown (IntV (pos 1))) [] None [] 3
+branch_that_throws_unit : ran (engine [] [] [] false) (host (named (codes "f") [] ∷ named (codes "g") [] ∷ []) (Answers (IntV (pos 3)) (Some (IntV (pos 4))) ∷ []) []) [] ((TryCatch (Variable [] (codes "x")) (stmts ((Return true false (an_expr (IntegerConstant (pos 1)))) ∷ [])) (stmts ((Assignment None (Variable [] (codes "x")) (IntegerConstant (pos 2))) ∷ (Return true false no_expr) ∷ []))) ∷ []) AtStatements [] 3 ≡ ends (WithThrown (IntV (pos 1))) [] None [] 3
 unfolding ran
 branch_that_throws_unit = refl
 
@@ -150,23 +150,23 @@ unfolding ran
 try_gives_unit = refl
 
 -- do { continue } while ()
-continue_in_a_do_with_unit_guard : ran (engine [] [] [] false) (host (named (codes "f") [] ∷ named (codes "g") [] ∷ []) (Answers (IntV (pos 3)) (Some (IntV (pos 4))) ∷ []) []) [] ((Do false UnitConstant (stmts ((BreakLoop false no_expr) ∷ []))) ∷ []) AtStatements [] 3 ≡ ends (WithStuck WrongKind) [] None [] 2
+continue_in_a_do_with_unit_guard : ran (engine [] [] [] false) (host (named (codes "f") [] ∷ named (codes "g") [] ∷ []) (Answers (IntV (pos 3)) (Some (IntV (pos 4))) ∷ []) []) [] ((Do false false UnitConstant (stmts ((BreakLoop false false no_expr) ∷ []))) ∷ []) AtStatements [] 3 ≡ ends (WithStuck WrongKind) [] None [] 2
 unfolding ran
 continue_in_a_do_with_unit_guard = refl
 
 -- while { return 5; true } {}
-return_in_a_guard : ran (engine [] [] [] false) (host (named (codes "f") [] ∷ named (codes "g") [] ∷ []) (Answers (IntV (pos 3)) (Some (IntV (pos 4))) ∷ []) []) [] ((While (BlockExpr (stmts ((Return false (an_expr (IntegerConstant (pos 5)))) ∷ (ExprStmt (BoolConstant true)) ∷ []))) (stmts [])) ∷ []) AtStatements [] 3 ≡ ends (WithValue (IntV (pos 5))) [] None [] 3
+return_in_a_guard : ran (engine [] [] [] false) (host (named (codes "f") [] ∷ named (codes "g") [] ∷ []) (Answers (IntV (pos 3)) (Some (IntV (pos 4))) ∷ []) []) [] ((While (BlockExpr (stmts ((Return false false (an_expr (IntegerConstant (pos 5)))) ∷ (ExprStmt (BoolConstant true)) ∷ []))) (stmts [])) ∷ []) AtStatements [] 3 ≡ ends (WithValue (IntV (pos 5))) [] None [] 3
 unfolding ran
 return_in_a_guard = refl
 
 -- loop { for x in { break 4; [1] } {} }
-break_in_an_iterable : ran (engine [] [] [] false) (host (named (codes "f") [] ∷ named (codes "g") [] ∷ []) (Answers (IntV (pos 3)) (Some (IntV (pos 4))) ∷ []) []) [] ((While UnitConstant (stmts ((For (codes "x") None (BlockExpr (stmts ((BreakLoop true (an_expr (IntegerConstant (pos 4)))) ∷ (ExprStmt (ArrayOf (exprs ((IntegerConstant (pos 1)) ∷ [])))) ∷ []))) (stmts [])) ∷ []))) ∷ []) AtStatements [] 3 ≡ ends (WithValue (IntV (pos 4))) [] None [] 2
+break_in_an_iterable : ran (engine [] [] [] false) (host (named (codes "f") [] ∷ named (codes "g") [] ∷ []) (Answers (IntV (pos 3)) (Some (IntV (pos 4))) ∷ []) []) [] ((While UnitConstant (stmts ((For (codes "x") None (BlockExpr (stmts ((BreakLoop true false (an_expr (IntegerConstant (pos 4)))) ∷ (ExprStmt (ArrayOf (exprs ((IntegerConstant (pos 1)) ∷ [])))) ∷ []))) (stmts [])) ∷ []))) ∷ []) AtStatements [] 3 ≡ ends (WithValue (IntV (pos 4))) [] None [] 2
 unfolding ran
 break_in_an_iterable = refl
 
 -- g()
 -- fn g() { loop { return 7 } }
-return_from_a_loop_of_a_body : ran (engine [] [] [] false) (host (named (codes "f") [] ∷ named (codes "g") [] ∷ []) (Answers (IntV (pos 3)) (Some (IntV (pos 4))) ∷ []) []) ((function None (codes "g") [] ((While UnitConstant (stmts ((Return false (an_expr (IntegerConstant (pos 7)))) ∷ []))) ∷ [])) ∷ []) ((ExprStmt (FnCall (callee [] (codes "g") false NoToken) (exprs []))) ∷ []) AtStatements [] 3 ≡ ends (WithValue (IntV (pos 7))) [] None [] 1
+return_from_a_loop_of_a_body : ran (engine [] [] [] false) (host (named (codes "f") [] ∷ named (codes "g") [] ∷ []) (Answers (IntV (pos 3)) (Some (IntV (pos 4))) ∷ []) []) ((function None (codes "g") [] ((While UnitConstant (stmts ((Return false false (an_expr (IntegerConstant (pos 7)))) ∷ []))) ∷ [])) ∷ []) ((ExprStmt (FnCall (callee [] (codes "g") false NoToken) (exprs []))) ∷ []) AtStatements [] 3 ≡ ends (WithValue (IntV (pos 7))) [] None [] 1
 unfolding ran
 return_from_a_loop_of_a_body = refl
 
@@ -245,7 +245,7 @@ index_changes_its_array = refl
 -- Dot(x, g())
 -- x
 -- fn g() { this = 5; throw 1 }
-throwing_method_writes_nothing : ran (engine [] [] [] false) (host (named (codes "f") [] ∷ named (codes "g") [] ∷ []) (Answers (IntV (pos 3)) (Some (IntV (pos 4))) ∷ []) []) ((function None (codes "g") [] ((Assignment None ThisPtr (IntegerConstant (pos 5))) ∷ (Return true (an_expr (IntegerConstant (pos 1)))) ∷ [])) ∷ []) ((Var false false (codes "x") (IntegerConstant (pos 1))) ∷ (ExprStmt (Dot (flags false false) (Variable [] (codes "x")) (MethodCall (callee [] (codes "g") false NoToken) (exprs [])))) ∷ (ExprStmt (Variable [] (codes "x"))) ∷ []) AtStatements [] 3 ≡ ends (WithThrown (IntV (pos 1))) (entry (codes "x") false (IntV (pos 1)) ∷ []) None [] 2
+throwing_method_writes_nothing : ran (engine [] [] [] false) (host (named (codes "f") [] ∷ named (codes "g") [] ∷ []) (Answers (IntV (pos 3)) (Some (IntV (pos 4))) ∷ []) []) ((function None (codes "g") [] ((Assignment None ThisPtr (IntegerConstant (pos 5))) ∷ (Return true false (an_expr (IntegerConstant (pos 1)))) ∷ [])) ∷ []) ((Var false false (codes "x") (IntegerConstant (pos 1))) ∷ (ExprStmt (Dot (flags false false) (Variable [] (codes "x")) (MethodCall (callee [] (codes "g") false NoToken) (exprs [])))) ∷ (ExprStmt (Variable [] (codes "x"))) ∷ []) AtStatements [] 3 ≡ ends (WithThrown (IntV (pos 1))) (entry (codes "x") false (IntV (pos 1)) ∷ []) None [] 2
 unfolding ran
 throwing_method_writes_nothing = refl
 
@@ -253,7 +253,7 @@ throwing_method_writes_nothing = refl
 -- try { Dot(x, g()) } catch {}
 -- x
 -- fn g() { this = 5; throw 1 }
-caught_throw_of_a_method_writes_nothing : ran (engine [] [] [] false) (host (named (codes "f") [] ∷ named (codes "g") [] ∷ []) (Answers (IntV (pos 3)) (Some (IntV (pos 4))) ∷ []) []) ((function None (codes "g") [] ((Assignment None ThisPtr (IntegerConstant (pos 5))) ∷ (Return true (an_expr (IntegerConstant (pos 1)))) ∷ [])) ∷ []) ((Var false false (codes "x") (IntegerConstant (pos 1))) ∷ (TryCatch UnitConstant (stmts ((ExprStmt (Dot (flags false false) (Variable [] (codes "x")) (MethodCall (callee [] (codes "g") false NoToken) (exprs [])))) ∷ [])) (stmts [])) ∷ (ExprStmt (Variable [] (codes "x"))) ∷ []) AtStatements [] 3 ≡ ends (WithValue (IntV (pos 1))) (entry (codes "x") false (IntV (pos 1)) ∷ []) None [] 2
+caught_throw_of_a_method_writes_nothing : ran (engine [] [] [] false) (host (named (codes "f") [] ∷ named (codes "g") [] ∷ []) (Answers (IntV (pos 3)) (Some (IntV (pos 4))) ∷ []) []) ((function None (codes "g") [] ((Assignment None ThisPtr (IntegerConstant (pos 5))) ∷ (Return true false (an_expr (IntegerConstant (pos 1)))) ∷ [])) ∷ []) ((Var false false (codes "x") (IntegerConstant (pos 1))) ∷ (TryCatch UnitConstant (stmts ((ExprStmt (Dot (flags false false) (Variable [] (codes "x")) (MethodCall (callee [] (codes "g") false NoToken) (exprs [])))) ∷ [])) (stmts [])) ∷ (ExprStmt (Variable [] (codes "x"))) ∷ []) AtStatements [] 3 ≡ ends (WithValue (IntV (pos 1))) (entry (codes "x") false (IntV (pos 1)) ∷ []) None [] 2
 unfolding ran
 caught_throw_of_a_method_writes_nothing = refl
 
@@ -279,7 +279,7 @@ constant_is_not_assigned_by_operator = refl
 
 -- f!()
 -- fn f() { break }
-break_in_a_body : ran (engine [] [] [] false) (host (named (codes "f") [] ∷ named (codes "g") [] ∷ []) (Answers (IntV (pos 3)) (Some (IntV (pos 4))) ∷ []) []) ((function None (codes "f") [] ((BreakLoop true no_expr) ∷ [])) ∷ []) ((ExprStmt (FnCall (callee [] (codes "f") true NoToken) (exprs []))) ∷ []) AtStatements [] 3 ≡ ends (WithStuck WrongKind) [] None [] 2
+break_in_a_body : ran (engine [] [] [] false) (host (named (codes "f") [] ∷ named (codes "g") [] ∷ []) (Answers (IntV (pos 3)) (Some (IntV (pos 4))) ∷ []) []) ((function None (codes "f") [] ((BreakLoop true false no_expr) ∷ [])) ∷ []) ((ExprStmt (FnCall (callee [] (codes "f") true NoToken) (exprs []))) ∷ []) AtStatements [] 3 ≡ ends (WithStuck WrongKind) [] None [] 2
 unfolding ran
 break_in_a_body = refl
 

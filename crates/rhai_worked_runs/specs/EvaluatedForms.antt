@@ -1,5 +1,5 @@
 -- Short forms for runs that an evaluator of its own computed: scripts, hosts by the number of past calls, reports.
-use Rattle.std.specs.Prelude.{ℕ, zero, suc, Bool, cond, List, [], ◌∷◌, length, Option, None, Some}
+use Rattle.std.specs.Prelude.{ℕ, zero, suc, Bool, false, cond, List, [], ◌∷◌, length, Option, None, Some}
 use Rattle.rhai_values.specs.Value.{Text, Value, UnitV, same_text, text_of}
 use Rattle.rhai_base.specs.Operators.{computed, on_chars}
 use Rattle.rhai_meaning.specs.Act.{ScopeEntry, HostCall, Key, Host, Answer, Answers}
@@ -14,7 +14,7 @@ abbrev pub callee : List Text → Text → Bool → CallToken → Callee
 callee ns f c m = record { namespace = ns; name = f; captures = c; token = m }
 
 abbrev pub flags : Bool → Bool → ChainFlags
-flags n b = record { negated = n; breaks = b }
+flags n b = record { negated = n; breaks = b; exported = false }
 
 abbrev pub property : Text → Text → Text → Expr
 property g s p = Property (record { getter = g; setter = s; name = p })

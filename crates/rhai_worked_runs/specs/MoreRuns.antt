@@ -98,12 +98,12 @@ unfolding ran
 first_script = refl
 
 -- return 42;
-return_at_top : ran (Return false (an_expr (int 42)) ∷ []) 0 ≡ report (gives (i 42)) [] [] 0
+return_at_top : ran (Return false false (an_expr (int 42)) ∷ []) 0 ≡ report (gives (i 42)) [] [] 0
 unfolding ran
 return_at_top = refl
 
 -- if c { return 42; } f()
-return_in_a_block : ran (const' "c" (BoolConstant true) ∷ If (var "c") (stmts (Return false (an_expr (int 42)) ∷ [])) no_stmts ∷ ExprStmt (fn "f" []) ∷ []) 0 ≡ report (gives (i 42)) (const_is "c" (BoolV true) ∷ []) [] 0
+return_in_a_block : ran (const' "c" (BoolConstant true) ∷ If (var "c") (stmts (Return false false (an_expr (int 42)) ∷ [])) no_stmts ∷ ExprStmt (fn "f" []) ∷ []) 0 ≡ report (gives (i 42)) (const_is "c" (BoolV true) ∷ []) [] 0
 unfolding ran
 return_in_a_block = refl
 

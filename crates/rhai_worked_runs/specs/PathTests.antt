@@ -1,5 +1,5 @@
 -- The paths to the nodes of a tree, and its weight, row by row.
-use Rattle.std.specs.Prelude.{◌≡◌, ℕ, true, List, [], ◌∷◌, length, Some, None, pos, codes, refl, nat_lt, if◌then◌else◌}
+use Rattle.std.specs.Prelude.{◌≡◌, ℕ, true, false, List, [], ◌∷◌, length, Some, None, pos, codes, refl, nat_lt, if◌then◌else◌}
 use Rattle.rhai_values.specs.Value.{IntV}
 use Rattle.rhai_base.specs.Operators.{Plus, Multiply}
 use Rattle.rhai_meaning.specs.Paths.{Path, script_paths, stmts_paths, stmt_paths}
@@ -44,9 +44,9 @@ shared_arm_twice = refl
 
 -- loop { break 5 }: the loop, its guard, the `break`, the 5
 abbrev left_loop : Stmt
-left_loop = While UnitConstant (stmts (BreakLoop true (an_expr (int 5)) ∷ []))
+left_loop = While UnitConstant (stmts (BreakLoop true false (an_expr (int 5)) ∷ []))
 
-loop_paths : stmt_paths left_loop ≡ (OfStmt left_loop ∷ []) ∷ (OfStmt left_loop ∷ OfExpr UnitConstant ∷ []) ∷ (OfStmt left_loop ∷ OfStmt (BreakLoop true (an_expr (int 5))) ∷ []) ∷ (OfStmt left_loop ∷ OfStmt (BreakLoop true (an_expr (int 5))) ∷ OfExpr (int 5) ∷ []) ∷ []
+loop_paths : stmt_paths left_loop ≡ (OfStmt left_loop ∷ []) ∷ (OfStmt left_loop ∷ OfExpr UnitConstant ∷ []) ∷ (OfStmt left_loop ∷ OfStmt (BreakLoop true false (an_expr (int 5))) ∷ []) ∷ (OfStmt left_loop ∷ OfStmt (BreakLoop true false (an_expr (int 5))) ∷ OfExpr (int 5) ∷ []) ∷ []
 loop_paths = refl
 
 -- no statements, fn f(x) { x }
@@ -69,7 +69,7 @@ node_weights : expr_weight (fn "f" []) ∷ expr_weight (array (UnitConstant ∷ 
     ≡ 4 ∷ 4 ∷ 4 ∷ 4 ∷ 6 ∷ 15 ∷ 17 ∷ 13 ∷ 5 ∷ 5 ∷ []
 node_weights = refl
 
-statement_weights : stmt_weight Noop ∷ stmt_weight (ExprStmt UnitConstant) ∷ stmt_weight (Block (stmts (Noop ∷ []))) ∷ stmt_weight (If UnitConstant (stmts (Noop ∷ [])) (stmts (Noop ∷ []))) ∷ stmt_weight (While UnitConstant (stmts (Noop ∷ []))) ∷ stmt_weight (Do true UnitConstant (stmts (Noop ∷ []))) ∷ stmt_weight (For (codes "x") (Some (codes "i")) UnitConstant (stmts (Noop ∷ []))) ∷ stmt_weight (let' "x" UnitConstant) ∷ stmt_weight (Assignment (Some Plus) (var "x") UnitConstant) ∷ stmt_weight (FnCallStmt (callee "f") (exprs (UnitConstant ∷ []))) ∷ stmt_weight (TryCatch (var "x") (stmts (Noop ∷ [])) (stmts (Noop ∷ []))) ∷ stmt_weight (BreakLoop true no_expr) ∷ stmt_weight (Return true (an_expr UnitConstant)) ∷ stmt_weight (Import UnitConstant []) ∷ stmt_weight (Export (codes "x") []) ∷ stmt_weight (Share (codes "x" ∷ codes "y" ∷ [])) ∷ []
+statement_weights : stmt_weight Noop ∷ stmt_weight (ExprStmt UnitConstant) ∷ stmt_weight (Block (stmts (Noop ∷ []))) ∷ stmt_weight (If UnitConstant (stmts (Noop ∷ [])) (stmts (Noop ∷ []))) ∷ stmt_weight (While UnitConstant (stmts (Noop ∷ []))) ∷ stmt_weight (Do true false UnitConstant (stmts (Noop ∷ []))) ∷ stmt_weight (For (codes "x") (Some (codes "i")) UnitConstant (stmts (Noop ∷ []))) ∷ stmt_weight (let' "x" UnitConstant) ∷ stmt_weight (Assignment (Some Plus) (var "x") UnitConstant) ∷ stmt_weight (FnCallStmt (callee "f") (exprs (UnitConstant ∷ []))) ∷ stmt_weight (TryCatch (var "x") (stmts (Noop ∷ [])) (stmts (Noop ∷ []))) ∷ stmt_weight (BreakLoop true false no_expr) ∷ stmt_weight (Return true false (an_expr UnitConstant)) ∷ stmt_weight (Import UnitConstant []) ∷ stmt_weight (Export (codes "x") []) ∷ stmt_weight (Share (codes "x" ∷ codes "y" ∷ [])) ∷ []
     ≡ 1 ∷ 2 ∷ 4 ∷ 13 ∷ 5 ∷ 5 ∷ 5 ∷ 4 ∷ 12 ∷ 4 ∷ 5 ∷ 3 ∷ 4 ∷ 4 ∷ 3 ∷ 5 ∷ []
 statement_weights = refl
 

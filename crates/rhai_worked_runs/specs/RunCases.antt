@@ -1,5 +1,5 @@
 -- Runs for single cases of the definitions: places, receivers, left sides, loops and kinds.
-use Rattle.std.specs.Prelude.{◌≡◌, ℕ, true, false, List, [], ◌∷◌, Option, Some, None, codes, refl, map}
+use Rattle.std.specs.Prelude.{◌≡◌, ℕ, true, false, List, [], ◌∷◌, Option, Some, None, codes, refl}
 use Rattle.rhai_values.specs.Value.{UnitV, BoolV, CharV, TextV, ArrayV, values}
 use Rattle.rhai_base.specs.Operators.{Plus, Minus, UpTo, Through}
 use Rattle.rhai_meaning.specs.Calls.{key}
@@ -65,12 +65,12 @@ unfolding ran
 constant_receiver = refl
 
 -- `let x = [[1]]; x[0][{ x = []; 0 }]`
-broken_path : (ran (let' "x" (array (array (int 1 ∷ []) ∷ [])) ∷ ExprStmt (Index (record { negated = false; breaks = false }) (var "x") (at (int 0) (BlockExpr (stmts (Assignment None (var "x") (array []) ∷ ExprStmt (int 0) ∷ []))))) ∷ []) 0).ended ≡ WithStuck NoPlace
+broken_path : (ran (let' "x" (array (array (int 1 ∷ []) ∷ [])) ∷ ExprStmt (Index (record { negated = false; breaks = false; exported = false }) (var "x") (at (int 0) (BlockExpr (stmts (Assignment None (var "x") (array []) ∷ ExprStmt (int 0) ∷ []))))) ∷ []) 0).ended ≡ WithStuck NoPlace
 unfolding ran
 broken_path = refl
 
 -- `let u = (); u?.g(f())`
-optional_before_arguments : ran (let' "u" UnitConstant ∷ ExprStmt (Dot (record { negated = true; breaks = false }) (var "u") (meth "g" (fn "f" [] ∷ []))) ∷ []) 0 ≡ report (gives UnitV) (var_is "u" UnitV ∷ []) [] 0
+optional_before_arguments : ran (let' "u" UnitConstant ∷ ExprStmt (Dot (record { negated = true; breaks = false; exported = false }) (var "u") (meth "g" (fn "f" [] ∷ []))) ∷ []) 0 ≡ report (gives UnitV) (var_is "u" UnitV ∷ []) [] 0
 unfolding ran
 optional_before_arguments = refl
 
@@ -85,17 +85,17 @@ unfolding ran
 setter_writes = refl
 
 -- `for x in [1] { continue f(); }`
-continue_evaluates : ran (For (codes "x") None (array (int 1 ∷ [])) (stmts (BreakLoop false (an_expr (fn "f" [])) ∷ [])) ∷ []) 1 ≡ report (gives UnitV) [] (asked "f" [] ∷ []) 0
+continue_evaluates : ran (For (codes "x") None (array (int 1 ∷ [])) (stmts (BreakLoop false false (an_expr (fn "f" [])) ∷ [])) ∷ []) 1 ≡ report (gives UnitV) [] (asked "f" [] ∷ []) 0
 unfolding ran
 continue_evaluates = refl
 
 -- `1 = f()`, which has no left side; `a[0] = f()` as a chain that does not end
-ill_targets : (ran (Assignment None (int 1) (fn "f" []) ∷ []) 0) ∷ (ran (Assignment None (Index (record { negated = false; breaks = false }) (var "a") (int 0)) (fn "f" []) ∷ []) 0) ∷ [] ≡ report (WithStuck WrongKind) [] [] 0 ∷ report (WithStuck WrongKind) [] (asked "f" [] ∷ []) 0 ∷ []
+ill_targets : (ran (Assignment None (int 1) (fn "f" []) ∷ []) 0) ∷ (ran (Assignment None (Index (record { negated = false; breaks = false; exported = false }) (var "a") (int 0)) (fn "f" []) ∷ []) 0) ∷ [] ≡ report (WithStuck WrongKind) [] [] 0 ∷ report (WithStuck WrongKind) [] (asked "f" [] ∷ []) 0 ∷ []
 unfolding ran
 ill_targets = refl
 
 -- `fn g() { this = 5; throw 1 }` as entry
-entry_that_throws : run (world_with (record { name = codes "g"; this_type = None; params = []; body = stmts (Assignment None ThisPtr (int 5) ∷ Return true (an_expr (int 1)) ∷ []) } ∷ [])) no_stmts (AtFunction (key (codes "g") 0 None) (Some (i 0)) []) [] 1
+entry_that_throws : run (world_with (record { name = codes "g"; this_type = None; params = []; body = stmts (Assignment None ThisPtr (int 5) ∷ Return true false (an_expr (int 1)) ∷ []) } ∷ [])) no_stmts (AtFunction (key (codes "g") 0 None) (Some (i 0)) []) [] 1
     ≡ record { ended = WithThrown (i 1); variables = []; this = Some (i 5); calls = []; turns = 0 }
 unfolding ran
 entry_that_throws = refl
@@ -111,7 +111,7 @@ unfolding ran
 guarded_text_passes = refl
 
 -- an iterable that is no array and no range; `throw` without a value; a stuck run is not caught
-kinds : (ran (For (codes "x") None (int 1) no_stmts ∷ []) 1).ended ∷ (ran (Return true no_expr ∷ []) 0).ended ∷ (ran (TryCatch UnitConstant (stmts (ExprStmt (var "q") ∷ [])) no_stmts ∷ []) 0).ended ∷ [] ≡ WithStuck WrongKind ∷ WithThrown UnitV ∷ WithStuck Unbound ∷ []
+kinds : (ran (For (codes "x") None (int 1) no_stmts ∷ []) 1).ended ∷ (ran (Return true false no_expr ∷ []) 0).ended ∷ (ran (TryCatch UnitConstant (stmts (ExprStmt (var "q") ∷ [])) no_stmts ∷ []) 0).ended ∷ [] ≡ WithStuck WrongKind ∷ WithThrown UnitV ∷ WithStuck Unbound ∷ []
 unfolding ran
 kinds = refl
 
@@ -136,7 +136,7 @@ unfolding ran
 switch_of_nothing = refl
 
 -- `f()[0] = g()` as a chain that does not end
-shape_before_place : ran (Assignment None (Index (record { negated = false; breaks = false }) (fn "f" []) (int 0)) (fn "g" []) ∷ []) 0 ≡ report (WithStuck WrongKind) [] (asked "g" [] ∷ []) 0
+shape_before_place : ran (Assignment None (Index (record { negated = false; breaks = false; exported = false }) (fn "f" []) (int 0)) (fn "g" []) ∷ []) 0 ≡ report (WithStuck WrongKind) [] (asked "g" [] ∷ []) 0
 unfolding ran
 shape_before_place = refl
 

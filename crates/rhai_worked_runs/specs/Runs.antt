@@ -193,17 +193,17 @@ constants_and_variables : ran (const' "A" (op Plus (int 40 ∷ int 2 ∷ [])) �
 unfolding ran
 constants_and_variables = refl
 
-loop_left_by_a_value : ran (While UnitConstant (stmts (BreakLoop true (an_expr (int 5)) ∷ [])) ∷ Return false no_expr ∷ []) 3 ≡ report (gives UnitV) [] [] 2
+loop_left_by_a_value : ran (While UnitConstant (stmts (BreakLoop true false (an_expr (int 5)) ∷ [])) ∷ Return false false no_expr ∷ []) 3 ≡ report (gives UnitV) [] [] 2
 unfolding ran
 loop_left_by_a_value = refl
 
-catch_name_shadows : ran (const' "e" (int 1) ∷ TryCatch (var "e") (stmts (Return true (an_expr (int 2)) ∷ [])) (stmts (ExprStmt (fn "print" (var "e" ∷ [])) ∷ [])) ∷ []) 0
+catch_name_shadows : ran (const' "e" (int 1) ∷ TryCatch (var "e") (stmts (Return true false (an_expr (int 2)) ∷ [])) (stmts (ExprStmt (fn "print" (var "e" ∷ [])) ∷ [])) ∷ []) 0
     ≡ report (gives UnitV) (const_is "e" (i 1) ∷ []) (asked "print" (i 2 ∷ []) ∷ []) 0
 unfolding ran
 catch_name_shadows = refl
 
 abbrev until_true : Stmt
-until_true = Do true (BoolConstant true) (stmts (ExprStmt (fn "f" []) ∷ []))
+until_true = Do true false (BoolConstant true) (stmts (ExprStmt (fn "f" []) ∷ []))
 
 until_ends : ran (until_true ∷ []) 1 ≡ report (gives UnitV) [] (asked "f" [] ∷ []) 0
 unfolding ran
@@ -275,7 +275,7 @@ body_does_not_see_the_scope = refl
 
 -- fn x(x) { try { throw x } catch (x) { return x + 1 } } const x = 1; x(x)
 abbrev fn_x : Function
-fn_x = record { name = codes "x"; this_type = None; params = codes "x" ∷ []; body = stmts (TryCatch (var "x") (stmts (Return true (an_expr (var "x")) ∷ [])) (stmts (Return false (an_expr (op Plus (var "x" ∷ int 1 ∷ []))) ∷ [])) ∷ []) }
+fn_x = record { name = codes "x"; this_type = None; params = codes "x" ∷ []; body = stmts (TryCatch (var "x") (stmts (Return true false (an_expr (var "x")) ∷ [])) (stmts (Return false false (an_expr (op Plus (var "x" ∷ int 1 ∷ []))) ∷ [])) ∷ []) }
 
 return_from_a_branch : ran_in (world_with (fn_x ∷ [])) (const' "x" (int 1) ∷ ExprStmt (fn "x" (var "x" ∷ [])) ∷ []) 1 ≡ report (gives (i 2)) (const_is "x" (i 1) ∷ []) [] 0
 unfolding ran
@@ -286,7 +286,7 @@ loop_name_shadows_counter : ran (const' "x" (int 1) ∷ For (codes "x") (Some (c
 unfolding ran
 loop_name_shadows_counter = refl
 
-nested_endless_loops : ran (While UnitConstant (stmts (While UnitConstant (stmts (If (BoolConstant false) (stmts (BreakLoop true no_expr ∷ [])) no_stmts ∷ [])) ∷ [])) ∷ []) 7 ≡ report WithoutTurns [] [] 0
+nested_endless_loops : ran (While UnitConstant (stmts (While UnitConstant (stmts (If (BoolConstant false) (stmts (BreakLoop true false no_expr ∷ [])) no_stmts ∷ [])) ∷ [])) ∷ []) 7 ≡ report WithoutTurns [] [] 0
 unfolding ran
 nested_endless_loops = refl
 
@@ -294,7 +294,7 @@ nested_endless_loops = refl
 abbrev pub double : Function
 double = record { name = codes "double"; this_type = Some (codes "array"); params = []; body = stmts (Assignment (Some Multiply) (at ThisPtr (int 0)) (int 2) ∷ ExprStmt (at ThisPtr (int 0)) ∷ []) }
 
-method_writes_to_an_element : ran_in (world_with (double ∷ [])) (let' "a" (array (array (int 3 ∷ []) ∷ [])) ∷ ExprStmt (Index (record { negated = false; breaks = false }) (var "a") (dot (int 0) (meth "double" []))) ∷ []) 1
+method_writes_to_an_element : ran_in (world_with (double ∷ [])) (let' "a" (array (array (int 3 ∷ []) ∷ [])) ∷ ExprStmt (Index (record { negated = false; breaks = false; exported = false }) (var "a") (dot (int 0) (meth "double" []))) ∷ []) 1
     ≡ report (gives (i 6)) (var_is "a" (ArrayV (values (ArrayV (values (i 6 ∷ [])) ∷ []))) ∷ []) [] 0
 unfolding ran
 method_writes_to_an_element = refl

@@ -29,10 +29,10 @@ array es = ArrayOf (exprs es)
 
 -- the last step of a chain
 abbrev pub at : Expr → Expr → Expr
-at e i = Index (record { negated = false; breaks = true }) e i
+at e i = Index (record { negated = false; breaks = true; exported = false }) e i
 
 abbrev pub dot : Expr → Expr → Expr
-dot l r = Dot (record { negated = false; breaks = false }) l r
+dot l r = Dot (record { negated = false; breaks = false; exported = false }) l r
 
 abbrev pub prop : String → Expr
 prop p = Property (record { getter = codes "get$" ++ codes p; setter = codes "set$" ++ codes p; name = codes p })

@@ -15,7 +15,7 @@ constant_arguments : constant_args no_exprs ∷ constant_args (exprs (int 1 ∷ 
 constant_arguments = refl
 
 -- `do {} while false` is pure; `until false`, an impure body and a guard of another form are not
-do_once : is_pure (Do false (BoolConstant false) no_stmts) ∷ is_pure (Do true (BoolConstant false) no_stmts) ∷ is_pure (Do false (BoolConstant false) (stmts (ExprStmt (fn "f" []) ∷ []))) ∷ is_pure (While (DynamicConstant (BoolV false)) no_stmts) ∷ [] ≡ true ∷ false ∷ false ∷ false ∷ []
+do_once : is_pure (Do false false (BoolConstant false) no_stmts) ∷ is_pure (Do true false (BoolConstant false) no_stmts) ∷ is_pure (Do false false (BoolConstant false) (stmts (ExprStmt (fn "f" []) ∷ []))) ∷ is_pure (While (DynamicConstant (BoolV false)) no_stmts) ∷ [] ≡ true ∷ false ∷ false ∷ false ∷ []
 do_once = refl
 
 -- the number of the first fault
@@ -24,10 +24,10 @@ fault ss = option_map number_of (script_fault (record { statements = stmts ss; f
 
 -- braces that begin with `break`, and then the value
 abbrev breaks_then : Expr → Expr
-breaks_then e = BlockExpr (stmts (BreakLoop true no_expr ∷ ExprStmt e ∷ []))
+breaks_then e = BlockExpr (stmts (BreakLoop true false no_expr ∷ ExprStmt e ∷ []))
 
 -- a guard and an iterable are no bodies of their loop
-no_bodies : fault (For (codes "x") None (breaks_then (array [])) no_stmts ∷ []) ∷ fault (Do false (breaks_then (BoolConstant true)) no_stmts ∷ []) ∷ fault (Do false (BoolConstant true) (stmts (BreakLoop true no_expr ∷ [])) ∷ []) ∷ fault (For (codes "x") None (array []) (stmts (BreakLoop true no_expr ∷ [])) ∷ []) ∷ [] ≡ Some 24 ∷ Some 24 ∷ None ∷ None ∷ []
+no_bodies : fault (For (codes "x") None (breaks_then (array [])) no_stmts ∷ []) ∷ fault (Do false false (breaks_then (BoolConstant true)) no_stmts ∷ []) ∷ fault (Do false false (BoolConstant true) (stmts (BreakLoop true false no_expr ∷ [])) ∷ []) ∷ fault (For (codes "x") None (array []) (stmts (BreakLoop true false no_expr ∷ [])) ∷ []) ∷ [] ≡ Some 24 ∷ Some 24 ∷ None ∷ None ∷ []
 no_bodies = refl
 
 -- a `switch` whose range names an arm, with a default
@@ -49,7 +49,7 @@ own _ es = es
 abbrev integers : List Stmt → List Expr
 integers ss = over_stmts (record { none = []; both = λ a b. a ++ b; node = own; within = λ s a. a; arms = λ t as'. arms_at [] (λ a b. a ++ b) as' (listed t) }) (stmts ss)
 
-walk_order : integers (TryCatch (var "x") (stmts (ExprStmt (int 1) ∷ [])) (stmts (ExprStmt (int 2) ∷ [])) ∷ While (int 3) (stmts (ExprStmt (int 4) ∷ [])) ∷ Do true (int 5) (stmts (ExprStmt (int 6) ∷ [])) ∷ For (codes "x") None (int 7) (stmts (ExprStmt (int 8) ∷ [])) ∷ Assignment None (at (int 9) (int 10)) (int 11) ∷ ExprStmt (dot (int 12) (meth "f" (int 13 ∷ []))) ∷ ExprStmt (MapOf (pairs ((codes "b", int 14) ∷ (codes "a", int 15) ∷ [])) []) ∷ Return true (an_expr (int 16)) ∷ Import (int 17) [] ∷ Switch (int 18) (arms ((int 24, int 25) ∷ (int 21, int 22) ∷ (int 19, int 20) ∷ (int 0, int 0) ∷ [])) (record { cases = record { value = i 1; arms = 2 ∷ 9 ∷ [] } ∷ []; ranges = record { range = ExclusiveInt (pos 0) (pos 1); arm = 1 } ∷ []; default = Some 0 }) ∷ [])
+walk_order : integers (TryCatch (var "x") (stmts (ExprStmt (int 1) ∷ [])) (stmts (ExprStmt (int 2) ∷ [])) ∷ While (int 3) (stmts (ExprStmt (int 4) ∷ [])) ∷ Do true false (int 5) (stmts (ExprStmt (int 6) ∷ [])) ∷ For (codes "x") None (int 7) (stmts (ExprStmt (int 8) ∷ [])) ∷ Assignment None (at (int 9) (int 10)) (int 11) ∷ ExprStmt (dot (int 12) (meth "f" (int 13 ∷ []))) ∷ ExprStmt (MapOf (pairs ((codes "b", int 14) ∷ (codes "a", int 15) ∷ [])) []) ∷ Return true false (an_expr (int 16)) ∷ Import (int 17) [] ∷ Switch (int 18) (arms ((int 24, int 25) ∷ (int 21, int 22) ∷ (int 19, int 20) ∷ (int 0, int 0) ∷ [])) (record { cases = record { value = i 1; arms = 2 ∷ 9 ∷ [] } ∷ []; ranges = record { range = ExclusiveInt (pos 0) (pos 1); arm = 1 } ∷ []; default = Some 0 }) ∷ [])
     ≡ map (λ n. int n) (1 ∷ 2 ∷ 3 ∷ 4 ∷ 5 ∷ 6 ∷ 7 ∷ 8 ∷ 9 ∷ 10 ∷ 11 ∷ 12 ∷ 13 ∷ 14 ∷ 15 ∷ 16 ∷ 17 ∷ 18 ∷ 19 ∷ 20 ∷ 21 ∷ 22 ∷ 24 ∷ 25 ∷ [])
 walk_order = refl
 

@@ -49,7 +49,7 @@ unit_as_constant = refl
 
 -- while {break; true} {} at top level, and in the body of a loop
 abbrev breaking_guard : Stmt
-breaking_guard = While (BlockExpr (stmts (BreakLoop true no_expr ∷ ExprStmt (BoolConstant true) ∷ []))) no_stmts
+breaking_guard = While (BlockExpr (stmts (BreakLoop true false no_expr ∷ ExprStmt (BoolConstant true) ∷ []))) no_stmts
 
 guard_is_no_body : fault (breaking_guard ∷ []) ≡ 24
 guard_is_no_body = refl
@@ -58,28 +58,28 @@ guard_in_a_body : fault (While UnitConstant (stmts (breaking_guard ∷ [])) ∷ 
 guard_in_a_body = refl
 
 -- the body of a function is no loop's, wherever it is called
-break_in_a_function : fault_with (record (named "f") { body = stmts (BreakLoop false no_expr ∷ []) } ∷ []) [] ≡ 24
+break_in_a_function : fault_with (record (named "f") { body = stmts (BreakLoop false false no_expr ∷ []) } ∷ []) [] ≡ 24
 break_in_a_function = refl
 
 reserved_function : fault_with (named "call" ∷ []) [] ∷ fault_with (named "+" ∷ []) [] ∷ fault_with (named "f" ∷ []) [] ∷ [] ≡ 25 ∷ 25 ∷ 0 ∷ []
 reserved_function = refl
 
 -- a name before its body
-name_before_body : fault_with (record (named "call") { body = stmts (BreakLoop true no_expr ∷ []) } ∷ []) [] ≡ 25
+name_before_body : fault_with (record (named "call") { body = stmts (BreakLoop true false no_expr ∷ []) } ∷ []) [] ≡ 25
 name_before_body = refl
 
 stray_property : fault (ExprStmt (prop "a") ∷ []) ∷ fault (ExprStmt (meth "f" []) ∷ []) ∷ [] ≡ 26 ∷ 26 ∷ []
 stray_property = refl
 
 -- a.b as a `Dot` without BREAK, and as one with it
-last_dot : fault (ExprStmt (dot (var "a") (prop "b")) ∷ []) ∷ fault (ExprStmt (Dot (record { negated = false; breaks = true }) (var "a") (prop "b")) ∷ []) ∷ [] ≡ 0 ∷ 0 ∷ []
+last_dot : fault (ExprStmt (dot (var "a") (prop "b")) ∷ []) ∷ fault (ExprStmt (Dot (record { negated = false; breaks = true; exported = false }) (var "a") (prop "b")) ∷ []) ∷ [] ≡ 0 ∷ 0 ∷ []
 last_dot = refl
 
 -- a.b.c and a.b[0], a.1, a[0] without BREAK, a.b with an index in the place of the property
 longer_chain : fault (ExprStmt (dot (var "a") (dot (prop "b") (prop "c"))) ∷ []) ∷ fault (ExprStmt (dot (var "a") (at (prop "b") (int 0))) ∷ []) ∷ [] ≡ 0 ∷ 0 ∷ []
 longer_chain = refl
 
-chain_shape : fault (ExprStmt (dot (var "a") (int 1)) ∷ []) ∷ fault (ExprStmt (Index (record { negated = false; breaks = false }) (var "a") (int 0)) ∷ []) ∷ fault (ExprStmt (dot (var "a") (at (int 1) (int 0))) ∷ []) ∷ [] ≡ 26 ∷ 26 ∷ 26 ∷ []
+chain_shape : fault (ExprStmt (dot (var "a") (int 1)) ∷ []) ∷ fault (ExprStmt (Index (record { negated = false; breaks = false; exported = false }) (var "a") (int 0)) ∷ []) ∷ fault (ExprStmt (dot (var "a") (at (int 1) (int 0))) ∷ []) ∷ [] ≡ 26 ∷ 26 ∷ 26 ∷ []
 chain_shape = refl
 
 -- a method's own fault, inside a well-shaped chain, and a method that captures
@@ -160,7 +160,7 @@ constant_switch d = Switch (int 1) (arms ((BoolConstant true, int 2) ∷ (BoolCo
 
 -- for x in [1] {}, while true {}, while false { f() }, do {} until true, do {} while true, a constant `switch` without a
 -- default, and with one
-pure_statements : is_pure (For (codes "x") None (array (int 1 ∷ [])) no_stmts) ∷ is_pure (While (BoolConstant true) no_stmts) ∷ is_pure (While (BoolConstant false) (stmts (ExprStmt (fn "f" []) ∷ []))) ∷ is_pure (Do true (BoolConstant true) no_stmts) ∷ is_pure (Do false (BoolConstant true) no_stmts) ∷ is_pure (constant_switch None) ∷ is_pure (constant_switch (Some 1)) ∷ []
+pure_statements : is_pure (For (codes "x") None (array (int 1 ∷ [])) no_stmts) ∷ is_pure (While (BoolConstant true) no_stmts) ∷ is_pure (While (BoolConstant false) (stmts (ExprStmt (fn "f" []) ∷ []))) ∷ is_pure (Do true false (BoolConstant true) no_stmts) ∷ is_pure (Do false false (BoolConstant true) no_stmts) ∷ is_pure (constant_switch None) ∷ is_pure (constant_switch (Some 1)) ∷ []
     ≡ true ∷ false ∷ true ∷ true ∷ false ∷ false ∷ true ∷ []
 pure_statements = refl
 
@@ -185,11 +185,11 @@ value_kinds : returns_value (If UnitConstant no_stmts no_stmts) ∷ returns_valu
     ≡ true ∷ false ∷ true ∷ true ∷ true ∷ true ∷ false ∷ false ∷ []
 value_kinds = refl
 
-ends_itself : is_self_terminated (If UnitConstant no_stmts no_stmts) ∷ is_self_terminated (While UnitConstant no_stmts) ∷ is_self_terminated (Do false UnitConstant no_stmts) ∷ is_self_terminated (For (codes "x") None UnitConstant no_stmts) ∷ is_self_terminated (TryCatch UnitConstant no_stmts no_stmts) ∷ is_self_terminated (constant_switch None) ∷ is_self_terminated (ExprStmt UnitConstant) ∷ is_self_terminated Noop ∷ []
+ends_itself : is_self_terminated (If UnitConstant no_stmts no_stmts) ∷ is_self_terminated (While UnitConstant no_stmts) ∷ is_self_terminated (Do false false UnitConstant no_stmts) ∷ is_self_terminated (For (codes "x") None UnitConstant no_stmts) ∷ is_self_terminated (TryCatch UnitConstant no_stmts no_stmts) ∷ is_self_terminated (constant_switch None) ∷ is_self_terminated (ExprStmt UnitConstant) ∷ is_self_terminated Noop ∷ []
     ≡ true ∷ true ∷ false ∷ true ∷ true ∷ true ∷ false ∷ false ∷ []
 ends_itself = refl
 
-leaves_its_list : is_control_flow_break (Return true no_expr) ∷ is_control_flow_break (BreakLoop false no_expr) ∷ is_control_flow_break (Block (stmts (Return true no_expr ∷ []))) ∷ is_noop Noop ∷ is_noop (Block no_stmts) ∷ is_unit UnitConstant ∷ is_unit (BlockExpr no_stmts) ∷ [] ≡ true ∷ true ∷ false ∷ true ∷ false ∷ true ∷ false ∷ []
+leaves_its_list : is_control_flow_break (Return true false no_expr) ∷ is_control_flow_break (BreakLoop false false no_expr) ∷ is_control_flow_break (Block (stmts (Return true false no_expr ∷ []))) ∷ is_noop Noop ∷ is_noop (Block no_stmts) ∷ is_unit UnitConstant ∷ is_unit (BlockExpr no_stmts) ∷ [] ≡ true ∷ true ∷ false ∷ true ∷ false ∷ true ∷ false ∷ []
 leaves_its_list = refl
 
 may_follow : is_valid_postfix token.Period (int 1) ∷ is_valid_postfix token.QuestionBracket (CharConstant 97) ∷ is_valid_postfix token.Bang (var "x") ∷ is_valid_postfix token.LeftParen (var "x") ∷ is_valid_postfix token.Plus (var "x") ∷ is_valid_postfix token.LeftParen (prop "x") ∷ is_valid_postfix token.Bang (prop "x") ∷ is_valid_postfix token.LeftParen (int 1) ∷ []

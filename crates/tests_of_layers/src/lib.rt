@@ -32,6 +32,8 @@ mod script_samples;
 #[cfg(test)]
 mod scripts;
 #[cfg(test)]
+mod scripts_asked;
+#[cfg(test)]
 mod scripts_joined;
 #[cfg(test)]
 mod scripts_refused;

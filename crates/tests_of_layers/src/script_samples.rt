@@ -1,6 +1,6 @@
 //! Scripts for tests: rows that hold no memory until a script is made of them.
 
-use rhai_ast::{FnAccess, ScriptFuncDef, Stmt, StmtBlock};
+use rhai_ast::{FnAccess, ScriptFuncDef, Stmt, StmtBlock, StmtQueries};
 use rhai_base::{ImmutableString, OutOfMemory, Position, Seq};
 use rhai_script::{AST, FnLib, SharedLib};
 use std::alloc::Global;
@@ -67,10 +67,11 @@ fn shared_table(alloc: Global, rows: &[Row]) -> Result<SharedLib, OutOfMemory> {
     Ok(Rc::new(alloc, table(alloc, rows)?)?)
 }
 
-/// A script of one statement, these functions and a source.
+/// A script of one statement, on its line, these functions and a source.
 pub fn script(alloc: Global, rows: &[Row], source: &str) -> Result<AST, OutOfMemory> {
     let functions = shared_table(alloc, rows)?;
-    let statements = vec![in alloc; Stmt::Noop(Position::new(3, 4))]?;
+    let line = if source == "b" { 5 } else { 3 };
+    let statements = vec![in alloc; Stmt::Noop(Position::new(line, 4))]?;
     AST::new_with_source(statements, functions, source)
 }
 
@@ -99,4 +100,14 @@ pub fn stands(script: &AST, source: Option<&str>, id: Option<&str>, statements: 
     script.source() == source
         && script.shared_lib().id() == id
         && script.statements().len() == statements
+}
+
+/// Whether the statement of the script `a` comes, and then that of the script `b`.
+pub fn are_in_turn(script: &AST) -> bool {
+    match script.statements() {
+        [first, second] => {
+            first.position().line() == Some(3) && second.position().line() == Some(5)
+        }
+        _ => false,
+    }
 }

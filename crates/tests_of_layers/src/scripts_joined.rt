@@ -1,9 +1,9 @@
 //! Scripts that are merged and filtered, their sources, ids and docs.
 
-use crate::script_samples::{Row, has, is_known_by, script, stands, table};
-use rhai_ast::FnAccess;
+use crate::script_samples::{Row, are_in_turn, has, is_known_by, script, stands, table};
+use rhai_ast::{FnAccess, FnNamespace};
 use rhai_base::{ImmutableString, OutOfMemory};
-use rhai_script::{AST, FnKey, FnLib, FnNamespace};
+use rhai_script::{AST, FnKey, FnLib};
 use std::alloc::Global;
 use std::rc::Rc;
 use std::test::Fail;
@@ -81,6 +81,7 @@ fn is_joined(alloc: Global, row: &Joining) -> Result<bool, OutOfMemory> {
     Ok(
         stands(&first, Some("a"), Some("a"), 2)
             && stands(&again, Some("a"), Some("a"), 2)
+            && are_in_turn(&first)
             && has(first.shared_lib(), row.joined)
             && has(again.shared_lib(), row.filtered),
     )
@@ -93,6 +94,7 @@ fn is_merged(alloc: Global, first: &AST, row: &Joining) -> Result<bool, OutOfMem
     Ok(
         stands(&both, Some("b"), Some("b"), 2)
             && stands(&some, Some("b"), Some("b"), 2)
+            && are_in_turn(&both)
             && has(both.shared_lib(), row.joined)
             && has(some.shared_lib(), row.filtered),
     )
@@ -134,7 +136,9 @@ fn is_foo_of_one(_namespace: FnNamespace, _access: FnAccess, name: &str, params:
 fn the_id_follows_the_source(rt: HostRuntime) -> Result<(), Fail> {
     let mut first = script(rt.alloc(), &FOO, "a")?;
     let mut second = first.clone()?;
+    assert!(rt; Rc::ptr_eq(first.shared_lib(), second.shared_lib()));
     second.set_source("z")?;
+    assert!(rt; !Rc::ptr_eq(first.shared_lib(), second.shared_lib()));
     assert!(rt; stands(&first, Some("a"), Some("a"), 1));
     assert!(rt; stands(&second, Some("z"), Some("z"), 1));
     first.clear_source();
@@ -181,7 +185,8 @@ fn has_its_parts(whole: &AST) -> Result<bool, OutOfMemory> {
 fn a_table_and_its_id(rt: HostRuntime) -> Result<(), Fail> {
     let mut lib = FnLib::new(rt.alloc());
     lib.set_id("m")?;
-    assert!(rt; lib.id() == Some("m") && lib.is_empty());
+    let copy = lib.clone()?;
+    assert!(rt; copy.id() == Some("m") && copy.is_empty());
     let script = AST::new_from_module(Rc::new(rt.alloc(), lib)?)?;
     assert!(rt; stands(&script, Some("m"), Some("m"), 0));
     Ok(())

@@ -2,9 +2,9 @@
 //! that the calls do what they should; `rt try --test --fail-alloc N` refuses the Nth growth.
 
 use crate::script_samples::{Row, has, script, stands};
-use rhai_ast::FnAccess;
+use rhai_ast::{FnAccess, FnNamespace};
 use rhai_base::OutOfMemory;
-use rhai_script::{AST, FnNamespace};
+use rhai_script::AST;
 use std::alloc::Global;
 use std::test::Fail;
 

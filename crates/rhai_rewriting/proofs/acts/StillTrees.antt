@@ -173,7 +173,7 @@ still_closed w = record {
   throws = λ v. still_stop;
   continues = still_stop;
   breaks = still_bind still_stop (λ v. still_stop);
-  breaks_with = λ e q v. still_stop;
+  breaks_with = λ o e q v. still_stop;
 }
 
 pub still_expr : (w : World) (l : Bool) (e : Expr) → leaves_names e ≡ true → Still (act w (core_expr l e))

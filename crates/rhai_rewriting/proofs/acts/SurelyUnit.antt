@@ -1,5 +1,5 @@
 -- A statement that surely is unit gives no other value.
-use Rattle.std.proofs.Common.{◌≡◌, Bool, true, false, cond, List, [], ◌∷◌, Option, Some, None, refl}
+use Rattle.std.proofs.Common.{◌≡◌, Bool, true, false, not, cond, List, [], ◌∷◌, Option, Some, None, refl}
 use Rattle.rhai_values.specs.Value.{Text, Value, UnitV}
 use Rattle.rhai_base.specs.Operators.{Operator}
 use Rattle.rhai_meaning.specs.Act.{World, Env, Act, Acts}
@@ -79,6 +79,6 @@ module _ (w : World) (env : Env) where
   surely_unit calls l (Assignment op a e) h = unit_deed (deed_or_ill (is_left_side a) _ (bind_in w env (in_any w env (act w (core_expr l e))) (λ v y. target_unit (target_of l a) op v)))
   surely_unit calls l (TryCatch x a b) h = unit_deed (try_unit (catch_name x) _ _)
   surely_unit calls l (While e b) h = unit_deed (while_unit e _ (list_unbroken w env calls true false b h UnitV))
-  surely_unit calls l (Do n e b) h = unit_deed (do_in w env Valueless AnyExit IsUnit (λ y j. tt) tt (λ v j. j) refl n (in_any w env (act w (core_expr l e))) (list_unbroken w env calls true false b h UnitV))
+  surely_unit calls l (Do n exported e b) h = unit_deed (deed_or_ill (not exported) _ (do_in w env Valueless AnyExit IsUnit (λ y j. tt) tt (λ v j. j) refl n (in_any w env (act w (core_expr l e))) (list_unbroken w env calls true false b h UnitV)))
   surely_unit calls l (For x i e b) h = unit_deed (bind_in w env (in_any w env (act w (core_expr l e))) (λ v y. for_in w env Valueless AnyExit IsUnit (λ z j. tt) tt (λ u j. j) refl x i (list_unbroken w env calls true false b h UnitV) v))
   surely_unit calls l _ h = no h

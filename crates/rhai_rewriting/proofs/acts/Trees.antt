@@ -1,6 +1,6 @@
 -- What closes under the constructs of the language holds of the act of each tree all of whose nodes it allows.
 use Rattle.std.proofs.Common.{◌≡◌, ℕ, zero, suc, Bool, true, false, cond, List, [], ◌∷◌, Option, Some, None}
-use Rattle.std.specs.Prelude.{◌&&◌, slice_get}
+use Rattle.std.specs.Prelude.{not, ◌&&◌, slice_get}
 use Rattle.rhai_values.specs.Value.{Text, Value, UnitV}
 use Rattle.rhai_base.specs.Operators.{Operator}
 use Rattle.rhai_meaning.specs.Act.{World, Returns, Breaks, Continues, Throws, Leaves, Stuck, Root, OfThis, Act, Stop, Fail, Read, Scoped, Acts, Only, Named}
@@ -13,7 +13,7 @@ use Rattle.rhai_meaning.specs.Desugar.{variable, name_target, root_of, based, en
 use Rattle.rhai_meaning.specs.Meaning.{act, with_args, with_pairs, both, either, first_some, at_base, access, steps, assign_steps, assign, arm_acts, loop, deed, line, acts, exit, wanted_value}
 use Rattle.rhai_meaning.specs.Places.{Current, refreshed}
 use Rattle.rhai_meaning.specs.Plain.{all_true}
-use Rattle.rhai_meaning.specs.Shape.{is_unit, is_map, is_rest, is_callable, is_left_side, is_table, catch_name}
+use Rattle.rhai_meaning.specs.Shape.{is_unit, is_map, is_chain, is_callable, is_left_side, is_table, catch_name}
 use Rattle.rhai_meaning.specs.Tree.{Callee, PropertyNames, ChainFlags, SwitchTable, Expr, DynamicConstant, BoolConstant, IntegerConstant, CharConstant, StringConstant, UnitConstant, InterpolatedString, ArrayOf, MapOf, Variable, ThisPtr, Property, MethodCall, BlockExpr, FnCall, Dot, Index, And, Or, Coalesce, Exprs, no_exprs, expr, count_exprs, Pairs, no_pairs, pair, MaybeExpr, no_expr, an_expr, Arms, no_arms, arm, Stmt, Noop, If, Switch, While, Do, For, Var, Assignment, FnCallStmt, Block, TryCatch, ExprStmt, BreakLoop, Return, Import, Export, Share, Stmts, no_stmts, stmt}
 use Rattle.rhai_meaning.specs.Walk.{Walk, Node, OfExpr, OfStmt, parts_of_expr, parts_of_stmt, over_expr, over_exprs, over_pairs, over_maybe, over_arms, over_stmt, over_stmts, arm_at, arms_at, arm_of_default, listed}
 use Rattle.rhai_meaning.proofs.PureTrees.{split}
@@ -54,7 +54,7 @@ pub record Closed (w : World) (C : Act → Type 0) (D : Acts → Type 0) (P : No
   pub throws : (v : Value) → C (Stop (Leaves (Throws v)))
   pub continues : C (Stop (Leaves Continues))
   pub breaks : C (give UnitV >>= λ v. Stop (Leaves (Breaks v)))
-  pub breaks_with : (e : Expr) → P (OfStmt (BreakLoop true (an_expr e))) ≡ true → (v : Value) → C (Stop (Leaves (Breaks v)))
+  pub breaks_with : (o : Bool) (e : Expr) → P (OfStmt (BreakLoop true o (an_expr e))) ≡ true → (v : Value) → C (Stop (Leaves (Breaks v)))
 
 module _ (w : World) (C : Act → Type 0) (D : Acts → Type 0) (P : Node → Bool) (g : Closed w C D P) where
   abbrev W : Walk Bool
@@ -220,10 +220,10 @@ module _ (w : World) (C : Act → Type 0) (D : Acts → Type 0) (P : Node → Bo
   return_held true h = g.bind h (λ v. g.throws v)
   return_held false h = g.bind h (λ v. g.returns v)
 
-  break_held : (l b : Bool) (m : MaybeExpr) → P (OfStmt (BreakLoop b m)) ≡ true → C (act w (core_maybe l m)) → C (deed w (core.Leave (break_kind b) (core_maybe l m)))
-  break_held l true no_expr c h = g.breaks
-  break_held l true (an_expr e) c h = g.bind h (λ v. g.breaks_with e c v)
-  break_held l false m c h = g.bind h (λ v. g.continues)
+  break_held : (l b o : Bool) (m : MaybeExpr) → P (OfStmt (BreakLoop b o m)) ≡ true → C (act w (core_maybe l m)) → C (deed w (core.Leave (break_kind b) (core_maybe l m)))
+  break_held l true o no_expr c h = g.breaks
+  break_held l true o (an_expr e) c h = g.bind h (λ v. g.breaks_with o e c v)
+  break_held l false o m c h = g.bind h (λ v. g.continues)
 
   mutual
     pub expr_held : (l : Bool) (e : Expr) → over_expr W e ≡ true → C (act w (core_expr l e))
@@ -245,11 +245,11 @@ module _ (w : World) (C : Act → Type 0) (D : Acts → Type 0) (P : Node → Bo
     expr_held l (Dot k a r) h =
         let z = split (over_expr W a) (over_expr W r) (inner (Dot k a r) h) in
         let q = steps_held l true k (member_of l r) r (member_held l r z.1) z.1 in
-        expr_held_or_ill (is_rest true k.breaks r) _ (base_held (root_of a) _ (expr_held l a z.0) (λ c. q.walks c))
+        expr_held_or_ill (is_chain true k r) _ (base_held (root_of a) _ (expr_held l a z.0) (λ c. q.walks c))
     expr_held l (Index k a r) h =
         let z = split (over_expr W a) (over_expr W r) (inner (Index k a r) h) in
         let q = steps_held l false k (core.Index (core_expr l r)) r (index_held _ (expr_held l r z.1)) z.1 in
-        expr_held_or_ill (is_rest false k.breaks r) _ (base_held (root_of a) _ (expr_held l a z.0) (λ c. q.walks c))
+        expr_held_or_ill (is_chain false k r) _ (base_held (root_of a) _ (expr_held l a z.0) (λ c. q.walks c))
     expr_held l (And es) h = both_held l es (inner (And es) h)
     expr_held l (Or es) h = either_held l es (inner (Or es) h)
     expr_held l (Coalesce es) h = some_held l es (inner (Coalesce es) h)
@@ -263,11 +263,11 @@ module _ (w : World) (C : Act → Type 0) (D : Acts → Type 0) (P : Node → Bo
     steps_held l dot k p (Dot m a r) j h =
         let z = split (over_expr W a) (over_expr W r) (inner (Dot m a r) h) in
         either_steps k.breaks _ _ (last_held k.negated p j)
-        (more_held k.negated _ _ (either_step dot _ _ (member_held l a z.0) (index_held _ (expr_held l a z.0))) (steps_held l true m (member_of l r) r (member_held l r z.1) z.1))
+        (more_held k.negated _ _ (either_step m.exported _ _ ill_step (either_step dot _ _ (member_held l a z.0) (index_held _ (expr_held l a z.0)))) (steps_held l true m (member_of l r) r (member_held l r z.1) z.1))
     steps_held l dot k p (Index m a r) j h =
         let z = split (over_expr W a) (over_expr W r) (inner (Index m a r) h) in
         either_steps k.breaks _ _ (last_held k.negated p j)
-        (more_held k.negated _ _ (either_step dot _ _ (member_held l a z.0) (index_held _ (expr_held l a z.0))) (steps_held l false m (core.Index (core_expr l r)) r (index_held _ (expr_held l r z.1)) z.1))
+        (more_held k.negated _ _ (either_step m.exported _ _ ill_step (either_step dot _ _ (member_held l a z.0) (index_held _ (expr_held l a z.0)))) (steps_held l false m (core.Index (core_expr l r)) r (index_held _ (expr_held l r z.1)) z.1))
     steps_held l dot k p _ j h = last_held k.negated p j
 
     target_held : (l : Bool) (e : Expr) → over_expr W e ≡ true → Writes w C → (op : Option Operator) (v : Value) → C (assign w op (target_of l e) v)
@@ -275,10 +275,10 @@ module _ (w : World) (C : Act → Type 0) (D : Acts → Type 0) (P : Node → Bo
     target_held l ThisPtr h q op v = q.root op v OfThis
     target_held l (Dot k a r) h q op v =
         let z = split (over_expr W a) (over_expr W r) (inner (Dot k a r) h) in
-        target_or_ill (is_rest true k.breaks r) _ op v (part_held (root_of a) (ends_in_call true k.breaks r) _ (steps_held l true k (member_of l r) r (member_held l r z.1) z.1) q op v)
+        target_or_ill (is_chain true k r) _ op v (part_held (root_of a) (ends_in_call true k.breaks r) _ (steps_held l true k (member_of l r) r (member_held l r z.1) z.1) q op v)
     target_held l (Index k a r) h q op v =
         let z = split (over_expr W a) (over_expr W r) (inner (Index k a r) h) in
-        target_or_ill (is_rest false k.breaks r) _ op v (part_held (root_of a) (ends_in_call false k.breaks r) _ (steps_held l false k (core.Index (core_expr l r)) r (index_held _ (expr_held l r z.1)) z.1) q op v)
+        target_or_ill (is_chain false k r) _ op v (part_held (root_of a) (ends_in_call false k.breaks r) _ (steps_held l false k (core.Index (core_expr l r)) r (index_held _ (expr_held l r z.1)) z.1) q op v)
     target_held l _ h q op v = g.fail _
 
     args_held : (l : Bool) (es : Exprs) → over_exprs W es ≡ true → {f : List Value → Act} → ((vs : List Value) → C (f vs)) → C (with_args w (core_exprs l es) f)
@@ -322,7 +322,7 @@ module _ (w : World) (C : Act → Type 0) (D : Acts → Type 0) (P : Node → Bo
         let z = split (over_expr W e) (arms_at true (λ p q. p && q) (over_arms W as') (listed t)) (inner_stmt (Switch e as' t) h) in
         held_deed (deed_held_or_ill (is_table as' t) _ (g.bind (expr_held l e z.0) (λ v. switch_held (arms_held l as') t z.1 v)))
     stmt_held l (While e b) h = let z = split (over_expr W e) (over_stmts W b) (inner_stmt (While e b) h) in held_deed (while_held e _ (expr_held l e z.0) (list_held true false b z.1 UnitV))
-    stmt_held l (Do n e b) h = let z = split (over_expr W e) (over_stmts W b) (inner_stmt (Do n e b) h) in held_deed (g.again n (expr_held l e z.0) (list_held true false b z.1 UnitV))
+    stmt_held l (Do n o e b) h = let z = split (over_expr W e) (over_stmts W b) (inner_stmt (Do n o e b) h) in held_deed (deed_held_or_ill (not o) _ (g.again n (expr_held l e z.0) (list_held true false b z.1 UnitV)))
     stmt_held l (For x i e b) h = let z = split (over_expr W e) (over_stmts W b) (inner_stmt (For x i e b) h) in held_deed (g.bind (expr_held l e z.0) (λ v. g.each x i (list_held true false b z.1 UnitV) v))
     stmt_held l (Var c exported x e) h = var_held exported c x _ (expr_held l e (inner_stmt (Var c exported x e) h))
     stmt_held l (Assignment op a e) h =
@@ -333,8 +333,8 @@ module _ (w : World) (C : Act → Type 0) (D : Acts → Type 0) (P : Node → Bo
     stmt_held l (Block ss) h = held_deed (g.scoped (list_held l true ss (inner_stmt (Block ss) h) UnitV))
     stmt_held l (TryCatch x a b) h = let z = split (over_stmts W a) (over_stmts W b) (inner_stmt (TryCatch x a b) h) in held_deed (try_or_ill (catch_name x) _ _ (list_held l false a z.0 UnitV) (list_held l false b z.1 UnitV))
     stmt_held l (ExprStmt e) h = held_deed (expr_held l e (inner_stmt (ExprStmt e) h))
-    stmt_held l (BreakLoop b m) h = held_deed (deed_held_or_ill l _ (break_held l b m (own_stmt (BreakLoop b m) h) (maybe_held l m (inner_stmt (BreakLoop b m) h))))
-    stmt_held l (Return b m) h = held_deed (return_held b (maybe_held l m (inner_stmt (Return b m) h)))
+    stmt_held l (BreakLoop b o m) h = held_deed (deed_held_or_ill (l && not o) _ (break_held l b o m (own_stmt (BreakLoop b o m) h) (maybe_held l m (inner_stmt (BreakLoop b o m) h))))
+    stmt_held l (Return b o m) h = held_deed (deed_held_or_ill (not o) _ (return_held b (maybe_held l m (inner_stmt (Return b o m) h))))
     stmt_held l (Import e x) h = held_deed (g.fail _)
     stmt_held l (Export x y) h = held_deed (g.fail _)
     stmt_held l (Share xs) h = held_deed (g.fail _)

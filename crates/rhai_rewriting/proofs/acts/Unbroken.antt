@@ -45,7 +45,7 @@ module _ (w : World) (env : Env) (calls : CallsIn Valueless env) where
     throws = λ v. in_stop w env _ tt;
     continues = in_stop w env _ tt;
     breaks = record { by = λ s t. refl };
-    breaks_with = λ e q v. absurd (let z : false ≡ true = q in cc);
+    breaks_with = λ o e q v. absurd (let z : false ≡ true = q in cc);
   }
 
   pub list_unbroken : (l b : Bool) (ss : Stmts) → breaks_carry_nothing ss ≡ true → (v : Value) → WithinAll w env Valueless AnyValue (acts w b (core_stmts l ss) v)

@@ -13,7 +13,7 @@ use Rattle.rhai_meaning.specs.Engine.{or_else, mapped_type_name}
 use Rattle.rhai_meaning.specs.Meaning.{act, with_args, with_pairs, steps}
 use Rattle.rhai_meaning.specs.Places.{without_place}
 use Rattle.rhai_meaning.specs.Queries.{is_pure_expr, are_pure_exprs, are_pure_pairs}
-use Rattle.rhai_meaning.specs.Shape.{is_unit, is_map, is_rest, is_callable}
+use Rattle.rhai_meaning.specs.Shape.{is_unit, is_map, is_chain, is_callable}
 use Rattle.rhai_meaning.specs.Tree.{ChainFlags, PropertyNames, Expr, BoolConstant, StringConstant, UnitConstant, ArrayOf, MapOf, Variable, ThisPtr, Property, MethodCall, Dot, Index, Exprs, no_exprs, expr, count_exprs, Pairs, no_pairs, pair}
 use Rattle.rhai_meaning.specs.Walk.{Node, Around, whole, throughout, over_expr, over_exprs, over_pairs}
 use Rattle.rhai_meaning.specs.Walk as walk
@@ -209,28 +209,28 @@ pub unit_ends_dot : {k : Context} {f : ChainFlags} {e r : Expr} → f.negated �
 unit_ends_dot {f = f} {e = e} {r = r} n h = record {
   lighter = omega (arith, heavy e);
   keeps = λ P l lasts j. (lasts.value UnitV, tt);
-  sound = λ c. expr_meant (is_rest true f.breaks r) (core.Chain (based (root_of e) (core_expr c.in_loop e)) (steps_of c.in_loop true f (member_of c.in_loop r) r)) (chain_over c e UnitV _ unit h (unit_stops c (steps_of c.in_loop true f (member_of c.in_loop r) r) (optional_of c.in_loop true f (member_of c.in_loop r) r ∙ n)));
+  sound = λ c. expr_meant (is_chain true f r) (core.Chain (based (root_of e) (core_expr c.in_loop e)) (steps_of c.in_loop true f (member_of c.in_loop r) r)) (chain_over c e UnitV _ unit h (unit_stops c (steps_of c.in_loop true f (member_of c.in_loop r) r) (optional_of c.in_loop true f (member_of c.in_loop r) r ∙ n)));
 }
 
 pub unit_ends_index : {k : Context} {f : ChainFlags} {e r : Expr} → f.negated ≡ true → constant_value e ≡ Some UnitV → ExprObligation k (Index f e r) UnitConstant
 unit_ends_index {f = f} {e = e} {r = r} n h = record {
   lighter = omega (arith, heavy e);
   keeps = λ P l lasts j. (lasts.value UnitV, tt);
-  sound = λ c. expr_meant (is_rest false f.breaks r) (core.Chain (based (root_of e) (core_expr c.in_loop e)) (steps_of c.in_loop false f (core.Index (core_expr c.in_loop r)) r)) (chain_over c e UnitV _ unit h (unit_stops c (steps_of c.in_loop false f (core.Index (core_expr c.in_loop r)) r) (optional_of c.in_loop false f (core.Index (core_expr c.in_loop r)) r ∙ n)));
+  sound = λ c. expr_meant (is_chain false f r) (core.Chain (based (root_of e) (core_expr c.in_loop e)) (steps_of c.in_loop false f (core.Index (core_expr c.in_loop r)) r)) (chain_over c e UnitV _ unit h (unit_stops c (steps_of c.in_loop false f (core.Index (core_expr c.in_loop r)) r) (optional_of c.in_loop false f (core.Index (core_expr c.in_loop r)) r ∙ n)));
 }
 
 pub property_of_constant : {k : Context} {f : ChainFlags} {e : Expr} {p : PropertyNames} (fs : Fields) → constant_value e ≡ Some (MapV fs) → ExprObligation k (Dot f e (Property p)) (constant_of (entry fs p.name))
 property_of_constant {f = f} {e = e} {p = p} fs h = record {
   lighter = omega (arith, constant_of_light (entry fs p.name));
   keeps = λ P l lasts j. constant_of_keeps P l lasts (entry fs p.name);
-  sound = λ c. to_constant c _ (entry fs p.name) (chain_over c e (MapV fs) (core.last f.negated (core.Property p)) _ h (property_step c f.negated p fs));
+  sound = λ c. to_constant c _ (entry fs p.name) (expr_meant (is_chain true f (Property p)) (core.Chain (based (root_of e) (core_expr c.in_loop e)) (core.last f.negated (core.Property p))) (chain_over c e (MapV fs) (core.last f.negated (core.Property p)) _ h (property_step c f.negated p fs)));
 }
 
 pub index_of_constant : {k : Context} {f : ChainFlags} {e i : Expr} (v j u : Value) → constant_value e ≡ Some v → constant_value i ≡ Some j → indexed v j ≡ Some u → ExprObligation k (Index f e i) (constant_of u)
 index_of_constant {f = f} {e = e} {i = i} v j u h q r = record {
   lighter = omega (arith, constant_of_light u);
   keeps = λ P l lasts x. constant_of_keeps P l lasts u;
-  sound = λ c. to_constant c _ u (expr_meant (is_rest false f.breaks i) (core.Chain (based (root_of e) (core_expr c.in_loop e)) (steps_of c.in_loop false f (core.Index (core_expr c.in_loop i)) i))
+  sound = λ c. to_constant c _ u (expr_meant (is_chain false f i) (core.Chain (based (root_of e) (core_expr c.in_loop e)) (steps_of c.in_loop false f (core.Index (core_expr c.in_loop i)) i))
       (chain_over c e v _ _ h (subst (λ z. Simulates c (steps (world c) z (without_place v)) (give u)) (sym (index_last c.in_loop f (core.Index (core_expr c.in_loop i)) i j q)) (index_step c f.negated i v j u q r))));
 }
 
@@ -238,7 +238,7 @@ pub element_of_array : {k : Context} {f : ChainFlags} {es : Exprs} {i e : Expr} 
 element_of_array {f = f} {es = es} {i = i} {e = e} n j h q r x = record {
   lighter = omega (arith, element_light es j e x);
   keeps = λ P l lasts y. element_keeps P l lasts es j e x y.1.0.1;
-  sound = λ c. expr_meant (is_rest false f.breaks i) (core.Chain (core.OnValue (core_expr c.in_loop (ArrayOf es))) (steps_of c.in_loop false f (core.Index (core_expr c.in_loop i)) i))
+  sound = λ c. expr_meant (is_chain false f i) (core.Chain (core.OnValue (core_expr c.in_loop (ArrayOf es))) (steps_of c.in_loop false f (core.Index (core_expr c.in_loop i)) i))
       (subst (λ z. Simulates c (act (world c) (core.Chain (core.OnValue (core_expr c.in_loop (ArrayOf es))) z)) (act (world c) (core_expr c.in_loop e))) (sym (index_last c.in_loop f (core.Index (core_expr c.in_loop i)) i (IntV n) q))
       (simulates_trans (args_then c (core_exprs c.in_loop es) (λ vs. give (ArrayV (values vs))) (λ v. steps (world c) (core.last f.negated (core.Index (core_expr c.in_loop i))) (without_place v)))
       (args_pick c es h j e x _ (λ vs u m p. simulates_trans (simulates_equal {b = steps (world c) (core.last f.negated (core.Index (core_expr c.in_loop i))) (without_place (ArrayV (values vs)))} (λ y. refl)) (index_step c f.negated i (ArrayV (values vs)) (IntV n) u q (element_is vs (count_exprs es) j n u m r p))))));
@@ -248,14 +248,14 @@ pub property_of_map : {k : Context} {f : ChainFlags} {ps : Pairs} {template : Li
 property_of_map {f = f} {ps = ps} {template = template} {p = p} h = record {
   lighter = omega (arith, entry_light ps p.name);
   keeps = λ P l lasts y. entry_keeps P l lasts ps p.name y.1.0.1;
-  sound = λ c. entry_picked c ps template p.name (core.last f.negated (core.Property p)) h (λ fs. property_step c f.negated p fs);
+  sound = λ c. expr_meant (is_chain true f (Property p)) (core.Chain (core.OnValue (core_expr c.in_loop (MapOf ps template))) (core.last f.negated (core.Property p))) (entry_picked c ps template p.name (core.last f.negated (core.Property p)) h (λ fs. property_step c f.negated p fs));
 }
 
 pub entry_of_map : {k : Context} {f : ChainFlags} {ps : Pairs} {template : List Text} {i : Expr} (x : Text) → are_pure_pairs ps ≡ true → constant_value i ≡ Some (TextV x) → ExprObligation k (Index f (MapOf ps template) i) (or_unit (pair_for ps x))
 entry_of_map {f = f} {ps = ps} {template = template} {i = i} x h q = record {
   lighter = omega (arith, entry_light ps x);
   keeps = λ P l lasts y. entry_keeps P l lasts ps x y.1.0.1;
-  sound = λ c. expr_meant (is_rest false f.breaks i) (core.Chain (core.OnValue (core_expr c.in_loop (MapOf ps template))) (steps_of c.in_loop false f (core.Index (core_expr c.in_loop i)) i))
+  sound = λ c. expr_meant (is_chain false f i) (core.Chain (core.OnValue (core_expr c.in_loop (MapOf ps template))) (steps_of c.in_loop false f (core.Index (core_expr c.in_loop i)) i))
       (subst (λ z. Simulates c (act (world c) (core.Chain (core.OnValue (core_expr c.in_loop (MapOf ps template))) z)) (act (world c) (core_expr c.in_loop (or_unit (pair_for ps x))))) (sym (index_last c.in_loop f (core.Index (core_expr c.in_loop i)) i (TextV x) q))
       (entry_picked c ps template x (core.last f.negated (core.Index (core_expr c.in_loop i))) h (λ fs. index_step c f.negated i (MapV fs) (TextV x) (entry fs x) q refl)));
 }
@@ -263,7 +263,7 @@ entry_of_map {f = f} {ps = ps} {template = template} {i = i} x h q = record {
 -- a method of a constant, whose answer is a
 method_answers : {k : Context} (c : Setting k) (f : ChainFlags) (captures : Bool) (e : Expr) (m : Text) (v u : Value) → constant_value e ≡ Some v → (f.negated && is_unit v) ≡ false → Simulates c (applied (world c) (OfMethod m []) (without_place v) (λ x. give x.value)) (give u) → Simulates c (act (world c) (core_expr c.in_loop (Dot f e (MethodCall (named m captures) no_exprs)))) (give u)
 method_answers c f captures e m v u h n j =
-    expr_meant (is_rest true f.breaks (MethodCall (named m captures) no_exprs)) (core.Chain (based (root_of e) (core_expr c.in_loop e)) (core.last f.negated (member_of c.in_loop (MethodCall (named m captures) no_exprs))))
+    expr_meant (is_chain true f (MethodCall (named m captures) no_exprs)) (core.Chain (based (root_of e) (core_expr c.in_loop e)) (core.last f.negated (member_of c.in_loop (MethodCall (named m captures) no_exprs))))
     (by (is_callable (named m captures) 0)) where
       by : (b : Bool) → Simulates c (act (world c) (core.Chain (based (root_of e) (core_expr c.in_loop e)) (core.last f.negated (cond b (core.Method m core.no_exprs) core.IllStep)))) (give u)
       by true = chain_over c e v (core.last f.negated (core.Method m core.no_exprs)) (give u) h (not_unit c (f.negated && is_unit v) _ _ _ n j)

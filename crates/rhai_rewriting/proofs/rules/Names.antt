@@ -13,7 +13,7 @@ use Rattle.rhai_meaning.specs.Elements.{entry}
 use Rattle.rhai_meaning.specs.Meaning.{act, access, steps}
 use Rattle.rhai_meaning.specs.Places.{Current, or_no_place, along, at_root, refreshed}
 use Rattle.rhai_meaning.specs.Relations.{here}
-use Rattle.rhai_meaning.specs.Shape.{is_unit, is_rest}
+use Rattle.rhai_meaning.specs.Shape.{is_unit, is_chain}
 use Rattle.rhai_meaning.specs.Tree.{ChainFlags, PropertyNames, Expr, Variable, Property, Dot, Index}
 use Rattle.rhai_rewriting.specs.Context.{Context}
 use Rattle.rhai_rewriting.specs.Known.{look, Fits}
@@ -77,13 +77,13 @@ pub known_property : {k : Context} {f : ChainFlags} {x : Text} {p : PropertyName
 known_property {f = f} {x = x} {p = p} fs h = record {
   lighter = omega (arith, constant_of_light (entry fs p.name));
   keeps = λ P l lasts j. constant_of_keeps P l lasts (entry fs p.name);
-  sound = λ c. to_constant c _ (entry fs p.name) (map_step c x f.negated fs p.name (core.Property p) h (property_step c x p fs h));
+  sound = λ c. to_constant c _ (entry fs p.name) (expr_meant (is_chain true f (Property p)) (core.Chain (core.OnPlace (OfName x)) (core.last f.negated (core.Property p))) (map_step c x f.negated fs p.name (core.Property p) h (property_step c x p fs h)));
 }
 
 pub known_entry : {k : Context} {f : ChainFlags} {x : Text} {i : Expr} (fs : Fields) (y : Text) → look k.known x ≡ Some (MapV fs) → constant_value i ≡ Some (TextV y) → ExprObligation k (Index f (Variable [] x) i) (constant_of (entry fs y))
 known_entry {f = f} {x = x} {i = i} fs y h q = record {
   lighter = omega (arith, constant_of_light (entry fs y));
   keeps = λ P l lasts j. constant_of_keeps P l lasts (entry fs y);
-  sound = λ c. to_constant c _ (entry fs y) (expr_meant (is_rest false f.breaks i) (core.Chain (core.OnPlace (OfName x)) (steps_of c.in_loop false f (core.Index (core_expr c.in_loop i)) i))
+  sound = λ c. to_constant c _ (entry fs y) (expr_meant (is_chain false f i) (core.Chain (core.OnPlace (OfName x)) (steps_of c.in_loop false f (core.Index (core_expr c.in_loop i)) i))
       (subst (λ z. Simulates c (act (world c) (core.Chain (core.OnPlace (OfName x)) z)) (give (entry fs y))) (sym (index_last c.in_loop f (core.Index (core_expr c.in_loop i)) i (TextV y) q)) (map_step c x f.negated fs y (core.Index (core_expr c.in_loop i)) h (entry_step c x i fs y h q))));
 }

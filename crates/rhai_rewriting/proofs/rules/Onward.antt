@@ -2,7 +2,7 @@
 use Rattle.std.proofs.Common.{◌≡◌, ◌+◌, Bool, true, false, cond, [], Some, None, refl, sym, ap, ◌∙◌, subst, arith}
 use Rattle.std.specs.Prelude.{◌&&◌, not, codes, if◌then◌else◌}
 use Rattle.rhai_values.specs.Value.{Text, Value, Fields, UnitV, BoolV, TextV, MapV}
-use Rattle.rhai_meaning.specs.Act.{WrongKind, Act}
+use Rattle.rhai_meaning.specs.Act.{WrongKind, Act, Fail}
 use Rattle.rhai_meaning.specs.ActForms.{◌>>=◌}
 use Rattle.rhai_meaning.specs.Chains.{OfIndex, OfMethod, applied, unless_unit}
 use Rattle.rhai_meaning.specs.Constants.{constant_value}
@@ -12,7 +12,7 @@ use Rattle.rhai_meaning.specs.Elements.{entry}
 use Rattle.rhai_meaning.specs.Engine.{mapped_type_name}
 use Rattle.rhai_meaning.specs.Meaning.{act, access, steps}
 use Rattle.rhai_meaning.specs.Places.{Current, without_place, refreshed}
-use Rattle.rhai_meaning.specs.Shape.{is_unit, is_argument, is_rest, is_callable}
+use Rattle.rhai_meaning.specs.Shape.{is_unit, is_argument, is_rest, is_chain, is_callable}
 use Rattle.rhai_meaning.specs.Tree.{ChainFlags, PropertyNames, Expr, BoolConstant, StringConstant, Property, MethodCall, Dot, Index, no_exprs}
 use Rattle.rhai_meaning.specs.Walk.{Node, Around, whole, throughout, over_expr}
 use Rattle.rhai_meaning.specs.Weight.{expr_weight}
@@ -37,13 +37,13 @@ argument loop dot x = cond dot (member_of loop x) (core.Index (core_expr loop x)
 abbrev steps_in : (loop dot : Bool) → ChainFlags → Expr → core.Steps
 steps_in loop dot f x = steps_of loop dot f (argument loop dot x) x
 
-link_core : (loop dot : Bool) (f : ChainFlags) (e x : Expr) → core_expr loop (link dot f e x) ≡ cond (is_rest dot f.breaks x) (core.Chain (based (root_of e) (core_expr loop e)) (steps_in loop dot f x)) core.Ill
+link_core : (loop dot : Bool) (f : ChainFlags) (e x : Expr) → core_expr loop (link dot f e x) ≡ cond (is_chain dot f x) (core.Chain (based (root_of e) (core_expr loop e)) (steps_in loop dot f x)) core.Ill
 link_core loop true f e x = refl
 link_core loop false f e x = refl
 
-link_steps : (loop dot dot' : Bool) (f m : ChainFlags) (a r : Expr) → f.breaks ≡ false → steps_in loop dot f (link dot' m a r) ≡ core.more f.negated (argument loop dot a) (steps_in loop dot' m r)
-link_steps loop dot true f m a r q = ap (λ b. cond b (core.last f.negated (argument loop dot (Dot m a r))) (core.more f.negated (argument loop dot a) (steps_in loop true m r))) q
-link_steps loop dot false f m a r q = ap (λ b. cond b (core.last f.negated (argument loop dot (Index m a r))) (core.more f.negated (argument loop dot a) (steps_in loop false m r))) q
+link_steps : (loop dot dot' : Bool) (f m : ChainFlags) (a r : Expr) → f.breaks ≡ false → steps_in loop dot f (link dot' m a r) ≡ core.more f.negated (cond m.exported core.IllStep (argument loop dot a)) (steps_in loop dot' m r)
+link_steps loop dot true f m a r q = ap (λ b. cond b (core.last f.negated (argument loop dot (Dot m a r))) (core.more f.negated (cond m.exported core.IllStep (argument loop dot a)) (steps_in loop true m r))) q
+link_steps loop dot false f m a r q = ap (λ b. cond b (core.last f.negated (argument loop dot (Index m a r))) (core.more f.negated (cond m.exported core.IllStep (argument loop dot a)) (steps_in loop false m r))) q
 
 link_fits : (dot dot' : Bool) (f m : ChainFlags) (a r : Expr) → f.breaks ≡ false → is_rest dot f.breaks (link dot' m a r) ≡ (is_argument dot a && is_rest dot' m.breaks r)
 link_fits dot true f m a r q = ap (λ b. if b then not dot else (is_argument dot a && is_rest true m.breaks r)) q
@@ -58,24 +58,28 @@ module _ {k : Context} (c : Setting k) where
   abbrev step_at : Bool → core.Step → Value → (Current → Act) → Act
   step_at o p v next = unless_unit o (without_place v) (access (world c) p (λ q. refreshed (without_place v) (λ d. applied (world c) q d next)))
 
-  onward_meant : (x y : Bool) (e e' : core.Expr) (o : Bool) (p : core.Step) (sts : core.Steps) → Simulates c (act (world c) e >>= λ v. step_at o p v (λ z. steps (world c) sts z)) (act (world c) e' >>= λ v. steps (world c) sts (without_place v)) → Simulates c (act (world c) (cond (x && y) (core.Chain (core.OnValue e) (core.more o p sts)) core.Ill)) (act (world c) (cond y (core.Chain (core.OnValue e') sts) core.Ill))
-  onward_meant true true e e' o p sts h = h
-  onward_meant true false e e' o p sts h = simulates_refl
-  onward_meant false y e e' o p sts h = simulates_stuck WrongKind _
+  -- x, y: whether both nodes have their shape; a, b: whether they have EXPORTED
+  onward_meant : (x y a b : Bool) (e e' : core.Expr) (o : Bool) (p : core.Step) (sts : core.Steps) → Simulates c (act (world c) e >>= λ v. step_at o core.IllStep v (λ z. steps (world c) sts z)) (Fail WrongKind) → Simulates c (act (world c) e >>= λ v. step_at o p v (λ z. steps (world c) sts z)) (act (world c) e' >>= λ v. steps (world c) sts (without_place v)) → Simulates c (act (world c) (cond ((x && y) && not a) (core.Chain (core.OnValue e) (core.more o (cond b core.IllStep p) sts)) core.Ill)) (act (world c) (cond (y && not b) (core.Chain (core.OnValue e') sts) core.Ill))
+  onward_meant true true false false e e' o p sts i h = h
+  onward_meant true true false true e e' o p sts i h = i
+  onward_meant true true true b e e' o p sts i h = simulates_stuck WrongKind _
+  onward_meant true false a b e e' o p sts i h = simulates_refl
+  onward_meant false y a b e e' o p sts i h = simulates_stuck WrongKind _
 
   -- from the answer u of a step at a constant the chain goes on
-  onward : (dot dot' : Bool) (f m : ChainFlags) (e a r : Expr) (v u : Value) → f.breaks ≡ false → constant_value e ≡ Some v → ((next : Current → Act) → Simulates c (step_at f.negated (argument c.in_loop dot a) v next) (next (without_place u))) → Simulates c (act (world c) (core_expr c.in_loop (link dot f e (link dot' m a r)))) (act (world c) (core_expr c.in_loop (link dot' m (constant_of u) r)))
-  onward dot dot' f m e a r v u q h j =
+  onward : (dot dot' : Bool) (f m : ChainFlags) (e a r : Expr) (v u : Value) → f.breaks ≡ false → constant_value e ≡ Some v → (f.negated && is_unit v) ≡ false → ((next : Current → Act) → Simulates c (step_at f.negated (argument c.in_loop dot a) v next) (next (without_place u))) → Simulates c (act (world c) (core_expr c.in_loop (link dot f e (link dot' m a r)))) (act (world c) (core_expr c.in_loop (link dot' m (constant_of u) r)))
+  onward dot dot' f m e a r v u q h n j =
       let l = c.in_loop in
       let sts = steps_in l dot' m r in
       let p = argument l dot a in
-      let old : core_expr l (link dot f e (link dot' m a r)) ≡ cond (is_argument dot a && is_rest dot' m.breaks r) (core.Chain (core.OnValue (core_expr l e)) (core.more f.negated p sts)) core.Ill =
-      link_core l dot f e (link dot' m a r) ∙ (λ i. cond (link_fits dot dot' f m a r q i) (core.Chain (based (constant_root e v h i) (core_expr l e)) (link_steps l dot dot' f m a r q i)) core.Ill) in
-      let new : core_expr l (link dot' m (constant_of u) r) ≡ cond (is_rest dot' m.breaks r) (core.Chain (core.OnValue (core.Constant u)) sts) core.Ill =
-      link_core l dot' m (constant_of u) r ∙ (λ i. cond (is_rest dot' m.breaks r) (core.Chain (based (constant_no_root u i) (constant_of_means l u i)) sts) core.Ill) in
+      let old : core_expr l (link dot f e (link dot' m a r)) ≡ cond ((is_argument dot a && is_rest dot' m.breaks r) && not f.exported) (core.Chain (core.OnValue (core_expr l e)) (core.more f.negated (cond m.exported core.IllStep p) sts)) core.Ill =
+      link_core l dot f e (link dot' m a r) ∙ (λ i. cond (link_fits dot dot' f m a r q i && not f.exported) (core.Chain (based (constant_root e v h i) (core_expr l e)) (link_steps l dot dot' f m a r q i)) core.Ill) in
+      let new : core_expr l (link dot' m (constant_of u) r) ≡ cond (is_chain dot' m r) (core.Chain (core.OnValue (core.Constant u)) sts) core.Ill =
+      link_core l dot' m (constant_of u) r ∙ (λ i. cond (is_chain dot' m r) (core.Chain (based (constant_no_root u i) (constant_of_means l u i)) sts) core.Ill) in
       subst (λ z. Simulates c (act (world c) z) (act (world c) (core_expr l (link dot' m (constant_of u) r)))) (sym old)
-      (subst (λ z. Simulates c (act (world c) (cond (is_argument dot a && is_rest dot' m.breaks r) (core.Chain (core.OnValue (core_expr l e)) (core.more f.negated p sts)) core.Ill)) (act (world c) z)) (sym new)
-      (onward_meant (is_argument dot a) (is_rest dot' m.breaks r) (core_expr l e) (core.Constant u) f.negated p sts
+      (subst (λ z. Simulates c (act (world c) (cond ((is_argument dot a && is_rest dot' m.breaks r) && not f.exported) (core.Chain (core.OnValue (core_expr l e)) (core.more f.negated (cond m.exported core.IllStep p) sts)) core.Ill)) (act (world c) z)) (sym new)
+      (onward_meant (is_argument dot a) (is_rest dot' m.breaks r) f.exported m.exported (core_expr l e) (core.Constant u) f.negated p sts
+      (simulates_trans (constant_then c e v (λ z. step_at f.negated core.IllStep z (λ y. steps (world c) sts y)) h) (not_unit c (f.negated && is_unit v) _ _ _ n (simulates_stuck WrongKind _)))
       (simulates_trans (constant_then c e v (λ z. step_at f.negated p z (λ y. steps (world c) sts y)) h)
       (simulates_trans (j (λ y. steps (world c) sts y)) (simulates_equal (λ i. refl))))))
 
@@ -100,10 +104,10 @@ link_weight false m e r = refl
 
 module _ (P : Around → Node → Type 0) (l : Bool) (lasts : Lasting P l) where
   onward_keeps : (dot dot' : Bool) (f m : ChainFlags) (e a r : Expr) (u : Value) → f.breaks ≡ false → over_expr (throughout P) (link dot f e (link dot' m a r)) (whole l) → over_expr (throughout P) (link dot' m (constant_of u) r) (whole l)
-  onward_keeps true true f m e a r u q h = (lasts.onward true true f m e a (constant_of u) r q h.0, (constant_of_keeps P l lasts u, h.1.1.1.1))
-  onward_keeps true false f m e a r u q h = (lasts.onward true false f m e a (constant_of u) r q h.0, (constant_of_keeps P l lasts u, h.1.1.1.1))
-  onward_keeps false true f m e a r u q h = (lasts.onward false true f m e a (constant_of u) r q h.0, (constant_of_keeps P l lasts u, h.1.1.1.1))
-  onward_keeps false false f m e a r u q h = (lasts.onward false false f m e a (constant_of u) r q h.0, (constant_of_keeps P l lasts u, h.1.1.1.1))
+  onward_keeps true true f m e a r u q h = (lasts.onward true true f m e a (constant_of u) r q h.0 _ h.1.1.0, (constant_of_keeps P l lasts u, h.1.1.1.1))
+  onward_keeps true false f m e a r u q h = (lasts.onward true false f m e a (constant_of u) r q h.0 _ h.1.1.0, (constant_of_keeps P l lasts u, h.1.1.1.1))
+  onward_keeps false true f m e a r u q h = (lasts.onward false true f m e a (constant_of u) r q h.0 _ h.1.1.0, (constant_of_keeps P l lasts u, h.1.1.1.1))
+  onward_keeps false false f m e a r u q h = (lasts.onward false false f m e a (constant_of u) r q h.0 _ h.1.1.0, (constant_of_keeps P l lasts u, h.1.1.1.1))
 
 -- ---- the rules
 
@@ -111,26 +115,26 @@ pub property_of_constant_first : {k : Context} {f : ChainFlags} {e : Expr} (dot 
 property_of_constant_first {f = f} {e = e} dot m p r fs q h = record {
   lighter = omega (arith, link_weight dot m (Property p) r, link_weight dot m (constant_of (entry fs p.name)) r, constant_of_light (entry fs p.name));
   keeps = λ P l lasts j. onward_keeps P l lasts true dot f m e (Property p) r (entry fs p.name) q j;
-  sound = λ c. onward c true dot f m e (Property p) r (MapV fs) (entry fs p.name) q h (property_next c f.negated p fs);
+  sound = λ c. onward c true dot f m e (Property p) r (MapV fs) (entry fs p.name) q h (no_unit c f.negated false refl) (property_next c f.negated p fs);
 }
 
 pub index_of_constant_first : {k : Context} {f : ChainFlags} {e : Expr} (dot : Bool) (m : ChainFlags) (i r : Expr) (v j u : Value) → f.breaks ≡ false → constant_value e ≡ Some v → constant_value i ≡ Some j → indexed v j ≡ Some u → ExprObligation k (Index f e (link dot m i r)) (link dot m (constant_of u) r)
 index_of_constant_first {f = f} {e = e} dot m i r v j u b h q n = record {
   lighter = omega (arith, link_weight dot m i r, link_weight dot m (constant_of u) r, constant_of_light u);
   keeps = λ P l lasts x. onward_keeps P l lasts false dot f m e i r u b x;
-  sound = λ c. onward c false dot f m e i r v u b h (index_next c f.negated i v j u q n);
+  sound = λ c. onward c false dot f m e i r v u b h (no_unit c f.negated (is_unit v) (indexed_is c v j u n)) (index_next c f.negated i v j u q n);
 }
 
 pub type_of_method_first : {k : Context} {f : ChainFlags} {e : Expr} (dot captures : Bool) (m : ChainFlags) (r : Expr) (v : Value) → f.breaks ≡ false → constant_value e ≡ Some v → (f.negated && is_unit v) ≡ false → ExprObligation k (Dot f e (link dot m (MethodCall (named (codes "type_of") captures) no_exprs) r)) (link dot m (StringConstant (mapped_type_name k.engine v)) r)
 type_of_method_first {k = k} {f = f} {e = e} dot captures m r v q h n = record {
   lighter = omega (arith, link_weight dot m (MethodCall (named (codes "type_of") captures) no_exprs) r, link_weight dot m (StringConstant (mapped_type_name k.engine v)) r);
   keeps = λ P l lasts j. onward_keeps P l lasts true dot f m e (MethodCall (named (codes "type_of") captures) no_exprs) r (TextV (mapped_type_name k.engine v)) q j;
-  sound = λ c. onward c true dot f m e (MethodCall (named (codes "type_of") captures) no_exprs) r v (TextV (mapped_type_name k.engine v)) q h (method_next c (is_callable (named (codes "type_of") captures) 0) f.negated (codes "type_of") v (TextV (mapped_type_name k.engine v)) n (λ next. simulates_refl));
+  sound = λ c. onward c true dot f m e (MethodCall (named (codes "type_of") captures) no_exprs) r v (TextV (mapped_type_name k.engine v)) q h n (method_next c (is_callable (named (codes "type_of") captures) 0) f.negated (codes "type_of") v (TextV (mapped_type_name k.engine v)) n (λ next. simulates_refl));
 }
 
 pub is_shared_method_first : {k : Context} {f : ChainFlags} {e : Expr} (dot captures : Bool) (m : ChainFlags) (r : Expr) (v : Value) → f.breaks ≡ false → constant_value e ≡ Some v → (f.negated && is_unit v) ≡ false → ExprObligation k (Dot f e (link dot m (MethodCall (named (codes "is_shared") captures) no_exprs) r)) (link dot m (BoolConstant false) r)
 is_shared_method_first {f = f} {e = e} dot captures m r v q h n = record {
   lighter = omega (arith, link_weight dot m (MethodCall (named (codes "is_shared") captures) no_exprs) r, link_weight dot m (BoolConstant false) r);
   keeps = λ P l lasts j. onward_keeps P l lasts true dot f m e (MethodCall (named (codes "is_shared") captures) no_exprs) r (BoolV false) q j;
-  sound = λ c. onward c true dot f m e (MethodCall (named (codes "is_shared") captures) no_exprs) r v (BoolV false) q h (method_next c (is_callable (named (codes "is_shared") captures) 0) f.negated (codes "is_shared") v (BoolV false) n (λ next. simulates_refl));
+  sound = λ c. onward c true dot f m e (MethodCall (named (codes "is_shared") captures) no_exprs) r v (BoolV false) q h n (method_next c (is_callable (named (codes "is_shared") captures) 0) f.negated (codes "is_shared") v (BoolV false) n (λ next. simulates_refl));
 }

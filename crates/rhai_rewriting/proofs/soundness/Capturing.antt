@@ -85,7 +85,7 @@ apart_closed w = record {
   throws = λ v. apart_stop;
   continues = apart_stop;
   breaks = apart_then apart_stop each_leaves;
-  breaks_with = λ e q v. apart_stop;
+  breaks_with = λ o e q v. apart_stop;
 }
 
 pub list_apart : (w : World) (ss : Stmts) → over_stmts (all_true is_apart) ss ≡ true → AllApart (acts w true (core_stmts false ss) UnitV)

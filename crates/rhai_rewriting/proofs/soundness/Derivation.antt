@@ -1,16 +1,16 @@
 -- What a tree was rewritten to does what the tree does: by induction on the derivation.
 use Rattle.std.proofs.Common.{◌≡◌, ℕ, zero, suc, Bool, true, false, cond, ◌∷◌, List, Option, refl, sym, ap, ◌∙◌, subst}
-use Rattle.std.specs.Prelude.{◌&&◌, slice_get}
+use Rattle.std.specs.Prelude.{not, ◌&&◌, slice_get}
 use Rattle.rhai_values.specs.Value.{Text, Value, UnitV}
 use Rattle.rhai_base.specs.Operators.{Operator}
 use Rattle.rhai_meaning.specs.Act.{Act, Acts, Only}
 use Rattle.rhai_meaning.specs.ActForms.{give}
 use Rattle.rhai_meaning.specs.Calls.{called}
 use Rattle.rhai_meaning.specs.Core as core
-use Rattle.rhai_meaning.specs.Desugar.{callee_by, call_of, root_of, based, ends_in_call, part_target, guard_by, break_kind, core_expr, core_exprs, core_pairs, member_of, method_of, steps_of, target_of, core_arms, core_maybe, core_stmt, core_stmts}
+use Rattle.rhai_meaning.specs.Desugar.{callee_by, call_of, root_of, based, ends_in_call, part_target, guard_by, break_kind, return_kind, core_expr, core_exprs, core_pairs, member_of, method_of, steps_of, target_of, core_arms, core_maybe, core_stmt, core_stmts}
 use Rattle.rhai_meaning.specs.Queries.{is_unit}
 use Rattle.rhai_meaning.specs.Shape.{is_unit as is_unit_value}
-use Rattle.rhai_meaning.specs.Shape.{is_rest, is_callable, is_table, is_left_side, keys, are_distinct, are_among, catch_name}
+use Rattle.rhai_meaning.specs.Shape.{is_chain, is_callable, is_table, is_left_side, keys, are_distinct, are_among, catch_name}
 use Rattle.rhai_meaning.specs.Meaning.{wanted_value, act, with_args, with_pairs, both, either, first_some, arm_acts, loop, assign, deed, line, acts}
 use Rattle.rhai_meaning.specs.Tree.{ChainFlags, Callee, Expr, UnitConstant, MethodCall, Dot, Index, Exprs, count_exprs, Pairs, MaybeExpr, Arms, Stmt, Stmts, no_stmts, stmt}
 use Rattle.rhai_rewriting.specs.Context.{Context, ListKind, Inside, wanted, wanted_before}
@@ -87,19 +87,26 @@ while_sound c e e' ss ss' h u j = by (is_unit e) refl where
 
 -- ---- the shape of a chain
 
+chain_fits : {k : Context} {dot d d' : Bool} {r r' : Expr} (f : ChainFlags) → StepsTo k dot f.breaks d d' r r' → is_chain dot f r ≡ is_chain dot f r'
+chain_fits f h = ap (λ b. b && not f.exported) (rest_fits h)
+
 -- its last argument, of a `Dot` (dot) or an `Index`
 abbrev last_step : (loop dot : Bool) → Expr → core.Step
 last_step loop dot e = cond dot (member_of loop e) (core.Index (core_expr loop e))
 
 steps_end : (loop : Bool) (f : ChainFlags) (p : core.Step) (r : Expr) → f.breaks ≡ true → steps_of loop false f p r ≡ core.last f.negated p
-steps_end loop f p (Dot m l r) h = ap (λ b. cond b (core.last f.negated p) (core.more f.negated (core.Index (core_expr loop l)) (steps_of loop true m (member_of loop r) r))) h
-steps_end loop f p (Index m l r) h = ap (λ b. cond b (core.last f.negated p) (core.more f.negated (core.Index (core_expr loop l)) (steps_of loop false m (core.Index (core_expr loop r)) r))) h
+steps_end loop f p (Dot m l r) h = ap (λ b. cond b (core.last f.negated p) (core.more f.negated (cond m.exported core.IllStep (core.Index (core_expr loop l))) (steps_of loop true m (member_of loop r) r))) h
+steps_end loop f p (Index m l r) h = ap (λ b. cond b (core.last f.negated p) (core.more f.negated (cond m.exported core.IllStep (core.Index (core_expr loop l))) (steps_of loop false m (core.Index (core_expr loop r)) r))) h
 steps_end loop f p _ h = refl
 
 -- behind a chain that goes on
 goes_on : {k : Context} (c : Setting k) (b : Bool) (x x' y y' : core.Steps) → b ≡ false → StepsAlike c y y' → StepsAlike c (cond b x y) (cond b x' y')
 goes_on c true x x' y y' e h = absurd (let z : true ≡ false = e in cc)
 goes_on c false x x' y y' e h = h
+
+either_alike : {k : Context} (c : Setting k) (b : Bool) (p p' : core.Step) → StepAlike c p p' → StepAlike c (cond b core.IllStep p) (cond b core.IllStep p')
+either_alike c true p p' h = step_refl c core.IllStep
+either_alike c false p p' h = h
 
 member_sound : {k : Context} (c : Setting k) (f : Callee) (es es' : Exprs) → count_exprs es ≡ count_exprs es' → ((next : List Value → Act) → Simulates c (with_args (world c) (core_exprs c.in_loop es) next) (with_args (world c) (core_exprs c.in_loop es') next)) → StepAlike c (member_of c.in_loop (MethodCall f es)) (member_of c.in_loop (MethodCall f es'))
 member_sound c f es es' e h =
@@ -161,15 +168,15 @@ mutual
   chain_sound (in_dot {f = f} {l = l} {l' = l'} {r = r} {r' = r'} (base h u) i) c =
       let A = act (world c) (core_expr c.in_loop (Dot f l r)) in
       let sts = steps_of c.in_loop true f (member_of c.in_loop r') r' in
-      subst (λ b. Simulates c A (act (world c) (cond b (core.Chain (based (root_of l') (core_expr c.in_loop l')) sts) core.Ill))) (rest_fits i)
-      (subst (λ o. Simulates c A (act (world c) (cond (is_rest true f.breaks r) (core.Chain (based o (core_expr c.in_loop l')) sts) core.Ill))) (sym u)
-      (chain_alike c (is_rest true f.breaks r) (root_of l) (core_expr c.in_loop l) (core_expr c.in_loop l') (expr_sound h c) (steps_sound i c f refl)))
+      subst (λ b. Simulates c A (act (world c) (cond b (core.Chain (based (root_of l') (core_expr c.in_loop l')) sts) core.Ill))) (chain_fits f i)
+      (subst (λ o. Simulates c A (act (world c) (cond (is_chain true f r) (core.Chain (based o (core_expr c.in_loop l')) sts) core.Ill))) (sym u)
+      (chain_alike c (is_chain true f r) (root_of l) (core_expr c.in_loop l) (core_expr c.in_loop l') (expr_sound h c) (steps_sound i c f refl)))
   chain_sound (in_index {f = f} {l = l} {l' = l'} {r = r} {r' = r'} (base h u) i) c =
       let A = act (world c) (core_expr c.in_loop (Index f l r)) in
       let sts = steps_of c.in_loop false f (core.Index (core_expr c.in_loop r')) r' in
-      subst (λ b. Simulates c A (act (world c) (cond b (core.Chain (based (root_of l') (core_expr c.in_loop l')) sts) core.Ill))) (rest_fits i)
-      (subst (λ o. Simulates c A (act (world c) (cond (is_rest false f.breaks r) (core.Chain (based o (core_expr c.in_loop l')) sts) core.Ill))) (sym u)
-      (chain_alike c (is_rest false f.breaks r) (root_of l) (core_expr c.in_loop l) (core_expr c.in_loop l') (expr_sound h c) (steps_sound i c f refl)))
+      subst (λ b. Simulates c A (act (world c) (cond b (core.Chain (based (root_of l') (core_expr c.in_loop l')) sts) core.Ill))) (chain_fits f i)
+      (subst (λ o. Simulates c A (act (world c) (cond (is_chain false f r) (core.Chain (based o (core_expr c.in_loop l')) sts) core.Ill))) (sym u)
+      (chain_alike c (is_chain false f r) (root_of l) (core_expr c.in_loop l) (core_expr c.in_loop l') (expr_sound h c) (steps_sound i c f refl)))
 
   argument_sound : {k : Context} {dot d d' : Bool} {e e' : Expr} → ArgumentTo k dot d d' e e' → (c : Setting k) → StepAlike c (last_step c.in_loop dot e) (last_step c.in_loop dot e')
   argument_sound same_argument c = step_refl c _
@@ -185,25 +192,25 @@ mutual
       subst (λ sts. StepsAlike c sts (steps_of c.in_loop false f p' e')) (sym (steps_end c.in_loop f p e z))
       (subst (λ sts. StepsAlike c (core.last f.negated p) sts) (sym (steps_end c.in_loop f p' e' z))
       (last_alike c f.negated (index_alike c (core_expr c.in_loop e) (core_expr c.in_loop e') (expr_sound h c))))
-  steps_sound (more_dot {f = m} h i) c f z = goes_on c f.breaks _ _ _ _ z (more_alike c f.negated (argument_sound h c) (steps_sound i c m refl))
-  steps_sound (more_index {f = m} h i) c f z = goes_on c f.breaks _ _ _ _ z (more_alike c f.negated (argument_sound h c) (steps_sound i c m refl))
+  steps_sound (more_dot {f = m} h i) c f z = goes_on c f.breaks _ _ _ _ z (more_alike c f.negated (either_alike c m.exported _ _ (argument_sound h c)) (steps_sound i c m refl))
+  steps_sound (more_index {f = m} h i) c f z = goes_on c f.breaks _ _ _ _ z (more_alike c f.negated (either_alike c m.exported _ _ (argument_sound h c)) (steps_sound i c m refl))
 
   target_sound : {k : Context} {d d' : Bool} {e e' : Expr} → TargetTo k d d' e e' → (c : Setting k) (op : Option Operator) (v : Value) → Simulates c (assign (world c) op (target_of c.in_loop e) v) (assign (world c) op (target_of c.in_loop e') v)
   target_sound same_target c op v = simulates_refl
   target_sound (in_target (in_dot {f = f} {l = l} {l' = l'} {r = r} {r' = r'} (base h u) i)) c op v =
       let A = assign (world c) op (target_of c.in_loop (Dot f l r)) v in
       let sts = steps_of c.in_loop true f (member_of c.in_loop r') r' in
-      subst (λ b. Simulates c A (assign (world c) op (cond b (part_target (root_of l') (ends_in_call true f.breaks r') sts) core.IllTarget) v)) (rest_fits i)
-      (subst (λ o. Simulates c A (assign (world c) op (cond (is_rest true f.breaks r) (part_target o (ends_in_call true f.breaks r') sts) core.IllTarget) v)) (sym u)
-      (subst (λ b. Simulates c A (assign (world c) op (cond (is_rest true f.breaks r) (part_target (root_of l) b sts) core.IllTarget) v)) (calls_fit i)
-      (target_alike c (is_rest true f.breaks r) (root_of l) (ends_in_call true f.breaks r) (steps_sound i c f refl) op v)))
+      subst (λ b. Simulates c A (assign (world c) op (cond b (part_target (root_of l') (ends_in_call true f.breaks r') sts) core.IllTarget) v)) (chain_fits f i)
+      (subst (λ o. Simulates c A (assign (world c) op (cond (is_chain true f r) (part_target o (ends_in_call true f.breaks r') sts) core.IllTarget) v)) (sym u)
+      (subst (λ b. Simulates c A (assign (world c) op (cond (is_chain true f r) (part_target (root_of l) b sts) core.IllTarget) v)) (calls_fit i)
+      (target_alike c (is_chain true f r) (root_of l) (ends_in_call true f.breaks r) (steps_sound i c f refl) op v)))
   target_sound (in_target (in_index {f = f} {l = l} {l' = l'} {r = r} {r' = r'} (base h u) i)) c op v =
       let A = assign (world c) op (target_of c.in_loop (Index f l r)) v in
       let sts = steps_of c.in_loop false f (core.Index (core_expr c.in_loop r')) r' in
-      subst (λ b. Simulates c A (assign (world c) op (cond b (part_target (root_of l') (ends_in_call false f.breaks r') sts) core.IllTarget) v)) (rest_fits i)
-      (subst (λ o. Simulates c A (assign (world c) op (cond (is_rest false f.breaks r) (part_target o (ends_in_call false f.breaks r') sts) core.IllTarget) v)) (sym u)
-      (subst (λ b. Simulates c A (assign (world c) op (cond (is_rest false f.breaks r) (part_target (root_of l) b sts) core.IllTarget) v)) (calls_fit i)
-      (target_alike c (is_rest false f.breaks r) (root_of l) (ends_in_call false f.breaks r) (steps_sound i c f refl) op v)))
+      subst (λ b. Simulates c A (assign (world c) op (cond b (part_target (root_of l') (ends_in_call false f.breaks r') sts) core.IllTarget) v)) (chain_fits f i)
+      (subst (λ o. Simulates c A (assign (world c) op (cond (is_chain false f r) (part_target o (ends_in_call false f.breaks r') sts) core.IllTarget) v)) (sym u)
+      (subst (λ b. Simulates c A (assign (world c) op (cond (is_chain false f r) (part_target (root_of l) b sts) core.IllTarget) v)) (calls_fit i)
+      (target_alike c (is_chain false f r) (root_of l) (ends_in_call false f.breaks r) (steps_sound i c f refl) op v)))
 
   maybe_sound : {k : Context} {d d' : Bool} {e e' : MaybeExpr} → MaybeTo k d d' e e' → (c : Setting k) → Simulates c (act (world c) (core_maybe c.in_loop e)) (act (world c) (core_maybe c.in_loop e'))
   maybe_sound maybe_none c = simulates_refl
@@ -223,7 +230,9 @@ mutual
       stmt_of_deed (meant_again c (is_table as' t) (is_table bs t) (core.Switch (core_expr c.in_loop e) (core_arms c.in_loop as') t) (core.Switch (core_expr c.in_loop e') (core_arms c.in_loop bs) t) (table_stays i t)
       (simulates_bind (expr_sound h c) (λ v. switch_alike c (arm_acts (world c) (core_arms c.in_loop as')) (arm_acts (world c) (core_arms c.in_loop bs)) (arm_sound i c) t v)))
   stmt_sound (in_while {e = e} {e' = e'} {b = b} {b' = b'} (guard h u) i) c = stmt_of_deed (while_sound c e e' b b' (expr_sound h c) u (λ k. stmts_sound i k UnitV (λ z. refl)))
-  stmt_sound (in_do {negated = n} {b = b} {b' = b'} h i) c = stmt_of_deed (c_do (λ x y. Simulates c x y) Any (congruent c) n _ _ _ _ (body_alike c b b' (λ k. stmts_sound i k UnitV (λ z. refl))) (expr_sound h c))
+  stmt_sound {w = w} (in_do {negated = n} {exported = o} {e = e} {e' = e'} {b = b} {b' = b'} h i) c =
+      test_sound c w (not o) (not o) (core.Do n (core_expr c.in_loop e) (core_stmts true b)) (core.Do n (core_expr c.in_loop e') (core_stmts true b')) refl
+      (c_do (λ x y. Simulates c x y) Any (congruent c) n _ _ _ _ (body_alike c b b' (λ k. stmts_sound i k UnitV (λ z. refl))) (expr_sound h c))
   stmt_sound (in_for {x = x} {i = n} {b = b} {b' = b'} h i) c = stmt_of_deed (simulates_bind (expr_sound h c) (λ v. c_for_all (λ y z. Simulates c y z) Any (congruent c) x n _ _ (rounds_alike c x n b b' (λ k. stmts_sound i k UnitV (λ z. refl))) v))
   stmt_sound {w = w} (in_var {constant = b} {exported = o} {x = x} {e = e} {e' = e'} h) c = var_sound c w o b x (core_expr c.in_loop e) (core_expr c.in_loop e') (expr_sound h c)
   stmt_sound {w = w} (in_assignment {op = op} {l = l} {l' = l'} {e = e} {e' = e'} h i) c =
@@ -233,9 +242,10 @@ mutual
   stmt_sound (in_try {x = x} {a = a} {a' = a'} {b = b} {b' = b'} h i) c = stmt_of_deed (try_alike c (catch_name x) a a' b b' (λ k. stmts_sound h k UnitV (λ z. refl)) (λ k. stmts_sound i k UnitV (λ z. refl)))
   stmt_sound (in_expression h) c = stmt_of_deed (expr_sound h c)
   stmt_sound (in_call_statement {c = f} {es = es} {es' = es'} h) c = stmt_of_deed (counted_sound c f (core_exprs c.in_loop es) (core_exprs c.in_loop es') (same_count h) (λ next. args_sound h c next))
-  stmt_sound {w = w} (in_break {breaks = b} {m = m} {m' = m'} h) c =
-      test_sound c w c.in_loop c.in_loop (core.Leave (break_kind b) (core_maybe c.in_loop m)) (core.Leave (break_kind b) (core_maybe c.in_loop m')) refl (simulates_bind (maybe_sound h c) (λ v. simulates_refl))
-  stmt_sound (in_return h) c = stmt_of_deed (simulates_bind (maybe_sound h c) (λ v. simulates_refl))
+  stmt_sound {w = w} (in_break {breaks = b} {exported = o} {m = m} {m' = m'} h) c =
+      test_sound c w (c.in_loop && not o) (c.in_loop && not o) (core.Leave (break_kind b) (core_maybe c.in_loop m)) (core.Leave (break_kind b) (core_maybe c.in_loop m')) refl (simulates_bind (maybe_sound h c) (λ v. simulates_refl))
+  stmt_sound {w = w} (in_return {throws = b} {exported = o} {m = m} {m' = m'} h) c =
+      test_sound c w (not o) (not o) (core.Leave (return_kind b) (core_maybe c.in_loop m)) (core.Leave (return_kind b) (core_maybe c.in_loop m')) refl (simulates_bind (maybe_sound h c) (λ v. simulates_refl))
   stmt_sound (in_import h) c = stmt_refl
 
   pub stmts_sound : {k : Context} {m : ListKind} {u d d' : Bool} {ss ss' : Stmts} → RestTo k m u d d' ss ss' → (c : Setting k) (v : Value) → (u ≡ true → v ≡ UnitV) → SimulatesList c m (acts (world c) (wanted m) (core_stmts c.in_loop ss) v) (acts (world c) (wanted m) (core_stmts c.in_loop ss') v)

@@ -80,9 +80,9 @@ value_plain : (v : Value) → is_plain_node (OfExpr (constant_of v)) ≡ true
 value_plain UnitV = refl
 value_plain _ = refl
 
-onward_plain : (dot dot' : Bool) (f m : ChainFlags) (e a e' r : Expr) → f.breaks ≡ false → is_plain_node (OfExpr (link dot f e (link dot' m a r))) ≡ true → is_plain_node (OfExpr (link dot' m e' r)) ≡ true
-onward_plain dot true f m e a e' r q h = refl
-onward_plain dot false f m e a e' r q h = refl
+onward_plain : (dot dot' : Bool) (f m : ChainFlags) (e a e' r : Expr) → f.breaks ≡ false → is_plain_node (OfExpr (link dot f e (link dot' m a r))) ≡ true → (b : Around) → is_plain_node (OfExpr (link dot' m a r)) ≡ true → is_plain_node (OfExpr (link dot' m e' r)) ≡ true
+onward_plain dot true f m e a e' r q h b j = j
+onward_plain dot false f m e a e' r q h b j = j
 
 plain_lasts : (l : Bool) → Lasting (λ a n. is_plain_node n ≡ true) l
 plain_lasts l = record {
@@ -121,7 +121,7 @@ places_last l = record {
   branching = λ e a b. refl;
   block = λ ss. refl;
   expression = λ e. refl;
-  onward = λ dot dot' f m e a e' r q h. refl;
+  onward = λ dot dot' f m e a e' r q h b j. refl;
   conjunction = λ es h. refl;
   call_statement = λ c es h. refl;
 }
@@ -143,9 +143,9 @@ value_apart : (v : Value) → not (is_capturing (OfExpr (constant_of v))) ≡ tr
 value_apart UnitV = refl
 value_apart _ = refl
 
-onward_apart : (dot dot' : Bool) (f m : ChainFlags) (e a e' r : Expr) → f.breaks ≡ false → not (is_capturing (OfExpr (link dot f e (link dot' m a r)))) ≡ true → not (is_capturing (OfExpr (link dot' m e' r))) ≡ true
-onward_apart dot true f m e a e' r q h = refl
-onward_apart dot false f m e a e' r q h = refl
+onward_apart : (dot dot' : Bool) (f m : ChainFlags) (e a e' r : Expr) → f.breaks ≡ false → not (is_capturing (OfExpr (link dot f e (link dot' m a r)))) ≡ true → (b : Around) → not (is_capturing (OfExpr (link dot' m a r))) ≡ true → not (is_capturing (OfExpr (link dot' m e' r))) ≡ true
+onward_apart dot true f m e a e' r q h b j = refl
+onward_apart dot false f m e a e' r q h b j = refl
 
 apart_lasts : (l : Bool) → Lasting (λ a n. not (is_capturing n) ≡ true) l
 apart_lasts l = record {
@@ -184,9 +184,9 @@ module _ (Q : Callee → Type 0) where
   value_captures UnitV = tt
   value_captures _ = tt
 
-  onward_captures : (dot dot' : Bool) (f m : ChainFlags) (e a e' r : Expr) → f.breaks ≡ false → Captures Q (OfExpr (link dot f e (link dot' m a r))) → Captures Q (OfExpr (link dot' m e' r))
-  onward_captures dot true f m e a e' r q h = tt
-  onward_captures dot false f m e a e' r q h = tt
+  onward_captures : (dot dot' : Bool) (f m : ChainFlags) (e a e' r : Expr) → f.breaks ≡ false → Captures Q (OfExpr (link dot f e (link dot' m a r))) → (b : Around) → Captures Q (OfExpr (link dot' m a r)) → Captures Q (OfExpr (link dot' m e' r))
+  onward_captures dot true f m e a e' r q h b j = tt
+  onward_captures dot false f m e a e' r q h b j = tt
 
   captures_last : (l : Bool) → Lasting (λ a n. Captures Q n) l
   captures_last l = record {

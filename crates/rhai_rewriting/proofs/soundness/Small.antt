@@ -46,9 +46,9 @@ value_callless : (v : Value) → CallsOperator (OfExpr (constant_of v))
 value_callless UnitV = tt
 value_callless _ = tt
 
-no_chain : (dot dot' : Bool) (f m : ChainFlags) (e a e' r : Expr) → f.breaks ≡ false → CallsOperator (OfExpr (link dot f e (link dot' m a r))) → CallsOperator (OfExpr (link dot' m e' r))
-no_chain true dot' f m e a e' r q h = absurd h
-no_chain false dot' f m e a e' r q h = absurd h
+no_chain : (dot dot' : Bool) (f m : ChainFlags) (e a e' r : Expr) → f.breaks ≡ false → CallsOperator (OfExpr (link dot f e (link dot' m a r))) → (b : Around) → CallsOperator (OfExpr (link dot' m a r)) → CallsOperator (OfExpr (link dot' m e' r))
+no_chain true dot' f m e a e' r q h b j = absurd h
+no_chain false dot' f m e a e' r q h b j = absurd h
 
 operators_last : (l : Bool) → Lasting (λ a n. CallsOperator n) l
 operators_last l = record {

@@ -52,11 +52,11 @@ fits_onward : (dot dot' : Bool) (f m : ChainFlags) (a r : Expr) → f.breaks ≡
 fits_onward dot true f m a r q h = rest_fits (is_argument dot a) (is_rest true m.breaks r) (subst (λ b. unless (if b then not dot else (is_argument dot a && is_rest true m.breaks r)) ChainShape ≡ None) q h)
 fits_onward dot false f m a r q h = rest_fits (is_argument dot a) (is_rest false m.breaks r) (subst (λ b. unless (if b then not dot else (is_argument dot a && is_rest false m.breaks r)) ChainShape ≡ None) q h)
 
-onward_faultless : (l dot dot' : Bool) (f m : ChainFlags) (e a e' r : Expr) → f.breaks ≡ false → IsFaultless (whole l) (OfExpr (link dot f e (link dot' m a r))) → IsFaultless (whole l) (OfExpr (link dot' m e' r))
-onward_faultless l true true f m e a e' r q h = fits_onward true true f m a r q h
-onward_faultless l true false f m e a e' r q h = fits_onward true false f m a r q h
-onward_faultless l false true f m e a e' r q h = fits_onward false true f m a r q h
-onward_faultless l false false f m e a e' r q h = fits_onward false false f m a r q h
+onward_faultless : (l dot dot' : Bool) (f m : ChainFlags) (e a e' r : Expr) → f.breaks ≡ false → IsFaultless (whole l) (OfExpr (link dot f e (link dot' m a r))) → (b : Around) → IsFaultless b (OfExpr (link dot' m a r)) → IsFaultless (whole l) (OfExpr (link dot' m e' r))
+onward_faultless l true true f m e a e' r q h b j = fits_onward true true f m a r q h
+onward_faultless l true false f m e a e' r q h b j = fits_onward true false f m a r q h
+onward_faultless l false true f m e a e' r q h b j = fits_onward false true f m a r q h
+onward_faultless l false false f m e a e' r q h b j = fits_onward false false f m a r q h
 
 faultless_lasts : (l : Bool) → Lasting IsFaultless l
 faultless_lasts l = record {

@@ -1,37 +1,8 @@
-use Rattle.std.proofs.Common.{◌≡◌, [], ◌∷◌, ◌++◌, true, false, map, subst, arith}
-use Rattle.std.proofs.lemmas.Grind.{common_steps}
+use Rattle.std.proofs.Common.{map, refl, of_calls}
 use Rattle.std.specs.Rc.{rc_value}
-use Rattle.rhai_tree.specs.declared.script_fn.ScriptFuncDef.{ScriptFuncDef}
-use Rattle.rhai_script.specs.Filter.{AnswersShort}
-use Rattle.rhai_script.proofs.Choices.{chooses-taken, chooses-passed, chooses-end, table-chosen}
+use Rattle.rhai_script.specs.Filter.{Answers, AnswersShort}
+use Rattle.rhai_script.proofs.Choices.{chosen-alike, ok_alike}
 use Rattle.rhai_script.proofs.filter.kept.Goals as goal
 
-pub loop-function-preserved-in_ok-push : goal.loop-function-preserved-in_ok-push
-loop-function-preserved-in_ok-push g c =
-    let left : c.loop-function.function-iterator ≡ c.in-Some.function.now.value ∷ c.next.new.self = grind (arith, common_steps) in
-    let more : map rc_value c.push.new.self.items ≡ map rc_value c.loop-function.kept.items ++ c.in-Some.function.now.value ∷ [] = grind (arith, common_steps) in
-    let answer : AnswersShort g.F.Fn c.args.filter.now c.in-Some.function.now.value true c.args.filter.now =
-    subst (λ b. AnswersShort g.F.Fn c.args.filter.now c.in-Some.function.now.value b c.args.filter.now) c.if-asks_short.true
-    (subst (λ (f : ScriptFuncDef). AnswersShort g.F.Fn c.args.filter.now f c.asks_short.result c.args.filter.now) c.deref.ensures c.asks_short.ensures) in
-    chooses-taken (AnswersShort g.F.Fn) c.args.filter.now c.args.lib.now.functions c.loop-function.function-iterator c.next.new.self
-    (map rc_value c.loop-function.kept.items) (map rc_value c.push.new.self.items) c.in-Some.function.now.value c.loop-function.invariant left answer more
-
-pub loop-function-preserved : goal.loop-function-preserved
-loop-function-preserved g c =
-    let left : c.loop-function.function-iterator ≡ c.in-Some.function.now.value ∷ c.next.new.self = grind (arith, common_steps) in
-    let answer : AnswersShort g.F.Fn c.args.filter.now c.in-Some.function.now.value false c.args.filter.now =
-    subst (λ b. AnswersShort g.F.Fn c.args.filter.now c.in-Some.function.now.value b c.args.filter.now) c.if-asks_short.false
-    (subst (λ (f : ScriptFuncDef). AnswersShort g.F.Fn c.args.filter.now f c.asks_short.result c.args.filter.now) c.deref.ensures c.asks_short.ensures) in
-    chooses-passed (AnswersShort g.F.Fn) c.args.filter.now c.args.lib.now.functions c.loop-function.function-iterator c.next.new.self
-    (map rc_value c.loop-function.kept.items) c.in-Some.function.now.value c.loop-function.invariant left answer
-
 pub returns-clause-filtered : goal.returns-clause-filtered
-returns-clause-filtered g c =
-    let none : c.loop-function.function-iterator ≡ [] = grind (arith, common_steps) in
-    chooses-end (AnswersShort g.F.Fn) c.args.filter.now c.args.lib.now.functions c.loop-function.function-iterator (map rc_value c.loop-function.kept.items) c.loop-function.invariant none
-
-pub returns-clause-table : goal.returns-clause-table
-returns-clause-table g c =
-    let none : c.loop-function.function-iterator ≡ [] = grind (arith, common_steps) in
-    table-chosen (AnswersShort g.F.Fn) c.args.filter.now c.args.lib.now.functions (map rc_value c.loop-function.kept.items)
-    (chooses-end (AnswersShort g.F.Fn) c.args.filter.now c.args.lib.now.functions c.loop-function.function-iterator (map rc_value c.loop-function.kept.items) c.loop-function.invariant none) c.iter-function-items.ensures.distinct
+returns-clause-filtered g c = ok_alike c.chosen.result _ _ (λ kept. chosen-alike _ (AnswersShort g.F.Fn) _ c.args.filter.now (λ f b left a. (a.same, record { name = a.name; shows = a.shows; says = search (of_calls, a.says); same = refl })) c.args.lib.now.functions (map rc_value kept.items)) c.chosen.ensures.filtered
