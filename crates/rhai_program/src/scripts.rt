@@ -8,9 +8,7 @@ ghost use Rattle.rhai_meaning.specs.Tree.{IntegerConstant};
 ghost use Rattle.rhai_program.specs.Scripts.{operation, evaluates, first_statements};
 
 use rhai_ast::{Expr, FlowControl, FnCallExpr, Stmt, StmtBlock};
-use rhai_base::{
-    Boxed, INT, ImmutableString, Namespace, OutOfMemory, Position, Seq, Span, Token,
-};
+use rhai_base::{Boxed, INT, ImmutableString, Namespace, OutOfMemory, Position, Seq, Span, Token};
 use std::alloc::Global;
 
 /// A built-in script.

@@ -57,8 +57,7 @@ fn is_grown(alloc: Global) -> Result<bool, Unread> {
     let mut block = two(alloc)?;
     grow(alloc, &mut block)?;
     let span = block.span_or_else(at(7), at(8));
-    Ok(holds(&block, (&[true, false, false, true], at(3), NONE))
-        && span == Span::new(at(3), at(8)))
+    Ok(holds(&block, (&[true, false, false, true], at(3), NONE)) && span == Span::new(at(3), at(8)))
 }
 
 fn grow(alloc: Global, block: &mut StmtBlock) -> Result<(), Unread> {
