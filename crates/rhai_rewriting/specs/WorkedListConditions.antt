@@ -1,5 +1,5 @@
--- For conditions of the rules on known names, on lists and blocks, on the bases of chains and on assignments: two scripts that
--- the rule without it would take for one, and what each does.
+-- For conditions of the rules on known names, on lists and blocks, on the bases of chains, on left sides and on assignments: two
+-- scripts that the rule without it would take for one, and what each does.
 use Rattle.std.specs.Prelude.{◌≡◌, ℕ, true, false, [], ◌∷◌, None, codes, refl, List, Some}
 use Rattle.rhai_values.specs.Value.{Text, Value, UnitV, ArrayV, MapV, values, field, no_fields, TextV, PointerV}
 use Rattle.rhai_base.specs.Operators.{Plus, Minus, computed}

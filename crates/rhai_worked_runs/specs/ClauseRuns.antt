@@ -101,11 +101,12 @@ name_behind_its_value : ran (let' "x" (int 1) ∷ let' "x" (op Plus (var "x" ∷
 unfolding ran
 name_behind_its_value = refl
 
--- 1; return; and loop { 1; break; }, while false { 1 }, for x in [1] { 5 }
+-- 1; return; and loop { 1; break; }
 leaves_with_unit : (ran (ExprStmt (int 1) ∷ Return false false no_expr ∷ []) 0).ended ∷ (ran (While UnitConstant (stmts (ExprStmt (int 1) ∷ BreakLoop true false no_expr ∷ [])) ∷ []) 1).ended ∷ [] ≡ gives UnitV ∷ gives UnitV ∷ []
 unfolding ran
 leaves_with_unit = refl
 
+-- while false { 1 }, for x in [1] { 5 }
 loops_are_unit : (ran (While (BoolConstant false) (stmts (ExprStmt (int 1) ∷ [])) ∷ []) 0).ended ∷ (ran (For (codes "x") None (array (int 1 ∷ [])) (stmts (ExprStmt (int 5) ∷ [])) ∷ []) 1).ended ∷ [] ≡ gives UnitV ∷ gives UnitV ∷ []
 unfolding ran
 loops_are_unit = refl
