@@ -44,13 +44,12 @@ fn a_block_holds_its_statements(rt: HostRuntime) -> Result<(), Fail> {
 
 fn is_held(alloc: Global) -> Result<bool, Unread> {
     let block = two(alloc)?;
-    let wanted = (&[true, false], at(2), at(4));
-    Ok(holds(&block, wanted) && is_copied(&block, wanted)?)
+    Ok(holds(&block, (&[true, false], at(2), at(4))) && is_copied(&block)?)
 }
 
-fn is_copied(block: &StmtBlock, wanted: Wanted) -> Result<bool, OutOfMemory> {
+fn is_copied(block: &StmtBlock) -> Result<bool, OutOfMemory> {
     let copy = block.clone()?;
-    Ok(holds(&copy, wanted))
+    Ok(holds(&copy, (&[true, false], at(2), at(4))))
 }
 
 fn is_grown(alloc: Global) -> Result<bool, Unread> {
