@@ -44,21 +44,19 @@ fn a_block_holds_its_statements(rt: HostRuntime) -> Result<(), Fail> {
 
 fn is_held(alloc: Global) -> Result<bool, Unread> {
     let block = two(alloc)?;
-    let wanted = (&[true, false], at(2), at(4));
-    Ok(holds(&block, wanted) && is_copied(&block, wanted)?)
+    Ok(holds(&block, (&[true, false], at(2), at(4))) && is_copied(&block)?)
 }
 
-fn is_copied(block: &StmtBlock, wanted: Wanted) -> Result<bool, OutOfMemory> {
+fn is_copied(block: &StmtBlock) -> Result<bool, OutOfMemory> {
     let copy = block.clone()?;
-    Ok(holds(&copy, wanted))
+    Ok(holds(&copy, (&[true, false], at(2), at(4))))
 }
 
 fn is_grown(alloc: Global) -> Result<bool, Unread> {
     let mut block = two(alloc)?;
     grow(alloc, &mut block)?;
     let span = block.span_or_else(at(7), at(8));
-    Ok(holds(&block, (&[true, false, false, true], at(3), NONE))
-        && span == Span::new(at(3), at(8)))
+    Ok(holds(&block, (&[true, false, false, true], at(3), NONE)) && span == Span::new(at(3), at(8)))
 }
 
 fn grow(alloc: Global, block: &mut StmtBlock) -> Result<(), Unread> {

@@ -36,8 +36,14 @@ const ROWS: [(&str, u8); 30] = [
     ("+(1, 2, 3)\n", 28),
     ("try {} catch x {}\n", 0),
     ("try {} catch m::x {}\n", 29),
-    ("switch 1 { 1: 0 | 2..5: 0 | default 1 | x => 2, true => 3 }\n", 0),
-    ("switch 1 { 1: 5 |  | default - | true => 2, true => 3, true => 4 }\n", 31),
+    (
+        "switch 1 { 1: 0 | 2..5: 0 | default 1 | x => 2, true => 3 }\n",
+        0,
+    ),
+    (
+        "switch 1 { 1: 5 |  | default - | true => 2, true => 3, true => 4 }\n",
+        31,
+    ),
     // the order of the walk, and the smallest number at one node
     ("<()>\nbreak\n", 23),
     ("if { break; true } { <()> } else {}\n", 24),
@@ -119,7 +125,10 @@ const FUNCTIONS: [(&str, &str, u8); 5] = [
 #[test]
 fn functions_are_tested_too(rt: HostRuntime) -> Result<(), Fail> {
     for (name, body, number) in &FUNCTIONS {
-        assert!(rt; is_function_tested(rt.alloc(), name, body, *number)?, "{name}");
+        assert!(rt;
+            is_function_tested(rt.alloc(), name, body, *number)?,
+            "{name}"
+        );
     }
     Ok(())
 }
@@ -160,7 +169,10 @@ const PLAIN: [(&str, bool); 12] = [
     ("export let x = 1\n", false),
     // what no list names is no part
     ("switch 1 {  |  | default - | true => eval(1) }\n", true),
-    ("switch 1 { 1: 0 |  | default - | true => eval(1) }\n", false),
+    (
+        "switch 1 { 1: 0 |  | default - | true => eval(1) }\n",
+        false,
+    ),
 ];
 
 #[test]
@@ -178,24 +190,56 @@ fn is_told(alloc: Global, text: &str, wanted: bool) -> Result<bool, Unread> {
 
 /// Each fault with its number and its text.
 const FAULTS: [(TreeFault, u8, &str); 12] = [
-    (TreeFault::DuplicateMapKey, 20, "two keys of a map literal are equal"),
+    (
+        TreeFault::DuplicateMapKey,
+        20,
+        "two keys of a map literal are equal",
+    ),
     (
         TreeFault::MapTemplate,
         21,
         "the keys of a map's template are not those of its literal",
     ),
-    (TreeFault::NoOperands, 22, "a logical operator has no operands"),
-    (TreeFault::UnitConstant, 23, "a constant of any value holds unit"),
-    (TreeFault::BreakOutsideLoop, 24, "a break or a continue stands outside a loop"),
-    (TreeFault::ReservedName, 25, "a function has a reserved name"),
-    (TreeFault::ChainShape, 26, "a chain has not the shape of a chain"),
-    (TreeFault::AssignTarget, 27, "an assignment has a left side of another kind"),
+    (
+        TreeFault::NoOperands,
+        22,
+        "a logical operator has no operands",
+    ),
+    (
+        TreeFault::UnitConstant,
+        23,
+        "a constant of any value holds unit",
+    ),
+    (
+        TreeFault::BreakOutsideLoop,
+        24,
+        "a break or a continue stands outside a loop",
+    ),
+    (
+        TreeFault::ReservedName,
+        25,
+        "a function has a reserved name",
+    ),
+    (
+        TreeFault::ChainShape,
+        26,
+        "a chain has not the shape of a chain",
+    ),
+    (
+        TreeFault::AssignTarget,
+        27,
+        "an assignment has a left side of another kind",
+    ),
     (
         TreeFault::OperatorName,
         28,
         "the name, the token and the operands of an operator do not belong together",
     ),
-    (TreeFault::CatchName, 29, "a catch has something else than a name"),
+    (
+        TreeFault::CatchName,
+        29,
+        "a catch has something else than a name",
+    ),
     (TreeFault::OutOfMemory, 30, "out of memory"),
     (TreeFault::SwitchTable, 31, "the table of a switch is none"),
 ];
@@ -203,7 +247,10 @@ const FAULTS: [(TreeFault, u8, &str); 12] = [
 #[test]
 fn faults_have_numbers_and_texts(rt: HostRuntime) -> Result<(), Fail> {
     for (fault, number, text) in &FAULTS {
-        assert!(rt; fault.number() == *number && is_text(rt.alloc(), *fault, text)?, "{text}");
+        assert!(rt;
+            fault.number() == *number && is_text(rt.alloc(), *fault, text)?,
+            "{text}"
+        );
     }
     Ok(())
 }

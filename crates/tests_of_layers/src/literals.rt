@@ -28,7 +28,12 @@ const ROWS: [Row; 36] = [
     ("#{a: 1, a: 2}", true, "map", "#{\"a\": 2}"),
     ("#{a: x}", false, "", ""),
     ("text()", true, "string", ""),
-    ("text(\"a\", 1, (), 'c', [\"b\"])", true, "string", "a1c[\"b\"]"),
+    (
+        "text(\"a\", 1, (), 'c', [\"b\"])",
+        true,
+        "string",
+        "a1c[\"b\"]",
+    ),
     ("text(\"a\", x)", false, "", ""),
     ("{}", false, "", ""),
     ("x", false, "", ""),

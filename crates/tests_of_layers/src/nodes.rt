@@ -47,11 +47,13 @@ fn is_flow_copied(flow: &FlowControl) -> Result<bool, OutOfMemory> {
 
 fn is_switch_copied(switch: &SwitchBlock) -> Result<bool, OutOfMemory> {
     let copy = switch.clone()?;
-    Ok(copy.expr.is_constant()
-        && copy.cases.expressions.len() == 2
-        && copy.cases.cases.as_map().len() == 2
-        && copy.cases.ranges.len() == 1
-        && copy.cases.def_case.is_none())
+    Ok(
+        copy.expr.is_constant()
+            && copy.cases.expressions.len() == 2
+            && copy.cases.cases.as_map().len() == 2
+            && copy.cases.ranges.len() == 1
+            && copy.cases.def_case.is_none(),
+    )
 }
 
 fn are_sides_copied(sides: &BinaryExpr) -> Result<bool, OutOfMemory> {

@@ -9,15 +9,25 @@ use tests_reader::{Unread, read_expr, read_link, read_stmt};
 
 /// What an expression or a statement is, a bit each.
 const NO: u8 = 0;
+
 const CONSTANT: u8 = 1;
+
 const UNIT: u8 = 2;
+
 const NOOP: u8 = 1;
+
 const LEAVES: u8 = 2;
+
 const PURE: u8 = 4;
+
 const INSIDE: u8 = 8 + PURE;
+
 const INSIDE_ALONE: u8 = 8;
+
 const DEPENDENT: u8 = 16;
+
 const VALUE: u8 = 32;
+
 const CLOSED: u8 = 64;
 
 /// An expression, or with a `.` before it what stands at the right of one; what it is, the bits of its flags, and the tokens
@@ -142,17 +152,53 @@ const CHOICES: [StmtRow; 22] = [
     ("if x {} else {}", VALUE + CLOSED, 0),
     ("if true { x } else {}", VALUE + CLOSED, 0),
     ("if true {} else { x }", VALUE + CLOSED, 0),
-    ("switch 1 { 1: 0 |  | default 1 | true => 2, true => 3 }", INSIDE + VALUE + CLOSED, 0),
+    (
+        "switch 1 { 1: 0 |  | default 1 | true => 2, true => 3 }",
+        INSIDE + VALUE + CLOSED,
+        0,
+    ),
     // arms that no list names are no part of it
-    ("switch 1 { 1: 0 |  | default 0 | true => 2, x => y }", INSIDE + VALUE + CLOSED, 0),
+    (
+        "switch 1 { 1: 0 |  | default 0 | true => 2, x => y }",
+        INSIDE + VALUE + CLOSED,
+        0,
+    ),
     // only the answer of the default is asked
-    ("switch 1 {  |  | default 0 | x => 2 }", INSIDE + VALUE + CLOSED, 0),
-    ("switch 1 { 1: 0 |  | default - | true => 2 }", VALUE + CLOSED, 0),
-    ("switch 1 { 1: 0 |  | default 9 | true => 2 }", VALUE + CLOSED, 0),
-    ("switch x {  |  | default 0 | true => 2 }", VALUE + CLOSED, 0),
-    ("switch 1 { 1: 1 |  | default 0 | true => 2, x => 3 }", VALUE + CLOSED, 0),
-    ("switch 1 {  | 1..5: 1 | default 0 | true => 2, true => x }", VALUE + CLOSED, 0),
-    ("switch 1 {  |  | default 0 | true => x }", VALUE + CLOSED, 0),
+    (
+        "switch 1 {  |  | default 0 | x => 2 }",
+        INSIDE + VALUE + CLOSED,
+        0,
+    ),
+    (
+        "switch 1 { 1: 0 |  | default - | true => 2 }",
+        VALUE + CLOSED,
+        0,
+    ),
+    (
+        "switch 1 { 1: 0 |  | default 9 | true => 2 }",
+        VALUE + CLOSED,
+        0,
+    ),
+    (
+        "switch x {  |  | default 0 | true => 2 }",
+        VALUE + CLOSED,
+        0,
+    ),
+    (
+        "switch 1 { 1: 1 |  | default 0 | true => 2, x => 3 }",
+        VALUE + CLOSED,
+        0,
+    ),
+    (
+        "switch 1 {  | 1..5: 1 | default 0 | true => 2, true => x }",
+        VALUE + CLOSED,
+        0,
+    ),
+    (
+        "switch 1 {  |  | default 0 | true => x }",
+        VALUE + CLOSED,
+        0,
+    ),
     ("block { 1; noop }", INSIDE + VALUE + CLOSED, 0),
     ("block { let x = 1 }", VALUE + CLOSED, 0),
     ("try { 1 } catch {}", INSIDE + CLOSED, 0),
