@@ -13,7 +13,10 @@ use std::num::NonZeroUsize;
 
 /// Setting where a node stands.
 pub trait SetPosition {
-    /// Sets where it stands, and answers it.
+    /// Sets where it stands, and answers it. It takes no memory.
+    ///
+    /// Braces begin there then, and those of an expression end nowhere; of an assignment it is the operator
+    /// that is put there, of an expression statement the expression, of shared names each.
     fn set_position(&mut self, pos: Position) -> &mut Self;
 }
 

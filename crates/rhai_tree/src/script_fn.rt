@@ -10,14 +10,18 @@ use std::alloc::AllocError;
 /// Whether other scripts see a function.
 #[derive(Clone, Copy, Debug, PartialEq, Eq)]
 pub enum FnAccess {
+    /// They do not.
     Private,
+    /// They do.
     Public,
 }
 
 /// Where a function is looked up.
 #[derive(Clone, Copy, Debug, PartialEq, Eq)]
 pub enum FnNamespace {
+    /// In its module alone.
     Internal,
+    /// Among the global names too.
     Global,
 }
 
