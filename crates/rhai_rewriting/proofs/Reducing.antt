@@ -12,7 +12,7 @@ use Rattle.rhai_meaning.specs.Faults.{has_operands}
 use Rattle.rhai_meaning.specs.Queries.{is_control_flow_break, is_pure_expr, are_pure_exprs, are_pure_pairs, is_pure}
 use Rattle.rhai_meaning.specs.Queries.{is_unit as is_unit_expr}
 use Rattle.rhai_meaning.specs.Shape.{is_unit, condition_at, case_fits, spares, default_fits, is_table}
-use Rattle.rhai_meaning.specs.Tree.{ChainFlags, SwitchTable, Callee, Expr, DynamicConstant, BoolConstant, UnitConstant, InterpolatedString, ArrayOf, MapOf, Variable, ThisPtr, Property, BlockExpr, FnCall, Dot, Index, And, Or, Coalesce, Exprs, no_exprs, expr, Pairs, no_pairs, pair, Arms, no_arms, arm, count_arms, Stmt, Noop, If, Switch, While, Var, FnCallStmt, ExprStmt, Return, an_expr, Stmts, no_stmts, stmt}
+use Rattle.rhai_meaning.specs.Tree.{ChainFlags, SwitchTable, Callee, Expr, DynamicConstant, BoolConstant, UnitConstant, InterpolatedString, ArrayOf, MapOf, Variable, ThisPtr, Property, BlockExpr, FnCall, Dot, Index, And, Or, Coalesce, Exprs, no_exprs, expr, Pairs, no_pairs, pair, Arms, no_arms, arm, count_arms, Stmt, Noop, If, Switch, While, Var, FnCallStmt, Block, ExprStmt, Return, an_expr, Stmts, no_stmts, stmt}
 use Rattle.rhai_meaning.specs.Walk.{Node, OfExpr, OfStmt, every, over_stmts, arms_at, arm_at, listed}
 use Rattle.rhai_meaning.proofs.Walk.{Alongside, stmts_alongside}
 use Rattle.rhai_parts.specs.Names.{are_all}
@@ -22,7 +22,7 @@ use Rattle.rhai_rewriting.specs.Known.{Known, look}
 use Rattle.rhai_rewriting.specs.Operands.{OperandsTo, in_other_operands, after_deciding_go, CoalesceTo, in_other_options, after_some_go}
 use Rattle.rhai_rewriting.specs.Parts.{constant_of}
 use Rattle.rhai_rewriting.specs.Reducible.{is_that, is_always, follows_deciding, is_some_value, follows_some, property_of, index_of, without_question, chain_answer, is_short, is_chosen, goes_on_after_leaving, tests_name, tests_constant, is_idle, idles, ends_in_return, IsIrreducibleAlone, IsIrreducibleNode}
-use Rattle.rhai_rewriting.specs.Residue.{holds_constant, IsReducedNode, AreReduced}
+use Rattle.rhai_rewriting.specs.Residue.{holds_constant, IsReducedNode, where_opened, every_reached, AreReduced}
 use Rattle.rhai_rewriting.specs.Rules as rule
 use Rattle.rhai_rewriting.specs.Rules.{chosen as chosen_block, block_or_noop, ExprRule, StmtRule}
 use Rattle.rhai_rewriting.specs.Rewriting.{BaseTo, base, GuardTo, guard, by_expr_rule, in_if, RestTo, same_stmts, by_list_rule, in_head, in_tail}
@@ -373,15 +373,25 @@ each_arm : (ps qs : List (Type 0)) → ((i : ℕ) → arm_at (Unit {0}) ps i →
 each_arm ps qs f [] h = h
 each_arm ps qs f (i ∷ is) h = (f i h.0, each_arm ps qs f is h.1)
 
--- what follows at each node follows at every depth
-follows_each : (P Q : Node → Type 0) → ((n : Node) → P n → Q n) → Alongside (λ p q. p → q) (every P) (every Q)
+opened_part : (n : Node) (p : Type 0) → p → where_opened n p
+opened_part (OfExpr (ArrayOf es)) p x = x
+opened_part (OfExpr (BlockExpr ss)) p x = x
+opened_part (OfExpr (FnCall c es)) p x = x
+opened_part (OfStmt (If c a b)) p x = x
+opened_part (OfStmt (Block ss)) p x = x
+opened_part (OfStmt (ExprStmt e)) p x = x
+opened_part (OfStmt (FnCallStmt c es)) p x = x
+opened_part _ p x = tt
+
+-- what follows at each node follows at every depth that is reached
+follows_each : (P Q : Node → Type 0) → ((n : Node) → P n → Q n) → Alongside (λ p q. p → q) (every P) (every_reached Q)
 follows_each P Q f = record {
   none = λ h. h;
   both = λ p p' q q' h k x. (h x.0, k x.1);
-  node = λ n p q h x. (f n x.0, h x.1);
+  node = λ n p q h x. (f n x.0, opened_part n q (h x.1));
   within = λ s p q h. h;
   arms = λ t ps qs h. each_arm ps qs h (listed t);
 }
 
 pub irreducible_reduced : (r : Engine) (ss : Stmts) → over_stmts (every (IsIrreducibleNode r)) ss → AreReduced r ss
-irreducible_reduced r ss = stmts_alongside (λ p q. p → q) (every (IsIrreducibleNode r)) (every (IsReducedNode r)) (follows_each (IsIrreducibleNode r) (IsReducedNode r) (λ n h. alone_reduced r n h.alone)) ss
+irreducible_reduced r ss = stmts_alongside (λ p q. p → q) (every (IsIrreducibleNode r)) (every_reached (IsReducedNode r)) (follows_each (IsIrreducibleNode r) (IsReducedNode r) (λ n h. alone_reduced r n h.alone)) ss

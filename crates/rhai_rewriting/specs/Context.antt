@@ -11,9 +11,13 @@ pub record Context : Type 0 where
   pub engine : Engine
   pub known : List Known
 
--- under an engine's record, with no names known
+-- under an engine's record, with these names known
+abbrev pub knowing : Engine → List Known → Context
+knowing engine ks = record { engine = engine; known = ks }
+
+-- with none
 abbrev pub under : Engine → Context
-under engine = record { engine = engine; known = [] }
+under engine = knowing engine []
 
 -- under one more name, a constant of this value or of which nothing is known
 abbrev pub noting : Text → Option Value → Context → Context

@@ -2,13 +2,13 @@
 -- the rule without it would take for one, and what each does.
 use Rattle.std.specs.Prelude.{◌≡◌, true, false, [], ◌∷◌, None, codes, refl, List, Some}
 use Rattle.rhai_values.specs.Value.{UnitV, ArrayV, values, TextV, PointerV}
-use Rattle.rhai_base.specs.Operators.{Plus, computed}
+use Rattle.rhai_base.specs.Operators.{Plus, Minus, computed}
 use Rattle.rhai_rewriting.specs.Parts.{named}
 use Rattle.rhai_rewriting.specs.WorkedNodes.{dot}
 use Rattle.rhai_meaning.specs.Engine.{Engine}
 use Rattle.rhai_meaning.specs.Act.{Unbound, HostCall, Host, Answers}
-use Rattle.rhai_meaning.specs.Run.{WithValue, WithStuck, WithThrown}
-use Rattle.rhai_meaning.specs.Tree.{Expr, BoolConstant, DynamicConstant, BlockExpr, no_expr, an_expr, Stmt, Noop, If, While, For, Assignment, Block, ExprStmt, BreakLoop, Return, stmts, Dot, MethodCall, exprs, StringConstant, And, Coalesce, UnitConstant, Function}
+use Rattle.rhai_meaning.specs.Run.{Report, WithValue, WithStuck, WithThrown}
+use Rattle.rhai_meaning.specs.Tree.{Expr, BoolConstant, DynamicConstant, BlockExpr, FnCall, no_expr, an_expr, Stmt, Noop, If, While, For, Assignment, Block, ExprStmt, BreakLoop, Return, stmts, ArrayOf, Dot, Index, MethodCall, exprs, StringConstant, And, Coalesce, UnitConstant, Function}
 use Rattle.rhai_meaning.specs.WorkedForms.{int, nothing_set, joining, ran, ran_with, ends, i, op, asked, overriding, call}
 use Rattle.rhai_rewriting.specs.WorkedConditions.{Differ}
 use Rattle.rhai_rewriting.specs.WorkedLists.{var, let', const, variable, constant, ends_with}
@@ -178,6 +178,11 @@ one_operand : (ran nothing_set renewing (calls_method (Coalesce (exprs (UnitCons
 unfolding ran
 one_operand = (refl, refl)
 
+-- a part of a literal that is a name isn't pure, so it doesn't become the base: let x = 1; [x][0].m()
+part_is_no_place : (ran nothing_set renewing (let' "x" (int 1) ∷ show (Index dot (ArrayOf (exprs (var "x" ∷ []))) (Dot dot (int 0) (MethodCall (named (codes "m") false) (exprs [])))) ∷ []) ≡ ends_with (WithValue UnitV) (variable "x" (i 1) ∷ []) asks_method) × (ran nothing_set renewing (calls_method (var "x")) ≡ ends_with (WithValue UnitV) (variable "x" (i 2) ∷ []) asks_method)
+unfolding ran
+part_is_no_place = (refl, refl)
+
 -- ---- assignments of an operator over their own name
 
 -- the name is read first: let x = 1; x = x + { x = 5; 1 }; x
@@ -209,3 +214,23 @@ overridden = overriding (codes "+=") (codes "i64" ∷ codes "i64" ∷ []) false
 overridden_assignment : (ran overridden changing (let' "x" (int 1) ∷ Assignment None (var "x") (op Plus (var "x" ∷ int 2 ∷ [])) ∷ []) ≡ ends_with (WithValue UnitV) (variable "x" (i 3) ∷ []) []) × (ran overridden changing (let' "x" (int 1) ∷ Assignment (Some Plus) (var "x") (int 2) ∷ []) ≡ ends_with (WithValue UnitV) (variable "x" (i 1) ∷ []) (asked "+=" (i 1 ∷ i 2 ∷ []) ∷ []))
 unfolding ran computed
 overridden_assignment = (refl, refl)
+
+-- another operator is another assignment: x = x + 2, and x -= 2
+other_operator : Differ (let' "x" (int 3) ∷ Assignment None (var "x") (op Plus (var "x" ∷ int 2 ∷ [])) ∷ []) (ends_with (WithValue UnitV) (variable "x" (i 5) ∷ []) []) (let' "x" (int 3) ∷ Assignment (Some Minus) (var "x") (int 2) ∷ []) (ends_with (WithValue UnitV) (variable "x" (i 1) ∷ []) [])
+unfolding ran computed
+other_operator = (refl, refl)
+
+-- a call by name would be harmless, also one that captures, since it writes to a copy of what it sees:
+-- let x = 1; x = x + g!(), and x += g!(), where fn g() { x = 5; 1 }
+abbrev g : Expr
+g = FnCall (named (codes "g") true) (exprs [])
+
+abbrev writes_x : Function
+writes_x = record { name = codes "g"; this_type = None; params = []; body = stmts (Assignment None (var "x") (int 5) ∷ show (int 1) ∷ []) }
+
+abbrev two : Report
+two = ends_with (WithValue UnitV) (variable "x" (i 2) ∷ []) []
+
+call_inside : (ran_with nothing_set joining (writes_x ∷ []) 1 (let' "x" (int 1) ∷ Assignment None (var "x") (op Plus (var "x" ∷ g ∷ [])) ∷ []) ≡ two) × (ran_with nothing_set joining (writes_x ∷ []) 1 (let' "x" (int 1) ∷ Assignment (Some Plus) (var "x") g ∷ []) ≡ two)
+unfolding ran_with computed
+call_inside = (refl, refl)

@@ -1,3 +1,3 @@
+pub mod Kept
 pub mod Settling
 pub mod Shapes
-pub mod Values

@@ -3,7 +3,7 @@ use Rattle.std.proofs.Common.{◌≡◌, ◌≢◌, ◌≤◌, Bool, true, false
 use Rattle.rhai_tree.specs.declared.stmt.Stmt as declared_stmt
 use Rattle.rhai_reading.specs.Reading.{stmts_of}
 use Rattle.rhai_meaning.specs.Constants.{constant_bool}
-use Rattle.rhai_meaning.specs.Tree.{Expr, Noop, If, Block, ExprStmt, FnCallStmt, Stmts, no_stmts, stmt, Switch, While, Do, For, Var, Assignment, TryCatch, BreakLoop, Return, Import, Export, Share}
+use Rattle.rhai_meaning.specs.Tree.{Expr, Noop, If, Block, ExprStmt, Stmts, no_stmts, stmt}
 use Rattle.rhai_rewriting.specs.Rules.{block_or_noop}
 use Rattle.rhai_rewriting.specs.Residue.{holds_constant}
 use Rattle.rhai_rules.specs.Settled.{is_empty, is_settled_braces, is_settled_if, is_settled_block}
@@ -85,37 +85,7 @@ not-true false h = refl
 -- braces that stay hold no constant alone
 pub braces-settled : (ss : Stmts) → is_settled_braces ss ≡ true → holds_constant ss ≡ false
 braces-settled no_stmts h = absurd cc
-braces-settled (stmt Noop no_stmts) h = refl
-braces-settled (stmt (If c a b) no_stmts) h = refl
-braces-settled (stmt (Block b) no_stmts) h = refl
 braces-settled (stmt (ExprStmt e) no_stmts) h = absurd cc
-braces-settled (stmt (FnCallStmt c es) no_stmts) h = refl
-braces-settled (stmt (Switch e a t) no_stmts) h = refl
-braces-settled (stmt (While e b) no_stmts) h = refl
-braces-settled (stmt (Do n e b) no_stmts) h = refl
-braces-settled (stmt (For x i e b) no_stmts) h = refl
-braces-settled (stmt (Var c x y e) no_stmts) h = refl
-braces-settled (stmt (Assignment o l e) no_stmts) h = refl
-braces-settled (stmt (TryCatch x a b) no_stmts) h = refl
-braces-settled (stmt (BreakLoop b e) no_stmts) h = refl
-braces-settled (stmt (Return b e) no_stmts) h = refl
-braces-settled (stmt (Import e x) no_stmts) h = refl
-braces-settled (stmt (Export x y) no_stmts) h = refl
-braces-settled (stmt (Share xs) no_stmts) h = refl
-braces-settled (stmt Noop (stmt t ss)) h = refl
-braces-settled (stmt (If c a b) (stmt t ss)) h = refl
-braces-settled (stmt (Block b) (stmt t ss)) h = refl
+braces-settled (stmt _ no_stmts) h = refl
 braces-settled (stmt (ExprStmt e) (stmt t ss)) h = refl
-braces-settled (stmt (FnCallStmt c es) (stmt t ss)) h = refl
-braces-settled (stmt (Switch e a t) (stmt t' ss)) h = refl
-braces-settled (stmt (While e b) (stmt t' ss)) h = refl
-braces-settled (stmt (Do n e b) (stmt t' ss)) h = refl
-braces-settled (stmt (For x i e b) (stmt t' ss)) h = refl
-braces-settled (stmt (Var c x y e) (stmt t' ss)) h = refl
-braces-settled (stmt (Assignment o l e) (stmt t' ss)) h = refl
-braces-settled (stmt (TryCatch x a b) (stmt t' ss)) h = refl
-braces-settled (stmt (BreakLoop b e) (stmt t' ss)) h = refl
-braces-settled (stmt (Return b e) (stmt t' ss)) h = refl
-braces-settled (stmt (Import e x) (stmt t' ss)) h = refl
-braces-settled (stmt (Export x y) (stmt t' ss)) h = refl
-braces-settled (stmt (Share xs) (stmt t' ss)) h = refl
+braces-settled (stmt _ (stmt t ss)) h = refl

@@ -1,11 +1,10 @@
--- Nodes at which no rule fires, their parts being reduced; whether a call folds is asked of the engine.
+-- Nodes at which no rule fires, their parts being reduced; whether they fold to a value is asked apart.
 use Rattle.std.specs.Prelude.{Bool, true, false, ◌&&◌, not, Option, None, is_some}
-use Rattle.std.specs.Option.{option_map}
 use Rattle.rhai_values.specs.Value.{Value}
-use Rattle.rhai_meaning.specs.Constants.{are_constant, constant_bool, constant_for}
+use Rattle.rhai_meaning.specs.Constants.{array_value, constant_bool, constant_values}
 use Rattle.rhai_meaning.specs.Engine.{Engine}
 use Rattle.rhai_meaning.specs.Queries.{is_block_dependent}
-use Rattle.rhai_meaning.specs.Tree.{Expr, DynamicConstant, BoolConstant, IntegerConstant, CharConstant, StringConstant, UnitConstant, ArrayOf, BlockExpr, FnCall, Stmt, If, Block, ExprStmt, FnCallStmt, Stmts, no_stmts, stmt}
+use Rattle.rhai_meaning.specs.Tree.{Expr, ArrayOf, BlockExpr, FnCall, Stmt, If, Block, ExprStmt, FnCallStmt, Stmts, no_stmts, stmt}
 use Rattle.rhai_rewriting.specs.Folding.{folded}
 use Rattle.rhai_rewriting.specs.Shapes.{is_expression}
 
@@ -20,19 +19,8 @@ is_settled_braces (stmt s no_stmts) = not (is_expression s)
 is_settled_braces (stmt s (stmt t ss)) = true
 
 abbrev pub is_settled_expr : Expr → Bool
-is_settled_expr (ArrayOf es) = not (are_constant es)
 is_settled_expr (BlockExpr ss) = is_settled_braces ss
 is_settled_expr _ = true
-
--- a constant without parts
-abbrev pub is_leaf : Expr → Bool
-is_leaf (DynamicConstant v) = true
-is_leaf (BoolConstant b) = true
-is_leaf (IntegerConstant n) = true
-is_leaf (CharConstant n) = true
-is_leaf (StringConstant t) = true
-is_leaf UnitConstant = true
-is_leaf _ = false
 
 -- an `if` that has a statement and is not decided
 abbrev pub is_settled_if : Expr → Stmts → Stmts → Bool
@@ -56,15 +44,13 @@ is_settled_stmt (Block ss) = is_settled_block ss
 is_settled_stmt (ExprStmt e) = is_settled_expression e
 is_settled_stmt _ = true
 
--- ---- what a call folds to, if it does
+-- ---- the value that a node folds to
 
-abbrev pub folded_expr : Engine → Expr → Option Expr
-folded_expr r (FnCall c es) = option_map constant_for (folded r c es)
-folded_expr r _ = None
+abbrev pub folded_value : Engine → Expr → Option Value
+folded_value r (ArrayOf es) = array_value (constant_values es)
+folded_value r (FnCall c es) = folded r c es
+folded_value r _ = None
 
-abbrev pub constant_statement : Value → Stmt
-constant_statement v = ExprStmt (constant_for v)
-
-abbrev pub folded_stmt : Engine → Stmt → Option Stmt
-folded_stmt r (FnCallStmt c es) = option_map constant_statement (folded r c es)
-folded_stmt r _ = None
+abbrev pub folded_statement : Engine → Stmt → Option Value
+folded_statement r (FnCallStmt c es) = folded r c es
+folded_statement r _ = None

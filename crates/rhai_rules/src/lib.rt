@@ -1,7 +1,6 @@
-//! The rewrite rules at a node whose parts are optimised already, a function each.
+//! The rewrite rules at a node whose parts are optimised already.
 #![tactic(auto)]
 
-mod constants;
 mod expressions;
 mod nodes;
 mod state;

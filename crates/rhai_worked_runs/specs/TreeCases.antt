@@ -6,7 +6,7 @@ use Rattle.rhai_meaning.specs.Faults.{number_of, script_fault}
 use Rattle.rhai_meaning.specs.Paths.{stmts_paths}
 use Rattle.rhai_meaning.specs.Plain.{is_plain}
 use Rattle.rhai_meaning.specs.Queries.{is_pure, constant_args}
-use Rattle.rhai_meaning.specs.Tree.{Expr, DynamicConstant, BoolConstant, IntegerConstant, UnitConstant, MapOf, BlockExpr, And, ExclusiveInt, Stmt, Switch, While, Do, For, Assignment, FnCallStmt, Block, TryCatch, ExprStmt, BreakLoop, Return, Import, no_expr, an_expr, arms, pairs, no_stmts, no_exprs, exprs, stmts}
+use Rattle.rhai_meaning.specs.Tree.{Expr, DynamicConstant, BoolConstant, IntegerConstant, UnitConstant, MapOf, BlockExpr, ExclusiveInt, Stmt, Switch, While, Do, For, Assignment, FnCallStmt, Block, TryCatch, ExprStmt, BreakLoop, Return, Import, no_expr, an_expr, arms, pairs, no_stmts, no_exprs, exprs, stmts}
 use Rattle.rhai_meaning.specs.Walk.{Node, OfExpr, over_stmts, arms_at, listed}
 use Rattle.rhai_worked_runs.specs.Terms.{i, int, var, op, callee, fn, let', const', array, at, dot, meth}
 
@@ -52,10 +52,6 @@ integers ss = over_stmts (record { none = []; both = λ a b. a ++ b; node = own;
 walk_order : integers (TryCatch (var "x") (stmts (ExprStmt (int 1) ∷ [])) (stmts (ExprStmt (int 2) ∷ [])) ∷ While (int 3) (stmts (ExprStmt (int 4) ∷ [])) ∷ Do true false (int 5) (stmts (ExprStmt (int 6) ∷ [])) ∷ For (codes "x") None (int 7) (stmts (ExprStmt (int 8) ∷ [])) ∷ Assignment None (at (int 9) (int 10)) (int 11) ∷ ExprStmt (dot (int 12) (meth "f" (int 13 ∷ []))) ∷ ExprStmt (MapOf (pairs ((codes "b", int 14) ∷ (codes "a", int 15) ∷ [])) []) ∷ Return true false (an_expr (int 16)) ∷ Import (int 17) [] ∷ Switch (int 18) (arms ((int 24, int 25) ∷ (int 21, int 22) ∷ (int 19, int 20) ∷ (int 0, int 0) ∷ [])) (record { cases = record { value = i 1; arms = 2 ∷ 9 ∷ [] } ∷ []; ranges = record { range = ExclusiveInt (pos 0) (pos 1); arm = 1 } ∷ []; default = Some 0 }) ∷ [])
     ≡ map (λ n. int n) (1 ∷ 2 ∷ 3 ∷ 4 ∷ 5 ∷ 6 ∷ 7 ∷ 8 ∷ 9 ∷ 10 ∷ 11 ∷ 12 ∷ 13 ∷ 14 ∷ 15 ∷ 16 ∷ 17 ∷ 18 ∷ 19 ∷ 20 ∷ 21 ∷ 22 ∷ 24 ∷ 25 ∷ [])
 walk_order = refl
-
--- operators without operands are a fault that has a meaning
-no_operands : fault (ExprStmt (And no_exprs) ∷ []) ≡ Some 22
-no_operands = refl
 
 -- a script of declarations, and how deep its nodes stand
 abbrev declarations : List Stmt
