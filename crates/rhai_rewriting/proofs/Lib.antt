@@ -8,3 +8,4 @@ pub mod acts
 pub mod rules
 pub mod soundness
 pub mod Finishing
+pub mod Reaching
