@@ -5,4 +5,4 @@ mod node;
 mod walk;
 
 pub use node::ASTNode;
-pub use walk::Walk;
+pub use walk::{Walk, walk_statements};

@@ -1,6 +1,6 @@
 //! A walk over the nodes of a tree, from the top down, with the path to each.
 
-#![tactic(auto, using(rhai_reading::specs::Reading::shapes, crate::proofs::Walking::outcomes))]
+#![tactic(auto, using(rhai_reading::specs::Reading::shapes))]
 
 ghost use Rattle.std.specs.Prelude.{List, ◌++◌, map, slice_get};
 ghost use Rattle.rhai_meaning.specs.Paths.{Path, expr_paths, listing, stmt_paths, stmts_paths};
@@ -64,6 +64,7 @@ impl Walk for Stmt {
 }
 
 /// Goes down to a node and shows the path to it.
+#[tactic(auto, using(crate::proofs::Walking::outcomes))]
 fn enter<'a, F: FnMut(&[ASTNode]) -> bool>(
     node: ASTNode<'a>,
     path: &mut Vec<ASTNode<'a>>,
@@ -124,7 +125,7 @@ fn walk_parts_of_expr<'a, F: FnMut(&[ASTNode]) -> bool>(
         Expr::MethodCall(call, _) | Expr::FnCall(call, _) => {
             walk_exprs(call.get().args.as_slice(), path, on_node)
         }
-        Expr::Stmt(block) => walk_stmts(block.get().statements(), path, on_node),
+        Expr::Stmt(block) => walk_statements(block.get().statements(), path, on_node),
         Expr::Dot(sides, _, _) | Expr::Index(sides, _, _) => {
             walk_sides(sides.get(), path, on_node)
         }
@@ -241,7 +242,7 @@ fn walk_parts_of_stmt<'a, F: FnMut(&[ASTNode]) -> bool>(
         Stmt::Var(parts, _, _) => walk_expr(&parts.get().1, path, on_node),
         Stmt::Assignment(parts) => walk_sides(&parts.get().1, path, on_node),
         Stmt::FnCall(call, _) => walk_exprs(call.get().args.as_slice(), path, on_node),
-        Stmt::Block(block) => walk_stmts(block.get().statements(), path, on_node),
+        Stmt::Block(block) => walk_statements(block.get().statements(), path, on_node),
         Stmt::TryCatch(flow, _) => walk_blocks(flow.get(), path, on_node),
         Stmt::Expr(expr) => walk_expr(expr.get(), path, on_node),
         Stmt::BreakLoop(expr, _, _) | Stmt::Return(expr, _, _) => {
@@ -251,8 +252,9 @@ fn walk_parts_of_stmt<'a, F: FnMut(&[ASTNode]) -> bool>(
     }
 }
 
+/// Walks over the statements of a list, one after another, as `Walk::walk` does over one. It is not in rhai.
 #[cycle(walk)]
-fn walk_stmts<'a, F: FnMut(&[ASTNode]) -> bool>(
+pub fn walk_statements<'a, F: FnMut(&[ASTNode]) -> bool>(
     statements: &'a [Stmt],
     path: &mut Vec<ASTNode<'a>>,
     on_node: &mut F,
@@ -300,7 +302,7 @@ fn walk_loop<'a, F: FnMut(&[ASTNode]) -> bool>(
     if !walk_expr(&flow.expr, path, on_node)? {
         return Ok(false);
     }
-    walk_stmts(flow.body.statements(), path, on_node)
+    walk_statements(flow.body.statements(), path, on_node)
 }
 
 /// A body and a branch.
@@ -314,10 +316,10 @@ fn walk_blocks<'a, F: FnMut(&[ASTNode]) -> bool>(
     ensures callable { F.IsAlwaysCallable on_node.new }
     ensures walks { Walks F.FnMut path.old.items result on_node.old (stmts_paths (stmts_of flow.now.body.block) ++ stmts_paths (stmts_of flow.now.branch.block)) on_node.new path.new.items }
 {
-    if !walk_stmts(flow.body.statements(), path, on_node)? {
+    if !walk_statements(flow.body.statements(), path, on_node)? {
         return Ok(false);
     }
-    walk_stmts(flow.branch.statements(), path, on_node)
+    walk_statements(flow.branch.statements(), path, on_node)
 }
 
 // ---- the table of a `switch`: the arms that it lists

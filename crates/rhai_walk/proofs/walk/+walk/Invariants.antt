@@ -13,8 +13,8 @@ invariant-walk_exprs-loop-expr g l = goal.walk_exprs-F-IsAlwaysCallable g l.on_n
 abbrev pub invariant-walk_members-loop-member : goal.invariant-walk_members-loop-member
 invariant-walk_members-loop-member g l = goal.walk_members-F-IsAlwaysCallable g l.on_node × Partly g.F.FnMut l.fn.path.items l.fn.on_node (over_pairs listing (pairs_of l.members)) l.path.items l.on_node (over_pairs listing (pairs_of (drop l.member-index l.members)))
 
-abbrev pub invariant-walk_stmts-loop-stmt : goal.invariant-walk_stmts-loop-stmt
-invariant-walk_stmts-loop-stmt g l = goal.walk_stmts-F-IsAlwaysCallable g l.on_node × Partly g.F.FnMut l.fn.path.items l.fn.on_node (over_stmts listing (stmts_of l.statements)) l.path.items l.on_node (over_stmts listing (stmts_of (drop l.stmt-index l.statements)))
+abbrev pub invariant-walk_statements-loop-stmt : goal.invariant-walk_statements-loop-stmt
+invariant-walk_statements-loop-stmt g l = goal.walk_statements-F-IsAlwaysCallable g l.on_node × Partly g.F.FnMut l.fn.path.items l.fn.on_node (over_stmts listing (stmts_of l.statements)) l.path.items l.on_node (over_stmts listing (stmts_of (drop l.stmt-index l.statements)))
 
 abbrev pub invariant-walk_cases-loop-case : goal.invariant-walk_cases-loop-case
 invariant-walk_cases-loop-case g l = goal.walk_cases-F-IsAlwaysCallable g l.on_node × Partly g.F.FnMut l.fn.path.items l.fn.on_node (paths_at_all l.arms (arms_of_cases (map case_of l.cases))) l.path.items l.on_node (paths_at_all l.arms (arms_of_cases (map case_of l.case-iterator)))
