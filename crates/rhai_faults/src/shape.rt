@@ -2,7 +2,7 @@
 
 #![tactic(auto, using(rhai_reading::specs::Reading::shapes, rhai_values::specs::Reading::kinds))]
 
-ghost use Rattle.std.specs.Prelude.{◌≡◌, ◌&&◌, ◌||◌, not, length};
+ghost use Rattle.std.specs.Prelude.{◌≡◌, ◌&&◌, length, map};
 ghost use Rattle.rhai_faults.specs.Tokens.{is_operation_of, token_arity};
 ghost use Rattle.rhai_meaning.specs.Faults as faults;
 ghost use Rattle.rhai_meaning.specs.Shape as shape;
@@ -15,6 +15,21 @@ use bitflags::Flags;
 use rhai_base::{ASTFlags, Dynamic, Token};
 use rhai_queries::is_unqualified;
 use rhai_tree::{BinaryExpr, Expr, FnCallExpr};
+
+/// The names that are the language's own.
+const WORDS: [&str; 11] = [
+    "eval",
+    "Fn",
+    "call",
+    "curry",
+    "is_shared",
+    "is_def_var",
+    "is_def_fn",
+    "type_of",
+    "this",
+    "print",
+    "debug",
+];
 
 pub(crate) fn is_unit(value: &Dynamic) -> bool
     ensures { result ≡ shape.is_unit (value_of value.now) }
@@ -104,17 +119,18 @@ pub(crate) fn is_reserved(name: &str) -> bool
 fn is_word(name: &str) -> bool
     ensures { result ≡ names.is_among name.now names.reserved }
 {
-    "eval" == name
-        || "Fn" == name
-        || "call" == name
-        || "curry" == name
-        || "is_shared" == name
-        || "is_def_var" == name
-        || "is_def_fn" == name
-        || "type_of" == name
-        || "this" == name
-        || "print" == name
-        || "debug" == name
+    is_among(name, &WORDS)
+}
+
+fn is_among(name: &str, words: &[&str]) -> bool
+    ensures { result ≡ names.is_among name.now (map (λ word. word.now) words.now) }
+{
+    for word in words {
+        if *word == name {
+            return true;
+        }
+    }
+    false
 }
 
 // ---- chains
@@ -156,13 +172,7 @@ pub(crate) fn is_rest(is_dot: bool, is_last: bool, rhs: &Expr) -> bool
         | Expr::FnCall(_, _)
         | Expr::And(_, _)
         | Expr::Or(_, _)
-        | Expr::Coalesce(_, _) => {
-            if is_dot {
-                is_member(rhs)
-            } else {
-                is_last
-            }
-        }
+        | Expr::Coalesce(_, _) => { if is_dot { is_member(rhs) } else { is_last } }
     }
 }
 
@@ -212,10 +222,8 @@ pub(crate) fn is_left_side(expr: &Expr) -> bool
     ensures { result ≡ shape.is_left_side (expr_of expr.now) }
 {
     match expr {
-        Expr::Variable(_, _, _)
-        | Expr::ThisPtr(_)
-        | Expr::Dot(_, _, _)
-        | Expr::Index(_, _, _) => true,
+        Expr::Variable(_, _, _) | Expr::ThisPtr(_) | Expr::Dot(_, _, _) | Expr::Index(_, _, _) =>
+            true,
         Expr::DynamicConstant(_, _)
         | Expr::BoolConstant(_, _)
         | Expr::IntegerConstant(_, _)
