@@ -1,2 +1,2 @@
-pub mod Arrays
 pub mod Tokens
+pub mod Undecided

@@ -1,6 +1,6 @@
 //! What a constant condition decides.
 
-#![tactic(auto, using(rhai_reading::specs::Reading::shapes, rhai_values::specs::Reading::kinds, crate::proofs::Arrays::undecided))]
+#![tactic(auto, using(rhai_reading::specs::Reading::shapes, rhai_values::specs::Reading::kinds))]
 
 ghost use Rattle.std.specs.Prelude.{◌≡◌};
 ghost use Rattle.rhai_values.specs.Reading.{value_of};
@@ -18,24 +18,7 @@ pub fn constant_bool(expr: &Expr) -> Option<bool>
     match expr {
         Expr::BoolConstant(b, _) => Some(*b),
         Expr::DynamicConstant(value, _) => truth(value.get()),
-        Expr::IntegerConstant(_, _)
-        | Expr::CharConstant(_, _)
-        | Expr::StringConstant(_, _)
-        | Expr::Unit(_)
-        | Expr::InterpolatedString(_, _)
-        | Expr::Array(_, _)
-        | Expr::Map(_, _)
-        | Expr::Variable(_, _, _)
-        | Expr::ThisPtr(_)
-        | Expr::Property(_, _)
-        | Expr::MethodCall(_, _)
-        | Expr::Stmt(_)
-        | Expr::FnCall(_, _)
-        | Expr::Dot(_, _, _)
-        | Expr::Index(_, _, _)
-        | Expr::And(_, _)
-        | Expr::Or(_, _)
-        | Expr::Coalesce(_, _) => None,
+        _ => None,
     }
 }
 

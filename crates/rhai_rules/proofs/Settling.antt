@@ -1,5 +1,5 @@
 -- Nodes that are settled, and nodes that fold to a value.
-use Rattle.std.proofs.Common.{◌≡◌, Bool, true, false, not, ◌&&◌, List, Option, Some, None, is_some, refl, sym, ap, ◌∙◌, subst}
+use Rattle.std.proofs.Common.{◌≡◌, Bool, true, false, not, ◌&&◌, List, Option, Some, None, is_some, refl, sym, subst}
 use Rattle.rhai_values.specs.Value.{Value, ArrayV, values}
 use Rattle.rhai_meaning.specs.Constants.{array_value, constant_bool, constant_for, constant_values, literal_value}
 use Rattle.rhai_meaning.specs.Engine.{Engine, or_else}

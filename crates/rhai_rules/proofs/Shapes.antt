@@ -1,12 +1,12 @@
 -- The shapes that rules look for.
-use Rattle.std.proofs.Common.{◌≡◌, ◌≢◌, ◌≤◌, Bool, true, false, not, ◌&&◌, ◌↔◌, IsTrue, List, [], ◌∷◌, length, Option, Some, None, is_some, refl, sym, ap, arith}
+use Rattle.std.proofs.Common.{◌≡◌, ◌≢◌, ◌≤◌, Bool, true, false, not, ◌&&◌, ◌↔◌, IsTrue, List, [], ◌∷◌, length, Option, Some, None, is_some, refl, sym, ap, ◌∙◌, arith}
 use Rattle.rhai_tree.specs.declared.stmt.Stmt as declared_stmt
 use Rattle.rhai_reading.specs.Reading.{stmts_of}
 use Rattle.rhai_meaning.specs.Constants.{constant_bool}
-use Rattle.rhai_meaning.specs.Tree.{Expr, Noop, If, Block, ExprStmt, Stmts, no_stmts, stmt}
+use Rattle.rhai_meaning.specs.Tree.{Expr, Stmt, Noop, If, Block, ExprStmt, Stmts, no_stmts, stmt}
 use Rattle.rhai_rewriting.specs.Rules.{block_or_noop}
 use Rattle.rhai_rewriting.specs.Residue.{holds_constant}
-use Rattle.rhai_rules.specs.Settled.{is_empty, is_settled_braces, is_settled_if, is_settled_block}
+use Rattle.rhai_rules.specs.Settled.{is_empty, is_settled_braces, is_settled_if}
 
 pub block_or_noop-none : (ss : Stmts) → true ≡ is_empty ss → Noop ≡ block_or_noop ss
 block_or_noop-none no_stmts h = refl
@@ -23,25 +23,19 @@ empty-of [] b h = h.1 refl
 empty-of (s ∷ l) true h = let k = h.0 refl in absurd cc
 empty-of (s ∷ l) false h = refl
 
-pub braces-long : (l : List declared_stmt.Stmt) → 2 ≤ length l → true ≡ is_settled_braces (stmts_of l)
-braces-long [] h = absurd (omega arith)
-braces-long (x ∷ []) h = absurd (omega arith)
-braces-long (x ∷ y ∷ l) h = refl
+-- a test that says yes of each list of two or more
+abbrev SettlesLong : (Stmts → Bool) → Type 0
+SettlesLong f = (s t : Stmt) (ss : Stmts) → true ≡ f (stmt s (stmt t ss))
 
-pub braces-none : (l : List declared_stmt.Stmt) → length l ≢ 1 → is_settled_braces (stmts_of l) ≡ false → stmts_of l ≡ no_stmts
-braces-none [] n h = refl
-braces-none (x ∷ []) n h = absurd (n refl)
-braces-none (x ∷ y ∷ l) n h = absurd cc
+pub settled-long : (f : Stmts → Bool) → SettlesLong f → (l : List declared_stmt.Stmt) → 2 ≤ length l → true ≡ f (stmts_of l)
+settled-long f g [] h = absurd (omega arith)
+settled-long f g (x ∷ []) h = absurd (omega arith)
+settled-long f g (x ∷ y ∷ l) h = g _ _ _
 
-pub block-long : (l : List declared_stmt.Stmt) → 2 ≤ length l → true ≡ is_settled_block (stmts_of l)
-block-long [] h = absurd (omega arith)
-block-long (x ∷ []) h = absurd (omega arith)
-block-long (x ∷ y ∷ l) h = refl
-
-pub block-none : (l : List declared_stmt.Stmt) → length l ≢ 1 → is_settled_block (stmts_of l) ≡ false → stmts_of l ≡ no_stmts
-block-none [] n h = refl
-block-none (x ∷ []) n h = absurd (n refl)
-block-none (x ∷ y ∷ l) n h = absurd cc
+pub unsettled-none : (f : Stmts → Bool) → SettlesLong f → (l : List declared_stmt.Stmt) → length l ≢ 1 → f (stmts_of l) ≡ false → stmts_of l ≡ no_stmts
+unsettled-none f g [] n h = refl
+unsettled-none f g (x ∷ []) n h = absurd (n refl)
+unsettled-none f g (x ∷ y ∷ l) n h = absurd (let z : true ≡ false = g _ _ _ ∙ h in cc)
 
 -- ---- an `if`
 

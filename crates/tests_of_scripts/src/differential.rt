@@ -3,14 +3,15 @@
 
 use crate::rows::{Row, is_met, is_printed, is_run, script};
 use crate::table;
-use crate::trees::{name, negated_integer, statement};
+use crate::trees::{integer, name};
 use rhai_ast::Stmt;
-use rhai_base::{Dynamic, INT, ImmutableString, OutOfMemory, Scope};
+use rhai_base::{Dynamic, INT, ImmutableString, OutOfMemory, Scope, Seq};
 use rhai_optimizer::{OptimizationLevel, optimize_into_ast};
 use rhai_program::ProgramHost;
 use rhai_run::{EngineInfo, Host, HostAnswer, HostCall, RunEnd, plain_run};
 use std::alloc::Global;
 use std::test::Fail;
+use tests_reader::{Unread, read_stmt};
 
 #[test]
 fn scripts_become_and_do_what_is_wanted(rt: HostRuntime) -> Result<(), Fail> {
@@ -154,7 +155,7 @@ fn the_default_level_is_simple(rt: HostRuntime) {
 const MANY: INT = 1000;
 
 /// `!0; !1; ..`
-fn many_asked(alloc: Global) -> Result<Vec<Stmt>, OutOfMemory> {
+fn many_asked(alloc: Global) -> Result<Vec<Stmt>, Unread> {
     let mut statements = Vec::new(alloc);
     for value in 0..MANY {
         push_asked(alloc, value, &mut statements)?;
@@ -162,9 +163,23 @@ fn many_asked(alloc: Global) -> Result<Vec<Stmt>, OutOfMemory> {
     Ok(statements)
 }
 
-fn push_asked(alloc: Global, value: INT, statements: &mut Vec<Stmt>) -> Result<(), OutOfMemory> {
-    let asked = negated_integer(alloc, value)?;
-    statements.push(statement(alloc, asked)?)?;
+fn push_asked(alloc: Global, value: INT, statements: &mut Vec<Stmt>) -> Result<(), Unread> {
+    let mut asked = read_stmt(alloc, "call !(0)")?;
+    ask(alloc, value, &mut asked)?;
+    push(statements, asked)?;
+    Ok(())
+}
+
+/// Puts another integer in the place of a call's arguments.
+fn ask(alloc: Global, value: INT, statement: &mut Stmt) -> Result<(), OutOfMemory> {
+    if let Stmt::FnCall(call, _) = statement {
+        call.get_mut().args = Seq::from_array(alloc, [integer(value)])?;
+    }
+    Ok(())
+}
+
+fn push(statements: &mut Vec<Stmt>, statement: Stmt) -> Result<(), OutOfMemory> {
+    statements.push(statement)?;
     Ok(())
 }
 
@@ -189,7 +204,7 @@ fn is_asked(call: &HostCall, value: INT) -> bool {
     }
 }
 
-fn are_many_asked(alloc: Global, level: OptimizationLevel) -> Result<bool, OutOfMemory> {
+fn are_many_asked(alloc: Global, level: OptimizationLevel) -> Result<bool, Unread> {
     let info = EngineInfo::new(alloc);
     let statements = many_asked(alloc)?;
     let functions = Vec::new(alloc);

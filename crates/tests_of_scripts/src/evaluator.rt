@@ -5,15 +5,15 @@ ghost use Rattle.std.specs.Prelude.{[], ◌∷◌, codes, pos, None, length, ◌
 ghost use Rattle.rhai_values.specs.Value.{BoolV, IntV};
 ghost use Rattle.rhai_meaning.specs.Act.{Answers, AnswersThrow};
 
-use rhai_ast::{Expr, FnCallExpr, Stmt};
-use rhai_base::{Boxed, Dynamic, ImmutableString, OutOfMemory, Position, Scope, Seq, Token};
+use rhai_base::{Dynamic, ImmutableString, OutOfMemory, Scope};
 use rhai_run::{
     EngineInfo, Host, HostAnswer, HostCall, RunEnd, RunReport, Stuck, Variable, plain_run,
 };
-use rhai_script::{AST, FnLib};
+use rhai_script::{AST, FnLib, SharedLib};
 use std::alloc::Global;
 use std::rc::Rc;
 use std::test::Fail;
+use tests_reader::{Unread, read_lines};
 
 /// Throws 7 at each call, and knows one module.
 #[derive(Drop)]
@@ -76,35 +76,28 @@ impl Host for First {
     }
 }
 
-/// `-1`, which the host is asked for.
-fn negation(alloc: Global) -> Result<Stmt, OutOfMemory> {
-    let call = FnCallExpr {
-        name: ImmutableString::new(alloc, "-")?,
-        args: Seq::from_vec(vec![in alloc; Expr::IntegerConstant(1, Position::NONE)]?),
-        capture_parent_scope: false,
-        op_token: Some(Token::UnaryMinus),
-    };
-    Ok(Stmt::FnCall(Boxed::new(alloc, call)?, Position::NONE))
+/// Negations, which the host is asked for: none, one, two, three.
+const NEGATIONS: [&str; 4] = [
+    "",
+    "call -(1)\n",
+    "call -(1)\ncall -(1)\n",
+    "call -(1)\ncall -(1)\ncall -(1)\n",
+];
+
+fn script(alloc: Global, text: &str) -> Result<AST, Unread> {
+    let functions = no_functions(alloc)?;
+    Ok(AST::new(read_lines(alloc, text)?, functions))
 }
 
-/// So many negations.
-fn script(alloc: Global, negations: usize) -> Result<AST, OutOfMemory> {
-    let mut statements = Vec::new(alloc);
-    for _ in 0..negations {
-        statements.push(negation(alloc)?)?;
-    }
-    Ok(AST::new(statements, Rc::new(alloc, FnLib::new(alloc))?))
+fn no_functions(alloc: Global) -> Result<SharedLib, OutOfMemory> {
+    Ok(Rc::new(alloc, FnLib::new(alloc))?)
 }
 
-/// Runs so many negations from a scope, with ten turns.
-fn ran<H: Host>(
-    alloc: Global,
-    host: &H,
-    scope: &Scope,
-    negations: usize,
-) -> Result<RunReport, OutOfMemory> {
-    let script = script(alloc, negations)?;
-    plain_run(alloc, &script, &EngineInfo::new(alloc), host, scope, 10)
+/// Runs statements from a scope, with ten turns.
+fn ran<H: Host>(alloc: Global, host: &H, scope: &Scope, text: &str) -> Result<RunReport, Unread> {
+    let script = script(alloc, text)?;
+    let info = EngineInfo::new(alloc);
+    Ok(plain_run(alloc, &script, &info, host, scope, 10)?)
 }
 
 /// Whether the run has this end, after so many calls, and has used no turn.
@@ -137,7 +130,7 @@ fn are_started(variables: &[Variable]) -> bool {
 
 #[test]
 fn the_start_scope_and_the_turns_come_back(rt: HostRuntime) -> Result<(), Fail> {
-    let report = ran(rt.alloc(), &Throws, &start(rt.alloc())?, 0)?;
+    let report = ran(rt.alloc(), &Throws, &start(rt.alloc())?, NEGATIONS[0])?;
     assert!(rt; is_ended(&report, &RunEnd::Value(Dynamic::Unit), 0));
     assert!(rt; are_started(report.variables.as_slice()));
     Ok(())
@@ -145,7 +138,7 @@ fn the_start_scope_and_the_turns_come_back(rt: HostRuntime) -> Result<(), Fail> 
 
 #[test]
 fn a_thrown_answer_ends_the_run(rt: HostRuntime) -> Result<(), Fail> {
-    let report = ran(rt.alloc(), &Throws, &Scope::new(rt.alloc()), 2)?;
+    let report = ran(rt.alloc(), &Throws, &Scope::new(rt.alloc()), NEGATIONS[2])?;
     assert!(rt; is_ended(&report, &RunEnd::Thrown(Dynamic::Int(7)), 1));
     Ok(())
 }
@@ -153,8 +146,9 @@ fn a_thrown_answer_ends_the_run(rt: HostRuntime) -> Result<(), Fail> {
 /// How many calls are made, and what the last one is answered by a host that knows those before it.
 const ANSWERS: [(usize, bool); 3] = [(1, true), (2, false), (3, false)];
 
-fn is_answered(alloc: Global, calls: usize, answer: bool) -> Result<bool, OutOfMemory> {
-    let report = ran(alloc, &First, &Scope::new(alloc), calls)?;
+fn is_answered(alloc: Global, calls: usize, answer: bool) -> Result<bool, Unread> {
+    let text = NEGATIONS.get(calls).ok_or(Unread::Wanted("a script"))?;
+    let report = ran(alloc, &First, &Scope::new(alloc), text)?;
     Ok(is_ended(&report, &RunEnd::Value(Dynamic::Bool(answer)), calls))
 }
 

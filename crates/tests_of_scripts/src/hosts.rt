@@ -1,12 +1,12 @@
 //! What the program's host answers, call by call.
 
-use crate::reader::{Unread, read_value};
 use crate::trees::name;
 use rhai_base::{Dynamic, OutOfMemory, Seq};
 use rhai_program::ProgramHost;
 use rhai_run::{Host, HostAnswer, HostCall};
 use std::alloc::Global;
 use std::test::Fail;
+use tests_reader::{Unread, read_value};
 
 /// A value in print; nothing stands for none.
 type Printed = &'static str;

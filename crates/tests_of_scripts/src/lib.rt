@@ -17,8 +17,6 @@ mod optimizer;
 #[cfg(test)]
 mod program;
 #[cfg(test)]
-mod reader;
-#[cfg(test)]
 mod readme;
 #[cfg(test)]
 mod reports;

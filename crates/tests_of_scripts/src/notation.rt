@@ -1,6 +1,5 @@
 //! Each kind of node in print, and a script with functions.
 
-use crate::reader::{Unread, read_lines};
 use crate::trees::{list, name};
 use rhai_ast::{FnAccess, ScriptFuncDef};
 use rhai_base::{OutOfMemory, Seq};
@@ -9,17 +8,40 @@ use rhai_script::{AST, FnLib};
 use std::alloc::Global;
 use std::rc::Rc;
 use std::test::Fail;
+use tests_reader::{Unread, read_lines};
 
 /// Expressions and statements of each kind.
-const LINES: [&str; 8] = [
-    "[(), true, -7, 'é', \"ab\", <[1, \"a\"]>, []]\n",
+const LINES: [&str; 30] = [
+    "[(), true, -7, 'é', \"ab\", <[1, \"a\"]>, <1..=2>, []]\n",
+    "[text(), text(\"a\", x), #{}, #{a: 1, b: #{c: x}}]\n",
+    "[x, m::n::x, this]\n",
     "g!(f(), 2)\n",
+    "m::f(m::n::g!(1), +(1, 2), !(x))\n",
+    "Dot(x, Dot?(m(1), Index?!(p, f(1))))\n",
+    "Index(Dot!(this, p), Index!(0, y))\n",
+    "[and(), and(x, or(y), coalesce((), 1))]\n",
     "{ +(1, 2); noop }\n",
     "if false { noop; 1 } else {}\n",
+    "switch x {  |  | default - |  }\n",
+    "switch x { 1: 0 1, \"a\": 2, 'c':, (): 0 | 5..8: 3, -2..=2: 1 | default 4 | true => a, x => {} }\n",
+    "while x { break }\n",
+    "loop { continue; break 1 }\n",
+    "do { x } while y\n",
+    "do {} until y\n",
+    "for x in y {}\n",
+    "for (x, i) in [1] { x; i }\n",
+    "let x = 1\nconst y = f(x)\n",
+    "export let x = 1\nexport const y = 2\n",
+    "x = 1\nthis += m::x\nDot(x, p) **= 2\n",
     "block {}\n",
     "block { 1; call f(3) }\n",
-    "call g!(3)\n",
+    "call g!(3)\ncall m::f()\n",
+    "try { x } catch { y }\ntry {} catch e { throw e }\n",
+    "return\nreturn x\nthrow\nthrow 1\n",
+    "import \"m\" as n\nexport x as y\nshare x, y\n",
     "1\n{}\n",
+    "[<=(1, 2), <(<1>, 2), <<(1, 2), ..=(1, 2)]\n",
+    "{ break }\n",
 ];
 
 fn is_printed_as_read(alloc: Global, lines: &str) -> Result<bool, Unread> {

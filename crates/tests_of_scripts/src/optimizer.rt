@@ -1,9 +1,9 @@
 //! What the table of scripts does not say of the optimiser: levels, functions, depth, length, positions, memory, and each
 //! of its calls below the entry.
 
-use crate::trees::{NONE, block, call, choice, flow, integer, list, name, statement};
-use rhai_ast::{Expr, FnAccess, ScriptFuncDef, Stmt};
-use rhai_base::{Boxed, Dynamic, INT, OutOfMemory, Position, Scope, Seq, Span, Token};
+use crate::trees::{NONE, certain, integer, list, name, statement};
+use rhai_ast::{Expr, FnAccess, ScriptFuncDef, Stmt, StmtBlock};
+use rhai_base::{Dynamic, INT, OutOfMemory, Position, Scope, Seq};
 use rhai_folding::{constant_bool, folded};
 use rhai_optimizer::{OptimizationLevel, OptimizerState, optimize_into_ast, optimize_top_level};
 use rhai_rules::{reduce_expr, reduce_stmt};
@@ -12,20 +12,11 @@ use rhai_script::AST;
 use std::alloc::Global;
 use std::rc::Rc;
 use std::test::Fail;
+use tests_reader::{Unread, read_expr, read_lines, read_stmt};
 
 // ---- scripts
 
-/// `1 + 2`
-fn sum(alloc: Global) -> Result<Expr, OutOfMemory> {
-    let args = vec![in alloc; integer(1), integer(2)]?;
-    Ok(Expr::FnCall(call(alloc, "+", Some(Token::Plus), args)?, NONE))
-}
-
-/// `{ 1 + 2 }`
-fn sum_in_a_block(alloc: Global) -> Result<Vec<Stmt>, OutOfMemory> {
-    let inner = vec![in alloc; statement(alloc, sum(alloc)?)?]?;
-    Ok(vec![in alloc; block(alloc, inner)?]?)
-}
+const SUM_IN_A_BLOCK: &str = "block { +(1, 2) }\n";
 
 fn optimized(
     alloc: Global,
@@ -68,9 +59,9 @@ const LEVELS: [(OptimizationLevel, bool); 3] = [
     (OptimizationLevel::Full, true),
 ];
 
-fn is_done_at(alloc: Global, row: &(OptimizationLevel, bool)) -> Result<bool, OutOfMemory> {
+fn is_done_at(alloc: Global, row: &(OptimizationLevel, bool)) -> Result<bool, Unread> {
     let (level, is_done) = *row;
-    let script = optimized(alloc, sum_in_a_block(alloc)?, level)?;
+    let script = optimized(alloc, read_lines(alloc, SUM_IN_A_BLOCK)?, level)?;
     let statements = script.statements();
     Ok(are_integers(statements, 1, 3) == is_done && is_block(statements) != is_done)
 }
@@ -85,24 +76,30 @@ fn levels_say_how_much_is_done(rt: HostRuntime) -> Result<(), Fail> {
 
 // ---- functions
 
-fn function(alloc: Global) -> Result<Rc<ScriptFuncDef>, OutOfMemory> {
+fn function(alloc: Global) -> Result<Vec<Rc<ScriptFuncDef>>, Unread> {
+    let body = list(read_lines(alloc, SUM_IN_A_BLOCK)?);
+    Ok(shared(alloc, body)?)
+}
+
+fn shared(alloc: Global, body: StmtBlock) -> Result<Vec<Rc<ScriptFuncDef>>, OutOfMemory> {
     let definition = ScriptFuncDef {
-        body: list(sum_in_a_block(alloc)?),
+        body,
         name: name(alloc, "f")?,
         this_type: None,
         access: FnAccess::Public,
         params: Seq::new(alloc),
         comments: Seq::new(alloc),
     };
-    Ok(Rc::new(alloc, definition)?)
+    let function = Rc::new(alloc, definition)?;
+    Ok(vec![in alloc; function]?)
 }
 
 fn is_kept(function: &ScriptFuncDef) -> bool {
     function.name.as_str() == "f" && is_block(function.body.statements())
 }
 
-fn are_functions_kept(alloc: Global) -> Result<bool, OutOfMemory> {
-    let functions = vec![in alloc; function(alloc)?]?;
+fn are_functions_kept(alloc: Global) -> Result<bool, Unread> {
+    let functions = function(alloc)?;
     let info = EngineInfo::new(alloc);
     let level = OptimizationLevel::Simple;
     let script = optimize_into_ast(alloc, &info, None, Vec::new(alloc), functions, level)?;
@@ -136,12 +133,6 @@ fn nested(alloc: Global) -> Result<Vec<Stmt>, OutOfMemory> {
     Ok(vec![in alloc; inner]?)
 }
 
-fn certain(alloc: Global, inner: Stmt) -> Result<Stmt, OutOfMemory> {
-    let mut parts = flow(alloc, Expr::BoolConstant(true, NONE));
-    parts.body = list(vec![in alloc; inner]?);
-    choice(alloc, parts)
-}
-
 #[test]
 fn nested_choices_become_the_innermost_value(rt: HostRuntime) -> Result<(), Fail> {
     let alloc = rt.alloc();
@@ -151,16 +142,16 @@ fn nested_choices_become_the_innermost_value(rt: HostRuntime) -> Result<(), Fail
 }
 
 /// `1 + 2; 1 + 2; ..`
-fn many(alloc: Global) -> Result<Vec<Stmt>, OutOfMemory> {
+fn many(alloc: Global) -> Result<Vec<Stmt>, Unread> {
     let mut statements = Vec::with_capacity(alloc, LENGTH)?;
     for _ in 0..LENGTH {
-        push_sum(alloc, &mut statements)?;
+        push(&mut statements, read_stmt(alloc, "+(1, 2)")?)?;
     }
     Ok(statements)
 }
 
-fn push_sum(alloc: Global, statements: &mut Vec<Stmt>) -> Result<(), OutOfMemory> {
-    statements.push(statement(alloc, sum(alloc)?)?)?;
+fn push(statements: &mut Vec<Stmt>, statement: Stmt) -> Result<(), OutOfMemory> {
+    statements.push(statement)?;
     Ok(())
 }
 
@@ -175,14 +166,9 @@ fn a_long_script_is_optimised_soon(rt: HostRuntime) -> Result<(), Fail> {
 // ---- positions
 
 /// An empty block at the end becomes nothing, where it began.
-fn is_end_kept(alloc: Global) -> Result<bool, OutOfMemory> {
-    let end = Position::new(1, 5);
-    let mut empty = list(Vec::new(alloc));
-    empty.span = Span::new(end, end);
-    let statements = vec![in alloc;
-        statement(alloc, integer(42))?,
-        Stmt::Block(Boxed::new(alloc, empty)?),
-    ]?;
+fn is_end_kept(alloc: Global) -> Result<bool, Unread> {
+    let statements = read_lines(alloc, "42\nblock {}\n")?;
+    let end = Position::new(1, 10);
     let script = optimized(alloc, statements, OptimizationLevel::Simple)?;
     Ok(
         matches!(script.statements(), [first, Stmt::Noop(at)] if is_integer(first, 42) && *at == end),
@@ -197,41 +183,17 @@ fn what_becomes_nothing_keeps_its_place(rt: HostRuntime) -> Result<(), Fail> {
 
 // ---- memory
 
-/// `f(1, 2)`
-fn asked(alloc: Global) -> Result<Expr, OutOfMemory> {
-    let args = vec![in alloc; integer(1), integer(2)]?;
-    Ok(Expr::FnCall(call(alloc, "f", None, args)?, NONE))
-}
-
-fn asked_statement(alloc: Global) -> Result<Stmt, OutOfMemory> {
-    let args = vec![in alloc; asked(alloc)?, Expr::Array(list_of_asked(alloc)?, NONE)]?;
-    Ok(Stmt::FnCall(call(alloc, "f", None, args)?, NONE))
-}
-
-fn list_of_asked(alloc: Global) -> Result<Seq<Expr>, OutOfMemory> {
-    Ok(Seq::from_vec(vec![in alloc; asked(alloc)?, integer(2)]?))
-}
-
 /// A script of each kind of node in which nothing is to be reduced.
-fn settled(alloc: Global) -> Result<Seq<Stmt>, OutOfMemory> {
-    let mut parts = flow(alloc, asked(alloc)?);
-    parts.body = list(vec![in alloc; asked_statement(alloc)?]?);
-    parts.branch = list(vec![in alloc; asked_statement(alloc)?]?);
-    let statements = vec![in alloc;
-        asked_statement(alloc)?,
-        choice(alloc, parts)?,
-        statement(alloc, integer(1))?,
-    ]?;
-    Ok(Seq::from_vec(statements))
-}
+const SETTLED: &str =
+    "call f(f(1, 2), [f(1, 2), 2])\nif f(1, 2) { call f(1) } else { call f(2) }\n1\n";
 
-/// The last request for memory is that of `settled`. Where the one after it is refused, as by `rt try --test --fail-alloc`
+/// The last request for memory is that of the reader. Where the one after it is refused, as by `rt try --test --fail-alloc`
 /// with its number, the test passes all the same: the pass makes none.
 #[test]
 fn a_script_with_nothing_to_reduce_takes_no_memory(rt: HostRuntime) -> Result<(), Fail> {
     let alloc = rt.alloc();
     let info = EngineInfo::new(alloc);
-    let mut statements = settled(alloc)?;
+    let mut statements = Seq::from_vec(read_lines(alloc, SETTLED)?);
     assert!(rt; optimize_top_level(alloc, &info, &mut statements).is_ok());
     assert!(rt; statements.len() == 3);
     Ok(())
@@ -239,18 +201,21 @@ fn a_script_with_nothing_to_reduce_takes_no_memory(rt: HostRuntime) -> Result<()
 
 // ---- the calls below the entry
 
-fn is_folded(alloc: Global) -> Result<bool, OutOfMemory> {
+fn is_folded(alloc: Global) -> Result<bool, Unread> {
     let info = EngineInfo::new(alloc);
-    let args = vec![in alloc; integer(1), integer(2)]?;
-    let call = call(alloc, "+", Some(Token::Plus), args)?;
-    let value = folded(alloc, &info, call.get())?;
-    Ok(matches!(value, Some(Dynamic::Int(3))))
+    match &read_expr(alloc, "+(1, 2)")? {
+        Expr::FnCall(call, _) => {
+            let value = folded(alloc, &info, call.get())?;
+            Ok(matches!(value, Some(Dynamic::Int(3))))
+        }
+        _ => Ok(false),
+    }
 }
 
-fn is_expr_reduced(alloc: Global) -> Result<bool, OutOfMemory> {
+fn is_expr_reduced(alloc: Global) -> Result<bool, Unread> {
     let info = EngineInfo::new(alloc);
     let mut state = OptimizerState::new();
-    let mut expr = sum(alloc)?;
+    let mut expr = read_expr(alloc, "+(1, 2)")?;
     reduce_expr(alloc, &info, &mut state, &mut expr)?;
     Ok(matches!(expr, Expr::IntegerConstant(3, _)) && state.is_dirty())
 }

@@ -1,12 +1,12 @@
 //! Reports in print.
 
-use crate::reader::{Unread, read_value};
 use crate::trees::name;
 use rhai_base::{Dynamic, OutOfMemory, Seq};
 use rhai_program::push_report;
 use rhai_run::{HostCall, RunEnd, RunReport, Stuck};
 use std::alloc::Global;
 use std::test::Fail;
+use tests_reader::{Unread, read_value};
 
 /// A run that ended so, with nothing else to report.
 fn ended(alloc: Global, run_end: RunEnd, turns_left: u64) -> RunReport {

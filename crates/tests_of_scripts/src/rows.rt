@@ -1,6 +1,5 @@
 //! Whether a script is as a row of text tells.
 
-use crate::reader::{Unread, read_lines};
 use rhai_base::{OutOfMemory, Scope};
 use rhai_notation::push_script;
 use rhai_optimizer::{OptimizationLevel, optimize_into_ast};
@@ -8,6 +7,7 @@ use rhai_program::push_report;
 use rhai_run::{EngineInfo, Host, RunReport, plain_run};
 use rhai_script::AST;
 use std::alloc::Global;
+use tests_reader::{Unread, read_lines};
 
 /// A script in print, what it is optimised to, how its run ends, and the calls that the run makes.
 pub type Row = (&'static str, &'static str, &'static str, &'static str);
