@@ -1,6 +1,6 @@
 -- Which tables of a `switch` are tables, part by part.
-use Rattle.std.specs.Prelude.{ℕ, Bool, true, false, not, ◌&&◌, ◌==◌, nat_lt, List, Option, Some, None, length, slice_get}
-use Rattle.std.specs.List.{list_all, list_any}
+use Rattle.std.specs.Prelude.{ℕ, Bool, true, false, not, ◌&&◌, ◌==◌, nat_lt, List, Option, Some, None, slice_get}
+use Rattle.std.specs.List.{list_all}
 use Rattle.rhai_base.specs.declared.range_case.RangeCase.{RangeCase}
 use Rattle.rhai_base.specs.Ranges.{index_of}
 use Rattle.rhai_values.specs.declared.dynamic.Dynamic.{Dynamic}

@@ -5,7 +5,7 @@
 ghost use Rattle.std.specs.Prelude.{◌≡◌, ◌&&◌, map, not, slice_get};
 ghost use Rattle.rhai_faults.specs.PlainArms.{is_plain_if_any, listed_are_plain, plain_walk};
 ghost use Rattle.rhai_faults.specs.Scripts.{functions_of, script_by};
-ghost use Rattle.rhai_reading.specs.Reading.{arms_of, callee_of, case_of, cases_of, expr_of, expressions_of, exprs_of, maybe_of, pairs_of, range_of, stmt_of, stmts_of, subject_of, table_of};
+ghost use Rattle.rhai_reading.specs.Reading.{callee_of, case_of, cases_of, expr_of, expressions_of, exprs_of, maybe_of, pairs_of, range_of, stmt_of, stmts_of, subject_of, table_of};
 ghost use Rattle.rhai_meaning.specs.Plain as plain;
 ghost use Rattle.rhai_meaning.specs.Shape.{is_barred};
 ghost use Rattle.rhai_meaning.specs.Walk.{arm_of_default, arms_of_cases, arms_of_ranges, listed, over_expr, over_exprs, over_functions, over_maybe, over_pairs, over_stmt, over_stmts};
