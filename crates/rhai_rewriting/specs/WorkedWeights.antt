@@ -2,11 +2,11 @@
 use Rattle.std.specs.Prelude.{◌≡◌, true, false, [], ◌∷◌, Some, None, codes, refl}
 use Rattle.rhai_values.specs.Value.{BoolV, ArrayV, values}
 use Rattle.rhai_base.specs.Operators.{Plus, Divide, EqualTo, NotEqualTo, computed}
-use Rattle.rhai_meaning.specs.Tree.{Callee, NoToken, OfOperator, OfOther, DynamicConstant, BoolConstant, CharConstant, StringConstant, UnitConstant, ArrayOf, BlockExpr, Noop, If, Block, ExprStmt, FnCallStmt, exprs, stmts}
+use Rattle.rhai_meaning.specs.Tree.{Callee, NoToken, OfOperator, OfOther, DynamicConstant, BoolConstant, CharConstant, StringConstant, UnitConstant, ArrayOf, BlockExpr, Noop, If, While, Block, ExprStmt, FnCallStmt, exprs, stmts}
 use Rattle.rhai_meaning.specs.Walk.{Node, OfExpr, OfStmt}
 use Rattle.rhai_meaning.specs.WorkedForms.{int, op, call, nothing_set, overriding, i}
 use Rattle.rhai_rewriting.specs.Folding.{folded}
-use Rattle.rhai_rewriting.specs.Residue.{holds_constant, IsReducedNode}
+use Rattle.rhai_rewriting.specs.Residue.{holds_constant, IsReducedNode, AreReduced}
 use Rattle.rhai_meaning.specs.Weight.{expr_weight, stmt_weight, weight}
 
 -- ---- weights
@@ -174,3 +174,10 @@ division_reduced = refl
 
 if_reduced : IsReducedNode nothing_set (OfStmt (If (call "f" []) (stmts []) (stmts [])))
 if_reduced = refl
+
+-- while [1] { 1 + 2 }: a node that is not opened; { [1] }: one that is
+closed_loop_is_reduced : AreReduced nothing_set (stmts (While (ArrayOf (exprs (int 1 ∷ []))) (stmts (FnCallStmt plus (exprs (int 1 ∷ int 2 ∷ [])) ∷ [])) ∷ []))
+closed_loop_is_reduced = ((tt, tt), tt)
+
+open_block_is_left : AreReduced nothing_set (stmts (Block (stmts (ExprStmt (ArrayOf (exprs (int 1 ∷ []))) ∷ [])) ∷ [])) → ⊥
+open_block_is_left h = array_of_constants_left h.0.1.0.1.0
