@@ -1,8 +1,8 @@
 //! The syntax tree of scripts: its nodes, what may be asked of them, and the tests of a tree.
 #![tactic(auto)]
 
-pub use rhai_faults::is_plain;
-pub use rhai_nodes::{IntoExpr, Literals, SwitchCases, Take};
+pub use rhai_faults::{TreeFault, check_tree, is_plain};
+pub use rhai_nodes::{FromStmt, IntoExpr, Literals, SetPosition, SwitchCases, Take};
 pub use rhai_queries::{CallQueries, ExprQueries, StmtQueries, are_constant, is_unqualified};
 pub use rhai_tree::{
     BinaryExpr, CaseBlocksList, Cases, Expr, FlowControl, FnAccess, FnCallExpr, FnNamespace,

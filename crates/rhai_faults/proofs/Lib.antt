@@ -1,1 +1,6 @@
+pub mod Exits
+pub mod FoundLists
+pub mod KeyLists
+pub mod Operations
 pub mod PlainLists
+pub mod TableTests

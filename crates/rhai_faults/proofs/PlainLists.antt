@@ -48,7 +48,7 @@ listed-end bs is = ap (listed_are_plain bs) (drop-length is)
 abbrev pub ranges_plain : List BinaryExpr → List RangeCase → Bool
 ranges_plain bs rs = listed_are_plain bs (arms_of_ranges (map range_of rs))
 
-range_arm : (r : RangeCase) → (range_of r).arm ≡ index_of r
+pub range_arm : (r : RangeCase) → (range_of r).arm ≡ index_of r
 range_arm (ExclusiveInt r i) = refl
 range_arm (InclusiveInt r i) = refl
 

@@ -1,2 +1,8 @@
+pub mod Found
+pub mod MapKeys
+pub mod Places
 pub mod PlainArms
+pub mod Refusals
 pub mod Scripts
+pub mod Tables
+pub mod Tokens

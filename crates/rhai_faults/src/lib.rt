@@ -1,6 +1,14 @@
 //! The tests of a tree.
 #![tactic(auto)]
 
+mod around;
+mod check;
+mod fault;
+mod map_keys;
 mod plain;
+mod shape;
+mod table;
 
+pub use check::check_tree;
+pub use fault::TreeFault;
 pub use plain::is_plain;

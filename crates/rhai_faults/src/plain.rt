@@ -21,7 +21,7 @@ use rhai_tree::{
 use std::rc::Rc;
 
 /// Whether no node calls `eval`, `is_def_var` or `is_def_fn` without a namespace, imports, exports or shares
-/// names.
+/// names, or has the flag EXPORTED.
 pub fn is_plain(statements: &[Stmt], functions: &[Rc<ScriptFuncDef>]) -> bool
     ensures { result ≡ plain.is_plain (script_by statements.now functions.now) }
 {
@@ -59,7 +59,9 @@ fn is_plain_expr(expr: &Expr) -> bool
         Expr::Map(map, _) => are_plain_members(map.get().0.as_slice()),
         Expr::MethodCall(call, _) | Expr::FnCall(call, _) => is_plain_call(call.get()),
         Expr::Stmt(block) => are_plain(block.get().statements()),
-        Expr::Dot(sides, _, _) | Expr::Index(sides, _, _) => is_plain_sides(sides.get()),
+        Expr::Dot(sides, options, _) | Expr::Index(sides, options, _) => {
+            !options.contains(ASTFlags::EXPORTED) && is_plain_sides(sides.get())
+        }
         Expr::And(operands, _) | Expr::Or(operands, _) | Expr::Coalesce(operands, _) => {
             are_plain_exprs(operands.get().as_slice())
         }
@@ -125,7 +127,10 @@ fn is_plain_stmt(stmt: &Stmt) -> bool
         Stmt::Noop(_) => true,
         Stmt::If(flow, _) => is_plain_flow(flow.get()),
         Stmt::Switch(switch, _) => is_plain_switch(switch.get()),
-        Stmt::While(flow, _) | Stmt::Do(flow, _, _) => is_plain_loop(flow.get()),
+        Stmt::While(flow, _) => is_plain_loop(flow.get()),
+        Stmt::Do(flow, options, _) => {
+            !options.contains(ASTFlags::EXPORTED) && is_plain_loop(flow.get())
+        }
         Stmt::For(parts, _) => is_plain_loop(&parts.get().2),
         Stmt::Var(parts, options, _) => {
             !options.contains(ASTFlags::EXPORTED) && is_plain_expr(&parts.get().1)
@@ -135,7 +140,9 @@ fn is_plain_stmt(stmt: &Stmt) -> bool
         Stmt::Block(block) => are_plain(block.get().statements()),
         Stmt::TryCatch(flow, _) => are_plain_blocks(flow.get()),
         Stmt::Expr(expr) => is_plain_expr(expr.get()),
-        Stmt::BreakLoop(expr, _, _) | Stmt::Return(expr, _, _) => is_plain_optional(expr),
+        Stmt::BreakLoop(expr, options, _) | Stmt::Return(expr, options, _) => {
+            !options.contains(ASTFlags::EXPORTED) && is_plain_optional(expr)
+        }
         Stmt::Import(_, _) | Stmt::Export(_, _) | Stmt::Share(_) => false,
     }
 }

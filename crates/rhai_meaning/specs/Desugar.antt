@@ -110,7 +110,8 @@ abbrev mutual
   member_of loop (tree.MethodCall c es) = method_of c (tree.count_exprs es) (core_exprs loop es)
   member_of loop _ = IllStep
 
-  -- the steps of a chain by its right side; p: that side as the last argument
+  -- the steps of a chain by its right side; p: that side as the last argument; an argument in a node with EXPORTED has no
+  -- meaning
   pub steps_of : Bool → (dot : Bool) → tree.ChainFlags → Step → tree.Expr → Steps
   steps_of loop dot k p (tree.Dot m l r) =
       cond k.breaks (last k.negated p)

@@ -57,7 +57,7 @@ is_rest dot breaks (Dot k l r) = if breaks then not dot else (is_argument dot l 
 is_rest dot breaks (Index k l r) = if breaks then not dot else (is_argument dot l && is_rest false k.breaks r)
 is_rest dot breaks e = if dot then is_member e else breaks
 
--- the outermost node of a chain that has a meaning
+-- whether the outermost node of a chain has a meaning
 abbrev pub is_chain : (dot : Bool) → ChainFlags → Expr → Bool
 is_chain dot k r = is_rest dot k.breaks r && not k.exported
 

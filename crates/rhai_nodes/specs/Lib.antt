@@ -1,2 +1,4 @@
+pub mod Blocks
 pub mod Lent
+pub mod Placed
 pub mod SwitchTable

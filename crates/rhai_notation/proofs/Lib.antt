@@ -1,1 +1,3 @@
-pub mod Pushes
+pub mod Guards
+pub mod NameLists
+pub mod TableLists

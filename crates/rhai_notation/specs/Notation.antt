@@ -4,6 +4,7 @@ use Rattle.std.specs.Fmt.{decimal, signed_decimal}
 use Rattle.rhai_values.specs.Value.{Text, UnitV, BoolV, IntV, CharV, TextV, inner}
 use Rattle.rhai_base.specs.Operators.{Operator, symbol}
 use Rattle.rhai_meaning.specs.Desugar.{qualified}
+use Rattle.rhai_meaning.specs.Queries.{is_unit}
 use Rattle.rhai_meaning.specs.Tree.{Callee, ChainFlags, IntRange, ExclusiveInt, InclusiveInt, SwitchCase, SwitchRange, SwitchTable, Expr, DynamicConstant, BoolConstant, IntegerConstant, CharConstant, StringConstant, UnitConstant, InterpolatedString, ArrayOf, MapOf, Variable, ThisPtr, Property, MethodCall, BlockExpr, FnCall, Dot, Index, And, Or, Coalesce, Exprs, no_exprs, expr, Pairs, no_pairs, pair, MaybeExpr, no_expr, an_expr, Arms, no_arms, arm, Stmt, Noop, If, Switch, While, Do, For, Var, Assignment, FnCallStmt, Block, TryCatch, ExprStmt, BreakLoop, Return, Import, Export, Share, Stmts, no_stmts, stmt, Function, Script}
 
 -- texts with commas between them; the first has that text before it
@@ -111,7 +112,7 @@ abbrev mutual
   stmt_text (Switch e as' t) = codes "switch " ++ expr_text e ++ codes " { " ++ table_text t ++ codes " | " ++ arms_text [] as' ++ codes " }"
   stmt_text (While UnitConstant ss) = codes "loop " ++ block_text ss
   stmt_text (While e ss) = codes "while " ++ expr_text e ++ codes " " ++ block_text ss
-  stmt_text (Do negated e ss) = codes "do " ++ block_text ss ++ (if negated then codes " until " else codes " while ") ++ expr_text e
+  stmt_text (Do negated exported e ss) = codes "do " ++ block_text ss ++ (if negated then codes " until " else codes " while ") ++ expr_text e
   stmt_text (For x i e ss) = codes "for " ++ loop_names x i ++ codes " in " ++ expr_text e ++ codes " " ++ block_text ss
   stmt_text (Var constant exported x e) = declaration_text constant exported ++ x ++ codes " = " ++ expr_text e
   stmt_text (Assignment op l e) = expr_text l ++ assigning_text op ++ expr_text e
@@ -119,8 +120,8 @@ abbrev mutual
   stmt_text (Block ss) = codes "block " ++ block_text ss
   stmt_text (TryCatch x ss ts) = codes "try " ++ block_text ss ++ catch_text x ++ block_text ts
   stmt_text (ExprStmt e) = expr_text e
-  stmt_text (BreakLoop breaks e) = (if breaks then codes "break" else codes "continue") ++ after_word e
-  stmt_text (Return throws e) = (if throws then codes "throw" else codes "return") ++ after_word e
+  stmt_text (BreakLoop breaks exported e) = (if breaks then codes "break" else codes "continue") ++ after_word e
+  stmt_text (Return throws exported e) = (if throws then codes "throw" else codes "return") ++ after_word e
   stmt_text (Import e x) = codes "import " ++ expr_text e ++ codes " as " ++ x
   stmt_text (Export x y) = codes "export " ++ x ++ codes " as " ++ y
   stmt_text (Share xs) = codes "share " ++ names_text [] xs
@@ -135,6 +136,10 @@ abbrev mutual
 
 abbrev pub call_text : Callee → Exprs → Text
 call_text f es = callee_text f ++ codes "(" ++ exprs_text [] es ++ codes ")"
+
+-- the guard of a loop, with its word
+abbrev pub guard_text : Expr → Text
+guard_text e = if is_unit e then codes "loop " else codes "while " ++ expr_text e ++ codes " "
 
 -- a statement a line
 abbrev pub lines_text : Stmts → Text

@@ -1,6 +1,10 @@
-//! How trees are printed.
+//! How trees are printed. A refused call can leave a part of what it appends.
 #![tactic(auto)]
 
-mod notation;
+mod constants;
+mod names;
+mod nodes;
+mod scripts;
+mod tables;
 
-pub use notation::{push_lines, push_script};
+pub use scripts::{push_lines, push_script};

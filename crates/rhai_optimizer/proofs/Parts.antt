@@ -5,61 +5,90 @@ use Rattle.rhai_tree.specs.declared.expr.Expr as declared_expr
 use Rattle.rhai_tree.specs.declared.expr.Expr.TheVariants as expr_kind
 use Rattle.rhai_tree.specs.declared.expr.FnCallExpr.{FnCallExpr}
 use Rattle.rhai_tree.specs.declared.block.StmtBlock.{StmtBlock}
-use Rattle.rhai_reading.specs.Reading.{expr_of, ExprCase, dynamic_case, bool_case, integer_case, char_case, string_case, unit_case, array_case, block_expr_case, call_case, expr_cases, expr_of-DynamicConstant, expr_of-BoolConstant, expr_of-IntegerConstant, expr_of-CharConstant, expr_of-StringConstant, expr_of-Unit}
+use Rattle.rhai_tree.specs.declared.stmt.FlowControl.{FlowControl}
+use Rattle.rhai_tree.specs.declared.stmt.Stmt as declared_stmt
+use Rattle.rhai_tree.specs.declared.stmt.Stmt.TheVariants as stmt_kind
+use Rattle.rhai_reading.specs.Reading.{expr_of, stmt_of}
+use Rattle.rhai_reading.proofs.Cases.{ExprCase, array_case, braces_case, call_case, expr_cases, StmtCase, if_case, block_case, expression_case, call_statement_case, stmt_cases}
 use Rattle.rhai_meaning.specs.Engine.{Engine}
-use Rattle.rhai_meaning.specs.Tree.{Callee, Expr, FnCall, Exprs, Stmt, If, FnCallStmt, Stmts}
-use Rattle.rhai_rewriting.specs.Context.{Context, ListKind, Inside}
-use Rattle.rhai_rewriting.specs.Rewriting.{ExprTo, same_expr, then_expr, in_call, ExprsTo, StmtTo, then_stmt, in_call_statement, in_if, StmtsTo, flag_forgotten}
-use Rattle.rhai_rewriting.specs.Steps.{ExprRun, ExprStep, StmtRun, StmtStep, EachRun, StmtsRun}
+use Rattle.rhai_meaning.specs.Tree.{Callee, Expr, ArrayOf, BlockExpr, FnCall, Exprs, Stmt, If, FnCallStmt, Block, ExprStmt, Stmts}
+use Rattle.rhai_rewriting.specs.Context.{Context, knowing, ListKind, Inside}
+use Rattle.rhai_rewriting.specs.Known.{Known}
+use Rattle.rhai_rewriting.specs.Rewriting.{ExprTo, same_expr, then_expr, in_array, in_braces, in_call, StmtTo, same_stmt, then_stmt, in_if, in_block, in_expression, in_call_statement, StmtsTo, flag_forgotten}
+use Rattle.rhai_rewriting.specs.Steps.{ExprRun, ExprsRun, ExprStep, StmtRun, StmtStep, EachRun, StmtsRun}
 use Rattle.rhai_rewriting.specs.Residue.{ExprParts, StmtParts}
 use Rattle.rhai_optimizer.specs.Parts.{ExprPartsRun, StmtPartsRun}
 use Rattle.rhai_meaning.specs.Weight.{weight}
 use Rattle.rhai_rewriting.proofs.Weights.{stmts_fall}
 use Rattle.rhai_rewriting.proofs.Flags.{expr_kept, stmt_kept, stmts_kept}
 
--- a call whose callee is kept
-pub call_to : {k : Context} {d d1 : Bool} (c c1 : Callee) {es es1 : Exprs} → c1 ≡ c → ExprsTo k d d1 es es1 → ExprTo k d d1 (FnCall c es) (FnCall c1 es1)
-call_to {k = k} {d = d} {d1 = d1} c c1 {es = es} {es1 = es1} h p = subst (λ x. ExprTo k d d1 (FnCall x es) (FnCall c1 es1)) h (in_call p)
+-- ---- parts first, then the node; whatever names are known
 
-pub call_statement_to : {k : Context} {w d d1 : Bool} (c c1 : Callee) {es es1 : Exprs} → c1 ≡ c → ExprsTo k d d1 es es1 → StmtTo k w d d1 (FnCallStmt c es) (FnCallStmt c1 es1)
-call_statement_to {k = k} {w = w} {d = d} {d1 = d1} c c1 {es = es} {es1 = es1} h p = subst (λ x. StmtTo k w d d1 (FnCallStmt x es) (FnCallStmt c1 es1)) h (in_call_statement p)
+pub expr_done : {r : Engine} {d d1 d2 : Bool} {e e1 e2 : Expr} → ((known : List Known) → ExprPartsRun (knowing r known) d d1 e e1) → ((known : List Known) → ExprStep (knowing r known) d1 d2 e1 e2) → (known : List Known) → ExprRun (knowing r known) d d2 e e2
+expr_done p s known = record { to = then_expr (p known).to (s known).to; reduced = λ h. (s known).reduced h ((p known).parts (expr_kept (s known).to h).0) }
 
--- an `if`, part by part
-pub if_parts : {k : Context} {w d d1 d2 d3 : Bool} {e e' : Expr} {a a' b b' : Stmts} → ExprRun k d d1 e e' → StmtsRun k (Inside w) d1 d2 a a' → StmtsRun k (Inside w) d2 d3 b b' → d3 ≡ false → StmtParts k.engine (If e' a' b')
-if_parts p q s h = let i = (stmts_kept s.to h).0 in let j = (stmts_kept q.to i).0 in (p.reduced j, (q.reduced, s.reduced))
-
--- ---- parts first, then the node
-
-pub expr_done : {k : Context} {d d1 d2 : Bool} {e e1 e2 : Expr} → ExprPartsRun k d d1 e e1 → ExprStep k d1 d2 e1 e2 → ExprRun k d d2 e e2
-expr_done p s = record { to = then_expr p.to s.to; reduced = λ h. s.reduced h (p.parts (expr_kept s.to h).0) }
-
-pub stmt_done : {k : Context} {w d d1 d2 : Bool} {s s1 s2 : Stmt} → StmtPartsRun k w d d1 s s1 → StmtStep k w d1 d2 s1 s2 → StmtRun k w d d2 s s2
-stmt_done p s = record { to = then_stmt p.to s.to; reduced = λ h. s.reduced h (p.parts (stmt_kept s.to h).0) }
+pub stmt_done : {r : Engine} {w d d1 d2 : Bool} {s s1 s2 : Stmt} → ((known : List Known) → StmtPartsRun (knowing r known) w d d1 s s1) → ((known : List Known) → StmtStep (knowing r known) w d1 d2 s1 s2) → (known : List Known) → StmtRun (knowing r known) w d d2 s s2
+stmt_done p s known = record { to = then_stmt (p known).to (s known).to; reduced = λ h. (s known).reduced h ((p known).parts (stmt_kept (s known).to h).0) }
 
 -- trees that are spelled so
-pub expr_parts_as : {k : Context} {d d' : Bool} {e e1 e' e1' : Expr} → e ≡ e1 → e' ≡ e1' → ExprTo k d d' e1 e1' → (d' ≡ false → ExprParts k.engine e1') → ExprPartsRun k d d' e e'
-expr_parts_as {k = k} {d = d} {d' = d'} {e1 = e1} {e' = e'} {e1' = e1'} i j p f = subst (λ a. ExprPartsRun k d d' a e') (sym i) (subst (λ b. ExprPartsRun k d d' e1 b) (sym j) (record { to = p; parts = f }))
+pub expr_as : {r : Engine} {d d' : Bool} {e e1 e' e1' : Expr} → e ≡ e1 → e' ≡ e1' → ((known : List Known) → ExprPartsRun (knowing r known) d d' e1 e1') → (known : List Known) → ExprPartsRun (knowing r known) d d' e e'
+expr_as {r = r} {d = d} {d' = d'} {e1 = e1} {e' = e'} i j p known = subst (λ a. ExprPartsRun (knowing r known) d d' a e') (sym i) (subst (λ b. ExprPartsRun (knowing r known) d d' e1 b) (sym j) (p known))
 
-pub stmt_parts_as : {k : Context} {w d d' : Bool} {s s1 s' s1' : Stmt} → s ≡ s1 → s' ≡ s1' → StmtTo k w d d' s1 s1' → (d' ≡ false → StmtParts k.engine s1') → StmtPartsRun k w d d' s s'
-stmt_parts_as {k = k} {w = w} {d = d} {d' = d'} {s1 = s1} {s' = s'} {s1' = s1'} i j p f = subst (λ a. StmtPartsRun k w d d' a s') (sym i) (subst (λ b. StmtPartsRun k w d d' s1 b) (sym j) (record { to = p; parts = f }))
+pub stmt_as : {r : Engine} {w d d' : Bool} {s s1 s' s1' : Stmt} → s ≡ s1 → s' ≡ s1' → ((known : List Known) → StmtPartsRun (knowing r known) w d d' s1 s1') → (known : List Known) → StmtPartsRun (knowing r known) w d d' s s'
+stmt_as {r = r} {w = w} {d = d} {d' = d'} {s1 = s1} {s' = s'} i j p known = subst (λ a. StmtPartsRun (knowing r known) w d d' a s') (sym i) (subst (λ b. StmtPartsRun (knowing r known) w d d' s1 b) (sym j) (p known))
 
--- a constant has no parts
-leaf_parts_case : (r : Engine) {e : declared_expr.Expr} → ExprCase e → ((xs : List declared_expr.Expr) (p : Position) → e ≡ expr_kind.Array xs p → ⊥) → ((b : StmtBlock) → e ≡ expr_kind.Stmt b → ⊥) → ((c : FnCallExpr) (p : Position) → e ≡ expr_kind.FnCall c p → ⊥) → ExprParts r (expr_of e)
-leaf_parts_case r (dynamic_case v p) a s c = subst (ExprParts r) (sym (expr_of-DynamicConstant v p)) tt
-leaf_parts_case r (bool_case b p) a s c = subst (ExprParts r) (sym (expr_of-BoolConstant b p)) tt
-leaf_parts_case r (integer_case n p) a s c = subst (ExprParts r) (sym (expr_of-IntegerConstant n p)) tt
-leaf_parts_case r (char_case n p) a s c = subst (ExprParts r) (sym (expr_of-CharConstant n p)) tt
-leaf_parts_case r (string_case t p) a s c = subst (ExprParts r) (sym (expr_of-StringConstant t p)) tt
-leaf_parts_case r (unit_case p) a s c = subst (ExprParts r) (sym (expr_of-Unit p)) tt
-leaf_parts_case r (array_case xs p) a s c = absurd (a xs p refl)
-leaf_parts_case r (block_expr_case b) a s c = absurd (s b refl)
-leaf_parts_case r (call_case f p) a s c = absurd (c f p refl)
+-- ---- the parts of each node
 
-pub leaf_parts : {k : Context} {d : Bool} {e : declared_expr.Expr} → ((xs : List declared_expr.Expr) (p : Position) → e ≡ expr_kind.Array xs p → ⊥) → ((b : StmtBlock) → e ≡ expr_kind.Stmt b → ⊥) → ((c : FnCallExpr) (p : Position) → e ≡ expr_kind.FnCall c p → ⊥) → ExprPartsRun k d d (expr_of e) (expr_of e)
-leaf_parts {k = k} {e = e} a s c = record { to = same_expr; parts = λ h. leaf_parts_case k.engine (expr_cases e) a s c }
+pub array_run : {r : Engine} {d d' : Bool} {es es' : Exprs} → ((known : List Known) → ExprsRun (knowing r known) d d' es es') → (known : List Known) → ExprPartsRun (knowing r known) d d' (ArrayOf es) (ArrayOf es')
+array_run p known = record { to = in_array (p known).to; parts = (p known).reduced }
 
-pub if_run : {k : Context} {w d d1 d2 d3 : Bool} {e e' : Expr} {a a' b b' : Stmts} → ExprRun k d d1 e e' → StmtsRun k (Inside w) d1 d2 a a' → StmtsRun k (Inside w) d2 d3 b b' → StmtPartsRun k w d d3 (If e a b) (If e' a' b')
-if_run p q s = record { to = in_if p.to q.to s.to; parts = if_parts p q s }
+pub braces_run : {r : Engine} {d d' : Bool} {ss ss' : Stmts} → ((known : List Known) → StmtsRun (knowing r known) (Inside true) d d' ss ss') → (known : List Known) → ExprPartsRun (knowing r known) d d' (BlockExpr ss) (BlockExpr ss')
+braces_run p known = record { to = in_braces (p known).to; parts = λ h. (p known).reduced }
+
+-- a call keeps its callee
+pub call_run : {r : Engine} {d d' : Bool} {c c' : Callee} {es es' : Exprs} → (c' ≡ c) × ((known : List Known) → ExprsRun (knowing r known) d d' es es') → (known : List Known) → ExprPartsRun (knowing r known) d d' (FnCall c es) (FnCall c' es')
+call_run {r = r} {d = d} {d' = d'} {c' = c'} {es = es} {es' = es'} p known =
+    let q = p.1 known in
+    record { to = subst (λ x. ExprTo (knowing r known) d d' (FnCall x es) (FnCall c' es')) p.0 (in_call q.to); parts = q.reduced }
+
+pub call_statement_run : {r : Engine} {w d d' : Bool} {c c' : Callee} {es es' : Exprs} → (c' ≡ c) × ((known : List Known) → ExprsRun (knowing r known) d d' es es') → (known : List Known) → StmtPartsRun (knowing r known) w d d' (FnCallStmt c es) (FnCallStmt c' es')
+call_statement_run {r = r} {w = w} {d = d} {d' = d'} {c' = c'} {es = es} {es' = es'} p known =
+    let q = p.1 known in
+    record { to = subst (λ x. StmtTo (knowing r known) w d d' (FnCallStmt x es) (FnCallStmt c' es')) p.0 (in_call_statement q.to); parts = q.reduced }
+
+pub if_run : {r : Engine} {w d d1 d2 d3 : Bool} {e e' : Expr} {a a' b b' : Stmts} → ((known : List Known) → ExprRun (knowing r known) d d1 e e') → ((known : List Known) → StmtsRun (knowing r known) (Inside w) d1 d2 a a') → ((known : List Known) → StmtsRun (knowing r known) (Inside w) d2 d3 b b') → (known : List Known) → StmtPartsRun (knowing r known) w d d3 (If e a b) (If e' a' b')
+if_run f g h known =
+    let p = f known in
+    let q = g known in
+    let s = h known in
+    record { to = in_if p.to q.to s.to; parts = λ z. let i = (stmts_kept s.to z).0 in let j = (stmts_kept q.to i).0 in (p.reduced j, (q.reduced, s.reduced)) }
+
+pub block_run : {r : Engine} {w d d' : Bool} {ss ss' : Stmts} → ((known : List Known) → StmtsRun (knowing r known) (Inside w) d d' ss ss') → (known : List Known) → StmtPartsRun (knowing r known) w d d' (Block ss) (Block ss')
+block_run p known = record { to = in_block (p known).to; parts = λ h. (p known).reduced }
+
+pub expression_run : {r : Engine} {w d d' : Bool} {e e' : Expr} → ((known : List Known) → ExprRun (knowing r known) d d' e e') → (known : List Known) → StmtPartsRun (knowing r known) w d d' (ExprStmt e) (ExprStmt e')
+expression_run p known = record { to = in_expression (p known).to; parts = (p known).reduced }
+
+-- ---- a node that is not opened is kept as it is
+
+expr_not_opened : (r : Engine) {x : declared_expr.Expr} {e : Expr} → ExprCase x e → ((xs : List declared_expr.Expr) (p : Position) → x ≡ expr_kind.Array xs p → ⊥) → ((b : StmtBlock) → x ≡ expr_kind.Stmt b → ⊥) → ((c : FnCallExpr) (p : Position) → x ≡ expr_kind.FnCall c p → ⊥) → ExprParts r e
+expr_not_opened r (array_case xs p) a s c = absurd (a xs p refl)
+expr_not_opened r (braces_case b) a s c = absurd (s b refl)
+expr_not_opened r (call_case f p) a s c = absurd (c f p refl)
+expr_not_opened r _ a s c = tt
+
+pub expr_stays : {k : Context} {d : Bool} {x : declared_expr.Expr} → ((xs : List declared_expr.Expr) (p : Position) → x ≡ expr_kind.Array xs p → ⊥) → ((b : StmtBlock) → x ≡ expr_kind.Stmt b → ⊥) → ((c : FnCallExpr) (p : Position) → x ≡ expr_kind.FnCall c p → ⊥) → ExprPartsRun k d d (expr_of x) (expr_of x)
+expr_stays {k = k} {x = x} a s c = record { to = same_expr; parts = λ h. expr_not_opened k.engine (expr_cases x) a s c }
+
+stmt_not_opened : (r : Engine) {x : declared_stmt.Stmt} {s : Stmt} → StmtCase x s → ((f : FlowControl) (p : Position) → x ≡ stmt_kind.If f p → ⊥) → ((b : StmtBlock) → x ≡ stmt_kind.Block b → ⊥) → ((e : declared_expr.Expr) → x ≡ stmt_kind.Expr e → ⊥) → ((c : FnCallExpr) (p : Position) → x ≡ stmt_kind.FnCall c p → ⊥) → StmtParts r s
+stmt_not_opened r (if_case f p) i b e c = absurd (i f p refl)
+stmt_not_opened r (block_case y) i b e c = absurd (b y refl)
+stmt_not_opened r (expression_case y) i b e c = absurd (e y refl)
+stmt_not_opened r (call_statement_case f p) i b e c = absurd (c f p refl)
+stmt_not_opened r _ i b e c = tt
+
+pub stmt_stays : {k : Context} {w d : Bool} {x : declared_stmt.Stmt} → ((f : FlowControl) (p : Position) → x ≡ stmt_kind.If f p → ⊥) → ((b : StmtBlock) → x ≡ stmt_kind.Block b → ⊥) → ((e : declared_expr.Expr) → x ≡ stmt_kind.Expr e → ⊥) → ((c : FnCallExpr) (p : Position) → x ≡ stmt_kind.FnCall c p → ⊥) → StmtPartsRun k w d d (stmt_of x) (stmt_of x)
+stmt_stays {k = k} {x = x} i b e c = record { to = same_stmt; parts = λ h. stmt_not_opened k.engine (stmt_cases x) i b e c }
 
 -- ---- passes
 

@@ -3,12 +3,15 @@ use Rattle.std.proofs.Common.{◌≡◌, ◌<◌, ◌≤◌, ℕ, ◌+◌, Bool,
 use Rattle.std.proofs.lemmas.List.{drop_more, drop_all, take_all, take_more_set, drop-set-lt, length-set}
 use Rattle.rhai_tree.specs.declared.expr.Expr as declared_expr
 use Rattle.rhai_tree.specs.declared.stmt.Stmt as declared_stmt
-use Rattle.rhai_reading.specs.Reading.{expr_of, exprs_of, stmt_of, stmts_of, StmtCase, stmt_cases, noop_case, if_case, block_case, expr_case, stmt_call_case, stmt_of-Noop, stmt_of-If, stmt_of-Block, stmt_of-Expr, stmt_of-FnCall}
-use Rattle.rhai_rewriting.specs.Context.{Context, ListKind, wanted, wanted_before}
-use Rattle.rhai_rewriting.specs.Rewriting.{exprs_none, exprs_more, same_stmts, then_stmts, in_head}
+use Rattle.rhai_meaning.specs.Engine.{Engine}
+use Rattle.rhai_meaning.specs.Tree.{Expr, Exprs, expr, Stmt, Stmts, stmt}
+use Rattle.rhai_reading.specs.Reading.{expr_of, exprs_of, stmt_of, stmts_of}
+use Rattle.rhai_rewriting.specs.Context.{Context, knowing, behind, known_behind, ListKind, wanted, wanted_before}
+use Rattle.rhai_rewriting.specs.Known.{Known}
+use Rattle.rhai_rewriting.specs.Rewriting.{exprs_none, exprs_more, same_stmts, then_stmts, in_head, in_tail}
 use Rattle.rhai_rewriting.specs.Steps.{ExprRun, ExprsRun, StmtRun, EachRun}
 use Rattle.rhai_meaning.specs.Weight.{expr_weight, exprs_weight, stmt_weight, weight}
-use Rattle.rhai_rewriting.proofs.Firing.{declares, in_tail_same}
+use Rattle.rhai_rewriting.specs.SurelyUnit.{is_surely_unit}
 use Rattle.rhai_rewriting.proofs.Flags.{exprs_kept, stmts_kept}
 
 -- ---- for any items
@@ -54,6 +57,14 @@ up_end {Items = Items} {d = d} {d1 = d1} {all = all} {here = here} {n = n} by s 
     let none = subst (λ r. Items d1 d1 r []) (sym (drop_all n here i)) by.none in
     subst (λ a. Items d d1 all a) (append-nil (take n here) ∙ take_all n here i) (s.to d1 [] none)
 
+-- an expression, then the others
+exprs_run : {k : Context} {d d1 d2 : Bool} {e e' : Expr} {es es' : Exprs} → ExprRun k d d1 e e' → ExprsRun k d1 d2 es es' → ExprsRun k d d2 (expr e es) (expr e' es')
+exprs_run p q = record { to = exprs_more p.to q.to; reduced = λ h. (p.reduced (exprs_kept q.to h).0, q.reduced h) }
+
+-- a statement, then those that know what it declares
+each_run : {k : Context} {m : ListKind} {d d1 d2 : Bool} {s s' : Stmt} {ss ss' : Stmts} → StmtRun k (wanted_before (wanted m) ss) d d1 s s' → EachRun (behind s' k) m d1 d2 ss ss' → EachRun k m d d2 (stmt s ss) (stmt s' ss')
+each_run {s' = s'} p q = record { to = λ u. then_stmts (in_head p.to) (in_tail (q.to (is_surely_unit s'))); reduced = λ h. (p.reduced (stmts_kept (q.to true) h).0, q.reduced h) }
+
 -- ---- expressions
 
 abbrev pub expr_weighs : declared_expr.Expr → ℕ
@@ -62,16 +73,17 @@ expr_weighs e = expr_weight (expr_of e)
 abbrev pub exprs_weigh : List declared_expr.Expr → ℕ
 exprs_weigh es = exprs_weight (exprs_of es)
 
-pub record ExprItem (k : Context) (rest : List declared_expr.Expr) (d d' : Bool) (e e' : declared_expr.Expr) : Type 0 where
-  pub run : ExprRun k d d' (expr_of e) (expr_of e')
+-- whatever names are known
+pub record ExprItem (r : Engine) (rest : List declared_expr.Expr) (d d' : Bool) (e e' : declared_expr.Expr) : Type 0 where
+  pub run : (known : List Known) → ExprRun (knowing r known) d d' (expr_of e) (expr_of e')
 
-pub record ExprItems (k : Context) (d d' : Bool) (es es' : List declared_expr.Expr) : Type 0 where
-  pub run : ExprsRun k d d' (exprs_of es) (exprs_of es')
+pub record ExprItems (r : Engine) (d d' : Bool) (es es' : List declared_expr.Expr) : Type 0 where
+  pub run : (known : List Known) → ExprsRun (knowing r known) d d' (exprs_of es) (exprs_of es')
 
-pub exprs_by : (k : Context) → ByItems expr_weighs exprs_weigh (ExprItem k) (ExprItems k)
-exprs_by k = record {
-  none = record { run = record { to = exprs_none; reduced = λ h. tt } };
-  more = λ i r. record { run = record { to = exprs_more i.run.to r.run.to; reduced = λ h. (i.run.reduced (exprs_kept r.run.to h).0, r.run.reduced h) } };
+pub exprs_by : (r : Engine) → ByItems expr_weighs exprs_weigh (ExprItem r) (ExprItems r)
+exprs_by r = record {
+  none = record { run = λ known. record { to = exprs_none; reduced = λ h. tt } };
+  more = λ i is. record { run = λ known. exprs_run (i.run known) (is.run known) };
   heavier = λ x rest. omega arith;
 }
 
@@ -83,29 +95,19 @@ stmt_weighs s = stmt_weight (stmt_of s)
 abbrev pub stmts_weigh : List declared_stmt.Stmt → ℕ
 stmts_weigh ss = weight (stmts_of ss)
 
-pub record StmtItem (k : Context) (m : ListKind) (rest : List declared_stmt.Stmt) (d d' : Bool) (s s' : declared_stmt.Stmt) : Type 0 where
-  pub run : StmtRun k (wanted_before (wanted m) (stmts_of rest)) d d' (stmt_of s) (stmt_of s')
+-- Whatever names are known: so what a statement declares may be known to those after it.
+pub record StmtItem (r : Engine) (m : ListKind) (rest : List declared_stmt.Stmt) (d d' : Bool) (s s' : declared_stmt.Stmt) : Type 0 where
+  pub run : (known : List Known) → StmtRun (knowing r known) (wanted_before (wanted m) (stmts_of rest)) d d' (stmt_of s) (stmt_of s')
 
-pub record StmtItems (k : Context) (m : ListKind) (d d' : Bool) (ss ss' : List declared_stmt.Stmt) : Type 0 where
-  pub run : EachRun k m d d' (stmts_of ss) (stmts_of ss')
+pub record StmtItems (r : Engine) (m : ListKind) (d d' : Bool) (ss ss' : List declared_stmt.Stmt) : Type 0 where
+  pub run : (known : List Known) → EachRun (knowing r known) m d d' (stmts_of ss) (stmts_of ss')
 
-pub stmt_item : {k : Context} {m : ListKind} {w d d' : Bool} {rest : List declared_stmt.Stmt} {s s' : declared_stmt.Stmt} → w ≡ wanted_before (wanted m) (stmts_of rest) → StmtRun k w d d' (stmt_of s) (stmt_of s') → StmtItem k m rest d d' s s'
-stmt_item {k = k} {d = d} {d' = d'} {s = s} {s' = s'} h r = record { run = subst (λ w. StmtRun k w d d' (stmt_of s) (stmt_of s')) h r }
+pub stmt_item : {r : Engine} {m : ListKind} {w d d' : Bool} {rest : List declared_stmt.Stmt} {s s' : declared_stmt.Stmt} → w ≡ wanted_before (wanted m) (stmts_of rest) → ((known : List Known) → StmtRun (knowing r known) w d d' (stmt_of s) (stmt_of s')) → StmtItem r m rest d d' s s'
+stmt_item {r = r} {d = d} {d' = d'} {s = s} {s' = s'} h f = record { run = λ known. subst (λ w. StmtRun (knowing r known) w d d' (stmt_of s) (stmt_of s')) h (f known) }
 
--- the declared statements declare no name
-declares_case : {s : declared_stmt.Stmt} → StmtCase s → declares (stmt_of s) ≡ false
-declares_case (noop_case p) = ap declares (stmt_of-Noop p)
-declares_case (if_case x p) = ap declares (stmt_of-If x p)
-declares_case (block_case b) = ap declares (stmt_of-Block b)
-declares_case (expr_case e) = ap declares (stmt_of-Expr e)
-declares_case (stmt_call_case c p) = ap declares (stmt_of-FnCall c p)
-
-declares_none : (s : declared_stmt.Stmt) → declares (stmt_of s) ≡ false
-declares_none s = declares_case (stmt_cases s)
-
-pub stmts_by : (k : Context) (m : ListKind) → ByItems stmt_weighs stmts_weigh (StmtItem k m) (StmtItems k m)
-stmts_by k m = record {
-  none = record { run = record { to = λ u. same_stmts; reduced = λ h. tt } };
-  more = λ {x = x} {y = y} i r. record { run = record { to = λ u. then_stmts (in_head i.run.to) (in_tail_same (declares_none y) r.run.to); reduced = λ h. (i.run.reduced (stmts_kept (r.run.to true) h).0, r.run.reduced h) } };
+pub stmts_by : (r : Engine) (m : ListKind) → ByItems stmt_weighs stmts_weigh (StmtItem r m) (StmtItems r m)
+stmts_by r m = record {
+  none = record { run = λ known. record { to = λ u. same_stmts; reduced = λ h. tt } };
+  more = λ {y = y} i is. record { run = λ known. each_run (i.run known) (is.run (known_behind (stmt_of y) known)) };
   heavier = λ x rest. omega arith;
 }

@@ -8,7 +8,7 @@ ghost use Rattle.rhai_meaning.specs.Tree.{IntegerConstant};
 ghost use Rattle.rhai_program.specs.Scripts.{operation, evaluates, first_statements};
 
 use rhai_ast::{Expr, FlowControl, FnCallExpr, Stmt, StmtBlock};
-use rhai_base::{Boxed, INT, ImmutableString, OutOfMemory, Position, Seq, Span, Token};
+use rhai_base::{Boxed, INT, ImmutableString, Namespace, OutOfMemory, Position, Seq, Span, Token};
 use std::alloc::Global;
 
 /// A built-in script.
@@ -97,10 +97,7 @@ fn evaluation(alloc: Global, expr: Expr) -> Result<Vec<Stmt>, OutOfMemory>
 fn block(statements: Vec<Stmt>) -> StmtBlock
     ensures { result.block ≡ statements.items }
 {
-    StmtBlock {
-        block: Seq::from_vec(statements),
-        span: Span::NONE,
-    }
+    StmtBlock::new_with_span(statements, Span::NONE)
 }
 
 /// An operator over two operands.
@@ -109,6 +106,7 @@ fn operation(alloc: Global, token: Token, lhs: Expr, rhs: Expr) -> Result<Expr, 
 {
     let operands = vec![in alloc; lhs, rhs]?;
     let call = FnCallExpr {
+        namespace: Namespace::none(alloc),
         name: ImmutableString::new(alloc, token.literal_syntax())?,
         args: Seq::from_vec(operands),
         capture_parent_scope: false,

@@ -7,3 +7,5 @@ pub mod simulation
 pub mod acts
 pub mod rules
 pub mod soundness
+pub mod Finishing
+pub mod Reaching

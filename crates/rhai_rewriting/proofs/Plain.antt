@@ -1,4 +1,4 @@
--- No operator answers a pointer to a function.
+-- No operator answers a pointer to a function, or unit.
 use Rattle.std.proofs.Common.{◌≡◌, ℤ, Bool, true, false, List, [], ◌∷◌, ◌++◌, Option, Some, None, if◌then◌else◌, refl, subst, pos, suc, zero, ℕ}
 use Rattle.std.specs.Prelude.{negsuc, int_div, int_rem, ◌+ℤ◌, ◌-ℤ◌, ◌*ℤ◌}
 use Rattle.std.specs.Char.{encode_utf8}
@@ -10,9 +10,10 @@ use Rattle.rhai_meaning.specs.Constants.{computed_value, constant_values}
 use Rattle.rhai_meaning.specs.Tree.{CallToken, NoToken, OfOperator, OfOther, Callee, Exprs}
 use Rattle.rhai_rewriting.specs.Folding.{folded_values, folded}
 
--- not a pointer
+-- neither a pointer nor unit
 abbrev pub is_plain_value : Value → Bool
 is_plain_value (PointerV f vs) = false
+is_plain_value UnitV = false
 is_plain_value _ = true
 
 abbrev gives_plain : Computed → Bool
@@ -118,6 +119,6 @@ values_plain engine OfOther o v h = absurd cc
 values_plain engine (OfOperator op) None v h = absurd cc
 values_plain engine (OfOperator op) (Some vs) v h = value_plain (built_in engine op vs) v (open_plain (is_open engine op vs) (computed op vs) (computed_plain op vs)) h
 
--- so a call that folds gives none
+-- so a call that folds gives neither
 pub folded_plain : (engine : Engine) (c : Callee) (es : Exprs) (v : Value) → folded engine c es ≡ Some v → is_plain_value v ≡ true
 folded_plain engine c es v h = values_plain engine c.token (constant_values es) v h

@@ -7,6 +7,7 @@ pub mod Logic
 pub mod Texts
 pub mod Words
 pub mod Entries
+pub mod Literals
 pub mod Chains
 pub mod Names
 pub mod Onward
@@ -15,6 +16,7 @@ pub mod SelfAssign
 pub mod Arms
 pub mod Equality
 pub mod Switches
+pub mod Fitting
 pub mod Tables
 pub mod Forgetting
 pub mod Expressions

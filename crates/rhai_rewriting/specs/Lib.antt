@@ -13,6 +13,7 @@ pub mod Shapes
 pub mod Residue
 pub mod Reducible
 pub mod Scripts
+pub mod Finished
 pub mod Steps
 pub mod Refines
 pub mod WorkedWeights
@@ -22,6 +23,8 @@ pub mod WorkedScopes
 pub mod WorkedRewrites
 pub mod WorkedNodes
 pub mod WorkedConditions
+pub mod WorkedTables
+pub mod WorkedConstants
 pub mod WorkedKnown
 pub mod WorkedLists
 pub mod WorkedListConditions

@@ -102,6 +102,10 @@ pub data ExprRule (k : Context) : Expr → Expr → Type 0 where
   index_of_constant_first : {f : ChainFlags} {e : Expr} (dot : Bool) (m : ChainFlags) (i r : Expr) (v j u : Value) → f.breaks ≡ false → constant_value e ≡ Some v → constant_value i ≡ Some j → indexed v j ≡ Some u → ExprRule k (Index f e (link dot m i r)) (link dot m (constant_of u) r)
   type_of_method_first : {f : ChainFlags} {e : Expr} (dot captures : Bool) (m : ChainFlags) (r : Expr) (v : Value) → f.breaks ≡ false → constant_value e ≡ Some v → (f.negated && is_unit v) ≡ false → ExprRule k (Dot f e (link dot m (MethodCall (named (codes "type_of") captures) no_exprs) r)) (link dot m (StringConstant (mapped_type_name k.engine v)) r)
   is_shared_method_first : {f : ChainFlags} {e : Expr} (dot captures : Bool) (m : ChainFlags) (r : Expr) (v : Value) → f.breaks ≡ false → constant_value e ≡ Some v → (f.negated && is_unit v) ≡ false → ExprRule k (Dot f e (link dot m (MethodCall (named (codes "is_shared") captures) no_exprs) r)) (link dot m (BoolConstant false) r)
+  -- so does one over a literal whose parts are pure
+  element_of_array_first : {f : ChainFlags} {es : Exprs} {e : Expr} (dot : Bool) (m : ChainFlags) (i r : Expr) (n : ℤ) (j : ℕ) → f.breaks ≡ false → are_pure_exprs es ≡ true → constant_value i ≡ Some (IntV n) → index_in (count_exprs es) n ≡ Some j → expr_at es j ≡ Some e → ExprRule k (Index f (ArrayOf es) (link dot m i r)) (link dot m e r)
+  property_of_map_first : {f : ChainFlags} {ps : Pairs} {template : List Text} (dot : Bool) (m : ChainFlags) (p : PropertyNames) (r : Expr) → f.breaks ≡ false → are_pure_pairs ps ≡ true → ExprRule k (Dot f (MapOf ps template) (link dot m (Property p) r)) (link dot m (or_unit (pair_for ps p.name)) r)
+  entry_of_map_first : {f : ChainFlags} {ps : Pairs} {template : List Text} (dot : Bool) (m : ChainFlags) (i r : Expr) (x : Text) → f.breaks ≡ false → are_pure_pairs ps ≡ true → constant_value i ≡ Some (TextV x) → ExprRule k (Index f (MapOf ps template) (link dot m i r)) (link dot m (or_unit (pair_for ps x)) r)
   -- a name that is known as a constant is its value; of a constant map a part
   known_name : {x : Text} (v : Value) → look k.known x ≡ Some v → ExprRule k (Variable [] x) (constant_of v)
   -- a pointer without values may be the call that makes it
@@ -140,7 +144,7 @@ pub data StmtRule (k : Context) (w : Bool) : Stmt → Stmt → Type 0 where
   -- of a table over a constant the arms that are left alone
   switch_narrows : {e : Expr} {as' : Arms} {t t' : SwitchTable} (v : Value) → constant_value e ≡ Some v → cases_for t' v ≡ left_arms as' (cases_for t v) → t'.default ≡ t.default → are_of (listed t') (listed t) ≡ true → (is_table as' t ≡ true → is_table as' t' ≡ true) → table_weight t' < table_weight t → StmtRule k w (Switch e as' t) (Switch e as' t')
   -- over any subject: false arms and ranges go, arms after a true one in a list go, empty lists go
-  switch_shrinks : {e : Expr} {as' : Arms} {t : SwitchTable} {cs : List SwitchCase} {qs : List SwitchRange} → CasesTo as' qs t.cases cs → RangesTo as' t.ranges qs → (is_table as' t ≡ true → is_table as' (record { cases = cs; ranges = qs; default = t.default }) ≡ true) → table_weight (record { cases = cs; ranges = qs; default = t.default }) < table_weight t → StmtRule k w (Switch e as' t) (Switch e as' (record { cases = cs; ranges = qs; default = t.default }))
+  switch_shrinks : {e : Expr} {as' : Arms} {t : SwitchTable} {cs : List SwitchCase} {qs : List SwitchRange} → CasesTo as' qs t.cases cs → RangesTo as' t.ranges qs → table_weight (record { cases = cs; ranges = qs; default = t.default }) < table_weight t → StmtRule k w (Switch e as' t) (Switch e as' (record { cases = cs; ranges = qs; default = t.default }))
   -- the answer of an arm that no list names is unit
   switch_forgets : {e : Expr} {as' : Arms} {t : SwitchTable} {c a : Expr} (j : ℕ) → arm_of as' j ≡ Some (c, a) → is_literal_unit a ≡ false → names_arm j (listed t) ≡ false → StmtRule k w (Switch e as' t) (Switch e (forgotten as' j) t)
   -- a `try` over a body that is pure inside does nothing

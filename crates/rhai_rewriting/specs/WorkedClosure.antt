@@ -8,7 +8,7 @@ use Rattle.rhai_meaning.specs.WorkedForms.{int, nothing_set, i}
 use Rattle.rhai_rewriting.specs.Context.{Context, under, noting, Whole}
 use Rattle.rhai_rewriting.specs.Rules.{braces_of_expression, known_name, statement_of_braces, block_of_statement}
 use Rattle.rhai_rewriting.specs.Rewriting.{ExprTo, same_expr, by_expr_rule, in_text, in_map, in_chain, in_and, in_or, in_coalesce, ExprsTo, exprs_none, exprs_more, pairs_none, pairs_more, in_dot, in_index, BaseTo, base, last_method, last_index, more_index, same_argument, in_target, GuardTo, guard, maybe_some, arms_none, arms_more, StmtTo, in_if, in_switch, in_while, in_do, in_for, in_var, in_assignment, in_try, in_expression, in_break, in_return, same_stmts, in_head, then_expr, in_braces, in_call, in_method, in_brackets, more_dot, then_stmt, by_stmt_rule, in_call_statement, in_import, StmtsTo, flag_forgotten}
-use Rattle.rhai_rewriting.specs.Scripts.{known_inside, is_place, no_functions, functions, OptimisedTo}
+use Rattle.rhai_rewriting.specs.Scripts.{known_inside, is_place, no_functions, functions, MayKnow, none_capture, OptimisedTo}
 use Rattle.rhai_meaning.specs.Engine.{Engine}
 
 abbrev k : Context
@@ -185,6 +185,10 @@ parameter_row = record {
   statements = in_head (in_expression (by_expr_rule (known_name (BoolV true) refl)));
   functions = functions (record { name = refl; this_type = refl; params = refl; body = same_stmts }) no_functions;
 }
+
+-- what its bodies may know: what is known of the scope, as none of its calls captures
+body_knows : MayKnow (script x (codes "y") x) (known_inside nothing_set (scope ∷ []) (script x (codes "y") x))
+body_knows = none_capture refl
 
 -- x; g!(1): a call that captures, so that nothing from outside is known in bodies
 nothing_inside : known_inside nothing_set (scope ∷ []) (record { statements = stmts (FnCallStmt (record f { captures = true }) (exprs (int 1 ∷ [])) ∷ []); functions = function (codes "y") x ∷ [] }) ≡ []

@@ -1,10 +1,11 @@
--- For conditions of rules on nodes, `switch` among them: two scripts that the rule without it would take for one, and what each does.
-use Rattle.std.specs.Prelude.{◌≡◌, true, false, List, [], ◌∷◌, Some, codes, refl, ℕ, pos, None}
-use Rattle.rhai_values.specs.Value.{UnitV, BoolV, TextV, ArrayV, values, text_of}
-use Rattle.rhai_meaning.specs.Act.{WrongKind}
+-- For conditions of rules on nodes: two scripts that the rule without it would take for one, and what each does. Those of
+-- `switch` stand in `WorkedTables`.
+use Rattle.std.specs.Prelude.{◌≡◌, true, false, List, [], ◌∷◌, Some, codes, refl}
+use Rattle.rhai_values.specs.Value.{Value, UnitV, BoolV, TextV, ArrayV, MapV, values, field, no_fields, text_of}
+use Rattle.rhai_meaning.specs.Act.{HostCall, WrongKind}
 use Rattle.rhai_meaning.specs.Faults.{NoOperands, fault_of}
 use Rattle.rhai_meaning.specs.Run.{Report, WithValue, WithThrown, WithStuck, WithoutTurns}
-use Rattle.rhai_meaning.specs.Tree.{Expr, BoolConstant, StringConstant, UnitConstant, ArrayOf, BlockExpr, FnCall, Dot, Index, MethodCall, And, Coalesce, Stmt, Noop, While, TryCatch, ExprStmt, Return, an_expr, exprs, stmts, SwitchRange, SwitchTable, ExclusiveInt, Switch, arms, DynamicConstant, If, MapOf, pairs, InterpolatedString}
+use Rattle.rhai_meaning.specs.Tree.{Expr, BoolConstant, StringConstant, UnitConstant, ArrayOf, BlockExpr, FnCall, Dot, Index, MethodCall, And, Coalesce, Stmt, Noop, While, TryCatch, ExprStmt, Return, an_expr, exprs, stmts, DynamicConstant, If, MapOf, pairs, InterpolatedString}
 use Rattle.rhai_meaning.specs.Walk.{OfExpr, outermost}
 use Rattle.rhai_meaning.specs.WorkedForms.{int, call, nothing_set, joining, ran, ends, i, op, asked, overriding}
 use Rattle.rhai_rewriting.specs.Parts.{named}
@@ -114,6 +115,37 @@ other_entries_call : Differ (shown (Index index calling_map (StringConstant (cod
 unfolding ran
 other_entries_call = (refl, refl)
 
+-- and so they are where the chain goes on: [f(), #{c: 1}][1].c, #{a: f(), b: #{c: 1}}.b.c, #{a: f(), b: #{c: 1}}["b"].c, and #{c: 1}.c
+abbrev inner_map : Expr
+inner_map = MapOf (pairs ((codes "c", int 1) ∷ [])) (codes "c" ∷ [])
+
+abbrev outer_map : Expr
+outer_map = MapOf (pairs ((codes "a", ask) ∷ (codes "b", inner_map) ∷ [])) (codes "a" ∷ codes "b" ∷ [])
+
+other_parts_call_first : Differ (shown (Index dot (ArrayOf (exprs (ask ∷ inner_map ∷ []))) (Dot dot (int 1) (property "c")))) (ends (WithValue (i 1)) asks_f) (shown (Dot dot inner_map (property "c"))) (ends (WithValue (i 1)) [])
+unfolding ran
+other_parts_call_first = (refl, refl)
+
+other_properties_call_first : Differ (shown (Dot dot outer_map (Dot dot (property "b") (property "c")))) (ends (WithValue (i 1)) asks_f) (shown (Dot dot inner_map (property "c"))) (ends (WithValue (i 1)) [])
+unfolding ran
+other_properties_call_first = (refl, refl)
+
+other_entries_call_first : Differ (shown (Index dot outer_map (Dot dot (StringConstant (codes "b")) (property "c")))) (ends (WithValue (i 1)) asks_f) (shown (Dot dot inner_map (property "c"))) (ends (WithValue (i 1)) [])
+unfolding ran
+other_entries_call_first = (refl, refl)
+
+-- what ends a chain in brackets is no first step of a literal either: [7, 8][1[0]], #{c: 1}["c"["d"]]
+abbrev asks_index : Value → Value → HostCall
+asks_index v j = record { name = codes "index$get$"; receiver = Some v; arguments = j ∷ [] }
+
+literal_index_is_whole : Differ (shown (Index index (ArrayOf (exprs (int 7 ∷ int 8 ∷ []))) (Index index (int 1) (int 0)))) (ends (WithValue UnitV) (asks_index (ArrayV (values (i 7 ∷ i 8 ∷ []))) (BoolV true) ∷ [])) (shown (Index index (int 8) (int 0))) (ends (WithValue (BoolV false)) [])
+unfolding ran
+literal_index_is_whole = (refl, refl)
+
+map_index_is_whole : Differ (shown (Index index inner_map (Index index (StringConstant (codes "c")) (StringConstant (codes "d"))))) (ends (WithValue UnitV) (asks_index (TextV (codes "c")) (TextV (codes "d")) ∷ asks_index (MapV (field (codes "c") (i 1) no_fields)) UnitV ∷ [])) (shown (Index index (int 1) (StringConstant (codes "d")))) (ends (WithValue UnitV) (asks_index (i 1) (TextV (codes "d")) ∷ []))
+unfolding ran
+map_index_is_whole = (refl, refl)
+
 -- the name of a pointer is valid: Fn("1") throws
 name_is_invalid : ran nothing_set joining (shown (FnCall (named (codes "Fn") false) (exprs (StringConstant (codes "1") ∷ [])))) ≡ ends (WithThrown (TextV (codes "function name"))) []
 unfolding ran
@@ -133,33 +165,3 @@ unit_guard = (refl, refl)
 throwing_body : Differ (TryCatch UnitConstant (stmts (Return true false (an_expr (int 1)) ∷ [])) (stmts (f ∷ [])) ∷ []) (ends (WithValue UnitV) asks_f) (Noop ∷ []) (ends (WithValue UnitV) [])
 unfolding ran
 throwing_body = (refl, refl)
-
--- ranges are tried in order until one answers, so what stands after a true one in another range stays:
--- switch 7 { 0..5 => 1, 3..10 => 2 }, and without the second
-abbrev ranges : List SwitchRange → SwitchTable
-ranges rs = record { cases = []; ranges = rs; default = None }
-
-abbrev from_to : ℕ → ℕ → ℕ → SwitchRange
-from_to a b j = record { range = ExclusiveInt (pos a) (pos b); arm = j }
-
-later_range_stays : Differ (Switch (int 7) (arms ((t, int 1) ∷ (t, int 2) ∷ [])) (ranges (from_to 0 5 0 ∷ from_to 3 10 1 ∷ [])) ∷ []) (ends (WithValue (i 2)) []) (Switch (int 7) (arms ((t, int 1) ∷ (t, int 2) ∷ [])) (ranges (from_to 0 5 0 ∷ [])) ∷ []) (ends (WithValue UnitV) [])
-unfolding ran
-later_range_stays = (refl, refl)
-
--- an empty case list stays where a range stands: switch 1 { 1 if false => 1, 0..5 => 2 } is unit
-empty_list_hides_ranges : Differ (Switch (int 1) (arms ((n, int 1) ∷ (t, int 2) ∷ [])) (record { cases = record { value = i 1; arms = [] } ∷ []; ranges = from_to 0 5 1 ∷ []; default = None }) ∷ []) (ends (WithValue UnitV) []) (Switch (int 1) (arms ((n, int 1) ∷ (t, int 2) ∷ [])) (ranges (from_to 0 5 1 ∷ [])) ∷ []) (ends (WithValue (i 2)) [])
-unfolding ran
-empty_list_hides_ranges = (refl, refl)
-
--- and where a later list of its value stands
-empty_list_hides_list : Differ (Switch (int 1) (arms ((t, int 1) ∷ [])) (record { cases = record { value = i 1; arms = [] } ∷ record { value = i 1; arms = 0 ∷ [] } ∷ []; ranges = []; default = None }) ∷ []) (ends (WithValue UnitV) []) (Switch (int 1) (arms ((t, int 1) ∷ [])) (record { cases = record { value = i 1; arms = 0 ∷ [] } ∷ []; ranges = []; default = None }) ∷ []) (ends (WithValue (i 1)) [])
-unfolding ran
-empty_list_hides_list = (refl, refl)
-
--- the answer of an arm that a list names stays: switch 1 { 1 => 5 }, and switch 1 { 1 => () }
-abbrev one_case : SwitchTable
-one_case = record { cases = record { value = i 1; arms = 0 ∷ [] } ∷ []; ranges = []; default = None }
-
-listed_answer : Differ (Switch (int 1) (arms ((t, int 5) ∷ [])) one_case ∷ []) (ends (WithValue (i 5)) []) (Switch (int 1) (arms ((t, UnitConstant) ∷ [])) one_case ∷ []) (ends (WithValue UnitV) [])
-unfolding ran
-listed_answer = (refl, refl)

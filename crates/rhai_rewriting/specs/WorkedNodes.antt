@@ -8,13 +8,13 @@ use Rattle.rhai_meaning.specs.Elements.{character}
 use Rattle.rhai_meaning.specs.Act.{HostCall, WrongKind}
 use Rattle.rhai_meaning.specs.Control.{texts_joined}
 use Rattle.rhai_meaning.specs.Run.{WithValue, WithStuck}
-use Rattle.rhai_meaning.specs.Tree.{FnCallStmt, SwitchCase, SwitchTable, ChainFlags, Expr, DynamicConstant, BoolConstant, StringConstant, UnitConstant, InterpolatedString, ArrayOf, MapOf, Property, MethodCall, FnCall, Dot, Index, And, Or, Coalesce, Noop, While, TryCatch, ExprStmt, BreakLoop, no_expr, exprs, pairs, arms, stmts, BlockExpr, If, Switch, Block, Var, SwitchRange, ExclusiveInt, Arms}
+use Rattle.rhai_meaning.specs.Tree.{FnCallStmt, SwitchCase, SwitchTable, ChainFlags, PropertyNames, Expr, DynamicConstant, BoolConstant, StringConstant, UnitConstant, InterpolatedString, ArrayOf, MapOf, Property, MethodCall, FnCall, Dot, Index, And, Or, Coalesce, Noop, While, TryCatch, ExprStmt, BreakLoop, no_expr, exprs, pairs, arms, stmts, BlockExpr, If, Switch, Block, Var, SwitchRange, ExclusiveInt, Arms}
 use Rattle.rhai_meaning.specs.WorkedForms.{int, call, nothing_set, joining, ran, ran_with, ends, i}
 use Rattle.rhai_rewriting.specs.Context.{under}
 use Rattle.rhai_rewriting.specs.Operands.{passing_goes, after_deciding_go, pure_before_deciding_goes, in_other_operands, unit_goes, after_some_go, texts_join, empty_goes, in_other_parts}
 use Rattle.rhai_rewriting.specs.Parts.{named}
 use Rattle.rhai_rewriting.specs.Rewriting.{by_expr_rule, by_stmt_rule, in_expression, in_head}
-use Rattle.rhai_rewriting.specs.Rules.{StmtRule, type_of_statement_folds, is_shared_statement_folds, fn_statement_folds, curry_statement_folds, and_changes, or_changes, coalesce_changes, and_of_one, or_of_one, coalesce_of_one, text_changes, text_folds, map_of_constants, type_of_folds, is_shared_folds, fn_folds, curry_folds, unit_ends_dot, unit_ends_index, property_of_constant, index_of_constant, element_of_array, property_of_map, entry_of_map, type_of_method, is_shared_method, while_false, while_true, pure_try, switch_answers, switch_is_if, switch_defaults, switch_narrows, switch_shrinks, switch_forgets, and_of_none, or_of_none, coalesce_of_none, property_of_constant_first, index_of_constant_first, type_of_method_first, is_shared_method_first}
+use Rattle.rhai_rewriting.specs.Rules.{StmtRule, type_of_statement_folds, is_shared_statement_folds, fn_statement_folds, curry_statement_folds, and_changes, or_changes, coalesce_changes, and_of_one, or_of_one, coalesce_of_one, text_changes, text_folds, map_of_constants, type_of_folds, is_shared_folds, fn_folds, curry_folds, unit_ends_dot, unit_ends_index, property_of_constant, index_of_constant, element_of_array, property_of_map, entry_of_map, type_of_method, is_shared_method, while_false, while_true, pure_try, switch_answers, switch_is_if, switch_defaults, switch_narrows, switch_shrinks, switch_forgets, and_of_none, or_of_none, coalesce_of_none, property_of_constant_first, index_of_constant_first, type_of_method_first, is_shared_method_first, element_of_array_first, property_of_map_first, entry_of_map_first}
 use Rattle.rhai_rewriting.specs.Tables.{no_ranges, no_cases, case_shrinks, empty_case_goes, range_stays, false_range_goes}
 use Rattle.rhai_rewriting.specs.WorkedRewrites.{Row, f, asks_f}
 
@@ -48,8 +48,11 @@ index = record { negated = false; breaks = true; exported = false }
 abbrev pub safe_index : ChainFlags
 safe_index = record { negated = true; breaks = true; exported = false }
 
+abbrev names_of : String → PropertyNames
+names_of x = record { getter = codes "get"; setter = codes "set"; name = codes x }
+
 abbrev pub property : String → Expr
-property x = Property (record { getter = codes "get"; setter = codes "set"; name = codes x })
+property x = Property (names_of x)
 
 -- ---- operands
 
@@ -221,7 +224,7 @@ is_shared_method_row = (in_head (in_expression (by_expr_rule (is_shared_method U
 -- #{a: "xy"}.a[0]: the chain goes on from "xy"
 property_first_row : ExprRow (Dot dot (DynamicConstant (MapV (field (codes "a") (TextV (codes "xy")) no_fields))) (Index index (property "a") (int 0))) (Index index (text "xy") (int 0)) (CharV 120) []
 unfolding ran character
-property_first_row = (in_head (in_expression (by_expr_rule (property_of_constant_first false index (record { getter = codes "get"; setter = codes "set"; name = codes "a" }) (int 0) (field (codes "a") (TextV (codes "xy")) no_fields) refl refl))), refl, refl)
+property_first_row = (in_head (in_expression (by_expr_rule (property_of_constant_first false index (names_of "a") (int 0) (field (codes "a") (TextV (codes "xy")) no_fields) refl refl))), refl, refl)
 
 -- [5][0].is_shared()
 index_first_row : ExprRow (Index dot (DynamicConstant (ArrayV (values (i 5 ∷ [])))) (Dot dot (int 0) (MethodCall (named (codes "is_shared") false) (exprs [])))) (Dot dot (int 5) (MethodCall (named (codes "is_shared") false) (exprs []))) (BoolV false) []
@@ -236,6 +239,27 @@ type_of_first_row = (in_head (in_expression (by_expr_rule (type_of_method_first 
 is_shared_first_row : ExprRow (Dot dot (int 1) (Dot dot (MethodCall (named (codes "is_shared") false) (exprs [])) (MethodCall (named (codes "type_of") false) (exprs [])))) (Dot dot n (MethodCall (named (codes "type_of") false) (exprs []))) (TextV (codes "bool")) []
 unfolding ran
 is_shared_first_row = (in_head (in_expression (by_expr_rule (is_shared_method_first true false dot (MethodCall (named (codes "type_of") false) (exprs [])) (i 1) refl refl refl))), refl, refl)
+
+-- [#{a: true && false}, 2][0].a: from a literal whose parts are pure the chain goes on too
+abbrev both : Expr
+both = And (exprs (t ∷ n ∷ []))
+
+abbrev map_of : String → Expr → Expr
+map_of x e = MapOf (pairs ((codes x, e) ∷ [])) (codes x ∷ [])
+
+array_first_row : ExprRow (Index dot (ArrayOf (exprs (map_of "a" both ∷ int 2 ∷ []))) (Dot dot (int 0) (property "a"))) (Dot dot (map_of "a" both) (property "a")) (BoolV false) []
+unfolding ran
+array_first_row = (in_head (in_expression (by_expr_rule (element_of_array_first true dot (int 0) (property "a") (pos 0) 0 refl refl refl refl refl))), refl, refl)
+
+-- #{a: [true && false]}.a[0]
+map_property_first_row : ExprRow (Dot dot (map_of "a" (ArrayOf (exprs (both ∷ [])))) (Index index (property "a") (int 0))) (Index index (ArrayOf (exprs (both ∷ []))) (int 0)) (BoolV false) []
+unfolding ran
+map_property_first_row = (in_head (in_expression (by_expr_rule (property_of_map_first false index (names_of "a") (int 0) refl refl))), refl, refl)
+
+-- #{a: 1}["b"]?.c: a missing entry is unit
+map_entry_first_row : ExprRow (Index dot (map_of "a" (int 1)) (Dot safe (text "b") (property "c"))) (Dot safe UnitConstant (property "c")) UnitV []
+unfolding ran
+map_entry_first_row = (in_head (in_expression (by_expr_rule (entry_of_map_first true safe (text "b") (property "c") (codes "b") refl refl refl))), refl, refl)
 
 -- ---- loops and `try`
 
@@ -298,7 +322,7 @@ switch_narrows_row = (in_head (by_stmt_rule (switch_narrows (i 1) refl refl refl
 -- switch {1} { 1 if false => 3, 1 => 5, 1 => 6, 2 if false => 7 }: a false arm, one after a true one, and an empty list go
 switch_shrinks_row : Row (Switch (BlockExpr (stmts (ExprStmt (int 1) ∷ []))) (arms ((n, int 3) ∷ (t, int 5) ∷ (t, int 6) ∷ (n, int 7) ∷ [])) (cases (on 1 (0 ∷ 1 ∷ 2 ∷ []) ∷ on 2 (3 ∷ []) ∷ []) None) ∷ []) (Switch (BlockExpr (stmts (ExprStmt (int 1) ∷ []))) (arms ((n, int 3) ∷ (t, int 5) ∷ (t, int 6) ∷ (n, int 7) ∷ [])) (cases (on 1 (1 ∷ []) ∷ []) None) ∷ []) (ends (WithValue (i 5)) [])
 unfolding ran IsLe
-switch_shrinks_row = (in_head (by_stmt_rule (switch_shrinks (case_shrinks (empty_case_goes refl refl refl no_cases)) no_ranges (λ h. refl) (le_by_compare 3 6 tt))), refl, refl)
+switch_shrinks_row = (in_head (by_stmt_rule (switch_shrinks (case_shrinks (empty_case_goes refl refl refl no_cases)) no_ranges (le_by_compare 3 6 tt))), refl, refl)
 
 -- switch {1} { 1 => 5 } with an arm that no list names
 switch_forgets_row : Row (Switch (BlockExpr (stmts (ExprStmt (int 1) ∷ []))) (arms ((t, int 5) ∷ (n, ask) ∷ [])) (cases (on 1 (0 ∷ []) ∷ []) None) ∷ []) (Switch (BlockExpr (stmts (ExprStmt (int 1) ∷ []))) (arms ((t, int 5) ∷ (n, UnitConstant) ∷ [])) (cases (on 1 (0 ∷ []) ∷ []) None) ∷ []) (ends (WithValue (i 5)) [])
@@ -333,7 +357,7 @@ six = BlockExpr (stmts (ExprStmt (int 6) ∷ []))
 
 false_range : Row (Switch six (arms ((n, int 1) ∷ (t, int 2) ∷ [])) (ranges (between 5 8 0 ∷ between 1 9 1 ∷ []) None) ∷ []) (Switch six (arms ((n, int 1) ∷ (t, int 2) ∷ [])) (ranges (between 1 9 1 ∷ []) None) ∷ []) (ends (WithValue (i 2)) [])
 unfolding ran IsLe
-false_range = (in_head (by_stmt_rule (switch_shrinks no_cases (false_range_goes refl (range_stays no_ranges)) (λ h. refl) (le_by_compare 2 2 tt))), refl, refl)
+false_range = (in_head (by_stmt_rule (switch_shrinks no_cases (false_range_goes refl (range_stays no_ranges)) (le_by_compare 2 2 tt))), refl, refl)
 
 -- ---- operands without any: no well-formed tree has them
 

@@ -1,6 +1,6 @@
 -- How the run of a whole comes from the runs of its parts.
 use Rattle.std.proofs.lemmas.List.{map-append, drop_all}
-use Rattle.std.proofs.Common.{◌≡◌, ℕ, ◌+◌, ◌<◌, ◌≤◌, true, List, [], ◌∷◌, ◌++◌, map, length, drop, get_or, Result, Ok, Err, refl, sym, ap, ◌∙◌, subst, append_assoc, append-nil, arith}
+use Rattle.std.proofs.Common.{◌≡◌, ℕ, ◌+◌, ◌<◌, ◌≤◌, Bool, true, List, [], ◌∷◌, ◌++◌, map, length, drop, get_or, Result, Ok, Err, refl, sym, ap, ◌∙◌, subst, append_assoc, append-nil, arith}
 use Rattle.rhai_values.specs.declared.dynamic.Dynamic.{Dynamic}
 use Rattle.rhai_values.specs.declared.dynamic.Dynamic.TheVariants as value
 use Rattle.rhai_values.specs.Reading.{value_of, value_of-Unit}
@@ -10,14 +10,15 @@ use Rattle.rhai_tree.specs.declared.stmt.Stmt.{Stmt}
 use Rattle.rhai_reading.specs.Reading.{expr_of, exprs_of, stmt_of, stmts_of}
 use Rattle.rhai_meaning.specs.Tree as tree
 use Rattle.rhai_meaning.specs.Act.{Gives, Outcome, Ended, At, Act, Acts, Scoped, and_then, leave, restore, run, run_all}
-use Rattle.rhai_meaning.specs.ActForms.{value_then, each_value, ◌>>=◌}
+use Rattle.rhai_meaning.specs.ActForms.{value_then, each_value, ◌>>=◌, branch, choose, if_true, truth}
 use Rattle.rhai_meaning.specs.Core as core
 use Rattle.rhai_meaning.specs.Meaning.{act, acts, deed, with_args}
 use Rattle.rhai_reading.proofs.ItemLists.{exprs_of-drop, stmts_of-drop}
 use Rattle.rhai_run.specs.declared.plain.state.Interrupt.{Interrupt}
 use Rattle.rhai_run.specs.declared.plain.state.Interrupt.TheVariants.{NoMemory, Throw, Stuck}
 use Rattle.rhai_run.specs.declared.plain.state.State.{State}
-use Rattle.rhai_run.specs.Evaluating.{Setting, env, Leads, LeadsAll, Passes, Runs, RunsAll, RunsArgs, RunsLine, RunsExpr, RunsExprs, RunsStmt, RunsStmts}
+use Rattle.rhai_run.specs.Evaluating.{Setting, env, Leads, LeadsAll, Passes, Runs, RunsAll, RunsArgs, RunsLine, RunsExpr, RunsExprs, RunsStmt, RunsStmts, or_stuck}
+use Rattle.rhai_run.proofs.Values.{or_stuck-ok, or_stuck-err}
 use Rattle.rhai_meaning.specs.Small.{small_expr_of, small_exprs_of, small_stmts_of}
 use Rattle.rhai_run.specs.State.{store_of}
 
@@ -40,6 +41,15 @@ module _ (here : Setting) where
   then_stops a next s s1 NoMemory p = tt
   then_stops a next s s1 (Throw v) p = record { turns = p.turns; runs = λ d le. ap (λ r. and_then r (λ e. run here.world (env here d) (value_then next e))) (p.runs d le) }
   then_stops a next s s1 (Stuck f) p = record { turns = p.turns; runs = λ d le. ap (λ r. and_then r (λ e. run here.world (env here d) (value_then next e))) (p.runs d le) }
+
+  -- by a condition: one that is no bool, and one that is
+  pub if_stuck : (a b : Act) (s : State) (v : Value) (x : Interrupt) → Err x ≡ or_stuck (truth v) → Runs here (if_true v a b) s (Err x) s
+  if_stuck a b s v x k =
+      let p = or_stuck-err (truth v) x k in
+      subst (λ y. Runs here (if_true v a b) s (Err y) s) (sym p.1) (record { turns = omega arith; runs = λ d le. ap (λ t. run here.world (env here d) (branch t a b) (store_of s) s.turns) p.0 })
+
+  pub if_runs : (a b : Act) (s s1 : State) (v : Value) (c : Bool) (r : Result Dynamic Interrupt) → Ok c ≡ or_stuck (truth v) → Runs here (choose c a b) s r s1 → Runs here (if_true v a b) s r s1
+  if_runs a b s s1 v c r k q = subst (λ t. Runs here (branch t a b) s r s1) (sym (or_stuck-ok (truth v) c k)) q
 
   -- ---- arguments
 
@@ -92,7 +102,7 @@ module _ (here : Setting) where
   pub args_start : (xs : List Expr) (s : State) → ArgsAt xs xs s [] s
   args_start xs s = record { before = record { turns = omega arith; runs = λ next d le. refl } }
 
-  item_of : (xs : List Expr) (i : ℕ) (e : Expr) → i < length xs → e ≡ get_or xs i e → exprs_of (drop i xs) ≡ tree.expr (expr_of e) (exprs_of (drop (i + 1) xs))
+  pub item_of : (xs : List Expr) (i : ℕ) (e : Expr) → i < length xs → e ≡ get_or xs i e → exprs_of (drop i xs) ≡ tree.expr (expr_of e) (exprs_of (drop (i + 1) xs))
   item_of xs i e h is = exprs_of-drop xs i e h ∙ ap (λ y. tree.expr (expr_of y) (exprs_of (drop (i + 1) xs))) (sym is)
 
   pub args_next : (xs : List Expr) (i : ℕ) (e : Expr) (s s1 s2 : State) (vs : List Dynamic) (v : Dynamic) → i < length xs → e ≡ get_or xs i e → ArgsAt xs (drop i xs) s vs s1 → RunsExpr here (expr_of e) s1 (Ok v) s2 → ArgsAt xs (drop (i + 1) xs) s (vs ++ v ∷ []) s2

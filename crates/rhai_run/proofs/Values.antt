@@ -1,10 +1,14 @@
 -- Values by their kind.
-use Rattle.std.proofs.Common.{◌≡◌, Bool, false, None, refl, ap}
+use Rattle.std.proofs.Common.{◌≡◌, Bool, false, Option, Some, None, Ok, Err, refl, ap}
 use Rattle.rhai_values.specs.declared.dynamic.Dynamic.{Dynamic}
 use Rattle.rhai_values.specs.declared.dynamic.Dynamic.TheVariants as value
 use Rattle.rhai_values.specs.Reading.{value_of, value_of-Unit, value_of-Bool, value_of-Int, value_of-Char, value_of-Str, value_of-Array, value_of-Map, value_of-FnPtr, value_of-Range, value_of-RangeInclusive, DynamicCase, unit_case, bool_case, int_case, char_case, str_case, array_case, map_case, fn_ptr_case, range_case, range_inclusive_case, dynamic_cases}
 use Rattle.rhai_meaning.specs.ActForms.{truth}
 use Rattle.rhai_meaning.specs.Shape.{is_unit}
+use Rattle.rhai_run.specs.declared.plain.state.Interrupt.{Interrupt}
+use Rattle.rhai_run.specs.declared.plain.state.Interrupt.TheVariants.{Stuck}
+use Rattle.rhai_run.specs.declared.report.Stuck.TheVariants as why
+use Rattle.rhai_run.specs.Evaluating.{or_stuck}
 
 not_unit : {v : Dynamic} → DynamicCase v → (v ≡ value.Unit → ⊥) → is_unit (value_of v) ≡ false
 not_unit unit_case h = absurd (h refl)
@@ -35,3 +39,12 @@ not_truth (range_inclusive_case a b) h = ap truth (value_of-RangeInclusive a b)
 
 pub truth-other : (v : Dynamic) → ((b : Bool) → v ≡ value.Bool b → ⊥) → truth (value_of v) ≡ None
 truth-other v h = not_truth (dynamic_cases v) h
+
+-- a condition that is a bool, and one that is none
+pub or_stuck-ok : (o : Option Bool) (b : Bool) → Ok b ≡ or_stuck o → o ≡ Some b
+or_stuck-ok (Some c) b e = cc
+or_stuck-ok None b e = cc
+
+pub or_stuck-err : (o : Option Bool) (x : Interrupt) → Err x ≡ or_stuck o → (o ≡ None) × (x ≡ Stuck why.WrongKind)
+or_stuck-err (Some c) x e = cc
+or_stuck-err None x e = (refl, cc)

@@ -1,5 +1,5 @@
 -- What the evaluator's functions answer.
-use Rattle.std.specs.Prelude.{◌≡◌, ℕ, ◌≤◌, true, false, List, map, Result, Ok, Err}
+use Rattle.std.specs.Prelude.{◌≡◌, ℕ, ◌≤◌, Bool, true, false, List, map, Option, Some, None, Result, Ok, Err}
 use Rattle.rhai_values.specs.Value.{Value, UnitV}
 use Rattle.rhai_values.specs.declared.dynamic.Dynamic.{Dynamic}
 use Rattle.rhai_values.specs.Reading.{value_of}
@@ -8,13 +8,14 @@ use Rattle.rhai_meaning.specs.Act.{HostCall, Answer, World, Gives, Leaves, Throw
 use Rattle.rhai_meaning.specs.Core.{Exprs, Deed, Stmt, Function}
 use Rattle.rhai_meaning.specs.Desugar.{call_of, core_exprs, core_function}
 use Rattle.rhai_meaning.specs.Host.{ModuleValue}
-use Rattle.rhai_meaning.specs.Meaning.{act, acts, deed, line, with_args}
+use Rattle.rhai_meaning.specs.Meaning.{act, acts, both, deed, line, with_args}
 use Rattle.rhai_meaning.specs.Run.{env_at, world_of}
 use Rattle.rhai_functions.specs.FnLib.{functions_of}
 use Rattle.rhai_run.specs.declared.plain.evaluator.Evaluator.{Evaluator}
 use Rattle.rhai_run.specs.declared.plain.state.Interrupt.{Interrupt}
 use Rattle.rhai_run.specs.declared.plain.state.Interrupt.TheVariants.{NoMemory, Throw, Stuck}
 use Rattle.rhai_run.specs.declared.plain.state.State.{State}
+use Rattle.rhai_run.specs.declared.report.Stuck.TheVariants as why
 use Rattle.rhai_run.specs.declared.report.RunEnd.{RunEnd}
 use Rattle.rhai_run.specs.declared.report.RunEnd.TheVariants as ended
 use Rattle.rhai_meaning.specs.Shape.{is_unit}
@@ -98,6 +99,11 @@ IsConstant v (Err NoMemory) = Unit {0}
 IsConstant v (Err (Throw u)) = ⊥
 IsConstant v (Err (Stuck f)) = (is_unit v ≡ true) × (stuck_meant f ≡ WrongKind)
 
+-- whether a value is true
+abbrev pub or_stuck : Option Bool → Result Bool Interrupt
+or_stuck (Some b) = Ok b
+or_stuck None = Err (Stuck why.WrongKind)
+
 -- ---- the same at trees, in the small language
 
 abbrev pub RunsExpr : Setting → tree.Expr → State → Result Dynamic Interrupt → State → Type 0
@@ -105,6 +111,9 @@ RunsExpr here e = Runs here (act here.world (small_expr_of e))
 
 abbrev pub RunsExprs : Setting → tree.Exprs → State → Result (List Dynamic) Interrupt → State → Type 0
 RunsExprs here es = RunsArgs here (small_exprs_of es)
+
+abbrev pub RunsBoth : Setting → tree.Exprs → State → Result Dynamic Interrupt → State → Type 0
+RunsBoth here es = Runs here (both here.world (small_exprs_of es))
 
 abbrev pub RunsCall : Setting → tree.Callee → tree.Exprs → State → Result Dynamic Interrupt → State → Type 0
 RunsCall here c es = Runs here (act here.world (small_expr (call_of c (tree.count_exprs es) (core_exprs false es))))

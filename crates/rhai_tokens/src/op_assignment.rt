@@ -106,4 +106,11 @@ impl OpAssignment {
     {
         self.pos
     }
+
+    /// Sets where the `=` or `op=` stands. In rhai only the tree can.
+    pub fn set_position(&mut self, pos: Position)
+        ensures { self.new ≡ record self.old { pos = pos } }
+    {
+        self.pos = pos;
+    }
 }

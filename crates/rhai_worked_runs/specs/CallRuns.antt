@@ -6,7 +6,7 @@ use Rattle.rhai_base.specs.Operators.{Plus, UpTo}
 use Rattle.rhai_meaning.specs.Host.{host_of}
 use Rattle.rhai_meaning.specs.Tree.{NoToken, FnCall, Stmt, IntegerConstant, BoolConstant, UnitConstant, StringConstant, Variable, ThisPtr, Dot, Index, BlockExpr, Assignment, ExprStmt, While, BreakLoop, Do, no_expr, an_expr, no_stmts, stmts, exprs}
 use Rattle.rhai_meaning.specs.Run.{AtFunction, WithThrown, WithStuck, WithoutTurns}
-use Rattle.rhai_worked_runs.specs.Terms.{i, run, World, int, var, op, fn, let', const', array, at, dot, prop, meth, map_one, nothing_set, world_with, asked, var_is, const_is}
+use Rattle.rhai_worked_runs.specs.Terms.{i, run, World, int, var, op, fn, let', array, at, dot, prop, meth, map_one, nothing_set, world_with, asked, var_is}
 use Rattle.rhai_meaning.specs.Calls.{key}
 use Rattle.rhai_worked_runs.specs.Runs.{ran_in, ran, report, gives, throws, fact, double}
 
@@ -73,10 +73,6 @@ optional_steps = refl
 call_is_no_place : ran (Assignment None (dot (fn "f" []) (prop "a")) (int 1) ∷ []) 0 ≡ report (WithStuck NoPlace) [] [] 0
 unfolding ran
 call_is_no_place = refl
-
-bounds_before_constants : ran (const' "a" (array []) ∷ Assignment None (at (var "a") (int 0)) (int 1) ∷ []) 0 ≡ report (throws "array bounds") (const_is "a" (ArrayV (values [])) ∷ []) [] 0
-unfolding ran
-bounds_before_constants = refl
 
 break_outside_a_loop : ran (BreakLoop true false (an_expr (fn "f" [])) ∷ []) 0 ≡ report (WithStuck WrongKind) [] [] 0
 unfolding ran

@@ -5,8 +5,8 @@ use Rattle.rhai_base.specs.Operators.{Plus, Minus, UpTo, Through}
 use Rattle.rhai_meaning.specs.Calls.{key}
 use Rattle.rhai_meaning.specs.Act.{Unbound, WrongKind, WriteToConstant, NoPlace, CounterTooLarge, Answers, Acts, Only, Fail}
 use Rattle.rhai_meaning.specs.Control.{counted}
-use Rattle.rhai_meaning.specs.Run.{AtStatements, AtFunction, WithThrown, WithStuck}
-use Rattle.rhai_meaning.specs.Tree.{Expr, BoolConstant, StringConstant, UnitConstant, MapOf, ThisPtr, BlockExpr, Dot, Index, And, Function, Switch, For, Assignment, TryCatch, ExprStmt, BreakLoop, Return, no_expr, an_expr, arms, pairs, no_stmts, no_exprs, stmts}
+use Rattle.rhai_meaning.specs.Run.{AtStatements, AtFunction, WithThrown, WithStuck, Report}
+use Rattle.rhai_meaning.specs.Tree.{Expr, BoolConstant, StringConstant, UnitConstant, MapOf, ThisPtr, BlockExpr, Dot, Index, And, Function, Stmt, Switch, While, Do, For, Assignment, TryCatch, ExprStmt, BreakLoop, Return, no_expr, an_expr, arms, pairs, no_stmts, no_exprs, stmts}
 use Rattle.rhai_worked_runs.specs.Terms.{i, run, World, int, var, op, fn, let', const', array, at, dot, prop, meth, program_host, nothing_set, world_with, asked, var_is, const_is}
 use Rattle.rhai_worked_runs.specs.Runs.{ran_in, ran, report, gives}
 
@@ -149,3 +149,37 @@ equal_keys_have_no_run = refl
 empty_operands_run : (ran (ExprStmt (And no_exprs) ∷ []) 0).ended ≡ gives (BoolV true)
 unfolding ran
 empty_operands_run = refl
+
+-- ---- nodes with EXPORTED
+
+abbrev exported_dot : Expr → Expr → Expr
+exported_dot l r = Dot (record { negated = false; breaks = false; exported = true }) l r
+
+abbrev exported_index : Expr → Expr → Expr
+exported_index l r = Index (record { negated = false; breaks = true; exported = true }) l r
+
+abbrev reports : List Stmt → List Report
+reports [] = []
+reports (s ∷ ss) = ran (s ∷ []) 1 ∷ reports ss
+
+-- do { f() } while false; return f(); f().a; f()[0]; and loop { break f() }, whose body takes its turn
+exported_nodes : reports (Do false true (BoolConstant false) (stmts (ExprStmt (fn "f" []) ∷ [])) ∷ Return false true (an_expr (fn "f" [])) ∷ ExprStmt (exported_dot (fn "f" []) (prop "a")) ∷ ExprStmt (exported_index (fn "f" []) (int 0)) ∷ While UnitConstant (stmts (BreakLoop true true (an_expr (fn "f" [])) ∷ [])) ∷ [])
+    ≡ report (WithStuck WrongKind) [] [] 1 ∷ report (WithStuck WrongKind) [] [] 1 ∷ report (WithStuck WrongKind) [] [] 1 ∷ report (WithStuck WrongKind) [] [] 1 ∷ report (WithStuck WrongKind) [] [] 0 ∷ []
+unfolding ran
+exported_nodes = refl
+
+-- f()[g()].a, whose second node has it: stuck where the first step is reached, before its index; ()?[g()].a does not reach it
+exported_rest : reports (ExprStmt (Index (record { negated = false; breaks = false; exported = false }) (fn "f" []) (exported_dot (fn "g" []) (prop "a"))) ∷ ExprStmt (Index (record { negated = true; breaks = false; exported = false }) UnitConstant (exported_dot (fn "g" []) (prop "a"))) ∷ [])
+    ≡ report (WithStuck WrongKind) [] (asked "f" [] ∷ []) 1 ∷ report (gives UnitV) [] [] 1 ∷ []
+unfolding ran
+exported_rest = refl
+
+-- a.b = f(), where a is unbound: stuck behind the right side
+exported_left_side : ran (Assignment None (exported_dot (var "a") (prop "b")) (fn "f" []) ∷ []) 0 ≡ report (WithStuck WrongKind) [] (asked "f" [] ∷ []) 0
+unfolding ran
+exported_left_side = refl
+
+-- let a = 1; a.b[0] = f(), whose second node has it: before the getter of b is asked
+exported_rest_of_a_left_side : ran (let' "a" (int 1) ∷ Assignment None (dot (var "a") (exported_index (prop "b") (int 0))) (fn "f" []) ∷ []) 0 ≡ report (WithStuck WrongKind) (var_is "a" (i 1) ∷ []) (asked "f" [] ∷ []) 0
+unfolding ran
+exported_rest_of_a_left_side = refl

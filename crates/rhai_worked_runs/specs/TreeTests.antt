@@ -1,5 +1,5 @@
 -- Tests of trees and queries, row by row.
-use Rattle.std.specs.Prelude.{◌≡◌, ℕ, Bool, true, false, List, [], ◌∷◌, Option, Some, None, pos, negsuc, codes, refl, option_map}
+use Rattle.std.specs.Prelude.{◌≡◌, ℕ, Bool, true, false, List, [], ◌∷◌, Option, Some, None, pos, negsuc, codes, refl, map, option_map}
 use Prim.Native.String.{String}
 use Rattle.rhai_values.specs.Value.{Value, UnitV, IntV, TextV, ArrayV, MapV, PointerV, RangeV, RangeInclusiveV, no_values, values, field, no_fields}
 use Rattle.rhai_base.specs.Operators.{Plus, UpTo, Through, binary}
@@ -9,7 +9,7 @@ use Rattle.rhai_meaning.specs.Control.{texts_joined}
 use Rattle.rhai_meaning.specs.Faults.{number_of, script_fault}
 use Rattle.rhai_meaning.specs.Plain.{is_plain}
 use Rattle.rhai_meaning.specs.Queries.{is_pure_expr, is_pure, is_internally_pure, is_block_dependent, returns_value, is_self_terminated, is_control_flow_break, is_noop, is_unit, is_valid_postfix}
-use Rattle.rhai_meaning.specs.Tree.{OfOperator, OfOther, Expr, DynamicConstant, BoolConstant, IntegerConstant, CharConstant, StringConstant, UnitConstant, InterpolatedString, MapOf, Variable, ThisPtr, MethodCall, BlockExpr, FnCall, Dot, Index, And, Or, Coalesce, Function, Stmt, Noop, If, Switch, While, Do, For, Var, Assignment, FnCallStmt, Block, TryCatch, ExprStmt, BreakLoop, Return, Import, Export, Share, no_expr, arms, pairs, no_stmts, no_exprs, exprs, stmts}
+use Rattle.rhai_meaning.specs.Tree.{OfOperator, OfOther, ChainFlags, Expr, DynamicConstant, BoolConstant, IntegerConstant, CharConstant, StringConstant, UnitConstant, InterpolatedString, MapOf, Variable, ThisPtr, MethodCall, BlockExpr, FnCall, Dot, Index, And, Or, Coalesce, Function, Stmt, Noop, If, Switch, While, Do, For, Var, Assignment, FnCallStmt, Block, TryCatch, ExprStmt, BreakLoop, Return, Import, Export, Share, no_expr, arms, pairs, no_stmts, no_exprs, exprs, stmts}
 use Rattle.rhai_worked_runs.specs.Terms.{int, var, op, callee, fn, let', const', array, at, dot, prop, meth, map_one}
 
 -- the number of the first fault, zero where there is none
@@ -127,6 +127,22 @@ plain_calls = refl
 plain_statements : plain (Import (StringConstant (codes "m")) (codes "a") ∷ []) ∷ plain (Export (codes "x") [] ∷ []) ∷ plain (Share (codes "x" ∷ []) ∷ []) ∷ plain (Var false true (codes "x") (int 1) ∷ []) ∷ plain (const' "x" (int 1) ∷ []) ∷ []
     ≡ false ∷ false ∷ false ∷ false ∷ true ∷ []
 plain_statements = refl
+
+-- do {} while true, break, return, a.b and a[0], without EXPORTED and with it
+abbrev chain_flags : (breaks exported : Bool) → ChainFlags
+chain_flags b o = record { negated = false; breaks = b; exported = o }
+
+plain_flags : map (λ o. plain (Do false o (BoolConstant true) no_stmts ∷ []) ∷ plain (BreakLoop true o no_expr ∷ []) ∷ plain (Return false o no_expr ∷ []) ∷ plain (ExprStmt (Dot (chain_flags false o) (var "a") (prop "b")) ∷ []) ∷ plain (ExprStmt (Index (chain_flags true o) (var "a") (int 0)) ∷ []) ∷ []) (false ∷ true ∷ [])
+    ≡ (true ∷ true ∷ true ∷ true ∷ true ∷ []) ∷ (false ∷ false ∷ false ∷ false ∷ false ∷ []) ∷ []
+plain_flags = refl
+
+-- a.b.c and a.b[0], whose second node has it
+plain_rest_of_a_chain : plain (ExprStmt (dot (var "a") (Dot (chain_flags false true) (prop "b") (prop "c"))) ∷ []) ∷ plain (ExprStmt (dot (var "a") (Index (chain_flags true true) (prop "b") (int 0))) ∷ []) ∷ [] ≡ false ∷ false ∷ []
+plain_rest_of_a_chain = refl
+
+-- it is no fault
+exported_is_no_fault : fault (Do false true (BoolConstant true) (stmts (BreakLoop true true no_expr ∷ [])) ∷ Return false true no_expr ∷ ExprStmt (Dot (chain_flags false true) (var "a") (prop "b")) ∷ ExprStmt (Index (chain_flags true true) (var "a") (int 0)) ∷ []) ≡ 0
+exported_is_no_fault = refl
 
 -- ---- constants and literals
 

@@ -1,7 +1,7 @@
 -- Worked runs of calls: the language's own functions, function pointers and script functions.
 use Rattle.std.specs.Prelude.{◌≡◌, Bool, true, false, List, [], ◌∷◌, Some, None, codes, refl}
 use Prim.Native.String.{String}
-use Rattle.rhai_values.specs.Value.{Text, Value, UnitV, BoolV, TextV, PointerV, values}
+use Rattle.rhai_values.specs.Value.{Text, Value, UnitV, TextV, PointerV, values}
 use Rattle.rhai_base.specs.Operators.{Plus, computed}
 use Rattle.rhai_meaning.specs.Act.{ScopeEntry, Unbound, WrongKind, Key, Gives, Ended, At, ScriptCall, run_all, IsStuck, OutOfTurns, Halted, World, Invoke}
 use Rattle.rhai_meaning.specs.Calls.{key, call_named, call_pointer}
@@ -43,11 +43,6 @@ type_mapped = refl
 type_of_another : ran (mapped "bool" "first" "last") joining (does (call "type_of" (int 1 ∷ []))) ≡ ends (WithValue (TextV (codes "i64"))) []
 unfolding ran
 type_of_another = refl
-
--- is_shared(1)
-never_shared : ran nothing_set joining (does (call "is_shared" (int 1 ∷ []))) ≡ ends (WithValue (BoolV false)) []
-unfolding ran
-never_shared = refl
 
 -- type_of(1, 2): with another count of arguments it is a function of the host
 type_of_two : ran nothing_set joining (does (call "type_of" (int 1 ∷ int 2 ∷ []))) ≡ ends (WithValue (TextV (codes "12"))) (asked "type_of" (i 1 ∷ i 2 ∷ []) ∷ [])

@@ -2,6 +2,10 @@
 #![tactic(auto)]
 
 #[cfg(test)]
+mod blocks;
+#[cfg(test)]
+mod checks;
+#[cfg(test)]
 mod flags;
 #[cfg(test)]
 mod guide;
@@ -12,13 +16,17 @@ mod literals;
 #[cfg(test)]
 mod names;
 #[cfg(test)]
+mod node_positions;
+#[cfg(test)]
+mod nodes;
+#[cfg(test)]
 mod op_assignments;
 #[cfg(test)]
 mod operators;
 #[cfg(test)]
-mod plans;
-#[cfg(test)]
 mod positions;
+#[cfg(test)]
+mod queries;
 #[cfg(test)]
 mod ranges;
 #[cfg(test)]
@@ -43,7 +51,5 @@ mod switches;
 mod texts;
 #[cfg(test)]
 mod tokens;
-#[cfg(test)]
-mod trees;
 #[cfg(test)]
 mod values;

@@ -19,6 +19,7 @@ const OF_F_G: [Question; 2] = [Question("f", 1), Question("g", 0)];
 const OF_H_F: [Question; 2] = [Question("h", 0), Question("f", 1)];
 
 /// The questions that are still to come, if all before came as they should.
+#[derive(Drop)]
 struct Asked {
     wanted: &'static [Question],
     next: Cell<usize>,

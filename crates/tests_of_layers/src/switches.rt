@@ -1,7 +1,7 @@
 //! Tables of `switch`.
 
 use indexmap::IndexMap;
-use rhai_ast::{BinaryExpr, CaseBlocksList, Cases, Expr, SwitchCasesCollection};
+use rhai_ast::{BinaryExpr, CaseBlocksList, Cases, Expr, SwitchCases, SwitchCasesCollection};
 use rhai_base::{
     AstError, Dynamic, FnPtr, INT, ImmutableString, OutOfMemory, Position, RangeCase, Seq,
 };

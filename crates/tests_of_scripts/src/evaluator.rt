@@ -6,7 +6,9 @@ ghost use Rattle.rhai_values.specs.Value.{BoolV, IntV};
 ghost use Rattle.rhai_meaning.specs.Act.{Answers, AnswersThrow};
 
 use rhai_ast::{Expr, FnCallExpr, Stmt};
-use rhai_base::{Boxed, Dynamic, ImmutableString, OutOfMemory, Position, Scope, Seq, Token};
+use rhai_base::{
+    Boxed, Dynamic, ImmutableString, Namespace, OutOfMemory, Position, Scope, Seq, Token,
+};
 use rhai_run::{
     EngineInfo, Host, HostAnswer, HostCall, RunEnd, RunReport, Stuck, Variable, plain_run,
 };
@@ -79,6 +81,7 @@ impl Host for First {
 /// `-1`, which the host is asked for.
 fn negation(alloc: Global) -> Result<Stmt, OutOfMemory> {
     let call = FnCallExpr {
+        namespace: Namespace::none(alloc),
         name: ImmutableString::new(alloc, "-")?,
         args: Seq::from_vec(vec![in alloc; Expr::IntegerConstant(1, Position::NONE)]?),
         capture_parent_scope: false,

@@ -2,8 +2,8 @@
 //! of its calls below the entry.
 
 use crate::trees::{NONE, block, call, choice, flow, integer, list, name, statement};
-use rhai_ast::{Expr, FnAccess, ScriptFuncDef, Stmt};
-use rhai_base::{Boxed, Dynamic, INT, OutOfMemory, Position, Scope, Seq, Span, Token};
+use rhai_ast::{Expr, FnAccess, ScriptFuncDef, Stmt, StmtBlock};
+use rhai_base::{Boxed, Dynamic, INT, OutOfMemory, Position, Scope, Seq, Token};
 use rhai_folding::{constant_bool, folded};
 use rhai_optimizer::{OptimizationLevel, OptimizerState, optimize_into_ast, optimize_top_level};
 use rhai_rules::{reduce_expr, reduce_stmt};
@@ -177,8 +177,7 @@ fn a_long_script_is_optimised_soon(rt: HostRuntime) -> Result<(), Fail> {
 /// An empty block at the end becomes nothing, where it began.
 fn is_end_kept(alloc: Global) -> Result<bool, OutOfMemory> {
     let end = Position::new(1, 5);
-    let mut empty = list(Vec::new(alloc));
-    empty.span = Span::new(end, end);
+    let empty = StmtBlock::empty(alloc, end);
     let statements = vec![in alloc;
         statement(alloc, integer(42))?,
         Stmt::Block(Boxed::new(alloc, empty)?),

@@ -3,7 +3,7 @@
 ghost use Rattle.std.specs.Prelude.{◌<◌, IfOk};
 
 use crate::trees;
-use rhai_ast::{Expr, FnCallExpr, Stmt};
+use rhai_ast::{Expr, FnCallExpr, Literals, Stmt};
 use rhai_base::{Boxed, Dynamic, INT, OutOfMemory, Seq, Token};
 use std::alloc::{AllocError, Global};
 use std::str;

@@ -1,7 +1,9 @@
 //! The example of the README, line by line.
 
 use rhai_ast::{Expr, FnCallExpr, Stmt};
-use rhai_base::{Boxed, Dynamic, ImmutableString, OutOfMemory, Position, Scope, Seq, Token};
+use rhai_base::{
+    Boxed, Dynamic, ImmutableString, Namespace, OutOfMemory, Position, Scope, Seq, Token,
+};
 use rhai_notation::push_script;
 use rhai_optimizer::{OptimizationLevel, optimize_into_ast};
 use rhai_program::ProgramHost;
@@ -15,6 +17,7 @@ fn sum(alloc: Global) -> Result<Stmt, OutOfMemory> {
     operands.push(Expr::IntegerConstant(40, Position::NONE))?;
     operands.push(Expr::IntegerConstant(2, Position::NONE))?;
     let call = FnCallExpr {
+        namespace: Namespace::none(alloc),
         name: ImmutableString::new(alloc, "+")?,
         args: operands,
         capture_parent_scope: false,

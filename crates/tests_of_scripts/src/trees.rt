@@ -1,7 +1,9 @@
 //! Trees by hand, without positions.
 
 use rhai_ast::{Expr, FlowControl, FnCallExpr, Stmt, StmtBlock};
-use rhai_base::{Boxed, Dynamic, INT, ImmutableString, OutOfMemory, Position, Seq, Span, Token};
+use rhai_base::{
+    Boxed, Dynamic, INT, ImmutableString, Namespace, OutOfMemory, Position, Seq, Span, Token,
+};
 use std::alloc::Global;
 
 pub const NONE: Position = Position::NONE;
@@ -31,6 +33,7 @@ pub fn call(
     args: Vec<Expr>,
 ) -> Result<Boxed<FnCallExpr>, OutOfMemory> {
     let call = FnCallExpr {
+        namespace: Namespace::none(alloc),
         name: name(alloc, text)?,
         args: Seq::from_vec(args),
         capture_parent_scope: false,
@@ -46,6 +49,7 @@ pub fn capturing(
     args: Vec<Expr>,
 ) -> Result<Boxed<FnCallExpr>, OutOfMemory> {
     let call = FnCallExpr {
+        namespace: Namespace::none(alloc),
         name: name(alloc, text)?,
         args: Seq::from_vec(args),
         capture_parent_scope: true,
@@ -70,10 +74,7 @@ pub fn statement(alloc: Global, expr: Expr) -> Result<Stmt, OutOfMemory> {
 }
 
 pub fn list(statements: Vec<Stmt>) -> StmtBlock {
-    StmtBlock {
-        block: Seq::from_vec(statements),
-        span: Span::NONE,
-    }
+    StmtBlock::new_with_span(statements, Span::NONE)
 }
 
 pub fn block(alloc: Global, statements: Vec<Stmt>) -> Result<Stmt, OutOfMemory> {

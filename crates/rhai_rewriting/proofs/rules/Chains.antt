@@ -1,42 +1,30 @@
 -- The rules of chains over constants and literals: a lemma each, of the rule's name.
-use Rattle.std.proofs.Common.{◌≡◌, ℕ, ◌≤◌, ◌+◌, zero, suc, Bool, true, false, cond, List, [], ◌∷◌, length, Option, Some, None, refl, sym, ap, ◌∙◌, subst, arith}
+use Rattle.std.proofs.Common.{◌≡◌, ℕ, Bool, true, false, cond, List, [], Some, None, refl, sym, ◌∙◌, subst, arith}
 use Rattle.std.specs.Prelude.{ℤ, codes, ◌&&◌}
-use Rattle.rhai_values.specs.Value.{Text, Value, Fields, UnitV, BoolV, IntV, TextV, ArrayV, MapV, same_text, values}
-use Rattle.rhai_meaning.specs.Act.{Act, Fail, WrongKind}
+use Rattle.rhai_values.specs.Value.{Text, Value, Fields, UnitV, BoolV, IntV, TextV, ArrayV, MapV, values}
+use Rattle.rhai_meaning.specs.Act.{Act, WrongKind}
 use Rattle.rhai_meaning.specs.ActForms.{give, unit, choose, ◌>>=◌}
 use Rattle.rhai_meaning.specs.Chains.{OfIndex, OfMethod, applied}
 use Rattle.rhai_meaning.specs.Constants.{constant_value}
 use Rattle.rhai_meaning.specs.Core as core
-use Rattle.rhai_meaning.specs.Desugar.{root_of, based, core_expr, core_exprs, core_pairs, member_of, steps_of}
-use Rattle.rhai_meaning.specs.Elements.{value_at, index_in, entry, fields_of}
-use Rattle.rhai_meaning.specs.Engine.{or_else, mapped_type_name}
-use Rattle.rhai_meaning.specs.Meaning.{act, with_args, with_pairs, steps}
+use Rattle.rhai_meaning.specs.Desugar.{root_of, based, core_expr, member_of, steps_of}
+use Rattle.rhai_meaning.specs.Elements.{index_in, entry}
+use Rattle.rhai_meaning.specs.Engine.{mapped_type_name}
+use Rattle.rhai_meaning.specs.Meaning.{act, steps}
 use Rattle.rhai_meaning.specs.Places.{without_place}
-use Rattle.rhai_meaning.specs.Queries.{is_pure_expr, are_pure_exprs, are_pure_pairs}
-use Rattle.rhai_meaning.specs.Shape.{is_unit, is_map, is_chain, is_callable}
-use Rattle.rhai_meaning.specs.Tree.{ChainFlags, PropertyNames, Expr, BoolConstant, StringConstant, UnitConstant, ArrayOf, MapOf, Variable, ThisPtr, Property, MethodCall, Dot, Index, Exprs, no_exprs, expr, count_exprs, Pairs, no_pairs, pair}
-use Rattle.rhai_meaning.specs.Walk.{Node, Around, whole, throughout, over_expr, over_exprs, over_pairs}
-use Rattle.rhai_meaning.specs.Walk as walk
-use Rattle.rhai_meaning.specs.Weight.{own_weight, expr_weight, exprs_weight}
-use Rattle.rhai_meaning.proofs.PureActs.{Pure}
-use Rattle.rhai_meaning.proofs.PureTrees.{split, pure_expr}
+use Rattle.rhai_meaning.specs.Queries.{are_pure_exprs, are_pure_pairs}
+use Rattle.rhai_meaning.specs.Shape.{is_unit, is_chain, is_callable}
+use Rattle.rhai_meaning.specs.Tree.{ChainFlags, PropertyNames, Expr, BoolConstant, StringConstant, UnitConstant, ArrayOf, MapOf, Variable, ThisPtr, Property, MethodCall, Dot, Index, Exprs, no_exprs, count_exprs, Pairs}
 use Rattle.rhai_rewriting.specs.Context.{Context}
 use Rattle.rhai_rewriting.specs.Indexing.{indexed, expr_at, pair_for, or_unit}
 use Rattle.rhai_rewriting.specs.Parts.{constant_of, named}
-use Rattle.rhai_rewriting.proofs.simulation.Laws.{simulates_assoc, simulates_alone, simulates_stuck, pure_goes}
+use Rattle.rhai_rewriting.proofs.simulation.Laws.{simulates_alone, simulates_stuck}
 use Rattle.rhai_rewriting.proofs.simulation.Setting.{Setting, world}
-use Rattle.rhai_rewriting.proofs.simulation.Simulation.{Simulates, simulates_trans, simulates_refl, simulates_equal}
-use Rattle.rhai_rewriting.proofs.simulation.Forms.{simulates_bind}
+use Rattle.rhai_rewriting.proofs.simulation.Simulation.{Simulates, simulates_trans, simulates_refl}
 use Rattle.rhai_rewriting.proofs.rules.Given.{constant_then, expr_meant, constant_of_means, constant_of_light, constant_of_keeps, heavy}
-use Rattle.rhai_rewriting.proofs.rules.Entries.{index_known, value_or, entry_for, element_is}
-use Rattle.rhai_rewriting.proofs.rules.Lasting.{Lasting}
+use Rattle.rhai_rewriting.proofs.rules.Entries.{index_known}
+use Rattle.rhai_rewriting.proofs.rules.Literals.{element_picked, entry_picked, element_light, entry_light, element_keeps, entry_keeps}
 use Rattle.rhai_rewriting.proofs.rules.Obligation.{ExprObligation}
-
-some_is : (d e : Expr) → Some d ≡ Some e → d ≡ e
-some_is d e h = ap (or_unit_of d) h where
-  or_unit_of : Expr → Option Expr → Expr
-  or_unit_of x None = x
-  or_unit_of x (Some y) = y
 
 -- ---- chains as core
 
@@ -82,6 +70,10 @@ module _ {k : Context} (c : Setting k) where
   unit_stops (core.last false p) h = absurd (let z : false ≡ true = h in cc)
   unit_stops (core.more false p sts) h = absurd (let z : false ≡ true = h in cc)
 
+  -- an expression, and then its value
+  as_value : (a : Act) (e : Expr) → Simulates c a (act (world c) (here_of e) >>= give) → Simulates c a (act (world c) (here_of e))
+  as_value a e h = simulates_trans h (simulates_alone (act (world c) (here_of e)) give (λ v. simulates_refl))
+
   -- as the constant that is left
   pub to_constant : (a : Act) (v : Value) → Simulates c a (give v) → Simulates c a (act (world c) (here_of (constant_of v)))
   to_constant a v h = subst (λ x. Simulates c a (act (world c) x)) (sym (constant_of_means c.in_loop v)) h
@@ -106,102 +98,6 @@ module _ {k : Context} (c : Setting k) where
       not_unit (o && is_unit v) _ _ _ (no_unit o (is_unit v) (indexed_is v j u q))
       (simulates_trans (constant_then c i j (λ z. applied (world c) (OfIndex z) (without_place v) (λ x. give x.value)) h)
       (subst (λ a. Simulates c a (give u)) (sym (index_known v j u q (λ x. give x.value))) simulates_refl))
-
-  -- ---- a part of a literal: the others are pure and go
-
-  args_then : (es : core.Exprs) (f : List Value → Act) (g : Value → Act) → Simulates c (with_args (world c) es f >>= g) (with_args (world c) es (λ vs. f vs >>= g))
-  args_then core.no_exprs f g = simulates_refl
-  args_then (core.expr e es) f g = simulates_trans (simulates_assoc (act (world c) e) (λ v. with_args (world c) es (λ vs. f (v ∷ vs))) g) (simulates_bind simulates_refl (λ v. args_then es (λ vs. f (v ∷ vs)) g))
-
-  pairs_then : (ps : core.Pairs) (f : List (Text × Value) → Act) (g : Value → Act) → Simulates c (with_pairs (world c) ps f >>= g) (with_pairs (world c) ps (λ vs. f vs >>= g))
-  pairs_then core.no_pairs f g = simulates_refl
-  pairs_then (core.pair x e ps) f g = simulates_trans (simulates_assoc (act (world c) e) (λ v. with_pairs (world c) ps (λ vs. f ((x, v) ∷ vs))) g) (simulates_bind simulates_refl (λ v. pairs_then ps (λ vs. f ((x, v) ∷ vs)) g))
-
-  pairs_alike : (ps : core.Pairs) (f g : List (Text × Value) → Act) → ((vs : List (Text × Value)) → Simulates c (f vs) (g vs)) → Simulates c (with_pairs (world c) ps f) (with_pairs (world c) ps g)
-  pairs_alike core.no_pairs f g h = h []
-  pairs_alike (core.pair x e ps) f g h = simulates_bind simulates_refl (λ v. pairs_alike ps _ _ (λ vs. h ((x, v) ∷ vs)))
-
-  args_go : (es : Exprs) → are_pure_exprs es ≡ true → (f : List Value → Act) (b : Act) → ((vs : List Value) → length vs ≡ count_exprs es → Simulates c (f vs) b) → Simulates c (with_args (world c) (core_exprs c.in_loop es) f) b
-  args_go no_exprs h f b j = j [] refl
-  args_go (expr e es) h f b j =
-      let z = split (is_pure_expr e) (are_pure_exprs es) h in
-      pure_goes _ _ b (pure_expr (world c) c.in_loop e z.0) (λ v. args_go es z.1 _ b (λ vs n. j (v ∷ vs) (ap suc n)))
-
-  abbrev or_this : Expr → Option Expr → Expr
-  or_this e None = e
-  or_this e (Some x) = x
-
-  args_pick : (es : Exprs) → are_pure_exprs es ≡ true → (i : ℕ) (e : Expr) → expr_at es i ≡ Some e → (f : List Value → Act) → ((vs : List Value) (u : Value) → length vs ≡ count_exprs es → value_at (values vs) i ≡ Some u → Simulates c (f vs) (give u)) → Simulates c (with_args (world c) (core_exprs c.in_loop es) f) (act (world c) (here_of e))
-  args_pick no_exprs h i e q f j = absurd (let z : None ≡ Some e = q in cc)
-  args_pick (expr e1 es) h zero e q f j =
-      let z = split (is_pure_expr e1) (are_pure_exprs es) h in
-      subst (λ o. Simulates c (with_args (world c) (core_exprs c.in_loop (expr e1 es)) f) (act (world c) (here_of (or_this e1 o)))) q
-      (simulates_alone (act (world c) (here_of e1)) _ (λ v. args_go es z.1 _ (give v) (λ vs n. j (v ∷ vs) v (ap suc n) refl)))
-  args_pick (expr e1 es) h (suc i) e q f j =
-      let z = split (is_pure_expr e1) (are_pure_exprs es) h in
-      pure_goes _ _ _ (pure_expr (world c) c.in_loop e1 z.0) (λ v. args_pick es z.1 i e q _ (λ vs u n p. j (v ∷ vs) u (ap suc n) p))
-
-  -- the last of a key, or what stood before
-  abbrev act_or : Value → Option Expr → Act
-  act_or u None = give u
-  act_or u (Some e) = act (world c) (here_of e)
-
-  abbrev rest_of : Pairs → Text → Value → Act
-  rest_of ps x u = with_pairs (world c) (core_pairs c.in_loop ps) (λ vs. give (value_or u vs x))
-
-  pick_by : (e : Expr) (ps : Pairs) (x : Text) (u : Value) (o : Option Expr) (b : Bool) → Pure (world c) (act (world c) (here_of e)) → ((v : Value) → Simulates c (rest_of ps x (cond b v u)) (act_or (cond b v u) o)) → Simulates c (act (world c) (here_of e) >>= λ v. rest_of ps x (cond b v u)) (act_or u (or_else o (cond b (Some e) None)))
-  pick_by e ps x u (Some y) b p ih = pure_goes _ _ _ p ih
-  pick_by e ps x u None true p ih = simulates_alone (act (world c) (here_of e)) _ ih
-  pick_by e ps x u None false p ih = pure_goes _ _ _ p ih
-
-  pairs_pick : (ps : Pairs) → are_pure_pairs ps ≡ true → (u : Value) (x : Text) → Simulates c (rest_of ps x u) (act_or u (pair_for ps x))
-  pairs_pick no_pairs h u x = simulates_refl
-  pairs_pick (pair m e ps) h u x =
-      let z = split (is_pure_expr e) (are_pure_pairs ps) h in
-      pick_by e ps x u (pair_for ps x) (same_text m x) (pure_expr (world c) c.in_loop e z.0) (λ v. pairs_pick ps z.1 (cond (same_text m x) v u) x)
-
-  or_unit_act : (o : Option Expr) → act_or UnitV o ≡ act (world c) (here_of (or_unit o))
-  or_unit_act None = refl
-  or_unit_act (Some e) = refl
-
-  -- an entry of a map literal, by what the step makes of the map
-  entry_picked : (ps : Pairs) (template : List Text) (x : Text) (sts : core.Steps) → are_pure_pairs ps ≡ true → ((fs : Fields) → Simulates c (steps (world c) sts (without_place (MapV fs))) (give (entry fs x))) → Simulates c (act (world c) (core.Chain (core.OnValue (here_of (MapOf ps template))) sts)) (act (world c) (here_of (or_unit (pair_for ps x))))
-  entry_picked ps template x sts h j = by (is_map template ps) where
-    by : (b : Bool) → Simulates c (act (world c) (core.Chain (core.OnValue (cond b (core.MapOf (core_pairs c.in_loop ps)) core.Ill)) sts)) (act (world c) (here_of (or_unit (pair_for ps x))))
-    by false = simulates_trans (simulates_equal {b = Fail WrongKind} (λ m. refl)) (simulates_stuck WrongKind (act (world c) (here_of (or_unit (pair_for ps x)))))
-    by true =
-        simulates_trans (pairs_then (core_pairs c.in_loop ps) (λ vs. give (MapV (fields_of vs))) (λ v. steps (world c) sts (without_place v)))
-        (simulates_trans (pairs_alike (core_pairs c.in_loop ps) _ (λ vs. give (value_or UnitV vs x)) (λ vs. simulates_trans (simulates_equal {b = steps (world c) sts (without_place (MapV (fields_of vs)))} (λ m. refl)) (subst (λ u. Simulates c (steps (world c) sts (without_place (MapV (fields_of vs)))) (give u)) (entry_for vs x) (j (fields_of vs)))))
-        (subst (λ a. Simulates c (rest_of ps x UnitV) a) (or_unit_act (pair_for ps x)) (pairs_pick ps h UnitV x)))
-
--- ---- what is left weighs less, and stood there
-
-element_light : (es : Exprs) (i : ℕ) (e : Expr) → expr_at es i ≡ Some e → expr_weight e ≤ exprs_weight es
-element_light no_exprs i e h = absurd (let z : None ≡ Some e = h in cc)
-element_light (expr d es) zero e h = subst (λ x. expr_weight x ≤ exprs_weight (expr d es)) (some_is d e h) (omega arith)
-element_light (expr d es) (suc i) e h = omega (arith, element_light es i e h)
-
-entry_light : (ps : Pairs) (x : Text) → expr_weight (or_unit (pair_for ps x)) ≤ 1 + over_pairs (walk.total own_weight) ps
-entry_light no_pairs x = omega arith
-entry_light (pair m e ps) x = by (pair_for ps x) (same_text m x) (entry_light ps x) where
-  by : (o : Option Expr) (b : Bool) → expr_weight (or_unit o) ≤ 1 + over_pairs (walk.total own_weight) ps → expr_weight (or_unit (or_else o (cond b (Some e) None))) ≤ 1 + over_pairs (walk.total own_weight) (pair m e ps)
-  by (Some y) b h = omega (arith, h)
-  by None true h = omega arith
-  by None false h = omega (arith, h)
-
-module _ (P : Around → Node → Type 0) (l : Bool) (lasts : Lasting P l) where
-  element_keeps : (es : Exprs) (i : ℕ) (e : Expr) → expr_at es i ≡ Some e → over_exprs (throughout P) es (whole l) → over_expr (throughout P) e (whole l)
-  element_keeps no_exprs i e h p = absurd (let z : None ≡ Some e = h in cc)
-  element_keeps (expr d es) zero e h p = subst (λ x. over_expr (throughout P) x (whole l)) (some_is d e h) p.0
-  element_keeps (expr d es) (suc i) e h p = element_keeps es i e h p.1
-
-  entry_keeps : (ps : Pairs) (x : Text) → over_pairs (throughout P) ps (whole l) → over_expr (throughout P) (or_unit (pair_for ps x)) (whole l)
-  entry_keeps no_pairs x p = (lasts.value UnitV, tt)
-  entry_keeps (pair m e ps) x p = by (pair_for ps x) (same_text m x) (entry_keeps ps x p.1) where
-    by : (o : Option Expr) (b : Bool) → over_expr (throughout P) (or_unit o) (whole l) → over_expr (throughout P) (or_unit (or_else o (cond b (Some e) None))) (whole l)
-    by (Some y) b h = h
-    by None true h = p.0
-    by None false h = h
 
 -- ---- the rules
 
@@ -240,15 +136,14 @@ element_of_array {f = f} {es = es} {i = i} {e = e} n j h q r x = record {
   keeps = λ P l lasts y. element_keeps P l lasts es j e x y.1.0.1;
   sound = λ c. expr_meant (is_chain false f i) (core.Chain (core.OnValue (core_expr c.in_loop (ArrayOf es))) (steps_of c.in_loop false f (core.Index (core_expr c.in_loop i)) i))
       (subst (λ z. Simulates c (act (world c) (core.Chain (core.OnValue (core_expr c.in_loop (ArrayOf es))) z)) (act (world c) (core_expr c.in_loop e))) (sym (index_last c.in_loop f (core.Index (core_expr c.in_loop i)) i (IntV n) q))
-      (simulates_trans (args_then c (core_exprs c.in_loop es) (λ vs. give (ArrayV (values vs))) (λ v. steps (world c) (core.last f.negated (core.Index (core_expr c.in_loop i))) (without_place v)))
-      (args_pick c es h j e x _ (λ vs u m p. simulates_trans (simulates_equal {b = steps (world c) (core.last f.negated (core.Index (core_expr c.in_loop i))) (without_place (ArrayV (values vs)))} (λ y. refl)) (index_step c f.negated i (ArrayV (values vs)) (IntV n) u q (element_is vs (count_exprs es) j n u m r p))))));
+      (as_value c _ e (element_picked c es n j e _ give h r x (λ vs u p. index_step c f.negated i (ArrayV (values vs)) (IntV n) u q p))));
 }
 
 pub property_of_map : {k : Context} {f : ChainFlags} {ps : Pairs} {template : List Text} {p : PropertyNames} → are_pure_pairs ps ≡ true → ExprObligation k (Dot f (MapOf ps template) (Property p)) (or_unit (pair_for ps p.name))
 property_of_map {f = f} {ps = ps} {template = template} {p = p} h = record {
   lighter = omega (arith, entry_light ps p.name);
   keeps = λ P l lasts y. entry_keeps P l lasts ps p.name y.1.0.1;
-  sound = λ c. expr_meant (is_chain true f (Property p)) (core.Chain (core.OnValue (core_expr c.in_loop (MapOf ps template))) (core.last f.negated (core.Property p))) (entry_picked c ps template p.name (core.last f.negated (core.Property p)) h (λ fs. property_step c f.negated p fs));
+  sound = λ c. expr_meant (is_chain true f (Property p)) (core.Chain (core.OnValue (core_expr c.in_loop (MapOf ps template))) (core.last f.negated (core.Property p))) (as_value c _ (or_unit (pair_for ps p.name)) (entry_picked c ps template p.name _ give h (λ fs. property_step c f.negated p fs)));
 }
 
 pub entry_of_map : {k : Context} {f : ChainFlags} {ps : Pairs} {template : List Text} {i : Expr} (x : Text) → are_pure_pairs ps ≡ true → constant_value i ≡ Some (TextV x) → ExprObligation k (Index f (MapOf ps template) i) (or_unit (pair_for ps x))
@@ -257,7 +152,7 @@ entry_of_map {f = f} {ps = ps} {template = template} {i = i} x h q = record {
   keeps = λ P l lasts y. entry_keeps P l lasts ps x y.1.0.1;
   sound = λ c. expr_meant (is_chain false f i) (core.Chain (core.OnValue (core_expr c.in_loop (MapOf ps template))) (steps_of c.in_loop false f (core.Index (core_expr c.in_loop i)) i))
       (subst (λ z. Simulates c (act (world c) (core.Chain (core.OnValue (core_expr c.in_loop (MapOf ps template))) z)) (act (world c) (core_expr c.in_loop (or_unit (pair_for ps x))))) (sym (index_last c.in_loop f (core.Index (core_expr c.in_loop i)) i (TextV x) q))
-      (entry_picked c ps template x (core.last f.negated (core.Index (core_expr c.in_loop i))) h (λ fs. index_step c f.negated i (MapV fs) (TextV x) (entry fs x) q refl)));
+      (as_value c _ (or_unit (pair_for ps x)) (entry_picked c ps template x _ give h (λ fs. index_step c f.negated i (MapV fs) (TextV x) (entry fs x) q refl))));
 }
 
 -- a method of a constant, whose answer is a

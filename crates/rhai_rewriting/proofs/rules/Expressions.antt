@@ -43,7 +43,7 @@ array_of_constants {k = k} {es = es} {vs = vs} h = record {
 pub braces_empty : {k : Context} → ExprObligation k (BlockExpr no_stmts) UnitConstant
 braces_empty = record {
   lighter = omega arith;
-  keeps = λ P l lasts h. (lasts.constant UnitV refl, tt);
+  keeps = λ P l lasts h. (lasts.value UnitV, tt);
   sound = λ c. simulates_equal (λ m. leave_same m.store (Gives UnitV) m.turns);
 }
 
@@ -118,3 +118,6 @@ expr_rule (rule.property_of_constant_first dot m p r fs q h) = onward.property_o
 expr_rule (rule.index_of_constant_first dot m i r v j u b h q n) = onward.index_of_constant_first dot m i r v j u b h q n
 expr_rule (rule.type_of_method_first dot f m r v q h n) = onward.type_of_method_first dot f m r v q h n
 expr_rule (rule.is_shared_method_first dot f m r v q h n) = onward.is_shared_method_first dot f m r v q h n
+expr_rule (rule.element_of_array_first dot m i r n j b h q x y) = onward.element_of_array_first dot m i r n j b h q x y
+expr_rule (rule.property_of_map_first dot m p r b h) = onward.property_of_map_first dot m p r b h
+expr_rule (rule.entry_of_map_first dot m i r x b h q) = onward.entry_of_map_first dot m i r x b h q

@@ -19,6 +19,7 @@ use Rattle.rhai_rewriting.proofs.simulation.Simulation.{Simulates, simulates_tra
 use Rattle.rhai_rewriting.proofs.simulation.Forms.{simulates_bind, stmt_of_deed}
 use Rattle.rhai_rewriting.proofs.rules.Arms.{AllArms, all_split, all_left, all_of, ArmHolds, all_hold}
 use Rattle.rhai_rewriting.proofs.rules.Equality.{same_is}
+use Rattle.rhai_rewriting.proofs.rules.Fitting.{fits_still}
 use Rattle.rhai_rewriting.proofs.rules.Given.{constant_alike}
 use Rattle.rhai_rewriting.proofs.rules.Lasting.{same_switch}
 use Rattle.rhai_rewriting.proofs.rules.Obligation.{StmtObligation}
@@ -115,11 +116,11 @@ held_again P l as' (i ∷ is) h = (h.0, held_again P l as' is h.1)
 
 -- ---- the rules
 
-pub switch_shrinks : {k : Context} {w : Bool} {e : Expr} {as' : Arms} {t : SwitchTable} {cs : List SwitchCase} {qs : List SwitchRange} → CasesTo as' qs t.cases cs → RangesTo as' t.ranges qs → (is_table as' t ≡ true → is_table as' (record { cases = cs; ranges = qs; default = t.default }) ≡ true) → table_weight (record { cases = cs; ranges = qs; default = t.default }) < table_weight t → StmtObligation k w (Switch e as' t) (Switch e as' (record { cases = cs; ranges = qs; default = t.default }))
-switch_shrinks {e = e} {as' = as'} {t = t} {cs = cs} {qs = qs} p q x y = record {
+pub switch_shrinks : {k : Context} {w : Bool} {e : Expr} {as' : Arms} {t : SwitchTable} {cs : List SwitchCase} {qs : List SwitchRange} → CasesTo as' qs t.cases cs → RangesTo as' t.ranges qs → table_weight (record { cases = cs; ranges = qs; default = t.default }) < table_weight t → StmtObligation k w (Switch e as' t) (Switch e as' (record { cases = cs; ranges = qs; default = t.default }))
+switch_shrinks {e = e} {as' = as'} {t = t} {cs = cs} {qs = qs} p q y = record {
   lighter = omega (arith, y);
-  keeps = λ P l lasts h. (lasts.again (same_switch x) h.0, (h.1.0, held_again P l as' (listed (record { cases = cs; ranges = qs; default = t.default })) (table_holds (ArmHolds P l as') as' t p q (all_hold P l as' (listed t) h.1.1))));
-  sound = λ c. stmt_of_deed (meant_again c (is_table as' t) (is_table as' (record { cases = cs; ranges = qs; default = t.default })) (core.Switch (core_expr c.in_loop e) (core_arms c.in_loop as') t) (core.Switch (core_expr c.in_loop e) (core_arms c.in_loop as') (record { cases = cs; ranges = qs; default = t.default })) x
+  keeps = λ P l lasts h. (lasts.again (same_switch (fits_still as' t cs qs p q)) h.0, (h.1.0, held_again P l as' (listed (record { cases = cs; ranges = qs; default = t.default })) (table_holds (ArmHolds P l as') as' t p q (all_hold P l as' (listed t) h.1.1))));
+  sound = λ c. stmt_of_deed (meant_again c (is_table as' t) (is_table as' (record { cases = cs; ranges = qs; default = t.default })) (core.Switch (core_expr c.in_loop e) (core_arms c.in_loop as') t) (core.Switch (core_expr c.in_loop e) (core_arms c.in_loop as') (record { cases = cs; ranges = qs; default = t.default })) (fits_still as' t cs qs p q)
       (simulates_bind simulates_refl (λ v. table_tried c as' t p q v (default_of (acts_of c as') t.default))));
 }
 

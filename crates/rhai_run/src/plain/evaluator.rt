@@ -1,16 +1,16 @@
 //! The recursion over a tree.
 
-#![tactic(auto, using(rhai_reading::specs::Reading::shapes, rhai_values::specs::Reading::kinds))]
+#![tactic(auto, using(rhai_reading::specs::Reading::shapes, rhai_values::specs::Reading::kinds, crate::proofs::Outside::outside))]
 
 ghost use Rattle.std.specs.Prelude.{◌≡◌, Some, map};
 ghost use Rattle.rhai_values.specs.Reading.{value_of};
 ghost use Rattle.rhai_base.specs.Builtin.{operator_of};
 ghost use Rattle.rhai_meaning.specs.Core.{If};
 ghost use Rattle.rhai_reading.specs.Reading.{callee_of, expr_of, exprs_of, stmt_of, stmts_of};
-ghost use Rattle.rhai_meaning.specs.ActForms.{ask_host};
+ghost use Rattle.rhai_meaning.specs.ActForms.{ask_host, truth as truth_of};
 ghost use Rattle.rhai_meaning.specs.Calls.{operate};
 ghost use Rattle.rhai_meaning.specs.Small.{small_expr_of, small_stmts_of};
-ghost use Rattle.rhai_run.specs.Evaluating.{setting, IsConstant, Runs, RunsDeed, RunsExpr, RunsCall, RunsExprs, RunsStmt, RunsStmts, RunsBlock};
+ghost use Rattle.rhai_run.specs.Evaluating.{setting, or_stuck, IsConstant, Runs, RunsBoth, RunsDeed, RunsExpr, RunsCall, RunsExprs, RunsStmt, RunsStmts, RunsBlock};
 
 use crate::plain::operators::{builtin, fault_text, operator_called};
 use crate::plain::state::{Interrupt, State};
@@ -48,7 +48,32 @@ impl<'a, H: Host> Evaluator<'a, H> {
             Expr::Array(items, _) => Ok(Dynamic::Array(self.exprs(state, items.as_slice())?)),
             Expr::Stmt(block) => self.block(state, block.get()),
             Expr::FnCall(call, _) => self.call(state, call.get()),
+            Expr::And(operands, _) => self.both(state, operands.get().as_slice()),
+            Expr::InterpolatedString(_, _)
+            | Expr::Map(_, _)
+            | Expr::Variable(_, _, _)
+            | Expr::ThisPtr(_)
+            | Expr::Property(_, _)
+            | Expr::MethodCall(_, _)
+            | Expr::Dot(_, _, _)
+            | Expr::Index(_, _, _)
+            | Expr::Or(_, _)
+            | Expr::Coalesce(_, _) => Err(Interrupt::Stuck(Stuck::WrongKind)),
         }
+    }
+
+    /// `&&`: the operands up to the first that is false.
+    #[cycle(evaluate)]
+    fn both(&self, state: &mut State, operands: &[Expr]) -> Result<Dynamic, Interrupt>
+        ensures { RunsBoth (setting H.answers H.modules self.now) (exprs_of operands.now) state.old result state.new }
+    {
+        for operand in operands {
+            let value = self.expr(state, operand)?;
+            if !truth(&value)? {
+                return Ok(Dynamic::Bool(false));
+            }
+        }
+        Ok(Dynamic::Bool(true))
     }
 
     /// The values of expressions, from the first to the last.
@@ -86,6 +111,18 @@ impl<'a, H: Host> Evaluator<'a, H> {
             Stmt::Block(block) => self.block(state, block.get()),
             Stmt::Expr(expr) => self.expr(state, expr.get()),
             Stmt::FnCall(call, _) => self.call(state, call.get()),
+            Stmt::Switch(_, _)
+            | Stmt::While(_, _)
+            | Stmt::Do(_, _, _)
+            | Stmt::For(_, _)
+            | Stmt::Var(_, _, _)
+            | Stmt::Assignment(_)
+            | Stmt::TryCatch(_, _)
+            | Stmt::BreakLoop(_, _, _)
+            | Stmt::Return(_, _, _)
+            | Stmt::Import(_, _)
+            | Stmt::Export(_, _)
+            | Stmt::Share(_) => Err(Interrupt::Stuck(Stuck::WrongKind)),
         }
     }
 
@@ -93,10 +130,8 @@ impl<'a, H: Host> Evaluator<'a, H> {
     fn choice(&self, state: &mut State, flow: &FlowControl) -> Result<Dynamic, Interrupt>
         ensures { RunsDeed (setting H.answers H.modules self.now) (If (small_expr_of (expr_of flow.now.expr)) (small_stmts_of (stmts_of flow.now.body.block)) (small_stmts_of (stmts_of flow.now.branch.block))) state.old result state.new }
     {
-        let Dynamic::Bool(holds) = self.expr(state, &flow.expr)? else {
-            return Err(Interrupt::Stuck(Stuck::WrongKind));
-        };
-        if holds {
+        let value = self.expr(state, &flow.expr)?;
+        if truth(&value)? {
             self.block(state, &flow.body)
         } else {
             self.block(state, &flow.branch)
@@ -109,7 +144,7 @@ impl<'a, H: Host> Evaluator<'a, H> {
         ensures { RunsBlock (setting H.answers H.modules self.now) (stmts_of block.now.block) state.old result state.new }
     {
         let names = state.scope.len();
-        let ended = self.statements(state, block.block.as_slice());
+        let ended = self.statements(state, block.statements());
         state.scope.truncate(names);
         ended
     }
@@ -165,6 +200,16 @@ impl<'a, H: Host> Evaluator<'a, H> {
             HostAnswer::Value { value, receiver: _ } => Ok(value),
             HostAnswer::Throw(value) => Err(Interrupt::Throw(value)),
         }
+    }
+}
+
+/// Whether a condition holds; a value that is no bool is stuck.
+fn truth(value: &Dynamic) -> Result<bool, Interrupt>
+    ensures { result ≡ or_stuck (truth_of (value_of value.now)) }
+{
+    match value {
+        Dynamic::Bool(holds) => Ok(*holds),
+        _ => Err(Interrupt::Stuck(Stuck::WrongKind)),
     }
 }
 

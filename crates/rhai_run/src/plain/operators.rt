@@ -12,7 +12,7 @@ ghost use Rattle.rhai_engine.specs.EngineInfo.{built_in_at, engine_of};
 ghost use Rattle.rhai_run.specs.Operators as spec;
 
 use crate::EngineInfo;
-use rhai_ast::FnCallExpr;
+use rhai_ast::{FnCallExpr, is_unqualified};
 use rhai_base::{Dynamic, Fault, ImmutableString, OutOfMemory, Token};
 use std::alloc::{AllocError, Global};
 
@@ -27,7 +27,8 @@ pub fn operator_called(call: &FnCallExpr) -> Option<Token>
 fn is_call_of(call: &FnCallExpr, op: Token) -> bool
     ensures { result ≡ has_token (callee_of call.now) (length call.now.args) (mark_of (Some op)) }
 {
-    call.name.as_str() == op.literal_syntax()
+    is_unqualified(&call.namespace)
+        && call.name.as_str() == op.literal_syntax()
         && operands(op) == Some(call.args.len())
         && !call.capture_parent_scope
 }

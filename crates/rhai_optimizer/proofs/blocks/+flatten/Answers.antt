@@ -13,7 +13,7 @@ block_gives_way-returns t c =
     on_ok_weaker _ (λ p. flattens_block c.set_dirty.ensures c.requires (λ e w. elim c.else-is_wanted.branch [
       | block_gives_way-else-is_wanted-via-then-is_wanted+else-is_empty v ↦ differ (v.if-is_empty.ensures.1 (empty-stmts_of _ e))
       | block_gives_way-else-is_wanted-via-else-is_wanted v ↦ differ (sym (w ∙ v.if-is_wanted.false))
-    ]) p) c.flatten_statements.ensures
+    ]) p) (rw c.into_statements.ensures at c.flatten_statements.ensures)
 
 pub flatten_statement-returns-then-not-gives_way : goal.flatten_statement-returns-then-not-gives_way
 flatten_statement-returns-then-not-gives_way t c = flattens_push _ _ _ (sym c.if-not-gives_way.ensures) c.in_ok-push.ensures.ok

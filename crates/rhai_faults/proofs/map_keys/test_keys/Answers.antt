@@ -1,0 +1,21 @@
+use Rattle.std.proofs.Common.{◌≡◌, None, Some, sym, ap, ◌∙◌}
+use Rattle.rhai_meaning.specs.Faults as faults
+use Rattle.rhai_meaning.specs.Faults.{◌then◌}
+use Rattle.rhai_reading.specs.Reading.{keys_of}
+use Rattle.rhai_faults.specs.MapKeys.{names_of, texts_of}
+use Rattle.rhai_faults.proofs.KeyLists.{are_same, are_same-permutation}
+use Rattle.rhai_faults.proofs.map_keys.test_keys.Goals as goal
+
+pub returns-then-are_keys : goal.returns-then-are_keys
+returns-then-are_keys c =
+    let names = names_of c.args.members.now in
+    let template = keys_of c.args.template.now in
+    ap (λ o. o then faults.unless (are_same names template) faults.MapTemplate) c.in_ok-names.ensures.finds
+    ∙ ap (λ b. faults.unless b faults.MapTemplate) (sym (are_same-permutation names (texts_of c.in_ok-names.names) template c.in_ok-names.ensures.names) ∙ sym c.are_keys.ensures ∙ c.if-are_keys.true)
+
+pub returns : goal.returns
+returns c =
+    let names = names_of c.args.members.now in
+    let template = keys_of c.args.template.now in
+    ap (λ o. o then faults.unless (are_same names template) faults.MapTemplate) c.in_ok-names.ensures.finds
+    ∙ ap (λ b. faults.unless b faults.MapTemplate) (sym (are_same-permutation names (texts_of c.in_ok-names.names) template c.in_ok-names.ensures.names) ∙ sym c.are_keys.ensures ∙ c.if-are_keys.false)

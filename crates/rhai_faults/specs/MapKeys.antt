@@ -1,0 +1,15 @@
+-- The names of a map literal's members, and a set of texts.
+use Rattle.std.specs.Prelude.{List, map}
+use Rattle.std.specs.Borrow.{Bor}
+use Rattle.std.specs.HashSet.{HashSet}
+use Rattle.rhai_parts.specs.declared.ident.Ident.{Ident}
+use Rattle.rhai_tree.specs.declared.expr.Expr.{Expr}
+use Rattle.rhai_meaning.specs.Shape.{keys}
+use Rattle.rhai_reading.specs.Reading.{pairs_of}
+use Rattle.rhai_values.specs.Value.{Text}
+
+abbrev pub names_of : List (Ident × Expr) → List Text
+names_of members = keys (pairs_of members)
+
+abbrev pub texts_of : {S : Type 0} → HashSet (Bor Text) S → List Text
+texts_of s = map (λ k. k.now) s.keys

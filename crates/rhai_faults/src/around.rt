@@ -1,0 +1,119 @@
+//! What stands around a node.
+
+#![tactic(auto, using(rhai_reading::specs::Reading::shapes))]
+
+ghost use Rattle.std.specs.Prelude.{◌≡◌, if◌then◌else◌};
+ghost use Rattle.rhai_faults.specs.Places.{around_of, role_of};
+ghost use Rattle.rhai_meaning.specs.Faults as faults;
+ghost use Rattle.rhai_meaning.specs.Walk as walk;
+ghost use Rattle.rhai_reading.specs.Reading.{chain_flags, expr_of};
+
+use bitflags::Flags;
+use rhai_base::ASTFlags;
+use rhai_tree::Expr;
+
+/// As what an expression stands where it does.
+#[derive(Clone, Copy)]
+pub(crate) enum Role {
+    /// As a whole expression.
+    Whole,
+    /// As the property or the method of a `.`.
+    Member,
+    /// As the rest of a chain; whether the step before it is a `.`.
+    Rest(bool),
+}
+
+/// What stands around a node.
+#[derive(Clone, Copy)]
+pub(crate) struct Around {
+    /// Whether the body of a loop does, in the same function.
+    pub in_loop: bool,
+    /// As what the node stands there.
+    pub role: Role,
+}
+
+impl Around {
+    /// Around a whole expression.
+    pub(crate) fn whole(in_loop: bool) -> Around
+        ensures { around_of result ≡ walk.whole in_loop }
+    {
+        Around {
+            in_loop,
+            role: Role::Whole,
+        }
+    }
+
+    /// Around the left side of a `.` or an index.
+    pub(crate) fn left(self) -> Around
+        ensures { around_of result ≡ walk.around_spot walk.LeftSide (around_of self) }
+    {
+        let role = match self.role {
+            Role::Rest(true) => Role::Member,
+            Role::Rest(false) | Role::Whole | Role::Member => Role::Whole,
+        };
+        Around {
+            in_loop: self.in_loop,
+            role,
+        }
+    }
+
+    /// Around the right side of a `.` or an index.
+    pub(crate) fn right(self, is_dot: bool, options: ASTFlags, rhs: &Expr) -> Around
+        ensures { around_of result ≡ walk.around_spot (walk.RightSide is_dot (chain_flags options) (expr_of rhs.now)) (around_of self) }
+    {
+        Around {
+            in_loop: self.in_loop,
+            role: right_role(is_dot, options.contains(ASTFlags::BREAK), rhs),
+        }
+    }
+
+    /// Whether a `.` has it as its property or method.
+    pub(crate) fn is_member(self) -> bool
+        ensures { result ≡ faults.is_member_role (role_of self.role) }
+    {
+        matches!(self.role, Role::Member)
+    }
+
+    /// Whether its chain began before it.
+    pub(crate) fn is_rest(self) -> bool
+        ensures { result ≡ faults.is_inside_chain (role_of self.role) }
+    {
+        matches!(self.role, Role::Rest(_))
+    }
+}
+
+fn right_role(is_dot: bool, is_last: bool, rhs: &Expr) -> Role
+    ensures { role_of result ≡ walk.right_role is_dot is_last (expr_of rhs.now) }
+{
+    if is_last {
+        return last_role(is_dot);
+    }
+    match rhs {
+        Expr::Dot(_, _, _) | Expr::Index(_, _, _) => Role::Rest(is_dot),
+        Expr::DynamicConstant(_, _)
+        | Expr::BoolConstant(_, _)
+        | Expr::IntegerConstant(_, _)
+        | Expr::CharConstant(_, _)
+        | Expr::StringConstant(_, _)
+        | Expr::InterpolatedString(_, _)
+        | Expr::Array(_, _)
+        | Expr::Map(_, _)
+        | Expr::Unit(_)
+        | Expr::Variable(_, _, _)
+        | Expr::ThisPtr(_)
+        | Expr::Property(_, _)
+        | Expr::MethodCall(_, _)
+        | Expr::Stmt(_)
+        | Expr::FnCall(_, _)
+        | Expr::And(_, _)
+        | Expr::Or(_, _)
+        | Expr::Coalesce(_, _) => last_role(is_dot),
+    }
+}
+
+/// The role of what no chain goes on from.
+fn last_role(is_dot: bool) -> Role
+    ensures { role_of result ≡ (if is_dot then walk.Member else walk.Whole) }
+{
+    if is_dot { Role::Member } else { Role::Whole }
+}

@@ -1,0 +1,20 @@
+-- A statement that is no block, and something, makes a block of itself.
+use Rattle.std.proofs.Common.{◌≡◌, refl, sym, ◌∙◌}
+use Rattle.rhai_tokens.specs.declared.position.Position.{Position}
+use Rattle.rhai_tree.specs.declared.block.StmtBlock.{StmtBlock}
+use Rattle.rhai_tree.specs.declared.expr.Expr.TheOpen as open_one
+use Rattle.rhai_tree.specs.declared.expr.Expr.TheViews as views
+use Rattle.rhai_tree.specs.declared.stmt.Stmt.{Stmt}
+use Rattle.rhai_tree.specs.declared.stmt.Stmt.TheVariants as stmt_kind
+use Rattle.rhai_reading.specs.Positions.{StmtLayer}
+use Rattle.rhai_nodes.specs.Blocks.{block_in, block_made_of, block_of_one}
+
+other_in : (s : Stmt) (x : StmtLayer) → ((p : Position) → views.roll-Stmt x ≡ stmt_kind.Noop p → ⊥) → ((b : StmtBlock) → views.roll-Stmt x ≡ stmt_kind.Block b → ⊥)
+    → block_of_one s ≡ block_in s x
+other_in s (open_one.Noop p) nothing block = absurd (nothing p (stmt_kind.rolls-Noop p))
+other_in s (open_one.Block b) nothing block = absurd (block b (stmt_kind.rolls-Block b))
+other_in s _ nothing block = refl
+
+pub block_of_other : (s : Stmt) → ((p : Position) → s ≡ stmt_kind.Noop p → ⊥) → ((b : StmtBlock) → s ≡ stmt_kind.Block b → ⊥) → block_of_one s ≡ block_made_of s
+unfolding block_made_of
+block_of_other s nothing block = other_in s (views.out-Stmt s) (λ p e. nothing p (sym (views.roll-out-Stmt s) ∙ e)) (λ b e. block b (sym (views.roll-out-Stmt s) ∙ e))

@@ -1,0 +1,40 @@
+//! Blocks made of statements.
+
+#![tactic(auto, using(crate::specs::Blocks::blocks))]
+
+ghost use Rattle.std.specs.Prelude.{◌≡◌, IfOk};
+ghost use Rattle.rhai_nodes.specs.Blocks.{block_made_of, block_of_one};
+
+use rhai_base::{OutOfMemory, Position, Seq, Span};
+use rhai_queries::StmtQueries;
+use rhai_tree::{Stmt, StmtBlock};
+use std::alloc::Global;
+
+/// Blocks made of statements.
+pub trait FromStmt: Sized {
+    /// A block's own block; for nothing an empty one where it stands; else one of the statement alone, from
+    /// where it stands on, which takes memory once.
+    ///
+    /// In rhai it is a `From`, which cannot be refused.
+    fn from_stmt(alloc: Global, stmt: Stmt) -> Result<Self, OutOfMemory>;
+}
+
+impl FromStmt for StmtBlock {
+    fn from_stmt(alloc: Global, stmt: Stmt) -> Result<StmtBlock, OutOfMemory>
+        ensures { IfOk result (λ b. b ≡ block_made_of stmt) }
+    {
+        match stmt {
+            Stmt::Block(block) => Ok(block.into_inner()),
+            Stmt::Noop(pos) => Ok(StmtBlock::empty(alloc, pos)),
+            other => block_around(alloc, other),
+        }
+    }
+}
+
+fn block_around(alloc: Global, stmt: Stmt) -> Result<StmtBlock, OutOfMemory>
+    ensures { IfOk result (λ b. b ≡ block_of_one stmt) }
+{
+    let span = Span::new(stmt.position(), Position::NONE);
+    let statements = Seq::from_array(alloc, [stmt])?;
+    Ok(StmtBlock::new_with_span(statements.into_vec(), span))
+}

@@ -1,0 +1,64 @@
+//! Constants in the notation.
+#![tactic(auto, unfolding(rhai_values::specs::Value::inner))]
+
+ghost use Rattle.std.specs.Prelude.{◌≡◌, ◌++◌, OnOk, codes, string_bytes};
+ghost use Rattle.rhai_values.specs.Value.{BoolV, CharV, IntV, TextV, UnitV, inner};
+ghost use Rattle.rhai_values.specs.Reading.{value_of};
+
+use rhai_base::{Dynamic, INT, OutOfMemory};
+
+/// Appends a value that no other constant stands for.
+#[tactic(auto)]
+pub(crate) fn push_value(value: &Dynamic, text: &mut String) -> Result<(), OutOfMemory>
+    ensures { OnOk result (string_bytes text.new ≡ string_bytes text.old ++ (codes "<" ++ inner (value_of value.now) ++ codes ">")) }
+{
+    text.push_str("<")?;
+    value.push_inner(text)?;
+    text.push_str(">")?;
+    Ok(())
+}
+
+pub(crate) fn push_bool(value: bool, text: &mut String) -> Result<(), OutOfMemory>
+    ensures { OnOk result (string_bytes text.new ≡ string_bytes text.old ++ inner (BoolV value)) }
+{
+    if value {
+        text.push_str("true")?;
+    } else {
+        text.push_str("false")?;
+    }
+    Ok(())
+}
+
+pub(crate) fn push_integer(value: INT, text: &mut String) -> Result<(), OutOfMemory>
+    ensures { OnOk result (string_bytes text.new ≡ string_bytes text.old ++ inner (IntV value)) }
+{
+    write!(text, "{value}")?;
+    Ok(())
+}
+
+pub(crate) fn push_unit(text: &mut String) -> Result<(), OutOfMemory>
+    ensures { OnOk result (string_bytes text.new ≡ string_bytes text.old ++ inner UnitV) }
+{
+    text.push_str("()")?;
+    Ok(())
+}
+
+/// Appends a character in quotes.
+pub(crate) fn push_char(value: char, text: &mut String) -> Result<(), OutOfMemory>
+    ensures { OnOk result (string_bytes text.new ≡ string_bytes text.old ++ inner (CharV value)) }
+{
+    text.push_str("'")?;
+    text.push(value)?;
+    text.push_str("'")?;
+    Ok(())
+}
+
+/// Appends a text in quotes.
+pub(crate) fn push_quoted(value: &str, text: &mut String) -> Result<(), OutOfMemory>
+    ensures { OnOk result (string_bytes text.new ≡ string_bytes text.old ++ inner (TextV value.now)) }
+{
+    text.push_str("\"")?;
+    text.push_str(value)?;
+    text.push_str("\"")?;
+    Ok(())
+}

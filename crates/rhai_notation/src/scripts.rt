@@ -1,0 +1,52 @@
+//! Scripts in the notation.
+#![tactic(auto, using(rhai_reading::specs::Reading::shapes, rhai_reading::proofs::ItemLists::steps))]
+
+ghost use Rattle.std.specs.Prelude.{◌≡◌, ◌++◌, OnOk, string_bytes};
+ghost use Rattle.rhai_reading.specs.Reading.{function_of, stmts_of};
+ghost use Rattle.rhai_notation.specs.Notation.{function_text, lines_text, script_text};
+ghost use Rattle.rhai_script.specs.Script.{script_of};
+
+use crate::names::push_names;
+use crate::nodes::{push_block, push_stmt};
+use rhai_ast::{ScriptFuncDef, Stmt};
+use rhai_base::OutOfMemory;
+use rhai_script::AST;
+
+/// Appends statements, each on a line.
+pub fn push_lines(statements: &[Stmt], text: &mut String) -> Result<(), OutOfMemory>
+    ensures { OnOk result (string_bytes text.new ≡ string_bytes text.old ++ lines_text (stmts_of statements.now)) }
+{
+    for line in statements {
+        push_stmt(line, text)?;
+        text.push_str("\n")?;
+    }
+    Ok(())
+}
+
+/// Appends a function with its body.
+fn push_function(function: &ScriptFuncDef, text: &mut String) -> Result<(), OutOfMemory>
+    ensures { OnOk result (string_bytes text.new ≡ string_bytes text.old ++ function_text (function_of function.now)) }
+{
+    text.push_str("fn ")?;
+    if let Some(receiver) = &function.this_type {
+        text.push_str(receiver.as_str())?;
+        text.push_str(".")?;
+    }
+    text.push_str(function.name.as_str())?;
+    text.push_str("(")?;
+    push_names(function.params.as_slice(), text)?;
+    text.push_str(") ")?;
+    push_block(&function.body, text)
+}
+
+/// Appends a script: each statement on a line, then each function on a line.
+pub fn push_script(script: &AST, text: &mut String) -> Result<(), OutOfMemory>
+    ensures { OnOk result (string_bytes text.new ≡ string_bytes text.old ++ script_text (script_of script.now)) }
+{
+    push_lines(script.statements(), text)?;
+    for function in script.shared_lib().iter() {
+        push_function(function, text)?;
+        text.push_str("\n")?;
+    }
+    Ok(())
+}

@@ -1,0 +1,14 @@
+//! Reads trees and values for tests, as the notation prints them. Each node stands where its text does, in columns from 1.
+#![tactic(auto)]
+
+mod joined;
+mod letters;
+mod names;
+mod nodes;
+mod tables;
+mod tree;
+mod values;
+
+pub use letters::Unread;
+pub use tree::{read_expr, read_lines, read_link, read_stmt};
+pub use values::read_value;
