@@ -1,3 +1,4 @@
 pub mod Flattening
+pub mod Nodes
 pub mod Parts
 pub mod UpTo

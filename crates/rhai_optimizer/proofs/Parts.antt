@@ -1,21 +1,28 @@
 -- A tree's parts, then its node; and the passes over a list.
-use Rattle.std.proofs.Common.{◌≡◌, ◌<◌, Bool, true, false, List, refl, sym, subst, arith}
+use Rattle.std.proofs.Common.{◌≡◌, ◌<◌, Bool, true, false, List, Option, refl, sym, subst, arith}
+use Rattle.std.specs.declared.num.NonZeroUsize.{NonZeroUsize}
+use Rattle.rhai_tokens.specs.declared.op_assignment.OpAssignment.{OpAssignment}
 use Rattle.rhai_tokens.specs.declared.position.Position.{Position}
+use Rattle.rhai_parts.specs.declared.flags.ASTFlags.{ASTFlags}
+use Rattle.rhai_parts.specs.declared.ident.Ident.{Ident}
+use Rattle.rhai_values.specs.declared.dynamic.Dynamic.{Dynamic}
+use Rattle.rhai_values.specs.Value.{Text}
 use Rattle.rhai_tree.specs.declared.expr.Expr as declared_expr
 use Rattle.rhai_tree.specs.declared.expr.Expr.TheVariants as expr_kind
+use Rattle.rhai_tree.specs.declared.expr.BinaryExpr.{BinaryExpr}
 use Rattle.rhai_tree.specs.declared.expr.FnCallExpr.{FnCallExpr}
 use Rattle.rhai_tree.specs.declared.block.StmtBlock.{StmtBlock}
 use Rattle.rhai_tree.specs.declared.stmt.FlowControl.{FlowControl}
 use Rattle.rhai_tree.specs.declared.stmt.Stmt as declared_stmt
 use Rattle.rhai_tree.specs.declared.stmt.Stmt.TheVariants as stmt_kind
 use Rattle.rhai_reading.specs.Reading.{expr_of, stmt_of}
-use Rattle.rhai_reading.proofs.Cases.{ExprCase, array_case, braces_case, call_case, expr_cases, StmtCase, if_case, block_case, expression_case, call_statement_case, stmt_cases}
+use Rattle.rhai_reading.proofs.Cases.{ExprCase, interpolated_string_case, array_case, map_case, braces_case, call_case, and_case, or_case, coalesce_case, expr_cases, StmtCase, if_case, do_case, for_case, var_case, assignment_case, call_statement_case, block_case, try_catch_case, expression_case, break_loop_case, return_case, import_case, stmt_cases}
 use Rattle.rhai_meaning.specs.Engine.{Engine}
-use Rattle.rhai_meaning.specs.Tree.{Callee, Expr, ArrayOf, BlockExpr, FnCall, Exprs, Stmt, If, FnCallStmt, Block, ExprStmt, Stmts}
-use Rattle.rhai_rewriting.specs.Context.{Context, knowing, ListKind, Inside}
+use Rattle.rhai_meaning.specs.Tree.{Expr, Stmt, Stmts}
+use Rattle.rhai_rewriting.specs.Context.{Context, knowing, ListKind}
 use Rattle.rhai_rewriting.specs.Known.{Known}
-use Rattle.rhai_rewriting.specs.Rewriting.{ExprTo, same_expr, then_expr, in_array, in_braces, in_call, StmtTo, same_stmt, then_stmt, in_if, in_block, in_expression, in_call_statement, StmtsTo, flag_forgotten}
-use Rattle.rhai_rewriting.specs.Steps.{ExprRun, ExprsRun, ExprStep, StmtRun, StmtStep, EachRun, StmtsRun}
+use Rattle.rhai_rewriting.specs.Rewriting.{same_expr, then_expr, same_stmt, then_stmt, StmtsTo, flag_forgotten}
+use Rattle.rhai_rewriting.specs.Steps.{ExprRun, ExprStep, StmtRun, StmtStep, EachRun, StmtsRun}
 use Rattle.rhai_rewriting.specs.Residue.{ExprParts, StmtParts}
 use Rattle.rhai_optimizer.specs.Parts.{ExprPartsRun, StmtPartsRun}
 use Rattle.rhai_meaning.specs.Weight.{weight}
@@ -37,58 +44,63 @@ expr_as {r = r} {d = d} {d' = d'} {e1 = e1} {e' = e'} i j p known = subst (λ a.
 pub stmt_as : {r : Engine} {w d d' : Bool} {s s1 s' s1' : Stmt} → s ≡ s1 → s' ≡ s1' → ((known : List Known) → StmtPartsRun (knowing r known) w d d' s1 s1') → (known : List Known) → StmtPartsRun (knowing r known) w d d' s s'
 stmt_as {r = r} {w = w} {d = d} {d' = d'} {s1 = s1} {s' = s'} i j p known = subst (λ a. StmtPartsRun (knowing r known) w d d' a s') (sym i) (subst (λ b. StmtPartsRun (knowing r known) w d d' s1 b) (sym j) (p known))
 
--- ---- the parts of each node
-
-pub array_run : {r : Engine} {d d' : Bool} {es es' : Exprs} → ((known : List Known) → ExprsRun (knowing r known) d d' es es') → (known : List Known) → ExprPartsRun (knowing r known) d d' (ArrayOf es) (ArrayOf es')
-array_run p known = record { to = in_array (p known).to; parts = (p known).reduced }
-
-pub braces_run : {r : Engine} {d d' : Bool} {ss ss' : Stmts} → ((known : List Known) → StmtsRun (knowing r known) (Inside true) d d' ss ss') → (known : List Known) → ExprPartsRun (knowing r known) d d' (BlockExpr ss) (BlockExpr ss')
-braces_run p known = record { to = in_braces (p known).to; parts = λ h. (p known).reduced }
-
--- a call keeps its callee
-pub call_run : {r : Engine} {d d' : Bool} {c c' : Callee} {es es' : Exprs} → (c' ≡ c) × ((known : List Known) → ExprsRun (knowing r known) d d' es es') → (known : List Known) → ExprPartsRun (knowing r known) d d' (FnCall c es) (FnCall c' es')
-call_run {r = r} {d = d} {d' = d'} {c' = c'} {es = es} {es' = es'} p known =
-    let q = p.1 known in
-    record { to = subst (λ x. ExprTo (knowing r known) d d' (FnCall x es) (FnCall c' es')) p.0 (in_call q.to); parts = q.reduced }
-
-pub call_statement_run : {r : Engine} {w d d' : Bool} {c c' : Callee} {es es' : Exprs} → (c' ≡ c) × ((known : List Known) → ExprsRun (knowing r known) d d' es es') → (known : List Known) → StmtPartsRun (knowing r known) w d d' (FnCallStmt c es) (FnCallStmt c' es')
-call_statement_run {r = r} {w = w} {d = d} {d' = d'} {c' = c'} {es = es} {es' = es'} p known =
-    let q = p.1 known in
-    record { to = subst (λ x. StmtTo (knowing r known) w d d' (FnCallStmt x es) (FnCallStmt c' es')) p.0 (in_call_statement q.to); parts = q.reduced }
-
-pub if_run : {r : Engine} {w d d1 d2 d3 : Bool} {e e' : Expr} {a a' b b' : Stmts} → ((known : List Known) → ExprRun (knowing r known) d d1 e e') → ((known : List Known) → StmtsRun (knowing r known) (Inside w) d1 d2 a a') → ((known : List Known) → StmtsRun (knowing r known) (Inside w) d2 d3 b b') → (known : List Known) → StmtPartsRun (knowing r known) w d d3 (If e a b) (If e' a' b')
-if_run f g h known =
-    let p = f known in
-    let q = g known in
-    let s = h known in
-    record { to = in_if p.to q.to s.to; parts = λ z. let i = (stmts_kept s.to z).0 in let j = (stmts_kept q.to i).0 in (p.reduced j, (q.reduced, s.reduced)) }
-
-pub block_run : {r : Engine} {w d d' : Bool} {ss ss' : Stmts} → ((known : List Known) → StmtsRun (knowing r known) (Inside w) d d' ss ss') → (known : List Known) → StmtPartsRun (knowing r known) w d d' (Block ss) (Block ss')
-block_run p known = record { to = in_block (p known).to; parts = λ h. (p known).reduced }
-
-pub expression_run : {r : Engine} {w d d' : Bool} {e e' : Expr} → ((known : List Known) → ExprRun (knowing r known) d d' e e') → (known : List Known) → StmtPartsRun (knowing r known) w d d' (ExprStmt e) (ExprStmt e')
-expression_run p known = record { to = in_expression (p known).to; parts = (p known).reduced }
-
 -- ---- a node that is not opened is kept as it is
 
-expr_not_opened : (r : Engine) {x : declared_expr.Expr} {e : Expr} → ExprCase x e → ((xs : List declared_expr.Expr) (p : Position) → x ≡ expr_kind.Array xs p → ⊥) → ((b : StmtBlock) → x ≡ expr_kind.Stmt b → ⊥) → ((c : FnCallExpr) (p : Position) → x ≡ expr_kind.FnCall c p → ⊥) → ExprParts r e
-expr_not_opened r (array_case xs p) a s c = absurd (a xs p refl)
-expr_not_opened r (braces_case b) a s c = absurd (s b refl)
-expr_not_opened r (call_case f p) a s c = absurd (c f p refl)
-expr_not_opened r _ a s c = tt
+pub record KeptExpr (x : declared_expr.Expr) : Type 0 where
+  pub no_text : (xs : List declared_expr.Expr) (p : Position) → x ≡ expr_kind.InterpolatedString xs p → ⊥
+  pub no_array : (xs : List declared_expr.Expr) (p : Position) → x ≡ expr_kind.Array xs p → ⊥
+  pub no_map : (m : List (Ident × declared_expr.Expr) × List (Text × Dynamic)) (p : Position) → x ≡ expr_kind.Map m p → ⊥
+  pub no_braces : (b : StmtBlock) → x ≡ expr_kind.Stmt b → ⊥
+  pub no_call : (f : FnCallExpr) (p : Position) → x ≡ expr_kind.FnCall f p → ⊥
+  pub no_and : (xs : List declared_expr.Expr) (p : Position) → x ≡ expr_kind.And xs p → ⊥
+  pub no_or : (xs : List declared_expr.Expr) (p : Position) → x ≡ expr_kind.Or xs p → ⊥
+  pub no_coalesce : (xs : List declared_expr.Expr) (p : Position) → x ≡ expr_kind.Coalesce xs p → ⊥
 
-pub expr_stays : {k : Context} {d : Bool} {x : declared_expr.Expr} → ((xs : List declared_expr.Expr) (p : Position) → x ≡ expr_kind.Array xs p → ⊥) → ((b : StmtBlock) → x ≡ expr_kind.Stmt b → ⊥) → ((c : FnCallExpr) (p : Position) → x ≡ expr_kind.FnCall c p → ⊥) → ExprPartsRun k d d (expr_of x) (expr_of x)
-expr_stays {k = k} {x = x} a s c = record { to = same_expr; parts = λ h. expr_not_opened k.engine (expr_cases x) a s c }
+expr_not_opened : (r : Engine) {x : declared_expr.Expr} {e : Expr} → ExprCase x e → KeptExpr x → ExprParts r e
+expr_not_opened r (interpolated_string_case xs p) k = absurd (k.no_text xs p refl)
+expr_not_opened r (array_case xs p) k = absurd (k.no_array xs p refl)
+expr_not_opened r (map_case m p) k = absurd (k.no_map m p refl)
+expr_not_opened r (braces_case b) k = absurd (k.no_braces b refl)
+expr_not_opened r (call_case f p) k = absurd (k.no_call f p refl)
+expr_not_opened r (and_case xs p) k = absurd (k.no_and xs p refl)
+expr_not_opened r (or_case xs p) k = absurd (k.no_or xs p refl)
+expr_not_opened r (coalesce_case xs p) k = absurd (k.no_coalesce xs p refl)
+expr_not_opened r _ k = tt
 
-stmt_not_opened : (r : Engine) {x : declared_stmt.Stmt} {s : Stmt} → StmtCase x s → ((f : FlowControl) (p : Position) → x ≡ stmt_kind.If f p → ⊥) → ((b : StmtBlock) → x ≡ stmt_kind.Block b → ⊥) → ((e : declared_expr.Expr) → x ≡ stmt_kind.Expr e → ⊥) → ((c : FnCallExpr) (p : Position) → x ≡ stmt_kind.FnCall c p → ⊥) → StmtParts r s
-stmt_not_opened r (if_case f p) i b e c = absurd (i f p refl)
-stmt_not_opened r (block_case y) i b e c = absurd (b y refl)
-stmt_not_opened r (expression_case y) i b e c = absurd (e y refl)
-stmt_not_opened r (call_statement_case f p) i b e c = absurd (c f p refl)
-stmt_not_opened r _ i b e c = tt
+pub expr_stays : {k : Context} {d : Bool} {x : declared_expr.Expr} → KeptExpr x → ExprPartsRun k d d (expr_of x) (expr_of x)
+expr_stays {k = k} {x = x} h = record { to = same_expr; parts = λ z. expr_not_opened k.engine (expr_cases x) h }
 
-pub stmt_stays : {k : Context} {w d : Bool} {x : declared_stmt.Stmt} → ((f : FlowControl) (p : Position) → x ≡ stmt_kind.If f p → ⊥) → ((b : StmtBlock) → x ≡ stmt_kind.Block b → ⊥) → ((e : declared_expr.Expr) → x ≡ stmt_kind.Expr e → ⊥) → ((c : FnCallExpr) (p : Position) → x ≡ stmt_kind.FnCall c p → ⊥) → StmtPartsRun k w d d (stmt_of x) (stmt_of x)
-stmt_stays {k = k} {x = x} i b e c = record { to = same_stmt; parts = λ h. stmt_not_opened k.engine (stmt_cases x) i b e c }
+pub record KeptStmt (x : declared_stmt.Stmt) : Type 0 where
+  pub no_if : (f : FlowControl) (p : Position) → x ≡ stmt_kind.If f p → ⊥
+  pub no_do : (f : FlowControl) (k : ASTFlags) (p : Position) → x ≡ stmt_kind.Do f k p → ⊥
+  pub no_for : (y : Ident × Option Ident × FlowControl) (p : Position) → x ≡ stmt_kind.For y p → ⊥
+  pub no_var : (y : Ident × declared_expr.Expr × Option NonZeroUsize) (k : ASTFlags) (p : Position) → x ≡ stmt_kind.Var y k p → ⊥
+  pub no_assignment : (y : OpAssignment × BinaryExpr) → x ≡ stmt_kind.Assignment y → ⊥
+  pub no_call : (f : FnCallExpr) (p : Position) → x ≡ stmt_kind.FnCall f p → ⊥
+  pub no_block : (y : StmtBlock) → x ≡ stmt_kind.Block y → ⊥
+  pub no_try : (f : FlowControl) (p : Position) → x ≡ stmt_kind.TryCatch f p → ⊥
+  pub no_expression : (e : declared_expr.Expr) → x ≡ stmt_kind.Expr e → ⊥
+  pub no_break : (e : Option declared_expr.Expr) (k : ASTFlags) (p : Position) → x ≡ stmt_kind.BreakLoop e k p → ⊥
+  pub no_return : (e : Option declared_expr.Expr) (k : ASTFlags) (p : Position) → x ≡ stmt_kind.Return e k p → ⊥
+  pub no_import : (y : declared_expr.Expr × Ident) (p : Position) → x ≡ stmt_kind.Import y p → ⊥
+
+stmt_not_opened : (r : Engine) {x : declared_stmt.Stmt} {s : Stmt} → StmtCase x s → KeptStmt x → StmtParts r s
+stmt_not_opened r (if_case f p) k = absurd (k.no_if f p refl)
+stmt_not_opened r (do_case f g p) k = absurd (k.no_do f g p refl)
+stmt_not_opened r (for_case y p) k = absurd (k.no_for y p refl)
+stmt_not_opened r (var_case y g p) k = absurd (k.no_var y g p refl)
+stmt_not_opened r (assignment_case y) k = absurd (k.no_assignment y refl)
+stmt_not_opened r (call_statement_case f p) k = absurd (k.no_call f p refl)
+stmt_not_opened r (block_case y) k = absurd (k.no_block y refl)
+stmt_not_opened r (try_catch_case f p) k = absurd (k.no_try f p refl)
+stmt_not_opened r (expression_case e) k = absurd (k.no_expression e refl)
+stmt_not_opened r (break_loop_case e g p) k = absurd (k.no_break e g p refl)
+stmt_not_opened r (return_case e g p) k = absurd (k.no_return e g p refl)
+stmt_not_opened r (import_case y p) k = absurd (k.no_import y p refl)
+stmt_not_opened r _ k = tt
+
+pub stmt_stays : {k : Context} {w d : Bool} {x : declared_stmt.Stmt} → KeptStmt x → StmtPartsRun k w d d (stmt_of x) (stmt_of x)
+stmt_stays {k = k} {x = x} h = record { to = same_stmt; parts = λ z. stmt_not_opened k.engine (stmt_cases x) h }
 
 -- ---- passes
 

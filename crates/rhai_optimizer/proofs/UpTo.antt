@@ -1,18 +1,21 @@
 -- A list that is rewritten in its own memory, an item at a time: the first n are done, the others are to come.
 use Rattle.std.proofs.Common.{◌≡◌, ◌<◌, ◌≤◌, ℕ, ◌+◌, Bool, true, List, [], ◌∷◌, ◌++◌, length, get_or, set, take, drop, sym, ap, ◌∙◌, subst, arith, append_assoc, append-nil}
 use Rattle.std.proofs.lemmas.List.{drop_more, drop_all, take_all, take_more_set, drop-set-lt, length-set}
+use Rattle.rhai_parts.specs.declared.ident.Ident.{Ident}
+use Rattle.rhai_values.specs.Value.{Text}
 use Rattle.rhai_tree.specs.declared.expr.Expr as declared_expr
 use Rattle.rhai_tree.specs.declared.stmt.Stmt as declared_stmt
 use Rattle.rhai_meaning.specs.Engine.{Engine}
-use Rattle.rhai_meaning.specs.Tree.{Expr, Exprs, expr, Stmt, Stmts, stmt}
-use Rattle.rhai_reading.specs.Reading.{expr_of, exprs_of, stmt_of, stmts_of}
+use Rattle.rhai_meaning.specs.Tree.{Expr, Exprs, expr, Pairs, pair, Stmt, Stmts, stmt}
+use Rattle.rhai_reading.specs.Reading.{expr_of, exprs_of, pairs_of, stmt_of, stmts_of}
 use Rattle.rhai_rewriting.specs.Context.{Context, knowing, behind, known_behind, ListKind, wanted, wanted_before}
 use Rattle.rhai_rewriting.specs.Known.{Known}
-use Rattle.rhai_rewriting.specs.Rewriting.{exprs_none, exprs_more, same_stmts, then_stmts, in_head, in_tail}
-use Rattle.rhai_rewriting.specs.Steps.{ExprRun, ExprsRun, StmtRun, EachRun}
-use Rattle.rhai_meaning.specs.Weight.{expr_weight, exprs_weight, stmt_weight, weight}
+use Rattle.rhai_rewriting.specs.Rewriting.{exprs_none, exprs_more, PairsTo, pairs_none, pairs_more, same_stmts, then_stmts, in_head, in_tail}
+use Rattle.rhai_rewriting.specs.Steps.{ExprRun, ExprsRun, PairsRun, StmtRun, EachRun}
+use Rattle.rhai_meaning.specs.Walk.{over_pairs, total}
+use Rattle.rhai_meaning.specs.Weight.{own_weight, expr_weight, exprs_weight, stmt_weight, weight}
 use Rattle.rhai_rewriting.specs.SurelyUnit.{is_surely_unit}
-use Rattle.rhai_rewriting.proofs.Flags.{exprs_kept, stmts_kept}
+use Rattle.rhai_rewriting.proofs.Flags.{exprs_kept, pairs_kept, stmts_kept}
 
 -- ---- for any items
 
@@ -61,6 +64,13 @@ up_end {Items = Items} {d = d} {d1 = d1} {all = all} {here = here} {n = n} by s 
 exprs_run : {k : Context} {d d1 d2 : Bool} {e e' : Expr} {es es' : Exprs} → ExprRun k d d1 e e' → ExprsRun k d1 d2 es es' → ExprsRun k d d2 (expr e es) (expr e' es')
 exprs_run p q = record { to = exprs_more p.to q.to; reduced = λ h. (p.reduced (exprs_kept q.to h).0, q.reduced h) }
 
+-- a pair that keeps its name, then the others
+pairs_run : {k : Context} {d d1 d2 : Bool} {x x' : Text} {e e' : Expr} {ps ps' : Pairs} → x' ≡ x → ExprRun k d d1 e e' → PairsRun k d1 d2 ps ps' → PairsRun k d d2 (pair x e ps) (pair x' e' ps')
+pairs_run {k = k} {d = d} {d2 = d2} {x' = x'} {e = e} {e' = e'} {ps = ps} {ps' = ps'} i p q = record {
+  to = subst (λ y. PairsTo k d d2 (pair y e ps) (pair x' e' ps')) i (pairs_more p.to q.to);
+  reduced = λ h. (p.reduced (pairs_kept q.to h).0, q.reduced h);
+}
+
 -- a statement, then those that know what it declares
 each_run : {k : Context} {m : ListKind} {d d1 d2 : Bool} {s s' : Stmt} {ss ss' : Stmts} → StmtRun k (wanted_before (wanted m) ss) d d1 s s' → EachRun (behind s' k) m d1 d2 ss ss' → EachRun k m d d2 (stmt s ss) (stmt s' ss')
 each_run {s' = s'} p q = record { to = λ u. then_stmts (in_head p.to) (in_tail (q.to (is_surely_unit s'))); reduced = λ h. (p.reduced (stmts_kept (q.to true) h).0, q.reduced h) }
@@ -84,6 +94,29 @@ pub exprs_by : (r : Engine) → ByItems expr_weighs exprs_weigh (ExprItem r) (Ex
 exprs_by r = record {
   none = record { run = λ known. record { to = exprs_none; reduced = λ h. tt } };
   more = λ i is. record { run = λ known. exprs_run (i.run known) (is.run known) };
+  heavier = λ x rest. omega arith;
+}
+
+-- ---- the pairs of a map literal
+
+abbrev pub pair_weighs : Ident × declared_expr.Expr → ℕ
+pair_weighs p = expr_weight (expr_of p.1)
+
+abbrev pub pairs_weigh : List (Ident × declared_expr.Expr) → ℕ
+pairs_weigh ps = over_pairs (total own_weight) (pairs_of ps)
+
+-- a pair keeps its name
+pub record PairItem (r : Engine) (rest : List (Ident × declared_expr.Expr)) (d d' : Bool) (p p' : Ident × declared_expr.Expr) : Type 0 where
+  pub name : p'.0 ≡ p.0
+  pub run : (known : List Known) → ExprRun (knowing r known) d d' (expr_of p.1) (expr_of p'.1)
+
+pub record PairItems (r : Engine) (d d' : Bool) (ps ps' : List (Ident × declared_expr.Expr)) : Type 0 where
+  pub run : (known : List Known) → PairsRun (knowing r known) d d' (pairs_of ps) (pairs_of ps')
+
+pub pairs_by : (r : Engine) → ByItems pair_weighs pairs_weigh (PairItem r) (PairItems r)
+pairs_by r = record {
+  none = record { run = λ known. record { to = pairs_none; reduced = λ h. tt } };
+  more = λ i is. record { run = λ known. pairs_run (ap (λ (j : Ident). j.name) i.name) (i.run known) (is.run known) };
   heavier = λ x rest. omega arith;
 }
 

@@ -30,7 +30,7 @@ mutual
   exprs_kept exprs_none h = (h, refl)
   exprs_kept (exprs_more p q) h = let k = exprs_kept q h in let j = expr_kept p k.0 in (j.0, cc)
 
-  pairs_kept : {k : Context} {d d' : Bool} {e e' : Pairs} → PairsTo k d d' e e' → d' ≡ false → Kept d e e'
+  pub pairs_kept : {k : Context} {d d' : Bool} {e e' : Pairs} → PairsTo k d d' e e' → d' ≡ false → Kept d e e'
   pairs_kept pairs_none h = (h, refl)
   pairs_kept (pairs_more p q) h = let k = pairs_kept q h in let j = expr_kept p k.0 in (j.0, cc)
 
@@ -60,7 +60,7 @@ mutual
   guard_kept : {k : Context} {d d' : Bool} {e e' : Expr} → GuardTo k d d' e e' → d' ≡ false → Kept d e e'
   guard_kept (guard p u) h = expr_kept p h
 
-  maybe_kept : {k : Context} {d d' : Bool} {e e' : MaybeExpr} → MaybeTo k d d' e e' → d' ≡ false → Kept d e e'
+  pub maybe_kept : {k : Context} {d d' : Bool} {e e' : MaybeExpr} → MaybeTo k d d' e e' → d' ≡ false → Kept d e e'
   maybe_kept maybe_none h = (h, refl)
   maybe_kept (maybe_some p) h = let k = expr_kept p h in (k.0, ap an_expr k.1)
 

@@ -12,7 +12,7 @@ use Rattle.rhai_meaning.specs.Faults.{has_operands}
 use Rattle.rhai_meaning.specs.Queries.{is_control_flow_break, is_pure_expr, are_pure_exprs, are_pure_pairs, is_pure}
 use Rattle.rhai_meaning.specs.Queries.{is_unit as is_unit_expr}
 use Rattle.rhai_meaning.specs.Shape.{is_unit, condition_at, case_fits, spares, default_fits, is_table}
-use Rattle.rhai_meaning.specs.Tree.{ChainFlags, SwitchTable, Callee, Expr, DynamicConstant, BoolConstant, UnitConstant, InterpolatedString, ArrayOf, MapOf, Variable, ThisPtr, Property, BlockExpr, FnCall, Dot, Index, And, Or, Coalesce, Exprs, no_exprs, expr, Pairs, no_pairs, pair, Arms, no_arms, arm, count_arms, Stmt, Noop, If, Switch, While, Var, FnCallStmt, Block, ExprStmt, Return, an_expr, Stmts, no_stmts, stmt}
+use Rattle.rhai_meaning.specs.Tree.{ChainFlags, SwitchTable, Callee, Expr, DynamicConstant, BoolConstant, UnitConstant, InterpolatedString, ArrayOf, MapOf, Variable, ThisPtr, Property, BlockExpr, FnCall, Dot, Index, And, Or, Coalesce, Exprs, no_exprs, expr, Pairs, no_pairs, pair, Arms, no_arms, arm, count_arms, Stmt, Noop, If, Switch, While, Import, BreakLoop, TryCatch, Assignment, For, Do, Var, FnCallStmt, Block, ExprStmt, Return, an_expr, Stmts, no_stmts, stmt}
 use Rattle.rhai_meaning.specs.Walk.{Node, OfExpr, OfStmt, every, over_stmts, arms_at, arm_at, listed}
 use Rattle.rhai_meaning.proofs.Walk.{Alongside, stmts_alongside}
 use Rattle.rhai_parts.specs.Names.{are_all}
@@ -374,13 +374,26 @@ each_arm ps qs f [] h = h
 each_arm ps qs f (i ∷ is) h = (f i h.0, each_arm ps qs f is h.1)
 
 opened_part : (n : Node) (p : Type 0) → p → where_opened n p
+opened_part (OfExpr (InterpolatedString es)) p x = x
 opened_part (OfExpr (ArrayOf es)) p x = x
+opened_part (OfExpr (MapOf ps template)) p x = x
 opened_part (OfExpr (BlockExpr ss)) p x = x
 opened_part (OfExpr (FnCall c es)) p x = x
+opened_part (OfExpr (And es)) p x = x
+opened_part (OfExpr (Or es)) p x = x
+opened_part (OfExpr (Coalesce es)) p x = x
 opened_part (OfStmt (If c a b)) p x = x
-opened_part (OfStmt (Block ss)) p x = x
-opened_part (OfStmt (ExprStmt e)) p x = x
+opened_part (OfStmt (Do negated exported e b)) p x = x
+opened_part (OfStmt (For y i e b)) p x = x
+opened_part (OfStmt (Var constant exported y e)) p x = x
+opened_part (OfStmt (Assignment op l e)) p x = λ h. x
 opened_part (OfStmt (FnCallStmt c es)) p x = x
+opened_part (OfStmt (Block ss)) p x = x
+opened_part (OfStmt (TryCatch y a b)) p x = x
+opened_part (OfStmt (ExprStmt e)) p x = x
+opened_part (OfStmt (BreakLoop breaks exported m)) p x = x
+opened_part (OfStmt (Return throws exported m)) p x = x
+opened_part (OfStmt (Import e y)) p x = x
 opened_part _ p x = tt
 
 -- what follows at each node follows at every depth that is reached

@@ -1,9 +1,10 @@
 -- Trees in which nothing is left to reduce, but in the parts of nodes that the optimiser does not open.
-use Rattle.std.specs.Prelude.{◌≡◌, Bool, false, ◌&&◌, not, None}
+use Rattle.std.specs.Prelude.{◌≡◌, Bool, true, false, ◌&&◌, not, None}
 use Rattle.rhai_meaning.specs.Engine.{Engine}
 use Rattle.rhai_meaning.specs.Constants.{constant_bool, constant_values, is_constant, is_literal_unit}
-use Rattle.rhai_meaning.specs.Tree.{Expr, ArrayOf, BlockExpr, FnCall, Exprs, Stmt, If, Block, ExprStmt, FnCallStmt, Stmts, no_stmts, stmt}
-use Rattle.rhai_meaning.specs.Walk.{Node, OfExpr, OfStmt, Walk, every, parts_of_expr, parts_of_stmt, over_expr, over_exprs, over_stmt, over_stmts}
+use Rattle.rhai_meaning.specs.Shape.{is_left_side}
+use Rattle.rhai_meaning.specs.Tree.{Expr, InterpolatedString, ArrayOf, MapOf, BlockExpr, FnCall, And, Or, Coalesce, Exprs, Pairs, MaybeExpr, Stmt, If, Do, For, Var, Assignment, FnCallStmt, Block, TryCatch, ExprStmt, BreakLoop, Return, Import, Stmts, no_stmts, stmt}
+use Rattle.rhai_meaning.specs.Walk.{Node, OfExpr, OfStmt, Walk, every, parts_of_expr, parts_of_stmt, over_expr, over_exprs, over_pairs, over_maybe, over_stmt, over_stmts}
 use Rattle.rhai_rewriting.specs.Folding.{folded}
 
 -- one expression statement alone, over a constant that isn't unit
@@ -23,15 +24,29 @@ IsReducedNode r _ = Unit {0}
 
 -- ---- at every depth that the optimiser reaches
 
--- what is claimed of the parts of a node: nothing where the optimiser does not open it
+-- What is claimed of the parts of a node: nothing where the optimiser does not open it, a loop `while`, a `switch` and the sides of
+-- a `Dot` or an `Index`, nor beside a left side that is none.
 abbrev pub where_opened : Node → Type 0 → Type 0
+where_opened (OfExpr (InterpolatedString es)) p = p
 where_opened (OfExpr (ArrayOf es)) p = p
+where_opened (OfExpr (MapOf ps template)) p = p
 where_opened (OfExpr (BlockExpr ss)) p = p
 where_opened (OfExpr (FnCall c es)) p = p
+where_opened (OfExpr (And es)) p = p
+where_opened (OfExpr (Or es)) p = p
+where_opened (OfExpr (Coalesce es)) p = p
 where_opened (OfStmt (If c a b)) p = p
-where_opened (OfStmt (Block ss)) p = p
-where_opened (OfStmt (ExprStmt e)) p = p
+where_opened (OfStmt (Do negated exported e b)) p = p
+where_opened (OfStmt (For x i e b)) p = p
+where_opened (OfStmt (Var constant exported x e)) p = p
+where_opened (OfStmt (Assignment op l e)) p = is_left_side l ≡ true → p
 where_opened (OfStmt (FnCallStmt c es)) p = p
+where_opened (OfStmt (Block ss)) p = p
+where_opened (OfStmt (TryCatch x a b)) p = p
+where_opened (OfStmt (ExprStmt e)) p = p
+where_opened (OfStmt (BreakLoop breaks exported m)) p = p
+where_opened (OfStmt (Return throws exported m)) p = p
+where_opened (OfStmt (Import e x)) p = p
 where_opened _ p = Unit {0}
 
 -- P holds of every node that is reached
@@ -40,6 +55,12 @@ every_reached P = record (every P) { node = λ n p. P n × where_opened n p }
 
 abbrev pub IsReducedExpr : Engine → Expr → Type 0
 IsReducedExpr r e = over_expr (every_reached (IsReducedNode r)) e
+
+abbrev pub IsReducedMaybe : Engine → MaybeExpr → Type 0
+IsReducedMaybe r m = over_maybe (every_reached (IsReducedNode r)) m
+
+abbrev pub AreReducedPairs : Engine → Pairs → Type 0
+AreReducedPairs r ps = over_pairs (every_reached (IsReducedNode r)) ps
 
 abbrev pub AreReducedExprs : Engine → Exprs → Type 0
 AreReducedExprs r es = over_exprs (every_reached (IsReducedNode r)) es

@@ -1,10 +1,10 @@
 -- What the functions of the optimiser promise: a tree was rewritten, and where the dirty flag is clear afterwards
 -- nothing in it is left to reduce.
 use Rattle.std.specs.Prelude.{◌≡◌, Bool, true, false}
-use Rattle.rhai_meaning.specs.Tree.{Expr, Exprs, Stmt, Stmts, joined}
-use Rattle.rhai_rewriting.specs.Residue.{IsReducedExpr, AreReducedExprs, IsReduced, AreReduced, ExprParts, StmtParts}
+use Rattle.rhai_meaning.specs.Tree.{Expr, Exprs, Pairs, MaybeExpr, Stmt, Stmts, joined}
+use Rattle.rhai_rewriting.specs.Residue.{IsReducedExpr, AreReducedExprs, AreReducedPairs, IsReducedMaybe, IsReduced, AreReduced, ExprParts, StmtParts}
 use Rattle.rhai_rewriting.specs.Context.{Context, ListKind, wanted, wanted_before}
-use Rattle.rhai_rewriting.specs.Rewriting.{ExprTo, ExprsTo, StmtTo, RestTo, StmtsTo}
+use Rattle.rhai_rewriting.specs.Rewriting.{ExprTo, ExprsTo, PairsTo, MaybeTo, StmtTo, RestTo, StmtsTo}
 use Rattle.rhai_rewriting.specs.Rules.{ExprRule, StmtRule}
 
 -- ---- a tree with its parts
@@ -16,6 +16,14 @@ pub record ExprRun (k : Context) (d d' : Bool) (e e' : Expr) : Type 0 where
 pub record ExprsRun (k : Context) (d d' : Bool) (es es' : Exprs) : Type 0 where
   pub to : ExprsTo k d d' es es'
   pub reduced : d' ≡ false → AreReducedExprs k.engine es'
+
+pub record PairsRun (k : Context) (d d' : Bool) (ps ps' : Pairs) : Type 0 where
+  pub to : PairsTo k d d' ps ps'
+  pub reduced : d' ≡ false → AreReducedPairs k.engine ps'
+
+pub record MaybeRun (k : Context) (d d' : Bool) (m m' : MaybeExpr) : Type 0 where
+  pub to : MaybeTo k d d' m m'
+  pub reduced : d' ≡ false → IsReducedMaybe k.engine m'
 
 pub record StmtRun (k : Context) (w d d' : Bool) (s s' : Stmt) : Type 0 where
   pub to : StmtTo k w d d' s s'
