@@ -122,6 +122,9 @@ impl<'a> Letters<'a> {
 
     /// The letters of a name, and goes past them; none where no name stands next.
     pub(crate) fn word(&mut self) -> &'a str {
+        if matches!(self.rest.first(), Some(b'0'..=b'9')) {
+            return "";
+        }
         let mut letters = self.rest.iter();
         let count = letters
             .position(|letter| !(letter.is_ascii_alphanumeric() || *letter == b'_'))
