@@ -97,15 +97,15 @@ are_same-permutation xs ys zs p =
     let e = λ (t : Text). list_any-IsPermutation (same_text t) xs ys p in
     same (are_same ys zs) (are_same xs zs)
     (λ h.
-        let parts = each_true (are_among ys zs) (are_among zs ys) h in
-        both_true (are_among xs zs) (are_among zs xs)
-        (among-from_within xs zs (λ t k. within-from_among ys zs parts.0 t (sym (e t) ∙ k)))
-        (among-from_within zs xs (λ t k. e t ∙ within-from_among zs ys parts.1 t k)))
+    let parts = each_true (are_among ys zs) (are_among zs ys) h in
+    both_true (are_among xs zs) (are_among zs xs)
+    (among-from_within xs zs (λ t k. within-from_among ys zs parts.0 t (sym (e t) ∙ k)))
+    (among-from_within zs xs (λ t k. e t ∙ within-from_among zs ys parts.1 t k)))
     (λ h.
-        let parts = each_true (are_among xs zs) (are_among zs xs) h in
-        both_true (are_among ys zs) (are_among zs ys)
-        (among-from_within ys zs (λ t k. within-from_among xs zs parts.0 t (e t ∙ k)))
-        (among-from_within zs ys (λ t k. sym (e t) ∙ within-from_among zs xs parts.1 t k)))
+    let parts = each_true (are_among xs zs) (are_among zs xs) h in
+    both_true (are_among ys zs) (are_among zs ys)
+    (among-from_within ys zs (λ t k. within-from_among xs zs parts.0 t (e t ∙ k)))
+    (among-from_within zs ys (λ t k. sym (e t) ∙ within-from_among zs xs parts.1 t k)))
 
 -- ---- names that differ
 
@@ -132,14 +132,14 @@ pub are_same-by_length : (xs ys : List Text) → IsDistinct same_text xs → IsD
 are_same-by_length xs ys h k =
     same (length xs == length ys && are_among ys xs) (are_same xs ys)
     (λ q.
-        let parts = each_true (length xs == length ys) (are_among ys xs) q in
-        let e : length xs ≡ length ys = grind (arith, nat_tests) in
-        both_true (are_among xs ys) (are_among ys xs) (among-from_within xs ys (within-from_length xs ys k (within-from_among ys xs parts.1) e)) parts.1)
+    let parts = each_true (length xs == length ys) (are_among ys xs) q in
+    let e : length xs ≡ length ys = grind (arith, nat_tests) in
+    both_true (are_among xs ys) (are_among ys xs) (among-from_within xs ys (within-from_length xs ys k (within-from_among ys xs parts.1) e)) parts.1)
     (λ q.
-        let parts = each_true (are_among xs ys) (are_among ys xs) q in
-        let below = length-le_from_is_member nat_list_eq_equiv xs ys h (within-from_among xs ys parts.0) in
-        let above = length-le_from_is_member nat_list_eq_equiv ys xs k (within-from_among ys xs parts.1) in
-        both_true (length xs == length ys) (are_among ys xs) (grind (arith, nat_tests)) parts.1)
+    let parts = each_true (are_among xs ys) (are_among ys xs) q in
+    let below = length-le_from_is_member nat_list_eq_equiv xs ys h (within-from_among xs ys parts.0) in
+    let above = length-le_from_is_member nat_list_eq_equiv ys xs k (within-from_among ys xs parts.1) in
+    both_true (length xs == length ys) (are_among ys xs) (grind (arith, nat_tests)) parts.1)
 
 pub are_distinct-from_apart : (xs : List Text) → IsDistinct same_text xs → are_distinct xs ≡ true
 are_distinct-from_apart [] h = refl
@@ -156,12 +156,12 @@ are_distinct-twice (x ∷ xs) (suc i) h k =
     let t = get_or xs i [] in
     let inside : i < length xs = omega arith in
     by t (same_text t x) refl (list_any_at (same_text t) xs i [] inside (nat_list_eq_equiv.refl t)) (are_distinct-twice xs i inside) k where
-  by : (t : Text) (b : Bool) → same_text t x ≡ b → has xs t ≡ true → (has (take i xs) t ≡ true → are_distinct xs ≡ false) → (b || has (take i xs) t) ≡ true → (not (is_among x xs) && are_distinct xs) ≡ false
-  by t true e here rest q = ap (λ b. not b && are_distinct xs) (is_among-has x xs ∙ sym (list_any_congr nat_list_eq_equiv t x xs e) ∙ here)
-  by t false e here rest q = last (not (is_among x xs)) (are_distinct xs) (rest q) where
-    last : (a b : Bool) → b ≡ false → (a && b) ≡ false
-    last true b z = z
-    last false b z = refl
+      by : (t : Text) (b : Bool) → same_text t x ≡ b → has xs t ≡ true → (has (take i xs) t ≡ true → are_distinct xs ≡ false) → (b || has (take i xs) t) ≡ true → (not (is_among x xs) && are_distinct xs) ≡ false
+      by t true e here rest q = ap (λ b. not b && are_distinct xs) (is_among-has x xs ∙ sym (list_any_congr nat_list_eq_equiv t x xs e) ∙ here)
+      by t false e here rest q = last (not (is_among x xs)) (are_distinct xs) (rest q) where
+        last : (a b : Bool) → b ≡ false → (a && b) ≡ false
+        last true b z = z
+        last false b z = refl
 
 -- the keys of a map differ
 pub apart-from_sorted : (xs : List Text) → IsStrictlySortedBy (slice_cmp nat_cmp) xs → IsDistinct same_text xs

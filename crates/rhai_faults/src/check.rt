@@ -15,11 +15,11 @@ ghost use Rattle.rhai_meaning.specs.Tree.{count_exprs};
 ghost use Rattle.rhai_meaning.specs.Walk.{arm_of_default, arms_of_cases, arms_of_ranges, around_spot, LeftSide, listed, LoopBody, outermost, over_expr, over_exprs, over_maybe, over_pairs, over_stmt, over_stmts, RightSide, whole};
 ghost use Rattle.rhai_reading.specs.Reading.{arms_of, callee_of, case_of, cases_of, chain_flags, expr_of, expressions_of, exprs_of, keys_of, mark_of, maybe_of, pairs_of, range_of, stmt_of, stmts_of, subject_of, table_of};
 
+use crate::TreeFault;
 use crate::around::Around;
 use crate::map_keys::test_keys;
 use crate::shape::{is_catch, is_formed, is_left_side, is_reserved, is_rest, is_unit};
 use crate::table::is_table;
-use crate::TreeFault;
 use bitflags::Flags;
 use rhai_base::{ASTFlags, Boxed, Dynamic, Ident, RangeCase, StringMap};
 use rhai_tree::{
@@ -48,7 +48,10 @@ fn check_functions(alloc: Global, functions: &[Rc<ScriptFuncDef>]) -> Result<(),
     ensures { Finds (faults.functions_fault (functions_of functions.now)) result }
 {
     for function in functions {
-        demand(!is_reserved(function.name.as_str()), TreeFault::ReservedName)?;
+        demand(
+            !is_reserved(function.name.as_str()),
+            TreeFault::ReservedName,
+        )?;
         check_stmts(alloc, function.body.statements(), false)?;
     }
     Ok(())
@@ -125,11 +128,7 @@ fn check_map(
 }
 
 #[cycle(check)]
-fn check_members(
-    alloc: Global,
-    members: &[(Ident, Expr)],
-    in_loop: bool,
-) -> Result<(), TreeFault>
+fn check_members(alloc: Global, members: &[(Ident, Expr)], in_loop: bool) -> Result<(), TreeFault>
     ensures { Finds (found_members members.now in_loop) result }
 {
     for member in members {
@@ -250,11 +249,7 @@ fn check_try(alloc: Global, flow: &FlowControl, in_loop: bool) -> Result<(), Tre
 }
 
 #[cycle(check)]
-fn check_break(
-    alloc: Global,
-    expr: &Option<Boxed<Expr>>,
-    in_loop: bool,
-) -> Result<(), TreeFault>
+fn check_break(alloc: Global, expr: &Option<Boxed<Expr>>, in_loop: bool) -> Result<(), TreeFault>
     ensures { Finds (faults.unless in_loop faults.BreakOutsideLoop then over_maybe finding (maybe_of expr.now) (whole in_loop)) result }
 {
     demand(in_loop, TreeFault::BreakOutsideLoop)?;
@@ -262,11 +257,7 @@ fn check_break(
 }
 
 #[cycle(check)]
-fn check_optional(
-    alloc: Global,
-    expr: &Option<Boxed<Expr>>,
-    in_loop: bool,
-) -> Result<(), TreeFault>
+fn check_optional(alloc: Global, expr: &Option<Boxed<Expr>>, in_loop: bool) -> Result<(), TreeFault>
     ensures { Finds (over_maybe finding (maybe_of expr.now) (whole in_loop)) result }
 {
     match expr {
@@ -287,11 +278,7 @@ fn check_switch(alloc: Global, switch: &SwitchBlock, in_loop: bool) -> Result<()
 }
 
 #[cycle(check)]
-fn check_arms(
-    alloc: Global,
-    table: &SwitchCasesCollection,
-    in_loop: bool,
-) -> Result<(), TreeFault>
+fn check_arms(alloc: Global, table: &SwitchCasesCollection, in_loop: bool) -> Result<(), TreeFault>
     ensures { Finds (found_listed (expressions_of table.now) (listed (table_of table.now)) in_loop) result }
 {
     let arms = table.expressions.as_slice();

@@ -156,13 +156,7 @@ pub(crate) fn is_rest(is_dot: bool, is_last: bool, rhs: &Expr) -> bool
         | Expr::FnCall(_, _)
         | Expr::And(_, _)
         | Expr::Or(_, _)
-        | Expr::Coalesce(_, _) => {
-            if is_dot {
-                is_member(rhs)
-            } else {
-                is_last
-            }
-        }
+        | Expr::Coalesce(_, _) => { if is_dot { is_member(rhs) } else { is_last } }
     }
 }
 
@@ -212,10 +206,8 @@ pub(crate) fn is_left_side(expr: &Expr) -> bool
     ensures { result ≡ shape.is_left_side (expr_of expr.now) }
 {
     match expr {
-        Expr::Variable(_, _, _)
-        | Expr::ThisPtr(_)
-        | Expr::Dot(_, _, _)
-        | Expr::Index(_, _, _) => true,
+        Expr::Variable(_, _, _) | Expr::ThisPtr(_) | Expr::Dot(_, _, _) | Expr::Index(_, _, _) =>
+            true,
         Expr::DynamicConstant(_, _)
         | Expr::BoolConstant(_, _)
         | Expr::IntegerConstant(_, _)

@@ -26,10 +26,8 @@ pub(crate) fn is_table(table: &SwitchCasesCollection) -> bool
 fn cases_fit(cases: &Cases, len: usize) -> bool
     ensures { result ≡ tables.cases_fit len cases.now }
 {
-    cases
-        .as_map()
-        .iter()
-        .all(|(key, list)| key.is_hashable() && are_below(list.blocks.as_slice(), len))
+    cases.as_map().iter().all(|(key, list)| key.is_hashable()
+        && are_below(list.blocks.as_slice(), len))
 }
 
 fn are_below(places: &[usize], len: usize) -> bool

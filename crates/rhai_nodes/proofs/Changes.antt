@@ -28,4 +28,3 @@ module _ {X : Type 0} (f : X → X) where
 
   pub all_changed : (xs ys : List X) (i : ℕ) → length xs ≤ i → ys ≡ first_changed xs i → ys ≡ map f xs
   all_changed xs ys i h e = e ∙ all_of xs i h
-

@@ -1,10 +1,12 @@
 -- Blocks in a list: what is done, the statements of the list in hand, and what comes after it.
 use Rattle.std.proofs.Common.{◌≡◌, ◌≤◌, Bool, true, false, List, [], ◌∷◌, ◌++◌, IsTrue, ◌↔◌, ◌||◌, not, refl, sym, ap, ◌∙◌, subst, arith}
 use Rattle.rhai_tokens.specs.declared.position.Position.{Position}
+use Rattle.rhai_tree.specs.declared.block.StmtBlock.{StmtBlock}
 use Rattle.rhai_tree.specs.declared.stmt.Stmt as declared_stmt
 use Rattle.rhai_tree.specs.declared.stmt.Stmt.TheVariants as stmt_kind
 use Rattle.rhai_meaning.specs.Queries.{is_any_dependent}
 use Rattle.rhai_reading.specs.Reading.{stmt_of, stmts_of, stmt_of-Noop}
+use Rattle.rhai_reading.proofs.Cases.{StmtCase, block_case, stmt_cases}
 use Rattle.rhai_meaning.specs.Tree.{Stmt, Noop, Block, Stmts, no_stmts, stmt, joined}
 use Rattle.rhai_rewriting.specs.Context.{Context, ListKind, wanted, wanted_before}
 use Rattle.rhai_rewriting.specs.Rewriting.{RestTo, StmtsTo, same_stmts, then_stmts, by_list_rule}
@@ -85,6 +87,14 @@ moves_noop {w = w} {d = d} {d1 = d1} done new block p e ew eb en = record {
 }
 
 -- ---- and leave no block that gives way
+
+-- a statement other than a block stays
+stays_put : {x : declared_stmt.Stmt} {s : Stmt} → StmtCase x s → ((b : StmtBlock) → x ≡ stmt_kind.Block b → ⊥) → gives_way s ≡ false
+stays_put (block_case b) n = absurd (n b refl)
+stays_put _ n = refl
+
+pub other_stays : (x : declared_stmt.Stmt) → ((b : StmtBlock) → x ≡ stmt_kind.Block b → ⊥) → gives_way (stmt_of x) ≡ false
+other_stays x n = stays_put (stmt_cases x) n
 
 clear-of : (b : Bool) → true ≡ not b → b ≡ false
 clear-of true h = absurd cc

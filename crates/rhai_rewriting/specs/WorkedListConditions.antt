@@ -1,14 +1,14 @@
--- For conditions of the rules on known names, on lists and blocks, on the bases of chains and on assignments: two scripts that
--- the rule without it would take for one, and what each does.
-use Rattle.std.specs.Prelude.{◌≡◌, true, false, [], ◌∷◌, None, codes, refl, List, Some}
-use Rattle.rhai_values.specs.Value.{UnitV, ArrayV, values, TextV, PointerV}
+-- For conditions of the rules on known names, on lists and blocks, on the bases of chains, on left sides and on assignments: two
+-- scripts that the rule without it would take for one, and what each does.
+use Rattle.std.specs.Prelude.{◌≡◌, ℕ, true, false, [], ◌∷◌, None, codes, refl, List, Some}
+use Rattle.rhai_values.specs.Value.{Text, Value, UnitV, ArrayV, MapV, values, field, no_fields, TextV, PointerV}
 use Rattle.rhai_base.specs.Operators.{Plus, Minus, computed}
 use Rattle.rhai_rewriting.specs.Parts.{named}
-use Rattle.rhai_rewriting.specs.WorkedNodes.{dot}
+use Rattle.rhai_rewriting.specs.WorkedNodes.{dot, safe, index, property}
 use Rattle.rhai_meaning.specs.Engine.{Engine}
-use Rattle.rhai_meaning.specs.Act.{Unbound, HostCall, Host, Answers}
+use Rattle.rhai_meaning.specs.Act.{Unbound, WrongKind, WriteToConstant, NoPlace, HostCall, Host, Answers}
 use Rattle.rhai_meaning.specs.Run.{Report, WithValue, WithStuck, WithThrown}
-use Rattle.rhai_meaning.specs.Tree.{Expr, BoolConstant, DynamicConstant, BlockExpr, FnCall, no_expr, an_expr, Stmt, Noop, If, While, For, Assignment, Block, ExprStmt, BreakLoop, Return, stmts, ArrayOf, Dot, Index, MethodCall, exprs, StringConstant, And, Coalesce, UnitConstant, Function}
+use Rattle.rhai_meaning.specs.Tree.{Expr, BoolConstant, DynamicConstant, BlockExpr, FnCall, no_expr, an_expr, Stmt, Noop, If, While, For, Assignment, Block, ExprStmt, BreakLoop, Return, stmts, ArrayOf, MapOf, pairs, Variable, Dot, Index, MethodCall, exprs, StringConstant, And, Coalesce, UnitConstant, Function}
 use Rattle.rhai_meaning.specs.WorkedForms.{int, nothing_set, joining, ran, ran_with, ends, i, op, asked, overriding, call}
 use Rattle.rhai_rewriting.specs.WorkedConditions.{Differ}
 use Rattle.rhai_rewriting.specs.WorkedLists.{var, let', const, variable, constant, ends_with}
@@ -28,6 +28,59 @@ shadowed_name_stays = (refl, refl)
 variable_stays : Differ (let' "x" (int 1) ∷ Assignment None (var "x") (int 2) ∷ show (var "x") ∷ []) (ends_with (WithValue (i 2)) (variable "x" (i 2) ∷ []) []) (let' "x" (int 1) ∷ Assignment None (var "x") (int 2) ∷ show (int 1) ∷ []) (ends_with (WithValue (i 1)) (variable "x" (i 2) ∷ []) [])
 unfolding ran
 variable_stays = (refl, refl)
+
+-- a name with a namespace is another one: const x = 1; ns::x, and const x = #{a: 1}; ns::x.a, ns::x["a"], where the host's
+-- modules have a value for ns::x
+abbrev in_module : Value → Host
+in_module v = record { answer = λ past c. Answers UnitV None; module_value = λ y. Some v }
+
+abbrev of_module : Expr
+of_module = Variable (codes "ns" ∷ []) (codes "x")
+
+abbrev one_entry : Expr
+one_entry = MapOf (pairs ((codes "a", int 1) ∷ [])) (codes "a" ∷ [])
+
+abbrev entry_is : ℕ → Value
+entry_is n = MapV (field (codes "a") (i n) no_fields)
+
+abbrev after_constant : Value → Expr → Expr → Report
+unfolding ran
+after_constant v c e = ran nothing_set (in_module v) (const "x" c ∷ show e ∷ [])
+
+abbrev map_after : ℕ → Report
+map_after n = ends_with (WithValue (i n)) (constant "x" (entry_is 1) ∷ []) []
+
+qualified_name_stays : (after_constant (i 2) (int 1) of_module ≡ ends_with (WithValue (i 2)) (constant "x" (i 1) ∷ []) []) × (after_constant (i 2) (int 1) (int 1) ≡ ends_with (WithValue (i 1)) (constant "x" (i 1) ∷ []) [])
+unfolding ran
+qualified_name_stays = (refl, refl)
+
+qualified_property_stays : (after_constant (entry_is 2) one_entry (Dot dot of_module (property "a")) ≡ map_after 2) × (after_constant (entry_is 2) one_entry (int 1) ≡ map_after 1)
+unfolding ran
+qualified_property_stays = (refl, refl)
+
+qualified_entry_stays : (after_constant (entry_is 2) one_entry (Index index of_module (StringConstant (codes "a"))) ≡ map_after 2) × (after_constant (entry_is 2) one_entry (int 1) ≡ map_after 1)
+unfolding ran
+qualified_entry_stays = (refl, refl)
+
+-- of a variable no part is known: let x = #{a: 1}; x.a = 2; x.a, x["a"], and 1 at its end
+abbrev after_write : Expr → List Stmt
+after_write e = let' "x" one_entry ∷ Assignment None (Dot dot (var "x") (property "a")) (int 2) ∷ show e ∷ []
+
+abbrev written : ℕ → Report
+written n = ends_with (WithValue (i n)) (variable "x" (entry_is 2) ∷ []) []
+
+property_of_variable_stays : Differ (after_write (Dot dot (var "x") (property "a"))) (written 2) (after_write (int 1)) (written 1)
+unfolding ran
+property_of_variable_stays = (refl, refl)
+
+entry_of_variable_stays : Differ (after_write (Index index (var "x") (StringConstant (codes "a")))) (written 2) (after_write (int 1)) (written 1)
+unfolding ran
+entry_of_variable_stays = (refl, refl)
+
+-- an index that is no constant is run: const x = #{a: 1}; x[f()], and 1
+index_of_known_is_run : Differ (const "x" one_entry ∷ show (Index index (var "x") (call "f" [])) ∷ []) (ends_with (WithValue UnitV) (constant "x" (entry_is 1) ∷ []) (asked "f" [] ∷ record { name = codes "index$get$"; receiver = Some (entry_is 1); arguments = UnitV ∷ [] } ∷ [])) (const "x" one_entry ∷ show (int 1) ∷ []) (map_after 1)
+unfolding ran
+index_of_known_is_run = (refl, refl)
 
 -- the name of a loop isn't the constant around it: const x = 1; for x in [2] { return x }, and return 1
 abbrev for_x : Expr → Stmt
@@ -95,6 +148,16 @@ declaration_stays = (refl, refl)
 read_inside : Differ (Block (stmts (let' "x" (int 1) ∷ show (var "x") ∷ [])) ∷ []) (ends (WithValue (i 1)) []) (Block (stmts (show (var "x") ∷ [])) ∷ []) (ends (WithStuck Unbound) [])
 unfolding ran
 read_inside = (refl, refl)
+
+-- inside a list too what isn't pure inside stays, and so does a last declaration where the value is wanted:
+-- { f(); 1 }, and { 1 }; { f(); 1; let y = 2 }, and { f(); 1 }
+call_inside_stays : Differ (Block (stmts (f ∷ show (int 1) ∷ [])) ∷ []) (ends (WithValue (i 1)) asks_f) (Block (stmts (show (int 1) ∷ [])) ∷ []) (ends (WithValue (i 1)) [])
+unfolding ran
+call_inside_stays = (refl, refl)
+
+wanted_declaration_stays : Differ (Block (stmts (f ∷ show (int 1) ∷ let' "y" (int 2) ∷ [])) ∷ []) (ends (WithValue UnitV) asks_f) (Block (stmts (f ∷ show (int 1) ∷ [])) ∷ []) (ends (WithValue (i 1)) asks_f)
+unfolding ran
+wanted_declaration_stays = (refl, refl)
 
 -- a `return` inside leaves more than its block: { return 1; } 2
 return_inside : Differ (Block (stmts (Return false false (an_expr (int 1)) ∷ [])) ∷ show (int 2) ∷ []) (ends (WithValue (i 1)) []) (Block (stmts (show (int 1) ∷ [])) ∷ show (int 2) ∷ []) (ends (WithValue (i 2)) [])
@@ -164,6 +227,9 @@ else_outside = (refl, refl)
 
 -- ---- bases of chains
 
+abbrev answering : Host
+answering = record { answer = λ past c. Answers (i 1) None; module_value = λ y. None }
+
 -- a base that is no place doesn't become one: let x = 1; (() ?? x).m(), and x.m(), where the method gives its receiver 2
 abbrev renewing : Host
 renewing = record { answer = λ past c. Answers UnitV (Some (i 2)); module_value = λ y. None }
@@ -182,6 +248,32 @@ one_operand = (refl, refl)
 part_is_no_place : (ran nothing_set renewing (let' "x" (int 1) ∷ show (Index dot (ArrayOf (exprs (var "x" ∷ []))) (Dot dot (int 0) (MethodCall (named (codes "m") false) (exprs [])))) ∷ []) ≡ ends_with (WithValue UnitV) (variable "x" (i 1) ∷ []) asks_method) × (ran nothing_set renewing (calls_method (var "x")) ≡ ends_with (WithValue UnitV) (variable "x" (i 2) ∷ []) asks_method)
 unfolding ran
 part_is_no_place = (refl, refl)
+
+-- `()?.a` goes only where it is a chain of its own: let x = 1; x[()]?.a, and x[()]
+abbrev inside_a_chain : Expr → List Stmt
+inside_a_chain e = let' "x" (int 1) ∷ show e ∷ []
+
+abbrev asks_one : Text → List Value → HostCall
+asks_one name vs = record { name = name; receiver = Some (i 1); arguments = vs }
+
+unit_inside_a_chain : (ran nothing_set answering (inside_a_chain (Index dot (var "x") (Dot safe UnitConstant (property "a")))) ≡ ends_with (WithValue (i 1)) (variable "x" (i 1) ∷ []) (asks_one (codes "index$get$") (UnitV ∷ []) ∷ asks_one (codes "get") [] ∷ [])) × (ran nothing_set answering (inside_a_chain (Index index (var "x") UnitConstant)) ≡ ends_with (WithValue (i 1)) (variable "x" (i 1) ∷ []) (asks_one (codes "index$get$") (UnitV ∷ []) ∷ []))
+unfolding ran
+unit_inside_a_chain = (refl, refl)
+
+-- ---- left sides
+
+-- const x = 1; x = f(), and 1 = f(), which loses the call
+left_side_stays : Differ (const "x" (int 1) ∷ Assignment None (var "x") (call "f" []) ∷ []) (ends_with (WithStuck WriteToConstant) (constant "x" (i 1) ∷ []) asks_f) (const "x" (int 1) ∷ Assignment None (int 1) (call "f" []) ∷ []) (ends_with (WithStuck WrongKind) (constant "x" (i 1) ∷ []) [])
+unfolding ran
+left_side_stays = (refl, refl)
+
+-- its base stays that place: const x = #{a: 1}; x[f()] = 2, and #{a: 1}[f()] = 2, which loses it too
+abbrev sets_by_call : Expr → List Stmt
+sets_by_call e = const "x" one_entry ∷ Assignment None (Index index e (call "f" [])) (int 2) ∷ []
+
+place_stays : Differ (sets_by_call (var "x")) (ends_with (WithValue UnitV) (constant "x" (entry_is 1) ∷ []) (asked "f" [] ∷ record { name = codes "index$set$"; receiver = Some (entry_is 1); arguments = UnitV ∷ i 2 ∷ [] } ∷ [])) (sets_by_call one_entry) (ends_with (WithStuck NoPlace) (constant "x" (entry_is 1) ∷ []) [])
+unfolding ran
+place_stays = (refl, refl)
 
 -- ---- assignments of an operator over their own name
 

@@ -6,7 +6,7 @@ use Rattle.rhai_values.specs.Value.{Value, UnitV, ArrayV, MapV, PointerV, values
 use Rattle.rhai_base.specs.Operators.{Plus, computed}
 use Rattle.rhai_meaning.specs.Act.{HostCall, ScopeEntry, WrongKind}
 use Rattle.rhai_meaning.specs.Run.{End, Report, WithValue, WithStuck}
-use Rattle.rhai_meaning.specs.Tree.{Expr, DynamicConstant, StringConstant, BoolConstant, UnitConstant, Variable, Dot, Index, And, no_expr, an_expr, Stmt, Noop, If, While, Do, For, Var, Block, TryCatch, ExprStmt, Return, Share, exprs, stmts, Assignment, BlockExpr}
+use Rattle.rhai_meaning.specs.Tree.{Expr, DynamicConstant, StringConstant, BoolConstant, UnitConstant, Variable, Dot, Index, And, no_expr, an_expr, Stmt, Noop, If, While, For, Var, Block, TryCatch, ExprStmt, Return, Share, exprs, stmts, Assignment, BlockExpr}
 use Rattle.rhai_meaning.specs.WorkedForms.{int, nothing_set, joining, ran, ends, i, op, call}
 use Rattle.rhai_rewriting.specs.Context.{Inside, noting, under}
 use Rattle.rhai_rewriting.specs.Rewriting.{RestTo, then_stmts, by_expr_rule, by_stmt_rule, by_list_rule, in_expression, in_block, in_head, in_tail}
@@ -137,9 +137,10 @@ pure_inside_goes_row = (in_head (in_block (in_tail (then_stmts (by_list_rule (pu
 unwanted_tail_row : RestTo (under nothing_set) (Inside false) true false true (stmts (f ∷ show (int 3) ∷ [])) (stmts (f ∷ []))
 unwanted_tail_row = in_tail (by_list_rule (pure_goes refl refl))
 
-unwanted_tail_runs : (ran nothing_set joining (Do true false t (stmts []) ∷ TryCatch UnitConstant (stmts (f ∷ show (int 3) ∷ [])) (stmts []) ∷ []) ≡ ran nothing_set joining (Do true false t (stmts []) ∷ TryCatch UnitConstant (stmts (f ∷ [])) (stmts []) ∷ []))
+-- try { f(); 3 }, and try { f() }
+unwanted_tail_runs : (ran nothing_set joining (TryCatch UnitConstant (stmts (f ∷ show (int 3) ∷ [])) (stmts []) ∷ []) ≡ ends (WithValue UnitV) asks_f) × (ran nothing_set joining (TryCatch UnitConstant (stmts (f ∷ [])) (stmts []) ∷ []) ≡ ends (WithValue UnitV) asks_f)
 unfolding ran
-unwanted_tail_runs = refl
+unwanted_tail_runs = (refl, refl)
 
 -- f(); return 42;
 last_return_row : Row (f ∷ Return false false (an_expr (int 42)) ∷ []) (f ∷ show (int 42) ∷ []) (ends (WithValue (i 42)) asks_f)

@@ -4,6 +4,7 @@ pub mod CallRuns
 pub mod EvaluatedForms
 pub mod DirectedRuns
 pub mod MoreRuns
+pub mod ClauseRuns
 pub mod TreeTests
 pub mod PathTests
 pub mod WorkedRuns

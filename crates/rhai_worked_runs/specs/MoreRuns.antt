@@ -1,5 +1,5 @@
 -- More runs: what the engine's record fixes, calls, and scripts that are optimised elsewhere, as they are written.
-use Rattle.std.specs.Prelude.{◌≡◌, true, false, List, [], ◌∷◌, Some, None, pos, codes, refl}
+use Rattle.std.specs.Prelude.{◌≡◌, ℕ, true, false, List, [], ◌∷◌, Some, None, pos, codes, refl}
 use Rattle.rhai_values.specs.Value.{UnitV, BoolV, TextV, ArrayV, values}
 use Rattle.rhai_base.specs.Operators.{EqualTo, Plus, Minus, Multiply, Divide}
 use Rattle.rhai_meaning.specs.Act.{AnswersThrow, WrongKind}
@@ -48,6 +48,18 @@ assigning_overridden = refl
 base_overridden : ran_in (in_engine (record nothing_set { overrides = record { name = codes "+"; types = codes "i64" ∷ codes "i64" ∷ [] } ∷ [] })) adds_two 0 ≡ report (gives UnitV) (var_is "x" (TextV (codes "12")) ∷ []) (asked "+" (i 1 ∷ i 2 ∷ []) ∷ []) 0
 unfolding ran
 base_overridden = refl
+
+-- with fast operators the table answers x += 2 though `+=` is overridden; x += true, which it has not, is the host's
+abbrev fast_assigning : List (List ℕ) → World
+fast_assigning types = in_engine (record nothing_set { overrides = record { name = codes "+="; types = types } ∷ []; fast_operators = true })
+
+assigning_fast : ran_in (fast_assigning (codes "i64" ∷ codes "i64" ∷ [])) adds_two 0 ≡ report (gives UnitV) (var_is "x" (i 3) ∷ []) [] 0
+unfolding ran
+assigning_fast = refl
+
+assigning_without_entry : ran_in (fast_assigning (codes "i64" ∷ codes "bool" ∷ [])) (let' "x" (int 1) ∷ Assignment (Some Plus) (var "x") (BoolConstant true) ∷ []) 0 ≡ report (gives UnitV) (var_is "x" UnitV ∷ []) (asked "+=" (i 1 ∷ BoolV true ∷ []) ∷ []) 0
+unfolding ran
+assigning_without_entry = refl
 
 -- ---- calls
 

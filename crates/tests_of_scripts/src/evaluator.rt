@@ -9,7 +9,7 @@ use rhai_base::{Dynamic, ImmutableString, OutOfMemory, Scope};
 use rhai_run::{
     EngineInfo, Host, HostAnswer, HostCall, RunEnd, RunReport, Stuck, Variable, plain_run,
 };
-use rhai_script::{AST, FnLib};
+use rhai_script::{AST, FnLib, SharedLib};
 use std::alloc::Global;
 use std::rc::Rc;
 use std::test::Fail;
@@ -85,8 +85,12 @@ const NEGATIONS: [&str; 4] = [
 ];
 
 fn script(alloc: Global, text: &str) -> Result<AST, Unread> {
-    let functions = Rc::new(alloc, FnLib::new(alloc))?;
+    let functions = no_functions(alloc)?;
     Ok(AST::new(read_lines(alloc, text)?, functions))
+}
+
+fn no_functions(alloc: Global) -> Result<SharedLib, OutOfMemory> {
+    Ok(Rc::new(alloc, FnLib::new(alloc))?)
 }
 
 /// Runs statements from a scope, with ten turns.

@@ -2,7 +2,7 @@
 //! of its calls below the entry.
 
 use crate::trees::{NONE, certain, integer, list, name, statement};
-use rhai_ast::{Expr, FnAccess, ScriptFuncDef, Stmt};
+use rhai_ast::{Expr, FnAccess, ScriptFuncDef, Stmt, StmtBlock};
 use rhai_base::{Dynamic, INT, OutOfMemory, Position, Scope, Seq};
 use rhai_folding::{constant_bool, folded};
 use rhai_optimizer::{OptimizationLevel, OptimizerState, optimize_into_ast, optimize_top_level};
@@ -76,16 +76,22 @@ fn levels_say_how_much_is_done(rt: HostRuntime) -> Result<(), Fail> {
 
 // ---- functions
 
-fn function(alloc: Global) -> Result<Rc<ScriptFuncDef>, Unread> {
+fn function(alloc: Global) -> Result<Vec<Rc<ScriptFuncDef>>, Unread> {
+    let body = list(read_lines(alloc, SUM_IN_A_BLOCK)?);
+    Ok(shared(alloc, body)?)
+}
+
+fn shared(alloc: Global, body: StmtBlock) -> Result<Vec<Rc<ScriptFuncDef>>, OutOfMemory> {
     let definition = ScriptFuncDef {
-        body: list(read_lines(alloc, SUM_IN_A_BLOCK)?),
+        body,
         name: name(alloc, "f")?,
         this_type: None,
         access: FnAccess::Public,
         params: Seq::new(alloc),
         comments: Seq::new(alloc),
     };
-    Ok(Rc::new(alloc, definition)?)
+    let function = Rc::new(alloc, definition)?;
+    Ok(vec![in alloc; function]?)
 }
 
 fn is_kept(function: &ScriptFuncDef) -> bool {
@@ -93,7 +99,7 @@ fn is_kept(function: &ScriptFuncDef) -> bool {
 }
 
 fn are_functions_kept(alloc: Global) -> Result<bool, Unread> {
-    let functions = vec![in alloc; function(alloc)?]?;
+    let functions = function(alloc)?;
     let info = EngineInfo::new(alloc);
     let level = OptimizationLevel::Simple;
     let script = optimize_into_ast(alloc, &info, None, Vec::new(alloc), functions, level)?;
