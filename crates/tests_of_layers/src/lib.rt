@@ -10,6 +10,8 @@ mod flags;
 #[cfg(test)]
 mod guide;
 #[cfg(test)]
+mod guide_trees;
+#[cfg(test)]
 mod lists;
 #[cfg(test)]
 mod literals;
