@@ -1,0 +1,2 @@
+pub mod ArmPaths
+pub mod Walking

@@ -1,0 +1,3 @@
+pub mod ArmPaths
+pub mod Nodes
+pub mod Walking
