@@ -8,3 +8,4 @@ pub use rhai_tree::{
     BinaryExpr, CaseBlocksList, Cases, Expr, FlowControl, FnAccess, FnCallExpr, FnNamespace,
     ScriptFuncDef, Stmt, StmtBlock, StmtBlockContainer, SwitchBlock, SwitchCasesCollection,
 };
+pub use rhai_walk::{ASTNode, Walk, walk_statements};
