@@ -1,7 +1,6 @@
 -- The top-level variables of a script that have literal values.
 use Rattle.std.specs.Prelude.{◌≡◌, Bool, true, false, List, [], ◌∷◌, ◌++◌, Option, Some, None, Result, Ok, Err, MatchOption, if◌then◌else◌}
 use Rattle.std.specs.Borrow.{Bor}
-use Rattle.std.specs.Slice.Iter.{iter_rest}
 use Rattle.rhai_values.specs.Value.{Text, Value}
 use Rattle.rhai_values.specs.Reading.{value_of}
 use Rattle.rhai_values.specs.declared.dynamic.Dynamic.{Dynamic}
@@ -55,14 +54,18 @@ Tries (Ok (Some x)) here = here ≡ sought_as x ∷ []
 Tries (Ok None) here = literals_of here ≡ []
 Tries (Err e) here = (s : Sought) × (here ≡ s ∷ [])
 
--- an item stands for one that was sought, after others that have no literal value
+-- one that was sought, after others that have no literal value
+abbrev pub Comes : List Sought → Sought → List Sought → Type 0
+Comes all s rest = (before : List Sought) × (all ≡ before ++ s ∷ rest) × (literals_of before ≡ [])
+
+-- the one for which an item stands; of a refused one the value is not known
 abbrev pub Reaches : {E : Type 0} → List Sought → Result Item E → List Sought → Type 0
-Reaches all (Ok x) rest = (before : List Sought) × (all ≡ before ++ sought_as x ∷ rest) × (literals_of before ≡ [])
-Reaches all (Err e) rest = (before : List Sought) × (s : Sought) × (all ≡ before ++ s ∷ rest) × (literals_of before ≡ [])
+Reaches all (Ok x) rest = Comes all (sought_as x) rest
+Reaches all (Err e) rest = (s : Sought) × Comes all s rest
 
 -- what an iterator still seeks
 abbrev pub left_to : LiteralVariables → List Sought
-left_to i = sought_in i.constants i.variables (stmts_of (iter_rest i.statements))
+left_to i = sought_in i.constants i.variables (stmts_of i.statements.now)
 
 abbrev pub Gives : {E : Type 0} → LiteralVariables → Option (Result Item E) → LiteralVariables → Type 0
 Gives i r j = MatchOption r ((literals_of (left_to i) ≡ []) × (left_to j ≡ [])) (λ item. Reaches (left_to i) item (left_to j))

@@ -4,15 +4,18 @@
 
 ghost use Rattle.std.specs.Prelude.{◌≡◌};
 ghost use Rattle.std.specs.Iterator.{item_count};
-ghost use Rattle.rhai_reading.specs.Reading.{stmt_of, stmts_of};
+ghost use Rattle.rhai_meaning.specs.Tree.{Var};
+ghost use Rattle.rhai_reading.specs.Reading.{expr_of, is_const, is_exported, stmt_of, stmts_of};
 ghost use Rattle.rhai_script_queries.specs.Literals.{Gives, Tries, left_to, sought_at, sought_in};
 
 use bitflags::Flags;
-use rhai_base::{ASTFlags, Dynamic, OutOfMemory};
-use rhai_nodes::Literals;
-use rhai_tree::Stmt;
+use rhai_ast::{Expr, Literals, Stmt};
+use rhai_base::{ASTFlags, Dynamic, Ident, OutOfMemory};
 use std::alloc::Global;
-use std::slice;
+use std::num::NonZeroUsize;
+
+/// A variable: its name, whether it is a constant, and its value.
+type Variable<'a> = (&'a str, bool, Dynamic);
 
 /// The top-level variables of a script that have literal values, in order: the name, whether it is a constant, and
 /// the value.
@@ -21,7 +24,7 @@ use std::slice;
 /// sought after it.
 #[derive(Drop)]
 pub struct LiteralVariables<'a> {
-    statements: slice::Iter<'a, Stmt>,
+    statements: &'a [Stmt],
     constants: bool,
     variables: bool,
     alloc: Global,
@@ -29,7 +32,7 @@ pub struct LiteralVariables<'a> {
 
 impl<'a> LiteralVariables<'a> {
     /// Those of a list of statements that are constants, where they are wanted, and those that are none.
-    pub fn new(
+    pub(crate) fn new(
         alloc: Global,
         statements: &'a [Stmt],
         constants: bool,
@@ -38,31 +41,52 @@ impl<'a> LiteralVariables<'a> {
         ensures { left_to result ≡ sought_in constants variables (stmts_of statements.now) }
     {
         LiteralVariables {
-            statements: statements.iter(),
+            statements,
             constants,
             variables,
             alloc,
         }
     }
 
-    /// Whether a statement is a `Var` of a wanted kind, and its value, where it has a literal one.
-    fn literal_of(
-        &self,
-        stmt: &'a Stmt,
-    ) -> Result<Option<(&'a str, bool, Dynamic)>, OutOfMemory>
+    /// The variable of a `Var` of a wanted kind, where it has a literal value.
+    fn literal_of(&self, stmt: &'a Stmt) -> Result<Option<Variable<'a>>, OutOfMemory>
         ensures { Tries result (sought_at self.now.constants self.now.variables (stmt_of stmt.now)) }
     {
-        let Stmt::Var(parts, options, _) = stmt else {
-            return Ok(None);
-        };
+        match stmt {
+            Stmt::Var(parts, options, _) => self.declared(parts.get(), *options),
+            Stmt::Noop(_)
+            | Stmt::If(_, _)
+            | Stmt::Switch(_, _)
+            | Stmt::While(_, _)
+            | Stmt::Do(_, _, _)
+            | Stmt::For(_, _)
+            | Stmt::Assignment(_)
+            | Stmt::FnCall(_, _)
+            | Stmt::Block(_)
+            | Stmt::TryCatch(_, _)
+            | Stmt::Expr(_)
+            | Stmt::BreakLoop(_, _, _)
+            | Stmt::Return(_, _, _)
+            | Stmt::Import(_, _)
+            | Stmt::Export(_, _)
+            | Stmt::Share(_) => Ok(None),
+        }
+    }
+
+    fn declared(
+        &self,
+        parts: &'a (Ident, Expr, Option<NonZeroUsize>),
+        options: ASTFlags,
+    ) -> Result<Option<Variable<'a>>, OutOfMemory>
+        ensures { Tries result (sought_at self.now.constants self.now.variables (Var (is_const options) (is_exported options) parts.now.0.name (expr_of parts.now.1))) }
+    {
         let constant = options.contains(ASTFlags::CONSTANT);
         let wanted = if constant { self.constants } else { self.variables };
         if !wanted {
             return Ok(None);
         }
-        let (name, value, _) = parts.get();
-        match value.get_literal_value(self.alloc)? {
-            Some(literal) => Ok(Some((name.name.as_str(), constant, literal))),
+        match parts.1.get_literal_value(self.alloc)? {
+            Some(value) => Ok(Some((parts.0.name.as_str(), constant, value))),
             None => Ok(None),
         }
     }
@@ -76,9 +100,10 @@ impl<'a> Iterator for LiteralVariables<'a> {
     ghost remaining = { item_count left_to };
 
     fn next(&mut self) -> Option<Result<(&'a str, bool, Dynamic), OutOfMemory>> {
-        while let Some(stmt) = self.statements.next() {
+        while let Some((stmt, rest)) = self.statements.split_first() {
+            self.statements = rest;
             match self.literal_of(stmt) {
-                Ok(Some(literal)) => return Some(Ok(literal)),
+                Ok(Some(variable)) => return Some(Ok(variable)),
                 Ok(None) => {}
                 Err(error) => return Some(Err(error)),
             }

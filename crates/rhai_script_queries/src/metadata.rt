@@ -4,9 +4,10 @@ ghost use Rattle.std.specs.Option.{option_copied};
 ghost use Rattle.std.specs.Iterator.{YieldsFirstBy, item_count};
 ghost use Rattle.rhai_script_queries.specs.Metadata.{described, description_of, descriptions};
 
+use rhai_ast::{FnAccess, ScriptFuncDef};
 use rhai_base::ImmutableString;
 use rhai_functions::{FnLib, FnLibIter};
-use rhai_tree::{FnAccess, ScriptFuncDef};
+
 
 /// What a function of a script says of itself, lent.
 #[derive(Clone, Copy)]
@@ -54,7 +55,7 @@ pub struct FnMetadataIter<'a> {
 
 impl<'a> FnMetadataIter<'a> {
     /// Over all functions of a table.
-    pub fn new(lib: &'a FnLib) -> FnMetadataIter<'a>
+    pub(crate) fn new(lib: &'a FnLib) -> FnMetadataIter<'a>
         ensures { descriptions result ≡ map description_of lib.now.functions }
     {
         FnMetadataIter {

@@ -11,10 +11,11 @@ ghost use Rattle.rhai_script_queries.specs.Scripts.{WalksScript};
 ghost use Rattle.rhai_walk.specs.Walking.{Walks};
 
 use crate::{FnMetadataIter, LiteralVariables};
+use rhai_ast::{ASTNode, walk_statements};
 use rhai_base::OutOfMemory;
 use rhai_functions::{FnLib, FnLibIter, allocator_of};
 use rhai_script::AST;
-use rhai_walk::{ASTNode, walk_statements};
+
 
 /// What may be asked of a script.
 pub trait ScriptQueries {

@@ -1,2 +1,3 @@
 pub mod ArmPaths
+pub mod ItemPaths
 pub mod Walking

@@ -1,17 +1,20 @@
 -- Ends of walks over paths one after another, and below a node.
-use Rattle.std.proofs.Common.{◌≡◌, Bool, true, false, IsErr, List, [], ◌∷◌, ◌++◌, ℕ, ◌-◌, ◌+◌, length, take, map, Result, Ok, Err, refl, sym, ap, subst, ◌∙◌, append_assoc, arith}
+use Rattle.std.proofs.Common.{◌≡◌, Bool, true, false, IsErr, List, [], ◌∷◌, ◌++◌, ℕ, ◌-◌, length, take, map, Result, Ok, Err, refl, sym, ap, subst, ◌∙◌, append_assoc, arith}
 use Rattle.std.proofs.lemmas.List.{append-nil, length-append}
 use Rattle.std.proofs.Math.Seq.{take-append_seam}
 use Rattle.std.specs.Borrow.{Bor}
 use Rattle.std.specs.Fn.{Mut, CalledAt}
 use Rattle.rhai_meaning.specs.Paths.{Path}
-use Rattle.rhai_meaning.specs.Walk.{Node}
 use Rattle.rhai_walk.specs.declared.node.ASTNode.{ASTNode}
-use Rattle.rhai_walk.specs.Walking.{node_of, path_of, Asked, Agrees, Finished, Refused, Short, Walks, Enters}
+use Rattle.rhai_walk.specs.Walking.{node_of, Asked, Agrees, Finished, Refused, Short, Ends, Walks}
 
 map-append : {A B : Type 0} (h : A → B) (xs ys : List A) → map h (xs ++ ys) ≡ map h xs ++ map h ys
 map-append h [] ys = refl
 map-append h (x ∷ xs) ys = ap (λ zs. h x ∷ zs) (map-append h xs ys)
+
+-- all paths of a node by those of its parts
+abbrev pub below : ASTNode → List Path → List Path
+below n ps = (node_of n ∷ []) ∷ map (λ p. node_of n ∷ p) ps
 
 module _ {F : Type 0} (g : Mut F (Bor (List ASTNode) × Unit {0}) Bool) where
   agrees-then : (front : List ASTNode) (f m l : F) (ps qs : List Path) → Agrees g front f ps m → Agrees g front m qs l → Agrees g front f (ps ++ qs) l
@@ -108,10 +111,6 @@ module _ {F : Type 0} (g : Mut F (Bor (List ASTNode) × Unit {0}) Bool) where
 
   shown : (front : List ASTNode) (n : ASTNode) (f : F) (b : Bool) (m : F) → CalledAt g f (front ++ n ∷ []) b m → Asked g front f (node_of n ∷ []) b m
   shown front n f b m c = record { nodes = n ∷ []; are = refl; called = c }
-
-  -- all paths of a node by those of its parts
-  abbrev pub below : ASTNode → List Path → List Path
-  below n ps = (node_of n ∷ []) ∷ map (λ p. node_of n ∷ p) ps
 
   pub no_room : (front : List ASTNode) (n : ASTNode) (f : F) (ps : List Path) (last : F) (left : List ASTNode) → (last ≡ f) × (left ≡ front) → Short g front f (below n ps) last left
   no_room front n f ps last left e =
@@ -221,59 +220,59 @@ without_last front all left n size is sized taken =
     taken ∙ ap (λ k. take k all) l ∙ ap (take (length front)) is ∙ take-append_seam front (n ∷ [])
 
 module _ {F : Type 0} (g : Mut F (Bor (List ASTNode) × Unit {0}) Bool) where
-  pub by_err : {E : Type 0} (front : List ASTNode) (r : Result Bool E) (f : F) (ps : List Path) (last : F) (left : List ASTNode) → IsErr r → Short g front f ps last left → Walks g front r f ps last left
+  by_err : {E : Type 0} (front : List ASTNode) (r : Result Bool E) (f : F) (ps : List Path) (last : F) (left : List ASTNode) → IsErr r → Short g front f ps last left → Walks g front r f ps last left
   by_err front (Ok b) f ps last left e h = absurd (let z : false ≡ true = e in cc)
   by_err front (Err x) f ps last left e h = h
 
-  pub by_true : {E : Type 0} (front : List ASTNode) (b : Bool) (f : F) (ps : List Path) (last : F) (left : List ASTNode) → b ≡ true → Walks {E = E} g front (Ok b) f ps last left → Finished g front f ps last left
-  by_true {E} front b f ps last left e h = subst (λ (a : Bool). Walks {E = E} g front (Ok a) f ps last left) e h
+  by_true : (front : List ASTNode) (b : Bool) (f : F) (ps : List Path) (last : F) (left : List ASTNode) → b ≡ true → Ends g front b f ps last left → Finished g front f ps last left
+  by_true front b f ps last left e h = subst (λ (a : Bool). Ends g front a f ps last left) e h
 
-  pub by_false : {E : Type 0} (front : List ASTNode) (b : Bool) (f : F) (ps : List Path) (last : F) (left : List ASTNode) → b ≡ false → Walks {E = E} g front (Ok b) f ps last left → Refused g front f ps last left
-  by_false {E} front b f ps last left e h = subst (λ (a : Bool). Walks {E = E} g front (Ok a) f ps last left) e h
+  by_false : (front : List ASTNode) (b : Bool) (f : F) (ps : List Path) (last : F) (left : List ASTNode) → b ≡ false → Ends g front b f ps last left → Refused g front f ps last left
+  by_false front b f ps last left e h = subst (λ (a : Bool). Ends g front a f ps last left) e h
 
   -- two parts, the first of which ends the walk, or not
-  module _ {E : Type 0} (front : List ASTNode) (f : F) (ps qs : List Path) where
-    pub first_short : (r : Result Bool E) (last : F) (left : List ASTNode) → IsErr r → Short g front f ps last left → Walks g front r f (ps ++ qs) last left
+  module _ (front : List ASTNode) (f : F) (ps qs : List Path) where
+    pub first_short : {E : Type 0} (r : Result Bool E) (last : F) (left : List ASTNode) → IsErr r → Short g front f ps last left → Walks g front r f (ps ++ qs) last left
     first_short r last left e h = by_err front r f (ps ++ qs) last left e (short-stops g front f ps qs last left h)
 
-    pub first_refuses : (b : Bool) (last : F) (left : List ASTNode) → b ≡ false → Walks {E = E} g front (Ok b) f ps last left → Refused g front f (ps ++ qs) last left
-    first_refuses b last left e h = refused-stops g front f ps qs last left (by_false {E = E} front b f ps last left e h)
+    pub first_refuses : (b : Bool) (last : F) (left : List ASTNode) → b ≡ false → Ends g front b f ps last left → Refused g front f (ps ++ qs) last left
+    first_refuses b last left e h = refused-stops g front f ps qs last left (by_false front b f ps last left e h)
 
-    pub first_agrees : (b : Bool) (m : F) (here : List ASTNode) (r : Result Bool E) (last : F) (left : List ASTNode) → b ≡ true → Walks {E = E} g front (Ok b) f ps m here → Walks g here r m qs last left → Walks g front r f (ps ++ qs) last left
-    first_agrees b m here r last left e a h = walks-then g front r f ps m here qs last left (by_true {E = E} front b f ps m here e a) h
+    pub first_agrees : {E : Type 0} (b : Bool) (m : F) (here : List ASTNode) (r : Result Bool E) (last : F) (left : List ASTNode) → b ≡ true → Ends g front b f ps m here → Walks g here r m qs last left → Walks g front r f (ps ++ qs) last left
+    first_agrees b m here r last left e a h = walks-then g front r f ps m here qs last left (by_true front b f ps m here e a) h
 
   -- a node, and the walk below it
-  module _ {E : Type 0} (front : List ASTNode) (n : ASTNode) (f : F) (ps : List Path) where
-    pub enters_short : (r : Result Bool E) (last : F) (left : List ASTNode) → IsErr r → (last ≡ f) × (left ≡ front) → Walks g front r f (below n ps) last left
+  module _ (front : List ASTNode) (n : ASTNode) (f : F) (ps : List Path) where
+    pub enters_short : {E : Type 0} (r : Result Bool E) (last : F) (left : List ASTNode) → IsErr r → (last ≡ f) × (left ≡ front) → Walks g front r f (below n ps) last left
     enters_short r last left e h = by_err front r f (below n ps) last left e (no_room g front n f ps last left h)
 
     pub enters_refused : (b : Bool) (last : F) (left : List ASTNode) → b ≡ false → CalledAt g f (front ++ n ∷ []) b last × (left ≡ front ++ n ∷ []) → Refused g front f (below n ps) last left
-    enters_refused b last left e h = refused-at g front n f ps last left (subst (λ a. CalledAt g f (front ++ n ∷ []) a last × (left ≡ front ++ n ∷ [])) e h)
+    enters_refused b last left e h = refused-at g front n f ps last left (subst (λ (a : Bool). CalledAt g f (front ++ n ∷ []) a last × (left ≡ front ++ n ∷ [])) e h)
 
     module _ (b : Bool) (m : F) (here : List ASTNode) (agreed : b ≡ true) (entered : CalledAt g f (front ++ n ∷ []) b m × (here ≡ front ++ n ∷ [])) where
       shown_here : CalledAt g f (front ++ n ∷ []) true m × (here ≡ front ++ n ∷ [])
-      shown_here = subst (λ a. CalledAt g f (front ++ n ∷ []) a m × (here ≡ front ++ n ∷ [])) agreed entered
+      shown_here = subst (λ (a : Bool). CalledAt g f (front ++ n ∷ []) a m × (here ≡ front ++ n ∷ [])) agreed entered
 
-      pub parts_short : (r : Result Bool E) (last : F) (left : List ASTNode) → IsErr r → Short g here m ps last left → Walks g front r f (below n ps) last left
+      pub parts_short : {E : Type 0} (r : Result Bool E) (last : F) (left : List ASTNode) → IsErr r → Short g here m ps last left → Walks g front r f (below n ps) last left
       parts_short r last left e h = by_err front r f (below n ps) last left e (short-below g front n f m here ps last left shown_here h)
 
-      pub parts_refuse : (c : Bool) (last : F) (left : List ASTNode) → c ≡ false → Walks {E = E} g here (Ok c) m ps last left → Refused g front f (below n ps) last left
-      parts_refuse c last left e h = refused-below g front n f m here ps last left shown_here (by_false {E = E} here c m ps last left e h)
+      pub parts_refuse : (c : Bool) (last : F) (left : List ASTNode) → c ≡ false → Ends g here c m ps last left → Refused g front f (below n ps) last left
+      parts_refuse c last left e h = refused-below g front n f m here ps last left shown_here (by_false here c m ps last left e h)
 
-      pub parts_agree : (c : Bool) (last : F) (left popped : List ASTNode) (size : ℕ) → c ≡ true → Walks {E = E} g here (Ok c) m ps last left → size ≡ length left → popped ≡ take (size - 1) left → Finished g front f (below n ps) last popped
+      pub parts_agree : (c : Bool) (last : F) (left popped : List ASTNode) (size : ℕ) → c ≡ true → Ends g here c m ps last left → size ≡ length left → popped ≡ take (size - 1) left → Finished g front f (below n ps) last popped
       parts_agree c last left popped size e h sized taken =
-          let a = by_true {E = E} here c m ps last left e h in
+          let a = by_true here c m ps last left e h in
           finished-below g front n f m here ps last left popped shown_here a (without_last front left popped n size (a.restored ∙ entered.1) sized taken)
 
   -- a part of those that are left
-  module _ {E : Type 0} (front : List ASTNode) (f : F) (all : List Path) (here : List ASTNode) (now : F) (rest : List Path) (so_far : Partly g front f all here now rest) (ps qs : List Path) (are : rest ≡ ps ++ qs) where
-    pub next_short : (r : Result Bool E) (last : F) (left : List ASTNode) → IsErr r → Short g here now ps last left → Walks g front r f all last left
+  module _ (front : List ASTNode) (f : F) (all : List Path) (here : List ASTNode) (now : F) (rest : List Path) (so_far : Partly g front f all here now rest) (ps qs : List Path) (are : rest ≡ ps ++ qs) where
+    pub next_short : {E : Type 0} (r : Result Bool E) (last : F) (left : List ASTNode) → IsErr r → Short g here now ps last left → Walks g front r f all last left
     next_short r last left e h = by_err front r f all last left e (partly-short g front f all here now rest so_far ps qs are last left h)
 
-    pub next_refuses : (b : Bool) (last : F) (left : List ASTNode) → b ≡ false → Walks {E = E} g here (Ok b) now ps last left → Refused g front f all last left
-    next_refuses b last left e h = partly-refused g front f all here now rest so_far ps qs are last left (by_false {E = E} here b now ps last left e h)
+    pub next_refuses : (b : Bool) (last : F) (left : List ASTNode) → b ≡ false → Ends g here b now ps last left → Refused g front f all last left
+    next_refuses b last left e h = partly-refused g front f all here now rest so_far ps qs are last left (by_false here b now ps last left e h)
 
-    pub next_agrees : (b : Bool) (last : F) (left : List ASTNode) → b ≡ true → Walks {E = E} g here (Ok b) now ps last left → Partly g front f all left last qs
-    next_agrees b last left e h = partly-next g front f all here now rest so_far ps qs are last left (by_true {E = E} here b now ps last left e h)
+    pub next_agrees : (b : Bool) (last : F) (left : List ASTNode) → b ≡ true → Ends g here b now ps last left → Partly g front f all left last qs
+    next_agrees b last left e h = partly-next g front f all here now rest so_far ps qs are last left (by_true here b now ps last left e h)
 
 pub ruleset outcomes = (nothing, walks-then, refused-stops, short-stops, no_room, refused-at, finished-below, refused-below, short-below)

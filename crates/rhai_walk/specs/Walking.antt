@@ -60,9 +60,12 @@ module _ {F : Type 0} (g : Mut F (Bor (List ASTNode) × Unit {0}) Bool) (front :
     pub is_left : left ≡ front ++ nodes
 
   -- how a walk ends by its answer
+  abbrev pub Ends : Bool → F → List Path → F → List ASTNode → Type 0
+  Ends true f paths last left = Finished f paths last left
+  Ends false f paths last left = Refused f paths last left
+
   abbrev pub Walks : {E : Type 0} → Result Bool E → F → List Path → F → List ASTNode → Type 0
-  Walks (Ok true) f paths last left = Finished f paths last left
-  Walks (Ok false) f paths last left = Refused f paths last left
+  Walks (Ok answer) f paths last left = Ends answer f paths last left
   Walks (Err e) f paths last left = Short f paths last left
 
   -- going down to a node: it stands at the end of the path that is shown, which stays; for want of memory nothing changes

@@ -354,10 +354,26 @@ fn walk_table<'a, F: FnMut(&[ASTNode]) -> bool>(
     if !walk_cases(arms, &table.cases, path, on_node)? {
         return Ok(false);
     }
-    if !walk_ranges(arms, table.ranges.as_slice(), path, on_node)? {
+    walk_further(arms, table.ranges.as_slice(), table.def_case, path, on_node)
+}
+
+/// The arms of the ranges, then that of the default.
+#[cycle(walk)]
+fn walk_further<'a, F: FnMut(&[ASTNode]) -> bool>(
+    arms: &'a [BinaryExpr],
+    ranges: &[RangeCase],
+    default: Option<usize>,
+    path: &mut Vec<ASTNode<'a>>,
+    on_node: &mut F,
+) -> Result<bool, OutOfMemory>
+    requires { F.IsAlwaysCallable on_node.old }
+    ensures callable { F.IsAlwaysCallable on_node.new }
+    ensures walks { Walks F.FnMut path.old.items result on_node.old (paths_at_all arms.now (arms_of_ranges (map range_of ranges.now)) ++ paths_at_all arms.now (arm_of_default default)) on_node.new path.new.items }
+{
+    if !walk_ranges(arms, ranges, path, on_node)? {
         return Ok(false);
     }
-    walk_default(arms, table.def_case, path, on_node)
+    walk_default(arms, default, path, on_node)
 }
 
 #[cycle(walk)]

@@ -1,0 +1,46 @@
+-- Declarations that were sought and have no literal values, and the next one that has.
+use Rattle.std.proofs.Common.{◌≡◌, Bool, List, [], ◌∷◌, ◌++◌, Option, Some, None, refl, sym, ap, ◌∙◌, append_assoc}
+use Rattle.std.proofs.lemmas.List.{append-nil}
+use Rattle.rhai_tree.specs.declared.stmt.Stmt.{Stmt}
+use Rattle.rhai_reading.specs.Reading.{stmt_of, stmts_of}
+use Rattle.rhai_values.specs.Value.{Text, Value}
+use Rattle.rhai_script_queries.specs.Literals.{Comes, Item, Sought, found, literals_of, sought_as, sought_at, sought_in}
+
+found-append : (x : Text) (constant : Bool) (v : Option Value) (ss ts : List Sought) → found x constant v ++ literals_of ss ++ literals_of ts ≡ found x constant v ++ (literals_of ss ++ literals_of ts)
+found-append x constant v ss ts = append_assoc (found x constant v) (literals_of ss) (literals_of ts)
+
+literals-append : (ss ts : List Sought) → literals_of (ss ++ ts) ≡ literals_of ss ++ literals_of ts
+literals-append [] ts = refl
+literals-append (s ∷ ss) ts =
+    let here = found s.name s.constant s.value in
+    ap (λ ls. here ++ ls) (literals-append ss ts) ∙ sym (found-append s.name s.constant s.value ss ts)
+
+-- what stands before the rest has no literal values
+pub record Passed (all rest : List Sought) : Type 0 where
+  pub before : List Sought
+  pub are : all ≡ before ++ rest
+  pub none : literals_of before ≡ []
+
+pub passed-start : (all : List Sought) → Passed all all
+passed-start all = record { before = []; are = refl; none = refl }
+
+pub passed-end : (all rest : List Sought) → Passed all rest → rest ≡ [] → literals_of all ≡ []
+passed-end all rest p e = ap literals_of (p.are ∙ ap (λ ss. p.before ++ ss) e ∙ append-nil p.before) ∙ p.none
+
+-- the first statement of those that are left
+pub split : (constants variables : Bool) (ss : List Stmt) (s : Stmt) (rest : List Stmt) → ss ≡ s ∷ rest → sought_in constants variables (stmts_of ss) ≡ sought_at constants variables (stmt_of s) ++ sought_in constants variables (stmts_of rest)
+split constants variables ss s rest e = ap (λ (xs : List Stmt). sought_in constants variables (stmts_of xs)) e
+
+module _ (all now here rest : List Sought) (p : Passed all now) (are : now ≡ here ++ rest) where
+  pub passed-next : literals_of here ≡ [] → Passed all rest
+  passed-next e = record {
+    before = p.before ++ here;
+    are = p.are ∙ ap (λ ss. p.before ++ ss) are ∙ sym (append_assoc p.before here rest);
+    none = literals-append p.before here ∙ ap (λ ls. ls ++ literals_of here) p.none ∙ e;
+  }
+
+  pub passed-found : (x : Item) → here ≡ sought_as x ∷ [] → Comes all (sought_as x) rest
+  passed-found x e = (p.before, p.are ∙ ap (λ ss. p.before ++ ss) (are ∙ ap (λ ss. ss ++ rest) e), p.none)
+
+  pub passed-refused : ((s : Sought) × (here ≡ s ∷ [])) → (s : Sought) × Comes all s rest
+  passed-refused e = (e.0, (p.before, p.are ∙ ap (λ ss. p.before ++ ss) (are ∙ ap (λ ss. ss ++ rest) e.1), p.none))
