@@ -1,10 +1,13 @@
 -- Declarations that were sought and have no literal values, and the next one that has.
-use Rattle.std.proofs.Common.{◌≡◌, Bool, List, [], ◌∷◌, ◌++◌, Option, Some, None, refl, sym, ap, ◌∙◌, append_assoc}
+use Rattle.std.proofs.Common.{◌≡◌, Bool, true, false, if◌then◌else◌, List, [], ◌∷◌, ◌++◌, Option, Some, None, Result, Ok, Err, IsErr, refl, sym, ap, ◌∙◌, append_assoc}
 use Rattle.std.proofs.lemmas.List.{append-nil}
 use Rattle.rhai_tree.specs.declared.stmt.Stmt.{Stmt}
 use Rattle.rhai_reading.specs.Reading.{stmt_of, stmts_of}
+use Rattle.rhai_values.specs.Reading.{value_of}
 use Rattle.rhai_values.specs.Value.{Text, Value}
-use Rattle.rhai_script_queries.specs.Literals.{Comes, Item, Sought, found, literals_of, sought_as, sought_at, sought_in}
+use Rattle.rhai_meaning.specs.Constants.{literal_value}
+use Rattle.rhai_meaning.specs.Tree.{Expr, Var}
+use Rattle.rhai_script_queries.specs.Literals.{Comes, Item, Sought, found, literals_of, Tries, sought_as, sought_at, sought_in}
 
 found-append : (x : Text) (constant : Bool) (v : Option Value) (ss ts : List Sought) → found x constant v ++ literals_of ss ++ literals_of ts ≡ found x constant v ++ (literals_of ss ++ literals_of ts)
 found-append x constant v ss ts = append_assoc (found x constant v) (literals_of ss) (literals_of ts)
@@ -14,6 +17,32 @@ literals-append [] ts = refl
 literals-append (s ∷ ss) ts =
     let here = found s.name s.constant s.value in
     ap (λ ls. here ++ ls) (literals-append ss ts) ∙ sym (found-append s.name s.constant s.value ss ts)
+
+-- a declaration: one that is not wanted, and of a wanted one what was found
+module _ (constants variables constant exported : Bool) (x : Text) (e : Expr) (w : Bool) (wants : w ≡ (if constant then constants else variables)) where
+  abbrev sought : Option Value → Bool → List Sought
+  sought v b = if b then (record { name = x; constant = constant; value = v }) ∷ [] else []
+
+  at : (b : Bool) → w ≡ b → sought_at constants variables (Var constant exported x e) ≡ sought (literal_value e) b
+  at b h = ap (sought (literal_value e)) (sym wants ∙ h)
+
+  pub unwanted : w ≡ false → literals_of (sought_at constants variables (Var constant exported x e)) ≡ []
+  unwanted h = ap literals_of (at false h)
+
+  pub wanted_refused : w ≡ true → (s : Sought) × (sought_at constants variables (Var constant exported x e) ≡ s ∷ [])
+  wanted_refused h = (record { name = x; constant = constant; value = literal_value e }, at true h)
+
+  pub wanted_none : w ≡ true → None ≡ literal_value e → literals_of (sought_at constants variables (Var constant exported x e)) ≡ []
+  wanted_none h v = ap literals_of (at true h ∙ ap (λ (o : Option Value). sought o true) (sym v))
+
+  pub wanted_found : (i : Item) → w ≡ true → Some (value_of i.2) ≡ literal_value e → i.0.now ≡ x → i.1 ≡ constant → sought_at constants variables (Var constant exported x e) ≡ sought_as i ∷ []
+  wanted_found i h v n k =
+      let s : Text → Bool → List Sought = λ t b. (record { name = t; constant = b; value = Some (value_of i.2) }) ∷ [] in
+      at true h ∙ ap (λ (o : Option Value). sought o true) (sym v) ∙ ap (λ (t : Text). s t constant) (sym n) ∙ ap (λ (b : Bool). s i.0.now b) (sym k)
+
+pub tries_refused : {E : Type 0} (r : Result (Option Item) E) (here : List Sought) → IsErr r → ((s : Sought) × (here ≡ s ∷ [])) → Tries r here
+tries_refused (Ok o) here e h = absurd (let z : false ≡ true = e in cc)
+tries_refused (Err x) here e h = h
 
 -- what stands before the rest has no literal values
 pub record Passed (all rest : List Sought) : Type 0 where

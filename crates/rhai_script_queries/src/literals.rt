@@ -2,7 +2,7 @@
 
 #![tactic(auto, using(rhai_reading::specs::Reading::shapes))]
 
-ghost use Rattle.std.specs.Prelude.{◌≡◌};
+ghost use Rattle.std.specs.Prelude.{◌≡◌, if◌then◌else◌};
 ghost use Rattle.std.specs.Iterator.{item_count};
 ghost use Rattle.rhai_meaning.specs.Tree.{Var};
 ghost use Rattle.rhai_reading.specs.Reading.{expr_of, is_const, is_exported, stmt_of, stmts_of};
@@ -48,6 +48,17 @@ impl<'a> LiteralVariables<'a> {
         }
     }
 
+    /// Whether constants are wanted, or variables that are none.
+    fn wants(&self, constant: bool) -> bool
+        ensures { result ≡ (if constant then self.now.constants else self.now.variables) }
+    {
+        if constant {
+            self.constants
+        } else {
+            self.variables
+        }
+    }
+
     /// The variable of a `Var` of a wanted kind, where it has a literal value.
     fn literal_of(&self, stmt: &'a Stmt) -> Result<Option<Variable<'a>>, OutOfMemory>
         ensures { Tries result (sought_at self.now.constants self.now.variables (stmt_of stmt.now)) }
@@ -80,9 +91,8 @@ impl<'a> LiteralVariables<'a> {
     ) -> Result<Option<Variable<'a>>, OutOfMemory>
         ensures { Tries result (sought_at self.now.constants self.now.variables (Var (is_const options) (is_exported options) parts.now.0.name (expr_of parts.now.1))) }
     {
-        let constant = options.contains(ASTFlags::CONSTANT);
-        let wanted = if constant { self.constants } else { self.variables };
-        if !wanted {
+        let constant = declares_constant(options);
+        if !self.wants(constant) {
             return Ok(None);
         }
         match parts.1.get_literal_value(self.alloc)? {
@@ -90,6 +100,12 @@ impl<'a> LiteralVariables<'a> {
             None => Ok(None),
         }
     }
+}
+
+fn declares_constant(options: ASTFlags) -> bool
+    ensures { result ≡ is_const options }
+{
+    options.contains(ASTFlags::CONSTANT)
 }
 
 impl<'a> Iterator for LiteralVariables<'a> {

@@ -8,7 +8,6 @@ use rhai_ast::{FnAccess, ScriptFuncDef};
 use rhai_base::ImmutableString;
 use rhai_functions::{FnLib, FnLibIter};
 
-
 /// What a function of a script says of itself, lent.
 #[derive(Clone, Copy)]
 pub struct ScriptFnMetadata<'a> {

@@ -11,11 +11,10 @@ ghost use Rattle.rhai_script_queries.specs.Scripts.{WalksScript};
 ghost use Rattle.rhai_walk.specs.Walking.{Walks};
 
 use crate::{FnMetadataIter, LiteralVariables};
-use rhai_ast::{ASTNode, walk_statements};
 use rhai_base::OutOfMemory;
 use rhai_functions::{FnLib, FnLibIter, allocator_of};
 use rhai_script::AST;
-
+use rhai_walk::{ASTNode, walk_statements};
 
 /// What may be asked of a script.
 pub trait ScriptQueries {
@@ -45,7 +44,7 @@ impl ScriptQueries for AST {
         ensures callable { F.IsAlwaysCallable on_node.new }
         ensures walks { WalksScript F.FnMut result on_node.old self.now on_node.new }
     {
-        let lib = self.shared_lib();
+        let lib = &**self.shared_lib();
         let mut path = Vec::new(allocator_of(lib));
         if !walk_statements(self.statements(), &mut path, on_node)? {
             return Ok(false);

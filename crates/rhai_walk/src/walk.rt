@@ -11,9 +11,7 @@ ghost use Rattle.rhai_walk.specs.Walking.{Enters, Walks};
 
 use crate::ASTNode;
 use rhai_base::{Boxed, Ident, OutOfMemory, RangeCase};
-use rhai_tree::{
-    BinaryExpr, Cases, Expr, FlowControl, Stmt, SwitchBlock, SwitchCasesCollection,
-};
+use rhai_tree::{BinaryExpr, Cases, Expr, FlowControl, Stmt, SwitchBlock, SwitchCasesCollection};
 
 /// A tree over which one may walk.
 pub trait Walk {

@@ -60,10 +60,13 @@ fn a_tree_is_walked(rt: HostRuntime) -> Result<(), Fail> {
     let mut path = Vec::new(alloc);
 
     let mut deepest = 0;
-    let finished = statement.walk(&mut path, &mut |nodes: &[ASTNode]| {
-        deepest = nodes.len().max(deepest);
-        true // go on
-    })?;
+    let finished = statement.walk(
+        &mut path,
+        &mut |nodes: &[ASTNode]| {
+            deepest = nodes.len().max(deepest);
+            true // go on
+        },
+    )?;
     assert!(rt; finished && path.is_empty()); // all nodes were shown, and the path is as it was
     assert_eq!(rt; deepest, 3); // the loop, its `break`, and the 42
     Ok(())

@@ -54,8 +54,9 @@ fn is_walked(alloc: Global, row: &Walked) -> Result<bool, Unread> {
 
 fn has_paths(alloc: Global, script: &AST, wanted: &str) -> Result<bool, OutOfMemory> {
     let mut shown = String::new(alloc);
-    let finished =
-        script.walk(&mut |nodes: &[ASTNode]| write_path(alloc, &mut shown, nodes).is_ok())?;
+    let finished = script.walk(&mut |nodes: &[ASTNode]| write_path(
+        alloc, &mut shown, nodes,
+    ).is_ok())?;
     Ok(finished && shown.as_str() == wanted)
 }
 
@@ -186,7 +187,8 @@ fn are(texts: &[ImmutableString], wanted: &[&str]) -> bool {
 /// Whether constants are wanted, whether variables are, and which are there.
 type Found = (bool, bool, &'static [(&'static str, bool, INT)]);
 
-const DECLARED: &str = "const A = 42\nlet b = 123\nconst B = *(b, 42)\nconst C = 999\nb = +(42, 999)\nblock { const Z = 0; call print(Z) }\n";
+const DECLARED: &str =
+    "const A = 42\nlet b = 123\nconst B = *(b, 42)\nconst C = 999\nb = +(42, 999)\nblock { const Z = 0; call print(Z) }\n";
 
 const FOUND: [Found; 4] = [
     (true, false, &[("A", true, 42), ("C", true, 999)]),
@@ -224,9 +226,7 @@ fn is_next(found: &mut LiteralVariables, wanted: &(&str, bool, INT)) -> Result<b
     match found.next() {
         Some(item) => {
             let variable = item?;
-            Ok(variable.0 == name
-                && variable.1 == constant
-                && variable.2 == Dynamic::Int(value))
+            Ok(variable.0 == name && variable.1 == constant && variable.2 == Dynamic::Int(value))
         }
         None => Ok(false),
     }

@@ -24,8 +24,14 @@ const EXPRS: [Row; 20] = [
     ("{ a; noop }", "s1 s1e1 s1e1s3 s1e1s3e3 s1e1s6"),
     ("f(a, b)", "s1 s1e1 s1e1e3 s1e1e6"),
     ("Dot(a, p)", "s5 s5e1 s5e1e5 s5e1e8"),
-    ("Dot(a, m(b, c))", "s5 s5e1 s5e1e5 s5e1e8 s5e1e8e10 s5e1e8e13"),
-    ("Dot(a, Dot(p, q))", "s5 s5e1 s5e1e5 s5e1e8 s5e1e8e12 s5e1e8e15"),
+    (
+        "Dot(a, m(b, c))",
+        "s5 s5e1 s5e1e5 s5e1e8 s5e1e8e10 s5e1e8e13",
+    ),
+    (
+        "Dot(a, Dot(p, q))",
+        "s5 s5e1 s5e1e5 s5e1e8 s5e1e8e12 s5e1e8e15",
+    ),
     ("Index!(a, b)", "s8 s8e1 s8e1e8 s8e1e11"),
     ("and(a, b)", "s5 s5e1 s5e1e5 s5e1e8"),
     ("or(a, b)", "s4 s4e1 s4e1e4 s4e1e7"),
@@ -34,7 +40,10 @@ const EXPRS: [Row; 20] = [
 
 const STMTS: [Row; 20] = [
     ("noop", "s1"),
-    ("if a { b } else { c }", "s1 s1e4 s1s8 s1s8e8 s1s19 s1s19e19"),
+    (
+        "if a { b } else { c }",
+        "s1 s1e4 s1s8 s1s8e8 s1s19 s1s19e19",
+    ),
     (
         "switch a { 1: 0 1, 2: 1 | 5..8: 0 | default 2 | b => c, d => g, h => i, j => k }",
         "s1 s1e8 s1e49 s1e54 s1e57 s1e62 s1e57 s1e62 s1e49 s1e54 s1e65 s1e70",
@@ -79,9 +88,10 @@ fn is_walked(alloc: Global, row: &Row) -> Result<bool, Unread> {
 fn paths_of(alloc: Global, statement: &Stmt) -> Result<String, Unread> {
     let mut shown = String::new(alloc);
     let mut path = Vec::new(alloc);
-    let finished = statement.walk(&mut path, &mut |nodes: &[ASTNode]| {
-        write_path(alloc, &mut shown, nodes).is_ok()
-    })?;
+    let finished = statement.walk(
+        &mut path,
+        &mut |nodes: &[ASTNode]| { write_path(alloc, &mut shown, nodes).is_ok() },
+    )?;
     if finished && path.is_empty() {
         Ok(shown)
     } else {
@@ -90,11 +100,7 @@ fn paths_of(alloc: Global, statement: &Stmt) -> Result<String, Unread> {
 }
 
 /// Writes a path down, after a blank where others stand before it.
-pub fn write_path(
-    alloc: Global,
-    text: &mut String,
-    nodes: &[ASTNode],
-) -> Result<(), OutOfMemory> {
+pub fn write_path(alloc: Global, text: &mut String, nodes: &[ASTNode]) -> Result<(), OutOfMemory> {
     if !text.is_empty() {
         text.push(' ')?;
     }
@@ -135,11 +141,14 @@ fn is_stopped(
 ) -> Result<bool, OutOfMemory> {
     let mut calls = 0usize;
     let mut path = Vec::new(alloc);
-    let finished = statement.walk(&mut path, &mut |_: &[ASTNode]| {
-        let agrees = calls < before;
-        calls = calls.saturating_add(1);
-        agrees
-    })?;
+    let finished = statement.walk(
+        &mut path,
+        &mut |_: &[ASTNode]| {
+            let agrees = calls < before;
+            calls = calls.saturating_add(1);
+            agrees
+        },
+    )?;
     let mut left = String::new(alloc);
     write_path(alloc, &mut left, path.as_slice())?;
     Ok(!finished && calls == before.saturating_add(1) && left.as_str() == wanted)
@@ -159,9 +168,10 @@ fn a_walk_keeps_the_path_that_it_was_given(rt: HostRuntime) -> Result<(), Fail> 
 fn is_kept(alloc: Global, start: ASTNode, value: &Expr) -> Result<bool, OutOfMemory> {
     let mut shown = String::new(alloc);
     let mut path = vec![in alloc; start]?;
-    let finished = value.walk(&mut path, &mut |nodes: &[ASTNode]| {
-        write_path(alloc, &mut shown, nodes).is_ok()
-    })?;
+    let finished = value.walk(
+        &mut path,
+        &mut |nodes: &[ASTNode]| { write_path(alloc, &mut shown, nodes).is_ok() },
+    )?;
     Ok(finished && path.len() == 1 && shown.as_str() == "s1e9 s1e9e11 s1e9e14")
 }
 
@@ -171,10 +181,13 @@ fn a_walk_without_room_for_the_first_node(rt: HostRuntime) -> Result<(), Fail> {
     let statement = read_stmt(rt.alloc(), "let x = +(1, 2)")?;
     let mut calls = 0usize;
     let mut path = Vec::new(rt.alloc());
-    let walked = statement.walk(&mut path, &mut |_: &[ASTNode]| {
-        calls = calls.saturating_add(1);
-        true
-    });
+    let walked = statement.walk(
+        &mut path,
+        &mut |_: &[ASTNode]| {
+            calls = calls.saturating_add(1);
+            true
+        },
+    );
     match walked {
         Ok(finished) => assert!(rt; finished && calls == 4),
         Err(_) => assert!(rt; calls == 0),

@@ -367,11 +367,11 @@ pub walk_cases-loop-case-init : goal.walk_cases-loop-case-init
 walk_cases-loop-case-init g t c =
     let arms = c.args.arms.now in
     let cases = c.args.cases.now in
-    let left : c.into_iter-case-iterator.result ≡ cases = c.into_iter-case-iterator.ensures.into_iter_gives ∙ c.as_map-case-items.ensures in
+    let left : c.into_iter-case-iterator.result ≡ cases = c.into_iter-case-iterator.ensures.into_iter_gives.0 ∙ c.as_map-case-items.ensures in
     record {
       callable = c.requires;
       so_far = subst (λ (cs : List (Dynamic × CaseBlocksList)). Partly g.F.FnMut c.args.path.now.items c.args.on_node.now (cases_paths arms cases) c.args.path.now.items c.args.on_node.now (cases_paths arms cs))
-      (sym left) (partly-start g.F.FnMut c.args.path.now.items c.args.on_node.now (cases_paths arms cases));
+          (sym left) (partly-start g.F.FnMut c.args.path.now.items c.args.on_node.now (cases_paths arms cases));
     }
 
 pub walk_default-returns-in-Some-clause-walks : goal.walk_default-returns-in-Some-clause-walks

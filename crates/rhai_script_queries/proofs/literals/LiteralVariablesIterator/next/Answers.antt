@@ -1,0 +1,38 @@
+use Rattle.std.proofs.Common.{◌≡◌, List, [], ◌∷◌, ap, arith}
+use Rattle.std.proofs.lemmas.Grind.{common_steps}
+use Rattle.rhai_tree.specs.declared.stmt.Stmt.{Stmt}
+use Rattle.rhai_reading.specs.Reading.{stmt_of, stmts_of}
+use Rattle.rhai_script_queries.specs.Literals.{left_to, sought_at, sought_in}
+use Rattle.rhai_script_queries.proofs.Seeking.{passed-end, passed-found, passed-next, passed-refused, passed-start, split}
+use Rattle.rhai_script_queries.proofs.literals.LiteralVariablesIterator.next.Goals as goal
+
+pub loop-stmt-init : goal.loop-stmt-init
+loop-stmt-init c = passed-start (left_to c.args.self.now)
+
+pub loop-stmt-preserved : goal.loop-stmt-preserved
+loop-stmt-preserved c =
+    let now = c.loop-stmt.self in
+    let cut : now.statements.now ≡ c.in-Some.stmt.now ∷ c.in-Some.rest.now = grind (arith, common_steps) in
+    passed-next (left_to c.args.self.now) (left_to now) (sought_at now.constants now.variables (stmt_of c.in-Some.stmt.now)) (sought_in now.constants now.variables (stmts_of c.in-Some.rest.now)) c.loop-stmt.invariant
+    (split now.constants now.variables now.statements.now c.in-Some.stmt.now c.in-Some.rest.now cut) (rw c.in-Ok-None.field-0-is at c.in-Ok-None.ensures)
+
+pub returns-in-Ok-Some : goal.returns-in-Ok-Some
+returns-in-Ok-Some c =
+    let now = c.loop-stmt.self in
+    let cut : now.statements.now ≡ c.in-Some.stmt.now ∷ c.in-Some.rest.now = grind (arith, common_steps) in
+    passed-found (left_to c.args.self.now) (left_to now) (sought_at now.constants now.variables (stmt_of c.in-Some.stmt.now)) (sought_in now.constants now.variables (stmts_of c.in-Some.rest.now)) c.loop-stmt.invariant
+    (split now.constants now.variables now.statements.now c.in-Some.stmt.now c.in-Some.rest.now cut) c.in-Ok-Some.variable (rw c.in-Ok-Some.field-0-is at c.in-Ok-Some.ensures)
+
+pub returns-in-Err : goal.returns-in-Err
+returns-in-Err c =
+    let now = c.loop-stmt.self in
+    let cut : now.statements.now ≡ c.in-Some.stmt.now ∷ c.in-Some.rest.now = grind (arith, common_steps) in
+    passed-refused (left_to c.args.self.now) (left_to now) (sought_at now.constants now.variables (stmt_of c.in-Some.stmt.now)) (sought_in now.constants now.variables (stmts_of c.in-Some.rest.now)) c.loop-stmt.invariant
+    (split now.constants now.variables now.statements.now c.in-Some.stmt.now c.in-Some.rest.now cut) c.in-Err.ensures
+
+pub returns : goal.returns
+returns c =
+    let now = c.loop-stmt.self in
+    let none : now.statements.now ≡ [] = grind (arith, common_steps) in
+    let left : left_to now ≡ [] = ap (λ (ss : List Stmt). sought_in now.constants now.variables (stmts_of ss)) none in
+    (passed-end (left_to c.args.self.now) (left_to now) c.loop-stmt.invariant left, left)
