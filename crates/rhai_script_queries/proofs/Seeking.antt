@@ -1,6 +1,6 @@
 -- Declarations that were sought and have no literal values, and the next one that has.
-use Rattle.std.proofs.Common.{◌≡◌, Bool, true, false, if◌then◌else◌, List, [], ◌∷◌, ◌++◌, Option, Some, None, Result, Ok, Err, IsErr, refl, sym, ap, ◌∙◌, append_assoc}
-use Rattle.std.proofs.lemmas.List.{append-nil}
+use Rattle.std.proofs.Common.{◌≡◌, Bool, true, false, if◌then◌else◌, List, [], ◌∷◌, ◌++◌, Option, Some, None, Result, Ok, Err, IsErr, ◌<◌, length, refl, sym, ap, ◌∙◌, append_assoc, arith}
+use Rattle.std.proofs.lemmas.List.{append-nil, length-append}
 use Rattle.rhai_tree.specs.declared.stmt.Stmt.{Stmt}
 use Rattle.rhai_reading.specs.Reading.{stmt_of, stmts_of}
 use Rattle.rhai_values.specs.Reading.{value_of}
@@ -73,3 +73,6 @@ module _ (all now here rest : List Sought) (p : Passed all now) (are : now ≡ h
 
   pub passed-refused : ((s : Sought) × (here ≡ s ∷ [])) → (s : Sought) × Comes all s rest
   passed-refused e = (e.0, (p.before, p.are ∙ ap (λ ss. p.before ++ ss) (are ∙ ap (λ ss. ss ++ rest) e.1), p.none))
+
+pub fewer : (all rest : List Sought) (s : Sought) → Comes all s rest → length rest < length all
+fewer all rest s c = omega (arith, ap length c.1, length-append c.0 (s ∷ rest))

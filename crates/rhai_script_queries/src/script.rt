@@ -41,6 +41,7 @@ pub trait ScriptQueries {
 
 impl ScriptQueries for AST {
     fn walk<F: FnMut(&[ASTNode]) -> bool>(&self, on_node: &mut F) -> Result<bool, OutOfMemory>
+        requires { F.IsAlwaysCallable on_node.old }
         ensures callable { F.IsAlwaysCallable on_node.new }
         ensures walks { WalksScript F.FnMut result on_node.old self.now on_node.new }
     {

@@ -30,7 +30,7 @@ loop-function-preserved g c =
     record {
       callable = c.in_ok-walk_statements.ensures.callable;
       so_far = next_agrees g.F.FnMut c.args.path.now.items c.args.on_node.now all c.loop-function.path.items c.loop-function.on_node (bodies_paths c.loop-function.function-iterator) c.loop-function.invariant.so_far (stmts_paths (stmts_of f.body.block)) (bodies_paths c.next.new.self) (bodies-next c.loop-function.function-iterator c.next.new.self f left) _ c.walk_statements.new.on_node c.walk_statements.new.path.items c.if-not-branch.false
-      (rw (c.statements.ensures, c.deref.ensures) at c.in_ok-walk_statements.ensures.walks);
+          (rw (c.statements.ensures, c.deref.ensures) at c.in_ok-walk_statements.ensures.walks);
     }
 
 pub returns-clause-walks : goal.returns-clause-walks

@@ -14,8 +14,8 @@ returns-then-not-wants c =
     let wants : c.wants.result ≡ (if is_const c.args.options then self.constants else self.variables) = c.wants.ensures ∙ ap (λ (b : Bool). if b then self.constants else self.variables) c.declares_constant-constant.ensures in
     unwanted self.constants self.variables (is_const c.args.options) (is_exported c.args.options) c.args.parts.now.0.name (expr_of c.args.parts.now.1) c.wants.result wants c.if-not-wants.true
 
-pub returns-in_err-get_literal_value : goal.returns-in_err-get_literal_value
-returns-in_err-get_literal_value c =
+pub returns-in_err-value : goal.returns-in_err-value
+returns-in_err-value c =
     let self = c.args.self.now in
     let x = c.args.parts.now.0.name in
     let e = expr_of c.args.parts.now.1 in
@@ -29,7 +29,7 @@ returns-in-Some c =
     let x = c.args.parts.now.0.name in
     let e = expr_of c.args.parts.now.1 in
     let wants : c.wants.result ≡ (if is_const c.args.options then self.constants else self.variables) = c.wants.ensures ∙ ap (λ (b : Bool). if b then self.constants else self.variables) c.declares_constant-constant.ensures in
-    let is : Some (value_of c.in-Some.value) ≡ literal_value e = ap (option_map value_of) (sym c.in-Some.is) ∙ c.in_ok-get_literal_value.ensures.value in
+    let is : Some (value_of c.in-Some.value) ≡ literal_value e = ap (option_map value_of) (sym c.in-Some.is) ∙ c.in_ok-value.ensures.value in
     wanted_found self.constants self.variables (is_const c.args.options) (is_exported c.args.options) x e c.wants.result wants (c.as_str.result, c.declares_constant-constant.result, c.in-Some.value) c.if-not-wants.false is c.as_str.ensures c.declares_constant-constant.ensures
 
 pub returns-in-None : goal.returns-in-None
@@ -39,4 +39,4 @@ returns-in-None c =
     let e = expr_of c.args.parts.now.1 in
     let wants : c.wants.result ≡ (if is_const c.args.options then self.constants else self.variables) = c.wants.ensures ∙ ap (λ (b : Bool). if b then self.constants else self.variables) c.declares_constant-constant.ensures in
     wanted_none self.constants self.variables (is_const c.args.options) (is_exported c.args.options) x e c.wants.result wants c.if-not-wants.false
-    (ap (option_map value_of) (sym c.in-None.is) ∙ c.in_ok-get_literal_value.ensures.value)
+    (ap (option_map value_of) (sym c.in-None.is) ∙ c.in_ok-value.ensures.value)
