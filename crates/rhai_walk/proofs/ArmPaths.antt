@@ -1,5 +1,5 @@
 -- The paths of the arms that a table of a `switch` lists, item by item, for a loop.
-use Rattle.std.proofs.Common.{◌≡◌, ℕ, zero, suc, ◌+◌, ◌<◌, ◌≤◌, List, [], ◌∷◌, ◌++◌, None, Some, slice_get, length, get_or, map, drop, add-one, refl, sym, ap, ◌∙◌, append_assoc}
+use Rattle.std.proofs.Common.{◌≡◌, ℕ, zero, suc, ◌+◌, ◌<◌, ◌≤◌, List, [], ◌∷◌, ◌++◌, slice_get, length, get_or, map, drop, add-one, refl, sym, ap, ◌∙◌, append_assoc}
 use Rattle.std.proofs.lemmas.List.{append-nil, at_drop_all}
 use Rattle.std.proofs.Math.Seq.{drop-cons}
 use Rattle.rhai_base.specs.declared.range_case.RangeCase.{RangeCase}

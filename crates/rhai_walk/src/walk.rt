@@ -26,7 +26,7 @@ pub trait Walk {
     /// closure did, when the path ends at the node that was refused. When there is no room for a node on the
     /// path, the closure is not called for it, and the path ends at the node above it.
     ///
-    /// In rhai a walk answers a bool alone.
+    /// In rhai a walk answers a bool alone, and passes over the expression of a `break`.
     fn walk<'a, F: FnMut(&[ASTNode]) -> bool>(
         &'a self,
         path: &mut Vec<ASTNode<'a>>,
@@ -62,7 +62,6 @@ impl Walk for Stmt {
 }
 
 /// Goes down to a node and shows the path to it.
-#[tactic(auto, using(crate::proofs::Walking::outcomes))]
 fn enter<'a, F: FnMut(&[ASTNode]) -> bool>(
     node: ASTNode<'a>,
     path: &mut Vec<ASTNode<'a>>,
