@@ -274,3 +274,5 @@ module _ {F : Type 0} (g : Mut F (Bor (List ASTNode) × Unit {0}) Bool) where
 
     pub next_agrees : (b : Bool) (last : F) (left : List ASTNode) → b ≡ true → Ends g here b now ps last left → Partly g front f all left last qs
     next_agrees b last left e h = partly-next g front f all here now rest so_far ps qs are last left (by_true here b now ps last left e h)
+
+pub ruleset outcomes = (nothing, walks-then, refused-stops, short-stops, no_room, refused-at, finished-below, refused-below, short-below)

@@ -62,6 +62,7 @@ impl Walk for Stmt {
 }
 
 /// Goes down to a node and shows the path to it.
+#[tactic(auto, using(crate::proofs::Walking::outcomes))]
 fn enter<'a, F: FnMut(&[ASTNode]) -> bool>(
     node: ASTNode<'a>,
     path: &mut Vec<ASTNode<'a>>,
