@@ -165,7 +165,7 @@ fn a_walk_keeps_the_path_that_it_was_given(rt: HostRuntime) -> Result<(), Fail> 
     Ok(())
 }
 
-fn is_kept(alloc: Global, start: ASTNode, value: &Expr) -> Result<bool, OutOfMemory> {
+fn is_kept<'a>(alloc: Global, start: ASTNode<'a>, value: &'a Expr) -> Result<bool, OutOfMemory> {
     let mut shown = String::new(alloc);
     let mut path = vec![in alloc; start]?;
     let finished = value.walk(
