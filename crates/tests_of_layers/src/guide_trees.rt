@@ -1,8 +1,7 @@
 //! The pieces of docs/GUIDE.md on trees.
 
 use rhai_ast::{
-    ASTNode, Expr, ExprQueries, FlowControl, Literals, Stmt, StmtBlock, StmtQueries, Walk,
-    check_tree, is_plain,
+    Expr, ExprQueries, FlowControl, Literals, Stmt, StmtBlock, StmtQueries, check_tree, is_plain,
 };
 use rhai_base::{ASTFlags, Boxed, Dynamic, OutOfMemory, Position};
 use std::alloc::Global;
@@ -50,47 +49,5 @@ fn a_tree_is_asked(rt: HostRuntime) -> Result<(), Fail> {
     let answer = Expr::IntegerConstant(42, Position::NONE);
     assert!(rt; answer.is_constant() && answer.is_pure());
     assert_eq!(rt; answer.get_literal_value(alloc)?, Some(Dynamic::Int(42)));
-    Ok(())
-}
-
-#[test]
-fn a_tree_is_walked(rt: HostRuntime) -> Result<(), Fail> {
-    let alloc = rt.alloc();
-    let statement = endless(alloc)?;
-    let mut path = Vec::new(alloc);
-
-    let mut deepest = 0;
-    let finished = statement.walk(
-        &mut path,
-        &mut |nodes: &[ASTNode]| {
-            deepest = nodes.len().max(deepest);
-            true // go on
-        },
-    )?;
-    assert!(rt; finished && path.is_empty()); // all nodes were shown, and the path is as it was
-    assert_eq!(rt; deepest, 3); // the loop, its `break`, and the 42
-    Ok(())
-}
-
-/// Whether the last node of a path leaves a loop.
-fn is_leaving(nodes: &[ASTNode]) -> bool {
-    match nodes.last() {
-        Some(ASTNode::Stmt(statement)) => statement.is_control_flow_break(),
-        _ => false,
-    }
-}
-
-#[test]
-fn a_walk_is_stopped(rt: HostRuntime) -> Result<(), Fail> {
-    let alloc = rt.alloc();
-    let statement = endless(alloc)?;
-    let mut path = Vec::new(alloc);
-
-    let finished = statement.walk(&mut path, &mut |nodes: &[ASTNode]| !is_leaving(nodes))?;
-    assert!(rt; !finished); // it stopped at the `break`, which is the path's last node
-    if let Some(node) = path.last() {
-        assert_eq!(rt; node.position(), Position::new(1, 8));
-    }
-    assert_eq!(rt; path.len(), 2); // below the loop
     Ok(())
 }

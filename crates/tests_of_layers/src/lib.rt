@@ -12,8 +12,6 @@ mod guide;
 #[cfg(test)]
 mod guide_trees;
 #[cfg(test)]
-mod lends;
-#[cfg(test)]
 mod lists;
 #[cfg(test)]
 mod literals;
@@ -50,8 +48,6 @@ mod scripts_joined;
 #[cfg(test)]
 mod scripts_refused;
 #[cfg(test)]
-mod scripts_walked;
-#[cfg(test)]
 mod switches;
 #[cfg(test)]
 mod texts;
@@ -59,5 +55,3 @@ mod texts;
 mod tokens;
 #[cfg(test)]
 mod values;
-#[cfg(test)]
-mod walks;
