@@ -11,4 +11,5 @@ pub mod Operands
 pub mod Statements
 pub mod Exits
 pub mod Rounds
+pub mod Loops
 pub mod Whole

@@ -1,7 +1,7 @@
 -- How far the evaluator goes yet: all else has no meaning in what it runs.
 use Rattle.std.specs.Prelude.{Option}
 use Rattle.rhai_base.specs.Operators.{Operator}
-use Rattle.rhai_meaning.specs.Core.{Callee, OnOperator, Expr, Ill, Constant, InterpolatedString, ArrayOf, MapOf, Variable, ModuleVariable, ThisPtr, BlockExpr, FnCall, And, Or, Coalesce, Exprs, no_exprs, expr, Pairs, no_pairs, pair, Target, ToRoot, Deed, IllDeed, Noop, If, Assignment, Block, TryCatch, Evaluate, Leave, Stmt, Var, Does, Stmts, no_stmts, stmt, Script}
+use Rattle.rhai_meaning.specs.Core.{Callee, OnOperator, Expr, Ill, Constant, InterpolatedString, ArrayOf, MapOf, Variable, ModuleVariable, ThisPtr, BlockExpr, FnCall, And, Or, Coalesce, Exprs, no_exprs, expr, Pairs, no_pairs, pair, Target, ToRoot, Guard, Always, When, Deed, IllDeed, Noop, If, While, Do, Assignment, Block, TryCatch, Evaluate, Leave, Stmt, Var, Does, Stmts, no_stmts, stmt, Script}
 
 abbrev pub covered_call : Callee → Exprs → Expr
 covered_call (OnOperator op) es = FnCall (OnOperator op) es
@@ -35,9 +35,15 @@ abbrev mutual
   covered_pairs no_pairs = no_pairs
   covered_pairs (pair k e ps) = pair k (covered_expr e) (covered_pairs ps)
 
+  pub covered_guard : Guard → Guard
+  covered_guard Always = Always
+  covered_guard (When e) = When (covered_expr e)
+
   pub covered_deed : Deed → Deed
   covered_deed Noop = Noop
   covered_deed (If c a b) = If (covered_expr c) (covered_stmts a) (covered_stmts b)
+  covered_deed (While g b) = While (covered_guard g) (covered_stmts b)
+  covered_deed (Do negated e b) = Do negated (covered_expr e) (covered_stmts b)
   covered_deed (Assignment op t e) = covered_assignment op t (covered_expr e)
   covered_deed (Block ss) = Block (covered_stmts ss)
   covered_deed (TryCatch x a b) = TryCatch x (covered_stmts a) (covered_stmts b)

@@ -1,12 +1,12 @@
 -- What the evaluator's functions answer.
-use Rattle.std.specs.Prelude.{◌≡◌, Bool, true, false, List, map, Option, Some, None, Result, Ok, Err, IfSome, option_map}
+use Rattle.std.specs.Prelude.{◌≡◌, ℕ, Bool, true, false, List, map, Option, Some, None, Result, Ok, Err, IfSome, option_map}
 use Rattle.rhai_values.specs.Value.{Text, Value, UnitV, Fields, fields}
 use Rattle.rhai_values.specs.declared.dynamic.Dynamic.{Dynamic}
 use Rattle.rhai_values.specs.declared.dynamic.Dynamic.TheVariants as value
 use Rattle.rhai_values.specs.Reading.{value_of, members_of}
 use Rattle.rhai_meaning.specs.Tree as tree
-use Rattle.rhai_meaning.specs.Act.{HostCall, Answer, Act, Acts, Then, Scoped}
-use Rattle.rhai_meaning.specs.Control.{named, end_branch}
+use Rattle.rhai_meaning.specs.Act.{HostCall, Answer, Ended, ScriptCall, Act, Acts, Then, Invoke, Scoped}
+use Rattle.rhai_meaning.specs.Control.{counted, named, end_branch, round}
 use Rattle.rhai_meaning.specs.Core as core
 use Rattle.rhai_meaning.specs.Desugar.{call_of, core_expr, core_exprs, core_pairs, core_stmt, core_stmts, core_maybe, core_function}
 use Rattle.rhai_meaning.specs.Elements.{fields_of}
@@ -26,6 +26,7 @@ use Rattle.rhai_run.specs.declared.report.Stuck.TheVariants as why
 use Rattle.rhai_run.specs.Covered.{covered_expr, covered_exprs, covered_pairs, covered_deed, covered_stmt, covered_stmts}
 use Rattle.rhai_run.specs.Host.{host_of}
 use Rattle.rhai_run.specs.Runs.{Setting, setting_of, Task, Acting, Listing, Over, Leads, given}
+use Rattle.rhai_run.specs.Exits.{round_end}
 pub use Rattle.rhai_run.specs.Runs.{Runs}
 
 -- that of an evaluator, by what its host answers and its modules hold
@@ -138,6 +139,28 @@ RunsStmts here loop ss s r s' = (wanted : Bool) → Leads here (Listing (acts he
 abbrev pub RunsBlock : Setting → Bool → tree.Stmts → State → Result Dynamic Interrupt → State → Type 0
 RunsBlock here loop ss s r s' = (wanted : Bool) → Leads here (Acting (Scoped (acts here.world wanted (stmts_core loop ss) UnitV))) s r s' (λ v. given (wanted_value wanted (value_of v)))
 
+-- a round of a loop over a list, with its turn: the loop's value, or none where another round follows
+abbrev pub RunsRound : Setting → Acts → State → Result (Option Dynamic) Interrupt → State → Type 0
+RunsRound here p s r s' = Leads here (Acting (round p)) s r s' (λ o. Over (Ended (round_end o)))
+
+-- the list of a loop's body
+abbrev pub body_of : Setting → tree.Stmts → Acts
+body_of here ss = acts here.world false (stmts_core true ss) UnitV
+
+-- a list whose names stay, and whose value nothing uses
+abbrev pub RunsList : Setting → Acts → State → Result Dynamic Interrupt → State → Type 0
+RunsList here p s r s' = Leads here (Listing p) s r s' (λ v. given UnitV)
+
+-- a counter's name, whatever list comes after it
+abbrev pub RunsCounted : Setting → Option Text → ℕ → State → Result Unit Interrupt → State → Type 0
+RunsCounted here i k s r s' = (p : Acts) → Leads here (Listing (counted i k p)) s r s' (λ u. Listing p)
+
 -- the branch of a `try`, by its catch name and the caught value
 abbrev pub RunsCatch : Setting → core.Stmts → Option Text → Value → State → Result Dynamic Interrupt → State → Type 0
 RunsCatch here ss x v = Runs here (Acting (Then (Scoped (named x v (acts here.world false ss UnitV))) (λ e. end_branch v e)))
+
+-- ---- calls
+
+-- the call of a script's function has this value and this last `this`, whatever is done with them
+abbrev pub RunsInvoke : Setting → ScriptCall → State → Result (Dynamic × Option Dynamic) Interrupt → State → Type 0
+RunsInvoke here a s r s' = (next : Value → Option Value → Act) → Leads here (Acting (Invoke a next)) s r s' (λ p. Acting (next (value_of p.0) (option_map value_of p.1)))

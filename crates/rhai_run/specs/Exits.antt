@@ -1,12 +1,13 @@
 -- How parts of a run end by the ends of their parts.
-use Rattle.std.specs.Prelude.{◌≡◌, Option, Some, None, Result, Ok, Err}
+use Rattle.std.specs.Prelude.{◌≡◌, ℕ, ℤ, pos, ◌^◌, cond, nat_lt, Option, Some, None, Result, Ok, Err}
 use Rattle.rhai_values.specs.declared.dynamic.Dynamic.{Dynamic}
 use Rattle.rhai_values.specs.declared.dynamic.Dynamic.TheVariants as value
 use Rattle.rhai_values.specs.Reading.{value_of}
 use Rattle.rhai_meaning.specs.Act.{Exit, Again, Ending, Gives, Leaves}
 use Rattle.rhai_meaning.specs.Shape.{is_unit}
 use Rattle.rhai_run.specs.declared.plain.state.Interrupt.{Interrupt}
-use Rattle.rhai_run.specs.declared.plain.state.Interrupt.TheVariants.{Break, Continue, Throw}
+use Rattle.rhai_run.specs.declared.plain.state.Interrupt.TheVariants.{Return, Break, Continue, Throw, Stuck}
+use Rattle.rhai_run.specs.declared.report.Stuck.TheVariants as why
 use Rattle.rhai_run.specs.Runs.{Leaving, stop_of}
 use Rattle.std.specs.Prelude.{if◌then◌else◌}
 
@@ -35,3 +36,14 @@ round_of (Err x) = Err x
 abbrev pub round_end : Option Dynamic → Ending
 round_end None = Leaves Again
 round_end (Some v) = Gives (value_of v)
+
+-- the k-th count of a loop, as long as an integer holds it
+abbrev pub count_of : ℕ → Option ℤ
+count_of k = cond (nat_lt k (2 ^ 63)) (Some (pos k)) None
+
+-- how a script's function ends by its body
+abbrev pub function_end : Result Dynamic Interrupt → Result Dynamic Interrupt
+function_end (Err (Return v)) = Ok v
+function_end (Err (Break v)) = Err (Stuck why.WrongKind)
+function_end (Err Continue) = Err (Stuck why.WrongKind)
+function_end r = r

@@ -5,6 +5,7 @@ mod assigning;
 mod evaluator;
 mod exits;
 mod logic;
+mod loops;
 mod maps;
 mod operators;
 mod state;

@@ -2,6 +2,7 @@
 
 #![tactic(auto, using(rhai_reading::specs::Reading::shapes, rhai_values::specs::Reading::kinds))]
 
+ghost use Rattle.std.specs.Prelude.{◌≡◌, true};
 ghost use Rattle.rhai_reading.specs.Reading.{callee_of, expr_of, exprs_of, keys_of, maybe_of, pairs_of};
 ghost use Rattle.rhai_meaning.specs.Desugar.{core_expr};
 ghost use Rattle.rhai_meaning.specs.Tree.{MapOf};
@@ -35,6 +36,19 @@ pub struct Evaluator<'a, H> {
 }
 
 impl<'a, H: Host> Evaluator<'a, H> {
+    /// The same in the body of a loop.
+    pub fn inside_loop(&self) -> Evaluator<'a, H>
+        ensures { result ≡ record self.now { in_loop = true } }
+    {
+        Evaluator {
+            alloc: self.alloc,
+            info: self.info,
+            host: self.host,
+            functions: self.functions,
+            in_loop: true,
+        }
+    }
+
     #[cycle(evaluate)]
     pub fn expr(&self, state: &mut State, expr: &Expr) -> Result<Dynamic, Interrupt>
         ensures { RunsExpr (setting H.answers H.modules self.now) self.now.in_loop (expr_of expr.now) state.old result state.new }

@@ -12,7 +12,7 @@ ghost use Rattle.rhai_meaning.specs.Shape as shape;
 ghost use Rattle.rhai_meaning.specs.Tree as tree;
 ghost use Rattle.rhai_run.specs.Covered.{covered_stmt};
 ghost use Rattle.rhai_run.specs.Evaluating.{setting, stmts_core, RunsCatch, RunsLine};
-ghost use Rattle.rhai_run.specs.Exits.{body_end, branch_end, LeavesBy};
+ghost use Rattle.rhai_run.specs.Exits.{body_end, branch_end, round_of, LeavesBy};
 ghost use Rattle.rhai_run.specs.State.{named_in, store_of};
 
 use crate::plain::evaluator::Evaluator;
@@ -145,6 +145,17 @@ fn branch_ended(ended: Result<Dynamic, Interrupt>, caught: Dynamic) -> Result<Dy
     match ended {
         Ok(_) => Ok(Dynamic::Unit),
         Err(Interrupt::Throw(Dynamic::Unit)) => Err(Interrupt::Throw(caught)),
+        Err(interrupt) => Err(interrupt),
+    }
+}
+
+/// How a round ends by its body: with the loop's value, or `None` where another one follows.
+pub fn round_ended(ended: Result<Dynamic, Interrupt>) -> Result<Option<Dynamic>, Interrupt>
+    ensures { result ≡ round_of ended }
+{
+    match ended {
+        Ok(_) | Err(Interrupt::Continue) => Ok(None),
+        Err(Interrupt::Break(value)) => Ok(Some(value)),
         Err(interrupt) => Err(interrupt),
     }
 }

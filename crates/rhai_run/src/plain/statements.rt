@@ -39,9 +39,9 @@ impl<'a, H: Host> Evaluator<'a, H> {
             Stmt::Expr(expr) => self.expr(state, expr.get()),
             Stmt::BreakLoop(value, options, _) => self.break_loop(state, value, *options),
             Stmt::Return(value, options, _) => self.leave(state, value, *options),
+            Stmt::While(flow, _) => self.while_loop(state, flow.get()),
+            Stmt::Do(flow, options, _) => self.do_loop(state, flow.get(), *options),
             Stmt::Switch(_, _)
-            | Stmt::While(_, _)
-            | Stmt::Do(_, _, _)
             | Stmt::For(_, _)
             | Stmt::Import(_, _)
             | Stmt::Export(_, _)
