@@ -121,8 +121,7 @@ impl<'a, H: Host> Evaluator<'a, H> {
         let (name, counter, flow) = parts;
         declare_count(state, counter, count)?;
         state.declare(&name.name, false, item)?;
-        self.inside_loop()
-            .statements(state, flow.body.statements())
+        self.inside_loop().statements(state, flow.body.statements())
     }
 }
 

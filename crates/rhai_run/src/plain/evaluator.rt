@@ -9,9 +9,9 @@ ghost use Rattle.rhai_meaning.specs.Tree.{MapOf};
 ghost use Rattle.rhai_run.specs.Covered.{covered_expr};
 ghost use Rattle.rhai_run.specs.Evaluating.{setting, RunsCall, RunsCore, RunsExpr, RunsExprs, RunsMaybe, RunsMembers};
 
+use crate::plain::maps::{insert, is_map};
 use crate::plain::operators::operator_called;
 use crate::plain::state::{Interrupt, State};
-use crate::plain::maps::{insert, is_map};
 use crate::plain::values::{constant, joined_text};
 use crate::plain::variables::Root;
 use crate::{EngineInfo, Host, Stuck};
@@ -65,7 +65,11 @@ impl<'a, H: Host> Evaluator<'a, H> {
             }
             Expr::Array(items, _) => Ok(Dynamic::Array(self.exprs(state, items.as_slice())?)),
             Expr::Map(literal, _) => self.map(state, literal.get()),
-            Expr::Variable(variable, _, _) => self.variable(state, &variable.get().2, &variable.get().1),
+            Expr::Variable(variable, _, _) => self.variable(
+                state,
+                &variable.get().2,
+                &variable.get().1,
+            ),
             Expr::ThisPtr(_) => self.read(state, Root::This),
             Expr::Stmt(block) => self.block(state, block.get()),
             Expr::FnCall(call, _) => self.call(state, call.get()),
@@ -94,7 +98,11 @@ impl<'a, H: Host> Evaluator<'a, H> {
 
     /// The value of an expression, unit for none.
     #[cycle(evaluate)]
-    pub fn optional(&self, state: &mut State, expr: &Option<Boxed<Expr>>) -> Result<Dynamic, Interrupt>
+    pub fn optional(
+        &self,
+        state: &mut State,
+        expr: &Option<Boxed<Expr>>,
+    ) -> Result<Dynamic, Interrupt>
         ensures { RunsMaybe (setting H.answers H.modules self.now) self.now.in_loop (maybe_of expr.now) state.old result state.new }
     {
         match expr {

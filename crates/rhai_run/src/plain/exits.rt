@@ -121,7 +121,11 @@ fn catch_name(expr: &Expr) -> Option<Option<&ImmutableString>>
         Expr::Unit(_) => Some(None),
         Expr::Variable(variable, _, _) => {
             let (_, name, namespace) = variable.get();
-            if is_unqualified(namespace) { Some(Some(name)) } else { None }
+            if is_unqualified(namespace) {
+                Some(Some(name))
+            } else {
+                None
+            }
         }
         _ => None,
     }

@@ -112,12 +112,7 @@ impl<'a, H: Host> Evaluator<'a, H> {
         }
     }
 
-    fn write_this(
-        &self,
-        state: &mut State,
-        must: bool,
-        value: Dynamic,
-    ) -> Result<(), Interrupt>
+    fn write_this(&self, state: &mut State, must: bool, value: Dynamic) -> Result<(), Interrupt>
         ensures { Leads (setting H.answers H.modules self.now) (Acting (Write must OfThis (value_of value))) state.old result state.new (λ u. given UnitV) }
     {
         if state.this.is_none() {
@@ -162,7 +157,11 @@ pub fn root_of(expr: &Expr) -> Option<Root<'_>>
     match expr {
         Expr::Variable(variable, _, _) => {
             let (_, name, namespace) = variable.get();
-            if is_unqualified(namespace) { Some(Root::Name(name)) } else { None }
+            if is_unqualified(namespace) {
+                Some(Root::Name(name))
+            } else {
+                None
+            }
         }
         Expr::ThisPtr(_) => Some(Root::This),
         _ => None,
