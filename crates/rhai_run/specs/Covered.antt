@@ -1,7 +1,7 @@
 -- How far the evaluator goes yet: all else has no meaning in what it runs.
 use Rattle.std.specs.Prelude.{Option}
 use Rattle.rhai_base.specs.Operators.{Operator}
-use Rattle.rhai_meaning.specs.Core.{Callee, OnOperator, Expr, Ill, Constant, InterpolatedString, ArrayOf, MapOf, Variable, ModuleVariable, ThisPtr, BlockExpr, FnCall, And, Or, Coalesce, Exprs, no_exprs, expr, Pairs, no_pairs, pair, Target, ToRoot, Guard, Always, When, Deed, IllDeed, Noop, If, While, Do, Assignment, Block, TryCatch, Evaluate, Leave, Stmt, Var, Does, Stmts, no_stmts, stmt, Script}
+use Rattle.rhai_meaning.specs.Core.{Callee, OnOperator, Expr, Ill, Constant, InterpolatedString, ArrayOf, MapOf, Variable, ModuleVariable, ThisPtr, BlockExpr, FnCall, And, Or, Coalesce, Exprs, no_exprs, expr, Pairs, no_pairs, pair, Target, ToRoot, Guard, Always, When, Arms, no_arms, arm, Deed, IllDeed, Noop, If, While, Do, Assignment, Block, TryCatch, Evaluate, Leave, Stmt, Var, Does, Stmts, no_stmts, stmt, Script}
 
 abbrev pub covered_call : Callee → Exprs → Expr
 covered_call (OnOperator op) es = FnCall (OnOperator op) es
@@ -38,6 +38,10 @@ abbrev mutual
   pub covered_guard : Guard → Guard
   covered_guard Always = Always
   covered_guard (When e) = When (covered_expr e)
+
+  pub covered_arms : Arms → Arms
+  covered_arms no_arms = no_arms
+  covered_arms (arm c a as') = arm (covered_expr c) (covered_expr a) (covered_arms as')
 
   pub covered_deed : Deed → Deed
   covered_deed Noop = Noop

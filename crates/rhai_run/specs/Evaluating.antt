@@ -6,12 +6,12 @@ use Rattle.rhai_values.specs.declared.dynamic.Dynamic.TheVariants as value
 use Rattle.rhai_values.specs.Reading.{value_of, members_of}
 use Rattle.rhai_meaning.specs.Tree as tree
 use Rattle.rhai_meaning.specs.Act.{HostCall, Answer, Ended, ScriptCall, Act, Acts, Then, Invoke, Scoped}
-use Rattle.rhai_meaning.specs.Control.{counted, named, end_branch, round}
+use Rattle.rhai_meaning.specs.Control.{ArmActs, counted, named, end_branch, round, try_arm}
 use Rattle.rhai_meaning.specs.Core as core
-use Rattle.rhai_meaning.specs.Desugar.{call_of, core_expr, core_exprs, core_pairs, core_stmt, core_stmts, core_maybe, core_function}
+use Rattle.rhai_meaning.specs.Desugar.{call_of, core_arms, core_expr, core_exprs, core_pairs, core_stmt, core_stmts, core_maybe, core_function}
 use Rattle.rhai_meaning.specs.Elements.{fields_of}
 use Rattle.rhai_meaning.specs.Host.{ModuleValue}
-use Rattle.rhai_meaning.specs.Meaning.{act, acts, both, either, first_some, deed, line, wanted_value, with_args, with_pairs}
+use Rattle.rhai_meaning.specs.Meaning.{act, acts, arm_acts, both, either, first_some, deed, line, wanted_value, with_args, with_pairs}
 use Rattle.rhai_meaning.specs.Run.{world_of}
 use Rattle.rhai_meaning.specs.Shape.{is_unit}
 use Rattle.rhai_functions.specs.FnLib.{functions_of}
@@ -23,7 +23,7 @@ use Rattle.rhai_run.specs.declared.plain.state.State.{State}
 use Rattle.rhai_run.specs.declared.report.RunEnd.{RunEnd}
 use Rattle.rhai_run.specs.declared.report.RunEnd.TheVariants as ended
 use Rattle.rhai_run.specs.declared.report.Stuck.TheVariants as why
-use Rattle.rhai_run.specs.Covered.{covered_expr, covered_exprs, covered_pairs, covered_deed, covered_stmt, covered_stmts}
+use Rattle.rhai_run.specs.Covered.{covered_arms, covered_expr, covered_exprs, covered_pairs, covered_deed, covered_stmt, covered_stmts}
 use Rattle.rhai_run.specs.Host.{host_of}
 use Rattle.rhai_run.specs.Runs.{Setting, setting_of, Task, Acting, Listing, Over, Leads, given}
 use Rattle.rhai_run.specs.Exits.{round_end}
@@ -142,6 +142,19 @@ RunsBlock here loop ss s r s' = (wanted : Bool) → Leads here (Acting (Scoped (
 -- a round of a loop over a list, with its turn: the loop's value, or none where another round follows
 abbrev pub RunsRound : Setting → Acts → State → Result (Option Dynamic) Interrupt → State → Type 0
 RunsRound here p s r s' = Leads here (Acting (round p)) s r s' (λ o. Over (Ended (round_end o)))
+
+-- the arms of a `switch`
+abbrev pub arms_here : Setting → Bool → tree.Arms → List ArmActs
+arms_here here loop as' = arm_acts here.world (covered_arms (core_arms loop as'))
+
+-- the answer of an arm, or what comes next
+abbrev pub arm_then : Act → Option Dynamic → Task
+arm_then next None = Acting next
+arm_then next (Some v) = given (value_of v)
+
+-- an arm is tried, whatever comes after it
+abbrev pub RunsArm : Setting → Option ArmActs → State → Result (Option Dynamic) Interrupt → State → Type 0
+RunsArm here a s r s' = (next : Act) → Leads here (Acting (try_arm a next)) s r s' (λ o. arm_then next o)
 
 -- the list of a loop's body
 abbrev pub body_of : Setting → tree.Stmts → Acts
