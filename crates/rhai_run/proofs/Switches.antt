@@ -18,6 +18,15 @@ use Rattle.rhai_run.specs.Evaluating.{arms_here, arm_then, expr_core, or_stuck, 
 use Rattle.rhai_run.specs.Runs.{Setting, Task, Acting, Goes, Stops, Leads, Runs, given}
 use Rattle.rhai_run.proofs.Goes.{gives, goes_on, goes_as, goes_then, stops_then, leads_then, value_goes, value_stops, if_goes, if_stops}
 
+-- ---- ranges
+
+-- the places of the ranges that hold a value, from the first on
+pub holding : (r : SwitchRange) (rs : List SwitchRange) (v : Value) → holds r.range v ≡ true → ranges_with (r ∷ rs) v ≡ r.arm ∷ ranges_with rs v
+holding r rs v h = ap (λ b. cond b (r.arm ∷ ranges_with rs v) (ranges_with rs v)) h
+
+pub not_holding : (r : SwitchRange) (rs : List SwitchRange) (v : Value) → holds r.range v ≡ false → ranges_with (r ∷ rs) v ≡ ranges_with rs v
+not_holding r rs v h = ap (λ b. cond b (r.arm ∷ ranges_with rs v) (ranges_with rs v)) h
+
 module _ (here : Setting) (loop : Bool) where
   abbrev arm_of : BinaryExpr → ArmActs
   arm_of b = record { guard = act here.world (expr_core loop (expr_of b.lhs)); answer = act here.world (expr_core loop (expr_of b.rhs)) }
@@ -100,11 +109,30 @@ module _ (here : Setting) (loop : Bool) where
     pub default_runs : (i : ℕ) (b : BinaryExpr) (s s1 : State) (r : Result Dynamic Interrupt) → Some b ≡ slice_get bs i → RunsExpr here loop (expr_of b.rhs) s r s1 → Runs here (Acting (default_of (arm_list bs) (Some i))) s r s1
     default_runs i b s s1 r h q = leads_then here s1 r (λ v. given (value_of v)) (goes_as here _ _ s (ap (λ a. Acting (answer_of a)) (arm_at bs i ∙ ap (option_map arm_of) (sym h)))) q
 
-  -- ---- ranges
+module _ (here : Setting) (loop : Bool) (bs : List BinaryExpr) where
+  -- the ranges before the rest hold the value nowhere, or their arms answer nothing
+  pub record RangesAt (v : Value) (ranges rest : List SwitchRange) (s s' : State) : Type 0 where
+    pub so : (default : Act) → Goes here (Acting (first_arm (arm_list here loop bs) (ranges_with ranges v) default)) s (Acting (first_arm (arm_list here loop bs) (ranges_with rest v) default)) s'
 
-  -- the places of the ranges that hold a value, from the first on
-  pub holding : (r : SwitchRange) (rs : List SwitchRange) (v : Value) → holds r.range v ≡ true → ranges_with (r ∷ rs) v ≡ r.arm ∷ ranges_with rs v
-  holding r rs v h = ap (λ b. cond b (r.arm ∷ ranges_with rs v) (ranges_with rs v)) h
+  pub ranges_start : (v : Value) (ranges : List SwitchRange) (s : State) → RangesAt v ranges ranges s s
+  ranges_start v ranges s = record { so = λ default. goes_on here _ s }
 
-  pub not_holding : (r : SwitchRange) (rs : List SwitchRange) (v : Value) → holds r.range v ≡ false → ranges_with (r ∷ rs) v ≡ ranges_with rs v
-  not_holding r rs v h = ap (λ b. cond b (r.arm ∷ ranges_with rs v) (ranges_with rs v)) h
+  module _ (v : Value) (ranges rest after : List SwitchRange) (r : SwitchRange) (s s1 : State) (h : rest ≡ r ∷ after) (at : RangesAt v ranges rest s s1) where
+    pub ranges_skip : holds r.range v ≡ false → RangesAt v ranges after s s1
+    ranges_skip f = record { so = λ default. goes_then here (at.so default) (goes_as here _ _ s1 (ap (λ l. Acting (first_arm (arm_list here loop bs) l default)) (ap (λ l. ranges_with l v) h ∙ not_holding r after v f))) }
+
+    module _ (s2 : State) (t : holds r.range v ≡ true) where
+      range_here : (default : Act) → Goes here (Acting (first_arm (arm_list here loop bs) (ranges_with ranges v) default)) s (Acting (try_arm (slice_get (arm_list here loop bs) r.arm) (first_arm (arm_list here loop bs) (ranges_with after v) default))) s1
+      range_here default = goes_then here (at.so default) (goes_as here _ _ s1 (ap (λ l. Acting (first_arm (arm_list here loop bs) l default)) (ap (λ l. ranges_with l v) h ∙ holding r after v t)))
+
+      pub ranges_stops : (x : Interrupt) → RunsArm here (slice_get (arm_list here loop bs) r.arm) s1 (Err x) s2 → (default : Act) → Stops here (Acting (first_arm (arm_list here loop bs) (ranges_with ranges v) default)) s x s2
+      ranges_stops x q default = stops_then here s2 x (range_here default) (q _)
+
+      pub ranges_ends : (w : Dynamic) → RunsArm here (slice_get (arm_list here loop bs) r.arm) s1 (Ok (Some w)) s2 → (default : Act) → Goes here (Acting (first_arm (arm_list here loop bs) (ranges_with ranges v) default)) s (given (value_of w)) s2
+      ranges_ends w q default = goes_then here (range_here default) (q _)
+
+      pub ranges_next : RunsArm here (slice_get (arm_list here loop bs) r.arm) s1 (Ok None) s2 → RangesAt v ranges after s s2
+      ranges_next q = record { so = λ default. goes_then here (range_here default) (q _) }
+
+  pub ranges_end : (v : Value) (ranges rest : List SwitchRange) (s s1 : State) → rest ≡ [] → RangesAt v ranges rest s s1 → (default : Act) → Goes here (Acting (first_arm (arm_list here loop bs) (ranges_with ranges v) default)) s (Acting default) s1
+  ranges_end v ranges rest s s1 h at default = goes_then here (at.so default) (goes_as here _ _ s1 (ap (λ l. Acting (first_arm (arm_list here loop bs) (ranges_with l v) default)) h))

@@ -6,7 +6,7 @@ use Rattle.rhai_values.specs.declared.dynamic.Dynamic.TheVariants as value
 use Rattle.rhai_values.specs.Reading.{value_of, members_of}
 use Rattle.rhai_meaning.specs.Tree as tree
 use Rattle.rhai_meaning.specs.Act.{HostCall, Answer, Ended, ScriptCall, Act, Acts, Then, Invoke, Scoped}
-use Rattle.rhai_meaning.specs.Control.{ArmActs, counted, named, end_branch, round, try_arm}
+use Rattle.rhai_meaning.specs.Control.{ArmActs, counted, first_arm, named, end_branch, round, try_arm}
 use Rattle.rhai_meaning.specs.Core as core
 use Rattle.rhai_meaning.specs.Desugar.{call_of, core_arms, core_expr, core_exprs, core_pairs, core_stmt, core_stmts, core_maybe, core_function}
 use Rattle.rhai_meaning.specs.Elements.{fields_of}
@@ -155,6 +155,10 @@ arm_then next (Some v) = given (value_of v)
 -- an arm is tried, whatever comes after it
 abbrev pub RunsArm : Setting → Option ArmActs → State → Result (Option Dynamic) Interrupt → State → Type 0
 RunsArm here a s r s' = (next : Act) → Leads here (Acting (try_arm a next)) s r s' (λ o. arm_then next o)
+
+-- the arms at these places are tried in turn, whatever the default is
+abbrev pub RunsFirstArm : Setting → List ArmActs → List ℕ → State → Result (Option Dynamic) Interrupt → State → Type 0
+RunsFirstArm here arms places s r s' = (default : Act) → Leads here (Acting (first_arm arms places default)) s r s' (λ o. arm_then default o)
 
 -- the list of a loop's body
 abbrev pub body_of : Setting → tree.Stmts → Acts
