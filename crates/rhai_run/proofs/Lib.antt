@@ -1,4 +1,6 @@
 pub mod Values
+pub mod Forms
+pub mod Texts
 pub mod Scopes
 pub mod Unbound
 pub mod Callees
@@ -12,4 +14,8 @@ pub mod Statements
 pub mod Exits
 pub mod Rounds
 pub mod Loops
+pub mod Counted
+pub mod Switches
+pub mod Invoked
+pub mod Words
 pub mod Whole

@@ -49,7 +49,7 @@ impl<'a, H: Host> Evaluator<'a, H> {
         root: Root,
         value: Dynamic,
     ) -> Result<Dynamic, Interrupt>
-        ensures { let here = setting H.answers H.modules self.now in Runs here (Acting (chains.assign_root here.world (operator_of op.now.op) (value_of value) (root_meant root))) state.old result state.new }
+        ensures { let here = setting H.answers H.modules self.now in Runs here (Acting (chains.assign_root here.world (operator_of op.now.op) (value_of value) (root_meant root.entry))) state.old result state.new }
     {
         let written = match assigning_operator(op) {
             Some(token) => {

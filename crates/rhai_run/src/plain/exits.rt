@@ -81,7 +81,7 @@ impl<'a, H: Host> Evaluator<'a, H> {
         caught: Dynamic,
         branch: &StmtBlock,
     ) -> Result<Dynamic, Interrupt>
-        ensures { RunsCatch (setting H.answers H.modules self.now) (stmts_core self.now.in_loop (stmts_of branch.now.block)) (option_copied name) (value_of caught) state.old result state.new }
+        ensures { RunsCatch (setting H.answers H.modules self.now) (stmts_core self.now.in_loop (stmts_of branch.now.block)) (option_copied name.entry) (value_of caught) state.old result state.new }
     {
         let names = state.scope.len();
         declare_caught(state, name, &caught)?;
@@ -170,7 +170,7 @@ fn declare_caught(
     name: Option<&ImmutableString>,
     caught: &Dynamic,
 ) -> Result<(), AllocError>
-    ensures store { OnOk result (store_of state.new ≡ named_in (option_copied name) (value_of caught.now) (store_of state.old)) }
+    ensures store { OnOk result (store_of state.new ≡ named_in (option_copied name.entry) (value_of caught.now) (store_of state.old)) }
     ensures turns { OnOk result (state.new.turns ≡ state.old.turns) }
 {
     if let Some(name) = name {

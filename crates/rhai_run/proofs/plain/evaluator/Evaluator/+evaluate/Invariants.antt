@@ -28,20 +28,20 @@ invariant-first_some-loop-operand g l = OperandsAt (setting g.H.Host.answers g.H
 abbrev pub invariant-statements-loop-statement : goal.invariant-statements-loop-statement
 invariant-statements-loop-statement g l = StmtsAt (setting g.H.Host.answers g.H.Host.modules l.self) l.self.in_loop l.statements (drop l.statement-index l.statements) l.initial.state l.value l.state
 
-abbrev pub invariant-endless-loop : goal.invariant-endless-loop
-invariant-endless-loop g l = let here = setting g.H.Host.answers g.H.Host.modules l.self in LoopAt here (round (body_of here (stmts_of l.body.block))) l.initial.state l.state
+abbrev pub invariant-endless-loop-value : goal.invariant-endless-loop-value
+invariant-endless-loop-value g l = let here = setting g.H.Host.answers g.H.Host.modules l.self in LoopAt here (round (body_of here (stmts_of l.body.block))) l.initial.state l.state
 
-abbrev pub decreases-endless-loop : goal.decreases-endless-loop
-decreases-endless-loop g l = l.state.turns
+abbrev pub decreases-endless-loop-value : goal.decreases-endless-loop-value
+decreases-endless-loop-value g l = l.state.turns
 
-abbrev pub invariant-guarded-loop : goal.invariant-guarded-loop
-invariant-guarded-loop g l = let here = setting g.H.Host.answers g.H.Host.modules l.self in LoopAt here (guarded_round here (expr_core l.self.in_loop (expr_of l.guard)) (body_of here (stmts_of l.body.block))) l.initial.state l.state
+abbrev pub invariant-guarded-loop-state : goal.invariant-guarded-loop-state
+invariant-guarded-loop-state g l = let here = setting g.H.Host.answers g.H.Host.modules l.self in LoopAt here (guarded_round here (expr_core l.self.in_loop (expr_of l.guard)) (body_of here (stmts_of l.body.block))) l.initial.state l.state
 
-abbrev pub decreases-guarded-loop : goal.decreases-guarded-loop
-decreases-guarded-loop g l = l.state.turns
+abbrev pub decreases-guarded-loop-state : goal.decreases-guarded-loop-state
+decreases-guarded-loop-state g l = l.state.turns
 
-abbrev pub invariant-repeated-loop : goal.invariant-repeated-loop
-invariant-repeated-loop g l = let here = setting g.H.Host.answers g.H.Host.modules l.self in LoopAt here (do_round here l.until (expr_core l.self.in_loop (expr_of l.flow.expr)) (body_of here (stmts_of l.flow.body.block))) l.initial.state l.state
+abbrev pub invariant-repeated-loop-value : goal.invariant-repeated-loop-value
+invariant-repeated-loop-value g l = let here = setting g.H.Host.answers g.H.Host.modules l.self in LoopAt here (do_round here l.until (expr_core l.self.in_loop (expr_of l.flow.expr)) (body_of here (stmts_of l.flow.body.block))) l.initial.state l.state
 
-abbrev pub decreases-repeated-loop : goal.decreases-repeated-loop
-decreases-repeated-loop g l = l.state.turns
+abbrev pub decreases-repeated-loop-value : goal.decreases-repeated-loop-value
+decreases-repeated-loop-value g l = l.state.turns
