@@ -1,5 +1,6 @@
 pub mod Values
 pub mod Forms
+pub mod Assigning
 pub mod Texts
 pub mod Scopes
 pub mod Unbound
@@ -10,6 +11,7 @@ pub mod Variables
 pub mod Keys
 pub mod Maps
 pub mod Operands
+pub mod Nodes
 pub mod Statements
 pub mod Exits
 pub mod Rounds
