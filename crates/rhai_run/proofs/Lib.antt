@@ -11,8 +11,8 @@ pub mod Variables
 pub mod Keys
 pub mod Maps
 pub mod Operands
-pub mod Nodes
 pub mod Statements
+pub mod Nodes
 pub mod Exits
 pub mod Rounds
 pub mod Loops
