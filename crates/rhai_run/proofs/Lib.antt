@@ -8,6 +8,7 @@ pub mod Callees
 pub mod Covered
 pub mod Goes
 pub mod Variables
+pub mod Roots
 pub mod Keys
 pub mod Maps
 pub mod Operands

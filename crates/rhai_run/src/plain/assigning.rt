@@ -51,14 +51,14 @@ impl<'a, H: Host> Evaluator<'a, H> {
     ) -> Result<Dynamic, Interrupt>
         ensures { let here = setting H.answers H.modules self.now in Runs here (Acting (chains.assign_root here.world (operator_of op.now.op) (value_of value) (root_meant root.entry))) state.old result state.new }
     {
-        let written = match assigning_operator(op) {
+        match assigning_operator(op) {
             Some(token) => {
                 let old = self.read(state, root)?;
-                self.assigned(state, token, old, value)?
+                let written = self.assigned(state, token, old, value)?;
+                self.write(state, true, root, written)?;
             }
-            None => value,
-        };
-        self.write(state, true, root, written)?;
+            None => self.write(state, true, root, value)?,
+        }
         Ok(Dynamic::Unit)
     }
 
