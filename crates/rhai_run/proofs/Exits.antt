@@ -26,7 +26,6 @@ use Rattle.rhai_run.specs.Runs.{Setting, Task, Acting, Listing, Over, Within, Le
 use Rattle.rhai_run.specs.State.{named_in, store_of}
 use Rattle.rhai_run.proofs.Goes.{goes_then, goes_as, gives, leads_then, stops_by, stops_then, halted_then, ending_goes, scoped_leads, value_goes, value_stops, line_leads, line_stops, named_goes, Cut}
 use Rattle.rhai_run.proofs.Statements.{ill_line}
-use Rattle.rhai_run.proofs.Values.{is_unit-other}
 
 module _ (here : Setting) where
   -- the value is evaluated, and leaves
@@ -144,13 +143,3 @@ module _ (here : Setting) where
       pub try_catches : (v : Dynamic) (s2 : State) (r : Result Dynamic Interrupt) → Ok (Some v) ≡ body_end ended → RunsCatch here (stmts_core loop b) x (value_of v) s1 r s2 → RunsLine here try_line s r s2
       try_catches v s2 r f k =
           subst (λ l. RunsLine here l s r s2) (try_is (Some x) h) (λ next. line_leads here _ next s s2 r (leads_then here s2 r (λ u. given (value_of u)) (try_body (Ok (Some v)) f) k))
-
--- a branch that does not throw unit
-pub branch_other : (x : Interrupt) (caught : Dynamic) → (x ≡ Throw value.Unit → ⊥) → Err x ≡ branch_end (Err x) caught
-branch_other (Throw v) caught h = ap (λ b. Err (Throw (if b then caught else v))) (sym (is_unit-other v (λ e. h (ap Throw e))))
-branch_other NoMemory caught h = refl
-branch_other (Return v) caught h = refl
-branch_other (Break v) caught h = refl
-branch_other Continue caught h = refl
-branch_other (Stuck f) caught h = refl
-branch_other OutOfTurns caught h = refl

@@ -17,25 +17,23 @@ use Rattle.rhai_run.specs.declared.plain.state.State.{State}
 use Rattle.rhai_run.specs.Operators.{StandsFor}
 use Rattle.rhai_run.specs.Runs.{Setting, Acting, Goes, Stops, Leads, Runs, given}
 use Rattle.rhai_run.specs.State.{store_of}
-use Rattle.rhai_run.proofs.Goes.{goes_as, goes_then, stops_then, value_goes, value_stops}
+use Rattle.rhai_run.proofs.Goes.{goes_as, goes_then, leads_then, stops_then, value_goes, value_stops}
+
+-- a write's answer
+pub unit_value : (here : Setting) (a : Act) (s s1 : State) → Goes here (Acting a) s (given UnitV) s1 → Goes here (Acting a) s (given (value_of value.Unit)) s1
+unit_value here a s s1 q = goes_then here q (record { turns = omega arith; runs = λ d le. ap (λ u. At (Ended (Gives u)) (store_of s1) s1.turns) (sym value_of-Unit) })
 
 module _ (here : Setting) (o : Option Operator) (v : Dynamic) (r : act.Root) where
   abbrev whole : Act
   whole = assign_root here.world o (value_of v) r
-
-  ends_unit : (s s1 : State) → Goes here (Acting whole) s (given UnitV) s1 → Goes here (Acting whole) s (given (value_of value.Unit)) s1
-  ends_unit s s1 q = goes_then here q (record { turns = omega arith; runs = λ d le. ap (λ u. At (Ended (Gives u)) (store_of s1) s1.turns) (sym value_of-Unit) })
 
   -- `=`
   module _ (h : StandsFor None o) (s s1 : State) where
     plain : Goes here (Acting whole) s (Acting (Write true r (value_of v))) s
     plain = goes_as here _ _ s (ap (λ p. Acting (assign_root here.world p (value_of v) r)) (sym h))
 
-    pub plain_stops : (x : Interrupt) → Stops here (Acting (Write true r (value_of v))) s x s1 → Stops here (Acting whole) s x s1
-    plain_stops x q = stops_then here s1 x plain q
-
-    pub plain_goes : Goes here (Acting (Write true r (value_of v))) s (given UnitV) s1 → Goes here (Acting whole) s (given (value_of value.Unit)) s1
-    plain_goes q = ends_unit s s1 (goes_then here plain q)
+    pub plain_runs : (x : Result Dynamic Interrupt) → Runs here (Acting (Write true r (value_of v))) s x s1 → Runs here (Acting whole) s x s1
+    plain_runs x q = leads_then here s1 x (λ u. given (value_of u)) plain q
 
   -- `op=`
   module _ (t : Token) (h : StandsFor (Some t) o) (s : State) where
@@ -56,8 +54,5 @@ module _ (here : Setting) (o : Option Operator) (v : Dynamic) (r : act.Root) whe
         by_written : Goes here (Acting whole) s (Acting (Write true r (value_of w))) s2
         by_written = goes_then here by_value (value_goes here (λ x. Write true r x) (k h.0 h.1))
 
-        pub written_stops : (x : Interrupt) → Stops here (Acting (Write true r (value_of w))) s2 x s3 → Stops here (Acting whole) s x s3
-        written_stops x l = stops_then here s3 x by_written l
-
-        pub written_goes : Goes here (Acting (Write true r (value_of w))) s2 (given UnitV) s3 → Goes here (Acting whole) s (given (value_of value.Unit)) s3
-        written_goes l = ends_unit s s3 (goes_then here by_written l)
+        pub written_runs : (x : Result Dynamic Interrupt) → Runs here (Acting (Write true r (value_of w))) s2 x s3 → Runs here (Acting whole) s x s3
+        written_runs x l = leads_then here s3 x (λ u. given (value_of u)) by_written l
