@@ -9,15 +9,13 @@ use Rattle.rhai_values.specs.Value.{Text, Value, UnitV, BoolV, IntV, CharV, Text
 use Rattle.rhai_meaning.specs.Act.{Act}
 use Rattle.rhai_meaning.specs.ActForms.{throw}
 use Rattle.rhai_meaning.specs.Chains.{ask_for, index, or_throw, set_by_host, set_element, set_index}
-use Rattle.rhai_meaning.specs.Elements.{element, entry, character, bit}
+use Rattle.rhai_meaning.specs.Elements.{element, character, bit}
 use Rattle.rhai_meaning.specs.Places as places
-use Rattle.rhai_meaning.specs.Places.{Place, Current, part, without_place}
+use Rattle.rhai_meaning.specs.Places.{Place, Current, inside, part, without_place}
 use Rattle.rhai_places.specs.declared.places.PlaceKey.TheVariants.{AtIndex, AtEntry}
 use Rattle.rhai_places.specs.declared.steps.Indexed.TheVariants as indexed
 use Rattle.rhai_places.specs.declared.steps.IndexTarget.TheVariants as target
-use Rattle.rhai_places.specs.declared.standing.Part.{Part}
-use Rattle.rhai_places.specs.declared.standing.Part.TheVariants.{Stored}
-use Rattle.rhai_places.specs.Reading.{part_value}
+use Rattle.rhai_places.specs.Reading.{or_unit}
 use Rattle.rhai_places.specs.Indexing.{goes_on, writes, IsIndexed, IsIndexTarget}
 
 -- ---- kinds
@@ -188,8 +186,8 @@ asks_missing i c next = refl
 
 -- ---- parts
 
-pub part_of_array : (vs : List Dynamic) (n : ℤ) (w : Bor Dynamic) → option_map value_of (option_copied (Some w)) ≡ element (values (map value_of vs)) n → IsIndexed (value_of (dynamic.Array vs)) (value_of (dynamic.Int n)) (indexed.Part (AtIndex n) (Stored w))
-part_of_array vs n w h c next = (λ j. index c (value_of-Array vs j) (value_of-Int n j) next) ∙ ap (λ o. or_throw (codes "array bounds") (option_map (part c (places.AtIndex n)) o) next) (sym h)
+pub part_of_array : (vs : List Dynamic) (n : ℤ) (w : Bor Dynamic) → option_map value_of (option_copied (Some w)) ≡ element (values (map value_of vs)) n → IsIndexed (value_of (dynamic.Array vs)) (value_of (dynamic.Int n)) (indexed.Part (AtIndex n))
+part_of_array vs n w h c next = (λ j. index c (value_of-Array vs j) (value_of-Int n j) next) ∙ ap (λ o. or_throw (codes "array bounds") (option_map (part c (places.AtIndex n)) o) next) (sym h) ∙ ap (λ o. next (part c (places.AtIndex n) (or_unit o))) h ∙ ap (λ v. next (part c (places.AtIndex n) (or_unit (inside v (places.AtIndex n))))) (sym (value_of-Array vs))
 
 pub out_of_array : (vs : List Dynamic) (n : ℤ) (t : Bor Text) → t.now ≡ codes "array bounds" → None ≡ element (values (map value_of vs)) n → IsIndexed (value_of (dynamic.Array vs)) (value_of (dynamic.Int n)) (indexed.Throws t)
 out_of_array vs n t k h c next = (λ j. index c (value_of-Array vs j) (value_of-Int n j) next) ∙ ap (λ o. or_throw (codes "array bounds") (option_map (part c (places.AtIndex n)) o) next) (sym h) ∙ ap throw (sym k)
@@ -206,8 +204,8 @@ bit_of_int m n b h c next = (λ j. index c (value_of-Int m j) (value_of-Int n j)
 pub out_of_int : (m n : ℤ) (t : Bor Text) → t.now ≡ codes "bit bounds" → None ≡ bit m n → IsIndexed (value_of (dynamic.Int m)) (value_of (dynamic.Int n)) (indexed.Throws t)
 out_of_int m n t k h c next = (λ j. index c (value_of-Int m j) (value_of-Int n j) next) ∙ ap (λ o. or_throw (codes "bit bounds") (option_map without_place o) next) (sym h) ∙ ap throw (sym k)
 
-pub entry_of_map : (es : List (Text × Dynamic)) (k : Text) (w : Part) → part_value w ≡ entry (fields (members_of es)) k → IsIndexed (value_of (dynamic.Map es)) (value_of (dynamic.Str k)) (indexed.Part (AtEntry k) w)
-entry_of_map es k w h c next = (λ j. index c (value_of-Map es j) (value_of-Str k j) next) ∙ ap (λ v. next (part c (places.AtEntry k) v)) (sym h)
+pub entry_of_map : (es : List (Text × Dynamic)) (k : Text) → IsIndexed (value_of (dynamic.Map es)) (value_of (dynamic.Str k)) (indexed.Part (AtEntry k))
+entry_of_map es k c next = (λ j. index c (value_of-Map es j) (value_of-Str k j) next) ∙ ap (λ v. next (part c (places.AtEntry k) (or_unit (inside v (places.AtEntry k))))) (sym (value_of-Map es))
 
 -- ---- writes
 

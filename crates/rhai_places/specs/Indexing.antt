@@ -5,16 +5,16 @@ use Rattle.rhai_values.specs.Value.{Value}
 use Rattle.rhai_meaning.specs.Act.{Act}
 use Rattle.rhai_meaning.specs.ActForms.{throw}
 use Rattle.rhai_meaning.specs.Chains.{ask_for, index, set_by_host, set_index}
-use Rattle.rhai_meaning.specs.Places.{Place, Current, part, under, without_place, write_place}
+use Rattle.rhai_meaning.specs.Places.{Place, Current, inside, part, under, without_place, write_place}
 use Rattle.rhai_places.specs.declared.steps.Indexed.{Indexed}
 use Rattle.rhai_places.specs.declared.steps.Indexed.TheVariants as indexed
 use Rattle.rhai_places.specs.declared.steps.IndexTarget.{IndexTarget}
 use Rattle.rhai_places.specs.declared.steps.IndexTarget.TheVariants as target
-use Rattle.rhai_places.specs.Reading.{key_meant, part_value}
+use Rattle.rhai_places.specs.Reading.{key_meant, or_unit}
 
 -- how a chain goes on from a current value and its index
 abbrev pub goes_on : Current → Value → Indexed → (Current → Act) → Act
-goes_on c v (indexed.Part k w) next = next (part c (key_meant k) (part_value w))
+goes_on c v (indexed.Part k) next = next (part c (key_meant k) (or_unit (inside v (key_meant k))))
 goes_on c v (indexed.Value w) next = next (without_place (value_of w))
 goes_on c v (indexed.Throws t) next = throw t.now
 goes_on c v (indexed.AsksHost i) next = ask_for (codes "index$get$") v (value_of i ∷ []) next

@@ -1,4 +1,5 @@
 -- The keys and the values that the declared ones stand for.
+use Rattle.std.specs.Prelude.{Option, Some, None}
 use Rattle.rhai_values.specs.Reading.{value_of}
 use Rattle.rhai_values.specs.Value.{Value, UnitV}
 use Rattle.rhai_meaning.specs.Places as places
@@ -10,6 +11,11 @@ use Rattle.rhai_places.specs.declared.places.PlaceKey.TheVariants.{AtIndex, AtEn
 abbrev pub key_meant : PlaceKey → places.PlaceKey
 key_meant (AtIndex i) = places.AtIndex i
 key_meant (AtEntry k) = places.AtEntry k
+
+-- what stands at a place, or unit
+abbrev pub or_unit : Option Value → Value
+or_unit None = UnitV
+or_unit (Some v) = v
 
 abbrev pub part_value : Part → Value
 part_value (Stored v) = value_of v.now

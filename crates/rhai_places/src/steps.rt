@@ -9,16 +9,15 @@ ghost use Rattle.rhai_places.specs.Indexing.{IsIndexed, IsIndexTarget};
 ghost use Rattle.rhai_places.specs.Reading.{part_value};
 
 use crate::elements::{bit, character, element};
-use crate::members::entry;
 use crate::standing::Part;
 use crate::places::PlaceKey;
-use rhai_base::{Dynamic, INT, ImmutableString, Seq, StringMap};
+use rhai_base::{Dynamic, INT};
 
 /// What a value has at an index.
 #[derive(Debug, Drop)]
-pub enum Indexed<'a> {
-    /// A part that stands at a key.
-    Part(PlaceKey, Part<'a>),
+pub enum Indexed {
+    /// The part at a key.
+    Part(PlaceKey),
     /// A value without a place.
     Value(Dynamic),
     /// The text that is thrown.
@@ -28,7 +27,7 @@ pub enum Indexed<'a> {
 }
 
 /// What a value has at an index: an element, a character or a bit in bounds, an entry; the host is asked for all else.
-pub fn index<'a>(part: Part<'a>, index: Dynamic) -> Indexed<'a>
+pub fn index(part: Part, index: Dynamic) -> Indexed
     ensures { IsIndexed (part_value part.entry) (value_of index) result }
 {
     match part {
@@ -37,35 +36,35 @@ pub fn index<'a>(part: Part<'a>, index: Dynamic) -> Indexed<'a>
     }
 }
 
-fn index_value<'a>(value: &'a Dynamic, index: Dynamic) -> Indexed<'a>
+fn index_value(value: &Dynamic, index: Dynamic) -> Indexed
     ensures { IsIndexed (value_of value.now) (value_of index) result }
 {
     match value {
-        Dynamic::Array(items) => index_items(items, index),
-        Dynamic::Str(text) => index_text(text, index),
+        Dynamic::Array(items) => index_items(items.as_slice(), index),
+        Dynamic::Str(text) => index_text(text.as_str(), index),
         Dynamic::Int(number) => index_bits(*number, index),
-        Dynamic::Map(members) => index_members(members, index),
+        Dynamic::Map(_) => index_members(index),
         _ => Indexed::AsksHost(index),
     }
 }
 
-fn index_items<'a>(items: &'a Seq<Dynamic>, index: Dynamic) -> Indexed<'a>
+fn index_items(items: &[Dynamic], index: Dynamic) -> Indexed
     ensures { IsIndexed (value_of (kind.Array items.now)) (value_of index) result }
 {
     match index {
-        Dynamic::Int(place) => match element(items.as_slice(), place) {
-            Some(item) => Indexed::Part(PlaceKey::AtIndex(place), Part::Stored(item)),
+        Dynamic::Int(place) => match element(items, place) {
+            Some(_) => Indexed::Part(PlaceKey::AtIndex(place)),
             None => Indexed::Throws("array bounds"),
         },
         other => Indexed::AsksHost(other),
     }
 }
 
-fn index_text<'a>(text: &ImmutableString, index: Dynamic) -> Indexed<'a>
+fn index_text(text: &str, index: Dynamic) -> Indexed
     ensures { IsIndexed (value_of (kind.Str text.now)) (value_of index) result }
 {
     match index {
-        Dynamic::Int(place) => match character(text.as_str(), place) {
+        Dynamic::Int(place) => match character(text, place) {
             Some(found) => Indexed::Value(Dynamic::Char(found)),
             None => Indexed::Throws("text bounds"),
         },
@@ -73,7 +72,7 @@ fn index_text<'a>(text: &ImmutableString, index: Dynamic) -> Indexed<'a>
     }
 }
 
-fn index_bits<'a>(number: INT, index: Dynamic) -> Indexed<'a>
+fn index_bits(number: INT, index: Dynamic) -> Indexed
     ensures { IsIndexed (value_of (kind.Int number)) (value_of index) result }
 {
     match index {
@@ -85,14 +84,12 @@ fn index_bits<'a>(number: INT, index: Dynamic) -> Indexed<'a>
     }
 }
 
-fn index_members<'a>(members: &'a StringMap<Dynamic>, index: Dynamic) -> Indexed<'a>
-    ensures { IsIndexed (value_of (kind.Map members.now)) (value_of index) result }
+/// The same for every map.
+fn index_members(index: Dynamic) -> Indexed
+    ensures { (es : _) → IsIndexed (value_of (kind.Map es)) (value_of index) result }
 {
     match index {
-        Dynamic::Str(key) => {
-            let member = entry(members, &key);
-            Indexed::Part(PlaceKey::AtEntry(key), member)
-        }
+        Dynamic::Str(key) => Indexed::Part(PlaceKey::AtEntry(key)),
         other => Indexed::AsksHost(other),
     }
 }
@@ -123,7 +120,7 @@ fn value_target(value: &Dynamic, index: Dynamic) -> IndexTarget
 {
     match value {
         Dynamic::Array(items) => element_target(items.as_slice(), index),
-        Dynamic::Map(members) => entry_target(members, index),
+        Dynamic::Map(_) => entry_target(index),
         _ => IndexTarget::AsksHost(index),
     }
 }
@@ -140,8 +137,9 @@ fn element_target(items: &[Dynamic], index: Dynamic) -> IndexTarget
     }
 }
 
-fn entry_target(members: &StringMap<Dynamic>, index: Dynamic) -> IndexTarget
-    ensures { IsIndexTarget (value_of (kind.Map members.now)) (value_of index) result }
+/// The same for every map.
+fn entry_target(index: Dynamic) -> IndexTarget
+    ensures { (es : _) → IsIndexTarget (value_of (kind.Map es)) (value_of index) result }
 {
     match index {
         Dynamic::Str(key) => IndexTarget::Part(PlaceKey::AtEntry(key)),
