@@ -11,4 +11,7 @@ mod table;
 
 pub use check::check_tree;
 pub use fault::TreeFault;
+pub use map_keys::test_keys;
 pub use plain::is_plain;
+pub use shape::{is_formed, is_left_side, is_rest};
+pub use table::is_table;

@@ -11,8 +11,9 @@ ghost use Rattle.rhai_reading.specs.Reading.{arms_of, expr_of, expressions_of, t
 use rhai_base::RangeCase;
 use rhai_tree::{BinaryExpr, Cases, Expr, SwitchCasesCollection};
 
+/// Whether the table is one that `SwitchCasesCollection::new` takes.
 #[tactic(auto, using(rhai_reading::specs::Reading::shapes, crate::proofs::TableTests::is_table_by_parts))]
-pub(crate) fn is_table(table: &SwitchCasesCollection) -> bool
+pub fn is_table(table: &SwitchCasesCollection) -> bool
     ensures { result ≡ shape.is_table (arms_of (expressions_of table.now)) (table_of table.now) }
 {
     let arms = table.expressions.as_slice();
