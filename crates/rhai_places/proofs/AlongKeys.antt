@@ -55,7 +55,7 @@ no_entry (range_inclusive_case a b) h k = ap (λ w. inside w (AtEntry k)) (value
 pub inside-no_map : (v : Dynamic) (k : Text) → ((es : List (Text × Dynamic)) → v ≡ dynamic.Map es → ⊥) → inside (value_of v) (AtEntry k) ≡ None
 inside-no_map v k h = no_entry (dynamic_cases v) h k
 
-unit_is_whole : (j : PlaceKey) → inside UnitV j ≡ None
+pub unit_is_whole : (j : PlaceKey) → inside UnitV j ≡ None
 unit_is_whole (AtIndex i) = refl
 unit_is_whole (AtEntry k) = refl
 
@@ -196,4 +196,4 @@ module _ (es : List (Text × Dynamic)) (k : Text) (ks : List PlaceKey) (w : Valu
   pub entry_added : (x : Dynamic) → value_of x ≡ w → length ks ≡ 0 → with_along members (AtEntry k ∷ ks) w ≡ Some (MapV (fields (members_of (insert_at es k x))))
   entry_added x v e = entry_after (entry (fields (members_of es)) k) (Some w) refl (ends_there (entry (fields (members_of es)) k) w ks e) ∙ ap (λ u. Some (MapV (with_entry (fields (members_of es)) k u))) (sym v) ∙ ap (λ fs. Some (MapV fs)) (with_entry-insert es k x)
 
-pub ruleset along_keys = (along_step, along_stop, along_unit, with_along_stop, inside-no_array, inside-no_map)
+pub ruleset along_keys = (unit_is_whole, along_step, along_stop, along_unit, with_along_stop, inside-no_array, inside-no_map)

@@ -44,6 +44,18 @@ pub fn inside<'a>(value: &'a Dynamic, key: &PlaceKey) -> Option<Part<'a>>
     }
 }
 
+impl<'a> Part<'a> {
+    /// Its part at a key, if it has such parts.
+    pub fn inside(self, key: &PlaceKey) -> Option<Part<'a>>
+        ensures { option_map part_value result ≡ model.inside (part_value self.entry) (key_meant key.now) }
+    {
+        match self {
+            Part::Stored(value) => inside(value, key),
+            Part::Missing => None,
+        }
+    }
+}
+
 /// The part along keys, if they lead on from part to part.
 pub fn along<'a>(value: &'a Dynamic, keys: &[PlaceKey]) -> Option<Part<'a>>
     ensures { option_map part_value result ≡ model.along (value_of value.now) (map key_meant keys.now) }
