@@ -92,3 +92,59 @@ searched_found x es rest front e i p h n k = record { front = front; back = p.ba
 
 pub searched_all : (x : Text) (es rest : Entries) → SearchedTo x es rest → rest ≡ [] → IsMissing x es
 searched_all x es rest p h = subst (λ l. IsMissing x l) (sym (p.whole ∙ ap (λ l. l ++ p.back) h)) p.missing
+
+pub found_same : (es : Entries) (i : ℕ) (e f : Text × Bool × Dynamic) (v : Dynamic) → e ≡ f → set es i (e.0, e.1, v) ≡ set es i (f.0, f.1, v)
+found_same es i e f v h = ap (λ (w : Text × Bool × Dynamic). set es i (w.0, w.1, v)) h
+
+pub turned_more : (es : Entries) (e : Text × Bool × Dynamic) → turned (es ++ e ∷ []) ≡ variable_meant e ∷ turned es
+turned_more es e = turned_around es [] e
+
+module _ (here : Setting) (none : here.world.engine.constants ≡ []) where
+  found_nowhere : (x : Text) (s : State) → IsMissing x s.scope.items → found here.world.engine.constants (store_of s).scope x ≡ None
+  found_nowhere x s h = found-missing here.world.engine.constants x s.scope.items h ∙ ap (λ bs. found bs [] x) none
+
+  pub read_missing : (x : Text) (s : State) → IsMissing x s.scope.items → Stops here (Acting (Read (OfName x))) s (Stuck why.Unbound) s
+  read_missing x s h = record { turns = omega arith; runs = λ d le. ap (λ o. read o (store_of s) s.turns) (found_nowhere x s h) }
+
+  pub write_missing : (must : Bool) (x : Text) (v : Value) (s : State) → IsMissing x s.scope.items → Stops here (Acting (Write must (OfName x) v)) s (Stuck why.Unbound) s
+  write_missing must x v s h = record { turns = omega arith; runs = λ d le. ap (λ o. write must o x v (store_of s) s.turns) (found_nowhere x s h) }
+
+module _ (here : Setting) (x : Text) (s : State) (i : ℕ) (l : IsLatest x s.scope.items i) where
+  found_there : found here.world.engine.constants (store_of s).scope x ≡ Some (variable_meant l.here)
+  found_there = found-latest here.world.engine.constants x s.scope.items i l
+
+  pub read_latest : (v : Dynamic) → v ≡ l.here.2 → Goes here (Acting (Read (OfName x))) s (given (value_of v)) s
+  read_latest v e = record {
+    turns = omega arith;
+    runs = λ d le. ap (λ o. read o (store_of s) s.turns) found_there ∙ (λ j. At (Ended (Gives (value_of (sym e j)))) (store_of s) s.turns);
+  }
+
+  write_as : (must b : Bool) (v : Value) → l.here.1 ≡ b → write must (found here.world.engine.constants (store_of s).scope x) x v (store_of s) s.turns ≡ write_at must b x v (store_of s) s.turns
+  write_as must b v h = ap (λ o. write must o x v (store_of s) s.turns) found_there ∙ ap (λ c. write_at must c x v (store_of s) s.turns) h
+
+  -- what stands there is put back
+  module _ (s' : State) (e : Text × Bool × Dynamic) (is : e ≡ l.here) (scope : s'.scope.items ≡ set s.scope.items i e) (this : s'.this ≡ s.this) (calls : s'.calls ≡ s.calls) (turns : s'.turns ≡ s.turns) where
+    same_store : store_of s ≡ store_of s'
+    same_store = λ j. record { scope = turned ((l.whole ∙ sym (set-latest x s.scope.items i l l.here) ∙ ap (λ w. set s.scope.items i w) (sym is) ∙ sym scope) j); this = option_map value_of (sym this j); calls = map call_meant (sym calls j) }
+
+  -- a constant that must be written, and one that need not
+  pub write_refused : (must : Bool) (v : Value) → must ≡ true → l.here.1 ≡ true → (s' : State) (e : Text × Bool × Dynamic) → e ≡ l.here → s'.scope.items ≡ set s.scope.items i e → s'.this ≡ s.this → s'.calls ≡ s.calls → s'.turns ≡ s.turns → Stops here (Acting (Write must (OfName x) v)) s (Stuck why.WriteToConstant) s'
+  write_refused true v m h s' e is scope this calls turns = record { turns = omega (arith, turns); runs = λ d le. write_as true true v h ∙ (λ j. At (Halted (IsStuck WriteToConstant)) (same_store s' e is scope this calls turns j) (sym turns j)) }
+  write_refused false v m h s' e is scope this calls turns = absurd cc
+
+  pub write_kept : (must : Bool) (v : Value) → must ≡ false → l.here.1 ≡ true → (s' : State) (e : Text × Bool × Dynamic) → e ≡ l.here → s'.scope.items ≡ set s.scope.items i e → s'.this ≡ s.this → s'.calls ≡ s.calls → s'.turns ≡ s.turns → Goes here (Acting (Write must (OfName x) v)) s (given UnitV) s'
+  write_kept false v m h s' e is scope this calls turns = record { turns = omega (arith, turns); runs = λ d le. write_as false true v h ∙ (λ j. At (Ended (Gives UnitV)) (same_store s' e is scope this calls turns j) (sym turns j)) }
+  write_kept true v m h s' e is scope this calls turns = absurd cc
+
+  written_at : (must : Bool) (v : Value) → write_at must false x v (store_of s) s.turns ≡ At (Ended (Gives UnitV)) (record (store_of s) { scope = put (store_of s).scope x v }) s.turns
+  written_at true v = refl
+  written_at false v = refl
+
+  pub write_latest : (must : Bool) (v : Dynamic) (s' : State) → l.here.1 ≡ false → s'.scope.items ≡ set s.scope.items i (l.here.0, l.here.1, v) → s'.this ≡ s.this → s'.calls ≡ s.calls → s'.turns ≡ s.turns → Goes here (Acting (Write must (OfName x) (value_of v))) s (given UnitV) s'
+  write_latest must v s' h scope this calls turns =
+      let put_there : put (store_of s).scope x (value_of v) ≡ (store_of s').scope = put-latest x s.scope.items i l v ∙ ap turned (sym (set-latest x s.scope.items i l (l.here.0, l.here.1, v)) ∙ sym scope) in
+      record {
+        turns = omega (arith, turns);
+        runs = λ d le. write_as must false (value_of v) h ∙ written_at must (value_of v)
+            ∙ (λ j. At (Ended (Gives UnitV)) (record { scope = put_there j; this = option_map value_of (sym this j); calls = map call_meant (sym calls j) }) (sym turns j));
+      }

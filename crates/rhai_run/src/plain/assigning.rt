@@ -2,10 +2,11 @@
 
 #![tactic(auto, using(rhai_reading::specs::Reading::shapes, rhai_values::specs::Reading::kinds))]
 
-ghost use Rattle.std.specs.Prelude.{◌≡◌, Some};
+ghost use Rattle.std.specs.Prelude.{◌≡◌, true, Some};
 ghost use Rattle.rhai_values.specs.Reading.{value_of};
 ghost use Rattle.rhai_base.specs.Builtin.{operator_of};
 ghost use Rattle.rhai_reading.specs.Reading.{expr_of};
+ghost use Rattle.rhai_meaning.specs.Act.{Write};
 ghost use Rattle.rhai_meaning.specs.Calls as calls;
 ghost use Rattle.rhai_meaning.specs.Chains as chains;
 ghost use Rattle.rhai_meaning.specs.Desugar.{core_stmt};
@@ -49,16 +50,28 @@ impl<'a, H: Host> Evaluator<'a, H> {
         root: Root,
         value: Dynamic,
     ) -> Result<Dynamic, Interrupt>
-        ensures { let here = setting H.answers H.modules self.now in Runs here (Acting (chains.assign_root here.world (operator_of op.now.op) (value_of value) (root_meant root))) state.old result state.new }
+        ensures { let here = setting H.answers H.modules self.now in Runs here (Acting (chains.assign_root here.world (operator_of op.now.op) (value_of value) (root_meant root.entry))) state.old result state.new }
     {
-        let written = match assigning_operator(op) {
+        match assigning_operator(op) {
             Some(token) => {
                 let old = self.read(state, root)?;
-                self.assigned(state, token, old, value)?
+                let written = self.assigned(state, token, old, value)?;
+                self.write_value(state, root, written)
             }
-            None => value,
-        };
-        self.write(state, true, root, written)?;
+            None => self.write_value(state, root, value),
+        }
+    }
+
+    /// Writes a value, which must be possible, and answers unit.
+    fn write_value(
+        &self,
+        state: &mut State,
+        root: Root,
+        value: Dynamic,
+    ) -> Result<Dynamic, Interrupt>
+        ensures { Runs (setting H.answers H.modules self.now) (Acting (Write true (root_meant root.entry) (value_of value))) state.old result state.new }
+    {
+        self.write(state, true, root, value)?;
         Ok(Dynamic::Unit)
     }
 

@@ -2,7 +2,7 @@
 
 #![tactic(auto, using(rhai_reading::specs::Reading::shapes, rhai_values::specs::Reading::kinds))]
 
-ghost use Rattle.std.specs.Prelude.{◌≡◌, OnOk};
+ghost use Rattle.std.specs.Prelude.{◌≡◌, OnOk, if◌then◌else◌};
 ghost use Rattle.std.specs.Option.{option_copied, option_map};
 ghost use Rattle.rhai_reading.specs.Reading.{breaks, expr_of, is_exported, maybe_of, stmts_of};
 ghost use Rattle.rhai_values.specs.Reading.{value_of};
@@ -81,7 +81,7 @@ impl<'a, H: Host> Evaluator<'a, H> {
         caught: Dynamic,
         branch: &StmtBlock,
     ) -> Result<Dynamic, Interrupt>
-        ensures { RunsCatch (setting H.answers H.modules self.now) (stmts_core self.now.in_loop (stmts_of branch.now.block)) (option_copied name) (value_of caught) state.old result state.new }
+        ensures { RunsCatch (setting H.answers H.modules self.now) (stmts_core self.now.in_loop (stmts_of branch.now.block)) (option_copied name.entry) (value_of caught) state.old result state.new }
     {
         let names = state.scope.len();
         declare_caught(state, name, &caught)?;
@@ -148,8 +148,18 @@ fn branch_ended(ended: Result<Dynamic, Interrupt>, caught: Dynamic) -> Result<Dy
 {
     match ended {
         Ok(_) => Ok(Dynamic::Unit),
-        Err(Interrupt::Throw(Dynamic::Unit)) => Err(Interrupt::Throw(caught)),
+        Err(Interrupt::Throw(thrown)) => Err(Interrupt::Throw(thrown_again(thrown, caught))),
         Err(interrupt) => Err(interrupt),
+    }
+}
+
+/// What a branch throws: unit stands for the caught value.
+fn thrown_again(thrown: Dynamic, caught: Dynamic) -> Dynamic
+    ensures { result ≡ (if shape.is_unit (value_of thrown) then caught else thrown) }
+{
+    match thrown {
+        Dynamic::Unit => caught,
+        other => other,
     }
 }
 
@@ -170,7 +180,7 @@ fn declare_caught(
     name: Option<&ImmutableString>,
     caught: &Dynamic,
 ) -> Result<(), AllocError>
-    ensures store { OnOk result (store_of state.new ≡ named_in (option_copied name) (value_of caught.now) (store_of state.old)) }
+    ensures store { OnOk result (store_of state.new ≡ named_in (option_copied name.entry) (value_of caught.now) (store_of state.old)) }
     ensures turns { OnOk result (state.new.turns ≡ state.old.turns) }
 {
     if let Some(name) = name {

@@ -2,7 +2,7 @@
 
 #![tactic(auto, using(rhai_reading::specs::Reading::shapes, rhai_values::specs::Reading::kinds))]
 
-ghost use Rattle.std.specs.Prelude.{IfOk};
+ghost use Rattle.std.specs.Prelude.{◌<◌, true, IfOk};
 ghost use Rattle.rhai_reading.specs.Reading.{expr_of, is_exported, is_negated, stmts_of};
 ghost use Rattle.rhai_meaning.specs.Core.{Always, Do, When, While};
 ghost use Rattle.rhai_meaning.specs.Desugar.{core_expr, core_stmt, guard_by};

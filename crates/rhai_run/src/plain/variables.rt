@@ -52,7 +52,7 @@ impl<'a, H: Host> Evaluator<'a, H> {
 
     /// The value of a name or of `this`.
     pub fn read(&self, state: &State, root: Root) -> Result<Dynamic, Interrupt>
-        ensures { Runs (setting H.answers H.modules self.now) (Acting (Read (root_meant root))) state.now result state.now }
+        ensures { Runs (setting H.answers H.modules self.now) (Acting (Read (root_meant root.entry))) state.now result state.now }
     {
         match root {
             Root::Name(name) => self.read_name(state, name.as_str()),
@@ -81,7 +81,7 @@ impl<'a, H: Host> Evaluator<'a, H> {
         root: Root,
         value: Dynamic,
     ) -> Result<(), Interrupt>
-        ensures { Leads (setting H.answers H.modules self.now) (Acting (Write must (root_meant root) (value_of value))) state.old result state.new (λ u. given UnitV) }
+        ensures { Leads (setting H.answers H.modules self.now) (Acting (Write must (root_meant root.entry) (value_of value))) state.old result state.new (λ u. given UnitV) }
     {
         match root {
             Root::Name(name) => self.write_name(state, must, name.as_str(), value),
