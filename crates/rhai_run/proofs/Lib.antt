@@ -22,3 +22,6 @@ pub mod Switches
 pub mod Invoked
 pub mod Words
 pub mod Whole
+pub mod Placing
+pub mod Writing
+pub mod Chaining

@@ -8,3 +8,5 @@ pub mod Variables
 pub mod Exits
 pub mod Operators
 pub mod Evaluating
+pub mod Placing
+pub mod Chaining

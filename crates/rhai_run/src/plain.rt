@@ -2,12 +2,14 @@
 
 mod asking;
 mod assigning;
+mod chains;
 mod evaluator;
 mod exits;
 mod logic;
 mod loops;
 mod maps;
 mod operators;
+mod placing;
 mod state;
 mod statements;
 mod values;
