@@ -2,13 +2,13 @@
 #![tactic(auto)]
 
 mod elements;
-mod steps;
 mod members;
-mod standing;
 mod places;
+mod standing;
+mod steps;
 
 pub use elements::{bit, character, element};
-pub use steps::{IndexTarget, Indexed, index, index_target};
 pub use members::entry;
-pub use standing::Part;
 pub use places::{PlaceKey, along, inside, replace_along};
+pub use standing::Part;
+pub use steps::{IndexTarget, Indexed, index, index_target};

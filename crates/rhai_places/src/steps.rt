@@ -9,8 +9,8 @@ ghost use Rattle.rhai_places.specs.Indexing.{IsIndexed, IsIndexTarget};
 ghost use Rattle.rhai_places.specs.Reading.{part_value};
 
 use crate::elements::{bit, character, element};
-use crate::standing::Part;
 use crate::places::PlaceKey;
+use crate::standing::Part;
 use rhai_base::{Dynamic, INT};
 
 /// What a value has at an index.
