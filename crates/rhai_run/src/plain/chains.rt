@@ -18,7 +18,7 @@ ghost use Rattle.rhai_run.specs.State.{store_of};
 
 use crate::plain::evaluator::Evaluator;
 use crate::plain::placing::{
-    Current, Place, at_key, current_part, place_part, put_back, write_under,
+    Current, Place, at_key, copied_current, current_part, place_part, put_back, write_under,
 };
 use crate::plain::state::{Interrupt, State};
 use crate::{Host, HostAnswer, HostCall};
@@ -126,7 +126,7 @@ impl<'a, H: Host> Evaluator<'a, H> {
     ) -> Result<(), Interrupt>
         ensures { Leads (setting H.answers H.modules self.now) (Acting (chains.set_by_host name (map value_of args) (spec.current_in (store_of state.old) current.now))) state.old result state.new (λ z. given UnitV) }
     {
-        let receiver = current_part(state, current).to_value()?;
+        let receiver = copied_current(state, current)?;
         let (_, receiver) = self.ask_method(state, name, receiver, args)?;
         put_back(state, current, receiver)
     }

@@ -88,6 +88,13 @@ pub fn place_part<'s>(state: &'s State, place: &Place) -> Part<'s>
     }
 }
 
+/// A copy of what a chain has come to.
+pub fn copied_current(state: &State, current: &Current) -> Result<Dynamic, AllocError>
+    ensures { IfOk result (λ v. value_of v ≡ (spec.current_in (store_of state.now) current.now).value) }
+{
+    current_part(state, current).to_value()
+}
+
 /// Whether a place still leads on, after what was evaluated since.
 pub fn refreshed(state: &State, current: &Current) -> Result<(), Interrupt>
     ensures { (here : _) (u : _) (next : _) → spec.IsBare here → Leads here (Acting (places.refreshed (spec.made current.now u) next)) state.now result state.now (λ z. Acting (next (spec.current_in (store_of state.now) current.now))) }
