@@ -2,7 +2,7 @@
 
 #![tactic(auto, using(rhai_reading::specs::Reading::shapes, rhai_reading::proofs::ItemLists::steps, crate::proofs::FoundLists::found))]
 
-ghost use Rattle.std.specs.Prelude.{◌≡◌, ◌||◌, MatchResult, false, map, not, slice_get, true};
+ghost use Rattle.std.specs.Prelude.{◌≡◌, ◌||◌, MatchResult, false, map, slice_get, true};
 ghost use Rattle.rhai_faults.specs.Found.{found_call, found_chain, found_expr, found_exprs, found_if_any, found_listed, found_members, found_sides, found_stmts};
 ghost use Rattle.rhai_faults.specs.Places.{around_of};
 ghost use Rattle.rhai_faults.specs.Refusals.{Finds};
@@ -11,17 +11,16 @@ ghost use Rattle.rhai_meaning.specs.Faults as faults;
 ghost use Rattle.rhai_meaning.specs.Faults.{◌then◌, finding};
 ghost use Rattle.rhai_meaning.specs.Laws.{WellFormedLaw};
 ghost use Rattle.rhai_meaning.specs.Shape as shape;
-ghost use Rattle.rhai_meaning.specs.Tree.{count_exprs};
-ghost use Rattle.rhai_meaning.specs.Walk.{arm_of_default, arms_of_cases, arms_of_ranges, around_spot, LeftSide, listed, LoopBody, outermost, over_expr, over_exprs, over_maybe, over_pairs, over_stmt, over_stmts, RightSide, whole};
-ghost use Rattle.rhai_reading.specs.Reading.{arms_of, callee_of, case_of, cases_of, chain_flags, expr_of, expressions_of, exprs_of, keys_of, mark_of, maybe_of, pairs_of, range_of, stmt_of, stmts_of, subject_of, table_of};
+ghost use Rattle.rhai_meaning.specs.Walk.{arm_of_default, arms_of_cases, arms_of_ranges, listed, over_expr, over_maybe, over_stmt, whole};
+ghost use Rattle.rhai_reading.specs.Reading.{arms_of, case_of, cases_of, expr_of, expressions_of, exprs_of, keys_of, maybe_of, pairs_of, range_of, stmt_of, subject_of, table_of};
 
 use crate::TreeFault;
 use crate::around::Around;
 use crate::map_keys::test_keys;
 use crate::shape::{is_catch, is_formed, is_left_side, is_reserved, is_rest, is_unit};
-use crate::table::is_table;
 use bitflags::Flags;
 use rhai_base::{ASTFlags, Boxed, Dynamic, Ident, RangeCase, StringMap};
+use rhai_queries::is_table;
 use rhai_tree::{
     BinaryExpr, Cases, Expr, FlowControl, FnCallExpr, ScriptFuncDef, Stmt, SwitchBlock,
     SwitchCasesCollection,

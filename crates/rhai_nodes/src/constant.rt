@@ -45,11 +45,10 @@ fn for_pointer(alloc: Global, pointer: FnPtr, pos: Position) -> Result<Expr, Out
     ensures position { IfOk result (λ e. position_of e ≡ pos) }
     ensures arguments { IfOk result (λ e. AreAt pos (arguments_of e)) }
 {
-    if !pointer.curry().is_empty() {
+    if pointer.is_curried() {
         return hold(alloc, Dynamic::FnPtr(pointer), pos);
     }
-    let name = ImmutableString::new(alloc, pointer.fn_name())?;
-    pointer_call(alloc, name, pos)
+    pointer_call(alloc, pointer.into_name(), pos)
 }
 
 /// A value as a constant that no other constant stands for.

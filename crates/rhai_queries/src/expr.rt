@@ -55,28 +55,7 @@ impl ExprQueries for Expr {
     fn is_unit(&self) -> bool
         ensures { result ≡ queries.is_unit (expr_of self.now) }
     {
-        match self {
-            Expr::Unit(_) => true,
-            Expr::DynamicConstant(_, _)
-            | Expr::BoolConstant(_, _)
-            | Expr::IntegerConstant(_, _)
-            | Expr::CharConstant(_, _)
-            | Expr::StringConstant(_, _)
-            | Expr::InterpolatedString(_, _)
-            | Expr::Array(_, _)
-            | Expr::Map(_, _)
-            | Expr::Variable(_, _, _)
-            | Expr::ThisPtr(_)
-            | Expr::Property(_, _)
-            | Expr::MethodCall(_, _)
-            | Expr::Stmt(_)
-            | Expr::FnCall(_, _)
-            | Expr::Dot(_, _, _)
-            | Expr::Index(_, _, _)
-            | Expr::And(_, _)
-            | Expr::Or(_, _)
-            | Expr::Coalesce(_, _) => false,
-        }
+        matches!(self, Expr::Unit(_))
     }
 
     fn is_valid_postfix(&self, token: &Token) -> bool
@@ -139,24 +118,7 @@ fn may_follow(token: &Token, expr: &Expr) -> bool
     match expr {
         Expr::Variable(_, _, _) => follows_name(token),
         Expr::Property(_, _) => opens_call(token),
-        Expr::DynamicConstant(_, _)
-        | Expr::BoolConstant(_, _)
-        | Expr::IntegerConstant(_, _)
-        | Expr::CharConstant(_, _)
-        | Expr::StringConstant(_, _)
-        | Expr::InterpolatedString(_, _)
-        | Expr::Array(_, _)
-        | Expr::Map(_, _)
-        | Expr::Unit(_)
-        | Expr::ThisPtr(_)
-        | Expr::MethodCall(_, _)
-        | Expr::Stmt(_)
-        | Expr::FnCall(_, _)
-        | Expr::Dot(_, _, _)
-        | Expr::Index(_, _, _)
-        | Expr::And(_, _)
-        | Expr::Or(_, _)
-        | Expr::Coalesce(_, _) => false,
+        _ => false,
     }
 }
 

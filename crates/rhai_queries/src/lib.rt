@@ -9,9 +9,9 @@ mod internal_purity;
 mod positions;
 mod purity;
 mod stmt;
+mod switch_table;
 
-pub use block_dependence::is_unqualified;
-pub use call::CallQueries;
-pub use constants::are_constant;
+pub use call::{CallQueries, is_call_of, operands};
 pub use expr::ExprQueries;
 pub use stmt::StmtQueries;
+pub use switch_table::{is_table, table_refusal};

@@ -8,6 +8,7 @@ ghost use Rattle.rhai_reading.specs.Reading.{arms_of, case_of, cases_of, expr_of
 ghost use Rattle.rhai_meaning.specs.Queries as queries;
 ghost use Rattle.rhai_meaning.specs.Walk.{arm_at, arms_of_cases, arms_of_ranges};
 
+use crate::constants::is_literally;
 use bitflags::Flags;
 use rhai_base::{ASTFlags, Ident, RangeCase};
 use rhai_tree::{BinaryExpr, Cases, Expr, FlowControl, Stmt, SwitchBlock, SwitchCasesCollection};
@@ -120,34 +121,6 @@ fn is_pure_loop(flow: &FlowControl) -> bool
     is_pure_expr(&flow.expr) && are_pure(flow.body.statements())
 }
 
-/// Whether the condition is literally so.
-fn is_literally(condition: &Expr, truth: bool) -> bool
-    ensures { result ≡ queries.is_literally truth (expr_of condition.now) }
-{
-    match condition {
-        Expr::BoolConstant(b, _) => *b == truth,
-        Expr::DynamicConstant(_, _)
-        | Expr::IntegerConstant(_, _)
-        | Expr::CharConstant(_, _)
-        | Expr::StringConstant(_, _)
-        | Expr::Unit(_)
-        | Expr::InterpolatedString(_, _)
-        | Expr::Array(_, _)
-        | Expr::Map(_, _)
-        | Expr::Variable(_, _, _)
-        | Expr::ThisPtr(_)
-        | Expr::Property(_, _)
-        | Expr::MethodCall(_, _)
-        | Expr::Stmt(_)
-        | Expr::FnCall(_, _)
-        | Expr::Dot(_, _, _)
-        | Expr::Index(_, _, _)
-        | Expr::And(_, _)
-        | Expr::Or(_, _)
-        | Expr::Coalesce(_, _) => false,
-    }
-}
-
 // ---- the table of a `switch`
 
 #[cycle(pure)]
@@ -209,13 +182,6 @@ fn are_pure_arms(arms: &[BinaryExpr], places: &[usize]) -> bool
 #[cycle(pure)]
 fn is_pure_arm(arms: &[BinaryExpr], place: usize) -> bool
     ensures { result ≡ queries.is_pure_arm (arm_at (true, true) (queries.arm_purities (arms_of arms.now)) place) }
-{
-    is_pure_at(arms, place)
-}
-
-#[cycle(pure)]
-fn is_pure_at(arms: &[BinaryExpr], place: usize) -> bool
-    ensures { result ≡ is_pure_if_any (slice_get arms.now place) }
 {
     match arms.get(place) {
         Some(arm) => is_pure_expr(&arm.lhs) && is_pure_expr(&arm.rhs),

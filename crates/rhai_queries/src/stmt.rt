@@ -46,25 +46,7 @@ impl StmtQueries for Stmt {
     fn is_noop(&self) -> bool
         ensures { result ≡ queries.is_noop (stmt_of self.now) }
     {
-        match self {
-            Stmt::Noop(_) => true,
-            Stmt::If(_, _)
-            | Stmt::Switch(_, _)
-            | Stmt::While(_, _)
-            | Stmt::Do(_, _, _)
-            | Stmt::For(_, _)
-            | Stmt::Var(_, _, _)
-            | Stmt::Assignment(_)
-            | Stmt::FnCall(_, _)
-            | Stmt::Block(_)
-            | Stmt::TryCatch(_, _)
-            | Stmt::Expr(_)
-            | Stmt::BreakLoop(_, _, _)
-            | Stmt::Return(_, _, _)
-            | Stmt::Import(_, _)
-            | Stmt::Export(_, _)
-            | Stmt::Share(_) => false,
-        }
+        matches!(self, Stmt::Noop(_))
     }
 
     #[tactic(auto, using(rhai_meaning::proofs::PurityLaws::pure_law))]
@@ -94,24 +76,7 @@ impl StmtQueries for Stmt {
     fn is_control_flow_break(&self) -> bool
         ensures { result ≡ queries.is_control_flow_break (stmt_of self.now) }
     {
-        match self {
-            Stmt::BreakLoop(_, _, _) | Stmt::Return(_, _, _) => true,
-            Stmt::Noop(_)
-            | Stmt::If(_, _)
-            | Stmt::Switch(_, _)
-            | Stmt::While(_, _)
-            | Stmt::Do(_, _, _)
-            | Stmt::For(_, _)
-            | Stmt::Var(_, _, _)
-            | Stmt::Assignment(_)
-            | Stmt::FnCall(_, _)
-            | Stmt::Block(_)
-            | Stmt::TryCatch(_, _)
-            | Stmt::Expr(_)
-            | Stmt::Import(_, _)
-            | Stmt::Export(_, _)
-            | Stmt::Share(_) => false,
-        }
+        matches!(self, Stmt::BreakLoop(_, _, _) | Stmt::Return(_, _, _))
     }
 
     fn returns_value(&self) -> bool

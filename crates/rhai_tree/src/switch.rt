@@ -1,6 +1,8 @@
 //! The table of a `switch`.
 
 ghost use Rattle.std.specs.Prelude.{◌≡◌};
+ghost use Rattle.std.specs.Borrow.{sem};
+ghost use Rattle.rhai_tree.specs.Lends.{lends_map};
 
 use crate::{BinaryExpr, Expr};
 use indexmap::IndexMap;
@@ -69,6 +71,22 @@ impl Cases {
         ensures { result.now.entries ≡ self.now }
     {
         &self.map
+    }
+
+    /// The cases as a map, lent for writing.
+    pub fn as_map_mut(&mut self) -> &mut IndexMap<Dynamic, CaseBlocksList>
+        ensures* writes_back { sem 𝓛 (lends_map self.entry result) }
+        ensures value { result.now.entries ≡ self.old }
+    {
+        &mut self.map
+    }
+
+    /// The map of the cases.
+    pub fn into_map(self) -> IndexMap<Dynamic, CaseBlocksList>
+        ensures { result.entries ≡ self }
+    {
+        let Cases { map } = self;
+        map
     }
 }
 
