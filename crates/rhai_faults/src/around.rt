@@ -59,7 +59,8 @@ impl Around {
 
     /// Around the right side of a `.` or an index.
     pub(crate) fn right(self, is_dot: bool, options: ASTFlags, rhs: &Expr) -> Around
-        ensures { around_of result ≡ walk.around_spot (walk.RightSide is_dot (chain_flags options) (expr_of rhs.now)) (around_of self) }
+        ensures { around_of result ≡ walk.around_spot (walk.RightSide is_dot (chain_flags options) (expr_of rhs.now))
+            (around_of self) }
     {
         Around {
             in_loop: self.in_loop,

@@ -163,7 +163,9 @@ fn are_plain(statements: &[Stmt]) -> bool
 
 #[cycle(plain)]
 fn is_plain_flow(flow: &FlowControl) -> bool
-    ensures { result ≡ (over_expr plain_walk (expr_of flow.now.expr) && (over_stmts plain_walk (stmts_of flow.now.body.block) && over_stmts plain_walk (stmts_of flow.now.branch.block))) }
+    ensures { result ≡ (over_expr plain_walk (expr_of flow.now.expr)
+        && (over_stmts plain_walk (stmts_of flow.now.body.block)
+        && over_stmts plain_walk (stmts_of flow.now.branch.block))) }
 {
     is_plain_expr(&flow.expr)
         && are_plain(flow.body.statements())
@@ -172,14 +174,16 @@ fn is_plain_flow(flow: &FlowControl) -> bool
 
 #[cycle(plain)]
 fn is_plain_loop(flow: &FlowControl) -> bool
-    ensures { result ≡ (over_expr plain_walk (expr_of flow.now.expr) && over_stmts plain_walk (stmts_of flow.now.body.block)) }
+    ensures { result ≡ (over_expr plain_walk (expr_of flow.now.expr)
+        && over_stmts plain_walk (stmts_of flow.now.body.block)) }
 {
     is_plain_expr(&flow.expr) && are_plain(flow.body.statements())
 }
 
 #[cycle(plain)]
 fn are_plain_blocks(flow: &FlowControl) -> bool
-    ensures { result ≡ (over_stmts plain_walk (stmts_of flow.now.body.block) && over_stmts plain_walk (stmts_of flow.now.branch.block)) }
+    ensures { result ≡ (over_stmts plain_walk (stmts_of flow.now.body.block)
+        && over_stmts plain_walk (stmts_of flow.now.branch.block)) }
 {
     are_plain(flow.body.statements()) && are_plain(flow.branch.statements())
 }
@@ -198,7 +202,8 @@ fn is_plain_optional(expr: &Option<Boxed<Expr>>) -> bool
 
 #[cycle(plain)]
 fn is_plain_switch(switch: &SwitchBlock) -> bool
-    ensures { result ≡ (over_expr plain_walk (expr_of (subject_of switch.now)) && listed_are_plain (expressions_of (cases_of switch.now)) (listed (table_of (cases_of switch.now)))) }
+    ensures { result ≡ (over_expr plain_walk (expr_of (subject_of switch.now))
+        && listed_are_plain (expressions_of (cases_of switch.now)) (listed (table_of (cases_of switch.now)))) }
 {
     is_plain_expr(&switch.expr) && is_plain_table(&switch.cases)
 }

@@ -36,7 +36,8 @@ pub(crate) fn is_unit(value: &Dynamic) -> bool
 
 /// Whether an operator's name, its token and its operands belong together, or there is no operator.
 pub(crate) fn is_formed(call: &FnCallExpr) -> bool
-    ensures { result ≡ shape.has_token (callee_of call.now) (count_exprs (exprs_of call.now.args)) (mark_of call.now.op_token) }
+    ensures { result ≡ shape.has_token (callee_of call.now) (count_exprs (exprs_of call.now.args))
+        (mark_of call.now.op_token) }
 {
     match call.op_token {
         Some(op) => is_call_of(call, op),
@@ -97,7 +98,8 @@ fn is_end(is_dot: bool, is_last: bool, rhs: &Expr) -> bool
 /// Whether a step's argument fits, and the chain from the step on has its shape.
 #[cycle(rest)]
 fn is_step(is_dot: bool, step: &BinaryExpr, next_is_dot: bool, options: ASTFlags) -> bool
-    ensures { result ≡ (shape.is_argument is_dot (expr_of step.now.lhs) && shape.is_rest next_is_dot (breaks options) (expr_of step.now.rhs)) }
+    ensures { result ≡ (shape.is_argument is_dot (expr_of step.now.lhs)
+        && shape.is_rest next_is_dot (breaks options) (expr_of step.now.rhs)) }
 {
     (!is_dot || is_member(&step.lhs))
         && is_rest(next_is_dot, options.contains(ASTFlags::BREAK), &step.rhs)

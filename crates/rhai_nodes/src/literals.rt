@@ -91,7 +91,8 @@ fn call_value(alloc: Global, expr: &Expr) -> Result<Option<Dynamic>, OutOfMemory
 }
 
 fn unqualified_value(alloc: Global, call: &FnCallExpr) -> Result<Option<Dynamic>, OutOfMemory>
-    ensures { IfOk result (λ v. option_map value_of v ≡ constants.call_value (FnCall (callee_of call.now) (exprs_of call.now.args))) }
+    ensures { IfOk result (λ v. option_map value_of v
+        ≡ constants.call_value (FnCall (callee_of call.now) (exprs_of call.now.args))) }
 {
     if call.namespace.is_empty() {
         named_value(alloc, call)
@@ -158,7 +159,8 @@ fn joined_value<'a>(
     alloc: Global,
     parts: &'a [Expr],
 ) -> Result<Option<Cow<'a, Dynamic>>, OutOfMemory>
-    ensures { IfOk result (λ v. lent_value v ≡ constants.joined_value (constants.constant_values (exprs_of parts.now))) }
+    ensures { IfOk result (λ v. lent_value v
+        ≡ constants.joined_value (constants.constant_values (exprs_of parts.now))) }
 {
     let mut text = String::new(alloc);
     for part in parts {
@@ -184,7 +186,8 @@ fn map_value<'a>(
     alloc: Global,
     members: &'a [(Ident, Expr)],
 ) -> Result<Option<Cow<'a, Dynamic>>, OutOfMemory>
-    ensures { IfOk result (λ v. lent_value v ≡ constants.map_value (constants.constant_entries (pairs_of members.now))) }
+    ensures { IfOk result (λ v. lent_value v
+        ≡ constants.map_value (constants.constant_entries (pairs_of members.now))) }
 {
     let mut map = StringMap::new(alloc);
     for member in members {
@@ -203,7 +206,8 @@ fn put(
     name: &Ident,
     value: Cow<'_, Dynamic>,
 ) -> Result<(), OutOfMemory>
-    ensures { OnOk result (fields (members_of map.new) ≡ with_entry (fields (members_of map.old)) name.now.name (value_of (cow_value value.entry))) }
+    ensures { OnOk result (fields (members_of map.new)
+        ≡ with_entry (fields (members_of map.old)) name.now.name (value_of (cow_value value.entry))) }
 {
     let name = name.name.clone()?;
     map.insert(name, owned(value)?)?;
@@ -222,7 +226,8 @@ fn named_value(alloc: Global, call: &FnCallExpr) -> Result<Option<Dynamic>, OutO
 
 /// The pointer that `Fn("name")` makes.
 fn pointer_value(alloc: Global, function: &str, name: &Expr) -> Result<Option<Dynamic>, OutOfMemory>
-    ensures { IfOk result (λ v. option_map value_of v ≡ constants.named_value function.now (expr (expr_of name.now) no_exprs)) }
+    ensures { IfOk result (λ v. option_map value_of v
+        ≡ constants.named_value function.now (expr (expr_of name.now) no_exprs)) }
 {
     if function == "Fn" {
         pointer_literal(alloc, name)
@@ -254,7 +259,8 @@ fn range_value(
     from: &Expr,
     to: &Expr,
 ) -> Result<Option<Dynamic>, OutOfMemory>
-    ensures { IfOk result (λ v. option_map value_of v ≡ constants.named_value function.now (expr (expr_of from.now) (expr (expr_of to.now) no_exprs))) }
+    ensures { IfOk result (λ v. option_map value_of v
+        ≡ constants.named_value function.now (expr (expr_of from.now) (expr (expr_of to.now) no_exprs))) }
 {
     if function == ".." {
         range_literal(alloc, Token::ExclusiveRange, from, to)
@@ -283,7 +289,8 @@ fn range_literal(
     from: &Expr,
     to: &Expr,
 ) -> Result<Option<Dynamic>, OutOfMemory>
-    ensures { IfOk result (λ v. option_map value_of v ≡ range_made op (constants.range_end (expr_of from.now)) (constants.range_end (expr_of to.now))) }
+    ensures { IfOk result (λ v. option_map value_of v
+        ≡ range_made op (constants.range_end (expr_of from.now)) (constants.range_end (expr_of to.now))) }
 {
     match (range_end(from), range_end(to)) {
         (Some(from), Some(to)) => range_between(alloc, op, &from, &to),
@@ -297,7 +304,8 @@ fn range_between(
     from: &Dynamic,
     to: &Dynamic,
 ) -> Result<Option<Dynamic>, OutOfMemory>
-    ensures { IfOk result (λ v. option_map value_of v ≡ constants.computed_value (binary_at op (value_of from.now) (value_of to.now))) }
+    ensures { IfOk result (λ v. option_map value_of v
+        ≡ constants.computed_value (binary_at op (value_of from.now) (value_of to.now))) }
 {
     match builtin_binary_op(alloc, &op, from, to)? {
         Some(Ok(range)) => Ok(Some(range)),

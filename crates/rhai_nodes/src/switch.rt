@@ -35,7 +35,8 @@ impl SwitchCases for SwitchCasesCollection {
     ) -> Result<SwitchCasesCollection, AstError>
         ensures made { MatchResult result
             (λ t. (refusal expressions.items cases.entries ranges.items def_case ≡ None)
-            × (t ≡ views.roll-SwitchCasesCollection (record { expressions = expressions.items; cases = cases.entries; ranges = ranges.items; def_case = def_case })))
+            × (t ≡ views.roll-SwitchCasesCollection
+            (record { expressions = expressions.items; cases = cases.entries; ranges = ranges.items; def_case = def_case })))
             (λ e. refusal expressions.items cases.entries ranges.items def_case ≡ Some e) }
         ensures law { RefusalLaw expressions.items cases.entries ranges.items def_case }
     {

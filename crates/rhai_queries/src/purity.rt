@@ -107,7 +107,8 @@ pub(crate) fn are_pure(statements: &[Stmt]) -> bool
 
 #[cycle(pure)]
 fn is_pure_flow(flow: &FlowControl) -> bool
-    ensures { result ≡ (queries.is_pure_expr (expr_of flow.now.expr) && (queries.are_pure (stmts_of flow.now.body.block) && queries.are_pure (stmts_of flow.now.branch.block))) }
+    ensures { result ≡ (queries.is_pure_expr (expr_of flow.now.expr)
+        && (queries.are_pure (stmts_of flow.now.body.block) && queries.are_pure (stmts_of flow.now.branch.block))) }
 {
     is_pure_expr(&flow.expr)
         && are_pure(flow.body.statements())
@@ -116,7 +117,8 @@ fn is_pure_flow(flow: &FlowControl) -> bool
 
 #[cycle(pure)]
 fn is_pure_loop(flow: &FlowControl) -> bool
-    ensures { result ≡ (queries.is_pure_expr (expr_of flow.now.expr) && queries.are_pure (stmts_of flow.now.body.block)) }
+    ensures { result ≡ (queries.is_pure_expr (expr_of flow.now.expr)
+        && queries.are_pure (stmts_of flow.now.body.block)) }
 {
     is_pure_expr(&flow.expr) && are_pure(flow.body.statements())
 }
@@ -125,14 +127,17 @@ fn is_pure_loop(flow: &FlowControl) -> bool
 
 #[cycle(pure)]
 fn is_pure_switch(switch: &SwitchBlock) -> bool
-    ensures { result ≡ (queries.is_pure_expr (expr_of (subject_of switch.now)) && queries.table_is_pure (queries.arm_purities (arms_of (expressions_of (cases_of switch.now)))) (table_of (cases_of switch.now))) }
+    ensures { result ≡ (queries.is_pure_expr (expr_of (subject_of switch.now))
+        && queries.table_is_pure (queries.arm_purities (arms_of (expressions_of (cases_of switch.now))))
+        (table_of (cases_of switch.now))) }
 {
     is_pure_expr(&switch.expr) && is_pure_table(&switch.cases)
 }
 
 #[cycle(pure)]
 fn is_pure_table(table: &SwitchCasesCollection) -> bool
-    ensures { result ≡ queries.table_is_pure (queries.arm_purities (arms_of (expressions_of table.now))) (table_of table.now) }
+    ensures { result ≡ queries.table_is_pure (queries.arm_purities (arms_of (expressions_of table.now)))
+        (table_of table.now) }
 {
     let arms = table.expressions.as_slice();
     are_pure_cases(arms, &table.cases)
@@ -143,7 +148,8 @@ fn is_pure_table(table: &SwitchCasesCollection) -> bool
 /// Whether the arms are pure that cases name.
 #[cycle(pure)]
 fn are_pure_cases(arms: &[BinaryExpr], cases: &Cases) -> bool
-    ensures { result ≡ queries.listed_arms_are_pure (queries.arm_purities (arms_of arms.now)) (arms_of_cases (map case_of cases.now)) }
+    ensures { result ≡ queries.listed_arms_are_pure (queries.arm_purities (arms_of arms.now))
+        (arms_of_cases (map case_of cases.now)) }
 {
     for case in cases.as_map() {
         if !are_pure_arms(arms, case.1.blocks.as_slice()) {
@@ -156,7 +162,8 @@ fn are_pure_cases(arms: &[BinaryExpr], cases: &Cases) -> bool
 /// Whether the arms are pure that ranges name.
 #[cycle(pure)]
 fn are_pure_ranges(arms: &[BinaryExpr], ranges: &[RangeCase]) -> bool
-    ensures { result ≡ queries.listed_arms_are_pure (queries.arm_purities (arms_of arms.now)) (arms_of_ranges (map range_of ranges.now)) }
+    ensures { result ≡ queries.listed_arms_are_pure (queries.arm_purities (arms_of arms.now))
+        (arms_of_ranges (map range_of ranges.now)) }
 {
     for range in ranges {
         if !is_pure_arm(arms, range.index()) {
