@@ -25,6 +25,6 @@ pointer_written f vs h e = constant_for_law (PointerV f no_values) h ∙ ap (λ 
 pub none_curried : (b : Bool) (vs : List Dynamic) → IsTrue b ↔ (vs ≢ []) → b ≡ false → vs ≡ []
 none_curried b [] h e = refl
 none_curried true (v ∷ vs) h e = cc
-none_curried false (v ∷ vs) h e = absurd (h.1 (λ z. cc))
+none_curried false (v ∷ vs) h e = absurd (let z : false ≡ true = h.1 (λ w. cc) in cc)
 
 pub ruleset pointers = (constant_for-curried, constant_for-bare, pointer_written, none_curried)

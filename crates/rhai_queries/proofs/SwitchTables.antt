@@ -1,5 +1,5 @@
 -- What is not refused is a table.
-use Rattle.std.proofs.Common.{◌≡◌, ◌↔◌, ℕ, zero, suc, Bool, true, false, not, ◌&&◌, ◌||◌, ◌==◌, nat_lt, List, [], ◌∷◌, length, map, Option, Some, None, slice_get, if◌then◌else◌, refl, sym, ap, ◌∙◌, arith}
+use Rattle.std.proofs.Common.{◌≡◌, ◌↔◌, ℕ, zero, suc, Bool, true, false, not, ◌&&◌, ◌||◌, ◌==◌, nat_lt, List, [], ◌∷◌, length, map, Option, Some, None, is_some, slice_get, if◌then◌else◌, refl, sym, ap, ◌∙◌, arith}
 use Rattle.std.proofs.lemmas.Bool.Decides.{nat_tests}
 use Rattle.std.proofs.lemmas.Cmp.{nat_eq_equiv}
 use Rattle.std.specs.List.{list_all, list_any}
@@ -150,6 +150,12 @@ accepted bs cs rs d =
     ∙ ap (λ b. (b && ranges) && default) (sym (cases_fit n cs))
     ∙ ap (λ b. (are_all (shape.case_fits n) (map case_of cs) && b) && default) (sym (ranges_fit n rs))
     ∙ ap (λ m. (are_all (shape.case_fits m) (map case_of cs) && are_all (λ r. nat_lt r.arm m) (map range_of rs)) && default) (sym (count_arms-of bs))
+
+pub none_accepted : (o : Option AstError) (b : Bool) → is_some o ≡ not b → b ≡ is_accepted o
+none_accepted None true h = refl
+none_accepted None false h = cc
+none_accepted (Some e) true h = cc
+none_accepted (Some e) false h = refl
 
 law : (o : Option AstError) (b : Bool) → is_accepted o ≡ b → (o ≡ None) ↔ (b ≡ true)
 law None true h = ((λ e. refl), (λ e. refl))

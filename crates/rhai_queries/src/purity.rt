@@ -6,7 +6,7 @@ ghost use Rattle.std.specs.Prelude.{◌≡◌, ◌&&◌, true, map, slice_get};
 ghost use Rattle.rhai_queries.specs.Arms.{has_pure_answer, is_pure_if_any};
 ghost use Rattle.rhai_reading.specs.Reading.{arms_of, case_of, cases_of, expr_of, expressions_of, exprs_of, pairs_of, range_of, stmt_of, stmts_of, subject_of, table_of};
 ghost use Rattle.rhai_meaning.specs.Queries as queries;
-ghost use Rattle.rhai_meaning.specs.Walk.{arm_at, arms_of_cases, arms_of_ranges};
+ghost use Rattle.rhai_meaning.specs.Walk.{arms_of_cases, arms_of_ranges};
 
 use crate::constants::is_literally;
 use bitflags::Flags;
@@ -166,7 +166,7 @@ fn are_pure_ranges(arms: &[BinaryExpr], ranges: &[RangeCase]) -> bool
         (arms_of_ranges (map range_of ranges.now)) }
 {
     for range in ranges {
-        if !is_pure_arm(arms, range.index()) {
+        if !is_pure_at(arms, range.index()) {
             return false;
         }
     }
@@ -178,7 +178,7 @@ fn are_pure_arms(arms: &[BinaryExpr], places: &[usize]) -> bool
     ensures { result ≡ queries.listed_arms_are_pure (queries.arm_purities (arms_of arms.now)) places.now }
 {
     for place in places {
-        if !is_pure_arm(arms, *place) {
+        if !is_pure_at(arms, *place) {
             return false;
         }
     }
@@ -187,8 +187,8 @@ fn are_pure_arms(arms: &[BinaryExpr], places: &[usize]) -> bool
 
 /// Whether condition and answer of an arm are pure; past the table there is none, which asks nothing.
 #[cycle(pure)]
-fn is_pure_arm(arms: &[BinaryExpr], place: usize) -> bool
-    ensures { result ≡ queries.is_pure_arm (arm_at (true, true) (queries.arm_purities (arms_of arms.now)) place) }
+fn is_pure_at(arms: &[BinaryExpr], place: usize) -> bool
+    ensures { result ≡ is_pure_if_any (slice_get arms.now place) }
 {
     match arms.get(place) {
         Some(arm) => is_pure_expr(&arm.lhs) && is_pure_expr(&arm.rhs),

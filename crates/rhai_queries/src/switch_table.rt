@@ -13,7 +13,6 @@ use rhai_base::{AstError, RangeCase};
 use rhai_tree::{BinaryExpr, Cases, SwitchCasesCollection};
 
 /// Whether it is a table: what `table_refusal` does not refuse.
-#[tactic(auto, using(rhai_reading::specs::Reading::shapes, crate::proofs::SwitchTables::accepted))]
 pub fn is_table(table: &SwitchCasesCollection) -> bool
     ensures { result ≡ shape.is_table (arms_of (expressions_of table.now)) (table_of table.now) }
 {

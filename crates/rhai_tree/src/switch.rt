@@ -1,8 +1,6 @@
 //! The table of a `switch`.
 
 ghost use Rattle.std.specs.Prelude.{◌≡◌};
-ghost use Rattle.std.specs.Borrow.{sem};
-ghost use Rattle.rhai_tree.specs.Lends.{lends_map};
 
 use crate::{BinaryExpr, Expr};
 use indexmap::IndexMap;
@@ -73,15 +71,19 @@ impl Cases {
         &self.map
     }
 
-    /// The cases as a map, lent for writing.
-    pub fn as_map_mut(&mut self) -> &mut IndexMap<Dynamic, CaseBlocksList>
-        ensures* writes_back { sem 𝓛 (lends_map self.entry result) }
-        ensures value { result.now.entries ≡ self.old }
+    /// Puts another map in place of the cases' own, which it answers. So a table is changed without a copy: an empty
+    /// map, which takes no memory, stands there until the changed one is put back.
+    pub fn replace_map(
+        &mut self,
+        map: IndexMap<Dynamic, CaseBlocksList>,
+    ) -> IndexMap<Dynamic, CaseBlocksList>
+        ensures taken { result.entries ≡ self.old }
+        ensures left { self.new ≡ map.entries }
     {
-        &mut self.map
+        std::mem::replace(&mut self.map, map)
     }
 
-    /// The map of the cases.
+    /// The map of the cases, taken out.
     pub fn into_map(self) -> IndexMap<Dynamic, CaseBlocksList>
         ensures { result.entries ≡ self }
     {
