@@ -1,5 +1,5 @@
 pub mod ConstantLists
-pub mod Operators
 pub mod Others
 pub mod SwitchTables
 pub mod Tables
+pub mod TokenCalls

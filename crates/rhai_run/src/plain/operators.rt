@@ -2,7 +2,7 @@
 
 #![tactic(auto, using(rhai_values::specs::Reading::kinds))]
 
-ghost use Rattle.std.specs.Prelude.{◌≡◌, IfOk, Some, map, length, codes};
+ghost use Rattle.std.specs.Prelude.{◌≡◌, IfOk, map, length, codes};
 ghost use Rattle.rhai_base.specs.Builtin.{answered, computed_of};
 ghost use Rattle.rhai_values.specs.Reading.{value_of};
 ghost use Rattle.rhai_values.specs.Value.{TextV};
