@@ -1,5 +1,5 @@
 -- All other expressions, where a match names some.
-use Rattle.std.proofs.Common.{◌≡◌, Bool, true, false, Option, if◌then◌else◌, refl}
+use Rattle.std.proofs.Common.{◌≡◌, Bool, false, Option, if◌then◌else◌, refl}
 use Rattle.std.specs.declared.num.NonZeroU8.{NonZeroU8}
 use Rattle.std.specs.declared.num.NonZeroUsize.{NonZeroUsize}
 use Rattle.rhai_parts.specs.declared.flags.ASTFlags.{ASTFlags}

@@ -2,4 +2,3 @@ pub mod ConstantLists
 pub mod Others
 pub mod SwitchTables
 pub mod Tables
-pub mod TokenCalls

@@ -17,7 +17,7 @@ use Rattle.rhai_meaning.specs.Queries.{is_literally}
 use Rattle.rhai_meaning.specs.Shape as shape
 use Rattle.rhai_meaning.specs.Tree.{Expr, BoolConstant, Arms, no_arms, arm, count_arms}
 use Rattle.rhai_reading.specs.Reading.{arms_of, case_of, expr_of, range_of, table_by}
-use Rattle.rhai_queries.specs.SwitchTables.{are_keys, default_at, default_refusal, default_tested, lists_name, lists_within, ranges_name, ranges_within, refusal, RefusalLaw}
+use Rattle.rhai_queries.specs.SwitchTables.{are_keys, default_at, default_tested, lists_name, lists_within, ranges_name, ranges_within, refusal, RefusalLaw}
 use Rattle.rhai_queries.proofs.Tables.{range_arm}
 
 abbrev pub is_accepted : Option AstError → Bool

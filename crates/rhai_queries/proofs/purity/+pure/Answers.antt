@@ -1,4 +1,4 @@
-use Rattle.std.proofs.Common.{ℕ, Bool, ◌&&◌, ◌+◌, drop, slice_get, sym, ap, ◌∙◌}
+use Rattle.std.proofs.Common.{ℕ, ◌&&◌, ◌+◌, drop, slice_get, sym, ap, ◌∙◌}
 use Rattle.rhai_meaning.specs.Queries.{arm_purities, listed_arms_are_pure}
 use Rattle.rhai_reading.specs.Reading.{arms_of}
 use Rattle.rhai_queries.specs.Arms.{is_pure_if_any}
