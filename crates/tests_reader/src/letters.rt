@@ -1,5 +1,7 @@
 //! What is read letter by letter.
 
+ghost use Rattle.std.specs.Prelude.{◌<◌, IfOk};
+
 use rhai_base::{INT, Ident, ImmutableString, OutOfMemory, Position};
 use std::alloc::{AllocError, Global};
 use std::str;
@@ -124,7 +126,7 @@ impl<'a> Letters<'a> {
     pub(crate) fn word(&mut self) -> &'a str {
         let mut letters = self.rest.iter();
         let count = letters
-            .position(|letter| !(letter.is_ascii_alphanumeric() || *letter == b'_'))
+            .position(|letter| !(letter.is_ascii_alphanumeric() || b"_$".contains(letter)))
             .unwrap_or(self.rest.len());
         self.first(count).unwrap_or("")
     }
@@ -158,6 +160,13 @@ impl<'a> Letters<'a> {
         let number = self.integer().ok_or(Unread::Wanted("a number"))?;
         usize::try_from(number).map_err(|_| Unread::Wanted("a number"))
     }
+}
+
+/// One step less.
+pub(crate) fn below(depth: u32) -> Result<u32, Unread>
+    ensures { IfOk result (λ d. d < depth) }
+{
+    depth.checked_sub(1).ok_or(Unread::Wanted("fewer levels"))
 }
 
 fn column(column: usize) -> Position {

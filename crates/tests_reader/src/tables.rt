@@ -2,6 +2,7 @@
 
 use crate::joined::both;
 use crate::letters::{Letters, Unread};
+use crate::values::DEPTH;
 use indexmap::IndexMap;
 use rhai_ast::{CaseBlocksList, Cases};
 use rhai_base::{Dynamic, INT, OutOfMemory, RangeCase, Seq};
@@ -22,7 +23,7 @@ impl<'a> Letters<'a> {
     fn cases(&mut self) -> Result<Cases, Unread> {
         let mut cases = IndexMap::new(self.alloc);
         for _ in 0..ITEMS {
-            match self.scalar()? {
+            match self.value(DEPTH)? {
                 Some(key) => put(&mut cases, key, self.places()?)?,
                 None => break,
             }
@@ -34,10 +35,13 @@ impl<'a> Letters<'a> {
         Ok(Cases::from_map(cases))
     }
 
-    /// The places of a case's arms.
+    /// The places of a case's arms; where there are none a blank may stand for them.
     fn places(&mut self) -> Result<CaseBlocksList, Unread> {
         self.expect(":")?;
         let mut blocks = Seq::new(self.alloc);
+        if self.starts("  |") || self.starts(" ,") {
+            self.skip(" ");
+        }
         for _ in 0..ITEMS {
             if self.starts(" |") || !self.skip(" ") {
                 break;

@@ -1,9 +1,7 @@
 //! Trees. They go so deep and no deeper, and take so many items of a list and no more.
 
-ghost use Rattle.std.specs.Prelude.{◌<◌, IfOk};
-
 use crate::joined::{both, ended, pushed, too_many};
-use crate::letters::{Letters, Unread};
+use crate::letters::{Letters, Unread, below};
 use crate::names::Called;
 use crate::nodes;
 use rhai_ast::{BinaryExpr, Expr, FnCallExpr, Literals, Stmt, StmtBlock};
@@ -11,7 +9,7 @@ use rhai_base::{ASTFlags, Boxed, Ident, Position, Seq};
 use std::alloc::Global;
 
 /// How deep a text may nest, each step of the grammar counted.
-const DEPTH: u32 = 120;
+pub(crate) const DEPTH: u32 = 120;
 
 /// How many items a list may have.
 const ITEMS: usize = 20;
@@ -19,15 +17,8 @@ const ITEMS: usize = 20;
 /// The statements of a text, each on a line.
 pub fn read_lines(alloc: Global, text: &str) -> Result<Vec<Stmt>, Unread> {
     let mut letters = Letters::new(alloc, text);
-    let mut statements = Vec::new(alloc);
-    for _ in 0..ITEMS {
-        if letters.is_empty() {
-            return Ok(statements);
-        }
-        let statement = letters.statement(DEPTH);
-        statements = pushed(statements, ended(statement, letters.expect("\n")))?;
-    }
-    too_many(statements)
+    let statements = letters.lines();
+    ended(statements, letters.end())
 }
 
 /// The one expression of a text.
@@ -49,12 +40,6 @@ pub fn read_stmt(alloc: Global, text: &str) -> Result<Stmt, Unread> {
     let mut letters = Letters::new(alloc, text);
     let statement = letters.statement(DEPTH);
     ended(statement, letters.end())
-}
-
-fn below(depth: u32) -> Result<u32, Unread>
-    ensures { IfOk result (λ d. d < depth) }
-{
-    depth.checked_sub(1).ok_or(Unread::Wanted("fewer levels"))
 }
 
 // ---- expressions
@@ -244,6 +229,19 @@ impl<'a> Letters<'a> {
 // ---- statements
 
 impl<'a> Letters<'a> {
+    /// Statements up to the first function, or to the end, each on a line.
+    pub(crate) fn lines(&mut self) -> Result<Vec<Stmt>, Unread> {
+        let mut statements = Vec::new(self.alloc);
+        for _ in 0..ITEMS {
+            if self.is_empty() || self.starts("fn ") {
+                return Ok(statements);
+            }
+            let statement = self.statement(DEPTH);
+            statements = pushed(statements, ended(statement, self.expect("\n")))?;
+        }
+        too_many(statements)
+    }
+
     #[cycle(read)]
     fn statement(&mut self, depth: u32) -> Result<Stmt, Unread> {
         let depth = below(depth)?;
@@ -257,7 +255,7 @@ impl<'a> Letters<'a> {
             "do" => self.repeated(pos, depth),
             "for" => self.each(pos, depth),
             "block" => Ok(Stmt::Block(Boxed::new(self.alloc, self.block(" ", depth)?)?)),
-            "call" => self.called_alone(pos, depth),
+            "call" if self.starts(" ") => self.called_alone(pos, depth),
             "try" => self.tried(pos, depth),
             "let" => self.declared(ASTFlags::NONE, pos, depth),
             "const" => self.declared(ASTFlags::CONSTANT, pos, depth),
@@ -434,7 +432,11 @@ impl<'a> Letters<'a> {
 
     /// A block after these letters.
     #[cycle(read)]
-    fn block(&mut self, before: &'static str, depth: u32) -> Result<StmtBlock, Unread> {
+    pub(crate) fn block(
+        &mut self,
+        before: &'static str,
+        depth: u32,
+    ) -> Result<StmtBlock, Unread> {
         let depth = below(depth)?;
         self.expect(before)?;
         let start = self.here();
