@@ -46,3 +46,5 @@ mapped_in-last ms ns m t e h = ap (λ l. mapped_in l t) e ∙ name_last ns m t �
 
 pub mapped_in-earlier : (ms ns : List TypeName) (m : TypeName) (t : Text) → ms ≡ ns ++ m ∷ [] → same_text m.from t ≡ false → mapped_in ms t ≡ mapped_in ns t
 mapped_in-earlier ms ns m t e h = ap (λ l. mapped_in l t) e ∙ name_last ns m t ∙ ap (λ b. or_else (if b then Some m.to else None) (mapped_in ns t)) h
+
+pub ruleset latest = (constants_of-push, constant_named-last, mapped_in-last, mapped_in-earlier)

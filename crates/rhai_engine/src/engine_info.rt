@@ -114,7 +114,6 @@ impl EngineInfo {
     /// From now on scripts see this constant, of whatever value, where nothing in scope has its name. A later one of
     /// a name wins. Refused, the record is as it was. In rhai constants come from modules registered with the
     /// engine.
-    #[tactic(auto, using(crate::proofs::Latest::constants_of-push))]
     pub fn add_constant(
         &mut self,
         name: ImmutableString,
@@ -128,7 +127,6 @@ impl EngineInfo {
     }
 
     /// The value of the latest constant of this name.
-    #[tactic(auto, using(crate::proofs::Latest::constant_named-last))]
     pub fn constant_named(&self, name: &str) -> Option<&Dynamic>
         ensures { option_map (λ v. value_of v.now) result ≡ constant_named (engine_of self.now).constants name.now }
     {
@@ -157,7 +155,6 @@ impl EngineInfo {
     }
 
     /// The name that scripts see for the type of this name: the latest that was set for it, else its own.
-    #[tactic(auto, using(crate::proofs::Latest::mapped_in-last, crate::proofs::Latest::mapped_in-earlier))]
     pub fn map_type_name<'a>(&'a self, name: &'a str) -> &'a str
         ensures { result.now ≡ mapped_name (engine_of self.now) name.now }
     {
