@@ -1,5 +1,5 @@
 -- The latest of a name, of a list and of what stands before its last item.
-use Rattle.std.proofs.Common.{◌≡◌, Bool, true, false, if◌then◌else◌, List, [], ◌∷◌, ◌++◌, Option, Some, None, refl, sym, ap, ◌∙◌}
+use Rattle.std.proofs.Common.{◌≡◌, Bool, true, false, if◌then◌else◌, List, [], ◌∷◌, ◌++◌, Option, Some, None, refl, ap, ◌∙◌}
 use Rattle.std.proofs.lemmas.List.{map-append}
 use Rattle.rhai_values.specs.Reading.{value_of}
 use Rattle.rhai_values.specs.Value.{Text, Value, same_text}
@@ -32,14 +32,20 @@ name_last (a ∷ ms) m t = ap (λ o. or_else o (name_at a t)) (name_last ms m t)
 pub constants_of-push : (cs : List EngineConstant) (c : EngineConstant) → constants_of (cs ++ c ∷ []) ≡ constants_of cs ++ record { name = c.name; value = value_of c.value } ∷ []
 constants_of-push cs c = map-append _ cs (c ∷ [])
 
--- what the last item answers, and else those before it
-pub constant_named-last : (cs bs : List EngineConstant) (c : EngineConstant) (x : Text) (o : Option Value) → cs ≡ bs ++ c ∷ []
-    → o ≡ (if same_text c.name x then Some (value_of c.value) else None) → constant_named (constants_of cs) x ≡ or_else o (constant_named (constants_of bs) x)
-constant_named-last cs bs c x o e h =
+constant_pushed : (cs bs : List EngineConstant) (c : EngineConstant) (x : Text) → cs ≡ bs ++ c ∷ []
+    → constant_named (constants_of cs) x ≡ or_else (if same_text c.name x then Some (value_of c.value) else None) (constant_named (constants_of bs) x)
+constant_pushed cs bs c x e =
     ap (λ l. constant_named (constants_of l) x) e
     ∙ ap (λ l. constant_named l x) (constants_of-push bs c)
     ∙ constant_last (constants_of bs) (record { name = c.name; value = value_of c.value }) x
-    ∙ ap (λ p. or_else p (constant_named (constants_of bs) x)) (sym h)
+
+-- ---- what the last item answers, and else those before it
+
+pub constant_named-last : (cs bs : List EngineConstant) (c : EngineConstant) (x : Text) → cs ≡ bs ++ c ∷ [] → same_text c.name x ≡ true → constant_named (constants_of cs) x ≡ Some (value_of c.value)
+constant_named-last cs bs c x e h = constant_pushed cs bs c x e ∙ ap (λ b. or_else (if b then Some (value_of c.value) else None) (constant_named (constants_of bs) x)) h
+
+pub constant_named-earlier : (cs bs : List EngineConstant) (c : EngineConstant) (x : Text) → cs ≡ bs ++ c ∷ [] → same_text c.name x ≡ false → constant_named (constants_of cs) x ≡ constant_named (constants_of bs) x
+constant_named-earlier cs bs c x e h = constant_pushed cs bs c x e ∙ ap (λ b. or_else (if b then Some (value_of c.value) else None) (constant_named (constants_of bs) x)) h
 
 pub mapped_in-last : (ms ns : List TypeName) (m : TypeName) (t : Text) → ms ≡ ns ++ m ∷ [] → same_text m.from t ≡ true → mapped_in ms t ≡ Some m.to
 mapped_in-last ms ns m t e h = ap (λ l. mapped_in l t) e ∙ name_last ns m t ∙ ap (λ b. or_else (if b then Some m.to else None) (mapped_in ns t)) h
@@ -47,4 +53,4 @@ mapped_in-last ms ns m t e h = ap (λ l. mapped_in l t) e ∙ name_last ns m t �
 pub mapped_in-earlier : (ms ns : List TypeName) (m : TypeName) (t : Text) → ms ≡ ns ++ m ∷ [] → same_text m.from t ≡ false → mapped_in ms t ≡ mapped_in ns t
 mapped_in-earlier ms ns m t e h = ap (λ l. mapped_in l t) e ∙ name_last ns m t ∙ ap (λ b. or_else (if b then Some m.to else None) (mapped_in ns t)) h
 
-pub ruleset latest = (constants_of-push, constant_named-last, mapped_in-last, mapped_in-earlier)
+pub ruleset latest = (constants_of-push, constant_named-last, constant_named-earlier, mapped_in-last, mapped_in-earlier)

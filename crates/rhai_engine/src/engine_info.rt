@@ -1,10 +1,9 @@
 //! What an engine fixes for every script that it runs.
-ghost use Rattle.std.specs.Prelude.{◌≡◌, [], ◌∷◌, map, false, Some, None, if◌then◌else◌, IfOk, OnOk, OnErr};
+ghost use Rattle.std.specs.Prelude.{◌≡◌, [], ◌∷◌, map, false, IfOk, OnOk, OnErr};
 ghost use Rattle.std.specs.Option.{option_map};
 ghost use Rattle.std.specs.Map.Iter.{deref};
 ghost use Rattle.rhai_base.specs.Builtin.{answered, computed_of};
 ghost use Rattle.rhai_values.specs.Reading.{value_of};
-ghost use Rattle.rhai_values.specs.Value.{same_text};
 ghost use Rattle.rhai_meaning.specs.Engine.{constant_named, has_override, mapped_name, overrides_any, same_texts};
 ghost use Rattle.rhai_engine.specs.Override.{is_override};
 
@@ -19,18 +18,6 @@ use std::marker::Model;
 struct EngineConstant {
     name: ImmutableString,
     value: Dynamic,
-}
-
-impl EngineConstant {
-    fn named(&self, name: &str) -> Option<&Dynamic>
-        ensures { option_map (λ v. value_of v.now) result ≡ (if same_text self.now.name name.now then Some (value_of self.now.value) else None) }
-    {
-        if self.name.as_str() == name {
-            Some(&self.value)
-        } else {
-            None
-        }
-    }
 }
 
 /// The name that scripts see for a type.
@@ -114,11 +101,7 @@ impl EngineInfo {
     /// From now on scripts see this constant, of whatever value, where nothing in scope has its name. A later one of
     /// a name wins. Refused, the record is as it was. In rhai constants come from modules registered with the
     /// engine.
-    pub fn add_constant(
-        &mut self,
-        name: ImmutableString,
-        value: Dynamic,
-    ) -> Result<(), OutOfMemory>
+    pub fn add_constant(&mut self, name: ImmutableString, value: Dynamic) -> Result<(), OutOfMemory>
         ensures ok { OnOk result (engine_of self.new ≡ knowing_constant (engine_of self.old) name (value_of value)) }
         ensures err { OnErr result (self.new ≡ self.old) }
     {
@@ -132,8 +115,8 @@ impl EngineInfo {
     {
         let mut constants = self.constants.as_slice();
         while let Some((constant, earlier)) = constants.split_last() {
-            if let Some(value) = constant.named(name) {
-                return Some(value);
+            if constant.name.as_str() == name {
+                return Some(&constant.value);
             }
             constants = earlier;
         }
