@@ -5,9 +5,13 @@
 #[cfg(test)]
 mod differential;
 #[cfg(test)]
+mod directed;
+#[cfg(test)]
 mod engine;
 #[cfg(test)]
 mod evaluator;
+#[cfg(test)]
+mod given;
 #[cfg(test)]
 mod hosts;
 #[cfg(test)]
@@ -16,6 +20,8 @@ mod notation;
 mod optimizer;
 #[cfg(test)]
 mod program;
+#[cfg(test)]
+mod random;
 #[cfg(test)]
 mod readme;
 #[cfg(test)]
@@ -26,3 +32,5 @@ mod rows;
 mod table;
 #[cfg(test)]
 mod trees;
+#[cfg(test)]
+mod vectors;

@@ -28,7 +28,7 @@ impl<'a> Letters<'a> {
             if !self.starts("::") {
                 break;
             }
-            let next = self.ident("::")?;
+            let next = self.part()?;
             namespace.path.push(mem::replace(&mut last, next))?;
         }
         let Ident { name, pos } = last;
@@ -38,6 +38,28 @@ impl<'a> Letters<'a> {
             pos,
             captures: self.starts("!(") && self.skip("!"),
         })
+    }
+
+    /// What follows in a path: a name, or an operator before its `(`.
+    fn part(&mut self) -> Result<Ident, Unread> {
+        self.expect("::")?;
+        let (pos, before) = (self.here(), self.rest());
+        let mut word = self.word();
+        if word.is_empty() {
+            word = self.until(b'(').ok_or(Unread::Wanted("a name"))?;
+            self.come_back(before);
+            self.skip(word);
+        }
+        let name = ImmutableString::new(self.alloc, word)?;
+        Ok(Ident { name, pos })
+    }
+
+    /// Another name, which may be empty.
+    pub(crate) fn alias(&mut self) -> Result<Ident, Unread> {
+        self.expect(" as ")?;
+        let pos = self.here();
+        let name = ImmutableString::new(self.alloc, self.word())?;
+        Ok(Ident { name, pos })
     }
 
     /// What is called, and goes past the `(`.

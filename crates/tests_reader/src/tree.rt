@@ -386,14 +386,14 @@ impl<'a> Letters<'a> {
             let options = ASTFlags::EXPORTED | ASTFlags::CONSTANT;
             return self.declared(options, pos, depth);
         }
-        let names = both(self.ident(" "), self.ident(" as "))?;
+        let names = both(self.ident(" "), self.alias())?;
         Ok(Stmt::Export(Boxed::new(self.alloc, names)?, pos))
     }
 
     #[cycle(read)]
     fn imported(&mut self, pos: Position, depth: u32) -> Result<Stmt, Unread> {
         let depth = below(depth)?;
-        let parts = both(self.expr_after(" ", depth), self.ident(" as "))?;
+        let parts = both(self.expr_after(" ", depth), self.alias())?;
         nodes::import(self.alloc, parts, pos)
     }
 
@@ -432,11 +432,7 @@ impl<'a> Letters<'a> {
 
     /// A block after these letters.
     #[cycle(read)]
-    pub(crate) fn block(
-        &mut self,
-        before: &'static str,
-        depth: u32,
-    ) -> Result<StmtBlock, Unread> {
+    pub(crate) fn block(&mut self, before: &'static str, depth: u32) -> Result<StmtBlock, Unread> {
         let depth = below(depth)?;
         self.expect(before)?;
         let start = self.here();
