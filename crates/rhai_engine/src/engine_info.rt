@@ -72,9 +72,9 @@ fn are_named(types: &[&str], names: &[ImmutableString]) -> bool
     true
 }
 
-/// What the host sets: constants that every script sees, the operators that it answers itself, the names that scripts
-/// see for types, and whether built-in operators go before its own. Types are named as scripts name values'
-/// types before any mapping, as `i64` and `string`.
+/// What the host sets: constants that every script sees, the operators that it answers itself, other names of types,
+/// and whether built-in operators go before its own. Types are given by their own names, as `i64` and `string`,
+/// whatever names are set for them.
 #[derive(Debug, Drop)]
 pub struct EngineInfo {
     constants: Seq<EngineConstant>,
@@ -98,8 +98,8 @@ impl EngineInfo {
         }
     }
 
-    /// From now on scripts see this constant, of whatever value, where nothing in scope has its name. A later one of
-    /// a name wins. Refused, the record is as it was. In rhai constants come from modules registered with the
+    /// From now on scripts see this constant where nothing in scope has its name. Any value may be one; a later one
+    /// of a name wins. Refused, the record is as it was. In rhai constants come from modules registered with the
     /// engine.
     pub fn add_constant(&mut self, name: ImmutableString, value: Dynamic) -> Result<(), OutOfMemory>
         ensures ok { OnOk result (engine_of self.new ≡ knowing_constant (engine_of self.old) name (value_of value)) }
