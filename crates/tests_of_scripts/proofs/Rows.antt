@@ -1,11 +1,14 @@
 -- Rows and modules, an item at a time.
-use Rattle.std.proofs.Common.{◌≡◌, ℕ, ◌+◌, ◌<◌, Bool, if◌then◌else◌, List, [], ◌∷◌, length, get_or, drop, Option, Some, None, refl, ap, add-one}
+use Rattle.std.proofs.Common.{◌≡◌, ℕ, ◌+◌, ◌<◌, Bool, if◌then◌else◌, List, [], ◌∷◌, length, get_or, drop, map, Option, Some, None, refl, ap, add-one}
 use Rattle.std.proofs.Math.Seq.{drop-cons, drop-length}
+use Rattle.std.proofs.lemmas.List.{length-map}
 use Rattle.rhai_values.specs.declared.dynamic.Dynamic.{Dynamic}
 use Rattle.rhai_values.specs.Reading.{value_of}
 use Rattle.rhai_values.specs.Value.{Text, UnitV, same_text}
 use Rattle.rhai_meaning.specs.Act.{Answers}
 use Rattle.rhai_meaning.specs.Host.{module_value_of}
+use Rattle.rhai_run.specs.declared.host.HostCall.{HostCall}
+use Rattle.rhai_run.specs.Host.{call_meant}
 use Rattle.tests_reader.specs.declared.rows.AnswerRow.{AnswerRow}
 use Rattle.tests_of_scripts.specs.Rows.{fits, answered, answer_among, modules_of}
 
@@ -23,4 +26,7 @@ module_value_of-drop ms i d x h = rw (add-one, drop-cons ms i d) refl
 pub module_value_of-end : (ms : List (Text × Dynamic)) (x : Text) → module_value_of (modules_of (drop (length ms) ms)) x ≡ None
 module_value_of-end ms x = ap (λ l. module_value_of (modules_of l) x) (drop-length ms)
 
-pub ruleset steps = (answer_among-drop, answer_among-end, module_value_of-drop, module_value_of-end)
+pub calls-counted : (cs : List HostCall) → length (map call_meant cs) ≡ length cs
+calls-counted cs = length-map cs call_meant
+
+pub ruleset steps = (answer_among-drop, answer_among-end, module_value_of-drop, module_value_of-end, calls-counted)
