@@ -8,15 +8,15 @@ use std::rc::Rc;
 use std::test::Fail;
 use tests_reader::{Unread, read_lines};
 
-const START: Position = Position::new(1, 16);
-
-const END: Position = Position::new(1, 23);
+fn at(column: u16) -> Position {
+    Position::new(1, column)
+}
 
 /// `/// doc` before `private fn i64.f(x, y) { 1; x }`
 fn private(alloc: Global) -> Result<ScriptFuncDef, Unread> {
     let body = read_lines(alloc, "1\nx\n")?;
     let mut function = ScriptFuncDef {
-        body: StmtBlock::new(body, START, END),
+        body: StmtBlock::new(body, at(16), at(23)),
         name: ImmutableString::new(alloc, "f")?,
         this_type: None,
         access: FnAccess::Private,
@@ -31,7 +31,9 @@ fn name(alloc: Global, function: &mut ScriptFuncDef) -> Result<(), OutOfMemory> 
     function.this_type = Some(ImmutableString::new(alloc, "i64")?);
     function.params.push(ImmutableString::new(alloc, "x")?)?;
     function.params.push(ImmutableString::new(alloc, "y")?)?;
-    function.comments.push(ImmutableString::new(alloc, "/// doc")?)?;
+    function
+        .comments
+        .push(ImmutableString::new(alloc, "/// doc")?)?;
     Ok(())
 }
 
@@ -39,8 +41,8 @@ fn is_private(function: &ScriptFuncDef) -> bool {
     is_named(function)
         && function.access == FnAccess::Private
         && function.body.len() == 2
-        && function.body.position() == START
-        && function.body.end_position() == END
+        && function.body.position() == at(16)
+        && function.body.end_position() == at(23)
 }
 
 fn is_named(function: &ScriptFuncDef) -> bool {

@@ -5,9 +5,7 @@ use rhai_ast::{
     BinaryExpr, CaseBlocksList, Cases, Expr, ExprQueries, FlowControl, Literals, SetPosition, Stmt,
     StmtBlock, StmtQueries, SwitchBlock, SwitchCases, SwitchCasesCollection, check_tree, is_plain,
 };
-use rhai_base::{
-    ASTFlags, AstError, Boxed, Dynamic, INT, OutOfMemory, Position, RangeCase, Seq,
-};
+use rhai_base::{ASTFlags, AstError, Boxed, Dynamic, INT, OutOfMemory, Position, RangeCase, Seq};
 use std::alloc::Global;
 use std::test::Fail;
 
@@ -81,7 +79,10 @@ fn cases(alloc: Global) -> Result<IndexMap<Dynamic, CaseBlocksList>, OutOfMemory
 }
 
 /// Its table, with this arm as the default.
-fn table(alloc: Global, default: usize) -> Result<Result<SwitchCasesCollection, AstError>, OutOfMemory> {
+fn table(
+    alloc: Global,
+    default: usize,
+) -> Result<Result<SwitchCasesCollection, AstError>, OutOfMemory> {
     let mut range = RangeCase::from(5..8);
     range.set_index(1); // the second arm
     let ranges = vec![in alloc; range]?;
@@ -108,7 +109,10 @@ fn without_arms(alloc: Global) -> Result<Stmt, OutOfMemory> {
         def_case: Some(0),
     };
     let expr = Expr::Unit(Position::NONE);
-    Ok(Stmt::Switch(Boxed::new(alloc, SwitchBlock { expr, cases })?, Position::NONE))
+    Ok(Stmt::Switch(
+        Boxed::new(alloc, SwitchBlock { expr, cases })?,
+        Position::NONE,
+    ))
 }
 
 #[test]

@@ -18,7 +18,12 @@ const ROWS: [Row; 46] = [
     ("\"a\"", true, "string", "a"),
     ("<1..2>", true, "range", "1..2"),
     ("<[1, 'c']>", true, "array", "[1, 'c']"),
-    ("<#{\"b\": [], \"a\": 1}>", true, "map", "#{\"a\": 1, \"b\": []}"),
+    (
+        "<#{\"b\": [], \"a\": 1}>",
+        true,
+        "map",
+        "#{\"a\": 1, \"b\": []}",
+    ),
     ("<Fn(f)>", true, "Fn", "Fn(f)"),
     ("[]", true, "array", "[]"),
     ("[1, 'c', <3..4>]", true, "array", "[1, 'c', 3..4]"),
@@ -114,7 +119,9 @@ const VALUES: [(&str, &str, &str, bool); 11] = [
 ];
 
 /// Where the constants are wanted.
-const THERE: Position = Position::new(2, 5);
+fn there() -> Position {
+    Position::new(2, 5)
+}
 
 #[test]
 fn each_value_has_its_constant(rt: HostRuntime) -> Result<(), Fail> {
@@ -128,7 +135,7 @@ fn each_value_has_its_constant(rt: HostRuntime) -> Result<(), Fail> {
 
 /// Whether the constant for a value is of its kind, has that value, and stands where it was wanted.
 fn comes_back(alloc: Global, row: &(&str, &str, &str, bool)) -> Result<bool, Unread> {
-    let expr = Expr::from_dynamic(alloc, read_value(alloc, row.0)?, THERE)?;
+    let expr = Expr::from_dynamic(alloc, read_value(alloc, row.0)?, there())?;
     let is_kept = is_of_any_value(&expr) == row.3;
     Ok(is_kept && is_constant(alloc, &expr, row.1, row.2)?)
 }
@@ -138,7 +145,7 @@ fn is_of_any_value(expr: &Expr) -> bool {
 }
 
 fn is_constant(alloc: Global, expr: &Expr, name: &str, text: &str) -> Result<bool, OutOfMemory> {
-    let is_there = expr.is_constant() && expr.position() == THERE;
+    let is_there = expr.is_constant() && expr.position() == there();
     Ok(is_there && has_value(alloc, expr, name, text)?)
 }
 
@@ -146,15 +153,15 @@ fn is_constant(alloc: Global, expr: &Expr, name: &str, text: &str) -> Result<boo
 fn is_held(alloc: Global) -> Result<bool, Fail> {
     let mut pointer = pointer(alloc)?;
     pointer.add_curry(Dynamic::Int(1))?;
-    let expr = Expr::from_dynamic(alloc, Dynamic::FnPtr(pointer), THERE)?;
+    let expr = Expr::from_dynamic(alloc, Dynamic::FnPtr(pointer), there())?;
     Ok(is_of_any_value(&expr) && is_constant(alloc, &expr, "Fn", "Fn(f)")?)
 }
 
 /// Whether the constant for a pointer is the call that makes it, there with its argument.
 fn is_called_for(alloc: Global) -> Result<bool, Fail> {
-    let expr = Expr::from_dynamic(alloc, Dynamic::FnPtr(pointer(alloc)?), THERE)?;
+    let expr = Expr::from_dynamic(alloc, Dynamic::FnPtr(pointer(alloc)?), there())?;
     let is_call = match &expr {
-        Expr::FnCall(call, pos) => *pos == THERE && are_there(call.get()),
+        Expr::FnCall(call, pos) => *pos == there() && are_there(call.get()),
         _ => false,
     };
     Ok(is_call && !expr.is_constant() && has_value(alloc, &expr, "Fn", "Fn(f)")?)
@@ -162,7 +169,7 @@ fn is_called_for(alloc: Global) -> Result<bool, Fail> {
 
 fn are_there(call: &FnCallExpr) -> bool {
     match call.args.as_slice() {
-        [Expr::StringConstant(name, pos)] => name.as_str() == "f" && *pos == THERE,
+        [Expr::StringConstant(name, pos)] => name.as_str() == "f" && *pos == there(),
         _ => false,
     }
 }

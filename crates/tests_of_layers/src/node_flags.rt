@@ -23,7 +23,12 @@ const STMTS: [&str; 6] = [
     "throw 1",
 ];
 
-const EXPRS: [&str; 4] = ["Dot(a, b)", "Dot!(a, m(1))", "Index!(a, 1)", "Index(a, Dot?(1, b))"];
+const EXPRS: [&str; 4] = [
+    "Dot(a, b)",
+    "Dot!(a, m(1))",
+    "Index!(a, 1)",
+    "Index(a, Dot?(1, b))",
+];
 
 #[test]
 fn flags_are_answered(rt: HostRuntime) -> Result<(), Fail> {

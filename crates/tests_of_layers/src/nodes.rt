@@ -129,7 +129,11 @@ fn is_call(call: &FnCallExpr, row: (&str, bool, bool, bool)) -> bool {
 }
 
 /// Whether the call is an expression of the same parts, where it is wanted.
-fn is_moved(alloc: Global, call: FnCallExpr, row: (&str, bool, bool, bool)) -> Result<bool, OutOfMemory> {
+fn is_moved(
+    alloc: Global,
+    call: FnCallExpr,
+    row: (&str, bool, bool, bool),
+) -> Result<bool, OutOfMemory> {
     let wanted = Position::new(2, 5);
     let args = call.args.len();
     match call.into_fn_call_expr(alloc, wanted)? {

@@ -145,16 +145,16 @@ fn nested_choices_become_the_innermost_value(rt: HostRuntime) -> Result<(), Fail
 
 /// `1 + 2; 1 + 2; ..`
 fn many(alloc: Global) -> Result<Vec<Stmt>, Unread> {
-    let mut statements = Vec::with_capacity(alloc, LENGTH)?;
-    for _ in 0..LENGTH {
-        push(&mut statements, read_stmt(alloc, "+(1, 2)")?)?;
-    }
-    Ok(statements)
+    let sum = read_stmt(alloc, "+(1, 2)")?;
+    Ok(copies(alloc, &sum)?)
 }
 
-fn push(statements: &mut Vec<Stmt>, statement: Stmt) -> Result<(), OutOfMemory> {
-    statements.push(statement)?;
-    Ok(())
+fn copies(alloc: Global, statement: &Stmt) -> Result<Vec<Stmt>, OutOfMemory> {
+    let mut statements = Vec::with_capacity(alloc, LENGTH)?;
+    for _ in 0..LENGTH {
+        statements.push(statement.clone()?)?;
+    }
+    Ok(statements)
 }
 
 #[test]
@@ -237,7 +237,8 @@ fn stays(alloc: Global, lines: &str) -> Result<bool, Unread> {
 // ---- memory
 
 /// A script of the nodes that the optimiser opens, in which nothing is to be reduced, and of two that it does not open.
-const SETTLED: &str = "call f(f(1, 2), [f(1, 2), 2])\nif f(1, 2) { call f(1) } else { call f({ x; y }) }\n\
+const SETTLED: &str =
+    "call f(f(1, 2), [f(1, 2), 2])\nif f(1, 2) { call f(1) } else { call f({ x; y }) }\n\
                        while x { +(1, 2) }\nDot(x, m([1]))\n1\n";
 
 /// The last request for memory is that of the reader. Where the one after it is refused, as by `rt try --test --fail-alloc`

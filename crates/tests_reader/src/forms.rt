@@ -138,14 +138,30 @@ pub(crate) static EXPRS: [(&str, ExprKind, &[Part]); 7] = [
     ("and", ExprKind::And, &[OPEN, Part::Operands]),
     ("or", ExprKind::Or, &[OPEN, Part::Operands]),
     ("coalesce", ExprKind::Coalesce, &[OPEN, Part::Operands]),
-    ("Dot", ExprKind::Dot, &[ENDING, OPEN, Part::Expr, COMMA, Part::Link, CLOSE]),
-    ("Index", ExprKind::Index, &[ENDING, OPEN, Part::Expr, COMMA, Part::Expr, CLOSE]),
+    (
+        "Dot",
+        ExprKind::Dot,
+        &[ENDING, OPEN, Part::Expr, COMMA, Part::Link, CLOSE],
+    ),
+    (
+        "Index",
+        ExprKind::Index,
+        &[ENDING, OPEN, Part::Expr, COMMA, Part::Expr, CLOSE],
+    ),
 ];
 
 /// The same at the right of a `.`
 pub(crate) static LINKS: [(&str, ExprKind, &[Part]); 2] = [
-    ("Dot", ExprKind::Dot, &[ENDING, OPEN, Part::Link, COMMA, Part::Link, CLOSE]),
-    ("Index", ExprKind::Index, &[ENDING, OPEN, Part::Link, COMMA, Part::Expr, CLOSE]),
+    (
+        "Dot",
+        ExprKind::Dot,
+        &[ENDING, OPEN, Part::Link, COMMA, Part::Link, CLOSE],
+    ),
+    (
+        "Index",
+        ExprKind::Index,
+        &[ENDING, OPEN, Part::Link, COMMA, Part::Expr, CLOSE],
+    ),
 ];
 
 const OPEN: Part = Part::Letters("(");
@@ -173,25 +189,69 @@ const AS: Part = Part::Letters(" as ");
 /// Statements by their words.
 pub(crate) static STMTS: [(&str, StmtKind, &[Part]); 19] = [
     ("noop", StmtKind::Noop, &[]),
-    ("if", StmtKind::If, &[BLANK, Part::Expr, BLANK, Part::Body, Part::Letters(" else "), Part::Branch]),
+    (
+        "if",
+        StmtKind::If,
+        &[
+            BLANK,
+            Part::Expr,
+            BLANK,
+            Part::Body,
+            Part::Letters(" else "),
+            Part::Branch,
+        ],
+    ),
     (
         "switch",
         StmtKind::Switch,
-        &[BLANK, Part::Expr, Part::Letters(" { "), Part::Flat(Flat::Table), Part::Arms],
+        &[
+            BLANK,
+            Part::Expr,
+            Part::Letters(" { "),
+            Part::Flat(Flat::Table),
+            Part::Arms,
+        ],
     ),
-    ("while", StmtKind::While, &[BLANK, Part::Expr, BLANK, Part::Body]),
+    (
+        "while",
+        StmtKind::While,
+        &[BLANK, Part::Expr, BLANK, Part::Body],
+    ),
     ("loop", StmtKind::While, &[BLANK, Part::Body]),
-    ("do", StmtKind::Do, &[BLANK, Part::Body, Part::Flat(Flat::Until), Part::Expr]),
+    (
+        "do",
+        StmtKind::Do,
+        &[BLANK, Part::Body, Part::Flat(Flat::Until), Part::Expr],
+    ),
     (
         "for",
         StmtKind::For,
-        &[BLANK, Part::Flat(Flat::LoopNames), Part::Letters(" in "), Part::Expr, BLANK, Part::Body],
+        &[
+            BLANK,
+            Part::Flat(Flat::LoopNames),
+            Part::Letters(" in "),
+            Part::Expr,
+            BLANK,
+            Part::Body,
+        ],
     ),
     ("let", StmtKind::Var, &[BLANK, NAME, IS, Part::Expr]),
-    ("const", StmtKind::Var, &[CONSTANT, BLANK, NAME, IS, Part::Expr]),
-    ("call", StmtKind::Call, &[BLANK, Part::Flat(Flat::Callee), Part::Operands]),
+    (
+        "const",
+        StmtKind::Var,
+        &[CONSTANT, BLANK, NAME, IS, Part::Expr],
+    ),
+    (
+        "call",
+        StmtKind::Call,
+        &[BLANK, Part::Flat(Flat::Callee), Part::Operands],
+    ),
     ("block", StmtKind::Block, &[BLANK, Part::Body]),
-    ("try", StmtKind::Try, &[BLANK, Part::Body, Part::Flat(Flat::Caught), Part::Branch]),
+    (
+        "try",
+        StmtKind::Try,
+        &[BLANK, Part::Body, Part::Flat(Flat::Caught), Part::Branch],
+    ),
     ("continue", StmtKind::Leave, &[Part::Maybe]),
     ("break", StmtKind::Leave, &[BREAK, Part::Maybe]),
     ("return", StmtKind::Return, &[Part::Maybe]),
@@ -204,5 +264,9 @@ pub(crate) static STMTS: [(&str, StmtKind, &[Part]); 19] = [
 /// Declarations behind the word `export`.
 pub(crate) static EXPORTS: [(&str, StmtKind, &[Part]); 2] = [
     (" let ", StmtKind::Var, &[EXPORTED, NAME, IS, Part::Expr]),
-    (" const ", StmtKind::Var, &[EXPORTED, CONSTANT, NAME, IS, Part::Expr]),
+    (
+        " const ",
+        StmtKind::Var,
+        &[EXPORTED, CONSTANT, NAME, IS, Part::Expr],
+    ),
 ];

@@ -28,10 +28,7 @@ pub(crate) fn push<T: Drop>(items: &mut Vec<T>, item: Result<T, Unread>) -> Resu
 }
 
 /// Puts it into its place.
-pub(crate) fn fill<T: Drop>(
-    place: &mut Option<T>,
-    made: Result<T, Unread>,
-) -> Result<(), Unread> {
+pub(crate) fn fill<T: Drop>(place: &mut Option<T>, made: Result<T, Unread>) -> Result<(), Unread> {
     *place = Some(made?);
     Ok(())
 }

@@ -15,5 +15,5 @@ mod values;
 
 pub use letters::Unread;
 pub use scripts::{Script, read_script};
-pub use tree::{read_expr, read_link, read_lines, read_stmt};
+pub use tree::{read_expr, read_lines, read_link, read_stmt};
 pub use values::read_value;

@@ -29,7 +29,10 @@ pub fn read_script(alloc: Global, text: &str) -> Result<Script, Unread> {
 }
 
 /// A receiver's type or none, a name and the names of the parameters.
-type Signature = ((Option<ImmutableString>, ImmutableString), Seq<ImmutableString>);
+type Signature = (
+    (Option<ImmutableString>, ImmutableString),
+    Seq<ImmutableString>,
+);
 
 impl<'a> Letters<'a> {
     fn functions(&mut self, functions: &mut Vec<Rc<ScriptFuncDef>>) -> Result<(), Unread> {
@@ -39,7 +42,10 @@ impl<'a> Letters<'a> {
             }
             self.expect("fn ")?;
             let signature = self.signature();
-            push(functions, function(self.alloc, both(signature, self.body())))?;
+            push(
+                functions,
+                function(self.alloc, both(signature, self.body())),
+            )?;
             self.expect("\n")?;
         }
         Err(Unread::Wanted("fewer functions"))

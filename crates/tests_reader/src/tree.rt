@@ -1,8 +1,6 @@
 //! Trees. They go so deep and no deeper, and take so many items of a list and no more.
 
-use crate::forms::{
-    self, ExprForm, ExprKind, Flat, Part, StmtForm, StmtKind, form_of,
-};
+use crate::forms::{self, ExprForm, ExprKind, Flat, Part, StmtForm, StmtKind, form_of};
 use crate::joined::{both, ended, fill, push};
 use crate::letters::{ITEMS, Letters, Unread, below};
 use crate::nodes;
