@@ -3,7 +3,7 @@
 
 pub use rhai_faults::{TreeFault, check_tree, is_plain};
 pub use rhai_nodes::{FromStmt, IntoExpr, Literals, SetPosition, SwitchCases, Take};
-pub use rhai_queries::{CallQueries, ExprQueries, StmtQueries, are_constant, is_unqualified};
+pub use rhai_queries::{CallQueries, ExprQueries, StmtQueries};
 pub use rhai_tree::{
     BinaryExpr, CaseBlocksList, Cases, Expr, FlowControl, FnAccess, FnCallExpr, FnNamespace,
     ScriptFuncDef, Stmt, StmtBlock, StmtBlockContainer, SwitchBlock, SwitchCasesCollection,

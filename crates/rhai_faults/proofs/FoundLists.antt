@@ -12,7 +12,7 @@ use Rattle.rhai_meaning.specs.Walk.{arm_at, arms_of_ranges, outermost, over_arms
 use Rattle.rhai_reading.specs.Reading.{arms_of, range_of, stmts_of}
 use Rattle.rhai_faults.specs.Found.{found_if_any, found_listed}
 use Rattle.rhai_faults.specs.Scripts.{functions_of}
-use Rattle.rhai_faults.proofs.PlainLists.{range_arm}
+use Rattle.rhai_queries.proofs.Tables.{range_arm}
 
 pub then_assoc : (o p q : Option TreeFault) → (o then p) then q ≡ o then (p then q)
 then_assoc None p q = refl

@@ -2,5 +2,5 @@ pub mod Exits
 pub mod FoundLists
 pub mod KeyLists
 pub mod Operations
+pub mod Others
 pub mod PlainLists
-pub mod TableTests

@@ -1,10 +1,9 @@
 -- The arms that a table of a `switch` lists, and functions, item by item, for a loop.
-use Rattle.std.proofs.Common.{◌≡◌, ℕ, zero, suc, ◌+◌, ◌<◌, Bool, true, false, ◌&&◌, List, [], ◌∷◌, ◌++◌, None, Some, slice_get, length, get_or, map, drop, add-one, refl, sym, ap, ◌∙◌}
+use Rattle.std.proofs.Common.{◌≡◌, ℕ, zero, suc, ◌+◌, ◌<◌, Bool, true, false, ◌&&◌, List, [], ◌∷◌, ◌++◌, slice_get, length, get_or, map, drop, add-one, refl, sym, ap, ◌∙◌}
 use Rattle.std.proofs.Math.Seq.{drop-cons, drop-length}
 use Rattle.std.specs.declared.alloc.Global.{Global}
 use Rattle.std.specs.declared.rc.Rc.{Rc}
 use Rattle.rhai_base.specs.declared.range_case.RangeCase.{RangeCase}
-use Rattle.rhai_base.specs.declared.range_case.RangeCase.TheVariants.{ExclusiveInt, InclusiveInt}
 use Rattle.rhai_base.specs.Ranges.{index_of}
 use Rattle.rhai_tree.specs.declared.expr.BinaryExpr.{BinaryExpr}
 use Rattle.rhai_tree.specs.declared.script_fn.ScriptFuncDef.{ScriptFuncDef}
@@ -12,6 +11,7 @@ use Rattle.rhai_meaning.specs.Walk.{arm_at, arms_of_ranges, over_arms, over_func
 use Rattle.rhai_reading.specs.Reading.{arms_of, range_of, stmts_of}
 use Rattle.rhai_faults.specs.PlainArms.{is_plain_if_any, listed_are_plain, plain_walk}
 use Rattle.rhai_faults.specs.Scripts.{functions_of}
+use Rattle.rhai_queries.proofs.Tables.{range_arm}
 
 and_assoc : (a b c : Bool) → ((a && b) && c) ≡ (a && (b && c))
 and_assoc true b c = refl
@@ -47,10 +47,6 @@ listed-end bs is = ap (listed_are_plain bs) (drop-length is)
 
 abbrev pub ranges_plain : List BinaryExpr → List RangeCase → Bool
 ranges_plain bs rs = listed_are_plain bs (arms_of_ranges (map range_of rs))
-
-pub range_arm : (r : RangeCase) → (range_of r).arm ≡ index_of r
-range_arm (ExclusiveInt r i) = refl
-range_arm (InclusiveInt r i) = refl
 
 ranges-step : (bs : List BinaryExpr) (r : RangeCase) (rs : List RangeCase) → ranges_plain bs (r ∷ rs) ≡ (is_plain_if_any (slice_get bs (index_of r)) && ranges_plain bs rs)
 ranges-step bs r rs = listed-step bs (range_of r).arm (arms_of_ranges (map range_of rs)) ∙ ap (λ i. is_plain_if_any (slice_get bs i) && ranges_plain bs rs) (range_arm r)

@@ -4,5 +4,3 @@ pub mod Places
 pub mod PlainArms
 pub mod Refusals
 pub mod Scripts
-pub mod Tables
-pub mod Tokens

@@ -59,7 +59,8 @@ impl Around {
 
     /// Around the right side of a `.` or an index.
     pub(crate) fn right(self, is_dot: bool, options: ASTFlags, rhs: &Expr) -> Around
-        ensures { around_of result ≡ walk.around_spot (walk.RightSide is_dot (chain_flags options) (expr_of rhs.now)) (around_of self) }
+        ensures { around_of result ≡ walk.around_spot (walk.RightSide is_dot (chain_flags options) (expr_of rhs.now))
+            (around_of self) }
     {
         Around {
             in_loop: self.in_loop,
@@ -90,24 +91,7 @@ fn right_role(is_dot: bool, is_last: bool, rhs: &Expr) -> Role
     }
     match rhs {
         Expr::Dot(_, _, _) | Expr::Index(_, _, _) => Role::Rest(is_dot),
-        Expr::DynamicConstant(_, _)
-        | Expr::BoolConstant(_, _)
-        | Expr::IntegerConstant(_, _)
-        | Expr::CharConstant(_, _)
-        | Expr::StringConstant(_, _)
-        | Expr::InterpolatedString(_, _)
-        | Expr::Array(_, _)
-        | Expr::Map(_, _)
-        | Expr::Unit(_)
-        | Expr::Variable(_, _, _)
-        | Expr::ThisPtr(_)
-        | Expr::Property(_, _)
-        | Expr::MethodCall(_, _)
-        | Expr::Stmt(_)
-        | Expr::FnCall(_, _)
-        | Expr::And(_, _)
-        | Expr::Or(_, _)
-        | Expr::Coalesce(_, _) => last_role(is_dot),
+        _ => last_role(is_dot),
     }
 }
 

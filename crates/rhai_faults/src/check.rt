@@ -2,7 +2,7 @@
 
 #![tactic(auto, using(rhai_reading::specs::Reading::shapes, rhai_reading::proofs::ItemLists::steps, crate::proofs::FoundLists::found))]
 
-ghost use Rattle.std.specs.Prelude.{◌≡◌, ◌||◌, MatchResult, false, map, not, slice_get, true};
+ghost use Rattle.std.specs.Prelude.{◌≡◌, ◌||◌, MatchResult, false, map, slice_get, true};
 ghost use Rattle.rhai_faults.specs.Found.{found_call, found_chain, found_expr, found_exprs, found_if_any, found_listed, found_members, found_sides, found_stmts};
 ghost use Rattle.rhai_faults.specs.Places.{around_of};
 ghost use Rattle.rhai_faults.specs.Refusals.{Finds};
@@ -11,17 +11,16 @@ ghost use Rattle.rhai_meaning.specs.Faults as faults;
 ghost use Rattle.rhai_meaning.specs.Faults.{◌then◌, finding};
 ghost use Rattle.rhai_meaning.specs.Laws.{WellFormedLaw};
 ghost use Rattle.rhai_meaning.specs.Shape as shape;
-ghost use Rattle.rhai_meaning.specs.Tree.{count_exprs};
-ghost use Rattle.rhai_meaning.specs.Walk.{arm_of_default, arms_of_cases, arms_of_ranges, around_spot, LeftSide, listed, LoopBody, outermost, over_expr, over_exprs, over_maybe, over_pairs, over_stmt, over_stmts, RightSide, whole};
-ghost use Rattle.rhai_reading.specs.Reading.{arms_of, callee_of, case_of, cases_of, chain_flags, expr_of, expressions_of, exprs_of, keys_of, mark_of, maybe_of, pairs_of, range_of, stmt_of, stmts_of, subject_of, table_of};
+ghost use Rattle.rhai_meaning.specs.Walk.{arm_of_default, arms_of_cases, arms_of_ranges, listed, over_expr, over_maybe, over_stmt, whole};
+ghost use Rattle.rhai_reading.specs.Reading.{arms_of, case_of, cases_of, expr_of, expressions_of, exprs_of, keys_of, maybe_of, pairs_of, range_of, stmt_of, subject_of, table_of};
 
 use crate::TreeFault;
 use crate::around::Around;
 use crate::map_keys::test_keys;
 use crate::shape::{is_catch, is_formed, is_left_side, is_reserved, is_rest, is_unit};
-use crate::table::is_table;
 use bitflags::Flags;
 use rhai_base::{ASTFlags, Boxed, Dynamic, Ident, RangeCase, StringMap};
+use rhai_queries::is_table;
 use rhai_tree::{
     BinaryExpr, Cases, Expr, FlowControl, FnCallExpr, ScriptFuncDef, Stmt, SwitchBlock,
     SwitchCasesCollection,
@@ -108,7 +107,8 @@ fn check_exprs(alloc: Global, exprs: &[Expr], in_loop: bool) -> Result<(), TreeF
 
 #[cycle(check)]
 fn check_operands(alloc: Global, operands: &[Expr], in_loop: bool) -> Result<(), TreeFault>
-    ensures { Finds (faults.unless (faults.has_operands (exprs_of operands.now)) faults.NoOperands then found_exprs operands.now in_loop) result }
+    ensures { Finds (faults.unless (faults.has_operands (exprs_of operands.now)) faults.NoOperands
+        then found_exprs operands.now in_loop) result }
 {
     demand(!operands.is_empty(), TreeFault::NoOperands)?;
     check_exprs(alloc, operands, in_loop)
@@ -121,7 +121,8 @@ fn check_map(
     template: &StringMap<Dynamic>,
     in_loop: bool,
 ) -> Result<(), TreeFault>
-    ensures { Finds (faults.map_fault (shape.keys (pairs_of members.now)) (keys_of template.now) then found_members members.now in_loop) result }
+    ensures { Finds (faults.map_fault (shape.keys (pairs_of members.now)) (keys_of template.now)
+        then found_members members.now in_loop) result }
 {
     test_keys(alloc, members, template)?;
     check_members(alloc, members, in_loop)
@@ -147,7 +148,8 @@ fn check_call(alloc: Global, call: &FnCallExpr, in_loop: bool) -> Result<(), Tre
 
 #[cycle(check)]
 fn check_method(alloc: Global, call: &FnCallExpr, around: Around) -> Result<(), TreeFault>
-    ensures { Finds (faults.unless (faults.is_member_role (around_of around).role) faults.ChainShape then found_call call.now around.in_loop) result }
+    ensures { Finds (faults.unless (faults.is_member_role (around_of around).role) faults.ChainShape
+        then found_call call.now around.in_loop) result }
 {
     demand(around.is_member(), TreeFault::ChainShape)?;
     check_call(alloc, call, around.in_loop)
@@ -207,7 +209,8 @@ fn check_stmts(alloc: Global, statements: &[Stmt], in_loop: bool) -> Result<(), 
 
 #[cycle(check)]
 fn check_flow(alloc: Global, flow: &FlowControl, in_loop: bool) -> Result<(), TreeFault>
-    ensures { Finds (found_expr flow.now.expr in_loop then (found_stmts flow.now.body.block in_loop then found_stmts flow.now.branch.block in_loop)) result }
+    ensures { Finds (found_expr flow.now.expr in_loop
+        then (found_stmts flow.now.body.block in_loop then found_stmts flow.now.branch.block in_loop)) result }
 {
     check_expr(alloc, &flow.expr, Around::whole(in_loop))?;
     check_stmts(alloc, flow.body.statements(), in_loop)?;
@@ -225,7 +228,8 @@ fn check_loop(alloc: Global, flow: &FlowControl, in_loop: bool) -> Result<(), Tr
 
 #[cycle(check)]
 fn check_assignment(alloc: Global, sides: &BinaryExpr, in_loop: bool) -> Result<(), TreeFault>
-    ensures { Finds (faults.unless (shape.is_left_side (expr_of sides.now.lhs)) faults.AssignTarget then found_sides sides.now in_loop) result }
+    ensures { Finds (faults.unless (shape.is_left_side (expr_of sides.now.lhs)) faults.AssignTarget
+        then found_sides sides.now in_loop) result }
 {
     demand(is_left_side(&sides.lhs), TreeFault::AssignTarget)?;
     check_sides(alloc, sides, in_loop)
@@ -241,7 +245,8 @@ fn check_sides(alloc: Global, sides: &BinaryExpr, in_loop: bool) -> Result<(), T
 
 #[cycle(check)]
 fn check_try(alloc: Global, flow: &FlowControl, in_loop: bool) -> Result<(), TreeFault>
-    ensures { Finds (faults.unless (faults.is_catch (shape.catch_name (expr_of flow.now.expr))) faults.CatchName then (found_stmts flow.now.body.block in_loop then found_stmts flow.now.branch.block in_loop)) result }
+    ensures { Finds (faults.unless (faults.is_catch (shape.catch_name (expr_of flow.now.expr))) faults.CatchName
+        then (found_stmts flow.now.body.block in_loop then found_stmts flow.now.branch.block in_loop)) result }
 {
     demand(is_catch(&flow.expr), TreeFault::CatchName)?;
     check_stmts(alloc, flow.body.statements(), in_loop)?;
@@ -250,7 +255,8 @@ fn check_try(alloc: Global, flow: &FlowControl, in_loop: bool) -> Result<(), Tre
 
 #[cycle(check)]
 fn check_break(alloc: Global, expr: &Option<Boxed<Expr>>, in_loop: bool) -> Result<(), TreeFault>
-    ensures { Finds (faults.unless in_loop faults.BreakOutsideLoop then over_maybe finding (maybe_of expr.now) (whole in_loop)) result }
+    ensures { Finds (faults.unless in_loop faults.BreakOutsideLoop
+        then over_maybe finding (maybe_of expr.now) (whole in_loop)) result }
 {
     demand(in_loop, TreeFault::BreakOutsideLoop)?;
     check_optional(alloc, expr, in_loop)
@@ -270,7 +276,11 @@ fn check_optional(alloc: Global, expr: &Option<Boxed<Expr>>, in_loop: bool) -> R
 
 #[cycle(check)]
 fn check_switch(alloc: Global, switch: &SwitchBlock, in_loop: bool) -> Result<(), TreeFault>
-    ensures { Finds (faults.unless (shape.is_table (arms_of (expressions_of (cases_of switch.now))) (table_of (cases_of switch.now))) faults.SwitchFault then (found_expr (subject_of switch.now) in_loop then found_listed (expressions_of (cases_of switch.now)) (listed (table_of (cases_of switch.now))) in_loop)) result }
+    ensures { Finds (faults.unless (shape.is_table (arms_of (expressions_of (cases_of switch.now)))
+        (table_of (cases_of switch.now))) faults.SwitchFault
+        then (found_expr (subject_of switch.now) in_loop
+        then found_listed (expressions_of (cases_of switch.now))
+        (listed (table_of (cases_of switch.now))) in_loop)) result }
 {
     demand(is_table(&switch.cases), TreeFault::SwitchTable)?;
     check_expr(alloc, &switch.expr, Around::whole(in_loop))?;

@@ -7,7 +7,6 @@ mod fault;
 mod map_keys;
 mod plain;
 mod shape;
-mod table;
 
 pub use check::check_tree;
 pub use fault::TreeFault;

@@ -48,7 +48,8 @@ fn distinct_names<'a>(
 
 /// Whether the template has these keys and no others.
 fn are_keys(names: &HashSet<&str>, template: &StringMap<Dynamic>) -> bool
-    ensures { result ≡ (are_among (texts_of names.now) (keys_of template.now) && are_among (keys_of template.now) (texts_of names.now)) }
+    ensures { result ≡ (are_among (texts_of names.now) (keys_of template.now)
+        && are_among (keys_of template.now) (texts_of names.now)) }
 {
     names.len() == template.len() && has_each(names, template)
 }

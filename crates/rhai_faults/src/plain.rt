@@ -5,7 +5,7 @@
 ghost use Rattle.std.specs.Prelude.{◌≡◌, ◌&&◌, map, not, slice_get};
 ghost use Rattle.rhai_faults.specs.PlainArms.{is_plain_if_any, listed_are_plain, plain_walk};
 ghost use Rattle.rhai_faults.specs.Scripts.{functions_of, script_by};
-ghost use Rattle.rhai_reading.specs.Reading.{arms_of, callee_of, case_of, cases_of, expr_of, expressions_of, exprs_of, maybe_of, pairs_of, range_of, stmt_of, stmts_of, subject_of, table_of};
+ghost use Rattle.rhai_reading.specs.Reading.{callee_of, case_of, cases_of, expr_of, expressions_of, exprs_of, maybe_of, pairs_of, range_of, stmt_of, stmts_of, subject_of, table_of};
 ghost use Rattle.rhai_meaning.specs.Plain as plain;
 ghost use Rattle.rhai_meaning.specs.Shape.{is_barred};
 ghost use Rattle.rhai_meaning.specs.Walk.{arm_of_default, arms_of_cases, arms_of_ranges, listed, over_expr, over_exprs, over_functions, over_maybe, over_pairs, over_stmt, over_stmts};
@@ -13,12 +13,15 @@ ghost use Rattle.rhai_parts.specs.Names as names;
 
 use bitflags::Flags;
 use rhai_base::{ASTFlags, Boxed, Ident, RangeCase};
-use rhai_queries::is_unqualified;
+use rhai_parts::is_among;
 use rhai_tree::{
     BinaryExpr, Cases, Expr, FlowControl, FnCallExpr, ScriptFuncDef, Stmt, SwitchBlock,
     SwitchCasesCollection,
 };
 use std::rc::Rc;
+
+/// The functions that ask for what the optimiser may take away.
+const BARRED: [&str; 3] = ["eval", "is_def_var", "is_def_fn"];
 
 /// Whether no node calls `eval`, `is_def_var` or `is_def_fn` without a namespace, imports, exports or shares
 /// names, or has the flag EXPORTED.
@@ -102,14 +105,13 @@ fn is_plain_call(call: &FnCallExpr) -> bool
 fn is_barred_call(call: &FnCallExpr) -> bool
     ensures { result ≡ is_barred (callee_of call.now) }
 {
-    is_unqualified(&call.namespace) && is_barred_name(call.name.as_str())
+    call.namespace.is_empty() && is_barred_name(call.name.as_str())
 }
 
-/// Whether a function of the name asks for what the optimiser may take away.
 fn is_barred_name(name: &str) -> bool
     ensures { result ≡ names.is_among name.now names.barred }
 {
-    "eval" == name || "is_def_var" == name || "is_def_fn" == name
+    is_among(name, &BARRED)
 }
 
 #[cycle(plain)]
@@ -161,7 +163,9 @@ fn are_plain(statements: &[Stmt]) -> bool
 
 #[cycle(plain)]
 fn is_plain_flow(flow: &FlowControl) -> bool
-    ensures { result ≡ (over_expr plain_walk (expr_of flow.now.expr) && (over_stmts plain_walk (stmts_of flow.now.body.block) && over_stmts plain_walk (stmts_of flow.now.branch.block))) }
+    ensures { result ≡ (over_expr plain_walk (expr_of flow.now.expr)
+        && (over_stmts plain_walk (stmts_of flow.now.body.block)
+        && over_stmts plain_walk (stmts_of flow.now.branch.block))) }
 {
     is_plain_expr(&flow.expr)
         && are_plain(flow.body.statements())
@@ -170,14 +174,16 @@ fn is_plain_flow(flow: &FlowControl) -> bool
 
 #[cycle(plain)]
 fn is_plain_loop(flow: &FlowControl) -> bool
-    ensures { result ≡ (over_expr plain_walk (expr_of flow.now.expr) && over_stmts plain_walk (stmts_of flow.now.body.block)) }
+    ensures { result ≡ (over_expr plain_walk (expr_of flow.now.expr)
+        && over_stmts plain_walk (stmts_of flow.now.body.block)) }
 {
     is_plain_expr(&flow.expr) && are_plain(flow.body.statements())
 }
 
 #[cycle(plain)]
 fn are_plain_blocks(flow: &FlowControl) -> bool
-    ensures { result ≡ (over_stmts plain_walk (stmts_of flow.now.body.block) && over_stmts plain_walk (stmts_of flow.now.branch.block)) }
+    ensures { result ≡ (over_stmts plain_walk (stmts_of flow.now.body.block)
+        && over_stmts plain_walk (stmts_of flow.now.branch.block)) }
 {
     are_plain(flow.body.statements()) && are_plain(flow.branch.statements())
 }
@@ -196,7 +202,8 @@ fn is_plain_optional(expr: &Option<Boxed<Expr>>) -> bool
 
 #[cycle(plain)]
 fn is_plain_switch(switch: &SwitchBlock) -> bool
-    ensures { result ≡ (over_expr plain_walk (expr_of (subject_of switch.now)) && listed_are_plain (expressions_of (cases_of switch.now)) (listed (table_of (cases_of switch.now)))) }
+    ensures { result ≡ (over_expr plain_walk (expr_of (subject_of switch.now))
+        && listed_are_plain (expressions_of (cases_of switch.now)) (listed (table_of (cases_of switch.now)))) }
 {
     is_plain_expr(&switch.expr) && is_plain_table(&switch.cases)
 }

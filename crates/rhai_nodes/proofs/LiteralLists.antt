@@ -5,9 +5,12 @@ use Rattle.rhai_values.specs.Value.{Text, Value, Fields, no_fields, TextV, MapV,
 use Rattle.rhai_meaning.specs.Control.{texts_joined}
 use Rattle.rhai_meaning.specs.Elements.{with_entries, with_entry}
 use Rattle.rhai_parts.specs.declared.ident.Ident.{Ident}
-use Rattle.rhai_meaning.specs.Constants.{constant_values, constant_entries, value_and, entry_and, named_value, joined_value, map_value}
+use Rattle.rhai_base.specs.Operators.{UpTo, Through}
+use Rattle.rhai_tokens.specs.declared.token.Token.TheVariants as token
+use Rattle.rhai_meaning.specs.Constants.{constant_values, constant_entries, value_and, entry_and, named_value, joined_value, map_value, range_literal}
 use Rattle.rhai_tree.specs.declared.expr.Expr.{Expr}
 use Rattle.rhai_reading.specs.Reading.{exprs_of, pairs_of}
+use Rattle.rhai_nodes.specs.Ranges.{range_made}
 use Rattle.rhai_reading.proofs.ItemLists.{exprs_of-end, pairs_of-end}
 
 -- the values that stand before those of a list
@@ -79,7 +82,19 @@ pub map_from-all : (ps : List (Ident × Expr)) (i : ℕ) (fs : Fields) → i ≡
     → map_value (constant_entries (pairs_of ps)) ≡ map_from fs (constant_entries (pairs_of (drop i ps))) → map_value (constant_entries (pairs_of ps)) ≡ Some (MapV fs)
 map_from-all ps i fs e h = h ∙ ap (λ j. map_from fs (constant_entries (pairs_of (drop j ps)))) e ∙ ap (λ es. map_from fs (constant_entries es)) (pairs_of-end ps)
 
-pub ruleset literals = (values_before-start, values_before-more, joined_from-start, joined_from-more, map_from-start, map_from-more)
+-- ---- ranges
+
+pub made_up_to : (v w : Option Value) → range_made token.ExclusiveRange v w ≡ range_literal UpTo v w
+made_up_to None w = refl
+made_up_to (Some v) None = refl
+made_up_to (Some v) (Some w) = refl
+
+pub made_through : (v w : Option Value) → range_made token.InclusiveRange v w ≡ range_literal Through v w
+made_through None w = refl
+made_through (Some v) None = refl
+made_through (Some v) (Some w) = refl
+
+pub ruleset literals = (values_before-start, values_before-more, joined_from-start, joined_from-more, map_from-start, map_from-more, made_up_to, made_through)
 
 -- a call of no argument, and one of three or more
 pub named_value-few : (f : Text) (xs : List Expr) → length xs < 1 → None ≡ named_value f (exprs_of xs)

@@ -1,5 +1,5 @@
 -- Expressions for pointers.
-use Rattle.std.proofs.Common.{◌≡◌, ◌≢◌, List, [], ◌∷◌, map, true, Some, refl, sym, ap, ◌∙◌}
+use Rattle.std.proofs.Common.{◌≡◌, ◌≢◌, ◌↔◌, IsTrue, Bool, false, List, [], ◌∷◌, map, true, Some, refl, sym, ap, ◌∙◌}
 use Rattle.rhai_values.specs.declared.dynamic.Dynamic.{Dynamic}
 use Rattle.rhai_values.specs.Value.{Text, PointerV, no_values, values}
 use Rattle.rhai_values.specs.Reading.{value_of}
@@ -21,4 +21,10 @@ constant_for-bare f vs h = ap (λ us. constant_for (PointerV f (values (map valu
 pub pointer_written : (f : Text) (vs : List Dynamic) → is_valid_name f ≡ true → vs ≡ [] → literal_value (pointer_call f) ≡ Some (PointerV f (values (map value_of vs)))
 pointer_written f vs h e = constant_for_law (PointerV f no_values) h ∙ ap (λ (us : List Dynamic). Some (PointerV f (values (map value_of us)))) (sym e)
 
-pub ruleset pointers = (constant_for-curried, constant_for-bare, pointer_written)
+-- what is not found to have values has none
+pub none_curried : (b : Bool) (vs : List Dynamic) → IsTrue b ↔ (vs ≢ []) → b ≡ false → vs ≡ []
+none_curried b [] h e = refl
+none_curried true (v ∷ vs) h e = cc
+none_curried false (v ∷ vs) h e = absurd (let z : false ≡ true = h.1 (λ w. cc) in cc)
+
+pub ruleset pointers = (constant_for-curried, constant_for-bare, pointer_written, none_curried)

@@ -1,4 +1,4 @@
 pub mod Blocks
 pub mod Lent
 pub mod Placed
-pub mod SwitchTable
+pub mod Ranges

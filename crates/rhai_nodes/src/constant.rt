@@ -40,16 +40,18 @@ pub(crate) fn constant_for(
 }
 
 fn for_pointer(alloc: Global, pointer: FnPtr, pos: Position) -> Result<Expr, OutOfMemory>
-    ensures value { IfOk result (λ e. expr_of e ≡ constants.constant_for (PointerV pointer.name (values (map value_of pointer.curried)))) }
-    ensures round_trip { IfOk result (λ e. constants.literal_value (expr_of e) ≡ Some (PointerV pointer.name (values (map value_of pointer.curried)))) }
+    ensures value { IfOk result (λ e. expr_of e
+        ≡ constants.constant_for (PointerV pointer.name (values (map value_of pointer.curried)))) }
+    ensures round_trip { IfOk result
+        (λ e. constants.literal_value (expr_of e)
+        ≡ Some (PointerV pointer.name (values (map value_of pointer.curried)))) }
     ensures position { IfOk result (λ e. position_of e ≡ pos) }
     ensures arguments { IfOk result (λ e. AreAt pos (arguments_of e)) }
 {
-    if !pointer.curry().is_empty() {
+    if pointer.is_curried() {
         return hold(alloc, Dynamic::FnPtr(pointer), pos);
     }
-    let name = ImmutableString::new(alloc, pointer.fn_name())?;
-    pointer_call(alloc, name, pos)
+    pointer_call(alloc, pointer.into_name(), pos)
 }
 
 /// A value as a constant that no other constant stands for.

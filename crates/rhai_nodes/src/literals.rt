@@ -5,13 +5,13 @@
 ghost use Rattle.std.specs.Prelude.{◌≡◌, ◌++◌, IfOk, OnOk, Some};
 ghost use Rattle.std.specs.Cow.{cow_value};
 ghost use Rattle.std.specs.Option.{option_map};
-ghost use Rattle.rhai_base.specs.Operators as operators;
-ghost use Rattle.rhai_base.specs.Builtin.{range_operator};
+ghost use Rattle.rhai_base.specs.Builtin.{binary_at};
 ghost use Rattle.rhai_values.specs.Reading.{members_of, value_of};
 ghost use Rattle.rhai_values.specs.Value.{fields, text_of};
 ghost use Rattle.rhai_meaning.specs.Elements.{with_entry};
 ghost use Rattle.std.specs.String.{string_bytes};
 ghost use Rattle.rhai_nodes.specs.Lent.{lent_value};
+ghost use Rattle.rhai_nodes.specs.Ranges.{range_made};
 ghost use Rattle.rhai_reading.specs.Reading.{callee_of, expr_of, exprs_of, pairs_of};
 ghost use Rattle.rhai_reading.specs.Positions.{AreAt, arguments_of, position_of};
 ghost use Rattle.rhai_meaning.specs.Constants as constants;
@@ -23,7 +23,7 @@ use rhai_base::{
     Dynamic, Fault, FnPtr, Ident, ImmutableString, OutOfMemory, Position, Seq, StringMap, Token,
     builtin_binary_op,
 };
-use rhai_queries::{ExprQueries, is_unqualified};
+use rhai_queries::ExprQueries;
 use rhai_tree::{Expr, FnCallExpr};
 use std::alloc::Global;
 use std::borrow::Cow;
@@ -86,32 +86,15 @@ fn call_value(alloc: Global, expr: &Expr) -> Result<Option<Dynamic>, OutOfMemory
 {
     match expr {
         Expr::FnCall(call, _) => unqualified_value(alloc, call.get()),
-        Expr::DynamicConstant(_, _)
-        | Expr::BoolConstant(_, _)
-        | Expr::IntegerConstant(_, _)
-        | Expr::CharConstant(_, _)
-        | Expr::StringConstant(_, _)
-        | Expr::InterpolatedString(_, _)
-        | Expr::Array(_, _)
-        | Expr::Map(_, _)
-        | Expr::Unit(_)
-        | Expr::Variable(_, _, _)
-        | Expr::ThisPtr(_)
-        | Expr::Property(_, _)
-        | Expr::MethodCall(_, _)
-        | Expr::Stmt(_)
-        | Expr::Dot(_, _, _)
-        | Expr::Index(_, _, _)
-        | Expr::And(_, _)
-        | Expr::Or(_, _)
-        | Expr::Coalesce(_, _) => Ok(None),
+        _ => Ok(None),
     }
 }
 
 fn unqualified_value(alloc: Global, call: &FnCallExpr) -> Result<Option<Dynamic>, OutOfMemory>
-    ensures { IfOk result (λ v. option_map value_of v ≡ constants.call_value (FnCall (callee_of call.now) (exprs_of call.now.args))) }
+    ensures { IfOk result (λ v. option_map value_of v
+        ≡ constants.call_value (FnCall (callee_of call.now) (exprs_of call.now.args))) }
 {
-    if is_unqualified(&call.namespace) {
+    if call.namespace.is_empty() {
         named_value(alloc, call)
     } else {
         Ok(None)
@@ -176,7 +159,8 @@ fn joined_value<'a>(
     alloc: Global,
     parts: &'a [Expr],
 ) -> Result<Option<Cow<'a, Dynamic>>, OutOfMemory>
-    ensures { IfOk result (λ v. lent_value v ≡ constants.joined_value (constants.constant_values (exprs_of parts.now))) }
+    ensures { IfOk result (λ v. lent_value v
+        ≡ constants.joined_value (constants.constant_values (exprs_of parts.now))) }
 {
     let mut text = String::new(alloc);
     for part in parts {
@@ -202,7 +186,8 @@ fn map_value<'a>(
     alloc: Global,
     members: &'a [(Ident, Expr)],
 ) -> Result<Option<Cow<'a, Dynamic>>, OutOfMemory>
-    ensures { IfOk result (λ v. lent_value v ≡ constants.map_value (constants.constant_entries (pairs_of members.now))) }
+    ensures { IfOk result (λ v. lent_value v
+        ≡ constants.map_value (constants.constant_entries (pairs_of members.now))) }
 {
     let mut map = StringMap::new(alloc);
     for member in members {
@@ -221,7 +206,8 @@ fn put(
     name: &Ident,
     value: Cow<'_, Dynamic>,
 ) -> Result<(), OutOfMemory>
-    ensures { OnOk result (fields (members_of map.new) ≡ with_entry (fields (members_of map.old)) name.now.name (value_of (cow_value value.entry))) }
+    ensures { OnOk result (fields (members_of map.new)
+        ≡ with_entry (fields (members_of map.old)) name.now.name (value_of (cow_value value.entry))) }
 {
     let name = name.name.clone()?;
     map.insert(name, owned(value)?)?;
@@ -240,7 +226,8 @@ fn named_value(alloc: Global, call: &FnCallExpr) -> Result<Option<Dynamic>, OutO
 
 /// The pointer that `Fn("name")` makes.
 fn pointer_value(alloc: Global, function: &str, name: &Expr) -> Result<Option<Dynamic>, OutOfMemory>
-    ensures { IfOk result (λ v. option_map value_of v ≡ constants.named_value function.now (expr (expr_of name.now) no_exprs)) }
+    ensures { IfOk result (λ v. option_map value_of v
+        ≡ constants.named_value function.now (expr (expr_of name.now) no_exprs)) }
 {
     if function == "Fn" {
         pointer_literal(alloc, name)
@@ -254,25 +241,7 @@ fn pointer_literal(alloc: Global, name: &Expr) -> Result<Option<Dynamic>, OutOfM
 {
     match name {
         Expr::StringConstant(text, _) => Ok(pointer(alloc, text.clone()?)),
-        Expr::DynamicConstant(_, _)
-        | Expr::BoolConstant(_, _)
-        | Expr::IntegerConstant(_, _)
-        | Expr::CharConstant(_, _)
-        | Expr::InterpolatedString(_, _)
-        | Expr::Array(_, _)
-        | Expr::Map(_, _)
-        | Expr::Unit(_)
-        | Expr::Variable(_, _, _)
-        | Expr::ThisPtr(_)
-        | Expr::Property(_, _)
-        | Expr::MethodCall(_, _)
-        | Expr::Stmt(_)
-        | Expr::FnCall(_, _)
-        | Expr::Dot(_, _, _)
-        | Expr::Index(_, _, _)
-        | Expr::And(_, _)
-        | Expr::Or(_, _)
-        | Expr::Coalesce(_, _) => Ok(None),
+        _ => Ok(None),
     }
 }
 
@@ -290,12 +259,13 @@ fn range_value(
     from: &Expr,
     to: &Expr,
 ) -> Result<Option<Dynamic>, OutOfMemory>
-    ensures { IfOk result (λ v. option_map value_of v ≡ constants.named_value function.now (expr (expr_of from.now) (expr (expr_of to.now) no_exprs))) }
+    ensures { IfOk result (λ v. option_map value_of v
+        ≡ constants.named_value function.now (expr (expr_of from.now) (expr (expr_of to.now) no_exprs))) }
 {
     if function == ".." {
-        range_literal(alloc, false, range_end(from), range_end(to))
+        range_literal(alloc, Token::ExclusiveRange, from, to)
     } else if function == "..=" {
-        range_literal(alloc, true, range_end(from), range_end(to))
+        range_literal(alloc, Token::InclusiveRange, from, to)
     } else {
         Ok(None)
     }
@@ -308,57 +278,37 @@ fn range_end(end: &Expr) -> Option<Dynamic>
     match end {
         Expr::IntegerConstant(n, _) => Some(Dynamic::Int(*n)),
         Expr::Unit(_) => Some(Dynamic::Unit),
-        Expr::DynamicConstant(_, _)
-        | Expr::BoolConstant(_, _)
-        | Expr::CharConstant(_, _)
-        | Expr::StringConstant(_, _)
-        | Expr::InterpolatedString(_, _)
-        | Expr::Array(_, _)
-        | Expr::Map(_, _)
-        | Expr::Variable(_, _, _)
-        | Expr::ThisPtr(_)
-        | Expr::Property(_, _)
-        | Expr::MethodCall(_, _)
-        | Expr::Stmt(_)
-        | Expr::FnCall(_, _)
-        | Expr::Dot(_, _, _)
-        | Expr::Index(_, _, _)
-        | Expr::And(_, _)
-        | Expr::Or(_, _)
-        | Expr::Coalesce(_, _) => None,
+        _ => None,
     }
 }
 
+/// What the operator of ranges makes of two ends, if they are written out.
 fn range_literal(
     alloc: Global,
-    is_inclusive: bool,
-    from: Option<Dynamic>,
-    to: Option<Dynamic>,
+    op: Token,
+    from: &Expr,
+    to: &Expr,
 ) -> Result<Option<Dynamic>, OutOfMemory>
-    ensures { IfOk result (λ v. option_map value_of v ≡ constants.range_literal (range_operator is_inclusive) (option_map value_of from) (option_map value_of to)) }
+    ensures { IfOk result (λ v. option_map value_of v
+        ≡ range_made op (constants.range_end (expr_of from.now)) (constants.range_end (expr_of to.now))) }
 {
-    match (from, to) {
-        (Some(from), Some(to)) => range_between(alloc, is_inclusive, &from, &to),
+    match (range_end(from), range_end(to)) {
+        (Some(from), Some(to)) => range_between(alloc, op, &from, &to),
         _ => Ok(None),
     }
 }
 
 fn range_between(
     alloc: Global,
-    is_inclusive: bool,
+    op: Token,
     from: &Dynamic,
     to: &Dynamic,
 ) -> Result<Option<Dynamic>, OutOfMemory>
-    ensures { IfOk result (λ v. option_map value_of v ≡ constants.computed_value (operators.binary (range_operator is_inclusive) (value_of from.now) (value_of to.now))) }
+    ensures { IfOk result (λ v. option_map value_of v
+        ≡ constants.computed_value (binary_at op (value_of from.now) (value_of to.now))) }
 {
-    let op = if is_inclusive {
-        Token::InclusiveRange
-    } else {
-        Token::ExclusiveRange
-    };
     match builtin_binary_op(alloc, &op, from, to)? {
         Some(Ok(range)) => Ok(Some(range)),
-        Some(Err(Fault::Arithmetic)) => Ok(None),
-        None => Ok(None),
+        Some(Err(Fault::Arithmetic)) | None => Ok(None),
     }
 }

@@ -9,7 +9,7 @@ ghost use Rattle.rhai_reading.specs.Reading.{callee_of, chain_flags, counter_of,
 ghost use Rattle.rhai_notation.specs.Notation.{assigning_text, callee_text, catch_text, declaration_text, flags_text, loop_names, names_text};
 
 use bitflags::Flags;
-use rhai_ast::{Expr, FnCallExpr, is_unqualified};
+use rhai_ast::{Expr, FnCallExpr};
 use rhai_base::{ASTFlags, Ident, ImmutableString, Namespace, OpAssignment, OutOfMemory};
 use std::num::NonZeroUsize;
 
@@ -142,7 +142,7 @@ fn push_caught(modules: &Namespace, name: &str, text: &mut String) -> Result<(),
     ensures { OnOk result (string_bytes text.new ≡ string_bytes text.old ++ catch_text (Variable (path_of modules.now) name.now)) }
 {
     text.push_str(" catch ")?;
-    if is_unqualified(modules) {
+    if modules.is_empty() {
         text.push_str(name)?;
         text.push_str(" ")?;
     }

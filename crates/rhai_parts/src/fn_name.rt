@@ -1,7 +1,7 @@
 //! Names of functions.
 #![tactic(auto, using(crate::proofs::Words::words))]
 
-ghost use Rattle.std.specs.Prelude.{◌≡◌, MatchOption, nat_eq, Some, true, false};
+ghost use Rattle.std.specs.Prelude.{◌≡◌, MatchOption, map, nat_eq, Some, true, false};
 ghost use Rattle.std.specs.Hash as fed;
 ghost use Rattle.std.specs.Cmp.Lexicographic.{pointwise, nat_list_eq_equiv};
 ghost use Rattle.std.specs.Cmp.Rules.{hashing};
@@ -13,6 +13,21 @@ use rhai_data::ImmutableString;
 use std::alloc::AllocError;
 use std::hash::{Hash, Hasher};
 use std::marker::Model;
+
+/// The names that are the language's own.
+const RESERVED: [&str; 11] = [
+    "eval",
+    "Fn",
+    "call",
+    "curry",
+    "is_shared",
+    "is_def_var",
+    "is_def_fn",
+    "type_of",
+    "this",
+    "print",
+    "debug",
+];
 
 /// A name that a function may have: none that the language reserves; any number of `_`, an ASCII letter,
 /// and then ASCII letters, digits and `_`; or `anon$` before one or more of these.
@@ -50,6 +65,14 @@ impl FnName {
         ensures valid { names.is_valid_name self.now ≡ true }
     {
         self.name.as_str()
+    }
+
+    /// The name, taken out. It is not in rhai.
+    pub fn into_name(self) -> ImmutableString
+        ensures text { result ≡ self }
+        ensures valid { names.is_valid_name self ≡ true }
+    {
+        self.name
     }
 }
 
@@ -95,20 +118,22 @@ fn is_valid_name(name: &str) -> bool
 }
 
 /// Whether the name is the language's own.
-fn is_reserved(name: &str) -> bool
+pub fn is_reserved(name: &str) -> bool
     ensures { result ≡ names.is_among name.now names.reserved }
 {
-    "eval" == name
-        || "Fn" == name
-        || "call" == name
-        || "curry" == name
-        || "is_shared" == name
-        || "is_def_var" == name
-        || "is_def_fn" == name
-        || "type_of" == name
-        || "this" == name
-        || "print" == name
-        || "debug" == name
+    is_among(name, &RESERVED)
+}
+
+/// Whether the name is one of these.
+pub fn is_among(name: &str, words: &[&str]) -> bool
+    ensures { result ≡ names.is_among name.now (map (λ word. word.now) words.now) }
+{
+    for word in words {
+        if *word == name {
+            return true;
+        }
+    }
+    false
 }
 
 /// Whether it is any number of `_`, a letter, and then letters, digits and `_`.

@@ -7,6 +7,6 @@ mod ident;
 mod namespace;
 
 pub use flags::ASTFlags;
-pub use fn_name::FnName;
+pub use fn_name::{FnName, is_among, is_reserved};
 pub use ident::Ident;
 pub use namespace::Namespace;

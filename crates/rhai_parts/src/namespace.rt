@@ -1,6 +1,6 @@
 //! Paths of modules before a name.
-ghost use Rattle.std.specs.Prelude.{◌≡◌, ◌≢◌, [], ◌∷◌, ◌↔◌, IsTrue, slice_get, option_map, Some};
-ghost use Rattle.rhai_parts.specs.Paths.{names_joined};
+ghost use Rattle.std.specs.Prelude.{◌≡◌, ◌≢◌, [], ◌∷◌, ◌↔◌, IsTrue, map, slice_get, option_map, Some};
+ghost use Rattle.rhai_parts.specs.Paths.{is_none, names_joined};
 
 use crate::Ident;
 use rhai_data::Seq;
@@ -32,7 +32,8 @@ impl Namespace {
 
     /// Is the path empty?
     pub fn is_empty(&self) -> bool
-        ensures { IsTrue result ↔ (self.now.path ≡ []) }
+        ensures path { IsTrue result ↔ (self.now.path ≡ []) }
+        ensures names { result ≡ is_none (map (λ name. name.name) self.now.path) }
     {
         self.path.is_empty()
     }

@@ -1,2 +1,4 @@
 pub mod ConstantLists
+pub mod Others
+pub mod SwitchTables
 pub mod Tables

@@ -43,7 +43,7 @@ listed-end ps is = ap (listed_arms_are_pure ps) (drop-length is)
 abbrev pub listed_by_ranges : List ArmPurity → List RangeCase → Bool
 listed_by_ranges ps rs = listed_arms_are_pure ps (arms_of_ranges (map range_of rs))
 
-range_arm : (r : RangeCase) → (range_of r).arm ≡ index_of r
+pub range_arm : (r : RangeCase) → (range_of r).arm ≡ index_of r
 range_arm (ExclusiveInt r i) = refl
 range_arm (InclusiveInt r i) = refl
 

@@ -1,1 +1,3 @@
 pub mod Arms
+pub mod Operators
+pub mod SwitchTables

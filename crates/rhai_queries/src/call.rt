@@ -14,10 +14,10 @@ pub trait CallQueries {
     /// Does it name modules?
     fn is_qualified(&self) -> bool;
 
-    /// Is it an operator over its operands?
+    /// Is it an operator over its operands: does it have an operator's token?
     fn is_operator_call(&self) -> bool;
 
-    /// Are all arguments constant?
+    /// Are all arguments constant? So they are where there are none.
     fn constant_args(&self) -> bool;
 }
 

@@ -2,10 +2,10 @@
 
 #![tactic(auto, using(rhai_reading::specs::Reading::shapes, rhai_reading::proofs::ItemLists::steps))]
 
-ghost use Rattle.std.specs.Prelude.{◌≡◌};
+ghost use Rattle.std.specs.Prelude.{◌≡◌, is_some};
 ghost use Rattle.rhai_reading.specs.Reading.{expr_of, exprs_of, pairs_of};
 ghost use Rattle.rhai_meaning.specs.Constants as constants;
-ghost use Rattle.std.specs.Prelude.{is_some};
+ghost use Rattle.rhai_meaning.specs.Queries as queries;
 
 use rhai_base::Ident;
 use rhai_tree::Expr;
@@ -42,7 +42,7 @@ pub(crate) fn is_constant(expr: &Expr) -> bool
 
 /// Whether all are constants.
 #[cycle(constant)]
-pub fn are_constant(exprs: &[Expr]) -> bool
+pub(crate) fn are_constant(exprs: &[Expr]) -> bool
     ensures { result ≡ constants.are_constant (exprs_of exprs.now) }
 {
     for expr in exprs {
@@ -63,4 +63,14 @@ fn are_constant_members(members: &[(Ident, Expr)]) -> bool
         }
     }
     true
+}
+
+/// Whether the condition is literally so.
+pub(crate) fn is_literally(condition: &Expr, truth: bool) -> bool
+    ensures { result ≡ queries.is_literally truth (expr_of condition.now) }
+{
+    match condition {
+        Expr::BoolConstant(b, _) => *b == truth,
+        _ => false,
+    }
 }

@@ -15,25 +15,32 @@ use rhai_tree::Expr;
 
 /// What may be asked of an expression.
 pub trait ExprQueries {
-    /// Is it a constant: one of the constant kinds, or an array, a map or an interpolated text of constants?
+    /// Is it a constant: unit, a bool, an integer, a character, a text, a `DynamicConstant`, or an array, a map or an
+    /// interpolated text of constants?
     fn is_constant(&self) -> bool;
 
-    /// Is it pure? A run of it calls no host, throws nothing and changes nothing. A variable never is.
+    /// Is it pure? Unit and constants of the other kinds are, and so is an array, a map, an interpolated text, `&&`,
+    /// `||`, `??` or a block of what is pure. Nothing else is, a variable, a call or a chain never.
+    ///
+    /// A law holds of every tree: a run of a pure expression calls no host, throws nothing, changes nothing, and gives
+    /// a value or is stuck within some bound of turns.
     fn is_pure(&self) -> bool;
 
-    /// Is it `()`?
+    /// Is it `()` as written? A constant of another kind that holds unit is none.
     fn is_unit(&self) -> bool;
 
-    /// May the token follow it?
+    /// May the token follow it? After any expression `.`, `?.`, `[` and `?[`; after a variable `(`, `()`, `!` and
+    /// `::` too; after a property `(` too.
     fn is_valid_postfix(&self, token: &Token) -> bool;
 
     /// The flags of a `Dot` or an `Index`, and none of another node.
     fn options(&self) -> ASTFlags;
 
-    /// Where it stands.
+    /// Where it stands; a block where it begins.
     fn position(&self) -> Position;
 
-    /// Where its leftmost part stands.
+    /// Where its leftmost part stands: of a chain its base, of `&&`, `||` and `??` the first operand, of a variable its
+    /// first namespace. Of no operands, in which rhai panics, the node's own position.
     fn start_position(&self) -> Position;
 }
 
@@ -55,28 +62,7 @@ impl ExprQueries for Expr {
     fn is_unit(&self) -> bool
         ensures { result ≡ queries.is_unit (expr_of self.now) }
     {
-        match self {
-            Expr::Unit(_) => true,
-            Expr::DynamicConstant(_, _)
-            | Expr::BoolConstant(_, _)
-            | Expr::IntegerConstant(_, _)
-            | Expr::CharConstant(_, _)
-            | Expr::StringConstant(_, _)
-            | Expr::InterpolatedString(_, _)
-            | Expr::Array(_, _)
-            | Expr::Map(_, _)
-            | Expr::Variable(_, _, _)
-            | Expr::ThisPtr(_)
-            | Expr::Property(_, _)
-            | Expr::MethodCall(_, _)
-            | Expr::Stmt(_)
-            | Expr::FnCall(_, _)
-            | Expr::Dot(_, _, _)
-            | Expr::Index(_, _, _)
-            | Expr::And(_, _)
-            | Expr::Or(_, _)
-            | Expr::Coalesce(_, _) => false,
-        }
+        matches!(self, Expr::Unit(_))
     }
 
     fn is_valid_postfix(&self, token: &Token) -> bool
@@ -139,24 +125,7 @@ fn may_follow(token: &Token, expr: &Expr) -> bool
     match expr {
         Expr::Variable(_, _, _) => follows_name(token),
         Expr::Property(_, _) => opens_call(token),
-        Expr::DynamicConstant(_, _)
-        | Expr::BoolConstant(_, _)
-        | Expr::IntegerConstant(_, _)
-        | Expr::CharConstant(_, _)
-        | Expr::StringConstant(_, _)
-        | Expr::InterpolatedString(_, _)
-        | Expr::Array(_, _)
-        | Expr::Map(_, _)
-        | Expr::Unit(_)
-        | Expr::ThisPtr(_)
-        | Expr::MethodCall(_, _)
-        | Expr::Stmt(_)
-        | Expr::FnCall(_, _)
-        | Expr::Dot(_, _, _)
-        | Expr::Index(_, _, _)
-        | Expr::And(_, _)
-        | Expr::Or(_, _)
-        | Expr::Coalesce(_, _) => false,
+        _ => false,
     }
 }
 

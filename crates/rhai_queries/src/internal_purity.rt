@@ -18,19 +18,7 @@ pub(crate) fn is_internally_pure(stmt: &Stmt) -> bool
         Stmt::Expr(expr) => is_internally_pure_expr(expr.get()),
         Stmt::Import(parts, _) => is_pure_expr(&parts.get().0),
         Stmt::Export(_, _) => true,
-        Stmt::Noop(_)
-        | Stmt::If(_, _)
-        | Stmt::Switch(_, _)
-        | Stmt::While(_, _)
-        | Stmt::Do(_, _, _)
-        | Stmt::For(_, _)
-        | Stmt::Assignment(_)
-        | Stmt::FnCall(_, _)
-        | Stmt::Block(_)
-        | Stmt::TryCatch(_, _)
-        | Stmt::BreakLoop(_, _, _)
-        | Stmt::Return(_, _, _)
-        | Stmt::Share(_) => is_pure(stmt),
+        _ => is_pure(stmt),
     }
 }
 
@@ -40,25 +28,7 @@ fn is_internally_pure_expr(expr: &Expr) -> bool
 {
     match expr {
         Expr::Stmt(block) => are_internally_pure(block.get().statements()),
-        Expr::DynamicConstant(_, _)
-        | Expr::BoolConstant(_, _)
-        | Expr::IntegerConstant(_, _)
-        | Expr::CharConstant(_, _)
-        | Expr::StringConstant(_, _)
-        | Expr::InterpolatedString(_, _)
-        | Expr::Array(_, _)
-        | Expr::Map(_, _)
-        | Expr::Unit(_)
-        | Expr::Variable(_, _, _)
-        | Expr::ThisPtr(_)
-        | Expr::Property(_, _)
-        | Expr::MethodCall(_, _)
-        | Expr::FnCall(_, _)
-        | Expr::Dot(_, _, _)
-        | Expr::Index(_, _, _)
-        | Expr::And(_, _)
-        | Expr::Or(_, _)
-        | Expr::Coalesce(_, _) => is_pure_expr(expr),
+        _ => is_pure_expr(expr),
     }
 }
 

@@ -6,12 +6,14 @@ mod call;
 mod constants;
 mod expr;
 mod internal_purity;
+mod operators;
 mod positions;
 mod purity;
 mod stmt;
+mod switch_table;
 
-pub use block_dependence::is_unqualified;
 pub use call::CallQueries;
-pub use constants::are_constant;
 pub use expr::ExprQueries;
+pub use operators::{is_call_of, operands};
 pub use stmt::StmtQueries;
+pub use switch_table::{is_table, table_refusal};

@@ -6,8 +6,9 @@ ghost use Rattle.std.specs.Prelude.{◌≡◌, ◌&&◌, true, map, slice_get};
 ghost use Rattle.rhai_queries.specs.Arms.{has_pure_answer, is_pure_if_any};
 ghost use Rattle.rhai_reading.specs.Reading.{arms_of, case_of, cases_of, expr_of, expressions_of, exprs_of, pairs_of, range_of, stmt_of, stmts_of, subject_of, table_of};
 ghost use Rattle.rhai_meaning.specs.Queries as queries;
-ghost use Rattle.rhai_meaning.specs.Walk.{arm_at, arms_of_cases, arms_of_ranges};
+ghost use Rattle.rhai_meaning.specs.Walk.{arms_of_cases, arms_of_ranges};
 
+use crate::constants::is_literally;
 use bitflags::Flags;
 use rhai_base::{ASTFlags, Ident, RangeCase};
 use rhai_tree::{BinaryExpr, Cases, Expr, FlowControl, Stmt, SwitchBlock, SwitchCasesCollection};
@@ -106,7 +107,8 @@ pub(crate) fn are_pure(statements: &[Stmt]) -> bool
 
 #[cycle(pure)]
 fn is_pure_flow(flow: &FlowControl) -> bool
-    ensures { result ≡ (queries.is_pure_expr (expr_of flow.now.expr) && (queries.are_pure (stmts_of flow.now.body.block) && queries.are_pure (stmts_of flow.now.branch.block))) }
+    ensures { result ≡ (queries.is_pure_expr (expr_of flow.now.expr)
+        && (queries.are_pure (stmts_of flow.now.body.block) && queries.are_pure (stmts_of flow.now.branch.block))) }
 {
     is_pure_expr(&flow.expr)
         && are_pure(flow.body.statements())
@@ -115,51 +117,27 @@ fn is_pure_flow(flow: &FlowControl) -> bool
 
 #[cycle(pure)]
 fn is_pure_loop(flow: &FlowControl) -> bool
-    ensures { result ≡ (queries.is_pure_expr (expr_of flow.now.expr) && queries.are_pure (stmts_of flow.now.body.block)) }
+    ensures { result ≡ (queries.is_pure_expr (expr_of flow.now.expr)
+        && queries.are_pure (stmts_of flow.now.body.block)) }
 {
     is_pure_expr(&flow.expr) && are_pure(flow.body.statements())
-}
-
-/// Whether the condition is literally so.
-fn is_literally(condition: &Expr, truth: bool) -> bool
-    ensures { result ≡ queries.is_literally truth (expr_of condition.now) }
-{
-    match condition {
-        Expr::BoolConstant(b, _) => *b == truth,
-        Expr::DynamicConstant(_, _)
-        | Expr::IntegerConstant(_, _)
-        | Expr::CharConstant(_, _)
-        | Expr::StringConstant(_, _)
-        | Expr::Unit(_)
-        | Expr::InterpolatedString(_, _)
-        | Expr::Array(_, _)
-        | Expr::Map(_, _)
-        | Expr::Variable(_, _, _)
-        | Expr::ThisPtr(_)
-        | Expr::Property(_, _)
-        | Expr::MethodCall(_, _)
-        | Expr::Stmt(_)
-        | Expr::FnCall(_, _)
-        | Expr::Dot(_, _, _)
-        | Expr::Index(_, _, _)
-        | Expr::And(_, _)
-        | Expr::Or(_, _)
-        | Expr::Coalesce(_, _) => false,
-    }
 }
 
 // ---- the table of a `switch`
 
 #[cycle(pure)]
 fn is_pure_switch(switch: &SwitchBlock) -> bool
-    ensures { result ≡ (queries.is_pure_expr (expr_of (subject_of switch.now)) && queries.table_is_pure (queries.arm_purities (arms_of (expressions_of (cases_of switch.now)))) (table_of (cases_of switch.now))) }
+    ensures { result ≡ (queries.is_pure_expr (expr_of (subject_of switch.now))
+        && queries.table_is_pure (queries.arm_purities (arms_of (expressions_of (cases_of switch.now))))
+        (table_of (cases_of switch.now))) }
 {
     is_pure_expr(&switch.expr) && is_pure_table(&switch.cases)
 }
 
 #[cycle(pure)]
 fn is_pure_table(table: &SwitchCasesCollection) -> bool
-    ensures { result ≡ queries.table_is_pure (queries.arm_purities (arms_of (expressions_of table.now))) (table_of table.now) }
+    ensures { result ≡ queries.table_is_pure (queries.arm_purities (arms_of (expressions_of table.now)))
+        (table_of table.now) }
 {
     let arms = table.expressions.as_slice();
     are_pure_cases(arms, &table.cases)
@@ -170,7 +148,8 @@ fn is_pure_table(table: &SwitchCasesCollection) -> bool
 /// Whether the arms are pure that cases name.
 #[cycle(pure)]
 fn are_pure_cases(arms: &[BinaryExpr], cases: &Cases) -> bool
-    ensures { result ≡ queries.listed_arms_are_pure (queries.arm_purities (arms_of arms.now)) (arms_of_cases (map case_of cases.now)) }
+    ensures { result ≡ queries.listed_arms_are_pure (queries.arm_purities (arms_of arms.now))
+        (arms_of_cases (map case_of cases.now)) }
 {
     for case in cases.as_map() {
         if !are_pure_arms(arms, case.1.blocks.as_slice()) {
@@ -183,10 +162,11 @@ fn are_pure_cases(arms: &[BinaryExpr], cases: &Cases) -> bool
 /// Whether the arms are pure that ranges name.
 #[cycle(pure)]
 fn are_pure_ranges(arms: &[BinaryExpr], ranges: &[RangeCase]) -> bool
-    ensures { result ≡ queries.listed_arms_are_pure (queries.arm_purities (arms_of arms.now)) (arms_of_ranges (map range_of ranges.now)) }
+    ensures { result ≡ queries.listed_arms_are_pure (queries.arm_purities (arms_of arms.now))
+        (arms_of_ranges (map range_of ranges.now)) }
 {
     for range in ranges {
-        if !is_pure_arm(arms, range.index()) {
+        if !is_pure_at(arms, range.index()) {
             return false;
         }
     }
@@ -198,7 +178,7 @@ fn are_pure_arms(arms: &[BinaryExpr], places: &[usize]) -> bool
     ensures { result ≡ queries.listed_arms_are_pure (queries.arm_purities (arms_of arms.now)) places.now }
 {
     for place in places {
-        if !is_pure_arm(arms, *place) {
+        if !is_pure_at(arms, *place) {
             return false;
         }
     }
@@ -206,13 +186,6 @@ fn are_pure_arms(arms: &[BinaryExpr], places: &[usize]) -> bool
 }
 
 /// Whether condition and answer of an arm are pure; past the table there is none, which asks nothing.
-#[cycle(pure)]
-fn is_pure_arm(arms: &[BinaryExpr], place: usize) -> bool
-    ensures { result ≡ queries.is_pure_arm (arm_at (true, true) (queries.arm_purities (arms_of arms.now)) place) }
-{
-    is_pure_at(arms, place)
-}
-
 #[cycle(pure)]
 fn is_pure_at(arms: &[BinaryExpr], place: usize) -> bool
     ensures { result ≡ is_pure_if_any (slice_get arms.now place) }

@@ -17,28 +17,41 @@ pub trait StmtQueries {
     /// Is it nothing?
     fn is_noop(&self) -> bool;
 
-    /// Is it pure? A run of it calls no host, throws nothing and changes nothing.
+    /// Is it pure? A `Noop` is, and an expression that is pure; an `if`, a `try`, a `for` or a block of what is pure; a
+    /// `switch` with a default, whose subject, listed arms and default's answer are; a `while` whose guard is literally
+    /// false; a `do` of a pure body whose guard literally ends it after one turn. No other is.
+    ///
+    /// A law holds of every tree: a run of a pure statement calls no host, throws nothing, changes nothing, and gives a
+    /// value or is stuck within some bound of turns.
     fn is_pure(&self) -> bool;
 
-    /// Is it pure but for a name that its list takes away?
+    /// Is it pure but for a name that its list takes away? A `let` or an `import` of a pure expression is, an `export`,
+    /// an expression that is a block of such statements, and what is pure.
+    ///
+    /// A law holds of every tree: a run of it calls no host, throws nothing, keeps what stood before and adds at most
+    /// one name.
     fn is_internally_pure(&self) -> bool;
 
-    /// Does it belong to the list in which it stands, as it may add names there?
+    /// Does it belong to the list in which it stands, as it may add names there? A `let`, an `import`, an `export` and
+    /// a call of `eval` without a namespace do, and an expression that is such a call or a block of such statements.
+    ///
+    /// A law holds of every tree: a run of one that does not leaves the names as they were.
     fn is_block_dependent(&self) -> bool;
 
     /// Does it leave its list: is it a `return`, `throw`, `break` or `continue`?
     fn is_control_flow_break(&self) -> bool;
 
-    /// Does it have a value?
+    /// Does it have a value: is it an `if`, a `switch`, a block, an expression or a call?
     fn returns_value(&self) -> bool;
 
-    /// Can it stand without a semicolon?
+    /// Can it stand without a semicolon: is it an `if`, a `switch`, a `while`, a `for`, a block or a `try`?
     fn is_self_terminated(&self) -> bool;
 
     /// The flags of a `Do`, `Var`, `BreakLoop` or `Return`, and none of another node.
     fn options(&self) -> ASTFlags;
 
-    /// Where it stands; an expression where its leftmost part stands.
+    /// Where it stands; a block where it begins, an assignment where its operator stands, an expression where its
+    /// leftmost part does, shared names where the first one does, and no shared names, in which rhai panics, nowhere.
     fn position(&self) -> Position;
 }
 
@@ -46,25 +59,7 @@ impl StmtQueries for Stmt {
     fn is_noop(&self) -> bool
         ensures { result ≡ queries.is_noop (stmt_of self.now) }
     {
-        match self {
-            Stmt::Noop(_) => true,
-            Stmt::If(_, _)
-            | Stmt::Switch(_, _)
-            | Stmt::While(_, _)
-            | Stmt::Do(_, _, _)
-            | Stmt::For(_, _)
-            | Stmt::Var(_, _, _)
-            | Stmt::Assignment(_)
-            | Stmt::FnCall(_, _)
-            | Stmt::Block(_)
-            | Stmt::TryCatch(_, _)
-            | Stmt::Expr(_)
-            | Stmt::BreakLoop(_, _, _)
-            | Stmt::Return(_, _, _)
-            | Stmt::Import(_, _)
-            | Stmt::Export(_, _)
-            | Stmt::Share(_) => false,
-        }
+        matches!(self, Stmt::Noop(_))
     }
 
     #[tactic(auto, using(rhai_meaning::proofs::PurityLaws::pure_law))]
@@ -94,24 +89,7 @@ impl StmtQueries for Stmt {
     fn is_control_flow_break(&self) -> bool
         ensures { result ≡ queries.is_control_flow_break (stmt_of self.now) }
     {
-        match self {
-            Stmt::BreakLoop(_, _, _) | Stmt::Return(_, _, _) => true,
-            Stmt::Noop(_)
-            | Stmt::If(_, _)
-            | Stmt::Switch(_, _)
-            | Stmt::While(_, _)
-            | Stmt::Do(_, _, _)
-            | Stmt::For(_, _)
-            | Stmt::Var(_, _, _)
-            | Stmt::Assignment(_)
-            | Stmt::FnCall(_, _)
-            | Stmt::Block(_)
-            | Stmt::TryCatch(_, _)
-            | Stmt::Expr(_)
-            | Stmt::Import(_, _)
-            | Stmt::Export(_, _)
-            | Stmt::Share(_) => false,
-        }
+        matches!(self, Stmt::BreakLoop(_, _, _) | Stmt::Return(_, _, _))
     }
 
     fn returns_value(&self) -> bool

@@ -1,15 +1,10 @@
 -- The operator of a call, by its token.
 use Rattle.std.specs.Prelude.{◌≡◌, ℕ, Option, Some, None, if◌then◌else◌}
-use Rattle.std.specs.Option.{option_map}
 use Rattle.rhai_tokens.specs.declared.token.Token.{Token}
-use Rattle.rhai_base.specs.Operators.{Operator, arity}
+use Rattle.rhai_base.specs.Operators.{Operator}
 use Rattle.rhai_base.specs.Builtin.{operator_of}
 use Rattle.rhai_meaning.specs.Shape.{has_token}
 use Rattle.rhai_meaning.specs.Tree.{CallToken, NoToken, OfOperator, OfOther, Callee}
-
--- how many operands a token's operator has, if it stands for one
-abbrev pub token_arity : Token → Option ℕ
-token_arity op = option_map arity (operator_of op)
 
 abbrev pub operator_by : Callee → ℕ → CallToken → Option Operator
 operator_by c n NoToken = None

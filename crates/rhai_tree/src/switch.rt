@@ -70,6 +70,26 @@ impl Cases {
     {
         &self.map
     }
+
+    /// Puts another map in place of the cases' own, which it answers. So a table is changed without a copy: an empty
+    /// map, which takes no memory, stands there until the changed one is put back.
+    pub fn replace_map(
+        &mut self,
+        map: IndexMap<Dynamic, CaseBlocksList>,
+    ) -> IndexMap<Dynamic, CaseBlocksList>
+        ensures taken { result.entries ≡ self.old }
+        ensures left { self.new ≡ map.entries }
+    {
+        std::mem::replace(&mut self.map, map)
+    }
+
+    /// The map of the cases, taken out.
+    pub fn into_map(self) -> IndexMap<Dynamic, CaseBlocksList>
+        ensures { result.entries ≡ self }
+    {
+        let Cases { map } = self;
+        map
+    }
 }
 
 /// All that a `switch` chooses from. It can be made by hand, also a bad one, of which `check_tree` speaks.

@@ -39,6 +39,15 @@ impl FnPtr {
         self.name.as_str()
     }
 
+    /// The function's name, taken out; the values are dropped. It is not in rhai.
+    pub fn into_name(self) -> ImmutableString
+        ensures name { result ≡ self.name }
+        ensures valid { is_valid_name self.name ≡ true }
+    {
+        let FnPtr { name, curried: _ } = self;
+        name.into_name()
+    }
+
     /// The values of the first parameters.
     pub fn curry(&self) -> &[Dynamic]
         ensures { result.now ≡ self.now.curried }

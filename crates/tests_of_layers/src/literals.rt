@@ -1,6 +1,6 @@
 //! Constants, literals and their values, and the constants for values.
 
-use rhai_ast::{Expr, ExprQueries, Literals, are_constant};
+use rhai_ast::{Expr, ExprQueries, Literals};
 use rhai_base::{Dynamic, FnPtr, ImmutableString, OutOfMemory, Position};
 use std::alloc::Global;
 use std::test::Fail;
@@ -99,10 +99,7 @@ fn lists_of_constants_are_told(rt: HostRuntime) -> Result<(), Fail> {
 }
 
 fn are_told(alloc: Global, text: &str, wanted: bool) -> Result<bool, Unread> {
-    match &read_expr(alloc, text)? {
-        Expr::Array(items, _) => Ok(are_constant(items.as_slice()) == wanted),
-        _ => Ok(false),
-    }
+    Ok(read_expr(alloc, text)?.is_constant() == wanted)
 }
 
 /// Values, with their types and texts.

@@ -2,18 +2,18 @@
 
 #![tactic(auto, using(rhai_values::specs::Reading::kinds))]
 
-ghost use Rattle.std.specs.Prelude.{◌≡◌, IfOk, Some, map, length, codes};
+ghost use Rattle.std.specs.Prelude.{◌≡◌, IfOk, map, length, codes};
 ghost use Rattle.rhai_base.specs.Builtin.{answered, computed_of};
 ghost use Rattle.rhai_values.specs.Reading.{value_of};
 ghost use Rattle.rhai_values.specs.Value.{TextV};
-ghost use Rattle.rhai_meaning.specs.Shape.{has_token};
-ghost use Rattle.rhai_reading.specs.Reading.{callee_of, mark_of};
+ghost use Rattle.rhai_reading.specs.Reading.{callee_of};
 ghost use Rattle.rhai_engine.specs.EngineInfo.{built_in_at, engine_of};
 ghost use Rattle.rhai_run.specs.Operators as spec;
 
 use crate::EngineInfo;
-use rhai_ast::{FnCallExpr, is_unqualified};
+use rhai_ast::FnCallExpr;
 use rhai_base::{Dynamic, Fault, ImmutableString, OutOfMemory, Token};
+use rhai_queries::is_call_of;
 use std::alloc::{AllocError, Global};
 
 /// The operator of a call that is one over its operands.
@@ -22,44 +22,6 @@ pub fn operator_called(call: &FnCallExpr) -> Option<Token>
 {
     let op = call.op_token?;
     if is_call_of(call, op) { Some(op) } else { None }
-}
-
-fn is_call_of(call: &FnCallExpr, op: Token) -> bool
-    ensures { result ≡ has_token (callee_of call.now) (length call.now.args) (mark_of (Some op)) }
-{
-    is_unqualified(&call.namespace)
-        && call.name.as_str() == op.literal_syntax()
-        && operands(op) == Some(call.args.len())
-        && !call.capture_parent_scope
-}
-
-/// How many operands the token's operator has; none for a token that is no operator.
-fn operands(op: Token) -> Option<usize>
-    ensures { result ≡ spec.token_arity op }
-{
-    match op {
-        Token::UnaryPlus | Token::UnaryMinus | Token::Bang => Some(1),
-        Token::Plus
-        | Token::Minus
-        | Token::Multiply
-        | Token::Divide
-        | Token::Modulo
-        | Token::PowerOf
-        | Token::LeftShift
-        | Token::RightShift
-        | Token::Ampersand
-        | Token::Pipe
-        | Token::XOr
-        | Token::EqualsTo
-        | Token::NotEqualsTo
-        | Token::LessThan
-        | Token::LessThanEqualsTo
-        | Token::GreaterThan
-        | Token::GreaterThanEqualsTo
-        | Token::ExclusiveRange
-        | Token::InclusiveRange => Some(2),
-        _ => None,
-    }
 }
 
 /// What the built-in operator answers; `None` where the host is asked in its place.

@@ -1,4 +1,4 @@
-use Rattle.std.proofs.Common.{◌≡◌, ℕ, ◌+◌, drop, not, slice_get, sym, ap, ◌∙◌, subst}
+use Rattle.std.proofs.Common.{ℕ, ◌+◌, drop, not, slice_get, sym, ap, ◌∙◌, subst}
 use Rattle.rhai_meaning.specs.Faults.{ChainShape, NoOperands, call_fault, finding, is_member_role, map_fault, unless, ◌then◌}
 use Rattle.rhai_meaning.specs.Shape.{keys}
 use Rattle.rhai_meaning.specs.Tree.{count_exprs}

@@ -1,4 +1,4 @@
-use Rattle.std.proofs.Common.{◌≡◌, ◌&&◌, ◌==◌, sym, ap, ◌∙◌, eq-eqb}
+use Rattle.std.proofs.Common.{◌&&◌, ◌==◌, sym, ap, ◌∙◌, eq-eqb}
 use Rattle.std.proofs.lemmas.Bool.{ne_eqb}
 use Rattle.rhai_meaning.specs.Shape.{are_among}
 use Rattle.rhai_reading.specs.Reading.{keys_of}

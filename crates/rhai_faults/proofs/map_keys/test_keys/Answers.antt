@@ -1,4 +1,4 @@
-use Rattle.std.proofs.Common.{◌≡◌, None, Some, sym, ap, ◌∙◌}
+use Rattle.std.proofs.Common.{sym, ap, ◌∙◌}
 use Rattle.rhai_meaning.specs.Faults as faults
 use Rattle.rhai_meaning.specs.Faults.{◌then◌}
 use Rattle.rhai_reading.specs.Reading.{keys_of}

@@ -1,4 +1,4 @@
-use Rattle.std.proofs.Common.{◌≡◌, ℕ, Bool, ◌&&◌, ◌+◌, drop, slice_get, sym, ap, ◌∙◌}
+use Rattle.std.proofs.Common.{ℕ, ◌&&◌, ◌+◌, drop, slice_get, sym, ap, ◌∙◌}
 use Rattle.rhai_faults.specs.PlainArms.{is_plain_if_any, listed_are_plain}
 use Rattle.rhai_faults.proofs.PlainLists.{listed-drop, ranges_plain, ranges-drop}
 use Rattle.rhai_faults.proofs.plain.+plain.Goals as goal

@@ -1,0 +1,5 @@
+use Rattle.rhai_parts.proofs.Paths.{unnamed}
+use Rattle.rhai_parts.proofs.namespace.Namespace.is_empty.Goals as goal
+
+pub returns-clause-names : goal.returns-clause-names
+returns-clause-names c = unnamed c.is_empty.result c.args.self.now.path c.is_empty.ensures

@@ -1,0 +1,10 @@
+use Rattle.rhai_reading.proofs.Cases.{expr_cases, stmt_cases}
+use Rattle.rhai_queries.proofs.Others.{independent, no_dependence}
+use Rattle.rhai_queries.proofs.block_dependence.+dependent.Goals as goal
+
+pub is_block_dependent-returns-in_default : goal.is_block_dependent-returns-in_default
+is_block_dependent-returns-in_default t c =
+    independent (stmt_cases c.args.stmt.now) c.in_default.not-Var c.in_default.not-Import c.in_default.not-Export c.in_default.not-FnCall c.in_default.not-Expr
+
+pub is_dependent_expr-returns-in_default : goal.is_dependent_expr-returns-in_default
+is_dependent_expr-returns-in_default t c = no_dependence (expr_cases c.args.expr.now) c.in_default.not-Stmt c.in_default.not-FnCall

@@ -1,0 +1,6 @@
+use Rattle.rhai_reading.proofs.Cases.{expr_cases}
+use Rattle.rhai_queries.proofs.Others.{no_literal}
+use Rattle.rhai_queries.proofs.constants.is_literally.Goals as goal
+
+pub returns-in_default : goal.returns-in_default
+returns-in_default c = no_literal c.args.truth (expr_cases c.args.condition.now) c.in_default.not-BoolConstant
