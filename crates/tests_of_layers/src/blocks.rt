@@ -74,7 +74,7 @@ fn a_block_is_gone_over(rt: HostRuntime) -> Result<(), Fail> {
 
 fn are_gone_over(alloc: Global) -> Result<bool, Unread> {
     let block = two(alloc)?;
-    Ok(nothings(&block) == 1 && others(&block) == 1 && consumed(block) == 2)
+    Ok(nothings(&block) == 1 && others(&block) == 1 && consumed(block) == 2 && is_unpacked(alloc)?)
 }
 
 fn nothings(block: &StmtBlock) -> u8 {
@@ -103,6 +103,12 @@ fn consumed(block: StmtBlock) -> u8 {
         count = count.saturating_add(1);
     }
     count
+}
+
+/// Whether the list of a block has its statements.
+fn is_unpacked(alloc: Global) -> Result<bool, Unread> {
+    let statements = two(alloc)?.into_statements();
+    Ok(matches!(statements.as_slice(), [Stmt::Noop(_), Stmt::Expr(_)]))
 }
 
 /// A statement, which statements of the block made of it are nothing, and the columns of its ends; none where it has no end.

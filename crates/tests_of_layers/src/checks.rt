@@ -1,14 +1,14 @@
 //! Trees with faults and without, and plain trees.
 
 use rhai_ast::{Expr, FnAccess, ScriptFuncDef, Stmt, StmtBlock, TreeFault, check_tree, is_plain};
-use rhai_base::{Boxed, Dynamic, ImmutableString, OutOfMemory, Position, Seq, StringMap};
+use rhai_base::{Boxed, ImmutableString, OutOfMemory, Position, Seq, StringMap, Token};
 use std::alloc::Global;
 use std::rc::Rc;
 use std::test::Fail;
 use tests_reader::{Unread, read_expr, read_lines, read_link};
 
 /// Statements, and the number of the first fault; 0 for none.
-const ROWS: [(&str, u8); 30] = [
+const ROWS: [(&str, u8); 38] = [
     ("", 0),
     ("#{a: 1, b: 2}\n", 0),
     ("#{a: 1, a: 2}\n", 20),
@@ -44,7 +44,19 @@ const ROWS: [(&str, u8); 30] = [
         "switch 1 { 1: 5 |  | default - | true => 2, true => 3, true => 4 }\n",
         31,
     ),
-    // the order of the walk, and the smallest number at one node
+    // a table that none of the four refusals meets, and each of them
+    (
+        "switch 1 { \"a\": 0, [1]: 0 | 2..5: 0 | default 1 | x => 2, true => 3 }\n",
+        0,
+    ),
+    ("switch 1 { Fn(f): 0 |  | default - | true => 2 }\n", 31),
+    ("switch 1 { [Fn(f)]: 0 |  | default - | true => 2 }\n", 31),
+    ("switch 1 {  | 2..5: 1 | default - | true => 2 }\n", 31),
+    ("switch 1 {  |  | default 1 | true => 2 }\n", 31),
+    ("switch 1 {  |  | default 0 | false => 2 }\n", 31),
+    ("switch 1 { 1: 0 |  | default 0 | true => 2 }\n", 31),
+    ("switch 1 {  | 2..=5: 0 | default 0 | true => 2 }\n", 31),
+    // the order of the walk
     ("<()>\nbreak\n", 23),
     ("if { break; true } { <()> } else {}\n", 24),
 ];
@@ -73,8 +85,16 @@ fn first_fault(alloc: Global, statements: &[Stmt], functions: &[Rc<ScriptFuncDef
 #[test]
 fn what_no_text_shows_is_found(rt: HostRuntime) -> Result<(), Fail> {
     assert!(rt; is_property_found(rt.alloc())?);
-    assert!(rt; is_template_found(rt.alloc())?);
+    assert!(rt; is_template_found(rt.alloc(), "#{a: 1}", 21)?);
     assert!(rt; is_operator_found(rt.alloc())?);
+    Ok(())
+}
+
+/// Of two faults at one node the one of the smaller number is answered.
+#[test]
+fn the_smallest_fault_of_a_node_is_found(rt: HostRuntime) -> Result<(), Fail> {
+    assert!(rt; is_template_found(rt.alloc(), "#{a: 1, a: 2}", 20)?);
+    assert!(rt; is_stray_method_found(rt.alloc())?);
     Ok(())
 }
 
@@ -89,12 +109,12 @@ fn is_fault_of(alloc: Global, expr: Expr, number: u8) -> Result<bool, Unread> {
 }
 
 /// A literal of a map whose template has no keys.
-fn is_template_found(alloc: Global) -> Result<bool, Unread> {
-    match read_expr(alloc, "#{a: 1}")? {
+fn is_template_found(alloc: Global, text: &str, number: u8) -> Result<bool, Unread> {
+    match read_expr(alloc, text)? {
         Expr::Map(map, pos) => {
             let (pairs, _) = map.into_inner();
             let map = Boxed::new(alloc, (pairs, StringMap::new(alloc)))?;
-            is_fault_of(alloc, Expr::Map(map, pos), 21)
+            is_fault_of(alloc, Expr::Map(map, pos), number)
         }
         _ => Ok(false),
     }
@@ -107,6 +127,18 @@ fn is_operator_found(alloc: Global) -> Result<bool, Unread> {
             let mut call = call.into_inner();
             call.args = Seq::from_array(alloc, [Expr::Unit(pos)])?;
             is_fault_of(alloc, Expr::FnCall(Boxed::new(alloc, call)?, pos), 28)
+        }
+        _ => Ok(false),
+    }
+}
+
+/// A method outside of a chain, with the token of an operator that is not its name's.
+fn is_stray_method_found(alloc: Global) -> Result<bool, Unread> {
+    match read_link(alloc, "m(1)")? {
+        Expr::MethodCall(call, pos) => {
+            let mut call = call.into_inner();
+            call.op_token = Some(Token::Plus);
+            is_fault_of(alloc, Expr::MethodCall(Boxed::new(alloc, call)?, pos), 26)
         }
         _ => Ok(false),
     }

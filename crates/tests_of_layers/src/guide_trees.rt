@@ -1,9 +1,11 @@
 //! The pieces of docs/GUIDE.md on trees.
 
+use indexmap::IndexMap;
 use rhai_ast::{
-    Expr, ExprQueries, FlowControl, Literals, Stmt, StmtBlock, StmtQueries, check_tree, is_plain,
+    BinaryExpr, CaseBlocksList, Cases, Expr, ExprQueries, FlowControl, Literals, SetPosition, Stmt,
+    StmtBlock, StmtQueries, SwitchBlock, SwitchCases, SwitchCasesCollection, check_tree, is_plain,
 };
-use rhai_base::{ASTFlags, Boxed, Dynamic, OutOfMemory, Position};
+use rhai_base::{ASTFlags, AstError, Boxed, Dynamic, INT, OutOfMemory, Position, RangeCase, Seq};
 use std::alloc::Global;
 use std::test::Fail;
 
@@ -22,6 +24,14 @@ fn endless(alloc: Global) -> Result<Stmt, OutOfMemory> {
         branch: StmtBlock::none(alloc),
     };
     Ok(Stmt::While(Boxed::new(alloc, flow)?, Position::new(1, 1)))
+}
+
+#[test]
+fn a_tree_is_built(rt: HostRuntime) -> Result<(), Fail> {
+    let statement = endless(rt.alloc())?;
+    assert!(rt; statement.position() == Position::new(1, 1));
+    assert!(rt; matches!(&statement, Stmt::While(flow, _) if flow.get().body.len() == 1));
+    Ok(())
 }
 
 #[test]
@@ -49,5 +59,86 @@ fn a_tree_is_asked(rt: HostRuntime) -> Result<(), Fail> {
     let answer = Expr::IntegerConstant(42, Position::NONE);
     assert!(rt; answer.is_constant() && answer.is_pure());
     assert_eq!(rt; answer.get_literal_value(alloc)?, Some(Dynamic::Int(42)));
+    Ok(())
+}
+
+/// An arm without a condition.
+fn arm(answer: INT) -> BinaryExpr {
+    BinaryExpr {
+        lhs: Expr::BoolConstant(true, Position::NONE),
+        rhs: Expr::IntegerConstant(answer, Position::NONE),
+    }
+}
+
+/// The cases of `switch x { 1 => 10, 5..8 => 20, _ => 99 }`: 1 has the first arm.
+fn cases(alloc: Global) -> Result<IndexMap<Dynamic, CaseBlocksList>, OutOfMemory> {
+    let mut cases = IndexMap::new(alloc);
+    let blocks = Seq::from_array(alloc, [0])?;
+    cases.insert(Dynamic::Int(1), CaseBlocksList { blocks })?;
+    Ok(cases)
+}
+
+/// Its table, with this arm as the default.
+fn table(
+    alloc: Global,
+    default: usize,
+) -> Result<Result<SwitchCasesCollection, AstError>, OutOfMemory> {
+    let mut range = RangeCase::from(5..8);
+    range.set_index(1); // the second arm
+    let ranges = vec![in alloc; range]?;
+    let cases = cases(alloc)?;
+    let arms = vec![in alloc; arm(10), arm(20), arm(99)]?;
+    Ok(SwitchCasesCollection::new(arms, cases, ranges, Some(default)))
+}
+
+#[test]
+fn a_table_is_made(rt: HostRuntime) -> Result<(), Fail> {
+    let alloc = rt.alloc();
+    assert!(rt; table(alloc, 2)?.is_ok());
+    assert!(rt; table(alloc, 0)?.is_err()); // `SwitchDefaultShared`: the case of 1 names that arm
+    assert!(rt; table(alloc, 3)?.is_err()); // `SwitchIndex`: there is no such arm
+    Ok(())
+}
+
+/// `switch () {}` with a default that is no arm.
+fn without_arms(alloc: Global) -> Result<Stmt, OutOfMemory> {
+    let cases = SwitchCasesCollection {
+        expressions: Seq::new(alloc),
+        cases: Cases::from_map(IndexMap::new(alloc)),
+        ranges: Seq::new(alloc),
+        def_case: Some(0),
+    };
+    let expr = Expr::Unit(Position::NONE);
+    Ok(Stmt::Switch(
+        Boxed::new(alloc, SwitchBlock { expr, cases })?,
+        Position::NONE,
+    ))
+}
+
+#[test]
+fn a_table_by_hand_is_tested(rt: HostRuntime) -> Result<(), Fail> {
+    let alloc = rt.alloc();
+    let script = [without_arms(alloc)?];
+    if let Err(fault) = check_tree(alloc, &script, &[]) {
+        assert_eq!(rt; fault.number(), 31); // `SwitchTable`
+    }
+    assert!(rt; check_tree(alloc, &script, &[]).is_err());
+    Ok(())
+}
+
+/// `[1, 2]`
+fn pair(alloc: Global) -> Result<Dynamic, OutOfMemory> {
+    Ok(Dynamic::Array(Seq::from_array(alloc, [Dynamic::Int(1), Dynamic::Int(2)])?))
+}
+
+#[test]
+fn a_constant_is_made_copied_and_put_elsewhere(rt: HostRuntime) -> Result<(), Fail> {
+    let alloc = rt.alloc();
+    let mut constant = Expr::from_dynamic(alloc, pair(alloc)?, Position::new(1, 1))?;
+    let copy = constant.clone()?; // positions too
+    constant.set_position(Position::new(3, 5));
+    assert!(rt; constant.position() == Position::new(3, 5));
+    assert!(rt; copy.position() == Position::new(1, 1));
+    assert!(rt; copy.get_literal_value(alloc)? == Some(pair(alloc)?));
     Ok(())
 }

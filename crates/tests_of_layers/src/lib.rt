@@ -8,6 +8,8 @@ mod checks;
 #[cfg(test)]
 mod flags;
 #[cfg(test)]
+mod functions;
+#[cfg(test)]
 mod guide;
 #[cfg(test)]
 mod guide_trees;
@@ -17,6 +19,8 @@ mod lists;
 mod literals;
 #[cfg(test)]
 mod names;
+#[cfg(test)]
+mod node_flags;
 #[cfg(test)]
 mod node_positions;
 #[cfg(test)]

@@ -1,15 +1,16 @@
 //! Constants, literals and their values, and the constants for values.
 
-use rhai_ast::{Expr, ExprQueries, Literals};
+use crate::queries::read;
+use rhai_ast::{Expr, ExprQueries, FnCallExpr, Literals};
 use rhai_base::{Dynamic, FnPtr, ImmutableString, OutOfMemory, Position};
 use std::alloc::Global;
 use std::test::Fail;
-use tests_reader::{Unread, read_expr, read_value};
+use tests_reader::{Unread, read_value};
 
-/// An expression, whether it is a constant, and the type and text of its value; no type where it is no literal.
+/// An expression, or with a `.` before it what stands at the right of one, whether it is a constant, and the type and text of its value; no type where it is no literal.
 type Row = (&'static str, bool, &'static str, &'static str);
 
-const ROWS: [Row; 36] = [
+const ROWS: [Row; 46] = [
     ("()", true, "()", ""),
     ("true", true, "bool", "true"),
     ("-7", true, "i64", "-7"),
@@ -17,6 +18,13 @@ const ROWS: [Row; 36] = [
     ("\"a\"", true, "string", "a"),
     ("<1..2>", true, "range", "1..2"),
     ("<[1, 'c']>", true, "array", "[1, 'c']"),
+    (
+        "<#{\"b\": [], \"a\": 1}>",
+        true,
+        "map",
+        "#{\"a\": 1, \"b\": []}",
+    ),
+    ("<Fn(f)>", true, "Fn", "Fn(f)"),
     ("[]", true, "array", "[]"),
     ("[1, 'c', <3..4>]", true, "array", "[1, 'c', 3..4]"),
     ("[[1]]", true, "array", "[[1]]"),
@@ -52,6 +60,14 @@ const ROWS: [Row; 36] = [
     ("..=((), ())", false, "", ""),
     ("..('a', 1)", false, "", ""),
     ("+(1, 2)", false, "", ""),
+    ("this", false, "", ""),
+    (".p", false, "", ""),
+    (".m()", false, "", ""),
+    ("Dot(#{a: 1}, a)", false, "", ""),
+    ("Index!([1], 0)", false, "", ""),
+    ("and(true, true)", false, "", ""),
+    ("or(false)", false, "", ""),
+    ("coalesce((), 1)", false, "", ""),
 ];
 
 #[test]
@@ -63,7 +79,7 @@ fn literals_have_values(rt: HostRuntime) -> Result<(), Fail> {
 }
 
 fn is_met(alloc: Global, row: &Row) -> Result<bool, Unread> {
-    let expr = read_expr(alloc, row.0)?;
+    let expr = read(alloc, row.0)?;
     Ok(is_read(alloc, &expr, row)?)
 }
 
@@ -87,63 +103,77 @@ fn is_written(alloc: Global, value: &Dynamic, name: &str, text: &str) -> Result<
     Ok(value.type_name() == name && value.text_of(alloc)?.as_str() == text)
 }
 
-/// Arrays, and whether their items are constants.
-const LISTS: [(&str, bool); 3] = [("[]", true), ("[1, ()]", true), ("[1, {}]", false)];
-
-#[test]
-fn lists_of_constants_are_told(rt: HostRuntime) -> Result<(), Fail> {
-    for (text, wanted) in &LISTS {
-        assert!(rt; are_told(rt.alloc(), text, *wanted)?, "{text}");
-    }
-    Ok(())
-}
-
-fn are_told(alloc: Global, text: &str, wanted: bool) -> Result<bool, Unread> {
-    Ok(read_expr(alloc, text)?.is_constant() == wanted)
-}
-
-/// Values, with their types and texts.
-const VALUES: [(&str, &str, &str); 7] = [
-    ("()", "()", ""),
-    ("false", "bool", "false"),
-    ("-7", "i64", "-7"),
-    ("'é'", "char", "é"),
-    ("\"a\"", "string", "a"),
-    ("1..2", "range", "1..2"),
-    ("[1, 'c']", "array", "[1, 'c']"),
+/// Values, with their types and texts, and whether only a constant of any value stands for them.
+const VALUES: [(&str, &str, &str, bool); 11] = [
+    ("()", "()", "", false),
+    ("false", "bool", "false", false),
+    ("-7", "i64", "-7", false),
+    ("'é'", "char", "é", false),
+    ("\"a\"", "string", "a", false),
+    ("1..2", "range", "1..2", true),
+    ("1..=2", "range=", "1..=2", true),
+    ("[1, 'c']", "array", "[1, 'c']", true),
+    ("[Fn(f)]", "array", "[Fn(f)]", true),
+    ("#{}", "map", "#{}", true),
+    ("#{\"a\": 1}", "map", "#{\"a\": 1}", true),
 ];
+
+/// Where the constants are wanted.
+fn there() -> Position {
+    Position::new(2, 5)
+}
 
 #[test]
 fn each_value_has_its_constant(rt: HostRuntime) -> Result<(), Fail> {
-    for (text, name, written) in &VALUES {
-        assert!(rt; comes_back(rt.alloc(), text, name, written)?, "{text}");
+    for row in &VALUES {
+        assert!(rt; comes_back(rt.alloc(), row)?, "{row:?}");
     }
+    assert!(rt; is_held(rt.alloc())?);
     assert!(rt; is_called_for(rt.alloc())?);
     Ok(())
 }
 
-/// Whether the constant for a value is one, has that value, and stands where it was wanted.
-fn comes_back(alloc: Global, text: &str, name: &str, written: &str) -> Result<bool, Unread> {
-    let expr = literal(alloc, read_value(alloc, text)?)?;
-    Ok(is_constant(alloc, &expr, name, written)?)
+/// Whether the constant for a value is of its kind, has that value, and stands where it was wanted.
+fn comes_back(alloc: Global, row: &(&str, &str, &str, bool)) -> Result<bool, Unread> {
+    let expr = Expr::from_dynamic(alloc, read_value(alloc, row.0)?, there())?;
+    let is_kept = is_of_any_value(&expr) == row.3;
+    Ok(is_kept && is_constant(alloc, &expr, row.1, row.2)?)
+}
+
+fn is_of_any_value(expr: &Expr) -> bool {
+    matches!(expr, Expr::DynamicConstant(_, _))
 }
 
 fn is_constant(alloc: Global, expr: &Expr, name: &str, text: &str) -> Result<bool, OutOfMemory> {
-    let is_there = expr.is_constant() && expr.position() == Position::new(2, 5);
+    let is_there = expr.is_constant() && expr.position() == there();
     Ok(is_there && has_value(alloc, expr, name, text)?)
 }
 
-fn literal(alloc: Global, value: Dynamic) -> Result<Expr, OutOfMemory> {
-    Expr::from_dynamic(alloc, value, Position::new(2, 5))
+/// Whether a pointer with a value of its own is kept whole.
+fn is_held(alloc: Global) -> Result<bool, Fail> {
+    let mut pointer = pointer(alloc)?;
+    pointer.add_curry(Dynamic::Int(1))?;
+    let expr = Expr::from_dynamic(alloc, Dynamic::FnPtr(pointer), there())?;
+    Ok(is_of_any_value(&expr) && is_constant(alloc, &expr, "Fn", "Fn(f)")?)
 }
 
-/// Whether the constant for a pointer is the call that makes it.
+/// Whether the constant for a pointer is the call that makes it, there with its argument.
 fn is_called_for(alloc: Global) -> Result<bool, Fail> {
-    let expr = literal(alloc, pointer(alloc)?)?;
-    Ok(!expr.is_constant() && has_value(alloc, &expr, "Fn", "Fn(f)")?)
+    let expr = Expr::from_dynamic(alloc, Dynamic::FnPtr(pointer(alloc)?), there())?;
+    let is_call = match &expr {
+        Expr::FnCall(call, pos) => *pos == there() && are_there(call.get()),
+        _ => false,
+    };
+    Ok(is_call && !expr.is_constant() && has_value(alloc, &expr, "Fn", "Fn(f)")?)
 }
 
-fn pointer(alloc: Global) -> Result<Dynamic, Fail> {
-    let pointer = FnPtr::new(alloc, ImmutableString::new(alloc, "f")?).ok_or("f")?;
-    Ok(Dynamic::FnPtr(pointer))
+fn are_there(call: &FnCallExpr) -> bool {
+    match call.args.as_slice() {
+        [Expr::StringConstant(name, pos)] => name.as_str() == "f" && *pos == there(),
+        _ => false,
+    }
+}
+
+fn pointer(alloc: Global) -> Result<FnPtr, Fail> {
+    Ok(FnPtr::new(alloc, ImmutableString::new(alloc, "f")?).ok_or("f")?)
 }

@@ -1,8 +1,8 @@
 //! Where nodes stand, in columns, and where they stand when they are put elsewhere.
 
 use crate::queries::read;
-use rhai_ast::{ExprQueries, SetPosition, StmtQueries};
-use rhai_base::Position;
+use rhai_ast::{Expr, ExprQueries, SetPosition, Stmt, StmtQueries};
+use rhai_base::{Boxed, OutOfMemory, Position, Seq};
 use std::alloc::Global;
 use std::test::Fail;
 use tests_reader::{Unread, read_stmt};
@@ -53,8 +53,18 @@ fn at(column: u16) -> Position {
 
 fn is_expr_met(alloc: Global, row: &ExprRow) -> Result<bool, Unread> {
     let mut expr = read(alloc, row.0)?;
-    let stands = expr.position() == at(row.1) && expr.start_position() == at(row.2);
+    let stands = expr_stands(&expr, row) && is_expr_copied(&expr, row)?;
     Ok(stands && expr.set_position(at(99)).position() == at(99))
+}
+
+fn expr_stands(expr: &Expr, row: &ExprRow) -> bool {
+    expr.position() == at(row.1) && expr.start_position() == at(row.2)
+}
+
+/// Whether a copy stands where its source does.
+fn is_expr_copied(expr: &Expr, row: &ExprRow) -> Result<bool, OutOfMemory> {
+    let copy = expr.clone()?;
+    Ok(expr_stands(&copy, row))
 }
 
 /// A statement, where it stands, and where it stands when it is put into column 99.
@@ -97,6 +107,21 @@ fn statements_stand_where_they_are_written(rt: HostRuntime) -> Result<(), Fail> 
 
 fn is_stmt_met(alloc: Global, row: &StmtRow) -> Result<bool, Unread> {
     let mut statement = read_stmt(alloc, row.0)?;
-    let stands = statement.position() == at(row.1);
+    let stands = statement.position() == at(row.1) && is_stmt_copied(&statement, row)?;
     Ok(stands && statement.set_position(at(99)).position() == at(row.2))
+}
+
+/// Whether a copy stands where its source does.
+fn is_stmt_copied(statement: &Stmt, row: &StmtRow) -> Result<bool, OutOfMemory> {
+    let copy = statement.clone()?;
+    Ok(copy.position() == at(row.1))
+}
+
+/// Names that closures share stand where the first of them does; without any they stand nowhere.
+#[test]
+fn an_empty_list_of_shared_names_stands_nowhere(rt: HostRuntime) -> Result<(), Fail> {
+    let alloc = rt.alloc();
+    let empty = Stmt::Share(Boxed::new(alloc, Seq::new(alloc))?);
+    assert!(rt; empty.position() == Position::NONE);
+    Ok(())
 }

@@ -114,21 +114,32 @@ fn is_call_met(alloc: Global, row: &(&str, bool, bool, bool)) -> Result<bool, Un
     match read_expr(alloc, row.0)? {
         Expr::FnCall(call, _) => {
             let call = call.into_inner();
-            Ok(is_call(&call, *row) && is_moved(alloc, call)?)
+            Ok(is_call(&call, *row) && is_moved(alloc, call, *row)?)
         }
         _ => Ok(false),
     }
 }
 
 fn is_call(call: &FnCallExpr, row: (&str, bool, bool, bool)) -> bool {
-    let (_, is_qualified, is_operator, is_constant) = row;
-    call.is_qualified() == is_qualified
+    let (text, is_qualified, is_operator, is_constant) = row;
+    text.contains(call.name.as_str())
+        && call.is_qualified() == is_qualified
         && call.is_operator_call() == is_operator
         && call.constant_args() == is_constant
 }
 
-/// Whether the call is an expression where it is wanted.
-fn is_moved(alloc: Global, call: FnCallExpr) -> Result<bool, OutOfMemory> {
-    let expr = call.into_fn_call_expr(alloc, Position::new(2, 5))?;
-    Ok(expr.position() == Position::new(2, 5))
+/// Whether the call is an expression of the same parts, where it is wanted.
+fn is_moved(
+    alloc: Global,
+    call: FnCallExpr,
+    row: (&str, bool, bool, bool),
+) -> Result<bool, OutOfMemory> {
+    let wanted = Position::new(2, 5);
+    let args = call.args.len();
+    match call.into_fn_call_expr(alloc, wanted)? {
+        Expr::FnCall(call, pos) => {
+            Ok(pos == wanted && call.get().args.len() == args && is_call(call.get(), row))
+        }
+        _ => Ok(false),
+    }
 }

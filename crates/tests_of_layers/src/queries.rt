@@ -101,8 +101,8 @@ fn is_expr_copied(expr: &Expr, row: &ExprRow) -> Result<bool, OutOfMemory> {
 /// An expression, or with a `.` before it what stands at the right of one.
 pub fn read(alloc: Global, text: &str) -> Result<Expr, Unread> {
     match text.strip_prefix(".") {
-        Some(link) => read_link(alloc, link),
-        None => read_expr(alloc, text),
+        Some(link) if !link.starts_with(".") => read_link(alloc, link),
+        _ => read_expr(alloc, text),
     }
 }
 

@@ -185,6 +185,18 @@ fn keeps_the_cases_in_order(rt: HostRuntime) -> Result<(), Fail> {
 
 const ORDER: [(Key, usize); 3] = [(Key::Int(2), 0), (Key::Int(1), 1), (Key::Int(2), 1)];
 
+#[test]
+fn copies_a_case(rt: HostRuntime) -> Result<(), Fail> {
+    let list = case(rt.alloc(), 7)?;
+    assert!(rt; is_case_copied(&list)?);
+    Ok(())
+}
+
+fn is_case_copied(list: &CaseBlocksList) -> Result<bool, OutOfMemory> {
+    let copy = list.clone()?;
+    Ok(copy.blocks.as_slice() == [7].as_slice() && list.blocks.len() == 1)
+}
+
 fn are_in_order(cases: &Cases) -> Result<bool, OutOfMemory> {
     let copy = cases.clone()?;
     Ok(is_in_order(cases) && is_in_order(&copy))

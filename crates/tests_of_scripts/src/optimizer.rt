@@ -1,6 +1,8 @@
 //! What the table of scripts does not say of the optimiser: levels, functions, depth, length, positions, memory, and each
 //! of its calls below the entry.
 
+use crate::notation::KEPT;
+use crate::rows::is_printed;
 use crate::trees::{NONE, certain, integer, list, name, statement};
 use rhai_ast::{Expr, FnAccess, ScriptFuncDef, Stmt, StmtBlock};
 use rhai_base::{Dynamic, INT, OutOfMemory, Position, Scope, Seq};
@@ -143,16 +145,16 @@ fn nested_choices_become_the_innermost_value(rt: HostRuntime) -> Result<(), Fail
 
 /// `1 + 2; 1 + 2; ..`
 fn many(alloc: Global) -> Result<Vec<Stmt>, Unread> {
-    let mut statements = Vec::with_capacity(alloc, LENGTH)?;
-    for _ in 0..LENGTH {
-        push(&mut statements, read_stmt(alloc, "+(1, 2)")?)?;
-    }
-    Ok(statements)
+    let sum = read_stmt(alloc, "+(1, 2)")?;
+    Ok(copies(alloc, &sum)?)
 }
 
-fn push(statements: &mut Vec<Stmt>, statement: Stmt) -> Result<(), OutOfMemory> {
-    statements.push(statement)?;
-    Ok(())
+fn copies(alloc: Global, statement: &Stmt) -> Result<Vec<Stmt>, OutOfMemory> {
+    let mut statements = Vec::with_capacity(alloc, LENGTH)?;
+    for _ in 0..LENGTH {
+        statements.push(statement.clone()?)?;
+    }
+    Ok(statements)
 }
 
 #[test]
@@ -181,11 +183,63 @@ fn what_becomes_nothing_keeps_its_place(rt: HostRuntime) -> Result<(), Fail> {
     Ok(())
 }
 
+// ---- nodes that are kept
+
+/// Nodes that the optimiser does not open, with something inside of them that it would reduce elsewhere.
+const UNOPENED: [&str; 27] = [
+    "while x { +(1, 2) }\n",
+    "while ==(1, 1) { if true { 1 } else {} }\n",
+    "loop { block { 1 } }\n",
+    "do { [1] } until !(false)\n",
+    "for x in [1, 2] { +(1, 2) }\n",
+    "switch +(1, 2) { 3: 0 |  | default - | !(false) => +(1, 2) }\n",
+    "try { +(1, 2) } catch e { [1] }\n",
+    "let x = +(1, 2)\n",
+    "const x = [1, 2]\n",
+    "export let x = !(true)\n",
+    "x = +(1, 2)\n",
+    "Index!(x, +(1, 2)) += [1]\n",
+    "return +(1, 2)\n",
+    "throw [1]\n",
+    "loop { break +(1, 2); continue [1] }\n",
+    "import +(\"a\", \"b\") as n\n",
+    "text(+(1, 2))\n",
+    "#{a: +(1, 2)}\n",
+    "and(!(true), x)\n",
+    "or(==(1, 2))\n",
+    "coalesce([1], {})\n",
+    "Dot([1], m(+(1, 2)))\n",
+    "Index!([1], +(1, 2))\n",
+    // inside of nodes that it opens
+    "call f(and(!(true)), Dot(x, m([1])))\n",
+    "if or(!(true)) { while x { [1] } } else { let x = [1] }\n",
+    "[x, #{a: [1]}]\n",
+    "call f({ let x = [1]; x })\n",
+];
+
+#[test]
+fn nodes_that_are_not_opened_stay(rt: HostRuntime) -> Result<(), Fail> {
+    for lines in &UNOPENED {
+        assert!(rt; stays(rt.alloc(), lines)?, "{lines}");
+    }
+    for lines in &KEPT {
+        assert!(rt; stays(rt.alloc(), lines)?, "{lines}");
+    }
+    Ok(())
+}
+
+/// Whether an optimised script is printed as it was before.
+fn stays(alloc: Global, lines: &str) -> Result<bool, Unread> {
+    let script = optimized(alloc, read_lines(alloc, lines)?, OptimizationLevel::Simple)?;
+    Ok(is_printed(alloc, &script, lines)?)
+}
+
 // ---- memory
 
-/// A script of each kind of node in which nothing is to be reduced.
+/// A script of the nodes that the optimiser opens, in which nothing is to be reduced, and of two that it does not open.
 const SETTLED: &str =
-    "call f(f(1, 2), [f(1, 2), 2])\nif f(1, 2) { call f(1) } else { call f(2) }\n1\n";
+    "call f(f(1, 2), [f(1, 2), 2])\nif f(1, 2) { call f(1) } else { call f({ x; y }) }\n\
+                       while x { +(1, 2) }\nDot(x, m([1]))\n1\n";
 
 /// The last request for memory is that of the reader. Where the one after it is refused, as by `rt try --test --fail-alloc`
 /// with its number, the test passes all the same: the pass makes none.
@@ -195,7 +249,7 @@ fn a_script_with_nothing_to_reduce_takes_no_memory(rt: HostRuntime) -> Result<()
     let info = EngineInfo::new(alloc);
     let mut statements = Seq::from_vec(read_lines(alloc, SETTLED)?);
     assert!(rt; optimize_top_level(alloc, &info, &mut statements).is_ok());
-    assert!(rt; statements.len() == 3);
+    assert!(rt; statements.len() == 5);
     Ok(())
 }
 

@@ -1,8 +1,6 @@
-//! What was read, joined with what is read next. A function of the recursion holds no tree while it reads on: what is
-//! dropped after a refusal is dropped here.
+//! What was read, joined with what is read next: what is dropped after a refusal is dropped here.
 
 use crate::letters::Unread;
-use rhai_base::OutOfMemory;
 
 /// The two of them.
 pub(crate) fn both<A: Drop, B: Drop>(
@@ -23,21 +21,19 @@ pub(crate) fn ended<A: Drop>(
     Ok(made)
 }
 
-/// The items and one more.
-pub(crate) fn pushed<T: Drop>(
-    mut items: Vec<T>,
-    item: Result<T, Unread>,
-) -> Result<Vec<T>, Unread> {
-    push(&mut items, item?)?;
-    Ok(items)
+/// Adds an item.
+pub(crate) fn push<T: Drop>(items: &mut Vec<T>, item: Result<T, Unread>) -> Result<(), Unread> {
+    items.push(item?)?;
+    Ok(())
 }
 
-fn push<T: Drop>(items: &mut Vec<T>, item: T) -> Result<(), OutOfMemory> {
-    items.push(item)?;
+/// Puts it into its place.
+pub(crate) fn fill<T: Drop>(place: &mut Option<T>, made: Result<T, Unread>) -> Result<(), Unread> {
+    *place = Some(made?);
     Ok(())
 }
 
 /// Gives the items up.
-pub(crate) fn too_many<T: Drop>(_items: Vec<T>) -> Result<Vec<T>, Unread> {
+pub(crate) fn too_many<T: Drop>(_items: T) -> Result<T, Unread> {
     Err(Unread::Wanted("fewer items"))
 }

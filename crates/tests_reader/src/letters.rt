@@ -1,8 +1,13 @@
 //! What is read letter by letter.
 
+ghost use Rattle.std.specs.Prelude.{◌<◌, IfOk};
+
 use rhai_base::{INT, Ident, ImmutableString, OutOfMemory, Position};
-use std::alloc::{AllocError, Global};
+use std::alloc::{AllocError, AllocFailed, Global};
 use std::str;
+
+/// How many items a list may have.
+pub(crate) const ITEMS: usize = 20;
 
 /// Why a text is no tree.
 #[derive(Debug, Drop)]
@@ -24,6 +29,31 @@ impl From<AllocError> for Unread {
     }
 }
 
+impl<T: Drop> From<AllocFailed<T>> for Unread {
+    fn from(_: AllocFailed<T>) -> Unread {
+        Unread::NoMemory
+    }
+}
+
+/// What letters are.
+#[derive(Clone, Copy)]
+enum Kind {
+    OfNames,
+    OfIntegers,
+    /// All but this one.
+    Before(u8),
+}
+
+impl Kind {
+    fn has(self, letter: u8) -> bool {
+        match self {
+            Kind::OfNames => letter.is_ascii_alphanumeric() || letter == b'_',
+            Kind::OfIntegers => b"-0123456789".contains(&letter),
+            Kind::Before(end) => letter != end,
+        }
+    }
+}
+
 /// What is left of a text.
 #[derive(Drop)]
 pub(crate) struct Letters<'a> {
@@ -42,18 +72,15 @@ impl<'a> Letters<'a> {
         }
     }
 
-    /// Where the next letter stands.
-    pub(crate) fn here(&self) -> Position {
-        column(
-            self.length
-                .saturating_sub(self.rest.len())
-                .saturating_add(1),
-        )
-    }
-
     /// Where the last letter stands.
     pub(crate) fn last(&self) -> Position {
         column(self.length.saturating_sub(self.rest.len()))
+    }
+
+    /// Where the next letter stands.
+    pub(crate) fn here(&self) -> Position {
+        let read = self.length.saturating_sub(self.rest.len());
+        column(read.saturating_add(1))
     }
 
     /// What is left, to come back to.
@@ -64,10 +91,6 @@ impl<'a> Letters<'a> {
     /// Comes back to what was left.
     pub(crate) fn come_back(&mut self, rest: &'a [u8]) {
         self.rest = rest;
-    }
-
-    pub(crate) fn is_empty(&self) -> bool {
-        self.rest.is_empty()
     }
 
     /// Whether these letters stand next.
@@ -94,13 +117,9 @@ impl<'a> Letters<'a> {
         }
     }
 
-    /// Nothing is left.
-    pub(crate) fn end(&self) -> Result<(), Unread> {
-        if self.is_empty() {
-            Ok(())
-        } else {
-            Err(Unread::Wanted("the end"))
-        }
+    /// Whether nothing is left.
+    pub(crate) fn is_at_end(&self) -> bool {
+        self.rest.is_empty()
     }
 
     /// The first letters, so many, and goes past them.
@@ -111,27 +130,60 @@ impl<'a> Letters<'a> {
         Some(letters)
     }
 
+    /// How many letters of this kind stand next.
+    fn count(&self, kind: Kind) -> usize {
+        let mut count: usize = 0;
+        for letter in self.rest {
+            if !kind.has(*letter) {
+                break;
+            }
+            count = count.saturating_add(1);
+        }
+        count
+    }
+
     /// The letters before this one, and goes past it.
     pub(crate) fn until(&mut self, end: u8) -> Option<&'a str> {
-        let mut letters = self.rest.iter();
-        let count = letters.position(|letter| *letter == end)?;
-        let letters = self.first(count)?;
+        let letters = self.first(self.count(Kind::Before(end)))?;
         self.first(1)?;
         Some(letters)
     }
 
-    /// The letters of a name, and goes past them; none where no name stands next.
-    pub(crate) fn word(&mut self) -> &'a str {
-        let mut letters = self.rest.iter();
-        let count = letters
-            .position(|letter| !(letter.is_ascii_alphanumeric() || *letter == b'_'))
-            .unwrap_or(self.rest.len());
-        self.first(count).unwrap_or("")
+    /// The letters before a `"`, and goes past it. One with letters behind it that follow no text is a part of the text.
+    pub(crate) fn quoted(&mut self) -> Option<&'a str> {
+        let mut count: usize = 0;
+        for letter in self.rest {
+            let next = count.saturating_add(1);
+            if *letter == b'"' && follows_text(self.rest.get(next)) {
+                let letters = self.first(count)?;
+                self.first(1)?;
+                return Some(letters);
+            }
+            count = next;
+        }
+        None
     }
 
-    /// A name after these letters.
-    pub(crate) fn ident(&mut self, before: &'static str) -> Result<Ident, Unread> {
-        self.expect(before)?;
+    /// The one letter before a `'`, which may be a `'` too, and goes past both.
+    pub(crate) fn letter(&mut self) -> Option<char> {
+        let letters = if self.skip("''") {
+            "'"
+        } else {
+            self.until(b'\'')?
+        };
+        letters.chars().next()
+    }
+
+    /// The letters of a name, and goes past them; none where no name stands next.
+    pub(crate) fn word(&mut self) -> &'a str {
+        if matches!(self.rest.first(), Some(b'0'..=b'9')) {
+            return "";
+        }
+        self.first(self.count(Kind::OfNames)).unwrap_or("")
+    }
+
+    /// A name.
+    pub(crate) fn ident(&mut self) -> Result<Ident, Unread> {
         let pos = self.here();
         let word = self.word();
         if word.is_empty() {
@@ -143,23 +195,36 @@ impl<'a> Letters<'a> {
 
     /// An integer, where one stands next.
     pub(crate) fn integer(&mut self) -> Option<INT> {
-        let mut letters = self.rest.iter();
-        let count = letters
-            .position(|letter| !b"-0123456789".contains(letter))
-            .unwrap_or(self.rest.len());
-        let (digits, rest) = self.rest.split_at_checked(count)?;
-        let integer = str::from_utf8(digits).ok()?.parse::<INT>().ok()?;
-        self.rest = rest;
-        Some(integer)
+        let before = self.rest;
+        let integer = self.first(self.count(Kind::OfIntegers))?.parse::<INT>();
+        if integer.is_err() {
+            self.rest = before;
+        }
+        integer.ok()
     }
 
     /// A number, where one stands next.
     pub(crate) fn number(&mut self) -> Result<usize, Unread> {
         let number = self.integer().ok_or(Unread::Wanted("a number"))?;
-        usize::try_from(number).map_err(|_| Unread::Wanted("a number"))
+        usize::try_from(number).or(Err(Unread::Wanted("a number")))
     }
+}
+
+/// One step less deep.
+pub(crate) fn below(depth: u32) -> Result<u32, Unread>
+    ensures { IfOk result (λ d. d < depth) }
+{
+    depth.checked_sub(1).ok_or(Unread::Wanted("fewer levels"))
 }
 
 fn column(column: usize) -> Position {
     Position::new(1, u16::try_from(column).unwrap_or(0))
+}
+
+/// Whether this may stand behind a text.
+fn follows_text(letter: Option<&u8>) -> bool {
+    match letter {
+        Some(letter) => b" ,:;)]}>\n".contains(letter),
+        None => true,
+    }
 }

@@ -1,70 +1,87 @@
 //! Names, signs and flags.
 
-use crate::joined::{both, ended, pushed, too_many};
-use crate::letters::{Letters, Unread};
+use crate::forms::Flat;
+use crate::joined::{fill, push};
+use crate::letters::{ITEMS, Letters, Unread};
+use crate::nodes;
+use crate::parts::Parts;
 use rhai_base::{ASTFlags, Ident, ImmutableString, Namespace, OpAssignment, Position};
 use std::mem;
-use std::num::NonZeroUsize;
-
-/// How many names may be listed.
-const ITEMS: usize = 20;
 
 /// What is called, or a variable: its path and its name, and whether it sees the caller's names.
 #[derive(Drop)]
 pub(crate) struct Called {
     pub(crate) namespace: Namespace,
-    pub(crate) name: ImmutableString,
-    pub(crate) pos: Position,
+    pub(crate) name: Ident,
     pub(crate) captures: bool,
 }
 
 impl<'a> Letters<'a> {
-    /// A path and its name, from its first word on.
-    pub(crate) fn called(&mut self, word: &str, pos: Position) -> Result<Called, Unread> {
-        let mut namespace = Namespace::none(self.alloc);
-        let name = ImmutableString::new(self.alloc, word)?;
-        let mut last = Ident { name, pos };
-        for _ in 0..ITEMS {
-            if !self.starts("::") {
-                break;
-            }
-            let next = self.ident("::")?;
-            namespace.path.push(mem::replace(&mut last, next))?;
+    /// Reads a part that no other node stands in.
+    pub(crate) fn flat(&mut self, part: Flat, parts: &mut Parts) -> Result<(), Unread> {
+        match part {
+            Flat::Flag(flag) => parts.options |= flag,
+            Flat::Name => self.name(parts)?,
+            Flat::LoopNames => self.loop_names(parts)?,
+            Flat::Names => self.names(parts)?,
+            Flat::Until => parts.options |= self.condition()?,
+            Flat::Ending => parts.options |= self.ending(),
+            Flat::Callee => fill(&mut parts.called, self.callee())?,
+            Flat::Caught => self.caught(parts)?,
+            Flat::Table => fill(&mut parts.table, self.table())?,
         }
-        let Ident { name, pos } = last;
-        Ok(Called {
-            namespace,
-            name,
-            pos,
-            captures: self.starts("!(") && self.skip("!"),
-        })
+        Ok(())
     }
 
-    /// What is called, and goes past the `(`.
-    pub(crate) fn callee(&mut self) -> Result<Called, Unread> {
-        let pos = self.here();
-        match self.word() {
-            "" => self.operator(pos),
-            word => {
-                let called = self.called(word, pos);
-                ended(called, self.expect("("))
+    /// A path and its name, from its first word on.
+    pub(crate) fn called(&mut self, word: &str, pos: Position) -> Result<Called, Unread> {
+        let name = ImmutableString::new(self.alloc, word)?;
+        let mut called = Called {
+            namespace: Namespace::none(self.alloc),
+            name: Ident { name, pos },
+            captures: false,
+        };
+        self.path(&mut called)?;
+        called.captures = self.starts("!(") && self.skip("!");
+        Ok(called)
+    }
+
+    fn path(&mut self, called: &mut Called) -> Result<(), Unread> {
+        for _ in 0..ITEMS {
+            if !self.skip("::") {
+                break;
             }
+            let module = mem::replace(&mut called.name, self.ident()?);
+            called.namespace.path.push(module)?;
         }
+        Ok(())
     }
 
     /// An operator, and goes past the `(`.
     pub(crate) fn operator(&mut self, pos: Position) -> Result<Called, Unread> {
         let symbol = self.until(b'(').ok_or(Unread::Wanted("a call"))?;
+        let name = ImmutableString::new(self.alloc, symbol)?;
         Ok(Called {
             namespace: Namespace::none(self.alloc),
-            name: ImmutableString::new(self.alloc, symbol)?,
-            pos,
+            name: Ident { name, pos },
             captures: false,
         })
     }
 
-    /// How a step of a chain ends it.
-    pub(crate) fn flags(&mut self) -> ASTFlags {
+    /// What is called, and goes past the `(`.
+    fn callee(&mut self) -> Result<Called, Unread> {
+        let pos = self.here();
+        match self.word() {
+            "" => self.operator(pos),
+            word => {
+                let called = self.called(word, pos)?;
+                self.expect("(")?;
+                Ok(called)
+            }
+        }
+    }
+
+    fn ending(&mut self) -> ASTFlags {
         let mut flags = ASTFlags::NONE;
         if self.skip("?") {
             flags |= ASTFlags::NEGATED;
@@ -97,7 +114,7 @@ impl<'a> Letters<'a> {
     }
 
     /// Whether a loop goes on until its condition.
-    pub(crate) fn condition(&mut self) -> Result<ASTFlags, Unread> {
+    fn condition(&mut self) -> Result<ASTFlags, Unread> {
         if self.skip(" until ") {
             return Ok(ASTFlags::NEGATED);
         }
@@ -105,28 +122,40 @@ impl<'a> Letters<'a> {
         Ok(ASTFlags::NONE)
     }
 
-    /// The name of a loop, with its counter's.
-    pub(crate) fn loop_names(&mut self) -> Result<(Ident, Option<Ident>), Unread> {
-        self.expect(" ")?;
-        if !self.skip("(") {
-            return Ok((self.ident("")?, None));
-        }
-        let name = self.ident("");
-        let counter = self.ident(", ");
-        let (name, counter) = ended(both(name, counter), self.expect(")"))?;
-        Ok((name, Some(counter)))
+    fn name(&mut self, parts: &mut Parts) -> Result<(), Unread> {
+        let name = self.ident()?;
+        parts.names.push((name, None))?;
+        Ok(())
     }
 
-    /// Names that are shared.
-    pub(crate) fn shared(&mut self) -> Result<Vec<(Ident, Option<NonZeroUsize>)>, Unread> {
-        let first = self.ident(" ");
-        let mut names = pushed(Vec::new(self.alloc), both(first, Ok(None)))?;
+    fn names(&mut self, parts: &mut Parts) -> Result<(), Unread> {
         for _ in 0..ITEMS {
-            if !self.starts(", ") {
-                return Ok(names);
+            self.name(parts)?;
+            if !self.skip(", ") {
+                return Ok(());
             }
-            names = pushed(names, both(self.ident(", "), Ok(None)))?;
         }
-        too_many(names)
+        Err(Unread::Wanted("fewer items"))
+    }
+
+    fn loop_names(&mut self, parts: &mut Parts) -> Result<(), Unread> {
+        if !self.skip("(") {
+            return self.name(parts);
+        }
+        self.names(parts)?;
+        self.expect(")")
+    }
+
+    /// The catch name as an expression; nothing where there is none.
+    fn caught(&mut self, parts: &mut Parts) -> Result<(), Unread> {
+        self.expect(" catch ")?;
+        if self.starts("{") {
+            return Ok(());
+        }
+        let pos = self.here();
+        let word = self.word();
+        let called = self.called(word, pos)?;
+        push(&mut parts.exprs, nodes::variable(self.alloc, called))?;
+        self.expect(" ")
     }
 }

@@ -1,28 +1,29 @@
 //! What a `switch` chooses by.
 
-use crate::joined::both;
-use crate::letters::{Letters, Unread};
+use crate::letters::{ITEMS, Letters, Unread};
 use indexmap::IndexMap;
-use rhai_ast::{CaseBlocksList, Cases};
+use rhai_ast::{CaseBlocksList, Cases, SwitchCasesCollection};
 use rhai_base::{Dynamic, INT, OutOfMemory, RangeCase, Seq};
 
-/// How many cases, ranges or arms may be listed.
-const ITEMS: usize = 20;
-
-/// Cases, ranges and the place of the default arm.
-pub(crate) type Table = ((Cases, Seq<RangeCase>), Option<usize>);
-
 impl<'a> Letters<'a> {
-    /// Cases, ranges and default, with `|` between them.
-    pub(crate) fn table(&mut self) -> Result<Table, Unread> {
-        let chosen = both(self.cases(), self.ranges());
-        both(chosen, self.default())
+    /// Cases, ranges and default, with `|` between them; the table has no arms yet.
+    pub(crate) fn table(&mut self) -> Result<SwitchCasesCollection, Unread> {
+        let mut table = SwitchCasesCollection {
+            expressions: Seq::new(self.alloc),
+            cases: Cases::from_map(IndexMap::new(self.alloc)),
+            ranges: Seq::new(self.alloc),
+            def_case: None,
+        };
+        table.cases = self.cases()?;
+        self.ranges(&mut table.ranges)?;
+        table.def_case = self.default()?;
+        Ok(table)
     }
 
     fn cases(&mut self) -> Result<Cases, Unread> {
         let mut cases = IndexMap::new(self.alloc);
         for _ in 0..ITEMS {
-            match self.scalar()? {
+            match self.value()? {
                 Some(key) => put(&mut cases, key, self.places()?)?,
                 None => break,
             }
@@ -47,8 +48,7 @@ impl<'a> Letters<'a> {
         Ok(CaseBlocksList { blocks })
     }
 
-    fn ranges(&mut self) -> Result<Seq<RangeCase>, Unread> {
-        let mut ranges = Seq::new(self.alloc);
+    fn ranges(&mut self, ranges: &mut Seq<RangeCase>) -> Result<(), Unread> {
         for _ in 0..ITEMS {
             match self.integer() {
                 Some(start) => ranges.push(self.range(start)?)?,
@@ -58,8 +58,7 @@ impl<'a> Letters<'a> {
                 break;
             }
         }
-        self.expect(" | ")?;
-        Ok(ranges)
+        self.expect(" | ")
     }
 
     /// A range from a start, with the place of its arm.

@@ -1,33 +1,25 @@
 //! Trees. They go so deep and no deeper, and take so many items of a list and no more.
 
-ghost use Rattle.std.specs.Prelude.{◌<◌, IfOk};
-
-use crate::joined::{both, ended, pushed, too_many};
-use crate::letters::{Letters, Unread};
-use crate::names::Called;
+use crate::forms::{self, ExprForm, ExprKind, Flat, Part, StmtForm, StmtKind, form_of};
+use crate::joined::{both, ended, fill, push};
+use crate::letters::{ITEMS, Letters, Unread, below};
 use crate::nodes;
-use rhai_ast::{BinaryExpr, Expr, FnCallExpr, Literals, Stmt, StmtBlock};
-use rhai_base::{ASTFlags, Boxed, Ident, Position, Seq};
+use crate::parts::Parts;
+use rhai_ast::{BinaryExpr, Expr, Stmt, StmtBlock};
+use rhai_base::{Ident, Position};
 use std::alloc::Global;
+use std::mem;
 
-/// How deep a text may nest, each step of the grammar counted.
+/// How deep a text may nest, each step of the recursion counted.
 const DEPTH: u32 = 120;
-
-/// How many items a list may have.
-const ITEMS: usize = 20;
 
 /// The statements of a text, each on a line.
 pub fn read_lines(alloc: Global, text: &str) -> Result<Vec<Stmt>, Unread> {
     let mut letters = Letters::new(alloc, text);
     let mut statements = Vec::new(alloc);
-    for _ in 0..ITEMS {
-        if letters.is_empty() {
-            return Ok(statements);
-        }
-        let statement = letters.statement(DEPTH);
-        statements = pushed(statements, ended(statement, letters.expect("\n")))?;
-    }
-    too_many(statements)
+    letters.lines(&mut statements)?;
+    letters.end()?;
+    Ok(statements)
 }
 
 /// The one expression of a text.
@@ -51,169 +43,49 @@ pub fn read_stmt(alloc: Global, text: &str) -> Result<Stmt, Unread> {
     ended(statement, letters.end())
 }
 
-fn below(depth: u32) -> Result<u32, Unread>
-    ensures { IfOk result (λ d. d < depth) }
-{
-    depth.checked_sub(1).ok_or(Unread::Wanted("fewer levels"))
-}
-
-// ---- expressions
-
 impl<'a> Letters<'a> {
+    /// Nothing is left.
+    fn end(&self) -> Result<(), Unread> {
+        if self.is_at_end() {
+            Ok(())
+        } else {
+            Err(Unread::Wanted("the end"))
+        }
+    }
+
+    /// Statements, each on a line, up to a function or the end.
+    pub(crate) fn lines(&mut self, statements: &mut Vec<Stmt>) -> Result<(), Unread> {
+        for _ in 0..ITEMS {
+            if self.is_at_end() || self.starts("fn ") {
+                return Ok(());
+            }
+            push(statements, self.statement(DEPTH))?;
+            self.expect("\n")?;
+        }
+        Err(Unread::Wanted("fewer statements"))
+    }
+
+    /// The block of a function.
+    pub(crate) fn body(&mut self) -> Result<StmtBlock, Unread> {
+        self.block(DEPTH)
+    }
+
+    // ---- the recursion
+
     #[cycle(read)]
     fn expr(&mut self, depth: u32) -> Result<Expr, Unread> {
         let depth = below(depth)?;
         let pos = self.here();
-        if let Some(value) = self.scalar()? {
-            return Ok(Expr::from_dynamic(self.alloc, value, pos)?);
-        }
-        if let Some(value) = self.held()? {
-            return nodes::held(self.alloc, value, pos);
+        if let Some(constant) = self.constant(pos)? {
+            return Ok(constant);
         }
         if self.starts("{") {
-            let block = self.block("", depth)?;
-            return Ok(Expr::Stmt(Boxed::new(self.alloc, block)?));
+            return nodes::braces(self.alloc, self.block(depth));
         }
-        if self.skip("#{") {
-            return self.map(pos, depth);
-        }
-        if self.skip("[") {
-            let items = self.exprs("]", depth)?;
-            return Ok(Expr::Array(Seq::from_vec(items), pos));
-        }
-        self.worded(pos, depth)
-    }
-
-    #[cycle(read)]
-    fn expr_after(&mut self, before: &'static str, depth: u32) -> Result<Expr, Unread> {
-        let depth = below(depth)?;
-        self.expect(before)?;
-        self.expr(depth)
-    }
-
-    /// An expression that begins with a word or a symbol.
-    #[cycle(read)]
-    fn worded(&mut self, pos: Position, depth: u32) -> Result<Expr, Unread> {
-        let depth = below(depth)?;
-        match self.word() {
-            "" => {
-                let called = self.operator(pos)?;
-                Ok(Expr::FnCall(self.call(called, depth)?, pos))
-            }
-            "this" => Ok(Expr::ThisPtr(pos)),
-            "text" => Ok(Expr::InterpolatedString(self.operands(depth)?, pos)),
-            "and" => Ok(Expr::And(self.boxed_operands(depth)?, pos)),
-            "or" => Ok(Expr::Or(self.boxed_operands(depth)?, pos)),
-            "coalesce" => Ok(Expr::Coalesce(self.boxed_operands(depth)?, pos)),
-            "Dot" => self.step(true, false, pos, depth),
-            "Index" => self.step(false, false, pos, depth),
-            word => self.named(word, pos, depth),
-        }
-    }
-
-    /// A variable or a call.
-    #[cycle(read)]
-    fn named(&mut self, word: &str, pos: Position, depth: u32) -> Result<Expr, Unread> {
-        let depth = below(depth)?;
-        let called = self.called(word, pos)?;
-        if self.skip("(") {
-            let pos = called.pos;
-            return Ok(Expr::FnCall(self.call(called, depth)?, pos));
-        }
-        nodes::variable(self.alloc, called)
-    }
-
-    /// A call's arguments, of what is called.
-    #[cycle(read)]
-    fn call(&mut self, called: Called, depth: u32) -> Result<Boxed<FnCallExpr>, Unread> {
-        let depth = below(depth)?;
-        let args = self.exprs(")", depth);
-        nodes::call(self.alloc, both(Ok(called), args)?)
-    }
-
-    /// Expressions in parentheses.
-    #[cycle(read)]
-    fn operands(&mut self, depth: u32) -> Result<Seq<Expr>, Unread> {
-        let depth = below(depth)?;
-        self.expect("(")?;
-        Ok(Seq::from_vec(self.exprs(")", depth)?))
-    }
-
-    #[cycle(read)]
-    fn boxed_operands(&mut self, depth: u32) -> Result<Boxed<Seq<Expr>>, Unread> {
-        let depth = below(depth)?;
-        Ok(Boxed::new(self.alloc, self.operands(depth)?)?)
-    }
-
-    /// Expressions up to an end.
-    #[cycle(read)]
-    fn exprs(&mut self, end: &'static str, depth: u32) -> Result<Vec<Expr>, Unread> {
-        let depth = below(depth)?;
-        if self.skip(end) {
-            return Ok(Vec::new(self.alloc));
-        }
-        let mut exprs = Vec::new(self.alloc);
-        for _ in 0..ITEMS {
-            exprs = pushed(exprs, self.expr(depth))?;
-            if !self.skip(", ") {
-                return ended(Ok(exprs), self.expect(end));
-            }
-        }
-        too_many(exprs)
-    }
-
-    #[cycle(read)]
-    fn map(&mut self, pos: Position, depth: u32) -> Result<Expr, Unread> {
-        let depth = below(depth)?;
-        let pairs = self.pairs(depth)?;
-        let template = nodes::template(self.alloc, pairs.as_slice());
-        nodes::map(self.alloc, both(Ok(pairs), template)?, pos)
-    }
-
-    /// Pairs up to the end of their map.
-    #[cycle(read)]
-    fn pairs(&mut self, depth: u32) -> Result<Vec<(Ident, Expr)>, Unread> {
-        let depth = below(depth)?;
-        if self.skip("}") {
-            return Ok(Vec::new(self.alloc));
-        }
-        let mut pairs = Vec::new(self.alloc);
-        for _ in 0..ITEMS {
-            let name = self.ident("");
-            pairs = pushed(pairs, both(name, self.expr_after(": ", depth)))?;
-            if !self.skip(", ") {
-                return ended(Ok(pairs), self.expect("}"));
-            }
-        }
-        too_many(pairs)
-    }
-
-    /// A step of a chain; in a link the left side is one too.
-    #[cycle(read)]
-    fn step(
-        &mut self,
-        is_dot: bool,
-        is_link: bool,
-        pos: Position,
-        depth: u32,
-    ) -> Result<Expr, Unread> {
-        let depth = below(depth)?;
-        let options = self.flags();
-        let lhs = self.side("(", is_link, depth);
-        let rhs = self.side(", ", is_dot, depth);
-        let sides = ended(both(lhs, rhs), self.expect(")"))?;
-        nodes::step(self.alloc, is_dot, sides, options, pos)
-    }
-
-    #[cycle(read)]
-    fn side(&mut self, before: &'static str, is_link: bool, depth: u32) -> Result<Expr, Unread> {
-        let depth = below(depth)?;
-        self.expect(before)?;
-        if is_link {
-            self.link(depth)
-        } else {
-            self.expr(depth)
-        }
+        let mut parts = Parts::new(self.alloc);
+        let (kind, form) = self.expr_form(&mut parts)?;
+        self.parts(form, &mut parts, depth)?;
+        nodes::expr(kind, &mut parts, pos)
     }
 
     /// What stands at the right of a `.`
@@ -221,253 +93,206 @@ impl<'a> Letters<'a> {
     fn link(&mut self, depth: u32) -> Result<Expr, Unread> {
         let depth = below(depth)?;
         let pos = self.here();
-        match self.word() {
-            "" => self.expr(depth),
-            "Dot" => self.step(true, true, pos, depth),
-            "Index" => self.step(false, true, pos, depth),
-            word => self.member(word, pos, depth),
+        let mut parts = Parts::new(self.alloc);
+        match self.link_form(&mut parts)? {
+            Some((kind, form)) => {
+                self.parts(form, &mut parts, depth)?;
+                nodes::expr(kind, &mut parts, pos)
+            }
+            None => self.expr(depth),
         }
     }
 
-    /// A property or a method.
-    #[cycle(read)]
-    fn member(&mut self, word: &str, pos: Position, depth: u32) -> Result<Expr, Unread> {
-        let depth = below(depth)?;
-        let called = self.called(word, pos)?;
-        if self.skip("(") {
-            return Ok(Expr::MethodCall(self.call(called, depth)?, pos));
-        }
-        nodes::property(self.alloc, called)
-    }
-}
-
-// ---- statements
-
-impl<'a> Letters<'a> {
     #[cycle(read)]
     fn statement(&mut self, depth: u32) -> Result<Stmt, Unread> {
         let depth = below(depth)?;
-        let (pos, before) = (self.here(), self.rest());
-        match self.word() {
-            "noop" => Ok(Stmt::Noop(pos)),
-            "if" => self.choice(pos, depth),
-            "switch" => self.switch(pos, depth),
-            "while" => self.guarded(pos, depth),
-            "loop" => self.endless(pos, depth),
-            "do" => self.repeated(pos, depth),
-            "for" => self.each(pos, depth),
-            "block" => Ok(Stmt::Block(Boxed::new(self.alloc, self.block(" ", depth)?)?)),
-            "call" => self.called_alone(pos, depth),
-            "try" => self.tried(pos, depth),
-            "let" => self.declared(ASTFlags::NONE, pos, depth),
-            "const" => self.declared(ASTFlags::CONSTANT, pos, depth),
-            "export" => self.exported(pos, depth),
-            word => self.leaving(word, pos, before, depth),
-        }
-    }
-
-    /// Statements that leave, those on modules and closures, and expressions.
-    #[cycle(read)]
-    fn leaving(
-        &mut self,
-        word: &str,
-        pos: Position,
-        before: &'a [u8],
-        depth: u32,
-    ) -> Result<Stmt, Unread> {
-        let depth = below(depth)?;
-        match word {
-            "break" => Ok(Stmt::BreakLoop(self.maybe(depth)?, ASTFlags::BREAK, pos)),
-            "continue" => Ok(Stmt::BreakLoop(self.maybe(depth)?, ASTFlags::NONE, pos)),
-            "throw" => Ok(Stmt::Return(self.maybe(depth)?, ASTFlags::BREAK, pos)),
-            "return" => Ok(Stmt::Return(self.maybe(depth)?, ASTFlags::NONE, pos)),
-            "import" => self.imported(pos, depth),
-            "share" => {
-                let names = Seq::from_vec(self.shared()?);
-                Ok(Stmt::Share(Boxed::new(self.alloc, names)?))
-            }
-            _ => {
-                self.come_back(before);
-                self.expr_alone(depth)
-            }
-        }
+        let pos = self.here();
+        let mut parts = Parts::new(self.alloc);
+        let (kind, form) = self.stmt_form();
+        self.parts(form, &mut parts, depth)?;
+        nodes::stmt(kind, &mut parts, pos)
     }
 
     #[cycle(read)]
-    fn choice(&mut self, pos: Position, depth: u32) -> Result<Stmt, Unread> {
+    fn block(&mut self, depth: u32) -> Result<StmtBlock, Unread> {
         let depth = below(depth)?;
-        let start = both(self.expr_after(" ", depth), self.block(" ", depth));
-        let parts = both(start, self.block(" else ", depth))?;
-        Ok(Stmt::If(nodes::flow(self.alloc, parts)?, pos))
-    }
-
-    #[cycle(read)]
-    fn switch(&mut self, pos: Position, depth: u32) -> Result<Stmt, Unread> {
-        let depth = below(depth)?;
-        let subject = self.expr_after(" ", depth);
-        let start = self.expect(" { ");
-        let table = self.table();
-        let parts = both(table, self.arms(depth));
-        nodes::switch(self.alloc, both(ended(subject, start), parts)?, pos)
-    }
-
-    /// Arms up to the end of their `switch`.
-    #[cycle(read)]
-    fn arms(&mut self, depth: u32) -> Result<Vec<BinaryExpr>, Unread> {
-        let depth = below(depth)?;
-        if self.skip(" }") {
-            return Ok(Vec::new(self.alloc));
-        }
-        let mut arms = Vec::new(self.alloc);
-        for _ in 0..ITEMS {
-            let condition = self.expr(depth);
-            let answer = self.expr_after(" => ", depth);
-            arms = pushed(arms, nodes::arm(both(condition, answer)))?;
-            if !self.skip(", ") {
-                return ended(Ok(arms), self.expect(" }"));
-            }
-        }
-        too_many(arms)
-    }
-
-    #[cycle(read)]
-    fn guarded(&mut self, pos: Position, depth: u32) -> Result<Stmt, Unread> {
-        let depth = below(depth)?;
-        let parts = both(self.expr_after(" ", depth), self.block(" ", depth))?;
-        Ok(Stmt::While(nodes::looped(self.alloc, parts)?, pos))
-    }
-
-    #[cycle(read)]
-    fn endless(&mut self, pos: Position, depth: u32) -> Result<Stmt, Unread> {
-        let depth = below(depth)?;
-        let parts = both(Ok(Expr::Unit(pos)), self.block(" ", depth))?;
-        Ok(Stmt::While(nodes::looped(self.alloc, parts)?, pos))
-    }
-
-    #[cycle(read)]
-    fn repeated(&mut self, pos: Position, depth: u32) -> Result<Stmt, Unread> {
-        let depth = below(depth)?;
-        let body = self.block(" ", depth);
-        let options = self.condition();
-        let parts = both(self.expr(depth), body);
-        nodes::repeated(self.alloc, both(options, parts)?, pos)
-    }
-
-    #[cycle(read)]
-    fn each(&mut self, pos: Position, depth: u32) -> Result<Stmt, Unread> {
-        let depth = below(depth)?;
-        let names = self.loop_names();
-        let parts = both(self.expr_after(" in ", depth), self.block(" ", depth));
-        nodes::each(self.alloc, both(names, parts)?, pos)
-    }
-
-    #[cycle(read)]
-    fn tried(&mut self, pos: Position, depth: u32) -> Result<Stmt, Unread> {
-        let depth = below(depth)?;
-        let body = self.block(" ", depth);
-        let start = both(self.caught(), body);
-        let parts = both(start, self.block("", depth))?;
-        Ok(Stmt::TryCatch(nodes::flow(self.alloc, parts)?, pos))
-    }
-
-    #[cycle(read)]
-    fn declared(&mut self, options: ASTFlags, pos: Position, depth: u32) -> Result<Stmt, Unread> {
-        let depth = below(depth)?;
-        let parts = both(self.ident(" "), self.expr_after(" = ", depth))?;
-        nodes::declaration(self.alloc, parts, options, pos)
-    }
-
-    /// An exported declaration, or a name that is exported.
-    #[cycle(read)]
-    fn exported(&mut self, pos: Position, depth: u32) -> Result<Stmt, Unread> {
-        let depth = below(depth)?;
-        if self.skip(" let") {
-            return self.declared(ASTFlags::EXPORTED, pos, depth);
-        }
-        if self.skip(" const") {
-            let options = ASTFlags::EXPORTED | ASTFlags::CONSTANT;
-            return self.declared(options, pos, depth);
-        }
-        let names = both(self.ident(" "), self.ident(" as "))?;
-        Ok(Stmt::Export(Boxed::new(self.alloc, names)?, pos))
-    }
-
-    #[cycle(read)]
-    fn imported(&mut self, pos: Position, depth: u32) -> Result<Stmt, Unread> {
-        let depth = below(depth)?;
-        let parts = both(self.expr_after(" ", depth), self.ident(" as "))?;
-        nodes::import(self.alloc, parts, pos)
-    }
-
-    /// A call as a statement.
-    #[cycle(read)]
-    fn called_alone(&mut self, pos: Position, depth: u32) -> Result<Stmt, Unread> {
-        let depth = below(depth)?;
-        self.expect(" ")?;
-        let called = self.callee()?;
-        Ok(Stmt::FnCall(self.call(called, depth)?, pos))
-    }
-
-    /// An expression or an assignment.
-    #[cycle(read)]
-    fn expr_alone(&mut self, depth: u32) -> Result<Stmt, Unread> {
-        let depth = below(depth)?;
-        let expr = self.expr(depth);
-        match self.sign() {
-            Some(op) => {
-                let sides = both(expr, self.expr(depth))?;
-                nodes::assignment(self.alloc, op, sides)
-            }
-            None => nodes::statement(self.alloc, expr?),
-        }
-    }
-
-    /// The expression after a word that leaves, where there is one.
-    #[cycle(read)]
-    fn maybe(&mut self, depth: u32) -> Result<Option<Boxed<Expr>>, Unread> {
-        let depth = below(depth)?;
-        if self.starts(" }") || !self.skip(" ") {
-            return Ok(None);
-        }
-        Ok(Some(Boxed::new(self.alloc, self.expr(depth)?)?))
-    }
-
-    /// A block after these letters.
-    #[cycle(read)]
-    fn block(&mut self, before: &'static str, depth: u32) -> Result<StmtBlock, Unread> {
-        let depth = below(depth)?;
-        self.expect(before)?;
         let start = self.here();
-        let statements = self.statements(depth)?;
+        let mut parts = Parts::new(self.alloc);
+        if !self.skip("{}") {
+            self.expect("{ ")?;
+            self.parts(&forms::STATEMENTS, &mut parts, depth)?;
+        }
+        let statements = mem::replace(&mut parts.statements, Vec::new(self.alloc));
         Ok(StmtBlock::new(statements, start, self.last()))
     }
 
     #[cycle(read)]
-    fn statements(&mut self, depth: u32) -> Result<Vec<Stmt>, Unread> {
+    fn parts(&mut self, form: &[Part], parts: &mut Parts, depth: u32) -> Result<(), Unread> {
         let depth = below(depth)?;
-        if self.skip("{}") {
-            return Ok(Vec::new(self.alloc));
+        for part in form {
+            self.part(*part, parts, depth)?;
         }
-        self.expect("{ ")?;
-        let mut statements = Vec::new(self.alloc);
-        for _ in 0..ITEMS {
-            statements = pushed(statements, self.statement(depth))?;
-            if !self.skip("; ") {
-                return ended(Ok(statements), self.expect(" }"));
-            }
-        }
-        too_many(statements)
+        Ok(())
     }
 
-    /// The catch name, or nothing.
-    fn caught(&mut self) -> Result<Expr, Unread> {
-        self.expect(" catch ")?;
-        let pos = self.here();
-        if self.starts("{") {
-            return Ok(Expr::Unit(pos));
+    #[cycle(read)]
+    fn part(&mut self, part: Part, parts: &mut Parts, depth: u32) -> Result<(), Unread> {
+        let depth = below(depth)?;
+        match part {
+            Part::Letters(letters) => self.expect(letters),
+            Part::Expr => push(&mut parts.exprs, self.expr(depth)),
+            Part::Link => push(&mut parts.exprs, self.link(depth)),
+            Part::Body => fill(&mut parts.body, self.block(depth)),
+            Part::Branch => fill(&mut parts.branch, self.block(depth)),
+            Part::Statement => push(&mut parts.statements, self.statement(depth)),
+            Part::Maybe => self.maybe(parts, depth),
+            Part::Assigned => self.assigned(parts, depth),
+            Part::Pair => self.pair(&mut parts.pairs, depth),
+            Part::Arm => self.arm(&mut parts.arms, depth),
+            Part::Operands => self.many(Part::Expr, ", ", ")", parts, depth),
+            Part::Items => self.many(Part::Expr, ", ", "]", parts, depth),
+            Part::Pairs => self.many(Part::Pair, ", ", "}", parts, depth),
+            Part::Arms => self.many(Part::Arm, ", ", " }", parts, depth),
+            Part::Statements => self.many(Part::Statement, "; ", " }", parts, depth),
+            Part::Flat(part) => self.flat(part, parts),
         }
+    }
+
+    /// Parts of one kind, with these letters between them, up to their end.
+    #[cycle(read)]
+    fn many(
+        &mut self,
+        part: Part,
+        between: &'static str,
+        end: &'static str,
+        parts: &mut Parts,
+        depth: u32,
+    ) -> Result<(), Unread> {
+        let depth = below(depth)?;
+        if self.skip(end) {
+            return Ok(());
+        }
+        for _ in 0..ITEMS {
+            self.part(part, parts, depth)?;
+            if !self.skip(between) {
+                return self.expect(end);
+            }
+        }
+        Err(Unread::Wanted("fewer items"))
+    }
+
+    /// The expression after a word that leaves, where there is one.
+    #[cycle(read)]
+    fn maybe(&mut self, parts: &mut Parts, depth: u32) -> Result<(), Unread> {
+        let depth = below(depth)?;
+        if self.starts(" }") || !self.skip(" ") {
+            return Ok(());
+        }
+        push(&mut parts.exprs, self.expr(depth))
+    }
+
+    /// The sign of an assignment and its right side, where they are there.
+    #[cycle(read)]
+    fn assigned(&mut self, parts: &mut Parts, depth: u32) -> Result<(), Unread> {
+        let depth = below(depth)?;
+        parts.sign = self.sign();
+        if parts.sign.is_none() {
+            return Ok(());
+        }
+        push(&mut parts.exprs, self.expr(depth))
+    }
+
+    /// A key and its expression.
+    #[cycle(read)]
+    fn pair(&mut self, pairs: &mut Vec<(Ident, Expr)>, depth: u32) -> Result<(), Unread> {
+        let depth = below(depth)?;
+        let name = self.ident();
+        let name = ended(name, self.expect(": "));
+        push(pairs, both(name, self.expr(depth)))
+    }
+
+    /// A condition and its answer.
+    #[cycle(read)]
+    fn arm(&mut self, arms: &mut Vec<BinaryExpr>, depth: u32) -> Result<(), Unread> {
+        let depth = below(depth)?;
+        let condition = self.expr(depth);
+        let condition = ended(condition, self.expect(" => "));
+        push(arms, nodes::arm(both(condition, self.expr(depth))))
+    }
+
+    // ---- how nodes begin
+
+    /// A constant, where one stands next.
+    fn constant(&mut self, pos: Position) -> Result<Option<Expr>, Unread> {
+        let constant = nodes::constant(self.alloc, self.scalar()?, pos)?;
+        if constant.is_some() {
+            return Ok(constant);
+        }
+        nodes::held(self.alloc, self.held()?, pos)
+    }
+
+    /// What an expression that is no constant is, by what it begins with.
+    fn expr_form(&mut self, parts: &mut Parts) -> Result<ExprForm, Unread> {
+        if self.skip("[") {
+            return Ok((ExprKind::Array, &forms::ITEMS));
+        }
+        if self.skip("#{") {
+            return Ok((ExprKind::Map, &forms::PAIRS));
+        }
+        let pos = self.here();
         let word = self.word();
-        let called = self.called(word, pos)?;
-        ended(nodes::variable(self.alloc, called), self.expect(" "))
+        if word.is_empty() {
+            parts.called = Some(self.operator(pos)?);
+            return Ok((ExprKind::Call, &forms::OPERANDS));
+        }
+        if let Some(form) = form_of(&forms::EXPRS, word) {
+            return Ok(form);
+        }
+        parts.called = Some(self.called(word, pos)?);
+        Ok(self.named(ExprKind::Call, ExprKind::Variable))
+    }
+
+    /// The same at the right of a `.`; none where an expression of another kind stands there.
+    fn link_form(&mut self, parts: &mut Parts) -> Result<Option<ExprForm>, Unread> {
+        let pos = self.here();
+        let word = self.word();
+        if word.is_empty() {
+            return Ok(None);
+        }
+        let form = form_of(&forms::LINKS, word);
+        if form.is_some() {
+            return Ok(form);
+        }
+        parts.called = Some(self.called(word, pos)?);
+        Ok(Some(self.named(ExprKind::Method, ExprKind::Property)))
+    }
+
+    /// One kind before a `(`, which is gone past, and another kind elsewhere.
+    fn named(&mut self, call: ExprKind, other: ExprKind) -> ExprForm {
+        if self.skip("(") {
+            (call, &forms::OPERANDS)
+        } else {
+            (other, &[])
+        }
+    }
+
+    /// What a statement is, by its word; an expression where it begins with none.
+    fn stmt_form(&mut self) -> StmtForm {
+        let before = self.rest();
+        let word = self.word();
+        if word == "export" {
+            for (letters, kind, form) in &forms::EXPORTS {
+                if self.skip(letters) {
+                    return (*kind, *form);
+                }
+            }
+        }
+        match form_of(&forms::STMTS, word) {
+            Some(form) => form,
+            None => {
+                self.come_back(before);
+                (StmtKind::Expr, &forms::ALONE)
+            }
+        }
     }
 }

@@ -1,33 +1,122 @@
-//! Values: constants without parts, and lists of them.
+//! Values, in the form that they have inside of others.
 
-use crate::letters::{Letters, Unread};
-use rhai_base::{Dynamic, INT, ImmutableString, Seq};
+use crate::joined::{both, ended, too_many};
+use crate::letters::{ITEMS, Letters, Unread, below};
+use rhai_base::{Dynamic, FnPtr, INT, ImmutableString, Seq, StringMap};
 use std::alloc::Global;
 
-/// How many items a list may have.
-const ITEMS: usize = 20;
+/// How deep a value may nest, each step counted.
+const DEPTH: u32 = 40;
 
-/// The value of a text: one that is no list, a range, or a list of such that are no ranges.
+/// The value of a text. A pointer has no values of its own.
 pub fn read_value(alloc: Global, text: &str) -> Result<Dynamic, Unread> {
     let mut letters = Letters::new(alloc, text);
-    letters.value()?.ok_or(Unread::Wanted("a value"))
+    wanted(letters.value())
 }
 
 impl<'a> Letters<'a> {
-    /// A value that is no list, where one stands next.
+    /// A value, where one stands next.
+    pub(crate) fn value(&mut self) -> Result<Option<Dynamic>, Unread> {
+        self.value_within(DEPTH)
+    }
+
+    #[cycle(value)]
+    fn value_within(&mut self, depth: u32) -> Result<Option<Dynamic>, Unread> {
+        let depth = below(depth)?;
+        if self.skip("[") {
+            return array(self.items(depth));
+        }
+        if self.skip("#{") {
+            return map(self.members(depth));
+        }
+        if self.skip("Fn(") {
+            return self.pointer();
+        }
+        match self.integer() {
+            Some(start) => self.from(start),
+            None => self.scalar(),
+        }
+    }
+
+    /// Values up to the end of their list.
+    #[cycle(value)]
+    fn items(&mut self, depth: u32) -> Result<Seq<Dynamic>, Unread> {
+        let depth = below(depth)?;
+        let mut items = Seq::new(self.alloc);
+        if self.skip("]") {
+            return Ok(items);
+        }
+        for _ in 0..ITEMS {
+            items = pushed(items, wanted(self.value_within(depth)))?;
+            if !self.skip(", ") {
+                return ended(Ok(items), self.expect("]"));
+            }
+        }
+        too_many(items)
+    }
+
+    /// Values with their keys, up to the end of their map.
+    #[cycle(value)]
+    fn members(&mut self, depth: u32) -> Result<StringMap<Dynamic>, Unread> {
+        let depth = below(depth)?;
+        let mut members = StringMap::new(self.alloc);
+        if self.skip("}") {
+            return Ok(members);
+        }
+        for _ in 0..ITEMS {
+            let key = self.key();
+            members = put(members, both(key, wanted(self.value_within(depth))))?;
+            if !self.skip(", ") {
+                return ended(Ok(members), self.expect("}"));
+            }
+        }
+        too_many(members)
+    }
+
+    fn key(&mut self) -> Result<ImmutableString, Unread> {
+        self.expect("\"")?;
+        let key = self.text();
+        ended(key, self.expect(": "))
+    }
+
+    /// The rest of a text.
+    fn text(&mut self) -> Result<ImmutableString, Unread> {
+        let text = self.quoted().ok_or(Unread::Wanted("a text's end"))?;
+        Ok(ImmutableString::new(self.alloc, text)?)
+    }
+
+    fn pointer(&mut self) -> Result<Option<Dynamic>, Unread> {
+        let name = self.until(b')').ok_or(Unread::Wanted("a pointer's end"))?;
+        let name = ImmutableString::new(self.alloc, name)?;
+        Ok(FnPtr::new(self.alloc, name).map(Dynamic::FnPtr))
+    }
+
+    /// An integer, or a range from it.
+    fn from(&mut self, start: INT) -> Result<Option<Dynamic>, Unread> {
+        let value = if self.skip("..=") {
+            Dynamic::RangeInclusive(start, self.end_of_range()?)
+        } else if self.skip("..") {
+            Dynamic::Range(start, self.end_of_range()?)
+        } else {
+            Dynamic::Int(start)
+        };
+        Ok(Some(value))
+    }
+
+    pub(crate) fn end_of_range(&mut self) -> Result<INT, Unread> {
+        self.integer().ok_or(Unread::Wanted("the end of a range"))
+    }
+
+    /// A value without parts, where one stands next.
     pub(crate) fn scalar(&mut self) -> Result<Option<Dynamic>, Unread> {
         if self.skip("()") {
             return Ok(Some(Dynamic::Unit));
         }
         if self.skip("\"") {
-            let text = self.until(b'"').ok_or(Unread::Wanted("a text's end"))?;
-            return Ok(Some(Dynamic::Str(ImmutableString::new(self.alloc, text)?)));
+            return Ok(Some(Dynamic::Str(self.text()?)));
         }
         if self.skip("'") {
-            let text = self
-                .until(b'\'')
-                .ok_or(Unread::Wanted("a character's end"))?;
-            return Ok(text.chars().next().map(Dynamic::Char));
+            return Ok(self.letter().map(Dynamic::Char));
         }
         match self.truth() {
             Some(truth) => Ok(Some(Dynamic::Bool(truth))),
@@ -48,32 +137,6 @@ impl<'a> Letters<'a> {
         }
     }
 
-    /// A value, a range or a list of values, where one stands next.
-    pub(crate) fn value(&mut self) -> Result<Option<Dynamic>, Unread> {
-        if self.skip("[") {
-            return Ok(Some(Dynamic::Array(self.scalars()?)));
-        }
-        if let Some(start) = self.integer() {
-            return Ok(Some(self.from(start)?));
-        }
-        self.scalar()
-    }
-
-    /// An integer, or a range from it.
-    fn from(&mut self, start: INT) -> Result<Dynamic, Unread> {
-        if self.skip("..=") {
-            return Ok(Dynamic::RangeInclusive(start, self.end_of_range()?));
-        }
-        if self.skip("..") {
-            return Ok(Dynamic::Range(start, self.end_of_range()?));
-        }
-        Ok(Dynamic::Int(start))
-    }
-
-    pub(crate) fn end_of_range(&mut self) -> Result<INT, Unread> {
-        self.integer().ok_or(Unread::Wanted("the end of a range"))
-    }
-
     /// A constant of its own between `<` and `>`, where one stands next.
     pub(crate) fn held(&mut self) -> Result<Option<Dynamic>, Unread> {
         let before = self.rest();
@@ -81,26 +144,39 @@ impl<'a> Letters<'a> {
             return Ok(None);
         }
         let value = self.value()?;
-        match value {
-            Some(_) => self.expect(">")?,
-            None => self.come_back(before),
+        if value.is_none() {
+            self.come_back(before);
+            return Ok(None);
         }
-        Ok(value)
+        ended(Ok(value), self.expect(">"))
     }
+}
 
-    /// Values up to the end of their list.
-    fn scalars(&mut self) -> Result<Seq<Dynamic>, Unread> {
-        let mut values = Seq::new(self.alloc);
-        for _ in 0..ITEMS {
-            match self.scalar()? {
-                Some(value) => values.push(value)?,
-                None => break,
-            }
-            if !self.skip(", ") {
-                break;
-            }
-        }
-        self.expect("]")?;
-        Ok(values)
-    }
+fn array(items: Result<Seq<Dynamic>, Unread>) -> Result<Option<Dynamic>, Unread> {
+    Ok(Some(Dynamic::Array(items?)))
+}
+
+fn map(members: Result<StringMap<Dynamic>, Unread>) -> Result<Option<Dynamic>, Unread> {
+    Ok(Some(Dynamic::Map(members?)))
+}
+
+/// A value that has to stand there.
+fn wanted(value: Result<Option<Dynamic>, Unread>) -> Result<Dynamic, Unread> {
+    value?.ok_or(Unread::Wanted("a value"))
+}
+
+/// The items and one more.
+fn pushed(mut items: Seq<Dynamic>, item: Result<Dynamic, Unread>) -> Result<Seq<Dynamic>, Unread> {
+    items.push(item?)?;
+    Ok(items)
+}
+
+/// The members and one more.
+fn put(
+    mut members: StringMap<Dynamic>,
+    member: Result<(ImmutableString, Dynamic), Unread>,
+) -> Result<StringMap<Dynamic>, Unread> {
+    let (key, value) = member?;
+    members.insert(key, value)?;
+    Ok(members)
 }
