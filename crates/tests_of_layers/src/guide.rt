@@ -1,8 +1,9 @@
 //! The pieces of docs/GUIDE.md on scripts.
 
-use rhai_ast::{FnAccess, ScriptFuncDef, StmtBlock};
-use rhai_base::{ImmutableString, OutOfMemory, Position, Seq};
+use rhai_ast::{ASTNode, Expr, FnAccess, ScriptFuncDef, Stmt, StmtBlock};
+use rhai_base::{ASTFlags, Boxed, Dynamic, Ident, ImmutableString, OutOfMemory, Position, Seq};
 use rhai_script::{AST, FnLib};
+use rhai_script_queries::ScriptQueries;
 use std::alloc::Global;
 use std::rc::Rc;
 use std::test::Fail;
@@ -75,5 +76,49 @@ fn functions_are_chosen_by_a_closure(rt: HostRuntime) -> Result<(), Fail> {
     // of all functions those without parameters that are called `log`
     both.retain_functions(|_, _, name, params| name == "log" && params == 0)?;
     assert_eq!(rt; names(alloc, &both)?.as_str(), "log ");
+    Ok(())
+}
+
+/// `const limit = 10`, as a parser would build it.
+fn constant(alloc: Global) -> Result<Stmt, OutOfMemory> {
+    let name = Ident {
+        name: ImmutableString::new(alloc, "limit")?,
+        pos: Position::new(1, 7),
+    };
+    let value = Expr::IntegerConstant(10, Position::new(1, 15));
+    let parts = Boxed::new(alloc, (name, value, None))?;
+    Ok(Stmt::Var(parts, ASTFlags::CONSTANT, Position::new(1, 1)))
+}
+
+/// A script of that constant and two functions without statements.
+fn configuration(alloc: Global) -> Result<AST, OutOfMemory> {
+    let functions = vec![in alloc; function(alloc, "start")?, function(alloc, "stop")?]?;
+    let table = Rc::new(alloc, FnLib::from_functions(alloc, functions)?)?;
+    Ok(AST::new(vec![in alloc; constant(alloc)?]?, table))
+}
+
+#[test]
+fn a_script_is_read(rt: HostRuntime) -> Result<(), Fail> {
+    let alloc = rt.alloc();
+    let script = configuration(alloc)?;
+
+    let mut deepest = 0;
+    script.walk(&mut |nodes: &[ASTNode]| {
+        deepest = nodes.len().max(deepest);
+        true
+    })?;
+    assert_eq!(rt; deepest, 2); // the declaration and its value; the bodies have no nodes
+
+    let mut names = String::new(alloc);
+    for function in script.iter_functions() {
+        names.push_str(function.name)?;
+        names.push(' ')?;
+    }
+    assert_eq!(rt; names.as_str(), "start stop ");
+
+    for variable in script.iter_literal_variables(true, false) {
+        let (name, is_constant, value) = variable?;
+        assert!(rt; name == "limit" && is_constant && value == Dynamic::Int(10));
+    }
     Ok(())
 }

@@ -2,8 +2,9 @@
 
 use indexmap::IndexMap;
 use rhai_ast::{
-    BinaryExpr, CaseBlocksList, Cases, Expr, ExprQueries, FlowControl, Literals, SetPosition, Stmt,
-    StmtBlock, StmtQueries, SwitchBlock, SwitchCases, SwitchCasesCollection, check_tree, is_plain,
+    ASTNode, BinaryExpr, CaseBlocksList, Cases, Expr, ExprQueries, FlowControl, Literals,
+    SetPosition, Stmt, StmtBlock, StmtQueries, SwitchBlock, SwitchCases, SwitchCasesCollection,
+    Walk, check_tree, is_plain,
 };
 use rhai_base::{ASTFlags, AstError, Boxed, Dynamic, INT, OutOfMemory, Position, RangeCase, Seq};
 use std::alloc::Global;
@@ -140,5 +141,47 @@ fn a_constant_is_made_copied_and_put_elsewhere(rt: HostRuntime) -> Result<(), Fa
     assert!(rt; constant.position() == Position::new(3, 5));
     assert!(rt; copy.position() == Position::new(1, 1));
     assert!(rt; copy.get_literal_value(alloc)? == Some(pair(alloc)?));
+    Ok(())
+}
+
+#[test]
+fn a_tree_is_walked(rt: HostRuntime) -> Result<(), Fail> {
+    let alloc = rt.alloc();
+    let statement = endless(alloc)?;
+    let mut path = Vec::new(alloc);
+
+    let mut deepest = 0;
+    let finished = statement.walk(
+        &mut path,
+        &mut |nodes: &[ASTNode]| {
+            deepest = nodes.len().max(deepest);
+            true // go on
+        },
+    )?;
+    assert!(rt; finished && path.is_empty()); // all nodes were shown, and the path is as it was
+    assert_eq!(rt; deepest, 3); // the loop, its `break`, and the 42
+    Ok(())
+}
+
+/// Whether the last node of a path leaves a loop.
+fn is_leaving(nodes: &[ASTNode]) -> bool {
+    match nodes.last() {
+        Some(ASTNode::Stmt(statement)) => statement.is_control_flow_break(),
+        _ => false,
+    }
+}
+
+#[test]
+fn a_walk_is_stopped(rt: HostRuntime) -> Result<(), Fail> {
+    let alloc = rt.alloc();
+    let statement = endless(alloc)?;
+    let mut path = Vec::new(alloc);
+
+    let finished = statement.walk(&mut path, &mut |nodes: &[ASTNode]| !is_leaving(nodes))?;
+    assert!(rt; !finished); // it stopped at the `break`, which is the path's last node
+    if let Some(node) = path.last() {
+        assert_eq!(rt; node.position(), Position::new(1, 8));
+    }
+    assert_eq!(rt; path.len(), 2); // below the loop
     Ok(())
 }

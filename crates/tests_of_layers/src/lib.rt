@@ -14,6 +14,8 @@ mod guide;
 #[cfg(test)]
 mod guide_trees;
 #[cfg(test)]
+mod lends;
+#[cfg(test)]
 mod lists;
 #[cfg(test)]
 mod literals;
@@ -52,6 +54,8 @@ mod scripts_joined;
 #[cfg(test)]
 mod scripts_refused;
 #[cfg(test)]
+mod scripts_walked;
+#[cfg(test)]
 mod switches;
 #[cfg(test)]
 mod texts;
@@ -59,3 +63,5 @@ mod texts;
 mod tokens;
 #[cfg(test)]
 mod values;
+#[cfg(test)]
+mod walks;
