@@ -1,2 +1,3 @@
 mod Overrides
+mod Latest
 pub mod Operands

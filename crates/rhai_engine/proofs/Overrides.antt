@@ -3,7 +3,7 @@ use Rattle.std.proofs.Common.{◌≡◌, ◌≢◌, ℕ, suc, ◌+◌, ◌<◌, 
 use Rattle.std.specs.Map.Iter.{deref}
 use Rattle.std.proofs.Math.Seq.{drop-cons, drop-length}
 use Rattle.rhai_values.specs.Value.{Text, same_text}
-use Rattle.rhai_meaning.specs.Engine.{Override, has_override, same_texts}
+use Rattle.rhai_meaning.specs.Engine.{Override, has_override, overrides_any, same_texts}
 use Rattle.rhai_engine.specs.Override.{is_override}
 
 pub has_override-drop : (os : List Override) (i : ℕ) (d : Override) (name : Text) (types : List Text) → i < length os
@@ -13,7 +13,14 @@ has_override-drop os i d name types h = rw (add-one, drop-cons os i d) refl
 pub has_override-end : (os : List Override) (name : Text) (types : List Text) → has_override (drop (length os) os) name types ≡ false
 has_override-end os name types = ap (λ l. has_override l name types) (drop-length os)
 
-pub ruleset steps = (has_override-drop, has_override-end)
+pub overrides_any-drop : (os : List Override) (i : ℕ) (d : Override) (name : Text) → i < length os
+    → overrides_any (drop i os) name ≡ (same_text (get_or os i d).name name || overrides_any (drop (i + 1) os) name)
+overrides_any-drop os i d name h = rw (add-one, drop-cons os i d) refl
+
+pub overrides_any-end : (os : List Override) (name : Text) → overrides_any (drop (length os) os) name ≡ false
+overrides_any-end os name = ap (λ l. overrides_any l name) (drop-length os)
+
+pub ruleset steps = (has_override-drop, has_override-end, overrides_any-drop, overrides_any-end)
 
 -- the first texts are compared
 pub same_texts-same : (xs fs : List Text) (ys gs : List (Bor Text)) (x : Text) (y : Bor Text) → xs ≡ x ∷ fs → ys ≡ y ∷ gs → same_text x y.now ≡ true

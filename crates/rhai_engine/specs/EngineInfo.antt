@@ -1,20 +1,32 @@
 -- The abstract record that an engine's record stands for.
-use Rattle.std.specs.Prelude.{Bool, false, not, ◌||◌, List, [], ◌∷◌, ◌++◌, Option, Some, None}
+use Rattle.std.specs.Prelude.{Bool, false, not, ◌||◌, List, [], ◌∷◌, ◌++◌, map, Option, Some, None}
 use Rattle.rhai_values.specs.Value.{Text, Value}
 use Rattle.rhai_base.specs.Operators.{Operator, Computed, NoEntry}
 use Rattle.rhai_base.specs.Builtin.{operator_of}
 use Rattle.rhai_tokens.specs.declared.token.Token.{Token}
 use Rattle.rhai_tokens.specs.Symbols.{token_text}
 use Rattle.rhai_tokens.specs.Tokens.{makes_range}
-use Rattle.rhai_meaning.specs.Engine.{Engine, built_in, has_override}
+use Rattle.rhai_values.specs.Reading.{value_of}
+use Rattle.rhai_meaning.specs.Engine.{Engine, Binding, built_in, has_override}
+use Rattle.rhai_engine.specs.declared.engine_info.EngineConstant.{EngineConstant}
 use Rattle.rhai_engine.specs.declared.engine_info.EngineInfo.{EngineInfo}
 
--- neither constants nor other type names yet
+abbrev pub constants_of : List EngineConstant → List Binding
+constants_of cs = map (λ c. record { name = c.name; value = value_of c.value }) cs
+
 abbrev pub engine_of : EngineInfo → Engine
-engine_of e = record { constants = []; overrides = e.overrides; type_names = []; fast_operators = e.fast_operators }
+engine_of e = record { constants = constants_of e.constants; overrides = e.overrides; type_names = e.type_names; fast_operators = e.fast_operators }
 
 abbrev pub nothing_set : Engine
 nothing_set = record { constants = []; overrides = []; type_names = []; fast_operators = false }
+
+-- with one more constant, the last
+abbrev pub knowing_constant : Engine → Text → Value → Engine
+knowing_constant e name value = record e { constants = e.constants ++ record { name = name; value = value } ∷ [] }
+
+-- with one more mapping of a type's name, the last
+abbrev pub mapping : Engine → Text → Text → Engine
+mapping e from to = record e { type_names = e.type_names ++ record { from = from; to = to } ∷ [] }
 
 -- with one more override, the last
 abbrev pub overriding : Engine → Text → List Text → Engine

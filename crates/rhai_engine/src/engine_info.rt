@@ -1,9 +1,10 @@
 //! What an engine fixes for every script that it runs.
 ghost use Rattle.std.specs.Prelude.{◌≡◌, [], ◌∷◌, map, false, IfOk, OnOk, OnErr};
+ghost use Rattle.std.specs.Option.{option_map};
 ghost use Rattle.std.specs.Map.Iter.{deref};
 ghost use Rattle.rhai_base.specs.Builtin.{answered, computed_of};
 ghost use Rattle.rhai_values.specs.Reading.{value_of};
-ghost use Rattle.rhai_meaning.specs.Engine.{has_override, same_texts};
+ghost use Rattle.rhai_meaning.specs.Engine.{constant_named, has_override, mapped_name, overrides_any, same_texts};
 ghost use Rattle.rhai_engine.specs.Override.{is_override};
 
 use rhai_base::{
@@ -11,6 +12,28 @@ use rhai_base::{
 };
 use std::alloc::Global;
 use std::marker::Model;
+
+/// A constant that every script sees.
+#[derive(Debug, Drop)]
+struct EngineConstant {
+    name: ImmutableString,
+    value: Dynamic,
+}
+
+/// The name that scripts see for a type.
+#[derive(Debug, Drop)]
+struct TypeName {
+    from: ImmutableString,
+    to: ImmutableString,
+}
+
+impl Model for TypeName {
+    ghost use Rattle.rhai_meaning.specs.Engine.{TypeName};
+
+    ghost Value = { TypeName };
+
+    ghost view = { λ m. record { from = m.from; to = m.to } };
+}
 
 /// An operator that the host answers at operands of these types.
 #[derive(Debug, Drop)]
@@ -49,28 +72,87 @@ fn are_named(types: &[&str], names: &[ImmutableString]) -> bool
     true
 }
 
-/// What the host sets: the operators that it answers itself, and whether scripts pass these over.
+/// What the host sets: constants that every script sees, the operators that it answers itself, other names of types,
+/// and whether built-in operators go before its own. Types are given by their own names, as `i64` and `string`,
+/// whatever names are set for them.
 #[derive(Debug, Drop)]
 pub struct EngineInfo {
+    constants: Seq<EngineConstant>,
     overrides: Seq<OperatorOverride>,
+    type_names: Seq<TypeName>,
     fast_operators: bool,
 }
 
 impl EngineInfo {
-    ghost use Rattle.rhai_engine.specs.EngineInfo.{built_in_at, engine_of, nothing_set, overriding, tries_builtin};
+    ghost use Rattle.rhai_engine.specs.EngineInfo.{built_in_at, engine_of, knowing_constant, mapping, nothing_set, overriding, tries_builtin};
 
     /// Nothing set, fast operators off.
     pub fn new(alloc: Global) -> EngineInfo
         ensures { engine_of result ≡ nothing_set }
     {
         EngineInfo {
+            constants: Seq::new(alloc),
             overrides: Seq::new(alloc),
+            type_names: Seq::new(alloc),
             fast_operators: false,
         }
     }
 
-    /// From now on the host answers the operator of this name at operands of these types. Types are named as
-    /// scripts name them, as `i64` and `string`.
+    /// From now on scripts see this constant where nothing in scope has its name. Any value may be one; a later one
+    /// of a name wins. Refused, the record is as it was. In rhai constants come from modules registered with the
+    /// engine.
+    pub fn add_constant(&mut self, name: ImmutableString, value: Dynamic) -> Result<(), OutOfMemory>
+        ensures ok { OnOk result (engine_of self.new ≡ knowing_constant (engine_of self.old) name (value_of value)) }
+        ensures err { OnErr result (self.new ≡ self.old) }
+    {
+        self.constants.push(EngineConstant { name, value })?;
+        Ok(())
+    }
+
+    /// The value of the latest constant of this name.
+    pub fn constant_named(&self, name: &str) -> Option<&Dynamic>
+        ensures { option_map (λ v. value_of v.now) result ≡ constant_named (engine_of self.now).constants name.now }
+    {
+        let mut constants = self.constants.as_slice();
+        while let Some((constant, earlier)) = constants.split_last() {
+            if constant.name.as_str() == name {
+                return Some(&constant.value);
+            }
+            constants = earlier;
+        }
+        None
+    }
+
+    /// From now on `type_of` names the type `from` by `to`. A later name wins. Methods are looked up by a value's
+    /// own type name all the same, and so are overrides. Refused, the record is as it was.
+    pub fn set_type_name(
+        &mut self,
+        from: ImmutableString,
+        to: ImmutableString,
+    ) -> Result<(), OutOfMemory>
+        ensures ok { OnOk result (engine_of self.new ≡ mapping (engine_of self.old) from to) }
+        ensures err { OnErr result (self.new ≡ self.old) }
+    {
+        self.type_names.push(TypeName { from, to })?;
+        Ok(())
+    }
+
+    /// The name that scripts see for the type of this name: the latest that was set for it, else its own.
+    pub fn map_type_name<'a>(&'a self, name: &'a str) -> &'a str
+        ensures { result.now ≡ mapped_name (engine_of self.now) name.now }
+    {
+        let mut type_names = self.type_names.as_slice();
+        while let Some((mapping, earlier)) = type_names.split_last() {
+            if mapping.from.as_str() == name {
+                return mapping.to.as_str();
+            }
+            type_names = earlier;
+        }
+        name
+    }
+
+    /// From now on the host answers the operator of this name at operands of these types. Refused, the record is
+    /// as it was.
     pub fn override_operator(
         &mut self,
         name: ImmutableString,
@@ -90,6 +172,18 @@ impl EngineInfo {
     {
         for operator in self.overrides.as_slice() {
             if operator.is(name, types) {
+                return true;
+            }
+        }
+        false
+    }
+
+    /// Whether the host answers the operator of this name at operands of any types.
+    pub fn has_any_override(&self, name: &str) -> bool
+        ensures { result ≡ overrides_any (engine_of self.now).overrides name.now }
+    {
+        for operator in self.overrides.as_slice() {
+            if operator.name.as_str() == name {
                 return true;
             }
         }

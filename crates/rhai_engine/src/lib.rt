@@ -1,5 +1,5 @@
 //! The engine's record: what an engine fixes for every script, below the evaluator and the optimiser.
-#![tactic(auto, using(crate::proofs::Overrides::steps))]
+#![tactic(auto, using(crate::proofs::Overrides::steps, crate::proofs::Latest::latest))]
 
 mod engine_info;
 

@@ -40,9 +40,15 @@ abbrev pub has_override : List Override → Text → List Text → Bool
 has_override [] f types = false
 has_override (o ∷ os) f types = (same_text o.name f && same_texts o.types types) || has_override os f types
 
+-- whether a name is overridden for any types
+abbrev pub overrides_any : List Override → Text → Bool
+overrides_any [] f = false
+overrides_any (o ∷ os) f = same_text o.name f || overrides_any os f
+
 abbrev pub is_overridden : Engine → Text → List Value → Bool
 is_overridden e f vs = has_override e.overrides f (map type_name vs)
 
+-- A later mapping of a name wins.
 abbrev pub mapped_in : List TypeName → Text → Option Text
 mapped_in [] t = None
 mapped_in (m ∷ ms) t = or_else (mapped_in ms t) (if same_text m.from t then Some m.to else None)
@@ -51,8 +57,12 @@ abbrev pub or_itself : Text → Option Text → Text
 or_itself t (Some u) = u
 or_itself t None = t
 
+-- the name that scripts see for a type
+abbrev pub mapped_name : Engine → Text → Text
+mapped_name e t = or_itself t (mapped_in e.type_names t)
+
 abbrev pub mapped_type_name : Engine → Value → Text
-mapped_type_name e v = or_itself (type_name v) (mapped_in e.type_names (type_name v))
+mapped_type_name e v = mapped_name e (type_name v)
 
 -- the table's entry, unless the host is asked in its place
 abbrev pub is_open : Engine → Operator → List Value → Bool

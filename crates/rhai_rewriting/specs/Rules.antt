@@ -7,7 +7,7 @@ use Rattle.rhai_meaning.specs.Constants.{constant_value, constant_values, consta
 use Rattle.rhai_meaning.specs.Control.{texts_joined}
 use Rattle.rhai_meaning.specs.Control.{chosen as cases_for}
 use Rattle.rhai_meaning.specs.Elements.{index_in, entry, fields_of}
-use Rattle.rhai_meaning.specs.Engine.{mapped_type_name, assigning}
+use Rattle.rhai_meaning.specs.Engine.{overrides_any, mapped_type_name, assigning}
 use Rattle.rhai_meaning.specs.Faults.{has_operands}
 use Rattle.rhai_meaning.specs.Queries.{is_block_dependent, is_any_dependent, are_pure_exprs, are_pure_pairs, is_pure, is_internally_pure, are_internally_pure, is_control_flow_break, is_noop}
 use Rattle.rhai_meaning.specs.Shape.{is_unit, is_table, names_arm}
@@ -20,7 +20,7 @@ use Rattle.rhai_rewriting.specs.Folding.{folded}
 use Rattle.rhai_rewriting.specs.Operands.{OperandsTo, CoalesceTo, TextTo}
 use Rattle.rhai_rewriting.specs.Indexing.{indexed, expr_at, pair_for, or_unit}
 use Rattle.rhai_rewriting.specs.Parts.{constant_of, named, link}
-use Rattle.rhai_rewriting.specs.SelfAssign.{has_op_assignment, leaves_names, overrides_any}
+use Rattle.rhai_rewriting.specs.SelfAssign.{has_op_assignment, leaves_names}
 use Rattle.rhai_rewriting.specs.SurelyUnit.{is_surely_unit}
 use Rattle.rhai_rewriting.specs.Tables.{forgotten, CasesTo, RangesTo, are_of, arm_of, left_arms, default_answer, default_stmt, default_branch}
 

@@ -1,8 +1,6 @@
 -- When `x = x op e` is `x op= e`.
-use Rattle.std.specs.Prelude.{Bool, true, false, ◌||◌, List, [], ◌∷◌}
-use Rattle.rhai_values.specs.Value.{Text, same_text}
+use Rattle.std.specs.Prelude.{Bool, true, false}
 use Rattle.rhai_base.specs.Operators.{Operator, Plus, Minus, Multiply, Divide, Modulo, Power, ShiftLeft, ShiftRight, BitAnd, BitOr, BitXor}
-use Rattle.rhai_meaning.specs.Engine.{Override}
 use Rattle.rhai_meaning.specs.Plain.{all_true}
 use Rattle.rhai_meaning.specs.Small.{is_operator}
 use Rattle.rhai_meaning.specs.Tree.{Expr, MethodCall, FnCall, Assignment, FnCallStmt}
@@ -19,11 +17,6 @@ writes_nothing n = true
 -- at any depth
 abbrev pub leaves_names : Expr → Bool
 leaves_names e = over_expr (all_true writes_nothing) e
-
--- whether a name is overridden for any types
-abbrev pub overrides_any : List Override → Text → Bool
-overrides_any [] f = false
-overrides_any (o ∷ os) f = same_text o.name f || overrides_any os f
 
 -- whether the language has its `op=`
 abbrev pub has_op_assignment : Operator → Bool

@@ -2,13 +2,14 @@
 -- which operators have an assignment.
 use Rattle.std.specs.Prelude.{◌≡◌, true, false, [], ◌∷◌, Some, None, codes, refl}
 use Rattle.rhai_base.specs.Operators.{Plus, BitXor, EqualTo, UpTo, Not}
+use Rattle.rhai_meaning.specs.Engine.{overrides_any}
 use Rattle.rhai_meaning.specs.Tree.{UnitConstant, BoolConstant, ArrayOf, BlockExpr, Dot, MethodCall, no_expr, an_expr, Stmt, If, While, Do, For, Assignment, TryCatch, ExprStmt, BreakLoop, exprs, stmts}
 use Rattle.rhai_meaning.specs.WorkedForms.{int, op, call, overriding, i}
 use Rattle.rhai_rewriting.specs.Context.{Whole, Inside, known_behind}
 use Rattle.rhai_rewriting.specs.Known.{look, unknown}
 use Rattle.rhai_rewriting.specs.Parts.{named}
 use Rattle.rhai_rewriting.specs.Rules.{is_pure_in}
-use Rattle.rhai_rewriting.specs.SelfAssign.{has_op_assignment, leaves_names, overrides_any}
+use Rattle.rhai_rewriting.specs.SelfAssign.{has_op_assignment, leaves_names}
 use Rattle.rhai_rewriting.specs.SurelyUnit.{is_surely_unit}
 use Rattle.rhai_rewriting.specs.WorkedLists.{var, let', const}
 use Rattle.rhai_rewriting.specs.WorkedNodes.{dot}

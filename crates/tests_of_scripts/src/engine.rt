@@ -49,6 +49,78 @@ fn an_override_is_known_by_name_and_types(rt: HostRuntime) -> Result<(), Fail> {
     Ok(())
 }
 
+/// Names, and whether an operator of that name is overridden for any types.
+const ANY_OVERRIDES: [(&str, bool); 3] = [("!", true), ("+", true), ("-", false)];
+
+#[test]
+fn an_override_is_known_by_name_alone(rt: HostRuntime) -> Result<(), Fail> {
+    let info = record(rt.alloc())?;
+    for (name, wanted) in &ANY_OVERRIDES {
+        assert!(rt; info.has_any_override(*name) == *wanted, "{name}");
+    }
+    Ok(())
+}
+
+/// Constants in the order in which they are added.
+const ADDED: [(&str, i64); 3] = [("a", 1), ("k", 2), ("a", 3)];
+
+/// Names, and the constant of that name.
+const CONSTANTS: [(&str, Option<i64>); 3] = [("a", Some(3)), ("k", Some(2)), ("b", None)];
+
+fn with_constants(alloc: Global) -> Result<EngineInfo, OutOfMemory> {
+    let mut info = EngineInfo::new(alloc);
+    for (name, value) in &ADDED {
+        info.add_constant(ImmutableString::new(alloc, *name)?, Dynamic::Int(*value))?;
+    }
+    Ok(info)
+}
+
+fn is_constant(info: &EngineInfo, name: &str, wanted: Option<i64>) -> bool {
+    match info.constant_named(name) {
+        Some(Dynamic::Int(value)) => wanted == Some(*value),
+        Some(_) => false,
+        None => wanted.is_none(),
+    }
+}
+
+#[test]
+fn the_latest_constant_of_a_name_is_found(rt: HostRuntime) -> Result<(), Fail> {
+    let info = with_constants(rt.alloc())?;
+    for (name, wanted) in &CONSTANTS {
+        assert!(rt; is_constant(&info, *name, *wanted), "{name}");
+    }
+    Ok(())
+}
+
+/// Names that are set for types, in order.
+const NAMED: [(&str, &str); 3] = [("i64", "int"), ("i64", "number"), ("char", "i64")];
+
+/// Types, and the names that scripts see for them.
+const TYPE_NAMES: [(&str, &str); 4] = [
+    ("i64", "number"),
+    ("char", "i64"),
+    ("string", "string"),
+    ("int", "int"),
+];
+
+fn with_type_names(alloc: Global) -> Result<EngineInfo, OutOfMemory> {
+    let mut info = EngineInfo::new(alloc);
+    for (from, to) in &NAMED {
+        let to = ImmutableString::new(alloc, *to)?;
+        info.set_type_name(ImmutableString::new(alloc, *from)?, to)?;
+    }
+    Ok(info)
+}
+
+#[test]
+fn a_type_has_the_latest_name_that_was_set(rt: HostRuntime) -> Result<(), Fail> {
+    let info = with_type_names(rt.alloc())?;
+    for (of, wanted) in &TYPE_NAMES {
+        assert!(rt; info.map_type_name(*of) == *wanted, "{of}");
+    }
+    Ok(())
+}
+
 fn negated(info: &EngineInfo) -> Option<bool> {
     match info.builtin_unary(Token::Bang, &Dynamic::Bool(true)) {
         Some(Dynamic::Bool(b)) => Some(b),

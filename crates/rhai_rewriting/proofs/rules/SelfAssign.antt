@@ -4,7 +4,7 @@ use Rattle.std.specs.Prelude.{◌&&◌, ◌||◌, map}
 use Rattle.std.proofs.lemmas.Bool.{or_parts}
 use Rattle.rhai_values.specs.Value.{Text, Value, same_text, type_name}
 use Rattle.rhai_base.specs.Operators.{Operator}
-use Rattle.rhai_meaning.specs.Engine.{Engine, Override, same_texts, has_override, asks_assigning, assigning}
+use Rattle.rhai_meaning.specs.Engine.{Engine, Override, same_texts, has_override, overrides_any, asks_assigning, assigning}
 use Rattle.rhai_meaning.specs.Act.{World, ScopeEntry, Store, Gives, Leaves, Unbound, WrongKind, Ended, Halted, Result, At, OfName, Act, Fail, Read, Write, Env, and_then, found, read, run}
 use Rattle.rhai_meaning.specs.ActForms.{value_then, ◌>>=◌, choose, ask_host}
 use Rattle.rhai_meaning.specs.Calls.{operate, assigned}
@@ -15,7 +15,7 @@ use Rattle.rhai_meaning.specs.Shape.{is_callable}
 use Rattle.rhai_meaning.specs.Tree.{OfOperator, Callee, Expr, Variable, FnCall, no_exprs, expr, Assignment}
 use Rattle.rhai_meaning.proofs.Preserves.{preserves}
 use Rattle.rhai_rewriting.specs.Context.{Context}
-use Rattle.rhai_rewriting.specs.SelfAssign.{has_op_assignment, leaves_names, overrides_any}
+use Rattle.rhai_rewriting.specs.SelfAssign.{has_op_assignment, leaves_names}
 use Rattle.rhai_rewriting.proofs.simulation.Laws.{simulates_stuck}
 use Rattle.rhai_rewriting.proofs.simulation.Setting.{Setting, Start, world}
 use Rattle.rhai_rewriting.proofs.simulation.Simulation.{OrStuck, equal, is_stuck, Simulates, simulates_trans, simulates_equal, simulates_or_stuck}
