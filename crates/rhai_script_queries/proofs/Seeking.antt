@@ -1,12 +1,20 @@
 -- Declarations that were sought and have no literal values, and the next one that has.
 use Rattle.std.proofs.Common.{◌≡◌, Bool, true, false, if◌then◌else◌, List, [], ◌∷◌, ◌++◌, Option, Some, None, Result, Ok, Err, IsErr, ◌<◌, length, refl, sym, ap, ◌∙◌, append_assoc, arith}
 use Rattle.std.proofs.lemmas.List.{append-nil, length-append}
+use Rattle.std.specs.declared.num.NonZeroUsize.{NonZeroUsize}
+use Rattle.rhai_parts.specs.declared.flags.ASTFlags.{ASTFlags}
+use Rattle.rhai_parts.specs.declared.ident.Ident.{Ident}
+use Rattle.rhai_tokens.specs.declared.position.Position.{Position}
+use Rattle.rhai_tree.specs.declared.expr.Expr as declared_expr
 use Rattle.rhai_tree.specs.declared.stmt.Stmt.{Stmt}
+use Rattle.rhai_tree.specs.declared.stmt.Stmt.TheVariants as stmt_kind
+use Rattle.rhai_reading.proofs.Cases.{StmtCase, var_case}
 use Rattle.rhai_reading.specs.Reading.{stmt_of, stmts_of}
 use Rattle.rhai_values.specs.Reading.{value_of}
 use Rattle.rhai_values.specs.Value.{Text, Value}
 use Rattle.rhai_meaning.specs.Constants.{literal_value}
 use Rattle.rhai_meaning.specs.Tree.{Expr, Var}
+use Rattle.rhai_meaning.specs.Tree as tree
 use Rattle.rhai_script_queries.specs.Literals.{Comes, Item, Sought, found, literals_of, Tries, sought_as, sought_at, sought_in}
 
 found-append : (x : Text) (constant : Bool) (v : Option Value) (ss ts : List Sought) → found x constant v ++ literals_of ss ++ literals_of ts ≡ found x constant v ++ (literals_of ss ++ literals_of ts)
@@ -39,6 +47,13 @@ module _ (constants variables constant exported : Bool) (x : Text) (e : Expr) (w
   wanted_found i h v n k =
       let s : Text → Bool → List Sought = λ t b. (record { name = t; constant = b; value = Some (value_of i.2) }) ∷ [] in
       at true h ∙ ap (λ (o : Option Value). sought o true) (sym v) ∙ ap (λ (t : Text). s t constant) (sym n) ∙ ap (λ (b : Bool). s i.0.now b) (sym k)
+
+-- no other statement declares
+pub none_sought : {x : Stmt} {s : tree.Stmt} (constants variables : Bool) → StmtCase x s
+    → ((v : Ident × declared_expr.Expr × Option NonZeroUsize) (k : ASTFlags) (p : Position) → x ≡ stmt_kind.Var v k p → ⊥)
+    → literals_of (sought_at constants variables s) ≡ []
+none_sought constants variables (var_case v k p) n = absurd (n v k p refl)
+none_sought constants variables _ n = refl
 
 pub tries_refused : {E : Type 0} (r : Result (Option Item) E) (here : List Sought) → IsErr r → ((s : Sought) × (here ≡ s ∷ [])) → Tries r here
 tries_refused (Ok o) here e h = absurd (let z : false ≡ true = e in cc)

@@ -65,22 +65,7 @@ impl<'a> LiteralVariables<'a> {
     {
         match stmt {
             Stmt::Var(parts, options, _) => self.declared(parts.get(), *options),
-            Stmt::Noop(_)
-            | Stmt::If(_, _)
-            | Stmt::Switch(_, _)
-            | Stmt::While(_, _)
-            | Stmt::Do(_, _, _)
-            | Stmt::For(_, _)
-            | Stmt::Assignment(_)
-            | Stmt::FnCall(_, _)
-            | Stmt::Block(_)
-            | Stmt::TryCatch(_, _)
-            | Stmt::Expr(_)
-            | Stmt::BreakLoop(_, _, _)
-            | Stmt::Return(_, _, _)
-            | Stmt::Import(_, _)
-            | Stmt::Export(_, _)
-            | Stmt::Share(_) => Ok(None),
+            _ => Ok(None),
         }
     }
 
