@@ -28,7 +28,7 @@ const WALKED: [Walked; 6] = [
         &[],
         "s1 s1e8 s1e40 s1e48 s1e40 s1e48",
     ),
-    Walked("loop { break 5 }\n", &[], "s1 s1e1 s1s8 s1s8e14"),
+    Walked("loop { break 5 }\n", &[], "s1 s1e0 s1s8 s1s8e14"),
     Walked("", &["x\n"], "s1 s1e1"),
     // statements first, then the bodies in the table's order
     Walked(

@@ -49,7 +49,7 @@ const STMTS: [Row; 20] = [
         "s1 s1e8 s1e49 s1e54 s1e57 s1e62 s1e57 s1e62 s1e49 s1e54 s1e65 s1e70",
     ),
     ("while a { b }", "s1 s1e7 s1s11 s1s11e11"),
-    ("loop { a }", "s1 s1e1 s1s8 s1s8e8"),
+    ("loop { a }", "s1 s1e0 s1s8 s1s8e8"),
     ("do { a } while b", "s1 s1e16 s1s6 s1s6e6"),
     ("for x in a { b }", "s1 s1e10 s1s14 s1s14e14"),
     ("let x = a", "s1 s1e9"),
