@@ -40,8 +40,8 @@ fn holds(items: &Seq<u8>, want: &[u8]) -> Result<bool, Fail> {
 
 #[test]
 fn makes_lists_with_their_room(rt: HostRuntime) -> Result<(), Fail> {
-    assert!(rt; Seq::from_slice(rt.alloc(), &[9u8])?.into_only() == Some(9));
-    assert!(rt; Seq::from_array(rt.alloc(), [7u8])?.into_only() == Some(7));
+    let (slice, array) = (Seq::from_slice(rt.alloc(), &[9u8])?, Seq::from_array(rt.alloc(), [7u8])?);
+    assert!(rt; slice.into_only() == Some(9) && array.into_only() == Some(7));
     assert!(rt; room_of_two(rt.alloc())? == 2);
     Ok(())
 }
@@ -58,8 +58,7 @@ fn room_of_two(alloc: Global) -> Result<usize, Fail> {
 fn gives_items_from_the_front(rt: HostRuntime) -> Result<(), Fail> {
     let mut rest = Seq::from_slice(rt.alloc(), &[1u8, 2])?.into_rest();
     assert!(rt; rest.next() == Some(1) && !rest.is_empty());
-    assert!(rt; rest.next() == Some(2) && rest.is_empty());
-    assert!(rt; rest.next().is_none());
+    assert!(rt; rest.next() == Some(2) && rest.is_empty() && rest.next().is_none());
     let mut none: Rest<u8> = Rest::new(Vec::new(rt.alloc()));
     assert!(rt; none.next().is_none());
     Ok(())

@@ -46,11 +46,8 @@ const UNKNOWN: [&str; 10] = [
 #[test]
 fn names_operators_and_their_forms(rt: HostRuntime) {
     for (op, text, form, form_text) in &FORMS {
-        assert!(rt;
-            is_written(*op, text) && is_written(*form, form_text),
-            "{text}"
-        );
-        assert!(rt; is_form_of(*form, *op), "{text}");
+        let are_written = is_written(*op, text) && is_written(*form, form_text);
+        assert!(rt; are_written && is_form_of(*form, *op), "{text}");
     }
 }
 
@@ -74,17 +71,22 @@ fn is_no_operator(token: Token) -> bool {
 #[test]
 fn names_the_other_tokens(rt: HostRuntime) {
     for (token, text) in &OTHERS {
-        assert!(rt; is_written(*token, text), "{text}");
-        assert!(rt; is_no_operator(*token), "{text}");
-        assert!(rt; token.get_base_op_from_assignment().is_none(), "{text}");
+        assert!(rt; is_written(*token, text) && is_apart(*token), "{text}");
     }
+}
+
+/// Whether it neither has a form nor is one.
+fn is_apart(token: Token) -> bool {
+    is_no_operator(token) && token.get_base_op_from_assignment().is_none()
 }
 
 #[test]
 fn writes_unary_operators_as_binary_ones(rt: HostRuntime) {
-    assert!(rt; Token::UnaryPlus.literal_syntax() == "+");
-    assert!(rt; Token::UnaryMinus.literal_syntax() == "-");
-    assert!(rt; is_no_operator(Token::UnaryPlus) && is_no_operator(Token::UnaryMinus));
+    assert!(rt; is_unary(Token::UnaryPlus, "+") && is_unary(Token::UnaryMinus, "-"));
+}
+
+fn is_unary(token: Token, text: &str) -> bool {
+    token.literal_syntax() == text && is_no_operator(token)
 }
 
 #[test]
