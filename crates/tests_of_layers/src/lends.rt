@@ -1,9 +1,10 @@
 //! Parts that are lent: each of these functions compiles only where what it gives is a part of what it was given, lent for as
 //! long, and not a copy. While a part is lent, a change of the whole does not compile.
 
+use crate::script_samples::key;
 use rhai_ast::{ASTNode, Expr, ScriptFuncDef, Stmt, Walk};
-use rhai_base::{Dynamic, OutOfMemory, Scope};
-use rhai_script::{AST, FnLib};
+use rhai_base::{Dynamic, ImmutableString, OutOfMemory, Scope};
+use rhai_script::{AST, FnKey, FnLib};
 use rhai_script_queries::{ScriptFnMetadata, ScriptQueries};
 use std::alloc::Global;
 use std::rc::Rc;
@@ -36,6 +37,11 @@ fn first_definition<'a>(script: &'a AST) -> Option<&'a Rc<ScriptFuncDef>> {
     script.iter_fn_def().next()
 }
 
+/// A definition outlives the key that found it.
+fn found<'a>(lib: &'a FnLib, key: FnKey) -> Option<&'a Rc<ScriptFuncDef>> {
+    lib.get(&key)
+}
+
 /// What a function says of itself outlives the iterator.
 fn first_metadata<'a>(script: &'a AST) -> Option<ScriptFnMetadata<'a>> {
     script.iter_functions().next()
@@ -59,6 +65,8 @@ fn parts_outlive_what_found_them(rt: HostRuntime) -> Result<(), Fail> {
     let alloc = rt.alloc();
     let lib = Rc::new(alloc, FnLib::new(alloc))?;
     let script = AST::new(read_lines(alloc, "const x = 1\n")?, lib);
+    let name = ImmutableString::new(alloc, "f")?;
+    assert!(rt; found(script.shared_lib(), key(name)).is_none());
     assert!(rt; first_definition(&script).is_none() && first_metadata(&script).is_none());
     assert_eq!(rt; first_variable(&script)?, Some("x"));
     for statement in script.statements() {

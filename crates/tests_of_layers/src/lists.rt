@@ -40,7 +40,10 @@ fn holds(items: &Seq<u8>, want: &[u8]) -> Result<bool, Fail> {
 
 #[test]
 fn makes_lists_with_their_room(rt: HostRuntime) -> Result<(), Fail> {
-    let (slice, array) = (Seq::from_slice(rt.alloc(), &[9u8])?, Seq::from_array(rt.alloc(), [7u8])?);
+    let (slice, array) = (
+        Seq::from_slice(rt.alloc(), &[9u8])?,
+        Seq::from_array(rt.alloc(), [7u8])?,
+    );
     assert!(rt; slice.into_only() == Some(9) && array.into_only() == Some(7));
     assert!(rt; room_of_two(rt.alloc())? == 2);
     Ok(())

@@ -2,7 +2,7 @@
 
 use rhai_ast::{FnAccess, ScriptFuncDef, Stmt, StmtBlock, StmtQueries};
 use rhai_base::{ImmutableString, OutOfMemory, Position, Seq};
-use rhai_script::{AST, FnLib, SharedLib};
+use rhai_script::{AST, FnKey, FnLib, SharedLib};
 use std::alloc::Global;
 use std::rc::Rc;
 
@@ -13,6 +13,15 @@ pub struct Row(
     pub Option<&'static str>,
     pub &'static str,
 );
+
+/// The key of a function of one parameter.
+pub fn key(name: ImmutableString) -> FnKey {
+    FnKey {
+        name,
+        params: 1,
+        this_type: None,
+    }
+}
 
 fn function(alloc: Global, row: &Row) -> Result<ScriptFuncDef, OutOfMemory> {
     let Row(name, params, this_type, comment) = row;

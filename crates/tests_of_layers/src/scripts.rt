@@ -1,6 +1,6 @@
 //! Scripts and their tables of functions.
 
-use crate::script_samples::{Row, has, table};
+use crate::script_samples::{Row, has, key, table};
 use rhai_ast::Stmt;
 use rhai_base::{ImmutableString, OutOfMemory, Position};
 use rhai_script::{AST, FnKey, FnLib};
@@ -43,14 +43,6 @@ fn a_key_equals_its_clone(rt: HostRuntime) -> Result<(), Fail> {
     let name = ImmutableString::new(rt.alloc(), "f")?;
     assert!(rt; is_copied(&key(name))?);
     Ok(())
-}
-
-fn key(name: ImmutableString) -> FnKey {
-    FnKey {
-        name,
-        params: 1,
-        this_type: None,
-    }
 }
 
 fn is_copied(key: &FnKey) -> Result<bool, OutOfMemory> {

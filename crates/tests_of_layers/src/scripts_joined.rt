@@ -1,6 +1,6 @@
 //! Scripts that are merged and filtered, their sources, ids and docs.
 
-use crate::script_samples::{Row, are_in_turn, has, is_known_by, script, stands, table};
+use crate::script_samples::{Row, are_in_turn, has, is_known_by, key, script, stands, table};
 use rhai_ast::{FnAccess, FnNamespace};
 use rhai_base::{ImmutableString, OutOfMemory};
 use rhai_script::{AST, FnKey, FnLib};
@@ -198,14 +198,6 @@ fn a_function_is_found_by_its_key(rt: HostRuntime) -> Result<(), Fail> {
     let name = ImmutableString::new(rt.alloc(), "foo")?;
     assert!(rt; is_found(&lib, &key(name)));
     Ok(())
-}
-
-fn key(name: ImmutableString) -> FnKey {
-    FnKey {
-        name,
-        params: 1,
-        this_type: None,
-    }
 }
 
 fn is_found(lib: &FnLib, key: &FnKey) -> bool {

@@ -74,14 +74,14 @@ fn made(
     Ok(AST::new(statements, lib))
 }
 
-/// Functions of these bodies, with no parameter, one, two, ..
+/// Functions of these bodies, with one parameter, two, ..
 fn read_functions(alloc: Global, bodies: &[&str]) -> Result<Vec<Rc<ScriptFuncDef>>, Unread> {
     let mut functions = Vec::new(alloc);
     let mut params = Seq::new(alloc);
     for body in bodies {
+        params.push(ImmutableString::new(alloc, "x")?)?;
         let function = read_function(alloc, params.clone()?, body)?;
         add(alloc, &mut functions, function)?;
-        params.push(ImmutableString::new(alloc, "x")?)?;
     }
     Ok(functions)
 }

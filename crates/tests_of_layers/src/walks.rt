@@ -1,15 +1,15 @@
 //! Walks over trees: the paths to the nodes of each kind, walks that are stopped, and what is left of their paths.
 
-use rhai_ast::{ASTNode, Expr, Stmt, Walk};
+use rhai_ast::{ASTNode, Expr, Stmt, Walk, walk_statements};
 use rhai_base::OutOfMemory;
 use std::alloc::Global;
 use std::test::Fail;
-use tests_reader::{Unread, read_stmt};
+use tests_reader::{Unread, read_lines, read_stmt};
 
 /// A statement, and the paths to its nodes in turn: of each node on one whether it is a statement, and its column.
 type Row = (&'static str, &'static str);
 
-const EXPRS: [Row; 20] = [
+const EXPRS: [Row; 21] = [
     ("<1..2>", "s1 s1e1"),
     ("true", "s1 s1e1"),
     ("-7", "s1 s1e1"),
@@ -20,6 +20,8 @@ const EXPRS: [Row; 20] = [
     ("this", "s1 s1e1"),
     ("text(\"a\", b)", "s1 s1e1 s1e1e6 s1e1e11"),
     ("[a, b]", "s1 s1e1 s1e1e2 s1e1e5"),
+    // equal nodes, each at its own place
+    ("[a, a]", "s1 s1e1 s1e1e2 s1e1e5"),
     ("#{a: 1, b: x}", "s1 s1e1 s1e1e6 s1e1e12"),
     ("{ a; noop }", "s1 s1e1 s1e1s3 s1e1s3e3 s1e1s6"),
     ("f(a, b)", "s1 s1e1 s1e1e3 s1e1e6"),
@@ -38,7 +40,7 @@ const EXPRS: [Row; 20] = [
     ("coalesce(a, b)", "s10 s10e1 s10e1e10 s10e1e13"),
 ];
 
-const STMTS: [Row; 20] = [
+const STMTS: [Row; 22] = [
     ("noop", "s1"),
     (
         "if a { b } else { c }",
@@ -48,11 +50,18 @@ const STMTS: [Row; 20] = [
         "switch a { 1: 0 1, 2: 1 | 5..8: 0 | default 2 | b => c, d => g, h => i, j => k }",
         "s1 s1e8 s1e49 s1e54 s1e57 s1e62 s1e57 s1e62 s1e49 s1e54 s1e65 s1e70",
     ),
+    // equal arms, each at its own place
+    (
+        "switch a { 1: 0, 2: 1 |  | default - | true => c, true => c }",
+        "s1 s1e8 s1e40 s1e48 s1e51 s1e59",
+    ),
     ("while a { b }", "s1 s1e7 s1s11 s1s11e11"),
     ("loop { a }", "s1 s1e0 s1s8 s1s8e8"),
     ("do { a } while b", "s1 s1e16 s1s6 s1s6e6"),
     ("for x in a { b }", "s1 s1e10 s1s14 s1s14e14"),
     ("let x = a", "s1 s1e9"),
+    // the longest paths have three nodes
+    ("let x = +(1, 2)", "s1 s1e9 s1e9e11 s1e9e14"),
     ("a += b", "s3 s3e1 s3e6"),
     ("call f(a, b)", "s1 s1e8 s1e11"),
     ("block { a; b }", "s7 s7s9 s7s9e9 s7s12 s7s12e12"),
@@ -173,6 +182,24 @@ fn is_kept<'a>(alloc: Global, start: ASTNode<'a>, value: &'a Expr) -> Result<boo
         &mut |nodes: &[ASTNode]| { write_path(alloc, &mut shown, nodes).is_ok() },
     )?;
     Ok(finished && path.len() == 1 && shown.as_str() == "s1e9 s1e9e11 s1e9e14")
+}
+
+#[test]
+fn a_list_is_walked(rt: HostRuntime) -> Result<(), Fail> {
+    let statements = read_lines(rt.alloc(), "a\nnoop\n")?;
+    assert!(rt; are_walked(rt.alloc(), statements.as_slice())?);
+    Ok(())
+}
+
+fn are_walked(alloc: Global, statements: &[Stmt]) -> Result<bool, OutOfMemory> {
+    let mut shown = String::new(alloc);
+    let mut path = Vec::new(alloc);
+    let finished = walk_statements(
+        statements,
+        &mut path,
+        &mut |nodes: &[ASTNode]| { write_path(alloc, &mut shown, nodes).is_ok() },
+    )?;
+    Ok(finished && path.is_empty() && shown.as_str() == "s1 s1e1 s3")
 }
 
 /// With all memory that it wants it shows all nodes; `rt try --test --fail-alloc N` refuses the Nth growth.
