@@ -14,5 +14,5 @@ returns-clause-round_trip c =
     let bare = none_curried c.is_curried.result vs c.is_curried.ensures c.if-is_curried.false in
     let written = pointer_written f vs c.into_name.ensures.valid bare in
     IfOk-weaker c.pointer_call.result (λ e. expr_of e ≡ pointer_call c.into_name.result) (λ e. literal_value (expr_of e) ≡ Some (PointerV f (values (map value_of vs))))
-      (λ e h. ap literal_value (h ∙ ap pointer_call c.into_name.ensures.name) ∙ written)
-      c.pointer_call.ensures.value
+    (λ e h. ap literal_value (h ∙ ap pointer_call c.into_name.ensures.name) ∙ written)
+    c.pointer_call.ensures.value
