@@ -40,7 +40,9 @@ fn names_functions(rt: HostRuntime) -> Result<(), Fail> {
 
 fn names_a_function(alloc: Global, text: &str) -> Result<bool, Fail> {
     match FnName::new(ImmutableString::new(alloc, text)?) {
-        Some(name) => Ok(name.as_str() == text && name.clone()? == name),
+        Some(name) => Ok(name.as_str() == text
+            && name.clone()? == name
+            && name.into_name().as_str() == text),
         None => Ok(false),
     }
 }

@@ -179,8 +179,16 @@ fn ranges(alloc: Global, arm: Option<usize>) -> Result<Vec<RangeCase>, OutOfMemo
 #[test]
 fn keeps_the_cases_in_order(rt: HostRuntime) -> Result<(), Fail> {
     let cases = Cases::from_map(map(rt.alloc(), &ORDER)?);
-    assert!(rt; are_in_order(&cases)?);
+    assert!(rt; are_in_order(&cases)? && are_put_back(rt.alloc(), cases));
     Ok(())
+}
+
+/// Whether the map of cases is taken out for another, put back, and given up.
+fn are_put_back(alloc: Global, mut cases: Cases) -> bool {
+    let taken = cases.replace_map(IndexMap::new(alloc));
+    let is_empty = cases.as_map().is_empty();
+    let other = cases.replace_map(taken);
+    is_empty && other.is_empty() && is_in_order(&cases) && cases.into_map().len() == 2
 }
 
 const ORDER: [(Key, usize); 3] = [(Key::Int(2), 0), (Key::Int(1), 1), (Key::Int(2), 1)];

@@ -125,7 +125,7 @@ fn differs(alloc: Global, value: &Dynamic, other: &Sample) -> Result<bool, Fail>
 fn points_to_functions(rt: HostRuntime) -> Result<(), Fail> {
     assert!(rt; pointer(rt.alloc(), "1a")?.is_none());
     let mut pointer = pointer(rt.alloc(), "f")?.ok_or("f")?;
-    assert!(rt; gains_a_value(&mut pointer)?);
+    assert!(rt; gains_a_value(&mut pointer)? && pointer.into_name().as_str() == "f");
     Ok(())
 }
 
