@@ -4,7 +4,7 @@ use Rattle.rhai_tokens.specs.declared.token.Token.{Token}
 use Rattle.rhai_values.specs.declared.dynamic.Dynamic.{Dynamic}
 use Rattle.rhai_values.specs.declared.dynamic.Dynamic.TheVariants as value
 use Rattle.rhai_values.specs.Reading.{value_of, value_of-Array, value_of-Unit}
-use Rattle.rhai_values.specs.Value.{Value, ArrayV, TextV, values}
+use Rattle.rhai_values.specs.Value.{Text, Value, ArrayV, TextV, values}
 use Rattle.rhai_base.specs.Builtin.{operator_of}
 use Rattle.rhai_base.specs.Operators.{Operator}
 use Rattle.rhai_tree.specs.declared.expr.FnCallExpr.{FnCallExpr}
@@ -15,19 +15,19 @@ use Rattle.rhai_meaning.specs.Control.{texts_joined}
 use Rattle.rhai_meaning.specs.Core as core
 use Rattle.rhai_meaning.specs.Desugar.{core_expr, core_exprs, guard_by}
 use Rattle.rhai_meaning.specs.Meaning.{text}
-use Rattle.rhai_meaning.specs.Shape.{is_chain, is_table, is_unit}
+use Rattle.rhai_meaning.specs.Shape.{is_chain, is_unit}
 use Rattle.rhai_meaning.specs.Tree as tree
 use Rattle.rhai_run.specs.declared.plain.state.Interrupt.{Interrupt}
 use Rattle.rhai_run.specs.declared.plain.state.Interrupt.TheVariants.{NoMemory, Return, Break, Continue, Throw, Stuck, OutOfTurns}
 use Rattle.rhai_run.specs.declared.plain.state.State.{State}
 use Rattle.rhai_run.specs.declared.report.Stuck.TheVariants as why
-use Rattle.rhai_run.specs.Covered.{covered_expr, covered_guard, covered_stmt}
+use Rattle.rhai_run.specs.Covered.{covered_expr, covered_guard}
 use Rattle.rhai_run.specs.Evaluating.{call_core, expr_core, stmts_core, IsConstant, RunsArgs, RunsBlock, RunsCall, RunsCore, RunsDeed, RunsExpr, RunsExprs, RunsLine, RunsStmt}
 use Rattle.rhai_run.specs.Operators.{called_operator, StandsFor}
 use Rattle.rhai_run.specs.Runs.{Setting, Acting, Leads, Runs, given}
 use Rattle.rhai_run.proofs.Callees.{call_ill, call_operates, count_exprs_of}
 use Rattle.rhai_run.proofs.Goes.{gives, goes_then, leads_then}
-use Rattle.rhai_run.proofs.Statements.{deed_line, ill_line}
+use Rattle.rhai_run.proofs.Statements.{deed_line}
 
 operator_known : (c : FnCallExpr) (op : Token) → StandsFor (Some op) (called_operator (callee_of c) (length c.args)) → (p : Operator) × (operator_of op ≡ Some p) × (Some p ≡ called_operator (callee_of c) (tree.count_exprs (exprs_of c.args)))
 operator_known c op e = (e.0, e.1, e.2 ∙ ap (called_operator (callee_of c)) (sym (count_exprs_of c.args)))
@@ -131,9 +131,5 @@ module _ (here : Setting) (loop : Bool) where
   pub while_line : (e : tree.Expr) (ss : tree.Stmts) (s s1 : State) (r : Result Dynamic Interrupt) → RunsDeed here (core.While (covered_guard (guard_by e (core_expr loop e))) (stmts_core true ss)) s r s1 → RunsStmt here loop (tree.While e ss) s r s1
   while_line e ss s s1 r q = deed_line here loop (core.While (covered_guard (guard_by e (core_expr loop e))) (stmts_core true ss)) s s1 r q
 
-  switch_by : (b : Bool) (e : core.Expr) (as' : core.Arms) (t : tree.SwitchTable) → covered_stmt (core.Does (cond b (core.Switch e as' t) core.IllDeed)) ≡ core.Does core.IllDeed
-  switch_by true e as' t = refl
-  switch_by false e as' t = refl
-
-  pub switch_ill : (e : tree.Expr) (as' : tree.Arms) (t : tree.SwitchTable) (s : State) → RunsStmt here loop (tree.Switch e as' t) s (Err (Stuck why.WrongKind)) s
-  switch_ill e as' t s = subst (λ l. RunsLine here l s (Err (Stuck why.WrongKind)) s) (sym (switch_by (is_table as' t) _ _ t)) (ill_line here loop s)
+  pub for_line : (x : Text) (i : Option Text) (e : tree.Expr) (ss : tree.Stmts) (s s1 : State) (r : Result Dynamic Interrupt) → RunsDeed here (core.For x i (expr_core loop e) (stmts_core true ss)) s r s1 → RunsStmt here loop (tree.For x i e ss) s r s1
+  for_line x i e ss s s1 r q = deed_line here loop (core.For x i (expr_core loop e) (stmts_core true ss)) s s1 r q

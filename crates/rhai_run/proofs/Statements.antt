@@ -101,3 +101,24 @@ module _ (here : Setting) (loop : Bool) where
 
     pub var_runs : (s s1 s2 : State) (v : Dynamic) → exported ≡ false → RunsExpr here loop e s (Ok v) s1 → store_of s2 ≡ record (store_of s1) { scope = record { name = x; constant = constant; value = value_of v } ∷ (store_of s1).scope } → s2.turns ≡ s1.turns → RunsLine here var_line s (Ok value.Unit) s2
     var_runs s s1 s2 v h q k t = subst (λ l. RunsLine here l s (Ok value.Unit) s2) (var_is h) (var_goes s s1 s2 v q k t)
+
+  -- `if`
+  module _ (e : tree.Expr) (a b : tree.Stmts) (s s1 : State) where
+    abbrev if_deed : core.Deed
+    if_deed = core.If (expr_core loop e) (stmts_core loop a) (stmts_core loop b)
+
+    abbrev list_act : tree.Stmts → Act
+    list_act ss = Scoped (acts here.world true (stmts_core loop ss) UnitV)
+
+    pub condition_stops : (x : Interrupt) → RunsExpr here loop e s (Err x) s1 → RunsDeed here if_deed s (Err x) s1
+    condition_stops x q = choice_stops (list_act a) (list_act b) (expr_core loop e) s s1 x q
+
+    pub condition_stuck : (v : Dynamic) (x : Interrupt) → RunsExpr here loop e s (Ok v) s1 → Err x ≡ or_stuck (truth (value_of v)) → RunsDeed here if_deed s (Err x) s1
+    condition_stuck v x q t = choice_stuck (list_act a) (list_act b) (expr_core loop e) s s1 v x q t
+
+    module _ (v : Dynamic) (c : Bool) (s2 : State) (r : Result Dynamic Interrupt) (q : RunsExpr here loop e s (Ok v) s1) (t : Ok c ≡ or_stuck (truth (value_of v))) where
+      pub body_runs : c ≡ true → RunsBlock here loop a s1 r s2 → RunsDeed here if_deed s r s2
+      body_runs h k = choice_runs (list_act a) (list_act b) (expr_core loop e) s s1 v c s2 r q t (subst (λ d. Runs here (Acting (choose d (list_act a) (list_act b))) s1 r s2) (sym h) (k true))
+
+      pub branch_runs : c ≡ false → RunsBlock here loop b s1 r s2 → RunsDeed here if_deed s r s2
+      branch_runs h k = choice_runs (list_act a) (list_act b) (expr_core loop e) s s1 v c s2 r q t (subst (λ d. Runs here (Acting (choose d (list_act a) (list_act b))) s1 r s2) (sym h) (k true))

@@ -1,22 +1,32 @@
 -- The arms of a `switch`, one after another.
-use Rattle.std.proofs.Common.{◌≡◌, ℕ, zero, suc, Bool, true, false, ◌&&◌, cond, List, [], ◌∷◌, map, Option, Some, None, Result, Ok, Err, refl, sym, ap, ◌∙◌, subst, arith, if◌then◌else◌}
+use Rattle.std.proofs.Common.{◌≡◌, ℕ, zero, suc, ◌+◌, ◌<◌, Bool, true, false, ◌&&◌, cond, List, [], ◌∷◌, map, length, drop, get_or, Option, Some, None, Result, Ok, Err, refl, sym, ap, ◌∙◌, subst, arith, if◌then◌else◌}
 use Rattle.std.specs.Prelude.{option_map, slice_get}
+use Rattle.std.proofs.lemmas.List.{drop_more}
 use Rattle.rhai_values.specs.declared.dynamic.Dynamic.{Dynamic}
 use Rattle.rhai_values.specs.declared.dynamic.Dynamic.TheVariants as value
 use Rattle.rhai_values.specs.Reading.{value_of, value_of-Unit}
-use Rattle.rhai_values.specs.Value.{Value, IntV}
+use Rattle.rhai_values.specs.Value.{Value, IntV, is_hashable}
 use Rattle.rhai_tree.specs.declared.expr.BinaryExpr.{BinaryExpr}
-use Rattle.rhai_reading.specs.Reading.{arms_of, expr_of}
+use Rattle.rhai_base.specs.declared.range_case.RangeCase.{RangeCase}
+use Rattle.rhai_reading.specs.Reading.{arms_of, expr_of, range_of}
 use Rattle.rhai_meaning.specs.Act.{Act}
 use Rattle.rhai_meaning.specs.ActForms.{choose, if_true, truth, unit, ◌>>=◌}
-use Rattle.rhai_meaning.specs.Control.{ArmActs, answer_of, default_of, first_arm, holds, ranges_with, try_arm}
+use Rattle.rhai_meaning.specs.Control.{ArmActs, answer_of, case_for, chosen, default_of, first_arm, holds, or_ranges, ranges_with, switch_on, try_arm}
 use Rattle.rhai_meaning.specs.Meaning.{act}
-use Rattle.rhai_meaning.specs.Tree.{SwitchRange}
+use Rattle.rhai_meaning.specs.Core as core
+use Rattle.rhai_meaning.specs.Desugar.{core_arms, core_expr, core_stmt}
+use Rattle.rhai_meaning.specs.Shape.{is_table}
+use Rattle.rhai_meaning.specs.Tree as tree
+use Rattle.rhai_meaning.specs.Tree.{SwitchRange, SwitchTable}
 use Rattle.rhai_run.specs.declared.plain.state.Interrupt.{Interrupt}
+use Rattle.rhai_run.specs.declared.plain.state.Interrupt.TheVariants.{Stuck}
 use Rattle.rhai_run.specs.declared.plain.state.State.{State}
-use Rattle.rhai_run.specs.Evaluating.{arms_here, arm_then, expr_core, or_stuck, RunsArm, RunsExpr}
+use Rattle.rhai_run.specs.declared.report.Stuck.TheVariants as why
+use Rattle.rhai_run.specs.Covered.{covered_arms, covered_deed, covered_stmt}
+use Rattle.rhai_run.specs.Evaluating.{arms_here, arm_then, expr_core, or_stuck, RunsArm, RunsExpr, RunsFirstArm, RunsLine}
 use Rattle.rhai_run.specs.Runs.{Setting, Task, Acting, Goes, Stops, Leads, Runs, given}
 use Rattle.rhai_run.proofs.Goes.{gives, goes_on, goes_as, goes_then, stops_then, leads_then, value_goes, value_stops, if_goes, if_stops}
+use Rattle.rhai_run.proofs.Statements.{deed_line, ill_line}
 
 -- ---- ranges
 
@@ -117,22 +127,86 @@ module _ (here : Setting) (loop : Bool) (bs : List BinaryExpr) where
   pub ranges_start : (v : Value) (ranges : List SwitchRange) (s : State) → RangesAt v ranges ranges s s
   ranges_start v ranges s = record { so = λ default. goes_on here _ s }
 
-  module _ (v : Value) (ranges rest after : List SwitchRange) (r : SwitchRange) (s s1 : State) (h : rest ≡ r ∷ after) (at : RangesAt v ranges rest s s1) where
-    pub ranges_skip : holds r.range v ≡ false → RangesAt v ranges after s s1
-    ranges_skip f = record { so = λ default. goes_then here (at.so default) (goes_as here _ _ s1 (ap (λ l. Acting (first_arm (arm_list here loop bs) l default)) (ap (λ l. ranges_with l v) h ∙ not_holding r after v f))) }
+  -- one range, by itself
+  module _ (r : SwitchRange) (v : Value) (s s1 : State) where
+    pub range_tried : (o : Result (Option Dynamic) Interrupt) → holds r.range v ≡ true → RunsArm here (slice_get (arm_list here loop bs) r.arm) s o s1 → RunsFirstArm here (arm_list here loop bs) (ranges_with (r ∷ []) v) s o s1
+    range_tried o t q = subst (λ l. RunsFirstArm here (arm_list here loop bs) l s o s1) (sym (holding r [] v t)) q
 
-    module _ (s2 : State) (t : holds r.range v ≡ true) where
-      range_here : (default : Act) → Goes here (Acting (first_arm (arm_list here loop bs) (ranges_with ranges v) default)) s (Acting (try_arm (slice_get (arm_list here loop bs) r.arm) (first_arm (arm_list here loop bs) (ranges_with after v) default))) s1
-      range_here default = goes_then here (at.so default) (goes_as here _ _ s1 (ap (λ l. Acting (first_arm (arm_list here loop bs) l default)) (ap (λ l. ranges_with l v) h ∙ holding r after v t)))
+    pub range_skipped : holds r.range v ≡ false → RunsFirstArm here (arm_list here loop bs) (ranges_with (r ∷ []) v) s (Ok None) s
+    range_skipped f = subst (λ l. RunsFirstArm here (arm_list here loop bs) l s (Ok None) s) (sym (not_holding r [] v f)) (λ default. goes_on here (Acting default) s)
 
-      pub ranges_stops : (x : Interrupt) → RunsArm here (slice_get (arm_list here loop bs) r.arm) s1 (Err x) s2 → (default : Act) → Stops here (Acting (first_arm (arm_list here loop bs) (ranges_with ranges v) default)) s x s2
-      ranges_stops x q default = stops_then here s2 x (range_here default) (q _)
+  -- and then the others
+  first_then : (c : Bool) (i : ℕ) (is : List ℕ) (default : Act) → first_arm (arm_list here loop bs) (cond c (i ∷ is) is) default ≡ first_arm (arm_list here loop bs) (cond c (i ∷ []) []) (first_arm (arm_list here loop bs) is default)
+  first_then true i is default = refl
+  first_then false i is default = refl
 
-      pub ranges_ends : (w : Dynamic) → RunsArm here (slice_get (arm_list here loop bs) r.arm) s1 (Ok (Some w)) s2 → (default : Act) → Goes here (Acting (first_arm (arm_list here loop bs) (ranges_with ranges v) default)) s (given (value_of w)) s2
-      ranges_ends w q default = goes_then here (range_here default) (q _)
+  module _ (v : Value) (ranges rest after : List SwitchRange) (r : SwitchRange) (s s1 s2 : State) (h : rest ≡ r ∷ after) (at : RangesAt v ranges rest s s1) where
+    range_here : (default : Act) → Goes here (Acting (first_arm (arm_list here loop bs) (ranges_with ranges v) default)) s (Acting (first_arm (arm_list here loop bs) (ranges_with (r ∷ []) v) (first_arm (arm_list here loop bs) (ranges_with after v) default))) s1
+    range_here default = goes_then here (at.so default) (goes_as here _ _ s1 (ap (λ l. Acting (first_arm (arm_list here loop bs) (ranges_with l v) default)) h ∙ ap Acting (first_then (holds r.range v) r.arm (ranges_with after v) default)))
 
-      pub ranges_next : RunsArm here (slice_get (arm_list here loop bs) r.arm) s1 (Ok None) s2 → RangesAt v ranges after s s2
-      ranges_next q = record { so = λ default. goes_then here (range_here default) (q _) }
+    pub ranges_stops : (x : Interrupt) → RunsFirstArm here (arm_list here loop bs) (ranges_with (r ∷ []) v) s1 (Err x) s2 → (default : Act) → Stops here (Acting (first_arm (arm_list here loop bs) (ranges_with ranges v) default)) s x s2
+    ranges_stops x q default = stops_then here s2 x (range_here default) (q _)
+
+    pub ranges_ends : (w : Dynamic) → RunsFirstArm here (arm_list here loop bs) (ranges_with (r ∷ []) v) s1 (Ok (Some w)) s2 → (default : Act) → Goes here (Acting (first_arm (arm_list here loop bs) (ranges_with ranges v) default)) s (given (value_of w)) s2
+    ranges_ends w q default = goes_then here (range_here default) (q _)
+
+    pub ranges_next : RunsFirstArm here (arm_list here loop bs) (ranges_with (r ∷ []) v) s1 (Ok None) s2 → RangesAt v ranges after s s2
+    ranges_next q = record { so = λ default. goes_then here (range_here default) (q _) }
 
   pub ranges_end : (v : Value) (ranges rest : List SwitchRange) (s s1 : State) → rest ≡ [] → RangesAt v ranges rest s s1 → (default : Act) → Goes here (Acting (first_arm (arm_list here loop bs) (ranges_with ranges v) default)) s (Acting default) s1
   ranges_end v ranges rest s s1 h at default = goes_then here (at.so default) (goes_as here _ _ s1 (ap (λ l. Acting (first_arm (arm_list here loop bs) (ranges_with l v) default)) h))
+
+-- ---- the whole
+
+-- the places that are tried, by whether a list stands for the value
+pub chosen_listed : (t : SwitchTable) (v : Value) (places : List ℕ) → Some places ≡ cond (is_hashable v) (case_for t.cases v) None → chosen t v ≡ places
+chosen_listed t v places h = ap (or_ranges t v) (sym h)
+
+pub chosen_ranges : (t : SwitchTable) (v : Value) → None ≡ cond (is_hashable v) (case_for t.cases v) None → chosen t v ≡ ranges_with t.ranges v
+chosen_ranges t v h = ap (or_ranges t v) (sym h)
+
+module _ (here : Setting) where
+  pub tried_as : (arms : List ArmActs) (places tried : List ℕ) (s s1 : State) (r : Result (Option Dynamic) Interrupt) → tried ≡ places → RunsFirstArm here arms places s r s1 → RunsFirstArm here arms tried s r s1
+  tried_as arms places tried s s1 r h q = subst (λ l. RunsFirstArm here arms l s r s1) (sym h) q
+
+  module _ (arms : List ArmActs) (t : SwitchTable) (v : Value) (s s1 : State) where
+    pub arms_stop : (x : Interrupt) → RunsFirstArm here arms (chosen t v) s (Err x) s1 → Stops here (Acting (switch_on arms t v)) s x s1
+    arms_stop x q = q _
+
+    pub arms_end : (w : Dynamic) → RunsFirstArm here arms (chosen t v) s (Ok (Some w)) s1 → Goes here (Acting (switch_on arms t v)) s (given (value_of w)) s1
+    arms_end w q = q _
+
+    pub arms_default : (s2 : State) (r : Result Dynamic Interrupt) → RunsFirstArm here arms (chosen t v) s (Ok None) s1 → Runs here (Acting (default_of arms t.default)) s1 r s2 → Runs here (Acting (switch_on arms t v)) s r s2
+    arms_default s2 r q k = leads_then here s2 r (λ u. given (value_of u)) (q _) k
+
+  -- a statement whose table is one, or is none
+  module _ (loop : Bool) (e : tree.Expr) (as' : tree.Arms) (t : SwitchTable) where
+    abbrev switch_line : core.Stmt
+    switch_line = covered_stmt (core_stmt loop (tree.Switch e as' t))
+
+    switch_is : (b : Bool) → is_table as' t ≡ b → core.Does (covered_deed (cond b (core.Switch (core_expr loop e) (core_arms loop as') t) core.IllDeed)) ≡ switch_line
+    switch_is b h = ap (λ c. core.Does (covered_deed (cond c (core.Switch (core_expr loop e) (core_arms loop as') t) core.IllDeed))) (sym h)
+
+    pub switch_stuck : (s : State) → is_table as' t ≡ false → RunsLine here switch_line s (Err (Stuck why.WrongKind)) s
+    switch_stuck s h = subst (λ l. RunsLine here l s (Err (Stuck why.WrongKind)) s) (switch_is false h) (ill_line here loop s)
+
+    abbrev switch_deed : core.Deed
+    switch_deed = core.Switch (expr_core loop e) (covered_arms (core_arms loop as')) t
+
+    pub switch_stops : (s s1 : State) (x : Interrupt) → is_table as' t ≡ true → RunsExpr here loop e s (Err x) s1 → RunsLine here switch_line s (Err x) s1
+    switch_stops s s1 x h q =
+        subst (λ l. RunsLine here l s (Err x) s1) (switch_is true h)
+        (deed_line here loop switch_deed s s1 (Err x) (value_stops here _ _ s s1 x q))
+
+    pub switch_runs : (s s1 s2 : State) (v : Dynamic) (r : Result Dynamic Interrupt) → is_table as' t ≡ true → RunsExpr here loop e s (Ok v) s1 → Runs here (Acting (switch_on (arms_here here loop as') t (value_of v))) s1 r s2 → RunsLine here switch_line s r s2
+    switch_runs s s1 s2 v r h q k =
+        subst (λ l. RunsLine here l s r s2) (switch_is true h)
+        (deed_line here loop switch_deed s s2 r (leads_then here s2 r (λ u. given (value_of u)) (value_goes here (λ u. switch_on (arms_here here loop as') t u) q) k))
+
+-- ---- items of lists
+
+pub place_here : (places : List ℕ) (i : ℕ) (p : ℕ) → i < length places → p ≡ get_or places i p → drop i places ≡ p ∷ drop (i + 1) places
+place_here places i p h is = drop_more places i p h ∙ ap (λ y. y ∷ drop (i + 1) places) (sym is)
+
+pub range_at : (ranges : List RangeCase) (i : ℕ) (r : RangeCase) → i < length ranges → r ≡ get_or ranges i r → map range_of (drop i ranges) ≡ range_of r ∷ map range_of (drop (i + 1) ranges)
+range_at ranges i r h is = ap (map range_of) (drop_more ranges i r h ∙ ap (λ y. y ∷ drop (i + 1) ranges) (sym is))

@@ -1,7 +1,7 @@
 -- How far the evaluator goes yet: all else has no meaning in what it runs.
 use Rattle.std.specs.Prelude.{Option}
 use Rattle.rhai_base.specs.Operators.{Operator}
-use Rattle.rhai_meaning.specs.Core.{Callee, OnOperator, Expr, Ill, Constant, InterpolatedString, ArrayOf, MapOf, Variable, ModuleVariable, ThisPtr, BlockExpr, FnCall, And, Or, Coalesce, Exprs, no_exprs, expr, Pairs, no_pairs, pair, Target, ToRoot, Guard, Always, When, Arms, no_arms, arm, Deed, IllDeed, Noop, If, While, Do, Assignment, Block, TryCatch, Evaluate, Leave, Stmt, Var, Does, Stmts, no_stmts, stmt, Script}
+use Rattle.rhai_meaning.specs.Core.{Callee, OnOperator, Expr, Ill, Constant, InterpolatedString, ArrayOf, MapOf, Variable, ModuleVariable, ThisPtr, BlockExpr, FnCall, And, Or, Coalesce, Exprs, no_exprs, expr, Pairs, no_pairs, pair, Target, ToRoot, Guard, Always, When, Arms, no_arms, arm, Deed, IllDeed, Noop, If, Switch, While, Do, For, Assignment, Block, TryCatch, Evaluate, Leave, Stmt, Var, Does, Stmts, no_stmts, stmt, Script}
 
 abbrev pub covered_call : Callee → Exprs → Expr
 covered_call (OnOperator op) es = FnCall (OnOperator op) es
@@ -46,6 +46,8 @@ abbrev mutual
   pub covered_deed : Deed → Deed
   covered_deed Noop = Noop
   covered_deed (If c a b) = If (covered_expr c) (covered_stmts a) (covered_stmts b)
+  covered_deed (Switch e as' t) = Switch (covered_expr e) (covered_arms as') t
+  covered_deed (For x i e b) = For x i (covered_expr e) (covered_stmts b)
   covered_deed (While g b) = While (covered_guard g) (covered_stmts b)
   covered_deed (Do negated e b) = Do negated (covered_expr e) (covered_stmts b)
   covered_deed (Assignment op t e) = covered_assignment op t (covered_expr e)

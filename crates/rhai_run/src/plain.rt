@@ -2,6 +2,8 @@
 
 mod asking;
 mod assigning;
+mod choosing;
+mod counting;
 mod evaluator;
 mod exits;
 mod logic;

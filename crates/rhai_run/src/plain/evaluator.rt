@@ -76,10 +76,10 @@ impl<'a, H: Host> Evaluator<'a, H> {
             Expr::And(operands, _) => self.both(state, operands.get().as_slice()),
             Expr::Or(operands, _) => self.either(state, operands.get().as_slice()),
             Expr::Coalesce(operands, _) => self.first_some(state, operands.get().as_slice()),
-            Expr::Property(_, _)
-            | Expr::MethodCall(_, _)
-            | Expr::Dot(_, _, _)
-            | Expr::Index(_, _, _) => Err(Interrupt::Stuck(Stuck::WrongKind)),
+            Expr::Property(_, _) => Err(Interrupt::Stuck(Stuck::WrongKind)),
+            Expr::MethodCall(_, _) => Err(Interrupt::Stuck(Stuck::WrongKind)),
+            Expr::Dot(_, _, _) => Err(Interrupt::Stuck(Stuck::WrongKind)),
+            Expr::Index(_, _, _) => Err(Interrupt::Stuck(Stuck::WrongKind)),
         }
     }
 

@@ -12,7 +12,7 @@ ghost use Rattle.rhai_meaning.specs.Shape as shape;
 ghost use Rattle.rhai_meaning.specs.Tree as tree;
 ghost use Rattle.rhai_run.specs.Covered.{covered_stmt};
 ghost use Rattle.rhai_run.specs.Evaluating.{setting, stmts_core, RunsCatch, RunsLine};
-ghost use Rattle.rhai_run.specs.Exits.{body_end, branch_end, round_of, LeavesBy};
+ghost use Rattle.rhai_run.specs.Exits.{body_end, branch_end, function_end, round_of, LeavesBy};
 ghost use Rattle.rhai_run.specs.State.{named_in, store_of};
 
 use crate::plain::evaluator::Evaluator;
@@ -171,6 +171,19 @@ pub fn round_ended(ended: Result<Dynamic, Interrupt>) -> Result<Option<Dynamic>,
         Ok(_) | Err(Interrupt::Continue) => Ok(None),
         Err(Interrupt::Break(value)) => Ok(Some(value)),
         Err(interrupt) => Err(interrupt),
+    }
+}
+
+/// How a function ends by its body: a return is its value, and no break leaves it.
+pub fn function_ended(ended: Result<Dynamic, Interrupt>) -> Result<Dynamic, Interrupt>
+    ensures { result ≡ function_end ended }
+{
+    match ended {
+        Err(Interrupt::Return(value)) => Ok(value),
+        Err(Interrupt::Break(_)) | Err(Interrupt::Continue) => {
+            Err(Interrupt::Stuck(Stuck::WrongKind))
+        }
+        other => other,
     }
 }
 

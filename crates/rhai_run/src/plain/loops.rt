@@ -2,7 +2,7 @@
 
 #![tactic(auto, using(rhai_reading::specs::Reading::shapes, rhai_values::specs::Reading::kinds))]
 
-ghost use Rattle.std.specs.Prelude.{◌<◌, true, IfOk};
+ghost use Rattle.std.specs.Prelude.{◌≡◌, ◌<◌, ◌↔◌, true, IfOk, IsTrue};
 ghost use Rattle.rhai_reading.specs.Reading.{expr_of, is_exported, is_negated, stmts_of};
 ghost use Rattle.rhai_meaning.specs.Core.{Always, Do, When, While};
 ghost use Rattle.rhai_meaning.specs.Desugar.{core_expr, core_stmt, guard_by};
@@ -103,9 +103,16 @@ impl<'a, H: Host> Evaluator<'a, H> {
             if let Some(value) = self.round(state, &flow.body)? {
                 return Ok(value);
             }
-            if truth(self.expr(state, &flow.expr)?)? == until {
+            if ends_at(truth(self.expr(state, &flow.expr)?)?, until) {
                 return Ok(Dynamic::Unit);
             }
         }
     }
+}
+
+/// Whether a guard that holds or not ends a loop that goes on as long as it holds, or until it does.
+fn ends_at(holds: bool, until: bool) -> bool
+    ensures { IsTrue result ↔ (holds ≡ until) }
+{
+    holds == until
 }

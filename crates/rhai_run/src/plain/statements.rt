@@ -41,11 +41,11 @@ impl<'a, H: Host> Evaluator<'a, H> {
             Stmt::Return(value, options, _) => self.leave(state, value, *options),
             Stmt::While(flow, _) => self.while_loop(state, flow.get()),
             Stmt::Do(flow, options, _) => self.do_loop(state, flow.get(), *options),
-            Stmt::Switch(_, _)
-            | Stmt::For(_, _)
-            | Stmt::Import(_, _)
-            | Stmt::Export(_, _)
-            | Stmt::Share(_) => Err(Interrupt::Stuck(Stuck::WrongKind)),
+            Stmt::Switch(block, _) => self.switch(state, block.get()),
+            Stmt::For(parts, _) => self.for_loop(state, parts.get()),
+            Stmt::Import(_, _) | Stmt::Export(_, _) | Stmt::Share(_) => {
+                Err(Interrupt::Stuck(Stuck::WrongKind))
+            }
         }
     }
 

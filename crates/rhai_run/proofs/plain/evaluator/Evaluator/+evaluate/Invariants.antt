@@ -1,15 +1,19 @@
-use Rattle.std.proofs.Common.{◌+◌, ◌*◌, drop}
+use Rattle.std.proofs.Common.{◌+◌, ◌*◌, ◌-ℤ◌, drop, length, map}
 use Rattle.rhai_run.specs.Evaluating.{setting}
 use Rattle.rhai_run.proofs.Operands.{ArgsAt, OperandsAt, both_of, either_of, first_of}
 use Rattle.rhai_run.proofs.Maps.{MembersAt}
 use Rattle.rhai_run.proofs.Statements.{StmtsAt}
-use Rattle.rhai_reading.specs.Reading.{expr_of, exprs_of, maybe_of, pairs_of, stmt_of, stmts_of}
+use Rattle.rhai_values.specs.Reading.{value_of}
+use Rattle.rhai_reading.specs.Reading.{arms_of, cases_of, counter_of, expr_of, exprs_of, expressions_of, maybe_of, pairs_of, range_of, stmt_of, stmts_of, subject_of}
 use Rattle.rhai_meaning.specs.Walk.{over_maybe, over_pairs, total}
 use Rattle.rhai_meaning.specs.Weight.{expr_weight, exprs_weight, own_weight, stmt_weight, weight}
-use Rattle.rhai_meaning.specs.Control.{round}
+use Rattle.rhai_meaning.specs.Control.{round, size}
 use Rattle.rhai_run.specs.Evaluating.{body_of, expr_core}
 use Rattle.rhai_run.proofs.Loops.{do_round, guarded_round}
 use Rattle.rhai_run.proofs.Rounds.{LoopAt}
+use Rattle.rhai_run.proofs.Counted.{CountAt, EachAt}
+use Rattle.rhai_run.proofs.Switches.{PlacesAt, RangesAt}
+use Rattle.rhai_run.proofs.Weights.{arms_weight}
 use Rattle.rhai_run.proofs.plain.evaluator.Evaluator.+evaluate.Given as goal
 
 -- each part of a node weighs less than the node
@@ -88,7 +92,68 @@ decreases-repeated g l = 9 * (expr_weight (expr_of l.flow.now.expr) + weight (st
 abbrev pub decreases-do_loop : goal.decreases-do_loop
 decreases-do_loop g l = 9 * (expr_weight (expr_of l.flow.now.expr) + weight (stmts_of l.flow.now.body.block)) + 6
 
+abbrev pub decreases-switch : goal.decreases-switch
+decreases-switch g l = 9 * (expr_weight (expr_of (subject_of l.block.now)) + arms_weight (arms_of (expressions_of (cases_of l.block.now)))) + 20
+
+abbrev pub decreases-choose : goal.decreases-choose
+decreases-choose g l = 9 * arms_weight (arms_of (expressions_of l.table.now)) + 9
+
+abbrev pub decreases-chosen_arm : goal.decreases-chosen_arm
+decreases-chosen_arm g l = 9 * arms_weight (arms_of (expressions_of l.table.now)) + 8
+
+abbrev pub decreases-first_arm : goal.decreases-first_arm
+decreases-first_arm g l = 9 * arms_weight (arms_of l.arms.now) + 6
+
+abbrev pub decreases-first_range : goal.decreases-first_range
+decreases-first_range g l = 9 * arms_weight (arms_of l.arms.now) + 7
+
+abbrev pub decreases-range_arm : goal.decreases-range_arm
+decreases-range_arm g l = 9 * arms_weight (arms_of l.arms.now) + 6
+
+abbrev pub decreases-arm : goal.decreases-arm
+decreases-arm g l = 9 * arms_weight (arms_of l.arms.now) + 5
+
+abbrev pub decreases-default_arm : goal.decreases-default_arm
+decreases-default_arm g l = 9 * arms_weight (arms_of l.arms.now) + 5
+
+abbrev pub decreases-for_loop : goal.decreases-for_loop
+decreases-for_loop g l = 9 * (expr_weight (expr_of l.parts.now.2.expr) + weight (stmts_of l.parts.now.2.body.block)) + 9
+
+abbrev pub decreases-for_each : goal.decreases-for_each
+decreases-for_each g l = 9 * weight (stmts_of l.parts.now.2.body.block) + 7
+
+abbrev pub decreases-for_count : goal.decreases-for_count
+decreases-for_count g l = 9 * weight (stmts_of l.parts.now.2.body.block) + 7
+
+abbrev pub decreases-for_round : goal.decreases-for_round
+decreases-for_round g l = 9 * weight (stmts_of l.parts.now.2.body.block) + 6
+
+abbrev pub decreases-for_body : goal.decreases-for_body
+decreases-for_body g l = 9 * weight (stmts_of l.parts.now.2.body.block) + 5
+
 -- the loops
+abbrev pub invariant-first_arm-loop-place : goal.invariant-first_arm-loop-place
+invariant-first_arm-loop-place g l = PlacesAt (setting g.H.Host.answers g.H.Host.modules l.self) l.self.in_loop l.arms l.places (drop l.place-index l.places) l.initial.state l.state
+
+abbrev pub invariant-first_range-loop-range : goal.invariant-first_range-loop-range
+invariant-first_range-loop-range g l = RangesAt (setting g.H.Host.answers g.H.Host.modules l.self) l.self.in_loop l.arms (value_of l.subject) (map range_of l.ranges) (map range_of (drop l.range-index l.ranges)) l.initial.state l.state
+
+abbrev pub invariant-for_each-loop-item : goal.invariant-for_each-loop-item
+invariant-for_each-loop-item g l =
+    let here = setting g.H.Host.answers g.H.Host.modules l.self in
+    EachAt here l.parts.0.name (counter_of l.parts.1) (body_of here (stmts_of l.parts.2.body.block)) l.fn.items l.rest l.count l.initial.state l.state
+
+abbrev pub decreases-for_each-loop-item : goal.decreases-for_each-loop-item
+decreases-for_each-loop-item g l = length l.rest
+
+abbrev pub invariant-for_count-loop-current : goal.invariant-for_count-loop-current
+invariant-for_count-loop-current g l =
+    let here = setting g.H.Host.answers g.H.Host.modules l.self in
+    CountAt here l.parts.0.name (counter_of l.parts.1) (body_of here (stmts_of l.parts.2.body.block)) l.first l.end l.current l.count l.initial.state l.state
+
+abbrev pub decreases-for_count-loop-current : goal.decreases-for_count-loop-current
+decreases-for_count-loop-current g l = size (l.end -ℤ l.current)
+
 abbrev pub invariant-exprs-loop-expr : goal.invariant-exprs-loop-expr
 invariant-exprs-loop-expr g l = ArgsAt (setting g.H.Host.answers g.H.Host.modules l.self) l.self.in_loop l.exprs (drop l.expr-index l.exprs) l.initial.state l.values l.state
 

@@ -2,12 +2,12 @@
 
 #![tactic(auto, using(rhai_reading::specs::Reading::shapes, rhai_values::specs::Reading::kinds))]
 
-ghost use Rattle.std.specs.Prelude.{◌≡◌, None, cond, map, slice_get};
+ghost use Rattle.std.specs.Prelude.{◌≡◌, [], ◌∷◌, None, cond, map, slice_get};
 ghost use Rattle.std.specs.Option.{option_copied, option_map};
 ghost use Rattle.rhai_reading.specs.Reading.{arms_of, cases_of, expr_of, expressions_of, range_of, subject_of, table_of};
 ghost use Rattle.rhai_values.specs.Reading.{value_of};
 ghost use Rattle.rhai_values.specs.Value.{is_hashable};
-ghost use Rattle.rhai_meaning.specs.Control.{case_for, default_of, ranges_with, switch_on};
+ghost use Rattle.rhai_meaning.specs.Control.{case_for, chosen, default_of, ranges_with, switch_on};
 ghost use Rattle.rhai_meaning.specs.Desugar.{core_stmt};
 ghost use Rattle.rhai_meaning.specs.Tree as tree;
 ghost use Rattle.rhai_run.specs.Covered.{covered_stmt};
@@ -20,7 +20,7 @@ use crate::plain::values::truth;
 use crate::{Host, Stuck};
 use rhai_ast::{BinaryExpr, CaseBlocksList, SwitchBlock, SwitchCasesCollection};
 use rhai_base::{Dynamic, RangeCase};
-use rhai_faults::is_table;
+use rhai_queries::is_table;
 
 impl<'a, H: Host> Evaluator<'a, H> {
     /// The first arm in the subject's list, or else in its ranges, whose condition holds; else the default. One with a table
@@ -45,14 +45,26 @@ impl<'a, H: Host> Evaluator<'a, H> {
     ) -> Result<Dynamic, Interrupt>
         ensures { let here = setting H.answers H.modules self.now in Runs here (Acting (switch_on (arms_here here self.now.in_loop (arms_of (expressions_of table.now))) (table_of table.now) (value_of subject.now))) state.old result state.new }
     {
-        let arms = table.expressions.as_slice();
-        let found = match case_list(table, subject) {
-            Some(list) => self.first_arm(state, arms, list.blocks.as_slice())?,
-            None => self.first_range(state, arms, table.ranges.as_slice(), subject)?,
-        };
-        match found {
+        match self.chosen_arm(state, table, subject)? {
             Some(value) => Ok(value),
-            None => self.default_arm(state, arms, table.def_case),
+            None => self.default_arm(state, table.expressions.as_slice(), table.def_case),
+        }
+    }
+
+    /// The answer of an arm of the subject's list, or of its ranges where it has no list; `None` where no condition holds.
+    #[cycle(evaluate)]
+    fn chosen_arm(
+        &self,
+        state: &mut State,
+        table: &SwitchCasesCollection,
+        subject: &Dynamic,
+    ) -> Result<Option<Dynamic>, Interrupt>
+        ensures { let here = setting H.answers H.modules self.now in RunsFirstArm here (arms_here here self.now.in_loop (arms_of (expressions_of table.now))) (chosen (table_of table.now) (value_of subject.now)) state.old result state.new }
+    {
+        let arms = table.expressions.as_slice();
+        match case_list(table, subject) {
+            Some(list) => self.first_arm(state, arms, list.blocks.as_slice()),
+            None => self.first_range(state, arms, table.ranges.as_slice(), subject),
         }
     }
 
@@ -86,13 +98,29 @@ impl<'a, H: Host> Evaluator<'a, H> {
         ensures { let here = setting H.answers H.modules self.now in RunsFirstArm here (arms_here here self.now.in_loop (arms_of arms.now)) (ranges_with (map range_of ranges.now) (value_of subject.now)) state.old result state.new }
     {
         for range in ranges {
-            if range.contains(subject) {
-                if let Some(value) = self.arm(state, arms, range.index())? {
-                    return Ok(Some(value));
-                }
+            if let Some(value) = self.range_arm(state, arms, range, subject)? {
+                return Ok(Some(value));
             }
         }
         Ok(None)
+    }
+
+    /// The answer of a range's arm, where the range holds the subject and the arm's condition holds.
+    #[cycle(evaluate)]
+    fn range_arm(
+        &self,
+        state: &mut State,
+        arms: &[BinaryExpr],
+        range: &RangeCase,
+        subject: &Dynamic,
+    ) -> Result<Option<Dynamic>, Interrupt>
+        ensures { let here = setting H.answers H.modules self.now in RunsFirstArm here (arms_here here self.now.in_loop (arms_of arms.now)) (ranges_with (range_of range.now ∷ []) (value_of subject.now)) state.old result state.new }
+    {
+        if range.contains(subject) {
+            self.arm(state, arms, range.index())
+        } else {
+            Ok(None)
+        }
     }
 
     /// The answer of an arm whose condition holds; `None` where it does not, or where there is no such arm.

@@ -2,7 +2,7 @@
 
 #![tactic(auto, using(rhai_reading::specs::Reading::shapes, rhai_values::specs::Reading::kinds))]
 
-ghost use Rattle.std.specs.Prelude.{◌≡◌, ◌^◌, ◌≤ℤ◌, ◌-ℤ◌, pos, suc, map};
+ghost use Rattle.std.specs.Prelude.{◌≡◌, true, false, ◌^◌, ◌≤ℤ◌, ◌-ℤ◌, pos, suc, map};
 ghost use Rattle.rhai_reading.specs.Reading.{counter_of, expr_of, stmts_of};
 ghost use Rattle.rhai_values.specs.Reading.{value_of};
 ghost use Rattle.rhai_meaning.specs.Act.{Named};
@@ -55,7 +55,8 @@ impl<'a, H: Host> Evaluator<'a, H> {
         ensures { let here = setting H.answers H.modules self.now in Runs here (Acting (for_each parts.now.0.name (counter_of parts.now.1) (body_of here (stmts_of parts.now.2.body.block)) 0 (map value_of items))) state.old result state.new }
     {
         let mut count = Some(0);
-        for item in items.into_vec() {
+        let mut rest = items.into_rest();
+        while let Some(item) = rest.next() {
             if let Some(value) = self.for_round(state, parts, count, item)? {
                 return Ok(value);
             }
