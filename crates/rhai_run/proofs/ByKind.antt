@@ -9,22 +9,26 @@ use Rattle.rhai_parts.specs.declared.ident.Ident.{Ident}
 use Rattle.rhai_tree.specs.declared.expr.Expr.{Expr}
 use Rattle.rhai_tree.specs.declared.expr.Expr.TheVariants as expr_kind
 use Rattle.rhai_tree.specs.declared.expr.FnCallExpr.{FnCallExpr}
+use Rattle.rhai_tree.specs.declared.expr.BinaryExpr.{BinaryExpr}
+use Rattle.rhai_parts.specs.declared.flags.ASTFlags.{ASTFlags}
 use Rattle.rhai_tree.specs.declared.block.StmtBlock.{StmtBlock}
 use Rattle.rhai_tree.specs.declared.stmt.FlowControl.{FlowControl}
 use Rattle.rhai_tree.specs.declared.stmt.Stmt.{Stmt}
 use Rattle.rhai_tree.specs.declared.stmt.Stmt.TheVariants as stmt_kind
 use Rattle.rhai_tree.specs.declared.switch.SwitchBlock.{SwitchBlock}
-use Rattle.rhai_reading.specs.Reading.{arms_of, callee_of, cases_of, counter_of, expr_of, expr_of-Array, expr_of-FnCall, expr_of-InterpolatedString, expr_of-Map, expr_of-Stmt, exprs_of, expressions_of, keys_of, pairs_of, stmt_of, stmt_of-Block, stmt_of-FnCall, stmt_of-For, stmt_of-If, stmt_of-Switch, stmts_of, subject_of, table_of}
+use Rattle.rhai_reading.specs.Reading.{arms_of, callee_of, cases_of, counter_of, expr_of, chain_flags, expr_of-Array, expr_of-Dot, expr_of-FnCall, expr_of-Index, expr_of-InterpolatedString, expr_of-Map, expr_of-MethodCall, expr_of-Property, expr_of-Stmt, exprs_of, expressions_of, keys_of, pairs_of, property_names, stmt_of, stmt_of-Block, stmt_of-FnCall, stmt_of-For, stmt_of-If, stmt_of-Switch, stmts_of, subject_of, table_of}
 use Rattle.rhai_meaning.specs.Control.{texts_joined}
 use Rattle.rhai_meaning.specs.Core as core
 use Rattle.rhai_meaning.specs.Desugar.{core_expr, core_stmt}
 use Rattle.rhai_meaning.specs.Tree as tree
 use Rattle.rhai_run.specs.declared.plain.state.Interrupt.{Interrupt}
+use Rattle.rhai_run.specs.declared.plain.state.Interrupt.TheVariants.{Stuck}
+use Rattle.rhai_run.specs.declared.report.Stuck.TheVariants as why
 use Rattle.rhai_run.specs.declared.plain.state.State.{State}
 use Rattle.rhai_run.specs.Covered.{covered_expr, covered_stmt}
 use Rattle.rhai_run.specs.Evaluating.{expr_core, stmts_core, RunsBlock, RunsCall, RunsCore, RunsDeed, RunsExpr, RunsExprs, RunsLine, RunsStmt}
 use Rattle.rhai_run.specs.Runs.{Setting}
-use Rattle.rhai_run.proofs.Nodes.{array_runs, block_line, call_line, for_line, if_line, string_runs}
+use Rattle.rhai_run.proofs.Nodes.{array_runs, block_line, call_line, dot_ill, for_line, if_line, index_ill, method_ill, property_ill, string_runs}
 
 module _ (here : Setting) (loop : Bool) (s s1 : State) where
   module _ (x : Expr) where
@@ -45,6 +49,21 @@ module _ (here : Setting) (loop : Bool) (s s1 : State) where
 
     pub map_of_expr : (m got : List (Ident × Expr) × List (Text × Dynamic)) (p : Position) (r : Result Dynamic Interrupt) → x ≡ expr_kind.Map m p → got ≡ m → RunsCore here (covered_expr (core_expr loop (tree.MapOf (pairs_of got.0) (keys_of got.1)))) s r s1 → RunsExpr here loop (expr_of x) s r s1
     map_of_expr m got p r h k q = expr_as (tree.MapOf (pairs_of m.0) (keys_of m.1)) r (ap expr_of h ∙ expr_of-Map m p) (subst (λ (d : List (Ident × Expr) × List (Text × Dynamic)). RunsCore here (covered_expr (core_expr loop (tree.MapOf (pairs_of d.0) (keys_of d.1)))) s r s1) k q)
+
+    ill_as : (e : tree.Expr) → expr_of x ≡ e → RunsExpr here loop e s (Err (Stuck why.WrongKind)) s → RunsExpr here loop (expr_of x) s (Err (Stuck why.WrongKind)) s
+    ill_as e h q = subst (λ y. RunsExpr here loop y s (Err (Stuck why.WrongKind)) s) (sym h) q
+
+    pub property_of_expr : (p : Text × Text × Text) (q : Position) → x ≡ expr_kind.Property p q → RunsExpr here loop (expr_of x) s (Err (Stuck why.WrongKind)) s
+    property_of_expr p q h = ill_as (tree.Property (property_names p)) (ap expr_of h ∙ expr_of-Property p q) (property_ill here loop (property_names p) s)
+
+    pub method_of_expr : (c : FnCallExpr) (q : Position) → x ≡ expr_kind.MethodCall c q → RunsExpr here loop (expr_of x) s (Err (Stuck why.WrongKind)) s
+    method_of_expr c q h = ill_as (tree.MethodCall (callee_of c) (exprs_of c.args)) (ap expr_of h ∙ expr_of-MethodCall c q) (method_ill here loop (callee_of c) (exprs_of c.args) s)
+
+    pub dot_of_expr : (b : BinaryExpr) (k : ASTFlags) (q : Position) → x ≡ expr_kind.Dot b k q → RunsExpr here loop (expr_of x) s (Err (Stuck why.WrongKind)) s
+    dot_of_expr b k q h = ill_as (tree.Dot (chain_flags k) (expr_of b.lhs) (expr_of b.rhs)) (ap expr_of h ∙ expr_of-Dot b k q) (dot_ill here loop (chain_flags k) (expr_of b.lhs) (expr_of b.rhs) s)
+
+    pub index_of_expr : (b : BinaryExpr) (k : ASTFlags) (q : Position) → x ≡ expr_kind.Index b k q → RunsExpr here loop (expr_of x) s (Err (Stuck why.WrongKind)) s
+    index_of_expr b k q h = ill_as (tree.Index (chain_flags k) (expr_of b.lhs) (expr_of b.rhs)) (ap expr_of h ∙ expr_of-Index b k q) (index_ill here loop (chain_flags k) (expr_of b.lhs) (expr_of b.rhs) s)
 
   module _ (x : Stmt) (r : Result Dynamic Interrupt) where
     stmt_as : (l : tree.Stmt) → stmt_of x ≡ l → RunsStmt here loop l s r s1 → RunsStmt here loop (stmt_of x) s r s1

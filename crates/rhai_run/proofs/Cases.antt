@@ -21,8 +21,8 @@ equal_is x y =
 pub listed_is : (es : List (Dynamic × CaseBlocksList)) (x : Dynamic) → option_map (λ l. l.blocks) (lookup (equal x) es) ≡ case_for (map case_of es) (value_of x)
 listed_is [] x = refl
 listed_is (e ∷ es) x =
-    by (equal x e.0) ∙ ap (λ b. cond b (Some e.1.blocks) (case_for (map case_of es) (value_of x))) (equal_is x e.0)
+    by (equal x e.0) (listed_is es x) ∙ ap (λ b. cond b (Some e.1.blocks) (case_for (map case_of es) (value_of x))) (equal_is x e.0)
   where
-    by : (b : Bool) → option_map (λ l. l.blocks) (if b then Some e.1 else lookup (equal x) es) ≡ cond b (Some e.1.blocks) (case_for (map case_of es) (value_of x))
-    by true = refl
-    by false = listed_is es x
+    by : (b : Bool) → option_map (λ l. l.blocks) (lookup (equal x) es) ≡ case_for (map case_of es) (value_of x) → option_map (λ l. l.blocks) (if b then Some e.1 else lookup (equal x) es) ≡ cond b (Some e.1.blocks) (case_for (map case_of es) (value_of x))
+    by true h = refl
+    by false h = h

@@ -1,6 +1,7 @@
 -- The arms of a `switch`, one after another.
-use Rattle.std.proofs.Common.{◌≡◌, ℕ, zero, suc, ◌+◌, ◌<◌, Bool, true, false, ◌&&◌, cond, List, [], ◌∷◌, map, length, drop, get_or, Option, Some, None, Result, Ok, Err, refl, sym, ap, ◌∙◌, subst, arith, if◌then◌else◌}
-use Rattle.std.specs.Prelude.{option_map, slice_get}
+use Rattle.std.proofs.Common.{◌≡◌, ℕ, zero, suc, ◌+◌, ◌<◌, ◌≤◌, Bool, true, false, ◌&&◌, cond, List, [], ◌∷◌, map, length, drop, get_or, Option, Some, None, Result, Ok, Err, refl, sym, ap, ◌∙◌, subst, arith, if◌then◌else◌}
+use Rattle.std.specs.Prelude.{nat_lt, option_map, pos, slice_get}
+use Rattle.std.proofs.lemmas.Bool.Decides.{nat_tests}
 use Rattle.std.proofs.lemmas.List.{drop_more}
 use Rattle.rhai_values.specs.declared.dynamic.Dynamic.{Dynamic}
 use Rattle.rhai_values.specs.declared.dynamic.Dynamic.TheVariants as value
@@ -8,6 +9,7 @@ use Rattle.rhai_values.specs.Reading.{value_of, value_of-Unit}
 use Rattle.rhai_values.specs.Value.{Value, IntV, is_hashable}
 use Rattle.rhai_tree.specs.declared.expr.BinaryExpr.{BinaryExpr}
 use Rattle.rhai_base.specs.declared.range_case.RangeCase.{RangeCase}
+use Rattle.rhai_base.specs.declared.range_case.RangeCase.TheVariants as range_kind
 use Rattle.rhai_reading.specs.Reading.{arms_of, expr_of, range_of}
 use Rattle.rhai_meaning.specs.Act.{Act}
 use Rattle.rhai_meaning.specs.ActForms.{choose, if_true, truth, unit, ◌>>=◌}
@@ -205,8 +207,32 @@ module _ (here : Setting) where
 
 -- ---- items of lists
 
-pub place_here : (places : List ℕ) (i : ℕ) (p : ℕ) → i < length places → p ≡ get_or places i p → drop i places ≡ p ∷ drop (i + 1) places
-place_here places i p h is = drop_more places i p h ∙ ap (λ y. y ∷ drop (i + 1) places) (sym is)
+-- what stands where no range does
+abbrev pub no_range : RangeCase
+no_range = range_kind.ExclusiveInt (record { start = pos 0; end = pos 0 }) 0
 
-pub range_at : (ranges : List RangeCase) (i : ℕ) (r : RangeCase) → i < length ranges → r ≡ get_or ranges i r → map range_of (drop i ranges) ≡ range_of r ∷ map range_of (drop (i + 1) ranges)
-range_at ranges i r h is = ap (map range_of) (drop_more ranges i r h ∙ ap (λ y. y ∷ drop (i + 1) ranges) (sym is))
+pub range_at : (ranges : List RangeCase) (i : ℕ) → i < length ranges → map range_of (drop i ranges) ≡ range_of (get_or ranges i no_range) ∷ map range_of (drop (i + 1) ranges)
+range_at ranges i h = ap (map range_of) (drop_more ranges i no_range h)
+
+below : (i n : ℕ) → true ≡ nat_lt i n → i < n
+below i n h = grind (arith, nat_tests)
+
+past : (i n : ℕ) → false ≡ nat_lt i n → n ≤ i
+past i n h = grind (arith, nat_tests)
+
+there : (bs : List BinaryExpr) (i : ℕ) (b : BinaryExpr) → i < length bs → b ≡ get_or bs i b → Some b ≡ slice_get bs i
+there [] i b h e = absurd (omega (arith, h))
+there (c ∷ bs) zero b h e = ap Some e
+there (c ∷ bs) (suc i) b h e = there bs i b (omega (arith, h)) e
+
+not_there : (bs : List BinaryExpr) (i : ℕ) → length bs ≤ i → None ≡ slice_get bs i
+not_there [] zero h = refl
+not_there [] (suc i) h = refl
+not_there (c ∷ bs) zero h = absurd (omega (arith, h))
+not_there (c ∷ bs) (suc i) h = not_there bs i (omega (arith, h))
+
+pub arm_there : (bs : List BinaryExpr) (i : ℕ) (b : BinaryExpr) → true ≡ nat_lt i (length bs) → b ≡ get_or bs i b → Some b ≡ slice_get bs i
+arm_there bs i b h e = there bs i b (below i (length bs) h) e
+
+pub arm_past : (bs : List BinaryExpr) (i : ℕ) → false ≡ nat_lt i (length bs) → None ≡ slice_get bs i
+arm_past bs i h = not_there bs i (past i (length bs) h)

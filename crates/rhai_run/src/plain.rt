@@ -34,8 +34,8 @@ use rhai_script::AST;
 use std::alloc::Global;
 
 /// Runs a script's statements from a scope, with so many turns. It only borrows the script, and shares nothing with
-/// the optimiser. So far only operators are called: a call of a function is stuck as one of the wrong kind, before
-/// its arguments are run. No part of the language takes a turn yet.
+/// the optimiser. So far it runs all but chains and calls by a name, which are stuck as parts of the wrong kind, a call
+/// before its arguments are run.
 ///
 /// The report is that of the run with every host that answers the reported calls as this one did: nothing else of the
 /// host is asked.

@@ -2,9 +2,10 @@
 
 #![tactic(auto, using(rhai_reading::specs::Reading::shapes, rhai_values::specs::Reading::kinds))]
 
-ghost use Rattle.std.specs.Prelude.{◌≡◌, true, false, ◌^◌, ◌≤ℤ◌, ◌-ℤ◌, pos, suc, map};
+ghost use Rattle.std.specs.Prelude.{◌≡◌, true, false, ◌^◌, ◌≤ℤ◌, ◌<ℤ◌, ◌+ℤ◌, ◌-ℤ◌, pos, suc, map};
 ghost use Rattle.rhai_reading.specs.Reading.{counter_of, expr_of, stmts_of};
 ghost use Rattle.rhai_values.specs.Reading.{value_of};
+ghost use Rattle.rhai_values.specs.declared.dynamic.Dynamic.TheVariants as value;
 ghost use Rattle.rhai_meaning.specs.Act.{Named};
 ghost use Rattle.rhai_meaning.specs.Control.{counted, for_count, for_each, size};
 ghost use Rattle.rhai_meaning.specs.Core.{For};
@@ -31,9 +32,11 @@ impl<'a, H: Host> Evaluator<'a, H> {
     {
         match self.expr(state, &parts.2.expr)? {
             Dynamic::Array(items) => self.for_each(state, parts, items),
-            Dynamic::Range(from, to) => self.for_count(state, parts, from, i128::from(to)),
+            Dynamic::Range(from, to) => {
+                self.for_count(state, parts, from, rounds_before(from, to))
+            }
             Dynamic::RangeInclusive(from, to) => {
-                self.for_count(state, parts, from, i128::from(to) + 1)
+                self.for_count(state, parts, from, rounds_through(from, to))
             }
             Dynamic::Unit
             | Dynamic::Bool(_)
@@ -65,27 +68,25 @@ impl<'a, H: Host> Evaluator<'a, H> {
         Ok(Dynamic::Unit)
     }
 
-    /// From the first integer to before the end.
+    /// So many integers, from the first one on.
     #[cycle(evaluate)]
     fn for_count(
         &self,
         state: &mut State,
         parts: &(Ident, Option<Ident>, FlowControl),
         first: i64,
-        end: i128,
+        rounds: u128,
     ) -> Result<Dynamic, Interrupt>
-        requires { end ≤ℤ pos (2 ^ 63) }
-        ensures { let here = setting H.answers H.modules self.now in Runs here (Acting (for_count parts.now.0.name (counter_of parts.now.1) (body_of here (stmts_of parts.now.2.body.block)) 0 first (size (end -ℤ first)))) state.old result state.new }
+        requires { (first +ℤ pos rounds) ≤ℤ pos (2 ^ 63) }
+        ensures { let here = setting H.answers H.modules self.now in Runs here (Acting (for_count parts.now.0.name (counter_of parts.now.1) (body_of here (stmts_of parts.now.2.body.block)) 0 first rounds)) state.old result state.new }
     {
         let mut count = Some(0);
-        let mut current = i128::from(first);
-        while current < end {
-            let item = Dynamic::Int(current as i64);
+        for index in 0..rounds {
+            let item = nth(first, index);
             if let Some(value) = self.for_round(state, parts, count, item)? {
                 return Ok(value);
             }
             count = next_count(count);
-            current += 1;
         }
         Ok(Dynamic::Unit)
     }
@@ -124,6 +125,36 @@ impl<'a, H: Host> Evaluator<'a, H> {
         state.declare(&name.name, false, item)?;
         self.inside_loop().statements(state, flow.body.statements())
     }
+}
+
+/// How many integers there are from one to before another.
+fn rounds_before(from: i64, end: i64) -> u128
+    ensures size { result ≡ size (end -ℤ from) }
+    ensures within { (from +ℤ pos result) ≤ℤ pos (2 ^ 63) }
+{
+    if end <= from {
+        return 0;
+    }
+    (i128::from(end) - i128::from(from)) as u128
+}
+
+/// How many integers there are from one to another.
+fn rounds_through(from: i64, last: i64) -> u128
+    ensures size { result ≡ size (last +ℤ pos 1 -ℤ from) }
+    ensures within { (from +ℤ pos result) ≤ℤ pos (2 ^ 63) }
+{
+    if last < from {
+        return 0;
+    }
+    (i128::from(last) - i128::from(from) + 1) as u128
+}
+
+/// The integer that is so far behind the first one.
+fn nth(first: i64, index: u128) -> Dynamic
+    requires { (first +ℤ pos index) <ℤ pos (2 ^ 63) }
+    ensures { result ≡ value.Int (first +ℤ pos index) }
+{
+    Dynamic::Int((i128::from(first) + index as i128) as i64)
 }
 
 /// The count under the counter's name, if the loop has one; stuck where no integer is that large.

@@ -1,4 +1,4 @@
-use Rattle.std.proofs.Common.{◌+◌, ◌*◌, ◌-ℤ◌, drop, length, map}
+use Rattle.std.proofs.Common.{◌+◌, ◌*◌, drop, length, map}
 use Rattle.rhai_run.specs.Evaluating.{setting}
 use Rattle.rhai_run.proofs.Operands.{ArgsAt, OperandsAt, both_of, either_of, first_of}
 use Rattle.rhai_run.proofs.Maps.{MembersAt}
@@ -7,7 +7,7 @@ use Rattle.rhai_values.specs.Reading.{value_of}
 use Rattle.rhai_reading.specs.Reading.{arms_of, cases_of, counter_of, expr_of, exprs_of, expressions_of, maybe_of, pairs_of, range_of, stmt_of, stmts_of, subject_of}
 use Rattle.rhai_meaning.specs.Walk.{over_maybe, over_pairs, total}
 use Rattle.rhai_meaning.specs.Weight.{expr_weight, exprs_weight, own_weight, stmt_weight, weight}
-use Rattle.rhai_meaning.specs.Control.{round, size}
+use Rattle.rhai_meaning.specs.Control.{round}
 use Rattle.rhai_run.specs.Evaluating.{body_of, expr_core}
 use Rattle.rhai_run.proofs.Loops.{do_round, guarded_round}
 use Rattle.rhai_run.proofs.Rounds.{LoopAt}
@@ -146,13 +146,10 @@ invariant-for_each-loop-item g l =
 abbrev pub decreases-for_each-loop-item : goal.decreases-for_each-loop-item
 decreases-for_each-loop-item g l = length l.rest
 
-abbrev pub invariant-for_count-loop-current : goal.invariant-for_count-loop-current
-invariant-for_count-loop-current g l =
+abbrev pub invariant-for_count-loop-index : goal.invariant-for_count-loop-index
+invariant-for_count-loop-index g l =
     let here = setting g.H.Host.answers g.H.Host.modules l.self in
-    CountAt here l.parts.0.name (counter_of l.parts.1) (body_of here (stmts_of l.parts.2.body.block)) l.first l.end l.current l.count l.initial.state l.state
-
-abbrev pub decreases-for_count-loop-current : goal.decreases-for_count-loop-current
-decreases-for_count-loop-current g l = size (l.end -ℤ l.current)
+    CountAt here l.parts.0.name (counter_of l.parts.1) (body_of here (stmts_of l.parts.2.body.block)) l.first l.rounds l.index l.count l.initial.state l.state
 
 abbrev pub invariant-exprs-loop-expr : goal.invariant-exprs-loop-expr
 invariant-exprs-loop-expr g l = ArgsAt (setting g.H.Host.answers g.H.Host.modules l.self) l.self.in_loop l.exprs (drop l.expr-index l.exprs) l.initial.state l.values l.state
