@@ -1,6 +1,7 @@
 -- What parts weigh, where a function goes into one of them.
-use Rattle.std.proofs.Common.{◌≡◌, ℕ, zero, suc, ◌+◌, ◌<◌, ◌≤◌, List, [], ◌∷◌, length, get_or, Option, Some, None, sym, ap, subst, arith}
+use Rattle.std.proofs.Common.{◌≡◌, ℕ, zero, suc, ◌+◌, ◌*◌, ◌<◌, ◌≤◌, List, [], ◌∷◌, length, get_or, Option, Some, None, sym, ap, subst, arith}
 use Rattle.std.specs.Prelude.{slice_get, IfSome}
+use Rattle.std.proofs.lemmas.Nat.{mul-le}
 use Rattle.rhai_parts.specs.declared.ident.Ident.{Ident}
 use Rattle.rhai_tree.specs.declared.expr.BinaryExpr.{BinaryExpr}
 use Rattle.rhai_tree.specs.declared.expr.Expr.{Expr}
@@ -54,3 +55,15 @@ member_at (x ∷ xs) (suc i) d h = omega (arith, member_at xs i d (omega (arith,
 
 pub member_item : (xs : List (Ident × Expr)) (i : ℕ) (x : Ident × Expr) → i < length xs → x ≡ get_or xs i x → expr_weight (expr_of x.1) ≤ over_pairs (total own_weight) (pairs_of xs)
 member_item xs i x h is = subst (λ (y : Ident × Expr). expr_weight (expr_of y.1) ≤ over_pairs (total own_weight) (pairs_of xs)) (sym is) (member_at xs i x h)
+
+-- ---- calls that nest
+
+-- so much more weighs what stands so deep
+pub level : ℕ → ℕ → ℕ
+level depth bodies = depth * (9 * bodies + 20)
+
+pub level_falls : (depth less bodies body : ℕ) → less < depth → body ≤ bodies → level less bodies + 9 * body + 20 ≤ level depth bodies
+unfolding level
+level_falls depth less bodies body h w = omega (arith, mul-le (suc less) (9 * bodies + 20) depth (9 * bodies + 20) (omega (arith, h)) (omega arith), step less (9 * bodies + 20), w) where
+  step : (n m : ℕ) → suc n * m ≡ n * m + m
+  step n m = omega arith
