@@ -26,7 +26,7 @@ turned : (k l : Key) → same_key k l ≡ true → same_key l k ≡ same_key k l
 turned k l h = let e = same_key-true k l h in λ i. same_key (sym e i) (e i)
 
 swapped_by : (k l : Key) (c : Bool) → same_key l k ≡ c → same_key k l ≡ false → c ≡ false
-swapped_by k l true e h = sym (sym (turned l k e) ∙ e ∙ refl) ∙ h
+swapped_by k l true e h = sym (turned l k e ∙ e) ∙ h
 swapped_by k l false e h = refl
 
 swapped : (k l : Key) (b : Bool) → same_key k l ≡ b → same_key l k ≡ b

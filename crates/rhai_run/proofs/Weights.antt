@@ -1,7 +1,6 @@
 -- What parts weigh, where a function goes into one of them.
 use Rattle.std.proofs.Common.{◌≡◌, ℕ, zero, suc, ◌+◌, ◌*◌, ◌<◌, ◌≤◌, List, [], ◌∷◌, length, get_or, Option, Some, None, sym, ap, subst, arith}
 use Rattle.std.specs.Prelude.{slice_get, IfSome}
-use Rattle.std.proofs.lemmas.Nat.{mul-le}
 use Rattle.rhai_parts.specs.declared.ident.Ident.{Ident}
 use Rattle.rhai_tree.specs.declared.expr.BinaryExpr.{BinaryExpr}
 use Rattle.rhai_tree.specs.declared.expr.Expr.{Expr}
@@ -60,10 +59,17 @@ member_item xs i x h is = subst (λ (y : Ident × Expr). expr_weight (expr_of y.
 
 -- so much more weighs what stands so deep
 pub level : ℕ → ℕ → ℕ
-level depth bodies = depth * (9 * bodies + 20)
+level zero bodies = 0
+level (suc depth) bodies = level depth bodies + (9 * bodies + 20)
+
+level_up : (less depth bodies : ℕ) → less ≤ depth → level less bodies ≤ level depth bodies
+unfolding level
+level_up zero depth bodies h = omega arith
+level_up (suc less) zero bodies h = absurd (omega (arith, h))
+level_up (suc less) (suc depth) bodies h = omega (arith, level_up less depth bodies (omega (arith, h)))
 
 pub level_falls : (depth less bodies body : ℕ) → less < depth → body ≤ bodies → level less bodies + 9 * body + 20 ≤ level depth bodies
 unfolding level
-level_falls depth less bodies body h w = omega (arith, mul-le (suc less) (9 * bodies + 20) depth (9 * bodies + 20) (omega (arith, h)) (omega arith), step less (9 * bodies + 20), w) where
-  step : (n m : ℕ) → suc n * m ≡ n * m + m
-  step n m = omega arith
+level_falls depth less bodies body h w =
+    let up : level less bodies + (9 * bodies + 20) ≤ level depth bodies = level_up (suc less) depth bodies (omega (arith, h)) in
+    omega (arith, up, w)
