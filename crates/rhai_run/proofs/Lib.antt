@@ -1,6 +1,5 @@
 pub mod Values
 pub mod Optional
-pub mod Copied
 pub mod Forms
 pub mod Assigning
 pub mod Texts
@@ -27,7 +26,4 @@ pub mod Switches
 pub mod Weights
 pub mod Invoked
 pub mod Words
-pub mod Entering
-pub mod Known
-pub mod SmallRuns
 pub mod Whole

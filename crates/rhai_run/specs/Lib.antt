@@ -8,4 +8,3 @@ pub mod Variables
 pub mod Exits
 pub mod Operators
 pub mod Evaluating
-pub mod Words

@@ -9,7 +9,7 @@ ghost use Rattle.rhai_meaning.specs.Calls as calls;
 ghost use Rattle.rhai_run.specs.declared.plain.state.State.{State};
 ghost use Rattle.rhai_run.specs.Evaluating.{arm_then, setting};
 ghost use Rattle.rhai_run.specs.Runs.{Acting, Goes, Leads, Setting};
-ghost use Rattle.rhai_run.specs.Words.{calls_pointer, goes_to_host, word_meant, word_or};
+ghost use Rattle.rhai_run.specs.Words.{word_meant, word_or};
 
 use crate::Host;
 use crate::plain::evaluator::Evaluator;
@@ -50,20 +50,6 @@ impl Word {
             "call" => Word::Call,
             _ => Word::NoWord,
         }
-    }
-
-    /// Whether the host is asked, whatever functions the script has.
-    pub fn is_to_host(self) -> bool
-        ensures { result ≡ goes_to_host (word_meant self) }
-    {
-        matches!(self, Word::ToHost)
-    }
-
-    /// Whether it is `call`.
-    pub fn is_call(self) -> bool
-        ensures { result ≡ calls_pointer (word_meant self) }
-    {
-        matches!(self, Word::Call)
     }
 }
 

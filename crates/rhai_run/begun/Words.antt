@@ -1,5 +1,5 @@
 -- The language's own words, as the evaluator tells them apart.
-use Rattle.std.specs.Prelude.{Bool, true, false, List, [], ◌∷◌}
+use Rattle.std.specs.Prelude.{List, [], ◌∷◌, false}
 use Rattle.rhai_values.specs.Value.{Value, TextV, BoolV}
 use Rattle.rhai_meaning.specs.Act.{Act}
 use Rattle.rhai_meaning.specs.ActForms.{give}
@@ -24,11 +24,3 @@ word_or e calls.IsShared (v ∷ []) next = give (BoolV false)
 word_or e calls.Fn (v ∷ []) next = calls.pointer_to v
 word_or e calls.Curry (p ∷ vs) next = calls.curried p vs
 word_or e _ vs next = next
-
-abbrev pub goes_to_host : calls.Word → Bool
-goes_to_host calls.ToHost = true
-goes_to_host _ = false
-
-abbrev pub calls_pointer : calls.Word → Bool
-calls_pointer calls.CallFn = true
-calls_pointer _ = false

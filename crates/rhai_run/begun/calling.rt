@@ -11,10 +11,11 @@ ghost use Rattle.rhai_meaning.specs.Desugar.{callee_by};
 ghost use Rattle.rhai_meaning.specs.Shape as shape;
 ghost use Rattle.rhai_run.specs.Evaluating.{setting, Runs, RunsCall};
 ghost use Rattle.rhai_run.specs.Runs.{Acting};
+ghost use Rattle.rhai_run.specs.Words.{word_meant};
 
 use crate::plain::evaluator::Evaluator;
 use crate::plain::operators::operator_called;
-use crate::plain::pointers::pointed;
+use crate::plain::pointers::all_args;
 use crate::plain::state::{Interrupt, State};
 use crate::plain::variables::qualified;
 use crate::plain::words::Word;
@@ -43,8 +44,7 @@ impl<'a, H: Host> Evaluator<'a, H> {
         call: &FnCallExpr,
         args: Seq<Dynamic>,
     ) -> Result<Dynamic, Interrupt>
-        requires { shape.is_callable (callee_of call.now) (length call.now.args) ≡ true }
-        ensures { let here = setting H.answers H.modules self.now in Runs here (Acting (calls.called here.world (callee_by (callee_of call.now) (callee_of call.now).token) (map value_of args))) state.old result state.new }
+        ensures { let here = setting H.answers H.modules self.now in shape.is_callable (callee_of call.now) (length call.now.args) ≡ true → Runs here (Acting (calls.called here.world (callee_by (callee_of call.now) (callee_of call.now).token) (map value_of args))) state.old result state.new }
     {
         if let Some(op) = operator_called(call) {
             return self.operate(state, op, args);
@@ -68,16 +68,13 @@ impl<'a, H: Host> Evaluator<'a, H> {
     ) -> Result<Dynamic, Interrupt>
         ensures { let here = setting H.answers H.modules self.now in Runs here (Acting (calls.call_word here.world captures name.now (calls.word name.now) (map value_of args))) state.old result state.new }
     {
-        let word = Word::of(name.as_str());
-        if word.is_to_host() {
-            return self.ask_host(state, name.clone()?, args);
-        }
-        if word.is_call() {
-            return self.call_pointed(state, name, captures, args);
-        }
-        match self.word_value(word, args.as_slice())? {
-            Some(value) => Ok(value),
-            None => self.call_named(state, name, captures, args),
+        match Word::of(name.as_str()) {
+            Word::ToHost => self.ask_host(state, name.clone()?, args),
+            Word::Call => self.call_pointed(state, name, captures, args),
+            word => match self.word_value(word, args.as_slice())? {
+                Some(value) => Ok(value),
+                None => self.call_named(state, name, captures, args),
+            },
         }
     }
 
@@ -92,9 +89,14 @@ impl<'a, H: Host> Evaluator<'a, H> {
     ) -> Result<Dynamic, Interrupt>
         ensures { let here = setting H.answers H.modules self.now in Runs here (Acting (calls.call_word here.world captures name.now calls.CallFn (map value_of args))) state.old result state.new }
     {
-        match pointed(self.alloc, args.as_slice())? {
-            Some((function, all)) => self.call_named(state, &function, captures, all),
+        match args.as_slice().split_first() {
             None => self.call_named(state, name, captures, args),
+            Some((Dynamic::FnPtr(pointer), values)) => {
+                let args = all_args(self.alloc, pointer, values)?;
+                let name = ImmutableString::new(self.alloc, pointer.fn_name())?;
+                self.call_named(state, &name, captures, args)
+            }
+            Some(_) => Err(Interrupt::Stuck(Stuck::WrongKind)),
         }
     }
 }
