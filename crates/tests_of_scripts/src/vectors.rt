@@ -49,8 +49,9 @@ fn script(alloc: Global, text: &str) -> Result<AST, Unread> {
 /// Whether a script is printed as it was read, but for a blank where a list of arms is empty.
 fn is_printed_as_read(alloc: Global, text: &str) -> Result<bool, Unread> {
     let script = script(alloc, text)?;
-    let printed = text.replace(alloc, ":  |", ": |")?;
-    Ok(is_printed(alloc, &script, printed.as_str())?)
+    let last = text.replace(alloc, ":  |", ": |")?;
+    let every = last.as_str().replace(alloc, ": ,", ":,")?;
+    Ok(is_printed(alloc, &script, every.as_str())?)
 }
 
 #[test]

@@ -7,7 +7,7 @@ use crate::vectors::Run;
 const GIVEN: &str = "turns 3\nanswer f => ()\nanswer g => ()\nanswer 0 => 3 then 4\n";
 
 /// Those whose runs come to no chain and to no call by a name.
-pub const PLAIN: [Run; 13] = [
+pub const PLAIN: [Run; 15] = [
     (
         GIVEN,
         "let x = [1]\nfor y in x { x = [2, 3] }\nx\n",
@@ -17,6 +17,16 @@ pub const PLAIN: [Run; 13] = [
         GIVEN,
         "try { throw 1 } catch x { x = 2; throw }\n",
         "end: thrown 1\nturns left: 3\n",
+    ),
+    (
+        GIVEN,
+        "call(1)\n",
+        "end: stuck 2 WrongKind\nturns left: 3\n",
+    ),
+    (
+        GIVEN,
+        "let x = 1\nDot(x, eval(g()))\n",
+        "end: stuck 2 WrongKind\nturns left: 3\nvariable x = 1\n",
     ),
     (
         GIVEN,
@@ -76,7 +86,7 @@ pub const PLAIN: [Run; 13] = [
 ];
 
 /// Those whose runs come to one.
-pub const CALLING: [Run; 37] = [
+pub const CALLING: [Run; 35] = [
     (
         GIVEN,
         "let m = #{}\nDot(m, Dot(a, g()))\nm\nfn g() {}\n",
@@ -149,11 +159,6 @@ pub const CALLING: [Run; 37] = [
     ),
     (
         GIVEN,
-        "call(1)\n",
-        "end: stuck 2 WrongKind\nturns left: 3\n",
-    ),
-    (
-        GIVEN,
         "is_shared(f(), 2)\n",
         "end: value ()\nturns left: 3\ncall f()\ncall is_shared((), 2)\n",
     ),
@@ -171,11 +176,6 @@ pub const CALLING: [Run; 37] = [
         GIVEN,
         "Dot(Fn(\"g\"), call(1, 2))\nfn g(a, b) { this }\n",
         "end: stuck 6 UnboundThis\nturns left: 2\n",
-    ),
-    (
-        GIVEN,
-        "let x = 1\nDot(x, eval(g()))\n",
-        "end: stuck 2 WrongKind\nturns left: 3\nvariable x = 1\n",
     ),
     (
         GIVEN,

@@ -3,7 +3,12 @@
 use crate::vectors::Run;
 
 /// Those whose runs come to no chain and to no call by a name.
-pub const PLAIN: [Run; 9] = [
+pub const PLAIN: [Run; 19] = [
+    (
+        "turns 2\nvariable b = 9223372036854775806\noverride % i64 i64\noverride + () array\noverride /= char i64\noverride < range ()\noverride << i64\noverride << range=\noverride ^ ()\noverride | i64 i64\noverride |= i64 i64\nmodule ns::a = 5\nmodule ns::x = -1..1\nanswer 0 h => Fn(h) then 9223372036854775806\nanswer 1 h => -1\nanswer h => ()\nanswer 0 => ()\n",
+        "let c = <9223372036854775807>\nblock { while ==(64, \"é\") { block { let y = 7; print(k()) }; <'z'> }; for m in <1..1> { <false>; <Fn(g)>; 9223372036854775807 }; if { (); <'b'>; 0; true } { return false } else {} }\nfn k() { y }\n",
+        "end: value false\nturns left: 2\nvariable b = 9223372036854775806\nvariable c = 9223372036854775807\n",
+    ),
     (
         "turns 5\nvariable y = #{\"b\": -1, \"k\": 9223372036854775807}\nconstant b = 63\nvariable m = #{\"a\": -2, \"k\": 64}\noverride ! i64 i64\noverride ** i64 i64\noverride *= range=\noverride .. Fn\noverride /= string char\noverride <= i64\noverride ^= array char\noverride |= i64 ()\noverride |= i64 i64\ntype i64 as int\nmodule ns::a = 5\nmodule ns::x = 0..0\nanswer 0 h => Fn(h)\nanswer 1 h => ['a'] then ()\nanswer h => ()\nanswer 0 => 'é'\nanswer 1 => #{\"b\": 2} then false\nanswer 2 => [\"b\", -9223372036854775808, 'é'] then Fn(h)\nanswer 3 => ()\n",
         "let x = y\ndo { try { this += 1; throw } catch b { () } } until true\nfn k() { y }\n",
@@ -15,9 +20,24 @@ pub const PLAIN: [Run; 9] = [
         "end: value ()\nturns left: 0\nvariable y = Fn(g)\nvariable x = 'z'\nconstant a = 1\nvariable m = #{\"a\": ['a'], \"k\": 'a'}\ncall /=(1, 1)\n",
     ),
     (
+        "turns 2\nrecord x = Fn(h)\nrecord y = #{\"a\": false, \"b\": ()}\ntype i64 as int\nmodule ns::a = 5\nmodule ns::x = ()\nanswer 0 push => -2\nanswer 1 push => 2 then #{\"a\": true, \"b\": 63}\nanswer 2 push => () then [2, \"é\"]\nanswer 3 push => #{\"b\": \"ab\"}\nanswer 4 push => ()\nanswer push => ()\nanswer 0 => 'é'\nanswer 1 => #{\"b\": false, \"k\": 3}\nanswer 2 => 2 then #{}\nanswer 3 => false then 7\n",
+        "let b = -2\nconst a = 63\nconst y = \"a\"\nlet a = 'a'\nconst m = true\nconst b = m\nblock { if >(-9223372036854775808, 2) { call!(Fn(\"f\")) } else {}; let m = <-2..=-2>; while !=(b, true) { <Fn(f)> } }\nif >=(-1, -9223372036854775808) { a **= -9223372036854775808 } else {}\ndo { try { (); 'é'; false } catch b { (); -2 } } until { -2; 'b'; false }\nfn g() { c += ..=(b, <2>); const m = y; try { call f(m); let a = <true> } catch a { call f() } }\nfn g(a) {}\nfn h(a) {}\n",
+        "end: out of turns\nturns left: 0\nvariable b = -2\nconstant a = 63\nconstant y = \"a\"\nvariable a = 'é'\nconstant m = true\nconstant b = true\ncall **('a', -9223372036854775808)\n",
+    ),
+    (
+        "turns 10\nconstant y = 3..2\nconstant m = true\nrecord c = true\nrecord m = Fn(f)\noverride >> () i64\noverride >>= () i64\nmodule ns::a = 5\nmodule ns::x = #{\"b\": true}\n",
+        "const x = 9223372036854775806\nlet m = 'b'\nlet x = \"b\"\nconst m = ..((), 1)\nloop { break 'é'; call print(true); m >>= x; break }\nx = +(x, x)\n",
+        "end: value ()\nturns left: 9\nconstant y = 3..2\nconstant m = true\nconstant x = 9223372036854775806\nvariable m = 'b'\nvariable x = \"bb\"\nconstant m = 0..1\n",
+    ),
+    (
         "turns 2\nconstant m = \"ab\"\nvariable a = true\nrecord b = \"\"\nrecord a = \"a\"\ntype array as list\ntype map as object\nmodule ns::a = 5\nmodule ns::x = 3\nanswer 0 => true then 64\nanswer 1 => 'é'\n",
         "let y = <-2..-2>\nlet y = y\nlet x = true\nconst a = x\nswitch text(x) { \"\": , 'é': 2, true:  | -2..-1: 1, 2..=4: 2 | default - | true => [(), y, ()], true => ==((), ()), true => #{} }\nfn g() {}\nfn g(a) { block { const b = (); for (y, x) in <[3, \"ab\", ()]> { (); 63 } } }\n",
         "end: value ()\nturns left: 2\nconstant m = \"ab\"\nvariable a = true\nvariable y = -2..-2\nvariable y = -2..-2\nvariable x = true\nconstant a = true\n",
+    ),
+    (
+        "turns 3\noverride ** i64 i64\noverride - ()\noverride >>= () bool\ntype i64 as int\nmodule ns::a = 5\nmodule ns::x = 'b'\nanswer 0 f => ()\nanswer 1 f => \"b\"\nanswer f => ()\nanswer 0 + => Fn(g)\nanswer 1 + => ['z', ()]\nanswer 2 + => () then -9223372036854775808\nanswer 3 + => 3..2\nanswer + => ()\n",
+        "const a = ..((), 1)\nconst y = 63\nlet c = a\nlet c = ()\nconst a = 7\nif { false } { a = -2; if false { 'é'; -1 } else { (); \"\" } } else {}\nswitch 9223372036854775806 { 1: , true: , 0..3: 0 0 | 3..6: 0, 1..5: 0 | default 1 | true => [a, true], true => or(true, <=(-9223372036854775808, 9223372036854775806), false) }\nswitch () { 2: 0 | 0..=4: 0 | default 1 | #{a: 'é'} => curry('a', false), true => coalesce(c) }\n",
+        "end: value ()\nturns left: 3\nconstant a = 0..1\nconstant y = 63\nvariable c = 0..1\nvariable c = ()\nconstant a = 7\n",
     ),
     (
         "turns 5\nvariable m = \"f\"\nrecord x = #{\"a\": false}\noverride **= i64 i64\noverride << bool\noverride == i64 i64\ntype i64 as int\nfast operators\nmodule ns::a = 5\nmodule ns::x = 2..4\n",
@@ -28,6 +48,11 @@ pub const PLAIN: [Run; 9] = [
         "turns 3\nconstant x = 'a'\nconstant x = 'a'\nrecord c = 'é'\nmodule ns::a = 5\nmodule ns::x = #{}\nanswer 0 + => #{} then []\nanswer 1 + => [\"\"]\nanswer 2 + => #{\"a\": 64, \"b\": -1}\nanswer + => ()\nanswer 0 => -9223372036854775808 then 3..=3\nanswer 1 => Fn(f) then 7\nanswer 2 => #{}\nanswer 3 => #{\"a\": -9223372036854775808, \"k\": \"a\"}\n",
         "const x = \"f\"\nlet m = true\nlet m = ()\nlet x = ()\nlet m = ()\nx = +(x, coalesce(x))\nif { 'a'; 'b'; true } { x &= m; if !=(<63>, ()) { false } else { true } } else {}\nblock { try {} catch b { \"\"; <'z'>; () }; try { \"ab\"; (); throw } catch {} }\nfn g() {}\n",
         "end: value ()\nturns left: 3\nconstant x = 'a'\nconstant x = 'a'\nconstant x = \"f\"\nvariable m = true\nvariable m = ()\nvariable x = Fn(f)\nvariable m = ()\ncall +((), ())\ncall &(#{}, ())\n",
+    ),
+    (
+        "turns 3\nvariable c = 3..=5\ntype i64 as int\nfast operators\nmodule ns::a = 5\nmodule ns::x = \"b\"\nanswer 0 => \"ab\" then [(), \"a\", ()]\nanswer 1 => 9223372036854775806 then #{\"a\": \"\", \"b\": ()}\nanswer 2 => \"f\"\nanswer 3 => throw 9223372036854775806\nanswer 4 => -9223372036854775808\n",
+        "let m = false\nlet y = ()\nloop { const y = (); try { true } catch { 3; 0 }; try { \"ab\" } catch { 1; block { let y = 7; print(k!()) }; 0 }; break \"a\" }\nif { (); \"\"; false } { switch y { \"f\": , -2..1: , 'z': 1 | -2..=0: 3 | default 4 | true => y, true => \"ab\", true => m, true => m, true => m }; const m = true; if ==(m, m) { (); <\"b\"> } else {} } else {}\nfn k() { y }\n",
+        "end: value ()\nturns left: 2\nvariable c = 3..=5\nvariable m = false\nvariable y = ()\n",
     ),
     (
         "turns 5\nconstant a = \"f\"\nvariable c = [(), -9223372036854775808, ()]\nvariable a = Fn(f)\nrecord x = 'z'\ntype array as list\ntype map as object\nfast operators\nmodule ns::a = 5\nmodule ns::x = 1\nanswer 0 => 'é'\nanswer 1 => []\nanswer 2 => false then 'a'\nanswer 3 => #{\"a\": -9223372036854775808} then 7\nanswer 4 => 3..=6\n",
@@ -45,23 +70,43 @@ pub const PLAIN: [Run; 9] = [
         "end: value ()\nturns left: 10\nvariable x = Fn(f)\nvariable m = false\nvariable m = 7\n",
     ),
     (
+        "turns 1\nrecord b = true\nrecord y = ()\nrecord q = [\"\", 3]\noverride ! i64 i64\noverride ** i64 i64\noverride *= range\noverride - char\noverride - i64 range\noverride /= () array\noverride <<= bool array\noverride <= bool\noverride | i64 i64\nfast operators\nmodule ns::a = 5\nmodule ns::x = 'a'\n",
+        "while { 'b'; \"f\"; <'a'>; true } { do { print(Dot(q, push(1))); 'é' } while true }\nfn k() { y }\n",
+        "end: out of turns\nturns left: 0\n",
+    ),
+    (
+        "turns 0\nvariable x = true\nvariable b = #{\"a\": 'a'}\nvariable m = -2\nrecord x = Fn(h)\ntype array as list\ntype map as object\nfast operators\nmodule ns::a = 5\nmodule ns::x = Fn(g)\nanswer 0 => throw 9223372036854775807\nanswer 1 => #{\"a\": ()}\nanswer 2 => 'b' then -1..2\nanswer 3 => () then Fn(f)\nanswer 4 => \"b\" then Fn(f)\n",
+        "let c = 'é'\nconst m = ..=(1, ())\nconst m = ()\nconst b = \"f\"\nlet y = 63\nswitch and(false, false) { 1: 3 |  | default 4 | false => c, { false } => Dot(m, a), true => {}, { (); 9223372036854775807; true } => text(), true => <<(false, true) }\n",
+        "end: thrown 9223372036854775807\nturns left: 0\nvariable x = true\nvariable b = #{\"a\": 'a'}\nvariable m = -2\nvariable c = 'é'\nconstant m = 1..=9223372036854775807\nconstant m = ()\nconstant b = \"f\"\nvariable y = 63\ncall <<(false, true)\n",
+    ),
+    (
+        "turns 0\nvariable c = ['é', \"é\"]\nconstant y = ()\nvariable b = 0..3\nrecord m = 0..=0\nmodule ns::a = 5\nmodule ns::x = []\nanswer 0 => \"f\" then false\nanswer 1 => \"é\" then \"é\"\n",
+        "let y = ()\nconst m = ()\nlet b = 'a'\nlet b = 7\nlet a = 63\nconst x = y\nwhile !=(y, \"ab\") { block { block { let a = <[[1], [2]]>; Index(a, Index!(1, { a = <5>; 0 })) } } }\nfn k() { y }\n",
+        "end: out of turns\nturns left: 0\nvariable c = ['é', \"é\"]\nconstant y = ()\nvariable b = 0..3\nvariable y = ()\nconstant m = ()\nvariable b = 'a'\nvariable b = 7\nvariable a = 63\nconstant x = ()\n",
+    ),
+    (
         "turns 1\nconstant x = true\nconstant b = 3\nconstant a = #{}\nfast operators\nmodule ns::a = 5\nmodule ns::x = [(), true]\nanswer 0 => throw 1\nanswer 1 => [\"é\", 9223372036854775806, \"f\"]\n",
         "let b = ..=(1, ())\nlet a = ()\nconst m = ()\nlet b = b\nlet c = 9223372036854775806\nblock { try { 9223372036854775806; 2; \"a\"; throw 'b' } catch c { 'z' }; switch <Fn(f)> {  | 1..=4: 1 | default 2 | true => <Fn(g)>, true => 'b', true => \"ab\" }; switch ns::m { #{\"a\": ()}: 1 1, -9223372036854775808: 1 0 | -2..=0: 1 | default - | ==(3, <[#{\"k\": 'z'}]>) => b, true => <true> } }\nblock { try { 1; 2; throw c } catch { \"f\"; <\"\"> }; try { false } catch {} }\n",
         "end: stuck 1 Unbound\nturns left: 1\nconstant x = true\nconstant b = 3\nconstant a = #{}\nvariable b = 1..=9223372036854775807\nvariable a = ()\nconstant m = ()\nvariable b = 1..=9223372036854775807\nvariable c = 9223372036854775806\n",
     ),
+    (
+        "turns 0\nrecord c = ()\noverride += i64 i64\noverride ..= array\noverride << () map\nmodule ns::a = 5\nmodule ns::x = 1..=2\nanswer 0 h => ['a']\nanswer 1 h => 1..2 then 1\nanswer 2 h => true then 3\nanswer 3 h => () then 9223372036854775807\nanswer 4 h => () then 1\nanswer h => ()\nanswer 0 => true\n",
+        "let x = -2\nblock { switch 'b' {  | -2..=-1: 3 | default - | false => (), ==('b', x) => (), true => (), <=(-2, 7) => x }; block {}; if { 'é'; true } { this += 1; false } else {} }\nswitch false { 9223372036854775807: , -2: 1 0, 0..=1: 1 0 |  | default 3 | ==('a', \"f\") => debug!(-9223372036854775808), true => x, <=(0, 7) => text(), true => x }\nfn k() { y }\n",
+        "end: stuck 6 UnboundThis\nturns left: 0\nvariable x = -2\n",
+    ),
+    (
+        "turns 10\nvariable x = Fn(f)\nconstant x = [\"a\"]\nconstant y = Fn(f)\nrecord c = -1..2\noverride &= () range\noverride ** ()\noverride + i64 i64\noverride += bool map\noverride -= () range=\noverride /= bool\noverride /= i64 i64\noverride == char\noverride >>= i64 i64\nmodule ns::a = 5\nmodule ns::x = ['z']\nanswer 0 => [9223372036854775806] then ()\nanswer 1 => 'z' then -9223372036854775808\nanswer 2 => throw Fn(g)\nanswer 3 => 'b'\n",
+        "switch [] { -1..=-2:  | -1..=3: 0, -2..-1: 0 | default - | true => c, true => f() }\nc += { (); <-2>; () }\nswitch () { #{\"a\": 0}:  |  | default - | true => a, >=(64, -2) => { () }, { true } => b }\nfn g() { block {}; block {}; switch true { ['b', \"b\", 9223372036854775807]: 0, [2, ()]: 0 0 | -1..3: 0, 2..=5: 0 | default 1 | { \"a\"; false } => c, true => b } }\nfn f(a) {}\n",
+        "end: stuck 3 WriteToConstant\nturns left: 10\nvariable x = Fn(f)\nconstant x = [\"a\"]\nconstant y = Fn(f)\ncall +(-1..2, ())\n",
+    ),
 ];
 
 /// Those whose runs come to one.
-pub const CALLING: [Run; 50] = [
+pub const CALLING: [Run; 40] = [
     (
         "turns 0\nvariable c = [(), 'b', \"\"]\nrecord a = 7\nrecord y = ['é', 'é']\ntype i64 as int\nmodule ns::a = 5\nmodule ns::x = ()\nanswer 0 h => 'a'\nanswer h => ()\nanswer 0 => #{}\nanswer 1 => [64, 0, 'b'] then -1\nanswer 2 => Fn(f) then 2..=3\n",
         "let x = false\nconst a = -1\nlet m = x\nlet b = 63\nlet x = 'é'\nif { block { let y = #{}; Dot(y, Dot(a, g())) = f() } } { call print(-1); if >=(3, 2) {} else {} } else {}\nfn k() { y }\n",
         "end: stuck 4 NoPlace\nturns left: 0\nvariable c = [(), 'b', \"\"]\nvariable x = false\nconstant a = -1\nvariable m = false\nvariable b = 63\nvariable x = 'é'\ncall f()\n",
-    ),
-    (
-        "turns 2\nvariable b = 9223372036854775806\noverride % i64 i64\noverride + () array\noverride /= char i64\noverride < range ()\noverride << i64\noverride << range=\noverride ^ ()\noverride | i64 i64\noverride |= i64 i64\nmodule ns::a = 5\nmodule ns::x = -1..1\nanswer 0 h => Fn(h) then 9223372036854775806\nanswer 1 h => -1\nanswer h => ()\nanswer 0 => ()\n",
-        "let c = <9223372036854775807>\nblock { while ==(64, \"é\") { block { let y = 7; print(k()) }; <'z'> }; for m in <1..1> { <false>; <Fn(g)>; 9223372036854775807 }; if { (); <'b'>; 0; true } { return false } else {} }\nfn k() { y }\n",
-        "end: value false\nturns left: 2\nvariable b = 9223372036854775806\nvariable c = 9223372036854775807\n",
     ),
     (
         "turns 10\nconstant b = false\noverride ** i64 i64\noverride **= bool ()\noverride + range= ()\noverride += i64 i64\noverride .. ()\noverride / i64 i64\noverride < array\noverride == string\noverride >= string string\ntype array as list\ntype map as object\nfast operators\nmodule ns::a = 5\nmodule ns::x = \"b\"\nanswer 0 => #{\"k\": false}\n",
@@ -139,11 +184,6 @@ pub const CALLING: [Run; 50] = [
         "end: out of turns\nturns left: 0\nvariable m = Fn(g)\nconstant y = -1\nconstant y = 1..9223372036854775807\nconstant m = true\nconstant b = 'a'\nvariable x = 'a'\n",
     ),
     (
-        "turns 2\nrecord x = Fn(h)\nrecord y = #{\"a\": false, \"b\": ()}\ntype i64 as int\nmodule ns::a = 5\nmodule ns::x = ()\nanswer 0 push => -2\nanswer 1 push => 2 then #{\"a\": true, \"b\": 63}\nanswer 2 push => () then [2, \"é\"]\nanswer 3 push => #{\"b\": \"ab\"}\nanswer 4 push => ()\nanswer push => ()\nanswer 0 => 'é'\nanswer 1 => #{\"b\": false, \"k\": 3}\nanswer 2 => 2 then #{}\nanswer 3 => false then 7\n",
-        "let b = -2\nconst a = 63\nconst y = \"a\"\nlet a = 'a'\nconst m = true\nconst b = m\nblock { if >(-9223372036854775808, 2) { call!(Fn(\"f\")) } else {}; let m = <-2..=-2>; while !=(b, true) { <Fn(f)> } }\nif >=(-1, -9223372036854775808) { a **= -9223372036854775808 } else {}\ndo { try { (); 'é'; false } catch b { (); -2 } } until { -2; 'b'; false }\nfn g() { c += ..=(b, <2>); const m = y; try { call f(m); let a = <true> } catch a { call f() } }\nfn g(a) {}\nfn h(a) {}\n",
-        "end: out of turns\nturns left: 0\nvariable b = -2\nconstant a = 63\nconstant y = \"a\"\nvariable a = 'é'\nconstant m = true\nconstant b = true\ncall **('a', -9223372036854775808)\n",
-    ),
-    (
         "turns 3\nconstant b = \"é\"\nvariable b = false\nrecord c = #{\"k\": 9223372036854775807}\nrecord a = true\noverride %= Fn\noverride & Fn string\noverride ** () i64\noverride **= array\noverride **= string char\noverride ..= i64 i64\noverride /= ()\noverride /= i64 i64\noverride < i64 i64\noverride >= char string\noverride ^= bool array\ntype i64 as int\nmodule ns::a = 5\nmodule ns::x = 'é'\nanswer 0 f => #{\"a\": (), \"k\": -2} then []\nanswer f => ()\n",
         "let a = <Fn(f)>\nlet m = \"ab\"\nlet x = ()\nconst m = call(curry(Fn(\"f\"), 1), 1)\nswitch 0 { #{\"b\": 64}: 0 0, (): 1 0 |  | default 2 | true => #{}, { (); false; false } => { () }, true => Index([], Dot(x, a)) }\nloop { if true {} else {}; continue; m **= \"ab\"; break 1 }\nfn g(a) { try { block { <true>; 'é' } } catch x { try { -2; \"f\"; throw } catch m { (); 63; 'b' } } }\n",
         "end: out of turns\nturns left: 0\nconstant b = \"é\"\nvariable b = false\nvariable a = Fn(f)\nvariable m = \"ab\"\nvariable x = ()\nconstant m = #{\"a\": (), \"k\": -2}\ncall f(1, 1)\ncall [].index$get$(())\ncall ().get$a()\n",
@@ -152,11 +192,6 @@ pub const CALLING: [Run; 50] = [
         "turns 0\nvariable a = 9223372036854775807\nconstant b = Fn(f)\nvariable x = \"b\"\nrecord y = [64, 'b', 2]\nrecord c = ['é', (), \"f\"]\noverride + i64 i64\noverride / bool ()\noverride < range\nfast operators\nmodule ns::a = 5\nmodule ns::x = [3]\nanswer 0 => ()\n",
         "let c = b\nlet c = \"b\"\nc = Dot?(c, Dot!(k, b))\ntry { throw 3 } catch a { a = +(a, Fn(\"1a\")); switch x { 2..1: 3 3, 63: 1 3 | -1..3: 2 | default 4 | true => c, true => (), 'b' => false, true => \"b\", true => () }; if false {} else {} }\ncall print(63)\n",
         "end: thrown \"function name\"\nturns left: 0\nvariable a = 9223372036854775807\nconstant b = Fn(f)\nvariable x = \"b\"\nvariable c = Fn(f)\nvariable c = ()\ncall \"b\".get$k()\ncall ().get$b()\n",
-    ),
-    (
-        "turns 10\nconstant y = 3..2\nconstant m = true\nrecord c = true\nrecord m = Fn(f)\noverride >> () i64\noverride >>= () i64\nmodule ns::a = 5\nmodule ns::x = #{\"b\": true}\n",
-        "const x = 9223372036854775806\nlet m = 'b'\nlet x = \"b\"\nconst m = ..((), 1)\nloop { break 'é'; call print(true); m >>= x; break }\nx = +(x, x)\n",
-        "end: value ()\nturns left: 9\nconstant y = 3..2\nconstant m = true\nconstant x = 9223372036854775806\nvariable m = 'b'\nvariable x = \"bb\"\nconstant m = 0..1\n",
     ),
     (
         "turns 2\nvariable b = ()\nrecord x = 'z'\noverride &= string\noverride + i64 i64\noverride += array i64\noverride ..= i64 Fn\noverride / i64\noverride <<= ()\noverride <<= bool range\noverride == i64 i64\noverride == string ()\noverride > i64 i64\ntype i64 as int\nfast operators\nmodule ns::a = 5\nmodule ns::x = Fn(h)\nanswer 0 f => throw -2\nanswer 1 f => []\nanswer f => ()\n",
@@ -174,19 +209,9 @@ pub const CALLING: [Run; 50] = [
         "end: out of turns\nturns left: 0\nconstant y = ['z', \"b\"]\nvariable y = true\nvariable y = \"f\"\nvariable m = 9223372036854775806\nconstant x = 2\nvariable b = 'a'\nvariable c = \"é\"\nconstant x = 'a'\n",
     ),
     (
-        "turns 3\noverride ** i64 i64\noverride - ()\noverride >>= () bool\ntype i64 as int\nmodule ns::a = 5\nmodule ns::x = 'b'\nanswer 0 f => ()\nanswer 1 f => \"b\"\nanswer f => ()\nanswer 0 + => Fn(g)\nanswer 1 + => ['z', ()]\nanswer 2 + => () then -9223372036854775808\nanswer 3 + => 3..2\nanswer + => ()\n",
-        "const a = ..((), 1)\nconst y = 63\nlet c = a\nlet c = ()\nconst a = 7\nif { false } { a = -2; if false { 'é'; -1 } else { (); \"\" } } else {}\nswitch 9223372036854775806 { 1: , true: , 0..3: 0 0 | 3..6: 0, 1..5: 0 | default 1 | true => [a, true], true => or(true, <=(-9223372036854775808, 9223372036854775806), false) }\nswitch () { 2: 0 | 0..=4: 0 | default 1 | #{a: 'é'} => curry('a', false), true => coalesce(c) }\n",
-        "end: value ()\nturns left: 3\nconstant a = 0..1\nconstant y = 63\nvariable c = 0..1\nvariable c = ()\nconstant a = 7\n",
-    ),
-    (
         "turns 3\nconstant a = true\nvariable m = -1..=0\nrecord c = 2..=3\nrecord a = ()\noverride %= () char\noverride -= char\noverride .. i64 i64\noverride ..= i64 i64\noverride /= i64 i64\noverride << char string\noverride >>= string\noverride ^ range= array\noverride ^= array i64\noverride | Fn\nmodule ns::a = 5\nmodule ns::x = 3..3\nanswer 0 => () then -9223372036854775808\nanswer 1 => \"a\"\nanswer 2 => throw Fn(f)\n",
         "let m = a\ndo { call f(); m = +(m, <Fn(g)>) } until { \"é\"; \"ab\"; false; false }\nfn f() { c ^= Index(a, Index(-1, Dot?(false, g()))); block { if !=(c, 'a') {} else { true }; switch <-1> { true: , \"é\": , 3: 0 0 | 0..=4: 0, 1..4: 1 | default 2 | true => (), true => 63, true => <'é'> }; try { 9223372036854775806; (); \"a\"; throw 9223372036854775806 } catch x { () } } }\nfn f(a) {}\n",
         "end: thrown Fn(f)\nturns left: 1\nconstant a = true\nvariable m = -1..=0\nvariable m = true\ncall ().index$get$(-1)\ncall ().index$get$(false)\ncall \"a\".g()\n",
-    ),
-    (
-        "turns 3\nvariable c = 3..=5\ntype i64 as int\nfast operators\nmodule ns::a = 5\nmodule ns::x = \"b\"\nanswer 0 => \"ab\" then [(), \"a\", ()]\nanswer 1 => 9223372036854775806 then #{\"a\": \"\", \"b\": ()}\nanswer 2 => \"f\"\nanswer 3 => throw 9223372036854775806\nanswer 4 => -9223372036854775808\n",
-        "let m = false\nlet y = ()\nloop { const y = (); try { true } catch { 3; 0 }; try { \"ab\" } catch { 1; block { let y = 7; print(k!()) }; 0 }; break \"a\" }\nif { (); \"\"; false } { switch y { \"f\": , -2..1: , 'z': 1 | -2..=0: 3 | default 4 | true => y, true => \"ab\", true => m, true => m, true => m }; const m = true; if ==(m, m) { (); <\"b\"> } else {} } else {}\nfn k() { y }\n",
-        "end: value ()\nturns left: 2\nvariable c = 3..=5\nvariable m = false\nvariable y = ()\n",
     ),
     (
         "turns 10\nconstant x = Fn(h)\nvariable b = -2..=-3\nconstant c = true\nrecord c = #{\"b\": 'z', \"k\": \"\"}\nrecord y = [-1, (), ()]\noverride .. range= ()\noverride <= map\noverride ^ i64 i64\ntype i64 as int\nmodule ns::a = 5\nmodule ns::x = -1\nanswer 0 h => Fn(h) then false\nanswer 1 h => [9223372036854775806, 2, \"a\"]\nanswer h => ()\nanswer + => ()\nanswer 0 => #{\"k\": false} then -2..=-3\n",
@@ -234,11 +259,6 @@ pub const CALLING: [Run; 50] = [
         "end: value \"ab\"\nturns left: 9\nvariable x = 1..=1\nvariable c = \"\"\nconstant c = #{\"b\": -1}\nvariable c = \"ab\"\nconstant x = 1\ncall ns::call('é', true)\ncall f()\n",
     ),
     (
-        "turns 1\nrecord b = true\nrecord y = ()\nrecord q = [\"\", 3]\noverride ! i64 i64\noverride ** i64 i64\noverride *= range\noverride - char\noverride - i64 range\noverride /= () array\noverride <<= bool array\noverride <= bool\noverride | i64 i64\nfast operators\nmodule ns::a = 5\nmodule ns::x = 'a'\n",
-        "while { 'b'; \"f\"; <'a'>; true } { do { print(Dot(q, push(1))); 'é' } while true }\nfn k() { y }\n",
-        "end: out of turns\nturns left: 0\n",
-    ),
-    (
         "turns 3\nconstant x = #{\"a\": \"\", \"k\": true}\nrecord y = #{\"a\": 'a', \"k\": \"é\"}\nrecord b = [9223372036854775807]\noverride |= string char\ntype i64 as int\nmodule ns::a = 5\nmodule ns::x = -2\nanswer 0 g => 0 then 0..=-1\nanswer 1 g => Fn(f)\nanswer g => ()\nanswer 0 h => \"ab\" then 3..=3\nanswer 1 h => throw 2\nanswer 2 h => 'é' then #{\"a\": 'b', \"k\": 0}\nanswer h => ()\nanswer 0 => -1..-1\nanswer 1 => Fn(g) then false\n",
         "let c = true\nconst y = true\nlet y = 63\nlet x = c\nblock {}\nswitch Index(#{b: \"b\", a: 'z'}, Index!(\"k\", 1)) { \"b\": 0 1, -9223372036854775808: 0 | 0..=2: 1 | default 2 | true => x, >=(2, 9223372036854775807) => [9223372036854775806, c], true => x }\nfn g() { block { do { false; <#{\"a\": -9223372036854775808, \"k\": false}>; \"a\" } while 'a'; try { throw <\"\"> } catch { \"é\" } }; block { y |= 'b'; block {}; if () { <#{\"a\": true}> } else {} } }\n",
         "end: value true\nturns left: 3\nconstant x = #{\"a\": \"\", \"k\": true}\nvariable c = true\nconstant y = true\nvariable y = 63\nvariable x = true\ncall ().index$get$(1)\n",
@@ -249,19 +269,9 @@ pub const CALLING: [Run; 50] = [
         "end: value ()\nturns left: 10\nvariable m = \"b\"\nconstant c = 0\nvariable x = 0\nconstant c = true\nconstant c = 'a'\nvariable b = ()\nconstant a = 'b'\nvariable y = \"\"\nvariable y = ()\ncall [\"\", 1, true].push(1)\ncall print('b')\ncall **((), ())\n",
     ),
     (
-        "turns 0\nvariable x = true\nvariable b = #{\"a\": 'a'}\nvariable m = -2\nrecord x = Fn(h)\ntype array as list\ntype map as object\nfast operators\nmodule ns::a = 5\nmodule ns::x = Fn(g)\nanswer 0 => throw 9223372036854775807\nanswer 1 => #{\"a\": ()}\nanswer 2 => 'b' then -1..2\nanswer 3 => () then Fn(f)\nanswer 4 => \"b\" then Fn(f)\n",
-        "let c = 'é'\nconst m = ..=(1, ())\nconst m = ()\nconst b = \"f\"\nlet y = 63\nswitch and(false, false) { 1: 3 |  | default 4 | false => c, { false } => Dot(m, a), true => {}, { (); 9223372036854775807; true } => text(), true => <<(false, true) }\n",
-        "end: thrown 9223372036854775807\nturns left: 0\nvariable x = true\nvariable b = #{\"a\": 'a'}\nvariable m = -2\nvariable c = 'é'\nconstant m = 1..=9223372036854775807\nconstant m = ()\nconstant b = \"f\"\nvariable y = 63\ncall <<(false, true)\n",
-    ),
-    (
         "turns 10\nvariable y = 0\noverride % range\noverride * i64 i64\noverride - range= Fn\nfast operators\nmodule ns::a = 5\nmodule ns::x = 9223372036854775807\nanswer 0 f => true\nanswer 1 f => throw 1\nanswer f => ()\nanswer g => ()\nanswer 0 => Fn(g)\nanswer 1 => [-2, 0]\nanswer 2 => false then 2..2\nanswer 3 => \"ab\" then 9223372036854775806\nanswer 4 => true\n",
         "let x = 'a'\nconst y = x\nconst c = -2\nlet c = 9223372036854775807\nlet c = <-9223372036854775808>\nconst m = x\nx = +(x, Index!(ns::x, -1))\nconst b = 0\n",
         "end: value ()\nturns left: 10\nvariable y = 0\nvariable x = Fn(g)\nconstant y = 'a'\nconstant c = -2\nvariable c = 9223372036854775807\nvariable c = -9223372036854775808\nconstant m = 'a'\nconstant b = 0\ncall +('a', false)\n",
-    ),
-    (
-        "turns 0\nvariable c = ['é', \"é\"]\nconstant y = ()\nvariable b = 0..3\nrecord m = 0..=0\nmodule ns::a = 5\nmodule ns::x = []\nanswer 0 => \"f\" then false\nanswer 1 => \"é\" then \"é\"\n",
-        "let y = ()\nconst m = ()\nlet b = 'a'\nlet b = 7\nlet a = 63\nconst x = y\nwhile !=(y, \"ab\") { block { block { let a = <[[1], [2]]>; Index(a, Index!(1, { a = <5>; 0 })) } } }\nfn k() { y }\n",
-        "end: out of turns\nturns left: 0\nvariable c = ['é', \"é\"]\nconstant y = ()\nvariable b = 0..3\nvariable y = ()\nconstant m = ()\nvariable b = 'a'\nvariable b = 7\nvariable a = 63\nconstant x = ()\n",
     ),
     (
         "turns 5\nvariable a = #{}\nrecord a = Fn(g)\nrecord a = Fn(g)\ntype i64 as int\nfast operators\nmodule ns::a = 5\nmodule ns::x = #{}\nanswer 0 g => #{}\nanswer 1 g => #{}\nanswer 2 g => ['a', (), -9223372036854775808]\nanswer g => ()\nanswer 0 index$get$ => 3..3\nanswer 1 index$get$ => 'b'\nanswer 2 index$get$ => ()\nanswer 3 index$get$ => \"ab\"\nanswer index$get$ => ()\nanswer 0 => -2 then 63\nanswer 1 => 2..5 then \"é\"\nanswer 2 => 9223372036854775807\nanswer 3 => Fn(h)\n",
@@ -284,11 +294,6 @@ pub const CALLING: [Run; 50] = [
         "end: value ()\nturns left: 3\nconstant c = 2..4\nconstant m = #{\"k\": ()}\nvariable c = false\nconstant c = false\ncall f(1)\ncall f('é')\ncall ..=(false, true)\n",
     ),
     (
-        "turns 0\nrecord c = ()\noverride += i64 i64\noverride ..= array\noverride << () map\nmodule ns::a = 5\nmodule ns::x = 1..=2\nanswer 0 h => ['a']\nanswer 1 h => 1..2 then 1\nanswer 2 h => true then 3\nanswer 3 h => () then 9223372036854775807\nanswer 4 h => () then 1\nanswer h => ()\nanswer 0 => true\n",
-        "let x = -2\nblock { switch 'b' {  | -2..=-1: 3 | default - | false => (), ==('b', x) => (), true => (), <=(-2, 7) => x }; block {}; if { 'é'; true } { this += 1; false } else {} }\nswitch false { 9223372036854775807: , -2: 1 0, 0..=1: 1 0 |  | default 3 | ==('a', \"f\") => debug!(-9223372036854775808), true => x, <=(0, 7) => text(), true => x }\nfn k() { y }\n",
-        "end: stuck 6 UnboundThis\nturns left: 0\nvariable x = -2\n",
-    ),
-    (
         "turns 5\nconstant y = \"f\"\nrecord m = true\noverride <<= string char\nfast operators\nmodule ns::a = 5\nmodule ns::x = [-9223372036854775808]\nanswer 0 push => [()] then 'z'\nanswer 1 push => false then ()\nanswer 2 push => 0..=3 then [()]\nanswer 3 push => 'a' then 0..=0\nanswer 4 push => 9223372036854775807 then 'z'\nanswer push => ()\nanswer 0 h => false then 'a'\nanswer 1 h => #{\"b\": true, \"k\": 3}\nanswer 2 h => 1..=2\nanswer h => ()\nanswer 0 => Fn(g)\n",
         "let a = \"b\"\nlet c = a\nlet m = \"a\"\nswitch \"é\" {  | 2..2: 1 | default 4 | { true } => m, false => (), true => 64, { Fn(\"type_of\"); true } => a, true => Dot?([], Dot(h(<#{\"k\": -1}>), Dot(Fn(), is_shared()))) }\nfn g(a) { let b = -1 }\nfn h() { try { try { 'a'; (); 'a'; throw 63 } catch {} } catch c {}; x <<= m }\n",
         "end: value false\nturns left: 5\nconstant y = \"f\"\nvariable a = \"b\"\nvariable c = \"b\"\nvariable m = \"a\"\ncall [].h(#{\"k\": -1})\ncall false.Fn()\n",
@@ -297,10 +302,5 @@ pub const CALLING: [Run; 50] = [
         "turns 1\nconstant c = ()\nconstant x = true\nvariable x = \"a\"\nrecord a = []\nrecord b = []\nrecord q = [\"b\", 9223372036854775807, 'a']\noverride & i64 i64\noverride **= i64 i64\noverride + Fn char\noverride += i64 i64\noverride - ()\noverride - bool\noverride .. map array\noverride / ()\noverride << range= range=\nmodule ns::a = 5\nmodule ns::x = #{\"a\": 'b', \"b\": ()}\nanswer 0 => Fn(h)\nanswer 1 => throw #{\"b\": true, \"k\": ()}\nanswer 2 => Fn(f)\nanswer 3 => \"b\"\nanswer 4 => ()\n",
         "const b = <#{}>\nconst a = 'b'\nlet y = \"b\"\nif !=(a, 3) {} else { try { <9223372036854775806>; -2; true; throw y } catch x { 9223372036854775806; <Fn(g)>; 'b' } }\nswitch -2 { -2:  | 0..=0: 0, -1..=-1: 0 | default - | true => y }\ny <<= Index([9223372036854775806, ()], Index(\"k\", Dot(\"b\", a)))\nfn h(a) { do { if b { break } else {}; x /= <Fn(g)>; break } until { false; false; print(Dot(q, push(1))) }; if ==(64, y) { throw 0 } else {} }\nfn g(a) {}\nfn k() { y }\n",
         "end: thrown #{\"b\": true, \"k\": ()}\nturns left: 1\nconstant c = ()\nconstant x = true\nvariable x = \"a\"\nconstant b = #{}\nconstant a = 'b'\nvariable y = \"b\"\ncall [9223372036854775806, ()].index$get$(\"k\")\ncall Fn(h).index$get$(\"b\")\n",
-    ),
-    (
-        "turns 10\nvariable x = Fn(f)\nconstant x = [\"a\"]\nconstant y = Fn(f)\nrecord c = -1..2\noverride &= () range\noverride ** ()\noverride + i64 i64\noverride += bool map\noverride -= () range=\noverride /= bool\noverride /= i64 i64\noverride == char\noverride >>= i64 i64\nmodule ns::a = 5\nmodule ns::x = ['z']\nanswer 0 => [9223372036854775806] then ()\nanswer 1 => 'z' then -9223372036854775808\nanswer 2 => throw Fn(g)\nanswer 3 => 'b'\n",
-        "switch [] { -1..=-2:  | -1..=3: 0, -2..-1: 0 | default - | true => c, true => f() }\nc += { (); <-2>; () }\nswitch () { #{\"a\": 0}:  |  | default - | true => a, >=(64, -2) => { () }, { true } => b }\nfn g() { block {}; block {}; switch true { ['b', \"b\", 9223372036854775807]: 0, [2, ()]: 0 0 | -1..3: 0, 2..=5: 0 | default 1 | { \"a\"; false } => c, true => b } }\nfn f(a) {}\n",
-        "end: stuck 3 WriteToConstant\nturns left: 10\nvariable x = Fn(f)\nconstant x = [\"a\"]\nconstant y = Fn(f)\ncall +(-1..2, ())\n",
     ),
 ];

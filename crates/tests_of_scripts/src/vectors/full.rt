@@ -3,7 +3,12 @@
 use crate::vectors::Run;
 
 /// Those whose runs come to no chain and to no call by a name.
-pub const PLAIN: [Run; 15] = [
+pub const PLAIN: [Run; 21] = [
+    (
+        "turns 1\nconstant c = 1..=4\nrecord b = \"f\"\nrecord m = 'a'\ntype i64 as int\nfast operators\nmodule ns::a = 5\nmodule ns::x = Fn(f)\nanswer 0 + => 3\nanswer 1 + => ()\nanswer 2 + => throw 'a'\nanswer + => ()\nanswer 0 => throw ()\nanswer 1 => \"é\" then \"b\"\nanswer 2 => () then 'é'\nanswer 3 => throw [(), (), 'z']\n",
+        "block { b = +(b, c); if { <true>; true } { call(Fn(\"f\"), 1); 64; 'b' } else {}; try { 7; <false>; -1 } catch {} }\n",
+        "end: stuck 3 WriteToConstant\nturns left: 1\nconstant c = 1..=4\ncall +(\"f\", 1..=4)\n",
+    ),
     (
         "turns 5\nvariable m = 1\nconstant a = -2..=-2\nvariable c = -1..=-1\nrecord a = -2\noverride + ()\noverride < char array\noverride == i64 i64\nmodule ns::a = 5\nmodule ns::x = 1..1\nanswer 0 => 'a' then 3..=6\n",
         "let c = <\"\">\nc = text(<1..=4>, ())\nif >=(2, 1) { let b = (); let x = ..=(1, ()) } else {}\nfn push() { (); switch <'a'> { true: 3, -1..=-2: 3 0, 7: 1 1 |  | default 4 | true => y, true => c, { true; 'é'; true; true } => c, true => (), true => 2 }; if { \"ab\"; false } { \"f\" } else {} }\nfn i64.push(y, c) { try { \"b\" } catch x { <'b'>; <-2..-2> } }\n",
@@ -20,6 +25,11 @@ pub const PLAIN: [Run; 15] = [
         "end: out of turns\nturns left: 0\nconstant b = 1..=0\nconstant m = 'b'\nvariable x = 'b'\nconstant c = 'b'\n",
     ),
     (
+        "turns 5\nvariable y = ()\nconstant b = ()\nconstant b = 0\nrecord y = [0, 'a', ()]\nrecord m = \"b\"\ntype array as list\ntype map as object\nmodule ns::a = 5\nmodule ns::x = 9223372036854775806\nanswer 0 f => []\nanswer f => ()\nanswer 0 index$get$ => false\nanswer 1 index$get$ => () then [false]\nanswer 2 index$get$ => throw Fn(g)\nanswer 3 index$get$ => -1\nanswer 4 index$get$ => 0\nanswer index$get$ => ()\n",
+        "let a = b\nlet y = <'z'>\nlet c = a\nlet b = -1\nif ==(ns::a, b) { try { block { let y = #{}; Dot(y, Dot(a, g())) = f() }; \"a\"; throw \"ab\" } catch y {} } else { try { 'z'; () } catch { <\"f\"> }; try {} catch m { () } }\ncall /(coalesce(-1, ()), +(3, -2))\ntry { let c = c; switch <2..=1> { ['b', \"a\", 0]: 0, 1: , [false, -2]:  |  | default 1 | { true } => true, true => <Fn(f)> }; throw b } catch m {}\nfn map.h(c, y) { const a = \"\"; if false { false; () } else {}; call print!('é') }\nfn k() { y }\n",
+        "end: value ()\nturns left: 5\nvariable y = ()\nconstant b = ()\nconstant b = 0\nvariable a = 0\nvariable y = 'z'\nvariable c = 0\nvariable b = -1\n",
+    ),
+    (
         "turns 2\nconstant b = -1..0\nconstant c = #{\"b\": true, \"k\": \"a\"}\nrecord m = 1\noverride + () i64\noverride + char ()\noverride += i64 i64\noverride -= string\noverride < i64 i64\ntype array as list\ntype map as object\nmodule ns::a = 5\nmodule ns::x = ['é', 7]\nanswer 0 => ()\nanswer 1 => false\nanswer 2 => () then [9223372036854775807]\nanswer 3 => #{\"a\": 'b', \"b\": 9223372036854775807}\n",
         "do {} until { this += 1; \"b\"; (); false }\nreturn\nfn k() { y }\n",
         "end: stuck 6 UnboundThis\nturns left: 1\nconstant b = -1..0\nconstant c = #{\"b\": true, \"k\": \"a\"}\n",
@@ -33,6 +43,11 @@ pub const PLAIN: [Run; 15] = [
         "turns 3\nconstant x = -1\nconstant a = 3..4\nconstant c = \"b\"\nmodule ns::a = 5\nmodule ns::x = 'z'\nanswer 0 h => 63 then #{\"k\": ()}\nanswer 1 h => #{\"a\": true, \"b\": -2}\nanswer 2 h => throw Fn(f)\nanswer h => ()\nanswer push => ()\nanswer 0 => 9223372036854775807\n",
         "let m = ()\nconst y = false\nlet x = -9223372036854775808\nconst m = ()\nconst c = \"ab\"\nthis **= text(m)\nfn map.h() { return coalesce(b, 9223372036854775806, Fn(\"type_of\")) }\n",
         "end: stuck 6 UnboundThis\nturns left: 3\nconstant x = -1\nconstant a = 3..4\nconstant c = \"b\"\nvariable m = ()\nconstant y = false\nvariable x = -9223372036854775808\nconstant m = ()\nconstant c = \"ab\"\n",
+    ),
+    (
+        "turns 1\nvariable y = [\"\"]\nvariable m = \"\"\nconstant a = 'z'\nrecord m = true\nrecord y = Fn(g)\ntype i64 as int\nmodule ns::a = 5\nmodule ns::x = \"f\"\nanswer 0 get$a => 1..2\nanswer get$a => ()\nanswer 0 => true\nanswer 1 => -9223372036854775808\nanswer 2 => #{}\n",
+        "let a = y\nlet x = 'z'\nnoop\nswitch <#{\"b\": Fn(f), \"k\": #{\"b\": 9223372036854775806}}> { (): 2 1 |  | default 4 | true => false, true => \"a\", true => 'z', <(9223372036854775806, 2) => Dot(a, Index!(push(()), 64)), true => text(x, a, 2) }\n",
+        "end: value \"z[\"\"]2\"\nturns left: 1\nvariable y = [\"\"]\nvariable m = \"\"\nconstant a = 'z'\nvariable a = [\"\"]\nvariable x = 'z'\n",
     ),
     (
         "turns 2\nconstant a = false\nconstant y = ()\nconstant b = 3\nrecord x = \"\"\noverride & i64 i64\noverride * bool array\noverride + i64 i64\noverride += i64 i64\noverride - bool\nmodule ns::a = 5\nmodule ns::x = true\nanswer 0 => 'z'\nanswer 1 => false then 0\nanswer 2 => -9223372036854775808 then ()\nanswer 3 => 'é'\nanswer 4 => ()\n",
@@ -55,9 +70,19 @@ pub const PLAIN: [Run; 15] = [
         "end: stuck 6 UnboundThis\nturns left: 0\nconstant m = \"a\"\nvariable x = ()\n",
     ),
     (
+        "turns 2\nvariable a = 7\nvariable y = [7]\nvariable m = 3\nrecord y = 'b'\nrecord x = 3\nmodule ns::a = 5\nmodule ns::x = 3..=5\nanswer 0 => 7\n",
+        "const b = 9223372036854775806\nconst c = 'z'\nconst c = ()\nlet x = 0\nconst c = <Fn(f)>\ntry { noop; block { 'a' }; throw \"a\" } catch c {}\nif <(9223372036854775806, -9223372036854775808) { if { false } {} else {} } else { call /(false, false); for c in <2..3> { 'a' }; let y = \"f\" }\nif >=(0, -9223372036854775808) {} else { if false { 2; block { let a = <[[1], [2]]>; Index(a, Index!(1, { a = <5>; 0 })) }; 3 } else {} }\nfn map.g(y) { return #{} }\nfn map.push() { throw }\nfn k() { y }\n",
+        "end: value ()\nturns left: 1\nvariable a = 7\nvariable y = [7]\nvariable m = 3\nconstant b = 9223372036854775806\nconstant c = 'z'\nconstant c = ()\nvariable x = 0\nconstant c = Fn(f)\ncall /(false, false)\n",
+    ),
+    (
         "turns 3\nvariable y = 'a'\nvariable x = -1\nvariable y = [9223372036854775807, \"é\", 'z']\nrecord b = -2\nrecord q = ['z', ()]\noverride % Fn array\noverride %= i64 i64\noverride & i64 i64\noverride &= i64 i64\noverride - i64 i64\noverride .. char\noverride .. i64\noverride < map ()\noverride ^= range\nmodule ns::a = 5\nmodule ns::x = Fn(g)\nanswer 0 g => 'b'\nanswer 1 g => Fn(f) then Fn(g)\nanswer g => ()\nanswer 0 => #{\"b\": false}\n",
         "let y = 'a'\nconst b = y\nlet c = \"f\"\nconst y = ()\nlet x = c\nconst y = 0\nthrow #{k: <\"é\">, b: c}\nfn map.h(c) { while false { <'a'>; <false>; () }; if true { (); print(ns::q); false } else { \"f\"; () }; return ..(c, c) }\nfn k() { y }\n",
         "end: thrown #{\"b\": \"f\", \"k\": \"é\"}\nturns left: 3\nvariable y = 'a'\nvariable x = -1\nvariable y = [9223372036854775807, \"é\", 'z']\nvariable y = 'a'\nconstant b = 'a'\nvariable c = \"f\"\nconstant y = ()\nvariable x = \"f\"\nconstant y = 0\n",
+    ),
+    (
+        "turns 3\nvariable b = []\nvariable m = -1..-1\nrecord a = \"\"\nmodule ns::a = 5\nmodule ns::x = \"ab\"\nanswer g => ()\nanswer 0 f => ['é', 'z', false]\nanswer 1 f => #{\"a\": true} then \"f\"\nanswer f => ()\n",
+        "let c = m\nlet c = \"é\"\nlet b = 'é'\nlet y = \"é\"\nblock { for a in <0..=0> { (); <1..0>; ..(1, ()) }; let x = true }\n+(c)\nswitch 7 { #{}: 0 0, \"b\":  |  | default 1 | false => Dot?(y, Index?(k, Dot(c, curry(())))), true => text(64, c, ()) }\n",
+        "end: value \"64é\"\nturns left: 2\nvariable b = []\nvariable m = -1..-1\nvariable c = -1..-1\nvariable c = \"é\"\nvariable b = 'é'\nvariable y = \"é\"\ncall +(\"é\")\n",
     ),
     (
         "turns 2\nvariable b = Fn(h)\noverride ** i64 i64\noverride **= i64 i64\noverride + i64 i64\noverride - Fn char\noverride / char char\noverride << array array\noverride == array\noverride >= ()\noverride ^= array\ntype array as list\ntype map as object\nmodule ns::a = 5\nmodule ns::x = \"a\"\nanswer 0 get$a => ['a', 3] then -2..-3\nanswer get$a => ()\nanswer 0 => \"b\" then false\nanswer 1 => throw ()\n",
@@ -68,6 +93,11 @@ pub const PLAIN: [Run; 15] = [
         "turns 2\nconstant m = ()\nrecord y = Fn(g)\nrecord a = -2\noverride ^= string char\ntype i64 as int\nmodule ns::a = 5\nmodule ns::x = 9223372036854775806\nanswer 0 push => #{} then false\nanswer 1 push => ()\nanswer 2 push => 'a'\nanswer 3 push => \"é\"\nanswer push => ()\nanswer 0 get$a => 0..=0\nanswer 1 get$a => throw \"ab\"\nanswer 2 get$a => true\nanswer get$a => ()\nanswer 0 => \"f\" then Fn(f)\n",
         "const m = <true>\nlet y = 9223372036854775806\nlet b = ()\nswitch 'a' {  |  | default 3 | true => text('a'), true => m, true => true, true => y }\ntry { y = +(y, <[true, 2]>); throw 64 } catch { this ^= m; return }\n",
         "end: stuck 6 UnboundThis\nturns left: 2\nconstant m = ()\nconstant m = true\nvariable y = \"f\"\nvariable b = ()\ncall +(9223372036854775806, [true, 2])\n",
+    ),
+    (
+        "turns 2\nvariable b = 1..3\nrecord a = 'b'\nrecord b = ()\noverride != array\noverride &= i64 i64\noverride *= range\noverride + i64 i64\noverride / () range=\noverride <<= bool\noverride <<= i64 i64\noverride > range= range\noverride >= () char\noverride |= i64 i64\ntype i64 as int\nmodule ns::a = 5\nmodule ns::x = 9223372036854775806\nanswer 0 get$a => 'é'\nanswer 1 get$a => 'é'\nanswer 2 get$a => 64\nanswer get$a => ()\nanswer index$get$ => ()\n",
+        "let m = <-9223372036854775808>\nlet y = <true>\nlet b = 'z'\nconst m = m\nconst b = false\nfor a in <-1..-2> { y = a }\n<<(1, -2)\ntry { do {} until false; let m = call!(Fn(\"f\")); b &= () } catch { if true {} else {}; if >=(-9223372036854775808, 9223372036854775807) { 9223372036854775807; -1; 64 } else { \"é\"; \"\" } }\n",
+        "end: out of turns\nturns left: 0\nvariable b = 1..3\nvariable m = -9223372036854775808\nvariable y = true\nvariable b = 'z'\nconstant m = -9223372036854775808\nconstant b = false\ncall <<(1, -2)\n",
     ),
     (
         "turns 1\nconstant x = 0..=3\nvariable b = 0..0\nconstant b = 64\nrecord c = 'b'\noverride **= char\noverride - char\noverride / i64 i64\noverride << array\noverride == i64 i64\noverride > range array\noverride >>= range= range=\noverride ^= range= range=\ntype i64 as int\nmodule ns::a = 5\nmodule ns::x = -2..0\nanswer 0 + => 'a'\nanswer + => ()\nanswer push => ()\nanswer 0 => 2 then 'a'\nanswer 1 => ()\nanswer 2 => 'b' then 0..2\nanswer 3 => -9223372036854775808\n",
@@ -82,7 +112,7 @@ pub const PLAIN: [Run; 15] = [
 ];
 
 /// Those whose runs come to one.
-pub const CALLING: [Run; 67] = [
+pub const CALLING: [Run; 61] = [
     (
         "turns 2\nvariable c = 9223372036854775807\nvariable m = false\nvariable c = true\nrecord x = #{}\nrecord a = [9223372036854775807, 1, true]\noverride & i64 i64\noverride * i64 bool\noverride - map Fn\noverride /= i64 i64\noverride <<= i64 i64\noverride >= ()\noverride ^ bool\noverride | array char\noverride |= ()\nfast operators\nmodule ns::a = 5\nmodule ns::x = false\n",
         "const a = call!(Fn(\"f\"))\nlet b = 'é'\nlet x = a\nthrow or({ true })\nnoop\nfn i64.push(y) { return true }\n",
@@ -92,11 +122,6 @@ pub const CALLING: [Run; 67] = [
         "turns 10\nconstant a = []\nmodule ns::a = 5\nmodule ns::x = [2]\nanswer 0 => 1..=0\nanswer 1 => [(), \"b\", ()] then true\nanswer 2 => throw 9223372036854775807\n",
         "const y = 'é'\nlet x = \"a\"\nconst a = ()\nif { for (a, b) in <[5, 6]> { print(b); print(a) } } {} else {}\nfn k() { y }\n",
         "end: thrown 9223372036854775807\nturns left: 8\nconstant a = []\nconstant y = 'é'\nvariable x = \"a\"\nconstant a = ()\ncall print(0)\ncall print(5)\ncall print(1)\n",
-    ),
-    (
-        "turns 1\nconstant c = 1..=4\nrecord b = \"f\"\nrecord m = 'a'\ntype i64 as int\nfast operators\nmodule ns::a = 5\nmodule ns::x = Fn(f)\nanswer 0 + => 3\nanswer 1 + => ()\nanswer 2 + => throw 'a'\nanswer + => ()\nanswer 0 => throw ()\nanswer 1 => \"é\" then \"b\"\nanswer 2 => () then 'é'\nanswer 3 => throw [(), (), 'z']\n",
-        "block { b = +(b, c); if { <true>; true } { call(Fn(\"f\"), 1); 64; 'b' } else {}; try { 7; <false>; -1 } catch {} }\n",
-        "end: stuck 3 WriteToConstant\nturns left: 1\nconstant c = 1..=4\ncall +(\"f\", 1..=4)\n",
     ),
     (
         "turns 3\nconstant x = 'é'\nconstant b = ['z']\nrecord q = ['b']\noverride - Fn map\noverride - i64\noverride << i64 i64\ntype i64 as int\nmodule ns::a = 5\nmodule ns::x = false\nanswer 0 g => 'é' then 0\nanswer 1 g => #{\"b\": \"a\", \"k\": 'b'}\nanswer g => ()\n",
@@ -172,11 +197,6 @@ pub const CALLING: [Run; 67] = [
         "turns 5\nvariable c = false\nvariable m = -2\nconstant x = ()\ntype i64 as int\nmodule ns::a = 5\nmodule ns::x = 'b'\n",
         "block { switch 63 { #{\"a\": -9223372036854775808, \"b\": 0}: 0 0 |  | default - | { 63; false; true } => \"b\" }; if { block { let a = <[[1], [2]]>; Index(a, Index!(1, { a = <[[3]]>; 0 })) }; false } { 7 } else {}; const c = \"é\" }\nfn k() { y }\n",
         "end: stuck 4 NoPlace\nturns left: 5\nvariable c = false\nvariable m = -2\nconstant x = ()\n",
-    ),
-    (
-        "turns 5\nvariable y = ()\nconstant b = ()\nconstant b = 0\nrecord y = [0, 'a', ()]\nrecord m = \"b\"\ntype array as list\ntype map as object\nmodule ns::a = 5\nmodule ns::x = 9223372036854775806\nanswer 0 f => []\nanswer f => ()\nanswer 0 index$get$ => false\nanswer 1 index$get$ => () then [false]\nanswer 2 index$get$ => throw Fn(g)\nanswer 3 index$get$ => -1\nanswer 4 index$get$ => 0\nanswer index$get$ => ()\n",
-        "let a = b\nlet y = <'z'>\nlet c = a\nlet b = -1\nif ==(ns::a, b) { try { block { let y = #{}; Dot(y, Dot(a, g())) = f() }; \"a\"; throw \"ab\" } catch y {} } else { try { 'z'; () } catch { <\"f\"> }; try {} catch m { () } }\ncall /(coalesce(-1, ()), +(3, -2))\ntry { let c = c; switch <2..=1> { ['b', \"a\", 0]: 0, 1: , [false, -2]:  |  | default 1 | { true } => true, true => <Fn(f)> }; throw b } catch m {}\nfn map.h(c, y) { const a = \"\"; if false { false; () } else {}; call print!('é') }\nfn k() { y }\n",
-        "end: value ()\nturns left: 5\nvariable y = ()\nconstant b = ()\nconstant b = 0\nvariable a = 0\nvariable y = 'z'\nvariable c = 0\nvariable b = -1\n",
     ),
     (
         "turns 10\nconstant m = Fn(h)\nvariable x = Fn(h)\nvariable b = 64\nrecord y = #{\"b\": ()}\nrecord b = #{\"k\": \"ab\"}\noverride & range= char\noverride - bool\noverride >= i64 i64\ntype i64 as int\nmodule ns::a = 5\nmodule ns::x = -1\nanswer 0 push => -9223372036854775808\nanswer 1 push => 'a' then 1\nanswer 2 push => true\nanswer push => ()\nanswer 0 => ()\nanswer 1 => false\nanswer 2 => 'z' then 0\n",
@@ -269,11 +289,6 @@ pub const CALLING: [Run; 67] = [
         "end: thrown [true, false]\nturns left: 0\nconstant c = ()\nvariable b = 2..3\nvariable x = \"b\"\nvariable a = #{\"b\": 'a', \"k\": ()}\nvariable m = 'a'\ncall 'a'.f()\n",
     ),
     (
-        "turns 1\nvariable y = [\"\"]\nvariable m = \"\"\nconstant a = 'z'\nrecord m = true\nrecord y = Fn(g)\ntype i64 as int\nmodule ns::a = 5\nmodule ns::x = \"f\"\nanswer 0 get$a => 1..2\nanswer get$a => ()\nanswer 0 => true\nanswer 1 => -9223372036854775808\nanswer 2 => #{}\n",
-        "let a = y\nlet x = 'z'\nnoop\nswitch <#{\"b\": Fn(f), \"k\": #{\"b\": 9223372036854775806}}> { (): 2 1 |  | default 4 | true => false, true => \"a\", true => 'z', <(9223372036854775806, 2) => Dot(a, Index!(push(()), 64)), true => text(x, a, 2) }\n",
-        "end: value \"z[\"\"]2\"\nturns left: 1\nvariable y = [\"\"]\nvariable m = \"\"\nconstant a = 'z'\nvariable a = [\"\"]\nvariable x = 'z'\n",
-    ),
-    (
         "turns 10\nrecord m = \"\"\nrecord m = 'é'\nmodule ns::a = 5\nmodule ns::x = 7\nanswer 0 h => false then 1\nanswer 1 h => ['a', true]\nanswer h => ()\nanswer 0 push => () then ()\nanswer push => ()\n",
         "const b = 'é'\nblock { for m in <[true]> {}; block { true }; block { block { let y = #{}; Dot(y, Dot(a, g())) = f() } } }\nlet x = coalesce(2)\nfn k() { y }\n",
         "end: stuck 4 NoPlace\nturns left: 9\nconstant b = 'é'\ncall f()\n",
@@ -317,16 +332,6 @@ pub const CALLING: [Run; 67] = [
         "turns 3\nconstant y = true\nvariable b = true\nconstant x = 3..=6\noverride *= () range=\noverride - i64 i64\noverride >> string\ntype array as list\ntype map as object\nmodule ns::a = 5\nmodule ns::x = true\nanswer 0 g => \"\"\nanswer 1 g => 63 then #{\"a\": true}\nanswer 2 g => []\nanswer 3 g => []\nanswer 4 g => -1\nanswer g => ()\nanswer 0 => \"b\"\nanswer 1 => Fn(f)\nanswer 2 => ()\nanswer 3 => Fn(h)\nanswer 4 => [] then []\n",
         "let a = 'é'\nlet a = a\nlet m = -9223372036854775808\nlet c = true\nlet a = 63\ncoalesce(Dot(#{a: 7}, Index!(a, 64)))\n{ do { (); () } until true }\n",
         "end: thrown \"bit bounds\"\nturns left: 3\nconstant y = true\nvariable b = true\nconstant x = 3..=6\nvariable a = 'é'\nvariable a = 'é'\nvariable m = -9223372036854775808\nvariable c = true\nvariable a = 63\n",
-    ),
-    (
-        "turns 2\nvariable a = 7\nvariable y = [7]\nvariable m = 3\nrecord y = 'b'\nrecord x = 3\nmodule ns::a = 5\nmodule ns::x = 3..=5\nanswer 0 => 7\n",
-        "const b = 9223372036854775806\nconst c = 'z'\nconst c = ()\nlet x = 0\nconst c = <Fn(f)>\ntry { noop; block { 'a' }; throw \"a\" } catch c {}\nif <(9223372036854775806, -9223372036854775808) { if { false } {} else {} } else { call /(false, false); for c in <2..3> { 'a' }; let y = \"f\" }\nif >=(0, -9223372036854775808) {} else { if false { 2; block { let a = <[[1], [2]]>; Index(a, Index!(1, { a = <5>; 0 })) }; 3 } else {} }\nfn map.g(y) { return #{} }\nfn map.push() { throw }\nfn k() { y }\n",
-        "end: value ()\nturns left: 1\nvariable a = 7\nvariable y = [7]\nvariable m = 3\nconstant b = 9223372036854775806\nconstant c = 'z'\nconstant c = ()\nvariable x = 0\nconstant c = Fn(f)\ncall /(false, false)\n",
-    ),
-    (
-        "turns 3\nvariable b = []\nvariable m = -1..-1\nrecord a = \"\"\nmodule ns::a = 5\nmodule ns::x = \"ab\"\nanswer g => ()\nanswer 0 f => ['é', 'z', false]\nanswer 1 f => #{\"a\": true} then \"f\"\nanswer f => ()\n",
-        "let c = m\nlet c = \"é\"\nlet b = 'é'\nlet y = \"é\"\nblock { for a in <0..=0> { (); <1..0>; ..(1, ()) }; let x = true }\n+(c)\nswitch 7 { #{}: 0 0, \"b\":  |  | default 1 | false => Dot?(y, Index?(k, Dot(c, curry(())))), true => text(64, c, ()) }\n",
-        "end: value \"64é\"\nturns left: 2\nvariable b = []\nvariable m = -1..-1\nvariable c = -1..-1\nvariable c = \"é\"\nvariable b = 'é'\nvariable y = \"é\"\ncall +(\"é\")\n",
     ),
     (
         "turns 0\nrecord c = Fn(h)\noverride &= i64 i64\noverride ** i64\noverride ** i64 i64\noverride ..= array\noverride / map char\noverride >= range= char\noverride >> i64 i64\noverride >>= range=\noverride |= string string\ntype i64 as int\nmodule ns::a = 5\nmodule ns::x = 1..2\nanswer 0 index$get$ => 'z'\nanswer index$get$ => ()\nanswer 0 => #{} then 'é'\n",
@@ -382,11 +387,6 @@ pub const CALLING: [Run; 67] = [
         "turns 1\nvariable y = Fn(h)\nconstant b = true\noverride - array bool\noverride - array i64\noverride -= () i64\noverride >>= i64\noverride >>= i64 i64\ntype i64 as int\nmodule ns::a = 5\nmodule ns::x = ()\nanswer 0 => #{\"a\": 1}\nanswer 1 => #{\"a\": \"b\"} then [3, ()]\nanswer 2 => throw 'z'\nanswer 3 => 'a' then ()\n",
         "const y = \"b\"\nlet a = <false>\nlet a = \"é\"\nlet b = 'é'\nthis -= { \"é\"; block { let y = 7; print(k()) }; <Fn(g)> }\nblock { let a = y }\nreturn [ns::a, ()]\nfn k() { y }\n",
         "end: stuck 1 Unbound\nturns left: 0\nvariable y = Fn(h)\nconstant b = true\nconstant y = \"b\"\nvariable a = false\nvariable a = \"é\"\nvariable b = 'é'\n",
-    ),
-    (
-        "turns 2\nvariable b = 1..3\nrecord a = 'b'\nrecord b = ()\noverride != array\noverride &= i64 i64\noverride *= range\noverride + i64 i64\noverride / () range=\noverride <<= bool\noverride <<= i64 i64\noverride > range= range\noverride >= () char\noverride |= i64 i64\ntype i64 as int\nmodule ns::a = 5\nmodule ns::x = 9223372036854775806\nanswer 0 get$a => 'é'\nanswer 1 get$a => 'é'\nanswer 2 get$a => 64\nanswer get$a => ()\nanswer index$get$ => ()\n",
-        "let m = <-9223372036854775808>\nlet y = <true>\nlet b = 'z'\nconst m = m\nconst b = false\nfor a in <-1..-2> { y = a }\n<<(1, -2)\ntry { do {} until false; let m = call!(Fn(\"f\")); b &= () } catch { if true {} else {}; if >=(-9223372036854775808, 9223372036854775807) { 9223372036854775807; -1; 64 } else { \"é\"; \"\" } }\n",
-        "end: out of turns\nturns left: 0\nvariable b = 1..3\nvariable m = -9223372036854775808\nvariable y = true\nvariable b = 'z'\nconstant m = -9223372036854775808\nconstant b = false\ncall <<(1, -2)\n",
     ),
     (
         "turns 2\nconstant a = 64\nvariable y = \"a\"\nrecord c = 'z'\noverride ! i64 i64\noverride % Fn\noverride % range\noverride **= i64 i64\noverride + bool range\noverride + i64 bool\noverride += Fn\noverride .. i64 i64\noverride ..= Fn string\nmodule ns::a = 5\nmodule ns::x = [(), (), -2]\nanswer 0 push => 'z' then 'a'\nanswer 1 push => []\nanswer 2 push => #{\"a\": -9223372036854775808, \"k\": 2} then 0\nanswer 3 push => ['z', 'a', 64]\nanswer 4 push => 'a'\nanswer push => ()\nanswer 0 get$a => false then -2..1\nanswer get$a => ()\nanswer 0 => [0]\nanswer 1 => false\nanswer 2 => \"é\"\nanswer 3 => throw ()\n",

@@ -3,7 +3,7 @@
 use crate::vectors::Run;
 
 /// Those whose runs come to no chain and to no call by a name.
-pub const PLAIN: [Run; 5] = [
+pub const PLAIN: [Run; 6] = [
     (
         "turns 0\nmodule ns::a = 5\nmodule ns::x = \"ab\"\nanswer 0 g => 'a'\nanswer g => ()\nanswer 0 => throw 'b'\n",
         "true\ncall |(/(-1, 2), {})\nfn g(a) { block { 7; 0; () }; call g(<\"b\">, <[true, -2]>) }\n",
@@ -25,6 +25,11 @@ pub const PLAIN: [Run; 5] = [
         "end: value ()\nturns left: 1\n",
     ),
     (
+        "turns 0\nvariable m = ()\nrecord y = [1, true, true]\nrecord b = []\ntype i64 as int\nfast operators\nmodule ns::a = 5\nmodule ns::x = true\nanswer h => ()\nanswer 0 => \"\"\nanswer 1 => \"a\" then ()\nanswer 2 => []\n",
+        "noop\ncall >>(&(\"f\", \"a\"), &(true, true))\nif { -9223372036854775808; false } { ..(64, true); call !('z') } else { call curry!((), <[[]]>) }\nfn g(a) { if { false; \"b\"; false } {} else {} }\nfn h(a, b) {}\n",
+        "end: stuck 2 WrongKind\nturns left: 0\nvariable m = ()\ncall &(\"f\", \"a\")\ncall >>(\"\", true)\n",
+    ),
+    (
         "turns 3\nconstant y = \"\"\nvariable a = [()]\nvariable b = [\"a\", false]\nrecord x = -9223372036854775808\nrecord c = true\ntype array as list\ntype map as object\nmodule ns::a = 5\nmodule ns::x = 2\nanswer 0 => [\"\", 63, -2] then ()\nanswer 1 => () then ()\nanswer 2 => \"é\" then \"é\"\nanswer 3 => 2\nanswer 4 => [0, false]\n",
         "noop\n[/(false, false), ..(1, ())]\n",
         "end: value [[\"\", 63, -2], 1..9223372036854775807]\nturns left: 3\nconstant y = \"\"\nvariable a = [()]\nvariable b = [\"a\", false]\ncall /(false, false)\n",
@@ -32,7 +37,7 @@ pub const PLAIN: [Run; 5] = [
 ];
 
 /// Those whose runs come to one.
-pub const CALLING: [Run; 24] = [
+pub const CALLING: [Run; 23] = [
     (
         "turns 1\nrecord y = ()\noverride %= char\noverride .. map i64\noverride / i64 i64\noverride << i64\noverride <= i64 i64\noverride >> string string\noverride ^= ()\noverride ^= map string\noverride |= i64 i64\ntype i64 as int\nmodule ns::a = 5\nmodule ns::x = ()\nanswer 0 get$a => [-9223372036854775808]\nanswer get$a => ()\nanswer 0 h => ['b'] then 63\nanswer 1 h => throw \"ab\"\nanswer h => ()\n",
         "block { call f(63); !=((), ()); +(\"a\", \"é\") }\nnoop\n",
@@ -127,11 +132,6 @@ pub const CALLING: [Run; 24] = [
         "turns 10\nvariable y = true\nvariable x = ()\nconstant y = 0\nrecord b = 9223372036854775807\nmodule ns::a = 5\nmodule ns::x = ()\nanswer push => ()\nanswer 0 => [] then 'a'\nanswer 1 => throw 'a'\nanswer 2 => 'b'\nanswer 3 => -1\nanswer 4 => throw \"b\"\n",
         "if true { {} } else {}\nnoop\n!(h(Fn(\"type_of\")))\n",
         "end: thrown \"function name\"\nturns left: 10\nvariable y = true\nvariable x = ()\nconstant y = 0\n",
-    ),
-    (
-        "turns 0\nvariable m = ()\nrecord y = [1, true, true]\nrecord b = []\ntype i64 as int\nfast operators\nmodule ns::a = 5\nmodule ns::x = true\nanswer h => ()\nanswer 0 => \"\"\nanswer 1 => \"a\" then ()\nanswer 2 => []\n",
-        "noop\ncall >>(&(\"f\", \"a\"), &(true, true))\nif { -9223372036854775808; false } { ..(64, true); call !('z') } else { call curry!((), <[[]]>) }\nfn g(a) { if { false; \"b\"; false } {} else {} }\nfn h(a, b) {}\n",
-        "end: stuck 2 WrongKind\nturns left: 0\nvariable m = ()\ncall &(\"f\", \"a\")\ncall >>(\"\", true)\n",
     ),
     (
         "turns 2\nconstant b = ()\ntype i64 as int\nmodule ns::a = 5\nmodule ns::x = false\nanswer 0 => \"\" then \"a\"\nanswer 1 => throw ()\nanswer 2 => 'b' then [\"ab\", false, 'é']\n",
