@@ -22,7 +22,7 @@ use tests_reader::{Unread, read_script};
 /// What a run is given, a script in print, and the report in print.
 pub type Run = (&'static str, &'static str, &'static str);
 
-/// First those whose runs come to no chain and to no call by a name.
+/// First those whose runs come to no chain and to no call by a name, or are stuck there.
 const TABLES: [&[Run]; 12] = [
     &chains::PLAIN,
     &directed::PLAIN,

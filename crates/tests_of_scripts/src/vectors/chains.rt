@@ -2,16 +2,14 @@
 
 use crate::vectors::Run;
 
-/// Those whose runs come to no chain and to no call by a name.
-pub const PLAIN: [Run; 1] = [
-    (
-        "turns 10\nconstant c = [(), 3]\noverride - range=\noverride .. char string\noverride | i64 i64\nmodule ns::a = 5\nmodule ns::x = \"a\"\nanswer 0 => true then 0..-1\nanswer 1 => true\nanswer 2 => ()\n",
-        "let a = <3..6>\nlet m = <[#{\"b\": \"a\", \"k\": 'é'}, #{\"a\": true, \"b\": 'b', \"k\": 0..1}]>\nlet x = <[#{\"a\": #{\"b\": ()}}]>\ntry { this += 1 } catch c {}\nfn push() { this = <true>; return this }\nfn k() { y }\n",
-        "end: stuck 6 UnboundThis\nturns left: 10\nconstant c = [(), 3]\nvariable a = 3..6\nvariable m = [#{\"b\": \"a\", \"k\": 'é'}, #{\"a\": true, \"b\": 'b', \"k\": 0..1}]\nvariable x = [#{\"a\": #{\"b\": ()}}]\n",
-    ),
-];
+/// Those whose runs come to no chain and to no call by a name, or are stuck there.
+pub const PLAIN: [Run; 1] = [(
+    "turns 10\nconstant c = [(), 3]\noverride - range=\noverride .. char string\noverride | i64 i64\nmodule ns::a = 5\nmodule ns::x = \"a\"\nanswer 0 => true then 0..-1\nanswer 1 => true\nanswer 2 => ()\n",
+    "let a = <3..6>\nlet m = <[#{\"b\": \"a\", \"k\": 'é'}, #{\"a\": true, \"b\": 'b', \"k\": 0..1}]>\nlet x = <[#{\"a\": #{\"b\": ()}}]>\ntry { this += 1 } catch c {}\nfn push() { this = <true>; return this }\nfn k() { y }\n",
+    "end: stuck 6 UnboundThis\nturns left: 10\nconstant c = [(), 3]\nvariable a = 3..6\nvariable m = [#{\"b\": \"a\", \"k\": 'é'}, #{\"a\": true, \"b\": 'b', \"k\": 0..1}]\nvariable x = [#{\"a\": #{\"b\": ()}}]\n",
+)];
 
-/// Those whose runs come to one.
+/// Those whose runs go on from one.
 pub const CALLING: [Run; 29] = [
     (
         "turns 1\nvariable c = ()\nconstant y = 9223372036854775806\nrecord y = -2..=-1\nrecord x = Fn(g)\noverride &= map ()\noverride <= Fn\noverride >> i64 i64\nfast operators\nmodule ns::a = 5\nmodule ns::x = 'a'\nanswer 0 => 63\nanswer 1 => true\nanswer 2 => 0\nanswer 3 => throw [\"é\"]\n",

@@ -6,7 +6,7 @@ use crate::vectors::Run;
 /// else with unit.
 const GIVEN: &str = "turns 3\nanswer f => ()\nanswer g => ()\nanswer 0 => 3 then 4\n";
 
-/// Those whose runs come to no chain and to no call by a name.
+/// Those whose runs come to no chain and to no call by a name, or are stuck there.
 pub const PLAIN: [Run; 15] = [
     (
         GIVEN,
@@ -58,16 +58,8 @@ pub const PLAIN: [Run; 15] = [
         "and(false, 1)\n",
         "end: value false\nturns left: 3\n",
     ),
-    (
-        GIVEN,
-        "and()\n",
-        "end: value true\nturns left: 3\n",
-    ),
-    (
-        GIVEN,
-        "coalesce()\n",
-        "end: value ()\nturns left: 3\n",
-    ),
+    (GIVEN, "and()\n", "end: value true\nturns left: 3\n"),
+    (GIVEN, "coalesce()\n", "end: value ()\nturns left: 3\n"),
     (
         GIVEN,
         "const x = 1\nx = 1\n",
@@ -85,7 +77,7 @@ pub const PLAIN: [Run; 15] = [
     ),
 ];
 
-/// Those whose runs come to one.
+/// Those whose runs go on from one.
 pub const CALLING: [Run; 35] = [
     (
         GIVEN,
@@ -147,11 +139,7 @@ pub const CALLING: [Run; 35] = [
         "type_of(1, 2)\n",
         "end: value 3\nturns left: 3\ncall type_of(1, 2)\n",
     ),
-    (
-        GIVEN,
-        "Fn()\n",
-        "end: value 3\nturns left: 3\ncall Fn()\n",
-    ),
+    (GIVEN, "Fn()\n", "end: value 3\nturns left: 3\ncall Fn()\n"),
     (
         GIVEN,
         "curry()\n",

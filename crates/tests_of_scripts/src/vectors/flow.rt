@@ -2,7 +2,7 @@
 
 use crate::vectors::Run;
 
-/// Those whose runs come to no chain and to no call by a name.
+/// Those whose runs come to no chain and to no call by a name, or are stuck there.
 pub const PLAIN: [Run; 19] = [
     (
         "turns 2\nvariable b = 9223372036854775806\noverride % i64 i64\noverride + () array\noverride /= char i64\noverride < range ()\noverride << i64\noverride << range=\noverride ^ ()\noverride | i64 i64\noverride |= i64 i64\nmodule ns::a = 5\nmodule ns::x = -1..1\nanswer 0 h => Fn(h) then 9223372036854775806\nanswer 1 h => -1\nanswer h => ()\nanswer 0 => ()\n",
@@ -101,7 +101,7 @@ pub const PLAIN: [Run; 19] = [
     ),
 ];
 
-/// Those whose runs come to one.
+/// Those whose runs go on from one.
 pub const CALLING: [Run; 40] = [
     (
         "turns 0\nvariable c = [(), 'b', \"\"]\nrecord a = 7\nrecord y = ['é', 'é']\ntype i64 as int\nmodule ns::a = 5\nmodule ns::x = ()\nanswer 0 h => 'a'\nanswer h => ()\nanswer 0 => #{}\nanswer 1 => [64, 0, 'b'] then -1\nanswer 2 => Fn(f) then 2..=3\n",

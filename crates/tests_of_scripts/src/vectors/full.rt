@@ -2,7 +2,7 @@
 
 use crate::vectors::Run;
 
-/// Those whose runs come to no chain and to no call by a name.
+/// Those whose runs come to no chain and to no call by a name, or are stuck there.
 pub const PLAIN: [Run; 21] = [
     (
         "turns 1\nconstant c = 1..=4\nrecord b = \"f\"\nrecord m = 'a'\ntype i64 as int\nfast operators\nmodule ns::a = 5\nmodule ns::x = Fn(f)\nanswer 0 + => 3\nanswer 1 + => ()\nanswer 2 + => throw 'a'\nanswer + => ()\nanswer 0 => throw ()\nanswer 1 => \"é\" then \"b\"\nanswer 2 => () then 'é'\nanswer 3 => throw [(), (), 'z']\n",
@@ -111,7 +111,7 @@ pub const PLAIN: [Run; 21] = [
     ),
 ];
 
-/// Those whose runs come to one.
+/// Those whose runs go on from one.
 pub const CALLING: [Run; 61] = [
     (
         "turns 2\nvariable c = 9223372036854775807\nvariable m = false\nvariable c = true\nrecord x = #{}\nrecord a = [9223372036854775807, 1, true]\noverride & i64 i64\noverride * i64 bool\noverride - map Fn\noverride /= i64 i64\noverride <<= i64 i64\noverride >= ()\noverride ^ bool\noverride | array char\noverride |= ()\nfast operators\nmodule ns::a = 5\nmodule ns::x = false\n",

@@ -2,7 +2,7 @@
 
 use crate::vectors::Run;
 
-/// Those whose runs come to no chain and to no call by a name.
+/// Those whose runs come to no chain and to no call by a name, or are stuck there.
 pub const PLAIN: [Run; 6] = [
     (
         "turns 0\nmodule ns::a = 5\nmodule ns::x = \"ab\"\nanswer 0 g => 'a'\nanswer g => ()\nanswer 0 => throw 'b'\n",
@@ -36,7 +36,7 @@ pub const PLAIN: [Run; 6] = [
     ),
 ];
 
-/// Those whose runs come to one.
+/// Those whose runs go on from one.
 pub const CALLING: [Run; 23] = [
     (
         "turns 1\nrecord y = ()\noverride %= char\noverride .. map i64\noverride / i64 i64\noverride << i64\noverride <= i64 i64\noverride >> string string\noverride ^= ()\noverride ^= map string\noverride |= i64 i64\ntype i64 as int\nmodule ns::a = 5\nmodule ns::x = ()\nanswer 0 get$a => [-9223372036854775808]\nanswer get$a => ()\nanswer 0 h => ['b'] then 63\nanswer 1 h => throw \"ab\"\nanswer h => ()\n",

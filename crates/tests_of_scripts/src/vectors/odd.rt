@@ -2,7 +2,7 @@
 
 use crate::vectors::Run;
 
-/// Those whose runs come to no chain and to no call by a name.
+/// Those whose runs come to no chain and to no call by a name, or are stuck there.
 pub const PLAIN: [Run; 20] = [
     (
         "turns 10\nvariable c = \"b\"\nvariable m = [-9223372036854775808, 'b']\nconstant m = 7\nfast operators\nmodule ns::a = 5\nmodule ns::x = [0]\nanswer 0 f => -9223372036854775808 then \"\"\nanswer 1 f => () then ['b', true, \"ab\"]\nanswer 2 f => () then 63\nanswer f => ()\nanswer 0 + => ()\nanswer 1 + => \"\"\nanswer 2 + => 9223372036854775806 then \"f\"\nanswer 3 + => 0 then ()\nanswer + => ()\nanswer 0 => 'é'\nanswer 1 => \"é\" then 'a'\nanswer 2 => ()\n",
@@ -106,7 +106,7 @@ pub const PLAIN: [Run; 20] = [
     ),
 ];
 
-/// Those whose runs come to one.
+/// Those whose runs go on from one.
 pub const CALLING: [Run; 7] = [
     (
         "turns 2\nvariable x = 9223372036854775807\nvariable m = 'a'\noverride != ()\noverride - bool array\noverride - i64\noverride ..= range= char\noverride < array string\noverride > i64 i64\noverride >>= string\noverride | i64 i64\noverride |= i64 i64\nmodule ns::a = 5\nmodule ns::x = 0\nanswer get$a => ()\nanswer 0 => [true] then [(), 'b', ()]\nanswer 1 => \"b\"\nanswer 2 => 3\nanswer 3 => 1\nanswer 4 => []\n",
