@@ -8,7 +8,7 @@ use std::test::Fail;
 use tests_reader::{Unread, read_expr, read_link, read_stmt};
 
 /// What an expression or a statement is, a bit each.
-const NO: u8 = 0;
+pub const NO: u8 = 0;
 
 const CONSTANT: u8 = 1;
 
@@ -16,7 +16,7 @@ const UNIT: u8 = 2;
 
 const NOOP: u8 = 1;
 
-const LEAVES: u8 = 2;
+pub const LEAVES: u8 = 2;
 
 const PURE: u8 = 4;
 
@@ -32,7 +32,7 @@ const CLOSED: u8 = 64;
 
 /// An expression, or with a `.` before it what stands at the right of one; what it is, the bits of its flags, and the tokens
 /// that may follow it beside those that go into it.
-type ExprRow = (&'static str, u8, u8, &'static str);
+pub type ExprRow = (&'static str, u8, u8, &'static str);
 
 const LITERAL: u8 = CONSTANT + PURE;
 
@@ -106,7 +106,7 @@ pub fn read(alloc: Global, text: &str) -> Result<Expr, Unread> {
     }
 }
 
-fn is_expr(expr: &Expr, row: &ExprRow) -> bool {
+pub fn is_expr(expr: &Expr, row: &ExprRow) -> bool {
     let (_, bits, options, _) = *row;
     expr.is_constant() == has(bits, CONSTANT)
         && expr.is_pure() == has(bits, PURE)
@@ -142,9 +142,9 @@ fn is_followed(expr: &Expr, tokens: &str) -> bool {
 }
 
 /// A statement, what it is, and the bits of its flags.
-type StmtRow = (&'static str, u8, u8);
+pub type StmtRow = (&'static str, u8, u8);
 
-const BOUND: u8 = INSIDE_ALONE + DEPENDENT;
+pub const BOUND: u8 = INSIDE_ALONE + DEPENDENT;
 
 const CHOICES: [StmtRow; 22] = [
     ("noop", NOOP + INSIDE, 0),
@@ -281,7 +281,7 @@ fn is_stmt_copied(statement: &Stmt, row: &StmtRow) -> Result<bool, OutOfMemory> 
     Ok(is_stmt(&copy, row))
 }
 
-fn is_stmt(statement: &Stmt, row: &StmtRow) -> bool {
+pub fn is_stmt(statement: &Stmt, row: &StmtRow) -> bool {
     let (_, bits, options) = *row;
     statement.is_noop() == has(bits, NOOP)
         && statement.is_pure() == has(bits, PURE)
