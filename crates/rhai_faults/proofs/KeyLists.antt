@@ -20,7 +20,7 @@ use Rattle.rhai_parts.specs.declared.ident.Ident.{Ident}
 use Rattle.rhai_tree.specs.declared.expr.Expr.{Expr}
 use Rattle.rhai_values.specs.declared.dynamic.Dynamic.{Dynamic}
 use Rattle.rhai_values.specs.Value.{Text, same_text}
-use Rattle.rhai_meaning.specs.Shape.{are_among, are_distinct, keys}
+use Rattle.rhai_meaning.specs.Shape.{are_among, are_distinct}
 use Rattle.rhai_reading.specs.Reading.{keys_of}
 use Rattle.rhai_faults.specs.MapKeys.{names_of, texts_of}
 

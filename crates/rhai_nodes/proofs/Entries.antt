@@ -1,5 +1,5 @@
 -- Entries put into a map one after another, and the fields that they stand for.
-use Rattle.std.proofs.Common.{◌≡◌, ℕ, Bool, true, false, ◌&&◌, ◌||◌, ◌==◌, List, [], ◌∷◌, nat_lt, nat_cmp, refl, sym, ap, ◌∙◌, arith}
+use Rattle.std.proofs.Common.{◌≡◌, ℕ, ◌&&◌, ◌||◌, ◌==◌, List, [], ◌∷◌, nat_lt, nat_cmp, refl, sym, ap, ◌∙◌, arith}
 use Rattle.std.specs.declared.cmp.Ordering.{Ordering}
 use Rattle.std.specs.declared.cmp.Ordering.TheVariants as order
 use Rattle.std.specs.Ordering.{is_eq, is_lt, match_ordering, ordering_then, ordering_reverse}
@@ -10,7 +10,7 @@ use Rattle.std.proofs.lemmas.Cmp.{nat_list_cmp_total}
 use Rattle.std.proofs.lemmas.Map.Lookups.{exact_bytes}
 use Rattle.std.proofs.lemmas.Map.Text.{is_eq-slice_cmp}
 use Rattle.rhai_values.specs.declared.dynamic.Dynamic.{Dynamic}
-use Rattle.rhai_values.specs.Value.{Text, Fields, field, fields, same_text}
+use Rattle.rhai_values.specs.Value.{Text, field, fields, same_text}
 use Rattle.rhai_values.specs.Reading.{value_of, members_of}
 use Rattle.rhai_base.specs.Operators.{text_lt}
 use Rattle.rhai_meaning.specs.Elements.{with_entry}

@@ -1,5 +1,5 @@
 -- A node that is put somewhere else is read as the same tree, and stands there.
-use Rattle.std.proofs.Common.{◌≡◌, List, [], ◌∷◌, map, Option, Some, None, refl, sym, ap, ◌∙◌}
+use Rattle.std.proofs.Common.{◌≡◌, List, [], ◌∷◌, map, Option, refl, sym, ap, ◌∙◌}
 use Rattle.rhai_tokens.specs.declared.position.Position.{Position}
 use Rattle.rhai_parts.specs.declared.ident.Ident.{Ident}
 use Rattle.std.specs.declared.num.NonZeroUsize.{NonZeroUsize}

@@ -1,5 +1,5 @@
 -- Nodes put somewhere else.
-use Rattle.std.specs.Prelude.{◌≡◌, ℕ, ℤ, Bool, List, [], ◌∷◌, map, Option, Some, None, refl}
+use Rattle.std.specs.Prelude.{◌≡◌, ℕ, ℤ, Bool, List, map, Option}
 use Rattle.std.proofs.Common.{sym, ap, ◌∙◌}
 use Rattle.rhai_values.specs.declared.dynamic.Dynamic.{Dynamic}
 use Rattle.rhai_tokens.specs.declared.op_assignment.OpAssignment.{OpAssignment}
@@ -23,7 +23,7 @@ use Rattle.rhai_tree.specs.declared.expr.BinaryExpr.{BinaryExpr}
 use Rattle.rhai_tree.specs.declared.expr.FnCallExpr.{FnCallExpr}
 use Rattle.rhai_tree.specs.declared.stmt.FlowControl.{FlowControl}
 use Rattle.rhai_tree.specs.declared.switch.SwitchBlock.{SwitchBlock}
-use Rattle.rhai_reading.specs.Positions.{ExprLayer, StmtLayer, position_of}
+use Rattle.rhai_reading.specs.Positions.{ExprLayer, StmtLayer}
 
 -- a block with other braces
 abbrev pub with_span : Span → StmtBlock → StmtBlock

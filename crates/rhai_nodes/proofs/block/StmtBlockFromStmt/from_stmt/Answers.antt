@@ -1,6 +1,5 @@
 use Rattle.std.proofs.Common.{◌≡◌, IfOk, subst}
 use Rattle.rhai_tree.specs.declared.block.StmtBlock.{StmtBlock}
-use Rattle.rhai_nodes.specs.Blocks.{block_made_of, block_of_one}
 use Rattle.rhai_nodes.proofs.Blocks.{block_of_other}
 use Rattle.rhai_nodes.proofs.block.StmtBlockFromStmt.from_stmt.Goals as goal
 
