@@ -14,7 +14,7 @@ use std::alloc::Global;
 use std::collections::HashSet;
 
 /// Whether the keys of a literal differ, and are those of its template.
-pub(crate) fn test_keys(
+pub fn test_keys(
     alloc: Global,
     members: &[(Ident, Expr)],
     template: &StringMap<Dynamic>,

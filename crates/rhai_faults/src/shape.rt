@@ -35,7 +35,7 @@ pub(crate) fn is_unit(value: &Dynamic) -> bool
 // ---- calls and names
 
 /// Whether an operator's name, its token and its operands belong together, or there is no operator.
-pub(crate) fn is_formed(call: &FnCallExpr) -> bool
+pub fn is_formed(call: &FnCallExpr) -> bool
     ensures { result ≡ shape.has_token (callee_of call.now) (count_exprs (exprs_of call.now.args))
         (mark_of call.now.op_token) }
 {
@@ -66,7 +66,7 @@ pub(crate) fn is_reserved(name: &str) -> bool
 
 /// Whether the right side of a `.` or an index, and the chain from there on, has its shape.
 #[cycle(rest)]
-pub(crate) fn is_rest(is_dot: bool, is_last: bool, rhs: &Expr) -> bool
+pub fn is_rest(is_dot: bool, is_last: bool, rhs: &Expr) -> bool
     ensures { result ≡ shape.is_rest is_dot is_last (expr_of rhs.now) }
 {
     match rhs {
@@ -121,7 +121,7 @@ fn is_member(expr: &Expr) -> bool
 // ---- left sides and catch names
 
 /// Whether a value can be assigned to it.
-pub(crate) fn is_left_side(expr: &Expr) -> bool
+pub fn is_left_side(expr: &Expr) -> bool
     ensures { result ≡ shape.is_left_side (expr_of expr.now) }
 {
     matches!(

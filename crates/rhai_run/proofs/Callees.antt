@@ -21,7 +21,7 @@ use Rattle.rhai_reading.specs.Reading.{exprs_of}
 use Rattle.rhai_meaning.specs.Tree.{CallToken, NoToken, OfOperator, OfOther, Callee, count_exprs}
 use Rattle.rhai_engine.specs.EngineInfo.{built_in_of, built_in_at}
 use Rattle.rhai_run.specs.Operators.{operator_by, called_operator}
-use Rattle.rhai_meaning.specs.Small.{small_expr, small_exprs}
+use Rattle.rhai_run.specs.Covered.{covered_expr, covered_exprs}
 
 pub count_exprs_of : (xs : List Expr) → count_exprs (exprs_of xs) ≡ length xs
 count_exprs_of [] = refl
@@ -69,18 +69,18 @@ ill_op : (b c : Bool) (op : Operator) (f : core.Expr) → None ≡ (if b then So
 ill_op true c op f e = cc
 ill_op false c op f e = refl
 
-by_name : (b : Bool) (k : Callee) (ns : List Text) (es : core.Exprs) → small_expr (cond b (core.FnCall (desugar.by_name k ns) es) core.Ill) ≡ core.Ill
+by_name : (b : Bool) (k : Callee) (ns : List Text) (es : core.Exprs) → covered_expr (cond b (core.FnCall (desugar.by_name k ns) es) core.Ill) ≡ core.Ill
 by_name true k [] es = refl
 by_name true k (m ∷ ms) es = refl
 by_name false k ns es = refl
 
-ill_by : (k : Callee) (n : ℕ) (m : CallToken) (es : core.Exprs) → None ≡ operator_by k n m → small_expr (cond (has_token k n m && not (is_barred k)) (core.FnCall (callee_by k m) es) core.Ill) ≡ core.Ill
+ill_by : (k : Callee) (n : ℕ) (m : CallToken) (es : core.Exprs) → None ≡ operator_by k n m → covered_expr (cond (has_token k n m && not (is_barred k)) (core.FnCall (callee_by k m) es) core.Ill) ≡ core.Ill
 ill_by k n NoToken es e = by_name (has_token k n NoToken && not (is_barred k)) k k.namespace es
-ill_by k n (OfOperator op) es e = ap small_expr (ill_op (has_token k n (OfOperator op)) (not (is_barred k)) op _ e)
+ill_by k n (OfOperator op) es e = ap covered_expr (ill_op (has_token k n (OfOperator op)) (not (is_barred k)) op _ e)
 ill_by k n OfOther es e = refl
 
 -- a call that is no operator's
-pub call_ill : (k : Callee) (n : ℕ) (es : core.Exprs) → None ≡ called_operator k n → small_expr (call_of k n es) ≡ core.Ill
+pub call_ill : (k : Callee) (n : ℕ) (es : core.Exprs) → None ≡ called_operator k n → covered_expr (call_of k n es) ≡ core.Ill
 call_ill k n es e = ill_by k n k.token es e
 
 meant_op : (k : Callee) (n : ℕ) (b : Bool) (op o : Operator) (es : core.Exprs) → has_token k n (OfOperator o) ≡ b → Some op ≡ (if b then Some o else None) → cond (has_token k n (OfOperator o) && not (is_barred k)) (core.FnCall (core.OnOperator o) es) core.Ill ≡ core.FnCall (core.OnOperator op) es
@@ -95,8 +95,8 @@ meant_by k n (OfOperator o) op es e = meant_op k n (has_token k n (OfOperator o)
 meant_by k n OfOther op es e = cc
 
 -- a call of an operator
-pub call_operates : (k : Callee) (n : ℕ) (op : Operator) (es : core.Exprs) → Some op ≡ called_operator k n → small_expr (call_of k n es) ≡ core.FnCall (core.OnOperator op) (small_exprs es)
-call_operates k n op es e = ap small_expr (meant_by k n k.token op es e)
+pub call_operates : (k : Callee) (n : ℕ) (op : Operator) (es : core.Exprs) → Some op ≡ called_operator k n → covered_expr (call_of k n es) ≡ core.FnCall (core.OnOperator op) (covered_exprs es)
+call_operates k n op es e = ap covered_expr (meant_by k n k.token op es e)
 
 -- ---- the host in place of an operator
 

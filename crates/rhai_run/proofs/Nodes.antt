@@ -1,84 +1,135 @@
--- The run of a node from those of its parts.
-use Rattle.std.proofs.Common.{◌≡◌, ℕ, Bool, true, List, [], map, length, take, None, Some, Result, Ok, Err, refl, sym, ap, ◌∙◌, subst, arith, false}
-use Rattle.rhai_values.specs.declared.dynamic.Dynamic.{Dynamic}
-use Rattle.rhai_tokens.specs.declared.position.Position.{Position}
+-- Nodes by their parts: arrays, texts, calls, braces.
+use Rattle.std.proofs.Common.{◌≡◌, ℕ, Bool, true, false, cond, List, map, length, Option, Some, None, Result, Ok, Err, refl, sym, ap, ◌∙◌, subst, arith}
 use Rattle.rhai_tokens.specs.declared.token.Token.{Token}
-use Rattle.rhai_base.specs.Operators.{Operator}
-use Rattle.rhai_values.specs.Reading.{value_of}
+use Rattle.rhai_values.specs.declared.dynamic.Dynamic.{Dynamic}
+use Rattle.rhai_values.specs.declared.dynamic.Dynamic.TheVariants as value
+use Rattle.rhai_values.specs.Reading.{value_of, value_of-Array, value_of-Unit}
+use Rattle.rhai_values.specs.Value.{Text, Value, ArrayV, TextV, values}
 use Rattle.rhai_base.specs.Builtin.{operator_of}
-use Rattle.rhai_values.specs.Value.{UnitV, ArrayV, values}
-use Rattle.rhai_tree.specs.declared.expr.Expr.{Expr}
-use Rattle.rhai_tree.specs.declared.expr.Expr.TheVariants as expr_kind
+use Rattle.rhai_base.specs.Operators.{Operator}
 use Rattle.rhai_tree.specs.declared.expr.FnCallExpr.{FnCallExpr}
-use Rattle.rhai_tree.specs.declared.stmt.Stmt.{Stmt}
-use Rattle.rhai_tree.specs.declared.stmt.Stmt.TheVariants as stmt_kind
-use Rattle.rhai_meaning.specs.Act.{IsStuck, WrongKind, Halted, Act}
-use Rattle.rhai_meaning.specs.ActForms.{give, choose, if_true, truth, ◌>>=◌}
+use Rattle.rhai_reading.specs.Reading.{callee_of, exprs_of}
+use Rattle.rhai_meaning.specs.ActForms.{give}
 use Rattle.rhai_meaning.specs.Calls.{called, operate}
+use Rattle.rhai_meaning.specs.Control.{texts_joined}
 use Rattle.rhai_meaning.specs.Core as core
-use Rattle.rhai_meaning.specs.Desugar.{call_of, core_exprs}
-use Rattle.rhai_meaning.specs.Meaning.{act, acts}
-use Rattle.rhai_reading.specs.Reading.{callee_of, expr_of, exprs_of, stmt_of, expr_of-Array, expr_of-FnCall, stmt_of-FnCall}
-use Rattle.rhai_meaning.specs.Run.{reversed}
+use Rattle.rhai_meaning.specs.Desugar.{core_expr, core_exprs, guard_by}
+use Rattle.rhai_meaning.specs.Meaning.{text}
+use Rattle.rhai_meaning.specs.Shape.{is_chain, is_unit}
 use Rattle.rhai_meaning.specs.Tree as tree
 use Rattle.rhai_run.specs.declared.plain.state.Interrupt.{Interrupt}
+use Rattle.rhai_run.specs.declared.plain.state.Interrupt.TheVariants.{NoMemory, Return, Break, Continue, Throw, Stuck, OutOfTurns}
 use Rattle.rhai_run.specs.declared.plain.state.State.{State}
-use Rattle.rhai_run.specs.Entries.{variable_meant}
-use Rattle.rhai_run.specs.Evaluating.{Setting, Leads, Runs, RunsExpr, RunsExprs, RunsCall, RunsStmt, RunsStmts, RunsBlock, or_stuck}
-use Rattle.rhai_run.specs.Host.{call_meant}
+use Rattle.rhai_run.specs.declared.report.Stuck.TheVariants as why
+use Rattle.rhai_run.specs.Covered.{covered_expr, covered_guard}
+use Rattle.rhai_run.specs.Evaluating.{call_core, expr_core, stmts_core, IsConstant, RunsArgs, RunsBlock, RunsCall, RunsCore, RunsDeed, RunsExpr, RunsExprs, RunsLine, RunsStmt}
 use Rattle.rhai_run.specs.Operators.{called_operator, StandsFor}
-use Rattle.rhai_meaning.specs.Small.{small_expr, small_exprs_of, small_stmts_of}
-use Rattle.rhai_run.proofs.Callees.{count_exprs_of, call_ill, call_operates}
-use Rattle.rhai_run.proofs.Evaluating.{then_runs, if_stuck, if_runs, args_run, args_stop, braces_run, line_runs}
-use Rattle.rhai_run.proofs.Scopes.{restore_cut}
+use Rattle.rhai_run.specs.Runs.{Setting, Acting, Leads, Runs, given}
+use Rattle.rhai_run.proofs.Callees.{call_ill, call_operates, count_exprs_of}
+use Rattle.rhai_run.proofs.Goes.{gives, goes_then, leads_then}
+use Rattle.rhai_run.proofs.Statements.{deed_line}
 
-module _ (here : Setting) where
-  pub array_stops : (e : Expr) (xs : List Expr) (p : Position) (s s1 : State) (x : Interrupt) → e ≡ expr_kind.Array xs p → RunsExprs here (exprs_of xs) s (Err x) s1 → RunsExpr here (expr_of e) s (Err x) s1
-  array_stops e xs p s s1 x is q =
-      subst (λ y. RunsExpr here y s (Err x) s1) (sym (ap expr_of is ∙ expr_of-Array xs p)) (args_stop here (small_exprs_of (exprs_of xs)) (λ vs. give (ArrayV (values vs))) s s1 x q)
+operator_known : (c : FnCallExpr) (op : Token) → StandsFor (Some op) (called_operator (callee_of c) (length c.args)) → (p : Operator) × (operator_of op ≡ Some p) × (Some p ≡ called_operator (callee_of c) (tree.count_exprs (exprs_of c.args)))
+operator_known c op e = (e.0, e.1, e.2 ∙ ap (called_operator (callee_of c)) (sym (count_exprs_of c.args)))
+
+module _ (here : Setting) (loop : Bool) where
+  -- ---- lists of values
+
+  pub array_stops : (es : tree.Exprs) (s s1 : State) (x : Interrupt) → RunsExprs here loop es s (Err x) s1 → RunsExpr here loop (tree.ArrayOf es) s (Err x) s1
+  array_stops es s s1 x q = q (λ vs. give (ArrayV (values vs)))
+
+  pub array_runs : (es : tree.Exprs) (s s1 : State) (vs : List Dynamic) → RunsExprs here loop es s (Ok vs) s1 → RunsExpr here loop (tree.ArrayOf es) s (Ok (value.Array vs)) s1
+  array_runs es s s1 vs q = goes_then here (q (λ us. give (ArrayV (values us)))) (gives here _ _ s1 (sym (value_of-Array vs)))
+
+  pub string_stops : (es : tree.Exprs) (s s1 : State) (x : Interrupt) → RunsExprs here loop es s (Err x) s1 → RunsExpr here loop (tree.InterpolatedString es) s (Err x) s1
+  string_stops es s s1 x q = q text
+
+  pub string_runs : (es : tree.Exprs) (s s1 : State) (vs : List Dynamic) (v : Dynamic) → RunsExprs here loop es s (Ok vs) s1 → value_of v ≡ TextV (texts_joined (map value_of vs)) → RunsExpr here loop (tree.InterpolatedString es) s (Ok v) s1
+  string_runs es s s1 vs v q h = goes_then here (q text) (gives here _ _ s1 (sym h))
 
   -- ---- calls
 
-  pub call_of_expr : (e : Expr) (c k : FnCallExpr) (p : Position) (s s1 : State) (r : Result Dynamic Interrupt) → e ≡ expr_kind.FnCall c p → k ≡ c → RunsCall here (callee_of k) (exprs_of k.args) s r s1 → RunsExpr here (expr_of e) s r s1
-  call_of_expr e c k p s s1 r is same q =
-      subst (λ y. RunsExpr here y s r s1) (sym (ap expr_of is ∙ expr_of-FnCall c p)) (subst (λ d. RunsCall here (callee_of d) (exprs_of d.args) s r s1) same q)
-
-  pub call_of_stmt : (l : Stmt) (c k : FnCallExpr) (p : Position) (s s1 : State) (r : Result Dynamic Interrupt) → l ≡ stmt_kind.FnCall c p → k ≡ c → RunsCall here (callee_of k) (exprs_of k.args) s r s1 → RunsStmt here (stmt_of l) s r s1
-  call_of_stmt l c k p s s1 r is same q =
-      subst (λ y. RunsStmt here y s r s1) (sym (ap stmt_of is ∙ stmt_of-FnCall c p)) (line_runs here _ s s1 r (subst (λ d. RunsCall here (callee_of d) (exprs_of d.args) s r s1) same q))
-
-  -- the operator of a token that fits its call
-  pub operator_known : (c : FnCallExpr) (op : Token) → StandsFor (Some op) (called_operator (callee_of c) (length c.args)) → (o : Operator) × (operator_of op ≡ Some o) × (Some o ≡ called_operator (callee_of c) (tree.count_exprs (exprs_of c.args)))
-  operator_known c op e = (e.0, e.1, e.2 ∙ ap (called_operator (callee_of c)) (sym (count_exprs_of c.args)))
-
-  -- a call whose token fits no call of its operator
-  pub call_stuck : (c : FnCallExpr) (s : State) → None ≡ called_operator (callee_of c) (length c.args) → Leads here (act here.world (small_expr (call_of (callee_of c) (tree.count_exprs (exprs_of c.args)) (core_exprs false (exprs_of c.args))))) s (Halted (IsStuck WrongKind)) s
+  pub call_stuck : (c : FnCallExpr) (s : State) → None ≡ called_operator (callee_of c) (length c.args) → RunsCall here loop (callee_of c) (exprs_of c.args) s (Err (Stuck why.WrongKind)) s
   call_stuck c s e =
-      let ill = call_ill (callee_of c) (tree.count_exprs (exprs_of c.args)) (core_exprs false (exprs_of c.args)) (e ∙ ap (called_operator (callee_of c)) (sym (count_exprs_of c.args))) in
-      subst (λ x. Leads here (act here.world x) s (Halted (IsStuck WrongKind)) s) (sym ill) (record { turns = omega arith; runs = λ d le. refl })
+      let ill = call_ill (callee_of c) (tree.count_exprs (exprs_of c.args)) (core_exprs loop (exprs_of c.args)) (e ∙ ap (called_operator (callee_of c)) (sym (count_exprs_of c.args))) in
+      subst (λ x. RunsCore here x s (Err (Stuck why.WrongKind)) s) (sym ill) (record { turns = omega arith; runs = λ d le. refl })
 
-  pub call_stops : (c : FnCallExpr) (op : Token) (s s1 : State) (x : Interrupt) → StandsFor (Some op) (called_operator (callee_of c) (length c.args)) → RunsExprs here (exprs_of c.args) s (Err x) s1 → RunsCall here (callee_of c) (exprs_of c.args) s (Err x) s1
+  pub call_stops : (c : FnCallExpr) (op : Token) (s s1 : State) (x : Interrupt) → StandsFor (Some op) (called_operator (callee_of c) (length c.args)) → RunsExprs here loop (exprs_of c.args) s (Err x) s1 → RunsCall here loop (callee_of c) (exprs_of c.args) s (Err x) s1
   call_stops c op s s1 x e q =
       let o = operator_known c op e in
-      subst (λ y. Runs here (act here.world y) s (Err x) s1) (sym (call_operates (callee_of c) (tree.count_exprs (exprs_of c.args)) o.0 (core_exprs false (exprs_of c.args)) o.2))
-      (args_stop here (small_exprs_of (exprs_of c.args)) (λ vs. called here.world (core.OnOperator o.0) vs) s s1 x q)
+      subst (λ y. RunsCore here y s (Err x) s1) (sym (call_operates (callee_of c) (tree.count_exprs (exprs_of c.args)) o.0 (core_exprs loop (exprs_of c.args)) o.2))
+      (q (λ vs. called here.world (core.OnOperator o.0) vs))
 
-  pub call_runs : (c : FnCallExpr) (op : Token) (s s1 s2 : State) (vs : List Dynamic) (r : Result Dynamic Interrupt) → StandsFor (Some op) (called_operator (callee_of c) (length c.args)) → RunsExprs here (exprs_of c.args) s (Ok vs) s1 → ((o : Operator) → operator_of op ≡ Some o → Runs here (operate here.world o (map value_of vs)) s1 r s2) → RunsCall here (callee_of c) (exprs_of c.args) s r s2
+  pub call_runs : (c : FnCallExpr) (op : Token) (s s1 s2 : State) (vs : List Dynamic) (r : Result Dynamic Interrupt) → StandsFor (Some op) (called_operator (callee_of c) (length c.args)) → RunsExprs here loop (exprs_of c.args) s (Ok vs) s1 → ((o : Operator) → operator_of op ≡ Some o → Runs here (Acting (operate here.world o (map value_of vs))) s1 r s2) → RunsCall here loop (callee_of c) (exprs_of c.args) s r s2
   call_runs c op s s1 s2 vs r e q k =
       let o = operator_known c op e in
-      subst (λ y. Runs here (act here.world y) s r s2) (sym (call_operates (callee_of c) (tree.count_exprs (exprs_of c.args)) o.0 (core_exprs false (exprs_of c.args)) o.2))
-      (args_run here (small_exprs_of (exprs_of c.args)) (λ us. called here.world (core.OnOperator o.0) us) s s1 s2 (map value_of vs) r q (k o.0 o.1))
+      subst (λ y. RunsCore here y s r s2) (sym (call_operates (callee_of c) (tree.count_exprs (exprs_of c.args)) o.0 (core_exprs loop (exprs_of c.args)) o.2))
+      (leads_then here s2 r (λ v. given (value_of v)) (q (λ us. called here.world (core.OnOperator o.0) us)) (k o.0 o.1))
 
-  -- ---- conditions and braces
+  -- ---- braces, as an expression and as a statement
 
-  pub choice_stuck : (a b c : Act) (s s1 : State) (v : Dynamic) (x : Interrupt) → Runs here c s (Ok v) s1 → Err x ≡ or_stuck (truth (value_of v)) → Runs here (c >>= λ u. if_true u a b) s (Err x) s1
-  choice_stuck a b c s s1 v x q k = then_runs here c (λ u. if_true u a b) s s1 s1 (value_of v) (Err x) q (if_stuck here a b s1 (value_of v) x k)
+  pub braces_run : (ss : tree.Stmts) (s s1 : State) (r : Result Dynamic Interrupt) → RunsBlock here loop ss s r s1 → RunsExpr here loop (tree.BlockExpr ss) s r s1
+  braces_run ss s s1 r q = q true
 
-  pub choice_runs : (a b c : Act) (s s1 s2 : State) (v : Dynamic) (t : Bool) (r : Result Dynamic Interrupt) → Runs here c s (Ok v) s1 → Ok t ≡ or_stuck (truth (value_of v)) → Runs here (choose t a b) s1 r s2 → Runs here (c >>= λ u. if_true u a b) s r s2
-  choice_runs a b c s s1 s2 v t r q k p = then_runs here c (λ u. if_true u a b) s s1 s2 (value_of v) r q (if_runs here a b s1 s2 (value_of v) t r k p)
+  -- ---- values
 
-  -- the names that the list pushed are cut off again
-  pub block_runs : (ss : tree.Stmts) (s s1 s2 : State) (r : Result Dynamic Interrupt) (names long : ℕ) → s2.scope.items ≡ take names s1.scope.items → names ≡ long → long ≡ length s.scope.items → s2.calls ≡ s1.calls → s2.turns ≡ s1.turns → RunsStmts here ss s r s1 → RunsBlock here ss s r s2
-  block_runs ss s s1 s2 r names long h k l g f q =
-      let scope = ap (λ l. reversed (map variable_meant l) []) (h ∙ ap (λ n. take n s1.scope.items) (k ∙ l)) ∙ restore_cut variable_meant s.scope.items s1.scope.items in
-      braces_run here (acts here.world true (small_stmts_of ss) UnitV) s s1 s2 r (λ i. record { scope = scope i; this = None; calls = map call_meant (g i) }) f q
+  pub gives_constant : (v : Dynamic) (w : Value) (s : State) → value_of v ≡ w → RunsCore here (core.Constant w) s (Ok v) s
+  gives_constant v w s e = gives here _ _ s (sym e)
+
+  constant_as : (b : Bool) (v : Value) (s s1 : State) (r : Result Dynamic Interrupt) → is_unit v ≡ b → RunsCore here (covered_expr (cond b core.Ill (core.Constant v))) s r s1 → RunsCore here (covered_expr (cond (is_unit v) core.Ill (core.Constant v))) s r s1
+  constant_as b v s s1 r e q = subst (λ c. RunsCore here (covered_expr (cond c core.Ill (core.Constant v))) s r s1) (sym e) q
+
+  -- a constant of its own, which is never unit
+  pub constant_runs : (v : Value) (s : State) (r : Result Dynamic Interrupt) → IsConstant v r → RunsExpr here loop (tree.DynamicConstant v) s r s
+  constant_runs v s (Ok u) h = constant_as false v s s (Ok u) h.0 (gives_constant u v s h.1)
+  constant_runs v s (Err (Stuck f)) h = constant_as true v s s (Err (Stuck f)) h.0 (subst (λ g. RunsCore here core.Ill s (Err (Stuck g)) s) (sym h.1) (record { turns = omega arith; runs = λ d le. refl }))
+  constant_runs v s (Err NoMemory) h = tt
+  constant_runs v s (Err (Return u)) h = absurd h
+  constant_runs v s (Err (Break u)) h = absurd h
+  constant_runs v s (Err Continue) h = absurd h
+  constant_runs v s (Err (Throw u)) h = absurd h
+  constant_runs v s (Err OutOfTurns) h = absurd h
+
+  -- ---- what is not opened
+
+  ill_expr : (s : State) → RunsCore here core.Ill s (Err (Stuck why.WrongKind)) s
+  ill_expr s = record { turns = omega arith; runs = λ d le. refl }
+
+  chain_by : (b : Bool) (x : core.Base) (y : core.Steps) → covered_expr (cond b (core.Chain x y) core.Ill) ≡ core.Ill
+  chain_by true x y = refl
+  chain_by false x y = refl
+
+  pub property_ill : (x : tree.PropertyNames) (s : State) → RunsExpr here loop (tree.Property x) s (Err (Stuck why.WrongKind)) s
+  property_ill x s = ill_expr s
+
+  pub method_ill : (c : tree.Callee) (es : tree.Exprs) (s : State) → RunsExpr here loop (tree.MethodCall c es) s (Err (Stuck why.WrongKind)) s
+  method_ill c es s = ill_expr s
+
+  pub dot_ill : (k : tree.ChainFlags) (l r : tree.Expr) (s : State) → RunsExpr here loop (tree.Dot k l r) s (Err (Stuck why.WrongKind)) s
+  dot_ill k l r s = subst (λ e. RunsCore here e s (Err (Stuck why.WrongKind)) s) (sym (chain_by (is_chain true k r) _ _)) (ill_expr s)
+
+  pub index_ill : (k : tree.ChainFlags) (l r : tree.Expr) (s : State) → RunsExpr here loop (tree.Index k l r) s (Err (Stuck why.WrongKind)) s
+  index_ill k l r s = subst (λ e. RunsCore here e s (Err (Stuck why.WrongKind)) s) (sym (chain_by (is_chain false k r) _ _)) (ill_expr s)
+
+  -- ---- statements
+
+  pub noop_line : (s : State) → RunsStmt here loop tree.Noop s (Ok value.Unit) s
+  noop_line s = deed_line here loop core.Noop s s (Ok value.Unit) (gives here _ _ s (sym value_of-Unit))
+
+  pub expression_line : (e : tree.Expr) (s s1 : State) (r : Result Dynamic Interrupt) → RunsExpr here loop e s r s1 → RunsStmt here loop (tree.ExprStmt e) s r s1
+  expression_line e s s1 r q = deed_line here loop (core.Evaluate (expr_core loop e)) s s1 r q
+
+  pub call_line : (c : tree.Callee) (es : tree.Exprs) (s s1 : State) (r : Result Dynamic Interrupt) → RunsCall here loop c es s r s1 → RunsStmt here loop (tree.FnCallStmt c es) s r s1
+  call_line c es s s1 r q = deed_line here loop (core.Evaluate (call_core loop c es)) s s1 r q
+
+  pub block_line : (ss : tree.Stmts) (s s1 : State) (r : Result Dynamic Interrupt) → RunsBlock here loop ss s r s1 → RunsStmt here loop (tree.Block ss) s r s1
+  block_line ss s s1 r q = deed_line here loop (core.Block (stmts_core loop ss)) s s1 r (q true)
+
+  pub if_line : (e : tree.Expr) (a b : tree.Stmts) (s s1 : State) (r : Result Dynamic Interrupt) → RunsDeed here (core.If (expr_core loop e) (stmts_core loop a) (stmts_core loop b)) s r s1 → RunsStmt here loop (tree.If e a b) s r s1
+  if_line e a b s s1 r q = deed_line here loop (core.If (expr_core loop e) (stmts_core loop a) (stmts_core loop b)) s s1 r q
+
+  pub while_line : (e : tree.Expr) (ss : tree.Stmts) (s s1 : State) (r : Result Dynamic Interrupt) → RunsDeed here (core.While (covered_guard (guard_by e (core_expr loop e))) (stmts_core true ss)) s r s1 → RunsStmt here loop (tree.While e ss) s r s1
+  while_line e ss s s1 r q = deed_line here loop (core.While (covered_guard (guard_by e (core_expr loop e))) (stmts_core true ss)) s s1 r q
+
+  pub for_line : (x : Text) (i : Option Text) (e : tree.Expr) (ss : tree.Stmts) (s s1 : State) (r : Result Dynamic Interrupt) → RunsDeed here (core.For x i (expr_core loop e) (stmts_core true ss)) s r s1 → RunsStmt here loop (tree.For x i e ss) s r s1
+  for_line x i e ss s s1 r q = deed_line here loop (core.For x i (expr_core loop e) (stmts_core true ss)) s s1 r q

@@ -9,7 +9,7 @@ reversed_onto [] fs = refl
 reversed_onto (e ∷ es) fs =
     reversed_onto es (e ∷ fs) ∙ sym (append_assoc (reversed es []) (e ∷ []) fs) ∙ ap (λ l. l ++ fs) (sym (reversed_onto es (e ∷ [])))
 
-reversed_parts : (es fs gs : List ScopeEntry) → reversed (es ++ fs) gs ≡ reversed fs (reversed es gs)
+pub reversed_parts : (es fs gs : List ScopeEntry) → reversed (es ++ fs) gs ≡ reversed fs (reversed es gs)
 reversed_parts [] fs gs = refl
 reversed_parts (e ∷ es) fs gs = reversed_parts es fs (e ∷ gs)
 
@@ -35,8 +35,11 @@ cut n es =
     let long : length (reversed back []) ≡ length es - n = length-turned back ∙ length-drop n es in
     ap (drop (length es - n)) parts ∙ drop_at (reversed back []) (reversed front []) (length es - n) long
 
--- cut to its length of before, a scope has only the names of before
-pub restore_cut : {A : Type 0} (f : A → ScopeEntry) (old new : List A) → reversed (map f (take (length old) new)) [] ≡ restore (reversed (map f old) []) (reversed (map f new) [])
-restore_cut f old new =
-    let lengths : length (reversed (map f new) []) - length (reversed (map f old) []) ≡ length (map f new) - length old = λ i. length-turned (map f new) i - (length-turned (map f old) ∙ length-map old f) i in
-    sym (ap (λ n. drop n (reversed (map f new) [])) lengths ∙ cut (length old) (map f new) ∙ ap (λ l. reversed l []) (take-map f (length old) new))
+pub length_scope : {A : Type 0} (f : A → ScopeEntry) (es : List A) → length (reversed (map f es) []) ≡ length es
+length_scope f es = length-turned (map f es) ∙ length-map es f
+
+-- cut to a length of before, a scope has only the names of before
+pub restore_cut_to : {A : Type 0} (f : A → ScopeEntry) (old : List ScopeEntry) (names : ℕ) (new : List A) → length old ≡ names → reversed (map f (take names new)) [] ≡ restore old (reversed (map f new) [])
+restore_cut_to f old names new h =
+    let lengths : length (reversed (map f new) []) - length old ≡ length (map f new) - names = λ i. length-turned (map f new) i - h i in
+    sym (ap (λ n. drop n (reversed (map f new) [])) lengths ∙ cut names (map f new) ∙ ap (λ l. reversed l []) (take-map f names new))

@@ -1,27 +1,31 @@
 -- The report on a whole run.
-use Rattle.std.proofs.Common.{◌≡◌, ℕ, true, List, [], map, None, Result, Ok, Err, refl, sym, ap, subst, ◌∙◌, arith}
+use Rattle.std.proofs.Common.{◌≡◌, ℕ, true, false, List, [], map, None, Result, Ok, Err, refl, sym, ap, subst, ◌∙◌, arith}
 use Rattle.rhai_values.specs.declared.dynamic.Dynamic.{Dynamic}
 use Rattle.rhai_values.specs.Value.{UnitV}
-use Rattle.rhai_meaning.specs.Act.{ScopeEntry, Host, Outcome, returned, returned_outcome, run_all}
+use Rattle.rhai_meaning.specs.Act.{ScopeEntry, Host, Outcome, At, Acts, returned, returned_outcome, run_all}
+use Rattle.rhai_meaning.specs.Relations.{store_of as store_after}
 use Rattle.rhai_meaning.specs.Agreeing.{AgreeOn}
 use Rattle.rhai_meaning.specs.Core as core
 use Rattle.rhai_meaning.specs.Desugar.{core_function, core_script}
 use Rattle.rhai_meaning.specs.Engine.{Engine}
 use Rattle.rhai_meaning.specs.Meaning.{acts}
 use Rattle.rhai_meaning.specs.Run.{AtStatements, Report, end_of, report_of, run_script, world_of}
+use Rattle.rhai_meaning.specs.Small.{CallsOperatorsAlone}
 use Rattle.rhai_meaning.specs.Tree.{Script}
 use Rattle.rhai_run.specs.declared.plain.state.Interrupt.{Interrupt}
-use Rattle.rhai_run.specs.declared.plain.state.Interrupt.TheVariants.{NoMemory, Throw, Stuck}
+use Rattle.rhai_run.specs.declared.plain.state.Interrupt.TheVariants.{NoMemory, Return, Break, Continue, Throw, Stuck, OutOfTurns}
 use Rattle.rhai_run.specs.declared.plain.state.State.{State}
 use Rattle.rhai_run.specs.declared.report.RunEnd.{RunEnd}
+use Rattle.rhai_run.specs.Covered.{covered_script}
 use Rattle.rhai_run.specs.Entries.{variable_meant}
-use Rattle.rhai_run.specs.Evaluating.{Setting, setting_of, env, LeadsAll, RunsStmts, EndsAs}
+use Rattle.rhai_run.specs.Evaluating.{stmts_core, EndsAs, RunsStmts}
 use Rattle.rhai_run.specs.Host.{call_meant}
 use Rattle.rhai_run.specs.Report.{end_meant, ReportsRun}
-use Rattle.rhai_meaning.specs.Small.{CallsOperatorsAlone, small_script, small_stmts_of}
+use Rattle.rhai_run.specs.Runs.{Setting, setting_of, env, Goes, Listing, Over}
 use Rattle.rhai_run.specs.State.{store_of}
 use Rattle.rhai_meaning.proofs.Agreeing.{same_report}
-use Rattle.rhai_meaning.proofs.Small.{small_itself}
+use Rattle.rhai_run.proofs.Covered.{covered_itself}
+use Rattle.rhai_run.proofs.Unbound.{unbound_all}
 use Rattle.rhai_run.proofs.Scopes.{reversed_twice}
 
 abbrev pub script_setting : Engine → Host → Script → Setting
@@ -38,23 +42,32 @@ with_agreeing engine host p scope n r e h g = e ∙ same_report engine host h p 
 pub with_itself : (engine : Engine) (host : Host) (p : core.Script) (scope : List ScopeEntry) (n : ℕ) (r : Report) → ReportsRun engine host p scope n r → r ≡ report_of AtStatements (run_script engine host p AtStatements scope n)
 with_itself engine host p scope n r q = q host (record { answers = λ past c b. refl; modules = λ x. refl })
 
--- a script whose calls are those of operators is its own small one
-pub operators_report : (engine : Engine) (host : Host) (p : Script) (scope : List ScopeEntry) (n : ℕ) (r : Report) → ReportsRun engine host (small_script (core_script p)) scope n r → CallsOperatorsAlone p → ReportsRun engine host (core_script p) scope n r
-operators_report engine host p scope n r q h = subst (λ c. ReportsRun engine host c scope n r) (small_itself p h) q
+-- a script whose calls are those of operators is run as it is
+pub operators_report : (engine : Engine) (host : Host) (p : Script) (scope : List ScopeEntry) (n : ℕ) (r : Report) → ReportsRun engine host (covered_script (core_script p)) scope n r → CallsOperatorsAlone p → ReportsRun engine host (core_script p) scope n r
+operators_report engine host p scope n r q h = subst (λ c. ReportsRun engine host c scope n r) (covered_itself p h) q
 
 module _ (engine : Engine) (host : Host) (p : Script) (scope : List ScopeEntry) (n : ℕ) (s s1 : State) (at_start : store_of s ≡ record { scope = scope; this = None; calls = [] }) (turns : s.turns ≡ n) where
-  outcome_report : (o : Outcome) (e : RunEnd) → end_meant e ≡ end_of (returned_outcome o) → LeadsAll (script_setting engine host p) (acts (script_setting engine host p).world true (small_stmts_of p.statements) UnitV) s o s1 → report_at s1 e ≡ report_of AtStatements (run_script engine host (small_script (core_script p)) AtStatements scope n)
+  abbrev whole_acts : Acts
+  whole_acts = acts (script_setting engine host p).world true (stmts_core false p.statements) UnitV
+
+  outcome_report : (o : Outcome) (e : RunEnd) → end_meant e ≡ end_of (returned_outcome o) → Goes (script_setting engine host p) (Listing whole_acts) s (Over o) s1 → report_at s1 e ≡ report_of AtStatements (run_script engine host (covered_script (core_script p)) AtStatements scope n)
   unfolding run_script
   outcome_report o e h q =
       let here = script_setting engine host p in
-      sym (ap (λ r. report_of AtStatements (returned r)) ((λ i. run_all here.world (env here n) (acts here.world true (small_stmts_of p.statements) UnitV) (sym at_start i) (sym turns i)) ∙ q.runs n (omega (arith, turns)))
-      ∙ (λ i. record { ended = sym h i; variables = reversed_twice (map variable_meant s1.scope.items) i; this = None; calls = map call_meant s1.calls; turns = s1.turns }))
+      let ran : run_all here.world (env here n) whole_acts (store_of s) s.turns ≡ At o (store_of s1) s1.turns = q.runs n (omega (arith, turns)) in
+      let this : (store_of s1).this ≡ None = sym (ap (λ r. (store_after r).this) ran) ∙ unbound_all here.world (env here n) whole_acts (store_of s) s.turns (ap (λ st. st.this) at_start) in
+      sym (ap (λ r. report_of AtStatements (returned r)) ((λ i. run_all here.world (env here n) whole_acts (sym at_start i) (sym turns i)) ∙ ran)
+      ∙ (λ i. record { ended = sym h i; variables = reversed_twice (map variable_meant s1.scope.items) i; this = this i; calls = map call_meant s1.calls; turns = s1.turns }))
 
-  ended_report : (ended : Result Dynamic Interrupt) (e : RunEnd) → EndsAs ended e → RunsStmts (script_setting engine host p) p.statements s ended s1 → report_at s1 e ≡ report_of AtStatements (run_script engine host (small_script (core_script p)) AtStatements scope n)
-  ended_report (Ok v) e h q = outcome_report _ e (ap end_meant h) q
+  ended_report : (ended : Result Dynamic Interrupt) (e : RunEnd) → EndsAs ended e → RunsStmts (script_setting engine host p) false p.statements s ended s1 → report_at s1 e ≡ report_of AtStatements (run_script engine host (covered_script (core_script p)) AtStatements scope n)
+  ended_report (Ok v) e h q = outcome_report _ e (ap end_meant h) (q true)
   ended_report (Err NoMemory) e h q = absurd h
-  ended_report (Err (Throw v)) e h q = outcome_report _ e (ap end_meant h) q
-  ended_report (Err (Stuck f)) e h q = outcome_report _ e (ap end_meant h) q
+  ended_report (Err (Return v)) e h q = outcome_report _ e (ap end_meant h) (q true)
+  ended_report (Err (Break v)) e h q = outcome_report _ e (ap end_meant h) (q true)
+  ended_report (Err Continue) e h q = outcome_report _ e (ap end_meant h) (q true)
+  ended_report (Err (Throw v)) e h q = outcome_report _ e (ap end_meant h) (q true)
+  ended_report (Err (Stuck f)) e h q = outcome_report _ e (ap end_meant h) (q true)
+  ended_report (Err OutOfTurns) e h q = outcome_report _ e (ap end_meant h) (q true)
 
-  pub script_report : (ended : Result Dynamic Interrupt) (e : RunEnd) → EndsAs ended e → RunsStmts (script_setting engine host p) p.statements s ended s1 → ReportsRun engine host (small_script (core_script p)) scope n (report_at s1 e)
-  script_report ended e h q = with_agreeing engine host (small_script (core_script p)) scope n (report_at s1 e) (ended_report ended e h q)
+  pub script_report : (ended : Result Dynamic Interrupt) (e : RunEnd) → EndsAs ended e → RunsStmts (script_setting engine host p) false p.statements s ended s1 → ReportsRun engine host (covered_script (core_script p)) scope n (report_at s1 e)
+  script_report ended e h q = with_agreeing engine host (covered_script (core_script p)) scope n (report_at s1 e) (ended_report ended e h q)

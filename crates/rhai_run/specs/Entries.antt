@@ -16,3 +16,7 @@ entry_meant e = record { name = e.name; constant = e.is_constant; value = value_
 -- as a run keeps them, latest first
 abbrev pub start_scope : List ScopeEntry → List act.ScopeEntry
 start_scope es = reversed (map entry_meant es) []
+
+-- the names of a state, latest first
+abbrev pub scope_meant : List (Text × Bool × Dynamic) → List act.ScopeEntry
+scope_meant vs = reversed (map variable_meant vs) []

@@ -1,37 +1,33 @@
 -- What the evaluator's functions answer.
-use Rattle.std.specs.Prelude.{◌≡◌, ℕ, ◌≤◌, Bool, true, false, List, map, Option, Some, None, Result, Ok, Err}
-use Rattle.rhai_values.specs.Value.{Value, UnitV}
+use Rattle.std.specs.Prelude.{◌≡◌, ℕ, Bool, true, false, List, map, Option, Some, None, Result, Ok, Err, IfSome, option_map}
+use Rattle.rhai_values.specs.Value.{Text, Value, UnitV, Fields, fields}
 use Rattle.rhai_values.specs.declared.dynamic.Dynamic.{Dynamic}
-use Rattle.rhai_values.specs.Reading.{value_of}
+use Rattle.rhai_values.specs.declared.dynamic.Dynamic.TheVariants as value
+use Rattle.rhai_values.specs.Reading.{value_of, members_of}
 use Rattle.rhai_meaning.specs.Tree as tree
-use Rattle.rhai_meaning.specs.Act.{HostCall, Answer, World, Gives, Leaves, Throws, IsStuck, WrongKind, Outcome, Ended, Halted, At, Act, Acts, Scoped, Env, run, run_all}
-use Rattle.rhai_meaning.specs.Core.{Exprs, Deed, Stmt, Function}
-use Rattle.rhai_meaning.specs.Desugar.{call_of, core_exprs, core_function}
+use Rattle.rhai_meaning.specs.Act.{HostCall, Answer, Ended, ScriptCall, Act, Acts, Then, Invoke, Scoped}
+use Rattle.rhai_meaning.specs.Control.{ArmActs, counted, first_arm, named, end_branch, round, try_arm}
+use Rattle.rhai_meaning.specs.Core as core
+use Rattle.rhai_meaning.specs.Desugar.{call_of, core_arms, core_expr, core_exprs, core_pairs, core_stmt, core_stmts, core_maybe, core_function}
+use Rattle.rhai_meaning.specs.Elements.{fields_of}
 use Rattle.rhai_meaning.specs.Host.{ModuleValue}
-use Rattle.rhai_meaning.specs.Meaning.{act, acts, both, deed, line, with_args}
-use Rattle.rhai_meaning.specs.Run.{env_at, world_of}
+use Rattle.rhai_meaning.specs.Meaning.{act, acts, arm_acts, both, either, first_some, deed, line, wanted_value, with_args, with_pairs}
+use Rattle.rhai_meaning.specs.Run.{world_of}
+use Rattle.rhai_meaning.specs.Shape.{is_unit}
 use Rattle.rhai_functions.specs.FnLib.{functions_of}
+use Rattle.rhai_engine.specs.EngineInfo.{engine_of}
 use Rattle.rhai_run.specs.declared.plain.evaluator.Evaluator.{Evaluator}
 use Rattle.rhai_run.specs.declared.plain.state.Interrupt.{Interrupt}
-use Rattle.rhai_run.specs.declared.plain.state.Interrupt.TheVariants.{NoMemory, Throw, Stuck}
+use Rattle.rhai_run.specs.declared.plain.state.Interrupt.TheVariants.{NoMemory, Return, Break, Continue, Throw, Stuck, OutOfTurns}
 use Rattle.rhai_run.specs.declared.plain.state.State.{State}
-use Rattle.rhai_run.specs.declared.report.Stuck.TheVariants as why
 use Rattle.rhai_run.specs.declared.report.RunEnd.{RunEnd}
 use Rattle.rhai_run.specs.declared.report.RunEnd.TheVariants as ended
-use Rattle.rhai_meaning.specs.Shape.{is_unit}
-use Rattle.rhai_engine.specs.EngineInfo.{engine_of}
+use Rattle.rhai_run.specs.declared.report.Stuck.TheVariants as why
+use Rattle.rhai_run.specs.Covered.{covered_arms, covered_expr, covered_exprs, covered_pairs, covered_deed, covered_stmt, covered_stmts}
 use Rattle.rhai_run.specs.Host.{host_of}
-use Rattle.rhai_run.specs.Report.{stuck_meant}
-use Rattle.rhai_meaning.specs.Small.{small_expr, small_expr_of, small_exprs_of, small_stmt_of, small_stmts_of}
-use Rattle.rhai_run.specs.State.{store_of}
-
--- what a run is in
-pub record Setting : Type 0 where
-  pub world : World
-  pub functions : List Function
-
-abbrev pub setting_of : World → List Function → Setting
-setting_of w fs = record { world = w; functions = fs }
+use Rattle.rhai_run.specs.Runs.{Setting, setting_of, Task, Acting, Listing, Over, Leads, given}
+use Rattle.rhai_run.specs.Exits.{round_end}
+pub use Rattle.rhai_run.specs.Runs.{Runs}
 
 -- that of an evaluator, by what its host answers and its modules hold
 abbrev pub setting : {H : Type 0} → (H → List HostCall → HostCall → Answer) → (H → List ModuleValue) → Evaluator H → Setting
@@ -39,94 +35,149 @@ setting answers modules e =
     let fs = map core_function (functions_of e.functions.now) in
     setting_of (world_of (engine_of e.info.now) (host_of (answers e.host.now) (modules e.host.now)) fs) fs
 
-abbrev pub env : Setting → ℕ → Env
-env here d = env_at true here.world here.functions d
+-- ---- what is asked of values
 
--- The run of an act leads from one state to the other, at each depth that the turns cannot use up.
-pub record Leads (here : Setting) (a : Act) (s : State) (o : Outcome) (s' : State) : Type 0 where
-  pub turns : s'.turns ≤ s.turns
-  pub runs : (d : ℕ) → s.turns ≤ d → run here.world (env here d) a (store_of s) s.turns ≡ At o (store_of s') s'.turns
-
--- the same for a list of acts
-pub record LeadsAll (here : Setting) (p : Acts) (s : State) (o : Outcome) (s' : State) : Type 0 where
-  pub turns : s'.turns ≤ s.turns
-  pub runs : (d : ℕ) → s.turns ≤ d → run_all here.world (env here d) p (store_of s) s.turns ≡ At o (store_of s') s'.turns
-
--- The arguments have these values, whatever is done with them.
-pub record Passes (here : Setting) (es : Exprs) (s : State) (vs : List Value) (s' : State) : Type 0 where
-  pub turns : s'.turns ≤ s.turns
-  pub runs : (next : List Value → Act) (d : ℕ) → s.turns ≤ d → run here.world (env here d) (with_args here.world es next) (store_of s) s.turns ≡ run here.world (env here d) (next vs) (store_of s') s'.turns
-
--- The statement has this value, whatever comes after it.
-pub record Steps (here : Setting) (l : Stmt) (s : State) (v : Value) (s' : State) : Type 0 where
-  pub turns : s'.turns ≤ s.turns
-  pub runs : (next : Value → Acts) (d : ℕ) → s.turns ≤ d → run_all here.world (env here d) (line here.world l next) (store_of s) s.turns ≡ run_all here.world (env here d) (next v) (store_of s') s'.turns
-
--- An end without a value has the outcome; nothing is said where there was no memory.
-abbrev pub Interrupted : Interrupt → (Outcome → Type 0) → Type 0
-Interrupted NoMemory P = Unit {0}
-Interrupted (Throw v) P = P (Ended (Leaves (Throws (value_of v))))
-Interrupted (Stuck f) P = P (Halted (IsStuck (stuck_meant f)))
-
--- what is answered for an act, a list of acts, arguments, and a statement in its list
-abbrev pub Runs : Setting → Act → State → Result Dynamic Interrupt → State → Type 0
-Runs here a s (Ok v) s' = Leads here a s (Ended (Gives (value_of v))) s'
-Runs here a s (Err x) s' = Interrupted x (λ o. Leads here a s o s')
-
-abbrev pub RunsAll : Setting → Acts → State → Result Dynamic Interrupt → State → Type 0
-RunsAll here p s (Ok v) s' = LeadsAll here p s (Ended (Gives (value_of v))) s'
-RunsAll here p s (Err x) s' = Interrupted x (λ o. LeadsAll here p s o s')
-
-abbrev pub RunsArgs : Setting → Exprs → State → Result (List Dynamic) Interrupt → State → Type 0
-RunsArgs here es s (Ok vs) s' = Passes here es s (map value_of vs) s'
-RunsArgs here es s (Err x) s' = Interrupted x (λ o. (next : List Value → Act) → Leads here (with_args here.world es next) s o s')
-
-abbrev pub RunsLine : Setting → Stmt → State → Result Dynamic Interrupt → State → Type 0
-RunsLine here l s (Ok v) s' = Steps here l s (value_of v) s'
-RunsLine here l s (Err x) s' = Interrupted x (λ o. (next : Value → Acts) → LeadsAll here (line here.world l next) s o s')
-
--- how a whole run ends
-abbrev pub EndsAs : Result Dynamic Interrupt → RunEnd → Type 0
-EndsAs (Ok v) e = e ≡ ended.Value v
-EndsAs (Err NoMemory) e = ⊥
-EndsAs (Err (Throw v)) e = e ≡ ended.Thrown v
-EndsAs (Err (Stuck f)) e = e ≡ ended.Stuck f
+-- whether a condition holds
+abbrev pub or_stuck : Option Bool → Result Bool Interrupt
+or_stuck (Some b) = Ok b
+or_stuck None = Err (Stuck why.WrongKind)
 
 -- a constant's value
 abbrev pub IsConstant : Value → Result Dynamic Interrupt → Type 0
 IsConstant v (Ok u) = (is_unit v ≡ false) × (value_of u ≡ v)
 IsConstant v (Err NoMemory) = Unit {0}
-IsConstant v (Err (Throw u)) = ⊥
-IsConstant v (Err (Stuck f)) = (is_unit v ≡ true) × (stuck_meant f ≡ WrongKind)
+IsConstant v (Err (Stuck f)) = (is_unit v ≡ true) × (f ≡ why.WrongKind)
+IsConstant v (Err x) = ⊥
 
--- whether a value is true
-abbrev pub or_stuck : Option Bool → Result Bool Interrupt
-or_stuck (Some b) = Ok b
-or_stuck None = Err (Stuck why.WrongKind)
+-- how a whole run ends: a return is its value, and no break leaves it
+abbrev pub EndsAs : Result Dynamic Interrupt → RunEnd → Type 0
+EndsAs (Ok v) e = e ≡ ended.Value v
+EndsAs (Err NoMemory) e = ⊥
+EndsAs (Err (Return v)) e = e ≡ ended.Value v
+EndsAs (Err (Break v)) e = e ≡ ended.Stuck why.WrongKind
+EndsAs (Err Continue) e = e ≡ ended.Stuck why.WrongKind
+EndsAs (Err (Throw v)) e = e ≡ ended.Thrown v
+EndsAs (Err (Stuck f)) e = e ≡ ended.Stuck f
+EndsAs (Err OutOfTurns) e = e ≡ ended.OutOfTurns
 
--- ---- the same at trees, in the small language
+-- ---- the cores of trees, as far as they are run; loop: in the body of a loop
 
-abbrev pub RunsExpr : Setting → tree.Expr → State → Result Dynamic Interrupt → State → Type 0
-RunsExpr here e = Runs here (act here.world (small_expr_of e))
+abbrev pub expr_core : Bool → tree.Expr → core.Expr
+expr_core loop e = covered_expr (core_expr loop e)
 
-abbrev pub RunsExprs : Setting → tree.Exprs → State → Result (List Dynamic) Interrupt → State → Type 0
-RunsExprs here es = RunsArgs here (small_exprs_of es)
+abbrev pub exprs_core : Bool → tree.Exprs → core.Exprs
+exprs_core loop es = covered_exprs (core_exprs loop es)
 
-abbrev pub RunsBoth : Setting → tree.Exprs → State → Result Dynamic Interrupt → State → Type 0
-RunsBoth here es = Runs here (both here.world (small_exprs_of es))
+abbrev pub pairs_core : Bool → tree.Pairs → core.Pairs
+pairs_core loop ps = covered_pairs (core_pairs loop ps)
 
-abbrev pub RunsCall : Setting → tree.Callee → tree.Exprs → State → Result Dynamic Interrupt → State → Type 0
-RunsCall here c es = Runs here (act here.world (small_expr (call_of c (tree.count_exprs es) (core_exprs false es))))
+abbrev pub maybe_core : Bool → tree.MaybeExpr → core.Expr
+maybe_core loop m = covered_expr (core_maybe loop m)
 
-abbrev pub RunsDeed : Setting → Deed → State → Result Dynamic Interrupt → State → Type 0
-RunsDeed here c = Runs here (deed here.world c)
+abbrev pub call_core : Bool → tree.Callee → tree.Exprs → core.Expr
+call_core loop c es = covered_expr (call_of c (tree.count_exprs es) (core_exprs loop es))
 
-abbrev pub RunsStmt : Setting → tree.Stmt → State → Result Dynamic Interrupt → State → Type 0
-RunsStmt here l = RunsLine here (small_stmt_of l)
+abbrev pub stmt_core : Bool → tree.Stmt → core.Stmt
+stmt_core loop s = covered_stmt (core_stmt loop s)
 
--- a list whose names stay, and one whose names go
-abbrev pub RunsStmts : Setting → tree.Stmts → State → Result Dynamic Interrupt → State → Type 0
-RunsStmts here ss = RunsAll here (acts here.world true (small_stmts_of ss) UnitV)
+abbrev pub stmts_core : Bool → tree.Stmts → core.Stmts
+stmts_core loop ss = covered_stmts (core_stmts loop ss)
 
-abbrev pub RunsBlock : Setting → tree.Stmts → State → Result Dynamic Interrupt → State → Type 0
-RunsBlock here ss = Runs here (Scoped (acts here.world true (small_stmts_of ss) UnitV))
+-- ---- expressions
+
+abbrev pub RunsCore : Setting → core.Expr → State → Result Dynamic Interrupt → State → Type 0
+RunsCore here e = Runs here (Acting (act here.world e))
+
+abbrev pub RunsExpr : Setting → Bool → tree.Expr → State → Result Dynamic Interrupt → State → Type 0
+RunsExpr here loop e = RunsCore here (expr_core loop e)
+
+abbrev pub RunsCall : Setting → Bool → tree.Callee → tree.Exprs → State → Result Dynamic Interrupt → State → Type 0
+RunsCall here loop c es = RunsCore here (call_core loop c es)
+
+abbrev pub RunsMaybe : Setting → Bool → tree.MaybeExpr → State → Result Dynamic Interrupt → State → Type 0
+RunsMaybe here loop m = RunsCore here (maybe_core loop m)
+
+abbrev pub RunsBoth : Setting → Bool → tree.Exprs → State → Result Dynamic Interrupt → State → Type 0
+RunsBoth here loop es = Runs here (Acting (both here.world (exprs_core loop es)))
+
+abbrev pub RunsEither : Setting → Bool → tree.Exprs → State → Result Dynamic Interrupt → State → Type 0
+RunsEither here loop es = Runs here (Acting (either here.world (exprs_core loop es)))
+
+abbrev pub RunsFirstSome : Setting → Bool → tree.Exprs → State → Result Dynamic Interrupt → State → Type 0
+RunsFirstSome here loop es = Runs here (Acting (first_some here.world (exprs_core loop es)))
+
+-- the arguments have these values, whatever is done with them
+abbrev pub RunsArgs : Setting → core.Exprs → State → Result (List Dynamic) Interrupt → State → Type 0
+RunsArgs here es s r s' = (next : List Value → Act) → Leads here (Acting (with_args here.world es next)) s r s' (λ vs. Acting (next (map value_of vs)))
+
+abbrev pub RunsExprs : Setting → Bool → tree.Exprs → State → Result (List Dynamic) Interrupt → State → Type 0
+RunsExprs here loop es = RunsArgs here (exprs_core loop es)
+
+-- the pairs make this map, whatever is done with it
+abbrev pub RunsPairs : Setting → core.Pairs → State → Result (List (Text × Dynamic)) Interrupt → State → Type 0
+RunsPairs here ps s r s' = (next : Fields → Act) → Leads here (Acting (with_pairs here.world ps (λ vs. next (fields_of vs)))) s r s' (λ m. Acting (next (fields (members_of m))))
+
+abbrev pub RunsMembers : Setting → Bool → tree.Pairs → State → Result (List (Text × Dynamic)) Interrupt → State → Type 0
+RunsMembers here loop ps = RunsPairs here (pairs_core loop ps)
+
+-- ---- statements
+
+abbrev pub RunsDeed : Setting → core.Deed → State → Result Dynamic Interrupt → State → Type 0
+RunsDeed here c = Runs here (Acting (deed here.world c))
+
+-- the statement has this value, whatever comes after it
+abbrev pub RunsLine : Setting → core.Stmt → State → Result Dynamic Interrupt → State → Type 0
+RunsLine here l s r s' = (next : Value → Acts) → Leads here (Listing (line here.world l next)) s r s' (λ v. Listing (next (value_of v)))
+
+abbrev pub RunsStmt : Setting → Bool → tree.Stmt → State → Result Dynamic Interrupt → State → Type 0
+RunsStmt here loop l = RunsLine here (stmt_core loop l)
+
+-- a list whose names stay, and one whose names go; the value may be wanted or not
+abbrev pub RunsStmts : Setting → Bool → tree.Stmts → State → Result Dynamic Interrupt → State → Type 0
+RunsStmts here loop ss s r s' = (wanted : Bool) → Leads here (Listing (acts here.world wanted (stmts_core loop ss) UnitV)) s r s' (λ v. given (wanted_value wanted (value_of v)))
+
+abbrev pub RunsBlock : Setting → Bool → tree.Stmts → State → Result Dynamic Interrupt → State → Type 0
+RunsBlock here loop ss s r s' = (wanted : Bool) → Leads here (Acting (Scoped (acts here.world wanted (stmts_core loop ss) UnitV))) s r s' (λ v. given (wanted_value wanted (value_of v)))
+
+-- a round of a loop over a list, with its turn: the loop's value, or none where another round follows
+abbrev pub RunsRound : Setting → Acts → State → Result (Option Dynamic) Interrupt → State → Type 0
+RunsRound here p s r s' = Leads here (Acting (round p)) s r s' (λ o. Over (Ended (round_end o)))
+
+-- the arms of a `switch`
+abbrev pub arms_here : Setting → Bool → tree.Arms → List ArmActs
+arms_here here loop as' = arm_acts here.world (covered_arms (core_arms loop as'))
+
+-- the answer of an arm, or what comes next
+abbrev pub arm_then : Act → Option Dynamic → Task
+arm_then next None = Acting next
+arm_then next (Some v) = given (value_of v)
+
+-- an arm is tried, whatever comes after it
+abbrev pub RunsArm : Setting → Option ArmActs → State → Result (Option Dynamic) Interrupt → State → Type 0
+RunsArm here a s r s' = (next : Act) → Leads here (Acting (try_arm a next)) s r s' (λ o. arm_then next o)
+
+-- the arms at these places are tried in turn, whatever the default is
+abbrev pub RunsFirstArm : Setting → List ArmActs → List ℕ → State → Result (Option Dynamic) Interrupt → State → Type 0
+RunsFirstArm here arms places s r s' = (default : Act) → Leads here (Acting (first_arm arms places default)) s r s' (λ o. arm_then default o)
+
+-- the list of a loop's body
+abbrev pub body_of : Setting → tree.Stmts → Acts
+body_of here ss = acts here.world false (stmts_core true ss) UnitV
+
+-- a list whose names stay, and whose value nothing uses
+abbrev pub RunsList : Setting → Acts → State → Result Dynamic Interrupt → State → Type 0
+RunsList here p s r s' = Leads here (Listing p) s r s' (λ v. given UnitV)
+
+-- a counter's name, whatever list comes after it
+abbrev pub RunsCounted : Setting → Option Text → ℕ → State → Result Unit Interrupt → State → Type 0
+RunsCounted here i k s r s' = (p : Acts) → Leads here (Listing (counted i k p)) s r s' (λ u. Listing p)
+
+-- the branch of a `try`, by its catch name and the caught value
+abbrev pub RunsCatch : Setting → core.Stmts → Option Text → Value → State → Result Dynamic Interrupt → State → Type 0
+RunsCatch here ss x v = Runs here (Acting (Then (Scoped (named x v (acts here.world false ss UnitV))) (λ e. end_branch v e)))
+
+-- ---- calls
+
+-- the call of a script's function has this value and this last `this`, whatever is done with them
+abbrev pub RunsInvoke : Setting → ScriptCall → State → Result (Dynamic × Option Dynamic) Interrupt → State → Type 0
+RunsInvoke here a s r s' = (next : Value → Option Value → Act) → Leads here (Acting (Invoke a next)) s r s' (λ p. Acting (next (value_of p.0) (option_map value_of p.1)))

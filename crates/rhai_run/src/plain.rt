@@ -1,8 +1,19 @@
 //! The plain evaluator.
 
+mod asking;
+mod assigning;
+mod choosing;
+mod counting;
 mod evaluator;
+mod exits;
+mod logic;
+mod loops;
+mod maps;
 mod operators;
 mod state;
+mod statements;
+mod values;
+mod variables;
 
 ghost use Rattle.std.specs.Prelude.{◌≡◌, IfOk};
 ghost use Rattle.rhai_meaning.specs.Desugar.{core_script};
@@ -11,19 +22,20 @@ ghost use Rattle.rhai_engine.specs.EngineInfo.{engine_of};
 ghost use Rattle.rhai_run.specs.Host.{host_of};
 ghost use Rattle.rhai_run.specs.Report.{report_meant, ReportsRun};
 ghost use Rattle.rhai_run.specs.Evaluating.{EndsAs};
-ghost use Rattle.rhai_meaning.specs.Small.{CallsOperatorsAlone, small_script};
+ghost use Rattle.rhai_meaning.specs.Small.{CallsOperatorsAlone};
+ghost use Rattle.rhai_run.specs.Covered.{covered_script};
 ghost use Rattle.rhai_run.specs.Entries.{start_scope};
 
 use crate::plain::evaluator::Evaluator;
 use crate::plain::state::{Interrupt, State};
-use crate::{EngineInfo, Host, RunEnd, RunReport};
+use crate::{EngineInfo, Host, RunEnd, RunReport, Stuck};
 use rhai_base::{Dynamic, OutOfMemory, Scope, Seq};
 use rhai_script::AST;
 use std::alloc::Global;
 
 /// Runs a script's statements from a scope, with so many turns. It only borrows the script, and shares nothing with
-/// the optimiser. So far only operators are called: a call of a function is stuck as one of the wrong kind, before
-/// its arguments are run. No part of the language takes a turn yet.
+/// the optimiser. So far it runs all but chains and calls by a name, which are stuck as parts of the wrong kind, a call
+/// before its arguments are run.
 ///
 /// The report is that of the run with every host that answers the reported calls as this one did: nothing else of the
 /// host is asked.
@@ -35,7 +47,7 @@ pub fn plain_run<H: Host>(
     scope: &Scope,
     turns: u64,
 ) -> Result<RunReport, OutOfMemory>
-    ensures run { IfOk result (λ r. ReportsRun (engine_of info.now) (host_of (H.answers host.now) (H.modules host.now)) (small_script (core_script (script_of ast.now))) (start_scope scope.now) turns (report_meant r)) }
+    ensures run { IfOk result (λ r. ReportsRun (engine_of info.now) (host_of (H.answers host.now) (H.modules host.now)) (covered_script (core_script (script_of ast.now))) (start_scope scope.now) turns (report_meant r)) }
 
     // A script all of whose calls are those of operators is run as it is.
     ensures operators { IfOk result (λ r. CallsOperatorsAlone (script_of ast.now) → ReportsRun (engine_of info.now) (host_of (H.answers host.now) (H.modules host.now)) (core_script (script_of ast.now)) (start_scope scope.now) turns (report_meant r)) }
@@ -45,12 +57,14 @@ pub fn plain_run<H: Host>(
         info,
         host,
         functions: ast.shared_lib(),
+        in_loop: false,
     };
     let mut state = State::new(alloc, scope, turns)?;
     let ended = evaluator.statements(&mut state, ast.statements());
     let run_end = run_end(ended)?;
     let State {
         scope,
+        this: _,
         calls,
         turns,
     } = state;
@@ -66,9 +80,11 @@ fn run_end(ended: Result<Dynamic, Interrupt>) -> Result<RunEnd, OutOfMemory>
     ensures { IfOk result (λ e. EndsAs ended e) }
 {
     match ended {
-        Ok(value) => Ok(RunEnd::Value(value)),
+        Ok(value) | Err(Interrupt::Return(value)) => Ok(RunEnd::Value(value)),
         Err(Interrupt::Throw(value)) => Ok(RunEnd::Thrown(value)),
         Err(Interrupt::Stuck(stuck)) => Ok(RunEnd::Stuck(stuck)),
+        Err(Interrupt::Break(_)) | Err(Interrupt::Continue) => Ok(RunEnd::Stuck(Stuck::WrongKind)),
+        Err(Interrupt::OutOfTurns) => Ok(RunEnd::OutOfTurns),
         Err(Interrupt::NoMemory) => Err(OutOfMemory),
     }
 }

@@ -9,6 +9,8 @@ mod engine;
 #[cfg(test)]
 mod evaluator;
 #[cfg(test)]
+mod given;
+#[cfg(test)]
 mod hosts;
 #[cfg(test)]
 mod notation;
@@ -26,3 +28,5 @@ mod rows;
 mod table;
 #[cfg(test)]
 mod trees;
+#[cfg(test)]
+mod vectors;

@@ -104,7 +104,8 @@ fn is_script_printed(alloc: Global, text: &str) -> Result<bool, Unread> {
     Ok(is_printed(alloc, &with_functions(alloc, script)?, text)?)
 }
 
-fn with_functions(alloc: Global, script: Script) -> Result<AST, OutOfMemory> {
+/// The script of what was read.
+pub fn with_functions(alloc: Global, script: Script) -> Result<AST, OutOfMemory> {
     let Script {
         statements,
         functions,

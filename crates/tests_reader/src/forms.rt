@@ -46,6 +46,8 @@ pub(crate) enum Flat {
     Flag(ASTFlags),
     /// A name.
     Name,
+    /// Another name, which may be empty.
+    Alias,
     /// The name of a loop, or with that of its counter in parentheses.
     LoopNames,
     /// Names with commas between.
@@ -182,6 +184,8 @@ const BLANK: Part = Part::Letters(" ");
 
 const NAME: Part = Part::Flat(Flat::Name);
 
+const ALIAS: Part = Part::Flat(Flat::Alias);
+
 const IS: Part = Part::Letters(" = ");
 
 const AS: Part = Part::Letters(" as ");
@@ -256,8 +260,8 @@ pub(crate) static STMTS: [(&str, StmtKind, &[Part]); 19] = [
     ("break", StmtKind::Leave, &[BREAK, Part::Maybe]),
     ("return", StmtKind::Return, &[Part::Maybe]),
     ("throw", StmtKind::Return, &[BREAK, Part::Maybe]),
-    ("import", StmtKind::Import, &[BLANK, Part::Expr, AS, NAME]),
-    ("export", StmtKind::Export, &[BLANK, NAME, AS, NAME]),
+    ("import", StmtKind::Import, &[BLANK, Part::Expr, AS, ALIAS]),
+    ("export", StmtKind::Export, &[BLANK, NAME, AS, ALIAS]),
     ("share", StmtKind::Share, &[BLANK, Part::Flat(Flat::Names)]),
 ];
 

@@ -47,7 +47,7 @@ enum Kind {
 impl Kind {
     fn has(self, letter: u8) -> bool {
         match self {
-            Kind::OfNames => letter.is_ascii_alphanumeric() || letter == b'_',
+            Kind::OfNames => letter.is_ascii_alphanumeric() || b"_$".contains(&letter),
             Kind::OfIntegers => b"-0123456789".contains(&letter),
             Kind::Before(end) => letter != end,
         }
@@ -180,6 +180,11 @@ impl<'a> Letters<'a> {
             return "";
         }
         self.first(self.count(Kind::OfNames)).unwrap_or("")
+    }
+
+    /// The letters of an operator before its `(`, and goes past them.
+    pub(crate) fn symbol(&mut self) -> &'a str {
+        self.first(self.count(Kind::Before(b'('))).unwrap_or("")
     }
 
     /// A name.

@@ -22,6 +22,7 @@ impl<'a> Letters<'a> {
         match part {
             Flat::Flag(flag) => parts.options |= flag,
             Flat::Name => self.name(parts)?,
+            Flat::Alias => self.alias(parts)?,
             Flat::LoopNames => self.loop_names(parts)?,
             Flat::Names => self.names(parts)?,
             Flat::Until => parts.options |= self.condition()?,
@@ -51,10 +52,21 @@ impl<'a> Letters<'a> {
             if !self.skip("::") {
                 break;
             }
-            let module = mem::replace(&mut called.name, self.ident()?);
+            let module = mem::replace(&mut called.name, self.segment()?);
             called.namespace.path.push(module)?;
         }
         Ok(())
+    }
+
+    /// What follows in a path: a name, or an operator before its `(`.
+    fn segment(&mut self) -> Result<Ident, Unread> {
+        let pos = self.here();
+        let word = match self.word() {
+            "" => self.symbol(),
+            word => word,
+        };
+        let name = ImmutableString::new(self.alloc, word)?;
+        Ok(Ident { name, pos })
     }
 
     /// An operator, and goes past the `(`.
@@ -125,6 +137,13 @@ impl<'a> Letters<'a> {
     fn name(&mut self, parts: &mut Parts) -> Result<(), Unread> {
         let name = self.ident()?;
         parts.names.push((name, None))?;
+        Ok(())
+    }
+
+    fn alias(&mut self, parts: &mut Parts) -> Result<(), Unread> {
+        let pos = self.here();
+        let name = ImmutableString::new(self.alloc, self.word())?;
+        parts.names.push((Ident { name, pos }, None))?;
         Ok(())
     }
 

@@ -58,12 +58,19 @@ impl<'a> Letters<'a> {
     }
 
     fn function_name(&mut self) -> Result<(Option<ImmutableString>, ImmutableString), Unread> {
-        let first = self.ident()?;
+        let receiver = self.receiver();
+        both(receiver, self.ident().map(|name| name.name))
+    }
+
+    /// The type before a `.`, and goes past both; none where a name stands alone.
+    fn receiver(&mut self) -> Result<Option<ImmutableString>, Unread> {
+        let before = self.rest();
+        let name = if self.skip("()") { "()" } else { self.word() };
         if !self.skip(".") {
-            return Ok((None, first.name));
+            self.come_back(before);
+            return Ok(None);
         }
-        let second = self.ident()?;
-        Ok((Some(first.name), second.name))
+        Ok(Some(ImmutableString::new(self.alloc, name)?))
     }
 
     fn params(&mut self) -> Result<Seq<ImmutableString>, Unread> {

@@ -35,10 +35,13 @@ impl<'a> Letters<'a> {
         Ok(Cases::from_map(cases))
     }
 
-    /// The places of a case's arms.
+    /// The places of a case's arms; where there are none a blank may stand for them.
     fn places(&mut self) -> Result<CaseBlocksList, Unread> {
         self.expect(":")?;
         let mut blocks = Seq::new(self.alloc);
+        if self.starts("  |") || self.starts(" ,") {
+            self.skip(" ");
+        }
         for _ in 0..ITEMS {
             if self.starts(" |") || !self.skip(" ") {
                 break;

@@ -45,7 +45,7 @@ pub fn read_stmt(alloc: Global, text: &str) -> Result<Stmt, Unread> {
 
 impl<'a> Letters<'a> {
     /// Nothing is left.
-    fn end(&self) -> Result<(), Unread> {
+    pub(crate) fn end(&self) -> Result<(), Unread> {
         if self.is_at_end() {
             Ok(())
         } else {
@@ -276,6 +276,11 @@ impl<'a> Letters<'a> {
         }
     }
 
+    /// Whether a word before this is what is called.
+    fn is_called(&self) -> bool {
+        self.starts("(") || self.starts("!(")
+    }
+
     /// What a statement is, by its word; an expression where it begins with none.
     fn stmt_form(&mut self) -> StmtForm {
         let before = self.rest();
@@ -288,8 +293,8 @@ impl<'a> Letters<'a> {
             }
         }
         match form_of(&forms::STMTS, word) {
-            Some(form) => form,
-            None => {
+            Some(form) if !self.is_called() => form,
+            _ => {
                 self.come_back(before);
                 (StmtKind::Expr, &forms::ALONE)
             }

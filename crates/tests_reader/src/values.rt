@@ -11,7 +11,8 @@ const DEPTH: u32 = 40;
 /// The value of a text. A pointer has no values of its own.
 pub fn read_value(alloc: Global, text: &str) -> Result<Dynamic, Unread> {
     let mut letters = Letters::new(alloc, text);
-    wanted(letters.value())
+    let value = wanted(letters.value());
+    ended(value, letters.end())
 }
 
 impl<'a> Letters<'a> {

@@ -1,26 +1,26 @@
 //! The recursion over a tree.
 
-#![tactic(auto, using(rhai_reading::specs::Reading::shapes, rhai_values::specs::Reading::kinds, crate::proofs::Outside::outside))]
+#![tactic(auto, using(rhai_reading::specs::Reading::shapes, rhai_values::specs::Reading::kinds))]
 
-ghost use Rattle.std.specs.Prelude.{◌≡◌, Some, map};
-ghost use Rattle.rhai_values.specs.Reading.{value_of};
-ghost use Rattle.rhai_base.specs.Builtin.{operator_of};
-ghost use Rattle.rhai_meaning.specs.Core.{If};
-ghost use Rattle.rhai_reading.specs.Reading.{callee_of, expr_of, exprs_of, stmt_of, stmts_of};
-ghost use Rattle.rhai_meaning.specs.ActForms.{ask_host, truth as truth_of};
-ghost use Rattle.rhai_meaning.specs.Calls.{operate};
-ghost use Rattle.rhai_meaning.specs.Small.{small_expr_of, small_stmts_of};
-ghost use Rattle.rhai_run.specs.Evaluating.{setting, or_stuck, IsConstant, Runs, RunsBoth, RunsDeed, RunsExpr, RunsCall, RunsExprs, RunsStmt, RunsStmts, RunsBlock};
+ghost use Rattle.std.specs.Prelude.{◌≡◌, true};
+ghost use Rattle.rhai_reading.specs.Reading.{callee_of, expr_of, exprs_of, keys_of, maybe_of, pairs_of};
+ghost use Rattle.rhai_meaning.specs.Desugar.{core_expr};
+ghost use Rattle.rhai_meaning.specs.Tree.{MapOf};
+ghost use Rattle.rhai_run.specs.Covered.{covered_expr};
+ghost use Rattle.rhai_run.specs.Evaluating.{setting, RunsCall, RunsCore, RunsExpr, RunsExprs, RunsMaybe, RunsMembers};
 
-use crate::plain::operators::{builtin, fault_text, operator_called};
+use crate::plain::maps::{insert, is_map};
+use crate::plain::operators::operator_called;
 use crate::plain::state::{Interrupt, State};
-use crate::{EngineInfo, Host, HostAnswer, HostCall, Stuck};
-use rhai_ast::{Expr, FlowControl, FnCallExpr, Stmt, StmtBlock};
-use rhai_base::{Dynamic, ImmutableString, Seq, Token};
+use crate::plain::values::{constant, joined_text};
+use crate::plain::variables::Root;
+use crate::{EngineInfo, Host, Stuck};
+use rhai_ast::{Expr, FnCallExpr};
+use rhai_base::{Boxed, Dynamic, Ident, Seq, StringMap};
 use rhai_script::FnLib;
 use std::alloc::Global;
 
-/// What a run is in. Its functions do what the run meaning says of the small language.
+/// What a run is in. Its functions do what the run meaning says of trees.
 #[derive(Drop)]
 pub struct Evaluator<'a, H> {
     /// Where values are made.
@@ -31,12 +31,27 @@ pub struct Evaluator<'a, H> {
     pub host: &'a H,
     /// The script's functions.
     pub functions: &'a FnLib,
+    /// Whether what is run stands in the body of a loop of its function.
+    pub in_loop: bool,
 }
 
 impl<'a, H: Host> Evaluator<'a, H> {
+    /// The same in the body of a loop.
+    pub fn inside_loop(&self) -> Evaluator<'a, H>
+        ensures { result ≡ record self.now { in_loop = true } }
+    {
+        Evaluator {
+            alloc: self.alloc,
+            info: self.info,
+            host: self.host,
+            functions: self.functions,
+            in_loop: true,
+        }
+    }
+
     #[cycle(evaluate)]
-    fn expr(&self, state: &mut State, expr: &Expr) -> Result<Dynamic, Interrupt>
-        ensures { RunsExpr (setting H.answers H.modules self.now) (expr_of expr.now) state.old result state.new }
+    pub fn expr(&self, state: &mut State, expr: &Expr) -> Result<Dynamic, Interrupt>
+        ensures { RunsExpr (setting H.answers H.modules self.now) self.now.in_loop (expr_of expr.now) state.old result state.new }
     {
         match expr {
             Expr::DynamicConstant(value, _) => constant(value.get()),
@@ -45,41 +60,33 @@ impl<'a, H: Host> Evaluator<'a, H> {
             Expr::CharConstant(c, _) => Ok(Dynamic::Char(*c)),
             Expr::StringConstant(text, _) => Ok(Dynamic::Str(text.clone()?)),
             Expr::Unit(_) => Ok(Dynamic::Unit),
+            Expr::InterpolatedString(parts, _) => {
+                Ok(joined_text(self.alloc, self.exprs(state, parts.as_slice())?)?)
+            }
             Expr::Array(items, _) => Ok(Dynamic::Array(self.exprs(state, items.as_slice())?)),
+            Expr::Map(literal, _) => self.map(state, literal.get()),
+            Expr::Variable(variable, _, _) => self.variable(
+                state,
+                &variable.get().2,
+                &variable.get().1,
+            ),
+            Expr::ThisPtr(_) => self.read(state, Root::This),
             Expr::Stmt(block) => self.block(state, block.get()),
             Expr::FnCall(call, _) => self.call(state, call.get()),
             Expr::And(operands, _) => self.both(state, operands.get().as_slice()),
-            Expr::InterpolatedString(_, _)
-            | Expr::Map(_, _)
-            | Expr::Variable(_, _, _)
-            | Expr::ThisPtr(_)
-            | Expr::Property(_, _)
-            | Expr::MethodCall(_, _)
-            | Expr::Dot(_, _, _)
-            | Expr::Index(_, _, _)
-            | Expr::Or(_, _)
-            | Expr::Coalesce(_, _) => Err(Interrupt::Stuck(Stuck::WrongKind)),
+            Expr::Or(operands, _) => self.either(state, operands.get().as_slice()),
+            Expr::Coalesce(operands, _) => self.first_some(state, operands.get().as_slice()),
+            Expr::Property(_, _) => Err(Interrupt::Stuck(Stuck::WrongKind)),
+            Expr::MethodCall(_, _) => Err(Interrupt::Stuck(Stuck::WrongKind)),
+            Expr::Dot(_, _, _) => Err(Interrupt::Stuck(Stuck::WrongKind)),
+            Expr::Index(_, _, _) => Err(Interrupt::Stuck(Stuck::WrongKind)),
         }
-    }
-
-    /// `&&`: the operands up to the first that is false.
-    #[cycle(evaluate)]
-    fn both(&self, state: &mut State, operands: &[Expr]) -> Result<Dynamic, Interrupt>
-        ensures { RunsBoth (setting H.answers H.modules self.now) (exprs_of operands.now) state.old result state.new }
-    {
-        for operand in operands {
-            let value = self.expr(state, operand)?;
-            if !truth(&value)? {
-                return Ok(Dynamic::Bool(false));
-            }
-        }
-        Ok(Dynamic::Bool(true))
     }
 
     /// The values of expressions, from the first to the last.
     #[cycle(evaluate)]
-    fn exprs(&self, state: &mut State, exprs: &[Expr]) -> Result<Seq<Dynamic>, Interrupt>
-        ensures { RunsExprs (setting H.answers H.modules self.now) (exprs_of exprs.now) state.old result state.new }
+    pub fn exprs(&self, state: &mut State, exprs: &[Expr]) -> Result<Seq<Dynamic>, Interrupt>
+        ensures { RunsExprs (setting H.answers H.modules self.now) self.now.in_loop (exprs_of exprs.now) state.old result state.new }
     {
         let mut values = Seq::with_capacity(self.alloc, exprs.len())?;
         for expr in exprs {
@@ -89,136 +96,63 @@ impl<'a, H: Host> Evaluator<'a, H> {
         Ok(values)
     }
 
+    /// The value of an expression, unit for none.
+    #[cycle(evaluate)]
+    pub fn optional(
+        &self,
+        state: &mut State,
+        expr: &Option<Boxed<Expr>>,
+    ) -> Result<Dynamic, Interrupt>
+        ensures { RunsMaybe (setting H.answers H.modules self.now) self.now.in_loop (maybe_of expr.now) state.old result state.new }
+    {
+        match expr {
+            Some(expr) => self.expr(state, expr.get()),
+            None => Ok(Dynamic::Unit),
+        }
+    }
+
+    /// A map, from its literal.
+    #[cycle(evaluate)]
+    fn map(
+        &self,
+        state: &mut State,
+        literal: &(Seq<(Ident, Expr)>, StringMap<Dynamic>),
+    ) -> Result<Dynamic, Interrupt>
+        ensures { RunsCore (setting H.answers H.modules self.now) (covered_expr (core_expr self.now.in_loop (MapOf (pairs_of literal.now.0) (keys_of literal.now.1)))) state.old result state.new }
+    {
+        let (members, template) = literal;
+        if !is_map(self.alloc, members.as_slice(), template)? {
+            return Err(Interrupt::Stuck(Stuck::WrongKind));
+        }
+        Ok(Dynamic::Map(self.members(state, members.as_slice())?))
+    }
+
+    /// The values of a map's members, from the first to the last, in a map.
+    #[cycle(evaluate)]
+    fn members(
+        &self,
+        state: &mut State,
+        members: &[(Ident, Expr)],
+    ) -> Result<StringMap<Dynamic>, Interrupt>
+        ensures { RunsMembers (setting H.answers H.modules self.now) self.now.in_loop (pairs_of members.now) state.old result state.new }
+    {
+        let mut map = StringMap::new(self.alloc);
+        for member in members {
+            let value = self.expr(state, &member.1)?;
+            insert(&mut map, &member.0, value)?;
+        }
+        Ok(map)
+    }
+
     /// A call that is no operator's is stuck before its arguments are run.
     #[cycle(evaluate)]
-    fn call(&self, state: &mut State, call: &FnCallExpr) -> Result<Dynamic, Interrupt>
-        ensures { RunsCall (setting H.answers H.modules self.now) (callee_of call.now) (exprs_of call.now.args) state.old result state.new }
+    pub fn call(&self, state: &mut State, call: &FnCallExpr) -> Result<Dynamic, Interrupt>
+        ensures { RunsCall (setting H.answers H.modules self.now) self.now.in_loop (callee_of call.now) (exprs_of call.now.args) state.old result state.new }
     {
         let Some(op) = operator_called(call) else {
             return Err(Interrupt::Stuck(Stuck::WrongKind));
         };
         let args = self.exprs(state, call.args.as_slice())?;
         self.operate(state, op, args)
-    }
-
-    #[cycle(evaluate)]
-    fn statement(&self, state: &mut State, statement: &Stmt) -> Result<Dynamic, Interrupt>
-        ensures { RunsStmt (setting H.answers H.modules self.now) (stmt_of statement.now) state.old result state.new }
-    {
-        match statement {
-            Stmt::Noop(_) => Ok(Dynamic::Unit),
-            Stmt::If(flow, _) => self.choice(state, flow.get()),
-            Stmt::Block(block) => self.block(state, block.get()),
-            Stmt::Expr(expr) => self.expr(state, expr.get()),
-            Stmt::FnCall(call, _) => self.call(state, call.get()),
-            Stmt::Switch(_, _)
-            | Stmt::While(_, _)
-            | Stmt::Do(_, _, _)
-            | Stmt::For(_, _)
-            | Stmt::Var(_, _, _)
-            | Stmt::Assignment(_)
-            | Stmt::TryCatch(_, _)
-            | Stmt::BreakLoop(_, _, _)
-            | Stmt::Return(_, _, _)
-            | Stmt::Import(_, _)
-            | Stmt::Export(_, _)
-            | Stmt::Share(_) => Err(Interrupt::Stuck(Stuck::WrongKind)),
-        }
-    }
-
-    #[cycle(evaluate)]
-    fn choice(&self, state: &mut State, flow: &FlowControl) -> Result<Dynamic, Interrupt>
-        ensures { RunsDeed (setting H.answers H.modules self.now) (If (small_expr_of (expr_of flow.now.expr)) (small_stmts_of (stmts_of flow.now.body.block)) (small_stmts_of (stmts_of flow.now.branch.block))) state.old result state.new }
-    {
-        let value = self.expr(state, &flow.expr)?;
-        if truth(&value)? {
-            self.block(state, &flow.body)
-        } else {
-            self.block(state, &flow.branch)
-        }
-    }
-
-    /// Runs statements whose names go when they end.
-    #[cycle(evaluate)]
-    fn block(&self, state: &mut State, block: &StmtBlock) -> Result<Dynamic, Interrupt>
-        ensures { RunsBlock (setting H.answers H.modules self.now) (stmts_of block.now.block) state.old result state.new }
-    {
-        let names = state.scope.len();
-        let ended = self.statements(state, block.statements());
-        state.scope.truncate(names);
-        ended
-    }
-
-    /// Runs statements in turn, for the value of the last one.
-    #[cycle(evaluate)]
-    pub fn statements(&self, state: &mut State, statements: &[Stmt]) -> Result<Dynamic, Interrupt>
-        ensures { RunsStmts (setting H.answers H.modules self.now) (stmts_of statements.now) state.old result state.new }
-    {
-        let mut value = Dynamic::Unit;
-        for statement in statements {
-            value = self.statement(state, statement)?;
-        }
-        Ok(value)
-    }
-
-    /// An operator over values: built in, or else the host's.
-    fn operate(
-        &self,
-        state: &mut State,
-        op: Token,
-        args: Seq<Dynamic>,
-    ) -> Result<Dynamic, Interrupt>
-        ensures { let here = setting H.answers H.modules self.now in (o : _) → operator_of op ≡ Some o → Runs here (operate here.world o (map value_of args)) state.old result state.new }
-    {
-        match builtin(self.alloc, self.info, op, args.as_slice())? {
-            Some(Ok(value)) => Ok(value),
-            Some(Err(fault)) => Err(Interrupt::Throw(fault_text(self.alloc, fault)?)),
-            None => {
-                let name = ImmutableString::new(self.alloc, op.literal_syntax())?;
-                self.ask_host(state, name, args)
-            }
-        }
-    }
-
-    /// The call's value, as the host answers it.
-    fn ask_host(
-        &self,
-        state: &mut State,
-        name: ImmutableString,
-        args: Seq<Dynamic>,
-    ) -> Result<Dynamic, Interrupt>
-        ensures { Runs (setting H.answers H.modules self.now) (ask_host name (map value_of args)) state.old result state.new }
-    {
-        let call = HostCall {
-            name,
-            receiver: None,
-            args,
-        };
-        let answer = self.host.answer(self.alloc, state.calls.as_slice(), &call)?;
-        state.calls.push(call)?;
-        match answer {
-            HostAnswer::Value { value, receiver: _ } => Ok(value),
-            HostAnswer::Throw(value) => Err(Interrupt::Throw(value)),
-        }
-    }
-}
-
-/// Whether a condition holds; a value that is no bool is stuck.
-fn truth(value: &Dynamic) -> Result<bool, Interrupt>
-    ensures { result ≡ or_stuck (truth_of (value_of value.now)) }
-{
-    match value {
-        Dynamic::Bool(holds) => Ok(*holds),
-        _ => Err(Interrupt::Stuck(Stuck::WrongKind)),
-    }
-}
-
-/// The value of a constant of its own, which never stands for unit.
-fn constant(value: &Dynamic) -> Result<Dynamic, Interrupt>
-    ensures { IsConstant (value_of value.now) result }
-{
-    match value {
-        Dynamic::Unit => Err(Interrupt::Stuck(Stuck::WrongKind)),
-        other => Ok(other.clone()?),
     }
 }

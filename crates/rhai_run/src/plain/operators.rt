@@ -2,8 +2,10 @@
 
 #![tactic(auto, using(rhai_values::specs::Reading::kinds))]
 
-ghost use Rattle.std.specs.Prelude.{◌≡◌, IfOk, map, length, codes};
-ghost use Rattle.rhai_base.specs.Builtin.{answered, computed_of};
+ghost use Rattle.std.specs.Prelude.{◌≡◌, [], ◌∷◌, IfOk, Some, map, length, codes};
+ghost use Rattle.rhai_base.specs.Builtin.{answered, computed_of, operator_of};
+ghost use Rattle.rhai_meaning.specs.Engine as engine;
+ghost use Rattle.rhai_meaning.specs.Engine.{assigning};
 ghost use Rattle.rhai_values.specs.Reading.{value_of};
 ghost use Rattle.rhai_values.specs.Value.{TextV};
 ghost use Rattle.rhai_reading.specs.Reading.{callee_of};
@@ -12,7 +14,9 @@ ghost use Rattle.rhai_run.specs.Operators as spec;
 
 use crate::EngineInfo;
 use rhai_ast::FnCallExpr;
-use rhai_base::{Dynamic, Fault, ImmutableString, OutOfMemory, Token};
+use rhai_base::{
+    Dynamic, Fault, ImmutableString, OpAssignment, OutOfMemory, Token, builtin_binary_op,
+};
 use rhai_queries::is_call_of;
 use std::alloc::{AllocError, Global};
 
@@ -57,4 +61,42 @@ pub fn fault_text(alloc: Global, fault: Fault) -> Result<Dynamic, AllocError>
     match fault {
         Fault::Arithmetic => Ok(Dynamic::Str(ImmutableString::new(alloc, "arithmetic")?)),
     }
+}
+
+/// The operator that an assignment applies.
+pub fn assigning_operator(op: &OpAssignment) -> Option<Token>
+    ensures { spec.StandsFor result (operator_of op.now.op) }
+{
+    let (_, _, token, _) = op.get_op_assignment_info()?;
+    Some(*token)
+}
+
+/// How an operator's assignment is written.
+pub fn assigning_name(alloc: Global, op: Token) -> Result<ImmutableString, AllocError>
+    ensures { IfOk result (λ t. (o : _) → operator_of op ≡ Some o → t ≡ assigning o) }
+{
+    let mut text = String::new(alloc);
+    text.push_str(op.literal_syntax())?;
+    text.push_str("=")?;
+    ImmutableString::new(alloc, text.as_str())
+}
+
+/// Whether an operator's assignment is a host call of its name at these values.
+pub fn asks_assigning(
+    alloc: Global,
+    info: &EngineInfo,
+    op: Token,
+    old: &Dynamic,
+    new: &Dynamic,
+) -> Result<bool, OutOfMemory>
+    ensures { IfOk result (λ b. (o : _) → operator_of op ≡ Some o → b ≡ engine.asks_assigning (engine_of info.now) o (value_of old.now ∷ value_of new.now ∷ [])) }
+{
+    let name = assigning_name(alloc, op)?;
+    if !info.is_overridden(name.as_str(), &[old.type_name(), new.type_name()]) {
+        return Ok(false);
+    }
+    if !info.fast_operators() {
+        return Ok(true);
+    }
+    Ok(builtin_binary_op(alloc, &op, old, new)?.is_none())
 }

@@ -1,7 +1,8 @@
 //! What a run changes, and how a part of it ends.
-ghost use Rattle.std.specs.Prelude.{◌≡◌, map, IfOk, None, []};
+ghost use Rattle.std.specs.Prelude.{◌≡◌, map, IfOk, OnOk, ◌∷◌, None, []};
+ghost use Rattle.rhai_values.specs.Reading.{value_of};
 ghost use Rattle.rhai_run.specs.declared.plain.state.Interrupt.TheVariants.{NoMemory};
-ghost use Rattle.rhai_run.specs.State.{store_of};
+ghost use Rattle.rhai_run.specs.State.{store_of, TakesTurn};
 ghost use Rattle.rhai_run.specs.Entries.{entry_meant, start_scope, variable_meant};
 
 use crate::{HostCall, Stuck, Variable};
@@ -13,10 +14,18 @@ use std::alloc::{AllocError, AllocFailed, Global};
 pub enum Interrupt {
     /// There was no memory.
     NoMemory,
+    /// The function is left, or the script, with its value.
+    Return(Dynamic),
+    /// The loop is left with a value.
+    Break(Dynamic),
+    /// The round of the loop is left.
+    Continue,
     /// A value was thrown.
     Throw(Dynamic),
     /// The run is stuck.
     Stuck(Stuck),
+    /// A turn was needed, and none was left.
+    OutOfTurns,
 }
 
 impl From<OutOfMemory> for Interrupt {
@@ -43,11 +52,13 @@ impl<T: Drop> From<AllocFailed<T>> for Interrupt {
     }
 }
 
-/// The names, the calls so far, and the turns left.
+/// The names, `this`, the calls so far, and the turns left.
 #[derive(Drop)]
 pub struct State {
     /// The names, latest last.
     pub scope: Vec<Variable>,
+    /// The value of `this`, where it is bound.
+    pub this: Option<Dynamic>,
     /// The calls to the host, in order.
     pub calls: Seq<HostCall>,
     /// The turns left.
@@ -62,9 +73,35 @@ impl State {
     {
         Ok(State {
             scope: variables(alloc, scope)?,
+            this: None,
             calls: Seq::new(alloc),
             turns,
         })
+    }
+
+    /// Takes a turn, if one is left.
+    pub fn take_turn(&mut self) -> Result<(), Interrupt>
+        ensures { TakesTurn self.old result self.new }
+    {
+        let Some(left) = self.turns.checked_sub(1) else {
+            return Err(Interrupt::OutOfTurns);
+        };
+        self.turns = left;
+        Ok(())
+    }
+
+    /// Adds a name.
+    pub fn declare(
+        &mut self,
+        name: &ImmutableString,
+        is_constant: bool,
+        value: Dynamic,
+    ) -> Result<(), AllocError>
+        ensures store { OnOk result (store_of self.new ≡ record (store_of self.old) { scope = record { name = name.now; constant = is_constant; value = value_of value } ∷ (store_of self.old).scope }) }
+        ensures turns { OnOk result (self.new.turns ≡ self.old.turns) }
+    {
+        self.scope.push((name.clone()?, is_constant, value))?;
+        Ok(())
     }
 }
 

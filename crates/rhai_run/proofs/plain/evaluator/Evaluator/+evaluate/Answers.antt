@@ -1,95 +1,520 @@
-use Rattle.std.proofs.Common.{refl, arith}
+use Rattle.std.proofs.Common.{◌≡◌, ◌+◌, ◌≤◌, true, false, drop, get_or, map, refl, sym, ap, ◌∙◌, arith, rules}
+use Rattle.std.specs.Int.{w64}
+use Rattle.std.proofs.lemmas.Int.{to_z-of_z}
+use Rattle.std.proofs.lemmas.List.{drop_all, drop_more}
+use mir.Val.{SFits}
 use Rattle.std.proofs.lemmas.Result.{err_from_is_err_and}
-use Rattle.rhai_reading.specs.Reading.{stmt_of-If}
+use Rattle.std.specs.Option.{option_copied}
+use Rattle.rhai_values.specs.Reading.{value_of, value_of-Int}
+use Rattle.rhai_base.specs.Builtin.{operator_of}
+use Rattle.rhai_reading.specs.Reading.{arms_of, counter_of, expr_of, exprs_of, expressions_of, keys_of, pairs_of, range_of, stmt_of, stmts_of, table_of}
+use Rattle.rhai_meaning.specs.Act.{Named}
+use Rattle.rhai_meaning.specs.Control.{counted}
+use Rattle.rhai_meaning.specs.Desugar.{core_expr}
+use Rattle.rhai_meaning.specs.Walk.{over_pairs, total}
+use Rattle.rhai_meaning.specs.Weight.{expr_weight, exprs_weight, own_weight, stmt_weight, weight}
 use Rattle.rhai_run.specs.declared.plain.state.State.{State}
-use Rattle.rhai_run.proofs.Evaluating.{line_runs, args_start, args_next, args_interrupted, args_end, stmts_start, stmts_next, stmts_interrupted, stmts_end}
-use Rattle.rhai_run.proofs.Logic.{both_start, both_stops, both_false, both_next, both_end}
-use Rattle.rhai_run.proofs.Nodes.{array_stops, call_of_expr, call_of_stmt, call_stuck, call_stops, call_runs, block_runs}
+use Rattle.rhai_run.specs.Evaluating.{arms_here, body_of, expr_core, setting, stmts_core}
+use Rattle.rhai_run.specs.Variables.{root_meant}
+use Rattle.rhai_run.proofs.ByKind.{array_of_expr, block_of_stmt, braces_of_expr, call_of_expr, call_of_stmt, dot_of_expr, for_of_stmt, if_of_stmt, index_of_expr, map_of_expr, method_of_expr, property_of_expr, switch_of_stmt, text_of_expr}
+use Rattle.rhai_run.proofs.Counted.{each_ends, each_next, each_stops, for_array, for_body_runs, for_closed_range, for_range, for_round_runs, range_end, range_ends, range_next, range_start, range_stops}
+use Rattle.rhai_run.proofs.Exits.{catch_runs, try_catches, try_ends, try_stops}
+use Rattle.rhai_run.proofs.Nodes.{call_stuck, call_stops, call_runs}
+use Rattle.rhai_run.proofs.Operands.{args_start, args_next, args_stop, args_end, operands_start, both_stops, both_stuck, both_false, both_next, both_end, either_stops, either_stuck, either_true, either_next, either_end, first_stops, first_value, first_next, first_end}
+use Rattle.rhai_run.proofs.Roots.{assign_runs, assign_stops, assign_stuck}
+use Rattle.rhai_run.proofs.Statements.{stmts_start, stmts_next, stmts_stop, stmts_end, block_runs, body_runs, branch_runs, condition_stops, condition_stuck}
+use Rattle.rhai_run.proofs.Switches.{arm_false, arm_leaves, arm_missing, arm_past, arm_stops, arm_stuck, arm_there, arm_true, arms_default, arms_end, arms_stop, default_missing, default_runs, places_end, places_ends, no_range, places_next, places_stops, range_at, ranges_end, ranges_ends, ranges_next, ranges_stops}
+use Rattle.rhai_run.proofs.Weights.{arm_weight, arms_weight, expr_item, member_item, stmt_item}
+use Rattle.rhai_run.proofs.Rounds.{loop_start}
+use Rattle.rhai_run.proofs.Loops.{round_runs, round_turns, endless_stops, endless_ends, endless_next, while_stops, while_stuck, while_over, while_leaves, while_ends, while_next, loop_always, loop_when, do_stops, do_ends, do_guard_stops, do_guard_stuck, do_over, do_next}
+use Rattle.rhai_run.proofs.Maps.{map_runs, map_stops, members_start, members_stop, members_next, members_end}
 use Rattle.rhai_run.proofs.plain.evaluator.Evaluator.+evaluate.Goals as goal
 
 -- arguments
 pub exprs-loop-expr-init : goal.exprs-loop-expr-init
-exprs-loop-expr-init g t c = rw c.in_ok-values.ensures (args_start _ _ _)
+exprs-loop-expr-init g t c = rw c.in_ok-values.ensures (args_start _ _ _ _)
 
 pub exprs-returns-in_err-value : goal.exprs-returns-in_err-value
 exprs-returns-in_err-value g t c =
     let p = err_from_is_err_and c.from_residual-in_err-value.result c.from_residual-in_err-value.ensures.1 in
-    rw (p.1, p.2) (args_interrupted _ _ _ _ _ _ _ _ _ c.loop-expr-test.true c.expr-item.is c.loop-expr.invariant c.in_err-value.ensures)
+    rw (p.1, p.2) (args_stop _ _ _ _ _ _ _ _ _ _ c.loop-expr-test.true c.expr-item.is c.loop-expr.invariant c.in_err-value.ensures)
 
 pub exprs-loop-expr-preserved : goal.exprs-loop-expr-preserved
 exprs-loop-expr-preserved g t c =
-    rw c.in_ok-push.ensures.ok (args_next _ _ _ _ _ _ _ _ _ c.loop-expr-test.true c.expr-item.is c.loop-expr.invariant c.in_ok-value.ensures)
+    rw c.in_ok-push.ensures.ok (args_next _ _ _ _ _ _ _ _ _ _ c.loop-expr-test.true c.expr-item.is c.loop-expr.invariant c.in_ok-value.ensures)
 
 pub exprs-returns : goal.exprs-returns
-exprs-returns g t c = args_end _ _ _ _ _ _ (omega arith) c.loop-expr.invariant
+exprs-returns g t c = args_end _ _ _ _ _ _ _ (omega arith) c.loop-expr.invariant
 
 -- statements
 pub statements-loop-statement-init : goal.statements-loop-statement-init
-statements-loop-statement-init g t c = stmts_start _ _ _
+statements-loop-statement-init g t c = stmts_start _ _ _ _
 
 pub statements-returns-in_err-value : goal.statements-returns-in_err-value
 statements-returns-in_err-value g t c =
     let p = err_from_is_err_and c.from_residual.result c.from_residual.ensures.1 in
-    rw (p.1, p.2) (stmts_interrupted _ _ _ _ _ _ _ _ _ c.loop-statement-test.true c.statement-item.is c.loop-statement.invariant c.in_err-value.ensures)
+    rw (p.1, p.2) (stmts_stop _ _ _ _ _ _ _ _ _ c.loop-statement-test.true c.statement-item.is c.loop-statement.invariant _ c.in_err-value.ensures)
 
 pub statements-loop-statement-preserved : goal.statements-loop-statement-preserved
 statements-loop-statement-preserved g t c =
-    stmts_next _ _ _ _ _ _ _ _ _ c.loop-statement-test.true c.statement-item.is c.loop-statement.invariant c.in_ok-value.ensures
+    stmts_next _ _ _ _ _ _ _ _ _ c.loop-statement-test.true c.statement-item.is c.loop-statement.invariant _ c.in_ok-value.ensures
 
 pub statements-returns : goal.statements-returns
-statements-returns g t c = stmts_end _ _ _ _ _ _ (omega arith) c.loop-statement.invariant
-
-pub expr-returns-in_err-exprs-in-Array : goal.expr-returns-in_err-exprs-in-Array
-expr-returns-in_err-exprs-in-Array g t c =
-    let p = err_from_is_err_and c.from_residual-in_err-exprs-in-Array.result c.from_residual-in_err-exprs-in-Array.ensures.1 in
-    rw (p.1, p.2) (array_stops _ _ _ _ _ _ _ c.in-Array.is (rw c.as_slice.ensures at c.in_err-exprs-in-Array.ensures))
+statements-returns g t c = stmts_end _ _ _ _ _ _ _ (omega arith) c.loop-statement.invariant
 
 -- calls
 pub call-returns-in_default : goal.call-returns-in_default
-call-returns-in_default g t c = call_stuck _ c.args.call.now _ c.in_default.ensures
+call-returns-in_default g t c = call_stuck _ _ c.args.call.now _ c.in_default.ensures
 
 pub call-returns-in_err-args : goal.call-returns-in_err-args
 call-returns-in_err-args g t c =
     let p = err_from_is_err_and c.from_residual.result c.from_residual.ensures.1 in
-    rw (p.1, p.2) (call_stops _ c.args.call.now _ _ _ _ c.in-Some.ensures (rw c.as_slice.ensures at c.in_err-args.ensures))
+    rw (p.1, p.2) (call_stops _ _ c.args.call.now _ _ _ _ c.in-Some.ensures (rw c.as_slice.ensures at c.in_err-args.ensures))
 
 pub call-returns : goal.call-returns
 call-returns g t c =
-    call_runs _ c.args.call.now _ _ _ _ _ _ c.in-Some.ensures (rw c.as_slice.ensures at c.in_ok-args.ensures) c.operate.ensures
+    call_runs _ _ c.args.call.now _ _ _ _ _ _ c.in-Some.ensures (rw c.as_slice.ensures at c.in_ok-args.ensures) c.operate.ensures
 
--- conditions and braces
+-- braces
 pub block-returns : goal.block-returns
 block-returns g t c =
     let old = c.args.state.now in
     let ended = c.statements-ended.new.state in
-    let left : State = record { scope = c.truncate.new.self; calls = ended.calls; turns = ended.turns } in
-    block_runs _ _ old ended left _ _ _ c.truncate.ensures.items c.len-names.ensures old.scope.ok.0 refl refl (rw c.statements.ensures at c.statements-ended.ensures)
+    let left : State = record { scope = c.truncate.new.self; this = ended.this; calls = ended.calls; turns = ended.turns } in
+    block_runs _ _ _ old ended left _ _ (omega (arith, c.len-names.ensures, old.scope.ok.0)) (record { scope = c.truncate.ensures.items; this = refl; calls = refl; turns = refl }) (rw c.statements.ensures at c.statements-ended.ensures)
 
-pub statement-returns-in-If : goal.statement-returns-in-If
-statement-returns-in-If g t c = rw (c.in-If.is, stmt_of-If) (line_runs _ _ _ _ _ (rw c.get.ensures at c.choice.ensures))
-
--- operands of `&&`
+-- `&&`, `||` and `??`
 pub both-loop-operand-init : goal.both-loop-operand-init
-both-loop-operand-init g t c = both_start _ _ _
+both-loop-operand-init g t c = operands_start _ _ _ _ _
 
-pub both-returns-in_err-value : goal.both-returns-in_err-value
-both-returns-in_err-value g t c =
+pub both-returns-in_err-expr : goal.both-returns-in_err-expr
+both-returns-in_err-expr g t c =
     let p = err_from_is_err_and c.from_residual.result c.from_residual.ensures.1 in
-    rw (p.1, p.2) (both_stops _ _ _ _ _ _ _ _ c.loop-operand-test.true c.operand-item.is c.loop-operand.invariant c.in_err-value.ensures)
+    rw (p.1, p.2) (both_stops _ _ _ _ _ _ _ _ c.loop-operand-test.true c.operand-item.is c.loop-operand.invariant _ c.in_err-expr.ensures)
 
 pub both-returns-then-not-branch : goal.both-returns-then-not-branch
 both-returns-then-not-branch g t c =
-    both_false _ _ _ _ _ _ _ _ c.loop-operand-test.true c.operand-item.is c.loop-operand.invariant c.in_ok-value.ensures (rw (c.in_ok-truth.was, c.if-not-branch.true) at c.truth.ensures)
+    both_false _ _ _ _ _ _ _ _ c.loop-operand-test.true c.operand-item.is c.loop-operand.invariant _ _ c.in_ok-expr.ensures (rw c.in_ok-truth.was at c.truth.ensures) c.if-not-branch.true
 
 pub both-loop-operand-preserved : goal.both-loop-operand-preserved
 both-loop-operand-preserved g t c =
-    both_next _ _ _ _ _ _ _ _ c.loop-operand-test.true c.operand-item.is c.loop-operand.invariant c.in_ok-value.ensures (rw (c.in_ok-truth.was, c.if-not-branch.false) at c.truth.ensures)
+    both_next _ _ _ _ _ _ _ _ c.loop-operand-test.true c.operand-item.is c.loop-operand.invariant _ _ c.in_ok-expr.ensures (rw c.in_ok-truth.was at c.truth.ensures) c.if-not-branch.false
 
 pub both-returns : goal.both-returns
-both-returns g t c = both_end _ _ _ _ _ (omega arith) c.loop-operand.invariant
+both-returns g t c = both_end _ _ _ _ _ _ (omega arith) c.loop-operand.invariant
+
+pub either-loop-operand-init : goal.either-loop-operand-init
+either-loop-operand-init g t c = operands_start _ _ _ _ _
+
+pub either-returns : goal.either-returns
+either-returns g t c = either_end _ _ _ _ _ _ (omega arith) c.loop-operand.invariant
+
+pub first_some-loop-operand-init : goal.first_some-loop-operand-init
+first_some-loop-operand-init g t c = operands_start _ _ _ _ _
+
+pub first_some-returns : goal.first_some-returns
+first_some-returns g t c = first_end _ _ _ _ _ _ (omega arith) c.loop-operand.invariant
+
+pub both-returns-in_err-truth : goal.both-returns-in_err-truth
+both-returns-in_err-truth g t c =
+    let p = err_from_is_err_and c.from_residual-in_err-truth.result c.from_residual-in_err-truth.ensures.1 in
+    rw (p.1, p.2) (both_stuck _ _ _ _ _ _ _ _ c.loop-operand-test.true c.operand-item.is c.loop-operand.invariant _ _ c.in_ok-expr.ensures (rw c.in_err-truth.was at c.truth.ensures))
+
+pub either-returns-in_err-expr : goal.either-returns-in_err-expr
+either-returns-in_err-expr g t c =
+    let p = err_from_is_err_and c.from_residual.result c.from_residual.ensures.1 in
+    rw (p.1, p.2) (either_stops _ _ _ _ _ _ _ _ c.loop-operand-test.true c.operand-item.is c.loop-operand.invariant _ c.in_err-expr.ensures)
+
+pub either-returns-in_err-truth : goal.either-returns-in_err-truth
+either-returns-in_err-truth g t c =
+    let p = err_from_is_err_and c.from_residual-in_err-truth.result c.from_residual-in_err-truth.ensures.1 in
+    rw (p.1, p.2) (either_stuck _ _ _ _ _ _ _ _ c.loop-operand-test.true c.operand-item.is c.loop-operand.invariant _ _ c.in_ok-expr.ensures (rw c.in_err-truth.was at c.truth.ensures))
+
+pub either-returns-then-branch : goal.either-returns-then-branch
+either-returns-then-branch g t c =
+    either_true _ _ _ _ _ _ _ _ c.loop-operand-test.true c.operand-item.is c.loop-operand.invariant _ _ c.in_ok-expr.ensures (rw c.in_ok-truth.was at c.truth.ensures) c.if-branch.true
+
+pub either-loop-operand-preserved : goal.either-loop-operand-preserved
+either-loop-operand-preserved g t c =
+    either_next _ _ _ _ _ _ _ _ c.loop-operand-test.true c.operand-item.is c.loop-operand.invariant _ _ c.in_ok-expr.ensures (rw c.in_ok-truth.was at c.truth.ensures) c.if-branch.false
+
+pub first_some-returns-in_err-expr : goal.first_some-returns-in_err-expr
+first_some-returns-in_err-expr g t c =
+    let p = err_from_is_err_and c.from_residual.result c.from_residual.ensures.1 in
+    rw (p.1, p.2) (first_stops _ _ _ _ _ _ _ _ c.loop-operand-test.true c.operand-item.is c.loop-operand.invariant _ c.in_err-expr.ensures)
+
+pub first_some-returns-in-Some : goal.first_some-returns-in-Some
+first_some-returns-in-Some g t c =
+    first_value _ _ _ _ _ _ _ _ c.loop-operand-test.true c.operand-item.is c.loop-operand.invariant _ _ c.in_ok-expr.ensures (rw c.in-Some.is at c.some_value.ensures)
+
+pub members-loop-member-init : goal.members-loop-member-init
+members-loop-member-init g t c =
+    rw c.new-map.ensures (members_start _ _ _ _)
+
+pub members-returns-in_err-value : goal.members-returns-in_err-value
+members-returns-in_err-value g t c =
+    let p = err_from_is_err_and c.from_residual.result c.from_residual.ensures.1 in
+    rw (p.1, p.2) (members_stop _ _ _ _ _ _ _ _ _ c.loop-member-test.true c.member-item.is c.loop-member.invariant _ c.in_err-value.ensures)
+
+pub members-loop-member-preserved : goal.members-loop-member-preserved
+members-loop-member-preserved g t c =
+    members_next _ _ _ _ _ _ _ _ _ c.loop-member-test.true c.member-item.is c.loop-member.invariant _ _ c.in_ok-value.ensures c.in_ok-insert.ensures
+
+pub members-returns : goal.members-returns
+members-returns g t c =
+    members_end _ _ _ _ _ _ _ (omega arith) c.loop-member.invariant
+
+pub endless-loop-value-init : goal.endless-loop-value-init
+endless-loop-value-init g t c = loop_start _ _ _
+
+pub guarded-loop-state-init : goal.guarded-loop-state-init
+guarded-loop-state-init g t c = loop_start _ _ _
+
+pub first_some-loop-operand-preserved : goal.first_some-loop-operand-preserved
+first_some-loop-operand-preserved g t c = first_next _ _ _ _ _ _ _ _ c.loop-operand-test.true c.operand-item.is c.loop-operand.invariant _ c.in_ok-expr.ensures (rw c.in_default.is at c.some_value.ensures)
+
+pub choice-returns-in_err-expr : goal.choice-returns-in_err-expr
+choice-returns-in_err-expr g t c =
+    let p = err_from_is_err_and c.from_residual.result c.from_residual.ensures.1 in
+    rw (p.1, p.2) (condition_stops (setting g.H.Host.answers g.H.Host.modules c.args.self.now) c.args.self.now.in_loop (expr_of c.args.flow.now.expr) (stmts_of c.args.flow.now.body.block) (stmts_of c.args.flow.now.branch.block) c.args.state.now c.expr.new.state _ c.in_err-expr.ensures)
+
+pub choice-returns-in_err-truth : goal.choice-returns-in_err-truth
+choice-returns-in_err-truth g t c =
+    let p = err_from_is_err_and c.from_residual-in_err-truth.result c.from_residual-in_err-truth.ensures.1 in
+    rw (p.1, p.2) (condition_stuck (setting g.H.Host.answers g.H.Host.modules c.args.self.now) c.args.self.now.in_loop (expr_of c.args.flow.now.expr) (stmts_of c.args.flow.now.body.block) (stmts_of c.args.flow.now.branch.block) c.args.state.now c.expr.new.state c.in_ok-expr.field-0 _ c.in_ok-expr.ensures (rw c.in_err-truth.was at c.truth.ensures))
+
+pub choice-returns-then-branch : goal.choice-returns-then-branch
+choice-returns-then-branch g t c = body_runs (setting g.H.Host.answers g.H.Host.modules c.args.self.now) c.args.self.now.in_loop (expr_of c.args.flow.now.expr) (stmts_of c.args.flow.now.body.block) (stmts_of c.args.flow.now.branch.block) c.args.state.now c.expr.new.state c.in_ok-expr.field-0 c.in_ok-truth.field-0 c.block.new.state c.block.result c.in_ok-expr.ensures (rw c.in_ok-truth.was at c.truth.ensures) c.if-branch.true c.block.ensures
+
+pub choice-returns-else-branch : goal.choice-returns-else-branch
+choice-returns-else-branch g t c = branch_runs (setting g.H.Host.answers g.H.Host.modules c.args.self.now) c.args.self.now.in_loop (expr_of c.args.flow.now.expr) (stmts_of c.args.flow.now.body.block) (stmts_of c.args.flow.now.branch.block) c.args.state.now c.expr.new.state c.in_ok-expr.field-0 c.in_ok-truth.field-0 c.block-else-branch.new.state c.block-else-branch.result c.in_ok-expr.ensures (rw c.in_ok-truth.was at c.truth.ensures) c.if-branch.false c.block-else-branch.ensures
+
+pub endless-returns-in_err-value : goal.endless-returns-in_err-value
+endless-returns-in_err-value g t c =
+    let p = err_from_is_err_and c.from_residual.result c.from_residual.ensures.1 in
+    rw (p.1, p.2) (endless_stops (setting g.H.Host.answers g.H.Host.modules c.args.self.now) (body_of (setting g.H.Host.answers g.H.Host.modules c.args.self.now) (stmts_of c.args.body.now.block)) c.args.state.now c.loop-value.state c.round.new.state c.loop-value.invariant _ c.in_err-value.ensures.round)
+
+pub endless-returns-in-Some : goal.endless-returns-in-Some
+endless-returns-in-Some g t c = endless_ends (setting g.H.Host.answers g.H.Host.modules c.args.self.now) (body_of (setting g.H.Host.answers g.H.Host.modules c.args.self.now) (stmts_of c.args.body.now.block)) c.args.state.now c.loop-value.state c.round.new.state c.loop-value.invariant c.in-Some.value (rw c.in-Some.is at c.in_ok-value.ensures.round)
+
+pub endless-loop-value-preserved : goal.endless-loop-value-preserved
+endless-loop-value-preserved g t c = endless_next (setting g.H.Host.answers g.H.Host.modules c.args.self.now) (body_of (setting g.H.Host.answers g.H.Host.modules c.args.self.now) (stmts_of c.args.body.now.block)) c.args.state.now c.loop-value.state c.round.new.state c.loop-value.invariant (rw c.in_default.is at c.in_ok-value.ensures.round) c.in_ok-value.ensures.turns
+
+pub guarded-returns-in_err-expr : goal.guarded-returns-in_err-expr
+guarded-returns-in_err-expr g t c =
+    let p = err_from_is_err_and c.from_residual.result c.from_residual.ensures.1 in
+    rw (p.1, p.2) (while_stops (setting g.H.Host.answers g.H.Host.modules c.args.self.now) (expr_core c.args.self.now.in_loop (expr_of c.args.guard.now)) (body_of (setting g.H.Host.answers g.H.Host.modules c.args.self.now) (stmts_of c.args.body.now.block)) c.args.state.now c.loop-state.state c.expr.new.state c.loop-state.invariant _ c.in_err-expr.ensures)
+
+pub guarded-returns-in_err-truth : goal.guarded-returns-in_err-truth
+guarded-returns-in_err-truth g t c =
+    let p = err_from_is_err_and c.from_residual-in_err-truth.result c.from_residual-in_err-truth.ensures.1 in
+    rw (p.1, p.2) (while_stuck (setting g.H.Host.answers g.H.Host.modules c.args.self.now) (expr_core c.args.self.now.in_loop (expr_of c.args.guard.now)) (body_of (setting g.H.Host.answers g.H.Host.modules c.args.self.now) (stmts_of c.args.body.now.block)) c.args.state.now c.loop-state.state c.expr.new.state c.loop-state.invariant c.in_ok-expr.field-0 c.in_ok-expr.ensures _ (rw c.in_err-truth.was at c.truth.ensures))
+
+pub guarded-returns-then-not-branch : goal.guarded-returns-then-not-branch
+guarded-returns-then-not-branch g t c = while_over (setting g.H.Host.answers g.H.Host.modules c.args.self.now) (expr_core c.args.self.now.in_loop (expr_of c.args.guard.now)) (body_of (setting g.H.Host.answers g.H.Host.modules c.args.self.now) (stmts_of c.args.body.now.block)) c.args.state.now c.loop-state.state c.expr.new.state c.loop-state.invariant c.in_ok-expr.field-0 c.in_ok-expr.ensures c.in_ok-truth.field-0 (rw c.in_ok-truth.was at c.truth.ensures) c.if-not-branch.true
+
+pub guarded-returns-in_err-value : goal.guarded-returns-in_err-value
+guarded-returns-in_err-value g t c =
+    let p = err_from_is_err_and c.from_residual-in_err-value.result c.from_residual-in_err-value.ensures.1 in
+    rw (p.1, p.2) (while_leaves (setting g.H.Host.answers g.H.Host.modules c.args.self.now) (expr_core c.args.self.now.in_loop (expr_of c.args.guard.now)) (body_of (setting g.H.Host.answers g.H.Host.modules c.args.self.now) (stmts_of c.args.body.now.block)) c.args.state.now c.loop-state.state c.expr.new.state c.loop-state.invariant c.in_ok-expr.field-0 c.in_ok-expr.ensures c.round.new.state c.in_ok-truth.field-0 (rw c.in_ok-truth.was at c.truth.ensures) c.if-not-branch.false _ c.in_err-value.ensures.round)
+
+pub guarded-returns-in-Some : goal.guarded-returns-in-Some
+guarded-returns-in-Some g t c = while_ends (setting g.H.Host.answers g.H.Host.modules c.args.self.now) (expr_core c.args.self.now.in_loop (expr_of c.args.guard.now)) (body_of (setting g.H.Host.answers g.H.Host.modules c.args.self.now) (stmts_of c.args.body.now.block)) c.args.state.now c.loop-state.state c.expr.new.state c.loop-state.invariant c.in_ok-expr.field-0 c.in_ok-expr.ensures c.round.new.state c.in_ok-truth.field-0 (rw c.in_ok-truth.was at c.truth.ensures) c.if-not-branch.false c.in-Some.value (rw c.in-Some.is at c.in_ok-value.ensures.round)
+
+pub guarded-loop-state-preserved : goal.guarded-loop-state-preserved
+guarded-loop-state-preserved g t c = while_next (setting g.H.Host.answers g.H.Host.modules c.args.self.now) (expr_core c.args.self.now.in_loop (expr_of c.args.guard.now)) (body_of (setting g.H.Host.answers g.H.Host.modules c.args.self.now) (stmts_of c.args.body.now.block)) c.args.state.now c.loop-state.state c.expr.new.state c.loop-state.invariant c.in_ok-expr.field-0 c.in_ok-expr.ensures c.round.new.state c.in_ok-truth.field-0 (rw c.in_ok-truth.was at c.truth.ensures) c.if-not-branch.false (rw c.in_default.is at c.in_ok-value.ensures.round) c.in_ok-value.ensures.turns
+
+pub while_loop-returns-then-is_unit : goal.while_loop-returns-then-is_unit
+while_loop-returns-then-is_unit g t c = loop_always (setting g.H.Host.answers g.H.Host.modules c.args.self.now) (expr_of c.args.flow.now.expr) (core_expr c.args.self.now.in_loop (expr_of c.args.flow.now.expr)) (stmts_core true (stmts_of c.args.flow.now.body.block)) c.args.state.now c.endless.new.state c.endless.result (sym c.is_unit.ensures ∙ c.if-is_unit.true) c.endless.ensures
+
+pub while_loop-returns-else-is_unit : goal.while_loop-returns-else-is_unit
+while_loop-returns-else-is_unit g t c = loop_when (setting g.H.Host.answers g.H.Host.modules c.args.self.now) (expr_of c.args.flow.now.expr) (core_expr c.args.self.now.in_loop (expr_of c.args.flow.now.expr)) (stmts_core true (stmts_of c.args.flow.now.body.block)) c.args.state.now c.guarded.new.state c.guarded.result (sym c.is_unit.ensures ∙ c.if-is_unit.false) c.guarded.ensures
+
+pub repeated-returns-in_err-value : goal.repeated-returns-in_err-value
+repeated-returns-in_err-value g t c =
+    let p = err_from_is_err_and c.from_residual.result c.from_residual.ensures.1 in
+    rw (p.1, p.2) (do_stops (setting g.H.Host.answers g.H.Host.modules c.args.self.now) c.args.until (expr_core c.args.self.now.in_loop (expr_of c.args.flow.now.expr)) (body_of (setting g.H.Host.answers g.H.Host.modules c.args.self.now) (stmts_of c.args.flow.now.body.block)) c.args.state.now c.loop-value.state c.round.new.state c.loop-value.invariant _ c.in_err-value.ensures.round)
+
+pub repeated-returns-in-Some : goal.repeated-returns-in-Some
+repeated-returns-in-Some g t c = do_ends (setting g.H.Host.answers g.H.Host.modules c.args.self.now) c.args.until (expr_core c.args.self.now.in_loop (expr_of c.args.flow.now.expr)) (body_of (setting g.H.Host.answers g.H.Host.modules c.args.self.now) (stmts_of c.args.flow.now.body.block)) c.args.state.now c.loop-value.state c.round.new.state c.loop-value.invariant c.in-Some.value (rw c.in-Some.is at c.in_ok-value.ensures.round)
+
+pub repeated-returns-in_err-expr : goal.repeated-returns-in_err-expr
+repeated-returns-in_err-expr g t c =
+    let p = err_from_is_err_and c.from_residual-in_err-expr.result c.from_residual-in_err-expr.ensures.1 in
+    rw (p.1, p.2) (do_guard_stops (setting g.H.Host.answers g.H.Host.modules c.args.self.now) c.args.until (expr_core c.args.self.now.in_loop (expr_of c.args.flow.now.expr)) (body_of (setting g.H.Host.answers g.H.Host.modules c.args.self.now) (stmts_of c.args.flow.now.body.block)) c.args.state.now c.loop-value.state c.round.new.state c.loop-value.invariant (rw c.in_default.is at c.in_ok-value.ensures.round) c.expr.new.state _ c.in_err-expr.ensures)
+
+pub repeated-returns-in_err-truth : goal.repeated-returns-in_err-truth
+repeated-returns-in_err-truth g t c =
+    let p = err_from_is_err_and c.from_residual-in_err-truth.result c.from_residual-in_err-truth.ensures.1 in
+    rw (p.1, p.2) (do_guard_stuck (setting g.H.Host.answers g.H.Host.modules c.args.self.now) c.args.until (expr_core c.args.self.now.in_loop (expr_of c.args.flow.now.expr)) (body_of (setting g.H.Host.answers g.H.Host.modules c.args.self.now) (stmts_of c.args.flow.now.body.block)) c.args.state.now c.loop-value.state c.round.new.state c.loop-value.invariant (rw c.in_default.is at c.in_ok-value.ensures.round) c.expr.new.state c.in_ok-expr.field-0 c.in_ok-expr.ensures _ (rw c.in_err-truth.was at c.truth.ensures))
+
+pub repeated-returns-then-ends_at : goal.repeated-returns-then-ends_at
+repeated-returns-then-ends_at g t c = do_over (setting g.H.Host.answers g.H.Host.modules c.args.self.now) c.args.until (expr_core c.args.self.now.in_loop (expr_of c.args.flow.now.expr)) (body_of (setting g.H.Host.answers g.H.Host.modules c.args.self.now) (stmts_of c.args.flow.now.body.block)) c.args.state.now c.loop-value.state c.round.new.state c.loop-value.invariant (rw c.in_default.is at c.in_ok-value.ensures.round) c.expr.new.state c.in_ok-expr.field-0 c.in_ok-expr.ensures c.in_ok-truth.field-0 (rw c.in_ok-truth.was at c.truth.ensures) (c.ends_at.ensures.0 c.if-ends_at.true)
+
+pub repeated-loop-value-preserved : goal.repeated-loop-value-preserved
+repeated-loop-value-preserved g t c = do_next (setting g.H.Host.answers g.H.Host.modules c.args.self.now) c.args.until (expr_core c.args.self.now.in_loop (expr_of c.args.flow.now.expr)) (body_of (setting g.H.Host.answers g.H.Host.modules c.args.self.now) (stmts_of c.args.flow.now.body.block)) c.args.state.now c.loop-value.state c.round.new.state c.loop-value.invariant (rw c.in_default.is at c.in_ok-value.ensures.round) c.expr.new.state c.in_ok-expr.field-0 c.in_ok-expr.ensures c.in_ok-truth.field-0 (rw c.in_ok-truth.was at c.truth.ensures) (λ h. let z : true ≡ false = sym (c.ends_at.ensures.1 h) ∙ c.if-ends_at.false in cc) c.in_ok-value.ensures.turns
+
+pub round-returns-clause-round : goal.round-returns-clause-round
+round-returns-clause-round g t c = round_runs (setting g.H.Host.answers g.H.Host.modules c.args.self.now) (body_of (setting g.H.Host.answers g.H.Host.modules c.args.self.now) (stmts_of c.args.body.now.block)) c.args.state.now c.take_turn.new.self c.block.new.state c.in_ok-take_turn.field-0 c.block.result c.in_ok-take_turn.ensures ((rw c.inside_loop-inside.ensures at c.block.ensures) false) c.round_ended.result c.round_ended.ensures
+
+pub round-returns-clause-turns : goal.round-returns-clause-turns
+round-returns-clause-turns g t c = round_turns (setting g.H.Host.answers g.H.Host.modules c.args.self.now) (body_of (setting g.H.Host.answers g.H.Host.modules c.args.self.now) (stmts_of c.args.body.now.block)) c.args.state.now c.take_turn.new.self c.block.new.state c.in_ok-take_turn.field-0 c.block.result c.round_ended.result c.in_ok-take_turn.ensures ((rw c.inside_loop-inside.ensures at c.block.ensures) false) c.round_ended.ensures
+
+pub both-expr-requires : goal.both-expr-requires
+both-expr-requires g t c =
+    let lighter : expr_weight (expr_of c.operand-item.result) ≤ exprs_weight (exprs_of c.args.operands.now) = expr_item c.args.operands.now c.loop-operand.operand-index c.operand-item.result c.loop-operand-test.true c.operand-item.is in
+    search rules
+
+pub either-expr-requires : goal.either-expr-requires
+either-expr-requires g t c =
+    let lighter : expr_weight (expr_of c.operand-item.result) ≤ exprs_weight (exprs_of c.args.operands.now) = expr_item c.args.operands.now c.loop-operand.operand-index c.operand-item.result c.loop-operand-test.true c.operand-item.is in
+    search rules
+
+pub first_some-expr-requires : goal.first_some-expr-requires
+first_some-expr-requires g t c =
+    let lighter : expr_weight (expr_of c.operand-item.result) ≤ exprs_weight (exprs_of c.args.operands.now) = expr_item c.args.operands.now c.loop-operand.operand-index c.operand-item.result c.loop-operand-test.true c.operand-item.is in
+    search rules
+
+pub exprs-expr-requires : goal.exprs-expr-requires
+exprs-expr-requires g t c =
+    let lighter : expr_weight (expr_of c.expr-item.result) ≤ exprs_weight (exprs_of c.args.exprs.now) = expr_item c.args.exprs.now c.loop-expr.expr-index c.expr-item.result c.loop-expr-test.true c.expr-item.is in
+    search rules
+
+pub members-expr-requires : goal.members-expr-requires
+members-expr-requires g t c =
+    let lighter : expr_weight (expr_of c.member-item.result.1) ≤ over_pairs (total own_weight) (pairs_of c.args.members.now) = member_item c.args.members.now c.loop-member.member-index c.member-item.result c.loop-member-test.true c.member-item.is in
+    search rules
+
+pub statements-statement-requires : goal.statements-statement-requires
+statements-statement-requires g t c =
+    let lighter : stmt_weight (stmt_of c.statement-item.result) ≤ weight (stmts_of c.args.statements.now) = stmt_item c.args.statements.now c.loop-statement.statement-index c.statement-item.result c.loop-statement-test.true c.statement-item.is in
+    search rules
+
+pub arm-expr-requires : goal.arm-expr-requires
+arm-expr-requires g t c =
+    let lighter : expr_weight (expr_of c.in-Some.arm.now.lhs) + expr_weight (expr_of c.in-Some.arm.now.rhs) ≤ arms_weight (arms_of c.args.arms.now) = arm_weight c.args.arms.now c.args.place c.in-Some.arm.now (arm_there c.args.arms.now c.args.place c.in-Some.arm.now c.in-Some.ensures.lookup.0 c.in-Some.ensures.lookup.1) in
+    search rules
+
+pub arm-expr-requires-2 : goal.arm-expr-requires-2
+arm-expr-requires-2 g t c =
+    let lighter : expr_weight (expr_of c.in-Some.arm.now.lhs) + expr_weight (expr_of c.in-Some.arm.now.rhs) ≤ arms_weight (arms_of c.args.arms.now) = arm_weight c.args.arms.now c.args.place c.in-Some.arm.now (arm_there c.args.arms.now c.args.place c.in-Some.arm.now c.in-Some.ensures.lookup.0 c.in-Some.ensures.lookup.1) in
+    search rules
+
+pub default_arm-expr-requires : goal.default_arm-expr-requires
+default_arm-expr-requires g t c =
+    let lighter : expr_weight (expr_of c.in-Some-get.arm.now.lhs) + expr_weight (expr_of c.in-Some-get.arm.now.rhs) ≤ arms_weight (arms_of c.args.arms.now) = arm_weight c.args.arms.now c.in-Some.place c.in-Some-get.arm.now (arm_there c.args.arms.now c.in-Some.place c.in-Some-get.arm.now c.in-Some-get.ensures.lookup.0 c.in-Some-get.ensures.lookup.1) in
+    search rules
+
+pub arm-returns-in_default : goal.arm-returns-in_default
+arm-returns-in_default g t c = arm_missing (setting g.H.Host.answers g.H.Host.modules c.args.self.now) c.args.self.now.in_loop c.args.arms.now c.args.place c.args.state.now (arm_past c.args.arms.now c.args.place c.in_default.ensures.lookup.0)
+
+pub arm-returns-in_err-expr : goal.arm-returns-in_err-expr
+arm-returns-in_err-expr g t c =
+    let p = err_from_is_err_and c.from_residual.result c.from_residual.ensures.1 in
+    rw (p.1, p.2) (arm_stops (setting g.H.Host.answers g.H.Host.modules c.args.self.now) c.args.self.now.in_loop c.args.arms.now c.args.place c.args.state.now c.in-Some.arm.now (arm_there c.args.arms.now c.args.place c.in-Some.arm.now c.in-Some.ensures.lookup.0 c.in-Some.ensures.lookup.1) c.expr.new.state _ c.in_err-expr.ensures)
+
+pub arm-returns-in_err-truth : goal.arm-returns-in_err-truth
+arm-returns-in_err-truth g t c =
+    let p = err_from_is_err_and c.from_residual-in_err-truth.result c.from_residual-in_err-truth.ensures.1 in
+    rw (p.1, p.2) (arm_stuck (setting g.H.Host.answers g.H.Host.modules c.args.self.now) c.args.self.now.in_loop c.args.arms.now c.args.place c.args.state.now c.in-Some.arm.now (arm_there c.args.arms.now c.args.place c.in-Some.arm.now c.in-Some.ensures.lookup.0 c.in-Some.ensures.lookup.1) c.expr.new.state c.in_ok-expr.field-0 c.in_ok-expr.ensures _ (rw c.in_err-truth.was at c.truth.ensures))
+
+pub arm-returns-then-not-branch : goal.arm-returns-then-not-branch
+arm-returns-then-not-branch g t c = arm_false (setting g.H.Host.answers g.H.Host.modules c.args.self.now) c.args.self.now.in_loop c.args.arms.now c.args.place c.args.state.now c.in-Some.arm.now (arm_there c.args.arms.now c.args.place c.in-Some.arm.now c.in-Some.ensures.lookup.0 c.in-Some.ensures.lookup.1) c.expr.new.state c.in_ok-expr.field-0 c.in_ok-expr.ensures c.in_ok-truth.field-0 (rw c.in_ok-truth.was at c.truth.ensures) c.if-not-branch.true
+
+pub arm-returns : goal.arm-returns
+arm-returns g t c = arm_true (setting g.H.Host.answers g.H.Host.modules c.args.self.now) c.args.self.now.in_loop c.args.arms.now c.args.place c.args.state.now c.in-Some.arm.now (arm_there c.args.arms.now c.args.place c.in-Some.arm.now c.in-Some.ensures.lookup.0 c.in-Some.ensures.lookup.1) c.expr.new.state c.in_ok-expr.field-0 c.in_ok-expr.ensures c.in_ok-truth.field-0 c.expr-2.new.state c.in_ok-expr-2.field-0 (rw c.in_ok-truth.was at c.truth.ensures) c.if-not-branch.false c.in_ok-expr-2.ensures
+
+pub arm-returns-in_err-expr-2 : goal.arm-returns-in_err-expr-2
+arm-returns-in_err-expr-2 g t c =
+    let p = err_from_is_err_and c.from_residual-in_err-expr-2.result c.from_residual-in_err-expr-2.ensures.1 in
+    rw (p.1, p.2) (arm_leaves (setting g.H.Host.answers g.H.Host.modules c.args.self.now) c.args.self.now.in_loop c.args.arms.now c.args.place c.args.state.now c.in-Some.arm.now (arm_there c.args.arms.now c.args.place c.in-Some.arm.now c.in-Some.ensures.lookup.0 c.in-Some.ensures.lookup.1) c.expr.new.state c.in_ok-expr.field-0 c.in_ok-expr.ensures c.in_ok-truth.field-0 c.expr-2.new.state _ (rw c.in_ok-truth.was at c.truth.ensures) c.if-not-branch.false c.in_err-expr-2.ensures)
+
+pub default_arm-returns-in-None : goal.default_arm-returns-in-None
+default_arm-returns-in-None g t c = rw c.in-Some.is (default_missing (setting g.H.Host.answers g.H.Host.modules c.args.self.now) c.args.self.now.in_loop c.args.arms.now c.in-Some.place c.args.state.now (arm_past c.args.arms.now c.in-Some.place c.in-None.ensures.lookup.0))
+
+pub default_arm-returns-in-Some-get : goal.default_arm-returns-in-Some-get
+default_arm-returns-in-Some-get g t c = rw c.in-Some.is (default_runs (setting g.H.Host.answers g.H.Host.modules c.args.self.now) c.args.self.now.in_loop c.args.arms.now c.in-Some.place c.in-Some-get.arm.now c.args.state.now c.expr.new.state c.expr.result (arm_there c.args.arms.now c.in-Some.place c.in-Some-get.arm.now c.in-Some-get.ensures.lookup.0 c.in-Some-get.ensures.lookup.1) c.expr.ensures)
+
+pub choose-returns-in_err-value : goal.choose-returns-in_err-value
+choose-returns-in_err-value g t c =
+    let p = err_from_is_err_and c.from_residual.result c.from_residual.ensures.1 in
+    rw (p.1, p.2) (arms_stop (setting g.H.Host.answers g.H.Host.modules c.args.self.now) (arms_here (setting g.H.Host.answers g.H.Host.modules c.args.self.now) c.args.self.now.in_loop (arms_of (expressions_of c.args.table.now))) (table_of c.args.table.now) (value_of c.args.subject.now) c.args.state.now c.chosen_arm.new.state _ c.in_err-value.ensures)
+
+pub choose-returns-in-Some : goal.choose-returns-in-Some
+choose-returns-in-Some g t c = arms_end (setting g.H.Host.answers g.H.Host.modules c.args.self.now) (arms_here (setting g.H.Host.answers g.H.Host.modules c.args.self.now) c.args.self.now.in_loop (arms_of (expressions_of c.args.table.now))) (table_of c.args.table.now) (value_of c.args.subject.now) c.args.state.now c.chosen_arm.new.state c.in-Some.value (rw c.in-Some.is at c.in_ok-value.ensures)
+
+pub choose-returns-in-None : goal.choose-returns-in-None
+choose-returns-in-None g t c = arms_default (setting g.H.Host.answers g.H.Host.modules c.args.self.now) (arms_here (setting g.H.Host.answers g.H.Host.modules c.args.self.now) c.args.self.now.in_loop (arms_of (expressions_of c.args.table.now))) (table_of c.args.table.now) (value_of c.args.subject.now) c.args.state.now c.chosen_arm.new.state c.default_arm.new.state c.default_arm.result (rw c.in-None.is at c.in_ok-value.ensures) (rw c.as_slice.ensures at c.default_arm.ensures)
+
+pub first_arm-returns-in_err-value : goal.first_arm-returns-in_err-value
+first_arm-returns-in_err-value g t c =
+    let p = err_from_is_err_and c.from_residual.result c.from_residual.ensures.1 in
+    rw (p.1, p.2) (places_stops (setting g.H.Host.answers g.H.Host.modules c.args.self.now) c.args.self.now.in_loop c.args.arms.now c.args.places.now (drop c.loop-place.place-index c.args.places.now) (drop (c.loop-place.place-index + 1) c.args.places.now) (get_or c.args.places.now c.loop-place.place-index 0) c.args.state.now c.loop-place.state c.arm.new.state (drop_more c.args.places.now c.loop-place.place-index 0 c.loop-place-test.true) c.loop-place.invariant _ c.in_err-value.ensures)
+
+pub first_arm-returns-in-Some : goal.first_arm-returns-in-Some
+first_arm-returns-in-Some g t c = places_ends (setting g.H.Host.answers g.H.Host.modules c.args.self.now) c.args.self.now.in_loop c.args.arms.now c.args.places.now (drop c.loop-place.place-index c.args.places.now) (drop (c.loop-place.place-index + 1) c.args.places.now) (get_or c.args.places.now c.loop-place.place-index 0) c.args.state.now c.loop-place.state c.arm.new.state (drop_more c.args.places.now c.loop-place.place-index 0 c.loop-place-test.true) c.loop-place.invariant c.in-Some.value (rw c.in-Some.is at c.in_ok-value.ensures)
+
+pub first_arm-loop-place-preserved : goal.first_arm-loop-place-preserved
+first_arm-loop-place-preserved g t c = places_next (setting g.H.Host.answers g.H.Host.modules c.args.self.now) c.args.self.now.in_loop c.args.arms.now c.args.places.now (drop c.loop-place.place-index c.args.places.now) (drop (c.loop-place.place-index + 1) c.args.places.now) (get_or c.args.places.now c.loop-place.place-index 0) c.args.state.now c.loop-place.state c.arm.new.state (drop_more c.args.places.now c.loop-place.place-index 0 c.loop-place-test.true) c.loop-place.invariant (rw c.in_default.is at c.in_ok-value.ensures)
+
+pub first_arm-returns : goal.first_arm-returns
+first_arm-returns g t c = places_end (setting g.H.Host.answers g.H.Host.modules c.args.self.now) c.args.self.now.in_loop c.args.arms.now c.args.places.now (drop c.loop-place.place-index c.args.places.now) c.args.state.now c.loop-place.state (drop_all c.loop-place.place-index c.args.places.now (omega (arith, c.loop-place-test.false))) c.loop-place.invariant
+
+pub assignment-returns-in_default : goal.assignment-returns-in_default
+assignment-returns-in_default g t c = assign_stuck (setting g.H.Host.answers g.H.Host.modules c.args.self.now) c.args.self.now.in_loop (operator_of c.args.op.now.op) (expr_of c.args.sides.now.lhs) (expr_of c.args.sides.now.rhs) c.args.state.now c.in_default.ensures
+
+pub assignment-returns-in_err-value : goal.assignment-returns-in_err-value
+assignment-returns-in_err-value g t c =
+    let p = err_from_is_err_and c.from_residual.result c.from_residual.ensures.1 in
+    rw (p.1, p.2) (assign_stops (setting g.H.Host.answers g.H.Host.modules c.args.self.now) c.args.self.now.in_loop (operator_of c.args.op.now.op) (expr_of c.args.sides.now.lhs) (expr_of c.args.sides.now.rhs) c.args.state.now (root_meant c.in-Some.root) c.in-Some.ensures c.expr.new.state _ c.in_err-value.ensures)
+
+pub assignment-returns : goal.assignment-returns
+assignment-returns g t c = assign_runs (setting g.H.Host.answers g.H.Host.modules c.args.self.now) c.args.self.now.in_loop (operator_of c.args.op.now.op) (expr_of c.args.sides.now.lhs) (expr_of c.args.sides.now.rhs) c.args.state.now (root_meant c.in-Some.root) c.in-Some.ensures c.expr.new.state c.in_ok-value.value c.assign_root.new.state c.assign_root.result c.in_ok-value.ensures c.assign_root.ensures
+
+pub try_catch-returns-in_err-caught : goal.try_catch-returns-in_err-caught
+try_catch-returns-in_err-caught g t c =
+    let p = err_from_is_err_and c.from_residual.result c.from_residual.ensures.1 in
+    rw (p.1, p.2) (try_stops (setting g.H.Host.answers g.H.Host.modules c.args.self.now) c.args.self.now.in_loop (expr_of c.args.flow.now.expr) (stmts_of c.args.flow.now.body.block) (stmts_of c.args.flow.now.branch.block) (option_copied c.in-Some.name) (sym c.in-Some.ensures) c.args.state.now c.block.new.state c.block.result c.block.ensures _ (rw c.in_err-caught.was at c.body_ended.ensures))
+
+pub try_catch-returns-in-None : goal.try_catch-returns-in-None
+try_catch-returns-in-None g t c = try_ends (setting g.H.Host.answers g.H.Host.modules c.args.self.now) c.args.self.now.in_loop (expr_of c.args.flow.now.expr) (stmts_of c.args.flow.now.body.block) (stmts_of c.args.flow.now.branch.block) (option_copied c.in-Some.name) (sym c.in-Some.ensures) c.args.state.now c.block.new.state c.block.result c.block.ensures (rw (c.in_ok-caught.was, c.in-None.is) at c.body_ended.ensures)
+
+pub try_catch-returns-in-Some-2 : goal.try_catch-returns-in-Some-2
+try_catch-returns-in-Some-2 g t c = try_catches (setting g.H.Host.answers g.H.Host.modules c.args.self.now) c.args.self.now.in_loop (expr_of c.args.flow.now.expr) (stmts_of c.args.flow.now.body.block) (stmts_of c.args.flow.now.branch.block) (option_copied c.in-Some.name) (sym c.in-Some.ensures) c.args.state.now c.block.new.state c.block.result c.block.ensures c.in-Some-2.caught c.catch.new.state c.catch.result (rw (c.in_ok-caught.was, c.in-Some-2.is) at c.body_ended.ensures) c.catch.ensures
+
+pub catch-returns : goal.catch-returns
+catch-returns g t c =
+    let old = c.args.state.now in
+    let ended = c.statements-ended.new.state in
+    let left : State = record { scope = c.truncate.new.self; this = ended.this; calls = ended.calls; turns = ended.turns } in
+    catch_runs (setting g.H.Host.answers g.H.Host.modules c.args.self.now) (stmts_core c.args.self.now.in_loop (stmts_of c.args.branch.now.block)) (option_copied c.args.name) c.args.caught old c.declare_caught.new.state ended left c.len-names.result c.statements-ended.result c.branch_ended.result (omega (arith, c.len-names.ensures, old.scope.ok.0)) c.in_ok-declare_caught.ensures.store c.in_ok-declare_caught.ensures.turns ((rw c.statements.ensures at c.statements-ended.ensures) false) (record { scope = c.truncate.ensures.items; this = refl; calls = refl; turns = refl }) c.branch_ended.ensures
+
+pub map-returns : goal.map-returns
+map-returns g t c = map_runs (setting g.H.Host.answers g.H.Host.modules c.args.self.now) c.args.self.now.in_loop (pairs_of c.args.literal.now.0) (keys_of c.args.literal.now.1) c.args.state.now c.members.new.state c.in_ok-members.field-0 ((rw c.as_slice.ensures at c.in_ok-is_map.ensures) ∙ c.if-not-branch.false) (rw c.as_slice-2.ensures at c.in_ok-members.ensures)
+
+pub map-returns-in_err-members : goal.map-returns-in_err-members
+map-returns-in_err-members g t c =
+    let p = err_from_is_err_and c.from_residual-in_err-members.result c.from_residual-in_err-members.ensures.1 in
+    rw (p.1, p.2) (map_stops (setting g.H.Host.answers g.H.Host.modules c.args.self.now) c.args.self.now.in_loop (pairs_of c.args.literal.now.0) (keys_of c.args.literal.now.1) c.args.state.now c.members.new.state _ ((rw c.as_slice.ensures at c.in_ok-is_map.ensures) ∙ c.if-not-branch.false) (rw c.as_slice-2.ensures at c.in_err-members.ensures))
 
 pub expr-returns-in-FnCall : goal.expr-returns-in-FnCall
-expr-returns-in-FnCall g t c = call_of_expr _ _ _ _ _ _ _ _ c.in-FnCall.is c.get-in-FnCall.ensures c.call.ensures
+expr-returns-in-FnCall g t c = call_of_expr (setting g.H.Host.answers g.H.Host.modules c.args.self.now) c.args.self.now.in_loop c.args.state.now c.call.new.state c.args.expr.now c.in-FnCall.call c.get-in-FnCall.result.now c.in-FnCall.field-1 c.call.result c.in-FnCall.is c.get-in-FnCall.ensures c.call.ensures
+
+pub expr-returns-in-Map : goal.expr-returns-in-Map
+expr-returns-in-Map g t c = map_of_expr (setting g.H.Host.answers g.H.Host.modules c.args.self.now) c.args.self.now.in_loop c.args.state.now c.map.new.state c.args.expr.now c.in-Map.literal c.get-in-Map.result.now c.in-Map.field-1 c.map.result c.in-Map.is c.get-in-Map.ensures c.map.ensures
+
+pub expr-returns-in-Stmt : goal.expr-returns-in-Stmt
+expr-returns-in-Stmt g t c = braces_of_expr (setting g.H.Host.answers g.H.Host.modules c.args.self.now) c.args.self.now.in_loop c.args.state.now c.block.new.state c.args.expr.now c.in-Stmt.block c.get-in-Stmt.result.now c.block.result c.in-Stmt.is c.get-in-Stmt.ensures c.block.ensures
+
+pub expr-returns-in_ok-exprs-in-Array : goal.expr-returns-in_ok-exprs-in-Array
+expr-returns-in_ok-exprs-in-Array g t c = array_of_expr (setting g.H.Host.answers g.H.Host.modules c.args.self.now) c.args.self.now.in_loop c.args.state.now c.exprs-in-Array.new.state c.args.expr.now c.in-Array.items c.as_slice-in-Array.result.now c.in-Array.field-1 c.in_ok-exprs-in-Array.field-0 c.in-Array.is c.as_slice-in-Array.ensures c.in_ok-exprs-in-Array.ensures
+
+pub expr-returns-in_ok-joined_text-in-InterpolatedString : goal.expr-returns-in_ok-joined_text-in-InterpolatedString
+expr-returns-in_ok-joined_text-in-InterpolatedString g t c = text_of_expr (setting g.H.Host.answers g.H.Host.modules c.args.self.now) c.args.self.now.in_loop c.args.state.now c.exprs.new.state c.args.expr.now c.in-InterpolatedString.parts c.as_slice.result.now c.in-InterpolatedString.field-1 c.in_ok-exprs-in-InterpolatedString.field-0 c.in_ok-joined_text-in-InterpolatedString.field-0 c.in-InterpolatedString.is c.as_slice.ensures c.in_ok-exprs-in-InterpolatedString.ensures c.in_ok-joined_text-in-InterpolatedString.ensures
+
+pub statement-returns-in-If : goal.statement-returns-in-If
+statement-returns-in-If g t c = if_of_stmt (setting g.H.Host.answers g.H.Host.modules c.args.self.now) c.args.self.now.in_loop c.args.state.now c.choice.new.state c.args.statement.now c.choice.result c.in-If.flow c.get.result.now _ c.in-If.is c.get.ensures c.choice.ensures
 
 pub statement-returns-in-FnCall : goal.statement-returns-in-FnCall
-statement-returns-in-FnCall g t c = call_of_stmt _ _ _ _ _ _ _ _ c.in-FnCall.is c.get-in-FnCall.ensures c.call.ensures
+statement-returns-in-FnCall g t c = call_of_stmt (setting g.H.Host.answers g.H.Host.modules c.args.self.now) c.args.self.now.in_loop c.args.state.now c.call.new.state c.args.statement.now c.call.result c.in-FnCall.call c.get-in-FnCall.result.now _ c.in-FnCall.is c.get-in-FnCall.ensures c.call.ensures
+
+pub statement-returns-in-Block : goal.statement-returns-in-Block
+statement-returns-in-Block g t c = block_of_stmt (setting g.H.Host.answers g.H.Host.modules c.args.self.now) c.args.self.now.in_loop c.args.state.now c.block.new.state c.args.statement.now c.block.result c.in-Block.block c.get-in-Block.result.now c.in-Block.is c.get-in-Block.ensures c.block.ensures
+
+pub statement-returns-in-Switch : goal.statement-returns-in-Switch
+statement-returns-in-Switch g t c = switch_of_stmt (setting g.H.Host.answers g.H.Host.modules c.args.self.now) c.args.self.now.in_loop c.args.state.now c.switch.new.state c.args.statement.now c.switch.result c.in-Switch.block c.get-in-Switch.result.now _ c.in-Switch.is c.get-in-Switch.ensures c.switch.ensures
+
+pub statement-returns-in-For : goal.statement-returns-in-For
+statement-returns-in-For g t c = for_of_stmt (setting g.H.Host.answers g.H.Host.modules c.args.self.now) c.args.self.now.in_loop c.args.state.now c.for_loop.new.state c.args.statement.now c.for_loop.result c.in-For.parts c.get-in-For.result.now _ c.in-For.is c.get-in-For.ensures c.for_loop.ensures
+
+pub expr-returns-in-Property : goal.expr-returns-in-Property
+expr-returns-in-Property g t c = property_of_expr (setting g.H.Host.answers g.H.Host.modules c.args.self.now) c.args.self.now.in_loop c.args.state.now c.args.state.now c.args.expr.now c.in-Property.field-0 c.in-Property.field-1 c.in-Property.is
+
+pub expr-returns-in-MethodCall : goal.expr-returns-in-MethodCall
+expr-returns-in-MethodCall g t c = method_of_expr (setting g.H.Host.answers g.H.Host.modules c.args.self.now) c.args.self.now.in_loop c.args.state.now c.args.state.now c.args.expr.now c.in-MethodCall.field-0 c.in-MethodCall.field-1 c.in-MethodCall.is
+
+pub expr-returns-in-Dot : goal.expr-returns-in-Dot
+expr-returns-in-Dot g t c = dot_of_expr (setting g.H.Host.answers g.H.Host.modules c.args.self.now) c.args.self.now.in_loop c.args.state.now c.args.state.now c.args.expr.now c.in-Dot.field-0 c.in-Dot.field-1 c.in-Dot.field-2 c.in-Dot.is
+
+pub expr-returns-in-Index : goal.expr-returns-in-Index
+expr-returns-in-Index g t c = index_of_expr (setting g.H.Host.answers g.H.Host.modules c.args.self.now) c.args.self.now.in_loop c.args.state.now c.args.state.now c.args.expr.now c.in-Index.field-0 c.in-Index.field-1 c.in-Index.field-2 c.in-Index.is
+
+pub first_range-returns : goal.first_range-returns
+first_range-returns g t c = ranges_end (setting g.H.Host.answers g.H.Host.modules c.args.self.now) c.args.self.now.in_loop c.args.arms.now (value_of c.args.subject.now) (map range_of c.args.ranges.now) (map range_of (drop c.loop-range.range-index c.args.ranges.now)) c.args.state.now c.loop-range.state (ap (map range_of) (drop_all c.loop-range.range-index c.args.ranges.now (omega (arith, c.loop-range-test.false)))) c.loop-range.invariant
+
+pub for_body-returns : goal.for_body-returns
+for_body-returns g t c = λ k e. for_body_runs (setting g.H.Host.answers g.H.Host.modules c.args.self.now) (counter_of c.args.parts.now.1) c.args.parts.now.0.name k c.args.item (body_of (setting g.H.Host.answers g.H.Host.modules c.args.self.now) (stmts_of c.args.parts.now.2.body.block)) c.args.state.now c.declare_count.new.state c.declare.new.self c.statements-2.new.state c.in_ok-declare_count.field-0 c.statements-2.result (c.in_ok-declare_count.ensures (setting g.H.Host.answers g.H.Host.modules c.args.self.now) k e) c.in_ok-declare.ensures.store c.in_ok-declare.ensures.turns ((rw (c.inside_loop.ensures, c.statements.ensures) at c.statements-2.ensures) false)
+
+pub for_round-returns : goal.for_round-returns
+for_round-returns g t c =
+    let ended = c.for_body-ended.new.state in
+    let left : State = record { scope = c.truncate.new.self; this = ended.this; calls = ended.calls; turns = ended.turns } in
+    λ k e. for_round_runs (setting g.H.Host.answers g.H.Host.modules c.args.self.now) (counted (counter_of c.args.parts.now.1) k (Named c.args.parts.now.0.name false (value_of c.args.item) (body_of (setting g.H.Host.answers g.H.Host.modules c.args.self.now) (stmts_of c.args.parts.now.2.body.block)))) c.args.state.now c.take_turn.new.self ended left c.len-names.result c.in_ok-take_turn.field-0 c.for_body-ended.result c.round_ended.result c.in_ok-take_turn.ensures (omega (arith, c.len-names.ensures, c.take_turn.new.self.scope.ok.0)) (c.for_body-ended.ensures k e) (record { scope = c.truncate.ensures.items; this = refl; calls = refl; turns = refl }) c.round_ended.ensures
+
+pub for_each-returns-in_err-value : goal.for_each-returns-in_err-value
+for_each-returns-in_err-value g t c =
+    let p = err_from_is_err_and c.from_residual.result c.from_residual.ensures.1 in
+    rw (p.1, p.2) (each_stops (setting g.H.Host.answers g.H.Host.modules c.args.self.now) c.args.parts.now.0.name (counter_of c.args.parts.now.1) (body_of (setting g.H.Host.answers g.H.Host.modules c.args.self.now) (stmts_of c.args.parts.now.2.body.block)) c.args.items c.loop-item.rest c.next.new.self c.in-Some.item c.loop-item.count c.args.state.now c.loop-item.state c.for_round.new.state c.in-Some.ensures c.loop-item.invariant _ c.in_err-value.ensures)
+
+pub for_each-returns-in-Some-2 : goal.for_each-returns-in-Some-2
+for_each-returns-in-Some-2 g t c = each_ends (setting g.H.Host.answers g.H.Host.modules c.args.self.now) c.args.parts.now.0.name (counter_of c.args.parts.now.1) (body_of (setting g.H.Host.answers g.H.Host.modules c.args.self.now) (stmts_of c.args.parts.now.2.body.block)) c.args.items c.loop-item.rest c.next.new.self c.in-Some.item c.loop-item.count c.args.state.now c.loop-item.state c.for_round.new.state c.in-Some.ensures c.loop-item.invariant c.in-Some-2.value (λ k e. rw c.in-Some-2.is at (c.in_ok-value.ensures k e))
+
+pub for_each-loop-item-preserved : goal.for_each-loop-item-preserved
+for_each-loop-item-preserved g t c = each_next (setting g.H.Host.answers g.H.Host.modules c.args.self.now) c.args.parts.now.0.name (counter_of c.args.parts.now.1) (body_of (setting g.H.Host.answers g.H.Host.modules c.args.self.now) (stmts_of c.args.parts.now.2.body.block)) c.args.items c.loop-item.rest c.next.new.self c.in-Some.item c.loop-item.count c.args.state.now c.loop-item.state c.for_round.new.state c.in-Some.ensures c.loop-item.invariant c.next_count-count.result (λ k e. rw c.in_default-2.is at (c.in_ok-value.ensures k e)) c.next_count-count.ensures
+
+pub for_loop-returns-in-Array : goal.for_loop-returns-in-Array
+for_loop-returns-in-Array g t c = for_array (setting g.H.Host.answers g.H.Host.modules c.args.self.now) c.args.parts.now.0.name (counter_of c.args.parts.now.1) (body_of (setting g.H.Host.answers g.H.Host.modules c.args.self.now) (stmts_of c.args.parts.now.2.body.block)) c.args.self.now.in_loop (expr_of c.args.parts.now.2.expr) c.args.state.now c.expr.new.state c.for_each.new.state c.in_ok-items.field-0 c.for_each.result c.in_ok-items.ensures c.in-Array.items c.in-Array.is c.for_each.ensures
+
+pub first_range-returns-in_err-value : goal.first_range-returns-in_err-value
+first_range-returns-in_err-value g t c =
+    let p = err_from_is_err_and c.from_residual.result c.from_residual.ensures.1 in
+    rw (p.1, p.2) (ranges_stops (setting g.H.Host.answers g.H.Host.modules c.args.self.now) c.args.self.now.in_loop c.args.arms.now (value_of c.args.subject.now) (map range_of c.args.ranges.now) (map range_of (drop c.loop-range.range-index c.args.ranges.now)) (map range_of (drop (c.loop-range.range-index + 1) c.args.ranges.now)) (range_of (get_or c.args.ranges.now c.loop-range.range-index no_range)) c.args.state.now c.loop-range.state c.range_arm.new.state (range_at c.args.ranges.now c.loop-range.range-index c.loop-range-test.true) c.loop-range.invariant _ c.in_err-value.ensures)
+
+pub first_range-returns-in-Some : goal.first_range-returns-in-Some
+first_range-returns-in-Some g t c = ranges_ends (setting g.H.Host.answers g.H.Host.modules c.args.self.now) c.args.self.now.in_loop c.args.arms.now (value_of c.args.subject.now) (map range_of c.args.ranges.now) (map range_of (drop c.loop-range.range-index c.args.ranges.now)) (map range_of (drop (c.loop-range.range-index + 1) c.args.ranges.now)) (range_of (get_or c.args.ranges.now c.loop-range.range-index no_range)) c.args.state.now c.loop-range.state c.range_arm.new.state (range_at c.args.ranges.now c.loop-range.range-index c.loop-range-test.true) c.loop-range.invariant c.in-Some.value (rw c.in-Some.is at c.in_ok-value.ensures)
+
+pub first_range-loop-range-preserved : goal.first_range-loop-range-preserved
+first_range-loop-range-preserved g t c = ranges_next (setting g.H.Host.answers g.H.Host.modules c.args.self.now) c.args.self.now.in_loop c.args.arms.now (value_of c.args.subject.now) (map range_of c.args.ranges.now) (map range_of (drop c.loop-range.range-index c.args.ranges.now)) (map range_of (drop (c.loop-range.range-index + 1) c.args.ranges.now)) (range_of (get_or c.args.ranges.now c.loop-range.range-index no_range)) c.args.state.now c.loop-range.state c.range_arm.new.state (range_at c.args.ranges.now c.loop-range.range-index c.loop-range-test.true) c.loop-range.invariant (rw c.in_default.is at c.in_ok-value.ensures)
+
+pub for_count-loop-index-init : goal.for_count-loop-index-init
+for_count-loop-index-init g t c =
+    let fits : SFits w64 c.args.first = search rules in
+    let same = to_z-of_z w64 c.args.first fits in
+    rw same (range_start (setting g.H.Host.answers g.H.Host.modules c.args.self.now) c.args.parts.now.0.name (counter_of c.args.parts.now.1) (body_of (setting g.H.Host.answers g.H.Host.modules c.args.self.now) (stmts_of c.args.parts.now.2.body.block)) c.args.first c.args.rounds c.args.state.now)
+
+pub for_count-returns-in_err-value : goal.for_count-returns-in_err-value
+for_count-returns-in_err-value g t c =
+    let fits : SFits w64 c.args.first = search rules in
+    let same = to_z-of_z w64 c.args.first fits in
+    let p = err_from_is_err_and c.from_residual.result c.from_residual.ensures.1 in
+    rw (p.1, p.2) (range_stops (setting g.H.Host.answers g.H.Host.modules c.args.self.now) c.args.parts.now.0.name (counter_of c.args.parts.now.1) (body_of (setting g.H.Host.answers g.H.Host.modules c.args.self.now) (stmts_of c.args.parts.now.2.body.block)) c.args.first c.args.rounds c.loop-index.index c.nth-item.result c.loop-index.count c.args.state.now c.loop-index.state c.for_round.new.state c.loop-index-test.true (ap value_of (rw same at c.nth-item.ensures) ∙ value_of-Int _) (rw same at c.loop-index.invariant) _ c.in_err-value.ensures)
+
+pub for_count-returns-in-Some : goal.for_count-returns-in-Some
+for_count-returns-in-Some g t c =
+    let fits : SFits w64 c.args.first = search rules in
+    let same = to_z-of_z w64 c.args.first fits in
+    range_ends (setting g.H.Host.answers g.H.Host.modules c.args.self.now) c.args.parts.now.0.name (counter_of c.args.parts.now.1) (body_of (setting g.H.Host.answers g.H.Host.modules c.args.self.now) (stmts_of c.args.parts.now.2.body.block)) c.args.first c.args.rounds c.loop-index.index c.nth-item.result c.loop-index.count c.args.state.now c.loop-index.state c.for_round.new.state c.loop-index-test.true (ap value_of (rw same at c.nth-item.ensures) ∙ value_of-Int _) (rw same at c.loop-index.invariant) c.in-Some.value (λ k e. rw c.in-Some.is at (c.in_ok-value.ensures k e))
+
+pub for_count-loop-index-preserved : goal.for_count-loop-index-preserved
+for_count-loop-index-preserved g t c =
+    let fits : SFits w64 c.args.first = search rules in
+    let same = to_z-of_z w64 c.args.first fits in
+    rw same (range_next (setting g.H.Host.answers g.H.Host.modules c.args.self.now) c.args.parts.now.0.name (counter_of c.args.parts.now.1) (body_of (setting g.H.Host.answers g.H.Host.modules c.args.self.now) (stmts_of c.args.parts.now.2.body.block)) c.args.first c.args.rounds c.loop-index.index c.nth-item.result c.loop-index.count c.args.state.now c.loop-index.state c.for_round.new.state c.loop-index-test.true (ap value_of (rw same at c.nth-item.ensures) ∙ value_of-Int _) (rw same at c.loop-index.invariant) c.next_count-count.result (λ k e. rw c.in_default.is at (c.in_ok-value.ensures k e)) c.next_count-count.ensures)
+
+pub for_count-returns : goal.for_count-returns
+for_count-returns g t c =
+    let fits : SFits w64 c.args.first = search rules in
+    let same = to_z-of_z w64 c.args.first fits in
+    range_end (setting g.H.Host.answers g.H.Host.modules c.args.self.now) c.args.parts.now.0.name (counter_of c.args.parts.now.1) (body_of (setting g.H.Host.answers g.H.Host.modules c.args.self.now) (stmts_of c.args.parts.now.2.body.block)) c.args.first c.args.rounds c.loop-index.index c.loop-index.count c.args.state.now c.loop-index.state (omega (arith, c.loop-index-test.false)) (rw same at c.loop-index.invariant)
+
+pub for_loop-returns-in-Range : goal.for_loop-returns-in-Range
+for_loop-returns-in-Range g t c =
+    let from : SFits w64 c.in-Range.from = search rules in
+    let to : SFits w64 c.in-Range.to = search rules in
+    for_range (setting g.H.Host.answers g.H.Host.modules c.args.self.now) c.args.parts.now.0.name (counter_of c.args.parts.now.1) (body_of (setting g.H.Host.answers g.H.Host.modules c.args.self.now) (stmts_of c.args.parts.now.2.body.block)) c.args.self.now.in_loop (expr_of c.args.parts.now.2.expr) c.args.state.now c.expr.new.state c.for_count.new.state c.in_ok-items.field-0 c.for_count.result c.in_ok-items.ensures c.in-Range.from c.in-Range.to c.rounds_before.result (rw (to_z-of_z w64 c.in-Range.to to, to_z-of_z w64 c.in-Range.from from) at c.rounds_before.ensures.size) c.in-Range.is (rw (to_z-of_z w64 c.in-Range.from from) at c.for_count.ensures)
+
+pub for_loop-returns-in-RangeInclusive : goal.for_loop-returns-in-RangeInclusive
+for_loop-returns-in-RangeInclusive g t c =
+    let from : SFits w64 c.in-RangeInclusive.from = search rules in
+    let to : SFits w64 c.in-RangeInclusive.to = search rules in
+    for_closed_range (setting g.H.Host.answers g.H.Host.modules c.args.self.now) c.args.parts.now.0.name (counter_of c.args.parts.now.1) (body_of (setting g.H.Host.answers g.H.Host.modules c.args.self.now) (stmts_of c.args.parts.now.2.body.block)) c.args.self.now.in_loop (expr_of c.args.parts.now.2.expr) c.args.state.now c.expr.new.state c.for_count-in-RangeInclusive.new.state c.in_ok-items.field-0 c.for_count-in-RangeInclusive.result c.in_ok-items.ensures c.in-RangeInclusive.from c.in-RangeInclusive.to c.rounds_through.result (rw (to_z-of_z w64 c.in-RangeInclusive.to to, to_z-of_z w64 c.in-RangeInclusive.from from) at c.rounds_through.ensures.size) c.in-RangeInclusive.is (rw (to_z-of_z w64 c.in-RangeInclusive.from from) at c.for_count-in-RangeInclusive.ensures)

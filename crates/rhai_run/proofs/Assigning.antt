@@ -1,0 +1,22 @@
+-- When an operator's assignment is a host call.
+use Rattle.std.proofs.Common.{◌≡◌, Bool, true, false, not, ◌&&◌, List, [], ◌∷◌, Option, Some, None, is_none, Result, Ok, Err, refl, sym, ap, ◌∙◌}
+use Rattle.rhai_values.specs.declared.dynamic.Dynamic.{Dynamic}
+use Rattle.rhai_values.specs.Value.{Value}
+use Rattle.rhai_tokens.specs.declared.token.Token.{Token}
+use Rattle.rhai_tokens.specs.declared.error.Fault.{Fault}
+use Rattle.rhai_tokens.specs.declared.error.Fault.TheVariants.{Arithmetic}
+use Rattle.rhai_base.specs.Builtin.{binary_at, computed_of, operator_of, row}
+use Rattle.rhai_base.specs.Operators.{Operator, binary, computed}
+use Rattle.rhai_meaning.specs.Engine.{Engine, asks_assigning, assigning, has_entry, is_overridden}
+
+entry_by : (r : Option (Result Dynamic Fault)) → is_none r ≡ not (has_entry (computed_of r))
+entry_by None = refl
+entry_by (Some (Ok v)) = refl
+entry_by (Some (Err Arithmetic)) = refl
+
+-- fast operators: where the table has no entry
+pub asks_where_none : (e : Engine) (op : Token) (o : Operator) (v w : Value) (r : Option (Result Dynamic Fault)) → operator_of op ≡ Some o → is_overridden e (assigning o) (v ∷ w ∷ []) ≡ true → e.fast_operators ≡ true → computed_of r ≡ binary_at op v w → is_none r ≡ asks_assigning e o (v ∷ w ∷ [])
+unfolding computed
+asks_where_none e op o v w r h k f c =
+    entry_by r ∙ ap (λ x. not (has_entry x)) (c ∙ ap (row (λ p. binary p v w)) h)
+    ∙ sym ((λ i. k i && not (f i && has_entry (computed o (v ∷ w ∷ [])))))

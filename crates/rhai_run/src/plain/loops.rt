@@ -1,0 +1,118 @@
+//! `while`, `loop` and `do`.
+
+#![tactic(auto, using(rhai_reading::specs::Reading::shapes, rhai_values::specs::Reading::kinds))]
+
+ghost use Rattle.std.specs.Prelude.{◌≡◌, ◌<◌, ◌↔◌, true, IfOk, IsTrue};
+ghost use Rattle.rhai_reading.specs.Reading.{expr_of, is_exported, is_negated, stmts_of};
+ghost use Rattle.rhai_meaning.specs.Core.{Always, Do, When, While};
+ghost use Rattle.rhai_meaning.specs.Desugar.{core_expr, core_stmt, guard_by};
+ghost use Rattle.rhai_meaning.specs.Tree as tree;
+ghost use Rattle.rhai_run.specs.Covered.{covered_guard, covered_stmt};
+ghost use Rattle.rhai_run.specs.Evaluating.{body_of, expr_core, setting, stmts_core, RunsDeed, RunsLine, RunsRound};
+
+use crate::plain::evaluator::Evaluator;
+use crate::plain::exits::round_ended;
+use crate::plain::state::{Interrupt, State};
+use crate::plain::values::truth;
+use crate::{Host, Stuck};
+use bitflags::Flags;
+use rhai_ast::{Expr, ExprQueries, FlowControl, StmtBlock};
+use rhai_base::{ASTFlags, Dynamic};
+
+impl<'a, H: Host> Evaluator<'a, H> {
+    /// A round that runs a loop's body: the loop's value where it is left, `None` where another round follows.
+    #[cycle(evaluate)]
+    fn round(&self, state: &mut State, body: &StmtBlock) -> Result<Option<Dynamic>, Interrupt>
+        ensures round { let here = setting H.answers H.modules self.now in RunsRound here (body_of here (stmts_of body.now.block)) state.old result state.new }
+        ensures turns { IfOk result (λ o. state.new.turns < state.old.turns) }
+    {
+        let inside = self.inside_loop();
+        state.take_turn()?;
+        round_ended(inside.block(state, body))
+    }
+
+    /// `while`; one whose guard is a literal `()` is `loop`.
+    #[cycle(evaluate)]
+    pub fn while_loop(&self, state: &mut State, flow: &FlowControl) -> Result<Dynamic, Interrupt>
+        ensures { let here = setting H.answers H.modules self.now in RunsDeed here (While (covered_guard (guard_by (expr_of flow.now.expr) (core_expr self.now.in_loop (expr_of flow.now.expr)))) (stmts_core true (stmts_of flow.now.body.block))) state.old result state.new }
+    {
+        if flow.expr.is_unit() {
+            self.endless(state, &flow.body)
+        } else {
+            self.guarded(state, &flow.expr, &flow.body)
+        }
+    }
+
+    #[cycle(evaluate)]
+    fn endless(&self, state: &mut State, body: &StmtBlock) -> Result<Dynamic, Interrupt>
+        ensures { RunsDeed (setting H.answers H.modules self.now) (While Always (stmts_core true (stmts_of body.now.block))) state.old result state.new }
+    {
+        loop {
+            if let Some(value) = self.round(state, body)? {
+                return Ok(value);
+            }
+        }
+    }
+
+    #[cycle(evaluate)]
+    fn guarded(
+        &self,
+        state: &mut State,
+        guard: &Expr,
+        body: &StmtBlock,
+    ) -> Result<Dynamic, Interrupt>
+        ensures { RunsDeed (setting H.answers H.modules self.now) (While (When (expr_core self.now.in_loop (expr_of guard.now))) (stmts_core true (stmts_of body.now.block))) state.old result state.new }
+    {
+        loop {
+            if !truth(self.expr(state, guard)?)? {
+                return Ok(Dynamic::Unit);
+            }
+            if let Some(value) = self.round(state, body)? {
+                return Ok(value);
+            }
+        }
+    }
+
+    /// `do`; one with EXPORTED is stuck.
+    #[cycle(evaluate)]
+    pub fn do_loop(
+        &self,
+        state: &mut State,
+        flow: &FlowControl,
+        options: ASTFlags,
+    ) -> Result<Dynamic, Interrupt>
+        ensures { RunsLine (setting H.answers H.modules self.now) (covered_stmt (core_stmt self.now.in_loop (tree.Do (is_negated options) (is_exported options) (expr_of flow.now.expr) (stmts_of flow.now.body.block)))) state.old result state.new }
+    {
+        if options.contains(ASTFlags::EXPORTED) {
+            return Err(Interrupt::Stuck(Stuck::WrongKind));
+        }
+        self.repeated(state, flow, options.contains(ASTFlags::NEGATED))
+    }
+
+    /// Rounds as long as the guard is true, or until it is.
+    #[cycle(evaluate)]
+    fn repeated(
+        &self,
+        state: &mut State,
+        flow: &FlowControl,
+        until: bool,
+    ) -> Result<Dynamic, Interrupt>
+        ensures { RunsDeed (setting H.answers H.modules self.now) (Do until (expr_core self.now.in_loop (expr_of flow.now.expr)) (stmts_core true (stmts_of flow.now.body.block))) state.old result state.new }
+    {
+        loop {
+            if let Some(value) = self.round(state, &flow.body)? {
+                return Ok(value);
+            }
+            if ends_at(truth(self.expr(state, &flow.expr)?)?, until) {
+                return Ok(Dynamic::Unit);
+            }
+        }
+    }
+}
+
+/// Whether a guard that holds or not ends a loop that goes on as long as it holds, or until it does.
+fn ends_at(holds: bool, until: bool) -> bool
+    ensures { IsTrue result ↔ (holds ≡ until) }
+{
+    holds == until
+}

@@ -1,0 +1,32 @@
+-- Rows and modules, an item at a time.
+use Rattle.std.proofs.Common.{◌≡◌, ℕ, ◌+◌, ◌<◌, Bool, if◌then◌else◌, List, [], ◌∷◌, length, get_or, drop, map, Option, Some, None, refl, ap, add-one}
+use Rattle.std.proofs.Math.Seq.{drop-cons, drop-length}
+use Rattle.std.proofs.lemmas.List.{length-map}
+use Rattle.rhai_values.specs.declared.dynamic.Dynamic.{Dynamic}
+use Rattle.rhai_values.specs.Reading.{value_of}
+use Rattle.rhai_values.specs.Value.{Text, UnitV, same_text}
+use Rattle.rhai_meaning.specs.Act.{Answers}
+use Rattle.rhai_meaning.specs.Host.{module_value_of}
+use Rattle.rhai_run.specs.declared.host.HostCall.{HostCall}
+use Rattle.rhai_run.specs.Host.{call_meant}
+use Rattle.tests_reader.specs.declared.rows.AnswerRow.{AnswerRow}
+use Rattle.tests_of_scripts.specs.Rows.{fits, answered, answer_among, modules_of}
+
+pub answer_among-drop : (rs : List AnswerRow) (i : ℕ) (d : AnswerRow) (n : ℕ) (f : Text) → i < length rs
+    → answer_among (drop i rs) n f ≡ (if fits (get_or rs i d) n f then answered (get_or rs i d) else answer_among (drop (i + 1) rs) n f)
+answer_among-drop rs i d n f h = rw (add-one, drop-cons rs i d) refl
+
+pub answer_among-end : (rs : List AnswerRow) (n : ℕ) (f : Text) → answer_among (drop (length rs) rs) n f ≡ Answers UnitV None
+answer_among-end rs n f = ap (λ l. answer_among l n f) (drop-length rs)
+
+pub module_value_of-drop : (ms : List (Text × Dynamic)) (i : ℕ) (d : Text × Dynamic) (x : Text) → i < length ms
+    → module_value_of (modules_of (drop i ms)) x ≡ (if same_text (get_or ms i d).0 x then Some (value_of (get_or ms i d).1) else module_value_of (modules_of (drop (i + 1) ms)) x)
+module_value_of-drop ms i d x h = rw (add-one, drop-cons ms i d) refl
+
+pub module_value_of-end : (ms : List (Text × Dynamic)) (x : Text) → module_value_of (modules_of (drop (length ms) ms)) x ≡ None
+module_value_of-end ms x = ap (λ l. module_value_of (modules_of l) x) (drop-length ms)
+
+pub calls-counted : (cs : List HostCall) → length (map call_meant cs) ≡ length cs
+calls-counted cs = length-map cs call_meant
+
+pub ruleset steps = (answer_among-drop, answer_among-end, module_value_of-drop, module_value_of-end, calls-counted)
