@@ -6,10 +6,12 @@ ghost use Rattle.std.specs.Hash.{on_Alike, and-Alike, items_Alike};
 ghost use Rattle.std.specs.Cmp.{on_equiv, and_equiv, on_per, and_per, partial_equiv_from_equiv};
 ghost use Rattle.std.specs.Cmp.Lexicographic.{pointwise, slice_cmp, lists_equiv, lists_per, nat_list_eq_equiv};
 ghost use Rattle.rhai_data.specs.Laws.{text_hash};
-ghost use Rattle.std.specs.BTreeMap.{insert_entry};
+ghost use Rattle.std.specs.BTreeMap.{insert_entry, is_at};
+ghost use Rattle.std.specs.Borrow.{sem};
 ghost use Rattle.std.specs.List.Sorted.{IsStrictlySortedBy};
 ghost use Rattle.std.specs.List.{AllZip};
-ghost use Rattle.std.specs.Map.{keys_of};
+ghost use Rattle.std.specs.Map.{keys_of, lookup};
+ghost use Rattle.std.specs.Option.{option_copied, option_copied_mut};
 
 use crate::ImmutableString;
 use std::alloc::{AllocError, Global};
@@ -37,6 +39,8 @@ impl<V> Model for StringMap<V> {
 }
 
 impl<V> StringMap<V> {
+    ghost use Rattle.rhai_data.specs.Lends.{lends_value_at};
+
     /// A map without entries. It takes no memory.
     pub fn new(alloc: Global) -> StringMap<V>
         ensures { result ≡ [] }
@@ -69,6 +73,22 @@ impl<V> StringMap<V> {
         ensures ordered { IsStrictlySortedBy (slice_cmp nat_cmp) (keys_of self.now) }
     {
         self.map.iter()
+    }
+
+    /// The value under a key.
+    pub fn get(&self, key: &ImmutableString) -> Option<&V>
+        ensures { option_copied result ≡ lookup (is_at (slice_cmp nat_cmp key.now)) self.now }
+    {
+        self.map.get(key)
+    }
+
+    /// The value under a key, lent for writing.
+    pub fn get_mut(&mut self, key: &ImmutableString) -> Option<&mut V>
+        ensures* writes_back { sem 𝓛 (lends_value_at V.row self.entry key.now result) }
+        ensures value { option_copied_mut result ≡ lookup (is_at (slice_cmp nat_cmp key.now)) self.old }
+        ensures ordered { IsStrictlySortedBy (slice_cmp nat_cmp) (keys_of self.old) }
+    {
+        self.map.get_mut(key)
     }
 }
 

@@ -102,7 +102,8 @@ fn is_plain_call(call: &FnCallExpr) -> bool
     !is_barred_call(call) && are_plain_exprs(call.args.as_slice())
 }
 
-fn is_barred_call(call: &FnCallExpr) -> bool
+/// Whether a call without a namespace names what the language does not run: `eval`, `is_def_var` or `is_def_fn`.
+pub fn is_barred_call(call: &FnCallExpr) -> bool
     ensures { result ≡ is_barred (callee_of call.now) }
 {
     call.namespace.is_empty() && is_barred_name(call.name.as_str())
