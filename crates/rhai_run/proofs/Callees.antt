@@ -1,102 +1,66 @@
 -- Operator calls by their tokens.
 use Rattle.std.proofs.Common.{◌≡◌, ℕ, suc, Bool, true, false, not, ◌&&◌, cond, if◌then◌else◌, List, [], ◌∷◌, length, Option, Some, None, refl, sym, ap, ◌∙◌}
 use Rattle.std.proofs.lemmas.Bool.{and_parts}
-use Rattle.std.proofs.lemmas.Slice.Eq.{bytes_eq-Decides}
 use Rattle.rhai_tokens.specs.declared.token.Token.{Token}
 use Rattle.rhai_tokens.specs.declared.token.Token.TheVariants as token
 use Rattle.rhai_base.specs.Operators.{Operator, Plus, Minus, Multiply, Divide, Modulo, Power, ShiftLeft, ShiftRight, BitAnd, BitOr, BitXor, EqualTo, NotEqualTo, Less, Greater, LessOrEqual, GreaterOrEqual, UpTo, Through, Not, Negative, Positive, NoEntry, symbol}
 use Rattle.rhai_base.specs.Builtin.{operator_of}
 use Rattle.rhai_tokens.specs.Symbols.{token_text}
-use Rattle.rhai_values.specs.Value.{Text, Value, same_text}
+use Rattle.rhai_values.specs.Value.{Text, Value}
 use Rattle.rhai_tree.specs.declared.expr.Expr.{Expr}
 use Rattle.rhai_meaning.specs.Act.{World}
 use Rattle.rhai_meaning.specs.ActForms.{ask_host}
 use Rattle.rhai_meaning.specs.Calls.{of_table, operate}
 use Rattle.rhai_meaning.specs.Core as core
 use Rattle.rhai_meaning.specs.Desugar as desugar
-use Rattle.rhai_meaning.specs.Desugar.{callee_by, call_of}
-use Rattle.rhai_meaning.specs.Shape.{is_none, has_token, is_barred}
-use Rattle.rhai_parts.specs.Names.{is_among, barred}
+use Rattle.rhai_meaning.specs.Desugar.{callee_by}
+use Rattle.rhai_meaning.specs.Shape.{is_none, has_token, is_barred, is_callable}
 use Rattle.rhai_reading.specs.Reading.{exprs_of}
 use Rattle.rhai_meaning.specs.Tree.{CallToken, NoToken, OfOperator, OfOther, Callee, count_exprs}
 use Rattle.rhai_engine.specs.EngineInfo.{built_in_of, built_in_at}
 use Rattle.rhai_run.specs.Operators.{operator_by, called_operator}
-use Rattle.rhai_run.specs.Covered.{covered_expr, covered_exprs}
 
 pub count_exprs_of : (xs : List Expr) → count_exprs (exprs_of xs) ≡ length xs
 count_exprs_of [] = refl
 count_exprs_of (x ∷ xs) = ap suc (count_exprs_of xs)
 
--- no operator's name is barred
-unbarred : (op : Operator) → is_among (symbol op) barred ≡ false
-unbarred Plus = refl
-unbarred Minus = refl
-unbarred Multiply = refl
-unbarred Divide = refl
-unbarred Modulo = refl
-unbarred Power = refl
-unbarred ShiftLeft = refl
-unbarred ShiftRight = refl
-unbarred BitAnd = refl
-unbarred BitOr = refl
-unbarred BitXor = refl
-unbarred EqualTo = refl
-unbarred NotEqualTo = refl
-unbarred Less = refl
-unbarred Greater = refl
-unbarred LessOrEqual = refl
-unbarred GreaterOrEqual = refl
-unbarred UpTo = refl
-unbarred Through = refl
-unbarred Not = refl
-unbarred Negative = refl
-unbarred Positive = refl
+-- an operator's call names it
+operator_by_if : (b : Bool) (p o : Operator) → Some p ≡ (if b then Some o else None) → p ≡ o
+operator_by_if true p o h = cc
+operator_by_if false p o h = cc
 
--- an operator's token stands under no namespace, and has its own name
-unqualified : (k : Callee) (n : ℕ) (op : Operator) → has_token k n (OfOperator op) ≡ true → (is_none k.namespace ≡ true) × (k.name ≡ symbol op)
-unqualified k n op h =
-    let three = and_parts _ (not k.captures) h in
-    let two = and_parts (is_none k.namespace && same_text k.name (symbol op)) _ three.0 in
-    let one = and_parts (is_none k.namespace) (same_text k.name (symbol op)) two.0 in
-    (one.0, (bytes_eq-Decides k.name (symbol op)).0 one.1)
+operator_callee_by : (k : Callee) (n : ℕ) (m : CallToken) (p : Operator) → Some p ≡ operator_by k n m → callee_by k m ≡ core.OnOperator p
+operator_callee_by k n NoToken p h = cc
+operator_callee_by k n (OfOperator o) p h = ap core.OnOperator (sym (operator_by_if (has_token k n (OfOperator o)) p o h))
+operator_callee_by k n OfOther p h = cc
 
-callable : (k : Callee) (n : ℕ) (op : Operator) → has_token k n (OfOperator op) ≡ true → (has_token k n (OfOperator op) && not (is_barred k)) ≡ true
-callable k n op h =
-    let own = unqualified k n op h in
-    ap (λ b. b && not (is_barred k)) h ∙ ap (λ b. not (b && is_among k.name barred)) own.0 ∙ ap (λ t. not (is_among t barred)) own.1 ∙ ap not (unbarred op)
+pub operator_callee : (k : Callee) (n : ℕ) (p : Operator) → Some p ≡ called_operator k n → callee_by k k.token ≡ core.OnOperator p
+operator_callee k n p h = operator_callee_by k n k.token p h
 
-ill_op : (b c : Bool) (op : Operator) (f : core.Expr) → None ≡ (if b then Some op else None) → cond (b && c) f core.Ill ≡ core.Ill
-ill_op true c op f e = cc
-ill_op false c op f e = refl
+-- another call stands for a name
+no_operator_if : (b : Bool) (o : Operator) → None ≡ (if b then Some o else None) → b ≡ true → ⊥
+no_operator_if true o h e = cc
+no_operator_if false o h e = cc
 
-by_name : (b : Bool) (k : Callee) (ns : List Text) (es : core.Exprs) → covered_expr (cond b (core.FnCall (desugar.by_name k ns) es) core.Ill) ≡ core.Ill
-by_name true k [] es = refl
-by_name true k (m ∷ ms) es = refl
-by_name false k ns es = refl
+name_callee_by : (k : Callee) (n : ℕ) (m : CallToken) → (has_token k n m && not (is_barred k)) ≡ true → None ≡ operator_by k n m → callee_by k m ≡ desugar.by_name k k.namespace
+name_callee_by k n NoToken h e = refl
+name_callee_by k n (OfOperator o) h e = absurd (no_operator_if (has_token k n (OfOperator o)) o e (and_parts (has_token k n (OfOperator o)) (not (is_barred k)) h).0)
+name_callee_by k n OfOther h e = refl
 
-ill_by : (k : Callee) (n : ℕ) (m : CallToken) (es : core.Exprs) → None ≡ operator_by k n m → covered_expr (cond (has_token k n m && not (is_barred k)) (core.FnCall (callee_by k m) es) core.Ill) ≡ core.Ill
-ill_by k n NoToken es e = by_name (has_token k n NoToken && not (is_barred k)) k k.namespace es
-ill_by k n (OfOperator op) es e = ap covered_expr (ill_op (has_token k n (OfOperator op)) (not (is_barred k)) op _ e)
-ill_by k n OfOther es e = refl
+by_names : (k : Callee) (ns : List Text) → is_none ns ≡ true → desugar.by_name k ns ≡ core.ByName k.name k.captures
+by_names k [] h = refl
+by_names k (m ∷ ms) h = cc
 
--- a call that is no operator's
-pub call_ill : (k : Callee) (n : ℕ) (es : core.Exprs) → None ≡ called_operator k n → covered_expr (call_of k n es) ≡ core.Ill
-call_ill k n es e = ill_by k n k.token es e
+by_modules : (k : Callee) (ns : List Text) → is_none ns ≡ false → desugar.by_name k ns ≡ core.Qualified (desugar.qualified ns k.name)
+by_modules k [] h = cc
+by_modules k (m ∷ ms) h = refl
 
-meant_op : (k : Callee) (n : ℕ) (b : Bool) (op o : Operator) (es : core.Exprs) → has_token k n (OfOperator o) ≡ b → Some op ≡ (if b then Some o else None) → cond (has_token k n (OfOperator o) && not (is_barred k)) (core.FnCall (core.OnOperator o) es) core.Ill ≡ core.FnCall (core.OnOperator op) es
-meant_op k n true op o es h e =
-    let same : op ≡ o = cc in
-    ap (λ b. cond b (core.FnCall (core.OnOperator o) es) core.Ill) (callable k n o h) ∙ ap (λ p. core.FnCall (core.OnOperator p) es) (sym same)
-meant_op k n false op o es h e = cc
+module _ (k : Callee) (n : ℕ) (h : is_callable k n ≡ true) (e : None ≡ called_operator k n) where
+  pub named_callee : is_none k.namespace ≡ true → callee_by k k.token ≡ core.ByName k.name k.captures
+  named_callee s = name_callee_by k n k.token h e ∙ by_names k k.namespace s
 
-meant_by : (k : Callee) (n : ℕ) (m : CallToken) (op : Operator) (es : core.Exprs) → Some op ≡ operator_by k n m → cond (has_token k n m && not (is_barred k)) (core.FnCall (callee_by k m) es) core.Ill ≡ core.FnCall (core.OnOperator op) es
-meant_by k n NoToken op es e = cc
-meant_by k n (OfOperator o) op es e = meant_op k n (has_token k n (OfOperator o)) op o es refl e
-meant_by k n OfOther op es e = cc
-
--- a call of an operator
-pub call_operates : (k : Callee) (n : ℕ) (op : Operator) (es : core.Exprs) → Some op ≡ called_operator k n → covered_expr (call_of k n es) ≡ core.FnCall (core.OnOperator op) (covered_exprs es)
-call_operates k n op es e = ap covered_expr (meant_by k n k.token op es e)
+  pub qualified_callee : is_none k.namespace ≡ false → callee_by k k.token ≡ core.Qualified (desugar.qualified k.namespace k.name)
+  qualified_callee s = name_callee_by k n k.token h e ∙ by_modules k k.namespace s
 
 -- ---- the host in place of an operator
 

@@ -89,3 +89,10 @@ module _ (here : Setting) (a : ScriptCall) (next : Value → Option Value → Ac
         let whole : act.Result → act.Result = λ r. call_then (store_of s) r (λ v u. run here.world (env here (suc d)) (next v u)) in
         ap (λ n. run here.world (env here (suc d)) (Invoke a next) (store_of s) n) t
         ∙ ap (λ o. whole (call_body true here.world (env here d) o a (store_of s).scope (store_of s).calls 0)) found
+
+-- back in the caller's state
+pub back_is : (s s1 s2 s3 b : State) → store_of s1 ≡ store_of s → s2.scope ≡ s1.scope → s2.this ≡ s1.this → store_of s3 ≡ record (store_of s2) { calls = (store_of b).calls } → store_of s3 ≡ record (store_of s) { calls = (store_of b).calls }
+back_is s s1 s2 s3 b same scope this resumed =
+    resumed
+    ∙ (λ i. record { scope = reversed (map variable_meant (scope i).items) []; this = option_map value_of (this i); calls = (store_of b).calls })
+    ∙ ap (λ (st : Store). record { scope = st.scope; this = st.this; calls = (store_of b).calls }) same

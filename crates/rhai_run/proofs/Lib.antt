@@ -1,5 +1,6 @@
 pub mod Values
 pub mod Optional
+pub mod Copied
 pub mod Forms
 pub mod Assigning
 pub mod Texts
@@ -26,4 +27,7 @@ pub mod Switches
 pub mod Weights
 pub mod Invoked
 pub mod Words
+pub mod Entering
+pub mod Known
+pub mod SmallRuns
 pub mod Whole

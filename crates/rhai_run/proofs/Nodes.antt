@@ -10,27 +10,24 @@ use Rattle.rhai_base.specs.Operators.{Operator}
 use Rattle.rhai_tree.specs.declared.expr.FnCallExpr.{FnCallExpr}
 use Rattle.rhai_reading.specs.Reading.{callee_of, exprs_of}
 use Rattle.rhai_meaning.specs.ActForms.{give}
-use Rattle.rhai_meaning.specs.Calls.{called, operate}
+use Rattle.rhai_meaning.specs.Calls.{called}
 use Rattle.rhai_meaning.specs.Control.{texts_joined}
 use Rattle.rhai_meaning.specs.Core as core
-use Rattle.rhai_meaning.specs.Desugar.{core_expr, core_exprs, guard_by}
+use Rattle.rhai_meaning.specs.Desugar.{callee_by, core_expr, core_exprs, guard_by}
 use Rattle.rhai_meaning.specs.Meaning.{text}
-use Rattle.rhai_meaning.specs.Shape.{is_chain, is_unit}
+use Rattle.rhai_meaning.specs.Shape.{is_callable, is_chain, is_unit}
 use Rattle.rhai_meaning.specs.Tree as tree
 use Rattle.rhai_run.specs.declared.plain.state.Interrupt.{Interrupt}
 use Rattle.rhai_run.specs.declared.plain.state.Interrupt.TheVariants.{NoMemory, Return, Break, Continue, Throw, Stuck, OutOfTurns}
 use Rattle.rhai_run.specs.declared.plain.state.State.{State}
 use Rattle.rhai_run.specs.declared.report.Stuck.TheVariants as why
 use Rattle.rhai_run.specs.Covered.{covered_expr, covered_guard}
-use Rattle.rhai_run.specs.Evaluating.{call_core, expr_core, stmts_core, IsConstant, RunsArgs, RunsBlock, RunsCall, RunsCore, RunsDeed, RunsExpr, RunsExprs, RunsLine, RunsStmt}
+use Rattle.rhai_run.specs.Evaluating.{call_core, expr_core, exprs_core, stmts_core, IsConstant, RunsArgs, RunsBlock, RunsCall, RunsCore, RunsDeed, RunsExpr, RunsExprs, RunsLine, RunsStmt}
 use Rattle.rhai_run.specs.Operators.{called_operator, StandsFor}
 use Rattle.rhai_run.specs.Runs.{Setting, Acting, Leads, Runs, given}
-use Rattle.rhai_run.proofs.Callees.{call_ill, call_operates, count_exprs_of}
+use Rattle.rhai_run.proofs.Callees.{count_exprs_of}
 use Rattle.rhai_run.proofs.Goes.{gives, goes_then, leads_then}
 use Rattle.rhai_run.proofs.Statements.{deed_line}
-
-operator_known : (c : FnCallExpr) (op : Token) → StandsFor (Some op) (called_operator (callee_of c) (length c.args)) → (p : Operator) × (operator_of op ≡ Some p) × (Some p ≡ called_operator (callee_of c) (tree.count_exprs (exprs_of c.args)))
-operator_known c op e = (e.0, e.1, e.2 ∙ ap (called_operator (callee_of c)) (sym (count_exprs_of c.args)))
 
 module _ (here : Setting) (loop : Bool) where
   -- ---- lists of values
@@ -49,22 +46,34 @@ module _ (here : Setting) (loop : Bool) where
 
   -- ---- calls
 
-  pub call_stuck : (c : FnCallExpr) (s : State) → None ≡ called_operator (callee_of c) (length c.args) → RunsCall here loop (callee_of c) (exprs_of c.args) s (Err (Stuck why.WrongKind)) s
-  call_stuck c s e =
-      let ill = call_ill (callee_of c) (tree.count_exprs (exprs_of c.args)) (core_exprs loop (exprs_of c.args)) (e ∙ ap (called_operator (callee_of c)) (sym (count_exprs_of c.args))) in
-      subst (λ x. RunsCore here x s (Err (Stuck why.WrongKind)) s) (sym ill) (record { turns = omega arith; runs = λ d le. refl })
+  pub called_as : (k : tree.Callee) (d : core.Callee) (vs : List Value) (s s1 : State) (r : Result Dynamic Interrupt) → callee_by k k.token ≡ d → Runs here (Acting (called here.world d vs)) s r s1 → Runs here (Acting (called here.world (callee_by k k.token) vs)) s r s1
+  called_as k d vs s s1 r h q = subst (λ x. Runs here (Acting (called here.world x vs)) s r s1) (sym h) q
 
-  pub call_stops : (c : FnCallExpr) (op : Token) (s s1 : State) (x : Interrupt) → StandsFor (Some op) (called_operator (callee_of c) (length c.args)) → RunsExprs here loop (exprs_of c.args) s (Err x) s1 → RunsCall here loop (callee_of c) (exprs_of c.args) s (Err x) s1
-  call_stops c op s s1 x e q =
-      let o = operator_known c op e in
-      subst (λ y. RunsCore here y s (Err x) s1) (sym (call_operates (callee_of c) (tree.count_exprs (exprs_of c.args)) o.0 (core_exprs loop (exprs_of c.args)) o.2))
-      (q (λ vs. called here.world (core.OnOperator o.0) vs))
+  module _ (c : FnCallExpr) (s : State) where
+    abbrev number : ℕ
+    number = tree.count_exprs (exprs_of c.args)
 
-  pub call_runs : (c : FnCallExpr) (op : Token) (s s1 s2 : State) (vs : List Dynamic) (r : Result Dynamic Interrupt) → StandsFor (Some op) (called_operator (callee_of c) (length c.args)) → RunsExprs here loop (exprs_of c.args) s (Ok vs) s1 → ((o : Operator) → operator_of op ≡ Some o → Runs here (Acting (operate here.world o (map value_of vs))) s1 r s2) → RunsCall here loop (callee_of c) (exprs_of c.args) s r s2
-  call_runs c op s s1 s2 vs r e q k =
-      let o = operator_known c op e in
-      subst (λ y. RunsCore here y s r s2) (sym (call_operates (callee_of c) (tree.count_exprs (exprs_of c.args)) o.0 (core_exprs loop (exprs_of c.args)) o.2))
-      (leads_then here s2 r (λ v. given (value_of v)) (q (λ us. called here.world (core.OnOperator o.0) us)) (k o.0 o.1))
+    abbrev called_core : core.Expr
+    called_core = core.FnCall (callee_by (callee_of c) (callee_of c).token) (exprs_core loop (exprs_of c.args))
+
+    cond_covered : (b : Bool) (x : core.Expr) → covered_expr (cond b x core.Ill) ≡ cond b (covered_expr x) core.Ill
+    cond_covered true x = refl
+    cond_covered false x = refl
+
+    call_is : (b : Bool) → is_callable (callee_of c) (length c.args) ≡ b → call_core loop (callee_of c) (exprs_of c.args) ≡ cond b called_core core.Ill
+    call_is b h =
+        cond_covered (is_callable (callee_of c) number) (core.FnCall (callee_by (callee_of c) (callee_of c).token) (core_exprs loop (exprs_of c.args)))
+        ∙ ap (λ d. cond d called_core core.Ill) (ap (is_callable (callee_of c)) (count_exprs_of c.args) ∙ h)
+
+    pub call_stuck : is_callable (callee_of c) (length c.args) ≡ false → RunsCall here loop (callee_of c) (exprs_of c.args) s (Err (Stuck why.WrongKind)) s
+    call_stuck h = subst (λ x. RunsCore here x s (Err (Stuck why.WrongKind)) s) (sym (call_is false h)) (record { turns = omega arith; runs = λ d le. refl })
+
+    module _ (h : is_callable (callee_of c) (length c.args) ≡ true) (s1 : State) where
+      pub call_stops : (x : Interrupt) → RunsExprs here loop (exprs_of c.args) s (Err x) s1 → RunsCall here loop (callee_of c) (exprs_of c.args) s (Err x) s1
+      call_stops x q = subst (λ y. RunsCore here y s (Err x) s1) (sym (call_is true h)) (q (λ vs. called here.world (callee_by (callee_of c) (callee_of c).token) vs))
+
+      pub call_runs : (vs : List Dynamic) (s2 : State) (r : Result Dynamic Interrupt) → RunsExprs here loop (exprs_of c.args) s (Ok vs) s1 → Runs here (Acting (called here.world (callee_by (callee_of c) (callee_of c).token) (map value_of vs))) s1 r s2 → RunsCall here loop (callee_of c) (exprs_of c.args) s r s2
+      call_runs vs s2 r q k = subst (λ y. RunsCore here y s r s2) (sym (call_is true h)) (leads_then here s2 r (λ v. given (value_of v)) (q (λ us. called here.world (callee_by (callee_of c) (callee_of c).token) us)) k)
 
   -- ---- braces, as an expression and as a statement
 

@@ -1,5 +1,5 @@
 -- What parts weigh, where a function goes into one of them.
-use Rattle.std.proofs.Common.{◌≡◌, ℕ, zero, suc, ◌+◌, ◌<◌, ◌≤◌, List, [], ◌∷◌, length, get_or, Option, Some, None, sym, ap, subst, arith}
+use Rattle.std.proofs.Common.{◌≡◌, ℕ, zero, suc, ◌+◌, ◌*◌, ◌<◌, ◌≤◌, List, [], ◌∷◌, length, get_or, Option, Some, None, sym, ap, subst, arith}
 use Rattle.std.specs.Prelude.{slice_get, IfSome}
 use Rattle.rhai_parts.specs.declared.ident.Ident.{Ident}
 use Rattle.rhai_tree.specs.declared.expr.BinaryExpr.{BinaryExpr}
@@ -54,3 +54,22 @@ member_at (x ∷ xs) (suc i) d h = omega (arith, member_at xs i d (omega (arith,
 
 pub member_item : (xs : List (Ident × Expr)) (i : ℕ) (x : Ident × Expr) → i < length xs → x ≡ get_or xs i x → expr_weight (expr_of x.1) ≤ over_pairs (total own_weight) (pairs_of xs)
 member_item xs i x h is = subst (λ (y : Ident × Expr). expr_weight (expr_of y.1) ≤ over_pairs (total own_weight) (pairs_of xs)) (sym is) (member_at xs i x h)
+
+-- ---- calls that nest
+
+-- so much more weighs what stands so deep
+pub level : ℕ → ℕ → ℕ
+level zero bodies = 0
+level (suc depth) bodies = level depth bodies + (9 * bodies + 20)
+
+level_up : (less depth bodies : ℕ) → less ≤ depth → level less bodies ≤ level depth bodies
+unfolding level
+level_up zero depth bodies h = omega arith
+level_up (suc less) zero bodies h = absurd (omega (arith, h))
+level_up (suc less) (suc depth) bodies h = omega (arith, level_up less depth bodies (omega (arith, h)))
+
+pub level_falls : (depth less bodies body : ℕ) → less < depth → body ≤ bodies → level less bodies + 9 * body + 20 ≤ level depth bodies
+unfolding level
+level_falls depth less bodies body h w =
+    let up : level less bodies + (9 * bodies + 20) ≤ level depth bodies = level_up (suc less) depth bodies (omega (arith, h)) in
+    omega (arith, up, w)

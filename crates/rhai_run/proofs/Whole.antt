@@ -16,7 +16,7 @@ use Rattle.rhai_run.specs.declared.plain.state.Interrupt.{Interrupt}
 use Rattle.rhai_run.specs.declared.plain.state.Interrupt.TheVariants.{NoMemory, Return, Break, Continue, Throw, Stuck, OutOfTurns}
 use Rattle.rhai_run.specs.declared.plain.state.State.{State}
 use Rattle.rhai_run.specs.declared.report.RunEnd.{RunEnd}
-use Rattle.rhai_run.specs.Covered.{covered_script}
+use Rattle.rhai_run.specs.Covered.{covered_function, covered_script}
 use Rattle.rhai_run.specs.Entries.{variable_meant}
 use Rattle.rhai_run.specs.Evaluating.{stmts_core, EndsAs, RunsStmts}
 use Rattle.rhai_run.specs.Host.{call_meant}
@@ -24,12 +24,12 @@ use Rattle.rhai_run.specs.Report.{end_meant, ReportsRun}
 use Rattle.rhai_run.specs.Runs.{Setting, setting_of, env, Goes, Listing, Over}
 use Rattle.rhai_run.specs.State.{store_of}
 use Rattle.rhai_meaning.proofs.Agreeing.{same_report}
-use Rattle.rhai_run.proofs.Covered.{covered_itself}
+use Rattle.rhai_run.proofs.SmallRuns.{run_same}
 use Rattle.rhai_run.proofs.Unbound.{unbound_all}
 use Rattle.rhai_run.proofs.Scopes.{reversed_twice}
 
 abbrev pub script_setting : Engine → Host → Script → Setting
-script_setting engine host p = let fs = map core_function p.functions in setting_of (world_of engine host fs) fs
+script_setting engine host p = let fs = map covered_function (map core_function p.functions) in setting_of (world_of engine host fs) fs
 
 abbrev report_at : State → RunEnd → Report
 report_at s e = record { ended = end_meant e; variables = map variable_meant s.scope.items; this = None; calls = map call_meant s.calls; turns = s.turns }
@@ -44,7 +44,7 @@ with_itself engine host p scope n r q = q host (record { answers = λ past c b. 
 
 -- a script whose calls are those of operators is run as it is
 pub operators_report : (engine : Engine) (host : Host) (p : Script) (scope : List ScopeEntry) (n : ℕ) (r : Report) → ReportsRun engine host (covered_script (core_script p)) scope n r → CallsOperatorsAlone p → ReportsRun engine host (core_script p) scope n r
-operators_report engine host p scope n r q h = subst (λ c. ReportsRun engine host c scope n r) (covered_itself p h) q
+operators_report engine host p scope n r q h = λ other agree. q other agree ∙ ap (report_of AtStatements) (run_same engine other p scope n h)
 
 module _ (engine : Engine) (host : Host) (p : Script) (scope : List ScopeEntry) (n : ℕ) (s s1 : State) (at_start : store_of s ≡ record { scope = scope; this = None; calls = [] }) (turns : s.turns ≡ n) where
   abbrev whole_acts : Acts

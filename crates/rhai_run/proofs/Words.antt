@@ -7,7 +7,10 @@ use Rattle.rhai_values.specs.Reading.{value_of}
 use Rattle.rhai_values.specs.Value.{Text, Value}
 use Rattle.rhai_meaning.specs.Act.{Key, ScriptCall, Act, Invoke}
 use Rattle.rhai_meaning.specs.ActForms.{ask_host, choose, give}
+use Rattle.rhai_meaning.specs.Act.{World}
+use Rattle.rhai_meaning.specs.Calls as calls
 use Rattle.rhai_meaning.specs.Calls.{call_named, has_key, key, same_key}
+use Rattle.rhai_run.specs.Words.{calls_pointer, goes_to_host, word_or}
 use Rattle.rhai_meaning.specs.Core.{Function}
 use Rattle.rhai_meaning.specs.Run.{function_of, key_of}
 use Rattle.rhai_run.specs.declared.plain.state.Interrupt.{Interrupt}
@@ -60,3 +63,55 @@ module _ (here : Setting) (keys : here.world.functions ≡ map key_of here.funct
   call_asks s s1 r h q =
       let unknown : has_key here.world.functions named_key ≡ false = ap (λ ks. has_key ks named_key) keys ∙ function_unknown here.functions named_key h in
       leads_then here s1 r (λ v. given (value_of v)) (call_as false unknown s) q
+
+-- ---- words
+
+is_to_host : (m : calls.Word) → goes_to_host m ≡ true → m ≡ calls.ToHost
+is_to_host calls.ToHost h = refl
+is_to_host _ h = absurd (let z : false ≡ true = h in cc)
+
+is_call : (m : calls.Word) → calls_pointer m ≡ true → m ≡ calls.CallFn
+is_call calls.CallFn h = refl
+is_call _ h = absurd (let z : false ≡ true = h in cc)
+
+word_else : (w : World) (captures : Bool) (f : Text) (m : calls.Word) (vs : List Value) → goes_to_host m ≡ false → calls_pointer m ≡ false → calls.call_word w captures f m vs ≡ word_or w.engine m vs (call_named w captures f vs)
+word_else w captures f calls.ToHost vs h k = absurd (let z : true ≡ false = h in cc)
+word_else w captures f calls.CallFn vs h k = absurd (let z : true ≡ false = k in cc)
+word_else w captures f calls.TypeOf [] h k = refl
+word_else w captures f calls.TypeOf (v ∷ []) h k = refl
+word_else w captures f calls.TypeOf (v ∷ u ∷ vs) h k = refl
+word_else w captures f calls.IsShared [] h k = refl
+word_else w captures f calls.IsShared (v ∷ []) h k = refl
+word_else w captures f calls.IsShared (v ∷ u ∷ vs) h k = refl
+word_else w captures f calls.Fn [] h k = refl
+word_else w captures f calls.Fn (v ∷ []) h k = refl
+word_else w captures f calls.Fn (v ∷ u ∷ vs) h k = refl
+word_else w captures f calls.Curry [] h k = refl
+word_else w captures f calls.Curry (v ∷ vs) h k = refl
+word_else w captures f calls.NoWord vs h k = refl
+
+module _ (here : Setting) (captures : Bool) (f : Text) (vs : List Value) (m : calls.Word) (meant : m ≡ calls.word f) (s : State) where
+  abbrev word_act : Act
+  word_act = calls.call_word here.world captures f (calls.word f) vs
+
+  pub word_asks : (s1 : State) (r : Result Dynamic Interrupt) → goes_to_host m ≡ true → Runs here (Acting (ask_host f vs)) s r s1 → Runs here (Acting word_act) s r s1
+  word_asks s1 r h q = subst (λ o. Runs here (Acting (calls.call_word here.world captures f o vs)) s r s1) (sym (is_to_host m h) ∙ meant) q
+
+  pub word_points : (s1 : State) (r : Result Dynamic Interrupt) → calls_pointer m ≡ true → Runs here (Acting (calls.call_word here.world captures f calls.CallFn vs)) s r s1 → Runs here (Acting word_act) s r s1
+  word_points s1 r h q = subst (λ o. Runs here (Acting (calls.call_word here.world captures f o vs)) s r s1) (sym (is_call m h) ∙ meant) q
+
+  module _ (h : goes_to_host m ≡ false) (k : calls_pointer m ≡ false) where
+    abbrev named_act : Act
+    named_act = call_named here.world captures f vs
+
+    to_word : Goes here (Acting word_act) s (Acting (word_or here.world.engine m vs named_act)) s
+    to_word = goes_as here _ _ s (ap Acting (ap (λ o. calls.call_word here.world captures f o vs) (sym meant) ∙ word_else here.world captures f m vs h k))
+
+    pub word_stops : (x : Interrupt) → Stops here (Acting (word_or here.world.engine m vs named_act)) s x s → Stops here (Acting word_act) s x s
+    word_stops x q = stops_then here s x to_word q
+
+    pub word_gives : (v : Dynamic) → Goes here (Acting (word_or here.world.engine m vs named_act)) s (given (value_of v)) s → Goes here (Acting word_act) s (given (value_of v)) s
+    word_gives v q = goes_then here to_word q
+
+    pub word_names : (s1 : State) (r : Result Dynamic Interrupt) → Goes here (Acting (word_or here.world.engine m vs named_act)) s (Acting named_act) s → Runs here (Acting named_act) s r s1 → Runs here (Acting word_act) s r s1
+    word_names s1 r q l = leads_then here s1 r (λ v. given (value_of v)) (goes_then here to_word q) l

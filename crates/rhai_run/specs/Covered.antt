@@ -1,11 +1,7 @@
 -- How far the evaluator goes yet: all else has no meaning in what it runs.
-use Rattle.std.specs.Prelude.{Option}
+use Rattle.std.specs.Prelude.{map, Option}
 use Rattle.rhai_base.specs.Operators.{Operator}
-use Rattle.rhai_meaning.specs.Core.{Callee, OnOperator, Expr, Ill, Constant, InterpolatedString, ArrayOf, MapOf, Variable, ModuleVariable, ThisPtr, BlockExpr, FnCall, And, Or, Coalesce, Exprs, no_exprs, expr, Pairs, no_pairs, pair, Target, ToRoot, Guard, Always, When, Arms, no_arms, arm, Deed, IllDeed, Noop, If, Switch, While, Do, For, Assignment, Block, TryCatch, Evaluate, Leave, Stmt, Var, Does, Stmts, no_stmts, stmt, Script}
-
-abbrev pub covered_call : Callee → Exprs → Expr
-covered_call (OnOperator op) es = FnCall (OnOperator op) es
-covered_call _ es = Ill
+use Rattle.rhai_meaning.specs.Core.{Expr, Ill, Constant, InterpolatedString, ArrayOf, MapOf, Variable, ModuleVariable, ThisPtr, BlockExpr, FnCall, And, Or, Coalesce, Exprs, no_exprs, expr, Pairs, no_pairs, pair, Target, ToRoot, Guard, Always, When, Arms, no_arms, arm, Deed, IllDeed, Noop, If, Switch, While, Do, For, Assignment, Block, TryCatch, Evaluate, Leave, Stmt, Var, Does, Stmts, no_stmts, stmt, Function, Script}
 
 abbrev pub covered_assignment : Option Operator → Target → Expr → Deed
 covered_assignment op (ToRoot r) e = Assignment op (ToRoot r) e
@@ -21,7 +17,7 @@ abbrev mutual
   covered_expr (ModuleVariable x) = ModuleVariable x
   covered_expr ThisPtr = ThisPtr
   covered_expr (BlockExpr ss) = BlockExpr (covered_stmts ss)
-  covered_expr (FnCall c es) = covered_call c (covered_exprs es)
+  covered_expr (FnCall c es) = FnCall c (covered_exprs es)
   covered_expr (And es) = And (covered_exprs es)
   covered_expr (Or es) = Or (covered_exprs es)
   covered_expr (Coalesce es) = Coalesce (covered_exprs es)
@@ -65,6 +61,8 @@ abbrev mutual
   covered_stmts no_stmts = no_stmts
   covered_stmts (stmt s ss) = stmt (covered_stmt s) (covered_stmts ss)
 
--- functions are not called yet
+abbrev pub covered_function : Function → Function
+covered_function f = record { name = f.name; this_type = f.this_type; params = f.params; body = covered_stmts f.body }
+
 abbrev pub covered_script : Script → Script
-covered_script p = record { statements = covered_stmts p.statements; functions = p.functions }
+covered_script p = record { statements = covered_stmts p.statements; functions = map covered_function p.functions }

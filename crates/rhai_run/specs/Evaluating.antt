@@ -6,6 +6,7 @@ use Rattle.rhai_values.specs.declared.dynamic.Dynamic.TheVariants as value
 use Rattle.rhai_values.specs.Reading.{value_of, members_of}
 use Rattle.rhai_meaning.specs.Tree as tree
 use Rattle.rhai_meaning.specs.Act.{HostCall, Answer, Ended, ScriptCall, Act, Acts, Then, Invoke, Scoped}
+use Rattle.rhai_meaning.specs.Calls.{call_named}
 use Rattle.rhai_meaning.specs.Control.{ArmActs, counted, first_arm, named, end_branch, round, try_arm}
 use Rattle.rhai_meaning.specs.Core as core
 use Rattle.rhai_meaning.specs.Desugar.{call_of, core_arms, core_expr, core_exprs, core_pairs, core_stmt, core_stmts, core_maybe, core_function}
@@ -14,6 +15,8 @@ use Rattle.rhai_meaning.specs.Host.{ModuleValue}
 use Rattle.rhai_meaning.specs.Meaning.{act, acts, arm_acts, both, either, first_some, deed, line, wanted_value, with_args, with_pairs}
 use Rattle.rhai_meaning.specs.Run.{world_of}
 use Rattle.rhai_meaning.specs.Shape.{is_unit}
+use Rattle.rhai_meaning.specs.Walk.{over_functions, total}
+use Rattle.rhai_meaning.specs.Weight.{own_weight}
 use Rattle.rhai_functions.specs.FnLib.{functions_of}
 use Rattle.rhai_engine.specs.EngineInfo.{engine_of}
 use Rattle.rhai_run.specs.declared.plain.evaluator.Evaluator.{Evaluator}
@@ -23,7 +26,7 @@ use Rattle.rhai_run.specs.declared.plain.state.State.{State}
 use Rattle.rhai_run.specs.declared.report.RunEnd.{RunEnd}
 use Rattle.rhai_run.specs.declared.report.RunEnd.TheVariants as ended
 use Rattle.rhai_run.specs.declared.report.Stuck.TheVariants as why
-use Rattle.rhai_run.specs.Covered.{covered_arms, covered_expr, covered_exprs, covered_pairs, covered_deed, covered_stmt, covered_stmts}
+use Rattle.rhai_run.specs.Covered.{covered_arms, covered_expr, covered_exprs, covered_function, covered_pairs, covered_deed, covered_stmt, covered_stmts}
 use Rattle.rhai_run.specs.Host.{host_of}
 use Rattle.rhai_run.specs.Runs.{Setting, setting_of, Task, Acting, Listing, Over, Leads, given}
 use Rattle.rhai_run.specs.Exits.{round_end}
@@ -32,8 +35,12 @@ pub use Rattle.rhai_run.specs.Runs.{Runs}
 -- that of an evaluator, by what its host answers and its modules hold
 abbrev pub setting : {H : Type 0} → (H → List HostCall → HostCall → Answer) → (H → List ModuleValue) → Evaluator H → Setting
 setting answers modules e =
-    let fs = map core_function (functions_of e.functions.now) in
+    let fs = map covered_function (map core_function (functions_of e.functions.now)) in
     setting_of (world_of (engine_of e.info.now) (host_of (answers e.host.now) (modules e.host.now)) fs) fs
+
+-- what the bodies of functions weigh
+abbrev pub bodies_weight : List tree.Function → ℕ
+bodies_weight fs = over_functions (total own_weight) fs
 
 -- ---- what is asked of values
 
@@ -181,3 +188,8 @@ RunsCatch here ss x v = Runs here (Acting (Then (Scoped (named x v (acts here.wo
 -- the call of a script's function has this value and this last `this`, whatever is done with them
 abbrev pub RunsInvoke : Setting → ScriptCall → State → Result (Dynamic × Option Dynamic) Interrupt → State → Type 0
 RunsInvoke here a s r s' = (next : Value → Option Value → Act) → Leads here (Acting (Invoke a next)) s r s' (λ p. Acting (next (value_of p.0) (option_map value_of p.1)))
+
+-- what a pointer's call comes to: a function of this name with these arguments, or one of the word's own name
+abbrev pub pointed_then : Setting → Bool → Text → List Value → Option (Text × List Dynamic) → Task
+pointed_then here captures f vs None = Acting (call_named here.world captures f vs)
+pointed_then here captures f vs (Some p) = Acting (call_named here.world captures p.0 (map value_of p.1))

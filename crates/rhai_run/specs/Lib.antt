@@ -8,3 +8,4 @@ pub mod Variables
 pub mod Exits
 pub mod Operators
 pub mod Evaluating
+pub mod Words

@@ -2,18 +2,22 @@
 
 mod asking;
 mod assigning;
+mod calling;
 mod choosing;
 mod counting;
 mod evaluator;
 mod exits;
+mod invoking;
 mod logic;
 mod loops;
 mod maps;
 mod operators;
+mod pointers;
 mod state;
 mod statements;
 mod values;
 mod variables;
+mod words;
 
 ghost use Rattle.std.specs.Prelude.{◌≡◌, IfOk};
 ghost use Rattle.rhai_meaning.specs.Desugar.{core_script};
@@ -34,8 +38,8 @@ use rhai_script::AST;
 use std::alloc::Global;
 
 /// Runs a script's statements from a scope, with so many turns. It only borrows the script, and shares nothing with
-/// the optimiser. So far it runs all but chains and calls by a name, which are stuck as parts of the wrong kind, a call
-/// before its arguments are run.
+/// the optimiser. So far it runs all but chains and assignments to parts of values, which are stuck as parts of
+/// the wrong kind.
 ///
 /// The report is that of the run with every host that answers the reported calls as this one did: nothing else of the
 /// host is asked.
@@ -58,6 +62,7 @@ pub fn plain_run<H: Host>(
         host,
         functions: ast.shared_lib(),
         in_loop: false,
+        depth: turns,
     };
     let mut state = State::new(alloc, scope, turns)?;
     let ended = evaluator.statements(&mut state, ast.statements());

@@ -2,20 +2,19 @@
 
 #![tactic(auto, using(rhai_reading::specs::Reading::shapes, rhai_values::specs::Reading::kinds))]
 
-ghost use Rattle.std.specs.Prelude.{◌≡◌, true};
-ghost use Rattle.rhai_reading.specs.Reading.{callee_of, expr_of, exprs_of, keys_of, maybe_of, pairs_of};
+ghost use Rattle.std.specs.Prelude.{◌≡◌, ◌<◌, true, false, IfSome};
+ghost use Rattle.rhai_reading.specs.Reading.{expr_of, exprs_of, keys_of, maybe_of, pairs_of};
 ghost use Rattle.rhai_meaning.specs.Desugar.{core_expr};
 ghost use Rattle.rhai_meaning.specs.Tree.{MapOf};
 ghost use Rattle.rhai_run.specs.Covered.{covered_expr};
-ghost use Rattle.rhai_run.specs.Evaluating.{setting, RunsCall, RunsCore, RunsExpr, RunsExprs, RunsMaybe, RunsMembers};
+ghost use Rattle.rhai_run.specs.Evaluating.{setting, RunsCore, RunsExpr, RunsExprs, RunsMaybe, RunsMembers};
 
 use crate::plain::maps::{insert, is_map};
-use crate::plain::operators::operator_called;
 use crate::plain::state::{Interrupt, State};
 use crate::plain::values::{constant, joined_text};
 use crate::plain::variables::Root;
 use crate::{EngineInfo, Host, Stuck};
-use rhai_ast::{Expr, FnCallExpr};
+use rhai_ast::Expr;
 use rhai_base::{Boxed, Dynamic, Ident, Seq, StringMap};
 use rhai_script::FnLib;
 use std::alloc::Global;
@@ -33,6 +32,8 @@ pub struct Evaluator<'a, H> {
     pub functions: &'a FnLib,
     /// Whether what is run stands in the body of a loop of its function.
     pub in_loop: bool,
+    /// More calls than this do not nest, since each takes a turn.
+    pub depth: u64,
 }
 
 impl<'a, H: Host> Evaluator<'a, H> {
@@ -46,7 +47,26 @@ impl<'a, H: Host> Evaluator<'a, H> {
             host: self.host,
             functions: self.functions,
             in_loop: true,
+            depth: self.depth,
         }
+    }
+
+    /// The same in the body of a function that is entered with so many turns left. They are fewer than when the body
+    /// around was entered, so that there always is one.
+    pub fn inside_function(&self, turns: u64) -> Option<Evaluator<'a, H>>
+        ensures { IfSome result (λ e. (e ≡ record self.now { in_loop = false; depth = turns }) × (turns < self.now.depth)) }
+    {
+        if turns >= self.depth {
+            return None;
+        }
+        Some(Evaluator {
+            alloc: self.alloc,
+            info: self.info,
+            host: self.host,
+            functions: self.functions,
+            in_loop: false,
+            depth: turns,
+        })
     }
 
     #[cycle(evaluate)]
@@ -142,17 +162,5 @@ impl<'a, H: Host> Evaluator<'a, H> {
             insert(&mut map, &member.0, value)?;
         }
         Ok(map)
-    }
-
-    /// A call that is no operator's is stuck before its arguments are run.
-    #[cycle(evaluate)]
-    pub fn call(&self, state: &mut State, call: &FnCallExpr) -> Result<Dynamic, Interrupt>
-        ensures { RunsCall (setting H.answers H.modules self.now) self.now.in_loop (callee_of call.now) (exprs_of call.now.args) state.old result state.new }
-    {
-        let Some(op) = operator_called(call) else {
-            return Err(Interrupt::Stuck(Stuck::WrongKind));
-        };
-        let args = self.exprs(state, call.args.as_slice())?;
-        self.operate(state, op, args)
     }
 }

@@ -1,9 +1,10 @@
 //! What a run changes, and how a part of it ends.
-ghost use Rattle.std.specs.Prelude.{◌≡◌, map, IfOk, OnOk, ◌∷◌, None, []};
+ghost use Rattle.std.specs.Prelude.{◌≡◌, map, IfOk, OnOk, ◌∷◌, None, [], option_map};
+ghost use Rattle.rhai_meaning.specs.Run.{bind, seen};
 ghost use Rattle.rhai_values.specs.Reading.{value_of};
 ghost use Rattle.rhai_run.specs.declared.plain.state.Interrupt.TheVariants.{NoMemory};
 ghost use Rattle.rhai_run.specs.State.{store_of, TakesTurn};
-ghost use Rattle.rhai_run.specs.Entries.{entry_meant, start_scope, variable_meant};
+ghost use Rattle.rhai_run.specs.Entries.{entry_meant, scope_meant, start_scope, variable_meant};
 
 use crate::{HostCall, Stuck, Variable};
 use rhai_base::{Dynamic, ImmutableString, OutOfMemory, Scope, Seq};
@@ -103,6 +104,85 @@ impl State {
         self.scope.push((name.clone()?, is_constant, value))?;
         Ok(())
     }
+}
+
+impl State {
+    /// Where a function's body starts: with its parameters over a copy of the names around where the call captures
+    /// them, and with the calls so far, which go along.
+    pub fn enter(
+        &mut self,
+        alloc: Global,
+        captures: bool,
+        params: &[ImmutableString],
+        this: Option<Dynamic>,
+        args: Seq<Dynamic>,
+    ) -> Result<State, AllocError>
+        ensures store { IfOk result (λ s. store_of s ≡ record { scope = bind params.now (map value_of args) (seen captures (store_of self.old).scope); this = option_map value_of this; calls = (store_of self.old).calls }) }
+        ensures turns { IfOk result (λ s. s.turns ≡ self.old.turns) }
+        ensures scope { OnOk result (self.new.scope ≡ self.old.scope) }
+        ensures around { OnOk result (self.new.this ≡ self.old.this) }
+    {
+        let names = if captures {
+            copied(alloc, self.scope.as_slice())?
+        } else {
+            Vec::new(alloc)
+        };
+        let scope = bound(names, params, args)?;
+        let calls = std::mem::replace(&mut self.calls, Seq::new(alloc));
+        Ok(State {
+            scope,
+            this,
+            calls,
+            turns: self.turns,
+        })
+    }
+
+    /// Goes on after a function's body, with its calls and turns. The body's last `this`.
+    pub fn resume(&mut self, body: State) -> Option<Dynamic>
+        ensures store { store_of self.new ≡ record (store_of self.old) { calls = (store_of body).calls } }
+        ensures turns { self.new.turns ≡ body.turns }
+        ensures this { result ≡ body.this }
+    {
+        let State {
+            scope: _,
+            this,
+            calls,
+            turns,
+        } = body;
+        self.calls = calls;
+        self.turns = turns;
+        this
+    }
+}
+
+/// The same names with the same values.
+fn copied(alloc: Global, scope: &[Variable]) -> Result<Vec<Variable>, AllocError>
+    ensures { IfOk result (λ vs. vs.items ≡ scope.now) }
+{
+    let mut copies = Vec::new(alloc);
+    for variable in scope {
+        copies.push((variable.0.clone()?, variable.1, variable.2.clone()?))?;
+    }
+    Ok(copies)
+}
+
+/// Parameters with their values, over other names.
+fn bound(
+    names: Vec<Variable>,
+    params: &[ImmutableString],
+    args: Seq<Dynamic>,
+) -> Result<Vec<Variable>, AllocError>
+    ensures { IfOk result (λ vs. scope_meant vs.items ≡ bind params.now (map value_of args) (scope_meant names.items)) }
+{
+    let mut scope = names;
+    let mut rest = args.into_rest();
+    for param in params {
+        let Some(arg) = rest.next() else {
+            return Ok(scope);
+        };
+        scope.push((param.clone()?, false, arg))?;
+    }
+    Ok(scope)
 }
 
 fn variables(alloc: Global, scope: &Scope) -> Result<Vec<Variable>, AllocError>

@@ -162,7 +162,7 @@ fn position(scope: &[Variable], name: &str) -> Option<usize>
 }
 
 /// A name with its modules', joined by `::`.
-fn qualified(alloc: Global, namespace: &Namespace, name: &str) -> Result<String, AllocError>
+pub fn qualified(alloc: Global, namespace: &Namespace, name: &str) -> Result<String, AllocError>
     ensures { IfOk result (λ t. string_bytes t ≡ desugar.qualified (path_of namespace.now) name.now) }
 {
     let mut text = String::new(alloc);

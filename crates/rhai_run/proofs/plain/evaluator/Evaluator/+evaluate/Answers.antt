@@ -1,30 +1,47 @@
-use Rattle.std.proofs.Common.{◌≡◌, ◌+◌, ◌≤◌, true, false, drop, get_or, map, refl, sym, ap, ◌∙◌, arith, rules}
+use Rattle.std.proofs.Common.{◌≡◌, ◌+◌, ◌*◌, ◌≤◌, suc, true, false, None, drop, get_or, length, map, subst, refl, sym, ap, ◌∙◌, arith, rules}
 use Rattle.std.specs.Int.{w64}
 use Rattle.std.proofs.lemmas.Int.{to_z-of_z}
 use Rattle.std.proofs.lemmas.List.{drop_all, drop_more}
 use mir.Val.{SFits}
 use Rattle.std.proofs.lemmas.Result.{err_from_is_err_and}
-use Rattle.std.specs.Option.{option_copied}
+use Rattle.std.proofs.lemmas.List.{length-map}
+use Rattle.std.specs.Option.{option_copied, option_map}
 use Rattle.rhai_values.specs.Reading.{value_of, value_of-Int}
 use Rattle.rhai_base.specs.Builtin.{operator_of}
-use Rattle.rhai_reading.specs.Reading.{arms_of, counter_of, expr_of, exprs_of, expressions_of, keys_of, pairs_of, range_of, stmt_of, stmts_of, table_of}
-use Rattle.rhai_meaning.specs.Act.{Named}
+use Rattle.rhai_reading.specs.Reading.{arms_of, callee_of, counter_of, expr_of, exprs_of, expressions_of, keys_of, pairs_of, range_of, stmt_of, stmts_of, table_of}
+use Rattle.rhai_functions.specs.FnKey.{definition_key}
+use Rattle.rhai_functions.specs.FnLib.{functions_of}
+use Rattle.rhai_functions.specs.Table.{find_by}
+use Rattle.rhai_meaning.specs.Act.{Invoke, Named, OutOfTurns, Store}
+use Rattle.rhai_meaning.specs.ActForms.{ask_host}
+use Rattle.rhai_meaning.specs.Calls as calls
+use Rattle.rhai_meaning.specs.Calls.{call_named, key}
+use Rattle.rhai_meaning.specs.Core as core
+use Rattle.rhai_meaning.specs.Desugar as desugar
+use Rattle.rhai_meaning.specs.Run.{bind, seen}
 use Rattle.rhai_meaning.specs.Control.{counted}
 use Rattle.rhai_meaning.specs.Desugar.{core_expr}
 use Rattle.rhai_meaning.specs.Walk.{over_pairs, total}
 use Rattle.rhai_meaning.specs.Weight.{expr_weight, exprs_weight, own_weight, stmt_weight, weight}
 use Rattle.rhai_run.specs.declared.plain.state.State.{State}
-use Rattle.rhai_run.specs.Evaluating.{arms_here, body_of, expr_core, setting, stmts_core}
+use Rattle.rhai_run.specs.Evaluating.{arms_here, bodies_weight, body_of, expr_core, setting, stmts_core}
+use Rattle.rhai_run.specs.Runs.{Acting, Halting, Runs, given, stop_of}
 use Rattle.rhai_run.specs.Variables.{root_meant}
+use Rattle.rhai_run.specs.Words.{word_meant}
 use Rattle.rhai_run.proofs.ByKind.{array_of_expr, block_of_stmt, braces_of_expr, call_of_expr, call_of_stmt, dot_of_expr, for_of_stmt, if_of_stmt, index_of_expr, map_of_expr, method_of_expr, property_of_expr, switch_of_stmt, text_of_expr}
 use Rattle.rhai_run.proofs.Counted.{each_ends, each_next, each_stops, for_array, for_body_runs, for_closed_range, for_range, for_round_runs, range_end, range_ends, range_next, range_start, range_stops}
 use Rattle.rhai_run.proofs.Exits.{catch_runs, try_catches, try_ends, try_stops}
-use Rattle.rhai_run.proofs.Nodes.{call_stuck, call_stops, call_runs}
+use Rattle.rhai_run.proofs.Nodes.{call_stuck, call_stops, call_runs, called_as}
+use Rattle.rhai_run.proofs.Callees.{named_callee, operator_callee, qualified_callee}
+use Rattle.rhai_run.proofs.Goes.{leads_then, stops_by}
+use Rattle.rhai_run.proofs.Invoked.{back_is, invoke_goes, invoke_late, invoke_stops}
+use Rattle.rhai_run.proofs.Known.{found_function, found_key, found_nothing, found_weight}
+use Rattle.rhai_run.proofs.Words.{call_asks, call_invokes, word_asks, word_gives, word_names, word_points, word_stops}
 use Rattle.rhai_run.proofs.Operands.{args_start, args_next, args_stop, args_end, operands_start, both_stops, both_stuck, both_false, both_next, both_end, either_stops, either_stuck, either_true, either_next, either_end, first_stops, first_value, first_next, first_end}
 use Rattle.rhai_run.proofs.Roots.{assign_runs, assign_stops, assign_stuck}
 use Rattle.rhai_run.proofs.Statements.{stmts_start, stmts_next, stmts_stop, stmts_end, block_runs, body_runs, branch_runs, condition_stops, condition_stuck}
 use Rattle.rhai_run.proofs.Switches.{arm_false, arm_leaves, arm_missing, arm_past, arm_stops, arm_stuck, arm_there, arm_true, arms_default, arms_end, arms_stop, default_missing, default_runs, places_end, places_ends, no_range, places_next, places_stops, range_at, ranges_end, ranges_ends, ranges_next, ranges_stops}
-use Rattle.rhai_run.proofs.Weights.{arm_weight, arms_weight, expr_item, member_item, stmt_item}
+use Rattle.rhai_run.proofs.Weights.{arm_weight, arms_weight, expr_item, level, level_falls, member_item, stmt_item}
 use Rattle.rhai_run.proofs.Rounds.{loop_start}
 use Rattle.rhai_run.proofs.Loops.{round_runs, round_turns, endless_stops, endless_ends, endless_next, while_stops, while_stuck, while_over, while_leaves, while_ends, while_next, loop_always, loop_when, do_stops, do_ends, do_guard_stops, do_guard_stuck, do_over, do_next}
 use Rattle.rhai_run.proofs.Maps.{map_runs, map_stops, members_start, members_stop, members_next, members_end}
@@ -63,18 +80,6 @@ pub statements-returns : goal.statements-returns
 statements-returns g t c = stmts_end _ _ _ _ _ _ _ (omega arith) c.loop-statement.invariant
 
 -- calls
-pub call-returns-in_default : goal.call-returns-in_default
-call-returns-in_default g t c = call_stuck _ _ c.args.call.now _ c.in_default.ensures
-
-pub call-returns-in_err-args : goal.call-returns-in_err-args
-call-returns-in_err-args g t c =
-    let p = err_from_is_err_and c.from_residual.result c.from_residual.ensures.1 in
-    rw (p.1, p.2) (call_stops _ _ c.args.call.now _ _ _ _ c.in-Some.ensures (rw c.as_slice.ensures at c.in_err-args.ensures))
-
-pub call-returns : goal.call-returns
-call-returns g t c =
-    call_runs _ _ c.args.call.now _ _ _ _ _ _ c.in-Some.ensures (rw c.as_slice.ensures at c.in_ok-args.ensures) c.operate.ensures
-
 -- braces
 pub block-returns : goal.block-returns
 block-returns g t c =
@@ -518,3 +523,107 @@ for_loop-returns-in-RangeInclusive g t c =
     let from : SFits w64 c.in-RangeInclusive.from = search rules in
     let to : SFits w64 c.in-RangeInclusive.to = search rules in
     for_closed_range (setting g.H.Host.answers g.H.Host.modules c.args.self.now) c.args.parts.now.0.name (counter_of c.args.parts.now.1) (body_of (setting g.H.Host.answers g.H.Host.modules c.args.self.now) (stmts_of c.args.parts.now.2.body.block)) c.args.self.now.in_loop (expr_of c.args.parts.now.2.expr) c.args.state.now c.expr.new.state c.for_count-in-RangeInclusive.new.state c.in_ok-items.field-0 c.for_count-in-RangeInclusive.result c.in_ok-items.ensures c.in-RangeInclusive.from c.in-RangeInclusive.to c.rounds_through.result (rw (to_z-of_z w64 c.in-RangeInclusive.to to, to_z-of_z w64 c.in-RangeInclusive.from from) at c.rounds_through.ensures.size) c.in-RangeInclusive.is (rw (to_z-of_z w64 c.in-RangeInclusive.from from) at c.for_count-in-RangeInclusive.ensures)
+
+pub call-returns-then-not-is_callable : goal.call-returns-then-not-is_callable
+call-returns-then-not-is_callable g t c = call_stuck (setting g.H.Host.answers g.H.Host.modules c.args.self.now) c.args.self.now.in_loop c.args.call.now c.args.state.now (sym c.is_callable.ensures ∙ c.if-not-is_callable.true)
+
+pub call-returns-in_err-args : goal.call-returns-in_err-args
+call-returns-in_err-args g t c =
+    let p = err_from_is_err_and c.from_residual.result c.from_residual.ensures.1 in
+    rw (p.1, p.2) (call_stops (setting g.H.Host.answers g.H.Host.modules c.args.self.now) c.args.self.now.in_loop c.args.call.now c.args.state.now (sym c.is_callable.ensures ∙ c.if-not-is_callable.false) c.exprs.new.state _ (rw c.as_slice.ensures at c.in_err-args.ensures))
+
+pub call-returns : goal.call-returns
+call-returns g t c =
+    call_runs (setting g.H.Host.answers g.H.Host.modules c.args.self.now) c.args.self.now.in_loop c.args.call.now c.args.state.now (sym c.is_callable.ensures ∙ c.if-not-is_callable.false) c.exprs.new.state c.in_ok-args.args c.called.new.state c.called.result (rw c.as_slice.ensures at c.in_ok-args.ensures) c.called.ensures
+
+pub called-returns-in-Some : goal.called-returns-in-Some
+called-returns-in-Some g t c =
+    let o = c.in-Some.ensures in
+    called_as (setting g.H.Host.answers g.H.Host.modules c.args.self.now) c.args.self.now.in_loop (callee_of c.args.call.now) (core.OnOperator o.0) (map value_of c.args.args) c.args.state.now c.operate.new.state c.operate.result (operator_callee (callee_of c.args.call.now) (length c.args.call.now.args) o.0 o.2) (c.operate.ensures o.0 o.1)
+
+pub called-returns-then-is_empty : goal.called-returns-then-is_empty
+called-returns-then-is_empty g t c =
+    called_as (setting g.H.Host.answers g.H.Host.modules c.args.self.now) c.args.self.now.in_loop (callee_of c.args.call.now) (core.ByName (callee_of c.args.call.now).name (callee_of c.args.call.now).captures) (map value_of c.args.args) c.args.state.now c.call_word.new.state c.call_word.result (named_callee (callee_of c.args.call.now) (length c.args.call.now.args) c.requires c.in_default.ensures (sym c.is_empty.ensures.names ∙ c.if-is_empty.true)) c.call_word.ensures
+
+pub called-returns : goal.called-returns
+called-returns g t c =
+    let k = (callee_of c.args.call.now) in
+    let name = c.in_ok-name-2.ensures ∙ c.as_str-2.ensures.value ∙ c.in_ok-name.ensures ∙ ap (desugar.qualified k.namespace) c.as_str.ensures in
+    called_as (setting g.H.Host.answers g.H.Host.modules c.args.self.now) c.args.self.now.in_loop k (core.Qualified (desugar.qualified k.namespace k.name)) (map value_of c.args.args) c.args.state.now c.ask_host.new.state c.ask_host.result (qualified_callee k (length c.args.call.now.args) c.requires c.in_default.ensures (sym c.is_empty.ensures.names ∙ c.if-is_empty.false)) (subst (λ f. Runs (setting g.H.Host.answers g.H.Host.modules c.args.self.now) (Acting (ask_host f (map value_of c.args.args))) c.args.state.now c.ask_host.result c.ask_host.new.state) name c.ask_host.ensures)
+
+pub call_word-returns-then-is_to_host : goal.call_word-returns-then-is_to_host
+call_word-returns-then-is_to_host g t c =
+    word_asks (setting g.H.Host.answers g.H.Host.modules c.args.self.now) c.args.captures c.args.name.now (map value_of c.args.args) (word_meant c.of-word.result) (c.of-word.ensures ∙ ap calls.word c.as_str.ensures) c.args.state.now c.ask_host.new.state c.ask_host.result (sym c.is_to_host.ensures ∙ c.if-is_to_host.true) (rw c.in_ok-clone.ensures.cases at c.ask_host.ensures)
+
+pub call_word-returns-then-is_call : goal.call_word-returns-then-is_call
+call_word-returns-then-is_call g t c =
+    word_points (setting g.H.Host.answers g.H.Host.modules c.args.self.now) c.args.captures c.args.name.now (map value_of c.args.args) (word_meant c.of-word.result) (c.of-word.ensures ∙ ap calls.word c.as_str.ensures) c.args.state.now c.call_pointed.new.state c.call_pointed.result (sym c.is_call.ensures ∙ c.if-is_call.true) c.call_pointed.ensures
+
+pub call_word-returns-in_err-value : goal.call_word-returns-in_err-value
+call_word-returns-in_err-value g t c =
+    let p = err_from_is_err_and c.from_residual.result c.from_residual.ensures.1 in
+    rw (p.1, p.2) (word_stops (setting g.H.Host.answers g.H.Host.modules c.args.self.now) c.args.captures c.args.name.now (map value_of c.args.args) (word_meant c.of-word.result) (c.of-word.ensures ∙ ap calls.word c.as_str.ensures) c.args.state.now (sym c.is_to_host.ensures ∙ c.if-is_to_host.false) (sym c.is_call.ensures ∙ c.if-is_call.false) _ ((rw c.as_slice.ensures at c.in_err-value.ensures) c.args.state.now (call_named (setting g.H.Host.answers g.H.Host.modules c.args.self.now).world c.args.captures c.args.name.now (map value_of c.args.args))))
+
+pub call_word-returns-in-Some : goal.call_word-returns-in-Some
+call_word-returns-in-Some g t c =
+    word_gives (setting g.H.Host.answers g.H.Host.modules c.args.self.now) c.args.captures c.args.name.now (map value_of c.args.args) (word_meant c.of-word.result) (c.of-word.ensures ∙ ap calls.word c.as_str.ensures) c.args.state.now (sym c.is_to_host.ensures ∙ c.if-is_to_host.false) (sym c.is_call.ensures ∙ c.if-is_call.false) c.in-Some.value ((rw (c.as_slice.ensures, c.in-Some.is) at c.in_ok-value.ensures) c.args.state.now (call_named (setting g.H.Host.answers g.H.Host.modules c.args.self.now).world c.args.captures c.args.name.now (map value_of c.args.args)))
+
+pub call_word-returns-in-None : goal.call_word-returns-in-None
+call_word-returns-in-None g t c =
+    word_names (setting g.H.Host.answers g.H.Host.modules c.args.self.now) c.args.captures c.args.name.now (map value_of c.args.args) (word_meant c.of-word.result) (c.of-word.ensures ∙ ap calls.word c.as_str.ensures) c.args.state.now (sym c.is_to_host.ensures ∙ c.if-is_to_host.false) (sym c.is_call.ensures ∙ c.if-is_call.false) c.call_named.new.state c.call_named.result ((rw (c.as_slice.ensures, c.in-None.is) at c.in_ok-value.ensures) c.args.state.now (call_named (setting g.H.Host.answers g.H.Host.modules c.args.self.now).world c.args.captures c.args.name.now (map value_of c.args.args))) c.call_named.ensures
+
+pub call_pointed-returns-in-Some : goal.call_pointed-returns-in-Some
+call_pointed-returns-in-Some g t c =
+    leads_then (setting g.H.Host.answers g.H.Host.modules c.args.self.now) c.call_named.new.state c.call_named.result (λ v. given (value_of v)) ((rw (c.as_slice.ensures, c.in-Some.is) at c.in_ok-function.ensures) (setting g.H.Host.answers g.H.Host.modules c.args.self.now) c.args.captures c.args.name.now c.args.state.now) c.call_named.ensures
+
+pub call_pointed-returns-in-None : goal.call_pointed-returns-in-None
+call_pointed-returns-in-None g t c =
+    leads_then (setting g.H.Host.answers g.H.Host.modules c.args.self.now) c.call_named-in-None.new.state c.call_named-in-None.result (λ v. given (value_of v)) ((rw (c.as_slice.ensures, c.in-None.is) at c.in_ok-function.ensures) (setting g.H.Host.answers g.H.Host.modules c.args.self.now) c.args.captures c.args.name.now c.args.state.now) c.call_named-in-None.ensures
+
+pub call_named-returns : goal.call_named-returns
+call_named-returns g t c =
+    let fs = c.args.self.now.functions.now.functions in
+    let same : key c.in_ok-clone.field-0 c.len.result None ≡ key c.args.name.now (length (map value_of c.args.args)) None = λ i. key (c.in_ok-clone.ensures.cases i) ((c.len.ensures ∙ sym (length-map value_of c.args.args)) i) None in
+    call_asks (setting g.H.Host.answers g.H.Host.modules c.args.self.now) refl c.args.captures c.args.name.now (map value_of c.args.args) c.args.state.now c.ask_host.new.state c.ask_host.result (found_nothing (key c.args.name.now (length (map value_of c.args.args)) None) fs (subst (λ k. None ≡ find_by definition_key k fs) same c.in-None.ensures)) (rw c.in_ok-clone-in-None.ensures.cases at c.ask_host.ensures)
+
+pub call_named-returns-in-Some : goal.call_named-returns-in-Some
+call_named-returns-in-Some g t c = ?
+
+pub call_named-returns-in_err-value-in-Some : goal.call_named-returns-in_err-value-in-Some
+call_named-returns-in_err-value-in-Some g t c = ?
+
+pub call_named-invoke-requires : goal.call_named-invoke-requires
+call_named-invoke-requires g t c =
+    c.deref.ensures
+
+pub invoke-returns-in_err-take_turn : goal.invoke-returns-in_err-take_turn
+invoke-returns-in_err-take_turn g t c =
+    let p = err_from_is_err_and c.from_residual.result c.from_residual.ensures.1 in
+    let late = c.in_err-take_turn.ensures in
+    λ h next. rw (p.1, p.2) (stops_by (setting g.H.Host.answers g.H.Host.modules c.args.self.now) (Acting (Invoke (record { function = definition_key c.args.function.now; captures = c.args.captures; this = option_map value_of c.args.this; arguments = (map value_of c.args.args) }) next)) c.args.state.now c.take_turn.new.self _ (Halting OutOfTurns) (ap stop_of late.0) (invoke_late (setting g.H.Host.answers g.H.Host.modules c.args.self.now) (record { function = definition_key c.args.function.now; captures = c.args.captures; this = option_map value_of c.args.this; arguments = (map value_of c.args.args) }) next _ h c.args.state.now c.take_turn.new.self late.1 late.3 late.2))
+
+pub invoke-returns : goal.invoke-returns
+invoke-returns g t c =
+    let turn = c.in_ok-take_turn.ensures in
+    let start = (rw c.as_slice-params.ensures at c.in_ok-body.ensures.store) ∙ ap (λ (st : Store). record { scope = bind c.args.function.now.params (map value_of c.args.args) (seen c.args.captures st.scope); this = option_map value_of c.args.this; calls = st.calls }) turn.1 in
+    let turns = turn.0 ∙ ap suc (sym c.in_ok-body.ensures.turns) in
+    let back = back_is c.args.state.now c.take_turn.new.self c.enter.new.self c.resume-this.new.self c.statements-ended.new.state turn.1 c.in_ok-body.ensures.scope c.in_ok-body.ensures.around c.resume-this.ensures.store in
+    let ran = (rw (c.in-Some.ensures.0, c.statements.ensures) at c.statements-ended.ensures) true in
+    λ h next. rw c.resume-this.ensures.this (invoke_goes (setting g.H.Host.answers g.H.Host.modules c.args.self.now) (record { function = definition_key c.args.function.now; captures = c.args.captures; this = option_map value_of c.args.this; arguments = (map value_of c.args.args) }) next _ h c.args.state.now c.in_ok-body.body c.statements-ended.new.state turns start c.resume-this.new.self back c.resume-this.ensures.turns c.statements-ended.result c.in_ok-function_ended.field-0 ran (rw c.in_ok-function_ended.was at c.function_ended.ensures))
+
+pub invoke-returns-in_err-function_ended : goal.invoke-returns-in_err-function_ended
+invoke-returns-in_err-function_ended g t c =
+    let turn = c.in_ok-take_turn.ensures in
+    let start = (rw c.as_slice-params.ensures at c.in_ok-body.ensures.store) ∙ ap (λ (st : Store). record { scope = bind c.args.function.now.params (map value_of c.args.args) (seen c.args.captures st.scope); this = option_map value_of c.args.this; calls = st.calls }) turn.1 in
+    let turns = turn.0 ∙ ap suc (sym c.in_ok-body.ensures.turns) in
+    let back = back_is c.args.state.now c.take_turn.new.self c.enter.new.self c.resume-this.new.self c.statements-ended.new.state turn.1 c.in_ok-body.ensures.scope c.in_ok-body.ensures.around c.resume-this.ensures.store in
+    let ran = (rw (c.in-Some.ensures.0, c.statements.ensures) at c.statements-ended.ensures) true in
+    let p = err_from_is_err_and c.from_residual-in_err-function_ended.result c.from_residual-in_err-function_ended.ensures.1 in
+    λ h next. rw (p.1, p.2) (invoke_stops (setting g.H.Host.answers g.H.Host.modules c.args.self.now) (record { function = definition_key c.args.function.now; captures = c.args.captures; this = option_map value_of c.args.this; arguments = (map value_of c.args.args) }) next _ h c.args.state.now c.in_ok-body.body c.statements-ended.new.state turns start c.resume-this.new.self back c.resume-this.ensures.turns c.statements-ended.result _ ran (rw c.in_err-function_ended.was at c.function_ended.ensures))
+
+pub invoke-statements-ended-requires : goal.invoke-statements-ended-requires
+invoke-statements-ended-requires g t c =
+    let same = c.in-Some.ensures.0 in
+    let lighter : level c.in-Some.inside.depth (bodies_weight (functions_of c.in-Some.inside.functions.now)) + 9 * weight (stmts_of c.statements.result.now) + 20 ≤ level c.args.self.now.depth (bodies_weight (functions_of c.args.self.now.functions.now)) =
+    rw (ap (λ e. e.depth) same, ap (λ e. e.functions) same, c.statements.ensures) (level_falls c.args.self.now.depth c.take_turn.new.self.turns (bodies_weight (functions_of c.args.self.now.functions.now)) (weight (stmts_of c.args.function.now.body.block)) c.in-Some.ensures.1 c.requires) in
+    search rules

@@ -8,128 +8,144 @@ use Rattle.rhai_reading.specs.Reading.{arms_of, cases_of, counter_of, expr_of, e
 use Rattle.rhai_meaning.specs.Walk.{over_maybe, over_pairs, total}
 use Rattle.rhai_meaning.specs.Weight.{expr_weight, exprs_weight, own_weight, stmt_weight, weight}
 use Rattle.rhai_meaning.specs.Control.{round}
-use Rattle.rhai_run.specs.Evaluating.{body_of, expr_core}
+use Rattle.rhai_functions.specs.FnLib.{functions_of}
+use Rattle.rhai_run.specs.Evaluating.{bodies_weight, body_of, expr_core}
 use Rattle.rhai_run.proofs.Loops.{do_round, guarded_round}
 use Rattle.rhai_run.proofs.Rounds.{LoopAt}
 use Rattle.rhai_run.proofs.Counted.{CountAt, EachAt}
 use Rattle.rhai_run.proofs.Switches.{PlacesAt, RangesAt}
-use Rattle.rhai_run.proofs.Weights.{arms_weight}
+use Rattle.rhai_run.proofs.Weights.{arms_weight, level}
 use Rattle.rhai_run.proofs.plain.evaluator.Evaluator.+evaluate.Given as goal
 
 -- each part of a node weighs less than the node
 abbrev pub decreases-expr : goal.decreases-expr
-decreases-expr g l = 9 * expr_weight (expr_of l.expr.now) + 1
+decreases-expr g l = level l.self.now.depth (bodies_weight (functions_of l.self.now.functions.now)) + 9 * expr_weight (expr_of l.expr.now) + 1
 
 abbrev pub decreases-exprs : goal.decreases-exprs
-decreases-exprs g l = 9 * exprs_weight (exprs_of l.exprs.now) + 2
+decreases-exprs g l = level l.self.now.depth (bodies_weight (functions_of l.self.now.functions.now)) + 9 * exprs_weight (exprs_of l.exprs.now) + 2
 
 abbrev pub decreases-optional : goal.decreases-optional
-decreases-optional g l = 9 * over_maybe (total own_weight) (maybe_of l.expr.now) + 2
+decreases-optional g l = level l.self.now.depth (bodies_weight (functions_of l.self.now.functions.now)) + 9 * over_maybe (total own_weight) (maybe_of l.expr.now) + 2
 
 abbrev pub decreases-map : goal.decreases-map
-decreases-map g l = 9 * over_pairs (total own_weight) (pairs_of l.literal.now.0) + 3
+decreases-map g l = level l.self.now.depth (bodies_weight (functions_of l.self.now.functions.now)) + 9 * over_pairs (total own_weight) (pairs_of l.literal.now.0) + 3
 
 abbrev pub decreases-members : goal.decreases-members
-decreases-members g l = 9 * over_pairs (total own_weight) (pairs_of l.members.now) + 2
+decreases-members g l = level l.self.now.depth (bodies_weight (functions_of l.self.now.functions.now)) + 9 * over_pairs (total own_weight) (pairs_of l.members.now) + 2
 
 abbrev pub decreases-call : goal.decreases-call
-decreases-call g l = 9 * exprs_weight (exprs_of l.call.now.args) + 3
+decreases-call g l = level l.self.now.depth (bodies_weight (functions_of l.self.now.functions.now)) + 9 * exprs_weight (exprs_of l.call.now.args) + 9
+
+abbrev pub decreases-called : goal.decreases-called
+decreases-called g l = level l.self.now.depth (bodies_weight (functions_of l.self.now.functions.now)) + 8
+
+abbrev pub decreases-call_word : goal.decreases-call_word
+decreases-call_word g l = level l.self.now.depth (bodies_weight (functions_of l.self.now.functions.now)) + 7
+
+abbrev pub decreases-call_pointed : goal.decreases-call_pointed
+decreases-call_pointed g l = level l.self.now.depth (bodies_weight (functions_of l.self.now.functions.now)) + 6
+
+abbrev pub decreases-call_named : goal.decreases-call_named
+decreases-call_named g l = level l.self.now.depth (bodies_weight (functions_of l.self.now.functions.now)) + 5
+
+abbrev pub decreases-invoke : goal.decreases-invoke
+decreases-invoke g l = level l.self.now.depth (bodies_weight (functions_of l.self.now.functions.now)) + 4
 
 abbrev pub decreases-both : goal.decreases-both
-decreases-both g l = 9 * exprs_weight (exprs_of l.operands.now) + 2
+decreases-both g l = level l.self.now.depth (bodies_weight (functions_of l.self.now.functions.now)) + 9 * exprs_weight (exprs_of l.operands.now) + 2
 
 abbrev pub decreases-either : goal.decreases-either
-decreases-either g l = 9 * exprs_weight (exprs_of l.operands.now) + 2
+decreases-either g l = level l.self.now.depth (bodies_weight (functions_of l.self.now.functions.now)) + 9 * exprs_weight (exprs_of l.operands.now) + 2
 
 abbrev pub decreases-first_some : goal.decreases-first_some
-decreases-first_some g l = 9 * exprs_weight (exprs_of l.operands.now) + 2
+decreases-first_some g l = level l.self.now.depth (bodies_weight (functions_of l.self.now.functions.now)) + 9 * exprs_weight (exprs_of l.operands.now) + 2
 
 abbrev pub decreases-statement : goal.decreases-statement
-decreases-statement g l = 9 * stmt_weight (stmt_of l.statement.now) + 1
+decreases-statement g l = level l.self.now.depth (bodies_weight (functions_of l.self.now.functions.now)) + 9 * stmt_weight (stmt_of l.statement.now) + 1
 
 abbrev pub decreases-statements : goal.decreases-statements
-decreases-statements g l = 9 * weight (stmts_of l.statements.now) + 2
+decreases-statements g l = level l.self.now.depth (bodies_weight (functions_of l.self.now.functions.now)) + 9 * weight (stmts_of l.statements.now) + 2
 
 abbrev pub decreases-block : goal.decreases-block
-decreases-block g l = 9 * weight (stmts_of l.block.now.block) + 3
+decreases-block g l = level l.self.now.depth (bodies_weight (functions_of l.self.now.functions.now)) + 9 * weight (stmts_of l.block.now.block) + 3
 
 abbrev pub decreases-choice : goal.decreases-choice
-decreases-choice g l = 9 * (expr_weight (expr_of l.flow.now.expr) + weight (stmts_of l.flow.now.body.block) + weight (stmts_of l.flow.now.branch.block)) + 8
+decreases-choice g l = level l.self.now.depth (bodies_weight (functions_of l.self.now.functions.now)) + 9 * (expr_weight (expr_of l.flow.now.expr) + weight (stmts_of l.flow.now.body.block) + weight (stmts_of l.flow.now.branch.block)) + 8
 
 abbrev pub decreases-declaration : goal.decreases-declaration
-decreases-declaration g l = 9 * expr_weight (expr_of l.value.now) + 2
+decreases-declaration g l = level l.self.now.depth (bodies_weight (functions_of l.self.now.functions.now)) + 9 * expr_weight (expr_of l.value.now) + 2
 
 abbrev pub decreases-assignment : goal.decreases-assignment
-decreases-assignment g l = 9 * expr_weight (expr_of l.sides.now.rhs) + 2
+decreases-assignment g l = level l.self.now.depth (bodies_weight (functions_of l.self.now.functions.now)) + 9 * expr_weight (expr_of l.sides.now.rhs) + 2
 
 abbrev pub decreases-break_loop : goal.decreases-break_loop
-decreases-break_loop g l = 9 * over_maybe (total own_weight) (maybe_of l.value.now) + 3
+decreases-break_loop g l = level l.self.now.depth (bodies_weight (functions_of l.self.now.functions.now)) + 9 * over_maybe (total own_weight) (maybe_of l.value.now) + 3
 
 abbrev pub decreases-leave : goal.decreases-leave
-decreases-leave g l = 9 * over_maybe (total own_weight) (maybe_of l.value.now) + 3
+decreases-leave g l = level l.self.now.depth (bodies_weight (functions_of l.self.now.functions.now)) + 9 * over_maybe (total own_weight) (maybe_of l.value.now) + 3
 
 abbrev pub decreases-try_catch : goal.decreases-try_catch
-decreases-try_catch g l = 9 * (weight (stmts_of l.flow.now.body.block) + weight (stmts_of l.flow.now.branch.block)) + 8
+decreases-try_catch g l = level l.self.now.depth (bodies_weight (functions_of l.self.now.functions.now)) + 9 * (weight (stmts_of l.flow.now.body.block) + weight (stmts_of l.flow.now.branch.block)) + 8
 
 abbrev pub decreases-catch : goal.decreases-catch
-decreases-catch g l = 9 * weight (stmts_of l.branch.now.block) + 4
+decreases-catch g l = level l.self.now.depth (bodies_weight (functions_of l.self.now.functions.now)) + 9 * weight (stmts_of l.branch.now.block) + 4
 
 abbrev pub decreases-round : goal.decreases-round
-decreases-round g l = 9 * weight (stmts_of l.body.now.block) + 4
+decreases-round g l = level l.self.now.depth (bodies_weight (functions_of l.self.now.functions.now)) + 9 * weight (stmts_of l.body.now.block) + 4
 
 abbrev pub decreases-endless : goal.decreases-endless
-decreases-endless g l = 9 * weight (stmts_of l.body.now.block) + 5
+decreases-endless g l = level l.self.now.depth (bodies_weight (functions_of l.self.now.functions.now)) + 9 * weight (stmts_of l.body.now.block) + 5
 
 abbrev pub decreases-guarded : goal.decreases-guarded
-decreases-guarded g l = 9 * (expr_weight (expr_of l.guard.now) + weight (stmts_of l.body.now.block)) + 5
+decreases-guarded g l = level l.self.now.depth (bodies_weight (functions_of l.self.now.functions.now)) + 9 * (expr_weight (expr_of l.guard.now) + weight (stmts_of l.body.now.block)) + 5
 
 abbrev pub decreases-while_loop : goal.decreases-while_loop
-decreases-while_loop g l = 9 * (expr_weight (expr_of l.flow.now.expr) + weight (stmts_of l.flow.now.body.block)) + 6
+decreases-while_loop g l = level l.self.now.depth (bodies_weight (functions_of l.self.now.functions.now)) + 9 * (expr_weight (expr_of l.flow.now.expr) + weight (stmts_of l.flow.now.body.block)) + 6
 
 abbrev pub decreases-repeated : goal.decreases-repeated
-decreases-repeated g l = 9 * (expr_weight (expr_of l.flow.now.expr) + weight (stmts_of l.flow.now.body.block)) + 5
+decreases-repeated g l = level l.self.now.depth (bodies_weight (functions_of l.self.now.functions.now)) + 9 * (expr_weight (expr_of l.flow.now.expr) + weight (stmts_of l.flow.now.body.block)) + 5
 
 abbrev pub decreases-do_loop : goal.decreases-do_loop
-decreases-do_loop g l = 9 * (expr_weight (expr_of l.flow.now.expr) + weight (stmts_of l.flow.now.body.block)) + 6
+decreases-do_loop g l = level l.self.now.depth (bodies_weight (functions_of l.self.now.functions.now)) + 9 * (expr_weight (expr_of l.flow.now.expr) + weight (stmts_of l.flow.now.body.block)) + 6
 
 abbrev pub decreases-switch : goal.decreases-switch
-decreases-switch g l = 9 * (expr_weight (expr_of (subject_of l.block.now)) + arms_weight (arms_of (expressions_of (cases_of l.block.now)))) + 20
+decreases-switch g l = level l.self.now.depth (bodies_weight (functions_of l.self.now.functions.now)) + 9 * (expr_weight (expr_of (subject_of l.block.now)) + arms_weight (arms_of (expressions_of (cases_of l.block.now)))) + 20
 
 abbrev pub decreases-choose : goal.decreases-choose
-decreases-choose g l = 9 * arms_weight (arms_of (expressions_of l.table.now)) + 9
+decreases-choose g l = level l.self.now.depth (bodies_weight (functions_of l.self.now.functions.now)) + 9 * arms_weight (arms_of (expressions_of l.table.now)) + 9
 
 abbrev pub decreases-chosen_arm : goal.decreases-chosen_arm
-decreases-chosen_arm g l = 9 * arms_weight (arms_of (expressions_of l.table.now)) + 8
+decreases-chosen_arm g l = level l.self.now.depth (bodies_weight (functions_of l.self.now.functions.now)) + 9 * arms_weight (arms_of (expressions_of l.table.now)) + 8
 
 abbrev pub decreases-first_arm : goal.decreases-first_arm
-decreases-first_arm g l = 9 * arms_weight (arms_of l.arms.now) + 6
+decreases-first_arm g l = level l.self.now.depth (bodies_weight (functions_of l.self.now.functions.now)) + 9 * arms_weight (arms_of l.arms.now) + 6
 
 abbrev pub decreases-first_range : goal.decreases-first_range
-decreases-first_range g l = 9 * arms_weight (arms_of l.arms.now) + 7
+decreases-first_range g l = level l.self.now.depth (bodies_weight (functions_of l.self.now.functions.now)) + 9 * arms_weight (arms_of l.arms.now) + 7
 
 abbrev pub decreases-range_arm : goal.decreases-range_arm
-decreases-range_arm g l = 9 * arms_weight (arms_of l.arms.now) + 6
+decreases-range_arm g l = level l.self.now.depth (bodies_weight (functions_of l.self.now.functions.now)) + 9 * arms_weight (arms_of l.arms.now) + 6
 
 abbrev pub decreases-arm : goal.decreases-arm
-decreases-arm g l = 9 * arms_weight (arms_of l.arms.now) + 5
+decreases-arm g l = level l.self.now.depth (bodies_weight (functions_of l.self.now.functions.now)) + 9 * arms_weight (arms_of l.arms.now) + 5
 
 abbrev pub decreases-default_arm : goal.decreases-default_arm
-decreases-default_arm g l = 9 * arms_weight (arms_of l.arms.now) + 5
+decreases-default_arm g l = level l.self.now.depth (bodies_weight (functions_of l.self.now.functions.now)) + 9 * arms_weight (arms_of l.arms.now) + 5
 
 abbrev pub decreases-for_loop : goal.decreases-for_loop
-decreases-for_loop g l = 9 * (expr_weight (expr_of l.parts.now.2.expr) + weight (stmts_of l.parts.now.2.body.block)) + 9
+decreases-for_loop g l = level l.self.now.depth (bodies_weight (functions_of l.self.now.functions.now)) + 9 * (expr_weight (expr_of l.parts.now.2.expr) + weight (stmts_of l.parts.now.2.body.block)) + 9
 
 abbrev pub decreases-for_each : goal.decreases-for_each
-decreases-for_each g l = 9 * weight (stmts_of l.parts.now.2.body.block) + 7
+decreases-for_each g l = level l.self.now.depth (bodies_weight (functions_of l.self.now.functions.now)) + 9 * weight (stmts_of l.parts.now.2.body.block) + 7
 
 abbrev pub decreases-for_count : goal.decreases-for_count
-decreases-for_count g l = 9 * weight (stmts_of l.parts.now.2.body.block) + 7
+decreases-for_count g l = level l.self.now.depth (bodies_weight (functions_of l.self.now.functions.now)) + 9 * weight (stmts_of l.parts.now.2.body.block) + 7
 
 abbrev pub decreases-for_round : goal.decreases-for_round
-decreases-for_round g l = 9 * weight (stmts_of l.parts.now.2.body.block) + 6
+decreases-for_round g l = level l.self.now.depth (bodies_weight (functions_of l.self.now.functions.now)) + 9 * weight (stmts_of l.parts.now.2.body.block) + 6
 
 abbrev pub decreases-for_body : goal.decreases-for_body
-decreases-for_body g l = 9 * weight (stmts_of l.parts.now.2.body.block) + 5
+decreases-for_body g l = level l.self.now.depth (bodies_weight (functions_of l.self.now.functions.now)) + 9 * weight (stmts_of l.parts.now.2.body.block) + 5
 
 -- the loops
 abbrev pub invariant-first_arm-loop-place : goal.invariant-first_arm-loop-place

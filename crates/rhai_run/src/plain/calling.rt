@@ -1,0 +1,106 @@
+//! Calls: operators, the language's own words, script functions, the host.
+
+#![tactic(auto, using(rhai_reading::specs::Reading::shapes, rhai_values::specs::Reading::kinds))]
+
+ghost use Rattle.std.specs.Prelude.{◌≡◌, true, length, map};
+ghost use Rattle.rhai_values.specs.Reading.{value_of};
+ghost use Rattle.rhai_reading.specs.Reading.{callee_of, exprs_of};
+ghost use Rattle.rhai_meaning.specs.Calls as calls;
+ghost use Rattle.rhai_meaning.specs.Desugar.{callee_by};
+ghost use Rattle.rhai_meaning.specs.Shape as shape;
+ghost use Rattle.rhai_run.specs.Evaluating.{setting, Runs, RunsCall};
+ghost use Rattle.rhai_run.specs.Runs.{Acting};
+
+use crate::plain::evaluator::Evaluator;
+use crate::plain::operators::operator_called;
+use crate::plain::pointers::pointed;
+use crate::plain::state::{Interrupt, State};
+use crate::plain::variables::qualified;
+use crate::plain::words::Word;
+use crate::{Host, Stuck};
+use rhai_ast::FnCallExpr;
+use rhai_base::{Dynamic, ImmutableString, Seq};
+use rhai_faults::{is_barred_call, is_formed};
+
+impl<'a, H: Host> Evaluator<'a, H> {
+    /// A call: its arguments first, then what its name stands for. One whose name or token no tree has is stuck before.
+    #[cycle(evaluate)]
+    pub fn call(&self, state: &mut State, call: &FnCallExpr) -> Result<Dynamic, Interrupt>
+        ensures { RunsCall (setting H.answers H.modules self.now) self.now.in_loop (callee_of call.now) (exprs_of call.now.args) state.old result state.new }
+    {
+        if !is_callable(call) {
+            return Err(Interrupt::Stuck(Stuck::WrongKind));
+        }
+        let args = self.exprs(state, call.args.as_slice())?;
+        self.called(state, call, args)
+    }
+
+    #[cycle(evaluate)]
+    fn called(
+        &self,
+        state: &mut State,
+        call: &FnCallExpr,
+        args: Seq<Dynamic>,
+    ) -> Result<Dynamic, Interrupt>
+        requires { shape.is_callable (callee_of call.now) (length call.now.args) ≡ true }
+        ensures { let here = setting H.answers H.modules self.now in Runs here (Acting (calls.called here.world (callee_by (callee_of call.now) (callee_of call.now).token) (map value_of args))) state.old result state.new }
+    {
+        if let Some(op) = operator_called(call) {
+            return self.operate(state, op, args);
+        }
+        if call.namespace.is_empty() {
+            return self.call_word(state, &call.name, call.capture_parent_scope, args);
+        }
+        let name = qualified(self.alloc, &call.namespace, call.name.as_str())?;
+        let name = ImmutableString::new(self.alloc, name.as_str())?;
+        self.ask_host(state, name, args)
+    }
+
+    /// One of the language's own words, where it has as many arguments as it takes; else a function of the name.
+    #[cycle(evaluate)]
+    fn call_word(
+        &self,
+        state: &mut State,
+        name: &ImmutableString,
+        captures: bool,
+        args: Seq<Dynamic>,
+    ) -> Result<Dynamic, Interrupt>
+        ensures { let here = setting H.answers H.modules self.now in Runs here (Acting (calls.call_word here.world captures name.now (calls.word name.now) (map value_of args))) state.old result state.new }
+    {
+        let word = Word::of(name.as_str());
+        if word.is_to_host() {
+            return self.ask_host(state, name.clone()?, args);
+        }
+        if word.is_call() {
+            return self.call_pointed(state, name, captures, args);
+        }
+        match self.word_value(word, args.as_slice())? {
+            Some(value) => Ok(value),
+            None => self.call_named(state, name, captures, args),
+        }
+    }
+
+    /// `call`: the function that a pointer names, with the pointer's values before the others.
+    #[cycle(evaluate)]
+    fn call_pointed(
+        &self,
+        state: &mut State,
+        name: &ImmutableString,
+        captures: bool,
+        args: Seq<Dynamic>,
+    ) -> Result<Dynamic, Interrupt>
+        ensures { let here = setting H.answers H.modules self.now in Runs here (Acting (calls.call_word here.world captures name.now calls.CallFn (map value_of args))) state.old result state.new }
+    {
+        match pointed(self.alloc, args.as_slice())? {
+            Some((function, all)) => self.call_named(state, &function, captures, all),
+            None => self.call_named(state, name, captures, args),
+        }
+    }
+}
+
+/// Whether a call's name and token may stand in a tree, and the language runs what it names.
+fn is_callable(call: &FnCallExpr) -> bool
+    ensures { result ≡ shape.is_callable (callee_of call.now) (length call.now.args) }
+{
+    is_formed(call) && !is_barred_call(call)
+}
