@@ -11,7 +11,11 @@ mod evaluator;
 #[cfg(test)]
 mod given;
 #[cfg(test)]
+mod guide_runs;
+#[cfg(test)]
 mod hosts;
+#[cfg(test)]
+mod merged;
 #[cfg(test)]
 mod notation;
 #[cfg(test)]

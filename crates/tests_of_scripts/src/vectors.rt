@@ -41,7 +41,7 @@ const TABLES: [&[Run]; 12] = [
 /// How many of them the evaluator covers.
 const COVERED: usize = 6;
 
-fn script(alloc: Global, text: &str) -> Result<AST, Unread> {
+pub fn script(alloc: Global, text: &str) -> Result<AST, Unread> {
     let script = read_script(alloc, text)?;
     Ok(with_functions(alloc, script)?)
 }

@@ -1,0 +1,101 @@
+//! The pieces of the guide on running scripts.
+#![tactic(auto, using(rhai_values::specs::Reading::kinds))]
+
+ghost use Rattle.std.specs.Prelude.{[], pos, None};
+ghost use Rattle.rhai_values.specs.Value.{IntV};
+ghost use Rattle.rhai_meaning.specs.Act.{Answers};
+
+use rhai_ast::{Expr, FnCallExpr, Stmt};
+use rhai_base::{
+    Boxed, Dynamic, ImmutableString, Namespace, OutOfMemory, Position, Scope, Seq, Token,
+};
+use rhai_run::{EngineInfo, Host, HostAnswer, HostCall, RunEnd, RunReport, plain_run};
+use rhai_script::{AST, FnLib};
+use std::alloc::Global;
+use std::rc::Rc;
+use std::test::Fail;
+
+/// Answers 7 to every call, and has no modules.
+#[derive(Drop)]
+struct Seven;
+
+impl Host for Seven {
+    // the two in the logic: what a run reports is proved of every host that answers so
+    ghost answers = { λ host past call. Answers (IntV (pos 7)) None };
+
+    ghost modules = { λ host. [] };
+
+    fn answer(
+        &self,
+        _alloc: Global,
+        _past: &[HostCall], // the calls of the run so far
+        _call: &HostCall,
+    ) -> Result<HostAnswer, OutOfMemory> {
+        Ok(HostAnswer::Value {
+            value: Dynamic::Int(7),
+            receiver: None, // a method's receiver stays as it is
+        })
+    }
+
+    fn module_value(&self, _alloc: Global, _name: &str) -> Result<Option<Dynamic>, OutOfMemory> {
+        Ok(None)
+    }
+}
+
+/// A call, as a parser would build it; of an operator with its token.
+fn call(
+    alloc: Global,
+    name: &str,
+    args: Seq<Expr>,
+    op_token: Option<Token>,
+) -> Result<Boxed<FnCallExpr>, OutOfMemory> {
+    let call = FnCallExpr {
+        namespace: Namespace::none(alloc),
+        name: ImmutableString::new(alloc, name)?,
+        args,
+        capture_parent_scope: false,
+        op_token,
+    };
+    Ok(Boxed::new(alloc, call)?)
+}
+
+/// `start + price()`
+fn sum(alloc: Global) -> Result<Stmt, OutOfMemory> {
+    let name = ImmutableString::new(alloc, "start")?;
+    let variable = Boxed::new(alloc, (None, name, Namespace::none(alloc)))?;
+    let mut operands = Seq::new(alloc);
+    operands.push(Expr::Variable(variable, None, Position::NONE))?;
+    let price = call(alloc, "price", Seq::new(alloc), None)?;
+    operands.push(Expr::FnCall(price, Position::NONE))?;
+    let sum = call(alloc, "+", operands, Some(Token::Plus))?;
+    Ok(Stmt::FnCall(sum, Position::NONE))
+}
+
+fn script(alloc: Global) -> Result<AST, OutOfMemory> {
+    let statements = vec![in alloc; sum(alloc)?]?;
+    let functions = Rc::new(alloc, FnLib::new(alloc))?;
+    Ok(AST::new(statements, functions))
+}
+
+#[test]
+fn a_script_is_run(rt: HostRuntime) -> Result<(), Fail> {
+    let alloc = rt.alloc();
+    let script = script(alloc)?;
+    let mut scope = Scope::new(alloc);
+    scope.push(ImmutableString::new(alloc, "start")?, Dynamic::Int(35))?;
+
+    let info = EngineInfo::new(alloc); // overrides no operator
+    let report = plain_run(alloc, &script, &info, &Seven, &scope, 10)?; // with ten turns
+
+    assert!(rt; report.run_end == RunEnd::Value(Dynamic::Int(42)));
+    assert!(rt; report.turns_left == 10); // no loop, no call of a script's function
+    assert!(rt; has_asked_for_a_price(&report));
+    Ok(())
+}
+
+fn has_asked_for_a_price(report: &RunReport) -> bool {
+    match report.calls.as_slice() {
+        [call] => call.name.as_str() == "price" && call.args.is_empty(),
+        _ => false,
+    }
+}
