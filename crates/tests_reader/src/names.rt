@@ -71,12 +71,13 @@ impl<'a> Letters<'a> {
 
     /// An operator, and goes past the `(`.
     pub(crate) fn operator(&mut self, pos: Position) -> Result<Called, Unread> {
-        let symbol = self.until(b'(').ok_or(Unread::Wanted("a call"))?;
+        let written = self.until(b'(').ok_or(Unread::Wanted("a call"))?;
+        let (symbol, captures) = capturing(written);
         let name = ImmutableString::new(self.alloc, symbol)?;
         Ok(Called {
             namespace: Namespace::none(self.alloc),
             name: Ident { name, pos },
-            captures: false,
+            captures,
         })
     }
 
@@ -176,5 +177,13 @@ impl<'a> Letters<'a> {
         let called = self.called(word, pos)?;
         push(&mut parts.exprs, nodes::variable(self.alloc, called))?;
         self.expect(" ")
+    }
+}
+
+/// An operator as it is written, without the `!` of a call that captures.
+fn capturing(written: &str) -> (&str, bool) {
+    match written.strip_suffix('!') {
+        None | Some("") => (written, false),
+        Some(symbol) => (symbol, true),
     }
 }
