@@ -17,6 +17,7 @@ const SECOND: &str = "foo(\"!\")\nfn foo(n) { text(\"hello\", n) }\nfn error() {
 
 /// How a run ends that calls the second's `foo`, and one that calls the first's.
 const OF_SECOND: &str = "end: value \"hello!\"\n";
+
 const OF_FIRST: &str = "end: value \"42!\"\n";
 
 fn is_error(

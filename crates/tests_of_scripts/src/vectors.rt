@@ -7,6 +7,7 @@ mod flow;
 mod full;
 mod functions;
 mod odd;
+mod worked;
 
 use crate::given::{Given, read_given};
 use crate::notation::with_functions;
@@ -23,23 +24,28 @@ use tests_reader::{Unread, read_script};
 pub type Run = (&'static str, &'static str, &'static str);
 
 /// First those whose runs come to no chain and to no call by a name, or are stuck there.
-const TABLES: [&[Run]; 12] = [
+const TABLES: [&[Run]; 17] = [
     &chains::PLAIN,
     &directed::PLAIN,
     &flow::PLAIN,
     &full::PLAIN,
     &functions::PLAIN,
     &odd::PLAIN,
+    &worked::VALUES,
+    &worked::CHOICES,
+    &worked::LOOPS,
     &chains::CALLING,
     &directed::CALLING,
     &flow::CALLING,
     &full::CALLING,
     &functions::CALLING,
     &odd::CALLING,
+    &worked::CALLS,
+    &worked::CHAINS,
 ];
 
 /// How many of them the evaluator covers.
-const COVERED: usize = 6;
+const COVERED: usize = 9;
 
 pub fn script(alloc: Global, text: &str) -> Result<AST, Unread> {
     let script = read_script(alloc, text)?;
