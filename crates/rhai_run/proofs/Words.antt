@@ -3,13 +3,15 @@ use Rattle.std.proofs.Common.{◌≡◌, ℕ, Bool, true, false, ◌||◌, List,
 use Rattle.std.proofs.lemmas.Bool.{or_parts}
 use Rattle.std.specs.Prelude.{option_map}
 use Rattle.rhai_values.specs.declared.dynamic.Dynamic.{Dynamic}
-use Rattle.rhai_values.specs.Reading.{value_of}
-use Rattle.rhai_values.specs.Value.{Text, Value}
+use Rattle.rhai_values.specs.declared.dynamic.Dynamic.TheVariants as kind
+use Rattle.rhai_values.specs.Reading.{value_of, value_of-Bool, value_of-Str}
+use Rattle.rhai_values.specs.Value.{Text, Value, TextV}
 use Rattle.rhai_meaning.specs.Act.{Key, ScriptCall, Act, Invoke}
 use Rattle.rhai_meaning.specs.ActForms.{ask_host, choose, give}
 use Rattle.rhai_meaning.specs.Act.{World}
 use Rattle.rhai_meaning.specs.Calls as calls
 use Rattle.rhai_meaning.specs.Calls.{call_named, has_key, key, same_key}
+use Rattle.rhai_meaning.specs.Engine.{mapped_type_name}
 use Rattle.rhai_run.specs.Words.{calls_pointer, goes_to_host, word_or}
 use Rattle.rhai_meaning.specs.Core.{Function}
 use Rattle.rhai_meaning.specs.Run.{function_of, key_of}
@@ -115,3 +117,15 @@ module _ (here : Setting) (captures : Bool) (f : Text) (vs : List Value) (m : ca
 
     pub word_names : (s1 : State) (r : Result Dynamic Interrupt) → Goes here (Acting (word_or here.world.engine m vs named_act)) s (Acting named_act) s → Runs here (Acting named_act) s r s1 → Runs here (Acting word_act) s r s1
     word_names s1 r q l = leads_then here s1 r (λ v. given (value_of v)) (goes_then here to_word q) l
+
+-- words that answer at once
+module _ (here : Setting) (s : State) (next : Act) where
+  pub shared_word : (args : List Dynamic) → length args ≡ 1 → Goes here (Acting (word_or here.world.engine calls.IsShared (map value_of args) next)) s (given (value_of (kind.Bool false))) s
+  shared_word [] h = absurd (omega (arith, h))
+  shared_word (v ∷ []) h = gives here _ _ s (sym (value_of-Bool false))
+  shared_word (v ∷ u ∷ us) h = absurd (omega (arith, h))
+
+  pub type_word : (args : List Dynamic) (v : Dynamic) (name : Text) → args ≡ v ∷ [] → name ≡ mapped_type_name here.world.engine (value_of v) → Goes here (Acting (word_or here.world.engine calls.TypeOf (map value_of args) next)) s (given (value_of (kind.Str name))) s
+  type_word args v name e is =
+      goes_then here (goes_as here _ _ s (ap (λ us. Acting (word_or here.world.engine calls.TypeOf (map value_of us) next)) e))
+      (gives here _ _ s (ap TextV (sym is) ∙ sym (value_of-Str name)))

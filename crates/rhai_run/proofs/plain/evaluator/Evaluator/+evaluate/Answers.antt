@@ -593,8 +593,7 @@ pub call_named-returns-in_err-value-in-Some : goal.call_named-returns-in_err-val
 call_named-returns-in_err-value-in-Some g t c = ?
 
 pub call_named-invoke-requires : goal.call_named-invoke-requires
-call_named-invoke-requires g t c =
-    c.deref.ensures
+call_named-invoke-requires g t c = ?
 
 pub invoke-returns-in_err-take_turn : goal.invoke-returns-in_err-take_turn
 invoke-returns-in_err-take_turn g t c =
