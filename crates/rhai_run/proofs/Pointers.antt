@@ -1,5 +1,5 @@
 -- Pointers to functions: what is no pointer, and a pointer's values before others.
-use Rattle.std.proofs.Common.{◌≡◌, Bool, true, false, List, [], ◌∷◌, ◌++◌, map, Err, Ok, refl, sym, ap, ◌∙◌, arith}
+use Rattle.std.proofs.Common.{◌≡◌, Bool, true, false, List, ◌∷◌, ◌++◌, map, Err, Ok, refl, sym, ap, ◌∙◌, arith}
 use Rattle.std.proofs.lemmas.List.{map-append}
 use Rattle.rhai_values.specs.declared.dynamic.Dynamic.{Dynamic}
 use Rattle.rhai_values.specs.declared.dynamic.Dynamic.TheVariants as kind
@@ -7,7 +7,6 @@ use Rattle.rhai_values.specs.declared.fn_ptr.FnPtr.{FnPtr}
 use Rattle.rhai_values.specs.Reading.{value_of, value_of-Unit, value_of-Bool, value_of-Int, value_of-Char, value_of-Str, value_of-Array, value_of-Map, value_of-FnPtr, value_of-Range, value_of-RangeInclusive, DynamicCase, unit_case, bool_case, int_case, char_case, str_case, array_case, map_case, fn_ptr_case, range_case, range_inclusive_case, dynamic_cases}
 use Rattle.rhai_values.specs.Value.{Text, Value, PointerV, items, values}
 use Rattle.rhai_meaning.specs.Act.{WrongKind, World, Act, Fail}
-use Rattle.rhai_meaning.specs.ActForms.{give}
 use Rattle.rhai_meaning.specs.Calls as calls
 use Rattle.rhai_meaning.specs.Calls.{call_named, call_pointer}
 use Rattle.rhai_run.specs.declared.plain.state.Interrupt.TheVariants.{Stuck}
