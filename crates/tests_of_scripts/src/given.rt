@@ -1,10 +1,10 @@
 //! What a run is given, read from lines of text: its turns, start scope and record, and a host by rows.
-#![tactic(auto, using(rhai_values::specs::Reading::kinds, crate::proofs::Rows::steps))]
+#![tactic(auto, using(rhai_values::specs::Reading::kinds, crate::proofs::HostRows::steps))]
 
 ghost use Rattle.std.specs.Prelude.{◌≡◌, length, IfOk, option_map};
 ghost use Rattle.rhai_values.specs.Reading.{value_of};
 ghost use Rattle.rhai_run.specs.Host.{answer_meant};
-ghost use Rattle.tests_of_scripts.specs.Rows as spec;
+ghost use Rattle.tests_of_scripts.specs.HostRows as spec;
 
 use crate::trees::name;
 use rhai_base::{Dynamic, ImmutableString, OutOfMemory, Scope, Seq};
@@ -20,7 +20,7 @@ pub struct RowsHost {
 }
 
 impl Host for RowsHost {
-    ghost use Rattle.tests_of_scripts.specs.Rows.{answer_among, modules_of};
+    ghost use Rattle.tests_of_scripts.specs.HostRows.{answer_among, modules_of};
 
     ghost answers = { λ h past c. answer_among h.answers (length past) c.name };
 

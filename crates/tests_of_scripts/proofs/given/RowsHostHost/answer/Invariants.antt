@@ -1,5 +1,5 @@
 use Rattle.std.proofs.Common.{◌≡◌, drop, length}
-use Rattle.tests_of_scripts.specs.Rows.{answer_among}
+use Rattle.tests_of_scripts.specs.HostRows.{answer_among}
 use Rattle.tests_of_scripts.proofs.given.RowsHostHost.answer.Given as goal
 
 -- what is left decides

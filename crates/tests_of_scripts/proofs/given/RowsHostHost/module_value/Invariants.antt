@@ -1,6 +1,6 @@
 use Rattle.std.proofs.Common.{◌≡◌, drop}
 use Rattle.rhai_meaning.specs.Host.{module_value_of}
-use Rattle.tests_of_scripts.specs.Rows.{modules_of}
+use Rattle.tests_of_scripts.specs.HostRows.{modules_of}
 use Rattle.tests_of_scripts.proofs.given.RowsHostHost.module_value.Given as goal
 
 -- what is left decides

@@ -1,16 +1,17 @@
 -- Rows and modules, an item at a time.
-use Rattle.std.proofs.Common.{◌≡◌, ℕ, ◌+◌, ◌<◌, Bool, if◌then◌else◌, List, [], ◌∷◌, length, get_or, drop, map, Option, Some, None, refl, ap, add-one}
+use Rattle.std.proofs.Common.{◌≡◌, ℕ, ◌+◌, ◌<◌, Bool, if◌then◌else◌, List, [], ◌∷◌, length, get_or, drop, map, Option, Some, None, refl, sym, ap, ◌∙◌, add-one}
 use Rattle.std.proofs.Math.Seq.{drop-cons, drop-length}
 use Rattle.std.proofs.lemmas.List.{length-map}
 use Rattle.rhai_values.specs.declared.dynamic.Dynamic.{Dynamic}
-use Rattle.rhai_values.specs.Reading.{value_of}
+use Rattle.rhai_values.specs.declared.dynamic.Dynamic.TheVariants as value
+use Rattle.rhai_values.specs.Reading.{value_of, value_of-Unit}
 use Rattle.rhai_values.specs.Value.{Text, UnitV, same_text}
 use Rattle.rhai_meaning.specs.Act.{Answers}
 use Rattle.rhai_meaning.specs.Host.{module_value_of}
 use Rattle.rhai_run.specs.declared.host.HostCall.{HostCall}
 use Rattle.rhai_run.specs.Host.{call_meant}
 use Rattle.tests_reader.specs.declared.rows.AnswerRow.{AnswerRow}
-use Rattle.tests_of_scripts.specs.Rows.{fits, answered, answer_among, modules_of}
+use Rattle.tests_of_scripts.specs.HostRows.{fits, answered, answer_among, modules_of}
 
 pub answer_among-drop : (rs : List AnswerRow) (i : ℕ) (d : AnswerRow) (n : ℕ) (f : Text) → i < length rs
     → answer_among (drop i rs) n f ≡ (if fits (get_or rs i d) n f then answered (get_or rs i d) else answer_among (drop (i + 1) rs) n f)
@@ -28,5 +29,16 @@ module_value_of-end ms x = ap (λ l. module_value_of (modules_of l) x) (drop-len
 
 pub calls-counted : (cs : List HostCall) → length (map call_meant cs) ≡ length cs
 calls-counted cs = length-map cs call_meant
+
+-- after the last row, whichever calls came before
+pub answer_among-none : (rs : List AnswerRow) (cs : List HostCall) (i : ℕ) (f : Text) → i ≡ length rs
+    → answer_among (drop i rs) (length cs) f ≡ answer_among rs (length cs) f
+    → Answers (value_of value.Unit) None ≡ answer_among rs (length (map call_meant cs)) f
+answer_among-none rs cs i f e h =
+    ap (λ v. Answers v None) value_of-Unit
+    ∙ sym (answer_among-end rs (length cs) f)
+    ∙ ap (λ (j : ℕ). answer_among (drop j rs) (length cs) f) (sym e)
+    ∙ h
+    ∙ ap (λ (n : ℕ). answer_among rs n f) (sym (calls-counted cs))
 
 pub ruleset steps = (answer_among-drop, answer_among-end, module_value_of-drop, module_value_of-end, calls-counted)
