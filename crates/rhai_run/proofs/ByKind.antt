@@ -1,5 +1,5 @@
 -- A node of a kind runs as its parts do.
-use Rattle.std.proofs.Common.{◌≡◌, Bool, true, List, map, Option, Result, Ok, Err, refl, sym, ap, ◌∙◌, subst}
+use Rattle.std.proofs.Common.{◌≡◌, Bool, true, List, map, Option, Result, Ok, Err, sym, ap, ◌∙◌, subst}
 use Rattle.rhai_values.specs.declared.dynamic.Dynamic.{Dynamic}
 use Rattle.rhai_values.specs.declared.dynamic.Dynamic.TheVariants as value
 use Rattle.rhai_values.specs.Reading.{value_of}

@@ -1,5 +1,5 @@
 -- Rounds of a `for`, over the elements of an array or over a range.
-use Rattle.std.proofs.Common.{◌≡◌, ℕ, zero, suc, ◌≤◌, ◌<◌, ◌^◌, ℤ, pos, negsuc, ◌+ℤ◌, ◌-ℤ◌, ◌-◌, ◌+◌, nat_lt, Bool, true, false, cond, List, [], ◌∷◌, map, length, Option, Some, None, Result, Ok, Err, refl, sym, ap, ◌∙◌, subst, arith}
+use Rattle.std.proofs.Common.{◌≡◌, ℕ, suc, ◌≤◌, ◌<◌, ◌^◌, ℤ, pos, ◌+ℤ◌, ◌-ℤ◌, ◌-◌, ◌+◌, nat_lt, Bool, true, false, cond, List, [], ◌∷◌, map, length, Option, Some, None, Result, Ok, Err, refl, sym, ap, ◌∙◌, arith}
 use Rattle.std.specs.Prelude.{IfOk}
 use Rattle.std.proofs.lemmas.Int.{ints}
 use Rattle.rhai_values.specs.declared.dynamic.Dynamic.{Dynamic}
@@ -7,7 +7,7 @@ use Rattle.rhai_values.specs.declared.dynamic.Dynamic.TheVariants as value
 use Rattle.rhai_values.specs.Reading.{value_of, value_of-Array, value_of-Range, value_of-RangeInclusive, value_of-Unit}
 use Rattle.rhai_values.specs.Value.{Text, Value, UnitV, IntV, ArrayV, items, values}
 use Rattle.rhai_meaning.specs.Act.{Acts, Only, Named, Fail, Act, Then, CounterTooLarge}
-use Rattle.rhai_meaning.specs.ActForms.{unit, again_then, ◌>>=◌}
+use Rattle.rhai_meaning.specs.ActForms.{again_then, ◌>>=◌}
 use Rattle.rhai_meaning.specs.Control.{counted, for_all, for_count, for_each, round, size}
 use Rattle.rhai_meaning.specs.Meaning.{act}
 use Rattle.rhai_meaning.specs.Tree as tree
@@ -17,7 +17,7 @@ use Rattle.rhai_run.specs.declared.plain.state.State.{State}
 use Rattle.rhai_run.specs.declared.report.Stuck.TheVariants as why
 use Rattle.rhai_run.specs.Evaluating.{expr_core, RunsCounted, RunsExpr, RunsList, RunsRound}
 use Rattle.rhai_run.specs.Exits.{count_of, round_of}
-use Rattle.rhai_run.specs.Runs.{Setting, Task, Acting, Listing, Goes, Stops, Leads, Runs, given}
+use Rattle.rhai_run.specs.Runs.{Setting, Acting, Listing, Goes, Stops, Runs, given}
 use Rattle.rhai_run.specs.State.{named_in, store_of, TakesTurn}
 use Rattle.rhai_run.proofs.Goes.{gives, goes_on, goes_as, goes_then, leads_then, stops_then, named_goes, scoped_leads, value_goes, Cut}
 use Rattle.rhai_run.proofs.Loops.{round_runs, round_turns}

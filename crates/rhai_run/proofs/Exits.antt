@@ -1,14 +1,12 @@
 -- Ways to leave a list, and `try`.
-use Rattle.std.proofs.Common.{◌≡◌, ℕ, Bool, true, false, not, ◌&&◌, List, length, Option, Some, None, Result, Ok, Err, refl, sym, ap, ◌∙◌, subst, arith, cond, if◌then◌else◌}
-use Rattle.std.proofs.lemmas.Option.{IfSome_then}
-use Rattle.std.specs.Prelude.{IfSome}
+use Rattle.std.proofs.Common.{◌≡◌, ℕ, Bool, true, false, not, ◌&&◌, length, Option, Some, None, Result, Ok, Err, refl, sym, ap, subst, arith, cond, if◌then◌else◌}
 use Rattle.rhai_values.specs.declared.dynamic.Dynamic.{Dynamic}
 use Rattle.rhai_values.specs.declared.dynamic.Dynamic.TheVariants as value
 use Rattle.rhai_values.specs.Reading.{value_of, value_of-Unit}
 use Rattle.rhai_values.specs.Value.{Text, Value, UnitV}
 use Rattle.rhai_meaning.specs.Tree as tree
 use Rattle.rhai_meaning.specs.Act.{Exit, Throws, Gives, Leaves, Ended, At, Act, Acts, Stop, Then, Scoped, run}
-use Rattle.rhai_meaning.specs.ActForms.{choose, on_throw, ◌>>=◌}
+use Rattle.rhai_meaning.specs.ActForms.{choose, on_throw}
 use Rattle.rhai_meaning.specs.Control.{named, end_branch, try_of}
 use Rattle.rhai_meaning.specs.Core as core
 use Rattle.rhai_meaning.specs.Desugar.{break_kind, core_maybe, core_stmt, core_stmts, return_kind, try_by}
@@ -19,12 +17,11 @@ use Rattle.rhai_run.specs.declared.plain.state.Interrupt.TheVariants.{NoMemory, 
 use Rattle.rhai_run.specs.declared.plain.state.State.{State}
 use Rattle.rhai_run.specs.declared.report.Stuck.TheVariants as why
 use Rattle.rhai_run.specs.Covered.{covered_deed, covered_stmt}
-use Rattle.rhai_run.specs.Evaluating.{maybe_core, stmts_core, RunsBlock, RunsCatch, RunsLine, RunsMaybe, RunsStmts}
+use Rattle.rhai_run.specs.Evaluating.{maybe_core, stmts_core, RunsBlock, RunsCatch, RunsLine, RunsMaybe}
 use Rattle.rhai_run.specs.Exits.{body_end, branch_end, LeavesBy}
-use Rattle.rhai_run.specs.Runs as runs
-use Rattle.rhai_run.specs.Runs.{Setting, Task, Acting, Listing, Over, Within, Leaving, Goes, Stops, stop_of, stopped, Leads, Runs, given, env}
+use Rattle.rhai_run.specs.Runs.{Setting, Task, Acting, Listing, Over, Leaving, Goes, Stops, Leads, Runs, given, env}
 use Rattle.rhai_run.specs.State.{named_in, store_of}
-use Rattle.rhai_run.proofs.Goes.{goes_then, goes_as, gives, leads_then, stops_by, stops_then, halted_then, ending_goes, scoped_leads, value_goes, value_stops, line_leads, line_stops, named_goes, Cut}
+use Rattle.rhai_run.proofs.Goes.{goes_then, gives, leads_then, stops_by, halted_then, ending_goes, scoped_leads, value_goes, value_stops, line_leads, line_stops, named_goes, Cut}
 use Rattle.rhai_run.proofs.Statements.{ill_line}
 
 module _ (here : Setting) where

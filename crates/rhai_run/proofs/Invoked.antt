@@ -1,22 +1,21 @@
 -- Calls of a script's functions.
-use Rattle.std.proofs.Common.{◌≡◌, ℕ, zero, suc, ◌≤◌, Bool, true, false, ◌&&◌, List, [], ◌∷◌, ◌++◌, map, length, Option, Some, None, Result, Ok, Err, refl, sym, ap, ◌∙◌, subst, cond, arith}
+use Rattle.std.proofs.Common.{◌≡◌, ℕ, zero, suc, ◌≤◌, true, [], map, Option, Some, Result, Ok, Err, refl, sym, ap, ◌∙◌, subst, arith}
 use Rattle.std.specs.Prelude.{option_map}
 use Rattle.rhai_values.specs.declared.dynamic.Dynamic.{Dynamic}
 use Rattle.rhai_values.specs.Reading.{value_of}
-use Rattle.rhai_values.specs.Value.{Text, Value, UnitV}
+use Rattle.rhai_values.specs.Value.{Value, UnitV}
 use Rattle.rhai_meaning.specs.Act as act
 use Rattle.rhai_meaning.specs.Act.{ScopeEntry, Ending, Gives, Leaves, Returns, Throws, Outcome, Ended, Halted, At, Store, World, ScriptCall, Act, Acts, Invoke, call_then, returned_outcome, returned, with_turn, run, run_all}
 use Rattle.rhai_meaning.specs.Core.{Function}
 use Rattle.rhai_meaning.specs.Meaning.{acts}
-use Rattle.rhai_meaning.specs.Run.{bind, body_acts, call_body, entered, env_at, function_of, invoke_at, reversed, seen}
+use Rattle.rhai_meaning.specs.Run.{call_body, entered, function_of, reversed}
 use Rattle.rhai_run.specs.declared.plain.state.Interrupt.{Interrupt}
 use Rattle.rhai_run.specs.declared.plain.state.Interrupt.TheVariants.{NoMemory, Return, Break, Continue, Throw, Stuck, OutOfTurns}
 use Rattle.rhai_run.specs.declared.plain.state.State.{State}
 use Rattle.rhai_run.specs.Entries.{variable_meant}
 use Rattle.rhai_run.specs.Exits.{function_end}
-use Rattle.rhai_run.specs.Runs.{Setting, Task, Acting, Listing, Over, Goes, Stops, Leads, given, env}
+use Rattle.rhai_run.specs.Runs.{Setting, Acting, Listing, Over, Goes, Stops, Leads, given, env}
 use Rattle.rhai_run.specs.State.{store_of}
-use Rattle.rhai_run.proofs.Scopes.{reversed_parts}
 
 module _ (here : Setting) (a : ScriptCall) (next : Value → Option Value → Act) (f : Function) (found : function_of here.functions a.function ≡ Some f) where
   abbrev after_call : Store → ℕ → Outcome → Store → ℕ → act.Result

@@ -1,13 +1,13 @@
 -- Loops by their rounds.
-use Rattle.std.proofs.Common.{◌≡◌, ℕ, suc, ◌≤◌, ◌<◌, Bool, true, false, not, cond, Option, Some, None, Result, Ok, Err, refl, sym, ap, ◌∙◌, subst, arith}
+use Rattle.std.proofs.Common.{◌≡◌, ◌<◌, Bool, true, false, not, cond, Option, Some, None, Result, Ok, Err, refl, sym, ap, ◌∙◌, subst, arith}
 use Rattle.std.specs.Prelude.{IfOk}
 use Rattle.rhai_values.specs.declared.dynamic.Dynamic.{Dynamic}
 use Rattle.rhai_values.specs.declared.dynamic.Dynamic.TheVariants as value
 use Rattle.rhai_values.specs.Reading.{value_of, value_of-Unit}
 use Rattle.rhai_values.specs.Value.{Value, UnitV}
-use Rattle.rhai_meaning.specs.Act.{Again, Gives, Leaves, Ended, Act, Acts, Stop, Turn, Then, Loop, Scoped}
+use Rattle.rhai_meaning.specs.Act.{Again, Leaves, Ended, Act, Acts, Stop, Then, Loop, Scoped}
 use Rattle.rhai_meaning.specs.ActForms.{unit, choose, if_true, truth, end_round, again_then, ◌>>=◌}
-use Rattle.rhai_meaning.specs.Control.{round, while_guarded, do_loop}
+use Rattle.rhai_meaning.specs.Control.{round, do_loop}
 use Rattle.rhai_meaning.specs.Core as core
 use Rattle.rhai_meaning.specs.Desugar.{core_expr, core_stmt, core_stmts, guard_by}
 use Rattle.rhai_meaning.specs.Meaning.{act}
@@ -19,11 +19,11 @@ use Rattle.rhai_run.specs.declared.plain.state.State.{State}
 use Rattle.rhai_run.specs.Covered.{covered_guard, covered_deed, covered_stmt}
 use Rattle.rhai_run.specs.Evaluating.{expr_core, stmts_core, or_stuck, RunsCore, RunsDeed, RunsLine, RunsRound}
 use Rattle.rhai_run.specs.Exits.{round_of, round_end}
-use Rattle.rhai_run.specs.Runs.{Setting, Task, Acting, Over, Goes, Stops, Leads, given}
+use Rattle.rhai_run.specs.Runs.{Setting, Acting, Over, Goes, Stops, Leads, given}
 use Rattle.rhai_run.specs.State.{TakesTurn}
 use Rattle.rhai_run.specs.declared.report.Stuck.TheVariants as why
 use Rattle.rhai_run.proofs.Statements.{deed_line, ill_line}
-use Rattle.rhai_run.proofs.Goes.{gives, goes_as, goes_then, stops_then, leads_then, turn_goes, turn_stops, value_goes, value_stops, if_goes, if_stops}
+use Rattle.rhai_run.proofs.Goes.{gives, goes_as, goes_then, stops_then, leads_then, turn_goes, value_goes, value_stops, if_goes, if_stops}
 use Rattle.rhai_run.proofs.Rounds.{round_leads, again_stops, again_goes, again_ends, LoopAt, loop_next, loop_ends, loop_stops}
 
 -- ---- guards

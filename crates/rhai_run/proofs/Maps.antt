@@ -1,10 +1,10 @@
 -- The members of a map, from the first to the last.
-use Rattle.std.proofs.Common.{◌≡◌, ℕ, ◌+◌, ◌<◌, ◌≤◌, Bool, true, false, List, [], length, drop, get_or, Result, Ok, Err, refl, sym, ap, ◌∙◌, subst, cond, arith}
+use Rattle.std.proofs.Common.{◌≡◌, ℕ, ◌+◌, ◌<◌, ◌≤◌, Bool, true, false, List, [], length, drop, get_or, Ok, Err, refl, sym, ap, ◌∙◌, subst, cond, arith}
 use Rattle.std.proofs.lemmas.List.{drop_all}
 use Rattle.rhai_values.specs.declared.dynamic.Dynamic.{Dynamic}
 use Rattle.rhai_values.specs.declared.dynamic.Dynamic.TheVariants as value
 use Rattle.rhai_values.specs.Reading.{value_of, value_of-Map, members_of}
-use Rattle.rhai_values.specs.Value.{Text, Value, Fields, MapV, fields}
+use Rattle.rhai_values.specs.Value.{Text, Fields, MapV, fields}
 use Rattle.rhai_parts.specs.declared.ident.Ident.{Ident}
 use Rattle.rhai_tree.specs.declared.expr.Expr.{Expr}
 use Rattle.rhai_reading.specs.Reading.{expr_of, pairs_of}
@@ -23,7 +23,7 @@ use Rattle.rhai_run.specs.declared.plain.state.State.{State}
 use Rattle.rhai_run.specs.declared.report.Stuck.TheVariants as why
 use Rattle.rhai_run.specs.Covered.{covered_expr}
 use Rattle.rhai_run.specs.Evaluating.{expr_core, pairs_core, RunsCore, RunsExpr, RunsMembers}
-use Rattle.rhai_run.specs.Runs.{Setting, Task, Acting, Goes, Stops, Leads, given}
+use Rattle.rhai_run.specs.Runs.{Setting, Task, Acting, Goes}
 use Rattle.rhai_run.proofs.Goes.{gives, goes_on, goes_then, goes_as, stops_then, value_goes, value_stops}
 
 module _ (here : Setting) (loop : Bool) where

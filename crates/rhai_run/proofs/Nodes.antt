@@ -1,12 +1,9 @@
 -- Nodes by their parts: arrays, texts, calls, braces.
-use Rattle.std.proofs.Common.{◌≡◌, ℕ, Bool, true, false, cond, List, map, length, Option, Some, None, Result, Ok, Err, refl, sym, ap, ◌∙◌, subst, arith}
-use Rattle.rhai_tokens.specs.declared.token.Token.{Token}
+use Rattle.std.proofs.Common.{◌≡◌, ℕ, Bool, true, false, cond, List, map, length, Option, Result, Ok, Err, refl, sym, ap, ◌∙◌, subst, arith}
 use Rattle.rhai_values.specs.declared.dynamic.Dynamic.{Dynamic}
 use Rattle.rhai_values.specs.declared.dynamic.Dynamic.TheVariants as value
 use Rattle.rhai_values.specs.Reading.{value_of, value_of-Array, value_of-Unit}
 use Rattle.rhai_values.specs.Value.{Text, Value, ArrayV, TextV, values}
-use Rattle.rhai_base.specs.Builtin.{operator_of}
-use Rattle.rhai_base.specs.Operators.{Operator}
 use Rattle.rhai_tree.specs.declared.expr.FnCallExpr.{FnCallExpr}
 use Rattle.rhai_reading.specs.Reading.{callee_of, exprs_of}
 use Rattle.rhai_meaning.specs.ActForms.{give}
@@ -22,9 +19,8 @@ use Rattle.rhai_run.specs.declared.plain.state.Interrupt.TheVariants.{NoMemory, 
 use Rattle.rhai_run.specs.declared.plain.state.State.{State}
 use Rattle.rhai_run.specs.declared.report.Stuck.TheVariants as why
 use Rattle.rhai_run.specs.Covered.{covered_expr, covered_guard}
-use Rattle.rhai_run.specs.Evaluating.{call_core, expr_core, exprs_core, stmts_core, IsConstant, RunsArgs, RunsBlock, RunsCall, RunsCore, RunsDeed, RunsExpr, RunsExprs, RunsLine, RunsStmt}
-use Rattle.rhai_run.specs.Operators.{called_operator, StandsFor}
-use Rattle.rhai_run.specs.Runs.{Setting, Acting, Leads, Runs, given}
+use Rattle.rhai_run.specs.Evaluating.{call_core, expr_core, exprs_core, stmts_core, IsConstant, RunsBlock, RunsCall, RunsCore, RunsDeed, RunsExpr, RunsExprs, RunsStmt}
+use Rattle.rhai_run.specs.Runs.{Setting, Acting, Runs, given}
 use Rattle.rhai_run.proofs.Callees.{count_exprs_of}
 use Rattle.rhai_run.proofs.Goes.{gives, goes_then, leads_then}
 use Rattle.rhai_run.proofs.Statements.{deed_line}

@@ -1,5 +1,5 @@
 -- Lists of expressions, from the first to the last: arguments, and operands up to the one that decides.
-use Rattle.std.proofs.Common.{◌≡◌, ℕ, ◌+◌, ◌<◌, ◌≤◌, Bool, true, false, List, [], ◌∷◌, ◌++◌, map, length, drop, get_or, Option, Some, None, Result, Ok, Err, refl, sym, ap, ◌∙◌, subst, append_assoc, append-nil, arith, if◌then◌else◌}
+use Rattle.std.proofs.Common.{◌≡◌, ℕ, ◌+◌, ◌<◌, ◌≤◌, Bool, true, false, List, [], ◌∷◌, ◌++◌, map, length, drop, get_or, Option, Some, None, Ok, Err, refl, sym, ap, ◌∙◌, append_assoc, append-nil, if◌then◌else◌}
 use Rattle.std.proofs.lemmas.List.{map-append, drop_all}
 use Rattle.rhai_values.specs.declared.dynamic.Dynamic.{Dynamic}
 use Rattle.rhai_values.specs.declared.dynamic.Dynamic.TheVariants as value
@@ -10,14 +10,14 @@ use Rattle.rhai_reading.specs.Reading.{expr_of, exprs_of}
 use Rattle.rhai_reading.proofs.ItemLists.{exprs_of-drop}
 use Rattle.rhai_meaning.specs.Tree as tree
 use Rattle.rhai_meaning.specs.Act.{Act}
-use Rattle.rhai_meaning.specs.ActForms.{give, unit, choose, if_true, truth, ◌>>=◌}
+use Rattle.rhai_meaning.specs.ActForms.{give, choose, if_true, truth, ◌>>=◌}
 use Rattle.rhai_meaning.specs.Meaning.{act, both, either, first_some, with_args}
 use Rattle.rhai_meaning.specs.Shape.{is_unit}
 use Rattle.rhai_run.specs.declared.plain.state.Interrupt.{Interrupt}
 use Rattle.rhai_run.specs.declared.plain.state.State.{State}
-use Rattle.rhai_run.specs.Evaluating.{expr_core, exprs_core, or_stuck, RunsExpr, RunsExprs, RunsBoth, RunsEither, RunsFirstSome}
-use Rattle.rhai_run.specs.Runs.{Setting, Task, Acting, Goes, Stops, Leads, given}
-use Rattle.rhai_run.proofs.Goes.{gives, goes_on, goes_then, goes_as, stops_then, leads_then, value_goes, value_stops, if_goes, if_stops}
+use Rattle.rhai_run.specs.Evaluating.{expr_core, exprs_core, or_stuck, RunsExpr, RunsExprs}
+use Rattle.rhai_run.specs.Runs.{Setting, Task, Acting, Goes, Stops, given}
+use Rattle.rhai_run.proofs.Goes.{gives, goes_on, goes_then, goes_as, stops_then, value_goes, value_stops, if_goes, if_stops}
 
 item_of : (xs : List Expr) (i : ℕ) (e : Expr) → i < length xs → e ≡ get_or xs i e → exprs_of (drop i xs) ≡ tree.expr (expr_of e) (exprs_of (drop (i + 1) xs))
 item_of xs i e h is = exprs_of-drop xs i e h ∙ ap (λ y. tree.expr (expr_of y) (exprs_of (drop (i + 1) xs))) (sym is)

@@ -1,10 +1,10 @@
 -- Assignments to names and to `this`.
-use Rattle.std.proofs.Common.{◌≡◌, Bool, true, false, cond, [], ◌∷◌, Option, Some, None, Result, Ok, Err, refl, sym, ap, ◌∙◌, subst, arith}
+use Rattle.std.proofs.Common.{◌≡◌, Bool, true, false, cond, [], ◌∷◌, Option, Some, None, Result, Ok, Err, refl, sym, ap, subst, arith}
 use Rattle.rhai_tokens.specs.declared.token.Token.{Token}
 use Rattle.rhai_values.specs.declared.dynamic.Dynamic.{Dynamic}
 use Rattle.rhai_values.specs.declared.dynamic.Dynamic.TheVariants as value
 use Rattle.rhai_values.specs.Reading.{value_of, value_of-Unit}
-use Rattle.rhai_values.specs.Value.{Value, UnitV}
+use Rattle.rhai_values.specs.Value.{UnitV}
 use Rattle.rhai_base.specs.Builtin.{operator_of}
 use Rattle.rhai_base.specs.Operators.{Operator}
 use Rattle.rhai_meaning.specs.Act as act
@@ -23,7 +23,7 @@ use Rattle.rhai_run.specs.Covered.{covered_deed, covered_expr, covered_stmt}
 use Rattle.rhai_run.specs.Evaluating.{expr_core, RunsExpr, RunsLine}
 use Rattle.rhai_run.specs.declared.plain.state.State.{State}
 use Rattle.rhai_run.specs.Operators.{StandsFor}
-use Rattle.rhai_run.specs.Runs.{Setting, Acting, Goes, Stops, Leads, Runs, given}
+use Rattle.rhai_run.specs.Runs.{Setting, Acting, Goes, Stops, Runs, given}
 use Rattle.rhai_run.specs.State.{store_of}
 use Rattle.rhai_run.proofs.Goes.{goes_as, goes_then, leads_then, stops_then, value_goes, value_stops}
 use Rattle.rhai_run.proofs.Statements.{deed_line, ill_line}

@@ -1,8 +1,6 @@
 -- Rounds of loops.
-use Rattle.std.proofs.Common.{◌≡◌, ℕ, zero, suc, ◌≤◌, Bool, true, false, List, [], ◌∷◌, Option, Some, None, Result, Ok, Err, refl, sym, ap, ◌∙◌, subst, arith}
-use Rattle.std.proofs.lemmas.Option.{IfSome_then}
+use Rattle.std.proofs.Common.{◌≡◌, ℕ, zero, suc, ◌≤◌, Result, Ok, Err, refl, ap, ◌∙◌, arith}
 use Rattle.rhai_values.specs.declared.dynamic.Dynamic.{Dynamic}
-use Rattle.rhai_values.specs.Reading.{value_of}
 use Rattle.rhai_values.specs.Value.{Value, UnitV}
 use Rattle.rhai_meaning.specs.Act as act
 use Rattle.rhai_meaning.specs.Act.{Exit, Again, Ending, Gives, Leaves, Outcome, Ended, At, Store, Act, Acts, Stop, Then, Loop, Scoped, and_then, on_again, rounds, run}
@@ -11,7 +9,7 @@ use Rattle.rhai_run.specs.declared.plain.state.Interrupt.{Interrupt}
 use Rattle.rhai_run.specs.declared.plain.state.Interrupt.TheVariants.{NoMemory, Return, Break, Continue, Throw, Stuck, OutOfTurns}
 use Rattle.rhai_run.specs.declared.plain.state.State.{State}
 use Rattle.rhai_run.specs.Exits.{round_of, round_end}
-use Rattle.rhai_run.specs.Runs.{Setting, Task, Acting, Over, Goes, Stops, Leads, given, env}
+use Rattle.rhai_run.specs.Runs.{Setting, Acting, Over, Goes, Stops, Leads, given, env}
 use Rattle.rhai_run.specs.State.{store_of}
 use Rattle.rhai_run.proofs.Goes.{goes_then, ending_goes, halted_then}
 

@@ -1,5 +1,5 @@
 -- Statements: one after another, one by its parts.
-use Rattle.std.proofs.Common.{◌≡◌, ℕ, ◌+◌, ◌<◌, ◌≤◌, Bool, true, false, List, map, length, drop, get_or, ◌∷◌, Option, Some, None, Result, Ok, Err, refl, sym, ap, ◌∙◌, subst, arith, cond}
+use Rattle.std.proofs.Common.{◌≡◌, ℕ, ◌+◌, ◌<◌, ◌≤◌, Bool, true, false, List, length, drop, get_or, ◌∷◌, Result, Ok, Err, refl, sym, ap, ◌∙◌, subst, arith, cond}
 use Rattle.std.proofs.lemmas.List.{drop_all}
 use Rattle.rhai_values.specs.declared.dynamic.Dynamic.{Dynamic}
 use Rattle.rhai_values.specs.declared.dynamic.Dynamic.TheVariants as value
@@ -9,8 +9,8 @@ use Rattle.rhai_tree.specs.declared.stmt.Stmt.{Stmt}
 use Rattle.rhai_reading.specs.Reading.{stmt_of, stmts_of}
 use Rattle.rhai_reading.proofs.ItemLists.{stmts_of-drop}
 use Rattle.rhai_meaning.specs.Tree as tree
-use Rattle.rhai_meaning.specs.Act.{ScopeEntry, Act, Acts, Scoped, Named, run_all}
-use Rattle.rhai_meaning.specs.ActForms.{choose, if_true, truth, ◌>>=◌, then_line}
+use Rattle.rhai_meaning.specs.Act.{Act, Scoped, Named, run_all}
+use Rattle.rhai_meaning.specs.ActForms.{choose, if_true, truth, ◌>>=◌}
 use Rattle.rhai_meaning.specs.Core as core
 use Rattle.rhai_meaning.specs.Desugar.{core_expr, core_stmt}
 use Rattle.rhai_meaning.specs.Meaning.{act, acts, deed, line, wanted_value}
@@ -20,9 +20,9 @@ use Rattle.rhai_run.specs.declared.plain.state.State.{State}
 use Rattle.rhai_run.specs.declared.report.Stuck.TheVariants as why
 use Rattle.rhai_run.specs.Covered.{covered_stmt}
 use Rattle.rhai_run.specs.Evaluating.{expr_core, stmts_core, or_stuck, RunsCore, RunsDeed, RunsExpr, RunsLine, RunsStmt, RunsStmts, RunsBlock}
-use Rattle.rhai_run.specs.Runs.{Setting, Task, Acting, Listing, Goes, Stops, Leads, Runs, given, run_of, env}
+use Rattle.rhai_run.specs.Runs.{Setting, Task, Acting, Listing, Goes, Stops, Runs, env}
 use Rattle.rhai_run.specs.State.{store_of}
-use Rattle.rhai_run.proofs.Goes.{gives, goes_on, goes_then, goes_as, stops_then, leads_then, value_goes, value_stops, line_goes, line_stops, line_leads, if_goes, if_stops, scoped_leads, Cut}
+use Rattle.rhai_run.proofs.Goes.{goes_then, goes_as, stops_then, leads_then, value_goes, value_stops, line_goes, line_stops, line_leads, if_goes, if_stops, scoped_leads, Cut}
 
 line_of : (xs : List Stmt) (i : ℕ) (l : Stmt) → i < length xs → l ≡ get_or xs i l → stmts_of (drop i xs) ≡ tree.stmt (stmt_of l) (stmts_of (drop (i + 1) xs))
 line_of xs i l h is = stmts_of-drop xs i l h ∙ ap (λ y. tree.stmt (stmt_of y) (stmts_of (drop (i + 1) xs))) (sym is)

@@ -1,18 +1,18 @@
 -- The arms of a `switch`, one after another.
-use Rattle.std.proofs.Common.{◌≡◌, ℕ, zero, suc, ◌+◌, ◌<◌, ◌≤◌, Bool, true, false, ◌&&◌, cond, List, [], ◌∷◌, map, length, drop, get_or, Option, Some, None, Result, Ok, Err, refl, sym, ap, ◌∙◌, subst, arith, if◌then◌else◌}
+use Rattle.std.proofs.Common.{◌≡◌, ℕ, zero, suc, ◌+◌, ◌<◌, ◌≤◌, Bool, true, false, cond, List, [], ◌∷◌, map, length, drop, get_or, Option, Some, None, Result, Ok, Err, refl, sym, ap, ◌∙◌, subst, arith}
 use Rattle.std.specs.Prelude.{nat_lt, option_map, pos, slice_get}
 use Rattle.std.proofs.lemmas.Bool.Decides.{nat_tests}
 use Rattle.std.proofs.lemmas.List.{drop_more}
 use Rattle.rhai_values.specs.declared.dynamic.Dynamic.{Dynamic}
 use Rattle.rhai_values.specs.declared.dynamic.Dynamic.TheVariants as value
 use Rattle.rhai_values.specs.Reading.{value_of, value_of-Unit}
-use Rattle.rhai_values.specs.Value.{Value, IntV, is_hashable}
+use Rattle.rhai_values.specs.Value.{Value, is_hashable}
 use Rattle.rhai_tree.specs.declared.expr.BinaryExpr.{BinaryExpr}
 use Rattle.rhai_base.specs.declared.range_case.RangeCase.{RangeCase}
 use Rattle.rhai_base.specs.declared.range_case.RangeCase.TheVariants as range_kind
 use Rattle.rhai_reading.specs.Reading.{arms_of, expr_of, range_of}
 use Rattle.rhai_meaning.specs.Act.{Act}
-use Rattle.rhai_meaning.specs.ActForms.{choose, if_true, truth, unit, ◌>>=◌}
+use Rattle.rhai_meaning.specs.ActForms.{choose, truth}
 use Rattle.rhai_meaning.specs.Control.{ArmActs, answer_of, case_for, chosen, default_of, first_arm, holds, or_ranges, ranges_with, switch_on, try_arm}
 use Rattle.rhai_meaning.specs.Meaning.{act}
 use Rattle.rhai_meaning.specs.Core as core
@@ -25,8 +25,8 @@ use Rattle.rhai_run.specs.declared.plain.state.Interrupt.TheVariants.{Stuck}
 use Rattle.rhai_run.specs.declared.plain.state.State.{State}
 use Rattle.rhai_run.specs.declared.report.Stuck.TheVariants as why
 use Rattle.rhai_run.specs.Covered.{covered_arms, covered_deed, covered_stmt}
-use Rattle.rhai_run.specs.Evaluating.{arms_here, arm_then, expr_core, or_stuck, RunsArm, RunsExpr, RunsFirstArm, RunsLine}
-use Rattle.rhai_run.specs.Runs.{Setting, Task, Acting, Goes, Stops, Leads, Runs, given}
+use Rattle.rhai_run.specs.Evaluating.{arms_here, expr_core, or_stuck, RunsArm, RunsExpr, RunsFirstArm, RunsLine}
+use Rattle.rhai_run.specs.Runs.{Setting, Acting, Goes, Stops, Runs, given}
 use Rattle.rhai_run.proofs.Goes.{gives, goes_on, goes_as, goes_then, stops_then, leads_then, value_goes, value_stops, if_goes, if_stops}
 use Rattle.rhai_run.proofs.Statements.{deed_line, ill_line}
 

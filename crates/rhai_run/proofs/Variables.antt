@@ -1,24 +1,21 @@
 -- Reading and replacing what stands under a name.
-use Rattle.std.proofs.Common.{◌≡◌, ℕ, zero, suc, ◌<◌, Bool, true, false, cond, List, [], ◌∷◌, ◌++◌, map, length, set, get_or, Option, Some, None, Result, Ok, Err, refl, sym, ap, ◌∙◌, subst, append_assoc, append-nil, length-append, arith}
-use Rattle.std.specs.Prelude.{IfSome, option_map}
+use Rattle.std.proofs.Common.{◌≡◌, ℕ, ◌<◌, Bool, true, false, cond, List, [], ◌∷◌, ◌++◌, map, length, set, get_or, Option, Some, None, refl, sym, ap, ◌∙◌, subst, append_assoc, append-nil, length-append, arith}
+use Rattle.std.specs.Prelude.{option_map}
 use Rattle.std.proofs.lemmas.List.{map-append}
 use Rattle.rhai_values.specs.declared.dynamic.Dynamic.{Dynamic}
 use Rattle.rhai_values.specs.Reading.{value_of}
 use Rattle.rhai_values.specs.Value.{Text, Value, UnitV, same_text}
-use Rattle.rhai_meaning.specs.Act as act
-use Rattle.rhai_meaning.specs.Act.{ScopeEntry, IsStuck, Unbound, UnboundThis, WriteToConstant, Gives, Ended, Halted, At, Act, OfName, OfThis, Read, Write, found, put, read, read_this, write, write_at, write_this}
+use Rattle.rhai_meaning.specs.Act.{ScopeEntry, IsStuck, WriteToConstant, Gives, Ended, Halted, At, OfName, Read, Write, found, put, read, write, write_at}
 use Rattle.rhai_meaning.specs.Engine.{Binding, constant_named}
 use Rattle.rhai_meaning.specs.Run.{reversed}
-use Rattle.rhai_run.specs.declared.plain.state.Interrupt.{Interrupt}
 use Rattle.rhai_run.specs.declared.plain.state.Interrupt.TheVariants.{Stuck}
 use Rattle.rhai_run.specs.declared.plain.state.State.{State}
 use Rattle.rhai_run.specs.declared.report.Stuck.TheVariants as why
 use Rattle.rhai_run.specs.Entries.{variable_meant}
 use Rattle.rhai_run.specs.Host.{call_meant}
-use Rattle.rhai_run.specs.Runs.{Setting, Acting, Over, Halting, Goes, Stops, given}
+use Rattle.rhai_run.specs.Runs.{Setting, Acting, Goes, Stops, given}
 use Rattle.rhai_run.specs.State.{store_of}
 use Rattle.rhai_run.specs.Variables.{Entries, IsMissing, IsLatest}
-use Rattle.rhai_run.proofs.Goes.{stops_by}
 use Rattle.rhai_run.proofs.Scopes.{reversed_parts}
 
 abbrev turned : Entries → List ScopeEntry

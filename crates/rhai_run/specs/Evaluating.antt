@@ -1,8 +1,7 @@
 -- What the evaluator's functions answer.
-use Rattle.std.specs.Prelude.{◌≡◌, ℕ, Bool, true, false, List, map, Option, Some, None, Result, Ok, Err, IfSome, option_map}
+use Rattle.std.specs.Prelude.{◌≡◌, ℕ, Bool, true, false, List, map, Option, Some, None, Result, Ok, Err, option_map}
 use Rattle.rhai_values.specs.Value.{Text, Value, UnitV, Fields, fields}
 use Rattle.rhai_values.specs.declared.dynamic.Dynamic.{Dynamic}
-use Rattle.rhai_values.specs.declared.dynamic.Dynamic.TheVariants as value
 use Rattle.rhai_values.specs.Reading.{value_of, members_of}
 use Rattle.rhai_meaning.specs.Tree as tree
 use Rattle.rhai_meaning.specs.Act.{HostCall, Answer, Ended, ScriptCall, Act, Acts, Then, Invoke, Scoped}
@@ -26,7 +25,7 @@ use Rattle.rhai_run.specs.declared.plain.state.State.{State}
 use Rattle.rhai_run.specs.declared.report.RunEnd.{RunEnd}
 use Rattle.rhai_run.specs.declared.report.RunEnd.TheVariants as ended
 use Rattle.rhai_run.specs.declared.report.Stuck.TheVariants as why
-use Rattle.rhai_run.specs.Covered.{covered_arms, covered_expr, covered_exprs, covered_function, covered_pairs, covered_deed, covered_stmt, covered_stmts}
+use Rattle.rhai_run.specs.Covered.{covered_arms, covered_expr, covered_exprs, covered_function, covered_pairs, covered_stmt, covered_stmts}
 use Rattle.rhai_run.specs.Host.{host_of}
 use Rattle.rhai_run.specs.Runs.{Setting, setting_of, Task, Acting, Listing, Over, Leads, given}
 use Rattle.rhai_run.specs.Exits.{round_end}

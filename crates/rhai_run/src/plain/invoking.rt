@@ -17,10 +17,10 @@ ghost use Rattle.rhai_run.specs.Evaluating.{bodies_weight, setting, Runs, RunsIn
 ghost use Rattle.rhai_run.specs.Exits.{function_end};
 ghost use Rattle.rhai_run.specs.Runs.{Acting};
 
+use crate::Host;
 use crate::plain::evaluator::Evaluator;
 use crate::plain::exits::function_ended;
 use crate::plain::state::{Interrupt, State};
-use crate::Host;
 use rhai_ast::ScriptFuncDef;
 use rhai_base::{Dynamic, ImmutableString, Seq};
 use rhai_script::FnKey;

@@ -79,11 +79,7 @@ pub fn pointed(
 }
 
 /// A pointer's own values, then these.
-fn all_args(
-    alloc: Global,
-    pointer: &FnPtr,
-    values: &[Dynamic],
-) -> Result<Seq<Dynamic>, AllocError>
+fn all_args(alloc: Global, pointer: &FnPtr, values: &[Dynamic]) -> Result<Seq<Dynamic>, AllocError>
     ensures { IfOk result (λ vs. vs ≡ pointer.now.curried ++ values.now) }
 {
     let mut args = Seq::new(alloc);

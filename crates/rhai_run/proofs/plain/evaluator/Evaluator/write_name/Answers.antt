@@ -1,4 +1,4 @@
-use Rattle.std.proofs.Common.{refl, sym, ap, ◌≡◌, ◌∙◌, false, true}
+use Rattle.std.proofs.Common.{refl, sym, ap, ◌≡◌, ◌∙◌}
 use Rattle.rhai_values.specs.Reading.{value_of}
 use Rattle.rhai_run.specs.Evaluating.{setting}
 use Rattle.rhai_run.specs.Variables.{IsLatest, IsMissing}

@@ -1,4 +1,4 @@
-use Rattle.std.proofs.Common.{rules, ap}
+use Rattle.std.proofs.Common.{rules}
 use Rattle.rhai_run.proofs.Variables.{turned_more}
 use Rattle.rhai_run.proofs.plain.state.State.declare.Goals as goal
 
