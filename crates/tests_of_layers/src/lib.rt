@@ -40,6 +40,8 @@ mod ranges;
 #[cfg(test)]
 mod refusals;
 #[cfg(test)]
+mod samples;
+#[cfg(test)]
 mod scopes;
 #[cfg(test)]
 mod script_samples;
