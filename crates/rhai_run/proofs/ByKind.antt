@@ -1,5 +1,5 @@
 -- A node of a kind runs as its parts do.
-use Rattle.std.proofs.Common.{◌≡◌, Bool, true, List, map, Option, Result, Ok, Err, refl, sym, ap, ◌∙◌, subst}
+use Rattle.std.proofs.Common.{◌≡◌, Bool, true, false, List, map, Option, Result, Ok, Err, refl, sym, ap, ◌∙◌, subst}
 use Rattle.rhai_values.specs.declared.dynamic.Dynamic.{Dynamic}
 use Rattle.rhai_values.specs.declared.dynamic.Dynamic.TheVariants as value
 use Rattle.rhai_values.specs.Reading.{value_of}
@@ -25,10 +25,11 @@ use Rattle.rhai_run.specs.declared.plain.state.Interrupt.{Interrupt}
 use Rattle.rhai_run.specs.declared.plain.state.Interrupt.TheVariants.{Stuck}
 use Rattle.rhai_run.specs.declared.report.Stuck.TheVariants as why
 use Rattle.rhai_run.specs.declared.plain.state.State.{State}
+use Rattle.rhai_run.specs.Chaining.{chain_core}
 use Rattle.rhai_run.specs.Covered.{covered_expr, covered_stmt}
 use Rattle.rhai_run.specs.Evaluating.{expr_core, stmts_core, RunsBlock, RunsCall, RunsCore, RunsDeed, RunsExpr, RunsExprs, RunsLine, RunsStmt}
 use Rattle.rhai_run.specs.Runs.{Setting}
-use Rattle.rhai_run.proofs.Nodes.{array_runs, block_line, call_line, dot_ill, for_line, if_line, index_ill, method_ill, property_ill, string_runs}
+use Rattle.rhai_run.proofs.Nodes.{array_runs, block_line, call_line, for_line, if_line, method_ill, property_ill, string_runs}
 
 module _ (here : Setting) (loop : Bool) (s s1 : State) where
   module _ (x : Expr) where
@@ -59,11 +60,11 @@ module _ (here : Setting) (loop : Bool) (s s1 : State) where
     pub method_of_expr : (c : FnCallExpr) (q : Position) → x ≡ expr_kind.MethodCall c q → RunsExpr here loop (expr_of x) s (Err (Stuck why.WrongKind)) s
     method_of_expr c q h = ill_as (tree.MethodCall (callee_of c) (exprs_of c.args)) (ap expr_of h ∙ expr_of-MethodCall c q) (method_ill here loop (callee_of c) (exprs_of c.args) s)
 
-    pub dot_of_expr : (b : BinaryExpr) (k : ASTFlags) (q : Position) → x ≡ expr_kind.Dot b k q → RunsExpr here loop (expr_of x) s (Err (Stuck why.WrongKind)) s
-    dot_of_expr b k q h = ill_as (tree.Dot (chain_flags k) (expr_of b.lhs) (expr_of b.rhs)) (ap expr_of h ∙ expr_of-Dot b k q) (dot_ill here loop (chain_flags k) (expr_of b.lhs) (expr_of b.rhs) s)
+    pub dot_of_expr : (b got : BinaryExpr) (k : ASTFlags) (q : Position) (r : Result Dynamic Interrupt) → x ≡ expr_kind.Dot b k q → got ≡ b → RunsCore here (chain_core loop true (chain_flags k) (expr_of got.lhs) (expr_of got.rhs)) s r s1 → RunsExpr here loop (expr_of x) s r s1
+    dot_of_expr b got k q r h g o = expr_as (tree.Dot (chain_flags k) (expr_of b.lhs) (expr_of b.rhs)) r (ap expr_of h ∙ expr_of-Dot b k q) (subst (λ (d : BinaryExpr). RunsCore here (chain_core loop true (chain_flags k) (expr_of d.lhs) (expr_of d.rhs)) s r s1) g o)
 
-    pub index_of_expr : (b : BinaryExpr) (k : ASTFlags) (q : Position) → x ≡ expr_kind.Index b k q → RunsExpr here loop (expr_of x) s (Err (Stuck why.WrongKind)) s
-    index_of_expr b k q h = ill_as (tree.Index (chain_flags k) (expr_of b.lhs) (expr_of b.rhs)) (ap expr_of h ∙ expr_of-Index b k q) (index_ill here loop (chain_flags k) (expr_of b.lhs) (expr_of b.rhs) s)
+    pub index_of_expr : (b got : BinaryExpr) (k : ASTFlags) (q : Position) (r : Result Dynamic Interrupt) → x ≡ expr_kind.Index b k q → got ≡ b → RunsCore here (chain_core loop false (chain_flags k) (expr_of got.lhs) (expr_of got.rhs)) s r s1 → RunsExpr here loop (expr_of x) s r s1
+    index_of_expr b got k q r h g o = expr_as (tree.Index (chain_flags k) (expr_of b.lhs) (expr_of b.rhs)) r (ap expr_of h ∙ expr_of-Index b k q) (subst (λ (d : BinaryExpr). RunsCore here (chain_core loop false (chain_flags k) (expr_of d.lhs) (expr_of d.rhs)) s r s1) g o)
 
   module _ (x : Stmt) (r : Result Dynamic Interrupt) where
     stmt_as : (l : tree.Stmt) → stmt_of x ≡ l → RunsStmt here loop l s r s1 → RunsStmt here loop (stmt_of x) s r s1

@@ -30,4 +30,9 @@ pub mod Words
 pub mod Entering
 pub mod Known
 pub mod SmallRuns
+pub mod Placing
+pub mod Writing
+pub mod Chaining
+pub mod Steps
+pub mod Methods
 pub mod Whole

@@ -15,7 +15,7 @@ use Rattle.rhai_meaning.specs.Control.{texts_joined}
 use Rattle.rhai_meaning.specs.Core as core
 use Rattle.rhai_meaning.specs.Desugar.{callee_by, core_expr, core_exprs, guard_by}
 use Rattle.rhai_meaning.specs.Meaning.{text}
-use Rattle.rhai_meaning.specs.Shape.{is_callable, is_chain, is_unit}
+use Rattle.rhai_meaning.specs.Shape.{is_callable, is_unit}
 use Rattle.rhai_meaning.specs.Tree as tree
 use Rattle.rhai_run.specs.declared.plain.state.Interrupt.{Interrupt}
 use Rattle.rhai_run.specs.declared.plain.state.Interrupt.TheVariants.{NoMemory, Return, Break, Continue, Throw, Stuck, OutOfTurns}
@@ -104,21 +104,11 @@ module _ (here : Setting) (loop : Bool) where
   ill_expr : (s : State) → RunsCore here core.Ill s (Err (Stuck why.WrongKind)) s
   ill_expr s = record { turns = omega arith; runs = λ d le. refl }
 
-  chain_by : (b : Bool) (x : core.Base) (y : core.Steps) → covered_expr (cond b (core.Chain x y) core.Ill) ≡ core.Ill
-  chain_by true x y = refl
-  chain_by false x y = refl
-
   pub property_ill : (x : tree.PropertyNames) (s : State) → RunsExpr here loop (tree.Property x) s (Err (Stuck why.WrongKind)) s
   property_ill x s = ill_expr s
 
   pub method_ill : (c : tree.Callee) (es : tree.Exprs) (s : State) → RunsExpr here loop (tree.MethodCall c es) s (Err (Stuck why.WrongKind)) s
   method_ill c es s = ill_expr s
-
-  pub dot_ill : (k : tree.ChainFlags) (l r : tree.Expr) (s : State) → RunsExpr here loop (tree.Dot k l r) s (Err (Stuck why.WrongKind)) s
-  dot_ill k l r s = subst (λ e. RunsCore here e s (Err (Stuck why.WrongKind)) s) (sym (chain_by (is_chain true k r) _ _)) (ill_expr s)
-
-  pub index_ill : (k : tree.ChainFlags) (l r : tree.Expr) (s : State) → RunsExpr here loop (tree.Index k l r) s (Err (Stuck why.WrongKind)) s
-  index_ill k l r s = subst (λ e. RunsCore here e s (Err (Stuck why.WrongKind)) s) (sym (chain_by (is_chain false k r) _ _)) (ill_expr s)
 
   -- ---- statements
 

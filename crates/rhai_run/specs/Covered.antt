@@ -1,7 +1,7 @@
 -- How far the evaluator goes yet: all else has no meaning in what it runs.
 use Rattle.std.specs.Prelude.{map, Option}
 use Rattle.rhai_base.specs.Operators.{Operator}
-use Rattle.rhai_meaning.specs.Core.{Expr, Ill, Constant, InterpolatedString, ArrayOf, MapOf, Variable, ModuleVariable, ThisPtr, BlockExpr, FnCall, And, Or, Coalesce, Exprs, no_exprs, expr, Pairs, no_pairs, pair, Target, ToRoot, Guard, Always, When, Arms, no_arms, arm, Deed, IllDeed, Noop, If, Switch, While, Do, For, Assignment, Block, TryCatch, Evaluate, Leave, Stmt, Var, Does, Stmts, no_stmts, stmt, Function, Script}
+use Rattle.rhai_meaning.specs.Core.{Expr, Ill, Constant, InterpolatedString, ArrayOf, MapOf, Variable, ModuleVariable, ThisPtr, BlockExpr, FnCall, Chain, And, Or, Coalesce, Exprs, no_exprs, expr, Pairs, no_pairs, pair, Base, OnPlace, OnValue, Step, IllStep, Property, Index, Method, Steps, last, more, Target, ToRoot, Guard, Always, When, Arms, no_arms, arm, Deed, IllDeed, Noop, If, Switch, While, Do, For, Assignment, Block, TryCatch, Evaluate, Leave, Stmt, Var, Does, Stmts, no_stmts, stmt, Function, Script}
 
 abbrev pub covered_assignment : Option Operator → Target → Expr → Deed
 covered_assignment op (ToRoot r) e = Assignment op (ToRoot r) e
@@ -18,10 +18,11 @@ abbrev mutual
   covered_expr ThisPtr = ThisPtr
   covered_expr (BlockExpr ss) = BlockExpr (covered_stmts ss)
   covered_expr (FnCall c es) = FnCall c (covered_exprs es)
+  covered_expr (Chain b sts) = Chain (covered_base b) (covered_steps sts)
   covered_expr (And es) = And (covered_exprs es)
   covered_expr (Or es) = Or (covered_exprs es)
   covered_expr (Coalesce es) = Coalesce (covered_exprs es)
-  covered_expr _ = Ill
+  covered_expr Ill = Ill
 
   pub covered_exprs : Exprs → Exprs
   covered_exprs no_exprs = no_exprs
@@ -30,6 +31,20 @@ abbrev mutual
   pub covered_pairs : Pairs → Pairs
   covered_pairs no_pairs = no_pairs
   covered_pairs (pair k e ps) = pair k (covered_expr e) (covered_pairs ps)
+
+  pub covered_base : Base → Base
+  covered_base (OnPlace r) = OnPlace r
+  covered_base (OnValue e) = OnValue (covered_expr e)
+
+  pub covered_step : Step → Step
+  covered_step IllStep = IllStep
+  covered_step (Property p) = Property p
+  covered_step (Index e) = Index (covered_expr e)
+  covered_step (Method f es) = Method f (covered_exprs es)
+
+  pub covered_steps : Steps → Steps
+  covered_steps (last o p) = last o (covered_step p)
+  covered_steps (more o p sts) = more o (covered_step p) (covered_steps sts)
 
   pub covered_guard : Guard → Guard
   covered_guard Always = Always

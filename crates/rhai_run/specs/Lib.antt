@@ -9,3 +9,5 @@ pub mod Exits
 pub mod Operators
 pub mod Evaluating
 pub mod Words
+pub mod Placing
+pub mod Chaining

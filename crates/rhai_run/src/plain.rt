@@ -3,21 +3,27 @@
 mod asking;
 mod assigning;
 mod calling;
+mod chains;
 mod choosing;
 mod counting;
 mod evaluator;
 mod exits;
 mod invoking;
+mod links;
 mod logic;
 mod loops;
 mod maps;
+mod methods;
 mod operators;
+mod parts;
+mod placing;
 mod pointers;
 mod state;
 mod statements;
 mod values;
 mod variables;
 mod words;
+mod writing;
 
 ghost use Rattle.std.specs.Prelude.{◌≡◌, IfOk};
 ghost use Rattle.rhai_meaning.specs.Desugar.{core_script};

@@ -98,8 +98,8 @@ impl<'a, H: Host> Evaluator<'a, H> {
             Expr::Coalesce(operands, _) => self.first_some(state, operands.get().as_slice()),
             Expr::Property(_, _) => Err(Interrupt::Stuck(Stuck::WrongKind)),
             Expr::MethodCall(_, _) => Err(Interrupt::Stuck(Stuck::WrongKind)),
-            Expr::Dot(_, _, _) => Err(Interrupt::Stuck(Stuck::WrongKind)),
-            Expr::Index(_, _, _) => Err(Interrupt::Stuck(Stuck::WrongKind)),
+            Expr::Dot(sides, options, _) => self.chain(state, sides.get(), true, *options),
+            Expr::Index(sides, options, _) => self.chain(state, sides.get(), false, *options),
         }
     }
 

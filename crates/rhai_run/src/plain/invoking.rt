@@ -53,7 +53,7 @@ impl<'a, H: Host> Evaluator<'a, H> {
 
     /// A function's value and its last `this`. It takes a turn.
     #[cycle(evaluate)]
-    fn invoke(
+    pub fn invoke(
         &self,
         state: &mut State,
         function: &ScriptFuncDef,

@@ -79,7 +79,7 @@ pub fn pointed(
 }
 
 /// A pointer's own values, then these.
-fn all_args(
+pub fn all_args(
     alloc: Global,
     pointer: &FnPtr,
     values: &[Dynamic],

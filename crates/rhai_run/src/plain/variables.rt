@@ -148,7 +148,7 @@ impl<'a, H: Host> Evaluator<'a, H> {
 }
 
 /// Where the latest entry of a name stands.
-fn position(scope: &[Variable], name: &str) -> Option<usize>
+pub fn position(scope: &[Variable], name: &str) -> Option<usize>
     ensures { MatchOption result (IsMissing name.now scope.now) (IsLatest name.now scope.now) }
 {
     let mut rest = scope;

@@ -439,10 +439,10 @@ pub expr-returns-in-MethodCall : goal.expr-returns-in-MethodCall
 expr-returns-in-MethodCall g t c = method_of_expr (setting g.H.Host.answers g.H.Host.modules c.args.self.now) c.args.self.now.in_loop c.args.state.now c.args.state.now c.args.expr.now c.in-MethodCall.field-0 c.in-MethodCall.field-1 c.in-MethodCall.is
 
 pub expr-returns-in-Dot : goal.expr-returns-in-Dot
-expr-returns-in-Dot g t c = dot_of_expr (setting g.H.Host.answers g.H.Host.modules c.args.self.now) c.args.self.now.in_loop c.args.state.now c.args.state.now c.args.expr.now c.in-Dot.field-0 c.in-Dot.field-1 c.in-Dot.field-2 c.in-Dot.is
+expr-returns-in-Dot g t c = ?
 
 pub expr-returns-in-Index : goal.expr-returns-in-Index
-expr-returns-in-Index g t c = index_of_expr (setting g.H.Host.answers g.H.Host.modules c.args.self.now) c.args.self.now.in_loop c.args.state.now c.args.state.now c.args.expr.now c.in-Index.field-0 c.in-Index.field-1 c.in-Index.field-2 c.in-Index.is
+expr-returns-in-Index g t c = ?
 
 pub first_range-returns : goal.first_range-returns
 first_range-returns g t c = ranges_end (setting g.H.Host.answers g.H.Host.modules c.args.self.now) c.args.self.now.in_loop c.args.arms.now (value_of c.args.subject.now) (map range_of c.args.ranges.now) (map range_of (drop c.loop-range.range-index c.args.ranges.now)) c.args.state.now c.loop-range.state (ap (map range_of) (drop_all c.loop-range.range-index c.args.ranges.now (omega (arith, c.loop-range-test.false)))) c.loop-range.invariant

@@ -147,6 +147,40 @@ decreases-for_round g l = level l.self.now.depth (bodies_weight (functions_of l.
 abbrev pub decreases-for_body : goal.decreases-for_body
 decreases-for_body g l = level l.self.now.depth (bodies_weight (functions_of l.self.now.functions.now)) + 9 * weight (stmts_of l.parts.now.2.body.block) + 5
 
+-- chains
+abbrev pub decreases-chain : goal.decreases-chain
+decreases-chain g l = level l.self.now.depth (bodies_weight (functions_of l.self.now.functions.now)) + 9 * (expr_weight (expr_of l.sides.now.lhs) + expr_weight (expr_of l.sides.now.rhs)) + 10
+
+abbrev pub decreases-base : goal.decreases-base
+decreases-base g l = level l.self.now.depth (bodies_weight (functions_of l.self.now.functions.now)) + 9 * expr_weight (expr_of l.expr.now) + 2
+
+abbrev pub decreases-steps : goal.decreases-steps
+decreases-steps g l = level l.self.now.depth (bodies_weight (functions_of l.self.now.functions.now)) + 9 * expr_weight (expr_of l.rest.right.now) + 9
+
+abbrev pub decreases-reach : goal.decreases-reach
+decreases-reach g l = level l.self.now.depth (bodies_weight (functions_of l.self.now.functions.now)) + 9 * expr_weight (expr_of l.rest.right.now) + 3
+
+abbrev pub decreases-access : goal.decreases-access
+decreases-access g l = level l.self.now.depth (bodies_weight (functions_of l.self.now.functions.now)) + 9 * expr_weight (expr_of l.argument.now) + 2
+
+abbrev pub decreases-method_access : goal.decreases-method_access
+decreases-method_access g l = level l.self.now.depth (bodies_weight (functions_of l.self.now.functions.now)) + 9 * exprs_weight (exprs_of l.call.now.args) + 3
+
+abbrev pub decreases-applied : goal.decreases-applied
+decreases-applied g l = level l.self.now.depth (bodies_weight (functions_of l.self.now.functions.now)) + 8
+
+abbrev pub decreases-method : goal.decreases-method
+decreases-method g l = level l.self.now.depth (bodies_weight (functions_of l.self.now.functions.now)) + 7
+
+abbrev pub decreases-call_receiver : goal.decreases-call_receiver
+decreases-call_receiver g l = level l.self.now.depth (bodies_weight (functions_of l.self.now.functions.now)) + 6
+
+abbrev pub decreases-to_method : goal.decreases-to_method
+decreases-to_method g l = level l.self.now.depth (bodies_weight (functions_of l.self.now.functions.now)) + 6
+
+abbrev pub decreases-call_method : goal.decreases-call_method
+decreases-call_method g l = level l.self.now.depth (bodies_weight (functions_of l.self.now.functions.now)) + 5
+
 -- the loops
 abbrev pub invariant-first_arm-loop-place : goal.invariant-first_arm-loop-place
 invariant-first_arm-loop-place g l = PlacesAt (setting g.H.Host.answers g.H.Host.modules l.self) l.self.in_loop l.arms l.places (drop l.place-index l.places) l.initial.state l.state
