@@ -21,9 +21,9 @@ use Rattle.rhai_run.specs.declared.plain.placing.Current.TheVariants as kind
 use Rattle.rhai_run.specs.Placing.{root_value, place_meant, made, current_in}
 use Rattle.rhai_run.specs.Host.{call_meant, answer_meant}
 use Rattle.rhai_run.specs.declared.plain.state.Interrupt.{Interrupt}
-use Rattle.rhai_run.specs.Runs.{Setting, Task, env, Acting, Over, Goes, Leads, given}
+use Rattle.rhai_run.specs.Runs.{Setting, Task, env, Acting, Over, Goes, Leads, Stops, given}
 use Rattle.rhai_run.specs.State.{store_of}
-use Rattle.rhai_run.proofs.Goes.{goes_as, goes_then, leads_then}
+use Rattle.rhai_run.proofs.Goes.{gives, goes_as, goes_then, leads_then, stops_then}
 
 -- ---- properties
 
@@ -140,5 +140,27 @@ module _ {T : Type 0} (here : Setting) (s s2 : State) (r : Result T Interrupt) (
 
   pub set_index_as : (i v pv : Value) (at : places.Place) (a : Act) → pv ≡ c.value → set_index v at c pv i ≡ a → Leads here (Acting a) s r s2 k → Leads here (Acting (set_index v at c c.value i)) s r s2 k
   set_index_as i v pv at a e h q = leads_then here s2 r k (goes_as here _ _ s (ap Acting (ap (λ u. set_index v at c u i) (sym e) ∙ h))) q
+
+-- ---- setters by the host
+
+module _ (here : Setting) (cur : declared.Current) (s s1 : State) (f : Text) (receiver : Dynamic) (vs : List Value) (is : value_of receiver ≡ (current_in here (store_of s) cur).value) where
+  abbrev set_at : Current
+  set_at = current_in here (store_of s) cur
+
+  -- what the host answers, whatever is done with it
+  abbrev pub Asked : Result (Dynamic × Option Dynamic) Interrupt → Type 0
+  Asked r = (next : Value → Option Value → Act) → Leads here (Acting (ask_method f (value_of receiver) vs next)) s r s1 (λ (a : Dynamic × Option Dynamic). Acting (next (value_of a.0) (option_map value_of a.1)))
+
+  to_asked : Goes here (Acting (set_by_host f vs set_at)) s (Acting (ask_method f (value_of receiver) vs (λ v u. places.put_back set_at u))) s
+  to_asked = goes_as here _ _ s (ap (λ v. Acting (ask_method f v vs (λ x u. places.put_back set_at u))) (sym is))
+
+  pub host_stops : (x : Interrupt) → Asked (Err x) → Stops here (Acting (set_by_host f vs set_at)) s x s1
+  host_stops x q = stops_then here s1 x to_asked (q (λ v u. places.put_back set_at u))
+
+  pub host_sets : (p : Dynamic × Option Dynamic) → Asked (Ok p) → (s2 : State) (r : Result Unit Interrupt) → Leads here (Acting (places.put_back (current_in here (store_of s1) cur) (option_map value_of p.1))) s1 r s2 (λ z. given UnitV) → Leads here (Acting (set_by_host f vs set_at)) s r s2 (λ z. given UnitV)
+  host_sets p q s2 r k =
+      let stay = method_keeps here f (value_of receiver) vs s s1 (value_of p.0) (goes_then here (q (λ v u. give v)) (gives here _ _ s1 refl)) in
+      let same = same_current here cur (store_of s) (store_of s1) stay in
+      leads_then here s2 r (λ z. given UnitV) (goes_then here to_asked (goes_then here (q (λ v u. places.put_back set_at u)) (goes_as here _ _ s1 (ap (λ c. Acting (places.put_back c (option_map value_of p.1))) (sym same))))) k
 
 pub ruleset chaining = (property_part, property_asks)

@@ -33,6 +33,7 @@ pub mod SmallRuns
 pub mod Placing
 pub mod Writing
 pub mod Chaining
+pub mod Links
 pub mod Steps
 pub mod Methods
 pub mod Whole

@@ -107,7 +107,7 @@ impl<'a, H: Host> Evaluator<'a, H> {
     ) -> Result<Option<Access<'e>>, Interrupt>
         ensures { let here = setting H.answers H.modules self.now in spec.Reaches here self.now.in_loop rest.entry current.now state.old result state.new }
     {
-        if rest.options.contains(ASTFlags::NEGATED) && self.current_part(state, current).is_unit() {
+        if rest.options.contains(ASTFlags::NEGATED) && self.is_unit_at(state, current) {
             return Ok(None);
         }
         let link = rest.link();

@@ -41,7 +41,7 @@ impl<'a, H: Host> Evaluator<'a, H> {
     ) -> Result<Current<'c>, Interrupt>
         ensures { let here = setting H.answers H.modules self.now in let c = current_in here (store_of state.old) current.entry in StepsOn here (λ next. chains.method here.world name.now (calls.word name.now) (map value_of args) c next) state.old result state.new }
     {
-        let receiver = self.current_part(state, &current).to_value()?;
+        let receiver = self.copied(state, &current)?;
         let word = Word::of(name.as_str());
         if word.is_call() {
             let value = self.call_receiver(state, &receiver, args.as_slice())?;

@@ -118,16 +118,16 @@ impl<'a, H: Host> Evaluator<'a, H> {
     }
 
     /// A host's setter, whose new receiver is put back.
-    fn set_by_host<'c>(
+    fn set_by_host(
         &self,
         state: &mut State,
         name: ImmutableString,
         args: Seq<Dynamic>,
-        current: Current<'c>,
+        current: Current,
     ) -> Result<(), Interrupt>
         ensures { let here = setting H.answers H.modules self.now in Leads here (Acting (chains.set_by_host name (map value_of args) (spec.current_in here (store_of state.old) current.entry))) state.old result state.new (λ z. given UnitV) }
     {
-        let receiver = self.current_part(state, &current).to_value()?;
+        let receiver = self.copied(state, &current)?;
         let (_, receiver) = self.ask_method(state, name, receiver, args)?;
         self.put_back(state, &current, receiver)
     }

@@ -6,6 +6,7 @@ ghost use Rattle.std.specs.Prelude.{◌≡◌, IfOk};
 ghost use Rattle.rhai_values.specs.Reading.{value_of};
 ghost use Rattle.rhai_meaning.specs.Act.{OfName};
 ghost use Rattle.rhai_meaning.specs.Places as places;
+ghost use Rattle.rhai_meaning.specs.Shape.{is_unit};
 ghost use Rattle.rhai_places.specs.Reading.{key_meant, or_unit, part_value};
 ghost use Rattle.rhai_run.specs.declared.plain.placing.Current.TheVariants as kind;
 ghost use Rattle.rhai_run.specs.Evaluating.{setting};
@@ -118,6 +119,26 @@ impl<'a, H: Host> Evaluator<'a, H> {
         match current {
             Current::At(place) => self.place_part(state, &place).to_value(),
             Current::Loose(value) => Ok(value),
+        }
+    }
+
+    /// A copy of the value that a chain has come to.
+    pub fn copied(&self, state: &State, current: &Current) -> Result<Dynamic, AllocError>
+        ensures { IfOk result (λ v. value_of v ≡ (spec.current_in (setting H.answers H.modules self.now) (store_of state.now) current.now).value) }
+    {
+        match current {
+            Current::At(place) => self.place_part(state, place).to_value(),
+            Current::Loose(value) => value.clone(),
+        }
+    }
+
+    /// Whether the value that a chain has come to is unit.
+    pub fn is_unit_at(&self, state: &State, current: &Current) -> bool
+        ensures { result ≡ is_unit (spec.current_in (setting H.answers H.modules self.now) (store_of state.now) current.now).value }
+    {
+        match current {
+            Current::At(place) => self.place_part(state, place).is_unit(),
+            Current::Loose(value) => Part::Stored(value).is_unit(),
         }
     }
 

@@ -8,7 +8,8 @@ ghost use Rattle.rhai_values.specs.Reading.{value_of};
 ghost use Rattle.rhai_values.specs.Value.{UnitV, Value, same};
 ghost use Rattle.rhai_meaning.specs.Act.{OfName, OfThis};
 ghost use Rattle.rhai_meaning.specs.Places as places;
-ghost use Rattle.rhai_places.specs.Reading.{key_meant, part_value};
+ghost use Rattle.rhai_places.specs.Reading.{key_meant};
+ghost use Rattle.rhai_run.specs.declared.plain.placing.Current.TheVariants as kind;
 ghost use Rattle.rhai_run.specs.declared.plain.state.State.{State};
 ghost use Rattle.rhai_run.specs.Evaluating.{setting};
 ghost use Rattle.rhai_run.specs.Placing as spec;
@@ -116,11 +117,21 @@ impl<'a, H: Host> Evaluator<'a, H> {
         self.write_place(state, true, &Place { root, keys }, value)
     }
 
+    /// Whether that value stands at a place.
+    fn is_standing(&self, state: &State, place: &Place, value: &Dynamic) -> bool
+        ensures { result ≡ same (spec.current_in (setting H.answers H.modules self.now) (store_of state.now) (kind.At place.now)).value (value_of value.now) }
+    {
+        match self.place_part(state, place) {
+            Part::Stored(stored) => stored.is_equal(value),
+            Part::Missing => Dynamic::Unit.is_equal(value),
+        }
+    }
+
     /// A receiver's new value goes to its place, if any: in a constant's place an equal one changes nothing.
-    pub fn put_back<'c>(
+    pub fn put_back(
         &self,
         state: &mut State,
-        current: &Current<'c>,
+        current: &Current,
         receiver: Option<Dynamic>,
     ) -> Result<(), Interrupt>
         ensures { let here = setting H.answers H.modules self.now in Leads here (Acting (places.put_back (spec.current_in here (store_of state.old) current.now) (option_map value_of receiver))) state.old result state.new (λ z. given UnitV) }
@@ -131,7 +142,7 @@ impl<'a, H: Host> Evaluator<'a, H> {
         let Current::At(place) = current else {
             return Ok(());
         };
-        let differs = !is_value(self.current_part(state, current), &receiver);
+        let differs = !self.is_standing(state, place, &receiver);
         self.write_place(state, differs, place, receiver)
     }
 }
@@ -149,15 +160,5 @@ fn constant_end(must: bool, constant: &Dynamic, keys: &[PlaceKey]) -> Result<(),
                 Ok(())
             }
         }
-    }
-}
-
-/// Whether what stands there is that value.
-fn is_value(part: Part, value: &Dynamic) -> bool
-    ensures { result ≡ same (part_value part.entry) (value_of value.now) }
-{
-    match part {
-        Part::Stored(stored) => stored.is_equal(value),
-        Part::Missing => Dynamic::Unit.is_equal(value),
     }
 }
