@@ -1,5 +1,5 @@
 -- Items copied one after another.
-use Rattle.std.proofs.Common.{◌≡◌, ℕ, ◌+◌, ◌<◌, ◌≤◌, ◌++◌, List, [], ◌∷◌, length, drop, get_or, refl, sym, ap, ◌∙◌, append_assoc, append-nil}
+use Rattle.std.proofs.Common.{◌≡◌, ℕ, ◌+◌, ◌<◌, ◌≤◌, ◌++◌, List, [], ◌∷◌, length, drop, get_or, sym, ap, ◌∙◌, append_assoc, append-nil}
 use Rattle.std.proofs.lemmas.List.{drop_all, drop_more}
 
 pub push_next : {A : Type 0} (done done' whole xs : List A) (i : ℕ) (x : A) → i < length xs → x ≡ get_or xs i x → done ++ drop i xs ≡ whole → done' ≡ done ++ x ∷ [] → done' ++ drop (i + 1) xs ≡ whole

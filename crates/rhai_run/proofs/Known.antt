@@ -1,5 +1,8 @@
 -- A script's functions by their keys.
-use Rattle.std.proofs.Common.{◌≡◌, ℕ, ◌≤◌, Bool, true, false, cond, List, [], ◌∷◌, map, length, Option, Some, None, refl, sym, ap, ◌∙◌, subst, arith, if◌then◌else◌}
+use Rattle.std.proofs.Common.{◌≡◌, ◌≤◌, Bool, true, false, cond, List, [], ◌∷◌, map, length, Option, Some, None, Result, refl, sym, ap, ◌∙◌, subst, arith, if◌then◌else◌}
+use Rattle.rhai_values.specs.declared.dynamic.Dynamic.{Dynamic}
+use Rattle.rhai_values.specs.Reading.{value_of}
+use Rattle.rhai_values.specs.Value.{Text, Value}
 use Rattle.rhai_tree.specs.declared.script_fn.ScriptFuncDef.{ScriptFuncDef}
 use Rattle.rhai_reading.specs.Reading.{stmts_of}
 use Rattle.rhai_reading.specs.Reading as reading
@@ -7,13 +10,17 @@ use Rattle.rhai_functions.specs.FnKey.{definition_key}
 use Rattle.rhai_functions.specs.Table.{find_by}
 use Rattle.rhai_functions.proofs.Keys.{same_key-true}
 use Rattle.rhai_meaning.specs.Act.{Key}
-use Rattle.rhai_meaning.specs.Calls.{same_key}
+use Rattle.rhai_meaning.specs.Calls.{call_named, key, same_key}
 use Rattle.rhai_meaning.specs.Core.{Function}
 use Rattle.rhai_meaning.specs.Desugar.{core_function}
 use Rattle.rhai_meaning.specs.Run.{function_of, key_of}
 use Rattle.rhai_meaning.specs.Weight.{weight}
+use Rattle.rhai_run.specs.declared.plain.state.Interrupt.{Interrupt}
+use Rattle.rhai_run.specs.declared.plain.state.State.{State}
 use Rattle.rhai_run.specs.Covered.{covered_function}
-use Rattle.rhai_run.specs.Evaluating.{bodies_weight}
+use Rattle.rhai_run.specs.Evaluating.{bodies_weight, RunsInvoke}
+use Rattle.rhai_run.specs.Runs.{Setting, Acting, Leads, given}
+use Rattle.rhai_run.proofs.Words.{call_invokes}
 
 -- what is run of a function
 abbrev pub run_of : ScriptFuncDef → Function
@@ -63,3 +70,16 @@ module _ (k : Key) where
     by : (b : Bool) → Some f ≡ (if b then Some g else find_by definition_key k gs) → (Some f ≡ find_by definition_key k gs → weight (stmts_of f.body.block) ≤ bodies_weight (map reading.function_of gs)) → weight (stmts_of f.body.block) ≤ bodies_weight (map reading.function_of (g ∷ gs))
     by true e rest = let same : g ≡ f = cc in subst (λ d. weight (stmts_of d.body.block) ≤ bodies_weight (map reading.function_of (g ∷ gs))) same (omega arith)
     by false e rest = omega (arith, rest e)
+
+-- ---- a call of a function that a script has
+
+module _ (here : Setting) (fs : List ScriptFuncDef) (keys : here.world.functions ≡ map key_of here.functions) (bodies : here.functions ≡ all_run fs) (captures : Bool) (f : Text) (vs : List Value) where
+  abbrev named : Key
+  named = key f (length vs) None
+
+  pub call_runs_function : (d : ScriptFuncDef) (s s1 : State) (r : Result (Dynamic × Option Dynamic) Interrupt) → Some d ≡ find_by definition_key named fs → (function_of here.functions (definition_key d) ≡ Some (run_of d) → RunsInvoke here (record { function = definition_key d; captures = captures; this = None; arguments = vs }) s r s1) → Leads here (Acting (call_named here.world captures f vs)) s r s1 (λ p. given (value_of p.0))
+  call_runs_function d s s1 r h q =
+      let is_key : definition_key d ≡ named = found_key named fs d h in
+      let known : function_of here.functions named ≡ Some (run_of d) = ap (λ gs. function_of gs named) bodies ∙ found_function named fs d h in
+      call_invokes here keys captures f vs (run_of d) s s1 r known
+      (subst (λ l. RunsInvoke here (record { function = l; captures = captures; this = None; arguments = vs }) s r s1) is_key (q (ap (function_of here.functions) is_key ∙ known)))

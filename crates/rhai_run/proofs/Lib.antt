@@ -20,6 +20,7 @@ pub mod Exits
 pub mod Rounds
 pub mod Loops
 pub mod Counted
+pub mod Pointers
 pub mod Cases
 pub mod Held
 pub mod ByKind

@@ -1,5 +1,5 @@
 -- A script all of whose calls are those of operators runs alike whatever its functions do.
-use Rattle.std.proofs.Common.{◌≡◌, ℕ, Bool, true, false, List, [], ◌∷◌, ◌++◌, map, Option, Some, None, refl, sym, ap, ◌∙◌, cond}
+use Rattle.std.proofs.Common.{◌≡◌, ℕ, Bool, true, false, List, [], ◌∷◌, ◌++◌, map, Option, Some, None, refl, ap, ◌∙◌, cond}
 use Rattle.rhai_values.specs.Value.{Text, Value, UnitV, BoolV, ArrayV, values}
 use Rattle.rhai_base.specs.Operators.{Computed, NoEntry, Is, Overflows, symbol}
 use Rattle.rhai_meaning.specs.Act.{ScopeEntry, Ending, Gives, Leaves, Host, World, Store, Answer, Answers, AnswersThrow, Act, Acts, Scoped, Env, and_then, leave, returned, run, run_all}

@@ -1,4 +1,4 @@
-use Rattle.std.proofs.Common.{◌≡◌, ◌+◌, ◌*◌, ◌≤◌, suc, true, false, None, drop, get_or, length, map, subst, refl, sym, ap, ◌∙◌, arith, rules}
+use Rattle.std.proofs.Common.{◌≡◌, ◌+◌, ◌*◌, ◌≤◌, suc, true, false, None, Some, Ok, Err, drop, get_or, length, map, subst, refl, sym, ap, ◌∙◌, arith, rules}
 use Rattle.std.specs.Int.{w64}
 use Rattle.std.proofs.lemmas.Int.{to_z-of_z}
 use Rattle.std.proofs.lemmas.List.{drop_all, drop_more}
@@ -35,8 +35,8 @@ use Rattle.rhai_run.proofs.Nodes.{call_stuck, call_stops, call_runs, called_as}
 use Rattle.rhai_run.proofs.Callees.{named_callee, operator_callee, qualified_callee}
 use Rattle.rhai_run.proofs.Goes.{leads_then, stops_by}
 use Rattle.rhai_run.proofs.Invoked.{back_is, invoke_goes, invoke_late, invoke_stops}
-use Rattle.rhai_run.proofs.Known.{found_function, found_key, found_nothing, found_weight}
-use Rattle.rhai_run.proofs.Words.{call_asks, call_invokes, word_asks, word_gives, word_names, word_points, word_stops}
+use Rattle.rhai_run.proofs.Known.{call_runs_function, found_nothing, found_weight}
+use Rattle.rhai_run.proofs.Words.{call_asks, word_asks, word_gives, word_names, word_points, word_stops}
 use Rattle.rhai_run.proofs.Operands.{args_start, args_next, args_stop, args_end, operands_start, both_stops, both_stuck, both_false, both_next, both_end, either_stops, either_stuck, either_true, either_next, either_end, first_stops, first_value, first_next, first_end}
 use Rattle.rhai_run.proofs.Roots.{assign_runs, assign_stops, assign_stuck}
 use Rattle.rhai_run.proofs.Statements.{stmts_start, stmts_next, stmts_stop, stmts_end, block_runs, body_runs, branch_runs, condition_stops, condition_stuck}
@@ -561,7 +561,7 @@ call_word-returns-then-is_call g t c =
 
 pub call_word-returns-in_err-value : goal.call_word-returns-in_err-value
 call_word-returns-in_err-value g t c =
-    let p = err_from_is_err_and c.from_residual.result c.from_residual.ensures.1 in
+    let p = err_from_is_err_and c.from_residual-in_err-value.result c.from_residual-in_err-value.ensures.1 in
     rw (p.1, p.2) (word_stops (setting g.H.Host.answers g.H.Host.modules c.args.self.now) c.args.captures c.args.name.now (map value_of c.args.args) (word_meant c.of-word.result) (c.of-word.ensures ∙ ap calls.word c.as_str.ensures) c.args.state.now (sym c.is_to_host.ensures ∙ c.if-is_to_host.false) (sym c.is_call.ensures ∙ c.if-is_call.false) _ ((rw c.as_slice.ensures at c.in_err-value.ensures) c.args.state.now (call_named (setting g.H.Host.answers g.H.Host.modules c.args.self.now).world c.args.captures c.args.name.now (map value_of c.args.args))))
 
 pub call_word-returns-in-Some : goal.call_word-returns-in-Some
@@ -583,18 +583,29 @@ call_pointed-returns-in-None g t c =
 pub call_named-returns : goal.call_named-returns
 call_named-returns g t c =
     let fs = c.args.self.now.functions.now.functions in
-    let same : key c.in_ok-clone.field-0 c.len.result None ≡ key c.args.name.now (length (map value_of c.args.args)) None = λ i. key (c.in_ok-clone.ensures.cases i) ((c.len.ensures ∙ sym (length-map value_of c.args.args)) i) None in
+    let same : key c.in_ok-clone.field-0 c.len.result None ≡ key c.args.name.now (length (map value_of c.args.args)) None = λ i. key (c.in_ok-clone.ensures.cases i) ((c.len.ensures ∙ sym (length-map c.args.args value_of)) i) None in
     call_asks (setting g.H.Host.answers g.H.Host.modules c.args.self.now) refl c.args.captures c.args.name.now (map value_of c.args.args) c.args.state.now c.ask_host.new.state c.ask_host.result (found_nothing (key c.args.name.now (length (map value_of c.args.args)) None) fs (subst (λ k. None ≡ find_by definition_key k fs) same c.in-None.ensures)) (rw c.in_ok-clone-in-None.ensures.cases at c.ask_host.ensures)
 
 pub call_named-returns-in-Some : goal.call_named-returns-in-Some
-call_named-returns-in-Some g t c = ?
+call_named-returns-in-Some g t c =
+    let fs = c.args.self.now.functions.now.functions in
+    let same : key c.in_ok-clone.field-0 c.len.result None ≡ key c.args.name.now (length (map value_of c.args.args)) None = λ i. key (c.in_ok-clone.ensures.cases i) ((c.len.ensures ∙ sym (length-map c.args.args value_of)) i) None in
+    let found : Some c.deref.result.now ≡ find_by definition_key (key c.args.name.now (length (map value_of c.args.args)) None) fs = ap Some c.deref.ensures ∙ subst (λ k. Some c.in-Some.function.now.value ≡ find_by definition_key k fs) same c.in-Some.ensures in
+    call_runs_function (setting g.H.Host.answers g.H.Host.modules c.args.self.now) fs refl refl c.args.captures c.args.name.now (map value_of c.args.args) c.deref.result.now c.args.state.now c.invoke.new.state (Ok (c.in_ok-value-in-Some.value, c.in_ok-value-in-Some.field-0-1)) found c.in_ok-value-in-Some.ensures
 
 pub call_named-returns-in_err-value-in-Some : goal.call_named-returns-in_err-value-in-Some
-call_named-returns-in_err-value-in-Some g t c = ?
+call_named-returns-in_err-value-in-Some g t c =
+    let p = err_from_is_err_and c.from_residual-in_err-value-in-Some.result c.from_residual-in_err-value-in-Some.ensures.1 in
+    let fs = c.args.self.now.functions.now.functions in
+    let same : key c.in_ok-clone.field-0 c.len.result None ≡ key c.args.name.now (length (map value_of c.args.args)) None = λ i. key (c.in_ok-clone.ensures.cases i) ((c.len.ensures ∙ sym (length-map c.args.args value_of)) i) None in
+    let found : Some c.deref.result.now ≡ find_by definition_key (key c.args.name.now (length (map value_of c.args.args)) None) fs = ap Some c.deref.ensures ∙ subst (λ k. Some c.in-Some.function.now.value ≡ find_by definition_key k fs) same c.in-Some.ensures in
+    rw (p.1, p.2) (call_runs_function (setting g.H.Host.answers g.H.Host.modules c.args.self.now) fs refl refl c.args.captures c.args.name.now (map value_of c.args.args) c.deref.result.now c.args.state.now c.invoke.new.state (Err _) found c.in_err-value-in-Some.ensures)
 
 pub call_named-invoke-requires : goal.call_named-invoke-requires
 call_named-invoke-requires g t c =
-    c.deref.ensures
+    let found : Some c.deref.result.now ≡ find_by definition_key (key c.in_ok-clone.field-0 c.len.result None) c.args.self.now.functions.now.functions = ap Some c.deref.ensures ∙ c.in-Some.ensures in
+    let fits : weight (stmts_of c.deref.result.now.body.block) ≤ bodies_weight (functions_of c.args.self.now.functions.now) = found_weight (key c.in_ok-clone.field-0 c.len.result None) c.args.self.now.functions.now.functions c.deref.result.now found in
+    search rules
 
 pub invoke-returns-in_err-take_turn : goal.invoke-returns-in_err-take_turn
 invoke-returns-in_err-take_turn g t c =
