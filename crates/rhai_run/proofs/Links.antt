@@ -1,5 +1,6 @@
 -- The nodes of a chain, one after another.
 use Rattle.std.proofs.Common.{◌≡◌, ℕ, ◌+◌, ◌≤◌, Bool, true, false, cond, List, map, Option, Some, None, refl, sym, ap, ◌∙◌, subst, arith}
+use Rattle.std.specs.Prelude.{IfSome}
 use Rattle.rhai_parts.specs.declared.flags.ASTFlags.{ASTFlags}
 use Rattle.rhai_tokens.specs.declared.position.Position.{Position}
 use Rattle.rhai_tree.specs.declared.expr.BinaryExpr.{BinaryExpr}
@@ -17,8 +18,8 @@ use Rattle.rhai_run.specs.Chaining.{IsInner, IsLast, IsRest, link_steps, rest_st
 use Rattle.rhai_run.specs.Covered.{covered_step, covered_steps}
 
 last_by : (loop dot : Bool) (k : tree.ChainFlags) (p : core.Step) (r : tree.Expr) → k.breaks ≡ true → steps_of loop dot k p r ≡ core.last k.negated p
-last_by loop dot k p (tree.Dot m a b) h = ap (λ c. cond c (core.last k.negated p) _) h
-last_by loop dot k p (tree.Index m a b) h = ap (λ c. cond c (core.last k.negated p) _) h
+last_by loop dot k p (tree.Dot m a b) h = ap (λ c. cond c (core.last k.negated p) (core.more k.negated (cond m.exported core.IllStep (step_core loop dot a)) (steps_of loop true m (step_core loop true b) b))) h
+last_by loop dot k p (tree.Index m a b) h = ap (λ c. cond c (core.last k.negated p) (core.more k.negated (cond m.exported core.IllStep (step_core loop dot a)) (steps_of loop false m (step_core loop false b) b))) h
 last_by loop dot k p _ h = refl
 
 abbrev IsNoDot : Expr → Type 0
@@ -80,3 +81,7 @@ module _ (rest : Rest) (l : Link) where
 
   pub link_inner : (d : Bool) (b : BinaryExpr) (o : ASTFlags) → expr_of rest.right.now ≡ node d (chain_flags o) (expr_of b.lhs) (expr_of b.rhs) → breaks rest.options ≡ false → IsInner b d o l → (loop : Bool) → rest_steps loop rest ≡ link_steps loop rest l
   link_inner d b o h k is loop = inner_by loop d b o l.rest is.2 l.argument.now is.0 l.is_exported is.1 h k
+
+-- a last link weighs no more than its side
+pub last_weighs : (e : Expr) (l : Link) → IsLast e l → (expr_weight (expr_of l.argument.now) ≤ expr_weight (expr_of e)) × IfSome l.rest (λ r. expr_weight (expr_of r.right.now) + 1 ≤ expr_weight (expr_of e))
+last_weighs e l is = (subst (λ x. expr_weight (expr_of x) ≤ expr_weight (expr_of e)) (sym is.0) (omega arith), subst (λ o. IfSome o (λ r. expr_weight (expr_of r.right.now) + 1 ≤ expr_weight (expr_of e))) (sym is.2) tt)

@@ -3,6 +3,8 @@
 #![tactic(auto, using(rhai_values::specs::Reading::kinds))]
 
 ghost use Rattle.std.specs.Prelude.{◌≡◌, false, IfOk, Ok, map};
+ghost use Rattle.std.specs.Option.{option_copied, option_map};
+ghost use Rattle.std.specs.Rc.{rc_value};
 ghost use Rattle.rhai_values.specs.Reading.{value_of};
 ghost use Rattle.rhai_meaning.specs.Act.{Act};
 ghost use Rattle.rhai_meaning.specs.Calls as calls;

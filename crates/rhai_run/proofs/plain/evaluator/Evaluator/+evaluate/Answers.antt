@@ -8,7 +8,7 @@ use Rattle.std.proofs.lemmas.List.{length-map}
 use Rattle.std.specs.Option.{option_copied, option_map}
 use Rattle.rhai_values.specs.Reading.{value_of, value_of-Int}
 use Rattle.rhai_base.specs.Builtin.{operator_of}
-use Rattle.rhai_reading.specs.Reading.{arms_of, callee_of, counter_of, expr_of, exprs_of, expressions_of, keys_of, pairs_of, range_of, stmt_of, stmts_of, table_of}
+use Rattle.rhai_reading.specs.Reading.{arms_of, callee_of, chain_flags, counter_of, expr_of, exprs_of, expressions_of, keys_of, pairs_of, range_of, stmt_of, stmts_of, table_of}
 use Rattle.rhai_functions.specs.FnKey.{definition_key}
 use Rattle.rhai_functions.specs.FnLib.{functions_of}
 use Rattle.rhai_functions.specs.Table.{find_by}
@@ -45,6 +45,8 @@ use Rattle.rhai_run.proofs.Weights.{arm_weight, arms_weight, expr_item, level, l
 use Rattle.rhai_run.proofs.Rounds.{loop_start}
 use Rattle.rhai_run.proofs.Loops.{round_runs, round_turns, endless_stops, endless_ends, endless_next, while_stops, while_stuck, while_over, while_leaves, while_ends, while_next, loop_always, loop_when, do_stops, do_ends, do_guard_stops, do_guard_stuck, do_over, do_next}
 use Rattle.rhai_run.proofs.Maps.{map_runs, map_stops, members_start, members_stop, members_next, members_end}
+use Rattle.rhai_run.proofs.Methods.{back_runs, back_stops, call_stops as method_call_stops, pointer_runs, word_given, word_stopped}
+use Rattle.rhai_run.proofs.Steps.{applied_stops, chain_runs, member_stuck, method_reached, method_runs, method_stops, method_stuck, steps_end, steps_more, steps_stop, steps_unit}
 use Rattle.rhai_run.proofs.plain.evaluator.Evaluator.+evaluate.Goals as goal
 
 -- arguments
@@ -439,10 +441,12 @@ pub expr-returns-in-MethodCall : goal.expr-returns-in-MethodCall
 expr-returns-in-MethodCall g t c = method_of_expr (setting g.H.Host.answers g.H.Host.modules c.args.self.now) c.args.self.now.in_loop c.args.state.now c.args.state.now c.args.expr.now c.in-MethodCall.field-0 c.in-MethodCall.field-1 c.in-MethodCall.is
 
 pub expr-returns-in-Dot : goal.expr-returns-in-Dot
-expr-returns-in-Dot g t c = ?
+expr-returns-in-Dot g t c =
+    dot_of_expr (setting g.H.Host.answers g.H.Host.modules c.args.self.now) c.args.self.now.in_loop c.args.state.now c.chain.new.state c.args.expr.now c.in-Dot.sides c.get-in-Dot.result.now c.in-Dot.options c.in-Dot.field-2 c.chain.result c.in-Dot.is c.get-in-Dot.ensures c.chain.ensures
 
 pub expr-returns-in-Index : goal.expr-returns-in-Index
-expr-returns-in-Index g t c = ?
+expr-returns-in-Index g t c =
+    index_of_expr (setting g.H.Host.answers g.H.Host.modules c.args.self.now) c.args.self.now.in_loop c.args.state.now c.chain-in-Index.new.state c.args.expr.now c.in-Index.sides c.get-in-Index.result.now c.in-Index.options c.in-Index.field-2 c.chain-in-Index.result c.in-Index.is c.get-in-Index.ensures c.chain-in-Index.ensures
 
 pub first_range-returns : goal.first_range-returns
 first_range-returns g t c = ranges_end (setting g.H.Host.answers g.H.Host.modules c.args.self.now) c.args.self.now.in_loop c.args.arms.now (value_of c.args.subject.now) (map range_of c.args.ranges.now) (map range_of (drop c.loop-range.range-index c.args.ranges.now)) c.args.state.now c.loop-range.state (ap (map range_of) (drop_all c.loop-range.range-index c.args.ranges.now (omega (arith, c.loop-range-test.false)))) c.loop-range.invariant
@@ -638,3 +642,88 @@ invoke-statements-ended-requires g t c =
     let lighter : level c.in-Some.inside.depth (bodies_weight (functions_of c.in-Some.inside.functions.now)) + 9 * weight (stmts_of c.statements.result.now) + 20 ≤ level c.args.self.now.depth (bodies_weight (functions_of c.args.self.now.functions.now)) =
     rw (ap (λ e. e.depth) same, ap (λ e. e.functions) same, c.statements.ensures) (level_falls c.args.self.now.depth c.take_turn.new.self.turns (bodies_weight (functions_of c.args.self.now.functions.now)) (weight (stmts_of c.args.function.now.body.block)) c.in-Some.ensures.1 c.requires) in
     search rules
+
+-- chains
+pub chain-returns : goal.chain-returns
+chain-returns g t c =
+    chain_runs (setting g.H.Host.answers g.H.Host.modules c.args.self.now) c.args.self.now.in_loop c.args.is_dot (chain_flags c.args.options) (expr_of c.args.sides.now.lhs) (expr_of c.args.sides.now.rhs) c.args.state.now c.base.new.state (sym c.is_chain.ensures ∙ c.if-not-is_chain.false) c.in_ok-base.base c.steps.new.state c.steps.result c.in_ok-base.ensures c.steps.ensures
+
+pub steps-returns-in_err-access : goal.steps-returns-in_err-access
+steps-returns-in_err-access g t c =
+    let p = err_from_is_err_and c.from_residual.result c.from_residual.ensures.1 in
+    rw (p.1, p.2) (steps_stop (setting g.H.Host.answers g.H.Host.modules c.args.self.now) c.args.self.now.in_loop c.args.rest c.link.result (c.link.ensures.steps c.args.self.now.in_loop) c.args.current c.args.state.now c.reach.new.state _ c.in_err-access.ensures)
+
+pub steps-returns-in_default : goal.steps-returns-in_default
+steps-returns-in_default g t c =
+    steps_unit (setting g.H.Host.answers g.H.Host.modules c.args.self.now) c.args.self.now.in_loop c.args.rest c.link.result (c.link.ensures.steps c.args.self.now.in_loop) c.args.current c.args.state.now c.reach.new.state (rw c.in_default.is at c.in_ok-access.ensures)
+
+pub steps-returns-in_err-current : goal.steps-returns-in_err-current
+steps-returns-in_err-current g t c =
+    let p = err_from_is_err_and c.from_residual-in_err-current.result c.from_residual-in_err-current.ensures.1 in
+    rw (p.1, p.2) (applied_stops (setting g.H.Host.answers g.H.Host.modules c.args.self.now) c.args.self.now.in_loop c.args.rest c.link.result (c.link.ensures.steps c.args.self.now.in_loop) c.args.current c.args.state.now c.reach.new.state c.in-Some.access (rw c.in-Some.is at c.in_ok-access.ensures) c.applied.new.state _ c.in_err-current.ensures)
+
+pub steps-returns-in-Some-rest : goal.steps-returns-in-Some-rest
+steps-returns-in-Some-rest g t c =
+    steps_more (setting g.H.Host.answers g.H.Host.modules c.args.self.now) c.args.self.now.in_loop c.args.rest c.link.result (c.link.ensures.steps c.args.self.now.in_loop) c.args.current c.args.state.now c.reach.new.state c.in-Some.access (rw c.in-Some.is at c.in_ok-access.ensures) c.applied.new.state c.in_ok-current.current c.in_ok-current.ensures c.in-Some-rest.rest c.steps.new.state c.steps.result c.in-Some-rest.is c.steps.ensures
+
+pub steps-returns-in_ok-current_value-in-None : goal.steps-returns-in_ok-current_value-in-None
+steps-returns-in_ok-current_value-in-None g t c =
+    steps_end (setting g.H.Host.answers g.H.Host.modules c.args.self.now) c.args.self.now.in_loop c.args.rest c.link.result (c.link.ensures.steps c.args.self.now.in_loop) c.args.current c.args.state.now c.reach.new.state c.in-Some.access (rw c.in-Some.is at c.in_ok-access.ensures) c.applied.new.state c.in_ok-current.current c.in_ok-current.ensures c.in_ok-current_value-in-None.field-0 c.in-None.is c.in_ok-current_value-in-None.ensures
+
+pub reach-returns-in_err-refreshed : goal.reach-returns-in_err-refreshed
+reach-returns-in_err-refreshed g t c = ?
+
+pub reach-returns : goal.reach-returns
+reach-returns g t c = ?
+
+pub method_access-returns-then-not-is_callable : goal.method_access-returns-then-not-is_callable
+method_access-returns-then-not-is_callable g t c =
+    method_stuck (setting g.H.Host.answers g.H.Host.modules c.args.self.now) c.args.self.now.in_loop c.args.call.now c.args.state.now (sym c.is_callable.ensures ∙ c.if-not-is_callable.true)
+
+pub method_access-returns-in_err-args : goal.method_access-returns-in_err-args
+method_access-returns-in_err-args g t c =
+    let p = err_from_is_err_and c.from_residual.result c.from_residual.ensures.1 in
+    rw (p.1, p.2) (method_stops (setting g.H.Host.answers g.H.Host.modules c.args.self.now) c.args.self.now.in_loop c.args.call.now c.args.state.now (sym c.is_callable.ensures ∙ c.if-not-is_callable.false) c.exprs.new.state _ (rw c.as_slice.ensures at c.in_err-args.ensures))
+
+pub method_access-returns : goal.method_access-returns
+method_access-returns g t c =
+    method_runs (setting g.H.Host.answers g.H.Host.modules c.args.self.now) c.args.self.now.in_loop c.args.call.now c.args.state.now (sym c.is_callable.ensures ∙ c.if-not-is_callable.false) c.exprs.new.state c.in_ok-args.args _ refl (rw c.as_slice.ensures at c.in_ok-args.ensures)
+
+pub access-returns-in-MethodCall : goal.access-returns-in-MethodCall
+access-returns-in-MethodCall g t c =
+    method_reached (setting g.H.Host.answers g.H.Host.modules c.args.self.now) c.args.self.now.in_loop c.args.state.now c.method_access.new.state c.args.is_dot c.if-not-is_dot.false c.args.argument.now c.in-MethodCall.call c.get-in-MethodCall.result.now c.in-MethodCall.field-1 c.method_access.result c.in-MethodCall.is c.get-in-MethodCall.ensures c.method_access.ensures
+
+pub access-returns-in_default : goal.access-returns-in_default
+access-returns-in_default g t c =
+    member_stuck (setting g.H.Host.answers g.H.Host.modules c.args.self.now) c.args.self.now.in_loop c.args.state.now c.args.is_dot c.if-not-is_dot.false c.args.argument.now c.in_default.not-Property c.in_default.not-MethodCall
+
+pub call_receiver-returns : goal.call_receiver-returns
+call_receiver-returns g t c =
+    leads_then (setting g.H.Host.answers g.H.Host.modules c.args.self.now) c.call_named.new.state c.call_named.result (λ v. given (value_of v)) (c.in_ok-pointed_on.ensures (setting g.H.Host.answers g.H.Host.modules c.args.self.now) false c.args.state.now) c.call_named.ensures
+
+pub method-returns-in_err-value-2 : goal.method-returns-in_err-value-2
+method-returns-in_err-value-2 g t c =
+    let p = err_from_is_err_and c.from_residual-in_err-value-2.result c.from_residual-in_err-value-2.ensures.1 in
+    rw (p.1, p.2) (word_stopped (setting g.H.Host.answers g.H.Host.modules c.args.self.now) c.args.name.now (map value_of c.args.args) (word_meant c.of-word.result) (c.of-word.ensures ∙ ap calls.word c.as_str.ensures) c.args.current c.args.state.now c.in_ok-receiver.receiver c.in_ok-receiver.ensures (sym c.is_call.ensures ∙ c.if-is_call.false) _ (rw c.as_slice-2.ensures at c.in_err-value-2.ensures))
+
+pub method-returns-in-Some : goal.method-returns-in-Some
+method-returns-in-Some g t c =
+    word_given (setting g.H.Host.answers g.H.Host.modules c.args.self.now) c.args.name.now (map value_of c.args.args) (word_meant c.of-word.result) (c.of-word.ensures ∙ ap calls.word c.as_str.ensures) c.args.current c.args.state.now c.in_ok-receiver.receiver c.in_ok-receiver.ensures (sym c.is_call.ensures ∙ c.if-is_call.false) c.in-Some.value (rw (c.as_slice-2.ensures, c.in-Some.is) at c.in_ok-value-2.ensures)
+
+pub method-returns : goal.method-returns
+method-returns g t c =
+    pointer_runs (setting g.H.Host.answers g.H.Host.modules c.args.self.now) c.args.name.now (map value_of c.args.args) (word_meant c.of-word.result) (c.of-word.ensures ∙ ap calls.word c.as_str.ensures) c.args.current c.args.state.now c.in_ok-receiver.receiver c.in_ok-receiver.ensures c.call_receiver.new.state (sym c.is_call.ensures ∙ c.if-is_call.true) c.in_ok-value.value (rw c.as_slice.ensures at c.in_ok-value.ensures)
+
+pub to_method-returns-in_err-value : goal.to_method-returns-in_err-value
+to_method-returns-in_err-value g t c =
+    let p = err_from_is_err_and c.from_residual.result c.from_residual.ensures.1 in
+    λ is. rw (p.1, p.2) (method_call_stops (setting g.H.Host.answers g.H.Host.modules c.args.self.now) c.args.name.now (map value_of c.args.args) c.args.current c.args.state.now c.args.receiver is c.call_method.new.state _ c.in_err-value.ensures)
+
+pub to_method-returns-in_err-put_back : goal.to_method-returns-in_err-put_back
+to_method-returns-in_err-put_back g t c =
+    let p = err_from_is_err_and c.from_residual-in_err-put_back.result c.from_residual-in_err-put_back.ensures.1 in
+    λ is. rw (p.1, p.2) (back_stops (setting g.H.Host.answers g.H.Host.modules c.args.self.now) c.args.name.now (map value_of c.args.args) c.args.current c.args.state.now c.args.receiver is c.call_method.new.state c.put_back.new.state (c.in_ok-value.value, c.in_ok-value.receiver) c.in_ok-value.ensures _ c.in_err-put_back.ensures)
+
+pub to_method-returns : goal.to_method-returns
+to_method-returns g t c =
+    λ is. back_runs (setting g.H.Host.answers g.H.Host.modules c.args.self.now) c.args.name.now (map value_of c.args.args) c.args.current c.args.state.now c.args.receiver is c.call_method.new.state c.put_back.new.state (c.in_ok-value.value, c.in_ok-value.receiver) c.in_ok-value.ensures c.in_ok-put_back.ensures

@@ -11,4 +11,4 @@ pub returns : goal.returns
 returns g c next =
     let here = setting g.H.Host.answers g.H.Host.modules c.args.self.now in
     let at = current_in here (store_of c.args.state.now) c.args.current in
-    index_asked here c.args.state.now _ c.ask_for.result _ at c.in_ok-name-in-AsksHost.name (value_of c.in_ok-receiver-in-AsksHost.receiver) c.in_ok-args-in-AsksHost.args next (c.in_ok-receiver-in-AsksHost.ensures ∙ c.current_part-in-AsksHost.ensures) (part_value c.current_part.result) c.args.index_value c.in-AsksHost.index_value c.current_part.ensures (c.in-AsksHost.ensures at next) c.in_ok-name-in-AsksHost.ensures c.in_ok-args-in-AsksHost.ensures (c.ask_for.ensures next)
+    index_asked here c.args.state.now _ c.ask_for.result _ at c.in_ok-name-in-AsksHost.name (value_of c.in_ok-receiver-in-AsksHost.receiver) c.in_ok-args-in-AsksHost.args next c.in_ok-receiver-in-AsksHost.ensures (part_value c.current_part.result) c.args.index_value c.in-AsksHost.index_value c.current_part.ensures (c.in-AsksHost.ensures at next) c.in_ok-name-in-AsksHost.ensures c.in_ok-args-in-AsksHost.ensures (c.ask_for.ensures next)
