@@ -45,7 +45,7 @@ use Rattle.rhai_run.proofs.Weights.{arm_weight, arms_weight, expr_item, level, l
 use Rattle.rhai_run.proofs.Rounds.{loop_start}
 use Rattle.rhai_run.proofs.Loops.{round_runs, round_turns, endless_stops, endless_ends, endless_next, while_stops, while_stuck, while_over, while_leaves, while_ends, while_next, loop_always, loop_when, do_stops, do_ends, do_guard_stops, do_guard_stuck, do_over, do_next}
 use Rattle.rhai_run.proofs.Maps.{map_runs, map_stops, members_start, members_stop, members_next, members_end}
-use Rattle.rhai_run.proofs.Methods.{back_runs, back_stops, call_stops as method_call_stops, pointer_runs, word_given, word_stopped}
+use Rattle.rhai_run.proofs.Methods.{back_runs, back_stops, call_stops as method_call_stops, word_given, word_passed, word_stopped}
 use Rattle.rhai_run.proofs.Steps.{applied_stops, chain_runs, member_stuck, method_reached, method_runs, method_stops, method_stuck, steps_end, steps_more, steps_stop, steps_unit}
 use Rattle.rhai_run.proofs.plain.evaluator.Evaluator.+evaluate.Goals as goal
 
@@ -651,24 +651,24 @@ chain-returns g t c =
 pub steps-returns-in_err-access : goal.steps-returns-in_err-access
 steps-returns-in_err-access g t c =
     let p = err_from_is_err_and c.from_residual.result c.from_residual.ensures.1 in
-    rw (p.1, p.2) (steps_stop (setting g.H.Host.answers g.H.Host.modules c.args.self.now) c.args.self.now.in_loop c.args.rest c.link.result (c.link.ensures.steps c.args.self.now.in_loop) c.args.current c.args.state.now c.reach.new.state _ c.in_err-access.ensures)
+    rw (p.1, p.2) (steps_stop (setting g.H.Host.answers g.H.Host.modules c.args.self.now) c.args.self.now.in_loop c.args.rest c.link-link.result (c.link-link.ensures.steps c.args.self.now.in_loop) c.args.current c.args.state.now c.reach.new.state _ c.in_err-access.ensures)
 
 pub steps-returns-in_default : goal.steps-returns-in_default
 steps-returns-in_default g t c =
-    steps_unit (setting g.H.Host.answers g.H.Host.modules c.args.self.now) c.args.self.now.in_loop c.args.rest c.link.result (c.link.ensures.steps c.args.self.now.in_loop) c.args.current c.args.state.now c.reach.new.state (rw c.in_default.is at c.in_ok-access.ensures)
+    steps_unit (setting g.H.Host.answers g.H.Host.modules c.args.self.now) c.args.self.now.in_loop c.args.rest c.link-link.result (c.link-link.ensures.steps c.args.self.now.in_loop) c.args.current c.args.state.now c.reach.new.state (rw c.in_default.is at c.in_ok-access.ensures)
 
 pub steps-returns-in_err-current : goal.steps-returns-in_err-current
 steps-returns-in_err-current g t c =
     let p = err_from_is_err_and c.from_residual-in_err-current.result c.from_residual-in_err-current.ensures.1 in
-    rw (p.1, p.2) (applied_stops (setting g.H.Host.answers g.H.Host.modules c.args.self.now) c.args.self.now.in_loop c.args.rest c.link.result (c.link.ensures.steps c.args.self.now.in_loop) c.args.current c.args.state.now c.reach.new.state c.in-Some.access (rw c.in-Some.is at c.in_ok-access.ensures) c.applied.new.state _ c.in_err-current.ensures)
+    rw (p.1, p.2) (applied_stops (setting g.H.Host.answers g.H.Host.modules c.args.self.now) c.args.self.now.in_loop c.args.rest c.link-link.result (c.link-link.ensures.steps c.args.self.now.in_loop) c.args.current c.args.state.now c.reach.new.state c.in-Some.access (rw c.in-Some.is at c.in_ok-access.ensures) c.applied.new.state _ c.in_err-current.ensures)
 
 pub steps-returns-in-Some-rest : goal.steps-returns-in-Some-rest
 steps-returns-in-Some-rest g t c =
-    steps_more (setting g.H.Host.answers g.H.Host.modules c.args.self.now) c.args.self.now.in_loop c.args.rest c.link.result (c.link.ensures.steps c.args.self.now.in_loop) c.args.current c.args.state.now c.reach.new.state c.in-Some.access (rw c.in-Some.is at c.in_ok-access.ensures) c.applied.new.state c.in_ok-current.current c.in_ok-current.ensures c.in-Some-rest.rest c.steps.new.state c.steps.result c.in-Some-rest.is c.steps.ensures
+    steps_more (setting g.H.Host.answers g.H.Host.modules c.args.self.now) c.args.self.now.in_loop c.args.rest c.link-link.result (c.link-link.ensures.steps c.args.self.now.in_loop) c.args.current c.args.state.now c.reach.new.state c.in-Some.access (rw c.in-Some.is at c.in_ok-access.ensures) c.applied.new.state c.in_ok-current.current c.in_ok-current.ensures c.in-Some-rest.rest c.steps.new.state c.steps.result c.in-Some-rest.is c.steps.ensures
 
 pub steps-returns-in_ok-current_value-in-None : goal.steps-returns-in_ok-current_value-in-None
 steps-returns-in_ok-current_value-in-None g t c =
-    steps_end (setting g.H.Host.answers g.H.Host.modules c.args.self.now) c.args.self.now.in_loop c.args.rest c.link.result (c.link.ensures.steps c.args.self.now.in_loop) c.args.current c.args.state.now c.reach.new.state c.in-Some.access (rw c.in-Some.is at c.in_ok-access.ensures) c.applied.new.state c.in_ok-current.current c.in_ok-current.ensures c.in_ok-current_value-in-None.field-0 c.in-None.is c.in_ok-current_value-in-None.ensures
+    steps_end (setting g.H.Host.answers g.H.Host.modules c.args.self.now) c.args.self.now.in_loop c.args.rest c.link-link.result (c.link-link.ensures.steps c.args.self.now.in_loop) c.args.current c.args.state.now c.reach.new.state c.in-Some.access (rw c.in-Some.is at c.in_ok-access.ensures) c.applied.new.state c.in_ok-current.current c.in_ok-current.ensures c.in_ok-current_value-in-None.field-0 c.in-None.is c.in_ok-current_value-in-None.ensures
 
 pub reach-returns-in_err-refreshed : goal.reach-returns-in_err-refreshed
 reach-returns-in_err-refreshed g t c = ?
@@ -699,7 +699,7 @@ access-returns-in_default g t c =
 
 pub call_receiver-returns : goal.call_receiver-returns
 call_receiver-returns g t c =
-    leads_then (setting g.H.Host.answers g.H.Host.modules c.args.self.now) c.call_named.new.state c.call_named.result (λ v. given (value_of v)) (c.in_ok-pointed_on.ensures (setting g.H.Host.answers g.H.Host.modules c.args.self.now) false c.args.state.now) c.call_named.ensures
+    leads_then (setting g.H.Host.answers g.H.Host.modules c.args.self.now) c.call_named.new.state c.call_named.result (λ v. given (value_of v)) (c.in_ok-name.ensures (setting g.H.Host.answers g.H.Host.modules c.args.self.now) false c.args.state.now) c.call_named.ensures
 
 pub method-returns-in_err-value-2 : goal.method-returns-in_err-value-2
 method-returns-in_err-value-2 g t c =
@@ -712,7 +712,7 @@ method-returns-in-Some g t c =
 
 pub method-returns : goal.method-returns
 method-returns g t c =
-    pointer_runs (setting g.H.Host.answers g.H.Host.modules c.args.self.now) c.args.name.now (map value_of c.args.args) (word_meant c.of-word.result) (c.of-word.ensures ∙ ap calls.word c.as_str.ensures) c.args.current c.args.state.now c.in_ok-receiver.receiver c.in_ok-receiver.ensures c.call_receiver.new.state (sym c.is_call.ensures ∙ c.if-is_call.true) c.in_ok-value.value (rw c.as_slice.ensures at c.in_ok-value.ensures)
+    word_passed (setting g.H.Host.answers g.H.Host.modules c.args.self.now) c.args.name.now (map value_of c.args.args) (word_meant c.of-word.result) (c.of-word.ensures ∙ ap calls.word c.as_str.ensures) c.args.current c.args.state.now c.in_ok-receiver.receiver c.in_ok-receiver.ensures (sym c.is_call.ensures ∙ c.if-is_call.false) c.to_method.new.state c.to_method.result (rw (c.as_slice-2.ensures, c.in-None.is) at c.in_ok-value-2.ensures) (c.to_method.ensures c.in_ok-receiver.ensures)
 
 pub to_method-returns-in_err-value : goal.to_method-returns-in_err-value
 to_method-returns-in_err-value g t c =
