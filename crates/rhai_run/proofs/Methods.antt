@@ -114,6 +114,20 @@ module _ (here : Setting) (f : Text) (v : Value) (vs : List Value) (s s1 : State
   names_stay : (p : Dynamic × Option Dynamic) → CallsMethod here f v vs s (Ok p) s1 → KeepsNames (store_of s) (store_of s1)
   names_stay p q = kept_by here _ s s1 _ (by_keeps (method_key here.world f vs v)) (goes_then here (q (λ w u. give w)) (gives here _ _ s1 refl))
 
+-- a call by what is found among the script's functions
+module _ (here : Setting) (keys : here.world.functions ≡ map key_of here.functions) (fs : List ScriptFuncDef) (all : here.functions ≡ all_run fs) (f : Text) (vs : List Value) (v : Value) (n : ℕ) (t : Text) (c : n ≡ length vs) (e : t ≡ type_name v) where
+  pub found_fits : (d : ScriptFuncDef) → Some d ≡ method_in fs f n t → weight (stmts_of d.body.block) ≤ bodies_weight (map reading.function_of fs)
+  found_fits d h = (method_found here keys fs all f vs v n t c e d h).2.2.2
+
+  module _ (s s1 : State) (r : Result (Dynamic × Option Dynamic) Interrupt) where
+    pub found_runs : (d : ScriptFuncDef) → Some d ≡ method_in fs f n t → (function_of here.functions (definition_key d) ≡ Some (run_of d) → RunsInvoke here (record { function = definition_key d; captures = false; this = Some v; arguments = vs }) s r s1) → CallsMethod here f v vs s r s1
+    found_runs d h q =
+        let m = method_found here keys fs all f vs v n t c e d h in
+        method_invokes here f v vs s s1 m.0 r m.1 (subst (λ k. RunsInvoke here (record { function = k; captures = false; this = Some v; arguments = vs }) s r s1) m.2.0 (q (ap (function_of here.functions) m.2.0 ∙ m.2.1)))
+
+    pub missing_asks : None ≡ method_in fs f n t → ((next : Value → Option Value → Act) → Leads here (Acting (ask_method f v vs next)) s r s1 (λ (p : Dynamic × Option Dynamic). Acting (next (value_of p.0) (option_map value_of p.1)))) → CallsMethod here f v vs s r s1
+    missing_asks h q = method_asks here f v vs s s1 r (method_missing here keys fs all f vs v n t c e h) q
+
 module _ (here : Setting) (f : Text) (vs : List Value) (cur : Current) (s : State) (receiver : Dynamic) (is : value_of receiver ≡ (current_in here (store_of s) cur).value) where
   abbrev at : places.Current
   at = current_in here (store_of s) cur

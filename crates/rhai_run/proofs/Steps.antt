@@ -246,5 +246,5 @@ module _ (here : Setting) (loop : Bool) (f : FnCallExpr) (s : State) where
     pub method_stops : (x : Interrupt) → RunsExprs here loop (exprs_of f.args) s (Err x) s1 → HasAccess here (method_core loop f) s (Err x) s1
     method_stops x q = subst (λ p. HasAccess here p s (Err x) s1) (sym (method_is true h)) (λ next. q (λ vs. next (chains.OfMethod f.name vs)))
 
-    pub method_runs : (vs : List Dynamic) (a : Access) → access_meant a ≡ chains.OfMethod f.name (map value_of vs) → RunsExprs here loop (exprs_of f.args) s (Ok vs) s1 → HasAccess here (method_core loop f) s (Ok a) s1
-    method_runs vs a e q = subst (λ p. HasAccess here p s (Ok a) s1) (sym (method_is true h)) (λ next. goes_then here (q (λ us. next (chains.OfMethod f.name us))) (goes_as here _ _ s1 (ap (λ b. Acting (next b)) (sym e))))
+    pub method_given : (vs : List Dynamic) → RunsExprs here loop (exprs_of f.args) s (Ok vs) s1 → (next : chains.Access → Act) → Goes here (Acting (access here.world (method_core loop f) next)) s (Acting (next (chains.OfMethod f.name (map value_of vs)))) s1
+    method_given vs q = subst (λ p. (next : chains.Access → Act) → Goes here (Acting (access here.world p next)) s (Acting (next (chains.OfMethod f.name (map value_of vs)))) s1) (sym (method_is true h)) (λ next. q (λ us. next (chains.OfMethod f.name us)))

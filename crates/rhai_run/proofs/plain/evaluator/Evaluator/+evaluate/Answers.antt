@@ -1,4 +1,4 @@
-use Rattle.std.proofs.Common.{◌≡◌, ◌+◌, ◌*◌, ◌≤◌, suc, true, false, None, Some, Ok, Err, drop, get_or, length, map, subst, refl, sym, ap, ◌∙◌, arith, rules}
+use Rattle.std.proofs.Common.{◌≡◌, ◌+◌, ◌*◌, ◌≤◌, ◌&&◌, suc, true, false, None, Some, Ok, Err, drop, get_or, length, map, subst, refl, sym, ap, ◌∙◌, arith, rules}
 use Rattle.std.specs.Int.{w64}
 use Rattle.std.proofs.lemmas.Int.{to_z-of_z}
 use Rattle.std.proofs.lemmas.List.{drop_all, drop_more}
@@ -8,7 +8,7 @@ use Rattle.std.proofs.lemmas.List.{length-map}
 use Rattle.std.specs.Option.{option_copied, option_map}
 use Rattle.rhai_values.specs.Reading.{value_of, value_of-Int}
 use Rattle.rhai_base.specs.Builtin.{operator_of}
-use Rattle.rhai_reading.specs.Reading.{arms_of, callee_of, chain_flags, counter_of, expr_of, exprs_of, expressions_of, keys_of, pairs_of, range_of, stmt_of, stmts_of, table_of}
+use Rattle.rhai_reading.specs.Reading.{arms_of, callee_of, chain_flags, counter_of, expr_of, exprs_of, expressions_of, is_negated, keys_of, pairs_of, range_of, stmt_of, stmts_of, table_of}
 use Rattle.rhai_functions.specs.FnKey.{definition_key}
 use Rattle.rhai_functions.specs.FnLib.{functions_of}
 use Rattle.rhai_functions.specs.Table.{find_by}
@@ -21,11 +21,15 @@ use Rattle.rhai_meaning.specs.Desugar as desugar
 use Rattle.rhai_meaning.specs.Run.{bind, seen}
 use Rattle.rhai_meaning.specs.Control.{counted}
 use Rattle.rhai_meaning.specs.Desugar.{core_expr}
+use Rattle.rhai_meaning.specs.Shape.{is_unit}
 use Rattle.rhai_meaning.specs.Walk.{over_pairs, total}
 use Rattle.rhai_meaning.specs.Weight.{expr_weight, exprs_weight, own_weight, stmt_weight, weight}
 use Rattle.rhai_run.specs.declared.plain.state.State.{State}
+use Rattle.rhai_run.specs.Chaining.{method_in}
 use Rattle.rhai_run.specs.Evaluating.{arms_here, bodies_weight, body_of, expr_core, setting, stmts_core}
 use Rattle.rhai_run.specs.Runs.{Acting, Halting, Runs, given, stop_of}
+use Rattle.rhai_run.specs.Placing.{current_in}
+use Rattle.rhai_run.specs.State.{store_of}
 use Rattle.rhai_run.specs.Variables.{root_meant}
 use Rattle.rhai_run.specs.Words.{word_meant}
 use Rattle.rhai_run.proofs.ByKind.{array_of_expr, block_of_stmt, braces_of_expr, call_of_expr, call_of_stmt, dot_of_expr, for_of_stmt, if_of_stmt, index_of_expr, map_of_expr, method_of_expr, property_of_expr, switch_of_stmt, text_of_expr}
@@ -45,9 +49,10 @@ use Rattle.rhai_run.proofs.Weights.{arm_weight, arms_weight, expr_item, level, l
 use Rattle.rhai_run.proofs.Rounds.{loop_start}
 use Rattle.rhai_run.proofs.Loops.{round_runs, round_turns, endless_stops, endless_ends, endless_next, while_stops, while_stuck, while_over, while_leaves, while_ends, while_next, loop_always, loop_when, do_stops, do_ends, do_guard_stops, do_guard_stuck, do_over, do_next}
 use Rattle.rhai_run.proofs.Maps.{map_runs, map_stops, members_start, members_stop, members_next, members_end}
-use Rattle.rhai_run.proofs.Methods.{back_runs, back_stops, call_stops as method_call_stops, word_given, word_passed, word_stopped}
-use Rattle.rhai_run.proofs.Steps.{applied_stops, chain_runs, member_stuck, method_reached, method_runs, method_stops, method_stuck, steps_end, steps_more, steps_stop, steps_unit}
+use Rattle.rhai_run.proofs.Methods.{back_runs, back_stops, call_stops as method_call_stops, found_fits, found_runs, missing_asks, word_given, word_passed, word_stopped}
+use Rattle.rhai_run.proofs.Steps.{applied_stops, chain_runs, member_stuck, method_given, method_reached, method_stops, method_stuck, reach_gone, reach_runs, steps_end, steps_more, steps_stop, steps_unit}
 use Rattle.rhai_run.proofs.plain.evaluator.Evaluator.+evaluate.Goals as goal
+use Rattle.rhai_run.proofs.plain.evaluator.Evaluator.+evaluate.Goals.{reach-else-contains-via-then-contains+else-is_unit_at, reach-else-contains-via-else-contains}
 
 -- arguments
 pub exprs-loop-expr-init : goal.exprs-loop-expr-init
@@ -671,10 +676,23 @@ steps-returns-in_ok-current_value-in-None g t c =
     steps_end (setting g.H.Host.answers g.H.Host.modules c.args.self.now) c.args.self.now.in_loop c.args.rest c.link-link.result (c.link-link.ensures.steps c.args.self.now.in_loop) c.args.current c.args.state.now c.reach.new.state c.in-Some.access (rw c.in-Some.is at c.in_ok-access.ensures) c.applied.new.state c.in_ok-current.current c.in_ok-current.ensures c.in_ok-current_value-in-None.field-0 c.in-None.is c.in_ok-current_value-in-None.ensures
 
 pub reach-returns-in_err-refreshed : goal.reach-returns-in_err-refreshed
-reach-returns-in_err-refreshed g t c = ?
+reach-returns-in_err-refreshed g t c =
+    let p = err_from_is_err_and c.from_residual-in_err-refreshed.result c.from_residual-in_err-refreshed.ensures.1 in
+    let goes_on : (is_negated c.args.rest.options && is_unit (current_in (setting g.H.Host.answers g.H.Host.modules c.args.self.now) (store_of c.args.state.now) c.args.current.now).value) ≡ false =
+        elim c.else-contains.branch [
+          | reach-else-contains-via-then-contains+else-is_unit_at w ↦ ap (λ b. b && is_unit (current_in (setting g.H.Host.answers g.H.Host.modules c.args.self.now) (store_of c.args.state.now) c.args.current.now).value) (sym c.contains.ensures ∙ w.if-contains.true) ∙ sym w.is_unit_at.ensures ∙ w.if-is_unit_at.false
+          | reach-else-contains-via-else-contains w ↦ ap (λ b. b && is_unit (current_in (setting g.H.Host.answers g.H.Host.modules c.args.self.now) (store_of c.args.state.now) c.args.current.now).value) (sym c.contains.ensures ∙ w.if-contains.false)
+        ] in
+    rw (p.1, p.2) (reach_gone (setting g.H.Host.answers g.H.Host.modules c.args.self.now) c.args.self.now.in_loop c.args.rest c.link-link.result (c.link-link.ensures.steps c.args.self.now.in_loop) c.args.current c.args.state.now goes_on c.if-link.false c.access.new.state c.in_ok-access.access c.in_ok-access.ensures _ c.in_err-refreshed.ensures)
 
 pub reach-returns : goal.reach-returns
-reach-returns g t c = ?
+reach-returns g t c =
+    let goes_on : (is_negated c.args.rest.options && is_unit (current_in (setting g.H.Host.answers g.H.Host.modules c.args.self.now) (store_of c.args.state.now) c.args.current.now).value) ≡ false =
+        elim c.else-contains.branch [
+          | reach-else-contains-via-then-contains+else-is_unit_at w ↦ ap (λ b. b && is_unit (current_in (setting g.H.Host.answers g.H.Host.modules c.args.self.now) (store_of c.args.state.now) c.args.current.now).value) (sym c.contains.ensures ∙ w.if-contains.true) ∙ sym w.is_unit_at.ensures ∙ w.if-is_unit_at.false
+          | reach-else-contains-via-else-contains w ↦ ap (λ b. b && is_unit (current_in (setting g.H.Host.answers g.H.Host.modules c.args.self.now) (store_of c.args.state.now) c.args.current.now).value) (sym c.contains.ensures ∙ w.if-contains.false)
+        ] in
+    reach_runs (setting g.H.Host.answers g.H.Host.modules c.args.self.now) c.args.self.now.in_loop c.args.rest c.link-link.result (c.link-link.ensures.steps c.args.self.now.in_loop) c.args.current c.args.state.now goes_on c.if-link.false c.access.new.state c.in_ok-access.access c.in_ok-access.ensures c.in_ok-refreshed.field-0 c.in_ok-refreshed.ensures
 
 pub method_access-returns-then-not-is_callable : goal.method_access-returns-then-not-is_callable
 method_access-returns-then-not-is_callable g t c =
@@ -687,7 +705,7 @@ method_access-returns-in_err-args g t c =
 
 pub method_access-returns : goal.method_access-returns
 method_access-returns g t c =
-    method_runs (setting g.H.Host.answers g.H.Host.modules c.args.self.now) c.args.self.now.in_loop c.args.call.now c.args.state.now (sym c.is_callable.ensures ∙ c.if-not-is_callable.false) c.exprs.new.state c.in_ok-args.args _ refl (rw c.as_slice.ensures at c.in_ok-args.ensures)
+    method_given (setting g.H.Host.answers g.H.Host.modules c.args.self.now) c.args.self.now.in_loop c.args.call.now c.args.state.now (sym c.is_callable.ensures ∙ c.if-not-is_callable.false) c.exprs.new.state c.in_ok-args.args (rw c.as_slice.ensures at c.in_ok-args.ensures)
 
 pub access-returns-in-MethodCall : goal.access-returns-in-MethodCall
 access-returns-in-MethodCall g t c =
@@ -727,3 +745,18 @@ to_method-returns-in_err-put_back g t c =
 pub to_method-returns : goal.to_method-returns
 to_method-returns g t c =
     λ is. back_runs (setting g.H.Host.answers g.H.Host.modules c.args.self.now) c.args.name.now (map value_of c.args.args) c.args.current c.args.state.now c.args.receiver is c.call_method.new.state c.put_back.new.state (c.in_ok-value.value, c.in_ok-value.receiver) c.in_ok-value.ensures c.in_ok-put_back.ensures
+
+pub call_method-returns-in-Some : goal.call_method-returns-in-Some
+call_method-returns-in-Some g t c =
+    let found : Some c.deref.result.now ≡ method_in c.args.self.now.functions.now.functions c.args.name.now c.len.result c.type_name.result.now = ap Some c.deref.ensures ∙ (rw c.in-Some.is at c.in_ok-function.ensures) in
+    found_runs (setting g.H.Host.answers g.H.Host.modules c.args.self.now) refl c.args.self.now.functions.now.functions refl c.args.name.now (map value_of c.args.args) (value_of c.args.receiver) c.len.result c.type_name.result.now (c.len.ensures ∙ sym (length-map c.args.args value_of)) c.type_name.ensures c.args.state.now c.invoke.new.state c.invoke.result c.deref.result.now found c.invoke.ensures
+
+pub call_method-returns-in_ok-clone-in-None : goal.call_method-returns-in_ok-clone-in-None
+call_method-returns-in_ok-clone-in-None g t c =
+    missing_asks (setting g.H.Host.answers g.H.Host.modules c.args.self.now) refl c.args.self.now.functions.now.functions refl c.args.name.now (map value_of c.args.args) (value_of c.args.receiver) c.len.result c.type_name.result.now (c.len.ensures ∙ sym (length-map c.args.args value_of)) c.type_name.ensures c.args.state.now c.ask_method.new.state c.ask_method.result (rw c.in-None.is at c.in_ok-function.ensures) (rw c.in_ok-clone-in-None.ensures.cases at c.ask_method.ensures)
+
+pub call_method-invoke-requires : goal.call_method-invoke-requires
+call_method-invoke-requires g t c =
+    let found : Some c.deref.result.now ≡ method_in c.args.self.now.functions.now.functions c.args.name.now c.len.result c.type_name.result.now = ap Some c.deref.ensures ∙ (rw c.in-Some.is at c.in_ok-function.ensures) in
+    let fits : weight (stmts_of c.deref.result.now.body.block) ≤ bodies_weight (functions_of c.args.self.now.functions.now) = found_fits (setting g.H.Host.answers g.H.Host.modules c.args.self.now) refl c.args.self.now.functions.now.functions refl c.args.name.now (map value_of c.args.args) (value_of c.args.receiver) c.len.result c.type_name.result.now (c.len.ensures ∙ sym (length-map c.args.args value_of)) c.type_name.ensures c.deref.result.now found in
+    search rules
