@@ -683,7 +683,7 @@ reach-returns-in_err-refreshed g t c =
           | reach-else-contains-via-then-contains+else-is_unit_at w ↦ ap (λ b. b && is_unit (current_in (setting g.H.Host.answers g.H.Host.modules c.args.self.now) (store_of c.args.state.now) c.args.current.now).value) (sym c.contains.ensures ∙ w.if-contains.true) ∙ sym w.is_unit_at.ensures ∙ w.if-is_unit_at.false
           | reach-else-contains-via-else-contains w ↦ ap (λ b. b && is_unit (current_in (setting g.H.Host.answers g.H.Host.modules c.args.self.now) (store_of c.args.state.now) c.args.current.now).value) (sym c.contains.ensures ∙ w.if-contains.false)
         ] in
-    rw (p.1, p.2) (reach_gone (setting g.H.Host.answers g.H.Host.modules c.args.self.now) c.args.self.now.in_loop c.args.rest c.link-link.result (c.link-link.ensures.steps c.args.self.now.in_loop) c.args.current c.args.state.now goes_on c.if-link.false c.access.new.state c.in_ok-access.access c.in_ok-access.ensures _ c.in_err-refreshed.ensures)
+    rw (p.1, p.2) (reach_gone (setting g.H.Host.answers g.H.Host.modules c.args.self.now) c.args.self.now.in_loop c.args.rest c.link-link.result (c.link-link.ensures.steps c.args.self.now.in_loop) c.args.current.now c.args.state.now goes_on c.if-link.false c.access.new.state c.in_ok-access.access c.in_ok-access.ensures _ c.in_err-refreshed.ensures)
 
 pub reach-returns : goal.reach-returns
 reach-returns g t c =
@@ -692,7 +692,7 @@ reach-returns g t c =
           | reach-else-contains-via-then-contains+else-is_unit_at w ↦ ap (λ b. b && is_unit (current_in (setting g.H.Host.answers g.H.Host.modules c.args.self.now) (store_of c.args.state.now) c.args.current.now).value) (sym c.contains.ensures ∙ w.if-contains.true) ∙ sym w.is_unit_at.ensures ∙ w.if-is_unit_at.false
           | reach-else-contains-via-else-contains w ↦ ap (λ b. b && is_unit (current_in (setting g.H.Host.answers g.H.Host.modules c.args.self.now) (store_of c.args.state.now) c.args.current.now).value) (sym c.contains.ensures ∙ w.if-contains.false)
         ] in
-    reach_runs (setting g.H.Host.answers g.H.Host.modules c.args.self.now) c.args.self.now.in_loop c.args.rest c.link-link.result (c.link-link.ensures.steps c.args.self.now.in_loop) c.args.current c.args.state.now goes_on c.if-link.false c.access.new.state c.in_ok-access.access c.in_ok-access.ensures c.in_ok-refreshed.field-0 c.in_ok-refreshed.ensures
+    reach_runs (setting g.H.Host.answers g.H.Host.modules c.args.self.now) c.args.self.now.in_loop c.args.rest c.link-link.result (c.link-link.ensures.steps c.args.self.now.in_loop) c.args.current.now c.args.state.now goes_on c.if-link.false c.access.new.state c.in_ok-access.access c.in_ok-access.ensures c.in_ok-refreshed.field-0 c.in_ok-refreshed.ensures
 
 pub method_access-returns-then-not-is_callable : goal.method_access-returns-then-not-is_callable
 method_access-returns-then-not-is_callable g t c =
