@@ -117,7 +117,7 @@ module _ (here : Setting) (f : Text) (v : Value) (vs : List Value) (s s1 : State
 -- a call by what is found among the script's functions
 module _ (here : Setting) (keys : here.world.functions ≡ map key_of here.functions) (fs : List ScriptFuncDef) (all : here.functions ≡ all_run fs) (f : Text) (vs : List Value) (v : Value) (n : ℕ) (t : Text) (c : n ≡ length vs) (e : t ≡ type_name v) where
   pub found_fits : (d : ScriptFuncDef) → Some d ≡ method_in fs f n t → weight (stmts_of d.body.block) ≤ bodies_weight (map reading.function_of fs)
-  found_fits d h = (method_found here keys fs all f vs v n t c e d h).2.2.2
+  found_fits d h = (method_found here keys fs all f vs v n t c e d h).2.2
 
   module _ (s s1 : State) (r : Result (Dynamic × Option Dynamic) Interrupt) where
     pub found_runs : (d : ScriptFuncDef) → Some d ≡ method_in fs f n t → (function_of here.functions (definition_key d) ≡ Some (run_of d) → RunsInvoke here (record { function = definition_key d; captures = false; this = Some v; arguments = vs }) s r s1) → CallsMethod here f v vs s r s1

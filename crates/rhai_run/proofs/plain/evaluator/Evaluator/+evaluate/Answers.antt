@@ -680,8 +680,8 @@ reach-returns-in_err-refreshed g t c =
     let p = err_from_is_err_and c.from_residual-in_err-refreshed.result c.from_residual-in_err-refreshed.ensures.1 in
     let goes_on : (is_negated c.args.rest.options && is_unit (current_in (setting g.H.Host.answers g.H.Host.modules c.args.self.now) (store_of c.args.state.now) c.args.current.now).value) ≡ false =
         elim c.else-contains.branch [
-          | reach-else-contains-via-then-contains+else-is_unit_at w ↦ ap (λ b. b && is_unit (current_in (setting g.H.Host.answers g.H.Host.modules c.args.self.now) (store_of c.args.state.now) c.args.current.now).value) (sym c.contains.ensures ∙ w.if-contains.true) ∙ sym w.is_unit_at.ensures ∙ w.if-is_unit_at.false
-          | reach-else-contains-via-else-contains w ↦ ap (λ b. b && is_unit (current_in (setting g.H.Host.answers g.H.Host.modules c.args.self.now) (store_of c.args.state.now) c.args.current.now).value) (sym c.contains.ensures ∙ w.if-contains.false)
+          | reach-else-contains-via-then-contains+else-is_unit_at w ↦ ap (λ b. b && is_unit (current_in (setting g.H.Host.answers g.H.Host.modules c.args.self.now) (store_of c.args.state.now) c.args.current.now).value) (sym (c.contains.ensures tt) ∙ w.if-contains.true) ∙ sym w.is_unit_at.ensures ∙ w.if-is_unit_at.false
+          | reach-else-contains-via-else-contains w ↦ ap (λ b. b && is_unit (current_in (setting g.H.Host.answers g.H.Host.modules c.args.self.now) (store_of c.args.state.now) c.args.current.now).value) (sym (c.contains.ensures tt) ∙ w.if-contains.false)
         ] in
     rw (p.1, p.2) (reach_gone (setting g.H.Host.answers g.H.Host.modules c.args.self.now) c.args.self.now.in_loop c.args.rest c.link-link.result (c.link-link.ensures.steps c.args.self.now.in_loop) c.args.current.now c.args.state.now goes_on c.if-link.false c.access.new.state c.in_ok-access.access c.in_ok-access.ensures _ c.in_err-refreshed.ensures)
 
@@ -689,8 +689,8 @@ pub reach-returns : goal.reach-returns
 reach-returns g t c =
     let goes_on : (is_negated c.args.rest.options && is_unit (current_in (setting g.H.Host.answers g.H.Host.modules c.args.self.now) (store_of c.args.state.now) c.args.current.now).value) ≡ false =
         elim c.else-contains.branch [
-          | reach-else-contains-via-then-contains+else-is_unit_at w ↦ ap (λ b. b && is_unit (current_in (setting g.H.Host.answers g.H.Host.modules c.args.self.now) (store_of c.args.state.now) c.args.current.now).value) (sym c.contains.ensures ∙ w.if-contains.true) ∙ sym w.is_unit_at.ensures ∙ w.if-is_unit_at.false
-          | reach-else-contains-via-else-contains w ↦ ap (λ b. b && is_unit (current_in (setting g.H.Host.answers g.H.Host.modules c.args.self.now) (store_of c.args.state.now) c.args.current.now).value) (sym c.contains.ensures ∙ w.if-contains.false)
+          | reach-else-contains-via-then-contains+else-is_unit_at w ↦ ap (λ b. b && is_unit (current_in (setting g.H.Host.answers g.H.Host.modules c.args.self.now) (store_of c.args.state.now) c.args.current.now).value) (sym (c.contains.ensures tt) ∙ w.if-contains.true) ∙ sym w.is_unit_at.ensures ∙ w.if-is_unit_at.false
+          | reach-else-contains-via-else-contains w ↦ ap (λ b. b && is_unit (current_in (setting g.H.Host.answers g.H.Host.modules c.args.self.now) (store_of c.args.state.now) c.args.current.now).value) (sym (c.contains.ensures tt) ∙ w.if-contains.false)
         ] in
     reach_runs (setting g.H.Host.answers g.H.Host.modules c.args.self.now) c.args.self.now.in_loop c.args.rest c.link-link.result (c.link-link.ensures.steps c.args.self.now.in_loop) c.args.current.now c.args.state.now goes_on c.if-link.false c.access.new.state c.in_ok-access.access c.in_ok-access.ensures c.in_ok-refreshed.field-0 c.in_ok-refreshed.ensures
 
