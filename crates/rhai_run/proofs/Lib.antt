@@ -34,7 +34,9 @@ pub mod SmallRuns
 pub mod Placing
 pub mod Writing
 pub mod Chaining
+pub mod Quiet
 pub mod Links
 pub mod Steps
+pub mod Targets
 pub mod Methods
 pub mod Whole

@@ -11,3 +11,4 @@ pub mod Evaluating
 pub mod Words
 pub mod Placing
 pub mod Chaining
+pub mod Targets

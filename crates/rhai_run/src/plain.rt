@@ -20,6 +20,7 @@ mod placing;
 mod pointers;
 mod state;
 mod statements;
+mod targets;
 mod values;
 mod variables;
 mod words;

@@ -15,6 +15,7 @@ ghost use Rattle.rhai_run.specs.declared.plain.placing.Current.TheVariants as ki
 ghost use Rattle.rhai_run.specs.Placing as spec;
 ghost use Rattle.rhai_run.specs.Runs.{Acting, Leads, Leaving, given, stop_of};
 ghost use Rattle.rhai_run.specs.State.{store_of};
+ghost use Rattle.rhai_run.specs.Targets.{Finds, found_in};
 
 use crate::plain::evaluator::Evaluator;
 use crate::plain::placing::{Current, Place, at_key};
@@ -35,6 +36,15 @@ pub struct PropertyNames<'a> {
     pub name: &'a ImmutableString,
 }
 
+/// What a step has found: where it leads, or a value without a place.
+#[derive(Drop)]
+pub enum Found {
+    /// The part at a key.
+    Part(PlaceKey),
+    /// A value of its own.
+    Value(Dynamic),
+}
+
 impl<'a, H: Host> Evaluator<'a, H> {
     /// A property: the entry of a map, or what the host's getter answers.
     pub fn property<'c>(
@@ -45,10 +55,23 @@ impl<'a, H: Host> Evaluator<'a, H> {
     ) -> Result<Current<'c>, Interrupt>
         ensures { let here = setting H.answers H.modules self.now in let c = spec.current_in here (store_of state.old) current.entry in StepsOn here (λ next. chains.property (names_meant names.entry) c c.value next) state.old result state.new }
     {
+        let found = self.find_property(state, names, &current)?;
+        Ok(found_at(current, found)?)
+    }
+
+    /// Where a property is, or its value.
+    pub fn find_property(
+        &self,
+        state: &mut State,
+        names: PropertyNames,
+        current: &Current,
+    ) -> Result<Found, Interrupt>
+        ensures { let here = setting H.answers H.modules self.now in let c = spec.current_in here (store_of state.old) current.now in Finds here c (λ next. chains.property (names_meant names.entry) c c.value next) state.old result state.new }
+    {
         let key = PlaceKey::AtEntry(names.name.clone()?);
-        let part = self.current_part(state, &current);
+        let part = self.current_part(state, current);
         if part.inside(&key).is_some() {
-            return Ok(at_key(current, key)?);
+            return Ok(Found::Part(key));
         }
         let receiver = part.to_value()?;
         let args = Seq::new(self.alloc);
@@ -64,16 +87,47 @@ impl<'a, H: Host> Evaluator<'a, H> {
     ) -> Result<Current<'c>, Interrupt>
         ensures { let here = setting H.answers H.modules self.now in let c = spec.current_in here (store_of state.old) current.entry in StepsOn here (λ next. chains.index c c.value (value_of index_value) next) state.old result state.new }
     {
-        match index(self.current_part(state, &current), index_value) {
-            Indexed::Part(key) => Ok(at_key(current, key)?),
-            Indexed::Value(value) => Ok(Current::Loose(value)),
+        let found = self.find_index(state, &current, index_value)?;
+        Ok(found_at(current, found)?)
+    }
+
+    /// Where an index leads, or its value.
+    pub fn find_index(
+        &self,
+        state: &mut State,
+        current: &Current,
+        index_value: Dynamic,
+    ) -> Result<Found, Interrupt>
+        ensures { let here = setting H.answers H.modules self.now in let c = spec.current_in here (store_of state.old) current.now in Finds here c (λ next. chains.index c c.value (value_of index_value) next) state.old result state.new }
+    {
+        match index(self.current_part(state, current), index_value) {
+            Indexed::Part(key) => Ok(Found::Part(key)),
+            Indexed::Value(value) => Ok(Found::Value(value)),
             Indexed::Throws(text) => Err(thrown(self.alloc, text)?),
             Indexed::AsksHost(index_value) => {
-                let receiver = self.current_value(state, current)?;
+                let receiver = self.copied(state, current)?;
                 let name = ImmutableString::new(self.alloc, "index$get$")?;
                 let args = Seq::from_array(self.alloc, [index_value])?;
                 self.ask_for(state, name, receiver, args)
             }
+        }
+    }
+
+    /// The value that a step has found.
+    pub fn found_value(
+        &self,
+        state: &State,
+        current: &Current,
+        found: Found,
+    ) -> Result<Dynamic, AllocError>
+        ensures { IfOk result (λ v. value_of v ≡ (found_in (spec.current_in (setting H.answers H.modules self.now) (store_of state.now) current.now) found).value) }
+    {
+        match found {
+            Found::Part(key) => match self.current_part(state, current).inside(&key) {
+                Some(part) => part.to_value(),
+                None => Ok(Dynamic::Unit),
+            },
+            Found::Value(value) => Ok(value),
         }
     }
 
@@ -133,17 +187,17 @@ impl<'a, H: Host> Evaluator<'a, H> {
     }
 
     /// The value that the host answers for a receiver, whose new value is not kept.
-    fn ask_for<'c>(
+    fn ask_for(
         &self,
         state: &mut State,
         name: ImmutableString,
         receiver: Dynamic,
         args: Seq<Dynamic>,
-    ) -> Result<Current<'c>, Interrupt>
-        ensures { StepsOn (setting H.answers H.modules self.now) (λ next. chains.ask_for name (value_of receiver) (map value_of args) next) state.old result state.new }
+    ) -> Result<Found, Interrupt>
+        ensures { (c : _) → Finds (setting H.answers H.modules self.now) c (λ next. chains.ask_for name (value_of receiver) (map value_of args) next) state.old result state.new }
     {
         let (value, _) = self.ask_method(state, name, receiver, args)?;
-        Ok(Current::Loose(value))
+        Ok(Found::Value(value))
     }
 
     /// What the host answers for a receiver: the value, and the receiver's new one if any.
@@ -167,6 +221,16 @@ impl<'a, H: Host> Evaluator<'a, H> {
             HostAnswer::Value { value, receiver } => Ok((value, receiver)),
             HostAnswer::Throw(value) => Err(Interrupt::Throw(value)),
         }
+    }
+}
+
+/// What a step has found, at its place if it has one.
+fn found_at<'a>(current: Current<'a>, found: Found) -> Result<Current<'a>, AllocError>
+    ensures { IfOk result (λ c. (here : _) (st : _) → spec.current_in here st c ≡ found_in (spec.current_in here st current.entry) found) }
+{
+    match found {
+        Found::Part(key) => at_key(current, key),
+        Found::Value(value) => Ok(Current::Loose(value)),
     }
 }
 
