@@ -65,7 +65,7 @@ module _ (here : Setting) (step : (places.Current → Act) → Act) (q : QuietSt
   -- the names after `op=` was worked out
   module _ (o : Operator) (v : Value) (x : Dynamic) (k : Changes here o v step s (Ok x) s1) where
     pub change_stays : current_in here (store_of s1) cur ≡ at_first
-    change_stays = same_current here cur (store_of s) (store_of s1) (quiet_stays here (step (λ d. assigned here.world (Some o) d.value v >>= give)) s s1 _ (q (λ d. assigned here.world (Some o) d.value v >>= give) (λ d. quiet_then here _ give (quiet_assigned here o d.value v) (quiet_give here))) (goes_then here (k give) (gives here _ _ s1 refl)))
+    change_stays = same_current here cur (store_of s) (store_of s1) (quiet_stays here (step (λ d. assigned here.world (Some o) d.value v >>= give)) s s1 _ (q (λ d. assigned here.world (Some o) d.value v >>= give) (λ d. quiet_then here (assigned here.world (Some o) d.value v) give (quiet_assigned here o d.value v) (quiet_give here))) (goes_then here (k give) (gives here _ _ s1 refl)))
 
 -- ---- the last step
 
