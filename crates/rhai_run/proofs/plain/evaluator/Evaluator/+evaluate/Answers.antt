@@ -28,6 +28,9 @@ use Rattle.rhai_run.specs.Evaluating.{arms_here, bodies_weight, body_of, expr_co
 use Rattle.rhai_run.specs.Runs.{Acting, Halting, Runs, given, stop_of}
 use Rattle.rhai_run.specs.Variables.{root_meant}
 use Rattle.rhai_run.specs.Words.{word_meant}
+use Rattle.rhai_run.specs.declared.plain.chains.Access.TheVariants as reached
+use Rattle.rhai_run.proofs.Quiet.{quiet_index, quiet_property}
+use Rattle.rhai_run.proofs.Targets.{last_plain, last_stops, last_written, target_applied_stops, target_last, target_more, target_stops, target_unit}
 use Rattle.rhai_run.proofs.ByKind.{array_of_expr, block_of_stmt, braces_of_expr, call_of_expr, call_of_stmt, dot_of_expr, for_of_stmt, if_of_stmt, index_of_expr, map_of_expr, method_of_expr, property_of_expr, switch_of_stmt, text_of_expr}
 use Rattle.rhai_run.proofs.Counted.{each_ends, each_next, each_stops, for_array, for_body_runs, for_closed_range, for_range, for_round_runs, range_end, range_ends, range_next, range_start, range_stops}
 use Rattle.rhai_run.proofs.Exits.{catch_runs, try_catches, try_ends, try_stops}
@@ -727,3 +730,46 @@ to_method-returns-in_err-put_back g t c =
 pub to_method-returns : goal.to_method-returns
 to_method-returns g t c =
     λ is. back_runs (setting g.H.Host.answers g.H.Host.modules c.args.self.now) c.args.name.now (map value_of c.args.args) c.args.current c.args.state.now c.args.receiver is c.call_method.new.state c.put_back.new.state (c.in_ok-value.value, c.in_ok-value.receiver) c.in_ok-value.ensures c.in_ok-put_back.ensures
+
+-- assignments to parts
+pub assign_steps-returns-in_err-access : goal.assign_steps-returns-in_err-access
+assign_steps-returns-in_err-access g t c =
+    let p = err_from_is_err_and c.from_residual.result c.from_residual.ensures.1 in
+    rw (p.1, p.2) (target_stops (setting g.H.Host.answers g.H.Host.modules c.args.self.now) c.args.self.now.in_loop c.args.rest c.link-link.result (c.link-link.ensures.steps c.args.self.now.in_loop) (operator_of c.args.op.now.op) (value_of c.args.value) c.args.current c.args.state.now c.reach.new.state _ c.in_err-access.ensures)
+
+pub assign_steps-returns-in_default : goal.assign_steps-returns-in_default
+assign_steps-returns-in_default g t c = target_unit (setting g.H.Host.answers g.H.Host.modules c.args.self.now) c.args.self.now.in_loop c.args.rest c.link-link.result (c.link-link.ensures.steps c.args.self.now.in_loop) (operator_of c.args.op.now.op) (value_of c.args.value) c.args.current c.args.state.now c.reach.new.state (rw c.in_default.is at c.in_ok-access.ensures)
+
+pub assign_steps-returns-in_err-current-in-Some-rest : goal.assign_steps-returns-in_err-current-in-Some-rest
+assign_steps-returns-in_err-current-in-Some-rest g t c =
+    let p = err_from_is_err_and c.from_residual-in_err-current-in-Some-rest.result c.from_residual-in_err-current-in-Some-rest.ensures.1 in
+    rw (p.1, p.2) (target_applied_stops (setting g.H.Host.answers g.H.Host.modules c.args.self.now) c.args.self.now.in_loop c.args.rest c.link-link.result (c.link-link.ensures.steps c.args.self.now.in_loop) (operator_of c.args.op.now.op) (value_of c.args.value) c.args.current c.args.state.now c.reach.new.state c.in-Some.access (rw c.in-Some.is at c.in_ok-access.ensures) c.applied.new.state c.in-Some-rest.rest c.in-Some-rest.is _ c.in_err-current-in-Some-rest.ensures)
+
+pub assign_steps-returns-in_ok-current-in-Some-rest : goal.assign_steps-returns-in_ok-current-in-Some-rest
+assign_steps-returns-in_ok-current-in-Some-rest g t c =
+    target_more (setting g.H.Host.answers g.H.Host.modules c.args.self.now) c.args.self.now.in_loop c.args.rest c.link-link.result (c.link-link.ensures.steps c.args.self.now.in_loop) (operator_of c.args.op.now.op) (value_of c.args.value) c.args.current c.args.state.now c.reach.new.state c.in-Some.access (rw c.in-Some.is at c.in_ok-access.ensures) c.applied.new.state c.in-Some-rest.rest c.in-Some-rest.is c.in_ok-current-in-Some-rest.current c.assign_steps.new.state c.assign_steps.result c.in_ok-current-in-Some-rest.ensures c.assign_steps.ensures
+
+pub assign_steps-returns-in-None : goal.assign_steps-returns-in-None
+assign_steps-returns-in-None g t c =
+    target_last (setting g.H.Host.answers g.H.Host.modules c.args.self.now) c.args.self.now.in_loop c.args.rest c.link-link.result (c.link-link.ensures.steps c.args.self.now.in_loop) (operator_of c.args.op.now.op) (value_of c.args.value) c.args.current c.args.state.now c.reach.new.state c.in-Some.access (rw c.in-Some.is at c.in_ok-access.ensures) c.assign_last.new.state c.assign_last.result c.in-None.is c.assign_last.ensures
+
+pub assign_last-returns-in_default : goal.assign_last-returns-in_default
+assign_last-returns-in_default g t c = last_plain (setting g.H.Host.answers g.H.Host.modules c.args.self.now) (operator_of c.args.op.now.op) (value_of c.args.value) c.args.access c.args.current c.args.state.now c.in_default.ensures c.set_at.result _ c.set_at.ensures
+
+pub assign_last-returns-in_err-written-in-Property : goal.assign_last-returns-in_err-written-in-Property
+assign_last-returns-in_err-written-in-Property g t c =
+    let p = err_from_is_err_and c.from_residual-in_err-written-in-Property.result c.from_residual-in_err-written-in-Property.ensures.1 in
+    rw (p.1, p.2) (last_stops (setting g.H.Host.answers g.H.Host.modules c.args.self.now) (operator_of c.args.op.now.op) (value_of c.args.value) (reached.Property c.in-Property.names) c.args.current c.args.state.now c.in-Some.token c.in-Some.ensures _ c.changed_property.new.state c.in_err-written-in-Property.ensures)
+
+pub assign_last-returns-in_ok-written-in-Property : goal.assign_last-returns-in_ok-written-in-Property
+assign_last-returns-in_ok-written-in-Property g t c =
+    last_written (setting g.H.Host.answers g.H.Host.modules c.args.self.now) (operator_of c.args.op.now.op) (value_of c.args.value) (reached.Property c.in-Property.names) c.args.current c.args.state.now c.in-Some.token c.in-Some.ensures (λ next q. quiet_property (setting g.H.Host.answers g.H.Host.modules c.args.self.now) next q (names_meant c.in-Property.names) (current_in (setting g.H.Host.answers g.H.Host.modules c.args.self.now) (store_of c.args.state.now) c.args.current) (current_in (setting g.H.Host.answers g.H.Host.modules c.args.self.now) (store_of c.args.state.now) c.args.current).value) c.in_ok-written-in-Property.written c.changed_property.new.state c.set_at-in-Property.new.state c.set_at-in-Property.result c.in_ok-written-in-Property.ensures c.set_at-in-Property.ensures
+
+pub assign_last-returns-in_err-written-in-Index : goal.assign_last-returns-in_err-written-in-Index
+assign_last-returns-in_err-written-in-Index g t c =
+    let p = err_from_is_err_and c.from_residual-in_err-written-in-Index.result c.from_residual-in_err-written-in-Index.ensures.1 in
+    rw (p.1, p.2) (last_stops (setting g.H.Host.answers g.H.Host.modules c.args.self.now) (operator_of c.args.op.now.op) (value_of c.args.value) (reached.Index c.in-Index.index) c.args.current c.args.state.now c.in-Some.token c.in-Some.ensures _ c.changed_index.new.state c.in_err-written-in-Index.ensures)
+
+pub assign_last-returns-in_ok-written-in-Index : goal.assign_last-returns-in_ok-written-in-Index
+assign_last-returns-in_ok-written-in-Index g t c =
+    last_written (setting g.H.Host.answers g.H.Host.modules c.args.self.now) (operator_of c.args.op.now.op) (value_of c.args.value) (reached.Index c.in-Index.index) c.args.current c.args.state.now c.in-Some.token c.in-Some.ensures (λ next q. quiet_index (setting g.H.Host.answers g.H.Host.modules c.args.self.now) next q (current_in (setting g.H.Host.answers g.H.Host.modules c.args.self.now) (store_of c.args.state.now) c.args.current) (current_in (setting g.H.Host.answers g.H.Host.modules c.args.self.now) (store_of c.args.state.now) c.args.current).value (value_of c.in-Index.index)) c.in_ok-written-in-Index.written c.changed_index.new.state c.set_at-in-Index.new.state c.set_at-in-Index.result c.in_ok-written-in-Index.ensures c.set_at-in-Index.ensures

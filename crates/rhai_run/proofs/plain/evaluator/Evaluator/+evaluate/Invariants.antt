@@ -236,3 +236,12 @@ invariant-repeated-loop-value g l = let here = setting g.H.Host.answers g.H.Host
 
 abbrev pub decreases-repeated-loop-value : goal.decreases-repeated-loop-value
 decreases-repeated-loop-value g l = l.state.turns
+
+abbrev pub decreases-assign_steps : goal.decreases-assign_steps
+decreases-assign_steps g l = level l.self.now.depth (bodies_weight (functions_of l.self.now.functions.now)) + 9 * expr_weight (expr_of l.rest.right.now) + 10
+
+abbrev pub decreases-assign_last : goal.decreases-assign_last
+decreases-assign_last g l = level l.self.now.depth (bodies_weight (functions_of l.self.now.functions.now)) + 9
+
+abbrev pub decreases-changed_method : goal.decreases-changed_method
+decreases-changed_method g l = level l.self.now.depth (bodies_weight (functions_of l.self.now.functions.now)) + 8
