@@ -29,6 +29,9 @@ use Rattle.rhai_run.specs.Runs.{Acting, Halting, Runs, given, stop_of}
 use Rattle.rhai_run.specs.Variables.{root_meant}
 use Rattle.rhai_run.specs.Words.{word_meant}
 use Rattle.rhai_run.specs.declared.plain.chains.Access.TheVariants as reached
+use Rattle.rhai_run.specs.Chaining.{names_meant}
+use Rattle.rhai_run.specs.Placing.{current_in}
+use Rattle.rhai_run.specs.State.{store_of}
 use Rattle.rhai_run.proofs.Quiet.{quiet_index, quiet_property}
 use Rattle.rhai_run.proofs.Targets.{last_plain, last_stops, last_written, target_applied_stops, target_last, target_more, target_stops, target_unit}
 use Rattle.rhai_run.proofs.ByKind.{array_of_expr, block_of_stmt, braces_of_expr, call_of_expr, call_of_stmt, dot_of_expr, for_of_stmt, if_of_stmt, index_of_expr, map_of_expr, method_of_expr, property_of_expr, switch_of_stmt, text_of_expr}
