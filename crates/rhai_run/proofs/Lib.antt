@@ -36,5 +36,6 @@ pub mod Writing
 pub mod Chaining
 pub mod Links
 pub mod Steps
+pub mod PartWrites
 pub mod Methods
 pub mod Whole

@@ -90,18 +90,18 @@ module _ (here : Setting) (loop : Bool) (e : tree.Expr) (s s1 : State) where
 -- ---- one step
 
 module _ (here : Setting) (loop : Bool) (rest : Rest) (l : Link) (h : rest_steps loop rest ≡ link_steps loop rest l) where
-  abbrev step_here : core.Step
+  abbrev pub step_here : core.Step
   step_here = step_in loop rest.is_dot l.is_exported (expr_of l.argument.now)
 
   head_by : (o : Option Rest) → head_of (steps_on loop (is_negated rest.options) step_here o) ≡ step_here
   head_by None = refl
   head_by (Some r) = refl
 
-  head_is : head_of (rest_steps loop rest) ≡ step_here
+  pub head_is : head_of (rest_steps loop rest) ≡ step_here
   head_is = ap head_of h ∙ head_by l.rest
 
   -- what a chain does before it goes on
-  abbrev first_step : core.Step → places.Current → (chains.Access → places.Current → Act) → Act
+  abbrev pub first_step : core.Step → places.Current → (chains.Access → places.Current → Act) → Act
   first_step p c next = unless_unit (is_negated rest.options) c (access here.world p (λ a. refreshed c (λ d. next a d)))
 
   -- what it does then

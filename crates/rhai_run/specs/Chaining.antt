@@ -18,7 +18,7 @@ use Rattle.rhai_meaning.specs.Calls.{curried, key}
 use Rattle.rhai_meaning.specs.Chains as chains
 use Rattle.rhai_meaning.specs.Chains.{method_key, unless_unit, value_alone}
 use Rattle.rhai_meaning.specs.Core as core
-use Rattle.rhai_meaning.specs.Desugar.{based, core_expr, core_exprs, member_of, method_of, root_of, steps_of}
+use Rattle.rhai_meaning.specs.Desugar.{based, core_expr, core_exprs, ends_in_call, member_of, method_of, part_target, root_of, steps_of}
 use Rattle.rhai_meaning.specs.Engine.{Engine, mapped_type_name}
 use Rattle.rhai_meaning.specs.Meaning.{access}
 use Rattle.rhai_meaning.specs.Places as places
@@ -33,7 +33,7 @@ use Rattle.rhai_run.specs.declared.plain.parts.PropertyNames.{PropertyNames}
 use Rattle.rhai_run.specs.declared.plain.placing.Current.{Current}
 use Rattle.rhai_run.specs.declared.plain.state.Interrupt.{Interrupt}
 use Rattle.rhai_run.specs.declared.plain.state.State.{State}
-use Rattle.rhai_run.specs.Covered.{covered_expr, covered_step, covered_steps}
+use Rattle.rhai_run.specs.Covered.{covered_expr, covered_step, covered_steps, covered_target}
 use Rattle.rhai_run.specs.Placing.{current_in}
 use Rattle.rhai_run.specs.Runs.{Setting, Task, Acting, Leads, given}
 use Rattle.rhai_run.specs.State.{store_of}
@@ -105,6 +105,10 @@ Reaches here loop rest c s r s' =
 -- a chain by its outermost node
 abbrev pub chain_core : (loop dot : Bool) → tree.ChainFlags → tree.Expr → tree.Expr → core.Expr
 chain_core loop dot k l r = covered_expr (cond (is_chain dot k r) (core.Chain (based (root_of l) (core_expr loop l)) (steps_of loop dot k (step_core loop dot r) r)) core.Ill)
+
+-- a chain that is assigned to, by its outermost node
+abbrev pub part_core : (loop dot : Bool) → tree.ChainFlags → tree.Expr → tree.Expr → core.Target
+part_core loop dot k l r = covered_target (cond (is_chain dot k r) (part_target (root_of l) (ends_in_call dot k.breaks r) (steps_of loop dot k (step_core loop dot r) r)) core.IllTarget)
 
 -- ---- methods
 

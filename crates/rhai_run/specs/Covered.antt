@@ -1,7 +1,7 @@
 -- How far the evaluator goes yet: all else has no meaning in what it runs.
 use Rattle.std.specs.Prelude.{map, Option}
 use Rattle.rhai_base.specs.Operators.{Operator}
-use Rattle.rhai_meaning.specs.Core.{Expr, Ill, Constant, InterpolatedString, ArrayOf, MapOf, Variable, ModuleVariable, ThisPtr, BlockExpr, FnCall, Chain, And, Or, Coalesce, Exprs, no_exprs, expr, Pairs, no_pairs, pair, Base, OnPlace, OnValue, Step, IllStep, Property, Index, Method, Steps, last, more, Target, ToRoot, Guard, Always, When, Arms, no_arms, arm, Deed, IllDeed, Noop, If, Switch, While, Do, For, Assignment, Block, TryCatch, Evaluate, Leave, Stmt, Var, Does, Stmts, no_stmts, stmt, Function, Script}
+use Rattle.rhai_meaning.specs.Core.{Expr, Ill, Constant, InterpolatedString, ArrayOf, MapOf, Variable, ModuleVariable, ThisPtr, BlockExpr, FnCall, Chain, And, Or, Coalesce, Exprs, no_exprs, expr, Pairs, no_pairs, pair, Base, OnPlace, OnValue, Step, IllStep, Property, Index, Method, Steps, last, more, Target, IllTarget, Nowhere, ToRoot, ToPart, Guard, Always, When, Arms, no_arms, arm, Deed, IllDeed, Noop, If, Switch, While, Do, For, Assignment, Block, TryCatch, Evaluate, Leave, Stmt, Var, Does, Stmts, no_stmts, stmt, Function, Script}
 
 abbrev pub covered_assignment : Option Operator → Target → Expr → Deed
 covered_assignment op (ToRoot r) e = Assignment op (ToRoot r) e
@@ -75,6 +75,13 @@ abbrev mutual
   pub covered_stmts : Stmts → Stmts
   covered_stmts no_stmts = no_stmts
   covered_stmts (stmt s ss) = stmt (covered_stmt s) (covered_stmts ss)
+
+-- what an assignment's left side stands for
+abbrev pub covered_target : Target → Target
+covered_target IllTarget = IllTarget
+covered_target Nowhere = Nowhere
+covered_target (ToRoot r) = ToRoot r
+covered_target (ToPart r sts) = ToPart r (covered_steps sts)
 
 abbrev pub covered_function : Function → Function
 covered_function f = record { name = f.name; this_type = f.this_type; params = f.params; body = covered_stmts f.body }
