@@ -124,7 +124,7 @@ property_set_asks p v at c (PointerV f vs) h = refl
 property_set_asks p v at c (RangeV a b) h = refl
 property_set_asks p v at c (RangeInclusiveV a b) h = refl
 
-is_some_by : {A : Type 0} (o : Option A) (f : A → Value) (v : Option Value) → is_some o ≡ true → option_map f o ≡ v → (w : Value) × (v ≡ Some w)
+pub is_some_by : {A : Type 0} (o : Option A) (f : A → Value) (v : Option Value) → is_some o ≡ true → option_map f o ≡ v → (w : Value) × (v ≡ Some w)
 is_some_by (Some a) f v h e = (f a, sym e)
 is_some_by None f v h e = absurd (cc)
 

@@ -11,4 +11,5 @@ returns-in_err-receiver-2 g c =
     rw (p.1, p.2) (host_stops (setting g.H.Host.answers g.H.Host.modules c.args.self.now) c.args.current c.args.state.now c.ask_method.new.state c.args.name c.in_ok-receiver.receiver (map value_of c.args.args) c.in_ok-receiver.ensures _ c.in_err-receiver-2.ensures)
 
 pub returns : goal.returns
-returns g c = ?
+returns g c =
+    host_sets (setting g.H.Host.answers g.H.Host.modules c.args.self.now) c.args.current c.args.state.now c.ask_method.new.state c.args.name c.in_ok-receiver.receiver (map value_of c.args.args) c.in_ok-receiver.ensures (c.in_ok-receiver-2.field-0-0, c.in_ok-receiver-2.receiver) c.in_ok-receiver-2.ensures c.put_back.new.state c.put_back.result c.put_back.ensures
