@@ -4,7 +4,7 @@ use Rattle.rhai_values.specs.Value.{Value}
 use Rattle.rhai_meaning.specs.Core.{Ill, Constant, ArrayOf, BlockExpr, FnCall, And, Exprs, expr, If, Block, Evaluate, Does, stmt}
 use Rattle.rhai_meaning.specs.Desugar.{callee_by, core_expr, core_exprs, core_stmt, core_stmts}
 use Rattle.rhai_meaning.specs.Shape.{is_unit, is_callable}
-use Rattle.rhai_meaning.specs.Small.{CallsOperator}
+use Rattle.rhai_meaning.specs.OperatorCalls.{CallsOperator}
 use Rattle.rhai_run.specs.Covered.{covered_expr, covered_exprs}
 use Rattle.rhai_run.specs.Evaluating.{expr_core, exprs_core, stmt_core, stmts_core}
 use Rattle.rhai_meaning.specs.Tree as tree

@@ -11,7 +11,7 @@ use Rattle.rhai_meaning.specs.Engine.{Engine, built_in}
 use Rattle.rhai_meaning.specs.Meaning.{act, acts, both, deed, line, with_args}
 use Rattle.rhai_meaning.specs.Run.{AtStatements, body_acts, env_at, key_of, run_script, world_of}
 use Rattle.rhai_meaning.specs.Shape.{is_callable, is_unit}
-use Rattle.rhai_meaning.specs.Small.{is_operator, CallsOperator, CallsOperatorsAlone}
+use Rattle.rhai_meaning.specs.OperatorCalls.{is_operator, CallsOperator, CallsOperatorsAlone}
 use Rattle.rhai_meaning.specs.Tree as tree
 use Rattle.rhai_meaning.specs.Walk.{every, over_expr, over_exprs, over_stmt, over_stmts}
 use Rattle.rhai_run.specs.Covered.{covered_function, covered_script}

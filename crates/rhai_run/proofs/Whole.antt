@@ -10,7 +10,7 @@ use Rattle.rhai_meaning.specs.Desugar.{core_function, core_script}
 use Rattle.rhai_meaning.specs.Engine.{Engine}
 use Rattle.rhai_meaning.specs.Meaning.{acts}
 use Rattle.rhai_meaning.specs.Run.{AtStatements, Report, end_of, report_of, run_script, world_of}
-use Rattle.rhai_meaning.specs.Small.{CallsOperatorsAlone}
+use Rattle.rhai_meaning.specs.OperatorCalls.{CallsOperatorsAlone}
 use Rattle.rhai_meaning.specs.Tree.{Script}
 use Rattle.rhai_run.specs.declared.plain.state.Interrupt.{Interrupt}
 use Rattle.rhai_run.specs.declared.plain.state.Interrupt.TheVariants.{NoMemory, Return, Break, Continue, Throw, Stuck, OutOfTurns}

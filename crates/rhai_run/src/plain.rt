@@ -26,7 +26,7 @@ ghost use Rattle.rhai_engine.specs.EngineInfo.{engine_of};
 ghost use Rattle.rhai_run.specs.Host.{host_of};
 ghost use Rattle.rhai_run.specs.Report.{report_meant, ReportsRun};
 ghost use Rattle.rhai_run.specs.Evaluating.{EndsAs};
-ghost use Rattle.rhai_meaning.specs.Small.{CallsOperatorsAlone};
+ghost use Rattle.rhai_meaning.specs.OperatorCalls.{CallsOperatorsAlone};
 ghost use Rattle.rhai_run.specs.Covered.{covered_script};
 ghost use Rattle.rhai_run.specs.Entries.{start_scope};
 
