@@ -7,7 +7,6 @@ pub mod Walk
 pub mod Agreeing
 pub mod Depths
 pub mod SameActs
-pub mod Small
 pub mod PureActs
 pub mod PureTrees
 pub mod PurityLaws

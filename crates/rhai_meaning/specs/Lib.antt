@@ -16,7 +16,7 @@ pub mod Chains
 pub mod Control
 pub mod Meaning
 pub mod Run
-pub mod Small
+pub mod OperatorCalls
 pub mod Constants
 pub mod Queries
 pub mod Weight

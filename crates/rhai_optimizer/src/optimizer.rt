@@ -5,7 +5,7 @@ ghost use Rattle.std.specs.Rc.{rc_value};
 ghost use Rattle.rhai_reading.specs.Reading.{stmts_of};
 ghost use Rattle.rhai_engine.specs.EngineInfo.{engine_of};
 ghost use Rattle.rhai_meaning.specs.Faults.{AreWellFormed};
-ghost use Rattle.rhai_meaning.specs.Small.{CallsOperatorsAlone};
+ghost use Rattle.rhai_meaning.specs.OperatorCalls.{CallsOperatorsAlone};
 ghost use Rattle.rhai_optimizer.specs.Source.{source_of};
 ghost use Rattle.rhai_rewriting.specs.Refines.{Refines};
 ghost use Rattle.rhai_rewriting.specs.Residue.{AreReduced};

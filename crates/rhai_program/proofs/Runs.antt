@@ -7,7 +7,6 @@ use Rattle.rhai_meaning.specs.Act.{Host}
 use Rattle.rhai_meaning.specs.Desugar.{core_script}
 use Rattle.rhai_meaning.specs.Engine.{Engine}
 use Rattle.rhai_meaning.specs.Run.{AtStatements, Report, report_of, run_script}
-use Rattle.rhai_meaning.specs.Small.{CallsOperatorsAlone}
 use Rattle.rhai_meaning.specs.Tree.{Script}
 use Rattle.rhai_engine.specs.EngineInfo.{nothing_set}
 use Rattle.rhai_run.specs.Entries.{start_scope}
@@ -18,12 +17,6 @@ use Rattle.rhai_program.specs.Scripts.{statements_of}
 use Rattle.rhai_program.specs.Words.{built_in, reported}
 use Rattle.rhai_program.specs.declared.scripts.BuiltinScript.{BuiltinScript}
 use Rattle.rhai_program.specs.declared.scripts.BuiltinScript.TheVariants as script
-
--- the built-in scripts call operators alone
-pub built_in_operators : (s : BuiltinScript) → CallsOperatorsAlone (built_in s)
-built_in_operators script.First = ((tt, ((refl, ((refl, ((tt, tt), ((tt, tt), tt))), ((tt, tt), tt))), (((tt, (refl, ((tt, tt), ((tt, tt), tt)))), tt), ((tt, (refl, ((tt, tt), ((tt, tt), tt)))), tt)))), tt)
-built_in_operators script.Empty = tt
-built_in_operators script.Divide = ((tt, (refl, ((tt, tt), ((tt, tt), tt)))), tt)
 
 -- a host answers as it does
 agrees : (h : Host) (r : Report) → AgreeOn h h r.calls

@@ -5,7 +5,6 @@ use Rattle.std.specs.declared.rc.Rc.{Rc}
 use Rattle.std.specs.Rc.{rc_value}
 use Rattle.rhai_values.specs.Value.{Text}
 use Rattle.rhai_meaning.specs.Engine.{Engine}
-use Rattle.rhai_meaning.specs.Small.{CallsOperatorsAlone}
 use Rattle.rhai_meaning.specs.Tree.{Stmts, Script, Function}
 use Rattle.rhai_reading.specs.Reading.{stmts_of, function_of}
 use Rattle.rhai_tree.specs.declared.script_fn.ScriptFuncDef.{ScriptFuncDef}
@@ -38,15 +37,14 @@ pushed_show script after shown empty a b c d same h e f g i =
 -- the optimiser's answer for a built-in script
 pub optimized_built_in : (at : OptimizationLevel) (engine : Engine) (ss : List Stmt) (fs : List (Rc ScriptFuncDef Global)) (script : BuiltinScript) (ast : AST)
     → engine ≡ nothing_set → stmts_of ss ≡ statements_of script → fs ≡ []
-    → Refines engine (source_of ss fs) (script_of ast) → (CallsOperatorsAlone (source_of ss fs) → CallsOperatorsAlone (script_of ast)) → ast.lib.value.functions ≡ definitions_table (map rc_value fs)
+    → Refines engine (source_of ss fs) (script_of ast) → ast.lib.value.functions ≡ definitions_table (map rc_value fs)
     → (at ≡ level.None → ast.statements ≡ ss) → (at ≢ level.None → AreReduced engine (script_of ast).statements)
     → Optimized at (built_in script) (script_of ast)
-optimized_built_in at engine ss fs script ast e statements none runs operators table kept reduced =
+optimized_built_in at engine ss fs script ast e statements none runs table kept reduced =
     let source : source_of ss fs ≡ built_in script = ap (source_of ss) none ∙ ap (λ (x : Stmts). record { statements = x; functions = [] }) statements in
     let functions : functions_of ast.lib.value ≡ [] = ap (map function_of) table ∙ ap (λ (x : List (Rc ScriptFuncDef Global)). map function_of (definitions_table (map rc_value x))) none in
     record {
       runs = subst (λ (x : Engine). Refines x (built_in script) (script_of ast)) e (subst (λ (x : Script). Refines engine x (script_of ast)) source runs);
-      operators = subst (λ (x : Script). CallsOperatorsAlone x → CallsOperatorsAlone (script_of ast)) source operators;
       functions = functions;
       kept = λ h. ap (λ (x : Stmts). record { statements = x; functions = functions_of ast.lib.value }) (ap stmts_of (kept h) ∙ statements)
           ∙ ap (λ (x : List Function). record { statements = statements_of script; functions = x }) functions;

@@ -3,7 +3,6 @@ use Rattle.std.specs.Prelude.{◌≡◌, ◌≢◌, ℕ, ◌+◌, ◌-◌, ◌*�
 use Rattle.std.specs.Str.{all_ascii_digits}
 use Rattle.rhai_values.specs.Value.{Text, same_text}
 use Rattle.rhai_meaning.specs.Desugar.{core_script}
-use Rattle.rhai_meaning.specs.Small.{CallsOperatorsAlone}
 use Rattle.rhai_meaning.specs.Run.{AtStatements, Report, report_of, run_script}
 use Rattle.rhai_meaning.specs.Tree.{Script}
 use Rattle.rhai_optimizer.specs.declared.level.OptimizationLevel.{OptimizationLevel}
@@ -68,12 +67,10 @@ abbrev pub built_in : BuiltinScript → Script
 built_in script = record { statements = statements_of script; functions = [] }
 
 -- what the optimiser makes of a script, where the engine has nothing set: one that runs alike, with the same
--- functions, and that calls operators alone where the script does; at level `None` the script itself, else one whose
--- statements leave nothing to reduce
+-- functions; at level `None` the script itself, else one whose statements leave nothing to reduce
 pub record Optimized (at : OptimizationLevel) (before after : Script) : Type 0 where
   pub runs : Refines nothing_set before after
   pub functions : after.functions ≡ before.functions
-  pub operators : CallsOperatorsAlone before → CallsOperatorsAlone after
   pub kept : at ≡ level.None → after ≡ before
   pub reduced : at ≢ level.None → AreReduced nothing_set after.statements
 

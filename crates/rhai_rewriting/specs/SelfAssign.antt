@@ -2,7 +2,7 @@
 use Rattle.std.specs.Prelude.{Bool, true, false}
 use Rattle.rhai_base.specs.Operators.{Operator, Plus, Minus, Multiply, Divide, Modulo, Power, ShiftLeft, ShiftRight, BitAnd, BitOr, BitXor}
 use Rattle.rhai_meaning.specs.Plain.{all_true}
-use Rattle.rhai_meaning.specs.Small.{is_operator}
+use Rattle.rhai_meaning.specs.OperatorCalls.{is_operator}
 use Rattle.rhai_meaning.specs.Tree.{Expr, MethodCall, FnCall, Assignment, FnCallStmt}
 use Rattle.rhai_meaning.specs.Walk.{Node, OfExpr, OfStmt, over_expr}
 

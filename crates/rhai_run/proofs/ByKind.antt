@@ -1,5 +1,5 @@
 -- A node of a kind runs as its parts do.
-use Rattle.std.proofs.Common.{◌≡◌, Bool, true, List, map, Option, Result, Ok, Err, sym, ap, ◌∙◌, subst}
+use Rattle.std.proofs.Common.{◌≡◌, Bool, true, false, List, map, Option, Result, Ok, Err, sym, ap, ◌∙◌, subst}
 use Rattle.rhai_values.specs.declared.dynamic.Dynamic.{Dynamic}
 use Rattle.rhai_values.specs.declared.dynamic.Dynamic.TheVariants as value
 use Rattle.rhai_values.specs.Reading.{value_of}
@@ -19,16 +19,16 @@ use Rattle.rhai_tree.specs.declared.switch.SwitchBlock.{SwitchBlock}
 use Rattle.rhai_reading.specs.Reading.{arms_of, callee_of, cases_of, counter_of, expr_of, chain_flags, expr_of-Array, expr_of-Dot, expr_of-FnCall, expr_of-Index, expr_of-InterpolatedString, expr_of-Map, expr_of-MethodCall, expr_of-Property, expr_of-Stmt, exprs_of, expressions_of, keys_of, pairs_of, property_names, stmt_of, stmt_of-Block, stmt_of-FnCall, stmt_of-For, stmt_of-If, stmt_of-Switch, stmts_of, subject_of, table_of}
 use Rattle.rhai_meaning.specs.Control.{texts_joined}
 use Rattle.rhai_meaning.specs.Core as core
-use Rattle.rhai_meaning.specs.Desugar.{core_expr, core_stmt}
+use Rattle.rhai_meaning.specs.Desugar.{core_expr, core_stmt, core_stmts}
 use Rattle.rhai_meaning.specs.Tree as tree
 use Rattle.rhai_run.specs.declared.plain.state.Interrupt.{Interrupt}
 use Rattle.rhai_run.specs.declared.plain.state.Interrupt.TheVariants.{Stuck}
 use Rattle.rhai_run.specs.declared.report.Stuck.TheVariants as why
 use Rattle.rhai_run.specs.declared.plain.state.State.{State}
-use Rattle.rhai_run.specs.Covered.{covered_expr, covered_stmt}
-use Rattle.rhai_run.specs.Evaluating.{expr_core, stmts_core, RunsBlock, RunsCall, RunsCore, RunsDeed, RunsExpr, RunsExprs, RunsLine, RunsStmt}
+use Rattle.rhai_run.specs.Chaining.{chain_core}
+use Rattle.rhai_run.specs.Evaluating.{RunsBlock, RunsCall, RunsCore, RunsDeed, RunsExpr, RunsExprs, RunsLine, RunsStmt}
 use Rattle.rhai_run.specs.Runs.{Setting}
-use Rattle.rhai_run.proofs.Nodes.{array_runs, block_line, call_line, dot_ill, for_line, if_line, index_ill, method_ill, property_ill, string_runs}
+use Rattle.rhai_run.proofs.Nodes.{array_runs, block_line, call_line, for_line, if_line, method_ill, property_ill, string_runs}
 
 module _ (here : Setting) (loop : Bool) (s s1 : State) where
   module _ (x : Expr) where
@@ -47,8 +47,8 @@ module _ (here : Setting) (loop : Bool) (s s1 : State) where
     pub text_of_expr : (parts got : List Expr) (p : Position) (vs : List Dynamic) (v : Dynamic) → x ≡ expr_kind.InterpolatedString parts p → got ≡ parts → RunsExprs here loop (exprs_of got) s (Ok vs) s1 → value_of v ≡ TextV (texts_joined (map value_of vs)) → RunsExpr here loop (expr_of x) s (Ok v) s1
     text_of_expr parts got p vs v h k q w = expr_as (tree.InterpolatedString (exprs_of parts)) (Ok v) (ap expr_of h ∙ expr_of-InterpolatedString parts p) (string_runs here loop (exprs_of parts) s s1 vs v (subst (λ es. RunsExprs here loop (exprs_of es) s (Ok vs) s1) k q) w)
 
-    pub map_of_expr : (m got : List (Ident × Expr) × List (Text × Dynamic)) (p : Position) (r : Result Dynamic Interrupt) → x ≡ expr_kind.Map m p → got ≡ m → RunsCore here (covered_expr (core_expr loop (tree.MapOf (pairs_of got.0) (keys_of got.1)))) s r s1 → RunsExpr here loop (expr_of x) s r s1
-    map_of_expr m got p r h k q = expr_as (tree.MapOf (pairs_of m.0) (keys_of m.1)) r (ap expr_of h ∙ expr_of-Map m p) (subst (λ (d : List (Ident × Expr) × List (Text × Dynamic)). RunsCore here (covered_expr (core_expr loop (tree.MapOf (pairs_of d.0) (keys_of d.1)))) s r s1) k q)
+    pub map_of_expr : (m got : List (Ident × Expr) × List (Text × Dynamic)) (p : Position) (r : Result Dynamic Interrupt) → x ≡ expr_kind.Map m p → got ≡ m → RunsCore here (core_expr loop (tree.MapOf (pairs_of got.0) (keys_of got.1))) s r s1 → RunsExpr here loop (expr_of x) s r s1
+    map_of_expr m got p r h k q = expr_as (tree.MapOf (pairs_of m.0) (keys_of m.1)) r (ap expr_of h ∙ expr_of-Map m p) (subst (λ (d : List (Ident × Expr) × List (Text × Dynamic)). RunsCore here (core_expr loop (tree.MapOf (pairs_of d.0) (keys_of d.1))) s r s1) k q)
 
     ill_as : (e : tree.Expr) → expr_of x ≡ e → RunsExpr here loop e s (Err (Stuck why.WrongKind)) s → RunsExpr here loop (expr_of x) s (Err (Stuck why.WrongKind)) s
     ill_as e h q = subst (λ y. RunsExpr here loop y s (Err (Stuck why.WrongKind)) s) (sym h) q
@@ -59,21 +59,21 @@ module _ (here : Setting) (loop : Bool) (s s1 : State) where
     pub method_of_expr : (c : FnCallExpr) (q : Position) → x ≡ expr_kind.MethodCall c q → RunsExpr here loop (expr_of x) s (Err (Stuck why.WrongKind)) s
     method_of_expr c q h = ill_as (tree.MethodCall (callee_of c) (exprs_of c.args)) (ap expr_of h ∙ expr_of-MethodCall c q) (method_ill here loop (callee_of c) (exprs_of c.args) s)
 
-    pub dot_of_expr : (b : BinaryExpr) (k : ASTFlags) (q : Position) → x ≡ expr_kind.Dot b k q → RunsExpr here loop (expr_of x) s (Err (Stuck why.WrongKind)) s
-    dot_of_expr b k q h = ill_as (tree.Dot (chain_flags k) (expr_of b.lhs) (expr_of b.rhs)) (ap expr_of h ∙ expr_of-Dot b k q) (dot_ill here loop (chain_flags k) (expr_of b.lhs) (expr_of b.rhs) s)
+    pub dot_of_expr : (b got : BinaryExpr) (k : ASTFlags) (q : Position) (r : Result Dynamic Interrupt) → x ≡ expr_kind.Dot b k q → got ≡ b → RunsCore here (chain_core loop true (chain_flags k) (expr_of got.lhs) (expr_of got.rhs)) s r s1 → RunsExpr here loop (expr_of x) s r s1
+    dot_of_expr b got k q r h g o = expr_as (tree.Dot (chain_flags k) (expr_of b.lhs) (expr_of b.rhs)) r (ap expr_of h ∙ expr_of-Dot b k q) (subst (λ (d : BinaryExpr). RunsCore here (chain_core loop true (chain_flags k) (expr_of d.lhs) (expr_of d.rhs)) s r s1) g o)
 
-    pub index_of_expr : (b : BinaryExpr) (k : ASTFlags) (q : Position) → x ≡ expr_kind.Index b k q → RunsExpr here loop (expr_of x) s (Err (Stuck why.WrongKind)) s
-    index_of_expr b k q h = ill_as (tree.Index (chain_flags k) (expr_of b.lhs) (expr_of b.rhs)) (ap expr_of h ∙ expr_of-Index b k q) (index_ill here loop (chain_flags k) (expr_of b.lhs) (expr_of b.rhs) s)
+    pub index_of_expr : (b got : BinaryExpr) (k : ASTFlags) (q : Position) (r : Result Dynamic Interrupt) → x ≡ expr_kind.Index b k q → got ≡ b → RunsCore here (chain_core loop false (chain_flags k) (expr_of got.lhs) (expr_of got.rhs)) s r s1 → RunsExpr here loop (expr_of x) s r s1
+    index_of_expr b got k q r h g o = expr_as (tree.Index (chain_flags k) (expr_of b.lhs) (expr_of b.rhs)) r (ap expr_of h ∙ expr_of-Index b k q) (subst (λ (d : BinaryExpr). RunsCore here (chain_core loop false (chain_flags k) (expr_of d.lhs) (expr_of d.rhs)) s r s1) g o)
 
   module _ (x : Stmt) (r : Result Dynamic Interrupt) where
     stmt_as : (l : tree.Stmt) → stmt_of x ≡ l → RunsStmt here loop l s r s1 → RunsStmt here loop (stmt_of x) s r s1
     stmt_as l h q = subst (λ y. RunsStmt here loop y s r s1) (sym h) q
 
-    pub if_of_stmt : (f got : FlowControl) (p : Position) → x ≡ stmt_kind.If f p → got ≡ f → RunsDeed here (core.If (expr_core loop (expr_of got.expr)) (stmts_core loop (stmts_of got.body.block)) (stmts_core loop (stmts_of got.branch.block))) s r s1 → RunsStmt here loop (stmt_of x) s r s1
+    pub if_of_stmt : (f got : FlowControl) (p : Position) → x ≡ stmt_kind.If f p → got ≡ f → RunsDeed here (core.If (core_expr loop (expr_of got.expr)) (core_stmts loop (stmts_of got.body.block)) (core_stmts loop (stmts_of got.branch.block))) s r s1 → RunsStmt here loop (stmt_of x) s r s1
     if_of_stmt f got p h k q =
         stmt_as (tree.If (expr_of f.expr) (stmts_of f.body.block) (stmts_of f.branch.block)) (ap stmt_of h ∙ stmt_of-If f p)
         (if_line here loop (expr_of f.expr) (stmts_of f.body.block) (stmts_of f.branch.block) s s1 r
-        (subst (λ d. RunsDeed here (core.If (expr_core loop (expr_of d.expr)) (stmts_core loop (stmts_of d.body.block)) (stmts_core loop (stmts_of d.branch.block))) s r s1) k q))
+        (subst (λ d. RunsDeed here (core.If (core_expr loop (expr_of d.expr)) (core_stmts loop (stmts_of d.body.block)) (core_stmts loop (stmts_of d.branch.block))) s r s1) k q))
 
     pub call_of_stmt : (c got : FnCallExpr) (p : Position) → x ≡ stmt_kind.FnCall c p → got ≡ c → RunsCall here loop (callee_of got) (exprs_of got.args) s r s1 → RunsStmt here loop (stmt_of x) s r s1
     call_of_stmt c got p h k q =
@@ -88,11 +88,11 @@ module _ (here : Setting) (loop : Bool) (s s1 : State) where
     abbrev switch_tree : SwitchBlock → tree.Stmt
     switch_tree b = tree.Switch (expr_of (subject_of b)) (arms_of (expressions_of (cases_of b))) (table_of (cases_of b))
 
-    pub switch_of_stmt : (b got : SwitchBlock) (p : Position) → x ≡ stmt_kind.Switch b p → got ≡ b → RunsLine here (covered_stmt (core_stmt loop (switch_tree got))) s r s1 → RunsStmt here loop (stmt_of x) s r s1
-    switch_of_stmt b got p h k q = stmt_as (switch_tree b) (ap stmt_of h ∙ stmt_of-Switch b p) (subst (λ d. RunsLine here (covered_stmt (core_stmt loop (switch_tree d))) s r s1) k q)
+    pub switch_of_stmt : (b got : SwitchBlock) (p : Position) → x ≡ stmt_kind.Switch b p → got ≡ b → RunsLine here (core_stmt loop (switch_tree got)) s r s1 → RunsStmt here loop (stmt_of x) s r s1
+    switch_of_stmt b got p h k q = stmt_as (switch_tree b) (ap stmt_of h ∙ stmt_of-Switch b p) (subst (λ d. RunsLine here (core_stmt loop (switch_tree d)) s r s1) k q)
 
     abbrev for_deed : Ident × Option Ident × FlowControl → core.Deed
-    for_deed d = core.For d.0.name (counter_of d.1) (expr_core loop (expr_of d.2.expr)) (stmts_core true (stmts_of d.2.body.block))
+    for_deed d = core.For d.0.name (counter_of d.1) (core_expr loop (expr_of d.2.expr)) (core_stmts true (stmts_of d.2.body.block))
 
     pub for_of_stmt : (d got : Ident × Option Ident × FlowControl) (p : Position) → x ≡ stmt_kind.For d p → got ≡ d → RunsDeed here (for_deed got) s r s1 → RunsStmt here loop (stmt_of x) s r s1
     for_of_stmt d got p h k q =

@@ -6,6 +6,7 @@ use Rattle.rhai_values.specs.declared.dynamic.Dynamic.{Dynamic}
 use Rattle.rhai_values.specs.declared.dynamic.Dynamic.TheVariants as value
 use Rattle.rhai_values.specs.Reading.{value_of, value_of-Array, value_of-Range, value_of-RangeInclusive, value_of-Unit}
 use Rattle.rhai_values.specs.Value.{Text, Value, UnitV, IntV, ArrayV, items, values}
+use Rattle.rhai_meaning.specs.Desugar.{core_expr}
 use Rattle.rhai_meaning.specs.Act.{Acts, Only, Named, Fail, Act, Then, CounterTooLarge}
 use Rattle.rhai_meaning.specs.ActForms.{again_then, ◌>>=◌}
 use Rattle.rhai_meaning.specs.Control.{counted, for_all, for_count, for_each, round, size}
@@ -15,7 +16,7 @@ use Rattle.rhai_run.specs.declared.plain.state.Interrupt.{Interrupt}
 use Rattle.rhai_run.specs.declared.plain.state.Interrupt.TheVariants.{Stuck}
 use Rattle.rhai_run.specs.declared.plain.state.State.{State}
 use Rattle.rhai_run.specs.declared.report.Stuck.TheVariants as why
-use Rattle.rhai_run.specs.Evaluating.{expr_core, RunsCounted, RunsExpr, RunsList, RunsRound}
+use Rattle.rhai_run.specs.Evaluating.{RunsCounted, RunsExpr, RunsList, RunsRound}
 use Rattle.rhai_run.specs.Exits.{count_of, round_of}
 use Rattle.rhai_run.specs.Runs.{Setting, Acting, Listing, Goes, Stops, Runs, given}
 use Rattle.rhai_run.specs.State.{named_in, store_of, TakesTurn}
@@ -144,7 +145,7 @@ module _ (here : Setting) where
 
     module _ (loop : Bool) (e : tree.Expr) (s s1 s2 : State) (v : Dynamic) (r : Result Dynamic Interrupt) (q : RunsExpr here loop e s (Ok v) s1) where
       abbrev for_act : Act
-      for_act = act here.world (expr_core loop e) >>= λ u. for_all x c p u
+      for_act = act here.world (core_expr loop e) >>= λ u. for_all x c p u
 
       over : (w : Value) → value_of v ≡ w → Goes here (Acting for_act) s (Acting (for_all x c p w)) s1
       over w h = goes_then here (value_goes here (λ u. for_all x c p u) q) (goes_as here _ _ s1 (ap (λ u. Acting (for_all x c p u)) h))

@@ -16,8 +16,7 @@ use Rattle.rhai_run.specs.declared.plain.state.Interrupt.{Interrupt}
 use Rattle.rhai_run.specs.declared.plain.state.Interrupt.TheVariants.{NoMemory, Return, Break, Continue, Throw, Stuck, OutOfTurns}
 use Rattle.rhai_run.specs.declared.plain.state.State.{State}
 use Rattle.rhai_run.specs.declared.report.Stuck.TheVariants as why
-use Rattle.rhai_run.specs.Covered.{covered_deed, covered_stmt}
-use Rattle.rhai_run.specs.Evaluating.{maybe_core, stmts_core, RunsBlock, RunsCatch, RunsLine, RunsMaybe}
+use Rattle.rhai_run.specs.Evaluating.{RunsBlock, RunsCatch, RunsLine, RunsMaybe}
 use Rattle.rhai_run.specs.Exits.{body_end, branch_end, LeavesBy}
 use Rattle.rhai_run.specs.Runs.{Setting, Task, Acting, Listing, Over, Leaving, Goes, Stops, Leads, Runs, given, env}
 use Rattle.rhai_run.specs.State.{named_in, store_of}
@@ -36,34 +35,34 @@ module _ (here : Setting) where
 
   module _ (loop b exported : Bool) (m : tree.MaybeExpr) where
     abbrev return_line : core.Stmt
-    return_line = covered_stmt (core_stmt loop (tree.Return b exported m))
+    return_line = core_stmt loop (tree.Return b exported m)
 
-    return_is : (c : Bool) → exported ≡ c → core.Does (covered_deed (cond (not c) (core.Leave (return_kind b) (core_maybe loop m)) core.IllDeed)) ≡ return_line
-    return_is c h = ap (λ d. core.Does (covered_deed (cond (not d) (core.Leave (return_kind b) (core_maybe loop m)) core.IllDeed))) (sym h)
+    return_is : (c : Bool) → exported ≡ c → core.Does (cond (not c) (core.Leave (return_kind b) (core_maybe loop m)) core.IllDeed) ≡ return_line
+    return_is c h = ap (λ d. core.Does (cond (not d) (core.Leave (return_kind b) (core_maybe loop m)) core.IllDeed)) (sym h)
 
     pub return_stuck : (s : State) → exported ≡ true → RunsLine here return_line s (Err (Stuck why.WrongKind)) s
     return_stuck s h = subst (λ l. RunsLine here l s (Err (Stuck why.WrongKind)) s) (return_is true h) (ill_line here loop s)
 
     pub return_stops : (s s1 : State) (x : Interrupt) → exported ≡ false → RunsMaybe here loop m s (Err x) s1 → RunsLine here return_line s (Err x) s1
-    return_stops s s1 x h q = subst (λ l. RunsLine here l s (Err x) s1) (return_is false h) (leave_stops (return_kind b) (maybe_core loop m) s s1 x q)
+    return_stops s s1 x h q = subst (λ l. RunsLine here l s (Err x) s1) (return_is false h) (leave_stops (return_kind b) (core_maybe loop m) s s1 x q)
 
     pub return_leaves : (s s1 : State) (v : Dynamic) (x : Interrupt) → exported ≡ false → RunsMaybe here loop m s (Ok v) s1 → LeavesBy x (exit (return_kind b) (value_of v)) → RunsLine here return_line s (Err x) s1
-    return_leaves s s1 v x h q l = subst (λ y. RunsLine here y s (Err x) s1) (return_is false h) (leave_goes (return_kind b) (maybe_core loop m) s s1 v x l q)
+    return_leaves s s1 v x h q l = subst (λ y. RunsLine here y s (Err x) s1) (return_is false h) (leave_goes (return_kind b) (core_maybe loop m) s s1 v x l q)
 
     abbrev break_line : core.Stmt
-    break_line = covered_stmt (core_stmt loop (tree.BreakLoop b exported m))
+    break_line = core_stmt loop (tree.BreakLoop b exported m)
 
-    break_is : (c : Bool) → (loop && not exported) ≡ c → core.Does (covered_deed (cond c (core.Leave (break_kind b) (core_maybe loop m)) core.IllDeed)) ≡ break_line
-    break_is c h = ap (λ d. core.Does (covered_deed (cond d (core.Leave (break_kind b) (core_maybe loop m)) core.IllDeed))) (sym h)
+    break_is : (c : Bool) → (loop && not exported) ≡ c → core.Does (cond c (core.Leave (break_kind b) (core_maybe loop m)) core.IllDeed) ≡ break_line
+    break_is c h = ap (λ d. core.Does (cond d (core.Leave (break_kind b) (core_maybe loop m)) core.IllDeed)) (sym h)
 
     pub break_stuck : (s : State) → (loop && not exported) ≡ false → RunsLine here break_line s (Err (Stuck why.WrongKind)) s
     break_stuck s h = subst (λ l. RunsLine here l s (Err (Stuck why.WrongKind)) s) (break_is false h) (ill_line here loop s)
 
     pub break_stops : (s s1 : State) (x : Interrupt) → (loop && not exported) ≡ true → RunsMaybe here loop m s (Err x) s1 → RunsLine here break_line s (Err x) s1
-    break_stops s s1 x h q = subst (λ l. RunsLine here l s (Err x) s1) (break_is true h) (leave_stops (break_kind b) (maybe_core loop m) s s1 x q)
+    break_stops s s1 x h q = subst (λ l. RunsLine here l s (Err x) s1) (break_is true h) (leave_stops (break_kind b) (core_maybe loop m) s s1 x q)
 
     pub break_leaves : (s s1 : State) (v : Dynamic) (x : Interrupt) → (loop && not exported) ≡ true → RunsMaybe here loop m s (Ok v) s1 → LeavesBy x (exit (break_kind b) (value_of v)) → RunsLine here break_line s (Err x) s1
-    break_leaves s s1 v x h q l = subst (λ y. RunsLine here y s (Err x) s1) (break_is true h) (leave_goes (break_kind b) (maybe_core loop m) s s1 v x l q)
+    break_leaves s s1 v x h q l = subst (λ y. RunsLine here y s (Err x) s1) (break_is true h) (leave_goes (break_kind b) (core_maybe loop m) s s1 v x l q)
 
   -- ---- `try`
 
@@ -114,29 +113,29 @@ module _ (here : Setting) where
 
   module _ (loop : Bool) (e : tree.Expr) (a b : tree.Stmts) where
     abbrev try_line : core.Stmt
-    try_line = covered_stmt (core_stmt loop (tree.TryCatch e a b))
+    try_line = core_stmt loop (tree.TryCatch e a b)
 
     abbrev branch_acts : Acts
-    branch_acts = acts here.world false (stmts_core loop b) UnitV
+    branch_acts = acts here.world false (core_stmts loop b) UnitV
 
-    try_is : (x : Option (Option Text)) → catch_name e ≡ x → core.Does (covered_deed (try_by x (core_stmts loop a) (core_stmts loop b))) ≡ try_line
-    try_is x h = ap (λ o. core.Does (covered_deed (try_by o (core_stmts loop a) (core_stmts loop b)))) (sym h)
+    try_is : (x : Option (Option Text)) → catch_name e ≡ x → core.Does (try_by x (core_stmts loop a) (core_stmts loop b)) ≡ try_line
+    try_is x h = ap (λ o. core.Does (try_by o (core_stmts loop a) (core_stmts loop b))) (sym h)
 
     pub try_stuck : (s : State) → catch_name e ≡ None → RunsLine here try_line s (Err (Stuck why.WrongKind)) s
     try_stuck s h = subst (λ l. RunsLine here l s (Err (Stuck why.WrongKind)) s) (try_is None h) (ill_line here loop s)
 
     module _ (x : Option Text) (h : catch_name e ≡ Some x) (s s1 : State) (ended : Result Dynamic Interrupt) (q : RunsBlock here loop a s ended s1) where
-      try_body : (o : Result (Option Dynamic) Interrupt) → o ≡ body_end ended → Leads here (Acting (try_of (acts here.world false (stmts_core loop a) UnitV) x branch_acts)) s o s1 (λ c. after_body x branch_acts c)
-      try_body o f = subst (λ r. Leads here (Acting (try_of (acts here.world false (stmts_core loop a) UnitV) x branch_acts)) s r s1 (λ c. after_body x branch_acts c)) (sym f) (body_leads (acts here.world false (stmts_core loop a) UnitV) branch_acts x s s1 ended (q false))
+      try_body : (o : Result (Option Dynamic) Interrupt) → o ≡ body_end ended → Leads here (Acting (try_of (acts here.world false (core_stmts loop a) UnitV) x branch_acts)) s o s1 (λ c. after_body x branch_acts c)
+      try_body o f = subst (λ r. Leads here (Acting (try_of (acts here.world false (core_stmts loop a) UnitV) x branch_acts)) s r s1 (λ c. after_body x branch_acts c)) (sym f) (body_leads (acts here.world false (core_stmts loop a) UnitV) branch_acts x s s1 ended (q false))
 
       pub try_stops : (y : Interrupt) → Err y ≡ body_end ended → RunsLine here try_line s (Err y) s1
       try_stops y f = subst (λ l. RunsLine here l s (Err y) s1) (try_is (Some x) h) (λ next. line_stops here _ next s s1 y (try_body (Err y) f))
 
       pub try_ends : Ok None ≡ body_end ended → RunsLine here try_line s (Ok value.Unit) s1
       try_ends f =
-          let done : Runs here (Acting (try_of (acts here.world false (stmts_core loop a) UnitV) x branch_acts)) s (Ok value.Unit) s1 = goes_then here (try_body (Ok None) f) (record { turns = omega arith; runs = λ d le. ap (λ u. At (Ended (Gives u)) (store_of s1) s1.turns) (sym value_of-Unit) }) in
+          let done : Runs here (Acting (try_of (acts here.world false (core_stmts loop a) UnitV) x branch_acts)) s (Ok value.Unit) s1 = goes_then here (try_body (Ok None) f) (record { turns = omega arith; runs = λ d le. ap (λ u. At (Ended (Gives u)) (store_of s1) s1.turns) (sym value_of-Unit) }) in
           subst (λ l. RunsLine here l s (Ok value.Unit) s1) (try_is (Some x) h) (λ next. line_leads here _ next s s1 (Ok value.Unit) done)
 
-      pub try_catches : (v : Dynamic) (s2 : State) (r : Result Dynamic Interrupt) → Ok (Some v) ≡ body_end ended → RunsCatch here (stmts_core loop b) x (value_of v) s1 r s2 → RunsLine here try_line s r s2
+      pub try_catches : (v : Dynamic) (s2 : State) (r : Result Dynamic Interrupt) → Ok (Some v) ≡ body_end ended → RunsCatch here (core_stmts loop b) x (value_of v) s1 r s2 → RunsLine here try_line s r s2
       try_catches v s2 r f k =
           subst (λ l. RunsLine here l s r s2) (try_is (Some x) h) (λ next. line_leads here _ next s s2 r (leads_then here s2 r (λ u. given (value_of u)) (try_body (Ok (Some v)) f) k))

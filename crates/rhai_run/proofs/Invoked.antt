@@ -5,7 +5,7 @@ use Rattle.rhai_values.specs.declared.dynamic.Dynamic.{Dynamic}
 use Rattle.rhai_values.specs.Reading.{value_of}
 use Rattle.rhai_values.specs.Value.{Value, UnitV}
 use Rattle.rhai_meaning.specs.Act as act
-use Rattle.rhai_meaning.specs.Act.{ScopeEntry, Ending, Gives, Leaves, Returns, Throws, Outcome, Ended, Halted, At, Store, World, ScriptCall, Act, Acts, Invoke, call_then, returned_outcome, returned, with_turn, run, run_all}
+use Rattle.rhai_meaning.specs.Act.{Gives, Leaves, Returns, Throws, Outcome, Ended, Halted, At, Store, ScriptCall, Act, Invoke, call_then, returned_outcome, returned, with_turn, run, run_all}
 use Rattle.rhai_meaning.specs.Core.{Function}
 use Rattle.rhai_meaning.specs.Meaning.{acts}
 use Rattle.rhai_meaning.specs.Run.{call_body, entered, function_of, reversed}

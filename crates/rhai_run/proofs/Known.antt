@@ -17,17 +17,16 @@ use Rattle.rhai_meaning.specs.Run.{function_of, key_of}
 use Rattle.rhai_meaning.specs.Weight.{weight}
 use Rattle.rhai_run.specs.declared.plain.state.Interrupt.{Interrupt}
 use Rattle.rhai_run.specs.declared.plain.state.State.{State}
-use Rattle.rhai_run.specs.Covered.{covered_function}
 use Rattle.rhai_run.specs.Evaluating.{bodies_weight, RunsInvoke}
 use Rattle.rhai_run.specs.Runs.{Setting, Acting, Leads, given}
 use Rattle.rhai_run.proofs.Words.{call_invokes}
 
 -- what is run of a function
 abbrev pub run_of : ScriptFuncDef → Function
-run_of f = covered_function (core_function (reading.function_of f))
+run_of f = core_function (reading.function_of f)
 
 abbrev pub all_run : List ScriptFuncDef → List Function
-all_run fs = map covered_function (map core_function (map reading.function_of fs))
+all_run fs = map core_function (map reading.function_of fs)
 
 turned : (k l : Key) → same_key k l ≡ true → same_key l k ≡ same_key k l
 turned k l h = let e = same_key-true k l h in λ i. same_key (sym e i) (e i)

@@ -7,7 +7,6 @@ pub mod Texts
 pub mod Scopes
 pub mod Unbound
 pub mod Callees
-pub mod Covered
 pub mod Goes
 pub mod Variables
 pub mod Keys
@@ -30,5 +29,13 @@ pub mod Invoked
 pub mod Words
 pub mod Entering
 pub mod Known
-pub mod SmallRuns
+pub mod Placing
+pub mod Writing
+pub mod Chaining
+pub mod Quiet
+pub mod Links
+pub mod Steps
+pub mod Targets
+pub mod LeftSides
+pub mod Methods
 pub mod Whole

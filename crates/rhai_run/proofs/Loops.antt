@@ -16,8 +16,7 @@ use Rattle.rhai_meaning.specs.Tree as tree
 use Rattle.rhai_run.specs.declared.plain.state.Interrupt.{Interrupt}
 use Rattle.rhai_run.specs.declared.plain.state.Interrupt.TheVariants.{NoMemory, Return, Break, Continue, Throw, Stuck, OutOfTurns}
 use Rattle.rhai_run.specs.declared.plain.state.State.{State}
-use Rattle.rhai_run.specs.Covered.{covered_guard, covered_deed, covered_stmt}
-use Rattle.rhai_run.specs.Evaluating.{expr_core, stmts_core, or_stuck, RunsCore, RunsDeed, RunsLine, RunsRound}
+use Rattle.rhai_run.specs.Evaluating.{or_stuck, RunsCore, RunsDeed, RunsLine, RunsRound}
 use Rattle.rhai_run.specs.Exits.{round_of, round_end}
 use Rattle.rhai_run.specs.Runs.{Setting, Acting, Over, Goes, Stops, Leads, given}
 use Rattle.rhai_run.specs.State.{TakesTurn}
@@ -40,16 +39,16 @@ module _ (here : Setting) where
   -- `do` by its options
   module _ (loop negated exported : Bool) (e : tree.Expr) (ss : tree.Stmts) where
     abbrev do_line : core.Stmt
-    do_line = covered_stmt (core_stmt loop (tree.Do negated exported e ss))
+    do_line = core_stmt loop (tree.Do negated exported e ss)
 
-    do_line_is : (c : Bool) → exported ≡ c → core.Does (covered_deed (cond (not c) (core.Do negated (core_expr loop e) (core_stmts true ss)) core.IllDeed)) ≡ do_line
-    do_line_is c h = ap (λ d. core.Does (covered_deed (cond (not d) (core.Do negated (core_expr loop e) (core_stmts true ss)) core.IllDeed))) (sym h)
+    do_line_is : (c : Bool) → exported ≡ c → core.Does (cond (not c) (core.Do negated (core_expr loop e) (core_stmts true ss)) core.IllDeed) ≡ do_line
+    do_line_is c h = ap (λ d. core.Does (cond (not d) (core.Do negated (core_expr loop e) (core_stmts true ss)) core.IllDeed)) (sym h)
 
     pub do_line_stuck : (s : State) → exported ≡ true → RunsLine here do_line s (Err (Stuck why.WrongKind)) s
     do_line_stuck s h = subst (λ l. RunsLine here l s (Err (Stuck why.WrongKind)) s) (do_line_is true h) (ill_line here loop s)
 
-    pub do_line_runs : (until : Bool) (s s1 : State) (r : Result Dynamic Interrupt) → until ≡ negated → exported ≡ false → RunsDeed here (core.Do until (expr_core loop e) (stmts_core true ss)) s r s1 → RunsLine here do_line s r s1
-    do_line_runs until s s1 r n h q = subst (λ l. RunsLine here l s r s1) ((λ i. core.Does (core.Do (n i) (expr_core loop e) (stmts_core true ss))) ∙ do_line_is false h) (deed_line here loop (core.Do until (expr_core loop e) (stmts_core true ss)) s s1 r q)
+    pub do_line_runs : (until : Bool) (s s1 : State) (r : Result Dynamic Interrupt) → until ≡ negated → exported ≡ false → RunsDeed here (core.Do until (core_expr loop e) (core_stmts true ss)) s r s1 → RunsLine here do_line s r s1
+    do_line_runs until s s1 r n h q = subst (λ l. RunsLine here l s r s1) ((λ i. core.Does (core.Do (n i) (core_expr loop e) (core_stmts true ss))) ∙ do_line_is false h) (deed_line here loop (core.Do until (core_expr loop e) (core_stmts true ss)) s s1 r q)
 
   -- ---- a round
 
@@ -121,11 +120,11 @@ module _ (here : Setting) where
 
   -- by the guard as it is written
   module _ (e : tree.Expr) (x : core.Expr) (ss : core.Stmts) (s s1 : State) (r : Result Dynamic Interrupt) where
-    pub loop_always : is_unit e ≡ true → RunsDeed here (core.While core.Always ss) s r s1 → RunsDeed here (core.While (covered_guard (guard_by e x)) ss) s r s1
-    loop_always h q = subst (λ g. RunsDeed here (core.While (covered_guard g) ss) s r s1) (sym (guard_always e h x)) q
+    pub loop_always : is_unit e ≡ true → RunsDeed here (core.While core.Always ss) s r s1 → RunsDeed here (core.While (guard_by e x) ss) s r s1
+    loop_always h q = subst (λ g. RunsDeed here (core.While g ss) s r s1) (sym (guard_always e h x)) q
 
-    pub loop_when : is_unit e ≡ false → RunsDeed here (core.While (covered_guard (core.When x)) ss) s r s1 → RunsDeed here (core.While (covered_guard (guard_by e x)) ss) s r s1
-    loop_when h q = subst (λ g. RunsDeed here (core.While (covered_guard g) ss) s r s1) (sym (guard_when e h x)) q
+    pub loop_when : is_unit e ≡ false → RunsDeed here (core.While (core.When x) ss) s r s1 → RunsDeed here (core.While (guard_by e x) ss) s r s1
+    loop_when h q = subst (λ g. RunsDeed here (core.While g ss) s r s1) (sym (guard_when e h x)) q
 
   -- ---- `do`
 

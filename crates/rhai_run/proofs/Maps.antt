@@ -21,14 +21,13 @@ use Rattle.rhai_run.specs.declared.plain.state.Interrupt.{Interrupt}
 use Rattle.rhai_run.specs.declared.plain.state.Interrupt.TheVariants.{Stuck}
 use Rattle.rhai_run.specs.declared.plain.state.State.{State}
 use Rattle.rhai_run.specs.declared.report.Stuck.TheVariants as why
-use Rattle.rhai_run.specs.Covered.{covered_expr}
-use Rattle.rhai_run.specs.Evaluating.{expr_core, pairs_core, RunsCore, RunsExpr, RunsMembers}
+use Rattle.rhai_run.specs.Evaluating.{RunsCore, RunsExpr, RunsMembers}
 use Rattle.rhai_run.specs.Runs.{Setting, Task, Acting, Goes}
 use Rattle.rhai_run.proofs.Goes.{gives, goes_on, goes_then, goes_as, stops_then, value_goes, value_stops}
 
 module _ (here : Setting) (loop : Bool) where
   abbrev rest_of : List (Ident × Expr) → Fields → (Fields → Act) → Task
-  rest_of ps fs next = Acting (with_pairs here.world (pairs_core loop (pairs_of ps)) (λ vs. next (with_entries fs vs)))
+  rest_of ps fs next = Acting (with_pairs here.world (core_pairs loop (pairs_of ps)) (λ vs. next (with_entries fs vs)))
 
   -- the members before the rest are in the map
   pub record MembersAt (xs rest : List (Ident × Expr)) (s : State) (m : List (Text × Dynamic)) (s' : State) : Type 0 where
@@ -41,8 +40,8 @@ module _ (here : Setting) (loop : Bool) where
     pair_here : pairs_of (drop i xs) ≡ tree.pair e.0.name (expr_of e.1) (pairs_of (drop (i + 1) xs))
     pair_here = pairs_of-drop xs i e h ∙ ap (λ (y : Ident × Expr). tree.pair y.0.name (expr_of y.1) (pairs_of (drop (i + 1) xs))) (sym is)
 
-    member_here : (next : Fields → Act) → Goes here (rest_of xs (fields []) next) s (Acting (act here.world (expr_core loop (expr_of e.1)) >>= λ v. with_pairs here.world (pairs_core loop (pairs_of (drop (i + 1) xs))) (λ vs. next (with_entries (with_entry (fields (members_of m)) e.0.name v) vs)))) s1
-    member_here next = goes_then here (p.so next) (goes_as here _ _ s1 (ap (λ ps. Acting (with_pairs here.world (pairs_core loop ps) (λ vs. next (with_entries (fields (members_of m)) vs)))) pair_here))
+    member_here : (next : Fields → Act) → Goes here (rest_of xs (fields []) next) s (Acting (act here.world (core_expr loop (expr_of e.1)) >>= λ v. with_pairs here.world (core_pairs loop (pairs_of (drop (i + 1) xs))) (λ vs. next (with_entries (with_entry (fields (members_of m)) e.0.name v) vs)))) s1
+    member_here next = goes_then here (p.so next) (goes_as here _ _ s1 (ap (λ ps. Acting (with_pairs here.world (core_pairs loop ps) (λ vs. next (with_entries (fields (members_of m)) vs)))) pair_here))
 
     pub members_stop : (x : Interrupt) → RunsExpr here loop (expr_of e.1) s1 (Err x) s2 → RunsMembers here loop (pairs_of xs) s (Err x) s2
     members_stop x q = λ next. stops_then here s2 x (member_here next) (value_stops here _ _ s1 s2 x q)
@@ -58,10 +57,10 @@ module _ (here : Setting) (loop : Bool) where
   -- the whole literal, by its keys
   module _ (ps : tree.Pairs) (template : List Text) where
     abbrev map_core : core.Expr
-    map_core = covered_expr (core_expr loop (tree.MapOf ps template))
+    map_core = core_expr loop (tree.MapOf ps template)
 
-    map_is : (b : Bool) → is_map template ps ≡ b → covered_expr (cond b (core.MapOf (core_pairs loop ps)) core.Ill) ≡ map_core
-    map_is b h = ap (λ c. covered_expr (cond c (core.MapOf (core_pairs loop ps)) core.Ill)) (sym h)
+    map_is : (b : Bool) → is_map template ps ≡ b → (cond b (core.MapOf (core_pairs loop ps)) core.Ill) ≡ map_core
+    map_is b h = ap (λ c. cond c (core.MapOf (core_pairs loop ps)) core.Ill) (sym h)
 
     pub map_stuck : (s : State) → is_map template ps ≡ false → RunsCore here map_core s (Err (Stuck why.WrongKind)) s
     map_stuck s h = subst (λ e. RunsCore here e s (Err (Stuck why.WrongKind)) s) (map_is false h) (record { turns = omega arith; runs = λ d le. refl })

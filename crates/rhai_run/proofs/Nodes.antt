@@ -1,5 +1,5 @@
 -- Nodes by their parts: arrays, texts, calls, braces.
-use Rattle.std.proofs.Common.{◌≡◌, ℕ, Bool, true, false, cond, List, map, length, Option, Result, Ok, Err, refl, sym, ap, ◌∙◌, subst, arith}
+use Rattle.std.proofs.Common.{◌≡◌, Bool, true, false, cond, List, map, length, Option, Result, Ok, Err, refl, sym, ap, ◌∙◌, subst, arith}
 use Rattle.rhai_values.specs.declared.dynamic.Dynamic.{Dynamic}
 use Rattle.rhai_values.specs.declared.dynamic.Dynamic.TheVariants as value
 use Rattle.rhai_values.specs.Reading.{value_of, value_of-Array, value_of-Unit}
@@ -10,16 +10,15 @@ use Rattle.rhai_meaning.specs.ActForms.{give}
 use Rattle.rhai_meaning.specs.Calls.{called}
 use Rattle.rhai_meaning.specs.Control.{texts_joined}
 use Rattle.rhai_meaning.specs.Core as core
-use Rattle.rhai_meaning.specs.Desugar.{callee_by, core_expr, core_exprs, guard_by}
+use Rattle.rhai_meaning.specs.Desugar.{callee_by, core_expr, core_exprs, core_stmts, guard_by}
 use Rattle.rhai_meaning.specs.Meaning.{text}
-use Rattle.rhai_meaning.specs.Shape.{is_callable, is_chain, is_unit}
+use Rattle.rhai_meaning.specs.Shape.{is_callable, is_unit}
 use Rattle.rhai_meaning.specs.Tree as tree
 use Rattle.rhai_run.specs.declared.plain.state.Interrupt.{Interrupt}
 use Rattle.rhai_run.specs.declared.plain.state.Interrupt.TheVariants.{NoMemory, Return, Break, Continue, Throw, Stuck, OutOfTurns}
 use Rattle.rhai_run.specs.declared.plain.state.State.{State}
 use Rattle.rhai_run.specs.declared.report.Stuck.TheVariants as why
-use Rattle.rhai_run.specs.Covered.{covered_expr, covered_guard}
-use Rattle.rhai_run.specs.Evaluating.{call_core, expr_core, exprs_core, stmts_core, IsConstant, RunsBlock, RunsCall, RunsCore, RunsDeed, RunsExpr, RunsExprs, RunsStmt}
+use Rattle.rhai_run.specs.Evaluating.{call_core, IsConstant, RunsBlock, RunsCall, RunsCore, RunsDeed, RunsExpr, RunsExprs, RunsStmt}
 use Rattle.rhai_run.specs.Runs.{Setting, Acting, Runs, given}
 use Rattle.rhai_run.proofs.Callees.{count_exprs_of}
 use Rattle.rhai_run.proofs.Goes.{gives, goes_then, leads_then}
@@ -46,20 +45,11 @@ module _ (here : Setting) (loop : Bool) where
   called_as k d vs s s1 r h q = subst (λ x. Runs here (Acting (called here.world x vs)) s r s1) (sym h) q
 
   module _ (c : FnCallExpr) (s : State) where
-    abbrev number : ℕ
-    number = tree.count_exprs (exprs_of c.args)
-
     abbrev called_core : core.Expr
-    called_core = core.FnCall (callee_by (callee_of c) (callee_of c).token) (exprs_core loop (exprs_of c.args))
-
-    cond_covered : (b : Bool) (x : core.Expr) → covered_expr (cond b x core.Ill) ≡ cond b (covered_expr x) core.Ill
-    cond_covered true x = refl
-    cond_covered false x = refl
+    called_core = core.FnCall (callee_by (callee_of c) (callee_of c).token) (core_exprs loop (exprs_of c.args))
 
     call_is : (b : Bool) → is_callable (callee_of c) (length c.args) ≡ b → call_core loop (callee_of c) (exprs_of c.args) ≡ cond b called_core core.Ill
-    call_is b h =
-        cond_covered (is_callable (callee_of c) number) (core.FnCall (callee_by (callee_of c) (callee_of c).token) (core_exprs loop (exprs_of c.args)))
-        ∙ ap (λ d. cond d called_core core.Ill) (ap (is_callable (callee_of c)) (count_exprs_of c.args) ∙ h)
+    call_is b h = ap (λ d. cond d called_core core.Ill) (ap (is_callable (callee_of c)) (count_exprs_of c.args) ∙ h)
 
     pub call_stuck : is_callable (callee_of c) (length c.args) ≡ false → RunsCall here loop (callee_of c) (exprs_of c.args) s (Err (Stuck why.WrongKind)) s
     call_stuck h = subst (λ x. RunsCore here x s (Err (Stuck why.WrongKind)) s) (sym (call_is false h)) (record { turns = omega arith; runs = λ d le. refl })
@@ -81,8 +71,8 @@ module _ (here : Setting) (loop : Bool) where
   pub gives_constant : (v : Dynamic) (w : Value) (s : State) → value_of v ≡ w → RunsCore here (core.Constant w) s (Ok v) s
   gives_constant v w s e = gives here _ _ s (sym e)
 
-  constant_as : (b : Bool) (v : Value) (s s1 : State) (r : Result Dynamic Interrupt) → is_unit v ≡ b → RunsCore here (covered_expr (cond b core.Ill (core.Constant v))) s r s1 → RunsCore here (covered_expr (cond (is_unit v) core.Ill (core.Constant v))) s r s1
-  constant_as b v s s1 r e q = subst (λ c. RunsCore here (covered_expr (cond c core.Ill (core.Constant v))) s r s1) (sym e) q
+  constant_as : (b : Bool) (v : Value) (s s1 : State) (r : Result Dynamic Interrupt) → is_unit v ≡ b → RunsCore here (cond b core.Ill (core.Constant v)) s r s1 → RunsCore here (cond (is_unit v) core.Ill (core.Constant v)) s r s1
+  constant_as b v s s1 r e q = subst (λ c. RunsCore here (cond c core.Ill (core.Constant v)) s r s1) (sym e) q
 
   -- a constant of its own, which is never unit
   pub constant_runs : (v : Value) (s : State) (r : Result Dynamic Interrupt) → IsConstant v r → RunsExpr here loop (tree.DynamicConstant v) s r s
@@ -100,21 +90,11 @@ module _ (here : Setting) (loop : Bool) where
   ill_expr : (s : State) → RunsCore here core.Ill s (Err (Stuck why.WrongKind)) s
   ill_expr s = record { turns = omega arith; runs = λ d le. refl }
 
-  chain_by : (b : Bool) (x : core.Base) (y : core.Steps) → covered_expr (cond b (core.Chain x y) core.Ill) ≡ core.Ill
-  chain_by true x y = refl
-  chain_by false x y = refl
-
   pub property_ill : (x : tree.PropertyNames) (s : State) → RunsExpr here loop (tree.Property x) s (Err (Stuck why.WrongKind)) s
   property_ill x s = ill_expr s
 
   pub method_ill : (c : tree.Callee) (es : tree.Exprs) (s : State) → RunsExpr here loop (tree.MethodCall c es) s (Err (Stuck why.WrongKind)) s
   method_ill c es s = ill_expr s
-
-  pub dot_ill : (k : tree.ChainFlags) (l r : tree.Expr) (s : State) → RunsExpr here loop (tree.Dot k l r) s (Err (Stuck why.WrongKind)) s
-  dot_ill k l r s = subst (λ e. RunsCore here e s (Err (Stuck why.WrongKind)) s) (sym (chain_by (is_chain true k r) _ _)) (ill_expr s)
-
-  pub index_ill : (k : tree.ChainFlags) (l r : tree.Expr) (s : State) → RunsExpr here loop (tree.Index k l r) s (Err (Stuck why.WrongKind)) s
-  index_ill k l r s = subst (λ e. RunsCore here e s (Err (Stuck why.WrongKind)) s) (sym (chain_by (is_chain false k r) _ _)) (ill_expr s)
 
   -- ---- statements
 
@@ -122,19 +102,19 @@ module _ (here : Setting) (loop : Bool) where
   noop_line s = deed_line here loop core.Noop s s (Ok value.Unit) (gives here _ _ s (sym value_of-Unit))
 
   pub expression_line : (e : tree.Expr) (s s1 : State) (r : Result Dynamic Interrupt) → RunsExpr here loop e s r s1 → RunsStmt here loop (tree.ExprStmt e) s r s1
-  expression_line e s s1 r q = deed_line here loop (core.Evaluate (expr_core loop e)) s s1 r q
+  expression_line e s s1 r q = deed_line here loop (core.Evaluate (core_expr loop e)) s s1 r q
 
   pub call_line : (c : tree.Callee) (es : tree.Exprs) (s s1 : State) (r : Result Dynamic Interrupt) → RunsCall here loop c es s r s1 → RunsStmt here loop (tree.FnCallStmt c es) s r s1
   call_line c es s s1 r q = deed_line here loop (core.Evaluate (call_core loop c es)) s s1 r q
 
   pub block_line : (ss : tree.Stmts) (s s1 : State) (r : Result Dynamic Interrupt) → RunsBlock here loop ss s r s1 → RunsStmt here loop (tree.Block ss) s r s1
-  block_line ss s s1 r q = deed_line here loop (core.Block (stmts_core loop ss)) s s1 r (q true)
+  block_line ss s s1 r q = deed_line here loop (core.Block (core_stmts loop ss)) s s1 r (q true)
 
-  pub if_line : (e : tree.Expr) (a b : tree.Stmts) (s s1 : State) (r : Result Dynamic Interrupt) → RunsDeed here (core.If (expr_core loop e) (stmts_core loop a) (stmts_core loop b)) s r s1 → RunsStmt here loop (tree.If e a b) s r s1
-  if_line e a b s s1 r q = deed_line here loop (core.If (expr_core loop e) (stmts_core loop a) (stmts_core loop b)) s s1 r q
+  pub if_line : (e : tree.Expr) (a b : tree.Stmts) (s s1 : State) (r : Result Dynamic Interrupt) → RunsDeed here (core.If (core_expr loop e) (core_stmts loop a) (core_stmts loop b)) s r s1 → RunsStmt here loop (tree.If e a b) s r s1
+  if_line e a b s s1 r q = deed_line here loop (core.If (core_expr loop e) (core_stmts loop a) (core_stmts loop b)) s s1 r q
 
-  pub while_line : (e : tree.Expr) (ss : tree.Stmts) (s s1 : State) (r : Result Dynamic Interrupt) → RunsDeed here (core.While (covered_guard (guard_by e (core_expr loop e))) (stmts_core true ss)) s r s1 → RunsStmt here loop (tree.While e ss) s r s1
-  while_line e ss s s1 r q = deed_line here loop (core.While (covered_guard (guard_by e (core_expr loop e))) (stmts_core true ss)) s s1 r q
+  pub while_line : (e : tree.Expr) (ss : tree.Stmts) (s s1 : State) (r : Result Dynamic Interrupt) → RunsDeed here (core.While (guard_by e (core_expr loop e)) (core_stmts true ss)) s r s1 → RunsStmt here loop (tree.While e ss) s r s1
+  while_line e ss s s1 r q = deed_line here loop (core.While (guard_by e (core_expr loop e)) (core_stmts true ss)) s s1 r q
 
-  pub for_line : (x : Text) (i : Option Text) (e : tree.Expr) (ss : tree.Stmts) (s s1 : State) (r : Result Dynamic Interrupt) → RunsDeed here (core.For x i (expr_core loop e) (stmts_core true ss)) s r s1 → RunsStmt here loop (tree.For x i e ss) s r s1
-  for_line x i e ss s s1 r q = deed_line here loop (core.For x i (expr_core loop e) (stmts_core true ss)) s s1 r q
+  pub for_line : (x : Text) (i : Option Text) (e : tree.Expr) (ss : tree.Stmts) (s s1 : State) (r : Result Dynamic Interrupt) → RunsDeed here (core.For x i (core_expr loop e) (core_stmts true ss)) s r s1 → RunsStmt here loop (tree.For x i e ss) s r s1
+  for_line x i e ss s s1 r q = deed_line here loop (core.For x i (core_expr loop e) (core_stmts true ss)) s s1 r q

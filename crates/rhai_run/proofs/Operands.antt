@@ -8,6 +8,7 @@ use Rattle.rhai_values.specs.Value.{Value, BoolV}
 use Rattle.rhai_tree.specs.declared.expr.Expr.{Expr}
 use Rattle.rhai_reading.specs.Reading.{expr_of, exprs_of}
 use Rattle.rhai_reading.proofs.ItemLists.{exprs_of-drop}
+use Rattle.rhai_meaning.specs.Desugar.{core_expr, core_exprs}
 use Rattle.rhai_meaning.specs.Tree as tree
 use Rattle.rhai_meaning.specs.Act.{Act}
 use Rattle.rhai_meaning.specs.ActForms.{give, choose, if_true, truth, ◌>>=◌}
@@ -15,7 +16,7 @@ use Rattle.rhai_meaning.specs.Meaning.{act, both, either, first_some, with_args}
 use Rattle.rhai_meaning.specs.Shape.{is_unit}
 use Rattle.rhai_run.specs.declared.plain.state.Interrupt.{Interrupt}
 use Rattle.rhai_run.specs.declared.plain.state.State.{State}
-use Rattle.rhai_run.specs.Evaluating.{expr_core, exprs_core, or_stuck, RunsExpr, RunsExprs}
+use Rattle.rhai_run.specs.Evaluating.{or_stuck, RunsExpr, RunsExprs}
 use Rattle.rhai_run.specs.Runs.{Setting, Task, Acting, Goes, Stops, given}
 use Rattle.rhai_run.proofs.Goes.{gives, goes_on, goes_then, goes_as, stops_then, value_goes, value_stops, if_goes, if_stops}
 
@@ -35,7 +36,7 @@ module _ (here : Setting) (loop : Bool) where
   -- ---- arguments
 
   abbrev args : List Expr → (List Value → Act) → Task
-  args xs next = Acting (with_args here.world (exprs_core loop (exprs_of xs)) next)
+  args xs next = Acting (with_args here.world (core_exprs loop (exprs_of xs)) next)
 
   -- the arguments before the rest have these values
   pub record ArgsAt (xs rest : List Expr) (s : State) (vs : List Dynamic) (s' : State) : Type 0 where
@@ -45,16 +46,16 @@ module _ (here : Setting) (loop : Bool) where
   args_start xs s = record { so = λ next. goes_on here _ s }
 
   -- to the next argument
-  args_here : (xs : List Expr) (i : ℕ) (e : Expr) (s s1 : State) (vs : List Dynamic) (next : List Value → Act) → i < length xs → e ≡ get_or xs i e → ArgsAt xs (drop i xs) s vs s1 → Goes here (args xs next) s (Acting (act here.world (expr_core loop (expr_of e)) >>= λ u. with_args here.world (exprs_core loop (exprs_of (drop (i + 1) xs))) (λ us. next (map value_of vs ++ u ∷ us)))) s1
+  args_here : (xs : List Expr) (i : ℕ) (e : Expr) (s s1 : State) (vs : List Dynamic) (next : List Value → Act) → i < length xs → e ≡ get_or xs i e → ArgsAt xs (drop i xs) s vs s1 → Goes here (args xs next) s (Acting (act here.world (core_expr loop (expr_of e)) >>= λ u. with_args here.world (core_exprs loop (exprs_of (drop (i + 1) xs))) (λ us. next (map value_of vs ++ u ∷ us)))) s1
   args_here xs i e s s1 vs next h is p =
-      goes_then here (p.so next) (goes_as here _ _ s1 (ap (λ es. Acting (with_args here.world (exprs_core loop es) (λ us. next (map value_of vs ++ us)))) (item_of xs i e h is)))
+      goes_then here (p.so next) (goes_as here _ _ s1 (ap (λ es. Acting (with_args here.world (core_exprs loop es) (λ us. next (map value_of vs ++ us)))) (item_of xs i e h is)))
 
   pub args_next : (xs : List Expr) (i : ℕ) (e : Expr) (s s1 s2 : State) (vs : List Dynamic) (v : Dynamic) → i < length xs → e ≡ get_or xs i e → ArgsAt xs (drop i xs) s vs s1 → RunsExpr here loop (expr_of e) s1 (Ok v) s2 → ArgsAt xs (drop (i + 1) xs) s (vs ++ v ∷ []) s2
   args_next xs i e s s1 s2 vs v h is p q = record {
     so = λ next.
         goes_then here (args_here xs i e s s1 vs next h is p)
         (goes_then here (value_goes here _ q)
-        (goes_as here _ _ s2 (λ i'. Acting (with_args here.world (exprs_core loop (exprs_of (drop (i + 1) xs))) (λ us. next ((sym (append_assoc (map value_of vs) (value_of v ∷ []) us) ∙ ap (λ ws. ws ++ us) (sym (map-append value_of vs (v ∷ [])))) i'))))));
+        (goes_as here _ _ s2 (λ i'. Acting (with_args here.world (core_exprs loop (exprs_of (drop (i + 1) xs))) (λ us. next ((sym (append_assoc (map value_of vs) (value_of v ∷ []) us) ∙ ap (λ ws. ws ++ us) (sym (map-append value_of vs (v ∷ [])))) i'))))));
   }
 
   pub args_stop : (xs : List Expr) (i : ℕ) (e : Expr) (s s1 s2 : State) (vs : List Dynamic) (x : Interrupt) → i < length xs → e ≡ get_or xs i e → ArgsAt xs (drop i xs) s vs s1 → RunsExpr here loop (expr_of e) s1 (Err x) s2 → RunsExprs here loop (exprs_of xs) s (Err x) s2
@@ -74,8 +75,8 @@ module _ (here : Setting) (loop : Bool) where
   pub operands_start : (f : tree.Exprs → Act) (xs : List Expr) (s : State) → OperandsAt f xs xs s s
   operands_start f xs s = record { so = goes_on here _ s }
 
-  module _ (f : tree.Exprs → Act) (k : tree.Exprs → Value → Act) (step : (e : tree.Expr) (es : tree.Exprs) → f (tree.expr e es) ≡ (act here.world (expr_core loop e) >>= k es)) (xs : List Expr) (i : ℕ) (e : Expr) (s s1 s2 : State) (h : i < length xs) (is : e ≡ get_or xs i e) (p : OperandsAt f xs (drop i xs) s s1) where
-    operand_here : Goes here (Acting (f (exprs_of xs))) s (Acting (act here.world (expr_core loop (expr_of e)) >>= k (exprs_of (drop (i + 1) xs)))) s1
+  module _ (f : tree.Exprs → Act) (k : tree.Exprs → Value → Act) (step : (e : tree.Expr) (es : tree.Exprs) → f (tree.expr e es) ≡ (act here.world (core_expr loop e) >>= k es)) (xs : List Expr) (i : ℕ) (e : Expr) (s s1 s2 : State) (h : i < length xs) (is : e ≡ get_or xs i e) (p : OperandsAt f xs (drop i xs) s s1) where
+    operand_here : Goes here (Acting (f (exprs_of xs))) s (Acting (act here.world (core_expr loop (expr_of e)) >>= k (exprs_of (drop (i + 1) xs)))) s1
     operand_here = goes_then here p.so (goes_as here _ _ s1 (ap (λ es. Acting (f es)) (item_of xs i e h is) ∙ ap Acting (step (expr_of e) (exprs_of (drop (i + 1) xs)))))
 
     operand_stops : (x : Interrupt) → RunsExpr here loop (expr_of e) s1 (Err x) s2 → Stops here (Acting (f (exprs_of xs))) s x s2
@@ -98,7 +99,7 @@ module _ (here : Setting) (loop : Bool) where
   -- ---- `&&`
 
   abbrev pub both_of : tree.Exprs → Act
-  both_of es = both here.world (exprs_core loop es)
+  both_of es = both here.world (core_exprs loop es)
 
   abbrev both_then : tree.Exprs → Value → Act
   both_then es v = if_true v (both_of es) (give (BoolV false))
@@ -125,7 +126,7 @@ module _ (here : Setting) (loop : Bool) where
   -- ---- `||`
 
   abbrev pub either_of : tree.Exprs → Act
-  either_of es = either here.world (exprs_core loop es)
+  either_of es = either here.world (core_exprs loop es)
 
   abbrev either_then : tree.Exprs → Value → Act
   either_then es v = if_true v (give (BoolV true)) (either_of es)
@@ -152,7 +153,7 @@ module _ (here : Setting) (loop : Bool) where
   -- ---- `??`
 
   abbrev pub first_of : tree.Exprs → Act
-  first_of es = first_some here.world (exprs_core loop es)
+  first_of es = first_some here.world (core_exprs loop es)
 
   abbrev first_then : tree.Exprs → Value → Act
   first_then es v = choose (is_unit v) (first_of es) (give v)

@@ -1,5 +1,5 @@
--- Assignments to names and to `this`.
-use Rattle.std.proofs.Common.{◌≡◌, Bool, true, false, cond, [], ◌∷◌, Option, Some, None, Result, Ok, Err, refl, sym, ap, subst, arith}
+-- Assignments: the statement, and those to names and to `this`.
+use Rattle.std.proofs.Common.{◌≡◌, Bool, true, false, cond, Option, Some, None, Result, Ok, Err, sym, ap, subst, arith}
 use Rattle.rhai_tokens.specs.declared.token.Token.{Token}
 use Rattle.rhai_values.specs.declared.dynamic.Dynamic.{Dynamic}
 use Rattle.rhai_values.specs.declared.dynamic.Dynamic.TheVariants as value
@@ -13,14 +13,14 @@ use Rattle.rhai_meaning.specs.ActForms.{◌>>=◌}
 use Rattle.rhai_meaning.specs.Calls.{assigned}
 use Rattle.rhai_meaning.specs.Chains.{assign_root}
 use Rattle.rhai_meaning.specs.Core as core
-use Rattle.rhai_meaning.specs.Desugar.{core_expr, core_stmt, part_target, root_of, target_of}
-use Rattle.rhai_meaning.specs.Shape.{is_chain, is_left_side}
+use Rattle.rhai_meaning.specs.Desugar.{core_expr, target_of}
+use Rattle.rhai_meaning.specs.Meaning as meaning
+use Rattle.rhai_meaning.specs.Shape.{is_left_side}
 use Rattle.rhai_meaning.specs.Tree as tree
 use Rattle.rhai_run.specs.declared.plain.state.Interrupt.{Interrupt}
 use Rattle.rhai_run.specs.declared.plain.state.Interrupt.TheVariants.{Stuck}
 use Rattle.rhai_run.specs.declared.report.Stuck.TheVariants as why
-use Rattle.rhai_run.specs.Covered.{covered_deed, covered_expr, covered_stmt}
-use Rattle.rhai_run.specs.Evaluating.{expr_core, RunsExpr, RunsLine}
+use Rattle.rhai_run.specs.Evaluating.{RunsExpr, RunsLine}
 use Rattle.rhai_run.specs.declared.plain.state.State.{State}
 use Rattle.rhai_run.specs.Operators.{StandsFor}
 use Rattle.rhai_run.specs.Runs.{Setting, Acting, Goes, Stops, Runs, given}
@@ -68,46 +68,27 @@ module _ (here : Setting) (o : Option Operator) (v : Dynamic) (r : act.Root) whe
 
 -- ---- the statement
 
--- a left side that is neither a name nor `this` is not written yet
-nowhere : (o : Option Operator) (b call : Bool) (r : Option act.Root) (sts : core.Steps) (e : core.Expr) → covered_deed (core.Assignment o (cond b (part_target r call sts) core.IllTarget) e) ≡ core.IllDeed
-nowhere o true call None sts e = refl
-nowhere o true true (Some r) sts e = refl
-nowhere o true false (Some r) sts e = refl
-nowhere o false call r sts e = refl
-
-abbrev line_deed : Bool → Option Operator → tree.Expr → core.Expr → core.Deed
-line_deed loop o l e = covered_deed (cond (is_left_side l) (core.Assignment o (target_of loop l) e) core.IllDeed)
-
-no_deed : (loop : Bool) (o : Option Operator) (l : tree.Expr) (e : core.Expr) → None ≡ root_of l → line_deed loop o l e ≡ core.IllDeed
-no_deed loop o (tree.Variable [] x) e h = cc
-no_deed loop o (tree.Variable (m ∷ ms) x) e h = refl
-no_deed loop o tree.ThisPtr e h = cc
-no_deed loop o (tree.Dot k l r) e h = nowhere o (is_chain true k r) _ (root_of l) _ e
-no_deed loop o (tree.Index k l r) e h = nowhere o (is_chain false k r) _ (root_of l) _ e
-no_deed loop o _ e h = refl
-
-root_deed : (loop : Bool) (o : Option Operator) (l : tree.Expr) (e : core.Expr) (r : act.Root) → Some r ≡ root_of l → line_deed loop o l e ≡ core.Assignment o (core.ToRoot r) (covered_expr e)
-root_deed loop o (tree.Variable [] x) e r h = let same : act.OfName x ≡ r = cc in ap (λ q. core.Assignment o (core.ToRoot q) (covered_expr e)) same
-root_deed loop o tree.ThisPtr e r h = let same : act.OfThis ≡ r = cc in ap (λ q. core.Assignment o (core.ToRoot q) (covered_expr e)) same
-root_deed loop o _ e r h = absurd (let z : Some r ≡ None = h in cc)
-
 module _ (here : Setting) (loop : Bool) (o : Option Operator) (l e : tree.Expr) (s : State) where
+  abbrev by_side : Bool → core.Stmt
+  by_side b = core.Does (cond b (core.Assignment o (target_of loop l) (core_expr loop e)) core.IllDeed)
+
   abbrev assign_line : core.Stmt
-  assign_line = covered_stmt (core_stmt loop (tree.Assignment o l e))
+  assign_line = by_side (is_left_side l)
 
-  pub assign_stuck : None ≡ root_of l → RunsLine here assign_line s (Err (Stuck why.WrongKind)) s
-  assign_stuck h = subst (λ d. RunsLine here (core.Does d) s (Err (Stuck why.WrongKind)) s) (sym (no_deed loop o l (core_expr loop e) h)) (ill_line here loop s)
+  pub assign_stuck : is_left_side l ≡ false → RunsLine here assign_line s (Err (Stuck why.WrongKind)) s
+  assign_stuck h = subst (λ b. RunsLine here (by_side b) s (Err (Stuck why.WrongKind)) s) (sym h) (ill_line here loop s)
 
-  module _ (r : act.Root) (h : Some r ≡ root_of l) (s1 : State) where
-    abbrev root_assigned : core.Deed
-    root_assigned = core.Assignment o (core.ToRoot r) (expr_core loop e)
+  module _ (h : is_left_side l ≡ true) (s1 : State) where
+    abbrev target_assigned : core.Deed
+    target_assigned = core.Assignment o (target_of loop l) (core_expr loop e)
 
     pub assign_stops : (x : Interrupt) → RunsExpr here loop e s (Err x) s1 → RunsLine here assign_line s (Err x) s1
     assign_stops x q =
-        subst (λ d. RunsLine here (core.Does d) s (Err x) s1) (sym (root_deed loop o l (core_expr loop e) r h))
-        (deed_line here loop root_assigned s s1 (Err x) (value_stops here _ _ s s1 x q))
+        subst (λ b. RunsLine here (by_side b) s (Err x) s1) (sym h)
+        (deed_line here loop target_assigned s s1 (Err x) (value_stops here _ _ s s1 x q))
 
-    pub assign_runs : (v : Dynamic) (s2 : State) (x : Result Dynamic Interrupt) → RunsExpr here loop e s (Ok v) s1 → Runs here (Acting (assign_root here.world o (value_of v) r)) s1 x s2 → RunsLine here assign_line s x s2
-    assign_runs v s2 x q k =
-        subst (λ d. RunsLine here (core.Does d) s x s2) (sym (root_deed loop o l (core_expr loop e) r h))
-        (deed_line here loop root_assigned s s2 x (leads_then here s2 x (λ u. given (value_of u)) (value_goes here (λ u. assign_root here.world o u r) q) k))
+    pub assign_runs : (t : core.Target) (v : Dynamic) (s2 : State) (x : Result Dynamic Interrupt) → target_of loop l ≡ t → RunsExpr here loop e s (Ok v) s1 → Runs here (Acting (meaning.assign here.world o t (value_of v))) s1 x s2 → RunsLine here assign_line s x s2
+    assign_runs t v s2 x f q k =
+        let assigned_to : Runs here (Acting (meaning.assign here.world o (target_of loop l) (value_of v))) s1 x s2 = subst (λ u. Runs here (Acting (meaning.assign here.world o u (value_of v))) s1 x s2) (sym f) k in
+        subst (λ b. RunsLine here (by_side b) s x s2) (sym h)
+        (deed_line here loop target_assigned s s2 x (leads_then here s2 x (λ u. given (value_of u)) (value_goes here (λ u. meaning.assign here.world o (target_of loop l) u) q) assigned_to))

@@ -3,7 +3,7 @@ use Rattle.std.proofs.Common.{◌≡◌, ℕ, zero, suc, ◌≤◌, Result, Ok, 
 use Rattle.rhai_values.specs.declared.dynamic.Dynamic.{Dynamic}
 use Rattle.rhai_values.specs.Value.{Value, UnitV}
 use Rattle.rhai_meaning.specs.Act as act
-use Rattle.rhai_meaning.specs.Act.{Exit, Again, Ending, Gives, Leaves, Outcome, Ended, At, Store, Act, Acts, Stop, Then, Loop, Scoped, and_then, on_again, rounds, run}
+use Rattle.rhai_meaning.specs.Act.{Again, Leaves, Outcome, Ended, At, Store, Act, Acts, Then, Loop, Scoped, and_then, on_again, rounds, run}
 use Rattle.rhai_meaning.specs.ActForms.{end_round, again_then}
 use Rattle.rhai_run.specs.declared.plain.state.Interrupt.{Interrupt}
 use Rattle.rhai_run.specs.declared.plain.state.Interrupt.TheVariants.{NoMemory, Return, Break, Continue, Throw, Stuck, OutOfTurns}

@@ -12,14 +12,13 @@ use Rattle.rhai_meaning.specs.Tree as tree
 use Rattle.rhai_meaning.specs.Act.{Act, Scoped, Named, run_all}
 use Rattle.rhai_meaning.specs.ActForms.{choose, if_true, truth, ◌>>=◌}
 use Rattle.rhai_meaning.specs.Core as core
-use Rattle.rhai_meaning.specs.Desugar.{core_expr, core_stmt}
+use Rattle.rhai_meaning.specs.Desugar.{core_expr, core_stmt, core_stmts}
 use Rattle.rhai_meaning.specs.Meaning.{act, acts, deed, line, wanted_value}
 use Rattle.rhai_run.specs.declared.plain.state.Interrupt.{Interrupt}
 use Rattle.rhai_run.specs.declared.plain.state.Interrupt.TheVariants.{Stuck}
 use Rattle.rhai_run.specs.declared.plain.state.State.{State}
 use Rattle.rhai_run.specs.declared.report.Stuck.TheVariants as why
-use Rattle.rhai_run.specs.Covered.{covered_stmt}
-use Rattle.rhai_run.specs.Evaluating.{expr_core, stmts_core, or_stuck, RunsCore, RunsDeed, RunsExpr, RunsLine, RunsStmt, RunsStmts, RunsBlock}
+use Rattle.rhai_run.specs.Evaluating.{or_stuck, RunsCore, RunsDeed, RunsExpr, RunsLine, RunsStmt, RunsStmts, RunsBlock}
 use Rattle.rhai_run.specs.Runs.{Setting, Task, Acting, Listing, Goes, Stops, Runs, env}
 use Rattle.rhai_run.specs.State.{store_of}
 use Rattle.rhai_run.proofs.Goes.{goes_then, goes_as, stops_then, leads_then, value_goes, value_stops, line_goes, line_stops, line_leads, if_goes, if_stops, scoped_leads, Cut}
@@ -29,7 +28,7 @@ line_of xs i l h is = stmts_of-drop xs i l h ∙ ap (λ y. tree.stmt (stmt_of y)
 
 module _ (here : Setting) (loop : Bool) where
   abbrev list_from : List Stmt → Bool → Value → Task
-  list_from xs wanted v = Listing (acts here.world wanted (stmts_core loop (stmts_of xs)) v)
+  list_from xs wanted v = Listing (acts here.world wanted (core_stmts loop (stmts_of xs)) v)
 
   -- the statements before the rest are run, and the last of them has this value
   pub record StmtsAt (xs rest : List Stmt) (s : State) (v : Dynamic) (s' : State) : Type 0 where
@@ -39,8 +38,8 @@ module _ (here : Setting) (loop : Bool) where
   stmts_start xs s = record { so = λ wanted. goes_as here _ _ s (ap (list_from xs wanted) (sym value_of-Unit)) }
 
   module _ (xs : List Stmt) (i : ℕ) (l : Stmt) (s s1 s2 : State) (u : Dynamic) (h : i < length xs) (is : l ≡ get_or xs i l) (p : StmtsAt xs (drop i xs) s u s1) where
-    stmt_here : (wanted : Bool) → Goes here (list_from xs wanted UnitV) s (Listing (line here.world (covered_stmt (core_stmt loop (stmt_of l))) (λ w. acts here.world wanted (stmts_core loop (stmts_of (drop (i + 1) xs))) w))) s1
-    stmt_here wanted = goes_then here (p.so wanted) (goes_as here _ _ s1 (ap (λ ss. Listing (acts here.world wanted (stmts_core loop ss) (value_of u))) (line_of xs i l h is)))
+    stmt_here : (wanted : Bool) → Goes here (list_from xs wanted UnitV) s (Listing (line here.world (core_stmt loop (stmt_of l)) (λ w. acts here.world wanted (core_stmts loop (stmts_of (drop (i + 1) xs))) w))) s1
+    stmt_here wanted = goes_then here (p.so wanted) (goes_as here _ _ s1 (ap (λ ss. Listing (acts here.world wanted (core_stmts loop ss) (value_of u))) (line_of xs i l h is)))
 
     pub stmts_next : (v : Dynamic) → RunsStmt here loop (stmt_of l) s1 (Ok v) s2 → StmtsAt xs (drop (i + 1) xs) s v s2
     stmts_next v q = record { so = λ wanted. goes_then here (stmt_here wanted) (q _) }
@@ -83,18 +82,18 @@ module _ (here : Setting) (loop : Bool) where
 
   module _ (constant exported : Bool) (x : Text) (e : tree.Expr) where
     abbrev var_line : core.Stmt
-    var_line = covered_stmt (core_stmt loop (tree.Var constant exported x e))
+    var_line = core_stmt loop (tree.Var constant exported x e)
 
     pub var_stuck : (s : State) → exported ≡ true → RunsLine here var_line s (Err (Stuck why.WrongKind)) s
-    var_stuck s h = subst (λ l. RunsLine here (covered_stmt l) s (Err (Stuck why.WrongKind)) s) (ap (λ b. cond b (core.Does core.IllDeed) (core.Var constant x (core_expr loop e))) (sym h)) (ill_line s)
+    var_stuck s h = subst (λ l. RunsLine here l s (Err (Stuck why.WrongKind)) s) (ap (λ b. cond b (core.Does core.IllDeed) (core.Var constant x (core_expr loop e))) (sym h)) (ill_line s)
 
-    var_is : exported ≡ false → core.Var constant x (expr_core loop e) ≡ var_line
-    var_is h = ap (λ b. covered_stmt (cond b (core.Does core.IllDeed) (core.Var constant x (core_expr loop e)))) (sym h)
+    var_is : exported ≡ false → core.Var constant x (core_expr loop e) ≡ var_line
+    var_is h = ap (λ b. cond b (core.Does core.IllDeed) (core.Var constant x (core_expr loop e))) (sym h)
 
     pub var_stops : (s s1 : State) (y : Interrupt) → exported ≡ false → RunsExpr here loop e s (Err y) s1 → RunsLine here var_line s (Err y) s1
     var_stops s s1 y h q = subst (λ l. RunsLine here l s (Err y) s1) (var_is h) (λ next. line_stops here _ _ s s1 y q)
 
-    var_goes : (s s1 s2 : State) (v : Dynamic) → RunsExpr here loop e s (Ok v) s1 → store_of s2 ≡ record (store_of s1) { scope = record { name = x; constant = constant; value = value_of v } ∷ (store_of s1).scope } → s2.turns ≡ s1.turns → RunsLine here (core.Var constant x (expr_core loop e)) s (Ok value.Unit) s2
+    var_goes : (s s1 s2 : State) (v : Dynamic) → RunsExpr here loop e s (Ok v) s1 → store_of s2 ≡ record (store_of s1) { scope = record { name = x; constant = constant; value = value_of v } ∷ (store_of s1).scope } → s2.turns ≡ s1.turns → RunsLine here (core.Var constant x (core_expr loop e)) s (Ok value.Unit) s2
     var_goes s s1 s2 v q k t = λ next.
         goes_then here (line_goes here (λ w. Named x constant w (next UnitV)) q)
         (record { turns = omega (arith, t); runs = λ d le i. run_all here.world (env here d) (next (sym value_of-Unit i)) (sym k i) (sym t i) })
@@ -105,20 +104,20 @@ module _ (here : Setting) (loop : Bool) where
   -- `if`
   module _ (e : tree.Expr) (a b : tree.Stmts) (s s1 : State) where
     abbrev if_deed : core.Deed
-    if_deed = core.If (expr_core loop e) (stmts_core loop a) (stmts_core loop b)
+    if_deed = core.If (core_expr loop e) (core_stmts loop a) (core_stmts loop b)
 
     abbrev list_act : tree.Stmts → Act
-    list_act ss = Scoped (acts here.world true (stmts_core loop ss) UnitV)
+    list_act ss = Scoped (acts here.world true (core_stmts loop ss) UnitV)
 
     pub condition_stops : (x : Interrupt) → RunsExpr here loop e s (Err x) s1 → RunsDeed here if_deed s (Err x) s1
-    condition_stops x q = choice_stops (list_act a) (list_act b) (expr_core loop e) s s1 x q
+    condition_stops x q = choice_stops (list_act a) (list_act b) (core_expr loop e) s s1 x q
 
     pub condition_stuck : (v : Dynamic) (x : Interrupt) → RunsExpr here loop e s (Ok v) s1 → Err x ≡ or_stuck (truth (value_of v)) → RunsDeed here if_deed s (Err x) s1
-    condition_stuck v x q t = choice_stuck (list_act a) (list_act b) (expr_core loop e) s s1 v x q t
+    condition_stuck v x q t = choice_stuck (list_act a) (list_act b) (core_expr loop e) s s1 v x q t
 
     module _ (v : Dynamic) (c : Bool) (s2 : State) (r : Result Dynamic Interrupt) (q : RunsExpr here loop e s (Ok v) s1) (t : Ok c ≡ or_stuck (truth (value_of v))) where
       pub body_runs : c ≡ true → RunsBlock here loop a s1 r s2 → RunsDeed here if_deed s r s2
-      body_runs h k = choice_runs (list_act a) (list_act b) (expr_core loop e) s s1 v c s2 r q t (subst (λ d. Runs here (Acting (choose d (list_act a) (list_act b))) s1 r s2) (sym h) (k true))
+      body_runs h k = choice_runs (list_act a) (list_act b) (core_expr loop e) s s1 v c s2 r q t (subst (λ d. Runs here (Acting (choose d (list_act a) (list_act b))) s1 r s2) (sym h) (k true))
 
       pub branch_runs : c ≡ false → RunsBlock here loop b s1 r s2 → RunsDeed here if_deed s r s2
-      branch_runs h k = choice_runs (list_act a) (list_act b) (expr_core loop e) s s1 v c s2 r q t (subst (λ d. Runs here (Acting (choose d (list_act a) (list_act b))) s1 r s2) (sym h) (k true))
+      branch_runs h k = choice_runs (list_act a) (list_act b) (core_expr loop e) s s1 v c s2 r q t (subst (λ d. Runs here (Acting (choose d (list_act a) (list_act b))) s1 r s2) (sym h) (k true))

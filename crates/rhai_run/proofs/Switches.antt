@@ -24,8 +24,7 @@ use Rattle.rhai_run.specs.declared.plain.state.Interrupt.{Interrupt}
 use Rattle.rhai_run.specs.declared.plain.state.Interrupt.TheVariants.{Stuck}
 use Rattle.rhai_run.specs.declared.plain.state.State.{State}
 use Rattle.rhai_run.specs.declared.report.Stuck.TheVariants as why
-use Rattle.rhai_run.specs.Covered.{covered_arms, covered_deed, covered_stmt}
-use Rattle.rhai_run.specs.Evaluating.{arms_here, expr_core, or_stuck, RunsArm, RunsExpr, RunsFirstArm, RunsLine}
+use Rattle.rhai_run.specs.Evaluating.{arms_here, or_stuck, RunsArm, RunsExpr, RunsFirstArm, RunsLine}
 use Rattle.rhai_run.specs.Runs.{Setting, Acting, Goes, Stops, Runs, given}
 use Rattle.rhai_run.proofs.Goes.{gives, goes_on, goes_as, goes_then, stops_then, leads_then, value_goes, value_stops, if_goes, if_stops}
 use Rattle.rhai_run.proofs.Statements.{deed_line, ill_line}
@@ -41,7 +40,7 @@ not_holding r rs v h = ap (λ b. cond b (r.arm ∷ ranges_with rs v) (ranges_wit
 
 module _ (here : Setting) (loop : Bool) where
   abbrev arm_of : BinaryExpr → ArmActs
-  arm_of b = record { guard = act here.world (expr_core loop (expr_of b.lhs)); answer = act here.world (expr_core loop (expr_of b.rhs)) }
+  arm_of b = record { guard = act here.world (core_expr loop (expr_of b.lhs)); answer = act here.world (core_expr loop (expr_of b.rhs)) }
 
   abbrev pub arm_list : List BinaryExpr → List ArmActs
   arm_list bs = arms_here here loop (arms_of bs)
@@ -184,16 +183,16 @@ module _ (here : Setting) where
   -- a statement whose table is one, or is none
   module _ (loop : Bool) (e : tree.Expr) (as' : tree.Arms) (t : SwitchTable) where
     abbrev switch_line : core.Stmt
-    switch_line = covered_stmt (core_stmt loop (tree.Switch e as' t))
+    switch_line = core_stmt loop (tree.Switch e as' t)
 
-    switch_is : (b : Bool) → is_table as' t ≡ b → core.Does (covered_deed (cond b (core.Switch (core_expr loop e) (core_arms loop as') t) core.IllDeed)) ≡ switch_line
-    switch_is b h = ap (λ c. core.Does (covered_deed (cond c (core.Switch (core_expr loop e) (core_arms loop as') t) core.IllDeed))) (sym h)
+    switch_is : (b : Bool) → is_table as' t ≡ b → core.Does (cond b (core.Switch (core_expr loop e) (core_arms loop as') t) core.IllDeed) ≡ switch_line
+    switch_is b h = ap (λ c. core.Does (cond c (core.Switch (core_expr loop e) (core_arms loop as') t) core.IllDeed)) (sym h)
 
     pub switch_stuck : (s : State) → is_table as' t ≡ false → RunsLine here switch_line s (Err (Stuck why.WrongKind)) s
     switch_stuck s h = subst (λ l. RunsLine here l s (Err (Stuck why.WrongKind)) s) (switch_is false h) (ill_line here loop s)
 
     abbrev switch_deed : core.Deed
-    switch_deed = core.Switch (expr_core loop e) (covered_arms (core_arms loop as')) t
+    switch_deed = core.Switch (core_expr loop e) (core_arms loop as') t
 
     pub switch_stops : (s s1 : State) (x : Interrupt) → is_table as' t ≡ true → RunsExpr here loop e s (Err x) s1 → RunsLine here switch_line s (Err x) s1
     switch_stops s s1 x h q =

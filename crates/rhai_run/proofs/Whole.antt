@@ -6,30 +6,27 @@ use Rattle.rhai_meaning.specs.Act.{ScopeEntry, Host, Outcome, At, Acts, returned
 use Rattle.rhai_meaning.specs.Relations.{store_of as store_after}
 use Rattle.rhai_meaning.specs.Agreeing.{AgreeOn}
 use Rattle.rhai_meaning.specs.Core as core
-use Rattle.rhai_meaning.specs.Desugar.{core_function, core_script}
+use Rattle.rhai_meaning.specs.Desugar.{core_function, core_script, core_stmts}
 use Rattle.rhai_meaning.specs.Engine.{Engine}
 use Rattle.rhai_meaning.specs.Meaning.{acts}
 use Rattle.rhai_meaning.specs.Run.{AtStatements, Report, end_of, report_of, run_script, world_of}
-use Rattle.rhai_meaning.specs.Small.{CallsOperatorsAlone}
 use Rattle.rhai_meaning.specs.Tree.{Script}
 use Rattle.rhai_run.specs.declared.plain.state.Interrupt.{Interrupt}
 use Rattle.rhai_run.specs.declared.plain.state.Interrupt.TheVariants.{NoMemory, Return, Break, Continue, Throw, Stuck, OutOfTurns}
 use Rattle.rhai_run.specs.declared.plain.state.State.{State}
 use Rattle.rhai_run.specs.declared.report.RunEnd.{RunEnd}
-use Rattle.rhai_run.specs.Covered.{covered_function, covered_script}
 use Rattle.rhai_run.specs.Entries.{variable_meant}
-use Rattle.rhai_run.specs.Evaluating.{stmts_core, EndsAs, RunsStmts}
+use Rattle.rhai_run.specs.Evaluating.{EndsAs, RunsStmts}
 use Rattle.rhai_run.specs.Host.{call_meant}
 use Rattle.rhai_run.specs.Report.{end_meant, ReportsRun}
 use Rattle.rhai_run.specs.Runs.{Setting, setting_of, env, Goes, Listing, Over}
 use Rattle.rhai_run.specs.State.{store_of}
 use Rattle.rhai_meaning.proofs.Agreeing.{same_report}
-use Rattle.rhai_run.proofs.SmallRuns.{run_same}
 use Rattle.rhai_run.proofs.Unbound.{unbound_all}
 use Rattle.rhai_run.proofs.Scopes.{reversed_twice}
 
 abbrev pub script_setting : Engine → Host → Script → Setting
-script_setting engine host p = let fs = map covered_function (map core_function p.functions) in setting_of (world_of engine host fs) fs
+script_setting engine host p = let fs = (map core_function p.functions) in setting_of (world_of engine host fs) fs
 
 abbrev report_at : State → RunEnd → Report
 report_at s e = record { ended = end_meant e; variables = map variable_meant s.scope.items; this = None; calls = map call_meant s.calls; turns = s.turns }
@@ -42,15 +39,11 @@ with_agreeing engine host p scope n r e h g = e ∙ same_report engine host h p 
 pub with_itself : (engine : Engine) (host : Host) (p : core.Script) (scope : List ScopeEntry) (n : ℕ) (r : Report) → ReportsRun engine host p scope n r → r ≡ report_of AtStatements (run_script engine host p AtStatements scope n)
 with_itself engine host p scope n r q = q host (record { answers = λ past c b. refl; modules = λ x. refl })
 
--- a script whose calls are those of operators is run as it is
-pub operators_report : (engine : Engine) (host : Host) (p : Script) (scope : List ScopeEntry) (n : ℕ) (r : Report) → ReportsRun engine host (covered_script (core_script p)) scope n r → CallsOperatorsAlone p → ReportsRun engine host (core_script p) scope n r
-operators_report engine host p scope n r q h = λ other agree. q other agree ∙ ap (report_of AtStatements) (run_same engine other p scope n h)
-
 module _ (engine : Engine) (host : Host) (p : Script) (scope : List ScopeEntry) (n : ℕ) (s s1 : State) (at_start : store_of s ≡ record { scope = scope; this = None; calls = [] }) (turns : s.turns ≡ n) where
   abbrev whole_acts : Acts
-  whole_acts = acts (script_setting engine host p).world true (stmts_core false p.statements) UnitV
+  whole_acts = acts (script_setting engine host p).world true (core_stmts false p.statements) UnitV
 
-  outcome_report : (o : Outcome) (e : RunEnd) → end_meant e ≡ end_of (returned_outcome o) → Goes (script_setting engine host p) (Listing whole_acts) s (Over o) s1 → report_at s1 e ≡ report_of AtStatements (run_script engine host (covered_script (core_script p)) AtStatements scope n)
+  outcome_report : (o : Outcome) (e : RunEnd) → end_meant e ≡ end_of (returned_outcome o) → Goes (script_setting engine host p) (Listing whole_acts) s (Over o) s1 → report_at s1 e ≡ report_of AtStatements (run_script engine host (core_script p) AtStatements scope n)
   unfolding run_script
   outcome_report o e h q =
       let here = script_setting engine host p in
@@ -59,7 +52,7 @@ module _ (engine : Engine) (host : Host) (p : Script) (scope : List ScopeEntry) 
       sym (ap (λ r. report_of AtStatements (returned r)) ((λ i. run_all here.world (env here n) whole_acts (sym at_start i) (sym turns i)) ∙ ran)
       ∙ (λ i. record { ended = sym h i; variables = reversed_twice (map variable_meant s1.scope.items) i; this = this i; calls = map call_meant s1.calls; turns = s1.turns }))
 
-  ended_report : (ended : Result Dynamic Interrupt) (e : RunEnd) → EndsAs ended e → RunsStmts (script_setting engine host p) false p.statements s ended s1 → report_at s1 e ≡ report_of AtStatements (run_script engine host (covered_script (core_script p)) AtStatements scope n)
+  ended_report : (ended : Result Dynamic Interrupt) (e : RunEnd) → EndsAs ended e → RunsStmts (script_setting engine host p) false p.statements s ended s1 → report_at s1 e ≡ report_of AtStatements (run_script engine host (core_script p) AtStatements scope n)
   ended_report (Ok v) e h q = outcome_report _ e (ap end_meant h) (q true)
   ended_report (Err NoMemory) e h q = absurd h
   ended_report (Err (Return v)) e h q = outcome_report _ e (ap end_meant h) (q true)
@@ -69,5 +62,5 @@ module _ (engine : Engine) (host : Host) (p : Script) (scope : List ScopeEntry) 
   ended_report (Err (Stuck f)) e h q = outcome_report _ e (ap end_meant h) (q true)
   ended_report (Err OutOfTurns) e h q = outcome_report _ e (ap end_meant h) (q true)
 
-  pub script_report : (ended : Result Dynamic Interrupt) (e : RunEnd) → EndsAs ended e → RunsStmts (script_setting engine host p) false p.statements s ended s1 → ReportsRun engine host (covered_script (core_script p)) scope n (report_at s1 e)
-  script_report ended e h q = with_agreeing engine host (covered_script (core_script p)) scope n (report_at s1 e) (ended_report ended e h q)
+  pub script_report : (ended : Result Dynamic Interrupt) (e : RunEnd) → EndsAs ended e → RunsStmts (script_setting engine host p) false p.statements s ended s1 → ReportsRun engine host (core_script p) scope n (report_at s1 e)
+  script_report ended e h q = with_agreeing engine host (core_script p) scope n (report_at s1 e) (ended_report ended e h q)

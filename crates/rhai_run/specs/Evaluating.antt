@@ -25,7 +25,6 @@ use Rattle.rhai_run.specs.declared.plain.state.State.{State}
 use Rattle.rhai_run.specs.declared.report.RunEnd.{RunEnd}
 use Rattle.rhai_run.specs.declared.report.RunEnd.TheVariants as ended
 use Rattle.rhai_run.specs.declared.report.Stuck.TheVariants as why
-use Rattle.rhai_run.specs.Covered.{covered_arms, covered_expr, covered_exprs, covered_function, covered_pairs, covered_stmt, covered_stmts}
 use Rattle.rhai_run.specs.Host.{host_of}
 use Rattle.rhai_run.specs.Runs.{Setting, setting_of, Task, Acting, Listing, Over, Leads, given}
 use Rattle.rhai_run.specs.Exits.{round_end}
@@ -34,7 +33,7 @@ pub use Rattle.rhai_run.specs.Runs.{Runs}
 -- that of an evaluator, by what its host answers and its modules hold
 abbrev pub setting : {H : Type 0} → (H → List HostCall → HostCall → Answer) → (H → List ModuleValue) → Evaluator H → Setting
 setting answers modules e =
-    let fs = map covered_function (map core_function (functions_of e.functions.now)) in
+    let fs = (map core_function (functions_of e.functions.now)) in
     setting_of (world_of (engine_of e.info.now) (host_of (answers e.host.now) (modules e.host.now)) fs) fs
 
 -- what the bodies of functions weigh
@@ -66,65 +65,46 @@ EndsAs (Err (Throw v)) e = e ≡ ended.Thrown v
 EndsAs (Err (Stuck f)) e = e ≡ ended.Stuck f
 EndsAs (Err OutOfTurns) e = e ≡ ended.OutOfTurns
 
--- ---- the cores of trees, as far as they are run; loop: in the body of a loop
-
-abbrev pub expr_core : Bool → tree.Expr → core.Expr
-expr_core loop e = covered_expr (core_expr loop e)
-
-abbrev pub exprs_core : Bool → tree.Exprs → core.Exprs
-exprs_core loop es = covered_exprs (core_exprs loop es)
-
-abbrev pub pairs_core : Bool → tree.Pairs → core.Pairs
-pairs_core loop ps = covered_pairs (core_pairs loop ps)
-
-abbrev pub maybe_core : Bool → tree.MaybeExpr → core.Expr
-maybe_core loop m = covered_expr (core_maybe loop m)
-
-abbrev pub call_core : Bool → tree.Callee → tree.Exprs → core.Expr
-call_core loop c es = covered_expr (call_of c (tree.count_exprs es) (core_exprs loop es))
-
-abbrev pub stmt_core : Bool → tree.Stmt → core.Stmt
-stmt_core loop s = covered_stmt (core_stmt loop s)
-
-abbrev pub stmts_core : Bool → tree.Stmts → core.Stmts
-stmts_core loop ss = covered_stmts (core_stmts loop ss)
-
 -- ---- expressions
+
+-- a call as an expression; loop: in the body of a loop
+abbrev pub call_core : Bool → tree.Callee → tree.Exprs → core.Expr
+call_core loop c es = call_of c (tree.count_exprs es) (core_exprs loop es)
 
 abbrev pub RunsCore : Setting → core.Expr → State → Result Dynamic Interrupt → State → Type 0
 RunsCore here e = Runs here (Acting (act here.world e))
 
 abbrev pub RunsExpr : Setting → Bool → tree.Expr → State → Result Dynamic Interrupt → State → Type 0
-RunsExpr here loop e = RunsCore here (expr_core loop e)
+RunsExpr here loop e = RunsCore here (core_expr loop e)
 
 abbrev pub RunsCall : Setting → Bool → tree.Callee → tree.Exprs → State → Result Dynamic Interrupt → State → Type 0
 RunsCall here loop c es = RunsCore here (call_core loop c es)
 
 abbrev pub RunsMaybe : Setting → Bool → tree.MaybeExpr → State → Result Dynamic Interrupt → State → Type 0
-RunsMaybe here loop m = RunsCore here (maybe_core loop m)
+RunsMaybe here loop m = RunsCore here (core_maybe loop m)
 
 abbrev pub RunsBoth : Setting → Bool → tree.Exprs → State → Result Dynamic Interrupt → State → Type 0
-RunsBoth here loop es = Runs here (Acting (both here.world (exprs_core loop es)))
+RunsBoth here loop es = Runs here (Acting (both here.world (core_exprs loop es)))
 
 abbrev pub RunsEither : Setting → Bool → tree.Exprs → State → Result Dynamic Interrupt → State → Type 0
-RunsEither here loop es = Runs here (Acting (either here.world (exprs_core loop es)))
+RunsEither here loop es = Runs here (Acting (either here.world (core_exprs loop es)))
 
 abbrev pub RunsFirstSome : Setting → Bool → tree.Exprs → State → Result Dynamic Interrupt → State → Type 0
-RunsFirstSome here loop es = Runs here (Acting (first_some here.world (exprs_core loop es)))
+RunsFirstSome here loop es = Runs here (Acting (first_some here.world (core_exprs loop es)))
 
 -- the arguments have these values, whatever is done with them
 abbrev pub RunsArgs : Setting → core.Exprs → State → Result (List Dynamic) Interrupt → State → Type 0
 RunsArgs here es s r s' = (next : List Value → Act) → Leads here (Acting (with_args here.world es next)) s r s' (λ vs. Acting (next (map value_of vs)))
 
 abbrev pub RunsExprs : Setting → Bool → tree.Exprs → State → Result (List Dynamic) Interrupt → State → Type 0
-RunsExprs here loop es = RunsArgs here (exprs_core loop es)
+RunsExprs here loop es = RunsArgs here (core_exprs loop es)
 
 -- the pairs make this map, whatever is done with it
 abbrev pub RunsPairs : Setting → core.Pairs → State → Result (List (Text × Dynamic)) Interrupt → State → Type 0
 RunsPairs here ps s r s' = (next : Fields → Act) → Leads here (Acting (with_pairs here.world ps (λ vs. next (fields_of vs)))) s r s' (λ m. Acting (next (fields (members_of m))))
 
 abbrev pub RunsMembers : Setting → Bool → tree.Pairs → State → Result (List (Text × Dynamic)) Interrupt → State → Type 0
-RunsMembers here loop ps = RunsPairs here (pairs_core loop ps)
+RunsMembers here loop ps = RunsPairs here (core_pairs loop ps)
 
 -- ---- statements
 
@@ -136,14 +116,14 @@ abbrev pub RunsLine : Setting → core.Stmt → State → Result Dynamic Interru
 RunsLine here l s r s' = (next : Value → Acts) → Leads here (Listing (line here.world l next)) s r s' (λ v. Listing (next (value_of v)))
 
 abbrev pub RunsStmt : Setting → Bool → tree.Stmt → State → Result Dynamic Interrupt → State → Type 0
-RunsStmt here loop l = RunsLine here (stmt_core loop l)
+RunsStmt here loop l = RunsLine here (core_stmt loop l)
 
 -- a list whose names stay, and one whose names go; the value may be wanted or not
 abbrev pub RunsStmts : Setting → Bool → tree.Stmts → State → Result Dynamic Interrupt → State → Type 0
-RunsStmts here loop ss s r s' = (wanted : Bool) → Leads here (Listing (acts here.world wanted (stmts_core loop ss) UnitV)) s r s' (λ v. given (wanted_value wanted (value_of v)))
+RunsStmts here loop ss s r s' = (wanted : Bool) → Leads here (Listing (acts here.world wanted (core_stmts loop ss) UnitV)) s r s' (λ v. given (wanted_value wanted (value_of v)))
 
 abbrev pub RunsBlock : Setting → Bool → tree.Stmts → State → Result Dynamic Interrupt → State → Type 0
-RunsBlock here loop ss s r s' = (wanted : Bool) → Leads here (Acting (Scoped (acts here.world wanted (stmts_core loop ss) UnitV))) s r s' (λ v. given (wanted_value wanted (value_of v)))
+RunsBlock here loop ss s r s' = (wanted : Bool) → Leads here (Acting (Scoped (acts here.world wanted (core_stmts loop ss) UnitV))) s r s' (λ v. given (wanted_value wanted (value_of v)))
 
 -- a round of a loop over a list, with its turn: the loop's value, or none where another round follows
 abbrev pub RunsRound : Setting → Acts → State → Result (Option Dynamic) Interrupt → State → Type 0
@@ -151,7 +131,7 @@ RunsRound here p s r s' = Leads here (Acting (round p)) s r s' (λ o. Over (Ende
 
 -- the arms of a `switch`
 abbrev pub arms_here : Setting → Bool → tree.Arms → List ArmActs
-arms_here here loop as' = arm_acts here.world (covered_arms (core_arms loop as'))
+arms_here here loop as' = arm_acts here.world (core_arms loop as')
 
 -- the answer of an arm, or what comes next
 abbrev pub arm_then : Act → Option Dynamic → Task
@@ -168,7 +148,7 @@ RunsFirstArm here arms places s r s' = (default : Act) → Leads here (Acting (f
 
 -- the list of a loop's body
 abbrev pub body_of : Setting → tree.Stmts → Acts
-body_of here ss = acts here.world false (stmts_core true ss) UnitV
+body_of here ss = acts here.world false (core_stmts true ss) UnitV
 
 -- a list whose names stay, and whose value nothing uses
 abbrev pub RunsList : Setting → Acts → State → Result Dynamic Interrupt → State → Type 0

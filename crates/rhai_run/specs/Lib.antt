@@ -2,10 +2,12 @@ pub mod Host
 pub mod Entries
 pub mod Report
 pub mod State
-pub mod Covered
 pub mod Runs
 pub mod Variables
 pub mod Exits
 pub mod Operators
 pub mod Evaluating
 pub mod Words
+pub mod Placing
+pub mod Chaining
+pub mod Targets

@@ -3,31 +3,37 @@
 mod asking;
 mod assigning;
 mod calling;
+mod chains;
 mod choosing;
 mod counting;
 mod evaluator;
 mod exits;
 mod invoking;
+mod left_sides;
+mod links;
 mod logic;
 mod loops;
 mod maps;
+mod methods;
 mod operators;
+mod parts;
+mod placing;
 mod pointers;
 mod state;
 mod statements;
+mod targets;
 mod values;
 mod variables;
 mod words;
+mod writing;
 
-ghost use Rattle.std.specs.Prelude.{◌≡◌, IfOk};
+ghost use Rattle.std.specs.Prelude.{IfOk};
 ghost use Rattle.rhai_meaning.specs.Desugar.{core_script};
 ghost use Rattle.rhai_script.specs.Script.{script_of};
 ghost use Rattle.rhai_engine.specs.EngineInfo.{engine_of};
 ghost use Rattle.rhai_run.specs.Host.{host_of};
 ghost use Rattle.rhai_run.specs.Report.{report_meant, ReportsRun};
 ghost use Rattle.rhai_run.specs.Evaluating.{EndsAs};
-ghost use Rattle.rhai_meaning.specs.Small.{CallsOperatorsAlone};
-ghost use Rattle.rhai_run.specs.Covered.{covered_script};
 ghost use Rattle.rhai_run.specs.Entries.{start_scope};
 
 use crate::plain::evaluator::Evaluator;
@@ -37,12 +43,13 @@ use rhai_base::{Dynamic, OutOfMemory, Scope, Seq};
 use rhai_script::AST;
 use std::alloc::Global;
 
-/// Runs a script's statements from a scope, with so many turns. It only borrows the script, and shares nothing with
-/// the optimiser. So far it runs all but chains and assignments to parts of values, which are stuck as parts of
-/// the wrong kind.
+/// Runs a script's statements from a scope, with so many turns. It only borrows the script, and uses no rule and no
+/// recursion of the optimiser.
 ///
-/// The report is that of the run with every host that answers the reported calls as this one did: nothing else of the
-/// host is asked.
+/// The report is that of the run with every host that answers the reported calls as this one did and has the same
+/// module values: nothing else of the host is asked. What throws, is stuck or comes to no end in its turns is a report
+/// too; the one error is want of memory. Behaves as `Engine::run_ast_with_scope`, which answers an error where a run
+/// throws or is stuck.
 pub fn plain_run<H: Host>(
     alloc: Global,
     ast: &AST,
@@ -51,10 +58,7 @@ pub fn plain_run<H: Host>(
     scope: &Scope,
     turns: u64,
 ) -> Result<RunReport, OutOfMemory>
-    ensures run { IfOk result (λ r. ReportsRun (engine_of info.now) (host_of (H.answers host.now) (H.modules host.now)) (covered_script (core_script (script_of ast.now))) (start_scope scope.now) turns (report_meant r)) }
-
-    // A script all of whose calls are those of operators is run as it is.
-    ensures operators { IfOk result (λ r. CallsOperatorsAlone (script_of ast.now) → ReportsRun (engine_of info.now) (host_of (H.answers host.now) (H.modules host.now)) (core_script (script_of ast.now)) (start_scope scope.now) turns (report_meant r)) }
+    ensures { IfOk result (λ r. ReportsRun (engine_of info.now) (host_of (H.answers host.now) (H.modules host.now)) (core_script (script_of ast.now)) (start_scope scope.now) turns (report_meant r)) }
 {
     let evaluator = Evaluator {
         alloc,

@@ -7,7 +7,6 @@ use Rattle.rhai_meaning.specs.Act.{ScopeEntry, Unbound, WrongKind, Key, Gives, E
 use Rattle.rhai_meaning.specs.Calls.{key, call_named, call_pointer}
 use Rattle.rhai_meaning.specs.ActForms.{give}
 use Rattle.rhai_meaning.specs.Desugar.{core_expr, core_script}
-use Rattle.rhai_meaning.specs.Small.{small_script}
 use Rattle.rhai_meaning.specs.Core as core
 use Rattle.rhai_meaning.specs.Engine.{Engine}
 use Rattle.rhai_meaning.specs.Meaning.{acts}
@@ -203,17 +202,3 @@ function_entered = refl
 function_missed : entered_by two_parameters (key (codes "f") 1 None) ≡ record { ended = WithStuck Unbound; variables = []; this = None; calls = []; turns = 1 }
 unfolding entered_by
 function_missed = refl
-
--- ---- the small language: of 1 + f(g()) no call is asked; 1 + 2
-
-unfoldable small_ran : List Stmt → Report
-unfolding run_script computed joins
-small_ran ss = report_of AtStatements (run_script nothing_set joining (small_script (core_script (record { statements = stmts ss; functions = [] }))) AtStatements [] 0)
-
-small_call_by_name : small_ran (ExprStmt (op Plus (int 1 ∷ call "f" (call "g" [] ∷ []) ∷ [])) ∷ []) ≡ ends (WithStuck WrongKind) []
-unfolding small_ran
-small_call_by_name = refl
-
-small_operator : small_ran (ExprStmt (op Plus (int 1 ∷ int 2 ∷ [])) ∷ []) ≡ ends (WithValue (i 3)) []
-unfolding small_ran
-small_operator = refl

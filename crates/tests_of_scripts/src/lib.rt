@@ -13,6 +13,8 @@ mod given;
 #[cfg(test)]
 mod guide_runs;
 #[cfg(test)]
+mod hosted;
+#[cfg(test)]
 mod hosts;
 #[cfg(test)]
 mod merged;

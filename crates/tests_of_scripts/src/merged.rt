@@ -1,10 +1,9 @@
 //! Merged scripts, run.
 
+use crate::hosted::is_ended;
 use crate::vectors::script;
 use rhai_ast::{FnAccess, FnNamespace};
-use rhai_base::{OutOfMemory, Scope};
-use rhai_program::{ProgramHost, push_report};
-use rhai_run::{EngineInfo, plain_run};
+use rhai_base::OutOfMemory;
 use rhai_script::AST;
 use std::alloc::Global;
 use std::test::Fail;
@@ -28,15 +27,6 @@ fn is_error(
     params: usize,
 ) -> bool {
     of_script && name == "error" && params == 0
-}
-
-fn is_ended(alloc: Global, script: &AST, end: &str) -> Result<bool, OutOfMemory> {
-    let info = EngineInfo::new(alloc);
-    let scope = Scope::new(alloc);
-    let report = plain_run(alloc, script, &info, &ProgramHost, &scope, 10)?;
-    let mut text = String::new(alloc);
-    push_report(&report, &mut text)?;
-    Ok(text.as_str().starts_with(end))
 }
 
 fn is_merged(alloc: Global, first: &AST, second: &AST) -> Result<bool, OutOfMemory> {

@@ -1,6 +1,6 @@
-//! Scripts with the reports of their runs: each is read and printed again, and those without chains are run. All but the worked ones were made at random or
-//! by sentences of the language, and another evaluator computed their reports. They are texts, as tables of so many rows are dear
-//! to prove, and a text that one test speaks of is below 60 KB, as the check of a function has a limit.
+//! Scripts with the reports of their runs: each is read, printed again and run. All but the worked ones were made at random or by
+//! sentences of the language, and another evaluator computed their reports. They are texts, as tables of so many rows are dear to
+//! prove, and a text that one test speaks of is below 60 KB, as the check of a function has a limit.
 
 mod chains;
 mod directed;
@@ -34,8 +34,8 @@ fn scripts_of_chains_run_to_their_reports(rt: HostRuntime) -> Result<(), Fail> {
 }
 
 #[test]
-fn long_chains_are_printed_as_they_are_read(rt: HostRuntime) -> Result<(), Fail> {
-    assert_eq!(rt; unread(rt.alloc(), chains::CHAINS)?, "");
+fn long_chains_run_to_their_reports(rt: HostRuntime) -> Result<(), Fail> {
+    assert_eq!(rt; unmet(rt.alloc(), chains::CHAINS)?, "");
     Ok(())
 }
 
@@ -46,8 +46,8 @@ fn directed_scripts_run_to_their_reports(rt: HostRuntime) -> Result<(), Fail> {
 }
 
 #[test]
-fn directed_chains_are_printed_as_they_are_read(rt: HostRuntime) -> Result<(), Fail> {
-    assert_eq!(rt; unread(rt.alloc(), directed::CHAINS)?, "");
+fn directed_chains_run_to_their_reports(rt: HostRuntime) -> Result<(), Fail> {
+    assert_eq!(rt; unmet(rt.alloc(), directed::CHAINS)?, "");
     Ok(())
 }
 
@@ -58,8 +58,8 @@ fn scripts_of_flow_run_to_their_reports(rt: HostRuntime) -> Result<(), Fail> {
 }
 
 #[test]
-fn chains_of_flow_are_printed_as_they_are_read(rt: HostRuntime) -> Result<(), Fail> {
-    assert_eq!(rt; unread(rt.alloc(), flow::CHAINS)?, "");
+fn chains_of_flow_run_to_their_reports(rt: HostRuntime) -> Result<(), Fail> {
+    assert_eq!(rt; unmet(rt.alloc(), flow::CHAINS)?, "");
     Ok(())
 }
 
@@ -70,8 +70,8 @@ fn full_scripts_run_to_their_reports(rt: HostRuntime) -> Result<(), Fail> {
 }
 
 #[test]
-fn full_chains_are_printed_as_they_are_read(rt: HostRuntime) -> Result<(), Fail> {
-    assert_eq!(rt; unread(rt.alloc(), full::CHAINS)?, "");
+fn full_chains_run_to_their_reports(rt: HostRuntime) -> Result<(), Fail> {
+    assert_eq!(rt; unmet(rt.alloc(), full::CHAINS)?, "");
     Ok(())
 }
 
@@ -88,8 +88,8 @@ fn odd_scripts_run_to_their_reports(rt: HostRuntime) -> Result<(), Fail> {
 }
 
 #[test]
-fn odd_chains_are_printed_as_they_are_read(rt: HostRuntime) -> Result<(), Fail> {
-    assert_eq!(rt; unread(rt.alloc(), odd::CHAINS)?, "");
+fn odd_chains_run_to_their_reports(rt: HostRuntime) -> Result<(), Fail> {
+    assert_eq!(rt; unmet(rt.alloc(), odd::CHAINS)?, "");
     Ok(())
 }
 
@@ -100,25 +100,9 @@ fn worked_scripts_run_to_their_reports(rt: HostRuntime) -> Result<(), Fail> {
 }
 
 #[test]
-fn worked_chains_are_printed_as_they_are_read(rt: HostRuntime) -> Result<(), Fail> {
-    assert_eq!(rt; unread(rt.alloc(), worked::CHAINS)?, "");
+fn worked_chains_run_to_their_reports(rt: HostRuntime) -> Result<(), Fail> {
+    assert_eq!(rt; unmet(rt.alloc(), worked::CHAINS)?, "");
     Ok(())
-}
-
-/// The first of the runs whose script is not printed as it is read; nothing where there is none.
-fn unread<'a>(alloc: Global, runs: &'a str) -> Result<&'a str, Unread> {
-    for run in runs.split(END) {
-        if !is_read(alloc, run)? {
-            return Ok(run);
-        }
-    }
-    Ok("")
-}
-
-fn is_read(alloc: Global, run: &str) -> Result<bool, Unread> {
-    let (_, text, _) = parts(run)?;
-    let script = script(alloc, text)?;
-    Ok(is_printed_as_read(alloc, &script, text)?)
 }
 
 /// The first of the runs that does not come to its report, or whose script is not printed as it is read; nothing where there is

@@ -14,7 +14,7 @@ use Rattle.rhai_meaning.specs.Elements.{element, character, bit}
 use Rattle.rhai_meaning.specs.Meaning.{act}
 use Rattle.rhai_meaning.specs.Places.{AtIndex, Place, Current, along, or_no_place, part, without_place, again_at}
 use Rattle.rhai_meaning.specs.Shape.{is_unit}
-use Rattle.rhai_meaning.specs.Small.{is_operator}
+use Rattle.rhai_meaning.specs.OperatorCalls.{is_operator}
 use Rattle.rhai_meaning.specs.Tree.{CallToken, NoToken, OfOperator, OfOther, Callee, PropertyNames, Expr}
 use Rattle.rhai_rewriting.specs.SelfAssign.{writes_nothing, leaves_names}
 use Rattle.rhai_rewriting.proofs.acts.Still.{Still, still_stop, still_fail, still_then, still_turn, still_read, still_ask, still_loop, still_scoped, StillList, still_only, still_do, still_named}

@@ -2,7 +2,7 @@
 use Rattle.std.proofs.Common.{◌≡◌, Bool, true, false}
 use Rattle.rhai_values.specs.Value.{Value, UnitV, PointerV}
 use Rattle.rhai_meaning.specs.Constants.{constant_for}
-use Rattle.rhai_meaning.specs.Small.{CallsOperator}
+use Rattle.rhai_meaning.specs.OperatorCalls.{CallsOperator}
 use Rattle.rhai_meaning.specs.Tree.{ChainFlags, Expr, Stmts}
 use Rattle.rhai_meaning.specs.Walk.{Node, OfExpr, Around, outermost, every, throughout, over_stmts}
 use Rattle.rhai_meaning.proofs.Walk.{stmts_alongside, every_throughout}

@@ -10,16 +10,19 @@ ghost use Rattle.rhai_meaning.specs.Act.{Write};
 ghost use Rattle.rhai_meaning.specs.Calls as calls;
 ghost use Rattle.rhai_meaning.specs.Chains as chains;
 ghost use Rattle.rhai_meaning.specs.Desugar.{core_stmt};
+ghost use Rattle.rhai_meaning.specs.Meaning as meaning;
 ghost use Rattle.rhai_meaning.specs.Tree as tree;
-ghost use Rattle.rhai_run.specs.Covered.{covered_stmt};
 ghost use Rattle.rhai_run.specs.Evaluating.{setting, Runs, RunsLine};
 ghost use Rattle.rhai_run.specs.Runs.{Acting};
+ghost use Rattle.rhai_run.specs.Targets.{side_core};
 ghost use Rattle.rhai_run.specs.Variables.{root_meant};
 
 use crate::plain::evaluator::Evaluator;
+use crate::plain::left_sides::{LeftSide, left_side};
 use crate::plain::operators::{asks_assigning, assigning_name, assigning_operator};
+use crate::plain::placing::Place;
 use crate::plain::state::{Interrupt, State};
-use crate::plain::variables::{Root, root_of};
+use crate::plain::variables::Root;
 use crate::{Host, Stuck};
 use rhai_ast::BinaryExpr;
 use rhai_base::{Dynamic, OpAssignment, Seq, Token};
@@ -33,13 +36,34 @@ impl<'a, H: Host> Evaluator<'a, H> {
         op: &OpAssignment,
         sides: &BinaryExpr,
     ) -> Result<Dynamic, Interrupt>
-        ensures { RunsLine (setting H.answers H.modules self.now) (covered_stmt (core_stmt self.now.in_loop (tree.Assignment (operator_of op.now.op) (expr_of sides.now.lhs) (expr_of sides.now.rhs)))) state.old result state.new }
+        ensures { RunsLine (setting H.answers H.modules self.now) (core_stmt self.now.in_loop (tree.Assignment (operator_of op.now.op) (expr_of sides.now.lhs) (expr_of sides.now.rhs))) state.old result state.new }
     {
-        let Some(root) = root_of(&sides.lhs) else {
+        let Some(side) = left_side(&sides.lhs) else {
             return Err(Interrupt::Stuck(Stuck::WrongKind));
         };
         let value = self.expr(state, &sides.rhs)?;
-        self.assign_root(state, op, root, value)
+        self.assign(state, op, side, value)
+    }
+
+    /// Assigns to a left side.
+    #[cycle(evaluate)]
+    fn assign(
+        &self,
+        state: &mut State,
+        op: &OpAssignment,
+        side: LeftSide,
+        value: Dynamic,
+    ) -> Result<Dynamic, Interrupt>
+        ensures { let here = setting H.answers H.modules self.now in Runs here (Acting (meaning.assign here.world (operator_of op.now.op) (side_core self.now.in_loop side.entry) (value_of value))) state.old result state.new }
+    {
+        match side {
+            LeftSide::Root(root) => self.assign_root(state, op, root, value),
+            LeftSide::Part(base, rest) => {
+                self.assign_part(state, op, base, rest, value)?;
+                Ok(Dynamic::Unit)
+            }
+            LeftSide::Nowhere => Err(Interrupt::Stuck(Stuck::NoPlace)),
+        }
     }
 
     /// Writes to a name or to `this`, which an operator reads first.
@@ -71,7 +95,8 @@ impl<'a, H: Host> Evaluator<'a, H> {
     ) -> Result<Dynamic, Interrupt>
         ensures { Runs (setting H.answers H.modules self.now) (Acting (Write true (root_meant root.entry) (value_of value))) state.old result state.new }
     {
-        self.write(state, true, root, value)?;
+        let keys = Seq::new(self.alloc);
+        self.write_place(state, true, &Place { root, keys }, value)?;
         Ok(Dynamic::Unit)
     }
 

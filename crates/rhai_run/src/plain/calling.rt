@@ -99,7 +99,7 @@ impl<'a, H: Host> Evaluator<'a, H> {
 }
 
 /// Whether a call's name and token may stand in a tree, and the language runs what it names.
-fn is_callable(call: &FnCallExpr) -> bool
+pub fn is_callable(call: &FnCallExpr) -> bool
     ensures { result ≡ shape.is_callable (callee_of call.now) (length call.now.args) }
 {
     is_formed(call) && !is_barred_call(call)

@@ -10,7 +10,6 @@ ghost use Rattle.rhai_values.specs.Value.{is_hashable};
 ghost use Rattle.rhai_meaning.specs.Control.{case_for, chosen, default_of, ranges_with, switch_on};
 ghost use Rattle.rhai_meaning.specs.Desugar.{core_stmt};
 ghost use Rattle.rhai_meaning.specs.Tree as tree;
-ghost use Rattle.rhai_run.specs.Covered.{covered_stmt};
 ghost use Rattle.rhai_run.specs.Evaluating.{arms_here, setting, Runs, RunsArm, RunsFirstArm, RunsLine};
 ghost use Rattle.rhai_run.specs.Runs.{Acting};
 
@@ -27,7 +26,7 @@ impl<'a, H: Host> Evaluator<'a, H> {
     /// that no tree has is stuck.
     #[cycle(evaluate)]
     pub fn switch(&self, state: &mut State, block: &SwitchBlock) -> Result<Dynamic, Interrupt>
-        ensures { RunsLine (setting H.answers H.modules self.now) (covered_stmt (core_stmt self.now.in_loop (tree.Switch (expr_of (subject_of block.now)) (arms_of (expressions_of (cases_of block.now))) (table_of (cases_of block.now))))) state.old result state.new }
+        ensures { RunsLine (setting H.answers H.modules self.now) (core_stmt self.now.in_loop (tree.Switch (expr_of (subject_of block.now)) (arms_of (expressions_of (cases_of block.now))) (table_of (cases_of block.now)))) state.old result state.new }
     {
         if !is_table(&block.cases) {
             return Err(Interrupt::Stuck(Stuck::WrongKind));

@@ -6,10 +6,11 @@ ghost use Rattle.std.specs.Prelude.{◌≡◌, true, false, ◌^◌, ◌≤ℤ�
 ghost use Rattle.rhai_reading.specs.Reading.{counter_of, expr_of, stmts_of};
 ghost use Rattle.rhai_values.specs.Reading.{value_of};
 ghost use Rattle.rhai_values.specs.declared.dynamic.Dynamic.TheVariants as value;
+ghost use Rattle.rhai_meaning.specs.Desugar.{core_expr, core_stmts};
 ghost use Rattle.rhai_meaning.specs.Act.{Named};
 ghost use Rattle.rhai_meaning.specs.Control.{counted, for_count, for_each, size};
 ghost use Rattle.rhai_meaning.specs.Core.{For};
-ghost use Rattle.rhai_run.specs.Evaluating.{body_of, expr_core, setting, stmts_core, Runs, RunsCounted, RunsDeed, RunsList, RunsRound};
+ghost use Rattle.rhai_run.specs.Evaluating.{body_of, setting, Runs, RunsCounted, RunsDeed, RunsList, RunsRound};
 ghost use Rattle.rhai_run.specs.Exits.{count_of};
 ghost use Rattle.rhai_run.specs.Runs.{Acting, Setting};
 
@@ -28,7 +29,7 @@ impl<'a, H: Host> Evaluator<'a, H> {
         state: &mut State,
         parts: &(Ident, Option<Ident>, FlowControl),
     ) -> Result<Dynamic, Interrupt>
-        ensures { RunsDeed (setting H.answers H.modules self.now) (For parts.now.0.name (counter_of parts.now.1) (expr_core self.now.in_loop (expr_of parts.now.2.expr)) (stmts_core true (stmts_of parts.now.2.body.block))) state.old result state.new }
+        ensures { RunsDeed (setting H.answers H.modules self.now) (For parts.now.0.name (counter_of parts.now.1) (core_expr self.now.in_loop (expr_of parts.now.2.expr)) (core_stmts true (stmts_of parts.now.2.body.block))) state.old result state.new }
     {
         match self.expr(state, &parts.2.expr)? {
             Dynamic::Array(items) => self.for_each(state, parts, items),

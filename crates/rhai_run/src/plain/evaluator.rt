@@ -2,11 +2,10 @@
 
 #![tactic(auto, using(rhai_reading::specs::Reading::shapes, rhai_values::specs::Reading::kinds))]
 
-ghost use Rattle.std.specs.Prelude.{◌≡◌, ◌<◌, true, false, IfSome};
+ghost use Rattle.std.specs.Prelude.{◌≡◌, ◌<◌, ◌≤◌, true, false, MatchOption};
 ghost use Rattle.rhai_reading.specs.Reading.{expr_of, exprs_of, keys_of, maybe_of, pairs_of};
 ghost use Rattle.rhai_meaning.specs.Desugar.{core_expr};
 ghost use Rattle.rhai_meaning.specs.Tree.{MapOf};
-ghost use Rattle.rhai_run.specs.Covered.{covered_expr};
 ghost use Rattle.rhai_run.specs.Evaluating.{setting, RunsCore, RunsExpr, RunsExprs, RunsMaybe, RunsMembers};
 
 use crate::plain::maps::{insert, is_map};
@@ -51,10 +50,10 @@ impl<'a, H: Host> Evaluator<'a, H> {
         }
     }
 
-    /// The same in the body of a function that is entered with so many turns left. They are fewer than when the body
-    /// around was entered, so that there always is one.
+    /// The same in the body of a function that is entered with so many turns left. `None` where they are not fewer than
+    /// when the body around was entered, which no run comes to.
     pub fn inside_function(&self, turns: u64) -> Option<Evaluator<'a, H>>
-        ensures { IfSome result (λ e. (e ≡ record self.now { in_loop = false; depth = turns }) × (turns < self.now.depth)) }
+        ensures { MatchOption result (self.now.depth ≤ turns) (λ e. (e ≡ record self.now { in_loop = false; depth = turns }) × (turns < self.now.depth)) }
     {
         if turns >= self.depth {
             return None;
@@ -69,6 +68,7 @@ impl<'a, H: Host> Evaluator<'a, H> {
         })
     }
 
+    /// The value of an expression.
     #[cycle(evaluate)]
     pub fn expr(&self, state: &mut State, expr: &Expr) -> Result<Dynamic, Interrupt>
         ensures { RunsExpr (setting H.answers H.modules self.now) self.now.in_loop (expr_of expr.now) state.old result state.new }
@@ -98,8 +98,8 @@ impl<'a, H: Host> Evaluator<'a, H> {
             Expr::Coalesce(operands, _) => self.first_some(state, operands.get().as_slice()),
             Expr::Property(_, _) => Err(Interrupt::Stuck(Stuck::WrongKind)),
             Expr::MethodCall(_, _) => Err(Interrupt::Stuck(Stuck::WrongKind)),
-            Expr::Dot(_, _, _) => Err(Interrupt::Stuck(Stuck::WrongKind)),
-            Expr::Index(_, _, _) => Err(Interrupt::Stuck(Stuck::WrongKind)),
+            Expr::Dot(sides, options, _) => self.chain(state, sides.get(), true, *options),
+            Expr::Index(sides, options, _) => self.chain(state, sides.get(), false, *options),
         }
     }
 
@@ -138,7 +138,7 @@ impl<'a, H: Host> Evaluator<'a, H> {
         state: &mut State,
         literal: &(Seq<(Ident, Expr)>, StringMap<Dynamic>),
     ) -> Result<Dynamic, Interrupt>
-        ensures { RunsCore (setting H.answers H.modules self.now) (covered_expr (core_expr self.now.in_loop (MapOf (pairs_of literal.now.0) (keys_of literal.now.1)))) state.old result state.new }
+        ensures { RunsCore (setting H.answers H.modules self.now) (core_expr self.now.in_loop (MapOf (pairs_of literal.now.0) (keys_of literal.now.1))) state.old result state.new }
     {
         let (members, template) = literal;
         if !is_map(self.alloc, members.as_slice(), template)? {

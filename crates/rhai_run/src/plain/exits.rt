@@ -6,12 +6,11 @@ ghost use Rattle.std.specs.Prelude.{◌≡◌, OnOk, if◌then◌else◌};
 ghost use Rattle.std.specs.Option.{option_copied, option_map};
 ghost use Rattle.rhai_reading.specs.Reading.{breaks, expr_of, is_exported, maybe_of, stmts_of};
 ghost use Rattle.rhai_values.specs.Reading.{value_of};
-ghost use Rattle.rhai_meaning.specs.Desugar.{break_kind, core_stmt, return_kind};
+ghost use Rattle.rhai_meaning.specs.Desugar.{break_kind, core_stmt, core_stmts, return_kind};
 ghost use Rattle.rhai_meaning.specs.Meaning.{exit};
 ghost use Rattle.rhai_meaning.specs.Shape as shape;
 ghost use Rattle.rhai_meaning.specs.Tree as tree;
-ghost use Rattle.rhai_run.specs.Covered.{covered_stmt};
-ghost use Rattle.rhai_run.specs.Evaluating.{setting, stmts_core, RunsCatch, RunsLine};
+ghost use Rattle.rhai_run.specs.Evaluating.{setting, RunsCatch, RunsLine};
 ghost use Rattle.rhai_run.specs.Exits.{body_end, branch_end, function_end, round_of, LeavesBy};
 ghost use Rattle.rhai_run.specs.State.{named_in, store_of};
 
@@ -32,7 +31,7 @@ impl<'a, H: Host> Evaluator<'a, H> {
         value: &Option<Boxed<Expr>>,
         options: ASTFlags,
     ) -> Result<Dynamic, Interrupt>
-        ensures { RunsLine (setting H.answers H.modules self.now) (covered_stmt (core_stmt self.now.in_loop (tree.BreakLoop (breaks options) (is_exported options) (maybe_of value.now)))) state.old result state.new }
+        ensures { RunsLine (setting H.answers H.modules self.now) (core_stmt self.now.in_loop (tree.BreakLoop (breaks options) (is_exported options) (maybe_of value.now))) state.old result state.new }
     {
         if !(self.in_loop && !options.contains(ASTFlags::EXPORTED)) {
             return Err(Interrupt::Stuck(Stuck::WrongKind));
@@ -49,7 +48,7 @@ impl<'a, H: Host> Evaluator<'a, H> {
         value: &Option<Boxed<Expr>>,
         options: ASTFlags,
     ) -> Result<Dynamic, Interrupt>
-        ensures { RunsLine (setting H.answers H.modules self.now) (covered_stmt (core_stmt self.now.in_loop (tree.Return (breaks options) (is_exported options) (maybe_of value.now)))) state.old result state.new }
+        ensures { RunsLine (setting H.answers H.modules self.now) (core_stmt self.now.in_loop (tree.Return (breaks options) (is_exported options) (maybe_of value.now))) state.old result state.new }
     {
         if options.contains(ASTFlags::EXPORTED) {
             return Err(Interrupt::Stuck(Stuck::WrongKind));
@@ -61,7 +60,7 @@ impl<'a, H: Host> Evaluator<'a, H> {
     /// `try`: what is thrown goes to the branch.
     #[cycle(evaluate)]
     pub fn try_catch(&self, state: &mut State, flow: &FlowControl) -> Result<Dynamic, Interrupt>
-        ensures { RunsLine (setting H.answers H.modules self.now) (covered_stmt (core_stmt self.now.in_loop (tree.TryCatch (expr_of flow.now.expr) (stmts_of flow.now.body.block) (stmts_of flow.now.branch.block)))) state.old result state.new }
+        ensures { RunsLine (setting H.answers H.modules self.now) (core_stmt self.now.in_loop (tree.TryCatch (expr_of flow.now.expr) (stmts_of flow.now.body.block) (stmts_of flow.now.branch.block))) state.old result state.new }
     {
         let Some(name) = catch_name(&flow.expr) else {
             return Err(Interrupt::Stuck(Stuck::WrongKind));
@@ -81,7 +80,7 @@ impl<'a, H: Host> Evaluator<'a, H> {
         caught: Dynamic,
         branch: &StmtBlock,
     ) -> Result<Dynamic, Interrupt>
-        ensures { RunsCatch (setting H.answers H.modules self.now) (stmts_core self.now.in_loop (stmts_of branch.now.block)) (option_copied name.entry) (value_of caught) state.old result state.new }
+        ensures { RunsCatch (setting H.answers H.modules self.now) (core_stmts self.now.in_loop (stmts_of branch.now.block)) (option_copied name.entry) (value_of caught) state.old result state.new }
     {
         let names = state.scope.len();
         declare_caught(state, name, &caught)?;

@@ -12,9 +12,7 @@ ghost use Rattle.rhai_meaning.specs.Calls as calls;
 ghost use Rattle.rhai_meaning.specs.Desugar.{core_function};
 ghost use Rattle.rhai_meaning.specs.Run as run;
 ghost use Rattle.rhai_meaning.specs.Weight.{weight};
-ghost use Rattle.rhai_run.specs.Covered.{covered_function};
 ghost use Rattle.rhai_run.specs.Evaluating.{bodies_weight, setting, Runs, RunsInvoke};
-ghost use Rattle.rhai_run.specs.Exits.{function_end};
 ghost use Rattle.rhai_run.specs.Runs.{Acting};
 
 use crate::Host;
@@ -53,7 +51,7 @@ impl<'a, H: Host> Evaluator<'a, H> {
 
     /// A function's value and its last `this`. It takes a turn.
     #[cycle(evaluate)]
-    fn invoke(
+    pub fn invoke(
         &self,
         state: &mut State,
         function: &ScriptFuncDef,
@@ -62,7 +60,7 @@ impl<'a, H: Host> Evaluator<'a, H> {
         args: Seq<Dynamic>,
     ) -> Result<(Dynamic, Option<Dynamic>), Interrupt>
         requires { weight (stmts_of function.now.body.block) ≤ bodies_weight (functions_of self.now.functions.now) }
-        ensures { let here = setting H.answers H.modules self.now in run.function_of here.functions (definition_key function.now) ≡ Some (covered_function (core_function (function_of function.now))) → RunsInvoke here (record { function = definition_key function.now; captures = captures; this = option_map value_of this; arguments = map value_of args }) state.old result state.new }
+        ensures { let here = setting H.answers H.modules self.now in run.function_of here.functions (definition_key function.now) ≡ Some (core_function (function_of function.now)) → RunsInvoke here (record { function = definition_key function.now; captures = captures; this = option_map value_of this; arguments = map value_of args }) state.old result state.new }
     {
         state.take_turn()?;
         let Some(inside) = self.inside_function(state.turns) else {

@@ -5,10 +5,9 @@
 ghost use Rattle.std.specs.Prelude.{◌≡◌, ◌<◌, ◌↔◌, true, IfOk, IsTrue};
 ghost use Rattle.rhai_reading.specs.Reading.{expr_of, is_exported, is_negated, stmts_of};
 ghost use Rattle.rhai_meaning.specs.Core.{Always, Do, When, While};
-ghost use Rattle.rhai_meaning.specs.Desugar.{core_expr, core_stmt, guard_by};
+ghost use Rattle.rhai_meaning.specs.Desugar.{core_expr, core_stmt, core_stmts, guard_by};
 ghost use Rattle.rhai_meaning.specs.Tree as tree;
-ghost use Rattle.rhai_run.specs.Covered.{covered_guard, covered_stmt};
-ghost use Rattle.rhai_run.specs.Evaluating.{body_of, expr_core, setting, stmts_core, RunsDeed, RunsLine, RunsRound};
+ghost use Rattle.rhai_run.specs.Evaluating.{body_of, setting, RunsDeed, RunsLine, RunsRound};
 
 use crate::plain::evaluator::Evaluator;
 use crate::plain::exits::round_ended;
@@ -34,7 +33,7 @@ impl<'a, H: Host> Evaluator<'a, H> {
     /// `while`; one whose guard is a literal `()` is `loop`.
     #[cycle(evaluate)]
     pub fn while_loop(&self, state: &mut State, flow: &FlowControl) -> Result<Dynamic, Interrupt>
-        ensures { let here = setting H.answers H.modules self.now in RunsDeed here (While (covered_guard (guard_by (expr_of flow.now.expr) (core_expr self.now.in_loop (expr_of flow.now.expr)))) (stmts_core true (stmts_of flow.now.body.block))) state.old result state.new }
+        ensures { let here = setting H.answers H.modules self.now in RunsDeed here (While (guard_by (expr_of flow.now.expr) (core_expr self.now.in_loop (expr_of flow.now.expr))) (core_stmts true (stmts_of flow.now.body.block))) state.old result state.new }
     {
         if flow.expr.is_unit() {
             self.endless(state, &flow.body)
@@ -45,7 +44,7 @@ impl<'a, H: Host> Evaluator<'a, H> {
 
     #[cycle(evaluate)]
     fn endless(&self, state: &mut State, body: &StmtBlock) -> Result<Dynamic, Interrupt>
-        ensures { RunsDeed (setting H.answers H.modules self.now) (While Always (stmts_core true (stmts_of body.now.block))) state.old result state.new }
+        ensures { RunsDeed (setting H.answers H.modules self.now) (While Always (core_stmts true (stmts_of body.now.block))) state.old result state.new }
     {
         loop {
             if let Some(value) = self.round(state, body)? {
@@ -61,7 +60,7 @@ impl<'a, H: Host> Evaluator<'a, H> {
         guard: &Expr,
         body: &StmtBlock,
     ) -> Result<Dynamic, Interrupt>
-        ensures { RunsDeed (setting H.answers H.modules self.now) (While (When (expr_core self.now.in_loop (expr_of guard.now))) (stmts_core true (stmts_of body.now.block))) state.old result state.new }
+        ensures { RunsDeed (setting H.answers H.modules self.now) (While (When (core_expr self.now.in_loop (expr_of guard.now))) (core_stmts true (stmts_of body.now.block))) state.old result state.new }
     {
         loop {
             if !truth(self.expr(state, guard)?)? {
@@ -81,7 +80,7 @@ impl<'a, H: Host> Evaluator<'a, H> {
         flow: &FlowControl,
         options: ASTFlags,
     ) -> Result<Dynamic, Interrupt>
-        ensures { RunsLine (setting H.answers H.modules self.now) (covered_stmt (core_stmt self.now.in_loop (tree.Do (is_negated options) (is_exported options) (expr_of flow.now.expr) (stmts_of flow.now.body.block)))) state.old result state.new }
+        ensures { RunsLine (setting H.answers H.modules self.now) (core_stmt self.now.in_loop (tree.Do (is_negated options) (is_exported options) (expr_of flow.now.expr) (stmts_of flow.now.body.block))) state.old result state.new }
     {
         if options.contains(ASTFlags::EXPORTED) {
             return Err(Interrupt::Stuck(Stuck::WrongKind));
@@ -97,7 +96,7 @@ impl<'a, H: Host> Evaluator<'a, H> {
         flow: &FlowControl,
         until: bool,
     ) -> Result<Dynamic, Interrupt>
-        ensures { RunsDeed (setting H.answers H.modules self.now) (Do until (expr_core self.now.in_loop (expr_of flow.now.expr)) (stmts_core true (stmts_of flow.now.body.block))) state.old result state.new }
+        ensures { RunsDeed (setting H.answers H.modules self.now) (Do until (core_expr self.now.in_loop (expr_of flow.now.expr)) (core_stmts true (stmts_of flow.now.body.block))) state.old result state.new }
     {
         loop {
             if let Some(value) = self.round(state, &flow.body)? {

@@ -79,7 +79,11 @@ pub fn pointed(
 }
 
 /// A pointer's own values, then these.
-fn all_args(alloc: Global, pointer: &FnPtr, values: &[Dynamic]) -> Result<Seq<Dynamic>, AllocError>
+pub fn all_args(
+    alloc: Global,
+    pointer: &FnPtr,
+    values: &[Dynamic],
+) -> Result<Seq<Dynamic>, AllocError>
     ensures { IfOk result (λ vs. vs ≡ pointer.now.curried ++ values.now) }
 {
     let mut args = Seq::new(alloc);

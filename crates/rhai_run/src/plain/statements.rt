@@ -4,10 +4,9 @@
 
 ghost use Rattle.rhai_reading.specs.Reading.{expr_of, is_const, is_exported, stmt_of, stmts_of};
 ghost use Rattle.rhai_meaning.specs.Core.{If};
-ghost use Rattle.rhai_meaning.specs.Desugar.{core_stmt};
+ghost use Rattle.rhai_meaning.specs.Desugar.{core_expr, core_stmt, core_stmts};
 ghost use Rattle.rhai_meaning.specs.Tree as tree;
-ghost use Rattle.rhai_run.specs.Covered.{covered_stmt};
-ghost use Rattle.rhai_run.specs.Evaluating.{setting, expr_core, stmts_core, RunsBlock, RunsDeed, RunsLine, RunsStmt, RunsStmts};
+ghost use Rattle.rhai_run.specs.Evaluating.{setting, RunsBlock, RunsDeed, RunsLine, RunsStmt, RunsStmts};
 
 use crate::plain::evaluator::Evaluator;
 use crate::plain::state::{Interrupt, State};
@@ -51,7 +50,7 @@ impl<'a, H: Host> Evaluator<'a, H> {
 
     #[cycle(evaluate)]
     fn choice(&self, state: &mut State, flow: &FlowControl) -> Result<Dynamic, Interrupt>
-        ensures { RunsDeed (setting H.answers H.modules self.now) (If (expr_core self.now.in_loop (expr_of flow.now.expr)) (stmts_core self.now.in_loop (stmts_of flow.now.body.block)) (stmts_core self.now.in_loop (stmts_of flow.now.branch.block))) state.old result state.new }
+        ensures { RunsDeed (setting H.answers H.modules self.now) (If (core_expr self.now.in_loop (expr_of flow.now.expr)) (core_stmts self.now.in_loop (stmts_of flow.now.body.block)) (core_stmts self.now.in_loop (stmts_of flow.now.branch.block))) state.old result state.new }
     {
         if truth(self.expr(state, &flow.expr)?)? {
             self.block(state, &flow.body)
@@ -69,7 +68,7 @@ impl<'a, H: Host> Evaluator<'a, H> {
         value: &Expr,
         options: ASTFlags,
     ) -> Result<Dynamic, Interrupt>
-        ensures { RunsLine (setting H.answers H.modules self.now) (covered_stmt (core_stmt self.now.in_loop (tree.Var (is_const options) (is_exported options) name.now.name (expr_of value.now)))) state.old result state.new }
+        ensures { RunsLine (setting H.answers H.modules self.now) (core_stmt self.now.in_loop (tree.Var (is_const options) (is_exported options) name.now.name (expr_of value.now))) state.old result state.new }
     {
         if options.contains(ASTFlags::EXPORTED) {
             return Err(Interrupt::Stuck(Stuck::WrongKind));

@@ -4,14 +4,11 @@
 
 ghost use Rattle.std.specs.Prelude.{◌≡◌, MatchOption, IfOk, option_map};
 ghost use Rattle.std.specs.String.{string_bytes};
-ghost use Rattle.rhai_values.specs.Reading.{value_of};
-ghost use Rattle.rhai_values.specs.Value.{UnitV, Value};
 ghost use Rattle.rhai_reading.specs.Reading.{expr_of, path_of};
-ghost use Rattle.rhai_meaning.specs.Act.{OfName, OfThis, Read, Write};
+ghost use Rattle.rhai_meaning.specs.Act.{Read};
 ghost use Rattle.rhai_meaning.specs.Desugar as desugar;
-ghost use Rattle.rhai_run.specs.Covered.{covered_expr};
 ghost use Rattle.rhai_run.specs.Evaluating.{setting, Runs, RunsCore};
-ghost use Rattle.rhai_run.specs.Runs.{Acting, Leads, given};
+ghost use Rattle.rhai_run.specs.Runs.{Acting};
 ghost use Rattle.rhai_run.specs.declared.plain.state.State.{State};
 ghost use Rattle.rhai_run.specs.Variables.{root_meant, IsLatest, IsMissing};
 
@@ -39,7 +36,7 @@ impl<'a, H: Host> Evaluator<'a, H> {
         namespace: &Namespace,
         name: &ImmutableString,
     ) -> Result<Dynamic, Interrupt>
-        ensures { RunsCore (setting H.answers H.modules self.now) (covered_expr (desugar.variable (path_of namespace.now) name.now)) state.now result state.now }
+        ensures { RunsCore (setting H.answers H.modules self.now) (desugar.variable (path_of namespace.now) name.now) state.now result state.now }
     {
         if namespace.is_empty() {
             return self.read(state, Root::Name(name));
@@ -55,100 +52,15 @@ impl<'a, H: Host> Evaluator<'a, H> {
     pub fn read(&self, state: &State, root: Root) -> Result<Dynamic, Interrupt>
         ensures { Runs (setting H.answers H.modules self.now) (Acting (Read (root_meant root.entry))) state.now result state.now }
     {
-        match root {
-            Root::Name(name) => self.read_name(state, name.as_str()),
-            Root::This => match &state.this {
-                Some(value) => Ok(value.clone()?),
-                None => Err(Interrupt::Stuck(Stuck::UnboundThis)),
-            },
+        match self.root_value(state, root) {
+            Ok(value) => Ok(value.clone()?),
+            Err(stuck) => Err(Interrupt::Stuck(stuck)),
         }
-    }
-
-    fn read_name(&self, state: &State, name: &str) -> Result<Dynamic, Interrupt>
-        ensures { Runs (setting H.answers H.modules self.now) (Acting (Read (OfName name.now))) state.now result state.now }
-    {
-        let scope = state.scope.as_slice();
-        match position(scope, name) {
-            Some(place) => Ok(scope[place].2.clone()?),
-            None => self.read_constant(name),
-        }
-    }
-
-    /// The value of a name that is not in scope: that of the record's constant.
-    fn read_constant(&self, name: &str) -> Result<Dynamic, Interrupt>
-        ensures { let here = setting H.answers H.modules self.now in (s : State) → IsMissing name.now s.scope.items → Runs here (Acting (Read (OfName name.now))) s result s }
-    {
-        match self.info.constant_named(name) {
-            Some(value) => Ok(value.clone()?),
-            None => Err(Interrupt::Stuck(Stuck::Unbound)),
-        }
-    }
-
-    /// Replaces the value of a name or of `this`. A constant stays as it is, and is stuck if it must be written.
-    pub fn write(
-        &self,
-        state: &mut State,
-        must: bool,
-        root: Root,
-        value: Dynamic,
-    ) -> Result<(), Interrupt>
-        ensures { Leads (setting H.answers H.modules self.now) (Acting (Write must (root_meant root.entry) (value_of value))) state.old result state.new (λ u. given UnitV) }
-    {
-        match root {
-            Root::Name(name) => self.write_name(state, must, name.as_str(), value),
-            Root::This => self.write_this(state, must, value),
-        }
-    }
-
-    fn write_name(
-        &self,
-        state: &mut State,
-        must: bool,
-        name: &str,
-        value: Dynamic,
-    ) -> Result<(), Interrupt>
-        ensures { Leads (setting H.answers H.modules self.now) (Acting (Write must (OfName name.now) (value_of value))) state.old result state.new (λ u. given UnitV) }
-    {
-        let Some(place) = position(state.scope.as_slice(), name) else {
-            return self.write_constant(must, name);
-        };
-        let variable = &mut state.scope[place];
-        if !variable.1 {
-            variable.2 = value;
-            Ok(())
-        } else if must {
-            Err(Interrupt::Stuck(Stuck::WriteToConstant))
-        } else {
-            Ok(())
-        }
-    }
-
-    /// A name that is not in scope is a constant of the record or unbound.
-    fn write_constant(&self, must: bool, name: &str) -> Result<(), Interrupt>
-        ensures { let here = setting H.answers H.modules self.now in (s : State) (v : Value) → IsMissing name.now s.scope.items → Leads here (Acting (Write must (OfName name.now) v)) s result s (λ u. given UnitV) }
-    {
-        if self.info.constant_named(name).is_none() {
-            return Err(Interrupt::Stuck(Stuck::Unbound));
-        }
-        if must {
-            return Err(Interrupt::Stuck(Stuck::WriteToConstant));
-        }
-        Ok(())
-    }
-
-    fn write_this(&self, state: &mut State, must: bool, value: Dynamic) -> Result<(), Interrupt>
-        ensures { Leads (setting H.answers H.modules self.now) (Acting (Write must OfThis (value_of value))) state.old result state.new (λ u. given UnitV) }
-    {
-        if state.this.is_none() {
-            return Err(Interrupt::Stuck(Stuck::UnboundThis));
-        }
-        state.this = Some(value);
-        Ok(())
     }
 }
 
 /// Where the latest entry of a name stands.
-fn position(scope: &[Variable], name: &str) -> Option<usize>
+pub fn position(scope: &[Variable], name: &str) -> Option<usize>
     ensures { MatchOption result (IsMissing name.now scope.now) (IsLatest name.now scope.now) }
 {
     let mut rest = scope;

@@ -75,8 +75,44 @@ pub const RUNS: &str = "\
     coalesce()\n----\n\
     end: value ()\nturns left: 9\n====\n\
     turns 9\n----\n\
+    coalesce((), ())\n----\n\
+    end: value ()\nturns left: 9\n====\n\
+    turns 9\n----\n\
+    let x = 1\nx += 2\nx\n----\n\
+    end: value 3\nturns left: 9\nvariable x = 3\n====\n\
+    turns 0\n----\n\
+    for x in [1, 2, 3] {}\n42\n----\n\
+    end: out of turns\nturns left: 0\n====\n\
+    turns 0\n----\n\
+    42\n----\n\
+    end: value 42\nturns left: 0\n====\n\
+    turns 3\n----\n\
+    for x in [1, 2, 3] {}\n42\n----\n\
+    end: value 42\nturns left: 0\n====\n\
+    turns 3\n----\n\
+    42\n----\n\
+    end: value 42\nturns left: 3\n====\n\
+    turns 7\n----\n\
+    loop { loop { if false { break } else {} } }\n----\n\
+    end: out of turns\nturns left: 0\n====\n\
+    turns 7\n----\n\
+    loop { loop {} }\n----\n\
+    end: out of turns\nturns left: 0\n====\n\
+    turns 1\n----\n\
+    f()\nfn f() { 3 }\n----\n\
+    end: value 3\nturns left: 0\n====\n\
+    turns 1\n----\n\
+    f()\nfn f() { +(1, 2) }\n----\n\
+    end: value 3\nturns left: 0\n====\n\
+    turns 1\n----\n\
+    +(f(), 2)\nfn f() { 1 }\n----\n\
+    end: value 3\nturns left: 0\n====\n\
+    turns 9\nconstant c = 2\n----\n\
+    f()\nfn f() { 2 }\n----\n\
+    end: value 2\nturns left: 8\nconstant c = 2\n====\n\
+    turns 10\n----\n\
     const x = 42\nfor x in [1, 2] { call print(x) }\n----\n\
-    end: value ()\nturns left: 7\nconstant x = 42\ncall print(1)\ncall print(2)\n====\n\
+    end: value ()\nturns left: 8\nconstant x = 42\ncall print(1)\ncall print(2)\n====\n\
     turns 9\n----\n\
     const x = 1\nfor (x, x) in [7] { call print(x) }\n----\n\
     end: value ()\nturns left: 8\nconstant x = 1\ncall print(7)\n====\n\
@@ -155,12 +191,6 @@ pub const CHAINS: &str = "\
     turns 9\n----\n\
     Index!(\"abc\", +(0, 1))\n----\n\
     end: value 'b'\nturns left: 9\n====\n\
-    turns 9\nanswer push => () then [1]\n----\n\
-    let a = []\nDot({ a }, push(1))\na\n----\n\
-    end: value []\nturns left: 9\nvariable a = []\ncall [].push(1)\n====\n\
-    turns 9\nanswer push => () then [1]\n----\n\
-    let a = []\nDot(coalesce((), a), push(1))\na\n----\n\
-    end: value []\nturns left: 9\nvariable a = []\ncall [].push(1)\n====\n\
     turns 9\n----\n\
     const m = #{a: 1}\nDot(m, a) = 2\n----\n\
     end: stuck 3 WriteToConstant\nturns left: 9\nconstant m = #{\"a\": 1}\n====\n\

@@ -2,7 +2,7 @@ use Rattle.rhai_script.specs.Script.{script_of}
 use Rattle.rhai_engine.specs.EngineInfo.{engine_of}
 use Rattle.rhai_run.specs.Entries.{start_scope}
 use Rattle.rhai_run.specs.Host.{host_of}
-use Rattle.rhai_run.proofs.Whole.{script_report, operators_report}
+use Rattle.rhai_run.proofs.Whole.{script_report}
 use Rattle.rhai_run.proofs.plain.plain_run.Goals as goal
 
 pub returns : goal.returns
@@ -12,8 +12,4 @@ returns g c =
     let script = script_of c.args.ast.now in
     let scope = start_scope c.args.scope.now in
     let ran = rw (c.deref.ensures, c.shared_lib.ensures, c.statements.ensures) at c.statements-ended.ensures in
-    let report = script_report engine host script scope c.args.turns c.in_ok-state.state c.statements-ended.new.state c.in_ok-state.ensures.store c.in_ok-state.ensures.turns _ _ c.in_ok-run_end.ensures ran in
-    record {
-      run = rw c.from_vec.ensures report;
-      operators = rw c.from_vec.ensures (operators_report engine host script scope c.args.turns _ report);
-    }
+    rw c.from_vec.ensures (script_report engine host script scope c.args.turns c.in_ok-state.state c.statements-ended.new.state c.in_ok-state.ensures.store c.in_ok-state.ensures.turns _ _ c.in_ok-run_end.ensures ran)

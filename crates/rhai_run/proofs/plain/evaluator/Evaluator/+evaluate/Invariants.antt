@@ -9,7 +9,9 @@ use Rattle.rhai_meaning.specs.Walk.{over_maybe, over_pairs, total}
 use Rattle.rhai_meaning.specs.Weight.{expr_weight, exprs_weight, own_weight, stmt_weight, weight}
 use Rattle.rhai_meaning.specs.Control.{round}
 use Rattle.rhai_functions.specs.FnLib.{functions_of}
-use Rattle.rhai_run.specs.Evaluating.{bodies_weight, body_of, expr_core}
+use Rattle.rhai_meaning.specs.Desugar.{core_expr}
+use Rattle.rhai_run.specs.Evaluating.{bodies_weight, body_of}
+use Rattle.rhai_run.specs.Targets.{side_weight}
 use Rattle.rhai_run.proofs.Loops.{do_round, guarded_round}
 use Rattle.rhai_run.proofs.Rounds.{LoopAt}
 use Rattle.rhai_run.proofs.Counted.{CountAt, EachAt}
@@ -76,7 +78,13 @@ abbrev pub decreases-declaration : goal.decreases-declaration
 decreases-declaration g l = level l.self.now.depth (bodies_weight (functions_of l.self.now.functions.now)) + 9 * expr_weight (expr_of l.value.now) + 2
 
 abbrev pub decreases-assignment : goal.decreases-assignment
-decreases-assignment g l = level l.self.now.depth (bodies_weight (functions_of l.self.now.functions.now)) + 9 * expr_weight (expr_of l.sides.now.rhs) + 2
+decreases-assignment g l = level l.self.now.depth (bodies_weight (functions_of l.self.now.functions.now)) + 9 * (expr_weight (expr_of l.sides.now.lhs) + expr_weight (expr_of l.sides.now.rhs)) + 13
+
+abbrev pub decreases-assign : goal.decreases-assign
+decreases-assign g l = level l.self.now.depth (bodies_weight (functions_of l.self.now.functions.now)) + 9 * side_weight l.side + 12
+
+abbrev pub decreases-assign_part : goal.decreases-assign_part
+decreases-assign_part g l = level l.self.now.depth (bodies_weight (functions_of l.self.now.functions.now)) + 9 * expr_weight (expr_of l.rest.right.now) + 11
 
 abbrev pub decreases-break_loop : goal.decreases-break_loop
 decreases-break_loop g l = level l.self.now.depth (bodies_weight (functions_of l.self.now.functions.now)) + 9 * over_maybe (total own_weight) (maybe_of l.value.now) + 3
@@ -147,6 +155,49 @@ decreases-for_round g l = level l.self.now.depth (bodies_weight (functions_of l.
 abbrev pub decreases-for_body : goal.decreases-for_body
 decreases-for_body g l = level l.self.now.depth (bodies_weight (functions_of l.self.now.functions.now)) + 9 * weight (stmts_of l.parts.now.2.body.block) + 5
 
+-- chains
+abbrev pub decreases-chain : goal.decreases-chain
+decreases-chain g l = level l.self.now.depth (bodies_weight (functions_of l.self.now.functions.now)) + 9 * (expr_weight (expr_of l.sides.now.lhs) + expr_weight (expr_of l.sides.now.rhs)) + 10
+
+abbrev pub decreases-base : goal.decreases-base
+decreases-base g l = level l.self.now.depth (bodies_weight (functions_of l.self.now.functions.now)) + 9 * expr_weight (expr_of l.expr.now) + 2
+
+abbrev pub decreases-steps : goal.decreases-steps
+decreases-steps g l = level l.self.now.depth (bodies_weight (functions_of l.self.now.functions.now)) + 9 * expr_weight (expr_of l.rest.right.now) + 9
+
+abbrev pub decreases-reach : goal.decreases-reach
+decreases-reach g l = level l.self.now.depth (bodies_weight (functions_of l.self.now.functions.now)) + 9 * expr_weight (expr_of l.rest.right.now) + 3
+
+abbrev pub decreases-access : goal.decreases-access
+decreases-access g l = level l.self.now.depth (bodies_weight (functions_of l.self.now.functions.now)) + 9 * expr_weight (expr_of l.argument.now) + 2
+
+abbrev pub decreases-method_access : goal.decreases-method_access
+decreases-method_access g l = level l.self.now.depth (bodies_weight (functions_of l.self.now.functions.now)) + 9 * exprs_weight (exprs_of l.call.now.args) + 3
+
+abbrev pub decreases-applied : goal.decreases-applied
+decreases-applied g l = level l.self.now.depth (bodies_weight (functions_of l.self.now.functions.now)) + 8
+
+abbrev pub decreases-method : goal.decreases-method
+decreases-method g l = level l.self.now.depth (bodies_weight (functions_of l.self.now.functions.now)) + 7
+
+abbrev pub decreases-call_receiver : goal.decreases-call_receiver
+decreases-call_receiver g l = level l.self.now.depth (bodies_weight (functions_of l.self.now.functions.now)) + 6
+
+abbrev pub decreases-to_method : goal.decreases-to_method
+decreases-to_method g l = level l.self.now.depth (bodies_weight (functions_of l.self.now.functions.now)) + 6
+
+abbrev pub decreases-call_method : goal.decreases-call_method
+decreases-call_method g l = level l.self.now.depth (bodies_weight (functions_of l.self.now.functions.now)) + 5
+
+abbrev pub decreases-assign_steps : goal.decreases-assign_steps
+decreases-assign_steps g l = level l.self.now.depth (bodies_weight (functions_of l.self.now.functions.now)) + 9 * expr_weight (expr_of l.rest.right.now) + 10
+
+abbrev pub decreases-assign_last : goal.decreases-assign_last
+decreases-assign_last g l = level l.self.now.depth (bodies_weight (functions_of l.self.now.functions.now)) + 9
+
+abbrev pub decreases-changed_method : goal.decreases-changed_method
+decreases-changed_method g l = level l.self.now.depth (bodies_weight (functions_of l.self.now.functions.now)) + 8
+
 -- the loops
 abbrev pub invariant-first_arm-loop-place : goal.invariant-first_arm-loop-place
 invariant-first_arm-loop-place g l = PlacesAt (setting g.H.Host.answers g.H.Host.modules l.self) l.self.in_loop l.arms l.places (drop l.place-index l.places) l.initial.state l.state
@@ -192,13 +243,13 @@ abbrev pub decreases-endless-loop-value : goal.decreases-endless-loop-value
 decreases-endless-loop-value g l = l.state.turns
 
 abbrev pub invariant-guarded-loop-state : goal.invariant-guarded-loop-state
-invariant-guarded-loop-state g l = let here = setting g.H.Host.answers g.H.Host.modules l.self in LoopAt here (guarded_round here (expr_core l.self.in_loop (expr_of l.guard)) (body_of here (stmts_of l.body.block))) l.initial.state l.state
+invariant-guarded-loop-state g l = let here = setting g.H.Host.answers g.H.Host.modules l.self in LoopAt here (guarded_round here (core_expr l.self.in_loop (expr_of l.guard)) (body_of here (stmts_of l.body.block))) l.initial.state l.state
 
 abbrev pub decreases-guarded-loop-state : goal.decreases-guarded-loop-state
 decreases-guarded-loop-state g l = l.state.turns
 
 abbrev pub invariant-repeated-loop-value : goal.invariant-repeated-loop-value
-invariant-repeated-loop-value g l = let here = setting g.H.Host.answers g.H.Host.modules l.self in LoopAt here (do_round here l.until (expr_core l.self.in_loop (expr_of l.flow.expr)) (body_of here (stmts_of l.flow.body.block))) l.initial.state l.state
+invariant-repeated-loop-value g l = let here = setting g.H.Host.answers g.H.Host.modules l.self in LoopAt here (do_round here l.until (core_expr l.self.in_loop (expr_of l.flow.expr)) (body_of here (stmts_of l.flow.body.block))) l.initial.state l.state
 
 abbrev pub decreases-repeated-loop-value : goal.decreases-repeated-loop-value
 decreases-repeated-loop-value g l = l.state.turns
