@@ -4,9 +4,9 @@ use Rattle.std.proofs.Math.Seq.{drop-cons, drop-length}
 use Rattle.rhai_values.specs.Value.{Text}
 use Rattle.rhai_values.specs.declared.dynamic.Dynamic.{Dynamic}
 use Rattle.rhai_values.specs.Reading.{value_of}
-use Rattle.rhai_run.specs.declared.host.HostCall.{HostCall}
-use Rattle.rhai_run.specs.Entries.{variable_meant}
-use Rattle.rhai_run.specs.Host.{call_meant}
+use Rattle.rhai_host.specs.declared.host.HostCall.{HostCall}
+use Rattle.rhai_host.specs.Entries.{variable_meant}
+use Rattle.rhai_host.specs.Host.{call_meant}
 
 pub values-drop : (xs : List Dynamic) (i : ℕ) (d : Dynamic) → i < length xs → map value_of (drop i xs) ≡ value_of (get_or xs i d) ∷ map value_of (drop (i + 1) xs)
 values-drop xs i d h = rw (add-one, drop-cons xs i d) refl

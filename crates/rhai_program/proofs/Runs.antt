@@ -9,8 +9,8 @@ use Rattle.rhai_meaning.specs.Engine.{Engine}
 use Rattle.rhai_meaning.specs.Run.{AtStatements, Report, report_of, run_script}
 use Rattle.rhai_meaning.specs.Tree.{Script}
 use Rattle.rhai_engine.specs.EngineInfo.{nothing_set}
-use Rattle.rhai_run.specs.Entries.{start_scope}
-use Rattle.rhai_run.specs.Report.{ReportsRun}
+use Rattle.rhai_host.specs.Entries.{start_scope}
+use Rattle.rhai_host.specs.Report.{ReportsRun}
 use Rattle.rhai_program.specs.Host.{program_host}
 use Rattle.rhai_program.specs.Report.{report_text}
 use Rattle.rhai_program.specs.Scripts.{statements_of}

@@ -2,7 +2,7 @@
 use Rattle.std.specs.Prelude.{List, [], ◌∷◌, ◌++◌, Option, Some, None, true, codes, if◌then◌else◌}
 use Rattle.rhai_values.specs.Value.{Value, UnitV, BoolV, TextV, ArrayV, items, values, same_text, text_of}
 use Rattle.rhai_meaning.specs.Act.{HostCall, Answer, Answers, Host}
-use Rattle.rhai_run.specs.Host.{host_of}
+use Rattle.rhai_host.specs.Host.{host_of}
 
 abbrev pub unit_alone : Answer
 unit_alone = Answers UnitV None

@@ -3,7 +3,7 @@ use Rattle.std.specs.Prelude.{List, [], ◌∷◌, ◌++◌, Option, Some, None,
 use Rattle.rhai_values.specs.Value.{Text, Value, inner}
 use Rattle.rhai_meaning.specs.Act.{ScopeEntry, HostCall}
 use Rattle.rhai_meaning.specs.Run.{End, WithValue, WithThrown, WithStuck, WithoutTurns, Report}
-use Rattle.rhai_run.specs.Report.{stuck_number, stuck_name}
+use Rattle.rhai_host.specs.Report.{stuck_number, stuck_name}
 
 abbrev pub end_text : End → Text
 end_text (WithValue v) = codes "value " ++ inner v

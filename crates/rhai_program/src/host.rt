@@ -6,7 +6,7 @@ ghost use Rattle.std.specs.Option.{option_map};
 ghost use Rattle.rhai_values.specs.Reading.{value_of};
 ghost use Rattle.rhai_values.specs.Value.{TextV, text_of};
 ghost use Rattle.rhai_meaning.specs.Act.{Answers};
-ghost use Rattle.rhai_run.specs.Host.{answer_meant};
+ghost use Rattle.rhai_host.specs.Host.{answer_meant};
 ghost use Rattle.rhai_program.specs.Host as spec;
 
 use rhai_base::{Dynamic, ImmutableString, OutOfMemory};

@@ -3,9 +3,9 @@
 
 ghost use Rattle.std.specs.Prelude.{◌≡◌, ◌++◌, [], OnOk, map, string_bytes};
 ghost use Rattle.rhai_values.specs.Reading.{value_of};
-ghost use Rattle.rhai_run.specs.Entries.{variable_meant};
-ghost use Rattle.rhai_run.specs.Host.{call_meant};
-ghost use Rattle.rhai_run.specs.Report.{end_meant, report_meant};
+ghost use Rattle.rhai_host.specs.Entries.{variable_meant};
+ghost use Rattle.rhai_host.specs.Host.{call_meant};
+ghost use Rattle.rhai_host.specs.Report.{end_meant, report_meant};
 ghost use Rattle.rhai_program.specs.Report.{end_text, variable_text, variables_text, values_text, call_text, calls_text, report_text};
 
 use rhai_base::{Dynamic, OutOfMemory};

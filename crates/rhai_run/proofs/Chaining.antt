@@ -13,13 +13,13 @@ use Rattle.rhai_meaning.specs.Places.{AtEntry, Current, along, inside, part}
 use Rattle.rhai_meaning.specs.Elements.{at_index}
 use Rattle.rhai_meaning.specs.Tree.{PropertyNames}
 use Rattle.rhai_places.specs.Reading.{or_unit}
-use Rattle.rhai_run.specs.declared.host.HostCall.{HostCall}
-use Rattle.rhai_run.specs.declared.host.HostAnswer.{HostAnswer}
+use Rattle.rhai_host.specs.declared.host.HostCall.{HostCall}
+use Rattle.rhai_host.specs.declared.host.HostAnswer.{HostAnswer}
 use Rattle.rhai_run.specs.declared.plain.state.State.{State}
 use Rattle.rhai_run.specs.declared.plain.placing.Current as declared
 use Rattle.rhai_run.specs.declared.plain.placing.Current.TheVariants as kind
 use Rattle.rhai_run.specs.Placing.{root_value, place_meant, made, current_in}
-use Rattle.rhai_run.specs.Host.{call_meant, answer_meant}
+use Rattle.rhai_host.specs.Host.{call_meant, answer_meant}
 use Rattle.rhai_run.specs.declared.plain.state.Interrupt.{Interrupt}
 use Rattle.rhai_run.specs.Runs.{Setting, Task, env, Acting, Over, Goes, Leads, Stops, given}
 use Rattle.rhai_run.specs.State.{store_of}

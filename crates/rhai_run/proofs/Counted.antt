@@ -15,7 +15,7 @@ use Rattle.rhai_meaning.specs.Tree as tree
 use Rattle.rhai_run.specs.declared.plain.state.Interrupt.{Interrupt}
 use Rattle.rhai_run.specs.declared.plain.state.Interrupt.TheVariants.{Stuck}
 use Rattle.rhai_run.specs.declared.plain.state.State.{State}
-use Rattle.rhai_run.specs.declared.report.Stuck.TheVariants as why
+use Rattle.rhai_host.specs.declared.report.Stuck.TheVariants as why
 use Rattle.rhai_run.specs.Evaluating.{RunsCounted, RunsExpr, RunsList, RunsRound}
 use Rattle.rhai_run.specs.Exits.{count_of, round_of}
 use Rattle.rhai_run.specs.Runs.{Setting, Acting, Listing, Goes, Stops, Runs, given}

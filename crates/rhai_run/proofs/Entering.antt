@@ -7,7 +7,7 @@ use Rattle.rhai_values.specs.Reading.{value_of}
 use Rattle.rhai_values.specs.Value.{Text}
 use Rattle.rhai_meaning.specs.Act.{ScopeEntry}
 use Rattle.rhai_meaning.specs.Run.{bind}
-use Rattle.rhai_run.specs.Entries.{scope_meant}
+use Rattle.rhai_host.specs.Entries.{scope_meant}
 use Rattle.rhai_run.specs.Variables.{Entries}
 use Rattle.rhai_run.proofs.Variables.{turned_more}
 

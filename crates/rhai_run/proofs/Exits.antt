@@ -15,7 +15,7 @@ use Rattle.rhai_meaning.specs.Shape.{catch_name, is_unit}
 use Rattle.rhai_run.specs.declared.plain.state.Interrupt.{Interrupt}
 use Rattle.rhai_run.specs.declared.plain.state.Interrupt.TheVariants.{NoMemory, Return, Break, Continue, Throw, Stuck, OutOfTurns}
 use Rattle.rhai_run.specs.declared.plain.state.State.{State}
-use Rattle.rhai_run.specs.declared.report.Stuck.TheVariants as why
+use Rattle.rhai_host.specs.declared.report.Stuck.TheVariants as why
 use Rattle.rhai_run.specs.Evaluating.{RunsBlock, RunsCatch, RunsLine, RunsMaybe}
 use Rattle.rhai_run.specs.Exits.{body_end, branch_end, LeavesBy}
 use Rattle.rhai_run.specs.Runs.{Setting, Task, Acting, Listing, Over, Leaving, Goes, Stops, Leads, Runs, given, env}

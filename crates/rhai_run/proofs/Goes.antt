@@ -11,9 +11,9 @@ use Rattle.rhai_meaning.specs.Control.{named}
 use Rattle.rhai_meaning.specs.Run.{reversed}
 use Rattle.rhai_run.specs.declared.plain.state.Interrupt.{Interrupt}
 use Rattle.rhai_run.specs.declared.plain.state.State.{State}
-use Rattle.rhai_run.specs.Entries.{variable_meant}
+use Rattle.rhai_host.specs.Entries.{variable_meant}
 use Rattle.rhai_run.specs.Evaluating.{or_stuck}
-use Rattle.rhai_run.specs.Host.{call_meant}
+use Rattle.rhai_host.specs.Host.{call_meant}
 use Rattle.rhai_run.specs.Runs as runs
 use Rattle.rhai_run.specs.Runs.{Setting, Task, Acting, Listing, Over, Bound, Within, run_of, env, Goes, Leaving, Halting, stopped, stop_of, Stops, Leads, Runs, given}
 use Rattle.rhai_run.specs.State.{store_of, named_in, TakesTurn}

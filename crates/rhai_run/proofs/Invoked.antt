@@ -12,7 +12,7 @@ use Rattle.rhai_meaning.specs.Run.{call_body, entered, function_of, reversed}
 use Rattle.rhai_run.specs.declared.plain.state.Interrupt.{Interrupt}
 use Rattle.rhai_run.specs.declared.plain.state.Interrupt.TheVariants.{NoMemory, Return, Break, Continue, Throw, Stuck, OutOfTurns}
 use Rattle.rhai_run.specs.declared.plain.state.State.{State}
-use Rattle.rhai_run.specs.Entries.{variable_meant}
+use Rattle.rhai_host.specs.Entries.{variable_meant}
 use Rattle.rhai_run.specs.Exits.{function_end}
 use Rattle.rhai_run.specs.Runs.{Setting, Acting, Listing, Over, Goes, Stops, Leads, given, env}
 use Rattle.rhai_run.specs.State.{store_of}

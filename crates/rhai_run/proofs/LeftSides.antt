@@ -25,7 +25,7 @@ use Rattle.rhai_run.specs.declared.plain.placing.Current.{Current}
 use Rattle.rhai_run.specs.declared.plain.state.Interrupt.{Interrupt}
 use Rattle.rhai_run.specs.declared.plain.state.Interrupt.TheVariants.{Stuck}
 use Rattle.rhai_run.specs.declared.plain.state.State.{State}
-use Rattle.rhai_run.specs.declared.report.Stuck.TheVariants as why
+use Rattle.rhai_host.specs.declared.report.Stuck.TheVariants as why
 use Rattle.rhai_run.specs.Chaining.{StepsOn, rest_steps, step_core}
 use Rattle.rhai_run.specs.Placing.{current_in, read_base}
 use Rattle.rhai_run.specs.Runs.{Setting, Acting, Leads, given}

@@ -20,7 +20,7 @@ use Rattle.rhai_run.specs.Evaluating.{or_stuck, RunsCore, RunsDeed, RunsLine, Ru
 use Rattle.rhai_run.specs.Exits.{round_of, round_end}
 use Rattle.rhai_run.specs.Runs.{Setting, Acting, Over, Goes, Stops, Leads, given}
 use Rattle.rhai_run.specs.State.{TakesTurn}
-use Rattle.rhai_run.specs.declared.report.Stuck.TheVariants as why
+use Rattle.rhai_host.specs.declared.report.Stuck.TheVariants as why
 use Rattle.rhai_run.proofs.Statements.{deed_line, ill_line}
 use Rattle.rhai_run.proofs.Goes.{gives, goes_as, goes_then, stops_then, leads_then, turn_goes, value_goes, value_stops, if_goes, if_stops}
 use Rattle.rhai_run.proofs.Rounds.{round_leads, again_stops, again_goes, again_ends, LoopAt, loop_next, loop_ends, loop_stops}

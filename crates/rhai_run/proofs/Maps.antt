@@ -20,7 +20,7 @@ use Rattle.rhai_meaning.specs.Shape.{is_map}
 use Rattle.rhai_run.specs.declared.plain.state.Interrupt.{Interrupt}
 use Rattle.rhai_run.specs.declared.plain.state.Interrupt.TheVariants.{Stuck}
 use Rattle.rhai_run.specs.declared.plain.state.State.{State}
-use Rattle.rhai_run.specs.declared.report.Stuck.TheVariants as why
+use Rattle.rhai_host.specs.declared.report.Stuck.TheVariants as why
 use Rattle.rhai_run.specs.Evaluating.{RunsCore, RunsExpr, RunsMembers}
 use Rattle.rhai_run.specs.Runs.{Setting, Task, Acting, Goes}
 use Rattle.rhai_run.proofs.Goes.{gives, goes_on, goes_then, goes_as, stops_then, value_goes, value_stops}

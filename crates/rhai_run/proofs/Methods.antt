@@ -3,7 +3,7 @@ use Rattle.std.proofs.Common.{◌≡◌, ℕ, ◌≤◌, ◌<◌, Bool, true, fa
 use Rattle.std.specs.Prelude.{option_map}
 use Rattle.rhai_values.specs.declared.dynamic.Dynamic.{Dynamic}
 use Rattle.rhai_values.specs.declared.dynamic.Dynamic.TheVariants as kind
-use Rattle.rhai_values.specs.Reading.{value_of, value_of-Bool, value_of-Str}
+use Rattle.rhai_values.specs.Reading.{value_of, value_of-Bool}
 use Rattle.rhai_values.specs.Value.{Text, Value, UnitV, TextV, type_name}
 use Rattle.rhai_tree.specs.declared.script_fn.ScriptFuncDef.{ScriptFuncDef}
 use Rattle.rhai_reading.specs.Reading.{stmts_of}
@@ -225,8 +225,8 @@ module _ (here : Setting) (s : State) (v : Value) (next : places.Current → Act
   pub shared_method : (vs : List Dynamic) → length vs < 1 → Goes here (Acting (answers calls.IsShared (map value_of vs))) s (value_or next o (Some (kind.Bool false))) s
   shared_method vs h = goes_then here (goes_as here _ _ s (ap (λ us. Acting (answers calls.IsShared (map value_of us))) (no_args vs h))) (goes_as here _ _ s (ap (λ u. Acting (next (without_place u))) (sym (value_of-Bool false))))
 
-  pub type_method : (vs : List Dynamic) → length vs < 1 → (t : Text) → t ≡ mapped_type_name here.world.engine v → Goes here (Acting (answers calls.TypeOf (map value_of vs))) s (value_or next o (Some (kind.Str t))) s
-  type_method vs h t e = goes_then here (goes_as here _ _ s (ap (λ us. Acting (answers calls.TypeOf (map value_of us))) (no_args vs h))) (goes_as here _ _ s (ap (λ u. Acting (next (without_place u))) (ap TextV (sym e) ∙ sym (value_of-Str t))))
+  pub type_method : (vs : List Dynamic) → length vs < 1 → (w : Dynamic) → value_of w ≡ TextV (mapped_type_name here.world.engine v) → Goes here (Acting (answers calls.TypeOf (map value_of vs))) s (value_or next o (Some w)) s
+  type_method vs h w e = goes_then here (goes_as here _ _ s (ap (λ us. Acting (answers calls.TypeOf (map value_of us))) (no_args vs h))) (goes_as here _ _ s (ap (λ u. Acting (next (without_place u))) (sym e)))
 
   pub curried_method : (vs : List Value) (w : Dynamic) → Goes here (Acting (calls.curried v vs)) s (given (value_of w)) s → Goes here (Acting (answers calls.Curry vs)) s (value_or next o (Some w)) s
   curried_method vs w q = value_goes here (λ u. next (without_place u)) q

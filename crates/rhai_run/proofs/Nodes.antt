@@ -17,7 +17,7 @@ use Rattle.rhai_meaning.specs.Tree as tree
 use Rattle.rhai_run.specs.declared.plain.state.Interrupt.{Interrupt}
 use Rattle.rhai_run.specs.declared.plain.state.Interrupt.TheVariants.{NoMemory, Return, Break, Continue, Throw, Stuck, OutOfTurns}
 use Rattle.rhai_run.specs.declared.plain.state.State.{State}
-use Rattle.rhai_run.specs.declared.report.Stuck.TheVariants as why
+use Rattle.rhai_host.specs.declared.report.Stuck.TheVariants as why
 use Rattle.rhai_run.specs.Evaluating.{call_core, IsConstant, RunsBlock, RunsCall, RunsCore, RunsDeed, RunsExpr, RunsExprs, RunsStmt}
 use Rattle.rhai_run.specs.Runs.{Setting, Acting, Runs, given}
 use Rattle.rhai_run.proofs.Callees.{count_exprs_of}

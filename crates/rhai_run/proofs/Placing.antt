@@ -22,11 +22,11 @@ use Rattle.rhai_run.specs.declared.plain.state.Interrupt.{Interrupt}
 use Rattle.rhai_run.specs.declared.plain.state.Interrupt.TheVariants.{Stuck}
 use Rattle.rhai_run.specs.declared.plain.state.State.{State}
 use Rattle.rhai_run.specs.declared.plain.variables.Root.{Root}
-use Rattle.rhai_run.specs.declared.report.Stuck as report
-use Rattle.rhai_run.specs.declared.report.Stuck.TheVariants as why
-use Rattle.rhai_run.specs.Entries.{variable_meant}
+use Rattle.rhai_host.specs.declared.report.Stuck as report
+use Rattle.rhai_host.specs.declared.report.Stuck.TheVariants as why
+use Rattle.rhai_host.specs.Entries.{variable_meant}
 use Rattle.rhai_run.specs.Placing.{place_meant, root_value, root_stuck, value_at, stuck_by, place_stuck, HasPart, HasRoot, made, current_in}
-use Rattle.rhai_run.specs.Report.{stuck_meant}
+use Rattle.rhai_host.specs.Report.{stuck_meant}
 use Rattle.rhai_run.specs.Runs.{Setting, Acting, Over, Halting, stop_of, Goes, Stops, given}
 use Rattle.rhai_run.specs.State.{store_of}
 use Rattle.rhai_run.specs.Variables.{Entries, IsMissing, IsLatest, root_meant}

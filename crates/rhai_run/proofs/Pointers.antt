@@ -11,7 +11,7 @@ use Rattle.rhai_meaning.specs.Calls as calls
 use Rattle.rhai_meaning.specs.Calls.{call_named, call_pointer}
 use Rattle.rhai_run.specs.declared.plain.state.Interrupt.TheVariants.{Stuck}
 use Rattle.rhai_run.specs.declared.plain.state.State.{State}
-use Rattle.rhai_run.specs.declared.report.Stuck.TheVariants as why
+use Rattle.rhai_host.specs.declared.report.Stuck.TheVariants as why
 use Rattle.rhai_run.specs.Runs.{Setting, Acting, Goes, Stops, Runs}
 use Rattle.rhai_run.proofs.Counted.{items_values}
 use Rattle.rhai_run.proofs.Goes.{gives, goes_as, goes_then}
@@ -63,6 +63,10 @@ module _ (here : Setting) (s : State) where
       goes_then here (goes_as here _ _ s (ap (λ v. Acting (calls.curried v (map value_of vs))) (value_of-FnPtr p))) (gives here _ _ s with_all)
 
   module _ (captures : Bool) (f : Text) (args vs : List Dynamic) where
+    -- `call` is by its first argument
+    pub pointed_first : (v : Dynamic) → args ≡ v ∷ vs → Goes here (Acting (calls.call_word here.world captures f calls.CallFn (map value_of args))) s (Acting (call_pointer here.world captures (value_of v) (map value_of vs))) s
+    pointed_first v e = goes_as here _ _ s (ap (λ us. Acting (calls.call_word here.world captures f calls.CallFn (map value_of us))) e)
+
     pub pointed_stuck : (v : Dynamic) → args ≡ v ∷ vs → IsNoPointer v → Stops here (Acting (calls.call_word here.world captures f calls.CallFn (map value_of args))) s (Stuck why.WrongKind) s
     pointed_stuck v e h = stuck_here _ (ap (λ us. calls.call_word here.world captures f calls.CallFn (map value_of us)) e ∙ called_other here.world captures (value_of v) (map value_of vs) (not_pointer (dynamic_cases v) h))
 

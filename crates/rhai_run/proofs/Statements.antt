@@ -17,7 +17,7 @@ use Rattle.rhai_meaning.specs.Meaning.{act, acts, deed, line, wanted_value}
 use Rattle.rhai_run.specs.declared.plain.state.Interrupt.{Interrupt}
 use Rattle.rhai_run.specs.declared.plain.state.Interrupt.TheVariants.{Stuck}
 use Rattle.rhai_run.specs.declared.plain.state.State.{State}
-use Rattle.rhai_run.specs.declared.report.Stuck.TheVariants as why
+use Rattle.rhai_host.specs.declared.report.Stuck.TheVariants as why
 use Rattle.rhai_run.specs.Evaluating.{or_stuck, RunsCore, RunsDeed, RunsExpr, RunsLine, RunsStmt, RunsStmts, RunsBlock}
 use Rattle.rhai_run.specs.Runs.{Setting, Task, Acting, Listing, Goes, Stops, Runs, env}
 use Rattle.rhai_run.specs.State.{store_of}

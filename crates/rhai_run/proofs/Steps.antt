@@ -35,7 +35,7 @@ use Rattle.rhai_run.specs.declared.plain.placing.Current.TheVariants as current
 use Rattle.rhai_run.specs.declared.plain.state.Interrupt.{Interrupt}
 use Rattle.rhai_run.specs.declared.plain.state.Interrupt.TheVariants.{Stuck}
 use Rattle.rhai_run.specs.declared.plain.state.State.{State}
-use Rattle.rhai_run.specs.declared.report.Stuck.TheVariants as why
+use Rattle.rhai_host.specs.declared.report.Stuck.TheVariants as why
 use Rattle.rhai_run.specs.Chaining.{StepsOn, HasAccess, Reaches, access_meant, chain_core, head_of, link_steps, method_core, names_meant, rest_steps, step_core, step_in, steps_on}
 use Rattle.rhai_run.specs.Evaluating.{RunsCore, RunsExpr, RunsExprs}
 use Rattle.rhai_run.specs.Placing.{current_in, made, place_in, read_base}

@@ -23,7 +23,7 @@ use Rattle.rhai_meaning.specs.Tree.{SwitchRange, SwitchTable}
 use Rattle.rhai_run.specs.declared.plain.state.Interrupt.{Interrupt}
 use Rattle.rhai_run.specs.declared.plain.state.Interrupt.TheVariants.{Stuck}
 use Rattle.rhai_run.specs.declared.plain.state.State.{State}
-use Rattle.rhai_run.specs.declared.report.Stuck.TheVariants as why
+use Rattle.rhai_host.specs.declared.report.Stuck.TheVariants as why
 use Rattle.rhai_run.specs.Evaluating.{arms_here, or_stuck, RunsArm, RunsExpr, RunsFirstArm, RunsLine}
 use Rattle.rhai_run.specs.Runs.{Setting, Acting, Goes, Stops, Runs, given}
 use Rattle.rhai_run.proofs.Goes.{gives, goes_on, goes_as, goes_then, stops_then, leads_then, value_goes, value_stops, if_goes, if_stops}

@@ -21,7 +21,7 @@ use Rattle.rhai_run.specs.declared.plain.parts.Found.{Found}
 use Rattle.rhai_run.specs.declared.plain.placing.Current.{Current}
 use Rattle.rhai_run.specs.declared.plain.state.Interrupt.{Interrupt}
 use Rattle.rhai_run.specs.declared.plain.state.Interrupt.TheVariants as stopped
-use Rattle.rhai_run.specs.declared.report.Stuck.TheVariants as why
+use Rattle.rhai_host.specs.declared.report.Stuck.TheVariants as why
 use Rattle.rhai_run.specs.declared.plain.state.State.{State}
 use Rattle.rhai_run.specs.Chaining.{StepsOn, Reaches, access_meant, head_of, link_steps, rest_steps, steps_on}
 use Rattle.rhai_run.specs.Operators.{StandsFor}

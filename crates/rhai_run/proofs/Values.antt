@@ -7,7 +7,7 @@ use Rattle.rhai_meaning.specs.ActForms.{truth}
 use Rattle.rhai_meaning.specs.Shape.{is_unit}
 use Rattle.rhai_run.specs.declared.plain.state.Interrupt.{Interrupt}
 use Rattle.rhai_run.specs.declared.plain.state.Interrupt.TheVariants.{Stuck}
-use Rattle.rhai_run.specs.declared.report.Stuck.TheVariants as why
+use Rattle.rhai_host.specs.declared.report.Stuck.TheVariants as why
 use Rattle.rhai_run.specs.Evaluating.{or_stuck}
 
 not_unit : {v : Dynamic} → DynamicCase v → (v ≡ value.Unit → ⊥) → is_unit (value_of v) ≡ false

@@ -7,7 +7,7 @@ use Rattle.rhai_values.specs.Value.{Text, Value, same_text}
 use Rattle.rhai_meaning.specs.Act.{ScopeEntry, found, put}
 use Rattle.rhai_meaning.specs.Engine.{Binding}
 use Rattle.rhai_meaning.specs.Run.{reversed}
-use Rattle.rhai_run.specs.Entries.{variable_meant}
+use Rattle.rhai_host.specs.Entries.{variable_meant}
 use Rattle.rhai_run.specs.Variables.{Entries, IsMissing, IsLatest}
 use Rattle.rhai_run.proofs.Scopes.{reversed_parts}
 

@@ -14,11 +14,11 @@ use Rattle.rhai_meaning.specs.Tree.{Script}
 use Rattle.rhai_run.specs.declared.plain.state.Interrupt.{Interrupt}
 use Rattle.rhai_run.specs.declared.plain.state.Interrupt.TheVariants.{NoMemory, Return, Break, Continue, Throw, Stuck, OutOfTurns}
 use Rattle.rhai_run.specs.declared.plain.state.State.{State}
-use Rattle.rhai_run.specs.declared.report.RunEnd.{RunEnd}
-use Rattle.rhai_run.specs.Entries.{variable_meant}
+use Rattle.rhai_host.specs.declared.report.RunEnd.{RunEnd}
+use Rattle.rhai_host.specs.Entries.{variable_meant}
 use Rattle.rhai_run.specs.Evaluating.{EndsAs, RunsStmts}
-use Rattle.rhai_run.specs.Host.{call_meant}
-use Rattle.rhai_run.specs.Report.{end_meant, ReportsRun}
+use Rattle.rhai_host.specs.Host.{call_meant}
+use Rattle.rhai_host.specs.Report.{end_meant, ReportsRun}
 use Rattle.rhai_run.specs.Runs.{Setting, setting_of, env, Goes, Listing, Over}
 use Rattle.rhai_run.specs.State.{store_of}
 use Rattle.rhai_meaning.proofs.Agreeing.{same_report}

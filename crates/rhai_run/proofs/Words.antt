@@ -3,7 +3,7 @@ use Rattle.std.proofs.Common.{◌≡◌, ◌-◌, ◌<◌, ◌≤◌, Bool, true
 use Rattle.std.proofs.lemmas.List.{take_all}
 use Rattle.rhai_values.specs.declared.dynamic.Dynamic.{Dynamic}
 use Rattle.rhai_values.specs.declared.dynamic.Dynamic.TheVariants as kind
-use Rattle.rhai_values.specs.Reading.{value_of, value_of-Bool, value_of-Str}
+use Rattle.rhai_values.specs.Reading.{value_of, value_of-Bool}
 use Rattle.rhai_values.specs.Value.{Text, Value, TextV}
 use Rattle.rhai_meaning.specs.Act.{Key, ScriptCall, Act, Invoke}
 use Rattle.rhai_meaning.specs.ActForms.{ask_host, choose, give}
@@ -140,5 +140,5 @@ module _ (here : Setting) (s : State) (next : Act) where
   shared_word (v ∷ []) h k = gives here _ _ s (sym (value_of-Bool false))
   shared_word (v ∷ u ∷ us) h k = absurd (omega (arith, k))
 
-  pub type_word : (v : Dynamic) (name : Text) → name ≡ mapped_type_name here.world.engine (value_of v) → Goes here (of_word calls.TypeOf (v ∷ [])) s (given (value_of (kind.Str name))) s
-  type_word v name is = gives here _ _ s (ap TextV (sym is) ∙ sym (value_of-Str name))
+  pub type_word : (v w : Dynamic) → value_of w ≡ TextV (mapped_type_name here.world.engine (value_of v)) → Goes here (of_word calls.TypeOf (v ∷ [])) s (given (value_of w)) s
+  type_word v w is = gives here _ _ s (sym is)

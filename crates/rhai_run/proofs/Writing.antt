@@ -17,9 +17,9 @@ use Rattle.rhai_meaning.specs.Run.{reversed}
 use Rattle.rhai_run.specs.declared.plain.state.Interrupt.{Interrupt}
 use Rattle.rhai_run.specs.declared.plain.state.Interrupt.TheVariants.{Stuck}
 use Rattle.rhai_run.specs.declared.plain.state.State.{State}
-use Rattle.rhai_run.specs.declared.report.Stuck.TheVariants as why
-use Rattle.rhai_run.specs.Entries.{variable_meant}
-use Rattle.rhai_run.specs.Host.{call_meant}
+use Rattle.rhai_host.specs.declared.report.Stuck.TheVariants as why
+use Rattle.rhai_host.specs.Entries.{variable_meant}
+use Rattle.rhai_host.specs.Host.{call_meant}
 use Rattle.rhai_run.specs.Placing.{root_value, root_stuck, constant_end}
 use Rattle.rhai_run.specs.Runs.{Setting, Task, Acting, Over, Halting, env, run_of, stopped, stop_of, Goes, Stops, Leads, given}
 use Rattle.rhai_run.specs.State.{store_of}

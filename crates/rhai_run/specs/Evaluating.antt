@@ -22,10 +22,10 @@ use Rattle.rhai_run.specs.declared.plain.evaluator.Evaluator.{Evaluator}
 use Rattle.rhai_run.specs.declared.plain.state.Interrupt.{Interrupt}
 use Rattle.rhai_run.specs.declared.plain.state.Interrupt.TheVariants.{NoMemory, Return, Break, Continue, Throw, Stuck, OutOfTurns}
 use Rattle.rhai_run.specs.declared.plain.state.State.{State}
-use Rattle.rhai_run.specs.declared.report.RunEnd.{RunEnd}
-use Rattle.rhai_run.specs.declared.report.RunEnd.TheVariants as ended
-use Rattle.rhai_run.specs.declared.report.Stuck.TheVariants as why
-use Rattle.rhai_run.specs.Host.{host_of}
+use Rattle.rhai_host.specs.declared.report.RunEnd.{RunEnd}
+use Rattle.rhai_host.specs.declared.report.RunEnd.TheVariants as ended
+use Rattle.rhai_host.specs.declared.report.Stuck.TheVariants as why
+use Rattle.rhai_host.specs.Host.{host_of}
 use Rattle.rhai_run.specs.Runs.{Setting, setting_of, Task, Acting, Listing, Over, Leads, given}
 use Rattle.rhai_run.specs.Exits.{round_end}
 pub use Rattle.rhai_run.specs.Runs.{Runs}

@@ -7,7 +7,7 @@ use Rattle.rhai_meaning.specs.Act.{Exit, Again, Ending, Gives, Leaves}
 use Rattle.rhai_meaning.specs.Shape.{is_unit}
 use Rattle.rhai_run.specs.declared.plain.state.Interrupt.{Interrupt}
 use Rattle.rhai_run.specs.declared.plain.state.Interrupt.TheVariants.{Return, Break, Continue, Throw, Stuck}
-use Rattle.rhai_run.specs.declared.report.Stuck.TheVariants as why
+use Rattle.rhai_host.specs.declared.report.Stuck.TheVariants as why
 use Rattle.rhai_run.specs.Runs.{Leaving, stop_of}
 use Rattle.std.specs.Prelude.{if◌then◌else◌}
 

@@ -1,6 +1,3 @@
-pub mod Host
-pub mod Entries
-pub mod Report
 pub mod State
 pub mod Runs
 pub mod Variables

@@ -15,11 +15,11 @@ use Rattle.rhai_places.specs.Reading.{key_meant, part_value, or_unit}
 use Rattle.rhai_run.specs.declared.plain.placing.Place.{Place}
 use Rattle.rhai_run.specs.declared.plain.placing.Current.{Current}
 use Rattle.rhai_run.specs.declared.plain.placing.Current.TheVariants.{At, Loose}
-use Rattle.rhai_run.specs.declared.report.Stuck.{Stuck}
-use Rattle.rhai_run.specs.declared.report.Stuck.TheVariants as why
+use Rattle.rhai_host.specs.declared.report.Stuck.{Stuck}
+use Rattle.rhai_host.specs.declared.report.Stuck.TheVariants as why
 use Rattle.rhai_run.specs.declared.plain.state.Interrupt.{Interrupt}
 use Rattle.rhai_run.specs.declared.plain.state.Interrupt.TheVariants as stopped
-use Rattle.rhai_run.specs.Report.{stuck_meant}
+use Rattle.rhai_host.specs.Report.{stuck_meant}
 use Rattle.rhai_run.specs.Runs.{Setting}
 use Rattle.rhai_run.specs.Variables.{root_meant}
 

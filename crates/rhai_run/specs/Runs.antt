@@ -10,7 +10,7 @@ use Rattle.rhai_meaning.specs.Run.{env_at}
 use Rattle.rhai_run.specs.declared.plain.state.Interrupt.{Interrupt}
 use Rattle.rhai_run.specs.declared.plain.state.Interrupt.TheVariants.{NoMemory, Return, Break, Continue, Throw, Stuck, OutOfTurns as NoTurns}
 use Rattle.rhai_run.specs.declared.plain.state.State.{State}
-use Rattle.rhai_run.specs.Report.{stuck_meant}
+use Rattle.rhai_host.specs.Report.{stuck_meant}
 use Rattle.rhai_run.specs.State.{store_of}
 
 -- what a run is in

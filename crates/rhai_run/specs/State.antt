@@ -7,8 +7,8 @@ use Rattle.rhai_meaning.specs.Run.{reversed}
 use Rattle.rhai_run.specs.declared.plain.state.Interrupt.{Interrupt}
 use Rattle.rhai_run.specs.declared.plain.state.Interrupt.TheVariants.{OutOfTurns}
 use Rattle.rhai_run.specs.declared.plain.state.State.{State}
-use Rattle.rhai_run.specs.Entries.{variable_meant}
-use Rattle.rhai_run.specs.Host.{call_meant}
+use Rattle.rhai_host.specs.Entries.{variable_meant}
+use Rattle.rhai_host.specs.Host.{call_meant}
 
 abbrev pub store_of : State → Store
 store_of s = record { scope = reversed (map variable_meant s.scope.items) []; this = option_map value_of s.this; calls = map call_meant s.calls }

@@ -1,12 +1,9 @@
-//! Running scripts: what a host answers, and a plain evaluator. Passes on the engine's record, which fixes what holds for
-//! every script.
+//! A plain evaluator. Passes on the engine's record, which fixes what holds for every script, and what a run asks and
+//! reports.
 #![tactic(auto)]
 
-mod host;
 mod plain;
-mod report;
 
-pub use host::{Host, HostAnswer, HostCall};
 pub use plain::plain_run;
-pub use report::{RunEnd, RunReport, Stuck, Variable};
 pub use rhai_engine::EngineInfo;
+pub use rhai_host::{Host, HostAnswer, HostCall, RunEnd, RunReport, Stuck, Variable};

@@ -31,10 +31,10 @@ ghost use Rattle.std.specs.Prelude.{IfOk};
 ghost use Rattle.rhai_meaning.specs.Desugar.{core_script};
 ghost use Rattle.rhai_script.specs.Script.{script_of};
 ghost use Rattle.rhai_engine.specs.EngineInfo.{engine_of};
-ghost use Rattle.rhai_run.specs.Host.{host_of};
-ghost use Rattle.rhai_run.specs.Report.{report_meant, ReportsRun};
+ghost use Rattle.rhai_host.specs.Host.{host_of};
+ghost use Rattle.rhai_host.specs.Report.{report_meant, ReportsRun};
 ghost use Rattle.rhai_run.specs.Evaluating.{EndsAs};
-ghost use Rattle.rhai_run.specs.Entries.{start_scope};
+ghost use Rattle.rhai_host.specs.Entries.{start_scope};
 
 use crate::plain::evaluator::Evaluator;
 use crate::plain::state::{Interrupt, State};

@@ -110,38 +110,29 @@ fn is_fault_of(alloc: Global, expr: Expr, number: u8) -> Result<bool, Unread> {
 
 /// A literal of a map whose template has no keys.
 fn is_template_found(alloc: Global, text: &str, number: u8) -> Result<bool, Unread> {
-    match read_expr(alloc, text)? {
-        Expr::Map(map, pos) => {
-            let (pairs, _) = map.into_inner();
-            let map = Boxed::new(alloc, (pairs, StringMap::new(alloc)))?;
-            is_fault_of(alloc, Expr::Map(map, pos), number)
-        }
-        _ => Ok(false),
+    let mut expr = read_expr(alloc, text)?;
+    if let Expr::Map(map, _) = &mut expr {
+        map.get_mut().1 = StringMap::new(alloc);
     }
+    is_fault_of(alloc, expr, number)
 }
 
 /// `+` with its token and one operand.
 fn is_operator_found(alloc: Global) -> Result<bool, Unread> {
-    match read_expr(alloc, "+(1, 2)")? {
-        Expr::FnCall(call, pos) => {
-            let mut call = call.into_inner();
-            call.args = Seq::from_array(alloc, [Expr::Unit(pos)])?;
-            is_fault_of(alloc, Expr::FnCall(Boxed::new(alloc, call)?, pos), 28)
-        }
-        _ => Ok(false),
+    let mut expr = read_expr(alloc, "+(1, 2)")?;
+    if let Expr::FnCall(call, pos) = &mut expr {
+        call.get_mut().args = Seq::from_array(alloc, [Expr::Unit(*pos)])?;
     }
+    is_fault_of(alloc, expr, 28)
 }
 
 /// A method outside of a chain, with the token of an operator that is not its name's.
 fn is_stray_method_found(alloc: Global) -> Result<bool, Unread> {
-    match read_link(alloc, "m(1)")? {
-        Expr::MethodCall(call, pos) => {
-            let mut call = call.into_inner();
-            call.op_token = Some(Token::Plus);
-            is_fault_of(alloc, Expr::MethodCall(Boxed::new(alloc, call)?, pos), 26)
-        }
-        _ => Ok(false),
+    let mut expr = read_link(alloc, "m(1)")?;
+    if let Expr::MethodCall(call, _) = &mut expr {
+        call.get_mut().op_token = Some(Token::Plus);
     }
+    is_fault_of(alloc, expr, 26)
 }
 
 /// Functions' names and bodies, and the number of the first fault.

@@ -8,8 +8,8 @@ use Rattle.rhai_values.specs.Reading.{value_of, value_of-Unit}
 use Rattle.rhai_values.specs.Value.{Text, UnitV, same_text}
 use Rattle.rhai_meaning.specs.Act.{Answers}
 use Rattle.rhai_meaning.specs.Host.{module_value_of}
-use Rattle.rhai_run.specs.declared.host.HostCall.{HostCall}
-use Rattle.rhai_run.specs.Host.{call_meant}
+use Rattle.rhai_host.specs.declared.host.HostCall.{HostCall}
+use Rattle.rhai_host.specs.Host.{call_meant}
 use Rattle.tests_reader.specs.declared.rows.AnswerRow.{AnswerRow}
 use Rattle.tests_of_scripts.specs.HostRows.{fits, answered, answer_among, modules_of}
 

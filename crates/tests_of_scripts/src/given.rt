@@ -3,7 +3,7 @@
 
 ghost use Rattle.std.specs.Prelude.{◌≡◌, length, IfOk, option_map};
 ghost use Rattle.rhai_values.specs.Reading.{value_of};
-ghost use Rattle.rhai_run.specs.Host.{answer_meant};
+ghost use Rattle.rhai_host.specs.Host.{answer_meant};
 ghost use Rattle.tests_of_scripts.specs.HostRows as spec;
 
 use crate::trees::name;

@@ -13,6 +13,7 @@ use crate::plain::operators::{builtin, fault_text};
 use crate::plain::state::{Interrupt, State};
 use crate::{Host, HostAnswer, HostCall};
 use rhai_base::{Dynamic, ImmutableString, Seq, Token};
+use rhai_host::ask;
 
 impl<'a, H: Host> Evaluator<'a, H> {
     /// An operator over values: built in, or else the host's.
@@ -48,9 +49,7 @@ impl<'a, H: Host> Evaluator<'a, H> {
             receiver: None,
             args,
         };
-        let answer = self.host.answer(self.alloc, state.calls.as_slice(), &call)?;
-        state.calls.push(call)?;
-        match answer {
+        match ask(self.host, self.alloc, &mut state.calls, call)? {
             HostAnswer::Value { value, receiver: _ } => Ok(value),
             HostAnswer::Throw(value) => Err(Interrupt::Throw(value)),
         }

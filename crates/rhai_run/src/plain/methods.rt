@@ -21,14 +21,14 @@ ghost use Rattle.rhai_run.specs.Words.{word_meant};
 
 use crate::plain::evaluator::Evaluator;
 use crate::plain::placing::Current;
-use crate::plain::pointers::{all_args, curried};
+use crate::plain::pointers::{curried, pointed_with};
 use crate::plain::state::{Interrupt, State};
 use crate::plain::words::Word;
 use crate::{Host, Stuck};
 use rhai_ast::ScriptFuncDef;
 use rhai_base::{Dynamic, ImmutableString, Seq};
 use rhai_script::FnKey;
-use std::alloc::{AllocError, Global};
+use std::alloc::AllocError;
 use std::rc::Rc;
 
 impl<'a, H: Host> Evaluator<'a, H> {
@@ -65,7 +65,7 @@ impl<'a, H: Host> Evaluator<'a, H> {
     ) -> Result<Dynamic, Interrupt>
         ensures { let here = setting H.answers H.modules self.now in Runs here (Acting (calls.call_pointer here.world false (value_of receiver.now) (map value_of args.now))) state.old result state.new }
     {
-        let (name, args) = pointed_on(self.alloc, receiver, args)?;
+        let (name, args) = pointed_with(self.alloc, receiver, args)?;
         self.call_named(state, &name, false, args)
     }
 
@@ -79,26 +79,13 @@ impl<'a, H: Host> Evaluator<'a, H> {
         ensures { let here = setting H.answers H.modules self.now in (s : State) (next : places.Current → Act) (other : Act) → Leads here (Acting (spec.method_or here.world.engine (word_meant word) (value_of receiver.now) (map value_of args.now) next other)) s result s (λ o. spec.value_or next other o) }
     {
         match word {
-            Word::TypeOf => self.type_name_of(receiver, args),
+            Word::TypeOf => match args {
+                [] => Ok(Some(self.type_of(receiver)?)),
+                _ => Ok(None),
+            },
             Word::IsShared => Ok(is_shared_by(args)),
             Word::Curry => Ok(Some(curried(receiver, args)?)),
             Word::Fn | Word::ToHost | Word::Call | Word::NoWord => Ok(None),
-        }
-    }
-
-    fn type_name_of(
-        &self,
-        receiver: &Dynamic,
-        args: &[Dynamic],
-    ) -> Result<Option<Dynamic>, Interrupt>
-        ensures { let here = setting H.answers H.modules self.now in (s : State) (next : places.Current → Act) (other : Act) → Leads here (Acting (spec.method_or here.world.engine calls.TypeOf (value_of receiver.now) (map value_of args.now) next other)) s result s (λ o. spec.value_or next other o) }
-    {
-        match args {
-            [] => {
-                let name = self.info.map_type_name(receiver.type_name());
-                Ok(Some(Dynamic::Str(ImmutableString::new(self.alloc, name)?)))
-            }
-            _ => Ok(None),
         }
     }
 
@@ -160,21 +147,6 @@ impl<'a, H: Host> Evaluator<'a, H> {
         };
         Ok(self.functions.get(&for_all))
     }
-}
-
-/// The function that a pointer names, with its own values before these.
-fn pointed_on(
-    alloc: Global,
-    pointer: &Dynamic,
-    values: &[Dynamic],
-) -> Result<(ImmutableString, Seq<Dynamic>), Interrupt>
-    ensures { (here : _) (captures : _) (s : State) → Leads here (Acting (calls.call_pointer here.world captures (value_of pointer.now) (map value_of values.now))) s result s (λ p. Acting (calls.call_named here.world captures p.0 (map value_of p.1))) }
-{
-    let Dynamic::FnPtr(pointer) = pointer else {
-        return Err(Interrupt::Stuck(Stuck::WrongKind));
-    };
-    let name = ImmutableString::new(alloc, pointer.fn_name())?;
-    Ok((name, all_args(alloc, pointer, values)?))
 }
 
 /// `is_shared`: no value is.

@@ -22,6 +22,7 @@ use crate::plain::placing::{Current, Place, at_key};
 use crate::plain::state::{Interrupt, State};
 use crate::{Host, HostAnswer, HostCall};
 use rhai_base::{Dynamic, ImmutableString, Seq};
+use rhai_host::ask;
 use rhai_places::{IndexTarget, Indexed, PlaceKey, index, index_target};
 use std::alloc::{AllocError, Global};
 
@@ -215,9 +216,7 @@ impl<'a, H: Host> Evaluator<'a, H> {
             receiver: Some(receiver),
             args,
         };
-        let answer = self.host.answer(self.alloc, state.calls.as_slice(), &call)?;
-        state.calls.push(call)?;
-        match answer {
+        match ask(self.host, self.alloc, &mut state.calls, call)? {
             HostAnswer::Value { value, receiver } => Ok((value, receiver)),
             HostAnswer::Throw(value) => Err(Interrupt::Throw(value)),
         }

@@ -68,22 +68,29 @@ pub fn pointed(
 ) -> Result<Option<(ImmutableString, Seq<Dynamic>)>, Interrupt>
     ensures { (here : Setting) (captures : Bool) (f : Text) (s : State) → Leads here (Acting (calls.call_word here.world captures f calls.CallFn (map value_of args.now))) s result s (λ o. pointed_then here captures f (map value_of args.now) o) }
 {
-    let Some((first, values)) = args.split_first() else {
-        return Ok(None);
-    };
-    let Dynamic::FnPtr(pointer) = first else {
+    match args.split_first() {
+        Some((pointer, values)) => Ok(Some(pointed_with(alloc, pointer, values)?)),
+        None => Ok(None),
+    }
+}
+
+/// The function that a pointer names, with its own values before these.
+pub fn pointed_with(
+    alloc: Global,
+    pointer: &Dynamic,
+    values: &[Dynamic],
+) -> Result<(ImmutableString, Seq<Dynamic>), Interrupt>
+    ensures { (here : Setting) (captures : Bool) (s : State) → Leads here (Acting (calls.call_pointer here.world captures (value_of pointer.now) (map value_of values.now))) s result s (λ p. Acting (calls.call_named here.world captures p.0 (map value_of p.1))) }
+{
+    let Dynamic::FnPtr(pointer) = pointer else {
         return Err(Interrupt::Stuck(Stuck::WrongKind));
     };
     let name = ImmutableString::new(alloc, pointer.fn_name())?;
-    Ok(Some((name, all_args(alloc, pointer, values)?)))
+    Ok((name, all_args(alloc, pointer, values)?))
 }
 
 /// A pointer's own values, then these.
-pub fn all_args(
-    alloc: Global,
-    pointer: &FnPtr,
-    values: &[Dynamic],
-) -> Result<Seq<Dynamic>, AllocError>
+fn all_args(alloc: Global, pointer: &FnPtr, values: &[Dynamic]) -> Result<Seq<Dynamic>, AllocError>
     ensures { IfOk result (λ vs. vs ≡ pointer.now.curried ++ values.now) }
 {
     let mut args = Seq::new(alloc);

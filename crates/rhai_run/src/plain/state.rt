@@ -4,7 +4,7 @@ ghost use Rattle.rhai_meaning.specs.Run.{bind, seen};
 ghost use Rattle.rhai_values.specs.Reading.{value_of};
 ghost use Rattle.rhai_run.specs.declared.plain.state.Interrupt.TheVariants.{NoMemory};
 ghost use Rattle.rhai_run.specs.State.{store_of, TakesTurn};
-ghost use Rattle.rhai_run.specs.Entries.{entry_meant, scope_meant, start_scope, variable_meant};
+ghost use Rattle.rhai_host.specs.Entries.{entry_meant, scope_meant, start_scope, variable_meant};
 
 use crate::{HostCall, Stuck, Variable};
 use rhai_base::{Dynamic, ImmutableString, OutOfMemory, Scope, Seq};

@@ -2,10 +2,13 @@
 
 #![tactic(auto, using(rhai_values::specs::Reading::kinds))]
 
-ghost use Rattle.std.specs.Prelude.{◌≡◌, map};
+ghost use Rattle.std.specs.Prelude.{◌≡◌, IfOk, map};
 ghost use Rattle.rhai_values.specs.Reading.{value_of};
+ghost use Rattle.rhai_values.specs.Value.{TextV};
+ghost use Rattle.rhai_engine.specs.EngineInfo.{engine_of};
 ghost use Rattle.rhai_meaning.specs.Act.{Act};
 ghost use Rattle.rhai_meaning.specs.Calls as calls;
+ghost use Rattle.rhai_meaning.specs.Engine.{mapped_type_name};
 ghost use Rattle.rhai_run.specs.declared.plain.state.State.{State};
 ghost use Rattle.rhai_run.specs.Evaluating.{arm_then, setting};
 ghost use Rattle.rhai_run.specs.Runs.{Acting, Goes, Leads, Setting};
@@ -16,6 +19,7 @@ use crate::plain::evaluator::Evaluator;
 use crate::plain::pointers::{curried, pointer_to};
 use crate::plain::state::Interrupt;
 use rhai_base::{Dynamic, ImmutableString};
+use std::alloc::AllocError;
 
 /// What a name calls that is the language's own.
 #[derive(Clone, Copy)]
@@ -73,7 +77,10 @@ impl<'a, H: Host> Evaluator<'a, H> {
         ensures { let here = setting H.answers H.modules self.now in (s : State) (next : Act) → Leads here (Acting (word_or here.world.engine (word_meant word) (map value_of args.now) next)) s result s (λ o. arm_then next o) }
     {
         match word {
-            Word::TypeOf => self.type_of(args),
+            Word::TypeOf => match args {
+                [value] => Ok(Some(self.type_of(value)?)),
+                _ => Ok(None),
+            },
             Word::IsShared => Ok(is_shared(args)),
             Word::Fn => match args {
                 [name] => Ok(Some(pointer_to(self.alloc, name)?)),
@@ -87,15 +94,12 @@ impl<'a, H: Host> Evaluator<'a, H> {
         }
     }
 
-    /// `type_of`: the name that scripts see for the value's type.
-    fn type_of(&self, args: &[Dynamic]) -> Result<Option<Dynamic>, Interrupt>
-        ensures { let here = setting H.answers H.modules self.now in (s : State) (next : Act) → Leads here (Acting (word_or here.world.engine calls.TypeOf (map value_of args.now) next)) s result s (λ o. arm_then next o) }
+    /// The name that scripts see for a value's type.
+    pub fn type_of(&self, value: &Dynamic) -> Result<Dynamic, AllocError>
+        ensures { IfOk result (λ v. value_of v ≡ TextV (mapped_type_name (engine_of self.now.info.now) (value_of value.now))) }
     {
-        let [value] = args else {
-            return Ok(None);
-        };
         let name = self.info.map_type_name(value.type_name());
-        Ok(Some(Dynamic::Str(ImmutableString::new(self.alloc, name)?)))
+        Ok(Dynamic::Str(ImmutableString::new(self.alloc, name)?))
     }
 }
 

@@ -1,5 +1,5 @@
 use Rattle.std.proofs.Common.{◌≡◌, ◌++◌, map, drop, string_bytes}
-use Rattle.rhai_run.specs.Host.{call_meant}
+use Rattle.rhai_host.specs.Host.{call_meant}
 use Rattle.rhai_program.specs.Report.{calls_text}
 use Rattle.rhai_program.proofs.report.push_calls.Given as goal
 

@@ -1,5 +1,5 @@
 use Rattle.std.proofs.Common.{◌≡◌, ◌++◌, map, drop, string_bytes}
-use Rattle.rhai_run.specs.Entries.{variable_meant}
+use Rattle.rhai_host.specs.Entries.{variable_meant}
 use Rattle.rhai_program.specs.Report.{variables_text}
 use Rattle.rhai_program.proofs.report.push_variables.Given as goal
 

@@ -1,12 +1,13 @@
-use Rattle.std.proofs.Common.{◌∙◌, ap, ◌∷◌}
-use Rattle.rhai_run.proofs.Pointers.{pointed_goes, pointed_stuck}
+use Rattle.std.proofs.lemmas.Result.{err_from_is_err_and}
+use Rattle.rhai_run.proofs.Goes.{goes_then, stops_then}
+use Rattle.rhai_run.proofs.Pointers.{pointed_first}
 use Rattle.rhai_run.proofs.plain.pointers.pointed.Goals as goal
 
-pub returns-in_default-first : goal.returns-in_default-first
-returns-in_default-first c = λ here captures f s. pointed_stuck here s captures f c.args.args.now c.in-Some.values.now c.in-Some.first.now c.in-Some.ensures.cases.0 c.in_default-first.not-FnPtr
+pub returns-in_err-pointed_with-in-Some : goal.returns-in_err-pointed_with-in-Some
+returns-in_err-pointed_with-in-Some c = λ here captures f s.
+    let p = err_from_is_err_and c.from_residual.result c.from_residual.ensures.1 in
+    rw (p.1, p.2) (stops_then here s _ (pointed_first here s captures f c.args.args.now c.in-Some.values.now c.in-Some.pointer.now c.in-Some.ensures.cases.0) (c.in_err-pointed_with-in-Some.ensures here captures s))
 
-pub returns : goal.returns
-returns c = λ here captures f s.
-    pointed_goes here s captures f c.args.args.now c.in-Some.values.now c.in-FnPtr.pointer c.in_ok-name.name c.in_ok-all_args.field-0
-    (c.in-Some.ensures.cases.0 ∙ ap (λ v. v ∷ c.in-Some.values.now) c.in-FnPtr.is)
-    (c.in_ok-name.ensures ∙ c.fn_name.ensures.name) c.in_ok-all_args.ensures
+pub returns-in_ok-pointed_with-in-Some : goal.returns-in_ok-pointed_with-in-Some
+returns-in_ok-pointed_with-in-Some c = λ here captures f s.
+    goes_then here (pointed_first here s captures f c.args.args.now c.in-Some.values.now c.in-Some.pointer.now c.in-Some.ensures.cases.0) (c.in_ok-pointed_with-in-Some.ensures here captures s)

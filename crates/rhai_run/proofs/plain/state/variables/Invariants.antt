@@ -1,5 +1,5 @@
 use Rattle.std.proofs.Common.{◌≡◌, ◌++◌, map}
-use Rattle.rhai_run.specs.Entries.{entry_meant, variable_meant}
+use Rattle.rhai_host.specs.Entries.{entry_meant, variable_meant}
 use Rattle.rhai_run.proofs.plain.state.variables.Given as goal
 
 -- what is done, and then what is left

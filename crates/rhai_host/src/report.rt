@@ -1,6 +1,6 @@
 //! What a run reports.
 ghost use Rattle.std.specs.Prelude.{◌≡◌};
-ghost use Rattle.rhai_run.specs.Report.{stuck_meant, stuck_number, stuck_name};
+ghost use Rattle.rhai_host.specs.Report.{stuck_meant, stuck_number, stuck_name};
 
 use crate::HostCall;
 use rhai_base::{Dynamic, ImmutableString, Seq};

@@ -1,6 +1,6 @@
 use Rattle.std.proofs.Common.{[], ◌∷◌, ◌∙◌, ap}
 use Rattle.rhai_run.proofs.Pointers.{pointed_goes, pointed_stuck}
-use Rattle.rhai_run.proofs.plain.methods.pointed_on.Goals as goal
+use Rattle.rhai_run.proofs.plain.pointers.pointed_with.Goals as goal
 
 pub returns-in_default : goal.returns-in_default
 returns-in_default c = λ here captures s. pointed_stuck here s captures [] (c.args.pointer.now ∷ c.args.values.now) c.args.values.now c.args.pointer.now (λ i. c.args.pointer.now ∷ c.args.values.now) c.in_default.not-FnPtr

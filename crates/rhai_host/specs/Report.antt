@@ -7,13 +7,13 @@ use Rattle.rhai_meaning.specs.Agreeing.{AgreeOn}
 use Rattle.rhai_meaning.specs.Core.{Script}
 use Rattle.rhai_meaning.specs.Engine.{Engine}
 use Rattle.rhai_meaning.specs.Run.{AtStatements, End, WithValue, WithThrown, WithStuck, WithoutTurns, Report, report_of, run_script}
-use Rattle.rhai_run.specs.declared.report.Stuck.{Stuck}
-use Rattle.rhai_run.specs.declared.report.Stuck.TheVariants as stuck
-use Rattle.rhai_run.specs.declared.report.RunEnd.{RunEnd}
-use Rattle.rhai_run.specs.declared.report.RunEnd.TheVariants as ended
-use Rattle.rhai_run.specs.declared.report.RunReport.{RunReport}
-use Rattle.rhai_run.specs.Host.{call_meant}
-use Rattle.rhai_run.specs.Entries.{variable_meant}
+use Rattle.rhai_host.specs.declared.report.Stuck.{Stuck}
+use Rattle.rhai_host.specs.declared.report.Stuck.TheVariants as stuck
+use Rattle.rhai_host.specs.declared.report.RunEnd.{RunEnd}
+use Rattle.rhai_host.specs.declared.report.RunEnd.TheVariants as ended
+use Rattle.rhai_host.specs.declared.report.RunReport.{RunReport}
+use Rattle.rhai_host.specs.Host.{call_meant}
+use Rattle.rhai_host.specs.Entries.{variable_meant}
 
 abbrev pub stuck_meant : Stuck → act.Stuck
 stuck_meant stuck.Unbound = act.Unbound

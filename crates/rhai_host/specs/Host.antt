@@ -4,9 +4,9 @@ use Rattle.rhai_values.specs.Reading.{value_of}
 use Rattle.rhai_meaning.specs.Act as act
 use Rattle.rhai_meaning.specs.Act.{Answer, Answers, AnswersThrow, Host}
 use Rattle.rhai_meaning.specs.Host.{ModuleValue, module_value_of}
-use Rattle.rhai_run.specs.declared.host.HostCall.{HostCall}
-use Rattle.rhai_run.specs.declared.host.HostAnswer.{HostAnswer}
-use Rattle.rhai_run.specs.declared.host.HostAnswer.TheVariants as answer_kind
+use Rattle.rhai_host.specs.declared.host.HostCall.{HostCall}
+use Rattle.rhai_host.specs.declared.host.HostAnswer.{HostAnswer}
+use Rattle.rhai_host.specs.declared.host.HostAnswer.TheVariants as answer_kind
 
 abbrev pub call_meant : HostCall → act.HostCall
 call_meant c = record { name = c.name; receiver = option_map value_of c.receiver; arguments = map value_of c.args }

@@ -1,9 +1,9 @@
 //! What a script asks its host.
-ghost use Rattle.std.specs.Prelude.{◌≡◌, List, map, option_map, IfOk};
+ghost use Rattle.std.specs.Prelude.{◌≡◌, ◌++◌, ◌∷◌, [], List, map, option_map, IfOk, OnOk};
 ghost use Rattle.rhai_values.specs.Reading.{value_of};
 ghost use Rattle.rhai_meaning.specs.Act as act;
 ghost use Rattle.rhai_meaning.specs.Host.{ModuleValue, module_value_of};
-ghost use Rattle.rhai_run.specs.Host.{call_meant, answer_meant};
+ghost use Rattle.rhai_host.specs.Host.{call_meant, answer_meant};
 
 use rhai_base::{Dynamic, ImmutableString, OutOfMemory, Seq};
 use std::alloc::Global;
@@ -53,4 +53,19 @@ pub trait Host {
     /// A module's value, by its names joined by `::`.
     fn module_value(&self, alloc: Global, qualified: &str) -> Result<Option<Dynamic>, OutOfMemory>
         ensures { IfOk result (λ v. option_map value_of v ≡ module_value_of (modules self.now) qualified.now) };
+}
+
+/// Asks a host. The call goes to the calls of the run.
+pub fn ask<H: Host>(
+    host: &H,
+    alloc: Global,
+    calls: &mut Seq<HostCall>,
+    call: HostCall,
+) -> Result<HostAnswer, OutOfMemory>
+    ensures answer { IfOk result (λ a. answer_meant a ≡ H.answers host.now (map call_meant calls.old) (call_meant call)) }
+    ensures calls { OnOk result (calls.new ≡ calls.old ++ call ∷ []) }
+{
+    let answer = host.answer(alloc, calls.as_slice(), &call)?;
+    calls.push(call)?;
+    Ok(answer)
 }

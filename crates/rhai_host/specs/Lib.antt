@@ -1,0 +1,3 @@
+pub mod Host
+pub mod Entries
+pub mod Report
