@@ -1,5 +1,5 @@
 //! What a script asks its host.
-ghost use Rattle.std.specs.Prelude.{◌≡◌, ◌++◌, ◌∷◌, [], List, map, option_map, IfOk, OnOk};
+ghost use Rattle.std.specs.Prelude.{◌≡◌, ◌++◌, ◌∷◌, [], List, map, option_map, IfOk, OnOk, OnErr};
 ghost use Rattle.rhai_values.specs.Reading.{value_of};
 ghost use Rattle.rhai_meaning.specs.Act as act;
 ghost use Rattle.rhai_meaning.specs.Host.{ModuleValue, module_value_of};
@@ -55,7 +55,7 @@ pub trait Host {
         ensures { IfOk result (λ v. option_map value_of v ≡ module_value_of (modules self.now) qualified.now) };
 }
 
-/// Asks a host. The call goes to the calls of the run.
+/// Asks a host. The call goes to the calls of the run; a refused one leaves them as they are.
 pub fn ask<H: Host>(
     host: &H,
     alloc: Global,
@@ -64,6 +64,7 @@ pub fn ask<H: Host>(
 ) -> Result<HostAnswer, OutOfMemory>
     ensures answer { IfOk result (λ a. answer_meant a ≡ H.answers host.now (map call_meant calls.old) (call_meant call)) }
     ensures calls { OnOk result (calls.new ≡ calls.old ++ call ∷ []) }
+    ensures refused { OnErr result (calls.new ≡ calls.old) }
 {
     let answer = host.answer(alloc, calls.as_slice(), &call)?;
     calls.push(call)?;

@@ -1,5 +1,3 @@
-pub mod Hosts
-pub mod Reports
 pub mod Runs
 pub mod Shows
 pub mod Turns

@@ -1,14 +1,11 @@
-//! The program as a library: its scripts, its host, what it can be asked and what it prints.
+//! The program as a library: what it can be asked and what it prints. Passes its scripts on, its host, and how a report
+//! is printed.
 #![tactic(auto)]
 
-mod host;
 mod program;
-mod report;
 mod request;
-mod scripts;
 
-pub use host::ProgramHost;
 pub use program::run_words;
-pub use report::push_report;
 pub use request::Request;
-pub use scripts::BuiltinScript;
+pub use rhai_builtins::BuiltinScript;
+pub use rhai_reports::{ProgramHost, push_report};

@@ -2,18 +2,17 @@
 ghost use Rattle.std.specs.Prelude.{◌≡◌, ◌≤◌, ◌⊎◌, length, map, string_bytes, IsNone, IsSome, IfSome, IfOk, OnOk, MatchOption};
 ghost use Rattle.std.specs.Io.KnownBytes.{Appends, Keeps, WriteAppends};
 ghost use Rattle.rhai_program.specs.Output.{AppendsStart};
-ghost use Rattle.rhai_program.specs.Scripts.{all_scripts};
+ghost use Rattle.rhai_builtins.specs.Scripts.{all_scripts};
 ghost use Rattle.rhai_program.specs.Words.{request_of, usage, listing, built_in, Answers, Optimized};
 ghost use Rattle.rhai_values.specs.Value.{Text};
 ghost use Rattle.rhai_script.specs.Script.{script_of};
 
-use crate::host::ProgramHost;
-use crate::report;
 use crate::request::Request;
-use crate::scripts::BuiltinScript;
 use rhai_base::{OutOfMemory, Scope};
+use rhai_builtins::BuiltinScript;
 use rhai_notation::{push_lines, push_script};
 use rhai_optimizer::{OptimizationLevel, optimize_into_ast};
+use rhai_reports::{ProgramHost, push_report};
 use rhai_run::{EngineInfo, plain_run};
 use rhai_script::AST;
 use std::alloc::Global;
@@ -141,7 +140,7 @@ fn run(
     let scope = Scope::new(alloc);
     let report = plain_run(alloc, &after, &engine, &ProgramHost, &scope, turns)?;
     let mut text = String::new(alloc);
-    report::push_report(&report, &mut text)?;
+    push_report(&report, &mut text)?;
     Ok(text)
 }
 

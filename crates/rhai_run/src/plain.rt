@@ -1,6 +1,5 @@
 //! The plain evaluator.
 
-mod asking;
 mod assigning;
 mod calling;
 mod chains;
@@ -9,23 +8,11 @@ mod counting;
 mod evaluator;
 mod exits;
 mod invoking;
-mod left_sides;
-mod links;
 mod logic;
 mod loops;
-mod maps;
 mod methods;
-mod operators;
-mod parts;
-mod placing;
-mod pointers;
-mod state;
 mod statements;
 mod targets;
-mod values;
-mod variables;
-mod words;
-mod writing;
 
 ghost use Rattle.std.specs.Prelude.{IfOk};
 ghost use Rattle.rhai_meaning.specs.Desugar.{core_script};
@@ -33,13 +20,12 @@ ghost use Rattle.rhai_script.specs.Script.{script_of};
 ghost use Rattle.rhai_engine.specs.EngineInfo.{engine_of};
 ghost use Rattle.rhai_host.specs.Host.{host_of};
 ghost use Rattle.rhai_host.specs.Report.{report_meant, ReportsRun};
-ghost use Rattle.rhai_run.specs.Evaluating.{EndsAs};
 ghost use Rattle.rhai_host.specs.Entries.{start_scope};
 
 use crate::plain::evaluator::Evaluator;
-use crate::plain::state::{Interrupt, State};
-use crate::{EngineInfo, Host, RunEnd, RunReport, Stuck};
-use rhai_base::{Dynamic, OutOfMemory, Scope, Seq};
+use crate::{EngineInfo, Host, RunReport};
+use rhai_base::{OutOfMemory, Scope, Seq};
+use rhai_machine::{Machine, State, run_end};
 use rhai_script::AST;
 use std::alloc::Global;
 
@@ -61,10 +47,12 @@ pub fn plain_run<H: Host>(
     ensures { IfOk result (λ r. ReportsRun (engine_of info.now) (host_of (H.answers host.now) (H.modules host.now)) (core_script (script_of ast.now)) (start_scope scope.now) turns (report_meant r)) }
 {
     let evaluator = Evaluator {
-        alloc,
-        info,
-        host,
-        functions: ast.shared_lib(),
+        machine: Machine {
+            alloc,
+            info,
+            host,
+            functions: ast.shared_lib(),
+        },
         in_loop: false,
         depth: turns,
     };
@@ -83,17 +71,4 @@ pub fn plain_run<H: Host>(
         calls,
         turns_left: turns,
     })
-}
-
-fn run_end(ended: Result<Dynamic, Interrupt>) -> Result<RunEnd, OutOfMemory>
-    ensures { IfOk result (λ e. EndsAs ended e) }
-{
-    match ended {
-        Ok(value) | Err(Interrupt::Return(value)) => Ok(RunEnd::Value(value)),
-        Err(Interrupt::Throw(value)) => Ok(RunEnd::Thrown(value)),
-        Err(Interrupt::Stuck(stuck)) => Ok(RunEnd::Stuck(stuck)),
-        Err(Interrupt::Break(_)) | Err(Interrupt::Continue) => Ok(RunEnd::Stuck(Stuck::WrongKind)),
-        Err(Interrupt::OutOfTurns) => Ok(RunEnd::OutOfTurns),
-        Err(Interrupt::NoMemory) => Err(OutOfMemory),
-    }
 }

@@ -7,7 +7,7 @@ use crate::trees::{integer, name};
 use rhai_ast::Stmt;
 use rhai_base::{Dynamic, INT, ImmutableString, OutOfMemory, Scope, Seq};
 use rhai_optimizer::{OptimizationLevel, optimize_into_ast};
-use rhai_program::ProgramHost;
+use rhai_reports::ProgramHost;
 use rhai_run::{EngineInfo, Host, HostAnswer, HostCall, RunEnd, plain_run};
 use std::alloc::Global;
 use std::test::Fail;

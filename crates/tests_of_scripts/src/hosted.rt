@@ -2,7 +2,7 @@
 
 use crate::vectors::script;
 use rhai_base::{OutOfMemory, Scope};
-use rhai_program::{ProgramHost, push_report};
+use rhai_reports::{ProgramHost, push_report};
 use rhai_run::{EngineInfo, plain_run};
 use rhai_script::AST;
 use std::alloc::Global;

@@ -2,7 +2,7 @@
 
 use crate::trees::name;
 use rhai_base::{Dynamic, OutOfMemory, Seq};
-use rhai_program::ProgramHost;
+use rhai_reports::ProgramHost;
 use rhai_run::{Host, HostAnswer, HostCall};
 use std::alloc::Global;
 use std::test::Fail;

@@ -23,10 +23,6 @@ mod notation;
 #[cfg(test)]
 mod optimizer;
 #[cfg(test)]
-mod program;
-#[cfg(test)]
-mod readme;
-#[cfg(test)]
 mod reports;
 #[cfg(test)]
 mod rows;

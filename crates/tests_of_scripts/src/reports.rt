@@ -2,7 +2,7 @@
 
 use crate::trees::name;
 use rhai_base::{Dynamic, OutOfMemory, Seq};
-use rhai_program::push_report;
+use rhai_reports::push_report;
 use rhai_run::{HostCall, RunEnd, RunReport, Stuck};
 use std::alloc::Global;
 use std::test::Fail;

@@ -3,7 +3,7 @@
 use rhai_base::{OutOfMemory, Scope};
 use rhai_notation::push_script;
 use rhai_optimizer::{OptimizationLevel, optimize_into_ast};
-use rhai_program::push_report;
+use rhai_reports::push_report;
 use rhai_run::{EngineInfo, Host, RunReport, plain_run};
 use rhai_script::AST;
 use std::alloc::Global;

@@ -14,7 +14,7 @@ use crate::given::{Given, read_given};
 use crate::notation::with_functions;
 use crate::rows::is_printed;
 use rhai_base::OutOfMemory;
-use rhai_program::push_report;
+use rhai_reports::push_report;
 use rhai_run::plain_run;
 use rhai_script::AST;
 use std::alloc::Global;

@@ -5,28 +5,23 @@
 ghost use Rattle.std.specs.Prelude.{◌≡◌, true, length, map};
 ghost use Rattle.rhai_values.specs.Reading.{value_of};
 ghost use Rattle.rhai_reading.specs.Reading.{callee_of, exprs_of};
-ghost use Rattle.rhai_meaning.specs.Calls as calls;
 ghost use Rattle.rhai_meaning.specs.Desugar.{callee_by};
+ghost use Rattle.rhai_machine.specs.Evaluating.{setting, Runs, RunsCall};
+ghost use Rattle.rhai_machine.specs.Runs.{Acting};
+ghost use Rattle.rhai_meaning.specs.Calls as calls;
 ghost use Rattle.rhai_meaning.specs.Shape as shape;
-ghost use Rattle.rhai_run.specs.Evaluating.{setting, Runs, RunsCall};
-ghost use Rattle.rhai_run.specs.Runs.{Acting};
 
 use crate::plain::evaluator::Evaluator;
-use crate::plain::operators::operator_called;
-use crate::plain::pointers::pointed;
-use crate::plain::state::{Interrupt, State};
-use crate::plain::variables::qualified;
-use crate::plain::words::Word;
-use crate::{Host, Stuck};
 use rhai_ast::FnCallExpr;
 use rhai_base::{Dynamic, ImmutableString, Seq};
-use rhai_faults::{is_barred_call, is_formed};
+use rhai_host::{Host, Stuck};
+use rhai_machine::{Interrupt, State, Word, is_callable, operator_called, pointed, qualified};
 
 impl<'a, H: Host> Evaluator<'a, H> {
     /// A call: its arguments first, then what its name stands for. One whose name or token no tree has is stuck before.
     #[cycle(evaluate)]
     pub fn call(&self, state: &mut State, call: &FnCallExpr) -> Result<Dynamic, Interrupt>
-        ensures { RunsCall (setting H.answers H.modules self.now) self.now.in_loop (callee_of call.now) (exprs_of call.now.args) state.old result state.new }
+        ensures { RunsCall (setting H.answers H.modules self.now.machine) self.now.in_loop (callee_of call.now) (exprs_of call.now.args) state.old result state.new }
     {
         if !is_callable(call) {
             return Err(Interrupt::Stuck(Stuck::WrongKind));
@@ -43,17 +38,17 @@ impl<'a, H: Host> Evaluator<'a, H> {
         args: Seq<Dynamic>,
     ) -> Result<Dynamic, Interrupt>
         requires { shape.is_callable (callee_of call.now) (length call.now.args) ≡ true }
-        ensures { let here = setting H.answers H.modules self.now in Runs here (Acting (calls.called here.world (callee_by (callee_of call.now) (callee_of call.now).token) (map value_of args))) state.old result state.new }
+        ensures { let here = setting H.answers H.modules self.now.machine in Runs here (Acting (calls.called here.world (callee_by (callee_of call.now) (callee_of call.now).token) (map value_of args))) state.old result state.new }
     {
         if let Some(op) = operator_called(call) {
-            return self.operate(state, op, args);
+            return self.machine.operate(state, op, args);
         }
         if call.namespace.is_empty() {
             return self.call_word(state, &call.name, call.capture_parent_scope, args);
         }
-        let name = qualified(self.alloc, &call.namespace, call.name.as_str())?;
-        let name = ImmutableString::new(self.alloc, name.as_str())?;
-        self.ask_host(state, name, args)
+        let name = qualified(self.machine.alloc, &call.namespace, call.name.as_str())?;
+        let name = ImmutableString::new(self.machine.alloc, name.as_str())?;
+        self.machine.ask_host(state, name, args)
     }
 
     /// One of the language's own words, where it has as many arguments as it takes; else a function of the name.
@@ -65,16 +60,16 @@ impl<'a, H: Host> Evaluator<'a, H> {
         captures: bool,
         args: Seq<Dynamic>,
     ) -> Result<Dynamic, Interrupt>
-        ensures { let here = setting H.answers H.modules self.now in Runs here (Acting (calls.call_word here.world captures name.now (calls.word name.now) (map value_of args))) state.old result state.new }
+        ensures { let here = setting H.answers H.modules self.now.machine in Runs here (Acting (calls.call_word here.world captures name.now (calls.word name.now) (map value_of args))) state.old result state.new }
     {
         let word = Word::of(name.as_str());
         if word.is_to_host() {
-            return self.ask_host(state, name.clone()?, args);
+            return self.machine.ask_host(state, name.clone()?, args);
         }
         if word.is_call() {
             return self.call_pointed(state, name, captures, args);
         }
-        match self.word_value(word, args.as_slice())? {
+        match self.machine.word_value(word, args.as_slice())? {
             Some(value) => Ok(value),
             None => self.call_named(state, name, captures, args),
         }
@@ -89,18 +84,11 @@ impl<'a, H: Host> Evaluator<'a, H> {
         captures: bool,
         args: Seq<Dynamic>,
     ) -> Result<Dynamic, Interrupt>
-        ensures { let here = setting H.answers H.modules self.now in Runs here (Acting (calls.call_word here.world captures name.now calls.CallFn (map value_of args))) state.old result state.new }
+        ensures { let here = setting H.answers H.modules self.now.machine in Runs here (Acting (calls.call_word here.world captures name.now calls.CallFn (map value_of args))) state.old result state.new }
     {
-        match pointed(self.alloc, args.as_slice())? {
+        match pointed(self.machine.alloc, args.as_slice())? {
             Some((function, all)) => self.call_named(state, &function, captures, all),
             None => self.call_named(state, name, captures, args),
         }
     }
-}
-
-/// Whether a call's name and token may stand in a tree, and the language runs what it names.
-pub fn is_callable(call: &FnCallExpr) -> bool
-    ensures { result ≡ shape.is_callable (callee_of call.now) (length call.now.args) }
-{
-    is_formed(call) && !is_barred_call(call)
 }

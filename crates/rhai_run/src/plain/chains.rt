@@ -2,42 +2,26 @@
 
 #![tactic(auto, using(rhai_reading::specs::Reading::shapes, rhai_values::specs::Reading::kinds))]
 
-ghost use Rattle.std.specs.Prelude.{◌≡◌, false};
+ghost use Rattle.std.specs.Prelude.{false};
 ghost use Rattle.rhai_reading.specs.Reading.{chain_flags, expr_of};
+ghost use Rattle.rhai_machine.specs.Chaining.{access_meant, rest_steps, StepsOn};
+ghost use Rattle.rhai_machine.specs.Evaluating.{setting, Runs, RunsCore};
+ghost use Rattle.rhai_machine.specs.Placing.{current_in};
+ghost use Rattle.rhai_machine.specs.Runs.{Acting};
+ghost use Rattle.rhai_machine.specs.State.{store_of};
 ghost use Rattle.rhai_meaning.specs.Chains as chains;
 ghost use Rattle.rhai_meaning.specs.Desugar as desugar;
 ghost use Rattle.rhai_meaning.specs.Meaning as meaning;
-ghost use Rattle.rhai_meaning.specs.Shape as shape;
-ghost use Rattle.rhai_run.specs.Chaining as spec;
-ghost use Rattle.rhai_run.specs.Chaining.{access_meant, rest_steps, StepsOn};
-ghost use Rattle.rhai_run.specs.Evaluating.{setting, Runs, RunsCore};
-ghost use Rattle.rhai_run.specs.Placing.{current_in};
-ghost use Rattle.rhai_run.specs.Runs.{Acting};
-ghost use Rattle.rhai_run.specs.State.{store_of};
+ghost use Rattle.rhai_machine.specs.Chaining as spec;
 
-use crate::plain::calling::is_callable;
 use crate::plain::evaluator::Evaluator;
-use crate::plain::links::Rest;
-use crate::plain::parts::PropertyNames;
-use crate::plain::placing::Current;
-use crate::plain::state::{Interrupt, State};
-use crate::plain::variables::root_of;
-use crate::{Host, Stuck};
 use bitflags::Flags;
 use rhai_ast::{BinaryExpr, Expr, FnCallExpr};
-use rhai_base::{ASTFlags, Dynamic, ImmutableString, Seq};
-use rhai_faults::is_rest;
-
-/// A step whose argument is evaluated.
-#[derive(Drop)]
-pub enum Access<'a> {
-    /// A property.
-    Property(PropertyNames<'a>),
-    /// An index.
-    Index(Dynamic),
-    /// A method and its arguments.
-    Method(&'a ImmutableString, Seq<Dynamic>),
-}
+use rhai_base::{ASTFlags, Dynamic};
+use rhai_host::{Host, Stuck};
+use rhai_machine::{
+    Access, Current, Interrupt, PropertyNames, Rest, State, is_callable, is_chain, root_of,
+};
 
 impl<'a, H: Host> Evaluator<'a, H> {
     /// A chain by its outermost node: its base, then its steps.
@@ -49,7 +33,7 @@ impl<'a, H: Host> Evaluator<'a, H> {
         is_dot: bool,
         options: ASTFlags,
     ) -> Result<Dynamic, Interrupt>
-        ensures { RunsCore (setting H.answers H.modules self.now) (spec.chain_core self.now.in_loop is_dot (chain_flags options) (expr_of sides.now.lhs) (expr_of sides.now.rhs)) state.old result state.new }
+        ensures { RunsCore (setting H.answers H.modules self.now.machine) (spec.chain_core self.now.in_loop is_dot (chain_flags options) (expr_of sides.now.lhs) (expr_of sides.now.rhs)) state.old result state.new }
     {
         if !is_chain(is_dot, options, &sides.rhs) {
             return Err(Interrupt::Stuck(Stuck::WrongKind));
@@ -66,10 +50,10 @@ impl<'a, H: Host> Evaluator<'a, H> {
     /// The base of a chain: a place, or a value.
     #[cycle(evaluate)]
     fn base<'e>(&self, state: &mut State, expr: &'e Expr) -> Result<Current<'e>, Interrupt>
-        ensures { let here = setting H.answers H.modules self.now in StepsOn here (λ next. meaning.at_base here.world (desugar.based (desugar.root_of (expr_of expr.now)) (desugar.core_expr self.now.in_loop (expr_of expr.now))) next) state.old result state.new }
+        ensures { let here = setting H.answers H.modules self.now.machine in StepsOn here (λ next. meaning.at_base here.world (desugar.based (desugar.root_of (expr_of expr.now)) (desugar.core_expr self.now.in_loop (expr_of expr.now))) next) state.old result state.new }
     {
         match root_of(expr) {
-            Some(root) => self.at_root(state, root),
+            Some(root) => self.machine.at_root(state, root),
             None => Ok(Current::Loose(self.expr(state, expr)?)),
         }
     }
@@ -77,7 +61,7 @@ impl<'a, H: Host> Evaluator<'a, H> {
     /// The value of what is left of a chain, from what it has come to.
     #[cycle(evaluate)]
     fn steps(&self, state: &mut State, rest: Rest, current: Current) -> Result<Dynamic, Interrupt>
-        ensures { let here = setting H.answers H.modules self.now in Runs here (Acting (meaning.steps here.world (rest_steps self.now.in_loop rest.entry) (current_in here (store_of state.old) current.entry))) state.old result state.new }
+        ensures { let here = setting H.answers H.modules self.now.machine in Runs here (Acting (meaning.steps here.world (rest_steps self.now.in_loop rest.entry) (current_in here (store_of state.old) current.entry))) state.old result state.new }
     {
         let link = rest.link();
         let Some(access) = self.reach(state, rest, &current)? else {
@@ -86,7 +70,7 @@ impl<'a, H: Host> Evaluator<'a, H> {
         let current = self.applied(state, access, current)?;
         match link.rest {
             Some(rest) => self.steps(state, rest, current),
-            None => Ok(self.current_value(state, current)?),
+            None => Ok(self.machine.current_value(state, current)?),
         }
     }
 
@@ -99,9 +83,9 @@ impl<'a, H: Host> Evaluator<'a, H> {
         rest: Rest<'e>,
         current: &Current,
     ) -> Result<Option<Access<'e>>, Interrupt>
-        ensures { let here = setting H.answers H.modules self.now in spec.Reaches here self.now.in_loop rest.entry current.now state.old result state.new }
+        ensures { let here = setting H.answers H.modules self.now.machine in spec.Reaches here self.now.in_loop rest.entry current.now state.old result state.new }
     {
-        if rest.options.contains(ASTFlags::NEGATED) && self.is_unit_at(state, current) {
+        if rest.options.contains(ASTFlags::NEGATED) && self.machine.is_unit_at(state, current) {
             return Ok(None);
         }
         let link = rest.link();
@@ -109,7 +93,7 @@ impl<'a, H: Host> Evaluator<'a, H> {
             return Err(Interrupt::Stuck(Stuck::WrongKind));
         }
         let access = self.access(state, rest.is_dot, link.argument)?;
-        self.refreshed(state, current)?;
+        self.machine.refreshed(state, current)?;
         Ok(Some(access))
     }
 
@@ -121,7 +105,7 @@ impl<'a, H: Host> Evaluator<'a, H> {
         is_dot: bool,
         argument: &'e Expr,
     ) -> Result<Access<'e>, Interrupt>
-        ensures { let here = setting H.answers H.modules self.now in spec.HasAccess here (spec.step_in self.now.in_loop is_dot false (expr_of argument.now)) state.old result state.new }
+        ensures { let here = setting H.answers H.modules self.now.machine in spec.HasAccess here (spec.step_in self.now.in_loop is_dot false (expr_of argument.now)) state.old result state.new }
     {
         if !is_dot {
             return Ok(Access::Index(self.expr(state, argument)?));
@@ -147,7 +131,7 @@ impl<'a, H: Host> Evaluator<'a, H> {
         state: &mut State,
         call: &'e FnCallExpr,
     ) -> Result<Access<'e>, Interrupt>
-        ensures { let here = setting H.answers H.modules self.now in spec.HasAccess here (spec.method_core self.now.in_loop call.now) state.old result state.new }
+        ensures { let here = setting H.answers H.modules self.now.machine in spec.HasAccess here (spec.method_core self.now.in_loop call.now) state.old result state.new }
     {
         if !is_callable(call) {
             return Err(Interrupt::Stuck(Stuck::WrongKind));
@@ -164,20 +148,12 @@ impl<'a, H: Host> Evaluator<'a, H> {
         access: Access,
         current: Current<'c>,
     ) -> Result<Current<'c>, Interrupt>
-        ensures { let here = setting H.answers H.modules self.now in let c = current_in here (store_of state.old) current.entry in StepsOn here (λ next. chains.applied here.world (access_meant access.entry) c next) state.old result state.new }
+        ensures { let here = setting H.answers H.modules self.now.machine in let c = current_in here (store_of state.old) current.entry in StepsOn here (λ next. chains.applied here.world (access_meant access.entry) c next) state.old result state.new }
     {
         match access {
-            Access::Property(names) => self.property(state, names, current),
-            Access::Index(index) => self.index(state, current, index),
+            Access::Property(names) => self.machine.property(state, names, current),
+            Access::Index(index) => self.machine.index(state, current, index),
             Access::Method(name, args) => self.method(state, name, args, current),
         }
     }
-}
-
-/// Whether the outermost node of a chain has a meaning.
-pub fn is_chain(is_dot: bool, options: ASTFlags, right: &Expr) -> bool
-    ensures { result ≡ shape.is_chain is_dot (chain_flags options) (expr_of right.now) }
-{
-    is_rest(is_dot, options.contains(ASTFlags::BREAK), right)
-        && !options.contains(ASTFlags::EXPORTED)
 }

@@ -2,23 +2,20 @@
 
 #![tactic(auto, using(rhai_reading::specs::Reading::shapes, rhai_values::specs::Reading::kinds))]
 
-ghost use Rattle.std.specs.Prelude.{◌≡◌, [], ◌∷◌, None, cond, map, slice_get};
-ghost use Rattle.std.specs.Option.{option_copied, option_map};
+ghost use Rattle.std.specs.Prelude.{[], ◌∷◌, None, map, slice_get};
 ghost use Rattle.rhai_reading.specs.Reading.{arms_of, cases_of, expr_of, expressions_of, range_of, subject_of, table_of};
 ghost use Rattle.rhai_values.specs.Reading.{value_of};
-ghost use Rattle.rhai_values.specs.Value.{is_hashable};
-ghost use Rattle.rhai_meaning.specs.Control.{case_for, chosen, default_of, ranges_with, switch_on};
+ghost use Rattle.rhai_meaning.specs.Control.{chosen, default_of, ranges_with, switch_on};
 ghost use Rattle.rhai_meaning.specs.Desugar.{core_stmt};
+ghost use Rattle.rhai_machine.specs.Evaluating.{arms_here, setting, Runs, RunsArm, RunsFirstArm, RunsLine};
+ghost use Rattle.rhai_machine.specs.Runs.{Acting};
 ghost use Rattle.rhai_meaning.specs.Tree as tree;
-ghost use Rattle.rhai_run.specs.Evaluating.{arms_here, setting, Runs, RunsArm, RunsFirstArm, RunsLine};
-ghost use Rattle.rhai_run.specs.Runs.{Acting};
 
 use crate::plain::evaluator::Evaluator;
-use crate::plain::state::{Interrupt, State};
-use crate::plain::values::truth;
-use crate::{Host, Stuck};
-use rhai_ast::{BinaryExpr, CaseBlocksList, SwitchBlock, SwitchCasesCollection};
+use rhai_ast::{BinaryExpr, SwitchBlock, SwitchCasesCollection};
 use rhai_base::{Dynamic, RangeCase};
+use rhai_host::{Host, Stuck};
+use rhai_machine::{Interrupt, State, case_list, truth};
 use rhai_queries::is_table;
 
 impl<'a, H: Host> Evaluator<'a, H> {
@@ -26,7 +23,7 @@ impl<'a, H: Host> Evaluator<'a, H> {
     /// that no tree has is stuck.
     #[cycle(evaluate)]
     pub fn switch(&self, state: &mut State, block: &SwitchBlock) -> Result<Dynamic, Interrupt>
-        ensures { RunsLine (setting H.answers H.modules self.now) (core_stmt self.now.in_loop (tree.Switch (expr_of (subject_of block.now)) (arms_of (expressions_of (cases_of block.now))) (table_of (cases_of block.now)))) state.old result state.new }
+        ensures { RunsLine (setting H.answers H.modules self.now.machine) (core_stmt self.now.in_loop (tree.Switch (expr_of (subject_of block.now)) (arms_of (expressions_of (cases_of block.now))) (table_of (cases_of block.now)))) state.old result state.new }
     {
         if !is_table(&block.cases) {
             return Err(Interrupt::Stuck(Stuck::WrongKind));
@@ -42,7 +39,7 @@ impl<'a, H: Host> Evaluator<'a, H> {
         table: &SwitchCasesCollection,
         subject: &Dynamic,
     ) -> Result<Dynamic, Interrupt>
-        ensures { let here = setting H.answers H.modules self.now in Runs here (Acting (switch_on (arms_here here self.now.in_loop (arms_of (expressions_of table.now))) (table_of table.now) (value_of subject.now))) state.old result state.new }
+        ensures { let here = setting H.answers H.modules self.now.machine in Runs here (Acting (switch_on (arms_here here self.now.in_loop (arms_of (expressions_of table.now))) (table_of table.now) (value_of subject.now))) state.old result state.new }
     {
         match self.chosen_arm(state, table, subject)? {
             Some(value) => Ok(value),
@@ -58,7 +55,7 @@ impl<'a, H: Host> Evaluator<'a, H> {
         table: &SwitchCasesCollection,
         subject: &Dynamic,
     ) -> Result<Option<Dynamic>, Interrupt>
-        ensures { let here = setting H.answers H.modules self.now in RunsFirstArm here (arms_here here self.now.in_loop (arms_of (expressions_of table.now))) (chosen (table_of table.now) (value_of subject.now)) state.old result state.new }
+        ensures { let here = setting H.answers H.modules self.now.machine in RunsFirstArm here (arms_here here self.now.in_loop (arms_of (expressions_of table.now))) (chosen (table_of table.now) (value_of subject.now)) state.old result state.new }
     {
         let arms = table.expressions.as_slice();
         match case_list(table, subject) {
@@ -75,7 +72,7 @@ impl<'a, H: Host> Evaluator<'a, H> {
         arms: &[BinaryExpr],
         places: &[usize],
     ) -> Result<Option<Dynamic>, Interrupt>
-        ensures { let here = setting H.answers H.modules self.now in RunsFirstArm here (arms_here here self.now.in_loop (arms_of arms.now)) places.now state.old result state.new }
+        ensures { let here = setting H.answers H.modules self.now.machine in RunsFirstArm here (arms_here here self.now.in_loop (arms_of arms.now)) places.now state.old result state.new }
     {
         for place in places {
             if let Some(value) = self.arm(state, arms, *place)? {
@@ -94,7 +91,7 @@ impl<'a, H: Host> Evaluator<'a, H> {
         ranges: &[RangeCase],
         subject: &Dynamic,
     ) -> Result<Option<Dynamic>, Interrupt>
-        ensures { let here = setting H.answers H.modules self.now in RunsFirstArm here (arms_here here self.now.in_loop (arms_of arms.now)) (ranges_with (map range_of ranges.now) (value_of subject.now)) state.old result state.new }
+        ensures { let here = setting H.answers H.modules self.now.machine in RunsFirstArm here (arms_here here self.now.in_loop (arms_of arms.now)) (ranges_with (map range_of ranges.now) (value_of subject.now)) state.old result state.new }
     {
         for range in ranges {
             if let Some(value) = self.range_arm(state, arms, range, subject)? {
@@ -113,7 +110,7 @@ impl<'a, H: Host> Evaluator<'a, H> {
         range: &RangeCase,
         subject: &Dynamic,
     ) -> Result<Option<Dynamic>, Interrupt>
-        ensures { let here = setting H.answers H.modules self.now in RunsFirstArm here (arms_here here self.now.in_loop (arms_of arms.now)) (ranges_with (range_of range.now ∷ []) (value_of subject.now)) state.old result state.new }
+        ensures { let here = setting H.answers H.modules self.now.machine in RunsFirstArm here (arms_here here self.now.in_loop (arms_of arms.now)) (ranges_with (range_of range.now ∷ []) (value_of subject.now)) state.old result state.new }
     {
         if range.contains(subject) {
             self.arm(state, arms, range.index())
@@ -130,7 +127,7 @@ impl<'a, H: Host> Evaluator<'a, H> {
         arms: &[BinaryExpr],
         place: usize,
     ) -> Result<Option<Dynamic>, Interrupt>
-        ensures { let here = setting H.answers H.modules self.now in RunsArm here (slice_get (arms_here here self.now.in_loop (arms_of arms.now)) place) state.old result state.new }
+        ensures { let here = setting H.answers H.modules self.now.machine in RunsArm here (slice_get (arms_here here self.now.in_loop (arms_of arms.now)) place) state.old result state.new }
     {
         let Some(arm) = arms.get(place) else {
             return Ok(None);
@@ -149,7 +146,7 @@ impl<'a, H: Host> Evaluator<'a, H> {
         arms: &[BinaryExpr],
         place: Option<usize>,
     ) -> Result<Dynamic, Interrupt>
-        ensures { let here = setting H.answers H.modules self.now in Runs here (Acting (default_of (arms_here here self.now.in_loop (arms_of arms.now)) place)) state.old result state.new }
+        ensures { let here = setting H.answers H.modules self.now.machine in Runs here (Acting (default_of (arms_here here self.now.in_loop (arms_of arms.now)) place)) state.old result state.new }
     {
         let Some(place) = place else {
             return Ok(Dynamic::Unit);
@@ -159,14 +156,4 @@ impl<'a, H: Host> Evaluator<'a, H> {
             None => Ok(Dynamic::Unit),
         }
     }
-}
-
-/// The arms that stand for the subject; a value with a pointer to a function has none.
-fn case_list<'a>(table: &'a SwitchCasesCollection, subject: &Dynamic) -> Option<&'a CaseBlocksList>
-    ensures { option_map (λ l. l.blocks) (option_copied result) ≡ cond (is_hashable (value_of subject.now)) (case_for (table_of table.now).cases (value_of subject.now)) None }
-{
-    if !subject.is_hashable() {
-        return None;
-    }
-    table.cases.as_map().get(subject)
 }

@@ -2,24 +2,24 @@
 
 #![tactic(auto, using(rhai_reading::specs::Reading::shapes, rhai_values::specs::Reading::kinds))]
 
-ghost use Rattle.std.specs.Prelude.{◌≡◌, true, false, ◌^◌, ◌≤ℤ◌, ◌<ℤ◌, ◌+ℤ◌, ◌-ℤ◌, pos, suc, map};
+ghost use Rattle.std.specs.Prelude.{◌≡◌, true, false, ◌^◌, ◌≤ℤ◌, ◌+ℤ◌, pos, map};
 ghost use Rattle.rhai_reading.specs.Reading.{counter_of, expr_of, stmts_of};
 ghost use Rattle.rhai_values.specs.Reading.{value_of};
-ghost use Rattle.rhai_values.specs.declared.dynamic.Dynamic.TheVariants as value;
 ghost use Rattle.rhai_meaning.specs.Desugar.{core_expr, core_stmts};
 ghost use Rattle.rhai_meaning.specs.Act.{Named};
-ghost use Rattle.rhai_meaning.specs.Control.{counted, for_count, for_each, size};
+ghost use Rattle.rhai_meaning.specs.Control.{counted, for_count, for_each};
 ghost use Rattle.rhai_meaning.specs.Core.{For};
-ghost use Rattle.rhai_run.specs.Evaluating.{body_of, setting, Runs, RunsCounted, RunsDeed, RunsList, RunsRound};
-ghost use Rattle.rhai_run.specs.Exits.{count_of};
-ghost use Rattle.rhai_run.specs.Runs.{Acting, Setting};
+ghost use Rattle.rhai_machine.specs.Evaluating.{body_of, setting, Runs, RunsDeed, RunsList, RunsRound};
+ghost use Rattle.rhai_machine.specs.Exits.{count_of};
+ghost use Rattle.rhai_machine.specs.Runs.{Acting};
 
 use crate::plain::evaluator::Evaluator;
-use crate::plain::exits::round_ended;
-use crate::plain::state::{Interrupt, State};
-use crate::{Host, Stuck};
 use rhai_ast::FlowControl;
 use rhai_base::{Dynamic, Ident, Seq};
+use rhai_host::{Host, Stuck};
+use rhai_machine::{
+    Interrupt, State, declare_count, next_count, nth, round_ended, rounds_before, rounds_through,
+};
 
 impl<'a, H: Host> Evaluator<'a, H> {
     /// `for` over the elements of an array or over a range; anything else is stuck.
@@ -29,7 +29,7 @@ impl<'a, H: Host> Evaluator<'a, H> {
         state: &mut State,
         parts: &(Ident, Option<Ident>, FlowControl),
     ) -> Result<Dynamic, Interrupt>
-        ensures { RunsDeed (setting H.answers H.modules self.now) (For parts.now.0.name (counter_of parts.now.1) (core_expr self.now.in_loop (expr_of parts.now.2.expr)) (core_stmts true (stmts_of parts.now.2.body.block))) state.old result state.new }
+        ensures { RunsDeed (setting H.answers H.modules self.now.machine) (For parts.now.0.name (counter_of parts.now.1) (core_expr self.now.in_loop (expr_of parts.now.2.expr)) (core_stmts true (stmts_of parts.now.2.body.block))) state.old result state.new }
     {
         match self.expr(state, &parts.2.expr)? {
             Dynamic::Array(items) => self.for_each(state, parts, items),
@@ -56,7 +56,7 @@ impl<'a, H: Host> Evaluator<'a, H> {
         parts: &(Ident, Option<Ident>, FlowControl),
         items: Seq<Dynamic>,
     ) -> Result<Dynamic, Interrupt>
-        ensures { let here = setting H.answers H.modules self.now in Runs here (Acting (for_each parts.now.0.name (counter_of parts.now.1) (body_of here (stmts_of parts.now.2.body.block)) 0 (map value_of items))) state.old result state.new }
+        ensures { let here = setting H.answers H.modules self.now.machine in Runs here (Acting (for_each parts.now.0.name (counter_of parts.now.1) (body_of here (stmts_of parts.now.2.body.block)) 0 (map value_of items))) state.old result state.new }
     {
         let mut count = Some(0);
         let mut rest = items.into_rest();
@@ -79,7 +79,7 @@ impl<'a, H: Host> Evaluator<'a, H> {
         rounds: u128,
     ) -> Result<Dynamic, Interrupt>
         requires { (first +ℤ pos rounds) ≤ℤ pos (2 ^ 63) }
-        ensures { let here = setting H.answers H.modules self.now in Runs here (Acting (for_count parts.now.0.name (counter_of parts.now.1) (body_of here (stmts_of parts.now.2.body.block)) 0 first rounds)) state.old result state.new }
+        ensures { let here = setting H.answers H.modules self.now.machine in Runs here (Acting (for_count parts.now.0.name (counter_of parts.now.1) (body_of here (stmts_of parts.now.2.body.block)) 0 first rounds)) state.old result state.new }
     {
         let mut count = Some(0);
         for index in 0..rounds {
@@ -101,7 +101,7 @@ impl<'a, H: Host> Evaluator<'a, H> {
         count: Option<i64>,
         item: Dynamic,
     ) -> Result<Option<Dynamic>, Interrupt>
-        ensures { let here = setting H.answers H.modules self.now in (k : _) → count ≡ count_of k → RunsRound here (counted (counter_of parts.now.1) k (Named parts.now.0.name false (value_of item) (body_of here (stmts_of parts.now.2.body.block)))) state.old result state.new }
+        ensures { let here = setting H.answers H.modules self.now.machine in (k : _) → count ≡ count_of k → RunsRound here (counted (counter_of parts.now.1) k (Named parts.now.0.name false (value_of item) (body_of here (stmts_of parts.now.2.body.block)))) state.old result state.new }
     {
         state.take_turn()?;
         let names = state.scope.len();
@@ -119,66 +119,11 @@ impl<'a, H: Host> Evaluator<'a, H> {
         count: Option<i64>,
         item: Dynamic,
     ) -> Result<Dynamic, Interrupt>
-        ensures { let here = setting H.answers H.modules self.now in (k : _) → count ≡ count_of k → RunsList here (counted (counter_of parts.now.1) k (Named parts.now.0.name false (value_of item) (body_of here (stmts_of parts.now.2.body.block)))) state.old result state.new }
+        ensures { let here = setting H.answers H.modules self.now.machine in (k : _) → count ≡ count_of k → RunsList here (counted (counter_of parts.now.1) k (Named parts.now.0.name false (value_of item) (body_of here (stmts_of parts.now.2.body.block)))) state.old result state.new }
     {
         let (name, counter, flow) = parts;
         declare_count(state, counter, count)?;
         state.declare(&name.name, false, item)?;
         self.inside_loop().statements(state, flow.body.statements())
     }
-}
-
-/// How many integers there are from one to before another.
-fn rounds_before(from: i64, end: i64) -> u128
-    ensures size { result ≡ size (end -ℤ from) }
-    ensures within { (from +ℤ pos result) ≤ℤ pos (2 ^ 63) }
-{
-    if end <= from {
-        return 0;
-    }
-    (i128::from(end) - i128::from(from)) as u128
-}
-
-/// How many integers there are from one to another.
-fn rounds_through(from: i64, last: i64) -> u128
-    ensures size { result ≡ size (last +ℤ pos 1 -ℤ from) }
-    ensures within { (from +ℤ pos result) ≤ℤ pos (2 ^ 63) }
-{
-    if last < from {
-        return 0;
-    }
-    (i128::from(last) - i128::from(from) + 1) as u128
-}
-
-/// The integer that is so far behind the first one.
-fn nth(first: i64, index: u128) -> Dynamic
-    requires { (first +ℤ pos index) <ℤ pos (2 ^ 63) }
-    ensures { result ≡ value.Int (first +ℤ pos index) }
-{
-    Dynamic::Int((i128::from(first) + index as i128) as i64)
-}
-
-/// The count under the counter's name, if the loop has one; stuck where no integer is that large.
-fn declare_count(
-    state: &mut State,
-    counter: &Option<Ident>,
-    count: Option<i64>,
-) -> Result<(), Interrupt>
-    ensures { (here : Setting) (k : _) → count ≡ count_of k → RunsCounted here (counter_of counter.now) k state.old result state.new }
-{
-    let Some(counter) = counter else {
-        return Ok(());
-    };
-    let Some(count) = count else {
-        return Err(Interrupt::Stuck(Stuck::CounterTooLarge));
-    };
-    state.declare(&counter.name, false, Dynamic::Int(count))?;
-    Ok(())
-}
-
-/// The count of the round after; `None` where no integer is that large.
-fn next_count(count: Option<i64>) -> Option<i64>
-    ensures { (k : _) → count ≡ count_of k → result ≡ count_of (suc k) }
-{
-    count?.checked_add(1)
 }

@@ -6,29 +6,18 @@ ghost use Rattle.std.specs.Prelude.{◌≡◌, ◌<◌, ◌≤◌, true, false, 
 ghost use Rattle.rhai_reading.specs.Reading.{expr_of, exprs_of, keys_of, maybe_of, pairs_of};
 ghost use Rattle.rhai_meaning.specs.Desugar.{core_expr};
 ghost use Rattle.rhai_meaning.specs.Tree.{MapOf};
-ghost use Rattle.rhai_run.specs.Evaluating.{setting, RunsCore, RunsExpr, RunsExprs, RunsMaybe, RunsMembers};
+ghost use Rattle.rhai_machine.specs.Evaluating.{setting, RunsCore, RunsExpr, RunsExprs, RunsMaybe, RunsMembers};
 
-use crate::plain::maps::{insert, is_map};
-use crate::plain::state::{Interrupt, State};
-use crate::plain::values::{constant, joined_text};
-use crate::plain::variables::Root;
-use crate::{EngineInfo, Host, Stuck};
 use rhai_ast::Expr;
 use rhai_base::{Boxed, Dynamic, Ident, Seq, StringMap};
-use rhai_script::FnLib;
-use std::alloc::Global;
+use rhai_host::{Host, Stuck};
+use rhai_machine::{Interrupt, Machine, Root, State, constant, insert, is_map, joined_text};
 
 /// What a run is in. Its functions do what the run meaning says of trees.
 #[derive(Drop)]
 pub struct Evaluator<'a, H> {
-    /// Where values are made.
-    pub alloc: Global,
-    /// The engine's record.
-    pub info: &'a EngineInfo,
-    /// What answers the host's calls.
-    pub host: &'a H,
-    /// The script's functions.
-    pub functions: &'a FnLib,
+    /// What its steps stand on.
+    pub machine: Machine<'a, H>,
     /// Whether what is run stands in the body of a loop of its function.
     pub in_loop: bool,
     /// More calls than this do not nest, since each takes a turn.
@@ -41,10 +30,7 @@ impl<'a, H: Host> Evaluator<'a, H> {
         ensures { result ≡ record self.now { in_loop = true } }
     {
         Evaluator {
-            alloc: self.alloc,
-            info: self.info,
-            host: self.host,
-            functions: self.functions,
+            machine: self.machine.again(),
             in_loop: true,
             depth: self.depth,
         }
@@ -59,10 +45,7 @@ impl<'a, H: Host> Evaluator<'a, H> {
             return None;
         }
         Some(Evaluator {
-            alloc: self.alloc,
-            info: self.info,
-            host: self.host,
-            functions: self.functions,
+            machine: self.machine.again(),
             in_loop: false,
             depth: turns,
         })
@@ -71,7 +54,7 @@ impl<'a, H: Host> Evaluator<'a, H> {
     /// The value of an expression.
     #[cycle(evaluate)]
     pub fn expr(&self, state: &mut State, expr: &Expr) -> Result<Dynamic, Interrupt>
-        ensures { RunsExpr (setting H.answers H.modules self.now) self.now.in_loop (expr_of expr.now) state.old result state.new }
+        ensures { RunsExpr (setting H.answers H.modules self.now.machine) self.now.in_loop (expr_of expr.now) state.old result state.new }
     {
         match expr {
             Expr::DynamicConstant(value, _) => constant(value.get()),
@@ -81,16 +64,14 @@ impl<'a, H: Host> Evaluator<'a, H> {
             Expr::StringConstant(text, _) => Ok(Dynamic::Str(text.clone()?)),
             Expr::Unit(_) => Ok(Dynamic::Unit),
             Expr::InterpolatedString(parts, _) => {
-                Ok(joined_text(self.alloc, self.exprs(state, parts.as_slice())?)?)
+                Ok(joined_text(self.machine.alloc, self.exprs(state, parts.as_slice())?)?)
             }
             Expr::Array(items, _) => Ok(Dynamic::Array(self.exprs(state, items.as_slice())?)),
             Expr::Map(literal, _) => self.map(state, literal.get()),
-            Expr::Variable(variable, _, _) => self.variable(
-                state,
-                &variable.get().2,
-                &variable.get().1,
-            ),
-            Expr::ThisPtr(_) => self.read(state, Root::This),
+            Expr::Variable(variable, _, _) => self
+                .machine
+                .variable(state, &variable.get().2, &variable.get().1),
+            Expr::ThisPtr(_) => self.machine.read(state, Root::This),
             Expr::Stmt(block) => self.block(state, block.get()),
             Expr::FnCall(call, _) => self.call(state, call.get()),
             Expr::And(operands, _) => self.both(state, operands.get().as_slice()),
@@ -106,9 +87,9 @@ impl<'a, H: Host> Evaluator<'a, H> {
     /// The values of expressions, from the first to the last.
     #[cycle(evaluate)]
     pub fn exprs(&self, state: &mut State, exprs: &[Expr]) -> Result<Seq<Dynamic>, Interrupt>
-        ensures { RunsExprs (setting H.answers H.modules self.now) self.now.in_loop (exprs_of exprs.now) state.old result state.new }
+        ensures { RunsExprs (setting H.answers H.modules self.now.machine) self.now.in_loop (exprs_of exprs.now) state.old result state.new }
     {
-        let mut values = Seq::with_capacity(self.alloc, exprs.len())?;
+        let mut values = Seq::with_capacity(self.machine.alloc, exprs.len())?;
         for expr in exprs {
             let value = self.expr(state, expr)?;
             values.push(value)?;
@@ -123,7 +104,7 @@ impl<'a, H: Host> Evaluator<'a, H> {
         state: &mut State,
         expr: &Option<Boxed<Expr>>,
     ) -> Result<Dynamic, Interrupt>
-        ensures { RunsMaybe (setting H.answers H.modules self.now) self.now.in_loop (maybe_of expr.now) state.old result state.new }
+        ensures { RunsMaybe (setting H.answers H.modules self.now.machine) self.now.in_loop (maybe_of expr.now) state.old result state.new }
     {
         match expr {
             Some(expr) => self.expr(state, expr.get()),
@@ -138,10 +119,10 @@ impl<'a, H: Host> Evaluator<'a, H> {
         state: &mut State,
         literal: &(Seq<(Ident, Expr)>, StringMap<Dynamic>),
     ) -> Result<Dynamic, Interrupt>
-        ensures { RunsCore (setting H.answers H.modules self.now) (core_expr self.now.in_loop (MapOf (pairs_of literal.now.0) (keys_of literal.now.1))) state.old result state.new }
+        ensures { RunsCore (setting H.answers H.modules self.now.machine) (core_expr self.now.in_loop (MapOf (pairs_of literal.now.0) (keys_of literal.now.1))) state.old result state.new }
     {
         let (members, template) = literal;
-        if !is_map(self.alloc, members.as_slice(), template)? {
+        if !is_map(self.machine.alloc, members.as_slice(), template)? {
             return Err(Interrupt::Stuck(Stuck::WrongKind));
         }
         Ok(Dynamic::Map(self.members(state, members.as_slice())?))
@@ -154,9 +135,9 @@ impl<'a, H: Host> Evaluator<'a, H> {
         state: &mut State,
         members: &[(Ident, Expr)],
     ) -> Result<StringMap<Dynamic>, Interrupt>
-        ensures { RunsMembers (setting H.answers H.modules self.now) self.now.in_loop (pairs_of members.now) state.old result state.new }
+        ensures { RunsMembers (setting H.answers H.modules self.now.machine) self.now.in_loop (pairs_of members.now) state.old result state.new }
     {
-        let mut map = StringMap::new(self.alloc);
+        let mut map = StringMap::new(self.machine.alloc);
         for member in members {
             let value = self.expr(state, &member.1)?;
             insert(&mut map, &member.0, value)?;

@@ -8,19 +8,18 @@ ghost use Rattle.rhai_values.specs.Reading.{value_of};
 ghost use Rattle.rhai_reading.specs.Reading.{function_of, stmts_of};
 ghost use Rattle.rhai_functions.specs.FnKey.{definition_key};
 ghost use Rattle.rhai_functions.specs.FnLib.{functions_of};
-ghost use Rattle.rhai_meaning.specs.Calls as calls;
 ghost use Rattle.rhai_meaning.specs.Desugar.{core_function};
-ghost use Rattle.rhai_meaning.specs.Run as run;
 ghost use Rattle.rhai_meaning.specs.Weight.{weight};
-ghost use Rattle.rhai_run.specs.Evaluating.{bodies_weight, setting, Runs, RunsInvoke};
-ghost use Rattle.rhai_run.specs.Runs.{Acting};
+ghost use Rattle.rhai_machine.specs.Evaluating.{bodies_weight, setting, Runs, RunsInvoke};
+ghost use Rattle.rhai_machine.specs.Runs.{Acting};
+ghost use Rattle.rhai_meaning.specs.Calls as calls;
+ghost use Rattle.rhai_meaning.specs.Run as run;
 
-use crate::Host;
 use crate::plain::evaluator::Evaluator;
-use crate::plain::exits::function_ended;
-use crate::plain::state::{Interrupt, State};
 use rhai_ast::ScriptFuncDef;
 use rhai_base::{Dynamic, ImmutableString, Seq};
+use rhai_host::Host;
+use rhai_machine::{Interrupt, State, function_ended};
 use rhai_script::FnKey;
 
 impl<'a, H: Host> Evaluator<'a, H> {
@@ -33,19 +32,19 @@ impl<'a, H: Host> Evaluator<'a, H> {
         captures: bool,
         args: Seq<Dynamic>,
     ) -> Result<Dynamic, Interrupt>
-        ensures { let here = setting H.answers H.modules self.now in Runs here (Acting (calls.call_named here.world captures name.now (map value_of args))) state.old result state.new }
+        ensures { let here = setting H.answers H.modules self.now.machine in Runs here (Acting (calls.call_named here.world captures name.now (map value_of args))) state.old result state.new }
     {
         let key = FnKey {
             name: name.clone()?,
             params: args.len(),
             this_type: None,
         };
-        match self.functions.get(&key) {
+        match self.machine.functions.get(&key) {
             Some(function) => {
                 let (value, _) = self.invoke(state, function, captures, None, args)?;
                 Ok(value)
             }
-            None => self.ask_host(state, name.clone()?, args),
+            None => self.machine.ask_host(state, name.clone()?, args),
         }
     }
 
@@ -59,15 +58,15 @@ impl<'a, H: Host> Evaluator<'a, H> {
         this: Option<Dynamic>,
         args: Seq<Dynamic>,
     ) -> Result<(Dynamic, Option<Dynamic>), Interrupt>
-        requires { weight (stmts_of function.now.body.block) ≤ bodies_weight (functions_of self.now.functions.now) }
-        ensures { let here = setting H.answers H.modules self.now in run.function_of here.functions (definition_key function.now) ≡ Some (core_function (function_of function.now)) → RunsInvoke here (record { function = definition_key function.now; captures = captures; this = option_map value_of this; arguments = map value_of args }) state.old result state.new }
+        requires { weight (stmts_of function.now.body.block) ≤ bodies_weight (functions_of self.now.machine.functions.now) }
+        ensures { let here = setting H.answers H.modules self.now.machine in run.function_of here.functions (definition_key function.now) ≡ Some (core_function (function_of function.now)) → RunsInvoke here (record { function = definition_key function.now; captures = captures; this = option_map value_of this; arguments = map value_of args }) state.old result state.new }
     {
         state.take_turn()?;
         let Some(inside) = self.inside_function(state.turns) else {
             return Err(Interrupt::NoMemory);
         };
         let params = function.params.as_slice();
-        let mut body = state.enter(self.alloc, captures, params, this, args)?;
+        let mut body = state.enter(self.machine.alloc, captures, params, this, args)?;
         let ended = inside.statements(&mut body, function.body.statements());
         let this = state.resume(body);
         Ok((function_ended(ended)?, this))

@@ -3,20 +3,19 @@
 #![tactic(auto, using(rhai_values::specs::Reading::kinds))]
 
 ghost use Rattle.rhai_reading.specs.Reading.{exprs_of};
-ghost use Rattle.rhai_run.specs.Evaluating.{setting, RunsBoth, RunsEither, RunsFirstSome};
+ghost use Rattle.rhai_machine.specs.Evaluating.{setting, RunsBoth, RunsEither, RunsFirstSome};
 
-use crate::Host;
 use crate::plain::evaluator::Evaluator;
-use crate::plain::state::{Interrupt, State};
-use crate::plain::values::{some_value, truth};
 use rhai_ast::Expr;
 use rhai_base::Dynamic;
+use rhai_host::Host;
+use rhai_machine::{Interrupt, State, some_value, truth};
 
 impl<'a, H: Host> Evaluator<'a, H> {
     /// `&&`: the operands up to the first that is false.
     #[cycle(evaluate)]
     pub fn both(&self, state: &mut State, operands: &[Expr]) -> Result<Dynamic, Interrupt>
-        ensures { RunsBoth (setting H.answers H.modules self.now) self.now.in_loop (exprs_of operands.now) state.old result state.new }
+        ensures { RunsBoth (setting H.answers H.modules self.now.machine) self.now.in_loop (exprs_of operands.now) state.old result state.new }
     {
         for operand in operands {
             if !truth(self.expr(state, operand)?)? {
@@ -29,7 +28,7 @@ impl<'a, H: Host> Evaluator<'a, H> {
     /// `||`: the operands up to the first that is true.
     #[cycle(evaluate)]
     pub fn either(&self, state: &mut State, operands: &[Expr]) -> Result<Dynamic, Interrupt>
-        ensures { RunsEither (setting H.answers H.modules self.now) self.now.in_loop (exprs_of operands.now) state.old result state.new }
+        ensures { RunsEither (setting H.answers H.modules self.now.machine) self.now.in_loop (exprs_of operands.now) state.old result state.new }
     {
         for operand in operands {
             if truth(self.expr(state, operand)?)? {
@@ -42,7 +41,7 @@ impl<'a, H: Host> Evaluator<'a, H> {
     /// `??`: the operands up to the first that is not unit.
     #[cycle(evaluate)]
     pub fn first_some(&self, state: &mut State, operands: &[Expr]) -> Result<Dynamic, Interrupt>
-        ensures { RunsFirstSome (setting H.answers H.modules self.now) self.now.in_loop (exprs_of operands.now) state.old result state.new }
+        ensures { RunsFirstSome (setting H.answers H.modules self.now.machine) self.now.in_loop (exprs_of operands.now) state.old result state.new }
     {
         for operand in operands {
             if let Some(value) = some_value(self.expr(state, operand)?) {

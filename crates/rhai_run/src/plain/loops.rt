@@ -2,27 +2,25 @@
 
 #![tactic(auto, using(rhai_reading::specs::Reading::shapes, rhai_values::specs::Reading::kinds))]
 
-ghost use Rattle.std.specs.Prelude.{◌≡◌, ◌<◌, ◌↔◌, true, IfOk, IsTrue};
+ghost use Rattle.std.specs.Prelude.{◌<◌, true, IfOk};
 ghost use Rattle.rhai_reading.specs.Reading.{expr_of, is_exported, is_negated, stmts_of};
 ghost use Rattle.rhai_meaning.specs.Core.{Always, Do, When, While};
 ghost use Rattle.rhai_meaning.specs.Desugar.{core_expr, core_stmt, core_stmts, guard_by};
+ghost use Rattle.rhai_machine.specs.Evaluating.{body_of, setting, RunsDeed, RunsLine, RunsRound};
 ghost use Rattle.rhai_meaning.specs.Tree as tree;
-ghost use Rattle.rhai_run.specs.Evaluating.{body_of, setting, RunsDeed, RunsLine, RunsRound};
 
 use crate::plain::evaluator::Evaluator;
-use crate::plain::exits::round_ended;
-use crate::plain::state::{Interrupt, State};
-use crate::plain::values::truth;
-use crate::{Host, Stuck};
 use bitflags::Flags;
 use rhai_ast::{Expr, ExprQueries, FlowControl, StmtBlock};
 use rhai_base::{ASTFlags, Dynamic};
+use rhai_host::{Host, Stuck};
+use rhai_machine::{Interrupt, State, ends_at, round_ended, truth};
 
 impl<'a, H: Host> Evaluator<'a, H> {
     /// A round that runs a loop's body: the loop's value where it is left, `None` where another round follows.
     #[cycle(evaluate)]
     fn round(&self, state: &mut State, body: &StmtBlock) -> Result<Option<Dynamic>, Interrupt>
-        ensures round { let here = setting H.answers H.modules self.now in RunsRound here (body_of here (stmts_of body.now.block)) state.old result state.new }
+        ensures round { let here = setting H.answers H.modules self.now.machine in RunsRound here (body_of here (stmts_of body.now.block)) state.old result state.new }
         ensures turns { IfOk result (λ o. state.new.turns < state.old.turns) }
     {
         let inside = self.inside_loop();
@@ -33,7 +31,7 @@ impl<'a, H: Host> Evaluator<'a, H> {
     /// `while`; one whose guard is a literal `()` is `loop`.
     #[cycle(evaluate)]
     pub fn while_loop(&self, state: &mut State, flow: &FlowControl) -> Result<Dynamic, Interrupt>
-        ensures { let here = setting H.answers H.modules self.now in RunsDeed here (While (guard_by (expr_of flow.now.expr) (core_expr self.now.in_loop (expr_of flow.now.expr))) (core_stmts true (stmts_of flow.now.body.block))) state.old result state.new }
+        ensures { let here = setting H.answers H.modules self.now.machine in RunsDeed here (While (guard_by (expr_of flow.now.expr) (core_expr self.now.in_loop (expr_of flow.now.expr))) (core_stmts true (stmts_of flow.now.body.block))) state.old result state.new }
     {
         if flow.expr.is_unit() {
             self.endless(state, &flow.body)
@@ -44,7 +42,7 @@ impl<'a, H: Host> Evaluator<'a, H> {
 
     #[cycle(evaluate)]
     fn endless(&self, state: &mut State, body: &StmtBlock) -> Result<Dynamic, Interrupt>
-        ensures { RunsDeed (setting H.answers H.modules self.now) (While Always (core_stmts true (stmts_of body.now.block))) state.old result state.new }
+        ensures { RunsDeed (setting H.answers H.modules self.now.machine) (While Always (core_stmts true (stmts_of body.now.block))) state.old result state.new }
     {
         loop {
             if let Some(value) = self.round(state, body)? {
@@ -60,7 +58,7 @@ impl<'a, H: Host> Evaluator<'a, H> {
         guard: &Expr,
         body: &StmtBlock,
     ) -> Result<Dynamic, Interrupt>
-        ensures { RunsDeed (setting H.answers H.modules self.now) (While (When (core_expr self.now.in_loop (expr_of guard.now))) (core_stmts true (stmts_of body.now.block))) state.old result state.new }
+        ensures { RunsDeed (setting H.answers H.modules self.now.machine) (While (When (core_expr self.now.in_loop (expr_of guard.now))) (core_stmts true (stmts_of body.now.block))) state.old result state.new }
     {
         loop {
             if !truth(self.expr(state, guard)?)? {
@@ -80,7 +78,7 @@ impl<'a, H: Host> Evaluator<'a, H> {
         flow: &FlowControl,
         options: ASTFlags,
     ) -> Result<Dynamic, Interrupt>
-        ensures { RunsLine (setting H.answers H.modules self.now) (core_stmt self.now.in_loop (tree.Do (is_negated options) (is_exported options) (expr_of flow.now.expr) (stmts_of flow.now.body.block))) state.old result state.new }
+        ensures { RunsLine (setting H.answers H.modules self.now.machine) (core_stmt self.now.in_loop (tree.Do (is_negated options) (is_exported options) (expr_of flow.now.expr) (stmts_of flow.now.body.block))) state.old result state.new }
     {
         if options.contains(ASTFlags::EXPORTED) {
             return Err(Interrupt::Stuck(Stuck::WrongKind));
@@ -96,7 +94,7 @@ impl<'a, H: Host> Evaluator<'a, H> {
         flow: &FlowControl,
         until: bool,
     ) -> Result<Dynamic, Interrupt>
-        ensures { RunsDeed (setting H.answers H.modules self.now) (Do until (core_expr self.now.in_loop (expr_of flow.now.expr)) (core_stmts true (stmts_of flow.now.body.block))) state.old result state.new }
+        ensures { RunsDeed (setting H.answers H.modules self.now.machine) (Do until (core_expr self.now.in_loop (expr_of flow.now.expr)) (core_stmts true (stmts_of flow.now.body.block))) state.old result state.new }
     {
         loop {
             if let Some(value) = self.round(state, &flow.body)? {
@@ -107,11 +105,4 @@ impl<'a, H: Host> Evaluator<'a, H> {
             }
         }
     }
-}
-
-/// Whether a guard that holds or not ends a loop that goes on as long as it holds, or until it does.
-fn ends_at(holds: bool, until: bool) -> bool
-    ensures { IsTrue result ↔ (holds ≡ until) }
-{
-    holds == until
 }

@@ -5,21 +5,20 @@
 ghost use Rattle.rhai_reading.specs.Reading.{expr_of, is_const, is_exported, stmt_of, stmts_of};
 ghost use Rattle.rhai_meaning.specs.Core.{If};
 ghost use Rattle.rhai_meaning.specs.Desugar.{core_expr, core_stmt, core_stmts};
+ghost use Rattle.rhai_machine.specs.Evaluating.{setting, RunsBlock, RunsDeed, RunsLine, RunsStmt, RunsStmts};
 ghost use Rattle.rhai_meaning.specs.Tree as tree;
-ghost use Rattle.rhai_run.specs.Evaluating.{setting, RunsBlock, RunsDeed, RunsLine, RunsStmt, RunsStmts};
 
 use crate::plain::evaluator::Evaluator;
-use crate::plain::state::{Interrupt, State};
-use crate::plain::values::truth;
-use crate::{Host, Stuck};
 use bitflags::Flags;
 use rhai_ast::{Expr, FlowControl, Stmt, StmtBlock};
 use rhai_base::{ASTFlags, Dynamic, Ident};
+use rhai_host::{Host, Stuck};
+use rhai_machine::{Interrupt, State, truth};
 
 impl<'a, H: Host> Evaluator<'a, H> {
     #[cycle(evaluate)]
     fn statement(&self, state: &mut State, statement: &Stmt) -> Result<Dynamic, Interrupt>
-        ensures { RunsStmt (setting H.answers H.modules self.now) self.now.in_loop (stmt_of statement.now) state.old result state.new }
+        ensures { RunsStmt (setting H.answers H.modules self.now.machine) self.now.in_loop (stmt_of statement.now) state.old result state.new }
     {
         match statement {
             Stmt::Noop(_) => Ok(Dynamic::Unit),
@@ -50,7 +49,7 @@ impl<'a, H: Host> Evaluator<'a, H> {
 
     #[cycle(evaluate)]
     fn choice(&self, state: &mut State, flow: &FlowControl) -> Result<Dynamic, Interrupt>
-        ensures { RunsDeed (setting H.answers H.modules self.now) (If (core_expr self.now.in_loop (expr_of flow.now.expr)) (core_stmts self.now.in_loop (stmts_of flow.now.body.block)) (core_stmts self.now.in_loop (stmts_of flow.now.branch.block))) state.old result state.new }
+        ensures { RunsDeed (setting H.answers H.modules self.now.machine) (If (core_expr self.now.in_loop (expr_of flow.now.expr)) (core_stmts self.now.in_loop (stmts_of flow.now.body.block)) (core_stmts self.now.in_loop (stmts_of flow.now.branch.block))) state.old result state.new }
     {
         if truth(self.expr(state, &flow.expr)?)? {
             self.block(state, &flow.body)
@@ -68,7 +67,7 @@ impl<'a, H: Host> Evaluator<'a, H> {
         value: &Expr,
         options: ASTFlags,
     ) -> Result<Dynamic, Interrupt>
-        ensures { RunsLine (setting H.answers H.modules self.now) (core_stmt self.now.in_loop (tree.Var (is_const options) (is_exported options) name.now.name (expr_of value.now))) state.old result state.new }
+        ensures { RunsLine (setting H.answers H.modules self.now.machine) (core_stmt self.now.in_loop (tree.Var (is_const options) (is_exported options) name.now.name (expr_of value.now))) state.old result state.new }
     {
         if options.contains(ASTFlags::EXPORTED) {
             return Err(Interrupt::Stuck(Stuck::WrongKind));
@@ -81,7 +80,7 @@ impl<'a, H: Host> Evaluator<'a, H> {
     /// Runs statements whose names go when they end.
     #[cycle(evaluate)]
     pub fn block(&self, state: &mut State, block: &StmtBlock) -> Result<Dynamic, Interrupt>
-        ensures { RunsBlock (setting H.answers H.modules self.now) self.now.in_loop (stmts_of block.now.block) state.old result state.new }
+        ensures { RunsBlock (setting H.answers H.modules self.now.machine) self.now.in_loop (stmts_of block.now.block) state.old result state.new }
     {
         let names = state.scope.len();
         let ended = self.statements(state, block.statements());
@@ -92,7 +91,7 @@ impl<'a, H: Host> Evaluator<'a, H> {
     /// Runs statements in turn, for the value of the last one.
     #[cycle(evaluate)]
     pub fn statements(&self, state: &mut State, statements: &[Stmt]) -> Result<Dynamic, Interrupt>
-        ensures { RunsStmts (setting H.answers H.modules self.now) self.now.in_loop (stmts_of statements.now) state.old result state.new }
+        ensures { RunsStmts (setting H.answers H.modules self.now.machine) self.now.in_loop (stmts_of statements.now) state.old result state.new }
     {
         let mut value = Dynamic::Unit;
         for statement in statements {

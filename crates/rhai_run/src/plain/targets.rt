@@ -7,29 +7,24 @@ ghost use Rattle.rhai_values.specs.Reading.{value_of};
 ghost use Rattle.rhai_values.specs.Value.{UnitV};
 ghost use Rattle.rhai_base.specs.Builtin.{operator_of};
 ghost use Rattle.rhai_reading.specs.Reading.{expr_of};
+ghost use Rattle.rhai_machine.specs.Chaining.{access_meant, rest_steps};
+ghost use Rattle.rhai_machine.specs.Evaluating.{setting};
+ghost use Rattle.rhai_machine.specs.Placing.{current_in};
+ghost use Rattle.rhai_machine.specs.Runs.{Acting, Leads, given};
+ghost use Rattle.rhai_machine.specs.State.{store_of};
+ghost use Rattle.rhai_machine.specs.Targets.{part_core, Changes};
 ghost use Rattle.rhai_meaning.specs.Calls as calls;
 ghost use Rattle.rhai_meaning.specs.Chains as chains;
 ghost use Rattle.rhai_meaning.specs.Meaning as meaning;
-ghost use Rattle.rhai_run.specs.Chaining.{access_meant, names_meant, rest_steps};
-ghost use Rattle.rhai_run.specs.Evaluating.{setting};
-ghost use Rattle.rhai_run.specs.Placing.{current_in};
-ghost use Rattle.rhai_run.specs.Runs.{Acting, Leads, given};
-ghost use Rattle.rhai_run.specs.State.{store_of};
-ghost use Rattle.rhai_run.specs.Targets.{part_core, Changes};
 
-use crate::plain::chains::{Access, is_chain};
 use crate::plain::evaluator::Evaluator;
-use crate::plain::left_sides::ends_in_call;
-use crate::plain::links::Rest;
-use crate::plain::operators::assigning_operator;
-use crate::plain::parts::PropertyNames;
-use crate::plain::placing::Current;
-use crate::plain::state::{Interrupt, State};
-use crate::plain::variables::root_of;
-use crate::{Host, Stuck};
 use bitflags::Flags;
 use rhai_ast::Expr;
 use rhai_base::{ASTFlags, Dynamic, ImmutableString, OpAssignment, Seq, Token};
+use rhai_host::{Host, Stuck};
+use rhai_machine::{
+    Access, Current, Interrupt, Rest, State, assigning_operator, ends_in_call, is_chain, root_of,
+};
 
 impl<'a, H: Host> Evaluator<'a, H> {
     /// Assigns to the part that a chain leads to, by its base and what is left of it then. Only a name or `this` has
@@ -43,7 +38,7 @@ impl<'a, H: Host> Evaluator<'a, H> {
         rest: Rest,
         value: Dynamic,
     ) -> Result<(), Interrupt>
-        ensures { let here = setting H.answers H.modules self.now in Leads here (Acting (meaning.assign here.world (operator_of op.now.op) (part_core self.now.in_loop (expr_of base.now) rest.entry) (value_of value))) state.old result state.new (λ z. given UnitV) }
+        ensures { let here = setting H.answers H.modules self.now.machine in Leads here (Acting (meaning.assign here.world (operator_of op.now.op) (part_core self.now.in_loop (expr_of base.now) rest.entry) (value_of value))) state.old result state.new (λ z. given UnitV) }
     {
         if !is_chain(rest.is_dot, rest.options, rest.right) {
             return Err(Interrupt::Stuck(Stuck::WrongKind));
@@ -58,7 +53,7 @@ impl<'a, H: Host> Evaluator<'a, H> {
         ) {
             return Err(Interrupt::Stuck(Stuck::NoPlace));
         }
-        let current = self.at_root(state, root)?;
+        let current = self.machine.at_root(state, root)?;
         self.assign_steps(state, op, rest, value, current)
     }
 
@@ -73,7 +68,7 @@ impl<'a, H: Host> Evaluator<'a, H> {
         value: Dynamic,
         current: Current,
     ) -> Result<(), Interrupt>
-        ensures { let here = setting H.answers H.modules self.now in Leads here (Acting (meaning.assign_steps here.world (operator_of op.now.op) (value_of value) (rest_steps self.now.in_loop rest.entry) (current_in here (store_of state.old) current.entry))) state.old result state.new (λ z. given UnitV) }
+        ensures { let here = setting H.answers H.modules self.now.machine in Leads here (Acting (meaning.assign_steps here.world (operator_of op.now.op) (value_of value) (rest_steps self.now.in_loop rest.entry) (current_in here (store_of state.old) current.entry))) state.old result state.new (λ z. given UnitV) }
     {
         let link = rest.link();
         let Some(access) = self.reach(state, rest, &current)? else {
@@ -98,78 +93,32 @@ impl<'a, H: Host> Evaluator<'a, H> {
         value: Dynamic,
         current: Current,
     ) -> Result<(), Interrupt>
-        ensures { let here = setting H.answers H.modules self.now in Leads here (Acting (chains.assign_last here.world (operator_of op.now.op) (value_of value) (access_meant access.entry) (current_in here (store_of state.old) current.entry))) state.old result state.new (λ z. given UnitV) }
+        ensures { let here = setting H.answers H.modules self.now.machine in Leads here (Acting (chains.assign_last here.world (operator_of op.now.op) (value_of value) (access_meant access.entry) (current_in here (store_of state.old) current.entry))) state.old result state.new (λ z. given UnitV) }
     {
         let Some(token) = assigning_operator(op) else {
-            return self.set_at(state, access, value, current);
+            return self.machine.set_at(state, access, value, current);
         };
         match access {
             Access::Property(names) => {
-                let written = self.changed_property(state, token, names, value, &current)?;
-                self.set_at(state, Access::Property(names), written, current)
+                let written = self
+                    .machine
+                    .changed_property(state, token, names, value, &current)?;
+                self.machine
+                    .set_at(state, Access::Property(names), written, current)
             }
             Access::Index(index) => {
                 let at = index.clone()?;
-                let written = self.changed_index(state, token, at, value, &current)?;
-                self.set_at(state, Access::Index(index), written, current)
+                let written = self
+                    .machine
+                    .changed_index(state, token, at, value, &current)?;
+                self.machine
+                    .set_at(state, Access::Index(index), written, current)
             }
             Access::Method(name, args) => {
                 self.changed_method(state, token, name, args, value, current)?;
                 Err(Interrupt::Stuck(Stuck::NoPlace))
             }
         }
-    }
-
-    /// Writes where a last step leads; what has no place is stuck.
-    fn set_at(
-        &self,
-        state: &mut State,
-        access: Access,
-        value: Dynamic,
-        current: Current,
-    ) -> Result<(), Interrupt>
-        ensures { let here = setting H.answers H.modules self.now in let c = current_in here (store_of state.old) current.entry in Leads here (Acting (chains.set_at (value_of value) (access_meant access.entry) c c.place)) state.old result state.new (λ z. given UnitV) }
-    {
-        let Current::At(place) = current else {
-            return Err(Interrupt::Stuck(Stuck::NoPlace));
-        };
-        match access {
-            Access::Property(names) => self.set_property(state, names, value, place),
-            Access::Index(index) => self.set_index(state, index, value, place),
-            Access::Method(_, _) => Err(Interrupt::Stuck(Stuck::NoPlace)),
-        }
-    }
-
-    /// What an operator makes of a property.
-    fn changed_property(
-        &self,
-        state: &mut State,
-        op: Token,
-        names: PropertyNames,
-        value: Dynamic,
-        current: &Current,
-    ) -> Result<Dynamic, Interrupt>
-        ensures { let here = setting H.answers H.modules self.now in let c = current_in here (store_of state.old) current.now in (o : _) → operator_of op ≡ Some o → Changes here o (value_of value) (λ next. chains.property (names_meant names.entry) c c.value next) state.old result state.new }
-    {
-        let found = self.find_property(state, names, current)?;
-        let old = self.found_value(state, current, found)?;
-        self.assigned(state, op, old, value)
-    }
-
-    /// What an operator makes of what stands at an index.
-    fn changed_index(
-        &self,
-        state: &mut State,
-        op: Token,
-        index_value: Dynamic,
-        value: Dynamic,
-        current: &Current,
-    ) -> Result<Dynamic, Interrupt>
-        ensures { let here = setting H.answers H.modules self.now in let c = current_in here (store_of state.old) current.now in (o : _) → operator_of op ≡ Some o → Changes here o (value_of value) (λ next. chains.index c c.value (value_of index_value) next) state.old result state.new }
-    {
-        let found = self.find_index(state, current, index_value)?;
-        let old = self.found_value(state, current, found)?;
-        self.assigned(state, op, old, value)
     }
 
     /// What an operator makes of a method's value.
@@ -183,10 +132,10 @@ impl<'a, H: Host> Evaluator<'a, H> {
         value: Dynamic,
         current: Current,
     ) -> Result<Dynamic, Interrupt>
-        ensures { let here = setting H.answers H.modules self.now in let c = current_in here (store_of state.old) current.entry in (o : _) → operator_of op ≡ Some o → Changes here o (value_of value) (λ next. chains.method here.world name.now (calls.word name.now) (map value_of args) c next) state.old result state.new }
+        ensures { let here = setting H.answers H.modules self.now.machine in let c = current_in here (store_of state.old) current.entry in (o : _) → operator_of op ≡ Some o → Changes here o (value_of value) (λ next. chains.method here.world name.now (calls.word name.now) (map value_of args) c next) state.old result state.new }
     {
         let read = self.method(state, name, args, current)?;
-        let old = self.current_value(state, read)?;
-        self.assigned(state, op, old, value)
+        let old = self.machine.current_value(state, read)?;
+        self.machine.assigned(state, op, old, value)
     }
 }

@@ -1,0 +1,6 @@
+//! The scripts that the program knows.
+#![tactic(auto)]
+
+mod scripts;
+
+pub use scripts::BuiltinScript;
