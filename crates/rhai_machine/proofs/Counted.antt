@@ -12,9 +12,9 @@ use Rattle.rhai_meaning.specs.ActForms.{again_then, ◌>>=◌}
 use Rattle.rhai_meaning.specs.Control.{counted, for_all, for_count, for_each, round, size}
 use Rattle.rhai_meaning.specs.Meaning.{act}
 use Rattle.rhai_meaning.specs.Tree as tree
-use Rattle.rhai_machine.specs.declared.state.Interrupt.{Interrupt}
-use Rattle.rhai_machine.specs.declared.state.Interrupt.TheVariants.{Stuck}
-use Rattle.rhai_machine.specs.declared.state.State.{State}
+use Rattle.rhai_machine.specs.declared.steps.state.Interrupt.{Interrupt}
+use Rattle.rhai_machine.specs.declared.steps.state.Interrupt.TheVariants.{Stuck}
+use Rattle.rhai_machine.specs.declared.steps.state.State.{State}
 use Rattle.rhai_host.specs.declared.report.Stuck.TheVariants as why
 use Rattle.rhai_machine.specs.Evaluating.{RunsCounted, RunsExpr, RunsList, RunsRound}
 use Rattle.rhai_machine.specs.Exits.{count_of, round_of}

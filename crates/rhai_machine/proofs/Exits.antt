@@ -12,9 +12,9 @@ use Rattle.rhai_meaning.specs.Core as core
 use Rattle.rhai_meaning.specs.Desugar.{break_kind, core_maybe, core_stmt, core_stmts, return_kind, try_by}
 use Rattle.rhai_meaning.specs.Meaning.{act, acts, deed, exit}
 use Rattle.rhai_meaning.specs.Shape.{catch_name, is_unit}
-use Rattle.rhai_machine.specs.declared.state.Interrupt.{Interrupt}
-use Rattle.rhai_machine.specs.declared.state.Interrupt.TheVariants.{NoMemory, Return, Break, Continue, Throw, Stuck, OutOfTurns}
-use Rattle.rhai_machine.specs.declared.state.State.{State}
+use Rattle.rhai_machine.specs.declared.steps.state.Interrupt.{Interrupt}
+use Rattle.rhai_machine.specs.declared.steps.state.Interrupt.TheVariants.{NoMemory, Return, Break, Continue, Throw, Stuck, OutOfTurns}
+use Rattle.rhai_machine.specs.declared.steps.state.State.{State}
 use Rattle.rhai_host.specs.declared.report.Stuck.TheVariants as why
 use Rattle.rhai_machine.specs.Evaluating.{RunsBlock, RunsCatch, RunsLine, RunsMaybe}
 use Rattle.rhai_machine.specs.Exits.{body_end, branch_end, LeavesBy}

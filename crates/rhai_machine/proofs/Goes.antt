@@ -9,8 +9,8 @@ use Rattle.rhai_meaning.specs.Act.{ScopeEntry, Ending, Gives, Halt, IsStuck, Wro
 use Rattle.rhai_meaning.specs.ActForms.{give, value_then, each_value, ◌>>=◌, then_line, branch, choose, if_true, truth}
 use Rattle.rhai_meaning.specs.Control.{named}
 use Rattle.rhai_meaning.specs.Run.{reversed}
-use Rattle.rhai_machine.specs.declared.state.Interrupt.{Interrupt}
-use Rattle.rhai_machine.specs.declared.state.State.{State}
+use Rattle.rhai_machine.specs.declared.steps.state.Interrupt.{Interrupt}
+use Rattle.rhai_machine.specs.declared.steps.state.State.{State}
 use Rattle.rhai_host.specs.Entries.{variable_meant}
 use Rattle.rhai_machine.specs.Evaluating.{or_stuck}
 use Rattle.rhai_host.specs.Host.{call_meant}

@@ -18,13 +18,13 @@ use Rattle.rhai_meaning.specs.Meaning as meaning
 use Rattle.rhai_meaning.specs.Places as places
 use Rattle.rhai_meaning.specs.Shape.{is_chain, is_left_side}
 use Rattle.rhai_meaning.specs.Tree as tree
-use Rattle.rhai_machine.specs.declared.left_sides.LeftSide.{LeftSide}
-use Rattle.rhai_machine.specs.declared.left_sides.LeftSide.TheVariants as side
-use Rattle.rhai_machine.specs.declared.links.Rest.{Rest}
-use Rattle.rhai_machine.specs.declared.placing.Current.{Current}
-use Rattle.rhai_machine.specs.declared.state.Interrupt.{Interrupt}
-use Rattle.rhai_machine.specs.declared.state.Interrupt.TheVariants.{Stuck}
-use Rattle.rhai_machine.specs.declared.state.State.{State}
+use Rattle.rhai_machine.specs.declared.steps.left_sides.LeftSide.{LeftSide}
+use Rattle.rhai_machine.specs.declared.steps.left_sides.LeftSide.TheVariants as side
+use Rattle.rhai_machine.specs.declared.steps.links.Rest.{Rest}
+use Rattle.rhai_machine.specs.declared.steps.placing.Current.{Current}
+use Rattle.rhai_machine.specs.declared.steps.state.Interrupt.{Interrupt}
+use Rattle.rhai_machine.specs.declared.steps.state.Interrupt.TheVariants.{Stuck}
+use Rattle.rhai_machine.specs.declared.steps.state.State.{State}
 use Rattle.rhai_host.specs.declared.report.Stuck.TheVariants as why
 use Rattle.rhai_machine.specs.Chaining.{StepsOn, rest_steps, step_core}
 use Rattle.rhai_machine.specs.Placing.{current_in, read_base}

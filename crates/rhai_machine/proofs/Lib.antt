@@ -34,7 +34,7 @@ pub mod Writing
 pub mod Chaining
 pub mod Quiet
 pub mod Links
-pub mod Steps
+pub mod ChainSteps
 pub mod Targets
 pub mod LeftSides
 pub mod Methods

@@ -12,8 +12,8 @@ use Rattle.rhai_meaning.specs.Core as core
 use Rattle.rhai_meaning.specs.Desugar.{steps_of}
 use Rattle.rhai_meaning.specs.Tree as tree
 use Rattle.rhai_meaning.specs.Weight.{expr_weight}
-use Rattle.rhai_machine.specs.declared.links.Link.{Link}
-use Rattle.rhai_machine.specs.declared.links.Rest.{Rest}
+use Rattle.rhai_machine.specs.declared.steps.links.Link.{Link}
+use Rattle.rhai_machine.specs.declared.steps.links.Rest.{Rest}
 use Rattle.rhai_machine.specs.Chaining.{IsInner, IsLast, IsRest, link_steps, rest_steps, step_core, step_in, steps_on}
 
 last_by : (loop dot : Bool) (k : tree.ChainFlags) (p : core.Step) (r : tree.Expr) → k.breaks ≡ true → steps_of loop dot k p r ≡ core.last k.negated p

@@ -13,9 +13,9 @@ use Rattle.rhai_meaning.specs.Desugar.{core_expr, core_stmt, core_stmts, guard_b
 use Rattle.rhai_meaning.specs.Meaning.{act}
 use Rattle.rhai_meaning.specs.Queries.{is_unit}
 use Rattle.rhai_meaning.specs.Tree as tree
-use Rattle.rhai_machine.specs.declared.state.Interrupt.{Interrupt}
-use Rattle.rhai_machine.specs.declared.state.Interrupt.TheVariants.{NoMemory, Return, Break, Continue, Throw, Stuck, OutOfTurns}
-use Rattle.rhai_machine.specs.declared.state.State.{State}
+use Rattle.rhai_machine.specs.declared.steps.state.Interrupt.{Interrupt}
+use Rattle.rhai_machine.specs.declared.steps.state.Interrupt.TheVariants.{NoMemory, Return, Break, Continue, Throw, Stuck, OutOfTurns}
+use Rattle.rhai_machine.specs.declared.steps.state.State.{State}
 use Rattle.rhai_machine.specs.Evaluating.{or_stuck, RunsCore, RunsDeed, RunsLine, RunsRound}
 use Rattle.rhai_machine.specs.Exits.{round_of, round_end}
 use Rattle.rhai_machine.specs.Runs.{Setting, Acting, Over, Goes, Stops, Leads, given}

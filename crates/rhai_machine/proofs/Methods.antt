@@ -21,10 +21,10 @@ use Rattle.rhai_meaning.specs.Places as places
 use Rattle.rhai_meaning.specs.Places.{put_back, without_place}
 use Rattle.rhai_meaning.specs.Run.{function_of, key_of}
 use Rattle.rhai_meaning.specs.Weight.{weight}
-use Rattle.rhai_machine.specs.declared.placing.Current.{Current}
-use Rattle.rhai_machine.specs.declared.placing.Current.TheVariants as current
-use Rattle.rhai_machine.specs.declared.state.Interrupt.{Interrupt}
-use Rattle.rhai_machine.specs.declared.state.State.{State}
+use Rattle.rhai_machine.specs.declared.steps.placing.Current.{Current}
+use Rattle.rhai_machine.specs.declared.steps.placing.Current.TheVariants as current
+use Rattle.rhai_machine.specs.declared.steps.state.Interrupt.{Interrupt}
+use Rattle.rhai_machine.specs.declared.steps.state.State.{State}
 use Rattle.rhai_machine.specs.Chaining.{CallsMethod, StepsOn, by_key, method_in, method_or, or_else, value_or}
 use Rattle.rhai_machine.specs.Evaluating.{RunsInvoke, bodies_weight}
 use Rattle.rhai_machine.specs.Placing.{current_in}

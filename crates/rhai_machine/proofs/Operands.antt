@@ -14,8 +14,8 @@ use Rattle.rhai_meaning.specs.Act.{Act}
 use Rattle.rhai_meaning.specs.ActForms.{give, choose, if_true, truth, ◌>>=◌}
 use Rattle.rhai_meaning.specs.Meaning.{act, both, either, first_some, with_args}
 use Rattle.rhai_meaning.specs.Shape.{is_unit}
-use Rattle.rhai_machine.specs.declared.state.Interrupt.{Interrupt}
-use Rattle.rhai_machine.specs.declared.state.State.{State}
+use Rattle.rhai_machine.specs.declared.steps.state.Interrupt.{Interrupt}
+use Rattle.rhai_machine.specs.declared.steps.state.State.{State}
 use Rattle.rhai_machine.specs.Evaluating.{or_stuck, RunsExpr, RunsExprs}
 use Rattle.rhai_machine.specs.Runs.{Setting, Task, Acting, Goes, Stops, given}
 use Rattle.rhai_machine.proofs.Goes.{gives, goes_on, goes_then, goes_as, stops_then, value_goes, value_stops, if_goes, if_stops}

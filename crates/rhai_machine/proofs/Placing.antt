@@ -16,12 +16,12 @@ use Rattle.rhai_meaning.specs.Run.{reversed}
 use Rattle.rhai_places.specs.declared.places.PlaceKey.{PlaceKey}
 use Rattle.rhai_places.specs.declared.standing.Part.{Part}
 use Rattle.rhai_places.specs.Reading.{key_meant, part_value, or_unit}
-use Rattle.rhai_machine.specs.declared.placing.Place.{Place}
-use Rattle.rhai_machine.specs.declared.placing.Current.TheVariants as current
-use Rattle.rhai_machine.specs.declared.state.Interrupt.{Interrupt}
-use Rattle.rhai_machine.specs.declared.state.Interrupt.TheVariants.{Stuck}
-use Rattle.rhai_machine.specs.declared.state.State.{State}
-use Rattle.rhai_machine.specs.declared.variables.Root.{Root}
+use Rattle.rhai_machine.specs.declared.steps.placing.Place.{Place}
+use Rattle.rhai_machine.specs.declared.steps.placing.Current.TheVariants as current
+use Rattle.rhai_machine.specs.declared.steps.state.Interrupt.{Interrupt}
+use Rattle.rhai_machine.specs.declared.steps.state.Interrupt.TheVariants.{Stuck}
+use Rattle.rhai_machine.specs.declared.steps.state.State.{State}
+use Rattle.rhai_machine.specs.declared.steps.variables.Root.{Root}
 use Rattle.rhai_host.specs.declared.report.Stuck as report
 use Rattle.rhai_host.specs.declared.report.Stuck.TheVariants as why
 use Rattle.rhai_host.specs.Entries.{variable_meant}

@@ -9,8 +9,8 @@ use Rattle.rhai_values.specs.Value.{Text, Value, PointerV, items, values}
 use Rattle.rhai_meaning.specs.Act.{WrongKind, World, Act, Fail}
 use Rattle.rhai_meaning.specs.Calls as calls
 use Rattle.rhai_meaning.specs.Calls.{call_named, call_pointer}
-use Rattle.rhai_machine.specs.declared.state.Interrupt.TheVariants.{Stuck}
-use Rattle.rhai_machine.specs.declared.state.State.{State}
+use Rattle.rhai_machine.specs.declared.steps.state.Interrupt.TheVariants.{Stuck}
+use Rattle.rhai_machine.specs.declared.steps.state.State.{State}
 use Rattle.rhai_host.specs.declared.report.Stuck.TheVariants as why
 use Rattle.rhai_machine.specs.Runs.{Setting, Acting, Goes, Stops, Runs}
 use Rattle.rhai_machine.proofs.Counted.{items_values}

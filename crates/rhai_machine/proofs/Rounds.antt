@@ -5,9 +5,9 @@ use Rattle.rhai_values.specs.Value.{Value, UnitV}
 use Rattle.rhai_meaning.specs.Act as act
 use Rattle.rhai_meaning.specs.Act.{Again, Leaves, Outcome, Ended, At, Store, Act, Acts, Then, Loop, Scoped, and_then, on_again, rounds, run}
 use Rattle.rhai_meaning.specs.ActForms.{end_round, again_then}
-use Rattle.rhai_machine.specs.declared.state.Interrupt.{Interrupt}
-use Rattle.rhai_machine.specs.declared.state.Interrupt.TheVariants.{NoMemory, Return, Break, Continue, Throw, Stuck, OutOfTurns}
-use Rattle.rhai_machine.specs.declared.state.State.{State}
+use Rattle.rhai_machine.specs.declared.steps.state.Interrupt.{Interrupt}
+use Rattle.rhai_machine.specs.declared.steps.state.Interrupt.TheVariants.{NoMemory, Return, Break, Continue, Throw, Stuck, OutOfTurns}
+use Rattle.rhai_machine.specs.declared.steps.state.State.{State}
 use Rattle.rhai_machine.specs.Exits.{round_of, round_end}
 use Rattle.rhai_machine.specs.Runs.{Setting, Acting, Over, Goes, Stops, Leads, given, env}
 use Rattle.rhai_machine.specs.State.{store_of}

@@ -14,9 +14,9 @@ use Rattle.rhai_meaning.specs.ActForms.{choose, if_true, truth, ◌>>=◌}
 use Rattle.rhai_meaning.specs.Core as core
 use Rattle.rhai_meaning.specs.Desugar.{core_expr, core_stmt, core_stmts}
 use Rattle.rhai_meaning.specs.Meaning.{act, acts, deed, line, wanted_value}
-use Rattle.rhai_machine.specs.declared.state.Interrupt.{Interrupt}
-use Rattle.rhai_machine.specs.declared.state.Interrupt.TheVariants.{Stuck}
-use Rattle.rhai_machine.specs.declared.state.State.{State}
+use Rattle.rhai_machine.specs.declared.steps.state.Interrupt.{Interrupt}
+use Rattle.rhai_machine.specs.declared.steps.state.Interrupt.TheVariants.{Stuck}
+use Rattle.rhai_machine.specs.declared.steps.state.State.{State}
 use Rattle.rhai_host.specs.declared.report.Stuck.TheVariants as why
 use Rattle.rhai_machine.specs.Evaluating.{or_stuck, RunsCore, RunsDeed, RunsExpr, RunsLine, RunsStmt, RunsStmts, RunsBlock}
 use Rattle.rhai_machine.specs.Runs.{Setting, Task, Acting, Listing, Goes, Stops, Runs, env}

@@ -14,15 +14,15 @@ use Rattle.rhai_meaning.specs.Chains as chains
 use Rattle.rhai_meaning.specs.Chains.{assign_last, set_at}
 use Rattle.rhai_meaning.specs.Meaning as meaning
 use Rattle.rhai_meaning.specs.Places as places
-use Rattle.rhai_machine.specs.declared.parts.Access.{Access}
-use Rattle.rhai_machine.specs.declared.links.Link.{Link}
-use Rattle.rhai_machine.specs.declared.links.Rest.{Rest}
-use Rattle.rhai_machine.specs.declared.parts.Found.{Found}
-use Rattle.rhai_machine.specs.declared.placing.Current.{Current}
-use Rattle.rhai_machine.specs.declared.state.Interrupt.{Interrupt}
-use Rattle.rhai_machine.specs.declared.state.Interrupt.TheVariants as stopped
+use Rattle.rhai_machine.specs.declared.steps.parts.Access.{Access}
+use Rattle.rhai_machine.specs.declared.steps.links.Link.{Link}
+use Rattle.rhai_machine.specs.declared.steps.links.Rest.{Rest}
+use Rattle.rhai_machine.specs.declared.steps.parts.Found.{Found}
+use Rattle.rhai_machine.specs.declared.steps.placing.Current.{Current}
+use Rattle.rhai_machine.specs.declared.steps.state.Interrupt.{Interrupt}
+use Rattle.rhai_machine.specs.declared.steps.state.Interrupt.TheVariants as stopped
 use Rattle.rhai_host.specs.declared.report.Stuck.TheVariants as why
-use Rattle.rhai_machine.specs.declared.state.State.{State}
+use Rattle.rhai_machine.specs.declared.steps.state.State.{State}
 use Rattle.rhai_machine.specs.Chaining.{StepsOn, Reaches, access_meant, head_of, link_steps, rest_steps, steps_on}
 use Rattle.rhai_machine.specs.Operators.{StandsFor}
 use Rattle.rhai_machine.specs.Placing.{current_in}
@@ -32,7 +32,7 @@ use Rattle.rhai_machine.specs.Targets.{Changes, Finds, found_in}
 use Rattle.rhai_machine.proofs.Chaining.{KeepsNames, same_current}
 use Rattle.rhai_machine.proofs.Goes.{gives, goes_as, goes_then, leads_then, stops_then, value_goes, value_stops}
 use Rattle.rhai_machine.proofs.Quiet.{Quiet, quiet_assigned, quiet_give, quiet_stays, quiet_then}
-use Rattle.rhai_machine.proofs.Steps.{first_step, head_is, step_here}
+use Rattle.rhai_machine.proofs.ChainSteps.{first_step, head_is, step_here}
 
 -- ---- what a step finds
 

@@ -14,9 +14,9 @@ use Rattle.rhai_meaning.specs.Elements.{at_index, index_in, count, value_at as i
 use Rattle.rhai_meaning.specs.Places as places
 use Rattle.rhai_meaning.specs.Places.{AtIndex, AtEntry, inside, along, with_inside, with_along, or_no_place, write_place}
 use Rattle.rhai_meaning.specs.Run.{reversed}
-use Rattle.rhai_machine.specs.declared.state.Interrupt.{Interrupt}
-use Rattle.rhai_machine.specs.declared.state.Interrupt.TheVariants.{Stuck}
-use Rattle.rhai_machine.specs.declared.state.State.{State}
+use Rattle.rhai_machine.specs.declared.steps.state.Interrupt.{Interrupt}
+use Rattle.rhai_machine.specs.declared.steps.state.Interrupt.TheVariants.{Stuck}
+use Rattle.rhai_machine.specs.declared.steps.state.State.{State}
 use Rattle.rhai_host.specs.declared.report.Stuck.TheVariants as why
 use Rattle.rhai_host.specs.Entries.{variable_meant}
 use Rattle.rhai_host.specs.Host.{call_meant}

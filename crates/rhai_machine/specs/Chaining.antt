@@ -25,14 +25,14 @@ use Rattle.rhai_meaning.specs.Places as places
 use Rattle.rhai_meaning.specs.Places.{refreshed}
 use Rattle.rhai_meaning.specs.Shape.{is_chain}
 use Rattle.rhai_meaning.specs.Tree as tree
-use Rattle.rhai_machine.specs.declared.parts.Access.{Access}
-use Rattle.rhai_machine.specs.declared.parts.Access.TheVariants as reached
-use Rattle.rhai_machine.specs.declared.links.Link.{Link}
-use Rattle.rhai_machine.specs.declared.links.Rest.{Rest}
-use Rattle.rhai_machine.specs.declared.parts.PropertyNames.{PropertyNames}
-use Rattle.rhai_machine.specs.declared.placing.Current.{Current}
-use Rattle.rhai_machine.specs.declared.state.Interrupt.{Interrupt}
-use Rattle.rhai_machine.specs.declared.state.State.{State}
+use Rattle.rhai_machine.specs.declared.steps.parts.Access.{Access}
+use Rattle.rhai_machine.specs.declared.steps.parts.Access.TheVariants as reached
+use Rattle.rhai_machine.specs.declared.steps.links.Link.{Link}
+use Rattle.rhai_machine.specs.declared.steps.links.Rest.{Rest}
+use Rattle.rhai_machine.specs.declared.steps.parts.PropertyNames.{PropertyNames}
+use Rattle.rhai_machine.specs.declared.steps.placing.Current.{Current}
+use Rattle.rhai_machine.specs.declared.steps.state.Interrupt.{Interrupt}
+use Rattle.rhai_machine.specs.declared.steps.state.State.{State}
 use Rattle.rhai_machine.specs.Placing.{current_in}
 use Rattle.rhai_machine.specs.Runs.{Setting, Task, Acting, Leads, given}
 use Rattle.rhai_machine.specs.State.{store_of}

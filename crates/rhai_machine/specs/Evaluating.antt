@@ -18,10 +18,10 @@ use Rattle.rhai_meaning.specs.Walk.{over_functions, total}
 use Rattle.rhai_meaning.specs.Weight.{own_weight}
 use Rattle.rhai_functions.specs.FnLib.{functions_of}
 use Rattle.rhai_engine.specs.EngineInfo.{engine_of}
-use Rattle.rhai_machine.specs.declared.machine.Machine.{Machine}
-use Rattle.rhai_machine.specs.declared.state.Interrupt.{Interrupt}
-use Rattle.rhai_machine.specs.declared.state.Interrupt.TheVariants.{NoMemory, Return, Break, Continue, Throw, Stuck, OutOfTurns}
-use Rattle.rhai_machine.specs.declared.state.State.{State}
+use Rattle.rhai_machine.specs.declared.steps.machine.Machine.{Machine}
+use Rattle.rhai_machine.specs.declared.steps.state.Interrupt.{Interrupt}
+use Rattle.rhai_machine.specs.declared.steps.state.Interrupt.TheVariants.{NoMemory, Return, Break, Continue, Throw, Stuck, OutOfTurns}
+use Rattle.rhai_machine.specs.declared.steps.state.State.{State}
 use Rattle.rhai_host.specs.declared.report.RunEnd.{RunEnd}
 use Rattle.rhai_host.specs.declared.report.RunEnd.TheVariants as ended
 use Rattle.rhai_host.specs.declared.report.Stuck.TheVariants as why

@@ -5,8 +5,8 @@ use Rattle.rhai_values.specs.declared.dynamic.Dynamic.TheVariants as value
 use Rattle.rhai_values.specs.Reading.{value_of}
 use Rattle.rhai_meaning.specs.Act.{Exit, Again, Ending, Gives, Leaves}
 use Rattle.rhai_meaning.specs.Shape.{is_unit}
-use Rattle.rhai_machine.specs.declared.state.Interrupt.{Interrupt}
-use Rattle.rhai_machine.specs.declared.state.Interrupt.TheVariants.{Return, Break, Continue, Throw, Stuck}
+use Rattle.rhai_machine.specs.declared.steps.state.Interrupt.{Interrupt}
+use Rattle.rhai_machine.specs.declared.steps.state.Interrupt.TheVariants.{Return, Break, Continue, Throw, Stuck}
 use Rattle.rhai_host.specs.declared.report.Stuck.TheVariants as why
 use Rattle.rhai_machine.specs.Runs.{Leaving, stop_of}
 use Rattle.std.specs.Prelude.{if◌then◌else◌}

@@ -12,13 +12,13 @@ use Rattle.rhai_meaning.specs.Places as places
 use Rattle.rhai_meaning.specs.Places.{along, at_root, without_place}
 use Rattle.rhai_places.specs.declared.standing.Part.{Part}
 use Rattle.rhai_places.specs.Reading.{key_meant, part_value, or_unit}
-use Rattle.rhai_machine.specs.declared.placing.Place.{Place}
-use Rattle.rhai_machine.specs.declared.placing.Current.{Current}
-use Rattle.rhai_machine.specs.declared.placing.Current.TheVariants.{At, Loose}
+use Rattle.rhai_machine.specs.declared.steps.placing.Place.{Place}
+use Rattle.rhai_machine.specs.declared.steps.placing.Current.{Current}
+use Rattle.rhai_machine.specs.declared.steps.placing.Current.TheVariants.{At, Loose}
 use Rattle.rhai_host.specs.declared.report.Stuck.{Stuck}
 use Rattle.rhai_host.specs.declared.report.Stuck.TheVariants as why
-use Rattle.rhai_machine.specs.declared.state.Interrupt.{Interrupt}
-use Rattle.rhai_machine.specs.declared.state.Interrupt.TheVariants as stopped
+use Rattle.rhai_machine.specs.declared.steps.state.Interrupt.{Interrupt}
+use Rattle.rhai_machine.specs.declared.steps.state.Interrupt.TheVariants as stopped
 use Rattle.rhai_host.specs.Report.{stuck_meant}
 use Rattle.rhai_machine.specs.Runs.{Setting}
 use Rattle.rhai_machine.specs.Variables.{root_meant}

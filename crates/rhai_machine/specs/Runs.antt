@@ -7,9 +7,9 @@ use Rattle.rhai_meaning.specs.Act as act
 use Rattle.rhai_meaning.specs.Act.{ScopeEntry, Exit, Returns, Breaks, Continues, Throws, Ending, Gives, Leaves, Halt, IsStuck, OutOfTurns, Outcome, Ended, Halted, At, Store, World, Act, Acts, Env, and_then, leave, run, run_all}
 use Rattle.rhai_meaning.specs.Core.{Function}
 use Rattle.rhai_meaning.specs.Run.{env_at}
-use Rattle.rhai_machine.specs.declared.state.Interrupt.{Interrupt}
-use Rattle.rhai_machine.specs.declared.state.Interrupt.TheVariants.{NoMemory, Return, Break, Continue, Throw, Stuck, OutOfTurns as NoTurns}
-use Rattle.rhai_machine.specs.declared.state.State.{State}
+use Rattle.rhai_machine.specs.declared.steps.state.Interrupt.{Interrupt}
+use Rattle.rhai_machine.specs.declared.steps.state.Interrupt.TheVariants.{NoMemory, Return, Break, Continue, Throw, Stuck, OutOfTurns as NoTurns}
+use Rattle.rhai_machine.specs.declared.steps.state.State.{State}
 use Rattle.rhai_host.specs.Report.{stuck_meant}
 use Rattle.rhai_machine.specs.State.{store_of}
 

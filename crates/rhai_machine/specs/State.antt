@@ -4,9 +4,9 @@ use Rattle.rhai_values.specs.Value.{Text, Value}
 use Rattle.rhai_values.specs.Reading.{value_of}
 use Rattle.rhai_meaning.specs.Act.{Store}
 use Rattle.rhai_meaning.specs.Run.{reversed}
-use Rattle.rhai_machine.specs.declared.state.Interrupt.{Interrupt}
-use Rattle.rhai_machine.specs.declared.state.Interrupt.TheVariants.{OutOfTurns}
-use Rattle.rhai_machine.specs.declared.state.State.{State}
+use Rattle.rhai_machine.specs.declared.steps.state.Interrupt.{Interrupt}
+use Rattle.rhai_machine.specs.declared.steps.state.Interrupt.TheVariants.{OutOfTurns}
+use Rattle.rhai_machine.specs.declared.steps.state.State.{State}
 use Rattle.rhai_host.specs.Entries.{variable_meant}
 use Rattle.rhai_host.specs.Host.{call_meant}
 

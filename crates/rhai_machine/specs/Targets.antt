@@ -18,13 +18,13 @@ use Rattle.rhai_meaning.specs.Shape.{is_chain, is_left_side}
 use Rattle.rhai_meaning.specs.Tree as tree
 use Rattle.rhai_meaning.specs.Weight.{expr_weight}
 use Rattle.rhai_places.specs.Reading.{key_meant, or_unit}
-use Rattle.rhai_machine.specs.declared.left_sides.LeftSide.{LeftSide}
-use Rattle.rhai_machine.specs.declared.left_sides.LeftSide.TheVariants as side
-use Rattle.rhai_machine.specs.declared.links.Rest.{Rest}
-use Rattle.rhai_machine.specs.declared.parts.Found.{Found}
-use Rattle.rhai_machine.specs.declared.parts.Found.TheVariants as found
-use Rattle.rhai_machine.specs.declared.state.Interrupt.{Interrupt}
-use Rattle.rhai_machine.specs.declared.state.State.{State}
+use Rattle.rhai_machine.specs.declared.steps.left_sides.LeftSide.{LeftSide}
+use Rattle.rhai_machine.specs.declared.steps.left_sides.LeftSide.TheVariants as side
+use Rattle.rhai_machine.specs.declared.steps.links.Rest.{Rest}
+use Rattle.rhai_machine.specs.declared.steps.parts.Found.{Found}
+use Rattle.rhai_machine.specs.declared.steps.parts.Found.TheVariants as found
+use Rattle.rhai_machine.specs.declared.steps.state.Interrupt.{Interrupt}
+use Rattle.rhai_machine.specs.declared.steps.state.State.{State}
 use Rattle.rhai_machine.specs.Chaining.{rest_steps}
 use Rattle.rhai_machine.specs.Runs.{Setting, Acting, Leads}
 use Rattle.rhai_machine.specs.Variables.{root_meant}

@@ -3,8 +3,8 @@ use Rattle.std.specs.Prelude.{◌≡◌, ℕ, Bool, true, false, List, [], ◌�
 use Rattle.rhai_values.specs.Value.{Text, same_text}
 use Rattle.rhai_values.specs.declared.dynamic.Dynamic.{Dynamic}
 use Rattle.rhai_meaning.specs.Act as act
-use Rattle.rhai_machine.specs.declared.variables.Root.{Root}
-use Rattle.rhai_machine.specs.declared.variables.Root.TheVariants.{Name, This}
+use Rattle.rhai_machine.specs.declared.steps.variables.Root.{Root}
+use Rattle.rhai_machine.specs.declared.steps.variables.Root.TheVariants.{Name, This}
 
 abbrev pub root_meant : Root → act.Root
 root_meant (Name x) = act.OfName x.now

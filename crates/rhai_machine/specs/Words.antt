@@ -5,8 +5,8 @@ use Rattle.rhai_meaning.specs.Act.{Act}
 use Rattle.rhai_meaning.specs.ActForms.{give}
 use Rattle.rhai_meaning.specs.Calls as calls
 use Rattle.rhai_meaning.specs.Engine.{Engine, mapped_type_name}
-use Rattle.rhai_machine.specs.declared.words.Word.{Word}
-use Rattle.rhai_machine.specs.declared.words.Word.TheVariants as words
+use Rattle.rhai_machine.specs.declared.steps.words.Word.{Word}
+use Rattle.rhai_machine.specs.declared.steps.words.Word.TheVariants as words
 
 abbrev pub word_meant : Word → calls.Word
 word_meant words.ToHost = calls.ToHost

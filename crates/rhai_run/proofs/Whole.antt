@@ -11,9 +11,9 @@ use Rattle.rhai_meaning.specs.Engine.{Engine}
 use Rattle.rhai_meaning.specs.Meaning.{acts}
 use Rattle.rhai_meaning.specs.Run.{AtStatements, Report, end_of, report_of, run_script, world_of}
 use Rattle.rhai_meaning.specs.Tree.{Script}
-use Rattle.rhai_machine.specs.declared.state.Interrupt.{Interrupt}
-use Rattle.rhai_machine.specs.declared.state.Interrupt.TheVariants.{NoMemory, Return, Break, Continue, Throw, Stuck, OutOfTurns}
-use Rattle.rhai_machine.specs.declared.state.State.{State}
+use Rattle.rhai_machine.specs.declared.steps.state.Interrupt.{Interrupt}
+use Rattle.rhai_machine.specs.declared.steps.state.Interrupt.TheVariants.{NoMemory, Return, Break, Continue, Throw, Stuck, OutOfTurns}
+use Rattle.rhai_machine.specs.declared.steps.state.State.{State}
 use Rattle.rhai_host.specs.declared.report.RunEnd.{RunEnd}
 use Rattle.rhai_host.specs.Entries.{variable_meant}
 use Rattle.rhai_machine.specs.Evaluating.{EndsAs, RunsStmts}

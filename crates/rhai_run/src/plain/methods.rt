@@ -5,7 +5,7 @@
 ghost use Rattle.std.specs.Prelude.{◌≡◌, false, Ok, map};
 ghost use Rattle.rhai_values.specs.Reading.{value_of};
 ghost use Rattle.rhai_machine.specs.Chaining.{StepsOn};
-ghost use Rattle.rhai_machine.specs.declared.state.State.{State};
+ghost use Rattle.rhai_machine.specs.declared.steps.state.State.{State};
 ghost use Rattle.rhai_machine.specs.Evaluating.{setting, Runs};
 ghost use Rattle.rhai_machine.specs.Placing.{current_in};
 ghost use Rattle.rhai_machine.specs.Runs.{Acting};

@@ -24,7 +24,7 @@ use Rattle.rhai_meaning.specs.Desugar.{core_expr, core_stmts, ends_in_call}
 use Rattle.rhai_meaning.specs.Shape.{is_unit}
 use Rattle.rhai_meaning.specs.Walk.{over_pairs, total}
 use Rattle.rhai_meaning.specs.Weight.{expr_weight, exprs_weight, own_weight, stmt_weight, weight}
-use Rattle.rhai_machine.specs.declared.state.State.{State}
+use Rattle.rhai_machine.specs.declared.steps.state.State.{State}
 use Rattle.rhai_machine.specs.Chaining.{method_in}
 use Rattle.rhai_machine.specs.Evaluating.{arms_here, bodies_weight, body_of, setting}
 use Rattle.rhai_machine.specs.Runs.{Acting, Halting, Runs, given, stop_of}
@@ -33,7 +33,7 @@ use Rattle.rhai_machine.specs.State.{store_of}
 use Rattle.rhai_machine.specs.Targets.{side_core}
 use Rattle.rhai_machine.specs.Variables.{root_meant}
 use Rattle.rhai_machine.specs.Words.{word_meant}
-use Rattle.rhai_machine.specs.declared.parts.Access.TheVariants as reached
+use Rattle.rhai_machine.specs.declared.steps.parts.Access.TheVariants as reached
 use Rattle.rhai_machine.specs.Chaining.{names_meant}
 use Rattle.rhai_machine.specs.Placing.{current_in}
 use Rattle.rhai_machine.specs.State.{store_of}
@@ -58,7 +58,7 @@ use Rattle.rhai_machine.proofs.Rounds.{loop_start}
 use Rattle.rhai_machine.proofs.Loops.{round_runs, round_turns, endless_stops, endless_ends, endless_next, while_stops, while_stuck, while_over, while_leaves, while_ends, while_next, loop_always, loop_when, do_stops, do_ends, do_guard_stops, do_guard_stuck, do_over, do_next}
 use Rattle.rhai_machine.proofs.Maps.{map_runs, map_stops, members_start, members_stop, members_next, members_end}
 use Rattle.rhai_machine.proofs.Methods.{back_runs, back_stops, call_stops as method_call_stops, found_fits, found_runs, missing_asks, word_given, word_passed, word_stopped}
-use Rattle.rhai_machine.proofs.Steps.{applied_stops, chain_runs, member_stuck, method_given, method_reached, method_stops, method_stuck, reach_gone, reach_runs, steps_end, steps_more, steps_stop, steps_unit}
+use Rattle.rhai_machine.proofs.ChainSteps.{applied_stops, chain_runs, member_stuck, method_given, method_reached, method_stops, method_stuck, reach_gone, reach_runs, steps_end, steps_more, steps_stop, steps_unit}
 use Rattle.rhai_run.proofs.plain.evaluator.Evaluator.+evaluate.Goals as goal
 use Rattle.rhai_run.proofs.plain.evaluator.Evaluator.+evaluate.Goals.{reach-else-contains-via-then-contains+else-is_unit_at, reach-else-contains-via-else-contains}
 

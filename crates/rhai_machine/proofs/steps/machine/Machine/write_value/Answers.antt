@@ -1,0 +1,20 @@
+use Rattle.std.proofs.Common.{true}
+use Rattle.std.proofs.lemmas.Result.{err_from_is_err_and}
+use Rattle.rhai_values.specs.Reading.{value_of}
+use Rattle.rhai_machine.specs.Evaluating.{setting}
+use Rattle.rhai_machine.specs.Variables.{root_meant}
+use Rattle.rhai_machine.proofs.Goes.{goes_then, stops_then}
+use Rattle.rhai_machine.proofs.Roots.{unit_value}
+use Rattle.rhai_machine.proofs.Writing.{to_place}
+use Rattle.rhai_machine.proofs.steps.machine.Machine.write_value.Goals as goal
+
+pub returns-in_err-write_place : goal.returns-in_err-write_place
+returns-in_err-write_place g c =
+    let here = setting g.H.Host.answers g.H.Host.modules c.args.self.now in
+    let p = err_from_is_err_and c.from_residual.result c.from_residual.ensures.1 in
+    rw (p.1, p.2) (stops_then here c.write_place.new.state _ (to_place here true (value_of c.args.value) c.args.state.now (root_meant c.args.root)) (rw c.new-keys.ensures at c.in_err-write_place.ensures))
+
+pub returns : goal.returns
+returns g c =
+    let here = setting g.H.Host.answers g.H.Host.modules c.args.self.now in
+    unit_value here _ c.args.state.now c.write_place.new.state (goes_then here (to_place here true (value_of c.args.value) c.args.state.now (root_meant c.args.root)) (rw c.new-keys.ensures at c.in_ok-write_place.ensures))

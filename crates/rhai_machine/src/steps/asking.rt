@@ -1,0 +1,56 @@
+//! Operators over values, and the host.
+
+ghost use Rattle.std.specs.Prelude.{◌≡◌, Some, map};
+ghost use Rattle.rhai_values.specs.Reading.{value_of};
+ghost use Rattle.rhai_base.specs.Builtin.{operator_of};
+ghost use Rattle.rhai_meaning.specs.ActForms.{ask_host};
+ghost use Rattle.rhai_meaning.specs.Calls.{operate};
+ghost use Rattle.rhai_machine.specs.Evaluating.{setting, Runs};
+ghost use Rattle.rhai_machine.specs.Runs.{Acting};
+
+use crate::steps::machine::Machine;
+use crate::steps::operators::{builtin, fault_text};
+use crate::steps::state::{Interrupt, State};
+use rhai_base::{Dynamic, ImmutableString, Seq, Token};
+use rhai_host::{Host, HostAnswer, HostCall, ask};
+
+impl<'a, H: Host> Machine<'a, H> {
+    /// An operator over values: built in, or else the host's.
+    pub fn operate(
+        &self,
+        state: &mut State,
+        op: Token,
+        args: Seq<Dynamic>,
+    ) -> Result<Dynamic, Interrupt>
+        ensures { let here = setting H.answers H.modules self.now in (o : _) → operator_of op ≡ Some o → Runs here (Acting (operate here.world o (map value_of args))) state.old result state.new }
+    {
+        match builtin(self.alloc, self.info, op, args.as_slice())? {
+            Some(Ok(value)) => Ok(value),
+            Some(Err(fault)) => Err(Interrupt::Throw(fault_text(self.alloc, fault)?)),
+            None => {
+                let name = ImmutableString::new(self.alloc, op.literal_syntax())?;
+                self.ask_host(state, name, args)
+            }
+        }
+    }
+
+    /// The call's value, as the host answers it.
+    pub fn ask_host(
+        &self,
+        state: &mut State,
+        name: ImmutableString,
+        args: Seq<Dynamic>,
+    ) -> Result<Dynamic, Interrupt>
+        ensures { Runs (setting H.answers H.modules self.now) (Acting (ask_host name (map value_of args))) state.old result state.new }
+    {
+        let call = HostCall {
+            name,
+            receiver: None,
+            args,
+        };
+        match ask(self.host, self.alloc, &mut state.calls, call)? {
+            HostAnswer::Value { value, receiver: _ } => Ok(value),
+            HostAnswer::Throw(value) => Err(Interrupt::Throw(value)),
+        }
+    }
+}

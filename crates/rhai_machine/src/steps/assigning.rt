@@ -1,0 +1,77 @@
+//! Assignments to names and to `this`, straight or by an operator.
+
+#![tactic(auto, using(rhai_reading::specs::Reading::shapes, rhai_values::specs::Reading::kinds))]
+
+ghost use Rattle.std.specs.Prelude.{◌≡◌, true, Some};
+ghost use Rattle.rhai_values.specs.Reading.{value_of};
+ghost use Rattle.rhai_base.specs.Builtin.{operator_of};
+ghost use Rattle.rhai_meaning.specs.Act.{Write};
+ghost use Rattle.rhai_machine.specs.Evaluating.{setting, Runs};
+ghost use Rattle.rhai_machine.specs.Runs.{Acting};
+ghost use Rattle.rhai_machine.specs.Variables.{root_meant};
+ghost use Rattle.rhai_meaning.specs.Calls as calls;
+ghost use Rattle.rhai_meaning.specs.Chains as chains;
+
+use crate::steps::machine::Machine;
+use crate::steps::operators::{asks_assigning, assigning_name, assigning_operator};
+use crate::steps::placing::Place;
+use crate::steps::state::{Interrupt, State};
+use crate::steps::variables::Root;
+use rhai_base::{Dynamic, OpAssignment, Seq, Token};
+use rhai_host::Host;
+
+impl<'a, H: Host> Machine<'a, H> {
+    /// Writes to a name or to `this`, which an operator reads first.
+    pub fn assign_root(
+        &self,
+        state: &mut State,
+        op: &OpAssignment,
+        root: Root,
+        value: Dynamic,
+    ) -> Result<Dynamic, Interrupt>
+        ensures { let here = setting H.answers H.modules self.now in Runs here (Acting (chains.assign_root here.world (operator_of op.now.op) (value_of value) (root_meant root.entry))) state.old result state.new }
+    {
+        match assigning_operator(op) {
+            Some(token) => {
+                let old = self.read(state, root)?;
+                let written = self.assigned(state, token, old, value)?;
+                self.write_value(state, root, written)
+            }
+            None => self.write_value(state, root, value),
+        }
+    }
+
+    /// Writes a value, which must be possible, and answers unit.
+    fn write_value(
+        &self,
+        state: &mut State,
+        root: Root,
+        value: Dynamic,
+    ) -> Result<Dynamic, Interrupt>
+        ensures { Runs (setting H.answers H.modules self.now) (Acting (Write true (root_meant root.entry) (value_of value))) state.old result state.new }
+    {
+        let keys = Seq::new(self.alloc);
+        self.write_place(state, true, &Place { root, keys }, value)?;
+        Ok(Dynamic::Unit)
+    }
+
+    /// `old op= new`: a host call of that name where the record says so, else the operator.
+    pub fn assigned(
+        &self,
+        state: &mut State,
+        op: Token,
+        old: Dynamic,
+        new: Dynamic,
+    ) -> Result<Dynamic, Interrupt>
+        ensures { let here = setting H.answers H.modules self.now in (o : _) → operator_of op ≡ Some o → Runs here (Acting (calls.assigned here.world (Some o) (value_of old) (value_of new))) state.old result state.new }
+    {
+        let asks = asks_assigning(self.alloc, self.info, op, &old, &new)?;
+        let args = Seq::from_array(self.alloc, [old, new])?;
+        if asks {
+            let name = assigning_name(self.alloc, op)?;
+            self.ask_host(state, name, args)
+        } else {
+            self.operate(state, op, args)
+        }
+    }
+}

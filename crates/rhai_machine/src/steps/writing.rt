@@ -1,0 +1,159 @@
+//! Writes to places.
+
+#![tactic(auto, using(rhai_values::specs::Reading::kinds, crate::proofs::Placing::placing))]
+
+ghost use Rattle.std.specs.Prelude.{◌≡◌, true, map, Some};
+ghost use Rattle.std.specs.Option.{option_map};
+ghost use Rattle.rhai_values.specs.Reading.{value_of};
+ghost use Rattle.rhai_values.specs.Value.{UnitV, Value, same};
+ghost use Rattle.rhai_meaning.specs.Act.{OfName, OfThis};
+ghost use Rattle.rhai_places.specs.Reading.{key_meant};
+ghost use Rattle.rhai_machine.specs.declared.steps.state.State.{State};
+ghost use Rattle.rhai_machine.specs.Evaluating.{setting};
+ghost use Rattle.rhai_machine.specs.Runs.{Acting, Leads, given};
+ghost use Rattle.rhai_machine.specs.State.{store_of};
+ghost use Rattle.rhai_machine.specs.Variables.{IsMissing};
+ghost use Rattle.rhai_meaning.specs.Places as places;
+ghost use Rattle.rhai_machine.specs.declared.steps.placing.Current.TheVariants as kind;
+ghost use Rattle.rhai_machine.specs.Placing as spec;
+
+use crate::steps::machine::Machine;
+use crate::steps::placing::{Current, Place};
+use crate::steps::state::{Interrupt, State};
+use crate::steps::variables::{Root, position};
+use rhai_base::Dynamic;
+use rhai_host::{Host, Stuck};
+use rhai_places::{Part, PlaceKey, along, replace_along};
+
+impl<'a, H: Host> Machine<'a, H> {
+    /// Puts a value at a place, and adds the last entry where it is missing. A constant stays as it is; one that must be
+    /// written is stuck.
+    pub fn write_place(
+        &self,
+        state: &mut State,
+        must: bool,
+        place: &Place,
+        value: Dynamic,
+    ) -> Result<(), Interrupt>
+        ensures { Leads (setting H.answers H.modules self.now) (Acting (places.write_place must (spec.place_meant place.now) (value_of value))) state.old result state.new (λ z. given UnitV) }
+    {
+        let keys = place.keys.as_slice();
+        match place.root {
+            Root::Name(name) => self.write_in_name(state, must, name.as_str(), keys, value),
+            Root::This => self.write_in_this(state, must, keys, value),
+        }
+    }
+
+    fn write_in_name(
+        &self,
+        state: &mut State,
+        must: bool,
+        name: &str,
+        keys: &[PlaceKey],
+        value: Dynamic,
+    ) -> Result<(), Interrupt>
+        ensures { Leads (setting H.answers H.modules self.now) (Acting (places.write_place must (record { root = OfName name.now; keys = map key_meant keys.now }) (value_of value))) state.old result state.new (λ z. given UnitV) }
+    {
+        let Some(place) = position(state.scope.as_slice(), name) else {
+            return self.write_in_constant(must, name, keys);
+        };
+        let variable = &mut state.scope[place];
+        if variable.1 {
+            return constant_end(must, &variable.2, keys);
+        }
+        if replace_along(&mut variable.2, keys, value)? {
+            Ok(())
+        } else {
+            Err(Interrupt::Stuck(Stuck::NoPlace))
+        }
+    }
+
+    /// A name that is not in scope is a constant of the record or unbound.
+    fn write_in_constant(&self, must: bool, name: &str, keys: &[PlaceKey]) -> Result<(), Interrupt>
+        ensures { let here = setting H.answers H.modules self.now in (s : State) (w : Value) → IsMissing name.now s.scope.items → Leads here (Acting (places.write_place must (record { root = OfName name.now; keys = map key_meant keys.now }) w)) s result s (λ z. given UnitV) }
+    {
+        match self.info.constant_named(name) {
+            Some(constant) => constant_end(must, constant, keys),
+            None => Err(Interrupt::Stuck(Stuck::Unbound)),
+        }
+    }
+
+    fn write_in_this(
+        &self,
+        state: &mut State,
+        must: bool,
+        keys: &[PlaceKey],
+        value: Dynamic,
+    ) -> Result<(), Interrupt>
+        ensures { Leads (setting H.answers H.modules self.now) (Acting (places.write_place must (record { root = OfThis; keys = map key_meant keys.now }) (value_of value))) state.old result state.new (λ z. given UnitV) }
+    {
+        let Some(this) = &mut state.this else {
+            return Err(Interrupt::Stuck(Stuck::UnboundThis));
+        };
+        if replace_along(this, keys, value)? {
+            Ok(())
+        } else {
+            Err(Interrupt::Stuck(Stuck::NoPlace))
+        }
+    }
+
+    /// Puts a value at a key of a place.
+    pub fn write_under(
+        &self,
+        state: &mut State,
+        place: Place,
+        key: PlaceKey,
+        value: Dynamic,
+    ) -> Result<(), Interrupt>
+        ensures { Leads (setting H.answers H.modules self.now) (Acting (places.write_place true (places.under (key_meant key) (spec.place_meant place.entry)) (value_of value))) state.old result state.new (λ z. given UnitV) }
+    {
+        let Place { root, mut keys } = place;
+        keys.push(key)?;
+        self.write_place(state, true, &Place { root, keys }, value)
+    }
+
+    /// Whether that value stands at a place.
+    fn is_standing(&self, state: &State, place: &Place, value: &Dynamic) -> bool
+        ensures { result ≡ same (spec.current_in (setting H.answers H.modules self.now) (store_of state.now) (kind.At place.now)).value (value_of value.now) }
+    {
+        match self.place_part(state, place) {
+            Part::Stored(stored) => stored.is_equal(value),
+            Part::Missing => Dynamic::Unit.is_equal(value),
+        }
+    }
+
+    /// A receiver's new value goes to its place, if any: in a constant's place an equal one changes nothing.
+    pub fn put_back(
+        &self,
+        state: &mut State,
+        current: &Current,
+        receiver: Option<Dynamic>,
+    ) -> Result<(), Interrupt>
+        ensures { let here = setting H.answers H.modules self.now in Leads here (Acting (places.put_back (spec.current_in here (store_of state.old) current.now) (option_map value_of receiver))) state.old result state.new (λ z. given UnitV) }
+    {
+        let Some(receiver) = receiver else {
+            return Ok(());
+        };
+        let Current::At(place) = current else {
+            return Ok(());
+        };
+        let differs = !self.is_standing(state, place, &receiver);
+        self.write_place(state, differs, place, receiver)
+    }
+}
+
+/// How a write in a constant ends.
+fn constant_end(must: bool, constant: &Dynamic, keys: &[PlaceKey]) -> Result<(), Interrupt>
+    ensures { result ≡ spec.constant_end must (places.along (value_of constant.now) (map key_meant keys.now)) }
+{
+    match along(constant, keys) {
+        None => Err(Interrupt::Stuck(Stuck::NoPlace)),
+        Some(_) => {
+            if must {
+                Err(Interrupt::Stuck(Stuck::WriteToConstant))
+            } else {
+                Ok(())
+            }
+        }
+    }
+}
