@@ -19,10 +19,10 @@ use Rattle.rhai_machine.specs.declared.steps.state.State.{State}
 use Rattle.rhai_machine.specs.Evaluating.{or_stuck, RunsCore, RunsDeed, RunsLine, RunsRound}
 use Rattle.rhai_machine.specs.Exits.{round_of, round_end}
 use Rattle.rhai_machine.specs.Runs.{Setting, Acting, Over, Goes, Stops, Leads, given}
-use Rattle.rhai_machine.specs.State.{TakesTurn}
+use Rattle.rhai_machine.specs.State.{GoesOn, TakesTurn}
 use Rattle.rhai_host.specs.declared.report.Stuck.TheVariants as why
 use Rattle.rhai_machine.proofs.Statements.{deed_line, ill_line}
-use Rattle.rhai_machine.proofs.Goes.{gives, goes_as, goes_then, stops_then, leads_then, turn_goes, value_goes, value_stops, if_goes, if_stops}
+use Rattle.rhai_machine.proofs.Goes.{gives, goes_as, goes_then, stops_then, leads_then, turn_goes, turn_stops, value_goes, value_stops, if_goes, if_stops}
 use Rattle.rhai_machine.proofs.Rounds.{round_leads, again_stops, again_goes, again_ends, LoopAt, loop_next, loop_ends, loop_stops}
 
 -- ---- guards
@@ -117,6 +117,43 @@ module _ (here : Setting) where
 
         pub while_next : RunsRound here p s2 (Ok None) s3 → s3.turns < s2.turns → LoopAt here (guarded_round e p) s s3
         while_next r lt = loop_next here (guarded_round e p) s s1 s3 k (goes_then here to_round r) (omega (arith, lt, q.turns))
+
+  -- the turn after the guard
+
+  went : (c b : Bool) (s s1 : State) → GoesOn c s (Ok b) s1 → b ≡ true → (c ≡ true) × TakesTurn s (Ok (tt {0})) s1
+  went true b s s1 g h = (refl, g.1)
+  went false b s s1 g h = absurd (let z : true ≡ false = sym h ∙ g.0 in cc)
+
+  stayed : (c b : Bool) (s s1 : State) → GoesOn c s (Ok b) s1 → b ≡ false → (c ≡ false) × (s1 ≡ s)
+  stayed true b s s1 g h = absurd (let z : true ≡ false = sym g.0 ∙ h in cc)
+  stayed false b s s1 g h = (refl, g.1)
+
+  late : (c : Bool) (s s1 : State) (x : Interrupt) → GoesOn c s (Err x) s1 → (c ≡ true) × TakesTurn s (Err x) s1
+  late true s s1 x g = (refl, g)
+  late false s s1 x g = absurd g
+
+  module _ (e : core.Expr) (p : Acts) (s s1 s2 : State) (k : LoopAt here (guarded_round e p) s s1) (v : Dynamic) (q : RunsCore here e s1 (Ok v) s2) (c : Bool) (t : Ok c ≡ or_stuck (truth (value_of v))) (s3 : State) where
+    pub guard_late : (x : Interrupt) → GoesOn c s2 (Err x) s3 → Stops here (Acting (Loop (guarded_round e p))) s x s3
+    guard_late x g = let l = late c s2 s3 x g in
+        while_leaves e p s s1 s2 k v q s3 c t l.0 x (turn_stops here (Then (Scoped p) (λ y. end_round y)) s2 s3 x l.1)
+
+    module _ (b : Bool) (g : GoesOn c s2 (Ok b) s3) where
+      pub guard_over : b ≡ false → Goes here (Acting (Loop (guarded_round e p))) s (given (value_of value.Unit)) s3
+      guard_over h = let l = stayed c b s2 s3 g h in
+          subst (λ x. Goes here (Acting (Loop (guarded_round e p))) s (given (value_of value.Unit)) x) (sym l.1) (while_over e p s s1 s2 k v q c t l.0)
+
+      module _ (s4 : State) (r : Result Dynamic Interrupt) (h : b ≡ true) (a : Leads here (Acting (Scoped p)) s3 r s4 (λ w. given UnitV)) where
+        guard_round : (o : Result (Option Dynamic) Interrupt) → o ≡ round_of r → RunsRound here p s2 o s4
+        guard_round o f = round_runs p s2 s3 s4 (tt {0}) r (went c b s2 s3 g h).1 a o f
+
+        pub guard_leaves : (x : Interrupt) → Err x ≡ round_of r → Stops here (Acting (Loop (guarded_round e p))) s x s4
+        guard_leaves x f = while_leaves e p s s1 s2 k v q s4 c t (went c b s2 s3 g h).0 x (guard_round (Err x) f)
+
+        pub guard_ends : (w : Dynamic) → Ok (Some w) ≡ round_of r → Goes here (Acting (Loop (guarded_round e p))) s (given (value_of w)) s4
+        guard_ends w f = while_ends e p s s1 s2 k v q s4 c t (went c b s2 s3 g h).0 w (guard_round (Ok (Some w)) f)
+
+        pub guard_next : Ok None ≡ round_of r → LoopAt here (guarded_round e p) s s4
+        guard_next f = while_next e p s s1 s2 k v q s4 c t (went c b s2 s3 g h).0 (guard_round (Ok None) f) (round_turns p s2 s3 s4 (tt {0}) r (Ok None) (went c b s2 s3 g h).1 a f)
 
   -- by the guard as it is written
   module _ (e : tree.Expr) (x : core.Expr) (ss : core.Stmts) (s s1 : State) (r : Result Dynamic Interrupt) where

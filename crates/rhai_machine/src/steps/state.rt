@@ -4,7 +4,7 @@ ghost use Rattle.std.specs.Prelude.{◌≡◌, map, IfOk, OnOk, ◌∷◌, None,
 ghost use Rattle.rhai_meaning.specs.Run.{bind, seen};
 ghost use Rattle.rhai_values.specs.Reading.{value_of};
 ghost use Rattle.rhai_machine.specs.declared.steps.state.Interrupt.TheVariants.{NoMemory};
-ghost use Rattle.rhai_machine.specs.State.{store_of, TakesTurn};
+ghost use Rattle.rhai_machine.specs.State.{store_of, GoesOn, TakesTurn};
 ghost use Rattle.rhai_host.specs.Entries.{entry_meant, scope_meant, start_scope, variable_meant};
 
 use rhai_base::{Dynamic, ImmutableString, OutOfMemory, Scope, Seq};
@@ -90,6 +90,17 @@ impl State {
         };
         self.turns = left;
         Ok(())
+    }
+
+    /// Takes the turn of a round, if its guard holds. Whether it does.
+    pub fn goes_on(&mut self, holds: bool) -> Result<bool, Interrupt>
+        ensures { GoesOn holds self.old result self.new }
+    {
+        if !holds {
+            return Ok(false);
+        }
+        self.take_turn()?;
+        Ok(true)
     }
 
     /// Adds a name.

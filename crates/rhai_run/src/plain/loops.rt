@@ -60,11 +60,12 @@ impl<'a, H: Host> Evaluator<'a, H> {
     ) -> Result<Dynamic, Interrupt>
         ensures { RunsDeed (setting H.answers H.modules self.now.machine) (While (When (core_expr self.now.in_loop (expr_of guard.now))) (core_stmts true (stmts_of body.now.block))) state.old result state.new }
     {
+        let inside = self.inside_loop();
         loop {
-            if !truth(self.expr(state, guard)?)? {
+            if !state.goes_on(truth(self.expr(state, guard)?)?)? {
                 return Ok(Dynamic::Unit);
             }
-            if let Some(value) = self.round(state, body)? {
+            if let Some(value) = round_ended(inside.block(state, body))? {
                 return Ok(value);
             }
         }

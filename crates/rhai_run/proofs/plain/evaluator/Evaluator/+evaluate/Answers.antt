@@ -55,7 +55,7 @@ use Rattle.rhai_machine.proofs.Statements.{stmts_start, stmts_next, stmts_stop, 
 use Rattle.rhai_machine.proofs.Switches.{arm_false, arm_leaves, arm_missing, arm_past, arm_stops, arm_stuck, arm_there, arm_true, arms_default, arms_end, arms_stop, default_missing, default_runs, places_end, places_ends, no_range, places_next, places_stops, range_at, ranges_end, ranges_ends, ranges_next, ranges_stops}
 use Rattle.rhai_machine.proofs.Weights.{arm_weight, arms_weight, expr_item, level, level_falls, member_item, stmt_item}
 use Rattle.rhai_machine.proofs.Rounds.{loop_start}
-use Rattle.rhai_machine.proofs.Loops.{round_runs, round_turns, endless_stops, endless_ends, endless_next, while_stops, while_stuck, while_over, while_leaves, while_ends, while_next, loop_always, loop_when, do_stops, do_ends, do_guard_stops, do_guard_stuck, do_over, do_next}
+use Rattle.rhai_machine.proofs.Loops.{round_runs, round_turns, endless_stops, endless_ends, endless_next, while_stops, while_stuck, guard_late, guard_over, guard_leaves, guard_ends, guard_next, loop_always, loop_when, do_stops, do_ends, do_guard_stops, do_guard_stuck, do_over, do_next}
 use Rattle.rhai_machine.proofs.Maps.{map_runs, map_stops, members_start, members_stop, members_next, members_end}
 use Rattle.rhai_machine.proofs.Methods.{back_runs, back_stops, call_stops as method_call_stops, found_fits, found_runs, missing_asks, word_given, word_passed, word_stopped}
 use Rattle.rhai_machine.proofs.ChainSteps.{applied_stops, chain_runs, member_stuck, method_given, method_reached, method_stops, method_stuck, reach_gone, reach_runs, steps_end, steps_more, steps_stop, steps_unit}
@@ -207,18 +207,22 @@ pub guarded-returns-in_err-truth : goal.guarded-returns-in_err-truth
 guarded-returns-in_err-truth g t c = let p = err_from_is_err_and c.from_residual-in_err-truth.result c.from_residual-in_err-truth.ensures.1 in
     rw (p.1, p.2) (while_stuck (setting g.H.Host.answers g.H.Host.modules c.args.self.now.machine) (core_expr c.args.self.now.in_loop (expr_of c.args.guard.now)) (body_of (setting g.H.Host.answers g.H.Host.modules c.args.self.now.machine) (stmts_of c.args.body.now.block)) c.args.state.now c.loop-state.state c.expr.new.state c.loop-state.invariant c.in_ok-expr.field-0 c.in_ok-expr.ensures _ (rw c.in_err-truth.was at c.truth.ensures))
 
+pub guarded-returns-in_err-goes_on : goal.guarded-returns-in_err-goes_on
+guarded-returns-in_err-goes_on g t c = let p = err_from_is_err_and c.from_residual-in_err-goes_on.result c.from_residual-in_err-goes_on.ensures.1 in
+    rw (p.1, p.2) (guard_late (setting g.H.Host.answers g.H.Host.modules c.args.self.now.machine) (core_expr c.args.self.now.in_loop (expr_of c.args.guard.now)) (body_of (setting g.H.Host.answers g.H.Host.modules c.args.self.now.machine) (stmts_of c.args.body.now.block)) c.args.state.now c.loop-state.state c.expr.new.state c.loop-state.invariant c.in_ok-expr.field-0 c.in_ok-expr.ensures c.in_ok-truth.field-0 (rw c.in_ok-truth.was at c.truth.ensures) c.goes_on.new.self _ c.in_err-goes_on.ensures)
+
 pub guarded-returns-then-not-branch : goal.guarded-returns-then-not-branch
-guarded-returns-then-not-branch g t c = while_over (setting g.H.Host.answers g.H.Host.modules c.args.self.now.machine) (core_expr c.args.self.now.in_loop (expr_of c.args.guard.now)) (body_of (setting g.H.Host.answers g.H.Host.modules c.args.self.now.machine) (stmts_of c.args.body.now.block)) c.args.state.now c.loop-state.state c.expr.new.state c.loop-state.invariant c.in_ok-expr.field-0 c.in_ok-expr.ensures c.in_ok-truth.field-0 (rw c.in_ok-truth.was at c.truth.ensures) c.if-not-branch.true
+guarded-returns-then-not-branch g t c = guard_over (setting g.H.Host.answers g.H.Host.modules c.args.self.now.machine) (core_expr c.args.self.now.in_loop (expr_of c.args.guard.now)) (body_of (setting g.H.Host.answers g.H.Host.modules c.args.self.now.machine) (stmts_of c.args.body.now.block)) c.args.state.now c.loop-state.state c.expr.new.state c.loop-state.invariant c.in_ok-expr.field-0 c.in_ok-expr.ensures c.in_ok-truth.field-0 (rw c.in_ok-truth.was at c.truth.ensures) c.goes_on.new.self c.in_ok-goes_on.field-0 c.in_ok-goes_on.ensures c.if-not-branch.true
 
 pub guarded-returns-in_err-value : goal.guarded-returns-in_err-value
 guarded-returns-in_err-value g t c = let p = err_from_is_err_and c.from_residual-in_err-value.result c.from_residual-in_err-value.ensures.1 in
-    rw (p.1, p.2) (while_leaves (setting g.H.Host.answers g.H.Host.modules c.args.self.now.machine) (core_expr c.args.self.now.in_loop (expr_of c.args.guard.now)) (body_of (setting g.H.Host.answers g.H.Host.modules c.args.self.now.machine) (stmts_of c.args.body.now.block)) c.args.state.now c.loop-state.state c.expr.new.state c.loop-state.invariant c.in_ok-expr.field-0 c.in_ok-expr.ensures c.round.new.state c.in_ok-truth.field-0 (rw c.in_ok-truth.was at c.truth.ensures) c.if-not-branch.false _ c.in_err-value.ensures.round)
+    rw (p.1, p.2) (guard_leaves (setting g.H.Host.answers g.H.Host.modules c.args.self.now.machine) (core_expr c.args.self.now.in_loop (expr_of c.args.guard.now)) (body_of (setting g.H.Host.answers g.H.Host.modules c.args.self.now.machine) (stmts_of c.args.body.now.block)) c.args.state.now c.loop-state.state c.expr.new.state c.loop-state.invariant c.in_ok-expr.field-0 c.in_ok-expr.ensures c.in_ok-truth.field-0 (rw c.in_ok-truth.was at c.truth.ensures) c.goes_on.new.self c.in_ok-goes_on.field-0 c.in_ok-goes_on.ensures c.block.new.state c.block.result c.if-not-branch.false ((rw c.inside_loop-inside.ensures at c.block.ensures) false) _ c.in_err-value.ensures)
 
 pub guarded-returns-in-Some : goal.guarded-returns-in-Some
-guarded-returns-in-Some g t c = while_ends (setting g.H.Host.answers g.H.Host.modules c.args.self.now.machine) (core_expr c.args.self.now.in_loop (expr_of c.args.guard.now)) (body_of (setting g.H.Host.answers g.H.Host.modules c.args.self.now.machine) (stmts_of c.args.body.now.block)) c.args.state.now c.loop-state.state c.expr.new.state c.loop-state.invariant c.in_ok-expr.field-0 c.in_ok-expr.ensures c.round.new.state c.in_ok-truth.field-0 (rw c.in_ok-truth.was at c.truth.ensures) c.if-not-branch.false c.in-Some.value (rw c.in-Some.is at c.in_ok-value.ensures.round)
+guarded-returns-in-Some g t c = guard_ends (setting g.H.Host.answers g.H.Host.modules c.args.self.now.machine) (core_expr c.args.self.now.in_loop (expr_of c.args.guard.now)) (body_of (setting g.H.Host.answers g.H.Host.modules c.args.self.now.machine) (stmts_of c.args.body.now.block)) c.args.state.now c.loop-state.state c.expr.new.state c.loop-state.invariant c.in_ok-expr.field-0 c.in_ok-expr.ensures c.in_ok-truth.field-0 (rw c.in_ok-truth.was at c.truth.ensures) c.goes_on.new.self c.in_ok-goes_on.field-0 c.in_ok-goes_on.ensures c.block.new.state c.block.result c.if-not-branch.false ((rw c.inside_loop-inside.ensures at c.block.ensures) false) c.in-Some.value (rw c.in-Some.is at c.in_ok-value.ensures)
 
 pub guarded-loop-state-preserved : goal.guarded-loop-state-preserved
-guarded-loop-state-preserved g t c = while_next (setting g.H.Host.answers g.H.Host.modules c.args.self.now.machine) (core_expr c.args.self.now.in_loop (expr_of c.args.guard.now)) (body_of (setting g.H.Host.answers g.H.Host.modules c.args.self.now.machine) (stmts_of c.args.body.now.block)) c.args.state.now c.loop-state.state c.expr.new.state c.loop-state.invariant c.in_ok-expr.field-0 c.in_ok-expr.ensures c.round.new.state c.in_ok-truth.field-0 (rw c.in_ok-truth.was at c.truth.ensures) c.if-not-branch.false (rw c.in_default.is at c.in_ok-value.ensures.round) c.in_ok-value.ensures.turns
+guarded-loop-state-preserved g t c = guard_next (setting g.H.Host.answers g.H.Host.modules c.args.self.now.machine) (core_expr c.args.self.now.in_loop (expr_of c.args.guard.now)) (body_of (setting g.H.Host.answers g.H.Host.modules c.args.self.now.machine) (stmts_of c.args.body.now.block)) c.args.state.now c.loop-state.state c.expr.new.state c.loop-state.invariant c.in_ok-expr.field-0 c.in_ok-expr.ensures c.in_ok-truth.field-0 (rw c.in_ok-truth.was at c.truth.ensures) c.goes_on.new.self c.in_ok-goes_on.field-0 c.in_ok-goes_on.ensures c.block.new.state c.block.result c.if-not-branch.false ((rw c.inside_loop-inside.ensures at c.block.ensures) false) (rw c.in_default.is at c.in_ok-value.ensures)
 
 pub while_loop-returns-then-is_unit : goal.while_loop-returns-then-is_unit
 while_loop-returns-then-is_unit g t c = loop_always (setting g.H.Host.answers g.H.Host.modules c.args.self.now.machine) (expr_of c.args.flow.now.expr) (core_expr c.args.self.now.in_loop (expr_of c.args.flow.now.expr)) (core_stmts true (stmts_of c.args.flow.now.body.block)) c.args.state.now c.endless.new.state c.endless.result (sym c.is_unit.ensures ∙ c.if-is_unit.true) c.endless.ensures
@@ -604,8 +608,8 @@ invoke-returns-in_err-function_ended g t c =
 pub invoke-statements-ended-requires : goal.invoke-statements-ended-requires
 invoke-statements-ended-requires g t c =
     let same = c.in-Some.ensures.0 in
-    let lighter : level c.in-Some.inside.depth (bodies_weight (functions_of c.in-Some.inside.functions.now)) + 9 * weight (stmts_of c.statements.result.now) + 20 ≤ level c.args.self.now.depth (bodies_weight (functions_of c.args.self.now.machine.functions.now)) =
-    rw (ap (λ e. e.depth) same, ap (λ e. e.functions) same, c.statements.ensures) (level_falls c.args.self.now.depth c.take_turn.new.self.turns (bodies_weight (functions_of c.args.self.now.machine.functions.now)) (weight (stmts_of c.args.function.now.body.block)) c.in-Some.ensures.1 c.requires) in
+    let lighter : level c.in-Some.inside.depth (bodies_weight (functions_of c.in-Some.inside.machine.functions.now)) + 9 * weight (stmts_of c.statements.result.now) + 20 ≤ level c.args.self.now.depth (bodies_weight (functions_of c.args.self.now.machine.functions.now)) =
+    rw (ap (λ e. e.depth) same, ap (λ e. e.machine.functions) same, c.statements.ensures) (level_falls c.args.self.now.depth c.take_turn.new.self.turns (bodies_weight (functions_of c.args.self.now.machine.functions.now)) (weight (stmts_of c.args.function.now.body.block)) c.in-Some.ensures.1 c.requires) in
     search rules
 
 -- chains
