@@ -62,7 +62,8 @@ impl<'a, H: Host> Evaluator<'a, H> {
     {
         let inside = self.inside_loop();
         loop {
-            if !state.goes_on(truth(self.expr(state, guard)?)?)? {
+            let holds = truth(self.expr(state, guard)?)?;
+            if !state.goes_on(holds)? {
                 return Ok(Dynamic::Unit);
             }
             if let Some(value) = round_ended(inside.block(state, body))? {

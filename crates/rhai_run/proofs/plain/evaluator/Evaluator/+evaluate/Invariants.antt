@@ -200,14 +200,14 @@ decreases-changed_method g l = level l.self.now.depth (bodies_weight (functions_
 
 -- the loops
 abbrev pub invariant-first_arm-loop-place : goal.invariant-first_arm-loop-place
-invariant-first_arm-loop-place g l = PlacesAt (setting g.H.Host.answers g.H.Host.modules l.self) l.self.in_loop l.arms l.places (drop l.place-index l.places) l.initial.state l.state
+invariant-first_arm-loop-place g l = PlacesAt (setting g.H.Host.answers g.H.Host.modules l.self.machine) l.self.in_loop l.arms l.places (drop l.place-index l.places) l.initial.state l.state
 
 abbrev pub invariant-first_range-loop-range : goal.invariant-first_range-loop-range
-invariant-first_range-loop-range g l = RangesAt (setting g.H.Host.answers g.H.Host.modules l.self) l.self.in_loop l.arms (value_of l.subject) (map range_of l.ranges) (map range_of (drop l.range-index l.ranges)) l.initial.state l.state
+invariant-first_range-loop-range g l = RangesAt (setting g.H.Host.answers g.H.Host.modules l.self.machine) l.self.in_loop l.arms (value_of l.subject) (map range_of l.ranges) (map range_of (drop l.range-index l.ranges)) l.initial.state l.state
 
 abbrev pub invariant-for_each-loop-item : goal.invariant-for_each-loop-item
 invariant-for_each-loop-item g l =
-    let here = setting g.H.Host.answers g.H.Host.modules l.self in
+    let here = setting g.H.Host.answers g.H.Host.modules l.self.machine in
     EachAt here l.parts.0.name (counter_of l.parts.1) (body_of here (stmts_of l.parts.2.body.block)) l.fn.items l.rest l.count l.initial.state l.state
 
 abbrev pub decreases-for_each-loop-item : goal.decreases-for_each-loop-item
@@ -215,41 +215,41 @@ decreases-for_each-loop-item g l = length l.rest
 
 abbrev pub invariant-for_count-loop-index : goal.invariant-for_count-loop-index
 invariant-for_count-loop-index g l =
-    let here = setting g.H.Host.answers g.H.Host.modules l.self in
+    let here = setting g.H.Host.answers g.H.Host.modules l.self.machine in
     CountAt here l.parts.0.name (counter_of l.parts.1) (body_of here (stmts_of l.parts.2.body.block)) l.first l.rounds l.index l.count l.initial.state l.state
 
 abbrev pub invariant-exprs-loop-expr : goal.invariant-exprs-loop-expr
-invariant-exprs-loop-expr g l = ArgsAt (setting g.H.Host.answers g.H.Host.modules l.self) l.self.in_loop l.exprs (drop l.expr-index l.exprs) l.initial.state l.values l.state
+invariant-exprs-loop-expr g l = ArgsAt (setting g.H.Host.answers g.H.Host.modules l.self.machine) l.self.in_loop l.exprs (drop l.expr-index l.exprs) l.initial.state l.values l.state
 
 abbrev pub invariant-members-loop-member : goal.invariant-members-loop-member
-invariant-members-loop-member g l = MembersAt (setting g.H.Host.answers g.H.Host.modules l.self) l.self.in_loop l.members (drop l.member-index l.members) l.initial.state l.map l.state
+invariant-members-loop-member g l = MembersAt (setting g.H.Host.answers g.H.Host.modules l.self.machine) l.self.in_loop l.members (drop l.member-index l.members) l.initial.state l.map l.state
 
 abbrev pub invariant-both-loop-operand : goal.invariant-both-loop-operand
-invariant-both-loop-operand g l = OperandsAt (setting g.H.Host.answers g.H.Host.modules l.self) l.self.in_loop (both_of (setting g.H.Host.answers g.H.Host.modules l.self) l.self.in_loop) l.operands (drop l.operand-index l.operands) l.initial.state l.state
+invariant-both-loop-operand g l = OperandsAt (setting g.H.Host.answers g.H.Host.modules l.self.machine) l.self.in_loop (both_of (setting g.H.Host.answers g.H.Host.modules l.self.machine) l.self.in_loop) l.operands (drop l.operand-index l.operands) l.initial.state l.state
 
 abbrev pub invariant-either-loop-operand : goal.invariant-either-loop-operand
-invariant-either-loop-operand g l = OperandsAt (setting g.H.Host.answers g.H.Host.modules l.self) l.self.in_loop (either_of (setting g.H.Host.answers g.H.Host.modules l.self) l.self.in_loop) l.operands (drop l.operand-index l.operands) l.initial.state l.state
+invariant-either-loop-operand g l = OperandsAt (setting g.H.Host.answers g.H.Host.modules l.self.machine) l.self.in_loop (either_of (setting g.H.Host.answers g.H.Host.modules l.self.machine) l.self.in_loop) l.operands (drop l.operand-index l.operands) l.initial.state l.state
 
 abbrev pub invariant-first_some-loop-operand : goal.invariant-first_some-loop-operand
-invariant-first_some-loop-operand g l = OperandsAt (setting g.H.Host.answers g.H.Host.modules l.self) l.self.in_loop (first_of (setting g.H.Host.answers g.H.Host.modules l.self) l.self.in_loop) l.operands (drop l.operand-index l.operands) l.initial.state l.state
+invariant-first_some-loop-operand g l = OperandsAt (setting g.H.Host.answers g.H.Host.modules l.self.machine) l.self.in_loop (first_of (setting g.H.Host.answers g.H.Host.modules l.self.machine) l.self.in_loop) l.operands (drop l.operand-index l.operands) l.initial.state l.state
 
 abbrev pub invariant-statements-loop-statement : goal.invariant-statements-loop-statement
-invariant-statements-loop-statement g l = StmtsAt (setting g.H.Host.answers g.H.Host.modules l.self) l.self.in_loop l.statements (drop l.statement-index l.statements) l.initial.state l.value l.state
+invariant-statements-loop-statement g l = StmtsAt (setting g.H.Host.answers g.H.Host.modules l.self.machine) l.self.in_loop l.statements (drop l.statement-index l.statements) l.initial.state l.value l.state
 
 abbrev pub invariant-endless-loop-value : goal.invariant-endless-loop-value
-invariant-endless-loop-value g l = let here = setting g.H.Host.answers g.H.Host.modules l.self in LoopAt here (round (body_of here (stmts_of l.body.block))) l.initial.state l.state
+invariant-endless-loop-value g l = let here = setting g.H.Host.answers g.H.Host.modules l.self.machine in LoopAt here (round (body_of here (stmts_of l.body.block))) l.initial.state l.state
 
 abbrev pub decreases-endless-loop-value : goal.decreases-endless-loop-value
 decreases-endless-loop-value g l = l.state.turns
 
 abbrev pub invariant-guarded-loop-state : goal.invariant-guarded-loop-state
-invariant-guarded-loop-state g l = let here = setting g.H.Host.answers g.H.Host.modules l.self in LoopAt here (guarded_round here (core_expr l.self.in_loop (expr_of l.guard)) (body_of here (stmts_of l.body.block))) l.initial.state l.state
+invariant-guarded-loop-state g l = let here = setting g.H.Host.answers g.H.Host.modules l.self.machine in LoopAt here (guarded_round here (core_expr l.self.in_loop (expr_of l.guard)) (body_of here (stmts_of l.body.block))) l.initial.state l.state
 
 abbrev pub decreases-guarded-loop-state : goal.decreases-guarded-loop-state
 decreases-guarded-loop-state g l = l.state.turns
 
 abbrev pub invariant-repeated-loop-value : goal.invariant-repeated-loop-value
-invariant-repeated-loop-value g l = let here = setting g.H.Host.answers g.H.Host.modules l.self in LoopAt here (do_round here l.until (core_expr l.self.in_loop (expr_of l.flow.expr)) (body_of here (stmts_of l.flow.body.block))) l.initial.state l.state
+invariant-repeated-loop-value g l = let here = setting g.H.Host.answers g.H.Host.modules l.self.machine in LoopAt here (do_round here l.until (core_expr l.self.in_loop (expr_of l.flow.expr)) (body_of here (stmts_of l.flow.body.block))) l.initial.state l.state
 
 abbrev pub decreases-repeated-loop-value : goal.decreases-repeated-loop-value
 decreases-repeated-loop-value g l = l.state.turns
