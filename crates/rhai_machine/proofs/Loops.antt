@@ -152,6 +152,9 @@ module _ (here : Setting) where
         pub guard_ends : (w : Dynamic) → Ok (Some w) ≡ round_of r → Goes here (Acting (Loop (guarded_round e p))) s (given (value_of w)) s4
         guard_ends w f = while_ends e p s s1 s2 k v q s4 c t (went c b s2 s3 g h).0 w (guard_round (Ok (Some w)) f)
 
+        pub guard_falls : Ok None ≡ round_of r → s4.turns < s1.turns
+        guard_falls f = omega (arith, round_turns p s2 s3 s4 (tt {0}) r (Ok None) (went c b s2 s3 g h).1 a f, q.turns)
+
         pub guard_next : Ok None ≡ round_of r → LoopAt here (guarded_round e p) s s4
         guard_next f = while_next e p s s1 s2 k v q s4 c t (went c b s2 s3 g h).0 (guard_round (Ok None) f) (round_turns p s2 s3 s4 (tt {0}) r (Ok None) (went c b s2 s3 g h).1 a f)
 

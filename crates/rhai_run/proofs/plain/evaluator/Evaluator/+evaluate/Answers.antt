@@ -55,7 +55,7 @@ use Rattle.rhai_machine.proofs.Statements.{stmts_start, stmts_next, stmts_stop, 
 use Rattle.rhai_machine.proofs.Switches.{arm_false, arm_leaves, arm_missing, arm_past, arm_stops, arm_stuck, arm_there, arm_true, arms_default, arms_end, arms_stop, default_missing, default_runs, places_end, places_ends, no_range, places_next, places_stops, range_at, ranges_end, ranges_ends, ranges_next, ranges_stops}
 use Rattle.rhai_machine.proofs.Weights.{arm_weight, arms_weight, expr_item, level, level_falls, member_item, stmt_item}
 use Rattle.rhai_machine.proofs.Rounds.{loop_start}
-use Rattle.rhai_machine.proofs.Loops.{round_runs, round_turns, endless_stops, endless_ends, endless_next, while_stops, while_stuck, guard_late, guard_over, guard_leaves, guard_ends, guard_next, loop_always, loop_when, do_stops, do_ends, do_guard_stops, do_guard_stuck, do_over, do_next}
+use Rattle.rhai_machine.proofs.Loops.{round_runs, round_turns, endless_stops, endless_ends, endless_next, while_stops, while_stuck, guard_late, guard_over, guard_leaves, guard_ends, guard_falls, guard_next, loop_always, loop_when, do_stops, do_ends, do_guard_stops, do_guard_stuck, do_over, do_next}
 use Rattle.rhai_machine.proofs.Maps.{map_runs, map_stops, members_start, members_stop, members_next, members_end}
 use Rattle.rhai_machine.proofs.Methods.{back_runs, back_stops, call_stops as method_call_stops, found_fits, found_runs, missing_asks, word_given, word_passed, word_stopped}
 use Rattle.rhai_machine.proofs.ChainSteps.{applied_stops, chain_runs, member_stuck, method_given, method_reached, method_stops, method_stuck, reach_gone, reach_runs, steps_end, steps_more, steps_stop, steps_unit}
@@ -169,8 +169,8 @@ members-returns g t c = members_end _ _ _ _ _ _ _ (omega arith) c.loop-member.in
 pub endless-loop-value-init : goal.endless-loop-value-init
 endless-loop-value-init g t c = loop_start _ _ _
 
-pub guarded-loop-state-init : goal.guarded-loop-state-init
-guarded-loop-state-init g t c = loop_start _ _ _
+pub guarded-loop-holds-init : goal.guarded-loop-holds-init
+guarded-loop-holds-init g t c = loop_start _ _ _
 
 pub first_some-loop-operand-preserved : goal.first_some-loop-operand-preserved
 first_some-loop-operand-preserved g t c = first_next _ _ _ _ _ _ _ _ c.loop-operand-test.true c.operand-item.is c.loop-operand.invariant _ c.in_ok-expr.ensures (rw c.in_default.is at c.some_value.ensures)
@@ -201,28 +201,31 @@ endless-loop-value-preserved g t c = endless_next (setting g.H.Host.answers g.H.
 
 pub guarded-returns-in_err-expr : goal.guarded-returns-in_err-expr
 guarded-returns-in_err-expr g t c = let p = err_from_is_err_and c.from_residual.result c.from_residual.ensures.1 in
-    rw (p.1, p.2) (while_stops (setting g.H.Host.answers g.H.Host.modules c.args.self.now.machine) (core_expr c.args.self.now.in_loop (expr_of c.args.guard.now)) (body_of (setting g.H.Host.answers g.H.Host.modules c.args.self.now.machine) (stmts_of c.args.body.now.block)) c.args.state.now c.loop-state.state c.expr.new.state c.loop-state.invariant _ c.in_err-expr.ensures)
+    rw (p.1, p.2) (while_stops (setting g.H.Host.answers g.H.Host.modules c.args.self.now.machine) (core_expr c.args.self.now.in_loop (expr_of c.args.guard.now)) (body_of (setting g.H.Host.answers g.H.Host.modules c.args.self.now.machine) (stmts_of c.args.body.now.block)) c.args.state.now c.loop-holds.state c.expr.new.state c.loop-holds.invariant _ c.in_err-expr.ensures)
 
-pub guarded-returns-in_err-truth : goal.guarded-returns-in_err-truth
-guarded-returns-in_err-truth g t c = let p = err_from_is_err_and c.from_residual-in_err-truth.result c.from_residual-in_err-truth.ensures.1 in
-    rw (p.1, p.2) (while_stuck (setting g.H.Host.answers g.H.Host.modules c.args.self.now.machine) (core_expr c.args.self.now.in_loop (expr_of c.args.guard.now)) (body_of (setting g.H.Host.answers g.H.Host.modules c.args.self.now.machine) (stmts_of c.args.body.now.block)) c.args.state.now c.loop-state.state c.expr.new.state c.loop-state.invariant c.in_ok-expr.field-0 c.in_ok-expr.ensures _ (rw c.in_err-truth.was at c.truth.ensures))
+pub guarded-returns-in_err-holds : goal.guarded-returns-in_err-holds
+guarded-returns-in_err-holds g t c = let p = err_from_is_err_and c.from_residual-in_err-holds.result c.from_residual-in_err-holds.ensures.1 in
+    rw (p.1, p.2) (while_stuck (setting g.H.Host.answers g.H.Host.modules c.args.self.now.machine) (core_expr c.args.self.now.in_loop (expr_of c.args.guard.now)) (body_of (setting g.H.Host.answers g.H.Host.modules c.args.self.now.machine) (stmts_of c.args.body.now.block)) c.args.state.now c.loop-holds.state c.expr.new.state c.loop-holds.invariant c.in_ok-expr.field-0 c.in_ok-expr.ensures _ (rw c.in_err-holds.was at c.truth.ensures))
 
 pub guarded-returns-in_err-goes_on : goal.guarded-returns-in_err-goes_on
 guarded-returns-in_err-goes_on g t c = let p = err_from_is_err_and c.from_residual-in_err-goes_on.result c.from_residual-in_err-goes_on.ensures.1 in
-    rw (p.1, p.2) (guard_late (setting g.H.Host.answers g.H.Host.modules c.args.self.now.machine) (core_expr c.args.self.now.in_loop (expr_of c.args.guard.now)) (body_of (setting g.H.Host.answers g.H.Host.modules c.args.self.now.machine) (stmts_of c.args.body.now.block)) c.args.state.now c.loop-state.state c.expr.new.state c.loop-state.invariant c.in_ok-expr.field-0 c.in_ok-expr.ensures c.in_ok-truth.field-0 (rw c.in_ok-truth.was at c.truth.ensures) c.goes_on.new.self _ c.in_err-goes_on.ensures)
+    rw (p.1, p.2) (guard_late (setting g.H.Host.answers g.H.Host.modules c.args.self.now.machine) (core_expr c.args.self.now.in_loop (expr_of c.args.guard.now)) (body_of (setting g.H.Host.answers g.H.Host.modules c.args.self.now.machine) (stmts_of c.args.body.now.block)) c.args.state.now c.loop-holds.state c.expr.new.state c.loop-holds.invariant c.in_ok-expr.field-0 c.in_ok-expr.ensures c.in_ok-holds.holds (rw c.in_ok-holds.was at c.truth.ensures) c.goes_on.new.self _ c.in_err-goes_on.ensures)
 
 pub guarded-returns-then-not-branch : goal.guarded-returns-then-not-branch
-guarded-returns-then-not-branch g t c = guard_over (setting g.H.Host.answers g.H.Host.modules c.args.self.now.machine) (core_expr c.args.self.now.in_loop (expr_of c.args.guard.now)) (body_of (setting g.H.Host.answers g.H.Host.modules c.args.self.now.machine) (stmts_of c.args.body.now.block)) c.args.state.now c.loop-state.state c.expr.new.state c.loop-state.invariant c.in_ok-expr.field-0 c.in_ok-expr.ensures c.in_ok-truth.field-0 (rw c.in_ok-truth.was at c.truth.ensures) c.goes_on.new.self c.in_ok-goes_on.field-0 c.in_ok-goes_on.ensures c.if-not-branch.true
+guarded-returns-then-not-branch g t c = guard_over (setting g.H.Host.answers g.H.Host.modules c.args.self.now.machine) (core_expr c.args.self.now.in_loop (expr_of c.args.guard.now)) (body_of (setting g.H.Host.answers g.H.Host.modules c.args.self.now.machine) (stmts_of c.args.body.now.block)) c.args.state.now c.loop-holds.state c.expr.new.state c.loop-holds.invariant c.in_ok-expr.field-0 c.in_ok-expr.ensures c.in_ok-holds.holds (rw c.in_ok-holds.was at c.truth.ensures) c.goes_on.new.self c.in_ok-goes_on.field-0 c.in_ok-goes_on.ensures c.if-not-branch.true
 
 pub guarded-returns-in_err-value : goal.guarded-returns-in_err-value
 guarded-returns-in_err-value g t c = let p = err_from_is_err_and c.from_residual-in_err-value.result c.from_residual-in_err-value.ensures.1 in
-    rw (p.1, p.2) (guard_leaves (setting g.H.Host.answers g.H.Host.modules c.args.self.now.machine) (core_expr c.args.self.now.in_loop (expr_of c.args.guard.now)) (body_of (setting g.H.Host.answers g.H.Host.modules c.args.self.now.machine) (stmts_of c.args.body.now.block)) c.args.state.now c.loop-state.state c.expr.new.state c.loop-state.invariant c.in_ok-expr.field-0 c.in_ok-expr.ensures c.in_ok-truth.field-0 (rw c.in_ok-truth.was at c.truth.ensures) c.goes_on.new.self c.in_ok-goes_on.field-0 c.in_ok-goes_on.ensures c.block.new.state c.block.result c.if-not-branch.false ((rw c.inside_loop-inside.ensures at c.block.ensures) false) _ c.in_err-value.ensures)
+    rw (p.1, p.2) (guard_leaves (setting g.H.Host.answers g.H.Host.modules c.args.self.now.machine) (core_expr c.args.self.now.in_loop (expr_of c.args.guard.now)) (body_of (setting g.H.Host.answers g.H.Host.modules c.args.self.now.machine) (stmts_of c.args.body.now.block)) c.args.state.now c.loop-holds.state c.expr.new.state c.loop-holds.invariant c.in_ok-expr.field-0 c.in_ok-expr.ensures c.in_ok-holds.holds (rw c.in_ok-holds.was at c.truth.ensures) c.goes_on.new.self c.in_ok-goes_on.field-0 c.in_ok-goes_on.ensures c.block.new.state c.block.result c.if-not-branch.false ((rw c.inside_loop-inside.ensures at c.block.ensures) false) _ c.in_err-value.ensures)
 
 pub guarded-returns-in-Some : goal.guarded-returns-in-Some
-guarded-returns-in-Some g t c = guard_ends (setting g.H.Host.answers g.H.Host.modules c.args.self.now.machine) (core_expr c.args.self.now.in_loop (expr_of c.args.guard.now)) (body_of (setting g.H.Host.answers g.H.Host.modules c.args.self.now.machine) (stmts_of c.args.body.now.block)) c.args.state.now c.loop-state.state c.expr.new.state c.loop-state.invariant c.in_ok-expr.field-0 c.in_ok-expr.ensures c.in_ok-truth.field-0 (rw c.in_ok-truth.was at c.truth.ensures) c.goes_on.new.self c.in_ok-goes_on.field-0 c.in_ok-goes_on.ensures c.block.new.state c.block.result c.if-not-branch.false ((rw c.inside_loop-inside.ensures at c.block.ensures) false) c.in-Some.value (rw c.in-Some.is at c.in_ok-value.ensures)
+guarded-returns-in-Some g t c = guard_ends (setting g.H.Host.answers g.H.Host.modules c.args.self.now.machine) (core_expr c.args.self.now.in_loop (expr_of c.args.guard.now)) (body_of (setting g.H.Host.answers g.H.Host.modules c.args.self.now.machine) (stmts_of c.args.body.now.block)) c.args.state.now c.loop-holds.state c.expr.new.state c.loop-holds.invariant c.in_ok-expr.field-0 c.in_ok-expr.ensures c.in_ok-holds.holds (rw c.in_ok-holds.was at c.truth.ensures) c.goes_on.new.self c.in_ok-goes_on.field-0 c.in_ok-goes_on.ensures c.block.new.state c.block.result c.if-not-branch.false ((rw c.inside_loop-inside.ensures at c.block.ensures) false) c.in-Some.value (rw c.in-Some.is at c.in_ok-value.ensures)
 
-pub guarded-loop-state-preserved : goal.guarded-loop-state-preserved
-guarded-loop-state-preserved g t c = guard_next (setting g.H.Host.answers g.H.Host.modules c.args.self.now.machine) (core_expr c.args.self.now.in_loop (expr_of c.args.guard.now)) (body_of (setting g.H.Host.answers g.H.Host.modules c.args.self.now.machine) (stmts_of c.args.body.now.block)) c.args.state.now c.loop-state.state c.expr.new.state c.loop-state.invariant c.in_ok-expr.field-0 c.in_ok-expr.ensures c.in_ok-truth.field-0 (rw c.in_ok-truth.was at c.truth.ensures) c.goes_on.new.self c.in_ok-goes_on.field-0 c.in_ok-goes_on.ensures c.block.new.state c.block.result c.if-not-branch.false ((rw c.inside_loop-inside.ensures at c.block.ensures) false) (rw c.in_default.is at c.in_ok-value.ensures)
+pub guarded-loop-holds-preserved : goal.guarded-loop-holds-preserved
+guarded-loop-holds-preserved g t c = guard_next (setting g.H.Host.answers g.H.Host.modules c.args.self.now.machine) (core_expr c.args.self.now.in_loop (expr_of c.args.guard.now)) (body_of (setting g.H.Host.answers g.H.Host.modules c.args.self.now.machine) (stmts_of c.args.body.now.block)) c.args.state.now c.loop-holds.state c.expr.new.state c.loop-holds.invariant c.in_ok-expr.field-0 c.in_ok-expr.ensures c.in_ok-holds.holds (rw c.in_ok-holds.was at c.truth.ensures) c.goes_on.new.self c.in_ok-goes_on.field-0 c.in_ok-goes_on.ensures c.block.new.state c.block.result c.if-not-branch.false ((rw c.inside_loop-inside.ensures at c.block.ensures) false) (rw c.in_default.is at c.in_ok-value.ensures)
+
+pub guarded-loop-holds-smaller : goal.guarded-loop-holds-smaller
+guarded-loop-holds-smaller g t c = guard_falls (setting g.H.Host.answers g.H.Host.modules c.args.self.now.machine) (core_expr c.args.self.now.in_loop (expr_of c.args.guard.now)) (body_of (setting g.H.Host.answers g.H.Host.modules c.args.self.now.machine) (stmts_of c.args.body.now.block)) c.args.state.now c.loop-holds.state c.expr.new.state c.loop-holds.invariant c.in_ok-expr.field-0 c.in_ok-expr.ensures c.in_ok-holds.holds (rw c.in_ok-holds.was at c.truth.ensures) c.goes_on.new.self c.in_ok-goes_on.field-0 c.in_ok-goes_on.ensures c.block.new.state c.block.result c.if-not-branch.false ((rw c.inside_loop-inside.ensures at c.block.ensures) false) (rw c.in_default.is at c.in_ok-value.ensures)
 
 pub while_loop-returns-then-is_unit : goal.while_loop-returns-then-is_unit
 while_loop-returns-then-is_unit g t c = loop_always (setting g.H.Host.answers g.H.Host.modules c.args.self.now.machine) (expr_of c.args.flow.now.expr) (core_expr c.args.self.now.in_loop (expr_of c.args.flow.now.expr)) (core_stmts true (stmts_of c.args.flow.now.body.block)) c.args.state.now c.endless.new.state c.endless.result (sym c.is_unit.ensures ∙ c.if-is_unit.true) c.endless.ensures

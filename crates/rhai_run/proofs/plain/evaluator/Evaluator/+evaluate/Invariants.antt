@@ -242,11 +242,11 @@ invariant-endless-loop-value g l = let here = setting g.H.Host.answers g.H.Host.
 abbrev pub decreases-endless-loop-value : goal.decreases-endless-loop-value
 decreases-endless-loop-value g l = l.state.turns
 
-abbrev pub invariant-guarded-loop-state : goal.invariant-guarded-loop-state
-invariant-guarded-loop-state g l = let here = setting g.H.Host.answers g.H.Host.modules l.self.machine in LoopAt here (guarded_round here (core_expr l.self.in_loop (expr_of l.guard)) (body_of here (stmts_of l.body.block))) l.initial.state l.state
+abbrev pub invariant-guarded-loop-holds : goal.invariant-guarded-loop-holds
+invariant-guarded-loop-holds g l = let here = setting g.H.Host.answers g.H.Host.modules l.self.machine in LoopAt here (guarded_round here (core_expr l.self.in_loop (expr_of l.guard)) (body_of here (stmts_of l.body.block))) l.initial.state l.state
 
-abbrev pub decreases-guarded-loop-state : goal.decreases-guarded-loop-state
-decreases-guarded-loop-state g l = l.state.turns
+abbrev pub decreases-guarded-loop-holds : goal.decreases-guarded-loop-holds
+decreases-guarded-loop-holds g l = l.state.turns
 
 abbrev pub invariant-repeated-loop-value : goal.invariant-repeated-loop-value
 invariant-repeated-loop-value g l = let here = setting g.H.Host.answers g.H.Host.modules l.self.machine in LoopAt here (do_round here l.until (core_expr l.self.in_loop (expr_of l.flow.expr)) (body_of here (stmts_of l.flow.body.block))) l.initial.state l.state
