@@ -26,9 +26,15 @@ impl Clone for CaseBlocksList {
 }
 
 /// The cases of a `switch` by their values, in the order in which they came.
-#[derive(Drop)]
 pub struct Cases {
     map: IndexMap<Dynamic, CaseBlocksList>,
+}
+
+/// Written by hand, so that it is proved here alone.
+impl Drop for Cases {
+    fn drop(self) {
+        let Cases { map: _map } = self;
+    }
 }
 
 impl Model for Cases {
