@@ -1,11 +1,29 @@
 //! The syntax tree of scripts: its nodes, what may be asked of them, and the tests of a tree.
+//!
+//! The calls stand here with their contracts; the recursions over a tree that they are made of stand in crates below.
 #![tactic(auto)]
 
-pub use rhai_faults::{TreeFault, check_tree, is_plain};
-pub use rhai_nodes::{FromStmt, IntoExpr, Literals, SetPosition, SwitchCases, Take};
-pub use rhai_queries::{CallQueries, ExprQueries, StmtQueries};
+mod call;
+mod check;
+mod expr;
+mod literals;
+mod place;
+mod stmt;
+mod switch;
+mod walk;
+
+pub use call::CallQueries;
+pub use check::{check_tree, is_plain};
+pub use expr::ExprQueries;
+pub use literals::Literals;
+pub use place::SetPosition;
+pub use rhai_faults::TreeFault;
+pub use rhai_nodes::{FromStmt, IntoExpr, Take};
 pub use rhai_tree::{
     BinaryExpr, CaseBlocksList, Cases, Expr, FlowControl, FnAccess, FnCallExpr, FnNamespace,
     ScriptFuncDef, Stmt, StmtBlock, StmtBlockContainer, SwitchBlock, SwitchCasesCollection,
 };
-pub use rhai_walk::{ASTNode, Walk, walk_statements};
+pub use rhai_walk::{ASTNode, walk_statements};
+pub use stmt::StmtQueries;
+pub use switch::SwitchCases;
+pub use walk::Walk;

@@ -6,10 +6,9 @@ ghost use Rattle.std.specs.Prelude.{◌≡◌, ◌||◌, MatchResult, false, map
 ghost use Rattle.rhai_faults.specs.Found.{found_call, found_chain, found_expr, found_exprs, found_if_any, found_listed, found_members, found_sides, found_stmts};
 ghost use Rattle.rhai_faults.specs.Places.{around_of};
 ghost use Rattle.rhai_faults.specs.Refusals.{Finds};
-ghost use Rattle.rhai_faults.specs.Scripts.{functions_of, script_by};
+ghost use Rattle.rhai_faults.specs.Scripts.{functions_of};
 ghost use Rattle.rhai_meaning.specs.Faults as faults;
 ghost use Rattle.rhai_meaning.specs.Faults.{◌then◌, finding};
-ghost use Rattle.rhai_meaning.specs.Laws.{WellFormedLaw};
 ghost use Rattle.rhai_meaning.specs.Shape as shape;
 ghost use Rattle.rhai_meaning.specs.Walk.{arm_of_default, arms_of_cases, arms_of_ranges, listed, over_expr, over_maybe, over_stmt, whole};
 ghost use Rattle.rhai_reading.specs.Reading.{arms_of, case_of, cases_of, expr_of, expressions_of, exprs_of, keys_of, maybe_of, pairs_of, range_of, stmt_of, subject_of, table_of};
@@ -28,22 +27,8 @@ use rhai_tree::{
 use std::alloc::Global;
 use std::rc::Rc;
 
-/// The first fault of the statements, and then of the functions in order, a function's name before its body: in
-/// the order of the walk, and at one node the fault with the smallest number. Ok exactly where the tree is
-/// well-formed, if there is memory for the keys of each map literal.
-pub fn check_tree(
-    alloc: Global,
-    statements: &[Stmt],
-    functions: &[Rc<ScriptFuncDef>],
-) -> Result<(), TreeFault>
-    ensures first { Finds (faults.script_fault (script_by statements.now functions.now)) result }
-    ensures law { WellFormedLaw (script_by statements.now functions.now) }
-{
-    check_stmts(alloc, statements, false)?;
-    check_functions(alloc, functions)
-}
-
-fn check_functions(alloc: Global, functions: &[Rc<ScriptFuncDef>]) -> Result<(), TreeFault>
+/// The first fault of functions in order, a function's name before its body.
+pub fn check_functions(alloc: Global, functions: &[Rc<ScriptFuncDef>]) -> Result<(), TreeFault>
     ensures { Finds (faults.functions_fault (functions_of functions.now)) result }
 {
     for function in functions {
@@ -197,8 +182,9 @@ fn check_stmt(alloc: Global, stmt: &Stmt, in_loop: bool) -> Result<(), TreeFault
     }
 }
 
+/// The first fault of statements, in a loop or not.
 #[cycle(check)]
-fn check_stmts(alloc: Global, statements: &[Stmt], in_loop: bool) -> Result<(), TreeFault>
+pub fn check_stmts(alloc: Global, statements: &[Stmt], in_loop: bool) -> Result<(), TreeFault>
     ensures { Finds (found_stmts statements.now in_loop) result }
 {
     for stmt in statements {

@@ -1,4 +1,4 @@
-//! The tests of a tree.
+//! The tests of a tree: the recursions beneath `check_tree` and `is_plain` of `rhai_ast`.
 #![tactic(auto)]
 
 mod around;
@@ -8,8 +8,8 @@ mod map_keys;
 mod plain;
 mod shape;
 
-pub use check::check_tree;
+pub use check::{check_functions, check_stmts};
 pub use fault::TreeFault;
 pub use map_keys::test_keys;
-pub use plain::{is_barred_call, is_plain};
-pub use shape::{is_formed, is_left_side, is_rest};
+pub use plain::{are_plain, are_plain_functions, is_barred_call};
+pub use shape::{is_formed, is_rest};

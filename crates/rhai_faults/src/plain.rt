@@ -4,9 +4,8 @@
 
 ghost use Rattle.std.specs.Prelude.{◌≡◌, ◌&&◌, map, not, slice_get};
 ghost use Rattle.rhai_faults.specs.PlainArms.{is_plain_if_any, listed_are_plain, plain_walk};
-ghost use Rattle.rhai_faults.specs.Scripts.{functions_of, script_by};
+ghost use Rattle.rhai_faults.specs.Scripts.{functions_of};
 ghost use Rattle.rhai_reading.specs.Reading.{callee_of, case_of, cases_of, expr_of, expressions_of, exprs_of, maybe_of, pairs_of, range_of, stmt_of, stmts_of, subject_of, table_of};
-ghost use Rattle.rhai_meaning.specs.Plain as plain;
 ghost use Rattle.rhai_meaning.specs.Shape.{is_barred};
 ghost use Rattle.rhai_meaning.specs.Walk.{arm_of_default, arms_of_cases, arms_of_ranges, listed, over_expr, over_exprs, over_functions, over_maybe, over_pairs, over_stmt, over_stmts};
 ghost use Rattle.rhai_parts.specs.Names as names;
@@ -23,15 +22,8 @@ use std::rc::Rc;
 /// The functions that ask for what the optimiser may take away.
 const BARRED: [&str; 3] = ["eval", "is_def_var", "is_def_fn"];
 
-/// Whether no node calls `eval`, `is_def_var` or `is_def_fn` without a namespace, imports, exports or shares
-/// names, or has the flag EXPORTED.
-pub fn is_plain(statements: &[Stmt], functions: &[Rc<ScriptFuncDef>]) -> bool
-    ensures { result ≡ plain.is_plain (script_by statements.now functions.now) }
-{
-    are_plain(statements) && are_plain_functions(functions)
-}
-
-fn are_plain_functions(functions: &[Rc<ScriptFuncDef>]) -> bool
+/// Whether the nodes of functions' bodies are plain.
+pub fn are_plain_functions(functions: &[Rc<ScriptFuncDef>]) -> bool
     ensures { result ≡ over_functions plain_walk (functions_of functions.now) }
 {
     for function in functions {
@@ -150,8 +142,9 @@ fn is_plain_stmt(stmt: &Stmt) -> bool
     }
 }
 
+/// Whether all nodes of statements are plain.
 #[cycle(plain)]
-fn are_plain(statements: &[Stmt]) -> bool
+pub fn are_plain(statements: &[Stmt]) -> bool
     ensures { result ≡ over_stmts plain_walk (stmts_of statements.now) }
 {
     for stmt in statements {

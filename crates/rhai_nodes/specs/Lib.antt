@@ -2,3 +2,4 @@ pub mod Blocks
 pub mod Lent
 pub mod Placed
 pub mod Ranges
+pub mod Tables

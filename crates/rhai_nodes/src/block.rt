@@ -6,7 +6,7 @@ ghost use Rattle.std.specs.Prelude.{◌≡◌, IfOk};
 ghost use Rattle.rhai_nodes.specs.Blocks.{block_made_of, block_of_one};
 
 use rhai_base::{OutOfMemory, Position, Seq, Span};
-use rhai_queries::StmtQueries;
+use rhai_queries::stmt_position;
 use rhai_tree::{Stmt, StmtBlock};
 use std::alloc::Global;
 
@@ -34,7 +34,7 @@ impl FromStmt for StmtBlock {
 fn block_around(alloc: Global, stmt: Stmt) -> Result<StmtBlock, OutOfMemory>
     ensures { IfOk result (λ b. b ≡ block_of_one stmt) }
 {
-    let span = Span::new(stmt.position(), Position::NONE);
+    let span = Span::new(stmt_position(&stmt), Position::NONE);
     let statements = Seq::from_array(alloc, [stmt])?;
     Ok(StmtBlock::new_with_span(statements.into_vec(), span))
 }

@@ -15,11 +15,7 @@ use rhai_tree::{Expr, FnCallExpr};
 use std::alloc::Global;
 
 /// The constant for a value.
-pub(crate) fn constant_for(
-    alloc: Global,
-    value: Dynamic,
-    pos: Position,
-) -> Result<Expr, OutOfMemory>
+pub fn constant_for(alloc: Global, value: Dynamic, pos: Position) -> Result<Expr, OutOfMemory>
     ensures value { IfOk result (λ e. expr_of e ≡ constants.constant_for (value_of value)) }
     ensures round_trip { IfOk result (λ e. constants.literal_value (expr_of e) ≡ Some (value_of value)) }
     ensures position { IfOk result (λ e. position_of e ≡ pos) }

@@ -9,7 +9,8 @@ mod switch;
 mod take;
 
 pub use block::FromStmt;
-pub use literals::Literals;
-pub use place::SetPosition;
-pub use switch::SwitchCases;
+pub use constant::constant_for;
+pub use literals::{constant_value, literal_value};
+pub use place::{place_expr, place_stmt};
+pub use switch::switch_table;
 pub use take::{IntoExpr, Take};

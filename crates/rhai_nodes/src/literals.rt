@@ -2,7 +2,7 @@
 
 #![tactic(auto, using(rhai_reading::specs::Reading::shapes, rhai_values::specs::Reading::kinds, rhai_reading::proofs::ItemLists::steps, crate::proofs::LiteralLists::literals), unfolding(rhai_base::specs::Operators::binary))]
 
-ghost use Rattle.std.specs.Prelude.{◌≡◌, ◌++◌, IfOk, OnOk, Some};
+ghost use Rattle.std.specs.Prelude.{◌≡◌, ◌++◌, IfOk, OnOk};
 ghost use Rattle.std.specs.Cow.{cow_value};
 ghost use Rattle.std.specs.Option.{option_map};
 ghost use Rattle.rhai_base.specs.Builtin.{binary_at};
@@ -13,72 +13,36 @@ ghost use Rattle.std.specs.String.{string_bytes};
 ghost use Rattle.rhai_nodes.specs.Lent.{lent_value};
 ghost use Rattle.rhai_nodes.specs.Ranges.{range_made};
 ghost use Rattle.rhai_reading.specs.Reading.{callee_of, expr_of, exprs_of, pairs_of};
-ghost use Rattle.rhai_reading.specs.Positions.{AreAt, arguments_of, position_of};
 ghost use Rattle.rhai_meaning.specs.Constants as constants;
-ghost use Rattle.rhai_meaning.specs.Laws.{ConstantLaw, LiteralLaw};
 ghost use Rattle.rhai_meaning.specs.Tree.{FnCall, expr, no_exprs};
 
-use crate::constant::constant_for;
 use rhai_base::{
-    Dynamic, Fault, FnPtr, Ident, ImmutableString, OutOfMemory, Position, Seq, StringMap, Token,
+    Dynamic, Fault, FnPtr, Ident, ImmutableString, OutOfMemory, Seq, StringMap, Token,
     builtin_binary_op,
 };
-use rhai_queries::ExprQueries;
+use rhai_queries::is_constant;
 use rhai_tree::{Expr, FnCallExpr};
 use std::alloc::Global;
 use std::borrow::Cow;
 
-/// The values of literals.
-pub trait Literals: Sized {
-    /// The value of a literal: of a constant, of the call `Fn("name")` where a function may have the
-    /// name, of `..` and `..=` over integers, one of which may be left out.
-    ///
-    /// In rhai it takes the global state too, which it asks nothing.
-    fn get_literal_value(&self, alloc: Global) -> Result<Option<Dynamic>, OutOfMemory>;
-
-    /// The value of a constant, lent where the tree holds it whole. It is not in rhai.
-    fn constant_value(&self, alloc: Global) -> Result<Option<Cow<'_, Dynamic>>, OutOfMemory>;
-
-    /// The constant for a value. A pointer without values of parameters is the call `Fn("name")`.
-    fn from_dynamic(alloc: Global, value: Dynamic, pos: Position) -> Result<Self, OutOfMemory>;
-}
-
-impl Literals for Expr {
-    #[tactic(auto, using(rhai_meaning::proofs::LiteralLaws::literal_law, rhai_meaning::proofs::LiteralLaws::constant_is_literal))]
-    fn get_literal_value(&self, alloc: Global) -> Result<Option<Dynamic>, OutOfMemory>
-        ensures value { IfOk result (λ v. option_map value_of v ≡ constants.literal_value (expr_of self.now)) }
-        ensures runs { LiteralLaw (expr_of self.now) }
-        ensures of_constants { ConstantLaw (expr_of self.now) }
-    {
-        literal_value(alloc, self)
-    }
-
-    fn constant_value(&self, alloc: Global) -> Result<Option<Cow<'_, Dynamic>>, OutOfMemory>
-        ensures { IfOk result (λ v. lent_value v ≡ constants.constant_value (expr_of self.now)) }
-    {
-        if !self.is_constant() {
-            return Ok(None);
-        }
-        lend_value(alloc, self)
-    }
-
-    fn from_dynamic(alloc: Global, value: Dynamic, pos: Position) -> Result<Expr, OutOfMemory>
-        ensures value { IfOk result (λ e. expr_of e ≡ constants.constant_for (value_of value)) }
-        ensures round_trip { IfOk result (λ e. constants.literal_value (expr_of e) ≡ Some (value_of value)) }
-        ensures position { IfOk result (λ e. position_of e ≡ pos) }
-        ensures arguments { IfOk result (λ e. AreAt pos (arguments_of e)) }
-    {
-        constant_for(alloc, value, pos)
-    }
-}
-
-fn literal_value(alloc: Global, expr: &Expr) -> Result<Option<Dynamic>, OutOfMemory>
+/// The value of a literal.
+pub fn literal_value(alloc: Global, expr: &Expr) -> Result<Option<Dynamic>, OutOfMemory>
     ensures { IfOk result (λ v. option_map value_of v ≡ constants.literal_value (expr_of expr.now)) }
 {
-    match expr.constant_value(alloc)? {
+    match constant_value(alloc, expr)? {
         Some(value) => Ok(Some(owned(value)?)),
         None => call_value(alloc, expr),
     }
+}
+
+/// The value of a constant, lent where the tree holds it whole.
+pub fn constant_value(alloc: Global, expr: &Expr) -> Result<Option<Cow<'_, Dynamic>>, OutOfMemory>
+    ensures { IfOk result (λ v. lent_value v ≡ constants.constant_value (expr_of expr.now)) }
+{
+    if !is_constant(expr) {
+        return Ok(None);
+    }
+    lend_value(alloc, expr)
 }
 
 fn call_value(alloc: Global, expr: &Expr) -> Result<Option<Dynamic>, OutOfMemory>

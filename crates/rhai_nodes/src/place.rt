@@ -4,53 +4,25 @@
 
 ghost use Rattle.std.specs.Prelude.{◌≡◌, map};
 ghost use Rattle.rhai_nodes.specs.Placed.{name_placed, placed, stmt_placed};
-ghost use Rattle.rhai_reading.specs.Positions.{position_of};
-ghost use Rattle.rhai_reading.specs.Reading.{expr_of, stmt_of};
 
 use rhai_base::{Ident, Position, Seq};
 use rhai_tree::{Expr, Stmt};
 use std::num::NonZeroUsize;
 
-/// Setting where a node stands.
-pub trait SetPosition {
-    /// Sets where it stands, and answers it. It takes no memory.
-    ///
-    /// Braces begin there then, and those of an expression end nowhere; of an assignment it is the operator
-    /// that is put there, of an expression statement the expression, of shared names each.
-    fn set_position(&mut self, pos: Position) -> &mut Self;
-}
-
-impl SetPosition for Expr {
-    #[tactic(auto, using(crate::proofs::Placing::placing))]
-    fn set_position(&mut self, pos: Position) -> &mut Expr
-        ensures same { result.ghost_name ≡ self.entry.ghost_name }
-        ensures node { result.now ≡ placed pos self.old }
-        ensures reading { expr_of result.now ≡ expr_of self.old }
-        ensures position { position_of result.now ≡ pos }
-    {
-        place_expr(self, pos);
-        self
-    }
-}
-
-impl SetPosition for Stmt {
-    #[tactic(auto, using(crate::proofs::Placing::placing))]
-    fn set_position(&mut self, pos: Position) -> &mut Stmt
-        ensures same { result.ghost_name ≡ self.entry.ghost_name }
-        ensures node { result.now ≡ stmt_placed pos self.old }
-        ensures reading { stmt_of result.now ≡ stmt_of self.old }
-    {
-        let node = std::mem::replace(self, Stmt::Noop(pos));
-        *self = placed_stmt(node, pos);
-        self
-    }
-}
-
-fn place_expr(expr: &mut Expr, pos: Position)
+/// Puts an expression there, as `SetPosition` says.
+pub fn place_expr(expr: &mut Expr, pos: Position)
     ensures { expr.new ≡ placed pos expr.old }
 {
     let node = std::mem::replace(expr, Expr::Unit(pos));
     *expr = placed_expr(node, pos);
+}
+
+/// Puts a statement there, as `SetPosition` says.
+pub fn place_stmt(stmt: &mut Stmt, pos: Position)
+    ensures { stmt.new ≡ stmt_placed pos stmt.old }
+{
+    let node = std::mem::replace(stmt, Stmt::Noop(pos));
+    *stmt = placed_stmt(node, pos);
 }
 
 /// The expression, put there.

@@ -6,10 +6,9 @@ ghost use Rattle.rhai_reading.specs.Reading.{function_of, stmts_of};
 ghost use Rattle.rhai_notation.specs.Notation.{function_text, lines_text, script_text};
 ghost use Rattle.rhai_script.specs.Script.{script_of};
 
-use crate::names::push_names;
-use crate::nodes::{push_block, push_stmt};
 use rhai_ast::{ScriptFuncDef, Stmt};
 use rhai_base::OutOfMemory;
+use rhai_node_notation::{push_block, push_names, push_stmt};
 use rhai_script::AST;
 
 /// Appends statements, each on a line.

@@ -1,22 +1,18 @@
 -- All other nodes, where a match names some.
 use Rattle.std.proofs.Common.{◌≡◌, Bool, false, Option, refl}
-use Rattle.std.specs.declared.num.NonZeroU8.{NonZeroU8}
 use Rattle.std.specs.declared.num.NonZeroUsize.{NonZeroUsize}
 use Rattle.rhai_parts.specs.declared.flags.ASTFlags.{ASTFlags}
 use Rattle.rhai_parts.specs.declared.ident.Ident.{Ident}
-use Rattle.rhai_parts.specs.declared.namespace.Namespace.{Namespace}
 use Rattle.rhai_tokens.specs.declared.position.Position.{Position}
-use Rattle.rhai_tokens.specs.declared.token.Token.{Token}
-use Rattle.rhai_values.specs.Value.{Text}
 use Rattle.rhai_tree.specs.declared.block.StmtBlock.{StmtBlock}
 use Rattle.rhai_tree.specs.declared.expr.Expr as declared_expr
 use Rattle.rhai_tree.specs.declared.expr.Expr.TheVariants as expr_kind
 use Rattle.rhai_tree.specs.declared.expr.FnCallExpr.{FnCallExpr}
 use Rattle.rhai_tree.specs.declared.stmt.Stmt as declared_stmt
 use Rattle.rhai_tree.specs.declared.stmt.Stmt.TheVariants as stmt_kind
-use Rattle.rhai_meaning.specs.Queries.{is_block_dependent, is_control_flow_break, is_dependent_expr, is_internally_pure, is_internally_pure_expr, is_literally, is_noop, is_pure, is_pure_expr, is_unit, may_follow}
+use Rattle.rhai_meaning.specs.Queries.{is_block_dependent, is_dependent_expr, is_internally_pure, is_internally_pure_expr, is_literally, is_pure, is_pure_expr}
 use Rattle.rhai_meaning.specs.Tree.{Expr, Stmt}
-use Rattle.rhai_reading.proofs.Cases.{ExprCase, bool_constant_case, braces_case, call_case, property_case, unit_case, variable_case, StmtCase, break_loop_case, call_statement_case, export_case, expression_case, import_case, noop_case, return_case, var_case}
+use Rattle.rhai_reading.proofs.Cases.{ExprCase, bool_constant_case, braces_case, call_case, StmtCase, call_statement_case, export_case, expression_case, import_case, var_case}
 
 -- it is none of these
 abbrev NoBraces : declared_expr.Expr → Type 0
@@ -25,21 +21,9 @@ NoBraces x = (b : StmtBlock) → x ≡ expr_kind.Stmt b → ⊥
 abbrev NoCall : declared_expr.Expr → Type 0
 NoCall x = (c : FnCallExpr) (p : Position) → x ≡ expr_kind.FnCall c p → ⊥
 
-pub no_unit : {x : declared_expr.Expr} {e : Expr} → ExprCase x e → ((p : Position) → x ≡ expr_kind.Unit p → ⊥) → false ≡ is_unit e
-no_unit (unit_case p) u = absurd (u p refl)
-no_unit _ u = refl
-
 pub no_literal : {x : declared_expr.Expr} {e : Expr} (b : Bool) → ExprCase x e → ((c : Bool) (p : Position) → x ≡ expr_kind.BoolConstant c p → ⊥) → false ≡ is_literally b e
 no_literal b (bool_constant_case c p) l = absurd (l c p refl)
 no_literal b _ l = refl
-
-pub none_follows : {x : declared_expr.Expr} {e : Expr} (t : Token) → ExprCase x e
-    → ((v : Option NonZeroUsize × Text × Namespace) (short : Option NonZeroU8) (p : Position) → x ≡ expr_kind.Variable v short p → ⊥)
-    → ((n : Text × Text × Text) (p : Position) → x ≡ expr_kind.Property n p → ⊥)
-    → false ≡ may_follow t e
-none_follows t (variable_case v short p) a b = absurd (a v short p refl)
-none_follows t (property_case n p) a b = absurd (b n p refl)
-none_follows t _ a b = refl
 
 pub no_dependence : {x : declared_expr.Expr} {e : Expr} → ExprCase x e → NoBraces x → NoCall x → false ≡ is_dependent_expr e
 no_dependence (braces_case b) l m = absurd (l b refl)
@@ -63,18 +47,6 @@ NoExport x = (n : Ident × Ident) (p : Position) → x ≡ stmt_kind.Export n p 
 
 abbrev NoExpr : declared_stmt.Stmt → Type 0
 NoExpr x = (e : declared_expr.Expr) → x ≡ stmt_kind.Expr e → ⊥
-
-pub no_noop : {x : declared_stmt.Stmt} {s : Stmt} → StmtCase x s → ((p : Position) → x ≡ stmt_kind.Noop p → ⊥) → false ≡ is_noop s
-no_noop (noop_case p) n = absurd (n p refl)
-no_noop _ n = refl
-
-pub no_break : {x : declared_stmt.Stmt} {s : Stmt} → StmtCase x s
-    → ((e : Option declared_expr.Expr) (k : ASTFlags) (p : Position) → x ≡ stmt_kind.BreakLoop e k p → ⊥)
-    → ((e : Option declared_expr.Expr) (k : ASTFlags) (p : Position) → x ≡ stmt_kind.Return e k p → ⊥)
-    → false ≡ is_control_flow_break s
-no_break (break_loop_case e k p) a b = absurd (a e k p refl)
-no_break (return_case e k p) a b = absurd (b e k p refl)
-no_break _ a b = refl
 
 pub independent : {x : declared_stmt.Stmt} {s : Stmt} → StmtCase x s → NoVar x → NoImport x → NoExport x → ((c : FnCallExpr) (p : Position) → x ≡ stmt_kind.FnCall c p → ⊥) → NoExpr x → false ≡ is_block_dependent s
 independent (var_case v k p) a b c d e = absurd (a v k p refl)

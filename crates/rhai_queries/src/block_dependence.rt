@@ -8,8 +8,9 @@ ghost use Rattle.rhai_meaning.specs.Queries as queries;
 
 use rhai_tree::{Expr, FnCallExpr, Stmt};
 
+/// Whether it belongs to the list in which it stands.
 #[cycle(dependent)]
-pub(crate) fn is_block_dependent(stmt: &Stmt) -> bool
+pub fn is_block_dependent(stmt: &Stmt) -> bool
     ensures { result ≡ queries.is_block_dependent (stmt_of stmt.now) }
 {
     match stmt {

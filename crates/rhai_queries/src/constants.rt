@@ -12,7 +12,7 @@ use rhai_tree::Expr;
 
 /// Whether it is a constant: one of the constant kinds, or an array, a map or a text all of whose parts are.
 #[cycle(constant)]
-pub(crate) fn is_constant(expr: &Expr) -> bool
+pub fn is_constant(expr: &Expr) -> bool
     ensures { result ≡ constants.is_constant (expr_of expr.now) }
 {
     match expr {
@@ -42,7 +42,7 @@ pub(crate) fn is_constant(expr: &Expr) -> bool
 
 /// Whether all are constants.
 #[cycle(constant)]
-pub(crate) fn are_constant(exprs: &[Expr]) -> bool
+pub fn are_constant(exprs: &[Expr]) -> bool
     ensures { result ≡ constants.are_constant (exprs_of exprs.now) }
 {
     for expr in exprs {

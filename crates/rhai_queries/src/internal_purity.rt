@@ -9,8 +9,9 @@ ghost use Rattle.rhai_meaning.specs.Queries as queries;
 use crate::purity::{is_pure, is_pure_expr};
 use rhai_tree::{Expr, Stmt};
 
+/// Whether it is pure but for a name that its list takes away.
 #[cycle(internally_pure)]
-pub(crate) fn is_internally_pure(stmt: &Stmt) -> bool
+pub fn is_internally_pure(stmt: &Stmt) -> bool
     ensures { result ≡ queries.is_internally_pure (stmt_of stmt.now) }
 {
     match stmt {

@@ -10,7 +10,8 @@ use rhai_base::{Ident, Position};
 use rhai_tree::{Expr, Stmt};
 use std::num::NonZeroUsize;
 
-pub(crate) fn position(expr: &Expr) -> Position
+/// Where an expression stands; a block where it begins.
+pub fn position(expr: &Expr) -> Position
     ensures { result ≡ position_of expr.now }
 {
     match expr {
@@ -39,7 +40,7 @@ pub(crate) fn position(expr: &Expr) -> Position
 
 /// Where the leftmost part stands.
 #[cycle(start)]
-pub(crate) fn start_position(expr: &Expr) -> Position
+pub fn start_position(expr: &Expr) -> Position
     ensures { result ≡ start_of expr.now }
 {
     match expr {
@@ -94,7 +95,8 @@ fn first_shared(names: &[(Ident, Option<NonZeroUsize>)]) -> Position
     }
 }
 
-pub(crate) fn stmt_position(stmt: &Stmt) -> Position
+/// Where a statement stands.
+pub fn stmt_position(stmt: &Stmt) -> Position
     ensures { result ≡ stmt_position_of stmt.now }
 {
     match stmt {

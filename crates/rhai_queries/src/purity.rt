@@ -13,8 +13,9 @@ use bitflags::Flags;
 use rhai_base::{ASTFlags, Ident, RangeCase};
 use rhai_tree::{BinaryExpr, Cases, Expr, FlowControl, Stmt, SwitchBlock, SwitchCasesCollection};
 
+/// Whether an expression is pure.
 #[cycle(pure)]
-pub(crate) fn is_pure_expr(expr: &Expr) -> bool
+pub fn is_pure_expr(expr: &Expr) -> bool
     ensures { result ≡ queries.is_pure_expr (expr_of expr.now) }
 {
     match expr {
@@ -66,8 +67,9 @@ fn are_pure_members(members: &[(Ident, Expr)]) -> bool
     true
 }
 
+/// Whether a statement is pure.
 #[cycle(pure)]
-pub(crate) fn is_pure(stmt: &Stmt) -> bool
+pub fn is_pure(stmt: &Stmt) -> bool
     ensures { result ≡ queries.is_pure (stmt_of stmt.now) }
 {
     match stmt {

@@ -5,4 +5,4 @@ mod node;
 mod walk;
 
 pub use node::ASTNode;
-pub use walk::{Walk, walk_statements};
+pub use walk::{walk_expr, walk_statements, walk_stmt};

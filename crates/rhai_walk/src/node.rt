@@ -5,7 +5,7 @@ ghost use Rattle.rhai_walk.specs.Nodes.{is_expr_node, is_stmt_node, place_of};
 ghost use Rattle.rhai_walk.specs.declared.node.ASTNode.TheVariants as node;
 
 use rhai_base::Position;
-use rhai_queries::{ExprQueries, StmtQueries};
+use rhai_queries::{position, stmt_position};
 use rhai_tree::{Expr, Stmt};
 
 /// A node of a tree, lent.
@@ -43,8 +43,8 @@ impl<'a> ASTNode<'a> {
         ensures { result ≡ place_of self.now }
     {
         match self {
-            ASTNode::Stmt(stmt) => stmt.position(),
-            ASTNode::Expr(expr) => expr.position(),
+            ASTNode::Stmt(stmt) => stmt_position(stmt),
+            ASTNode::Expr(expr) => position(expr),
         }
     }
 }

@@ -2,8 +2,8 @@
 
 #![tactic(auto, using(rhai_reading::specs::Reading::shapes))]
 
-ghost use Rattle.std.specs.Prelude.{List, ◌++◌, map, slice_get};
-ghost use Rattle.rhai_meaning.specs.Paths.{Path, expr_paths, listing, stmt_paths, stmts_paths};
+ghost use Rattle.std.specs.Prelude.{◌++◌, map, slice_get};
+ghost use Rattle.rhai_meaning.specs.Paths.{expr_paths, listing, stmt_paths, stmts_paths};
 ghost use Rattle.rhai_meaning.specs.Walk.{arm_of_default, arms_of_cases, arms_of_ranges, listed, over_exprs, over_maybe, over_pairs, parts_of_expr, parts_of_stmt};
 ghost use Rattle.rhai_reading.specs.Reading.{case_of, cases_of, expr_of, expressions_of, exprs_of, maybe_of, pairs_of, range_of, stmt_of, stmts_of, subject_of, table_of};
 ghost use Rattle.rhai_walk.specs.ArmPaths.{paths_at, paths_at_all};
@@ -12,54 +12,6 @@ ghost use Rattle.rhai_walk.specs.Walking.{Enters, Walks};
 use crate::ASTNode;
 use rhai_base::{Boxed, Ident, OutOfMemory, RangeCase};
 use rhai_tree::{BinaryExpr, Cases, Expr, FlowControl, Stmt, SwitchBlock, SwitchCasesCollection};
-
-/// A tree over which one may walk.
-pub trait Walk {
-    /// The paths to its nodes, in the order of the walk.
-    ghost paths: { Self → List Path };
-
-    /// Calls the closure at each node, from the top down, until it answers `false`, with the path to the node:
-    /// the one that was given, then the nodes down to this one, which is last. Of a `switch` the arms that its
-    /// table lists are walked, each as often as it is listed.
-    ///
-    /// It answers `true` when all nodes were seen, and the path is then as it was, and `false` after the
-    /// closure did, when the path ends at the node that was refused. When there is no room for a node on the
-    /// path, the closure is not called for it, and the path ends at the node above it.
-    ///
-    /// In rhai a walk answers a bool alone, and passes over the expression of a `break`.
-    fn walk<'a, F: FnMut(&[ASTNode]) -> bool>(
-        &'a self,
-        path: &mut Vec<ASTNode<'a>>,
-        on_node: &mut F,
-    ) -> Result<bool, OutOfMemory>
-        requires { F.IsAlwaysCallable on_node.old }
-        ensures callable { F.IsAlwaysCallable on_node.new }
-        ensures walks { Walks F.FnMut path.old.items result on_node.old (paths self.now) on_node.new path.new.items };
-}
-
-impl Walk for Expr {
-    ghost paths = { λ e. expr_paths (expr_of e) };
-
-    fn walk<'a, F: FnMut(&[ASTNode]) -> bool>(
-        &'a self,
-        path: &mut Vec<ASTNode<'a>>,
-        on_node: &mut F,
-    ) -> Result<bool, OutOfMemory> {
-        walk_expr(self, path, on_node)
-    }
-}
-
-impl Walk for Stmt {
-    ghost paths = { λ s. stmt_paths (stmt_of s) };
-
-    fn walk<'a, F: FnMut(&[ASTNode]) -> bool>(
-        &'a self,
-        path: &mut Vec<ASTNode<'a>>,
-        on_node: &mut F,
-    ) -> Result<bool, OutOfMemory> {
-        walk_stmt(self, path, on_node)
-    }
-}
 
 /// Goes down to a node and shows the path to it.
 #[tactic(auto, using(crate::proofs::Walking::outcomes))]
@@ -76,8 +28,9 @@ fn enter<'a, F: FnMut(&[ASTNode]) -> bool>(
     Ok(on_node(path.as_slice()))
 }
 
+/// Walks over an expression, as `Walk::walk` says.
 #[cycle(walk)]
-fn walk_expr<'a, F: FnMut(&[ASTNode]) -> bool>(
+pub fn walk_expr<'a, F: FnMut(&[ASTNode]) -> bool>(
     expr: &'a Expr,
     path: &mut Vec<ASTNode<'a>>,
     on_node: &mut F,
@@ -201,8 +154,9 @@ fn walk_optional<'a, F: FnMut(&[ASTNode]) -> bool>(
     }
 }
 
+/// Walks over a statement, as `Walk::walk` says.
 #[cycle(walk)]
-fn walk_stmt<'a, F: FnMut(&[ASTNode]) -> bool>(
+pub fn walk_stmt<'a, F: FnMut(&[ASTNode]) -> bool>(
     stmt: &'a Stmt,
     path: &mut Vec<ASTNode<'a>>,
     on_node: &mut F,

@@ -1,0 +1,38 @@
+//! The tests of a tree.
+
+#![tactic(auto, using(rhai_faults::proofs::FoundLists::found))]
+
+ghost use Rattle.std.specs.Prelude.{◌≡◌};
+ghost use Rattle.rhai_faults.specs.Refusals.{Finds};
+ghost use Rattle.rhai_faults.specs.Scripts.{script_by};
+ghost use Rattle.rhai_meaning.specs.Faults as faults;
+ghost use Rattle.rhai_meaning.specs.Laws.{WellFormedLaw};
+ghost use Rattle.rhai_meaning.specs.Plain as plain;
+
+use rhai_faults::{TreeFault, are_plain, are_plain_functions, check_functions, check_stmts};
+use rhai_tree::{ScriptFuncDef, Stmt};
+use std::alloc::Global;
+use std::rc::Rc;
+
+/// The first fault of the statements, and then of the functions in order, a function's name before its body: in
+/// the order of the walk, and at one node the fault with the smallest number. Ok exactly where the tree is
+/// well-formed, if there is memory for the keys of each map literal.
+pub fn check_tree(
+    alloc: Global,
+    statements: &[Stmt],
+    functions: &[Rc<ScriptFuncDef>],
+) -> Result<(), TreeFault>
+    ensures first { Finds (faults.script_fault (script_by statements.now functions.now)) result }
+    ensures law { WellFormedLaw (script_by statements.now functions.now) }
+{
+    check_stmts(alloc, statements, false)?;
+    check_functions(alloc, functions)
+}
+
+/// Whether no node calls `eval`, `is_def_var` or `is_def_fn` without a namespace, imports, exports or shares
+/// names, or has the flag EXPORTED.
+pub fn is_plain(statements: &[Stmt], functions: &[Rc<ScriptFuncDef>]) -> bool
+    ensures { result ≡ plain.is_plain (script_by statements.now functions.now) }
+{
+    are_plain(statements) && are_plain_functions(functions)
+}
