@@ -21,13 +21,13 @@ use Rattle.rhai_meaning.specs.Control.{texts_joined}
 use Rattle.rhai_meaning.specs.Core as core
 use Rattle.rhai_meaning.specs.Desugar.{core_expr, core_stmt, core_stmts}
 use Rattle.rhai_meaning.specs.Tree as tree
-use Rattle.rhai_machine.specs.declared.steps.state.Interrupt.{Interrupt}
-use Rattle.rhai_machine.specs.declared.steps.state.Interrupt.TheVariants.{Stuck}
+use Rattle.rhai_state.specs.declared.state.Interrupt.{Interrupt}
+use Rattle.rhai_state.specs.declared.state.Interrupt.TheVariants.{Stuck}
 use Rattle.rhai_host.specs.declared.report.Stuck.TheVariants as why
-use Rattle.rhai_machine.specs.declared.steps.state.State.{State}
+use Rattle.rhai_state.specs.declared.state.State.{State}
 use Rattle.rhai_machine.specs.Chaining.{chain_core}
-use Rattle.rhai_machine.specs.Evaluating.{RunsBlock, RunsCall, RunsCore, RunsDeed, RunsExpr, RunsExprs, RunsLine, RunsStmt}
-use Rattle.rhai_machine.specs.Runs.{Setting}
+use Rattle.rhai_state.specs.Evaluating.{RunsBlock, RunsCall, RunsCore, RunsDeed, RunsExpr, RunsExprs, RunsLine, RunsStmt}
+use Rattle.rhai_state.specs.Runs.{Setting}
 use Rattle.rhai_machine.proofs.Nodes.{array_runs, block_line, call_line, for_line, if_line, method_ill, property_ill, string_runs}
 
 module _ (here : Setting) (loop : Bool) (s s1 : State) where

@@ -32,17 +32,17 @@ use Rattle.rhai_machine.specs.declared.steps.links.Rest.{Rest}
 use Rattle.rhai_machine.specs.declared.steps.parts.PropertyNames.{PropertyNames}
 use Rattle.rhai_machine.specs.declared.steps.placing.Current.{Current}
 use Rattle.rhai_machine.specs.declared.steps.placing.Current.TheVariants as current
-use Rattle.rhai_machine.specs.declared.steps.state.Interrupt.{Interrupt}
-use Rattle.rhai_machine.specs.declared.steps.state.Interrupt.TheVariants.{Stuck}
-use Rattle.rhai_machine.specs.declared.steps.state.State.{State}
+use Rattle.rhai_state.specs.declared.state.Interrupt.{Interrupt}
+use Rattle.rhai_state.specs.declared.state.Interrupt.TheVariants.{Stuck}
+use Rattle.rhai_state.specs.declared.state.State.{State}
 use Rattle.rhai_host.specs.declared.report.Stuck.TheVariants as why
 use Rattle.rhai_machine.specs.Chaining.{StepsOn, HasAccess, Reaches, access_meant, chain_core, head_of, link_steps, method_core, names_meant, rest_steps, step_core, step_in, steps_on}
-use Rattle.rhai_machine.specs.Evaluating.{RunsCore, RunsExpr, RunsExprs}
+use Rattle.rhai_state.specs.Evaluating.{RunsCore, RunsExpr, RunsExprs}
 use Rattle.rhai_machine.specs.Placing.{current_in, made, place_in, read_base}
-use Rattle.rhai_machine.specs.Runs.{Setting, Acting, Goes, Leads, Runs, given}
-use Rattle.rhai_machine.specs.State.{store_of}
+use Rattle.rhai_state.specs.Runs.{Setting, Acting, Goes, Leads, Runs, given}
+use Rattle.rhai_state.specs.State.{store_of}
 use Rattle.rhai_machine.proofs.Callees.{count_exprs_of}
-use Rattle.rhai_machine.proofs.Goes.{goes_as, goes_then, leads_then, stops_then, value_goes, value_stops}
+use Rattle.rhai_state.proofs.Goes.{goes_as, goes_then, leads_then, stops_then, value_goes, value_stops}
 
 -- ---- chains by their outermost node
 

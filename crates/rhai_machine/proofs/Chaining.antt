@@ -15,15 +15,15 @@ use Rattle.rhai_meaning.specs.Tree.{PropertyNames}
 use Rattle.rhai_places.specs.Reading.{or_unit}
 use Rattle.rhai_host.specs.declared.host.HostCall.{HostCall}
 use Rattle.rhai_host.specs.declared.host.HostAnswer.{HostAnswer}
-use Rattle.rhai_machine.specs.declared.steps.state.State.{State}
+use Rattle.rhai_state.specs.declared.state.State.{State}
 use Rattle.rhai_machine.specs.declared.steps.placing.Current as declared
 use Rattle.rhai_machine.specs.declared.steps.placing.Current.TheVariants as kind
 use Rattle.rhai_machine.specs.Placing.{root_value, place_meant, made, current_in}
 use Rattle.rhai_host.specs.Host.{call_meant, answer_meant}
-use Rattle.rhai_machine.specs.declared.steps.state.Interrupt.{Interrupt}
-use Rattle.rhai_machine.specs.Runs.{Setting, Task, env, Acting, Over, Goes, Leads, Stops, given}
-use Rattle.rhai_machine.specs.State.{store_of}
-use Rattle.rhai_machine.proofs.Goes.{gives, goes_as, goes_then, leads_then, stops_then}
+use Rattle.rhai_state.specs.declared.state.Interrupt.{Interrupt}
+use Rattle.rhai_state.specs.Runs.{Setting, Task, env, Acting, Over, Goes, Leads, Stops, given}
+use Rattle.rhai_state.specs.State.{store_of}
+use Rattle.rhai_state.proofs.Goes.{gives, goes_as, goes_then, leads_then, stops_then}
 
 -- ---- properties
 

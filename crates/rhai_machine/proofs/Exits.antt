@@ -12,16 +12,16 @@ use Rattle.rhai_meaning.specs.Core as core
 use Rattle.rhai_meaning.specs.Desugar.{break_kind, core_maybe, core_stmt, core_stmts, return_kind, try_by}
 use Rattle.rhai_meaning.specs.Meaning.{act, acts, deed, exit}
 use Rattle.rhai_meaning.specs.Shape.{catch_name, is_unit}
-use Rattle.rhai_machine.specs.declared.steps.state.Interrupt.{Interrupt}
-use Rattle.rhai_machine.specs.declared.steps.state.Interrupt.TheVariants.{NoMemory, Return, Break, Continue, Throw, Stuck, OutOfTurns}
-use Rattle.rhai_machine.specs.declared.steps.state.State.{State}
+use Rattle.rhai_state.specs.declared.state.Interrupt.{Interrupt}
+use Rattle.rhai_state.specs.declared.state.Interrupt.TheVariants.{NoMemory, Return, Break, Continue, Throw, Stuck, OutOfTurns}
+use Rattle.rhai_state.specs.declared.state.State.{State}
 use Rattle.rhai_host.specs.declared.report.Stuck.TheVariants as why
-use Rattle.rhai_machine.specs.Evaluating.{RunsBlock, RunsCatch, RunsLine, RunsMaybe}
-use Rattle.rhai_machine.specs.Exits.{body_end, branch_end, LeavesBy}
-use Rattle.rhai_machine.specs.Runs.{Setting, Task, Acting, Listing, Over, Leaving, Goes, Stops, Leads, Runs, given, env}
-use Rattle.rhai_machine.specs.State.{named_in, store_of}
-use Rattle.rhai_machine.proofs.Goes.{goes_then, gives, leads_then, stops_by, halted_then, ending_goes, scoped_leads, value_goes, value_stops, line_leads, line_stops, named_goes, Cut}
-use Rattle.rhai_machine.proofs.Statements.{ill_line}
+use Rattle.rhai_state.specs.Evaluating.{RunsBlock, RunsCatch, RunsLine, RunsMaybe}
+use Rattle.rhai_state.specs.Exits.{body_end, branch_end, LeavesBy}
+use Rattle.rhai_state.specs.Runs.{Setting, Task, Acting, Listing, Over, Leaving, Goes, Stops, Leads, Runs, given, env}
+use Rattle.rhai_state.specs.State.{named_in, store_of}
+use Rattle.rhai_state.proofs.Goes.{goes_then, gives, leads_then, stops_by, halted_then, ending_goes, scoped_leads, value_goes, value_stops, line_leads, line_stops, named_goes, Cut}
+use Rattle.rhai_state.proofs.Statements.{ill_line}
 
 module _ (here : Setting) where
   -- the value is evaluated, and leaves

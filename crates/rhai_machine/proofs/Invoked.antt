@@ -9,13 +9,13 @@ use Rattle.rhai_meaning.specs.Act.{Gives, Leaves, Returns, Throws, Outcome, Ende
 use Rattle.rhai_meaning.specs.Core.{Function}
 use Rattle.rhai_meaning.specs.Meaning.{acts}
 use Rattle.rhai_meaning.specs.Run.{call_body, entered, function_of, reversed}
-use Rattle.rhai_machine.specs.declared.steps.state.Interrupt.{Interrupt}
-use Rattle.rhai_machine.specs.declared.steps.state.Interrupt.TheVariants.{NoMemory, Return, Break, Continue, Throw, Stuck, OutOfTurns}
-use Rattle.rhai_machine.specs.declared.steps.state.State.{State}
+use Rattle.rhai_state.specs.declared.state.Interrupt.{Interrupt}
+use Rattle.rhai_state.specs.declared.state.Interrupt.TheVariants.{NoMemory, Return, Break, Continue, Throw, Stuck, OutOfTurns}
+use Rattle.rhai_state.specs.declared.state.State.{State}
 use Rattle.rhai_host.specs.Entries.{variable_meant}
-use Rattle.rhai_machine.specs.Exits.{function_end}
-use Rattle.rhai_machine.specs.Runs.{Setting, Acting, Listing, Over, Goes, Stops, Leads, given, env}
-use Rattle.rhai_machine.specs.State.{store_of}
+use Rattle.rhai_state.specs.Exits.{function_end}
+use Rattle.rhai_state.specs.Runs.{Setting, Acting, Listing, Over, Goes, Stops, Leads, given, env}
+use Rattle.rhai_state.specs.State.{store_of}
 
 module _ (here : Setting) (a : ScriptCall) (next : Value → Option Value → Act) (f : Function) (found : function_of here.functions a.function ≡ Some f) where
   abbrev after_call : Store → ℕ → Outcome → Store → ℕ → act.Result

@@ -15,10 +15,10 @@ use Rattle.rhai_meaning.specs.Core.{Function}
 use Rattle.rhai_meaning.specs.Desugar.{core_function}
 use Rattle.rhai_meaning.specs.Run.{function_of, key_of}
 use Rattle.rhai_meaning.specs.Weight.{weight}
-use Rattle.rhai_machine.specs.declared.steps.state.Interrupt.{Interrupt}
-use Rattle.rhai_machine.specs.declared.steps.state.State.{State}
-use Rattle.rhai_machine.specs.Evaluating.{bodies_weight, RunsInvoke}
-use Rattle.rhai_machine.specs.Runs.{Setting, Acting, Leads, given}
+use Rattle.rhai_state.specs.declared.state.Interrupt.{Interrupt}
+use Rattle.rhai_state.specs.declared.state.State.{State}
+use Rattle.rhai_state.specs.Evaluating.{bodies_weight, RunsInvoke}
+use Rattle.rhai_state.specs.Runs.{Setting, Acting, Leads, given}
 use Rattle.rhai_machine.proofs.Words.{call_invokes}
 
 -- what is run of a function

@@ -22,16 +22,16 @@ use Rattle.rhai_machine.specs.declared.steps.left_sides.LeftSide.{LeftSide}
 use Rattle.rhai_machine.specs.declared.steps.left_sides.LeftSide.TheVariants as side
 use Rattle.rhai_machine.specs.declared.steps.links.Rest.{Rest}
 use Rattle.rhai_machine.specs.declared.steps.placing.Current.{Current}
-use Rattle.rhai_machine.specs.declared.steps.state.Interrupt.{Interrupt}
-use Rattle.rhai_machine.specs.declared.steps.state.Interrupt.TheVariants.{Stuck}
-use Rattle.rhai_machine.specs.declared.steps.state.State.{State}
+use Rattle.rhai_state.specs.declared.state.Interrupt.{Interrupt}
+use Rattle.rhai_state.specs.declared.state.Interrupt.TheVariants.{Stuck}
+use Rattle.rhai_state.specs.declared.state.State.{State}
 use Rattle.rhai_host.specs.declared.report.Stuck.TheVariants as why
 use Rattle.rhai_machine.specs.Chaining.{StepsOn, rest_steps, step_core}
 use Rattle.rhai_machine.specs.Placing.{current_in, read_base}
-use Rattle.rhai_machine.specs.Runs.{Setting, Acting, Leads, given}
-use Rattle.rhai_machine.specs.State.{store_of}
+use Rattle.rhai_state.specs.Runs.{Setting, Acting, Leads, given}
+use Rattle.rhai_state.specs.State.{store_of}
 use Rattle.rhai_machine.specs.Targets.{IsPart, IsSide, part_core}
-use Rattle.rhai_machine.proofs.Goes.{leads_then}
+use Rattle.rhai_state.proofs.Goes.{leads_then}
 
 -- ---- which side it is
 

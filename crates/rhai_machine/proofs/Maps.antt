@@ -17,13 +17,13 @@ use Rattle.rhai_meaning.specs.Desugar.{core_expr, core_pairs}
 use Rattle.rhai_meaning.specs.Elements.{with_entries, with_entry}
 use Rattle.rhai_meaning.specs.Meaning.{act, with_pairs}
 use Rattle.rhai_meaning.specs.Shape.{is_map}
-use Rattle.rhai_machine.specs.declared.steps.state.Interrupt.{Interrupt}
-use Rattle.rhai_machine.specs.declared.steps.state.Interrupt.TheVariants.{Stuck}
-use Rattle.rhai_machine.specs.declared.steps.state.State.{State}
+use Rattle.rhai_state.specs.declared.state.Interrupt.{Interrupt}
+use Rattle.rhai_state.specs.declared.state.Interrupt.TheVariants.{Stuck}
+use Rattle.rhai_state.specs.declared.state.State.{State}
 use Rattle.rhai_host.specs.declared.report.Stuck.TheVariants as why
-use Rattle.rhai_machine.specs.Evaluating.{RunsCore, RunsExpr, RunsMembers}
-use Rattle.rhai_machine.specs.Runs.{Setting, Task, Acting, Goes}
-use Rattle.rhai_machine.proofs.Goes.{gives, goes_on, goes_then, goes_as, stops_then, value_goes, value_stops}
+use Rattle.rhai_state.specs.Evaluating.{RunsCore, RunsExpr, RunsMembers}
+use Rattle.rhai_state.specs.Runs.{Setting, Task, Acting, Goes}
+use Rattle.rhai_state.proofs.Goes.{gives, goes_on, goes_then, goes_as, stops_then, value_goes, value_stops}
 
 module _ (here : Setting) (loop : Bool) where
   abbrev rest_of : List (Ident × Expr) → Fields → (Fields → Act) → Task

@@ -23,16 +23,16 @@ use Rattle.rhai_meaning.specs.Run.{function_of, key_of}
 use Rattle.rhai_meaning.specs.Weight.{weight}
 use Rattle.rhai_machine.specs.declared.steps.placing.Current.{Current}
 use Rattle.rhai_machine.specs.declared.steps.placing.Current.TheVariants as current
-use Rattle.rhai_machine.specs.declared.steps.state.Interrupt.{Interrupt}
-use Rattle.rhai_machine.specs.declared.steps.state.State.{State}
+use Rattle.rhai_state.specs.declared.state.Interrupt.{Interrupt}
+use Rattle.rhai_state.specs.declared.state.State.{State}
 use Rattle.rhai_machine.specs.Chaining.{CallsMethod, StepsOn, by_key, method_in, method_or, or_else, value_or}
-use Rattle.rhai_machine.specs.Evaluating.{RunsInvoke, bodies_weight}
+use Rattle.rhai_state.specs.Evaluating.{RunsInvoke, bodies_weight}
 use Rattle.rhai_machine.specs.Placing.{current_in}
-use Rattle.rhai_machine.specs.Runs.{Setting, env, Acting, Goes, Stops, Leads, given}
-use Rattle.rhai_machine.specs.State.{store_of}
+use Rattle.rhai_state.specs.Runs.{Setting, env, Acting, Goes, Stops, Leads, given}
+use Rattle.rhai_state.specs.State.{store_of}
 use Rattle.rhai_machine.specs.Words.{calls_pointer}
 use Rattle.rhai_machine.proofs.Chaining.{KeepsNames, Names, answer_keeps, kept_by, same_current}
-use Rattle.rhai_machine.proofs.Goes.{gives, goes_as, goes_then, leads_then, stops_then, value_goes, value_stops}
+use Rattle.rhai_state.proofs.Goes.{gives, goes_as, goes_then, leads_then, stops_then, value_goes, value_stops}
 use Rattle.rhai_machine.proofs.Known.{all_run, found_function, found_key, found_nothing, found_weight, run_of}
 use Rattle.rhai_machine.proofs.Words.{function_known, function_unknown}
 

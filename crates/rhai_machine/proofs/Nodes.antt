@@ -14,15 +14,15 @@ use Rattle.rhai_meaning.specs.Desugar.{callee_by, core_expr, core_exprs, core_st
 use Rattle.rhai_meaning.specs.Meaning.{text}
 use Rattle.rhai_meaning.specs.Shape.{is_callable, is_unit}
 use Rattle.rhai_meaning.specs.Tree as tree
-use Rattle.rhai_machine.specs.declared.steps.state.Interrupt.{Interrupt}
-use Rattle.rhai_machine.specs.declared.steps.state.Interrupt.TheVariants.{NoMemory, Return, Break, Continue, Throw, Stuck, OutOfTurns}
-use Rattle.rhai_machine.specs.declared.steps.state.State.{State}
+use Rattle.rhai_state.specs.declared.state.Interrupt.{Interrupt}
+use Rattle.rhai_state.specs.declared.state.Interrupt.TheVariants.{NoMemory, Return, Break, Continue, Throw, Stuck, OutOfTurns}
+use Rattle.rhai_state.specs.declared.state.State.{State}
 use Rattle.rhai_host.specs.declared.report.Stuck.TheVariants as why
-use Rattle.rhai_machine.specs.Evaluating.{call_core, IsConstant, RunsBlock, RunsCall, RunsCore, RunsDeed, RunsExpr, RunsExprs, RunsStmt}
-use Rattle.rhai_machine.specs.Runs.{Setting, Acting, Runs, given}
+use Rattle.rhai_state.specs.Evaluating.{call_core, IsConstant, RunsBlock, RunsCall, RunsCore, RunsDeed, RunsExpr, RunsExprs, RunsStmt}
+use Rattle.rhai_state.specs.Runs.{Setting, Acting, Runs, given}
 use Rattle.rhai_machine.proofs.Callees.{count_exprs_of}
-use Rattle.rhai_machine.proofs.Goes.{gives, goes_then, leads_then}
-use Rattle.rhai_machine.proofs.Statements.{deed_line}
+use Rattle.rhai_state.proofs.Goes.{gives, goes_then, leads_then}
+use Rattle.rhai_state.proofs.Statements.{deed_line}
 
 module _ (here : Setting) (loop : Bool) where
   -- ---- lists of values

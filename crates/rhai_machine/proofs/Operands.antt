@@ -14,11 +14,11 @@ use Rattle.rhai_meaning.specs.Act.{Act}
 use Rattle.rhai_meaning.specs.ActForms.{give, choose, if_true, truth, ◌>>=◌}
 use Rattle.rhai_meaning.specs.Meaning.{act, both, either, first_some, with_args}
 use Rattle.rhai_meaning.specs.Shape.{is_unit}
-use Rattle.rhai_machine.specs.declared.steps.state.Interrupt.{Interrupt}
-use Rattle.rhai_machine.specs.declared.steps.state.State.{State}
-use Rattle.rhai_machine.specs.Evaluating.{or_stuck, RunsExpr, RunsExprs}
-use Rattle.rhai_machine.specs.Runs.{Setting, Task, Acting, Goes, Stops, given}
-use Rattle.rhai_machine.proofs.Goes.{gives, goes_on, goes_then, goes_as, stops_then, value_goes, value_stops, if_goes, if_stops}
+use Rattle.rhai_state.specs.declared.state.Interrupt.{Interrupt}
+use Rattle.rhai_state.specs.declared.state.State.{State}
+use Rattle.rhai_state.specs.Evaluating.{or_stuck, RunsExpr, RunsExprs}
+use Rattle.rhai_state.specs.Runs.{Setting, Task, Acting, Goes, Stops, given}
+use Rattle.rhai_state.proofs.Goes.{gives, goes_on, goes_then, goes_as, stops_then, value_goes, value_stops, if_goes, if_stops}
 
 item_of : (xs : List Expr) (i : ℕ) (e : Expr) → i < length xs → e ≡ get_or xs i e → exprs_of (drop i xs) ≡ tree.expr (expr_of e) (exprs_of (drop (i + 1) xs))
 item_of xs i e h is = exprs_of-drop xs i e h ∙ ap (λ y. tree.expr (expr_of y) (exprs_of (drop (i + 1) xs))) (sym is)

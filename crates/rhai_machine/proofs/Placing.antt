@@ -18,20 +18,21 @@ use Rattle.rhai_places.specs.declared.standing.Part.{Part}
 use Rattle.rhai_places.specs.Reading.{key_meant, part_value, or_unit}
 use Rattle.rhai_machine.specs.declared.steps.placing.Place.{Place}
 use Rattle.rhai_machine.specs.declared.steps.placing.Current.TheVariants as current
-use Rattle.rhai_machine.specs.declared.steps.state.Interrupt.{Interrupt}
-use Rattle.rhai_machine.specs.declared.steps.state.Interrupt.TheVariants.{Stuck}
-use Rattle.rhai_machine.specs.declared.steps.state.State.{State}
+use Rattle.rhai_state.specs.declared.state.Interrupt.{Interrupt}
+use Rattle.rhai_state.specs.declared.state.Interrupt.TheVariants.{Stuck}
+use Rattle.rhai_state.specs.declared.state.State.{State}
 use Rattle.rhai_machine.specs.declared.steps.variables.Root.{Root}
 use Rattle.rhai_host.specs.declared.report.Stuck as report
 use Rattle.rhai_host.specs.declared.report.Stuck.TheVariants as why
 use Rattle.rhai_host.specs.Entries.{variable_meant}
 use Rattle.rhai_machine.specs.Placing.{place_meant, root_value, root_stuck, value_at, stuck_by, place_stuck, HasPart, HasRoot, made, current_in}
 use Rattle.rhai_host.specs.Report.{stuck_meant}
-use Rattle.rhai_machine.specs.Runs.{Setting, Acting, Over, Halting, stop_of, Goes, Stops, given}
-use Rattle.rhai_machine.specs.State.{store_of}
-use Rattle.rhai_machine.specs.Variables.{Entries, IsMissing, IsLatest, root_meant}
-use Rattle.rhai_machine.proofs.Goes.{gives, goes_as, goes_then, stops_by, stops_then, value_goes, value_stops}
-use Rattle.rhai_machine.proofs.Variables.{found-missing, found-latest, get-latest, latest_below}
+use Rattle.rhai_state.specs.Runs.{Setting, Acting, Over, Halting, stop_of, Goes, Stops, given}
+use Rattle.rhai_state.specs.State.{store_of}
+use Rattle.rhai_state.specs.Variables.{Entries, IsMissing, IsLatest}
+use Rattle.rhai_machine.specs.Variables.{root_meant}
+use Rattle.rhai_state.proofs.Goes.{gives, goes_as, goes_then, stops_by, stops_then, value_goes, value_stops}
+use Rattle.rhai_state.proofs.Variables.{found-missing, found-latest, get-latest, latest_below}
 
 -- ---- roots
 

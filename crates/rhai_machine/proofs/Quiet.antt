@@ -11,9 +11,9 @@ use Rattle.rhai_meaning.specs.Chains.{ask_for, index, or_throw, property}
 use Rattle.rhai_meaning.specs.Engine.{asks_assigning, assigning, built_in}
 use Rattle.rhai_meaning.specs.Places.{Current, without_place}
 use Rattle.rhai_meaning.specs.Tree.{PropertyNames}
-use Rattle.rhai_machine.specs.declared.steps.state.State.{State}
-use Rattle.rhai_machine.specs.Runs.{Setting, Acting, Over, Goes, env}
-use Rattle.rhai_machine.specs.State.{store_of}
+use Rattle.rhai_state.specs.declared.state.State.{State}
+use Rattle.rhai_state.specs.Runs.{Setting, Acting, Over, Goes, env}
+use Rattle.rhai_state.specs.State.{store_of}
 use Rattle.rhai_machine.proofs.Chaining.{KeepsNames, Names, kept_by}
 
 module _ (here : Setting) where

@@ -17,16 +17,16 @@ use Rattle.rhai_meaning.specs.Desugar.{core_expr, target_of}
 use Rattle.rhai_meaning.specs.Meaning as meaning
 use Rattle.rhai_meaning.specs.Shape.{is_left_side}
 use Rattle.rhai_meaning.specs.Tree as tree
-use Rattle.rhai_machine.specs.declared.steps.state.Interrupt.{Interrupt}
-use Rattle.rhai_machine.specs.declared.steps.state.Interrupt.TheVariants.{Stuck}
+use Rattle.rhai_state.specs.declared.state.Interrupt.{Interrupt}
+use Rattle.rhai_state.specs.declared.state.Interrupt.TheVariants.{Stuck}
 use Rattle.rhai_host.specs.declared.report.Stuck.TheVariants as why
-use Rattle.rhai_machine.specs.Evaluating.{RunsExpr, RunsLine}
-use Rattle.rhai_machine.specs.declared.steps.state.State.{State}
+use Rattle.rhai_state.specs.Evaluating.{RunsExpr, RunsLine}
+use Rattle.rhai_state.specs.declared.state.State.{State}
 use Rattle.rhai_machine.specs.Operators.{StandsFor}
-use Rattle.rhai_machine.specs.Runs.{Setting, Acting, Goes, Stops, Runs, given}
-use Rattle.rhai_machine.specs.State.{store_of}
-use Rattle.rhai_machine.proofs.Goes.{goes_as, goes_then, leads_then, stops_then, value_goes, value_stops}
-use Rattle.rhai_machine.proofs.Statements.{deed_line, ill_line}
+use Rattle.rhai_state.specs.Runs.{Setting, Acting, Goes, Stops, Runs, given}
+use Rattle.rhai_state.specs.State.{store_of}
+use Rattle.rhai_state.proofs.Goes.{goes_as, goes_then, leads_then, stops_then, value_goes, value_stops}
+use Rattle.rhai_state.proofs.Statements.{deed_line, ill_line}
 
 -- a write's answer
 pub unit_value : (here : Setting) (a : Act) (s s1 : State) → Goes here (Acting a) s (given UnitV) s1 → Goes here (Acting a) s (given (value_of value.Unit)) s1

@@ -20,14 +20,14 @@ use Rattle.rhai_meaning.specs.Desugar.{core_arms, core_expr, core_stmt}
 use Rattle.rhai_meaning.specs.Shape.{is_table}
 use Rattle.rhai_meaning.specs.Tree as tree
 use Rattle.rhai_meaning.specs.Tree.{SwitchRange, SwitchTable}
-use Rattle.rhai_machine.specs.declared.steps.state.Interrupt.{Interrupt}
-use Rattle.rhai_machine.specs.declared.steps.state.Interrupt.TheVariants.{Stuck}
-use Rattle.rhai_machine.specs.declared.steps.state.State.{State}
+use Rattle.rhai_state.specs.declared.state.Interrupt.{Interrupt}
+use Rattle.rhai_state.specs.declared.state.Interrupt.TheVariants.{Stuck}
+use Rattle.rhai_state.specs.declared.state.State.{State}
 use Rattle.rhai_host.specs.declared.report.Stuck.TheVariants as why
-use Rattle.rhai_machine.specs.Evaluating.{arms_here, or_stuck, RunsArm, RunsExpr, RunsFirstArm, RunsLine}
-use Rattle.rhai_machine.specs.Runs.{Setting, Acting, Goes, Stops, Runs, given}
-use Rattle.rhai_machine.proofs.Goes.{gives, goes_on, goes_as, goes_then, stops_then, leads_then, value_goes, value_stops, if_goes, if_stops}
-use Rattle.rhai_machine.proofs.Statements.{deed_line, ill_line}
+use Rattle.rhai_state.specs.Evaluating.{arms_here, or_stuck, RunsArm, RunsExpr, RunsFirstArm, RunsLine}
+use Rattle.rhai_state.specs.Runs.{Setting, Acting, Goes, Stops, Runs, given}
+use Rattle.rhai_state.proofs.Goes.{gives, goes_on, goes_as, goes_then, stops_then, leads_then, value_goes, value_stops, if_goes, if_stops}
+use Rattle.rhai_state.proofs.Statements.{deed_line, ill_line}
 
 -- ---- ranges
 

@@ -19,18 +19,18 @@ use Rattle.rhai_machine.specs.declared.steps.links.Link.{Link}
 use Rattle.rhai_machine.specs.declared.steps.links.Rest.{Rest}
 use Rattle.rhai_machine.specs.declared.steps.parts.Found.{Found}
 use Rattle.rhai_machine.specs.declared.steps.placing.Current.{Current}
-use Rattle.rhai_machine.specs.declared.steps.state.Interrupt.{Interrupt}
-use Rattle.rhai_machine.specs.declared.steps.state.Interrupt.TheVariants as stopped
+use Rattle.rhai_state.specs.declared.state.Interrupt.{Interrupt}
+use Rattle.rhai_state.specs.declared.state.Interrupt.TheVariants as stopped
 use Rattle.rhai_host.specs.declared.report.Stuck.TheVariants as why
-use Rattle.rhai_machine.specs.declared.steps.state.State.{State}
+use Rattle.rhai_state.specs.declared.state.State.{State}
 use Rattle.rhai_machine.specs.Chaining.{StepsOn, Reaches, access_meant, head_of, link_steps, rest_steps, steps_on}
 use Rattle.rhai_machine.specs.Operators.{StandsFor}
 use Rattle.rhai_machine.specs.Placing.{current_in}
-use Rattle.rhai_machine.specs.Runs.{Setting, Acting, Goes, Leads, Runs, given}
-use Rattle.rhai_machine.specs.State.{store_of}
+use Rattle.rhai_state.specs.Runs.{Setting, Acting, Goes, Leads, Runs, given}
+use Rattle.rhai_state.specs.State.{store_of}
 use Rattle.rhai_machine.specs.Targets.{Changes, Finds, found_in}
 use Rattle.rhai_machine.proofs.Chaining.{KeepsNames, same_current}
-use Rattle.rhai_machine.proofs.Goes.{gives, goes_as, goes_then, leads_then, stops_then, value_goes, value_stops}
+use Rattle.rhai_state.proofs.Goes.{gives, goes_as, goes_then, leads_then, stops_then, value_goes, value_stops}
 use Rattle.rhai_machine.proofs.Quiet.{Quiet, quiet_assigned, quiet_give, quiet_stays, quiet_then}
 use Rattle.rhai_machine.proofs.ChainSteps.{first_step, head_is, step_here}
 

@@ -14,11 +14,11 @@ use Rattle.rhai_meaning.specs.Engine.{mapped_type_name}
 use Rattle.rhai_machine.specs.Words.{calls_pointer, goes_to_host, word_or}
 use Rattle.rhai_meaning.specs.Core.{Function}
 use Rattle.rhai_meaning.specs.Run.{function_of, key_of}
-use Rattle.rhai_machine.specs.declared.steps.state.Interrupt.{Interrupt}
-use Rattle.rhai_machine.specs.declared.steps.state.State.{State}
-use Rattle.rhai_machine.specs.Evaluating.{RunsInvoke}
-use Rattle.rhai_machine.specs.Runs.{Setting, Task, Acting, Goes, Stops, Leads, Runs, given}
-use Rattle.rhai_machine.proofs.Goes.{goes_as, goes_then, gives, leads_then, stops_then}
+use Rattle.rhai_state.specs.declared.state.Interrupt.{Interrupt}
+use Rattle.rhai_state.specs.declared.state.State.{State}
+use Rattle.rhai_state.specs.Evaluating.{RunsInvoke}
+use Rattle.rhai_state.specs.Runs.{Setting, Task, Acting, Goes, Stops, Leads, Runs, given}
+use Rattle.rhai_state.proofs.Goes.{goes_as, goes_then, gives, leads_then, stops_then}
 
 abbrev is_known : Option Function → Bool
 is_known (Some f) = true

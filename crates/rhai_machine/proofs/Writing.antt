@@ -14,19 +14,19 @@ use Rattle.rhai_meaning.specs.Elements.{at_index, index_in, count, value_at as i
 use Rattle.rhai_meaning.specs.Places as places
 use Rattle.rhai_meaning.specs.Places.{AtIndex, AtEntry, inside, along, with_inside, with_along, or_no_place, write_place}
 use Rattle.rhai_meaning.specs.Run.{reversed}
-use Rattle.rhai_machine.specs.declared.steps.state.Interrupt.{Interrupt}
-use Rattle.rhai_machine.specs.declared.steps.state.Interrupt.TheVariants.{Stuck}
-use Rattle.rhai_machine.specs.declared.steps.state.State.{State}
+use Rattle.rhai_state.specs.declared.state.Interrupt.{Interrupt}
+use Rattle.rhai_state.specs.declared.state.Interrupt.TheVariants.{Stuck}
+use Rattle.rhai_state.specs.declared.state.State.{State}
 use Rattle.rhai_host.specs.declared.report.Stuck.TheVariants as why
 use Rattle.rhai_host.specs.Entries.{variable_meant}
 use Rattle.rhai_host.specs.Host.{call_meant}
 use Rattle.rhai_machine.specs.Placing.{root_value, root_stuck, constant_end}
-use Rattle.rhai_machine.specs.Runs.{Setting, Task, Acting, Over, Halting, env, run_of, stopped, stop_of, Goes, Stops, Leads, given}
-use Rattle.rhai_machine.specs.State.{store_of}
-use Rattle.rhai_machine.specs.Variables.{Entries, IsMissing, IsLatest}
-use Rattle.rhai_machine.proofs.Goes.{goes_as, goes_then, stops_by, stops_then, value_goes, value_stops}
+use Rattle.rhai_state.specs.Runs.{Setting, Task, Acting, Over, Halting, env, run_of, stopped, stop_of, Goes, Stops, Leads, given}
+use Rattle.rhai_state.specs.State.{store_of}
+use Rattle.rhai_state.specs.Variables.{Entries, IsMissing, IsLatest}
+use Rattle.rhai_state.proofs.Goes.{goes_as, goes_then, stops_by, stops_then, value_goes, value_stops}
 use Rattle.rhai_machine.proofs.Placing.{constant_value, fails, latest_value, read_goes, read_stops}
-use Rattle.rhai_machine.proofs.Variables.{found-latest, found-missing, get-latest, put-latest, set-latest}
+use Rattle.rhai_state.proofs.Variables.{found-latest, found-missing, get-latest, put-latest, set-latest}
 
 -- ---- where keys lead on, a part can be replaced
 

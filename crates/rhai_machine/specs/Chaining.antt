@@ -31,11 +31,11 @@ use Rattle.rhai_machine.specs.declared.steps.links.Link.{Link}
 use Rattle.rhai_machine.specs.declared.steps.links.Rest.{Rest}
 use Rattle.rhai_machine.specs.declared.steps.parts.PropertyNames.{PropertyNames}
 use Rattle.rhai_machine.specs.declared.steps.placing.Current.{Current}
-use Rattle.rhai_machine.specs.declared.steps.state.Interrupt.{Interrupt}
-use Rattle.rhai_machine.specs.declared.steps.state.State.{State}
+use Rattle.rhai_state.specs.declared.state.Interrupt.{Interrupt}
+use Rattle.rhai_state.specs.declared.state.State.{State}
 use Rattle.rhai_machine.specs.Placing.{current_in}
-use Rattle.rhai_machine.specs.Runs.{Setting, Task, Acting, Leads, given}
-use Rattle.rhai_machine.specs.State.{store_of}
+use Rattle.rhai_state.specs.Runs.{Setting, Task, Acting, Leads, given}
+use Rattle.rhai_state.specs.State.{store_of}
 
 abbrev pub names_meant : PropertyNames → tree.PropertyNames
 names_meant n = record { getter = n.getter.now; setter = n.setter.now; name = n.name.now }

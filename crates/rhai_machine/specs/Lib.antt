@@ -1,9 +1,6 @@
-pub mod State
-pub mod Runs
+pub mod Setting
 pub mod Variables
-pub mod Exits
 pub mod Operators
-pub mod Evaluating
 pub mod Words
 pub mod Placing
 pub mod Chaining

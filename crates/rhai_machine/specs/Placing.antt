@@ -17,10 +17,10 @@ use Rattle.rhai_machine.specs.declared.steps.placing.Current.{Current}
 use Rattle.rhai_machine.specs.declared.steps.placing.Current.TheVariants.{At, Loose}
 use Rattle.rhai_host.specs.declared.report.Stuck.{Stuck}
 use Rattle.rhai_host.specs.declared.report.Stuck.TheVariants as why
-use Rattle.rhai_machine.specs.declared.steps.state.Interrupt.{Interrupt}
-use Rattle.rhai_machine.specs.declared.steps.state.Interrupt.TheVariants as stopped
+use Rattle.rhai_state.specs.declared.state.Interrupt.{Interrupt}
+use Rattle.rhai_state.specs.declared.state.Interrupt.TheVariants as stopped
 use Rattle.rhai_host.specs.Report.{stuck_meant}
-use Rattle.rhai_machine.specs.Runs.{Setting}
+use Rattle.rhai_state.specs.Runs.{Setting}
 use Rattle.rhai_machine.specs.Variables.{root_meant}
 
 abbrev pub place_meant : Place → places.Place

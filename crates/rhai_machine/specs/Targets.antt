@@ -23,10 +23,10 @@ use Rattle.rhai_machine.specs.declared.steps.left_sides.LeftSide.TheVariants as 
 use Rattle.rhai_machine.specs.declared.steps.links.Rest.{Rest}
 use Rattle.rhai_machine.specs.declared.steps.parts.Found.{Found}
 use Rattle.rhai_machine.specs.declared.steps.parts.Found.TheVariants as found
-use Rattle.rhai_machine.specs.declared.steps.state.Interrupt.{Interrupt}
-use Rattle.rhai_machine.specs.declared.steps.state.State.{State}
+use Rattle.rhai_state.specs.declared.state.Interrupt.{Interrupt}
+use Rattle.rhai_state.specs.declared.state.State.{State}
 use Rattle.rhai_machine.specs.Chaining.{rest_steps}
-use Rattle.rhai_machine.specs.Runs.{Setting, Acting, Leads}
+use Rattle.rhai_state.specs.Runs.{Setting, Acting, Leads}
 use Rattle.rhai_machine.specs.Variables.{root_meant}
 
 -- ---- left sides

@@ -11,19 +11,19 @@ use Rattle.rhai_meaning.specs.Engine.{Engine}
 use Rattle.rhai_meaning.specs.Meaning.{acts}
 use Rattle.rhai_meaning.specs.Run.{AtStatements, Report, end_of, report_of, run_script, world_of}
 use Rattle.rhai_meaning.specs.Tree.{Script}
-use Rattle.rhai_machine.specs.declared.steps.state.Interrupt.{Interrupt}
-use Rattle.rhai_machine.specs.declared.steps.state.Interrupt.TheVariants.{NoMemory, Return, Break, Continue, Throw, Stuck, OutOfTurns}
-use Rattle.rhai_machine.specs.declared.steps.state.State.{State}
+use Rattle.rhai_state.specs.declared.state.Interrupt.{Interrupt}
+use Rattle.rhai_state.specs.declared.state.Interrupt.TheVariants.{NoMemory, Return, Break, Continue, Throw, Stuck, OutOfTurns}
+use Rattle.rhai_state.specs.declared.state.State.{State}
 use Rattle.rhai_host.specs.declared.report.RunEnd.{RunEnd}
 use Rattle.rhai_host.specs.Entries.{variable_meant}
-use Rattle.rhai_machine.specs.Evaluating.{EndsAs, RunsStmts}
+use Rattle.rhai_state.specs.Evaluating.{EndsAs, RunsStmts}
 use Rattle.rhai_host.specs.Host.{call_meant}
 use Rattle.rhai_host.specs.Report.{end_meant, ReportsRun}
-use Rattle.rhai_machine.specs.Runs.{Setting, setting_of, env, Goes, Listing, Over}
-use Rattle.rhai_machine.specs.State.{store_of}
+use Rattle.rhai_state.specs.Runs.{Setting, setting_of, env, Goes, Listing, Over}
+use Rattle.rhai_state.specs.State.{store_of}
 use Rattle.rhai_meaning.proofs.Agreeing.{same_report}
 use Rattle.rhai_machine.proofs.Unbound.{unbound_all}
-use Rattle.rhai_machine.proofs.Scopes.{reversed_twice}
+use Rattle.rhai_state.proofs.Scopes.{reversed_twice}
 
 abbrev pub script_setting : Engine → Host → Script → Setting
 script_setting engine host p = let fs = (map core_function p.functions) in setting_of (world_of engine host fs) fs

@@ -25,8 +25,9 @@ ghost use Rattle.rhai_host.specs.Entries.{start_scope};
 use crate::plain::evaluator::Evaluator;
 use crate::{EngineInfo, Host, RunReport};
 use rhai_base::{OutOfMemory, Scope, Seq};
-use rhai_machine::{Machine, State, run_end};
+use rhai_machine::Machine;
 use rhai_script::AST;
+use rhai_state::{State, run_end};
 use std::alloc::Global;
 
 /// Runs a script's statements from a scope, with so many turns. It only borrows the script, and uses no rule and no

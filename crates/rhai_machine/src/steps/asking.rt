@@ -5,14 +5,15 @@ ghost use Rattle.rhai_values.specs.Reading.{value_of};
 ghost use Rattle.rhai_base.specs.Builtin.{operator_of};
 ghost use Rattle.rhai_meaning.specs.ActForms.{ask_host};
 ghost use Rattle.rhai_meaning.specs.Calls.{operate};
-ghost use Rattle.rhai_machine.specs.Evaluating.{setting, Runs};
-ghost use Rattle.rhai_machine.specs.Runs.{Acting};
+ghost use Rattle.rhai_machine.specs.Setting.{setting};
+ghost use Rattle.rhai_state.specs.Evaluating.{Runs};
+ghost use Rattle.rhai_state.specs.Runs.{Acting};
 
 use crate::steps::machine::Machine;
 use crate::steps::operators::{builtin, fault_text};
-use crate::steps::state::{Interrupt, State};
 use rhai_base::{Dynamic, ImmutableString, Seq, Token};
 use rhai_host::{Host, HostAnswer, HostCall, ask};
+use rhai_state::{Interrupt, State};
 
 impl<'a, H: Host> Machine<'a, H> {
     /// An operator over values: built in, or else the host's.

@@ -6,8 +6,9 @@ ghost use Rattle.std.specs.Prelude.{◌≡◌, true, Some};
 ghost use Rattle.rhai_values.specs.Reading.{value_of};
 ghost use Rattle.rhai_base.specs.Builtin.{operator_of};
 ghost use Rattle.rhai_meaning.specs.Act.{Write};
-ghost use Rattle.rhai_machine.specs.Evaluating.{setting, Runs};
-ghost use Rattle.rhai_machine.specs.Runs.{Acting};
+ghost use Rattle.rhai_machine.specs.Setting.{setting};
+ghost use Rattle.rhai_state.specs.Evaluating.{Runs};
+ghost use Rattle.rhai_state.specs.Runs.{Acting};
 ghost use Rattle.rhai_machine.specs.Variables.{root_meant};
 ghost use Rattle.rhai_meaning.specs.Calls as calls;
 ghost use Rattle.rhai_meaning.specs.Chains as chains;
@@ -15,10 +16,10 @@ ghost use Rattle.rhai_meaning.specs.Chains as chains;
 use crate::steps::machine::Machine;
 use crate::steps::operators::{asks_assigning, assigning_name, assigning_operator};
 use crate::steps::placing::Place;
-use crate::steps::state::{Interrupt, State};
 use crate::steps::variables::Root;
 use rhai_base::{Dynamic, OpAssignment, Seq, Token};
 use rhai_host::Host;
+use rhai_state::{Interrupt, State};
 
 impl<'a, H: Host> Machine<'a, H> {
     /// Writes to a name or to `this`, which an operator reads first.

@@ -7,22 +7,21 @@ ghost use Rattle.std.specs.Option.{option_copied, option_map};
 ghost use Rattle.std.specs.Rc.{rc_value};
 ghost use Rattle.rhai_values.specs.Reading.{value_of};
 ghost use Rattle.rhai_meaning.specs.Act.{Act};
-ghost use Rattle.rhai_machine.specs.declared.steps.state.State.{State};
-ghost use Rattle.rhai_machine.specs.Evaluating.{setting};
-ghost use Rattle.rhai_machine.specs.Runs.{Acting, Leads};
+ghost use Rattle.rhai_state.specs.declared.state.State.{State};
+ghost use Rattle.rhai_machine.specs.Setting.{setting};
+ghost use Rattle.rhai_state.specs.Runs.{Acting, Leads};
 ghost use Rattle.rhai_machine.specs.Words.{word_meant};
 ghost use Rattle.rhai_meaning.specs.Calls as calls;
 ghost use Rattle.rhai_meaning.specs.Places as places;
 ghost use Rattle.rhai_machine.specs.Chaining as spec;
 
 use crate::steps::machine::Machine;
-use crate::steps::pointers::curried;
-use crate::steps::state::{Interrupt, State};
 use crate::steps::words::Word;
 use rhai_ast::ScriptFuncDef;
 use rhai_base::{Dynamic, ImmutableString};
 use rhai_functions::FnKey;
 use rhai_host::Host;
+use rhai_state::{Interrupt, State, curried};
 use std::alloc::AllocError;
 use std::rc::Rc;
 

@@ -4,9 +4,9 @@
 
 ghost use Rattle.std.specs.Prelude.{◌≡◌, map, IfOk, Some};
 ghost use Rattle.rhai_machine.specs.Chaining.{StepsOn, names_meant};
-ghost use Rattle.rhai_machine.specs.Evaluating.{setting};
-ghost use Rattle.rhai_machine.specs.Runs.{Acting, Leads, Leaving, given, stop_of};
-ghost use Rattle.rhai_machine.specs.State.{store_of};
+ghost use Rattle.rhai_machine.specs.Setting.{setting};
+ghost use Rattle.rhai_state.specs.Runs.{Acting, Leads, Leaving, given, stop_of};
+ghost use Rattle.rhai_state.specs.State.{store_of};
 ghost use Rattle.std.specs.Option.{option_map};
 ghost use Rattle.rhai_values.specs.Reading.{value_of};
 ghost use Rattle.rhai_values.specs.Value.{TextV, UnitV};
@@ -19,10 +19,10 @@ ghost use Rattle.rhai_machine.specs.Placing as spec;
 
 use crate::steps::machine::Machine;
 use crate::steps::placing::{Current, Place, at_key};
-use crate::steps::state::{Interrupt, State};
 use rhai_base::{Dynamic, ImmutableString, Seq};
 use rhai_host::{Host, HostAnswer, HostCall, ask};
 use rhai_places::{IndexTarget, Indexed, PlaceKey, index, index_target};
+use rhai_state::{Interrupt, State};
 use std::alloc::{AllocError, Global};
 
 /// A step whose argument is evaluated.

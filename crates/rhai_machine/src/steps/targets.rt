@@ -7,19 +7,19 @@ ghost use Rattle.rhai_values.specs.Reading.{value_of};
 ghost use Rattle.rhai_values.specs.Value.{UnitV};
 ghost use Rattle.rhai_base.specs.Builtin.{operator_of};
 ghost use Rattle.rhai_machine.specs.Chaining.{access_meant, names_meant};
-ghost use Rattle.rhai_machine.specs.Evaluating.{setting};
+ghost use Rattle.rhai_machine.specs.Setting.{setting};
 ghost use Rattle.rhai_machine.specs.Placing.{current_in};
-ghost use Rattle.rhai_machine.specs.Runs.{Acting, Leads, given};
-ghost use Rattle.rhai_machine.specs.State.{store_of};
+ghost use Rattle.rhai_state.specs.Runs.{Acting, Leads, given};
+ghost use Rattle.rhai_state.specs.State.{store_of};
 ghost use Rattle.rhai_machine.specs.Targets.{Changes};
 ghost use Rattle.rhai_meaning.specs.Chains as chains;
 
 use crate::steps::machine::Machine;
 use crate::steps::parts::{Access, PropertyNames};
 use crate::steps::placing::Current;
-use crate::steps::state::{Interrupt, State};
 use rhai_base::{Dynamic, Token};
 use rhai_host::{Host, Stuck};
+use rhai_state::{Interrupt, State};
 
 impl<'a, H: Host> Machine<'a, H> {
     /// Writes where a last step leads; what has no place is stuck.

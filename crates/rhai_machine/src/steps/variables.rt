@@ -6,17 +6,19 @@ ghost use Rattle.std.specs.Prelude.{◌≡◌, MatchOption, IfOk, option_map};
 ghost use Rattle.std.specs.String.{string_bytes};
 ghost use Rattle.rhai_reading.specs.Reading.{expr_of, path_of};
 ghost use Rattle.rhai_meaning.specs.Act.{Read};
-ghost use Rattle.rhai_machine.specs.Evaluating.{setting, Runs, RunsCore};
-ghost use Rattle.rhai_machine.specs.Runs.{Acting};
-ghost use Rattle.rhai_machine.specs.declared.steps.state.State.{State};
-ghost use Rattle.rhai_machine.specs.Variables.{root_meant, IsLatest, IsMissing};
+ghost use Rattle.rhai_machine.specs.Setting.{setting};
+ghost use Rattle.rhai_state.specs.Evaluating.{Runs, RunsCore};
+ghost use Rattle.rhai_state.specs.Runs.{Acting};
+ghost use Rattle.rhai_state.specs.declared.state.State.{State};
+ghost use Rattle.rhai_state.specs.Variables.{IsLatest, IsMissing};
+ghost use Rattle.rhai_machine.specs.Variables.{root_meant};
 ghost use Rattle.rhai_meaning.specs.Desugar as desugar;
 
 use crate::steps::machine::Machine;
-use crate::steps::state::{Interrupt, State};
 use rhai_ast::Expr;
 use rhai_base::{Dynamic, ImmutableString, Namespace};
 use rhai_host::{Host, Stuck, Variable};
+use rhai_state::{Interrupt, State};
 use std::alloc::{AllocError, Global};
 
 /// What has a value that can be replaced.

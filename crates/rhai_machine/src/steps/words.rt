@@ -8,17 +8,17 @@ ghost use Rattle.rhai_values.specs.Value.{TextV};
 ghost use Rattle.rhai_engine.specs.EngineInfo.{engine_of};
 ghost use Rattle.rhai_meaning.specs.Act.{Act};
 ghost use Rattle.rhai_meaning.specs.Engine.{mapped_type_name};
-ghost use Rattle.rhai_machine.specs.declared.steps.state.State.{State};
-ghost use Rattle.rhai_machine.specs.Evaluating.{arm_then, setting};
-ghost use Rattle.rhai_machine.specs.Runs.{Acting, Goes, Leads, Setting};
+ghost use Rattle.rhai_state.specs.declared.state.State.{State};
+ghost use Rattle.rhai_machine.specs.Setting.{setting};
+ghost use Rattle.rhai_state.specs.Evaluating.{arm_then};
+ghost use Rattle.rhai_state.specs.Runs.{Acting, Goes, Leads, Setting};
 ghost use Rattle.rhai_machine.specs.Words.{calls_pointer, goes_to_host, word_meant, word_or};
 ghost use Rattle.rhai_meaning.specs.Calls as calls;
 
 use crate::steps::machine::Machine;
-use crate::steps::pointers::{curried, pointer_to};
-use crate::steps::state::Interrupt;
 use rhai_base::{Dynamic, ImmutableString};
 use rhai_host::Host;
+use rhai_state::{Interrupt, curried, pointer_to};
 use std::alloc::AllocError;
 
 /// What a name calls that is the language's own.

@@ -8,22 +8,22 @@ ghost use Rattle.rhai_values.specs.Reading.{value_of};
 ghost use Rattle.rhai_values.specs.Value.{UnitV, Value, same};
 ghost use Rattle.rhai_meaning.specs.Act.{OfName, OfThis};
 ghost use Rattle.rhai_places.specs.Reading.{key_meant};
-ghost use Rattle.rhai_machine.specs.declared.steps.state.State.{State};
-ghost use Rattle.rhai_machine.specs.Evaluating.{setting};
-ghost use Rattle.rhai_machine.specs.Runs.{Acting, Leads, given};
-ghost use Rattle.rhai_machine.specs.State.{store_of};
-ghost use Rattle.rhai_machine.specs.Variables.{IsMissing};
+ghost use Rattle.rhai_state.specs.declared.state.State.{State};
+ghost use Rattle.rhai_machine.specs.Setting.{setting};
+ghost use Rattle.rhai_state.specs.Runs.{Acting, Leads, given};
+ghost use Rattle.rhai_state.specs.State.{store_of};
+ghost use Rattle.rhai_state.specs.Variables.{IsMissing};
 ghost use Rattle.rhai_meaning.specs.Places as places;
 ghost use Rattle.rhai_machine.specs.declared.steps.placing.Current.TheVariants as kind;
 ghost use Rattle.rhai_machine.specs.Placing as spec;
 
 use crate::steps::machine::Machine;
 use crate::steps::placing::{Current, Place};
-use crate::steps::state::{Interrupt, State};
 use crate::steps::variables::{Root, position};
 use rhai_base::Dynamic;
 use rhai_host::{Host, Stuck};
 use rhai_places::{Part, PlaceKey, along, replace_along};
+use rhai_state::{Interrupt, State};
 
 impl<'a, H: Host> Machine<'a, H> {
     /// Puts a value at a place, and adds the last entry where it is missing. A constant stays as it is; one that must be

@@ -7,8 +7,9 @@ ghost use Rattle.rhai_values.specs.Reading.{value_of};
 ghost use Rattle.rhai_base.specs.Builtin.{operator_of};
 ghost use Rattle.rhai_reading.specs.Reading.{expr_of};
 ghost use Rattle.rhai_meaning.specs.Desugar.{core_stmt};
-ghost use Rattle.rhai_machine.specs.Evaluating.{setting, Runs, RunsLine};
-ghost use Rattle.rhai_machine.specs.Runs.{Acting};
+ghost use Rattle.rhai_machine.specs.Setting.{setting};
+ghost use Rattle.rhai_state.specs.Evaluating.{Runs, RunsLine};
+ghost use Rattle.rhai_state.specs.Runs.{Acting};
 ghost use Rattle.rhai_machine.specs.Targets.{side_core};
 ghost use Rattle.rhai_meaning.specs.Meaning as meaning;
 ghost use Rattle.rhai_meaning.specs.Tree as tree;
@@ -17,7 +18,8 @@ use crate::plain::evaluator::Evaluator;
 use rhai_ast::BinaryExpr;
 use rhai_base::{Dynamic, OpAssignment};
 use rhai_host::{Host, Stuck};
-use rhai_machine::{Interrupt, LeftSide, State, left_side};
+use rhai_machine::{LeftSide, left_side};
+use rhai_state::{Interrupt, State};
 
 impl<'a, H: Host> Evaluator<'a, H> {
     /// The right side first, then what stands at the left.

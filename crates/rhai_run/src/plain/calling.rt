@@ -6,8 +6,9 @@ ghost use Rattle.std.specs.Prelude.{◌≡◌, true, length, map};
 ghost use Rattle.rhai_values.specs.Reading.{value_of};
 ghost use Rattle.rhai_reading.specs.Reading.{callee_of, exprs_of};
 ghost use Rattle.rhai_meaning.specs.Desugar.{callee_by};
-ghost use Rattle.rhai_machine.specs.Evaluating.{setting, Runs, RunsCall};
-ghost use Rattle.rhai_machine.specs.Runs.{Acting};
+ghost use Rattle.rhai_machine.specs.Setting.{setting};
+ghost use Rattle.rhai_state.specs.Evaluating.{Runs, RunsCall};
+ghost use Rattle.rhai_state.specs.Runs.{Acting};
 ghost use Rattle.rhai_meaning.specs.Calls as calls;
 ghost use Rattle.rhai_meaning.specs.Shape as shape;
 
@@ -15,7 +16,8 @@ use crate::plain::evaluator::Evaluator;
 use rhai_ast::FnCallExpr;
 use rhai_base::{Dynamic, ImmutableString, Seq};
 use rhai_host::{Host, Stuck};
-use rhai_machine::{Interrupt, State, Word, is_callable, operator_called, pointed, qualified};
+use rhai_machine::{Word, is_callable, operator_called, qualified};
+use rhai_state::{Interrupt, State, pointed};
 
 impl<'a, H: Host> Evaluator<'a, H> {
     /// A call: its arguments first, then what its name stands for. One whose name or token no tree has is stuck before.

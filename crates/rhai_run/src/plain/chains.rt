@@ -5,10 +5,11 @@
 ghost use Rattle.std.specs.Prelude.{false};
 ghost use Rattle.rhai_reading.specs.Reading.{chain_flags, expr_of};
 ghost use Rattle.rhai_machine.specs.Chaining.{access_meant, rest_steps, StepsOn};
-ghost use Rattle.rhai_machine.specs.Evaluating.{setting, Runs, RunsCore};
+ghost use Rattle.rhai_machine.specs.Setting.{setting};
+ghost use Rattle.rhai_state.specs.Evaluating.{Runs, RunsCore};
 ghost use Rattle.rhai_machine.specs.Placing.{current_in};
-ghost use Rattle.rhai_machine.specs.Runs.{Acting};
-ghost use Rattle.rhai_machine.specs.State.{store_of};
+ghost use Rattle.rhai_state.specs.Runs.{Acting};
+ghost use Rattle.rhai_state.specs.State.{store_of};
 ghost use Rattle.rhai_meaning.specs.Chains as chains;
 ghost use Rattle.rhai_meaning.specs.Desugar as desugar;
 ghost use Rattle.rhai_meaning.specs.Meaning as meaning;
@@ -19,9 +20,8 @@ use bitflags::Flags;
 use rhai_ast::{BinaryExpr, Expr, FnCallExpr};
 use rhai_base::{ASTFlags, Dynamic};
 use rhai_host::{Host, Stuck};
-use rhai_machine::{
-    Access, Current, Interrupt, PropertyNames, Rest, State, is_callable, is_chain, root_of,
-};
+use rhai_machine::{Access, Current, PropertyNames, Rest, is_callable, is_chain, root_of};
+use rhai_state::{Interrupt, State};
 
 impl<'a, H: Host> Evaluator<'a, H> {
     /// A chain by its outermost node: its base, then its steps.

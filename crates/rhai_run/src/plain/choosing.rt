@@ -7,16 +7,18 @@ ghost use Rattle.rhai_reading.specs.Reading.{arms_of, cases_of, expr_of, express
 ghost use Rattle.rhai_values.specs.Reading.{value_of};
 ghost use Rattle.rhai_meaning.specs.Control.{chosen, default_of, ranges_with, switch_on};
 ghost use Rattle.rhai_meaning.specs.Desugar.{core_stmt};
-ghost use Rattle.rhai_machine.specs.Evaluating.{arms_here, setting, Runs, RunsArm, RunsFirstArm, RunsLine};
-ghost use Rattle.rhai_machine.specs.Runs.{Acting};
+ghost use Rattle.rhai_machine.specs.Setting.{setting};
+ghost use Rattle.rhai_state.specs.Evaluating.{arms_here, Runs, RunsArm, RunsFirstArm, RunsLine};
+ghost use Rattle.rhai_state.specs.Runs.{Acting};
 ghost use Rattle.rhai_meaning.specs.Tree as tree;
 
 use crate::plain::evaluator::Evaluator;
 use rhai_ast::{BinaryExpr, SwitchBlock, SwitchCasesCollection};
 use rhai_base::{Dynamic, RangeCase};
 use rhai_host::{Host, Stuck};
-use rhai_machine::{Interrupt, State, case_list, truth};
+use rhai_machine::case_list;
 use rhai_queries::is_table;
+use rhai_state::{Interrupt, State, truth};
 
 impl<'a, H: Host> Evaluator<'a, H> {
     /// The first arm in the subject's list, or else in its ranges, whose condition holds; else the default. One with a table

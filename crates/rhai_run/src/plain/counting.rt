@@ -9,15 +9,16 @@ ghost use Rattle.rhai_meaning.specs.Desugar.{core_expr, core_stmts};
 ghost use Rattle.rhai_meaning.specs.Act.{Named};
 ghost use Rattle.rhai_meaning.specs.Control.{counted, for_count, for_each};
 ghost use Rattle.rhai_meaning.specs.Core.{For};
-ghost use Rattle.rhai_machine.specs.Evaluating.{body_of, setting, Runs, RunsDeed, RunsList, RunsRound};
-ghost use Rattle.rhai_machine.specs.Exits.{count_of};
-ghost use Rattle.rhai_machine.specs.Runs.{Acting};
+ghost use Rattle.rhai_machine.specs.Setting.{setting};
+ghost use Rattle.rhai_state.specs.Evaluating.{body_of, Runs, RunsDeed, RunsList, RunsRound};
+ghost use Rattle.rhai_state.specs.Exits.{count_of};
+ghost use Rattle.rhai_state.specs.Runs.{Acting};
 
 use crate::plain::evaluator::Evaluator;
 use rhai_ast::FlowControl;
 use rhai_base::{Dynamic, Ident, Seq};
 use rhai_host::{Host, Stuck};
-use rhai_machine::{
+use rhai_state::{
     Interrupt, State, declare_count, next_count, nth, round_ended, rounds_before, rounds_through,
 };
 

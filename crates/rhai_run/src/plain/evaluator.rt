@@ -6,12 +6,14 @@ ghost use Rattle.std.specs.Prelude.{◌≡◌, ◌<◌, ◌≤◌, true, false, 
 ghost use Rattle.rhai_reading.specs.Reading.{expr_of, exprs_of, keys_of, maybe_of, pairs_of};
 ghost use Rattle.rhai_meaning.specs.Desugar.{core_expr};
 ghost use Rattle.rhai_meaning.specs.Tree.{MapOf};
-ghost use Rattle.rhai_machine.specs.Evaluating.{setting, RunsCore, RunsExpr, RunsExprs, RunsMaybe, RunsMembers};
+ghost use Rattle.rhai_machine.specs.Setting.{setting};
+ghost use Rattle.rhai_state.specs.Evaluating.{RunsCore, RunsExpr, RunsExprs, RunsMaybe, RunsMembers};
 
 use rhai_ast::Expr;
 use rhai_base::{Boxed, Dynamic, Ident, Seq, StringMap};
 use rhai_host::{Host, Stuck};
-use rhai_machine::{Interrupt, Machine, Root, State, constant, insert, is_map, joined_text};
+use rhai_machine::{Machine, Root, insert, is_map};
+use rhai_state::{Interrupt, State, constant, joined_text};
 
 /// What a run is in. Its functions do what the run meaning says of trees.
 #[derive(Drop)]

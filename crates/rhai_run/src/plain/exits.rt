@@ -6,7 +6,8 @@ ghost use Rattle.std.specs.Option.{option_copied};
 ghost use Rattle.rhai_reading.specs.Reading.{breaks, expr_of, is_exported, maybe_of, stmts_of};
 ghost use Rattle.rhai_values.specs.Reading.{value_of};
 ghost use Rattle.rhai_meaning.specs.Desugar.{core_stmt, core_stmts};
-ghost use Rattle.rhai_machine.specs.Evaluating.{setting, RunsCatch, RunsLine};
+ghost use Rattle.rhai_machine.specs.Setting.{setting};
+ghost use Rattle.rhai_state.specs.Evaluating.{RunsCatch, RunsLine};
 ghost use Rattle.rhai_meaning.specs.Tree as tree;
 
 use crate::plain::evaluator::Evaluator;
@@ -14,9 +15,9 @@ use bitflags::Flags;
 use rhai_ast::{Expr, FlowControl, StmtBlock};
 use rhai_base::{ASTFlags, Boxed, Dynamic, ImmutableString};
 use rhai_host::{Host, Stuck};
-use rhai_machine::{
-    Interrupt, State, body_ended, branch_ended, catch_name, declare_caught, function_exit,
-    loop_exit,
+use rhai_machine::catch_name;
+use rhai_state::{
+    Interrupt, State, body_ended, branch_ended, declare_caught, function_exit, loop_exit,
 };
 
 impl<'a, H: Host> Evaluator<'a, H> {

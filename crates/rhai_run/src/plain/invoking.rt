@@ -10,8 +10,9 @@ ghost use Rattle.rhai_functions.specs.FnKey.{definition_key};
 ghost use Rattle.rhai_functions.specs.FnLib.{functions_of};
 ghost use Rattle.rhai_meaning.specs.Desugar.{core_function};
 ghost use Rattle.rhai_meaning.specs.Weight.{weight};
-ghost use Rattle.rhai_machine.specs.Evaluating.{bodies_weight, setting, Runs, RunsInvoke};
-ghost use Rattle.rhai_machine.specs.Runs.{Acting};
+ghost use Rattle.rhai_machine.specs.Setting.{setting};
+ghost use Rattle.rhai_state.specs.Evaluating.{bodies_weight, Runs, RunsInvoke};
+ghost use Rattle.rhai_state.specs.Runs.{Acting};
 ghost use Rattle.rhai_meaning.specs.Calls as calls;
 ghost use Rattle.rhai_meaning.specs.Run as run;
 
@@ -19,8 +20,8 @@ use crate::plain::evaluator::Evaluator;
 use rhai_ast::ScriptFuncDef;
 use rhai_base::{Dynamic, ImmutableString, Seq};
 use rhai_host::Host;
-use rhai_machine::{Interrupt, State, function_ended};
 use rhai_script::FnKey;
+use rhai_state::{Interrupt, State, function_ended};
 
 impl<'a, H: Host> Evaluator<'a, H> {
     /// A script's function of this name without receiver type, else the host.

@@ -3,13 +3,14 @@
 #![tactic(auto, using(rhai_values::specs::Reading::kinds))]
 
 ghost use Rattle.rhai_reading.specs.Reading.{exprs_of};
-ghost use Rattle.rhai_machine.specs.Evaluating.{setting, RunsBoth, RunsEither, RunsFirstSome};
+ghost use Rattle.rhai_machine.specs.Setting.{setting};
+ghost use Rattle.rhai_state.specs.Evaluating.{RunsBoth, RunsEither, RunsFirstSome};
 
 use crate::plain::evaluator::Evaluator;
 use rhai_ast::Expr;
 use rhai_base::Dynamic;
 use rhai_host::Host;
-use rhai_machine::{Interrupt, State, some_value, truth};
+use rhai_state::{Interrupt, State, some_value, truth};
 
 impl<'a, H: Host> Evaluator<'a, H> {
     /// `&&`: the operands up to the first that is false.

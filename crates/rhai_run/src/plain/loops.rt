@@ -6,7 +6,8 @@ ghost use Rattle.std.specs.Prelude.{◌<◌, true, IfOk};
 ghost use Rattle.rhai_reading.specs.Reading.{expr_of, is_exported, is_negated, stmts_of};
 ghost use Rattle.rhai_meaning.specs.Core.{Always, Do, When, While};
 ghost use Rattle.rhai_meaning.specs.Desugar.{core_expr, core_stmt, core_stmts, guard_by};
-ghost use Rattle.rhai_machine.specs.Evaluating.{body_of, setting, RunsDeed, RunsLine, RunsRound};
+ghost use Rattle.rhai_machine.specs.Setting.{setting};
+ghost use Rattle.rhai_state.specs.Evaluating.{body_of, RunsDeed, RunsLine, RunsRound};
 ghost use Rattle.rhai_meaning.specs.Tree as tree;
 
 use crate::plain::evaluator::Evaluator;
@@ -14,7 +15,7 @@ use bitflags::Flags;
 use rhai_ast::{Expr, ExprQueries, FlowControl, StmtBlock};
 use rhai_base::{ASTFlags, Dynamic};
 use rhai_host::{Host, Stuck};
-use rhai_machine::{Interrupt, State, ends_at, round_ended, truth};
+use rhai_state::{Interrupt, State, ends_at, round_ended, truth};
 
 impl<'a, H: Host> Evaluator<'a, H> {
     /// A round that runs a loop's body: the loop's value where it is left, `None` where another round follows.

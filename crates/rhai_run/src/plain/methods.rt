@@ -5,11 +5,12 @@
 ghost use Rattle.std.specs.Prelude.{◌≡◌, false, Ok, map};
 ghost use Rattle.rhai_values.specs.Reading.{value_of};
 ghost use Rattle.rhai_machine.specs.Chaining.{StepsOn};
-ghost use Rattle.rhai_machine.specs.declared.steps.state.State.{State};
-ghost use Rattle.rhai_machine.specs.Evaluating.{setting, Runs};
+ghost use Rattle.rhai_state.specs.declared.state.State.{State};
+ghost use Rattle.rhai_machine.specs.Setting.{setting};
+ghost use Rattle.rhai_state.specs.Evaluating.{Runs};
 ghost use Rattle.rhai_machine.specs.Placing.{current_in};
-ghost use Rattle.rhai_machine.specs.Runs.{Acting};
-ghost use Rattle.rhai_machine.specs.State.{store_of};
+ghost use Rattle.rhai_state.specs.Runs.{Acting};
+ghost use Rattle.rhai_state.specs.State.{store_of};
 ghost use Rattle.rhai_meaning.specs.Calls as calls;
 ghost use Rattle.rhai_meaning.specs.Chains as chains;
 ghost use Rattle.rhai_machine.specs.Chaining as spec;
@@ -17,7 +18,8 @@ ghost use Rattle.rhai_machine.specs.Chaining as spec;
 use crate::plain::evaluator::Evaluator;
 use rhai_base::{Dynamic, ImmutableString, Seq};
 use rhai_host::Host;
-use rhai_machine::{Current, Interrupt, State, Word, pointed_with};
+use rhai_machine::{Current, Word};
+use rhai_state::{Interrupt, State, pointed_with};
 
 impl<'a, H: Host> Evaluator<'a, H> {
     /// A method's value: that of a word, or of a function whose new receiver is put back.

@@ -5,7 +5,8 @@
 ghost use Rattle.rhai_reading.specs.Reading.{expr_of, is_const, is_exported, stmt_of, stmts_of};
 ghost use Rattle.rhai_meaning.specs.Core.{If};
 ghost use Rattle.rhai_meaning.specs.Desugar.{core_expr, core_stmt, core_stmts};
-ghost use Rattle.rhai_machine.specs.Evaluating.{setting, RunsBlock, RunsDeed, RunsLine, RunsStmt, RunsStmts};
+ghost use Rattle.rhai_machine.specs.Setting.{setting};
+ghost use Rattle.rhai_state.specs.Evaluating.{RunsBlock, RunsDeed, RunsLine, RunsStmt, RunsStmts};
 ghost use Rattle.rhai_meaning.specs.Tree as tree;
 
 use crate::plain::evaluator::Evaluator;
@@ -13,7 +14,7 @@ use bitflags::Flags;
 use rhai_ast::{Expr, FlowControl, Stmt, StmtBlock};
 use rhai_base::{ASTFlags, Dynamic, Ident};
 use rhai_host::{Host, Stuck};
-use rhai_machine::{Interrupt, State, truth};
+use rhai_state::{Interrupt, State, truth};
 
 impl<'a, H: Host> Evaluator<'a, H> {
     #[cycle(evaluate)]

@@ -1,5 +1,5 @@
 use Rattle.std.proofs.Common.{refl, sym, ◌∙◌}
-use Rattle.rhai_machine.proofs.Variables.{searched_found}
+use Rattle.rhai_state.proofs.Variables.{searched_found}
 use Rattle.rhai_machine.proofs.steps.variables.position.Goals as goal
 
 pub returns-then-eq : goal.returns-then-eq

@@ -1,5 +1,5 @@
 use Rattle.std.proofs.Common.{length}
-use Rattle.rhai_machine.proofs.Variables.{SearchedTo}
+use Rattle.rhai_state.proofs.Variables.{SearchedTo}
 use Rattle.rhai_machine.proofs.steps.variables.position.Given as goal
 
 abbrev pub invariant-loop-last : goal.invariant-loop-last

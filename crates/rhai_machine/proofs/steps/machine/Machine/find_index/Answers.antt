@@ -1,6 +1,6 @@
-use Rattle.rhai_machine.specs.Evaluating.{setting}
+use Rattle.rhai_machine.specs.Setting.{setting}
 use Rattle.rhai_machine.specs.Placing.{current_in}
-use Rattle.rhai_machine.specs.State.{store_of}
+use Rattle.rhai_state.specs.State.{store_of}
 use Rattle.rhai_machine.proofs.Chaining.{index_asked}
 use Rattle.rhai_places.specs.Reading.{part_value}
 use Rattle.rhai_values.specs.Reading.{value_of}

@@ -1,9 +1,9 @@
 use Rattle.std.proofs.lemmas.Result.{err_from_is_err_and}
 use Rattle.rhai_meaning.specs.Chains.{index}
 use Rattle.rhai_values.specs.Reading.{value_of}
-use Rattle.rhai_machine.specs.Evaluating.{setting}
+use Rattle.rhai_machine.specs.Setting.{setting}
 use Rattle.rhai_machine.specs.Placing.{current_in}
-use Rattle.rhai_machine.specs.State.{store_of}
+use Rattle.rhai_state.specs.State.{store_of}
 use Rattle.rhai_machine.proofs.Quiet.{quiet_index}
 use Rattle.rhai_machine.proofs.Targets.{found_steps}
 use Rattle.rhai_machine.proofs.steps.machine.Machine.index.Goals as goal

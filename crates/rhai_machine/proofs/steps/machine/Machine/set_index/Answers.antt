@@ -6,12 +6,12 @@ use Rattle.rhai_places.specs.Reading.{part_value}
 use Rattle.rhai_values.specs.Reading.{value_of}
 use Rattle.rhai_values.specs.Value.{TextV, UnitV}
 use Rattle.rhai_machine.specs.declared.steps.placing.Current.TheVariants as kind
-use Rattle.rhai_machine.specs.Evaluating.{setting}
+use Rattle.rhai_machine.specs.Setting.{setting}
 use Rattle.rhai_machine.specs.Placing.{current_in, place_meant}
-use Rattle.rhai_machine.specs.Runs.{Acting, Leaving, given}
-use Rattle.rhai_machine.specs.State.{store_of}
+use Rattle.rhai_state.specs.Runs.{Acting, Leaving, given}
+use Rattle.rhai_state.specs.State.{store_of}
 use Rattle.rhai_machine.proofs.Chaining.{set_index_as}
-use Rattle.rhai_machine.proofs.Goes.{stops_by}
+use Rattle.rhai_state.proofs.Goes.{stops_by}
 use Rattle.rhai_machine.proofs.steps.machine.Machine.set_index.Goals as goal
 
 pub returns-in-Part : goal.returns-in-Part

@@ -5,10 +5,10 @@ use Rattle.rhai_values.specs.Reading.{value_of}
 use Rattle.rhai_values.specs.Value.{UnitV}
 use Rattle.rhai_machine.specs.declared.steps.placing.Current.TheVariants as kind
 use Rattle.rhai_machine.specs.Chaining.{names_meant}
-use Rattle.rhai_machine.specs.Evaluating.{setting}
+use Rattle.rhai_machine.specs.Setting.{setting}
 use Rattle.rhai_machine.specs.Placing.{current_in, place_meant}
-use Rattle.rhai_machine.specs.Runs.{given}
-use Rattle.rhai_machine.specs.State.{store_of}
+use Rattle.rhai_state.specs.Runs.{given}
+use Rattle.rhai_state.specs.State.{store_of}
 use Rattle.rhai_machine.proofs.Chaining.{is_some_by, no_part, set_property_asked, set_property_part}
 use Rattle.rhai_machine.proofs.steps.machine.Machine.set_property.Goals as goal
 

@@ -1,6 +1,6 @@
 use Rattle.std.proofs.Common.{◌-◌, ◌∷◌, [], length, drop, take}
 use Rattle.rhai_meaning.specs.Calls as calls
-use Rattle.rhai_machine.specs.Evaluating.{setting}
+use Rattle.rhai_machine.specs.Setting.{setting}
 use Rattle.rhai_machine.proofs.Words.{first_one, only_one, type_word, word_with}
 use Rattle.rhai_machine.proofs.steps.machine.Machine.word_value.Goals as goal
 

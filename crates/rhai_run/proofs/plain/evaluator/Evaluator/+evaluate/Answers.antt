@@ -24,38 +24,39 @@ use Rattle.rhai_meaning.specs.Desugar.{core_expr, core_stmts, ends_in_call}
 use Rattle.rhai_meaning.specs.Shape.{is_unit}
 use Rattle.rhai_meaning.specs.Walk.{over_pairs, total}
 use Rattle.rhai_meaning.specs.Weight.{expr_weight, exprs_weight, own_weight, stmt_weight, weight}
-use Rattle.rhai_machine.specs.declared.steps.state.State.{State}
+use Rattle.rhai_state.specs.declared.state.State.{State}
 use Rattle.rhai_machine.specs.Chaining.{method_in}
-use Rattle.rhai_machine.specs.Evaluating.{arms_here, bodies_weight, body_of, setting}
-use Rattle.rhai_machine.specs.Runs.{Acting, Halting, Runs, given, stop_of}
+use Rattle.rhai_machine.specs.Setting.{setting}
+use Rattle.rhai_state.specs.Evaluating.{arms_here, bodies_weight, body_of}
+use Rattle.rhai_state.specs.Runs.{Acting, Halting, Runs, given, stop_of}
 use Rattle.rhai_machine.specs.Placing.{current_in}
-use Rattle.rhai_machine.specs.State.{store_of}
+use Rattle.rhai_state.specs.State.{store_of}
 use Rattle.rhai_machine.specs.Targets.{side_core}
 use Rattle.rhai_machine.specs.Variables.{root_meant}
 use Rattle.rhai_machine.specs.Words.{word_meant}
 use Rattle.rhai_machine.specs.declared.steps.parts.Access.TheVariants as reached
 use Rattle.rhai_machine.specs.Chaining.{names_meant}
 use Rattle.rhai_machine.specs.Placing.{current_in}
-use Rattle.rhai_machine.specs.State.{store_of}
+use Rattle.rhai_state.specs.State.{store_of}
 use Rattle.rhai_machine.proofs.Quiet.{quiet_index, quiet_property}
 use Rattle.rhai_machine.proofs.LeftSides.{part_called, part_ill, part_runs, part_stops, part_unplaced}
 use Rattle.rhai_machine.proofs.Targets.{index_changes, last_nowhere, last_plain, last_stops, last_written, read_changes, read_ends, target_applied_stops, target_last, target_more, target_stops, target_unit}
 use Rattle.rhai_machine.proofs.ByKind.{array_of_expr, block_of_stmt, braces_of_expr, call_of_expr, call_of_stmt, dot_of_expr, for_of_stmt, if_of_stmt, index_of_expr, map_of_expr, method_of_expr, property_of_expr, switch_of_stmt, text_of_expr}
-use Rattle.rhai_machine.proofs.Counted.{each_ends, each_next, each_stops, for_array, for_body_runs, for_closed_range, for_range, for_round_runs, range_end, range_ends, range_next, range_start, range_stops}
+use Rattle.rhai_state.proofs.Counted.{each_ends, each_next, each_stops, for_array, for_body_runs, for_closed_range, for_range, for_round_runs, range_end, range_ends, range_next, range_start, range_stops}
 use Rattle.rhai_machine.proofs.Exits.{catch_runs, try_catches, try_ends, try_stops}
 use Rattle.rhai_machine.proofs.Nodes.{call_stuck, call_stops, call_runs, called_as}
 use Rattle.rhai_machine.proofs.Callees.{named_callee, operator_callee, qualified_callee}
-use Rattle.rhai_machine.proofs.Goes.{leads_then, stops_by}
+use Rattle.rhai_state.proofs.Goes.{leads_then, stops_by}
 use Rattle.rhai_machine.proofs.Invoked.{back_is, invoke_goes, invoke_late, invoke_stops}
 use Rattle.rhai_machine.proofs.Known.{call_runs_function, found_nothing, found_weight}
 use Rattle.rhai_machine.proofs.Words.{call_asks, word_asks, word_gives, word_names, word_points, word_stops}
 use Rattle.rhai_machine.proofs.Operands.{args_start, args_next, args_stop, args_end, operands_start, both_stops, both_stuck, both_false, both_next, both_end, either_stops, either_stuck, either_true, either_next, either_end, first_stops, first_value, first_next, first_end}
 use Rattle.rhai_machine.proofs.Roots.{assign_runs, assign_stops, assign_stuck, unit_value}
-use Rattle.rhai_machine.proofs.Statements.{stmts_start, stmts_next, stmts_stop, stmts_end, block_runs, body_runs, branch_runs, condition_stops, condition_stuck}
+use Rattle.rhai_state.proofs.Statements.{stmts_start, stmts_next, stmts_stop, stmts_end, block_runs, body_runs, branch_runs, condition_stops, condition_stuck}
 use Rattle.rhai_machine.proofs.Switches.{arm_false, arm_leaves, arm_missing, arm_past, arm_stops, arm_stuck, arm_there, arm_true, arms_default, arms_end, arms_stop, default_missing, default_runs, places_end, places_ends, no_range, places_next, places_stops, range_at, ranges_end, ranges_ends, ranges_next, ranges_stops}
 use Rattle.rhai_machine.proofs.Weights.{arm_weight, arms_weight, expr_item, level, level_falls, member_item, stmt_item}
-use Rattle.rhai_machine.proofs.Rounds.{loop_start}
-use Rattle.rhai_machine.proofs.Loops.{round_runs, round_turns, endless_stops, endless_ends, endless_next, while_stops, while_stuck, guard_late, guard_over, guard_leaves, guard_ends, guard_falls, guard_next, loop_always, loop_when, do_stops, do_ends, do_guard_stops, do_guard_stuck, do_over, do_next}
+use Rattle.rhai_state.proofs.Rounds.{loop_start}
+use Rattle.rhai_state.proofs.Loops.{round_runs, round_turns, endless_stops, endless_ends, endless_next, while_stops, while_stuck, guard_late, guard_over, guard_leaves, guard_ends, guard_falls, guard_next, loop_always, loop_when, do_stops, do_ends, do_guard_stops, do_guard_stuck, do_over, do_next}
 use Rattle.rhai_machine.proofs.Maps.{map_runs, map_stops, members_start, members_stop, members_next, members_end}
 use Rattle.rhai_machine.proofs.Methods.{back_runs, back_stops, call_stops as method_call_stops, found_fits, found_runs, missing_asks, word_given, word_passed, word_stopped}
 use Rattle.rhai_machine.proofs.ChainSteps.{applied_stops, chain_runs, member_stuck, method_given, method_reached, method_stops, method_stuck, reach_gone, reach_runs, steps_end, steps_more, steps_stop, steps_unit}

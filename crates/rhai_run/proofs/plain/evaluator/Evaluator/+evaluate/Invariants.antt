@@ -1,8 +1,8 @@
 use Rattle.std.proofs.Common.{◌+◌, ◌*◌, drop, length, map}
-use Rattle.rhai_machine.specs.Evaluating.{setting}
+use Rattle.rhai_machine.specs.Setting.{setting}
 use Rattle.rhai_machine.proofs.Operands.{ArgsAt, OperandsAt, both_of, either_of, first_of}
 use Rattle.rhai_machine.proofs.Maps.{MembersAt}
-use Rattle.rhai_machine.proofs.Statements.{StmtsAt}
+use Rattle.rhai_state.proofs.Statements.{StmtsAt}
 use Rattle.rhai_values.specs.Reading.{value_of}
 use Rattle.rhai_reading.specs.Reading.{arms_of, cases_of, counter_of, expr_of, exprs_of, expressions_of, maybe_of, pairs_of, range_of, stmt_of, stmts_of, subject_of}
 use Rattle.rhai_meaning.specs.Walk.{over_maybe, over_pairs, total}
@@ -10,11 +10,11 @@ use Rattle.rhai_meaning.specs.Weight.{expr_weight, exprs_weight, own_weight, stm
 use Rattle.rhai_meaning.specs.Control.{round}
 use Rattle.rhai_functions.specs.FnLib.{functions_of}
 use Rattle.rhai_meaning.specs.Desugar.{core_expr}
-use Rattle.rhai_machine.specs.Evaluating.{bodies_weight, body_of}
+use Rattle.rhai_state.specs.Evaluating.{bodies_weight, body_of}
 use Rattle.rhai_machine.specs.Targets.{side_weight}
-use Rattle.rhai_machine.proofs.Loops.{do_round, guarded_round}
-use Rattle.rhai_machine.proofs.Rounds.{LoopAt}
-use Rattle.rhai_machine.proofs.Counted.{CountAt, EachAt}
+use Rattle.rhai_state.proofs.Loops.{do_round, guarded_round}
+use Rattle.rhai_state.proofs.Rounds.{LoopAt}
+use Rattle.rhai_state.proofs.Counted.{CountAt, EachAt}
 use Rattle.rhai_machine.proofs.Switches.{PlacesAt, RangesAt}
 use Rattle.rhai_machine.proofs.Weights.{arms_weight, level}
 use Rattle.rhai_run.proofs.plain.evaluator.Evaluator.+evaluate.Given as goal

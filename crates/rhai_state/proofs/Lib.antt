@@ -1,0 +1,12 @@
+pub mod ValueAnswers
+pub mod Copied
+pub mod Texts
+pub mod Scopes
+pub mod Goes
+pub mod Variables
+pub mod Statements
+pub mod Rounds
+pub mod Loops
+pub mod Counted
+pub mod PointerRuns
+pub mod Entering

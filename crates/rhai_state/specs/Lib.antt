@@ -1,0 +1,5 @@
+pub mod State
+pub mod Variables
+pub mod Runs
+pub mod Exits
+pub mod Evaluating

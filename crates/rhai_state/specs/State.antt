@@ -1,0 +1,31 @@
+-- Where a run stands.
+use Rattle.std.specs.Prelude.{◌≡◌, Bool, true, false, suc, [], ◌∷◌, map, Option, Some, None, Result, Ok, Err, option_map}
+use Rattle.rhai_values.specs.Value.{Text, Value}
+use Rattle.rhai_values.specs.Reading.{value_of}
+use Rattle.rhai_meaning.specs.Act.{Store}
+use Rattle.rhai_meaning.specs.Run.{reversed}
+use Rattle.rhai_state.specs.declared.state.Interrupt.{Interrupt}
+use Rattle.rhai_state.specs.declared.state.Interrupt.TheVariants.{OutOfTurns}
+use Rattle.rhai_state.specs.declared.state.State.{State}
+use Rattle.rhai_host.specs.Entries.{variable_meant}
+use Rattle.rhai_host.specs.Host.{call_meant}
+
+abbrev pub store_of : State → Store
+store_of s = record { scope = reversed (map variable_meant s.scope.items) []; this = option_map value_of s.this; calls = map call_meant s.calls }
+
+-- a turn is taken, or there was none
+abbrev pub TakesTurn : State → Result Unit Interrupt → State → Type 0
+TakesTurn s (Ok u) s' = (s.turns ≡ suc s'.turns) × (store_of s' ≡ store_of s)
+TakesTurn s (Err x) s' = (x ≡ OutOfTurns) × (s.turns ≡ 0) × (s'.turns ≡ 0) × (store_of s' ≡ store_of s)
+
+-- where a guard holds, its round takes a turn; else nothing changes
+abbrev pub GoesOn : Bool → State → Result Bool Interrupt → State → Type 0
+GoesOn true s (Ok b) s' = (b ≡ true) × TakesTurn s (Ok (tt {0})) s'
+GoesOn true s (Err x) s' = TakesTurn s (Err x) s'
+GoesOn false s (Ok b) s' = (b ≡ false) × (s' ≡ s)
+GoesOn false s (Err x) s' = ⊥
+
+-- a name on top of the others, where there is one
+abbrev pub named_in : Option Text → Value → Store → Store
+named_in None v st = st
+named_in (Some x) v st = record st { scope = record { name = x; constant = false; value = v } ∷ st.scope }
