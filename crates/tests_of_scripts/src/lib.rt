@@ -1,4 +1,4 @@
-//! Tests over the whole: what scripts become, how they run, and how trees and reports are printed. A test goes over
+//! Tests over the whole: what scripts become, how they run, how trees and reports are printed, and the program. A test goes over
 //! rows of text; a helper makes what a row speaks of and answers whether the row is met.
 #![tactic(auto)]
 
@@ -22,6 +22,10 @@ mod merged;
 mod notation;
 #[cfg(test)]
 mod optimizer;
+#[cfg(test)]
+mod program;
+#[cfg(test)]
+mod readme;
 #[cfg(test)]
 mod reports;
 #[cfg(test)]
