@@ -13,10 +13,8 @@ use Rattle.rhai_host.specs.Entries.{start_scope}
 use Rattle.rhai_host.specs.Report.{ReportsRun}
 use Rattle.rhai_reports.specs.Host.{program_host}
 use Rattle.rhai_reports.specs.Report.{report_text}
-use Rattle.rhai_builtins.specs.Scripts.{statements_of}
-use Rattle.rhai_program.specs.Words.{built_in, reported}
+use Rattle.rhai_program.specs.Words.{reported}
 use Rattle.rhai_builtins.specs.declared.scripts.BuiltinScript.{BuiltinScript}
-use Rattle.rhai_builtins.specs.declared.scripts.BuiltinScript.TheVariants as script
 
 -- a host answers as it does
 agrees : (h : Host) (r : Report) → AgreeOn h h r.calls
