@@ -1,5 +1,6 @@
 //! A script's function: its copy, and what a filter is told of it.
 
+use crate::script_samples::texts;
 use rhai_ast::{FnAccess, FnNamespace, ScriptFuncDef, StmtBlock};
 use rhai_base::{ImmutableString, OutOfMemory, Position, Seq};
 use rhai_script::{AST, FnLib};
@@ -14,27 +15,18 @@ fn at(column: u16) -> Position {
 
 /// `/// doc` before `private fn i64.f(x, y) { 1; x }`
 fn private(alloc: Global) -> Result<ScriptFuncDef, Unread> {
-    let body = read_lines(alloc, "1\nx\n")?;
-    let mut function = ScriptFuncDef {
-        body: StmtBlock::new(body, at(16), at(23)),
-        name: ImmutableString::new(alloc, "f")?,
-        this_type: None,
+    let name = ImmutableString::new(alloc, "f")?;
+    let this_type = Some(ImmutableString::new(alloc, "i64")?);
+    let params = texts(alloc, &["x", "y"])?;
+    let comments = texts(alloc, &["/// doc"])?;
+    Ok(ScriptFuncDef {
+        name,
+        this_type,
         access: FnAccess::Private,
-        params: Seq::new(alloc),
-        comments: Seq::new(alloc),
-    };
-    name(alloc, &mut function)?;
-    Ok(function)
-}
-
-fn name(alloc: Global, function: &mut ScriptFuncDef) -> Result<(), OutOfMemory> {
-    function.this_type = Some(ImmutableString::new(alloc, "i64")?);
-    function.params.push(ImmutableString::new(alloc, "x")?)?;
-    function.params.push(ImmutableString::new(alloc, "y")?)?;
-    function
-        .comments
-        .push(ImmutableString::new(alloc, "/// doc")?)?;
-    Ok(())
+        params,
+        comments,
+        body: StmtBlock::new(read_lines(alloc, "1\nx\n")?, at(16), at(23)),
+    })
 }
 
 fn is_private(function: &ScriptFuncDef) -> bool {

@@ -40,8 +40,6 @@ mod ranges;
 #[cfg(test)]
 mod refusals;
 #[cfg(test)]
-mod samples;
-#[cfg(test)]
 mod scopes;
 #[cfg(test)]
 mod script_samples;

@@ -25,23 +25,18 @@ pub fn key(name: ImmutableString) -> FnKey {
 
 fn function(alloc: Global, row: &Row) -> Result<ScriptFuncDef, OutOfMemory> {
     let Row(name, params, this_type, comment) = row;
-    let mut function = named(alloc, ImmutableString::new(alloc, name)?);
-    function.this_type = maybe(alloc, *this_type)?;
-    function.params = texts(alloc, params)?;
-    function.comments = texts(alloc, &[*comment])?;
-    Ok(function)
-}
-
-/// A function without parameters.
-fn named(alloc: Global, name: ImmutableString) -> ScriptFuncDef {
-    ScriptFuncDef {
+    let name = ImmutableString::new(alloc, name)?;
+    let this_type = maybe(alloc, *this_type)?;
+    let params = texts(alloc, params)?;
+    let comments = texts(alloc, &[*comment])?;
+    Ok(ScriptFuncDef {
         body: StmtBlock::new(Vec::new(alloc), Position::NONE, Position::NONE),
         name,
-        this_type: None,
+        this_type,
         access: FnAccess::Public,
-        params: Seq::new(alloc),
-        comments: Seq::new(alloc),
-    }
+        params,
+        comments,
+    })
 }
 
 fn maybe(alloc: Global, text: Option<&str>) -> Result<Option<ImmutableString>, OutOfMemory> {
@@ -51,7 +46,7 @@ fn maybe(alloc: Global, text: Option<&str>) -> Result<Option<ImmutableString>, O
     }
 }
 
-fn texts(alloc: Global, texts: &[&str]) -> Result<Seq<ImmutableString>, OutOfMemory> {
+pub fn texts(alloc: Global, texts: &[&str]) -> Result<Seq<ImmutableString>, OutOfMemory> {
     let mut made = Seq::new(alloc);
     for text in texts {
         made.push(ImmutableString::new(alloc, text)?)?;

@@ -2,7 +2,7 @@
 
 use crate::script_samples::{Row, is_known_by, script};
 use crate::walks::write_path;
-use rhai_ast::{ASTNode, FnAccess, ScriptFuncDef, Stmt, StmtBlock};
+use rhai_ast::{ASTNode, FnAccess, ScriptFuncDef, StmtBlock};
 use rhai_base::{Dynamic, INT, ImmutableString, OutOfMemory, Position, Seq};
 use rhai_script::{AST, FnLib};
 use rhai_script_queries::{LiteralVariables, ScriptFnMetadata, ScriptQueries};
@@ -62,16 +62,8 @@ fn has_paths(alloc: Global, script: &AST, wanted: &str) -> Result<bool, OutOfMem
 
 fn read_script(alloc: Global, row: &Walked) -> Result<AST, Unread> {
     let functions = read_functions(alloc, row.1)?;
-    Ok(made(alloc, read_lines(alloc, row.0)?, functions)?)
-}
-
-fn made(
-    alloc: Global,
-    statements: Vec<Stmt>,
-    functions: Vec<Rc<ScriptFuncDef>>,
-) -> Result<AST, OutOfMemory> {
     let lib = Rc::new(alloc, FnLib::from_functions(alloc, functions)?)?;
-    Ok(AST::new(statements, lib))
+    Ok(AST::new(read_lines(alloc, row.0)?, lib))
 }
 
 /// Functions of these bodies, with one parameter, two, ..
@@ -80,35 +72,27 @@ fn read_functions(alloc: Global, bodies: &[&str]) -> Result<Vec<Rc<ScriptFuncDef
     let mut params = Seq::new(alloc);
     for body in bodies {
         params.push(ImmutableString::new(alloc, "x")?)?;
-        let function = read_function(alloc, params.clone()?, body)?;
-        add(alloc, &mut functions, function)?;
+        functions.push(read_function(alloc, &params, body)?)?;
     }
     Ok(functions)
 }
 
-fn add(
-    alloc: Global,
-    functions: &mut Vec<Rc<ScriptFuncDef>>,
-    function: ScriptFuncDef,
-) -> Result<(), OutOfMemory> {
-    let function = Rc::new(alloc, function)?;
-    functions.push(function)?;
-    Ok(())
-}
-
 fn read_function(
     alloc: Global,
-    params: Seq<ImmutableString>,
+    params: &Seq<ImmutableString>,
     body: &str,
-) -> Result<ScriptFuncDef, Unread> {
-    Ok(ScriptFuncDef {
-        body: StmtBlock::new(read_lines(alloc, body)?, Position::NONE, Position::NONE),
-        name: ImmutableString::new(alloc, "f")?,
+) -> Result<Rc<ScriptFuncDef>, Unread> {
+    let name = ImmutableString::new(alloc, "f")?;
+    let params = params.clone()?;
+    let function = ScriptFuncDef {
+        name,
         this_type: None,
         access: FnAccess::Public,
         params,
         comments: Seq::new(alloc),
-    })
+        body: StmtBlock::new(read_lines(alloc, body)?, Position::NONE, Position::NONE),
+    };
+    Ok(Rc::new(alloc, function)?)
 }
 
 #[test]

@@ -1,95 +1,96 @@
 //! Values: their types' names, texts, copies, equality, and which can be keys.
 
-use crate::samples::Sample;
-use rhai_base::{Dynamic, FnPtr, INT, ImmutableString};
+use crate::operators::is_written;
+use rhai_base::{Dynamic, FnPtr, ImmutableString, OutOfMemory};
 use std::alloc::Global;
 use std::test::Fail;
+use tests_reader::{Unread, read_value};
 
-/// A value, the name of its type, its text, how an array writes it, and whether it can be a key.
-type Row = (Sample, &'static str, &'static str, &'static str, bool);
+/// A value in print, the name of its type, its text, how an array writes it, and whether it can be a key.
+type Row = (&'static str, &'static str, &'static str, &'static str, bool);
 
-const ROWS: [Row; 15] = [
-    (Sample::Unit, "()", "", "()", true),
-    (Sample::Bool(false), "bool", "false", "false", true),
+const ROWS: [Row; 14] = [
+    ("()", "()", "", "()", true),
+    ("false", "bool", "false", "false", true),
     (
-        Sample::Int(INT::MIN),
+        "-9223372036854775808",
         "i64",
         "-9223372036854775808",
         "-9223372036854775808",
         true,
     ),
-    (Sample::Char('c'), "char", "c", "'c'", true),
-    (Sample::Text("a"), "string", "a", "\"a\"", true),
-    (Sample::Empty, "array", "[]", "[]", true),
+    ("'c'", "char", "c", "'c'", true),
+    ("\"a\"", "string", "a", "\"a\"", true),
+    ("[]", "array", "[]", "[]", true),
     (
-        Sample::Mixed,
+        "[1, \"a\", 'c', ()]",
         "array",
         "[1, \"a\", 'c', ()]",
         "[1, \"a\", 'c', ()]",
         true,
     ),
-    (Sample::Members(&[]), "map", "#{}", "#{}", true),
+    ("#{}", "map", "#{}", "#{}", true),
     (
-        Sample::Members(&[("b", 2), ("a", 1)]),
+        "#{\"b\": 2, \"a\": 1}",
         "map",
         "#{\"a\": 1, \"b\": 2}",
         "#{\"a\": 1, \"b\": 2}",
         true,
     ),
-    (Sample::Pointer(None), "Fn", "Fn(f)", "Fn(f)", false),
-    (Sample::Pointer(Some(1)), "Fn", "Fn(f)", "Fn(f)", false),
-    (Sample::ArrayOfPointer, "array", "[Fn(f)]", "[Fn(f)]", false),
+    ("Fn(f)", "Fn", "Fn(f)", "Fn(f)", false),
+    ("[Fn(f)]", "array", "[Fn(f)]", "[Fn(f)]", false),
     (
-        Sample::MapOfPointer,
+        "#{\"k\": Fn(f)}",
         "map",
         "#{\"k\": Fn(f)}",
         "#{\"k\": Fn(f)}",
         false,
     ),
-    (Sample::Range(-1, 2), "range", "-1..2", "-1..2", true),
-    (
-        Sample::RangeInclusive(1, 2),
-        "range=",
-        "1..=2",
-        "1..=2",
-        true,
-    ),
+    ("-1..2", "range", "-1..2", "-1..2", true),
+    ("1..=2", "range=", "1..=2", "1..=2", true),
 ];
 
+/// The same of a pointer to `f` with a value of its first parameter.
+const CURRIED: Row = ("", "Fn", "Fn(f)", "Fn(f)", false);
+
 /// Values that are not equal.
-const DIFFERENT: [(Sample, Sample); 6] = [
-    (Sample::Mixed, Sample::Unit),
-    (Sample::Members(&[("a", 1)]), Sample::Members(&[("b", 1)])),
-    (Sample::Members(&[("a", 1)]), Sample::Members(&[("a", 2)])),
-    (Sample::Pointer(Some(1)), Sample::Pointer(None)),
-    (Sample::Range(1, 2), Sample::RangeInclusive(1, 2)),
-    (Sample::Range(1, 2), Sample::Range(1, 3)),
+const DIFFERENT: [(&str, &str); 5] = [
+    ("[1, \"a\", 'c', ()]", "()"),
+    ("#{\"a\": 1}", "#{\"b\": 1}"),
+    ("#{\"a\": 1}", "#{\"a\": 2}"),
+    ("1..2", "1..=2"),
+    ("1..2", "1..3"),
 ];
 
 #[test]
 fn describes_each_kind(rt: HostRuntime) -> Result<(), Fail> {
     for row in &ROWS {
-        assert!(rt; is_described(rt.alloc(), row)?, "{}", row.2);
+        assert!(rt; is_met(rt.alloc(), row)?, "{row:?}");
     }
     Ok(())
 }
 
-fn is_described(alloc: Global, row: &Row) -> Result<bool, Fail> {
-    let (sample, type_name, text, inner, is_key) = row;
-    let value = sample.value(alloc)?;
-    let is_named = value.type_name() == *type_name && value.is_hashable() == *is_key;
-    Ok(is_named && is_written(alloc, &value, text, inner)? && is_copied(&value)?)
+fn is_met(alloc: Global, row: &Row) -> Result<bool, Unread> {
+    let value = read_value(alloc, row.0)?;
+    Ok(is_described(alloc, &value, row)?)
 }
 
-/// Is the value's text this one, and its form inside an array that one?
-fn is_written(alloc: Global, value: &Dynamic, text: &str, inner: &str) -> Result<bool, Fail> {
-    let is_text = value.text_of(alloc)?.as_str() == text;
-    let mut form = String::from_str(alloc, text)?;
-    value.push_inner(&mut form)?;
-    Ok(is_text && form.as_str().strip_prefix(text) == Some(inner))
+fn is_described(alloc: Global, value: &Dynamic, row: &Row) -> Result<bool, OutOfMemory> {
+    let (_, type_name, text, inner, is_key) = *row;
+    Ok(
+        value.type_name() == type_name
+            && value.is_hashable() == is_key
+            && is_text(alloc, value, text)?
+            && is_written(alloc, value, inner)?
+            && is_copied(value)?,
+    )
 }
 
-fn is_copied(value: &Dynamic) -> Result<bool, Fail> {
+fn is_text(alloc: Global, value: &Dynamic, text: &str) -> Result<bool, OutOfMemory> {
+    Ok(value.text_of(alloc)?.as_str() == text)
+}
+
+fn is_copied(value: &Dynamic) -> Result<bool, OutOfMemory> {
     let copy = value.clone()?;
     Ok(copy.is_equal(value) && copy == *value)
 }
@@ -99,52 +100,62 @@ fn appends_texts(rt: HostRuntime) -> Result<(), Fail> {
     let mut text = String::new(rt.alloc());
     Dynamic::Char('é').push_text(&mut text)?;
     Dynamic::Int(2).push_text(&mut text)?;
-    assert!(rt; text.as_str() == "é2");
+    Dynamic::Unit.push_inner(&mut text)?;
+    assert!(rt; text.as_str() == "é2()");
     Ok(())
 }
 
 #[test]
 fn compares_types_and_parts(rt: HostRuntime) -> Result<(), Fail> {
     for (one, other) in &DIFFERENT {
-        assert!(rt; are_different(rt.alloc(), one, other)?);
+        assert!(rt; are_different(rt.alloc(), one, other)?, "{one}");
     }
     Ok(())
 }
 
-fn are_different(alloc: Global, one: &Sample, other: &Sample) -> Result<bool, Fail> {
-    let one = one.value(alloc)?;
+fn are_different(alloc: Global, one: &str, other: &str) -> Result<bool, Unread> {
+    let one = read_value(alloc, one)?;
     differs(alloc, &one, other)
 }
 
-fn differs(alloc: Global, value: &Dynamic, other: &Sample) -> Result<bool, Fail> {
-    let other = other.value(alloc)?;
+fn differs(alloc: Global, value: &Dynamic, other: &str) -> Result<bool, Unread> {
+    let other = read_value(alloc, other)?;
     Ok(*value != other && !value.is_equal(&other))
 }
 
 #[test]
 fn points_to_functions(rt: HostRuntime) -> Result<(), Fail> {
-    assert!(rt; pointer(rt.alloc(), "1a")?.is_none());
-    let mut pointer = pointer(rt.alloc(), "f")?.ok_or("f")?;
-    assert!(rt; gains_a_value(&mut pointer)? && pointer.into_name().as_str() == "f");
+    assert!(rt; is_no_name(rt.alloc(), "1a")?);
+    let pointer = curried(rt.alloc())?;
+    assert!(rt; is_curried(&pointer)?);
+    assert!(rt; is_value(rt.alloc(), Dynamic::FnPtr(pointer))?);
     Ok(())
 }
 
-fn pointer(alloc: Global, name: &str) -> Result<Option<FnPtr>, Fail> {
+fn is_no_name(alloc: Global, name: &str) -> Result<bool, OutOfMemory> {
     let name = ImmutableString::new(alloc, name)?;
-    Ok(FnPtr::new(alloc, name))
+    Ok(FnPtr::new(alloc, name).is_none())
 }
 
-fn gains_a_value(pointer: &mut FnPtr) -> Result<bool, Fail> {
-    let is_plain = pointer.fn_name() == "f" && !pointer.is_curried();
+/// A pointer to `f` with a value of its first parameter.
+pub fn curried(alloc: Global) -> Result<FnPtr, Fail> {
+    let name = ImmutableString::new(alloc, "f")?;
+    let mut pointer = FnPtr::new(alloc, name).ok_or("f")?;
     pointer.add_curry(Dynamic::Int(1))?;
-    Ok(is_plain && is_curried(pointer)?)
+    Ok(pointer)
 }
 
-fn is_curried(pointer: &FnPtr) -> Result<bool, Fail> {
+/// Whether it has its name and its value, and a copy too.
+fn is_curried(pointer: &FnPtr) -> Result<bool, OutOfMemory> {
     let copy = pointer.clone()?;
-    let has_one = match pointer.curry() {
-        [Dynamic::Int(n)] => *n == 1,
-        _ => false,
-    };
-    Ok(has_one && pointer.is_curried() && copy == *pointer)
+    Ok(copy == *pointer && has_one(pointer) && copy.into_name().as_str() == "f")
+}
+
+fn has_one(pointer: &FnPtr) -> bool {
+    pointer.fn_name() == "f" && pointer.is_curried() && matches!(pointer.curry(), [Dynamic::Int(1)])
+}
+
+/// Whether the pointer is described as a value, and differs from one without a value of its own.
+fn is_value(alloc: Global, value: Dynamic) -> Result<bool, Unread> {
+    Ok(is_described(alloc, &value, &CURRIED)? && differs(alloc, &value, "Fn(f)")?)
 }
