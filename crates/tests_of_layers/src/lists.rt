@@ -18,19 +18,28 @@ fn boxes_a_value(rt: HostRuntime) -> Result<(), Fail> {
 #[test]
 fn holds_items(rt: HostRuntime) -> Result<(), Fail> {
     let mut items = Seq::new(rt.alloc());
-    assert!(rt; items.is_empty());
+    assert!(rt;
+        items.is_empty()
+            && gains(&mut items)?
+            && changes(&mut items)?
+            && items.emptied()?.is_empty()
+    );
+    assert!(rt; Seq::from_vec(items.into_vec()).into_only().is_none());
+    Ok(())
+}
+
+fn gains(items: &mut Seq<u8>) -> Result<bool, Fail> {
     items.push(1u8)?;
     items.push(2)?;
-    assert!(rt; holds(&items, &[1, 2])?);
+    holds(items, &[1, 2])
+}
+
+fn changes(items: &mut Seq<u8>) -> Result<bool, Fail> {
     if let Some(item) = items.get_mut(1) {
         *item = 5;
     }
-    assert!(rt; items.get_mut(2).is_none());
     items.as_mut_slice()[0] = 4;
-    assert!(rt; holds(&items, &[4, 5])?);
-    assert!(rt; items.emptied()?.is_empty());
-    assert!(rt; Seq::from_vec(items.into_vec()).into_only().is_none());
-    Ok(())
+    Ok(items.get_mut(2).is_none() && holds(items, &[4, 5])?)
 }
 
 fn holds(items: &Seq<u8>, want: &[u8]) -> Result<bool, Fail> {

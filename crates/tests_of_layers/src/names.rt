@@ -1,6 +1,6 @@
 //! Names of functions, names with their places, and paths of modules.
 
-use rhai_base::{FnName, Ident, ImmutableString, Namespace, Position};
+use rhai_base::{FnName, Ident, ImmutableString, Namespace, OutOfMemory, Position};
 use std::alloc::Global;
 use std::test::Fail;
 
@@ -52,12 +52,15 @@ fn names_with_their_places(rt: HostRuntime) -> Result<(), Fail> {
     let name = ImmutableString::new(rt.alloc(), "x")?;
     let pos = Position::new(2, 5);
     let ident = Ident { name, pos };
-    assert!(rt; ident.as_str() == "x");
-    let mut copy = ident.clone()?;
-    assert!(rt; copy == ident);
-    copy.pos = Position::NONE;
-    assert!(rt; copy != ident);
+    assert!(rt; ident.as_str() == "x" && is_copied(&ident)?);
     Ok(())
+}
+
+fn is_copied(ident: &Ident) -> Result<bool, OutOfMemory> {
+    let mut copy = ident.clone()?;
+    let is_same = copy == *ident;
+    copy.pos = Position::NONE;
+    Ok(is_same && copy != *ident)
 }
 
 #[test]
@@ -94,7 +97,8 @@ fn has_a_root(rt: HostRuntime) -> Result<(), Fail> {
         name,
         pos: Position::new(1, 4),
     })?;
-    assert!(rt; !path.path.is_empty() && path.root() == "a");
-    assert!(rt; path.position() == Position::new(1, 4));
+    assert!(rt;
+        !path.path.is_empty() && path.root() == "a" && path.position() == Position::new(1, 4)
+    );
     Ok(())
 }

@@ -69,35 +69,49 @@ fn scripts_are_joined(rt: HostRuntime) -> Result<(), Fail> {
     Ok(())
 }
 
-/// A merged script has the second's source and id, a combined one the first's.
 fn is_joined(alloc: Global, row: &Joining) -> Result<bool, OutOfMemory> {
-    let mut first = script(alloc, row.first, "a")?;
-    if !is_merged(alloc, &first, row)? {
-        return Ok(false);
-    }
-    let mut again = first.clone()?;
-    first.combine(script(alloc, row.second, "b")?)?;
-    again.combine_filtered(script(alloc, row.second, "b")?, is_error)?;
+    let first = script(alloc, row.first, "a")?;
     Ok(
-        stands(&first, Some("a"), Some("a"), 2)
-            && stands(&again, Some("a"), Some("a"), 2)
-            && are_in_turn(&first)
-            && has(first.shared_lib(), row.joined)
-            && has(again.shared_lib(), row.filtered),
+        is_merged(alloc, &first, row)?
+            && is_combined(alloc, &first, row)?
+            && is_filtered(alloc, &first, row)?,
     )
 }
 
+/// A merged script has the second's source and id.
 fn is_merged(alloc: Global, first: &AST, row: &Joining) -> Result<bool, OutOfMemory> {
     let second = script(alloc, row.second, "b")?;
-    let both = first.merge(&second)?;
-    let some = first.merge_filtered(&second, is_error)?;
-    Ok(
-        stands(&both, Some("b"), Some("b"), 2)
-            && stands(&some, Some("b"), Some("b"), 2)
-            && are_in_turn(&both)
-            && has(both.shared_lib(), row.joined)
-            && has(some.shared_lib(), row.filtered),
-    )
+    Ok(are_both(first, &second, row)? && are_some(first, &second, row)?)
+}
+
+fn are_both(first: &AST, second: &AST, row: &Joining) -> Result<bool, OutOfMemory> {
+    let both = first.merge(second)?;
+    Ok(is_whole(&both, row, "b"))
+}
+
+fn are_some(first: &AST, second: &AST, row: &Joining) -> Result<bool, OutOfMemory> {
+    let some = first.merge_filtered(second, is_error)?;
+    Ok(stands(&some, Some("b"), Some("b"), 2) && has(some.shared_lib(), row.filtered))
+}
+
+/// Whether a script has the statements and the functions of both, with this source.
+fn is_whole(script: &AST, row: &Joining, source: &str) -> bool {
+    stands(script, Some(source), Some(source), 2)
+        && are_in_turn(script)
+        && has(script.shared_lib(), row.joined)
+}
+
+/// A combined script keeps the first's source and id.
+fn is_combined(alloc: Global, first: &AST, row: &Joining) -> Result<bool, OutOfMemory> {
+    let mut both = first.clone()?;
+    both.combine(script(alloc, row.second, "b")?)?;
+    Ok(is_whole(&both, row, "a"))
+}
+
+fn is_filtered(alloc: Global, first: &AST, row: &Joining) -> Result<bool, OutOfMemory> {
+    let mut some = first.clone()?;
+    some.combine_filtered(script(alloc, row.second, "b")?, is_error)?;
+    Ok(stands(&some, Some("a"), Some("a"), 2) && has(some.shared_lib(), row.filtered))
 }
 
 fn is_error(
@@ -112,10 +126,14 @@ fn is_error(
 
 #[test]
 fn functions_are_chosen(rt: HostRuntime) -> Result<(), Fail> {
-    let second = script(rt.alloc(), &FOO_ERROR, "")?;
-    let only = second.clone_functions_only_filtered(is_error)?;
-    assert!(rt; has(only.shared_lib(), &["error"]) && stands(&only, None, None, 0));
+    let script = script(rt.alloc(), &FOO_ERROR, "")?;
+    assert!(rt; gives_the_errors(&script)?);
     Ok(())
+}
+
+fn gives_the_errors(script: &AST) -> Result<bool, OutOfMemory> {
+    let only = script.clone_functions_only_filtered(is_error)?;
+    Ok(has(only.shared_lib(), &["error"]) && stands(&only, None, None, 0))
 }
 
 #[test]
@@ -134,62 +152,98 @@ fn is_foo_of_one(_namespace: FnNamespace, _access: FnAccess, name: &str, params:
 
 #[test]
 fn the_id_follows_the_source(rt: HostRuntime) -> Result<(), Fail> {
-    let mut first = script(rt.alloc(), &FOO, "a")?;
-    let mut second = first.clone()?;
-    assert!(rt; Rc::ptr_eq(first.shared_lib(), second.shared_lib()));
-    second.set_source("z")?;
-    assert!(rt; !Rc::ptr_eq(first.shared_lib(), second.shared_lib()));
-    assert!(rt; stands(&first, Some("a"), Some("a"), 1));
-    assert!(rt; stands(&second, Some("z"), Some("z"), 1));
-    first.clear_source();
-    assert!(rt; stands(&first, None, Some("a"), 1));
-    first.set_source("")?;
-    assert!(rt; stands(&first, None, None, 1));
+    let mut script = script(rt.alloc(), &FOO, "a")?;
+    assert!(rt; has_a_copy_of_its_own(&script)? && loses_its_source(&mut script)?);
     Ok(())
+}
+
+/// A copy shares the table until it gets another source.
+fn has_a_copy_of_its_own(first: &AST) -> Result<bool, OutOfMemory> {
+    let mut second = first.clone()?;
+    let is_shared = Rc::ptr_eq(first.shared_lib(), second.shared_lib());
+    second.set_source("z")?;
+    Ok(
+        is_shared
+            && !Rc::ptr_eq(first.shared_lib(), second.shared_lib())
+            && stands(first, Some("a"), Some("a"), 1)
+            && stands(&second, Some("z"), Some("z"), 1),
+    )
+}
+
+fn loses_its_source(script: &mut AST) -> Result<bool, OutOfMemory> {
+    script.clear_source();
+    let keeps_its_id = stands(script, None, Some("a"), 1);
+    script.set_source("")?;
+    Ok(keeps_its_id && stands(script, None, None, 1))
 }
 
 #[test]
 fn docs_are_joined(rt: HostRuntime) -> Result<(), Fail> {
-    let mut first = AST::empty(rt.alloc())?;
-    first.set_doc("//! a")?;
-    let mut second = AST::empty(rt.alloc())?;
-    second.set_doc("//! b")?;
-    let both = first.merge(&second)?;
-    assert!(rt; both.doc() == "//! a\n//! b");
+    let first = documented(rt.alloc(), "//! a")?;
+    assert!(rt; has_both_docs(rt.alloc(), &first)?);
     Ok(())
+}
+
+fn documented(alloc: Global, doc: &str) -> Result<AST, OutOfMemory> {
+    let mut script = AST::empty(alloc)?;
+    script.set_doc(doc)?;
+    Ok(script)
+}
+
+fn has_both_docs(alloc: Global, first: &AST) -> Result<bool, OutOfMemory> {
+    let both = first.merge(&documented(alloc, "//! b")?)?;
+    Ok(both.doc() == "//! a\n//! b")
 }
 
 #[test]
 fn parts_of_a_script(rt: HostRuntime) -> Result<(), Fail> {
     let mut whole = script(rt.alloc(), &F_G, "a")?;
-    assert!(rt; has_its_parts(&whole)?);
-    whole.clear_statements();
-    assert!(rt; whole.has_functions() && stands(&whole, Some("a"), Some("a"), 0));
-    whole.clear_functions()?;
-    assert!(rt; !whole.has_functions() && stands(&whole, Some("a"), None, 0));
+    assert!(rt;
+        gives_its_functions(&whole)? && gives_its_statements(&whole)? && loses_them(&mut whole)?
+    );
     Ok(())
 }
 
-fn has_its_parts(whole: &AST) -> Result<bool, OutOfMemory> {
+fn gives_its_functions(whole: &AST) -> Result<bool, OutOfMemory> {
     let functions = whole.clone_functions_only()?;
+    Ok(has(functions.shared_lib(), &["first f", "g"]) && stands(&functions, Some("a"), None, 0))
+}
+
+fn gives_its_statements(whole: &AST) -> Result<bool, OutOfMemory> {
     let statements = whole.clone_statements_only()?;
-    Ok(
-        has(functions.shared_lib(), &["first f", "g"])
-            && stands(&functions, Some("a"), None, 0)
-            && has(statements.shared_lib(), &[])
-            && stands(&statements, Some("a"), None, 1),
-    )
+    Ok(has(statements.shared_lib(), &[]) && stands(&statements, Some("a"), None, 1))
+}
+
+fn loses_them(whole: &mut AST) -> Result<bool, OutOfMemory> {
+    whole.clear_statements();
+    let has_functions = whole.has_functions() && stands(whole, Some("a"), Some("a"), 0);
+    whole.clear_functions()?;
+    Ok(has_functions && !whole.has_functions() && stands(whole, Some("a"), None, 0))
 }
 
 #[test]
 fn a_table_and_its_id(rt: HostRuntime) -> Result<(), Fail> {
-    let mut lib = FnLib::new(rt.alloc());
-    lib.set_id("m")?;
-    let copy = lib.clone()?;
-    assert!(rt; copy.id() == Some("m") && copy.is_empty());
-    let script = AST::new_from_module(Rc::new(rt.alloc(), lib)?)?;
-    assert!(rt; stands(&script, Some("m"), Some("m"), 0));
+    let lib = named(rt.alloc())?;
+    assert!(rt; is_copied(&lib)? && is_made(rt.alloc())?);
     Ok(())
+}
+
+/// An empty table with an id.
+fn named(alloc: Global) -> Result<FnLib, OutOfMemory> {
+    let mut lib = FnLib::new(alloc);
+    lib.set_id("m")?;
+    Ok(lib)
+}
+
+fn is_copied(lib: &FnLib) -> Result<bool, OutOfMemory> {
+    let copy = lib.clone()?;
+    Ok(copy.id() == Some("m") && copy.is_empty())
+}
+
+/// Whether a script of the table has its id as source.
+fn is_made(alloc: Global) -> Result<bool, OutOfMemory> {
+    let script = AST::new_from_module(Rc::new(alloc, named(alloc)?)?)?;
+    Ok(stands(&script, Some("m"), Some("m"), 0))
 }
 
 #[test]

@@ -29,46 +29,61 @@ fn is_first(script: &AST) -> bool {
 #[test]
 fn a_refused_combine(rt: HostRuntime) -> Result<(), Fail> {
     let mut first = documented(rt.alloc(), &FIRST, "a")?;
-    let second = documented(rt.alloc(), &SECOND, "b")?;
-    match first.combine(second) {
-        Ok(()) => assert!(rt; has(first.shared_lib(), &["second f", "g", "h"])),
-        Err(_) => assert!(rt; is_first(&first)),
-    }
+    assert!(rt; is_combined(rt.alloc(), &mut first)?);
     Ok(())
+}
+
+fn is_combined(alloc: Global, first: &mut AST) -> Result<bool, OutOfMemory> {
+    let second = documented(alloc, &SECOND, "b")?;
+    match first.combine(second) {
+        Ok(()) => Ok(has(first.shared_lib(), &["second f", "g", "h"])),
+        Err(_) => Ok(is_first(first)),
+    }
 }
 
 #[test]
 fn a_refused_merge(rt: HostRuntime) -> Result<(), Fail> {
     let first = documented(rt.alloc(), &FIRST, "a")?;
-    let second = documented(rt.alloc(), &SECOND, "b")?;
-    match first.merge(&second) {
-        Ok(both) => assert!(rt; has(both.shared_lib(), &["second f", "g", "h"])),
-        Err(_) => assert!(rt; is_first(&first)),
-    }
+    assert!(rt; is_merged(rt.alloc(), &first)?);
     Ok(())
+}
+
+fn is_merged(alloc: Global, first: &AST) -> Result<bool, OutOfMemory> {
+    let second = documented(alloc, &SECOND, "b")?;
+    match first.merge(&second) {
+        Ok(both) => Ok(has(both.shared_lib(), &["second f", "g", "h"])),
+        Err(_) => Ok(is_first(first)),
+    }
 }
 
 /// The table is shared, so a further one is made.
 #[test]
 fn a_refused_source(rt: HostRuntime) -> Result<(), Fail> {
     let first = documented(rt.alloc(), &FIRST, "a")?;
+    assert!(rt; is_renamed(&first)? && is_first(&first));
+    Ok(())
+}
+
+fn is_renamed(first: &AST) -> Result<bool, OutOfMemory> {
     let mut other = first.clone()?;
     match other.set_source("z") {
-        Ok(()) => assert!(rt; stands(&other, Some("z"), Some("z"), 1)),
-        Err(_) => assert!(rt; is_first(&other)),
+        Ok(()) => Ok(stands(&other, Some("z"), Some("z"), 1)),
+        Err(_) => Ok(is_first(&other)),
     }
-    assert!(rt; is_first(&first));
-    Ok(())
 }
 
 #[test]
 fn a_refused_choice(rt: HostRuntime) -> Result<(), Fail> {
     let mut first = documented(rt.alloc(), &FIRST, "a")?;
-    match first.retain_functions(is_g) {
-        Ok(()) => assert!(rt; has(first.shared_lib(), &["g"])),
-        Err(_) => assert!(rt; is_first(&first)),
-    }
+    assert!(rt; is_chosen(&mut first));
     Ok(())
+}
+
+fn is_chosen(first: &mut AST) -> bool {
+    match first.retain_functions(is_g) {
+        Ok(()) => has(first.shared_lib(), &["g"]),
+        Err(_) => is_first(first),
+    }
 }
 
 fn is_g(_namespace: FnNamespace, _access: FnAccess, name: &str, _params: usize) -> bool {

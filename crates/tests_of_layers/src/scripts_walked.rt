@@ -140,8 +140,7 @@ const FUNCTIONS: [Row; 3] = [
 #[test]
 fn functions_come_in_the_order_of_the_table(rt: HostRuntime) -> Result<(), Fail> {
     let script = script(rt.alloc(), &FUNCTIONS, "a")?;
-    assert!(rt; is_defined(&script));
-    assert!(rt; is_described(&script));
+    assert!(rt; is_defined(&script) && is_described(&script));
     Ok(())
 }
 
@@ -238,13 +237,16 @@ fn is_next(found: &mut LiteralVariables, wanted: &(&str, bool, INT)) -> Result<b
 #[test]
 fn a_refused_value_stands_for_its_variable(rt: HostRuntime) -> Result<(), Fail> {
     let script = read_script(rt.alloc(), &Walked("let a = [1]\nlet b = 2\n", &[], ""))?;
-    let mut found = script.iter_literal_variables(true, true);
-    match found.next() {
-        Some(Ok(variable)) => assert!(rt; variable.0 == "a" && !variable.1),
-        Some(Err(_)) => {}
-        None => assert!(rt; false),
-    }
-    assert!(rt; is_next(&mut found, &("b", false, 2))?);
-    assert!(rt; found.next().is_none());
+    assert!(rt; come_all(&script)?);
     Ok(())
+}
+
+fn come_all(script: &AST) -> Result<bool, OutOfMemory> {
+    let mut found = script.iter_literal_variables(true, true);
+    let is_first = match found.next() {
+        Some(Ok(variable)) => variable.0 == "a" && !variable.1,
+        Some(Err(_)) => true,
+        None => false,
+    };
+    Ok(is_first && is_next(&mut found, &("b", false, 2))? && found.next().is_none())
 }

@@ -215,23 +215,35 @@ fn a_walk_without_room_for_the_first_node(rt: HostRuntime) -> Result<(), Fail> {
             true
         },
     );
-    match walked {
-        Ok(finished) => assert!(rt; finished && calls == 4),
-        Err(_) => assert!(rt; calls == 0),
-    }
-    assert!(rt; path.is_empty());
+    let is_shown = match walked {
+        Ok(finished) => finished && calls == 4,
+        Err(_) => calls == 0,
+    };
+    assert!(rt; is_shown && path.is_empty());
     Ok(())
 }
 
 #[test]
 fn a_node_is_a_statement_or_an_expression(rt: HostRuntime) -> Result<(), Fail> {
     let statement = read_stmt(rt.alloc(), "x += 1")?;
-    let node = ASTNode::from(&statement);
-    assert!(rt; node.is_stmt() && !node.is_expr());
-    if let Stmt::Assignment(parts) = &statement {
-        let node = ASTNode::from(&parts.get().1.rhs);
-        assert!(rt; node.is_expr() && !node.is_stmt());
-        assert_eq!(rt; node.position().position(), Some(6));
-    }
+    assert!(rt; are_told(&statement));
     Ok(())
+}
+
+fn are_told(statement: &Stmt) -> bool {
+    match statement {
+        Stmt::Assignment(parts) => {
+            is_statement(ASTNode::from(statement))
+                && is_expression(ASTNode::from(&parts.get().1.rhs))
+        }
+        _ => false,
+    }
+}
+
+fn is_statement(node: ASTNode) -> bool {
+    node.is_stmt() && !node.is_expr()
+}
+
+fn is_expression(node: ASTNode) -> bool {
+    node.is_expr() && !node.is_stmt() && node.position().position() == Some(6)
 }
