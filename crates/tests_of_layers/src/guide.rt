@@ -41,14 +41,19 @@ fn has(alloc: Global, script: &AST, names: &str) -> Result<bool, OutOfMemory> {
     Ok(text.as_str() == names)
 }
 
+/// Whether two scripts are merged.
+fn are_merged(alloc: Global, base: &AST, own: &AST) -> Result<bool, OutOfMemory> {
+    let both = base.merge(own)?; // a new script; the two stay as they are
+    // `stop` is that of `own`
+    Ok(has(alloc, &both, "start stop log ")? && both.source() == Some("own"))
+}
+
 #[test]
 fn two_scripts_are_merged(rt: HostRuntime) -> Result<(), Fail> {
     let alloc = rt.alloc();
     let base = script(alloc, "base", &["start", "stop"])?;
     let own = script(alloc, "own", &["log", "stop"])?;
-
-    let both = base.merge(&own)?; // a new script; the two stay as they are
-    assert!(rt; has(alloc, &both, "start stop log ")? && both.source() == Some("own")); // `stop` is that of `own`
+    assert!(rt; are_merged(alloc, &base, &own)?);
     Ok(())
 }
 
@@ -61,25 +66,30 @@ fn a_script_takes_another_in(rt: HostRuntime) -> Result<(), Fail> {
     Ok(())
 }
 
+/// Both, of the functions of `own` those that are not called `stop`.
+fn without_stop(base: &AST, own: &AST) -> Result<AST, OutOfMemory> {
+    base.merge_filtered(own, |_, _, _, name, _| name != "stop")
+}
+
 #[test]
 fn functions_are_chosen_by_a_closure(rt: HostRuntime) -> Result<(), Fail> {
     let alloc = rt.alloc();
     let base = script(alloc, "base", &["start", "stop"])?;
     let own = script(alloc, "own", &["log", "stop"])?;
-
-    // of the functions of `own` those that are not called `stop`
-    let both = base.merge_filtered(&own, |_, _, _, name, _| name != "stop")?;
-    assert!(rt; has(alloc, &both, "start stop log ")?);
+    assert!(rt; has(alloc, &without_stop(&base, &own)?, "start stop log ")?);
     Ok(())
+}
+
+/// Keeps of all functions those without parameters that are called `log`.
+fn keep_log(script: &mut AST) -> Result<(), OutOfMemory> {
+    script.retain_functions(|_, _, name, params| name == "log" && params == 0)
 }
 
 #[test]
 fn functions_are_retained_by_a_closure(rt: HostRuntime) -> Result<(), Fail> {
     let alloc = rt.alloc();
     let mut own = script(alloc, "own", &["log", "stop"])?;
-
-    // of all functions those without parameters that are called `log`
-    own.retain_functions(|_, _, name, params| name == "log" && params == 0)?;
+    keep_log(&mut own)?;
     assert!(rt; has(alloc, &own, "log ")?);
     Ok(())
 }
