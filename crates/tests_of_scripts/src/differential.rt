@@ -9,6 +9,7 @@ use rhai_base::{Dynamic, INT, ImmutableString, OutOfMemory, Scope, Seq};
 use rhai_optimizer::{OptimizationLevel, optimize_into_ast};
 use rhai_reports::ProgramHost;
 use rhai_run::{EngineInfo, Host, HostAnswer, HostCall, RunEnd, plain_run};
+use rhai_script::AST;
 use std::alloc::Global;
 use std::test::Fail;
 use tests_reader::{Unread, read_stmt};
@@ -206,11 +207,19 @@ fn is_asked(call: &HostCall, value: INT) -> bool {
 
 fn are_many_asked(alloc: Global, level: OptimizationLevel) -> Result<bool, Unread> {
     let info = EngineInfo::new(alloc);
+    let script = many(alloc, &info, level)?;
+    Ok(is_reported(alloc, &script, &info)?)
+}
+
+fn many(alloc: Global, info: &EngineInfo, level: OptimizationLevel) -> Result<AST, Unread> {
     let statements = many_asked(alloc)?;
     let functions = Vec::new(alloc);
-    let script = optimize_into_ast(alloc, &info, None, statements, functions, level)?;
+    Ok(optimize_into_ast(alloc, info, None, statements, functions, level)?)
+}
+
+fn is_reported(alloc: Global, script: &AST, info: &EngineInfo) -> Result<bool, OutOfMemory> {
     let scope = Scope::new(alloc);
-    let report = plain_run(alloc, &script, &info, &ProgramHost, &scope, 0)?;
+    let report = plain_run(alloc, script, info, &ProgramHost, &scope, 0)?;
     Ok(
         matches!(&report.run_end, RunEnd::Value(Dynamic::Unit))
             && are_asked(report.calls.as_slice()),

@@ -153,9 +153,15 @@ fn computed(
     x: i64,
     y: i64,
 ) -> Result<Option<i64>, OutOfMemory> {
-    match info.builtin_binary(alloc, op, &Dynamic::Int(x), &Dynamic::Int(y))? {
-        Some(Ok(Dynamic::Int(n))) => Ok(Some(n)),
-        _ => Ok(None),
+    let (x, y) = (Dynamic::Int(x), Dynamic::Int(y));
+    let answer = info.builtin_binary(alloc, op, &x, &y)?;
+    Ok(integer(&answer))
+}
+
+fn integer(answer: &Option<Result<Dynamic, Fault>>) -> Option<i64> {
+    match answer {
+        Some(Ok(Dynamic::Int(n))) => Some(*n),
+        _ => None,
     }
 }
 
@@ -174,8 +180,12 @@ fn what_is_overridden_is_not_built_in(rt: HostRuntime) -> Result<(), Fail> {
 #[test]
 fn a_fault_is_an_answer(rt: HostRuntime) -> Result<(), Fail> {
     let info = EngineInfo::new(rt.alloc());
-    let zero = Dynamic::Int(0);
-    let answer = info.builtin_binary(rt.alloc(), Token::Divide, &zero, &zero)?;
-    assert!(rt; matches!(answer, Some(Err(Fault::Arithmetic))));
+    assert!(rt; is_fault(rt.alloc(), &info)?);
     Ok(())
+}
+
+fn is_fault(alloc: Global, info: &EngineInfo) -> Result<bool, OutOfMemory> {
+    let zero = Dynamic::Int(0);
+    let answer = info.builtin_binary(alloc, Token::Divide, &zero, &zero)?;
+    Ok(matches!(&answer, Some(Err(Fault::Arithmetic))))
 }

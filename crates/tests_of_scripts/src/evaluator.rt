@@ -162,11 +162,18 @@ fn a_script_runs_with_a_host_of_its_own(rt: HostRuntime) -> Result<(), Fail> {
 
 #[test]
 fn a_host_knows_its_modules(rt: HostRuntime) -> Result<(), Fail> {
-    let value = Throws.module_value(rt.alloc(), "limits::least")?;
-    assert!(rt; matches!(value, Some(Dynamic::Int(1))));
-    assert!(rt; Throws.module_value(rt.alloc(), "limits::most")?.is_none());
-    assert!(rt; First.module_value(rt.alloc(), "limits::least")?.is_none());
+    assert!(rt;
+        knows(rt.alloc(), &Throws, "limits::least")?
+            && !knows(rt.alloc(), &Throws, "limits::most")?
+            && !knows(rt.alloc(), &First, "limits::least")?
+    );
     Ok(())
+}
+
+/// Whether the host has 1 by that name.
+fn knows<H: Host>(alloc: Global, host: &H, name: &str) -> Result<bool, OutOfMemory> {
+    let value = host.module_value(alloc, name)?;
+    Ok(matches!(&value, Some(Dynamic::Int(1))))
 }
 
 const STUCK: [(Stuck, u8, &str); 6] = [

@@ -77,20 +77,31 @@ fn script(alloc: Global) -> Result<AST, OutOfMemory> {
     Ok(AST::new(statements, functions))
 }
 
+/// `start` is 35.
+fn started(alloc: Global) -> Result<Scope, OutOfMemory> {
+    let mut scope = Scope::new(alloc);
+    scope.push(ImmutableString::new(alloc, "start")?, Dynamic::Int(35))?;
+    Ok(scope)
+}
+
+fn run(alloc: Global, script: &AST) -> Result<RunReport, OutOfMemory> {
+    let info = EngineInfo::new(alloc); // overrides no operator
+    plain_run(alloc, script, &info, &Seven, &started(alloc)?, 10) // with ten turns
+}
+
 #[test]
 fn a_script_is_run(rt: HostRuntime) -> Result<(), Fail> {
     let alloc = rt.alloc();
-    let script = script(alloc)?;
-    let mut scope = Scope::new(alloc);
-    scope.push(ImmutableString::new(alloc, "start")?, Dynamic::Int(35))?;
-
-    let info = EngineInfo::new(alloc); // overrides no operator
-    let report = plain_run(alloc, &script, &info, &Seven, &scope, 10)?; // with ten turns
-
-    assert!(rt; report.run_end == RunEnd::Value(Dynamic::Int(42)));
-    assert!(rt; report.turns_left == 10); // no loop, no call of a script's function
-    assert!(rt; has_asked_for_a_price(&report));
+    let report = run(alloc, &script(alloc)?)?;
+    assert!(rt; is_as_wanted(&report));
     Ok(())
+}
+
+/// Whether it came to 42; with no loop and no call of a script's function no turn is used.
+fn is_as_wanted(report: &RunReport) -> bool {
+    matches!(report.run_end, RunEnd::Value(Dynamic::Int(42)))
+        && report.turns_left == 10
+        && has_asked_for_a_price(report)
 }
 
 fn has_asked_for_a_price(report: &RunReport) -> bool {

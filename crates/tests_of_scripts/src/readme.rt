@@ -8,6 +8,7 @@ use rhai_notation::push_script;
 use rhai_optimizer::{OptimizationLevel, optimize_into_ast};
 use rhai_program::ProgramHost;
 use rhai_run::{EngineInfo, RunEnd, plain_run};
+use rhai_script::AST;
 use std::alloc::Global;
 use std::test::Fail;
 
@@ -26,21 +27,32 @@ fn sum(alloc: Global) -> Result<Stmt, OutOfMemory> {
     Ok(Stmt::FnCall(Boxed::new(alloc, call)?, Position::NONE))
 }
 
+fn optimised(alloc: Global, info: &EngineInfo) -> Result<AST, OutOfMemory> {
+    let statements = vec![in alloc; sum(alloc)?]?;
+    let functions = Vec::new(alloc);
+    let level = OptimizationLevel::Simple;
+    optimize_into_ast(alloc, info, None, statements, functions, level)
+}
+
+/// Look at it.
+fn is_printed(alloc: Global, script: &AST, wanted: &str) -> Result<bool, OutOfMemory> {
+    let mut text = String::new(alloc);
+    push_script(script, &mut text)?;
+    Ok(text.as_str() == wanted)
+}
+
+/// Run it.
+fn gives(alloc: Global, script: &AST, info: &EngineInfo, wanted: i64) -> Result<bool, OutOfMemory> {
+    let scope = Scope::new(alloc);
+    let report = plain_run(alloc, script, info, &ProgramHost, &scope, 10)?; // with ten turns
+    Ok(matches!(report.run_end, RunEnd::Value(Dynamic::Int(n)) if n == wanted))
+}
+
 #[test]
 fn a_sum_is_optimised_and_run(rt: HostRuntime) -> Result<(), Fail> {
     let alloc = rt.alloc();
     let info = EngineInfo::new(alloc); // overrides no operator
-    let statements = vec![in alloc; sum(alloc)?]?;
-    let functions = Vec::new(alloc);
-    let level = OptimizationLevel::Simple;
-    let script = optimize_into_ast(alloc, &info, None, statements, functions, level)?;
-
-    let mut text = String::new(alloc);
-    push_script(&script, &mut text)?; // look at it: the sum is a constant by now
-    assert_eq!(rt; text.as_str(), "42\n");
-
-    let scope = Scope::new(alloc);
-    let report = plain_run(alloc, &script, &info, &ProgramHost, &scope, 10)?; // with ten turns
-    assert_eq!(rt; report.run_end, RunEnd::Value(Dynamic::Int(42)));
+    let script = optimised(alloc, &info)?; // the sum is a constant by now
+    assert!(rt; is_printed(alloc, &script, "42\n")? && gives(alloc, &script, &info, 42)?);
     Ok(())
 }
