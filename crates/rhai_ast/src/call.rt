@@ -14,7 +14,7 @@ pub trait CallQueries {
     /// Does it name modules?
     fn is_qualified(&self) -> bool;
 
-    /// Is it an operator over its operands: does it have an operator's token?
+    /// Is it an operator over its operands: does it have a token?
     fn is_operator_call(&self) -> bool;
 
     /// Are all arguments constant? So they are where there are none.

@@ -16,7 +16,7 @@ use std::rc::Rc;
 
 /// The first fault of the statements, and then of the functions in order, a function's name before its body: in
 /// the order of the walk, and at one node the fault with the smallest number. Ok exactly where the tree is
-/// well-formed, if there is memory for the keys of each map literal.
+/// well-formed, if there is memory for the keys of each map literal. It is not in rhai.
 pub fn check_tree(
     alloc: Global,
     statements: &[Stmt],
@@ -29,8 +29,8 @@ pub fn check_tree(
     check_functions(alloc, functions)
 }
 
-/// Whether no node calls `eval`, `is_def_var` or `is_def_fn` without a namespace, imports, exports or shares
-/// names, or has the flag EXPORTED.
+/// Whether no node that a walk shows calls `eval`, `is_def_var` or `is_def_fn` without a namespace, imports,
+/// exports or shares names, or has the flag EXPORTED. It is not in rhai.
 pub fn is_plain(statements: &[Stmt], functions: &[Rc<ScriptFuncDef>]) -> bool
     ensures { result ≡ plain.is_plain (script_by statements.now functions.now) }
 {

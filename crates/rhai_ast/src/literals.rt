@@ -22,13 +22,15 @@ pub trait Literals: Sized {
     /// The value of a literal: of a constant, of the call `Fn("name")` where a function may have the
     /// name, of `..` and `..=` over integers, one of which may be left out.
     ///
-    /// In rhai it takes the global state too, which it asks nothing.
+    /// Refused for want of memory alone. In rhai it takes the global state too, which it asks nothing.
     fn get_literal_value(&self, alloc: Global) -> Result<Option<Dynamic>, OutOfMemory>;
 
-    /// The value of a constant, lent where the tree holds it whole. It is not in rhai.
+    /// The value of a constant, lent where the tree holds it whole, and else made, which may be
+    /// refused for want of memory. It is not in rhai.
     fn constant_value(&self, alloc: Global) -> Result<Option<Cow<'_, Dynamic>>, OutOfMemory>;
 
-    /// The constant for a value. A pointer without values of parameters is the call `Fn("name")`.
+    /// The constant for a value. A pointer without values of parameters is the call `Fn("name")`. Refused
+    /// for want of memory alone; the value is gone then.
     fn from_dynamic(alloc: Global, value: Dynamic, pos: Position) -> Result<Self, OutOfMemory>;
 }
 

@@ -3,7 +3,7 @@
 
 ghost use Rattle.std.specs.Prelude.{◌≡◌, IfOk, Some};
 ghost use Rattle.rhai_tokens.specs.Symbols.{token_text};
-ghost use Rattle.rhai_reading.specs.Reading.{expr_of, stmt_of, stmts_of, mark_of};
+ghost use Rattle.rhai_reading.specs.Reading.{expr_of, stmts_of, mark_of};
 ghost use Rattle.rhai_meaning.specs.Tree.{IntegerConstant};
 ghost use Rattle.rhai_builtins.specs.Scripts.{operation, evaluates, first_statements};
 

@@ -6,7 +6,7 @@ ghost use Rattle.rhai_faults.specs.declared.fault.TreeFault.TheVariants as fault
 use std::alloc::{AllocError, AllocFailed};
 use thiserror::Error;
 
-/// Why a tree is not well-formed.
+/// Why a tree is not well-formed. It is not in rhai.
 #[derive(Clone, Copy, Debug, PartialEq, Eq, Error)]
 pub enum TreeFault {
     /// Two keys of a map literal are equal.

@@ -22,7 +22,7 @@ use std::rc::Rc;
 /// The functions that ask for what the optimiser may take away.
 const BARRED: [&str; 3] = ["eval", "is_def_var", "is_def_fn"];
 
-/// Whether the nodes of functions' bodies are plain.
+/// Whether the nodes of functions' bodies that a walk shows are plain.
 pub fn are_plain_functions(functions: &[Rc<ScriptFuncDef>]) -> bool
     ensures { result ≡ over_functions plain_walk (functions_of functions.now) }
 {
@@ -142,7 +142,7 @@ fn is_plain_stmt(stmt: &Stmt) -> bool
     }
 }
 
-/// Whether all nodes of statements are plain.
+/// Whether all nodes of statements that a walk shows are plain.
 #[cycle(plain)]
 pub fn are_plain(statements: &[Stmt]) -> bool
     ensures { result ≡ over_stmts plain_walk (stmts_of statements.now) }

@@ -5,28 +5,8 @@ use Rattle.std.proofs.lemmas.List.{append-nil}
 use Rattle.std.specs.List.{items_where_true}
 use Rattle.rhai_meaning.specs.Act.{Key}
 use Rattle.rhai_meaning.specs.Calls.{same_key, has_key}
-use Rattle.rhai_meaning.specs.Desugar.{core_function}
-use Rattle.rhai_meaning.specs.Run as run
-use Rattle.rhai_meaning.specs.Tree.{Function}
-use Rattle.rhai_functions.specs.Table.{put_by, put_all_by, table_of, are_distinct, key_of}
+use Rattle.rhai_functions.specs.Table.{put_by, put_all_by, are_distinct, key_of}
 use Rattle.rhai_functions.proofs.Keys.{same_key-true}
-use Rattle.rhai_functions.proofs.Tables.{are_distinct-put, map-put_all}
-
--- a run knows a function by the same key
-pub key_of-core : (f : Function) → run.key_of (core_function f) ≡ key_of f
-key_of-core f = refl
-
--- in a table no key comes twice
-pub are_distinct-table : (fs : List Function) → are_distinct (map key_of (table_of fs)) ≡ true
-are_distinct-table fs = from [] fs refl
-  where
-    from : (table fs : List Function) → are_distinct (map key_of table) ≡ true → are_distinct (map key_of (put_all_by key_of table fs)) ≡ true
-    from table [] h = h
-    from table (f ∷ fs) h = from (put_by key_of table f) fs (are_distinct-put key_of table f h)
-
--- what leaves the keys as they are goes through a table
-pub table_of-map : (change : Function → Function) → ((f : Function) → key_of (change f) ≡ key_of f) → (fs : List Function) → table_of (map change fs) ≡ map change (table_of fs)
-table_of-map change keeps fs = sym (map-put_all change key_of [] fs) ∙ (λ i. map change (put_all_by (λ f. keeps f i) [] fs))
 
 other_way : (k l : Key) → same_key k l ≡ false → same_key l k ≡ false
 other_way k l h = false_from_ne_true (same_key l k) (λ e. let one = same_key-true l k e in both_ways (same_key k l) h ((λ i. same_key (sym one i) (one i)) ∙ e))
@@ -80,7 +60,3 @@ module _ {F : Type 0} (key_of : F → Key) where
       (ap not (has_key-chosen bs fs (key_of f) (not-true (has_key (map key_of fs) (key_of f)) parts.0)))
       (are_distinct-chosen bs fs parts.1)
   are_distinct-chosen (false ∷ bs) (f ∷ fs) h = are_distinct-chosen bs fs (and_parts (not (has_key (map key_of fs) (key_of f))) (are_distinct (map key_of fs)) h).1
-
--- functions of distinct keys are their own table
-pub table_of-distinct : (fs : List Function) → are_distinct (map key_of fs) ≡ true → table_of fs ≡ fs
-table_of-distinct = own_table key_of

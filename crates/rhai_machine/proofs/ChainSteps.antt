@@ -8,7 +8,7 @@ use Rattle.rhai_tokens.specs.declared.position.Position.{Position}
 use Rattle.rhai_tree.specs.declared.expr.Expr.{Expr}
 use Rattle.rhai_tree.specs.declared.expr.Expr.TheVariants as kind
 use Rattle.rhai_tree.specs.declared.expr.FnCallExpr.{FnCallExpr}
-use Rattle.rhai_reading.specs.Reading.{callee_of, expr_of, expr_of-MethodCall, expr_of-Property, exprs_of, is_negated, property_names}
+use Rattle.rhai_reading.specs.Reading.{callee_of, expr_of, expr_of-MethodCall, exprs_of, is_negated}
 use Rattle.rhai_reading.proofs.Cases.{ExprCase, expr_cases, dynamic_constant_case, bool_constant_case, integer_constant_case, char_constant_case, string_constant_case, interpolated_string_case, array_case, map_case, unit_case, variable_case, this_ptr_case, property_case, method_call_case, braces_case, call_case, dot_case, index_case, and_case, or_case, coalesce_case}
 use Rattle.rhai_meaning.specs.Act as act
 use Rattle.rhai_meaning.specs.Act.{Act, Ended, Gives, At}
@@ -26,23 +26,20 @@ use Rattle.rhai_meaning.specs.Shape.{is_callable, is_chain, is_unit}
 use Rattle.rhai_meaning.specs.Tree as tree
 use Rattle.rhai_places.specs.Reading.{or_unit}
 use Rattle.rhai_machine.specs.declared.steps.parts.Access.{Access}
-use Rattle.rhai_machine.specs.declared.steps.parts.Access.TheVariants as reached
 use Rattle.rhai_machine.specs.declared.steps.links.Link.{Link}
 use Rattle.rhai_machine.specs.declared.steps.links.Rest.{Rest}
-use Rattle.rhai_machine.specs.declared.steps.parts.PropertyNames.{PropertyNames}
 use Rattle.rhai_machine.specs.declared.steps.placing.Current.{Current}
-use Rattle.rhai_machine.specs.declared.steps.placing.Current.TheVariants as current
 use Rattle.rhai_state.specs.declared.state.Interrupt.{Interrupt}
 use Rattle.rhai_state.specs.declared.state.Interrupt.TheVariants.{Stuck}
 use Rattle.rhai_state.specs.declared.state.State.{State}
 use Rattle.rhai_host.specs.declared.report.Stuck.TheVariants as why
-use Rattle.rhai_machine.specs.Chaining.{StepsOn, HasAccess, Reaches, access_meant, chain_core, head_of, link_steps, method_core, names_meant, rest_steps, step_core, step_in, steps_on}
-use Rattle.rhai_state.specs.Evaluating.{RunsCore, RunsExpr, RunsExprs}
+use Rattle.rhai_machine.specs.Chaining.{StepsOn, HasAccess, Reaches, access_meant, chain_core, head_of, link_steps, method_core, rest_steps, step_core, step_in, steps_on}
+use Rattle.rhai_state.specs.Evaluating.{RunsCore, RunsExprs}
 use Rattle.rhai_machine.specs.Placing.{current_in, made, place_in, read_base}
 use Rattle.rhai_state.specs.Runs.{Setting, Acting, Goes, Leads, Runs, given}
 use Rattle.rhai_state.specs.State.{store_of}
 use Rattle.rhai_machine.proofs.Callees.{count_exprs_of}
-use Rattle.rhai_state.proofs.Goes.{goes_as, goes_then, leads_then, stops_then, value_goes, value_stops}
+use Rattle.rhai_state.proofs.Goes.{goes_as, goes_then, leads_then, stops_then}
 
 -- ---- chains by their outermost node
 
@@ -56,13 +53,7 @@ module _ (here : Setting) (loop dot : Bool) (k : tree.ChainFlags) (l r : tree.Ex
   chain_is : (b : Bool) → is_chain dot k r ≡ b → chain_core loop dot k l r ≡ cond b (core.Chain base_here steps_here) core.Ill
   chain_is b h = ap (λ c. cond c (core.Chain base_here steps_here) core.Ill) h
 
-  pub chain_stuck : (s : State) → is_chain dot k r ≡ false → RunsCore here (chain_core loop dot k l r) s (Err (Stuck why.WrongKind)) s
-  chain_stuck s h = subst (λ e. RunsCore here e s (Err (Stuck why.WrongKind)) s) (sym (chain_is false h)) (record { turns = omega arith; runs = λ d le. refl })
-
   module _ (s s1 : State) (h : is_chain dot k r ≡ true) where
-    pub chain_stops : (x : Interrupt) → StepsOn here (λ next. at_base here.world base_here next) s (Err x) s1 → RunsCore here (chain_core loop dot k l r) s (Err x) s1
-    chain_stops x q = subst (λ e. RunsCore here e s (Err x) s1) (sym (chain_is true h)) (q (λ c. meaning.steps here.world steps_here c))
-
     pub chain_runs : (c : Current) (s2 : State) (o : Result Dynamic Interrupt) → StepsOn here (λ next. at_base here.world base_here next) s (Ok c) s1 → Runs here (Acting (meaning.steps here.world steps_here (current_in here (store_of s1) c))) s1 o s2 → RunsCore here (chain_core loop dot k l r) s o s2
     chain_runs c s2 o q n = subst (λ e. RunsCore here e s o s2) (sym (chain_is true h)) (leads_then here s2 o (λ v. given (value_of v)) (q (λ d. meaning.steps here.world steps_here d)) n)
 
@@ -74,12 +65,6 @@ module _ (here : Setting) (loop : Bool) (e : tree.Expr) (s s1 : State) where
 
   pub base_place : (r : act.Root) (x : Result Current Interrupt) → Some r ≡ root_of e → StepsOn here (λ next. read_base r next) s x s1 → StepsOn here (on_base (root_of e)) s x s1
   base_place r x h q = subst (λ o. StepsOn here (on_base o) s x s1) h q
-
-  pub base_stops : (x : Interrupt) → None ≡ root_of e → RunsExpr here loop e s (Err x) s1 → StepsOn here (on_base (root_of e)) s (Err x) s1
-  base_stops x h q = subst (λ o. StepsOn here (on_base o) s (Err x) s1) h (λ next. value_stops here _ (λ v. next (places.without_place v)) s s1 x q)
-
-  pub base_value : (v : Dynamic) → None ≡ root_of e → RunsExpr here loop e s (Ok v) s1 → StepsOn here (on_base (root_of e)) s (Ok (current.Loose v)) s1
-  base_value v h q = subst (λ o. StepsOn here (on_base o) s (Ok (current.Loose v)) s1) h (λ next. value_goes here (λ u. next (places.without_place u)) q)
 
 -- ---- one step
 
@@ -147,22 +132,13 @@ module _ (here : Setting) (loop : Bool) (rest : Rest) (l : Link) (h : rest_steps
     abbrev old : places.Current
     old = current_in here (store_of s) c
 
-    pub reach_unit : (is_negated rest.options && is_unit old.value) ≡ true → Reaches here loop rest c s (Ok None) s
-    reach_unit e = λ next. goes_then here (goes_as here _ _ s (ap (λ b. Acting (choose b unit (access here.world (head_of (rest_steps loop rest)) (λ a. refreshed old (λ d. next a d))))) e)) (record { turns = omega arith; runs = λ d le. refl })
-
     module _ (e : (is_negated rest.options && is_unit old.value) ≡ false) where
       to_access : (b : Bool) → l.is_exported ≡ b → (next : chains.Access → places.Current → Act) → Goes here (Acting (first_step (head_of (rest_steps loop rest)) old next)) s (Acting (access here.world (step_in loop rest.is_dot b (expr_of l.argument.now)) (λ a. refreshed old (λ d. next a d)))) s
       to_access b x next =
           goes_then here (goes_as here _ _ s (ap (λ o. Acting (choose o unit (access here.world (head_of (rest_steps loop rest)) (λ a. refreshed old (λ d. next a d))))) e))
           (goes_as here _ _ s (ap (λ p. Acting (access here.world p (λ a. refreshed old (λ d. next a d)))) (head_is ∙ ap (λ o. step_in loop rest.is_dot o (expr_of l.argument.now)) x)))
 
-      pub reach_stuck : l.is_exported ≡ true → Reaches here loop rest c s (Err (Stuck why.WrongKind)) s
-      reach_stuck x = λ next. stops_then here s (Stuck why.WrongKind) (to_access true x next) (record { turns = omega arith; runs = λ d le. refl })
-
       module _ (x : l.is_exported ≡ false) (s1 : State) where
-        pub reach_stops : (y : Interrupt) → HasAccess here (step_in loop rest.is_dot false (expr_of l.argument.now)) s (Err y) s1 → Reaches here loop rest c s (Err y) s1
-        reach_stops y q = λ next. stops_then here s1 y (to_access false x next) (q (λ a. refreshed old (λ d. next a d)))
-
         module _ (a : Access) (q : HasAccess here (step_in loop rest.is_dot false (expr_of l.argument.now)) s (Ok a) s1) where
           abbrev Again : Result Unit Interrupt → Type 0
           Again z = (u : Value) (next : places.Current → Act) → Leads here (Acting (refreshed (made c u) next)) s1 z s1 (λ i. Acting (next (current_in here (store_of s1) c)))
@@ -179,22 +155,12 @@ module _ (here : Setting) (loop : Bool) (s s1 : State) where
   access_as : (dot b : Bool) (e : tree.Expr) (x : Result Access Interrupt) → dot ≡ b → HasAccess here (step_in loop b false e) s x s1 → HasAccess here (step_in loop dot false e) s x s1
   access_as dot b e x h q = subst (λ c. HasAccess here (step_in loop c false e) s x s1) (sym h) q
 
-  pub index_stops : (dot : Bool) (e : tree.Expr) (x : Interrupt) → dot ≡ false → RunsExpr here loop e s (Err x) s1 → HasAccess here (step_in loop dot false e) s (Err x) s1
-  index_stops dot e x h q = access_as dot false e (Err x) h (λ next. value_stops here _ (λ v. next (chains.OfIndex v)) s s1 x q)
-
-  pub index_reached : (dot : Bool) (e : tree.Expr) (v : Dynamic) → dot ≡ false → RunsExpr here loop e s (Ok v) s1 → HasAccess here (step_in loop dot false e) s (Ok (reached.Index v)) s1
-  index_reached dot e v h q = access_as dot false e (Ok (reached.Index v)) h (λ next. value_goes here (λ u. next (chains.OfIndex u)) q)
-
   module _ (dot : Bool) (h : dot ≡ true) (e : Expr) where
     member_as : (t : tree.Expr) (x : Result Access Interrupt) → expr_of e ≡ t → HasAccess here (step_in loop true false t) s x s1 → HasAccess here (step_in loop dot false (expr_of e)) s x s1
     member_as t x k q = access_as dot true (expr_of e) x h (subst (λ u. HasAccess here (step_in loop true false u) s x s1) (sym k) q)
 
     pub method_reached : (f got : FnCallExpr) (p : Position) (x : Result Access Interrupt) → e ≡ kind.MethodCall f p → got ≡ f → HasAccess here (method_core loop got) s x s1 → HasAccess here (step_in loop dot false (expr_of e)) s x s1
     method_reached f got p x k g q = member_as (tree.MethodCall (callee_of f) (exprs_of f.args)) x (ap expr_of k ∙ expr_of-MethodCall f p) (subst (λ d. HasAccess here (method_core loop d) s x s1) g q)
-
-module _ (here : Setting) (loop : Bool) (s : State) (dot : Bool) (h : dot ≡ true) (e : Expr) where
-  pub property_reached : (n : Text × Text × Text) (p : Position) (x : PropertyNames) → e ≡ kind.Property n p → names_meant x ≡ property_names n → HasAccess here (step_in loop dot false (expr_of e)) s (Ok (reached.Property x)) s
-  property_reached n p x k m = member_as here loop s s dot h e (tree.Property (property_names n)) (Ok (reached.Property x)) (ap expr_of k ∙ expr_of-Property n p) (λ next. goes_as here _ _ s (ap (λ o. Acting (next (chains.OfProperty o))) (sym m)))
 
 no_member : (loop : Bool) {x : Expr} {t : tree.Expr} → ExprCase x t → ((n : Text × Text × Text) (p : Position) → x ≡ kind.Property n p → ⊥) → ((f : FnCallExpr) (p : Position) → x ≡ kind.MethodCall f p → ⊥) → member_of loop t ≡ core.IllStep
 no_member loop (property_case n p) h k = absurd (h n p refl)

@@ -13,13 +13,10 @@ use Rattle.rhai_meaning.specs.Places.{AtEntry, Current, along, inside, part}
 use Rattle.rhai_meaning.specs.Elements.{at_index}
 use Rattle.rhai_meaning.specs.Tree.{PropertyNames}
 use Rattle.rhai_places.specs.Reading.{or_unit}
-use Rattle.rhai_host.specs.declared.host.HostCall.{HostCall}
-use Rattle.rhai_host.specs.declared.host.HostAnswer.{HostAnswer}
 use Rattle.rhai_state.specs.declared.state.State.{State}
 use Rattle.rhai_machine.specs.declared.steps.placing.Current as declared
 use Rattle.rhai_machine.specs.declared.steps.placing.Current.TheVariants as kind
 use Rattle.rhai_machine.specs.Placing.{root_value, place_meant, made, current_in}
-use Rattle.rhai_host.specs.Host.{call_meant, answer_meant}
 use Rattle.rhai_state.specs.declared.state.Interrupt.{Interrupt}
 use Rattle.rhai_state.specs.Runs.{Setting, Task, env, Acting, Over, Goes, Leads, Stops, given}
 use Rattle.rhai_state.specs.State.{store_of}
@@ -52,9 +49,6 @@ property_asks p c (RangeV a b) next h = refl
 property_asks p c (RangeInclusiveV a b) next h = refl
 
 -- ---- the host
-
-pub asked_goes : (here : Setting) (s s' : State) (c : HostCall) (a : HostAnswer) (next : Answer → Act) → answer_meant a ≡ here.world.host.answer (map call_meant s.calls) (call_meant c) → store_of s' ≡ record (store_of s) { calls = map call_meant s.calls ++ call_meant c ∷ [] } → s'.turns ≡ s.turns → Goes here (Acting (AskHost (call_meant c) next)) s (Acting (next (answer_meant a))) s'
-asked_goes here s s' c a next h e t = record { turns = omega (arith, t); runs = λ d le i. run here.world (env here d) (next (sym h i)) (sym e i) (sym t i) }
 
 is_none_by : {A : Type 0} (o : Option A) → is_some o ≡ false → o ≡ None
 is_none_by None h = refl
@@ -129,9 +123,6 @@ is_some_by (Some a) f v h e = (f a, sym e)
 is_some_by None f v h e = absurd (cc)
 
 module _ {T : Type 0} (here : Setting) (s s2 : State) (r : Result T Interrupt) (k : T → Task) (c : Current) where
-  pub set_host_leads : (s1 : State) (f : Text) (vs : List Value) (receiver : Value) (c1 : Current) (u : Option Value) → receiver ≡ c.value → c1 ≡ c → Goes here (Acting (ask_method f receiver vs (λ v x. places.put_back c x))) s (Acting (places.put_back c u)) s1 → Leads here (Acting (places.put_back c1 u)) s1 r s2 k → Leads here (Acting (set_by_host f vs c)) s r s2 k
-  set_host_leads s1 f vs receiver c1 u w e p q = leads_then here s2 r k (goes_then here (goes_as here _ _ s (ap (λ v. Acting (ask_method f v vs (λ x y. places.put_back c y))) (sym w))) (goes_then here p (goes_as here _ _ s1 (ap (λ d. Acting (places.put_back d u)) (sym e))))) q
-
   pub set_property_part : (p : PropertyNames) (v : Value) (at : places.Place) (n : Text) → ((w : Value) × (inside c.value (AtEntry p.name) ≡ Some w)) → n ≡ p.name → Leads here (Acting (places.write_place true (places.under (AtEntry n) at) v)) s r s2 k → Leads here (Acting (set_property p v at c c.value)) s r s2 k
   set_property_part p v at n h e q = leads_then here s2 r k (goes_as here _ _ s (ap Acting (property_set_part p v at c c.value h.0 h.1 ∙ ap (λ m. places.write_place true (places.under (AtEntry m) at) v) (sym e)))) q
 

@@ -1,5 +1,5 @@
 -- Ways to leave a list, and `try`.
-use Rattle.std.proofs.Common.{◌≡◌, ℕ, Bool, true, false, not, ◌&&◌, length, Option, Some, None, Result, Ok, Err, refl, sym, ap, subst, arith, cond, if◌then◌else◌}
+use Rattle.std.proofs.Common.{◌≡◌, ℕ, Bool, true, false, length, Option, Some, None, Result, Ok, Err, refl, sym, ap, subst, arith, if◌then◌else◌}
 use Rattle.rhai_values.specs.declared.dynamic.Dynamic.{Dynamic}
 use Rattle.rhai_values.specs.declared.dynamic.Dynamic.TheVariants as value
 use Rattle.rhai_values.specs.Reading.{value_of, value_of-Unit}
@@ -9,61 +9,19 @@ use Rattle.rhai_meaning.specs.Act.{Exit, Throws, Gives, Leaves, Ended, At, Act, 
 use Rattle.rhai_meaning.specs.ActForms.{choose, on_throw}
 use Rattle.rhai_meaning.specs.Control.{named, end_branch, try_of}
 use Rattle.rhai_meaning.specs.Core as core
-use Rattle.rhai_meaning.specs.Desugar.{break_kind, core_maybe, core_stmt, core_stmts, return_kind, try_by}
-use Rattle.rhai_meaning.specs.Meaning.{act, acts, deed, exit}
+use Rattle.rhai_meaning.specs.Desugar.{core_stmt, core_stmts, try_by}
+use Rattle.rhai_meaning.specs.Meaning.{acts}
 use Rattle.rhai_meaning.specs.Shape.{catch_name, is_unit}
 use Rattle.rhai_state.specs.declared.state.Interrupt.{Interrupt}
 use Rattle.rhai_state.specs.declared.state.Interrupt.TheVariants.{NoMemory, Return, Break, Continue, Throw, Stuck, OutOfTurns}
 use Rattle.rhai_state.specs.declared.state.State.{State}
-use Rattle.rhai_host.specs.declared.report.Stuck.TheVariants as why
-use Rattle.rhai_state.specs.Evaluating.{RunsBlock, RunsCatch, RunsLine, RunsMaybe}
-use Rattle.rhai_state.specs.Exits.{body_end, branch_end, LeavesBy}
-use Rattle.rhai_state.specs.Runs.{Setting, Task, Acting, Listing, Over, Leaving, Goes, Stops, Leads, Runs, given, env}
+use Rattle.rhai_state.specs.Evaluating.{RunsBlock, RunsCatch, RunsLine}
+use Rattle.rhai_state.specs.Exits.{body_end, branch_end}
+use Rattle.rhai_state.specs.Runs.{Setting, Task, Acting, Listing, Over, Goes, Leads, Runs, given, env}
 use Rattle.rhai_state.specs.State.{named_in, store_of}
-use Rattle.rhai_state.proofs.Goes.{goes_then, gives, leads_then, stops_by, halted_then, ending_goes, scoped_leads, value_goes, value_stops, line_leads, line_stops, named_goes, Cut}
-use Rattle.rhai_state.proofs.Statements.{ill_line}
+use Rattle.rhai_state.proofs.Goes.{goes_then, gives, leads_then, halted_then, ending_goes, scoped_leads, line_leads, line_stops, named_goes, Cut}
 
 module _ (here : Setting) where
-  -- the value is evaluated, and leaves
-  leave_goes : (k : core.ExitKind) (e : core.Expr) (s s1 : State) (v : Dynamic) (x : Interrupt) → LeavesBy x (exit k (value_of v)) → Goes here (Acting (act here.world e)) s (given (value_of v)) s1 → RunsLine here (core.Does (core.Leave k e)) s (Err x) s1
-  leave_goes k e s s1 v x h q = λ next.
-      line_stops here (deed here.world (core.Leave k e)) next s s1 x
-      (stops_by here _ s s1 x (Leaving (exit k (value_of v))) h (goes_then here (value_goes here (λ u. Stop (Leaves (exit k u))) q) (record { turns = omega arith; runs = λ d le. refl })))
-
-  leave_stops : (k : core.ExitKind) (e : core.Expr) (s s1 : State) (x : Interrupt) → Stops here (Acting (act here.world e)) s x s1 → RunsLine here (core.Does (core.Leave k e)) s (Err x) s1
-  leave_stops k e s s1 x q = λ next. line_stops here (deed here.world (core.Leave k e)) next s s1 x (value_stops here _ _ s s1 x q)
-
-  module _ (loop b exported : Bool) (m : tree.MaybeExpr) where
-    abbrev return_line : core.Stmt
-    return_line = core_stmt loop (tree.Return b exported m)
-
-    return_is : (c : Bool) → exported ≡ c → core.Does (cond (not c) (core.Leave (return_kind b) (core_maybe loop m)) core.IllDeed) ≡ return_line
-    return_is c h = ap (λ d. core.Does (cond (not d) (core.Leave (return_kind b) (core_maybe loop m)) core.IllDeed)) (sym h)
-
-    pub return_stuck : (s : State) → exported ≡ true → RunsLine here return_line s (Err (Stuck why.WrongKind)) s
-    return_stuck s h = subst (λ l. RunsLine here l s (Err (Stuck why.WrongKind)) s) (return_is true h) (ill_line here loop s)
-
-    pub return_stops : (s s1 : State) (x : Interrupt) → exported ≡ false → RunsMaybe here loop m s (Err x) s1 → RunsLine here return_line s (Err x) s1
-    return_stops s s1 x h q = subst (λ l. RunsLine here l s (Err x) s1) (return_is false h) (leave_stops (return_kind b) (core_maybe loop m) s s1 x q)
-
-    pub return_leaves : (s s1 : State) (v : Dynamic) (x : Interrupt) → exported ≡ false → RunsMaybe here loop m s (Ok v) s1 → LeavesBy x (exit (return_kind b) (value_of v)) → RunsLine here return_line s (Err x) s1
-    return_leaves s s1 v x h q l = subst (λ y. RunsLine here y s (Err x) s1) (return_is false h) (leave_goes (return_kind b) (core_maybe loop m) s s1 v x l q)
-
-    abbrev break_line : core.Stmt
-    break_line = core_stmt loop (tree.BreakLoop b exported m)
-
-    break_is : (c : Bool) → (loop && not exported) ≡ c → core.Does (cond c (core.Leave (break_kind b) (core_maybe loop m)) core.IllDeed) ≡ break_line
-    break_is c h = ap (λ d. core.Does (cond d (core.Leave (break_kind b) (core_maybe loop m)) core.IllDeed)) (sym h)
-
-    pub break_stuck : (s : State) → (loop && not exported) ≡ false → RunsLine here break_line s (Err (Stuck why.WrongKind)) s
-    break_stuck s h = subst (λ l. RunsLine here l s (Err (Stuck why.WrongKind)) s) (break_is false h) (ill_line here loop s)
-
-    pub break_stops : (s s1 : State) (x : Interrupt) → (loop && not exported) ≡ true → RunsMaybe here loop m s (Err x) s1 → RunsLine here break_line s (Err x) s1
-    break_stops s s1 x h q = subst (λ l. RunsLine here l s (Err x) s1) (break_is true h) (leave_stops (break_kind b) (core_maybe loop m) s s1 x q)
-
-    pub break_leaves : (s s1 : State) (v : Dynamic) (x : Interrupt) → (loop && not exported) ≡ true → RunsMaybe here loop m s (Ok v) s1 → LeavesBy x (exit (break_kind b) (value_of v)) → RunsLine here break_line s (Err x) s1
-    break_leaves s s1 v x h q l = subst (λ y. RunsLine here y s (Err x) s1) (break_is true h) (leave_goes (break_kind b) (core_maybe loop m) s s1 v x l q)
-
   -- ---- `try`
 
   -- what is left to do after the body, by what it throws
@@ -120,9 +78,6 @@ module _ (here : Setting) where
 
     try_is : (x : Option (Option Text)) → catch_name e ≡ x → core.Does (try_by x (core_stmts loop a) (core_stmts loop b)) ≡ try_line
     try_is x h = ap (λ o. core.Does (try_by o (core_stmts loop a) (core_stmts loop b))) (sym h)
-
-    pub try_stuck : (s : State) → catch_name e ≡ None → RunsLine here try_line s (Err (Stuck why.WrongKind)) s
-    try_stuck s h = subst (λ l. RunsLine here l s (Err (Stuck why.WrongKind)) s) (try_is None h) (ill_line here loop s)
 
     module _ (x : Option Text) (h : catch_name e ≡ Some x) (s s1 : State) (ended : Result Dynamic Interrupt) (q : RunsBlock here loop a s ended s1) where
       try_body : (o : Result (Option Dynamic) Interrupt) → o ≡ body_end ended → Leads here (Acting (try_of (acts here.world false (core_stmts loop a) UnitV) x branch_acts)) s o s1 (λ c. after_body x branch_acts c)

@@ -87,10 +87,6 @@ straight : (t : Token) → is_no_equals t ≡ false → operator_of t ≡ None
 straight token.Equals h = refl
 straight _ h = absurd (let z : true ≡ false = h in cc)
 
--- `=` applies none
-pub stands_for_none : (t : Token) → is_no_equals t ≡ false → StandsFor None (operator_of t)
-stands_for_none t h = sym (straight t h)
-
 abbrev Applied : Option Token → Type 0
 Applied None = Unit {0}
 Applied (Some t) = (p : Operator) × (operator_of t ≡ Some p)

@@ -1,5 +1,5 @@
 -- Left sides of assignments by their kind.
-use Rattle.std.proofs.Common.{◌≡◌, Bool, true, false, cond, Option, Some, None, Result, Ok, Err, refl, sym, ap, ◌∙◌, subst, arith}
+use Rattle.std.proofs.Common.{◌≡◌, Bool, true, false, cond, Option, Some, None, Result, Ok, Err, refl, subst, arith}
 use Rattle.rhai_tokens.specs.declared.position.Position.{Position}
 use Rattle.rhai_values.specs.Value.{Value, UnitV}
 use Rattle.rhai_base.specs.Operators.{Operator}
@@ -8,50 +8,30 @@ use Rattle.rhai_tree.specs.declared.expr.BinaryExpr.{BinaryExpr}
 use Rattle.rhai_tree.specs.declared.expr.Expr.{Expr}
 use Rattle.rhai_tree.specs.declared.expr.Expr.TheVariants as kind
 use Rattle.rhai_tree.specs.declared.expr.FnCallExpr.{FnCallExpr}
-use Rattle.rhai_reading.specs.Reading.{breaks, chain_flags, expr_of, expr_of-Dot, expr_of-Index}
+use Rattle.rhai_reading.specs.Reading.{breaks, chain_flags, expr_of}
 use Rattle.rhai_reading.proofs.Cases.{ExprCase, dot_case, index_case, method_call_case}
 use Rattle.rhai_meaning.specs.Act as act
 use Rattle.rhai_meaning.specs.Act.{Act}
 use Rattle.rhai_meaning.specs.Core as core
-use Rattle.rhai_meaning.specs.Desugar.{ends_in_call, part_target, root_of, steps_of, target_of}
+use Rattle.rhai_meaning.specs.Desugar.{ends_in_call, part_target, root_of}
 use Rattle.rhai_meaning.specs.Meaning as meaning
 use Rattle.rhai_meaning.specs.Places as places
-use Rattle.rhai_meaning.specs.Shape.{is_chain, is_left_side}
+use Rattle.rhai_meaning.specs.Shape.{is_chain}
 use Rattle.rhai_meaning.specs.Tree as tree
-use Rattle.rhai_machine.specs.declared.steps.left_sides.LeftSide.{LeftSide}
-use Rattle.rhai_machine.specs.declared.steps.left_sides.LeftSide.TheVariants as side
 use Rattle.rhai_machine.specs.declared.steps.links.Rest.{Rest}
 use Rattle.rhai_machine.specs.declared.steps.placing.Current.{Current}
 use Rattle.rhai_state.specs.declared.state.Interrupt.{Interrupt}
 use Rattle.rhai_state.specs.declared.state.Interrupt.TheVariants.{Stuck}
 use Rattle.rhai_state.specs.declared.state.State.{State}
 use Rattle.rhai_host.specs.declared.report.Stuck.TheVariants as why
-use Rattle.rhai_machine.specs.Chaining.{StepsOn, rest_steps, step_core}
+use Rattle.rhai_machine.specs.Chaining.{StepsOn, rest_steps}
 use Rattle.rhai_machine.specs.Placing.{current_in, read_base}
 use Rattle.rhai_state.specs.Runs.{Setting, Acting, Leads, given}
 use Rattle.rhai_state.specs.State.{store_of}
-use Rattle.rhai_machine.specs.Targets.{IsPart, IsSide, part_core}
+use Rattle.rhai_machine.specs.Targets.{part_core}
 use Rattle.rhai_state.proofs.Goes.{leads_then}
 
 -- ---- which side it is
-
-abbrev by_parts : Bool → Bool → ASTFlags → tree.Expr → tree.Expr → core.Target
-by_parts loop dot k l r = cond (is_chain dot (chain_flags k) r) (part_target (root_of l) (ends_in_call dot (breaks k) r) (steps_of loop dot (chain_flags k) (step_core loop dot r) r)) core.IllTarget
-
-side_by : (e : tree.Expr) (b : BinaryExpr) (dot : Bool) (k : ASTFlags) (d : LeftSide) → is_left_side e ≡ true → ((loop : Bool) → target_of loop e ≡ by_parts loop dot k (expr_of b.lhs) (expr_of b.rhs)) → IsPart b dot k d → IsSide e (Some d)
-side_by e b dot k (side.Part l r) n q h = (n, λ loop. q loop ∙ (λ i. by_parts loop (sym h.1 i) (sym h.2 i) (expr_of (sym h.0 i)) (expr_of (sym h.3 i))))
-side_by e b dot k (side.Root r) n q h = absurd h
-side_by e b dot k side.Nowhere n q h = absurd h
-
-pub dot_side : (x : Expr) (b got : BinaryExpr) (k : ASTFlags) (p : Position) (d : LeftSide) → x ≡ kind.Dot b k p → got ≡ b → IsPart got true k d → IsSide (expr_of x) (Some d)
-dot_side x b got k p d h g q =
-    let same : expr_of x ≡ tree.Dot (chain_flags k) (expr_of got.lhs) (expr_of got.rhs) = ap expr_of h ∙ expr_of-Dot b k p ∙ ap (λ (c : BinaryExpr). tree.Dot (chain_flags k) (expr_of c.lhs) (expr_of c.rhs)) (sym g) in
-    subst (λ e. IsSide e (Some d)) (sym same) (side_by (tree.Dot (chain_flags k) (expr_of got.lhs) (expr_of got.rhs)) got true k d refl (λ loop. refl) q)
-
-pub index_side : (x : Expr) (b got : BinaryExpr) (k : ASTFlags) (p : Position) (d : LeftSide) → x ≡ kind.Index b k p → got ≡ b → IsPart got false k d → IsSide (expr_of x) (Some d)
-index_side x b got k p d h g q =
-    let same : expr_of x ≡ tree.Index (chain_flags k) (expr_of got.lhs) (expr_of got.rhs) = ap expr_of h ∙ expr_of-Index b k p ∙ ap (λ (c : BinaryExpr). tree.Index (chain_flags k) (expr_of c.lhs) (expr_of c.rhs)) (sym g) in
-    subst (λ e. IsSide e (Some d)) (sym same) (side_by (tree.Index (chain_flags k) (expr_of got.lhs) (expr_of got.rhs)) got false k d refl (λ loop. refl) q)
 
 -- ---- ends in calls
 
@@ -66,9 +46,6 @@ no_call_end dot last _ m d i = refl
 -- ---- an assignment to a part
 
 module _ (here : Setting) (loop : Bool) (l : tree.Expr) (rest : Rest) (o : Option Operator) (v : Value) (s : State) where
-  abbrev part_act : Act
-  part_act = meaning.assign here.world o (part_core loop l rest) v
-
   abbrev chained : Bool
   chained = is_chain rest.is_dot (chain_flags rest.options) (expr_of rest.right.now)
 

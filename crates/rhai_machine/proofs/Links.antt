@@ -1,12 +1,12 @@
 -- The nodes of a chain, one after another.
-use Rattle.std.proofs.Common.{◌≡◌, ◌+◌, ◌≤◌, Bool, true, false, cond, Option, Some, None, refl, sym, ap, ◌∙◌, subst, arith}
+use Rattle.std.proofs.Common.{◌≡◌, ◌+◌, ◌≤◌, Bool, true, false, cond, refl, sym, ap, ◌∙◌, subst, arith}
 use Rattle.std.specs.Prelude.{IfSome}
 use Rattle.rhai_parts.specs.declared.flags.ASTFlags.{ASTFlags}
 use Rattle.rhai_tokens.specs.declared.position.Position.{Position}
 use Rattle.rhai_tree.specs.declared.expr.BinaryExpr.{BinaryExpr}
 use Rattle.rhai_tree.specs.declared.expr.Expr.{Expr}
 use Rattle.rhai_tree.specs.declared.expr.Expr.TheVariants as kind
-use Rattle.rhai_reading.specs.Reading.{breaks, chain_flags, expr_of, is_exported, is_negated}
+use Rattle.rhai_reading.specs.Reading.{chain_flags, expr_of, is_negated}
 use Rattle.rhai_reading.proofs.Cases.{ExprCase, expr_cases, dynamic_constant_case, bool_constant_case, integer_constant_case, char_constant_case, string_constant_case, interpolated_string_case, array_case, map_case, unit_case, variable_case, this_ptr_case, property_case, method_call_case, braces_case, call_case, dot_case, index_case, and_case, or_case, coalesce_case}
 use Rattle.rhai_meaning.specs.Core as core
 use Rattle.rhai_meaning.specs.Desugar.{steps_of}
@@ -14,7 +14,7 @@ use Rattle.rhai_meaning.specs.Tree as tree
 use Rattle.rhai_meaning.specs.Weight.{expr_weight}
 use Rattle.rhai_machine.specs.declared.steps.links.Link.{Link}
 use Rattle.rhai_machine.specs.declared.steps.links.Rest.{Rest}
-use Rattle.rhai_machine.specs.Chaining.{IsInner, IsLast, IsRest, link_steps, rest_steps, step_core, step_in, steps_on}
+use Rattle.rhai_machine.specs.Chaining.{IsLast, link_steps, rest_steps, step_core, step_in, steps_on}
 
 last_by : (loop dot : Bool) (k : tree.ChainFlags) (p : core.Step) (r : tree.Expr) → k.breaks ≡ true → steps_of loop dot k p r ≡ core.last k.negated p
 last_by loop dot k p (tree.Dot m a b) h = ap (λ c. cond c (core.last k.negated p) (core.more k.negated (cond m.exported core.IllStep (step_core loop dot a)) (steps_of loop true m (step_core loop true b) b))) h
@@ -53,33 +53,8 @@ module _ (rest : Rest) (l : Link) where
   last_is : (loop : Bool) → steps_of loop rest.is_dot (chain_flags rest.options) (step_core loop rest.is_dot (expr_of rest.right.now)) (expr_of rest.right.now) ≡ core.last (is_negated rest.options) (step_core loop rest.is_dot (expr_of rest.right.now)) → IsLast rest.right.now l → rest_steps loop rest ≡ link_steps loop rest l
   last_is loop h is = h ∙ (λ i. steps_on loop (is_negated rest.options) (step_in loop rest.is_dot (sym is.1 i) (expr_of (sym is.0 i))) (sym is.2 i))
 
-  pub link_breaks : breaks rest.options ≡ true → IsLast rest.right.now l → (loop : Bool) → rest_steps loop rest ≡ link_steps loop rest l
-  link_breaks h is loop = last_is loop (last_by loop rest.is_dot (chain_flags rest.options) (step_core loop rest.is_dot (expr_of rest.right.now)) (expr_of rest.right.now) h) is
-
   pub link_ends : IsNoDot rest.right.now → IsNoIndex rest.right.now → IsLast rest.right.now l → (loop : Bool) → rest_steps loop rest ≡ link_steps loop rest l
   link_ends h i is loop = last_is loop (end_by loop rest.is_dot (chain_flags rest.options) (step_core loop rest.is_dot (expr_of rest.right.now)) (expr_cases rest.right.now) h i) is
-
-  abbrev node : Bool → tree.ChainFlags → tree.Expr → tree.Expr → tree.Expr
-  node true = tree.Dot
-  node false = tree.Index
-
-  module _ (d : Bool) (b : BinaryExpr) (o : ASTFlags) (r : Rest) where
-    next_is : (loop : Bool) → (r.is_dot ≡ d) × (r.options ≡ o) × (r.right.now ≡ b.rhs) → rest_steps loop r ≡ steps_of loop d (chain_flags o) (step_core loop d (expr_of b.rhs)) (expr_of b.rhs)
-    next_is loop is = λ i. steps_of loop (is.0 i) (chain_flags (is.1 i)) (step_core loop (is.0 i) (expr_of (is.2 i))) (expr_of (is.2 i))
-
-  more_by : (loop d : Bool) (dot : Bool) (k m : tree.ChainFlags) (p : core.Step) (x y : tree.Expr) → k.breaks ≡ false → steps_of loop dot k p (node d m x y) ≡ core.more k.negated (cond m.exported core.IllStep (step_core loop dot x)) (steps_of loop d m (step_core loop d y) y)
-  more_by loop true dot k m p x y h = ap (λ c. cond c (core.last k.negated p) (core.more k.negated (cond m.exported core.IllStep (step_core loop dot x)) (steps_of loop true m (step_core loop true y) y))) h
-  more_by loop false dot k m p x y h = ap (λ c. cond c (core.last k.negated p) (core.more k.negated (cond m.exported core.IllStep (step_core loop dot x)) (steps_of loop false m (step_core loop false y) y))) h
-
-  inner_by : (loop d : Bool) (b : BinaryExpr) (o : ASTFlags) (q : Option Rest) → IsRest b d o q → (e : Expr) → e ≡ b.lhs → (x : Bool) → x ≡ is_exported o → expr_of rest.right.now ≡ node d (chain_flags o) (expr_of b.lhs) (expr_of b.rhs) → breaks rest.options ≡ false → rest_steps loop rest ≡ steps_on loop (is_negated rest.options) (step_in loop rest.is_dot x (expr_of e)) q
-  inner_by loop d b o None is e same x ex h k = absurd is
-  inner_by loop d b o (Some r) is e same x ex h k =
-      ap (λ t. steps_of loop rest.is_dot (chain_flags rest.options) (step_core loop rest.is_dot t) t) h
-      ∙ (more_by loop d rest.is_dot (chain_flags rest.options) (chain_flags o) (step_core loop rest.is_dot (node d (chain_flags o) (expr_of b.lhs) (expr_of b.rhs))) (expr_of b.lhs) (expr_of b.rhs) k)
-      ∙ (λ i. core.more (is_negated rest.options) (step_in loop rest.is_dot (sym ex i) (expr_of (sym same i))) (sym (next_is d b o r loop is) i))
-
-  pub link_inner : (d : Bool) (b : BinaryExpr) (o : ASTFlags) → expr_of rest.right.now ≡ node d (chain_flags o) (expr_of b.lhs) (expr_of b.rhs) → breaks rest.options ≡ false → IsInner b d o l → (loop : Bool) → rest_steps loop rest ≡ link_steps loop rest l
-  link_inner d b o h k is loop = inner_by loop d b o l.rest is.2 l.argument.now is.0 l.is_exported is.1 h k
 
 -- a last link weighs no more than its side
 pub last_weighs : (e : Expr) (l : Link) → IsLast e l → (expr_weight (expr_of l.argument.now) ≤ expr_weight (expr_of e)) × IfSome l.rest (λ r. expr_weight (expr_of r.right.now) + 1 ≤ expr_weight (expr_of e))

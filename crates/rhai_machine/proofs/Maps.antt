@@ -1,5 +1,5 @@
 -- The members of a map, from the first to the last.
-use Rattle.std.proofs.Common.{◌≡◌, ℕ, ◌+◌, ◌<◌, ◌≤◌, Bool, true, false, List, [], length, drop, get_or, Ok, Err, refl, sym, ap, ◌∙◌, subst, cond, arith}
+use Rattle.std.proofs.Common.{◌≡◌, ℕ, ◌+◌, ◌<◌, ◌≤◌, Bool, true, List, [], length, drop, get_or, Ok, Err, sym, ap, ◌∙◌, subst, cond}
 use Rattle.std.proofs.lemmas.List.{drop_all}
 use Rattle.rhai_values.specs.declared.dynamic.Dynamic.{Dynamic}
 use Rattle.rhai_values.specs.declared.dynamic.Dynamic.TheVariants as value
@@ -18,9 +18,7 @@ use Rattle.rhai_meaning.specs.Elements.{with_entries, with_entry}
 use Rattle.rhai_meaning.specs.Meaning.{act, with_pairs}
 use Rattle.rhai_meaning.specs.Shape.{is_map}
 use Rattle.rhai_state.specs.declared.state.Interrupt.{Interrupt}
-use Rattle.rhai_state.specs.declared.state.Interrupt.TheVariants.{Stuck}
 use Rattle.rhai_state.specs.declared.state.State.{State}
-use Rattle.rhai_host.specs.declared.report.Stuck.TheVariants as why
 use Rattle.rhai_state.specs.Evaluating.{RunsCore, RunsExpr, RunsMembers}
 use Rattle.rhai_state.specs.Runs.{Setting, Task, Acting, Goes}
 use Rattle.rhai_state.proofs.Goes.{gives, goes_on, goes_then, goes_as, stops_then, value_goes, value_stops}
@@ -61,9 +59,6 @@ module _ (here : Setting) (loop : Bool) where
 
     map_is : (b : Bool) → is_map template ps ≡ b → (cond b (core.MapOf (core_pairs loop ps)) core.Ill) ≡ map_core
     map_is b h = ap (λ c. cond c (core.MapOf (core_pairs loop ps)) core.Ill) (sym h)
-
-    pub map_stuck : (s : State) → is_map template ps ≡ false → RunsCore here map_core s (Err (Stuck why.WrongKind)) s
-    map_stuck s h = subst (λ e. RunsCore here e s (Err (Stuck why.WrongKind)) s) (map_is false h) (record { turns = omega arith; runs = λ d le. refl })
 
     pub map_stops : (s s1 : State) (x : Interrupt) → is_map template ps ≡ true → RunsMembers here loop ps s (Err x) s1 → RunsCore here map_core s (Err x) s1
     map_stops s s1 x h q = subst (λ e. RunsCore here e s (Err x) s1) (map_is true h) (q (λ fs. give (MapV fs)))

@@ -186,9 +186,6 @@ module _ (here : Setting) (f : Text) (vs : List Value) (m : calls.Word) (meant :
     to_pointer : (next : places.Current → Act) → Goes here (Acting (by_method next)) s (Acting (value_alone (call_pointer here.world false (value_of receiver) vs) next)) s
     to_pointer next = goes_as here _ _ s (ap Acting (ap (λ o. method here.world f o vs met next) (sym meant ∙ is_call m h) ∙ ap (λ v. value_alone (call_pointer here.world false v vs) next) (sym is)))
 
-    pub pointer_stops : (x : Interrupt) → Stops here (Acting (call_pointer here.world false (value_of receiver) vs)) s x s1 → StepsOn here by_method s (Err x) s1
-    pointer_stops x q = λ next. stops_then here s1 x (to_pointer next) (value_stops here _ (λ v. next (without_place v)) s s1 x q)
-
     pub pointer_runs : (v : Dynamic) → Goes here (Acting (call_pointer here.world false (value_of receiver) vs)) s (given (value_of v)) s1 → StepsOn here by_method s (Ok (current.Loose v)) s1
     pointer_runs v q = λ next. goes_then here (to_pointer next) (value_goes here (λ u. next (without_place u)) q)
 

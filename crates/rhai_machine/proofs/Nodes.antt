@@ -2,7 +2,7 @@
 use Rattle.std.proofs.Common.{◌≡◌, Bool, true, false, cond, List, map, length, Option, Result, Ok, Err, refl, sym, ap, ◌∙◌, subst, arith}
 use Rattle.rhai_values.specs.declared.dynamic.Dynamic.{Dynamic}
 use Rattle.rhai_values.specs.declared.dynamic.Dynamic.TheVariants as value
-use Rattle.rhai_values.specs.Reading.{value_of, value_of-Array, value_of-Unit}
+use Rattle.rhai_values.specs.Reading.{value_of, value_of-Array}
 use Rattle.rhai_values.specs.Value.{Text, Value, ArrayV, TextV, values}
 use Rattle.rhai_tree.specs.declared.expr.FnCallExpr.{FnCallExpr}
 use Rattle.rhai_reading.specs.Reading.{callee_of, exprs_of}
@@ -10,7 +10,7 @@ use Rattle.rhai_meaning.specs.ActForms.{give}
 use Rattle.rhai_meaning.specs.Calls.{called}
 use Rattle.rhai_meaning.specs.Control.{texts_joined}
 use Rattle.rhai_meaning.specs.Core as core
-use Rattle.rhai_meaning.specs.Desugar.{callee_by, core_expr, core_exprs, core_stmts, guard_by}
+use Rattle.rhai_meaning.specs.Desugar.{callee_by, core_expr, core_exprs, core_stmts}
 use Rattle.rhai_meaning.specs.Meaning.{text}
 use Rattle.rhai_meaning.specs.Shape.{is_callable, is_unit}
 use Rattle.rhai_meaning.specs.Tree as tree
@@ -27,14 +27,8 @@ use Rattle.rhai_state.proofs.Statements.{deed_line}
 module _ (here : Setting) (loop : Bool) where
   -- ---- lists of values
 
-  pub array_stops : (es : tree.Exprs) (s s1 : State) (x : Interrupt) → RunsExprs here loop es s (Err x) s1 → RunsExpr here loop (tree.ArrayOf es) s (Err x) s1
-  array_stops es s s1 x q = q (λ vs. give (ArrayV (values vs)))
-
   pub array_runs : (es : tree.Exprs) (s s1 : State) (vs : List Dynamic) → RunsExprs here loop es s (Ok vs) s1 → RunsExpr here loop (tree.ArrayOf es) s (Ok (value.Array vs)) s1
   array_runs es s s1 vs q = goes_then here (q (λ us. give (ArrayV (values us)))) (gives here _ _ s1 (sym (value_of-Array vs)))
-
-  pub string_stops : (es : tree.Exprs) (s s1 : State) (x : Interrupt) → RunsExprs here loop es s (Err x) s1 → RunsExpr here loop (tree.InterpolatedString es) s (Err x) s1
-  string_stops es s s1 x q = q text
 
   pub string_runs : (es : tree.Exprs) (s s1 : State) (vs : List Dynamic) (v : Dynamic) → RunsExprs here loop es s (Ok vs) s1 → value_of v ≡ TextV (texts_joined (map value_of vs)) → RunsExpr here loop (tree.InterpolatedString es) s (Ok v) s1
   string_runs es s s1 vs v q h = goes_then here (q text) (gives here _ _ s1 (sym h))
@@ -98,12 +92,6 @@ module _ (here : Setting) (loop : Bool) where
 
   -- ---- statements
 
-  pub noop_line : (s : State) → RunsStmt here loop tree.Noop s (Ok value.Unit) s
-  noop_line s = deed_line here loop core.Noop s s (Ok value.Unit) (gives here _ _ s (sym value_of-Unit))
-
-  pub expression_line : (e : tree.Expr) (s s1 : State) (r : Result Dynamic Interrupt) → RunsExpr here loop e s r s1 → RunsStmt here loop (tree.ExprStmt e) s r s1
-  expression_line e s s1 r q = deed_line here loop (core.Evaluate (core_expr loop e)) s s1 r q
-
   pub call_line : (c : tree.Callee) (es : tree.Exprs) (s s1 : State) (r : Result Dynamic Interrupt) → RunsCall here loop c es s r s1 → RunsStmt here loop (tree.FnCallStmt c es) s r s1
   call_line c es s s1 r q = deed_line here loop (core.Evaluate (call_core loop c es)) s s1 r q
 
@@ -112,9 +100,6 @@ module _ (here : Setting) (loop : Bool) where
 
   pub if_line : (e : tree.Expr) (a b : tree.Stmts) (s s1 : State) (r : Result Dynamic Interrupt) → RunsDeed here (core.If (core_expr loop e) (core_stmts loop a) (core_stmts loop b)) s r s1 → RunsStmt here loop (tree.If e a b) s r s1
   if_line e a b s s1 r q = deed_line here loop (core.If (core_expr loop e) (core_stmts loop a) (core_stmts loop b)) s s1 r q
-
-  pub while_line : (e : tree.Expr) (ss : tree.Stmts) (s s1 : State) (r : Result Dynamic Interrupt) → RunsDeed here (core.While (guard_by e (core_expr loop e)) (core_stmts true ss)) s r s1 → RunsStmt here loop (tree.While e ss) s r s1
-  while_line e ss s s1 r q = deed_line here loop (core.While (guard_by e (core_expr loop e)) (core_stmts true ss)) s s1 r q
 
   pub for_line : (x : Text) (i : Option Text) (e : tree.Expr) (ss : tree.Stmts) (s s1 : State) (r : Result Dynamic Interrupt) → RunsDeed here (core.For x i (core_expr loop e) (core_stmts true ss)) s r s1 → RunsStmt here loop (tree.For x i e ss) s r s1
   for_line x i e ss s s1 r q = deed_line here loop (core.For x i (core_expr loop e) (core_stmts true ss)) s s1 r q

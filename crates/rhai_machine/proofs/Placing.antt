@@ -18,20 +18,19 @@ use Rattle.rhai_places.specs.declared.standing.Part.{Part}
 use Rattle.rhai_places.specs.Reading.{key_meant, part_value, or_unit}
 use Rattle.rhai_machine.specs.declared.steps.placing.Place.{Place}
 use Rattle.rhai_machine.specs.declared.steps.placing.Current.TheVariants as current
-use Rattle.rhai_state.specs.declared.state.Interrupt.{Interrupt}
 use Rattle.rhai_state.specs.declared.state.Interrupt.TheVariants.{Stuck}
 use Rattle.rhai_state.specs.declared.state.State.{State}
 use Rattle.rhai_machine.specs.declared.steps.variables.Root.{Root}
 use Rattle.rhai_host.specs.declared.report.Stuck as report
 use Rattle.rhai_host.specs.declared.report.Stuck.TheVariants as why
 use Rattle.rhai_host.specs.Entries.{variable_meant}
-use Rattle.rhai_machine.specs.Placing.{place_meant, root_value, root_stuck, value_at, stuck_by, place_stuck, HasPart, HasRoot, made, current_in}
+use Rattle.rhai_machine.specs.Placing.{place_meant, root_value, root_stuck, value_at, stuck_by, HasPart, HasRoot, current_in}
 use Rattle.rhai_host.specs.Report.{stuck_meant}
-use Rattle.rhai_state.specs.Runs.{Setting, Acting, Over, Halting, stop_of, Goes, Stops, given}
+use Rattle.rhai_state.specs.Runs.{Setting, Acting, Over, Halting, Goes, Stops, given}
 use Rattle.rhai_state.specs.State.{store_of}
 use Rattle.rhai_state.specs.Variables.{Entries, IsMissing, IsLatest}
 use Rattle.rhai_machine.specs.Variables.{root_meant}
-use Rattle.rhai_state.proofs.Goes.{gives, goes_as, goes_then, stops_by, stops_then, value_goes, value_stops}
+use Rattle.rhai_state.proofs.Goes.{stops_by}
 use Rattle.rhai_state.proofs.Variables.{found-missing, found-latest, get-latest, latest_below}
 
 -- ---- roots
@@ -143,27 +142,5 @@ module _ (here : Setting) where
   module _ (s : State) (p : places.Place) where
     abbrev reads : Value → Act
     reads v = or_no_place (along v p.keys) give
-
-    place_by : (o : Option Value) (v : Value) → root_value here (store_of s) p.root ≡ o → at_index o (λ u. along u p.keys) ≡ Some v → Goes here (Acting (read_place p)) s (given v) s
-    place_by (Some u) v h k = goes_then here (value_goes here reads (read_goes s p.root u h)) (goes_then here (goes_as here _ _ s (ap (λ o. Acting (or_no_place o give)) k)) (gives here v v s refl))
-    place_by None v h k = absurd cc
-
-    pub place_goes : (v : Value) → value_at here (store_of s) p ≡ Some v → Goes here (Acting (read_place p)) s (given v) s
-    place_goes v k = place_by (root_value here (store_of s) p.root) v refl k
-
-    -- by the reason why it is stuck
-    no_place_by : (o : Option Value) (x : Interrupt) → root_value here (store_of s) p.root ≡ o → at_index o (λ u. along u p.keys) ≡ None → stop_of x ≡ Some (Halting (IsStuck (stuck_by o p.root))) → Stops here (Acting (read_place p)) s x s
-    no_place_by None x h k e = value_stops here (Read p.root) reads s s x (stops_by here _ s s x _ e (read_stops s p.root h))
-    no_place_by (Some u) x h k e = stops_then here s x (value_goes here reads (read_goes s p.root u h)) (stops_by here (Acting (reads u)) s s x (Halting (IsStuck NoPlace)) e (goes_then here (goes_as here (Acting (reads u)) (Acting (act.Fail NoPlace)) s (ap (λ o. Acting (or_no_place o give)) k)) (fails s NoPlace)))
-
-    pub place_stops : (x : Interrupt) → value_at here (store_of s) p ≡ None → stop_of x ≡ Some (Halting (IsStuck (place_stuck here (store_of s) p))) → Stops here (Acting (read_place p)) s x s
-    place_stops x k e = no_place_by (root_value here (store_of s) p.root) x refl k e
-
-  -- a current value, read again
-  pub refreshed_goes : (s : State) (p : Place) (v : Part) (u : Value) (next : places.Current → Act) → HasPart here (store_of s) (place_meant p) (Ok v) → Goes here (Acting (refreshed (made (current.At p) u) next)) s (Acting (next (current_in here (store_of s) (current.At p)))) s
-  refreshed_goes s p v u next h = goes_then here (value_goes here (λ w. next (made (current.At p) w)) (place_goes s (place_meant p) (part_value v) h)) (goes_as here _ _ s (ap (λ o. Acting (next (made (current.At p) (or_unit o)))) (sym h)))
-
-  pub refreshed_stops : (s : State) (p : Place) (f : report.Stuck) (u : Value) (next : places.Current → Act) → HasPart here (store_of s) (place_meant p) (Err f) → Stops here (Acting (refreshed (made (current.At p) u) next)) s (Stuck f) s
-  refreshed_stops s p f u next h = value_stops here (read_place (place_meant p)) (λ w. next (made (current.At p) w)) s s (Stuck f) (place_stops s (place_meant p) (Stuck f) h.0 (ap (λ g. Some (Halting (IsStuck g))) h.1))
 
 pub ruleset placing = (latest_value, constant_value, latest_below, part_stands, no_root_part, no_part, current_stands, current_missing, at_key_placed, at_key_loose, under_is)

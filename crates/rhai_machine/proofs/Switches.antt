@@ -1,19 +1,19 @@
 -- The arms of a `switch`, one after another.
-use Rattle.std.proofs.Common.{◌≡◌, ℕ, zero, suc, ◌+◌, ◌<◌, ◌≤◌, Bool, true, false, cond, List, [], ◌∷◌, map, length, drop, get_or, Option, Some, None, Result, Ok, Err, refl, sym, ap, ◌∙◌, subst, arith}
+use Rattle.std.proofs.Common.{◌≡◌, ℕ, zero, suc, ◌+◌, ◌<◌, ◌≤◌, Bool, true, false, cond, List, [], ◌∷◌, map, length, drop, get_or, Some, None, Result, Ok, Err, refl, sym, ap, ◌∙◌, arith}
 use Rattle.std.specs.Prelude.{nat_lt, option_map, pos, slice_get}
 use Rattle.std.proofs.lemmas.Bool.Decides.{nat_tests}
 use Rattle.std.proofs.lemmas.List.{drop_more}
 use Rattle.rhai_values.specs.declared.dynamic.Dynamic.{Dynamic}
 use Rattle.rhai_values.specs.declared.dynamic.Dynamic.TheVariants as value
 use Rattle.rhai_values.specs.Reading.{value_of, value_of-Unit}
-use Rattle.rhai_values.specs.Value.{Value, is_hashable}
+use Rattle.rhai_values.specs.Value.{Value}
 use Rattle.rhai_tree.specs.declared.expr.BinaryExpr.{BinaryExpr}
 use Rattle.rhai_base.specs.declared.range_case.RangeCase.{RangeCase}
 use Rattle.rhai_base.specs.declared.range_case.RangeCase.TheVariants as range_kind
 use Rattle.rhai_reading.specs.Reading.{arms_of, expr_of, range_of}
 use Rattle.rhai_meaning.specs.Act.{Act}
 use Rattle.rhai_meaning.specs.ActForms.{choose, truth}
-use Rattle.rhai_meaning.specs.Control.{ArmActs, answer_of, case_for, chosen, default_of, first_arm, holds, or_ranges, ranges_with, switch_on, try_arm}
+use Rattle.rhai_meaning.specs.Control.{ArmActs, answer_of, chosen, default_of, first_arm, holds, ranges_with, switch_on, try_arm}
 use Rattle.rhai_meaning.specs.Meaning.{act}
 use Rattle.rhai_meaning.specs.Core as core
 use Rattle.rhai_meaning.specs.Desugar.{core_arms, core_expr, core_stmt}
@@ -21,22 +21,16 @@ use Rattle.rhai_meaning.specs.Shape.{is_table}
 use Rattle.rhai_meaning.specs.Tree as tree
 use Rattle.rhai_meaning.specs.Tree.{SwitchRange, SwitchTable}
 use Rattle.rhai_state.specs.declared.state.Interrupt.{Interrupt}
-use Rattle.rhai_state.specs.declared.state.Interrupt.TheVariants.{Stuck}
 use Rattle.rhai_state.specs.declared.state.State.{State}
-use Rattle.rhai_host.specs.declared.report.Stuck.TheVariants as why
-use Rattle.rhai_state.specs.Evaluating.{arms_here, or_stuck, RunsArm, RunsExpr, RunsFirstArm, RunsLine}
+use Rattle.rhai_state.specs.Evaluating.{arms_here, or_stuck, RunsArm, RunsExpr, RunsFirstArm}
 use Rattle.rhai_state.specs.Runs.{Setting, Acting, Goes, Stops, Runs, given}
-use Rattle.rhai_state.proofs.Goes.{gives, goes_on, goes_as, goes_then, stops_then, leads_then, value_goes, value_stops, if_goes, if_stops}
-use Rattle.rhai_state.proofs.Statements.{deed_line, ill_line}
+use Rattle.rhai_state.proofs.Goes.{gives, goes_as, goes_then, stops_then, leads_then, value_goes, value_stops, if_goes, if_stops}
 
 -- ---- ranges
 
 -- the places of the ranges that hold a value, from the first on
 pub holding : (r : SwitchRange) (rs : List SwitchRange) (v : Value) → holds r.range v ≡ true → ranges_with (r ∷ rs) v ≡ r.arm ∷ ranges_with rs v
 holding r rs v h = ap (λ b. cond b (r.arm ∷ ranges_with rs v) (ranges_with rs v)) h
-
-pub not_holding : (r : SwitchRange) (rs : List SwitchRange) (v : Value) → holds r.range v ≡ false → ranges_with (r ∷ rs) v ≡ ranges_with rs v
-not_holding r rs v h = ap (λ b. cond b (r.arm ∷ ranges_with rs v) (ranges_with rs v)) h
 
 module _ (here : Setting) (loop : Bool) where
   abbrev arm_of : BinaryExpr → ArmActs
@@ -90,9 +84,6 @@ module _ (here : Setting) (loop : Bool) where
     pub record PlacesAt (places rest : List ℕ) (s s' : State) : Type 0 where
       pub so : (default : Act) → Goes here (Acting (first_arm (arm_list bs) places default)) s (Acting (first_arm (arm_list bs) rest default)) s'
 
-    pub places_start : (places : List ℕ) (s : State) → PlacesAt places places s s
-    places_start places s = record { so = λ default. goes_on here _ s }
-
     module _ (places rest after : List ℕ) (i : ℕ) (s s1 s2 : State) (h : rest ≡ i ∷ after) (at : PlacesAt places rest s s1) where
       place_here : (default : Act) → Goes here (Acting (first_arm (arm_list bs) places default)) s (Acting (try_arm (slice_get (arm_list bs) i) (first_arm (arm_list bs) after default))) s1
       place_here default = goes_then here (at.so default) (goes_as here _ _ s1 (ap (λ l. Acting (first_arm (arm_list bs) l default)) h))
@@ -111,9 +102,6 @@ module _ (here : Setting) (loop : Bool) where
 
     -- ---- the default
 
-    pub default_none : (s : State) → Goes here (Acting (default_of (arm_list bs) None)) s (given (value_of value.Unit)) s
-    default_none s = gives here _ _ s (sym value_of-Unit)
-
     pub default_missing : (i : ℕ) (s : State) → None ≡ slice_get bs i → Goes here (Acting (default_of (arm_list bs) (Some i))) s (given (value_of value.Unit)) s
     default_missing i s h = goes_then here (goes_as here _ _ s (ap (λ a. Acting (answer_of a)) (arm_at bs i ∙ ap (option_map arm_of) (sym h)))) (gives here _ _ s (sym value_of-Unit))
 
@@ -124,17 +112,6 @@ module _ (here : Setting) (loop : Bool) (bs : List BinaryExpr) where
   -- the ranges before the rest hold the value nowhere, or their arms answer nothing
   pub record RangesAt (v : Value) (ranges rest : List SwitchRange) (s s' : State) : Type 0 where
     pub so : (default : Act) → Goes here (Acting (first_arm (arm_list here loop bs) (ranges_with ranges v) default)) s (Acting (first_arm (arm_list here loop bs) (ranges_with rest v) default)) s'
-
-  pub ranges_start : (v : Value) (ranges : List SwitchRange) (s : State) → RangesAt v ranges ranges s s
-  ranges_start v ranges s = record { so = λ default. goes_on here _ s }
-
-  -- one range, by itself
-  module _ (r : SwitchRange) (v : Value) (s s1 : State) where
-    pub range_tried : (o : Result (Option Dynamic) Interrupt) → holds r.range v ≡ true → RunsArm here (slice_get (arm_list here loop bs) r.arm) s o s1 → RunsFirstArm here (arm_list here loop bs) (ranges_with (r ∷ []) v) s o s1
-    range_tried o t q = subst (λ l. RunsFirstArm here (arm_list here loop bs) l s o s1) (sym (holding r [] v t)) q
-
-    pub range_skipped : holds r.range v ≡ false → RunsFirstArm here (arm_list here loop bs) (ranges_with (r ∷ []) v) s (Ok None) s
-    range_skipped f = subst (λ l. RunsFirstArm here (arm_list here loop bs) l s (Ok None) s) (sym (not_holding r [] v f)) (λ default. goes_on here (Acting default) s)
 
   -- and then the others
   first_then : (c : Bool) (i : ℕ) (is : List ℕ) (default : Act) → first_arm (arm_list here loop bs) (cond c (i ∷ is) is) default ≡ first_arm (arm_list here loop bs) (cond c (i ∷ []) []) (first_arm (arm_list here loop bs) is default)
@@ -159,17 +136,7 @@ module _ (here : Setting) (loop : Bool) (bs : List BinaryExpr) where
 
 -- ---- the whole
 
--- the places that are tried, by whether a list stands for the value
-pub chosen_listed : (t : SwitchTable) (v : Value) (places : List ℕ) → Some places ≡ cond (is_hashable v) (case_for t.cases v) None → chosen t v ≡ places
-chosen_listed t v places h = ap (or_ranges t v) (sym h)
-
-pub chosen_ranges : (t : SwitchTable) (v : Value) → None ≡ cond (is_hashable v) (case_for t.cases v) None → chosen t v ≡ ranges_with t.ranges v
-chosen_ranges t v h = ap (or_ranges t v) (sym h)
-
 module _ (here : Setting) where
-  pub tried_as : (arms : List ArmActs) (places tried : List ℕ) (s s1 : State) (r : Result (Option Dynamic) Interrupt) → tried ≡ places → RunsFirstArm here arms places s r s1 → RunsFirstArm here arms tried s r s1
-  tried_as arms places tried s s1 r h q = subst (λ l. RunsFirstArm here arms l s r s1) (sym h) q
-
   module _ (arms : List ArmActs) (t : SwitchTable) (v : Value) (s s1 : State) where
     pub arms_stop : (x : Interrupt) → RunsFirstArm here arms (chosen t v) s (Err x) s1 → Stops here (Acting (switch_on arms t v)) s x s1
     arms_stop x q = q _
@@ -187,22 +154,6 @@ module _ (here : Setting) where
 
     switch_is : (b : Bool) → is_table as' t ≡ b → core.Does (cond b (core.Switch (core_expr loop e) (core_arms loop as') t) core.IllDeed) ≡ switch_line
     switch_is b h = ap (λ c. core.Does (cond c (core.Switch (core_expr loop e) (core_arms loop as') t) core.IllDeed)) (sym h)
-
-    pub switch_stuck : (s : State) → is_table as' t ≡ false → RunsLine here switch_line s (Err (Stuck why.WrongKind)) s
-    switch_stuck s h = subst (λ l. RunsLine here l s (Err (Stuck why.WrongKind)) s) (switch_is false h) (ill_line here loop s)
-
-    abbrev switch_deed : core.Deed
-    switch_deed = core.Switch (core_expr loop e) (core_arms loop as') t
-
-    pub switch_stops : (s s1 : State) (x : Interrupt) → is_table as' t ≡ true → RunsExpr here loop e s (Err x) s1 → RunsLine here switch_line s (Err x) s1
-    switch_stops s s1 x h q =
-        subst (λ l. RunsLine here l s (Err x) s1) (switch_is true h)
-        (deed_line here loop switch_deed s s1 (Err x) (value_stops here _ _ s s1 x q))
-
-    pub switch_runs : (s s1 s2 : State) (v : Dynamic) (r : Result Dynamic Interrupt) → is_table as' t ≡ true → RunsExpr here loop e s (Ok v) s1 → Runs here (Acting (switch_on (arms_here here loop as') t (value_of v))) s1 r s2 → RunsLine here switch_line s r s2
-    switch_runs s s1 s2 v r h q k =
-        subst (λ l. RunsLine here l s r s2) (switch_is true h)
-        (deed_line here loop switch_deed s s2 r (leads_then here s2 r (λ u. given (value_of u)) (value_goes here (λ u. switch_on (arms_here here loop as') t u) q) k))
 
 -- ---- items of lists
 

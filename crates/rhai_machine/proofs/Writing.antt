@@ -179,13 +179,6 @@ module _ (here : Setting) (must : Bool) (s : State) (ks : List places.PlaceKey) 
     pub record_constant : (v : Value) (r : Result Unit Interrupt) → o ≡ Some v → r ≡ constant_end must (along v ks) → Leads here (Acting (write_place must (record { root = OfName x; keys = ks }) w)) s r s (λ z. given UnitV)
     record_constant v r e q = constant_leads x (record { name = x; constant = true; value = v }) (found-missing here.world.engine.constants x s.scope.items h ∙ ap (option_map (λ u. record { name = x; constant = true; value = u })) (k ∙ e)) refl r q
 
-  -- `this`
-  pub this_missing : s.this ≡ None → Stops here (Acting (write_place must (record { root = OfThis; keys = ks }) w)) s (Stuck why.UnboundThis) s
-  this_missing h = write_unrooted OfThis (Stuck why.UnboundThis) (ap (option_map value_of) h) refl
-
-  pub this_nowhere : (v : Dynamic) → s.this ≡ Some v → with_along (value_of v) ks w ≡ None → Stops here (Acting (write_place must (record { root = OfThis; keys = ks }) w)) s (Stuck why.NoPlace) s
-  this_nowhere v h k = write_nowhere OfThis (value_of v) (ap (option_map value_of) h) k
-
   pub this_written : (v v' : Dynamic) (s' : State) → s.this ≡ Some v → with_along (value_of v) ks w ≡ Some (value_of v') → s'.this ≡ Some v' → s'.scope.items ≡ s.scope.items → s'.calls ≡ s.calls → s'.turns ≡ s.turns → Goes here (Acting (write_place must (record { root = OfThis; keys = ks }) w)) s (given UnitV) s'
   this_written v v' s' h k e0 e1 e2 e3 = write_then OfThis (value_of v) (value_of v') s' (ap (option_map value_of) h) k (record {
     turns = omega (arith, e3);

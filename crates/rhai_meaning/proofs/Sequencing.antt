@@ -96,10 +96,6 @@ module _ (w : World) (env : Env) where
   pub bind_assoc : (a : Act) (f g : Value → Act) → SameRun ((a >>= f) >>= g) (a >>= λ v. f v >>= g)
   bind_assoc a f g s t = then_assoc (run w env a s t) _ _ ∙ then_same (run w env a s t) _ _ (λ e s1 t1. value_assoc f g e s1 t1)
 
-  -- what leaves takes nothing with it
-  pub bind_leaves : (a : Act) (x : Value → Exit) (f : Value → Act) → SameRun ((a >>= λ v. Stop (Leaves (x v))) >>= f) (a >>= λ v. Stop (Leaves (x v)))
-  bind_leaves a x f s t = bind_assoc a (λ v. Stop (Leaves (x v))) f s t ∙ bind_same a a _ _ (λ s1 t1. refl) (λ v s1 t1. refl) s t
-
   -- an act, and a list
   pub line_same : (a b : Act) (k l : Value → Acts) → SameRun a b → ((v : Value) → SameRunAll (k v) (l v)) → SameRunAll (then_line a k) (then_line b l)
   line_same a b k l h m s t =

@@ -75,10 +75,6 @@ arms_throughout ps qs h (i ∷ is) a =
 
 -- ---- one list after another
 
-pub every_joined : (P : Node → Type 0) (front back : Stmts) → over_stmts (every P) front → over_stmts (every P) back → over_stmts (every P) (joined front back)
-every_joined P no_stmts back h k = k
-every_joined P (stmt s front) back h k = (h.0, every_joined P front back h.1 k)
-
 pub total_joined : (f : Node → ℕ) (front back : Stmts) → over_stmts (total f) (joined front back) ≡ over_stmts (total f) front + over_stmts (total f) back
 total_joined f no_stmts back = omega arith
 total_joined f (stmt s front) back = omega (arith, total_joined f front back)

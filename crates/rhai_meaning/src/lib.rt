@@ -1,2 +1,2 @@
-//! What a script means, as definitions alone: the abstract tree, its core, acts and their runs.
+//! What a script means, without code: the abstract tree, its core, acts and their runs, and facts on them.
 #![tactic(auto)]

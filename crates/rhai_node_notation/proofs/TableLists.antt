@@ -1,5 +1,5 @@
 -- The parts of a table, item by item, for a loop that goes over them.
-use Rattle.std.proofs.Common.{◌≡◌, ℕ, ◌+◌, ◌<◌, List, [], ◌∷◌, ◌++◌, codes, length, get_or, drop, map, refl, sym, ap, append_assoc, ◌∙◌, add-one}
+use Rattle.std.proofs.Common.{◌≡◌, ℕ, ◌+◌, ◌<◌, List, [], ◌++◌, codes, length, get_or, drop, map, refl, sym, ap, append_assoc, ◌∙◌, add-one}
 use Rattle.std.proofs.Math.Seq.{drop-cons, drop-length}
 use Rattle.std.specs.Fmt.{decimal}
 use Rattle.rhai_base.specs.declared.range_case.RangeCase.{RangeCase}

@@ -1,5 +1,5 @@
 -- How nodes are printed. Two trees may print alike.
-use Rattle.std.specs.Prelude.{ℕ, Bool, true, false, List, [], ◌∷◌, ◌++◌, Option, Some, None, codes, if◌then◌else◌}
+use Rattle.std.specs.Prelude.{ℕ, Bool, List, [], ◌∷◌, ◌++◌, Option, Some, None, codes, if◌then◌else◌}
 use Rattle.std.specs.Fmt.{decimal, signed_decimal}
 use Rattle.rhai_values.specs.Value.{Text, UnitV, BoolV, IntV, CharV, TextV, inner}
 use Rattle.rhai_base.specs.Operators.{Operator, symbol}

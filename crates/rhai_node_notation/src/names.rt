@@ -1,7 +1,7 @@
 //! Names and words in the notation.
 #![tactic(auto, using(rhai_reading::specs::Reading::shapes, crate::proofs::NameLists::names))]
 
-ghost use Rattle.std.specs.Prelude.{◌≡◌, ◌++◌, [], OnOk, codes, map, string_bytes};
+ghost use Rattle.std.specs.Prelude.{◌≡◌, ◌++◌, [], OnOk, string_bytes};
 ghost use Rattle.rhai_base.specs.Builtin.{operator_of};
 ghost use Rattle.rhai_meaning.specs.Desugar.{qualified};
 ghost use Rattle.rhai_meaning.specs.Tree.{Variable};

@@ -13,7 +13,7 @@ use std::alloc::Global;
 /// Blocks made of statements.
 pub trait FromStmt: Sized {
     /// A block's own block; for nothing an empty one where it stands; else one of the statement alone, from
-    /// where it stands on, which takes memory once.
+    /// where it stands on, which takes memory once; where that is refused the statement is gone.
     ///
     /// In rhai it is a `From`, which cannot be refused.
     fn from_stmt(alloc: Global, stmt: Stmt) -> Result<Self, OutOfMemory>;

@@ -37,7 +37,7 @@ impl Take for Stmt {
 
 /// Calls as expressions.
 pub trait IntoExpr {
-    /// The call as an expression there.
+    /// The call as an expression there. Refused for want of memory alone; the call is gone then.
     fn into_fn_call_expr(self, alloc: Global, pos: Position) -> Result<Expr, OutOfMemory>;
 }
 

@@ -61,8 +61,9 @@ fn optimized(
     }
 }
 
-/// The script of these statements and functions, optimised at a level: it does what they do. The scope tells what
-/// the script may start with. Function bodies come out as they went in, and so do the statements at level `None`.
+/// The script of these statements and functions, optimised at a level: it does what they do. The scope and the
+/// record's constants are not looked at yet. Function bodies come out as they went in, and so do the statements at
+/// level `None`.
 /// Where a key comes twice among the functions the later one takes the earlier one's place. Refused for want of
 /// memory alone; then no script is handed out.
 ///

@@ -1,6 +1,6 @@
 -- Parts along keys, and their replacement.
-use Rattle.std.proofs.Common.{◌≡◌, ℕ, zero, suc, ◌<◌, Bool, true, false, cond, List, [], ◌∷◌, length, map, get_or, set, Option, Some, None, Ordering, Less, Equal, Greater, refl, sym, ap, ◌∙◌, subst, arith}
-use Rattle.std.specs.Prelude.{ℤ, nat_lt, ◌==◌, ◌&&◌, ◌||◌, if◌then◌else◌}
+use Rattle.std.proofs.Common.{◌≡◌, ℕ, zero, suc, ◌<◌, Bool, true, false, cond, List, [], ◌∷◌, length, map, get_or, set, Option, Some, None, Ordering, Less, Equal, Greater, refl, sym, ap, ◌∙◌, arith}
+use Rattle.std.specs.Prelude.{ℤ, if◌then◌else◌}
 use Rattle.std.specs.BTreeMap.{insert_entry, is_at}
 use Rattle.std.specs.Cmp.Lexicographic.{slice_cmp, nat_list_cmp_total}
 use Rattle.std.specs.List.{AllByRecursion}
@@ -10,16 +10,15 @@ use Rattle.std.specs.Option.{option_map}
 use Rattle.std.specs.Ordering.{is_eq, is_lt, match_ordering, nat_cmp}
 use Rattle.std.proofs.lemmas.Bool.Decides.{nat_tests}
 use Rattle.std.proofs.lemmas.Cmp.{same_from_slice_cmp}
-use Rattle.std.proofs.lemmas.List.{set-get_or}
 use Rattle.std.proofs.lemmas.Map.Steps.{set_value_same}
 use Rattle.std.proofs.lemmas.Map.Text.{is_eq-slice_cmp}
 use Rattle.std.proofs.lemmas.Slice.Eq.{bytes_eq-Decides}
 use Rattle.rhai_values.specs.declared.dynamic.Dynamic.{Dynamic}
 use Rattle.rhai_values.specs.declared.dynamic.Dynamic.TheVariants as dynamic
 use Rattle.rhai_values.specs.Reading.{value_of, members_of, value_of-Unit, value_of-Bool, value_of-Int, value_of-Char, value_of-Str, value_of-Array, value_of-Map, value_of-FnPtr, value_of-Range, value_of-RangeInclusive, DynamicCase, unit_case, bool_case, int_case, char_case, str_case, array_case, map_case, fn_ptr_case, range_case, range_inclusive_case, dynamic_cases}
-use Rattle.rhai_values.specs.Value.{Text, Value, UnitV, ArrayV, MapV, Values, item, Fields, values, fields, field, same_text}
+use Rattle.rhai_values.specs.Value.{Text, Value, UnitV, ArrayV, MapV, item, Fields, values, fields, field, same_text}
 use Rattle.rhai_base.specs.Operators.{text_lt}
-use Rattle.rhai_meaning.specs.Elements.{at_index, index_in, count, element, entry, with_value_at, with_element, with_entry}
+use Rattle.rhai_meaning.specs.Elements.{at_index, index_in, entry, with_value_at, with_element, with_entry}
 use Rattle.rhai_meaning.specs.Places.{PlaceKey, AtIndex, AtEntry, inside, along, with_inside, with_along}
 use Rattle.rhai_places.proofs.Parts.{index_in-values, is_at-same, element_at, entry_some, entry_none, element_none}
 
@@ -106,9 +105,6 @@ module _ (xs : List Dynamic) (i : ℤ) (ks : List PlaceKey) (w : Value) where
     pub element_written : (done : Bool) → with_along (value_of x) ks w ≡ (if done then Some (value_of x') else None) → with_along array (AtIndex i ∷ ks) w ≡ (if done then Some array' else None)
     element_written true q = element_after (Some (value_of x')) q ∙ ap (option_map ArrayV) (with_element-values xs i k x' h)
     element_written false q = element_after None q
-
-    pub element_kept : x' ≡ x → set xs k x' ≡ xs
-    element_kept q = ap (set xs k) (q ∙ e) ∙ set-get_or xs k x
 
 -- ---- entries
 

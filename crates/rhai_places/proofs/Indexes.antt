@@ -1,5 +1,5 @@
 -- What an index comes to, by the kinds of the value and of the index.
-use Rattle.std.proofs.Common.{◌≡◌, ℕ, Bool, true, false, List, [], ◌∷◌, map, Option, Some, None, Bor, refl, sym, ap, ◌∙◌}
+use Rattle.std.proofs.Common.{◌≡◌, ℕ, Bool, true, false, List, [], ◌∷◌, map, Some, None, Bor, refl, sym, ap, ◌∙◌}
 use Rattle.std.specs.Prelude.{ℤ, codes}
 use Rattle.std.specs.Option.{option_map, option_copied}
 use Rattle.rhai_values.specs.declared.dynamic.Dynamic.{Dynamic}
@@ -16,7 +16,7 @@ use Rattle.rhai_places.specs.declared.places.PlaceKey.TheVariants.{AtIndex, AtEn
 use Rattle.rhai_places.specs.declared.steps.Indexed.TheVariants as indexed
 use Rattle.rhai_places.specs.declared.steps.IndexTarget.TheVariants as target
 use Rattle.rhai_places.specs.Reading.{or_unit}
-use Rattle.rhai_places.specs.Indexing.{goes_on, writes, IsIndexed, IsIndexTarget}
+use Rattle.rhai_places.specs.Indexing.{IsIndexed, IsIndexTarget}
 
 -- ---- kinds
 

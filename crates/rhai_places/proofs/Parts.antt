@@ -1,6 +1,6 @@
 -- Elements, entries, characters and bits, as the code finds them.
 use Rattle.std.proofs.Common.{◌≡◌, ℕ, zero, suc, ◌-◌, ◌<◌, ◌≤◌, ◌/◌, ◌%◌, ◌^◌, Bool, true, false, cond, List, [], ◌∷◌, ◌++◌, length, map, get_or, Option, Some, None, Bor, nat_eq, w64, refl, sym, ap, ◌∙◌, subst, arith}
-use Rattle.std.specs.Prelude.{ℤ, pos, negsuc, nat_lt, slice_get, if◌then◌else◌}
+use Rattle.std.specs.Prelude.{ℤ, pos, negsuc, slice_get, if◌then◌else◌}
 use Rattle.std.specs.Int.{cast_unsigned}
 use Rattle.std.specs.Iterator.{Yields, Drains, SkipsThenYields}
 use Rattle.std.specs.Option.{option_map, option_copied, unwrap_or}
@@ -12,26 +12,15 @@ use Rattle.std.specs.Slice.{IsItemAt}
 use Rattle.std.specs.Str.{IsUtf8, chars}
 use Rattle.std.specs.Str.Iter.{chars_rest, chars_steps}
 use Rattle.std.specs.declared.str.Chars.{Chars}
-use Rattle.std.proofs.lemmas.Bool.Decides.{nat_tests}
 use Rattle.std.proofs.lemmas.Map.Text.{is_eq-slice_cmp}
 use Rattle.std.proofs.lemmas.Str.{Chars-Drains, IsUtf8-past_char, chars_past_char, encodes-chars}
 use Rattle.rhai_values.specs.declared.dynamic.Dynamic.{Dynamic}
 use Rattle.rhai_values.specs.Reading.{value_of, members_of}
-use Rattle.rhai_values.specs.Value.{Text, Value, UnitV, BoolV, CharV, Values, values, fields, same_text}
+use Rattle.rhai_values.specs.Value.{Text, UnitV, BoolV, CharV, values, fields, same_text}
 use Rattle.rhai_base.specs.Operators.{bits_of}
 use Rattle.rhai_meaning.specs.Elements.{at_index, index_in, count, value_at, element, entry, character, bit}
 
 -- ---- places by an index
-
-pub index_in_below : (n : ℕ) (i : ℤ) (k : ℕ) → index_in n i ≡ Some k → k < n
-index_in_below n (pos i) k h = by (nat_lt i n) refl h where
-  by : (b : Bool) → nat_lt i n ≡ b → (if b then Some i else None) ≡ Some k → k < n
-  by true e q = let f : i ≡ k = cc in grind (arith, nat_tests)
-  by false e q = absurd (cc)
-index_in_below n (negsuc i) k h = by (nat_lt i n) refl h where
-  by : (b : Bool) → nat_lt i n ≡ b → (if b then Some (n - suc i) else None) ≡ Some k → k < n
-  by true e q = let f : n - suc i ≡ k = cc in grind (arith, nat_tests)
-  by false e q = absurd (cc)
 
 -- ---- elements
 

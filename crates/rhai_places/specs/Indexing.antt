@@ -1,5 +1,5 @@
 -- What an index comes to.
-use Rattle.std.specs.Prelude.{◌≡◌, true, List, [], ◌∷◌, codes}
+use Rattle.std.specs.Prelude.{◌≡◌, true, [], ◌∷◌, codes}
 use Rattle.rhai_values.specs.Reading.{value_of}
 use Rattle.rhai_values.specs.Value.{Value}
 use Rattle.rhai_meaning.specs.Act.{Act}

@@ -14,7 +14,6 @@ use Rattle.rhai_host.specs.Report.{ReportsRun}
 use Rattle.rhai_reports.specs.Host.{program_host}
 use Rattle.rhai_reports.specs.Report.{report_text}
 use Rattle.rhai_program.specs.Words.{reported}
-use Rattle.rhai_builtins.specs.declared.scripts.BuiltinScript.{BuiltinScript}
 
 -- a host answers as it does
 agrees : (h : Host) (r : Report) → AgreeOn h h r.calls

@@ -1,2 +1,2 @@
-//! Which tree of the meaning a declared tree stands for, as definitions alone.
+//! Which tree of the meaning a declared tree stands for, without code.
 #![tactic(auto)]

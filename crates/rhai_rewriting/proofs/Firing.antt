@@ -1,5 +1,5 @@
 -- A node kept as it is where nothing is left to reduce at it, a node that a rule rewrote, and a list that was rewritten behind its front.
-use Rattle.std.proofs.Common.{◌≡◌, Bool, true, false, refl, sym, subst}
+use Rattle.std.proofs.Common.{◌≡◌, Bool, true, false, sym, subst}
 use Rattle.rhai_meaning.specs.Tree.{Expr, Stmt, Var, Stmts, no_stmts, stmt, joined}
 use Rattle.rhai_meaning.specs.Walk.{OfExpr, OfStmt}
 use Rattle.rhai_rewriting.specs.Context.{Context, behind, ListKind}
@@ -55,10 +55,3 @@ in_back (stmt s front) p = in_tail (in_back front p)
 abbrev pub declares : Stmt → Bool
 declares (Var constant exported x e) = true
 declares s = false
-
-pub behind_same : (s : Stmt) (k : Context) → declares s ≡ false → behind s k ≡ k
-behind_same (Var constant exported x e) k h = absurd (let z : true ≡ false = h in cc)
-behind_same _ k h = refl
-
-pub in_tail_same : {k : Context} {m : ListKind} {u d d' : Bool} {s : Stmt} {ss ss' : Stmts} → declares s ≡ false → ((v : Bool) → RestTo k m v d d' ss ss') → RestTo k m u d d' (stmt s ss) (stmt s ss')
-in_tail_same {k = k} {m = m} {d = d} {d' = d'} {s = s} {ss = ss} {ss' = ss'} h p = in_tail (subst (λ c. RestTo c m (is_surely_unit s) d d' ss ss') (sym (behind_same s k h)) (p (is_surely_unit s)))

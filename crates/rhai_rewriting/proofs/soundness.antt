@@ -1,7 +1,7 @@
 pub mod Standing
 pub mod Lasting
 pub mod WellFormed
-pub mod Small
+pub mod OperatorCalls
 pub mod Behind
 pub mod Derivation
 pub mod Scripts

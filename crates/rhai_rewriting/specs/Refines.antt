@@ -26,7 +26,7 @@ pub record RunRefines (r r' : ℕ → Result) : Type 0 where
   -- Where the new run is stuck, the old one is stuck too, with turns enough.
   pub no_new_stuck : (n : ℕ) (f : Stuck) (s : Store) (left : ℕ) → r' n ≡ At (Halted (IsStuck f)) s left → (f' : Stuck) × (s' : Store) × EndsSo r (Halted (IsStuck f')) s'
 
--- The script p' refines p under an engine's record: for every host, start scope and entrance, and for every number of turns.
+-- The script p' refines p under an engine's record: for every host, start scope and entry point, and for every number of turns.
 pub record Refines (engine : Engine) (p p' : Script) : Type 0 where
   pub runs : (host : Host) (scope : List ScopeEntry) (e : EntryPoint) → RunRefines (run_script engine host (core_script p) e scope) (run_script engine host (core_script p') e scope)
 

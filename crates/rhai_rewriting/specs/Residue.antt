@@ -1,4 +1,4 @@
--- Trees in which nothing is left to reduce, but in the parts of nodes that the optimiser does not open.
+-- Trees in which none of the four forms below is left, but in the parts of nodes that the optimiser does not open.
 use Rattle.std.specs.Prelude.{◌≡◌, Bool, false, ◌&&◌, not, None}
 use Rattle.rhai_meaning.specs.Engine.{Engine}
 use Rattle.rhai_meaning.specs.Constants.{constant_bool, constant_values, is_constant, is_literal_unit}

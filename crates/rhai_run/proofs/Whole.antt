@@ -1,5 +1,5 @@
 -- The report on a whole run.
-use Rattle.std.proofs.Common.{◌≡◌, ℕ, true, false, List, [], map, None, Result, Ok, Err, refl, sym, ap, subst, ◌∙◌, arith}
+use Rattle.std.proofs.Common.{◌≡◌, ℕ, true, false, List, [], map, None, Result, Ok, Err, sym, ap, subst, ◌∙◌, arith}
 use Rattle.rhai_values.specs.declared.dynamic.Dynamic.{Dynamic}
 use Rattle.rhai_values.specs.Value.{UnitV}
 use Rattle.rhai_meaning.specs.Act.{ScopeEntry, Host, Outcome, At, Acts, returned, returned_outcome, run_all}
@@ -34,10 +34,6 @@ report_at s e = record { ended = end_meant e; variables = map variable_meant s.s
 -- the run with one host is that with each that answers the calls alike
 with_agreeing : (engine : Engine) (host : Host) (p : core.Script) (scope : List ScopeEntry) (n : ℕ) (r : Report) → r ≡ report_of AtStatements (run_script engine host p AtStatements scope n) → ReportsRun engine host p scope n r
 with_agreeing engine host p scope n r e h g = e ∙ same_report engine host h p AtStatements scope n (subst (λ x. AgreeOn host h x.calls) e g)
-
--- a host answers as it does itself
-pub with_itself : (engine : Engine) (host : Host) (p : core.Script) (scope : List ScopeEntry) (n : ℕ) (r : Report) → ReportsRun engine host p scope n r → r ≡ report_of AtStatements (run_script engine host p AtStatements scope n)
-with_itself engine host p scope n r q = q host (record { answers = λ past c b. refl; modules = λ x. refl })
 
 module _ (engine : Engine) (host : Host) (p : Script) (scope : List ScopeEntry) (n : ℕ) (s s1 : State) (at_start : store_of s ≡ record { scope = scope; this = None; calls = [] }) (turns : s.turns ≡ n) where
   abbrev whole_acts : Acts

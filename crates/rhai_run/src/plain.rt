@@ -35,8 +35,10 @@ use std::alloc::Global;
 ///
 /// The report is that of the run with every host that answers the reported calls as this one did and has the same
 /// module values: nothing else of the host is asked. What throws, is stuck or comes to no end in its turns is a report
-/// too; the one error is want of memory. Behaves as `Engine::run_ast_with_scope`, which answers an error where a run
-/// throws or is stuck.
+/// too; the one error is want of memory.
+///
+/// It stands where `Engine::eval_ast_with_scope` does in rhai, by this project's own meaning; there a run that throws
+/// or is stuck is an error, and the scope is changed.
 pub fn plain_run<H: Host>(
     alloc: Global,
     ast: &AST,

@@ -29,11 +29,6 @@ module _ {X P : Type 0} (R : P → X → Bool → P → Type 0) (p : P) where
   pub passed : (x : X) (xs ys : List X) → R p x false p → IsFiltered R p xs ys → IsFiltered R p (x ∷ xs) ys
   passed x xs ys r h = (false ∷ h.0, h.1, ap suc h.2, (p, r, h.3), h.4)
 
-  pub chooses-start : (all left before : List X) → left ≡ all → before ≡ [] → Chooses R p all left before
-  chooses-start all left before e none = record {
-    whole = λ ys h. subst (λ l. IsFiltered R p all (l ++ ys)) (sym none) (subst (λ l. IsFiltered R p l ys) e h);
-  }
-
   pub chooses-taken : (all left rest before after : List X) (x : X) → Chooses R p all left before → left ≡ x ∷ rest → R p x true p → after ≡ before ++ x ∷ [] → Chooses R p all rest after
   chooses-taken all left rest before after x old e r more = record {
     whole = λ ys h.

@@ -1,27 +1,24 @@
 -- Rounds of a `for`, over the elements of an array or over a range.
-use Rattle.std.proofs.Common.{◌≡◌, ℕ, suc, ◌≤◌, ◌<◌, ◌^◌, ℤ, pos, ◌+ℤ◌, ◌-ℤ◌, ◌-◌, ◌+◌, nat_lt, Bool, true, false, cond, List, [], ◌∷◌, map, length, Option, Some, None, Result, Ok, Err, refl, sym, ap, ◌∙◌, arith}
-use Rattle.std.specs.Prelude.{IfOk}
+use Rattle.std.proofs.Common.{◌≡◌, ℕ, suc, ◌≤◌, ◌<◌, ℤ, pos, ◌+ℤ◌, ◌-ℤ◌, ◌-◌, ◌+◌, Bool, false, List, [], ◌∷◌, map, length, Option, Some, None, Result, Ok, Err, refl, sym, ap, ◌∙◌, arith}
 use Rattle.std.proofs.lemmas.Int.{ints}
 use Rattle.rhai_values.specs.declared.dynamic.Dynamic.{Dynamic}
 use Rattle.rhai_values.specs.declared.dynamic.Dynamic.TheVariants as value
 use Rattle.rhai_values.specs.Reading.{value_of, value_of-Array, value_of-Range, value_of-RangeInclusive, value_of-Unit}
 use Rattle.rhai_values.specs.Value.{Text, Value, UnitV, IntV, ArrayV, items, values}
 use Rattle.rhai_meaning.specs.Desugar.{core_expr}
-use Rattle.rhai_meaning.specs.Act.{Acts, Only, Named, Fail, Act, Then, CounterTooLarge}
+use Rattle.rhai_meaning.specs.Act.{Acts, Named, Act, Then}
 use Rattle.rhai_meaning.specs.ActForms.{again_then, ◌>>=◌}
 use Rattle.rhai_meaning.specs.Control.{counted, for_all, for_count, for_each, round, size}
 use Rattle.rhai_meaning.specs.Meaning.{act}
 use Rattle.rhai_meaning.specs.Tree as tree
 use Rattle.rhai_state.specs.declared.state.Interrupt.{Interrupt}
-use Rattle.rhai_state.specs.declared.state.Interrupt.TheVariants.{Stuck}
 use Rattle.rhai_state.specs.declared.state.State.{State}
-use Rattle.rhai_host.specs.declared.report.Stuck.TheVariants as why
 use Rattle.rhai_state.specs.Evaluating.{RunsCounted, RunsExpr, RunsList, RunsRound}
 use Rattle.rhai_state.specs.Exits.{count_of, round_of}
-use Rattle.rhai_state.specs.Runs.{Setting, Acting, Listing, Goes, Stops, Runs, given}
+use Rattle.rhai_state.specs.Runs.{Setting, Acting, Goes, Stops, Runs, given}
 use Rattle.rhai_state.specs.State.{named_in, store_of, TakesTurn}
-use Rattle.rhai_state.proofs.Goes.{gives, goes_on, goes_as, goes_then, leads_then, stops_then, named_goes, scoped_leads, value_goes, Cut}
-use Rattle.rhai_state.proofs.Loops.{round_runs, round_turns}
+use Rattle.rhai_state.proofs.Goes.{gives, goes_as, goes_then, leads_then, stops_then, named_goes, scoped_leads, value_goes, Cut}
+use Rattle.rhai_state.proofs.Loops.{round_runs}
 use Rattle.rhai_state.proofs.Rounds.{again_stops, again_goes, again_ends}
 
 pub items_values : (vs : List Value) → items (values vs) ≡ vs
@@ -30,35 +27,10 @@ items_values (v ∷ vs) = ap (λ us. v ∷ us) (items_values vs)
 
 -- ---- counts
 
-count_by : (b : Bool) (k : ℕ) (n : ℤ) → cond b (Some (pos k)) None ≡ Some n → (b ≡ true) × (n ≡ pos k)
-count_by true k n e = (refl, cc)
-count_by false k n e = cc
-
-count_not : (b : Bool) (k : ℕ) → cond b (Some (pos k)) None ≡ None → b ≡ false
-count_not true k e = cc
-count_not false k e = refl
-
 pub count_start : Some (pos 0) ≡ count_of 0
 count_start = refl
 
 module _ (here : Setting) where
-  -- a loop without a counter
-  pub counted_none : (k : ℕ) (s : State) (u : Unit) → RunsCounted here None k s (Ok u) s
-  counted_none k s u = λ p. goes_on here (Listing p) s
-
-  counted_as : (i : Text) (k : ℕ) (b : Bool) (p : Acts) (s : State) → nat_lt k (2 ^ 63) ≡ b → Goes here (Listing (counted (Some i) k p)) s (Listing (cond b (Named i false (IntV (pos k)) p) (Only (Fail CounterTooLarge)))) s
-  counted_as i k b p s h = goes_as here _ _ s (ap (λ c. Listing (cond c (Named i false (IntV (pos k)) p) (Only (Fail CounterTooLarge)))) h)
-
-  pub counted_named : (i : Text) (k : ℕ) (n : ℤ) (v : Dynamic) (s s1 : State) (u : Unit) → Some n ≡ count_of k → value_of v ≡ IntV n → store_of s1 ≡ named_in (Some i) (value_of v) (store_of s) → s1.turns ≡ s.turns → RunsCounted here (Some i) k s (Ok u) s1
-  counted_named i k n v s s1 u e is h t = λ p.
-      let two = count_by (nat_lt k (2 ^ 63)) k n (sym e) in
-      goes_then here (counted_as i k true p s two.0)
-      (goes_then here (goes_as here _ _ s (ap (λ w. Listing (Named i false w p)) (ap IntV (sym two.1) ∙ sym is)))
-      (named_goes here (Some i) (value_of v) p s s1 h t))
-
-  pub counted_stuck : (i : Text) (k : ℕ) (s : State) → None ≡ count_of k → RunsCounted here (Some i) k s (Err (Stuck why.CounterTooLarge)) s
-  counted_stuck i k s e = λ p. goes_then here (counted_as i k false p s (count_not (nat_lt k (2 ^ 63)) k (sym e))) (record { turns = omega arith; runs = λ d le. refl })
-
   module _ (x : Text) (c : Option Text) (p : Acts) where
     abbrev round_over : ℕ → Value → Acts
     round_over k v = counted c k (Named x false v p)
@@ -74,9 +46,6 @@ module _ (here : Setting) where
       pub count_is : count ≡ count_of k
       pub so : Goes here (Acting (each_of 0 vs)) s (Acting (each_of k rest)) s'
 
-    pub each_start : (vs rest : List Dynamic) (s : State) → rest ≡ vs → EachAt vs rest (Some (pos 0)) s s
-    each_start vs rest s e = record { k = 0; count_is = count_start; so = goes_as here _ _ s (ap (λ l. Acting (each_of 0 l)) (sym e)) }
-
     module _ (vs rest after : List Dynamic) (v : Dynamic) (count : Option ℤ) (s s1 s2 : State) (h : rest ≡ v ∷ after) (at : EachAt vs rest count s s1) where
       each_here : Goes here (Acting (each_of 0 vs)) s (Acting (Then (round (round_over at.k (value_of v))) (λ e. again_then (each_of (suc at.k) after) e))) s1
       each_here = goes_then here at.so (goes_as here _ _ s1 (ap (λ l. Acting (each_of at.k l)) h))
@@ -89,9 +58,6 @@ module _ (here : Setting) where
 
       pub each_next : (count' : Option ℤ) → ((k : ℕ) → count ≡ count_of k → RunsRound here (round_over k (value_of v)) s1 (Ok None) s2) → ((k : ℕ) → count ≡ count_of k → count' ≡ count_of (suc k)) → EachAt vs after count' s s2
       each_next count' q n = record { k = suc at.k; count_is = n at.k at.count_is; so = goes_then here each_here (again_goes here _ _ s1 s2 (q at.k at.count_is)) }
-
-    pub each_end : (vs rest : List Dynamic) (count : Option ℤ) (s s1 : State) → rest ≡ [] → EachAt vs rest count s s1 → Goes here (Acting (each_of 0 vs)) s (given (value_of value.Unit)) s1
-    each_end vs rest count s s1 h at = goes_then here at.so (goes_then here (goes_as here _ _ s1 (ap (λ l. Acting (each_of at.k l)) h)) (gives here _ _ s1 (sym value_of-Unit)))
 
     pub array_goes : (vs : List Dynamic) (s : State) → Goes here (Acting (for_all x c p (ArrayV (values (map value_of vs))))) s (Acting (each_of 0 vs)) s
     array_goes vs s = goes_as here _ _ s (ap (λ l. Acting (for_each x c p 0 l)) (items_values (map value_of vs)))
@@ -163,9 +129,6 @@ module _ (here : Setting) where
 
   pub for_round_runs : (p : Acts) (s s1 s2 s3 : State) (names : ℕ) (u : Unit) (ended : Result Dynamic Interrupt) (o : Result (Option Dynamic) Interrupt) → TakesTurn s (Ok u) s1 → names ≡ length s1.scope.items → RunsList here p s1 ended s2 → Cut here names s2 s3 → o ≡ round_of ended → RunsRound here p s o s3
   for_round_runs p s s1 s2 s3 names u ended o t h q c e = round_runs here p s s1 s3 u ended t (scoped_leads here p s1 s2 s3 names ended (λ v. UnitV) h c q) o e
-
-  pub for_round_turns : (p : Acts) (s s1 s2 s3 : State) (names : ℕ) (u : Unit) (ended : Result Dynamic Interrupt) (o : Result (Option Dynamic) Interrupt) → TakesTurn s (Ok u) s1 → names ≡ length s1.scope.items → RunsList here p s1 ended s2 → Cut here names s2 s3 → o ≡ round_of ended → IfOk o (λ w. s3.turns < s.turns)
-  for_round_turns p s s1 s2 s3 names u ended o t h q c e = round_turns here p s s1 s3 u ended o t (scoped_leads here p s1 s2 s3 names ended (λ v. UnitV) h c q) e
 
   pub for_body_runs : (i : Option Text) (x : Text) (k : ℕ) (v : Dynamic) (p : Acts) (s s1 s2 s3 : State) (u : Unit) (r : Result Dynamic Interrupt) → RunsCounted here i k s (Ok u) s1 → store_of s2 ≡ named_in (Some x) (value_of v) (store_of s1) → s2.turns ≡ s1.turns → RunsList here p s2 r s3 → RunsList here (counted i k (Named x false (value_of v) p)) s r s3
   for_body_runs i x k v p s s1 s2 s3 u r q h t l = leads_then here s3 r (λ w. given UnitV) (goes_then here (q (Named x false (value_of v) p)) (named_goes here (Some x) (value_of v) p s1 s2 h t)) l

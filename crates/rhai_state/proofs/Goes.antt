@@ -48,9 +48,6 @@ module _ (here : Setting) where
 
   -- ---- an act, and what comes after it
 
-  pub bound_goes : {f g : Task} {s s1 : State} (next : Ending → Act) → Goes here f s g s1 → Goes here (Bound f next) s (Bound g next) s1
-  bound_goes next p = record { turns = p.turns; runs = λ d le. ap (λ r. and_then r (λ e. run here.world (env here d) (next e))) (p.runs d le) }
-
   pub within_goes : {f g : Task} {s s1 : State} (es : List ScopeEntry) → Goes here f s g s1 → Goes here (Within es f) s (Within es g) s1
   within_goes es p = record { turns = p.turns; runs = λ d le. ap (leave es) (p.runs d le) }
 
@@ -71,9 +68,6 @@ module _ (here : Setting) where
 
   pub value_stops : (a : Act) (next : Value → Act) (s s1 : State) (x : Interrupt) → Stops here (Acting a) s x s1 → Stops here (Acting (a >>= next)) s x s1
   value_stops a next s s1 x q = IfSome_then (stop_of x) q (λ p k. stop_goes a next s s1 p k)
-
-  pub value_leads : {T : Type 0} (a : Act) (next : Value → Act) (s s1 s2 : State) (v : Value) (r : Result T Interrupt) (k : T → Task) → Goes here (Acting a) s (given v) s1 → Leads here (Acting (next v)) s1 r s2 k → Leads here (Acting (a >>= next)) s r s2 k
-  value_leads a next s s1 s2 v r k p q = leads_then s2 r k (value_goes next p) q
 
   -- in a list
   stop_line : (a : Act) (next : Value → Acts) (s s1 : State) (p : runs.Stop) → Goes here (Acting a) s (Over (stopped p)) s1 → Goes here (Listing (then_line a next)) s (Over (stopped p)) s1

@@ -1,5 +1,5 @@
 -- Loops by their rounds.
-use Rattle.std.proofs.Common.{◌≡◌, ◌<◌, Bool, true, false, not, cond, Option, Some, None, Result, Ok, Err, refl, sym, ap, ◌∙◌, subst, arith}
+use Rattle.std.proofs.Common.{◌≡◌, ◌<◌, Bool, true, false, Option, Some, None, Result, Ok, Err, refl, sym, ap, ◌∙◌, subst, arith}
 use Rattle.std.specs.Prelude.{IfOk}
 use Rattle.rhai_values.specs.declared.dynamic.Dynamic.{Dynamic}
 use Rattle.rhai_values.specs.declared.dynamic.Dynamic.TheVariants as value
@@ -9,19 +9,17 @@ use Rattle.rhai_meaning.specs.Act.{Again, Leaves, Ended, Act, Acts, Stop, Then, 
 use Rattle.rhai_meaning.specs.ActForms.{unit, choose, if_true, truth, end_round, again_then, ◌>>=◌}
 use Rattle.rhai_meaning.specs.Control.{round, do_loop}
 use Rattle.rhai_meaning.specs.Core as core
-use Rattle.rhai_meaning.specs.Desugar.{core_expr, core_stmt, core_stmts, guard_by}
+use Rattle.rhai_meaning.specs.Desugar.{guard_by}
 use Rattle.rhai_meaning.specs.Meaning.{act}
 use Rattle.rhai_meaning.specs.Queries.{is_unit}
 use Rattle.rhai_meaning.specs.Tree as tree
 use Rattle.rhai_state.specs.declared.state.Interrupt.{Interrupt}
 use Rattle.rhai_state.specs.declared.state.Interrupt.TheVariants.{NoMemory, Return, Break, Continue, Throw, Stuck, OutOfTurns}
 use Rattle.rhai_state.specs.declared.state.State.{State}
-use Rattle.rhai_state.specs.Evaluating.{or_stuck, RunsCore, RunsDeed, RunsLine, RunsRound}
+use Rattle.rhai_state.specs.Evaluating.{or_stuck, RunsCore, RunsDeed, RunsRound}
 use Rattle.rhai_state.specs.Exits.{round_of, round_end}
 use Rattle.rhai_state.specs.Runs.{Setting, Acting, Over, Goes, Stops, Leads, given}
 use Rattle.rhai_state.specs.State.{GoesOn, TakesTurn}
-use Rattle.rhai_host.specs.declared.report.Stuck.TheVariants as why
-use Rattle.rhai_state.proofs.Statements.{deed_line, ill_line}
 use Rattle.rhai_state.proofs.Goes.{gives, goes_as, goes_then, stops_then, leads_then, turn_goes, turn_stops, value_goes, value_stops, if_goes, if_stops}
 use Rattle.rhai_state.proofs.Rounds.{round_leads, again_stops, again_goes, again_ends, LoopAt, loop_next, loop_ends, loop_stops}
 
@@ -36,20 +34,6 @@ guard_always tree.UnitConstant h x = refl
 guard_always _ h x = absurd (let z : false ≡ true = h in cc)
 
 module _ (here : Setting) where
-  -- `do` by its options
-  module _ (loop negated exported : Bool) (e : tree.Expr) (ss : tree.Stmts) where
-    abbrev do_line : core.Stmt
-    do_line = core_stmt loop (tree.Do negated exported e ss)
-
-    do_line_is : (c : Bool) → exported ≡ c → core.Does (cond (not c) (core.Do negated (core_expr loop e) (core_stmts true ss)) core.IllDeed) ≡ do_line
-    do_line_is c h = ap (λ d. core.Does (cond (not d) (core.Do negated (core_expr loop e) (core_stmts true ss)) core.IllDeed)) (sym h)
-
-    pub do_line_stuck : (s : State) → exported ≡ true → RunsLine here do_line s (Err (Stuck why.WrongKind)) s
-    do_line_stuck s h = subst (λ l. RunsLine here l s (Err (Stuck why.WrongKind)) s) (do_line_is true h) (ill_line here loop s)
-
-    pub do_line_runs : (until : Bool) (s s1 : State) (r : Result Dynamic Interrupt) → until ≡ negated → exported ≡ false → RunsDeed here (core.Do until (core_expr loop e) (core_stmts true ss)) s r s1 → RunsLine here do_line s r s1
-    do_line_runs until s s1 r n h q = subst (λ l. RunsLine here l s r s1) ((λ i. core.Does (core.Do (n i) (core_expr loop e) (core_stmts true ss))) ∙ do_line_is false h) (deed_line here loop (core.Do until (core_expr loop e) (core_stmts true ss)) s s1 r q)
-
   -- ---- a round
 
   module _ (p : Acts) (s s1 s2 : State) (u : Unit) (r : Result Dynamic Interrupt) (t : TakesTurn s (Ok u) s1) (q : Leads here (Acting (Scoped p)) s1 r s2 (λ v. given UnitV)) where

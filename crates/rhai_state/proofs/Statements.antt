@@ -1,5 +1,5 @@
 -- Statements: one after another, one by its parts.
-use Rattle.std.proofs.Common.{◌≡◌, ℕ, ◌+◌, ◌<◌, ◌≤◌, Bool, true, false, List, length, drop, get_or, ◌∷◌, Result, Ok, Err, refl, sym, ap, ◌∙◌, subst, arith, cond}
+use Rattle.std.proofs.Common.{◌≡◌, ℕ, ◌+◌, ◌<◌, ◌≤◌, Bool, true, false, List, length, drop, get_or, Result, Ok, Err, refl, sym, ap, ◌∙◌, subst, arith, cond}
 use Rattle.std.proofs.lemmas.List.{drop_all}
 use Rattle.rhai_values.specs.declared.dynamic.Dynamic.{Dynamic}
 use Rattle.rhai_values.specs.declared.dynamic.Dynamic.TheVariants as value
@@ -9,7 +9,7 @@ use Rattle.rhai_tree.specs.declared.stmt.Stmt.{Stmt}
 use Rattle.rhai_reading.specs.Reading.{stmt_of, stmts_of}
 use Rattle.rhai_reading.proofs.ItemLists.{stmts_of-drop}
 use Rattle.rhai_meaning.specs.Tree as tree
-use Rattle.rhai_meaning.specs.Act.{Act, Scoped, Named, run_all}
+use Rattle.rhai_meaning.specs.Act.{Act, Scoped}
 use Rattle.rhai_meaning.specs.ActForms.{choose, if_true, truth, ◌>>=◌}
 use Rattle.rhai_meaning.specs.Core as core
 use Rattle.rhai_meaning.specs.Desugar.{core_expr, core_stmt, core_stmts}
@@ -19,9 +19,8 @@ use Rattle.rhai_state.specs.declared.state.Interrupt.TheVariants.{Stuck}
 use Rattle.rhai_state.specs.declared.state.State.{State}
 use Rattle.rhai_host.specs.declared.report.Stuck.TheVariants as why
 use Rattle.rhai_state.specs.Evaluating.{or_stuck, RunsCore, RunsDeed, RunsExpr, RunsLine, RunsStmt, RunsStmts, RunsBlock}
-use Rattle.rhai_state.specs.Runs.{Setting, Task, Acting, Listing, Goes, Stops, Runs, env}
-use Rattle.rhai_state.specs.State.{store_of}
-use Rattle.rhai_state.proofs.Goes.{goes_then, goes_as, stops_then, leads_then, value_goes, value_stops, line_goes, line_stops, line_leads, if_goes, if_stops, scoped_leads, Cut}
+use Rattle.rhai_state.specs.Runs.{Setting, Task, Acting, Listing, Goes, Stops, Runs}
+use Rattle.rhai_state.proofs.Goes.{goes_then, goes_as, stops_then, leads_then, value_goes, value_stops, line_leads, if_goes, if_stops, scoped_leads, Cut}
 
 line_of : (xs : List Stmt) (i : ℕ) (l : Stmt) → i < length xs → l ≡ get_or xs i l → stmts_of (drop i xs) ≡ tree.stmt (stmt_of l) (stmts_of (drop (i + 1) xs))
 line_of xs i l h is = stmts_of-drop xs i l h ∙ ap (λ y. tree.stmt (stmt_of y) (stmts_of (drop (i + 1) xs))) (sym is)
@@ -84,22 +83,8 @@ module _ (here : Setting) (loop : Bool) where
     abbrev var_line : core.Stmt
     var_line = core_stmt loop (tree.Var constant exported x e)
 
-    pub var_stuck : (s : State) → exported ≡ true → RunsLine here var_line s (Err (Stuck why.WrongKind)) s
-    var_stuck s h = subst (λ l. RunsLine here l s (Err (Stuck why.WrongKind)) s) (ap (λ b. cond b (core.Does core.IllDeed) (core.Var constant x (core_expr loop e))) (sym h)) (ill_line s)
-
     var_is : exported ≡ false → core.Var constant x (core_expr loop e) ≡ var_line
     var_is h = ap (λ b. cond b (core.Does core.IllDeed) (core.Var constant x (core_expr loop e))) (sym h)
-
-    pub var_stops : (s s1 : State) (y : Interrupt) → exported ≡ false → RunsExpr here loop e s (Err y) s1 → RunsLine here var_line s (Err y) s1
-    var_stops s s1 y h q = subst (λ l. RunsLine here l s (Err y) s1) (var_is h) (λ next. line_stops here _ _ s s1 y q)
-
-    var_goes : (s s1 s2 : State) (v : Dynamic) → RunsExpr here loop e s (Ok v) s1 → store_of s2 ≡ record (store_of s1) { scope = record { name = x; constant = constant; value = value_of v } ∷ (store_of s1).scope } → s2.turns ≡ s1.turns → RunsLine here (core.Var constant x (core_expr loop e)) s (Ok value.Unit) s2
-    var_goes s s1 s2 v q k t = λ next.
-        goes_then here (line_goes here (λ w. Named x constant w (next UnitV)) q)
-        (record { turns = omega (arith, t); runs = λ d le i. run_all here.world (env here d) (next (sym value_of-Unit i)) (sym k i) (sym t i) })
-
-    pub var_runs : (s s1 s2 : State) (v : Dynamic) → exported ≡ false → RunsExpr here loop e s (Ok v) s1 → store_of s2 ≡ record (store_of s1) { scope = record { name = x; constant = constant; value = value_of v } ∷ (store_of s1).scope } → s2.turns ≡ s1.turns → RunsLine here var_line s (Ok value.Unit) s2
-    var_runs s s1 s2 v h q k t = subst (λ l. RunsLine here l s (Ok value.Unit) s2) (var_is h) (var_goes s s1 s2 v q k t)
 
   -- `if`
   module _ (e : tree.Expr) (a b : tree.Stmts) (s s1 : State) where

@@ -1,5 +1,5 @@
 -- Reading and replacing what stands under a name.
-use Rattle.std.proofs.Common.{◌≡◌, ℕ, ◌<◌, Bool, true, false, cond, List, [], ◌∷◌, ◌++◌, map, length, set, get_or, Some, refl, sym, ap, ◌∙◌, subst, append_assoc, append-nil, length-append, arith}
+use Rattle.std.proofs.Common.{◌≡◌, ℕ, ◌<◌, Bool, true, cond, List, [], ◌∷◌, ◌++◌, map, length, set, get_or, Some, refl, sym, ap, ◌∙◌, append_assoc, length-append, arith}
 use Rattle.std.proofs.lemmas.List.{map-append}
 use Rattle.rhai_values.specs.declared.dynamic.Dynamic.{Dynamic}
 use Rattle.rhai_values.specs.Reading.{value_of}
@@ -68,20 +68,11 @@ pub record SearchedTo (x : Text) (es rest : Entries) : Type 0 where
   pub whole : es ≡ rest ++ back
   pub missing : IsMissing x back
 
-pub searched_none : (x : Text) (es : Entries) → SearchedTo x es es
-searched_none x es = record { back = []; whole = sym (append-nil es); missing = tt }
-
 one_more : (x : Text) (es rest front : Entries) (e : Text × Bool × Dynamic) (p : SearchedTo x es rest) → rest ≡ front ++ e ∷ [] → es ≡ front ++ e ∷ p.back
 one_more x es rest front e p h = p.whole ∙ ap (λ l. l ++ p.back) h ∙ append_assoc front (e ∷ []) p.back
 
-pub searched_more : (x : Text) (es rest front : Entries) (e : Text × Bool × Dynamic) → SearchedTo x es rest → rest ≡ front ++ e ∷ [] → same_text e.0 x ≡ false → SearchedTo x es front
-searched_more x es rest front e p h n = record { back = e ∷ p.back; whole = one_more x es rest front e p h; missing = (n, p.missing) }
-
 pub searched_found : (x : Text) (es rest front : Entries) (e : Text × Bool × Dynamic) (i : ℕ) → SearchedTo x es rest → rest ≡ front ++ e ∷ [] → same_text e.0 x ≡ true → i ≡ length front → IsLatest x es i
 searched_found x es rest front e i p h n k = record { front = front; back = p.back; here = e; whole = one_more x es rest front e p h; place = k; named = n; latest = p.missing }
-
-pub searched_all : (x : Text) (es rest : Entries) → SearchedTo x es rest → rest ≡ [] → IsMissing x es
-searched_all x es rest p h = subst (λ l. IsMissing x l) (sym (p.whole ∙ ap (λ l. l ++ p.back) h)) p.missing
 
 pub turned_more : (es : Entries) (e : Text × Bool × Dynamic) → turned (es ++ e ∷ []) ≡ variable_meant e ∷ turned es
 turned_more es e = turned_around es [] e

@@ -154,14 +154,3 @@ exact_at = folds.ind-Dynamic Exact ExactPointer (λ x y is. subst (λ z. Exact (
 -- values are equal where `==` says so, and only there
 pub exact : (x y : Dynamic) → equal x y ≡ true → x ≡ y
 exact x y h = exact_at x y h
-
-lists_exact : (xs ys : List Dynamic) → pointwise equal xs ys ≡ true → xs ≡ ys
-lists_exact [] [] h = refl
-lists_exact [] (y ∷ ys) h = absurd (true≢false (sym h))
-lists_exact (x ∷ xs) [] h = absurd (true≢false (sym h))
-lists_exact (x ∷ xs) (y ∷ ys) h = λ i. exact x y (first _ _ h) i ∷ lists_exact xs ys (second _ _ h) i
-
-pub pointers_exact : (p q : FnPtr) → pointers_equal p q ≡ true → p ≡ q
-pointers_exact p q h =
-    let parts = pointer_parts p q h in
-    λ i. record { name = text_exact p.name q.name (first _ _ parts) i; curried = lists_exact p.curried q.curried (second _ _ parts) i }

@@ -1,9 +1,9 @@
 -- The items of an array, written one after another.
-use Rattle.std.proofs.Common.{◌≡◌, ℕ, ℤ, ◌+◌, ◌<◌, List, [], ◌∷◌, ◌++◌, codes, length, get_or, drop, map, refl, sym, ap, ◌∙◌, true, false, add-one, append_assoc, append-nil}
+use Rattle.std.proofs.Common.{◌≡◌, ℕ, ℤ, ◌+◌, ◌<◌, List, [], ◌∷◌, ◌++◌, codes, length, get_or, drop, map, refl, sym, ap, ◌∙◌, false, add-one, append_assoc, append-nil}
 use Rattle.std.proofs.Math.Seq.{drop-cons}
 use Rattle.rhai_values.specs.declared.dynamic.Dynamic.{Dynamic}
 use Rattle.rhai_values.specs.declared.fn_ptr.FnPtr.{FnPtr}
-use Rattle.rhai_values.specs.Value.{Text, Values, no_values, item, values, Fields, no_fields, field, fields, inner, inner_items, inner_fields, text_of, ArrayV, MapV}
+use Rattle.rhai_values.specs.Value.{Text, Values, no_values, item, values, Fields, no_fields, field, fields, inner, inner_items, inner_fields, text_of}
 use Rattle.rhai_values.specs.declared.dynamic.Dynamic.TheVariants as dynamic
 use Rattle.std.specs.Char.{encode_utf8}
 use Rattle.std.specs.Fmt.{signed_decimal}
@@ -21,11 +21,6 @@ after_comma : (vs : Values) → after (codes ", ") vs ≡ inner_items false vs
 unfolding inner_items
 after_comma no_values = refl
 after_comma (item v vs) = refl
-
-pub items_after_none : (vs : Values) → after [] vs ≡ inner_items true vs
-unfolding inner_items
-items_after_none no_values = refl
-items_after_none (item v vs) = refl
 
 -- a text between two marks, joined in the order in which it was written
 between : (old mark body : Text) → ((old ++ mark) ++ body) ++ mark ≡ old ++ ((mark ++ body) ++ mark)
@@ -90,16 +85,6 @@ drop_all : (xs : List Dynamic) → drop (length xs) xs ≡ []
 drop_all [] = refl
 drop_all (x ∷ xs) = drop_all xs
 
--- all items between brackets
-pub items_written : (old t u new separator : Text) (xs : List Dynamic) → t ≡ old ++ codes "[" → u ++ items_after separator (drop (length xs) xs) ≡ t ++ items_after [] xs → new ≡ u ++ codes "]"
-    → new ≡ old ++ inner (ArrayV (values (map value_of xs)))
-unfolding inner
-items_written old t u new separator xs p q r =
-    let form = inner_items true (values (map value_of xs)) in
-    let done : u ≡ t ++ form =
-    sym (append-nil u) ∙ ap (λ ys. u ++ items_after separator ys) (sym (drop_all xs)) ∙ q ∙ ap (λ b. t ++ b) (items_after_none (values (map value_of xs))) in
-    r ∙ ap (λ b. b ++ codes "]") (done ∙ ap (λ b. b ++ form) p ∙ append_assoc old (codes "[") form) ∙ append_assoc old (codes "[" ++ form) (codes "]")
-
 -- unit as a text
 pub unit_written : (old : Text) (x : Dynamic) → x ≡ dynamic.Unit → old ≡ old ++ text_of (value_of x)
 unfolding text_of
@@ -120,11 +105,6 @@ unfolding inner_fields
 members_after_comma no_fields = refl
 members_after_comma (field k v fs) = refl
 
-members_after_none : (fs : Fields) → after_members [] fs ≡ inner_fields true fs
-unfolding inner_fields
-members_after_none no_fields = refl
-members_after_none (field k v fs) = refl
-
 member_joined : (old separator quote k colon form more : Text)
     → (((old ++ separator) ++ ((quote ++ k) ++ colon)) ++ form) ++ more ≡ old ++ (((((separator ++ quote) ++ k) ++ colon) ++ form) ++ more)
 member_joined old separator quote k colon form more = simp append_assoc
@@ -139,13 +119,3 @@ member_written old t u new separator all e left so_far p q r =
     let key = (codes "\"" ++ e.0) ++ codes "\": " in
     ap (λ b. new ++ b) (members_after_comma (fields (members_of left))) ∙ ap (λ b. b ++ more) (r ∙ ap (λ b. b ++ form) (q ∙ ap (λ b. b ++ key) p))
     ∙ member_joined old separator (codes "\"") e.0 (codes "\": ") form more ∙ so_far
-
--- all members between braces
-pub members_written : (old t u new separator : Text) (es left : List (Text × Dynamic)) → left ≡ [] → t ≡ old ++ codes "#{" → u ++ members_after separator left ≡ t ++ members_after [] es → new ≡ u ++ codes "}"
-    → new ≡ old ++ inner (MapV (fields (members_of es)))
-unfolding inner
-members_written old t u new separator es left e p q r =
-    let form = inner_fields true (fields (members_of es)) in
-    let done : u ≡ t ++ form =
-    sym (append-nil u) ∙ ap (λ ys. u ++ members_after separator ys) (sym e) ∙ q ∙ ap (λ b. t ++ b) (members_after_none (fields (members_of es))) in
-    r ∙ ap (λ b. b ++ codes "}") (done ∙ ap (λ b. b ++ form) p) ∙ framed old (codes "#{") form (codes "}")

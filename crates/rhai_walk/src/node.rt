@@ -1,6 +1,6 @@
 //! Nodes that a walk lends.
 
-ghost use Rattle.std.specs.Prelude.{◌≡◌, ◌↔◌, IsTrue};
+ghost use Rattle.std.specs.Prelude.{◌≡◌};
 ghost use Rattle.rhai_walk.specs.Nodes.{is_expr_node, is_stmt_node, place_of};
 ghost use Rattle.rhai_walk.specs.declared.node.ASTNode.TheVariants as node;
 

@@ -2,17 +2,17 @@
 use Rattle.std.specs.Prelude.{◌≡◌, Bool, true, false, List, [], ◌∷◌, Some, None, codes, refl}
 use Prim.Native.String.{String}
 use Rattle.rhai_values.specs.Value.{Text, Value, UnitV, TextV, PointerV, values}
-use Rattle.rhai_base.specs.Operators.{Plus, computed}
+use Rattle.rhai_base.specs.Operators.{computed}
 use Rattle.rhai_meaning.specs.Act.{ScopeEntry, Unbound, WrongKind, Key, Gives, Ended, At, ScriptCall, run_all, IsStuck, OutOfTurns, Halted, World, Invoke}
 use Rattle.rhai_meaning.specs.Calls.{key, call_named, call_pointer}
 use Rattle.rhai_meaning.specs.ActForms.{give}
-use Rattle.rhai_meaning.specs.Desugar.{core_expr, core_script}
+use Rattle.rhai_meaning.specs.Desugar.{core_expr}
 use Rattle.rhai_meaning.specs.Core as core
 use Rattle.rhai_meaning.specs.Engine.{Engine}
 use Rattle.rhai_meaning.specs.Meaning.{acts}
-use Rattle.rhai_meaning.specs.Run.{AtStatements, AtFunction, WithValue, WithThrown, WithStuck, WithoutTurns, Report, entered, env_at, invoke_at, report_of, run_script, world_of}
+use Rattle.rhai_meaning.specs.Run.{AtFunction, WithValue, WithThrown, WithStuck, WithoutTurns, Report, entered, env_at, invoke_at, report_of, run_script, world_of}
 use Rattle.rhai_meaning.specs.Tree.{Function, Expr, StringConstant, Stmt, ExprStmt, stmts, FnCall, NoToken, exprs}
-use Rattle.rhai_meaning.specs.WorkedForms.{int, call, nothing_set, joins, joining, ran_with, ran, ends, asked, i, op}
+use Rattle.rhai_meaning.specs.WorkedForms.{int, call, nothing_set, joins, joining, ran_with, ran, ends, asked, i}
 
 -- ---- short forms
 

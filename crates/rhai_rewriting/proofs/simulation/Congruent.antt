@@ -7,7 +7,7 @@ use Rattle.rhai_parts.specs.Names.{is_valid_name}
 use Rattle.rhai_meaning.specs.Engine.{built_in, asks_assigning}
 use Rattle.rhai_meaning.specs.Elements.{element, character, bit}
 use Rattle.rhai_meaning.specs.Act.{HostCall, Answer, Answers, AnswersThrow, Key, World, Returns, Breaks, Continues, Throws, Again, Ending, Gives, Leaves, Stuck, WrongKind, Root, ScriptCall, Act, Stop, Fail, Then, Turn, Read, Write, AskHost, Invoke, Loop, Scoped, Acts, Named}
-use Rattle.rhai_meaning.specs.ActForms.{give, value_then, ◌>>=◌, choose, truth, branch, if_true, on_throw, end_round, again_then, answered, ask_host, ask_method, of_constant}
+use Rattle.rhai_meaning.specs.ActForms.{give, value_then, ◌>>=◌, choose, truth, branch, if_true, on_throw, end_round, again_then, answered, ask_host, ask_method}
 use Rattle.rhai_meaning.specs.Calls.{of_table, operate, assigned, pointer_to, curried, has_key, key, call_named, call_pointer, Word, ToHost, TypeOf, IsShared, Fn, Curry, CallFn, word, call_word, called}
 use Rattle.rhai_meaning.specs.Chains.{Access, OfProperty, OfIndex, OfMethod, or_throw, ask_for, property, index, after_method, method_key, to_method, value_alone, method, applied, unless_unit, set_by_host, set_element, set_property, set_index, set_placed, set_at, assign_last, assign_root}
 use Rattle.rhai_meaning.specs.Control.{ArmActs, try_arm, first_arm, answer_of, round, while_guarded, do_loop, counted, for_each, for_count, for_all, named, end_branch, try_of}
@@ -71,10 +71,6 @@ module _ (P : Act → Act → Type 0) (Allowed : Bool → Type 0) (g : Congruent
   c_answered : (f f' : Value → Option Value → Act) → ((v : Value) (u : Option Value) → P (f v u) (f' v u)) → (a : Answer) → P (answered f a) (answered f' a)
   c_answered f f' h (Answers v u) = h v u
   c_answered f f' h (AnswersThrow v) = g.stop _
-
-  pub c_constant : (o : Option Value) → P (of_constant o) (of_constant o)
-  c_constant (Some v) = g.stop _
-  c_constant None = g.fail _
 
   c_ask_host : (f : Text) (vs : List Value) → P (ask_host f vs) (ask_host f vs)
   c_ask_host f vs = g.ask _ _ _ (c_answered _ _ (λ v u. c_give v))

@@ -1,7 +1,7 @@
 use Rattle.std.proofs.Common.{ap, ◌∙◌, false}
 use Rattle.rhai_functions.specs.FnLib.{functions_of}
 use Rattle.rhai_rewriting.proofs.soundness.Theorem.{refines, lighter}
-use Rattle.rhai_rewriting.proofs.soundness.Small.{calls_stay}
+use Rattle.rhai_rewriting.proofs.soundness.OperatorCalls.{calls_stay}
 use Rattle.rhai_rewriting.proofs.soundness.WellFormed.{stmts_well}
 use Rattle.rhai_optimizer.proofs.optimizer.optimize_into_ast.Goals as goal
 

@@ -1,6 +1,6 @@
 use Rattle.std.proofs.Common.{map, refl, of_calls}
 use Rattle.std.specs.Rc.{rc_value}
-use Rattle.rhai_script.specs.Filter.{Answers, AnswersShort}
+use Rattle.rhai_script.specs.Filter.{AnswersShort}
 use Rattle.rhai_script.proofs.Choices.{chosen-alike, ok_alike}
 use Rattle.rhai_script.proofs.filter.kept.Goals as goal
 
