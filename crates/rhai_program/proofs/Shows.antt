@@ -1,11 +1,12 @@
 -- What `show` prints.
-use Rattle.std.proofs.Common.{◌≡◌, ◌≢◌, List, [], ◌++◌, codes, map, ap, ◌∙◌, sym, subst, append-nil}
+use Rattle.std.proofs.Common.{◌≡◌, ◌≢◌, ◌≤◌, List, [], ◌++◌, codes, map, ap, ◌∙◌, sym, subst, append-nil}
 use Rattle.std.specs.declared.alloc.Global.{Global}
 use Rattle.std.specs.declared.rc.Rc.{Rc}
 use Rattle.std.specs.Rc.{rc_value}
 use Rattle.rhai_values.specs.Value.{Text}
 use Rattle.rhai_meaning.specs.Engine.{Engine}
 use Rattle.rhai_meaning.specs.Tree.{Stmts, Script, Function}
+use Rattle.rhai_meaning.specs.Weight.{weight}
 use Rattle.rhai_reading.specs.Reading.{stmts_of, function_of}
 use Rattle.rhai_tree.specs.declared.script_fn.ScriptFuncDef.{ScriptFuncDef}
 use Rattle.rhai_tree.specs.declared.stmt.Stmt.{Stmt}
@@ -38,14 +39,16 @@ pushed_show script after shown empty a b c d same h e f g i =
 pub optimized_built_in : (at : OptimizationLevel) (engine : Engine) (ss : List Stmt) (fs : List (Rc ScriptFuncDef Global)) (script : BuiltinScript) (ast : AST)
     → engine ≡ nothing_set → stmts_of ss ≡ statements_of script → fs ≡ []
     → Refines engine (source_of ss fs) (script_of ast) → ast.lib.value.functions ≡ definitions_table (map rc_value fs)
+    → weight (script_of ast).statements ≤ weight (stmts_of ss)
     → (at ≡ level.None → ast.statements ≡ ss) → (at ≢ level.None → AreReduced engine (script_of ast).statements)
     → Optimized at (built_in script) (script_of ast)
-optimized_built_in at engine ss fs script ast e statements none runs table kept reduced =
+optimized_built_in at engine ss fs script ast e statements none runs table lighter kept reduced =
     let source : source_of ss fs ≡ built_in script = ap (source_of ss) none ∙ ap (λ (x : Stmts). record { statements = x; functions = [] }) statements in
     let functions : functions_of ast.lib.value ≡ [] = ap (map function_of) table ∙ ap (λ (x : List (Rc ScriptFuncDef Global)). map function_of (definitions_table (map rc_value x))) none in
     record {
       runs = subst (λ (x : Engine). Refines x (built_in script) (script_of ast)) e (subst (λ (x : Script). Refines engine x (script_of ast)) source runs);
       functions = functions;
+      lighter = subst (λ (x : Stmts). weight (script_of ast).statements ≤ weight x) statements lighter;
       kept = λ h. ap (λ (x : Stmts). record { statements = x; functions = functions_of ast.lib.value }) (ap stmts_of (kept h) ∙ statements)
           ∙ ap (λ (x : List Function). record { statements = statements_of script; functions = x }) functions;
       reduced = λ h. subst (λ (x : Engine). AreReduced x (script_of ast).statements) e (reduced h);

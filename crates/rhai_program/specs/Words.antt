@@ -1,10 +1,11 @@
 -- What the program is asked, and what it prints.
-use Rattle.std.specs.Prelude.{◌≡◌, ◌≢◌, ℕ, ◌+◌, ◌-◌, ◌*◌, ◌^◌, ◌&&◌, nat_lt, List, [], ◌∷◌, ◌++◌, Option, Some, None, codes, if◌then◌else◌}
+use Rattle.std.specs.Prelude.{◌≡◌, ◌≢◌, ◌≤◌, ℕ, ◌+◌, ◌-◌, ◌*◌, ◌^◌, ◌&&◌, nat_lt, List, [], ◌∷◌, ◌++◌, Option, Some, None, codes, if◌then◌else◌}
 use Rattle.std.specs.Str.{all_ascii_digits}
 use Rattle.rhai_values.specs.Value.{Text, same_text}
 use Rattle.rhai_meaning.specs.Desugar.{core_script}
 use Rattle.rhai_meaning.specs.Run.{AtStatements, Report, report_of, run_script}
 use Rattle.rhai_meaning.specs.Tree.{Script}
+use Rattle.rhai_meaning.specs.Weight.{weight}
 use Rattle.rhai_optimizer.specs.declared.level.OptimizationLevel.{OptimizationLevel}
 use Rattle.rhai_optimizer.specs.declared.level.OptimizationLevel.TheVariants as level
 use Rattle.rhai_engine.specs.EngineInfo.{nothing_set}
@@ -67,10 +68,11 @@ abbrev pub built_in : BuiltinScript → Script
 built_in script = record { statements = statements_of script; functions = [] }
 
 -- what the optimiser makes of a script, where the engine has nothing set: one that runs alike, with the same
--- functions; at level `None` the script itself, else one whose statements leave nothing to reduce
+-- functions, and weighs no more; at level `None` the script itself, else one whose statements leave nothing to reduce
 pub record Optimized (at : OptimizationLevel) (before after : Script) : Type 0 where
   pub runs : Refines nothing_set before after
   pub functions : after.functions ≡ before.functions
+  pub lighter : weight after.statements ≤ weight before.statements
   pub kept : at ≡ level.None → after ≡ before
   pub reduced : at ≢ level.None → AreReduced nothing_set after.statements
 

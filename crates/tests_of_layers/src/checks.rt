@@ -5,7 +5,7 @@ use rhai_base::{Boxed, ImmutableString, OutOfMemory, Position, Seq, StringMap, T
 use std::alloc::Global;
 use std::rc::Rc;
 use std::test::Fail;
-use tests_reader::{Unread, read_expr, read_lines, read_link};
+use tests_reader::{Unread, read_expr, read_lines, read_link, read_script};
 
 /// Statements, and the number of the first fault; 0 for none.
 const ROWS: [(&str, u8); 38] = [
@@ -178,8 +178,8 @@ fn function(
     Ok(Rc::new(alloc, function)?)
 }
 
-/// Statements, and whether they are plain.
-const PLAIN: [(&str, bool); 12] = [
+/// Statements and functions, and whether they are plain.
+const PLAIN: [(&str, bool); 14] = [
     ("call f(1)\n", true),
     ("call eval(\"x\")\n", false),
     ("call m::eval(\"x\")\n", true),
@@ -196,6 +196,8 @@ const PLAIN: [(&str, bool); 12] = [
         "switch 1 { 1: 0 |  | default - | true => eval(1) }\n",
         false,
     ),
+    ("1\nfn f(x) { x }\n", true),
+    ("1\nfn f(x) { x }\nfn g() { call eval(1) }\n", false),
 ];
 
 #[test]
@@ -207,8 +209,8 @@ fn plain_trees_are_told(rt: HostRuntime) -> Result<(), Fail> {
 }
 
 fn is_told(alloc: Global, text: &str, wanted: bool) -> Result<bool, Unread> {
-    let statements = read_lines(alloc, text)?;
-    Ok(is_plain(statements.as_slice(), &[]) == wanted)
+    let script = read_script(alloc, text)?;
+    Ok(is_plain(script.statements.as_slice(), script.functions.as_slice()) == wanted)
 }
 
 /// Each fault with its number and its text.

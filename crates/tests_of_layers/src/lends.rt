@@ -2,14 +2,15 @@
 //! long, and not a copy. While a part is lent, a change of the whole does not compile.
 
 use crate::script_samples::key;
-use rhai_ast::{ASTNode, Expr, ScriptFuncDef, Stmt, Walk};
+use rhai_ast::{ASTNode, Expr, Literals, ScriptFuncDef, Stmt, Walk};
 use rhai_base::{Dynamic, ImmutableString, OutOfMemory, Scope};
 use rhai_script::{AST, FnKey, FnLib};
 use rhai_script_queries::{ScriptFnMetadata, ScriptQueries};
 use std::alloc::Global;
+use std::borrow::Cow;
 use std::rc::Rc;
 use std::test::Fail;
-use tests_reader::read_lines;
+use tests_reader::{Unread, read_expr, read_lines};
 
 /// The first expression of a walk: a node outlives the path on which it stood.
 fn first_expression<'a>(
@@ -58,6 +59,25 @@ fn first_variable<'a>(script: &'a AST) -> Result<Option<&'a str>, OutOfMemory> {
 /// So do the name and the value of a scope's entry.
 fn first_entry<'a>(scope: &'a Scope) -> Option<(&'a str, bool, &'a Dynamic)> {
     scope.iter().next()
+}
+
+/// The value of a constant of any value is lent, and not a copy.
+fn lent_value<'a>(alloc: Global, expr: &'a Expr) -> Result<Option<&'a Dynamic>, OutOfMemory> {
+    match expr.constant_value(alloc)? {
+        Some(Cow::Borrowed(value)) => Ok(Some(value)),
+        _ => Ok(None),
+    }
+}
+
+fn is_value_lent(alloc: Global) -> Result<bool, Unread> {
+    let expr = read_expr(alloc, "<1..2>")?;
+    Ok(lent_value(alloc, &expr)?.is_some())
+}
+
+#[test]
+fn the_value_of_a_constant_is_lent(rt: HostRuntime) -> Result<(), Fail> {
+    assert!(rt; is_value_lent(rt.alloc())?);
+    Ok(())
 }
 
 #[test]

@@ -4,7 +4,7 @@
 use crate::notation::KEPT;
 use crate::rows::is_printed;
 use crate::trees::{NONE, certain, integer, list, name, statement};
-use rhai_ast::{Expr, FnAccess, ScriptFuncDef, Stmt, StmtBlock};
+use rhai_ast::{ASTNode, Expr, FnAccess, ScriptFuncDef, Stmt, StmtBlock, walk_statements};
 use rhai_base::{Dynamic, INT, OutOfMemory, Position, Scope, Seq};
 use rhai_folding::{constant_bool, folded};
 use rhai_optimizer::{OptimizationLevel, OptimizerState, optimize_into_ast, optimize_top_level};
@@ -228,10 +228,60 @@ fn nodes_that_are_not_opened_stay(rt: HostRuntime) -> Result<(), Fail> {
     Ok(())
 }
 
-/// Whether an optimised script is printed as it was before.
+/// Whether an optimised script is printed as it was before, and its nodes stand where they stood.
 fn stays(alloc: Global, lines: &str) -> Result<bool, Unread> {
-    let script = optimized(alloc, read_lines(alloc, lines)?, OptimizationLevel::Simple)?;
-    Ok(is_printed(alloc, &script, lines)?)
+    let statements = read_lines(alloc, lines)?;
+    let before = places(alloc, statements.as_slice())?;
+    let script = optimized(alloc, statements, OptimizationLevel::Simple)?;
+    Ok(places(alloc, script.statements())? == before && is_printed(alloc, &script, lines)?)
+}
+
+/// A number made of where the nodes stand, in the order of a walk, where their blocks end, and which of them have a token.
+fn places(alloc: Global, statements: &[Stmt]) -> Result<u64, OutOfMemory> {
+    let mut path = Vec::new(alloc);
+    let mut sum: u64 = 0;
+    walk_statements(
+        statements,
+        &mut path,
+        &mut |nodes: &[ASTNode]| {
+            sum = with_node(sum, nodes.last());
+            true
+        },
+    )?;
+    Ok(sum)
+}
+
+fn with_node(sum: u64, node: Option<&ASTNode>) -> u64 {
+    match node {
+        Some(node) => {
+            let sum = with_place(with_place(sum, node.position()), end_of(node));
+            sum.wrapping_mul(2).wrapping_add(has_token(node) as u64)
+        }
+        None => sum,
+    }
+}
+
+fn with_place(sum: u64, at: Position) -> u64 {
+    let column = at.position().unwrap_or(0) as u64;
+    sum.wrapping_mul(31).wrapping_add(column)
+}
+
+/// Where a node's block ends.
+fn end_of(node: &ASTNode) -> Position {
+    match node {
+        ASTNode::Expr(Expr::Stmt(block)) => block.get().end_position(),
+        ASTNode::Stmt(Stmt::Block(block)) => block.get().end_position(),
+        ASTNode::Stmt(Stmt::If(flow, _)) => flow.get().body.end_position(),
+        _ => NONE,
+    }
+}
+
+fn has_token(node: &ASTNode) -> bool {
+    match node {
+        ASTNode::Expr(Expr::FnCall(call, _)) => call.get().op_token.is_some(),
+        ASTNode::Stmt(Stmt::FnCall(call, _)) => call.get().op_token.is_some(),
+        _ => false,
+    }
 }
 
 // ---- memory

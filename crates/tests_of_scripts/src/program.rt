@@ -6,11 +6,12 @@ use std::alloc::{AllocError, Global};
 use std::io;
 use std::test::Fail;
 
-/// A writer that takes so many bytes and then fails.
+/// A writer that takes so many bytes and then fails; a flush fails too where it is to.
 #[derive(Drop)]
 struct Stops {
     taken: Vec<u8>,
     room: usize,
+    flushes: bool,
 }
 
 impl Stops {
@@ -18,6 +19,7 @@ impl Stops {
         Stops {
             taken: Vec::new(alloc),
             room,
+            flushes: true,
         }
     }
 }
@@ -34,7 +36,11 @@ impl io::Write for Stops {
     }
 
     fn flush(&mut self) -> io::Result<()> {
-        Ok(())
+        if self.flushes {
+            Ok(())
+        } else {
+            Err(io::Error::from(io::ErrorKind::StorageFull))
+        }
     }
 }
 
@@ -183,6 +189,22 @@ fn a_failed_write_is_status_1(rt: HostRuntime) -> Result<(), Fail> {
             );
         }
     }
+    Ok(())
+}
+
+/// Whether a refused flush is status 1 too, though all was written.
+fn is_unflushed(alloc: Global) -> Result<bool, AllocError> {
+    let words = words(alloc, "list")?;
+    let mut out = Stops::after(alloc, LIST.len());
+    out.flushes = false;
+    let mut err = Vec::new(alloc);
+    let status = run_words(alloc, words.as_slice(), &mut out, &mut err);
+    Ok(status == 1 && out.taken.as_slice() == LIST.as_bytes())
+}
+
+#[test]
+fn a_failed_flush_is_status_1(rt: HostRuntime) -> Result<(), Fail> {
+    assert!(rt; is_unflushed(rt.alloc())?);
     Ok(())
 }
 
