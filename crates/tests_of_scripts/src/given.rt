@@ -6,7 +6,6 @@ ghost use Rattle.rhai_values.specs.Reading.{value_of};
 ghost use Rattle.rhai_host.specs.Host.{answer_meant};
 ghost use Rattle.tests_of_scripts.specs.HostRows as spec;
 
-use crate::trees::name;
 use rhai_base::{Dynamic, ImmutableString, OutOfMemory, Scope, Seq};
 use rhai_run::{EngineInfo, Host, HostAnswer, HostCall};
 use std::alloc::Global;
@@ -113,7 +112,7 @@ pub struct Given {
 
 /// Reads what a run is given, a line each: `turns 3`, of the scope `variable x = 1` and `constant x = 1`, of the record
 /// `record x = 1`, `override + i64 i64`, `type i64 as int` and `fast operators`, of the host `module m::x = 1` and
-/// rows as `answer 0 f => 1 then 2`.
+/// rows as `answer 0 f => 1 then 2`. Three turns, where no line says how many.
 pub fn read_given(alloc: Global, text: &str) -> Result<Given, Unread> {
     let mut given = Given {
         info: EngineInfo::new(alloc),
@@ -122,7 +121,7 @@ pub fn read_given(alloc: Global, text: &str) -> Result<Given, Unread> {
             modules: Seq::new(alloc),
         },
         scope: Scope::new(alloc),
-        turns: 0,
+        turns: 3,
     };
     for line in text.lines() {
         read_line(alloc, line, &mut given)?;
@@ -133,63 +132,59 @@ pub fn read_given(alloc: Global, text: &str) -> Result<Given, Unread> {
 fn read_line(alloc: Global, line: &str, given: &mut Given) -> Result<(), Unread> {
     let (word, rest) = line.split_once(' ').ok_or(Unread::Wanted("a word"))?;
     match word {
-        "turns" => {
-            given.turns = rest
-                .parse::<u64>()
-                .map_err(|_| Unread::Wanted("a number of turns"))?;
-            Ok(())
-        }
-        "variable" | "constant" => push_entry(alloc, word, rest, &mut given.scope),
-        "module" | "answer" => push_row(alloc, word, rest, &mut given.host),
-        _ => set(alloc, word, rest, &mut given.info),
-    }
-}
-
-/// An entry of the scope.
-fn push_entry(alloc: Global, word: &str, text: &str, scope: &mut Scope) -> Result<(), Unread> {
-    let (name, value) = read_binding(alloc, text)?;
-    if word == "constant" {
-        scope.push_constant(name, value)?;
-    } else {
-        scope.push(name, value)?;
-    }
-    Ok(())
-}
-
-/// A row of the host.
-fn push_row(alloc: Global, word: &str, text: &str, host: &mut RowsHost) -> Result<(), Unread> {
-    if word == "module" {
-        host.modules.push(read_binding(alloc, text)?)?;
-    } else {
-        host.answers.push(read_answer(alloc, text)?)?;
-    }
-    Ok(())
-}
-
-/// A line of the record.
-fn set(alloc: Global, word: &str, text: &str, info: &mut EngineInfo) -> Result<(), Unread> {
-    match word {
-        "record" => {
-            let (name, value) = read_binding(alloc, text)?;
-            info.add_constant(name, value)?;
-        }
-        "type" => {
-            let (from, to) = text.split_once(" as ").ok_or(Unread::Wanted(" as "))?;
-            info.set_type_name(name(alloc, from)?, name(alloc, to)?)?;
-        }
-        "override" => override_operator(alloc, text, info)?,
-        "fast" => info.set_fast_operators(true),
+        "turns" => given.turns = rest.parse::<u64>().or(Err(Unread::Wanted("turns")))?,
+        "variable" | "constant" | "record" | "module" => bind(alloc, word, rest, given)?,
+        "answer" => given.host.answers.push(read_answer(alloc, rest)?)?,
+        "type" => rename(alloc, rest, &mut given.info)?,
+        "override" => override_operator(alloc, rest, &mut given.info)?,
+        "fast" => given.info.set_fast_operators(true),
         _ => return Err(Unread::Wanted("what a run is given")),
     }
     Ok(())
 }
 
+/// A name and its value.
+fn bind(alloc: Global, word: &str, text: &str, given: &mut Given) -> Result<(), Unread> {
+    let (name, value) = read_binding(alloc, text)?;
+    Ok(put(word, name, value, given)?)
+}
+
+fn put(
+    word: &str,
+    name: ImmutableString,
+    value: Dynamic,
+    given: &mut Given,
+) -> Result<(), OutOfMemory> {
+    match word {
+        "variable" => given.scope.push(name, value),
+        "constant" => given.scope.push_constant(name, value),
+        "record" => given.info.add_constant(name, value),
+        _ => Ok(given.host.modules.push((name, value))?),
+    }
+}
+
+/// A type and the name that scripts see for it.
+fn rename(alloc: Global, text: &str, info: &mut EngineInfo) -> Result<(), Unread> {
+    let (from, to) = text.split_once(" as ").ok_or(Unread::Wanted(" as "))?;
+    let from = name(alloc, from)?;
+    Ok(info.set_type_name(from, name(alloc, to)?)?)
+}
+
+fn name(alloc: Global, text: &str) -> Result<ImmutableString, OutOfMemory> {
+    Ok(ImmutableString::new(alloc, text)?)
+}
+
 /// An operator with the types of its operands.
 fn override_operator(alloc: Global, text: &str, info: &mut EngineInfo) -> Result<(), OutOfMemory> {
     let (operator, types) = text.split_once(' ').unwrap_or((text, ""));
+    let operator = name(alloc, operator)?;
+    info.override_operator(operator, names(alloc, types)?)
+}
+
+fn names(alloc: Global, text: &str) -> Result<Vec<ImmutableString>, OutOfMemory> {
     let mut names = Vec::new(alloc);
-    for of in types.split_whitespace() {
-        names.push(name(alloc, of)?)?;
+    for word in text.split_whitespace() {
+        names.push(name(alloc, word)?)?;
     }
-    info.override_operator(name(alloc, operator)?, names)
+    Ok(names)
 }

@@ -9,11 +9,11 @@ use rhai_ast::{Expr, FnCallExpr, Stmt};
 use rhai_base::{
     Boxed, Dynamic, ImmutableString, Namespace, OutOfMemory, Position, Scope, Seq, Token,
 };
-use rhai_run::{EngineInfo, Host, HostAnswer, HostCall, RunEnd, RunReport, plain_run};
+use rhai_reports::push_report;
+use rhai_run::{EngineInfo, Host, HostAnswer, HostCall, plain_run};
 use rhai_script::{AST, FnLib};
 use std::alloc::Global;
 use std::rc::Rc;
-use std::test::Fail;
 
 /// Answers 7 to every call, and has no modules.
 #[derive(Drop)]
@@ -77,25 +77,18 @@ fn script(alloc: Global) -> Result<AST, OutOfMemory> {
     Ok(AST::new(statements, functions))
 }
 
-#[test]
-fn a_script_is_run(rt: HostRuntime) -> Result<(), Fail> {
-    let alloc = rt.alloc();
-    let script = script(alloc)?;
+/// A scope in which `start` is 35.
+fn scope(alloc: Global) -> Result<Scope, OutOfMemory> {
     let mut scope = Scope::new(alloc);
     scope.push(ImmutableString::new(alloc, "start")?, Dynamic::Int(35))?;
-
-    let info = EngineInfo::new(alloc); // overrides no operator
-    let report = plain_run(alloc, &script, &info, &Seven, &scope, 10)?; // with ten turns
-
-    assert!(rt; report.run_end == RunEnd::Value(Dynamic::Int(42)));
-    assert!(rt; report.turns_left == 10); // no loop, no call of a script's function
-    assert!(rt; has_asked_for_a_price(&report));
-    Ok(())
+    Ok(scope)
 }
 
-fn has_asked_for_a_price(report: &RunReport) -> bool {
-    match report.calls.as_slice() {
-        [call] => call.name.as_str() == "price" && call.args.is_empty(),
-        _ => false,
-    }
+/// Writes what a run of it reports.
+pub fn a_script_is_run(alloc: Global, text: &mut String) -> Result<(), OutOfMemory> {
+    let script = script(alloc)?;
+    let scope = scope(alloc)?;
+    let info = EngineInfo::new(alloc); // overrides no operator
+    let report = plain_run(alloc, &script, &info, &Seven, &scope, 10)?; // with ten turns
+    push_report(&report, text)
 }

@@ -8,6 +8,7 @@ mod letters;
 mod names;
 mod nodes;
 mod parts;
+mod questions;
 mod rows;
 mod scripts;
 mod tables;
@@ -15,6 +16,7 @@ mod tree;
 mod values;
 
 pub use letters::Unread;
+pub use questions::{Answers, ask_all};
 pub use rows::{AnswerRow, read_answer, read_binding};
 pub use scripts::{Script, read_script};
 pub use tree::{read_expr, read_lines, read_link, read_stmt};

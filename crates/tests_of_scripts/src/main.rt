@@ -1,0 +1,36 @@
+//! Asks the optimiser, the evaluator, the notation and the program the questions of rows, in files that the words name.
+#![tactic(auto)]
+
+mod answers;
+mod given;
+mod guide_runs;
+mod long;
+mod nodes;
+mod readme;
+mod record;
+mod reports;
+mod requests;
+mod scripts;
+
+use answers::Scripts;
+use std::{env, fs, io};
+use tests_reader::ask_all;
+
+fn main(rt: HostRuntime) -> io::Result<()> {
+    for name in env::args(&rt)?.skip(1) {
+        ask(&rt, name.as_str())?;
+    }
+    Ok(())
+}
+
+/// Asks the questions of a file, and prints how many are met.
+fn ask(rt: &HostRuntime, name: &str) -> io::Result<()> {
+    let rows = fs::read_to_string(rt, name)?;
+    say(rt, name, rows.as_str())
+}
+
+fn say(rt: &HostRuntime, name: &str, rows: &str) -> io::Result<()> {
+    let mut said = String::new(rt.alloc());
+    ask_all(rt.alloc(), &Scripts, name, rows, &mut said)?;
+    rt.print(said.as_str())
+}
