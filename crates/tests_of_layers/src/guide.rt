@@ -1,12 +1,14 @@
 //! The pieces of docs/GUIDE.md on scripts.
 
+use crate::guide_trees;
+use crate::said::{say, say_count, say_line, say_value};
 use rhai_ast::{ASTNode, Expr, FnAccess, ScriptFuncDef, Stmt, StmtBlock};
 use rhai_base::{ASTFlags, Boxed, Dynamic, Ident, ImmutableString, OutOfMemory, Position, Seq};
-use rhai_script::{AST, FnLib};
+use rhai_script::{AST, FnLib, SharedLib};
 use rhai_script_queries::ScriptQueries;
 use std::alloc::Global;
 use std::rc::Rc;
-use std::test::Fail;
+use tests_reader::Unread;
 
 /// `fn NAME() {}`, as a parser would build it.
 fn function(alloc: Global, name: &str) -> Result<Rc<ScriptFuncDef>, OutOfMemory> {
@@ -21,62 +23,36 @@ fn function(alloc: Global, name: &str) -> Result<Rc<ScriptFuncDef>, OutOfMemory>
     Ok(Rc::new(alloc, function)?)
 }
 
-/// A script of these functions.
-fn script(alloc: Global, source: &str, names: &[&str]) -> Result<AST, OutOfMemory> {
+/// A table of these functions.
+fn table(alloc: Global, names: &[&str]) -> Result<SharedLib, OutOfMemory> {
     let mut functions = Vec::new(alloc);
     for name in names {
         functions.push(function(alloc, name)?)?;
     }
-    let table = Rc::new(alloc, FnLib::from_functions(alloc, functions)?)?;
-    AST::new_with_source(Vec::new(alloc), table, source)
+    Ok(Rc::new(alloc, FnLib::from_functions(alloc, functions)?)?)
 }
 
-/// The names of its functions, in order.
-fn names(alloc: Global, script: &AST) -> Result<String, OutOfMemory> {
-    let mut text = String::new(alloc);
-    for function in script.shared_lib().iter() {
-        text.push_str(function.name.as_str())?;
-        text.push(' ')?;
-    }
-    Ok(text)
+/// A script of these functions.
+fn script(alloc: Global, source: &str, names: &[&str]) -> Result<AST, OutOfMemory> {
+    AST::new_with_source(Vec::new(alloc), table(alloc, names)?, source)
 }
 
-#[test]
-fn two_scripts_are_merged(rt: HostRuntime) -> Result<(), Fail> {
-    let alloc = rt.alloc();
-    let base = script(alloc, "base", &["start", "stop"])?;
-    let own = script(alloc, "own", &["log", "stop"])?;
-
-    let both = base.merge(&own)?; // a new script; the two stay as they are
-    assert_eq!(rt; names(alloc, &both)?.as_str(), "start stop log "); // `stop` is that of `own`
-    assert_eq!(rt; both.source(), Some("own"));
-    Ok(())
+fn merged(base: &AST, own: &AST) -> Result<AST, OutOfMemory> {
+    base.merge(own) // a new script; the two stay as they are
 }
 
-#[test]
-fn a_script_takes_another_in(rt: HostRuntime) -> Result<(), Fail> {
-    let alloc = rt.alloc();
-    let mut base = script(alloc, "base", &["start", "stop"])?;
-    base.combine(script(alloc, "own", &["log", "stop"])?)?; // refused, `base` is as it was
-    assert_eq!(rt; names(alloc, &base)?.as_str(), "start stop log ");
-    assert_eq!(rt; base.source(), Some("base"));
-    Ok(())
+fn combined(base: &mut AST, own: AST) -> Result<(), OutOfMemory> {
+    base.combine(own) // refused, `base` is as it was
 }
 
-#[test]
-fn functions_are_chosen_by_a_closure(rt: HostRuntime) -> Result<(), Fail> {
-    let alloc = rt.alloc();
-    let base = script(alloc, "base", &["start", "stop"])?;
-    let own = script(alloc, "own", &["log", "stop"])?;
-
+fn merged_by_choice(base: &AST, own: &AST) -> Result<AST, OutOfMemory> {
     // of the functions of `own` those that are not called `stop`
-    let mut both = base.merge_filtered(&own, |_, _, _, name, _| name != "stop")?;
-    assert_eq!(rt; names(alloc, &both)?.as_str(), "start stop log ");
+    base.merge_filtered(own, |_, _, _, name, _| name != "stop")
+}
 
+fn retained(script: &mut AST) -> Result<(), OutOfMemory> {
     // of all functions those without parameters that are called `log`
-    both.retain_functions(|_, _, name, params| name == "log" && params == 0)?;
-    assert_eq!(rt; names(alloc, &both)?.as_str(), "log ");
-    Ok(())
+    script.retain_functions(|_, _, name, params| name == "log" && params == 0)
 }
 
 /// `const limit = 10`, as a parser would build it.
@@ -92,33 +68,75 @@ fn constant(alloc: Global) -> Result<Stmt, OutOfMemory> {
 
 /// A script of that constant and two functions without statements.
 fn configuration(alloc: Global) -> Result<AST, OutOfMemory> {
-    let functions = vec![in alloc; function(alloc, "start")?, function(alloc, "stop")?]?;
-    let table = Rc::new(alloc, FnLib::from_functions(alloc, functions)?)?;
-    Ok(AST::new(vec![in alloc; constant(alloc)?]?, table))
+    let statements = vec![in alloc; constant(alloc)?]?;
+    Ok(AST::new(statements, table(alloc, &["start", "stop"])?))
 }
 
-#[test]
-fn a_script_is_read(rt: HostRuntime) -> Result<(), Fail> {
-    let alloc = rt.alloc();
-    let script = configuration(alloc)?;
-
-    let mut deepest = 0;
+/// How many nodes the longest path has: 2, the declaration and its value; the bodies have no nodes.
+fn longest_path(script: &AST) -> Result<usize, OutOfMemory> {
+    let mut longest = 0;
     script.walk(&mut |nodes: &[ASTNode]| {
-        deepest = nodes.len().max(deepest);
+        longest = nodes.len().max(longest);
         true
     })?;
-    assert_eq!(rt; deepest, 2); // the declaration and its value; the bodies have no nodes
+    Ok(longest)
+}
 
-    let mut names = String::new(alloc);
+/// The names of the functions, each after a blank: ` start stop`.
+fn push_names(script: &AST, names: &mut String) -> Result<(), OutOfMemory> {
     for function in script.iter_functions() {
-        names.push_str(function.name)?;
         names.push(' ')?;
-    }
-    assert_eq!(rt; names.as_str(), "start stop ");
-
-    for variable in script.iter_literal_variables(true, false) {
-        let (name, is_constant, value) = variable?;
-        assert!(rt; name == "limit" && is_constant && value == Dynamic::Int(10));
+        names.push_str(function.name)?;
     }
     Ok(())
+}
+
+/// The value of the first constant: 10.
+fn first_constant(script: &AST) -> Result<Option<Dynamic>, OutOfMemory> {
+    match script.iter_literal_variables(true, false).next() {
+        Some(constant) => Ok(Some(constant?.2)), // its name, whether it is a constant, its value
+        None => Ok(None),
+    }
+}
+
+/// Answers what the pieces give.
+pub fn answer(
+    alloc: Global,
+    question: &str,
+    name: &str,
+    answer: &mut String,
+) -> Result<(), Unread> {
+    match question {
+        "guide-tree" => guide_trees::answer(alloc, name, answer),
+        "guide-script" => of_script(&configuration(alloc)?, answer),
+        "guide-scripts" => {
+            let base = script(alloc, "base", &["start", "stop"])?;
+            of_scripts(base, script(alloc, "own", &["log", "stop"])?, answer)
+        }
+        _ => Err(Unread::Wanted("a question")),
+    }
+}
+
+fn of_script(script: &AST, answer: &mut String) -> Result<(), Unread> {
+    say_count(answer, "longest path", longest_path(script)?);
+    push_names(script, answer)?;
+    if let Some(value) = first_constant(script)? {
+        say_value(answer, &value);
+    }
+    Ok(())
+}
+
+fn of_scripts(mut base: AST, own: AST, answer: &mut String) -> Result<(), Unread> {
+    say_names("merged", &merged(&base, &own)?, answer)?;
+    say_names("by choice", &merged_by_choice(&base, &own)?, answer)?;
+    combined(&mut base, own)?;
+    say_names("combined", &base, answer)?;
+    retained(&mut base)?;
+    say_names("retained", &base, answer)
+}
+
+fn say_names(word: &str, script: &AST, answer: &mut String) -> Result<(), Unread> {
+    say_line(answer, word);
+    say(answer, script.source().unwrap_or("no source"));
+    Ok(push_names(script, answer)?)
 }

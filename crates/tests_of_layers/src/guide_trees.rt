@@ -1,5 +1,7 @@
 //! The pieces of docs/GUIDE.md on trees.
 
+use crate::nodes::say_literal;
+use crate::said::{say, say_count, say_if, say_place, say_value};
 use indexmap::IndexMap;
 use rhai_ast::{
     ASTNode, BinaryExpr, CaseBlocksList, Cases, Expr, ExprQueries, FlowControl, Literals,
@@ -8,7 +10,7 @@ use rhai_ast::{
 };
 use rhai_base::{ASTFlags, AstError, Boxed, Dynamic, INT, OutOfMemory, Position, RangeCase, Seq};
 use std::alloc::Global;
-use std::test::Fail;
+use tests_reader::Unread;
 
 /// `break 42`, as a parser would build it.
 fn leaving(alloc: Global) -> Result<Stmt, OutOfMemory> {
@@ -27,40 +29,38 @@ fn endless(alloc: Global) -> Result<Stmt, OutOfMemory> {
     Ok(Stmt::While(Boxed::new(alloc, flow)?, Position::new(1, 1)))
 }
 
-#[test]
-fn a_tree_is_built(rt: HostRuntime) -> Result<(), Fail> {
-    let statement = endless(rt.alloc())?;
-    assert!(rt; statement.position() == Position::new(1, 1));
-    assert!(rt; matches!(&statement, Stmt::While(flow, _) if flow.get().body.len() == 1));
-    Ok(())
-}
-
-#[test]
-fn a_tree_is_tested(rt: HostRuntime) -> Result<(), Fail> {
-    let alloc = rt.alloc();
-    let script = [endless(alloc)?];
-    assert!(rt; check_tree(alloc, &script, &[]).is_ok()); // no fault anywhere
-    assert!(rt; is_plain(&script, &[]));
-
-    let alone = [leaving(alloc)?]; // outside a loop
-    if let Err(fault) = check_tree(alloc, &alone, &[]) {
-        assert_eq!(rt; fault.number(), 24); // `BreakOutsideLoop`
+/// How many statements stand in the body of a loop: 1.
+fn body_length(statement: &Stmt) -> usize {
+    match statement {
+        Stmt::While(flow, _) => flow.get().body.len(),
+        _ => 0,
     }
-    assert!(rt; check_tree(alloc, &alone, &[]).is_err());
-    Ok(())
 }
 
-#[test]
-fn a_tree_is_asked(rt: HostRuntime) -> Result<(), Fail> {
-    let alloc = rt.alloc();
-    let statement = endless(alloc)?;
-    assert!(rt; statement.is_self_terminated() && !statement.is_pure());
-    assert!(rt; leaving(alloc)?.is_control_flow_break());
+/// Whether a tree has no fault and is plain: so it is of the loop.
+fn is_whole(alloc: Global, script: &[Stmt]) -> bool {
+    check_tree(alloc, script, &[]).is_ok() && is_plain(script, &[])
+}
 
-    let answer = Expr::IntegerConstant(42, Position::NONE);
-    assert!(rt; answer.is_constant() && answer.is_pure());
-    assert_eq!(rt; answer.get_literal_value(alloc)?, Some(Dynamic::Int(42)));
-    Ok(())
+/// The number of the first fault; 0 for none.
+fn first_fault(alloc: Global, script: &[Stmt]) -> u8 {
+    match check_tree(alloc, script, &[]) {
+        Ok(()) => 0,
+        Err(fault) => fault.number(), // of the `break` alone 24, `BreakOutsideLoop`
+    }
+}
+
+/// Whether a statement needs no semicolon and may do something: so it is of the loop.
+fn is_closed_and_impure(statement: &Stmt) -> bool {
+    statement.is_self_terminated() && !statement.is_pure()
+}
+
+/// The value of a literal: 42 of the expression behind the `break`.
+fn literal_value(alloc: Global, expr: &Expr) -> Result<Option<Dynamic>, OutOfMemory> {
+    if !expr.is_constant() || !expr.is_pure() {
+        return Ok(None);
+    }
+    expr.get_literal_value(alloc)
 }
 
 /// An arm without a condition.
@@ -92,15 +92,6 @@ fn table(
     Ok(SwitchCasesCollection::new(arms, cases, ranges, Some(default)))
 }
 
-#[test]
-fn a_table_is_made(rt: HostRuntime) -> Result<(), Fail> {
-    let alloc = rt.alloc();
-    assert!(rt; table(alloc, 2)?.is_ok());
-    assert!(rt; table(alloc, 0)?.is_err()); // `SwitchDefaultShared`: the case of 1 names that arm
-    assert!(rt; table(alloc, 3)?.is_err()); // `SwitchIndex`: there is no such arm
-    Ok(())
-}
-
 /// `switch () {}` with a default that is no arm.
 fn without_arms(alloc: Global) -> Result<Stmt, OutOfMemory> {
     let cases = SwitchCasesCollection {
@@ -116,51 +107,31 @@ fn without_arms(alloc: Global) -> Result<Stmt, OutOfMemory> {
     ))
 }
 
-#[test]
-fn a_table_by_hand_is_tested(rt: HostRuntime) -> Result<(), Fail> {
-    let alloc = rt.alloc();
-    let script = [without_arms(alloc)?];
-    if let Err(fault) = check_tree(alloc, &script, &[]) {
-        assert_eq!(rt; fault.number(), 31); // `SwitchTable`
-    }
-    assert!(rt; check_tree(alloc, &script, &[]).is_err());
-    Ok(())
-}
-
 /// `[1, 2]`
 fn pair(alloc: Global) -> Result<Dynamic, OutOfMemory> {
     Ok(Dynamic::Array(Seq::from_array(alloc, [Dynamic::Int(1), Dynamic::Int(2)])?))
 }
 
-#[test]
-fn a_constant_is_made_copied_and_put_elsewhere(rt: HostRuntime) -> Result<(), Fail> {
-    let alloc = rt.alloc();
-    let mut constant = Expr::from_dynamic(alloc, pair(alloc)?, Position::new(1, 1))?;
+/// The constant for a value in line 3, column 5, and a copy that stays in line 1, column 1.
+fn at_two_places(alloc: Global, value: Dynamic) -> Result<(Expr, Expr), OutOfMemory> {
+    let mut constant = Expr::from_dynamic(alloc, value, Position::new(1, 1))?;
     let copy = constant.clone()?; // positions too
     constant.set_position(Position::new(3, 5));
-    assert!(rt; constant.position() == Position::new(3, 5));
-    assert!(rt; copy.position() == Position::new(1, 1));
-    assert!(rt; copy.get_literal_value(alloc)? == Some(pair(alloc)?));
-    Ok(())
+    Ok((constant, copy))
 }
 
-#[test]
-fn a_tree_is_walked(rt: HostRuntime) -> Result<(), Fail> {
-    let alloc = rt.alloc();
-    let statement = endless(alloc)?;
+/// How many nodes the longest path has: 3, the loop, its `break`, and the 42.
+fn longest_path(alloc: Global, statement: &Stmt) -> Result<usize, OutOfMemory> {
     let mut path = Vec::new(alloc);
-
-    let mut deepest = 0;
-    let finished = statement.walk(
+    let mut longest = 0;
+    statement.walk(
         &mut path,
         &mut |nodes: &[ASTNode]| {
-            deepest = nodes.len().max(deepest);
+            longest = nodes.len().max(longest);
             true // go on
         },
     )?;
-    assert!(rt; finished && path.is_empty()); // all nodes were shown, and the path is as it was
-    assert_eq!(rt; deepest, 3); // the loop, its `break`, and the 42
-    Ok(())
+    Ok(longest) // all nodes were shown, and the path is as it was
 }
 
 /// Whether the last node of a path leaves a loop.
@@ -171,17 +142,70 @@ fn is_leaving(nodes: &[ASTNode]) -> bool {
     }
 }
 
-#[test]
-fn a_walk_is_stopped(rt: HostRuntime) -> Result<(), Fail> {
-    let alloc = rt.alloc();
-    let statement = endless(alloc)?;
+/// Where the walk stops: at line 1, column 8, the `break`, which is the path's last node.
+fn place_of_break(alloc: Global, statement: &Stmt) -> Result<Position, OutOfMemory> {
     let mut path = Vec::new(alloc);
-
     let finished = statement.walk(&mut path, &mut |nodes: &[ASTNode]| !is_leaving(nodes))?;
-    assert!(rt; !finished); // it stopped at the `break`, which is the path's last node
-    if let Some(node) = path.last() {
-        assert_eq!(rt; node.position(), Position::new(1, 8));
+    match path.as_slice() {
+        [_, node] if !finished => Ok(node.position()), // below the loop
+        _ => Ok(Position::NONE),
     }
-    assert_eq!(rt; path.len(), 2); // below the loop
+}
+
+/// Answers what the pieces give.
+pub fn answer(alloc: Global, name: &str, answer: &mut String) -> Result<(), Unread> {
+    match name {
+        "endless" => of_loop(alloc, &[endless(alloc)?], answer),
+        "leaving" => of_break(alloc, &[leaving(alloc)?], answer),
+        "without arms" => say_fault(alloc, &[without_arms(alloc)?], answer),
+        "constant" => of_constants(alloc, &at_two_places(alloc, pair(alloc)?)?, answer),
+        _ => of_table(alloc, name, answer),
+    }
+}
+
+fn of_loop(alloc: Global, script: &[Stmt], answer: &mut String) -> Result<(), Unread> {
+    if let [statement] = script {
+        say_place(answer, "at", statement.position());
+        say_count(answer, "body", body_length(statement));
+        say_if(answer, is_closed_and_impure(statement), "closed and impure");
+        say_count(answer, "longest path", longest_path(alloc, statement)?);
+        say_place(answer, "stopped at", place_of_break(alloc, statement)?);
+    }
+    say_fault(alloc, script, answer)
+}
+
+fn of_break(alloc: Global, script: &[Stmt], answer: &mut String) -> Result<(), Unread> {
+    if let [Stmt::BreakLoop(Some(expr), _, _)] = script {
+        say_literal_value(alloc, expr.get(), answer)?;
+    }
+    say_fault(alloc, script, answer)
+}
+
+fn say_literal_value(alloc: Global, expr: &Expr, answer: &mut String) -> Result<(), Unread> {
+    if let Some(value) = &literal_value(alloc, expr)? {
+        say_value(answer, value);
+    }
+    Ok(())
+}
+
+fn say_fault(alloc: Global, script: &[Stmt], answer: &mut String) -> Result<(), Unread> {
+    say_if(answer, is_whole(alloc, script), "whole");
+    say_count(answer, "fault", usize::from(first_fault(alloc, script)));
+    Ok(())
+}
+
+fn of_constants(alloc: Global, places: &(Expr, Expr), answer: &mut String) -> Result<(), Unread> {
+    say_place(answer, "at", places.0.position());
+    say_place(answer, "its copy at", places.1.position());
+    say_literal(alloc, &places.1, answer)
+}
+
+/// The table with the arm of this number as the default.
+fn of_table(alloc: Global, default: &str, answer: &mut String) -> Result<(), Unread> {
+    let default = default.parse::<usize>().or(Err(Unread::Wanted("an arm")))?;
+    match &table(alloc, default)? {
+        Ok(_) => say(answer, "made"),
+        Err(refusal) => say_count(answer, "refusal", usize::from(refusal.number())),
+    }
     Ok(())
 }

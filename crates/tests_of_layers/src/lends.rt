@@ -1,15 +1,14 @@
 //! Parts that are lent: each of these functions compiles only where what it gives is a part of what it was given, lent for as
 //! long, and not a copy. While a part is lent, a change of the whole does not compile.
 
-use crate::script_samples::key;
+use crate::said::{say, say_if};
 use rhai_ast::{ASTNode, Expr, ScriptFuncDef, Stmt, Walk};
 use rhai_base::{Dynamic, ImmutableString, OutOfMemory, Scope};
 use rhai_script::{AST, FnKey, FnLib};
 use rhai_script_queries::{ScriptFnMetadata, ScriptQueries};
 use std::alloc::Global;
 use std::rc::Rc;
-use std::test::Fail;
-use tests_reader::read_lines;
+use tests_reader::Unread;
 
 /// The first expression of a walk: a node outlives the path on which it stood.
 fn first_expression<'a>(
@@ -17,18 +16,13 @@ fn first_expression<'a>(
     statement: &'a Stmt,
 ) -> Result<Option<&'a Expr>, OutOfMemory> {
     let mut path = Vec::new(alloc);
-    statement.walk(&mut path, &mut |nodes: &[ASTNode]| are_statements(nodes))?;
-    Ok(path.pop().and_then(expression))
-}
-
-fn are_statements(nodes: &[ASTNode]) -> bool {
-    nodes.iter().all(|node| node.is_stmt())
-}
-
-fn expression<'a>(node: ASTNode<'a>) -> Option<&'a Expr> {
-    match node {
-        ASTNode::Expr(expr) => Some(expr),
-        ASTNode::Stmt(_) => None,
+    statement.walk(
+        &mut path,
+        &mut |nodes: &[ASTNode]| matches!(nodes.last(), Some(ASTNode::Stmt(_))),
+    )?;
+    match path.pop() {
+        Some(ASTNode::Expr(expr)) => Ok(Some(expr)),
+        _ => Ok(None),
     }
 }
 
@@ -60,18 +54,23 @@ fn first_entry<'a>(scope: &'a Scope) -> Option<(&'a str, bool, &'a Dynamic)> {
     scope.iter().next()
 }
 
-#[test]
-fn parts_outlive_what_found_them(rt: HostRuntime) -> Result<(), Fail> {
-    let alloc = rt.alloc();
-    let lib = Rc::new(alloc, FnLib::new(alloc))?;
-    let script = AST::new(read_lines(alloc, "const x = 1\n")?, lib);
-    let name = ImmutableString::new(alloc, "f")?;
-    assert!(rt; found(script.shared_lib(), key(name)).is_none());
-    assert!(rt; first_definition(&script).is_none() && first_metadata(&script).is_none());
-    assert_eq!(rt; first_variable(&script)?, Some("x"));
+/// Asks all of them of a script without functions, and an empty scope.
+pub fn lends(alloc: Global, script: &AST, answer: &mut String) -> Result<(), Unread> {
+    let key = FnKey {
+        name: ImmutableString::new(alloc, "f")?,
+        params: 1,
+        this_type: None,
+    };
+    let function = found(script.shared_lib(), key);
+    say_if(answer, function.is_none(), "no function found");
+    say_if(answer, first_definition(script).is_none(), "no definition");
+    say_if(answer, first_metadata(script).is_none(), "no metadata");
+    say(answer, first_variable(script)?.unwrap_or("no variable"));
     for statement in script.statements() {
-        assert!(rt; first_expression(alloc, statement)?.is_some());
+        let expr = first_expression(alloc, statement)?;
+        say_if(answer, expr.is_some(), "has an expression");
     }
-    assert!(rt; first_entry(&Scope::new(alloc)).is_none());
+    let is_empty = first_entry(&Scope::new(alloc)).is_none();
+    say_if(answer, is_empty, "no entry");
     Ok(())
 }

@@ -1,145 +1,204 @@
-//! Nodes that are copied, taken out of their places, made or left out, and what calls answer.
+//! What nodes answer, where they stand, their values and their parts.
 
+use crate::reading::Reader;
+use crate::said::{say, say_count, say_if, say_place, say_value};
+use crate::switches::{self, say_call, say_parts};
+use crate::trees::{self, say_fault};
+use crate::{values, walks};
+use bitflags::Flags;
 use rhai_ast::{
-    BinaryExpr, CallQueries, Expr, ExprQueries, FlowControl, FnCallExpr, IntoExpr, Stmt,
-    StmtQueries, SwitchBlock, Take,
+    BinaryExpr, Expr, ExprQueries, IntoExpr, Literals, SetPosition, Stmt, StmtQueries, Take,
 };
-use rhai_base::{OutOfMemory, Position};
+use rhai_base::{Boxed, Position, Seq, StringMap, Token};
 use std::alloc::Global;
-use std::test::Fail;
-use tests_reader::{Unread, read_expr, read_stmt};
+use tests_reader::Unread;
 
-/// Statements of parts.
-const PARTED: [&str; 4] = [
-    "if true { 1; 2 } else {}",
-    "switch 1 { 1: 0, 2: 1 | 3..5: 1 | default - | true => 1, x => 2 }",
-    "x = 1",
-    "call f(1)",
-];
-
-#[test]
-fn parts_are_copied(rt: HostRuntime) -> Result<(), Fail> {
-    for text in &PARTED {
-        assert!(rt; is_parted(rt.alloc(), text)?, "{text}");
-    }
-    Ok(())
-}
-
-fn is_parted(alloc: Global, text: &str) -> Result<bool, Unread> {
-    let statement = read_stmt(alloc, text)?;
-    Ok(are_copied(&statement)?)
-}
-
-fn are_copied(statement: &Stmt) -> Result<bool, OutOfMemory> {
-    match statement {
-        Stmt::If(flow, _) => is_flow_copied(flow.get()),
-        Stmt::Switch(switch, _) => is_switch_copied(switch.get()),
-        Stmt::Assignment(parts) => are_sides_copied(&parts.get().1),
-        Stmt::FnCall(call, _) => is_call_copied(call.get()),
-        _ => Ok(false),
-    }
-}
-
-fn is_flow_copied(flow: &FlowControl) -> Result<bool, OutOfMemory> {
-    let copy = flow.clone()?;
-    Ok(copy.expr.is_pure() && copy.body.len() == 2 && copy.branch.is_empty())
-}
-
-fn is_switch_copied(switch: &SwitchBlock) -> Result<bool, OutOfMemory> {
-    let copy = switch.clone()?;
-    Ok(
-        copy.expr.is_constant()
-            && copy.cases.expressions.len() == 2
-            && copy.cases.cases.as_map().len() == 2
-            && copy.cases.ranges.len() == 1
-            && copy.cases.def_case.is_none(),
-    )
-}
-
-fn are_sides_copied(sides: &BinaryExpr) -> Result<bool, OutOfMemory> {
-    let copy = sides.clone()?;
-    Ok(matches!(&copy.lhs, Expr::Variable(_, _, _)) && copy.rhs.is_constant())
-}
-
-fn is_call_copied(call: &FnCallExpr) -> Result<bool, OutOfMemory> {
-    let copy = call.clone()?;
-    Ok(copy.name.as_str() == "f" && copy.constant_args() && !copy.is_qualified())
-}
-
-#[test]
-fn nodes_that_are_left_out_are_nothing(rt: HostRuntime) {
-    assert!(rt; Expr::default().is_unit());
-    assert!(rt; Stmt::default().is_noop());
-    let sides = BinaryExpr::default();
-    assert!(rt; sides.lhs.is_unit() && sides.rhs.is_unit());
-}
-
-#[test]
-fn a_node_is_taken_out_of_its_place(rt: HostRuntime) -> Result<(), Fail> {
-    assert!(rt; is_expr_taken(rt.alloc())?);
-    assert!(rt; is_stmt_taken(rt.alloc())?);
-    Ok(())
-}
-
-fn is_expr_taken(alloc: Global) -> Result<bool, Unread> {
-    let mut expr = read_expr(alloc, "[1]")?;
-    let taken = expr.take();
-    Ok(expr.is_unit() && expr.position().is_none() && taken.is_constant() && !taken.is_unit())
-}
-
-fn is_stmt_taken(alloc: Global) -> Result<bool, Unread> {
-    let mut statement = read_stmt(alloc, "let x = 1")?;
-    let taken = statement.take();
-    Ok(statement.is_noop() && statement.position().is_none() && taken.is_block_dependent())
-}
-
-/// A call, whether it names modules, whether it is an operator's, and whether its arguments are constants.
-const CALLS: [(&str, bool, bool, bool); 5] = [
-    ("f()", false, false, true),
-    ("f(1, [2])", false, false, true),
-    ("f(1, x)", false, false, false),
-    ("m::f(1)", true, false, true),
-    ("+(1, 2)", false, true, true),
-];
-
-#[test]
-fn calls_answer(rt: HostRuntime) -> Result<(), Fail> {
-    for row in &CALLS {
-        assert!(rt; is_call_met(rt.alloc(), row)?, "{row:?}");
-    }
-    Ok(())
-}
-
-fn is_call_met(alloc: Global, row: &(&str, bool, bool, bool)) -> Result<bool, Unread> {
-    match read_expr(alloc, row.0)? {
-        Expr::FnCall(call, _) => {
-            let call = call.into_inner();
-            Ok(is_call(&call, *row) && is_moved(alloc, call, *row)?)
+pub fn answer(
+    reader: Reader,
+    question: &str,
+    text: &str,
+    answer: &mut String,
+) -> Result<(), Unread> {
+    match question {
+        "expr" | "expr-place" | "take-expr" | "literal" | "call" | "spoiled" => {
+            of_expr(reader.alloc, question, &mut reader.expr(text)?, answer)
         }
-        _ => Ok(false),
+        "stmt"
+        | "no-names"
+        | "stmt-place"
+        | "take-stmt"
+        | "parts"
+        | "nodes"
+        | "walk"
+        | "walk-below"
+        | "table"
+        | "cases"
+        | "block-of" => { of_stmt(reader.alloc, question, &mut reader.stmt(text)?, answer) }
+        _ => values::answer(reader, question, text, answer),
     }
 }
 
-fn is_call(call: &FnCallExpr, row: (&str, bool, bool, bool)) -> bool {
-    let (text, is_qualified, is_operator, is_constant) = row;
-    text.contains(call.name.as_str())
-        && call.is_qualified() == is_qualified
-        && call.is_operator_call() == is_operator
-        && call.constant_args() == is_constant
-}
-
-/// Whether the call is an expression of the same parts, where it is wanted.
-fn is_moved(
+fn of_expr(
     alloc: Global,
-    call: FnCallExpr,
-    row: (&str, bool, bool, bool),
-) -> Result<bool, OutOfMemory> {
-    let wanted = Position::new(2, 5);
-    let args = call.args.len();
-    match call.into_fn_call_expr(alloc, wanted)? {
-        Expr::FnCall(call, pos) => {
-            Ok(pos == wanted && call.get().args.len() == args && is_call(call.get(), row))
+    question: &str,
+    expr: &mut Expr,
+    answer: &mut String,
+) -> Result<(), Unread> {
+    match question {
+        "expr" => {
+            say_expr(expr, answer);
+            say_followers(expr, ". ?. [ ?[", false, answer);
+            say_followers(expr, "( () ! :: = +", true, answer);
         }
-        _ => Ok(false),
+        "expr-place" => expr_place(expr, answer),
+        "take-expr" => take_expr(expr, answer),
+        "literal" => return say_literal(alloc, expr, answer),
+        "call" => return call(alloc, expr, answer),
+        _ => return spoiled(alloc, expr, answer),
     }
+    Ok(())
+}
+
+fn of_stmt(
+    alloc: Global,
+    question: &str,
+    statement: &mut Stmt,
+    answer: &mut String,
+) -> Result<(), Unread> {
+    match question {
+        "stmt" => say_stmt(statement, answer),
+        "stmt-place" => {
+            say_place(answer, "at", statement.position());
+            let moved = statement.set_position(Position::new(1, 99));
+            say_place(answer, "then", moved.position());
+        }
+        "no-names" => no_names(alloc, statement, answer),
+        "take-stmt" => take_stmt(statement, answer),
+        "nodes" => walks::say_nodes(statement, answer),
+        "parts" => return say_parts(statement, answer),
+        "block-of" => return trees::block_of(alloc, statement.take(), answer),
+        "table" | "cases" => return switches::answer(alloc, question, statement.take(), answer),
+        _ => return walks::say_walk_of(alloc, question, statement, answer),
+    }
+    Ok(())
+}
+
+pub fn say_expr(expr: &Expr, answer: &mut String) {
+    say_if(answer, expr.is_constant(), "constant");
+    say_if(answer, expr.is_pure(), "pure");
+    say_if(answer, expr.is_unit(), "unit");
+    say_count(answer, "flags", usize::from(expr.options().bits()));
+}
+
+/// Says which of these tokens may follow, or may not.
+fn say_followers(expr: &Expr, tokens: &str, may: bool, answer: &mut String) {
+    for text in tokens.split(' ') {
+        if let Some(token) = Token::lookup_symbol_from_syntax(text) {
+            say_if(answer, expr.is_valid_postfix(&token) == may, text);
+        }
+    }
+}
+
+pub fn say_stmt(statement: &Stmt, answer: &mut String) {
+    say_if(answer, statement.is_noop(), "nothing");
+    say_if(answer, statement.is_pure(), "pure");
+    say_if(answer, statement.is_internally_pure(), "inside");
+    say_if(answer, statement.is_block_dependent(), "dependent");
+    say_if(answer, statement.is_control_flow_break(), "leaves");
+    say_if(answer, statement.returns_value(), "value");
+    say_if(answer, statement.is_self_terminated(), "closed");
+    say_count(answer, "flags", usize::from(statement.options().bits()));
+}
+
+fn expr_place(expr: &mut Expr, answer: &mut String) {
+    say_place(answer, "at", expr.position());
+    say_place(answer, "from", expr.start_position());
+    let moved = expr.set_position(Position::new(1, 99));
+    say_place(answer, "then", moved.position());
+}
+
+fn take_expr(expr: &mut Expr, answer: &mut String) {
+    let taken = expr.take();
+    say_if(answer, taken.is_constant(), "constant");
+    say_if(answer, taken.is_unit(), "unit");
+    say_if(answer, expr.is_unit(), "leaves unit");
+    say_place(answer, "at", expr.position());
+}
+
+/// Takes the names away that closures share.
+fn no_names(alloc: Global, statement: &mut Stmt, answer: &mut String) {
+    if let Stmt::Share(names) = statement {
+        *names.get_mut() = Seq::new(alloc);
+    }
+    say_place(answer, "at", statement.position());
+}
+
+fn take_stmt(statement: &mut Stmt, answer: &mut String) {
+    let taken = statement.take();
+    say_if(answer, taken.is_block_dependent(), "dependent");
+    say_if(answer, statement.is_noop(), "leaves noop");
+    say_place(answer, "at", statement.position());
+}
+
+/// Nodes that are left out.
+pub fn defaults(answer: &mut String) {
+    say_if(answer, Expr::default().is_unit(), "unit");
+    say_if(answer, Stmt::default().is_noop(), "noop");
+    let sides = BinaryExpr::default();
+    say_if(
+        answer,
+        sides.lhs.is_unit() && sides.rhs.is_unit(),
+        "both units",
+    );
+}
+
+pub fn say_literal(alloc: Global, expr: &Expr, answer: &mut String) -> Result<(), Unread> {
+    let is_constant = expr.is_constant();
+    say_if(answer, is_constant, "constant");
+    let has_value = has_value(alloc, expr)?;
+    say_if(answer, has_value != is_constant, "otherwise by its value");
+    match &expr.get_literal_value(alloc)? {
+        Some(value) => say_value(answer, value),
+        None => say(answer, "no literal"),
+    }
+    Ok(())
+}
+
+fn has_value(alloc: Global, expr: &Expr) -> Result<bool, Unread> {
+    Ok(expr.constant_value(alloc)?.is_some())
+}
+
+/// A call, and the expression of the same parts that is wanted elsewhere.
+fn call(alloc: Global, expr: &mut Expr, answer: &mut String) -> Result<(), Unread> {
+    let Expr::FnCall(call, _) = expr.take() else {
+        return Err(Unread::Wanted("a call"));
+    };
+    let call = call.into_inner();
+    say_call(&call, answer);
+    if let Expr::FnCall(moved, pos) = &call.into_fn_call_expr(alloc, Position::new(2, 5))? {
+        say_place(answer, "at", *pos);
+        say_call(moved.get(), answer);
+    }
+    Ok(())
+}
+
+/// The fault of an expression in which something is wrong that no text shows.
+fn spoiled(alloc: Global, expr: &mut Expr, answer: &mut String) -> Result<(), Unread> {
+    spoil(alloc, expr)?;
+    let statement = Stmt::Expr(Boxed::new(alloc, expr.take())?);
+    say_fault(alloc, &[statement], &[], answer);
+    Ok(())
+}
+
+/// Takes the keys of a map's template away, all operands but one, or gives a method the token of an operator.
+fn spoil(alloc: Global, expr: &mut Expr) -> Result<(), Unread> {
+    match expr {
+        Expr::Map(map, _) => map.get_mut().1 = StringMap::new(alloc),
+        Expr::FnCall(call, pos) => {
+            call.get_mut().args = Seq::from_array(alloc, [Expr::Unit(*pos)])?;
+        }
+        Expr::MethodCall(call, _) => call.get_mut().op_token = Some(Token::Plus),
+        _ => {}
+    }
+    Ok(())
 }

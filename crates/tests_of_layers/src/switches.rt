@@ -1,93 +1,29 @@
-//! Tables of `switch`.
+//! Tables of `switch`, and copies of parts of statements.
 
+use crate::said::{put, say, say_count, say_if, say_value};
 use indexmap::IndexMap;
-use rhai_ast::{CaseBlocksList, Cases, Stmt, SwitchCases, SwitchCasesCollection};
-use rhai_base::{AstError, Dynamic, OutOfMemory, Seq};
+use rhai_ast::{
+    BinaryExpr, CallQueries, Cases, Expr, ExprQueries, FlowControl, FnCallExpr, Stmt, SwitchBlock,
+    SwitchCases, SwitchCasesCollection,
+};
+use rhai_base::AstError;
 use std::alloc::Global;
-use std::test::Fail;
-use tests_reader::{Unread, read_stmt};
+use tests_reader::Unread;
 
-/// How many arms, cases and ranges a table has, and its default.
-type Counts = (usize, usize, usize, Option<usize>);
-
-/// Tables that are made.
-const MADE: [(&str, Counts); 2] = [
-    (
-        "switch x { 1: 0 | 5..8: 0 | default - | true => () }",
-        (1, 1, 1, None),
-    ),
-    (
-        "switch x { 1: 1 | 5..8: 1 | default 0 | true => (), true => () }",
-        (2, 1, 1, Some(0)),
-    ),
-];
-
-/// Tables that are refused, and why.
-const REFUSED: [(&str, AstError); 8] = [
-    (
-        "switch x { Fn(f): 9 |  | default - | true => () }",
-        AstError::SwitchKey,
-    ),
-    (
-        "switch x { 1: 1 |  | default - | true => () }",
-        AstError::SwitchIndex,
-    ),
-    (
-        "switch x {  | 5..8: 3 | default - | true => (), true => (), true => () }",
-        AstError::SwitchIndex,
-    ),
-    (
-        "switch x {  |  | default 1 | true => () }",
-        AstError::SwitchIndex,
-    ),
-    (
-        "switch x {  | 5..8: 1 | default 0 | false => (), true => () }",
-        AstError::SwitchDefaultCondition,
-    ),
-    (
-        "switch x {  | 5..8: 0 | default 0 | false => () }",
-        AstError::SwitchDefaultCondition,
-    ),
-    (
-        "switch x {  | 5..8: 0 | default 0 | true => (), true => () }",
-        AstError::SwitchDefaultShared,
-    ),
-    (
-        "switch x { 1: 0 |  | default 0 | true => () }",
-        AstError::SwitchDefaultShared,
-    ),
-];
-
-#[test]
-fn refuses_in_order(rt: HostRuntime) -> Result<(), Fail> {
-    for (text, counts) in &MADE {
-        assert!(rt; is_made(rt.alloc(), text, *counts)?, "{text}");
-    }
-    for (text, refusal) in &REFUSED {
-        assert!(rt; is_refused(rt.alloc(), text, *refusal)?, "{text}");
-    }
-    Ok(())
-}
-
-fn is_made(alloc: Global, text: &str, counts: Counts) -> Result<bool, Unread> {
-    match made(read_table(alloc, text)?) {
-        Ok(table) => Ok(has(&table, counts) && is_copied(&table, counts)?),
-        Err(_) => Ok(false),
-    }
-}
-
-fn is_refused(alloc: Global, text: &str, wanted: AstError) -> Result<bool, Unread> {
-    match made(read_table(alloc, text)?) {
-        Ok(_) => Ok(false),
-        Err(refusal) => Ok(refusal == wanted),
-    }
-}
-
-/// The table of a `switch`, as it is written.
-fn read_table(alloc: Global, text: &str) -> Result<SwitchCasesCollection, Unread> {
-    match read_stmt(alloc, text)? {
-        Stmt::Switch(switch, _) => Ok(switch.into_inner().cases),
-        _ => Err(Unread::Wanted("a switch")),
+/// What is asked of the table of a `switch`.
+pub fn answer(
+    alloc: Global,
+    question: &str,
+    statement: Stmt,
+    answer: &mut String,
+) -> Result<(), Unread> {
+    let Stmt::Switch(switch, _) = statement else {
+        return Err(Unread::Wanted("a switch"));
+    };
+    let table = switch.into_inner().cases;
+    match question {
+        "cases" => cases(alloc, table.cases, answer),
+        _ => say_made(&made(table), answer),
     }
 }
 
@@ -107,60 +43,90 @@ fn made(table: SwitchCasesCollection) -> Result<SwitchCasesCollection, AstError>
     )
 }
 
-fn is_copied(table: &SwitchCasesCollection, counts: Counts) -> Result<bool, OutOfMemory> {
-    let copy = table.clone()?;
-    Ok(has(&copy, counts))
-}
-
-fn has(table: &SwitchCasesCollection, counts: Counts) -> bool {
-    let (arms, cases, ranges, default) = counts;
-    table.expressions.len() == arms
-        && table.cases.as_map().len() == cases
-        && table.ranges.len() == ranges
-        && table.def_case == default
-}
-
-/// Cases of which the last has the key of the first.
-const ORDER: &str = "switch x { 2: 0, 1: 1, 2: 1 |  | default - |  }";
-
-#[test]
-fn keeps_the_cases_in_order(rt: HostRuntime) -> Result<(), Fail> {
-    let cases = read_table(rt.alloc(), ORDER)?.cases;
-    assert!(rt; are_in_order(&cases)? && are_put_back(rt.alloc(), cases));
+/// Says what a table and its copy have.
+fn say_made(
+    made: &Result<SwitchCasesCollection, AstError>,
+    answer: &mut String,
+) -> Result<(), Unread> {
+    match made {
+        Ok(table) => {
+            say_table(table, answer);
+            put(answer, ";");
+            say_table(&table.clone()?, answer);
+        }
+        Err(refusal) => say_count(answer, "refusal", usize::from(refusal.number())),
+    }
     Ok(())
 }
 
-fn are_in_order(cases: &Cases) -> Result<bool, OutOfMemory> {
-    let copy = cases.clone()?;
-    Ok(is_in_order(cases) && is_in_order(&copy))
-}
-
-/// Whether the map of cases is taken out for another, put back, and given up.
-fn are_put_back(alloc: Global, mut cases: Cases) -> bool {
-    let taken = cases.replace_map(IndexMap::new(alloc));
-    let is_empty = cases.as_map().is_empty();
-    let other = cases.replace_map(taken);
-    is_empty && other.is_empty() && is_in_order(&cases) && cases.into_map().len() == 2
-}
-
-/// Whether the case of 2 comes first, with the arm that it was given last.
-fn is_in_order(cases: &Cases) -> bool {
-    match cases.as_map().get_index(0) {
-        Some((key, list)) => {
-            matches!(key, Dynamic::Int(2)) && list.blocks.as_slice() == [1].as_slice()
-        }
-        None => false,
+fn say_table(table: &SwitchCasesCollection, answer: &mut String) {
+    say_count(answer, "arms", table.expressions.len());
+    say_count(answer, "cases", table.cases.as_map().len());
+    say_count(answer, "ranges", table.ranges.len());
+    match table.def_case {
+        Some(arm) => say_count(answer, "default", arm),
+        None => say(answer, "no default"),
     }
 }
 
-#[test]
-fn copies_a_case(rt: HostRuntime) -> Result<(), Fail> {
-    let blocks = Seq::from_slice(rt.alloc(), &[7])?;
-    assert!(rt; is_case_copied(&CaseBlocksList { blocks })?);
+/// The cases of a table, and of a copy; the map of them is taken out for another, and put back.
+fn cases(alloc: Global, mut cases: Cases, answer: &mut String) -> Result<(), Unread> {
+    say_cases(&cases, answer)?;
+    say_cases(&cases.clone()?, answer)?;
+    let taken = cases.replace_map(IndexMap::new(alloc));
+    say_count(answer, "taken out", cases.as_map().len());
+    let other = cases.replace_map(taken);
+    say_count(answer, "put back", other.len());
+    say_cases(&cases, answer)?;
+    say_count(answer, "of", cases.into_map().len());
     Ok(())
 }
 
-fn is_case_copied(list: &CaseBlocksList) -> Result<bool, OutOfMemory> {
-    let copy = list.clone()?;
-    Ok(copy.blocks.as_slice() == [7].as_slice() && list.blocks.len() == 1)
+fn say_cases(cases: &Cases, answer: &mut String) -> Result<(), Unread> {
+    for (key, list) in cases.as_map().iter() {
+        say_value(answer, key);
+        for arm in list.clone()?.blocks.as_slice() {
+            say_count(answer, "arm", *arm);
+        }
+        say_count(answer, "of", list.blocks.len());
+    }
+    put(answer, ";");
+    Ok(())
+}
+
+/// Says what a copy of a statement's parts is.
+pub fn say_parts(statement: &Stmt, answer: &mut String) -> Result<(), Unread> {
+    match statement {
+        Stmt::If(flow, _) => say_flow(&flow.get().clone()?, answer),
+        Stmt::Switch(switch, _) => say_switch(&switch.get().clone()?, answer),
+        Stmt::Assignment(parts) => say_sides(&parts.get().1.clone()?, answer),
+        Stmt::FnCall(call, _) => say_call(&call.get().clone()?, answer),
+        _ => {}
+    }
+    Ok(())
+}
+
+fn say_flow(flow: &FlowControl, answer: &mut String) {
+    say_if(answer, flow.expr.is_pure(), "pure");
+    say_count(answer, "body", flow.body.len());
+    say_if(answer, flow.branch.is_empty(), "no branch");
+}
+
+fn say_switch(switch: &SwitchBlock, answer: &mut String) {
+    say_if(answer, switch.expr.is_constant(), "constant");
+    say_table(&switch.cases, answer);
+}
+
+fn say_sides(sides: &BinaryExpr, answer: &mut String) {
+    let is_variable = matches!(&sides.lhs, Expr::Variable(_, _, _));
+    say_if(answer, is_variable, "variable");
+    say_if(answer, sides.rhs.is_constant(), "constant");
+}
+
+pub fn say_call(call: &FnCallExpr, answer: &mut String) {
+    say(answer, call.name.as_str());
+    say_count(answer, "of", call.args.len());
+    say_if(answer, call.is_qualified(), "qualified");
+    say_if(answer, call.is_operator_call(), "operator");
+    say_if(answer, call.constant_args(), "constant");
 }

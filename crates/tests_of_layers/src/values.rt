@@ -1,161 +1,220 @@
-//! Values: their types' names, texts, copies, equality, and which can be keys.
+//! Values, their constants, operators and ranges, and scopes.
 
-use crate::operators::is_written;
-use rhai_base::{Dynamic, FnPtr, ImmutableString, OutOfMemory};
+use crate::nodes::say_literal;
+use crate::reading::Reader;
+use crate::said::{put, say, say_count, say_if, say_inner, say_place, say_value};
+use crate::tokens::{self, operator};
+use rhai_ast::{Expr, ExprQueries, Literals};
+use rhai_base::{
+    Dynamic, Fault, FnPtr, ImmutableString, OutOfMemory, Position, RangeCase, Scope,
+    builtin_binary_op, builtin_unary_op,
+};
 use std::alloc::Global;
-use std::test::Fail;
-use tests_reader::{Unread, read_value};
+use tests_reader::Unread;
 
-/// A value in print, the name of its type, its text, how an array writes it, and whether it can be a key.
-type Row = (&'static str, &'static str, &'static str, &'static str, bool);
-
-const ROWS: [Row; 14] = [
-    ("()", "()", "", "()", true),
-    ("false", "bool", "false", "false", true),
-    (
-        "-9223372036854775808",
-        "i64",
-        "-9223372036854775808",
-        "-9223372036854775808",
-        true,
-    ),
-    ("'c'", "char", "c", "'c'", true),
-    ("\"a\"", "string", "a", "\"a\"", true),
-    ("[]", "array", "[]", "[]", true),
-    (
-        "[1, \"a\", 'c', ()]",
-        "array",
-        "[1, \"a\", 'c', ()]",
-        "[1, \"a\", 'c', ()]",
-        true,
-    ),
-    ("#{}", "map", "#{}", "#{}", true),
-    (
-        "#{\"b\": 2, \"a\": 1}",
-        "map",
-        "#{\"a\": 1, \"b\": 2}",
-        "#{\"a\": 1, \"b\": 2}",
-        true,
-    ),
-    ("Fn(f)", "Fn", "Fn(f)", "Fn(f)", false),
-    ("[Fn(f)]", "array", "[Fn(f)]", "[Fn(f)]", false),
-    (
-        "#{\"k\": Fn(f)}",
-        "map",
-        "#{\"k\": Fn(f)}",
-        "#{\"k\": Fn(f)}",
-        false,
-    ),
-    ("-1..2", "range", "-1..2", "-1..2", true),
-    ("1..=2", "range=", "1..=2", "1..=2", true),
-];
-
-/// The same of a pointer to `f` with a value of its first parameter.
-const CURRIED: Row = ("", "Fn", "Fn(f)", "Fn(f)", false);
-
-/// Values that are not equal.
-const DIFFERENT: [(&str, &str); 5] = [
-    ("[1, \"a\", 'c', ()]", "()"),
-    ("#{\"a\": 1}", "#{\"b\": 1}"),
-    ("#{\"a\": 1}", "#{\"a\": 2}"),
-    ("1..2", "1..=2"),
-    ("1..2", "1..3"),
-];
-
-#[test]
-fn describes_each_kind(rt: HostRuntime) -> Result<(), Fail> {
-    for row in &ROWS {
-        assert!(rt; is_met(rt.alloc(), row)?, "{row:?}");
+pub fn answer(
+    reader: Reader,
+    question: &str,
+    text: &str,
+    answer: &mut String,
+) -> Result<(), Unread> {
+    match question {
+        "value" | "constant" | "range" | "integers" => {
+            of_value(reader.alloc, question, &reader.value(text)?, answer)
+        }
+        "equal" | "holds" => of_array(reader.alloc, question, &reader.value(text)?, answer),
+        "operate" => {
+            let (symbol, operands) = text.split_once(' ').unwrap_or((text, ""));
+            of_array(reader.alloc, symbol, &reader.value(operands)?, answer)
+        }
+        "scope" => scope(reader.alloc, answer),
+        _ => tokens::answer(reader, question, text, answer),
     }
-    Ok(())
 }
 
-fn is_met(alloc: Global, row: &Row) -> Result<bool, Unread> {
-    let value = read_value(alloc, row.0)?;
-    Ok(is_described(alloc, &value, row)?)
-}
-
-fn is_described(alloc: Global, value: &Dynamic, row: &Row) -> Result<bool, OutOfMemory> {
-    let (_, type_name, text, inner, is_key) = *row;
-    Ok(
-        value.type_name() == type_name
-            && value.is_hashable() == is_key
-            && is_text(alloc, value, text)?
-            && is_written(alloc, value, inner)?
-            && is_copied(value)?,
-    )
-}
-
-fn is_text(alloc: Global, value: &Dynamic, text: &str) -> Result<bool, OutOfMemory> {
-    Ok(value.text_of(alloc)?.as_str() == text)
-}
-
-fn is_copied(value: &Dynamic) -> Result<bool, OutOfMemory> {
-    let copy = value.clone()?;
-    Ok(copy.is_equal(value) && copy == *value)
-}
-
-#[test]
-fn appends_texts(rt: HostRuntime) -> Result<(), Fail> {
-    let mut text = String::new(rt.alloc());
-    Dynamic::Char('é').push_text(&mut text)?;
-    Dynamic::Int(2).push_text(&mut text)?;
-    Dynamic::Unit.push_inner(&mut text)?;
-    assert!(rt; text.as_str() == "é2()");
-    Ok(())
-}
-
-#[test]
-fn compares_types_and_parts(rt: HostRuntime) -> Result<(), Fail> {
-    for (one, other) in &DIFFERENT {
-        assert!(rt; are_different(rt.alloc(), one, other)?, "{one}");
+fn of_value(
+    alloc: Global,
+    question: &str,
+    value: &Dynamic,
+    answer: &mut String,
+) -> Result<(), Unread> {
+    match question {
+        "value" => describe(alloc, value, answer),
+        "constant" => constant(alloc, value, answer),
+        "range" => measure(&range(value)?, answer),
+        _ => {
+            integers(range(value)?, answer);
+            Ok(())
+        }
     }
-    Ok(())
 }
 
-fn are_different(alloc: Global, one: &str, other: &str) -> Result<bool, Unread> {
-    let one = read_value(alloc, one)?;
-    differs(alloc, &one, other)
+fn describe(alloc: Global, value: &Dynamic, answer: &mut String) -> Result<(), Unread> {
+    say(answer, value.type_name());
+    put(answer, ": \"");
+    put(answer, value.text_of(alloc)?.as_str());
+    put(answer, "\" in an array");
+    say_inner(answer, value);
+    say_if(answer, value.is_hashable(), "a key");
+    match value {
+        Dynamic::FnPtr(pointer) => say_pointer(pointer, answer),
+        _ => Ok(()),
+    }
 }
 
-fn differs(alloc: Global, value: &Dynamic, other: &str) -> Result<bool, Unread> {
-    let other = read_value(alloc, other)?;
-    Ok(*value != other && !value.is_equal(&other))
-}
-
-#[test]
-fn points_to_functions(rt: HostRuntime) -> Result<(), Fail> {
-    assert!(rt; is_no_name(rt.alloc(), "1a")?);
-    let pointer = curried(rt.alloc())?;
-    assert!(rt; is_curried(&pointer)?);
-    assert!(rt; is_value(rt.alloc(), Dynamic::FnPtr(pointer))?);
-    Ok(())
-}
-
-fn is_no_name(alloc: Global, name: &str) -> Result<bool, OutOfMemory> {
-    let name = ImmutableString::new(alloc, name)?;
-    Ok(FnPtr::new(alloc, name).is_none())
-}
-
-/// A pointer to `f` with a value of its first parameter.
-pub fn curried(alloc: Global) -> Result<FnPtr, Fail> {
-    let name = ImmutableString::new(alloc, "f")?;
-    let mut pointer = FnPtr::new(alloc, name).ok_or("f")?;
-    pointer.add_curry(Dynamic::Int(1))?;
-    Ok(pointer)
-}
-
-/// Whether it has its name and its value, and a copy too.
-fn is_curried(pointer: &FnPtr) -> Result<bool, OutOfMemory> {
+fn say_pointer(pointer: &FnPtr, answer: &mut String) -> Result<(), Unread> {
+    say(answer, "to");
+    say(answer, pointer.fn_name());
+    say_if(answer, pointer.is_curried(), "with");
+    for value in pointer.curry() {
+        say_value(answer, value);
+    }
     let copy = pointer.clone()?;
-    Ok(copy == *pointer && has_one(pointer) && copy.into_name().as_str() == "f")
+    say_if(answer, copy == *pointer, "as its copy");
+    say(answer, copy.into_name().as_str());
+    Ok(())
 }
 
-fn has_one(pointer: &FnPtr) -> bool {
-    pointer.fn_name() == "f" && pointer.is_curried() && matches!(pointer.curry(), [Dynamic::Int(1)])
+/// Says what the constant for a value is.
+fn constant(alloc: Global, value: &Dynamic, answer: &mut String) -> Result<(), Unread> {
+    let expr = Expr::from_dynamic(alloc, value.clone()?, Position::new(2, 5))?;
+    say_kind(&expr, answer);
+    say_literal(alloc, &expr, answer)
 }
 
-/// Whether the pointer is described as a value, and differs from one without a value of its own.
-fn is_value(alloc: Global, value: Dynamic) -> Result<bool, Unread> {
-    Ok(is_described(alloc, &value, &CURRIED)? && differs(alloc, &value, "Fn(f)")?)
+fn say_kind(expr: &Expr, answer: &mut String) {
+    say_place(answer, "at", expr.position());
+    say_if(
+        answer,
+        matches!(expr, Expr::DynamicConstant(_, _)),
+        "of any value",
+    );
+    if let Expr::FnCall(call, _) = expr
+        && let [Expr::StringConstant(name, pos)] = call.get().args.as_slice()
+    {
+        say(answer, "a call with");
+        say(answer, name.as_str());
+        say_place(answer, "at", *pos);
+    }
+}
+
+/// What is asked of values in an array: whether two are equal, which of them stand in the first, which is a range, and what
+/// an operator makes of one or two of them.
+fn of_array(
+    alloc: Global,
+    question: &str,
+    values: &Dynamic,
+    answer: &mut String,
+) -> Result<(), Unread> {
+    let Dynamic::Array(values) = values else {
+        return Err(Unread::Wanted("an array"));
+    };
+    match (question, values.as_slice()) {
+        ("equal", [one, other]) => say_equal(one, other, answer),
+        ("holds", [first, others @ ..]) => holds(&range(first)?, others, answer),
+        (symbol, [x, y]) => return say_binary(alloc, symbol, x, y, answer),
+        (symbol, [x]) => return say_unary(symbol, x, answer),
+        _ => {}
+    }
+    Ok(())
+}
+
+fn say_equal(one: &Dynamic, other: &Dynamic, answer: &mut String) {
+    let is_equal = *one == *other;
+    say(answer, if is_equal { "equal" } else { "different" });
+    say_if(answer, one.is_equal(other) != is_equal, "or not");
+}
+
+fn say_binary(
+    alloc: Global,
+    symbol: &str,
+    x: &Dynamic,
+    y: &Dynamic,
+    answer: &mut String,
+) -> Result<(), Unread> {
+    let op = operator(symbol).ok_or(Unread::Wanted("an operator"))?;
+    match &builtin_binary_op(alloc, &op, x, y)? {
+        Some(Ok(value)) => say_inner(answer, value),
+        Some(Err(Fault::Arithmetic)) => say(answer, "arithmetic fault"),
+        None => say(answer, "no entry"),
+    }
+    Ok(())
+}
+
+fn say_unary(symbol: &str, x: &Dynamic, answer: &mut String) -> Result<(), Unread> {
+    let op = operator(symbol).ok_or(Unread::Wanted("an operator"))?;
+    match &builtin_unary_op(&op, x) {
+        Some(value) => say_inner(answer, value),
+        None => say(answer, "no entry"),
+    }
+    Ok(())
+}
+
+fn range(value: &Dynamic) -> Result<RangeCase, Unread> {
+    match value {
+        Dynamic::Range(start, end) => Ok(RangeCase::from(*start..*end)),
+        Dynamic::RangeInclusive(start, end) => Ok(RangeCase::from(*start..=*end)),
+        _ => Err(Unread::Wanted("a range")),
+    }
+}
+
+/// How many integers a range has, and a copy that is given an arm.
+fn measure(range: &RangeCase, answer: &mut String) -> Result<(), Unread> {
+    say_if(answer, range.is_empty(), "empty");
+    match range.checked_len() {
+        Some(length) => say_inner(answer, &Dynamic::Int(length)),
+        None => say(answer, "too long"),
+    }
+    let mut copy = range.clone()?;
+    copy.set_index(4);
+    say_if(
+        answer,
+        copy.checked_len() != range.checked_len(),
+        "and its copy not",
+    );
+    say_count(answer, "arm", copy.index());
+    say_if(answer, range.index() != usize::MAX, "of both");
+    Ok(())
+}
+
+/// Says which of the values stand in a range; of an integer also by its number.
+fn holds(range: &RangeCase, values: &[Dynamic], answer: &mut String) {
+    say_if(answer, range.is_inclusive(), "inclusive");
+    for value in values {
+        if range.contains(value) {
+            say_inner(answer, value);
+        }
+        if let Dynamic::Int(integer) = value {
+            say_if(answer, range.contains_int(*integer), "(integer)");
+        }
+    }
+}
+
+/// The first five integers; past the end a line for each.
+fn integers(range: RangeCase, answer: &mut String) {
+    let mut integers = range.into_iter();
+    for _ in 0..5 {
+        match integers.next() {
+            Some(integer) => say_inner(answer, &Dynamic::Int(integer)),
+            None => say(answer, "-"),
+        }
+    }
+}
+
+/// A scope of a variable and a constant.
+fn scope(alloc: Global, answer: &mut String) -> Result<(), Unread> {
+    let mut scope = Scope::new(alloc);
+    declare(alloc, &mut scope)?;
+    say_count(answer, "names", scope.len());
+    for (name, is_constant, value) in scope.iter() {
+        say_if(answer, is_constant, "const");
+        say(answer, name);
+        say_value(answer, value);
+    }
+    Ok(())
+}
+
+fn declare(alloc: Global, scope: &mut Scope) -> Result<(), OutOfMemory> {
+    scope.push(ImmutableString::new(alloc, "x")?, Dynamic::Int(1))?;
+    scope.push_constant(ImmutableString::new(alloc, "k")?, Dynamic::Unit)
 }
