@@ -108,31 +108,49 @@ pub fn answer(
 ) -> Result<(), Unread> {
     match question {
         "guide-tree" => guide_trees::answer(alloc, name, answer),
-        "guide-script" => of_script(&configuration(alloc)?, answer),
-        "guide-scripts" => {
-            let base = script(alloc, "base", &["start", "stop"])?;
-            of_scripts(base, script(alloc, "own", &["log", "stop"])?, answer)
-        }
+        "guide-script" => of_configuration(alloc, answer),
+        "guide-scripts" => of_two(alloc, answer),
         _ => Err(Unread::Wanted("a question")),
     }
+}
+
+fn of_configuration(alloc: Global, answer: &mut String) -> Result<(), Unread> {
+    of_script(&configuration(alloc)?, answer)
+}
+
+fn of_two(alloc: Global, answer: &mut String) -> Result<(), Unread> {
+    let base = script(alloc, "base", &["start", "stop"])?;
+    of_scripts(base, &script(alloc, "own", &["log", "stop"])?, answer)
 }
 
 fn of_script(script: &AST, answer: &mut String) -> Result<(), Unread> {
     say_count(answer, "longest path", longest_path(script)?);
     push_names(script, answer)?;
-    if let Some(value) = first_constant(script)? {
-        say_value(answer, &value);
+    say_constant(script, answer)
+}
+
+fn say_constant(script: &AST, answer: &mut String) -> Result<(), Unread> {
+    if let Some(value) = &first_constant(script)? {
+        say_value(answer, value);
     }
     Ok(())
 }
 
-fn of_scripts(mut base: AST, own: AST, answer: &mut String) -> Result<(), Unread> {
-    say_names("merged", &merged(&base, &own)?, answer)?;
-    say_names("by choice", &merged_by_choice(&base, &own)?, answer)?;
-    combined(&mut base, own)?;
-    say_names("combined", &base, answer)?;
-    retained(&mut base)?;
-    say_names("retained", &base, answer)
+fn of_scripts(mut base: AST, own: &AST, answer: &mut String) -> Result<(), Unread> {
+    say_merged(&base, own, answer)?;
+    say_changed(&mut base, own, answer)
+}
+
+fn say_merged(base: &AST, own: &AST, answer: &mut String) -> Result<(), Unread> {
+    say_names("merged", &merged(base, own)?, answer)?;
+    say_names("by choice", &merged_by_choice(base, own)?, answer)
+}
+
+fn say_changed(base: &mut AST, own: &AST, answer: &mut String) -> Result<(), Unread> {
+    combined(base, own.clone()?)?;
+    say_names("combined", base, answer)?;
+    retained(base)?;
+    say_names("retained", base, answer)
 }
 
 fn say_names(word: &str, script: &AST, answer: &mut String) -> Result<(), Unread> {

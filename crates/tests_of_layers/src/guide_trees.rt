@@ -155,30 +155,36 @@ fn place_of_break(alloc: Global, statement: &Stmt) -> Result<Position, OutOfMemo
 /// Answers what the pieces give.
 pub fn answer(alloc: Global, name: &str, answer: &mut String) -> Result<(), Unread> {
     match name {
-        "endless" => of_loop(alloc, &[endless(alloc)?], answer),
-        "leaving" => of_break(alloc, &[leaving(alloc)?], answer),
-        "without arms" => say_fault(alloc, &[without_arms(alloc)?], answer),
-        "constant" => of_constants(alloc, &at_two_places(alloc, pair(alloc)?)?, answer),
+        "constant" => of_constants(alloc, answer),
+        "endless" | "leaving" | "without arms" => of_script(alloc, &[made(alloc, name)?], answer),
         _ => of_table(alloc, name, answer),
     }
 }
 
-fn of_loop(alloc: Global, script: &[Stmt], answer: &mut String) -> Result<(), Unread> {
-    if let [statement] = script {
-        say_place(answer, "at", statement.position());
-        say_count(answer, "body", body_length(statement));
-        say_if(answer, is_closed_and_impure(statement), "closed and impure");
-        say_count(answer, "longest path", longest_path(alloc, statement)?);
-        say_place(answer, "stopped at", place_of_break(alloc, statement)?);
+fn made(alloc: Global, name: &str) -> Result<Stmt, OutOfMemory> {
+    match name {
+        "endless" => endless(alloc),
+        "leaving" => leaving(alloc),
+        _ => without_arms(alloc),
+    }
+}
+
+fn of_script(alloc: Global, script: &[Stmt], answer: &mut String) -> Result<(), Unread> {
+    match script {
+        [statement @ Stmt::While(_, _)] => say_loop(alloc, statement, answer)?,
+        [Stmt::BreakLoop(Some(expr), _, _)] => say_literal_value(alloc, expr.get(), answer)?,
+        _ => {}
     }
     say_fault(alloc, script, answer)
 }
 
-fn of_break(alloc: Global, script: &[Stmt], answer: &mut String) -> Result<(), Unread> {
-    if let [Stmt::BreakLoop(Some(expr), _, _)] = script {
-        say_literal_value(alloc, expr.get(), answer)?;
-    }
-    say_fault(alloc, script, answer)
+fn say_loop(alloc: Global, statement: &Stmt, answer: &mut String) -> Result<(), Unread> {
+    say_place(answer, "at", statement.position());
+    say_count(answer, "body", body_length(statement));
+    say_if(answer, is_closed_and_impure(statement), "closed and impure");
+    say_count(answer, "longest path", longest_path(alloc, statement)?);
+    say_place(answer, "stopped at", place_of_break(alloc, statement)?);
+    Ok(())
 }
 
 fn say_literal_value(alloc: Global, expr: &Expr, answer: &mut String) -> Result<(), Unread> {
@@ -194,10 +200,15 @@ fn say_fault(alloc: Global, script: &[Stmt], answer: &mut String) -> Result<(), 
     Ok(())
 }
 
-fn of_constants(alloc: Global, places: &(Expr, Expr), answer: &mut String) -> Result<(), Unread> {
-    say_place(answer, "at", places.0.position());
-    say_place(answer, "its copy at", places.1.position());
-    say_literal(alloc, &places.1, answer)
+fn of_constants(alloc: Global, answer: &mut String) -> Result<(), Unread> {
+    let (constant, copy) = at_two_places(alloc, pair(alloc)?)?;
+    say_two(alloc, &constant, &copy, answer)
+}
+
+fn say_two(alloc: Global, constant: &Expr, copy: &Expr, answer: &mut String) -> Result<(), Unread> {
+    say_place(answer, "at", constant.position());
+    say_place(answer, "its copy at", copy.position());
+    say_literal(alloc, copy, answer)
 }
 
 /// The table with the arm of this number as the default.

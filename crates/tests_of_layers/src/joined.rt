@@ -92,20 +92,40 @@ fn join(reader: Reader, text: &str, answer: &mut String) -> Result<(), Unread> {
 
 fn join_all(first: &AST, second: &AST, filter: &str, answer: &mut String) -> Result<(), Unread> {
     let (takes, wanted) = filter.split_once("; ").unwrap_or((filter, ""));
-    say_line(answer, "merged");
-    say_script(&first.merge(second)?, answer);
-    say_line(answer, "combined");
-    say_script(&combined(first, second)?, answer);
+    say_merged(first, second, answer)?;
+    say_combined(first, second, answer)?;
     for kind in ["some merged", "some combined", "chosen"] {
-        let asked = Asked::of(takes, wanted);
-        say_line(answer, kind);
-        say_script(&filtered(kind, first, second, &asked)?, answer);
-        asked.say(answer);
+        say_filtered(kind, first, second, &Asked::of(takes, wanted), answer)?;
     }
     say_line(answer, "retained");
     say_retained(second, takes, wanted, answer)?;
     say_line(answer, "first");
     say_script(first, answer);
+    Ok(())
+}
+
+fn say_merged(first: &AST, second: &AST, answer: &mut String) -> Result<(), Unread> {
+    say_line(answer, "merged");
+    say_script(&first.merge(second)?, answer);
+    Ok(())
+}
+
+fn say_combined(first: &AST, second: &AST, answer: &mut String) -> Result<(), Unread> {
+    say_line(answer, "combined");
+    say_script(&combined(first, second)?, answer);
+    Ok(())
+}
+
+fn say_filtered(
+    kind: &str,
+    first: &AST,
+    second: &AST,
+    asked: &Asked,
+    answer: &mut String,
+) -> Result<(), Unread> {
+    say_line(answer, kind);
+    say_script(&filtered(kind, first, second, asked)?, answer);
+    asked.say(answer);
     Ok(())
 }
 

@@ -165,9 +165,13 @@ fn say_names(first: &Ident, second: &Ident, answer: &mut String) -> Result<(), U
     say_if(answer, first.name != second.name, "different");
     say_if(answer, first.name < second.name, "before");
     say(answer, second.name.clone()?.as_str());
-    let mut copy = first.clone()?;
-    say_if(answer, copy == *first, "as its copy");
+    say_copied(first, answer)
+}
+
+fn say_copied(name: &Ident, answer: &mut String) -> Result<(), Unread> {
+    let mut copy = name.clone()?;
+    say_if(answer, copy == *name, "as its copy");
     copy.pos = Position::NONE;
-    say_if(answer, copy != *first, "another elsewhere");
+    say_if(answer, copy != *name, "another elsewhere");
     Ok(())
 }

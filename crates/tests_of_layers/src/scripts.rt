@@ -22,7 +22,7 @@ pub fn answer(
         "functions" => functions(alloc, text, answer),
         "found" => found(alloc, first, rest, answer),
         "source" => source(script(alloc, text)?, answer),
-        "halves" => halves(script(alloc, text)?, answer),
+        "halves" => halves(&mut script(alloc, text)?, answer),
         "module" => module(alloc, text, answer),
         "private" => private(alloc, with_body(reader, text)?, answer),
         _ => joined::answer(reader, question, text, answer),
@@ -169,17 +169,22 @@ fn say_shared(first: &AST, second: &AST, answer: &mut String) {
 }
 
 /// The functions of a script alone, its statements alone, and the script without its statements, and then without its functions.
-fn halves(mut whole: AST, answer: &mut String) -> Result<(), Unread> {
+fn halves(whole: &mut AST, answer: &mut String) -> Result<(), Unread> {
+    say_halves(whole, answer)?;
+    whole.clear_statements();
+    say_line(answer, "cleared");
+    say_script(whole, answer);
+    whole.clear_functions()?;
+    say_line(answer, "empty");
+    say_script(whole, answer);
+    Ok(())
+}
+
+fn say_halves(whole: &AST, answer: &mut String) -> Result<(), Unread> {
     say_line(answer, "functions");
     say_script(&whole.clone_functions_only()?, answer);
     say_line(answer, "statements");
     say_script(&whole.clone_statements_only()?, answer);
-    whole.clear_statements();
-    say_line(answer, "cleared");
-    say_script(&whole, answer);
-    whole.clear_functions()?;
-    say_line(answer, "empty");
-    say_script(&whole, answer);
     Ok(())
 }
 
