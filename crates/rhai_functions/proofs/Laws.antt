@@ -5,7 +5,7 @@ use Rattle.std.proofs.lemmas.List.{append-nil}
 use Rattle.std.specs.List.{items_where_true}
 use Rattle.rhai_meaning.specs.Act.{Key}
 use Rattle.rhai_meaning.specs.Calls.{same_key, has_key}
-use Rattle.rhai_functions.specs.Table.{put_by, put_all_by, are_distinct, key_of}
+use Rattle.rhai_functions.specs.Table.{put_by, put_all_by, are_distinct}
 use Rattle.rhai_functions.proofs.Keys.{same_key-true}
 
 other_way : (k l : Key) → same_key k l ≡ false → same_key l k ≡ false
