@@ -19,7 +19,7 @@ mod writing;
 
 pub use catching::catch_name;
 pub use choosing::case_list;
-pub use left_sides::{LeftSide, ends_in_call, left_side};
+pub use left_sides::{LeftSide, ends_in_call};
 pub use links::{Rest, is_chain};
 pub use machine::Machine;
 pub use maps::{insert, is_map};

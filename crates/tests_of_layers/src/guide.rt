@@ -105,13 +105,14 @@ pub fn answer(
     question: &str,
     name: &str,
     answer: &mut String,
-) -> Result<(), Unread> {
+) -> Result<bool, Unread> {
     match question {
-        "guide-tree" => guide_trees::answer(alloc, name, answer),
-        "guide-script" => of_configuration(alloc, answer),
-        "guide-scripts" => of_two(alloc, answer),
-        _ => Err(Unread::Wanted("a question")),
+        "guide-tree" => guide_trees::answer(alloc, name, answer)?,
+        "guide-script" => of_configuration(alloc, answer)?,
+        "guide-scripts" => of_two(alloc, answer)?,
+        _ => return Ok(false),
     }
+    Ok(true)
 }
 
 fn of_configuration(alloc: Global, answer: &mut String) -> Result<(), Unread> {

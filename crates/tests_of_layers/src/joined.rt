@@ -1,7 +1,6 @@
 //! Scripts that are merged, combined and filtered, and what their filters are asked; scripts that are walked, and what their
 //! iterators give. Where a call is refused the script is said as it was before: `rt try --fail-alloc N` refuses the Nth growth.
 
-use crate::guide;
 use crate::lends::lends;
 use crate::reading::Reader;
 use crate::said::{say, say_if, say_line, say_value};
@@ -19,18 +18,16 @@ pub fn answer(
     question: &str,
     text: &str,
     answer: &mut String,
-) -> Result<(), Unread> {
+) -> Result<bool, Unread> {
     match question {
-        "join" => join(reader, text, answer),
-        "of-functions" => {
-            say_functions(&script(reader.alloc, text)?, answer);
-            Ok(())
-        }
+        "join" => join(reader, text, answer)?,
+        "of-functions" => say_functions(&script(reader.alloc, text)?, answer),
         "walk-script" | "variables" | "lends" => {
-            of_script(reader, question, &walked(reader, text)?, answer)
+            of_script(reader, question, &walked(reader, text)?, answer)?
         }
-        _ => guide::answer(reader.alloc, question, text, answer),
+        _ => return Ok(false),
     }
+    Ok(true)
 }
 
 /// What a filter takes, and what it is still to be asked, if all before came as it should.

@@ -31,8 +31,30 @@ impl Answers for Reader {
         text: &str,
         answer: &mut String,
     ) -> Result<(), Unread> {
-        nodes::answer(*self, question, text, answer)
+        if answered(*self, question, text, answer)? {
+            return Ok(());
+        }
+        Err(Unread::Wanted("a question"))
     }
+}
+
+/// Answers the question, if one of the modules has it.
+fn answered(
+    reader: Reader,
+    question: &str,
+    text: &str,
+    answer: &mut String,
+) -> Result<bool, Unread> {
+    Ok(
+        tokens::answer(question, text, answer)
+            || parts::answer(reader.alloc, question, text, answer)?
+            || values::answer(reader, question, text, answer)?
+            || nodes::answer(reader, question, text, answer)?
+            || trees::answer(reader, question, text, answer)?
+            || scripts::answer(reader, question, text, answer)?
+            || joined::answer(reader, question, text, answer)?
+            || guide::answer(reader.alloc, question, text, answer)?,
+    )
 }
 
 fn main(rt: HostRuntime) -> io::Result<()> {

@@ -4,7 +4,7 @@ use crate::reading::Reader;
 use crate::said::{say, say_count, say_if, say_place, say_value};
 use crate::switches::{self, say_call, say_parts};
 use crate::trees::{self, say_fault};
-use crate::{values, walks};
+use crate::walks;
 use bitflags::Flags;
 use rhai_ast::{
     BinaryExpr, Expr, ExprQueries, IntoExpr, Literals, SetPosition, Stmt, StmtQueries, Take,
@@ -18,10 +18,10 @@ pub fn answer(
     question: &str,
     text: &str,
     answer: &mut String,
-) -> Result<(), Unread> {
+) -> Result<bool, Unread> {
     match question {
         "expr" | "expr-place" | "take-expr" | "literal" | "call" | "spoiled" => {
-            of_expr(reader.alloc, question, &mut reader.expr(text)?, answer)
+            of_expr(reader.alloc, question, &mut reader.expr(text)?, answer)?
         }
         "stmt"
         | "no-names"
@@ -33,9 +33,11 @@ pub fn answer(
         | "walk-below"
         | "table"
         | "cases"
-        | "block-of" => { of_stmt(reader.alloc, question, &mut reader.stmt(text)?, answer) }
-        _ => values::answer(reader, question, text, answer),
+        | "block-of" => of_stmt(reader.alloc, question, &mut reader.stmt(text)?, answer)?,
+        "defaults" => defaults(answer),
+        _ => return Ok(false),
     }
+    Ok(true)
 }
 
 fn of_expr(
@@ -141,7 +143,7 @@ fn take_stmt(statement: &mut Stmt, answer: &mut String) {
 }
 
 /// Nodes that are left out.
-pub fn defaults(answer: &mut String) {
+fn defaults(answer: &mut String) {
     say_if(answer, Expr::default().is_unit(), "unit");
     say_if(answer, Stmt::default().is_noop(), "noop");
     let sides = BinaryExpr::default();

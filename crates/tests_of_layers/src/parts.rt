@@ -1,29 +1,27 @@
 //! Boxes, lists, maps, texts, names and paths.
 
-use crate::reading::Reader;
 use crate::said::{say, say_count, say_if, say_place};
-use crate::trees;
 use rhai_base::{Boxed, FnName, Ident, ImmutableString, Namespace, Position, Rest, Seq, StringMap};
 use std::alloc::Global;
 use tests_reader::Unread;
 
 pub fn answer(
-    reader: Reader,
+    alloc: Global,
     question: &str,
     text: &str,
     answer: &mut String,
-) -> Result<(), Unread> {
-    let alloc = reader.alloc;
+) -> Result<bool, Unread> {
     match question {
-        "box" => boxed(alloc, answer),
-        "list" => list(alloc, answer),
-        "only" => only(alloc, answer),
-        "rest" => rest(alloc, answer),
-        "map" => map(alloc, text, answer),
-        "function-name" => function_name(alloc, text.trim_matches('"'), answer),
-        "path" => path(alloc, text, answer),
-        _ => trees::answer(reader, question, text, answer),
+        "box" => boxed(alloc, answer)?,
+        "list" => list(alloc, answer)?,
+        "only" => only(alloc, answer)?,
+        "rest" => rest(alloc, answer)?,
+        "map" => map(alloc, text, answer)?,
+        "function-name" => function_name(alloc, text.trim_matches('"'), answer)?,
+        "path" => path(alloc, text, answer)?,
+        _ => return Ok(false),
     }
+    Ok(true)
 }
 
 fn boxed(alloc: Global, answer: &mut String) -> Result<(), Unread> {

@@ -1,6 +1,6 @@
 //! Scripts: how they are read, what they have, and their parts.
 
-use crate::joined::{self, say_retained};
+use crate::joined::say_retained;
 use crate::reading::Reader;
 use crate::said::{put, say, say_count, say_if, say_line, say_place};
 use rhai_ast::{FnAccess, FnNamespace, ScriptFuncDef, Stmt, StmtBlock, StmtQueries};
@@ -15,18 +15,19 @@ pub fn answer(
     question: &str,
     text: &str,
     answer: &mut String,
-) -> Result<(), Unread> {
+) -> Result<bool, Unread> {
     let alloc = reader.alloc;
     let (first, rest) = text.split_once('\n').unwrap_or((text, ""));
     match question {
-        "functions" => functions(alloc, text, answer),
-        "found" => found(alloc, first, rest, answer),
-        "source" => source(script(alloc, text)?, answer),
-        "halves" => halves(&mut script(alloc, text)?, answer),
-        "module" => module(alloc, text, answer),
-        "private" => private(alloc, with_body(reader, text)?, answer),
-        _ => joined::answer(reader, question, text, answer),
+        "functions" => functions(alloc, text, answer)?,
+        "found" => found(alloc, first, rest, answer)?,
+        "source" => source(script(alloc, text)?, answer)?,
+        "halves" => halves(&mut script(alloc, text)?, answer)?,
+        "module" => module(alloc, text, answer)?,
+        "private" => private(alloc, with_body(reader, text)?, answer)?,
+        _ => return Ok(false),
     }
+    Ok(true)
 }
 
 /// A script of a line with its source, or `-` for none, and perhaps its doc; then its functions, each on a line. It has one

@@ -3,7 +3,7 @@
 use crate::nodes::{say_expr, say_stmt};
 use crate::reading::Reader;
 use crate::said::{put, say, say_count, say_if, say_place};
-use crate::scripts;
+use crate::scripts::with_body;
 use crate::tokens::flag;
 use crate::walks::{Walked, say_walk};
 use rhai_ast::{
@@ -20,7 +20,7 @@ pub fn answer(
     question: &str,
     text: &str,
     answer: &mut String,
-) -> Result<(), Unread> {
+) -> Result<bool, Unread> {
     match question {
         "fault" | "plain" | "walk-list" => {
             of_lines(
@@ -28,16 +28,17 @@ pub fn answer(
                 question,
                 reader.lines(text)?.as_slice(),
                 answer,
-            )
+            )?
         }
-        "flags" => flags(reader, text, answer),
-        "function" => function(reader, text, answer),
-        "block" => block(reader.lines(text)?, answer),
-        "grown-block" => grown_block(reader, text, answer),
-        "no-block" => no_block(reader.alloc, answer),
-        "refusal" => refusal(text, answer),
-        _ => scripts::answer(reader, question, text, answer),
+        "flags" => flags(reader, text, answer)?,
+        "function" => function(reader, text, answer)?,
+        "block" => block(reader.lines(text)?, answer)?,
+        "grown-block" => grown_block(reader, text, answer)?,
+        "no-block" => no_block(reader.alloc, answer)?,
+        "refusal" => refusal(text, answer)?,
+        _ => return Ok(false),
     }
+    Ok(true)
 }
 
 fn of_lines(
@@ -109,7 +110,7 @@ fn add(statement: &mut Stmt, flag: ASTFlags) {
 
 /// The fault of a function.
 fn function(reader: Reader, text: &str, answer: &mut String) -> Result<(), Unread> {
-    let function = Rc::new(reader.alloc, scripts::with_body(reader, text)?)?;
+    let function = Rc::new(reader.alloc, with_body(reader, text)?)?;
     say_fault(reader.alloc, &[], &[function], answer);
     Ok(())
 }

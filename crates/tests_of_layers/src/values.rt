@@ -3,7 +3,7 @@
 use crate::nodes::say_literal;
 use crate::reading::Reader;
 use crate::said::{put, say, say_count, say_if, say_inner, say_place, say_value};
-use crate::tokens::{self, operator};
+use crate::tokens::operator;
 use rhai_ast::{Expr, ExprQueries, Literals};
 use rhai_base::{
     Dynamic, Fault, FnPtr, ImmutableString, OutOfMemory, Position, RangeCase, Scope,
@@ -17,19 +17,21 @@ pub fn answer(
     question: &str,
     text: &str,
     answer: &mut String,
-) -> Result<(), Unread> {
+) -> Result<bool, Unread> {
     match question {
         "value" | "constant" | "range" | "integers" => {
-            of_value(reader.alloc, question, &reader.value(text)?, answer)
+            of_value(reader.alloc, question, &reader.value(text)?, answer)?
         }
-        "equal" | "holds" => of_array(reader.alloc, question, &reader.value(text)?, answer),
+        "equal" | "holds" => of_array(reader.alloc, question, &reader.value(text)?, answer)?,
         "operate" => {
             let (symbol, operands) = text.split_once(' ').unwrap_or((text, ""));
-            of_array(reader.alloc, symbol, &reader.value(operands)?, answer)
+            of_array(reader.alloc, symbol, &reader.value(operands)?, answer)?
         }
-        "scope" => scope(reader.alloc, answer),
-        _ => tokens::answer(reader, question, text, answer),
+        "scope" => scope(reader.alloc, answer)?,
+        "ten" => say_inner(answer, &Dynamic::Int(RangeCase::from(0..=9).len())),
+        _ => return Ok(false),
     }
+    Ok(true)
 }
 
 fn of_value(

@@ -9,10 +9,12 @@ ghost use Rattle.rhai_meaning.specs.Desugar as desugar;
 ghost use Rattle.rhai_machine.specs.Targets as spec;
 
 use crate::steps::links::Rest;
+use crate::steps::machine::Machine;
 use crate::steps::variables::Root;
 use bitflags::Flags;
 use rhai_ast::{BinaryExpr, Expr};
 use rhai_base::{ASTFlags, ImmutableString, Namespace};
+use rhai_host::Host;
 
 /// The left side of an assignment.
 #[derive(Clone, Copy)]
@@ -25,20 +27,23 @@ pub enum LeftSide<'a> {
     Nowhere,
 }
 
-/// What an expression is as a left side; `None` where it cannot be one.
-pub fn left_side(expr: &Expr) -> Option<LeftSide<'_>>
-    ensures side { spec.IsSide (expr_of expr.now) result }
-    ensures weight { IfSome result (λ d. spec.side_weight d ≤ expr_weight (expr_of expr.now)) }
-{
-    match expr {
-        Expr::Variable(variable, _, _) => {
-            let (_, name, namespace) = variable.get();
-            Some(named_side(name, namespace))
+impl<'a, H: Host> Machine<'a, H> {
+    /// What an expression is as a left side; `None` where it cannot be one. Whether it may be written is tested last, after
+    /// the right side's calls.
+    pub fn left_side<'e>(&self, expr: &'e Expr) -> Option<LeftSide<'e>>
+        ensures side { spec.IsSide (expr_of expr.now) result }
+        ensures weight { IfSome result (λ d. spec.side_weight d ≤ expr_weight (expr_of expr.now)) }
+    {
+        match expr {
+            Expr::Variable(variable, _, _) => {
+                let (_, name, namespace) = variable.get();
+                Some(named_side(name, namespace))
+            }
+            Expr::ThisPtr(_) => Some(LeftSide::Root(Root::This)),
+            Expr::Dot(sides, options, _) => Some(part_side(sides.get(), true, *options)),
+            Expr::Index(sides, options, _) => Some(part_side(sides.get(), false, *options)),
+            _ => None,
         }
-        Expr::ThisPtr(_) => Some(LeftSide::Root(Root::This)),
-        Expr::Dot(sides, options, _) => Some(part_side(sides.get(), true, *options)),
-        Expr::Index(sides, options, _) => Some(part_side(sides.get(), false, *options)),
-        _ => None,
     }
 }
 

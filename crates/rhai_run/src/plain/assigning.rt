@@ -18,7 +18,7 @@ use crate::plain::evaluator::Evaluator;
 use rhai_ast::BinaryExpr;
 use rhai_base::{Dynamic, OpAssignment};
 use rhai_host::{Host, Stuck};
-use rhai_machine::{LeftSide, left_side};
+use rhai_machine::LeftSide;
 use rhai_state::{Interrupt, State};
 
 impl<'a, H: Host> Evaluator<'a, H> {
@@ -32,7 +32,7 @@ impl<'a, H: Host> Evaluator<'a, H> {
     ) -> Result<Dynamic, Interrupt>
         ensures { RunsLine (setting H.answers H.modules self.now.machine) (core_stmt self.now.in_loop (tree.Assignment (operator_of op.now.op) (expr_of sides.now.lhs) (expr_of sides.now.rhs))) state.old result state.new }
     {
-        let Some(side) = left_side(&sides.lhs) else {
+        let Some(side) = self.machine.left_side(&sides.lhs) else {
             return Err(Interrupt::Stuck(Stuck::WrongKind));
         };
         let value = self.expr(state, &sides.rhs)?;
