@@ -1,5 +1,5 @@
 -- Nodes that are settled, and nodes that fold to a value.
-use Rattle.std.proofs.Common.{◌≡◌, Bool, true, false, not, ◌&&◌, List, Option, Some, None, is_some, refl, sym, subst}
+use Rattle.std.proofs.Common.{◌≡◌, Bool, true, false, not, ◌&&◌, List, Option, Some, None, is_some, Result, Ok, Err, IfOk, OnOk, refl, sym, subst}
 use Rattle.rhai_values.specs.Value.{Value, ArrayV, values}
 use Rattle.rhai_meaning.specs.Constants.{array_value, constant_bool, constant_for, constant_values, literal_value}
 use Rattle.rhai_meaning.specs.Engine.{Engine, or_else}
@@ -72,3 +72,9 @@ expr_fired_as {d' = d'} {e' = e'} x r k = subst (λ a. ExprFired k d' a e') (sym
 
 pub stmt_fired_as : {w d' : Bool} {s s1 s' : Stmt} → s ≡ s1 → ((k : Context) → StmtFired k w d' s1 s') → (k : Context) → StmtFired k w d' s s'
 stmt_fired_as {w = w} {d' = d'} {s' = s'} x r k = subst (λ a. StmtFired k w d' a s') (sym x) (r k)
+
+-- ---- what was made is put in a node's place
+
+pub put_as : {A U E : Type 0} (P : A → Type 0) (Q : A → Type 0) (new : A) (made : Result A E) (put : Result U E) → IfOk made Q → OnOk put (made ≡ Ok new) → (Q new → P new) → OnOk put (P new)
+put_as P Q new made (Ok u) h p f = f (subst (λ m. IfOk m Q) p h)
+put_as P Q new made (Err e) h p f = tt
