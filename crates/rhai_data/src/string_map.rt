@@ -22,9 +22,15 @@ use std::hash::{Hash, Hasher};
 use std::marker::Model;
 
 /// A map from texts, seen as its entries in the order of the keys' bytes.
-#[derive(Debug, Drop)]
+#[derive(Debug)]
 pub struct StringMap<V> {
     map: BTreeMap<ImmutableString, V>,
+}
+
+impl<V: Drop> Drop for StringMap<V> {
+    fn drop(self) {
+        let StringMap { map: _map } = self;
+    }
 }
 
 impl<V> Model for StringMap<V> {

@@ -75,12 +75,23 @@ fn are_named(types: &[&str], names: &[ImmutableString]) -> bool
 /// What the host sets: constants that every script sees, the operators that it answers itself, other names of types,
 /// and whether built-in operators go before its own. Types are given by their own names, as `i64` and `string`,
 /// whatever names are set for them.
-#[derive(Debug, Drop)]
+#[derive(Debug)]
 pub struct EngineInfo {
     constants: Seq<EngineConstant>,
     overrides: Seq<OperatorOverride>,
     type_names: Seq<TypeName>,
     fast_operators: bool,
+}
+
+impl Drop for EngineInfo {
+    fn drop(self) {
+        let EngineInfo {
+            constants: _constants,
+            overrides: _overrides,
+            type_names: _type_names,
+            fast_operators: _fast_operators,
+        } = self;
+    }
 }
 
 impl EngineInfo {

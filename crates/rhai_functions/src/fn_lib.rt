@@ -16,10 +16,18 @@ use std::rc::Rc;
 
 /// The functions of a script by name, number of parameters and receiver type, in the order in which their keys
 /// came first; and the table's id.
-#[derive(Drop)]
 pub struct FnLib {
     id: Option<ImmutableString>,
     functions: FnTable,
+}
+
+impl Drop for FnLib {
+    fn drop(self) {
+        let FnLib {
+            id: _id,
+            functions: _functions,
+        } = self;
+    }
 }
 
 /// A table that scripts share.

@@ -16,7 +16,7 @@ use std::marker::Model;
 use std::rc::Rc;
 
 /// What tells the functions of a table apart.
-#[derive(Debug, Drop, PartialEq, Eq, Hash)]
+#[derive(Debug, PartialEq, Eq, Hash)]
 pub struct FnKey {
     /// The name.
     pub name: ImmutableString,
@@ -24,6 +24,16 @@ pub struct FnKey {
     pub params: usize,
     /// The type of the receiver, where the function is a method of one type alone.
     pub this_type: Option<ImmutableString>,
+}
+
+impl Drop for FnKey {
+    fn drop(self) {
+        let FnKey {
+            name: _name,
+            params: _params,
+            this_type: _this_type,
+        } = self;
+    }
 }
 
 impl Clone for FnKey {
@@ -51,9 +61,16 @@ impl FnKey {
 }
 
 /// Functions by name, number of parameters and receiver type, in the order in which their keys came first.
-#[derive(Drop)]
 pub struct FnTable {
     functions: IndexMap<FnKey, Rc<ScriptFuncDef>>,
+}
+
+impl Drop for FnTable {
+    fn drop(self) {
+        let FnTable {
+            functions: _functions,
+        } = self;
+    }
 }
 
 impl Model for FnTable {

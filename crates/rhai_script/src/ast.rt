@@ -20,12 +20,22 @@ use std::rc::Rc;
 
 /// A script: its source, its doc text, its statements and its functions. What its calls need of memory comes from
 /// the allocator of its table.
-#[derive(Drop)]
 pub struct AST {
     source: Option<ImmutableString>,
     doc: Doc,
     statements: Seq<Stmt>,
     lib: SharedLib,
+}
+
+impl Drop for AST {
+    fn drop(self) {
+        let AST {
+            source: _source,
+            doc: _doc,
+            statements: _statements,
+            lib: _lib,
+        } = self;
+    }
 }
 
 impl Clone for AST {
@@ -274,6 +284,19 @@ impl AST {
         self.merged_with(other, chosen(&other.lib, &filter)?)
     }
 
+    /// The statements; the rest goes.
+    fn into_statements(self) -> Seq<Stmt>
+        ensures { result ≡ self.statements }
+    {
+        let AST {
+            source: _source,
+            doc: _doc,
+            statements,
+            lib: _lib,
+        } = self;
+        statements
+    }
+
     fn combine_with(
         &mut self,
         other: AST,
@@ -285,7 +308,7 @@ impl AST {
         let alloc = allocator_of(&self.lib);
         let doc = self.doc.joined(alloc, &other.doc)?;
         let lib = Rc::new(alloc, with_all(&self.lib, &None, functions)?)?;
-        append(alloc, &mut self.statements, other.statements)?;
+        append(alloc, &mut self.statements, other.into_statements())?;
         self.doc = doc;
         self.lib = lib;
         Ok(())

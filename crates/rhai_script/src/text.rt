@@ -8,9 +8,14 @@ use std::alloc::{AllocError, Global};
 use std::marker::Model;
 
 /// The doc text of a script, seen as its bytes. An empty one takes no memory.
-#[derive(Drop)]
 pub struct Doc {
     text: Option<ImmutableString>,
+}
+
+impl Drop for Doc {
+    fn drop(self) {
+        let Doc { text: _text } = self;
+    }
 }
 
 impl Model for Doc {
