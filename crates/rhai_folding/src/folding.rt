@@ -5,6 +5,7 @@
 ghost use Rattle.std.specs.Prelude.{◌≡◌, IfOk, Some, [], ◌∷◌};
 ghost use Rattle.std.specs.Option.{option_map};
 ghost use Rattle.rhai_values.specs.Reading.{value_of};
+ghost use Rattle.rhai_values.specs.Value.{IntV};
 ghost use Rattle.rhai_reading.specs.Reading.{callee_of, expr_of, exprs_of, mark_of};
 ghost use Rattle.rhai_base.specs.Builtin.{computed_of};
 ghost use Rattle.rhai_meaning.specs.Constants as constants;
@@ -13,7 +14,7 @@ ghost use Rattle.rhai_engine.specs.EngineInfo.{engine_of};
 ghost use Rattle.rhai_rewriting.specs.Folding as spec;
 
 use rhai_ast::{Expr, FnCallExpr, Literals};
-use rhai_base::{Dynamic, Fault, OutOfMemory, Token};
+use rhai_base::{Dynamic, Fault, INT, OutOfMemory, Token};
 use rhai_engine::EngineInfo;
 use std::alloc::Global;
 
@@ -60,7 +61,57 @@ fn folded_one(
     }
 }
 
+/// The value of an operator at two values.
+fn folded_values(
+    alloc: Global,
+    info: &EngineInfo,
+    op: Token,
+    x: &Dynamic,
+    y: &Dynamic,
+) -> Result<Option<Dynamic>, OutOfMemory>
+    ensures { IfOk result (λ v. option_map value_of v ≡ spec.folded_values (engine_of info.now) (mark_of (Some op)) (Some (value_of x.now ∷ value_of y.now ∷ []))) }
+{
+    let answer = info.builtin_binary(alloc, op, x, y)?;
+    Ok(value_alone(answer))
+}
+
+fn integer(n: INT) -> Dynamic
+    ensures { value_of result ≡ IntV n }
+{
+    Dynamic::Int(n)
+}
+
+/// Most operands are integers, which are taken as they stand.
+fn folded_integers(
+    alloc: Global,
+    info: &EngineInfo,
+    op: Token,
+    x: INT,
+    y: INT,
+) -> Result<Option<Dynamic>, OutOfMemory>
+    ensures { IfOk result (λ v. option_map value_of v ≡ spec.folded_values (engine_of info.now) (mark_of (Some op)) (Some (IntV x ∷ IntV y ∷ []))) }
+{
+    folded_values(alloc, info, op, &integer(x), &integer(y))
+}
+
 fn folded_two(
+    alloc: Global,
+    info: &EngineInfo,
+    op: Token,
+    x: &Expr,
+    y: &Expr,
+) -> Result<Option<Dynamic>, OutOfMemory>
+    ensures { IfOk result (λ v. option_map value_of v ≡ spec.folded_values (engine_of info.now) (mark_of (Some op)) (constants.constant_values (expr (expr_of x.now) (expr (expr_of y.now) no_exprs)))) }
+{
+    match (x, y) {
+        (Expr::IntegerConstant(x, _), Expr::IntegerConstant(y, _)) => {
+            folded_integers(alloc, info, op, *x, *y)
+        }
+        _ => folded_constants(alloc, info, op, x, y),
+    }
+}
+
+fn folded_constants(
     alloc: Global,
     info: &EngineInfo,
     op: Token,
@@ -75,6 +126,5 @@ fn folded_two(
     let Some(y) = y.constant_value(alloc)? else {
         return Ok(None);
     };
-    let answer = info.builtin_binary(alloc, op, &x, &y)?;
-    Ok(value_alone(answer))
+    folded_values(alloc, info, op, &x, &y)
 }
