@@ -1,5 +1,5 @@
 -- When an operator's assignment is a host call.
-use Rattle.std.proofs.Common.{◌≡◌, true, not, ◌&&◌, [], ◌∷◌, Option, Some, None, is_none, Result, Ok, Err, refl, sym, ap, ◌∙◌}
+use Rattle.std.proofs.Common.{◌≡◌, Bool, true, not, ◌&&◌, [], ◌∷◌, Option, Some, None, is_none, Result, Ok, Err, refl, sym, ap, ◌∙◌}
 use Rattle.rhai_values.specs.declared.dynamic.Dynamic.{Dynamic}
 use Rattle.rhai_values.specs.Value.{Value}
 use Rattle.rhai_tokens.specs.declared.token.Token.{Token}
@@ -7,6 +7,9 @@ use Rattle.rhai_tokens.specs.declared.error.Fault.{Fault}
 use Rattle.rhai_tokens.specs.declared.error.Fault.TheVariants.{Arithmetic}
 use Rattle.rhai_base.specs.Builtin.{binary_at, computed_of, operator_of, row}
 use Rattle.rhai_base.specs.Operators.{Operator, binary, computed}
+use Rattle.rhai_meaning.specs.Act.{World}
+use Rattle.rhai_meaning.specs.ActForms.{ask_host, choose}
+use Rattle.rhai_meaning.specs.Calls.{assigned, operate}
 use Rattle.rhai_meaning.specs.Engine.{Engine, asks_assigning, assigning, has_entry, is_overridden}
 
 entry_by : (r : Option (Result Dynamic Fault)) → is_none r ≡ not (has_entry (computed_of r))
@@ -20,3 +23,6 @@ unfolding computed
 asks_where_none e op o v w r h k f c =
     entry_by r ∙ ap (λ x. not (has_entry x)) (c ∙ ap (row (λ p. binary p v w)) h)
     ∙ sym ((λ i. k i && not (f i && has_entry (computed o (v ∷ w ∷ [])))))
+
+pub assigned_asks : (w : World) (o : Operator) (old new : Value) (asks : Bool) → asks ≡ asks_assigning w.engine o (old ∷ new ∷ []) → asks ≡ true → assigned w (Some o) old new ≡ ask_host (assigning o) (old ∷ new ∷ [])
+assigned_asks w o old new asks e h = ap (λ b. choose b (ask_host (assigning o) (old ∷ new ∷ [])) (operate w o (old ∷ new ∷ []))) (sym e ∙ h)

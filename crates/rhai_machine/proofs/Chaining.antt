@@ -57,12 +57,12 @@ is_none_by (Some a) h = cc
 pub no_part : {A : Type 0} (o : Option A) (f : A → Value) (v : Option Value) → is_some o ≡ false → option_map f o ≡ v → v ≡ None
 no_part o f v h e = sym e ∙ ap (option_map f) (is_none_by o h)
 
-module _ {T : Type 0} (here : Setting) (s s2 : State) (r : Result T Interrupt) (k : T → Task) (c : Current) (name : Text) (receiver : Value) (args : List Dynamic) (next : Current → Act) (w : receiver ≡ c.value) where
-  pub property_asked : (p : PropertyNames) → inside c.value (AtEntry p.name) ≡ None → name ≡ p.getter → args ≡ [] → Leads here (Acting (ask_for name receiver (map value_of args) next)) s r s2 k → Leads here (Acting (property p c c.value next)) s r s2 k
-  property_asked p h n a q = leads_then here s2 r k (goes_as here _ _ s (ap Acting (property_asks p c c.value next h ∙ (λ j. ask_for (sym n j) (sym w j) (map value_of (sym a j)) next)))) q
+module _ {T : Type 0} (here : Setting) (s s2 : State) (r : Result T Interrupt) (k : T → Task) (c : Current) (next : Current → Act) where
+  pub property_asked : (name : Text) (args : List Dynamic) (p : PropertyNames) → inside c.value (AtEntry p.name) ≡ None → name ≡ p.getter → args ≡ [] → Leads here (Acting (ask_for name c.value (map value_of args) next)) s r s2 k → Leads here (Acting (property p c c.value next)) s r s2 k
+  property_asked name args p h n a q = leads_then here s2 r k (goes_as here _ _ s (ap Acting (property_asks p c c.value next h ∙ (λ j. ask_for (sym n j) c.value (map value_of (sym a j)) next)))) q
 
-  pub index_asked : (v : Value) (i j : Dynamic) → v ≡ c.value → index c v (value_of i) next ≡ ask_for (codes "index$get$") v (value_of j ∷ []) next → name ≡ codes "index$get$" → args ≡ j ∷ [] → Leads here (Acting (ask_for name receiver (map value_of args) next)) s r s2 k → Leads here (Acting (index c c.value (value_of i) next)) s r s2 k
-  index_asked v i j e h n a q = leads_then here s2 r k (goes_as here _ _ s (ap Acting (ap (λ u. index c u (value_of i) next) (sym e) ∙ h ∙ (λ l. ask_for (sym n l) ((e ∙ sym w) l) (map value_of (sym a l)) next)))) q
+  pub index_asked : (v : Value) (i j : Dynamic) → v ≡ c.value → index c v (value_of i) next ≡ ask_for (codes "index$get$") v (value_of j ∷ []) next → Leads here (Acting (ask_for (codes "index$get$") c.value (value_of j ∷ []) next)) s r s2 k → Leads here (Acting (index c c.value (value_of i) next)) s r s2 k
+  index_asked v i j e h q = leads_then here s2 r k (goes_as here _ _ s (ap Acting (ap (λ u. index c u (value_of i) next) (sym e) ∙ h ∙ ap (λ u. ask_for (codes "index$get$") u (value_of j ∷ []) next) e))) q
 
 -- ---- what keeps the names
 
@@ -126,8 +126,8 @@ module _ {T : Type 0} (here : Setting) (s s2 : State) (r : Result T Interrupt) (
   pub set_property_part : (p : PropertyNames) (v : Value) (at : places.Place) (n : Text) → ((w : Value) × (inside c.value (AtEntry p.name) ≡ Some w)) → n ≡ p.name → Leads here (Acting (places.write_place true (places.under (AtEntry n) at) v)) s r s2 k → Leads here (Acting (set_property p v at c c.value)) s r s2 k
   set_property_part p v at n h e q = leads_then here s2 r k (goes_as here _ _ s (ap Acting (property_set_part p v at c c.value h.0 h.1 ∙ ap (λ m. places.write_place true (places.under (AtEntry m) at) v) (sym e)))) q
 
-  pub set_property_asked : (p : PropertyNames) (v : Value) (at : places.Place) (n : Text) (args : List Dynamic) (d : Dynamic) → value_of d ≡ v → inside c.value (AtEntry p.name) ≡ None → n ≡ p.setter → args ≡ d ∷ [] → Leads here (Acting (set_by_host n (map value_of args) c)) s r s2 k → Leads here (Acting (set_property p v at c c.value)) s r s2 k
-  set_property_asked p v at n args d f h e a q = leads_then here s2 r k (goes_as here _ _ s (ap Acting (property_set_asks p v at c c.value h ∙ (λ j. set_by_host (sym e j) (sym f j ∷ []) c) ∙ ap (λ l. set_by_host n (map value_of l) c) (sym a)))) q
+  pub set_property_asked : (p : PropertyNames) (v : Value) (at : places.Place) → inside c.value (AtEntry p.name) ≡ None → Leads here (Acting (set_by_host p.setter (v ∷ []) c)) s r s2 k → Leads here (Acting (set_property p v at c c.value)) s r s2 k
+  set_property_asked p v at h q = leads_then here s2 r k (goes_as here _ _ s (ap Acting (property_set_asks p v at c c.value h))) q
 
   pub set_index_as : (i v pv : Value) (at : places.Place) (a : Act) → pv ≡ c.value → set_index v at c pv i ≡ a → Leads here (Acting a) s r s2 k → Leads here (Acting (set_index v at c c.value i)) s r s2 k
   set_index_as i v pv at a e h q = leads_then here s2 r k (goes_as here _ _ s (ap Acting (ap (λ u. set_index v at c u i) (sym e) ∙ h))) q

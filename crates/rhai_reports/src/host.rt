@@ -77,11 +77,9 @@ fn joined_texts(alloc: Global, args: &[Dynamic]) -> Result<HostAnswer, OutOfMemo
 fn joined(alloc: Global, first: &Dynamic, second: &Dynamic) -> Result<HostAnswer, OutOfMemory>
     ensures { IfOk result (λ a. answer_meant a ≡ Answers (TextV (text_of (value_of first.now) ++ text_of (value_of second.now))) None) }
 {
-    let first = first.text_of(alloc)?;
-    let second = second.text_of(alloc)?;
     let mut text = String::new(alloc);
-    text.push_str(first.as_str())?;
-    text.push_str(second.as_str())?;
+    first.push_text(&mut text)?;
+    second.push_text(&mut text)?;
     let text = ImmutableString::new(alloc, text.as_str())?;
     Ok(value_alone(Dynamic::Str(text)))
 }

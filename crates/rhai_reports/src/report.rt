@@ -2,14 +2,17 @@
 #![tactic(auto, using(rhai_values::specs::Reading::kinds, crate::proofs::Reports::steps))]
 
 ghost use Rattle.std.specs.Prelude.{◌≡◌, ◌++◌, [], OnOk, map, string_bytes};
+ghost use Rattle.std.specs.Option.{option_copied, option_map};
 ghost use Rattle.rhai_values.specs.Reading.{value_of};
+ghost use Rattle.rhai_values.specs.Value.{inner};
 ghost use Rattle.rhai_host.specs.Entries.{variable_meant};
 ghost use Rattle.rhai_host.specs.Host.{call_meant};
-ghost use Rattle.rhai_host.specs.Report.{end_meant, report_meant};
-ghost use Rattle.rhai_reports.specs.Report.{end_text, variable_text, variables_text, values_text, call_text, calls_text, report_text};
+ghost use Rattle.rhai_meaning.specs.Run.{WithStuck};
+ghost use Rattle.rhai_host.specs.Report.{end_meant, report_meant, stuck_meant};
+ghost use Rattle.rhai_reports.specs.Report.{called_on, end_text, variable_text, variables_text, values_text, call_text, calls_text, report_text};
 
 use rhai_base::{Dynamic, OutOfMemory};
-use rhai_host::{HostCall, RunEnd, RunReport, Variable};
+use rhai_host::{HostCall, RunEnd, RunReport, Stuck, Variable};
 
 /// Appends a report: the end, the turns left, then each variable and each call on a line.
 pub fn push_report(report: &RunReport, text: &mut String) -> Result<(), OutOfMemory>
@@ -28,23 +31,28 @@ fn push_end(end: &RunEnd, text: &mut String) -> Result<(), OutOfMemory>
     ensures { OnOk result (string_bytes text.new ≡ string_bytes text.old ++ end_text (end_meant end.now)) }
 {
     match end {
-        RunEnd::Value(value) => {
-            text.push_str("value ")?;
-            value.push_inner(text)?;
-        }
-        RunEnd::Thrown(value) => {
-            text.push_str("thrown ")?;
-            value.push_inner(text)?;
-        }
-        RunEnd::Stuck(stuck) => {
-            text.push_str("stuck ")?;
-            write!(text, "{}", stuck.number())?;
-            text.push_str(" ")?;
-            text.push_str(stuck.name())?;
-        }
-        RunEnd::OutOfTurns => text.push_str("out of turns")?,
+        RunEnd::Value(value) => push_ending("value ", value, text),
+        RunEnd::Thrown(value) => push_ending("thrown ", value, text),
+        RunEnd::Stuck(stuck) => push_stuck(*stuck, text),
+        RunEnd::OutOfTurns => Ok(text.push_str("out of turns")?),
     }
-    Ok(())
+}
+
+/// Appends a word and a value.
+fn push_ending(word: &str, value: &Dynamic, text: &mut String) -> Result<(), OutOfMemory>
+    ensures { OnOk result (string_bytes text.new ≡ string_bytes text.old ++ (word.now ++ inner (value_of value.now))) }
+{
+    text.push_str(word)?;
+    Ok(value.push_inner(text)?)
+}
+
+fn push_stuck(stuck: Stuck, text: &mut String) -> Result<(), OutOfMemory>
+    ensures { OnOk result (string_bytes text.new ≡ string_bytes text.old ++ end_text (WithStuck (stuck_meant stuck))) }
+{
+    text.push_str("stuck ")?;
+    write!(text, "{}", stuck.number())?;
+    text.push_str(" ")?;
+    Ok(text.push_str(stuck.name())?)
 }
 
 /// Appends names, each on a line.
@@ -88,14 +96,22 @@ fn push_call(call: &HostCall, text: &mut String) -> Result<(), OutOfMemory>
     ensures { OnOk result (string_bytes text.new ≡ string_bytes text.old ++ call_text (call_meant call.now)) }
 {
     text.push_str("call ")?;
-    if let Some(receiver) = &call.receiver {
-        receiver.push_inner(text)?;
-        text.push_str(".")?;
-    }
+    push_receiver(call.receiver.as_ref(), text)?;
     text.push_str(call.name.as_str())?;
     text.push_str("(")?;
     push_values(call.args.as_slice(), text)?;
     text.push_str(")\n")?;
+    Ok(())
+}
+
+/// Appends what a method is called on.
+fn push_receiver(receiver: Option<&Dynamic>, text: &mut String) -> Result<(), OutOfMemory>
+    ensures { OnOk result (string_bytes text.new ≡ string_bytes text.old ++ called_on (option_map value_of (option_copied receiver.entry))) }
+{
+    if let Some(receiver) = receiver {
+        receiver.push_inner(text)?;
+        text.push_str(".")?;
+    }
     Ok(())
 }
 

@@ -2,10 +2,12 @@
 
 #![tactic(auto, using(rhai_reading::specs::Reading::shapes, rhai_values::specs::Reading::kinds))]
 
-ghost use Rattle.std.specs.Prelude.{◌≡◌, true, Some};
+ghost use Rattle.std.specs.Prelude.{◌≡◌, map, true, Some};
 ghost use Rattle.rhai_values.specs.Reading.{value_of};
 ghost use Rattle.rhai_base.specs.Builtin.{operator_of};
 ghost use Rattle.rhai_meaning.specs.Act.{Write};
+ghost use Rattle.rhai_meaning.specs.ActForms.{ask_host};
+ghost use Rattle.rhai_meaning.specs.Engine.{assigning};
 ghost use Rattle.rhai_machine.specs.Setting.{setting};
 ghost use Rattle.rhai_state.specs.Evaluating.{Runs};
 ghost use Rattle.rhai_state.specs.Runs.{Acting};
@@ -69,10 +71,22 @@ impl<'a, H: Host> Machine<'a, H> {
         let asks = asks_assigning(self.alloc, self.info, op, &old, &new)?;
         let args = Seq::from_array(self.alloc, [old, new])?;
         if asks {
-            let name = assigning_name(self.alloc, op)?;
-            self.ask_host(state, name, args)
+            self.ask_assigning(state, op, args)
         } else {
             self.operate(state, op, args)
         }
+    }
+
+    /// The host's call of an operator's assignment.
+    fn ask_assigning(
+        &self,
+        state: &mut State,
+        op: Token,
+        args: Seq<Dynamic>,
+    ) -> Result<Dynamic, Interrupt>
+        ensures { let here = setting H.answers H.modules self.now in (o : _) → operator_of op ≡ Some o → Runs here (Acting (ask_host (assigning o) (map value_of args))) state.old result state.new }
+    {
+        let name = assigning_name(self.alloc, op)?;
+        self.ask_host(state, name, args)
     }
 }

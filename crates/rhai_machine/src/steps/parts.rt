@@ -2,7 +2,7 @@
 
 #![tactic(auto, using(rhai_reading::specs::Reading::shapes, rhai_values::specs::Reading::kinds, crate::proofs::Chaining::chaining))]
 
-ghost use Rattle.std.specs.Prelude.{◌≡◌, map, IfOk, Some};
+ghost use Rattle.std.specs.Prelude.{◌≡◌, [], ◌∷◌, codes, map, IfOk, Some};
 ghost use Rattle.rhai_machine.specs.Chaining.{StepsOn, names_meant};
 ghost use Rattle.rhai_machine.specs.Setting.{setting};
 ghost use Rattle.rhai_state.specs.Runs.{Acting, Leads, Leaving, given, stop_of};
@@ -80,13 +80,11 @@ impl<'a, H: Host> Machine<'a, H> {
         ensures { let here = setting H.answers H.modules self.now in let c = spec.current_in here (store_of state.old) current.now in Finds here c (λ next. chains.property (names_meant names.entry) c c.value next) state.old result state.new }
     {
         let key = PlaceKey::AtEntry(names.name.clone()?);
-        let part = self.current_part(state, current);
-        if part.inside(&key).is_some() {
+        if self.current_part(state, current).inside(&key).is_some() {
             return Ok(Found::Part(key));
         }
-        let receiver = part.to_value()?;
         let args = Seq::new(self.alloc);
-        self.ask_for(state, names.getter.clone()?, receiver, args)
+        self.ask_for(state, names.getter.clone()?, current, args)
     }
 
     /// An index: a part in bounds, or what the host answers.
@@ -115,13 +113,22 @@ impl<'a, H: Host> Machine<'a, H> {
             Indexed::Part(key) => Ok(Found::Part(key)),
             Indexed::Value(value) => Ok(Found::Value(value)),
             Indexed::Throws(text) => Err(thrown(self.alloc, text)?),
-            Indexed::AsksHost(index_value) => {
-                let receiver = self.copied(state, current)?;
-                let name = ImmutableString::new(self.alloc, "index$get$")?;
-                let args = Seq::from_array(self.alloc, [index_value])?;
-                self.ask_for(state, name, receiver, args)
-            }
+            Indexed::AsksHost(index_value) => self.ask_index(state, current, index_value),
         }
+    }
+
+    /// What the host answers for an index.
+    fn ask_index(
+        &self,
+        state: &mut State,
+        current: &Current,
+        index_value: Dynamic,
+    ) -> Result<Found, Interrupt>
+        ensures { let here = setting H.answers H.modules self.now in let c = spec.current_in here (store_of state.old) current.now in Finds here c (λ next. chains.ask_for (codes "index$get$") c.value (value_of index_value ∷ []) next) state.old result state.new }
+    {
+        let args = Seq::from_array(self.alloc, [index_value])?;
+        let name = ImmutableString::new(self.alloc, "index$get$")?;
+        self.ask_for(state, name, current, args)
     }
 
     /// The value that a step has found.
@@ -156,9 +163,21 @@ impl<'a, H: Host> Machine<'a, H> {
         if self.place_part(state, &place).inside(&key).is_some() {
             return self.write_under(state, place, key, value);
         }
-        let name = names.setter.clone()?;
+        self.set_property_by_host(state, names.setter, value, place)
+    }
+
+    /// Has the host write a property.
+    fn set_property_by_host(
+        &self,
+        state: &mut State,
+        setter: &ImmutableString,
+        value: Dynamic,
+        place: Place,
+    ) -> Result<(), Interrupt>
+        ensures { let here = setting H.answers H.modules self.now in Leads here (Acting (chains.set_by_host setter.now (value_of value ∷ []) (spec.current_in here (store_of state.old) (kind.At place.entry)))) state.old result state.new (λ z. given UnitV) }
+    {
         let args = Seq::from_array(self.alloc, [value])?;
-        self.set_by_host(state, name, args, Current::At(place))
+        self.set_by_host(state, setter.clone()?, args, &Current::At(place))
     }
 
     /// Writes at an index of what stands at a place: a part in bounds, or by the host.
@@ -175,11 +194,24 @@ impl<'a, H: Host> Machine<'a, H> {
             IndexTarget::Part(key) => self.write_under(state, place, key, value),
             IndexTarget::Throws(text) => Err(thrown(self.alloc, text)?),
             IndexTarget::AsksHost(index_value) => {
-                let name = ImmutableString::new(self.alloc, "index$set$")?;
-                let args = Seq::from_array(self.alloc, [index_value, value])?;
-                self.set_by_host(state, name, args, Current::At(place))
+                self.set_index_by_host(state, index_value, value, place)
             }
         }
+    }
+
+    /// Has the host write at an index.
+    fn set_index_by_host(
+        &self,
+        state: &mut State,
+        index_value: Dynamic,
+        value: Dynamic,
+        place: Place,
+    ) -> Result<(), Interrupt>
+        ensures { let here = setting H.answers H.modules self.now in Leads here (Acting (chains.set_by_host (codes "index$set$") (value_of index_value ∷ value_of value ∷ []) (spec.current_in here (store_of state.old) (kind.At place.entry)))) state.old result state.new (λ z. given UnitV) }
+    {
+        let args = Seq::from_array(self.alloc, [index_value, value])?;
+        let name = ImmutableString::new(self.alloc, "index$set$")?;
+        self.set_by_host(state, name, args, &Current::At(place))
     }
 
     /// A host's setter, whose new receiver is put back.
@@ -188,25 +220,26 @@ impl<'a, H: Host> Machine<'a, H> {
         state: &mut State,
         name: ImmutableString,
         args: Seq<Dynamic>,
-        current: Current,
+        current: &Current,
     ) -> Result<(), Interrupt>
-        ensures { let here = setting H.answers H.modules self.now in Leads here (Acting (chains.set_by_host name (map value_of args) (spec.current_in here (store_of state.old) current.entry))) state.old result state.new (λ z. given UnitV) }
+        ensures { let here = setting H.answers H.modules self.now in Leads here (Acting (chains.set_by_host name (map value_of args) (spec.current_in here (store_of state.old) current.now))) state.old result state.new (λ z. given UnitV) }
     {
-        let receiver = self.copied(state, &current)?;
+        let receiver = self.copied(state, current)?;
         let (_, receiver) = self.ask_method(state, name, receiver, args)?;
-        self.put_back(state, &current, receiver)
+        self.put_back(state, current, receiver)
     }
 
-    /// The value that the host answers for a receiver, whose new value is not kept.
+    /// The value that the host answers for what a chain has come to, whose new value is not kept.
     fn ask_for(
         &self,
         state: &mut State,
         name: ImmutableString,
-        receiver: Dynamic,
+        current: &Current,
         args: Seq<Dynamic>,
     ) -> Result<Found, Interrupt>
-        ensures { (c : _) → Finds (setting H.answers H.modules self.now) c (λ next. chains.ask_for name (value_of receiver) (map value_of args) next) state.old result state.new }
+        ensures { let here = setting H.answers H.modules self.now in let c = spec.current_in here (store_of state.old) current.now in Finds here c (λ next. chains.ask_for name c.value (map value_of args) next) state.old result state.new }
     {
+        let receiver = self.copied(state, current)?;
         let (value, _) = self.ask_method(state, name, receiver, args)?;
         Ok(Found::Value(value))
     }

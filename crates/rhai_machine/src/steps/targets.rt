@@ -12,11 +12,12 @@ ghost use Rattle.rhai_machine.specs.Placing.{current_in};
 ghost use Rattle.rhai_state.specs.Runs.{Acting, Leads, given};
 ghost use Rattle.rhai_state.specs.State.{store_of};
 ghost use Rattle.rhai_machine.specs.Targets.{Changes};
+ghost use Rattle.rhai_machine.specs.declared.steps.placing.Current.TheVariants as kind;
 ghost use Rattle.rhai_meaning.specs.Chains as chains;
 
 use crate::steps::machine::Machine;
 use crate::steps::parts::{Access, PropertyNames};
-use crate::steps::placing::Current;
+use crate::steps::placing::{Current, Place};
 use rhai_base::{Dynamic, Token};
 use rhai_host::{Host, Stuck};
 use rhai_state::{Interrupt, State};
@@ -32,9 +33,21 @@ impl<'a, H: Host> Machine<'a, H> {
     ) -> Result<(), Interrupt>
         ensures { let here = setting H.answers H.modules self.now in let c = current_in here (store_of state.old) current.entry in Leads here (Acting (chains.set_at (value_of value) (access_meant access.entry) c c.place)) state.old result state.new (λ z. given UnitV) }
     {
-        let Current::At(place) = current else {
-            return Err(Interrupt::Stuck(Stuck::NoPlace));
-        };
+        match current {
+            Current::At(place) => self.set_at_place(state, access, value, place),
+            Current::Loose(_) => Err(Interrupt::Stuck(Stuck::NoPlace)),
+        }
+    }
+
+    fn set_at_place(
+        &self,
+        state: &mut State,
+        access: Access,
+        value: Dynamic,
+        place: Place,
+    ) -> Result<(), Interrupt>
+        ensures { let here = setting H.answers H.modules self.now in let c = current_in here (store_of state.old) (kind.At place.entry) in Leads here (Acting (chains.set_at (value_of value) (access_meant access.entry) c c.place)) state.old result state.new (λ z. given UnitV) }
+    {
         match access {
             Access::Property(names) => self.set_property(state, names, value, place),
             Access::Index(index) => self.set_index(state, index, value, place),

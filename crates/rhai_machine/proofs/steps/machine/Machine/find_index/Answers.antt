@@ -3,11 +3,10 @@ use Rattle.rhai_machine.specs.Placing.{current_in}
 use Rattle.rhai_state.specs.State.{store_of}
 use Rattle.rhai_machine.proofs.Chaining.{index_asked}
 use Rattle.rhai_places.specs.Reading.{part_value}
-use Rattle.rhai_values.specs.Reading.{value_of}
 use Rattle.rhai_machine.proofs.steps.machine.Machine.find_index.Goals as goal
 
-pub returns-in_ok-args-in-AsksHost : goal.returns-in_ok-args-in-AsksHost
-returns-in_ok-args-in-AsksHost g c next =
+pub returns-in-AsksHost : goal.returns-in-AsksHost
+returns-in-AsksHost g c next =
     let here = setting g.H.Host.answers g.H.Host.modules c.args.self.now in
     let at = current_in here (store_of c.args.state.now) c.args.current.now in
-    index_asked here c.args.state.now _ c.ask_for.result _ at c.in_ok-name-in-AsksHost.name (value_of c.in_ok-receiver-in-AsksHost.receiver) c.in_ok-args-in-AsksHost.args next c.in_ok-receiver-in-AsksHost.ensures (part_value c.current_part.result) c.args.index_value c.in-AsksHost.index_value c.current_part.ensures (c.in-AsksHost.ensures at next) c.in_ok-name-in-AsksHost.ensures c.in_ok-args-in-AsksHost.ensures (c.ask_for.ensures at next)
+    index_asked here c.args.state.now _ c.ask_index.result _ at next (part_value c.current_part.result) c.args.index_value c.in-AsksHost.index_value c.current_part.ensures (c.in-AsksHost.ensures at next) (c.ask_index.ensures next)

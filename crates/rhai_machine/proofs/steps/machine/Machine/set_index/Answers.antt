@@ -1,4 +1,5 @@
-use Rattle.std.proofs.Common.{Err, map, refl, sym, arith, ◌∙◌}
+use Rattle.std.proofs.Common.{[], ◌∷◌, Err, refl, arith}
+use Rattle.std.specs.Prelude.{codes}
 use Rattle.rhai_meaning.specs.Act.{Throws}
 use Rattle.rhai_meaning.specs.ActForms.{throw}
 use Rattle.rhai_meaning.specs.Chains.{set_by_host}
@@ -20,12 +21,11 @@ returns-in-Part g c =
     let at = current_in here (store_of c.args.state.now) (kind.At c.args.place) in
     set_index_as here c.args.state.now _ c.write_under.result (λ z. given UnitV) at (value_of c.args.index_value) (value_of c.args.value) (part_value c.place_part.result) (place_meant c.args.place) _ c.place_part.ensures (c.in-Part.ensures (value_of c.args.value) (place_meant c.args.place) at) c.write_under.ensures
 
-pub returns-in_ok-args-in-AsksHost : goal.returns-in_ok-args-in-AsksHost
-returns-in_ok-args-in-AsksHost g c =
+pub returns-in-AsksHost : goal.returns-in-AsksHost
+returns-in-AsksHost g c =
     let here = (setting g.H.Host.answers g.H.Host.modules c.args.self.now) in
     let at = current_in here (store_of c.args.state.now) (kind.At c.args.place) in
-    set_index_as here c.args.state.now _ c.set_by_host.result (λ z. given UnitV) at (value_of c.args.index_value) (value_of c.args.value) (part_value c.place_part.result) (place_meant c.args.place) (set_by_host c.in_ok-name-in-AsksHost.name (map value_of c.in_ok-args-in-AsksHost.args) at) c.place_part.ensures
-    (c.in-AsksHost.ensures (value_of c.args.value) (place_meant c.args.place) at ∙ (λ j. set_by_host (sym c.in_ok-name-in-AsksHost.ensures j) (map value_of (sym c.in_ok-args-in-AsksHost.ensures j)) at)) c.set_by_host.ensures
+    set_index_as here c.args.state.now _ c.set_index_by_host.result (λ z. given UnitV) at (value_of c.args.index_value) (value_of c.args.value) (part_value c.place_part.result) (place_meant c.args.place) (set_by_host (codes "index$set$") (value_of c.in-AsksHost.index_value ∷ value_of c.args.value ∷ []) at) c.place_part.ensures (c.in-AsksHost.ensures (value_of c.args.value) (place_meant c.args.place) at) c.set_index_by_host.ensures
 
 pub returns-in_ok-thrown-in-Throws : goal.returns-in_ok-thrown-in-Throws
 returns-in_ok-thrown-in-Throws g c =

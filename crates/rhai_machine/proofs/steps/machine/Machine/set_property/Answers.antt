@@ -1,4 +1,4 @@
-use Rattle.std.proofs.Common.{refl, sym, ◌∙◌}
+use Rattle.std.proofs.Common.{sym, ◌∙◌}
 use Rattle.rhai_meaning.specs.Places.{AtEntry, inside}
 use Rattle.rhai_places.specs.Reading.{part_value}
 use Rattle.rhai_values.specs.Reading.{value_of}
@@ -24,4 +24,4 @@ returns g c =
     let here = (setting g.H.Host.answers g.H.Host.modules c.args.self.now) in
     let at = current_in here (store_of c.args.state.now) (kind.At c.args.place) in
     let none = no_part c.inside.result part_value _ (sym c.is_some.ensures ∙ c.if-is_some.false) (c.inside.ensures ∙ (λ j. inside (c.place_part.ensures j) (AtEntry (c.in_ok-clone.ensures.cases j)))) in
-    set_property_asked here c.args.state.now _ c.set_by_host.result (λ z. given UnitV) at (names_meant c.args.names) (value_of c.args.value) (place_meant c.args.place) c.in_ok-name.name c.in_ok-args.args c.args.value refl none c.in_ok-name.ensures.cases c.in_ok-args.ensures c.set_by_host.ensures
+    set_property_asked here c.args.state.now _ c.set_property_by_host.result (λ z. given UnitV) at (names_meant c.args.names) (value_of c.args.value) (place_meant c.args.place) none c.set_property_by_host.ensures
