@@ -56,21 +56,34 @@ fn first_entry<'a>(scope: &'a Scope) -> Option<(&'a str, bool, &'a Dynamic)> {
 
 /// Asks all of them of a script without functions, and an empty scope.
 pub fn lends(alloc: Global, script: &AST, answer: &mut String) -> Result<(), Unread> {
-    let key = FnKey {
-        name: ImmutableString::new(alloc, "f")?,
-        params: 1,
-        this_type: None,
-    };
-    let function = found(script.shared_lib(), key);
+    let function = found(script.shared_lib(), key(alloc)?);
     say_if(answer, function.is_none(), "no function found");
     say_if(answer, first_definition(script).is_none(), "no definition");
     say_if(answer, first_metadata(script).is_none(), "no metadata");
     say(answer, first_variable(script)?.unwrap_or("no variable"));
-    for statement in script.statements() {
+    say_expressions(alloc, script.statements(), answer)?;
+    let is_empty = first_entry(&Scope::new(alloc)).is_none();
+    say_if(answer, is_empty, "no entry");
+    Ok(())
+}
+
+/// That of a function `f` with one parameter.
+fn key(alloc: Global) -> Result<FnKey, OutOfMemory> {
+    Ok(FnKey {
+        name: ImmutableString::new(alloc, "f")?,
+        params: 1,
+        this_type: None,
+    })
+}
+
+fn say_expressions(
+    alloc: Global,
+    statements: &[Stmt],
+    answer: &mut String,
+) -> Result<(), OutOfMemory> {
+    for statement in statements {
         let expr = first_expression(alloc, statement)?;
         say_if(answer, expr.is_some(), "has an expression");
     }
-    let is_empty = first_entry(&Scope::new(alloc)).is_none();
-    say_if(answer, is_empty, "no entry");
     Ok(())
 }

@@ -21,7 +21,7 @@ pub fn answer(
 ) -> Result<bool, Unread> {
     match question {
         "expr" | "expr-place" | "take-expr" | "literal" | "call" | "spoiled" => {
-            of_expr(reader.alloc, question, &mut reader.expr(text)?, answer)?
+            of_expr(reader.alloc, question, reader.expr(text)?.get_mut(), answer)?
         }
         "stmt"
         | "no-names"
@@ -33,8 +33,8 @@ pub fn answer(
         | "walk-below"
         | "table"
         | "cases"
-        | "block-of" => of_stmt(reader.alloc, question, &mut reader.stmt(text)?, answer)?,
-        "defaults" => defaults(answer),
+        | "block-of" => of_stmt(reader.alloc, question, reader.stmt(text)?.get_mut(), answer)?,
+        "defaults" => defaults(reader.alloc, answer)?,
         _ => return Ok(false),
     }
     Ok(true)
@@ -143,15 +143,24 @@ fn take_stmt(statement: &mut Stmt, answer: &mut String) {
 }
 
 /// Nodes that are left out.
-fn defaults(answer: &mut String) {
-    say_if(answer, Expr::default().is_unit(), "unit");
-    say_if(answer, Stmt::default().is_noop(), "noop");
-    let sides = BinaryExpr::default();
+fn defaults(alloc: Global, answer: &mut String) -> Result<(), Unread> {
     say_if(
         answer,
-        sides.lhs.is_unit() && sides.rhs.is_unit(),
-        "both units",
+        Boxed::new(alloc, Expr::default())?.get().is_unit(),
+        "unit",
     );
+    say_if(
+        answer,
+        Boxed::new(alloc, Stmt::default())?.get().is_noop(),
+        "noop",
+    );
+    let sides = Boxed::new(alloc, BinaryExpr::default())?;
+    say_if(answer, are_units(sides.get()), "both units");
+    Ok(())
+}
+
+fn are_units(sides: &BinaryExpr) -> bool {
+    sides.lhs.is_unit() && sides.rhs.is_unit()
 }
 
 pub fn say_literal(alloc: Global, expr: &Expr, answer: &mut String) -> Result<(), Unread> {

@@ -1,7 +1,7 @@
-//! Reads what a question is about.
+//! Reads what a question is about. Nodes come in boxes, which let go of them in one place.
 
 use rhai_ast::{Expr, Stmt};
-use rhai_base::Dynamic;
+use rhai_base::{Boxed, Dynamic};
 use std::alloc::Global;
 use tests_reader::{Unread, read_expr, read_lines, read_link, read_stmt, read_value};
 
@@ -14,11 +14,12 @@ pub struct Reader {
 
 impl Reader {
     /// An expression, or with a `.` before it what stands at the right of one.
-    pub fn expr(self, text: &str) -> Result<Expr, Unread> {
+    pub fn expr(self, text: &str) -> Result<Boxed<Expr>, Unread> {
+        let expr = Boxed::new(self.alloc, self.original_expr(text)?)?;
         if self.copies {
-            return Ok(self.original_expr(text)?.clone()?);
+            return Ok(expr.clone()?);
         }
-        self.original_expr(text)
+        Ok(expr)
     }
 
     fn original_expr(self, text: &str) -> Result<Expr, Unread> {
@@ -28,11 +29,12 @@ impl Reader {
         }
     }
 
-    pub fn stmt(self, text: &str) -> Result<Stmt, Unread> {
+    pub fn stmt(self, text: &str) -> Result<Boxed<Stmt>, Unread> {
+        let statement = Boxed::new(self.alloc, read_stmt(self.alloc, text)?)?;
         if self.copies {
-            return Ok(read_stmt(self.alloc, text)?.clone()?);
+            return Ok(statement.clone()?);
         }
-        read_stmt(self.alloc, text)
+        Ok(statement)
     }
 
     /// A value, or a copy that is equal.

@@ -80,14 +80,16 @@ fn name_all(alloc: Global, line: &str, function: &mut ScriptFuncDef) -> Result<(
         function.this_type = Some(ImmutableString::new(alloc, receiver)?);
     }
     for name in params.split_whitespace() {
-        function.params.push(ImmutableString::new(alloc, name)?)?;
+        push_text(alloc, name, &mut function.params)?;
     }
     if !comment.is_empty() {
-        function
-            .comments
-            .push(ImmutableString::new(alloc, comment)?)?;
+        push_text(alloc, comment, &mut function.comments)?;
     }
     Ok(())
+}
+
+fn push_text(alloc: Global, text: &str, texts: &mut Seq<ImmutableString>) -> Result<(), Unread> {
+    Ok(texts.push(ImmutableString::new(alloc, text)?)?)
 }
 
 /// A function, and below it its statements.

@@ -19,19 +19,30 @@ pub fn answer(
     answer: &mut String,
 ) -> Result<bool, Unread> {
     match question {
-        "value" | "constant" | "range" | "integers" => {
-            of_value(reader.alloc, question, &reader.value(text)?, answer)?
-        }
-        "equal" | "holds" => of_array(reader.alloc, question, &reader.value(text)?, answer)?,
+        "value" | "constant" | "range" | "integers" => of_read(reader, question, text, answer)?,
+        "equal" | "holds" => of_read_array(reader, question, text, answer)?,
         "operate" => {
             let (symbol, operands) = text.split_once(' ').unwrap_or((text, ""));
-            of_array(reader.alloc, symbol, &reader.value(operands)?, answer)?
+            of_read_array(reader, symbol, operands, answer)?
         }
         "scope" => scope(reader.alloc, answer)?,
         "ten" => say_inner(answer, &Dynamic::Int(RangeCase::from(0..=9).len())),
         _ => return Ok(false),
     }
     Ok(true)
+}
+
+fn of_read(reader: Reader, question: &str, text: &str, answer: &mut String) -> Result<(), Unread> {
+    of_value(reader.alloc, question, &reader.value(text)?, answer)
+}
+
+fn of_read_array(
+    reader: Reader,
+    question: &str,
+    text: &str,
+    answer: &mut String,
+) -> Result<(), Unread> {
+    of_array(reader.alloc, question, &reader.value(text)?, answer)
 }
 
 fn of_value(
