@@ -1,0 +1,7 @@
+use Rattle.std.proofs.Common.{rules}
+use Rattle.rhai_reading.specs.Reading.{shapes}
+use Rattle.rhai_values.specs.Reading.{kinds}
+use Rattle.rhai_folding.proofs.folding.value_alone.Goals as goal
+
+pub returns-in-Some-Err-Arithmetic : goal.returns-in-Some-Err-Arithmetic
+returns-in-Some-Err-Arithmetic c = search (rules, shapes, kinds)

@@ -1,0 +1,7 @@
+use Rattle.std.proofs.Common.{rules}
+use Rattle.rhai_values.specs.Reading.{kinds}
+use Rattle.rhai_places.proofs.Indexes.{indexes}
+use Rattle.rhai_places.proofs.steps.index_members.Goals as goal
+
+pub returns-in-Str : goal.returns-in-Str
+returns-in-Str c = search (rules, kinds, indexes)

@@ -1,0 +1,7 @@
+use Rattle.std.proofs.Common.{rules}
+use Rattle.rhai_tokens.proofs.Applied.{applies}
+use Rattle.rhai_tokens.proofs.Applied.{applied_by}
+use Rattle.rhai_tokens.proofs.op_assignment.OpAssignment.is_op_assignment.Goals as goal
+
+pub returns : goal.returns
+returns c = search (rules, applies, applied_by)
