@@ -12,7 +12,7 @@ use Rattle.rhai_tokens.specs.declared.token.Token.{Token}
 use Rattle.rhai_tokens.specs.declared.token.Token.TheVariants as token
 use Rattle.rhai_values.specs.Value.{Text, Value, UnitV, BoolV, IntV, CharV, TextV, same_text, type_name}
 use Rattle.rhai_base.specs.Operators as table
-use Rattle.rhai_base.specs.Operators.{Operator, Computed, NoEntry, is_bool, binary, on_texts, on_chars, text_lt, is_range}
+use Rattle.rhai_base.specs.Operators.{Operator, NoEntry, is_bool, binary, on_texts, on_chars, text_lt, is_range}
 use Rattle.rhai_tokens.specs.Tokens.{makes_range}
 use Rattle.rhai_base.specs.Builtin.{operator_of, plain_operator, row, binary_at, equality_of, compared, unjoined, is_text, joins}
 

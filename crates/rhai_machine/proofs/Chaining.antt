@@ -4,7 +4,7 @@ use Rattle.std.specs.Prelude.{codes, is_some, option_map}
 use Rattle.rhai_values.specs.declared.dynamic.Dynamic.{Dynamic}
 use Rattle.rhai_values.specs.Reading.{value_of}
 use Rattle.rhai_values.specs.Value.{Text, Value, UnitV, BoolV, IntV, CharV, TextV, ArrayV, MapV, PointerV, RangeV, RangeInclusiveV}
-use Rattle.rhai_meaning.specs.Act.{Answer, At, Store, Act, AskHost, run}
+use Rattle.rhai_meaning.specs.Act.{Answer, At, Store, Act, run}
 use Rattle.rhai_meaning.specs.Act as act
 use Rattle.rhai_meaning.specs.ActForms.{answered, ask_method, give}
 use Rattle.rhai_meaning.specs.Chains.{ask_for, index, property, set_by_host, set_index, set_property}

@@ -11,7 +11,7 @@ use Rattle.rhai_meaning.specs.ActForms.{give}
 use Rattle.rhai_meaning.specs.Engine.{constant_named}
 use Rattle.rhai_meaning.specs.Elements.{at_index}
 use Rattle.rhai_meaning.specs.Places as places
-use Rattle.rhai_meaning.specs.Places.{inside, along, or_no_place, read_place, refreshed, part, without_place}
+use Rattle.rhai_meaning.specs.Places.{inside, along, or_no_place, part, without_place}
 use Rattle.rhai_meaning.specs.Run.{reversed}
 use Rattle.rhai_places.specs.declared.places.PlaceKey.{PlaceKey}
 use Rattle.rhai_places.specs.declared.standing.Part.{Part}

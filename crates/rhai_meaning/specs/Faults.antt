@@ -1,5 +1,5 @@
 -- Which trees are well-formed, and what is wrong with others: tests that run nothing.
-use Rattle.std.specs.Prelude.{◌≡◌, ℕ, Bool, true, false, not, ◌&&◌, ◌||◌, List, [], ◌∷◌, Option, Some, None, if◌then◌else◌}
+use Rattle.std.specs.Prelude.{◌≡◌, ℕ, Bool, true, false, not, ◌&&◌, ◌||◌, List, [], ◌∷◌, Option, Some, None}
 use Rattle.rhai_values.specs.Value.{Text}
 use Rattle.rhai_parts.specs.Names.{is_among, reserved, symbols}
 use Rattle.rhai_meaning.specs.Engine.{or_else}

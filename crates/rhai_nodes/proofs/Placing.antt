@@ -11,7 +11,7 @@ use Rattle.rhai_tree.specs.declared.expr.Expr.TheVariants as expr_kind
 use Rattle.rhai_tree.specs.declared.stmt.Stmt.TheVariants as stmt_kind
 use Rattle.rhai_tree.specs.declared.stmt.Stmt as declared_stmt
 use Rattle.rhai_reading.specs.Positions as positions
-use Rattle.rhai_reading.specs.Positions.{ExprLayer, StmtLayer, position_of, stmt_position_of}
+use Rattle.rhai_reading.specs.Positions.{ExprLayer, StmtLayer, position_of}
 use Rattle.rhai_reading.specs.Reading as reading
 use Rattle.rhai_reading.specs.Reading.{expr_of, shared_names, stmt_of}
 use Rattle.rhai_meaning.specs.Tree.{ExprStmt, Share}

@@ -1,5 +1,5 @@
 //! Paths of modules before a name.
-ghost use Rattle.std.specs.Prelude.{◌≡◌, ◌≢◌, [], ◌∷◌, ◌↔◌, IsTrue, map, slice_get, option_map, Some};
+ghost use Rattle.std.specs.Prelude.{◌≡◌, ◌≢◌, [], ◌↔◌, IsTrue, map, slice_get, option_map, Some};
 ghost use Rattle.rhai_parts.specs.Paths.{is_none, names_joined};
 
 use crate::Ident;

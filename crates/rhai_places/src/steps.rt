@@ -2,7 +2,6 @@
 
 #![tactic(auto, using(rhai_values::specs::Reading::kinds, crate::proofs::Indexes::indexes))]
 
-ghost use Rattle.std.specs.Prelude.{◌≡◌};
 ghost use Rattle.rhai_values.specs.Reading.{value_of};
 ghost use Rattle.rhai_values.specs.declared.dynamic.Dynamic.TheVariants as kind;
 ghost use Rattle.rhai_places.specs.Indexing.{IsIndexed, IsIndexTarget};

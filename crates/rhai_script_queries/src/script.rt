@@ -1,6 +1,6 @@
 //! What may be asked of a script.
 
-ghost use Rattle.std.specs.Prelude.{◌≡◌, [], map};
+ghost use Rattle.std.specs.Prelude.{◌≡◌, map};
 ghost use Rattle.rhai_functions.specs.FnLib.{functions_of};
 ghost use Rattle.rhai_meaning.specs.Paths.{listing};
 ghost use Rattle.rhai_meaning.specs.Walk.{over_functions};

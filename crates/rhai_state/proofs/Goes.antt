@@ -15,7 +15,7 @@ use Rattle.rhai_host.specs.Entries.{variable_meant}
 use Rattle.rhai_state.specs.Evaluating.{or_stuck}
 use Rattle.rhai_host.specs.Host.{call_meant}
 use Rattle.rhai_state.specs.Runs as runs
-use Rattle.rhai_state.specs.Runs.{Setting, Task, Acting, Listing, Over, Bound, Within, run_of, env, Goes, Leaving, Halting, stopped, stop_of, Stops, Leads, Runs, given}
+use Rattle.rhai_state.specs.Runs.{Setting, Task, Acting, Listing, Over, Within, run_of, env, Goes, Leaving, Halting, stopped, stop_of, Stops, Leads, Runs, given}
 use Rattle.rhai_state.specs.State.{store_of, named_in, TakesTurn}
 use Rattle.rhai_state.proofs.Scopes.{restore_cut_to, length_scope}
 use Rattle.rhai_state.proofs.ValueAnswers.{or_stuck-ok, or_stuck-err}

@@ -1,7 +1,7 @@
 //! Assignments, straight or by an operator.
 #![tactic(auto, using(crate::proofs::Applied::applies, crate::proofs::Applied::applied_by))]
 
-ghost use Rattle.std.specs.Prelude.{◌≡◌, IsSome, IsNone, IfSome, IfNone, Some, false, true};
+ghost use Rattle.std.specs.Prelude.{◌≡◌, IsSome, IfSome, IfNone, Some, false, true};
 ghost use Rattle.rhai_tokens.specs.Symbols.{token_text};
 ghost use Rattle.rhai_tokens.specs.Tokens.{assignment_of, base_of, applied};
 

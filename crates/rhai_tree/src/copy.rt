@@ -7,9 +7,7 @@ ghost use Rattle.std.specs.Prelude.{◌≡◌, ◌++◌, ◌∷◌, [], IfOk, Ok
 use crate::{
     BinaryExpr, Expr, FlowControl, FnCallExpr, Stmt, StmtBlock, SwitchBlock, SwitchCasesCollection,
 };
-use rhai_base::{
-    Boxed, Dynamic, Ident, ImmutableString, Namespace, OpAssignment, RangeCase, Seq, StringMap,
-};
+use rhai_base::{Boxed, Ident, ImmutableString, Namespace, OpAssignment, RangeCase, Seq};
 use std::alloc::AllocError;
 use std::num::NonZeroUsize;
 
