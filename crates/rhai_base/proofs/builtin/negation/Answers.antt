@@ -1,7 +1,6 @@
 use Rattle.std.proofs.Common.{rules}
 use Rattle.rhai_values.specs.Reading.{kinds}
-use Rattle.rhai_base.specs.Operators.{binary}
-use Rattle.rhai_base.specs.Operators.{on_chars}
+use Rattle.rhai_base.specs.Operators.{binary, on_chars}
 use Rattle.rhai_values.specs.Value.{text_of}
 use Rattle.rhai_base.proofs.builtin.negation.Goals as goal
 

@@ -1,6 +1,5 @@
 use Rattle.std.proofs.Common.{rules}
-use Rattle.rhai_tokens.proofs.Applied.{applies}
-use Rattle.rhai_tokens.proofs.Applied.{applied_by}
+use Rattle.rhai_tokens.proofs.Applied.{applies, applied_by}
 use Rattle.rhai_tokens.proofs.op_assignment.OpAssignment.new_op_assignment_from_base.Goals as goal
 
 pub returns-then-not-has_op_assignment : goal.returns-then-not-has_op_assignment
