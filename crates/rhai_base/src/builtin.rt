@@ -66,10 +66,18 @@ fn negation(x: &Dynamic) -> Option<Dynamic>
 fn join(alloc: Global, x: &Dynamic, y: &Dynamic) -> Result<ImmutableString, OutOfMemory>
     ensures { IfOk result (λ t. t ≡ model.text_of (value_of x.now) ++ model.text_of (value_of y.now)) }
 {
-    let mut text = String::new(alloc);
+    let mut text = String::with_capacity(alloc, room(x).saturating_add(room(y)))?;
     x.push_text(&mut text)?;
     y.push_text(&mut text)?;
-    Ok(ImmutableString::new(alloc, text.as_str())?)
+    Ok(ImmutableString::from_string(text)?)
+}
+
+/// How much room a value takes that is a text. Others find theirs when they are added.
+fn room(value: &Dynamic) -> usize {
+    match value {
+        Dynamic::Str(text) => text.as_str().len(),
+        _ => 0,
+    }
 }
 
 /// All entries but the ranges and those that join texts and characters.

@@ -133,7 +133,7 @@ fn joined_value<'a>(
             None => return Ok(None),
         }
     }
-    let text = ImmutableString::new(alloc, text.as_str())?;
+    let text = ImmutableString::from_string(text)?;
     Ok(Some(Cow::Owned(Dynamic::Str(text))))
 }
 

@@ -80,7 +80,7 @@ fn joined(alloc: Global, first: &Dynamic, second: &Dynamic) -> Result<HostAnswer
     let mut text = String::new(alloc);
     first.push_text(&mut text)?;
     second.push_text(&mut text)?;
-    let text = ImmutableString::new(alloc, text.as_str())?;
+    let text = ImmutableString::from_string(text)?;
     Ok(value_alone(Dynamic::Str(text)))
 }
 

@@ -52,7 +52,7 @@ pub fn joined_text(alloc: Global, values: Seq<Dynamic>) -> Result<Dynamic, Alloc
     for value in values.as_slice() {
         value.push_text(&mut text)?;
     }
-    Ok(Dynamic::Str(ImmutableString::new(alloc, text.as_str())?))
+    Ok(Dynamic::Str(ImmutableString::from_string(text)?))
 }
 
 /// The value, unless it is unit.

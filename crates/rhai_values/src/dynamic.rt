@@ -118,7 +118,7 @@ impl Dynamic {
         }
         let mut text = String::new(alloc);
         self.push_text(&mut text)?;
-        Ok(ImmutableString::new(alloc, text.as_str())?)
+        Ok(ImmutableString::from_string(text)?)
     }
 
     /// Appends what `text_of` answers. A refused call may have appended a beginning of it.

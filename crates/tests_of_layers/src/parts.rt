@@ -12,6 +12,7 @@ pub fn answer(
     answer: &mut String,
 ) -> Result<bool, Unread> {
     match question {
+        "text" => shared(alloc, text, answer)?,
         "box" => boxed(alloc, answer)?,
         "list" => list(alloc, answer)?,
         "only" => only(alloc, answer)?,
@@ -22,6 +23,13 @@ pub fn answer(
         _ => return Ok(false),
     }
     Ok(true)
+}
+
+/// A text that is shared as it stands.
+fn shared(alloc: Global, text: &str, answer: &mut String) -> Result<(), Unread> {
+    let letters = String::from_str(alloc, text)?;
+    say(answer, ImmutableString::from_string(letters)?.as_str());
+    Ok(())
 }
 
 fn boxed(alloc: Global, answer: &mut String) -> Result<(), Unread> {

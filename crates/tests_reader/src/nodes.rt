@@ -111,7 +111,7 @@ fn prefixed(
 ) -> Result<ImmutableString, Unread> {
     let mut text = String::from_str(alloc, before)?;
     text.push_str(name.as_str())?;
-    Ok(ImmutableString::new(alloc, text.as_str())?)
+    Ok(ImmutableString::from_string(text)?)
 }
 
 /// A value as the expression that it is read as.

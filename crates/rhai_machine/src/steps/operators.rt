@@ -87,7 +87,7 @@ pub fn assigning_name(alloc: Global, op: Token) -> Result<ImmutableString, Alloc
     let mut text = String::new(alloc);
     text.push_str(op.literal_syntax())?;
     text.push_str("=")?;
-    ImmutableString::new(alloc, text.as_str())
+    ImmutableString::from_string(text)
 }
 
 /// Whether an operator's assignment is a host call of its name at these values.

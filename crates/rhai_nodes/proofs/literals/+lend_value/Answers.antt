@@ -33,7 +33,7 @@ array_value-loop-item-preserved t c =
 pub joined_value-returns : goal.joined_value-returns
 joined_value-returns t c =
     let all = joined_from-all c.args.parts.now c.loop-part.part-index _ (omega (arith, c.loop-part-test.false, c.loop-part.auto.part-index-end)) c.loop-part.invariant in
-    ap Some (value_of-Str _) ∙ ap (λ u. Some (TextV u)) (c.in_ok-text.ensures ∙ c.as_str.ensures.value) ∙ sym all
+    ap Some (value_of-Str _) ∙ ap (λ u. Some (TextV u)) c.in_ok-text.ensures ∙ sym all
 
 pub map_value-returns : goal.map_value-returns
 map_value-returns t c =

@@ -11,5 +11,5 @@ loop-value-preserved c = texts_next _ _ _ _ _ _ c.loop-value-test.true c.value-i
 
 pub returns : goal.returns
 returns c =
-    value_of-Str c.in_ok-new.field-0
-    ∙ ap TextV (c.in_ok-new.ensures ∙ c.as_str.ensures.value ∙ texts_end (string_bytes c.loop-value.text) (texts_joined (map value_of c.args.values)) c.as_slice-value-items.result.now c.loop-value.value-index (omega (arith, c.loop-value-test.false)) c.loop-value.invariant)
+    value_of-Str c.in_ok-from_string.field-0
+    ∙ ap TextV (c.in_ok-from_string.ensures ∙ texts_end (string_bytes c.loop-value.text) (texts_joined (map value_of c.args.values)) c.as_slice-value-items.result.now c.loop-value.value-index (omega (arith, c.loop-value-test.false)) c.loop-value.invariant)
