@@ -49,7 +49,7 @@ impl<'a, H: Host> Evaluator<'a, H> {
             return self.call_word(state, &call.name, call.capture_parent_scope, args);
         }
         let name = qualified(self.machine.alloc, &call.namespace, call.name.as_str())?;
-        let name = ImmutableString::from_string(name)?;
+        let name = ImmutableString::new(self.machine.alloc, name.as_str())?;
         self.machine.ask_host(state, name, args)
     }
 
