@@ -1,5 +1,5 @@
--- A tree's parts, then its node; and the passes over a list.
-use Rattle.std.proofs.Common.{◌≡◌, ◌<◌, Bool, true, false, List, refl, sym, subst, arith}
+-- A tree's parts, then its node; and the statements of a list, settled one by one.
+use Rattle.std.proofs.Common.{◌≡◌, ◌<◌, ◌≤◌, Bool, true, false, List, refl, sym, subst, arith}
 use Rattle.rhai_tokens.specs.declared.position.Position.{Position}
 use Rattle.rhai_tree.specs.declared.expr.Expr as declared_expr
 use Rattle.rhai_tree.specs.declared.expr.Expr.TheVariants as expr_kind
@@ -11,15 +11,17 @@ use Rattle.rhai_tree.specs.declared.stmt.Stmt.TheVariants as stmt_kind
 use Rattle.rhai_reading.specs.Reading.{expr_of, stmt_of}
 use Rattle.rhai_reading.proofs.Cases.{ExprCase, array_case, braces_case, call_case, expr_cases, StmtCase, if_case, block_case, expression_case, call_statement_case, stmt_cases}
 use Rattle.rhai_meaning.specs.Engine.{Engine}
-use Rattle.rhai_meaning.specs.Tree.{Callee, Expr, ArrayOf, BlockExpr, FnCall, Exprs, Stmt, If, FnCallStmt, Block, ExprStmt, Stmts}
-use Rattle.rhai_rewriting.specs.Context.{Context, knowing, ListKind, Inside}
+use Rattle.rhai_meaning.specs.Tree.{Callee, Expr, ArrayOf, BlockExpr, FnCall, Exprs, Stmt, If, FnCallStmt, Block, ExprStmt, Stmts, no_stmts, stmt}
+use Rattle.rhai_rewriting.specs.Context.{Context, knowing, under, ListKind, Inside}
 use Rattle.rhai_rewriting.specs.Known.{Known}
-use Rattle.rhai_rewriting.specs.Rewriting.{ExprTo, same_expr, then_expr, in_array, in_braces, in_call, StmtTo, same_stmt, then_stmt, in_if, in_block, in_expression, in_call_statement, StmtsTo, flag_forgotten}
-use Rattle.rhai_rewriting.specs.Steps.{ExprRun, ExprsRun, ExprStep, StmtRun, StmtStep, EachRun, StmtsRun}
+use Rattle.rhai_rewriting.specs.Rewriting.{ExprTo, same_expr, then_expr, in_array, in_braces, in_call, StmtTo, same_stmt, then_stmt, in_if, in_block, in_expression, in_call_statement, RestTo, same_stmts, then_stmts, in_head, flag_forgotten}
+use Rattle.rhai_rewriting.specs.Steps.{ExprRun, ExprsRun, ExprStep, StmtRun, StmtStep, InList, SettleRun, EachRun, StmtsRun}
 use Rattle.rhai_rewriting.specs.Residue.{ExprParts, StmtParts}
+use Rattle.rhai_engine.specs.EngineInfo.{nothing_set}
+use Rattle.rhai_optimizer.specs.Blocks.{FlatList}
 use Rattle.rhai_optimizer.specs.Parts.{ExprPartsRun, StmtPartsRun}
-use Rattle.rhai_meaning.specs.Weight.{weight}
-use Rattle.rhai_rewriting.proofs.Weights.{stmts_fall}
+use Rattle.rhai_meaning.specs.Weight.{stmt_weight, weight}
+use Rattle.rhai_rewriting.proofs.Weights.{stmt_falls, stmts_fall}
 use Rattle.rhai_rewriting.proofs.Flags.{expr_kept, stmt_kept, stmts_kept}
 
 -- ---- parts first, then the node; whatever names are known
@@ -90,27 +92,49 @@ stmt_not_opened r _ i b e c = tt
 pub stmt_stays : {k : Context} {w d : Bool} {x : declared_stmt.Stmt} → ((f : FlowControl) (p : Position) → x ≡ stmt_kind.If f p → ⊥) → ((b : StmtBlock) → x ≡ stmt_kind.Block b → ⊥) → ((e : declared_expr.Expr) → x ≡ stmt_kind.Expr e → ⊥) → ((c : FnCallExpr) (p : Position) → x ≡ stmt_kind.FnCall c p → ⊥) → StmtPartsRun k w d d (stmt_of x) (stmt_of x)
 stmt_stays {k = k} {x = x} i b e c = record { to = same_stmt; parts = λ h. stmt_not_opened k.engine (stmt_cases x) i b e c }
 
--- ---- passes
+-- ---- a statement of a list, passed until nothing changes
 
--- a pass from a clear flag, after which the flag is set
-pub stmts_again : {k : Context} {m : ListKind} (d : Bool) {s s' : Stmts} → StmtsTo k m false true s s' → StmtsTo k m d true s s'
-stmts_again false p = p
-stmts_again true p = flag_forgotten p
+-- a pass, in a list
+in_list : {k : Context} {w d d' : Bool} {s s' : Stmt} → StmtTo k w d d' s s' → InList k w d d' s s'
+in_list {k = k} {d = d} {d' = d'} {s = s} {s' = s'} p m u ss h = in_head (subst (λ w. StmtTo k w d d' s s') h p)
 
--- a pass that set the flag, and one that left it clear
-pub stmts_turn : {k : Context} {m : ListKind} {a b : Bool} (d : Bool) {s s' : Stmts} → a ≡ false → b ≡ true → StmtsTo k m a b s s' → StmtsTo k m d true s s'
-stmts_turn {k = k} {m = m} {a = a} {b = b} d {s = s} {s' = s'} ea eb p =
-    stmts_again d (subst (λ x. StmtsTo k m x true s s') ea (subst (λ x. StmtsTo k m a x s s') eb p))
+-- before the first pass
+pub settle_start : {r : Engine} {w d f : Bool} {s : Stmt} → f ≡ d → (known : List Known) → InList (knowing r known) w d f s s
+settle_start {r = r} {d = d} {s = s} e known m u ss h = subst (λ x. RestTo (knowing r known) m u d x (stmt s ss) (stmt s ss)) (sym e) same_stmts
 
-pub turn_falls : {k : Context} {m : ListKind} {a b : Bool} {s s' : Stmts} → a ≡ false → b ≡ true → StmtsTo k m a b s s' → weight s' < weight s
-turn_falls {k = k} {m = m} {a = a} {b = b} {s = s} {s' = s'} ea eb p =
-    omega (arith, stmts_fall (subst (λ x. StmtsTo k m x true s s') ea (subst (λ x. StmtsTo k m a x s s') eb p)))
+-- it gets no heavier
+pub settle_fits : {k : Context} {w d d' : Bool} {s s' : Stmt} → InList k w d d' s s' → stmt_weight s' ≤ stmt_weight s
+settle_fits {w = w} p = omega (arith, stmts_fall (p (Inside w) true no_stmts refl))
 
--- the passes end
-pub stmts_leave : {k : Context} {m : ListKind} {d d' f a b : Bool} {s s1 s2 : Stmts} → d' ≡ f → StmtsTo k m d f s s1 → EachRun k m a b s1 s2 → b ≡ false → StmtsRun k m d d' s s2
-stmts_leave {k = k} {m = m} {d = d} {f = f} {s = s} {s2 = s2} ef p e h =
-    let i = (stmts_kept (e.to true) h).1 in
-    record { to = subst (λ x. StmtsTo k m d x s s2) (sym ef) (subst (λ x. StmtsTo k m d f s x) i p); reduced = e.reduced h }
+-- a pass that began with a clear flag and set it
+from_clear : {k : Context} {w a b : Bool} {s s' : Stmt} → a ≡ false → b ≡ true → StmtTo k w a b s s' → StmtTo k w false true s s'
+from_clear {k = k} {w = w} {a = a} {s = s} {s' = s'} ea eb p = subst (λ x. StmtTo k w x true s s') ea (subst (λ x. StmtTo k w a x s s') eb p)
+
+pub turn_falls : {k : Context} {w a b : Bool} {s s' : Stmt} → a ≡ false → b ≡ true → StmtTo k w a b s s' → stmt_weight s' < stmt_weight s
+turn_falls ea eb p = omega (arith, stmt_falls (from_clear ea eb p))
+
+-- whatever the flag was before it
+again : {k : Context} {m : ListKind} {u : Bool} (d : Bool) {ss ss' : Stmts} → RestTo k m u false true ss ss' → RestTo k m u d true ss ss'
+again false p = p
+again true p = flag_forgotten p
+
+pub settle_again : {k : Context} {w d d1 a b : Bool} {s s1 s2 : Stmt} → InList k w d d1 s s1 → a ≡ false → b ≡ true → StmtTo k w a b s1 s2 → InList k w d true s s2
+settle_again {d1 = d1} p ea eb q m u ss h = then_stmts (p m u ss h) (again d1 (in_list (from_clear ea eb q) m u ss h))
+
+-- the last pass changed nothing
+pub settled : {k : Context} {w d d' f a b : Bool} {s s1 s2 : Stmt} → d' ≡ f → InList k w d f s s1 → b ≡ false → StmtRun k w a b s1 s2 → SettleRun k w d d' s s2
+settled {k = k} {w = w} {d = d} {f = f} {s = s} {s2 = s2} ef p h r =
+    let i = (stmt_kept r.to h).1 in
+    record { to = subst (λ x. InList k w d x s s2) (sym ef) (subst (λ x. InList k w d f s x) i p); reduced = r.reduced h }
+
+-- ---- a list, flattened and then settled
+
+-- flattened, it is no heavier
+pub flat_fits : {m : ListKind} {d d' : Bool} {ss ss' : Stmts} → FlatList m d d' ss ss' → weight ss' ≤ weight ss
+flat_fits f = omega (arith, stmts_fall (f.to (under nothing_set)))
+
+pub stmts_run : {r : Engine} {m : ListKind} {d d1 d2 : Bool} {ss ss1 ss2 : Stmts} → FlatList m d d1 ss ss1 → ((known : List Known) → EachRun (knowing r known) m d1 d2 ss1 ss2) → (known : List Known) → StmtsRun (knowing r known) m d d2 ss ss2
+stmts_run {r = r} f e known = record { to = then_stmts (f.to (knowing r known)) ((e known).to true); reduced = (e known).reduced }
 
 -- whatever the flag was
 pub run_forgetting : {k : Context} {m : ListKind} {d d' : Bool} {s s' : Stmts} → StmtsRun k m d d' s s' → StmtsRun k m true true s s'

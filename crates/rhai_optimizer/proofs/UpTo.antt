@@ -1,5 +1,5 @@
 -- A list that is rewritten in its own memory, an item at a time: the first n are done, the others are to come.
-use Rattle.std.proofs.Common.{◌≡◌, ◌<◌, ◌≤◌, ℕ, ◌+◌, Bool, true, List, [], ◌∷◌, ◌++◌, length, get_or, set, take, drop, sym, ap, ◌∙◌, subst, arith, append_assoc, append-nil}
+use Rattle.std.proofs.Common.{◌≡◌, ◌<◌, ◌≤◌, ℕ, ◌+◌, Bool, List, [], ◌∷◌, ◌++◌, length, get_or, set, take, drop, sym, ap, ◌∙◌, subst, arith, append_assoc, append-nil, refl}
 use Rattle.std.proofs.lemmas.List.{drop_more, drop_all, take_all, take_more_set, drop-set-lt, length-set}
 use Rattle.rhai_tree.specs.declared.expr.Expr as declared_expr
 use Rattle.rhai_tree.specs.declared.stmt.Stmt as declared_stmt
@@ -8,11 +8,11 @@ use Rattle.rhai_meaning.specs.Tree.{Expr, Exprs, expr, Stmt, Stmts, stmt}
 use Rattle.rhai_reading.specs.Reading.{expr_of, exprs_of, stmt_of, stmts_of}
 use Rattle.rhai_rewriting.specs.Context.{Context, knowing, behind, known_behind, ListKind, wanted, wanted_before}
 use Rattle.rhai_rewriting.specs.Known.{Known}
-use Rattle.rhai_rewriting.specs.Rewriting.{exprs_none, exprs_more, same_stmts, then_stmts, in_head, in_tail}
-use Rattle.rhai_rewriting.specs.Steps.{ExprRun, ExprsRun, StmtRun, EachRun}
+use Rattle.rhai_rewriting.specs.Rewriting.{exprs_none, exprs_more, same_stmts, then_stmts, in_tail}
+use Rattle.rhai_rewriting.specs.Steps.{ExprRun, ExprsRun, SettleRun, EachRun}
 use Rattle.rhai_meaning.specs.Weight.{expr_weight, exprs_weight, stmt_weight, weight}
 use Rattle.rhai_rewriting.specs.SurelyUnit.{is_surely_unit}
-use Rattle.rhai_rewriting.proofs.Flags.{exprs_kept, stmts_kept}
+use Rattle.rhai_rewriting.proofs.Flags.{exprs_kept}
 
 -- ---- for any items
 
@@ -62,8 +62,8 @@ exprs_run : {k : Context} {d d1 d2 : Bool} {e e' : Expr} {es es' : Exprs} → Ex
 exprs_run p q = record { to = exprs_more p.to q.to; reduced = λ h. (p.reduced (exprs_kept q.to h).0, q.reduced h) }
 
 -- a statement, then those that know what it declares
-each_run : {k : Context} {m : ListKind} {d d1 d2 : Bool} {s s' : Stmt} {ss ss' : Stmts} → StmtRun k (wanted_before (wanted m) ss) d d1 s s' → EachRun (behind s' k) m d1 d2 ss ss' → EachRun k m d d2 (stmt s ss) (stmt s' ss')
-each_run {s' = s'} p q = record { to = λ u. then_stmts (in_head p.to) (in_tail (q.to (is_surely_unit s'))); reduced = λ h. (p.reduced (stmts_kept (q.to true) h).0, q.reduced h) }
+each_run : {k : Context} {m : ListKind} {d d1 d2 : Bool} {s s' : Stmt} {ss ss' : Stmts} → SettleRun k (wanted_before (wanted m) ss) d d1 s s' → EachRun (behind s' k) m d1 d2 ss ss' → EachRun k m d d2 (stmt s ss) (stmt s' ss')
+each_run {m = m} {s' = s'} {ss = ss} p q = record { to = λ u. then_stmts (p.to m u ss refl) (in_tail (q.to (is_surely_unit s'))); reduced = (p.reduced, q.reduced) }
 
 -- ---- expressions
 
@@ -97,17 +97,17 @@ stmts_weigh ss = weight (stmts_of ss)
 
 -- Whatever names are known: so what a statement declares may be known to those after it.
 pub record StmtItem (r : Engine) (m : ListKind) (rest : List declared_stmt.Stmt) (d d' : Bool) (s s' : declared_stmt.Stmt) : Type 0 where
-  pub run : (known : List Known) → StmtRun (knowing r known) (wanted_before (wanted m) (stmts_of rest)) d d' (stmt_of s) (stmt_of s')
+  pub run : (known : List Known) → SettleRun (knowing r known) (wanted_before (wanted m) (stmts_of rest)) d d' (stmt_of s) (stmt_of s')
 
 pub record StmtItems (r : Engine) (m : ListKind) (d d' : Bool) (ss ss' : List declared_stmt.Stmt) : Type 0 where
   pub run : (known : List Known) → EachRun (knowing r known) m d d' (stmts_of ss) (stmts_of ss')
 
-pub stmt_item : {r : Engine} {m : ListKind} {w d d' : Bool} {rest : List declared_stmt.Stmt} {s s' : declared_stmt.Stmt} → w ≡ wanted_before (wanted m) (stmts_of rest) → ((known : List Known) → StmtRun (knowing r known) w d d' (stmt_of s) (stmt_of s')) → StmtItem r m rest d d' s s'
-stmt_item {r = r} {d = d} {d' = d'} {s = s} {s' = s'} h f = record { run = λ known. subst (λ w. StmtRun (knowing r known) w d d' (stmt_of s) (stmt_of s')) h (f known) }
+pub stmt_item : {r : Engine} {m : ListKind} {w d d' : Bool} {rest : List declared_stmt.Stmt} {s s' : declared_stmt.Stmt} → w ≡ wanted_before (wanted m) (stmts_of rest) → ((known : List Known) → SettleRun (knowing r known) w d d' (stmt_of s) (stmt_of s')) → StmtItem r m rest d d' s s'
+stmt_item {r = r} {d = d} {d' = d'} {s = s} {s' = s'} h f = record { run = λ known. subst (λ w. SettleRun (knowing r known) w d d' (stmt_of s) (stmt_of s')) h (f known) }
 
 pub stmts_by : (r : Engine) (m : ListKind) → ByItems stmt_weighs stmts_weigh (StmtItem r m) (StmtItems r m)
 stmts_by r m = record {
-  none = record { run = λ known. record { to = λ u. same_stmts; reduced = λ h. tt } };
+  none = record { run = λ known. record { to = λ u. same_stmts; reduced = tt } };
   more = λ {y = y} i is. record { run = λ known. each_run (i.run known) (is.run (known_behind (stmt_of y) known)) };
   heavier = λ x rest. omega arith;
 }

@@ -1,7 +1,7 @@
 -- What the functions of the optimiser promise: a tree was rewritten, and where the dirty flag is clear afterwards
 -- nothing in it is left to reduce.
 use Rattle.std.specs.Prelude.{◌≡◌, Bool, true, false}
-use Rattle.rhai_meaning.specs.Tree.{Expr, Exprs, Stmt, Stmts, joined}
+use Rattle.rhai_meaning.specs.Tree.{Expr, Exprs, Stmt, Stmts, stmt, joined}
 use Rattle.rhai_rewriting.specs.Residue.{IsReducedExpr, AreReducedExprs, IsReduced, AreReduced, ExprParts, StmtParts}
 use Rattle.rhai_rewriting.specs.Context.{Context, ListKind, wanted, wanted_before}
 use Rattle.rhai_rewriting.specs.Rewriting.{ExprTo, ExprsTo, StmtTo, RestTo, StmtsTo}
@@ -21,12 +21,21 @@ pub record StmtRun (k : Context) (w d d' : Bool) (s s' : Stmt) : Type 0 where
   pub to : StmtTo k w d d' s s'
   pub reduced : d' ≡ false → IsReduced k.engine s'
 
--- each statement of a list once, whatever stands before it
+-- a statement of any list, whatever stands before it and after it, but for whether its value is wanted there
+abbrev pub InList : Context → Bool → Bool → Bool → Stmt → Stmt → Type 0
+InList k w d d' s s' = (m : ListKind) (u : Bool) (ss : Stmts) → w ≡ wanted_before (wanted m) ss → RestTo k m u d d' (stmt s ss) (stmt s' ss)
+
+-- a statement of a list is passed until nothing changes, whatever the flag was before
+pub record SettleRun (k : Context) (w d d' : Bool) (s s' : Stmt) : Type 0 where
+  pub to : InList k w d d' s s'
+  pub reduced : IsReduced k.engine s'
+
+-- each statement of a list is settled, whatever stands before the list
 pub record EachRun (k : Context) (m : ListKind) (d d' : Bool) (ss ss' : Stmts) : Type 0 where
   pub to : (u : Bool) → RestTo k m u d d' ss ss'
-  pub reduced : d' ≡ false → AreReduced k.engine ss'
+  pub reduced : AreReduced k.engine ss'
 
--- a list is passed until nothing changes, whatever the flag was before
+-- a whole list
 pub record StmtsRun (k : Context) (m : ListKind) (d d' : Bool) (ss ss' : Stmts) : Type 0 where
   pub to : StmtsTo k m d d' ss ss'
   pub reduced : AreReduced k.engine ss'
