@@ -5,7 +5,7 @@
 ghost use Rattle.std.specs.Prelude.{◌≡◌, IfOk, Some, [], ◌∷◌};
 ghost use Rattle.std.specs.Option.{option_map};
 ghost use Rattle.rhai_values.specs.Reading.{value_of};
-ghost use Rattle.rhai_values.specs.Value.{IntV};
+ghost use Rattle.rhai_values.specs.Value.{IntV, TextV};
 ghost use Rattle.rhai_reading.specs.Reading.{callee_of, expr_of, exprs_of, mark_of};
 ghost use Rattle.rhai_base.specs.Builtin.{computed_of};
 ghost use Rattle.rhai_meaning.specs.Constants as constants;
@@ -14,7 +14,7 @@ ghost use Rattle.rhai_engine.specs.EngineInfo.{engine_of};
 ghost use Rattle.rhai_rewriting.specs.Folding as spec;
 
 use rhai_ast::{Expr, FnCallExpr, Literals};
-use rhai_base::{Dynamic, Fault, INT, OutOfMemory, Token};
+use rhai_base::{Dynamic, Fault, INT, ImmutableString, OutOfMemory, Token};
 use rhai_engine::EngineInfo;
 use std::alloc::Global;
 
@@ -29,7 +29,9 @@ fn value_alone(answer: Option<Result<Dynamic, Fault>>) -> Option<Dynamic>
     }
 }
 
-/// The value of an operator call over constants, where it is built in and answers one.
+/// The value of an operator call over constants, where it is built in and answers one. A call of a function is left at once, before
+/// room is set aside for a value.
+#[inline]
 pub fn folded(
     alloc: Global,
     info: &EngineInfo,
@@ -37,10 +39,23 @@ pub fn folded(
 ) -> Result<Option<Dynamic>, OutOfMemory>
     ensures { IfOk result (λ v. option_map value_of v ≡ spec.folded (engine_of info.now) (callee_of call.now) (exprs_of call.now.args)) }
 {
-    let Some(op) = call.op_token else {
-        return Ok(None);
-    };
-    match call.args.as_slice() {
+    match call.op_token {
+        Some(op) => folded_operator(alloc, info, op, call.args.as_slice()),
+        None => Ok(None),
+    }
+}
+
+/// The value of an operator over its operands, where they are constants.
+#[inline(never)]
+fn folded_operator(
+    alloc: Global,
+    info: &EngineInfo,
+    op: Token,
+    operands: &[Expr],
+) -> Result<Option<Dynamic>, OutOfMemory>
+    ensures { IfOk result (λ v. option_map value_of v ≡ spec.folded_values (engine_of info.now) (mark_of (Some op)) (constants.constant_values (exprs_of operands.now))) }
+{
+    match operands {
         [x] => folded_one(alloc, info, op, x),
         [x, y] => folded_two(alloc, info, op, x, y),
         _ => Ok(None),
@@ -94,6 +109,27 @@ fn folded_integers(
     folded_values(alloc, info, op, &integer(x), &integer(y))
 }
 
+fn text(text: ImmutableString) -> Dynamic
+    ensures { value_of result ≡ TextV text }
+{
+    Dynamic::Str(text)
+}
+
+/// Texts are taken as they stand too: what counts their owners is all that changes.
+fn folded_texts(
+    alloc: Global,
+    info: &EngineInfo,
+    op: Token,
+    x: &ImmutableString,
+    y: &ImmutableString,
+) -> Result<Option<Dynamic>, OutOfMemory>
+    ensures { IfOk result (λ v. option_map value_of v ≡ spec.folded_values (engine_of info.now) (mark_of (Some op)) (Some (TextV x.now ∷ TextV y.now ∷ []))) }
+{
+    let x = text(x.clone()?);
+    let y = text(y.clone()?);
+    folded_values(alloc, info, op, &x, &y)
+}
+
 fn folded_two(
     alloc: Global,
     info: &EngineInfo,
@@ -106,6 +142,9 @@ fn folded_two(
     match (x, y) {
         (Expr::IntegerConstant(x, _), Expr::IntegerConstant(y, _)) => {
             folded_integers(alloc, info, op, *x, *y)
+        }
+        (Expr::StringConstant(x, _), Expr::StringConstant(y, _)) => {
+            folded_texts(alloc, info, op, x, y)
         }
         _ => folded_constants(alloc, info, op, x, y),
     }
