@@ -106,12 +106,13 @@ pub fn answer(
     name: &str,
     answer: &mut String,
 ) -> Result<bool, Unread> {
-    match question {
-        "guide-tree" => guide_trees::answer(alloc, name, answer)?,
-        "guide-script" => of_configuration(alloc, answer)?,
-        "guide-scripts" => of_two(alloc, answer)?,
+    let answered = match question {
+        "guide-tree" => guide_trees::answer(alloc, name, answer),
+        "guide-script" => of_configuration(alloc, answer),
+        "guide-scripts" => of_two(alloc, answer),
         _ => return Ok(false),
-    }
+    };
+    answered?;
     Ok(true)
 }
 

@@ -19,14 +19,13 @@ pub fn answer(
     text: &str,
     answer: &mut String,
 ) -> Result<bool, Unread> {
-    match question {
-        "join" => join(reader, text, answer)?,
-        "of-functions" => say_functions(&script(reader.alloc, text)?, answer),
-        "walk-script" | "variables" | "lends" => {
-            of_script(reader, question, &walked(reader, text)?, answer)?
-        }
+    let answered = match question {
+        "join" => join(reader, text, answer),
+        "of-functions" => of_functions(reader, text, answer),
+        "walk-script" | "variables" | "lends" => of_walked(reader, question, text, answer),
         _ => return Ok(false),
-    }
+    };
+    answered?;
     Ok(true)
 }
 
@@ -188,6 +187,15 @@ fn table(reader: Reader, text: &str) -> Result<FnLib, Unread> {
     Ok(FnLib::from_functions(reader.alloc, functions)?)
 }
 
+fn of_walked(
+    reader: Reader,
+    question: &str,
+    text: &str,
+    answer: &mut String,
+) -> Result<(), Unread> {
+    of_script(reader, question, &walked(reader, text)?, answer)
+}
+
 fn of_script(
     reader: Reader,
     question: &str,
@@ -205,6 +213,11 @@ fn of_script(
         "lends" => lends(reader.alloc, script, answer),
         _ => say_walk(reader.alloc, &Walked::Script(script), answer),
     }
+}
+
+fn of_functions(reader: Reader, text: &str, answer: &mut String) -> Result<(), Unread> {
+    say_functions(&script(reader.alloc, text)?, answer);
+    Ok(())
 }
 
 /// The definitions in order, by their comments, and what functions say of themselves.

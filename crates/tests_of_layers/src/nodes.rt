@@ -19,9 +19,9 @@ pub fn answer(
     text: &str,
     answer: &mut String,
 ) -> Result<bool, Unread> {
-    match question {
+    let answered = match question {
         "expr" | "expr-place" | "take-expr" | "literal" | "call" | "spoiled" => {
-            of_expr(reader.alloc, question, reader.expr(text)?.get_mut(), answer)?
+            of_read_expr(reader, question, text, answer)
         }
         "stmt"
         | "no-names"
@@ -33,11 +33,22 @@ pub fn answer(
         | "walk-below"
         | "table"
         | "cases"
-        | "block-of" => of_stmt(reader.alloc, question, reader.stmt(text)?.get_mut(), answer)?,
-        "defaults" => defaults(reader.alloc, answer)?,
+        | "block-of" => of_read_stmt(reader, question, text, answer),
+        "defaults" => defaults(reader.alloc, answer),
         _ => return Ok(false),
-    }
+    };
+    answered?;
     Ok(true)
+}
+
+fn of_read_expr(
+    reader: Reader,
+    question: &str,
+    text: &str,
+    answer: &mut String,
+) -> Result<(), Unread> {
+    let mut expr = reader.expr(text)?;
+    of_expr(reader.alloc, question, expr.get_mut(), answer)
 }
 
 fn of_expr(
@@ -59,6 +70,16 @@ fn of_expr(
         _ => return spoiled(alloc, expr, answer),
     }
     Ok(())
+}
+
+fn of_read_stmt(
+    reader: Reader,
+    question: &str,
+    text: &str,
+    answer: &mut String,
+) -> Result<(), Unread> {
+    let mut statement = reader.stmt(text)?;
+    of_stmt(reader.alloc, question, statement.get_mut(), answer)
 }
 
 fn of_stmt(
@@ -144,18 +165,22 @@ fn take_stmt(statement: &mut Stmt, answer: &mut String) {
 
 /// Nodes that are left out.
 fn defaults(alloc: Global, answer: &mut String) -> Result<(), Unread> {
-    say_if(
-        answer,
-        Boxed::new(alloc, Expr::default())?.get().is_unit(),
-        "unit",
-    );
-    say_if(
-        answer,
-        Boxed::new(alloc, Stmt::default())?.get().is_noop(),
-        "noop",
-    );
+    say_default_expr(alloc, answer)?;
+    say_default_stmt(alloc, answer)?;
     let sides = Boxed::new(alloc, BinaryExpr::default())?;
     say_if(answer, are_units(sides.get()), "both units");
+    Ok(())
+}
+
+fn say_default_expr(alloc: Global, answer: &mut String) -> Result<(), Unread> {
+    let expr = Boxed::new(alloc, Expr::default())?;
+    say_if(answer, expr.get().is_unit(), "unit");
+    Ok(())
+}
+
+fn say_default_stmt(alloc: Global, answer: &mut String) -> Result<(), Unread> {
+    let statement = Boxed::new(alloc, Stmt::default())?;
+    say_if(answer, statement.get().is_noop(), "noop");
     Ok(())
 }
 

@@ -11,17 +11,18 @@ pub fn answer(
     text: &str,
     answer: &mut String,
 ) -> Result<bool, Unread> {
-    match question {
-        "text" => shared(alloc, text, answer)?,
-        "box" => boxed(alloc, answer)?,
-        "list" => list(alloc, answer)?,
-        "only" => only(alloc, answer)?,
-        "rest" => rest(alloc, answer)?,
-        "map" => map(alloc, text, answer)?,
-        "function-name" => function_name(alloc, text.trim_matches('"'), answer)?,
-        "path" => path(alloc, text, answer)?,
+    let answered = match question {
+        "text" => shared(alloc, text, answer),
+        "box" => boxed(alloc, answer),
+        "list" => list(alloc, answer),
+        "only" => only(alloc, answer),
+        "rest" => rest(alloc, answer),
+        "map" => map(alloc, text, answer),
+        "function-name" => function_name(alloc, text.trim_matches('"'), answer),
+        "path" => path(alloc, text, answer),
         _ => return Ok(false),
-    }
+    };
+    answered?;
     Ok(true)
 }
 

@@ -18,15 +18,16 @@ pub fn answer(
 ) -> Result<bool, Unread> {
     let alloc = reader.alloc;
     let (first, rest) = text.split_once('\n').unwrap_or((text, ""));
-    match question {
-        "functions" => functions(alloc, text, answer)?,
-        "found" => found(alloc, first, rest, answer)?,
-        "source" => source(script(alloc, text)?, answer)?,
-        "halves" => halves(&mut script(alloc, text)?, answer)?,
-        "module" => module(alloc, text, answer)?,
-        "private" => private(alloc, with_body(reader, text)?, answer)?,
+    let answered = match question {
+        "functions" => functions(alloc, text, answer),
+        "found" => found(alloc, first, rest, answer),
+        "source" => source(alloc, text, answer),
+        "halves" => halves(alloc, text, answer),
+        "module" => module(alloc, text, answer),
+        "private" => private(reader, text, answer),
         _ => return Ok(false),
-    }
+    };
+    answered?;
     Ok(true)
 }
 
@@ -71,14 +72,20 @@ fn function(alloc: Global, line: &str) -> Result<ScriptFuncDef, Unread> {
     Ok(function)
 }
 
-fn name_all(alloc: Global, line: &str, function: &mut ScriptFuncDef) -> Result<(), Unread> {
-    let (signature, comment) = line.split_once(" // ").unwrap_or((line, ""));
-    let (head, params) = signature.split_once(' ').unwrap_or((signature, ""));
+/// Gives a function the type of its receiver and its name, as `i64.f`.
+fn name_head(alloc: Global, head: &str, function: &mut ScriptFuncDef) -> Result<(), Unread> {
     let (receiver, name) = head.split_once('.').unwrap_or(("", head));
     function.name = ImmutableString::new(alloc, name)?;
     if !receiver.is_empty() {
         function.this_type = Some(ImmutableString::new(alloc, receiver)?);
     }
+    Ok(())
+}
+
+fn name_all(alloc: Global, line: &str, function: &mut ScriptFuncDef) -> Result<(), Unread> {
+    let (signature, comment) = line.split_once(" // ").unwrap_or((line, ""));
+    let (head, params) = signature.split_once(' ').unwrap_or((signature, ""));
+    name_head(alloc, head, function)?;
     for name in params.split_whitespace() {
         push_text(alloc, name, &mut function.params)?;
     }
@@ -150,16 +157,21 @@ fn found(alloc: Global, name: &str, functions: &str, answer: &mut String) -> Res
 }
 
 /// The id follows the source; a table that two scripts share is copied first. A refused source changes nothing.
-fn source(mut first: AST, answer: &mut String) -> Result<(), Unread> {
+fn source(alloc: Global, text: &str, answer: &mut String) -> Result<(), Unread> {
+    let mut first = script(alloc, text)?;
     let mut second = first.clone()?;
-    say_shared(&first, &second, answer);
-    say_if(answer, second.set_source("z").is_err(), "refused");
-    say_shared(&first, &second, answer);
-    first.clear_source();
-    say_shared(&first, &second, answer);
-    say_if(answer, first.set_source("").is_err(), "refused");
-    say_shared(&first, &second, answer);
+    say_sources(&mut first, &mut second, answer);
     Ok(())
+}
+
+fn say_sources(first: &mut AST, second: &mut AST, answer: &mut String) {
+    say_shared(first, second, answer);
+    say_if(answer, second.set_source("z").is_err(), "refused");
+    say_shared(first, second, answer);
+    first.clear_source();
+    say_shared(first, second, answer);
+    say_if(answer, first.set_source("").is_err(), "refused");
+    say_shared(first, second, answer);
 }
 
 /// Says whether two scripts share a table, and what they have.
@@ -172,8 +184,14 @@ fn say_shared(first: &AST, second: &AST, answer: &mut String) {
 }
 
 /// The functions of a script alone, its statements alone, and the script without its statements, and then without its functions.
-fn halves(whole: &mut AST, answer: &mut String) -> Result<(), Unread> {
-    say_halves(whole, answer)?;
+fn halves(alloc: Global, text: &str, answer: &mut String) -> Result<(), Unread> {
+    let mut whole = script(alloc, text)?;
+    say_functions_only(&whole, answer)?;
+    say_statements_only(&whole, answer)?;
+    clear(&mut whole, answer)
+}
+
+fn clear(whole: &mut AST, answer: &mut String) -> Result<(), Unread> {
     whole.clear_statements();
     say_line(answer, "cleared");
     say_script(whole, answer);
@@ -183,9 +201,13 @@ fn halves(whole: &mut AST, answer: &mut String) -> Result<(), Unread> {
     Ok(())
 }
 
-fn say_halves(whole: &AST, answer: &mut String) -> Result<(), Unread> {
+fn say_functions_only(whole: &AST, answer: &mut String) -> Result<(), Unread> {
     say_line(answer, "functions");
     say_script(&whole.clone_functions_only()?, answer);
+    Ok(())
+}
+
+fn say_statements_only(whole: &AST, answer: &mut String) -> Result<(), Unread> {
     say_line(answer, "statements");
     say_script(&whole.clone_statements_only()?, answer);
     Ok(())
@@ -198,21 +220,33 @@ fn module(alloc: Global, id: &str, answer: &mut String) -> Result<(), Unread> {
     lib.set_id(id)?;
     say_table(&lib.clone()?, answer);
     put(answer, ";");
-    say_script(&AST::new_from_module(Rc::new(alloc, lib)?)?, answer);
+    say_script_of(alloc, lib, answer)?;
     put(answer, ";");
     say_script(&AST::empty(alloc)?, answer);
     Ok(())
 }
 
+fn say_script_of(alloc: Global, lib: FnLib, answer: &mut String) -> Result<(), Unread> {
+    say_script(&AST::new_from_module(Rc::new(alloc, lib)?)?, answer);
+    Ok(())
+}
+
 /// A private function, its copy, and what a filter of the public ones leaves of a script of it.
-fn private(alloc: Global, mut function: ScriptFuncDef, answer: &mut String) -> Result<(), Unread> {
+fn private(reader: Reader, text: &str, answer: &mut String) -> Result<(), Unread> {
+    let mut function = with_body(reader, text)?;
     function.access = FnAccess::Private;
-    say_function(&function, answer);
+    say_copied(&function, answer)?;
+    let script = of_one(reader.alloc, function)?;
+    say_retained(&script, "public", "", answer)
+}
+
+/// Says what a function and its copy are.
+fn say_copied(function: &ScriptFuncDef, answer: &mut String) -> Result<(), Unread> {
+    say_function(function, answer);
     say_function(&function.clone()?, answer);
     let is_same = FnNamespace::Global == FnNamespace::Internal;
     say_if(answer, is_same, "one namespace");
-    let script = of_one(alloc, function)?;
-    say_retained(&script, "public", "", answer)
+    Ok(())
 }
 
 fn of_one(alloc: Global, function: ScriptFuncDef) -> Result<AST, Unread> {

@@ -21,24 +21,28 @@ pub fn answer(
     text: &str,
     answer: &mut String,
 ) -> Result<bool, Unread> {
-    match question {
-        "fault" | "plain" | "walk-list" => {
-            of_lines(
-                reader.alloc,
-                question,
-                reader.lines(text)?.as_slice(),
-                answer,
-            )?
-        }
-        "flags" => flags(reader, text, answer)?,
-        "function" => function(reader, text, answer)?,
-        "block" => block(reader.lines(text)?, answer)?,
-        "grown-block" => grown_block(reader, text, answer)?,
-        "no-block" => no_block(reader.alloc, answer)?,
-        "refusal" => refusal(text, answer)?,
+    let answered = match question {
+        "fault" | "plain" | "walk-list" => of_read_lines(reader, question, text, answer),
+        "flags" => flags(reader, text, answer),
+        "function" => function(reader, text, answer),
+        "block" => block(reader, text, answer),
+        "grown-block" => grown_block(reader, text, answer),
+        "no-block" => no_block(reader.alloc, answer),
+        "refusal" => refusal(text, answer),
         _ => return Ok(false),
-    }
+    };
+    answered?;
     Ok(true)
+}
+
+fn of_read_lines(
+    reader: Reader,
+    question: &str,
+    text: &str,
+    answer: &mut String,
+) -> Result<(), Unread> {
+    let statements = reader.lines(text)?;
+    of_lines(reader.alloc, question, statements.as_slice(), answer)
 }
 
 fn of_lines(
@@ -133,14 +137,20 @@ fn say_block(block: &StmtBlock, answer: &mut String) {
 }
 
 /// A block from column 2 to column 4, its copy, and what it gives.
-fn block(statements: Vec<Stmt>, answer: &mut String) -> Result<(), Unread> {
-    let block = StmtBlock::new(statements, at(2), at(4));
-    say_block(&block, answer);
+fn block(reader: Reader, text: &str, answer: &mut String) -> Result<(), Unread> {
+    let block = StmtBlock::new(reader.lines(text)?, at(2), at(4));
+    say_copied(&block, answer)?;
+    say_gone_over(&block, answer);
+    say_all(block, answer);
+    Ok(())
+}
+
+/// Says what a block and its copy are.
+fn say_copied(block: &StmtBlock, answer: &mut String) -> Result<(), Unread> {
+    say_block(block, answer);
     put(answer, ";");
     say_block(&block.clone()?, answer);
     put(answer, ";");
-    say_gone_over(&block, answer);
-    say_all(block, answer);
     Ok(())
 }
 
@@ -164,18 +174,28 @@ fn say_all(block: StmtBlock, answer: &mut String) {
 /// A block that grows by `2` and by nothing, and moves.
 fn grown_block(reader: Reader, text: &str, answer: &mut String) -> Result<(), Unread> {
     let mut block = StmtBlock::new(reader.lines(text)?, at(2), at(4));
-    block.extend(reader.lines("2")?)?;
-    block.statements_mut().push(Stmt::Noop(Position::NONE))?;
-    block.set_position(at(3), Position::NONE);
-    say_block(&block, answer);
-    let span = block.span_or_else(at(7), at(8));
-    say_place(answer, "or from", span.start());
-    say_place(answer, "to", span.end());
+    grow(reader, &mut block)?;
+    say_moved(&block, answer);
     for statement in block.into_statements().as_slice() {
         say_if(answer, matches!(statement, Stmt::Noop(_)), "Noop");
         say_if(answer, matches!(statement, Stmt::Expr(_)), "Expr");
     }
     Ok(())
+}
+
+fn grow(reader: Reader, block: &mut StmtBlock) -> Result<(), Unread> {
+    block.extend(reader.lines("2")?)?;
+    block.statements_mut().push(Stmt::Noop(Position::NONE))?;
+    block.set_position(at(3), Position::NONE);
+    Ok(())
+}
+
+/// Says what a block is, and where it stands or, with no place of its own, elsewhere.
+fn say_moved(block: &StmtBlock, answer: &mut String) {
+    say_block(block, answer);
+    let span = block.span_or_else(at(7), at(8));
+    say_place(answer, "or from", span.start());
+    say_place(answer, "to", span.end());
 }
 
 pub fn block_of(alloc: Global, statement: Stmt, answer: &mut String) -> Result<(), Unread> {

@@ -18,17 +18,15 @@ pub fn answer(
     text: &str,
     answer: &mut String,
 ) -> Result<bool, Unread> {
-    match question {
-        "value" | "constant" | "range" | "integers" => of_read(reader, question, text, answer)?,
-        "equal" | "holds" => of_read_array(reader, question, text, answer)?,
-        "operate" => {
-            let (symbol, operands) = text.split_once(' ').unwrap_or((text, ""));
-            of_read_array(reader, symbol, operands, answer)?
-        }
-        "scope" => scope(reader.alloc, answer)?,
-        "ten" => say_inner(answer, &Dynamic::Int(RangeCase::from(0..=9).len())),
+    let answered = match question {
+        "value" | "constant" | "range" | "integers" => of_read(reader, question, text, answer),
+        "equal" | "holds" => of_read_array(reader, question, text, answer),
+        "operate" => operate(reader, text, answer),
+        "scope" => scope(reader.alloc, answer),
+        "ten" => ten(answer),
         _ => return Ok(false),
-    }
+    };
+    answered?;
     Ok(true)
 }
 
@@ -43,6 +41,18 @@ fn of_read_array(
     answer: &mut String,
 ) -> Result<(), Unread> {
     of_array(reader.alloc, question, &reader.value(text)?, answer)
+}
+
+/// What an operator makes of the values in an array, as `+ [1, 2]`.
+fn operate(reader: Reader, text: &str, answer: &mut String) -> Result<(), Unread> {
+    let (symbol, operands) = text.split_once(' ').unwrap_or((text, ""));
+    of_read_array(reader, symbol, operands, answer)
+}
+
+/// How many integers a range of ten has.
+fn ten(answer: &mut String) -> Result<(), Unread> {
+    say_inner(answer, &Dynamic::Int(RangeCase::from(0..=9).len()));
+    Ok(())
 }
 
 fn of_value(
@@ -63,16 +73,21 @@ fn of_value(
 }
 
 fn describe(alloc: Global, value: &Dynamic, answer: &mut String) -> Result<(), Unread> {
-    say(answer, value.type_name());
-    put(answer, ": \"");
-    put(answer, value.text_of(alloc)?.as_str());
-    put(answer, "\" in an array");
+    say_text(alloc, value, answer)?;
     say_inner(answer, value);
     say_if(answer, value.is_hashable(), "a key");
     match value {
         Dynamic::FnPtr(pointer) => say_pointer(pointer, answer),
         _ => Ok(()),
     }
+}
+
+fn say_text(alloc: Global, value: &Dynamic, answer: &mut String) -> Result<(), Unread> {
+    say(answer, value.type_name());
+    put(answer, ": \"");
+    put(answer, value.text_of(alloc)?.as_str());
+    put(answer, "\" in an array");
+    Ok(())
 }
 
 fn say_pointer(pointer: &FnPtr, answer: &mut String) -> Result<(), Unread> {

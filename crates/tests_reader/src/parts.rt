@@ -3,7 +3,7 @@
 use crate::letters::Unread;
 use crate::names::Called;
 use rhai_ast::{BinaryExpr, Expr, FlowControl, Stmt, StmtBlock, SwitchCasesCollection};
-use rhai_base::{ASTFlags, Ident, OpAssignment, Position, Seq};
+use rhai_base::{ASTFlags, Boxed, Ident, OpAssignment, Position, Seq};
 use std::alloc::Global;
 use std::mem;
 use std::num::NonZeroUsize;
@@ -27,7 +27,7 @@ pub(crate) struct Parts {
 }
 
 impl Parts {
-    pub(crate) fn new(alloc: Global) -> Parts {
+    fn new(alloc: Global) -> Parts {
         Parts {
             alloc,
             exprs: Vec::new(alloc),
@@ -44,6 +44,11 @@ impl Parts {
         }
     }
 
+    /// No parts yet, in a box, which lets go of them in one place.
+    pub(crate) fn boxed(alloc: Global) -> Result<Boxed<Parts>, Unread> {
+        Ok(Boxed::new(alloc, Parts::new(alloc))?)
+    }
+
     /// The last expression; `()` where there is none.
     pub(crate) fn expr(&mut self) -> Expr {
         match self.exprs.pop() {
@@ -55,6 +60,11 @@ impl Parts {
     /// All expressions.
     pub(crate) fn exprs(&mut self) -> Seq<Expr> {
         Seq::from_vec(mem::replace(&mut self.exprs, Vec::new(self.alloc)))
+    }
+
+    /// All statements.
+    pub(crate) fn statements(&mut self) -> Vec<Stmt> {
+        mem::replace(&mut self.statements, Vec::new(self.alloc))
     }
 
     /// The last two expressions.

@@ -8,7 +8,6 @@ use crate::parts::Parts;
 use rhai_ast::{BinaryExpr, Expr, Stmt, StmtBlock};
 use rhai_base::{Ident, Position};
 use std::alloc::Global;
-use std::mem;
 
 /// How deep a text may nest, each step of the recursion counted.
 const DEPTH: u32 = 120;
@@ -82,10 +81,10 @@ impl<'a> Letters<'a> {
         if self.starts("{") {
             return nodes::braces(self.alloc, self.block(depth));
         }
-        let mut parts = Parts::new(self.alloc);
-        let (kind, form) = self.expr_form(&mut parts)?;
-        self.parts(form, &mut parts, depth)?;
-        nodes::expr(kind, &mut parts, pos)
+        let mut parts = Parts::boxed(self.alloc)?;
+        let (kind, form) = self.expr_form(parts.get_mut())?;
+        self.parts(form, parts.get_mut(), depth)?;
+        nodes::expr(kind, parts.get_mut(), pos)
     }
 
     /// What stands at the right of a `.`
@@ -93,11 +92,11 @@ impl<'a> Letters<'a> {
     fn link(&mut self, depth: u32) -> Result<Expr, Unread> {
         let depth = below(depth)?;
         let pos = self.here();
-        let mut parts = Parts::new(self.alloc);
-        match self.link_form(&mut parts)? {
+        let mut parts = Parts::boxed(self.alloc)?;
+        match self.link_form(parts.get_mut())? {
             Some((kind, form)) => {
-                self.parts(form, &mut parts, depth)?;
-                nodes::expr(kind, &mut parts, pos)
+                self.parts(form, parts.get_mut(), depth)?;
+                nodes::expr(kind, parts.get_mut(), pos)
             }
             None => self.expr(depth),
         }
@@ -107,23 +106,22 @@ impl<'a> Letters<'a> {
     fn statement(&mut self, depth: u32) -> Result<Stmt, Unread> {
         let depth = below(depth)?;
         let pos = self.here();
-        let mut parts = Parts::new(self.alloc);
+        let mut parts = Parts::boxed(self.alloc)?;
         let (kind, form) = self.stmt_form();
-        self.parts(form, &mut parts, depth)?;
-        nodes::stmt(kind, &mut parts, pos)
+        self.parts(form, parts.get_mut(), depth)?;
+        nodes::stmt(kind, parts.get_mut(), pos)
     }
 
     #[cycle(read)]
     fn block(&mut self, depth: u32) -> Result<StmtBlock, Unread> {
         let depth = below(depth)?;
         let start = self.here();
-        let mut parts = Parts::new(self.alloc);
+        let mut parts = Parts::boxed(self.alloc)?;
         if !self.skip("{}") {
             self.expect("{ ")?;
-            self.parts(&forms::STATEMENTS, &mut parts, depth)?;
+            self.parts(&forms::STATEMENTS, parts.get_mut(), depth)?;
         }
-        let statements = mem::replace(&mut parts.statements, Vec::new(self.alloc));
-        Ok(StmtBlock::new(statements, start, self.last()))
+        Ok(StmtBlock::new(parts.get_mut().statements(), start, self.last()))
     }
 
     #[cycle(read)]
