@@ -126,8 +126,20 @@ fn folded_texts(
     ensures { IfOk result (λ v. option_map value_of v ≡ spec.folded_values (engine_of info.now) (mark_of (Some op)) (Some (TextV x.now ∷ TextV y.now ∷ []))) }
 {
     let x = text(x.clone()?);
+    folded_with_text(alloc, info, op, &x, y)
+}
+
+fn folded_with_text(
+    alloc: Global,
+    info: &EngineInfo,
+    op: Token,
+    x: &Dynamic,
+    y: &ImmutableString,
+) -> Result<Option<Dynamic>, OutOfMemory>
+    ensures { IfOk result (λ v. option_map value_of v ≡ spec.folded_values (engine_of info.now) (mark_of (Some op)) (Some (value_of x.now ∷ TextV y.now ∷ []))) }
+{
     let y = text(y.clone()?);
-    folded_values(alloc, info, op, &x, &y)
+    folded_values(alloc, info, op, x, &y)
 }
 
 fn folded_two(
@@ -159,11 +171,23 @@ fn folded_constants(
 ) -> Result<Option<Dynamic>, OutOfMemory>
     ensures { IfOk result (λ v. option_map value_of v ≡ spec.folded_values (engine_of info.now) (mark_of (Some op)) (constants.constant_values (expr (expr_of x.now) (expr (expr_of y.now) no_exprs)))) }
 {
-    let Some(x) = x.constant_value(alloc)? else {
-        return Ok(None);
-    };
-    let Some(y) = y.constant_value(alloc)? else {
-        return Ok(None);
-    };
-    folded_values(alloc, info, op, &x, &y)
+    match x.constant_value(alloc)? {
+        Some(x) => folded_with_constant(alloc, info, op, &x, y),
+        None => Ok(None),
+    }
+}
+
+fn folded_with_constant(
+    alloc: Global,
+    info: &EngineInfo,
+    op: Token,
+    x: &Dynamic,
+    y: &Expr,
+) -> Result<Option<Dynamic>, OutOfMemory>
+    ensures { IfOk result (λ v. option_map value_of v ≡ spec.folded_values (engine_of info.now) (mark_of (Some op)) (constants.value_and (Some (value_of x.now)) (constants.constant_values (expr (expr_of y.now) no_exprs)))) }
+{
+    match y.constant_value(alloc)? {
+        Some(y) => folded_values(alloc, info, op, x, &y),
+        None => Ok(None),
+    }
 }

@@ -201,14 +201,14 @@ fn say_fault(alloc: Global, script: &[Stmt], answer: &mut String) -> Result<(), 
 }
 
 fn of_constants(alloc: Global, answer: &mut String) -> Result<(), Unread> {
-    let (constant, copy) = at_two_places(alloc, pair(alloc)?)?;
-    say_two(alloc, &constant, &copy, answer)
+    let value = pair(alloc)?;
+    say_two(alloc, &at_two_places(alloc, value)?, answer)
 }
 
-fn say_two(alloc: Global, constant: &Expr, copy: &Expr, answer: &mut String) -> Result<(), Unread> {
-    say_place(answer, "at", constant.position());
-    say_place(answer, "its copy at", copy.position());
-    say_literal(alloc, copy, answer)
+fn say_two(alloc: Global, two: &(Expr, Expr), answer: &mut String) -> Result<(), Unread> {
+    say_place(answer, "at", two.0.position());
+    say_place(answer, "its copy at", two.1.position());
+    say_literal(alloc, &two.1, answer)
 }
 
 /// The table with the arm of this number as the default.

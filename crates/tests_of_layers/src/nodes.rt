@@ -7,7 +7,8 @@ use crate::trees::{self, say_fault};
 use crate::walks;
 use bitflags::Flags;
 use rhai_ast::{
-    BinaryExpr, Expr, ExprQueries, IntoExpr, Literals, SetPosition, Stmt, StmtQueries, Take,
+    BinaryExpr, Expr, ExprQueries, FnCallExpr, IntoExpr, Literals, SetPosition, Stmt, StmtQueries,
+    Take,
 };
 use rhai_base::{Boxed, Position, Seq, StringMap, Token};
 use std::alloc::Global;
@@ -206,14 +207,18 @@ fn has_value(alloc: Global, expr: &Expr) -> Result<bool, Unread> {
 
 /// A call, and the expression of the same parts that is wanted elsewhere.
 fn call(alloc: Global, expr: &mut Expr, answer: &mut String) -> Result<(), Unread> {
-    let Expr::FnCall(call, _) = expr.take() else {
-        return Err(Unread::Wanted("a call"));
-    };
-    let call = call.into_inner();
+    match expr.take() {
+        Expr::FnCall(call, _) => say_moved_call(alloc, call.into_inner(), answer),
+        _ => Err(Unread::Wanted("a call")),
+    }
+}
+
+fn say_moved_call(alloc: Global, call: FnCallExpr, answer: &mut String) -> Result<(), Unread> {
     say_call(&call, answer);
-    if let Expr::FnCall(moved, pos) = &call.into_fn_call_expr(alloc, Position::new(2, 5))? {
+    let moved = Boxed::new(alloc, call.into_fn_call_expr(alloc, Position::new(2, 5))?)?;
+    if let Expr::FnCall(call, pos) = moved.get() {
         say_place(answer, "at", *pos);
-        say_call(moved.get(), answer);
+        say_call(call.get(), answer);
     }
     Ok(())
 }

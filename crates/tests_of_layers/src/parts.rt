@@ -45,20 +45,22 @@ fn boxed(alloc: Global, answer: &mut String) -> Result<(), Unread> {
 }
 
 fn list(alloc: Global, answer: &mut String) -> Result<(), Unread> {
+    say_items(&Seq::new(alloc), answer)?;
     let mut items = Seq::new(alloc);
-    say_items(&items, answer)?;
     items.push(1u8)?;
     items.push(2)?;
-    say_items(&items, answer)?;
-    change(&mut items, answer);
-    say_items(&items, answer)?;
-    say_items(&items.emptied()?, answer)?;
-    say_if(
-        answer,
-        Seq::from_vec(items.into_vec()).into_only().is_some(),
-        "an only one",
-    );
+    say_changed(&mut items, answer)?;
+    let only = Seq::from_vec(items.into_vec()).into_only();
+    say_if(answer, only.is_some(), "an only one");
     Ok(())
+}
+
+/// Says what a list of two is, before and after it is changed, and that it has no items once it is emptied.
+fn say_changed(items: &mut Seq<u8>, answer: &mut String) -> Result<(), Unread> {
+    say_items(items, answer)?;
+    change(items, answer);
+    say_items(items, answer)?;
+    say_items(&items.emptied()?, answer)
 }
 
 fn change(items: &mut Seq<u8>, answer: &mut String) {

@@ -17,10 +17,18 @@ pub fn answer(
     statement: Stmt,
     answer: &mut String,
 ) -> Result<(), Unread> {
-    let Stmt::Switch(switch, _) = statement else {
-        return Err(Unread::Wanted("a switch"));
-    };
-    let table = switch.into_inner().cases;
+    match statement {
+        Stmt::Switch(switch, _) => of_table(alloc, question, switch.into_inner().cases, answer),
+        _ => Err(Unread::Wanted("a switch")),
+    }
+}
+
+fn of_table(
+    alloc: Global,
+    question: &str,
+    table: SwitchCasesCollection,
+    answer: &mut String,
+) -> Result<(), Unread> {
     match question {
         "cases" => cases(alloc, table.cases, answer),
         _ => say_made(&made(table), answer),
@@ -71,15 +79,23 @@ fn say_table(table: &SwitchCasesCollection, answer: &mut String) {
 
 /// The cases of a table, and of a copy; the map of them is taken out for another, and put back.
 fn cases(alloc: Global, mut cases: Cases, answer: &mut String) -> Result<(), Unread> {
+    say_both(&cases, answer)?;
+    say_replaced(alloc, &mut cases, answer);
     say_cases(&cases, answer)?;
-    say_cases(&cases.clone()?, answer)?;
+    say_count(answer, "of", cases.into_map().len());
+    Ok(())
+}
+
+fn say_both(cases: &Cases, answer: &mut String) -> Result<(), Unread> {
+    say_cases(cases, answer)?;
+    say_cases(&cases.clone()?, answer)
+}
+
+fn say_replaced(alloc: Global, cases: &mut Cases, answer: &mut String) {
     let taken = cases.replace_map(IndexMap::new(alloc));
     say_count(answer, "taken out", cases.as_map().len());
     let other = cases.replace_map(taken);
     say_count(answer, "put back", other.len());
-    say_cases(&cases, answer)?;
-    say_count(answer, "of", cases.into_map().len());
-    Ok(())
 }
 
 fn say_cases(cases: &Cases, answer: &mut String) -> Result<(), Unread> {
@@ -97,30 +113,40 @@ fn say_cases(cases: &Cases, answer: &mut String) -> Result<(), Unread> {
 /// Says what a copy of a statement's parts is.
 pub fn say_parts(statement: &Stmt, answer: &mut String) -> Result<(), Unread> {
     match statement {
-        Stmt::If(flow, _) => say_flow(&flow.get().clone()?, answer),
-        Stmt::Switch(switch, _) => say_switch(&switch.get().clone()?, answer),
-        Stmt::Assignment(parts) => say_sides(&parts.get().1.clone()?, answer),
-        Stmt::FnCall(call, _) => say_call(&call.get().clone()?, answer),
-        _ => {}
+        Stmt::If(flow, _) => say_flow(flow.get(), answer),
+        Stmt::Switch(switch, _) => say_switch(switch.get(), answer),
+        Stmt::Assignment(parts) => say_sides(&parts.get().1, answer),
+        Stmt::FnCall(call, _) => say_copied_call(call.get(), answer),
+        _ => Ok(()),
     }
+}
+
+fn say_flow(flow: &FlowControl, answer: &mut String) -> Result<(), Unread> {
+    let copy = flow.clone()?;
+    say_if(answer, copy.expr.is_pure(), "pure");
+    say_count(answer, "body", copy.body.len());
+    say_if(answer, copy.branch.is_empty(), "no branch");
     Ok(())
 }
 
-fn say_flow(flow: &FlowControl, answer: &mut String) {
-    say_if(answer, flow.expr.is_pure(), "pure");
-    say_count(answer, "body", flow.body.len());
-    say_if(answer, flow.branch.is_empty(), "no branch");
+fn say_switch(switch: &SwitchBlock, answer: &mut String) -> Result<(), Unread> {
+    let copy = switch.clone()?;
+    say_if(answer, copy.expr.is_constant(), "constant");
+    say_table(&copy.cases, answer);
+    Ok(())
 }
 
-fn say_switch(switch: &SwitchBlock, answer: &mut String) {
-    say_if(answer, switch.expr.is_constant(), "constant");
-    say_table(&switch.cases, answer);
-}
-
-fn say_sides(sides: &BinaryExpr, answer: &mut String) {
-    let is_variable = matches!(&sides.lhs, Expr::Variable(_, _, _));
+fn say_sides(sides: &BinaryExpr, answer: &mut String) -> Result<(), Unread> {
+    let copy = sides.clone()?;
+    let is_variable = matches!(&copy.lhs, Expr::Variable(_, _, _));
     say_if(answer, is_variable, "variable");
-    say_if(answer, sides.rhs.is_constant(), "constant");
+    say_if(answer, copy.rhs.is_constant(), "constant");
+    Ok(())
+}
+
+fn say_copied_call(call: &FnCallExpr, answer: &mut String) -> Result<(), Unread> {
+    say_call(&call.clone()?, answer);
+    Ok(())
 }
 
 pub fn say_call(call: &FnCallExpr, answer: &mut String) {
