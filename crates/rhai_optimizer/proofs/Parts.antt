@@ -22,15 +22,16 @@ use Rattle.rhai_optimizer.specs.Blocks.{FlatList}
 use Rattle.rhai_optimizer.specs.Parts.{ExprPartsRun, StmtPartsRun}
 use Rattle.rhai_meaning.specs.Weight.{stmt_weight, weight}
 use Rattle.rhai_rewriting.proofs.Weights.{stmt_falls, stmts_fall}
+use Rattle.rhai_rewriting.proofs.Firing.{expr_step_to, expr_step_reduced, stmt_step_to, stmt_step_reduced}
 use Rattle.rhai_rewriting.proofs.Flags.{expr_kept, stmt_kept, stmts_kept}
 
 -- ---- parts first, then the node; whatever names are known
 
 pub expr_done : {r : Engine} {d d1 d2 : Bool} {e e1 e2 : Expr} → ((known : List Known) → ExprPartsRun (knowing r known) d d1 e e1) → ((known : List Known) → ExprStep (knowing r known) d1 d2 e1 e2) → (known : List Known) → ExprRun (knowing r known) d d2 e e2
-expr_done p s known = record { to = then_expr (p known).to (s known).to; reduced = λ h. (s known).reduced h ((p known).parts (expr_kept (s known).to h).0) }
+expr_done p s known = let to = expr_step_to (s known) in record { to = then_expr (p known).to to; reduced = λ h. expr_step_reduced (s known) h ((p known).parts (expr_kept to h).0) }
 
 pub stmt_done : {r : Engine} {w d d1 d2 : Bool} {s s1 s2 : Stmt} → ((known : List Known) → StmtPartsRun (knowing r known) w d d1 s s1) → ((known : List Known) → StmtStep (knowing r known) w d1 d2 s1 s2) → (known : List Known) → StmtRun (knowing r known) w d d2 s s2
-stmt_done p s known = record { to = then_stmt (p known).to (s known).to; reduced = λ h. (s known).reduced h ((p known).parts (stmt_kept (s known).to h).0) }
+stmt_done p s known = let to = stmt_step_to (s known) in record { to = then_stmt (p known).to to; reduced = λ h. stmt_step_reduced (s known) h ((p known).parts (stmt_kept to h).0) }
 
 -- trees that are spelled so
 pub expr_as : {r : Engine} {d d' : Bool} {e e1 e' e1' : Expr} → e ≡ e1 → e' ≡ e1' → ((known : List Known) → ExprPartsRun (knowing r known) d d' e1 e1') → (known : List Known) → ExprPartsRun (knowing r known) d d' e e'

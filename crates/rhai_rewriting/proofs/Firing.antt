@@ -1,19 +1,20 @@
 -- A node kept as it is where nothing is left to reduce at it, a node that a rule rewrote, and a list that was rewritten behind its front.
-use Rattle.std.proofs.Common.{◌≡◌, Bool, true, false, sym, subst}
+use Rattle.std.proofs.Common.{◌≡◌, ◌⊎◌, inl, inr, Bool, true, false, refl, sym, subst}
 use Rattle.rhai_meaning.specs.Tree.{Expr, Stmt, Var, Stmts, no_stmts, stmt, joined}
 use Rattle.rhai_meaning.specs.Walk.{OfExpr, OfStmt}
 use Rattle.rhai_rewriting.specs.Context.{Context, behind, ListKind}
-use Rattle.rhai_rewriting.specs.Residue.{IsReducedNode}
+use Rattle.rhai_rewriting.specs.Residue.{IsReducedNode, IsReducedExpr, IsReduced, ExprParts, StmtParts}
 use Rattle.rhai_rewriting.specs.Rewriting.{ExprTo, same_expr, by_expr_rule, StmtTo, same_stmt, by_stmt_rule, RestTo, in_tail}
 use Rattle.rhai_rewriting.specs.Rules.{ExprRule, StmtRule}
 use Rattle.rhai_rewriting.specs.Steps.{ExprFired, ExprStep, StmtFired, StmtStep}
 use Rattle.rhai_rewriting.specs.SurelyUnit.{is_surely_unit}
 
+-- where none fires, a node that is spelled so is kept, and the flag
 pub expr_kept_as : {k : Context} {d : Bool} {e e' : Expr} → e' ≡ e → IsReducedNode k.engine (OfExpr e) → ExprStep k d d e e'
-expr_kept_as {k = k} {d = d} {e = e} x h = subst (λ a. ExprStep k d d e a) (sym x) (record { to = same_expr; reduced = λ _ p. (h, p) })
+expr_kept_as x h = inr (record { same = x; flag = refl; reduced = h })
 
 pub stmt_kept_as : {k : Context} {w d : Bool} {s s' : Stmt} → s' ≡ s → IsReducedNode k.engine (OfStmt s) → StmtStep k w d d s s'
-stmt_kept_as {k = k} {w = w} {d = d} {s = s} x h = subst (λ a. StmtStep k w d d s a) (sym x) (record { to = same_stmt; reduced = λ _ p. (h, p) })
+stmt_kept_as x h = inr (record { same = x; flag = refl; reduced = h })
 
 -- a rule fired, and gave a tree that is spelled so
 pub expr_fires : {k : Context} {d' : Bool} {e e1 e' : Expr} → d' ≡ true → ExprRule k e e1 → e' ≡ e1 → ExprFired k d' e e'
@@ -22,18 +23,24 @@ expr_fires {k = k} {e = e} h r x = record { rule = subst (ExprRule k e) (sym x) 
 pub stmt_fires : {k : Context} {w d' : Bool} {s s1 s' : Stmt} → d' ≡ true → StmtRule k w s s1 → s' ≡ s1 → StmtFired k w d' s s'
 stmt_fires {k = k} {w = w} {s = s} h r x = record { rule = subst (StmtRule k w s) (sym x) r; fired = h }
 
--- where a rule fired nothing is claimed of what is left
-pub expr_by_rule : {k : Context} {d d' : Bool} {e e1 e' : Expr} → e ≡ e1 → ExprFired k d' e1 e' → ExprStep k d d' e e'
-expr_by_rule {k = k} {d = d} {d' = d'} {e = e} {e' = e'} x r = record {
-  to = subst (λ b. ExprTo k d b e e') (sym r.fired) (by_expr_rule (subst (λ a. ExprRule k a e') (sym x) r.rule));
-  reduced = λ h p. let f = r.fired in absurd cc;
-}
+-- ---- a step is part of the rewriting
 
-pub stmt_by_rule : {k : Context} {w d d' : Bool} {s s1 s' : Stmt} → s ≡ s1 → StmtFired k w d' s1 s' → StmtStep k w d d' s s'
-stmt_by_rule {k = k} {w = w} {d = d} {d' = d'} {s = s} {s' = s'} x r = record {
-  to = subst (λ b. StmtTo k w d b s s') (sym r.fired) (by_stmt_rule (subst (λ a. StmtRule k w a s') (sym x) r.rule));
-  reduced = λ h p. let f = r.fired in absurd cc;
-}
+pub expr_step_to : {k : Context} {d d' : Bool} {e e' : Expr} → ExprStep k d d' e e' → ExprTo k d d' e e'
+expr_step_to {k = k} {d = d} {e = e} {e' = e'} (inl r) = subst (λ b. ExprTo k d b e e') (sym r.fired) (by_expr_rule r.rule)
+expr_step_to {k = k} {d = d} {d' = d'} {e = e} (inr r) = subst (λ a. ExprTo k d d' e a) (sym r.same) (subst (λ b. ExprTo k d b e e) (sym r.flag) same_expr)
+
+pub stmt_step_to : {k : Context} {w d d' : Bool} {s s' : Stmt} → StmtStep k w d d' s s' → StmtTo k w d d' s s'
+stmt_step_to {k = k} {w = w} {d = d} {s = s} {s' = s'} (inl r) = subst (λ b. StmtTo k w d b s s') (sym r.fired) (by_stmt_rule r.rule)
+stmt_step_to {k = k} {w = w} {d = d} {d' = d'} {s = s} (inr r) = subst (λ a. StmtTo k w d d' s a) (sym r.same) (subst (λ b. StmtTo k w d b s s) (sym r.flag) same_stmt)
+
+-- where the flag is clear afterwards no rule fired, so a node whose parts are reduced is
+pub expr_step_reduced : {k : Context} {d d' : Bool} {e e' : Expr} → ExprStep k d d' e e' → d' ≡ false → ExprParts k.engine e → IsReducedExpr k.engine e'
+expr_step_reduced (inl r) h p = let f = r.fired in absurd cc
+expr_step_reduced {k = k} (inr r) h p = subst (IsReducedExpr k.engine) (sym r.same) (r.reduced, p)
+
+pub stmt_step_reduced : {k : Context} {w d d' : Bool} {s s' : Stmt} → StmtStep k w d d' s s' → d' ≡ false → StmtParts k.engine s → IsReduced k.engine s'
+stmt_step_reduced (inl r) h p = let f = r.fired in absurd cc
+stmt_step_reduced {k = k} (inr r) h p = subst (IsReduced k.engine) (sym r.same) (r.reduced, p)
 
 -- ---- behind statements that stay
 

@@ -1,8 +1,9 @@
 -- What the functions of the optimiser promise: a tree was rewritten, and where the dirty flag is clear afterwards
 -- nothing in it is left to reduce.
-use Rattle.std.specs.Prelude.{◌≡◌, Bool, true, false}
+use Rattle.std.specs.Prelude.{◌≡◌, ◌⊎◌, Bool, true, false}
 use Rattle.rhai_meaning.specs.Tree.{Expr, Exprs, Stmt, Stmts, stmt, joined}
-use Rattle.rhai_rewriting.specs.Residue.{IsReducedExpr, AreReducedExprs, IsReduced, AreReduced, ExprParts, StmtParts}
+use Rattle.rhai_meaning.specs.Walk.{OfExpr, OfStmt}
+use Rattle.rhai_rewriting.specs.Residue.{IsReducedNode, IsReducedExpr, AreReducedExprs, IsReduced, AreReduced}
 use Rattle.rhai_rewriting.specs.Context.{Context, ListKind, wanted, wanted_before}
 use Rattle.rhai_rewriting.specs.Rewriting.{ExprTo, ExprsTo, StmtTo, RestTo, StmtsTo}
 use Rattle.rhai_rewriting.specs.Rules.{ExprRule, StmtRule}
@@ -40,18 +41,9 @@ pub record StmtsRun (k : Context) (m : ListKind) (d d' : Bool) (ss ss' : Stmts) 
   pub to : StmtsTo k m d d' ss ss'
   pub reduced : AreReduced k.engine ss'
 
--- ---- one node, whose parts are rewritten already
+-- ---- one node, whose parts are rewritten already: a rule fired, or none fires at it
 
-pub record ExprStep (k : Context) (d d' : Bool) (e e' : Expr) : Type 0 where
-  pub to : ExprTo k d d' e e'
-  pub reduced : d' ≡ false → ExprParts k.engine e → IsReducedExpr k.engine e'
-
-pub record StmtStep (k : Context) (w d d' : Bool) (s s' : Stmt) : Type 0 where
-  pub to : StmtTo k w d d' s s'
-  pub reduced : d' ≡ false → StmtParts k.engine s → IsReduced k.engine s'
-
--- ---- a rule that fired, and set the flag
-
+-- a rule fired, and set the flag
 pub record ExprFired (k : Context) (d' : Bool) (e e' : Expr) : Type 0 where
   pub rule : ExprRule k e e'
   pub fired : d' ≡ true
@@ -59,6 +51,23 @@ pub record ExprFired (k : Context) (d' : Bool) (e e' : Expr) : Type 0 where
 pub record StmtFired (k : Context) (w d' : Bool) (s s' : Stmt) : Type 0 where
   pub rule : StmtRule k w s s'
   pub fired : d' ≡ true
+
+-- nothing is left to reduce at the node, whatever the flag is: both are kept
+pub record ExprKept (k : Context) (d d' : Bool) (e e' : Expr) : Type 0 where
+  pub same : e' ≡ e
+  pub flag : d' ≡ d
+  pub reduced : IsReducedNode k.engine (OfExpr e)
+
+pub record StmtKept (k : Context) (d d' : Bool) (s s' : Stmt) : Type 0 where
+  pub same : s' ≡ s
+  pub flag : d' ≡ d
+  pub reduced : IsReducedNode k.engine (OfStmt s)
+
+abbrev pub ExprStep : Context → Bool → Bool → Expr → Expr → Type 0
+ExprStep k d d' e e' = ExprFired k d' e e' ⊎ ExprKept k d d' e e'
+
+abbrev pub StmtStep : Context → Bool → Bool → Bool → Stmt → Stmt → Type 0
+StmtStep k w d d' s s' = StmtFired k w d' s s' ⊎ StmtKept k d d' s s'
 
 -- ---- blocks in a list
 

@@ -1,5 +1,5 @@
 -- Nodes that are settled, and nodes that fold to a value.
-use Rattle.std.proofs.Common.{◌≡◌, Bool, true, false, not, ◌&&◌, List, Option, Some, None, is_some, Result, Ok, Err, IfOk, OnOk, refl, sym, subst}
+use Rattle.std.proofs.Common.{◌≡◌, Bool, true, false, not, ◌&&◌, List, Option, Some, None, is_some, Result, Ok, Err, IfOk, OnOk, refl, sym, subst, inl}
 use Rattle.rhai_values.specs.Value.{Value, ArrayV, values}
 use Rattle.rhai_meaning.specs.Constants.{array_value, constant_bool, constant_for, constant_values, literal_value}
 use Rattle.rhai_meaning.specs.Engine.{Engine, or_else}
@@ -11,7 +11,7 @@ use Rattle.rhai_rewriting.specs.Residue.{IsReducedNode}
 use Rattle.rhai_rewriting.specs.Rules as rule
 use Rattle.rhai_rewriting.specs.Rules.{ExprRule, StmtRule}
 use Rattle.rhai_rewriting.specs.Steps.{ExprFired, ExprStep, StmtFired, StmtStep}
-use Rattle.rhai_rewriting.proofs.Firing.{expr_fires, expr_by_rule, stmt_fires, stmt_by_rule}
+use Rattle.rhai_rewriting.proofs.Firing.{expr_fires, stmt_fires}
 use Rattle.rhai_rules.specs.Settled.{is_empty, is_settled_expr, is_settled_if, is_settled_stmt, folded_value, folded_statement}
 use Rattle.rhai_rules.proofs.Shapes.{not-true, braces-settled}
 
@@ -79,16 +79,16 @@ stmt_fired_as {w = w} {d' = d'} {s' = s'} x r k = subst (λ a. StmtFired k w d' 
 
 -- the constant for a value took the place of a node that folds to it
 pub value_put : {engine : Engine} {d d' : Bool} {e e' : Expr} {v : Value} → Some v ≡ folded_value engine e → (d' ≡ true) × (e' ≡ constant_for v) → (known : List Known) → ExprStep (knowing engine known) d d' e e'
-value_put h put known = expr_by_rule refl (expr_fires put.0 (expr_folds _ _ _ h) put.1)
+value_put h put known = inl (expr_fires put.0 (expr_folds _ _ _ h) put.1)
 
 pub statement_put : {engine : Engine} {w d d' : Bool} {s s' : Stmt} {v : Value} → Some v ≡ folded_statement engine s → (d' ≡ true) × (s' ≡ ExprStmt (constant_for v)) → (known : List Known) → StmtStep (knowing engine known) w d d' s s'
-statement_put h put known = stmt_by_rule refl (stmt_fires put.0 (stmt_folds _ _ _ h) put.1)
+statement_put h put known = inl (stmt_fires put.0 (stmt_folds _ _ _ h) put.1)
 
 pub expr_rewritten : {engine : Engine} {d d' : Bool} {e e' : Expr} → ((k : Context) → ExprFired k d' e e') → (known : List Known) → ExprStep (knowing engine known) d d' e e'
-expr_rewritten fired known = expr_by_rule refl (fired _)
+expr_rewritten fired known = inl (fired _)
 
 pub stmt_rewritten : {engine : Engine} {w d d' : Bool} {s s' : Stmt} → ((k : Context) → StmtFired k w d' s s') → (known : List Known) → StmtStep (knowing engine known) w d d' s s'
-stmt_rewritten fired known = stmt_by_rule refl (fired _)
+stmt_rewritten fired known = inl (fired _)
 
 -- ---- what was made is put in a node's place
 
