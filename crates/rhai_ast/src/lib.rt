@@ -10,6 +10,7 @@ mod literals;
 mod place;
 mod stmt;
 mod switch;
+mod take;
 mod walk;
 
 pub use call::CallQueries;
@@ -18,7 +19,7 @@ pub use expr::ExprQueries;
 pub use literals::Literals;
 pub use place::SetPosition;
 pub use rhai_faults::TreeFault;
-pub use rhai_nodes::{FromStmt, IntoExpr, Take};
+pub use rhai_nodes::{FromStmt, IntoExpr};
 pub use rhai_tree::{
     BinaryExpr, CaseBlocksList, Cases, Expr, FlowControl, FnAccess, FnCallExpr, FnNamespace,
     ScriptFuncDef, Stmt, StmtBlock, StmtBlockContainer, SwitchBlock, SwitchCasesCollection,
@@ -26,4 +27,5 @@ pub use rhai_tree::{
 pub use rhai_walk::{ASTNode, walk_statements};
 pub use stmt::StmtQueries;
 pub use switch::SwitchCases;
+pub use take::Take;
 pub use walk::Walk;

@@ -1,0 +1,24 @@
+//! Calls as expressions.
+
+#![tactic(auto, using(rhai_reading::specs::Reading::shapes))]
+
+ghost use Rattle.std.specs.Prelude.{◌≡◌, IfOk};
+ghost use Rattle.rhai_tree.specs.declared.expr.Expr.TheVariants.{FnCall};
+
+use rhai_base::{Boxed, OutOfMemory, Position};
+use rhai_tree::{Expr, FnCallExpr};
+use std::alloc::Global;
+
+/// Calls as expressions.
+pub trait IntoExpr {
+    /// The call as an expression there. Refused for want of memory alone; the call is gone then.
+    fn into_fn_call_expr(self, alloc: Global, pos: Position) -> Result<Expr, OutOfMemory>;
+}
+
+impl IntoExpr for FnCallExpr {
+    fn into_fn_call_expr(self, alloc: Global, pos: Position) -> Result<Expr, OutOfMemory>
+        ensures { IfOk result (λ e. e ≡ FnCall self pos) }
+    {
+        Ok(Expr::FnCall(Boxed::new(alloc, self)?, pos))
+    }
+}
