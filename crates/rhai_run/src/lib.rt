@@ -2,8 +2,8 @@
 //! reports.
 #![tactic(auto)]
 
-mod plain;
+mod run;
 
-pub use plain::plain_run;
 pub use rhai_engine::EngineInfo;
 pub use rhai_host::{Host, HostAnswer, HostCall, RunEnd, RunReport, Stuck, Variable};
+pub use run::plain_run;

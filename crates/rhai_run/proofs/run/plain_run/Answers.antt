@@ -3,7 +3,7 @@ use Rattle.rhai_engine.specs.EngineInfo.{engine_of}
 use Rattle.rhai_host.specs.Entries.{start_scope}
 use Rattle.rhai_host.specs.Host.{host_of}
 use Rattle.rhai_run.proofs.Whole.{script_report}
-use Rattle.rhai_run.proofs.plain.plain_run.Goals as goal
+use Rattle.rhai_run.proofs.run.plain_run.Goals as goal
 
 pub returns : goal.returns
 returns g c =

@@ -60,8 +60,8 @@ use Rattle.rhai_state.proofs.Loops.{round_runs, round_turns, endless_stops, endl
 use Rattle.rhai_machine.proofs.Maps.{map_runs, map_stops, members_start, members_stop, members_next, members_end}
 use Rattle.rhai_machine.proofs.Methods.{back_runs, back_stops, call_stops as method_call_stops, found_fits, found_runs, missing_asks, word_given, word_passed, word_stopped}
 use Rattle.rhai_machine.proofs.ChainSteps.{applied_stops, chain_runs, member_stuck, method_given, method_reached, method_stops, method_stuck, reach_gone, reach_runs, steps_end, steps_more, steps_stop, steps_unit}
-use Rattle.rhai_run.proofs.plain.evaluator.Evaluator.+evaluate.Goals as goal
-use Rattle.rhai_run.proofs.plain.evaluator.Evaluator.+evaluate.Goals.{reach-else-contains-via-then-contains+else-is_unit_at, reach-else-contains-via-else-contains}
+use Rattle.rhai_evaluator.proofs.evaluator.Evaluator.+evaluate.Goals as goal
+use Rattle.rhai_evaluator.proofs.evaluator.Evaluator.+evaluate.Goals.{reach-else-contains-via-then-contains+else-is_unit_at, reach-else-contains-via-else-contains}
 
 -- arguments
 pub exprs-loop-expr-init : goal.exprs-loop-expr-init

@@ -15,7 +15,7 @@ ghost use Rattle.rhai_meaning.specs.Calls as calls;
 ghost use Rattle.rhai_meaning.specs.Chains as chains;
 ghost use Rattle.rhai_machine.specs.Chaining as spec;
 
-use crate::plain::evaluator::Evaluator;
+use crate::evaluator::Evaluator;
 use rhai_base::{Dynamic, ImmutableString, Seq};
 use rhai_host::Host;
 use rhai_machine::{Current, Word};

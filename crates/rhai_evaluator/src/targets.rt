@@ -17,7 +17,7 @@ ghost use Rattle.rhai_meaning.specs.Calls as calls;
 ghost use Rattle.rhai_meaning.specs.Chains as chains;
 ghost use Rattle.rhai_meaning.specs.Meaning as meaning;
 
-use crate::plain::evaluator::Evaluator;
+use crate::evaluator::Evaluator;
 use bitflags::Flags;
 use rhai_ast::Expr;
 use rhai_base::{ASTFlags, Dynamic, ImmutableString, OpAssignment, Seq, Token};

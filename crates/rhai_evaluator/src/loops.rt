@@ -10,7 +10,7 @@ ghost use Rattle.rhai_machine.specs.Setting.{setting};
 ghost use Rattle.rhai_state.specs.Evaluating.{body_of, RunsDeed, RunsLine, RunsRound};
 ghost use Rattle.rhai_meaning.specs.Tree as tree;
 
-use crate::plain::evaluator::Evaluator;
+use crate::evaluator::Evaluator;
 use bitflags::Flags;
 use rhai_ast::{Expr, ExprQueries, FlowControl, StmtBlock};
 use rhai_base::{ASTFlags, Dynamic};

@@ -16,11 +16,11 @@ ghost use Rattle.rhai_state.specs.Runs.{Acting};
 ghost use Rattle.rhai_meaning.specs.Calls as calls;
 ghost use Rattle.rhai_meaning.specs.Run as run;
 
-use crate::plain::evaluator::Evaluator;
+use crate::evaluator::Evaluator;
 use rhai_ast::ScriptFuncDef;
 use rhai_base::{Dynamic, ImmutableString, Seq};
+use rhai_functions::FnKey;
 use rhai_host::Host;
-use rhai_script::FnKey;
 use rhai_state::{Interrupt, State, function_ended};
 
 impl<'a, H: Host> Evaluator<'a, H> {

@@ -14,7 +14,7 @@ ghost use Rattle.rhai_state.specs.Evaluating.{body_of, Runs, RunsDeed, RunsList,
 ghost use Rattle.rhai_state.specs.Exits.{count_of};
 ghost use Rattle.rhai_state.specs.Runs.{Acting};
 
-use crate::plain::evaluator::Evaluator;
+use crate::evaluator::Evaluator;
 use rhai_ast::FlowControl;
 use rhai_base::{Dynamic, Ident, Seq};
 use rhai_host::{Host, Stuck};

@@ -14,7 +14,7 @@ ghost use Rattle.rhai_machine.specs.Targets.{side_core};
 ghost use Rattle.rhai_meaning.specs.Meaning as meaning;
 ghost use Rattle.rhai_meaning.specs.Tree as tree;
 
-use crate::plain::evaluator::Evaluator;
+use crate::evaluator::Evaluator;
 use rhai_ast::BinaryExpr;
 use rhai_base::{Dynamic, OpAssignment};
 use rhai_host::{Host, Stuck};

@@ -17,7 +17,7 @@ use Rattle.rhai_state.proofs.Rounds.{LoopAt}
 use Rattle.rhai_state.proofs.Counted.{CountAt, EachAt}
 use Rattle.rhai_machine.proofs.Switches.{PlacesAt, RangesAt}
 use Rattle.rhai_machine.proofs.Weights.{arms_weight, level}
-use Rattle.rhai_run.proofs.plain.evaluator.Evaluator.+evaluate.Given as goal
+use Rattle.rhai_evaluator.proofs.evaluator.Evaluator.+evaluate.Given as goal
 
 -- each part of a node weighs less than the node
 abbrev pub decreases-expr : goal.decreases-expr

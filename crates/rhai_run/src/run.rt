@@ -1,18 +1,4 @@
-//! The plain evaluator.
-
-mod assigning;
-mod calling;
-mod chains;
-mod choosing;
-mod counting;
-mod evaluator;
-mod exits;
-mod invoking;
-mod logic;
-mod loops;
-mod methods;
-mod statements;
-mod targets;
+//! A run of a whole script.
 
 ghost use Rattle.std.specs.Prelude.{IfOk};
 ghost use Rattle.rhai_meaning.specs.Desugar.{core_script};
@@ -22,9 +8,9 @@ ghost use Rattle.rhai_host.specs.Host.{host_of};
 ghost use Rattle.rhai_host.specs.Report.{report_meant, ReportsRun};
 ghost use Rattle.rhai_host.specs.Entries.{start_scope};
 
-use crate::plain::evaluator::Evaluator;
 use crate::{EngineInfo, Host, RunReport};
 use rhai_base::{OutOfMemory, Scope, Seq};
+use rhai_evaluator::Evaluator;
 use rhai_machine::Machine;
 use rhai_script::AST;
 use rhai_state::{State, run_end};

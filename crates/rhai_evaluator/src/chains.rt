@@ -15,7 +15,7 @@ ghost use Rattle.rhai_meaning.specs.Desugar as desugar;
 ghost use Rattle.rhai_meaning.specs.Meaning as meaning;
 ghost use Rattle.rhai_machine.specs.Chaining as spec;
 
-use crate::plain::evaluator::Evaluator;
+use crate::evaluator::Evaluator;
 use bitflags::Flags;
 use rhai_ast::{BinaryExpr, Expr, FnCallExpr};
 use rhai_base::{ASTFlags, Dynamic};

@@ -10,7 +10,7 @@ ghost use Rattle.rhai_machine.specs.Setting.{setting};
 ghost use Rattle.rhai_state.specs.Evaluating.{RunsCatch, RunsLine};
 ghost use Rattle.rhai_meaning.specs.Tree as tree;
 
-use crate::plain::evaluator::Evaluator;
+use crate::evaluator::Evaluator;
 use bitflags::Flags;
 use rhai_ast::{Expr, FlowControl, StmtBlock};
 use rhai_base::{ASTFlags, Boxed, Dynamic, ImmutableString};

@@ -12,7 +12,7 @@ ghost use Rattle.rhai_state.specs.Runs.{Acting};
 ghost use Rattle.rhai_meaning.specs.Calls as calls;
 ghost use Rattle.rhai_meaning.specs.Shape as shape;
 
-use crate::plain::evaluator::Evaluator;
+use crate::evaluator::Evaluator;
 use rhai_ast::FnCallExpr;
 use rhai_base::{Dynamic, ImmutableString, Seq};
 use rhai_host::{Host, Stuck};

@@ -12,7 +12,7 @@ ghost use Rattle.rhai_state.specs.Evaluating.{arms_here, Runs, RunsArm, RunsFirs
 ghost use Rattle.rhai_state.specs.Runs.{Acting};
 ghost use Rattle.rhai_meaning.specs.Tree as tree;
 
-use crate::plain::evaluator::Evaluator;
+use crate::evaluator::Evaluator;
 use rhai_ast::{BinaryExpr, SwitchBlock, SwitchCasesCollection};
 use rhai_base::{Dynamic, RangeCase};
 use rhai_host::{Host, Stuck};

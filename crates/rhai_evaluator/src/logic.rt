@@ -6,7 +6,7 @@ ghost use Rattle.rhai_reading.specs.Reading.{exprs_of};
 ghost use Rattle.rhai_machine.specs.Setting.{setting};
 ghost use Rattle.rhai_state.specs.Evaluating.{RunsBoth, RunsEither, RunsFirstSome};
 
-use crate::plain::evaluator::Evaluator;
+use crate::evaluator::Evaluator;
 use rhai_ast::Expr;
 use rhai_base::Dynamic;
 use rhai_host::Host;
