@@ -62,7 +62,7 @@ fn check_expr(alloc: Global, expr: &Expr, around: Around) -> Result<(), TreeFaul
         | Expr::Variable(_, _, _)
         | Expr::ThisPtr(_) => Ok(()),
         Expr::InterpolatedString(parts, _) | Expr::Array(parts, _) => {
-            check_exprs(alloc, parts.as_slice(), around.in_loop)
+            check_exprs(alloc, parts.get().as_slice(), around.in_loop)
         }
         Expr::Map(map, _) => {
             let literal = map.get();

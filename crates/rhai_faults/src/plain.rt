@@ -49,7 +49,7 @@ fn is_plain_expr(expr: &Expr) -> bool
         | Expr::ThisPtr(_)
         | Expr::Property(_, _) => true,
         Expr::InterpolatedString(parts, _) | Expr::Array(parts, _) => {
-            are_plain_exprs(parts.as_slice())
+            are_plain_exprs(parts.get().as_slice())
         }
         Expr::Map(map, _) => are_plain_members(map.get().0.as_slice()),
         Expr::MethodCall(call, _) | Expr::FnCall(call, _) => is_plain_call(call.get()),

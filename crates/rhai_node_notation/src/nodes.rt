@@ -31,8 +31,8 @@ fn push_expr(expr: &Expr, text: &mut String) -> Result<(), OutOfMemory>
         Expr::IntegerConstant(value, _) => push_integer(*value, text),
         Expr::CharConstant(value, _) => push_char(*value, text),
         Expr::StringConstant(value, _) => push_quoted(value.as_str(), text),
-        Expr::InterpolatedString(parts, _) => push_list("text(", parts.as_slice(), ")", text),
-        Expr::Array(items, _) => push_list("[", items.as_slice(), "]", text),
+        Expr::InterpolatedString(parts, _) => push_list("text(", parts.get().as_slice(), ")", text),
+        Expr::Array(items, _) => push_list("[", items.get().as_slice(), "]", text),
         Expr::Map(map, _) => push_map(map.get().0.as_slice(), text),
         Expr::Unit(_) => push_unit(text),
         Expr::Variable(parts, _, _) => {

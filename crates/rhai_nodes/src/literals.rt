@@ -77,8 +77,8 @@ fn lend_value(alloc: Global, expr: &Expr) -> Result<Option<Cow<'_, Dynamic>>, Ou
         Expr::CharConstant(c, _) => Ok(Some(Cow::Owned(Dynamic::Char(*c)))),
         Expr::StringConstant(text, _) => Ok(Some(Cow::Owned(Dynamic::Str(text.clone()?)))),
         Expr::Unit(_) => Ok(Some(Cow::Owned(Dynamic::Unit))),
-        Expr::InterpolatedString(parts, _) => joined_value(alloc, parts.as_slice()),
-        Expr::Array(items, _) => array_value(alloc, items.as_slice()),
+        Expr::InterpolatedString(parts, _) => joined_value(alloc, parts.get().as_slice()),
+        Expr::Array(items, _) => array_value(alloc, items.get().as_slice()),
         Expr::Map(map, _) => map_value(alloc, map.get().0.as_slice()),
         Expr::Variable(_, _, _)
         | Expr::ThisPtr(_)

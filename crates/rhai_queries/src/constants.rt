@@ -23,7 +23,7 @@ pub fn is_constant(expr: &Expr) -> bool
         | Expr::StringConstant(_, _)
         | Expr::Unit(_) => true,
         Expr::InterpolatedString(parts, _) | Expr::Array(parts, _) => {
-            are_constant(parts.as_slice())
+            are_constant(parts.get().as_slice())
         }
         Expr::Map(map, _) => are_constant_members(map.get().0.as_slice()),
         Expr::Variable(_, _, _)

@@ -20,7 +20,7 @@ pub fn is_pure_expr(expr: &Expr) -> bool
 {
     match expr {
         Expr::InterpolatedString(parts, _) | Expr::Array(parts, _) => {
-            are_pure_exprs(parts.as_slice())
+            are_pure_exprs(parts.get().as_slice())
         }
         Expr::Map(map, _) => are_pure_members(map.get().0.as_slice()),
         Expr::And(operands, _) | Expr::Or(operands, _) | Expr::Coalesce(operands, _) => {

@@ -104,9 +104,9 @@ fn copy_expr(expr: &Expr) -> Result<Expr, AllocError>
         Expr::CharConstant(c, pos) => Ok(Expr::CharConstant(*c, *pos)),
         Expr::StringConstant(text, pos) => Ok(Expr::StringConstant(text.clone()?, *pos)),
         Expr::InterpolatedString(parts, pos) => {
-            Ok(Expr::InterpolatedString(copy_exprs(parts)?, *pos))
+            Ok(Expr::InterpolatedString(copy_boxed_exprs(parts)?, *pos))
         }
-        Expr::Array(items, pos) => Ok(Expr::Array(copy_exprs(items)?, *pos)),
+        Expr::Array(items, pos) => Ok(Expr::Array(copy_boxed_exprs(items)?, *pos)),
         Expr::Map(map, pos) => {
             let (pairs, template) = both(copy_pairs(&map.get().0)?, map.get().1.clone())?;
             Ok(Expr::Map(Boxed::new(map.allocator(), (pairs, template))?, *pos))

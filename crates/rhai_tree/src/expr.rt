@@ -26,9 +26,9 @@ pub enum Expr {
     /// A text.
     StringConstant(ImmutableString, Position),
     /// `` `text${ expr }..` ``
-    InterpolatedString(Seq<Expr>, Position),
+    InterpolatedString(Boxed<Seq<Expr>>, Position),
     /// `[ expr, .. ]`
-    Array(Seq<Expr>, Position),
+    Array(Boxed<Seq<Expr>>, Position),
     /// `#{ name: expr, .. }`, and a template that has its keys.
     Map(Boxed<(Seq<(Ident, Expr)>, StringMap<Dynamic>)>, Position),
     /// `()`

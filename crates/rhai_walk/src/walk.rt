@@ -70,7 +70,7 @@ fn walk_parts_of_expr<'a, F: FnMut(&[ASTNode]) -> bool>(
         | Expr::ThisPtr(_)
         | Expr::Property(_, _) => Ok(true),
         Expr::InterpolatedString(parts, _) | Expr::Array(parts, _) => {
-            walk_exprs(parts.as_slice(), path, on_node)
+            walk_exprs(parts.get().as_slice(), path, on_node)
         }
         Expr::Map(map, _) => walk_members(map.get().0.as_slice(), path, on_node),
         Expr::MethodCall(call, _) | Expr::FnCall(call, _) => {

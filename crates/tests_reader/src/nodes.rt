@@ -12,12 +12,12 @@ use std::mem;
 /// The expression of this kind.
 pub(crate) fn expr(kind: ExprKind, parts: &mut Parts, pos: Position) -> Result<Expr, Unread> {
     match kind {
-        ExprKind::Array => Ok(Expr::Array(parts.exprs(), pos)),
+        ExprKind::Array => Ok(Expr::Array(listed(parts)?, pos)),
         ExprKind::Map => map(parts, pos),
-        ExprKind::Text => Ok(Expr::InterpolatedString(parts.exprs(), pos)),
-        ExprKind::And => Ok(Expr::And(operands(parts)?, pos)),
-        ExprKind::Or => Ok(Expr::Or(operands(parts)?, pos)),
-        ExprKind::Coalesce => Ok(Expr::Coalesce(operands(parts)?, pos)),
+        ExprKind::Text => Ok(Expr::InterpolatedString(listed(parts)?, pos)),
+        ExprKind::And => Ok(Expr::And(listed(parts)?, pos)),
+        ExprKind::Or => Ok(Expr::Or(listed(parts)?, pos)),
+        ExprKind::Coalesce => Ok(Expr::Coalesce(listed(parts)?, pos)),
         ExprKind::This => Ok(Expr::ThisPtr(pos)),
         ExprKind::Dot | ExprKind::Index => step(kind, parts, pos),
         ExprKind::Call | ExprKind::Variable | ExprKind::Property | ExprKind::Method => {
@@ -27,7 +27,7 @@ pub(crate) fn expr(kind: ExprKind, parts: &mut Parts, pos: Position) -> Result<E
     }
 }
 
-fn operands(parts: &mut Parts) -> Result<Boxed<Seq<Expr>>, Unread> {
+fn listed(parts: &mut Parts) -> Result<Boxed<Seq<Expr>>, Unread> {
     Ok(Boxed::new(parts.alloc, parts.exprs())?)
 }
 

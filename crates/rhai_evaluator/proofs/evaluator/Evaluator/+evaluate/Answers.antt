@@ -403,10 +403,10 @@ pub expr-returns-in-Stmt : goal.expr-returns-in-Stmt
 expr-returns-in-Stmt g t c = braces_of_expr (setting g.H.Host.answers g.H.Host.modules c.args.self.now.machine) c.args.self.now.in_loop c.args.state.now c.block.new.state c.args.expr.now c.in-Stmt.block c.get-in-Stmt.result.now c.block.result c.in-Stmt.is c.get-in-Stmt.ensures c.block.ensures
 
 pub expr-returns-in_ok-exprs-in-Array : goal.expr-returns-in_ok-exprs-in-Array
-expr-returns-in_ok-exprs-in-Array g t c = array_of_expr (setting g.H.Host.answers g.H.Host.modules c.args.self.now.machine) c.args.self.now.in_loop c.args.state.now c.exprs-in-Array.new.state c.args.expr.now c.in-Array.items c.as_slice-in-Array.result.now c.in-Array.field-1 c.in_ok-exprs-in-Array.field-0 c.in-Array.is c.as_slice-in-Array.ensures c.in_ok-exprs-in-Array.ensures
+expr-returns-in_ok-exprs-in-Array g t c = array_of_expr (setting g.H.Host.answers g.H.Host.modules c.args.self.now.machine) c.args.self.now.in_loop c.args.state.now c.exprs-in-Array.new.state c.args.expr.now c.in-Array.items c.as_slice-in-Array.result.now c.in-Array.field-1 c.in_ok-exprs-in-Array.field-0 c.in-Array.is (c.as_slice-in-Array.ensures ∙ c.get-in-Array.ensures) c.in_ok-exprs-in-Array.ensures
 
 pub expr-returns-in_ok-joined_text-in-InterpolatedString : goal.expr-returns-in_ok-joined_text-in-InterpolatedString
-expr-returns-in_ok-joined_text-in-InterpolatedString g t c = text_of_expr (setting g.H.Host.answers g.H.Host.modules c.args.self.now.machine) c.args.self.now.in_loop c.args.state.now c.exprs.new.state c.args.expr.now c.in-InterpolatedString.parts c.as_slice.result.now c.in-InterpolatedString.field-1 c.in_ok-exprs-in-InterpolatedString.field-0 c.in_ok-joined_text-in-InterpolatedString.field-0 c.in-InterpolatedString.is c.as_slice.ensures c.in_ok-exprs-in-InterpolatedString.ensures c.in_ok-joined_text-in-InterpolatedString.ensures
+expr-returns-in_ok-joined_text-in-InterpolatedString g t c = text_of_expr (setting g.H.Host.answers g.H.Host.modules c.args.self.now.machine) c.args.self.now.in_loop c.args.state.now c.exprs.new.state c.args.expr.now c.in-InterpolatedString.parts c.as_slice.result.now c.in-InterpolatedString.field-1 c.in_ok-exprs-in-InterpolatedString.field-0 c.in_ok-joined_text-in-InterpolatedString.field-0 c.in-InterpolatedString.is (c.as_slice.ensures ∙ c.get-in-InterpolatedString.ensures) c.in_ok-exprs-in-InterpolatedString.ensures c.in_ok-joined_text-in-InterpolatedString.ensures
 
 pub statement-returns-in-If : goal.statement-returns-in-If
 statement-returns-in-If g t c = if_of_stmt (setting g.H.Host.answers g.H.Host.modules c.args.self.now.machine) c.args.self.now.in_loop c.args.state.now c.choice.new.state c.args.statement.now c.choice.result c.in-If.flow c.get.result.now _ c.in-If.is c.get.ensures c.choice.ensures
