@@ -66,7 +66,10 @@ impl<'a, H: Host> Evaluator<'a, H> {
             Expr::StringConstant(text, _) => Ok(Dynamic::Str(text.clone()?)),
             Expr::Unit(_) => Ok(Dynamic::Unit),
             Expr::InterpolatedString(parts, _) => {
-                Ok(joined_text(self.machine.alloc, self.exprs(state, parts.get().as_slice())?)?)
+                Ok(joined_text(
+                    self.machine.alloc,
+                    self.exprs(state, parts.get().as_slice())?,
+                )?)
             }
             Expr::Array(items, _) => Ok(Dynamic::Array(self.exprs(state, items.get().as_slice())?)),
             Expr::Map(literal, _) => self.map(state, literal.get()),
