@@ -1,5 +1,5 @@
 -- A node kept as it is where nothing is left to reduce at it, a node that a rule rewrote, and a list that was rewritten behind its front.
-use Rattle.std.proofs.Common.{◌≡◌, ◌⊎◌, inl, inr, Bool, true, false, refl, sym, subst}
+use Rattle.std.proofs.Common.{◌≡◌, inl, inr, Bool, true, false, refl, sym, subst}
 use Rattle.rhai_meaning.specs.Tree.{Expr, Stmt, Var, Stmts, no_stmts, stmt, joined}
 use Rattle.rhai_meaning.specs.Walk.{OfExpr, OfStmt}
 use Rattle.rhai_rewriting.specs.Context.{Context, behind, ListKind}
