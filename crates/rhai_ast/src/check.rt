@@ -9,7 +9,8 @@ ghost use Rattle.rhai_meaning.specs.Faults as faults;
 ghost use Rattle.rhai_meaning.specs.Laws.{WellFormedLaw};
 ghost use Rattle.rhai_meaning.specs.Plain as plain;
 
-use rhai_faults::{TreeFault, are_plain, are_plain_functions, check_functions, check_stmts};
+use rhai_base::TreeFault;
+use rhai_faults::{are_plain, are_plain_functions, check_functions, check_stmts};
 use rhai_tree::{ScriptFuncDef, Stmt};
 use std::alloc::Global;
 use std::rc::Rc;

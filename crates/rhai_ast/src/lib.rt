@@ -3,9 +3,11 @@
 //! The calls stand here with their contracts; the recursions over a tree that they are made of stand in crates below.
 #![tactic(auto)]
 
+mod block;
 mod call;
 mod check;
 mod expr;
+mod into_expr;
 mod literals;
 mod place;
 mod stmt;
@@ -13,13 +15,14 @@ mod switch;
 mod take;
 mod walk;
 
+pub use block::FromStmt;
 pub use call::CallQueries;
 pub use check::{check_tree, is_plain};
 pub use expr::ExprQueries;
+pub use into_expr::IntoExpr;
 pub use literals::Literals;
 pub use place::SetPosition;
-pub use rhai_faults::TreeFault;
-pub use rhai_nodes::{FromStmt, IntoExpr};
+pub use rhai_base::TreeFault;
 pub use rhai_tree::{
     BinaryExpr, CaseBlocksList, Cases, Expr, FlowControl, FnAccess, FnCallExpr, FnNamespace,
     ScriptFuncDef, Stmt, StmtBlock, StmtBlockContainer, SwitchBlock, SwitchCasesCollection,

@@ -3,20 +3,20 @@ use Rattle.std.proofs.Common.{◌≡◌, not, ◌==◌, List, [], ◌∷◌, len
 use Rattle.std.proofs.Math.Dec.{eqb-suc-zero}
 use Rattle.std.proofs.lemmas.Result.{err_from_is_err_and}
 use Rattle.std.specs.Result.{IsErrAnd}
-use Rattle.rhai_faults.specs.declared.fault.TreeFault.{TreeFault}
+use Rattle.rhai_tokens.specs.declared.error.TreeFault.{TreeFault}
 use Rattle.rhai_tree.specs.declared.expr.Expr.{Expr}
 use Rattle.rhai_meaning.specs.Faults as faults
 use Rattle.rhai_meaning.specs.Faults.{◌then◌}
 use Rattle.rhai_reading.specs.Reading.{exprs_of}
 use Rattle.rhai_faults.specs.Refusals.{Finds, IsTheFirst, meant}
 
-first_stays : (o p m : Option faults.TreeFault) → IsTheFirst o m → IsTheFirst (o then p) m
+first_stays : (o p m : Option TreeFault) → IsTheFirst o m → IsTheFirst (o then p) m
 first_stays o p None h = tt
 first_stays None p (Some f) h = absurd (let z : None ≡ Some f = h in cc)
 first_stays (Some g) p (Some f) h = h
 
 -- the fault of a part, before which nothing was found
-pub leaves : {A : Type 0} (r : Result A TreeFault) (f : TreeFault) (all o p : Option faults.TreeFault) → IsErrAnd r (λ y. y ≡ f) → all ≡ o then p → IsTheFirst o (meant f) → Finds all r
+pub leaves : {A : Type 0} (r : Result A TreeFault) (f : TreeFault) (all o p : Option TreeFault) → IsErrAnd r (λ y. y ≡ f) → all ≡ o then p → IsTheFirst o (meant f) → Finds all r
 leaves r f all o p e t h =
     let q = err_from_is_err_and r e in
     subst (Finds all) (sym q.1) (subst (λ y. IsTheFirst all (meant y)) (sym q.2) (subst (λ a. IsTheFirst a (meant f)) (sym t) (first_stays o p (meant f) h)))

@@ -13,12 +13,11 @@ ghost use Rattle.rhai_meaning.specs.Shape as shape;
 ghost use Rattle.rhai_meaning.specs.Walk.{arm_of_default, arms_of_cases, arms_of_ranges, listed, over_expr, over_maybe, over_stmt, whole};
 ghost use Rattle.rhai_reading.specs.Reading.{arms_of, case_of, cases_of, expr_of, expressions_of, exprs_of, keys_of, maybe_of, pairs_of, range_of, stmt_of, subject_of, table_of};
 
-use crate::TreeFault;
 use crate::around::Around;
 use crate::map_keys::test_keys;
 use crate::shape::{is_catch, is_formed, is_left_side, is_reserved, is_rest, is_unit};
 use bitflags::Flags;
-use rhai_base::{ASTFlags, Boxed, Dynamic, Ident, RangeCase, StringMap};
+use rhai_base::{ASTFlags, Boxed, Dynamic, Ident, RangeCase, StringMap, TreeFault};
 use rhai_queries::is_table;
 use rhai_tree::{
     BinaryExpr, Cases, Expr, FlowControl, FnCallExpr, ScriptFuncDef, Stmt, SwitchBlock,

@@ -7,8 +7,7 @@ ghost use Rattle.rhai_meaning.specs.Faults as faults;
 ghost use Rattle.rhai_meaning.specs.Shape.{are_among, are_distinct};
 ghost use Rattle.rhai_reading.specs.Reading.{keys_of};
 
-use crate::TreeFault;
-use rhai_base::{Dynamic, Ident, StringMap};
+use rhai_base::{Dynamic, Ident, StringMap, TreeFault};
 use rhai_tree::Expr;
 use std::alloc::Global;
 use std::collections::HashSet;

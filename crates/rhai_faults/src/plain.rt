@@ -48,17 +48,16 @@ fn is_plain_expr(expr: &Expr) -> bool
         | Expr::Variable(_, _, _)
         | Expr::ThisPtr(_)
         | Expr::Property(_, _) => true,
-        Expr::InterpolatedString(parts, _) | Expr::Array(parts, _) => {
-            are_plain_exprs(parts.get().as_slice())
-        }
+        Expr::InterpolatedString(list, _)
+        | Expr::Array(list, _)
+        | Expr::And(list, _)
+        | Expr::Or(list, _)
+        | Expr::Coalesce(list, _) => are_plain_exprs(list.get().as_slice()),
         Expr::Map(map, _) => are_plain_members(map.get().0.as_slice()),
         Expr::MethodCall(call, _) | Expr::FnCall(call, _) => is_plain_call(call.get()),
         Expr::Stmt(block) => are_plain(block.get().statements()),
         Expr::Dot(sides, options, _) | Expr::Index(sides, options, _) => {
             !options.contains(ASTFlags::EXPORTED) && is_plain_sides(sides.get())
-        }
-        Expr::And(operands, _) | Expr::Or(operands, _) | Expr::Coalesce(operands, _) => {
-            are_plain_exprs(operands.get().as_slice())
         }
     }
 }

@@ -1,37 +1,13 @@
 -- Which trees are well-formed, and what is wrong with others: tests that run nothing.
 use Rattle.std.specs.Prelude.{◌≡◌, ℕ, Bool, true, false, not, ◌&&◌, ◌||◌, List, [], ◌∷◌, Option, Some, None}
+pub use Rattle.rhai_tokens.specs.declared.error.TreeFault.{TreeFault}
+pub use Rattle.rhai_tokens.specs.declared.error.TreeFault.TheVariants.{DuplicateMapKey, MapTemplate, NoOperands, UnitConstant, BreakOutsideLoop, ReservedName, ChainShape, AssignTarget, OperatorName, CatchName, SwitchTable as SwitchFault}
 use Rattle.rhai_values.specs.Value.{Text}
 use Rattle.rhai_parts.specs.Names.{is_among, reserved, symbols}
 use Rattle.rhai_meaning.specs.Engine.{or_else}
 use Rattle.rhai_meaning.specs.Shape.{is_unit, has_token, is_rest, is_table, is_left_side, catch_name, keys, are_distinct, are_among}
 use Rattle.rhai_meaning.specs.Tree.{Callee, Expr, DynamicConstant, MapOf, Property, MethodCall, FnCall, Dot, Index, And, Or, Coalesce, Exprs, no_exprs, expr, count_exprs, Stmt, Switch, Assignment, FnCallStmt, TryCatch, BreakLoop, Stmts, Function, Script}
 use Rattle.rhai_meaning.specs.Walk.{Node, OfExpr, OfStmt, Role, Member, Rest, Around, outermost, around_spot, around_parts, Walk, throughout, over_expr, over_exprs, over_stmt, over_stmts, arms_at, listed}
-
-pub data TreeFault : Type 0 where
-  DuplicateMapKey : TreeFault
-  MapTemplate : TreeFault
-  NoOperands : TreeFault
-  UnitAsConstant : TreeFault
-  BreakOutsideLoop : TreeFault
-  ReservedName : TreeFault
-  ChainShape : TreeFault
-  AssignTarget : TreeFault
-  OperatorName : TreeFault
-  CatchName : TreeFault
-  SwitchFault : TreeFault
-
-abbrev pub number_of : TreeFault → ℕ
-number_of DuplicateMapKey = 20
-number_of MapTemplate = 21
-number_of NoOperands = 22
-number_of UnitAsConstant = 23
-number_of BreakOutsideLoop = 24
-number_of ReservedName = 25
-number_of ChainShape = 26
-number_of AssignTarget = 27
-number_of OperatorName = 28
-number_of CatchName = 29
-number_of SwitchFault = 31
 
 -- ---- the fault of one node
 
@@ -67,7 +43,7 @@ is_inside_chain (Rest dot) = true
 is_inside_chain _ = false
 
 abbrev pub expr_fault : Around → Expr → Option TreeFault
-expr_fault a (DynamicConstant v) = unless (not (is_unit v)) UnitAsConstant
+expr_fault a (DynamicConstant v) = unless (not (is_unit v)) UnitConstant
 expr_fault a (MapOf ps template) = map_fault (keys ps) template
 expr_fault a (Property p) = unless (is_member_role a.role) ChainShape
 expr_fault a (MethodCall c es) = unless (is_member_role a.role) ChainShape then call_fault c (count_exprs es)

@@ -10,24 +10,14 @@ use rhai_queries::stmt_position;
 use rhai_tree::{Stmt, StmtBlock};
 use std::alloc::Global;
 
-/// Blocks made of statements.
-pub trait FromStmt: Sized {
-    /// A block's own block; for nothing an empty one where it stands; else one of the statement alone, from
-    /// where it stands on, which takes memory once; where that is refused the statement is gone.
-    ///
-    /// In rhai it is a `From`, which cannot be refused.
-    fn from_stmt(alloc: Global, stmt: Stmt) -> Result<Self, OutOfMemory>;
-}
-
-impl FromStmt for StmtBlock {
-    fn from_stmt(alloc: Global, stmt: Stmt) -> Result<StmtBlock, OutOfMemory>
-        ensures { IfOk result (λ b. b ≡ block_made_of stmt) }
-    {
-        match stmt {
-            Stmt::Block(block) => Ok(block.into_inner()),
-            Stmt::Noop(pos) => Ok(StmtBlock::empty(alloc, pos)),
-            other => block_around(alloc, other),
-        }
+/// A block's own block; for nothing an empty one; else one of the statement alone.
+pub fn block_from(alloc: Global, stmt: Stmt) -> Result<StmtBlock, OutOfMemory>
+    ensures { IfOk result (λ b. b ≡ block_made_of stmt) }
+{
+    match stmt {
+        Stmt::Block(block) => Ok(block.into_inner()),
+        Stmt::Noop(pos) => Ok(StmtBlock::empty(alloc, pos)),
+        other => block_around(alloc, other),
     }
 }
 

@@ -6,7 +6,7 @@ mod op_assignment;
 mod position;
 mod token;
 
-pub use error::{AstError, Fault, OutOfMemory};
+pub use error::{AstError, Fault, OutOfMemory, TreeFault};
 pub use op_assignment::OpAssignment;
 pub use position::{Position, Span};
 pub use token::Token;

@@ -3,7 +3,8 @@ use Rattle.std.specs.Prelude.{◌≡◌, ℕ, Bool, true, false, List, [], ◌�
 use Rattle.rhai_values.specs.Value.{BoolV}
 use Rattle.rhai_base.specs.Operators.{Plus, Multiply}
 use Rattle.rhai_tokens.specs.declared.token.Token.TheVariants as token
-use Rattle.rhai_meaning.specs.Faults.{number_of, script_fault}
+use Rattle.rhai_tokens.specs.Refusals.{number_of_fault}
+use Rattle.rhai_meaning.specs.Faults.{script_fault}
 use Rattle.rhai_meaning.specs.Paths.{stmts_paths}
 use Rattle.rhai_meaning.specs.Plain.{is_plain}
 use Rattle.rhai_meaning.specs.Queries.{is_pure_expr, is_pure, is_internally_pure, is_block_dependent, is_valid_postfix, constant_args}
@@ -50,7 +51,7 @@ postfixes = refl
 
 -- the number of the first fault
 abbrev fault : List Stmt → Option ℕ
-fault ss = option_map number_of (script_fault (record { statements = stmts ss; functions = [] }))
+fault ss = option_map number_of_fault (script_fault (record { statements = stmts ss; functions = [] }))
 
 -- braces that begin with `break`, and then the value
 abbrev breaks_then : Expr → Expr

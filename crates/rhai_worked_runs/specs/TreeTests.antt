@@ -6,7 +6,8 @@ use Rattle.rhai_base.specs.Operators.{Plus, UpTo, Through, binary}
 use Rattle.rhai_tokens.specs.declared.token.Token.TheVariants as token
 use Rattle.rhai_meaning.specs.Constants.{is_constant, literal_value, constant_for}
 use Rattle.rhai_meaning.specs.Control.{texts_joined}
-use Rattle.rhai_meaning.specs.Faults.{number_of, script_fault}
+use Rattle.rhai_tokens.specs.Refusals.{number_of_fault}
+use Rattle.rhai_meaning.specs.Faults.{script_fault}
 use Rattle.rhai_meaning.specs.Plain.{is_plain}
 use Rattle.rhai_meaning.specs.Queries.{is_pure_expr, is_pure, is_internally_pure, is_block_dependent, returns_value, is_self_terminated, is_control_flow_break, is_noop, is_unit, is_valid_postfix}
 use Rattle.rhai_meaning.specs.Tree.{OfOperator, OfOther, ChainFlags, Expr, DynamicConstant, BoolConstant, IntegerConstant, CharConstant, StringConstant, UnitConstant, InterpolatedString, MapOf, Variable, ThisPtr, MethodCall, BlockExpr, FnCall, Dot, Index, And, Or, Coalesce, Function, Stmt, Noop, If, Switch, While, Do, For, Var, Assignment, FnCallStmt, Block, TryCatch, ExprStmt, BreakLoop, Return, Import, Export, Share, no_expr, arms, pairs, no_stmts, no_exprs, exprs, stmts}
@@ -18,7 +19,7 @@ or_zero None = 0
 or_zero (Some n) = n
 
 abbrev fault_with : List Function → List Stmt → ℕ
-fault_with fs ss = or_zero (option_map number_of (script_fault (record { statements = stmts ss; functions = fs })))
+fault_with fs ss = or_zero (option_map number_of_fault (script_fault (record { statements = stmts ss; functions = fs })))
 
 abbrev fault : List Stmt → ℕ
 fault ss = fault_with [] ss

@@ -1,7 +1,7 @@
 use Rattle.std.proofs.Common.{◌≡◌, IfOk, subst}
 use Rattle.rhai_tree.specs.declared.block.StmtBlock.{StmtBlock}
 use Rattle.rhai_nodes.proofs.Blocks.{block_of_other}
-use Rattle.rhai_nodes.proofs.block.StmtBlockFromStmt.from_stmt.Goals as goal
+use Rattle.rhai_nodes.proofs.block.block_from.Goals as goal
 
 pub returns-in_default : goal.returns-in_default
 returns-in_default c =

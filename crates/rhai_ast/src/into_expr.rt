@@ -1,11 +1,12 @@
 //! Calls as expressions.
 
-#![tactic(auto, using(rhai_reading::specs::Reading::shapes))]
+#![tactic(auto)]
 
 ghost use Rattle.std.specs.Prelude.{◌≡◌, IfOk};
 ghost use Rattle.rhai_tree.specs.declared.expr.Expr.TheVariants.{FnCall};
 
-use rhai_base::{Boxed, OutOfMemory, Position};
+use rhai_base::{OutOfMemory, Position};
+use rhai_nodes::call_expression;
 use rhai_tree::{Expr, FnCallExpr};
 use std::alloc::Global;
 
@@ -19,6 +20,6 @@ impl IntoExpr for FnCallExpr {
     fn into_fn_call_expr(self, alloc: Global, pos: Position) -> Result<Expr, OutOfMemory>
         ensures { IfOk result (λ e. e ≡ FnCall self pos) }
     {
-        Ok(Expr::FnCall(Boxed::new(alloc, self)?, pos))
+        call_expression(alloc, self, pos)
     }
 }

@@ -1,0 +1,17 @@
+//! Calls as expressions.
+
+#![tactic(auto, using(rhai_reading::specs::Reading::shapes))]
+
+ghost use Rattle.std.specs.Prelude.{◌≡◌, IfOk};
+ghost use Rattle.rhai_tree.specs.declared.expr.Expr.TheVariants.{FnCall};
+
+use rhai_base::{Boxed, OutOfMemory, Position};
+use rhai_tree::{Expr, FnCallExpr};
+use std::alloc::Global;
+
+/// The call as an expression there.
+pub fn call_expression(alloc: Global, call: FnCallExpr, pos: Position) -> Result<Expr, OutOfMemory>
+    ensures { IfOk result (λ e. e ≡ FnCall call pos) }
+{
+    Ok(Expr::FnCall(Boxed::new(alloc, call)?, pos))
+}
