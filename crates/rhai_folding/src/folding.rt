@@ -5,7 +5,7 @@
 ghost use Rattle.std.specs.Prelude.{◌≡◌, IfOk, Some, [], ◌∷◌};
 ghost use Rattle.std.specs.Option.{option_map};
 ghost use Rattle.rhai_values.specs.Reading.{value_of};
-ghost use Rattle.rhai_values.specs.Value.{IntV, TextV};
+ghost use Rattle.rhai_values.specs.Value.{IntV};
 ghost use Rattle.rhai_reading.specs.Reading.{callee_of, expr_of, exprs_of, mark_of};
 ghost use Rattle.rhai_base.specs.Builtin.{computed_of};
 ghost use Rattle.rhai_meaning.specs.Constants as constants;
@@ -14,7 +14,7 @@ ghost use Rattle.rhai_engine.specs.EngineInfo.{engine_of};
 ghost use Rattle.rhai_rewriting.specs.Folding as spec;
 
 use rhai_ast::{Expr, FnCallExpr, Literals};
-use rhai_base::{Dynamic, Fault, INT, ImmutableString, OutOfMemory, Token};
+use rhai_base::{Dynamic, Fault, INT, OutOfMemory, Token};
 use rhai_engine::EngineInfo;
 use std::alloc::Global;
 
@@ -109,39 +109,6 @@ fn folded_integers(
     folded_values(alloc, info, op, &integer(x), &integer(y))
 }
 
-fn text(text: ImmutableString) -> Dynamic
-    ensures { value_of result ≡ TextV text }
-{
-    Dynamic::Str(text)
-}
-
-/// Texts are taken as they stand too: what counts their owners is all that changes.
-fn folded_texts(
-    alloc: Global,
-    info: &EngineInfo,
-    op: Token,
-    x: &ImmutableString,
-    y: &ImmutableString,
-) -> Result<Option<Dynamic>, OutOfMemory>
-    ensures { IfOk result (λ v. option_map value_of v ≡ spec.folded_values (engine_of info.now) (mark_of (Some op)) (Some (TextV x.now ∷ TextV y.now ∷ []))) }
-{
-    let x = text(x.clone()?);
-    folded_with_text(alloc, info, op, &x, y)
-}
-
-fn folded_with_text(
-    alloc: Global,
-    info: &EngineInfo,
-    op: Token,
-    x: &Dynamic,
-    y: &ImmutableString,
-) -> Result<Option<Dynamic>, OutOfMemory>
-    ensures { IfOk result (λ v. option_map value_of v ≡ spec.folded_values (engine_of info.now) (mark_of (Some op)) (Some (value_of x.now ∷ TextV y.now ∷ []))) }
-{
-    let y = text(y.clone()?);
-    folded_values(alloc, info, op, x, &y)
-}
-
 fn folded_two(
     alloc: Global,
     info: &EngineInfo,
@@ -154,9 +121,6 @@ fn folded_two(
     match (x, y) {
         (Expr::IntegerConstant(x, _), Expr::IntegerConstant(y, _)) => {
             folded_integers(alloc, info, op, *x, *y)
-        }
-        (Expr::StringConstant(x, _), Expr::StringConstant(y, _)) => {
-            folded_texts(alloc, info, op, x, y)
         }
         _ => folded_constants(alloc, info, op, x, y),
     }

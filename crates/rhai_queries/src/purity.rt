@@ -19,13 +19,12 @@ pub fn is_pure_expr(expr: &Expr) -> bool
     ensures { result ≡ queries.is_pure_expr (expr_of expr.now) }
 {
     match expr {
-        Expr::InterpolatedString(parts, _) | Expr::Array(parts, _) => {
-            are_pure_exprs(parts.get().as_slice())
-        }
+        Expr::InterpolatedString(list, _)
+        | Expr::Array(list, _)
+        | Expr::And(list, _)
+        | Expr::Or(list, _)
+        | Expr::Coalesce(list, _) => are_pure_exprs(list.get().as_slice()),
         Expr::Map(map, _) => are_pure_members(map.get().0.as_slice()),
-        Expr::And(operands, _) | Expr::Or(operands, _) | Expr::Coalesce(operands, _) => {
-            are_pure_exprs(operands.get().as_slice())
-        }
         Expr::Stmt(block) => are_pure(block.get().statements()),
         Expr::DynamicConstant(_, _)
         | Expr::BoolConstant(_, _)

@@ -9,12 +9,12 @@ use Rattle.rhai_rewriting.specs.Rules.{ExprRule, StmtRule}
 use Rattle.rhai_rewriting.specs.Steps.{ExprFired, ExprStep, StmtFired, StmtStep}
 use Rattle.rhai_rewriting.specs.SurelyUnit.{is_surely_unit}
 
--- where none fires, a node that is spelled so is kept, and the flag
-pub expr_kept_as : {k : Context} {d : Bool} {e e' : Expr} → e' ≡ e → IsReducedNode k.engine (OfExpr e) → ExprStep k d d e e'
-expr_kept_as x h = inr (record { same = x; flag = refl; reduced = h })
+-- where none fires, the node is kept, and the flag
+pub no_rule_at_expr : {k : Context} {d : Bool} {e : Expr} → IsReducedNode k.engine (OfExpr e) → ExprStep k d d e e
+no_rule_at_expr h = inr (record { same = refl; flag = refl; reduced = h })
 
-pub stmt_kept_as : {k : Context} {w d : Bool} {s s' : Stmt} → s' ≡ s → IsReducedNode k.engine (OfStmt s) → StmtStep k w d d s s'
-stmt_kept_as x h = inr (record { same = x; flag = refl; reduced = h })
+pub no_rule_at_stmt : {k : Context} {w d : Bool} {s : Stmt} → IsReducedNode k.engine (OfStmt s) → StmtStep k w d d s s
+no_rule_at_stmt h = inr (record { same = refl; flag = refl; reduced = h })
 
 -- a rule fired, and gave a tree that is spelled so
 pub expr_fires : {k : Context} {d' : Bool} {e e1 e' : Expr} → d' ≡ true → ExprRule k e e1 → e' ≡ e1 → ExprFired k d' e e'

@@ -133,6 +133,8 @@ impl State {
         ensures turns { IfOk result (λ s. s.turns ≡ self.old.turns) }
         ensures scope { OnOk result (self.new.scope ≡ self.old.scope) }
         ensures around { OnOk result (self.new.this ≡ self.old.this) }
+        ensures turns_stay { OnOk result (self.new.turns ≡ self.old.turns) }
+        ensures calls_go { OnOk result (self.new.calls ≡ []) }
     {
         let names = if captures {
             copied(alloc, self.scope.as_slice())?

@@ -69,9 +69,11 @@ fn walk_parts_of_expr<'a, F: FnMut(&[ASTNode]) -> bool>(
         | Expr::Variable(_, _, _)
         | Expr::ThisPtr(_)
         | Expr::Property(_, _) => Ok(true),
-        Expr::InterpolatedString(parts, _) | Expr::Array(parts, _) => {
-            walk_exprs(parts.get().as_slice(), path, on_node)
-        }
+        Expr::InterpolatedString(list, _)
+        | Expr::Array(list, _)
+        | Expr::And(list, _)
+        | Expr::Or(list, _)
+        | Expr::Coalesce(list, _) => walk_exprs(list.get().as_slice(), path, on_node),
         Expr::Map(map, _) => walk_members(map.get().0.as_slice(), path, on_node),
         Expr::MethodCall(call, _) | Expr::FnCall(call, _) => {
             walk_exprs(call.get().args.as_slice(), path, on_node)
@@ -79,9 +81,6 @@ fn walk_parts_of_expr<'a, F: FnMut(&[ASTNode]) -> bool>(
         Expr::Stmt(block) => walk_statements(block.get().statements(), path, on_node),
         Expr::Dot(sides, _, _) | Expr::Index(sides, _, _) => {
             walk_sides(sides.get(), path, on_node)
-        }
-        Expr::And(operands, _) | Expr::Or(operands, _) | Expr::Coalesce(operands, _) => {
-            walk_exprs(operands.get().as_slice(), path, on_node)
         }
     }
 }
