@@ -10,15 +10,15 @@ ghost use Rattle.rhai_meaning.specs.Desugar.{core_stmt};
 ghost use Rattle.rhai_machine.specs.Setting.{setting};
 ghost use Rattle.rhai_state.specs.Evaluating.{Runs, RunsLine};
 ghost use Rattle.rhai_state.specs.Runs.{Acting};
-ghost use Rattle.rhai_machine.specs.Targets.{side_core};
+ghost use Rattle.rhai_forms.specs.LeftSides.{side_core};
 ghost use Rattle.rhai_meaning.specs.Meaning as meaning;
 ghost use Rattle.rhai_meaning.specs.Tree as tree;
 
 use crate::evaluator::Evaluator;
 use rhai_ast::BinaryExpr;
 use rhai_base::{Dynamic, OpAssignment};
+use rhai_forms::LeftSide;
 use rhai_host::{Host, Stuck};
-use rhai_machine::LeftSide;
 use rhai_state::{Interrupt, State};
 
 impl<'a, H: Host> Evaluator<'a, H> {

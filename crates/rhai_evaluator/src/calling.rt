@@ -15,8 +15,8 @@ ghost use Rattle.rhai_meaning.specs.Shape as shape;
 use crate::evaluator::Evaluator;
 use rhai_ast::FnCallExpr;
 use rhai_base::{Dynamic, ImmutableString, Seq};
+use rhai_forms::{Word, is_callable, operator_called, qualified};
 use rhai_host::{Host, Stuck};
-use rhai_machine::{Word, is_callable, operator_called, qualified};
 use rhai_state::{Interrupt, State, pointed};
 
 impl<'a, H: Host> Evaluator<'a, H> {

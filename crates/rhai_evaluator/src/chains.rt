@@ -4,7 +4,8 @@
 
 ghost use Rattle.std.specs.Prelude.{false};
 ghost use Rattle.rhai_reading.specs.Reading.{chain_flags, expr_of};
-ghost use Rattle.rhai_machine.specs.Chaining.{access_meant, rest_steps, StepsOn};
+ghost use Rattle.rhai_machine.specs.Chaining.{access_meant, StepsOn};
+ghost use Rattle.rhai_forms.specs.Links.{rest_steps, step_in};
 ghost use Rattle.rhai_machine.specs.Setting.{setting};
 ghost use Rattle.rhai_state.specs.Evaluating.{Runs, RunsCore};
 ghost use Rattle.rhai_machine.specs.Placing.{current_in};
@@ -19,8 +20,9 @@ use crate::evaluator::Evaluator;
 use bitflags::Flags;
 use rhai_ast::{BinaryExpr, Expr, FnCallExpr};
 use rhai_base::{ASTFlags, Dynamic};
+use rhai_forms::{Rest, is_callable, is_chain, root_of};
 use rhai_host::{Host, Stuck};
-use rhai_machine::{Access, Current, PropertyNames, Rest, is_callable, is_chain, root_of};
+use rhai_machine::{Access, Current, PropertyNames};
 use rhai_state::{Interrupt, State};
 
 impl<'a, H: Host> Evaluator<'a, H> {
@@ -105,7 +107,7 @@ impl<'a, H: Host> Evaluator<'a, H> {
         is_dot: bool,
         argument: &'e Expr,
     ) -> Result<Access<'e>, Interrupt>
-        ensures { let here = setting H.answers H.modules self.now.machine in spec.HasAccess here (spec.step_in self.now.in_loop is_dot false (expr_of argument.now)) state.old result state.new }
+        ensures { let here = setting H.answers H.modules self.now.machine in spec.HasAccess here (step_in self.now.in_loop is_dot false (expr_of argument.now)) state.old result state.new }
     {
         if !is_dot {
             return Ok(Access::Index(self.expr(state, argument)?));

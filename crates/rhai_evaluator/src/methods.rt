@@ -17,8 +17,9 @@ ghost use Rattle.rhai_machine.specs.Chaining as spec;
 
 use crate::evaluator::Evaluator;
 use rhai_base::{Dynamic, ImmutableString, Seq};
+use rhai_forms::Word;
 use rhai_host::Host;
-use rhai_machine::{Current, Word};
+use rhai_machine::Current;
 use rhai_state::{Interrupt, State, pointed_with};
 
 impl<'a, H: Host> Evaluator<'a, H> {

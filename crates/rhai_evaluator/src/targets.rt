@@ -7,12 +7,14 @@ ghost use Rattle.rhai_values.specs.Reading.{value_of};
 ghost use Rattle.rhai_values.specs.Value.{UnitV};
 ghost use Rattle.rhai_base.specs.Builtin.{operator_of};
 ghost use Rattle.rhai_reading.specs.Reading.{expr_of};
-ghost use Rattle.rhai_machine.specs.Chaining.{access_meant, rest_steps};
+ghost use Rattle.rhai_machine.specs.Chaining.{access_meant};
+ghost use Rattle.rhai_forms.specs.Links.{rest_steps};
 ghost use Rattle.rhai_machine.specs.Setting.{setting};
 ghost use Rattle.rhai_machine.specs.Placing.{current_in};
 ghost use Rattle.rhai_state.specs.Runs.{Acting, Leads, given};
 ghost use Rattle.rhai_state.specs.State.{store_of};
-ghost use Rattle.rhai_machine.specs.Targets.{part_core, Changes};
+ghost use Rattle.rhai_forms.specs.LeftSides.{part_core};
+ghost use Rattle.rhai_machine.specs.Targets.{Changes};
 ghost use Rattle.rhai_meaning.specs.Calls as calls;
 ghost use Rattle.rhai_meaning.specs.Chains as chains;
 ghost use Rattle.rhai_meaning.specs.Meaning as meaning;
@@ -21,8 +23,9 @@ use crate::evaluator::Evaluator;
 use bitflags::Flags;
 use rhai_ast::Expr;
 use rhai_base::{ASTFlags, Dynamic, ImmutableString, OpAssignment, Seq, Token};
+use rhai_forms::{Rest, assigning_operator, ends_in_call, is_chain, root_of};
 use rhai_host::{Host, Stuck};
-use rhai_machine::{Access, Current, Rest, assigning_operator, ends_in_call, is_chain, root_of};
+use rhai_machine::{Access, Current};
 use rhai_state::{Interrupt, State};
 
 impl<'a, H: Host> Evaluator<'a, H> {

@@ -1,15 +1,8 @@
--- Left sides of assignments by their kind.
+-- Assignments to parts of values, by the left side.
 use Rattle.std.proofs.Common.{◌≡◌, Bool, true, false, cond, Option, Some, None, Result, Ok, Err, refl, subst, arith}
-use Rattle.rhai_tokens.specs.declared.position.Position.{Position}
 use Rattle.rhai_values.specs.Value.{Value, UnitV}
 use Rattle.rhai_base.specs.Operators.{Operator}
-use Rattle.rhai_parts.specs.declared.flags.ASTFlags.{ASTFlags}
-use Rattle.rhai_tree.specs.declared.expr.BinaryExpr.{BinaryExpr}
-use Rattle.rhai_tree.specs.declared.expr.Expr.{Expr}
-use Rattle.rhai_tree.specs.declared.expr.Expr.TheVariants as kind
-use Rattle.rhai_tree.specs.declared.expr.FnCallExpr.{FnCallExpr}
 use Rattle.rhai_reading.specs.Reading.{breaks, chain_flags, expr_of}
-use Rattle.rhai_reading.proofs.Cases.{ExprCase, dot_case, index_case, method_call_case}
 use Rattle.rhai_meaning.specs.Act as act
 use Rattle.rhai_meaning.specs.Act.{Act}
 use Rattle.rhai_meaning.specs.Core as core
@@ -18,32 +11,19 @@ use Rattle.rhai_meaning.specs.Meaning as meaning
 use Rattle.rhai_meaning.specs.Places as places
 use Rattle.rhai_meaning.specs.Shape.{is_chain}
 use Rattle.rhai_meaning.specs.Tree as tree
-use Rattle.rhai_machine.specs.declared.steps.links.Rest.{Rest}
+use Rattle.rhai_forms.specs.declared.links.Rest.{Rest}
 use Rattle.rhai_machine.specs.declared.steps.placing.Current.{Current}
 use Rattle.rhai_state.specs.declared.state.Interrupt.{Interrupt}
 use Rattle.rhai_state.specs.declared.state.Interrupt.TheVariants.{Stuck}
 use Rattle.rhai_state.specs.declared.state.State.{State}
 use Rattle.rhai_host.specs.declared.report.Stuck.TheVariants as why
-use Rattle.rhai_machine.specs.Chaining.{StepsOn, rest_steps}
+use Rattle.rhai_machine.specs.Chaining.{StepsOn}
+use Rattle.rhai_forms.specs.Links.{rest_steps}
 use Rattle.rhai_machine.specs.Placing.{current_in, read_base}
 use Rattle.rhai_state.specs.Runs.{Setting, Acting, Leads, given}
 use Rattle.rhai_state.specs.State.{store_of}
-use Rattle.rhai_machine.specs.Targets.{part_core}
+use Rattle.rhai_forms.specs.LeftSides.{part_core}
 use Rattle.rhai_state.proofs.Goes.{leads_then}
-
--- ---- which side it is
-
--- ---- ends in calls
-
-pub no_call_end : {x : Expr} {e : tree.Expr} (dot last : Bool) → ExprCase x e
-    → ((c : FnCallExpr) (p : Position) → x ≡ kind.MethodCall c p → ⊥) → ((b : BinaryExpr) (k : ASTFlags) (p : Position) → x ≡ kind.Dot b k p → ⊥) → ((b : BinaryExpr) (k : ASTFlags) (p : Position) → x ≡ kind.Index b k p → ⊥)
-    → false ≡ ends_in_call dot last e
-no_call_end dot last (method_call_case c p) m d i = absurd (m c p refl)
-no_call_end dot last (dot_case s k p) m d i = absurd (d s k p refl)
-no_call_end dot last (index_case s k p) m d i = absurd (i s k p refl)
-no_call_end dot last _ m d i = refl
-
--- ---- an assignment to a part
 
 module _ (here : Setting) (loop : Bool) (l : tree.Expr) (rest : Rest) (o : Option Operator) (v : Value) (s : State) where
   abbrev chained : Bool

@@ -1,16 +1,9 @@
-pub mod Optional
-pub mod Forms
-pub mod Assigning
 pub mod Unbound
-pub mod Callees
-pub mod Keys
 pub mod Maps
 pub mod Operands
 pub mod Roots
 pub mod Nodes
 pub mod Exits
-pub mod Cases
-pub mod Held
 pub mod ByKind
 pub mod Switches
 pub mod Weights
@@ -21,7 +14,6 @@ pub mod Placing
 pub mod Writing
 pub mod Chaining
 pub mod Quiet
-pub mod Links
 pub mod ChainSteps
 pub mod Targets
 pub mod LeftSides

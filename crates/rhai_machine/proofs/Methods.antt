@@ -1,10 +1,9 @@
 -- Methods.
-use Rattle.std.proofs.Common.{◌≡◌, ℕ, ◌≤◌, ◌<◌, Bool, true, false, cond, List, [], ◌∷◌, map, length, Option, Some, None, Result, Ok, Err, refl, sym, ap, ◌∙◌, subst, arith}
+use Rattle.std.proofs.Common.{◌≡◌, ℕ, ◌≤◌, Bool, true, false, cond, List, [], ◌∷◌, map, length, Option, Some, None, Result, Ok, Err, refl, sym, ap, ◌∙◌, subst}
 use Rattle.std.specs.Prelude.{option_map}
 use Rattle.rhai_values.specs.declared.dynamic.Dynamic.{Dynamic}
-use Rattle.rhai_values.specs.declared.dynamic.Dynamic.TheVariants as kind
-use Rattle.rhai_values.specs.Reading.{value_of, value_of-Bool}
-use Rattle.rhai_values.specs.Value.{Text, Value, UnitV, TextV, type_name}
+use Rattle.rhai_values.specs.Reading.{value_of}
+use Rattle.rhai_values.specs.Value.{Text, Value, UnitV, type_name}
 use Rattle.rhai_tree.specs.declared.script_fn.ScriptFuncDef.{ScriptFuncDef}
 use Rattle.rhai_reading.specs.Reading.{stmts_of}
 use Rattle.rhai_reading.specs.Reading as reading
@@ -16,7 +15,6 @@ use Rattle.rhai_meaning.specs.ActForms.{ask_method, give, ◌>>=◌}
 use Rattle.rhai_meaning.specs.Calls as calls
 use Rattle.rhai_meaning.specs.Calls.{call_pointer, has_key, key}
 use Rattle.rhai_meaning.specs.Chains.{after_method, method, method_key, to_method, value_alone}
-use Rattle.rhai_meaning.specs.Engine.{mapped_type_name}
 use Rattle.rhai_meaning.specs.Places as places
 use Rattle.rhai_meaning.specs.Places.{put_back, without_place}
 use Rattle.rhai_meaning.specs.Run.{function_of, key_of}
@@ -25,12 +23,12 @@ use Rattle.rhai_machine.specs.declared.steps.placing.Current.{Current}
 use Rattle.rhai_machine.specs.declared.steps.placing.Current.TheVariants as current
 use Rattle.rhai_state.specs.declared.state.Interrupt.{Interrupt}
 use Rattle.rhai_state.specs.declared.state.State.{State}
-use Rattle.rhai_machine.specs.Chaining.{CallsMethod, StepsOn, by_key, method_in, method_or, or_else, value_or}
+use Rattle.rhai_machine.specs.Chaining.{CallsMethod, StepsOn, by_key, method_in, or_else}
+use Rattle.rhai_forms.specs.Words.{calls_pointer, method_or, value_or}
 use Rattle.rhai_state.specs.Evaluating.{RunsInvoke, bodies_weight}
 use Rattle.rhai_machine.specs.Placing.{current_in}
 use Rattle.rhai_state.specs.Runs.{Setting, env, Acting, Goes, Stops, Leads, given}
 use Rattle.rhai_state.specs.State.{store_of}
-use Rattle.rhai_machine.specs.Words.{calls_pointer}
 use Rattle.rhai_machine.proofs.Chaining.{KeepsNames, Names, answer_keeps, kept_by, same_current}
 use Rattle.rhai_state.proofs.Goes.{gives, goes_as, goes_then, leads_then, stops_then, value_goes, value_stops}
 use Rattle.rhai_machine.proofs.Known.{all_run, found_function, found_key, found_nothing, found_weight, run_of}
@@ -208,25 +206,3 @@ module _ (here : Setting) (f : Text) (vs : List Value) (m : calls.Word) (meant :
 
     pub word_passed : (s1 : State) (r : Result Current Interrupt) → Answers (Ok None) → StepsOn here other s r s1 → StepsOn here by_method s r s1
     word_passed s1 r q k = λ next. leads_then here s1 r (λ c. Acting (next (current_in here (store_of s1) c))) (goes_then here (to_word next) (q s next (other next))) (k next)
-
--- ---- words that answer at once
-
-no_args : (vs : List Dynamic) → length vs < 1 → vs ≡ []
-no_args [] h = refl
-no_args (v ∷ vs) h = absurd (omega (arith, h))
-
-module _ (here : Setting) (s : State) (v : Value) (next : places.Current → Act) (o : Act) where
-  abbrev answers : calls.Word → List Value → Act
-  answers m vs = method_or here.world.engine m v vs next o
-
-  pub shared_method : (vs : List Dynamic) → length vs < 1 → Goes here (Acting (answers calls.IsShared (map value_of vs))) s (value_or next o (Some (kind.Bool false))) s
-  shared_method vs h = goes_then here (goes_as here _ _ s (ap (λ us. Acting (answers calls.IsShared (map value_of us))) (no_args vs h))) (goes_as here _ _ s (ap (λ u. Acting (next (without_place u))) (sym (value_of-Bool false))))
-
-  pub type_method : (vs : List Dynamic) → length vs < 1 → (w : Dynamic) → value_of w ≡ TextV (mapped_type_name here.world.engine v) → Goes here (Acting (answers calls.TypeOf (map value_of vs))) s (value_or next o (Some w)) s
-  type_method vs h w e = goes_then here (goes_as here _ _ s (ap (λ us. Acting (answers calls.TypeOf (map value_of us))) (no_args vs h))) (goes_as here _ _ s (ap (λ u. Acting (next (without_place u))) (sym e)))
-
-  pub curried_method : (vs : List Value) (w : Dynamic) → Goes here (Acting (calls.curried v vs)) s (given (value_of w)) s → Goes here (Acting (answers calls.Curry vs)) s (value_or next o (Some w)) s
-  curried_method vs w q = value_goes here (λ u. next (without_place u)) q
-
-  pub curried_method_stops : (vs : List Value) (x : Interrupt) → Stops here (Acting (calls.curried v vs)) s x s → Stops here (Acting (answers calls.Curry vs)) s x s
-  curried_method_stops vs x q = value_stops here _ (λ u. next (without_place u)) s s x q

@@ -1,23 +1,20 @@
 -- Calls by names: the language's own words, script functions, the host.
-use Rattle.std.proofs.Common.{◌≡◌, ◌-◌, ◌<◌, ◌≤◌, Bool, true, false, ◌||◌, List, [], ◌∷◌, map, length, drop, take, get_or, Option, Some, None, Result, Ok, Err, refl, sym, ap, ◌∙◌, subst, cond, arith}
-use Rattle.std.proofs.lemmas.List.{take_all}
+use Rattle.std.proofs.Common.{◌≡◌, Bool, true, false, ◌||◌, List, [], ◌∷◌, map, length, Option, Some, None, Result, Ok, Err, refl, sym, ap, ◌∙◌, subst, cond}
 use Rattle.rhai_values.specs.declared.dynamic.Dynamic.{Dynamic}
-use Rattle.rhai_values.specs.declared.dynamic.Dynamic.TheVariants as kind
-use Rattle.rhai_values.specs.Reading.{value_of, value_of-Bool}
-use Rattle.rhai_values.specs.Value.{Text, Value, TextV}
+use Rattle.rhai_values.specs.Reading.{value_of}
+use Rattle.rhai_values.specs.Value.{Text, Value}
 use Rattle.rhai_meaning.specs.Act.{Key, ScriptCall, Act, Invoke}
 use Rattle.rhai_meaning.specs.ActForms.{ask_host, choose, give}
 use Rattle.rhai_meaning.specs.Act.{World}
 use Rattle.rhai_meaning.specs.Calls as calls
 use Rattle.rhai_meaning.specs.Calls.{call_named, has_key, key, same_key}
-use Rattle.rhai_meaning.specs.Engine.{mapped_type_name}
-use Rattle.rhai_machine.specs.Words.{calls_pointer, goes_to_host, word_or}
+use Rattle.rhai_forms.specs.Words.{calls_pointer, goes_to_host, word_or}
 use Rattle.rhai_meaning.specs.Core.{Function}
 use Rattle.rhai_meaning.specs.Run.{function_of, key_of}
 use Rattle.rhai_state.specs.declared.state.Interrupt.{Interrupt}
 use Rattle.rhai_state.specs.declared.state.State.{State}
 use Rattle.rhai_state.specs.Evaluating.{RunsInvoke}
-use Rattle.rhai_state.specs.Runs.{Setting, Task, Acting, Goes, Stops, Leads, Runs, given}
+use Rattle.rhai_state.specs.Runs.{Setting, Acting, Goes, Stops, Leads, Runs, given}
 use Rattle.rhai_state.proofs.Goes.{goes_as, goes_then, gives, leads_then, stops_then}
 
 abbrev is_known : Option Function → Bool
@@ -116,29 +113,3 @@ module _ (here : Setting) (captures : Bool) (f : Text) (vs : List Value) (m : ca
 
     pub word_names : (s1 : State) (r : Result Dynamic Interrupt) → Goes here (Acting (word_or here.world.engine m vs named_act)) s (Acting named_act) s → Runs here (Acting named_act) s r s1 → Runs here (Acting word_act) s r s1
     word_names s1 r q l = leads_then here s1 r (λ v. given (value_of v)) (goes_then here to_word q) l
-
--- ---- words that answer at once
-
-pub only_one : (xs : List Dynamic) (x : Dynamic) → 1 ≤ length xs → length xs < 2 → x ≡ get_or xs 0 x → xs ≡ x ∷ []
-only_one [] x h k e = absurd (omega (arith, h))
-only_one (y ∷ []) x h k e = ap (λ z. z ∷ []) (sym e)
-only_one (y ∷ z ∷ zs) x h k e = absurd (omega (arith, k))
-
-pub first_one : (xs : List Dynamic) (x : Dynamic) → 1 ≤ length xs → x ≡ get_or xs 0 x → xs ≡ x ∷ take (length xs - 1) (drop 1 xs)
-first_one [] x h e = absurd (omega (arith, h))
-first_one (y ∷ ys) x h e = λ i. sym e i ∷ sym (take_all (length (y ∷ ys) - 1) ys (omega arith)) i
-
-module _ (here : Setting) (s : State) (next : Act) where
-  abbrev of_word : calls.Word → List Dynamic → Task
-  of_word m vs = Acting (word_or here.world.engine m (map value_of vs) next)
-
-  pub word_with : (m : calls.Word) (args us : List Dynamic) (t : Task) → args ≡ us → Goes here (of_word m us) s t s → Goes here (of_word m args) s t s
-  word_with m args us t e q = goes_then here (goes_as here (of_word m args) (of_word m us) s (ap (of_word m) e)) q
-
-  pub shared_word : (args : List Dynamic) → 1 ≤ length args → length args < 2 → Goes here (of_word calls.IsShared args) s (given (value_of (kind.Bool false))) s
-  shared_word [] h k = absurd (omega (arith, h))
-  shared_word (v ∷ []) h k = gives here _ _ s (sym (value_of-Bool false))
-  shared_word (v ∷ u ∷ us) h k = absurd (omega (arith, k))
-
-  pub type_word : (v w : Dynamic) → value_of w ≡ TextV (mapped_type_name here.world.engine (value_of v)) → Goes here (of_word calls.TypeOf (v ∷ [])) s (given (value_of w)) s
-  type_word v w is = gives here _ _ s (sym is)

@@ -3,8 +3,4 @@
 
 mod steps;
 
-pub use steps::{
-    Access, Current, LeftSide, Machine, PropertyNames, Rest, Root, Word, assigning_operator,
-    case_list, catch_name, ends_in_call, insert, is_callable, is_chain, is_map, operator_called,
-    qualified, root_of,
-};
+pub use steps::{Access, Current, Machine, PropertyNames};

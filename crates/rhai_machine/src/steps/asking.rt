@@ -10,8 +10,8 @@ ghost use Rattle.rhai_state.specs.Evaluating.{Runs};
 ghost use Rattle.rhai_state.specs.Runs.{Acting};
 
 use crate::steps::machine::Machine;
-use crate::steps::operators::{builtin, fault_text};
 use rhai_base::{Dynamic, ImmutableString, Seq, Token};
+use rhai_forms::{builtin, fault_text};
 use rhai_host::{Host, HostAnswer, HostCall, ask};
 use rhai_state::{Interrupt, State};
 

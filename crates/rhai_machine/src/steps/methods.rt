@@ -2,7 +2,7 @@
 
 #![tactic(auto, using(rhai_values::specs::Reading::kinds))]
 
-ghost use Rattle.std.specs.Prelude.{◌≡◌, false, IfOk, Ok, map};
+ghost use Rattle.std.specs.Prelude.{◌≡◌, IfOk, map};
 ghost use Rattle.std.specs.Option.{option_copied, option_map};
 ghost use Rattle.std.specs.Rc.{rc_value};
 ghost use Rattle.rhai_values.specs.Reading.{value_of};
@@ -10,15 +10,14 @@ ghost use Rattle.rhai_meaning.specs.Act.{Act};
 ghost use Rattle.rhai_state.specs.declared.state.State.{State};
 ghost use Rattle.rhai_machine.specs.Setting.{setting};
 ghost use Rattle.rhai_state.specs.Runs.{Acting, Leads};
-ghost use Rattle.rhai_machine.specs.Words.{word_meant};
-ghost use Rattle.rhai_meaning.specs.Calls as calls;
+ghost use Rattle.rhai_forms.specs.Words.{method_or, value_or, word_meant};
 ghost use Rattle.rhai_meaning.specs.Places as places;
 ghost use Rattle.rhai_machine.specs.Chaining as spec;
 
 use crate::steps::machine::Machine;
-use crate::steps::words::Word;
 use rhai_ast::ScriptFuncDef;
 use rhai_base::{Dynamic, ImmutableString};
+use rhai_forms::{Word, is_shared_by};
 use rhai_functions::FnKey;
 use rhai_host::Host;
 use rhai_state::{Interrupt, State, curried};
@@ -33,7 +32,7 @@ impl<'a, H: Host> Machine<'a, H> {
         receiver: &Dynamic,
         args: &[Dynamic],
     ) -> Result<Option<Dynamic>, Interrupt>
-        ensures { let here = setting H.answers H.modules self.now in (s : State) (next : places.Current → Act) (other : Act) → Leads here (Acting (spec.method_or here.world.engine (word_meant word) (value_of receiver.now) (map value_of args.now) next other)) s result s (λ o. spec.value_or next other o) }
+        ensures { let here = setting H.answers H.modules self.now in (s : State) (next : places.Current → Act) (other : Act) → Leads here (Acting (method_or here.world.engine (word_meant word) (value_of receiver.now) (map value_of args.now) next other)) s result s (λ o. value_or next other o) }
     {
         match word {
             Word::TypeOf => match args {
@@ -69,15 +68,5 @@ impl<'a, H: Host> Machine<'a, H> {
             this_type: None,
         };
         Ok(self.functions.get(&for_all))
-    }
-}
-
-/// `is_shared`: no value is.
-fn is_shared_by(args: &[Dynamic]) -> Option<Dynamic>
-    ensures { (here : _) (s : State) (v : _) (next : places.Current → Act) (other : Act) → Leads here (Acting (spec.method_or here.world.engine calls.IsShared v (map value_of args.now) next other)) s (Ok result) s (λ o. spec.value_or next other o) }
-{
-    match args {
-        [] => Some(Dynamic::Bool(false)),
-        _ => None,
     }
 }

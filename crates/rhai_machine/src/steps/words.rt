@@ -1,4 +1,4 @@
-//! The language's own words.
+//! What the language's own words answer at once.
 
 #![tactic(auto, using(rhai_values::specs::Reading::kinds))]
 
@@ -11,65 +11,15 @@ ghost use Rattle.rhai_meaning.specs.Engine.{mapped_type_name};
 ghost use Rattle.rhai_state.specs.declared.state.State.{State};
 ghost use Rattle.rhai_machine.specs.Setting.{setting};
 ghost use Rattle.rhai_state.specs.Evaluating.{arm_then};
-ghost use Rattle.rhai_state.specs.Runs.{Acting, Goes, Leads, Setting};
-ghost use Rattle.rhai_machine.specs.Words.{calls_pointer, goes_to_host, word_meant, word_or};
-ghost use Rattle.rhai_meaning.specs.Calls as calls;
+ghost use Rattle.rhai_state.specs.Runs.{Acting, Leads};
+ghost use Rattle.rhai_forms.specs.Words.{word_meant, word_or};
 
 use crate::steps::machine::Machine;
 use rhai_base::{Dynamic, ImmutableString};
+use rhai_forms::{Word, is_shared};
 use rhai_host::Host;
 use rhai_state::{Interrupt, curried, pointer_to};
 use std::alloc::AllocError;
-
-/// What a name calls that is the language's own.
-#[derive(Clone, Copy)]
-pub enum Word {
-    /// The host, whatever functions the script has: `print`, `debug`.
-    ToHost,
-    /// `type_of`
-    TypeOf,
-    /// `is_shared`
-    IsShared,
-    /// `Fn`
-    Fn,
-    /// `curry`
-    Curry,
-    /// `call`
-    Call,
-    /// No such name.
-    NoWord,
-}
-
-impl Word {
-    /// What a name calls.
-    pub fn of(name: &str) -> Word
-        ensures { word_meant result ≡ calls.word name.now }
-    {
-        match name {
-            "print" | "debug" => Word::ToHost,
-            "type_of" => Word::TypeOf,
-            "is_shared" => Word::IsShared,
-            "Fn" => Word::Fn,
-            "curry" => Word::Curry,
-            "call" => Word::Call,
-            _ => Word::NoWord,
-        }
-    }
-
-    /// Whether the host is asked, whatever functions the script has.
-    pub fn is_to_host(self) -> bool
-        ensures { result ≡ goes_to_host (word_meant self) }
-    {
-        matches!(self, Word::ToHost)
-    }
-
-    /// Whether it is `call`.
-    pub fn is_call(self) -> bool
-        ensures { result ≡ calls_pointer (word_meant self) }
-    {
-        matches!(self, Word::Call)
-    }
-}
 
 impl<'a, H: Host> Machine<'a, H> {
     /// What a word answers at once; `None` where a function of its name is called.
@@ -100,15 +50,5 @@ impl<'a, H: Host> Machine<'a, H> {
     {
         let name = self.info.map_type_name(value.type_name());
         Ok(Dynamic::Str(ImmutableString::new(self.alloc, name)?))
-    }
-}
-
-/// `is_shared`: no value is.
-fn is_shared(args: &[Dynamic]) -> Option<Dynamic>
-    ensures { (here : Setting) (s : State) (next : Act) → Goes here (Acting (word_or here.world.engine calls.IsShared (map value_of args.now) next)) s (arm_then next result) s }
-{
-    match args {
-        [_] => Some(Dynamic::Bool(false)),
-        _ => None,
     }
 }

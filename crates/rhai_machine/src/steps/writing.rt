@@ -19,8 +19,8 @@ ghost use Rattle.rhai_machine.specs.Placing as spec;
 
 use crate::steps::machine::Machine;
 use crate::steps::placing::{Current, Place};
-use crate::steps::variables::{Root, position};
 use rhai_base::Dynamic;
+use rhai_forms::{Root, position};
 use rhai_host::{Host, Stuck};
 use rhai_places::{Part, PlaceKey, along, replace_along};
 use rhai_state::{Interrupt, State};

@@ -31,9 +31,9 @@ use Rattle.rhai_state.specs.Evaluating.{arms_here, bodies_weight, body_of}
 use Rattle.rhai_state.specs.Runs.{Acting, Halting, Runs, given, stop_of}
 use Rattle.rhai_machine.specs.Placing.{current_in}
 use Rattle.rhai_state.specs.State.{store_of}
-use Rattle.rhai_machine.specs.Targets.{side_core}
-use Rattle.rhai_machine.specs.Variables.{root_meant}
-use Rattle.rhai_machine.specs.Words.{word_meant}
+use Rattle.rhai_forms.specs.LeftSides.{side_core}
+use Rattle.rhai_forms.specs.Variables.{root_meant}
+use Rattle.rhai_forms.specs.Words.{word_meant}
 use Rattle.rhai_machine.specs.declared.steps.parts.Access.TheVariants as reached
 use Rattle.rhai_machine.specs.Chaining.{names_meant}
 use Rattle.rhai_machine.specs.Placing.{current_in}
@@ -45,7 +45,7 @@ use Rattle.rhai_machine.proofs.ByKind.{array_of_expr, block_of_stmt, braces_of_e
 use Rattle.rhai_state.proofs.Counted.{each_ends, each_next, each_stops, for_array, for_body_runs, for_closed_range, for_range, for_round_runs, range_end, range_ends, range_next, range_start, range_stops}
 use Rattle.rhai_machine.proofs.Exits.{catch_runs, try_catches, try_ends, try_stops}
 use Rattle.rhai_machine.proofs.Nodes.{call_stuck, call_stops, call_runs, called_as}
-use Rattle.rhai_machine.proofs.Callees.{named_callee, operator_callee, qualified_callee}
+use Rattle.rhai_forms.proofs.Callees.{named_callee, operator_callee, qualified_callee}
 use Rattle.rhai_state.proofs.Goes.{leads_then, stops_by}
 use Rattle.rhai_machine.proofs.Invoked.{back_is, invoke_goes, invoke_late, invoke_stops}
 use Rattle.rhai_machine.proofs.Known.{call_runs_function, found_nothing, found_weight}

@@ -1,0 +1,8 @@
+pub mod Optional
+pub mod Forms
+pub mod Callees
+pub mod Assigning
+pub mod Cases
+pub mod ChainLinks
+pub mod LeftSides
+pub mod WordAnswers

@@ -1,0 +1,5 @@
+pub mod Variables
+pub mod Operators
+pub mod Words
+pub mod Links
+pub mod LeftSides

@@ -1,0 +1,23 @@
+//! What the run reads off a node: the operator a call stands for, words, links of chains, left sides, chosen arms, names.
+#![tactic(auto)]
+
+mod catching;
+mod choosing;
+mod left_sides;
+mod links;
+mod maps;
+mod operators;
+mod variables;
+mod words;
+
+pub use catching::catch_name;
+pub use choosing::case_list;
+pub use left_sides::{LeftSide, ends_in_call, named_side, part_side};
+pub use links::{Link, Rest, is_chain};
+pub use maps::{insert, is_map};
+pub use operators::{
+    asks_assigning, assigning_name, assigning_operator, builtin, fault_text, is_callable,
+    operator_called,
+};
+pub use variables::{Root, position, qualified, root_of};
+pub use words::{Word, is_shared, is_shared_by};
