@@ -4,6 +4,7 @@ ghost use Rattle.std.specs.Option.{option_map};
 ghost use Rattle.std.specs.Map.Iter.{deref};
 ghost use Rattle.rhai_base.specs.Builtin.{answered, computed_of};
 ghost use Rattle.rhai_values.specs.Reading.{value_of};
+ghost use Rattle.rhai_values.specs.Value.{type_name};
 ghost use Rattle.rhai_meaning.specs.Engine.{constant_named, has_override, mapped_name, overrides_any, same_texts};
 ghost use Rattle.rhai_engine.specs.Override.{is_override};
 
@@ -237,10 +238,17 @@ impl EngineInfo {
     ) -> Result<Option<Result<Dynamic, Fault>>, OutOfMemory>
         ensures { IfOk result (λ r. computed_of r ≡ built_in_at (engine_of self.now) op (value_of x.now ∷ value_of y.now ∷ [])) }
     {
-        if !self.tries_builtin(op, &[x.type_name(), y.type_name()]) {
+        if !self.tries_builtin_at(op, x, y) {
             return Ok(None);
         }
         builtin_binary_op(alloc, &op, x, y)
+    }
+
+    /// Whether the built-in operator is tried at two values. Where none is overridden, their types are not asked for.
+    fn tries_builtin_at(&self, op: Token, x: &Dynamic, y: &Dynamic) -> bool
+        ensures { result ≡ tries_builtin (engine_of self.now) op (type_name (value_of x.now) ∷ type_name (value_of y.now) ∷ []) }
+    {
+        self.overrides.is_empty() || self.tries_builtin(op, &[x.type_name(), y.type_name()])
     }
 
     /// Whether the built-in operator is tried at operands of these types, and the host is asked only where

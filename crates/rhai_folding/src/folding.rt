@@ -19,6 +19,7 @@ use rhai_engine::EngineInfo;
 use std::alloc::Global;
 
 /// The value of an operator's answer. A fault is left to the run.
+#[inline(always)]
 fn value_alone(answer: Option<Result<Dynamic, Fault>>) -> Option<Dynamic>
     ensures { option_map value_of result ≡ constants.computed_value (computed_of answer) }
 {
@@ -77,6 +78,7 @@ fn folded_one(
 }
 
 /// The value of an operator at two values.
+#[inline(always)]
 fn folded_values(
     alloc: Global,
     info: &EngineInfo,

@@ -42,10 +42,7 @@ pub fn constant_value(alloc: Global, expr: &Expr) -> Result<Option<Cow<'_, Dynam
 {
     match expr {
         Expr::InterpolatedString(_, _) | Expr::Array(_, _) | Expr::Map(_, _)
-            if !is_constant(expr) =>
-        {
-            Ok(None)
-        }
+            if !is_constant(expr) => { Ok(None) }
         _ => lend_value(alloc, expr),
     }
 }

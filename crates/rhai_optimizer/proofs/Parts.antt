@@ -16,7 +16,7 @@ use Rattle.rhai_rewriting.specs.Context.{Context, knowing, under, ListKind, Insi
 use Rattle.rhai_rewriting.specs.Known.{Known}
 use Rattle.rhai_rewriting.specs.Rewriting.{ExprTo, same_expr, then_expr, in_array, in_braces, in_call, StmtTo, same_stmt, then_stmt, in_if, in_block, in_expression, in_call_statement, RestTo, same_stmts, then_stmts, in_head, flag_forgotten}
 use Rattle.rhai_rewriting.specs.Steps.{ExprRun, ExprsRun, ExprStep, StmtRun, StmtStep, InList, SettleRun, EachRun, StmtsRun}
-use Rattle.rhai_rewriting.specs.Residue.{ExprParts, StmtParts}
+use Rattle.rhai_rewriting.specs.Residue.{IsReduced, ExprParts, StmtParts}
 use Rattle.rhai_engine.specs.EngineInfo.{nothing_set}
 use Rattle.rhai_optimizer.specs.Blocks.{FlatList}
 use Rattle.rhai_optimizer.specs.Parts.{ExprPartsRun, StmtPartsRun}
@@ -127,6 +127,11 @@ pub settled : {k : Context} {w d d' f a b : Bool} {s s1 s2 : Stmt} → d' ≡ f 
 settled {k = k} {w = w} {d = d} {f = f} {s = s} {s2 = s2} ef p h r =
     let i = (stmt_kept r.to h).1 in
     record { to = subst (λ x. InList k w d x s s2) (sym ef) (subst (λ x. InList k w d f s x) i p); reduced = r.reduced h }
+
+-- a pass made what no pass changes
+pub settled_at_once : {k : Context} {w d d' d1 a b : Bool} {s s1 s2 : Stmt} → d' ≡ true → InList k w d d1 s s1 → a ≡ false → b ≡ true → StmtRun k w a b s1 s2 → ((r : Engine) → IsReduced r s2) → SettleRun k w d d' s s2
+settled_at_once {k = k} {w = w} {d = d} {s = s} {s2 = s2} e p ea eb r h =
+    record { to = subst (λ x. InList k w d x s s2) (sym e) (settle_again p ea eb r.to); reduced = h k.engine }
 
 -- ---- a list, flattened and then settled
 
