@@ -32,21 +32,24 @@ impl<'a, H: Host> Evaluator<'a, H> {
     ) -> Result<Dynamic, Interrupt>
         ensures { RunsDeed (setting H.answers H.modules self.now.machine) (For parts.now.0.name (counter_of parts.now.1) (core_expr self.now.in_loop (expr_of parts.now.2.expr)) (core_stmts true (stmts_of parts.now.2.body.block))) state.old result state.new }
     {
-        match self.expr(state, &parts.2.expr)? {
-            Dynamic::Array(items) => self.for_each(state, parts, items),
-            Dynamic::Range(from, to) => {
-                self.for_count(state, parts, from, rounds_before(from, to))
-            }
-            Dynamic::RangeInclusive(from, to) => {
-                self.for_count(state, parts, from, rounds_through(from, to))
-            }
-            Dynamic::Unit
-            | Dynamic::Bool(_)
-            | Dynamic::Int(_)
-            | Dynamic::Char(_)
-            | Dynamic::Str(_)
-            | Dynamic::Map(_)
-            | Dynamic::FnPtr(_) => Err(Interrupt::Stuck(Stuck::WrongKind)),
+        match self.expr(state, &parts.2.expr)?.into_array() {
+            Ok(items) => self.for_each(state, parts, items),
+            Err(guard) => match &guard {
+                Dynamic::Range(from, to) => {
+                    self.for_count(state, parts, *from, rounds_before(*from, *to))
+                }
+                Dynamic::RangeInclusive(from, to) => {
+                    self.for_count(state, parts, *from, rounds_through(*from, *to))
+                }
+                Dynamic::Unit
+                | Dynamic::Bool(_)
+                | Dynamic::Int(_)
+                | Dynamic::Char(_)
+                | Dynamic::Str(_)
+                | Dynamic::Array(_)
+                | Dynamic::Map(_)
+                | Dynamic::FnPtr(_) => Err(Interrupt::Stuck(Stuck::WrongKind)),
+            },
         }
     }
 

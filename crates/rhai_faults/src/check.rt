@@ -15,7 +15,7 @@ ghost use Rattle.rhai_reading.specs.Reading.{arms_of, case_of, cases_of, expr_of
 
 use crate::around::Around;
 use crate::map_keys::test_keys;
-use crate::shape::{is_catch, is_formed, is_left_side, is_reserved, is_rest, is_unit};
+use crate::shape::{is_catch, is_formed, is_left_side, is_reserved, is_rest};
 use bitflags::Flags;
 use rhai_base::{ASTFlags, Boxed, Dynamic, Ident, RangeCase, StringMap, TreeFault};
 use rhai_queries::is_table;
@@ -52,7 +52,7 @@ fn check_expr(alloc: Global, expr: &Expr, around: Around) -> Result<(), TreeFaul
     ensures { Finds (over_expr finding (expr_of expr.now) (around_of around)) result }
 {
     match expr {
-        Expr::DynamicConstant(value, _) => demand(!is_unit(value.get()), TreeFault::UnitConstant),
+        Expr::DynamicConstant(value, _) => demand(!value.get().is_unit(), TreeFault::UnitConstant),
         Expr::BoolConstant(_, _)
         | Expr::IntegerConstant(_, _)
         | Expr::CharConstant(_, _)

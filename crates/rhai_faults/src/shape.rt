@@ -7,30 +7,12 @@ ghost use Rattle.rhai_meaning.specs.Faults as faults;
 ghost use Rattle.rhai_meaning.specs.Shape as shape;
 ghost use Rattle.rhai_parts.specs.Names as names;
 ghost use Rattle.rhai_reading.specs.Reading.{callee_of, expr_of, breaks, exprs_of, mark_of};
-ghost use Rattle.rhai_values.specs.Reading.{value_of};
 ghost use Rattle.rhai_meaning.specs.Tree.{count_exprs};
 
 use bitflags::Flags;
-use rhai_base::{ASTFlags, Dynamic, Token};
+use rhai_base::{ASTFlags, Token};
 use rhai_queries::{is_call_of, operands};
 use rhai_tree::{BinaryExpr, Expr, FnCallExpr};
-
-pub(crate) fn is_unit(value: &Dynamic) -> bool
-    ensures { result ≡ shape.is_unit (value_of value.now) }
-{
-    match value {
-        Dynamic::Unit => true,
-        Dynamic::Bool(_)
-        | Dynamic::Int(_)
-        | Dynamic::Char(_)
-        | Dynamic::Str(_)
-        | Dynamic::Array(_)
-        | Dynamic::Map(_)
-        | Dynamic::FnPtr(_)
-        | Dynamic::Range(_, _)
-        | Dynamic::RangeInclusive(_, _) => false,
-    }
-}
 
 // ---- calls and names
 

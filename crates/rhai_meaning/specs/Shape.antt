@@ -1,6 +1,7 @@
 -- Which nodes have a meaning: the tests of one node, which run nothing.
 use Rattle.std.specs.Prelude.{ℕ, zero, suc, Bool, true, false, not, ◌&&◌, ◌||◌, List, [], ◌∷◌, Option, Some, None, if◌then◌else◌, ◌==◌, nat_lt}
-use Rattle.rhai_values.specs.Value.{Text, Value, UnitV, same_text, is_hashable}
+use Rattle.rhai_values.specs.Value.{Text, same_text, is_hashable}
+pub use Rattle.rhai_values.specs.Value.{is_unit}
 use Rattle.rhai_base.specs.Operators.{symbol, arity}
 use Rattle.rhai_parts.specs.Names.{is_among, are_all, symbols, barred}
 pub use Rattle.rhai_parts.specs.Paths.{is_none}
@@ -88,11 +89,7 @@ abbrev pub is_table : Arms → SwitchTable → Bool
 is_table as' t =
     are_all (case_fits (count_arms as')) t.cases && are_all (λ r. nat_lt r.arm (count_arms as')) t.ranges && default_fits as' t t.default
 
--- ---- constants, left sides, catch names
-
-abbrev pub is_unit : Value → Bool
-is_unit UnitV = true
-is_unit _ = false
+-- ---- left sides, catch names
 
 abbrev pub is_left_side : Expr → Bool
 is_left_side (Variable p x) = true

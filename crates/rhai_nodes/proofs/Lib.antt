@@ -5,3 +5,4 @@ pub mod LiteralLists
 pub mod Others
 pub mod Placing
 pub mod Pointers
+pub mod Held

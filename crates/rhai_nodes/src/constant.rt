@@ -2,9 +2,11 @@
 
 #![tactic(auto, using(rhai_reading::specs::Reading::shapes, rhai_values::specs::Reading::kinds, rhai_reading::specs::Positions::places, crate::proofs::Pointers::pointers))]
 
-ghost use Rattle.std.specs.Prelude.{◌≡◌, [], IfOk, Some, map};
+ghost use Rattle.std.specs.Prelude.{◌≡◌, ◌≢◌, [], IfOk, Some, map};
+ghost use Rattle.rhai_values.specs.declared.dynamic.Dynamic.TheVariants as kind;
+ghost use Rattle.rhai_values.specs.declared.fn_ptr.FnPtr.{FnPtr as pointer};
 ghost use Rattle.rhai_values.specs.Reading.{value_of};
-ghost use Rattle.rhai_values.specs.Value.{PointerV, values};
+ghost use Rattle.rhai_values.specs.Value.{PointerV, Text, values};
 ghost use Rattle.rhai_reading.specs.Positions.{AreAt, arguments_of, position_of};
 ghost use Rattle.rhai_reading.specs.Reading.{expr_of};
 ghost use Rattle.rhai_meaning.specs.Constants as constants;
@@ -21,17 +23,40 @@ pub fn constant_for(alloc: Global, value: Dynamic, pos: Position) -> Result<Expr
     ensures position { IfOk result (λ e. position_of e ≡ pos) }
     ensures arguments { IfOk result (λ e. AreAt pos (arguments_of e)) }
 {
-    match value {
+    match value.into_immutable_string() {
+        Ok(text) => Ok(Expr::StringConstant(text, pos)),
+        Err(value) => for_no_text(alloc, value, pos),
+    }
+}
+
+fn for_no_text(alloc: Global, value: Dynamic, pos: Position) -> Result<Expr, OutOfMemory>
+    requires { (t : Text) → value ≢ kind.Str t }
+    ensures value { IfOk result (λ e. expr_of e ≡ constants.constant_for (value_of value)) }
+    ensures round_trip { IfOk result (λ e. constants.literal_value (expr_of e) ≡ Some (value_of value)) }
+    ensures position { IfOk result (λ e. position_of e ≡ pos) }
+    ensures arguments { IfOk result (λ e. AreAt pos (arguments_of e)) }
+{
+    match value.into_fn_ptr() {
+        Ok(pointer) => for_pointer(alloc, pointer, pos),
+        Err(value) => for_plain(alloc, value, pos),
+    }
+}
+
+/// The constant for a value that is neither a text nor a pointer.
+fn for_plain(alloc: Global, value: Dynamic, pos: Position) -> Result<Expr, OutOfMemory>
+    requires text { (t : Text) → value ≢ kind.Str t }
+    requires pointer { (p : pointer) → value ≢ kind.FnPtr p }
+    ensures value { IfOk result (λ e. expr_of e ≡ constants.constant_for (value_of value)) }
+    ensures round_trip { IfOk result (λ e. constants.literal_value (expr_of e) ≡ Some (value_of value)) }
+    ensures position { IfOk result (λ e. position_of e ≡ pos) }
+    ensures arguments { IfOk result (λ e. AreAt pos (arguments_of e)) }
+{
+    match &value {
         Dynamic::Unit => Ok(Expr::Unit(pos)),
-        Dynamic::Bool(b) => Ok(Expr::BoolConstant(b, pos)),
-        Dynamic::Int(n) => Ok(Expr::IntegerConstant(n, pos)),
-        Dynamic::Char(c) => Ok(Expr::CharConstant(c, pos)),
-        Dynamic::Str(text) => Ok(Expr::StringConstant(text, pos)),
-        Dynamic::FnPtr(pointer) => for_pointer(alloc, pointer, pos),
-        Dynamic::Array(items) => hold(alloc, Dynamic::Array(items), pos),
-        Dynamic::Map(members) => hold(alloc, Dynamic::Map(members), pos),
-        Dynamic::Range(from, to) => hold(alloc, Dynamic::Range(from, to), pos),
-        Dynamic::RangeInclusive(from, to) => hold(alloc, Dynamic::RangeInclusive(from, to), pos),
+        Dynamic::Bool(b) => Ok(Expr::BoolConstant(*b, pos)),
+        Dynamic::Int(n) => Ok(Expr::IntegerConstant(*n, pos)),
+        Dynamic::Char(c) => Ok(Expr::CharConstant(*c, pos)),
+        _ => hold(alloc, value, pos),
     }
 }
 

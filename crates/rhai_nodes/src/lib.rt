@@ -5,6 +5,7 @@ mod block;
 mod call;
 mod constant;
 mod literals;
+mod making;
 mod place;
 mod switch;
 
@@ -12,5 +13,8 @@ pub use block::block_from;
 pub use call::call_expression;
 pub use constant::constant_for;
 pub use literals::{constant_value, literal_value};
+pub use making::{
+    blocks_of, expression_statement, followed_by_nothing, only_statement, put_expr, put_stmt,
+};
 pub use place::{place_expr, place_stmt};
 pub use switch::switch_table;

@@ -82,7 +82,7 @@ pub fn optimize_into_ast(
     ensures well_formed { IfOk result (λ ast. AreWellFormed outermost (stmts_of statements.items) → AreWellFormed outermost (script_of ast).statements) }
     ensures operators { IfOk result (λ ast. CallsOperatorsAlone (source_of statements.items functions.items) → CallsOperatorsAlone (script_of ast)) }
     ensures functions { IfOk result (λ ast. ast.lib.value.functions ≡ definitions_table (map rc_value functions.items)) }
-    ensures kept { level ≡ OptimizationLevel.None → IfOk result (λ ast. ast.statements ≡ statements.items) }
+    ensures kept { level ≡ OptimizationLevel.None → IfOk result (λ ast. ast.body.block ≡ statements.items) }
 {
     let statements = optimized(alloc, info, statements, level)?;
     let lib = Rc::new(alloc, FnLib::from_functions(alloc, functions)?)?;

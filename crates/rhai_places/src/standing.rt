@@ -25,7 +25,7 @@ impl<'a> Part<'a> {
         ensures { result ≡ shape.is_unit (part_value self.entry) }
     {
         match self {
-            Part::Stored(value) => is_unit(value),
+            Part::Stored(value) => value.is_unit(),
             Part::Missing => true,
         }
     }
@@ -38,22 +38,5 @@ impl<'a> Part<'a> {
             Part::Stored(value) => value.clone(),
             Part::Missing => Ok(Dynamic::Unit),
         }
-    }
-}
-
-fn is_unit(value: &Dynamic) -> bool
-    ensures { result ≡ shape.is_unit (value_of value.now) }
-{
-    match value {
-        Dynamic::Unit => true,
-        Dynamic::Bool(_)
-        | Dynamic::Int(_)
-        | Dynamic::Char(_)
-        | Dynamic::Str(_)
-        | Dynamic::Array(_)
-        | Dynamic::Map(_)
-        | Dynamic::FnPtr(_)
-        | Dynamic::Range(_, _)
-        | Dynamic::RangeInclusive(_, _) => false,
     }
 }

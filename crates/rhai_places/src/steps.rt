@@ -50,36 +50,36 @@ fn index_value(value: &Dynamic, index: Dynamic) -> Indexed
 fn index_items(items: &[Dynamic], index: Dynamic) -> Indexed
     ensures { IsIndexed (value_of (kind.Array items.now)) (value_of index) result }
 {
-    match index {
-        Dynamic::Int(place) => match element(items, place) {
-            Some(_) => Indexed::Part(PlaceKey::AtIndex(place)),
+    match &index {
+        Dynamic::Int(place) => match element(items, *place) {
+            Some(_) => Indexed::Part(PlaceKey::AtIndex(*place)),
             None => Indexed::Throws("array bounds"),
         },
-        other => Indexed::AsksHost(other),
+        _ => Indexed::AsksHost(index),
     }
 }
 
 fn index_text(text: &str, index: Dynamic) -> Indexed
     ensures { IsIndexed (value_of (kind.Str text.now)) (value_of index) result }
 {
-    match index {
-        Dynamic::Int(place) => match character(text, place) {
+    match &index {
+        Dynamic::Int(place) => match character(text, *place) {
             Some(found) => Indexed::Value(Dynamic::Char(found)),
             None => Indexed::Throws("text bounds"),
         },
-        other => Indexed::AsksHost(other),
+        _ => Indexed::AsksHost(index),
     }
 }
 
 fn index_bits(number: INT, index: Dynamic) -> Indexed
     ensures { IsIndexed (value_of (kind.Int number)) (value_of index) result }
 {
-    match index {
-        Dynamic::Int(place) => match bit(number, place) {
+    match &index {
+        Dynamic::Int(place) => match bit(number, *place) {
             Some(is_set) => Indexed::Value(Dynamic::Bool(is_set)),
             None => Indexed::Throws("bit bounds"),
         },
-        other => Indexed::AsksHost(other),
+        _ => Indexed::AsksHost(index),
     }
 }
 
@@ -87,9 +87,9 @@ fn index_bits(number: INT, index: Dynamic) -> Indexed
 fn index_members(index: Dynamic) -> Indexed
     ensures { (es : _) → IsIndexed (value_of (kind.Map es)) (value_of index) result }
 {
-    match index {
-        Dynamic::Str(key) => Indexed::Part(PlaceKey::AtEntry(key)),
-        other => Indexed::AsksHost(other),
+    match index.into_immutable_string() {
+        Ok(key) => Indexed::Part(PlaceKey::AtEntry(key)),
+        Err(index) => Indexed::AsksHost(index),
     }
 }
 
@@ -127,12 +127,12 @@ fn value_target(value: &Dynamic, index: Dynamic) -> IndexTarget
 fn element_target(items: &[Dynamic], index: Dynamic) -> IndexTarget
     ensures { IsIndexTarget (value_of (kind.Array items.now)) (value_of index) result }
 {
-    match index {
-        Dynamic::Int(place) => match element(items, place) {
-            Some(_) => IndexTarget::Part(PlaceKey::AtIndex(place)),
+    match &index {
+        Dynamic::Int(place) => match element(items, *place) {
+            Some(_) => IndexTarget::Part(PlaceKey::AtIndex(*place)),
             None => IndexTarget::Throws("array bounds"),
         },
-        other => IndexTarget::AsksHost(other),
+        _ => IndexTarget::AsksHost(index),
     }
 }
 
@@ -140,8 +140,8 @@ fn element_target(items: &[Dynamic], index: Dynamic) -> IndexTarget
 fn entry_target(index: Dynamic) -> IndexTarget
     ensures { (es : _) → IsIndexTarget (value_of (kind.Map es)) (value_of index) result }
 {
-    match index {
-        Dynamic::Str(key) => IndexTarget::Part(PlaceKey::AtEntry(key)),
-        other => IndexTarget::AsksHost(other),
+    match index.into_immutable_string() {
+        Ok(key) => IndexTarget::Part(PlaceKey::AtEntry(key)),
+        Err(index) => IndexTarget::AsksHost(index),
     }
 }

@@ -100,22 +100,14 @@ fn pushed(call: &HostCall) -> Result<HostAnswer, OutOfMemory>
 fn appended(receiver: &Dynamic, item: &Dynamic) -> Result<HostAnswer, OutOfMemory>
     ensures { IfOk result (λ a. answer_meant a ≡ spec.appended (value_of receiver.now) (value_of item.now)) }
 {
-    match receiver.clone()? {
-        Dynamic::Array(mut items) => {
+    match receiver.clone()?.into_array() {
+        Ok(mut items) => {
             items.push(item.clone()?)?;
             Ok(HostAnswer::Value {
                 value: Dynamic::Unit,
                 receiver: Some(Dynamic::Array(items)),
             })
         }
-        Dynamic::Unit
-        | Dynamic::Bool(_)
-        | Dynamic::Int(_)
-        | Dynamic::Char(_)
-        | Dynamic::Str(_)
-        | Dynamic::Map(_)
-        | Dynamic::FnPtr(_)
-        | Dynamic::Range(_, _)
-        | Dynamic::RangeInclusive(_, _) => Ok(unit_alone()),
+        Err(_) => Ok(unit_alone()),
     }
 }

@@ -17,7 +17,7 @@ pub record Contents : Type 0 where
   pub functions : List ScriptFuncDef
 
 abbrev pub contents : AST → Contents
-contents s = record { source = s.source; doc = s.doc; statements = s.statements; id = s.lib.value.id; functions = s.lib.value.functions }
+contents s = record { source = s.source; doc = s.doc; statements = s.body.block; id = s.lib.value.id; functions = s.lib.value.functions }
 
 -- the functions of the one, and these put in, each in turn
 abbrev pub put_all : List ScriptFuncDef → List ScriptFuncDef → List ScriptFuncDef

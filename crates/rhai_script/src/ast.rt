@@ -10,8 +10,8 @@ ghost use Rattle.rhai_script.specs.Filter.{Answers, AnswersShort};
 
 use crate::filter::{all, chosen, kept};
 use crate::text::Doc;
-use rhai_ast::{FnAccess, FnNamespace, ScriptFuncDef, Stmt};
-use rhai_base::{ImmutableString, OutOfMemory, Seq};
+use rhai_ast::{FnAccess, FnNamespace, ScriptFuncDef, Stmt, StmtBlock};
+use rhai_base::{ImmutableString, OutOfMemory, Position};
 use rhai_functions::{
     FnLib, SharedLib, allocator_of, copy_of_id, name_of, replaced, take_id, with_all, without_id,
 };
@@ -23,7 +23,7 @@ use std::rc::Rc;
 pub struct AST {
     source: Option<ImmutableString>,
     doc: Doc,
-    statements: Seq<Stmt>,
+    body: StmtBlock,
     lib: SharedLib,
 }
 
@@ -32,7 +32,7 @@ impl Drop for AST {
         let AST {
             source: _source,
             doc: _doc,
-            statements: _statements,
+            body: _body,
             lib: _lib,
         } = self;
     }
@@ -45,36 +45,32 @@ impl Clone for AST {
     fn clone(&self) -> Result<AST, AllocError> {
         let source = self.source.clone()?;
         let doc = self.doc.clone()?;
-        let statements = self.statements.clone()?;
+        let body = self.body.clone()?;
         let lib = self.lib.clone()?;
         Ok(AST {
             source,
             doc,
-            statements,
+            body,
             lib,
         })
     }
 }
 
 /// The statements of both.
-fn joined(alloc: Global, first: &Seq<Stmt>, second: &Seq<Stmt>) -> Result<Seq<Stmt>, OutOfMemory>
-    ensures { IfOk result (λ s. s ≡ first.now ++ second.now) }
+fn joined(first: &StmtBlock, second: &StmtBlock) -> Result<StmtBlock, OutOfMemory>
+    ensures { IfOk result (λ body. body.block ≡ first.now.block ++ second.now.block) }
 {
-    let mut all = first.clone()?;
-    append(alloc, &mut all, second.clone()?)?;
-    Ok(all)
+    let mut body = first.clone()?;
+    append(&mut body, second.clone()?)?;
+    Ok(body)
 }
 
 /// Moves statements to the end.
-fn append(alloc: Global, statements: &mut Seq<Stmt>, more: Seq<Stmt>) -> Result<(), OutOfMemory>
-    ensures ok { OnOk result (statements.new ≡ statements.old ++ more) }
-    ensures err { OnErr result (statements.new ≡ statements.old) }
+fn append(body: &mut StmtBlock, more: StmtBlock) -> Result<(), OutOfMemory>
+    ensures ok { OnOk result (body.new.block ≡ body.old.block ++ more.block) }
+    ensures err { OnErr result (body.new.block ≡ body.old.block) }
 {
-    let mut all = std::mem::replace(statements, Seq::new(alloc)).into_vec();
-    let mut more = more.into_vec();
-    let appended = all.append(&mut more);
-    *statements = Seq::from_vec(all);
-    Ok(appended?)
+    body.extend(more.into_statements().into_vec())
 }
 
 impl AST {
@@ -84,14 +80,14 @@ impl AST {
     /// A script of these statements and functions, without a source and a doc. It takes no memory.
     pub fn new(statements: Vec<Stmt>, functions: SharedLib) -> AST
         ensures script { script_of result ≡ record { statements = stmts_of statements.items; functions = functions_of functions.value } }
-        ensures statements { result.statements ≡ statements.items }
+        ensures body { result.body.block ≡ statements.items }
         ensures lib { result.lib ≡ functions }
         ensures contents { contents result ≡ record { source = None; doc = []; statements = statements.items; id = functions.value.id; functions = functions.value.functions } }
     {
         AST {
             source: None,
             doc: Doc::none(),
-            statements: Seq::from_vec(statements),
+            body: StmtBlock::new(statements, Position::NONE, Position::NONE),
             lib: functions,
         }
     }
@@ -117,7 +113,7 @@ impl AST {
         Ok(AST {
             source,
             doc: Doc::none(),
-            statements: Seq::new(allocator_of(&functions)),
+            body: StmtBlock::none(allocator_of(&functions)),
             lib: functions,
         })
     }
@@ -178,9 +174,9 @@ impl AST {
 
     /// The statements.
     pub fn statements(&self) -> &[Stmt]
-        ensures { result.now ≡ self.now.statements }
+        ensures { result.now ≡ self.now.body.block }
     {
-        self.statements.as_slice()
+        self.body.statements()
     }
 
     /// Whether there are functions.
@@ -209,7 +205,7 @@ impl AST {
         Ok(AST {
             source,
             doc,
-            statements: Seq::new(alloc),
+            body: StmtBlock::none(alloc),
             lib,
         })
     }
@@ -253,12 +249,12 @@ impl AST {
         let alloc = allocator_of(&self.lib);
         let source = other.source.clone()?;
         let doc = self.doc.joined(alloc, &other.doc)?;
-        let statements = joined(alloc, &self.statements, &other.statements)?;
+        let body = joined(&self.body, &other.body)?;
         let lib = Rc::new(alloc, with_all(&self.lib, &other.source, functions)?)?;
         Ok(AST {
             source,
             doc,
-            statements,
+            body,
             lib,
         })
     }
@@ -285,16 +281,16 @@ impl AST {
     }
 
     /// The statements; the rest goes.
-    fn into_statements(self) -> Seq<Stmt>
-        ensures { result ≡ self.statements }
+    fn into_body(self) -> StmtBlock
+        ensures { result ≡ self.body }
     {
         let AST {
             source: _source,
             doc: _doc,
-            statements,
+            body,
             lib: _lib,
         } = self;
-        statements
+        body
     }
 
     fn combine_with(
@@ -308,7 +304,7 @@ impl AST {
         let alloc = allocator_of(&self.lib);
         let doc = self.doc.joined(alloc, &other.doc)?;
         let lib = Rc::new(alloc, with_all(&self.lib, &None, functions)?)?;
-        append(alloc, &mut self.statements, other.into_statements())?;
+        append(&mut self.body, other.into_body())?;
         self.doc = doc;
         self.lib = lib;
         Ok(())
@@ -369,6 +365,6 @@ impl AST {
     pub fn clear_statements(&mut self)
         ensures { contents self.new ≡ without_statements (contents self.old) }
     {
-        self.statements = Seq::new(allocator_of(&self.lib));
+        self.body = StmtBlock::none(allocator_of(&self.lib));
     }
 }

@@ -66,7 +66,7 @@ impl ScriptQueries for AST {
     }
 
     fn iter_literal_variables(&self, constants: bool, variables: bool) -> LiteralVariables<'_>
-        ensures { left_to result ≡ sought_in constants variables (stmts_of self.now.statements) }
+        ensures { left_to result ≡ sought_in constants variables (stmts_of self.now.body.block) }
     {
         let alloc = allocator_of(self.shared_lib());
         LiteralVariables::new(alloc, self.statements(), constants, variables)

@@ -68,10 +68,7 @@ pub fn branch_ended(
 fn thrown_again(thrown: Dynamic, caught: Dynamic) -> Dynamic
     ensures { result ≡ (if shape.is_unit (value_of thrown) then caught else thrown) }
 {
-    match thrown {
-        Dynamic::Unit => caught,
-        other => other,
-    }
+    if thrown.is_unit() { caught } else { thrown }
 }
 
 /// How a round ends by its body: with the loop's value, or `None` where another one follows.

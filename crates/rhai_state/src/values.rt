@@ -38,10 +38,10 @@ fn truth_of(value: &Dynamic) -> Option<bool>
 pub fn constant(value: &Dynamic) -> Result<Dynamic, Interrupt>
     ensures { IsConstant (value_of value.now) result }
 {
-    match value {
-        Dynamic::Unit => Err(Interrupt::Stuck(Stuck::WrongKind)),
-        other => Ok(other.clone()?),
+    if value.is_unit() {
+        return Err(Interrupt::Stuck(Stuck::WrongKind));
     }
+    Ok(value.clone()?)
 }
 
 /// The texts of values, joined.
@@ -59,8 +59,5 @@ pub fn joined_text(alloc: Global, values: Seq<Dynamic>) -> Result<Dynamic, Alloc
 pub fn some_value(value: Dynamic) -> Option<Dynamic>
     ensures { result ≡ (if is_unit (value_of value) then None else Some value) }
 {
-    match value {
-        Dynamic::Unit => None,
-        other => Some(other),
-    }
+    if value.is_unit() { None } else { Some(value) }
 }

@@ -3,3 +3,4 @@ pub mod Hashable
 pub mod Exact
 pub mod Recovered
 pub mod Same
+pub mod Units

@@ -5,7 +5,8 @@ mod copy;
 mod hashable;
 mod text;
 
-ghost use Rattle.std.specs.Prelude.{◌≡◌, ◌++◌, ◌↔◌, IsTrue, IfOk, OnOk, OnErr};
+ghost use Rattle.std.specs.Prelude.{◌≡◌, ◌≢◌, ◌++◌, ◌↔◌, IsTrue, IfOk, MatchResult, OnOk, OnErr, List};
+ghost use Rattle.rhai_values.specs.declared.dynamic.Dynamic.TheVariants as kind;
 
 use crate::FnPtr;
 use rhai_data::{ImmutableString, Seq, StringMap};
@@ -17,7 +18,7 @@ pub type INT = i64;
 
 /// A script's value.
 #[cycle(dynamic)]
-#[derive(Debug, Drop, PartialEq, Eq, Hash)]
+#[derive(Debug, PartialEq, Eq, Hash)]
 pub enum Dynamic {
     /// `()`
     Unit,
@@ -41,6 +42,21 @@ pub enum Dynamic {
     RangeInclusive(INT, INT),
 }
 
+/// Written by hand, so that it is proved here alone. So a value is looked at where it stands, and taken apart by its calls.
+impl Drop for Dynamic {
+    #[cycle(let_go)]
+    fn drop(self) {
+        match self {
+            Dynamic::Unit | Dynamic::Bool(_) | Dynamic::Int(_) | Dynamic::Char(_) => {}
+            Dynamic::Str(_text) => {}
+            Dynamic::Array(_items) => {}
+            Dynamic::Map(_members) => {}
+            Dynamic::FnPtr(_pointer) => {}
+            Dynamic::Range(_, _) | Dynamic::RangeInclusive(_, _) => {}
+        }
+    }
+}
+
 impl Clone for Dynamic {
     ghost is_clone = { λ v w. w ≡ v };
 
@@ -59,6 +75,8 @@ impl Clone for FnPtr {
 
 impl Dynamic {
     ghost use Rattle.std.specs.String.{string_bytes};
+    ghost use Rattle.rhai_values.specs.declared.dynamic.Dynamic.{Dynamic as dynamic};
+    ghost use Rattle.rhai_values.specs.declared.fn_ptr.FnPtr.{FnPtr as pointer};
     ghost use Rattle.rhai_values.specs.Value as model;
     ghost use Rattle.rhai_values.specs.Reading.{value_of};
 
@@ -77,6 +95,43 @@ impl Dynamic {
             Dynamic::FnPtr(_) => "Fn",
             Dynamic::Range(_, _) => "range",
             Dynamic::RangeInclusive(_, _) => "range=",
+        }
+    }
+
+    /// Whether it is `()`.
+    pub fn is_unit(&self) -> bool
+        ensures { result ≡ model.is_unit (value_of self.now) }
+    {
+        matches!(self, Dynamic::Unit)
+    }
+
+    /// The text that it is. Any other value is given back; in rhai the error is the name of its type.
+    pub fn into_immutable_string(self) -> Result<ImmutableString, Dynamic>
+        ensures { MatchResult result (λ t. self ≡ kind.Str t) (λ v. (v ≡ self) × ((t : model.Text) → self ≢ kind.Str t)) }
+    {
+        match self {
+            Dynamic::Str(text) => Ok(text),
+            other => Err(other),
+        }
+    }
+
+    /// The items of the array that it is. Any other value is given back; in rhai the error is the name of its type.
+    pub fn into_array(self) -> Result<Seq<Dynamic>, Dynamic>
+        ensures { MatchResult result (λ vs. self ≡ kind.Array vs) (λ v. (v ≡ self) × ((vs : List dynamic) → self ≢ kind.Array vs)) }
+    {
+        match self {
+            Dynamic::Array(items) => Ok(items),
+            other => Err(other),
+        }
+    }
+
+    /// The pointer that it is. Any other value is given back. In rhai it is `try_cast`.
+    pub fn into_fn_ptr(self) -> Result<FnPtr, Dynamic>
+        ensures { MatchResult result (λ p. self ≡ kind.FnPtr p) (λ v. (v ≡ self) × ((p : pointer) → self ≢ kind.FnPtr p)) }
+    {
+        match self {
+            Dynamic::FnPtr(pointer) => Ok(pointer),
+            other => Err(other),
         }
     }
 

@@ -19,7 +19,9 @@ pub fn answer(
     answer: &mut String,
 ) -> Result<bool, Unread> {
     let answered = match question {
-        "value" | "constant" | "range" | "integers" => of_read(reader, question, text, answer),
+        "value" | "taken" | "constant" | "range" | "integers" => {
+            of_read(reader, question, text, answer)
+        }
         "equal" | "holds" => of_read_array(reader, question, text, answer),
         "operate" => operate(reader, text, answer),
         "scope" => scope(reader.alloc, answer),
@@ -63,6 +65,7 @@ fn of_value(
 ) -> Result<(), Unread> {
     match question {
         "value" => describe(alloc, value, answer),
+        "taken" => taken(value, answer),
         "constant" => constant(alloc, value, answer),
         "range" => measure(&range(value)?, answer),
         _ => {
@@ -101,6 +104,33 @@ fn say_pointer(pointer: &FnPtr, answer: &mut String) -> Result<(), Unread> {
     say_if(answer, copy == *pointer, "as its copy");
     say(answer, copy.into_name().as_str());
     Ok(())
+}
+
+/// Says what a copy of a value is taken apart into.
+fn taken(value: &Dynamic, answer: &mut String) -> Result<(), Unread> {
+    say_if(answer, value.is_unit(), "unit");
+    match value.clone()?.into_immutable_string() {
+        Ok(text) => say(answer, text.as_str()),
+        Err(value) => say_array_taken(value, answer),
+    }
+    Ok(())
+}
+
+fn say_array_taken(value: Dynamic, answer: &mut String) {
+    match value.into_array() {
+        Ok(items) => say_count(answer, "items", items.len()),
+        Err(value) => say_pointer_taken(value, answer),
+    }
+}
+
+fn say_pointer_taken(value: Dynamic, answer: &mut String) {
+    match value.into_fn_ptr() {
+        Ok(pointer) => say(answer, pointer.fn_name()),
+        Err(value) => {
+            say(answer, "given back");
+            say_inner(answer, &value);
+        }
+    }
 }
 
 /// Says what the constant for a value is.

@@ -1,7 +1,7 @@
 //! Reports of runs that are stuck, in print, and what the program's host answers.
 
 use crate::record::push_value;
-use rhai_base::{Dynamic, ImmutableString, OutOfMemory, Seq};
+use rhai_base::{ImmutableString, OutOfMemory, Seq};
 use rhai_reports::{ProgramHost, push_report};
 use rhai_run::{Host, HostAnswer, HostCall, RunEnd, RunReport, Stuck};
 use std::alloc::Global;
@@ -71,12 +71,12 @@ fn call(alloc: Global, name: &str, text: &str) -> Result<HostCall, Unread> {
 }
 
 fn read_args(alloc: Global, text: &str, call: &mut HostCall) -> Result<(), Unread> {
-    match read_value(alloc, text)? {
-        Dynamic::Array(args) => {
+    match read_value(alloc, text)?.into_array() {
+        Ok(args) => {
             call.args = args;
             Ok(())
         }
-        _ => Err(Unread::Wanted("arguments")),
+        Err(_) => Err(Unread::Wanted("arguments")),
     }
 }
 

@@ -7,14 +7,14 @@ use Rattle.rhai_optimizer.proofs.optimizer.optimize_into_ast.Goals as goal
 
 pub returns-clause-refines : goal.returns-clause-refines
 returns-clause-refines c =
-    refines (rw c.new-2.ensures.statements c.in_ok-statements.ensures.to)
+    refines (rw c.new-2.ensures.body c.in_ok-statements.ensures.to)
     (ap (λ l. functions_of l.value) c.new-2.ensures.lib ∙ ap functions_of c.in_ok-lib.ensures.ok ∙ c.in_ok-from_functions.ensures.table)
 
 pub returns-clause-lighter : goal.returns-clause-lighter
-returns-clause-lighter c = rw c.new-2.ensures.statements (lighter c.in_ok-statements.ensures.to)
+returns-clause-lighter c = rw c.new-2.ensures.body (lighter c.in_ok-statements.ensures.to)
 
 pub returns-clause-well_formed : goal.returns-clause-well_formed
-returns-clause-well_formed c = rw c.new-2.ensures.statements (stmts_well false c.in_ok-statements.ensures.to)
+returns-clause-well_formed c = rw c.new-2.ensures.body (stmts_well false c.in_ok-statements.ensures.to)
 
 pub returns-clause-operators : goal.returns-clause-operators
-returns-clause-operators c = rw c.new-2.ensures.statements (calls_stay c.in_ok-statements.ensures.to)
+returns-clause-operators c = rw c.new-2.ensures.body (calls_stay c.in_ok-statements.ensures.to)

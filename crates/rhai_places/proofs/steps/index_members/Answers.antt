@@ -3,5 +3,5 @@ use Rattle.rhai_values.specs.Reading.{kinds}
 use Rattle.rhai_places.proofs.Indexes.{indexes}
 use Rattle.rhai_places.proofs.steps.index_members.Goals as goal
 
-pub returns-in-Str : goal.returns-in-Str
-returns-in-Str c = search (rules, kinds, indexes)
+pub returns-in-Ok : goal.returns-in-Ok
+returns-in-Ok c = search (rules, kinds, indexes)

@@ -1,15 +1,20 @@
-use Rattle.std.proofs.Common.{refl, sym, ◌∙◌}
+use Rattle.std.proofs.Common.{sym, ap, ◌∙◌}
 use Rattle.std.proofs.lemmas.Result.{IfOk-weaker}
-use Rattle.rhai_reading.specs.Reading.{expr_of}
+use Rattle.rhai_tree.specs.declared.block.StmtBlock.{StmtBlock}
+use Rattle.rhai_reading.specs.Reading.{expr_of, stmts_of}
+use Rattle.rhai_meaning.specs.Tree.{If}
 use Rattle.rhai_rules.proofs.Settling.{stmt_fired_as}
 use Rattle.rhai_rules.proofs.Shapes.{bare-if, undecided}
 use Rattle.rhai_rules.proofs.statements.reduce_if.Goals as goal
 
-pub returns-then-is_bare : goal.returns-then-is_bare
-returns-then-is_bare c = IfOk-weaker _ _ _ (λ s r. stmt_fired_as (bare-if _ _ _ c.if-is_bare.ensures) r) c.if_without_blocks.ensures
+pub returns-then-has_no_statements : goal.returns-then-has_no_statements
+returns-then-has_no_statements c = IfOk-weaker _ _ _ (λ s r. stmt_fired_as (bare-if _ _ _ c.if-has_no_statements.ensures) r) c.if_without_blocks.ensures
 
 pub unreachable-requires : goal.unreachable-requires
-unreachable-requires c = undecided (expr_of c.args.flow.expr) _ _ c.if-is_bare.ensures (sym c.constant_bool.ensures ∙ c.in-None.is) c.requires
+unreachable-requires c = undecided (expr_of c.args.flow.expr) _ _ c.if-has_no_statements.ensures (sym c.constant_bool.ensures ∙ c.in-None.is) c.requires
 
 pub returns : goal.returns
-returns c = IfOk-weaker _ _ _ (λ s r. stmt_fired_as refl (λ k. r k _ _ (sym c.in-Some.ensures))) c.if_decided.ensures
+returns c =
+    let e = expr_of c.args.flow.expr in
+    let x = ap (λ (b : StmtBlock). If e (stmts_of b.block) (stmts_of c.args.flow.branch.block)) (sym c.blocks_of-body.ensures.body) ∙ ap (λ (b : StmtBlock). If e (stmts_of c.blocks_of-body.result.0.block) (stmts_of b.block)) (sym c.blocks_of-body.ensures.branch) in
+    IfOk-weaker _ _ _ (λ s r. stmt_fired_as x (λ k. r k _ _ (sym c.in-Some.ensures))) c.if_decided.ensures

@@ -1,6 +1,8 @@
-use Rattle.std.proofs.Common.{sym, ap, if◌then◌else◌}
-use Rattle.rhai_state.proofs.ValueAnswers.{is_unit-other}
+use Rattle.std.proofs.Common.{rules}
 use Rattle.rhai_state.proofs.exits.thrown_again.Goals as goal
 
-pub returns-in_default : goal.returns-in_default
-returns-in_default c = sym (ap (λ b. if b then c.args.caught else c.args.thrown) (is_unit-other _ c.in_default.not-Unit))
+pub returns-then-is_unit : goal.returns-then-is_unit
+returns-then-is_unit c = search rules
+
+pub returns-else-is_unit : goal.returns-else-is_unit
+returns-else-is_unit c = search rules

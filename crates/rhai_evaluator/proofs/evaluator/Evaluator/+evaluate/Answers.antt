@@ -457,8 +457,8 @@ for_each-returns-in-Some-2 g t c = each_ends (setting g.H.Host.answers g.H.Host.
 pub for_each-loop-item-preserved : goal.for_each-loop-item-preserved
 for_each-loop-item-preserved g t c = each_next (setting g.H.Host.answers g.H.Host.modules c.args.self.now.machine) c.args.parts.now.0.name (counter_of c.args.parts.now.1) (body_of (setting g.H.Host.answers g.H.Host.modules c.args.self.now.machine) (stmts_of c.args.parts.now.2.body.block)) c.args.items c.loop-item.rest c.next.new.self c.in-Some.item c.loop-item.count c.args.state.now c.loop-item.state c.for_round.new.state c.in-Some.ensures c.loop-item.invariant c.next_count-count.result (λ k e. rw c.in_default-2.is at (c.in_ok-value.ensures k e)) c.next_count-count.ensures
 
-pub for_loop-returns-in-Array : goal.for_loop-returns-in-Array
-for_loop-returns-in-Array g t c = for_array (setting g.H.Host.answers g.H.Host.modules c.args.self.now.machine) c.args.parts.now.0.name (counter_of c.args.parts.now.1) (body_of (setting g.H.Host.answers g.H.Host.modules c.args.self.now.machine) (stmts_of c.args.parts.now.2.body.block)) c.args.self.now.in_loop (expr_of c.args.parts.now.2.expr) c.args.state.now c.expr.new.state c.for_each.new.state c.in_ok-items.field-0 c.for_each.result c.in_ok-items.ensures c.in-Array.items c.in-Array.is c.for_each.ensures
+pub for_loop-returns-in-Ok : goal.for_loop-returns-in-Ok
+for_loop-returns-in-Ok g t c = for_array (setting g.H.Host.answers g.H.Host.modules c.args.self.now.machine) c.args.parts.now.0.name (counter_of c.args.parts.now.1) (body_of (setting g.H.Host.answers g.H.Host.modules c.args.self.now.machine) (stmts_of c.args.parts.now.2.body.block)) c.args.self.now.in_loop (expr_of c.args.parts.now.2.expr) c.args.state.now c.expr.new.state c.for_each.new.state c.in_ok-expr.field-0 c.for_each.result c.in_ok-expr.ensures c.in-Ok.items c.in-Ok.ensures c.for_each.ensures
 
 pub first_range-returns-in_err-value : goal.first_range-returns-in_err-value
 first_range-returns-in_err-value g t c = let p = err_from_is_err_and c.from_residual.result c.from_residual.ensures.1 in
@@ -505,13 +505,13 @@ pub for_loop-returns-in-Range : goal.for_loop-returns-in-Range
 for_loop-returns-in-Range g t c =
     let from : SFits w64 c.in-Range.from = search rules in
     let to : SFits w64 c.in-Range.to = search rules in
-    for_range (setting g.H.Host.answers g.H.Host.modules c.args.self.now.machine) c.args.parts.now.0.name (counter_of c.args.parts.now.1) (body_of (setting g.H.Host.answers g.H.Host.modules c.args.self.now.machine) (stmts_of c.args.parts.now.2.body.block)) c.args.self.now.in_loop (expr_of c.args.parts.now.2.expr) c.args.state.now c.expr.new.state c.for_count.new.state c.in_ok-items.field-0 c.for_count.result c.in_ok-items.ensures c.in-Range.from c.in-Range.to c.rounds_before.result (rw (to_z-of_z w64 c.in-Range.to to, to_z-of_z w64 c.in-Range.from from) at c.rounds_before.ensures.size) c.in-Range.is (rw (to_z-of_z w64 c.in-Range.from from) at c.for_count.ensures)
+    for_range (setting g.H.Host.answers g.H.Host.modules c.args.self.now.machine) c.args.parts.now.0.name (counter_of c.args.parts.now.1) (body_of (setting g.H.Host.answers g.H.Host.modules c.args.self.now.machine) (stmts_of c.args.parts.now.2.body.block)) c.args.self.now.in_loop (expr_of c.args.parts.now.2.expr) c.args.state.now c.expr.new.state c.for_count.new.state c.in_ok-expr.field-0 c.for_count.result c.in_ok-expr.ensures c.in-Range.from c.in-Range.to c.rounds_before.result (rw (to_z-of_z w64 c.in-Range.to to, to_z-of_z w64 c.in-Range.from from) at c.rounds_before.ensures.size) (sym c.in-Err.ensures.0 ∙ c.in-Range.is) (rw (to_z-of_z w64 c.in-Range.from from) at c.for_count.ensures)
 
 pub for_loop-returns-in-RangeInclusive : goal.for_loop-returns-in-RangeInclusive
 for_loop-returns-in-RangeInclusive g t c =
     let from : SFits w64 c.in-RangeInclusive.from = search rules in
     let to : SFits w64 c.in-RangeInclusive.to = search rules in
-    for_closed_range (setting g.H.Host.answers g.H.Host.modules c.args.self.now.machine) c.args.parts.now.0.name (counter_of c.args.parts.now.1) (body_of (setting g.H.Host.answers g.H.Host.modules c.args.self.now.machine) (stmts_of c.args.parts.now.2.body.block)) c.args.self.now.in_loop (expr_of c.args.parts.now.2.expr) c.args.state.now c.expr.new.state c.for_count-in-RangeInclusive.new.state c.in_ok-items.field-0 c.for_count-in-RangeInclusive.result c.in_ok-items.ensures c.in-RangeInclusive.from c.in-RangeInclusive.to c.rounds_through.result (rw (to_z-of_z w64 c.in-RangeInclusive.to to, to_z-of_z w64 c.in-RangeInclusive.from from) at c.rounds_through.ensures.size) c.in-RangeInclusive.is (rw (to_z-of_z w64 c.in-RangeInclusive.from from) at c.for_count-in-RangeInclusive.ensures)
+    for_closed_range (setting g.H.Host.answers g.H.Host.modules c.args.self.now.machine) c.args.parts.now.0.name (counter_of c.args.parts.now.1) (body_of (setting g.H.Host.answers g.H.Host.modules c.args.self.now.machine) (stmts_of c.args.parts.now.2.body.block)) c.args.self.now.in_loop (expr_of c.args.parts.now.2.expr) c.args.state.now c.expr.new.state c.for_count-in-RangeInclusive.new.state c.in_ok-expr.field-0 c.for_count-in-RangeInclusive.result c.in_ok-expr.ensures c.in-RangeInclusive.from c.in-RangeInclusive.to c.rounds_through.result (rw (to_z-of_z w64 c.in-RangeInclusive.to to, to_z-of_z w64 c.in-RangeInclusive.from from) at c.rounds_through.ensures.size) (sym c.in-Err.ensures.0 ∙ c.in-RangeInclusive.is) (rw (to_z-of_z w64 c.in-RangeInclusive.from from) at c.for_count-in-RangeInclusive.ensures)
 
 pub call-returns-then-not-is_callable : goal.call-returns-then-not-is_callable
 call-returns-then-not-is_callable g t c = call_stuck (setting g.H.Host.answers g.H.Host.modules c.args.self.now.machine) c.args.self.now.in_loop c.args.call.now c.args.state.now (sym c.is_callable.ensures ∙ c.if-not-is_callable.true)

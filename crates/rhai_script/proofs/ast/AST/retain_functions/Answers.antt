@@ -13,5 +13,5 @@ returns-clause-ok g c =
     let functions : c.in_ok-self.field-0.value.functions ≡ kept = grind (arith, common_steps) in (
       kept,
       subst (λ (lib : FnLib). IsFiltered (AnswersShort g.F.Fn) c.args.filter lib.functions kept) c.deref.ensures c.in_ok-kept.ensures.filtered,
-      λ i. record { source = c.args.self.now.source; doc = c.args.self.now.doc; statements = c.args.self.now.statements; id = id i; functions = functions i },
+      λ i. record { source = c.args.self.now.source; doc = c.args.self.now.doc; statements = c.args.self.now.body.block; id = id i; functions = functions i },
     )

@@ -9,7 +9,7 @@ use Rattle.rhai_script_queries.proofs.script.ASTScriptQueries.walk.Goals as goal
 
 pub returns-in_err-walk_statements-clause-walks : goal.returns-in_err-walk_statements-clause-walks
 returns-in_err-walk_statements-clause-walks g c =
-    let ps : List Path = stmts_paths (stmts_of c.args.self.now.statements) in
+    let ps : List Path = stmts_paths (stmts_of c.args.self.now.body.block) in
     let qs : List Path = bodies_paths c.args.self.now.lib.value.functions in (
       c.walk_statements.new.path.items,
       subst (λ (front : List ASTNode). Walks g.F.FnMut front c.from_residual.result c.args.on_node.now (ps ++ qs) c.walk_statements.new.on_node c.walk_statements.new.path.items) c.new-path.ensures.items
@@ -18,7 +18,7 @@ returns-in_err-walk_statements-clause-walks g c =
 
 pub returns-then-not-branch-clause-walks : goal.returns-then-not-branch-clause-walks
 returns-then-not-branch-clause-walks g c =
-    let ps : List Path = stmts_paths (stmts_of c.args.self.now.statements) in
+    let ps : List Path = stmts_paths (stmts_of c.args.self.now.body.block) in
     let qs : List Path = bodies_paths c.args.self.now.lib.value.functions in (
       c.walk_statements.new.path.items,
       subst (λ (front : List ASTNode). Refused g.F.FnMut front c.args.on_node.now (ps ++ qs) c.walk_statements.new.on_node c.walk_statements.new.path.items) c.new-path.ensures.items
@@ -27,7 +27,7 @@ returns-then-not-branch-clause-walks g c =
 
 pub returns-clause-walks : goal.returns-clause-walks
 returns-clause-walks g c =
-    let ps : List Path = stmts_paths (stmts_of c.args.self.now.statements) in
+    let ps : List Path = stmts_paths (stmts_of c.args.self.now.body.block) in
     let qs : List Path = bodies_paths c.args.self.now.lib.value.functions in (
       c.walk_bodies.new.path.items,
       subst (λ (front : List ASTNode). Walks g.F.FnMut front c.walk_bodies.result c.args.on_node.now (ps ++ qs) c.walk_bodies.new.on_node c.walk_bodies.new.path.items) c.new-path.ensures.items

@@ -1,0 +1,69 @@
+//! Nodes made of nodes, and put in the place of nodes. What is left over is let go here, so that the crates above, which rewrite
+//! trees, let go of none.
+
+#![tactic(auto, using(rhai_reading::specs::Reading::shapes))]
+
+ghost use Rattle.std.specs.Prelude.{◌≡◌, ◌≢◌, [], ◌∷◌, IfOk, length, MatchOption, Ok, OnOk};
+ghost use Rattle.rhai_meaning.specs.Tree.{ExprStmt, Noop, no_stmts, stmt};
+ghost use Rattle.rhai_reading.specs.Reading.{expr_of, stmt_of, stmts_of};
+
+use rhai_base::{Boxed, OutOfMemory, Position};
+use rhai_tree::{Expr, FlowControl, Stmt, StmtBlock};
+use std::alloc::Global;
+
+/// Puts what was made in the place of an expression.
+#[inline(always)]
+pub fn put_expr(place: &mut Expr, made: Result<Expr, OutOfMemory>) -> Result<(), OutOfMemory>
+    ensures { OnOk result (made ≡ Ok place.new) }
+{
+    *place = made?;
+    Ok(())
+}
+
+/// Puts what was made in the place of a statement.
+#[inline(always)]
+pub fn put_stmt(place: &mut Stmt, made: Result<Stmt, OutOfMemory>) -> Result<(), OutOfMemory>
+    ensures { OnOk result (made ≡ Ok place.new) }
+{
+    *place = made?;
+    Ok(())
+}
+
+/// An expression as a statement.
+pub fn expression_statement(alloc: Global, expr: Expr) -> Result<Stmt, OutOfMemory>
+    ensures { IfOk result (λ s. stmt_of s ≡ ExprStmt (expr_of expr)) }
+{
+    Ok(Stmt::Expr(Boxed::new(alloc, expr)?))
+}
+
+/// A statement, followed by nothing, so that its value is not the block's.
+pub fn followed_by_nothing(
+    alloc: Global,
+    statement: Stmt,
+    pos: Position,
+) -> Result<StmtBlock, OutOfMemory>
+    ensures { IfOk result (λ b. stmts_of b.block ≡ stmt (stmt_of statement) (stmt Noop no_stmts)) }
+{
+    let statements = Vec::from_array(alloc, [statement, Stmt::Noop(pos)])?;
+    Ok(StmtBlock::new(statements, pos, pos))
+}
+
+/// The statement of a block that has one alone.
+pub fn only_statement(block: StmtBlock) -> Option<Stmt>
+    ensures { MatchOption result (length block.block ≢ 1) (λ s. block.block ≡ s ∷ []) }
+{
+    block.into_statements().into_only()
+}
+
+/// The blocks; the condition goes.
+pub fn blocks_of(flow: FlowControl) -> (StmtBlock, StmtBlock)
+    ensures body { result.0 ≡ flow.body }
+    ensures branch { result.1 ≡ flow.branch }
+{
+    let FlowControl {
+        expr: _expr,
+        body,
+        branch,
+    } = flow;
+    (body, branch)
+}
