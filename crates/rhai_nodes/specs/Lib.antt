@@ -3,3 +3,4 @@ pub mod Lent
 pub mod Placed
 pub mod Ranges
 pub mod Tables
+pub mod Scalars

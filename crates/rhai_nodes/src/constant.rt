@@ -2,14 +2,14 @@
 
 #![tactic(auto, using(rhai_reading::specs::Reading::shapes, rhai_values::specs::Reading::kinds, rhai_reading::specs::Positions::places, crate::proofs::Pointers::pointers))]
 
-ghost use Rattle.std.specs.Prelude.{◌≡◌, ◌≢◌, [], IfOk, Some, map};
+ghost use Rattle.std.specs.Prelude.{◌≡◌, ◌≢◌, [], IfOk, Some, false, map};
 ghost use Rattle.rhai_values.specs.declared.dynamic.Dynamic.TheVariants as kind;
-ghost use Rattle.rhai_values.specs.declared.fn_ptr.FnPtr.{FnPtr as pointer};
 ghost use Rattle.rhai_values.specs.Reading.{value_of};
 ghost use Rattle.rhai_values.specs.Value.{PointerV, Text, values};
 ghost use Rattle.rhai_reading.specs.Positions.{AreAt, arguments_of, position_of};
 ghost use Rattle.rhai_reading.specs.Reading.{expr_of};
 ghost use Rattle.rhai_meaning.specs.Constants as constants;
+ghost use Rattle.rhai_nodes.specs.Scalars.{is_scalar};
 ghost use Rattle.rhai_meaning.specs.Tree.{DynamicConstant};
 
 use rhai_base::{Boxed, Dynamic, FnPtr, ImmutableString, Namespace, OutOfMemory, Position, Seq};
@@ -23,6 +23,28 @@ pub fn constant_for(alloc: Global, value: Dynamic, pos: Position) -> Result<Expr
     ensures position { IfOk result (λ e. position_of e ≡ pos) }
     ensures arguments { IfOk result (λ e. AreAt pos (arguments_of e)) }
 {
+    match &value {
+        Dynamic::Unit => Ok(Expr::Unit(pos)),
+        Dynamic::Bool(b) => Ok(Expr::BoolConstant(*b, pos)),
+        Dynamic::Int(n) => Ok(Expr::IntegerConstant(*n, pos)),
+        Dynamic::Char(c) => Ok(Expr::CharConstant(*c, pos)),
+        Dynamic::Str(_)
+        | Dynamic::Array(_)
+        | Dynamic::Map(_)
+        | Dynamic::FnPtr(_)
+        | Dynamic::Range(_, _)
+        | Dynamic::RangeInclusive(_, _) => for_whole(alloc, value, pos),
+    }
+}
+
+/// The constant for a value that takes more room than a scalar.
+fn for_whole(alloc: Global, value: Dynamic, pos: Position) -> Result<Expr, OutOfMemory>
+    requires { is_scalar (value_of value) ≡ false }
+    ensures value { IfOk result (λ e. expr_of e ≡ constants.constant_for (value_of value)) }
+    ensures round_trip { IfOk result (λ e. constants.literal_value (expr_of e) ≡ Some (value_of value)) }
+    ensures position { IfOk result (λ e. position_of e ≡ pos) }
+    ensures arguments { IfOk result (λ e. AreAt pos (arguments_of e)) }
+{
     match value.into_immutable_string() {
         Ok(text) => Ok(Expr::StringConstant(text, pos)),
         Err(value) => for_no_text(alloc, value, pos),
@@ -30,7 +52,8 @@ pub fn constant_for(alloc: Global, value: Dynamic, pos: Position) -> Result<Expr
 }
 
 fn for_no_text(alloc: Global, value: Dynamic, pos: Position) -> Result<Expr, OutOfMemory>
-    requires { (t : Text) → value ≢ kind.Str t }
+    requires scalar { is_scalar (value_of value) ≡ false }
+    requires text { (t : Text) → value ≢ kind.Str t }
     ensures value { IfOk result (λ e. expr_of e ≡ constants.constant_for (value_of value)) }
     ensures round_trip { IfOk result (λ e. constants.literal_value (expr_of e) ≡ Some (value_of value)) }
     ensures position { IfOk result (λ e. position_of e ≡ pos) }
@@ -38,25 +61,7 @@ fn for_no_text(alloc: Global, value: Dynamic, pos: Position) -> Result<Expr, Out
 {
     match value.into_fn_ptr() {
         Ok(pointer) => for_pointer(alloc, pointer, pos),
-        Err(value) => for_plain(alloc, value, pos),
-    }
-}
-
-/// The constant for a value that is neither a text nor a pointer.
-fn for_plain(alloc: Global, value: Dynamic, pos: Position) -> Result<Expr, OutOfMemory>
-    requires text { (t : Text) → value ≢ kind.Str t }
-    requires pointer { (p : pointer) → value ≢ kind.FnPtr p }
-    ensures value { IfOk result (λ e. expr_of e ≡ constants.constant_for (value_of value)) }
-    ensures round_trip { IfOk result (λ e. constants.literal_value (expr_of e) ≡ Some (value_of value)) }
-    ensures position { IfOk result (λ e. position_of e ≡ pos) }
-    ensures arguments { IfOk result (λ e. AreAt pos (arguments_of e)) }
-{
-    match &value {
-        Dynamic::Unit => Ok(Expr::Unit(pos)),
-        Dynamic::Bool(b) => Ok(Expr::BoolConstant(*b, pos)),
-        Dynamic::Int(n) => Ok(Expr::IntegerConstant(*n, pos)),
-        Dynamic::Char(c) => Ok(Expr::CharConstant(*c, pos)),
-        _ => hold(alloc, value, pos),
+        Err(value) => hold(alloc, value, pos),
     }
 }
 
