@@ -38,7 +38,7 @@ pushed_show script after shown empty a b c d same h e f g i =
 pub optimized_built_in : (at : OptimizationLevel) (engine : Engine) (ss : List Stmt) (fs : List (Rc ScriptFuncDef Global)) (script : BuiltinScript) (ast : AST)
     → engine ≡ nothing_set → stmts_of ss ≡ statements_of script → fs ≡ []
     → Refines engine (source_of ss fs) (script_of ast) → ast.lib.value.functions ≡ definitions_table (map rc_value fs)
-    → (at ≡ level.None → ast.statements ≡ ss) → (at ≢ level.None → AreReduced engine (script_of ast).statements)
+    → (at ≡ level.None → ast.body.block ≡ ss) → (at ≢ level.None → AreReduced engine (script_of ast).statements)
     → Optimized at (built_in script) (script_of ast)
 optimized_built_in at engine ss fs script ast e statements none runs table kept reduced =
     let source : source_of ss fs ≡ built_in script = ap (source_of ss) none ∙ ap (λ (x : Stmts). record { statements = x; functions = [] }) statements in
