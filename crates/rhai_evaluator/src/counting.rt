@@ -41,14 +41,7 @@ impl<'a, H: Host> Evaluator<'a, H> {
                 Dynamic::RangeInclusive(from, to) => {
                     self.for_count(state, parts, *from, rounds_through(*from, *to))
                 }
-                Dynamic::Unit
-                | Dynamic::Bool(_)
-                | Dynamic::Int(_)
-                | Dynamic::Char(_)
-                | Dynamic::Str(_)
-                | Dynamic::Array(_)
-                | Dynamic::Map(_)
-                | Dynamic::FnPtr(_) => Err(Interrupt::Stuck(Stuck::WrongKind)),
+                _ => Err(Interrupt::Stuck(Stuck::WrongKind)),
             },
         }
     }

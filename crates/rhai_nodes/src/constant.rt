@@ -47,21 +47,10 @@ fn for_whole(alloc: Global, value: Dynamic, pos: Position) -> Result<Expr, OutOf
 {
     match value.into_immutable_string() {
         Ok(text) => Ok(Expr::StringConstant(text, pos)),
-        Err(value) => for_no_text(alloc, value, pos),
-    }
-}
-
-fn for_no_text(alloc: Global, value: Dynamic, pos: Position) -> Result<Expr, OutOfMemory>
-    requires scalar { is_scalar (value_of value) ≡ false }
-    requires text { (t : Text) → value ≢ kind.Str t }
-    ensures value { IfOk result (λ e. expr_of e ≡ constants.constant_for (value_of value)) }
-    ensures round_trip { IfOk result (λ e. constants.literal_value (expr_of e) ≡ Some (value_of value)) }
-    ensures position { IfOk result (λ e. position_of e ≡ pos) }
-    ensures arguments { IfOk result (λ e. AreAt pos (arguments_of e)) }
-{
-    match value.into_fn_ptr() {
-        Ok(pointer) => for_pointer(alloc, pointer, pos),
-        Err(value) => hold(alloc, value, pos),
+        Err(value) => match value.into_fn_ptr() {
+            Ok(pointer) => for_pointer(alloc, pointer, pos),
+            Err(value) => hold(alloc, value, pos),
+        },
     }
 }
 

@@ -4,6 +4,7 @@
 mod block;
 mod call;
 mod constant;
+mod drain;
 mod literals;
 mod making;
 mod place;
@@ -12,9 +13,11 @@ mod switch;
 pub use block::block_from;
 pub use call::call_expression;
 pub use constant::constant_for;
+pub use drain::{StmtDrain, push_stmt};
 pub use literals::{constant_value, literal_value};
 pub use making::{
     blocks_of, expression_statement, followed_by_nothing, only_statement, put_expr, put_stmt,
+    statements_of,
 };
 pub use place::{place_expr, place_stmt};
 pub use switch::switch_table;

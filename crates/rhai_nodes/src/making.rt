@@ -3,7 +3,7 @@
 
 #![tactic(auto, using(rhai_reading::specs::Reading::shapes))]
 
-ghost use Rattle.std.specs.Prelude.{◌≡◌, ◌≢◌, [], ◌∷◌, IfOk, length, MatchOption, Ok, OnOk};
+ghost use Rattle.std.specs.Prelude.{◌≡◌, ◌≢◌, [], ◌∷◌, IfOk, length, MatchOption};
 ghost use Rattle.rhai_meaning.specs.Tree.{ExprStmt, Noop, no_stmts, stmt};
 ghost use Rattle.rhai_reading.specs.Reading.{expr_of, stmt_of, stmts_of};
 
@@ -11,22 +11,20 @@ use rhai_base::{Boxed, OutOfMemory, Position};
 use rhai_tree::{Expr, FlowControl, Stmt, StmtBlock};
 use std::alloc::Global;
 
-/// Puts what was made in the place of an expression.
+/// Puts an expression in the place of another, which is let go.
 #[inline(always)]
-pub fn put_expr(place: &mut Expr, made: Result<Expr, OutOfMemory>) -> Result<(), OutOfMemory>
-    ensures { OnOk result (made ≡ Ok place.new) }
+pub fn put_expr(place: &mut Expr, made: Expr)
+    ensures { place.new ≡ made }
 {
-    *place = made?;
-    Ok(())
+    *place = made;
 }
 
-/// Puts what was made in the place of a statement.
+/// Puts a statement in the place of another, which is let go.
 #[inline(always)]
-pub fn put_stmt(place: &mut Stmt, made: Result<Stmt, OutOfMemory>) -> Result<(), OutOfMemory>
-    ensures { OnOk result (made ≡ Ok place.new) }
+pub fn put_stmt(place: &mut Stmt, made: Stmt)
+    ensures { place.new ≡ made }
 {
-    *place = made?;
-    Ok(())
+    *place = made;
 }
 
 /// An expression as a statement.
@@ -53,6 +51,13 @@ pub fn only_statement(block: StmtBlock) -> Option<Stmt>
     ensures { MatchOption result (length block.block ≢ 1) (λ s. block.block ≡ s ∷ []) }
 {
     block.into_statements().into_only()
+}
+
+/// The statements of a block, out of their braces.
+pub fn statements_of(block: StmtBlock) -> Vec<Stmt>
+    ensures { result.items ≡ block.block }
+{
+    block.into_statements().into_vec()
 }
 
 /// The blocks; the condition goes.

@@ -1,6 +1,8 @@
 -- A tree's parts, then its node; and the statements of a list, settled one by one.
-use Rattle.std.proofs.Common.{◌≡◌, ◌<◌, ◌≤◌, Bool, true, false, List, refl, sym, subst, arith}
+use Rattle.std.proofs.Common.{◌≡◌, ℕ, ℤ, ◌<◌, ◌≤◌, Bool, true, false, List, refl, sym, subst, arith}
 use Rattle.rhai_tokens.specs.declared.position.Position.{Position}
+use Rattle.rhai_values.specs.declared.dynamic.Dynamic.{Dynamic}
+use Rattle.rhai_values.specs.Value.{Text}
 use Rattle.rhai_tree.specs.declared.expr.Expr as declared_expr
 use Rattle.rhai_tree.specs.declared.expr.Expr.TheVariants as expr_kind
 use Rattle.rhai_tree.specs.declared.expr.FnCallExpr.{FnCallExpr}
@@ -9,9 +11,9 @@ use Rattle.rhai_tree.specs.declared.stmt.FlowControl.{FlowControl}
 use Rattle.rhai_tree.specs.declared.stmt.Stmt as declared_stmt
 use Rattle.rhai_tree.specs.declared.stmt.Stmt.TheVariants as stmt_kind
 use Rattle.rhai_reading.specs.Reading.{expr_of, stmt_of}
-use Rattle.rhai_reading.proofs.Cases.{ExprCase, array_case, braces_case, call_case, expr_cases, StmtCase, if_case, block_case, expression_case, call_statement_case, stmt_cases}
+use Rattle.rhai_reading.proofs.Cases.{ExprCase, dynamic_constant_case, bool_constant_case, integer_constant_case, char_constant_case, string_constant_case, unit_case, array_case, braces_case, call_case, expr_cases, StmtCase, if_case, block_case, expression_case, call_statement_case, stmt_cases}
 use Rattle.rhai_meaning.specs.Engine.{Engine}
-use Rattle.rhai_meaning.specs.Tree.{Callee, Expr, ArrayOf, BlockExpr, FnCall, Exprs, Stmt, If, FnCallStmt, Block, ExprStmt, Stmts, no_stmts, stmt}
+use Rattle.rhai_meaning.specs.Tree.{Callee, Expr, DynamicConstant, BoolConstant, IntegerConstant, CharConstant, StringConstant, UnitConstant, ArrayOf, BlockExpr, FnCall, Exprs, Stmt, If, FnCallStmt, Block, ExprStmt, Stmts, no_stmts, stmt}
 use Rattle.rhai_rewriting.specs.Context.{Context, knowing, under, ListKind, Inside}
 use Rattle.rhai_rewriting.specs.Known.{Known}
 use Rattle.rhai_rewriting.specs.Rewriting.{ExprTo, same_expr, then_expr, in_array, in_braces, in_call, StmtTo, same_stmt, then_stmt, in_if, in_block, in_expression, in_call_statement, RestTo, same_stmts, then_stmts, in_head, flag_forgotten}
@@ -19,7 +21,7 @@ use Rattle.rhai_rewriting.specs.Steps.{ExprRun, ExprsRun, ExprStep, StmtRun, Stm
 use Rattle.rhai_rewriting.specs.Residue.{IsReduced, ExprParts, StmtParts}
 use Rattle.rhai_engine.specs.EngineInfo.{nothing_set}
 use Rattle.rhai_optimizer.specs.Blocks.{FlatList}
-use Rattle.rhai_optimizer.specs.Parts.{ExprPartsRun, StmtPartsRun}
+use Rattle.rhai_optimizer.specs.Parts.{ExprPartsRun, StmtPartsRun, is_constant_alone}
 use Rattle.rhai_meaning.specs.Weight.{stmt_weight, weight}
 use Rattle.rhai_rewriting.proofs.Weights.{stmt_falls, stmts_fall}
 use Rattle.rhai_rewriting.proofs.Firing.{expr_step_to, expr_step_reduced, stmt_step_to, stmt_step_reduced}
@@ -128,10 +130,47 @@ settled {k = k} {w = w} {d = d} {f = f} {s = s} {s2 = s2} ef p h r =
     let i = (stmt_kept r.to h).1 in
     record { to = subst (λ x. InList k w d x s s2) (sym ef) (subst (λ x. InList k w d f s x) i p); reduced = r.reduced h }
 
+-- no other node is a constant alone
+other_constant : {x : declared_expr.Expr} {e : Expr} → ExprCase x e
+    → ((v : Dynamic) (p : Position) → x ≡ expr_kind.DynamicConstant v p → ⊥) → ((b : Bool) (p : Position) → x ≡ expr_kind.BoolConstant b p → ⊥)
+    → ((n : ℤ) (p : Position) → x ≡ expr_kind.IntegerConstant n p → ⊥) → ((c : ℕ) (p : Position) → x ≡ expr_kind.CharConstant c p → ⊥)
+    → ((t : Text) (p : Position) → x ≡ expr_kind.StringConstant t p → ⊥) → ((p : Position) → x ≡ expr_kind.Unit p → ⊥)
+    → false ≡ is_constant_alone (ExprStmt e)
+other_constant (dynamic_constant_case v p) f g h i j k = absurd (f v p refl)
+other_constant (bool_constant_case b p) f g h i j k = absurd (g b p refl)
+other_constant (integer_constant_case n p) f g h i j k = absurd (h n p refl)
+other_constant (char_constant_case c p) f g h i j k = absurd (i c p refl)
+other_constant (string_constant_case t p) f g h i j k = absurd (j t p refl)
+other_constant (unit_case p) f g h i j k = absurd (k p refl)
+other_constant _ f g h i j k = refl
+
+pub no_constant : (x : declared_expr.Expr)
+    → ((v : Dynamic) (p : Position) → x ≡ expr_kind.DynamicConstant v p → ⊥) → ((b : Bool) (p : Position) → x ≡ expr_kind.BoolConstant b p → ⊥)
+    → ((n : ℤ) (p : Position) → x ≡ expr_kind.IntegerConstant n p → ⊥) → ((c : ℕ) (p : Position) → x ≡ expr_kind.CharConstant c p → ⊥)
+    → ((t : Text) (p : Position) → x ≡ expr_kind.StringConstant t p → ⊥) → ((p : Position) → x ≡ expr_kind.Unit p → ⊥)
+    → false ≡ is_constant_alone (ExprStmt (expr_of x))
+no_constant x f g h i j k = other_constant (expr_cases x) f g h i j k
+
+no_expression_by : {x : declared_stmt.Stmt} {s : Stmt} → StmtCase x s → ((e : declared_expr.Expr) → x ≡ stmt_kind.Expr e → ⊥) → false ≡ is_constant_alone s
+no_expression_by (expression_case e) f = absurd (f e refl)
+no_expression_by _ f = refl
+
+pub no_expression : (x : declared_stmt.Stmt) → ((e : declared_expr.Expr) → x ≡ stmt_kind.Expr e → ⊥) → false ≡ is_constant_alone (stmt_of x)
+no_expression x f = no_expression_by (stmt_cases x) f
+
 -- a pass made what no pass changes
-pub settled_at_once : {k : Context} {w d d' d1 a b : Bool} {s s1 s2 : Stmt} → d' ≡ true → InList k w d d1 s s1 → a ≡ false → b ≡ true → StmtRun k w a b s1 s2 → ((r : Engine) → IsReduced r s2) → SettleRun k w d d' s s2
+alone_reduced : (r : Engine) (s : Stmt) → is_constant_alone s ≡ true → IsReduced r s
+alone_reduced r (ExprStmt (DynamicConstant v)) h = (tt, (tt, tt))
+alone_reduced r (ExprStmt (BoolConstant b)) h = (tt, (tt, tt))
+alone_reduced r (ExprStmt (IntegerConstant n)) h = (tt, (tt, tt))
+alone_reduced r (ExprStmt (CharConstant c)) h = (tt, (tt, tt))
+alone_reduced r (ExprStmt (StringConstant t)) h = (tt, (tt, tt))
+alone_reduced r (ExprStmt UnitConstant) h = (tt, (tt, tt))
+alone_reduced r _ h = absurd cc
+
+pub settled_at_once : {k : Context} {w d d' d1 a b : Bool} {s s1 s2 : Stmt} → d' ≡ true → InList k w d d1 s s1 → a ≡ false → b ≡ true → StmtRun k w a b s1 s2 → is_constant_alone s2 ≡ true → SettleRun k w d d' s s2
 settled_at_once {k = k} {w = w} {d = d} {s = s} {s2 = s2} e p ea eb r h =
-    record { to = subst (λ x. InList k w d x s s2) (sym e) (settle_again p ea eb r.to); reduced = h k.engine }
+    record { to = subst (λ x. InList k w d x s s2) (sym e) (settle_again p ea eb r.to); reduced = alone_reduced k.engine s2 h }
 
 -- ---- a list, flattened and then settled
 

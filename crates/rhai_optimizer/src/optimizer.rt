@@ -19,9 +19,10 @@ ghost use Rattle.rhai_script.specs.Script.{script_of};
 use crate::cycle::Optimizer;
 use crate::level::OptimizationLevel;
 use crate::mark::ListMark;
-use rhai_ast::{ScriptFuncDef, Stmt};
-use rhai_base::{OutOfMemory, Scope, Seq};
+use rhai_ast::{ScriptFuncDef, Stmt, StmtBlock};
+use rhai_base::{OutOfMemory, Position, Scope, Seq};
 use rhai_engine::EngineInfo;
+use rhai_nodes::statements_of;
 use rhai_rules::OptimizerState;
 use rhai_script::{AST, FnLib};
 use std::alloc::Global;
@@ -40,23 +41,21 @@ pub fn optimize_top_level(
     optimizer.stmt_block(&mut state, statements, ListMark::Whole)
 }
 
-/// The statements of a script, at a level.
-fn optimized(
+/// The statements of a script are optimised in place at a level.
+fn optimize_at(
     alloc: Global,
     info: &EngineInfo,
-    statements: Vec<Stmt>,
+    statements: &mut Seq<Stmt>,
     level: OptimizationLevel,
-) -> Result<Vec<Stmt>, OutOfMemory>
-    ensures to { IfOk result (λ ss. StmtsTo (under (engine_of info.now)) Whole true true (stmts_of statements.items) (stmts_of ss.items)) }
-    ensures reduced { level ≢ OptimizationLevel.None → IfOk result (λ ss. AreReduced (engine_of info.now) (stmts_of ss.items)) }
-    ensures kept { level ≡ OptimizationLevel.None → IfOk result (λ ss. ss.items ≡ statements.items) }
+) -> Result<(), OutOfMemory>
+    ensures to { OnOk result (StmtsTo (under (engine_of info.now)) Whole true true (stmts_of statements.old) (stmts_of statements.new)) }
+    ensures reduced { level ≢ OptimizationLevel.None → OnOk result (AreReduced (engine_of info.now) (stmts_of statements.new)) }
+    ensures kept { level ≡ OptimizationLevel.None → OnOk result (statements.new ≡ statements.old) }
 {
     match level {
-        OptimizationLevel::None => Ok(statements),
+        OptimizationLevel::None => Ok(()),
         OptimizationLevel::Simple | OptimizationLevel::Full => {
-            let mut statements = Seq::from_vec(statements);
-            optimize_top_level(alloc, info, &mut statements)?;
-            Ok(statements.into_vec())
+            optimize_top_level(alloc, info, statements)
         }
     }
 }
@@ -84,7 +83,8 @@ pub fn optimize_into_ast(
     ensures functions { IfOk result (λ ast. ast.lib.value.functions ≡ definitions_table (map rc_value functions.items)) }
     ensures kept { level ≡ OptimizationLevel.None → IfOk result (λ ast. ast.body.block ≡ statements.items) }
 {
-    let statements = optimized(alloc, info, statements, level)?;
+    let mut block = StmtBlock::new(statements, Position::NONE, Position::NONE);
+    optimize_at(alloc, info, block.statements_mut(), level)?;
     let lib = Rc::new(alloc, FnLib::from_functions(alloc, functions)?)?;
-    Ok(AST::new(statements, lib))
+    Ok(AST::new(statements_of(block), lib))
 }

@@ -15,7 +15,7 @@ use Rattle.std.proofs.lemmas.Map.Text.{is_eq-slice_cmp}
 use Rattle.std.proofs.lemmas.Slice.Eq.{bytes_eq-Decides}
 use Rattle.rhai_values.specs.declared.dynamic.Dynamic.{Dynamic}
 use Rattle.rhai_values.specs.declared.dynamic.Dynamic.TheVariants as dynamic
-use Rattle.rhai_values.specs.Reading.{value_of, members_of, value_of-Unit, value_of-Bool, value_of-Int, value_of-Char, value_of-Str, value_of-Array, value_of-Map, value_of-FnPtr, value_of-Range, value_of-RangeInclusive, DynamicCase, unit_case, bool_case, int_case, char_case, str_case, array_case, map_case, fn_ptr_case, range_case, range_inclusive_case, dynamic_cases}
+use Rattle.rhai_values.specs.Reading.{value_of, members_of, DynamicCase, array_case, map_case, dynamic_cases}
 use Rattle.rhai_values.specs.Value.{Text, Value, UnitV, ArrayV, MapV, item, Fields, values, fields, field, same_text}
 use Rattle.rhai_base.specs.Operators.{text_lt}
 use Rattle.rhai_meaning.specs.Elements.{at_index, index_in, entry, with_value_at, with_element, with_entry}
@@ -24,32 +24,16 @@ use Rattle.rhai_places.proofs.Parts.{index_in-values, is_at-same, element_at, en
 
 -- ---- one step
 
-no_element : {v : Dynamic} → DynamicCase v → ((vs : List Dynamic) → v ≡ dynamic.Array vs → ⊥) → (i : ℤ) → inside (value_of v) (AtIndex i) ≡ None
-no_element unit_case h i = ap (λ w. inside w (AtIndex i)) value_of-Unit
-no_element (bool_case b) h i = ap (λ w. inside w (AtIndex i)) (value_of-Bool b)
-no_element (int_case n) h i = ap (λ w. inside w (AtIndex i)) (value_of-Int n)
-no_element (char_case c) h i = ap (λ w. inside w (AtIndex i)) (value_of-Char c)
-no_element (str_case t) h i = ap (λ w. inside w (AtIndex i)) (value_of-Str t)
+no_element : {v : Dynamic} {w : Value} → DynamicCase v w → ((vs : List Dynamic) → v ≡ dynamic.Array vs → ⊥) → (i : ℤ) → inside w (AtIndex i) ≡ None
 no_element (array_case vs) h i = absurd (h vs refl)
-no_element (map_case es) h i = ap (λ w. inside w (AtIndex i)) (value_of-Map es)
-no_element (fn_ptr_case p) h i = ap (λ w. inside w (AtIndex i)) (value_of-FnPtr p)
-no_element (range_case a b) h i = ap (λ w. inside w (AtIndex i)) (value_of-Range a b)
-no_element (range_inclusive_case a b) h i = ap (λ w. inside w (AtIndex i)) (value_of-RangeInclusive a b)
+no_element _ h i = refl
 
 pub inside-no_array : (v : Dynamic) (i : ℤ) → ((vs : List Dynamic) → v ≡ dynamic.Array vs → ⊥) → inside (value_of v) (AtIndex i) ≡ None
 inside-no_array v i h = no_element (dynamic_cases v) h i
 
-no_entry : {v : Dynamic} → DynamicCase v → ((es : List (Text × Dynamic)) → v ≡ dynamic.Map es → ⊥) → (k : Text) → inside (value_of v) (AtEntry k) ≡ None
-no_entry unit_case h k = ap (λ w. inside w (AtEntry k)) value_of-Unit
-no_entry (bool_case b) h k = ap (λ w. inside w (AtEntry k)) (value_of-Bool b)
-no_entry (int_case n) h k = ap (λ w. inside w (AtEntry k)) (value_of-Int n)
-no_entry (char_case c) h k = ap (λ w. inside w (AtEntry k)) (value_of-Char c)
-no_entry (str_case t) h k = ap (λ w. inside w (AtEntry k)) (value_of-Str t)
-no_entry (array_case vs) h k = ap (λ w. inside w (AtEntry k)) (value_of-Array vs)
+no_entry : {v : Dynamic} {w : Value} → DynamicCase v w → ((es : List (Text × Dynamic)) → v ≡ dynamic.Map es → ⊥) → (k : Text) → inside w (AtEntry k) ≡ None
 no_entry (map_case es) h k = absurd (h es refl)
-no_entry (fn_ptr_case p) h k = ap (λ w. inside w (AtEntry k)) (value_of-FnPtr p)
-no_entry (range_case a b) h k = ap (λ w. inside w (AtEntry k)) (value_of-Range a b)
-no_entry (range_inclusive_case a b) h k = ap (λ w. inside w (AtEntry k)) (value_of-RangeInclusive a b)
+no_entry _ h k = refl
 
 pub inside-no_map : (v : Dynamic) (k : Text) → ((es : List (Text × Dynamic)) → v ≡ dynamic.Map es → ⊥) → inside (value_of v) (AtEntry k) ≡ None
 inside-no_map v k h = no_entry (dynamic_cases v) h k

@@ -1,11 +1,11 @@
 -- What an index comes to, by the kinds of the value and of the index.
-use Rattle.std.proofs.Common.{◌≡◌, ℕ, Bool, true, false, List, [], ◌∷◌, map, Some, None, Bor, refl, sym, ap, ◌∙◌}
+use Rattle.std.proofs.Common.{◌≡◌, ℕ, Bool, List, [], ◌∷◌, map, Some, None, Bor, refl, sym, ap, ◌∙◌}
 use Rattle.std.specs.Prelude.{ℤ, codes}
 use Rattle.std.specs.Option.{option_map, option_copied}
 use Rattle.rhai_values.specs.declared.dynamic.Dynamic.{Dynamic}
 use Rattle.rhai_values.specs.declared.dynamic.Dynamic.TheVariants as dynamic
-use Rattle.rhai_values.specs.Reading.{value_of, members_of, value_of-Unit, value_of-Bool, value_of-Int, value_of-Char, value_of-Str, value_of-Array, value_of-Map, value_of-FnPtr, value_of-Range, value_of-RangeInclusive, DynamicCase, unit_case, bool_case, int_case, char_case, str_case, array_case, map_case, fn_ptr_case, range_case, range_inclusive_case, dynamic_cases}
-use Rattle.rhai_values.specs.Value.{Text, Value, UnitV, BoolV, IntV, CharV, TextV, ArrayV, MapV, PointerV, RangeV, RangeInclusiveV, Values, Fields, values, fields}
+use Rattle.rhai_values.specs.Reading.{value_of, members_of, value_of-Bool, value_of-Int, value_of-Char, value_of-Str, value_of-Array, value_of-Map, DynamicCase, int_case, str_case, array_case, map_case, dynamic_cases}
+use Rattle.rhai_values.specs.Value.{Text, Value, UnitV, BoolV, IntV, CharV, TextV, ArrayV, MapV, Values, Fields, values, fields}
 use Rattle.rhai_meaning.specs.Act.{Act}
 use Rattle.rhai_meaning.specs.ActForms.{throw}
 use Rattle.rhai_meaning.specs.Chains.{ask_for, index, or_throw, set_by_host, set_element, set_index}
@@ -18,168 +18,62 @@ use Rattle.rhai_places.specs.declared.steps.IndexTarget.TheVariants as target
 use Rattle.rhai_places.specs.Reading.{or_unit}
 use Rattle.rhai_places.specs.Indexing.{IsIndexed, IsIndexTarget}
 
--- ---- kinds
+-- ---- what a value is not
 
-abbrev is_int : Value → Bool
-is_int (IntV n) = true
-is_int _ = false
+abbrev NoInt : Dynamic → Type 0
+NoInt v = (n : ℤ) → v ≡ dynamic.Int n → ⊥
 
-abbrev is_text : Value → Bool
-is_text (TextV t) = true
-is_text _ = false
+abbrev NoText : Dynamic → Type 0
+NoText v = (t : Text) → v ≡ dynamic.Str t → ⊥
 
--- what has parts at an index, and what has places there
-abbrev has_parts : Value → Bool
-has_parts (ArrayV us) = true
-has_parts (TextV t) = true
-has_parts (IntV n) = true
-has_parts (MapV gs) = true
-has_parts _ = false
+abbrev NoArray : Dynamic → Type 0
+NoArray v = (vs : List Dynamic) → v ≡ dynamic.Array vs → ⊥
 
-abbrev has_places : Value → Bool
-has_places (ArrayV us) = true
-has_places (MapV gs) = true
-has_places _ = false
-
-is_no_int_by : {v : Dynamic} → DynamicCase v → ((n : ℤ) → v ≡ dynamic.Int n → ⊥) → is_int (value_of v) ≡ false
-is_no_int_by unit_case h0 = ap is_int value_of-Unit
-is_no_int_by (bool_case b) h0 = ap is_int (value_of-Bool b)
-is_no_int_by (int_case n) h0 = absurd (h0 n refl)
-is_no_int_by (char_case c) h0 = ap is_int (value_of-Char c)
-is_no_int_by (str_case t) h0 = ap is_int (value_of-Str t)
-is_no_int_by (array_case vs) h0 = ap is_int (value_of-Array vs)
-is_no_int_by (map_case es) h0 = ap is_int (value_of-Map es)
-is_no_int_by (fn_ptr_case p) h0 = ap is_int (value_of-FnPtr p)
-is_no_int_by (range_case a b) h0 = ap is_int (value_of-Range a b)
-is_no_int_by (range_inclusive_case a b) h0 = ap is_int (value_of-RangeInclusive a b)
-
-is_no_int : (v : Dynamic) → ((n : ℤ) → v ≡ dynamic.Int n → ⊥) → is_int (value_of v) ≡ false
-is_no_int v h0 = is_no_int_by (dynamic_cases v) h0
-
-is_no_text_by : {v : Dynamic} → DynamicCase v → ((t : Text) → v ≡ dynamic.Str t → ⊥) → is_text (value_of v) ≡ false
-is_no_text_by unit_case h0 = ap is_text value_of-Unit
-is_no_text_by (bool_case b) h0 = ap is_text (value_of-Bool b)
-is_no_text_by (int_case n) h0 = ap is_text (value_of-Int n)
-is_no_text_by (char_case c) h0 = ap is_text (value_of-Char c)
-is_no_text_by (str_case t) h0 = absurd (h0 t refl)
-is_no_text_by (array_case vs) h0 = ap is_text (value_of-Array vs)
-is_no_text_by (map_case es) h0 = ap is_text (value_of-Map es)
-is_no_text_by (fn_ptr_case p) h0 = ap is_text (value_of-FnPtr p)
-is_no_text_by (range_case a b) h0 = ap is_text (value_of-Range a b)
-is_no_text_by (range_inclusive_case a b) h0 = ap is_text (value_of-RangeInclusive a b)
-
-is_no_text : (v : Dynamic) → ((t : Text) → v ≡ dynamic.Str t → ⊥) → is_text (value_of v) ≡ false
-is_no_text v h0 = is_no_text_by (dynamic_cases v) h0
-
-has_no_parts_by : {v : Dynamic} → DynamicCase v → ((vs : List Dynamic) → v ≡ dynamic.Array vs → ⊥) → ((t : Text) → v ≡ dynamic.Str t → ⊥) → ((n : ℤ) → v ≡ dynamic.Int n → ⊥) → ((es : List (Text × Dynamic)) → v ≡ dynamic.Map es → ⊥) → has_parts (value_of v) ≡ false
-has_no_parts_by unit_case h0 h1 h2 h3 = ap has_parts value_of-Unit
-has_no_parts_by (bool_case b) h0 h1 h2 h3 = ap has_parts (value_of-Bool b)
-has_no_parts_by (int_case n) h0 h1 h2 h3 = absurd (h2 n refl)
-has_no_parts_by (char_case c) h0 h1 h2 h3 = ap has_parts (value_of-Char c)
-has_no_parts_by (str_case t) h0 h1 h2 h3 = absurd (h1 t refl)
-has_no_parts_by (array_case vs) h0 h1 h2 h3 = absurd (h0 vs refl)
-has_no_parts_by (map_case es) h0 h1 h2 h3 = absurd (h3 es refl)
-has_no_parts_by (fn_ptr_case p) h0 h1 h2 h3 = ap has_parts (value_of-FnPtr p)
-has_no_parts_by (range_case a b) h0 h1 h2 h3 = ap has_parts (value_of-Range a b)
-has_no_parts_by (range_inclusive_case a b) h0 h1 h2 h3 = ap has_parts (value_of-RangeInclusive a b)
-
-has_no_parts : (v : Dynamic) → ((vs : List Dynamic) → v ≡ dynamic.Array vs → ⊥) → ((t : Text) → v ≡ dynamic.Str t → ⊥) → ((n : ℤ) → v ≡ dynamic.Int n → ⊥) → ((es : List (Text × Dynamic)) → v ≡ dynamic.Map es → ⊥) → has_parts (value_of v) ≡ false
-has_no_parts v h0 h1 h2 h3 = has_no_parts_by (dynamic_cases v) h0 h1 h2 h3
-
-has_no_places_by : {v : Dynamic} → DynamicCase v → ((vs : List Dynamic) → v ≡ dynamic.Array vs → ⊥) → ((es : List (Text × Dynamic)) → v ≡ dynamic.Map es → ⊥) → has_places (value_of v) ≡ false
-has_no_places_by unit_case h0 h1 = ap has_places value_of-Unit
-has_no_places_by (bool_case b) h0 h1 = ap has_places (value_of-Bool b)
-has_no_places_by (int_case n) h0 h1 = ap has_places (value_of-Int n)
-has_no_places_by (char_case c) h0 h1 = ap has_places (value_of-Char c)
-has_no_places_by (str_case t) h0 h1 = ap has_places (value_of-Str t)
-has_no_places_by (array_case vs) h0 h1 = absurd (h0 vs refl)
-has_no_places_by (map_case es) h0 h1 = absurd (h1 es refl)
-has_no_places_by (fn_ptr_case p) h0 h1 = ap has_places (value_of-FnPtr p)
-has_no_places_by (range_case a b) h0 h1 = ap has_places (value_of-Range a b)
-has_no_places_by (range_inclusive_case a b) h0 h1 = ap has_places (value_of-RangeInclusive a b)
-
-has_no_places : (v : Dynamic) → ((vs : List Dynamic) → v ≡ dynamic.Array vs → ⊥) → ((es : List (Text × Dynamic)) → v ≡ dynamic.Map es → ⊥) → has_places (value_of v) ≡ false
-has_no_places v h0 h1 = has_no_places_by (dynamic_cases v) h0 h1
+abbrev NoMap : Dynamic → Type 0
+NoMap v = (es : List (Text × Dynamic)) → v ≡ dynamic.Map es → ⊥
 
 -- ---- where the host is asked
 
 abbrev asks : Current → Value → Value → (Current → Act) → Act
 asks c v i next = ask_for (codes "index$get$") v (i ∷ []) next
 
-plain_asks : (v i : Value) (c : Current) (next : Current → Act) → has_parts v ≡ false → index c v i next ≡ asks c v i next
-plain_asks UnitV i c next h = refl
-plain_asks (BoolV b) i c next h = refl
-plain_asks (IntV n) i c next h = cc
-plain_asks (CharV d) i c next h = refl
-plain_asks (TextV t) i c next h = cc
-plain_asks (ArrayV us) i c next h = cc
-plain_asks (MapV gs) i c next h = cc
-plain_asks (PointerV f us) i c next h = refl
-plain_asks (RangeV a b) i c next h = refl
-plain_asks (RangeInclusiveV a b) i c next h = refl
+plain_asks : {v : Dynamic} {w : Value} → DynamicCase v w → NoArray v → NoText v → NoInt v → NoMap v → (i : Value) (c : Current) (next : Current → Act) → index c w i next ≡ asks c w i next
+plain_asks (array_case vs) a t n m i c next = absurd (a vs refl)
+plain_asks (str_case s) a t n m i c next = absurd (t s refl)
+plain_asks (int_case k) a t n m i c next = absurd (n k refl)
+plain_asks (map_case es) a t n m i c next = absurd (m es refl)
+plain_asks _ a t n m i c next = refl
 
-array_asks : (vs : Values) (i : Value) (c : Current) (next : Current → Act) → is_int i ≡ false → index c (ArrayV vs) i next ≡ asks c (ArrayV vs) i next
-array_asks vs UnitV c next h = refl
-array_asks vs (BoolV b) c next h = refl
-array_asks vs (IntV n) c next h = cc
-array_asks vs (CharV d) c next h = refl
-array_asks vs (TextV t) c next h = refl
-array_asks vs (ArrayV us) c next h = refl
-array_asks vs (MapV gs) c next h = refl
-array_asks vs (PointerV f us) c next h = refl
-array_asks vs (RangeV a b) c next h = refl
-array_asks vs (RangeInclusiveV a b) c next h = refl
+array_asks : (vs : Values) {i : Dynamic} {w : Value} → DynamicCase i w → NoInt i → (c : Current) (next : Current → Act) → index c (ArrayV vs) w next ≡ asks c (ArrayV vs) w next
+array_asks vs (int_case n) h c next = absurd (h n refl)
+array_asks vs _ h c next = refl
 
-text_asks : (s : Text) (i : Value) (c : Current) (next : Current → Act) → is_int i ≡ false → index c (TextV s) i next ≡ asks c (TextV s) i next
-text_asks s UnitV c next h = refl
-text_asks s (BoolV b) c next h = refl
-text_asks s (IntV n) c next h = cc
-text_asks s (CharV d) c next h = refl
-text_asks s (TextV t) c next h = refl
-text_asks s (ArrayV us) c next h = refl
-text_asks s (MapV gs) c next h = refl
-text_asks s (PointerV f us) c next h = refl
-text_asks s (RangeV a b) c next h = refl
-text_asks s (RangeInclusiveV a b) c next h = refl
+text_asks : (s : Text) {i : Dynamic} {w : Value} → DynamicCase i w → NoInt i → (c : Current) (next : Current → Act) → index c (TextV s) w next ≡ asks c (TextV s) w next
+text_asks s (int_case n) h c next = absurd (h n refl)
+text_asks s _ h c next = refl
 
-int_asks : (m : ℤ) (i : Value) (c : Current) (next : Current → Act) → is_int i ≡ false → index c (IntV m) i next ≡ asks c (IntV m) i next
-int_asks m UnitV c next h = refl
-int_asks m (BoolV b) c next h = refl
-int_asks m (IntV n) c next h = cc
-int_asks m (CharV d) c next h = refl
-int_asks m (TextV t) c next h = refl
-int_asks m (ArrayV us) c next h = refl
-int_asks m (MapV gs) c next h = refl
-int_asks m (PointerV f us) c next h = refl
-int_asks m (RangeV a b) c next h = refl
-int_asks m (RangeInclusiveV a b) c next h = refl
+int_asks : (m : ℤ) {i : Dynamic} {w : Value} → DynamicCase i w → NoInt i → (c : Current) (next : Current → Act) → index c (IntV m) w next ≡ asks c (IntV m) w next
+int_asks m (int_case n) h c next = absurd (h n refl)
+int_asks m _ h c next = refl
 
-map_asks : (fs : Fields) (i : Value) (c : Current) (next : Current → Act) → is_text i ≡ false → index c (MapV fs) i next ≡ asks c (MapV fs) i next
-map_asks fs UnitV c next h = refl
-map_asks fs (BoolV b) c next h = refl
-map_asks fs (IntV n) c next h = refl
-map_asks fs (CharV d) c next h = refl
-map_asks fs (TextV t) c next h = cc
-map_asks fs (ArrayV us) c next h = refl
-map_asks fs (MapV gs) c next h = refl
-map_asks fs (PointerV f us) c next h = refl
-map_asks fs (RangeV a b) c next h = refl
-map_asks fs (RangeInclusiveV a b) c next h = refl
+map_asks : (fs : Fields) {i : Dynamic} {w : Value} → DynamicCase i w → NoText i → (c : Current) (next : Current → Act) → index c (MapV fs) w next ≡ asks c (MapV fs) w next
+map_asks fs (str_case t) h c next = absurd (h t refl)
+map_asks fs _ h c next = refl
 
-pub asks_plain : (v i : Dynamic) → ((vs : List Dynamic) → v ≡ dynamic.Array vs → ⊥) → ((t : Text) → v ≡ dynamic.Str t → ⊥) → ((n : ℤ) → v ≡ dynamic.Int n → ⊥) → ((es : List (Text × Dynamic)) → v ≡ dynamic.Map es → ⊥) → IsIndexed (value_of v) (value_of i) (indexed.AsksHost i)
-asks_plain v i h0 h1 h2 h3 c next = plain_asks (value_of v) (value_of i) c next (has_no_parts v h0 h1 h2 h3)
+pub asks_plain : (v i : Dynamic) → NoArray v → NoText v → NoInt v → NoMap v → IsIndexed (value_of v) (value_of i) (indexed.AsksHost i)
+asks_plain v i a t n m c next = plain_asks (dynamic_cases v) a t n m (value_of i) c next
 
-pub asks_array : (vs : List Dynamic) (i : Dynamic) → ((n : ℤ) → i ≡ dynamic.Int n → ⊥) → IsIndexed (value_of (dynamic.Array vs)) (value_of i) (indexed.AsksHost i)
-asks_array vs i h c next = ap (λ v. index c v (value_of i) next) (value_of-Array vs) ∙ array_asks (values (map value_of vs)) (value_of i) c next (is_no_int i h) ∙ ap (λ v. asks c v (value_of i) next) (sym (value_of-Array vs))
+pub asks_array : (vs : List Dynamic) (i : Dynamic) → NoInt i → IsIndexed (value_of (dynamic.Array vs)) (value_of i) (indexed.AsksHost i)
+asks_array vs i h c next = ap (λ v. index c v (value_of i) next) (value_of-Array vs) ∙ array_asks (values (map value_of vs)) (dynamic_cases i) h c next ∙ ap (λ v. asks c v (value_of i) next) (sym (value_of-Array vs))
 
-pub asks_text : (t : Text) (i : Dynamic) → ((n : ℤ) → i ≡ dynamic.Int n → ⊥) → IsIndexed (value_of (dynamic.Str t)) (value_of i) (indexed.AsksHost i)
-asks_text t i h c next = ap (λ v. index c v (value_of i) next) (value_of-Str t) ∙ text_asks t (value_of i) c next (is_no_int i h) ∙ ap (λ v. asks c v (value_of i) next) (sym (value_of-Str t))
+pub asks_text : (t : Text) (i : Dynamic) → NoInt i → IsIndexed (value_of (dynamic.Str t)) (value_of i) (indexed.AsksHost i)
+asks_text t i h c next = ap (λ v. index c v (value_of i) next) (value_of-Str t) ∙ text_asks t (dynamic_cases i) h c next ∙ ap (λ v. asks c v (value_of i) next) (sym (value_of-Str t))
 
-pub asks_int : (n : ℤ) (i : Dynamic) → ((m : ℤ) → i ≡ dynamic.Int m → ⊥) → IsIndexed (value_of (dynamic.Int n)) (value_of i) (indexed.AsksHost i)
-asks_int n i h c next = ap (λ v. index c v (value_of i) next) (value_of-Int n) ∙ int_asks n (value_of i) c next (is_no_int i h) ∙ ap (λ v. asks c v (value_of i) next) (sym (value_of-Int n))
+pub asks_int : (n : ℤ) (i : Dynamic) → NoInt i → IsIndexed (value_of (dynamic.Int n)) (value_of i) (indexed.AsksHost i)
+asks_int n i h c next = ap (λ v. index c v (value_of i) next) (value_of-Int n) ∙ int_asks n (dynamic_cases i) h c next ∙ ap (λ v. asks c v (value_of i) next) (sym (value_of-Int n))
 
-pub asks_map : (es : List (Text × Dynamic)) (i : Dynamic) → ((t : Text) → i ≡ dynamic.Str t → ⊥) → IsIndexed (value_of (dynamic.Map es)) (value_of i) (indexed.AsksHost i)
-asks_map es i h c next = ap (λ v. index c v (value_of i) next) (value_of-Map es) ∙ map_asks (fields (members_of es)) (value_of i) c next (is_no_text i h) ∙ ap (λ v. asks c v (value_of i) next) (sym (value_of-Map es))
+pub asks_map : (es : List (Text × Dynamic)) (i : Dynamic) → NoText i → IsIndexed (value_of (dynamic.Map es)) (value_of i) (indexed.AsksHost i)
+asks_map es i h c next = ap (λ v. index c v (value_of i) next) (value_of-Map es) ∙ map_asks (fields (members_of es)) (dynamic_cases i) h c next ∙ ap (λ v. asks c v (value_of i) next) (sym (value_of-Map es))
 
 pub asks_missing : (i : Dynamic) → IsIndexed UnitV (value_of i) (indexed.AsksHost i)
 asks_missing i c next = refl
@@ -212,50 +106,27 @@ entry_of_map es k c next = (λ j. index c (value_of-Map es j) (value_of-Str k j)
 abbrev sets : Value → Current → Value → Act
 sets w c i = set_by_host (codes "index$set$") (i ∷ w ∷ []) c
 
-plain_sets : (v i w : Value) (at : Place) (c : Current) → has_places v ≡ false → set_index w at c v i ≡ sets w c i
-plain_sets UnitV i w at c h = refl
-plain_sets (BoolV b) i w at c h = refl
-plain_sets (IntV n) i w at c h = refl
-plain_sets (CharV d) i w at c h = refl
-plain_sets (TextV t) i w at c h = refl
-plain_sets (ArrayV us) i w at c h = cc
-plain_sets (MapV gs) i w at c h = cc
-plain_sets (PointerV f us) i w at c h = refl
-plain_sets (RangeV a b) i w at c h = refl
-plain_sets (RangeInclusiveV a b) i w at c h = refl
+plain_sets : {v : Dynamic} {u : Value} → DynamicCase v u → NoArray v → NoMap v → (i w : Value) (at : Place) (c : Current) → set_index w at c u i ≡ sets w c i
+plain_sets (array_case vs) a m i w at c = absurd (a vs refl)
+plain_sets (map_case es) a m i w at c = absurd (m es refl)
+plain_sets _ a m i w at c = refl
 
-array_sets : (vs : Values) (i w : Value) (at : Place) (c : Current) → is_int i ≡ false → set_index w at c (ArrayV vs) i ≡ sets w c i
-array_sets vs UnitV w at c h = refl
-array_sets vs (BoolV b) w at c h = refl
-array_sets vs (IntV n) w at c h = cc
-array_sets vs (CharV d) w at c h = refl
-array_sets vs (TextV t) w at c h = refl
-array_sets vs (ArrayV us) w at c h = refl
-array_sets vs (MapV gs) w at c h = refl
-array_sets vs (PointerV f us) w at c h = refl
-array_sets vs (RangeV a b) w at c h = refl
-array_sets vs (RangeInclusiveV a b) w at c h = refl
+array_sets : (vs : Values) {i : Dynamic} {u : Value} → DynamicCase i u → NoInt i → (w : Value) (at : Place) (c : Current) → set_index w at c (ArrayV vs) u ≡ sets w c u
+array_sets vs (int_case n) h w at c = absurd (h n refl)
+array_sets vs _ h w at c = refl
 
-map_sets : (fs : Fields) (i w : Value) (at : Place) (c : Current) → is_text i ≡ false → set_index w at c (MapV fs) i ≡ sets w c i
-map_sets fs UnitV w at c h = refl
-map_sets fs (BoolV b) w at c h = refl
-map_sets fs (IntV n) w at c h = refl
-map_sets fs (CharV d) w at c h = refl
-map_sets fs (TextV t) w at c h = cc
-map_sets fs (ArrayV us) w at c h = refl
-map_sets fs (MapV gs) w at c h = refl
-map_sets fs (PointerV f us) w at c h = refl
-map_sets fs (RangeV a b) w at c h = refl
-map_sets fs (RangeInclusiveV a b) w at c h = refl
+map_sets : (fs : Fields) {i : Dynamic} {u : Value} → DynamicCase i u → NoText i → (w : Value) (at : Place) (c : Current) → set_index w at c (MapV fs) u ≡ sets w c u
+map_sets fs (str_case t) h w at c = absurd (h t refl)
+map_sets fs _ h w at c = refl
 
-pub sets_plain : (v i : Dynamic) → ((vs : List Dynamic) → v ≡ dynamic.Array vs → ⊥) → ((es : List (Text × Dynamic)) → v ≡ dynamic.Map es → ⊥) → IsIndexTarget (value_of v) (value_of i) (target.AsksHost i)
-sets_plain v i h0 h1 w at c = plain_sets (value_of v) (value_of i) w at c (has_no_places v h0 h1)
+pub sets_plain : (v i : Dynamic) → NoArray v → NoMap v → IsIndexTarget (value_of v) (value_of i) (target.AsksHost i)
+sets_plain v i a m w at c = plain_sets (dynamic_cases v) a m (value_of i) w at c
 
-pub sets_array : (vs : List Dynamic) (i : Dynamic) → ((n : ℤ) → i ≡ dynamic.Int n → ⊥) → IsIndexTarget (value_of (dynamic.Array vs)) (value_of i) (target.AsksHost i)
-sets_array vs i h w at c = ap (λ v. set_index w at c v (value_of i)) (value_of-Array vs) ∙ array_sets (values (map value_of vs)) (value_of i) w at c (is_no_int i h)
+pub sets_array : (vs : List Dynamic) (i : Dynamic) → NoInt i → IsIndexTarget (value_of (dynamic.Array vs)) (value_of i) (target.AsksHost i)
+sets_array vs i h w at c = ap (λ v. set_index w at c v (value_of i)) (value_of-Array vs) ∙ array_sets (values (map value_of vs)) (dynamic_cases i) h w at c
 
-pub sets_map : (es : List (Text × Dynamic)) (i : Dynamic) → ((t : Text) → i ≡ dynamic.Str t → ⊥) → IsIndexTarget (value_of (dynamic.Map es)) (value_of i) (target.AsksHost i)
-sets_map es i h w at c = ap (λ v. set_index w at c v (value_of i)) (value_of-Map es) ∙ map_sets (fields (members_of es)) (value_of i) w at c (is_no_text i h)
+pub sets_map : (es : List (Text × Dynamic)) (i : Dynamic) → NoText i → IsIndexTarget (value_of (dynamic.Map es)) (value_of i) (target.AsksHost i)
+sets_map es i h w at c = ap (λ v. set_index w at c v (value_of i)) (value_of-Map es) ∙ map_sets (fields (members_of es)) (dynamic_cases i) h w at c
 
 pub sets_missing : (i : Dynamic) → IsIndexTarget UnitV (value_of i) (target.AsksHost i)
 sets_missing i w at c = refl

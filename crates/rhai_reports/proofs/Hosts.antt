@@ -3,7 +3,7 @@ use Rattle.std.proofs.Common.{◌≡◌, ◌≢◌, ◌<◌, ◌≤◌, List, []
 use Rattle.rhai_values.specs.Value.{Value, UnitV, ArrayV, item, items, values}
 use Rattle.rhai_values.specs.declared.dynamic.Dynamic.{Dynamic}
 use Rattle.rhai_values.specs.declared.dynamic.Dynamic.TheVariants as dynamic
-use Rattle.rhai_values.specs.Reading.{value_of, value_of-Unit, value_of-Bool, value_of-Int, value_of-Char, value_of-Str, value_of-Array, value_of-Map, value_of-FnPtr, value_of-Range, value_of-RangeInclusive, DynamicCase, unit_case, bool_case, int_case, char_case, str_case, array_case, map_case, fn_ptr_case, range_case, range_inclusive_case, dynamic_cases}
+use Rattle.rhai_values.specs.Reading.{value_of, value_of-Unit, value_of-Array, DynamicCase, array_case, dynamic_cases}
 use Rattle.rhai_meaning.specs.Act.{Answers}
 use Rattle.rhai_reports.specs.Host.{joined_texts, pushed, appended, unit_alone}
 
@@ -38,17 +38,9 @@ appended_item r x y xs ys is more same =
     rw (is, more, same, value_of-Unit, value_of-Array (xs ++ x ∷ []), value_of-Array xs) (ap (λ vs. Answers UnitV (Some (ArrayV vs))) (appended_items xs x))
 
 -- there are no items but those of an array
-appended_by : {r : Dynamic} → DynamicCase r → ((xs : List Dynamic) → r ≢ dynamic.Array xs) → (x : Value) → unit_alone ≡ appended (value_of r) x
-appended_by unit_case h x = rw value_of-Unit refl
-appended_by (bool_case b) h x = rw (value_of-Bool b) refl
-appended_by (int_case n) h x = rw (value_of-Int n) refl
-appended_by (char_case c) h x = rw (value_of-Char c) refl
-appended_by (str_case t) h x = rw (value_of-Str t) refl
+appended_by : {r : Dynamic} {w : Value} → DynamicCase r w → ((xs : List Dynamic) → r ≢ dynamic.Array xs) → (x : Value) → unit_alone ≡ appended w x
 appended_by (array_case xs) h x = absurd (h xs refl)
-appended_by (map_case es) h x = rw (value_of-Map es) refl
-appended_by (fn_ptr_case p) h x = rw (value_of-FnPtr p) refl
-appended_by (range_case a b) h x = rw (value_of-Range a b) refl
-appended_by (range_inclusive_case a b) h x = rw (value_of-RangeInclusive a b) refl
+appended_by _ h x = refl
 
 pub appended_none : (r : Dynamic) → ((xs : List Dynamic) → r ≢ dynamic.Array xs) → (x : Value) → unit_alone ≡ appended (value_of r) x
 appended_none r h x = appended_by (dynamic_cases r) h x

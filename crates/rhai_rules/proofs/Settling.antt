@@ -1,5 +1,5 @@
 -- Nodes that are settled, and nodes that fold to a value.
-use Rattle.std.proofs.Common.{◌≡◌, Bool, true, false, not, ◌&&◌, List, Option, Some, None, is_some, Result, Ok, Err, IfOk, OnOk, refl, sym, subst, inl}
+use Rattle.std.proofs.Common.{◌≡◌, Bool, true, false, not, ◌&&◌, List, Option, Some, None, is_some, refl, sym, subst, inl}
 use Rattle.rhai_values.specs.Value.{Value, ArrayV, values}
 use Rattle.rhai_meaning.specs.Constants.{array_value, constant_bool, constant_for, constant_values, literal_value}
 use Rattle.rhai_meaning.specs.Engine.{Engine, or_else}
@@ -75,6 +75,13 @@ expr_fired_as {d' = d'} {e' = e'} x r k = subst (λ a. ExprFired k d' a e') (sym
 pub stmt_fired_as : {w d' : Bool} {s s1 s' : Stmt} → s ≡ s1 → ((k : Context) → StmtFired k w d' s1 s') → (k : Context) → StmtFired k w d' s s'
 stmt_fired_as {w = w} {d' = d'} {s' = s'} x r k = subst (λ a. StmtFired k w d' a s') (sym x) (r k)
 
+-- what was taken out was rewritten, and put back
+pub expr_replaced : {d' : Bool} {e e1 e2 e' : Expr} → e1 ≡ e → e' ≡ e2 → ((k : Context) → ExprFired k d' e1 e2) → (k : Context) → ExprFired k d' e e'
+expr_replaced {d' = d'} {e1 = e1} {e' = e'} x y r k = subst (λ a. ExprFired k d' a e') x (subst (λ b. ExprFired k d' e1 b) (sym y) (r k))
+
+pub stmt_replaced : {w d' : Bool} {s s1 s2 s' : Stmt} → s1 ≡ s → s' ≡ s2 → ((k : Context) → StmtFired k w d' s1 s2) → (k : Context) → StmtFired k w d' s s'
+stmt_replaced {w = w} {d' = d'} {s1 = s1} {s' = s'} x y r k = subst (λ a. StmtFired k w d' a s') x (subst (λ b. StmtFired k w d' s1 b) (sym y) (r k))
+
 -- ---- a step, whatever names are known
 
 -- the constant for a value took the place of a node that folds to it
@@ -89,9 +96,3 @@ expr_rewritten fired known = inl (fired _)
 
 pub stmt_rewritten : {engine : Engine} {w d d' : Bool} {s s' : Stmt} → ((k : Context) → StmtFired k w d' s s') → (known : List Known) → StmtStep (knowing engine known) w d d' s s'
 stmt_rewritten fired known = inl (fired _)
-
--- ---- what was made is put in a node's place
-
-pub put_as : {A U E : Type 0} (P : A → Type 0) (Q : A → Type 0) (new : A) (made : Result A E) (put : Result U E) → IfOk made Q → OnOk put (made ≡ Ok new) → (Q new → P new) → OnOk put (P new)
-put_as P Q new made (Ok u) h p f = f (subst (λ m. IfOk m Q) p h)
-put_as P Q new made (Err e) h p f = tt

@@ -41,7 +41,6 @@ impl Drop for AST {
 impl Clone for AST {
     ghost is_clone = { λ s t. contents t ≡ contents s };
 
-    #[tactic(auto, using(rhai_tree::proofs::Copies::copies))]
     fn clone(&self) -> Result<AST, AllocError> {
         let source = self.source.clone()?;
         let doc = self.doc.clone()?;

@@ -3,21 +3,23 @@ use Rattle.std.proofs.Common.{◌≡◌, ℕ, suc, ◌≤◌, ◌<◌, ℤ, pos,
 use Rattle.std.proofs.lemmas.Int.{ints}
 use Rattle.rhai_values.specs.declared.dynamic.Dynamic.{Dynamic}
 use Rattle.rhai_values.specs.declared.dynamic.Dynamic.TheVariants as value
-use Rattle.rhai_values.specs.Reading.{value_of, value_of-Array, value_of-Range, value_of-RangeInclusive, value_of-Unit}
+use Rattle.rhai_values.specs.Reading.{value_of, value_of-Array, value_of-Range, value_of-RangeInclusive, value_of-Unit, DynamicCase, array_case, range_case, range_inclusive_case, dynamic_cases}
 use Rattle.rhai_values.specs.Value.{Text, Value, UnitV, IntV, ArrayV, items, values}
 use Rattle.rhai_meaning.specs.Desugar.{core_expr}
-use Rattle.rhai_meaning.specs.Act.{Acts, Named, Act, Then}
+use Rattle.rhai_meaning.specs.Act.{Acts, Named, Act, Fail, Then, WrongKind}
 use Rattle.rhai_meaning.specs.ActForms.{again_then, ◌>>=◌}
 use Rattle.rhai_meaning.specs.Control.{counted, for_all, for_count, for_each, round, size}
 use Rattle.rhai_meaning.specs.Meaning.{act}
 use Rattle.rhai_meaning.specs.Tree as tree
 use Rattle.rhai_state.specs.declared.state.Interrupt.{Interrupt}
+use Rattle.rhai_state.specs.declared.state.Interrupt.TheVariants.{Stuck}
 use Rattle.rhai_state.specs.declared.state.State.{State}
+use Rattle.rhai_host.specs.declared.report.Stuck.TheVariants as why
 use Rattle.rhai_state.specs.Evaluating.{RunsCounted, RunsExpr, RunsList, RunsRound}
 use Rattle.rhai_state.specs.Exits.{count_of, round_of}
 use Rattle.rhai_state.specs.Runs.{Setting, Acting, Goes, Stops, Runs, given}
 use Rattle.rhai_state.specs.State.{named_in, store_of, TakesTurn}
-use Rattle.rhai_state.proofs.Goes.{gives, goes_as, goes_then, leads_then, stops_then, named_goes, scoped_leads, value_goes, Cut}
+use Rattle.rhai_state.proofs.Goes.{gives, goes_as, goes_then, leads_then, stops_then, named_goes, scoped_leads, stuck_here, value_goes, Cut}
 use Rattle.rhai_state.proofs.Loops.{round_runs}
 use Rattle.rhai_state.proofs.Rounds.{again_stops, again_goes, again_ends}
 
@@ -115,6 +117,15 @@ module _ (here : Setting) where
 
       over : (w : Value) → value_of v ≡ w → Goes here (Acting for_act) s (Acting (for_all x c p w)) s1
       over w h = goes_then here (value_goes here (λ u. for_all x c p u) q) (goes_as here _ _ s1 (ap (λ u. Acting (for_all x c p u)) h))
+
+      other_kind : {u : Dynamic} {w : Value} → DynamicCase u w → ((vs : List Dynamic) → u ≡ value.Array vs → ⊥) → ((a b : ℤ) → u ≡ value.Range a b → ⊥) → ((a b : ℤ) → u ≡ value.RangeInclusive a b → ⊥) → for_all x c p w ≡ Fail WrongKind
+      other_kind (array_case vs) h f g = absurd (h vs refl)
+      other_kind (range_case a b) h f g = absurd (f a b refl)
+      other_kind (range_inclusive_case a b) h f g = absurd (g a b refl)
+      other_kind _ h f g = refl
+
+      pub for_other : ((vs : List Dynamic) → v ≡ value.Array vs → ⊥) → ((a b : ℤ) → v ≡ value.Range a b → ⊥) → ((a b : ℤ) → v ≡ value.RangeInclusive a b → ⊥) → Runs here (Acting for_act) s (Err (Stuck why.WrongKind)) s1
+      for_other h f g = stops_then here s1 (Stuck why.WrongKind) (over (value_of v) refl) (stuck_here here _ s1 (other_kind (dynamic_cases v) h f g))
 
       pub for_array : (items : List Dynamic) → v ≡ value.Array items → Runs here (Acting (each_of 0 items)) s1 r s2 → Runs here (Acting for_act) s r s2
       for_array items h k = leads_then here s2 r (λ u. given (value_of u)) (goes_then here (over _ (ap value_of h ∙ value_of-Array items)) (array_goes items s1)) k

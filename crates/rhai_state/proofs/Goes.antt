@@ -5,12 +5,14 @@ use Rattle.std.proofs.lemmas.Option.{IfSome_then}
 use Rattle.rhai_values.specs.declared.dynamic.Dynamic.{Dynamic}
 use Rattle.rhai_values.specs.Reading.{value_of}
 use Rattle.rhai_values.specs.Value.{Text, Value}
-use Rattle.rhai_meaning.specs.Act.{ScopeEntry, Ending, Gives, Halt, IsStuck, WrongKind, OutOfTurns, Outcome, Ended, Halted, At, Act, Turn, Then, Acts, Scoped, and_then, leave, restore, with_turn, run, run_all}
+use Rattle.rhai_meaning.specs.Act.{ScopeEntry, Ending, Gives, Halt, IsStuck, WrongKind, OutOfTurns, Outcome, Ended, Halted, At, Act, Fail, Turn, Then, Acts, Scoped, and_then, leave, restore, with_turn, run, run_all}
 use Rattle.rhai_meaning.specs.ActForms.{give, value_then, each_value, ◌>>=◌, then_line, branch, choose, if_true, truth}
 use Rattle.rhai_meaning.specs.Control.{named}
 use Rattle.rhai_meaning.specs.Run.{reversed}
 use Rattle.rhai_state.specs.declared.state.Interrupt.{Interrupt}
+use Rattle.rhai_state.specs.declared.state.Interrupt.TheVariants.{Stuck}
 use Rattle.rhai_state.specs.declared.state.State.{State}
+use Rattle.rhai_host.specs.declared.report.Stuck.TheVariants as why
 use Rattle.rhai_host.specs.Entries.{variable_meant}
 use Rattle.rhai_state.specs.Evaluating.{or_stuck}
 use Rattle.rhai_host.specs.Host.{call_meant}
@@ -45,6 +47,10 @@ module _ (here : Setting) where
   -- an end by its kind
   pub stops_by : (f : Task) (s s1 : State) (x : Interrupt) (p : runs.Stop) → stop_of x ≡ Some p → Goes here f s (Over (stopped p)) s1 → Stops here f s x s1
   stops_by f s s1 x p e q = subst (λ o. IfSome o (λ h. Goes here f s (Over (stopped h)) s1)) (sym e) q
+
+  -- a value of a kind that does not serve
+  pub stuck_here : (a : Act) (s : State) → a ≡ Fail WrongKind → Stops here (Acting a) s (Stuck why.WrongKind) s
+  stuck_here a s e = goes_then (goes_as (Acting a) (Acting (Fail WrongKind)) s (ap Acting e)) (record { turns = omega arith; runs = λ d le. refl })
 
   -- ---- an act, and what comes after it
 

@@ -80,33 +80,36 @@ pub value_of-RangeInclusive : (a b : ℤ) → value_of (dynamic.RangeInclusive a
 unfolding value_of
 value_of-RangeInclusive a b = ap value_of (sym (dynamic.rolls-RangeInclusive a b)) ∙ folds.fold-roll-Dynamic Value PointerParts value_step pointer_step (open_one.RangeInclusive a b)
 
--- which kind a value is
-pub data DynamicCase : Dynamic → Type 0 where
-  unit_case : DynamicCase dynamic.Unit
-  bool_case : (b : Bool) → DynamicCase (dynamic.Bool b)
-  int_case : (n : ℤ) → DynamicCase (dynamic.Int n)
-  char_case : (c : ℕ) → DynamicCase (dynamic.Char c)
-  str_case : (t : Text) → DynamicCase (dynamic.Str t)
-  array_case : (vs : List Dynamic) → DynamicCase (dynamic.Array vs)
-  map_case : (es : List (Text × Dynamic)) → DynamicCase (dynamic.Map es)
-  fn_ptr_case : (p : FnPtr) → DynamicCase (dynamic.FnPtr p)
-  range_case : (a b : ℤ) → DynamicCase (dynamic.Range a b)
-  range_inclusive_case : (a b : ℤ) → DynamicCase (dynamic.RangeInclusive a b)
+-- which kind a value is, with what it stands for
+pub data DynamicCase : Dynamic → Value → Type 0 where
+  unit_case : DynamicCase dynamic.Unit UnitV
+  bool_case : (b : Bool) → DynamicCase (dynamic.Bool b) (BoolV b)
+  int_case : (n : ℤ) → DynamicCase (dynamic.Int n) (IntV n)
+  char_case : (c : ℕ) → DynamicCase (dynamic.Char c) (CharV c)
+  str_case : (t : Text) → DynamicCase (dynamic.Str t) (TextV t)
+  array_case : (vs : List Dynamic) → DynamicCase (dynamic.Array vs) (ArrayV (values (map value_of vs)))
+  map_case : (es : List (Text × Dynamic)) → DynamicCase (dynamic.Map es) (MapV (fields (members_of es)))
+  fn_ptr_case : (p : FnPtr) → DynamicCase (dynamic.FnPtr p) (PointerV p.name (values (map value_of p.curried)))
+  range_case : (a b : ℤ) → DynamicCase (dynamic.Range a b) (RangeV a b)
+  range_inclusive_case : (a b : ℤ) → DynamicCase (dynamic.RangeInclusive a b) (RangeInclusiveV a b)
 
-rolled : (x : open_one.Dynamic-F Dynamic FnPtr) → DynamicCase (views.roll-Dynamic x)
-rolled open_one.Unit = subst DynamicCase (sym dynamic.rolls-Unit) unit_case
-rolled (open_one.Bool b) = subst DynamicCase (sym (dynamic.rolls-Bool b)) (bool_case b)
-rolled (open_one.Int n) = subst DynamicCase (sym (dynamic.rolls-Int n)) (int_case n)
-rolled (open_one.Char c) = subst DynamicCase (sym (dynamic.rolls-Char c)) (char_case c)
-rolled (open_one.Str t) = subst DynamicCase (sym (dynamic.rolls-Str t)) (str_case t)
-rolled (open_one.Array vs) = subst DynamicCase (sym (dynamic.rolls-Array vs)) (array_case vs)
-rolled (open_one.Map es) = subst DynamicCase (sym (dynamic.rolls-Map es)) (map_case es)
-rolled (open_one.FnPtr p) = subst DynamicCase (sym (dynamic.rolls-FnPtr p)) (fn_ptr_case p)
-rolled (open_one.Range a b) = subst DynamicCase (sym (dynamic.rolls-Range a b)) (range_case a b)
-rolled (open_one.RangeInclusive a b) = subst DynamicCase (sym (dynamic.rolls-RangeInclusive a b)) (range_inclusive_case a b)
+case_as : {x y : Dynamic} {v : Value} → x ≡ y → value_of y ≡ v → DynamicCase y v → DynamicCase x (value_of x)
+case_as {y = y} i j c = subst (λ z. DynamicCase z (value_of z)) (sym i) (subst (DynamicCase y) (sym j) c)
 
-pub dynamic_cases : (v : Dynamic) → DynamicCase v
-dynamic_cases v = subst DynamicCase (views.roll-out-Dynamic v) (rolled (views.out-Dynamic v))
+rolled : (x : open_one.Dynamic-F Dynamic FnPtr) → DynamicCase (views.roll-Dynamic x) (value_of (views.roll-Dynamic x))
+rolled open_one.Unit = case_as dynamic.rolls-Unit value_of-Unit unit_case
+rolled (open_one.Bool b) = case_as (dynamic.rolls-Bool b) (value_of-Bool b) (bool_case b)
+rolled (open_one.Int n) = case_as (dynamic.rolls-Int n) (value_of-Int n) (int_case n)
+rolled (open_one.Char c) = case_as (dynamic.rolls-Char c) (value_of-Char c) (char_case c)
+rolled (open_one.Str t) = case_as (dynamic.rolls-Str t) (value_of-Str t) (str_case t)
+rolled (open_one.Array vs) = case_as (dynamic.rolls-Array vs) (value_of-Array vs) (array_case vs)
+rolled (open_one.Map es) = case_as (dynamic.rolls-Map es) (value_of-Map es) (map_case es)
+rolled (open_one.FnPtr p) = case_as (dynamic.rolls-FnPtr p) (value_of-FnPtr p) (fn_ptr_case p)
+rolled (open_one.Range a b) = case_as (dynamic.rolls-Range a b) (value_of-Range a b) (range_case a b)
+rolled (open_one.RangeInclusive a b) = case_as (dynamic.rolls-RangeInclusive a b) (value_of-RangeInclusive a b) (range_inclusive_case a b)
+
+pub dynamic_cases : (v : Dynamic) → DynamicCase v (value_of v)
+dynamic_cases v = subst (λ w. DynamicCase w (value_of w)) (views.roll-out-Dynamic v) (rolled (views.out-Dynamic v))
 
 -- the equations by which the checker reads a declared value
 pub ruleset kinds = (

@@ -45,6 +45,7 @@ pub enum Dynamic {
 /// Written by hand, so that it is proved here alone. So a value is looked at where it stands, and taken apart by its calls.
 impl Drop for Dynamic {
     #[cycle(let_go)]
+    #[inline(always)]
     fn drop(self) {
         match self {
             Dynamic::Unit | Dynamic::Bool(_) | Dynamic::Int(_) | Dynamic::Char(_) => {}

@@ -1,12 +1,14 @@
 -- Ends of walks over paths one after another, and below a node.
-use Rattle.std.proofs.Common.{◌≡◌, Bool, true, false, IsErr, List, [], ◌∷◌, ◌++◌, ℕ, ◌-◌, length, take, map, Result, Ok, Err, refl, sym, ap, subst, ◌∙◌, append_assoc, arith}
+use Rattle.std.proofs.Common.{◌≡◌, Bool, true, false, IsErr, IsErrAnd, List, [], ◌∷◌, ◌++◌, ℕ, ◌-◌, length, take, map, Result, Ok, Err, refl, sym, ap, subst, ◌∙◌, append_assoc, arith}
 use Rattle.std.proofs.lemmas.List.{append-nil, length-append}
 use Rattle.std.proofs.Math.Seq.{take-append_seam}
 use Rattle.std.specs.Borrow.{Bor}
 use Rattle.std.specs.Fn.{Mut, CalledAt}
 use Rattle.rhai_meaning.specs.Paths.{Path}
 use Rattle.rhai_walk.specs.declared.node.ASTNode.{ASTNode}
-use Rattle.rhai_walk.specs.Walking.{node_of, Asked, Agrees, Finished, Refused, Short, Ends, Walks}
+use Rattle.rhai_walk.specs.declared.stop.Stop.{Stop}
+use Rattle.rhai_walk.specs.declared.stop.Stop.TheVariants as stop
+use Rattle.rhai_walk.specs.Walking.{node_of, ended, Asked, Agrees, Finished, Refused, Short, Ends, Walks, Enters}
 
 map-append : {A B : Type 0} (h : A → B) (xs ys : List A) → map h (xs ++ ys) ≡ map h xs ++ map h ys
 map-append h [] ys = refl
@@ -61,10 +63,10 @@ module _ {F : Type 0} (g : Mut F (Bor (List ASTNode) × Unit {0}) Bool) where
         is_left = c.is_left;
       }
 
-  pub walks-then : {E : Type 0} (front : List ASTNode) (r : Result Bool E) (f : F) (ps : List Path) (m : F) (here : List ASTNode) (qs : List Path) (last : F) (left : List ASTNode) → Finished g front f ps m here → Walks g here r m qs last left → Walks g front r f (ps ++ qs) last left
-  walks-then front (Ok true) f ps m here qs last left a b = finished-then front f ps m here qs last left a b
-  walks-then front (Ok false) f ps m here qs last left a b = refused-then front f ps m here qs last left a b
-  walks-then front (Err e) f ps m here qs last left a b = short-then front f ps m here qs last left a b
+  pub walks-then : {E : Type 0} {front : List ASTNode} {f : F} {ps : List Path} {m : F} {here : List ASTNode} (r : Result Bool E) (qs : List Path) (last : F) (left : List ASTNode) → Finished g front f ps m here → Walks g here r m qs last left → Walks g front r f (ps ++ qs) last left
+  walks-then {E} {front} {f} {ps} {m} {here} (Ok true) qs last left a b = finished-then front f ps m here qs last left a b
+  walks-then {E} {front} {f} {ps} {m} {here} (Ok false) qs last left a b = refused-then front f ps m here qs last left a b
+  walks-then {E} {front} {f} {ps} {m} {here} (Err e) qs last left a b = short-then front f ps m here qs last left a b
 
   pub refused-stops : (front : List ASTNode) (f : F) (ps qs : List Path) (last : F) (left : List ASTNode) → Refused g front f ps last left → Refused g front f (ps ++ qs) last left
   refused-stops front f ps qs last left c =
@@ -239,30 +241,7 @@ module _ {F : Type 0} (g : Mut F (Bor (List ASTNode) × Unit {0}) Bool) where
     first_refuses b last left e h = refused-stops g front f ps qs last left (by_false front b f ps last left e h)
 
     pub first_agrees : {E : Type 0} (b : Bool) (m : F) (here : List ASTNode) (r : Result Bool E) (last : F) (left : List ASTNode) → b ≡ true → Ends g front b f ps m here → Walks g here r m qs last left → Walks g front r f (ps ++ qs) last left
-    first_agrees b m here r last left e a h = walks-then g front r f ps m here qs last left (by_true front b f ps m here e a) h
-
-  -- a node, and the walk below it
-  module _ (front : List ASTNode) (n : ASTNode) (f : F) (ps : List Path) where
-    pub enters_short : {E : Type 0} (r : Result Bool E) (last : F) (left : List ASTNode) → IsErr r → (last ≡ f) × (left ≡ front) → Walks g front r f (below n ps) last left
-    enters_short r last left e h = by_err front r f (below n ps) last left e (no_room g front n f ps last left h)
-
-    pub enters_refused : (b : Bool) (last : F) (left : List ASTNode) → b ≡ false → CalledAt g f (front ++ n ∷ []) b last × (left ≡ front ++ n ∷ []) → Refused g front f (below n ps) last left
-    enters_refused b last left e h = refused-at g front n f ps last left (subst (λ (a : Bool). CalledAt g f (front ++ n ∷ []) a last × (left ≡ front ++ n ∷ [])) e h)
-
-    module _ (b : Bool) (m : F) (here : List ASTNode) (agreed : b ≡ true) (entered : CalledAt g f (front ++ n ∷ []) b m × (here ≡ front ++ n ∷ [])) where
-      shown_here : CalledAt g f (front ++ n ∷ []) true m × (here ≡ front ++ n ∷ [])
-      shown_here = subst (λ (a : Bool). CalledAt g f (front ++ n ∷ []) a m × (here ≡ front ++ n ∷ [])) agreed entered
-
-      pub parts_short : {E : Type 0} (r : Result Bool E) (last : F) (left : List ASTNode) → IsErr r → Short g here m ps last left → Walks g front r f (below n ps) last left
-      parts_short r last left e h = by_err front r f (below n ps) last left e (short-below g front n f m here ps last left shown_here h)
-
-      pub parts_refuse : (c : Bool) (last : F) (left : List ASTNode) → c ≡ false → Ends g here c m ps last left → Refused g front f (below n ps) last left
-      parts_refuse c last left e h = refused-below g front n f m here ps last left shown_here (by_false here c m ps last left e h)
-
-      pub parts_agree : (c : Bool) (last : F) (left popped : List ASTNode) (size : ℕ) → c ≡ true → Ends g here c m ps last left → size ≡ length left → popped ≡ take (size - 1) left → Finished g front f (below n ps) last popped
-      parts_agree c last left popped size e h sized taken =
-          let a = by_true here c m ps last left e h in
-          finished-below g front n f m here ps last left popped shown_here a (without_last front left popped n size (a.restored ∙ entered.1) sized taken)
+    first_agrees b m here r last left e a h = walks-then g r qs last left (by_true front b f ps m here e a) h
 
   -- a part of those that are left
   module _ (front : List ASTNode) (f : F) (all : List Path) (here : List ASTNode) (now : F) (rest : List Path) (so_far : Partly g front f all here now rest) (ps qs : List Path) (are : rest ≡ ps ++ qs) where
@@ -275,4 +254,46 @@ module _ {F : Type 0} (g : Mut F (Bor (List ASTNode) × Unit {0}) Bool) where
     pub next_agrees : (b : Bool) (last : F) (left : List ASTNode) → b ≡ true → Ends g here b now ps last left → Partly g front f all left last qs
     next_agrees b last left e h = partly-next g front f all here now rest so_far ps qs are last left (by_true here b now ps last left e h)
 
-pub ruleset outcomes = (nothing, walks-then, refused-stops, short-stops, no_room, refused-at, finished-below, refused-below, short-below)
+-- ---- by the ends of the recursion
+
+same_end : (r : Result Unit Stop) (e : Stop) → IsErrAnd r (λ (y : Stop). y ≡ e) → r ≡ Err e
+same_end (Ok u) e h = absurd h
+same_end (Err y) e h = ap (λ (x : Stop). Err x) h
+
+module _ {F : Type 0} (g : Mut F (Bor (List ASTNode) × Unit {0}) Bool) where
+  -- what stops the walk over the first paths stops that over all
+  stops : (e : Stop) (front : List ASTNode) (f : F) (ps qs : List Path) (last : F) (left : List ASTNode) → Walks g front (ended (Err e)) f ps last left → Walks g front (ended (Err e)) f (ps ++ qs) last left
+  stops stop.Refused front f ps qs last left h = refused-stops g front f ps qs last left h
+  stops (stop.OutOfMemory e) front f ps qs last left h = short-stops g front f ps qs last left h
+
+  enter_stops_at : (e : Stop) (front : List ASTNode) (n : ASTNode) (f : F) (ps : List Path) (last : F) (left : List ASTNode) → Enters g front (ended (Err e)) f n last left → Walks g front (ended (Err e)) f (below n ps) last left
+  enter_stops_at stop.Refused front n f ps last left h = refused-at g front n f ps last left h
+  enter_stops_at (stop.OutOfMemory e) front n f ps last left h = no_room g front n f ps last left h
+
+  parts_stop_at : (e : Stop) (front : List ASTNode) (n : ASTNode) (f m : F) (here : List ASTNode) (ps : List Path) (last : F) (left : List ASTNode) → CalledAt g f (front ++ n ∷ []) true m × (here ≡ front ++ n ∷ []) → Walks g here (ended (Err e)) m ps last left → Walks g front (ended (Err e)) f (below n ps) last left
+  parts_stop_at stop.Refused front n f m here ps last left entered h = refused-below g front n f m here ps last left entered h
+  parts_stop_at (stop.OutOfMemory e) front n f m here ps last left entered h = short-below g front n f m here ps last left entered h
+
+  -- as the `?` passes on what stopped the walk
+  module _ (r : Result Unit Stop) (e : Stop) (passed : IsErrAnd r (λ (y : Stop). y ≡ e)) where
+    pub first_stops : (front : List ASTNode) (f : F) (ps qs : List Path) (last : F) (left : List ASTNode) → Walks g front (ended (Err e)) f ps last left → Walks g front (ended r) f (ps ++ qs) last left
+    first_stops front f ps qs last left h = rw (same_end r e passed) (stops e front f ps qs last left h)
+
+    pub enter_stops : (front : List ASTNode) (n : ASTNode) (f : F) (ps : List Path) (last : F) (left : List ASTNode) → Enters g front (ended (Err e)) f n last left → Walks g front (ended r) f (below n ps) last left
+    enter_stops front n f ps last left h = rw (same_end r e passed) (enter_stops_at e front n f ps last left h)
+
+    pub parts_stop : {f m : F} {here : List ASTNode} (front : List ASTNode) (n : ASTNode) (ps : List Path) (last : F) (left : List ASTNode) → CalledAt g f (front ++ n ∷ []) true m × (here ≡ front ++ n ∷ []) → Walks g here (ended (Err e)) m ps last left → Walks g front (ended r) f (below n ps) last left
+    parts_stop {f} {m} {here} front n ps last left entered h = rw (same_end r e passed) (parts_stop_at e front n f m here ps last left entered h)
+
+    pub next_stops : {front : List ASTNode} {f : F} {all : List Path} {here : List ASTNode} {now : F} {rest : List Path} (ps qs : List Path) (last : F) (left : List ASTNode) → Partly g front f all here now rest → rest ≡ ps ++ qs → Walks g here (ended (Err e)) now ps last left → Walks g front (ended r) f all last left
+    next_stops {front} {f} {all} {here} {now} {rest} ps qs last left so_far are h =
+        let all_are : all ≡ so_far.before ++ (ps ++ qs) = so_far.are ∙ ap (λ rest. so_far.before ++ rest) are in
+        subst (λ l. Walks g front (ended r) f l last left) (sym all_are) (walks-then g (ended r) (ps ++ qs) last left so_far.finished (first_stops here now ps qs last left h))
+
+  pub next_seen : {front : List ASTNode} {f : F} {all : List Path} {here : List ASTNode} {now : F} {rest ps qs : List Path} {last : F} {left : List ASTNode} → Partly g front f all here now rest → rest ≡ ps ++ qs → Finished g here now ps last left → Partly g front f all left last qs
+  next_seen {front} {f} {all} {here} {now} {rest} {ps} {qs} {last} {left} so_far are h = partly-next g front f all here now rest so_far ps qs are last left h
+
+  -- a node whose parts were all seen
+  pub parts_seen : {front : List ASTNode} {f m : F} {here : List ASTNode} {ps : List Path} {last : F} {left popped : List ASTNode} {size : ℕ} (n : ASTNode) → CalledAt g f (front ++ n ∷ []) true m × (here ≡ front ++ n ∷ []) → Finished g here m ps last left → size ≡ length left → popped ≡ take (size - 1) left → Finished g front f (below n ps) last popped
+  parts_seen {front} {f} {m} {here} {ps} {last} {left} {popped} {size} n entered h sized taken =
+      finished-below g front n f m here ps last left popped entered h (without_last front left popped n size (h.restored ∙ entered.1) sized taken)

@@ -2,11 +2,14 @@
 use Rattle.std.specs.Prelude.{◌≡◌, ◌++◌, Bool, true, false, List, [], ◌∷◌, map, Result, Ok, Err}
 use Rattle.std.specs.Borrow.{Bor}
 use Rattle.std.specs.Fn.{Mut, CalledAt}
+use Rattle.rhai_tokens.specs.declared.error.OutOfMemory.{OutOfMemory}
 use Rattle.rhai_meaning.specs.Paths.{Path}
 use Rattle.rhai_meaning.specs.Walk.{Node, OfExpr, OfStmt}
 use Rattle.rhai_reading.specs.Reading.{expr_of, stmt_of}
 use Rattle.rhai_walk.specs.declared.node.ASTNode.{ASTNode}
 use Rattle.rhai_walk.specs.declared.node.ASTNode.TheVariants as node
+use Rattle.rhai_walk.specs.declared.stop.Stop.{Stop}
+use Rattle.rhai_walk.specs.declared.stop.Stop.TheVariants as stop
 
 -- the node that is lent
 abbrev pub node_of : ASTNode → Node
@@ -15,6 +18,12 @@ node_of (node.Expr e) = OfExpr (expr_of e.now)
 
 abbrev pub path_of : List ASTNode → Path
 path_of nodes = map node_of nodes
+
+-- what a caller is told of a walk that ended so
+abbrev pub ended : Result Unit Stop → Result Bool OutOfMemory
+ended (Ok u) = Ok true
+ended (Err stop.Refused) = Ok false
+ended (Err (stop.OutOfMemory e)) = Err e
 
 -- paths are those below the front, the path on which the walk begins
 module _ {F : Type 0} (g : Mut F (Bor (List ASTNode) × Unit {0}) Bool) (front : List ASTNode) where

@@ -2,6 +2,7 @@
 #![tactic(auto)]
 
 mod node;
+mod stop;
 mod walk;
 
 pub use node::ASTNode;

@@ -11,10 +11,10 @@ abbrev pub decreases-flatten_statement : goal.decreases-flatten_statement
 decreases-flatten_statement l = 3 * stmt_weight (stmt_of l.statement)
 
 abbrev pub decreases-flatten_statements : goal.decreases-flatten_statements
-decreases-flatten_statements l = 3 * weight (stmts_of l.statements) + 1
+decreases-flatten_statements l = 3 * weight (stmts_of l.rest.statements) + 1
 
 abbrev pub invariant-flatten_statements-loop-statement : goal.invariant-flatten_statements-loop-statement
-invariant-flatten_statements-loop-statement l = MovesSoFar l.is_wanted l.initial.state.is_dirty l.state.is_dirty l.initial.rest l.rest (stmts_of l.initial.done) (stmts_of l.done)
+invariant-flatten_statements-loop-statement l = MovesSoFar l.is_wanted l.initial.state.is_dirty l.state.is_dirty l.initial.rest.statements l.rest.statements (stmts_of l.initial.done) (stmts_of l.done)
 
 abbrev pub decreases-flatten_statements-loop-statement : goal.decreases-flatten_statements-loop-statement
-decreases-flatten_statements-loop-statement l = length l.rest
+decreases-flatten_statements-loop-statement l = length l.rest.statements

@@ -15,4 +15,4 @@ returns-then-is_settled_expr c = λ known.
     no_rule_at_expr (settled_expr (engine_of c.args.info.now) _ (sym c.if-is_settled_expr.ensures) (sym (ap (option_map value_of) c.in_default.is) ∙ c.in_ok-value.ensures))
 
 pub returns : goal.returns
-returns c = on_ok_weaker _ expr_rewritten c.rewrite_expr.ensures
+returns c = expr_rewritten c.rewrite_expr.ensures

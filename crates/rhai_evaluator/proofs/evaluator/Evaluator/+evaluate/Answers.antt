@@ -42,7 +42,7 @@ use Rattle.rhai_machine.proofs.Quiet.{quiet_index, quiet_property}
 use Rattle.rhai_machine.proofs.LeftSides.{part_called, part_ill, part_runs, part_stops, part_unplaced}
 use Rattle.rhai_machine.proofs.Targets.{index_changes, last_nowhere, last_plain, last_stops, last_written, read_changes, read_ends, target_applied_stops, target_last, target_more, target_stops, target_unit}
 use Rattle.rhai_machine.proofs.ByKind.{array_of_expr, block_of_stmt, braces_of_expr, call_of_expr, call_of_stmt, dot_of_expr, for_of_stmt, if_of_stmt, index_of_expr, map_of_expr, method_of_expr, property_of_expr, switch_of_stmt, text_of_expr}
-use Rattle.rhai_state.proofs.Counted.{each_ends, each_next, each_stops, for_array, for_body_runs, for_closed_range, for_range, for_round_runs, range_end, range_ends, range_next, range_start, range_stops}
+use Rattle.rhai_state.proofs.Counted.{each_ends, each_next, each_stops, for_array, for_body_runs, for_closed_range, for_other, for_range, for_round_runs, range_end, range_ends, range_next, range_start, range_stops}
 use Rattle.rhai_machine.proofs.Exits.{catch_runs, try_catches, try_ends, try_stops}
 use Rattle.rhai_machine.proofs.Nodes.{call_stuck, call_stops, call_runs, called_as}
 use Rattle.rhai_forms.proofs.Callees.{named_callee, operator_callee, qualified_callee}
@@ -512,6 +512,9 @@ for_loop-returns-in-RangeInclusive g t c =
     let from : SFits w64 c.in-RangeInclusive.from = search rules in
     let to : SFits w64 c.in-RangeInclusive.to = search rules in
     for_closed_range (setting g.H.Host.answers g.H.Host.modules c.args.self.now.machine) c.args.parts.now.0.name (counter_of c.args.parts.now.1) (body_of (setting g.H.Host.answers g.H.Host.modules c.args.self.now.machine) (stmts_of c.args.parts.now.2.body.block)) c.args.self.now.in_loop (expr_of c.args.parts.now.2.expr) c.args.state.now c.expr.new.state c.for_count-in-RangeInclusive.new.state c.in_ok-expr.field-0 c.for_count-in-RangeInclusive.result c.in_ok-expr.ensures c.in-RangeInclusive.from c.in-RangeInclusive.to c.rounds_through.result (rw (to_z-of_z w64 c.in-RangeInclusive.to to, to_z-of_z w64 c.in-RangeInclusive.from from) at c.rounds_through.ensures.size) (sym c.in-Err.ensures.0 ∙ c.in-RangeInclusive.is) (rw (to_z-of_z w64 c.in-RangeInclusive.from from) at c.for_count-in-RangeInclusive.ensures)
+
+pub for_loop-returns : goal.for_loop-returns
+for_loop-returns g t c = for_other (setting g.H.Host.answers g.H.Host.modules c.args.self.now.machine) c.args.parts.now.0.name (counter_of c.args.parts.now.1) (body_of (setting g.H.Host.answers g.H.Host.modules c.args.self.now.machine) (stmts_of c.args.parts.now.2.body.block)) c.args.self.now.in_loop (expr_of c.args.parts.now.2.expr) c.args.state.now c.expr.new.state c.expr.new.state c.in_ok-expr.field-0 (Ok c.in_ok-expr.field-0) c.in_ok-expr.ensures c.in-Err.ensures.1 (λ a b h. c.in_default.not-Range a b (c.in-Err.ensures.0 ∙ h)) (λ a b h. c.in_default.not-RangeInclusive a b (c.in-Err.ensures.0 ∙ h))
 
 pub call-returns-then-not-is_callable : goal.call-returns-then-not-is_callable
 call-returns-then-not-is_callable g t c = call_stuck (setting g.H.Host.answers g.H.Host.modules c.args.self.now.machine) c.args.self.now.in_loop c.args.call.now c.args.state.now (sym c.is_callable.ensures ∙ c.if-not-is_callable.true)
