@@ -3,17 +3,22 @@ use Rattle.std.proofs.Common.{◌≡◌, false, Option, refl}
 use Rattle.std.specs.declared.num.NonZeroU8.{NonZeroU8}
 use Rattle.std.specs.declared.num.NonZeroUsize.{NonZeroUsize}
 use Rattle.rhai_parts.specs.declared.flags.ASTFlags.{ASTFlags}
+use Rattle.rhai_parts.specs.declared.ident.Ident.{Ident}
 use Rattle.rhai_parts.specs.declared.namespace.Namespace.{Namespace}
 use Rattle.rhai_tokens.specs.declared.position.Position.{Position}
 use Rattle.rhai_tokens.specs.declared.token.Token.{Token}
 use Rattle.rhai_values.specs.Value.{Text}
+use Rattle.rhai_tree.specs.declared.block.StmtBlock.{StmtBlock}
 use Rattle.rhai_tree.specs.declared.expr.Expr as declared_expr
 use Rattle.rhai_tree.specs.declared.expr.Expr.TheVariants as expr_kind
+use Rattle.rhai_tree.specs.declared.expr.FnCallExpr.{FnCallExpr}
+use Rattle.rhai_tree.specs.declared.stmt.FlowControl.{FlowControl}
 use Rattle.rhai_tree.specs.declared.stmt.Stmt as declared_stmt
 use Rattle.rhai_tree.specs.declared.stmt.Stmt.TheVariants as stmt_kind
-use Rattle.rhai_meaning.specs.Queries.{is_control_flow_break, is_noop, is_unit, may_follow}
+use Rattle.rhai_tree.specs.declared.switch.SwitchBlock.{SwitchBlock}
+use Rattle.rhai_meaning.specs.Queries.{is_control_flow_break, is_noop, is_self_terminated, is_unit, may_follow, returns_value}
 use Rattle.rhai_meaning.specs.Tree.{Expr, Stmt}
-use Rattle.rhai_reading.proofs.Cases.{ExprCase, property_case, unit_case, variable_case, StmtCase, break_loop_case, noop_case, return_case}
+use Rattle.rhai_reading.proofs.Cases.{ExprCase, property_case, unit_case, variable_case, StmtCase, block_case, break_loop_case, call_statement_case, expression_case, for_case, if_case, noop_case, return_case, switch_case, try_catch_case, while_case}
 
 pub no_unit : {x : declared_expr.Expr} {e : Expr} → ExprCase x e → ((p : Position) → x ≡ expr_kind.Unit p → ⊥) → false ≡ is_unit e
 no_unit (unit_case p) u = absurd (u p refl)
@@ -38,3 +43,33 @@ pub no_break : {x : declared_stmt.Stmt} {s : Stmt} → StmtCase x s
 no_break (break_loop_case e k p) a b = absurd (a e k p refl)
 no_break (return_case e k p) a b = absurd (b e k p refl)
 no_break _ a b = refl
+
+pub no_value : {x : declared_stmt.Stmt} {s : Stmt} → StmtCase x s
+    → ((f : FlowControl) (p : Position) → x ≡ stmt_kind.If f p → ⊥)
+    → ((b : SwitchBlock) (p : Position) → x ≡ stmt_kind.Switch b p → ⊥)
+    → ((c : FnCallExpr) (p : Position) → x ≡ stmt_kind.FnCall c p → ⊥)
+    → ((b : StmtBlock) → x ≡ stmt_kind.Block b → ⊥)
+    → ((e : declared_expr.Expr) → x ≡ stmt_kind.Expr e → ⊥)
+    → false ≡ returns_value s
+no_value (if_case f p) i s c b e = absurd (i f p refl)
+no_value (switch_case x p) i s c b e = absurd (s x p refl)
+no_value (call_statement_case f p) i s c b e = absurd (c f p refl)
+no_value (block_case x) i s c b e = absurd (b x refl)
+no_value (expression_case x) i s c b e = absurd (e x refl)
+no_value _ i s c b e = refl
+
+pub needs_semicolon : {x : declared_stmt.Stmt} {s : Stmt} → StmtCase x s
+    → ((f : FlowControl) (p : Position) → x ≡ stmt_kind.If f p → ⊥)
+    → ((b : SwitchBlock) (p : Position) → x ≡ stmt_kind.Switch b p → ⊥)
+    → ((f : FlowControl) (p : Position) → x ≡ stmt_kind.While f p → ⊥)
+    → ((f : Ident × Option Ident × FlowControl) (p : Position) → x ≡ stmt_kind.For f p → ⊥)
+    → ((b : StmtBlock) → x ≡ stmt_kind.Block b → ⊥)
+    → ((f : FlowControl) (p : Position) → x ≡ stmt_kind.TryCatch f p → ⊥)
+    → false ≡ is_self_terminated s
+needs_semicolon (if_case f p) i s w o b t = absurd (i f p refl)
+needs_semicolon (switch_case x p) i s w o b t = absurd (s x p refl)
+needs_semicolon (while_case f p) i s w o b t = absurd (w f p refl)
+needs_semicolon (for_case f p) i s w o b t = absurd (o f p refl)
+needs_semicolon (block_case x) i s w o b t = absurd (b x refl)
+needs_semicolon (try_catch_case f p) i s w o b t = absurd (t f p refl)
+needs_semicolon _ i s w o b t = refl

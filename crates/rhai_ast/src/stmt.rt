@@ -95,49 +95,28 @@ impl StmtQueries for Stmt {
     fn returns_value(&self) -> bool
         ensures { result ≡ queries.returns_value (stmt_of self.now) }
     {
-        match self {
+        matches!(
+            self,
             Stmt::If(_, _)
-            | Stmt::Switch(_, _)
-            | Stmt::FnCall(_, _)
-            | Stmt::Block(_)
-            | Stmt::Expr(_) => true,
-            Stmt::Noop(_)
-            | Stmt::While(_, _)
-            | Stmt::Do(_, _, _)
-            | Stmt::For(_, _)
-            | Stmt::Var(_, _, _)
-            | Stmt::Assignment(_)
-            | Stmt::TryCatch(_, _)
-            | Stmt::BreakLoop(_, _, _)
-            | Stmt::Return(_, _, _)
-            | Stmt::Import(_, _)
-            | Stmt::Export(_, _)
-            | Stmt::Share(_) => false,
-        }
+                | Stmt::Switch(_, _)
+                | Stmt::FnCall(_, _)
+                | Stmt::Block(_)
+                | Stmt::Expr(_)
+        )
     }
 
     fn is_self_terminated(&self) -> bool
         ensures { result ≡ queries.is_self_terminated (stmt_of self.now) }
     {
-        match self {
+        matches!(
+            self,
             Stmt::If(_, _)
-            | Stmt::Switch(_, _)
-            | Stmt::While(_, _)
-            | Stmt::For(_, _)
-            | Stmt::Block(_)
-            | Stmt::TryCatch(_, _) => true,
-            Stmt::Noop(_)
-            | Stmt::Do(_, _, _)
-            | Stmt::Var(_, _, _)
-            | Stmt::Assignment(_)
-            | Stmt::FnCall(_, _)
-            | Stmt::Expr(_)
-            | Stmt::BreakLoop(_, _, _)
-            | Stmt::Return(_, _, _)
-            | Stmt::Import(_, _)
-            | Stmt::Export(_, _)
-            | Stmt::Share(_) => false,
-        }
+                | Stmt::Switch(_, _)
+                | Stmt::While(_, _)
+                | Stmt::For(_, _)
+                | Stmt::Block(_)
+                | Stmt::TryCatch(_, _)
+        )
     }
 
     fn options(&self) -> ASTFlags

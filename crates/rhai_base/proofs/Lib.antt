@@ -3,3 +3,4 @@ pub mod Differing
 pub mod Upward
 pub mod RangeCases
 pub mod Ranges
+pub mod Texts

@@ -8,7 +8,7 @@ use Rattle.rhai_tokens.specs.declared.token.Token.{Token}
 use Rattle.rhai_tokens.specs.declared.token.Token.TheVariants as token
 use Rattle.rhai_tokens.specs.declared.error.Fault.{Fault}
 use Rattle.rhai_tokens.specs.declared.error.Fault.TheVariants.{Arithmetic}
-use Rattle.rhai_values.specs.Value.{Value, UnitV, BoolV, IntV, CharV, TextV, RangeV, RangeInclusiveV, same_text, type_name}
+use Rattle.rhai_values.specs.Value.{Value, UnitV, BoolV, IntV, CharV, TextV, RangeV, RangeInclusiveV, is_unit, same_text, type_name}
 use Rattle.rhai_base.specs.Operators.{Operator, Plus, Minus, Multiply, Divide, Modulo, Power, ShiftLeft, ShiftRight, BitAnd, BitOr, BitXor, EqualTo, NotEqualTo, Less, LessOrEqual, Greater, GreaterOrEqual, UpTo, Through, Not, Negative, Positive, greatest, Computed, NoEntry, Is, Overflows, is_bool, on_ints, on_bools, binary, unary}
 use Rattle.rhai_values.specs.Reading.{value_of}
 
@@ -115,10 +115,6 @@ range_operator false = UpTo
 abbrev pub range_value : Bool → ℤ → ℤ → Value
 range_value true a b = RangeInclusiveV a b
 range_value false a b = RangeV a b
-
-abbrev pub is_unit : Value → Bool
-is_unit UnitV = true
-is_unit _ = false
 
 -- an end of a range, where unit stands for one that is left out
 abbrev pub end_or : ℤ → Value → Option ℤ

@@ -180,16 +180,5 @@ fn joins(op: &Token, x: &Dynamic, y: &Dynamic) -> bool
 fn is_text(value: &Dynamic) -> bool
     ensures { result ≡ is_text (value_of value.now) }
 {
-    match value {
-        Dynamic::Str(_) => true,
-        Dynamic::Char(_) => true,
-        Dynamic::Unit => false,
-        Dynamic::Bool(_) => false,
-        Dynamic::Int(_) => false,
-        Dynamic::Array(_) => false,
-        Dynamic::Map(_) => false,
-        Dynamic::FnPtr(_) => false,
-        Dynamic::Range(_, _) => false,
-        Dynamic::RangeInclusive(_, _) => false,
-    }
+    matches!(value, Dynamic::Str(_) | Dynamic::Char(_))
 }

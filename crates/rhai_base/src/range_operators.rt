@@ -3,7 +3,7 @@
 
 ghost use Rattle.std.specs.Prelude.{◌≡◌};
 ghost use Rattle.rhai_base.specs.Operators.{binary};
-ghost use Rattle.rhai_base.specs.Builtin.{answered, computed_of, end_or, is_unit, range_between, range_operator, range_value};
+ghost use Rattle.rhai_base.specs.Builtin.{answered, computed_of, end_or, range_between, range_operator, range_value};
 ghost use Rattle.rhai_values.specs.Reading.{value_of};
 
 use rhai_tokens::Fault;
@@ -23,7 +23,7 @@ pub(super) fn range_of(inclusive: bool, x: &Dynamic, y: &Dynamic) -> Option<Resu
 fn range_between(inclusive: bool, x: &Dynamic, y: &Dynamic) -> Option<Dynamic>
     ensures { answered result ≡ range_between inclusive (value_of x.now) (value_of y.now) }
 {
-    if is_unit(x) && is_unit(y) {
+    if x.is_unit() && y.is_unit() {
         return None;
     }
     let start = end_or(0, x)?;
@@ -38,23 +38,6 @@ fn new_range(inclusive: bool, start: INT, end: INT) -> Dynamic
         Dynamic::RangeInclusive(start, end)
     } else {
         Dynamic::Range(start, end)
-    }
-}
-
-fn is_unit(value: &Dynamic) -> bool
-    ensures { result ≡ is_unit (value_of value.now) }
-{
-    match value {
-        Dynamic::Unit => true,
-        Dynamic::Bool(_)
-        | Dynamic::Int(_)
-        | Dynamic::Char(_)
-        | Dynamic::Str(_)
-        | Dynamic::Array(_)
-        | Dynamic::Map(_)
-        | Dynamic::FnPtr(_)
-        | Dynamic::Range(_, _)
-        | Dynamic::RangeInclusive(_, _) => false,
     }
 }
 

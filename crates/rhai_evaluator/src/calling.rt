@@ -15,9 +15,9 @@ ghost use Rattle.rhai_meaning.specs.Shape as shape;
 use crate::evaluator::Evaluator;
 use rhai_ast::FnCallExpr;
 use rhai_base::{Dynamic, ImmutableString, Seq};
-use rhai_forms::{Word, is_callable, operator_called, qualified};
+use rhai_forms::{is_callable, operator_called, qualified};
 use rhai_host::{Host, Stuck};
-use rhai_state::{Interrupt, State, pointed};
+use rhai_state::{Interrupt, State, Word, pointed};
 
 impl<'a, H: Host> Evaluator<'a, H> {
     /// A call: its arguments first, then what its name stands for. One whose name or token no tree has is stuck before.

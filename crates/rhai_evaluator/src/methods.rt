@@ -17,10 +17,9 @@ ghost use Rattle.rhai_machine.specs.Chaining as spec;
 
 use crate::evaluator::Evaluator;
 use rhai_base::{Dynamic, ImmutableString, Seq};
-use rhai_forms::Word;
 use rhai_host::Host;
 use rhai_machine::Current;
-use rhai_state::{Interrupt, State, pointed_with};
+use rhai_state::{Interrupt, State, Word, pointed_with};
 
 impl<'a, H: Host> Evaluator<'a, H> {
     /// A method's value: that of a word, or of a function whose new receiver is put back.

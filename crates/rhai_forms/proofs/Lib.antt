@@ -5,4 +5,3 @@ pub mod Assigning
 pub mod Cases
 pub mod ChainLinks
 pub mod LeftSides
-pub mod WordAnswers

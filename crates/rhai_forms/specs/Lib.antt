@@ -1,5 +1,4 @@
 pub mod Variables
 pub mod Operators
-pub mod Words
 pub mod Links
 pub mod LeftSides

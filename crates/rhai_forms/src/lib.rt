@@ -1,4 +1,4 @@
-//! What the run reads off a node: the operator a call stands for, words, links of chains, left sides, chosen arms, names.
+//! What the run reads off a node: the operator a call stands for, links of chains, left sides, chosen arms, names.
 #![tactic(auto)]
 
 mod catching;
@@ -8,7 +8,6 @@ mod links;
 mod maps;
 mod operators;
 mod variables;
-mod words;
 
 pub use catching::catch_name;
 pub use choosing::case_list;
@@ -20,4 +19,3 @@ pub use operators::{
     operator_called,
 };
 pub use variables::{Root, position, qualified, root_of};
-pub use words::{Word, is_shared, is_shared_by};

@@ -1,3 +1,5 @@
-pub mod Host
 pub mod Entries
+pub mod Host
+pub mod Print
+pub mod ProgramHost
 pub mod Report

@@ -24,7 +24,7 @@ use Rattle.rhai_machine.specs.declared.steps.placing.Current.TheVariants as curr
 use Rattle.rhai_state.specs.declared.state.Interrupt.{Interrupt}
 use Rattle.rhai_state.specs.declared.state.State.{State}
 use Rattle.rhai_machine.specs.Chaining.{CallsMethod, StepsOn, by_key, method_in, or_else}
-use Rattle.rhai_forms.specs.Words.{calls_pointer, method_or, value_or}
+use Rattle.rhai_state.specs.Words.{calls_pointer, method_or, value_or}
 use Rattle.rhai_state.specs.Evaluating.{RunsInvoke, bodies_weight}
 use Rattle.rhai_machine.specs.Placing.{current_in}
 use Rattle.rhai_state.specs.Runs.{Setting, env, Acting, Goes, Stops, Leads, given}

@@ -8,7 +8,7 @@ use Rattle.rhai_meaning.specs.ActForms.{ask_host, choose, give}
 use Rattle.rhai_meaning.specs.Act.{World}
 use Rattle.rhai_meaning.specs.Calls as calls
 use Rattle.rhai_meaning.specs.Calls.{call_named, has_key, key, same_key}
-use Rattle.rhai_forms.specs.Words.{calls_pointer, goes_to_host, word_or}
+use Rattle.rhai_state.specs.Words.{calls_pointer, goes_to_host, word_or}
 use Rattle.rhai_meaning.specs.Core.{Function}
 use Rattle.rhai_meaning.specs.Run.{function_of, key_of}
 use Rattle.rhai_state.specs.declared.state.Interrupt.{Interrupt}

@@ -2,10 +2,9 @@
 
 #![tactic(auto, using(rhai_reading::specs::Reading::shapes, rhai_values::specs::Reading::kinds, rhai_reading::specs::Positions::places, crate::proofs::Pointers::pointers))]
 
-ghost use Rattle.std.specs.Prelude.{◌≡◌, ◌≢◌, [], IfOk, Some, false, map};
-ghost use Rattle.rhai_values.specs.declared.dynamic.Dynamic.TheVariants as kind;
+ghost use Rattle.std.specs.Prelude.{◌≡◌, [], IfOk, Some, false, map};
 ghost use Rattle.rhai_values.specs.Reading.{value_of};
-ghost use Rattle.rhai_values.specs.Value.{PointerV, Text, values};
+ghost use Rattle.rhai_values.specs.Value.{PointerV, values};
 ghost use Rattle.rhai_reading.specs.Positions.{AreAt, arguments_of, position_of};
 ghost use Rattle.rhai_reading.specs.Reading.{expr_of};
 ghost use Rattle.rhai_meaning.specs.Constants as constants;

@@ -16,8 +16,8 @@ pub use constant::constant_for;
 pub use drain::{StmtDrain, push_stmt};
 pub use literals::{constant_value, literal_value};
 pub use making::{
-    blocks_of, expression_statement, followed_by_nothing, only_statement, put_expr, put_stmt,
-    statements_of,
+    block_statement, blocks_of, expression_statement, followed_by_nothing, only_statement,
+    put_expr, put_stmt, statements_of,
 };
 pub use place::{place_expr, place_stmt};
 pub use switch::switch_table;

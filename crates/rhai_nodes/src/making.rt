@@ -4,7 +4,7 @@
 #![tactic(auto, using(rhai_reading::specs::Reading::shapes))]
 
 ghost use Rattle.std.specs.Prelude.{◌≡◌, ◌≢◌, [], ◌∷◌, IfOk, length, MatchOption};
-ghost use Rattle.rhai_meaning.specs.Tree.{ExprStmt, Noop, no_stmts, stmt};
+ghost use Rattle.rhai_meaning.specs.Tree.{Block, ExprStmt, Noop, no_stmts, stmt};
 ghost use Rattle.rhai_reading.specs.Reading.{expr_of, stmt_of, stmts_of};
 
 use rhai_base::{Boxed, OutOfMemory, Position};
@@ -34,16 +34,23 @@ pub fn expression_statement(alloc: Global, expr: Expr) -> Result<Stmt, OutOfMemo
     Ok(Stmt::Expr(Boxed::new(alloc, expr)?))
 }
 
-/// A statement, followed by nothing, so that its value is not the block's.
+/// A block as a statement.
+pub fn block_statement(alloc: Global, block: StmtBlock) -> Result<Stmt, OutOfMemory>
+    ensures { IfOk result (λ s. stmt_of s ≡ Block (stmts_of block.block)) }
+{
+    Ok(Stmt::Block(Boxed::new(alloc, block)?))
+}
+
+/// A block of a statement, followed by nothing, so that its value is not the block's.
 pub fn followed_by_nothing(
     alloc: Global,
     statement: Stmt,
     pos: Position,
-) -> Result<StmtBlock, OutOfMemory>
-    ensures { IfOk result (λ b. stmts_of b.block ≡ stmt (stmt_of statement) (stmt Noop no_stmts)) }
+) -> Result<Stmt, OutOfMemory>
+    ensures { IfOk result (λ s. stmt_of s ≡ Block (stmt (stmt_of statement) (stmt Noop no_stmts))) }
 {
     let statements = Vec::from_array(alloc, [statement, Stmt::Noop(pos)])?;
-    Ok(StmtBlock::new(statements, pos, pos))
+    block_statement(alloc, StmtBlock::new(statements, pos, pos))
 }
 
 /// The statement of a block that has one alone.

@@ -1,6 +1,6 @@
 //! The entry to the optimiser.
 ghost use Rattle.rhai_meaning.specs.Walk.{outermost};
-ghost use Rattle.std.specs.Prelude.{◌≡◌, ◌≢◌, ◌≤◌, IfOk, OnOk, map, true};
+ghost use Rattle.std.specs.Prelude.{◌≡◌, ◌≢◌, ◌≤◌, IfOk, map, true};
 ghost use Rattle.std.specs.Rc.{rc_value};
 ghost use Rattle.rhai_reading.specs.Reading.{stmts_of};
 ghost use Rattle.rhai_engine.specs.EngineInfo.{engine_of};
@@ -20,7 +20,7 @@ use crate::cycle::Optimizer;
 use crate::level::OptimizationLevel;
 use crate::mark::ListMark;
 use rhai_ast::{ScriptFuncDef, Stmt, StmtBlock};
-use rhai_base::{OutOfMemory, Position, Scope, Seq};
+use rhai_base::{OutOfMemory, Position, Scope};
 use rhai_engine::EngineInfo;
 use rhai_nodes::statements_of;
 use rhai_rules::OptimizerState;
@@ -28,32 +28,36 @@ use rhai_script::{AST, FnLib};
 use std::alloc::Global;
 use std::rc::Rc;
 
-/// The statements of a script are optimised in place. Where there is nothing to reduce, it takes no memory.
+/// The statements of a script, optimised in their place. Where there is nothing to reduce, it takes no memory. Refused for want
+/// of memory alone; then none are handed out.
+///
+/// rhai keeps it to itself; there it looks at the scope and the record's constants too, and is asked for a level.
 pub fn optimize_top_level(
     alloc: Global,
     info: &EngineInfo,
-    statements: &mut Seq<Stmt>,
-) -> Result<(), OutOfMemory>
-    ensures { OnOk result (StmtsRun (under (engine_of info.now)) Whole true true (stmts_of statements.old) (stmts_of statements.new)) }
+    mut statements: StmtBlock,
+) -> Result<StmtBlock, OutOfMemory>
+    ensures { IfOk result (λ optimised. StmtsRun (under (engine_of info.now)) Whole true true (stmts_of statements.block) (stmts_of optimised.block)) }
 {
     let mut state = OptimizerState::new();
     let optimizer = Optimizer { alloc, info };
-    optimizer.stmt_block(&mut state, statements, ListMark::Whole)
+    optimizer.stmt_block(&mut state, statements.statements_mut(), ListMark::Whole)?;
+    Ok(statements)
 }
 
-/// The statements of a script are optimised in place at a level.
+/// The statements of a script, optimised in their place at a level.
 fn optimize_at(
     alloc: Global,
     info: &EngineInfo,
-    statements: &mut Seq<Stmt>,
+    statements: StmtBlock,
     level: OptimizationLevel,
-) -> Result<(), OutOfMemory>
-    ensures to { OnOk result (StmtsTo (under (engine_of info.now)) Whole true true (stmts_of statements.old) (stmts_of statements.new)) }
-    ensures reduced { level ≢ OptimizationLevel.None → OnOk result (AreReduced (engine_of info.now) (stmts_of statements.new)) }
-    ensures kept { level ≡ OptimizationLevel.None → OnOk result (statements.new ≡ statements.old) }
+) -> Result<StmtBlock, OutOfMemory>
+    ensures to { IfOk result (λ optimised. StmtsTo (under (engine_of info.now)) Whole true true (stmts_of statements.block) (stmts_of optimised.block)) }
+    ensures reduced { level ≢ OptimizationLevel.None → IfOk result (λ optimised. AreReduced (engine_of info.now) (stmts_of optimised.block)) }
+    ensures kept { level ≡ OptimizationLevel.None → IfOk result (λ optimised. optimised.block ≡ statements.block) }
 {
     match level {
-        OptimizationLevel::None => Ok(()),
+        OptimizationLevel::None => Ok(statements),
         OptimizationLevel::Simple | OptimizationLevel::Full => {
             optimize_top_level(alloc, info, statements)
         }
@@ -83,8 +87,8 @@ pub fn optimize_into_ast(
     ensures functions { IfOk result (λ ast. ast.lib.value.functions ≡ definitions_table (map rc_value functions.items)) }
     ensures kept { level ≡ OptimizationLevel.None → IfOk result (λ ast. ast.body.block ≡ statements.items) }
 {
-    let mut block = StmtBlock::new(statements, Position::NONE, Position::NONE);
-    optimize_at(alloc, info, block.statements_mut(), level)?;
+    let block = StmtBlock::new(statements, Position::NONE, Position::NONE);
+    let block = optimize_at(alloc, info, block, level)?;
     let lib = Rc::new(alloc, FnLib::from_functions(alloc, functions)?)?;
     Ok(AST::new(statements_of(block), lib))
 }

@@ -11,8 +11,8 @@ use Rattle.rhai_meaning.specs.Tree.{Script}
 use Rattle.rhai_engine.specs.EngineInfo.{nothing_set}
 use Rattle.rhai_host.specs.Entries.{start_scope}
 use Rattle.rhai_host.specs.Report.{ReportsRun}
-use Rattle.rhai_reports.specs.Host.{program_host}
-use Rattle.rhai_reports.specs.Report.{report_text}
+use Rattle.rhai_host.specs.ProgramHost.{program_host}
+use Rattle.rhai_host.specs.Print.{report_text}
 use Rattle.rhai_program.specs.Words.{reported}
 
 -- a host answers as it does

@@ -10,3 +10,4 @@ pub mod Loops
 pub mod Counted
 pub mod PointerRuns
 pub mod Entering
+pub mod WordAnswers

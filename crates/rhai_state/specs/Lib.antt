@@ -3,3 +3,4 @@ pub mod Variables
 pub mod Runs
 pub mod Exits
 pub mod Evaluating
+pub mod Words

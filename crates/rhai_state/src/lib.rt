@@ -1,4 +1,4 @@
-//! The state of a run, how its parts end, and what they make of values.
+//! The state of a run, how its parts end, and what they make of values; the language's own words.
 #![tactic(auto)]
 
 mod counting;
@@ -6,6 +6,7 @@ mod exits;
 mod pointers;
 mod state;
 mod values;
+mod words;
 
 pub use counting::{declare_count, next_count, nth, rounds_before, rounds_through};
 pub use exits::{
@@ -15,3 +16,4 @@ pub use exits::{
 pub use pointers::{curried, pointed, pointed_with, pointer_to};
 pub use state::{Interrupt, State};
 pub use values::{constant, joined_text, some_value, truth};
+pub use words::{Word, is_shared, is_shared_by};

@@ -9,7 +9,7 @@ use rhai_ast::{Expr, FnCallExpr, Stmt};
 use rhai_base::{
     Boxed, Dynamic, ImmutableString, Namespace, OutOfMemory, Position, Scope, Seq, Token,
 };
-use rhai_reports::push_report;
+use rhai_host::push_report;
 use rhai_run::{EngineInfo, Host, HostAnswer, HostCall, plain_run};
 use rhai_script::{AST, FnLib};
 use std::alloc::Global;

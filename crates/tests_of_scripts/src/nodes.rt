@@ -1,8 +1,8 @@
 //! The calls below the optimiser's entry, and where nodes stand.
 
 use crate::record::push_value;
-use rhai_ast::{ASTNode, Expr, FnCallExpr, Stmt, walk_statements};
-use rhai_base::{OutOfMemory, Position, Seq};
+use rhai_ast::{ASTNode, Expr, FnCallExpr, Stmt, StmtBlock, walk_statements};
+use rhai_base::{OutOfMemory, Position};
 use rhai_folding::{constant_bool, folded};
 use rhai_notation::push_lines;
 use rhai_optimizer::{OptimizationLevel, OptimizerState, optimize_top_level};
@@ -36,34 +36,36 @@ fn of_statements(
     text: &str,
     answer: &mut String,
 ) -> Result<(), Unread> {
-    let mut statements = Seq::from_vec(read_lines(alloc, text)?);
-    push_changed(alloc, question, info, &mut statements, answer)
+    let statements = StmtBlock::new(read_lines(alloc, text)?, Position::NONE, Position::NONE);
+    let changed = changed(alloc, question, info, statements, answer)?;
+    Ok(push_lines(changed.statements(), answer)?)
 }
 
-/// Statements that are optimised in their place, or the first of them by one step, in print.
-fn push_changed(
+/// Statements that are optimised, or the first of them by one step.
+fn changed(
     alloc: Global,
     question: &str,
     info: &EngineInfo,
-    statements: &mut Seq<Stmt>,
+    mut statements: StmtBlock,
     answer: &mut String,
-) -> Result<(), Unread> {
-    match question {
-        "top_level" => optimize_top_level(alloc, info, statements)?,
-        _ => reduce(alloc, info, statements.as_mut_slice(), answer)?,
+) -> Result<StmtBlock, OutOfMemory> {
+    if question == "top_level" {
+        return optimize_top_level(alloc, info, statements);
     }
-    Ok(push_lines(statements.as_slice(), answer)?)
+    let first = statements.statements_mut().get_mut(0);
+    reduce(alloc, info, first, answer)?;
+    Ok(statements)
 }
 
-/// One step on the first statement, or on the expression that it is; says whether something was done.
+/// One step on a statement, or on the expression that it is; says whether something was done.
 fn reduce(
     alloc: Global,
     info: &EngineInfo,
-    statements: &mut [Stmt],
+    statement: Option<&mut Stmt>,
     answer: &mut String,
 ) -> Result<(), OutOfMemory> {
     let mut state = OptimizerState::new();
-    match statements.first_mut() {
+    match statement {
         Some(Stmt::Expr(expr)) => reduce_expr(alloc, info, &mut state, expr.get_mut())?,
         Some(statement) => reduce_stmt(alloc, info, &mut state, statement, true)?,
         None => {}

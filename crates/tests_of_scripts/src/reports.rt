@@ -2,7 +2,7 @@
 
 use crate::record::push_value;
 use rhai_base::{ImmutableString, OutOfMemory, Seq};
-use rhai_reports::{ProgramHost, push_report};
+use rhai_host::{ProgramHost, push_report};
 use rhai_run::{Host, HostAnswer, HostCall, RunEnd, RunReport, Stuck};
 use std::alloc::Global;
 use tests_reader::{Unread, read_value};

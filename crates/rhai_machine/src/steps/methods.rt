@@ -10,17 +10,16 @@ ghost use Rattle.rhai_meaning.specs.Act.{Act};
 ghost use Rattle.rhai_state.specs.declared.state.State.{State};
 ghost use Rattle.rhai_machine.specs.Setting.{setting};
 ghost use Rattle.rhai_state.specs.Runs.{Acting, Leads};
-ghost use Rattle.rhai_forms.specs.Words.{method_or, value_or, word_meant};
+ghost use Rattle.rhai_state.specs.Words.{method_or, value_or, word_meant};
 ghost use Rattle.rhai_meaning.specs.Places as places;
 ghost use Rattle.rhai_machine.specs.Chaining as spec;
 
 use crate::steps::machine::Machine;
 use rhai_ast::ScriptFuncDef;
 use rhai_base::{Dynamic, ImmutableString};
-use rhai_forms::{Word, is_shared_by};
 use rhai_functions::FnKey;
 use rhai_host::Host;
-use rhai_state::{Interrupt, State, curried};
+use rhai_state::{Interrupt, State, Word, curried, is_shared_by};
 use std::alloc::AllocError;
 use std::rc::Rc;
 

@@ -12,13 +12,12 @@ ghost use Rattle.rhai_state.specs.declared.state.State.{State};
 ghost use Rattle.rhai_machine.specs.Setting.{setting};
 ghost use Rattle.rhai_state.specs.Evaluating.{arm_then};
 ghost use Rattle.rhai_state.specs.Runs.{Acting, Leads};
-ghost use Rattle.rhai_forms.specs.Words.{word_meant, word_or};
+ghost use Rattle.rhai_state.specs.Words.{word_meant, word_or};
 
 use crate::steps::machine::Machine;
 use rhai_base::{Dynamic, ImmutableString};
-use rhai_forms::{Word, is_shared};
 use rhai_host::Host;
-use rhai_state::{Interrupt, curried, pointer_to};
+use rhai_state::{Interrupt, Word, curried, is_shared, pointer_to};
 use std::alloc::AllocError;
 
 impl<'a, H: Host> Machine<'a, H> {

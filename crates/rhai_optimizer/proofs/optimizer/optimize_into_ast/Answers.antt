@@ -7,21 +7,21 @@ use Rattle.rhai_optimizer.proofs.optimizer.optimize_into_ast.Goals as goal
 
 pub returns-clause-refines : goal.returns-clause-refines
 returns-clause-refines c =
-    let to = rw (c.statements_mut.ensures.value, c.new-block.ensures.block) at c.in_ok-optimize_at.ensures.to in
+    let to = rw (c.new-block.ensures.block) at c.in_ok-block.ensures.to in
     refines (rw (c.new-2.ensures.body, c.statements_of.ensures) to)
     (ap (λ l. functions_of l.value) c.new-2.ensures.lib ∙ ap functions_of c.in_ok-lib.ensures.ok ∙ c.in_ok-from_functions.ensures.table)
 
 pub returns-clause-lighter : goal.returns-clause-lighter
 returns-clause-lighter c =
-    let to = rw (c.statements_mut.ensures.value, c.new-block.ensures.block) at c.in_ok-optimize_at.ensures.to in
+    let to = rw (c.new-block.ensures.block) at c.in_ok-block.ensures.to in
     rw (c.new-2.ensures.body, c.statements_of.ensures) (lighter to)
 
 pub returns-clause-well_formed : goal.returns-clause-well_formed
 returns-clause-well_formed c =
-    let to = rw (c.statements_mut.ensures.value, c.new-block.ensures.block) at c.in_ok-optimize_at.ensures.to in
+    let to = rw (c.new-block.ensures.block) at c.in_ok-block.ensures.to in
     rw (c.new-2.ensures.body, c.statements_of.ensures) (stmts_well false to)
 
 pub returns-clause-operators : goal.returns-clause-operators
 returns-clause-operators c =
-    let to = rw (c.statements_mut.ensures.value, c.new-block.ensures.block) at c.in_ok-optimize_at.ensures.to in
+    let to = rw (c.new-block.ensures.block) at c.in_ok-block.ensures.to in
     rw (c.new-2.ensures.body, c.statements_of.ensures) (calls_stay to)

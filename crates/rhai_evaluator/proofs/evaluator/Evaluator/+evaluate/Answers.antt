@@ -33,7 +33,7 @@ use Rattle.rhai_machine.specs.Placing.{current_in}
 use Rattle.rhai_state.specs.State.{store_of}
 use Rattle.rhai_forms.specs.LeftSides.{side_core}
 use Rattle.rhai_forms.specs.Variables.{root_meant}
-use Rattle.rhai_forms.specs.Words.{word_meant}
+use Rattle.rhai_state.specs.Words.{word_meant}
 use Rattle.rhai_machine.specs.declared.steps.parts.Access.TheVariants as reached
 use Rattle.rhai_machine.specs.Chaining.{names_meant}
 use Rattle.rhai_machine.specs.Placing.{current_in}

@@ -1,0 +1,129 @@
+//! A run's report in print. A refused call can leave a part of what it appends.
+#![tactic(auto, using(rhai_values::specs::Reading::kinds, crate::proofs::Printing::steps))]
+
+ghost use Rattle.std.specs.Prelude.{◌≡◌, ◌++◌, [], OnOk, map, string_bytes};
+ghost use Rattle.std.specs.Option.{option_copied, option_map};
+ghost use Rattle.rhai_values.specs.Reading.{value_of};
+ghost use Rattle.rhai_values.specs.Value.{inner};
+ghost use Rattle.rhai_host.specs.Entries.{variable_meant};
+ghost use Rattle.rhai_host.specs.Host.{call_meant};
+ghost use Rattle.rhai_meaning.specs.Run.{WithStuck};
+ghost use Rattle.rhai_host.specs.Report.{end_meant, report_meant, stuck_meant};
+ghost use Rattle.rhai_host.specs.Print.{called_on, end_text, variable_text, variables_text, values_text, call_text, calls_text, report_text};
+
+use crate::{HostCall, RunEnd, RunReport, Stuck, Variable};
+use rhai_base::{Dynamic, OutOfMemory};
+
+/// Appends a report: the end, the turns left, then each variable and each call on a line.
+pub fn push_report(report: &RunReport, text: &mut String) -> Result<(), OutOfMemory>
+    ensures { OnOk result (string_bytes text.new ≡ string_bytes text.old ++ report_text (report_meant report.now)) }
+{
+    text.push_str("end: ")?;
+    push_end(&report.run_end, text)?;
+    text.push_str("\nturns left: ")?;
+    write!(text, "{}", report.turns_left)?;
+    text.push_str("\n")?;
+    push_variables(report.variables.as_slice(), text)?;
+    push_calls(report.calls.as_slice(), text)
+}
+
+fn push_end(end: &RunEnd, text: &mut String) -> Result<(), OutOfMemory>
+    ensures { OnOk result (string_bytes text.new ≡ string_bytes text.old ++ end_text (end_meant end.now)) }
+{
+    match end {
+        RunEnd::Value(value) => push_ending("value ", value, text),
+        RunEnd::Thrown(value) => push_ending("thrown ", value, text),
+        RunEnd::Stuck(stuck) => push_stuck(*stuck, text),
+        RunEnd::OutOfTurns => Ok(text.push_str("out of turns")?),
+    }
+}
+
+/// Appends a word and a value.
+fn push_ending(word: &str, value: &Dynamic, text: &mut String) -> Result<(), OutOfMemory>
+    ensures { OnOk result (string_bytes text.new ≡ string_bytes text.old ++ (word.now ++ inner (value_of value.now))) }
+{
+    text.push_str(word)?;
+    Ok(value.push_inner(text)?)
+}
+
+fn push_stuck(stuck: Stuck, text: &mut String) -> Result<(), OutOfMemory>
+    ensures { OnOk result (string_bytes text.new ≡ string_bytes text.old ++ end_text (WithStuck (stuck_meant stuck))) }
+{
+    text.push_str("stuck ")?;
+    write!(text, "{}", stuck.number())?;
+    text.push_str(" ")?;
+    Ok(text.push_str(stuck.name())?)
+}
+
+/// Appends names, each on a line.
+fn push_variables(variables: &[Variable], text: &mut String) -> Result<(), OutOfMemory>
+    ensures { OnOk result (string_bytes text.new ≡ string_bytes text.old ++ variables_text (map variable_meant variables.now)) }
+{
+    for variable in variables {
+        push_variable(variable, text)?;
+    }
+    Ok(())
+}
+
+fn push_variable(variable: &Variable, text: &mut String) -> Result<(), OutOfMemory>
+    ensures { OnOk result (string_bytes text.new ≡ string_bytes text.old ++ variable_text (variable_meant variable.now)) }
+{
+    let (name, is_constant, value) = variable;
+    let kind = if *is_constant {
+        "constant "
+    } else {
+        "variable "
+    };
+    text.push_str(kind)?;
+    text.push_str(name.as_str())?;
+    text.push_str(" = ")?;
+    value.push_inner(text)?;
+    text.push_str("\n")?;
+    Ok(())
+}
+
+/// Appends calls to the host, each on a line.
+fn push_calls(calls: &[HostCall], text: &mut String) -> Result<(), OutOfMemory>
+    ensures { OnOk result (string_bytes text.new ≡ string_bytes text.old ++ calls_text (map call_meant calls.now)) }
+{
+    for call in calls {
+        push_call(call, text)?;
+    }
+    Ok(())
+}
+
+fn push_call(call: &HostCall, text: &mut String) -> Result<(), OutOfMemory>
+    ensures { OnOk result (string_bytes text.new ≡ string_bytes text.old ++ call_text (call_meant call.now)) }
+{
+    text.push_str("call ")?;
+    push_receiver(call.receiver.as_ref(), text)?;
+    text.push_str(call.name.as_str())?;
+    text.push_str("(")?;
+    push_values(call.args.as_slice(), text)?;
+    text.push_str(")\n")?;
+    Ok(())
+}
+
+/// Appends what a method is called on.
+fn push_receiver(receiver: Option<&Dynamic>, text: &mut String) -> Result<(), OutOfMemory>
+    ensures { OnOk result (string_bytes text.new ≡ string_bytes text.old ++ called_on (option_map value_of (option_copied receiver.entry))) }
+{
+    if let Some(receiver) = receiver {
+        receiver.push_inner(text)?;
+        text.push_str(".")?;
+    }
+    Ok(())
+}
+
+/// Appends values with commas between them.
+fn push_values(values: &[Dynamic], text: &mut String) -> Result<(), OutOfMemory>
+    ensures { OnOk result (string_bytes text.new ≡ string_bytes text.old ++ values_text [] (map value_of values.now)) }
+{
+    let mut before = "";
+    for value in values {
+        text.push_str(before)?;
+        value.push_inner(text)?;
+        before = ", ";
+    }
+    Ok(())
+}
