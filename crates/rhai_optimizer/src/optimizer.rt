@@ -37,7 +37,8 @@ pub fn optimize_top_level(
     info: &EngineInfo,
     mut statements: StmtBlock,
 ) -> Result<StmtBlock, OutOfMemory>
-    ensures { IfOk result (λ optimised. StmtsRun (under (engine_of info.now)) Whole true true (stmts_of statements.block) (stmts_of optimised.block)) }
+    ensures run { IfOk result (λ optimised. StmtsRun (under (engine_of info.now)) Whole true true (stmts_of statements.block) (stmts_of optimised.block)) }
+    ensures span { IfOk result (λ optimised. optimised.span ≡ statements.span) }
 {
     let mut state = OptimizerState::new();
     let optimizer = Optimizer { alloc, info };
