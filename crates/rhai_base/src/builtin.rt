@@ -8,7 +8,7 @@ ghost use Rattle.rhai_base.specs.Operators as table;
 ghost use Rattle.rhai_base.specs.Builtin.{computed_of, answered, row, binary_at, unary_at, compared, equality_of, number_or_fault, plain_operator, unjoined, is_text, joins};
 
 use crate::range_operators::range_of;
-use rhai_data::ImmutableString;
+use rhai_text::ImmutableString;
 use rhai_tokens::{Fault, OutOfMemory, Token};
 use rhai_values::{Dynamic, INT};
 use std::alloc::Global;

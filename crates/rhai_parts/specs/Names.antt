@@ -1,6 +1,6 @@
 -- Names that functions may have, and names that mean something to the language.
 use Rattle.std.specs.Prelude.{ℕ, Bool, true, false, not, ◌&&◌, ◌||◌, List, [], ◌∷◌, Option, Some, None, if◌then◌else◌, codes, ◌==◌, nat_lt}
-use Rattle.rhai_data.specs.Text.{Text, same_text}
+use Rattle.rhai_text.specs.Text.{Text, same_text}
 
 abbrev pub is_among : Text → List Text → Bool
 is_among t [] = false

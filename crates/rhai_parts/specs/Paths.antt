@@ -1,7 +1,7 @@
 -- Paths of names.
 use Rattle.std.specs.Prelude.{Bool, true, false, List, [], ◌∷◌, ◌++◌, codes, flat_map}
 use Rattle.rhai_parts.specs.declared.ident.Ident.{Ident}
-use Rattle.rhai_data.specs.Text.{Text}
+use Rattle.rhai_text.specs.Text.{Text}
 
 -- no name
 abbrev pub is_none : {A : Type 0} → List A → Bool

@@ -9,7 +9,7 @@ ghost use Rattle.std.specs.Cmp;
 ghost use Rattle.std.proofs.Common.{rules};
 ghost use Rattle.rhai_parts.specs.Names as names;
 
-use rhai_data::ImmutableString;
+use rhai_text::ImmutableString;
 use std::alloc::AllocError;
 use std::hash::{Hash, Hasher};
 use std::marker::Model;

@@ -1,7 +1,7 @@
 //! Names with their places.
 ghost use Rattle.std.specs.Prelude.{◌≡◌};
 
-use rhai_data::ImmutableString;
+use rhai_text::ImmutableString;
 use rhai_tokens::Position;
 use std::alloc::AllocError;
 

@@ -6,7 +6,7 @@ use Rattle.rhai_tokens.specs.declared.position.Position.{Position}
 use Rattle.rhai_tokens.specs.declared.token.Token.{Token}
 use Rattle.rhai_tokens.specs.declared.token.Token.TheVariants as token
 use Rattle.rhai_tokens.specs.Tokens.{assignment_of, base_of, token_named}
-use Rattle.rhai_data.specs.Text.{Text}
+use Rattle.rhai_text.specs.Text.{Text}
 
 abbrev pub IsStraight : Position → OpAssignment → Type 0
 IsStraight pos a = (a.op_assign ≡ token.Equals) × (a.op ≡ token.Equals) × (a.pos ≡ pos)

@@ -2,7 +2,7 @@
 use Rattle.std.specs.Prelude.{codes}
 use Rattle.rhai_tokens.specs.declared.token.Token.{Token}
 use Rattle.rhai_tokens.specs.declared.token.Token.TheVariants as token
-use Rattle.rhai_data.specs.Text.{Text}
+use Rattle.rhai_text.specs.Text.{Text}
 
 -- a unary operator is written as the binary one
 abbrev pub token_text : Token → Text

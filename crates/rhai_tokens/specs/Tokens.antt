@@ -3,7 +3,7 @@ use Rattle.std.specs.Prelude.{Bool, true, false, Option, Some, None, List, [], â
 use Rattle.rhai_tokens.specs.declared.token.Token.{Token}
 use Rattle.rhai_tokens.specs.declared.token.Token.TheVariants as token
 use Rattle.rhai_tokens.specs.Symbols.{token_text}
-use Rattle.rhai_data.specs.Text.{Text, same_text}
+use Rattle.rhai_text.specs.Text.{Text, same_text}
 
 -- all tokens but the two unary operators that are written as binary ones
 abbrev pub symbols : List Token

@@ -9,7 +9,8 @@ ghost use Rattle.std.specs.Prelude.{◌≡◌, ◌≢◌, ◌++◌, ◌↔◌, I
 ghost use Rattle.rhai_values.specs.declared.dynamic.Dynamic.TheVariants as kind;
 
 use crate::FnPtr;
-use rhai_data::{ImmutableString, Seq, StringMap};
+use rhai_data::Seq;
+use rhai_text::{ImmutableString, StringMap};
 use rhai_tokens::OutOfMemory;
 use std::alloc::{AllocError, Global};
 

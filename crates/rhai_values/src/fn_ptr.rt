@@ -5,8 +5,9 @@ ghost use Rattle.std.specs.Prelude.{◌≡◌, ◌≢◌, ◌↔◌, ◌++◌, �
 ghost use Rattle.rhai_parts.specs.Names.{is_valid_name};
 
 use crate::Dynamic;
-use rhai_data::{ImmutableString, Seq};
+use rhai_data::Seq;
 use rhai_parts::FnName;
+use rhai_text::ImmutableString;
 use rhai_tokens::OutOfMemory;
 use std::alloc::Global;
 

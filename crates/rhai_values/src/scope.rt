@@ -2,7 +2,8 @@
 ghost use Rattle.std.specs.Prelude.{◌≡◌, [], ◌∷◌, ◌++◌, OnOk, OnErr, length, false, true};
 
 use crate::Dynamic;
-use rhai_data::{ImmutableString, Seq};
+use rhai_data::Seq;
+use rhai_text::ImmutableString;
 use rhai_tokens::OutOfMemory;
 use std::alloc::Global;
 use std::marker::Model;

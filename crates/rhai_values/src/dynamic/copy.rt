@@ -2,7 +2,8 @@
 ghost use Rattle.std.specs.Prelude.{◌≡◌, IfOk};
 
 use crate::{Dynamic, FnPtr};
-use rhai_data::{Seq, StringMap};
+use rhai_data::Seq;
+use rhai_text::StringMap;
 use std::alloc::AllocError;
 
 #[cycle(copy)]

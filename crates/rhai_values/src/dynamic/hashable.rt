@@ -6,7 +6,8 @@ ghost use Rattle.rhai_values.specs.Value as model;
 ghost use Rattle.rhai_values.specs.Reading.{value_of, members_of};
 
 use crate::Dynamic;
-use rhai_data::{Seq, StringMap};
+use rhai_data::Seq;
+use rhai_text::StringMap;
 
 /// Whether it holds no pointer to a function at any depth.
 #[cycle(hashable)]

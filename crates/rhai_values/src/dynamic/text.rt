@@ -8,7 +8,8 @@ ghost use Rattle.rhai_values.specs.Value.{inner, text_of, values, fields, ArrayV
 ghost use Rattle.rhai_values.specs.Reading.{value_of, members_of};
 
 use crate::{Dynamic, INT};
-use rhai_data::{ImmutableString, Seq, StringMap};
+use rhai_data::Seq;
+use rhai_text::{ImmutableString, StringMap};
 use std::alloc::AllocError;
 
 /// Appends the value without quotes, and nothing for unit.

@@ -20,14 +20,14 @@ use Rattle.std_collections.specs.Map.{values_of}
 use Rattle.std.specs.declared.alloc.Global.{Global}
 use Rattle.std.specs.contracts.alloc.Global as heap
 use Rattle.std.specs.contracts.impls.GlobalAllocator.TheImpl.{ghosts}
-use Rattle.rhai_data.specs.contracts.immutable_string.ImmutableString as text
-use Rattle.rhai_data.specs.contracts.immutable_string.ImmutableStringOrd.TheImpl as order
-use Rattle.rhai_data.specs.contracts.immutable_string.ImmutableStringPartialEq.TheImpl as same
-use Rattle.rhai_data.specs.contracts.immutable_string.ImmutableStringPartialOrd.TheImpl as partial
-use Rattle.rhai_data.specs.declared.string_map.StringMap.TheInside.{Inside}
-use Rattle.rhai_data.specs.declared.string_map.StringMap.TheView.{view, invariant}
-use Rattle.rhai_data.specs.contracts.string_map.StringMap as C
-use Rattle.rhai_data.specs.contracts.string_map.StringMap.TheInside as I
+use Rattle.rhai_text.specs.contracts.immutable_string.ImmutableString as text
+use Rattle.rhai_text.specs.contracts.immutable_string.ImmutableStringOrd.TheImpl as order
+use Rattle.rhai_text.specs.contracts.immutable_string.ImmutableStringPartialEq.TheImpl as same
+use Rattle.rhai_text.specs.contracts.immutable_string.ImmutableStringPartialOrd.TheImpl as partial
+use Rattle.rhai_text.specs.declared.string_map.StringMap.TheInside.{Inside}
+use Rattle.rhai_text.specs.declared.string_map.StringMap.TheView.{view, invariant}
+use Rattle.rhai_text.specs.contracts.string_map.StringMap as C
+use Rattle.rhai_text.specs.contracts.string_map.StringMap.TheInside as I
 
 abbrev pub Text : Type 0
 Text = List ℕ

@@ -5,7 +5,7 @@ ghost use Rattle.std.specs.Hash as fed;
 ghost use Rattle.std.specs.Hash.{on_Alike, and-Alike, items_Alike};
 ghost use Rattle.std.specs.Cmp.{on_equiv, and_equiv, on_per, and_per, partial_equiv_from_equiv};
 ghost use Rattle.std.specs.Cmp.Lexicographic.{pointwise, slice_cmp, lists_equiv, lists_per, nat_list_eq_equiv};
-ghost use Rattle.rhai_data.specs.Laws.{text_hash};
+ghost use Rattle.rhai_text.specs.Laws.{text_hash};
 ghost use Rattle.std.specs.BTreeMap.{insert_entry, is_at};
 ghost use Rattle.std.specs.Borrow.{sem};
 ghost use Rattle.std.specs.List.Sorted.{IsStrictlySortedBy};
@@ -45,7 +45,7 @@ impl<V> Model for StringMap<V> {
 }
 
 impl<V> StringMap<V> {
-    ghost use Rattle.rhai_data.specs.Lends.{lends_value_at};
+    ghost use Rattle.rhai_text.specs.Lends.{lends_value_at};
 
     /// A map without entries. It takes no memory.
     pub fn new(alloc: Global) -> StringMap<V>
