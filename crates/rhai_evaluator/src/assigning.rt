@@ -17,6 +17,7 @@ ghost use Rattle.rhai_meaning.specs.Tree as tree;
 use crate::evaluator::Evaluator;
 use rhai_ast::BinaryExpr;
 use rhai_base::{Dynamic, OpAssignment};
+use rhai_chains::left_side;
 use rhai_forms::LeftSide;
 use rhai_host::{Host, Stuck};
 use rhai_state::{Interrupt, State};
@@ -32,7 +33,7 @@ impl<'a, H: Host> Evaluator<'a, H> {
     ) -> Result<Dynamic, Interrupt>
         ensures { RunsLine (setting H.answers H.modules self.now.machine) (core_stmt self.now.in_loop (tree.Assignment (operator_of op.now.op) (expr_of sides.now.lhs) (expr_of sides.now.rhs))) state.old result state.new }
     {
-        let Some(side) = self.machine.left_side(&sides.lhs) else {
+        let Some(side) = left_side(&self.machine, &sides.lhs) else {
             return Err(Interrupt::Stuck(Stuck::WrongKind));
         };
         let value = self.expr(state, &sides.rhs)?;

@@ -20,6 +20,7 @@ use crate::evaluator::Evaluator;
 use bitflags::Flags;
 use rhai_ast::{BinaryExpr, Expr, FnCallExpr};
 use rhai_base::{ASTFlags, Dynamic};
+use rhai_chains::{index_step, property_step};
 use rhai_forms::{Rest, is_callable, is_chain, root_of};
 use rhai_host::{Host, Stuck};
 use rhai_machine::{Access, Current, PropertyNames};
@@ -153,8 +154,8 @@ impl<'a, H: Host> Evaluator<'a, H> {
         ensures { let here = setting H.answers H.modules self.now.machine in let c = current_in here (store_of state.old) current.entry in StepsOn here (λ next. chains.applied here.world (access_meant access.entry) c next) state.old result state.new }
     {
         match access {
-            Access::Property(names) => self.machine.property(state, names, current),
-            Access::Index(index) => self.machine.index(state, current, index),
+            Access::Property(names) => property_step(&self.machine, state, names, current),
+            Access::Index(index) => index_step(&self.machine, state, current, index),
             Access::Method(name, args) => self.method(state, name, args, current),
         }
     }

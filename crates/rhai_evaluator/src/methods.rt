@@ -17,6 +17,7 @@ ghost use Rattle.rhai_machine.specs.Chaining as spec;
 
 use crate::evaluator::Evaluator;
 use rhai_base::{Dynamic, ImmutableString, Seq};
+use rhai_chains::put_back;
 use rhai_host::Host;
 use rhai_machine::Current;
 use rhai_state::{Interrupt, State, Word, pointed_with};
@@ -72,7 +73,7 @@ impl<'a, H: Host> Evaluator<'a, H> {
         ensures { let here = setting H.answers H.modules self.now.machine in let c = current_in here (store_of state.old) current.entry in value_of receiver ≡ c.value → StepsOn here (λ next. chains.to_method name.now (map value_of args) c (chains.method_key here.world name.now (map value_of args) c.value) next) state.old result state.new }
     {
         let (value, receiver) = self.call_method(state, name, receiver, args)?;
-        self.machine.put_back(state, &current, receiver)?;
+        put_back(&self.machine, state, &current, receiver)?;
         Ok(Current::Loose(value))
     }
 

@@ -23,6 +23,7 @@ use crate::evaluator::Evaluator;
 use bitflags::Flags;
 use rhai_ast::Expr;
 use rhai_base::{ASTFlags, Dynamic, ImmutableString, OpAssignment, Seq, Token};
+use rhai_chains::{assign_index, assign_property, set_at};
 use rhai_forms::{Rest, assigning_operator, ends_in_call, is_chain, root_of};
 use rhai_host::{Host, Stuck};
 use rhai_machine::{Access, Current};
@@ -98,23 +99,14 @@ impl<'a, H: Host> Evaluator<'a, H> {
         ensures { let here = setting H.answers H.modules self.now.machine in Leads here (Acting (chains.assign_last here.world (operator_of op.now.op) (value_of value) (access_meant access.entry) (current_in here (store_of state.old) current.entry))) state.old result state.new (λ z. given UnitV) }
     {
         let Some(token) = assigning_operator(op) else {
-            return self.machine.set_at(state, access, value, current);
+            return set_at(&self.machine, state, access, value, current);
         };
         match access {
             Access::Property(names) => {
-                let written = self
-                    .machine
-                    .changed_property(state, token, names, value, &current)?;
-                self.machine
-                    .set_at(state, Access::Property(names), written, current)
+                assign_property(&self.machine, state, token, names, value, current)
             }
             Access::Index(index) => {
-                let at = index.clone()?;
-                let written = self
-                    .machine
-                    .changed_index(state, token, at, value, &current)?;
-                self.machine
-                    .set_at(state, Access::Index(index), written, current)
+                assign_index(&self.machine, state, token, index, value, current)
             }
             Access::Method(name, args) => {
                 self.changed_method(state, token, name, args, value, current)?;

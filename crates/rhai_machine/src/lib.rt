@@ -3,4 +3,4 @@
 
 mod steps;
 
-pub use steps::{Access, Current, Machine, PropertyNames};
+pub use steps::{Access, Current, Found, Machine, Place, PropertyNames, at_key};

@@ -2,16 +2,14 @@
 
 mod asking;
 mod assigning;
-mod left_sides;
 mod machine;
 mod methods;
 mod parts;
 mod placing;
-mod targets;
 mod variables;
 mod words;
 mod writing;
 
 pub use machine::Machine;
-pub use parts::{Access, PropertyNames};
-pub use placing::Current;
+pub use parts::{Access, Found, PropertyNames};
+pub use placing::{Current, Place, at_key};

@@ -3,7 +3,7 @@ ghost use Rattle.std.specs.Prelude.{◌≡◌};
 ghost use Rattle.rhai_rewriting.specs.Context.{wanted};
 
 /// What a list of statements is to those around it.
-#[derive(Clone, Copy, Debug, PartialEq, Eq)]
+#[derive(Clone, Copy)]
 pub enum ListMark {
     /// The statements of a script, whose last value is the script's.
     Whole,

@@ -20,7 +20,7 @@ use rhai_base::{Dynamic, INT, ImmutableString, Seq, StringMap};
 use std::alloc::AllocError;
 
 /// A step from a value to a part of it.
-#[derive(Debug, Drop)]
+#[derive(Drop)]
 pub enum PlaceKey {
     /// The element of an array at an index, from the end where it is negative.
     AtIndex(INT),

@@ -11,7 +11,7 @@ use rhai_base::Dynamic;
 use std::alloc::AllocError;
 
 /// What stands at a place: a value, or nothing under a key that a map lacks, which is read as unit.
-#[derive(Clone, Copy, Debug)]
+#[derive(Clone, Copy)]
 pub enum Part<'a> {
     /// A value.
     Stored(&'a Dynamic),

@@ -13,7 +13,7 @@ use crate::standing::Part;
 use rhai_base::{Dynamic, INT};
 
 /// What a value has at an index.
-#[derive(Debug, Drop)]
+#[derive(Drop)]
 pub enum Indexed {
     /// The part at a key.
     Part(PlaceKey),
@@ -94,7 +94,7 @@ fn index_members(index: Dynamic) -> Indexed
 }
 
 /// Where a write at an index goes.
-#[derive(Debug, Drop)]
+#[derive(Drop)]
 pub enum IndexTarget {
     /// To the part at a key.
     Part(PlaceKey),

@@ -2,7 +2,7 @@
 ghost use Rattle.std.specs.Prelude.{◌≡◌, true, false};
 
 /// What changes while a script is optimised: whether a rule has fired since the flag was cleared.
-#[derive(Debug, Drop)]
+#[derive(Drop)]
 pub struct OptimizerState {
     is_dirty: bool,
 }

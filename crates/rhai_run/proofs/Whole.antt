@@ -22,7 +22,7 @@ use Rattle.rhai_host.specs.Report.{end_meant, ReportsRun}
 use Rattle.rhai_state.specs.Runs.{Setting, setting_of, env, Goes, Listing, Over}
 use Rattle.rhai_state.specs.State.{store_of}
 use Rattle.rhai_meaning.proofs.Agreeing.{same_report}
-use Rattle.rhai_machine.proofs.Unbound.{unbound_all}
+use Rattle.rhai_evaluator.proofs.Unbound.{unbound_all}
 use Rattle.rhai_state.proofs.Scopes.{reversed_twice}
 
 abbrev pub script_setting : Engine → Host → Script → Setting

@@ -4,6 +4,7 @@ ghost use Rattle.std.specs.Prelude.{◌<◌, IfOk};
 
 use rhai_base::{INT, Ident, ImmutableString, OutOfMemory, Position};
 use std::alloc::{AllocError, AllocFailed, Global};
+use std::cell::Cell;
 use std::str;
 
 /// How many items a list may have.
@@ -54,11 +55,11 @@ impl Kind {
     }
 }
 
-/// What is left of a text.
+/// What is left of a text, in a cell: so it is read by `&self`, since a `&mut` to what borrows takes several times as long to prove.
 #[derive(Drop)]
 pub(crate) struct Letters<'a> {
     pub(crate) alloc: Global,
-    rest: &'a [u8],
+    rest: Cell<&'a [u8]>,
     length: usize,
 }
 
@@ -67,49 +68,49 @@ impl<'a> Letters<'a> {
         let rest = text.as_bytes();
         Letters {
             alloc,
-            rest,
+            rest: Cell::new(rest),
             length: rest.len(),
         }
     }
 
     /// Where the last letter stands.
     pub(crate) fn last(&self) -> Position {
-        column(self.length.saturating_sub(self.rest.len()))
+        column(self.length.saturating_sub(self.rest().len()))
     }
 
     /// Where the next letter stands.
     pub(crate) fn here(&self) -> Position {
-        let read = self.length.saturating_sub(self.rest.len());
+        let read = self.length.saturating_sub(self.rest().len());
         column(read.saturating_add(1))
     }
 
     /// What is left, to come back to.
     pub(crate) fn rest(&self) -> &'a [u8] {
-        self.rest
+        self.rest.get()
     }
 
     /// Comes back to what was left.
-    pub(crate) fn come_back(&mut self, rest: &'a [u8]) {
-        self.rest = rest;
+    pub(crate) fn come_back(&self, rest: &'a [u8]) {
+        self.rest.set(rest);
     }
 
     /// Whether these letters stand next.
     pub(crate) fn starts(&self, letters: &str) -> bool {
-        self.rest.starts_with(letters.as_bytes())
+        self.rest().starts_with(letters.as_bytes())
     }
 
     /// Goes past these letters, where they stand next.
-    pub(crate) fn skip(&mut self, letters: &str) -> bool {
-        match self.rest.strip_prefix(letters.as_bytes()) {
+    pub(crate) fn skip(&self, letters: &str) -> bool {
+        match self.rest().strip_prefix(letters.as_bytes()) {
             Some(rest) => {
-                self.rest = rest;
+                self.come_back(rest);
                 true
             }
             None => false,
         }
     }
 
-    pub(crate) fn expect(&mut self, letters: &'static str) -> Result<(), Unread> {
+    pub(crate) fn expect(&self, letters: &'static str) -> Result<(), Unread> {
         if self.skip(letters) {
             Ok(())
         } else {
@@ -119,21 +120,21 @@ impl<'a> Letters<'a> {
 
     /// Whether nothing is left.
     pub(crate) fn is_at_end(&self) -> bool {
-        self.rest.is_empty()
+        self.rest().is_empty()
     }
 
     /// The first letters, so many, and goes past them.
-    fn first(&mut self, count: usize) -> Option<&'a str> {
-        let (letters, rest) = self.rest.split_at_checked(count)?;
+    fn first(&self, count: usize) -> Option<&'a str> {
+        let (letters, rest) = self.rest().split_at_checked(count)?;
         let letters = str::from_utf8(letters).ok()?;
-        self.rest = rest;
+        self.come_back(rest);
         Some(letters)
     }
 
     /// How many letters of this kind stand next.
     fn count(&self, kind: Kind) -> usize {
         let mut count: usize = 0;
-        for letter in self.rest {
+        for letter in self.rest() {
             if !kind.has(*letter) {
                 break;
             }
@@ -143,18 +144,18 @@ impl<'a> Letters<'a> {
     }
 
     /// The letters before this one, and goes past it.
-    pub(crate) fn until(&mut self, end: u8) -> Option<&'a str> {
+    pub(crate) fn until(&self, end: u8) -> Option<&'a str> {
         let letters = self.first(self.count(Kind::Before(end)))?;
         self.first(1)?;
         Some(letters)
     }
 
     /// The letters before a `"`, and goes past it. One with letters behind it that follow no text is a part of the text.
-    pub(crate) fn quoted(&mut self) -> Option<&'a str> {
+    pub(crate) fn quoted(&self) -> Option<&'a str> {
         let mut count: usize = 0;
-        for letter in self.rest {
+        for letter in self.rest() {
             let next = count.saturating_add(1);
-            if *letter == b'"' && follows_text(self.rest.get(next)) {
+            if *letter == b'"' && follows_text(self.rest().get(next)) {
                 let letters = self.first(count)?;
                 self.first(1)?;
                 return Some(letters);
@@ -165,7 +166,7 @@ impl<'a> Letters<'a> {
     }
 
     /// The one letter before a `'`, which may be a `'` too, and goes past both.
-    pub(crate) fn letter(&mut self) -> Option<char> {
+    pub(crate) fn letter(&self) -> Option<char> {
         let letters = if self.skip("''") {
             "'"
         } else {
@@ -175,20 +176,20 @@ impl<'a> Letters<'a> {
     }
 
     /// The letters of a name, and goes past them; none where no name stands next.
-    pub(crate) fn word(&mut self) -> &'a str {
-        if matches!(self.rest.first(), Some(b'0'..=b'9')) {
+    pub(crate) fn word(&self) -> &'a str {
+        if matches!(self.rest().first(), Some(b'0'..=b'9')) {
             return "";
         }
         self.first(self.count(Kind::OfNames)).unwrap_or("")
     }
 
     /// The letters of an operator before its `(`, and goes past them.
-    pub(crate) fn symbol(&mut self) -> &'a str {
+    pub(crate) fn symbol(&self) -> &'a str {
         self.first(self.count(Kind::Before(b'('))).unwrap_or("")
     }
 
     /// A name.
-    pub(crate) fn ident(&mut self) -> Result<Ident, Unread> {
+    pub(crate) fn ident(&self) -> Result<Ident, Unread> {
         let pos = self.here();
         let word = self.word();
         if word.is_empty() {
@@ -199,17 +200,17 @@ impl<'a> Letters<'a> {
     }
 
     /// An integer, where one stands next.
-    pub(crate) fn integer(&mut self) -> Option<INT> {
-        let before = self.rest;
+    pub(crate) fn integer(&self) -> Option<INT> {
+        let before = self.rest();
         let integer = self.first(self.count(Kind::OfIntegers))?.parse::<INT>();
         if integer.is_err() {
-            self.rest = before;
+            self.come_back(before);
         }
         integer.ok()
     }
 
     /// A number, where one stands next.
-    pub(crate) fn number(&mut self) -> Result<usize, Unread> {
+    pub(crate) fn number(&self) -> Result<usize, Unread> {
         let number = self.integer().ok_or(Unread::Wanted("a number"))?;
         usize::try_from(number).or(Err(Unread::Wanted("a number")))
     }

@@ -18,7 +18,7 @@ pub(crate) struct Called {
 
 impl<'a> Letters<'a> {
     /// Reads a part that no other node stands in.
-    pub(crate) fn flat(&mut self, part: Flat, parts: &mut Parts) -> Result<(), Unread> {
+    pub(crate) fn flat(&self, part: Flat, parts: &mut Parts) -> Result<(), Unread> {
         match part {
             Flat::Flag(flag) => parts.options |= flag,
             Flat::Name => self.name(parts)?,
@@ -35,7 +35,7 @@ impl<'a> Letters<'a> {
     }
 
     /// A path and its name, from its first word on.
-    pub(crate) fn called(&mut self, word: &str, pos: Position) -> Result<Called, Unread> {
+    pub(crate) fn called(&self, word: &str, pos: Position) -> Result<Called, Unread> {
         let name = ImmutableString::new(self.alloc, word)?;
         let mut called = Called {
             namespace: Namespace::none(self.alloc),
@@ -47,7 +47,7 @@ impl<'a> Letters<'a> {
         Ok(called)
     }
 
-    fn path(&mut self, called: &mut Called) -> Result<(), Unread> {
+    fn path(&self, called: &mut Called) -> Result<(), Unread> {
         for _ in 0..ITEMS {
             if !self.skip("::") {
                 break;
@@ -59,7 +59,7 @@ impl<'a> Letters<'a> {
     }
 
     /// What follows in a path: a name, or an operator before its `(`.
-    fn segment(&mut self) -> Result<Ident, Unread> {
+    fn segment(&self) -> Result<Ident, Unread> {
         let pos = self.here();
         let word = match self.word() {
             "" => self.symbol(),
@@ -70,7 +70,7 @@ impl<'a> Letters<'a> {
     }
 
     /// An operator, and goes past the `(`.
-    pub(crate) fn operator(&mut self, pos: Position) -> Result<Called, Unread> {
+    pub(crate) fn operator(&self, pos: Position) -> Result<Called, Unread> {
         let written = self.until(b'(').ok_or(Unread::Wanted("a call"))?;
         let (symbol, captures) = capturing(written);
         let name = ImmutableString::new(self.alloc, symbol)?;
@@ -82,7 +82,7 @@ impl<'a> Letters<'a> {
     }
 
     /// What is called, and goes past the `(`.
-    fn callee(&mut self) -> Result<Called, Unread> {
+    fn callee(&self) -> Result<Called, Unread> {
         let pos = self.here();
         match self.word() {
             "" => self.operator(pos),
@@ -94,7 +94,7 @@ impl<'a> Letters<'a> {
         }
     }
 
-    fn ending(&mut self) -> ASTFlags {
+    fn ending(&self) -> ASTFlags {
         let mut flags = ASTFlags::NONE;
         if self.skip("?") {
             flags |= ASTFlags::NEGATED;
@@ -106,7 +106,7 @@ impl<'a> Letters<'a> {
     }
 
     /// The sign of an assignment, where one stands next.
-    pub(crate) fn sign(&mut self) -> Option<OpAssignment> {
+    pub(crate) fn sign(&self) -> Option<OpAssignment> {
         let before = self.rest();
         let sign = self.sign_written();
         if sign.is_none() {
@@ -115,7 +115,7 @@ impl<'a> Letters<'a> {
         sign
     }
 
-    fn sign_written(&mut self) -> Option<OpAssignment> {
+    fn sign_written(&self) -> Option<OpAssignment> {
         if !self.skip(" ") {
             return None;
         }
@@ -127,7 +127,7 @@ impl<'a> Letters<'a> {
     }
 
     /// Whether a loop goes on until its condition.
-    fn condition(&mut self) -> Result<ASTFlags, Unread> {
+    fn condition(&self) -> Result<ASTFlags, Unread> {
         if self.skip(" until ") {
             return Ok(ASTFlags::NEGATED);
         }
@@ -135,20 +135,20 @@ impl<'a> Letters<'a> {
         Ok(ASTFlags::NONE)
     }
 
-    fn name(&mut self, parts: &mut Parts) -> Result<(), Unread> {
+    fn name(&self, parts: &mut Parts) -> Result<(), Unread> {
         let name = self.ident()?;
         parts.names.push((name, None))?;
         Ok(())
     }
 
-    fn alias(&mut self, parts: &mut Parts) -> Result<(), Unread> {
+    fn alias(&self, parts: &mut Parts) -> Result<(), Unread> {
         let pos = self.here();
         let name = ImmutableString::new(self.alloc, self.word())?;
         parts.names.push((Ident { name, pos }, None))?;
         Ok(())
     }
 
-    fn names(&mut self, parts: &mut Parts) -> Result<(), Unread> {
+    fn names(&self, parts: &mut Parts) -> Result<(), Unread> {
         for _ in 0..ITEMS {
             self.name(parts)?;
             if !self.skip(", ") {
@@ -158,7 +158,7 @@ impl<'a> Letters<'a> {
         Err(Unread::Wanted("fewer items"))
     }
 
-    fn loop_names(&mut self, parts: &mut Parts) -> Result<(), Unread> {
+    fn loop_names(&self, parts: &mut Parts) -> Result<(), Unread> {
         if !self.skip("(") {
             return self.name(parts);
         }
@@ -167,7 +167,7 @@ impl<'a> Letters<'a> {
     }
 
     /// The catch name as an expression; nothing where there is none.
-    fn caught(&mut self, parts: &mut Parts) -> Result<(), Unread> {
+    fn caught(&self, parts: &mut Parts) -> Result<(), Unread> {
         self.expect(" catch ")?;
         if self.starts("{") {
             return Ok(());

@@ -7,7 +7,7 @@ use rhai_base::{Dynamic, ImmutableString};
 use std::alloc::Global;
 
 /// What a host answers to a call: to one of this name, or to any; after so many calls, or after any number of them.
-#[derive(Debug, Drop)]
+#[derive(Drop)]
 pub struct AnswerRow {
     /// How many calls came before.
     pub past: Option<usize>,

@@ -18,7 +18,7 @@ pub struct Script {
 
 /// The script of a text.
 pub fn read_script(alloc: Global, text: &str) -> Result<Script, Unread> {
-    let mut letters = Letters::new(alloc, text);
+    let letters = Letters::new(alloc, text);
     let mut script = Script {
         statements: Vec::new(alloc),
         functions: Vec::new(alloc),
@@ -35,7 +35,7 @@ type Signature = (
 );
 
 impl<'a> Letters<'a> {
-    fn functions(&mut self, functions: &mut Vec<Rc<ScriptFuncDef>>) -> Result<(), Unread> {
+    fn functions(&self, functions: &mut Vec<Rc<ScriptFuncDef>>) -> Result<(), Unread> {
         for _ in 0..ITEMS {
             if self.is_at_end() {
                 return Ok(());
@@ -51,19 +51,19 @@ impl<'a> Letters<'a> {
         Err(Unread::Wanted("fewer functions"))
     }
 
-    fn signature(&mut self) -> Result<Signature, Unread> {
+    fn signature(&self) -> Result<Signature, Unread> {
         let name = self.function_name();
         let params = self.params();
         ended(both(name, params), self.expect(" "))
     }
 
-    fn function_name(&mut self) -> Result<(Option<ImmutableString>, ImmutableString), Unread> {
+    fn function_name(&self) -> Result<(Option<ImmutableString>, ImmutableString), Unread> {
         let receiver = self.receiver();
         both(receiver, self.ident().map(|name| name.name))
     }
 
     /// The type before a `.`, and goes past both; none where a name stands alone.
-    fn receiver(&mut self) -> Result<Option<ImmutableString>, Unread> {
+    fn receiver(&self) -> Result<Option<ImmutableString>, Unread> {
         let before = self.rest();
         let name = if self.skip("()") { "()" } else { self.word() };
         if !self.skip(".") {
@@ -73,7 +73,7 @@ impl<'a> Letters<'a> {
         Ok(Some(ImmutableString::new(self.alloc, name)?))
     }
 
-    fn params(&mut self) -> Result<Seq<ImmutableString>, Unread> {
+    fn params(&self) -> Result<Seq<ImmutableString>, Unread> {
         let mut params = Seq::new(self.alloc);
         if self.skip("()") {
             return Ok(params);

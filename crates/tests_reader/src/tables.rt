@@ -7,7 +7,7 @@ use rhai_base::{Dynamic, INT, OutOfMemory, RangeCase, Seq};
 
 impl<'a> Letters<'a> {
     /// Cases, ranges and default, with `|` between them; the table has no arms yet.
-    pub(crate) fn table(&mut self) -> Result<SwitchCasesCollection, Unread> {
+    pub(crate) fn table(&self) -> Result<SwitchCasesCollection, Unread> {
         let mut table = SwitchCasesCollection {
             expressions: Seq::new(self.alloc),
             cases: Cases::from_map(IndexMap::new(self.alloc)),
@@ -20,7 +20,7 @@ impl<'a> Letters<'a> {
         Ok(table)
     }
 
-    fn cases(&mut self) -> Result<Cases, Unread> {
+    fn cases(&self) -> Result<Cases, Unread> {
         let mut cases = IndexMap::new(self.alloc);
         for _ in 0..ITEMS {
             match self.value()? {
@@ -36,7 +36,7 @@ impl<'a> Letters<'a> {
     }
 
     /// The places of a case's arms; where there are none a blank may stand for them.
-    fn places(&mut self) -> Result<CaseBlocksList, Unread> {
+    fn places(&self) -> Result<CaseBlocksList, Unread> {
         self.expect(":")?;
         let mut blocks = Seq::new(self.alloc);
         if self.starts("  |") || self.starts(" ,") {
@@ -51,7 +51,7 @@ impl<'a> Letters<'a> {
         Ok(CaseBlocksList { blocks })
     }
 
-    fn ranges(&mut self, ranges: &mut Seq<RangeCase>) -> Result<(), Unread> {
+    fn ranges(&self, ranges: &mut Seq<RangeCase>) -> Result<(), Unread> {
         for _ in 0..ITEMS {
             match self.integer() {
                 Some(start) => ranges.push(self.range(start)?)?,
@@ -65,7 +65,7 @@ impl<'a> Letters<'a> {
     }
 
     /// A range from a start, with the place of its arm.
-    fn range(&mut self, start: INT) -> Result<RangeCase, Unread> {
+    fn range(&self, start: INT) -> Result<RangeCase, Unread> {
         let mut range = if self.skip("..=") {
             RangeCase::from(start..=self.end_of_range()?)
         } else {
@@ -77,7 +77,7 @@ impl<'a> Letters<'a> {
         Ok(range)
     }
 
-    fn default(&mut self) -> Result<Option<usize>, Unread> {
+    fn default(&self) -> Result<Option<usize>, Unread> {
         self.expect("default ")?;
         let default = if self.skip("-") {
             None

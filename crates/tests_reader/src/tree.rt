@@ -14,7 +14,7 @@ const DEPTH: u32 = 120;
 
 /// The statements of a text, each on a line.
 pub fn read_lines(alloc: Global, text: &str) -> Result<Vec<Stmt>, Unread> {
-    let mut letters = Letters::new(alloc, text);
+    let letters = Letters::new(alloc, text);
     let mut statements = Vec::new(alloc);
     letters.lines(&mut statements)?;
     letters.end()?;
@@ -23,21 +23,21 @@ pub fn read_lines(alloc: Global, text: &str) -> Result<Vec<Stmt>, Unread> {
 
 /// The one expression of a text.
 pub fn read_expr(alloc: Global, text: &str) -> Result<Expr, Unread> {
-    let mut letters = Letters::new(alloc, text);
+    let letters = Letters::new(alloc, text);
     let expr = letters.expr(DEPTH);
     ended(expr, letters.end())
 }
 
 /// The property or method of a text, as at the right of a `.`
 pub fn read_link(alloc: Global, text: &str) -> Result<Expr, Unread> {
-    let mut letters = Letters::new(alloc, text);
+    let letters = Letters::new(alloc, text);
     let link = letters.link(DEPTH);
     ended(link, letters.end())
 }
 
 /// The one statement of a text.
 pub fn read_stmt(alloc: Global, text: &str) -> Result<Stmt, Unread> {
-    let mut letters = Letters::new(alloc, text);
+    let letters = Letters::new(alloc, text);
     let statement = letters.statement(DEPTH);
     ended(statement, letters.end())
 }
@@ -53,7 +53,7 @@ impl<'a> Letters<'a> {
     }
 
     /// Statements, each on a line, up to a function or the end.
-    pub(crate) fn lines(&mut self, statements: &mut Vec<Stmt>) -> Result<(), Unread> {
+    pub(crate) fn lines(&self, statements: &mut Vec<Stmt>) -> Result<(), Unread> {
         for _ in 0..ITEMS {
             if self.is_at_end() || self.starts("fn ") {
                 return Ok(());
@@ -65,14 +65,14 @@ impl<'a> Letters<'a> {
     }
 
     /// The block of a function.
-    pub(crate) fn body(&mut self) -> Result<StmtBlock, Unread> {
+    pub(crate) fn body(&self) -> Result<StmtBlock, Unread> {
         self.block(DEPTH)
     }
 
     // ---- the recursion
 
     #[cycle(read)]
-    fn expr(&mut self, depth: u32) -> Result<Expr, Unread> {
+    fn expr(&self, depth: u32) -> Result<Expr, Unread> {
         let depth = below(depth)?;
         let pos = self.here();
         if let Some(constant) = self.constant(pos)? {
@@ -89,7 +89,7 @@ impl<'a> Letters<'a> {
 
     /// What stands at the right of a `.`
     #[cycle(read)]
-    fn link(&mut self, depth: u32) -> Result<Expr, Unread> {
+    fn link(&self, depth: u32) -> Result<Expr, Unread> {
         let depth = below(depth)?;
         let pos = self.here();
         let mut parts = Parts::boxed(self.alloc)?;
@@ -103,7 +103,7 @@ impl<'a> Letters<'a> {
     }
 
     #[cycle(read)]
-    fn statement(&mut self, depth: u32) -> Result<Stmt, Unread> {
+    fn statement(&self, depth: u32) -> Result<Stmt, Unread> {
         let depth = below(depth)?;
         let pos = self.here();
         let mut parts = Parts::boxed(self.alloc)?;
@@ -113,7 +113,7 @@ impl<'a> Letters<'a> {
     }
 
     #[cycle(read)]
-    fn block(&mut self, depth: u32) -> Result<StmtBlock, Unread> {
+    fn block(&self, depth: u32) -> Result<StmtBlock, Unread> {
         let depth = below(depth)?;
         let start = self.here();
         let mut parts = Parts::boxed(self.alloc)?;
@@ -125,7 +125,7 @@ impl<'a> Letters<'a> {
     }
 
     #[cycle(read)]
-    fn parts(&mut self, form: &[Part], parts: &mut Parts, depth: u32) -> Result<(), Unread> {
+    fn parts(&self, form: &[Part], parts: &mut Parts, depth: u32) -> Result<(), Unread> {
         let depth = below(depth)?;
         for part in form {
             self.part(*part, parts, depth)?;
@@ -134,7 +134,7 @@ impl<'a> Letters<'a> {
     }
 
     #[cycle(read)]
-    fn part(&mut self, part: Part, parts: &mut Parts, depth: u32) -> Result<(), Unread> {
+    fn part(&self, part: Part, parts: &mut Parts, depth: u32) -> Result<(), Unread> {
         let depth = below(depth)?;
         match part {
             Part::Letters(letters) => self.expect(letters),
@@ -159,7 +159,7 @@ impl<'a> Letters<'a> {
     /// Parts of one kind, with these letters between them, up to their end.
     #[cycle(read)]
     fn many(
-        &mut self,
+        &self,
         part: Part,
         between: &'static str,
         end: &'static str,
@@ -181,7 +181,7 @@ impl<'a> Letters<'a> {
 
     /// The expression after a word that leaves, where there is one.
     #[cycle(read)]
-    fn maybe(&mut self, parts: &mut Parts, depth: u32) -> Result<(), Unread> {
+    fn maybe(&self, parts: &mut Parts, depth: u32) -> Result<(), Unread> {
         let depth = below(depth)?;
         if self.starts(" }") || !self.skip(" ") {
             return Ok(());
@@ -191,7 +191,7 @@ impl<'a> Letters<'a> {
 
     /// The sign of an assignment and its right side, where they are there.
     #[cycle(read)]
-    fn assigned(&mut self, parts: &mut Parts, depth: u32) -> Result<(), Unread> {
+    fn assigned(&self, parts: &mut Parts, depth: u32) -> Result<(), Unread> {
         let depth = below(depth)?;
         parts.sign = self.sign();
         if parts.sign.is_none() {
@@ -202,7 +202,7 @@ impl<'a> Letters<'a> {
 
     /// A key and its expression.
     #[cycle(read)]
-    fn pair(&mut self, pairs: &mut Vec<(Ident, Expr)>, depth: u32) -> Result<(), Unread> {
+    fn pair(&self, pairs: &mut Vec<(Ident, Expr)>, depth: u32) -> Result<(), Unread> {
         let depth = below(depth)?;
         let name = self.ident();
         let name = ended(name, self.expect(": "));
@@ -211,7 +211,7 @@ impl<'a> Letters<'a> {
 
     /// A condition and its answer.
     #[cycle(read)]
-    fn arm(&mut self, arms: &mut Vec<BinaryExpr>, depth: u32) -> Result<(), Unread> {
+    fn arm(&self, arms: &mut Vec<BinaryExpr>, depth: u32) -> Result<(), Unread> {
         let depth = below(depth)?;
         let condition = self.expr(depth);
         let condition = ended(condition, self.expect(" => "));
@@ -221,7 +221,7 @@ impl<'a> Letters<'a> {
     // ---- how nodes begin
 
     /// A constant, where one stands next.
-    fn constant(&mut self, pos: Position) -> Result<Option<Expr>, Unread> {
+    fn constant(&self, pos: Position) -> Result<Option<Expr>, Unread> {
         let constant = nodes::constant(self.alloc, self.scalar()?, pos)?;
         if constant.is_some() {
             return Ok(constant);
@@ -230,7 +230,7 @@ impl<'a> Letters<'a> {
     }
 
     /// What an expression that is no constant is, by what it begins with.
-    fn expr_form(&mut self, parts: &mut Parts) -> Result<ExprForm, Unread> {
+    fn expr_form(&self, parts: &mut Parts) -> Result<ExprForm, Unread> {
         if self.skip("[") {
             return Ok((ExprKind::Array, &forms::ITEMS));
         }
@@ -251,7 +251,7 @@ impl<'a> Letters<'a> {
     }
 
     /// The same at the right of a `.`; none where an expression of another kind stands there.
-    fn link_form(&mut self, parts: &mut Parts) -> Result<Option<ExprForm>, Unread> {
+    fn link_form(&self, parts: &mut Parts) -> Result<Option<ExprForm>, Unread> {
         let pos = self.here();
         let word = self.word();
         if word.is_empty() {
@@ -266,7 +266,7 @@ impl<'a> Letters<'a> {
     }
 
     /// One kind before a `(`, which is gone past, and another kind elsewhere.
-    fn named(&mut self, call: ExprKind, other: ExprKind) -> ExprForm {
+    fn named(&self, call: ExprKind, other: ExprKind) -> ExprForm {
         if self.skip("(") {
             (call, &forms::OPERANDS)
         } else {
@@ -280,7 +280,7 @@ impl<'a> Letters<'a> {
     }
 
     /// What a statement is, by its word; an expression where it begins with none.
-    fn stmt_form(&mut self) -> StmtForm {
+    fn stmt_form(&self) -> StmtForm {
         let before = self.rest();
         let word = self.word();
         if word == "export" {

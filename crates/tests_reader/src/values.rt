@@ -10,19 +10,19 @@ const DEPTH: u32 = 40;
 
 /// The value of a text. A pointer has no values of its own.
 pub fn read_value(alloc: Global, text: &str) -> Result<Dynamic, Unread> {
-    let mut letters = Letters::new(alloc, text);
+    let letters = Letters::new(alloc, text);
     let value = wanted(letters.value());
     ended(value, letters.end())
 }
 
 impl<'a> Letters<'a> {
     /// A value, where one stands next.
-    pub(crate) fn value(&mut self) -> Result<Option<Dynamic>, Unread> {
+    pub(crate) fn value(&self) -> Result<Option<Dynamic>, Unread> {
         self.value_within(DEPTH)
     }
 
     #[cycle(value)]
-    fn value_within(&mut self, depth: u32) -> Result<Option<Dynamic>, Unread> {
+    fn value_within(&self, depth: u32) -> Result<Option<Dynamic>, Unread> {
         let depth = below(depth)?;
         if self.skip("[") {
             return array(self.items(depth));
@@ -41,7 +41,7 @@ impl<'a> Letters<'a> {
 
     /// Values up to the end of their list.
     #[cycle(value)]
-    fn items(&mut self, depth: u32) -> Result<Seq<Dynamic>, Unread> {
+    fn items(&self, depth: u32) -> Result<Seq<Dynamic>, Unread> {
         let depth = below(depth)?;
         let mut items = Seq::new(self.alloc);
         if self.skip("]") {
@@ -58,7 +58,7 @@ impl<'a> Letters<'a> {
 
     /// Values with their keys, up to the end of their map.
     #[cycle(value)]
-    fn members(&mut self, depth: u32) -> Result<StringMap<Dynamic>, Unread> {
+    fn members(&self, depth: u32) -> Result<StringMap<Dynamic>, Unread> {
         let depth = below(depth)?;
         let mut members = StringMap::new(self.alloc);
         if self.skip("}") {
@@ -74,26 +74,26 @@ impl<'a> Letters<'a> {
         too_many(members)
     }
 
-    fn key(&mut self) -> Result<ImmutableString, Unread> {
+    fn key(&self) -> Result<ImmutableString, Unread> {
         self.expect("\"")?;
         let key = self.text();
         ended(key, self.expect(": "))
     }
 
     /// The rest of a text.
-    fn text(&mut self) -> Result<ImmutableString, Unread> {
+    fn text(&self) -> Result<ImmutableString, Unread> {
         let text = self.quoted().ok_or(Unread::Wanted("a text's end"))?;
         Ok(ImmutableString::new(self.alloc, text)?)
     }
 
-    fn pointer(&mut self) -> Result<Option<Dynamic>, Unread> {
+    fn pointer(&self) -> Result<Option<Dynamic>, Unread> {
         let name = self.until(b')').ok_or(Unread::Wanted("a pointer's end"))?;
         let name = ImmutableString::new(self.alloc, name)?;
         Ok(FnPtr::new(self.alloc, name).map(Dynamic::FnPtr))
     }
 
     /// An integer, or a range from it.
-    fn from(&mut self, start: INT) -> Result<Option<Dynamic>, Unread> {
+    fn from(&self, start: INT) -> Result<Option<Dynamic>, Unread> {
         let value = if self.skip("..=") {
             Dynamic::RangeInclusive(start, self.end_of_range()?)
         } else if self.skip("..") {
@@ -104,12 +104,12 @@ impl<'a> Letters<'a> {
         Ok(Some(value))
     }
 
-    pub(crate) fn end_of_range(&mut self) -> Result<INT, Unread> {
+    pub(crate) fn end_of_range(&self) -> Result<INT, Unread> {
         self.integer().ok_or(Unread::Wanted("the end of a range"))
     }
 
     /// A value without parts, where one stands next.
-    pub(crate) fn scalar(&mut self) -> Result<Option<Dynamic>, Unread> {
+    pub(crate) fn scalar(&self) -> Result<Option<Dynamic>, Unread> {
         if self.skip("()") {
             return Ok(Some(Dynamic::Unit));
         }
@@ -126,7 +126,7 @@ impl<'a> Letters<'a> {
     }
 
     /// A bool, where one stands next.
-    fn truth(&mut self) -> Option<bool> {
+    fn truth(&self) -> Option<bool> {
         let before = self.rest();
         match self.word() {
             "true" => Some(true),
@@ -139,7 +139,7 @@ impl<'a> Letters<'a> {
     }
 
     /// A constant of its own between `<` and `>`, where one stands next.
-    pub(crate) fn held(&mut self) -> Result<Option<Dynamic>, Unread> {
+    pub(crate) fn held(&self) -> Result<Option<Dynamic>, Unread> {
         let before = self.rest();
         if !self.skip("<") {
             return Ok(None);

@@ -1,13 +1,14 @@
 //! Operators over values, and the host.
 
 ghost use Rattle.std.specs.Prelude.{◌≡◌, Some, map};
+ghost use Rattle.std.specs.Option.{option_map};
 ghost use Rattle.rhai_values.specs.Reading.{value_of};
 ghost use Rattle.rhai_base.specs.Builtin.{operator_of};
-ghost use Rattle.rhai_meaning.specs.ActForms.{ask_host};
+ghost use Rattle.rhai_meaning.specs.ActForms.{ask_host, ask_method};
 ghost use Rattle.rhai_meaning.specs.Calls.{operate};
 ghost use Rattle.rhai_machine.specs.Setting.{setting};
 ghost use Rattle.rhai_state.specs.Evaluating.{Runs};
-ghost use Rattle.rhai_state.specs.Runs.{Acting};
+ghost use Rattle.rhai_state.specs.Runs.{Acting, Leads};
 
 use crate::steps::machine::Machine;
 use rhai_base::{Dynamic, ImmutableString, Seq, Token};
@@ -51,6 +52,27 @@ impl<'a, H: Host> Machine<'a, H> {
         };
         match ask(self.host, self.alloc, &mut state.calls, call)? {
             HostAnswer::Value { value, receiver: _ } => Ok(value),
+            HostAnswer::Throw(value) => Err(Interrupt::Throw(value)),
+        }
+    }
+
+    /// What the host answers for a receiver: the value, and the receiver's new one if any.
+    pub fn ask_method(
+        &self,
+        state: &mut State,
+        name: ImmutableString,
+        receiver: Dynamic,
+        args: Seq<Dynamic>,
+    ) -> Result<(Dynamic, Option<Dynamic>), Interrupt>
+        ensures { (next : _) → Leads (setting H.answers H.modules self.now) (Acting (ask_method name (value_of receiver) (map value_of args) next)) state.old result state.new (λ a. Acting (next (value_of a.0) (option_map value_of a.1))) }
+    {
+        let call = HostCall {
+            name,
+            receiver: Some(receiver),
+            args,
+        };
+        match ask(self.host, self.alloc, &mut state.calls, call)? {
+            HostAnswer::Value { value, receiver } => Ok((value, receiver)),
             HostAnswer::Throw(value) => Err(Interrupt::Throw(value)),
         }
     }

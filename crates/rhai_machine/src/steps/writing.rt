@@ -2,27 +2,24 @@
 
 #![tactic(auto, using(rhai_values::specs::Reading::kinds, crate::proofs::Placing::placing))]
 
-ghost use Rattle.std.specs.Prelude.{◌≡◌, true, map, Some};
-ghost use Rattle.std.specs.Option.{option_map};
+ghost use Rattle.std.specs.Prelude.{◌≡◌, true, map};
 ghost use Rattle.rhai_values.specs.Reading.{value_of};
-ghost use Rattle.rhai_values.specs.Value.{UnitV, Value, same};
+ghost use Rattle.rhai_values.specs.Value.{UnitV, Value};
 ghost use Rattle.rhai_meaning.specs.Act.{OfName, OfThis};
 ghost use Rattle.rhai_places.specs.Reading.{key_meant};
 ghost use Rattle.rhai_state.specs.declared.state.State.{State};
 ghost use Rattle.rhai_machine.specs.Setting.{setting};
 ghost use Rattle.rhai_state.specs.Runs.{Acting, Leads, given};
-ghost use Rattle.rhai_state.specs.State.{store_of};
 ghost use Rattle.rhai_state.specs.Variables.{IsMissing};
 ghost use Rattle.rhai_meaning.specs.Places as places;
-ghost use Rattle.rhai_machine.specs.declared.steps.placing.Current.TheVariants as kind;
 ghost use Rattle.rhai_machine.specs.Placing as spec;
 
 use crate::steps::machine::Machine;
-use crate::steps::placing::{Current, Place};
+use crate::steps::placing::Place;
 use rhai_base::Dynamic;
 use rhai_forms::{Root, position};
 use rhai_host::{Host, Stuck};
-use rhai_places::{Part, PlaceKey, along, replace_along};
+use rhai_places::{PlaceKey, along, replace_along};
 use rhai_state::{Interrupt, State};
 
 impl<'a, H: Host> Machine<'a, H> {
@@ -110,35 +107,6 @@ impl<'a, H: Host> Machine<'a, H> {
         let Place { root, mut keys } = place;
         keys.push(key)?;
         self.write_place(state, true, &Place { root, keys }, value)
-    }
-
-    /// Whether that value stands at a place.
-    fn is_standing(&self, state: &State, place: &Place, value: &Dynamic) -> bool
-        ensures { result ≡ same (spec.current_in (setting H.answers H.modules self.now) (store_of state.now) (kind.At place.now)).value (value_of value.now) }
-    {
-        match self.place_part(state, place) {
-            Part::Stored(stored) => stored.is_equal(value),
-            Part::Missing => Dynamic::Unit.is_equal(value),
-        }
-    }
-
-    /// A receiver's new value goes to its place, if any: in a constant's place an equal one changes nothing.
-    pub fn put_back(
-        &self,
-        state: &mut State,
-        current: &Current,
-        receiver: Option<Dynamic>,
-    ) -> Result<(), Interrupt>
-        ensures { let here = setting H.answers H.modules self.now in Leads here (Acting (places.put_back (spec.current_in here (store_of state.old) current.now) (option_map value_of receiver))) state.old result state.new (λ z. given UnitV) }
-    {
-        let Some(receiver) = receiver else {
-            return Ok(());
-        };
-        let Current::At(place) = current else {
-            return Ok(());
-        };
-        let differs = !self.is_standing(state, place, &receiver);
-        self.write_place(state, differs, place, receiver)
     }
 }
 

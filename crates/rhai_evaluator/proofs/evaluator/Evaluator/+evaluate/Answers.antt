@@ -38,28 +38,28 @@ use Rattle.rhai_machine.specs.declared.steps.parts.Access.TheVariants as reached
 use Rattle.rhai_machine.specs.Chaining.{names_meant}
 use Rattle.rhai_machine.specs.Placing.{current_in}
 use Rattle.rhai_state.specs.State.{store_of}
-use Rattle.rhai_machine.proofs.Quiet.{quiet_index, quiet_property}
-use Rattle.rhai_machine.proofs.LeftSides.{part_called, part_ill, part_runs, part_stops, part_unplaced}
-use Rattle.rhai_machine.proofs.Targets.{index_changes, last_nowhere, last_plain, last_stops, last_written, read_changes, read_ends, target_applied_stops, target_last, target_more, target_stops, target_unit}
-use Rattle.rhai_machine.proofs.ByKind.{array_of_expr, block_of_stmt, braces_of_expr, call_of_expr, call_of_stmt, dot_of_expr, for_of_stmt, if_of_stmt, index_of_expr, map_of_expr, method_of_expr, property_of_expr, switch_of_stmt, text_of_expr}
+use Rattle.rhai_chains.proofs.Quiet.{quiet_index, quiet_property}
+use Rattle.rhai_evaluator.proofs.LeftSides.{part_called, part_ill, part_runs, part_stops, part_unplaced}
+use Rattle.rhai_chains.proofs.Targets.{index_changes, last_nowhere, last_plain, last_stops, last_written, read_changes, read_ends, target_applied_stops, target_last, target_more, target_stops, target_unit}
+use Rattle.rhai_evaluator.proofs.ByKind.{array_of_expr, block_of_stmt, braces_of_expr, call_of_expr, call_of_stmt, dot_of_expr, for_of_stmt, if_of_stmt, index_of_expr, map_of_expr, method_of_expr, property_of_expr, switch_of_stmt, text_of_expr}
 use Rattle.rhai_state.proofs.Counted.{each_ends, each_next, each_stops, for_array, for_body_runs, for_closed_range, for_other, for_range, for_round_runs, range_end, range_ends, range_next, range_start, range_stops}
-use Rattle.rhai_machine.proofs.Exits.{catch_runs, try_catches, try_ends, try_stops}
-use Rattle.rhai_machine.proofs.Nodes.{call_stuck, call_stops, call_runs, called_as}
+use Rattle.rhai_evaluator.proofs.Leaving.{catch_runs, try_catches, try_ends, try_stops}
+use Rattle.rhai_evaluator.proofs.Nodes.{call_stuck, call_stops, call_runs, called_as}
 use Rattle.rhai_forms.proofs.Callees.{named_callee, operator_callee, qualified_callee}
 use Rattle.rhai_state.proofs.Goes.{leads_then, stops_by}
-use Rattle.rhai_machine.proofs.Invoked.{back_is, invoke_goes, invoke_late, invoke_stops}
-use Rattle.rhai_machine.proofs.Known.{call_runs_function, found_nothing, found_weight}
-use Rattle.rhai_machine.proofs.Words.{call_asks, word_asks, word_gives, word_names, word_points, word_stops}
-use Rattle.rhai_machine.proofs.Operands.{args_start, args_next, args_stop, args_end, operands_start, both_stops, both_stuck, both_false, both_next, both_end, either_stops, either_stuck, either_true, either_next, either_end, first_stops, first_value, first_next, first_end}
+use Rattle.rhai_evaluator.proofs.Invoked.{back_is, invoke_goes, invoke_late, invoke_stops}
+use Rattle.rhai_evaluator.proofs.Known.{call_runs_function, found_nothing, found_weight}
+use Rattle.rhai_evaluator.proofs.Words.{call_asks, word_asks, word_gives, word_names, word_points, word_stops}
+use Rattle.rhai_evaluator.proofs.Operands.{args_start, args_next, args_stop, args_end, operands_start, both_stops, both_stuck, both_false, both_next, both_end, either_stops, either_stuck, either_true, either_next, either_end, first_stops, first_value, first_next, first_end}
 use Rattle.rhai_machine.proofs.Roots.{assign_runs, assign_stops, assign_stuck, unit_value}
 use Rattle.rhai_state.proofs.Statements.{stmts_start, stmts_next, stmts_stop, stmts_end, block_runs, body_runs, branch_runs, condition_stops, condition_stuck}
-use Rattle.rhai_machine.proofs.Switches.{arm_false, arm_leaves, arm_missing, arm_past, arm_stops, arm_stuck, arm_there, arm_true, arms_default, arms_end, arms_stop, default_missing, default_runs, places_end, places_ends, no_range, places_next, places_stops, range_at, ranges_end, ranges_ends, ranges_next, ranges_stops}
-use Rattle.rhai_machine.proofs.Weights.{arm_weight, arms_weight, expr_item, level, level_falls, member_item, stmt_item}
+use Rattle.rhai_evaluator.proofs.Switches.{arm_false, arm_leaves, arm_missing, arm_past, arm_stops, arm_stuck, arm_there, arm_true, arms_default, arms_end, arms_stop, default_missing, default_runs, places_end, places_ends, no_range, places_next, places_stops, range_at, ranges_end, ranges_ends, ranges_next, ranges_stops}
+use Rattle.rhai_evaluator.proofs.Weights.{arm_weight, arms_weight, expr_item, level, level_falls, member_item, stmt_item}
 use Rattle.rhai_state.proofs.Rounds.{loop_start}
 use Rattle.rhai_state.proofs.Loops.{round_runs, round_turns, endless_stops, endless_ends, endless_next, while_stops, while_stuck, guard_late, guard_over, guard_leaves, guard_ends, guard_falls, guard_next, loop_always, loop_when, do_stops, do_ends, do_guard_stops, do_guard_stuck, do_over, do_next}
-use Rattle.rhai_machine.proofs.Maps.{map_runs, map_stops, members_start, members_stop, members_next, members_end}
-use Rattle.rhai_machine.proofs.Methods.{back_runs, back_stops, call_stops as method_call_stops, found_fits, found_runs, missing_asks, word_given, word_passed, word_stopped}
-use Rattle.rhai_machine.proofs.ChainSteps.{applied_stops, chain_runs, member_stuck, method_given, method_reached, method_stops, method_stuck, reach_gone, reach_runs, steps_end, steps_more, steps_stop, steps_unit}
+use Rattle.rhai_evaluator.proofs.Maps.{map_runs, map_stops, members_start, members_stop, members_next, members_end}
+use Rattle.rhai_evaluator.proofs.MethodSteps.{back_runs, back_stops, call_stops as method_call_stops, found_fits, found_runs, missing_asks, word_given, word_passed, word_stopped}
+use Rattle.rhai_chains.proofs.ChainSteps.{applied_stops, chain_runs, member_stuck, method_given, method_reached, method_stops, method_stuck, reach_gone, reach_runs, steps_end, steps_more, steps_stop, steps_unit}
 use Rattle.rhai_evaluator.proofs.evaluator.Evaluator.+evaluate.Goals as goal
 use Rattle.rhai_evaluator.proofs.evaluator.Evaluator.+evaluate.Goals.{reach-else-contains-via-then-contains+else-is_unit_at, reach-else-contains-via-else-contains}
 
@@ -749,19 +749,11 @@ assign_steps-returns-in-None g t c = target_last (setting g.H.Host.answers g.H.H
 pub assign_last-returns-in_default : goal.assign_last-returns-in_default
 assign_last-returns-in_default g t c = last_plain (setting g.H.Host.answers g.H.Host.modules c.args.self.now.machine) (operator_of c.args.op.now.op) (value_of c.args.value) c.args.access c.args.current c.args.state.now c.in_default.ensures c.set_at.result _ c.set_at.ensures
 
-pub assign_last-returns-in_err-written-in-Property : goal.assign_last-returns-in_err-written-in-Property
-assign_last-returns-in_err-written-in-Property g t c = let p = err_from_is_err_and c.from_residual.result c.from_residual.ensures.1 in
-    rw (p.1, p.2, c.in-Property.is) (last_stops (setting g.H.Host.answers g.H.Host.modules c.args.self.now.machine) (operator_of c.args.op.now.op) (value_of c.args.value) (reached.Property c.in-Property.names) c.args.current c.args.state.now c.in-Some.token c.in-Some.ensures _ c.changed_property.new.state c.in_err-written-in-Property.ensures)
+pub assign_last-returns-in-Property : goal.assign_last-returns-in-Property
+assign_last-returns-in-Property g t c = rw c.in-Property.is (c.assign_property.ensures _ c.in-Some.ensures)
 
-pub assign_last-returns-in_ok-written-in-Property : goal.assign_last-returns-in_ok-written-in-Property
-assign_last-returns-in_ok-written-in-Property g t c = rw c.in-Property.is (last_written (setting g.H.Host.answers g.H.Host.modules c.args.self.now.machine) (operator_of c.args.op.now.op) (value_of c.args.value) (reached.Property c.in-Property.names) c.args.current c.args.state.now c.in-Some.token c.in-Some.ensures (λ next q. quiet_property (setting g.H.Host.answers g.H.Host.modules c.args.self.now.machine) next q (names_meant c.in-Property.names) (current_in (setting g.H.Host.answers g.H.Host.modules c.args.self.now.machine) (store_of c.args.state.now) c.args.current) (current_in (setting g.H.Host.answers g.H.Host.modules c.args.self.now.machine) (store_of c.args.state.now) c.args.current).value) c.in_ok-written-in-Property.written c.changed_property.new.state c.set_at-in-Property.new.state c.set_at-in-Property.result c.in_ok-written-in-Property.ensures c.set_at-in-Property.ensures)
-
-pub assign_last-returns-in_err-written-in-Index : goal.assign_last-returns-in_err-written-in-Index
-assign_last-returns-in_err-written-in-Index g t c = let p = err_from_is_err_and c.from_residual-in_err-written-in-Index.result c.from_residual-in_err-written-in-Index.ensures.1 in
-    rw (p.1, p.2, c.in-Index.is) (last_stops (setting g.H.Host.answers g.H.Host.modules c.args.self.now.machine) (operator_of c.args.op.now.op) (value_of c.args.value) (reached.Index c.in-Index.index) c.args.current c.args.state.now c.in-Some.token c.in-Some.ensures _ c.changed_index.new.state (λ p e. index_changes (setting g.H.Host.answers g.H.Host.modules c.args.self.now.machine) (current_in (setting g.H.Host.answers g.H.Host.modules c.args.self.now.machine) (store_of c.args.state.now) c.args.current) (value_of c.in_ok-at-in-Index.at) (value_of c.in-Index.index) c.args.state.now c.changed_index.new.state p (value_of c.args.value) (Err _) (ap value_of c.in_ok-at-in-Index.ensures.cases) (c.in_err-written-in-Index.ensures p e)))
-
-pub assign_last-returns-in_ok-written-in-Index : goal.assign_last-returns-in_ok-written-in-Index
-assign_last-returns-in_ok-written-in-Index g t c = rw c.in-Index.is (last_written (setting g.H.Host.answers g.H.Host.modules c.args.self.now.machine) (operator_of c.args.op.now.op) (value_of c.args.value) (reached.Index c.in-Index.index) c.args.current c.args.state.now c.in-Some.token c.in-Some.ensures (λ next q. quiet_index (setting g.H.Host.answers g.H.Host.modules c.args.self.now.machine) next q (current_in (setting g.H.Host.answers g.H.Host.modules c.args.self.now.machine) (store_of c.args.state.now) c.args.current) (current_in (setting g.H.Host.answers g.H.Host.modules c.args.self.now.machine) (store_of c.args.state.now) c.args.current).value (value_of c.in-Index.index)) c.in_ok-written-in-Index.written c.changed_index.new.state c.set_at-in-Index.new.state c.set_at-in-Index.result (λ p e. index_changes (setting g.H.Host.answers g.H.Host.modules c.args.self.now.machine) (current_in (setting g.H.Host.answers g.H.Host.modules c.args.self.now.machine) (store_of c.args.state.now) c.args.current) (value_of c.in_ok-at-in-Index.at) (value_of c.in-Index.index) c.args.state.now c.changed_index.new.state p (value_of c.args.value) (Ok c.in_ok-written-in-Index.written) (ap value_of c.in_ok-at-in-Index.ensures.cases) (c.in_ok-written-in-Index.ensures p e)) c.set_at-in-Index.ensures)
+pub assign_last-returns-in-Index : goal.assign_last-returns-in-Index
+assign_last-returns-in-Index g t c = rw c.in-Index.is (c.assign_index.ensures _ c.in-Some.ensures)
 
 pub assign_last-returns-in_err-changed_method-in-Method : goal.assign_last-returns-in_err-changed_method-in-Method
 assign_last-returns-in_err-changed_method-in-Method g t c = let p = err_from_is_err_and c.from_residual-in_err-changed_method-in-Method.result c.from_residual-in_err-changed_method-in-Method.ensures.1 in

@@ -1,7 +1,7 @@
 use Rattle.std.proofs.Common.{◌+◌, ◌*◌, drop, length, map}
 use Rattle.rhai_machine.specs.Setting.{setting}
-use Rattle.rhai_machine.proofs.Operands.{ArgsAt, OperandsAt, both_of, either_of, first_of}
-use Rattle.rhai_machine.proofs.Maps.{MembersAt}
+use Rattle.rhai_evaluator.proofs.Operands.{ArgsAt, OperandsAt, both_of, either_of, first_of}
+use Rattle.rhai_evaluator.proofs.Maps.{MembersAt}
 use Rattle.rhai_state.proofs.Statements.{StmtsAt}
 use Rattle.rhai_values.specs.Reading.{value_of}
 use Rattle.rhai_reading.specs.Reading.{arms_of, cases_of, counter_of, expr_of, exprs_of, expressions_of, maybe_of, pairs_of, range_of, stmt_of, stmts_of, subject_of}
@@ -15,8 +15,8 @@ use Rattle.rhai_forms.specs.LeftSides.{side_weight}
 use Rattle.rhai_state.proofs.Loops.{do_round, guarded_round}
 use Rattle.rhai_state.proofs.Rounds.{LoopAt}
 use Rattle.rhai_state.proofs.Counted.{CountAt, EachAt}
-use Rattle.rhai_machine.proofs.Switches.{PlacesAt, RangesAt}
-use Rattle.rhai_machine.proofs.Weights.{arms_weight, level}
+use Rattle.rhai_evaluator.proofs.Switches.{PlacesAt, RangesAt}
+use Rattle.rhai_evaluator.proofs.Weights.{arms_weight, level}
 use Rattle.rhai_evaluator.proofs.evaluator.Evaluator.+evaluate.Given as goal
 
 -- each part of a node weighs less than the node

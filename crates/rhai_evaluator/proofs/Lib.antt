@@ -1,0 +1,13 @@
+pub mod Unbound
+mod Maps
+mod Operands
+mod Nodes
+mod Leaving
+mod ByKind
+mod Switches
+mod Weights
+mod Invoked
+mod Words
+mod Known
+mod LeftSides
+mod MethodSteps
