@@ -756,7 +756,7 @@ pub assign_last-returns-in-Index : goal.assign_last-returns-in-Index
 assign_last-returns-in-Index g t c = rw c.in-Index.is (c.assign_index.ensures _ c.in-Some.ensures)
 
 pub assign_last-returns-in_err-changed_method-in-Method : goal.assign_last-returns-in_err-changed_method-in-Method
-assign_last-returns-in_err-changed_method-in-Method g t c = let p = err_from_is_err_and c.from_residual-in_err-changed_method-in-Method.result c.from_residual-in_err-changed_method-in-Method.ensures.1 in
+assign_last-returns-in_err-changed_method-in-Method g t c = let p = err_from_is_err_and c.from_residual.result c.from_residual.ensures.1 in
     rw (p.1, p.2, c.in-Method.is) (last_stops (setting g.H.Host.answers g.H.Host.modules c.args.self.now.machine) (operator_of c.args.op.now.op) (value_of c.args.value) (reached.Method c.in-Method.name c.in-Method.args) c.args.current c.args.state.now c.in-Some.token c.in-Some.ensures _ c.changed_method.new.state c.in_err-changed_method-in-Method.ensures)
 
 pub assign_last-returns-in_ok-changed_method-in-Method : goal.assign_last-returns-in_ok-changed_method-in-Method
