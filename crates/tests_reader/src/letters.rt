@@ -55,7 +55,7 @@ impl Kind {
     }
 }
 
-/// What is left of a text, in a cell: so it is read by `&self`, since a `&mut` to what borrows takes several times as long to prove.
+/// What is left of a text, in a cell, so that it is read by `&self`: docs/GATE.md says what a `&mut` to what borrows costs.
 #[derive(Drop)]
 pub(crate) struct Letters<'a> {
     pub(crate) alloc: Global,
