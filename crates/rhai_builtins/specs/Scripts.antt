@@ -31,10 +31,14 @@ over_integers op m n = operation (symbol op) (OfOperator op) (IntegerConstant m)
 abbrev pub evaluates : Expr → Stmts
 evaluates e = stmt (ExprStmt e) no_stmts
 
+-- 1 + 1 == 2
+abbrev pub first_condition : Expr
+first_condition = operation (symbol EqualTo) (OfOperator EqualTo) (over_integers Plus (pos 1) (pos 1)) (IntegerConstant (pos 2))
+
 -- if 1 + 1 == 2 { 40 + 2 } else { 1 / 0 }
 abbrev pub first_statements : Stmts
 first_statements =
-    stmt (If (operation (symbol EqualTo) (OfOperator EqualTo) (over_integers Plus (pos 1) (pos 1)) (IntegerConstant (pos 2)))
+    stmt (If first_condition
     (evaluates (over_integers Plus (pos 40) (pos 2)))
     (evaluates (over_integers Divide (pos 1) (pos 0)))) no_stmts
 

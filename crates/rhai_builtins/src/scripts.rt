@@ -1,11 +1,12 @@
 //! The scripts that the program knows.
 #![tactic(auto, using(rhai_reading::specs::Reading::shapes))]
 
-ghost use Rattle.std.specs.Prelude.{◌≡◌, IfOk, Some};
+ghost use Rattle.std.specs.Prelude.{◌≡◌, IfOk, Some, pos};
+ghost use Rattle.rhai_base.specs.Operators.{Divide, Plus};
 ghost use Rattle.rhai_tokens.specs.Symbols.{token_text};
 ghost use Rattle.rhai_reading.specs.Reading.{expr_of, stmts_of, mark_of};
 ghost use Rattle.rhai_meaning.specs.Tree.{IntegerConstant};
-ghost use Rattle.rhai_builtins.specs.Scripts.{operation, evaluates, first_statements};
+ghost use Rattle.rhai_builtins.specs.Scripts.{evaluates, first_condition, first_statements, operation, over_integers};
 
 use rhai_ast::{Expr, FlowControl, FnCallExpr, Stmt, StmtBlock};
 use rhai_base::{Boxed, INT, ImmutableString, Namespace, OutOfMemory, Position, Seq, Span, Token};
@@ -62,10 +63,7 @@ impl BuiltinScript {
         match self {
             BuiltinScript::First => first(alloc),
             BuiltinScript::Empty => Ok(Vec::new(alloc)),
-            BuiltinScript::Divide => {
-                let quotient = operation(alloc, Token::Divide, integer(1), integer(0))?;
-                evaluation(alloc, quotient)
-            }
+            BuiltinScript::Divide => evaluated(alloc, Token::Divide, 1, 0),
         }
     }
 }
@@ -73,17 +71,37 @@ impl BuiltinScript {
 fn first(alloc: Global) -> Result<Vec<Stmt>, OutOfMemory>
     ensures { IfOk result (λ statements. stmts_of statements.items ≡ first_statements) }
 {
-    let two = operation(alloc, Token::Plus, integer(1), integer(1))?;
-    let expr = operation(alloc, Token::EqualsTo, two, integer(2))?;
-    let sum = operation(alloc, Token::Plus, integer(40), integer(2))?;
-    let quotient = operation(alloc, Token::Divide, integer(1), integer(0))?;
-    let choice = FlowControl {
+    let choice = Boxed::new(alloc, first_choice(alloc)?)?;
+    Ok(vec![in alloc; Stmt::If(choice, Position::NONE)]?)
+}
+
+fn first_choice(alloc: Global) -> Result<FlowControl, OutOfMemory>
+    ensures expr { IfOk result (λ flow. expr_of flow.expr ≡ first_condition) }
+    ensures body { IfOk result (λ flow. stmts_of flow.body.block ≡ evaluates (over_integers Plus (pos 40) (pos 2))) }
+    ensures branch { IfOk result (λ flow. stmts_of flow.branch.block ≡ evaluates (over_integers Divide (pos 1) (pos 0))) }
+{
+    let expr = two_is_two(alloc)?;
+    let body = evaluated(alloc, Token::Plus, 40, 2)?;
+    Ok(FlowControl {
         expr,
-        body: block(evaluation(alloc, sum)?),
-        branch: block(evaluation(alloc, quotient)?),
-    };
-    let choice = Stmt::If(Boxed::new(alloc, choice)?, Position::NONE);
-    Ok(vec![in alloc; choice]?)
+        body: block(body),
+        branch: block(evaluated(alloc, Token::Divide, 1, 0)?),
+    })
+}
+
+fn two_is_two(alloc: Global) -> Result<Expr, OutOfMemory>
+    ensures { IfOk result (λ expr. expr_of expr ≡ first_condition) }
+{
+    let two = operation(alloc, Token::Plus, integer(1), integer(1))?;
+    operation(alloc, Token::EqualsTo, two, integer(2))
+}
+
+/// The statement that evaluates an operator over two integers.
+fn evaluated(alloc: Global, token: Token, lhs: INT, rhs: INT) -> Result<Vec<Stmt>, OutOfMemory>
+    ensures { IfOk result (λ statements. stmts_of statements.items ≡ evaluates (operation (token_text token) (mark_of (Some token)) (IntegerConstant lhs) (IntegerConstant rhs))) }
+{
+    let value = operation(alloc, token, integer(lhs), integer(rhs))?;
+    evaluation(alloc, value)
 }
 
 /// The statement that evaluates an expression.

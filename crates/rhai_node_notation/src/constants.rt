@@ -47,9 +47,7 @@ pub(crate) fn push_unit(text: &mut String) -> Result<(), OutOfMemory>
 pub(crate) fn push_char(value: char, text: &mut String) -> Result<(), OutOfMemory>
     ensures { OnOk result (string_bytes text.new ≡ string_bytes text.old ++ inner (CharV value)) }
 {
-    text.push_str("'")?;
-    text.push(value)?;
-    text.push_str("'")?;
+    write!(text, "'{value}'")?;
     Ok(())
 }
 
@@ -57,8 +55,6 @@ pub(crate) fn push_char(value: char, text: &mut String) -> Result<(), OutOfMemor
 pub(crate) fn push_quoted(value: &str, text: &mut String) -> Result<(), OutOfMemory>
     ensures { OnOk result (string_bytes text.new ≡ string_bytes text.old ++ inner (TextV value.now)) }
 {
-    text.push_str("\"")?;
-    text.push_str(value)?;
-    text.push_str("\"")?;
+    write!(text, "\"{value}\"")?;
     Ok(())
 }

@@ -70,13 +70,7 @@ pub(crate) fn push_loop_names(
     ensures { OnOk result (string_bytes text.new ≡ string_bytes text.old ++ loop_names name.now.name (counter_of counter.now)) }
 {
     match counter {
-        Some(counter) => {
-            text.push_str("(")?;
-            text.push_str(name.as_str())?;
-            text.push_str(", ")?;
-            text.push_str(counter.as_str())?;
-            text.push_str(")")?;
-        }
+        Some(counter) => write!(text, "({}, {})", name.as_str(), counter.as_str())?,
         None => text.push_str(name.as_str())?,
     }
     Ok(())

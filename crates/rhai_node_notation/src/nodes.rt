@@ -64,8 +64,16 @@ fn push_list(
 {
     text.push_str(before)?;
     push_exprs(exprs, text)?;
-    text.push_str(after)?;
-    Ok(())
+    push_word(after, text)
+}
+
+/// Appends an expression after a mark.
+#[cycle(nodes)]
+fn push_after(before: &str, expr: &Expr, text: &mut String) -> Result<(), OutOfMemory>
+    ensures { OnOk result (string_bytes text.new ≡ string_bytes text.old ++ (before.now ++ expr_text (expr_of expr.now))) }
+{
+    text.push_str(before)?;
+    push_expr(expr, text)
 }
 
 /// Appends expressions with commas between them.
@@ -75,8 +83,7 @@ fn push_exprs(exprs: &[Expr], text: &mut String) -> Result<(), OutOfMemory>
 {
     let mut before = "";
     for expr in exprs {
-        text.push_str(before)?;
-        push_expr(expr, text)?;
+        push_after(before, expr, text)?;
         before = ", ";
     }
     Ok(())
@@ -88,8 +95,7 @@ fn push_map(pairs: &[(Ident, Expr)], text: &mut String) -> Result<(), OutOfMemor
 {
     text.push_str("#{")?;
     push_pairs(pairs, text)?;
-    text.push_str("}")?;
-    Ok(())
+    push_word("}", text)
 }
 
 /// Appends pairs with commas between them.
@@ -101,8 +107,7 @@ fn push_pairs(pairs: &[(Ident, Expr)], text: &mut String) -> Result<(), OutOfMem
     for pair in pairs {
         text.push_str(before)?;
         text.push_str(pair.0.as_str())?;
-        text.push_str(": ")?;
-        push_expr(&pair.1, text)?;
+        push_after(": ", &pair.1, text)?;
         before = ", ";
     }
     Ok(())
@@ -128,12 +133,9 @@ fn push_step(
 {
     text.push_str(word)?;
     push_flags(options, text)?;
-    text.push_str("(")?;
-    push_expr(&sides.lhs, text)?;
-    text.push_str(", ")?;
-    push_expr(&sides.rhs, text)?;
-    text.push_str(")")?;
-    Ok(())
+    push_after("(", &sides.lhs, text)?;
+    push_after(", ", &sides.rhs, text)?;
+    push_word(")", text)
 }
 
 /// Appends a statement.
@@ -166,26 +168,21 @@ pub fn push_stmt(stmt: &Stmt, text: &mut String) -> Result<(), OutOfMemory>
 fn push_if(flow: &FlowControl, text: &mut String) -> Result<(), OutOfMemory>
     ensures { OnOk result (string_bytes text.new ≡ string_bytes text.old ++ stmt_text (If (expr_of flow.now.expr) (stmts_of flow.now.body.block) (stmts_of flow.now.branch.block))) }
 {
-    text.push_str("if ")?;
-    push_expr(&flow.expr, text)?;
-    text.push_str(" ")?;
-    push_block(&flow.body, text)?;
-    text.push_str(" else ")?;
-    push_block(&flow.branch, text)
+    push_after("if ", &flow.expr, text)?;
+    push_block_after(" ", &flow.body, text)?;
+    push_block_after(" else ", &flow.branch, text)
 }
 
 #[cycle(nodes)]
 fn push_switch(switch: &SwitchBlock, text: &mut String) -> Result<(), OutOfMemory>
     ensures { OnOk result (string_bytes text.new ≡ string_bytes text.old ++ stmt_text (Switch (expr_of (subject_of switch.now)) (arms_of (expressions_of (cases_of switch.now))) (table_of (cases_of switch.now)))) }
 {
-    text.push_str("switch ")?;
-    push_expr(&switch.expr, text)?;
+    push_after("switch ", &switch.expr, text)?;
     text.push_str(" { ")?;
     push_table(&switch.cases, text)?;
     text.push_str(" | ")?;
     push_arms(switch.cases.expressions.as_slice(), text)?;
-    text.push_str(" }")?;
-    Ok(())
+    push_word(" }", text)
 }
 
 /// Appends arms with commas between them.
@@ -195,10 +192,8 @@ fn push_arms(arms: &[BinaryExpr], text: &mut String) -> Result<(), OutOfMemory>
 {
     let mut before = "";
     for arm in arms {
-        text.push_str(before)?;
-        push_expr(&arm.lhs, text)?;
-        text.push_str(" => ")?;
-        push_expr(&arm.rhs, text)?;
+        push_after(before, &arm.lhs, text)?;
+        push_after(" => ", &arm.rhs, text)?;
         before = ", ";
     }
     Ok(())
@@ -220,24 +215,20 @@ fn push_guard(guard: &Expr, text: &mut String) -> Result<(), OutOfMemory>
     if guard.is_unit() {
         return push_word("loop ", text);
     }
-    text.push_str("while ")?;
-    push_expr(guard, text)?;
-    text.push_str(" ")?;
-    Ok(())
+    push_after("while ", guard, text)?;
+    push_word(" ", text)
 }
 
 #[cycle(nodes)]
 fn push_do(flow: &FlowControl, options: ASTFlags, text: &mut String) -> Result<(), OutOfMemory>
     ensures { OnOk result (string_bytes text.new ≡ string_bytes text.old ++ stmt_text (Do (is_negated options) (is_exported options) (expr_of flow.now.expr) (stmts_of flow.now.body.block))) }
 {
-    text.push_str("do ")?;
-    push_block(&flow.body, text)?;
+    push_block_after("do ", &flow.body, text)?;
     if options.contains(ASTFlags::NEGATED) {
-        text.push_str(" until ")?;
+        push_after(" until ", &flow.expr, text)
     } else {
-        text.push_str(" while ")?;
+        push_after(" while ", &flow.expr, text)
     }
-    push_expr(&flow.expr, text)
 }
 
 #[cycle(nodes)]
@@ -249,10 +240,8 @@ fn push_for(
 {
     text.push_str("for ")?;
     push_loop_names(&parts.0, &parts.1, text)?;
-    text.push_str(" in ")?;
-    push_expr(&parts.2.expr, text)?;
-    text.push_str(" ")?;
-    push_block(&parts.2.body, text)
+    push_after(" in ", &parts.2.expr, text)?;
+    push_block_after(" ", &parts.2.body, text)
 }
 
 #[cycle(nodes)]
@@ -266,8 +255,7 @@ fn push_var(
 {
     push_declaration(options, text)?;
     text.push_str(name.as_str())?;
-    text.push_str(" = ")?;
-    push_expr(value, text)
+    push_after(" = ", value, text)
 }
 
 #[cycle(nodes)]
@@ -293,16 +281,14 @@ fn push_called(call: &FnCallExpr, text: &mut String) -> Result<(), OutOfMemory>
 fn push_inner_block(block: &StmtBlock, text: &mut String) -> Result<(), OutOfMemory>
     ensures { OnOk result (string_bytes text.new ≡ string_bytes text.old ++ stmt_text (Block (stmts_of block.now.block))) }
 {
-    text.push_str("block ")?;
-    push_block(block, text)
+    push_block_after("block ", block, text)
 }
 
 #[cycle(nodes)]
 fn push_try(flow: &FlowControl, text: &mut String) -> Result<(), OutOfMemory>
     ensures { OnOk result (string_bytes text.new ≡ string_bytes text.old ++ stmt_text (TryCatch (expr_of flow.now.expr) (stmts_of flow.now.body.block) (stmts_of flow.now.branch.block))) }
 {
-    text.push_str("try ")?;
-    push_block(&flow.body, text)?;
+    push_block_after("try ", &flow.body, text)?;
     push_catch(&flow.expr, text)?;
     push_block(&flow.branch, text)
 }
@@ -347,10 +333,7 @@ fn push_after_word(value: &Option<Boxed<Expr>>, text: &mut String) -> Result<(),
     ensures { OnOk result (string_bytes text.new ≡ string_bytes text.old ++ after_word (maybe_of value.now)) }
 {
     match value {
-        Some(expr) => {
-            text.push_str(" ")?;
-            push_expr(expr.get(), text)
-        }
+        Some(expr) => push_after(" ", expr.get(), text),
         None => Ok(()),
     }
 }
@@ -359,20 +342,15 @@ fn push_after_word(value: &Option<Boxed<Expr>>, text: &mut String) -> Result<(),
 fn push_import(path: &Expr, alias: &Ident, text: &mut String) -> Result<(), OutOfMemory>
     ensures { OnOk result (string_bytes text.new ≡ string_bytes text.old ++ stmt_text (Import (expr_of path.now) alias.now.name)) }
 {
-    text.push_str("import ")?;
-    push_expr(path, text)?;
+    push_after("import ", path, text)?;
     text.push_str(" as ")?;
-    text.push_str(alias.as_str())?;
-    Ok(())
+    push_word(alias.as_str(), text)
 }
 
 fn push_export(name: &Ident, alias: &Ident, text: &mut String) -> Result<(), OutOfMemory>
     ensures { OnOk result (string_bytes text.new ≡ string_bytes text.old ++ stmt_text (Export name.now.name alias.now.name)) }
 {
-    text.push_str("export ")?;
-    text.push_str(name.as_str())?;
-    text.push_str(" as ")?;
-    text.push_str(alias.as_str())?;
+    write!(text, "export {} as {}", name.as_str(), alias.as_str())?;
     Ok(())
 }
 
@@ -396,6 +374,15 @@ pub fn push_block(block: &StmtBlock, text: &mut String) -> Result<(), OutOfMemor
     push_stmts(statements, text)?;
     text.push_str(" }")?;
     Ok(())
+}
+
+/// Appends statements in braces after a mark.
+#[cycle(nodes)]
+fn push_block_after(before: &str, block: &StmtBlock, text: &mut String) -> Result<(), OutOfMemory>
+    ensures { OnOk result (string_bytes text.new ≡ string_bytes text.old ++ (before.now ++ block_text (stmts_of block.now.block))) }
+{
+    text.push_str(before)?;
+    push_block(block, text)
 }
 
 /// Appends statements with semicolons between them.

@@ -1,39 +1,7 @@
-//! What was read, joined with what is read next: what is dropped after a refusal is dropped here.
+//! What was read, joined with what was read next.
 
-use crate::letters::Unread;
-
-/// The two of them.
-pub(crate) fn both<A: Drop, B: Drop>(
-    first: Result<A, Unread>,
-    second: Result<B, Unread>,
-) -> Result<(A, B), Unread> {
+/// The two of them, if both are there.
+pub(crate) fn both<A: Drop, B: Drop>(first: Option<A>, second: Option<B>) -> Option<(A, B)> {
     let first = first?;
-    Ok((first, second?))
-}
-
-/// What was read, where its end stands too.
-pub(crate) fn ended<A: Drop>(
-    made: Result<A, Unread>,
-    end: Result<(), Unread>,
-) -> Result<A, Unread> {
-    let made = made?;
-    end?;
-    Ok(made)
-}
-
-/// Adds an item.
-pub(crate) fn push<T: Drop>(items: &mut Vec<T>, item: Result<T, Unread>) -> Result<(), Unread> {
-    items.push(item?)?;
-    Ok(())
-}
-
-/// Puts it into its place.
-pub(crate) fn fill<T: Drop>(place: &mut Option<T>, made: Result<T, Unread>) -> Result<(), Unread> {
-    *place = Some(made?);
-    Ok(())
-}
-
-/// Gives the items up.
-pub(crate) fn too_many<T: Drop>(_items: T) -> Result<T, Unread> {
-    Err(Unread::Wanted("fewer items"))
+    Some((first, second?))
 }

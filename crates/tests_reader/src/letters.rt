@@ -1,8 +1,8 @@
 //! What is read letter by letter.
 
-ghost use Rattle.std.specs.Prelude.{◌<◌, IfOk};
+ghost use Rattle.std.specs.Prelude.{◌<◌, IfSome};
 
-use rhai_base::{INT, Ident, ImmutableString, OutOfMemory, Position};
+use rhai_base::{Boxed, INT, Ident, ImmutableString, OutOfMemory, Position};
 use std::alloc::{AllocError, AllocFailed, Global};
 use std::cell::Cell;
 use std::str;
@@ -11,7 +11,7 @@ use std::str;
 pub(crate) const ITEMS: usize = 20;
 
 /// Why a text is no tree.
-#[derive(Debug, Drop)]
+#[derive(Clone, Copy, Debug)]
 pub enum Unread {
     NoMemory,
     /// Something else stands where this should.
@@ -55,12 +55,14 @@ impl Kind {
     }
 }
 
-/// What is left of a text, in a cell, so that it is read by `&self`: docs/GATE.md says what a `&mut` to what borrows costs.
+/// What is left of a text, and its first fault, in cells, so that it is read by `&self`: docs/GATE.md says what a `&mut` to what
+/// borrows costs, and what a `?` does. What is read behind a fault means nothing, and `whole` refuses it.
 #[derive(Drop)]
 pub(crate) struct Letters<'a> {
     pub(crate) alloc: Global,
     rest: Cell<&'a [u8]>,
     length: usize,
+    fault: Cell<Option<Unread>>,
 }
 
 impl<'a> Letters<'a> {
@@ -70,8 +72,74 @@ impl<'a> Letters<'a> {
             alloc,
             rest: Cell::new(rest),
             length: rest.len(),
+            fault: Cell::new(None),
         }
     }
+
+    // ---- faults
+
+    /// Remembers the first fault.
+    pub(crate) fn refuse(&self, fault: Unread) {
+        if self.fault.get().is_none() {
+            self.fault.set(Some(fault));
+        }
+    }
+
+    /// What should stand there.
+    pub(crate) fn wanted<T: Drop>(&self, read: Option<T>, what: &'static str) -> Option<T> {
+        if read.is_none() {
+            self.refuse(Unread::Wanted(what));
+        }
+        read
+    }
+
+    /// What was made, if there was memory for it.
+    pub(crate) fn made<T: Drop, E: Drop>(&self, made: Result<T, E>) -> Option<T> {
+        if made.is_err() {
+            self.refuse(Unread::NoMemory);
+        }
+        made.ok()
+    }
+
+    /// What was read of the whole text.
+    pub(crate) fn whole<T: Drop>(&self, read: Option<T>) -> Result<T, Unread> {
+        if !self.is_at_end() {
+            self.refuse(Unread::Wanted("the end"));
+        }
+        match self.fault.get() {
+            Some(fault) => Err(fault),
+            None => read.ok_or(Unread::Wanted("a whole text")),
+        }
+    }
+
+    /// One step less deep.
+    pub(crate) fn below(&self, depth: u32) -> Option<u32>
+        ensures { IfSome result (λ d. d < depth) }
+    {
+        if depth == 0 {
+            self.refuse(Unread::Wanted("fewer levels"));
+        }
+        depth.checked_sub(1)
+    }
+
+    // ---- what is made
+
+    pub(crate) fn shared(&self, text: &str) -> Option<ImmutableString> {
+        self.made(ImmutableString::new(self.alloc, text))
+    }
+
+    pub(crate) fn boxed<T: Drop>(&self, value: T) -> Option<Boxed<T>> {
+        self.made(Boxed::new(self.alloc, value))
+    }
+
+    /// Adds an item, if there is one.
+    pub(crate) fn push<T: Drop>(&self, items: &mut Vec<T>, item: Option<T>) {
+        if let Some(item) = item {
+            self.made(items.push(item));
+        }
+    }
+
+    // ---- letters
 
     /// Where the last letter stands.
     pub(crate) fn last(&self) -> Position {
@@ -110,11 +178,10 @@ impl<'a> Letters<'a> {
         }
     }
 
-    pub(crate) fn expect(&self, letters: &'static str) -> Result<(), Unread> {
-        if self.skip(letters) {
-            Ok(())
-        } else {
-            Err(Unread::Wanted(letters))
+    /// Goes past these letters, which should stand next.
+    pub(crate) fn expect(&self, letters: &'static str) {
+        if !self.skip(letters) {
+            self.refuse(Unread::Wanted(letters));
         }
     }
 
@@ -189,14 +256,21 @@ impl<'a> Letters<'a> {
     }
 
     /// A name.
-    pub(crate) fn ident(&self) -> Result<Ident, Unread> {
+    pub(crate) fn ident(&self) -> Option<Ident> {
         let pos = self.here();
         let word = self.word();
         if word.is_empty() {
-            return Err(Unread::Wanted("a name"));
+            self.refuse(Unread::Wanted("a name"));
+            return None;
         }
-        let name = ImmutableString::new(self.alloc, word)?;
-        Ok(Ident { name, pos })
+        self.ident_of(word, pos)
+    }
+
+    pub(crate) fn ident_of(&self, word: &str, pos: Position) -> Option<Ident> {
+        match self.shared(word) {
+            Some(name) => Some(Ident { name, pos }),
+            None => None,
+        }
     }
 
     /// An integer, where one stands next.
@@ -209,18 +283,16 @@ impl<'a> Letters<'a> {
         integer.ok()
     }
 
-    /// A number, where one stands next.
-    pub(crate) fn number(&self) -> Result<usize, Unread> {
-        let number = self.integer().ok_or(Unread::Wanted("a number"))?;
-        usize::try_from(number).or(Err(Unread::Wanted("a number")))
+    /// A number.
+    pub(crate) fn number(&self) -> usize {
+        match usize::try_from(self.integer().unwrap_or(-1)) {
+            Ok(number) => number,
+            Err(_) => {
+                self.refuse(Unread::Wanted("a number"));
+                0
+            }
+        }
     }
-}
-
-/// One step less deep.
-pub(crate) fn below(depth: u32) -> Result<u32, Unread>
-    ensures { IfOk result (λ d. d < depth) }
-{
-    depth.checked_sub(1).ok_or(Unread::Wanted("fewer levels"))
 }
 
 fn column(column: usize) -> Position {

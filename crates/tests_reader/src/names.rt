@@ -1,11 +1,9 @@
 //! Names, signs and flags.
 
 use crate::forms::Flat;
-use crate::joined::{fill, push};
-use crate::letters::{ITEMS, Letters, Unread};
-use crate::nodes;
+use crate::letters::{ITEMS, Letters};
 use crate::parts::Parts;
-use rhai_base::{ASTFlags, Ident, ImmutableString, Namespace, OpAssignment, Position};
+use rhai_base::{ASTFlags, Ident, Namespace, OpAssignment, Position};
 use std::mem;
 
 /// What is called, or a variable: its path and its name, and whether it sees the caller's names.
@@ -18,78 +16,80 @@ pub(crate) struct Called {
 
 impl<'a> Letters<'a> {
     /// Reads a part that no other node stands in.
-    pub(crate) fn flat(&self, part: Flat, parts: &mut Parts) -> Result<(), Unread> {
+    pub(crate) fn flat(&self, part: Flat, parts: &mut Parts) {
         match part {
             Flat::Flag(flag) => parts.options |= flag,
-            Flat::Name => self.name(parts)?,
-            Flat::Alias => self.alias(parts)?,
-            Flat::LoopNames => self.loop_names(parts)?,
-            Flat::Names => self.names(parts)?,
-            Flat::Until => parts.options |= self.condition()?,
+            Flat::Name => self.name(parts),
+            Flat::Alias => self.alias(parts),
+            Flat::LoopNames => self.loop_names(parts),
+            Flat::Names => self.names(parts),
+            Flat::Until => parts.options |= self.condition(),
             Flat::Ending => parts.options |= self.ending(),
-            Flat::Callee => fill(&mut parts.called, self.callee())?,
-            Flat::Caught => self.caught(parts)?,
-            Flat::Table => fill(&mut parts.table, self.table())?,
+            Flat::Callee => parts.called = self.callee(),
+            Flat::Caught => self.caught(parts),
+            Flat::Table => parts.table = Some(self.table()),
         }
-        Ok(())
     }
 
     /// A path and its name, from its first word on.
-    pub(crate) fn called(&self, word: &str, pos: Position) -> Result<Called, Unread> {
-        let name = ImmutableString::new(self.alloc, word)?;
-        let mut called = Called {
-            namespace: Namespace::none(self.alloc),
-            name: Ident { name, pos },
-            captures: false,
-        };
-        self.path(&mut called)?;
+    pub(crate) fn called(&self, word: &str, pos: Position) -> Option<Called> {
+        let mut called = self.called_of(word, pos)?;
+        self.path(&mut called);
         called.captures = self.starts("!(") && self.skip("!");
-        Ok(called)
+        Some(called)
     }
 
-    fn path(&self, called: &mut Called) -> Result<(), Unread> {
+    fn called_of(&self, word: &str, pos: Position) -> Option<Called> {
+        match self.ident_of(word, pos) {
+            Some(name) => Some(Called {
+                namespace: Namespace::none(self.alloc),
+                name,
+                captures: false,
+            }),
+            None => None,
+        }
+    }
+
+    fn path(&self, called: &mut Called) {
         for _ in 0..ITEMS {
             if !self.skip("::") {
                 break;
             }
-            let module = mem::replace(&mut called.name, self.segment()?);
-            called.namespace.path.push(module)?;
+            if let Some(name) = self.segment() {
+                let module = mem::replace(&mut called.name, name);
+                self.made(called.namespace.path.push(module));
+            }
         }
-        Ok(())
     }
 
     /// What follows in a path: a name, or an operator before its `(`.
-    fn segment(&self) -> Result<Ident, Unread> {
+    fn segment(&self) -> Option<Ident> {
         let pos = self.here();
         let word = match self.word() {
             "" => self.symbol(),
             word => word,
         };
-        let name = ImmutableString::new(self.alloc, word)?;
-        Ok(Ident { name, pos })
+        self.ident_of(word, pos)
     }
 
     /// An operator, and goes past the `(`.
-    pub(crate) fn operator(&self, pos: Position) -> Result<Called, Unread> {
-        let written = self.until(b'(').ok_or(Unread::Wanted("a call"))?;
+    pub(crate) fn operator(&self, pos: Position) -> Option<Called> {
+        let written = self.wanted(self.until(b'('), "a call")?;
         let (symbol, captures) = capturing(written);
-        let name = ImmutableString::new(self.alloc, symbol)?;
-        Ok(Called {
-            namespace: Namespace::none(self.alloc),
-            name: Ident { name, pos },
-            captures,
-        })
+        let mut called = self.called_of(symbol, pos)?;
+        called.captures = captures;
+        Some(called)
     }
 
     /// What is called, and goes past the `(`.
-    fn callee(&self) -> Result<Called, Unread> {
+    fn callee(&self) -> Option<Called> {
         let pos = self.here();
         match self.word() {
             "" => self.operator(pos),
             word => {
-                let called = self.called(word, pos)?;
-                self.expect("(")?;
-                Ok(called)
+                let called = self.called(word, pos);
+                self.expect("(");
+                called
             }
         }
     }
@@ -127,56 +127,58 @@ impl<'a> Letters<'a> {
     }
 
     /// Whether a loop goes on until its condition.
-    fn condition(&self) -> Result<ASTFlags, Unread> {
+    fn condition(&self) -> ASTFlags {
         if self.skip(" until ") {
-            return Ok(ASTFlags::NEGATED);
+            return ASTFlags::NEGATED;
         }
-        self.expect(" while ")?;
-        Ok(ASTFlags::NONE)
+        self.expect(" while ");
+        ASTFlags::NONE
     }
 
-    fn name(&self, parts: &mut Parts) -> Result<(), Unread> {
-        let name = self.ident()?;
-        parts.names.push((name, None))?;
-        Ok(())
+    fn name(&self, parts: &mut Parts) {
+        self.push_name(self.ident(), parts);
     }
 
-    fn alias(&self, parts: &mut Parts) -> Result<(), Unread> {
+    fn push_name(&self, name: Option<Ident>, parts: &mut Parts) {
+        if let Some(name) = name {
+            self.push(&mut parts.names, Some((name, None)));
+        }
+    }
+
+    fn alias(&self, parts: &mut Parts) {
         let pos = self.here();
-        let name = ImmutableString::new(self.alloc, self.word())?;
-        parts.names.push((Ident { name, pos }, None))?;
-        Ok(())
+        self.push_name(self.ident_of(self.word(), pos), parts);
     }
 
-    fn names(&self, parts: &mut Parts) -> Result<(), Unread> {
+    fn names(&self, parts: &mut Parts) {
         for _ in 0..ITEMS {
-            self.name(parts)?;
+            self.name(parts);
             if !self.skip(", ") {
-                return Ok(());
+                break;
             }
         }
-        Err(Unread::Wanted("fewer items"))
     }
 
-    fn loop_names(&self, parts: &mut Parts) -> Result<(), Unread> {
-        if !self.skip("(") {
-            return self.name(parts);
+    fn loop_names(&self, parts: &mut Parts) {
+        if self.skip("(") {
+            self.names(parts);
+            self.expect(")");
+        } else {
+            self.name(parts);
         }
-        self.names(parts)?;
-        self.expect(")")
     }
 
     /// The catch name as an expression; nothing where there is none.
-    fn caught(&self, parts: &mut Parts) -> Result<(), Unread> {
-        self.expect(" catch ")?;
+    fn caught(&self, parts: &mut Parts) {
+        self.expect(" catch ");
         if self.starts("{") {
-            return Ok(());
+            return;
         }
         let pos = self.here();
-        let word = self.word();
-        let called = self.called(word, pos)?;
-        push(&mut parts.exprs, nodes::variable(self.alloc, called))?;
-        self.expect(" ")
+        if let Some(called) = self.called(self.word(), pos) {
+            self.push(&mut parts.exprs, self.variable(called));
+        }
+        self.expect(" ");
     }
 }
 

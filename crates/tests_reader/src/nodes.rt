@@ -1,84 +1,215 @@
 //! Nodes of their parts.
 
 use crate::forms::{ExprKind, StmtKind};
-use crate::letters::Unread;
+use crate::letters::Letters;
 use crate::names::Called;
 use crate::parts::Parts;
 use rhai_ast::{BinaryExpr, Expr, FnCallExpr, Literals, Stmt, StmtBlock, SwitchBlock};
-use rhai_base::{Boxed, Dynamic, Ident, ImmutableString, Position, Seq, StringMap, Token};
+use rhai_base::{
+    Boxed, Dynamic, Ident, ImmutableString, OutOfMemory, Position, Seq, StringMap, Token,
+};
 use std::alloc::Global;
 use std::mem;
 
-/// The expression of this kind.
-pub(crate) fn expr(kind: ExprKind, parts: &mut Parts, pos: Position) -> Result<Expr, Unread> {
-    match kind {
-        ExprKind::Array => Ok(Expr::Array(listed(parts)?, pos)),
-        ExprKind::Map => map(parts, pos),
-        ExprKind::Text => Ok(Expr::InterpolatedString(listed(parts)?, pos)),
-        ExprKind::And => Ok(Expr::And(listed(parts)?, pos)),
-        ExprKind::Or => Ok(Expr::Or(listed(parts)?, pos)),
-        ExprKind::Coalesce => Ok(Expr::Coalesce(listed(parts)?, pos)),
-        ExprKind::This => Ok(Expr::ThisPtr(pos)),
-        ExprKind::Dot | ExprKind::Index => step(kind, parts, pos),
-        ExprKind::Call | ExprKind::Variable | ExprKind::Property | ExprKind::Method => {
-            let called = parts.called()?;
-            named(kind, called, parts)
+impl<'a> Letters<'a> {
+    /// The expression of this kind.
+    pub(crate) fn node(&self, kind: ExprKind, parts: &mut Parts, pos: Position) -> Option<Expr> {
+        match kind {
+            ExprKind::Array => Some(Expr::Array(self.listed(parts)?, pos)),
+            ExprKind::Map => self.map(parts, pos),
+            ExprKind::Text => Some(Expr::InterpolatedString(self.listed(parts)?, pos)),
+            ExprKind::And => Some(Expr::And(self.listed(parts)?, pos)),
+            ExprKind::Or => Some(Expr::Or(self.listed(parts)?, pos)),
+            ExprKind::Coalesce => Some(Expr::Coalesce(self.listed(parts)?, pos)),
+            ExprKind::This => Some(Expr::ThisPtr(pos)),
+            ExprKind::Dot | ExprKind::Index => self.step(kind, parts, pos),
+            ExprKind::Call | ExprKind::Variable | ExprKind::Property | ExprKind::Method => {
+                self.of_name(kind, parts)
+            }
         }
     }
-}
 
-fn listed(parts: &mut Parts) -> Result<Boxed<Seq<Expr>>, Unread> {
-    Ok(Boxed::new(parts.alloc, parts.exprs())?)
-}
-
-/// The literal of a map, whose template has its keys.
-fn map(parts: &mut Parts, pos: Position) -> Result<Expr, Unread> {
-    let alloc = parts.alloc;
-    let template = template(alloc, parts.pairs.as_slice())?;
-    let pairs = Seq::from_vec(mem::replace(&mut parts.pairs, Vec::new(alloc)));
-    Ok(Expr::Map(Boxed::new(alloc, (pairs, template))?, pos))
-}
-
-/// The keys, with units.
-fn template(alloc: Global, pairs: &[(Ident, Expr)]) -> Result<StringMap<Dynamic>, Unread> {
-    let mut template = StringMap::new(alloc);
-    for pair in pairs {
-        template.insert(pair.0.name.clone()?, Dynamic::Unit)?;
+    fn listed(&self, parts: &mut Parts) -> Option<Boxed<Seq<Expr>>> {
+        self.boxed(parts.exprs())
     }
-    Ok(template)
-}
 
-/// A step of a chain.
-fn step(kind: ExprKind, parts: &mut Parts, pos: Position) -> Result<Expr, Unread> {
-    let sides = Boxed::new(parts.alloc, parts.sides())?;
-    match kind {
-        ExprKind::Dot => Ok(Expr::Dot(sides, parts.options, pos)),
-        _ => Ok(Expr::Index(sides, parts.options, pos)),
+    /// The literal of a map, whose template has its keys.
+    fn map(&self, parts: &mut Parts, pos: Position) -> Option<Expr> {
+        let template = self.template(parts.pairs.as_slice());
+        let pairs = mem::replace(&mut parts.pairs, Vec::new(self.alloc));
+        let map = self.boxed((Seq::from_vec(pairs), template))?;
+        Some(Expr::Map(map, pos))
     }
-}
 
-/// What a name stands for; it stands where the last name of its path does.
-fn named(kind: ExprKind, called: Called, parts: &mut Parts) -> Result<Expr, Unread> {
-    let pos = called.name.pos;
-    match kind {
-        ExprKind::Call => Ok(Expr::FnCall(call(called, parts)?, pos)),
-        ExprKind::Method => Ok(Expr::MethodCall(call(called, parts)?, pos)),
-        ExprKind::Property => property(parts.alloc, called.name),
-        _ => variable(parts.alloc, called),
+    /// The keys, with units.
+    fn template(&self, pairs: &[(Ident, Expr)]) -> StringMap<Dynamic> {
+        let mut template = StringMap::new(self.alloc);
+        for pair in pairs {
+            if let Some(key) = self.made(pair.0.name.clone()) {
+                self.made(template.insert(key, Dynamic::Unit));
+            }
+        }
+        template
     }
-}
 
-/// A call; an operator where the name is a symbol.
-fn call(called: Called, parts: &mut Parts) -> Result<Boxed<FnCallExpr>, Unread> {
-    let op_token = token(called.name.as_str(), parts.exprs.len());
-    let call = FnCallExpr {
-        namespace: called.namespace,
-        name: called.name.name,
-        args: parts.exprs(),
-        capture_parent_scope: called.captures,
-        op_token,
-    };
-    Ok(Boxed::new(parts.alloc, call)?)
+    /// A step of a chain.
+    fn step(&self, kind: ExprKind, parts: &mut Parts, pos: Position) -> Option<Expr> {
+        let sides = self.boxed(parts.sides())?;
+        match kind {
+            ExprKind::Dot => Some(Expr::Dot(sides, parts.options, pos)),
+            _ => Some(Expr::Index(sides, parts.options, pos)),
+        }
+    }
+
+    /// What a name stands for; it stands where the last name of its path does.
+    fn of_name(&self, kind: ExprKind, parts: &mut Parts) -> Option<Expr> {
+        let called = self.wanted(parts.called(), "a call")?;
+        let pos = called.name.pos;
+        match kind {
+            ExprKind::Call => Some(Expr::FnCall(self.call(called, parts)?, pos)),
+            ExprKind::Method => Some(Expr::MethodCall(self.call(called, parts)?, pos)),
+            ExprKind::Property => self.property(called.name),
+            _ => self.variable(called),
+        }
+    }
+
+    /// A call; an operator where the name is a symbol.
+    fn call(&self, called: Called, parts: &mut Parts) -> Option<Boxed<FnCallExpr>> {
+        let op_token = token(called.name.as_str(), parts.exprs.len());
+        self.boxed(FnCallExpr {
+            namespace: called.namespace,
+            name: called.name.name,
+            args: parts.exprs(),
+            capture_parent_scope: called.captures,
+            op_token,
+        })
+    }
+
+    pub(crate) fn variable(&self, called: Called) -> Option<Expr> {
+        let pos = called.name.pos;
+        let parts = self.boxed((None, called.name.name, called.namespace))?;
+        Some(Expr::Variable(parts, None, pos))
+    }
+
+    /// A property with the names of the functions that read and write it.
+    fn property(&self, name: Ident) -> Option<Expr> {
+        let getter = self.prefixed("get$", &name.name)?;
+        let setter = self.prefixed("set$", &name.name)?;
+        let names = self.boxed((getter, setter, name.name))?;
+        Some(Expr::Property(names, name.pos))
+    }
+
+    fn prefixed(&self, before: &str, name: &ImmutableString) -> Option<ImmutableString> {
+        self.made(joined(self.alloc, before, name.as_str()))
+    }
+
+    /// A value, where there is one, as the expression that it is read as.
+    pub(crate) fn constant_of(&self, value: Option<Dynamic>, pos: Position) -> Option<Expr> {
+        match value {
+            Some(value) => self.made(Expr::from_dynamic(self.alloc, value, pos)),
+            None => None,
+        }
+    }
+
+    /// A value, where there is one, as a constant of its own.
+    pub(crate) fn held_constant(&self, value: Option<Dynamic>, pos: Position) -> Option<Expr> {
+        let value = self.boxed(value?)?;
+        Some(Expr::DynamicConstant(value, pos))
+    }
+
+    /// A block as an expression.
+    pub(crate) fn braces(&self, block: Option<StmtBlock>) -> Option<Expr> {
+        let block = self.boxed(block?)?;
+        Some(Expr::Stmt(block))
+    }
+
+    /// The statement of this kind.
+    pub(crate) fn stmt(&self, kind: StmtKind, parts: &mut Parts, pos: Position) -> Option<Stmt> {
+        match kind {
+            StmtKind::Noop => Some(Stmt::Noop(pos)),
+            StmtKind::If => Some(Stmt::If(self.boxed(parts.flow())?, pos)),
+            StmtKind::Switch => self.switch(parts, pos),
+            StmtKind::While => Some(Stmt::While(self.boxed(parts.flow())?, pos)),
+            StmtKind::Do => Some(Stmt::Do(self.boxed(parts.flow())?, parts.options, pos)),
+            StmtKind::For => self.each(parts, pos),
+            StmtKind::Var => self.declaration(parts, pos),
+            StmtKind::Call => self.call_alone(parts, pos),
+            StmtKind::Block => Some(Stmt::Block(self.boxed(parts.body())?)),
+            StmtKind::Try => Some(Stmt::TryCatch(self.boxed(parts.flow())?, pos)),
+            StmtKind::Expr => self.alone(parts),
+            StmtKind::Leave => Some(Stmt::BreakLoop(self.last_expr(parts), parts.options, pos)),
+            StmtKind::Return => Some(Stmt::Return(self.last_expr(parts), parts.options, pos)),
+            StmtKind::Import => self.import(parts, pos),
+            StmtKind::Export => self.export(parts, pos),
+            StmtKind::Share => self.share(parts),
+        }
+    }
+
+    fn switch(&self, parts: &mut Parts, pos: Position) -> Option<Stmt> {
+        let mut cases = self.wanted(parts.table(), "a table")?;
+        cases.expressions = parts.arms();
+        let expr = parts.expr();
+        let switch = self.boxed(SwitchBlock { expr, cases })?;
+        Some(Stmt::Switch(switch, pos))
+    }
+
+    /// A loop over the values of its guard.
+    fn each(&self, parts: &mut Parts, pos: Position) -> Option<Stmt> {
+        let counter = parts.second_name();
+        let name = self.last_name(parts)?;
+        let each = self.boxed((name, counter, parts.flow()))?;
+        Some(Stmt::For(each, pos))
+    }
+
+    fn last_name(&self, parts: &mut Parts) -> Option<Ident> {
+        self.wanted(parts.name(), "a name")
+    }
+
+    fn declaration(&self, parts: &mut Parts, pos: Position) -> Option<Stmt> {
+        let name = self.last_name(parts)?;
+        let declared = self.boxed((name, parts.expr(), None))?;
+        Some(Stmt::Var(declared, parts.options, pos))
+    }
+
+    fn call_alone(&self, parts: &mut Parts, pos: Position) -> Option<Stmt> {
+        let called = self.wanted(parts.called(), "a call")?;
+        let call = self.call(called, parts)?;
+        Some(Stmt::FnCall(call, pos))
+    }
+
+    /// An expression or an assignment.
+    fn alone(&self, parts: &mut Parts) -> Option<Stmt> {
+        match mem::replace(&mut parts.sign, None) {
+            Some(sign) => Some(Stmt::Assignment(self.boxed((sign, parts.sides()))?)),
+            None => Some(Stmt::Expr(self.boxed(parts.expr())?)),
+        }
+    }
+
+    fn last_expr(&self, parts: &mut Parts) -> Option<Boxed<Expr>> {
+        match parts.exprs.pop() {
+            Some(expr) => self.boxed(expr),
+            None => None,
+        }
+    }
+
+    fn import(&self, parts: &mut Parts, pos: Position) -> Option<Stmt> {
+        let name = self.last_name(parts)?;
+        let import = self.boxed((parts.expr(), name))?;
+        Some(Stmt::Import(import, pos))
+    }
+
+    fn export(&self, parts: &mut Parts, pos: Position) -> Option<Stmt> {
+        let alias = self.last_name(parts)?;
+        let name = self.last_name(parts)?;
+        let export = self.boxed((name, alias))?;
+        Some(Stmt::Export(export, pos))
+    }
+
+    fn share(&self, parts: &mut Parts) -> Option<Stmt> {
+        let names = mem::replace(&mut parts.names, Vec::new(self.alloc));
+        let names = self.boxed(Seq::from_vec(names))?;
+        Some(Stmt::Share(names))
+    }
 }
 
 /// The operator of a symbol over so many operands; none for a function's name.
@@ -90,145 +221,14 @@ fn token(symbol: &str, operands: usize) -> Option<Token> {
     }
 }
 
-pub(crate) fn variable(alloc: Global, called: Called) -> Result<Expr, Unread> {
-    let pos = called.name.pos;
-    let parts = Boxed::new(alloc, (None, called.name.name, called.namespace))?;
-    Ok(Expr::Variable(parts, None, pos))
-}
-
-/// A property with the names of the functions that read and write it.
-fn property(alloc: Global, name: Ident) -> Result<Expr, Unread> {
-    let getter = prefixed(alloc, "get$", &name.name)?;
-    let setter = prefixed(alloc, "set$", &name.name)?;
-    let names = Boxed::new(alloc, (getter, setter, name.name))?;
-    Ok(Expr::Property(names, name.pos))
-}
-
-fn prefixed(
-    alloc: Global,
-    before: &str,
-    name: &ImmutableString,
-) -> Result<ImmutableString, Unread> {
+fn joined(alloc: Global, before: &str, name: &str) -> Result<ImmutableString, OutOfMemory> {
     let mut text = String::from_str(alloc, before)?;
-    text.push_str(name.as_str())?;
+    text.push_str(name)?;
     Ok(ImmutableString::from_string(text)?)
 }
 
-/// A value as the expression that it is read as.
-pub(crate) fn constant(
-    alloc: Global,
-    value: Option<Dynamic>,
-    pos: Position,
-) -> Result<Option<Expr>, Unread> {
-    match value {
-        Some(value) => Ok(Some(Expr::from_dynamic(alloc, value, pos)?)),
-        None => Ok(None),
-    }
-}
-
-/// A value as a constant of its own.
-pub(crate) fn held(
-    alloc: Global,
-    value: Option<Dynamic>,
-    pos: Position,
-) -> Result<Option<Expr>, Unread> {
-    match value {
-        Some(value) => Ok(Some(Expr::DynamicConstant(Boxed::new(alloc, value)?, pos))),
-        None => Ok(None),
-    }
-}
-
-/// A block as an expression.
-pub(crate) fn braces(alloc: Global, block: Result<StmtBlock, Unread>) -> Result<Expr, Unread> {
-    Ok(Expr::Stmt(Boxed::new(alloc, block?)?))
-}
-
-/// The statement of this kind.
-pub(crate) fn stmt(kind: StmtKind, parts: &mut Parts, pos: Position) -> Result<Stmt, Unread> {
-    let alloc = parts.alloc;
-    match kind {
-        StmtKind::Noop => Ok(Stmt::Noop(pos)),
-        StmtKind::If => Ok(Stmt::If(Boxed::new(alloc, parts.flow())?, pos)),
-        StmtKind::Switch => switch(parts, pos),
-        StmtKind::While => Ok(Stmt::While(Boxed::new(alloc, parts.flow())?, pos)),
-        StmtKind::Do => Ok(Stmt::Do(Boxed::new(alloc, parts.flow())?, parts.options, pos)),
-        StmtKind::For => each(parts, pos),
-        StmtKind::Var => declaration(parts, pos),
-        StmtKind::Call => {
-            let called = parts.called()?;
-            Ok(Stmt::FnCall(call(called, parts)?, pos))
-        }
-        StmtKind::Block => Ok(Stmt::Block(Boxed::new(alloc, parts.body())?)),
-        StmtKind::Try => Ok(Stmt::TryCatch(Boxed::new(alloc, parts.flow())?, pos)),
-        StmtKind::Expr => alone(parts),
-        StmtKind::Leave => Ok(Stmt::BreakLoop(maybe(parts)?, parts.options, pos)),
-        StmtKind::Return => Ok(Stmt::Return(maybe(parts)?, parts.options, pos)),
-        StmtKind::Import => import(parts, pos),
-        StmtKind::Export => export(parts, pos),
-        StmtKind::Share => share(parts),
-    }
-}
-
-fn switch(parts: &mut Parts, pos: Position) -> Result<Stmt, Unread> {
-    let alloc = parts.alloc;
-    let table = mem::replace(&mut parts.table, None);
-    let mut cases = table.ok_or(Unread::Wanted("a table"))?;
-    cases.expressions = Seq::from_vec(mem::replace(&mut parts.arms, Vec::new(alloc)));
-    let expr = parts.expr();
-    Ok(Stmt::Switch(Boxed::new(alloc, SwitchBlock { expr, cases })?, pos))
-}
-
-/// A loop over the values of its guard.
-fn each(parts: &mut Parts, pos: Position) -> Result<Stmt, Unread> {
-    let counter = parts.second_name()?;
-    let name = parts.name()?;
-    let flow = parts.flow();
-    Ok(Stmt::For(Boxed::new(parts.alloc, (name, counter, flow))?, pos))
-}
-
-fn declaration(parts: &mut Parts, pos: Position) -> Result<Stmt, Unread> {
-    let name = parts.name()?;
-    let value = parts.expr();
-    let declared = Boxed::new(parts.alloc, (name, value, None))?;
-    Ok(Stmt::Var(declared, parts.options, pos))
-}
-
-/// An expression or an assignment.
-fn alone(parts: &mut Parts) -> Result<Stmt, Unread> {
-    let alloc = parts.alloc;
-    match mem::replace(&mut parts.sign, None) {
-        Some(sign) => Ok(Stmt::Assignment(Boxed::new(alloc, (sign, parts.sides()))?)),
-        None => Ok(Stmt::Expr(Boxed::new(alloc, parts.expr())?)),
-    }
-}
-
-fn maybe(parts: &mut Parts) -> Result<Option<Boxed<Expr>>, Unread> {
-    match parts.exprs.pop() {
-        Some(expr) => Ok(Some(Boxed::new(parts.alloc, expr)?)),
-        None => Ok(None),
-    }
-}
-
-fn import(parts: &mut Parts, pos: Position) -> Result<Stmt, Unread> {
-    let name = parts.name()?;
-    let path = parts.expr();
-    Ok(Stmt::Import(Boxed::new(parts.alloc, (path, name))?, pos))
-}
-
-fn export(parts: &mut Parts, pos: Position) -> Result<Stmt, Unread> {
-    let alias = parts.name()?;
-    let name = parts.name()?;
-    Ok(Stmt::Export(Boxed::new(parts.alloc, (name, alias))?, pos))
-}
-
-fn share(parts: &mut Parts) -> Result<Stmt, Unread> {
-    let alloc = parts.alloc;
-    let names = Seq::from_vec(mem::replace(&mut parts.names, Vec::new(alloc)));
-    Ok(Stmt::Share(Boxed::new(alloc, names)?))
-}
-
 /// An arm of its condition and its answer.
-pub(crate) fn arm(sides: Result<(Expr, Expr), Unread>) -> Result<BinaryExpr, Unread> {
-    let (lhs, rhs) = sides?;
-    Ok(BinaryExpr { lhs, rhs })
+pub(crate) fn arm(lhs: Option<Expr>, rhs: Option<Expr>) -> Option<BinaryExpr> {
+    let lhs = lhs?;
+    Some(BinaryExpr { lhs, rhs: rhs? })
 }

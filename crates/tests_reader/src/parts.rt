@@ -1,15 +1,13 @@
 //! The parts of a node, as they are read.
 
-use crate::letters::Unread;
 use crate::names::Called;
 use rhai_ast::{BinaryExpr, Expr, FlowControl, Stmt, StmtBlock, SwitchCasesCollection};
-use rhai_base::{ASTFlags, Boxed, Ident, OpAssignment, Position, Seq};
+use rhai_base::{ASTFlags, Ident, OpAssignment, Position, Seq};
 use std::alloc::Global;
 use std::mem;
 use std::num::NonZeroUsize;
 
 /// What was read of a node; each list in the order of the text.
-#[derive(Drop)]
 pub(crate) struct Parts {
     pub(crate) alloc: Global,
     pub(crate) exprs: Vec<Expr>,
@@ -26,8 +24,29 @@ pub(crate) struct Parts {
     pub(crate) options: ASTFlags,
 }
 
+/// Written by hand, so that the parts of a node go in one place.
+impl Drop for Parts {
+    fn drop(self) {
+        let Parts {
+            alloc: _alloc,
+            exprs: _exprs,
+            pairs: _pairs,
+            arms: _arms,
+            statements: _statements,
+            body: _body,
+            branch: _branch,
+            names: _names,
+            called: _called,
+            sign: _sign,
+            table: _table,
+            options: _options,
+        } = self;
+    }
+}
+
 impl Parts {
-    fn new(alloc: Global) -> Parts {
+    /// No parts yet.
+    pub(crate) fn new(alloc: Global) -> Parts {
         Parts {
             alloc,
             exprs: Vec::new(alloc),
@@ -42,11 +61,6 @@ impl Parts {
             table: None,
             options: ASTFlags::NONE,
         }
-    }
-
-    /// No parts yet, in a box, which lets go of them in one place.
-    pub(crate) fn boxed(alloc: Global) -> Result<Boxed<Parts>, Unread> {
-        Ok(Boxed::new(alloc, Parts::new(alloc))?)
     }
 
     /// The last expression; `()` where there is none.
@@ -93,24 +107,32 @@ impl Parts {
     }
 
     /// The last name.
-    pub(crate) fn name(&mut self) -> Result<Ident, Unread> {
+    pub(crate) fn name(&mut self) -> Option<Ident> {
         match self.names.pop() {
-            Some((name, _)) => Ok(name),
-            None => Err(Unread::Wanted("a name")),
+            Some((name, _)) => Some(name),
+            None => None,
         }
     }
 
     /// The second of two names.
-    pub(crate) fn second_name(&mut self) -> Result<Option<Ident>, Unread> {
+    pub(crate) fn second_name(&mut self) -> Option<Ident> {
         if self.names.len() == 2 {
-            Ok(Some(self.name()?))
+            self.name()
         } else {
-            Ok(None)
+            None
         }
     }
 
-    pub(crate) fn called(&mut self) -> Result<Called, Unread> {
-        mem::replace(&mut self.called, None).ok_or(Unread::Wanted("a call"))
+    pub(crate) fn called(&mut self) -> Option<Called> {
+        mem::replace(&mut self.called, None)
+    }
+
+    pub(crate) fn table(&mut self) -> Option<SwitchCasesCollection> {
+        mem::replace(&mut self.table, None)
+    }
+
+    pub(crate) fn arms(&mut self) -> Seq<BinaryExpr> {
+        Seq::from_vec(mem::replace(&mut self.arms, Vec::new(self.alloc)))
     }
 }
 

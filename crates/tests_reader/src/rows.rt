@@ -1,6 +1,5 @@
 //! What a run is given: named values, and what a host answers.
 
-use crate::joined::both;
 use crate::letters::Unread;
 use crate::values::read_value;
 use rhai_base::{Dynamic, ImmutableString};
@@ -83,4 +82,13 @@ fn read_answered(alloc: Global, answer: &str) -> Result<(Dynamic, Option<Dynamic
         }
         None => both(read_value(alloc, answer), Ok(None)),
     }
+}
+
+/// The two of them, if both were read.
+fn both<A: Drop, B: Drop>(
+    first: Result<A, Unread>,
+    second: Result<B, Unread>,
+) -> Result<(A, B), Unread> {
+    let first = first?;
+    Ok((first, second?))
 }

@@ -1,8 +1,8 @@
 //! Scripts: statements, each on a line, and then functions, each on a line.
 
-use crate::joined::{both, ended, push};
+use crate::joined::both;
 use crate::letters::{ITEMS, Letters, Unread};
-use rhai_ast::{FnAccess, ScriptFuncDef, Stmt, StmtBlock};
+use rhai_ast::{FnAccess, ScriptFuncDef, Stmt};
 use rhai_base::{ImmutableString, Seq};
 use std::alloc::Global;
 use std::rc::Rc;
@@ -19,90 +19,74 @@ pub struct Script {
 /// The script of a text.
 pub fn read_script(alloc: Global, text: &str) -> Result<Script, Unread> {
     let letters = Letters::new(alloc, text);
-    let mut script = Script {
-        statements: Vec::new(alloc),
-        functions: Vec::new(alloc),
-    };
-    letters.lines(&mut script.statements)?;
-    letters.functions(&mut script.functions)?;
-    Ok(script)
+    let statements = letters.lines();
+    let functions = letters.functions();
+    letters.whole(Some(Script {
+        statements,
+        functions,
+    }))
 }
 
-/// A receiver's type or none, a name and the names of the parameters.
-type Signature = (
-    (Option<ImmutableString>, ImmutableString),
-    Seq<ImmutableString>,
-);
-
 impl<'a> Letters<'a> {
-    fn functions(&self, functions: &mut Vec<Rc<ScriptFuncDef>>) -> Result<(), Unread> {
+    fn functions(&self) -> Vec<Rc<ScriptFuncDef>> {
+        let mut functions = Vec::new(self.alloc);
         for _ in 0..ITEMS {
             if self.is_at_end() {
-                return Ok(());
+                break;
             }
-            self.expect("fn ")?;
-            let signature = self.signature();
-            push(
-                functions,
-                function(self.alloc, both(signature, self.body())),
-            )?;
-            self.expect("\n")?;
+            self.expect("fn ");
+            self.push(&mut functions, self.function());
+            self.expect("\n");
         }
-        Err(Unread::Wanted("fewer functions"))
+        functions
     }
 
-    fn signature(&self) -> Result<Signature, Unread> {
-        let name = self.function_name();
+    fn function(&self) -> Option<Rc<ScriptFuncDef>> {
+        let this_type = self.receiver();
+        let name = self.ident();
         let params = self.params();
-        ended(both(name, params), self.expect(" "))
-    }
-
-    fn function_name(&self) -> Result<(Option<ImmutableString>, ImmutableString), Unread> {
-        let receiver = self.receiver();
-        both(receiver, self.ident().map(|name| name.name))
+        self.expect(" ");
+        let (name, body) = both(name, self.body())?;
+        let function = ScriptFuncDef {
+            body,
+            name: name.name,
+            this_type,
+            access: FnAccess::Public,
+            params,
+            comments: Seq::new(self.alloc),
+        };
+        self.made(Rc::new(self.alloc, function))
     }
 
     /// The type before a `.`, and goes past both; none where a name stands alone.
-    fn receiver(&self) -> Result<Option<ImmutableString>, Unread> {
+    fn receiver(&self) -> Option<ImmutableString> {
         let before = self.rest();
         let name = if self.skip("()") { "()" } else { self.word() };
         if !self.skip(".") {
             self.come_back(before);
-            return Ok(None);
+            return None;
         }
-        Ok(Some(ImmutableString::new(self.alloc, name)?))
+        self.shared(name)
     }
 
-    fn params(&self) -> Result<Seq<ImmutableString>, Unread> {
-        let mut params = Seq::new(self.alloc);
-        if self.skip("()") {
-            return Ok(params);
+    fn params(&self) -> Seq<ImmutableString> {
+        let mut params = Vec::new(self.alloc);
+        if !self.skip("()") {
+            self.expect("(");
+            self.push_params(&mut params);
+            self.expect(")");
         }
-        self.expect("(")?;
+        Seq::from_vec(params)
+    }
+
+    fn push_params(&self, params: &mut Vec<ImmutableString>) {
         for _ in 0..ITEMS {
-            let name = self.ident()?;
-            params.push(name.name)?;
+            if let Some(name) = self.ident() {
+                self.push(params, Some(name.name));
+            }
             if !self.skip(", ") {
                 break;
             }
         }
-        self.expect(")")?;
-        Ok(params)
     }
-}
-
-fn function(
-    alloc: Global,
-    parts: Result<(Signature, StmtBlock), Unread>,
-) -> Result<Rc<ScriptFuncDef>, Unread> {
-    let (((this_type, name), params), body) = parts?;
-    let function = ScriptFuncDef {
-        body,
-        name,
-        this_type,
-        access: FnAccess::Public,
-        params,
-        comments: Seq::new(alloc),
-    };
-    Ok(Rc::new(alloc, function)?)
 }

@@ -1,44 +1,44 @@
 //! What a `switch` chooses by.
 
-use crate::letters::{ITEMS, Letters, Unread};
+use crate::letters::{ITEMS, Letters};
 use indexmap::IndexMap;
 use rhai_ast::{CaseBlocksList, Cases, SwitchCasesCollection};
-use rhai_base::{Dynamic, INT, OutOfMemory, RangeCase, Seq};
+use rhai_base::{INT, RangeCase, Seq};
 
 impl<'a> Letters<'a> {
     /// Cases, ranges and default, with `|` between them; the table has no arms yet.
-    pub(crate) fn table(&self) -> Result<SwitchCasesCollection, Unread> {
-        let mut table = SwitchCasesCollection {
+    pub(crate) fn table(&self) -> SwitchCasesCollection {
+        let cases = self.cases();
+        let ranges = self.ranges();
+        SwitchCasesCollection {
             expressions: Seq::new(self.alloc),
-            cases: Cases::from_map(IndexMap::new(self.alloc)),
-            ranges: Seq::new(self.alloc),
-            def_case: None,
-        };
-        table.cases = self.cases()?;
-        self.ranges(&mut table.ranges)?;
-        table.def_case = self.default()?;
-        Ok(table)
+            cases,
+            ranges,
+            def_case: self.default(),
+        }
     }
 
-    fn cases(&self) -> Result<Cases, Unread> {
+    fn cases(&self) -> Cases {
         let mut cases = IndexMap::new(self.alloc);
         for _ in 0..ITEMS {
-            match self.value()? {
-                Some(key) => put(&mut cases, key, self.places()?)?,
+            match self.value() {
+                Some(key) => {
+                    self.made(cases.insert(key, self.places()));
+                }
                 None => break,
             }
             if !self.skip(", ") {
                 break;
             }
         }
-        self.expect(" | ")?;
-        Ok(Cases::from_map(cases))
+        self.expect(" | ");
+        Cases::from_map(cases)
     }
 
     /// The places of a case's arms; where there are none a blank may stand for them.
-    fn places(&self) -> Result<CaseBlocksList, Unread> {
-        self.expect(":")?;
-        let mut blocks = Seq::new(self.alloc);
+    fn places(&self) -> CaseBlocksList {
+        self.expect(":");
+        let mut blocks = Vec::new(self.alloc);
         if self.starts("  |") || self.starts(" ,") {
             self.skip(" ");
         }
@@ -46,54 +46,49 @@ impl<'a> Letters<'a> {
             if self.starts(" |") || !self.skip(" ") {
                 break;
             }
-            blocks.push(self.number()?)?;
+            self.push(&mut blocks, Some(self.number()));
         }
-        Ok(CaseBlocksList { blocks })
+        CaseBlocksList {
+            blocks: Seq::from_vec(blocks),
+        }
     }
 
-    fn ranges(&self, ranges: &mut Seq<RangeCase>) -> Result<(), Unread> {
+    fn ranges(&self) -> Seq<RangeCase> {
+        let mut ranges = Vec::new(self.alloc);
         for _ in 0..ITEMS {
             match self.integer() {
-                Some(start) => ranges.push(self.range(start)?)?,
+                Some(start) => self.push(&mut ranges, Some(self.range(start))),
                 None => break,
             }
             if !self.skip(", ") {
                 break;
             }
         }
-        self.expect(" | ")
+        self.expect(" | ");
+        Seq::from_vec(ranges)
     }
 
     /// A range from a start, with the place of its arm.
-    fn range(&self, start: INT) -> Result<RangeCase, Unread> {
+    fn range(&self, start: INT) -> RangeCase {
         let mut range = if self.skip("..=") {
-            RangeCase::from(start..=self.end_of_range()?)
+            RangeCase::from(start..=self.end_of_range())
         } else {
-            self.expect("..")?;
-            RangeCase::from(start..self.end_of_range()?)
+            self.expect("..");
+            RangeCase::from(start..self.end_of_range())
         };
-        self.expect(": ")?;
-        range.set_index(self.number()?);
-        Ok(range)
+        self.expect(": ");
+        range.set_index(self.number());
+        range
     }
 
-    fn default(&self) -> Result<Option<usize>, Unread> {
-        self.expect("default ")?;
+    fn default(&self) -> Option<usize> {
+        self.expect("default ");
         let default = if self.skip("-") {
             None
         } else {
-            Some(self.number()?)
+            Some(self.number())
         };
-        self.expect(" | ")?;
-        Ok(default)
+        self.expect(" | ");
+        default
     }
-}
-
-fn put(
-    cases: &mut IndexMap<Dynamic, CaseBlocksList>,
-    key: Dynamic,
-    places: CaseBlocksList,
-) -> Result<(), OutOfMemory> {
-    cases.insert(key, places)?;
-    Ok(())
 }

@@ -1,8 +1,8 @@
 //! Trees. They go so deep and no deeper, and take so many items of a list and no more.
 
-use crate::forms::{self, ExprForm, ExprKind, Flat, Part, StmtForm, StmtKind, form_of};
-use crate::joined::{both, ended, fill, push};
-use crate::letters::{ITEMS, Letters, Unread, below};
+use crate::forms::{self, ExprForm, ExprKind, Part, StmtForm, StmtKind, form_of};
+use crate::joined::both;
+use crate::letters::{ITEMS, Letters, Unread};
 use crate::nodes;
 use crate::parts::Parts;
 use rhai_ast::{BinaryExpr, Expr, Stmt, StmtBlock};
@@ -15,134 +15,124 @@ const DEPTH: u32 = 120;
 /// The statements of a text, each on a line.
 pub fn read_lines(alloc: Global, text: &str) -> Result<Vec<Stmt>, Unread> {
     let letters = Letters::new(alloc, text);
-    let mut statements = Vec::new(alloc);
-    letters.lines(&mut statements)?;
-    letters.end()?;
-    Ok(statements)
+    letters.whole(Some(letters.lines()))
 }
 
 /// The one expression of a text.
 pub fn read_expr(alloc: Global, text: &str) -> Result<Expr, Unread> {
     let letters = Letters::new(alloc, text);
-    let expr = letters.expr(DEPTH);
-    ended(expr, letters.end())
+    letters.whole(letters.expr(DEPTH))
 }
 
 /// The property or method of a text, as at the right of a `.`
 pub fn read_link(alloc: Global, text: &str) -> Result<Expr, Unread> {
     let letters = Letters::new(alloc, text);
-    let link = letters.link(DEPTH);
-    ended(link, letters.end())
+    letters.whole(letters.link(DEPTH))
 }
 
 /// The one statement of a text.
 pub fn read_stmt(alloc: Global, text: &str) -> Result<Stmt, Unread> {
     let letters = Letters::new(alloc, text);
-    let statement = letters.statement(DEPTH);
-    ended(statement, letters.end())
+    letters.whole(letters.statement(DEPTH))
 }
 
 impl<'a> Letters<'a> {
-    /// Nothing is left.
-    pub(crate) fn end(&self) -> Result<(), Unread> {
-        if self.is_at_end() {
-            Ok(())
-        } else {
-            Err(Unread::Wanted("the end"))
-        }
-    }
-
     /// Statements, each on a line, up to a function or the end.
-    pub(crate) fn lines(&self, statements: &mut Vec<Stmt>) -> Result<(), Unread> {
+    pub(crate) fn lines(&self) -> Vec<Stmt> {
+        let mut statements = Vec::new(self.alloc);
         for _ in 0..ITEMS {
             if self.is_at_end() || self.starts("fn ") {
-                return Ok(());
+                break;
             }
-            push(statements, self.statement(DEPTH))?;
-            self.expect("\n")?;
+            self.push(&mut statements, self.statement(DEPTH));
+            self.expect("\n");
         }
-        Err(Unread::Wanted("fewer statements"))
+        statements
     }
 
     /// The block of a function.
-    pub(crate) fn body(&self) -> Result<StmtBlock, Unread> {
+    pub(crate) fn body(&self) -> Option<StmtBlock> {
         self.block(DEPTH)
     }
 
     // ---- the recursion
 
     #[cycle(read)]
-    fn expr(&self, depth: u32) -> Result<Expr, Unread> {
-        let depth = below(depth)?;
+    fn expr(&self, depth: u32) -> Option<Expr> {
+        let depth = self.below(depth)?;
         let pos = self.here();
-        if let Some(constant) = self.constant(pos)? {
-            return Ok(constant);
+        let constant = self.constant(pos);
+        if constant.is_some() {
+            return constant;
         }
         if self.starts("{") {
-            return nodes::braces(self.alloc, self.block(depth));
+            return self.braces(self.block(depth));
         }
-        let mut parts = Parts::boxed(self.alloc)?;
-        let (kind, form) = self.expr_form(parts.get_mut())?;
-        self.parts(form, parts.get_mut(), depth)?;
-        nodes::expr(kind, parts.get_mut(), pos)
+        let mut parts = Parts::new(self.alloc);
+        let (kind, form) = self.expr_form(&mut parts);
+        self.parts(form, &mut parts, depth);
+        self.node(kind, &mut parts, pos)
     }
 
     /// What stands at the right of a `.`
     #[cycle(read)]
-    fn link(&self, depth: u32) -> Result<Expr, Unread> {
-        let depth = below(depth)?;
+    fn link(&self, depth: u32) -> Option<Expr> {
+        let depth = self.below(depth)?;
         let pos = self.here();
-        let mut parts = Parts::boxed(self.alloc)?;
-        match self.link_form(parts.get_mut())? {
+        let mut parts = Parts::new(self.alloc);
+        match self.link_form(&mut parts) {
             Some((kind, form)) => {
-                self.parts(form, parts.get_mut(), depth)?;
-                nodes::expr(kind, parts.get_mut(), pos)
+                self.parts(form, &mut parts, depth);
+                self.node(kind, &mut parts, pos)
             }
             None => self.expr(depth),
         }
     }
 
     #[cycle(read)]
-    fn statement(&self, depth: u32) -> Result<Stmt, Unread> {
-        let depth = below(depth)?;
+    fn statement(&self, depth: u32) -> Option<Stmt> {
+        let depth = self.below(depth)?;
         let pos = self.here();
-        let mut parts = Parts::boxed(self.alloc)?;
+        let mut parts = Parts::new(self.alloc);
         let (kind, form) = self.stmt_form();
-        self.parts(form, parts.get_mut(), depth)?;
-        nodes::stmt(kind, parts.get_mut(), pos)
+        self.parts(form, &mut parts, depth);
+        self.stmt(kind, &mut parts, pos)
     }
 
     #[cycle(read)]
-    fn block(&self, depth: u32) -> Result<StmtBlock, Unread> {
-        let depth = below(depth)?;
+    fn block(&self, depth: u32) -> Option<StmtBlock> {
+        let depth = self.below(depth)?;
         let start = self.here();
-        let mut parts = Parts::boxed(self.alloc)?;
+        let mut parts = Parts::new(self.alloc);
         if !self.skip("{}") {
-            self.expect("{ ")?;
-            self.parts(&forms::STATEMENTS, parts.get_mut(), depth)?;
+            self.expect("{ ");
+            self.parts(&forms::STATEMENTS, &mut parts, depth);
         }
-        Ok(StmtBlock::new(parts.get_mut().statements(), start, self.last()))
+        Some(StmtBlock::new(parts.statements(), start, self.last()))
     }
 
     #[cycle(read)]
-    fn parts(&self, form: &[Part], parts: &mut Parts, depth: u32) -> Result<(), Unread> {
-        let depth = below(depth)?;
+    fn parts(&self, form: &[Part], parts: &mut Parts, depth: u32) {
+        let Some(depth) = self.below(depth) else {
+            return;
+        };
         for part in form {
-            self.part(*part, parts, depth)?;
+            self.part(*part, parts, depth);
         }
-        Ok(())
     }
 
     #[cycle(read)]
-    fn part(&self, part: Part, parts: &mut Parts, depth: u32) -> Result<(), Unread> {
-        let depth = below(depth)?;
+    fn part(&self, part: Part, parts: &mut Parts, depth: u32) {
+        let Some(depth) = self.below(depth) else {
+            return;
+        };
         match part {
             Part::Letters(letters) => self.expect(letters),
-            Part::Expr => push(&mut parts.exprs, self.expr(depth)),
-            Part::Link => push(&mut parts.exprs, self.link(depth)),
-            Part::Body => fill(&mut parts.body, self.block(depth)),
-            Part::Branch => fill(&mut parts.branch, self.block(depth)),
-            Part::Statement => push(&mut parts.statements, self.statement(depth)),
+            Part::Expr => self.push(&mut parts.exprs, self.expr(depth)),
+            Part::Link => self.push(&mut parts.exprs, self.link(depth)),
+            Part::Body => parts.body = self.block(depth),
+            Part::Branch => parts.branch = self.block(depth),
+            Part::Statement => self.push(&mut parts.statements, self.statement(depth)),
             Part::Maybe => self.maybe(parts, depth),
             Part::Assigned => self.assigned(parts, depth),
             Part::Pair => self.pair(&mut parts.pairs, depth),
@@ -165,104 +155,112 @@ impl<'a> Letters<'a> {
         end: &'static str,
         parts: &mut Parts,
         depth: u32,
-    ) -> Result<(), Unread> {
-        let depth = below(depth)?;
+    ) {
+        let Some(depth) = self.below(depth) else {
+            return;
+        };
         if self.skip(end) {
-            return Ok(());
+            return;
         }
         for _ in 0..ITEMS {
-            self.part(part, parts, depth)?;
+            self.part(part, parts, depth);
             if !self.skip(between) {
-                return self.expect(end);
+                break;
             }
         }
-        Err(Unread::Wanted("fewer items"))
+        self.expect(end);
     }
 
     /// The expression after a word that leaves, where there is one.
     #[cycle(read)]
-    fn maybe(&self, parts: &mut Parts, depth: u32) -> Result<(), Unread> {
-        let depth = below(depth)?;
-        if self.starts(" }") || !self.skip(" ") {
-            return Ok(());
+    fn maybe(&self, parts: &mut Parts, depth: u32) {
+        let Some(depth) = self.below(depth) else {
+            return;
+        };
+        if !self.starts(" }") && self.skip(" ") {
+            self.push(&mut parts.exprs, self.expr(depth));
         }
-        push(&mut parts.exprs, self.expr(depth))
     }
 
     /// The sign of an assignment and its right side, where they are there.
     #[cycle(read)]
-    fn assigned(&self, parts: &mut Parts, depth: u32) -> Result<(), Unread> {
-        let depth = below(depth)?;
+    fn assigned(&self, parts: &mut Parts, depth: u32) {
+        let Some(depth) = self.below(depth) else {
+            return;
+        };
         parts.sign = self.sign();
-        if parts.sign.is_none() {
-            return Ok(());
+        if parts.sign.is_some() {
+            self.push(&mut parts.exprs, self.expr(depth));
         }
-        push(&mut parts.exprs, self.expr(depth))
     }
 
     /// A key and its expression.
     #[cycle(read)]
-    fn pair(&self, pairs: &mut Vec<(Ident, Expr)>, depth: u32) -> Result<(), Unread> {
-        let depth = below(depth)?;
+    fn pair(&self, pairs: &mut Vec<(Ident, Expr)>, depth: u32) {
+        let Some(depth) = self.below(depth) else {
+            return;
+        };
         let name = self.ident();
-        let name = ended(name, self.expect(": "));
-        push(pairs, both(name, self.expr(depth)))
+        self.expect(": ");
+        self.push(pairs, both(name, self.expr(depth)));
     }
 
     /// A condition and its answer.
     #[cycle(read)]
-    fn arm(&self, arms: &mut Vec<BinaryExpr>, depth: u32) -> Result<(), Unread> {
-        let depth = below(depth)?;
+    fn arm(&self, arms: &mut Vec<BinaryExpr>, depth: u32) {
+        let Some(depth) = self.below(depth) else {
+            return;
+        };
         let condition = self.expr(depth);
-        let condition = ended(condition, self.expect(" => "));
-        push(arms, nodes::arm(both(condition, self.expr(depth))))
+        self.expect(" => ");
+        self.push(arms, nodes::arm(condition, self.expr(depth)));
     }
 
     // ---- how nodes begin
 
     /// A constant, where one stands next.
-    fn constant(&self, pos: Position) -> Result<Option<Expr>, Unread> {
-        let constant = nodes::constant(self.alloc, self.scalar()?, pos)?;
+    fn constant(&self, pos: Position) -> Option<Expr> {
+        let constant = self.constant_of(self.scalar(), pos);
         if constant.is_some() {
-            return Ok(constant);
+            return constant;
         }
-        nodes::held(self.alloc, self.held()?, pos)
+        self.held_constant(self.held(), pos)
     }
 
     /// What an expression that is no constant is, by what it begins with.
-    fn expr_form(&self, parts: &mut Parts) -> Result<ExprForm, Unread> {
+    fn expr_form(&self, parts: &mut Parts) -> ExprForm {
         if self.skip("[") {
-            return Ok((ExprKind::Array, &forms::ITEMS));
+            return (ExprKind::Array, &forms::ITEMS);
         }
         if self.skip("#{") {
-            return Ok((ExprKind::Map, &forms::PAIRS));
+            return (ExprKind::Map, &forms::PAIRS);
         }
         let pos = self.here();
         let word = self.word();
         if word.is_empty() {
-            parts.called = Some(self.operator(pos)?);
-            return Ok((ExprKind::Call, &forms::OPERANDS));
+            parts.called = self.operator(pos);
+            return (ExprKind::Call, &forms::OPERANDS);
         }
         if let Some(form) = form_of(&forms::EXPRS, word) {
-            return Ok(form);
+            return form;
         }
-        parts.called = Some(self.called(word, pos)?);
-        Ok(self.named(ExprKind::Call, ExprKind::Variable))
+        parts.called = self.called(word, pos);
+        self.named(ExprKind::Call, ExprKind::Variable)
     }
 
     /// The same at the right of a `.`; none where an expression of another kind stands there.
-    fn link_form(&self, parts: &mut Parts) -> Result<Option<ExprForm>, Unread> {
+    fn link_form(&self, parts: &mut Parts) -> Option<ExprForm> {
         let pos = self.here();
         let word = self.word();
         if word.is_empty() {
-            return Ok(None);
+            return None;
         }
         let form = form_of(&forms::LINKS, word);
         if form.is_some() {
-            return Ok(form);
+            return form;
         }
-        parts.called = Some(self.called(word, pos)?);
-        Ok(Some(self.named(ExprKind::Method, ExprKind::Property)))
+        parts.called = self.called(word, pos);
+        Some(self.named(ExprKind::Method, ExprKind::Property))
     }
 
     /// One kind before a `(`, which is gone past, and another kind elsewhere.

@@ -1,7 +1,7 @@
 //! Values, in the form that they have inside of others.
 
-use crate::joined::{both, ended, too_many};
-use crate::letters::{ITEMS, Letters, Unread, below};
+use crate::joined::both;
+use crate::letters::{ITEMS, Letters, Unread};
 use rhai_base::{Dynamic, FnPtr, INT, ImmutableString, Seq, StringMap};
 use std::alloc::Global;
 
@@ -11,117 +11,142 @@ const DEPTH: u32 = 40;
 /// The value of a text. A pointer has no values of its own.
 pub fn read_value(alloc: Global, text: &str) -> Result<Dynamic, Unread> {
     let letters = Letters::new(alloc, text);
-    let value = wanted(letters.value());
-    ended(value, letters.end())
+    let value = letters.value();
+    letters.whole(letters.wanted(value, "a value"))
 }
 
 impl<'a> Letters<'a> {
     /// A value, where one stands next.
-    pub(crate) fn value(&self) -> Result<Option<Dynamic>, Unread> {
+    pub(crate) fn value(&self) -> Option<Dynamic> {
         self.value_within(DEPTH)
     }
 
     #[cycle(value)]
-    fn value_within(&self, depth: u32) -> Result<Option<Dynamic>, Unread> {
-        let depth = below(depth)?;
+    fn value_within(&self, depth: u32) -> Option<Dynamic> {
+        let depth = self.below(depth)?;
         if self.skip("[") {
-            return array(self.items(depth));
+            return Some(Dynamic::Array(self.items(depth)));
         }
         if self.skip("#{") {
-            return map(self.members(depth));
+            return Some(Dynamic::Map(self.members(depth)));
         }
         if self.skip("Fn(") {
             return self.pointer();
         }
         match self.integer() {
-            Some(start) => self.from(start),
+            Some(start) => Some(self.from(start)),
             None => self.scalar(),
         }
     }
 
     /// Values up to the end of their list.
     #[cycle(value)]
-    fn items(&self, depth: u32) -> Result<Seq<Dynamic>, Unread> {
-        let depth = below(depth)?;
-        let mut items = Seq::new(self.alloc);
+    fn items(&self, depth: u32) -> Seq<Dynamic> {
+        let mut items = Vec::new(self.alloc);
+        let Some(depth) = self.below(depth) else {
+            return Seq::from_vec(items);
+        };
         if self.skip("]") {
-            return Ok(items);
+            return Seq::from_vec(items);
         }
         for _ in 0..ITEMS {
-            items = pushed(items, wanted(self.value_within(depth)))?;
+            let item = self.value_within(depth);
+            self.push(&mut items, self.wanted(item, "a value"));
             if !self.skip(", ") {
-                return ended(Ok(items), self.expect("]"));
+                break;
             }
         }
-        too_many(items)
+        self.expect("]");
+        Seq::from_vec(items)
     }
 
     /// Values with their keys, up to the end of their map.
     #[cycle(value)]
-    fn members(&self, depth: u32) -> Result<StringMap<Dynamic>, Unread> {
-        let depth = below(depth)?;
+    fn members(&self, depth: u32) -> StringMap<Dynamic> {
         let mut members = StringMap::new(self.alloc);
+        let Some(depth) = self.below(depth) else {
+            return members;
+        };
         if self.skip("}") {
-            return Ok(members);
+            return members;
         }
         for _ in 0..ITEMS {
             let key = self.key();
-            members = put(members, both(key, wanted(self.value_within(depth))))?;
+            self.put(&mut members, key, self.value_within(depth));
             if !self.skip(", ") {
-                return ended(Ok(members), self.expect("}"));
+                break;
             }
         }
-        too_many(members)
+        self.expect("}");
+        members
     }
 
-    fn key(&self) -> Result<ImmutableString, Unread> {
-        self.expect("\"")?;
+    /// Puts a value there, under its key.
+    fn put(
+        &self,
+        members: &mut StringMap<Dynamic>,
+        key: Option<ImmutableString>,
+        value: Option<Dynamic>,
+    ) {
+        if let Some((key, value)) = both(key, self.wanted(value, "a value")) {
+            self.made(members.insert(key, value));
+        }
+    }
+
+    fn key(&self) -> Option<ImmutableString> {
+        self.expect("\"");
         let key = self.text();
-        ended(key, self.expect(": "))
+        self.expect(": ");
+        key
     }
 
     /// The rest of a text.
-    fn text(&self) -> Result<ImmutableString, Unread> {
-        let text = self.quoted().ok_or(Unread::Wanted("a text's end"))?;
-        Ok(ImmutableString::new(self.alloc, text)?)
+    fn text(&self) -> Option<ImmutableString> {
+        let text = self.wanted(self.quoted(), "a text's end")?;
+        self.shared(text)
     }
 
-    fn pointer(&self) -> Result<Option<Dynamic>, Unread> {
-        let name = self.until(b')').ok_or(Unread::Wanted("a pointer's end"))?;
-        let name = ImmutableString::new(self.alloc, name)?;
-        Ok(FnPtr::new(self.alloc, name).map(Dynamic::FnPtr))
+    fn pointer(&self) -> Option<Dynamic> {
+        let name = self.wanted(self.until(b')'), "a pointer's end")?;
+        let name = self.shared(name)?;
+        FnPtr::new(self.alloc, name).map(Dynamic::FnPtr)
     }
 
     /// An integer, or a range from it.
-    fn from(&self, start: INT) -> Result<Option<Dynamic>, Unread> {
-        let value = if self.skip("..=") {
-            Dynamic::RangeInclusive(start, self.end_of_range()?)
+    fn from(&self, start: INT) -> Dynamic {
+        if self.skip("..=") {
+            Dynamic::RangeInclusive(start, self.end_of_range())
         } else if self.skip("..") {
-            Dynamic::Range(start, self.end_of_range()?)
+            Dynamic::Range(start, self.end_of_range())
         } else {
             Dynamic::Int(start)
-        };
-        Ok(Some(value))
+        }
     }
 
-    pub(crate) fn end_of_range(&self) -> Result<INT, Unread> {
-        self.integer().ok_or(Unread::Wanted("the end of a range"))
+    pub(crate) fn end_of_range(&self) -> INT {
+        match self.integer() {
+            Some(end) => end,
+            None => {
+                self.refuse(Unread::Wanted("the end of a range"));
+                0
+            }
+        }
     }
 
     /// A value without parts, where one stands next.
-    pub(crate) fn scalar(&self) -> Result<Option<Dynamic>, Unread> {
+    pub(crate) fn scalar(&self) -> Option<Dynamic> {
         if self.skip("()") {
-            return Ok(Some(Dynamic::Unit));
+            return Some(Dynamic::Unit);
         }
         if self.skip("\"") {
-            return Ok(Some(Dynamic::Str(self.text()?)));
+            return self.text().map(Dynamic::Str);
         }
         if self.skip("'") {
-            return Ok(self.letter().map(Dynamic::Char));
+            return self.letter().map(Dynamic::Char);
         }
         match self.truth() {
-            Some(truth) => Ok(Some(Dynamic::Bool(truth))),
-            None => Ok(self.integer().map(Dynamic::Int)),
+            Some(truth) => Some(Dynamic::Bool(truth)),
+            None => self.integer().map(Dynamic::Int),
         }
     }
 
@@ -139,45 +164,17 @@ impl<'a> Letters<'a> {
     }
 
     /// A constant of its own between `<` and `>`, where one stands next.
-    pub(crate) fn held(&self) -> Result<Option<Dynamic>, Unread> {
+    pub(crate) fn held(&self) -> Option<Dynamic> {
         let before = self.rest();
         if !self.skip("<") {
-            return Ok(None);
+            return None;
         }
-        let value = self.value()?;
-        if value.is_none() {
+        let value = self.value();
+        if value.is_some() {
+            self.expect(">");
+        } else {
             self.come_back(before);
-            return Ok(None);
         }
-        ended(Ok(value), self.expect(">"))
+        value
     }
-}
-
-fn array(items: Result<Seq<Dynamic>, Unread>) -> Result<Option<Dynamic>, Unread> {
-    Ok(Some(Dynamic::Array(items?)))
-}
-
-fn map(members: Result<StringMap<Dynamic>, Unread>) -> Result<Option<Dynamic>, Unread> {
-    Ok(Some(Dynamic::Map(members?)))
-}
-
-/// A value that has to stand there.
-fn wanted(value: Result<Option<Dynamic>, Unread>) -> Result<Dynamic, Unread> {
-    value?.ok_or(Unread::Wanted("a value"))
-}
-
-/// The items and one more.
-fn pushed(mut items: Seq<Dynamic>, item: Result<Dynamic, Unread>) -> Result<Seq<Dynamic>, Unread> {
-    items.push(item?)?;
-    Ok(items)
-}
-
-/// The members and one more.
-fn put(
-    mut members: StringMap<Dynamic>,
-    member: Result<(ImmutableString, Dynamic), Unread>,
-) -> Result<StringMap<Dynamic>, Unread> {
-    let (key, value) = member?;
-    members.insert(key, value)?;
-    Ok(members)
 }
