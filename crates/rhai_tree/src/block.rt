@@ -172,20 +172,9 @@ impl StmtBlock {
         ensures err { OnErr result (self.new.block ≡ self.old.block) }
         ensures span { self.new.span ≡ self.old.span }
     {
-        append(&mut self.block, statements)
+        self.block.append(statements)?;
+        Ok(())
     }
-}
-
-/// Moves statements to the end.
-fn append(block: &mut Seq<Stmt>, mut statements: Vec<Stmt>) -> Result<(), OutOfMemory>
-    ensures ok { OnOk result (block.new ≡ block.old ++ statements.items) }
-    ensures err { OnErr result (block.new ≡ block.old) }
-{
-    let alloc = *statements.allocator();
-    let mut all = std::mem::replace(block, Seq::new(alloc)).into_vec();
-    let appended = all.append(&mut statements);
-    *block = Seq::from_vec(all);
-    Ok(appended?)
 }
 
 impl IntoIterator for StmtBlock {
