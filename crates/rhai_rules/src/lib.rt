@@ -3,8 +3,7 @@
 
 mod expressions;
 mod nodes;
-mod state;
 mod statements;
 
 pub use nodes::{reduce_expr, reduce_stmt};
-pub use state::OptimizerState;
+pub use rhai_folding::OptimizerState;
