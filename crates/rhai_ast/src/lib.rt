@@ -9,6 +9,7 @@ mod check;
 mod expr;
 mod into_expr;
 mod literals;
+mod node;
 mod place;
 mod stmt;
 mod switch;
@@ -21,6 +22,7 @@ pub use check::{check_tree, is_plain};
 pub use expr::ExprQueries;
 pub use into_expr::IntoExpr;
 pub use literals::Literals;
+pub use node::NodeQueries;
 pub use place::SetPosition;
 pub use rhai_base::TreeFault;
 pub use rhai_tree::{

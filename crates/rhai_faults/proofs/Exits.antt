@@ -24,3 +24,5 @@ leaves r f all o p e t h =
 pub has_operands-of : (xs : List Expr) → not (length xs == 0) ≡ faults.has_operands (exprs_of xs)
 has_operands-of [] = refl
 has_operands-of (x ∷ xs) = ap not (eqb-suc-zero (length xs))
+
+pub ruleset alone = (has_operands-of)

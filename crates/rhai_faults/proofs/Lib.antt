@@ -1,3 +1,4 @@
+pub mod Below
 pub mod Exits
 pub mod FoundLists
 pub mod KeyLists

@@ -1,5 +1,5 @@
--- All other expressions, where a match names some.
-use Rattle.std.proofs.Common.{◌≡◌, Bool, false, Option, if◌then◌else◌, refl}
+-- All other nodes, where a match names some.
+use Rattle.std.proofs.Common.{◌≡◌, Bool, true, false, List, Option, if◌then◌else◌, refl}
 use Rattle.std.specs.declared.num.NonZeroU8.{NonZeroU8}
 use Rattle.std.specs.declared.num.NonZeroUsize.{NonZeroUsize}
 use Rattle.rhai_parts.specs.declared.flags.ASTFlags.{ASTFlags}
@@ -11,10 +11,15 @@ use Rattle.rhai_tree.specs.declared.expr.Expr as declared_expr
 use Rattle.rhai_tree.specs.declared.expr.Expr.TheVariants as expr_kind
 use Rattle.rhai_tree.specs.declared.expr.FnCallExpr.{FnCallExpr}
 use Rattle.rhai_meaning.specs.Faults.{is_catch}
+use Rattle.rhai_parts.specs.declared.ident.Ident.{Ident}
+use Rattle.rhai_tree.specs.declared.stmt.FlowControl.{FlowControl}
+use Rattle.rhai_tree.specs.declared.stmt.Stmt as declared_stmt
+use Rattle.rhai_tree.specs.declared.stmt.Stmt.TheVariants as stmt_kind
+use Rattle.rhai_meaning.specs.Plain.{is_plain_expr, is_plain_stmt}
 use Rattle.rhai_meaning.specs.Shape.{catch_name, is_left_side, is_member, is_rest}
-use Rattle.rhai_meaning.specs.Tree.{Expr}
-use Rattle.rhai_meaning.specs.Walk.{Member, Whole, right_role}
-use Rattle.rhai_reading.proofs.Cases.{ExprCase, dot_case, index_case, method_call_case, property_case, this_ptr_case, unit_case, variable_case}
+use Rattle.rhai_meaning.specs.Tree.{Expr, Stmt}
+use Rattle.rhai_meaning.specs.Walk.{Around, Member, OfExpr, Whole, around_parts, right_role, whole}
+use Rattle.rhai_reading.proofs.Cases.{ExprCase, StmtCase, break_loop_case, call_case, call_statement_case, do_case, dot_case, export_case, import_case, return_case, share_case, var_case, index_case, method_call_case, property_case, this_ptr_case, unit_case, variable_case}
 
 -- it is none of these
 abbrev NoDot : declared_expr.Expr → Type 0
@@ -30,6 +35,11 @@ pub no_chain : {x : declared_expr.Expr} {e : Expr} (is_dot is_last : Bool) → E
 no_chain is_dot is_last (dot_case s k p) a b = absurd (a s k p refl)
 no_chain is_dot is_last (index_case s k p) a b = absurd (b s k p refl)
 no_chain is_dot is_last _ a b = refl
+
+pub no_sides : {x : declared_expr.Expr} {e : Expr} (a : Around) → ExprCase x e → NoDot x → NoIndex x → whole a.in_loop ≡ around_parts (OfExpr e) a
+no_sides a (dot_case s k p) b c = absurd (b s k p refl)
+no_sides a (index_case s k p) b c = absurd (c s k p refl)
+no_sides a _ b c = refl
 
 pub no_step : {x : declared_expr.Expr} {e : Expr} (is_dot : Bool) → ExprCase x e → NoDot x → NoIndex x → (if is_dot then Member else Whole) ≡ right_role is_dot false e
 no_step is_dot (dot_case s k p) a b = absurd (a s k p refl)
@@ -50,7 +60,38 @@ no_left_side (dot_case s k p) a b c d = absurd (c s k p refl)
 no_left_side (index_case s k p) a b c d = absurd (d s k p refl)
 no_left_side _ a b c d = refl
 
+pub no_call_nor_chain : {x : declared_expr.Expr} {e : Expr} → ExprCase x e
+    → ((c : FnCallExpr) (p : Position) → x ≡ expr_kind.MethodCall c p → ⊥) → ((c : FnCallExpr) (p : Position) → x ≡ expr_kind.FnCall c p → ⊥) → NoDot x → NoIndex x
+    → true ≡ is_plain_expr e
+no_call_nor_chain (method_call_case f p) a b c d = absurd (a f p refl)
+no_call_nor_chain (call_case f p) a b c d = absurd (b f p refl)
+no_call_nor_chain (dot_case s k p) a b c d = absurd (c s k p refl)
+no_call_nor_chain (index_case s k p) a b c d = absurd (d s k p refl)
+no_call_nor_chain _ a b c d = refl
+
 pub no_catch : {x : declared_expr.Expr} {e : Expr} → ExprCase x e → ((p : Position) → x ≡ expr_kind.Unit p → ⊥) → NoVariable x → false ≡ is_catch (catch_name e)
 no_catch (unit_case p) a b = absurd (a p refl)
 no_catch (variable_case v short p) a b = absurd (b v short p refl)
 no_catch _ a b = refl
+
+-- ---- statements
+
+pub plain_alone : {x : declared_stmt.Stmt} {s : Stmt} → StmtCase x s
+    → ((f : FlowControl) (k : ASTFlags) (p : Position) → x ≡ stmt_kind.Do f k p → ⊥)
+    → ((v : Ident × declared_expr.Expr × Option NonZeroUsize) (k : ASTFlags) (p : Position) → x ≡ stmt_kind.Var v k p → ⊥)
+    → ((c : FnCallExpr) (p : Position) → x ≡ stmt_kind.FnCall c p → ⊥)
+    → ((e : Option declared_expr.Expr) (k : ASTFlags) (p : Position) → x ≡ stmt_kind.BreakLoop e k p → ⊥)
+    → ((e : Option declared_expr.Expr) (k : ASTFlags) (p : Position) → x ≡ stmt_kind.Return e k p → ⊥)
+    → ((m : declared_expr.Expr × Ident) (p : Position) → x ≡ stmt_kind.Import m p → ⊥)
+    → ((n : Ident × Ident) (p : Position) → x ≡ stmt_kind.Export n p → ⊥)
+    → ((xs : List (Ident × Option NonZeroUsize)) → x ≡ stmt_kind.Share xs → ⊥)
+    → true ≡ is_plain_stmt s
+plain_alone (do_case f k p) a b c d e m n o = absurd (a f k p refl)
+plain_alone (var_case v k p) a b c d e m n o = absurd (b v k p refl)
+plain_alone (call_statement_case f p) a b c d e m n o = absurd (c f p refl)
+plain_alone (break_loop_case x k p) a b c d e m n o = absurd (d x k p refl)
+plain_alone (return_case x k p) a b c d e m n o = absurd (e x k p refl)
+plain_alone (import_case x p) a b c d e m n o = absurd (m x p refl)
+plain_alone (export_case x p) a b c d e m n o = absurd (n x p refl)
+plain_alone (share_case xs) a b c d e m n o = absurd (o xs refl)
+plain_alone _ a b c d e m n o = refl

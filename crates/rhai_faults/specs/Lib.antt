@@ -1,6 +1,5 @@
-pub mod Found
 pub mod MapKeys
 pub mod Places
-pub mod PlainArms
+pub mod PlainWalk
 pub mod Refusals
 pub mod Scripts

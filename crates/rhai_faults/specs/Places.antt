@@ -1,4 +1,5 @@
 -- What stands around a node.
+use Rattle.std.specs.Prelude.{Option, Some, None}
 use Rattle.rhai_faults.specs.declared.around.Around.{Around}
 use Rattle.rhai_faults.specs.declared.around.Role.{Role}
 use Rattle.rhai_faults.specs.declared.around.Role.TheVariants.{Whole, Member, Rest}
@@ -11,3 +12,8 @@ role_of (Rest is_dot) = walk.Rest is_dot
 
 abbrev pub around_of : Around → walk.Around
 around_of a = record { in_loop = a.in_loop; role = role_of a.role }
+
+-- around a child that stands there
+abbrev pub around_at : Option walk.Spot → walk.Around → walk.Around
+around_at None a = a
+around_at (Some s) a = walk.around_spot s a

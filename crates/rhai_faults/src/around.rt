@@ -3,14 +3,16 @@
 #![tactic(auto, using(rhai_reading::specs::Reading::shapes))]
 
 ghost use Rattle.std.specs.Prelude.{◌≡◌, if◌then◌else◌};
-ghost use Rattle.rhai_faults.specs.Places.{around_of, role_of};
+ghost use Rattle.rhai_faults.specs.Places.{around_at, around_of, role_of};
 ghost use Rattle.rhai_meaning.specs.Faults as faults;
 ghost use Rattle.rhai_meaning.specs.Walk as walk;
 ghost use Rattle.rhai_reading.specs.Reading.{chain_flags, expr_of};
+ghost use Rattle.rhai_walk.specs.Nodes.{node_of, spot_of};
 
 use bitflags::Flags;
 use rhai_base::ASTFlags;
 use rhai_tree::Expr;
+use rhai_walk::{ASTNode, Spot};
 
 /// As what an expression stands where it does.
 #[derive(Clone, Copy)]
@@ -43,8 +45,42 @@ impl Around {
         }
     }
 
+    /// Around the children of a node: whole expressions, but for the sides of a `.` or an index.
+    pub(crate) fn of_children(self, node: ASTNode) -> Around
+        ensures { around_of result ≡ walk.around_parts (node_of node.entry) (around_of self) }
+    {
+        match node {
+            ASTNode::Stmt(_) => Around::whole(self.in_loop),
+            ASTNode::Expr(expr) => self.of_parts(expr),
+        }
+    }
+
+    fn of_parts(self, expr: &Expr) -> Around
+        ensures { around_of result ≡ walk.around_parts (walk.OfExpr (expr_of expr.now)) (around_of self) }
+    {
+        match expr {
+            Expr::Dot(_, _, _) | Expr::Index(_, _, _) => self,
+            _ => Around::whole(self.in_loop),
+        }
+    }
+
+    /// Around a child that stands there.
+    pub(crate) fn at(self, spot: Spot) -> Around
+        ensures { around_of result ≡ around_at (spot_of spot.entry) (around_of self) }
+    {
+        match spot {
+            Spot::Anywhere => self,
+            Spot::LoopBody => Around {
+                in_loop: true,
+                role: self.role,
+            },
+            Spot::LeftSide => self.left(),
+            Spot::RightSide(is_dot, options, rhs) => self.right(is_dot, options, rhs),
+        }
+    }
+
     /// Around the left side of a `.` or an index.
-    pub(crate) fn left(self) -> Around
+    fn left(self) -> Around
         ensures { around_of result ≡ walk.around_spot walk.LeftSide (around_of self) }
     {
         let role = match self.role {
@@ -58,7 +94,7 @@ impl Around {
     }
 
     /// Around the right side of a `.` or an index.
-    pub(crate) fn right(self, is_dot: bool, options: ASTFlags, rhs: &Expr) -> Around
+    fn right(self, is_dot: bool, options: ASTFlags, rhs: &Expr) -> Around
         ensures { around_of result ≡ walk.around_spot (walk.RightSide is_dot (chain_flags options) (expr_of rhs.now))
             (around_of self) }
     {

@@ -1,6 +1,7 @@
-//! The tests of a tree: the recursions beneath `check_tree` and `is_plain` of `rhai_ast`.
+//! The tests of a tree: what stands beneath `check_tree` and `is_plain` of `rhai_ast`.
 #![tactic(auto)]
 
+mod alone;
 mod around;
 mod check;
 mod map_keys;

@@ -1,3 +1,5 @@
-pub mod ArmPaths
-pub mod ItemPaths
+pub mod Folding
+pub mod Paths
+pub mod Sizes
+pub mod Steps
 pub mod Walking

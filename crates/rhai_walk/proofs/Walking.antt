@@ -8,7 +8,8 @@ use Rattle.rhai_meaning.specs.Paths.{Path}
 use Rattle.rhai_walk.specs.declared.node.ASTNode.{ASTNode}
 use Rattle.rhai_walk.specs.declared.stop.Stop.{Stop}
 use Rattle.rhai_walk.specs.declared.stop.Stop.TheVariants as stop
-use Rattle.rhai_walk.specs.Walking.{node_of, ended, Asked, Agrees, Finished, Refused, Short, Ends, Walks, Enters}
+use Rattle.rhai_walk.specs.Nodes.{node_of}
+use Rattle.rhai_walk.specs.Walking.{ended, Asked, Agrees, Finished, Refused, Short, Ends, Walks, Enters}
 
 map-append : {A B : Type 0} (h : A → B) (xs ys : List A) → map h (xs ++ ys) ≡ map h xs ++ map h ys
 map-append h [] ys = refl

@@ -1,3 +1,4 @@
-pub mod ArmPaths
+pub mod Children
+pub mod Left
 pub mod Nodes
 pub mod Walking

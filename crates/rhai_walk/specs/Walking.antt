@@ -4,17 +4,11 @@ use Rattle.std.specs.Borrow.{Bor}
 use Rattle.std.specs.Fn.{Mut, CalledAt}
 use Rattle.rhai_tokens.specs.declared.error.OutOfMemory.{OutOfMemory}
 use Rattle.rhai_meaning.specs.Paths.{Path}
-use Rattle.rhai_meaning.specs.Walk.{Node, OfExpr, OfStmt}
-use Rattle.rhai_reading.specs.Reading.{expr_of, stmt_of}
+use Rattle.rhai_meaning.specs.Walk.{Node}
+use Rattle.rhai_walk.specs.Nodes.{node_of}
 use Rattle.rhai_walk.specs.declared.node.ASTNode.{ASTNode}
-use Rattle.rhai_walk.specs.declared.node.ASTNode.TheVariants as node
 use Rattle.rhai_walk.specs.declared.stop.Stop.{Stop}
 use Rattle.rhai_walk.specs.declared.stop.Stop.TheVariants as stop
-
--- the node that is lent
-abbrev pub node_of : ASTNode → Node
-node_of (node.Stmt s) = OfStmt (stmt_of s.now)
-node_of (node.Expr e) = OfExpr (expr_of e.now)
 
 abbrev pub path_of : List ASTNode → Path
 path_of nodes = map node_of nodes

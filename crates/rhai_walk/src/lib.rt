@@ -1,9 +1,14 @@
-//! Walks over trees.
+//! The children of a node, one after another, and walks over trees: what goes down a tree asks for the children of a node,
+//! and not for its kind.
 #![tactic(auto)]
 
+mod arms;
+mod children;
 mod node;
 mod stop;
+mod tail;
 mod walk;
 
-pub use node::ASTNode;
+pub use children::Children;
+pub use node::{ASTNode, Child, Spot};
 pub use walk::{walk_expr, walk_statements, walk_stmt};

@@ -1,11 +1,11 @@
-//! Nodes that a walk lends.
+//! Nodes that are lent, and where they stand.
 
 ghost use Rattle.std.specs.Prelude.{◌≡◌};
-ghost use Rattle.rhai_walk.specs.Nodes.{is_expr_node, is_stmt_node, place_of};
+ghost use Rattle.rhai_walk.specs.Children.{anywhere};
+ghost use Rattle.rhai_walk.specs.Nodes.{child_of, node_of};
 ghost use Rattle.rhai_walk.specs.declared.node.ASTNode.TheVariants as node;
 
-use rhai_base::Position;
-use rhai_queries::{position, stmt_position};
+use rhai_base::ASTFlags;
 use rhai_tree::{Expr, Stmt};
 
 /// A node of a tree, lent.
@@ -17,34 +17,36 @@ pub enum ASTNode<'a> {
     Expr(&'a Expr),
 }
 
-impl<'a> ASTNode<'a> {
-    /// Is it a statement?
-    pub fn is_stmt(&self) -> bool
-        ensures { result ≡ is_stmt_node self.now }
-    {
-        match self {
-            ASTNode::Stmt(_) => true,
-            ASTNode::Expr(_) => false,
-        }
-    }
+/// Where a node stands in the one right above it, where that matters.
+#[derive(Clone, Copy)]
+pub enum Spot<'a> {
+    /// Where it does not matter.
+    Anywhere,
+    /// In the body of a loop.
+    LoopBody,
+    /// On the left side of a `.` or an index.
+    LeftSide,
+    /// On the right side of a `.` (`true`) or an index with these flags: that expression.
+    RightSide(bool, ASTFlags, &'a Expr),
+}
 
-    /// Is it an expression?
-    pub fn is_expr(&self) -> bool
-        ensures { result ≡ is_expr_node self.now }
-    {
-        match self {
-            ASTNode::Stmt(_) => false,
-            ASTNode::Expr(_) => true,
-        }
-    }
-
+/// A node right below another.
+#[derive(Clone, Copy)]
+pub struct Child<'a> {
+    /// The node.
+    pub node: ASTNode<'a>,
     /// Where it stands.
-    pub fn position(&self) -> Position
-        ensures { result ≡ place_of self.now }
+    pub spot: Spot<'a>,
+}
+
+impl<'a> ASTNode<'a> {
+    /// It, as a child that may stand anywhere.
+    pub(crate) fn anywhere(self) -> Child<'a>
+        ensures { child_of result ≡ anywhere (node_of self.entry) }
     {
-        match self {
-            ASTNode::Stmt(stmt) => stmt_position(stmt),
-            ASTNode::Expr(expr) => position(expr),
+        Child {
+            node: self,
+            spot: Spot::Anywhere,
         }
     }
 }

@@ -5,8 +5,8 @@ use crate::said::{say, say_count, say_if, say_place, say_value};
 use indexmap::IndexMap;
 use rhai_ast::{
     ASTNode, BinaryExpr, CaseBlocksList, Cases, Expr, ExprQueries, FlowControl, Literals,
-    SetPosition, Stmt, StmtBlock, StmtQueries, SwitchBlock, SwitchCases, SwitchCasesCollection,
-    Walk, check_tree, is_plain,
+    NodeQueries, SetPosition, Stmt, StmtBlock, StmtQueries, SwitchBlock, SwitchCases,
+    SwitchCasesCollection, Walk, check_tree, is_plain,
 };
 use rhai_base::{ASTFlags, AstError, Boxed, Dynamic, INT, OutOfMemory, Position, RangeCase, Seq};
 use std::alloc::Global;

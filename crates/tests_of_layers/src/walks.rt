@@ -2,7 +2,7 @@
 //! has of each node on it whether it is a statement or an expression, and its column.
 
 use crate::said::{say, say_count, say_if, say_place};
-use rhai_ast::{ASTNode, Expr, Stmt, Walk, walk_statements};
+use rhai_ast::{ASTNode, Expr, NodeQueries, Stmt, Walk, walk_statements};
 use rhai_script::AST;
 use rhai_script_queries::ScriptQueries;
 use std::alloc::Global;

@@ -1,0 +1,5 @@
+use Rattle.std.proofs.Common.{rules}
+use Rattle.rhai_ast.proofs.node.ASTNodeNodeQueries.is_stmt.Goals as goal
+
+pub returns-in-Stmt : goal.returns-in-Stmt
+returns-in-Stmt c = search rules

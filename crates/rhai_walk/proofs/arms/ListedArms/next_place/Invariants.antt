@@ -1,0 +1,12 @@
+use Rattle.std.proofs.Common.{◌≡◌, length}
+use Rattle.rhai_walk.specs.Left.{places_left}
+use Rattle.rhai_walk.proofs.arms.ListedArms.next_place.Given as goal
+
+abbrev pub invariant-loop-self : goal.invariant-loop-self
+invariant-loop-self l = record {
+  arms : l.self.arms ≡ l.fn.self.arms;
+  places : places_left l.self ≡ places_left l.fn.self;
+}
+
+abbrev pub decreases-loop-self : goal.decreases-loop-self
+decreases-loop-self l = length l.self.cases
