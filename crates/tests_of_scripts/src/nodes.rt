@@ -1,7 +1,7 @@
 //! The calls below the optimiser's entry, and where nodes stand.
 
 use crate::record::push_value;
-use rhai_ast::{ASTNode, Expr, FnCallExpr, Stmt, StmtBlock, walk_statements};
+use rhai_ast::{ASTNode, Expr, FnCallExpr, NodeQueries, Stmt, StmtBlock, walk_statements};
 use rhai_base::{OutOfMemory, Position};
 use rhai_folding::{constant_bool, folded};
 use rhai_notation::push_lines;
