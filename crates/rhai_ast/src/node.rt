@@ -3,7 +3,7 @@
 #![tactic(auto)]
 
 ghost use Rattle.std.specs.Prelude.{◌≡◌};
-ghost use Rattle.rhai_walk.specs.Nodes.{is_expr_node, is_stmt_node, place_of};
+ghost use Rattle.rhai_ast.specs.Nodes.{is_expr_node, is_stmt_node, place_of};
 
 use rhai_base::Position;
 use rhai_queries::{position, stmt_position};

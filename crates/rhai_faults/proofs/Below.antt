@@ -5,6 +5,7 @@ use Rattle.rhai_meaning.specs.Faults.{TreeFault, fault_of, finding, ◌then◌}
 use Rattle.rhai_meaning.specs.Plain.{is_plain_node}
 use Rattle.rhai_meaning.specs.Walk as walk
 use Rattle.rhai_meaning.specs.Walk.{Node, Spot, around_parts}
+use Rattle.rhai_meaning.proofs.Truth.{and_assoc}
 use Rattle.rhai_walk.specs.Children.{at_spot, children, over_children, over_node, over_parts}
 use Rattle.rhai_walk.specs.Left.{left_of}
 use Rattle.rhai_walk.specs.Nodes.{child_of, node_of, spot_of}
@@ -55,17 +56,7 @@ pub found-below : (n : Node) (cs : Children) (a b : walk.Around) → fault_of a 
 found-below n cs a b none is e =
     ap (λ o. o then over_parts finding n (around_parts n a)) none ∙ ap (over_parts finding n) (sym is) ∙ found-start n cs b e
 
--- nor one without children
-pub found-none : (n : Node) (a : walk.Around) → fault_of a n ≡ None → [] ≡ children n → over_node finding n a ≡ None
-found-none n a none e =
-    let inside = around_parts n a in
-    ap (λ o. o then over_parts finding n inside) none ∙ ap (λ (p : walk.Around → Option TreeFault). p inside) (over_parts-children finding finding_folds n) ∙ ap (λ ds. over_children finding ds inside) (sym e)
-
 -- ---- plain nodes
-
-and_assoc : (a b c : Bool) → ((a && b) && c) ≡ (a && (b && c))
-and_assoc true b c = refl
-and_assoc false b c = refl
 
 and_true : (a : Bool) → (a && true) ≡ a
 and_true true = refl

@@ -48,11 +48,8 @@ fn check_node(alloc: Global, node: ASTNode, around: Around) -> Result<(), TreeFa
     ensures { Finds (over_node finding (node_of node.entry) (around_of around)) result }
 {
     check_alone(alloc, node, around)?;
-    let Some(mut children) = Children::of(node) else {
-        return Ok(());
-    };
     let inside = around.of_children(node);
-    while let Some(child) = children.next() {
+    for child in Children::of(node) {
         check_node(alloc, child.node, inside.at(child.spot))?;
     }
     Ok(())

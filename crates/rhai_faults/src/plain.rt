@@ -54,10 +54,7 @@ fn is_plain(node: ASTNode) -> bool
     if !is_plain_alone(node) {
         return false;
     }
-    let Some(mut children) = Children::of(node) else {
-        return true;
-    };
-    while let Some(child) = children.next() {
+    for child in Children::of(node) {
         if !is_plain(child.node) {
             return false;
         }

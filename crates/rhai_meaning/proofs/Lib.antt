@@ -3,6 +3,7 @@ pub mod Preserves
 pub mod Monotone
 pub mod Ends
 pub mod Sequencing
+pub mod Truth
 pub mod Walk
 pub mod Agreeing
 pub mod Depths

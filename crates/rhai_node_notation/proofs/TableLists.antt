@@ -3,10 +3,10 @@ use Rattle.std.proofs.Common.{◌≡◌, ℕ, ◌+◌, ◌<◌, List, [], ◌++�
 use Rattle.std.proofs.Math.Seq.{drop-cons, drop-length}
 use Rattle.std.specs.Fmt.{decimal}
 use Rattle.rhai_base.specs.declared.range_case.RangeCase.{RangeCase}
-use Rattle.rhai_base.specs.declared.range_case.RangeCase.TheVariants.{ExclusiveInt, InclusiveInt}
 use Rattle.rhai_base.specs.Ranges.{index_of}
 use Rattle.rhai_values.specs.Value.{Text}
 use Rattle.rhai_reading.specs.Reading.{range_of}
+use Rattle.rhai_reading.proofs.Ranges.{range_arm}
 use Rattle.rhai_node_notation.specs.Nodes.{numbers_text, range_text, ranges_text}
 
 pub places-drop : (ns : List ℕ) (i d : ℕ) → i < length ns → numbers_text (drop i ns) ≡ codes " " ++ decimal (get_or ns i d) ++ numbers_text (drop (i + 1) ns)
@@ -14,10 +14,6 @@ places-drop ns i d h = rw (add-one, drop-cons ns i d) refl
 
 pub places-end : (ns : List ℕ) → numbers_text (drop (length ns) ns) ≡ []
 places-end ns = ap numbers_text (drop-length ns)
-
-range_arm : (r : RangeCase) → (range_of r).arm ≡ index_of r
-range_arm (ExclusiveInt r i) = refl
-range_arm (InclusiveInt r i) = refl
 
 one_push : (now before ends a b : Text) → now ++ before ++ ends ++ (a ++ b) ≡ now ++ (before ++ ends ++ a ++ b)
 one_push now before ends a b =

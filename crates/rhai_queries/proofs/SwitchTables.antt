@@ -18,7 +18,8 @@ use Rattle.rhai_meaning.specs.Shape as shape
 use Rattle.rhai_meaning.specs.Tree.{Expr, BoolConstant, Arms, no_arms, arm, count_arms}
 use Rattle.rhai_reading.specs.Reading.{arms_of, case_of, expr_of, range_of, table_by}
 use Rattle.rhai_queries.specs.SwitchTables.{are_keys, default_at, default_tested, lists_name, lists_within, ranges_name, ranges_within, refusal, RefusalLaw}
-use Rattle.rhai_queries.proofs.Tables.{range_arm}
+use Rattle.rhai_meaning.proofs.Truth.{and_assoc}
+use Rattle.rhai_reading.proofs.Ranges.{range_arm}
 
 abbrev pub is_accepted : Option AstError → Bool
 is_accepted None = true
@@ -31,10 +32,6 @@ four true true c d = refl
 four true false true d = refl
 four true false false d = refl
 four false b c d = refl
-
-and_assoc : (a b c : Bool) → ((a && b) && c) ≡ (a && (b && c))
-and_assoc true b c = refl
-and_assoc false b c = refl
 
 not_either : (a b : Bool) → not (a || b) ≡ (not a && not b)
 not_either true b = refl

@@ -1,18 +1,15 @@
 -- The arms that a table of a `switch` lists, and those that the declared table holds.
-use Rattle.std.proofs.Common.{◌≡◌, ℕ, zero, suc, Bool, true, false, ◌&&◌, List, [], ◌∷◌, ◌++◌, slice_get, map, ◌+◌, ◌<◌, length, get_or, drop, add-one, refl, sym, ap, ◌∙◌}
+use Rattle.std.proofs.Common.{◌≡◌, ℕ, zero, suc, Bool, true, ◌&&◌, List, [], ◌∷◌, ◌++◌, slice_get, map, ◌+◌, ◌<◌, length, get_or, drop, add-one, refl, sym, ap, ◌∙◌}
 use Rattle.std.proofs.Math.Seq.{drop-cons, drop-length}
 use Rattle.rhai_base.specs.declared.range_case.RangeCase.{RangeCase}
-use Rattle.rhai_base.specs.declared.range_case.RangeCase.TheVariants.{ExclusiveInt, InclusiveInt}
 use Rattle.rhai_base.specs.Ranges.{index_of}
 use Rattle.rhai_tree.specs.declared.expr.BinaryExpr.{BinaryExpr}
 use Rattle.rhai_meaning.specs.Queries.{ArmPurity, answer_is_pure, arm_purities, is_pure_arm, listed_arms_are_pure}
 use Rattle.rhai_meaning.specs.Walk.{arm_at, arms_of_ranges}
 use Rattle.rhai_reading.specs.Reading.{arms_of, range_of}
+use Rattle.rhai_meaning.proofs.Truth.{and_assoc}
+use Rattle.rhai_reading.proofs.Ranges.{range_arm}
 use Rattle.rhai_queries.specs.Arms.{has_pure_answer, is_pure_if_any}
-
-and_assoc : (a b c : Bool) → ((a && b) && c) ≡ (a && (b && c))
-and_assoc true b c = refl
-and_assoc false b c = refl
 
 -- one list of places after another
 pub listed_append : (ps : List ArmPurity) (is js : List ℕ) → listed_arms_are_pure ps (is ++ js) ≡ (listed_arms_are_pure ps is && listed_arms_are_pure ps js)
@@ -42,10 +39,6 @@ listed-end ps is = ap (listed_arms_are_pure ps) (drop-length is)
 
 abbrev pub listed_by_ranges : List ArmPurity → List RangeCase → Bool
 listed_by_ranges ps rs = listed_arms_are_pure ps (arms_of_ranges (map range_of rs))
-
-pub range_arm : (r : RangeCase) → (range_of r).arm ≡ index_of r
-range_arm (ExclusiveInt r i) = refl
-range_arm (InclusiveInt r i) = refl
 
 ranges_step : (ps : List ArmPurity) (r : RangeCase) (rs : List RangeCase) → listed_by_ranges ps (r ∷ rs) ≡ (is_pure_arm (arm_at (true, true) ps (index_of r)) && listed_by_ranges ps rs)
 ranges_step ps r rs = ap (λ i. is_pure_arm (arm_at (true, true) ps i) && listed_by_ranges ps rs) (range_arm r)

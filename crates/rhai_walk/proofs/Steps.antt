@@ -1,11 +1,8 @@
 -- The first of the arms that are listed.
 use Rattle.std.proofs.Common.{◌≡◌, ℕ, zero, suc, List, [], ◌∷◌, ◌++◌, Option, Some, None, slice_get, length, refl, sym, ap, ◌∙◌}
-use Rattle.rhai_base.specs.declared.range_case.RangeCase.{RangeCase}
-use Rattle.rhai_base.specs.declared.range_case.RangeCase.TheVariants.{ExclusiveInt, InclusiveInt}
-use Rattle.rhai_base.specs.Ranges.{index_of}
 use Rattle.rhai_tree.specs.declared.expr.BinaryExpr.{BinaryExpr}
 use Rattle.rhai_meaning.specs.Walk.{arm_at, over_arms}
-use Rattle.rhai_reading.specs.Reading.{arms_of, range_of}
+use Rattle.rhai_reading.specs.Reading.{arms_of}
 use Rattle.rhai_walk.specs.Children.{Child, one_step}
 use Rattle.rhai_walk.specs.Left.{arm_children, arms_left, listed_left, places_left}
 use Rattle.rhai_walk.specs.declared.arms.ListedArms.{ListedArms}
@@ -34,9 +31,3 @@ arms-none l m i (Some b) same falls h other = absurd (other b refl)
 arms-none l m i None same falls h other =
     ap (listed_left l.arms.now) falls ∙ ap (λ (bs : Bor (List BinaryExpr)). listed_left bs.now (i ∷ places_left m)) (sym same)
     ∙ ap (λ (cs : List Child). cs ++ arms_left m) (arm_lacks m.arms.now i (slice_get_past m.arms.now i h.3))
-
-pub range_arm : (r : RangeCase) → (range_of r).arm ≡ index_of r
-range_arm (ExclusiveInt r i) = refl
-range_arm (InclusiveInt r i) = refl
-
-pub ruleset steps = (range_arm)

@@ -1,13 +1,16 @@
 -- The children that are still to come.
-use Rattle.std.specs.Prelude.{ℕ, List, [], ◌∷◌, ◌++◌, Option, Some, None, map}
+use Rattle.std.specs.Prelude.{ℕ, Bool, true, false, List, [], ◌∷◌, ◌++◌, Option, Some, None, map}
+use Rattle.std.specs.Borrow.{Bor}
+use Rattle.rhai_parts.specs.declared.flags.ASTFlags.{ASTFlags}
 use Rattle.rhai_parts.specs.declared.ident.Ident.{Ident}
 use Rattle.rhai_tree.specs.declared.expr.BinaryExpr.{BinaryExpr}
 use Rattle.rhai_tree.specs.declared.expr.Expr.{Expr}
 use Rattle.rhai_tree.specs.declared.stmt.Stmt.{Stmt}
-use Rattle.rhai_meaning.specs.Walk.{OfExpr, LoopBody, arm_of_default, arms_at, arms_of_cases, arms_of_ranges, over_arms, over_exprs, over_pairs, over_stmts}
-use Rattle.rhai_reading.specs.Reading.{arms_of, case_of, expr_of, exprs_of, pairs_of, range_of, stmts_of}
+use Rattle.rhai_meaning.specs.Walk.{OfExpr, LoopBody, RightSide, arm_of_default, arms_at, arms_of_cases, arms_of_ranges, over_arms, over_exprs, over_pairs, over_stmts}
+use Rattle.rhai_reading.specs.Reading.{arms_of, case_of, chain_flags, expr_of, exprs_of, pairs_of, range_of, stmts_of}
 use Rattle.rhai_walk.specs.Children.{Child, anywhere, one_step, placed_at}
 use Rattle.rhai_walk.specs.Nodes.{child_of}
+use Rattle.rhai_walk.specs.declared.arms.ArmExprs.{ArmExprs}
 use Rattle.rhai_walk.specs.declared.arms.ListedArms.{ListedArms}
 use Rattle.rhai_walk.specs.declared.children.Children.{Children}
 use Rattle.rhai_walk.specs.declared.node.Child as lent
@@ -50,24 +53,36 @@ places_left l = l.places.now ++ arms_of_cases (map case_of l.cases) ++ ranges_le
 abbrev pub arms_left : ListedArms → List Child
 arms_left l = listed_left l.arms.now (places_left l)
 
+-- the answer of an arm whose condition was taken comes first
+abbrev pub answers_left : Option (Bor Expr) → List Child → List Child
+answers_left None cs = cs
+answers_left (Some e) cs = anywhere (OfExpr (expr_of e.now)) ∷ cs
+
+abbrev pub arm_exprs_left : ArmExprs → List Child
+arm_exprs_left l = answers_left l.answer (arms_left l.arms)
+
 -- ---- of a node
+
+-- the right side of a `.` or an index
+abbrev pub right_child : Bool → BinaryExpr → ASTFlags → Child
+right_child is_dot sides options = placed_at (RightSide is_dot (chain_flags options) (expr_of sides.rhs)) (anywhere (OfExpr (expr_of sides.rhs)))
 
 abbrev pub left_of_tail : Tail → List Child
 left_of_tail tail.Nothing = []
+left_of_tail (tail.Expr e) = anywhere (OfExpr (expr_of e.now)) ∷ []
+left_of_tail (tail.RightOfDot sides options) = right_child true sides.now options.now ∷ []
+left_of_tail (tail.RightOfIndex sides options) = right_child false sides.now options.now ∷ []
 left_of_tail (tail.Exprs es) = exprs_left es.now
 left_of_tail (tail.Members ms) = members_left ms.now
 left_of_tail (tail.Statements ss) = statements_left ss.now
 left_of_tail (tail.Loop ss) = loop_left ss.now
 left_of_tail (tail.Blocks body branch) = blocks_left body.now branch.now
-left_of_tail (tail.Arms arms) = arms_left arms
+left_of_tail (tail.Arms exprs) = arm_exprs_left exprs
 
-abbrev pub any_child : Option lent.Child → List Child
-any_child None = []
-any_child (Some c) = child_of c ∷ []
+-- none comes after none
+abbrev pub left_from : Option lent.Child → List Child → List Child
+left_from None cs = []
+left_from (Some c) cs = child_of c ∷ cs
 
 abbrev pub left_of : Children → List Child
-left_of c = any_child c.first ++ any_child c.second ++ left_of_tail c.tail
-
-abbrev pub any_left : Option Children → List Child
-any_left None = []
-any_left (Some c) = left_of c
+left_of c = left_from c.first (left_of_tail c.tail)

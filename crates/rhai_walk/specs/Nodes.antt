@@ -1,9 +1,7 @@
--- The node that is lent, where it stands, and what may be asked of it.
-use Rattle.std.specs.Prelude.{Bool, true, false, Option, Some, None}
-use Rattle.rhai_tokens.specs.declared.position.Position.{Position}
+-- The node that is lent, and where it stands.
+use Rattle.std.specs.Prelude.{Option, Some, None}
 use Rattle.rhai_meaning.specs.Walk as walk
 use Rattle.rhai_meaning.specs.Walk.{Node, OfExpr, OfStmt}
-use Rattle.rhai_reading.specs.Positions.{position_of, stmt_position_of}
 use Rattle.rhai_reading.specs.Reading.{chain_flags, expr_of, stmt_of}
 use Rattle.rhai_walk.specs.Children as theory
 use Rattle.rhai_walk.specs.declared.node.ASTNode.{ASTNode}
@@ -24,15 +22,3 @@ spot_of (spot.RightSide is_dot options rhs) = Some (walk.RightSide is_dot (chain
 
 abbrev pub child_of : Child → theory.Child
 child_of c = record { spot = spot_of c.spot; node = node_of c.node }
-
-abbrev pub is_stmt_node : ASTNode → Bool
-is_stmt_node (node.Stmt s) = true
-is_stmt_node (node.Expr e) = false
-
-abbrev pub is_expr_node : ASTNode → Bool
-is_expr_node (node.Stmt s) = false
-is_expr_node (node.Expr e) = true
-
-abbrev pub place_of : ASTNode → Position
-place_of (node.Stmt s) = stmt_position_of s.now
-place_of (node.Expr e) = position_of e.now

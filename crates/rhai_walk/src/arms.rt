@@ -1,19 +1,52 @@
 //! The arms that the table of a `switch` lists.
 
-#![tactic(auto, using(rhai_reading::specs::Reading::shapes, crate::proofs::Steps::steps))]
+#![tactic(auto, using(rhai_reading::specs::Reading::shapes, rhai_reading::proofs::Ranges::ranges))]
 
 ghost use Rattle.std.specs.Prelude.{◌≡◌, [], ◌∷◌, ◌++◌, MatchOption};
-ghost use Rattle.rhai_walk.specs.Left.{arm_children, arms_left, places_left, ranges_left};
-ghost use Rattle.rhai_meaning.specs.Walk.{listed};
-ghost use Rattle.rhai_reading.specs.Reading.{expressions_of, table_of};
+ghost use Rattle.rhai_walk.specs.Left.{arm_children, arm_exprs_left, arms_left, listed_left, places_left, ranges_left};
+ghost use Rattle.rhai_meaning.specs.Walk.{OfExpr, listed};
+ghost use Rattle.rhai_reading.specs.Reading.{expr_of, expressions_of, table_of};
+ghost use Rattle.rhai_walk.specs.Children.{anywhere};
 
 use indexmap::map::Slice;
 use rhai_base::{Dynamic, RangeCase};
-use rhai_tree::{BinaryExpr, CaseBlocksList, SwitchCasesCollection};
+use rhai_tree::{BinaryExpr, CaseBlocksList, Expr, SwitchCasesCollection};
+
+/// The expressions of listed arms: of each its condition, then its answer.
+#[derive(Drop)]
+pub(crate) struct ArmExprs<'a> {
+    arms: ListedArms<'a>,
+    answer: Option<&'a Expr>,
+}
+
+impl<'a> ArmExprs<'a> {
+    /// Those of a table.
+    pub(crate) fn of(table: &'a SwitchCasesCollection) -> ArmExprs<'a>
+        ensures { arm_exprs_left result ≡ listed_left (expressions_of table.now) (listed (table_of table.now)) }
+    {
+        ArmExprs {
+            arms: ListedArms::of(table),
+            answer: None,
+        }
+    }
+
+    /// Takes the first.
+    pub(crate) fn next(&mut self) -> Option<&'a Expr>
+        ensures { MatchOption result (arm_exprs_left self.old ≡ []) (λ e. arm_exprs_left self.old ≡ anywhere (OfExpr (expr_of e.now)) ∷ arm_exprs_left self.new) }
+    {
+        if let Some(answer) = self.answer {
+            self.answer = None;
+            return Some(answer);
+        }
+        let arm = self.arms.next()?;
+        self.answer = Some(&arm.rhs);
+        Some(&arm.lhs)
+    }
+}
 
 /// Arms, each time that the table lists them: by cases, then by ranges, then as the default.
 #[derive(Drop)]
-pub(crate) struct ListedArms<'a> {
+struct ListedArms<'a> {
     arms: &'a [BinaryExpr],
     places: &'a [usize],
     cases: Slice<'a, Dynamic, CaseBlocksList>,
@@ -23,7 +56,7 @@ pub(crate) struct ListedArms<'a> {
 
 impl<'a> ListedArms<'a> {
     /// Those of a table.
-    pub(crate) fn of(table: &'a SwitchCasesCollection) -> ListedArms<'a>
+    fn of(table: &'a SwitchCasesCollection) -> ListedArms<'a>
         ensures arms { result.arms.now ≡ expressions_of table.now }
         ensures places { places_left result ≡ listed (table_of table.now) }
     {
@@ -37,7 +70,7 @@ impl<'a> ListedArms<'a> {
     }
 
     /// Takes the first that the table has. A place past the table names none.
-    pub(crate) fn next(&mut self) -> Option<&'a BinaryExpr>
+    fn next(&mut self) -> Option<&'a BinaryExpr>
         ensures { MatchOption result (arms_left self.old ≡ []) (λ b. arms_left self.old ≡ arm_children b.now ++ arms_left self.new) }
     {
         while let Some(place) = self.next_place() {

@@ -1,21 +1,27 @@
 //! Lists of children.
 
-#![tactic(auto, using(rhai_reading::specs::Reading::shapes, crate::proofs::Steps::steps))]
+#![tactic(auto, using(rhai_reading::specs::Reading::shapes))]
 
-ghost use Rattle.std.specs.Prelude.{◌≡◌, [], ◌∷◌, ◌++◌, MatchOption};
-ghost use Rattle.rhai_walk.specs.Left.{blocks_left, exprs_left, left_of_tail, loop_left, members_left, statements_left};
+ghost use Rattle.std.specs.Prelude.{◌≡◌, [], ◌∷◌, MatchOption};
+ghost use Rattle.rhai_walk.specs.Left.{blocks_left, exprs_left, left_of_tail, loop_left, members_left, right_child, statements_left};
 ghost use Rattle.rhai_walk.specs.Nodes.{child_of};
 
-use crate::arms::ListedArms;
+use crate::arms::ArmExprs;
 use crate::node::{ASTNode, Child, Spot};
-use rhai_base::Ident;
-use rhai_tree::{Expr, FlowControl, Stmt};
+use rhai_base::{ASTFlags, Ident};
+use rhai_tree::{BinaryExpr, Expr, FlowControl, Stmt};
 
 /// Children of one kind, one after another.
 #[derive(Drop)]
 pub(crate) enum Tail<'a> {
     /// None.
     Nothing,
+    /// An expression.
+    Expr(&'a Expr),
+    /// The right side of a `.`.
+    RightOfDot(&'a BinaryExpr, &'a ASTFlags),
+    /// The right side of an index.
+    RightOfIndex(&'a BinaryExpr, &'a ASTFlags),
     /// Expressions.
     Exprs(&'a [Expr]),
     /// The values of a map literal.
@@ -26,8 +32,8 @@ pub(crate) enum Tail<'a> {
     Loop(&'a [Stmt]),
     /// Statements of two blocks.
     Blocks(&'a [Stmt], &'a [Stmt]),
-    /// Arms of a `switch`.
-    Arms(ListedArms<'a>),
+    /// The conditions and answers of a `switch`.
+    Arms(ArmExprs<'a>),
 }
 
 impl<'a> Tail<'a> {
@@ -36,6 +42,45 @@ impl<'a> Tail<'a> {
         ensures { left_of_tail result ≡ blocks_left flow.now.body.block flow.now.branch.block }
     {
         Tail::Blocks(flow.body.statements(), flow.branch.statements())
+    }
+
+    /// Takes the first.
+    pub(crate) fn next(&mut self) -> Option<Child<'a>>
+        ensures { MatchOption result (left_of_tail self.old ≡ []) (λ c. left_of_tail self.old ≡ child_of c ∷ left_of_tail self.new) }
+    {
+        match self {
+            Tail::Nothing => None,
+            Tail::Expr(expr) => {
+                let child = ASTNode::Expr(expr).anywhere();
+                *self = Tail::Nothing;
+                Some(child)
+            }
+            Tail::RightOfDot(sides, options) => {
+                let child = right_of(sides, true, **options);
+                *self = Tail::Nothing;
+                Some(child)
+            }
+            Tail::RightOfIndex(sides, options) => {
+                let child = right_of(sides, false, **options);
+                *self = Tail::Nothing;
+                Some(child)
+            }
+            Tail::Exprs(exprs) => next_expr(exprs),
+            Tail::Members(members) => next_member(members),
+            Tail::Statements(statements) => next_statement(statements),
+            Tail::Loop(statements) => next_of_loop(statements),
+            Tail::Blocks(body, branch) => next_of_blocks(body, branch),
+            Tail::Arms(exprs) => Some(ASTNode::Expr(exprs.next()?).anywhere()),
+        }
+    }
+}
+
+fn right_of<'a>(sides: &'a BinaryExpr, is_dot: bool, options: ASTFlags) -> Child<'a>
+    ensures { child_of result ≡ right_child is_dot sides.now options }
+{
+    Child {
+        node: ASTNode::Expr(&sides.rhs),
+        spot: Spot::RightSide(is_dot, options, &sides.rhs),
     }
 }
 
@@ -67,7 +112,7 @@ pub(crate) fn next_statement<'a>(statements: &mut &'a [Stmt]) -> Option<Child<'a
 }
 
 /// Takes the first statement of a loop.
-pub(crate) fn next_of_loop<'a>(statements: &mut &'a [Stmt]) -> Option<Child<'a>>
+fn next_of_loop<'a>(statements: &mut &'a [Stmt]) -> Option<Child<'a>>
     ensures { MatchOption result ((loop_left statements.old.now ≡ []) × (statements.new ≡ statements.old)) (λ c. loop_left statements.old.now ≡ child_of c ∷ loop_left statements.new.now) }
 {
     let (first, rest) = statements.split_first()?;

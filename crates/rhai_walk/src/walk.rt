@@ -81,11 +81,13 @@ fn visit<'a, F: FnMut(&[ASTNode]) -> bool>(
     ensures walks { Walks F.FnMut path.old.items (ended result) on_node.old (over_node listing (node_of node.entry)) on_node.new path.new.items }
 {
     enter(node, path, on_node)?;
-    let Some(mut children) = Children::of(node) else {
+    let children = Children::of(node);
+    // Most nodes are leaves, and beginning the loop costs more than this test.
+    if children.is_empty() {
         path.pop();
         return Ok(());
-    };
-    while let Some(child) = children.next() {
+    }
+    for child in children {
         visit(child.node, path, on_node)?;
     }
     path.pop();

@@ -11,9 +11,9 @@ decreases-check_node l = size_of (node_of l.node)
 
 abbrev pub invariant-loop-child : goal.invariant-loop-child
 invariant-loop-child l = record {
-  so_far : left_found l.initial.children (around_of l.inside) ≡ left_found l.children (around_of l.inside);
-  below : AreBelow (size_of (node_of l.fn.node)) (left_of l.children);
+  so_far : left_found l.initial.child-iterator (around_of l.inside) ≡ left_found l.child-iterator (around_of l.inside);
+  below : AreBelow (size_of (node_of l.fn.node)) (left_of l.child-iterator);
 }
 
 abbrev pub decreases-loop-child : goal.decreases-loop-child
-decreases-loop-child l = length (left_of l.children)
+decreases-loop-child l = length (left_of l.child-iterator)

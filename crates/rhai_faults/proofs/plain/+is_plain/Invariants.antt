@@ -10,9 +10,9 @@ decreases-is_plain l = size_of (node_of l.node)
 
 abbrev pub invariant-loop-child : goal.invariant-loop-child
 invariant-loop-child l = record {
-  so_far : left_plain l.initial.children ≡ left_plain l.children;
-  below : AreBelow (size_of (node_of l.fn.node)) (left_of l.children);
+  so_far : left_plain l.initial.child-iterator ≡ left_plain l.child-iterator;
+  below : AreBelow (size_of (node_of l.fn.node)) (left_of l.child-iterator);
 }
 
 abbrev pub decreases-loop-child : goal.decreases-loop-child
-decreases-loop-child l = length (left_of l.children)
+decreases-loop-child l = length (left_of l.child-iterator)

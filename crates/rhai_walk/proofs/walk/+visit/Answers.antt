@@ -1,4 +1,4 @@
-use Rattle.std.proofs.Common.{◌≡◌, [], Err, refl, subst, rules}
+use Rattle.std.proofs.Common.{◌≡◌, [], Err, refl, ap, ◌∙◌, subst}
 use Rattle.rhai_walk.specs.Left.{left_of}
 use Rattle.rhai_walk.specs.Nodes.{node_of}
 use Rattle.rhai_walk.specs.Walking.{Finished, Walks, ended}
@@ -13,31 +13,31 @@ returns-in_err-enter-clause-walks g t c =
 
 pub loop-child-init : goal.loop-child-init
 loop-child-init g t c =
-    record { callable = c.in_ok-enter.ensures.callable; so_far = partly-start g.F.FnMut _ _ _; below = below-start (node_of c.args.node) c.in-Some.children c.in-Some.ensures }
+    record { callable = c.in_ok-enter.ensures.callable; so_far = partly-start g.F.FnMut _ _ _; below = below-start (node_of c.args.node) c.into_iter-child-iterator.result (ap left_of c.into_iter-child-iterator.ensures.into_iter_gives ∙ c.of-children.ensures) }
 
 pub loop-child-preserved : goal.loop-child-preserved
 loop-child-preserved g t c =
     let now = c.loop-child in
     record {
       callable = c.in_ok-visit.ensures.callable;
-      so_far = next_seen g.F.FnMut now.invariant.so_far (paths-next now.children c.next.new.self c.in-Some-next.child c.in-Some-next.ensures) c.in_ok-visit.ensures.walks;
-      below = (below-next _ now.children c.next.new.self c.in-Some-next.child c.in-Some-next.ensures now.invariant.below).1;
+      so_far = next_seen g.F.FnMut now.invariant.so_far (paths-next now.child-iterator c.next.new.self c.in-Some.child c.in-Some.ensures.steps) c.in_ok-visit.ensures.walks;
+      below = (below-next _ now.child-iterator c.next.new.self c.in-Some.child c.in-Some.ensures.steps now.invariant.below).1;
     }
 
 pub returns-in_err-visit-clause-walks : goal.returns-in_err-visit-clause-walks
 returns-in_err-visit-clause-walks g t c =
     let now = c.loop-child in
-    let stopped = next_stops g.F.FnMut (Err c.in_err-visit.field-0.0) c.in_err-visit.field-0.0 refl _ _ _ _ now.invariant.so_far (paths-next now.children c.next.new.self c.in-Some-next.child c.in-Some-next.ensures) c.in_err-visit.ensures.walks in
+    let stopped = next_stops g.F.FnMut (Err c.in_err-visit.field-0.0) c.in_err-visit.field-0.0 refl _ _ _ _ now.invariant.so_far (paths-next now.child-iterator c.next.new.self c.in-Some.child c.in-Some.ensures.steps) c.in_err-visit.ensures.walks in
     parts_stop g.F.FnMut _ _ c.from_residual-in_err-visit.ensures.1 _ _ _ _ _ c.in_ok-enter.ensures.enters
     (subst (λ ps. Walks g.F.FnMut c.enter.new.path.items (ended (Err c.in_err-visit.field-0.0)) c.enter.new.on_node ps c.visit.new.on_node c.visit.new.path.items)
-    (paths-start (node_of c.args.node) c.in-Some.children c.in-Some.ensures) stopped)
+    (paths-start (node_of c.args.node) c.into_iter-child-iterator.result (ap left_of c.into_iter-child-iterator.ensures.into_iter_gives ∙ c.of-children.ensures)) stopped)
 
 pub returns-clause-walks : goal.returns-clause-walks
 returns-clause-walks g t c =
     let now = c.loop-child in
-    let none : left_of now.children ≡ [] = search rules in
-    let seen = partly-end g.F.FnMut _ _ _ _ _ _ now.invariant.so_far (paths-end now.children none) in
+    let none : left_of now.child-iterator ≡ [] = c.in-None.ensures.steps.0 in
+    let seen = partly-end g.F.FnMut _ _ _ _ _ _ now.invariant.so_far (paths-end now.child-iterator none) in
     parts_seen g.F.FnMut c.args.node c.in_ok-enter.ensures.enters
     (subst (λ ps. Finished g.F.FnMut c.enter.new.path.items c.enter.new.on_node ps now.on_node now.path.items)
-    (paths-start (node_of c.args.node) c.in-Some.children c.in-Some.ensures) seen)
+    (paths-start (node_of c.args.node) c.into_iter-child-iterator.result (ap left_of c.into_iter-child-iterator.ensures.into_iter_gives ∙ c.of-children.ensures)) seen)
     now.path.ok.0 c.pop-2.ensures.rest

@@ -13,9 +13,9 @@ decreases-visit g l = size_of (node_of l.node)
 abbrev pub invariant-loop-child : goal.invariant-loop-child
 invariant-loop-child g l = record {
   callable : always_mut g.F.FnMut l.on_node;
-  so_far : Partly g.F.FnMut l.initial.path.items l.initial.on_node (left_paths l.initial.children) l.path.items l.on_node (left_paths l.children);
-  below : AreBelow (size_of (node_of l.fn.node)) (left_of l.children);
+  so_far : Partly g.F.FnMut l.initial.path.items l.initial.on_node (left_paths l.initial.child-iterator) l.path.items l.on_node (left_paths l.child-iterator);
+  below : AreBelow (size_of (node_of l.fn.node)) (left_of l.child-iterator);
 }
 
 abbrev pub decreases-loop-child : goal.decreases-loop-child
-decreases-loop-child g l = length (left_of l.children)
+decreases-loop-child g l = length (left_of l.child-iterator)
