@@ -1,36 +1,18 @@
--- All other nodes, where a match names some.
+-- All other statements, where a match names some.
 use Rattle.std.proofs.Common.{◌≡◌, false, Option, refl}
-use Rattle.std.specs.declared.num.NonZeroU8.{NonZeroU8}
-use Rattle.std.specs.declared.num.NonZeroUsize.{NonZeroUsize}
 use Rattle.rhai_parts.specs.declared.flags.ASTFlags.{ASTFlags}
 use Rattle.rhai_parts.specs.declared.ident.Ident.{Ident}
-use Rattle.rhai_parts.specs.declared.namespace.Namespace.{Namespace}
 use Rattle.rhai_tokens.specs.declared.position.Position.{Position}
-use Rattle.rhai_tokens.specs.declared.token.Token.{Token}
-use Rattle.rhai_values.specs.Value.{Text}
 use Rattle.rhai_tree.specs.declared.block.StmtBlock.{StmtBlock}
 use Rattle.rhai_tree.specs.declared.expr.Expr as declared_expr
-use Rattle.rhai_tree.specs.declared.expr.Expr.TheVariants as expr_kind
 use Rattle.rhai_tree.specs.declared.expr.FnCallExpr.{FnCallExpr}
 use Rattle.rhai_tree.specs.declared.stmt.FlowControl.{FlowControl}
 use Rattle.rhai_tree.specs.declared.stmt.Stmt as declared_stmt
 use Rattle.rhai_tree.specs.declared.stmt.Stmt.TheVariants as stmt_kind
 use Rattle.rhai_tree.specs.declared.switch.SwitchBlock.{SwitchBlock}
-use Rattle.rhai_meaning.specs.Queries.{is_control_flow_break, is_noop, is_self_terminated, is_unit, may_follow, returns_value}
-use Rattle.rhai_meaning.specs.Tree.{Expr, Stmt}
-use Rattle.rhai_reading.proofs.Cases.{ExprCase, property_case, unit_case, variable_case, StmtCase, block_case, break_loop_case, call_statement_case, expression_case, for_case, if_case, noop_case, return_case, switch_case, try_catch_case, while_case}
-
-pub no_unit : {x : declared_expr.Expr} {e : Expr} → ExprCase x e → ((p : Position) → x ≡ expr_kind.Unit p → ⊥) → false ≡ is_unit e
-no_unit (unit_case p) u = absurd (u p refl)
-no_unit _ u = refl
-
-pub none_follows : {x : declared_expr.Expr} {e : Expr} (t : Token) → ExprCase x e
-    → ((v : Option NonZeroUsize × Text × Namespace) (short : Option NonZeroU8) (p : Position) → x ≡ expr_kind.Variable v short p → ⊥)
-    → ((n : Text × Text × Text) (p : Position) → x ≡ expr_kind.Property n p → ⊥)
-    → false ≡ may_follow t e
-none_follows t (variable_case v short p) a b = absurd (a v short p refl)
-none_follows t (property_case n p) a b = absurd (b n p refl)
-none_follows t _ a b = refl
+use Rattle.rhai_meaning.specs.Queries.{is_control_flow_break, is_noop, is_self_terminated, returns_value}
+use Rattle.rhai_meaning.specs.Tree.{Stmt}
+use Rattle.rhai_reading.proofs.Cases.{StmtCase, block_case, break_loop_case, call_statement_case, expression_case, for_case, if_case, noop_case, return_case, switch_case, try_catch_case, while_case}
 
 pub no_noop : {x : declared_stmt.Stmt} {s : Stmt} → StmtCase x s → ((p : Position) → x ≡ stmt_kind.Noop p → ⊥) → false ≡ is_noop s
 no_noop (noop_case p) n = absurd (n p refl)

@@ -4,11 +4,7 @@
 #![tactic(auto)]
 
 mod block;
-mod call;
 mod check;
-mod expr;
-mod into_expr;
-mod literals;
 mod node;
 mod place;
 mod stmt;
@@ -17,14 +13,11 @@ mod take;
 mod walk;
 
 pub use block::FromStmt;
-pub use call::CallQueries;
 pub use check::{check_tree, is_plain};
-pub use expr::ExprQueries;
-pub use into_expr::IntoExpr;
-pub use literals::Literals;
 pub use node::NodeQueries;
 pub use place::SetPosition;
 pub use rhai_base::TreeFault;
+pub use rhai_exprs::{CallQueries, ExprQueries, IntoExpr, Literals};
 pub use rhai_tree::{
     BinaryExpr, CaseBlocksList, Cases, Expr, FlowControl, FnAccess, FnCallExpr, FnNamespace,
     ScriptFuncDef, Stmt, StmtBlock, StmtBlockContainer, SwitchBlock, SwitchCasesCollection,

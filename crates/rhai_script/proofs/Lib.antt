@@ -1,1 +1,1 @@
-pub mod Choices
+mod Outcomes

@@ -4,10 +4,11 @@ use Rattle.rhai_values.specs.Value.{Text}
 use Rattle.rhai_tree.specs.declared.stmt.Stmt.{Stmt}
 use Rattle.rhai_tree.specs.declared.script_fn.ScriptFuncDef.{ScriptFuncDef}
 use Rattle.rhai_script.specs.declared.ast.AST.{AST}
+use Rattle.rhai_functions.specs.declared.fn_lib.FnLib.{FnLib}
 use Rattle.rhai_functions.specs.FnKey.{definition_key}
 use Rattle.rhai_functions.specs.Table.{put_all_by}
 use Rattle.rhai_functions.specs.Ids.{named, first_name}
-use Rattle.rhai_script.specs.Text.{join_docs}
+use Rattle.rhai_script_parts.specs.Text.{join_docs}
 
 pub record Contents : Type 0 where
   pub source : Option Text
@@ -62,4 +63,14 @@ combined a b chosen = record {
   statements = a.statements ++ b.statements;
   id = a.id;
   functions = put_all a.functions chosen;
+}
+
+-- two scripts joined, with this table and this source
+abbrev pub joined_over : FnLib → Option Text → Contents → Contents → Contents
+joined_over lib source a b = record {
+  source = source;
+  doc = join_docs a.doc b.doc;
+  statements = a.statements ++ b.statements;
+  id = lib.id;
+  functions = lib.functions;
 }

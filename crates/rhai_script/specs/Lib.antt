@@ -1,4 +1,2 @@
 pub mod Contents
-pub mod Filter
 pub mod Script
-pub mod Text

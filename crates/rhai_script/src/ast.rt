@@ -1,22 +1,20 @@
 //! A whole script.
-ghost use Rattle.std.specs.Prelude.{◌≡◌, ◌≢◌, ◌++◌, [], List, map, ◌↔◌, IsTrue, IfOk, OnOk, OnErr, None};
+ghost use Rattle.std.specs.Prelude.{◌≡◌, ◌≢◌, [], List, ◌↔◌, IsTrue, IfOk, OnOk, OnErr, None};
 ghost use Rattle.std.specs.Option.{option_copied};
-ghost use Rattle.std.specs.Rc.{rc_value};
 ghost use Rattle.std.specs.List.Retain.{IsFiltered};
 ghost use Rattle.rhai_reading.specs.Reading.{stmts_of};
 ghost use Rattle.rhai_tree.specs.declared.script_fn.ScriptFuncDef.{ScriptFuncDef as definition};
-ghost use Rattle.rhai_script.specs.Contents.{contents, with_source, without_source, with_doc, with_table, with_functions, without_statements, merged, combined};
-ghost use Rattle.rhai_script.specs.Filter.{Answers, AnswersShort};
+ghost use Rattle.rhai_script.specs.Contents.{contents, with_source, without_source, with_doc, with_table, with_functions, without_statements, joined_over, merged, combined};
+ghost use Rattle.rhai_script_parts.specs.Filter.{Answers, AnswersShort};
 
-use crate::filter::{all, chosen, kept};
-use crate::text::Doc;
-use rhai_ast::{FnAccess, FnNamespace, ScriptFuncDef, Stmt, StmtBlock};
+use rhai_ast::{FnAccess, FnNamespace, Stmt, StmtBlock};
 use rhai_base::{ImmutableString, OutOfMemory, Position};
-use rhai_functions::{
-    FnLib, SharedLib, allocator_of, copy_of_id, name_of, replaced, take_id, with_all, without_id,
+use rhai_functions::{SharedLib, allocator_of, copy_of_id};
+use rhai_script_parts::{
+    Doc, append, joined, no_functions, only_chosen, own_copy, put_all, put_chosen, retained,
+    take_name,
 };
 use std::alloc::{AllocError, Global};
-use std::rc::Rc;
 
 /// A script: its source, its doc text, its statements and its functions. What its calls need of memory comes from
 /// the allocator of its table.
@@ -53,23 +51,6 @@ impl Clone for AST {
             lib,
         })
     }
-}
-
-/// The statements of both.
-fn joined(first: &StmtBlock, second: &StmtBlock) -> Result<StmtBlock, OutOfMemory>
-    ensures { IfOk result (λ body. body.block ≡ first.now.block ++ second.now.block) }
-{
-    let mut body = first.clone()?;
-    append(&mut body, second.clone()?)?;
-    Ok(body)
-}
-
-/// Moves statements to the end.
-fn append(body: &mut StmtBlock, more: StmtBlock) -> Result<(), OutOfMemory>
-    ensures ok { OnOk result (body.new.block ≡ body.old.block ++ more.block) }
-    ensures err { OnErr result (body.new.block ≡ body.old.block) }
-{
-    body.extend(more.into_statements().into_vec())
 }
 
 impl AST {
@@ -121,7 +102,7 @@ impl AST {
     pub fn empty(alloc: Global) -> Result<AST, OutOfMemory>
         ensures { IfOk result (λ s. contents s ≡ record { source = None; doc = []; statements = []; id = None; functions = [] }) }
     {
-        let lib = Rc::new(alloc, FnLib::new(alloc))?;
+        let lib = no_functions(alloc)?;
         Ok(AST::new(Vec::new(alloc), lib))
     }
 
@@ -141,10 +122,7 @@ impl AST {
         ensures ok { OnOk result (contents self.new ≡ with_source source.now (contents self.old)) }
         ensures err { OnErr result (contents self.new ≡ contents self.old) }
     {
-        let source = name_of(allocator_of(&self.lib), source)?;
-        let id = source.clone()?;
-        take_id(Rc::make_mut(&mut self.lib)?, id);
-        self.source = source;
+        self.source = take_name(&mut self.lib, source)?;
         Ok(())
     }
 
@@ -193,18 +171,16 @@ impl AST {
     }
 
     /// A script of the source, the doc and this table alone.
-    fn only(&self, lib: FnLib) -> Result<AST, OutOfMemory>
-        requires { lib.id ≡ None }
-        ensures { IfOk result (λ s. contents s ≡ without_statements (with_table lib.functions (contents self.now))) }
+    fn only(&self, lib: SharedLib) -> Result<AST, OutOfMemory>
+        requires { lib.value.id ≡ None }
+        ensures { IfOk result (λ s. contents s ≡ without_statements (with_table lib.value.functions (contents self.now))) }
     {
-        let alloc = allocator_of(&self.lib);
         let source = self.source.clone()?;
         let doc = self.doc.clone()?;
-        let lib = Rc::new(alloc, lib)?;
         Ok(AST {
             source,
             doc,
-            body: StmtBlock::none(alloc),
+            body: StmtBlock::none(allocator_of(&lib)),
             lib,
         })
     }
@@ -213,7 +189,7 @@ impl AST {
     pub fn clone_functions_only(&self) -> Result<AST, OutOfMemory>
         ensures { IfOk result (λ s. contents s ≡ without_statements (with_table self.now.lib.value.functions (contents self.now))) }
     {
-        self.only(without_id(&self.lib)?)
+        self.only(own_copy(&self.lib)?)
     }
 
     /// A script of the source, the doc and the functions that the filter chooses. It is asked of each function once, in
@@ -225,8 +201,8 @@ impl AST {
         requires { F.IsAlwaysCallable filter }
         ensures { IfOk result (λ s. (chosen : List definition) × IsFiltered (Answers F.Fn) filter self.now.lib.value.functions chosen × (contents s ≡ without_statements (with_table chosen (contents self.now)))) }
     {
-        let chosen = chosen(&self.lib, &filter)?;
-        self.only(FnLib::from_functions(allocator_of(&self.lib), chosen)?)
+        let lib = only_chosen(&self.lib, &filter)?;
+        self.only(lib)
     }
 
     /// A script of the source, the doc and the statements, with a table of its own.
@@ -238,18 +214,13 @@ impl AST {
         Ok(script)
     }
 
-    fn merged_with(
-        &self,
-        other: &AST,
-        functions: Vec<Rc<ScriptFuncDef>>,
-    ) -> Result<AST, OutOfMemory>
-        ensures { IfOk result (λ s. contents s ≡ merged (contents self.now) (contents other.now) (map rc_value functions.items)) }
+    /// A script in place of two, with this table.
+    fn merged_with(&self, other: &AST, lib: SharedLib) -> Result<AST, OutOfMemory>
+        ensures { IfOk result (λ s. contents s ≡ joined_over lib.value other.now.source (contents self.now) (contents other.now)) }
     {
-        let alloc = allocator_of(&self.lib);
         let source = other.source.clone()?;
-        let doc = self.doc.joined(alloc, &other.doc)?;
+        let doc = self.doc.joined(allocator_of(&lib), &other.doc)?;
         let body = joined(&self.body, &other.body)?;
-        let lib = Rc::new(alloc, with_all(&self.lib, &other.source, functions)?)?;
         Ok(AST {
             source,
             doc,
@@ -263,7 +234,8 @@ impl AST {
     pub fn merge(&self, other: &AST) -> Result<AST, OutOfMemory>
         ensures { IfOk result (λ s. contents s ≡ merged (contents self.now) (contents other.now) other.now.lib.value.functions) }
     {
-        self.merged_with(other, all(&other.lib)?)
+        let lib = put_all(&self.lib, &other.source, &other.lib)?;
+        self.merged_with(other, lib)
     }
 
     /// The same with those functions of the second that the filter chooses. It is asked of each of them once, in the
@@ -276,7 +248,8 @@ impl AST {
         requires { F.IsAlwaysCallable filter }
         ensures { IfOk result (λ s. (chosen : List definition) × IsFiltered (Answers F.Fn) filter other.now.lib.value.functions chosen × (contents s ≡ merged (contents self.now) (contents other.now) chosen)) }
     {
-        self.merged_with(other, chosen(&other.lib, &filter)?)
+        let lib = put_chosen(&self.lib, &other.source, &other.lib, &filter)?;
+        self.merged_with(other, lib)
     }
 
     /// The statements; the rest goes.
@@ -292,17 +265,12 @@ impl AST {
         body
     }
 
-    fn combine_with(
-        &mut self,
-        other: AST,
-        functions: Vec<Rc<ScriptFuncDef>>,
-    ) -> Result<(), OutOfMemory>
-        ensures ok { OnOk result (contents self.new ≡ combined (contents self.old) (contents other) (map rc_value functions.items)) }
+    /// Takes in the doc and the statements of a second script, and this table.
+    fn combine_with(&mut self, other: AST, lib: SharedLib) -> Result<(), OutOfMemory>
+        ensures ok { OnOk result (contents self.new ≡ joined_over lib.value self.old.source (contents self.old) (contents other)) }
         ensures err { OnErr result (contents self.new ≡ contents self.old) }
     {
-        let alloc = allocator_of(&self.lib);
-        let doc = self.doc.joined(alloc, &other.doc)?;
-        let lib = Rc::new(alloc, with_all(&self.lib, &None, functions)?)?;
+        let doc = self.doc.joined(allocator_of(&lib), &other.doc)?;
         append(&mut self.body, other.into_body())?;
         self.doc = doc;
         self.lib = lib;
@@ -315,8 +283,8 @@ impl AST {
         ensures ok { OnOk result (contents self.new ≡ combined (contents self.old) (contents other) other.lib.value.functions) }
         ensures err { OnErr result (contents self.new ≡ contents self.old) }
     {
-        let functions = all(&other.lib)?;
-        self.combine_with(other, functions)
+        let lib = put_all(&self.lib, &None, &other.lib)?;
+        self.combine_with(other, lib)
     }
 
     /// The same with those functions of the second that the filter chooses. It is asked of each of them once, in the
@@ -330,8 +298,8 @@ impl AST {
         ensures ok { OnOk result ((chosen : List definition) × IsFiltered (Answers F.Fn) filter other.lib.value.functions chosen × (contents self.new ≡ combined (contents self.old) (contents other) chosen)) }
         ensures err { OnErr result (contents self.new ≡ contents self.old) }
     {
-        let functions = chosen(&other.lib, &filter)?;
-        self.combine_with(other, functions)
+        let lib = put_chosen(&self.lib, &None, &other.lib, &filter)?;
+        self.combine_with(other, lib)
     }
 
     /// Keeps the functions that the filter chooses, and the table's id. The filter is asked of each function once, in
@@ -344,9 +312,7 @@ impl AST {
         ensures ok { OnOk result ((kept : List definition) × IsFiltered (AnswersShort F.Fn) filter self.old.lib.value.functions kept × (contents self.new ≡ with_functions kept (contents self.old))) }
         ensures err { OnErr result (contents self.new ≡ contents self.old) }
     {
-        let kept = kept(&self.lib, &filter)?;
-        let lib = replaced(&self.lib, kept)?;
-        self.lib = Rc::new(allocator_of(&self.lib), lib)?;
+        self.lib = retained(&self.lib, &filter)?;
         Ok(())
     }
 
@@ -355,8 +321,7 @@ impl AST {
         ensures ok { OnOk result (contents self.new ≡ with_table [] (contents self.old)) }
         ensures err { OnErr result (contents self.new ≡ contents self.old) }
     {
-        let alloc = allocator_of(&self.lib);
-        self.lib = Rc::new(alloc, FnLib::new(alloc))?;
+        self.lib = no_functions(allocator_of(&self.lib))?;
         Ok(())
     }
 

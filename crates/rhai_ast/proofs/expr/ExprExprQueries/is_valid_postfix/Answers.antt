@@ -1,7 +1,0 @@
-use Rattle.std.proofs.Common.{rules}
-use Rattle.rhai_reading.specs.Reading.{shapes}
-use Rattle.rhai_reading.specs.Positions.{places}
-use Rattle.rhai_ast.proofs.expr.ExprExprQueries.is_valid_postfix.Goals as goal
-
-pub returns-else-goes_into : goal.returns-else-goes_into
-returns-else-goes_into c = search (rules, shapes, places)

@@ -1,0 +1,25 @@
+-- All other expressions, where a match names some.
+use Rattle.std.proofs.Common.{◌≡◌, false, Option, refl}
+use Rattle.std.specs.declared.num.NonZeroU8.{NonZeroU8}
+use Rattle.std.specs.declared.num.NonZeroUsize.{NonZeroUsize}
+use Rattle.rhai_parts.specs.declared.namespace.Namespace.{Namespace}
+use Rattle.rhai_tokens.specs.declared.position.Position.{Position}
+use Rattle.rhai_tokens.specs.declared.token.Token.{Token}
+use Rattle.rhai_values.specs.Value.{Text}
+use Rattle.rhai_tree.specs.declared.expr.Expr as declared_expr
+use Rattle.rhai_tree.specs.declared.expr.Expr.TheVariants as expr_kind
+use Rattle.rhai_meaning.specs.Queries.{is_unit, may_follow}
+use Rattle.rhai_meaning.specs.Tree.{Expr}
+use Rattle.rhai_reading.proofs.Cases.{ExprCase, property_case, unit_case, variable_case}
+
+pub no_unit : {x : declared_expr.Expr} {e : Expr} → ExprCase x e → ((p : Position) → x ≡ expr_kind.Unit p → ⊥) → false ≡ is_unit e
+no_unit (unit_case p) u = absurd (u p refl)
+no_unit _ u = refl
+
+pub none_follows : {x : declared_expr.Expr} {e : Expr} (t : Token) → ExprCase x e
+    → ((v : Option NonZeroUsize × Text × Namespace) (short : Option NonZeroU8) (p : Position) → x ≡ expr_kind.Variable v short p → ⊥)
+    → ((n : Text × Text × Text) (p : Position) → x ≡ expr_kind.Property n p → ⊥)
+    → false ≡ may_follow t e
+none_follows t (variable_case v short p) a b = absurd (a v short p refl)
+none_follows t (property_case n p) a b = absurd (b n p refl)
+none_follows t _ a b = refl
