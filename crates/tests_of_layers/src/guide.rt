@@ -1,14 +1,13 @@
 //! The pieces of docs/GUIDE.md on scripts.
 
 use crate::guide_trees;
-use crate::said::{say, say_count, say_line, say_value};
 use rhai_ast::{ASTNode, Expr, FnAccess, ScriptFuncDef, Stmt, StmtBlock};
 use rhai_base::{ASTFlags, Boxed, Dynamic, Ident, ImmutableString, OutOfMemory, Position, Seq};
 use rhai_script::{AST, FnLib, SharedLib};
 use rhai_script_queries::ScriptQueries;
 use std::alloc::Global;
 use std::rc::Rc;
-use tests_reader::Unread;
+use tests_reader::Said;
 
 /// `fn NAME() {}`, as a parser would build it.
 fn function(alloc: Global, name: &str) -> Result<Rc<ScriptFuncDef>, OutOfMemory> {
@@ -100,63 +99,64 @@ fn first_constant(script: &AST) -> Result<Option<Dynamic>, OutOfMemory> {
 }
 
 /// Answers what the pieces give.
-pub fn answer(
-    alloc: Global,
-    question: &str,
-    name: &str,
-    answer: &mut String,
-) -> Result<bool, Unread> {
-    let answered = match question {
-        "guide-tree" => guide_trees::answer(alloc, name, answer),
-        "guide-script" => of_configuration(alloc, answer),
-        "guide-scripts" => of_two(alloc, answer),
-        _ => return Ok(false),
-    };
-    answered?;
-    Ok(true)
-}
-
-fn of_configuration(alloc: Global, answer: &mut String) -> Result<(), Unread> {
-    of_script(&configuration(alloc)?, answer)
-}
-
-fn of_two(alloc: Global, answer: &mut String) -> Result<(), Unread> {
-    let base = script(alloc, "base", &["start", "stop"])?;
-    of_scripts(base, &script(alloc, "own", &["log", "stop"])?, answer)
-}
-
-fn of_script(script: &AST, answer: &mut String) -> Result<(), Unread> {
-    say_count(answer, "longest path", longest_path(script)?);
-    push_names(script, answer)?;
-    say_constant(script, answer)
-}
-
-fn say_constant(script: &AST, answer: &mut String) -> Result<(), Unread> {
-    if let Some(value) = &first_constant(script)? {
-        say_value(answer, value);
+pub fn answer(question: &str, name: &str, said: &Said) -> bool {
+    match question {
+        "guide-tree" => guide_trees::answer(name, said),
+        "guide-script" => of_configuration(said),
+        "guide-scripts" => of_two(said),
+        _ => return false,
     }
-    Ok(())
+    true
 }
 
-fn of_scripts(mut base: AST, own: &AST, answer: &mut String) -> Result<(), Unread> {
-    say_merged(&base, own, answer)?;
-    say_changed(&mut base, own, answer)
+fn of_configuration(said: &Said) {
+    if let Some(script) = said.made(configuration(said.alloc)) {
+        say_configuration(&script, said);
+    }
 }
 
-fn say_merged(base: &AST, own: &AST, answer: &mut String) -> Result<(), Unread> {
-    say_names("merged", &merged(base, own)?, answer)?;
-    say_names("by choice", &merged_by_choice(base, own)?, answer)
+fn say_configuration(script: &AST, said: &Said) {
+    let longest = said.made(longest_path(script)).unwrap_or(0);
+    said.count("longest path", longest);
+    say_names(script, said);
+    if let Some(value) = said.found(first_constant(script)) {
+        said.value(&value);
+    }
 }
 
-fn say_changed(base: &mut AST, own: &AST, answer: &mut String) -> Result<(), Unread> {
-    combined(base, own.clone()?)?;
-    say_names("combined", base, answer)?;
-    retained(base)?;
-    say_names("retained", base, answer)
+fn of_two(said: &Said) {
+    if let Some(mut base) = said.made(script(said.alloc, "base", &["start", "stop"]))
+        && let Some(own) = said.made(script(said.alloc, "own", &["log", "stop"]))
+    {
+        say_joined(&mut base, &own, said);
+    }
 }
 
-fn say_names(word: &str, script: &AST, answer: &mut String) -> Result<(), Unread> {
-    say_line(answer, word);
-    say(answer, script.source().unwrap_or("no source"));
-    Ok(push_names(script, answer)?)
+fn say_joined(base: &mut AST, own: &AST, said: &Said) {
+    say_made("merged", merged(base, own), said);
+    say_made("by choice", merged_by_choice(base, own), said);
+    if let Some(own) = said.made(own.clone()) {
+        said.made(combined(base, own));
+    }
+    say_named("combined", base, said);
+    said.made(retained(base));
+    say_named("retained", base, said);
+}
+
+fn say_made(word: &str, script: Result<AST, OutOfMemory>, said: &Said) {
+    if let Some(script) = said.made(script) {
+        say_named(word, &script, said);
+    }
+}
+
+fn say_named(word: &str, script: &AST, said: &Said) {
+    said.line(word);
+    said.word(script.source().unwrap_or("no source"));
+    say_names(script, said);
+}
+
+fn say_names(script: &AST, said: &Said) {
+    let mut names = String::new(said.alloc);
+    said.made(push_names(script, &mut names));
+    said.put(names.as_str());
 }

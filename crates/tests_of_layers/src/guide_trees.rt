@@ -1,7 +1,6 @@
 //! The pieces of docs/GUIDE.md on trees.
 
 use crate::nodes::say_literal;
-use crate::said::{say, say_count, say_if, say_place, say_value};
 use indexmap::IndexMap;
 use rhai_ast::{
     ASTNode, BinaryExpr, CaseBlocksList, Cases, Expr, ExprQueries, FlowControl, Literals,
@@ -10,7 +9,7 @@ use rhai_ast::{
 };
 use rhai_base::{ASTFlags, AstError, Boxed, Dynamic, INT, OutOfMemory, Position, RangeCase, Seq};
 use std::alloc::Global;
-use tests_reader::Unread;
+use tests_reader::Said;
 
 /// `break 42`, as a parser would build it.
 fn leaving(alloc: Global) -> Result<Stmt, OutOfMemory> {
@@ -153,70 +152,70 @@ fn place_of_break(alloc: Global, statement: &Stmt) -> Result<Position, OutOfMemo
 }
 
 /// Answers what the pieces give.
-pub fn answer(alloc: Global, name: &str, answer: &mut String) -> Result<(), Unread> {
+pub fn answer(name: &str, said: &Said) {
     match name {
-        "constant" => of_constants(alloc, answer),
-        "endless" | "leaving" | "without arms" => of_script(alloc, &[made(alloc, name)?], answer),
-        _ => of_table(alloc, name, answer),
+        "constant" => of_constants(said),
+        "endless" => of_script(endless(said.alloc), said),
+        "leaving" => of_script(leaving(said.alloc), said),
+        "without arms" => of_script(without_arms(said.alloc), said),
+        _ => of_table(name, said),
     }
 }
 
-fn made(alloc: Global, name: &str) -> Result<Stmt, OutOfMemory> {
-    match name {
-        "endless" => endless(alloc),
-        "leaving" => leaving(alloc),
-        _ => without_arms(alloc),
-    }
+fn of_script(statement: Result<Stmt, OutOfMemory>, said: &Said) {
+    let script = said.list_of(said.made(statement));
+    say_script(script.as_slice(), said);
 }
 
-fn of_script(alloc: Global, script: &[Stmt], answer: &mut String) -> Result<(), Unread> {
+fn say_script(script: &[Stmt], said: &Said) {
     match script {
-        [statement @ Stmt::While(_, _)] => say_loop(alloc, statement, answer)?,
-        [Stmt::BreakLoop(Some(expr), _, _)] => say_literal_value(alloc, expr.get(), answer)?,
+        [statement @ Stmt::While(_, _)] => say_loop(statement, said),
+        [Stmt::BreakLoop(Some(expr), _, _)] => say_literal_value(expr.get(), said),
         _ => {}
     }
-    say_fault(alloc, script, answer)
+    said.word_if(is_whole(said.alloc, script), "whole");
+    said.count("fault", usize::from(first_fault(said.alloc, script)));
 }
 
-fn say_loop(alloc: Global, statement: &Stmt, answer: &mut String) -> Result<(), Unread> {
-    say_place(answer, "at", statement.position());
-    say_count(answer, "body", body_length(statement));
-    say_if(answer, is_closed_and_impure(statement), "closed and impure");
-    say_count(answer, "longest path", longest_path(alloc, statement)?);
-    say_place(answer, "stopped at", place_of_break(alloc, statement)?);
-    Ok(())
+fn say_loop(statement: &Stmt, said: &Said) {
+    said.place("at", statement.position());
+    said.count("body", body_length(statement));
+    said.word_if(is_closed_and_impure(statement), "closed and impure");
+    let longest = said.made(longest_path(said.alloc, statement)).unwrap_or(0);
+    said.count("longest path", longest);
+    let place = said.made(place_of_break(said.alloc, statement));
+    said.place("stopped at", place.unwrap_or(Position::NONE));
 }
 
-fn say_literal_value(alloc: Global, expr: &Expr, answer: &mut String) -> Result<(), Unread> {
-    if let Some(value) = &literal_value(alloc, expr)? {
-        say_value(answer, value);
+fn say_literal_value(expr: &Expr, said: &Said) {
+    if let Some(value) = said.found(literal_value(said.alloc, expr)) {
+        said.value(&value);
     }
-    Ok(())
 }
 
-fn say_fault(alloc: Global, script: &[Stmt], answer: &mut String) -> Result<(), Unread> {
-    say_if(answer, is_whole(alloc, script), "whole");
-    say_count(answer, "fault", usize::from(first_fault(alloc, script)));
-    Ok(())
+fn of_constants(said: &Said) {
+    if let Some(value) = said.made(pair(said.alloc)) {
+        let two = said.made(at_two_places(said.alloc, value));
+        if let Some(two) = said.boxed(two) {
+            say_two(two.get(), said);
+        }
+    }
 }
 
-fn of_constants(alloc: Global, answer: &mut String) -> Result<(), Unread> {
-    let value = pair(alloc)?;
-    say_two(alloc, &at_two_places(alloc, value)?, answer)
-}
-
-fn say_two(alloc: Global, two: &(Expr, Expr), answer: &mut String) -> Result<(), Unread> {
-    say_place(answer, "at", two.0.position());
-    say_place(answer, "its copy at", two.1.position());
-    say_literal(alloc, &two.1, answer)
+fn say_two(two: &(Expr, Expr), said: &Said) {
+    said.place("at", two.0.position());
+    said.place("its copy at", two.1.position());
+    say_literal(&two.1, said);
 }
 
 /// The table with the arm of this number as the default.
-fn of_table(alloc: Global, default: &str, answer: &mut String) -> Result<(), Unread> {
-    let default = default.parse::<usize>().or(Err(Unread::Wanted("an arm")))?;
-    match &table(alloc, default)? {
-        Ok(_) => say(answer, "made"),
-        Err(refusal) => say_count(answer, "refusal", usize::from(refusal.number())),
+fn of_table(default: &str, said: &Said) {
+    let Ok(default) = default.parse::<usize>() else {
+        return said.want("an arm");
+    };
+    match said.made(table(said.alloc, default)) {
+        Some(Ok(_)) => said.word("made"),
+        Some(Err(refusal)) => said.count("refusal", usize::from(refusal.number())),
+        None => {}
     }
-    Ok(())
 }

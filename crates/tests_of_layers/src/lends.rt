@@ -1,14 +1,14 @@
 //! Parts that are lent: each of these functions compiles only where what it gives is a part of what it was given, lent for as
 //! long, and not a copy. While a part is lent, a change of the whole does not compile.
 
-use crate::said::{say, say_if};
+use crate::scripts::key;
 use rhai_ast::{ASTNode, Expr, ScriptFuncDef, Stmt, Walk};
-use rhai_base::{Dynamic, ImmutableString, OutOfMemory, Scope};
+use rhai_base::{Dynamic, OutOfMemory, Scope};
 use rhai_script::{AST, FnKey, FnLib};
 use rhai_script_queries::{ScriptFnMetadata, ScriptQueries};
 use std::alloc::Global;
 use std::rc::Rc;
-use tests_reader::Unread;
+use tests_reader::Said;
 
 /// The first expression of a walk: a node outlives the path on which it stood.
 fn first_expression<'a>(
@@ -55,35 +55,23 @@ fn first_entry<'a>(scope: &'a Scope) -> Option<(&'a str, bool, &'a Dynamic)> {
 }
 
 /// Asks all of them of a script without functions, and an empty scope.
-pub fn lends(alloc: Global, script: &AST, answer: &mut String) -> Result<(), Unread> {
-    let function = found(script.shared_lib(), key(alloc)?);
-    say_if(answer, function.is_none(), "no function found");
-    say_if(answer, first_definition(script).is_none(), "no definition");
-    say_if(answer, first_metadata(script).is_none(), "no metadata");
-    say(answer, first_variable(script)?.unwrap_or("no variable"));
-    say_expressions(alloc, script.statements(), answer)?;
-    let is_empty = first_entry(&Scope::new(alloc)).is_none();
-    say_if(answer, is_empty, "no entry");
-    Ok(())
-}
-
-/// That of a function `f` with one parameter.
-fn key(alloc: Global) -> Result<FnKey, OutOfMemory> {
-    Ok(FnKey {
-        name: ImmutableString::new(alloc, "f")?,
-        params: 1,
-        this_type: None,
-    })
-}
-
-fn say_expressions(
-    alloc: Global,
-    statements: &[Stmt],
-    answer: &mut String,
-) -> Result<(), OutOfMemory> {
-    for statement in statements {
-        let expr = first_expression(alloc, statement)?;
-        say_if(answer, expr.is_some(), "has an expression");
+pub fn lends(script: &AST, said: &Said) {
+    if let Some(key) = key("f", said) {
+        let function = found(script.shared_lib(), key);
+        said.word_if(function.is_none(), "no function found");
     }
-    Ok(())
+    said.word_if(first_definition(script).is_none(), "no definition");
+    said.word_if(first_metadata(script).is_none(), "no metadata");
+    say_variable(script, said);
+    for statement in script.statements() {
+        let expr = said.found(first_expression(said.alloc, statement));
+        said.word_if(expr.is_some(), "has an expression");
+    }
+    let is_empty = first_entry(&Scope::new(said.alloc)).is_none();
+    said.word_if(is_empty, "no entry");
+}
+
+fn say_variable(script: &AST, said: &Said) {
+    let variable = said.found(first_variable(script));
+    said.word(variable.unwrap_or("no variable"));
 }

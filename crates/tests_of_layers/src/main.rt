@@ -8,8 +8,6 @@ mod joined;
 mod lends;
 mod nodes;
 mod parts;
-mod reading;
-mod said;
 mod scripts;
 mod switches;
 mod tokens;
@@ -17,62 +15,46 @@ mod trees;
 mod values;
 mod walks;
 
-use reading::Reader;
-use std::alloc::Global;
 use std::rt::Env;
 use std::{env, fs, io};
-use tests_reader::{Answers, Unread, ask_all};
+use tests_reader::{Answers, Said, ask_all};
 
-impl Answers for Reader {
-    fn answer(
-        &self,
-        _alloc: Global,
-        question: &str,
-        text: &str,
-        answer: &mut String,
-    ) -> Result<(), Unread> {
-        if answered(*self, question, text, answer)? {
-            return Ok(());
-        }
-        Err(Unread::Wanted("a question"))
-    }
+/// Answers questions about what is read, or about copies of it.
+#[derive(Clone, Copy)]
+struct Layers {
+    copies: bool,
 }
 
-/// Answers the question, if one of the modules has it.
-fn answered(
-    reader: Reader,
-    question: &str,
-    text: &str,
-    answer: &mut String,
-) -> Result<bool, Unread> {
-    Ok(
-        tokens::answer(question, text, answer)
-            || parts::answer(reader.alloc, question, text, answer)?
-            || values::answer(reader, question, text, answer)?
-            || nodes::answer(reader, question, text, answer)?
-            || trees::answer(reader, question, text, answer)?
-            || scripts::answer(reader, question, text, answer)?
-            || joined::answer(reader, question, text, answer)?
-            || guide::answer(reader.alloc, question, text, answer)?,
-    )
+impl Answers for Layers {
+    fn of_copies(&self) -> bool {
+        self.copies
+    }
+
+    fn answer(&self, question: &str, text: &str, said: &Said) -> bool {
+        tokens::answer(question, text, said)
+            || parts::answer(question, text, said)
+            || values::answer(question, text, said)
+            || nodes::answer(question, text, said)
+            || trees::answer(question, text, said)
+            || scripts::answer(question, text, said)
+            || joined::answer(question, text, said)
+            || guide::answer(question, text, said)
+    }
 }
 
 fn main(rt: HostRuntime) -> io::Result<()> {
     let alloc = rt.alloc();
-    let mut said = String::new(alloc);
-    let mut reader = Reader {
-        alloc,
-        copies: false,
-    };
+    let said = Said::new(alloc, false);
+    let mut layers = Layers { copies: false };
     let names: Vec<String> = env::args(&rt)?.skip(1).collect(alloc)?;
     for name in &names {
         if name.as_str() == "copies" {
-            reader.copies = true;
-            said.push_str("copies\n")?;
+            layers.copies = true;
+            said.put("copies\n");
         } else {
             let rows = fs::read_to_string(&rt, name.as_str())?;
-            ask_all(alloc, &reader, name.as_str(), rows.as_str(), &mut said)?;
+            ask_all(&layers, name.as_str(), rows.as_str(), &said);
         }
     }
-    rt.print(said.as_str())
+    rt.print(said.into_text().as_str())
 }

@@ -1,7 +1,5 @@
 //! What nodes answer, where they stand, their values and their parts.
 
-use crate::reading::Reader;
-use crate::said::{say, say_count, say_if, say_place, say_value};
 use crate::switches::{self, say_call, say_parts};
 use crate::trees::{self, say_fault};
 use crate::walks;
@@ -10,236 +8,222 @@ use rhai_ast::{
     BinaryExpr, Expr, ExprQueries, FnCallExpr, IntoExpr, Literals, SetPosition, Stmt, StmtQueries,
     Take,
 };
-use rhai_base::{Boxed, Position, Seq, StringMap, Token};
-use std::alloc::Global;
-use tests_reader::Unread;
+use rhai_base::{Position, Seq, StringMap, Token};
+use tests_reader::Said;
 
-pub fn answer(
-    reader: Reader,
-    question: &str,
-    text: &str,
-    answer: &mut String,
-) -> Result<bool, Unread> {
-    let answered = match question {
-        "expr" | "expr-place" | "take-expr" | "literal" | "call" | "spoiled" => {
-            of_read_expr(reader, question, text, answer)
-        }
-        "stmt"
-        | "no-names"
-        | "stmt-place"
-        | "take-stmt"
-        | "parts"
-        | "nodes"
-        | "walk"
-        | "walk-below"
-        | "table"
-        | "cases"
-        | "block-of" => of_read_stmt(reader, question, text, answer),
-        "defaults" => defaults(reader.alloc, answer),
-        _ => return Ok(false),
-    };
-    answered?;
-    Ok(true)
+const OF_EXPRS: [&str; 6] = [
+    "expr",
+    "expr-place",
+    "take-expr",
+    "literal",
+    "call",
+    "spoiled",
+];
+
+const OF_STMTS: [&str; 11] = [
+    "stmt",
+    "no-names",
+    "stmt-place",
+    "take-stmt",
+    "parts",
+    "nodes",
+    "walk",
+    "walk-below",
+    "table",
+    "cases",
+    "block-of",
+];
+
+pub fn answer(question: &str, text: &str, said: &Said) -> bool {
+    if OF_EXPRS.contains(&question) {
+        of_read_expr(question, text, said);
+    } else if OF_STMTS.contains(&question) {
+        of_read_stmt(question, text, said);
+    } else if question == "defaults" {
+        defaults(said);
+    } else {
+        return false;
+    }
+    true
 }
 
-fn of_read_expr(
-    reader: Reader,
-    question: &str,
-    text: &str,
-    answer: &mut String,
-) -> Result<(), Unread> {
-    let mut expr = reader.expr(text)?;
-    of_expr(reader.alloc, question, expr.get_mut(), answer)
+fn of_read_expr(question: &str, text: &str, said: &Said) {
+    if let Some(mut expr) = said.expr(text) {
+        of_expr(question, expr.get_mut(), said);
+    }
 }
 
-fn of_expr(
-    alloc: Global,
-    question: &str,
-    expr: &mut Expr,
-    answer: &mut String,
-) -> Result<(), Unread> {
+fn of_expr(question: &str, expr: &mut Expr, said: &Said) {
     match question {
         "expr" => {
-            say_expr(expr, answer);
-            say_followers(expr, ". ?. [ ?[", false, answer);
-            say_followers(expr, "( () ! :: = +", true, answer);
+            say_expr(expr, said);
+            say_followers(expr, ". ?. [ ?[", false, said);
+            say_followers(expr, "( () ! :: = +", true, said);
         }
-        "expr-place" => expr_place(expr, answer),
-        "take-expr" => take_expr(expr, answer),
-        "literal" => return say_literal(alloc, expr, answer),
-        "call" => return call(alloc, expr, answer),
-        _ => return spoiled(alloc, expr, answer),
+        "expr-place" => expr_place(expr, said),
+        "take-expr" => take_expr(expr, said),
+        "literal" => say_literal(expr, said),
+        "call" => call(expr, said),
+        _ => spoiled(expr, said),
     }
-    Ok(())
 }
 
-fn of_read_stmt(
-    reader: Reader,
-    question: &str,
-    text: &str,
-    answer: &mut String,
-) -> Result<(), Unread> {
-    let mut statement = reader.stmt(text)?;
-    of_stmt(reader.alloc, question, statement.get_mut(), answer)
+fn of_read_stmt(question: &str, text: &str, said: &Said) {
+    if let Some(mut statement) = said.stmt(text) {
+        of_stmt(question, statement.get_mut(), said);
+    }
 }
 
-fn of_stmt(
-    alloc: Global,
-    question: &str,
-    statement: &mut Stmt,
-    answer: &mut String,
-) -> Result<(), Unread> {
+fn of_stmt(question: &str, statement: &mut Stmt, said: &Said) {
     match question {
-        "stmt" => say_stmt(statement, answer),
-        "stmt-place" => {
-            say_place(answer, "at", statement.position());
-            let moved = statement.set_position(Position::new(1, 99));
-            say_place(answer, "then", moved.position());
-        }
-        "no-names" => no_names(alloc, statement, answer),
-        "take-stmt" => take_stmt(statement, answer),
-        "nodes" => walks::say_nodes(statement, answer),
-        "parts" => return say_parts(statement, answer),
-        "block-of" => return trees::block_of(alloc, statement.take(), answer),
-        "table" | "cases" => return switches::answer(alloc, question, statement.take(), answer),
-        _ => return walks::say_walk_of(alloc, question, statement, answer),
+        "stmt" => say_stmt(statement, said),
+        "stmt-place" => stmt_place(statement, said),
+        "no-names" => no_names(statement, said),
+        "take-stmt" => take_stmt(statement, said),
+        "nodes" => walks::say_nodes(statement, said),
+        "parts" => say_parts(statement, said),
+        "block-of" => trees::block_of(statement, said),
+        "table" | "cases" => switches::answer(question, statement, said),
+        _ => walks::say_walk_of(question, statement, said),
     }
-    Ok(())
 }
 
-pub fn say_expr(expr: &Expr, answer: &mut String) {
-    say_if(answer, expr.is_constant(), "constant");
-    say_if(answer, expr.is_pure(), "pure");
-    say_if(answer, expr.is_unit(), "unit");
-    say_count(answer, "flags", usize::from(expr.options().bits()));
+pub fn say_expr(expr: &Expr, said: &Said) {
+    said.word_if(expr.is_constant(), "constant");
+    said.word_if(expr.is_pure(), "pure");
+    said.word_if(expr.is_unit(), "unit");
+    said.count("flags", usize::from(expr.options().bits()));
 }
 
 /// Says which of these tokens may follow, or may not.
-fn say_followers(expr: &Expr, tokens: &str, may: bool, answer: &mut String) {
+fn say_followers(expr: &Expr, tokens: &str, may: bool, said: &Said) {
     for text in tokens.split(' ') {
         if let Some(token) = Token::lookup_symbol_from_syntax(text) {
-            say_if(answer, expr.is_valid_postfix(&token) == may, text);
+            said.word_if(expr.is_valid_postfix(&token) == may, text);
         }
     }
 }
 
-pub fn say_stmt(statement: &Stmt, answer: &mut String) {
-    say_if(answer, statement.is_noop(), "nothing");
-    say_if(answer, statement.is_pure(), "pure");
-    say_if(answer, statement.is_internally_pure(), "inside");
-    say_if(answer, statement.is_block_dependent(), "dependent");
-    say_if(answer, statement.is_control_flow_break(), "leaves");
-    say_if(answer, statement.returns_value(), "value");
-    say_if(answer, statement.is_self_terminated(), "closed");
-    say_count(answer, "flags", usize::from(statement.options().bits()));
+pub fn say_stmt(statement: &Stmt, said: &Said) {
+    said.word_if(statement.is_noop(), "nothing");
+    said.word_if(statement.is_pure(), "pure");
+    said.word_if(statement.is_internally_pure(), "inside");
+    said.word_if(statement.is_block_dependent(), "dependent");
+    said.word_if(statement.is_control_flow_break(), "leaves");
+    said.word_if(statement.returns_value(), "value");
+    said.word_if(statement.is_self_terminated(), "closed");
+    said.count("flags", usize::from(statement.options().bits()));
 }
 
-fn expr_place(expr: &mut Expr, answer: &mut String) {
-    say_place(answer, "at", expr.position());
-    say_place(answer, "from", expr.start_position());
+fn expr_place(expr: &mut Expr, said: &Said) {
+    said.place("at", expr.position());
+    said.place("from", expr.start_position());
     let moved = expr.set_position(Position::new(1, 99));
-    say_place(answer, "then", moved.position());
+    said.place("then", moved.position());
 }
 
-fn take_expr(expr: &mut Expr, answer: &mut String) {
-    let taken = expr.take();
-    say_if(answer, taken.is_constant(), "constant");
-    say_if(answer, taken.is_unit(), "unit");
-    say_if(answer, expr.is_unit(), "leaves unit");
-    say_place(answer, "at", expr.position());
+fn stmt_place(statement: &mut Stmt, said: &Said) {
+    said.place("at", statement.position());
+    let moved = statement.set_position(Position::new(1, 99));
+    said.place("then", moved.position());
+}
+
+fn take_expr(expr: &mut Expr, said: &Said) {
+    if let Some(taken) = said.boxed(Some(expr.take())) {
+        said.word_if(taken.get().is_constant(), "constant");
+        said.word_if(taken.get().is_unit(), "unit");
+    }
+    said.word_if(expr.is_unit(), "leaves unit");
+    said.place("at", expr.position());
 }
 
 /// Takes the names away that closures share.
-fn no_names(alloc: Global, statement: &mut Stmt, answer: &mut String) {
+fn no_names(statement: &mut Stmt, said: &Said) {
     if let Stmt::Share(names) = statement {
-        *names.get_mut() = Seq::new(alloc);
+        *names.get_mut() = Seq::new(said.alloc);
     }
-    say_place(answer, "at", statement.position());
+    said.place("at", statement.position());
 }
 
-fn take_stmt(statement: &mut Stmt, answer: &mut String) {
-    let taken = statement.take();
-    say_if(answer, taken.is_block_dependent(), "dependent");
-    say_if(answer, statement.is_noop(), "leaves noop");
-    say_place(answer, "at", statement.position());
+fn take_stmt(statement: &mut Stmt, said: &Said) {
+    if let Some(taken) = said.boxed(Some(statement.take())) {
+        said.word_if(taken.get().is_block_dependent(), "dependent");
+    }
+    said.word_if(statement.is_noop(), "leaves noop");
+    said.place("at", statement.position());
 }
 
 /// Nodes that are left out.
-fn defaults(alloc: Global, answer: &mut String) -> Result<(), Unread> {
-    say_default_expr(alloc, answer)?;
-    say_default_stmt(alloc, answer)?;
-    let sides = Boxed::new(alloc, BinaryExpr::default())?;
-    say_if(answer, are_units(sides.get()), "both units");
-    Ok(())
-}
-
-fn say_default_expr(alloc: Global, answer: &mut String) -> Result<(), Unread> {
-    let expr = Boxed::new(alloc, Expr::default())?;
-    say_if(answer, expr.get().is_unit(), "unit");
-    Ok(())
-}
-
-fn say_default_stmt(alloc: Global, answer: &mut String) -> Result<(), Unread> {
-    let statement = Boxed::new(alloc, Stmt::default())?;
-    say_if(answer, statement.get().is_noop(), "noop");
-    Ok(())
+fn defaults(said: &Said) {
+    if let Some(expr) = said.boxed(Some(Expr::default())) {
+        said.word_if(expr.get().is_unit(), "unit");
+    }
+    if let Some(statement) = said.boxed(Some(Stmt::default())) {
+        said.word_if(statement.get().is_noop(), "noop");
+    }
+    if let Some(sides) = said.boxed(Some(BinaryExpr::default())) {
+        said.word_if(are_units(sides.get()), "both units");
+    }
 }
 
 fn are_units(sides: &BinaryExpr) -> bool {
     sides.lhs.is_unit() && sides.rhs.is_unit()
 }
 
-pub fn say_literal(alloc: Global, expr: &Expr, answer: &mut String) -> Result<(), Unread> {
+pub fn say_literal(expr: &Expr, said: &Said) {
     let is_constant = expr.is_constant();
-    say_if(answer, is_constant, "constant");
-    let has_value = has_value(alloc, expr)?;
-    say_if(answer, has_value != is_constant, "otherwise by its value");
-    match &expr.get_literal_value(alloc)? {
-        Some(value) => say_value(answer, value),
-        None => say(answer, "no literal"),
+    said.word_if(is_constant, "constant");
+    said.word_if(
+        has_value(expr, said) != is_constant,
+        "otherwise by its value",
+    );
+    match said.found(expr.get_literal_value(said.alloc)) {
+        Some(value) => said.value(&value),
+        None => said.word("no literal"),
     }
-    Ok(())
 }
 
-fn has_value(alloc: Global, expr: &Expr) -> Result<bool, Unread> {
-    Ok(expr.constant_value(alloc)?.is_some())
+fn has_value(expr: &Expr, said: &Said) -> bool {
+    said.found(expr.constant_value(said.alloc)).is_some()
 }
 
 /// A call, and the expression of the same parts that is wanted elsewhere.
-fn call(alloc: Global, expr: &mut Expr, answer: &mut String) -> Result<(), Unread> {
-    match expr.take() {
-        Expr::FnCall(call, _) => say_moved_call(alloc, call.into_inner(), answer),
-        _ => Err(Unread::Wanted("a call")),
+fn call(expr: &Expr, said: &Said) {
+    let Expr::FnCall(call, _) = expr else {
+        return said.want("a call");
+    };
+    say_call(call.get(), said);
+    if let Some(copy) = said.made(call.get().clone()) {
+        say_moved_call(copy, said);
     }
 }
 
-fn say_moved_call(alloc: Global, call: FnCallExpr, answer: &mut String) -> Result<(), Unread> {
-    say_call(&call, answer);
-    let moved = Boxed::new(alloc, call.into_fn_call_expr(alloc, Position::new(2, 5))?)?;
-    if let Expr::FnCall(call, pos) = moved.get() {
-        say_place(answer, "at", *pos);
-        say_call(call.get(), answer);
+fn say_moved_call(call: FnCallExpr, said: &Said) {
+    let moved = said.made(call.into_fn_call_expr(said.alloc, Position::new(2, 5)));
+    if let Some(moved) = said.boxed(moved)
+        && let Expr::FnCall(call, pos) = moved.get()
+    {
+        said.place("at", *pos);
+        say_call(call.get(), said);
     }
-    Ok(())
 }
 
 /// The fault of an expression in which something is wrong that no text shows.
-fn spoiled(alloc: Global, expr: &mut Expr, answer: &mut String) -> Result<(), Unread> {
-    spoil(alloc, expr)?;
-    let statement = Stmt::Expr(Boxed::new(alloc, expr.take())?);
-    say_fault(alloc, &[statement], &[], answer);
-    Ok(())
+fn spoiled(expr: &mut Expr, said: &Said) {
+    spoil(expr, said);
+    let statement = said.boxed(Some(expr.take())).map(Stmt::Expr);
+    say_fault(said.list_of(statement).as_slice(), &[], said);
 }
 
 /// Takes the keys of a map's template away, all operands but one, or gives a method the token of an operator.
-fn spoil(alloc: Global, expr: &mut Expr) -> Result<(), Unread> {
+fn spoil(expr: &mut Expr, said: &Said) {
     match expr {
-        Expr::Map(map, _) => map.get_mut().1 = StringMap::new(alloc),
+        Expr::Map(map, _) => map.get_mut().1 = StringMap::new(said.alloc),
         Expr::FnCall(call, pos) => {
-            call.get_mut().args = Seq::from_array(alloc, [Expr::Unit(*pos)])?;
+            let unit = said.list_of(Some(Expr::Unit(*pos)));
+            call.get_mut().args = Seq::from_vec(unit);
         }
         Expr::MethodCall(call, _) => call.get_mut().op_token = Some(Token::Plus),
         _ => {}
     }
-    Ok(())
 }

@@ -1,19 +1,18 @@
 //! Tokens, what is assigned by them, flags of nodes, positions and spans.
 
-use crate::said::{put, say, say_count, say_if, say_place};
 use bitflags::Flags;
 use rhai_base::{ASTFlags, AstError, OpAssignment, Position, Span, Token};
-use std::fmt::Write;
+use tests_reader::{Said, split};
 
-pub fn answer(question: &str, text: &str, answer: &mut String) -> bool {
-    let (one, other) = text.split_once(' ').unwrap_or((text, ""));
+pub fn answer(question: &str, text: &str, said: &Said) -> bool {
+    let (one, other) = split(text, " ");
     match question {
-        "token" => say_token(text, answer),
-        "assignment" => say_assignments(text, answer),
-        "assignment-of-tokens" => of_tokens(answer),
-        "flag" => say_flag(text, answer),
-        "two-flags" => two_flags(flag(one), flag(other), answer),
-        "places" => places(place(one), place(other), answer),
+        "token" => say_token(text, said),
+        "assignment" => say_assignments(text, said),
+        "assignment-of-tokens" => of_tokens(said),
+        "flag" => say_flag(text, said),
+        "two-flags" => two_flags(flag(one), flag(other), said),
+        "places" => places(place(one), place(other), said),
         _ => return false,
     }
     true
@@ -28,66 +27,62 @@ pub fn operator(text: &str) -> Option<Token> {
     }
 }
 
-fn put_token(answer: &mut String, word: &str, token: Option<Token>) {
+fn put_token(said: &Said, word: &str, token: Option<Token>) {
     if let Some(token) = token {
-        say(answer, word);
-        say(answer, token.literal_syntax());
-        if write!(answer, " {token:?}").is_err() {
-            answer.clear();
-        }
+        said.word(word);
+        said.word(token.literal_syntax());
+        said.word("");
+        said.debug(&token);
     }
 }
 
-fn say_token(text: &str, answer: &mut String) {
+fn say_token(text: &str, said: &Said) {
     let Some(token) = operator(text) else {
-        return say(answer, "none");
+        return said.word("none");
     };
     let form = token.convert_to_op_assignment();
-    say_if(answer, token.has_op_assignment() != form.is_some(), "not");
-    put_token(answer, "text", Some(token));
-    put_token(answer, "with the form", form);
-    put_token(answer, "the form of", token.get_base_op_from_assignment());
+    said.word_if(token.has_op_assignment() != form.is_some(), "not");
+    put_token(said, "text", Some(token));
+    put_token(said, "with the form", form);
+    put_token(said, "the form of", token.get_base_op_from_assignment());
 }
 
 /// Says what is assigned by a text that is an `op=`, and by one that is the operator.
-fn say_assignments(text: &str, answer: &mut String) {
+fn say_assignments(text: &str, said: &Said) {
     let here = Position::new(1, 7);
-    say_assignment(OpAssignment::new_op_assignment(text, here), answer);
-    put(answer, ";");
-    say_assignment(
-        OpAssignment::new_op_assignment_from_base(text, here),
-        answer,
-    );
+    say_assignment(OpAssignment::new_op_assignment(text, here), said);
+    said.put(";");
+    say_assignment(OpAssignment::new_op_assignment_from_base(text, here), said);
 }
 
-fn say_assignment(made: Result<OpAssignment, AstError>, answer: &mut String) {
+fn say_assignment(made: Result<OpAssignment, AstError>, said: &Said) {
     match made {
-        Ok(made) => say_info(&made, answer),
-        Err(refusal) => say_count(answer, "refusal", usize::from(refusal.number())),
+        Ok(made) => say_info(&made, said),
+        Err(refusal) => said.count("refusal", usize::from(refusal.number())),
     }
 }
 
-fn say_info(made: &OpAssignment, answer: &mut String) {
+fn say_info(made: &OpAssignment, said: &Said) {
     let info = made.get_op_assignment_info();
-    say_if(answer, made.is_op_assignment() != info.is_some(), "not");
+    said.word_if(made.is_op_assignment() != info.is_some(), "not");
     if let Some((_, form, _, operator)) = info {
-        say(answer, form);
-        say(answer, operator);
+        said.word(form);
+        said.word(operator);
     }
-    say_place(answer, "at", made.position());
+    said.place("at", made.position());
 }
 
-fn of_tokens(answer: &mut String) {
+fn of_tokens(said: &Said) {
     let here = Position::new(1, 7);
     say_info(
         &OpAssignment::new_op_assignment_from_token(Token::PlusAssign, here),
-        answer,
+        said,
     );
     say_info(
         &OpAssignment::new_op_assignment_from_base_token(&Token::Plus, here),
-        answer,
+        said,
     );
-    say_info(&OpAssignment::new_assignment(here), answer);
+    say_info(&OpAssignment::new_assignment(here), said);
 }
 
 /// The flag of a name; none where it has another name.
@@ -95,47 +90,46 @@ pub fn flag(name: &str) -> ASTFlags {
     ASTFlags::from_name(name).unwrap_or(ASTFlags::NONE)
 }
 
-fn say_flag(name: &str, answer: &mut String) {
+fn say_flag(name: &str, said: &Said) {
     let flag = flag(name);
-    say_count(answer, "bits", usize::from(flag.bits()));
-    say_if(answer, flag.is_empty(), "none");
-    say_if(
-        answer,
+    said.count("bits", usize::from(flag.bits()));
+    said.word_if(flag.is_empty(), "none");
+    said.word_if(
         ASTFlags::from_bits(flag.bits()) != Some(flag),
         "by its bits another",
     );
-    say_if(answer, ASTFlags::NONE < flag, "above none");
-    say_if(answer, flag < ASTFlags::BREAK, "below BREAK");
-    say_if(answer, flag == ASTFlags::BREAK, "BREAK");
-    say_if(answer, ASTFlags::from_bits(16).is_some(), "and 16 too");
+    said.word_if(ASTFlags::NONE < flag, "above none");
+    said.word_if(flag < ASTFlags::BREAK, "below BREAK");
+    said.word_if(flag == ASTFlags::BREAK, "BREAK");
+    said.word_if(ASTFlags::from_bits(16).is_some(), "and 16 too");
 }
 
-fn say_bits(answer: &mut String, word: &str, flags: ASTFlags) {
-    say_count(answer, word, usize::from(flags.bits()));
+fn say_bits(said: &Said, word: &str, flags: ASTFlags) {
+    said.count(word, usize::from(flags.bits()));
 }
 
 /// What becomes of two flags by the second, by each operator and by each that assigns.
-fn two_flags(first: ASTFlags, second: ASTFlags, answer: &mut String) {
+fn two_flags(first: ASTFlags, second: ASTFlags, said: &Said) {
     let both = first | second;
-    say_if(answer, both.contains(second), "has the second");
-    say_if(answer, both.contains(ASTFlags::CONSTANT), "has CONSTANT");
-    say_bits(answer, "-", both - second);
-    say_bits(answer, "&", both & second);
-    say_bits(answer, "^", both ^ second);
-    say_bits(answer, "!", !both);
+    said.word_if(both.contains(second), "has the second");
+    said.word_if(both.contains(ASTFlags::CONSTANT), "has CONSTANT");
+    say_bits(said, "-", both - second);
+    say_bits(said, "&", both & second);
+    say_bits(said, "^", both ^ second);
+    say_bits(said, "!", !both);
     let mut flags = ASTFlags::NONE;
     flags |= both;
     flags -= first;
-    say_bits(answer, "-=", flags);
+    say_bits(said, "-=", flags);
     flags ^= second | ASTFlags::CONSTANT;
-    say_bits(answer, "^=", flags);
+    say_bits(said, "^=", flags);
     flags &= second;
-    say_bits(answer, "&=", flags);
+    say_bits(said, "&=", flags);
 }
 
 /// A position of a text, as `3:14`; none of other texts.
 fn place(text: &str) -> Position {
-    let (line, column) = text.split_once(':').unwrap_or(("", ""));
+    let (line, column) = split(text, ":");
     match (line.parse::<u16>(), column.parse::<u16>()) {
         (Ok(line), Ok(column)) if line > 0 => Position::new(line, column),
         _ => Position::NONE,
@@ -143,11 +137,11 @@ fn place(text: &str) -> Position {
 }
 
 /// A span of two positions, and the first or else the second.
-fn places(start: Position, end: Position, answer: &mut String) {
+fn places(start: Position, end: Position, said: &Said) {
     let span = Span::new(start, end);
-    say_place(answer, "from", span.start());
-    say_place(answer, "to", span.end());
-    say_if(answer, span.is_none(), "no span");
-    say_if(answer, span == Span::NONE, "none");
-    say_place(answer, "or else", start.or_else(end));
+    said.place("from", span.start());
+    said.place("to", span.end());
+    said.word_if(span.is_none(), "no span");
+    said.word_if(span == Span::NONE, "none");
+    said.place("or else", start.or_else(end));
 }

@@ -1,278 +1,266 @@
 //! Values, their constants, operators and ranges, and scopes.
 
 use crate::nodes::say_literal;
-use crate::reading::Reader;
-use crate::said::{put, say, say_count, say_if, say_inner, say_place, say_value};
 use crate::tokens::operator;
 use rhai_ast::{Expr, ExprQueries, Literals};
 use rhai_base::{
-    Dynamic, Fault, FnPtr, ImmutableString, OutOfMemory, Position, RangeCase, Scope,
-    builtin_binary_op, builtin_unary_op,
+    Dynamic, Fault, FnPtr, Position, RangeCase, Scope, Token, builtin_binary_op, builtin_unary_op,
 };
-use std::alloc::Global;
-use tests_reader::Unread;
+use tests_reader::{Said, split};
 
-pub fn answer(
-    reader: Reader,
-    question: &str,
-    text: &str,
-    answer: &mut String,
-) -> Result<bool, Unread> {
-    let answered = match question {
-        "value" | "taken" | "constant" | "range" | "integers" => {
-            of_read(reader, question, text, answer)
-        }
-        "equal" | "holds" => of_read_array(reader, question, text, answer),
-        "operate" => operate(reader, text, answer),
-        "scope" => scope(reader.alloc, answer),
-        "ten" => ten(answer),
-        _ => return Ok(false),
-    };
-    answered?;
-    Ok(true)
+/// Questions about a value, and about several in an array.
+const OF_VALUES: [&str; 7] = [
+    "value", "taken", "constant", "range", "integers", "equal", "holds",
+];
+
+pub fn answer(question: &str, text: &str, said: &Said) -> bool {
+    if OF_VALUES.contains(&question) {
+        of_read(question, text, said);
+        return true;
+    }
+    match question {
+        "operate" => operate(text, said),
+        "scope" => scope(said),
+        "ten" => said.inner(&Dynamic::Int(RangeCase::from(0..=9).len())),
+        _ => return false,
+    }
+    true
 }
 
-fn of_read(reader: Reader, question: &str, text: &str, answer: &mut String) -> Result<(), Unread> {
-    of_value(reader.alloc, question, &reader.value(text)?, answer)
-}
-
-fn of_read_array(
-    reader: Reader,
-    question: &str,
-    text: &str,
-    answer: &mut String,
-) -> Result<(), Unread> {
-    of_array(reader.alloc, question, &reader.value(text)?, answer)
+fn of_read(question: &str, text: &str, said: &Said) {
+    if let Some(value) = said.value_of(text) {
+        of_value(question, &value, said);
+    }
 }
 
 /// What an operator makes of the values in an array, as `+ [1, 2]`.
-fn operate(reader: Reader, text: &str, answer: &mut String) -> Result<(), Unread> {
-    let (symbol, operands) = text.split_once(' ').unwrap_or((text, ""));
-    of_read_array(reader, symbol, operands, answer)
+fn operate(text: &str, said: &Said) {
+    let (symbol, operands) = split(text, " ");
+    of_read(symbol, operands, said);
 }
 
-/// How many integers a range of ten has.
-fn ten(answer: &mut String) -> Result<(), Unread> {
-    say_inner(answer, &Dynamic::Int(RangeCase::from(0..=9).len()));
-    Ok(())
-}
-
-fn of_value(
-    alloc: Global,
-    question: &str,
-    value: &Dynamic,
-    answer: &mut String,
-) -> Result<(), Unread> {
+fn of_value(question: &str, value: &Dynamic, said: &Said) {
     match question {
-        "value" => describe(alloc, value, answer),
-        "taken" => taken(value, answer),
-        "constant" => constant(alloc, value, answer),
-        "range" => measure(&range(value)?, answer),
-        _ => {
-            integers(range(value)?, answer);
-            Ok(())
-        }
+        "value" => describe(value, said),
+        "taken" => taken(value, said),
+        "constant" => constant(value, said),
+        "range" => measure(&range(value, said), said),
+        "integers" => integers(range(value, said), said),
+        _ => of_array(question, value, said),
     }
 }
 
-fn describe(alloc: Global, value: &Dynamic, answer: &mut String) -> Result<(), Unread> {
-    say_text(alloc, value, answer)?;
-    say_inner(answer, value);
-    say_if(answer, value.is_hashable(), "a key");
-    match value {
-        Dynamic::FnPtr(pointer) => say_pointer(pointer, answer),
-        _ => Ok(()),
+fn describe(value: &Dynamic, said: &Said) {
+    said.word(value.type_name());
+    said.put(": \"");
+    if let Some(text) = said.made(value.text_of(said.alloc)) {
+        said.put(text.as_str());
+    }
+    said.put("\" in an array");
+    said.inner(value);
+    said.word_if(value.is_hashable(), "a key");
+    if let Dynamic::FnPtr(pointer) = value {
+        say_pointer(pointer, said);
     }
 }
 
-fn say_text(alloc: Global, value: &Dynamic, answer: &mut String) -> Result<(), Unread> {
-    say(answer, value.type_name());
-    put(answer, ": \"");
-    put(answer, value.text_of(alloc)?.as_str());
-    put(answer, "\" in an array");
-    Ok(())
-}
-
-fn say_pointer(pointer: &FnPtr, answer: &mut String) -> Result<(), Unread> {
-    say(answer, "to");
-    say(answer, pointer.fn_name());
-    say_if(answer, pointer.is_curried(), "with");
+fn say_pointer(pointer: &FnPtr, said: &Said) {
+    said.word("to");
+    said.word(pointer.fn_name());
+    said.word_if(pointer.is_curried(), "with");
     for value in pointer.curry() {
-        say_value(answer, value);
+        said.value(value);
     }
-    let copy = pointer.clone()?;
-    say_if(answer, copy == *pointer, "as its copy");
-    say(answer, copy.into_name().as_str());
-    Ok(())
+    said.word_if(said.is_copied(pointer), "as its copy");
+    if let Some(copy) = said.made(pointer.clone()) {
+        said.word(copy.into_name().as_str());
+    }
 }
 
 /// Says what a copy of a value is taken apart into.
-fn taken(value: &Dynamic, answer: &mut String) -> Result<(), Unread> {
-    say_if(answer, value.is_unit(), "unit");
-    match value.clone()?.into_immutable_string() {
-        Ok(text) => say(answer, text.as_str()),
-        Err(value) => say_array_taken(value, answer),
+fn taken(value: &Dynamic, said: &Said) {
+    said.word_if(value.is_unit(), "unit");
+    if let Some(copy) = said.made(value.clone()) {
+        say_taken(copy, said);
     }
-    Ok(())
 }
 
-fn say_array_taken(value: Dynamic, answer: &mut String) {
+fn say_taken(value: Dynamic, said: &Said) {
+    match value.into_immutable_string() {
+        Ok(text) => said.word(text.as_str()),
+        Err(value) => say_array_taken(value, said),
+    }
+}
+
+fn say_array_taken(value: Dynamic, said: &Said) {
     match value.into_array() {
-        Ok(items) => say_count(answer, "items", items.len()),
-        Err(value) => say_pointer_taken(value, answer),
+        Ok(items) => said.count("items", items.len()),
+        Err(value) => say_pointer_taken(value, said),
     }
 }
 
-fn say_pointer_taken(value: Dynamic, answer: &mut String) {
+fn say_pointer_taken(value: Dynamic, said: &Said) {
     match value.into_fn_ptr() {
-        Ok(pointer) => say(answer, pointer.fn_name()),
+        Ok(pointer) => said.word(pointer.fn_name()),
         Err(value) => {
-            say(answer, "given back");
-            say_inner(answer, &value);
+            said.word("given back");
+            said.inner(&value);
         }
     }
 }
 
 /// Says what the constant for a value is.
-fn constant(alloc: Global, value: &Dynamic, answer: &mut String) -> Result<(), Unread> {
-    let expr = Expr::from_dynamic(alloc, value.clone()?, Position::new(2, 5))?;
-    say_kind(&expr, answer);
-    say_literal(alloc, &expr, answer)
+fn constant(value: &Dynamic, said: &Said) {
+    let Some(copy) = said.made(value.clone()) else {
+        return;
+    };
+    let made = said.made(Expr::from_dynamic(said.alloc, copy, Position::new(2, 5)));
+    if let Some(expr) = said.boxed(made) {
+        say_constant(expr.get(), said);
+    }
 }
 
-fn say_kind(expr: &Expr, answer: &mut String) {
-    say_place(answer, "at", expr.position());
-    say_if(
-        answer,
-        matches!(expr, Expr::DynamicConstant(_, _)),
-        "of any value",
-    );
-    if let Expr::FnCall(call, _) = expr
-        && let [Expr::StringConstant(name, pos)] = call.get().args.as_slice()
-    {
-        say(answer, "a call with");
-        say(answer, name.as_str());
-        say_place(answer, "at", *pos);
+fn say_constant(expr: &Expr, said: &Said) {
+    said.place("at", expr.position());
+    match expr {
+        Expr::DynamicConstant(_, _) => said.word("of any value"),
+        Expr::FnCall(call, _) => say_operands(call.get().args.as_slice(), said),
+        _ => {}
+    }
+    say_literal(expr, said);
+}
+
+fn say_operands(operands: &[Expr], said: &Said) {
+    if let [Expr::StringConstant(name, pos)] = operands {
+        said.word("a call with");
+        said.word(name.as_str());
+        said.place("at", *pos);
     }
 }
 
 /// What is asked of values in an array: whether two are equal, which of them stand in the first, which is a range, and what
 /// an operator makes of one or two of them.
-fn of_array(
-    alloc: Global,
-    question: &str,
-    values: &Dynamic,
-    answer: &mut String,
-) -> Result<(), Unread> {
-    let Dynamic::Array(values) = values else {
-        return Err(Unread::Wanted("an array"));
-    };
-    match (question, values.as_slice()) {
-        ("equal", [one, other]) => say_equal(one, other, answer),
-        ("holds", [first, others @ ..]) => holds(&range(first)?, others, answer),
-        (symbol, [x, y]) => return say_binary(alloc, symbol, x, y, answer),
-        (symbol, [x]) => return say_unary(symbol, x, answer),
-        _ => {}
+fn of_array(question: &str, values: &Dynamic, said: &Said) {
+    match (question, values) {
+        ("equal", Dynamic::Array(values)) => say_equal(values.as_slice(), said),
+        ("holds", Dynamic::Array(values)) => holds(values.as_slice(), said),
+        (symbol, Dynamic::Array(values)) => say_operated(symbol, values.as_slice(), said),
+        _ => said.want("an array"),
     }
-    Ok(())
 }
 
-fn say_equal(one: &Dynamic, other: &Dynamic, answer: &mut String) {
-    let is_equal = *one == *other;
-    say(answer, if is_equal { "equal" } else { "different" });
-    say_if(answer, one.is_equal(other) != is_equal, "or not");
-}
-
-fn say_binary(
-    alloc: Global,
-    symbol: &str,
-    x: &Dynamic,
-    y: &Dynamic,
-    answer: &mut String,
-) -> Result<(), Unread> {
-    let op = operator(symbol).ok_or(Unread::Wanted("an operator"))?;
-    match &builtin_binary_op(alloc, &op, x, y)? {
-        Some(Ok(value)) => say_inner(answer, value),
-        Some(Err(Fault::Arithmetic)) => say(answer, "arithmetic fault"),
-        None => say(answer, "no entry"),
+fn say_equal(values: &[Dynamic], said: &Said) {
+    if let [one, other] = values {
+        let is_equal = *one == *other;
+        said.word(if is_equal { "equal" } else { "different" });
+        said.word_if(one.is_equal(other) != is_equal, "or not");
     }
-    Ok(())
 }
 
-fn say_unary(symbol: &str, x: &Dynamic, answer: &mut String) -> Result<(), Unread> {
-    let op = operator(symbol).ok_or(Unread::Wanted("an operator"))?;
-    match &builtin_unary_op(&op, x) {
-        Some(value) => say_inner(answer, value),
-        None => say(answer, "no entry"),
+fn say_operated(symbol: &str, operands: &[Dynamic], said: &Said) {
+    match (operator(symbol), operands) {
+        (Some(op), [x, y]) => say_binary(&op, x, y, said),
+        (Some(op), [x]) => say_unary(&op, x, said),
+        _ => said.want("an operator"),
     }
-    Ok(())
 }
 
-fn range(value: &Dynamic) -> Result<RangeCase, Unread> {
+fn say_binary(op: &Token, x: &Dynamic, y: &Dynamic, said: &Said) {
+    match said
+        .made(builtin_binary_op(said.alloc, op, x, y))
+        .unwrap_or(None)
+    {
+        Some(Ok(value)) => said.inner(&value),
+        Some(Err(Fault::Arithmetic)) => said.word("arithmetic fault"),
+        None => said.word("no entry"),
+    }
+}
+
+fn say_unary(op: &Token, x: &Dynamic, said: &Said) {
+    match builtin_unary_op(op, x) {
+        Some(value) => said.inner(&value),
+        None => said.word("no entry"),
+    }
+}
+
+/// The range that a value is; an empty one where it is none.
+fn range(value: &Dynamic, said: &Said) -> RangeCase {
     match value {
-        Dynamic::Range(start, end) => Ok(RangeCase::from(*start..*end)),
-        Dynamic::RangeInclusive(start, end) => Ok(RangeCase::from(*start..=*end)),
-        _ => Err(Unread::Wanted("a range")),
+        Dynamic::Range(start, end) => RangeCase::from(*start..*end),
+        Dynamic::RangeInclusive(start, end) => RangeCase::from(*start..=*end),
+        _ => {
+            said.want("a range");
+            RangeCase::from(0..0)
+        }
     }
 }
 
 /// How many integers a range has, and a copy that is given an arm.
-fn measure(range: &RangeCase, answer: &mut String) -> Result<(), Unread> {
-    say_if(answer, range.is_empty(), "empty");
+fn measure(range: &RangeCase, said: &Said) {
+    said.word_if(range.is_empty(), "empty");
     match range.checked_len() {
-        Some(length) => say_inner(answer, &Dynamic::Int(length)),
-        None => say(answer, "too long"),
+        Some(length) => said.inner(&Dynamic::Int(length)),
+        None => said.word("too long"),
     }
-    let mut copy = range.clone()?;
-    copy.set_index(4);
-    say_if(
-        answer,
-        copy.checked_len() != range.checked_len(),
-        "and its copy not",
-    );
-    say_count(answer, "arm", copy.index());
-    say_if(answer, range.index() != usize::MAX, "of both");
-    Ok(())
+    if let Some(mut copy) = said.made(range.clone()) {
+        copy.set_index(4);
+        said.word_if(
+            copy.checked_len() != range.checked_len(),
+            "and its copy not",
+        );
+        said.count("arm", copy.index());
+    }
+    said.word_if(range.index() != usize::MAX, "of both");
 }
 
-/// Says which of the values stand in a range; of an integer also by its number.
-fn holds(range: &RangeCase, values: &[Dynamic], answer: &mut String) {
-    say_if(answer, range.is_inclusive(), "inclusive");
-    for value in values {
-        if range.contains(value) {
-            say_inner(answer, value);
+/// Says which of the values behind a range stand in it; of an integer also by its number.
+fn holds(values: &[Dynamic], said: &Said) {
+    if let [first, others @ ..] = values {
+        let range = range(first, said);
+        said.word_if(range.is_inclusive(), "inclusive");
+        for value in others {
+            say_held(&range, value, said);
         }
-        if let Dynamic::Int(integer) = value {
-            say_if(answer, range.contains_int(*integer), "(integer)");
-        }
+    }
+}
+
+fn say_held(range: &RangeCase, value: &Dynamic, said: &Said) {
+    if range.contains(value) {
+        said.inner(value);
+    }
+    if let Dynamic::Int(integer) = value {
+        said.word_if(range.contains_int(*integer), "(integer)");
     }
 }
 
 /// The first five integers; past the end a line for each.
-fn integers(range: RangeCase, answer: &mut String) {
+fn integers(range: RangeCase, said: &Said) {
     let mut integers = range.into_iter();
     for _ in 0..5 {
         match integers.next() {
-            Some(integer) => say_inner(answer, &Dynamic::Int(integer)),
-            None => say(answer, "-"),
+            Some(integer) => said.inner(&Dynamic::Int(integer)),
+            None => said.word("-"),
         }
     }
 }
 
 /// A scope of a variable and a constant.
-fn scope(alloc: Global, answer: &mut String) -> Result<(), Unread> {
-    let mut scope = Scope::new(alloc);
-    declare(alloc, &mut scope)?;
-    say_count(answer, "names", scope.len());
-    for (name, is_constant, value) in scope.iter() {
-        say_if(answer, is_constant, "const");
-        say(answer, name);
-        say_value(answer, value);
+fn scope(said: &Said) {
+    let mut scope = Scope::new(said.alloc);
+    if let Some(name) = said.shared("x") {
+        said.made(scope.push(name, Dynamic::Int(1)));
     }
-    Ok(())
+    if let Some(name) = said.shared("k") {
+        said.made(scope.push_constant(name, Dynamic::Unit));
+    }
+    say_scope(&scope, said);
 }
 
-fn declare(alloc: Global, scope: &mut Scope) -> Result<(), OutOfMemory> {
-    scope.push(ImmutableString::new(alloc, "x")?, Dynamic::Int(1))?;
-    scope.push_constant(ImmutableString::new(alloc, "k")?, Dynamic::Unit)
+fn say_scope(scope: &Scope, said: &Said) {
+    said.count("names", scope.len());
+    for (name, is_constant, value) in scope.iter() {
+        said.word_if(is_constant, "const");
+        said.word(name);
+        said.value(value);
+    }
 }

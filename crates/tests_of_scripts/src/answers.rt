@@ -1,25 +1,20 @@
 //! Who answers which question.
 
 use crate::{guide_runs, readme, record, reports, requests, scripts};
-use std::alloc::Global;
-use tests_reader::{Answers, Unread};
+use tests_reader::{Answers, Said};
 
 /// What answers all of them.
 pub struct Scripts;
 
 impl Answers for Scripts {
-    fn answer(
-        &self,
-        alloc: Global,
-        question: &str,
-        text: &str,
-        answer: &mut String,
-    ) -> Result<(), Unread> {
-        let answered = answered(alloc, question, text, answer);
-        if answer.as_str().ends_with('\n') {
-            answer.pop();
-        }
-        answered
+    fn of_copies(&self) -> bool {
+        false
+    }
+
+    fn answer(&self, question: &str, text: &str, said: &Said) -> bool {
+        answer(question, text, said);
+        said.end_line();
+        true
     }
 }
 
@@ -39,19 +34,30 @@ const OF_RECORD: [&str; 6] = [
     "operator",
 ];
 
-fn answered(alloc: Global, question: &str, text: &str, answer: &mut String) -> Result<(), Unread> {
+fn answer(question: &str, text: &str, said: &Said) {
     if OF_WORDS.contains(&question) {
-        return requests::answer(alloc, question, text, answer);
+        requests::answer(question, text, said);
+    } else if OF_REPORTS.contains(&question) {
+        reports::answer(question, text, said);
+    } else if OF_RECORD.contains(&question) {
+        record::answer(question, text, said);
+    } else {
+        match question {
+            "readme" => say_readme(said),
+            "guide" => say_guide(said),
+            _ => scripts::answer(question, text, said),
+        }
     }
-    if OF_REPORTS.contains(&question) {
-        return reports::answer(alloc, question, text, answer);
-    }
-    if OF_RECORD.contains(&question) {
-        return record::answer(alloc, question, text, answer);
-    }
-    match question {
-        "readme" => Ok(readme::a_sum_is_optimised_and_run(alloc, answer)?),
-        "guide" => Ok(guide_runs::a_script_is_run(alloc, answer)?),
-        _ => scripts::answer(alloc, question, text, answer),
-    }
+}
+
+fn say_readme(said: &Said) {
+    let mut text = said.taken();
+    let added = readme::a_sum_is_optimised_and_run(said.alloc, &mut text);
+    said.put_back(text, added);
+}
+
+fn say_guide(said: &Said) {
+    let mut text = said.taken();
+    let added = guide_runs::a_script_is_run(said.alloc, &mut text);
+    said.put_back(text, added);
 }

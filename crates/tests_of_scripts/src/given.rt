@@ -9,7 +9,7 @@ ghost use Rattle.tests_of_scripts.specs.HostRows as spec;
 use rhai_base::{Dynamic, ImmutableString, OutOfMemory, Scope, Seq};
 use rhai_run::{EngineInfo, Host, HostAnswer, HostCall};
 use std::alloc::Global;
-use tests_reader::{AnswerRow, Unread, read_answer, read_binding};
+use tests_reader::{AnswerRow, Said, read_answer, read_binding, split};
 
 /// Answers by the first row that fits, and unit where none does.
 #[derive(Drop)]
@@ -113,40 +113,53 @@ pub struct Given {
 /// Reads what a run is given, a line each: `turns 3`, of the scope `variable x = 1` and `constant x = 1`, of the record
 /// `record x = 1`, `override + i64 i64`, `type i64 as int` and `fast operators`, of the host `module m::x = 1` and
 /// rows as `answer 0 f => 1 then 2`. Three turns, where no line says how many.
-pub fn read_given(alloc: Global, text: &str) -> Result<Given, Unread> {
+pub fn read_given(text: &str, said: &Said) -> Given {
     let mut given = Given {
-        info: EngineInfo::new(alloc),
+        info: EngineInfo::new(said.alloc),
         host: RowsHost {
-            answers: Seq::new(alloc),
-            modules: Seq::new(alloc),
+            answers: Seq::new(said.alloc),
+            modules: Seq::new(said.alloc),
         },
-        scope: Scope::new(alloc),
+        scope: Scope::new(said.alloc),
         turns: 3,
     };
     for line in text.lines() {
-        read_line(alloc, line, &mut given)?;
+        read_line(line, &mut given, said);
     }
-    Ok(given)
+    given
 }
 
-fn read_line(alloc: Global, line: &str, given: &mut Given) -> Result<(), Unread> {
-    let (word, rest) = line.split_once(' ').ok_or(Unread::Wanted("a word"))?;
+fn read_line(line: &str, given: &mut Given, said: &Said) {
+    let (word, rest) = split(line, " ");
     match word {
-        "turns" => given.turns = rest.parse::<u64>().or(Err(Unread::Wanted("turns")))?,
-        "variable" | "constant" | "record" | "module" => bind(alloc, word, rest, given)?,
-        "answer" => given.host.answers.push(read_answer(alloc, rest)?)?,
-        "type" => rename(alloc, rest, &mut given.info)?,
-        "override" => override_operator(alloc, rest, &mut given.info)?,
+        "turns" => read_turns(rest, given, said),
+        "answer" => read_row(rest, given, said),
+        "type" => rename(rest, &mut given.info, said),
+        "override" => override_operator(rest, &mut given.info, said),
         "fast" => given.info.set_fast_operators(true),
-        _ => return Err(Unread::Wanted("what a run is given")),
+        "variable" | "constant" | "record" | "module" => bind(word, rest, given, said),
+        _ => said.want("what a run is given"),
     }
-    Ok(())
+}
+
+fn read_turns(text: &str, given: &mut Given, said: &Said) {
+    match text.parse::<u64>() {
+        Ok(turns) => given.turns = turns,
+        Err(_) => said.want("turns"),
+    }
+}
+
+fn read_row(text: &str, given: &mut Given, said: &Said) {
+    if let Some(row) = read_answer(text, said) {
+        said.made(given.host.answers.push(row));
+    }
 }
 
 /// A name and its value.
-fn bind(alloc: Global, word: &str, text: &str, given: &mut Given) -> Result<(), Unread> {
-    let (name, value) = read_binding(alloc, text)?;
-    Ok(put(word, name, value, given)?)
+fn bind(word: &str, text: &str, given: &mut Given, said: &Said) {
+    if let Some((name, value)) = read_binding(text, said) {
+        said.made(put(word, name, value, given));
+    }
 }
 
 fn put(
@@ -164,27 +177,19 @@ fn put(
 }
 
 /// A type and the name that scripts see for it.
-fn rename(alloc: Global, text: &str, info: &mut EngineInfo) -> Result<(), Unread> {
-    let (from, to) = text.split_once(" as ").ok_or(Unread::Wanted(" as "))?;
-    let from = name(alloc, from)?;
-    Ok(info.set_type_name(from, name(alloc, to)?)?)
-}
-
-fn name(alloc: Global, text: &str) -> Result<ImmutableString, OutOfMemory> {
-    Ok(ImmutableString::new(alloc, text)?)
+fn rename(text: &str, info: &mut EngineInfo, said: &Said) {
+    let (from, to) = split(text, " as ");
+    if let Some(from) = said.shared(from)
+        && let Some(to) = said.shared(to)
+    {
+        said.made(info.set_type_name(from, to));
+    }
 }
 
 /// An operator with the types of its operands.
-fn override_operator(alloc: Global, text: &str, info: &mut EngineInfo) -> Result<(), OutOfMemory> {
-    let (operator, types) = text.split_once(' ').unwrap_or((text, ""));
-    let operator = name(alloc, operator)?;
-    info.override_operator(operator, names(alloc, types)?)
-}
-
-fn names(alloc: Global, text: &str) -> Result<Vec<ImmutableString>, OutOfMemory> {
-    let mut names = Vec::new(alloc);
-    for word in text.split_whitespace() {
-        names.push(name(alloc, word)?)?;
+fn override_operator(text: &str, info: &mut EngineInfo, said: &Said) {
+    let (operator, types) = split(text, " ");
+    if let Some(operator) = said.shared(operator) {
+        said.made(info.override_operator(operator, said.words(types)));
     }
-    Ok(names)
 }

@@ -1,96 +1,95 @@
 //! Deep scripts and long ones, which are made here.
 
 use crate::given::Given;
-use crate::scripts::{level_named, push_run};
+use crate::scripts::{level_named, printed, push_run};
 use rhai_ast::{Expr, FlowControl, Stmt, StmtBlock};
-use rhai_base::{Boxed, OutOfMemory, Position, Span};
-use rhai_notation::push_script;
+use rhai_base::{Boxed, Position, Span};
 use rhai_optimizer::{OptimizationLevel, optimize_into_ast};
 use rhai_run::EngineInfo;
 use rhai_script::AST;
-use std::alloc::{AllocError, Global};
-use tests_reader::{Unread, read_stmt};
+use tests_reader::{Said, split};
 
 /// A number before a text.
-fn counted(text: &str) -> Result<(usize, &str), Unread> {
-    let (count, text) = text.trim_end().split_once(' ').unwrap_or((text, ""));
-    let count = count.parse::<usize>().or(Err(Unread::Wanted("a number")))?;
-    Ok((count, text))
+fn counted<'a>(text: &'a str, said: &Said) -> (usize, &'a str) {
+    let (count, text) = split(text.trim_end(), " ");
+    match count.parse::<usize>() {
+        Ok(count) => (count, text),
+        Err(_) => {
+            said.want("a number");
+            (0, text)
+        }
+    }
 }
 
-/// Appends the optimised script in print.
-fn push_optimized(
-    alloc: Global,
-    statements: Vec<Stmt>,
-    text: &mut String,
-) -> Result<(), OutOfMemory> {
-    let script = optimized(alloc, statements, OptimizationLevel::Simple)?;
-    push_script(&script, text)
+fn optimized(statements: Vec<Stmt>, level: OptimizationLevel, said: &Said) -> Option<Boxed<AST>> {
+    let info = EngineInfo::new(said.alloc);
+    let functions = Vec::new(said.alloc);
+    let script = optimize_into_ast(said.alloc, &info, None, statements, functions, level);
+    said.boxed(said.made(script))
 }
 
-fn optimized(
-    alloc: Global,
-    statements: Vec<Stmt>,
-    level: OptimizationLevel,
-) -> Result<AST, OutOfMemory> {
-    let info = EngineInfo::new(alloc);
-    let functions = Vec::new(alloc);
-    optimize_into_ast(alloc, &info, None, statements, functions, level)
+/// The optimised script in print.
+fn printed_optimized(statements: Vec<Stmt>, said: &Said) -> String {
+    match optimized(statements, OptimizationLevel::Simple, said) {
+        Some(script) => printed(script.get(), said),
+        None => String::new(said.alloc),
+    }
 }
 
 // ---- depth
 
 /// What becomes of a statement within so many `if true { .. }`.
-pub fn deep(alloc: Global, text: &str, answer: &mut String) -> Result<(), Unread> {
-    let (depth, text) = counted(text)?;
-    Ok(push_optimized(alloc, nested(alloc, text, depth)?, answer)?)
+pub fn deep(text: &str, said: &Said) {
+    let (depth, text) = counted(text, said);
+    said.put(printed_optimized(nested(text, depth, said), said).as_str());
 }
 
-fn nested(alloc: Global, text: &str, depth: usize) -> Result<Vec<Stmt>, Unread> {
-    let mut inner = read_stmt(alloc, text)?;
+fn nested(text: &str, depth: usize, said: &Said) -> Vec<Stmt> {
+    let mut inner = said.list_of(said.original_stmt(text));
     for _ in 0..depth {
-        inner = certain(alloc, inner)?;
+        inner = said.list_of(certain(inner, said));
     }
-    Ok(vec![in alloc; inner]?)
+    inner
 }
 
-/// `if true { .. }` around a statement.
-fn certain(alloc: Global, inner: Stmt) -> Result<Stmt, OutOfMemory> {
+/// `if true { .. }` around statements.
+fn certain(inner: Vec<Stmt>, said: &Said) -> Option<Stmt> {
     let flow = FlowControl {
         expr: Expr::BoolConstant(true, Position::NONE),
-        body: StmtBlock::new_with_span(vec![in alloc; inner]?, Span::NONE),
-        branch: StmtBlock::none(alloc),
+        body: StmtBlock::new_with_span(inner, Span::NONE),
+        branch: StmtBlock::none(said.alloc),
     };
-    Ok(Stmt::If(Boxed::new(alloc, flow)?, Position::NONE))
+    Some(Stmt::If(said.boxed(Some(flow))?, Position::NONE))
 }
 
 // ---- length
 
 /// What becomes of so many statements of one text.
-pub fn long(alloc: Global, text: &str, answer: &mut String) -> Result<(), Unread> {
-    let (count, text) = counted(text)?;
-    let mut printed = String::new(alloc);
-    push_optimized(alloc, numbered(alloc, text, count)?, &mut printed)?;
-    Ok(push_alike(printed.as_str(), answer)?)
+pub fn long(text: &str, said: &Said) {
+    let (count, text) = counted(text, said);
+    say_alike(
+        printed_optimized(numbered(text, count, said), said).as_str(),
+        said,
+    );
 }
 
 /// So many statements of one text, in which the number of each, from 0 on, stands for `_`.
-fn numbered(alloc: Global, text: &str, count: usize) -> Result<Vec<Stmt>, Unread> {
-    let mut statements = Vec::new(alloc);
+fn numbered(text: &str, count: usize, said: &Said) -> Vec<Stmt> {
+    let mut statements = Vec::new(said.alloc);
     for number in 0..count {
-        statements.push(read_numbered(alloc, text, number)?)?;
+        said.push(&mut statements, read_numbered(text, number, said));
     }
-    Ok(statements)
+    statements
 }
 
-fn read_numbered(alloc: Global, text: &str, number: usize) -> Result<Stmt, Unread> {
-    let number = format!(in alloc; "{number}")?;
-    let text = text.replace(alloc, "_", number.as_str())?;
-    read_stmt(alloc, text.as_str())
+fn read_numbered(text: &str, number: usize, said: &Said) -> Option<Stmt> {
+    let number = said.made(format!(in said.alloc; "{number}"))?;
+    let text = said.made(text.replace(said.alloc, "_", number.as_str()))?;
+    said.original_stmt(text.as_str())
 }
 
 /// The first line, how many are like it, and how many there are.
-fn push_alike(text: &str, answer: &mut String) -> Result<(), AllocError> {
+fn say_alike(text: &str, said: &Said) {
     let first = text.lines().next().unwrap_or("");
     let mut alike: usize = 0;
     let mut lines: usize = 0;
@@ -98,33 +97,35 @@ fn push_alike(text: &str, answer: &mut String) -> Result<(), AllocError> {
         alike = alike.saturating_add((line == first) as usize);
         lines = lines.saturating_add(1);
     }
-    write!(answer, "{first} in {alike} lines of {lines}")
+    said.put(first);
+    said.count("in", alike);
+    said.count("lines of", lines);
 }
 
 // ---- calls
 
 /// How many calls `!(0)`, `!(1)`, .. a run reports of a script that makes so many of them, at a level.
-pub fn asked(alloc: Global, given: &Given, text: &str, answer: &mut String) -> Result<(), Unread> {
-    let (level, text) = text.split_once(' ').unwrap_or((text, ""));
-    let level = level_named(level).ok_or(Unread::Wanted("a level"))?;
-    let (count, text) = counted(text)?;
-    let script = optimized(alloc, numbered(alloc, text, count)?, level)?;
-    push_calls(alloc, given, &script, answer)
+pub fn asked(given: &Given, text: &str, said: &Said) {
+    let (level, text) = split(text, " ");
+    let Some(level) = level_named(level) else {
+        return said.want("a level");
+    };
+    let (count, text) = counted(text, said);
+    if let Some(script) = optimized(numbered(text, count, said), level, said) {
+        say_calls(given, script.get(), said);
+    }
 }
 
-fn push_calls(
-    alloc: Global,
-    given: &Given,
-    script: &AST,
-    answer: &mut String,
-) -> Result<(), Unread> {
-    let mut report = String::new(alloc);
-    push_run(alloc, given, script, &mut report)?;
+fn say_calls(given: &Given, script: &AST, said: &Said) {
+    let mut report = String::new(said.alloc);
+    said.made(push_run(given, script, &mut report, said));
     match in_order(report.as_str()) {
-        Some(calls) => write!(answer, "{calls} calls in order")?,
-        None => answer.push_str(report.as_str())?,
+        Some(calls) => {
+            said.display(&calls);
+            said.put(" calls in order");
+        }
+        None => said.put(report.as_str()),
     }
-    Ok(())
 }
 
 /// The number of calls that a report tells of, if they are `!(0)`, `!(1)`, ..

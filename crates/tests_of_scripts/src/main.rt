@@ -14,7 +14,7 @@ mod scripts;
 
 use answers::Scripts;
 use std::{env, fs, io};
-use tests_reader::ask_all;
+use tests_reader::{Said, ask_all};
 
 fn main(rt: HostRuntime) -> io::Result<()> {
     for name in env::args(&rt)?.skip(1) {
@@ -30,7 +30,7 @@ fn ask(rt: &HostRuntime, name: &str) -> io::Result<()> {
 }
 
 fn say(rt: &HostRuntime, name: &str, rows: &str) -> io::Result<()> {
-    let mut said = String::new(rt.alloc());
-    ask_all(rt.alloc(), &Scripts, name, rows, &mut said)?;
-    rt.print(said.as_str())
+    let said = Said::new(rt.alloc(), false);
+    ask_all(&Scripts, name, rows, &said);
+    rt.print(said.into_text().as_str())
 }

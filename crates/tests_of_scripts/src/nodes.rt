@@ -1,105 +1,92 @@
 //! The calls below the optimiser's entry, and where nodes stand.
 
-use crate::record::push_value;
+use crate::record::say_value;
 use rhai_ast::{ASTNode, Expr, FnCallExpr, NodeQueries, Stmt, StmtBlock, walk_statements};
-use rhai_base::{OutOfMemory, Position};
+use rhai_base::Position;
 use rhai_folding::{constant_bool, folded};
 use rhai_notation::push_lines;
 use rhai_optimizer::{OptimizationLevel, OptimizerState, optimize_top_level};
 use rhai_rules::{reduce_expr, reduce_stmt};
 use rhai_run::EngineInfo;
-use std::alloc::{AllocError, Global};
-use tests_reader::{Unread, read_expr, read_lines, read_script};
+use tests_reader::{Said, Script};
 
-pub fn answer(
-    alloc: Global,
-    question: &str,
-    info: &EngineInfo,
-    text: &str,
-    answer: &mut String,
-) -> Result<(), Unread> {
+pub fn answer(question: &str, info: &EngineInfo, text: &str, said: &Said) {
     match question {
-        "top_level" | "reduced" => of_statements(alloc, question, info, text, answer),
-        "folded" | "constant_bool" => of_expr(alloc, question, info, text.trim_end(), answer),
-        "state" => Ok(state(text, answer)?),
-        "default" => Ok(write!(answer, "{:?}", OptimizationLevel::default())?),
-        _ => Err(Unread::Wanted("a question")),
+        "top_level" | "reduced" => of_statements(question, info, text, said),
+        "folded" | "constant_bool" => of_expr(question, info, text.trim_end(), said),
+        "state" => state(text, said),
+        "default" => said.debug(&OptimizationLevel::default()),
+        _ => said.want("a question"),
     }
 }
 
 // ---- the calls
 
-fn of_statements(
-    alloc: Global,
-    question: &str,
-    info: &EngineInfo,
-    text: &str,
-    answer: &mut String,
-) -> Result<(), Unread> {
-    let statements = StmtBlock::new(read_lines(alloc, text)?, Position::NONE, Position::NONE);
-    let changed = changed(alloc, question, info, statements, answer)?;
-    Ok(push_lines(changed.statements(), answer)?)
+fn of_statements(question: &str, info: &EngineInfo, text: &str, said: &Said) {
+    let Some(
+        Script {
+            statements,
+            functions: _functions,
+        },
+    ) = said.script(text)
+    else {
+        return;
+    };
+    let block = StmtBlock::new(statements, Position::NONE, Position::NONE);
+    if let Some(changed) = changed(question, info, block, said) {
+        say_lines(changed.statements(), said);
+    }
+}
+
+fn say_lines(statements: &[Stmt], said: &Said) {
+    let mut text = said.taken();
+    let added = push_lines(statements, &mut text);
+    said.put_back(text, added);
 }
 
 /// Statements that are optimised, or the first of them by one step.
 fn changed(
-    alloc: Global,
     question: &str,
     info: &EngineInfo,
     mut statements: StmtBlock,
-    answer: &mut String,
-) -> Result<StmtBlock, OutOfMemory> {
+    said: &Said,
+) -> Option<StmtBlock> {
     if question == "top_level" {
-        return optimize_top_level(alloc, info, statements);
+        return said.made(optimize_top_level(said.alloc, info, statements));
     }
-    let first = statements.statements_mut().get_mut(0);
-    reduce(alloc, info, first, answer)?;
-    Ok(statements)
+    reduce(info, statements.statements_mut().get_mut(0), said);
+    Some(statements)
 }
 
 /// One step on a statement, or on the expression that it is; says whether something was done.
-fn reduce(
-    alloc: Global,
-    info: &EngineInfo,
-    statement: Option<&mut Stmt>,
-    answer: &mut String,
-) -> Result<(), OutOfMemory> {
+fn reduce(info: &EngineInfo, statement: Option<&mut Stmt>, said: &Said) {
     let mut state = OptimizerState::new();
-    match statement {
-        Some(Stmt::Expr(expr)) => reduce_expr(alloc, info, &mut state, expr.get_mut())?,
-        Some(statement) => reduce_stmt(alloc, info, &mut state, statement, true)?,
-        None => {}
-    }
-    Ok(push_dirty(&state, answer)?)
+    let reduced = match statement {
+        Some(Stmt::Expr(expr)) => reduce_expr(said.alloc, info, &mut state, expr.get_mut()),
+        Some(statement) => reduce_stmt(said.alloc, info, &mut state, statement, true),
+        None => Ok(()),
+    };
+    said.made(reduced);
+    say_dirty(&state, said);
 }
 
-fn of_expr(
-    alloc: Global,
-    question: &str,
-    info: &EngineInfo,
-    text: &str,
-    answer: &mut String,
-) -> Result<(), Unread> {
-    let expr = read_expr(alloc, text)?;
-    match &expr {
-        Expr::FnCall(call, _) if question == "folded" => fold(alloc, info, call.get(), answer),
-        expr => Ok(write!(answer, "{:?}", constant_bool(expr))?),
+fn of_expr(question: &str, info: &EngineInfo, text: &str, said: &Said) {
+    if let Some(expr) = said.expr(text) {
+        match expr.get() {
+            Expr::FnCall(call, _) if question == "folded" => fold(info, call.get(), said),
+            expr => said.debug(&constant_bool(expr)),
+        }
     }
 }
 
 /// The value of a call over constants.
-fn fold(
-    alloc: Global,
-    info: &EngineInfo,
-    call: &FnCallExpr,
-    answer: &mut String,
-) -> Result<(), Unread> {
-    let value = folded(alloc, info, call)?;
-    Ok(push_value(value.as_ref(), answer)?)
+fn fold(info: &EngineInfo, call: &FnCallExpr, said: &Said) {
+    let value = said.found(folded(said.alloc, info, call));
+    say_value(value.as_ref(), said);
 }
 
 /// A state that takes these steps; after each, whether it is dirty.
-fn state(text: &str, answer: &mut String) -> Result<(), AllocError> {
+fn state(text: &str, said: &Said) {
     let mut state = OptimizerState::new();
     for step in text.split_whitespace() {
         match step {
@@ -107,32 +94,33 @@ fn state(text: &str, answer: &mut String) -> Result<(), AllocError> {
             "clear" => state.clear_dirty(),
             _ => {}
         }
-        push_dirty(&state, answer)?;
+        say_dirty(&state, said);
     }
-    Ok(())
 }
 
-fn push_dirty(state: &OptimizerState, answer: &mut String) -> Result<(), AllocError> {
-    answer.push_str(if state.is_dirty() {
+fn say_dirty(state: &OptimizerState, said: &Said) {
+    said.put(if state.is_dirty() {
         "dirty\n"
     } else {
         "clean\n"
-    })
+    });
 }
 
 // ---- places
 
 /// Where the nodes of a text stand.
-pub fn places_read(alloc: Global, text: &str) -> Result<u64, Unread> {
-    let script = read_script(alloc, text)?;
-    Ok(places(alloc, script.statements.as_slice())?)
+pub fn places_read(text: &str, said: &Said) -> u64 {
+    match said.script(text) {
+        Some(script) => places(script.statements.as_slice(), said),
+        None => 0,
+    }
 }
 
 /// A number made of where the nodes stand, in the order of a walk, where their blocks end, and which of them have a token.
-pub fn places(alloc: Global, statements: &[Stmt]) -> Result<u64, OutOfMemory> {
-    let mut path = Vec::new(alloc);
+pub fn places(statements: &[Stmt], said: &Said) -> u64 {
+    let mut path = Vec::new(said.alloc);
     let mut sum: u64 = 0;
-    walk_statements(
+    said.made(walk_statements(
         statements,
         &mut path,
         &mut |nodes: &[ASTNode]| {
@@ -141,8 +129,8 @@ pub fn places(alloc: Global, statements: &[Stmt]) -> Result<u64, OutOfMemory> {
             }
             true
         },
-    )?;
-    Ok(sum)
+    ));
+    sum
 }
 
 /// The sum, and where a node stands, where its block ends and whether it has a token.

@@ -1,123 +1,74 @@
 //! What an engine's record answers. The first line is what is asked, the others are lines of the record.
 
-use crate::given::{Given, read_given};
-use rhai_base::{Dynamic, Fault, OutOfMemory, Token};
+use crate::given::read_given;
+use rhai_base::{Dynamic, Token};
 use rhai_run::EngineInfo;
-use std::alloc::{AllocError, Global};
-use tests_reader::{Unread, read_value};
+use tests_reader::{Said, split};
 
-pub fn answer(
-    alloc: Global,
-    question: &str,
-    text: &str,
-    answer: &mut String,
-) -> Result<(), Unread> {
-    let (asked, lines) = text.split_once('\n').unwrap_or((text, ""));
-    let given = read_given(alloc, lines)?;
-    of_record(alloc, question, &given, asked, answer)
+pub fn answer(question: &str, text: &str, said: &Said) {
+    let (asked, lines) = split(text, "\n");
+    of_record(question, &read_given(lines, said).info, asked, said);
 }
 
-fn of_record(
-    alloc: Global,
-    question: &str,
-    given: &Given,
-    asked: &str,
-    answer: &mut String,
-) -> Result<(), Unread> {
-    let info = &given.info;
+fn of_record(question: &str, info: &EngineInfo, asked: &str, said: &Said) {
     match question {
-        "overridden" => overridden(alloc, info, asked, answer)?,
-        "overridden_anywhere" => push_bool(info.has_any_override(asked), answer)?,
-        "constant" => push_value(info.constant_named(asked), answer)?,
-        "type_name" => answer.push_str(info.map_type_name(asked))?,
-        "operator" => operator(alloc, info, asked, answer)?,
-        _ => push_bool(info.fast_operators(), answer)?,
+        "overridden" => overridden(info, asked, said),
+        "overridden_anywhere" => say_bool(info.has_any_override(asked), said),
+        "constant" => say_value(info.constant_named(asked), said),
+        "type_name" => said.put(info.map_type_name(asked)),
+        "operator" => operator(info, asked, said),
+        _ => say_bool(info.fast_operators(), said),
     }
-    Ok(())
 }
 
 /// Whether the host answers an operator at operands of these types.
-fn overridden(
-    alloc: Global,
-    info: &EngineInfo,
-    asked: &str,
-    answer: &mut String,
-) -> Result<(), AllocError> {
-    let (operator, types) = asked.split_once(' ').unwrap_or((asked, ""));
-    let types: Vec<&str> = types.split_whitespace().collect(alloc)?;
-    push_bool(info.is_overridden(operator, types.as_slice()), answer)
+fn overridden(info: &EngineInfo, asked: &str, said: &Said) {
+    let (operator, names) = split(asked, " ");
+    let mut types = Vec::new(said.alloc);
+    for name in names.split_whitespace() {
+        said.push(&mut types, Some(name));
+    }
+    say_bool(info.is_overridden(operator, types.as_slice()), said);
 }
 
-fn push_bool(truth: bool, answer: &mut String) -> Result<(), AllocError> {
-    answer.push_str(if truth { "true" } else { "false" })
+fn say_bool(truth: bool, said: &Said) {
+    said.put(if truth { "true" } else { "false" });
 }
 
-pub fn push_value(value: Option<&Dynamic>, answer: &mut String) -> Result<(), OutOfMemory> {
+pub fn say_value(value: Option<&Dynamic>, said: &Said) {
     match value {
-        Some(value) => value.push_inner(answer),
-        None => Ok(answer.push_str("none")?),
+        Some(value) => said.put_inner(value),
+        None => said.put("none"),
     }
 }
 
 /// What an operator answers at operands that stand in an array.
-fn operator(
-    alloc: Global,
-    info: &EngineInfo,
-    asked: &str,
-    answer: &mut String,
-) -> Result<(), Unread> {
-    let (symbol, operands) = asked.split_once(' ').unwrap_or((asked, ""));
-    let op = Token::lookup_symbol_from_syntax(symbol).ok_or(Unread::Wanted("an operator"))?;
-    let operands = read_value(alloc, operands)?;
-    push_computed(alloc, info, op, &operands, answer)
-}
-
-fn push_computed(
-    alloc: Global,
-    info: &EngineInfo,
-    op: Token,
-    operands: &Dynamic,
-    answer: &mut String,
-) -> Result<(), Unread> {
-    let Dynamic::Array(operands) = operands else {
-        return Err(Unread::Wanted("operands"));
-    };
-    match operands.as_slice() {
-        [x, y] => Ok(binary(alloc, info, op, x, y, answer)?),
-        [x] => Ok(unary(info, op, x, answer)?),
-        _ => Err(Unread::Wanted("one operand or two")),
+fn operator(info: &EngineInfo, asked: &str, said: &Said) {
+    let (symbol, operands) = split(asked, " ");
+    if let Some(operands) = said.value_of(operands) {
+        say_operated(info, symbol, &operands, said);
     }
 }
 
-fn unary(
-    info: &EngineInfo,
-    op: Token,
-    x: &Dynamic,
-    answer: &mut String,
-) -> Result<(), OutOfMemory> {
-    let value = info.builtin_unary(op, x);
-    push_value(value.as_ref(), answer)
+fn say_operated(info: &EngineInfo, symbol: &str, operands: &Dynamic, said: &Said) {
+    match (Token::lookup_symbol_from_syntax(symbol), operands) {
+        (Some(op), Dynamic::Array(operands)) => say_computed(info, op, operands.as_slice(), said),
+        _ => said.want("an operator and its operands"),
+    }
 }
 
-fn binary(
-    alloc: Global,
-    info: &EngineInfo,
-    op: Token,
-    x: &Dynamic,
-    y: &Dynamic,
-    answer: &mut String,
-) -> Result<(), OutOfMemory> {
-    let value = info.builtin_binary(alloc, op, x, y)?;
-    push_value_or_fault(&value, answer)
+fn say_computed(info: &EngineInfo, op: Token, operands: &[Dynamic], said: &Said) {
+    match operands {
+        [x, y] => binary(info, op, x, y, said),
+        [x] => say_value(info.builtin_unary(op, x).as_ref(), said),
+        _ => said.want("one operand or two"),
+    }
 }
 
-fn push_value_or_fault(
-    value: &Option<Result<Dynamic, Fault>>,
-    answer: &mut String,
-) -> Result<(), OutOfMemory> {
-    match value {
-        Some(Ok(value)) => push_value(Some(value), answer),
-        Some(Err(fault)) => Ok(write!(answer, "{fault:?}")?),
-        None => push_value(None, answer),
+fn binary(info: &EngineInfo, op: Token, x: &Dynamic, y: &Dynamic, said: &Said) {
+    match said.found(info.builtin_binary(said.alloc, op, x, y)) {
+        Some(Ok(value)) => said.put_inner(&value),
+        Some(Err(fault)) => said.debug(&fault),
+        None => said.put("none"),
     }
 }

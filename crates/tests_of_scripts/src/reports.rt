@@ -1,107 +1,97 @@
 //! Reports of runs that are stuck, in print, and what the program's host answers.
 
-use crate::record::push_value;
-use rhai_base::{ImmutableString, OutOfMemory, Seq};
+use crate::record::say_value;
+use rhai_base::{Dynamic, Seq};
 use rhai_host::{ProgramHost, push_report};
 use rhai_run::{Host, HostAnswer, HostCall, RunEnd, RunReport, Stuck};
-use std::alloc::Global;
-use tests_reader::{Unread, read_value};
+use tests_reader::{Said, split};
 
-pub fn answer(
-    alloc: Global,
-    question: &str,
-    text: &str,
-    answer: &mut String,
-) -> Result<(), Unread> {
+pub fn answer(question: &str, text: &str, said: &Said) {
     match question {
-        "stuck" => Ok(push_stuck(alloc, stuck(text)?, answer)?),
-        "module" => Ok(module(alloc, text, answer)?),
-        _ => host(alloc, text, answer),
+        "stuck" => stuck(text, said),
+        "module" => module(text, said),
+        _ => host(text, said),
     }
 }
 
-fn stuck(name: &str) -> Result<Stuck, Unread> {
-    match name {
-        "Unbound" => Ok(Stuck::Unbound),
-        "WrongKind" => Ok(Stuck::WrongKind),
-        "WriteToConstant" => Ok(Stuck::WriteToConstant),
-        "NoPlace" => Ok(Stuck::NoPlace),
-        "CounterTooLarge" => Ok(Stuck::CounterTooLarge),
-        "UnboundThis" => Ok(Stuck::UnboundThis),
-        _ => Err(Unread::Wanted("a reason")),
+/// Reasons by their names.
+static REASONS: [(&str, Stuck); 6] = [
+    ("Unbound", Stuck::Unbound),
+    ("WrongKind", Stuck::WrongKind),
+    ("WriteToConstant", Stuck::WriteToConstant),
+    ("NoPlace", Stuck::NoPlace),
+    ("CounterTooLarge", Stuck::CounterTooLarge),
+    ("UnboundThis", Stuck::UnboundThis),
+];
+
+fn stuck(name: &str, said: &Said) {
+    for (known, reason) in &REASONS {
+        if *known == name {
+            say_stuck(*reason, said);
+        }
     }
 }
 
 /// A report of nothing but its end, with one turn left.
-fn push_stuck(alloc: Global, stuck: Stuck, answer: &mut String) -> Result<(), OutOfMemory> {
+fn say_stuck(reason: Stuck, said: &Said) {
     let report = RunReport {
-        run_end: RunEnd::Stuck(stuck),
-        variables: Seq::new(alloc),
-        calls: Seq::new(alloc),
+        run_end: RunEnd::Stuck(reason),
+        variables: Seq::new(said.alloc),
+        calls: Seq::new(said.alloc),
         turns_left: 1,
     };
-    push_report(&report, answer)
+    let mut text = said.taken();
+    let added = push_report(&report, &mut text);
+    said.put_back(text, added);
 }
 
 // ---- the program's host
 
 /// Its value of a module.
-fn module(alloc: Global, name: &str, answer: &mut String) -> Result<(), OutOfMemory> {
-    let value = ProgramHost.module_value(alloc, name)?;
-    push_value(value.as_ref(), answer)
+fn module(name: &str, said: &Said) {
+    let value = said.found(ProgramHost.module_value(said.alloc, name));
+    say_value(value.as_ref(), said);
 }
 
 /// Its answer to a call: a name, or `''` for none, and its arguments in an array; behind ` on ` its receiver.
-fn host(alloc: Global, text: &str, answer: &mut String) -> Result<(), Unread> {
-    let (name, rest) = text.split_once(' ').unwrap_or((text, ""));
-    let call = call(alloc, name.trim_matches('\''), rest)?;
-    push_answered(alloc, &call, answer)
-}
-
-fn call(alloc: Global, name: &str, text: &str) -> Result<HostCall, Unread> {
-    let (args, receiver) = text.split_once(" on ").unwrap_or((text, ""));
-    let mut call = HostCall {
-        name: ImmutableString::new(alloc, name)?,
-        receiver: None,
-        args: Seq::new(alloc),
-    };
-    read_args(alloc, args, &mut call)?;
-    read_receiver(alloc, receiver, &mut call)?;
-    Ok(call)
-}
-
-fn read_args(alloc: Global, text: &str, call: &mut HostCall) -> Result<(), Unread> {
-    match read_value(alloc, text)?.into_array() {
-        Ok(args) => {
-            call.args = args;
-            Ok(())
-        }
-        Err(_) => Err(Unread::Wanted("arguments")),
+fn host(text: &str, said: &Said) {
+    let (name, rest) = split(text, " ");
+    if let Some(call) = call(name.trim_matches('\''), rest, said)
+        && let Some(answered) = said.made(ProgramHost.answer(said.alloc, &[], &call))
+    {
+        say_answer(&answered, said);
     }
 }
 
-fn read_receiver(alloc: Global, text: &str, call: &mut HostCall) -> Result<(), Unread> {
-    if !text.is_empty() {
-        call.receiver = Some(read_value(alloc, text)?);
+fn call(name: &str, text: &str, said: &Said) -> Option<HostCall> {
+    let (args, receiver) = split(text, " on ");
+    Some(HostCall {
+        name: said.shared(name)?,
+        receiver: said.value_if_some(receiver),
+        args: arguments(args, said),
+    })
+}
+
+fn arguments(text: &str, said: &Said) -> Seq<Dynamic> {
+    if let Some(value) = said.value_of(text)
+        && let Ok(arguments) = value.into_array()
+    {
+        return arguments;
     }
-    Ok(())
+    said.want("arguments");
+    Seq::new(said.alloc)
 }
 
-fn push_answered(alloc: Global, call: &HostCall, answer: &mut String) -> Result<(), Unread> {
-    let answered = ProgramHost.answer(alloc, &[], call)?;
-    Ok(push_answer(&answered, answer)?)
-}
-
-fn push_answer(answered: &HostAnswer, answer: &mut String) -> Result<(), OutOfMemory> {
+fn say_answer(answered: &HostAnswer, said: &Said) {
     match answered {
         HostAnswer::Value { value, receiver } => {
-            value.push_inner(answer)?;
-            answer.push_str(" then ")?;
-            push_value(receiver.as_ref(), answer)
+            said.put_inner(value);
+            said.put(" then ");
+            say_value(receiver.as_ref(), said);
         }
         HostAnswer::Throw(value) => {
-            answer.push_str("throw ")?;
-            value.push_inner(answer)
+            said.put("throw ");
+            said.put_inner(value);
         }
     }
 }

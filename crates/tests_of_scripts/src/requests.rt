@@ -1,55 +1,54 @@
 //! What the program answers to words, and how it ends where a write or a flush is refused.
 
 use rhai_program::{BuiltinScript, Request, run_words};
-use std::alloc::{AllocError, Global};
+use std::alloc::Global;
 use std::{io, str};
-use tests_reader::Unread;
+use tests_reader::Said;
 
-pub fn answer(
-    alloc: Global,
-    question: &str,
-    text: &str,
-    answer: &mut String,
-) -> Result<(), Unread> {
-    if question == "builtin" {
-        return builtin(alloc, text, answer);
+pub fn answer(question: &str, text: &str, said: &Said) {
+    match question {
+        "builtin" => builtin(text, said),
+        _ => asked(question, words(text, said).as_slice(), said),
     }
-    let words = words(alloc, text)?;
-    asked(alloc, question, words.as_slice(), answer)
 }
 
-fn asked(
-    alloc: Global,
-    question: &str,
-    words: &[String],
-    answer: &mut String,
-) -> Result<(), Unread> {
+fn asked(question: &str, words: &[String], said: &Said) {
     match question {
-        "request" => write!(answer, "{:?}", Request::parse(words))?,
-        "cut" => cut(alloc, words, answer)?,
-        _ => push_told(&tell(alloc, words, usize::MAX, question == "words"), answer)?,
+        "request" => said.debug(&Request::parse(words)),
+        "cut" => cut(words, said),
+        _ => say_told(
+            &tell(said.alloc, words, usize::MAX, question == "words"),
+            said,
+        ),
     }
-    Ok(())
 }
 
 /// The words of a line; `''` is the empty one.
-fn words(alloc: Global, line: &str) -> Result<Vec<String>, AllocError> {
-    let mut words = Vec::new(alloc);
+fn words(line: &str, said: &Said) -> Vec<String> {
+    let mut words = Vec::new(said.alloc);
     for word in line.split_whitespace() {
         let word = if word == "''" { "" } else { word };
-        words.push(String::from_str(alloc, word)?)?;
+        said.push(&mut words, said.made(String::from_str(said.alloc, word)));
     }
-    Ok(words)
+    words
 }
 
 /// The name of a built-in script, which is named between quotes, and whether it has statements.
-fn builtin(alloc: Global, text: &str, answer: &mut String) -> Result<(), Unread> {
-    let Some(script) = BuiltinScript::named(text.trim_matches('\'')) else {
-        return Ok(answer.push_str("none")?);
-    };
-    let is_empty = script.statements(alloc)?.is_empty();
-    let statements = if is_empty { "no" } else { "some" };
-    Ok(write!(answer, "{} with {statements} statements", script.name())?)
+fn builtin(text: &str, said: &Said) {
+    match BuiltinScript::named(text.trim_matches('\'')) {
+        Some(script) => say_builtin(&script, said),
+        None => said.put("none"),
+    }
+}
+
+fn say_builtin(script: &BuiltinScript, said: &Said) {
+    said.put(script.name());
+    if let Some(statements) = said.made(script.statements(said.alloc)) {
+        let count = if statements.is_empty() { "no" } else { "some" };
+        said.word("with");
+        said.word(count);
+        said.word("statements");
+    }
 }
 
 // ---- what it writes
@@ -106,40 +105,43 @@ fn stopping(alloc: Global, room: usize, flushes: bool) -> Stops {
     }
 }
 
-fn push_told(told: &Told, answer: &mut String) -> Result<(), AllocError> {
-    write!(answer, "status {}\n", told.status)?;
-    push_side("out:\n", &told.out, answer)?;
-    push_side("err:\n", &told.err, answer)
+fn say_told(told: &Told, said: &Said) {
+    said.put("status ");
+    said.display(&told.status);
+    said.put("\n");
+    say_side("out:\n", &told.out, said);
+    say_side("err:\n", &told.err, said);
 }
 
-fn push_side(head: &str, side: &Stops, answer: &mut String) -> Result<(), AllocError> {
-    if side.taken.is_empty() {
-        return Ok(());
+fn say_side(head: &str, side: &Stops, said: &Said) {
+    if !side.taken.is_empty() {
+        said.put(head);
+        said.put(str::from_utf8(side.taken.as_slice()).unwrap_or("no text"));
     }
-    answer.push_str(head)?;
-    answer.push_str(str::from_utf8(side.taken.as_slice()).unwrap_or("no text"))
 }
 
 // ---- where there is no room
 
 /// In how many of the cases, with room for no byte, for one and so on up to all, the program writes just the beginning for
 /// which there is room, and ends with status 1 where that is not all.
-fn cut(alloc: Global, words: &[String], answer: &mut String) -> Result<(), AllocError> {
-    let whole = tell(alloc, words, usize::MAX, true);
+fn cut(words: &[String], said: &Said) {
+    let whole = tell(said.alloc, words, usize::MAX, true);
     let most = whole.out.taken.len().max(whole.err.taken.len());
     let mut cuts: usize = 0;
     for room in 0..=most {
-        let cut = tell(alloc, words, room, true);
         let status = if room < most { 1 } else { whole.status };
-        if cut.status == status
-            && begins(&cut.out, &whole.out, room)
-            && begins(&cut.err, &whole.err, room)
-        {
+        let cut = tell(said.alloc, words, room, true);
+        if cut.status == status && begins_both(&cut, &whole, room) {
             cuts = cuts.saturating_add(1);
         }
     }
-    let all = most.saturating_add(1);
-    write!(answer, "{cuts} of {all}")
+    said.display(&cuts);
+    said.put(" of ");
+    said.display(&most.saturating_add(1));
+}
+
+fn begins_both(cut: &Told, whole: &Told, room: usize) -> bool {
+    begins(&cut.out, &whole.out, room) && begins(&cut.err, &whole.err, room)
 }
 
 /// Whether all was taken for which there is room.

@@ -2,16 +2,16 @@
 //! behind a line `----` and what its run is given.
 
 use crate::given::{Given, read_given};
+use crate::nodes::{places, places_read};
 use crate::{long, nodes};
 use rhai_ast::{FnAccess, FnNamespace, Stmt, StmtQueries};
-use rhai_base::OutOfMemory;
+use rhai_base::{Boxed, OutOfMemory};
 use rhai_host::push_report;
 use rhai_notation::push_script;
 use rhai_optimizer::{OptimizationLevel, optimize_into_ast};
 use rhai_run::{EngineInfo, plain_run};
 use rhai_script::AST;
-use std::alloc::{AllocError, Global};
-use tests_reader::{Script, Unread, read_script};
+use tests_reader::{Said, Script, split};
 
 /// What stands between what a run is given and the script, and between two scripts.
 const BETWEEN: &str = "----\n";
@@ -19,50 +19,38 @@ const BETWEEN: &str = "----\n";
 /// Questions about two scripts that are joined, by the calls that join them.
 const JOINS: [&str; 4] = ["merge", "merge_filtered", "combine", "combine_filtered"];
 
-pub fn answer(
-    alloc: Global,
-    question: &str,
-    text: &str,
-    answer: &mut String,
-) -> Result<(), Unread> {
-    let lines = ended(alloc, text)?;
+pub fn answer(question: &str, text: &str, said: &Said) {
+    let lines = ended(text, said);
     let lines = lines.as_str();
     let (given, script) = lines.split_once(BETWEEN).unwrap_or(("", lines));
-    let given = read_given(alloc, given)?;
-    asked(alloc, question, &given, script, answer)
+    asked(question, &read_given(given, said), script, said);
 }
 
 /// A text with an end of its last line.
-pub fn ended(alloc: Global, text: &str) -> Result<String, AllocError> {
-    let mut lines = String::from_str(alloc, text)?;
+fn ended(text: &str, said: &Said) -> String {
+    let mut lines = String::new(said.alloc);
+    said.made(lines.push_str(text));
     if !text.is_empty() {
-        lines.push('\n')?;
+        said.made(lines.push('\n'));
     }
-    Ok(lines)
+    lines
 }
 
-fn asked(
-    alloc: Global,
-    question: &str,
-    given: &Given,
-    script: &str,
-    answer: &mut String,
-) -> Result<(), Unread> {
-    let info = &given.info;
+fn asked(question: &str, given: &Given, script: &str, said: &Said) {
     if let Some(level) = level_named(question) {
-        return at_level(alloc, info, script, level, answer);
+        return at_level(&given.info, script, level, said);
     }
     if JOINS.contains(&question) {
-        return join(alloc, question, given, script, answer);
+        return join(question, given, script, said);
     }
     match question {
-        "last" => last(alloc, info, script, answer),
-        "run" => run(alloc, given, script, answer),
-        "rewrite" => rewrite(alloc, given, script, answer),
-        "deep" => long::deep(alloc, script, answer),
-        "long" => long::long(alloc, script, answer),
-        "asked" => long::asked(alloc, given, script, answer),
-        _ => nodes::answer(alloc, question, info, script, answer),
+        "last" => last(&given.info, script, said),
+        "run" => run(given, script, said),
+        "rewrite" => rewrite(given, script, said),
+        "deep" => long::deep(script, said),
+        "long" => long::long(script, said),
+        "asked" => long::asked(given, script, said),
+        _ => nodes::answer(question, &given.info, script, said),
     }
 }
 
@@ -76,119 +64,101 @@ pub fn level_named(name: &str) -> Option<OptimizationLevel> {
 }
 
 /// The script of a text, at a level.
-pub fn optimized(
-    alloc: Global,
+fn optimized(
     info: &EngineInfo,
     text: &str,
     level: OptimizationLevel,
-) -> Result<AST, Unread> {
+    said: &Said,
+) -> Option<Boxed<AST>> {
     let Script {
         statements,
         functions,
-    } = read_script(alloc, text)?;
-    Ok(optimize_into_ast(alloc, info, None, statements, functions, level)?)
+    } = said.script(text)?;
+    let script = optimize_into_ast(said.alloc, info, None, statements, functions, level);
+    said.boxed(said.made(script))
 }
 
 // ---- what a script becomes
 
 /// A script in print; `as it was`, where it is printed as it was read and its nodes stand where they stood.
-fn at_level(
-    alloc: Global,
-    info: &EngineInfo,
-    text: &str,
-    level: OptimizationLevel,
-    answer: &mut String,
-) -> Result<(), Unread> {
-    let places = printed(alloc, info, text, level, answer)?;
-    if answer.as_str() == text && places == nodes::places_read(alloc, text)? {
-        answer.clear();
-        answer.push_str("as it was")?;
+fn at_level(info: &EngineInfo, text: &str, level: OptimizationLevel, said: &Said) {
+    if let Some(script) = optimized(info, text, level, said) {
+        say_printed(script.get(), text, said);
     }
-    Ok(())
 }
 
-/// Appends a script in print, and answers where its nodes stand.
-fn printed(
-    alloc: Global,
-    info: &EngineInfo,
-    text: &str,
-    level: OptimizationLevel,
-    answer: &mut String,
-) -> Result<u64, Unread> {
-    let script = optimized(alloc, info, text, level)?;
-    push_printed(alloc, &script, answer)
+fn say_printed(script: &AST, text: &str, said: &Said) {
+    let printed = printed(script, said);
+    if printed.as_str() == text && places(script.statements(), said) == places_read(text, said) {
+        said.put("as it was");
+    } else {
+        said.put(printed.as_str());
+    }
 }
 
-fn push_printed(alloc: Global, script: &AST, answer: &mut String) -> Result<u64, Unread> {
-    push_script(script, answer)?;
-    Ok(nodes::places(alloc, script.statements())?)
+/// A script in print.
+pub fn printed(script: &AST, said: &Said) -> String {
+    let mut text = String::new(said.alloc);
+    said.made(push_script(script, &mut text));
+    text
 }
 
 /// The column in which the last statement stands.
-fn last(alloc: Global, info: &EngineInfo, text: &str, answer: &mut String) -> Result<(), Unread> {
-    let script = optimized(alloc, info, text, OptimizationLevel::Simple)?;
-    push_last(script.statements(), answer)
+fn last(info: &EngineInfo, text: &str, said: &Said) {
+    if let Some(script) = optimized(info, text, OptimizationLevel::Simple, said) {
+        say_last(script.get().statements(), said);
+    }
 }
 
-fn push_last(statements: &[Stmt], answer: &mut String) -> Result<(), Unread> {
-    let last = statements.last().ok_or(Unread::Wanted("a statement"))?;
-    let column = last.position().position().unwrap_or(0);
-    Ok(write!(answer, "{column}")?)
+fn say_last(statements: &[Stmt], said: &Said) {
+    match statements.last() {
+        Some(last) => said.display(&last.position().position().unwrap_or(0)),
+        None => said.want("a statement"),
+    }
 }
 
 // ---- how a script runs
 
 /// The report of a run; where the script is not printed as it was read, how it is printed goes before.
-fn run(alloc: Global, given: &Given, text: &str, answer: &mut String) -> Result<(), Unread> {
-    let mut told = String::new(alloc);
-    push_outcome(alloc, given, text, OptimizationLevel::None, &mut told)?;
+fn run(given: &Given, text: &str, said: &Said) {
+    let told = outcome(given, text, OptimizationLevel::None, said);
     let told = told.as_str();
-    answer.push_str(told.strip_prefix(text).unwrap_or(told))?;
-    Ok(())
+    said.put(told.strip_prefix(text).unwrap_or(told));
 }
 
 /// What a script is optimised to with the report of its run. Where the script as it was read is not printed so, or its run has
 /// another report, both follow.
-fn rewrite(alloc: Global, given: &Given, text: &str, answer: &mut String) -> Result<(), Unread> {
-    push_outcome(alloc, given, text, OptimizationLevel::Simple, answer)?;
-    let mut before = String::new(alloc);
-    push_outcome(alloc, given, text, OptimizationLevel::None, &mut before)?;
-    Ok(push_other(text, before.as_str(), answer)?)
-}
-
-fn push_other(text: &str, before: &str, answer: &mut String) -> Result<(), AllocError> {
-    match before.strip_prefix(text) {
-        Some(report) if answer.as_str().ends_with(report) => Ok(()),
+fn rewrite(given: &Given, text: &str, said: &Said) {
+    let after = outcome(given, text, OptimizationLevel::Simple, said);
+    let before = outcome(given, text, OptimizationLevel::None, said);
+    said.put(after.as_str());
+    match before.as_str().strip_prefix(text) {
+        Some(report) if after.as_str().ends_with(report) => {}
         _ => {
-            answer.push_str("before:\n")?;
-            answer.push_str(before)
+            said.put("before:\n");
+            said.put(before.as_str());
         }
     }
 }
 
-/// Appends a script in print and the report of its run.
-fn push_outcome(
-    alloc: Global,
-    given: &Given,
-    text: &str,
-    level: OptimizationLevel,
-    told: &mut String,
-) -> Result<(), Unread> {
-    let script = optimized(alloc, &given.info, text, level)?;
-    push_both(alloc, given, &script, told)
-}
-
-fn push_both(alloc: Global, given: &Given, script: &AST, told: &mut String) -> Result<(), Unread> {
-    push_script(script, told)?;
-    Ok(push_run(alloc, given, script, told)?)
+/// A script in print and the report of its run.
+fn outcome(given: &Given, text: &str, level: OptimizationLevel, said: &Said) -> String {
+    match optimized(&given.info, text, level, said) {
+        Some(script) => {
+            let mut told = printed(script.get(), said);
+            said.made(push_run(given, script.get(), &mut told, said));
+            told
+        }
+        None => String::new(said.alloc),
+    }
 }
 
 /// Appends the report of a run.
 pub fn push_run(
-    alloc: Global,
     given: &Given,
     script: &AST,
     told: &mut String,
+    said: &Said,
 ) -> Result<(), OutOfMemory> {
     let Given {
         info,
@@ -196,66 +166,52 @@ pub fn push_run(
         scope,
         turns,
     } = given;
-    let report = plain_run(alloc, script, info, host, scope, *turns)?;
+    let report = plain_run(said.alloc, script, info, host, scope, *turns)?;
     push_report(&report, told)
 }
 
 // ---- two scripts
 
 /// The report of the run of two scripts that are joined.
-fn join(
-    alloc: Global,
-    question: &str,
-    given: &Given,
-    text: &str,
-    answer: &mut String,
-) -> Result<(), Unread> {
-    let (first, second) = text.split_once(BETWEEN).ok_or(Unread::Wanted("two"))?;
-    let first = optimized(alloc, &given.info, first, OptimizationLevel::None)?;
-    join_with(alloc, question, given, &first, second, answer)
-}
-
-fn join_with(
-    alloc: Global,
-    question: &str,
-    given: &Given,
-    first: &AST,
-    second: &str,
-    answer: &mut String,
-) -> Result<(), Unread> {
-    let second = optimized(alloc, &given.info, second, OptimizationLevel::None)?;
-    push_joined(alloc, question, given, first, &second, answer)
-}
-
-fn push_joined(
-    alloc: Global,
-    question: &str,
-    given: &Given,
-    first: &AST,
-    second: &AST,
-    answer: &mut String,
-) -> Result<(), Unread> {
-    let both = joined(question, first, second)?;
-    Ok(push_run(alloc, given, &both, answer)?)
-}
-
-fn joined(question: &str, first: &AST, second: &AST) -> Result<AST, OutOfMemory> {
-    match question {
-        "merge" => first.merge(second),
-        "merge_filtered" => first.merge_filtered(second, is_error),
-        _ => combined(question, first.clone()?, second),
+fn join(question: &str, given: &Given, text: &str, said: &Said) {
+    let (first, second) = split(text, BETWEEN);
+    if let Some(first) = optimized(&given.info, first, OptimizationLevel::None, said)
+        && let Some(second) = optimized(&given.info, second, OptimizationLevel::None, said)
+    {
+        say_joined(question, given, first.get(), second.get(), said);
     }
 }
 
-fn combined(question: &str, mut both: AST, second: &AST) -> Result<AST, OutOfMemory> {
-    take_in(question, &mut both, second.clone()?)?;
-    Ok(both)
+fn say_joined(question: &str, given: &Given, first: &AST, second: &AST, said: &Said) {
+    match question {
+        "merge" => say_run(given, first.merge(second), said),
+        "merge_filtered" => say_run(given, first.merge_filtered(second, is_error), said),
+        _ => say_combined(question, given, first, second, said),
+    }
+}
+
+fn say_combined(question: &str, given: &Given, first: &AST, second: &AST, said: &Said) {
+    if let Some(mut both) = said.made(first.clone())
+        && let Some(second) = said.made(second.clone())
+    {
+        said.made(take_in(question, &mut both, second));
+        say_run(given, Ok(both), said);
+    }
 }
 
 fn take_in(question: &str, both: &mut AST, second: AST) -> Result<(), OutOfMemory> {
     match question {
         "combine" => both.combine(second),
         _ => both.combine_filtered(second, is_error),
+    }
+}
+
+/// Says the report of a run of a script that was made.
+fn say_run(given: &Given, script: Result<AST, OutOfMemory>, said: &Said) {
+    if let Some(script) = said.made(script) {
+        let mut told = said.taken();
+        let added = push_run(given, &script, &mut told, said);
+        said.put_back(told, added);
     }
 }
 

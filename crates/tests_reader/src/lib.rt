@@ -1,5 +1,5 @@
 //! Reads trees, values and scripts for tests, as the notation prints them, and what a run is given. Each node stands where
-//! its text does, in columns from 1.
+//! its text does, in columns from 1. Asks the questions of rows, and takes what is said to them.
 #![tactic(auto)]
 
 mod forms;
@@ -9,15 +9,15 @@ mod names;
 mod nodes;
 mod parts;
 mod questions;
+mod reading;
 mod rows;
+mod said;
 mod scripts;
 mod tables;
 mod tree;
 mod values;
 
-pub use letters::Unread;
 pub use questions::{Answers, ask_all};
 pub use rows::{AnswerRow, read_answer, read_binding};
-pub use scripts::{Script, read_script};
-pub use tree::{read_expr, read_lines, read_link, read_stmt};
-pub use values::read_value;
+pub use said::{Said, split};
+pub use scripts::Script;

@@ -1,6 +1,7 @@
 //! Nodes of their parts.
 
 use crate::forms::{ExprKind, StmtKind};
+use crate::joined::both;
 use crate::letters::Letters;
 use crate::names::Called;
 use crate::parts::Parts;
@@ -103,12 +104,9 @@ impl<'a> Letters<'a> {
         self.made(joined(self.alloc, before, name.as_str()))
     }
 
-    /// A value, where there is one, as the expression that it is read as.
-    pub(crate) fn constant_of(&self, value: Option<Dynamic>, pos: Position) -> Option<Expr> {
-        match value {
-            Some(value) => self.made(Expr::from_dynamic(self.alloc, value, pos)),
-            None => None,
-        }
+    /// A value as the expression that it is read as.
+    pub(crate) fn constant_of(&self, value: Dynamic, pos: Position) -> Option<Expr> {
+        self.made(Expr::from_dynamic(self.alloc, value, pos))
     }
 
     /// A value, where there is one, as a constant of its own.
@@ -229,6 +227,6 @@ fn joined(alloc: Global, before: &str, name: &str) -> Result<ImmutableString, Ou
 
 /// An arm of its condition and its answer.
 pub(crate) fn arm(lhs: Option<Expr>, rhs: Option<Expr>) -> Option<BinaryExpr> {
-    let lhs = lhs?;
-    Some(BinaryExpr { lhs, rhs: rhs? })
+    let (lhs, rhs) = both(lhs, rhs)?;
+    Some(BinaryExpr { lhs, rhs })
 }

@@ -2,77 +2,66 @@
 //! wanted. A blank line stands between two rows, and `//` at the head of a comment.
 
 use crate::letters::Unread;
-use std::alloc::{AllocError, Global};
+use crate::said::{Said, split};
+use std::alloc::Global;
 
 /// What answers questions about texts.
 pub trait Answers {
-    /// Writes the answer to a question about a text.
-    fn answer(
-        &self,
-        alloc: Global,
-        question: &str,
-        text: &str,
-        answer: &mut String,
-    ) -> Result<(), Unread>;
+    /// Whether questions are asked of copies.
+    fn of_copies(&self) -> bool;
+
+    /// Says the answer to a question about a text; false where there is no such question.
+    fn answer(&self, question: &str, text: &str, said: &Said) -> bool;
 }
 
 /// Asks the questions of these rows, which have a name. Says which of them are answered otherwise than they want, each with
 /// its answer, and then how many are met.
-pub fn ask_all<A: Answers>(
-    alloc: Global,
-    answers: &A,
-    name: &str,
-    rows: &str,
-    said: &mut String,
-) -> Result<(), AllocError> {
-    let mut met: u32 = 0;
+pub fn ask_all<A: Answers>(answers: &A, name: &str, rows: &str, said: &Said) {
+    let mut met: usize = 0;
     for row in rows.split("\n\n") {
         let row = row.trim();
-        if !row.starts_with("//") && is_met(alloc, answers, row, said)? {
+        if !row.starts_with("//") && is_met(answers, row, said) {
             met = met.saturating_add(1);
         }
     }
-    let count = format!(in alloc; "{name}: {met} rows met\n")?;
-    said.push_str(count.as_str())?;
-    Ok(())
+    said.put(name);
+    said.put(": ");
+    said.display(&met);
+    said.put(" rows met\n");
 }
 
-/// Whether a row is answered as it wants.
-fn is_met<A: Answers>(
-    alloc: Global,
-    answers: &A,
-    row: &str,
-    said: &mut String,
-) -> Result<bool, AllocError> {
+/// Whether a row is answered as it wants; says so where it is not.
+fn is_met<A: Answers>(answers: &A, row: &str, said: &Said) -> bool {
     let (asked, wanted) = row.split_once("\n= ").unwrap_or((row, "a wanted answer"));
-    let (question, text) = asked.split_once(' ').unwrap_or((asked, ""));
-    let mut answer = String::new(alloc);
-    let refusal = answers.answer(alloc, question, text, &mut answer).err();
-    push_refusal(refusal, &mut answer)?;
-    if answer.as_str() == wanted {
-        return Ok(true);
+    let answer = answered(said.alloc, answers, asked);
+    let is_met = answer.as_str() == wanted;
+    if !is_met {
+        say_unmet(row, answer.as_str(), said);
     }
-    push_unmet(row, answer.as_str(), said)?;
-    Ok(false)
+    is_met
 }
 
-/// Says why there is no whole answer.
-fn push_refusal(refusal: Option<Unread>, answer: &mut String) -> Result<(), AllocError> {
-    match refusal {
-        Some(Unread::NoMemory) => answer.push_str("unread: memory")?,
+/// The answer, and why it is not whole.
+fn answered<A: Answers>(alloc: Global, answers: &A, asked: &str) -> String {
+    let (question, text) = split(asked, " ");
+    let said = Said::new(alloc, answers.of_copies());
+    if !answers.answer(question, text, &said) {
+        said.want("a question");
+    }
+    match said.fault() {
+        Some(Unread::NoMemory) => said.put("unread: memory"),
         Some(Unread::Wanted(what)) => {
-            answer.push_str("unread: ")?;
-            answer.push_str(what)?;
+            said.put("unread: ");
+            said.put(what);
         }
         None => {}
     }
-    Ok(())
+    said.into_text()
 }
 
-fn push_unmet(row: &str, answer: &str, said: &mut String) -> Result<(), AllocError> {
-    said.push_str(row)?;
-    said.push_str("\nbut is answered\n= ")?;
-    said.push_str(answer)?;
-    said.push_str("\n\n")?;
-    Ok(())
+fn say_unmet(row: &str, answer: &str, said: &Said) {
+    said.put(row);
+    said.put("\nbut is answered\n= ");
+    said.put(answer);
+    said.put("\n\n");
 }

@@ -1,9 +1,8 @@
 //! What a run is given: named values, and what a host answers.
 
-use crate::letters::Unread;
-use crate::values::read_value;
+use crate::joined::both;
+use crate::said::Said;
 use rhai_base::{Dynamic, ImmutableString};
-use std::alloc::Global;
 
 /// What a host answers to a call: to one of this name, or to any; after so many calls, or after any number of them.
 #[derive(Drop)]
@@ -21,35 +20,36 @@ pub struct AnswerRow {
 }
 
 /// A name and its value, as `x = 1` or `m::x = [1]`.
-pub fn read_binding(alloc: Global, text: &str) -> Result<(ImmutableString, Dynamic), Unread> {
-    let (name, value) = text.split_once(" = ").ok_or(Unread::Wanted(" = "))?;
-    both(named(alloc, name), read_value(alloc, value))
+pub fn read_binding(text: &str, said: &Said) -> Option<(ImmutableString, Dynamic)> {
+    let Some((name, value)) = text.split_once(" = ") else {
+        said.want(" = ");
+        return None;
+    };
+    both(said.shared(name), said.value_of(value))
 }
 
 /// A row of a host, as `0 f => 1`, `f => throw "a"`, `2 => 3 then 4` or `=> ()`: how many calls came before, what
 /// is called, the answer, the receiver's new value.
-pub fn read_answer(alloc: Global, text: &str) -> Result<AnswerRow, Unread> {
-    let (call, answer) = text.split_once("=> ").ok_or(Unread::Wanted("=> "))?;
-    let (past, name) = counted(call.trim_end());
-    let name = read_name(alloc, name)?;
+pub fn read_answer(text: &str, said: &Said) -> Option<AnswerRow> {
+    let Some((call, answer)) = text.split_once("=> ") else {
+        said.want("=> ");
+        return None;
+    };
     match answer.strip_prefix("throw ") {
-        Some(thrown) => row(past, true, both(Ok(name), read_answered(alloc, thrown))),
-        None => row(past, false, both(Ok(name), read_answered(alloc, answer))),
+        Some(thrown) => row(call.trim_end(), thrown, true, said),
+        None => row(call.trim_end(), answer, false, said),
     }
 }
 
-fn row(
-    past: Option<usize>,
-    is_thrown: bool,
-    parts: Result<(Option<ImmutableString>, (Dynamic, Option<Dynamic>)), Unread>,
-) -> Result<AnswerRow, Unread> {
-    let (name, (value, receiver)) = parts?;
-    Ok(AnswerRow {
+fn row(call: &str, answer: &str, is_thrown: bool, said: &Said) -> Option<AnswerRow> {
+    let (past, name) = counted(call);
+    let (value, receiver) = answer.split_once(" then ").unwrap_or((answer, ""));
+    Some(AnswerRow {
+        value: said.value_of(value)?,
         past,
-        name,
-        value,
+        name: said.shared_if_some(name),
         is_thrown,
-        receiver,
+        receiver: said.value_if_some(receiver),
     })
 }
 
@@ -60,35 +60,4 @@ fn counted(call: &str) -> (Option<usize>, &str) {
         Ok(past) => (Some(past), rest),
         Err(_) => (None, call),
     }
-}
-
-fn read_name(alloc: Global, name: &str) -> Result<Option<ImmutableString>, Unread> {
-    if name.is_empty() {
-        return Ok(None);
-    }
-    Ok(Some(named(alloc, name)?))
-}
-
-fn named(alloc: Global, name: &str) -> Result<ImmutableString, Unread> {
-    Ok(ImmutableString::new(alloc, name)?)
-}
-
-/// A value, and the receiver's new one where it has one.
-fn read_answered(alloc: Global, answer: &str) -> Result<(Dynamic, Option<Dynamic>), Unread> {
-    match answer.split_once(" then ") {
-        Some((value, receiver)) => {
-            let receiver = read_value(alloc, receiver).map(Some);
-            both(read_value(alloc, value), receiver)
-        }
-        None => both(read_value(alloc, answer), Ok(None)),
-    }
-}
-
-/// The two of them, if both were read.
-fn both<A: Drop, B: Drop>(
-    first: Result<A, Unread>,
-    second: Result<B, Unread>,
-) -> Result<(A, B), Unread> {
-    let first = first?;
-    Ok((first, second?))
 }

@@ -61,9 +61,8 @@ impl<'a> Letters<'a> {
     fn expr(&self, depth: u32) -> Option<Expr> {
         let depth = self.below(depth)?;
         let pos = self.here();
-        let constant = self.constant(pos);
-        if constant.is_some() {
-            return constant;
+        if let Some(constant) = self.constant(pos) {
+            return Some(constant);
         }
         if self.starts("{") {
             return self.braces(self.block(depth));
@@ -220,11 +219,10 @@ impl<'a> Letters<'a> {
 
     /// A constant, where one stands next.
     fn constant(&self, pos: Position) -> Option<Expr> {
-        let constant = self.constant_of(self.scalar(), pos);
-        if constant.is_some() {
-            return constant;
+        match self.scalar() {
+            Some(value) => self.constant_of(value, pos),
+            None => self.held_constant(self.held(), pos),
         }
-        self.held_constant(self.held(), pos)
     }
 
     /// What an expression that is no constant is, by what it begins with.

@@ -1,0 +1,102 @@
+//! Reads what a question is about. Nodes come in boxes, which let go of them in one place.
+
+use crate::letters::Unread;
+use crate::said::Said;
+use crate::scripts::{Script, read_script};
+use crate::tree::{read_expr, read_lines, read_link, read_stmt};
+use crate::values::read_value;
+use rhai_ast::{Expr, Stmt};
+use rhai_base::{Boxed, Dynamic, FnPtr};
+
+impl Said {
+    /// What was read, or a copy of it.
+    pub fn perhaps_copied<T: Clone + Drop>(&self, read: Option<T>) -> Option<T> {
+        if !self.copies {
+            return read;
+        }
+        self.made(read?.clone())
+    }
+
+    /// An expression, or with a `.` before it what stands at the right of one.
+    pub fn expr(&self, text: &str) -> Option<Boxed<Expr>> {
+        let read = match text.strip_prefix(".") {
+            Some(link) if !link.starts_with(".") => read_link(self.alloc, link),
+            _ => read_expr(self.alloc, text),
+        };
+        self.perhaps_copied(self.boxed(self.read(read)))
+    }
+
+    pub fn stmt(&self, text: &str) -> Option<Boxed<Stmt>> {
+        self.perhaps_copied(self.boxed(self.original_stmt(text)))
+    }
+
+    /// A statement as it was read.
+    pub fn original_stmt(&self, text: &str) -> Option<Stmt> {
+        self.read(read_stmt(self.alloc, text))
+    }
+
+    /// A value, or a copy that is equal; a pointer, or the first of an array, may have 1 for its first parameter, as in
+    /// `Fn(f) with 1`.
+    pub fn value_of(&self, text: &str) -> Option<Dynamic> {
+        let mut value = match text.strip_suffix(" with 1") {
+            Some(text) => self.curried(self.read(read_value(self.alloc, text))?),
+            None => self.read(read_value(self.alloc, text))?,
+        };
+        if self.copies {
+            value = self.copied(&value)?;
+        }
+        Some(value)
+    }
+
+    /// A value, where there is a text.
+    pub fn value_if_some(&self, text: &str) -> Option<Dynamic> {
+        if text.is_empty() {
+            return None;
+        }
+        self.value_of(text)
+    }
+
+    fn curried(&self, mut value: Dynamic) -> Dynamic {
+        match &mut value {
+            Dynamic::FnPtr(pointer) => self.curry(pointer),
+            Dynamic::Array(items) => {
+                if let Some(Dynamic::FnPtr(pointer)) = items.get_mut(0) {
+                    self.curry(pointer);
+                }
+            }
+            _ => {}
+        }
+        value
+    }
+
+    fn curry(&self, pointer: &mut FnPtr) {
+        self.made(pointer.add_curry(Dynamic::Int(1)));
+    }
+
+    fn copied(&self, value: &Dynamic) -> Option<Dynamic> {
+        let copy = self.made(value.clone())?;
+        if copy != *value || !copy.is_equal(value) {
+            self.want("a copy that is equal");
+        }
+        Some(copy)
+    }
+
+    /// Statements, each on a line; `none` is none.
+    pub fn lines(&self, text: &str) -> Vec<Stmt> {
+        if text == "none" {
+            return Vec::new(self.alloc);
+        }
+        self.read(self.read_ended(text))
+            .unwrap_or(Vec::new(self.alloc))
+    }
+
+    fn read_ended(&self, text: &str) -> Result<Vec<Stmt>, Unread> {
+        let lines = format!(in self.alloc; "{text}\n")?;
+        read_lines(self.alloc, lines.as_str())
+    }
+
+    /// A script: statements, each on a line, and then functions, each on a line.
+    pub fn script(&self, text: &str) -> Option<Script> {
+        self.read(read_script(self.alloc, text))
+    }
+}
