@@ -2,7 +2,7 @@
 
 #![tactic(auto, using(rhai_reading::specs::Reading::shapes, rhai_values::specs::Reading::kinds, rhai_machine::proofs::Chaining::chaining))]
 
-ghost use Rattle.std.specs.Prelude.{◌≡◌, [], ◌∷◌, codes};
+ghost use Rattle.std.specs.Prelude.{[], ◌∷◌, codes};
 ghost use Rattle.rhai_machine.specs.Chaining.{access_meant, names_meant};
 ghost use Rattle.rhai_machine.specs.Setting.{setting};
 ghost use Rattle.rhai_state.specs.Runs.{Acting, Leads, given};

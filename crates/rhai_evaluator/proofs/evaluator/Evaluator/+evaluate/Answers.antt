@@ -35,12 +35,10 @@ use Rattle.rhai_forms.specs.LeftSides.{side_core}
 use Rattle.rhai_forms.specs.Variables.{root_meant}
 use Rattle.rhai_state.specs.Words.{word_meant}
 use Rattle.rhai_machine.specs.declared.steps.parts.Access.TheVariants as reached
-use Rattle.rhai_machine.specs.Chaining.{names_meant}
 use Rattle.rhai_machine.specs.Placing.{current_in}
 use Rattle.rhai_state.specs.State.{store_of}
-use Rattle.rhai_chains.proofs.Quiet.{quiet_index, quiet_property}
 use Rattle.rhai_evaluator.proofs.LeftSides.{part_called, part_ill, part_runs, part_stops, part_unplaced}
-use Rattle.rhai_chains.proofs.Targets.{index_changes, last_nowhere, last_plain, last_stops, last_written, read_changes, read_ends, target_applied_stops, target_last, target_more, target_stops, target_unit}
+use Rattle.rhai_chains.proofs.Targets.{last_nowhere, last_plain, last_stops, read_changes, read_ends, target_applied_stops, target_last, target_more, target_stops, target_unit}
 use Rattle.rhai_evaluator.proofs.ByKind.{array_of_expr, block_of_stmt, braces_of_expr, call_of_expr, call_of_stmt, dot_of_expr, for_of_stmt, if_of_stmt, index_of_expr, map_of_expr, method_of_expr, property_of_expr, switch_of_stmt, text_of_expr}
 use Rattle.rhai_state.proofs.Counted.{each_ends, each_next, each_stops, for_array, for_body_runs, for_closed_range, for_other, for_range, for_round_runs, range_end, range_ends, range_next, range_start, range_stops}
 use Rattle.rhai_evaluator.proofs.Leaving.{catch_runs, try_catches, try_ends, try_stops}
