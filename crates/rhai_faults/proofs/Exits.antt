@@ -21,8 +21,6 @@ leaves r f all o p e t h =
     let q = err_from_is_err_and r e in
     subst (Finds all) (sym q.1) (subst (λ y. IsTheFirst all (meant y)) (sym q.2) (subst (λ a. IsTheFirst a (meant f)) (sym t) (first_stays o p (meant f) h)))
 
-pub has_operands-of : (xs : List Expr) → not (length xs == 0) ≡ faults.has_operands (exprs_of xs)
-has_operands-of [] = refl
-has_operands-of (x ∷ xs) = ap not (eqb-suc-zero (length xs))
-
-pub ruleset alone = (has_operands-of)
+pub operands_counted : (xs : List Expr) → not (length xs == 0) ≡ faults.has_operands (exprs_of xs)
+operands_counted [] = refl
+operands_counted (x ∷ xs) = ap not (eqb-suc-zero (length xs))

@@ -1,6 +1,6 @@
 //! What is wrong with a node alone: tests of its kind, and of what is right below it.
 
-#![tactic(auto, using(rhai_reading::specs::Reading::shapes, crate::proofs::Exits::alone))]
+#![tactic(auto, using(rhai_reading::specs::Reading::shapes, crate::proofs::Exits::operands_counted))]
 
 ghost use Rattle.std.specs.Prelude.{◌||◌};
 ghost use Rattle.rhai_faults.specs.Places.{around_of};

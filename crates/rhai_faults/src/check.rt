@@ -7,7 +7,9 @@ ghost use Rattle.rhai_faults.specs.Refusals.{Finds};
 ghost use Rattle.rhai_faults.specs.Scripts.{found_stmts, functions_of};
 ghost use Rattle.rhai_meaning.specs.Faults as faults;
 ghost use Rattle.rhai_meaning.specs.Faults.{finding};
-ghost use Rattle.rhai_walk.specs.Children.{over_node};
+ghost use Rattle.rhai_walk.specs.Children.{over_children, over_parts};
+ghost use Rattle.rhai_meaning.specs.Walk.{around_parts};
+ghost use Rattle.rhai_walk.specs.Left.{left_of};
 ghost use Rattle.rhai_walk.specs.Nodes.{node_of};
 
 use crate::alone::{check_alone, demand};
@@ -37,20 +39,31 @@ pub fn check_functions(alloc: Global, functions: &[Rc<ScriptFuncDef>]) -> Result
 pub fn check_stmts(alloc: Global, statements: &[Stmt], in_loop: bool) -> Result<(), TreeFault>
     ensures { Finds (found_stmts statements.now in_loop) result }
 {
-    for stmt in statements {
-        check_node(alloc, ASTNode::Stmt(stmt), Around::whole(in_loop))?;
+    check_children(alloc, Children::of_statements(statements), Around::whole(in_loop))
+}
+
+/// The first fault of children: of each its own, then those of the nodes below it.
+#[cycle(check)]
+fn check_children(alloc: Global, children: Children, inside: Around) -> Result<(), TreeFault>
+    ensures { Finds (over_children finding (left_of children.entry) (around_of inside)) result }
+{
+    for child in children {
+        let around = inside.at(child.spot);
+        check_alone(alloc, child.node, around)?;
+        check_below(alloc, child.node, around)?;
     }
     Ok(())
 }
 
-/// The first fault of a node: its own, then those of the nodes below it.
-fn check_node(alloc: Global, node: ASTNode, around: Around) -> Result<(), TreeFault>
-    ensures { Finds (over_node finding (node_of node.entry) (around_of around)) result }
+/// The first fault of the nodes below one.
+#[cycle(check)]
+fn check_below(alloc: Global, node: ASTNode, around: Around) -> Result<(), TreeFault>
+    ensures { Finds (over_parts finding (node_of node.entry) (around_parts (node_of node.entry) (around_of around))) result }
 {
-    check_alone(alloc, node, around)?;
-    let inside = around.of_children(node);
-    for child in Children::of(node) {
-        check_node(alloc, child.node, inside.at(child.spot))?;
+    let children = Children::of(node);
+    if children.are_of_leaf() {
+        Ok(())
+    } else {
+        check_children(alloc, children, around.of_children(node))
     }
-    Ok(())
 }

@@ -10,7 +10,8 @@ ghost use Rattle.rhai_meaning.specs.Shape.{is_barred};
 ghost use Rattle.rhai_meaning.specs.Walk.{over_functions, over_stmts};
 ghost use Rattle.rhai_parts.specs.Names as names;
 ghost use Rattle.rhai_reading.specs.Reading.{callee_of, expr_of, stmt_of, stmts_of};
-ghost use Rattle.rhai_walk.specs.Children.{over_node};
+ghost use Rattle.rhai_walk.specs.Children.{over_children, over_parts};
+ghost use Rattle.rhai_walk.specs.Left.{left_of};
 ghost use Rattle.rhai_walk.specs.Nodes.{node_of};
 
 use bitflags::Flags;
@@ -39,27 +40,33 @@ pub fn are_plain_functions(functions: &[Rc<ScriptFuncDef>]) -> bool
 pub fn are_plain(statements: &[Stmt]) -> bool
     ensures { result ≡ over_stmts plain_walk (stmts_of statements.now) }
 {
-    for stmt in statements {
-        if !is_plain(ASTNode::Stmt(stmt)) {
+    are_all_plain(Children::of_statements(statements))
+}
+
+/// Whether children and all nodes below them are plain.
+#[cycle(plain)]
+fn are_all_plain(children: Children) -> bool
+    ensures { result ≡ over_children plain_walk (left_of children.entry) }
+{
+    for child in children {
+        if !is_plain_alone(child.node) || !is_plain_below(child.node) {
             return false;
         }
     }
     true
 }
 
-/// Whether a node and all below it are plain.
-fn is_plain(node: ASTNode) -> bool
-    ensures { result ≡ over_node plain_walk (node_of node.entry) }
+/// Whether the nodes below one are plain.
+#[cycle(plain)]
+fn is_plain_below(node: ASTNode) -> bool
+    ensures { result ≡ over_parts plain_walk (node_of node.entry) }
 {
-    if !is_plain_alone(node) {
-        return false;
+    let children = Children::of(node);
+    if children.are_of_leaf() {
+        true
+    } else {
+        are_all_plain(children)
     }
-    for child in Children::of(node) {
-        if !is_plain(child.node) {
-            return false;
-        }
-    }
-    true
 }
 
 /// Whether a node is plain, its children not looked at.

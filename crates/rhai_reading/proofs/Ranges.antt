@@ -8,5 +8,3 @@ use Rattle.rhai_reading.specs.Reading.{range_of}
 pub range_arm : (r : RangeCase) → (range_of r).arm ≡ index_of r
 range_arm (ExclusiveInt r i) = refl
 range_arm (InclusiveInt r i) = refl
-
-pub ruleset ranges = (range_arm)

@@ -37,7 +37,7 @@ module _ {ℓ} {A : Type ℓ} (w : Walk A) (f : Folds w) where
   of_pairs no_pairs = refl
   of_pairs (pair k e ps) = ap (w.both (over_expr w e)) (of_pairs ps)
 
-  of_stmts : (ss : Stmts) → over_children w (over_stmts one_step ss) ≡ over_stmts w ss
+  pub of_stmts : (ss : Stmts) → over_children w (over_stmts one_step ss) ≡ over_stmts w ss
   of_stmts no_stmts = refl
   of_stmts (stmt s ss) = ap (w.both (over_stmt w s)) (of_stmts ss)
 

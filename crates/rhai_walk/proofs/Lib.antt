@@ -1,5 +1,6 @@
 pub mod Folding
 pub mod Paths
+pub mod Places
 pub mod Sizes
 pub mod Steps
 pub mod Walking

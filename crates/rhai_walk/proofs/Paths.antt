@@ -1,17 +1,16 @@
 -- The paths below a node, child by child.
-use Rattle.std.proofs.Common.{◌≡◌, ℕ, suc, ◌+◌, ◌<◌, length, get_or, drop, add-one, List, [], ◌∷◌, ◌++◌, Option, Some, None, refl, sym, ap, ◌∙◌, append_assoc}
+use Rattle.std.proofs.Common.{◌≡◌, List, [], ◌∷◌, ◌++◌, Option, Some, None, refl, sym, ap, ◌∙◌, append_assoc}
 use Rattle.std.proofs.lemmas.List.{append-nil}
-use Rattle.std.proofs.Math.Seq.{drop-cons}
 use Rattle.rhai_tree.specs.declared.stmt.Stmt.{Stmt}
-use Rattle.rhai_reading.specs.Reading.{stmt_of, stmts_of}
-use Rattle.rhai_meaning.specs.Paths.{Path, listing, stmt_paths, stmts_paths}
+use Rattle.rhai_reading.specs.Reading.{stmts_of}
+use Rattle.rhai_meaning.specs.Paths.{Path, listing, stmts_paths}
 use Rattle.rhai_meaning.specs.Walk.{Node, Spot}
-use Rattle.rhai_walk.specs.Children.{at_spot, children, over_children, over_node, over_parts}
-use Rattle.rhai_walk.specs.Left.{left_of}
+use Rattle.rhai_walk.specs.Children.{anywhere, at_spot, children, over_children, over_node, over_parts}
+use Rattle.rhai_walk.specs.Left.{left_of, statements_left}
 use Rattle.rhai_walk.specs.Nodes.{child_of, node_of, spot_of}
 use Rattle.rhai_walk.specs.declared.children.Children.{Children}
 use Rattle.rhai_walk.specs.declared.node.Child.{Child}
-use Rattle.rhai_walk.proofs.Folding.{Folds, over_parts-children}
+use Rattle.rhai_walk.proofs.Folding.{Folds, of_stmts, over_parts-children}
 
 listing_folds : Folds listing
 listing_folds = record {
@@ -39,10 +38,10 @@ paths-next cs ds c e = ap (over_children listing) e ∙ ap (λ (ps : List Path).
 pub paths-end : (cs : Children) → left_of cs ≡ [] → left_paths cs ≡ []
 paths-end cs e = ap (over_children listing) e
 
--- ---- statements one after another
+-- ---- where a walk begins
 
-abbrev pub list_paths : List Stmt → List Path
-list_paths xs = stmts_paths (stmts_of xs)
+pub paths-only : (n : Node) → over_children listing (anywhere n ∷ []) ≡ over_node listing n
+paths-only n = append-nil (over_node listing n)
 
-pub list-next : (xs : List Stmt) (i : ℕ) (x : Stmt) → i < length xs → x ≡ get_or xs i x → list_paths (drop i xs) ≡ stmt_paths (stmt_of x) ++ list_paths (drop (i + 1) xs)
-list-next xs i x h e = rw (add-one, drop-cons xs i x) (ap (λ (y : Stmt). stmt_paths (stmt_of y) ++ list_paths (drop (suc i) xs)) (sym e))
+pub paths-statements : (xs : List Stmt) → over_children listing (statements_left xs) ≡ stmts_paths (stmts_of xs)
+paths-statements xs = of_stmts listing listing_folds (stmts_of xs)

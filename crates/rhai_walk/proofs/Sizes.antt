@@ -1,5 +1,6 @@
 -- Each child of a node is smaller than the node.
-use Rattle.std.proofs.Common.{◌≡◌, ◌<◌, ◌≤◌, ◌+◌, ℕ, zero, suc, List, [], ◌∷◌, ◌++◌, map, sym, subst, arith}
+use Rattle.std.proofs.Common.{◌≡◌, ◌<◌, ◌≤◌, ◌+◌, ◌*◌, ℕ, zero, suc, List, [], ◌∷◌, ◌++◌, map, max, sym, subst, arith}
+use Rattle.std.proofs.Math.Nat.{le-max_left, le-max_right, max-le}
 use Rattle.rhai_meaning.specs.Tree.{Expr, DynamicConstant, BoolConstant, IntegerConstant, CharConstant, StringConstant, UnitConstant, InterpolatedString, ArrayOf, MapOf, Variable, ThisPtr, Property, MethodCall, BlockExpr, FnCall, Dot, Index, And, Or, Coalesce, Exprs, no_exprs, expr, Pairs, no_pairs, pair, MaybeExpr, no_expr, an_expr, Arms, no_arms, arm, Stmt, Noop, If, Switch, While, Do, For, Var, Assignment, FnCallStmt, Block, TryCatch, ExprStmt, BreakLoop, Return, Import, Export, Share, Stmts, no_stmts, stmt}
 use Rattle.rhai_meaning.specs.Walk.{Node, OfExpr, OfStmt, Spot, LoopBody, Walk, arm_at, arms_at, listed, over_arms, over_expr, over_exprs, over_maybe, over_pairs, over_stmts, sum_of, total}
 use Rattle.rhai_walk.specs.Left.{left_of}
@@ -105,8 +106,34 @@ children_below (OfStmt s) = of_stmt s
 
 -- ---- one child after another
 
-pub below-start : (n : Node) (cs : Children) → left_of cs ≡ children n → AreBelow (size_of n) (left_of cs)
-below-start n cs e = subst (AreBelow (size_of n)) (sym e) (children_below n)
+-- the least number above the sizes of all
+abbrev pub above : List Child → ℕ
+above [] = 0
+above (c ∷ cs) = max (1 + size_of c.node) (above cs)
+
+below-above : (cs : List Child) → AreBelow (above cs) cs
+below-above [] = tt
+below-above (c ∷ cs) = (omega (arith, le-max_left (1 + size_of c.node) (above cs)), wider (above cs) (above (c ∷ cs)) cs (le-max_right (1 + size_of c.node) (above cs)) (below-above cs))
+
+above-least : (n : ℕ) (cs : List Child) → AreBelow n cs → above cs ≤ n
+above-least n [] h = omega arith
+above-least n (c ∷ cs) h = max-le (omega (arith, h.0)) (above-least n cs h.1)
+
+-- a loop over children begins, and goes on
+pub below-start : (cs ds : Children) → ds ≡ cs → AreBelow (above (left_of cs)) (left_of ds)
+below-start cs ds e = subst (λ es. AreBelow (above (left_of cs)) (left_of es)) (sym e) (below-above (left_of cs))
 
 pub below-next : (size : ℕ) (cs ds : Children) (c : lent.Child) → left_of cs ≡ child_of c ∷ left_of ds → AreBelow size (left_of cs) → (size_of (node_of c.node) < size) × AreBelow size (left_of ds)
 below-next size cs ds c e h = subst (AreBelow size) e h
+
+-- two functions, one over children, the other over what is below a node: each calls the other with less
+abbrev pub over_measure : Children → ℕ
+over_measure cs = 2 * above (left_of cs)
+
+abbrev pub below_measure : Node → ℕ
+below_measure n = 2 * size_of n + 1
+
+pub measure-falls : (n : Node) (cs : Children) → left_of cs ≡ children n → over_measure cs < below_measure n
+measure-falls n cs e =
+    let least : above (left_of cs) ≤ size_of n = above-least (size_of n) (left_of cs) (subst (AreBelow (size_of n)) (sym e) (children_below n)) in
+    omega (arith, least)

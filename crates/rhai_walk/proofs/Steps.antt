@@ -1,10 +1,11 @@
 -- The first of the arms that are listed.
-use Rattle.std.proofs.Common.{◌≡◌, ℕ, zero, suc, List, [], ◌∷◌, ◌++◌, Option, Some, None, slice_get, length, refl, sym, ap, ◌∙◌}
+use Rattle.std.proofs.Common.{◌≡◌, ℕ, zero, suc, List, [], ◌∷◌, ◌++◌, Option, Some, None, MatchOption, slice_get, length, refl, sym, ap, ◌∙◌}
 use Rattle.rhai_tree.specs.declared.expr.BinaryExpr.{BinaryExpr}
-use Rattle.rhai_meaning.specs.Walk.{arm_at, over_arms}
-use Rattle.rhai_reading.specs.Reading.{arms_of}
+use Rattle.rhai_meaning.specs.Walk.{arm_at, arm_of_default, over_arms}
+use Rattle.rhai_tree.specs.declared.switch.SwitchCasesCollection.{SwitchCasesCollection}
+use Rattle.rhai_reading.specs.Reading.{arms_of, expressions_of, table_of}
 use Rattle.rhai_walk.specs.Children.{Child, one_step}
-use Rattle.rhai_walk.specs.Left.{arm_children, arms_left, listed_left, places_left}
+use Rattle.rhai_walk.specs.Left.{arm_children, arms_left, default_left, listed_left, places_left}
 use Rattle.rhai_walk.specs.declared.arms.ListedArms.{ListedArms}
 use Rattle.std.specs.Borrow.{Bor}
 use Rattle.std.specs.Slice.{IsItemAt}
@@ -21,13 +22,21 @@ arm_lacks (c ∷ bs) zero e = absurd (let z : Some c ≡ None = e in cc)
 arm_lacks (c ∷ bs) (suc i) e = arm_lacks bs i e
 
 -- an arm that the table has, and a place past it, as what is left falls from one to the other
-pub arms-some : (l m : ListedArms) (i : ℕ) (b : Bor BinaryExpr) → m.arms ≡ l.arms → places_left l ≡ i ∷ places_left m → IsItemAt m.arms.now i (Some b) → arms_left l ≡ arm_children b.now ++ arms_left m
-arms-some l m i b same falls h =
-    ap (listed_left l.arms.now) falls ∙ ap (λ (bs : Bor (List BinaryExpr)). listed_left bs.now (i ∷ places_left m)) (sym same)
-    ∙ ap (λ (cs : List Child). cs ++ arms_left m) (arm_has m.arms.now i b.now (slice_get_read m.arms.now (length m.arms.now) i b.now refl h.3.0 h.1))
+pub arms-some : (l m : ListedArms) (bs : List BinaryExpr) (i : ℕ) (b : Bor BinaryExpr) → m.table ≡ l.table → places_left l ≡ i ∷ places_left m → bs ≡ expressions_of m.table.now → IsItemAt bs i (Some b) → arms_left l ≡ arm_children b.now ++ arms_left m
+arms-some l m bs i b same falls e h =
+    ap (listed_left (expressions_of l.table.now)) falls ∙ ap (λ (t : Bor SwitchCasesCollection). listed_left (expressions_of t.now) (i ∷ places_left m)) (sym same)
+    ∙ ap (λ (cs : List Child). cs ++ arms_left m) (arm_has (expressions_of m.table.now) i b.now (ap (λ as'. slice_get as' i) (sym e) ∙ slice_get_read bs (length bs) i b.now refl h.3.0 h.1))
 
-pub arms-none : (l m : ListedArms) (i : ℕ) (r : Option (Bor BinaryExpr)) → m.arms ≡ l.arms → places_left l ≡ i ∷ places_left m → IsItemAt m.arms.now i r → ((b : Bor BinaryExpr) → r ≡ Some b → ⊥) → arms_left l ≡ arms_left m
-arms-none l m i (Some b) same falls h other = absurd (other b refl)
-arms-none l m i None same falls h other =
-    ap (listed_left l.arms.now) falls ∙ ap (λ (bs : Bor (List BinaryExpr)). listed_left bs.now (i ∷ places_left m)) (sym same)
-    ∙ ap (λ (cs : List Child). cs ++ arms_left m) (arm_lacks m.arms.now i (slice_get_past m.arms.now i h.3))
+pub arms-none : (l m : ListedArms) (bs : List BinaryExpr) (i : ℕ) (r : Option (Bor BinaryExpr)) → m.table ≡ l.table → places_left l ≡ i ∷ places_left m → bs ≡ expressions_of m.table.now → IsItemAt bs i r → ((b : Bor BinaryExpr) → r ≡ Some b → ⊥) → arms_left l ≡ arms_left m
+arms-none l m bs i (Some b) same falls e h other = absurd (other b refl)
+arms-none l m bs i None same falls e h other =
+    ap (listed_left (expressions_of l.table.now)) falls ∙ ap (λ (t : Bor SwitchCasesCollection). listed_left (expressions_of t.now) (i ∷ places_left m)) (sym same)
+    ∙ ap (λ (cs : List Child). cs ++ arms_left m) (arm_lacks (expressions_of m.table.now) i (ap (λ as'. slice_get as' i) (sym e) ∙ slice_get_past bs i h.3))
+
+pub default-arm : (t : SwitchCasesCollection) (bs : List BinaryExpr) (i : ℕ) (r : Option (Bor BinaryExpr)) → (table_of t).default ≡ Some i → bs ≡ expressions_of t → IsItemAt bs i r → MatchOption r (default_left t ≡ []) (λ b. default_left t ≡ arm_children b.now)
+default-arm t bs i (Some b) given e h =
+    ap (λ d. listed_left (expressions_of t) (arm_of_default d)) given
+    ∙ ap (λ (cs : List Child). cs ++ []) (arm_has (expressions_of t) i b.now (ap (λ as'. slice_get as' i) (sym e) ∙ slice_get_read bs (length bs) i b.now refl h.3.0 h.1))
+default-arm t bs i None given e h =
+    ap (λ d. listed_left (expressions_of t) (arm_of_default d)) given
+    ∙ ap (λ (cs : List Child). cs ++ []) (arm_lacks (expressions_of t) i (ap (λ as'. slice_get as' i) (sym e) ∙ slice_get_past bs i h.3))

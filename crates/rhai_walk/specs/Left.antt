@@ -1,21 +1,18 @@
 -- The children that are still to come.
-use Rattle.std.specs.Prelude.{ℕ, Bool, true, false, List, [], ◌∷◌, ◌++◌, Option, Some, None, map}
-use Rattle.std.specs.Borrow.{Bor}
+use Rattle.std.specs.Prelude.{ℕ, Bool, true, false, List, [], ◌∷◌, ◌++◌, drop, map}
 use Rattle.rhai_parts.specs.declared.flags.ASTFlags.{ASTFlags}
 use Rattle.rhai_parts.specs.declared.ident.Ident.{Ident}
 use Rattle.rhai_tree.specs.declared.expr.BinaryExpr.{BinaryExpr}
 use Rattle.rhai_tree.specs.declared.expr.Expr.{Expr}
 use Rattle.rhai_tree.specs.declared.stmt.Stmt.{Stmt}
-use Rattle.rhai_meaning.specs.Walk.{OfExpr, LoopBody, RightSide, arm_of_default, arms_at, arms_of_cases, arms_of_ranges, over_arms, over_exprs, over_pairs, over_stmts}
-use Rattle.rhai_reading.specs.Reading.{arms_of, case_of, chain_flags, expr_of, exprs_of, pairs_of, range_of, stmts_of}
+use Rattle.rhai_tree.specs.declared.switch.SwitchCasesCollection.{SwitchCasesCollection}
+use Rattle.rhai_meaning.specs.Walk.{OfExpr, LoopBody, LeftSide, RightSide, arm_of_default, arms_at, arms_of_cases, arms_of_ranges, listed, over_arms, over_exprs, over_pairs, over_stmts}
+use Rattle.rhai_reading.specs.Reading.{arms_of, cases_of, chain_flags, expr_of, expressions_of, exprs_of, pairs_of, stmts_of, subject_of, table_of}
 use Rattle.rhai_walk.specs.Children.{Child, anywhere, one_step, placed_at}
-use Rattle.rhai_walk.specs.Nodes.{child_of}
-use Rattle.rhai_walk.specs.declared.arms.ArmExprs.{ArmExprs}
 use Rattle.rhai_walk.specs.declared.arms.ListedArms.{ListedArms}
 use Rattle.rhai_walk.specs.declared.children.Children.{Children}
-use Rattle.rhai_walk.specs.declared.node.Child as lent
-use Rattle.rhai_walk.specs.declared.tail.Tail.{Tail}
-use Rattle.rhai_walk.specs.declared.tail.Tail.TheVariants as tail
+use Rattle.rhai_walk.specs.declared.parts.Parts.{Parts}
+use Rattle.rhai_walk.specs.declared.parts.Parts.TheVariants as parts
 
 -- ---- of lists
 
@@ -43,46 +40,55 @@ arm_children b = anywhere (OfExpr (expr_of b.lhs)) ∷ anywhere (OfExpr (expr_of
 abbrev pub listed_left : List BinaryExpr → List ℕ → List Child
 listed_left bs is = arms_at [] (λ cs ds. cs ++ ds) (over_arms one_step (arms_of bs)) is
 
-abbrev pub ranges_left : ListedArms → List ℕ
-ranges_left l = arms_of_ranges (map range_of l.ranges.now) ++ arm_of_default l.default
+-- the place of the default, and its children
+abbrev pub default_of : SwitchCasesCollection → List ℕ
+default_of t = arm_of_default (table_of t).default
 
--- the places that are still to come
+abbrev pub default_left : SwitchCasesCollection → List Child
+default_left t = listed_left (expressions_of t) (default_of t)
+
+-- the places that are still to come: of ranges, and of cases before them
+abbrev pub ranges_left : ListedArms → List ℕ
+ranges_left l = drop l.taken (arms_of_ranges (table_of l.table.now).ranges) ++ default_of l.table.now
+
 abbrev pub places_left : ListedArms → List ℕ
-places_left l = l.places.now ++ arms_of_cases (map case_of l.cases) ++ ranges_left l
+places_left l = drop l.taken (arms_of_cases (drop l.cases (table_of l.table.now).cases) ++ arms_of_ranges (table_of l.table.now).ranges) ++ default_of l.table.now
 
 abbrev pub arms_left : ListedArms → List Child
-arms_left l = listed_left l.arms.now (places_left l)
-
--- the answer of an arm whose condition was taken comes first
-abbrev pub answers_left : Option (Bor Expr) → List Child → List Child
-answers_left None cs = cs
-answers_left (Some e) cs = anywhere (OfExpr (expr_of e.now)) ∷ cs
-
-abbrev pub arm_exprs_left : ArmExprs → List Child
-arm_exprs_left l = answers_left l.answer (arms_left l.arms)
+arms_left l = listed_left (expressions_of l.table.now) (places_left l)
 
 -- ---- of a node
 
--- the right side of a `.` or an index
+-- the sides of a `.` or an index
+abbrev pub left_child : BinaryExpr → Child
+left_child sides = placed_at LeftSide (anywhere (OfExpr (expr_of sides.lhs)))
+
 abbrev pub right_child : Bool → BinaryExpr → ASTFlags → Child
 right_child is_dot sides options = placed_at (RightSide is_dot (chain_flags options) (expr_of sides.rhs)) (anywhere (OfExpr (expr_of sides.rhs)))
 
-abbrev pub left_of_tail : Tail → List Child
-left_of_tail tail.Nothing = []
-left_of_tail (tail.Expr e) = anywhere (OfExpr (expr_of e.now)) ∷ []
-left_of_tail (tail.RightOfDot sides options) = right_child true sides.now options.now ∷ []
-left_of_tail (tail.RightOfIndex sides options) = right_child false sides.now options.now ∷ []
-left_of_tail (tail.Exprs es) = exprs_left es.now
-left_of_tail (tail.Members ms) = members_left ms.now
-left_of_tail (tail.Statements ss) = statements_left ss.now
-left_of_tail (tail.Loop ss) = loop_left ss.now
-left_of_tail (tail.Blocks body branch) = blocks_left body.now branch.now
-left_of_tail (tail.Arms exprs) = arm_exprs_left exprs
+abbrev pub left_of_parts : Parts → List Child
+left_of_parts parts.Nothing = []
+left_of_parts (parts.Expr e) = anywhere (OfExpr (expr_of e.now)) ∷ []
+left_of_parts (parts.Sides sides) = arm_children sides.now
+left_of_parts (parts.Dot sides options) = left_child sides.now ∷ right_child true sides.now options.now ∷ []
+left_of_parts (parts.RightOfDot sides options) = right_child true sides.now options.now ∷ []
+left_of_parts (parts.Index sides options) = left_child sides.now ∷ right_child false sides.now options.now ∷ []
+left_of_parts (parts.RightOfIndex sides options) = right_child false sides.now options.now ∷ []
+left_of_parts (parts.Exprs es) = exprs_left es.now
+left_of_parts (parts.Members ms) = members_left ms.now
+left_of_parts (parts.Statements ss) = statements_left ss.now
+left_of_parts (parts.Choice flow) = anywhere (OfExpr (expr_of flow.now.expr)) ∷ blocks_left flow.now.body.block flow.now.branch.block
+left_of_parts (parts.Blocks body flow) = blocks_left body.now flow.now.branch.block
+left_of_parts (parts.Loop flow) = anywhere (OfExpr (expr_of flow.now.expr)) ∷ loop_left flow.now.body.block
+left_of_parts (parts.LoopBody ss) = loop_left ss.now
+left_of_parts (parts.Switch switch) = anywhere (OfExpr (expr_of (subject_of switch.now))) ∷ listed_left (expressions_of (cases_of switch.now)) (listed (table_of (cases_of switch.now)))
+left_of_parts (parts.Arms arms) = arms_left arms
+left_of_parts (parts.Answers arms) = drop 1 (arms_left arms)
 
--- none comes after none
-abbrev pub left_from : Option lent.Child → List Child → List Child
-left_from None cs = []
-left_from (Some c) cs = child_of c ∷ cs
+-- those of a leaf
+abbrev pub is_nothing : Parts → Bool
+is_nothing parts.Nothing = true
+is_nothing p = false
 
 abbrev pub left_of : Children → List Child
-left_of c = left_from c.first (left_of_tail c.tail)
+left_of c = left_of_parts c.parts

@@ -1,115 +1,83 @@
 //! The arms that the table of a `switch` lists.
 
-#![tactic(auto, using(rhai_reading::specs::Reading::shapes, rhai_reading::proofs::Ranges::ranges))]
+#![tactic(auto, using(rhai_reading::specs::Reading::shapes))]
 
 ghost use Rattle.std.specs.Prelude.{◌≡◌, [], ◌∷◌, ◌++◌, MatchOption};
-ghost use Rattle.rhai_walk.specs.Left.{arm_children, arm_exprs_left, arms_left, listed_left, places_left, ranges_left};
-ghost use Rattle.rhai_meaning.specs.Walk.{OfExpr, listed};
-ghost use Rattle.rhai_reading.specs.Reading.{expr_of, expressions_of, table_of};
-ghost use Rattle.rhai_walk.specs.Children.{anywhere};
+ghost use Rattle.rhai_walk.specs.Left.{arm_children, arms_left, default_left, default_of, listed_left, places_left, ranges_left};
+ghost use Rattle.rhai_meaning.specs.Walk.{listed};
+ghost use Rattle.rhai_reading.specs.Reading.{expressions_of, table_of};
 
-use indexmap::map::Slice;
-use rhai_base::{Dynamic, RangeCase};
-use rhai_tree::{BinaryExpr, CaseBlocksList, Expr, SwitchCasesCollection};
+use rhai_tree::{BinaryExpr, SwitchCasesCollection};
 
-/// The expressions of listed arms: of each its condition, then its answer.
-#[derive(Drop)]
-pub(crate) struct ArmExprs<'a> {
-    arms: ListedArms<'a>,
-    answer: Option<&'a Expr>,
-}
-
-impl<'a> ArmExprs<'a> {
-    /// Those of a table.
-    pub(crate) fn of(table: &'a SwitchCasesCollection) -> ArmExprs<'a>
-        ensures { arm_exprs_left result ≡ listed_left (expressions_of table.now) (listed (table_of table.now)) }
-    {
-        ArmExprs {
-            arms: ListedArms::of(table),
-            answer: None,
-        }
-    }
-
-    /// Takes the first.
-    pub(crate) fn next(&mut self) -> Option<&'a Expr>
-        ensures { MatchOption result (arm_exprs_left self.old ≡ []) (λ e. arm_exprs_left self.old ≡ anywhere (OfExpr (expr_of e.now)) ∷ arm_exprs_left self.new) }
-    {
-        if let Some(answer) = self.answer {
-            self.answer = None;
-            return Some(answer);
-        }
-        let arm = self.arms.next()?;
-        self.answer = Some(&arm.rhs);
-        Some(&arm.lhs)
-    }
-}
-
-/// Arms, each time that the table lists them: by cases, then by ranges, then as the default.
-#[derive(Drop)]
-struct ListedArms<'a> {
-    arms: &'a [BinaryExpr],
-    places: &'a [usize],
-    cases: Slice<'a, Dynamic, CaseBlocksList>,
-    ranges: &'a [RangeCase],
-    default: Option<usize>,
+/// The arms that are still to come, each time that the table lists them: by cases, then by ranges; the default is apart. It
+/// counts and holds no list: a walk has room for it at each node that has children.
+#[derive(Clone, Copy)]
+pub(crate) struct ListedArms<'a> {
+    table: &'a SwitchCasesCollection,
+    /// The cases that were gone through.
+    cases: usize,
+    /// How many places were taken of those that the other cases and the ranges list.
+    taken: usize,
 }
 
 impl<'a> ListedArms<'a> {
     /// Those of a table.
-    fn of(table: &'a SwitchCasesCollection) -> ListedArms<'a>
-        ensures arms { result.arms.now ≡ expressions_of table.now }
-        ensures places { places_left result ≡ listed (table_of table.now) }
+    pub(crate) fn of(table: &'a SwitchCasesCollection) -> ListedArms<'a>
+        ensures { arms_left result ≡ listed_left (expressions_of table.now) (listed (table_of table.now)) }
     {
         ListedArms {
-            arms: table.expressions.as_slice(),
-            places: &[],
-            cases: table.cases.as_map().as_slice(),
-            ranges: table.ranges.as_slice(),
-            default: table.def_case,
+            table,
+            cases: 0,
+            taken: 0,
         }
     }
 
     /// Takes the first that the table has. A place past the table names none.
-    fn next(&mut self) -> Option<&'a BinaryExpr>
-        ensures { MatchOption result (arms_left self.old ≡ []) (λ b. arms_left self.old ≡ arm_children b.now ++ arms_left self.new) }
+    pub(crate) fn next(&mut self) -> Option<&'a BinaryExpr>
+        ensures table { self.new.table ≡ self.old.table }
+        ensures arms { MatchOption result (arms_left self.old ≡ default_left self.old.table.now) (λ b. arms_left self.old ≡ arm_children b.now ++ arms_left self.new) }
     {
         while let Some(place) = self.next_place() {
-            if let Some(arm) = self.arms.get(place) {
+            if let Some(arm) = self.table.expressions.as_slice().get(place) {
                 return Some(arm);
             }
         }
         None
     }
 
-    /// Takes the first place that is listed.
-    fn next_place(&mut self) -> Option<usize>
-        ensures arms { self.new.arms ≡ self.old.arms }
-        ensures places { MatchOption result (places_left self.old ≡ []) (λ i. places_left self.old ≡ i ∷ places_left self.new) }
+    /// The arm of the default, if the table has it.
+    pub(crate) fn default(self) -> Option<&'a BinaryExpr>
+        ensures { MatchOption result (default_left self.entry.table.now ≡ []) (λ b. default_left self.entry.table.now ≡ arm_children b.now) }
     {
-        while self.places.is_empty() {
-            let Some(((_, list), cases)) = self.cases.split_first() else {
-                return self.next_range();
-            };
-            self.places = list.blocks.as_slice();
-            self.cases = cases;
-        }
-        let (place, places) = self.places.split_first()?;
-        self.places = places;
-        Some(*place)
+        self.table.expressions.as_slice().get(self.table.def_case?)
     }
 
-    /// Takes the place of the first range, then that of the default.
-    fn next_range(&mut self) -> Option<usize>
-        ensures arms { self.new.arms ≡ self.old.arms }
-        ensures others { (self.new.places ≡ self.old.places) × (self.new.cases ≡ self.old.cases) }
-        ensures places { MatchOption result (ranges_left self.old ≡ []) (λ i. ranges_left self.old ≡ i ∷ ranges_left self.new) }
+    /// Takes the first place that is listed.
+    fn next_place(&mut self) -> Option<usize>
+        ensures table { self.new.table ≡ self.old.table }
+        ensures places { MatchOption result (places_left self.old ≡ default_of self.old.table.now) (λ i. places_left self.old ≡ i ∷ places_left self.new) }
     {
-        match self.ranges.split_first() {
-            Some((range, ranges)) => {
-                self.ranges = ranges;
-                Some(range.index())
+        let cases = self.table.cases.as_map();
+        while self.cases < cases.len() {
+            let list = &cases[self.cases];
+            if let Some(place) = list.blocks.as_slice().get(self.taken) {
+                self.taken += 1;
+                return Some(*place);
             }
-            None => self.default.take(),
+            self.cases += 1;
+            self.taken -= list.blocks.len();
         }
+        self.next_range()
+    }
+
+    /// Takes the place of the first range, where no case is left.
+    fn next_range(&mut self) -> Option<usize>
+        ensures table { self.new.table ≡ self.old.table }
+        ensures cases { self.new.cases ≡ self.old.cases }
+        ensures places { MatchOption result (ranges_left self.old ≡ default_of self.old.table.now) (λ i. ranges_left self.old ≡ i ∷ ranges_left self.new) }
+    {
+        let range = self.table.ranges.as_slice().get(self.taken)?;
+        self.taken += 1;
+        Some(range.index())
     }
 }

@@ -5,8 +5,8 @@
 mod arms;
 mod children;
 mod node;
+mod parts;
 mod stop;
-mod tail;
 mod walk;
 
 pub use children::Children;

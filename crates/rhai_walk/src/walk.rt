@@ -4,7 +4,8 @@
 
 ghost use Rattle.rhai_meaning.specs.Paths.{expr_paths, listing, stmt_paths, stmts_paths};
 ghost use Rattle.rhai_reading.specs.Reading.{expr_of, stmt_of, stmts_of};
-ghost use Rattle.rhai_walk.specs.Children.{over_node};
+ghost use Rattle.rhai_walk.specs.Children.{over_children, over_parts};
+ghost use Rattle.rhai_walk.specs.Left.{left_of};
 ghost use Rattle.rhai_walk.specs.Nodes.{node_of};
 ghost use Rattle.rhai_walk.specs.Walking.{Enters, Walks, ended};
 
@@ -12,6 +13,7 @@ use crate::stop::{Stop, answered};
 use crate::{ASTNode, Children};
 use rhai_base::OutOfMemory;
 use rhai_tree::{Expr, Stmt};
+use std::slice;
 
 /// Walks over an expression, as `Walk::walk` says.
 pub fn walk_expr<'a, F: FnMut(&[ASTNode]) -> bool>(
@@ -23,7 +25,7 @@ pub fn walk_expr<'a, F: FnMut(&[ASTNode]) -> bool>(
     ensures callable { F.IsAlwaysCallable on_node.new }
     ensures walks { Walks F.FnMut path.old.items result on_node.old (expr_paths (expr_of expr.now)) on_node.new path.new.items }
 {
-    answered(visit(ASTNode::Expr(expr), path, on_node))
+    answered(visit(Children::only(expr), path, on_node))
 }
 
 /// Walks over a statement, as `Walk::walk` says.
@@ -36,7 +38,7 @@ pub fn walk_stmt<'a, F: FnMut(&[ASTNode]) -> bool>(
     ensures callable { F.IsAlwaysCallable on_node.new }
     ensures walks { Walks F.FnMut path.old.items result on_node.old (stmt_paths (stmt_of stmt.now)) on_node.new path.new.items }
 {
-    answered(visit(ASTNode::Stmt(stmt), path, on_node))
+    answered(visit(Children::of_statements(slice::from_ref(stmt)), path, on_node))
 }
 
 /// Walks over the statements of a list, one after another, as `Walk::walk` does over one. It is not in rhai.
@@ -49,7 +51,7 @@ pub fn walk_statements<'a, F: FnMut(&[ASTNode]) -> bool>(
     ensures callable { F.IsAlwaysCallable on_node.new }
     ensures walks { Walks F.FnMut path.old.items result on_node.old (stmts_paths (stmts_of statements.now)) on_node.new path.new.items }
 {
-    answered(visit_stmts(statements, path, on_node))
+    answered(visit(Children::of_statements(statements), path, on_node))
 }
 
 /// Goes down to a node and shows the path to it.
@@ -70,41 +72,40 @@ fn enter<'a, F: FnMut(&[ASTNode]) -> bool>(
     }
 }
 
-/// Shows the path to a node, then those to the nodes below it.
+/// Shows the path to each child, and those to the nodes below it. A leaf is seen without a call.
+#[cycle(walk)]
 fn visit<'a, F: FnMut(&[ASTNode]) -> bool>(
+    children: Children<'a>,
+    path: &mut Vec<ASTNode<'a>>,
+    on_node: &mut F,
+) -> Result<(), Stop>
+    requires { F.IsAlwaysCallable on_node.old }
+    ensures callable { F.IsAlwaysCallable on_node.new }
+    ensures walks { Walks F.FnMut path.old.items (ended result) on_node.old (over_children listing (left_of children.entry)) on_node.new path.new.items }
+{
+    for child in children {
+        enter(child.node, path, on_node)?;
+        visit_below(child.node, path, on_node)?;
+        path.pop();
+    }
+    Ok(())
+}
+
+/// Shows the paths to the nodes below one.
+#[cycle(walk)]
+fn visit_below<'a, F: FnMut(&[ASTNode]) -> bool>(
     node: ASTNode<'a>,
     path: &mut Vec<ASTNode<'a>>,
     on_node: &mut F,
 ) -> Result<(), Stop>
     requires { F.IsAlwaysCallable on_node.old }
     ensures callable { F.IsAlwaysCallable on_node.new }
-    ensures walks { Walks F.FnMut path.old.items (ended result) on_node.old (over_node listing (node_of node.entry)) on_node.new path.new.items }
+    ensures walks { Walks F.FnMut path.old.items (ended result) on_node.old (over_parts listing (node_of node.entry)) on_node.new path.new.items }
 {
-    enter(node, path, on_node)?;
     let children = Children::of(node);
-    // Most nodes are leaves, and beginning the loop costs more than this test.
-    if children.is_empty() {
-        path.pop();
-        return Ok(());
+    if children.are_of_leaf() {
+        Ok(())
+    } else {
+        visit(children, path, on_node)
     }
-    for child in children {
-        visit(child.node, path, on_node)?;
-    }
-    path.pop();
-    Ok(())
-}
-
-fn visit_stmts<'a, F: FnMut(&[ASTNode]) -> bool>(
-    stmts: &'a [Stmt],
-    path: &mut Vec<ASTNode<'a>>,
-    on_node: &mut F,
-) -> Result<(), Stop>
-    requires { F.IsAlwaysCallable on_node.old }
-    ensures callable { F.IsAlwaysCallable on_node.new }
-    ensures walks { Walks F.FnMut path.old.items (ended result) on_node.old (stmts_paths (stmts_of stmts.now)) on_node.new path.new.items }
-{
-    for stmt in stmts {
-        visit(ASTNode::Stmt(stmt), path, on_node)?;
-    }
-    Ok(())
 }

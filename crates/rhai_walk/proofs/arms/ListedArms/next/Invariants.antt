@@ -3,7 +3,10 @@ use Rattle.rhai_walk.specs.Left.{arms_left, places_left}
 use Rattle.rhai_walk.proofs.arms.ListedArms.next.Given as goal
 
 abbrev pub invariant-loop-place : goal.invariant-loop-place
-invariant-loop-place l = arms_left l.self ≡ arms_left l.fn.self
+invariant-loop-place l = record {
+  table : l.self.table ≡ l.fn.self.table;
+  arms : arms_left l.self ≡ arms_left l.fn.self;
+}
 
 abbrev pub decreases-loop-place : goal.decreases-loop-place
 decreases-loop-place l = length (places_left l.self)

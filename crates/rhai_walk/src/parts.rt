@@ -1,0 +1,248 @@
+//! What a node is made of, as far as a walk goes into it.
+
+#![tactic(auto, using(rhai_reading::specs::Reading::shapes))]
+
+ghost use Rattle.std.specs.Prelude.{◌≡◌, [], ◌∷◌, ◌++◌, MatchOption};
+ghost use Rattle.rhai_walk.specs.Children.{anywhere, children, one_step, placed_at};
+ghost use Rattle.rhai_walk.specs.Left.{arm_children, arms_left, blocks_left, exprs_left, left_of_parts, loop_left, members_left, right_child, statements_left};
+ghost use Rattle.rhai_walk.specs.Nodes.{child_of};
+ghost use Rattle.rhai_meaning.specs.Walk.{LeftSide, OfExpr, OfStmt, over_maybe};
+ghost use Rattle.rhai_reading.specs.Reading.{expr_of, maybe_of, stmt_of};
+
+use crate::arms::ListedArms;
+use crate::node::{ASTNode, Child, Spot};
+use rhai_base::{ASTFlags, Boxed, Ident};
+use rhai_tree::{BinaryExpr, Expr, FlowControl, Stmt, SwitchBlock};
+
+/// The parts of a node that are still to come.
+#[derive(Clone, Copy)]
+pub(crate) enum Parts<'a> {
+    /// None.
+    Nothing,
+    /// An expression.
+    Expr(&'a Expr),
+    /// Two expressions, where it does not matter on which side one stands.
+    Sides(&'a BinaryExpr),
+    /// Both sides of a `.`.
+    Dot(&'a BinaryExpr, &'a ASTFlags),
+    /// The right side of a `.`.
+    RightOfDot(&'a BinaryExpr, &'a ASTFlags),
+    /// Both sides of an index.
+    Index(&'a BinaryExpr, &'a ASTFlags),
+    /// The right side of an index.
+    RightOfIndex(&'a BinaryExpr, &'a ASTFlags),
+    /// Expressions.
+    Exprs(&'a [Expr]),
+    /// The values of a map literal.
+    Members(&'a [(Ident, Expr)]),
+    /// Statements.
+    Statements(&'a [Stmt]),
+    /// A condition, the statements of a body, and those of a branch.
+    Choice(&'a FlowControl),
+    /// Statements of the body, and those of the branch.
+    Blocks(&'a [Stmt], &'a FlowControl),
+    /// A guard or an iterable, and the statements of a loop.
+    Loop(&'a FlowControl),
+    /// The statements of a loop.
+    LoopBody(&'a [Stmt]),
+    /// The subject of a `switch`, and its arms.
+    Switch(&'a SwitchBlock),
+    /// The conditions and answers of arms.
+    Arms(ListedArms<'a>),
+    /// The same without the first condition.
+    Answers(ListedArms<'a>),
+}
+
+impl<'a> Parts<'a> {
+    /// Those of an expression.
+    #[inline(always)]
+    pub(crate) fn of_expr(expr: &'a Expr) -> Parts<'a>
+        ensures { left_of_parts result ≡ children (OfExpr (expr_of expr.now)) }
+    {
+        match expr {
+            Expr::DynamicConstant(_, _)
+            | Expr::BoolConstant(_, _)
+            | Expr::IntegerConstant(_, _)
+            | Expr::CharConstant(_, _)
+            | Expr::StringConstant(_, _)
+            | Expr::Unit(_)
+            | Expr::Variable(_, _, _)
+            | Expr::ThisPtr(_)
+            | Expr::Property(_, _) => Parts::Nothing,
+            Expr::InterpolatedString(list, _)
+            | Expr::Array(list, _)
+            | Expr::And(list, _)
+            | Expr::Or(list, _)
+            | Expr::Coalesce(list, _) => Parts::Exprs(list.get().as_slice()),
+            Expr::Map(map, _) => Parts::Members(map.get().0.as_slice()),
+            Expr::MethodCall(call, _) | Expr::FnCall(call, _) => Parts::Exprs(
+                call.get().args.as_slice(),
+            ),
+            Expr::Stmt(block) => Parts::Statements(block.get().statements()),
+            Expr::Dot(sides, options, _) => Parts::Dot(sides.get(), options),
+            Expr::Index(sides, options, _) => Parts::Index(sides.get(), options),
+        }
+    }
+
+    /// Those of a statement.
+    #[inline(always)]
+    pub(crate) fn of_stmt(stmt: &'a Stmt) -> Parts<'a>
+        ensures { left_of_parts result ≡ children (OfStmt (stmt_of stmt.now)) }
+    {
+        match stmt {
+            Stmt::Noop(_) | Stmt::Export(_, _) | Stmt::Share(_) => Parts::Nothing,
+            Stmt::If(flow, _) => Parts::Choice(flow.get()),
+            Stmt::Switch(switch, _) => Parts::Switch(switch.get()),
+            Stmt::While(flow, _) | Stmt::Do(flow, _, _) => Parts::Loop(flow.get()),
+            Stmt::For(parts, _) => Parts::Loop(&parts.get().2),
+            Stmt::Var(parts, _, _) => Parts::Expr(&parts.get().1),
+            Stmt::Assignment(parts) => Parts::Sides(&parts.get().1),
+            Stmt::FnCall(call, _) => Parts::Exprs(call.get().args.as_slice()),
+            Stmt::Block(block) => Parts::Statements(block.get().statements()),
+            Stmt::TryCatch(flow, _) => Parts::of_blocks(flow.get()),
+            Stmt::Expr(expr) => Parts::Expr(expr.get()),
+            Stmt::BreakLoop(expr, _, _) | Stmt::Return(expr, _, _) => Parts::of_optional(expr),
+            Stmt::Import(parts, _) => Parts::Expr(&parts.get().0),
+        }
+    }
+
+    #[inline(always)]
+    fn of_optional(expr: &'a Option<Boxed<Expr>>) -> Parts<'a>
+        ensures { left_of_parts result ≡ over_maybe one_step (maybe_of expr.now) }
+    {
+        match expr {
+            Some(expr) => Parts::Expr(expr.get()),
+            None => Parts::Nothing,
+        }
+    }
+
+    #[inline(always)]
+    fn of_blocks(flow: &'a FlowControl) -> Parts<'a>
+        ensures { left_of_parts result ≡ blocks_left flow.now.body.block flow.now.branch.block }
+    {
+        Parts::Blocks(flow.body.statements(), flow)
+    }
+
+    /// The first child, and the parts after it.
+    #[inline(always)]
+    pub(crate) fn split_first(self) -> Option<(Child<'a>, Parts<'a>)>
+        ensures { MatchOption result (left_of_parts self.entry ≡ []) (λ p. left_of_parts self.entry ≡ child_of p.0 ∷ left_of_parts p.1) }
+    {
+        match self {
+            Parts::Nothing => None,
+            Parts::Expr(expr) => Some((anywhere(expr), Parts::Nothing)),
+            Parts::Sides(sides) => Some((anywhere(&sides.lhs), Parts::Expr(&sides.rhs))),
+            Parts::Dot(sides, options) => {
+                Some((left_side(sides), Parts::RightOfDot(sides, options)))
+            }
+            Parts::RightOfDot(sides, options) => {
+                Some((right_side(sides, true, *options), Parts::Nothing))
+            }
+            Parts::Index(sides, options) => {
+                Some((left_side(sides), Parts::RightOfIndex(sides, options)))
+            }
+            Parts::RightOfIndex(sides, options) => {
+                Some((right_side(sides, false, *options), Parts::Nothing))
+            }
+            Parts::Exprs(exprs) => first_expr(exprs),
+            Parts::Members(members) => first_member(members),
+            Parts::Statements(statements) => first_statement(statements),
+            Parts::Choice(flow) => Some((anywhere(&flow.expr), Parts::of_blocks(flow))),
+            Parts::Blocks(body, flow) => first_of_blocks(body, flow),
+            Parts::Loop(flow) => {
+                Some((anywhere(&flow.expr), Parts::LoopBody(flow.body.statements())))
+            }
+            Parts::LoopBody(statements) => first_of_loop(statements),
+            Parts::Switch(switch) => {
+                Some((anywhere(&switch.expr), Parts::Arms(ListedArms::of(&switch.cases))))
+            }
+            Parts::Arms(arms) => {
+                let (arm, _) = first_arm(arms)?;
+                Some((anywhere(&arm.lhs), Parts::Answers(arms)))
+            }
+            Parts::Answers(arms) => {
+                let (arm, rest) = first_arm(arms)?;
+                Some((anywhere(&arm.rhs), rest))
+            }
+        }
+    }
+}
+
+/// An expression, where it does not matter.
+fn anywhere<'a>(expr: &'a Expr) -> Child<'a>
+    ensures { child_of result ≡ anywhere (OfExpr (expr_of expr.now)) }
+{
+    ASTNode::Expr(expr).anywhere()
+}
+
+/// The left side of a `.` or an index.
+fn left_side<'a>(sides: &'a BinaryExpr) -> Child<'a>
+    ensures { child_of result ≡ placed_at LeftSide (anywhere (OfExpr (expr_of sides.now.lhs))) }
+{
+    Child {
+        node: ASTNode::Expr(&sides.lhs),
+        spot: Spot::LeftSide,
+    }
+}
+
+/// The right side of a `.` or an index.
+fn right_side<'a>(sides: &'a BinaryExpr, is_dot: bool, options: ASTFlags) -> Child<'a>
+    ensures { child_of result ≡ right_child is_dot sides.now options }
+{
+    Child {
+        node: ASTNode::Expr(&sides.rhs),
+        spot: Spot::RightSide(is_dot, options, &sides.rhs),
+    }
+}
+
+fn first_expr<'a>(exprs: &'a [Expr]) -> Option<(Child<'a>, Parts<'a>)>
+    ensures { MatchOption result (exprs_left exprs.now ≡ []) (λ p. exprs_left exprs.now ≡ child_of p.0 ∷ left_of_parts p.1) }
+{
+    let (first, rest) = exprs.split_first()?;
+    Some((anywhere(first), Parts::Exprs(rest)))
+}
+
+fn first_member<'a>(members: &'a [(Ident, Expr)]) -> Option<(Child<'a>, Parts<'a>)>
+    ensures { MatchOption result (members_left members.now ≡ []) (λ p. members_left members.now ≡ child_of p.0 ∷ left_of_parts p.1) }
+{
+    let (first, rest) = members.split_first()?;
+    Some((anywhere(&first.1), Parts::Members(rest)))
+}
+
+fn first_statement<'a>(statements: &'a [Stmt]) -> Option<(Child<'a>, Parts<'a>)>
+    ensures { MatchOption result (statements_left statements.now ≡ []) (λ p. statements_left statements.now ≡ child_of p.0 ∷ left_of_parts p.1) }
+{
+    let (first, rest) = statements.split_first()?;
+    Some((ASTNode::Stmt(first).anywhere(), Parts::Statements(rest)))
+}
+
+fn first_of_blocks<'a>(body: &'a [Stmt], flow: &'a FlowControl) -> Option<(Child<'a>, Parts<'a>)>
+    ensures { MatchOption result (blocks_left body.now flow.now.branch.block ≡ []) (λ p. blocks_left body.now flow.now.branch.block ≡ child_of p.0 ∷ left_of_parts p.1) }
+{
+    match body.split_first() {
+        Some((first, rest)) => Some((ASTNode::Stmt(first).anywhere(), Parts::Blocks(rest, flow))),
+        None => first_statement(flow.branch.statements()),
+    }
+}
+
+fn first_of_loop<'a>(statements: &'a [Stmt]) -> Option<(Child<'a>, Parts<'a>)>
+    ensures { MatchOption result (loop_left statements.now ≡ []) (λ p. loop_left statements.now ≡ child_of p.0 ∷ left_of_parts p.1) }
+{
+    let (first, rest) = statements.split_first()?;
+    let child = Child {
+        node: ASTNode::Stmt(first),
+        spot: Spot::LoopBody,
+    };
+    Some((child, Parts::LoopBody(rest)))
+}
+
+/// The first arm, and what comes after it: other arms, but for the default.
+fn first_arm<'a>(arms: ListedArms<'a>) -> Option<(&'a BinaryExpr, Parts<'a>)>
+    ensures { MatchOption result (arms_left arms.entry ≡ []) (λ p. arms_left arms.entry ≡ arm_children p.0.now ++ left_of_parts p.1) }
+{
+    let mut arms = arms;
+    match arms.next() {
+        Some(arm) => Some((arm, Parts::Arms(arms))),
+        None => Some((arms.default()?, Parts::Nothing)),
+    }
+}
