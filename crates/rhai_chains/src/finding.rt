@@ -14,11 +14,11 @@ ghost use Rattle.rhai_machine.specs.Targets.{Finds, found_in};
 ghost use Rattle.rhai_meaning.specs.Chains as chains;
 ghost use Rattle.rhai_machine.specs.Placing as spec;
 
-use crate::asking::ask_for;
 use rhai_base::{Dynamic, ImmutableString, Seq};
 use rhai_host::Host;
 use rhai_machine::{Current, Found, Machine, PropertyNames, at_key};
 use rhai_places::{Indexed, PlaceKey, index};
+use rhai_receivers::ask_for;
 use rhai_state::{Interrupt, State};
 use std::alloc::{AllocError, Global};
 

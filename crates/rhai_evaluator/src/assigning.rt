@@ -17,9 +17,9 @@ ghost use Rattle.rhai_meaning.specs.Tree as tree;
 use crate::evaluator::Evaluator;
 use rhai_ast::BinaryExpr;
 use rhai_base::{Dynamic, OpAssignment};
-use rhai_chains::left_side;
 use rhai_forms::LeftSide;
 use rhai_host::{Host, Stuck};
+use rhai_receivers::left_side;
 use rhai_state::{Interrupt, State};
 
 impl<'a, H: Host> Evaluator<'a, H> {

@@ -3,7 +3,7 @@ use Rattle.std.proofs.lemmas.Result.{err_from_is_err_and}
 use Rattle.rhai_values.specs.Reading.{value_of}
 use Rattle.rhai_machine.specs.Setting.{setting}
 use Rattle.rhai_machine.proofs.Chaining.{host_sets, host_stops}
-use Rattle.rhai_chains.proofs.asking.set_by_host.Goals as goal
+use Rattle.rhai_receivers.proofs.asking.set_by_host.Goals as goal
 
 pub returns-in_err-receiver-2 : goal.returns-in_err-receiver-2
 returns-in_err-receiver-2 g c =
