@@ -50,7 +50,7 @@ fn flags(text: &str, said: &Said) {
     }
 }
 
-/// Adds the flag to the statement, or to the expression that it is.
+/// Adds the flag to the first statement, or to the expression that it is.
 fn say_flagged(flag: ASTFlags, statements: &mut [Stmt], said: &Said) {
     if let Some(statement) = statements.first_mut() {
         add(statement, flag);

@@ -41,7 +41,7 @@ fn is_met<A: Answers>(answers: &A, row: &str, said: &Said) -> bool {
     is_met
 }
 
-/// The answer, and why it is not whole.
+/// The answer, and on a line of its own why it is not whole.
 fn answered<A: Answers>(alloc: Global, answers: &A, asked: &str) -> String {
     let (question, text) = split(asked, " ");
     let said = Said::new(alloc, answers.of_copies());
@@ -49,9 +49,9 @@ fn answered<A: Answers>(alloc: Global, answers: &A, asked: &str) -> String {
         said.want("a question");
     }
     match said.fault() {
-        Some(Unread::NoMemory) => said.put("unread: memory"),
+        Some(Unread::NoMemory) => said.line("unread: memory"),
         Some(Unread::Wanted(what)) => {
-            said.put("unread: ");
+            said.line("unread: ");
             said.put(what);
         }
         None => {}
