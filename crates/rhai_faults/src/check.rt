@@ -39,7 +39,11 @@ pub fn check_functions(alloc: Global, functions: &[Rc<ScriptFuncDef>]) -> Result
 pub fn check_stmts(alloc: Global, statements: &[Stmt], in_loop: bool) -> Result<(), TreeFault>
     ensures { Finds (found_stmts statements.now in_loop) result }
 {
-    check_children(alloc, Children::of_statements(statements), Around::whole(in_loop))
+    check_children(
+        alloc,
+        Children::of_statements(statements),
+        Around::whole(in_loop),
+    )
 }
 
 /// The first fault of children: of each its own, then those of the nodes below it.

@@ -3,16 +3,16 @@
 #![tactic(auto, using(rhai_reading::specs::Reading::shapes))]
 
 ghost use Rattle.std.specs.Prelude.{◌≡◌, [], ◌∷◌, ◌++◌, MatchOption};
-ghost use Rattle.rhai_walk.specs.Children.{anywhere, children, one_step, placed_at};
-ghost use Rattle.rhai_walk.specs.Left.{arm_children, arms_left, blocks_left, exprs_left, left_of_parts, loop_left, members_left, right_child, statements_left};
+ghost use Rattle.rhai_walk.specs.Children.{anywhere, children, one_step};
+ghost use Rattle.rhai_walk.specs.Left.{arm_children, arms_left, blocks_left, exprs_left, left_child, left_of_parts, listed_left, loop_left, members_left, right_child, statements_left};
 ghost use Rattle.rhai_walk.specs.Nodes.{child_of};
-ghost use Rattle.rhai_meaning.specs.Walk.{LeftSide, OfExpr, OfStmt, over_maybe};
-ghost use Rattle.rhai_reading.specs.Reading.{expr_of, maybe_of, stmt_of};
+ghost use Rattle.rhai_meaning.specs.Walk.{OfExpr, OfStmt, listed, over_maybe};
+ghost use Rattle.rhai_reading.specs.Reading.{expr_of, expressions_of, maybe_of, stmt_of, table_of};
 
 use crate::arms::ListedArms;
 use crate::node::{ASTNode, Child, Spot};
 use rhai_base::{ASTFlags, Boxed, Ident};
-use rhai_tree::{BinaryExpr, Expr, FlowControl, Stmt, SwitchBlock};
+use rhai_tree::{BinaryExpr, Expr, FlowControl, Stmt, SwitchBlock, SwitchCasesCollection};
 
 /// The parts of a node that are still to come.
 #[derive(Clone, Copy)]
@@ -116,6 +116,12 @@ impl<'a> Parts<'a> {
         }
     }
 
+    fn of_arms(table: &'a SwitchCasesCollection) -> Parts<'a>
+        ensures { left_of_parts result ≡ listed_left (expressions_of table.now) (listed (table_of table.now)) }
+    {
+        Parts::Arms(ListedArms::of(table))
+    }
+
     #[inline(always)]
     fn of_blocks(flow: &'a FlowControl) -> Parts<'a>
         ensures { left_of_parts result ≡ blocks_left flow.now.body.block flow.now.branch.block }
@@ -130,83 +136,76 @@ impl<'a> Parts<'a> {
     {
         match self {
             Parts::Nothing => None,
-            Parts::Expr(expr) => Some((anywhere(expr), Parts::Nothing)),
-            Parts::Sides(sides) => Some((anywhere(&sides.lhs), Parts::Expr(&sides.rhs))),
-            Parts::Dot(sides, options) => {
-                Some((left_side(sides), Parts::RightOfDot(sides, options)))
-            }
-            Parts::RightOfDot(sides, options) => {
-                Some((right_side(sides, true, *options), Parts::Nothing))
-            }
-            Parts::Index(sides, options) => {
-                Some((left_side(sides), Parts::RightOfIndex(sides, options)))
-            }
-            Parts::RightOfIndex(sides, options) => {
-                Some((right_side(sides, false, *options), Parts::Nothing))
-            }
+            Parts::Expr(expr) => Some(then(expr, Parts::Nothing)),
+            Parts::Sides(sides) => Some(then(&sides.lhs, Parts::Expr(&sides.rhs))),
+            Parts::Dot(sides, flags) => Some(left_side(sides, Parts::RightOfDot(sides, flags))),
+            Parts::RightOfDot(sides, flags) => Some(right_side(sides, true, *flags)),
+            Parts::Index(sides, flags) => Some(left_side(sides, Parts::RightOfIndex(sides, flags))),
+            Parts::RightOfIndex(sides, flags) => Some(right_side(sides, false, *flags)),
             Parts::Exprs(exprs) => first_expr(exprs),
             Parts::Members(members) => first_member(members),
             Parts::Statements(statements) => first_statement(statements),
-            Parts::Choice(flow) => Some((anywhere(&flow.expr), Parts::of_blocks(flow))),
+            Parts::Choice(flow) => Some(then(&flow.expr, Parts::of_blocks(flow))),
             Parts::Blocks(body, flow) => first_of_blocks(body, flow),
-            Parts::Loop(flow) => {
-                Some((anywhere(&flow.expr), Parts::LoopBody(flow.body.statements())))
-            }
+            Parts::Loop(flow) => Some(then(&flow.expr, Parts::LoopBody(flow.body.statements()))),
             Parts::LoopBody(statements) => first_of_loop(statements),
-            Parts::Switch(switch) => {
-                Some((anywhere(&switch.expr), Parts::Arms(ListedArms::of(&switch.cases))))
-            }
+            Parts::Switch(switch) => Some(then(&switch.expr, Parts::of_arms(&switch.cases))),
             Parts::Arms(arms) => {
                 let (arm, _) = first_arm(arms)?;
-                Some((anywhere(&arm.lhs), Parts::Answers(arms)))
+                Some(then(&arm.lhs, Parts::Answers(arms)))
             }
             Parts::Answers(arms) => {
                 let (arm, rest) = first_arm(arms)?;
-                Some((anywhere(&arm.rhs), rest))
+                Some(then(&arm.rhs, rest))
             }
         }
     }
 }
 
-/// An expression, where it does not matter.
-fn anywhere<'a>(expr: &'a Expr) -> Child<'a>
-    ensures { child_of result ≡ anywhere (OfExpr (expr_of expr.now)) }
+/// An expression, where it does not matter, and what comes after it.
+fn then<'a>(expr: &'a Expr, rest: Parts<'a>) -> (Child<'a>, Parts<'a>)
+    ensures child { child_of result.0 ≡ anywhere (OfExpr (expr_of expr.now)) }
+    ensures rest { left_of_parts result.1 ≡ left_of_parts rest.entry }
 {
-    ASTNode::Expr(expr).anywhere()
+    (ASTNode::Expr(expr).anywhere(), rest)
 }
 
-/// The left side of a `.` or an index.
-fn left_side<'a>(sides: &'a BinaryExpr) -> Child<'a>
-    ensures { child_of result ≡ placed_at LeftSide (anywhere (OfExpr (expr_of sides.now.lhs))) }
+/// The left side of a `.` or an index, and what comes after it.
+fn left_side<'a>(sides: &'a BinaryExpr, rest: Parts<'a>) -> (Child<'a>, Parts<'a>)
+    ensures child { child_of result.0 ≡ left_child sides.now }
+    ensures rest { left_of_parts result.1 ≡ left_of_parts rest.entry }
 {
-    Child {
+    let child = Child {
         node: ASTNode::Expr(&sides.lhs),
         spot: Spot::LeftSide,
-    }
+    };
+    (child, rest)
 }
 
-/// The right side of a `.` or an index.
-fn right_side<'a>(sides: &'a BinaryExpr, is_dot: bool, options: ASTFlags) -> Child<'a>
-    ensures { child_of result ≡ right_child is_dot sides.now options }
+/// The right side of a `.` or an index, after which nothing comes.
+fn right_side<'a>(sides: &'a BinaryExpr, is_dot: bool, flags: ASTFlags) -> (Child<'a>, Parts<'a>)
+    ensures child { child_of result.0 ≡ right_child is_dot sides.now flags }
+    ensures rest { left_of_parts result.1 ≡ [] }
 {
-    Child {
+    let child = Child {
         node: ASTNode::Expr(&sides.rhs),
-        spot: Spot::RightSide(is_dot, options, &sides.rhs),
-    }
+        spot: Spot::RightSide(is_dot, flags, &sides.rhs),
+    };
+    (child, Parts::Nothing)
 }
 
 fn first_expr<'a>(exprs: &'a [Expr]) -> Option<(Child<'a>, Parts<'a>)>
     ensures { MatchOption result (exprs_left exprs.now ≡ []) (λ p. exprs_left exprs.now ≡ child_of p.0 ∷ left_of_parts p.1) }
 {
     let (first, rest) = exprs.split_first()?;
-    Some((anywhere(first), Parts::Exprs(rest)))
+    Some(then(first, Parts::Exprs(rest)))
 }
 
 fn first_member<'a>(members: &'a [(Ident, Expr)]) -> Option<(Child<'a>, Parts<'a>)>
     ensures { MatchOption result (members_left members.now ≡ []) (λ p. members_left members.now ≡ child_of p.0 ∷ left_of_parts p.1) }
 {
     let (first, rest) = members.split_first()?;
-    Some((anywhere(&first.1), Parts::Members(rest)))
+    Some(then(&first.1, Parts::Members(rest)))
 }
 
 fn first_statement<'a>(statements: &'a [Stmt]) -> Option<(Child<'a>, Parts<'a>)>

@@ -38,7 +38,11 @@ pub fn walk_stmt<'a, F: FnMut(&[ASTNode]) -> bool>(
     ensures callable { F.IsAlwaysCallable on_node.new }
     ensures walks { Walks F.FnMut path.old.items result on_node.old (stmt_paths (stmt_of stmt.now)) on_node.new path.new.items }
 {
-    answered(visit(Children::of_statements(slice::from_ref(stmt)), path, on_node))
+    answered(visit(
+        Children::of_statements(slice::from_ref(stmt)),
+        path,
+        on_node,
+    ))
 }
 
 /// Walks over the statements of a list, one after another, as `Walk::walk` does over one. It is not in rhai.
