@@ -63,7 +63,7 @@ impl BuiltinScript {
         match self {
             BuiltinScript::First => first(alloc),
             BuiltinScript::Empty => Ok(Vec::new(alloc)),
-            BuiltinScript::Divide => evaluated(alloc, Token::Divide, 1, 0),
+            BuiltinScript::Divide => operation_alone(alloc, Token::Divide, 1, 0),
         }
     }
 }
@@ -81,11 +81,11 @@ fn first_choice(alloc: Global) -> Result<FlowControl, OutOfMemory>
     ensures branch { IfOk result (λ flow. stmts_of flow.branch.block ≡ evaluates (over_integers Divide (pos 1) (pos 0))) }
 {
     let expr = two_is_two(alloc)?;
-    let body = evaluated(alloc, Token::Plus, 40, 2)?;
+    let body = operation_alone(alloc, Token::Plus, 40, 2)?;
     Ok(FlowControl {
         expr,
         body: block(body),
-        branch: block(evaluated(alloc, Token::Divide, 1, 0)?),
+        branch: block(operation_alone(alloc, Token::Divide, 1, 0)?),
     })
 }
 
@@ -97,19 +97,24 @@ fn two_is_two(alloc: Global) -> Result<Expr, OutOfMemory>
 }
 
 /// The statement that evaluates an operator over two integers.
-fn evaluated(alloc: Global, token: Token, lhs: INT, rhs: INT) -> Result<Vec<Stmt>, OutOfMemory>
+fn operation_alone(
+    alloc: Global,
+    token: Token,
+    lhs: INT,
+    rhs: INT,
+) -> Result<Vec<Stmt>, OutOfMemory>
     ensures { IfOk result (λ statements. stmts_of statements.items ≡ evaluates (operation (token_text token) (mark_of (Some token)) (IntegerConstant lhs) (IntegerConstant rhs))) }
 {
     let value = operation(alloc, token, integer(lhs), integer(rhs))?;
-    evaluation(alloc, value)
+    alone(alloc, value)
 }
 
 /// The statement that evaluates an expression.
-fn evaluation(alloc: Global, expr: Expr) -> Result<Vec<Stmt>, OutOfMemory>
+fn alone(alloc: Global, expr: Expr) -> Result<Vec<Stmt>, OutOfMemory>
     ensures { IfOk result (λ statements. stmts_of statements.items ≡ evaluates (expr_of expr)) }
 {
-    let evaluated = Stmt::Expr(Boxed::new(alloc, expr)?);
-    Ok(vec![in alloc; evaluated]?)
+    let statement = Stmt::Expr(Boxed::new(alloc, expr)?);
+    Ok(vec![in alloc; statement]?)
 }
 
 fn block(statements: Vec<Stmt>) -> StmtBlock
