@@ -1,4 +1,5 @@
 pub mod Folding
+pub mod Items
 pub mod Paths
 pub mod Places
 pub mod Sizes

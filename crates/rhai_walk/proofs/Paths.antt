@@ -5,7 +5,7 @@ use Rattle.rhai_tree.specs.declared.stmt.Stmt.{Stmt}
 use Rattle.rhai_reading.specs.Reading.{stmts_of}
 use Rattle.rhai_meaning.specs.Paths.{Path, listing, stmts_paths}
 use Rattle.rhai_meaning.specs.Walk.{Node, Spot}
-use Rattle.rhai_walk.specs.Children.{anywhere, at_spot, children, over_children, over_node, over_parts}
+use Rattle.rhai_walk.specs.Children.{at_spot, children, over_children, over_node, over_parts}
 use Rattle.rhai_walk.specs.Left.{left_of, statements_left}
 use Rattle.rhai_walk.specs.Nodes.{child_of, node_of, spot_of}
 use Rattle.rhai_walk.specs.declared.children.Children.{Children}
@@ -39,9 +39,6 @@ pub paths-end : (cs : Children) → left_of cs ≡ [] → left_paths cs ≡ []
 paths-end cs e = ap (over_children listing) e
 
 -- ---- where a walk begins
-
-pub paths-only : (n : Node) → over_children listing (anywhere n ∷ []) ≡ over_node listing n
-paths-only n = append-nil (over_node listing n)
 
 pub paths-statements : (xs : List Stmt) → over_children listing (statements_left xs) ≡ stmts_paths (stmts_of xs)
 paths-statements xs = of_stmts listing listing_folds (stmts_of xs)

@@ -2,7 +2,6 @@
 use Rattle.std.proofs.Common.{◌≡◌, ◌≤◌, ◌-◌, ◌+◌, ℕ, zero, suc, List, [], ◌∷◌, ◌++◌, map, drop, length, Option, Some, None, MatchOption, slice_get, refl, sym, ap, subst, ◌∙◌, append_assoc, add-one, arith}
 use Rattle.std.specs.Borrow.{Bor}
 use Rattle.std.specs.Slice.{IsItemAt}
-use Rattle.std.proofs.lemmas.Option.{slice_get_past, slice_get_read}
 use Rattle.std.specs.Map.{values_of}
 use Rattle.std.proofs.Math.Seq.{drop-append-add}
 use Rattle.rhai_values.specs.declared.dynamic.Dynamic.{Dynamic}
@@ -12,6 +11,7 @@ use Rattle.rhai_tree.specs.declared.switch.CaseBlocksList.{CaseBlocksList}
 use Rattle.rhai_meaning.specs.Walk.{arms_of_cases, arms_of_ranges}
 use Rattle.rhai_reading.specs.Reading.{case_of, range_of}
 use Rattle.rhai_reading.proofs.Ranges.{range_arm}
+use Rattle.rhai_walk.proofs.Items.{item_past, item_there}
 
 -- the places that are left: of cases from one on, of ranges, and of the default
 abbrev pub left_by : List (Dynamic × CaseBlocksList) → List RangeCase → ℕ → ℕ → List ℕ → List ℕ
@@ -60,10 +60,10 @@ no_ranges (s ∷ rs) (suc t) q = no_ranges rs t q
 -- ---- what is left
 
 pub range-some : (rs xs : List RangeCase) (t i : ℕ) (r : Bor RangeCase) (d : List ℕ) → xs ≡ rs → IsItemAt xs t (Some r) → i ≡ index_of r.now → drop t (arms_of_ranges (map range_of rs)) ++ d ≡ i ∷ drop (t + 1) (arms_of_ranges (map range_of rs)) ++ d
-range-some rs xs t i r d same h e = rw (add-one, e) (ap (λ is. is ++ d) (range_at rs t r.now (ap (λ ys. slice_get ys t) (sym same) ∙ slice_get_read xs (length xs) t r.now refl h.3.0 h.1)))
+range-some rs xs t i r d same h e = rw (add-one, e) (ap (λ is. is ++ d) (range_at rs t r.now (item_there rs xs t r same h)))
 
 pub range-none : (rs xs : List RangeCase) (t : ℕ) (d : List ℕ) → xs ≡ rs → IsItemAt xs t None → drop t (arms_of_ranges (map range_of rs)) ++ d ≡ d
-range-none rs xs t d same h = ap (λ is. is ++ d) (no_ranges rs t (ap (λ ys. slice_get ys t) (sym same) ∙ slice_get_past xs t h.3))
+range-none rs xs t d same h = ap (λ is. is ++ d) (no_ranges rs t (item_past rs xs t same h))
 
 -- as `left_by`, with the places of the first case apart
 first_apart : (es : List (Dynamic × CaseBlocksList)) (rs : List RangeCase) (k t : ℕ) (v : CaseBlocksList) (d : List ℕ) → slice_get (values_of es) k ≡ Some v → left_by es rs k t d ≡ drop t (v.blocks ++ (arms_of_cases (drop (suc k) (map case_of es)) ++ arms_of_ranges (map range_of rs))) ++ d
@@ -74,7 +74,7 @@ case-some es fs rs k t bs v p d given q same h =
     let first : (n : ℕ) → left_by es rs k n d ≡ drop n (v.blocks ++ (arms_of_cases (drop (suc k) (map case_of es)) ++ arms_of_ranges (map range_of rs))) ++ d = λ n. first_apart es rs k n v d (ap (λ gs. slice_get (values_of gs) k) (sym given) ∙ q) in
     rw (add-one)
     (first t
-    ∙ ap (λ is. is ++ d) (place_at v.blocks (arms_of_cases (drop (suc k) (map case_of es)) ++ arms_of_ranges (map range_of rs)) t p.now (ap (λ ys. slice_get ys t) (sym same) ∙ slice_get_read bs (length bs) t p.now refl h.3.0 h.1))
+    ∙ ap (λ is. is ++ d) (place_at v.blocks (arms_of_cases (drop (suc k) (map case_of es)) ++ arms_of_ranges (map range_of rs)) t p.now (item_there v.blocks bs t p same h))
     ∙ ap (λ is. p.now ∷ is) (sym (first (suc t))))
 
 pub case-past : (es fs : List (Dynamic × CaseBlocksList)) (rs : List RangeCase) (k t n : ℕ) (bs : List ℕ) (v : CaseBlocksList) (d : List ℕ) → fs ≡ es → slice_get (values_of fs) k ≡ Some v → bs ≡ v.blocks → IsItemAt bs t None → n ≡ length v.blocks → left_by es rs (k + 1) (t - n) d ≡ left_by es rs k t d
