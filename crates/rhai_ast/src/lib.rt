@@ -16,11 +16,11 @@ pub use block::FromStmt;
 pub use check::{check_tree, is_plain};
 pub use node::NodeQueries;
 pub use place::SetPosition;
-pub use rhai_base::TreeFault;
+pub use rhai_base::{CaseBlocksList, Cases, TreeFault};
 pub use rhai_exprs::{CallQueries, ExprQueries, IntoExpr, Literals};
 pub use rhai_tree::{
-    BinaryExpr, CaseBlocksList, Cases, Expr, FlowControl, FnAccess, FnCallExpr, FnNamespace,
-    ScriptFuncDef, Stmt, StmtBlock, StmtBlockContainer, SwitchBlock, SwitchCasesCollection,
+    BinaryExpr, Expr, FlowControl, FnAccess, FnCallExpr, FnNamespace, ScriptFuncDef, Stmt,
+    StmtBlock, StmtBlockContainer, SwitchBlock, SwitchCasesCollection,
 };
 pub use rhai_walk::{ASTNode, walk_statements};
 pub use stmt::StmtQueries;

@@ -1,11 +1,14 @@
-//! Operators that need no engine, and ranges; and, passed on, values, names, tokens and lists.
+//! Operators that need no engine; the cases of a `switch`, by values and by ranges; and, passed on, values, names, tokens and
+//! lists.
 #![tactic(auto)]
 
 mod builtin;
+mod cases;
 mod range_case;
 mod range_operators;
 
 pub use builtin::{builtin_binary_op, builtin_unary_op};
+pub use cases::{CaseBlocksList, Cases};
 pub use range_case::{RangeCase, RangeCaseIter};
 pub use rhai_data::{Boxed, Rest, Seq};
 pub use rhai_parts::{ASTFlags, FnName, Ident, Namespace};

@@ -9,7 +9,7 @@ use Rattle.rhai_values.specs.contracts.dynamic.DynamicEq.TheImpl.Laws as eq_laws
 use Rattle.rhai_values.specs.declared.dynamic.Dynamic.{Dynamic}
 use Rattle.rhai_values.specs.Reading.{value_of}
 use Rattle.rhai_values.specs.Value.{same}
-use Rattle.rhai_tree.specs.declared.switch.CaseBlocksList.{CaseBlocksList}
+use Rattle.rhai_base.specs.declared.cases.CaseBlocksList.{CaseBlocksList}
 use Rattle.rhai_reading.specs.Reading.{case_of}
 use Rattle.rhai_meaning.specs.Control.{case_for}
 

@@ -5,9 +5,9 @@
 ghost use Rattle.rhai_nodes.specs.Tables.{IsTableOf};
 
 use indexmap::IndexMap;
-use rhai_base::{AstError, Dynamic, RangeCase, Seq};
+use rhai_base::{AstError, CaseBlocksList, Cases, Dynamic, RangeCase, Seq};
 use rhai_queries::table_refusal;
-use rhai_tree::{BinaryExpr, CaseBlocksList, Cases, SwitchCasesCollection};
+use rhai_tree::{BinaryExpr, SwitchCasesCollection};
 
 /// A table of these parts, unless it is refused.
 pub fn switch_table(

@@ -12,7 +12,7 @@ use Rattle.rhai_values.specs.declared.dynamic.Dynamic.{Dynamic}
 use Rattle.rhai_values.specs.Value.{is_hashable}
 use Rattle.rhai_values.specs.Reading.{value_of}
 use Rattle.rhai_tree.specs.declared.expr.BinaryExpr.{BinaryExpr}
-use Rattle.rhai_tree.specs.declared.switch.CaseBlocksList.{CaseBlocksList}
+use Rattle.rhai_base.specs.declared.cases.CaseBlocksList.{CaseBlocksList}
 use Rattle.rhai_meaning.specs.Queries.{is_literally}
 use Rattle.rhai_meaning.specs.Shape as shape
 use Rattle.rhai_meaning.specs.Tree.{Expr, BoolConstant, Arms, no_arms, arm, count_arms}

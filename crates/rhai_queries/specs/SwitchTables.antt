@@ -7,7 +7,7 @@ use Rattle.rhai_values.specs.Reading.{value_of}
 use Rattle.rhai_tokens.specs.declared.error.AstError.{AstError}
 use Rattle.rhai_tokens.specs.declared.error.AstError.TheVariants.{SwitchIndex, SwitchDefaultCondition, SwitchDefaultShared, SwitchKey}
 use Rattle.rhai_tree.specs.declared.expr.BinaryExpr.{BinaryExpr}
-use Rattle.rhai_tree.specs.declared.switch.CaseBlocksList.{CaseBlocksList}
+use Rattle.rhai_base.specs.declared.cases.CaseBlocksList.{CaseBlocksList}
 use Rattle.rhai_base.specs.declared.range_case.RangeCase.{RangeCase}
 use Rattle.rhai_base.specs.Ranges.{index_of}
 use Rattle.rhai_meaning.specs.Queries.{is_literally}

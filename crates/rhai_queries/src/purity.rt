@@ -10,8 +10,8 @@ ghost use Rattle.rhai_meaning.specs.Walk.{arms_of_cases, arms_of_ranges};
 
 use crate::constants::is_literally;
 use bitflags::Flags;
-use rhai_base::{ASTFlags, Ident, RangeCase};
-use rhai_tree::{BinaryExpr, Cases, Expr, FlowControl, Stmt, SwitchBlock, SwitchCasesCollection};
+use rhai_base::{ASTFlags, Cases, Ident, RangeCase};
+use rhai_tree::{BinaryExpr, Expr, FlowControl, Stmt, SwitchBlock, SwitchCasesCollection};
 
 /// Whether an expression is pure.
 #[cycle(pure)]

@@ -9,8 +9,8 @@ ghost use Rattle.rhai_queries.specs.SwitchTables as tables;
 ghost use Rattle.rhai_reading.specs.Reading.{arms_of, expressions_of, table_of};
 
 use crate::constants::is_literally;
-use rhai_base::{AstError, RangeCase};
-use rhai_tree::{BinaryExpr, Cases, SwitchCasesCollection};
+use rhai_base::{AstError, Cases, RangeCase};
+use rhai_tree::{BinaryExpr, SwitchCasesCollection};
 
 /// Whether it is a table: what `table_refusal` does not refuse.
 pub fn is_table(table: &SwitchCasesCollection) -> bool

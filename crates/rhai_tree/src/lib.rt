@@ -12,4 +12,4 @@ pub use block::{StmtBlock, StmtBlockContainer};
 pub use expr::{BinaryExpr, Expr, FnCallExpr};
 pub use script_fn::{FnAccess, FnNamespace, ScriptFuncDef};
 pub use stmt::{FlowControl, Stmt};
-pub use switch::{CaseBlocksList, Cases, SwitchBlock, SwitchCasesCollection};
+pub use switch::{SwitchBlock, SwitchCasesCollection};

@@ -7,7 +7,7 @@ use Rattle.std.proofs.Math.Seq.{drop-append-add}
 use Rattle.rhai_values.specs.declared.dynamic.Dynamic.{Dynamic}
 use Rattle.rhai_base.specs.declared.range_case.RangeCase.{RangeCase}
 use Rattle.rhai_base.specs.Ranges.{index_of}
-use Rattle.rhai_tree.specs.declared.switch.CaseBlocksList.{CaseBlocksList}
+use Rattle.rhai_base.specs.declared.cases.CaseBlocksList.{CaseBlocksList}
 use Rattle.rhai_meaning.specs.Walk.{arms_of_cases, arms_of_ranges}
 use Rattle.rhai_reading.specs.Reading.{case_of, range_of}
 use Rattle.rhai_reading.proofs.Ranges.{range_arm}
