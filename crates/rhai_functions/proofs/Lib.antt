@@ -1,3 +1,4 @@
+pub mod Choices
 pub mod Keys
 pub mod Laws
 pub mod Tables

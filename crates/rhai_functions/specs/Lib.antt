@@ -1,3 +1,4 @@
+pub mod Filter
 pub mod FnKey
 pub mod FnLib
 pub mod Ids

@@ -5,7 +5,7 @@ ghost use Rattle.std.specs.List.Retain.{IsFiltered};
 ghost use Rattle.rhai_reading.specs.Reading.{stmts_of};
 ghost use Rattle.rhai_tree.specs.declared.script_fn.ScriptFuncDef.{ScriptFuncDef as definition};
 ghost use Rattle.rhai_script.specs.Contents.{contents, with_source, without_source, with_doc, with_table, with_functions, without_statements, joined_over, merged, combined};
-ghost use Rattle.rhai_script_parts.specs.Filter.{Answers, AnswersShort};
+ghost use Rattle.rhai_functions.specs.Filter.{Answers, AnswersShort};
 
 use rhai_ast::{FnAccess, FnNamespace, Stmt, StmtBlock};
 use rhai_base::{ImmutableString, OutOfMemory, Position};

@@ -1,7 +1,6 @@
-//! What scripts are made of: doc texts, lists of statements and tables of functions, joined; and filters of functions.
+//! What scripts are made of: doc texts, lists of statements and tables of functions, joined and chosen from.
 #![tactic(auto)]
 
-mod filter;
 mod statements;
 mod tables;
 mod text;

@@ -4,14 +4,14 @@ ghost use Rattle.std.specs.List.Retain.{IsFiltered};
 ghost use Rattle.rhai_functions.specs.FnKey.{definition_key};
 ghost use Rattle.rhai_functions.specs.Ids.{named, first_name};
 ghost use Rattle.rhai_functions.specs.Table.{put_all_by};
-ghost use Rattle.rhai_script_parts.specs.Filter.{Answers, AnswersShort};
+ghost use Rattle.rhai_functions.specs.Filter.{Answers, AnswersShort};
 ghost use Rattle.rhai_tree.specs.declared.script_fn.ScriptFuncDef.{ScriptFuncDef as definition};
 
-use crate::filter::{all, chosen, kept};
 use rhai_ast::{FnAccess, FnNamespace};
 use rhai_base::{ImmutableString, OutOfMemory};
 use rhai_functions::{
-    FnLib, SharedLib, allocator_of, name_of, replaced, take_id, with_all, without_id,
+    FnLib, SharedLib, allocator_of, chosen_functions, kept_functions, name_of, replaced,
+    shared_functions, take_id, with_all, without_id,
 };
 use std::alloc::Global;
 use std::rc::Rc;
@@ -48,7 +48,7 @@ pub fn only_chosen<F: Fn(FnNamespace, FnAccess, bool, &str, usize) -> bool>(
     requires { F.IsAlwaysCallable filter.now }
     ensures { IfOk result (λ made. (chosen : List definition) × IsFiltered (Answers F.Fn) filter.now lib.now.functions chosen × (made.value.id ≡ None) × (made.value.functions ≡ chosen)) }
 {
-    let chosen = chosen(lib, filter)?;
+    let chosen = chosen_functions(lib, filter)?;
     shared(FnLib::from_functions(allocator_of(lib), chosen)?)
 }
 
@@ -61,7 +61,7 @@ pub fn retained<F: Fn(FnNamespace, FnAccess, &str, usize) -> bool>(
     requires { F.IsAlwaysCallable filter.now }
     ensures { IfOk result (λ made. (kept : List definition) × IsFiltered (AnswersShort F.Fn) filter.now lib.now.functions kept × (made.value.id ≡ lib.now.id) × (made.value.functions ≡ kept)) }
 {
-    let kept = kept(lib, filter)?;
+    let kept = kept_functions(lib, filter)?;
     shared(replaced(lib, kept)?)
 }
 
@@ -74,7 +74,7 @@ pub fn put_all(
     ensures id { IfOk result (λ made. made.value.id ≡ first_name id.now lib.now.id) }
     ensures functions { IfOk result (λ made. made.value.functions ≡ put_all_by definition_key lib.now.functions other.now.functions) }
 {
-    shared(with_all(lib, id, all(other)?)?)
+    shared(with_all(lib, id, shared_functions(other)?)?)
 }
 
 /// The same with those functions of the second that the filter chooses. It is asked of each of them once, in the
@@ -88,7 +88,7 @@ pub fn put_chosen<F: Fn(FnNamespace, FnAccess, bool, &str, usize) -> bool>(
     requires { F.IsAlwaysCallable filter.now }
     ensures { IfOk result (λ made. (chosen : List definition) × IsFiltered (Answers F.Fn) filter.now other.now.functions chosen × (made.value.id ≡ first_name id.now lib.now.id) × (made.value.functions ≡ put_all_by definition_key lib.now.functions chosen)) }
 {
-    let chosen = chosen(other, filter)?;
+    let chosen = chosen_functions(other, filter)?;
     shared(with_all(lib, id, chosen)?)
 }
 

@@ -2,16 +2,16 @@
 ghost use Rattle.std.specs.Prelude.{◌≡◌, map, IfOk};
 ghost use Rattle.std.specs.List.Retain.{IsFiltered};
 ghost use Rattle.std.specs.Rc.{rc_value};
+ghost use Rattle.rhai_functions.specs.Filter.{Answers, AnswersShort};
 ghost use Rattle.rhai_functions.specs.FnKey.{definitions_table};
-ghost use Rattle.rhai_script_parts.specs.Filter.{Answers, AnswersShort};
 
+use crate::fn_lib::{FnLib, allocator_of};
 use rhai_ast::{FnAccess, FnNamespace, ScriptFuncDef};
 use rhai_base::OutOfMemory;
-use rhai_functions::{FnLib, allocator_of};
 use std::rc::Rc;
 
 /// What a filter answers of a function of a script.
-pub fn asks<F: Fn(FnNamespace, FnAccess, bool, &str, usize) -> bool>(
+fn asks<F: Fn(FnNamespace, FnAccess, bool, &str, usize) -> bool>(
     filter: &F,
     function: &ScriptFuncDef,
 ) -> bool
@@ -24,7 +24,7 @@ pub fn asks<F: Fn(FnNamespace, FnAccess, bool, &str, usize) -> bool>(
 }
 
 /// All functions of a table, in its order.
-pub fn all(lib: &FnLib) -> Result<Vec<Rc<ScriptFuncDef>>, OutOfMemory>
+pub fn shared_functions(lib: &FnLib) -> Result<Vec<Rc<ScriptFuncDef>>, OutOfMemory>
     ensures { IfOk result (λ all. map rc_value all.items ≡ lib.now.functions) }
 {
     let mut all = Vec::new(allocator_of(lib));
@@ -35,7 +35,7 @@ pub fn all(lib: &FnLib) -> Result<Vec<Rc<ScriptFuncDef>>, OutOfMemory>
 }
 
 /// The functions of which the filter says `true`, in the table's order, in which it is asked of each once.
-pub fn chosen<F: Fn(FnNamespace, FnAccess, bool, &str, usize) -> bool>(
+pub fn chosen_functions<F: Fn(FnNamespace, FnAccess, bool, &str, usize) -> bool>(
     lib: &FnLib,
     filter: &F,
 ) -> Result<Vec<Rc<ScriptFuncDef>>, OutOfMemory>
@@ -53,7 +53,7 @@ pub fn chosen<F: Fn(FnNamespace, FnAccess, bool, &str, usize) -> bool>(
 }
 
 /// The same by the short form of a filter.
-pub fn kept<F: Fn(FnNamespace, FnAccess, &str, usize) -> bool>(
+pub fn kept_functions<F: Fn(FnNamespace, FnAccess, &str, usize) -> bool>(
     lib: &FnLib,
     filter: &F,
 ) -> Result<Vec<Rc<ScriptFuncDef>>, OutOfMemory>
@@ -61,7 +61,7 @@ pub fn kept<F: Fn(FnNamespace, FnAccess, &str, usize) -> bool>(
     ensures filtered { IfOk result (λ kept. IsFiltered (AnswersShort F.Fn) filter.now lib.now.functions (map rc_value kept.items)) }
     ensures table { IfOk result (λ kept. definitions_table (map rc_value kept.items) ≡ map rc_value kept.items) }
 {
-    chosen(
+    chosen_functions(
         lib,
         &|namespace: FnNamespace, access: FnAccess, _: bool, name: &str, params: usize| {
             filter(namespace, access, name, params)

@@ -2,9 +2,9 @@ use Rattle.std.proofs.Common.{◌≡◌, [], ◌∷◌, ◌++◌, true, false, m
 use Rattle.std.proofs.lemmas.Grind.{common_steps}
 use Rattle.std.specs.Rc.{rc_value}
 use Rattle.rhai_tree.specs.declared.script_fn.ScriptFuncDef.{ScriptFuncDef}
-use Rattle.rhai_script_parts.specs.Filter.{Answers}
-use Rattle.rhai_script_parts.proofs.Choices.{chooses-taken, chooses-passed, chooses-end, table-chosen}
-use Rattle.rhai_script_parts.proofs.filter.chosen.Goals as goal
+use Rattle.rhai_functions.specs.Filter.{Answers}
+use Rattle.rhai_functions.proofs.Choices.{chooses-taken, chooses-passed, chooses-end, table-chosen}
+use Rattle.rhai_functions.proofs.filter.chosen_functions.Goals as goal
 
 pub loop-function-preserved-in_ok-push : goal.loop-function-preserved-in_ok-push
 loop-function-preserved-in_ok-push g c =
