@@ -1,1 +1,2 @@
+pub mod BuiltinScripts
 pub mod Notation

@@ -19,9 +19,9 @@ use Rattle.rhai_rewriting.specs.Refines.{Refines}
 use Rattle.rhai_optimizer.specs.Source.{source_of}
 use Rattle.rhai_optimizer.specs.declared.level.OptimizationLevel.{OptimizationLevel}
 use Rattle.rhai_optimizer.specs.declared.level.OptimizationLevel.TheVariants as level
-use Rattle.rhai_builtins.specs.declared.scripts.BuiltinScript.{BuiltinScript}
+use Rattle.rhai_notation.specs.declared.builtin.BuiltinScript.{BuiltinScript}
 use Rattle.rhai_notation.specs.Notation.{lines_text, script_text}
-use Rattle.rhai_builtins.specs.Scripts.{statements_of}
+use Rattle.rhai_notation.specs.BuiltinScripts.{statements_of}
 use Rattle.rhai_program.specs.Words.{built_in, showing, Optimized}
 
 -- both scripts, push by push

@@ -10,13 +10,13 @@ use Rattle.rhai_optimizer.specs.declared.level.OptimizationLevel.TheVariants as 
 use Rattle.rhai_engine.specs.EngineInfo.{nothing_set}
 use Rattle.rhai_rewriting.specs.Residue.{AreReduced}
 use Rattle.rhai_rewriting.specs.Refines.{Refines}
-use Rattle.rhai_builtins.specs.declared.scripts.BuiltinScript.{BuiltinScript}
+use Rattle.rhai_notation.specs.declared.builtin.BuiltinScript.{BuiltinScript}
 use Rattle.rhai_program.specs.declared.request.Request.{Request}
 use Rattle.rhai_program.specs.declared.request.Request.TheVariants as request
 use Rattle.rhai_host.specs.ProgramHost.{program_host}
 use Rattle.rhai_notation.specs.Notation.{script_text}
 use Rattle.rhai_host.specs.Print.{report_text}
-use Rattle.rhai_builtins.specs.Scripts.{name_of, all_scripts, script_named, statements_of}
+use Rattle.rhai_notation.specs.BuiltinScripts.{name_of, all_scripts, script_named, statements_of}
 
 abbrev pub level_named : Text → Option OptimizationLevel
 level_named name =

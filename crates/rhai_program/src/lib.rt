@@ -7,5 +7,5 @@ mod request;
 
 pub use program::run_words;
 pub use request::Request;
-pub use rhai_builtins::BuiltinScript;
 pub use rhai_host::{ProgramHost, push_report};
+pub use rhai_notation::BuiltinScript;

@@ -2,16 +2,16 @@
 ghost use Rattle.std.specs.Prelude.{◌≡◌, ◌≤◌, ◌⊎◌, length, map, string_bytes, IsNone, IsSome, IfSome, IfOk, OnOk, MatchOption};
 ghost use Rattle.std.specs.Io.KnownBytes.{Appends, Keeps, WriteAppends};
 ghost use Rattle.rhai_program.specs.Output.{AppendsStart};
-ghost use Rattle.rhai_builtins.specs.Scripts.{all_scripts};
+ghost use Rattle.rhai_notation.specs.BuiltinScripts.{all_scripts};
 ghost use Rattle.rhai_program.specs.Words.{request_of, usage, listing, built_in, Answers, Optimized};
 ghost use Rattle.rhai_values.specs.Value.{Text};
 ghost use Rattle.rhai_script.specs.Script.{script_of};
 
 use crate::request::Request;
-use rhai_base::{OutOfMemory, Scope};
-use rhai_builtins::BuiltinScript;
+use rhai_ast::StmtBlock;
+use rhai_base::{OutOfMemory, Scope, Span};
 use rhai_host::{ProgramHost, push_report};
-use rhai_notation::{push_lines, push_script};
+use rhai_notation::{BuiltinScript, push_lines, push_script};
 use rhai_optimizer::{OptimizationLevel, optimize_into_ast};
 use rhai_run::{EngineInfo, plain_run};
 use rhai_script::AST;
@@ -117,9 +117,11 @@ fn show(
     ensures { IfOk result (λ text. Answers (Request.Show script level) (string_bytes text)) }
 {
     let statements = script.statements(alloc)?;
+    // In a block, statements go by one call, and not each by its kind.
+    let before = StmtBlock::new_with_span(statements, Span::NONE);
     let mut text = String::new(alloc);
     text.push_str("before:\n")?;
-    push_lines(statements.as_slice(), &mut text)?;
+    push_lines(before.statements(), &mut text)?;
     let after = optimized(alloc, script, level)?;
     text.push_str("after:\n")?;
     push_script(&after, &mut text)?;

@@ -6,7 +6,7 @@ ghost use Rattle.rhai_base.specs.Operators.{Divide, Plus};
 ghost use Rattle.rhai_tokens.specs.Symbols.{token_text};
 ghost use Rattle.rhai_reading.specs.Reading.{expr_of, stmts_of, mark_of};
 ghost use Rattle.rhai_meaning.specs.Tree.{IntegerConstant};
-ghost use Rattle.rhai_builtins.specs.Scripts.{evaluates, first_condition, first_statements, operation, over_integers};
+ghost use Rattle.rhai_notation.specs.BuiltinScripts.{evaluates, first_condition, first_statements, operation, over_integers};
 
 use rhai_ast::{Expr, FlowControl, FnCallExpr, Stmt, StmtBlock};
 use rhai_base::{Boxed, INT, ImmutableString, Namespace, OutOfMemory, Position, Seq, Span, Token};
@@ -24,7 +24,7 @@ pub enum BuiltinScript {
 }
 
 impl BuiltinScript {
-    ghost use Rattle.rhai_builtins.specs.Scripts.{name_of, script_named, statements_of};
+    ghost use Rattle.rhai_notation.specs.BuiltinScripts.{name_of, script_named, statements_of};
 
     /// Each script once.
     pub const ALL: [BuiltinScript; 3] = [
@@ -80,13 +80,10 @@ fn first_choice(alloc: Global) -> Result<FlowControl, OutOfMemory>
     ensures body { IfOk result (λ flow. stmts_of flow.body.block ≡ evaluates (over_integers Plus (pos 40) (pos 2))) }
     ensures branch { IfOk result (λ flow. stmts_of flow.branch.block ≡ evaluates (over_integers Divide (pos 1) (pos 0))) }
 {
+    let body = block(operation_alone(alloc, Token::Plus, 40, 2)?);
+    let branch = block(operation_alone(alloc, Token::Divide, 1, 0)?);
     let expr = two_is_two(alloc)?;
-    let body = operation_alone(alloc, Token::Plus, 40, 2)?;
-    Ok(FlowControl {
-        expr,
-        body: block(body),
-        branch: block(operation_alone(alloc, Token::Divide, 1, 0)?),
-    })
+    Ok(FlowControl { expr, body, branch })
 }
 
 fn two_is_two(alloc: Global) -> Result<Expr, OutOfMemory>

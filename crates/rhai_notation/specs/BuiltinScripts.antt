@@ -3,8 +3,8 @@ use Rattle.std.specs.Prelude.{List, [], ◌∷◌, ℤ, pos, Option, Some, None,
 use Rattle.rhai_values.specs.Value.{Text, same_text}
 use Rattle.rhai_base.specs.Operators.{Operator, Plus, Divide, EqualTo, symbol}
 use Rattle.rhai_meaning.specs.Tree.{CallToken, OfOperator, Expr, IntegerConstant, FnCall, no_exprs, expr, Stmts, no_stmts, stmt, If, ExprStmt}
-use Rattle.rhai_builtins.specs.declared.scripts.BuiltinScript.{BuiltinScript}
-use Rattle.rhai_builtins.specs.declared.scripts.BuiltinScript.TheVariants as script
+use Rattle.rhai_notation.specs.declared.builtin.BuiltinScript.{BuiltinScript}
+use Rattle.rhai_notation.specs.declared.builtin.BuiltinScript.TheVariants as script
 
 abbrev pub name_of : BuiltinScript → Text
 name_of script.First = codes "first"
