@@ -105,4 +105,13 @@ impl Span {
     {
         self == Span::NONE
     }
+
+    /// This span; in place of an end that is nowhere the one that is given. It is not in rhai, whose blocks have it
+    /// alone.
+    pub fn or_else(self, start: Position, end: Position) -> Span
+        ensures start { result.start ≡ (if is_nowhere self.start then start else self.start) }
+        ensures end { result.end ≡ (if is_nowhere self.end then end else self.end) }
+    {
+        Span::new(self.start.or_else(start), self.end.or_else(end))
+    }
 }

@@ -151,10 +151,7 @@ impl StmtBlock {
         ensures start { result.start ≡ (if is_nowhere self.now.span.start then start else self.now.span.start) }
         ensures end { result.end ≡ (if is_nowhere self.now.span.end then end else self.now.span.end) }
     {
-        Span::new(
-            self.span.start().or_else(start),
-            self.span.end().or_else(end),
-        )
+        self.span.or_else(start, end)
     }
 
     /// Sets where it starts and ends.

@@ -136,9 +136,9 @@ fn place(text: &str) -> Position {
     }
 }
 
-/// A span of two positions, and the first or else the second.
+/// A span of two positions, whose end is given as what it is or else, and the first or else the second.
 fn places(start: Position, end: Position, said: &Said) {
-    let span = Span::new(start, end);
+    let span = Span::new(start, Position::NONE).or_else(Position::NONE, end);
     said.place("from", span.start());
     said.place("to", span.end());
     said.word_if(span.is_none(), "no span");
