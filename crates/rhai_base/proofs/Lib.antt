@@ -4,4 +4,3 @@ pub mod Upward
 pub mod RangeCases
 pub mod Ranges
 pub mod Texts
-pub mod Copies

@@ -401,7 +401,7 @@ fn copy_table(table: &SwitchCasesCollection) -> Result<SwitchCasesCollection, Al
     })
 }
 
-#[tactic(auto, using(rhai_base::proofs::Copies::copies))]
+#[tactic(auto, using(rhai_data::proofs::Copies::copies))]
 fn copy_ranges(ranges: &Seq<RangeCase>) -> Result<Seq<RangeCase>, AllocError>
     ensures { IfOk result (λ rs. rs ≡ ranges.now) }
 {

@@ -45,7 +45,7 @@ pub struct ScriptFuncDef {
 impl Clone for ScriptFuncDef {
     ghost is_clone = { λ f g. g ≡ f };
 
-    #[tactic(auto, using(rhai_base::proofs::Copies::copies))]
+    #[tactic(auto, using(rhai_data::proofs::Copies::copies))]
     fn clone(&self) -> Result<ScriptFuncDef, AllocError> {
         let start = both(self.body.clone()?, self.name.clone())?;
         let start = both(start, self.this_type.clone())?;
