@@ -146,13 +146,6 @@ impl Dynamic {
         self == other
     }
 
-    /// Whether it holds no pointer to a function at any depth, so that it can be a key of a `switch`.
-    pub fn is_hashable(&self) -> bool
-        ensures { result ≡ model.is_hashable (value_of self.now) }
-    {
-        hashable::is_hashable(self)
-    }
-
     /// Appends the value as it is written inside an array: texts and characters in quotes, with nothing
     /// escaped. A refused call leaves the text as it was.
     pub fn push_inner(&self, text: &mut String) -> Result<(), OutOfMemory>

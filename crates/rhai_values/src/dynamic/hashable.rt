@@ -9,22 +9,24 @@ use crate::Dynamic;
 use rhai_data::Seq;
 use rhai_text::StringMap;
 
-/// Whether it holds no pointer to a function at any depth.
-#[cycle(hashable)]
-pub(super) fn is_hashable(value: &Dynamic) -> bool
-    ensures { result ≡ model.is_hashable (value_of value.now) }
-{
-    match value {
-        Dynamic::Array(items) => are_hashable(items),
-        Dynamic::Map(members) => have_hashable(members),
-        Dynamic::FnPtr(_) => false,
-        Dynamic::Unit
-        | Dynamic::Bool(_)
-        | Dynamic::Int(_)
-        | Dynamic::Char(_)
-        | Dynamic::Str(_)
-        | Dynamic::Range(_, _)
-        | Dynamic::RangeInclusive(_, _) => true,
+impl Dynamic {
+    /// Whether it holds no pointer to a function at any depth, so that it can be a key of a `switch`.
+    #[cycle(hashable)]
+    pub fn is_hashable(&self) -> bool
+        ensures { result ≡ model.is_hashable (value_of self.now) }
+    {
+        match self {
+            Dynamic::Array(items) => are_hashable(items),
+            Dynamic::Map(members) => have_hashable(members),
+            Dynamic::FnPtr(_) => false,
+            Dynamic::Unit
+            | Dynamic::Bool(_)
+            | Dynamic::Int(_)
+            | Dynamic::Char(_)
+            | Dynamic::Str(_)
+            | Dynamic::Range(_, _)
+            | Dynamic::RangeInclusive(_, _) => true,
+        }
     }
 }
 
@@ -33,7 +35,7 @@ fn are_hashable(items: &Seq<Dynamic>) -> bool
     ensures { result ≡ model.are_hashable (model.values (map value_of items.now)) }
 {
     for item in items.as_slice() {
-        if !is_hashable(item) {
+        if !item.is_hashable() {
             return false;
         }
     }
@@ -45,7 +47,7 @@ fn have_hashable(members: &StringMap<Dynamic>) -> bool
     ensures { result ≡ model.fields_hashable (model.fields (members_of members.now)) }
 {
     for (_, member) in members.iter() {
-        if !is_hashable(member) {
+        if !member.is_hashable() {
             return false;
         }
     }

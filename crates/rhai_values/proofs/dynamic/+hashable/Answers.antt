@@ -2,13 +2,13 @@ use Rattle.std.proofs.Common.{◌≡◌, ℕ, List, [], ◌∷◌, ◌++◌, ◌
 use Rattle.rhai_values.specs.Value.{fields, is_hashable, fields_hashable}
 use Rattle.rhai_values.specs.Reading.{value_of, members_of}
 use Rattle.rhai_values.specs.declared.dynamic.Dynamic.{Dynamic}
-use Rattle.rhai_values.proofs.dynamic.hashable.+hashable.Goals as goal
+use Rattle.rhai_values.proofs.dynamic.+hashable.Goals as goal
 
 abbrev told : List (List ℕ × Dynamic) → Bool
 told es = fields_hashable (fields (members_of es))
 
-pub have_hashable-loop-member-preserved : goal.have_hashable-loop-member-preserved
-have_hashable-loop-member-preserved t c =
+pub hashable::have_hashable-loop-member-preserved : goal.hashable::have_hashable-loop-member-preserved
+hashable::have_hashable-loop-member-preserved t c =
     let done = c.loop-member.invariant.0 in
     let e : List ℕ × Dynamic = (c.in-Some.field-0-0.now, c.in-Some.member.now) in
     let left = c.next.new.self in
