@@ -51,10 +51,7 @@ impl FnLib {
         ensures id { result.id ≡ None }
         ensures functions { result.functions ≡ [] }
     {
-        FnLib {
-            id: None,
-            functions: FnTable::new(alloc),
-        }
+        unnamed(FnTable::new(alloc))
     }
 
     /// The table of these functions: a later one takes the place of an earlier one of its key.
@@ -67,10 +64,7 @@ impl FnLib {
         ensures id { IfOk result (λ lib. lib.id ≡ None) }
     {
         let functions = FnTable::new(alloc).with_all(functions)?;
-        Ok(FnLib {
-            id: None,
-            functions,
-        })
+        Ok(unnamed(functions))
     }
 
     /// The table's id.
@@ -104,7 +98,7 @@ impl FnLib {
     pub fn is_empty(&self) -> bool
         ensures { IsTrue result ↔ (self.now.functions ≡ []) }
     {
-        self.functions.len() == 0
+        self.len() == 0
     }
 
     /// The function of a key.
@@ -120,6 +114,17 @@ impl FnLib {
         ensures distinct { IsTrue (are_distinct (map key_of (functions_of self.now))) }
     {
         self.functions.iter()
+    }
+}
+
+/// The table of these functions, without an id.
+fn unnamed(functions: FnTable) -> FnLib
+    ensures id { result.id ≡ None }
+    ensures functions { result.functions ≡ functions }
+{
+    FnLib {
+        id: None,
+        functions,
     }
 }
 
@@ -165,11 +170,7 @@ pub fn without_id(lib: &FnLib) -> Result<FnLib, OutOfMemory>
     ensures id { IfOk result (λ made. made.id ≡ None) }
     ensures functions { IfOk result (λ made. made.functions ≡ lib.now.functions) }
 {
-    let functions = lib.functions.clone()?;
-    Ok(FnLib {
-        id: None,
-        functions,
-    })
+    Ok(unnamed(lib.functions.clone()?))
 }
 
 /// A table of these functions with the id of the table.

@@ -9,4 +9,4 @@ use Rattle.rhai_functions.proofs.fn_lib.FnLib.from_functions.Goals as goal
 pub returns-clause-table : goal.returns-clause-table
 returns-clause-table c =
     let functions = map rc_value c.args.functions.items in
-    ap (map function_of) (c.in_ok-functions.ensures ∙ ap (λ t. put_all_by definition_key t functions) c.new.ensures) ∙ map-put_all function_of key_of [] functions
+    ap (map function_of) (c.unnamed.ensures.functions ∙ c.in_ok-functions.ensures ∙ ap (λ t. put_all_by definition_key t functions) c.new.ensures) ∙ map-put_all function_of key_of [] functions
