@@ -22,7 +22,7 @@ pub use rhai_tree::{
     BinaryExpr, Expr, FlowControl, FnAccess, FnCallExpr, FnNamespace, ScriptFuncDef, Stmt,
     StmtBlock, StmtBlockContainer, SwitchBlock, SwitchCasesCollection,
 };
-pub use rhai_walk::{ASTNode, walk_statements};
+pub use rhai_walk::ASTNode;
 pub use stmt::StmtQueries;
 pub use switch::SwitchCases;
 pub use take::Take;
