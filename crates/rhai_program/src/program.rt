@@ -43,17 +43,35 @@ pub fn run_words<W: io::Write, E: io::Write>(
     ensures start_of_answer { IfSome (request_of (map string_bytes words.now)) (λ r. Keeps (W.contents out.old) (W.contents out.new) ⊎ ((text : Text) × Answers r text × AppendsStart (W.contents out.old) (W.contents out.new) text)) }
     ensures start_of_usage { IsNone (request_of (map string_bytes words.now)) → AppendsStart (E.contents err.old) (E.contents err.new) usage }
 {
-    let Some(request) = Request::parse(words) else {
-        return match put(USAGE, err) {
-            Ok(()) => 2,
-            Err(_) => 1,
-        };
-    };
+    match Request::parse(words) {
+        Some(request) => put_answer(alloc, request, out),
+        None => put_usage(err),
+    }
+}
+
+/// Writes what answers a request: 0, or 1 for want of memory or a failed write.
+fn put_answer<W: io::Write>(alloc: Global, request: Request, out: &mut W) -> u8
+    ensures status { (result ≡ 0) ⊎ (result ≡ 1) }
+    ensures answer { result ≡ 0 → (text : Text) × Answers request text × Appends (W.contents out.old) (W.contents out.new) text }
+    ensures start { Keeps (W.contents out.old) (W.contents out.new) ⊎ ((text : Text) × Answers request text × AppendsStart (W.contents out.old) (W.contents out.new) text) }
+{
     let Ok(text) = answer(alloc, request) else {
         return 1;
     };
     match put(text.as_str(), out) {
         Ok(()) => 0,
+        Err(_) => 1,
+    }
+}
+
+/// Writes the usage: 2, or 1 for a failed write.
+fn put_usage<E: io::Write>(err: &mut E) -> u8
+    ensures status { (result ≡ 1) ⊎ (result ≡ 2) }
+    ensures usage { result ≡ 2 → Appends (E.contents err.old) (E.contents err.new) usage }
+    ensures start { AppendsStart (E.contents err.old) (E.contents err.new) usage }
+{
+    match put(USAGE, err) {
+        Ok(()) => 2,
         Err(_) => 1,
     }
 }

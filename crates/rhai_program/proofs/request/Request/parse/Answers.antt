@@ -1,7 +1,11 @@
 use Rattle.std.proofs.Common.{arith, map, string_bytes, Global}
+use Rattle.std.proofs.lemmas.Grind.{common_steps}
 use Rattle.std.proofs.lemmas.List.{length-map}
 use Rattle.rhai_program.proofs.Turns.{request_of-two, request_of-many}
 use Rattle.rhai_program.proofs.request.Request.parse.Goals as goal
+
+pub returns-in-len1 : goal.returns-in-len1
+returns-in-len1 c = grind (arith, common_steps)
 
 pub returns-in_default-3 : goal.returns-in_default-3
 returns-in_default-3 c =
