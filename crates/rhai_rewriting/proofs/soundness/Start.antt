@@ -30,10 +30,6 @@ entry_fits : (e : ScopeEntry) (b : Bool) (v : Value) → e.constant ≡ b → co
 entry_fits e true v q h = (q, let z : Some e.value ≡ Some v = h in cc)
 entry_fits e false v q h = absurd (let z : None ≡ Some v = h in cc)
 
-record_alone : (o : Option Value) → or_else o None ≡ o
-record_alone None = refl
-record_alone (Some u) = refl
-
 append_none : (ks : List Known) → ks ++ [] ≡ ks
 append_none [] = refl
 append_none (k ∷ ks) = ap (λ ls. k ∷ ls) (append_none ks)
