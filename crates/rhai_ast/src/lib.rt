@@ -7,7 +7,6 @@ mod block;
 mod check;
 mod node;
 mod place;
-mod stmt;
 mod switch;
 mod take;
 mod walk;
@@ -18,12 +17,12 @@ pub use node::NodeQueries;
 pub use place::SetPosition;
 pub use rhai_base::{CaseBlocksList, Cases, TreeFault};
 pub use rhai_exprs::{CallQueries, ExprQueries, IntoExpr, Literals};
+pub use rhai_stmts::StmtQueries;
 pub use rhai_tree::{
     BinaryExpr, Expr, FlowControl, FnAccess, FnCallExpr, FnNamespace, ScriptFuncDef, Stmt,
     StmtBlock, StmtBlockContainer, SwitchBlock, SwitchCasesCollection,
 };
-pub use rhai_walk::ASTNode;
-pub use stmt::StmtQueries;
+pub use rhai_walk::{ASTNode, walk_statements};
 pub use switch::SwitchCases;
 pub use take::Take;
 pub use walk::Walk;

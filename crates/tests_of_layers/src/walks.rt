@@ -1,10 +1,9 @@
 //! Walks over trees and scripts: the paths to the nodes in turn, walks that are stopped, and what is left of their paths. A path
 //! has of each node on it whether it is a statement or an expression, and its column.
 
-use rhai_ast::{ASTNode, Expr, NodeQueries, Stmt, Walk};
+use rhai_ast::{ASTNode, Expr, NodeQueries, Stmt, Walk, walk_statements};
 use rhai_script::AST;
 use rhai_script_queries::ScriptQueries;
-use rhai_walk::walk_statements;
 use tests_reader::Said;
 
 /// What is walked over.

@@ -1,14 +1,13 @@
 //! The calls below the optimiser's entry, and where nodes stand.
 
 use crate::record::say_value;
-use rhai_ast::{ASTNode, Expr, FnCallExpr, NodeQueries, Stmt, StmtBlock};
+use rhai_ast::{ASTNode, Expr, FnCallExpr, NodeQueries, Stmt, StmtBlock, walk_statements};
 use rhai_base::Position;
 use rhai_folding::{constant_bool, folded};
 use rhai_notation::push_lines;
 use rhai_optimizer::{OptimizationLevel, OptimizerState, optimize_top_level};
 use rhai_rules::{reduce_expr, reduce_stmt};
 use rhai_run::EngineInfo;
-use rhai_walk::walk_statements;
 use tests_reader::{Said, Script};
 
 pub fn answer(question: &str, info: &EngineInfo, text: &str, said: &Said) {

@@ -1,6 +1,6 @@
 use Rattle.rhai_reading.proofs.Cases.{stmt_cases}
-use Rattle.rhai_ast.proofs.Others.{no_value}
-use Rattle.rhai_ast.proofs.stmt.StmtStmtQueries.returns_value.Goals as goal
+use Rattle.rhai_stmts.proofs.Others.{no_value}
+use Rattle.rhai_stmts.proofs.stmt.StmtStmtQueries.returns_value.Goals as goal
 
 pub returns-in_default : goal.returns-in_default
 returns-in_default c =

@@ -1,7 +1,7 @@
 use Rattle.std.proofs.Common.{rules}
 use Rattle.rhai_reading.specs.Reading.{shapes}
 use Rattle.rhai_reading.specs.Positions.{places}
-use Rattle.rhai_ast.proofs.stmt.StmtStmtQueries.options.Goals as goal
+use Rattle.rhai_stmts.proofs.stmt.StmtStmtQueries.options.Goals as goal
 
 pub returns-in-Do : goal.returns-in-Do
 returns-in-Do c = search (rules, shapes, places)

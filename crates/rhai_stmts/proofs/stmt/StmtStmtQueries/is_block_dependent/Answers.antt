@@ -1,7 +1,7 @@
 use Rattle.std.proofs.Common.{rules}
 use Rattle.rhai_reading.specs.Reading.{shapes}
 use Rattle.rhai_reading.specs.Positions.{places}
-use Rattle.rhai_ast.proofs.stmt.StmtStmtQueries.is_pure.Goals as goal
+use Rattle.rhai_stmts.proofs.stmt.StmtStmtQueries.is_block_dependent.Goals as goal
 
 pub returns-clause-value : goal.returns-clause-value
 returns-clause-value c = search (rules, shapes, places)

@@ -1,7 +1,7 @@
 use Rattle.std.proofs.Common.{rules}
 use Rattle.rhai_reading.specs.Reading.{shapes}
 use Rattle.rhai_reading.specs.Positions.{places}
-use Rattle.rhai_ast.proofs.stmt.StmtStmtQueries.position.Goals as goal
+use Rattle.rhai_stmts.proofs.stmt.StmtStmtQueries.position.Goals as goal
 
 pub returns : goal.returns
 returns c = search (rules, shapes, places)

@@ -1,6 +1,6 @@
 use Rattle.rhai_reading.proofs.Cases.{stmt_cases}
-use Rattle.rhai_ast.proofs.Others.{no_noop}
-use Rattle.rhai_ast.proofs.stmt.StmtStmtQueries.is_noop.Goals as goal
+use Rattle.rhai_stmts.proofs.Others.{no_noop}
+use Rattle.rhai_stmts.proofs.stmt.StmtStmtQueries.is_noop.Goals as goal
 
 pub returns-in_default : goal.returns-in_default
 returns-in_default c = no_noop (stmt_cases c.args.self.now) c.in_default.not-Noop
