@@ -1,10 +1,9 @@
 //! The program: words in, text and a status out.
 ghost use Rattle.std.specs.Prelude.{◌≡◌, ◌≤◌, ◌⊎◌, length, map, string_bytes, IsNone, IsSome, IfSome, IfOk, OnOk, MatchOption};
-ghost use Rattle.std.specs.Io.KnownBytes.{Appends, Keeps, WriteAppends};
-ghost use Rattle.rhai_program.specs.Output.{AppendsStart};
+ghost use Rattle.std.specs.Io.KnownBytes.{Appends, WriteAppends};
+ghost use Rattle.rhai_program.specs.Output.{AppendsAnswer, AppendsAnswerStart, AppendsStart};
 ghost use Rattle.rhai_notation.specs.BuiltinScripts.{all_scripts};
 ghost use Rattle.rhai_program.specs.Words.{request_of, usage, listing, built_in, Answers, Optimized};
-ghost use Rattle.rhai_values.specs.Value.{Text};
 ghost use Rattle.rhai_script.specs.Script.{script_of};
 
 use crate::request::Request;
@@ -36,11 +35,11 @@ pub fn run_words<W: io::Write, E: io::Write>(
     ensures request { IsSome (request_of (map string_bytes words.now)) → err.new ≡ err.old }
     ensures other_words { IsNone (request_of (map string_bytes words.now)) → out.new ≡ out.old }
 
-    ensures answer { result ≡ 0 → IfSome (request_of (map string_bytes words.now)) (λ r. (text : Text) × Answers r text × Appends (W.contents out.old) (W.contents out.new) text) }
+    ensures answer { result ≡ 0 → IfSome (request_of (map string_bytes words.now)) (λ r. AppendsAnswer r (W.contents out.old) (W.contents out.new)) }
     ensures usage { result ≡ 2 → Appends (E.contents err.old) (E.contents err.new) usage }
 
     // Whatever the status, no more is written than a beginning of the answer, or of the usage.
-    ensures start_of_answer { IfSome (request_of (map string_bytes words.now)) (λ r. Keeps (W.contents out.old) (W.contents out.new) ⊎ ((text : Text) × Answers r text × AppendsStart (W.contents out.old) (W.contents out.new) text)) }
+    ensures start_of_answer { IfSome (request_of (map string_bytes words.now)) (λ r. AppendsAnswerStart r (W.contents out.old) (W.contents out.new)) }
     ensures start_of_usage { IsNone (request_of (map string_bytes words.now)) → AppendsStart (E.contents err.old) (E.contents err.new) usage }
 {
     match Request::parse(words) {
@@ -52,8 +51,8 @@ pub fn run_words<W: io::Write, E: io::Write>(
 /// Writes what answers a request: 0, or 1 for want of memory or a failed write.
 fn put_answer<W: io::Write>(alloc: Global, request: Request, out: &mut W) -> u8
     ensures status { (result ≡ 0) ⊎ (result ≡ 1) }
-    ensures answer { result ≡ 0 → (text : Text) × Answers request text × Appends (W.contents out.old) (W.contents out.new) text }
-    ensures start { Keeps (W.contents out.old) (W.contents out.new) ⊎ ((text : Text) × Answers request text × AppendsStart (W.contents out.old) (W.contents out.new) text) }
+    ensures answer { result ≡ 0 → AppendsAnswer request (W.contents out.old) (W.contents out.new) }
+    ensures start { AppendsAnswerStart request (W.contents out.old) (W.contents out.new) }
 {
     let Ok(text) = answer(alloc, request) else {
         return 1;
