@@ -136,12 +136,15 @@ fn place(text: &str) -> Position {
     }
 }
 
-/// A span of two positions, whose end is given as what it is or else, and the first or else the second.
+/// A span of two positions, with 1:1 and 9:9 where it is nowhere, and the first or else the second.
 fn places(start: Position, end: Position, said: &Said) {
-    let span = Span::new(start, Position::NONE).or_else(Position::NONE, end);
+    let span = Span::new(start, end);
     said.place("from", span.start());
     said.place("to", span.end());
     said.word_if(span.is_none(), "no span");
     said.word_if(span == Span::NONE, "none");
+    let filled = span.or_else(Position::new(1, 1), Position::new(9, 9));
+    said.place("filled from", filled.start());
+    said.place("to", filled.end());
     said.place("or else", start.or_else(end));
 }
