@@ -1,13 +1,15 @@
--- A statement that is no block, and something, makes a block of itself.
-use Rattle.std.proofs.Common.{◌≡◌, refl, sym, ◌∙◌}
+-- A statement that is no block, and something, makes a block of itself; the tree of one that nothing follows.
+use Rattle.std.proofs.Common.{◌≡◌, refl, sym, ap, ◌∙◌}
 use Rattle.rhai_tokens.specs.declared.position.Position.{Position}
 use Rattle.rhai_tree.specs.declared.block.StmtBlock.{StmtBlock}
 use Rattle.rhai_tree.specs.declared.expr.Expr.TheOpen as open_one
 use Rattle.rhai_tree.specs.declared.expr.Expr.TheViews as views
 use Rattle.rhai_tree.specs.declared.stmt.Stmt.{Stmt}
 use Rattle.rhai_tree.specs.declared.stmt.Stmt.TheVariants as stmt_kind
+use Rattle.rhai_meaning.specs.Tree.{Block, Noop, no_stmts, stmt}
 use Rattle.rhai_reading.specs.Positions.{StmtLayer}
-use Rattle.rhai_nodes.specs.Blocks.{block_in, block_made_of, block_of_one}
+use Rattle.rhai_reading.specs.Reading.{stmt_of, stmt_of-Block, stmt_of-Noop}
+use Rattle.rhai_nodes.specs.Blocks.{block_in, block_made_of, block_of_one, followed_at}
 
 other_in : (s : Stmt) (x : StmtLayer) → ((p : Position) → views.roll-Stmt x ≡ stmt_kind.Noop p → ⊥) → ((b : StmtBlock) → views.roll-Stmt x ≡ stmt_kind.Block b → ⊥)
     → block_of_one s ≡ block_in s x
@@ -18,3 +20,6 @@ other_in s _ nothing block = refl
 pub block_of_other : (s : Stmt) → ((p : Position) → s ≡ stmt_kind.Noop p → ⊥) → ((b : StmtBlock) → s ≡ stmt_kind.Block b → ⊥) → block_of_one s ≡ block_made_of s
 unfolding block_made_of
 block_of_other s nothing block = other_in s (views.out-Stmt s) (λ p e. nothing p (sym (views.roll-out-Stmt s) ∙ e)) (λ b e. block b (sym (views.roll-out-Stmt s) ∙ e))
+
+pub followed_tree : (s : Stmt) (p : Position) → stmt_of (stmt_kind.Block (followed_at s p)) ≡ Block (stmt (stmt_of s) (stmt Noop no_stmts))
+followed_tree s p = stmt_of-Block (followed_at s p) ∙ ap (λ n. Block (stmt (stmt_of s) (stmt n no_stmts))) (stmt_of-Noop p)

@@ -1,4 +1,4 @@
--- The block that a statement makes.
+-- The blocks that a statement makes.
 use Rattle.std.specs.Prelude.{◌≡◌, [], ◌∷◌}
 use Rattle.std.proofs.Common.{ap, sym, ◌∙◌}
 use Rattle.rhai_tokens.specs.declared.position.Position.{Position}
@@ -17,6 +17,10 @@ empty_at p = views.roll-StmtBlock (record { block = []; span = record { start = 
 -- the statement alone, from where it stands on; the block ends nowhere
 abbrev pub block_of_one : Stmt → StmtBlock
 block_of_one s = views.roll-StmtBlock (record { block = s ∷ []; span = record { start = stmt_position_of s; end = nowhere } })
+
+-- a statement, then nothing; both ends are there
+abbrev pub followed_at : Stmt → Position → StmtBlock
+followed_at s p = views.roll-StmtBlock (record { block = s ∷ stmt_kind.Noop p ∷ []; span = record { start = p; end = p } })
 
 -- a block is itself, and nothing is an empty block where it stands
 abbrev pub block_in : Stmt → StmtLayer → StmtBlock

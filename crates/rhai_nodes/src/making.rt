@@ -4,10 +4,10 @@
 #![tactic(auto, using(rhai_reading::specs::Reading::shapes))]
 
 ghost use Rattle.std.specs.Prelude.{◌≡◌, ◌≢◌, [], ◌∷◌, IfOk, length, MatchOption};
-ghost use Rattle.rhai_meaning.specs.Tree.{Block, ExprStmt, Noop, no_stmts, stmt};
-ghost use Rattle.rhai_reading.specs.Reading.{expr_of, stmt_of, stmts_of};
+ghost use Rattle.rhai_tree.specs.declared.stmt.Stmt.TheVariants as kind;
+ghost use Rattle.rhai_nodes.specs.Blocks.{followed_at};
 
-use rhai_base::{Boxed, OutOfMemory, Position};
+use rhai_base::{Boxed, OutOfMemory, Position, Span};
 use rhai_tree::{Expr, FlowControl, Stmt, StmtBlock};
 use std::alloc::Global;
 
@@ -29,14 +29,14 @@ pub fn put_stmt(place: &mut Stmt, made: Stmt)
 
 /// An expression as a statement.
 pub fn expression_statement(alloc: Global, expr: Expr) -> Result<Stmt, OutOfMemory>
-    ensures { IfOk result (λ s. stmt_of s ≡ ExprStmt (expr_of expr)) }
+    ensures { IfOk result (λ s. s ≡ kind.Expr expr) }
 {
     Ok(Stmt::Expr(Boxed::new(alloc, expr)?))
 }
 
 /// A block as a statement.
 pub fn block_statement(alloc: Global, block: StmtBlock) -> Result<Stmt, OutOfMemory>
-    ensures { IfOk result (λ s. stmt_of s ≡ Block (stmts_of block.block)) }
+    ensures { IfOk result (λ s. s ≡ kind.Block block) }
 {
     Ok(Stmt::Block(Boxed::new(alloc, block)?))
 }
@@ -47,10 +47,13 @@ pub fn followed_by_nothing(
     statement: Stmt,
     pos: Position,
 ) -> Result<Stmt, OutOfMemory>
-    ensures { IfOk result (λ s. stmt_of s ≡ Block (stmt (stmt_of statement) (stmt Noop no_stmts))) }
+    ensures { IfOk result (λ s. s ≡ kind.Block (followed_at statement pos)) }
 {
     let statements = Vec::from_array(alloc, [statement, Stmt::Noop(pos)])?;
-    block_statement(alloc, StmtBlock::new(statements, pos, pos))
+    block_statement(
+        alloc,
+        StmtBlock::new_with_span(statements, Span::new(pos, pos)),
+    )
 }
 
 /// The statement of a block that has one alone.
