@@ -103,7 +103,7 @@ fn is_member(expr: &Expr) -> bool
 // ---- left sides and catch names
 
 /// Whether a value can be assigned to it.
-pub fn is_left_side(expr: &Expr) -> bool
+pub(crate) fn is_left_side(expr: &Expr) -> bool
     ensures { result ≡ shape.is_left_side (expr_of expr.now) }
 {
     matches!(

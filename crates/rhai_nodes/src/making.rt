@@ -1,8 +1,6 @@
 //! Nodes made of nodes, and put in the place of nodes. What is left over is let go here, so that the crates above, which rewrite
 //! trees, let go of none.
 
-#![tactic(auto, using(rhai_reading::specs::Reading::shapes))]
-
 ghost use Rattle.std.specs.Prelude.{◌≡◌, ◌≢◌, [], ◌∷◌, IfOk, length, MatchOption};
 ghost use Rattle.rhai_tree.specs.declared.stmt.Stmt.TheVariants as kind;
 ghost use Rattle.rhai_nodes.specs.Blocks.{followed_at};
