@@ -3,6 +3,17 @@
 //! They stand below their names and what prints them (`rhai_notation`), whose edits would each begin with what lets go of a tree.
 #![tactic(auto)]
 
+mod constants;
+mod expressions;
+mod lines;
+mod names;
 mod statements;
+mod switch;
 
-pub use statements::{divide_statements, first_statements};
+pub use constants::constants_statements;
+pub use names::{base_statements, opassign_statements, rewrite_statements, shadow_statements};
+pub use statements::{
+    bits_statements, coalesce_statements, divide_statements, endless_statements, first_statements,
+    index_statements, return_statements, tail_statements,
+};
+pub use switch::switch_statements;

@@ -6,7 +6,11 @@ ghost use Rattle.rhai_reading.specs.Reading.{stmts_of};
 
 use rhai_ast::Stmt;
 use rhai_base::OutOfMemory;
-use rhai_builtins::{divide_statements, first_statements};
+use rhai_builtins::{
+    base_statements, bits_statements, coalesce_statements, constants_statements, divide_statements,
+    endless_statements, first_statements, index_statements, opassign_statements, return_statements,
+    rewrite_statements, shadow_statements, switch_statements, tail_statements,
+};
 use std::alloc::Global;
 
 /// A built-in script.
@@ -16,18 +20,54 @@ pub enum BuiltinScript {
     First,
     /// no statements
     Empty,
+    /// `[1, 2, 3][-1]`
+    Index,
+    /// `5[0]`
+    Bits,
+    /// `() ?? ()`
+    Coalesce,
+    /// `let x = 1; x = x + 2; x`
+    OpAssign,
+    /// `let x = 1; x = x + { x = 5; 1 }; x`
+    Rewrite,
+    /// `return 42`
+    Return,
+    /// `42; {}`
+    Tail,
+    /// `const x = 42; for x in [1, 2] { print(x); }`
+    Shadow,
+    /// `let a = []; {a}.push(1); a`
+    Base,
+    /// `switch [1] { [1] if f() => 1, [1] => 2, _ => 3 }`
+    Switch,
     /// `1 / 0`
     Divide,
+    /// `loop {} print(1)`
+    Endless,
+    /// `const A = 40 + 2; let b = 123; const B = b * A; const C = 999; b = A + C; { const Z = 0; print(Z); }`
+    Constants,
 }
 
 impl BuiltinScript {
     ghost use Rattle.rhai_notation.specs.BuiltinScripts.{name_of, script_named, statements_of};
 
     /// Each script once.
-    pub const ALL: [BuiltinScript; 3] = [
+    pub const ALL: [BuiltinScript; 15] = [
         BuiltinScript::First,
         BuiltinScript::Empty,
+        BuiltinScript::Index,
+        BuiltinScript::Bits,
+        BuiltinScript::Coalesce,
+        BuiltinScript::OpAssign,
+        BuiltinScript::Rewrite,
+        BuiltinScript::Return,
+        BuiltinScript::Tail,
+        BuiltinScript::Shadow,
+        BuiltinScript::Base,
+        BuiltinScript::Switch,
         BuiltinScript::Divide,
+        BuiltinScript::Endless,
+        BuiltinScript::Constants,
     ];
 
     /// The name by which the program knows it.
@@ -37,7 +77,19 @@ impl BuiltinScript {
         match self {
             BuiltinScript::First => "first",
             BuiltinScript::Empty => "empty",
+            BuiltinScript::Index => "index",
+            BuiltinScript::Bits => "bits",
+            BuiltinScript::Coalesce => "coalesce",
+            BuiltinScript::OpAssign => "opassign",
+            BuiltinScript::Rewrite => "rewrite",
+            BuiltinScript::Return => "return",
+            BuiltinScript::Tail => "tail",
+            BuiltinScript::Shadow => "shadow",
+            BuiltinScript::Base => "base",
+            BuiltinScript::Switch => "switch",
             BuiltinScript::Divide => "divide",
+            BuiltinScript::Endless => "endless",
+            BuiltinScript::Constants => "constants",
         }
     }
 
@@ -45,12 +97,12 @@ impl BuiltinScript {
     pub fn named(name: &str) -> Option<BuiltinScript>
         ensures { result ≡ script_named name.now }
     {
-        match name {
-            "first" => Some(BuiltinScript::First),
-            "empty" => Some(BuiltinScript::Empty),
-            "divide" => Some(BuiltinScript::Divide),
-            _ => None,
+        for script in BuiltinScript::ALL {
+            if script.name() == name {
+                return Some(script);
+            }
         }
+        None
     }
 
     /// Its statements, built by hand, without positions.
@@ -60,7 +112,19 @@ impl BuiltinScript {
         match self {
             BuiltinScript::First => first_statements(alloc),
             BuiltinScript::Empty => Ok(Vec::new(alloc)),
+            BuiltinScript::Index => index_statements(alloc),
+            BuiltinScript::Bits => bits_statements(alloc),
+            BuiltinScript::Coalesce => coalesce_statements(alloc),
+            BuiltinScript::OpAssign => opassign_statements(alloc),
+            BuiltinScript::Rewrite => rewrite_statements(alloc),
+            BuiltinScript::Return => return_statements(alloc),
+            BuiltinScript::Tail => tail_statements(alloc),
+            BuiltinScript::Shadow => shadow_statements(alloc),
+            BuiltinScript::Base => base_statements(alloc),
+            BuiltinScript::Switch => switch_statements(alloc),
             BuiltinScript::Divide => divide_statements(alloc),
+            BuiltinScript::Endless => endless_statements(alloc),
+            BuiltinScript::Constants => constants_statements(alloc),
         }
     }
 }

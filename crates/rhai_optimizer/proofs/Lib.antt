@@ -1,3 +1,4 @@
 pub mod Flattening
 pub mod Parts
 pub mod UpTo
+pub mod Swept

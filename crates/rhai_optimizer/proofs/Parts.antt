@@ -1,186 +1,228 @@
--- A tree's parts, then its node; and the statements of a list, settled one by one.
-use Rattle.std.proofs.Common.{◌≡◌, ℕ, ℤ, ◌<◌, ◌≤◌, Bool, true, false, List, refl, sym, subst, arith}
+-- Trees that are spelled so, and nodes that are not opened.
+use Rattle.std.proofs.Common.{◌-◌, ℕ, drop, length, ◌≡◌, ◌↔◌, IsTrue, map, ◌++◌, Bool, true, false, List, [], ◌∷◌, None, refl, sym, ap, ◌∙◌, subst}
 use Rattle.rhai_tokens.specs.declared.position.Position.{Position}
-use Rattle.rhai_values.specs.declared.dynamic.Dynamic.{Dynamic}
+use Rattle.std.specs.declared.num.NonZeroUsize.{NonZeroUsize}
+use Rattle.std.specs.Prelude.{Option}
+use Rattle.rhai_parts.specs.declared.flags.ASTFlags.{ASTFlags}
+use Rattle.rhai_parts.specs.declared.ident.Ident.{Ident}
 use Rattle.rhai_values.specs.Value.{Text}
 use Rattle.rhai_tree.specs.declared.expr.Expr as declared_expr
 use Rattle.rhai_tree.specs.declared.expr.Expr.TheVariants as expr_kind
+use Rattle.rhai_tree.specs.declared.expr.BinaryExpr.{BinaryExpr}
+use Rattle.rhai_tokens.specs.declared.op_assignment.OpAssignment.{OpAssignment}
+use Rattle.rhai_parts.specs.declared.namespace.Namespace.{Namespace}
+use Rattle.std.specs.declared.num.NonZeroU8.{NonZeroU8}
+use Rattle.rhai_values.specs.declared.dynamic.Dynamic.{Dynamic}
 use Rattle.rhai_tree.specs.declared.expr.FnCallExpr.{FnCallExpr}
 use Rattle.rhai_tree.specs.declared.block.StmtBlock.{StmtBlock}
 use Rattle.rhai_tree.specs.declared.stmt.FlowControl.{FlowControl}
+use Rattle.rhai_tree.specs.declared.switch.SwitchBlock.{SwitchBlock}
+use Rattle.rhai_tree.specs.declared.switch.SwitchCasesCollection.{SwitchCasesCollection}
+use Rattle.rhai_tree.specs.declared.expr.Expr.TheOpen as open_one
+use Rattle.rhai_tree.specs.declared.expr.Expr.TheViews as views
 use Rattle.rhai_tree.specs.declared.stmt.Stmt as declared_stmt
 use Rattle.rhai_tree.specs.declared.stmt.Stmt.TheVariants as stmt_kind
-use Rattle.rhai_reading.specs.Reading.{expr_of, stmt_of}
-use Rattle.rhai_reading.proofs.Cases.{ExprCase, dynamic_constant_case, bool_constant_case, integer_constant_case, char_constant_case, string_constant_case, unit_case, array_case, braces_case, call_case, expr_cases, StmtCase, if_case, block_case, expression_case, call_statement_case, stmt_cases}
+use Rattle.rhai_reading.specs.Reading.{table_by, table_of, subject_of, cases_of, expressions_of, arms_of, expr_of, stmt_of, stmts_of, stmt_of-Var, is_const, is_exported, breaks, chain_flags}
+use Rattle.rhai_reading.proofs.Cases.{ExprCase, interpolated_string_case, array_case, map_case, unit_case, variable_case, method_call_case, braces_case, call_case, dot_case, index_case, and_case, or_case, coalesce_case, expr_cases, StmtCase, if_case, switch_case, while_case, do_case, for_case, var_case, assignment_case, call_statement_case, block_case, try_catch_case, expression_case, break_loop_case, return_case, import_case, stmt_cases}
 use Rattle.rhai_meaning.specs.Engine.{Engine}
-use Rattle.rhai_meaning.specs.Tree.{Callee, Expr, DynamicConstant, BoolConstant, IntegerConstant, CharConstant, StringConstant, UnitConstant, ArrayOf, BlockExpr, FnCall, Exprs, Stmt, If, FnCallStmt, Block, ExprStmt, Stmts, no_stmts, stmt}
-use Rattle.rhai_rewriting.specs.Context.{Context, knowing, under, ListKind, Inside}
+use Rattle.rhai_meaning.specs.Tree.{Expr, Variable, Dot, Index, Arms, MaybeExpr, no_expr, Stmt, Var, Stmts}
+use Rattle.rhai_meaning.specs.Shape.{catch_name}
+use Rattle.rhai_rewriting.specs.Clear.{HasClearParts, IsClear}
+use Rattle.rhai_steps.proofs.NodeKinds.{NoText, NoArray, NoMap, NoBraces, NoCall, NoDot, NoIndex, NoAnd, NoOr, NoCoalesce, NoMethod, NoVariable, NoIf, NoWhile, NoDo, NoFor, NoVar, NoAssignment, NoCallStatement, NoBlock, NoTry, NoExpression, NoBreak, NoReturn, NoImport, NoSwitch}
+use Rattle.rhai_rewriting.specs.Context.{Context, under, knowing, known_behind, ListKind, Whole}
 use Rattle.rhai_rewriting.specs.Known.{Known}
-use Rattle.rhai_rewriting.specs.Rewriting.{ExprTo, same_expr, then_expr, in_array, in_braces, in_call, StmtTo, same_stmt, then_stmt, in_if, in_block, in_expression, in_call_statement, RestTo, same_stmts, then_stmts, in_head, flag_forgotten}
-use Rattle.rhai_rewriting.specs.Steps.{ExprRun, ExprsRun, ExprStep, StmtRun, StmtStep, InList, SettleRun, EachRun, StmtsRun}
-use Rattle.rhai_rewriting.specs.Residue.{IsReduced, ExprParts, StmtParts}
-use Rattle.rhai_engine.specs.EngineInfo.{nothing_set}
-use Rattle.rhai_optimizer.specs.Blocks.{FlatList}
-use Rattle.rhai_optimizer.specs.Parts.{ExprPartsRun, StmtPartsRun, is_constant_alone}
-use Rattle.rhai_meaning.specs.Weight.{stmt_weight, weight}
-use Rattle.rhai_rewriting.proofs.Weights.{stmt_falls, stmts_fall}
-use Rattle.rhai_rewriting.proofs.Firing.{expr_step_to, expr_step_reduced, stmt_step_to, stmt_step_reduced}
-use Rattle.rhai_rewriting.proofs.Flags.{expr_kept, stmt_kept, stmts_kept}
+use Rattle.rhai_rewriting.specs.Rewriting.{RestTo, StmtsTo, same_expr, same_stmt, flag_forgotten}
+use Rattle.rhai_rewriting.specs.Steps.{Anywhere, ExprRun, ArmsRun, SwitchRun, Progress, here, is_chain_node, is_method, variable, catch_front, StepsRun, ArgumentRun, ChainRun, TargetRun, MaybeRun, SidesRun, LinkRun, ForRun, ExprPartsRun, StmtPartsRun, EachRun, StmtsRun}
+use Rattle.rhai_rewriting.specs.Residue.{ExprParts, StmtParts}
+use Rattle.rhai_known.specs.State.{known_entry, known_of}
+use Rattle.std.proofs.lemmas.List.{length-map, drop-map}
+use Rattle.rhai_optimizer.specs.Parts.{declared_value}
+use Rattle.rhai_rewriting.proofs.Running.{sides_dot, sides_index, link_dot, link_index, maybe_none_run, both_switch}
 
--- ---- parts first, then the node; whatever names are known
+-- ---- trees that are spelled so
 
-pub expr_done : {r : Engine} {d d1 d2 : Bool} {e e1 e2 : Expr} → ((known : List Known) → ExprPartsRun (knowing r known) d d1 e e1) → ((known : List Known) → ExprStep (knowing r known) d1 d2 e1 e2) → (known : List Known) → ExprRun (knowing r known) d d2 e e2
-expr_done p s known = let to = expr_step_to (s known) in record { to = then_expr (p known).to to; reduced = λ h. expr_step_reduced (s known) h ((p known).parts (expr_kept to h).0) }
+pub expr_as : {r : Engine} {s s' : Progress} {e e1 e' e1' : Expr} → e ≡ e1 → e' ≡ e1' → ExprPartsRun r s s' e1 e1' → ExprPartsRun r s s' e e'
+expr_as {r = r} {s = s} {s' = s'} {e1 = e1} {e' = e'} i j p = subst (λ a. ExprPartsRun r s s' a e') (sym i) (subst (λ b. ExprPartsRun r s s' e1 b) (sym j) p)
 
-pub stmt_done : {r : Engine} {w d d1 d2 : Bool} {s s1 s2 : Stmt} → ((known : List Known) → StmtPartsRun (knowing r known) w d d1 s s1) → ((known : List Known) → StmtStep (knowing r known) w d1 d2 s1 s2) → (known : List Known) → StmtRun (knowing r known) w d d2 s s2
-stmt_done p s known = let to = stmt_step_to (s known) in record { to = then_stmt (p known).to to; reduced = λ h. stmt_step_reduced (s known) h ((p known).parts (stmt_kept to h).0) }
+pub stmt_as : {r : Engine} {w : Bool} {s s' : Progress} {x x1 x' x1' : Stmt} → x ≡ x1 → x' ≡ x1' → StmtPartsRun r w s s' x1 x1' → StmtPartsRun r w s s' x x'
+stmt_as {r = r} {w = w} {s = s} {s' = s'} {x1 = x1} {x' = x'} i j p = subst (λ a. StmtPartsRun r w s s' a x') (sym i) (subst (λ b. StmtPartsRun r w s s' x1 b) (sym j) p)
 
--- trees that are spelled so
-pub expr_as : {r : Engine} {d d' : Bool} {e e1 e' e1' : Expr} → e ≡ e1 → e' ≡ e1' → ((known : List Known) → ExprPartsRun (knowing r known) d d' e1 e1') → (known : List Known) → ExprPartsRun (knowing r known) d d' e e'
-expr_as {r = r} {d = d} {d' = d'} {e1 = e1} {e' = e'} i j p known = subst (λ a. ExprPartsRun (knowing r known) d d' a e') (sym i) (subst (λ b. ExprPartsRun (knowing r known) d d' e1 b) (sym j) (p known))
+pub steps_as : {r : Engine} {dot breaks : Bool} {s s' : Progress} {e e1 e' e1' : Expr} → e ≡ e1 → e' ≡ e1' → StepsRun r dot breaks s s' e1 e1' → StepsRun r dot breaks s s' e e'
+steps_as {r = r} {dot = dot} {breaks = breaks} {s = s} {s' = s'} {e1 = e1} {e' = e'} i j p = subst (λ a. StepsRun r dot breaks s s' a e') (sym i) (subst (λ b. StepsRun r dot breaks s s' e1 b) (sym j) p)
 
-pub stmt_as : {r : Engine} {w d d' : Bool} {s s1 s' s1' : Stmt} → s ≡ s1 → s' ≡ s1' → ((known : List Known) → StmtPartsRun (knowing r known) w d d' s1 s1') → (known : List Known) → StmtPartsRun (knowing r known) w d d' s s'
-stmt_as {r = r} {w = w} {d = d} {d' = d'} {s1 = s1} {s' = s'} i j p known = subst (λ a. StmtPartsRun (knowing r known) w d d' a s') (sym i) (subst (λ b. StmtPartsRun (knowing r known) w d d' s1 b) (sym j) (p known))
+pub argument_spelled : {r : Engine} {dot : Bool} {s s' : Progress} {e e1 e' e1' : Expr} → e ≡ e1 → e' ≡ e1' → ArgumentRun r dot s s' e1 e1' → ArgumentRun r dot s s' e e'
+argument_spelled {r = r} {dot = dot} {s = s} {s' = s'} {e1 = e1} {e' = e'} i j p = subst (λ a. ArgumentRun r dot s s' a e') (sym i) (subst (λ b. ArgumentRun r dot s s' e1 b) (sym j) p)
 
--- ---- the parts of each node
+pub target_as : {r : Engine} {s s' : Progress} {e e1 e' e1' : Expr} → e ≡ e1 → e' ≡ e1' → TargetRun r s s' e1 e1' → TargetRun r s s' e e'
+target_as {r = r} {s = s} {s' = s'} {e1 = e1} {e' = e'} i j p = subst (λ a. TargetRun r s s' a e') (sym i) (subst (λ b. TargetRun r s s' e1 b) (sym j) p)
 
-pub array_run : {r : Engine} {d d' : Bool} {es es' : Exprs} → ((known : List Known) → ExprsRun (knowing r known) d d' es es') → (known : List Known) → ExprPartsRun (knowing r known) d d' (ArrayOf es) (ArrayOf es')
-array_run p known = record { to = in_array (p known).to; parts = (p known).reduced }
+pub for_as : {r : Engine} {x : Text} {i : Option Text} {s s' : Progress} {e : Expr} {b b1 : StmtBlock} {e1 e2 : declared_expr.Expr} {b' : Stmts} → b1 ≡ b → e2 ≡ e1 → ForRun r x i s s' e (stmts_of b1.block) (expr_of e1) b' → ForRun r x i s s' e (stmts_of b.block) (expr_of e2) b'
+for_as {r = r} {x = x} {i = i} {s = s} {s' = s'} {e = e} {b = b} {b1 = b1} {e1 = e1} {e2 = e2} {b' = b'} h j p =
+    subst (λ (y : declared_expr.Expr). ForRun r x i s s' e (stmts_of b.block) (expr_of y) b') (sym j)
+    (subst (λ (y : StmtBlock). ForRun r x i s s' e (stmts_of y.block) (expr_of e1) b') h p)
 
-pub braces_run : {r : Engine} {d d' : Bool} {ss ss' : Stmts} → ((known : List Known) → StmtsRun (knowing r known) (Inside true) d d' ss ss') → (known : List Known) → ExprPartsRun (knowing r known) d d' (BlockExpr ss) (BlockExpr ss')
-braces_run p known = record { to = in_braces (p known).to; parts = λ h. (p known).reduced }
+pub maybe_from : {r : Engine} {s s' : Progress} {m m1 m' : MaybeExpr} → m ≡ m1 → MaybeRun r s s' m1 m' → MaybeRun r s s' m m'
+maybe_from {r = r} {s = s} {s' = s'} {m' = m'} h p = subst (λ y. MaybeRun r s s' y m') (sym h) p
 
--- a call keeps its callee
-pub call_run : {r : Engine} {d d' : Bool} {c c' : Callee} {es es' : Exprs} → (c' ≡ c) × ((known : List Known) → ExprsRun (knowing r known) d d' es es') → (known : List Known) → ExprPartsRun (knowing r known) d d' (FnCall c es) (FnCall c' es')
-call_run {r = r} {d = d} {d' = d'} {c' = c'} {es = es} {es' = es'} p known =
-    let q = p.1 known in
-    record { to = subst (λ x. ExprTo (knowing r known) d d' (FnCall x es) (FnCall c' es')) p.0 (in_call q.to); parts = q.reduced }
+pub maybe_same : {r : Engine} {s : Progress} {m : MaybeExpr} → m ≡ no_expr → MaybeRun r s s m m
+maybe_same {r = r} {s = s} h = subst (λ y. MaybeRun r s s y y) (sym h) maybe_none_run
 
-pub call_statement_run : {r : Engine} {w d d' : Bool} {c c' : Callee} {es es' : Exprs} → (c' ≡ c) × ((known : List Known) → ExprsRun (knowing r known) d d' es es') → (known : List Known) → StmtPartsRun (knowing r known) w d d' (FnCallStmt c es) (FnCallStmt c' es')
-call_statement_run {r = r} {w = w} {d = d} {d' = d'} {c' = c'} {es = es} {es' = es'} p known =
-    let q = p.1 known in
-    record { to = subst (λ x. StmtTo (knowing r known) w d d' (FnCallStmt x es) (FnCallStmt c' es')) p.0 (in_call_statement q.to); parts = q.reduced }
+-- the flags of a node as they were read
+pub sides_dot_at : {r : Engine} {k k' : ASTFlags} {s s' : Progress} {l l' e e' : Expr} → k ≡ k' → SidesRun r true (breaks k) s s' l e l' e' → ChainRun r s s' (Dot (chain_flags k') l e) (Dot (chain_flags k') l' e')
+sides_dot_at {r = r} {s = s} {s' = s'} {l = l} {l' = l'} {e = e} {e' = e'} h p = sides_dot (subst (λ (y : ASTFlags). SidesRun r true (breaks y) s s' l e l' e') h p)
 
-pub if_run : {r : Engine} {w d d1 d2 d3 : Bool} {e e' : Expr} {a a' b b' : Stmts} → ((known : List Known) → ExprRun (knowing r known) d d1 e e') → ((known : List Known) → StmtsRun (knowing r known) (Inside w) d1 d2 a a') → ((known : List Known) → StmtsRun (knowing r known) (Inside w) d2 d3 b b') → (known : List Known) → StmtPartsRun (knowing r known) w d d3 (If e a b) (If e' a' b')
-if_run f g h known =
-    let p = f known in
-    let q = g known in
-    let s = h known in
-    record { to = in_if p.to q.to s.to; parts = λ z. let i = (stmts_kept s.to z).0 in let j = (stmts_kept q.to i).0 in (p.reduced j, (q.reduced, s.reduced)) }
+pub sides_index_at : {r : Engine} {k k' : ASTFlags} {s s' : Progress} {l l' e e' : Expr} → k ≡ k' → SidesRun r false (breaks k) s s' l e l' e' → ChainRun r s s' (Index (chain_flags k') l e) (Index (chain_flags k') l' e')
+sides_index_at {r = r} {s = s} {s' = s'} {l = l} {l' = l'} {e = e} {e' = e'} h p = sides_index (subst (λ (y : ASTFlags). SidesRun r false (breaks y) s s' l e l' e') h p)
 
-pub block_run : {r : Engine} {w d d' : Bool} {ss ss' : Stmts} → ((known : List Known) → StmtsRun (knowing r known) (Inside w) d d' ss ss') → (known : List Known) → StmtPartsRun (knowing r known) w d d' (Block ss) (Block ss')
-block_run p known = record { to = in_block (p known).to; parts = λ h. (p known).reduced }
+pub link_dot_at : {r : Engine} {outer : Bool} {k k' : ASTFlags} {s s' : Progress} {l l' e e' : Expr} → k ≡ k' → LinkRun r outer true (breaks k) s s' l e l' e' → StepsRun r outer false s s' (Dot (chain_flags k') l e) (Dot (chain_flags k') l' e')
+link_dot_at {r = r} {outer = outer} {s = s} {s' = s'} {l = l} {l' = l'} {e = e} {e' = e'} h p = link_dot (subst (λ (y : ASTFlags). LinkRun r outer true (breaks y) s s' l e l' e') h p)
 
-pub expression_run : {r : Engine} {w d d' : Bool} {e e' : Expr} → ((known : List Known) → ExprRun (knowing r known) d d' e e') → (known : List Known) → StmtPartsRun (knowing r known) w d d' (ExprStmt e) (ExprStmt e')
-expression_run p known = record { to = in_expression (p known).to; parts = (p known).reduced }
+pub link_index_at : {r : Engine} {outer : Bool} {k k' : ASTFlags} {s s' : Progress} {l l' e e' : Expr} → k ≡ k' → LinkRun r outer false (breaks k) s s' l e l' e' → StepsRun r outer false s s' (Index (chain_flags k') l e) (Index (chain_flags k') l' e')
+link_index_at {r = r} {outer = outer} {s = s} {s' = s'} {l = l} {l' = l'} {e = e} {e' = e'} h p = link_index (subst (λ (y : ASTFlags). LinkRun r outer false (breaks y) s s' l e l' e') h p)
 
 -- ---- a node that is not opened is kept as it is
 
-expr_not_opened : (r : Engine) {x : declared_expr.Expr} {e : Expr} → ExprCase x e → ((xs : List declared_expr.Expr) (p : Position) → x ≡ expr_kind.Array xs p → ⊥) → ((b : StmtBlock) → x ≡ expr_kind.Stmt b → ⊥) → ((c : FnCallExpr) (p : Position) → x ≡ expr_kind.FnCall c p → ⊥) → ExprParts r e
-expr_not_opened r (array_case xs p) a s c = absurd (a xs p refl)
-expr_not_opened r (braces_case b) a s c = absurd (s b refl)
-expr_not_opened r (call_case f p) a s c = absurd (c f p refl)
-expr_not_opened r _ a s c = tt
+-- a whole expression that is none of these has no parts
+not_opened : (r : Engine) (ks : List Known) {x : declared_expr.Expr} {e : Expr} → ExprCase x e → NoText x → NoArray x → NoMap x → NoBraces x → NoCall x → NoDot x → NoIndex x → NoAnd x → NoOr x → NoCoalesce x → NoMethod x → ExprParts r e × HasClearParts ks e
+not_opened r ks (interpolated_string_case xs p) a b c d e f g h i j k = absurd (a xs p refl)
+not_opened r ks (array_case xs p) a b c d e f g h i j k = absurd (b xs p refl)
+not_opened r ks (map_case y p) a b c d e f g h i j k = absurd (c y p refl)
+not_opened r ks (braces_case y) a b c d e f g h i j k = absurd (d y refl)
+not_opened r ks (call_case y p) a b c d e f g h i j k = absurd (e y p refl)
+not_opened r ks (dot_case y l p) a b c d e f g h i j k = absurd (f y l p refl)
+not_opened r ks (index_case y l p) a b c d e f g h i j k = absurd (g y l p refl)
+not_opened r ks (and_case xs p) a b c d e f g h i j k = absurd (h xs p refl)
+not_opened r ks (or_case xs p) a b c d e f g h i j k = absurd (i xs p refl)
+not_opened r ks (coalesce_case xs p) a b c d e f g h i j k = absurd (j xs p refl)
+not_opened r ks (method_call_case y p) a b c d e f g h i j k = absurd (k y p refl)
+not_opened r ks _ a b c d e f g h i j k = ((tt, (tt, tt)), tt)
 
-pub expr_stays : {k : Context} {d : Bool} {x : declared_expr.Expr} → ((xs : List declared_expr.Expr) (p : Position) → x ≡ expr_kind.Array xs p → ⊥) → ((b : StmtBlock) → x ≡ expr_kind.Stmt b → ⊥) → ((c : FnCallExpr) (p : Position) → x ≡ expr_kind.FnCall c p → ⊥) → ExprPartsRun k d d (expr_of x) (expr_of x)
-expr_stays {k = k} {x = x} a s c = record { to = same_expr; parts = λ h. expr_not_opened k.engine (expr_cases x) a s c }
+pub expr_stays : {r : Engine} {s : Progress} (x : declared_expr.Expr) → NoText x → NoArray x → NoMap x → NoBraces x → NoCall x → NoDot x → NoIndex x → NoAnd x → NoOr x → NoCoalesce x → NoMethod x → ExprPartsRun r s s (expr_of x) (expr_of x)
+expr_stays {r = r} {s = s} x a b c d e f g h i j k =
+    let z = not_opened r s.known (expr_cases x) a b c d e f g h i j k in
+    record { to = same_expr; place = refl; unit = refl; parts = z.0; clear = z.1; known = refl }
 
-stmt_not_opened : (r : Engine) {x : declared_stmt.Stmt} {s : Stmt} → StmtCase x s → ((f : FlowControl) (p : Position) → x ≡ stmt_kind.If f p → ⊥) → ((b : StmtBlock) → x ≡ stmt_kind.Block b → ⊥) → ((e : declared_expr.Expr) → x ≡ stmt_kind.Expr e → ⊥) → ((c : FnCallExpr) (p : Position) → x ≡ stmt_kind.FnCall c p → ⊥) → StmtParts r s
-stmt_not_opened r (if_case f p) i b e c = absurd (i f p refl)
-stmt_not_opened r (block_case y) i b e c = absurd (b y refl)
-stmt_not_opened r (expression_case y) i b e c = absurd (e y refl)
-stmt_not_opened r (call_statement_case f p) i b e c = absurd (c f p refl)
-stmt_not_opened r _ i b e c = tt
+chain_by : {x : declared_expr.Expr} {e : Expr} → ExprCase x e → NoDot x → NoIndex x → is_chain_node e ≡ false
+chain_by (dot_case y k p) f g = absurd (f y k p refl)
+chain_by (index_case y k p) f g = absurd (g y k p refl)
+chain_by _ f g = refl
 
-pub stmt_stays : {k : Context} {w d : Bool} {x : declared_stmt.Stmt} → ((f : FlowControl) (p : Position) → x ≡ stmt_kind.If f p → ⊥) → ((b : StmtBlock) → x ≡ stmt_kind.Block b → ⊥) → ((e : declared_expr.Expr) → x ≡ stmt_kind.Expr e → ⊥) → ((c : FnCallExpr) (p : Position) → x ≡ stmt_kind.FnCall c p → ⊥) → StmtPartsRun k w d d (stmt_of x) (stmt_of x)
-stmt_stays {k = k} {x = x} i b e c = record { to = same_stmt; parts = λ h. stmt_not_opened k.engine (stmt_cases x) i b e c }
+pub no_chain : (x : declared_expr.Expr) → NoDot x → NoIndex x → is_chain_node (expr_of x) ≡ false
+no_chain x f g = chain_by (expr_cases x) f g
 
--- ---- a statement of a list, passed until nothing changes
+method_by : {x : declared_expr.Expr} {e : Expr} → ExprCase x e → NoMethod x → is_method e ≡ false
+method_by (method_call_case y p) f = absurd (f y p refl)
+method_by _ f = refl
 
--- a pass, in a list
-in_list : {k : Context} {w d d' : Bool} {s s' : Stmt} → StmtTo k w d d' s s' → InList k w d d' s s'
-in_list {k = k} {d = d} {d' = d'} {s = s} {s' = s'} p m u ss h = in_head (subst (λ w. StmtTo k w d d' s s') h p)
+pub no_method : (x : declared_expr.Expr) → NoMethod x → is_method (expr_of x) ≡ false
+no_method x f = method_by (expr_cases x) f
 
--- before the first pass
-pub settle_start : {r : Engine} {w d f : Bool} {s : Stmt} → f ≡ d → (known : List Known) → InList (knowing r known) w d f s s
-settle_start {r = r} {d = d} {s = s} e known m u ss h = subst (λ x. RestTo (knowing r known) m u d x (stmt s ss) (stmt s ss)) (sym e) same_stmts
+catch_by : (ks : List Known) {x : declared_expr.Expr} {e : Expr} → ExprCase x e → NoVariable x → ks ≡ catch_front (catch_name e) ++ ks
+catch_by ks (variable_case v i p) f = absurd (f v i p refl)
+catch_by ks (unit_case p) f = refl
+catch_by ks _ f = refl
 
--- it gets no heavier
-pub settle_fits : {k : Context} {w d d' : Bool} {s s' : Stmt} → InList k w d d' s s' → stmt_weight s' ≤ stmt_weight s
-settle_fits {w = w} p = omega (arith, stmts_fall (p (Inside w) true no_stmts refl))
+pub no_catch : (ks : List Known) (x : declared_expr.Expr) → NoVariable x → ks ≡ catch_front (catch_name (expr_of x)) ++ ks
+no_catch ks x f = catch_by ks (expr_cases x) f
 
--- a pass that began with a clear flag and set it
-from_clear : {k : Context} {w a b : Bool} {s s' : Stmt} → a ≡ false → b ≡ true → StmtTo k w a b s s' → StmtTo k w false true s s'
-from_clear {k = k} {w = w} {a = a} {s = s} {s' = s'} ea eb p = subst (λ x. StmtTo k w x true s s') ea (subst (λ x. StmtTo k w a x s s') eb p)
+pub catch_path : (ks : List Known) (ns : List Ident) (x : Text) (b : Bool) → (IsTrue b ↔ (ns ≡ [])) → b ≡ false → ks ≡ catch_front (catch_name (Variable (map (λ i. i.name) ns) x)) ++ ks
+catch_path ks [] x b h i = absurd (let k = h.1 refl in cc)
+catch_path ks (n ∷ ns) x b h i = refl
 
-pub turn_falls : {k : Context} {w a b : Bool} {s s' : Stmt} → a ≡ false → b ≡ true → StmtTo k w a b s s' → stmt_weight s' < stmt_weight s
-turn_falls ea eb p = omega (arith, stmt_falls (from_clear ea eb p))
+pub catch_none : (ks : List Known) (ns : List Ident) (x : Text) (b : Bool) → (IsTrue b ↔ (ns ≡ [])) → b ≡ true → variable x ∷ ks ≡ catch_front (catch_name (Variable (map (λ i. i.name) ns) x)) ++ ks
+catch_none ks [] x b h i = refl
+catch_none ks (n ∷ ns) x b h i = let k = h.0 i in absurd cc
 
--- whatever the flag was before it
-again : {k : Context} {m : ListKind} {u : Bool} (d : Bool) {ss ss' : Stmts} → RestTo k m u false true ss ss' → RestTo k m u d true ss ss'
-again false p = p
-again true p = flag_forgotten p
+stmt_not_opened : (r : Engine) (ks : List Known) {x : declared_stmt.Stmt} {s : Stmt} → StmtCase x s → NoIf x → NoWhile x → NoDo x → NoFor x → NoVar x → NoAssignment x → NoCallStatement x → NoBlock x → NoTry x → NoExpression x → NoBreak x → NoReturn x → NoImport x → NoSwitch x → StmtParts r s × IsClear ks s
+stmt_not_opened r ks (if_case f p) na nb nc nd ne nf ng nh ni nj nk nl nm nn = absurd (na f p refl)
+stmt_not_opened r ks (while_case f p) na nb nc nd ne nf ng nh ni nj nk nl nm nn = absurd (nb f p refl)
+stmt_not_opened r ks (do_case f k p) na nb nc nd ne nf ng nh ni nj nk nl nm nn = absurd (nc f k p refl)
+stmt_not_opened r ks (for_case v p) na nb nc nd ne nf ng nh ni nj nk nl nm nn = absurd (nd v p refl)
+stmt_not_opened r ks (var_case v k p) na nb nc nd ne nf ng nh ni nj nk nl nm nn = absurd (ne v k p refl)
+stmt_not_opened r ks (assignment_case v) na nb nc nd ne nf ng nh ni nj nk nl nm nn = absurd (nf v refl)
+stmt_not_opened r ks (call_statement_case y p) na nb nc nd ne nf ng nh ni nj nk nl nm nn = absurd (ng y p refl)
+stmt_not_opened r ks (block_case y) na nb nc nd ne nf ng nh ni nj nk nl nm nn = absurd (nh y refl)
+stmt_not_opened r ks (try_catch_case f p) na nb nc nd ne nf ng nh ni nj nk nl nm nn = absurd (ni f p refl)
+stmt_not_opened r ks (expression_case y) na nb nc nd ne nf ng nh ni nj nk nl nm nn = absurd (nj y refl)
+stmt_not_opened r ks (break_loop_case y k p) na nb nc nd ne nf ng nh ni nj nk nl nm nn = absurd (nk y k p refl)
+stmt_not_opened r ks (return_case y k p) na nb nc nd ne nf ng nh ni nj nk nl nm nn = absurd (nl y k p refl)
+stmt_not_opened r ks (import_case v p) na nb nc nd ne nf ng nh ni nj nk nl nm nn = absurd (nm v p refl)
+stmt_not_opened r ks (switch_case y p) na nb nc nd ne nf ng nh ni nj nk nl nm nn = absurd (nn y p refl)
+stmt_not_opened r ks _ na nb nc nd ne nf ng nh ni nj nk nl nm nn = ((tt, (tt, tt)), tt)
 
-pub settle_again : {k : Context} {w d d1 a b : Bool} {s s1 s2 : Stmt} → InList k w d d1 s s1 → a ≡ false → b ≡ true → StmtTo k w a b s1 s2 → InList k w d true s s2
-settle_again {d1 = d1} p ea eb q m u ss h = then_stmts (p m u ss h) (again d1 (in_list (from_clear ea eb q) m u ss h))
+pub stmt_stays : {r : Engine} {w : Bool} {s : Progress} (x : declared_stmt.Stmt) → NoIf x → NoWhile x → NoDo x → NoFor x → NoVar x → NoAssignment x → NoCallStatement x → NoBlock x → NoTry x → NoExpression x → NoBreak x → NoReturn x → NoImport x → NoSwitch x → StmtPartsRun r w s s (stmt_of x) (stmt_of x)
+stmt_stays {r = r} {s = s} x na nb nc nd ne nf ng nh ni nj nk nl nm nn =
+    let h = stmt_not_opened r s.known (stmt_cases x) na nb nc nd ne nf ng nh ni nj nk nl nm nn in
+    record { to = same_stmt; parts = h.0; clear = h.1; known = refl }
 
--- the last pass changed nothing
-pub settled : {k : Context} {w d d' f a b : Bool} {s s1 s2 : Stmt} → d' ≡ f → InList k w d f s s1 → b ≡ false → StmtRun k w a b s1 s2 → SettleRun k w d d' s s2
-settled {k = k} {w = w} {d = d} {f = f} {s = s} {s2 = s2} ef p h r =
-    let i = (stmt_kept r.to h).1 in
-    record { to = subst (λ x. InList k w d x s s2) (sym ef) (subst (λ x. InList k w d f s x) i p); reduced = r.reduced h }
+-- ---- what a statement declares
 
--- no other node is a constant alone
-other_constant : {x : declared_expr.Expr} {e : Expr} → ExprCase x e
-    → ((v : Dynamic) (p : Position) → x ≡ expr_kind.DynamicConstant v p → ⊥) → ((b : Bool) (p : Position) → x ≡ expr_kind.BoolConstant b p → ⊥)
-    → ((n : ℤ) (p : Position) → x ≡ expr_kind.IntegerConstant n p → ⊥) → ((c : ℕ) (p : Position) → x ≡ expr_kind.CharConstant c p → ⊥)
-    → ((t : Text) (p : Position) → x ≡ expr_kind.StringConstant t p → ⊥) → ((p : Position) → x ≡ expr_kind.Unit p → ⊥)
-    → false ≡ is_constant_alone (ExprStmt e)
-other_constant (dynamic_constant_case v p) f g h i j k = absurd (f v p refl)
-other_constant (bool_constant_case b p) f g h i j k = absurd (g b p refl)
-other_constant (integer_constant_case n p) f g h i j k = absurd (h n p refl)
-other_constant (char_constant_case c p) f g h i j k = absurd (i c p refl)
-other_constant (string_constant_case t p) f g h i j k = absurd (j t p refl)
-other_constant (unit_case p) f g h i j k = absurd (k p refl)
-other_constant _ f g h i j k = refl
+pub declares : (c o : Bool) (x : Text) (e : Expr) (ks : List Known) → record { name = x; value = declared_value c e } ∷ ks ≡ known_behind (Var c o x e) ks
+declares true o x e ks = refl
+declares false o x e ks = refl
 
-pub no_constant : (x : declared_expr.Expr)
-    → ((v : Dynamic) (p : Position) → x ≡ expr_kind.DynamicConstant v p → ⊥) → ((b : Bool) (p : Position) → x ≡ expr_kind.BoolConstant b p → ⊥)
-    → ((n : ℤ) (p : Position) → x ≡ expr_kind.IntegerConstant n p → ⊥) → ((c : ℕ) (p : Position) → x ≡ expr_kind.CharConstant c p → ⊥)
-    → ((t : Text) (p : Position) → x ≡ expr_kind.StringConstant t p → ⊥) → ((p : Position) → x ≡ expr_kind.Unit p → ⊥)
-    → false ≡ is_constant_alone (ExprStmt (expr_of x))
-no_constant x f g h i j k = other_constant (expr_cases x) f g h i j k
+noted : (x y : Ident × declared_expr.Expr × Option NonZeroUsize) (k : ASTFlags) (p : Position) (ks : List Known) → x ≡ y → record { name = x.0.name; value = declared_value (is_const k) (expr_of x.1) } ∷ ks ≡ known_behind (stmt_of (stmt_kind.Var y k p)) ks
+noted x y k p ks h =
+    declares (is_const k) (is_exported k) x.0.name (expr_of x.1) ks
+    ∙ ap (λ (z : Ident × declared_expr.Expr × Option NonZeroUsize). known_behind (Var (is_const k) (is_exported k) z.0.name (expr_of z.1)) ks) h
+    ∙ ap (λ s. known_behind s ks) (sym (stmt_of-Var y k p))
 
-no_expression_by : {x : declared_stmt.Stmt} {s : Stmt} → StmtCase x s → ((e : declared_expr.Expr) → x ≡ stmt_kind.Expr e → ⊥) → false ≡ is_constant_alone s
-no_expression_by (expression_case e) f = absurd (f e refl)
-no_expression_by _ f = refl
+pub noted_as : (x y : Ident × declared_expr.Expr × Option NonZeroUsize) (k : ASTFlags) (p : Position) (s : declared_stmt.Stmt) (ks ks' : List Known) (d d' : Bool) → x ≡ y → s ≡ stmt_kind.Var y k p → (d' ≡ d) × (ks' ≡ record { name = x.0.name; value = declared_value (is_const k) (expr_of x.1) } ∷ ks) → (d' ≡ d) × (ks' ≡ known_behind (stmt_of s) ks)
+noted_as x y k p s ks ks' d d' h i q = (q.0, q.1 ∙ noted x y k p ks h ∙ ap (λ (z : declared_stmt.Stmt). known_behind (stmt_of z) ks) (sym i))
 
-pub no_expression : (x : declared_stmt.Stmt) → ((e : declared_expr.Expr) → x ≡ stmt_kind.Expr e → ⊥) → false ≡ is_constant_alone (stmt_of x)
-no_expression x f = no_expression_by (stmt_cases x) f
+none_declared : (ks : List Known) {x : declared_stmt.Stmt} {s : Stmt} → StmtCase x s → NoVar x → ks ≡ known_behind s ks
+none_declared ks (var_case v k p) h = absurd (h v k p refl)
+none_declared ks _ h = refl
 
--- a pass made what no pass changes
-alone_reduced : (r : Engine) (s : Stmt) → is_constant_alone s ≡ true → IsReduced r s
-alone_reduced r (ExprStmt (DynamicConstant v)) h = (tt, (tt, tt))
-alone_reduced r (ExprStmt (BoolConstant b)) h = (tt, (tt, tt))
-alone_reduced r (ExprStmt (IntegerConstant n)) h = (tt, (tt, tt))
-alone_reduced r (ExprStmt (CharConstant c)) h = (tt, (tt, tt))
-alone_reduced r (ExprStmt (StringConstant t)) h = (tt, (tt, tt))
-alone_reduced r (ExprStmt UnitConstant) h = (tt, (tt, tt))
-alone_reduced r _ h = absurd cc
+pub declares_nothing : (ks : List Known) (x : declared_stmt.Stmt) → NoVar x → ks ≡ known_behind (stmt_of x) ks
+declares_nothing ks x h = none_declared ks (stmt_cases x) h
 
-pub settled_at_once : {k : Context} {w d d' d1 a b : Bool} {s s1 s2 : Stmt} → d' ≡ true → InList k w d d1 s s1 → a ≡ false → b ≡ true → StmtRun k w a b s1 s2 → is_constant_alone s2 ≡ true → SettleRun k w d d' s s2
-settled_at_once {k = k} {w = w} {d = d} {s = s} {s2 = s2} e p ea eb r h =
-    record { to = subst (λ x. InList k w d x s s2) (sym e) (settle_again p ea eb r.to); reduced = alone_reduced k.engine s2 h }
+-- ---- the names that the state holds
 
--- ---- a list, flattened and then settled
+pub counted : (n : ℕ) (es : List (Text × Option Dynamic)) → n ≡ length es → n ≡ length (known_of es)
+counted n es h = h ∙ sym (length-map es known_entry)
 
--- flattened, it is no heavier
-pub flat_fits : {m : ListKind} {d d' : Bool} {ss ss' : Stmts} → FlatList m d d' ss ss' → weight ss' ≤ weight ss
-flat_fits f = omega (arith, stmts_fall (f.to (under nothing_set)))
+pub forgotten : (n : ℕ) (es es' : List (Text × Option Dynamic)) → es' ≡ drop (length es - n) es → known_of es' ≡ drop (length (known_of es) - n) (known_of es)
+forgotten n es es' h = ap known_of h ∙ sym (drop-map known_entry (length es - n) es) ∙ ap (λ k. drop (k - n) (known_of es)) (sym (length-map es known_entry))
 
-pub stmts_run : {r : Engine} {m : ListKind} {d d1 d2 : Bool} {ss ss1 ss2 : Stmts} → FlatList m d d1 ss ss1 → ((known : List Known) → EachRun (knowing r known) m d1 d2 ss1 ss2) → (known : List Known) → StmtsRun (knowing r known) m d d2 ss ss2
-stmts_run {r = r} f e known = record { to = then_stmts (f.to (knowing r known)) ((e known).to true); reduced = (e known).reduced }
+-- ---- a whole script
 
--- whatever the flag was
-pub run_forgetting : {k : Context} {m : ListKind} {d d' : Bool} {s s' : Stmts} → StmtsRun k m d d' s s' → StmtsRun k m true true s s'
-run_forgetting r = record { to = flag_forgotten r.to; reduced = r.reduced }
+-- whatever the flag was, and where no name is known
+pub run_forgetting : {r : Engine} {m : ListKind} {s s' : Progress} {ss ss' : Stmts} → s.known ≡ [] → StmtsRun r m s s' ss ss' → StmtsTo (under r) m true true ss ss'
+run_forgetting {r = r} {m = m} {s = s} {s' = s'} {ss = ss} {ss' = ss'} h q = flag_forgotten (subst (λ ks. RestTo (knowing r ks) m true s.is_dirty s'.is_dirty ss ss') h q.to)
+
+-- ---- a `switch` whose parts were written
+
+abbrev SwitchLayer : Type 0
+SwitchLayer = open_one.SwitchBlock-F declared_expr.Expr declared_stmt.Stmt StmtBlock BinaryExpr FnCallExpr FlowControl SwitchBlock SwitchCasesCollection
+
+abbrev TableLayer : Type 0
+TableLayer = open_one.SwitchCasesCollection-F declared_expr.Expr declared_stmt.Stmt StmtBlock BinaryExpr FnCallExpr FlowControl SwitchBlock SwitchCasesCollection
+
+abbrev with_arms : SwitchCasesCollection → List BinaryExpr → SwitchCasesCollection
+with_arms t xs = views.roll-SwitchCasesCollection (record (views.out-SwitchCasesCollection t) { expressions = xs })
+
+abbrev with_subject : SwitchBlock → declared_expr.Expr → SwitchBlock
+with_subject b e = views.roll-SwitchBlock (record (views.out-SwitchBlock b) { expr = e })
+
+abbrev with_table : SwitchBlock → SwitchCasesCollection → SwitchBlock
+with_table b t = views.roll-SwitchBlock (record (views.out-SwitchBlock b) { cases = t })
+
+pub table_written : {r : Engine} {s s' : Progress} {as' : Arms} (t : SwitchCasesCollection) (xs : List BinaryExpr) → ArmsRun r s s' as' (arms_of xs) → (table_of (with_arms t xs) ≡ table_of t) × ArmsRun r s s' as' (arms_of (expressions_of (with_arms t xs)))
+table_written {r = r} {s = s} {s' = s'} {as' = as'} t xs p =
+    let o = views.out-roll-SwitchCasesCollection (record (views.out-SwitchCasesCollection t) { expressions = xs }) in
+    (ap (λ (y : TableLayer). table_by y.cases y.ranges y.def_case) o, subst (λ (y : List BinaryExpr). ArmsRun r s s' as' (arms_of y)) (sym (ap (λ (y : TableLayer). y.expressions) o)) p)
+
+pub switch_written : {r : Engine} {s s1 s2 : Progress} (b : SwitchBlock) (e : declared_expr.Expr) (t : SwitchCasesCollection) → ExprRun r Anywhere s s1 (expr_of (subject_of b)) (expr_of e) → (table_of t ≡ table_of (cases_of (with_subject b e))) × ArmsRun r s1 s2 (arms_of (expressions_of (cases_of (with_subject b e)))) (arms_of (expressions_of t)) → (table_of (cases_of (with_table (with_subject b e) t)) ≡ table_of (cases_of b)) × SwitchRun r s s2 (expr_of (subject_of b)) (arms_of (expressions_of (cases_of b))) (expr_of (subject_of (with_table (with_subject b e) t))) (arms_of (expressions_of (cases_of (with_table (with_subject b e) t))))
+switch_written {r = r} {s = s} {s1 = s1} {s2 = s2} b e t p q =
+    let o = views.out-roll-SwitchBlock (record (views.out-SwitchBlock b) { expr = e }) in
+    let n = views.out-roll-SwitchBlock (record (views.out-SwitchBlock (with_subject b e)) { cases = t }) in
+    let same = ap (λ (y : SwitchLayer). y.cases) o in
+    let subject = ap (λ (y : SwitchLayer). y.expr) n ∙ ap (λ (y : SwitchLayer). y.expr) o in
+    let table = ap (λ (y : SwitchLayer). y.cases) n in (
+      ap table_of table ∙ q.0 ∙ ap table_of same,
+      subst (λ (y : SwitchCasesCollection). SwitchRun r s s2 (expr_of (subject_of b)) (arms_of (expressions_of (cases_of b))) (expr_of (subject_of (with_table (with_subject b e) t))) (arms_of (expressions_of y))) (sym table)
+          (subst (λ (y : declared_expr.Expr). SwitchRun r s s2 (expr_of (subject_of b)) (arms_of (expressions_of (cases_of b))) (expr_of y) (arms_of (expressions_of t))) (sym subject)
+          (subst (λ (y : SwitchCasesCollection). SwitchRun r s s2 (expr_of (subject_of b)) (arms_of (expressions_of y)) (expr_of e) (arms_of (expressions_of t))) same
+          (both_switch p q.1))),
+    )

@@ -3,10 +3,9 @@
 
 mod blocks;
 mod cycle;
-mod level;
-mod mark;
+mod lists;
+mod names;
 mod optimizer;
 
-pub use level::OptimizationLevel;
 pub use optimizer::{optimize_into_ast, optimize_top_level};
-pub use rhai_rules::OptimizerState;
+pub use rhai_known::{OptimizationLevel, OptimizerState};

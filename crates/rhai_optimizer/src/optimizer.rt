@@ -1,6 +1,6 @@
 //! The entry to the optimiser.
 ghost use Rattle.rhai_meaning.specs.Walk.{outermost};
-ghost use Rattle.std.specs.Prelude.{◌≡◌, ◌≢◌, ◌≤◌, IfOk, map, true};
+ghost use Rattle.std.specs.Prelude.{◌≡◌, ◌≢◌, ◌≤◌, [], IfOk, None, map, true};
 ghost use Rattle.std.specs.Rc.{rc_value};
 ghost use Rattle.rhai_reading.specs.Reading.{stmts_of};
 ghost use Rattle.rhai_engine.specs.EngineInfo.{engine_of};
@@ -8,23 +8,21 @@ ghost use Rattle.rhai_meaning.specs.Faults.{AreWellFormed};
 ghost use Rattle.rhai_meaning.specs.OperatorCalls.{CallsOperatorsAlone};
 ghost use Rattle.rhai_optimizer.specs.Source.{source_of};
 ghost use Rattle.rhai_rewriting.specs.Refines.{Refines};
-ghost use Rattle.rhai_rewriting.specs.Residue.{AreReduced};
+ghost use Rattle.rhai_optimizer.specs.Body.{IsReducedBody};
 ghost use Rattle.rhai_rewriting.specs.Context.{Whole, under};
 ghost use Rattle.rhai_rewriting.specs.Rewriting.{StmtsTo};
-ghost use Rattle.rhai_rewriting.specs.Steps.{StmtsRun};
 ghost use Rattle.rhai_meaning.specs.Weight.{weight};
 ghost use Rattle.rhai_functions.specs.FnKey.{definitions_table};
 ghost use Rattle.rhai_script.specs.Script.{script_of};
 
 use crate::cycle::Optimizer;
-use crate::level::OptimizationLevel;
-use crate::mark::ListMark;
 use rhai_ast::{ScriptFuncDef, Stmt, StmtBlock};
 use rhai_base::{OutOfMemory, Position, Scope};
 use rhai_engine::EngineInfo;
+use rhai_known::{OptimizationLevel, OptimizerState};
 use rhai_nodes::statements_of;
-use rhai_rules::OptimizerState;
 use rhai_script::{AST, FnLib};
+use rhai_sweep::ListMark;
 use std::alloc::Global;
 use std::rc::Rc;
 
@@ -37,10 +35,11 @@ pub fn optimize_top_level(
     info: &EngineInfo,
     mut statements: StmtBlock,
 ) -> Result<StmtBlock, OutOfMemory>
-    ensures run { IfOk result (λ optimised. StmtsRun (under (engine_of info.now)) Whole true true (stmts_of statements.block) (stmts_of optimised.block)) }
+    ensures to { IfOk result (λ optimised. StmtsTo (under (engine_of info.now)) Whole true true (stmts_of statements.block) (stmts_of optimised.block)) }
+    ensures reduced { IfOk result (λ optimised. IsReducedBody (engine_of info.now) (stmts_of optimised.block)) }
     ensures span { IfOk result (λ optimised. optimised.span ≡ statements.span) }
 {
-    let mut state = OptimizerState::new();
+    let mut state = OptimizerState::new(alloc, info, None, OptimizationLevel::Simple);
     let optimizer = Optimizer { alloc, info };
     optimizer.stmt_block(&mut state, statements.statements_mut(), ListMark::Whole)?;
     Ok(statements)
@@ -54,7 +53,7 @@ fn optimize_at(
     level: OptimizationLevel,
 ) -> Result<StmtBlock, OutOfMemory>
     ensures to { IfOk result (λ optimised. StmtsTo (under (engine_of info.now)) Whole true true (stmts_of statements.block) (stmts_of optimised.block)) }
-    ensures reduced { level ≢ OptimizationLevel.None → IfOk result (λ optimised. AreReduced (engine_of info.now) (stmts_of optimised.block)) }
+    ensures reduced { level ≢ OptimizationLevel.None → IfOk result (λ optimised. IsReducedBody (engine_of info.now) (stmts_of optimised.block)) }
     ensures kept { level ≡ OptimizationLevel.None → IfOk result (λ optimised. optimised.block ≡ statements.block) }
 {
     match level {
@@ -67,7 +66,7 @@ fn optimize_at(
 
 /// The script of these statements and functions, optimised at a level: it does what they do. The scope and the
 /// record's constants are not looked at yet. Function bodies come out as they went in, and so do the statements at
-/// level `None`.
+/// level `None`. The script has no source and no doc, and its table no id.
 /// Where a key comes twice among the functions the later one takes the earlier one's place. Refused for want of
 /// memory alone; then no script is handed out.
 ///
@@ -81,10 +80,11 @@ pub fn optimize_into_ast(
     level: OptimizationLevel,
 ) -> Result<AST, OutOfMemory>
     ensures refines { IfOk result (λ ast. Refines (engine_of info.now) (source_of statements.items functions.items) (script_of ast)) }
-    ensures reduced { level ≢ OptimizationLevel.None → IfOk result (λ ast. AreReduced (engine_of info.now) (script_of ast).statements) }
+    ensures reduced { level ≢ OptimizationLevel.None → IfOk result (λ ast. IsReducedBody (engine_of info.now) (script_of ast).statements) }
     ensures lighter { IfOk result (λ ast. weight (script_of ast).statements ≤ weight (stmts_of statements.items)) }
     ensures well_formed { IfOk result (λ ast. AreWellFormed outermost (stmts_of statements.items) → AreWellFormed outermost (script_of ast).statements) }
     ensures operators { IfOk result (λ ast. CallsOperatorsAlone (source_of statements.items functions.items) → CallsOperatorsAlone (script_of ast)) }
+    ensures unnamed { IfOk result (λ ast. (ast.source ≡ None) × ((ast.doc ≡ []) × (ast.lib.value.id ≡ None))) }
     ensures functions { IfOk result (λ ast. ast.lib.value.functions ≡ definitions_table (map rc_value functions.items)) }
     ensures kept { level ≡ OptimizationLevel.None → IfOk result (λ ast. ast.body.block ≡ statements.items) }
 {

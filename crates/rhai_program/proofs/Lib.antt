@@ -1,3 +1,4 @@
+pub mod Listing
 pub mod Runs
 pub mod Shows
 pub mod Turns

@@ -14,11 +14,11 @@ use Rattle.rhai_functions.specs.FnLib.{functions_of}
 use Rattle.rhai_script.specs.Script.{script_of}
 use Rattle.rhai_script.specs.declared.ast.AST.{AST}
 use Rattle.rhai_engine.specs.EngineInfo.{nothing_set}
-use Rattle.rhai_rewriting.specs.Residue.{AreReduced}
+use Rattle.rhai_optimizer.specs.Body.{IsReducedBody}
 use Rattle.rhai_rewriting.specs.Refines.{Refines}
 use Rattle.rhai_optimizer.specs.Source.{source_of}
-use Rattle.rhai_optimizer.specs.declared.level.OptimizationLevel.{OptimizationLevel}
-use Rattle.rhai_optimizer.specs.declared.level.OptimizationLevel.TheVariants as level
+use Rattle.rhai_known.specs.declared.level.OptimizationLevel.{OptimizationLevel}
+use Rattle.rhai_known.specs.declared.level.OptimizationLevel.TheVariants as level
 use Rattle.rhai_notation.specs.declared.builtin.BuiltinScript.{BuiltinScript}
 use Rattle.rhai_notation.specs.Notation.{lines_text, script_text}
 use Rattle.rhai_notation.specs.BuiltinScripts.{statements_of}
@@ -38,7 +38,7 @@ pushed_show script after shown empty a b c d same h e f g i =
 pub optimized_built_in : (at : OptimizationLevel) (engine : Engine) (ss : List Stmt) (fs : List (Rc ScriptFuncDef Global)) (script : BuiltinScript) (ast : AST)
     → engine ≡ nothing_set → stmts_of ss ≡ statements_of script → fs ≡ []
     → Refines engine (source_of ss fs) (script_of ast) → ast.lib.value.functions ≡ definitions_table (map rc_value fs)
-    → (at ≡ level.None → ast.body.block ≡ ss) → (at ≢ level.None → AreReduced engine (script_of ast).statements)
+    → (at ≡ level.None → ast.body.block ≡ ss) → (at ≢ level.None → IsReducedBody engine (script_of ast).statements)
     → Optimized at (built_in script) (script_of ast)
 optimized_built_in at engine ss fs script ast e statements none runs table kept reduced =
     let source : source_of ss fs ≡ built_in script = ap (source_of ss) none ∙ ap (λ (x : Stmts). record { statements = x; functions = [] }) statements in
@@ -48,5 +48,5 @@ optimized_built_in at engine ss fs script ast e statements none runs table kept 
       functions = functions;
       kept = λ h. ap (λ (x : Stmts). record { statements = x; functions = functions_of ast.lib.value }) (ap stmts_of (kept h) ∙ statements)
           ∙ ap (λ (x : List Function). record { statements = statements_of script; functions = x }) functions;
-      reduced = λ h. subst (λ (x : Engine). AreReduced x (script_of ast).statements) e (reduced h);
+      reduced = λ h. subst (λ (x : Engine). IsReducedBody x (script_of ast).statements) e (reduced h);
     }

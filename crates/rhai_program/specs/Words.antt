@@ -5,10 +5,10 @@ use Rattle.rhai_values.specs.Value.{Text, same_text}
 use Rattle.rhai_meaning.specs.Desugar.{core_script}
 use Rattle.rhai_meaning.specs.Run.{AtStatements, Report, report_of, run_script}
 use Rattle.rhai_meaning.specs.Tree.{Script}
-use Rattle.rhai_optimizer.specs.declared.level.OptimizationLevel.{OptimizationLevel}
-use Rattle.rhai_optimizer.specs.declared.level.OptimizationLevel.TheVariants as level
+use Rattle.rhai_known.specs.declared.level.OptimizationLevel.{OptimizationLevel}
+use Rattle.rhai_known.specs.declared.level.OptimizationLevel.TheVariants as level
 use Rattle.rhai_engine.specs.EngineInfo.{nothing_set}
-use Rattle.rhai_rewriting.specs.Residue.{AreReduced}
+use Rattle.rhai_optimizer.specs.Body.{IsReducedBody}
 use Rattle.rhai_rewriting.specs.Refines.{Refines}
 use Rattle.rhai_notation.specs.declared.builtin.BuiltinScript.{BuiltinScript}
 use Rattle.rhai_program.specs.declared.request.Request.{Request}
@@ -72,7 +72,7 @@ pub record Optimized (at : OptimizationLevel) (before after : Script) : Type 0 w
   pub runs : Refines nothing_set before after
   pub functions : after.functions ≡ before.functions
   pub kept : at ≡ level.None → after ≡ before
-  pub reduced : at ≢ level.None → AreReduced nothing_set after.statements
+  pub reduced : at ≢ level.None → IsReducedBody nothing_set after.statements
 
 -- what a run of a script reports: from an empty scope, with nothing set, and with the program's host
 abbrev pub reported : Script → ℕ → Report

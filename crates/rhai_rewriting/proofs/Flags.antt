@@ -2,7 +2,7 @@
 use Rattle.std.proofs.Common.{◌≡◌, Bool, false, refl, ap, ◌∙◌}
 use Rattle.rhai_meaning.specs.Tree.{Expr, InterpolatedString, ArrayOf, MapOf, MethodCall, BlockExpr, FnCall, And, Or, Coalesce, Exprs, Pairs, MaybeExpr, an_expr, Arms, Stmt, Var, Block, ExprStmt, FnCallStmt, BreakLoop, Return, Import, Stmts, stmt}
 use Rattle.rhai_rewriting.specs.Context.{Context, ListKind}
-use Rattle.rhai_rewriting.specs.Rewriting.{ExprTo, same_expr, then_expr, by_expr_rule, in_text, in_array, in_map, in_braces, in_call, in_chain, in_and, in_or, in_coalesce, ExprsTo, exprs_none, exprs_more, PairsTo, pairs_none, pairs_more, ChainTo, in_dot, in_index, BaseTo, base, ArgumentTo, same_argument, in_method, in_brackets, StepsTo, same_steps, last_method, last_index, more_dot, more_index, TargetTo, same_target, in_target, GuardTo, guard, MaybeTo, maybe_none, maybe_some, ArmsTo, arms_none, arms_more, StmtTo, same_stmt, then_stmt, by_stmt_rule, in_if, in_switch, in_while, in_do, in_for, in_var, in_assignment, in_block, in_try, in_expression, in_call_statement, in_break, in_return, in_import, RestTo, same_stmts, then_stmts, by_list_rule, in_head, in_tail, flag_forgotten}
+use Rattle.rhai_rewriting.specs.Rewriting.{ExprTo, same_expr, then_expr, by_expr_rule, in_text, in_array, in_map, in_braces, in_call, in_stray_method, in_chain, in_and, in_or, in_coalesce, ExprsTo, exprs_none, exprs_more, PairsTo, pairs_none, pairs_more, ChainTo, in_dot, in_index, BaseTo, base, ArgumentTo, same_argument, in_method, in_brackets, StepsTo, same_steps, last_method, last_index, more_dot, more_index, TargetTo, same_target, in_target, GuardTo, guard, MaybeTo, maybe_none, maybe_some, ArmsTo, arms_none, arms_more, StmtTo, same_stmt, then_stmt, by_stmt_rule, in_if, in_switch, in_while, in_do, in_for, in_var, in_assignment, in_block, in_try, in_expression, in_call_statement, in_break, in_return, in_import, RestTo, same_stmts, then_stmts, by_list_rule, in_head, in_tail, flag_forgotten, knowing_less}
 
 -- the flag was clear before, and the two are one
 abbrev pub Kept : {A : Type 0} → Bool → A → A → Type 0
@@ -20,6 +20,7 @@ mutual
   expr_kept (in_array p) h = let k = exprs_kept p h in (k.0, ap ArrayOf k.1)
   expr_kept (in_map {template = template} p) h = let k = pairs_kept p h in (k.0, ap (λ ps. MapOf ps template) k.1)
   expr_kept (in_braces p) h = let k = stmts_kept p h in (k.0, ap BlockExpr k.1)
+  expr_kept (in_stray_method {c = c} p) h = let k = exprs_kept p h in (k.0, ap (MethodCall c) k.1)
   expr_kept (in_call {c = c} p) h = let k = exprs_kept p h in (k.0, ap (FnCall c) k.1)
   expr_kept (in_chain p) h = chain_kept p h
   expr_kept (in_and p) h = let k = exprs_kept p h in (k.0, ap And k.1)
@@ -94,3 +95,4 @@ mutual
   stmts_kept (in_head {ss = ss} p) h = let k = stmt_kept p h in (k.0, ap (λ s. stmt s ss) k.1)
   stmts_kept (in_tail {s = s} p) h = let k = stmts_kept p h in (k.0, ap (stmt s) k.1)
   stmts_kept (flag_forgotten p) h = cc
+  stmts_kept (knowing_less i p) h = stmts_kept p h

@@ -1,7 +1,11 @@
 pub mod Firing
 pub mod Flags
+pub mod Knowing
 pub mod Plain
 pub mod Reducing
+pub mod Clearing
+pub mod Running
+pub mod Keeping
 pub mod Weights
 pub mod simulation
 pub mod acts

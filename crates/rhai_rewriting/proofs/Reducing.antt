@@ -11,9 +11,9 @@ use Rattle.rhai_meaning.specs.Engine.{Engine}
 use Rattle.rhai_meaning.specs.Faults.{has_operands}
 use Rattle.rhai_meaning.specs.Queries.{is_control_flow_break, is_pure_expr, are_pure_exprs, are_pure_pairs, is_pure}
 use Rattle.rhai_meaning.specs.Queries.{is_unit as is_unit_expr}
-use Rattle.rhai_meaning.specs.Shape.{is_unit, condition_at, case_fits, spares, default_fits, is_table}
-use Rattle.rhai_meaning.specs.Tree.{ChainFlags, SwitchTable, Callee, Expr, DynamicConstant, BoolConstant, UnitConstant, InterpolatedString, ArrayOf, MapOf, Variable, ThisPtr, Property, BlockExpr, FnCall, Dot, Index, And, Or, Coalesce, Exprs, no_exprs, expr, Pairs, no_pairs, pair, Arms, no_arms, arm, count_arms, Stmt, Noop, If, Switch, While, Var, FnCallStmt, Block, ExprStmt, Return, an_expr, Stmts, no_stmts, stmt}
-use Rattle.rhai_meaning.specs.Walk.{Node, OfExpr, OfStmt, every, over_stmts, arms_at, arm_at, listed}
+use Rattle.rhai_meaning.specs.Shape.{is_unit, is_rest, is_left_side, condition_at, case_fits, spares, default_fits, is_table}
+use Rattle.rhai_meaning.specs.Tree.{ChainFlags, SwitchTable, Callee, Expr, DynamicConstant, BoolConstant, UnitConstant, InterpolatedString, ArrayOf, MapOf, Variable, ThisPtr, Property, MethodCall, BlockExpr, FnCall, Dot, Index, And, Or, Coalesce, Exprs, no_exprs, expr, Pairs, no_pairs, pair, Arms, no_arms, arm, count_arms, Stmt, Noop, If, Switch, While, Do, For, TryCatch, Assignment, Var, FnCallStmt, Block, ExprStmt, Return, an_expr, Stmts, no_stmts, stmt}
+use Rattle.rhai_meaning.specs.Walk.{Node, OfExpr, OfStmt, Spot, RightSide, every, over_stmts, arms_at, arm_at, listed}
 use Rattle.rhai_meaning.proofs.Walk.{Alongside, stmts_alongside}
 use Rattle.rhai_parts.specs.Names.{are_all}
 use Rattle.rhai_rewriting.specs.Context.{Context, known_behind, ListKind, Whole}
@@ -21,8 +21,9 @@ use Rattle.rhai_rewriting.specs.Folding.{folded}
 use Rattle.rhai_rewriting.specs.Known.{Known, look}
 use Rattle.rhai_rewriting.specs.Operands.{OperandsTo, in_other_operands, after_deciding_go, CoalesceTo, in_other_options, after_some_go}
 use Rattle.rhai_rewriting.specs.Parts.{constant_of}
-use Rattle.rhai_rewriting.specs.Reducible.{is_that, is_always, follows_deciding, is_some_value, follows_some, property_of, index_of, without_question, chain_answer, is_short, is_chosen, goes_on_after_leaving, tests_name, tests_constant, is_idle, idles, ends_in_return, IsIrreducibleAlone, IsIrreducibleNode}
-use Rattle.rhai_rewriting.specs.Residue.{holds_constant, IsReducedNode, where_opened, every_reached, AreReduced}
+use Rattle.rhai_rewriting.specs.Reducible.{IsIrreducibleList, is_that, is_always, follows_deciding, is_some_value, follows_some, property_of, index_of, without_question, chain_answer, is_short, is_chosen, goes_on_after_leaving, tests_name, tests_constant, is_idle, idles, ends_in_return, AnswersNothing, InExpressions, IsIrreducibleAlone, IsIrreducibleNode}
+use Rattle.rhai_rewriting.specs.Residue.{holds_constant, IsReducedNode, when, where_opened, where_it_stands, where_chained, every_reached, AreReduced}
+use Rattle.rhai_rewriting.specs.Testing.{InLists}
 use Rattle.rhai_rewriting.specs.Rules as rule
 use Rattle.rhai_rewriting.specs.Rules.{chosen as chosen_block, block_or_noop, ExprRule, StmtRule}
 use Rattle.rhai_rewriting.specs.Rewriting.{BaseTo, base, GuardTo, guard, by_expr_rule, in_if, RestTo, same_stmts, by_list_rule, in_head, in_tail}
@@ -33,12 +34,12 @@ no : {A : Type 0} → false ≡ true → A
 no h = absurd (let z : false ≡ true = h in cc)
 
 -- a disjunction that holds
-one_of : {A : Type 0} (a b : Bool) → a || b ≡ true → (a ≡ true → A) → (b ≡ true → A) → A
+pub one_of : {A : Type 0} (a b : Bool) → a || b ≡ true → (a ≡ true → A) → (b ≡ true → A) → A
 one_of true b h f g = f refl
 one_of false b h f g = g h
 
 -- a conjunction that holds
-all_of : {A : Type 0} (a b : Bool) → a && b ≡ true → (a ≡ true → b ≡ true → A) → A
+pub all_of : {A : Type 0} (a b : Bool) → a && b ≡ true → (a ≡ true → b ≡ true → A) → A
 all_of true b h f = f refl h
 all_of false b h f = no h
 
@@ -64,20 +65,20 @@ decided_if_goes {a = a} {b = b} t h w = (block_or_noop (chosen_block t a b), rul
 
 -- ---- constants are no places, and literal units where their values are unit
 
-root_of_value : (v : Value) → root_of (constant_of v) ≡ None
+pub root_of_value : (v : Value) → root_of (constant_of v) ≡ None
 root_of_value UnitV = refl
 root_of_value _ = refl
 
-unit_of_value : (v : Value) → is_unit_expr (constant_of v) ≡ is_unit v
+pub unit_of_value : (v : Value) → is_unit_expr (constant_of v) ≡ is_unit v
 unit_of_value UnitV = refl
 unit_of_value _ = refl
 
-root_for_value : (v : Value) → root_of (constant_for v) ≡ None
+pub root_for_value : (v : Value) → root_of (constant_for v) ≡ None
 root_for_value (PointerV f no_values) = refl
 root_for_value (PointerV f (item v vs)) = refl
 root_for_value _ = refl
 
-unit_for_value : (v : Value) → is_unit_expr (constant_for v) ≡ is_unit v
+pub unit_for_value : (v : Value) → is_unit_expr (constant_for v) ≡ is_unit v
 unit_for_value (PointerV f no_values) = refl
 unit_for_value (PointerV f (item v vs)) = refl
 unit_for_value _ = refl
@@ -319,11 +320,11 @@ return_goes (stmt s (stmt t ss)) h d = let z = return_goes (stmt t ss) h d in (s
 
 -- ---- a condition that is a known name
 
-unlike : (b : Bool) → not b ≡ true → b ≡ false
+pub unlike : (b : Bool) → not b ≡ true → b ≡ false
 unlike true h = no h
 unlike false h = refl
 
-still_known : (constant exported : Bool) (y x : Text) (e : Expr) (ks : List Known) (v : Value) → same_text y x ≡ false → look ks x ≡ Some v → look (known_behind (Var constant exported y e) ks) x ≡ Some v
+pub still_known : (constant exported : Bool) (y x : Text) (e : Expr) (ks : List Known) (v : Value) → same_text y x ≡ false → look ks x ≡ Some v → look (known_behind (Var constant exported y e) ks) x ≡ Some v
 still_known true exported y x e ks v h q = ap (λ b. cond b (constant_value e) (look ks x)) h ∙ q
 still_known false exported y x e ks v h q = ap (λ b. cond b None (look ks x)) h ∙ q
 
@@ -338,14 +339,14 @@ known_test_goes x v (stmt (If (Variable [] y) a b) ss) {k = k} h q d =
     (λ z. let r = known_test_goes x v ss z q d in (stmt (If (Variable [] y) a b) r.0, in_tail r.1))
 known_test_goes x v (stmt s ss) h q d = let z = known_test_goes x v ss h q d in (stmt s z.0, in_tail z.1)
 
-declared : (o : Option Value) → is_some o ≡ true → (v : Value) × (o ≡ Some v)
+pub declared : (o : Option Value) → is_some o ≡ true → (v : Value) × (o ≡ Some v)
 declared None h = no h
 declared (Some v) h = (v, refl)
 
 same_self : (x : Text) → same_text x x ≡ true
 same_self x = (bytes_eq-Decides x x).1 refl
 
-noted_there : (x : Text) (o : Option Value) (v : Value) (ks : List Known) → o ≡ Some v → cond (same_text x x) o (look ks x) ≡ Some v
+pub noted_there : (x : Text) (o : Option Value) (v : Value) (ks : List Known) → o ≡ Some v → cond (same_text x x) o (look ks x) ≡ Some v
 noted_there x o v ks q = ap (λ b. cond b o (look ks x)) (same_self x) ∙ q
 
 -- an `if` whose condition is a constant's name: `known_name`
@@ -365,7 +366,11 @@ alone_reduced : (r : Engine) (n : Node) → IsIrreducibleAlone r n → IsReduced
 alone_reduced r (OfExpr (ArrayOf es)) h = h
 alone_reduced r (OfExpr (BlockExpr ss)) h = h
 alone_reduced r (OfExpr (FnCall c es)) h = h
+alone_reduced r (OfExpr (And es)) h = h
+alone_reduced r (OfExpr (Or es)) h = h
+alone_reduced r (OfExpr (Coalesce es)) h = h
 alone_reduced r (OfStmt (If c a b)) h = h
+alone_reduced r (OfStmt (While e b)) h = h
 alone_reduced r (OfStmt (FnCallStmt c es)) h = h
 alone_reduced r _ h = tt
 
@@ -373,25 +378,32 @@ each_arm : (ps qs : List (Type 0)) → ((i : ℕ) → arm_at (Unit {0}) ps i →
 each_arm ps qs f [] h = h
 each_arm ps qs f (i ∷ is) h = (f i h.0, each_arm ps qs f is h.1)
 
+when_part : (b : Bool) (p : Type 0) → p → when b p
+when_part true p x = x
+when_part false p x = tt
+
 opened_part : (n : Node) (p : Type 0) → p → where_opened n p
-opened_part (OfExpr (ArrayOf es)) p x = x
-opened_part (OfExpr (BlockExpr ss)) p x = x
-opened_part (OfExpr (FnCall c es)) p x = x
-opened_part (OfStmt (If c a b)) p x = x
-opened_part (OfStmt (Block ss)) p x = x
-opened_part (OfStmt (ExprStmt e)) p x = x
-opened_part (OfStmt (FnCallStmt c es)) p x = x
-opened_part _ p x = tt
+opened_part (OfStmt (Assignment op l e)) p x = when_part (is_left_side l) p x
+opened_part _ p x = x
+
+chained_part : (n : Node) (p : Type 0) → p → where_chained n p
+chained_part (OfExpr (Dot f l e)) p x = when_part (is_rest true f.breaks e) p x
+chained_part (OfExpr (Index f l e)) p x = when_part (is_rest false f.breaks e) p x
+chained_part _ p x = x
+
+part_there : (s : Spot) (p q : Type 0) → (p → q) → p → where_it_stands s q
+part_there (RightSide dot k e) p q h x = when_part (is_rest dot k.breaks e) q (h x)
+part_there _ p q h x = h x
 
 -- what follows at each node follows at every depth that is reached
-follows_each : (P Q : Node → Type 0) → ((n : Node) → P n → Q n) → Alongside (λ p q. p → q) (every P) (every_reached Q)
+follows_each : (P Q : Node → Type 0) → ((n : Node) → P n → Q n × (InLists IsIrreducibleList n × InExpressions AnswersNothing n)) → Alongside (λ p q. p → q) (every P) (every_reached Q)
 follows_each P Q f = record {
   none = λ h. h;
   both = λ p p' q q' h k x. (h x.0, k x.1);
-  node = λ n p q h x. (f n x.0, opened_part n q (h x.1));
-  within = λ s p q h. h;
+  node = λ n p q h x. let y = f n x.0 in (y.0, opened_part n _ (y.1.0, (chained_part n _ y.1.1, h x.1)));
+  within = λ s p q h x. part_there s p q h x;
   arms = λ t ps qs h. each_arm ps qs h (listed t);
 }
 
 pub irreducible_reduced : (r : Engine) (ss : Stmts) → over_stmts (every (IsIrreducibleNode r)) ss → AreReduced r ss
-irreducible_reduced r ss = stmts_alongside (λ p q. p → q) (every (IsIrreducibleNode r)) (every_reached (IsReducedNode r)) (follows_each (IsIrreducibleNode r) (IsReducedNode r) (λ n h. alone_reduced r n h.alone)) ss
+irreducible_reduced r ss = stmts_alongside (λ p q. p → q) (every (IsIrreducibleNode r)) (every_reached (IsReducedNode r)) (follows_each (IsIrreducibleNode r) (IsReducedNode r) (λ n h. (alone_reduced r n h.alone, (h.lists, h.expressions)))) ss

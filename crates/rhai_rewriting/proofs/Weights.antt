@@ -2,7 +2,7 @@
 use Rattle.std.proofs.Common.{◌≡◌, ℕ, ◌+◌, ◌≤◌, Bool, true, false, refl, arith}
 use Rattle.rhai_meaning.specs.Tree.{Expr, Exprs, Pairs, MaybeExpr, Arms, Stmt, Stmts}
 use Rattle.rhai_rewriting.specs.Context.{Context, ListKind}
-use Rattle.rhai_rewriting.specs.Rewriting.{ExprTo, same_expr, then_expr, by_expr_rule, in_text, in_array, in_map, in_braces, in_call, in_chain, in_and, in_or, in_coalesce, ExprsTo, exprs_none, exprs_more, PairsTo, pairs_none, pairs_more, ChainTo, in_dot, in_index, BaseTo, base, ArgumentTo, same_argument, in_method, in_brackets, StepsTo, same_steps, last_method, last_index, more_dot, more_index, TargetTo, same_target, in_target, GuardTo, guard, MaybeTo, maybe_none, maybe_some, ArmsTo, arms_none, arms_more, StmtTo, same_stmt, then_stmt, by_stmt_rule, in_if, in_switch, in_while, in_do, in_for, in_var, in_assignment, in_block, in_try, in_expression, in_call_statement, in_break, in_return, in_import, RestTo, same_stmts, then_stmts, by_list_rule, in_head, in_tail, flag_forgotten}
+use Rattle.rhai_rewriting.specs.Rewriting.{ExprTo, same_expr, then_expr, by_expr_rule, in_text, in_array, in_map, in_braces, in_call, in_stray_method, in_chain, in_and, in_or, in_coalesce, ExprsTo, exprs_none, exprs_more, PairsTo, pairs_none, pairs_more, ChainTo, in_dot, in_index, BaseTo, base, ArgumentTo, same_argument, in_method, in_brackets, StepsTo, same_steps, last_method, last_index, more_dot, more_index, TargetTo, same_target, in_target, GuardTo, guard, MaybeTo, maybe_none, maybe_some, ArmsTo, arms_none, arms_more, StmtTo, same_stmt, then_stmt, by_stmt_rule, in_if, in_switch, in_while, in_do, in_for, in_var, in_assignment, in_block, in_try, in_expression, in_call_statement, in_break, in_return, in_import, RestTo, same_stmts, then_stmts, by_list_rule, in_head, in_tail, flag_forgotten, knowing_less}
 use Rattle.rhai_meaning.specs.Walk.{over_pairs, over_maybe, total}
 use Rattle.rhai_meaning.specs.Weight.{own_weight, expr_weight, exprs_weight, stmt_weight, weight}
 use Rattle.rhai_rewriting.proofs.rules.Arms.{arms_weight}
@@ -44,6 +44,7 @@ mutual
   expr_falls (in_array p) = omega (arith, exprs_fall p)
   expr_falls (in_map p) = omega (arith, pairs_fall p)
   expr_falls (in_braces p) = omega (arith, stmts_fall p)
+  expr_falls (in_stray_method p) = omega (arith, exprs_fall p)
   expr_falls (in_call p) = omega (arith, exprs_fall p)
   expr_falls (in_chain p) = chain_falls p
   expr_falls (in_and p) = omega (arith, exprs_fall p)
@@ -118,3 +119,4 @@ mutual
   stmts_fall (in_head p) = omega (arith, stmt_falls p)
   stmts_fall (in_tail p) = omega (arith, stmts_fall p)
   stmts_fall (flag_forgotten p) = omega (arith, stmts_fall p)
+  stmts_fall (knowing_less i p) = stmts_fall p

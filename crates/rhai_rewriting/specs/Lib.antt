@@ -1,6 +1,8 @@
+pub mod Answering
 pub mod Known
 pub mod Context
 pub mod SurelyUnit
+pub mod Exports
 pub mod Folding
 pub mod Parts
 pub mod Operands
@@ -10,6 +12,8 @@ pub mod SelfAssign
 pub mod Rules
 pub mod Rewriting
 pub mod Shapes
+pub mod Testing
+pub mod Clear
 pub mod Residue
 pub mod Reducible
 pub mod Scripts

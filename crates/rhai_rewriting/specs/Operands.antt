@@ -6,6 +6,11 @@ use Rattle.rhai_meaning.specs.Queries.{is_pure_expr}
 use Rattle.rhai_meaning.specs.Shape.{is_unit}
 use Rattle.rhai_meaning.specs.Tree.{Expr, StringConstant, Exprs, no_exprs, expr}
 
+-- one operand more, behind the others
+abbrev pub with_last : Exprs → Expr → Exprs
+with_last no_exprs b = expr b no_exprs
+with_last (expr e es) b = expr e (with_last es b)
+
 -- of `&&`, which goes on where an operand is true (b: true), and of `||`, which goes on where it is false
 pub data OperandsTo (b : Bool) : Exprs → Exprs → Type 0 where
   in_other_operands : {e : Expr} {es es' : Exprs} → OperandsTo b es es' → OperandsTo b (expr e es) (expr e es')

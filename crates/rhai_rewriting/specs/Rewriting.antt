@@ -6,7 +6,8 @@ use Rattle.rhai_meaning.specs.Desugar.{root_of}
 use Rattle.rhai_meaning.specs.Queries.{is_unit}
 use Rattle.rhai_meaning.specs.Shape.{catch_name}
 use Rattle.rhai_meaning.specs.Tree.{ChainFlags, SwitchTable, Callee, Expr, InterpolatedString, ArrayOf, MapOf, MethodCall, BlockExpr, FnCall, Dot, Index, And, Or, Coalesce, Exprs, no_exprs, expr, Pairs, no_pairs, pair, MaybeExpr, no_expr, an_expr, Arms, no_arms, arm, Stmt, If, Switch, While, Do, For, Var, Assignment, Block, TryCatch, ExprStmt, FnCallStmt, BreakLoop, Return, Import, Stmts, stmt}
-use Rattle.rhai_rewriting.specs.Context.{Context, behind, ListKind, Inside, wanted, wanted_before, naming, naming_some, naming_catch}
+use Rattle.rhai_rewriting.specs.Context.{Context, knowing, behind, ListKind, Inside, wanted, wanted_before, naming, naming_some, naming_catch}
+use Rattle.rhai_rewriting.specs.Known.{Known, KnowsLess}
 use Rattle.rhai_rewriting.specs.Rules.{ExprRule, StmtRule, ListRule}
 use Rattle.rhai_rewriting.specs.SurelyUnit.{is_surely_unit}
 
@@ -21,6 +22,8 @@ mutual
     in_map : {k : Context} {d d' : Bool} {ps ps' : Pairs} {template : List Text} → PairsTo k d d' ps ps' → ExprTo k d d' (MapOf ps template) (MapOf ps' template)
     in_braces : {k : Context} {d d' : Bool} {ss ss' : Stmts} → RestTo k (Inside true) true d d' ss ss' → ExprTo k d d' (BlockExpr ss) (BlockExpr ss')
     in_call : {k : Context} {d d' : Bool} {c : Callee} {es es' : Exprs} → ExprsTo k d d' es es' → ExprTo k d d' (FnCall c es) (FnCall c es')
+    -- a method call that is no step of a chain has no meaning
+    in_stray_method : {k : Context} {d d' : Bool} {c : Callee} {es es' : Exprs} → ExprsTo k d d' es es' → ExprTo k d d' (MethodCall c es) (MethodCall c es')
     in_chain : {k : Context} {d d' : Bool} {e e' : Expr} → ChainTo k d d' e e' → ExprTo k d d' e e'
     in_and : {k : Context} {d d' : Bool} {es es' : Exprs} → ExprsTo k d d' es es' → ExprTo k d d' (And es) (And es')
     in_or : {k : Context} {d d' : Bool} {es es' : Exprs} → ExprsTo k d d' es es' → ExprTo k d d' (Or es) (Or es')
@@ -107,6 +110,8 @@ mutual
     in_tail : {k : Context} {m : ListKind} {u d d' : Bool} {s : Stmt} {ss ss' : Stmts} → RestTo (behind s k) m (is_surely_unit s) d d' ss ss' → RestTo k m u d d' (stmt s ss) (stmt s ss')
     -- passes that began with a clear flag, where it was set before
     flag_forgotten : {k : Context} {m : ListKind} {u d d' : Bool} {ss ss' : Stmts} → RestTo k m u d d' ss ss' → RestTo k m u true true ss ss'
+    -- what may be done where fewer names are known
+    knowing_less : {k : Context} {ks : List Known} {m : ListKind} {u d d' : Bool} {ss ss' : Stmts} → KnowsLess ks k.known → RestTo (knowing k.engine ks) m u d d' ss ss' → RestTo k m u d d' ss ss'
 
 -- a list from its start
 abbrev pub StmtsTo : Context → ListKind → Bool → Bool → Stmts → Stmts → Type 0

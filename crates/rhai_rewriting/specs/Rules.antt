@@ -16,8 +16,9 @@ use Rattle.rhai_meaning.specs.Weight.{table_weight}
 use Rattle.rhai_meaning.specs.Tree.{SwitchCase, SwitchRange, SwitchTable, Arms, OfOperator, ChainFlags, PropertyNames, Callee, Expr, DynamicConstant, BoolConstant, StringConstant, UnitConstant, InterpolatedString, ArrayOf, MapOf, Variable, Property, MethodCall, BlockExpr, FnCall, Dot, Index, And, Or, Coalesce, Exprs, no_exprs, expr, count_exprs, Pairs, Stmt, Noop, If, Switch, While, Assignment, Block, TryCatch, ExprStmt, FnCallStmt, Share, Return, no_expr, an_expr, Stmts, no_stmts, stmt, joined}
 use Rattle.rhai_rewriting.specs.Context.{Context, ListKind, Whole, Inside, wanted, wanted_before}
 use Rattle.rhai_rewriting.specs.Known.{look, unknown}
+use Rattle.rhai_rewriting.specs.Exports.{exports_nothing}
 use Rattle.rhai_rewriting.specs.Folding.{folded}
-use Rattle.rhai_rewriting.specs.Operands.{OperandsTo, CoalesceTo, TextTo}
+use Rattle.rhai_rewriting.specs.Operands.{with_last, OperandsTo, CoalesceTo, TextTo}
 use Rattle.rhai_rewriting.specs.Indexing.{indexed, expr_at, pair_for, or_unit}
 use Rattle.rhai_rewriting.specs.Parts.{constant_of, named, link}
 use Rattle.rhai_rewriting.specs.SelfAssign.{has_op_assignment, leaves_names}
@@ -151,6 +152,8 @@ pub data StmtRule (k : Context) (w : Bool) : Stmt → Stmt → Type 0 where
   pure_try : {x : Expr} {body branch : Stmts} → are_internally_pure body ≡ true → StmtRule k w (TryCatch x body branch) Noop
   -- an `if` alone in an `if`, both without an `else`
   nested_if : {a b : Expr} {ss : Stmts} → StmtRule k w (If a (stmt (If b ss no_stmts) no_stmts) no_stmts) (If (And (expr a (expr b no_exprs))) ss no_stmts)
+  -- over an `&&` the inner condition is its last operand
+  nested_if_joins : {es : Exprs} {b : Expr} {ss : Stmts} → StmtRule k w (If (And es) (stmt (If b ss no_stmts) no_stmts) no_stmts) (If (And (with_last es b)) ss no_stmts)
   -- `x = x op e` is `x op= e` where there is such an operator, e writes nothing and no `op=` is overridden
   self_assign : {op : Operator} {f : Callee} {x : Text} {e : Expr} → f.token ≡ OfOperator op → has_op_assignment op ≡ true → leaves_names e ≡ true → overrides_any k.engine.overrides (assigning op) ≡ false → StmtRule k w (Assignment None (Variable [] x) (FnCall f (expr (Variable [] x) (expr e no_exprs)))) (Assignment (Some op) (Variable [] x) e)
   -- of shared names those that are known go; of none nothing is left
@@ -166,8 +169,8 @@ pub data ListRule (k : Context) : ListKind → Bool → Stmts → Stmts → Type
   -- a pure statement goes where its value is not wanted, and so does a name alone
   pure_goes : {m : ListKind} {u : Bool} {s : Stmt} {ss : Stmts} → wanted_before (wanted m) ss ≡ false → is_pure s ≡ true → ListRule k m u (stmt s ss) ss
   lone_goes : {m : ListKind} {u : Bool} {ns : List Text} {x : Text} {ss : Stmts} → wanted_before (wanted m) ss ≡ false → ListRule k m u (stmt (ExprStmt (Variable ns x)) ss) ss
-  -- inside a declaration does too, where nothing that follows reads a name
-  pure_inside_goes : {b u : Bool} {s : Stmt} {ss : Stmts} → wanted_before b ss ≡ false → is_internally_pure s ≡ true → are_internally_pure ss ≡ true → ListRule k (Inside b) u (stmt s ss) ss
+  -- inside a declaration does too, where nothing that follows reads a name or exports one
+  pure_inside_goes : {b u : Bool} {s : Stmt} {ss : Stmts} → wanted_before b ss ≡ false → is_internally_pure s ≡ true → are_internally_pure ss ≡ true → exports_nothing ss ≡ true → ListRule k (Inside b) u (stmt s ss) ss
   -- a last `return e` of a script or a function is `e`; a last `return;` goes behind unit, and else does nothing
   last_return : {u exported : Bool} {e : Expr} → ListRule k Whole u (stmt (Return false exported (an_expr e)) no_stmts) (stmt (ExprStmt e) no_stmts)
   last_return_goes : {exported : Bool} → ListRule k Whole true (stmt (Return false exported no_expr) no_stmts) no_stmts

@@ -1,11 +1,12 @@
--- Worked answers on what rules ask: which names are known behind a statement, what surely is unit, what writes nothing,
--- which operators have an assignment.
+-- Worked answers on what rules ask: which names are known behind a statement, what surely is unit, what exports nothing, what
+-- writes nothing, which operators have an assignment.
 use Rattle.std.specs.Prelude.{◌≡◌, true, false, [], ◌∷◌, Some, None, codes, refl}
 use Rattle.rhai_base.specs.Operators.{Plus, BitXor, EqualTo, UpTo, Not}
 use Rattle.rhai_meaning.specs.Engine.{overrides_any}
-use Rattle.rhai_meaning.specs.Tree.{UnitConstant, BoolConstant, ArrayOf, BlockExpr, Dot, MethodCall, no_expr, an_expr, Stmt, If, While, Do, For, Assignment, TryCatch, ExprStmt, BreakLoop, exprs, stmts}
+use Rattle.rhai_meaning.specs.Tree.{UnitConstant, BoolConstant, ArrayOf, BlockExpr, Dot, MethodCall, no_expr, an_expr, Stmt, If, While, Do, For, Var, Assignment, TryCatch, ExprStmt, BreakLoop, Import, Export, exprs, stmts}
 use Rattle.rhai_meaning.specs.WorkedForms.{int, op, call, overriding, i}
 use Rattle.rhai_rewriting.specs.Context.{Whole, Inside, known_behind}
+use Rattle.rhai_rewriting.specs.Exports.{exports_nothing}
 use Rattle.rhai_rewriting.specs.Known.{look, unknown}
 use Rattle.rhai_rewriting.specs.Parts.{named}
 use Rattle.rhai_rewriting.specs.Rules.{is_pure_in}
@@ -76,6 +77,27 @@ declared_inside = refl
 
 declared_outside : is_pure_in Whole (let' "x" (int 1)) ≡ false
 declared_outside = refl
+
+-- ---- what exports nothing
+
+abbrev export_x : Stmt
+export_x = Export (codes "x") (codes "y")
+
+export_is_one : exports_nothing (stmts (let' "x" (int 1) ∷ export_x ∷ [])) ≡ false
+export_is_one = refl
+
+exported_declaration_is_one : exports_nothing (stmts (Var false true (codes "x") (int 1) ∷ [])) ≡ false
+exported_declaration_is_one = refl
+
+-- in braces, and in a loop that never goes round
+inner_export_is_one : exports_nothing (stmts (ExprStmt (BlockExpr (stmts (export_x ∷ []))) ∷ [])) ≡ false
+inner_export_is_one = refl
+
+unreached_export_is_one : exports_nothing (stmts (While (BoolConstant false) (stmts (export_x ∷ [])) ∷ [])) ≡ false
+unreached_export_is_one = refl
+
+others_export_nothing : exports_nothing (stmts (let' "x" (int 1) ∷ Import (var "x") (codes "m") ∷ f ∷ [])) ≡ true
+others_export_nothing = refl
 
 -- ---- what writes nothing
 

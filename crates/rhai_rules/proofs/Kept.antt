@@ -1,78 +1,52 @@
 -- Nodes at which no rule can fire, of whatever kind else.
-use Rattle.std.proofs.Common.{◌≡◌, true, false, List, None, refl}
-use Rattle.rhai_tokens.specs.declared.position.Position.{Position}
-use Rattle.rhai_tree.specs.declared.block.StmtBlock.{StmtBlock}
+use Rattle.std.proofs.Common.{◌≡◌, true, false, List, Option, None, refl}
 use Rattle.rhai_tree.specs.declared.expr.Expr as declared_expr
-use Rattle.rhai_tree.specs.declared.expr.Expr.TheVariants as expr_kind
-use Rattle.rhai_tree.specs.declared.expr.FnCallExpr.{FnCallExpr}
-use Rattle.rhai_tree.specs.declared.stmt.FlowControl.{FlowControl}
 use Rattle.rhai_tree.specs.declared.stmt.Stmt as declared_stmt
-use Rattle.rhai_tree.specs.declared.stmt.Stmt.TheVariants as stmt_kind
 use Rattle.rhai_meaning.specs.Engine.{Engine}
 use Rattle.rhai_meaning.specs.Tree.{Expr, Stmt}
-use Rattle.rhai_meaning.specs.Walk.{OfExpr}
-use Rattle.rhai_reading.proofs.Cases.{ExprCase, array_case, braces_case, call_case, StmtCase, if_case, block_case, expression_case, call_statement_case}
+use Rattle.rhai_meaning.specs.Walk.{OfExpr, OfStmt}
+use Rattle.rhai_reading.proofs.Cases.{ExprCase, array_case, variable_case, braces_case, call_case, dot_case, index_case, and_case, or_case, coalesce_case, StmtCase, if_case, while_case, expression_case, call_statement_case}
+use Rattle.rhai_rewriting.specs.Known.{Known}
 use Rattle.rhai_rewriting.specs.Residue.{IsReducedNode}
 use Rattle.rhai_rewriting.specs.Shapes.{is_expression}
-use Rattle.rhai_rules.specs.Settled.{is_settled_expr, is_settled_expression, is_settled_stmt, folded_value, folded_statement}
+use Rattle.rhai_rewriting.specs.Steps.{AnswersNone, Place, Progress}
+use Rattle.rhai_steps.specs.NodeSteps.{ExprStep}
+use Rattle.rhai_steps.proofs.NodeKinds.{NoArray, NoBraces, NoCall, NoVariable, NoAnd, NoOr, NoCoalesce, NoDot, NoIndex, NoIf, NoExpression, NoCallStatement, NoWhile}
+use Rattle.rhai_steps.proofs.Stepping.{expr_stays}
+use Rattle.rhai_rules.specs.Settled.{is_braces, known_value, is_settled_in_braces}
 
--- ---- a declared node that is none of a kind
+pub no_known_value : (ks : List Known) {x : declared_expr.Expr} {e : Expr} → ExprCase x e → NoVariable x → None ≡ known_value ks e
+no_known_value ks (variable_case v i p) f = absurd (f v i p refl)
+no_known_value ks _ f = refl
 
-abbrev NoArray : declared_expr.Expr → Type 0
-NoArray x = (es : List declared_expr.Expr) (p : Position) → x ≡ expr_kind.Array es p → ⊥
-
-abbrev NoBraces : declared_expr.Expr → Type 0
-NoBraces x = (b : StmtBlock) → x ≡ expr_kind.Stmt b → ⊥
-
-abbrev NoCall : declared_expr.Expr → Type 0
-NoCall x = (c : FnCallExpr) (p : Position) → x ≡ expr_kind.FnCall c p → ⊥
-
-abbrev NoIf : declared_stmt.Stmt → Type 0
-NoIf x = (f : FlowControl) (p : Position) → x ≡ stmt_kind.If f p → ⊥
-
-abbrev NoBlock : declared_stmt.Stmt → Type 0
-NoBlock x = (b : StmtBlock) → x ≡ stmt_kind.Block b → ⊥
-
-abbrev NoExpression : declared_stmt.Stmt → Type 0
-NoExpression x = (e : declared_expr.Expr) → x ≡ stmt_kind.Expr e → ⊥
-
-abbrev NoCallStatement : declared_stmt.Stmt → Type 0
-NoCallStatement x = (c : FnCallExpr) (p : Position) → x ≡ stmt_kind.FnCall c p → ⊥
-
--- ---- expressions
-
-pub has_no_value : (r : Engine) {x : declared_expr.Expr} {e : Expr} → ExprCase x e → NoArray x → NoCall x → None ≡ folded_value r e
-has_no_value r (array_case es p) a c = absurd (a es p refl)
-has_no_value r (call_case c p) a h = absurd (h c p refl)
-has_no_value r _ a c = refl
-
-pub stays : {x : declared_expr.Expr} {e : Expr} → ExprCase x e → NoBraces x → true ≡ is_settled_expr e
-stays (braces_case b) h = absurd (h b refl)
-stays _ h = refl
-
-pub stays_as_statement : {x : declared_expr.Expr} {e : Expr} → ExprCase x e → NoBraces x → NoCall x → true ≡ is_settled_expression e
-stays_as_statement (braces_case b) h c = absurd (h b refl)
-stays_as_statement (call_case c p) h k = absurd (k c p refl)
-stays_as_statement _ h c = refl
-
-pub is_reduced : (r : Engine) {x : declared_expr.Expr} {e : Expr} → ExprCase x e → NoArray x → NoBraces x → NoCall x → IsReducedNode r (OfExpr e)
-is_reduced r (array_case es p) a b c = absurd (a es p refl)
-is_reduced r (braces_case k) a b c = absurd (b k refl)
-is_reduced r (call_case k p) a b c = absurd (c k p refl)
-is_reduced r _ a b c = tt
-
--- ---- statements
+pub not_braces : {x : declared_expr.Expr} {e : Expr} → ExprCase x e → NoBraces x → false ≡ is_braces e
+not_braces (braces_case b) h = absurd (h b refl)
+not_braces _ h = refl
 
 pub no_expression : {x : declared_stmt.Stmt} {s : Stmt} → StmtCase x s → NoExpression x → false ≡ is_expression s
 no_expression (expression_case e) h = absurd (h e refl)
 no_expression _ h = refl
 
-pub statement_has_no_value : (r : Engine) {x : declared_stmt.Stmt} {s : Stmt} → StmtCase x s → NoCallStatement x → None ≡ folded_statement r s
-statement_has_no_value r (call_statement_case c p) h = absurd (h c p refl)
-statement_has_no_value r _ h = refl
+pub settled_in_braces : (p : Place) {x : declared_stmt.Stmt} {s : Stmt} → StmtCase x s → NoExpression x → true ≡ is_settled_in_braces p s
+settled_in_braces p (expression_case e) h = absurd (h e refl)
+settled_in_braces p _ h = refl
 
-pub statement_stays : {x : declared_stmt.Stmt} {s : Stmt} → StmtCase x s → NoIf x → NoBlock x → NoExpression x → true ≡ is_settled_stmt s
-statement_stays (if_case f p) i b e = absurd (i f p refl)
-statement_stays (block_case k) i b e = absurd (b k refl)
-statement_stays (expression_case x) i b e = absurd (e x refl)
-statement_stays _ i b e = refl
+-- a whole expression of no kind that has a rule
+pub nothing_left : {r : Engine} {p : Place} {s : Progress} {x : declared_expr.Expr} {e : Expr} → ExprCase x e → NoCall x → NoVariable x → NoDot x → NoIndex x → NoAnd x → NoOr x → NoCoalesce x → NoBraces x → NoArray x → ExprStep false r p s s e e
+nothing_left (call_case c p) na nb nc nd ne nf ng nh ni = absurd (na c p refl)
+nothing_left (variable_case v i p) na nb nc nd ne nf ng nh ni = absurd (nb v i p refl)
+nothing_left (dot_case b k p) na nb nc nd ne nf ng nh ni = absurd (nc b k p refl)
+nothing_left (index_case b k p) na nb nc nd ne nf ng nh ni = absurd (nd b k p refl)
+nothing_left (and_case es p) na nb nc nd ne nf ng nh ni = absurd (ne es p refl)
+nothing_left (or_case es p) na nb nc nd ne nf ng nh ni = absurd (nf es p refl)
+nothing_left (coalesce_case es p) na nb nc nd ne nf ng nh ni = absurd (ng es p refl)
+nothing_left (braces_case b) na nb nc nd ne nf ng nh ni = absurd (nh b refl)
+nothing_left (array_case es p) na nb nc nd ne nf ng nh ni = absurd (ni es p refl)
+nothing_left _ na nb nc nd ne nf ng nh ni = expr_stays tt refl (λ i. refl)
+
+-- a statement of no kind that has one
+pub no_rule : (r : Engine) {x : declared_stmt.Stmt} {s : Stmt} → StmtCase x s → NoCallStatement x → NoIf x → NoWhile x → IsReducedNode r (OfStmt s)
+no_rule r (call_statement_case c p) na nb nc = absurd (na c p refl)
+no_rule r (if_case f p) na nb nc = absurd (nb f p refl)
+no_rule r (while_case f p) na nb nc = absurd (nc f p refl)
+no_rule r _ na nb nc = tt

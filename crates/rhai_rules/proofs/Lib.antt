@@ -1,3 +1,4 @@
 pub mod Kept
-pub mod Settling
+pub mod Naming
+pub mod Passing
 pub mod Shapes

@@ -1,27 +1,62 @@
--- The shapes that rules look for.
-use Rattle.std.proofs.Common.{◌≡◌, ◌≢◌, ◌≤◌, Bool, true, false, not, ◌&&◌, ◌↔◌, IsTrue, List, [], ◌∷◌, length, Option, Some, None, is_some, refl, sym, ap, ◌∙◌, arith}
+-- Arrays, and braces by what they hold.
+use Rattle.std.proofs.Common.{◌≡◌, ◌≢◌, ◌≤◌, Bool, true, false, not, ◌&&◌, List, [], ◌∷◌, length, map, ◌↔◌, IsTrue, Option, Some, None, refl, sym, ap, ◌∙◌, subst, arith}
 use Rattle.rhai_tree.specs.declared.stmt.Stmt as declared_stmt
 use Rattle.rhai_reading.specs.Reading.{stmts_of}
-use Rattle.rhai_meaning.specs.Constants.{constant_bool}
-use Rattle.rhai_meaning.specs.Tree.{Expr, Stmt, Noop, If, Block, ExprStmt, Stmts, no_stmts, stmt}
-use Rattle.rhai_rewriting.specs.Rules.{block_or_noop}
+use Rattle.rhai_parts.specs.declared.ident.Ident.{Ident}
+use Rattle.rhai_rewriting.specs.Known.{Known, look}
+use Rattle.rhai_values.specs.Value.{Text, Value, ArrayV, values, is_unit}
+use Rattle.rhai_meaning.specs.Constants.{array_value, constant_values, constant_for, is_constant, is_literal_unit, literal_value}
+use Rattle.rhai_meaning.specs.Engine.{Engine, or_else}
+use Rattle.rhai_meaning.specs.Queries.{is_unit as is_unit_expr}
+use Rattle.rhai_meaning.specs.Tree.{Expr, ArrayOf, UnitConstant, Variable, ThisPtr, BlockExpr, Exprs, Stmt, ExprStmt, Stmts, no_stmts, stmt}
+use Rattle.rhai_rewriting.specs.Context.{Context}
 use Rattle.rhai_rewriting.specs.Residue.{holds_constant}
-use Rattle.rhai_rules.specs.Settled.{is_empty, is_settled_braces, is_settled_if}
+use Rattle.rhai_rewriting.specs.Rules as rule
+use Rattle.rhai_rewriting.specs.Rules.{ExprRule}
+use Rattle.rhai_rewriting.specs.Steps.{Progress, here, Place, Anywhere, AsBase, AsGuard, ExprRewrite}
+use Rattle.rhai_rewriting.proofs.Keeping.{keeps_constant, may_be_constant}
+use Rattle.rhai_steps.specs.NodeSteps.{Puts, ExprStep}
+use Rattle.rhai_steps.specs.Standing.{is_root, may_stand}
+use Rattle.rhai_steps.proofs.Places.{not-false, not-true}
+use Rattle.rhai_steps.proofs.Stepping.{expr_stays}
+use Rattle.rhai_rules.specs.Settled.{known_value, is_array, is_braces, value_of_array, is_settled_braces, is_settled}
 
-pub block_or_noop-none : (ss : Stmts) → true ≡ is_empty ss → Noop ≡ block_or_noop ss
-block_or_noop-none no_stmts h = refl
-block_or_noop-none (stmt s ss) h = absurd cc
+-- ---- arrays
 
-pub block_or_noop-some : (ss : Stmts) → false ≡ is_empty ss → Block ss ≡ block_or_noop ss
-block_or_noop-some no_stmts h = absurd cc
-block_or_noop-some (stmt s ss) h = refl
+alone : {A : Type 0} (o : Option A) → or_else o None ≡ o
+alone None = refl
+alone (Some x) = refl
+
+pub array_literal : (e : Expr) → is_array e ≡ true → literal_value e ≡ value_of_array e
+array_literal (ArrayOf es) h = alone (array_value (constant_values es))
+array_literal _ h = absurd cc
+
+no_array : (o : Option (List Value)) → None ≡ array_value o → o ≡ None
+no_array None h = refl
+no_array (Some vs) h = absurd cc
+
+array_not_unit : (o : Option (List Value)) (v : Value) → Some v ≡ array_value o → is_unit v ≡ false
+array_not_unit None v h = absurd cc
+array_not_unit (Some vs) v h = let same : ArrayV (values vs) ≡ v = cc in ap is_unit (sym same)
+
+array_folds : {k : Context} {es : Exprs} {v : Value} (o : Option (List Value)) → constant_values es ≡ o → Some v ≡ array_value o → ExprRule k (ArrayOf es) (constant_for v)
+array_folds None i h = absurd cc
+array_folds {k = k} {es = es} {v = v} (Some vs) i h =
+    let same : ArrayV (values vs) ≡ v = cc in
+    subst (λ x. ExprRule k (ArrayOf es) (constant_for x)) same (rule.array_of_constants i)
+
+-- the value of an array of constants took its place
+pub array_put : {s s' : Progress} {e' : Expr} {v : Value} (e : Expr) → is_array e ≡ true → Some v ≡ value_of_array e → Puts s s' e' v → (r : Engine) (p : Place) → ExprStep true r p s s' e e'
+array_put {s = s} {s' = s'} {v = v} (ArrayOf es) i h q r p =
+    subst (λ a. ExprStep true r p s s' (ArrayOf es) a) (sym q.constant)
+    (record { rule = array_folds (constant_values es) refl h; stays = may_be_constant p (ArrayOf es) v refl refl (array_not_unit (constant_values es) v h); fired = q.fired; known = q.known }, keeps_constant (ArrayOf es) v)
+array_put _ i h q r p = absurd cc
+
+pub array_stays : {s : Progress} (e : Expr) → is_array e ≡ true → None ≡ value_of_array e → (r : Engine) (p : Place) → ExprStep false r p s s e e
+array_stays (ArrayOf es) i h r p = expr_stays (no_array (constant_values es) h) refl (λ q. refl)
+array_stays _ i h r p = absurd cc
 
 -- ---- lists of none, of one and of more
-
-pub empty-of : (l : List declared_stmt.Stmt) (b : Bool) → (IsTrue b ↔ (l ≡ [])) → b ≡ is_empty (stmts_of l)
-empty-of [] b h = h.1 refl
-empty-of (s ∷ l) true h = let k = h.0 refl in absurd cc
-empty-of (s ∷ l) false h = refl
 
 -- a test that says yes of each list of two or more
 abbrev SettlesLong : (Stmts → Bool) → Type 0
@@ -37,49 +72,42 @@ unsettled-none f g [] n h = refl
 unsettled-none f g (x ∷ []) n h = absurd (n refl)
 unsettled-none f g (x ∷ y ∷ l) n h = absurd (let z : true ≡ false = g _ _ _ ∙ h in cc)
 
--- ---- an `if`
-
-pub bare-if : (e : Expr) (a b : Stmts) → true ≡ is_empty a && is_empty b → If e a b ≡ If e no_stmts no_stmts
-bare-if e no_stmts no_stmts h = refl
-bare-if e no_stmts (stmt s b) h = absurd cc
-bare-if e (stmt s a) b h = absurd cc
-
-pub settled_if-none : (e : Expr) (a b : Stmts) → true ≡ is_empty a && is_empty b → false ≡ is_settled_if e a b
-settled_if-none e no_stmts no_stmts h = refl
-settled_if-none e no_stmts (stmt s b) h = absurd cc
-settled_if-none e (stmt s a) b h = absurd cc
-
-tests-agree : (empty : Bool) (o : Option Bool) (r : Bool) → false ≡ empty → is_some o ≡ not r → r ≡ not empty && not (is_some o)
-tests-agree true o r h i = absurd cc
-tests-agree false o true h i = sym (ap not i)
-tests-agree false o false h i = sym (ap not i)
-
-pub settled_if-some : (e : Expr) (a b : Stmts) (r : Bool) → false ≡ is_empty a && is_empty b → is_some (constant_bool e) ≡ not r → r ≡ is_settled_if e a b
-settled_if-some e a b r h i = tests-agree (is_empty a && is_empty b) (constant_bool e) r h i
-
-decided-if : (empty : Bool) (o : Option Bool) → false ≡ empty → o ≡ None → not empty && not (is_some o) ≡ false → ⊥
-decided-if true o h i j = cc
-decided-if false None h i j = cc
-decided-if false (Some x) h i j = cc
-
--- an `if` with statements that does not stay is decided
-pub undecided : (e : Expr) (a b : Stmts) → false ≡ is_empty a && is_empty b → constant_bool e ≡ None → is_settled_if e a b ≡ false → ⊥
-undecided e a b h i j = decided-if (is_empty a && is_empty b) (constant_bool e) h i j
-
--- ---- tests
-
-pub not-false : (b : Bool) → not b ≡ false → b ≡ true
-not-false true h = refl
-not-false false h = absurd cc
-
-pub not-true : (b : Bool) → not b ≡ true → b ≡ false
-not-true true h = absurd cc
-not-true false h = refl
+-- ---- braces
 
 -- braces that stay hold no constant alone
-pub braces-settled : (ss : Stmts) → is_settled_braces ss ≡ true → holds_constant ss ≡ false
-braces-settled no_stmts h = absurd cc
-braces-settled (stmt (ExprStmt e) no_stmts) h = absurd cc
-braces-settled (stmt _ no_stmts) h = refl
-braces-settled (stmt (ExprStmt e) (stmt t ss)) h = refl
-braces-settled (stmt _ (stmt t ss)) h = refl
+root_no_constant : (e : Expr) → is_root e ≡ true → is_constant e && not (is_literal_unit e) ≡ false
+root_no_constant (Variable ns x) h = refl
+root_no_constant ThisPtr h = refl
+root_no_constant _ h = absurd cc
+
+unit_no_constant : (e : Expr) → is_unit_expr e ≡ true → is_constant e && not (is_literal_unit e) ≡ false
+unit_no_constant UnitConstant h = refl
+unit_no_constant _ h = absurd cc
+
+barred_no_constant : (p : Place) (e : Expr) → not (may_stand p e) ≡ true → is_constant e && not (is_literal_unit e) ≡ false
+barred_no_constant Anywhere e h = absurd cc
+barred_no_constant AsBase e h = root_no_constant e (not-false (is_root e) (not-true _ h))
+barred_no_constant AsGuard e h = unit_no_constant e (not-false (is_unit_expr e) (not-true _ h))
+
+pub braces-settled : (p : Place) (ss : Stmts) → is_settled_braces p ss ≡ true → holds_constant ss ≡ false
+braces-settled p no_stmts h = refl
+braces-settled p (stmt (ExprStmt e) no_stmts) h = barred_no_constant p e h
+braces-settled p (stmt _ no_stmts) h = refl
+braces-settled p (stmt (ExprStmt e) (stmt t ss)) h = refl
+braces-settled p (stmt _ (stmt t ss)) h = refl
+
+pub braces_stay : {p : Place} {s : Progress} (e : Expr) → is_braces e ≡ true → is_settled p e ≡ true → (r : Engine) → ExprStep false r p s s e e
+braces_stay {p = p} (BlockExpr ss) i h r = expr_stays (braces-settled p ss h) refl (λ q. refl)
+braces_stay _ i h r = absurd cc
+
+-- ---- names without a namespace
+
+pub known-no_path : (ks : List Known) (ns : List Ident) (x : Text) (b : Bool) → (IsTrue b ↔ (ns ≡ [])) → b ≡ true → look ks x ≡ known_value ks (Variable (map (λ i. i.name) ns) x)
+known-no_path ks [] x b h i = refl
+known-no_path ks (n ∷ ns) x b h i = let k = h.0 i in absurd cc
+
+pub known-path : (ks : List Known) (ns : List Ident) (x : Text) (b : Bool) → (IsTrue b ↔ (ns ≡ [])) → b ≡ false → None ≡ known_value ks (Variable (map (λ i. i.name) ns) x)
+known-path ks [] x b h i = absurd (let k = h.1 refl in cc)
+known-path ks (n ∷ ns) x b h i = refl
+
+pub ruleset paths = (known-no_path, known-path)

@@ -1,56 +1,50 @@
--- Nodes at which no rule fires, their parts being reduced; whether they fold to a value is asked apart.
-use Rattle.std.specs.Prelude.{Bool, true, false, ◌&&◌, not, Option, None, is_some}
-use Rattle.rhai_values.specs.Value.{Value}
-use Rattle.rhai_meaning.specs.Constants.{array_value, constant_bool, constant_values}
-use Rattle.rhai_meaning.specs.Engine.{Engine}
-use Rattle.rhai_meaning.specs.Queries.{is_block_dependent}
-use Rattle.rhai_meaning.specs.Tree.{Expr, ArrayOf, BlockExpr, FnCall, Stmt, If, Block, ExprStmt, FnCallStmt, Stmts, no_stmts, stmt}
-use Rattle.rhai_rewriting.specs.Folding.{folded}
-use Rattle.rhai_rewriting.specs.Shapes.{is_expression}
+-- Arrays, braces and names at which no rule fires, their parts being reduced.
+use Rattle.std.specs.Prelude.{Bool, true, false, not, List, Option, Some, None, if◌then◌else◌}
+use Rattle.rhai_values.specs.Value.{Value, is_unit}
+use Rattle.rhai_meaning.specs.Constants.{array_value, constant_values}
+use Rattle.rhai_meaning.specs.Tree.{Expr, ArrayOf, UnitConstant, Variable, BlockExpr, Stmt, ExprStmt, Stmts, no_stmts, stmt}
+use Rattle.rhai_rewriting.specs.Known.{Known}
+use Rattle.rhai_steps.specs.Standing.{may_stand}
+use Rattle.rhai_rewriting.specs.Steps.{Place, Anywhere, AsBase, AsGuard}
+pub use Rattle.rhai_rewriting.specs.Clear.{known_value}
 
-abbrev pub is_empty : Stmts → Bool
-is_empty no_stmts = true
-is_empty (stmt s ss) = false
+abbrev pub is_array : Expr → Bool
+is_array (ArrayOf es) = true
+is_array _ = false
 
--- braces that hold neither nothing nor one expression
-abbrev pub is_settled_braces : Stmts → Bool
-is_settled_braces no_stmts = false
-is_settled_braces (stmt s no_stmts) = not (is_expression s)
-is_settled_braces (stmt s (stmt t ss)) = true
+abbrev pub is_braces : Expr → Bool
+is_braces (BlockExpr ss) = true
+is_braces _ = false
 
-abbrev pub is_settled_expr : Expr → Bool
-is_settled_expr (BlockExpr ss) = is_settled_braces ss
-is_settled_expr _ = true
+abbrev pub is_variable : Expr → Bool
+is_variable (Variable ns x) = true
+is_variable _ = false
 
--- an `if` that has a statement and is not decided
-abbrev pub is_settled_if : Expr → Stmts → Stmts → Bool
-is_settled_if e a b = not (is_empty a && is_empty b) && not (is_some (constant_bool e))
+-- the value of an array of constants
+abbrev pub value_of_array : Expr → Option Value
+value_of_array (ArrayOf es) = array_value (constant_values es)
+value_of_array _ = None
 
--- a block that holds neither nothing nor one statement that may stand outside
-abbrev pub is_settled_block : Stmts → Bool
-is_settled_block no_stmts = false
-is_settled_block (stmt s no_stmts) = is_block_dependent s
-is_settled_block (stmt s (stmt t ss)) = true
+abbrev pub is_settled_in_braces : Place → Stmt → Bool
+is_settled_in_braces p (ExprStmt e) = not (may_stand p e)
+is_settled_in_braces p _ = true
 
--- an expression that may be a statement as it is
-abbrev pub is_settled_expression : Expr → Bool
-is_settled_expression (BlockExpr ss) = false
-is_settled_expression (FnCall c es) = false
-is_settled_expression _ = true
+-- braces that hold neither nothing nor one expression that may stand there
+abbrev pub is_settled_braces : Place → Stmts → Bool
+is_settled_braces p no_stmts = not (may_stand p UnitConstant)
+is_settled_braces p (stmt s no_stmts) = is_settled_in_braces p s
+is_settled_braces p (stmt s (stmt t ss)) = true
 
-abbrev pub is_settled_stmt : Stmt → Bool
-is_settled_stmt (If e a b) = is_settled_if e a b
-is_settled_stmt (Block ss) = is_settled_block ss
-is_settled_stmt (ExprStmt e) = is_settled_expression e
-is_settled_stmt _ = true
+abbrev pub is_settled : Place → Expr → Bool
+is_settled p (BlockExpr ss) = is_settled_braces p ss
+is_settled p _ = true
 
--- ---- the value that a node folds to
+abbrev pub unless_unit : Option Value → Option Value
+unless_unit None = None
+unless_unit (Some v) = if is_unit v then None else Some v
 
-abbrev pub folded_value : Engine → Expr → Option Value
-folded_value r (ArrayOf es) = array_value (constant_values es)
-folded_value r (FnCall c es) = folded r c es
-folded_value r _ = None
-
-abbrev pub folded_statement : Engine → Stmt → Option Value
-folded_statement r (FnCallStmt c es) = folded r c es
-folded_statement r _ = None
+-- the value that a name may become where it stands
+abbrev pub known_there : Place → List Known → Expr → Option Value
+known_there Anywhere ks e = known_value ks e
+known_there AsBase ks e = None
+known_there AsGuard ks e = unless_unit (known_value ks e)

@@ -1,9 +1,9 @@
-//! The rewrite rules at a node whose parts are optimised already.
+//! The rewrite rules at a node whose parts are optimised already, one after another until none fires.
 #![tactic(auto)]
 
 mod expressions;
+mod names;
 mod nodes;
-mod statements;
 
 pub use nodes::{reduce_expr, reduce_stmt};
-pub use rhai_folding::OptimizerState;
+pub use rhai_steps::{OptimizerState, Place};

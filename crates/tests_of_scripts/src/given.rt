@@ -106,13 +106,15 @@ fn copied(value: &Option<Dynamic>) -> Result<Option<Dynamic>, OutOfMemory>
 pub struct Given {
     pub info: EngineInfo,
     pub host: RowsHost,
+    /// Whether the program's host answers in place of the rows.
+    pub by_program: bool,
     pub scope: Scope,
     pub turns: u64,
 }
 
 /// Reads what a run is given, a line each: `turns 3`, of the scope `variable x = 1` and `constant x = 1`, of the record
 /// `record x = 1`, `override + i64 i64`, `type i64 as int` and `fast operators`, of the host `module m::x = 1` and
-/// rows as `answer 0 f => 1 then 2`. Three turns, where no line says how many.
+/// rows as `answer 0 f => 1 then 2`, or `host of the program` in their place. Three turns, where no line says how many.
 pub fn read_given(text: &str, said: &Said) -> Given {
     let mut given = Given {
         info: EngineInfo::new(said.alloc),
@@ -120,6 +122,7 @@ pub fn read_given(text: &str, said: &Said) -> Given {
             answers: Seq::new(said.alloc),
             modules: Seq::new(said.alloc),
         },
+        by_program: false,
         scope: Scope::new(said.alloc),
         turns: 3,
     };
@@ -134,6 +137,7 @@ fn read_line(line: &str, given: &mut Given, said: &Said) {
     match word {
         "turns" => read_turns(rest, given, said),
         "answer" => read_row(rest, given, said),
+        "host" => given.by_program = true,
         "type" => rename(rest, &mut given.info, said),
         "override" => override_operator(rest, &mut given.info, said),
         "fast" => given.info.set_fast_operators(true),

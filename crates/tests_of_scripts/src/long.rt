@@ -1,13 +1,13 @@
 //! Deep scripts and long ones, which are made here.
 
 use crate::given::Given;
-use crate::scripts::{level_named, printed, push_run};
+use crate::scripts::{level_named, made, printed, push_run, say_runs};
 use rhai_ast::{Expr, FlowControl, Stmt, StmtBlock};
 use rhai_base::{Boxed, Position, Span};
 use rhai_optimizer::{OptimizationLevel, optimize_into_ast};
 use rhai_run::EngineInfo;
 use rhai_script::AST;
-use tests_reader::{Said, split};
+use tests_reader::{Said, Script, split};
 
 /// A number before a text.
 fn counted<'a>(text: &'a str, said: &Said) -> (usize, &'a str) {
@@ -86,6 +86,36 @@ fn read_numbered(text: &str, number: usize, said: &Said) -> Option<Stmt> {
     let number = said.made(format!(in said.alloc; "{number}"))?;
     let text = said.made(text.replace(said.alloc, "_", number.as_str()))?;
     said.original_stmt(text.as_str())
+}
+
+/// What becomes of lines, before each of which stands how many times it is there, and the report of the run.
+pub fn repeated(given: &Given, text: &str, said: &Said) {
+    if let Some(source) = repeated_at(given, text, OptimizationLevel::None, said)
+        && let Some(script) = repeated_at(given, text, OptimizationLevel::Simple, said)
+    {
+        said.put(printed(script.get(), said).as_str());
+        say_runs(given, source.get(), script.get(), said);
+    }
+}
+
+fn repeated_at(
+    given: &Given,
+    text: &str,
+    level: OptimizationLevel,
+    said: &Said,
+) -> Option<Boxed<AST>> {
+    let mut statements = Vec::new(said.alloc);
+    for line in text.lines() {
+        let (count, text) = counted(line, said);
+        let mut alike = numbered(text, count, said);
+        said.made(statements.append(&mut alike));
+    }
+    let functions = Vec::new(said.alloc);
+    let script = Script {
+        statements,
+        functions,
+    };
+    made(given, script, level, said)
 }
 
 /// The first line, how many are like it, and how many there are.

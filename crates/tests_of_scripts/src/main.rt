@@ -2,9 +2,11 @@
 #![tactic(auto)]
 
 mod answers;
+mod following;
 mod given;
 mod guide_runs;
 mod long;
+mod names;
 mod nodes;
 mod readme;
 mod record;

@@ -6,7 +6,7 @@ use rhai_base::Position;
 use rhai_folding::{constant_bool, folded};
 use rhai_notation::push_lines;
 use rhai_optimizer::{OptimizationLevel, OptimizerState, optimize_top_level};
-use rhai_rules::{reduce_expr, reduce_stmt};
+use rhai_rules::{Place, reduce_expr, reduce_stmt};
 use rhai_run::EngineInfo;
 use tests_reader::{Said, Script};
 
@@ -14,7 +14,7 @@ pub fn answer(question: &str, info: &EngineInfo, text: &str, said: &Said) {
     match question {
         "top_level" | "reduced" => of_statements(question, info, text, said),
         "folded" | "constant_bool" => of_expr(question, info, text.trim_end(), said),
-        "state" => state(text, said),
+        "state" => state(info, text, said),
         "default" => said.debug(&OptimizationLevel::default()),
         _ => said.want("a question"),
     }
@@ -60,13 +60,22 @@ fn changed(
 
 /// One step on a statement, or on the expression that it is; says whether something was done.
 fn reduce(info: &EngineInfo, statement: Option<&mut Stmt>, said: &Said) {
-    let mut state = OptimizerState::new();
-    let reduced = match statement {
-        Some(Stmt::Expr(expr)) => reduce_expr(said.alloc, info, &mut state, expr.get_mut()),
-        Some(statement) => reduce_stmt(said.alloc, info, &mut state, statement, true),
-        None => Ok(()),
-    };
-    said.made(reduced);
+    let mut state = OptimizerState::new(said.alloc, info, None, OptimizationLevel::Simple);
+    match statement {
+        Some(Stmt::Expr(expr)) => {
+            said.made(reduce_expr(
+                said.alloc,
+                info,
+                &mut state,
+                expr.get_mut(),
+                Place::Anywhere,
+            ));
+        }
+        Some(statement) => {
+            said.made(reduce_stmt(said.alloc, info, &mut state, statement, true));
+        }
+        None => {}
+    }
     say_dirty(&state, said);
 }
 
@@ -86,8 +95,8 @@ fn fold(info: &EngineInfo, call: &FnCallExpr, said: &Said) {
 }
 
 /// A state that takes these steps; after each, whether it is dirty.
-fn state(text: &str, said: &Said) {
-    let mut state = OptimizerState::new();
+fn state(info: &EngineInfo, text: &str, said: &Said) {
+    let mut state = OptimizerState::new(said.alloc, info, None, OptimizationLevel::Simple);
     for step in text.split_whitespace() {
         match step {
             "set" => state.set_dirty(),

@@ -1,15 +1,16 @@
 //! Questions about scripts: how they are printed, what the optimiser makes of them, and how they run. A script may stand
 //! behind a line `----` and what its run is given.
 
+use crate::following::parting;
 use crate::given::{Given, read_given};
 use crate::nodes::{places, places_read};
-use crate::{long, nodes};
+use crate::{long, names, nodes};
 use rhai_ast::{FnAccess, FnNamespace, Stmt, StmtQueries};
 use rhai_base::{Boxed, OutOfMemory};
-use rhai_host::push_report;
+use rhai_host::{ProgramHost, push_report};
 use rhai_notation::push_script;
 use rhai_optimizer::{OptimizationLevel, optimize_into_ast};
-use rhai_run::{EngineInfo, plain_run};
+use rhai_run::{RunReport, plain_run};
 use rhai_script::AST;
 use tests_reader::{Said, Script, split};
 
@@ -38,17 +39,19 @@ fn ended(text: &str, said: &Said) -> String {
 
 fn asked(question: &str, given: &Given, script: &str, said: &Said) {
     if let Some(level) = level_named(question) {
-        return at_level(&given.info, script, level, said);
+        return at_level(given, script, level, said);
     }
     if JOINS.contains(&question) {
         return join(question, given, script, said);
     }
     match question {
-        "last" => last(&given.info, script, said),
+        "last" => last(given, script, said),
         "run" => run(given, script, said),
         "rewrite" => rewrite(given, script, said),
+        "names" => names::answer(given, script, said),
         "deep" => long::deep(script, said),
         "long" => long::long(script, said),
+        "repeated" => long::repeated(given, script, said),
         "asked" => long::asked(given, script, said),
         _ => nodes::answer(question, &given.info, script, said),
     }
@@ -65,24 +68,35 @@ pub fn level_named(name: &str) -> Option<OptimizationLevel> {
 
 /// The script of a text, at a level.
 fn optimized(
-    info: &EngineInfo,
+    given: &Given,
     text: &str,
+    level: OptimizationLevel,
+    said: &Said,
+) -> Option<Boxed<AST>> {
+    made(given, said.script(text)?, level, said)
+}
+
+/// What a script is made into at a level, for runs that are given this.
+pub fn made(
+    given: &Given,
+    script: Script,
     level: OptimizationLevel,
     said: &Said,
 ) -> Option<Boxed<AST>> {
     let Script {
         statements,
         functions,
-    } = said.script(text)?;
-    let script = optimize_into_ast(said.alloc, info, None, statements, functions, level);
+    } = script;
+    let (info, scope) = (&given.info, Some(&given.scope));
+    let script = optimize_into_ast(said.alloc, info, scope, statements, functions, level);
     said.boxed(said.made(script))
 }
 
 // ---- what a script becomes
 
 /// A script in print; `as it was`, where it is printed as it was read and its nodes stand where they stood.
-fn at_level(info: &EngineInfo, text: &str, level: OptimizationLevel, said: &Said) {
-    if let Some(script) = optimized(info, text, level, said) {
+fn at_level(given: &Given, text: &str, level: OptimizationLevel, said: &Said) {
+    if let Some(script) = optimized(given, text, level, said) {
         say_printed(script.get(), text, said);
     }
 }
@@ -104,8 +118,8 @@ pub fn printed(script: &AST, said: &Said) -> String {
 }
 
 /// The column in which the last statement stands.
-fn last(info: &EngineInfo, text: &str, said: &Said) {
-    if let Some(script) = optimized(info, text, OptimizationLevel::Simple, said) {
+fn last(given: &Given, text: &str, said: &Said) {
+    if let Some(script) = optimized(given, text, OptimizationLevel::Simple, said) {
         say_last(script.get().statements(), said);
     }
 }
@@ -121,9 +135,42 @@ fn say_last(statements: &[Stmt], said: &Said) {
 
 /// The report of a run; where the script is not printed as it was read, how it is printed goes before.
 fn run(given: &Given, text: &str, said: &Said) {
-    let told = outcome(given, text, OptimizationLevel::None, said);
-    let told = told.as_str();
-    said.put(told.strip_prefix(text).unwrap_or(told));
+    if let Some(source) = optimized(given, text, OptimizationLevel::None, said)
+        && let Some(script) = optimized(given, text, OptimizationLevel::Simple, said)
+    {
+        say_if_other(printed(source.get(), said).as_str(), text, said);
+        say_runs(given, source.get(), script.get(), said);
+    }
+}
+
+fn say_if_other(printed: &str, text: &str, said: &Said) {
+    if printed != text {
+        said.put(printed);
+    }
+}
+
+/// The report of a script's run. The script that it is optimised to runs too, given the same; where that run does not follow, it is
+/// said why, and the script and its report.
+pub fn say_runs(given: &Given, source: &AST, script: &AST, said: &Said) {
+    let shown = printed(script, said);
+    if let Some(before) = said.made(report(given, source, said))
+        && let Some(after) = said.made(report(given, script, said))
+    {
+        say_report(&before, said);
+        if let Some(parting) = parting(&before, &after) {
+            said.put("but the run of the optimised script has ");
+            said.put(parting);
+            said.put(":\n");
+            said.put(shown.as_str());
+            say_report(&after, said);
+        }
+    }
+}
+
+fn say_report(report: &RunReport, said: &Said) {
+    let mut told = said.taken();
+    let added = push_report(report, &mut told);
+    said.put_back(told, added);
 }
 
 /// What a script is optimised to with the report of its run. Where the script as it was read is not printed so, or its run has
@@ -143,7 +190,7 @@ fn rewrite(given: &Given, text: &str, said: &Said) {
 
 /// A script in print and the report of its run.
 fn outcome(given: &Given, text: &str, level: OptimizationLevel, said: &Said) -> String {
-    match optimized(&given.info, text, level, said) {
+    match optimized(given, text, level, said) {
         Some(script) => {
             let mut told = printed(script.get(), said);
             said.made(push_run(given, script.get(), &mut told, said));
@@ -160,14 +207,23 @@ pub fn push_run(
     told: &mut String,
     said: &Said,
 ) -> Result<(), OutOfMemory> {
+    push_report(&report(given, script, said)?, told)
+}
+
+/// The report of a run.
+fn report(given: &Given, script: &AST, said: &Said) -> Result<RunReport, OutOfMemory> {
     let Given {
         info,
         host,
+        by_program,
         scope,
         turns,
     } = given;
-    let report = plain_run(said.alloc, script, info, host, scope, *turns)?;
-    push_report(&report, told)
+    if *by_program {
+        plain_run(said.alloc, script, info, &ProgramHost, scope, *turns)
+    } else {
+        plain_run(said.alloc, script, info, host, scope, *turns)
+    }
 }
 
 // ---- two scripts
@@ -175,8 +231,8 @@ pub fn push_run(
 /// The report of the run of two scripts that are joined.
 fn join(question: &str, given: &Given, text: &str, said: &Said) {
     let (first, second) = split(text, BETWEEN);
-    if let Some(first) = optimized(&given.info, first, OptimizationLevel::None, said)
-        && let Some(second) = optimized(&given.info, second, OptimizationLevel::None, said)
+    if let Some(first) = optimized(given, first, OptimizationLevel::None, said)
+        && let Some(second) = optimized(given, second, OptimizationLevel::None, said)
     {
         say_joined(question, given, first.get(), second.get(), said);
     }

@@ -1,20 +1,24 @@
 -- The rules of loops, `try` and nested `if`s: a lemma each, of the rule's name.
-use Rattle.std.proofs.Common.{◌≡◌, ◌<◌, ℕ, zero, suc, Bool, true, false, List, [], length, Option, Some, None, refl, sym, subst, arith}
+use Rattle.std.proofs.Common.{◌≡◌, ◌<◌, ◌+◌, ℕ, zero, suc, Bool, true, false, List, [], length, Option, Some, None, refl, sym, subst, arith}
 use Rattle.rhai_values.specs.Value.{Text, Value, UnitV, BoolV}
 use Rattle.rhai_meaning.specs.Act.{World, Store, WrongKind, Act, Scoped, Acts, Env, rounds, run}
 use Rattle.rhai_meaning.specs.ActForms.{give, unit, ◌>>=◌, truth, branch, if_true}
 use Rattle.rhai_meaning.specs.Constants.{constant_bool}
 use Rattle.rhai_meaning.specs.Control.{round}
 use Rattle.rhai_meaning.specs.Core as core
-use Rattle.rhai_meaning.specs.Desugar.{core_expr, core_stmts, guard_by, try_by}
+use Rattle.rhai_meaning.specs.Desugar.{core_expr, core_exprs, core_stmts, guard_by, try_by}
+use Rattle.rhai_meaning.specs.Faults.{has_operands}
 use Rattle.rhai_meaning.specs.Meaning.{act, both, loop, deed, acts}
 use Rattle.rhai_meaning.specs.Queries.{are_internally_pure}
 use Rattle.rhai_meaning.specs.Shape.{catch_name}
-use Rattle.rhai_meaning.specs.Tree.{Expr, UnitConstant, And, no_exprs, expr, Stmt, Noop, If, While, TryCatch, Share, Stmts, no_stmts, stmt}
+use Rattle.rhai_meaning.specs.Tree.{Expr, UnitConstant, And, Exprs, no_exprs, expr, Stmt, Noop, If, While, TryCatch, Share, Stmts, no_stmts, stmt}
+use Rattle.rhai_meaning.specs.Walk.{Node, Around, whole, throughout, over_expr, over_exprs}
+use Rattle.rhai_meaning.specs.Weight.{expr_weight, exprs_weight}
 use Rattle.rhai_meaning.proofs.PureTrees.{internal_list}
 use Rattle.rhai_rewriting.specs.Context.{Context}
 use Rattle.rhai_rewriting.specs.Known.{unknown}
-use Rattle.rhai_rewriting.proofs.simulation.Laws.{simulates_unassoc, simulates_stuck, simulates_braces, pure_ending_goes}
+use Rattle.rhai_rewriting.specs.Operands.{with_last}
+use Rattle.rhai_rewriting.proofs.simulation.Laws.{simulates_assoc, simulates_unassoc, simulates_stuck, simulates_braces, pure_ending_goes}
 use Rattle.rhai_rewriting.proofs.simulation.Setting.{Setting, world}
 use Rattle.rhai_rewriting.proofs.simulation.Simulation.{Simulates, simulates_trans, simulates_refl, simulates_equal}
 use Rattle.rhai_rewriting.proofs.simulation.Forms.{simulates_bind, simulates_if, stmt_refl, stmt_of_deed}
@@ -96,6 +100,30 @@ module _ {k : Context} (c : Setting k) (ss : core.Stmts) where
       (simulates_bind simulates_refl (λ v. outer_if b (truth v)))
       (simulates_unassoc (act (world c) a) (λ v. if_true v (both (world c) (core.expr b core.no_exprs)) (give (BoolV false))) chosen_block))
 
+  -- an `&&`, then what one operand more decides
+  abbrev decides : core.Expr → Value → Act
+  decides b v = if_true v (act (world c) b >>= chosen_block) empty
+
+  after_operand : (b : core.Expr) (rest more : Act) → Simulates c (rest >>= decides b) (more >>= chosen_block) → (o : Option Bool) → Simulates c (branch o rest (give (BoolV false)) >>= decides b) (branch o more (give (BoolV false)) >>= chosen_block)
+  after_operand b rest more h None = simulates_equal (λ m. refl)
+  after_operand b rest more h (Some true) = h
+  after_operand b rest more h (Some false) = simulates_equal (λ m. refl)
+
+  last_operand : (es : Exprs) (b : Expr) → Simulates c (both (world c) (core_exprs c.in_loop es) >>= decides (core_expr c.in_loop b)) (both (world c) (core_exprs c.in_loop (with_last es b)) >>= chosen_block)
+  last_operand no_exprs b = simulates_trans {b = act (world c) (core_expr c.in_loop b) >>= chosen_block} (simulates_equal (λ m. refl)) (outer_if (core_expr c.in_loop b) (Some true))
+  last_operand (expr e es) b =
+      let rest = both (world c) (core_exprs c.in_loop es) in
+      let more = both (world c) (core_exprs c.in_loop (with_last es b)) in
+      simulates_trans (simulates_assoc (act (world c) (core_expr c.in_loop e)) (λ v. if_true v rest (give (BoolV false))) (decides (core_expr c.in_loop b)))
+      (simulates_trans (simulates_bind simulates_refl (λ v. after_operand (core_expr c.in_loop b) rest more (last_operand es b) (truth v)))
+      (simulates_unassoc (act (world c) (core_expr c.in_loop e)) (λ v. if_true v more (give (BoolV false))) chosen_block))
+
+  if_in_conjunction : (es : Exprs) (b : Expr) → Simulates c (deed (world c) (core.If (core.And (core_exprs c.in_loop es)) (core.stmt (core.Does (core.If (core_expr c.in_loop b) ss core.no_stmts)) core.no_stmts) core.no_stmts)) (deed (world c) (core.If (core.And (core_exprs c.in_loop (with_last es b))) ss core.no_stmts))
+  if_in_conjunction es b =
+      simulates_trans {b = both (world c) (core_exprs c.in_loop es) >>= decides (core_expr c.in_loop b)}
+      (simulates_bind simulates_refl (λ v. simulates_if v (simulates_braces (deed (world c) (core.If (core_expr c.in_loop b) ss core.no_stmts))) simulates_refl))
+      (last_operand es b)
+
 abbrev outer : Expr → Expr → Stmts → Stmt
 outer a b ss = If a (stmt (If b ss no_stmts) no_stmts) no_stmts
 
@@ -107,6 +135,25 @@ nested_if {w = w} {a = a} {b = b} {ss = ss} = record {
   lighter = omega arith;
   keeps = λ P l lasts h. (lasts.branching _ _ _, ((lasts.conjunction _ refl, (h.1.0, (h.1.1.0.0.1.0, tt))), (h.1.1.0.0.1.1.0, tt)));
   sound = λ c. stmt_of_deed (if_in_if c (core_stmts c.in_loop ss) (core_expr c.in_loop a) (core_expr c.in_loop b));
+}
+
+last_weighs : (es : Exprs) (b : Expr) → exprs_weight (with_last es b) ≡ exprs_weight es + expr_weight b
+last_weighs no_exprs b = omega arith
+last_weighs (expr e es) b = omega (arith, last_weighs es b)
+
+has_last : (es : Exprs) (b : Expr) → has_operands (with_last es b) ≡ true
+has_last no_exprs b = refl
+has_last (expr e es) b = refl
+
+last_keeps : (P : Around → Node → Type 0) (a : Around) (es : Exprs) (b : Expr) → over_exprs (throughout P) es a → over_expr (throughout P) b a → over_exprs (throughout P) (with_last es b) a
+last_keeps P a no_exprs b h i = (i, tt)
+last_keeps P a (expr e es) b h i = (h.0, last_keeps P a es b h.1 i)
+
+pub nested_if_joins : {k : Context} {w : Bool} (es : Exprs) {b : Expr} {ss : Stmts} → StmtObligation k w (outer (And es) b ss) (If (And (with_last es b)) ss no_stmts)
+nested_if_joins es {b = b} {ss = ss} = record {
+  lighter = omega (arith, last_weighs es b);
+  keeps = λ P l lasts h. (lasts.branching _ _ _, ((lasts.conjunction _ (has_last es b), last_keeps P (whole l) es b h.1.0.1 h.1.1.0.0.1.0), (h.1.1.0.0.1.1.0, tt)));
+  sound = λ c. stmt_of_deed (if_in_conjunction c (core_stmts c.in_loop ss) es b);
 }
 
 -- ---- shared names, which have no meaning here

@@ -13,6 +13,7 @@ use Rattle.rhai_meaning.proofs.PureActs.{PureList, unnamed}
 use Rattle.rhai_meaning.proofs.PureTrees.{PureStmt, pure_deed, InternalStmt, declares, internal_deed, pure_stmt, internal_stmt, internal_list}
 use Rattle.rhai_meaning.proofs.Sequencing.{scoped_do}
 use Rattle.rhai_rewriting.specs.Context.{Context, ListKind, Inside, wanted, wanted_before}
+use Rattle.rhai_rewriting.specs.Exports.{exports_nothing}
 use Rattle.rhai_rewriting.proofs.simulation.Setting.{Setting, world, run_from, run_all_from}
 use Rattle.rhai_rewriting.proofs.simulation.Simulation.{Simulates, simulates_trans, all_trans, simulates_equal, all_equal, simulates_refl}
 use Rattle.rhai_rewriting.proofs.simulation.Laws.{pure_ending_goes}
@@ -79,8 +80,8 @@ lone_goes {m = m} {ns = ns} {x = x} {ss = ss} n = record {
   sound = λ c v z. deed_goes c m (core.Evaluate (variable ns x)) ss v n (λ s. name_from c ns x s);
 }
 
-pub pure_inside_goes : {k : Context} {b u : Bool} {s : Stmt} {ss : Stmts} → wanted_before b ss ≡ false → is_internally_pure s ≡ true → are_internally_pure ss ≡ true → ListObligation k (Inside b) u (stmt s ss) ss
-pure_inside_goes {b = b} {s = s} {ss = ss} n h j = record {
+pub pure_inside_goes : {k : Context} {b u : Bool} {s : Stmt} {ss : Stmts} → wanted_before b ss ≡ false → is_internally_pure s ≡ true → are_internally_pure ss ≡ true → exports_nothing ss ≡ true → ListObligation k (Inside b) u (stmt s ss) ss
+pure_inside_goes {b = b} {s = s} {ss = ss} n h j x = record {
   lighter = omega (arith, stmt_heavy s);
   keeps = λ P l lasts i. i.1;
   sound = λ c v z. record {

@@ -241,6 +241,7 @@ stmt_rule (rule.switch_forgets j h q x) = forgetting.switch_forgets j h q x
 stmt_rule (rule.switch_narrows v h q d o x y) = tables.switch_narrows v h q d o x y
 stmt_rule (rule.switch_shrinks h q x) = tables.switch_shrinks h q x
 stmt_rule rule.nested_if = control.nested_if
+stmt_rule (rule.nested_if_joins {es = es}) = control.nested_if_joins es
 stmt_rule (rule.share_known h) = control.share_known h
 stmt_rule rule.share_nothing = control.share_nothing
 stmt_rule (rule.self_assign q a h j) = assign.self_assign q a h j

@@ -5,7 +5,7 @@ use Rattle.rhai_meaning.specs.Engine.{Binding}
 use Rattle.rhai_meaning.specs.Act.{ScopeEntry, found}
 use Rattle.rhai_meaning.specs.Run.{bind}
 use Rattle.rhai_meaning.proofs.Relations.{Keeps, none, one, changed}
-use Rattle.rhai_rewriting.specs.Known.{Known, look, shadow, shadow_all, Fits, Agrees}
+use Rattle.rhai_rewriting.specs.Known.{Known, look, KnowsLess, shadow, shadow_all, Fits, Agrees}
 
 -- with no names known
 pub agrees_nothing : (bs : List Binding) (es : List ScopeEntry) → Agrees bs [] es
@@ -24,6 +24,10 @@ keeps_fits bs x u (changed {e = e} {v = v} {es = es} {fs = fs} c p) =
 -- where constants keep their values
 pub agrees_keeps : {bs : List Binding} {ks : List Known} {es fs : List ScopeEntry} → Keeps es fs → Agrees bs ks es → Agrees bs ks fs
 agrees_keeps {bs} p a = record { is = λ x v h. keeps_fits bs x v p (a.is x v h) }
+
+-- where fewer names are known
+pub agrees_knowing_less : {bs : List Binding} {ks ls : List Known} {es : List ScopeEntry} → KnowsLess ks ls → Agrees bs ls es → Agrees bs ks es
+agrees_knowing_less i a = record { is = λ x v h. a.is x v (i.is x v h) }
 
 -- under one more name
 pub agrees_shadow : (bs : List Binding) (ks : List Known) (es : List ScopeEntry) (x : Text) (c : Bool) (v : Value) → Agrees bs ks es → Agrees bs (shadow x ks) (record { name = x; constant = c; value = v } ∷ es)

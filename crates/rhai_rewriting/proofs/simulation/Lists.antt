@@ -1,12 +1,13 @@
 -- Lists, closed at their end: a whole one by its return, an inside one by taking its names away.
-use Rattle.std.proofs.Common.{◌≡◌, Bool, true, Option, Some, None, refl, sym}
+use Rattle.std.proofs.Common.{◌≡◌, Bool, true, List, Option, Some, None, refl, sym}
 use Rattle.rhai_values.specs.Value.{Text, Value}
 use Rattle.rhai_meaning.specs.Act.{Ending, Gives, Leaves, Act, Scoped, Acts, Do, Named, Finish}
 use Rattle.rhai_meaning.specs.ActForms.{each_value, then_line}
 use Rattle.rhai_meaning.proofs.Sequencing.{scoped_do, scoped_named, finish_do}
 use Rattle.rhai_rewriting.specs.Context.{Context, ListKind, Whole, Inside}
-use Rattle.rhai_rewriting.proofs.simulation.Setting.{Setting, noted, beneath, world}
-use Rattle.rhai_rewriting.proofs.simulation.Simulation.{Simulates, SimulatesAll, simulates_trans, all_trans, simulates_equal, all_equal, simulates_refl, all_refl, simulates_then, all_do, all_finish, all_only, all_noted, simulates_scoped}
+use Rattle.rhai_rewriting.specs.Known.{Known, KnowsLess}
+use Rattle.rhai_rewriting.proofs.simulation.Setting.{Setting, noted, beneath, knowing_fewer, world}
+use Rattle.rhai_rewriting.proofs.simulation.Simulation.{Simulates, SimulatesAll, simulates_trans, all_trans, simulates_knowing_less, all_knowing_less, simulates_equal, all_equal, simulates_refl, all_refl, simulates_then, all_do, all_finish, all_only, all_noted, simulates_scoped}
 
 abbrev pub Closed : {k : Context} → Setting k → ListKind → Acts → Acts → Type 0
 Closed c Whole p q = SimulatesAll c (Finish p) (Finish q)
@@ -25,6 +26,11 @@ list_refl {m = m} = list_of_all m all_refl
 pub list_trans : {k : Context} {c : Setting k} (m : ListKind) {p q r : Acts} → SimulatesList c m p q → SimulatesList c m q r → SimulatesList c m p r
 list_trans Whole i h = record { closed = all_trans i.closed h.closed }
 list_trans (Inside b) i h = record { closed = simulates_trans i.closed h.closed }
+
+-- where fewer names are known
+pub list_knowing_less : {k : Context} {c : Setting k} {ks : List Known} (m : ListKind) {p q : Acts} → KnowsLess ks k.known → SimulatesList (knowing_fewer ks c) m p q → SimulatesList c m p q
+list_knowing_less Whole i h = record { closed = all_knowing_less i h.closed }
+list_knowing_less (Inside b) i h = record { closed = simulates_knowing_less i h.closed }
 
 list_do : {k : Context} {c : Setting k} (m : ListKind) (a : Act) {next next' : Ending → Acts} → ((e : Ending) → SimulatesList c m (next e) (next' e)) → SimulatesList c m (Do a next) (Do a next')
 list_do {c = c} Whole a {next = next} {next' = next'} h = record {

@@ -7,8 +7,8 @@ use Rattle.rhai_meaning.proofs.Relations.{AnyHalt, IsOut}
 use Rattle.rhai_meaning.proofs.Monotone.{Deeper, follows_weak, monotone, monotone_all}
 use Rattle.rhai_meaning.proofs.Ends.{Run, Rises}
 use Rattle.rhai_meaning.specs.Tree.{Stmt}
-use Rattle.rhai_rewriting.specs.Context.{Context, noting, naming, behind}
-use Rattle.rhai_rewriting.specs.Known.{Agrees}
+use Rattle.rhai_rewriting.specs.Context.{Context, knowing, noting, naming, behind}
+use Rattle.rhai_rewriting.specs.Known.{Known, Agrees}
 use Rattle.rhai_rewriting.proofs.acts.Within.{Valueless, CallsIn}
 
 -- A deeper one does what a shallower one does unless that is out of turns, and loops go round as often as it is deep.
@@ -43,6 +43,10 @@ beneath x c = noted x None c
 -- behind a statement
 abbrev pub past : {k : Context} (s : Stmt) → Setting k → Setting (behind s k)
 past s c = record { host = c.host; functions = c.functions; environments = c.environments; in_loop = c.in_loop }
+
+-- where these names alone are known
+abbrev pub knowing_fewer : {k : Context} (ks : List Known) → Setting k → Setting (knowing k.engine ks)
+knowing_fewer ks c = record { host = c.host; functions = c.functions; environments = c.environments; in_loop = c.in_loop }
 
 -- what is known holds in the store
 abbrev pub Agreed : Context → Store → Type 0

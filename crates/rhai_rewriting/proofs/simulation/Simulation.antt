@@ -1,5 +1,5 @@
 -- An act that does what another does, at every depth.
-use Rattle.std.proofs.Common.{◌≡◌, ℕ, Bool, true, Option, Some, refl, subst, arith}
+use Rattle.std.proofs.Common.{◌≡◌, ℕ, Bool, true, List, Option, Some, refl, subst, arith}
 use Rattle.rhai_values.specs.Value.{Text, Value}
 use Rattle.rhai_meaning.specs.Act.{HostCall, Answer, Store, Ending, Stuck, IsStuck, Halted, Result, At, ScriptCall, Act, Then, Turn, AskHost, Invoke, Loop, Scoped, Acts, Only, Do, Named, Finish}
 use Rattle.rhai_meaning.specs.Relations.{Begins, calls_of}
@@ -7,7 +7,9 @@ use Rattle.rhai_meaning.proofs.Relations.{Follows, short, AnyHalt}
 use Rattle.rhai_meaning.proofs.Monotone.{follows_refl, follows_trans}
 use Rattle.rhai_meaning.proofs.Ends.{Run, Met, stuck, Rises, ends_of, met_self, met_trans}
 use Rattle.rhai_rewriting.specs.Context.{Context}
-use Rattle.rhai_rewriting.proofs.simulation.Setting.{Setting, noted, environment, Agreed, Start, run_from, run_all_from, run_by_depth, run_all_by_depth, steady_at, rises}
+use Rattle.rhai_rewriting.specs.Known.{Known, KnowsLess}
+use Rattle.rhai_rewriting.proofs.simulation.Agreement.{agrees_knowing_less}
+use Rattle.rhai_rewriting.proofs.simulation.Setting.{Setting, noted, knowing_fewer, environment, Agreed, Start, run_from, run_all_from, run_by_depth, run_all_by_depth, steady_at, rises}
 use Rattle.rhai_rewriting.proofs.simulation.Matching.{Stage, SimulatesAt, SimulatesAllAt, CallsMatch, calling, at_equal, all_at_equal, at_then, at_turn, at_ask, at_invoke, at_loop, at_do, at_scoped, at_finish, at_only, at_noted, at_refl, all_at_refl}
 
 -- the new run in the old one's environment
@@ -44,6 +46,14 @@ simulates_trans {c = c} {a = a} {b = b} i h = record {
     };
   };
 }
+
+-- ---- where fewer names are known
+
+pub simulates_knowing_less : {k : Context} {c : Setting k} {ks : List Known} {a b : Act} → KnowsLess ks k.known → Simulates (knowing_fewer ks c) a b → Simulates c a b
+simulates_knowing_less i h = record { at = λ d. record { matches = λ s t ag. (h.at d).matches s t (agrees_knowing_less i ag) } }
+
+pub all_knowing_less : {k : Context} {c : Setting k} {ks : List Known} {p q : Acts} → KnowsLess ks k.known → SimulatesAll (knowing_fewer ks c) p q → SimulatesAll c p q
+all_knowing_less i h = record { at = λ d. record { matches = λ s t ag. (h.at d).matches s t (agrees_knowing_less i ag) } }
 
 -- ---- the same act
 

@@ -14,12 +14,12 @@ use Rattle.rhai_meaning.specs.Shape.{is_chain, is_callable, is_table, is_left_si
 use Rattle.rhai_meaning.specs.Meaning.{wanted_value, act, with_args, with_pairs, both, either, first_some, arm_acts, loop, assign, deed, line, acts}
 use Rattle.rhai_meaning.specs.Tree.{ChainFlags, Callee, Expr, UnitConstant, MethodCall, Dot, Index, Exprs, count_exprs, Pairs, MaybeExpr, Arms, Stmt, Stmts, no_stmts, stmt}
 use Rattle.rhai_rewriting.specs.Context.{Context, ListKind, Inside, wanted, wanted_before}
-use Rattle.rhai_rewriting.specs.Rewriting.{ExprTo, same_expr, then_expr, by_expr_rule, in_text, in_array, in_map, in_braces, in_call, in_chain, in_and, in_or, in_coalesce, ExprsTo, exprs_none, exprs_more, PairsTo, pairs_none, pairs_more, ChainTo, in_dot, in_index, base, ArgumentTo, same_argument, in_method, in_brackets, StepsTo, same_steps, last_method, last_index, more_dot, more_index, TargetTo, same_target, in_target, guard, MaybeTo, maybe_none, maybe_some, ArmsTo, arms_none, arms_more, StmtTo, same_stmt, then_stmt, by_stmt_rule, in_if, in_switch, in_while, in_do, in_for, in_var, in_assignment, in_block, in_try, in_expression, in_call_statement, in_break, in_return, in_import, RestTo, same_stmts, then_stmts, by_list_rule, in_head, in_tail, flag_forgotten}
+use Rattle.rhai_rewriting.specs.Rewriting.{ExprTo, same_expr, then_expr, by_expr_rule, in_text, in_array, in_map, in_braces, in_call, in_stray_method, in_chain, in_and, in_or, in_coalesce, ExprsTo, exprs_none, exprs_more, PairsTo, pairs_none, pairs_more, ChainTo, in_dot, in_index, base, ArgumentTo, same_argument, in_method, in_brackets, StepsTo, same_steps, last_method, last_index, more_dot, more_index, TargetTo, same_target, in_target, guard, MaybeTo, maybe_none, maybe_some, ArmsTo, arms_none, arms_more, StmtTo, same_stmt, then_stmt, by_stmt_rule, in_if, in_switch, in_while, in_do, in_for, in_var, in_assignment, in_block, in_try, in_expression, in_call_statement, in_break, in_return, in_import, RestTo, same_stmts, then_stmts, by_list_rule, in_head, in_tail, flag_forgotten, knowing_less}
 use Rattle.rhai_rewriting.proofs.simulation.Congruent.{c_choose, c_while, c_do, c_round, c_for_all, MaybeAlike, no_arm_alike, arm_alike}
-use Rattle.rhai_rewriting.proofs.simulation.Setting.{Setting, past, world}
+use Rattle.rhai_rewriting.proofs.simulation.Setting.{Setting, past, knowing_fewer, world}
 use Rattle.rhai_rewriting.proofs.simulation.Simulation.{Simulates, SimulatesAll, all_refl, simulates_trans, simulates_refl, simulates_loop}
 use Rattle.rhai_rewriting.proofs.simulation.Forms.{simulates_bind, simulates_if, all_line, Rest, after, SimulatesStmt, stmt_refl, stmt_trans, stmt_of_deed}
-use Rattle.rhai_rewriting.proofs.simulation.Lists.{SimulatesList, list_of_all, list_refl, list_trans}
+use Rattle.rhai_rewriting.proofs.simulation.Lists.{SimulatesList, list_of_all, list_refl, list_trans, list_knowing_less}
 use Rattle.rhai_rewriting.proofs.simulation.Unwanted.{unwanted_if, unwanted_block}
 use Rattle.rhai_rewriting.proofs.rules.Expressions.{expr_rule}
 use Rattle.rhai_rewriting.proofs.rules.Statements.{stmt_rule}
@@ -138,6 +138,7 @@ mutual
   expr_sound (in_array h) c = args_sound h c (λ vs. _)
   expr_sound (in_map {ps = ps} {ps' = ps'} {template = template} h) c = map_sound c template (keys ps) (keys ps') (core_pairs c.in_loop ps) (core_pairs c.in_loop ps') (same_keys h) (λ next. pairs_sound h c next)
   expr_sound (in_braces h) c = (stmts_sound h c UnitV (λ z. refl)).closed
+  expr_sound (in_stray_method p) c = simulates_refl
   expr_sound (in_call {c = f} {es = es} {es' = es'} h) c = counted_sound c f (core_exprs c.in_loop es) (core_exprs c.in_loop es') (same_count h) (λ next. args_sound h c next)
   expr_sound (in_chain h) c = chain_sound h c
   expr_sound (in_and h) c = both_sound h c
@@ -255,3 +256,4 @@ mutual
   stmts_sound {m = m} (in_head {s = s} {s' = s'} {ss = ss} h) c v z = head_sound c m (core_stmt c.in_loop s) (core_stmt c.in_loop s') ss v (stmt_sound h c)
   stmts_sound {m = m} (in_tail {s = s} h) c v z = tail_sound c m s (λ u y. stmts_sound h (past s c) u y)
   stmts_sound (flag_forgotten h) c v z = stmts_sound h c v z
+  stmts_sound {m = m} (knowing_less {ks = ks} i h) c v z = list_knowing_less m i (stmts_sound h (knowing_fewer ks c) v z)

@@ -7,7 +7,7 @@ use Rattle.rhai_meaning.specs.Shape.{keys, is_argument, is_rest, is_left_side}
 use Rattle.rhai_meaning.specs.Tree.{Expr, MethodCall, Dot, Index, And, Or, Coalesce, Exprs, count_exprs, Pairs, MaybeExpr, Arms, Stmt, Stmts}
 use Rattle.rhai_meaning.specs.Walk.{Node, OfExpr, Role, Rest, Around, left_role, right_role, whole, throughout, over_expr, over_exprs, over_pairs, over_maybe, over_arms, arm_at, arms_at, listed, over_stmt, over_stmts}
 use Rattle.rhai_rewriting.specs.Context.{Context, ListKind}
-use Rattle.rhai_rewriting.specs.Rewriting.{ExprTo, same_expr, then_expr, by_expr_rule, in_text, in_array, in_map, in_braces, in_call, in_chain, in_and, in_or, in_coalesce, ExprsTo, exprs_none, exprs_more, PairsTo, pairs_none, pairs_more, ChainTo, in_dot, in_index, BaseTo, base, ArgumentTo, same_argument, in_method, in_brackets, StepsTo, same_steps, last_method, last_index, more_dot, more_index, TargetTo, same_target, in_target, GuardTo, guard, MaybeTo, maybe_none, maybe_some, ArmsTo, arms_none, arms_more, StmtTo, same_stmt, then_stmt, by_stmt_rule, in_if, in_switch, in_while, in_do, in_for, in_var, in_assignment, in_block, in_try, in_expression, in_call_statement, in_break, in_return, in_import, RestTo, same_stmts, then_stmts, by_list_rule, in_head, in_tail, flag_forgotten}
+use Rattle.rhai_rewriting.specs.Rewriting.{ExprTo, same_expr, then_expr, by_expr_rule, in_text, in_array, in_map, in_braces, in_call, in_stray_method, in_chain, in_and, in_or, in_coalesce, ExprsTo, exprs_none, exprs_more, PairsTo, pairs_none, pairs_more, ChainTo, in_dot, in_index, BaseTo, base, ArgumentTo, same_argument, in_method, in_brackets, StepsTo, same_steps, last_method, last_index, more_dot, more_index, TargetTo, same_target, in_target, GuardTo, guard, MaybeTo, maybe_none, maybe_some, ArmsTo, arms_none, arms_more, StmtTo, same_stmt, then_stmt, by_stmt_rule, in_if, in_switch, in_while, in_do, in_for, in_var, in_assignment, in_block, in_try, in_expression, in_call_statement, in_break, in_return, in_import, RestTo, same_stmts, then_stmts, by_list_rule, in_head, in_tail, flag_forgotten, knowing_less}
 use Rattle.rhai_rewriting.proofs.rules.Lasting.{same_array, same_braces, same_call, same_if, same_block, same_expression, same_call_statement, same_and, same_or, same_coalesce, same_text, same_while, same_switch, same_map, same_method, same_dot, same_index, same_do, same_for, same_var, same_assignment, same_try, same_break, same_return, same_import, Lasting}
 use Rattle.rhai_rewriting.proofs.soundness.Standing.{table_stays}
 use Rattle.rhai_rewriting.proofs.rules.Expressions.{expr_rule}
@@ -97,6 +97,7 @@ module _ (P : Around → Node → Type 0) (lasts : (l : Bool) → Lasting P l) w
     expr_keeps l (in_array p) h = ((lasts l).again same_array h.0, exprs_keep l p h.1)
     expr_keeps l (in_map p) h = ((lasts l).again (same_map (same_keys p)) h.0, pairs_keep l p h.1)
     expr_keeps l (in_braces p) h = ((lasts l).again same_braces h.0, stmts_keep l p h.1)
+    expr_keeps l (in_stray_method p) h = ((lasts l).again (same_method (same_count p)) h.0, exprs_keep l p h.1)
     expr_keeps l (in_call p) h = ((lasts l).again (same_call (same_count p)) h.0, exprs_keep l p h.1)
     expr_keeps l (in_chain p) h = chain_keeps l p h
     expr_keeps l (in_and p) h = (and_again p h.0, exprs_keep l p h.1)
@@ -173,3 +174,4 @@ module _ (P : Around → Node → Type 0) (lasts : (l : Bool) → Lasting P l) w
     stmts_keep l (in_head p) h = (stmt_keeps l p h.0, h.1)
     stmts_keep l (in_tail p) h = (h.0, stmts_keep l p h.1)
     stmts_keep l (flag_forgotten p) h = stmts_keep l p h
+    stmts_keep l (knowing_less i p) h = stmts_keep l p h

@@ -7,7 +7,7 @@ use Rattle.rhai_meaning.specs.Tree.{SwitchTable, Expr, Arms, count_arms}
 use Rattle.rhai_rewriting.specs.Context.{Context}
 use Rattle.rhai_rewriting.specs.Rules as rule
 use Rattle.rhai_rewriting.specs.Rules.{ExprRule}
-use Rattle.rhai_rewriting.specs.Rewriting.{ExprTo, same_expr, then_expr, by_expr_rule, in_text, in_array, in_map, in_braces, in_call, in_chain, in_and, in_or, in_coalesce, in_dot, in_index, ArmsTo, arms_none, arms_more}
+use Rattle.rhai_rewriting.specs.Rewriting.{ExprTo, same_expr, then_expr, by_expr_rule, in_text, in_array, in_map, in_braces, in_call, in_stray_method, in_chain, in_and, in_or, in_coalesce, in_dot, in_index, ArmsTo, arms_none, arms_more}
 
 -- ---- literal conditions
 
@@ -62,6 +62,7 @@ true_stays (in_text p) h = absurd (let z : false ≡ true = h in cc)
 true_stays (in_array p) h = absurd (let z : false ≡ true = h in cc)
 true_stays (in_map p) h = absurd (let z : false ≡ true = h in cc)
 true_stays (in_braces p) h = absurd (let z : false ≡ true = h in cc)
+true_stays (in_stray_method p) h = absurd (let z : false ≡ true = h in cc)
 true_stays (in_call p) h = absurd (let z : false ≡ true = h in cc)
 true_stays (in_chain (in_dot p q)) h = absurd (let z : false ≡ true = h in cc)
 true_stays (in_chain (in_index p q)) h = absurd (let z : false ≡ true = h in cc)

@@ -1,5 +1,7 @@
 use Rattle.std.proofs.Common.{ap, ◌∙◌, false}
 use Rattle.rhai_functions.specs.FnLib.{functions_of}
+use Rattle.rhai_functions.specs.declared.fn_lib.FnLib.{FnLib}
+use Rattle.rhai_script.specs.Contents.{Contents}
 use Rattle.rhai_rewriting.proofs.soundness.Theorem.{refines, lighter}
 use Rattle.rhai_rewriting.proofs.soundness.OperatorCalls.{calls_stay}
 use Rattle.rhai_rewriting.proofs.soundness.WellFormed.{stmts_well}
@@ -25,3 +27,11 @@ pub returns-clause-operators : goal.returns-clause-operators
 returns-clause-operators c =
     let to = rw (c.new-block.ensures.block) at c.in_ok-block.ensures.to in
     rw (c.new-2.ensures.body, c.statements_of.ensures) (calls_stay to)
+
+pub returns-clause-reduced : goal.returns-clause-reduced
+returns-clause-reduced c h = rw (c.new-2.ensures.body, c.statements_of.ensures) (c.in_ok-block.ensures.reduced h)
+
+pub returns-clause-unnamed : goal.returns-clause-unnamed
+returns-clause-unnamed c =
+    let e = c.new-2.ensures.contents in
+    (ap (λ (x : Contents). x.source) e, (ap (λ (x : Contents). x.doc) e, ap (λ (x : Contents). x.id) e ∙ ap (λ (l : FnLib). l.id) c.in_ok-lib.ensures.ok ∙ c.in_ok-from_functions.ensures.id))

@@ -1,15 +1,22 @@
-use Rattle.std.proofs.Common.{List, refl, ap, ◌∙◌}
+use Rattle.std.proofs.Common.{◌≡◌, false, List, refl, sym, ap, ◌∙◌}
 use Rattle.rhai_tree.specs.declared.stmt.Stmt.{Stmt}
 use Rattle.rhai_reading.specs.Reading.{stmts_of}
 use Rattle.rhai_meaning.specs.Tree.{BlockExpr, no_stmts, stmt}
+use Rattle.rhai_steps.specs.Places.{place_of}
 use Rattle.rhai_rules.specs.Settled.{is_settled_braces}
-use Rattle.rhai_rules.proofs.Settling.{expr_fired_as}
+use Rattle.rhai_steps.proofs.Stepping.{expr_rewrite_as}
+use Rattle.rhai_steps.proofs.Places.{not-false}
 use Rattle.rhai_rules.proofs.Shapes.{unsettled-none}
 use Rattle.rhai_rules.proofs.expressions.reduce_braces.Goals as goal
 
 pub returns-in-Some : goal.returns-in-Some
 returns-in-Some c =
-    expr_fired_as (ap (λ (l : List Stmt). BlockExpr (stmts_of l)) c.in-Some.ensures ∙ ap (λ s. BlockExpr (stmt s no_stmts)) c.into_expression.ensures) c.braces_of_expression.ensures
+    let p = place_of c.args.place in
+    let x = ap (λ (l : List Stmt). stmts_of l) c.in-Some.ensures ∙ ap (λ s. stmt s no_stmts) c.into_expression.ensures in
+    expr_rewrite_as (ap BlockExpr x) refl (c.braces_of_expression.ensures p (not-false _ (sym (ap (is_settled_braces p) x) ∙ c.requires)))
 
 pub returns-in-None : goal.returns-in-None
-returns-in-None c = expr_fired_as (ap BlockExpr (unsettled-none is_settled_braces (λ s t ss. refl) _ c.in-None.ensures c.requires)) c.braces_empty.ensures
+returns-in-None c =
+    let p = place_of c.args.place in
+    let x = unsettled-none (is_settled_braces p) (λ s t ss. refl) _ c.in-None.ensures c.requires in
+    expr_rewrite_as (ap BlockExpr x) refl (c.braces_empty.ensures p (not-false _ (sym (ap (is_settled_braces p) x) ∙ c.requires)))

@@ -1,0 +1,6 @@
+pub mod Assigning
+pub mod Below
+pub mod Fired
+pub mod Names
+pub mod Others
+pub mod Parts

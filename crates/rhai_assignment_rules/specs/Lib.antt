@@ -1,0 +1,3 @@
+pub mod Firing
+pub mod Settled
+pub mod WritingWalk

@@ -1,0 +1,102 @@
+//! Statements that are built by hand, without positions, and lists of them.
+#![tactic(auto, using(rhai_reading::specs::Reading::shapes))]
+
+ghost use Rattle.std.specs.Prelude.{◌≡◌, ◌∷◌, ◌++◌, [], IfOk, Ok};
+ghost use Rattle.rhai_tree.specs.declared.stmt.Stmt.{Stmt};
+ghost use Rattle.rhai_reading.specs.Reading.{expr_of, is_const, is_exported, stmt_of, stmts_of};
+ghost use Rattle.rhai_meaning.specs.Tree.{Block, ExprStmt, Var};
+ghost use Rattle.rhai_builtins.specs.Trees.{assigns, calls, evaluates};
+
+use crate::expressions::{both, call_with, variable};
+use rhai_ast::{BinaryExpr, Expr, Stmt, StmtBlock};
+use rhai_base::{
+    ASTFlags, Boxed, Ident, ImmutableString, OpAssignment, OutOfMemory, Position, Span,
+};
+use std::alloc::Global;
+
+pub(crate) fn block(statements: Vec<Stmt>) -> StmtBlock
+    ensures { result.block ≡ statements.items }
+{
+    StmtBlock::new_with_span(statements, Span::NONE)
+}
+
+/// A list of one statement.
+pub(crate) fn alone(alloc: Global, statement: Stmt) -> Result<Vec<Stmt>, OutOfMemory>
+    ensures { IfOk result (λ statements. statements.items ≡ statement ∷ []) }
+{
+    Ok(vec![in alloc; statement]?)
+}
+
+/// The statements and one more, where that is not refused.
+pub(crate) fn with(
+    mut statements: Vec<Stmt>,
+    statement: Result<Stmt, OutOfMemory>,
+) -> Result<Vec<Stmt>, OutOfMemory>
+    ensures { IfOk result (λ longer. (s : Stmt) × (statement ≡ Ok s) × (longer.items ≡ statements.items ++ s ∷ [])) }
+{
+    statements.push(statement?)?;
+    Ok(statements)
+}
+
+/// A list of the statement that evaluates an expression.
+pub(crate) fn evaluated_alone(alloc: Global, expr: Expr) -> Result<Vec<Stmt>, OutOfMemory>
+    ensures { IfOk result (λ statements. stmts_of statements.items ≡ evaluates (expr_of expr)) }
+{
+    alone(alloc, evaluated(alloc, expr)?)
+}
+
+/// The statement that evaluates an expression.
+pub(crate) fn evaluated(alloc: Global, expr: Expr) -> Result<Stmt, OutOfMemory>
+    ensures { IfOk result (λ statement. stmt_of statement ≡ ExprStmt (expr_of expr)) }
+{
+    Ok(Stmt::Expr(Boxed::new(alloc, expr)?))
+}
+
+/// A block as a statement.
+pub(crate) fn braced(alloc: Global, block: StmtBlock) -> Result<Stmt, OutOfMemory>
+    ensures { IfOk result (λ statement. stmt_of statement ≡ Block (stmts_of block.block)) }
+{
+    Ok(Stmt::Block(Boxed::new(alloc, block)?))
+}
+
+pub(crate) fn name_of(alloc: Global, text: &str) -> Result<Ident, OutOfMemory>
+    ensures { IfOk result (λ name. name.name ≡ text.now) }
+{
+    let name = ImmutableString::new(alloc, text)?;
+    Ok(Ident {
+        name,
+        pos: Position::NONE,
+    })
+}
+
+/// A declaration, of a constant if that flag is set.
+pub(crate) fn declared(
+    alloc: Global,
+    flags: ASTFlags,
+    name: &str,
+    value: Expr,
+) -> Result<Stmt, OutOfMemory>
+    ensures { IfOk result (λ statement. stmt_of statement ≡ Var (is_const flags) (is_exported flags) name.now (expr_of value)) }
+{
+    let (value, name) = both(value, name_of(alloc, name))?;
+    let declaration = Boxed::new(alloc, (name, value, None))?;
+    Ok(Stmt::Var(declaration, flags, Position::NONE))
+}
+
+/// A straight assignment to a variable.
+pub(crate) fn assigned(alloc: Global, name: &str, value: Expr) -> Result<Stmt, OutOfMemory>
+    ensures { IfOk result (λ statement. stmt_of statement ≡ assigns name.now (expr_of value)) }
+{
+    let (rhs, lhs) = both(value, variable(alloc, name))?;
+    let sign = OpAssignment::new_assignment(Position::NONE);
+    let assignment = Boxed::new(alloc, (sign, BinaryExpr { lhs, rhs }))?;
+    Ok(Stmt::Assignment(assignment))
+}
+
+/// A call with one argument, as a statement.
+pub(crate) fn called(alloc: Global, name: &str, argument: Expr) -> Result<Stmt, OutOfMemory>
+    ensures { IfOk result (λ statement. stmt_of statement ≡ calls name.now (expr_of argument)) }
+{
+    let call = call_with(alloc, name, argument)?;
+    Ok(Stmt::FnCall(call, Position::NONE))
+}

@@ -1,0 +1,201 @@
+//! The rules at a chain whose parts are reduced, in its place. Which one fires is found by reference; then the part that its first step
+//! answers takes the place of the base and of that step. Where none fires nothing is moved.
+
+#![tactic(auto, using(rhai_reading::specs::Reading::shapes, rhai_values::specs::Reading::kinds))]
+
+ghost use Rattle.std.specs.Prelude.{◌≡◌, ◌&&◌, IfOk, true};
+ghost use Rattle.std.specs.Option.{option_map};
+ghost use Rattle.rhai_values.specs.Reading.{value_of};
+ghost use Rattle.rhai_reading.specs.Reading.{breaks, chain_flags, expr_of, is_negated};
+ghost use Rattle.rhai_meaning.specs.Queries as queries;
+ghost use Rattle.rhai_meaning.specs.Tree.{DynamicConstant, UnitConstant};
+ghost use Rattle.rhai_engine.specs.EngineInfo.{engine_of};
+ghost use Rattle.rhai_known.specs.State.{progress};
+ghost use Rattle.rhai_rewriting.specs.Parts as parts;
+ghost use Rattle.rhai_rewriting.specs.Steps.{is_chain_node};
+ghost use Rattle.rhai_steps.specs.NodeSteps.{ExprStep};
+ghost use Rattle.rhai_steps.specs.Places.{place_of};
+ghost use Rattle.rhai_steps.specs.Standing as standing;
+ghost use Rattle.rhai_part_rules.specs.Answers as answers;
+ghost use Rattle.rhai_chain_rules.specs.Chains.{IsTaken, PartStep, SidesStep, ChainStep, ends_in_unit, value_answer};
+ghost use Rattle.rhai_chain_rules.specs.Onward as onward;
+
+use crate::onward::{argument, onward, unit_may_stand};
+use bitflags::Flags;
+use rhai_ast::{BinaryExpr, Expr, ExprQueries, Literals};
+use rhai_base::{ASTFlags, Boxed, Dynamic, OutOfMemory, Position};
+use rhai_engine::EngineInfo;
+use rhai_nodes::put_expr;
+use rhai_part_rules::{constant_answer, known_answer, literal_answer, take_part};
+use rhai_steps::{OptimizerState, Place, may_be_unit, note_fired, put_unit};
+use std::alloc::Global;
+
+fn is_ended(place: Place, flags: ASTFlags, base: &Expr) -> bool
+    ensures { result ≡ standing.may_stand (place_of place) UnitConstant && (is_negated flags && queries.is_unit (expr_of base.now)) }
+{
+    may_be_unit(place) && flags.contains(ASTFlags::NEGATED) && base.is_unit()
+}
+
+/// Whether a chain over unit, past a `?`, is unit: the rules `unit_ends_dot` and `unit_ends_index`.
+fn unit_ends(place: Place, expr: &Expr) -> bool
+    ensures { result ≡ ends_in_unit (place_of place) (expr_of expr.now) }
+{
+    match expr {
+        Expr::Dot(sides, flags, _) => is_ended(place, *flags, &sides.get().lhs),
+        Expr::Index(sides, flags, _) => is_ended(place, *flags, &sides.get().lhs),
+        _ => false,
+    }
+}
+
+fn hold(alloc: Global, value: Dynamic, pos: Position) -> Result<Expr, OutOfMemory>
+    ensures { IfOk result (λ e. expr_of e ≡ DynamicConstant (value_of value)) }
+{
+    let value = Boxed::new(alloc, value)?;
+    Ok(Expr::DynamicConstant(value, pos))
+}
+
+/// The constant of a value; of a pointer too.
+fn constant_of(alloc: Global, value: Dynamic, pos: Position) -> Result<Expr, OutOfMemory>
+    ensures { IfOk result (λ e. expr_of e ≡ parts.constant_of (value_of value)) }
+{
+    match &value {
+        Dynamic::FnPtr(_) => hold(alloc, value, pos),
+        _ => Expr::from_dynamic(alloc, value, pos),
+    }
+}
+
+/// A value, where it may stand: unit not everywhere.
+fn allowed(unit: bool, value: Option<Dynamic>) -> Option<Dynamic>
+    ensures { option_map value_of result ≡ answers.allowed unit (option_map value_of value) }
+{
+    if unit {
+        return value;
+    }
+    match value {
+        Some(value) => { if value.is_unit() { None } else { Some(value) } }
+        None => None,
+    }
+}
+
+/// What the first step answers by value, at a constant or at a known name.
+fn value_answer(
+    alloc: Global,
+    info: &EngineInfo,
+    state: &OptimizerState<'_>,
+    is_dot: bool,
+    flags: ASTFlags,
+    sides: &BinaryExpr,
+    unit: bool,
+) -> Result<Option<Dynamic>, OutOfMemory>
+    ensures { IfOk result (λ v. option_map value_of v ≡ value_answer (engine_of info.now) (progress state.now).known unit is_dot (chain_flags flags) (expr_of sides.now.lhs) (expr_of sides.now.rhs)) }
+{
+    let first = argument(flags, &sides.rhs);
+    let answer = constant_answer(alloc, info, is_dot, flags, &sides.lhs, first)?;
+    match allowed(unit, answer) {
+        Some(value) => Ok(Some(value)),
+        None => Ok(allowed(
+            unit,
+            known_answer(alloc, state, is_dot, &sides.lhs, &sides.rhs)?,
+        )),
+    }
+}
+
+/// The part of a literal that the first step answers, out of its place.
+fn literal_taken(
+    alloc: Global,
+    is_dot: bool,
+    flags: ASTFlags,
+    sides: &mut BinaryExpr,
+    unit: bool,
+) -> Result<Option<Expr>, OutOfMemory>
+    ensures { IfOk result (λ part. IsTaken unit is_dot (breaks flags) sides.old sides.new part) }
+{
+    match literal_answer(alloc, unit, is_dot, &sides.lhs, argument(flags, &sides.rhs))? {
+        Some(found) => Ok(Some(take_part(&mut sides.lhs, found))),
+        None => Ok(None),
+    }
+}
+
+/// What the first step answers.
+fn first_answer(
+    alloc: Global,
+    info: &EngineInfo,
+    state: &OptimizerState<'_>,
+    is_dot: bool,
+    flags: ASTFlags,
+    sides: &mut BinaryExpr,
+    place: Place,
+) -> Result<Option<Expr>, OutOfMemory>
+    ensures { IfOk result (λ part. PartStep (engine_of info.now) (progress state.now).known (place_of place) is_dot (chain_flags flags) sides.old sides.new part) }
+{
+    let unit = unit_may_stand(place, flags, &sides.rhs);
+    match value_answer(alloc, info, state, is_dot, flags, sides, unit)? {
+        Some(value) => Ok(Some(constant_of(alloc, value, sides.lhs.position())?)),
+        None => literal_taken(alloc, is_dot, flags, sides, unit),
+    }
+}
+
+/// What a chain becomes whose first step answers.
+fn sides_answer(
+    alloc: Global,
+    info: &EngineInfo,
+    state: &OptimizerState<'_>,
+    is_dot: bool,
+    flags: ASTFlags,
+    sides: &mut BinaryExpr,
+    place: Place,
+) -> Result<Option<Expr>, OutOfMemory>
+    ensures { IfOk result (λ made. SidesStep (engine_of info.now) (progress state.now).known (place_of place) is_dot (chain_flags flags) sides.old sides.new made) }
+{
+    match first_answer(alloc, info, state, is_dot, flags, sides, place)? {
+        Some(part) => Ok(Some(onward(flags, &mut sides.rhs, part))),
+        None => Ok(None),
+    }
+}
+
+fn chain_answer(
+    alloc: Global,
+    info: &EngineInfo,
+    state: &OptimizerState<'_>,
+    expr: &mut Expr,
+    place: Place,
+) -> Result<Option<Expr>, OutOfMemory>
+    requires { is_chain_node (expr_of expr.now) ≡ true }
+    ensures { IfOk result (λ made. ChainStep (engine_of info.now) (progress state.now).known (place_of place) (expr_of expr.old) (expr_of expr.new) made) }
+{
+    match expr {
+        Expr::Dot(sides, flags, _) => {
+            sides_answer(alloc, info, state, true, *flags, sides.get_mut(), place)
+        }
+        Expr::Index(sides, flags, _) => {
+            sides_answer(alloc, info, state, false, *flags, sides.get_mut(), place)
+        }
+        _ => unreachable!(),
+    }
+}
+
+/// Rewrites a chain by the rule that fires at it, if one does, and says whether one did: the part that its first step answers takes the
+/// place of the base and of that step.
+pub fn step_chain(
+    alloc: Global,
+    info: &EngineInfo,
+    state: &mut OptimizerState<'_>,
+    expr: &mut Expr,
+    place: Place,
+) -> Result<bool, OutOfMemory>
+    requires { is_chain_node (expr_of expr.now) ≡ true }
+    ensures { IfOk result (λ fired. ExprStep fired (engine_of info.now) (place_of place) (progress state.old) (progress state.new) (expr_of expr.old) (expr_of expr.new)) }
+{
+    if unit_ends(place, expr) {
+        put_unit(state, expr);
+        return Ok(true);
+    }
+    match chain_answer(alloc, info, state, expr, place)? {
+        Some(made) => {
+            note_fired(state);
+            put_expr(expr, made);
+            Ok(true)
+        }
+        None => Ok(false),
+    }
+}

@@ -1,0 +1,5 @@
+pub mod Choosing
+pub mod Ends
+pub mod Nesting
+pub mod Others
+pub mod Parts

@@ -1,0 +1,8 @@
+use Rattle.std.proofs.Common.{false, refl}
+use Rattle.rhai_steps.specs.NodeSteps.{step_by}
+use Rattle.rhai_steps.proofs.Stepping.{stmt_put}
+use Rattle.rhai_choice_rules.proofs.step.step_if.Goals as goal
+
+pub returns-then-is_nest-clause-step : goal.returns-then-is_nest-clause-step
+returns-then-is_nest-clause-step c = λ r.
+    stmt_put r false c.args.is_wanted _ _ _ _ (step_by false) refl c.in_ok-join_nest.ensures.dirty c.in_ok-join_nest.ensures.known (c.in_ok-join_nest.ensures.rewritten c.args.is_wanted)

@@ -1,0 +1,3 @@
+pub mod Nested
+pub mod Settled
+pub mod Steps

@@ -1,0 +1,4 @@
+pub mod Changing
+pub mod Moving
+pub mod OperandKinds
+pub mod Single

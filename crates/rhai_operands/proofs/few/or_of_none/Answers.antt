@@ -1,0 +1,8 @@
+use Rattle.std.proofs.Common.{refl}
+use Rattle.rhai_reading.specs.Reading.{expr_of-BoolConstant}
+use Rattle.rhai_steps.proofs.Stepping.{expr_rewrite_as}
+use Rattle.rhai_operands.proofs.Single.{or_none}
+use Rattle.rhai_operands.proofs.few.or_of_none.Goals as goal
+
+pub returns : goal.returns
+returns c = λ p. expr_rewrite_as refl (expr_of-BoolConstant _ _) (or_none p)

@@ -1,0 +1,7 @@
+use Rattle.rhai_reading.proofs.Cases.{expr_cases}
+use Rattle.rhai_reading.specs.Reading.{pairs_of}
+use Rattle.rhai_part_rules.proofs.Others.{no_property_for}
+use Rattle.rhai_part_rules.proofs.literals.property_of_map.Goals as goal
+
+pub returns-in_default : goal.returns-in_default
+returns-in_default c = no_property_for (pairs_of c.args.members.now) (expr_cases c.args.member.now) c.in_default.not-Property

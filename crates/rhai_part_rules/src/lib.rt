@@ -1,0 +1,10 @@
+//! What a step of a chain answers: by value at a constant or at a known name, or a part of a literal, found by reference and then taken out.
+#![tactic(auto)]
+
+mod answers;
+mod known;
+mod literals;
+
+pub use answers::constant_answer;
+pub use known::known_answer;
+pub use literals::{Found, literal_answer, take_part};

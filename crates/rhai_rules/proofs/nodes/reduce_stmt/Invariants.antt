@@ -1,0 +1,12 @@
+use Rattle.rhai_engine.specs.EngineInfo.{engine_of}
+use Rattle.rhai_known.specs.State.{progress}
+use Rattle.rhai_reading.specs.Reading.{stmt_of}
+use Rattle.rhai_meaning.specs.Weight.{stmt_weight}
+use Rattle.rhai_rewriting.specs.Steps.{StmtSoFar}
+use Rattle.rhai_rules.proofs.nodes.reduce_stmt.Given as goal
+
+abbrev pub invariant-loop : goal.invariant-loop
+invariant-loop l = StmtSoFar (engine_of l.info) l.is_wanted (progress l.initial.state) (progress l.state) (stmt_of l.initial.statement) (stmt_of l.statement)
+
+abbrev pub decreases-loop : goal.decreases-loop
+decreases-loop l = stmt_weight (stmt_of l.statement)

@@ -1,9 +1,0 @@
-use Rattle.std.proofs.Common.{rules}
-use Rattle.rhai_reading.specs.Reading.{shapes}
-use Rattle.rhai_rules.proofs.statements.chosen.Goals as goal
-
-pub returns-then-decided : goal.returns-then-decided
-returns-then-decided c = search (rules, shapes)
-
-pub returns-else-decided : goal.returns-else-decided
-returns-else-decided c = search (rules, shapes)

@@ -1,6 +1,0 @@
-use Rattle.std.proofs.Common.{rules}
-use Rattle.rhai_reading.specs.Reading.{shapes}
-use Rattle.rhai_rules.proofs.statements.constant_statement.Goals as goal
-
-pub returns : goal.returns
-returns c = search (rules, shapes)

@@ -1,0 +1,85 @@
+//! The rule at a name that is known as a constant.
+
+#![tactic(auto, using(rhai_reading::specs::Reading::shapes))]
+
+ghost use Rattle.std.specs.Prelude.{◌≡◌, IfOk, true};
+ghost use Rattle.std.specs.Option.{option_map};
+ghost use Rattle.rhai_values.specs.Reading.{value_of};
+ghost use Rattle.rhai_known.specs.State.{progress};
+ghost use Rattle.rhai_reading.specs.Reading.{expr_of};
+ghost use Rattle.rhai_meaning.specs.Engine.{Engine};
+ghost use Rattle.rhai_steps.specs.NodeSteps.{ExprStep};
+ghost use Rattle.rhai_steps.specs.Places.{place_of};
+ghost use Rattle.rhai_rules.specs.Settled as settled;
+
+use rhai_ast::Expr;
+use rhai_base::{Dynamic, OutOfMemory};
+use rhai_steps::{OptimizerState, Place, put_constant};
+use std::alloc::Global;
+
+fn copied(value: Option<&Dynamic>) -> Result<Option<Dynamic>, OutOfMemory>
+    ensures { IfOk result (λ v. option_map value_of v ≡ option_map (λ d. value_of d.now) value.entry) }
+{
+    match value {
+        Some(value) => Ok(Some(value.clone()?)),
+        None => Ok(None),
+    }
+}
+
+/// The value of a name that is known as a constant.
+fn known_value(state: &OptimizerState<'_>, expr: &Expr) -> Result<Option<Dynamic>, OutOfMemory>
+    ensures { IfOk result (λ v. option_map value_of v ≡ settled.known_value (progress state.now).known (expr_of expr.now)) }
+{
+    match expr {
+        Expr::Variable(parts, _, _) => {
+            let (_, name, namespace) = parts.get();
+            if !namespace.is_empty() {
+                return Ok(None);
+            }
+            copied(state.find_literal_constant(name.as_str()))
+        }
+        _ => Ok(None),
+    }
+}
+
+fn unless_unit(value: Option<Dynamic>) -> Option<Dynamic>
+    ensures { option_map value_of result ≡ settled.unless_unit (option_map value_of value) }
+{
+    match value {
+        Some(value) => { if value.is_unit() { None } else { Some(value) } }
+        None => None,
+    }
+}
+
+/// The value that a name may become where it stands: a base stays a place, and no guard becomes a literal unit.
+fn known_there(
+    state: &OptimizerState<'_>,
+    expr: &Expr,
+    place: Place,
+) -> Result<Option<Dynamic>, OutOfMemory>
+    ensures { IfOk result (λ v. option_map value_of v ≡ settled.known_there (place_of place) (progress state.now).known (expr_of expr.now)) }
+{
+    match place {
+        Place::Anywhere => known_value(state, expr),
+        Place::Base => Ok(None),
+        Place::Guard => Ok(unless_unit(known_value(state, expr)?)),
+    }
+}
+
+/// A name that is known as a constant is its value (`known_name`, and `known_pointer`: of a pointer without values the call that makes it).
+#[inline(never)]
+pub(crate) fn step_name(
+    alloc: Global,
+    state: &mut OptimizerState<'_>,
+    expr: &mut Expr,
+    place: Place,
+) -> Result<bool, OutOfMemory>
+    requires { settled.is_variable (expr_of expr.now) ≡ true }
+    ensures { IfOk result (λ fired. (r : Engine) → ExprStep fired r (place_of place) (progress state.old) (progress state.new) (expr_of expr.old) (expr_of expr.new)) }
+{
+    if let Some(value) = known_there(state, expr, place)? {
+        put_constant(alloc, state, expr, value)?;
+        return Ok(true);
+    }
+    Ok(false)
+}

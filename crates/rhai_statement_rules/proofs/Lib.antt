@@ -1,0 +1,3 @@
+pub mod Fired
+pub mod Others
+pub mod Shapes

@@ -1,0 +1,15 @@
+use Rattle.std.proofs.Common.{◌≡◌, true, false, refl, sym, ap, ◌∙◌}
+use Rattle.rhai_tree.specs.declared.expr.Expr.{Expr}
+use Rattle.rhai_meaning.specs.Tree.{ExprStmt}
+use Rattle.rhai_reading.specs.Reading.{expr_of, stmt_of, stmt_of-Expr}
+use Rattle.rhai_reading.proofs.Cases.{stmt_cases}
+use Rattle.rhai_steps.proofs.Stepping.{stmt_rewrite_as}
+use Rattle.rhai_statement_rules.proofs.Others.{no_expression}
+use Rattle.rhai_statement_rules.proofs.expression.reduced_expression.Goals as goal
+
+pub returns : goal.returns
+returns c =
+    λ o w. stmt_rewrite_as (ap stmt_of c.in-Expr.is ∙ stmt_of-Expr _ ∙ ap (λ (e : Expr). ExprStmt (expr_of e)) (sym c.into_inner.ensures)) refl (c.reduce_expression.ensures o w)
+
+pub unreachable-requires : goal.unreachable-requires
+unreachable-requires c = let h : true ≡ false = no_expression (stmt_cases c.args.statement) c.in_default.not-Expr ∙ c.requires in cc

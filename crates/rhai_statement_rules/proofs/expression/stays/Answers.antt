@@ -1,0 +1,14 @@
+use Rattle.std.proofs.Common.{rules}
+use Rattle.rhai_reading.specs.Reading.{shapes}
+use Rattle.rhai_reading.proofs.Cases.{expr_cases}
+use Rattle.rhai_statement_rules.proofs.Others.{stays_as_statement}
+use Rattle.rhai_statement_rules.proofs.expression.stays.Goals as goal
+
+pub returns-in_default : goal.returns-in_default
+returns-in_default c = stays_as_statement (expr_cases c.args.expr.now) c.in_default.not-Stmt c.in_default.not-FnCall
+
+pub returns-in-Stmt : goal.returns-in-Stmt
+returns-in-Stmt c = search (rules, shapes)
+
+pub returns-in-Stmt-2 : goal.returns-in-Stmt-2
+returns-in-Stmt-2 c = search (rules, shapes)

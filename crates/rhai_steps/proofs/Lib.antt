@@ -1,0 +1,3 @@
+pub mod NodeKinds
+pub mod Places
+pub mod Stepping

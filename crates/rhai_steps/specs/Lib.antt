@@ -1,0 +1,3 @@
+pub mod NodeSteps
+pub mod Places
+pub mod Standing

@@ -1,0 +1,11 @@
+//! One step at a node: where the node stands, what came of the rules there, and constants that take its place.
+#![tactic(auto)]
+
+mod place;
+mod putting;
+mod step;
+
+pub use place::{Place, may_be_unit, may_stand};
+pub use putting::{note_fired, put_constant, put_constant_statement, put_nothing, put_unit};
+pub use rhai_known::OptimizerState;
+pub use step::{NodeStep, step_of};

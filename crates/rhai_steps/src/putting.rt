@@ -1,0 +1,89 @@
+//! Constants that take the place of a node, and the note that a rule fired.
+
+#![tactic(auto, using(rhai_reading::specs::Reading::shapes))]
+
+ghost use Rattle.std.specs.Prelude.{◌≡◌, IfOk, OnOk, true};
+ghost use Rattle.rhai_values.specs.Reading.{value_of};
+ghost use Rattle.rhai_meaning.specs.Constants as constants;
+ghost use Rattle.rhai_meaning.specs.Tree.{UnitConstant, Noop, ExprStmt};
+ghost use Rattle.rhai_known.specs.State.{progress};
+ghost use Rattle.rhai_reading.specs.Reading.{expr_of, stmt_of};
+ghost use Rattle.rhai_steps.specs.NodeSteps.{Puts, PutsStatement};
+
+use rhai_ast::{Expr, ExprQueries, Literals, Stmt, StmtQueries};
+use rhai_base::{Dynamic, OutOfMemory, Position};
+use rhai_known::OptimizerState;
+use rhai_nodes::{expression_statement, put_expr, put_stmt};
+use std::alloc::Global;
+
+/// Notes that a rule fired.
+pub fn note_fired(state: &mut OptimizerState<'_>)
+    ensures dirty { (progress state.new).is_dirty ≡ true }
+    ensures known { (progress state.new).known ≡ (progress state.old).known }
+{
+    state.set_dirty();
+}
+
+/// Puts the constant for a value in the place of an expression that stands for it.
+#[inline(never)]
+pub fn put_constant(
+    alloc: Global,
+    state: &mut OptimizerState<'_>,
+    expr: &mut Expr,
+    value: Dynamic,
+) -> Result<(), OutOfMemory>
+    ensures { OnOk result (Puts (progress state.old) (progress state.new) (expr_of expr.new) (value_of value)) }
+{
+    note_fired(state);
+    let constant = Expr::from_dynamic(alloc, value, expr.position())?;
+    put_expr(expr, constant);
+    Ok(())
+}
+
+/// Puts unit in the place of an expression.
+#[inline(never)]
+pub fn put_unit(state: &mut OptimizerState<'_>, expr: &mut Expr)
+    ensures dirty { (progress state.new).is_dirty ≡ true }
+    ensures known { (progress state.new).known ≡ (progress state.old).known }
+    ensures unit { expr_of expr.new ≡ UnitConstant }
+{
+    note_fired(state);
+    let pos = expr.position();
+    put_expr(expr, Expr::Unit(pos));
+}
+
+/// The statement of the constant for a value.
+fn constant_statement(alloc: Global, value: Dynamic, pos: Position) -> Result<Stmt, OutOfMemory>
+    ensures { IfOk result (λ s. stmt_of s ≡ ExprStmt (constants.constant_for (value_of value))) }
+{
+    let constant = Expr::from_dynamic(alloc, value, pos)?;
+    expression_statement(alloc, constant)
+}
+
+/// Puts the statement of the constant for a value in the place of a statement that stands for it.
+#[inline(never)]
+pub fn put_constant_statement(
+    alloc: Global,
+    state: &mut OptimizerState<'_>,
+    statement: &mut Stmt,
+    value: Dynamic,
+) -> Result<(), OutOfMemory>
+    ensures { OnOk result (PutsStatement (progress state.old) (progress state.new) (stmt_of statement.new) (value_of value)) }
+{
+    note_fired(state);
+    let constant = constant_statement(alloc, value, statement.position())?;
+    put_stmt(statement, constant);
+    Ok(())
+}
+
+/// Puts nothing in the place of a statement.
+#[inline(never)]
+pub fn put_nothing(state: &mut OptimizerState<'_>, statement: &mut Stmt)
+    ensures dirty { (progress state.new).is_dirty ≡ true }
+    ensures known { (progress state.new).known ≡ (progress state.old).known }
+    ensures nothing { stmt_of statement.new ≡ Noop }
+{
+    note_fired(state);
+    let pos = statement.position();
+    put_stmt(statement, Stmt::Noop(pos));
+}

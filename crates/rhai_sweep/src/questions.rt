@@ -1,0 +1,105 @@
+//! What a sweep asks of a statement.
+
+#![tactic(auto, using(rhai_reading::specs::Reading::shapes))]
+
+ghost use Rattle.std.specs.Prelude.{◌≡◌};
+ghost use Rattle.rhai_meaning.specs.Queries as queries;
+ghost use Rattle.rhai_reading.specs.Reading.{expr_of, stmt_of};
+ghost use Rattle.rhai_rewriting.specs.Rules as rules;
+ghost use Rattle.rhai_sweep.specs.Marks.{mark_of};
+ghost use Rattle.rhai_sweep.specs.Sweep as spec;
+
+use crate::mark::ListMark;
+use bitflags::Flags;
+use rhai_base::ASTFlags;
+use rhai_stmts::StmtQueries;
+use rhai_surely_unit::{exports_nothing, is_surely_unit};
+use rhai_tree::{Expr, Stmt};
+
+/// Is it a name alone?
+pub fn is_lone(statement: &Stmt) -> bool
+    ensures { result ≡ spec.is_lone (stmt_of statement.now) }
+{
+    match statement {
+        Stmt::Expr(expr) => is_name(expr.get()),
+        _ => false,
+    }
+}
+
+fn is_name(expr: &Expr) -> bool
+    ensures { result ≡ spec.is_name (expr_of expr.now) }
+{
+    match expr {
+        Expr::Variable(_, _, _) => true,
+        _ => false,
+    }
+}
+
+/// Is it pure in such a list? A list inside takes away the names that it adds.
+pub fn is_pure_in(mark: ListMark, statement: &Stmt) -> bool
+    ensures { result ≡ rules.is_pure_in (mark_of mark) (stmt_of statement.now) }
+{
+    match mark {
+        ListMark::Whole => statement.is_pure(),
+        ListMark::Inside { is_wanted: _ } => statement.is_internally_pure(),
+    }
+}
+
+/// Is it pure inside a list, and does it export nothing?
+pub fn is_quiet(statement: &Stmt) -> bool
+    ensures { result ≡ spec.is_quiet (stmt_of statement.now) }
+{
+    statement.is_internally_pure() && exports_nothing(statement)
+}
+
+/// Does it go where its value is not wanted? The flag: all that follow are quiet.
+pub fn goes(mark: ListMark, are_quiet: bool, statement: &Stmt) -> bool
+    ensures { result ≡ spec.goes (mark_of mark) are_quiet (stmt_of statement.now) }
+{
+    statement.is_pure() || is_lone(statement) || are_quiet && is_pure_in(mark, statement)
+}
+
+/// Is it a `return e` of a script or a function?
+pub fn returns_value(mark: ListMark, statement: &Stmt) -> bool
+    ensures { result ≡ spec.returns_value (mark_of mark) (stmt_of statement.now) }
+{
+    match mark {
+        ListMark::Whole => is_return_of_value(statement),
+        ListMark::Inside { is_wanted: _ } => false,
+    }
+}
+
+fn is_return_of_value(statement: &Stmt) -> bool
+    ensures { result ≡ spec.whole_returns_value (stmt_of statement.now) }
+{
+    match statement {
+        Stmt::Return(expr, options, _) => !options.contains(ASTFlags::BREAK) && expr.is_some(),
+        _ => false,
+    }
+}
+
+/// Is it a `return;` of a script or a function?
+pub fn returns_nothing(mark: ListMark, statement: &Stmt) -> bool
+    ensures { result ≡ spec.returns_nothing (mark_of mark) (stmt_of statement.now) }
+{
+    match mark {
+        ListMark::Whole => is_return_of_nothing(statement),
+        ListMark::Inside { is_wanted: _ } => false,
+    }
+}
+
+fn is_return_of_nothing(statement: &Stmt) -> bool
+    ensures { result ≡ spec.whole_returns_nothing (stmt_of statement.now) }
+{
+    match statement {
+        Stmt::Return(expr, options, _) => !options.contains(ASTFlags::BREAK) && expr.is_none(),
+        _ => false,
+    }
+}
+
+/// Does it go behind unit as the last one, and else do nothing?
+pub fn fades(mark: ListMark, statement: &Stmt) -> bool
+    ensures { result ≡ spec.fades (mark_of mark) (stmt_of statement.now) }
+{
+    is_pure_in(mark, statement) && is_surely_unit(statement) || returns_nothing(mark, statement)
+}

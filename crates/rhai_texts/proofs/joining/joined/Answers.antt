@@ -1,0 +1,12 @@
+use Rattle.std.proofs.Common.{ap, ◌∙◌, arith}
+use Rattle.rhai_reading.specs.Reading.{expr_of}
+use Rattle.rhai_texts.specs.Parts.{is_text}
+use Rattle.rhai_texts.proofs.TextJoins.{joined_more}
+use Rattle.rhai_texts.proofs.joining.joined.Goals as goal
+
+pub loop-i-preserved : goal.loop-i-preserved
+loop-i-preserved c =
+    let x = c.index-parts-i.result in
+    joined_more x c.loop-i.invariant (omega arith) (omega arith) c.index-parts-i.is
+    (ap (λ y. is_text (expr_of y)) c.index-parts-i.is ∙ c.requires.texts c.loop-i.i x (omega arith) (omega arith))
+    c.in_ok-push_written.ensures

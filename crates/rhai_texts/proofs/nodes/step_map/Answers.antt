@@ -1,0 +1,20 @@
+use Rattle.std.proofs.Common.{Bool}
+use Rattle.std.proofs.lemmas.Result.{IfOk-weaker}
+use Rattle.rhai_known.specs.State.{progress}
+use Rattle.rhai_meaning.specs.Engine.{Engine}
+use Rattle.rhai_reading.specs.Reading.{expr_of}
+use Rattle.rhai_rewriting.specs.Steps.{Place}
+use Rattle.rhai_steps.specs.NodeSteps.{ExprStep}
+use Rattle.rhai_texts.specs.Parts.{Folds}
+use Rattle.rhai_texts.proofs.Folding.{map_step}
+use Rattle.rhai_texts.proofs.nodes.step_map.Goals as goal
+
+pub returns : goal.returns
+returns c =
+    let s = progress c.args.state.now in
+    let s' = progress c.map_of_constants.new.state in
+    let e = expr_of c.args.expr.now in
+    let e' = expr_of c.map_of_constants.new.expr in
+    let P : Bool → Type 0 = λ b. Folds b s s' e e' in
+    let Q : Bool → Type 0 = λ b. (r : Engine) (p : Place) → ExprStep b r p s s' e e' in
+    IfOk-weaker c.map_of_constants.result P Q (λ b h. map_step b s s' e e' c.requires h) c.map_of_constants.ensures

@@ -1,0 +1,7 @@
+use Rattle.rhai_engine.specs.EngineInfo.{engine_of}
+use Rattle.rhai_reading.proofs.Cases.{expr_cases}
+use Rattle.rhai_words.proofs.Pointers.{no_call_value}
+use Rattle.rhai_words.proofs.steps.expr_value.Goals as goal
+
+pub returns-in_default : goal.returns-in_default
+returns-in_default c = no_call_value (engine_of c.args.info.now) (expr_cases c.args.expr.now) c.in_default.not-FnCall
