@@ -7,6 +7,7 @@ use Rattle.rhai_rewriting.specs.Known.{Known, look, unless_known, unknown}
 use Rattle.rhai_rewriting.specs.Rules as rule
 use Rattle.rhai_rewriting.specs.Rules.{StmtRule}
 use Rattle.rhai_rewriting.specs.Steps.{Progress, here, KeepsStmtParts}
+use Rattle.rhai_rewriting.proofs.Firing.{stmt_fired_by}
 use Rattle.rhai_rewriting.proofs.Keeping.{keeps_noop}
 use Rattle.rhai_steps.proofs.Places.{not-false}
 use Rattle.rhai_assignment_rules.specs.Firing.{Fires}
@@ -14,7 +15,7 @@ use Rattle.rhai_assignment_rules.specs.Settled.{is_settled_share, shares_nothing
 use Rattle.rhai_assignment_rules.proofs.Parts.{keeps_share}
 
 pub fires : {r : Engine} {w : Bool} {s s' : Progress} {x x' : Stmt} → s'.is_dirty ≡ true → s'.known ≡ s.known → StmtRule (here r s) w x x' → KeepsStmtParts x x' → Fires r w s s' x x'
-fires d k q z = (record { rule = q; fired = d; known = k }, z)
+fires d k q z = (stmt_fired_by d k q, z)
 
 -- nothing took the place of a statement
 pub gone : {r : Engine} {w : Bool} {s s' : Progress} {x x' : Stmt} → s'.is_dirty ≡ true → s'.known ≡ s.known → x' ≡ Noop → StmtRule (here r s) w x Noop → Fires r w s s' x x'

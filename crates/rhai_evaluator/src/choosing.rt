@@ -15,8 +15,8 @@ ghost use Rattle.rhai_meaning.specs.Tree as tree;
 use crate::evaluator::Evaluator;
 use rhai_ast::{BinaryExpr, SwitchBlock, SwitchCasesCollection};
 use rhai_base::{Dynamic, RangeCase};
-use rhai_forms::case_list;
 use rhai_host::{Host, Stuck};
+use rhai_nodes::case_list;
 use rhai_queries::is_table;
 use rhai_state::{Interrupt, State, truth};
 

@@ -2,6 +2,5 @@ pub mod Optional
 pub mod Forms
 pub mod Callees
 pub mod Assigning
-pub mod Cases
 pub mod ChainLinks
 pub mod LeftSides

@@ -1,8 +1,7 @@
-//! What the run reads off a node: the operator a call stands for, links of chains, left sides, chosen arms, names.
+//! What the run reads off a node: the operator a call stands for, links of chains, left sides, names.
 #![tactic(auto)]
 
 mod catching;
-mod choosing;
 mod left_sides;
 mod links;
 mod maps;
@@ -10,7 +9,6 @@ mod operators;
 mod variables;
 
 pub use catching::catch_name;
-pub use choosing::case_list;
 pub use left_sides::{LeftSide, ends_in_call, named_side, part_side};
 pub use links::{Link, Rest, is_chain};
 pub use maps::{insert, is_map};

@@ -1,8 +1,9 @@
 pub mod Blocks
 pub mod Changes
 pub mod Entries
+pub mod Held
+pub mod Listed
 pub mod LiteralLists
 pub mod Others
 pub mod Placing
 pub mod Pointers
-pub mod Held

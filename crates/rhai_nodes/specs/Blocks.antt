@@ -1,5 +1,5 @@
 -- The blocks that a statement makes.
-use Rattle.std.specs.Prelude.{◌≡◌, [], ◌∷◌}
+use Rattle.std.specs.Prelude.{◌≡◌, [], ◌∷◌, Option, Some, None}
 use Rattle.std.proofs.Common.{ap, sym, ◌∙◌}
 use Rattle.rhai_tokens.specs.declared.position.Position.{Position}
 use Rattle.rhai_tree.specs.Defaults.{nowhere}
@@ -8,7 +8,14 @@ use Rattle.rhai_tree.specs.declared.expr.Expr.TheOpen as open_one
 use Rattle.rhai_tree.specs.declared.expr.Expr.TheViews as views
 use Rattle.rhai_tree.specs.declared.stmt.Stmt.{Stmt}
 use Rattle.rhai_tree.specs.declared.stmt.Stmt.TheVariants as stmt_kind
+use Rattle.rhai_meaning.specs.Tree as tree
+use Rattle.rhai_meaning.specs.Tree.{ExprStmt, Stmts, no_stmts, stmt}
 use Rattle.rhai_reading.specs.Positions.{StmtLayer, stmt_position_of}
+
+-- the block of an answer, and of none
+abbrev pub answered : Option tree.Expr → Stmts
+answered None = no_stmts
+answered (Some e) = stmt (ExprStmt e) no_stmts
 
 -- nothing between braces, both of which are there
 abbrev pub empty_at : Position → StmtBlock

@@ -1,13 +1,17 @@
-//! Blocks made of statements.
+//! Blocks made of statements and of answers.
 
-#![tactic(auto, using(crate::specs::Blocks::blocks))]
+#![tactic(auto, using(crate::specs::Blocks::blocks, rhai_reading::specs::Reading::shapes))]
 
-ghost use Rattle.std.specs.Prelude.{◌≡◌, IfOk};
-ghost use Rattle.rhai_nodes.specs.Blocks.{block_made_of, block_of_one};
+ghost use Rattle.std.specs.Prelude.{◌≡◌, IfOk, Some};
+ghost use Rattle.std.specs.Option.{option_map};
+ghost use Rattle.rhai_meaning.specs.Tree.{If};
+ghost use Rattle.rhai_reading.specs.Reading.{expr_of, stmt_of, stmts_of};
+ghost use Rattle.rhai_nodes.specs.Blocks.{answered, block_made_of, block_of_one};
 
-use rhai_base::{OutOfMemory, Position, Seq, Span};
+use crate::making::expression_statement;
+use rhai_base::{Boxed, OutOfMemory, Position, Seq, Span};
 use rhai_queries::stmt_position;
-use rhai_tree::{Stmt, StmtBlock};
+use rhai_tree::{Expr, FlowControl, Stmt, StmtBlock};
 use std::alloc::Global;
 
 /// A block's own block; for nothing an empty one; else one of the statement alone.
@@ -27,4 +31,39 @@ fn block_around(alloc: Global, stmt: Stmt) -> Result<StmtBlock, OutOfMemory>
     let span = Span::new(stmt_position(&stmt), Position::NONE);
     let statements = Seq::from_array(alloc, [stmt])?;
     Ok(StmtBlock::new_with_span(statements.into_vec(), span))
+}
+
+/// A block of an answer.
+fn answer_block(alloc: Global, answer: Expr) -> Result<StmtBlock, OutOfMemory>
+    ensures { IfOk result (λ b. stmts_of b.block ≡ answered (Some (expr_of answer))) }
+{
+    block_around(alloc, expression_statement(alloc, answer)?)
+}
+
+/// The block of an answer; without one, a block that does not exist.
+fn maybe_block(alloc: Global, answer: Option<Expr>) -> Result<StmtBlock, OutOfMemory>
+    ensures { IfOk result (λ b. stmts_of b.block ≡ answered (option_map expr_of answer)) }
+{
+    match answer {
+        Some(answer) => answer_block(alloc, answer),
+        None => Ok(StmtBlock::none(alloc)),
+    }
+}
+
+/// An `if` with an answer in its body, and one or none in its branch.
+pub fn if_answers(
+    alloc: Global,
+    condition: Expr,
+    answer: Expr,
+    otherwise: Option<Expr>,
+    pos: Position,
+) -> Result<Stmt, OutOfMemory>
+    ensures { IfOk result (λ s. stmt_of s ≡ If (expr_of condition) (answered (Some (expr_of answer))) (answered (option_map expr_of otherwise))) }
+{
+    let flow = FlowControl {
+        expr: condition,
+        body: answer_block(alloc, answer)?,
+        branch: maybe_block(alloc, otherwise)?,
+    };
+    Ok(Stmt::If(Boxed::new(alloc, flow)?, pos))
 }

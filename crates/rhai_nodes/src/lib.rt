@@ -10,7 +10,7 @@ mod making;
 mod place;
 mod switch;
 
-pub use block::block_from;
+pub use block::{block_from, if_answers};
 pub use call::call_expression;
 pub use constant::constant_for;
 pub use drain::{StmtDrain, push_stmt};
@@ -20,4 +20,4 @@ pub use making::{
     put_expr, put_stmt, statements_of,
 };
 pub use place::{place_expr, place_stmt};
-pub use switch::switch_table;
+pub use switch::{case_list, switch_table};

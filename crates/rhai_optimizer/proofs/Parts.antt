@@ -1,17 +1,16 @@
 -- Trees that are spelled so, and nodes that are not opened.
-use Rattle.std.proofs.Common.{◌-◌, ℕ, drop, length, ◌≡◌, ◌↔◌, IsTrue, map, ◌++◌, Bool, true, false, List, [], ◌∷◌, None, refl, sym, ap, ◌∙◌, subst}
+use Rattle.std.proofs.Common.{◌-◌, ℕ, drop, length, ◌≡◌, ◌↔◌, IsTrue, map, ◌++◌, Bool, true, false, List, [], ◌∷◌, refl, sym, ap, ◌∙◌, subst}
 use Rattle.rhai_tokens.specs.declared.position.Position.{Position}
 use Rattle.std.specs.declared.num.NonZeroUsize.{NonZeroUsize}
-use Rattle.std.specs.Prelude.{Option}
+use Rattle.std.specs.Prelude.{Option, Result, IfOk}
+use Rattle.std.proofs.lemmas.Result.{IfOk-weaker}
+use Rattle.rhai_tokens.specs.declared.error.OutOfMemory.{OutOfMemory}
 use Rattle.rhai_parts.specs.declared.flags.ASTFlags.{ASTFlags}
 use Rattle.rhai_parts.specs.declared.ident.Ident.{Ident}
 use Rattle.rhai_values.specs.Value.{Text}
 use Rattle.rhai_tree.specs.declared.expr.Expr as declared_expr
 use Rattle.rhai_tree.specs.declared.expr.Expr.TheVariants as expr_kind
 use Rattle.rhai_tree.specs.declared.expr.BinaryExpr.{BinaryExpr}
-use Rattle.rhai_tokens.specs.declared.op_assignment.OpAssignment.{OpAssignment}
-use Rattle.rhai_parts.specs.declared.namespace.Namespace.{Namespace}
-use Rattle.std.specs.declared.num.NonZeroU8.{NonZeroU8}
 use Rattle.rhai_values.specs.declared.dynamic.Dynamic.{Dynamic}
 use Rattle.rhai_tree.specs.declared.expr.FnCallExpr.{FnCallExpr}
 use Rattle.rhai_tree.specs.declared.block.StmtBlock.{StmtBlock}
@@ -25,19 +24,21 @@ use Rattle.rhai_tree.specs.declared.stmt.Stmt.TheVariants as stmt_kind
 use Rattle.rhai_reading.specs.Reading.{table_by, table_of, subject_of, cases_of, expressions_of, arms_of, expr_of, stmt_of, stmts_of, stmt_of-Var, is_const, is_exported, breaks, chain_flags}
 use Rattle.rhai_reading.proofs.Cases.{ExprCase, interpolated_string_case, array_case, map_case, unit_case, variable_case, method_call_case, braces_case, call_case, dot_case, index_case, and_case, or_case, coalesce_case, expr_cases, StmtCase, if_case, switch_case, while_case, do_case, for_case, var_case, assignment_case, call_statement_case, block_case, try_catch_case, expression_case, break_loop_case, return_case, import_case, stmt_cases}
 use Rattle.rhai_meaning.specs.Engine.{Engine}
-use Rattle.rhai_meaning.specs.Tree.{Expr, Variable, Dot, Index, Arms, MaybeExpr, no_expr, Stmt, Var, Stmts}
+use Rattle.rhai_meaning.specs.Tree.{Expr, Variable, Dot, Index, Arms, MaybeExpr, no_expr, Stmt, Var, Stmts, Switch, SwitchTable}
 use Rattle.rhai_meaning.specs.Shape.{catch_name}
 use Rattle.rhai_rewriting.specs.Clear.{HasClearParts, IsClear}
 use Rattle.rhai_steps.proofs.NodeKinds.{NoText, NoArray, NoMap, NoBraces, NoCall, NoDot, NoIndex, NoAnd, NoOr, NoCoalesce, NoMethod, NoVariable, NoIf, NoWhile, NoDo, NoFor, NoVar, NoAssignment, NoCallStatement, NoBlock, NoTry, NoExpression, NoBreak, NoReturn, NoImport, NoSwitch}
-use Rattle.rhai_rewriting.specs.Context.{Context, under, knowing, known_behind, ListKind, Whole}
+use Rattle.rhai_rewriting.specs.Context.{under, knowing, known_behind, ListKind}
 use Rattle.rhai_rewriting.specs.Known.{Known}
 use Rattle.rhai_rewriting.specs.Rewriting.{RestTo, StmtsTo, same_expr, same_stmt, flag_forgotten}
-use Rattle.rhai_rewriting.specs.Steps.{Anywhere, ExprRun, ArmsRun, SwitchRun, Progress, here, is_chain_node, is_method, variable, catch_front, StepsRun, ArgumentRun, ChainRun, TargetRun, MaybeRun, SidesRun, LinkRun, ForRun, ExprPartsRun, StmtPartsRun, EachRun, StmtsRun}
+use Rattle.rhai_rewriting.specs.Steps.{Anywhere, ExprRun, ArmsRun, Progress, is_chain_node, is_method, variable, catch_front, StepsRun, ArgumentRun, ChainRun, TargetRun, MaybeRun, SidesRun, LinkRun, ForRun, ExprPartsRun, StmtPartsRun, StmtReduced, StmtPassed, StmtRun, StmtsRun, SubjectRun, HasReducedSubject}
 use Rattle.rhai_rewriting.specs.Residue.{ExprParts, StmtParts}
 use Rattle.rhai_known.specs.State.{known_entry, known_of}
+use Rattle.rhai_switch_rules.specs.Deciding.{Decided}
 use Rattle.std.proofs.lemmas.List.{length-map, drop-map}
-use Rattle.rhai_optimizer.specs.Parts.{declared_value}
-use Rattle.rhai_rewriting.proofs.Running.{sides_dot, sides_index, link_dot, link_index, maybe_none_run, both_switch}
+use Rattle.rhai_optimizer.specs.Parts.{declared_value, StmtOnce}
+use Rattle.rhai_rewriting.proofs.Firing.{stmt_then, stmt_pass, stmt_again_falls, stmt_done}
+use Rattle.rhai_rewriting.proofs.Running.{sides_dot, sides_index, link_dot, link_index, maybe_none_run, subject_run, arms_run}
 
 -- ---- trees that are spelled so
 
@@ -213,16 +214,48 @@ table_written {r = r} {s = s} {s' = s'} {as' = as'} t xs p =
     let o = views.out-roll-SwitchCasesCollection (record (views.out-SwitchCasesCollection t) { expressions = xs }) in
     (ap (λ (y : TableLayer). table_by y.cases y.ranges y.def_case) o, subst (λ (y : List BinaryExpr). ArmsRun r s s' as' (arms_of y)) (sym (ap (λ (y : TableLayer). y.expressions) o)) p)
 
-pub switch_written : {r : Engine} {s s1 s2 : Progress} (b : SwitchBlock) (e : declared_expr.Expr) (t : SwitchCasesCollection) → ExprRun r Anywhere s s1 (expr_of (subject_of b)) (expr_of e) → (table_of t ≡ table_of (cases_of (with_subject b e))) × ArmsRun r s1 s2 (arms_of (expressions_of (cases_of (with_subject b e)))) (arms_of (expressions_of t)) → (table_of (cases_of (with_table (with_subject b e) t)) ≡ table_of (cases_of b)) × SwitchRun r s s2 (expr_of (subject_of b)) (arms_of (expressions_of (cases_of b))) (expr_of (subject_of (with_table (with_subject b e) t))) (arms_of (expressions_of (cases_of (with_table (with_subject b e) t))))
-switch_written {r = r} {s = s} {s1 = s1} {s2 = s2} b e t p q =
+pub subject_written : {r : Engine} {s s' : Progress} (b : SwitchBlock) (e : declared_expr.Expr) → ExprRun r Anywhere s s' (expr_of (subject_of b)) (expr_of e) → (cases_of (with_subject b e) ≡ cases_of b) × ExprRun r Anywhere s s' (expr_of (subject_of b)) (expr_of (subject_of (with_subject b e)))
+subject_written {r = r} {s = s} {s' = s'} b e p =
     let o = views.out-roll-SwitchBlock (record (views.out-SwitchBlock b) { expr = e }) in
-    let n = views.out-roll-SwitchBlock (record (views.out-SwitchBlock (with_subject b e)) { cases = t }) in
-    let same = ap (λ (y : SwitchLayer). y.cases) o in
-    let subject = ap (λ (y : SwitchLayer). y.expr) n ∙ ap (λ (y : SwitchLayer). y.expr) o in
-    let table = ap (λ (y : SwitchLayer). y.cases) n in (
-      ap table_of table ∙ q.0 ∙ ap table_of same,
-      subst (λ (y : SwitchCasesCollection). SwitchRun r s s2 (expr_of (subject_of b)) (arms_of (expressions_of (cases_of b))) (expr_of (subject_of (with_table (with_subject b e) t))) (arms_of (expressions_of y))) (sym table)
-          (subst (λ (y : declared_expr.Expr). SwitchRun r s s2 (expr_of (subject_of b)) (arms_of (expressions_of (cases_of b))) (expr_of y) (arms_of (expressions_of t))) (sym subject)
-          (subst (λ (y : SwitchCasesCollection). SwitchRun r s s2 (expr_of (subject_of b)) (arms_of (expressions_of y)) (expr_of e) (arms_of (expressions_of t))) same
-          (both_switch p q.1))),
-    )
+    (ap (λ (y : SwitchLayer). y.cases) o, subst (λ (y : declared_expr.Expr). ExprRun r Anywhere s s' (expr_of (subject_of b)) (expr_of y)) (sym (ap (λ (y : SwitchLayer). y.expr) o)) p)
+
+pub arms_written : {r : Engine} {s s' : Progress} {as' : Arms} (b : SwitchBlock) (t : SwitchCasesCollection) → (table_of t ≡ table_of (cases_of b)) × ArmsRun r s s' as' (arms_of (expressions_of t)) → (subject_of (with_table b t) ≡ subject_of b) × ((table_of (cases_of (with_table b t)) ≡ table_of (cases_of b)) × ArmsRun r s s' as' (arms_of (expressions_of (cases_of (with_table b t)))))
+arms_written {r = r} {s = s} {s' = s'} {as' = as'} b t q =
+    let o = views.out-roll-SwitchBlock (record (views.out-SwitchBlock b) { cases = t }) in
+    let table = ap (λ (y : SwitchLayer). y.cases) o in
+    (ap (λ (y : SwitchLayer). y.expr) o, (ap table_of table ∙ q.0, subst (λ (y : SwitchCasesCollection). ArmsRun r s s' as' (arms_of (expressions_of y))) (sym table) q.1))
+
+-- ---- a `switch` by its declared parts
+
+pub subject_kept : {r : Engine} {s s' : Progress} {x x' : Stmt} (b b' : SwitchBlock) → x ≡ Switch (expr_of (subject_of b)) (arms_of (expressions_of (cases_of b))) (table_of (cases_of b)) → x' ≡ Switch (expr_of (subject_of b')) (arms_of (expressions_of (cases_of b'))) (table_of (cases_of b')) → cases_of b' ≡ cases_of b → ExprRun r Anywhere s s' (expr_of (subject_of b)) (expr_of (subject_of b')) → (w : Bool) → SubjectRun r w s s' x x'
+subject_kept {r = r} {s = s} {s' = s'} {x = x} {x' = x'} b b' i j h p w =
+    let made = j ∙ ap (λ (y : SwitchCasesCollection). Switch (expr_of (subject_of b')) (arms_of (expressions_of y)) (table_of y)) h in
+    subst (λ a. SubjectRun r w s s' a x') (sym i) (subst (λ a. SubjectRun r w s s' (Switch (expr_of (subject_of b)) (arms_of (expressions_of (cases_of b))) (table_of (cases_of b))) a) (sym made) (subject_run p))
+
+no_subject : (r : Engine) {x : declared_stmt.Stmt} {s : Stmt} → StmtCase x s → NoSwitch x → HasReducedSubject r s
+no_subject r (switch_case b p) h = absurd (h b p refl)
+no_subject r _ h = tt
+
+pub subject_none : {r : Engine} {s : Progress} (x : declared_stmt.Stmt) → NoSwitch x → (w : Bool) → SubjectRun r w s s (stmt_of x) (stmt_of x)
+subject_none {r = r} x h w = record { to = same_stmt; subject = no_subject r (stmt_cases x) h; known = refl }
+
+pub arms_kept : {r : Engine} {w : Bool} {s s' : Progress} {x x' : Stmt} {e e' : Expr} {as' bs : Arms} {t t' : SwitchTable} → x ≡ Switch e as' t → x' ≡ Switch e' bs t' → HasReducedSubject r x → e' ≡ e → t' ≡ t → ArmsRun r s s' as' bs → StmtPartsRun r w s s' x x'
+arms_kept {r = r} {w = w} {s = s} {s' = s'} {x = x} {x' = x'} {e = e} {as' = as'} {bs = bs} {t = t} {t' = t'} i j h u v q =
+    let made = j ∙ ap (λ y. Switch y bs t') u ∙ ap (λ y. Switch e bs y) v in
+    subst (λ a. StmtPartsRun r w s s' a x') (sym i) (subst (λ a. StmtPartsRun r w s s' (Switch e as' t) a) (sym made) (arms_run (subst (HasReducedSubject r) i h) q))
+
+-- where its subject decides nothing it stays
+pub undecided : {r : Engine} {w : Bool} {s s1 s2 : Progress} {x x1 x2 : Stmt} → SubjectRun r w s s1 x x1 → Decided false r w s1 s2 x1 x2 → SubjectRun r w s s2 x x2
+undecided {r = r} {w = w} {s = s} {s2 = s2} {x = x} {x1 = x1} f q = subst (λ y. SubjectRun r w s s2 x y) (sym q.0) (subst (λ z. SubjectRun r w s z x x1) (sym q.1.0) f)
+
+-- ---- a statement that was gone over once
+
+once : {r : Engine} {w : Bool} {s s1 s2 : Progress} {x x1 x2 : Stmt} (b : Bool) → StmtPartsRun r w s s1 x x1 → StmtReduced r w b s1 s2 x1 x2 → StmtOnce b r w s s2 x x2
+once true q z = record { to = stmt_then q.known q.to z.to; lighter = stmt_again_falls q z; known = z.known ∙ q.known }
+once false q z = stmt_done stmt_pass q z
+
+pub once_by : {r : Engine} {w : Bool} {s s1 : Progress} {x x1 : Stmt} (s2 : Progress) (x2 : Stmt) (o : Result Bool OutOfMemory) → StmtPartsRun r w s s1 x x1 → IfOk o (λ b. StmtReduced r w b s1 s2 x1 x2) → IfOk o (λ b. StmtOnce b r w s s2 x x2)
+once_by {r = r} {w = w} {s = s} {s1 = s1} {x = x} {x1 = x1} s2 x2 o q h = IfOk-weaker o (λ b. StmtReduced r w b s1 s2 x1 x2) (λ b. StmtOnce b r w s s2 x x2) (λ b z. once b q z) h
+
+pub once_done : {r : Engine} {w : Bool} {s s1 s2 : Progress} {x x1 x2 : Stmt} → StmtPassed r w s s1 x x1 → StmtRun r w s1 s2 x1 x2 → StmtRun r w s s2 x x2
+once_done {x2 = x2} f q = record { to = stmt_then f.known f.to q.to; reduced = q.reduced; clear = subst (λ ks. IsClear ks x2) f.known q.clear; known = q.known ∙ f.known }

@@ -21,6 +21,7 @@ use Rattle.rhai_rewriting.specs.Rewriting.{ExprTo, same_expr, by_expr_rule, in_t
 use Rattle.rhai_rewriting.specs.Scripts.{naming_all}
 use Rattle.rhai_rewriting.specs.SurelyUnit.{is_surely_unit}
 use Rattle.rhai_rewriting.proofs.Plain.{is_plain_value, folded_plain}
+use Rattle.rhai_rewriting.proofs.Firing.{same_arms}
 use Rattle.rhai_rewriting.proofs.Reducing.{ExprGoes, StmtGoes, operator_goes, operator_statement_goes, constant_array_goes, braced_constant_goes, decided_if_goes, false_loop_goes, operand_after_false_goes, operand_after_true_goes, operand_after_some_goes, constant_chain_goes, chosen_switch_goes, after_leaving_goes, idle_goes, return_goes, known_condition_goes}
 
 -- ---- one or the other
@@ -124,10 +125,6 @@ same_exprs (expr e es) = exprs_more same_expr (same_exprs es)
 same_pairs : {k : Context} {d : Bool} (ps : Pairs) → PairsTo k d d ps ps
 same_pairs no_pairs = pairs_none
 same_pairs (pair x e ps) = pairs_more same_expr (same_pairs ps)
-
-same_arms : {k : Context} {d : Bool} (as' : Arms) → ArmsTo k d d as' as'
-same_arms no_arms = arms_none
-same_arms (arm c a as') = arms_more same_expr same_expr (same_arms as')
 
 -- ---- one node, by what is known of its parts
 

@@ -3,16 +3,16 @@ use Rattle.std.proofs.Common.{◌≡◌, ◌<◌, ◌≤◌, ℕ, Bool, true, fa
 use Rattle.rhai_meaning.specs.Desugar.{root_of}
 use Rattle.rhai_meaning.specs.Engine.{Engine}
 use Rattle.rhai_meaning.specs.Queries.{is_unit}
-use Rattle.rhai_meaning.specs.Tree.{Expr, Variable, BlockExpr, And, Or, Coalesce, Stmt, Var, Stmts, no_stmts, stmt, joined}
+use Rattle.rhai_meaning.specs.Tree.{Expr, Variable, BlockExpr, And, Or, Coalesce, Stmt, Var, Stmts, no_stmts, stmt, joined, Arms, no_arms, arm}
 use Rattle.rhai_meaning.specs.Walk.{OfExpr, OfStmt}
 use Rattle.rhai_meaning.specs.Weight.{expr_weight, stmt_weight}
 use Rattle.rhai_rewriting.specs.Clear.{known_value, IsClearExpr, HasClearParts, IsClear}
 use Rattle.rhai_rewriting.specs.Context.{Context, knowing, behind, ListKind}
 use Rattle.rhai_rewriting.specs.Known.{Known}
 use Rattle.rhai_rewriting.specs.Residue.{IsReducedNode, IsReducedExpr, IsReduced, ExprParts, StmtParts}
-use Rattle.rhai_rewriting.specs.Rewriting.{ExprTo, same_expr, then_expr, by_expr_rule, StmtTo, same_stmt, then_stmt, by_stmt_rule, RestTo, in_tail}
+use Rattle.rhai_rewriting.specs.Rewriting.{ExprTo, same_expr, then_expr, by_expr_rule, StmtTo, same_stmt, then_stmt, by_stmt_rule, RestTo, in_tail, ArmsTo, arms_none, arms_more}
 use Rattle.rhai_rewriting.specs.Rules.{ExprRule, StmtRule}
-use Rattle.rhai_rewriting.specs.Steps.{Progress, here, Place, Anywhere, AsBase, AsGuard, MayBecome, ExprRun, ExprPartsRun, ExprSoFar, ExprReduced, ExprFired, KeepsExprParts, ExprKept, StmtRun, StmtPartsRun, StmtSoFar, StmtReduced, StmtPassed, StmtFired, KeepsStmtParts, StmtKept}
+use Rattle.rhai_rewriting.specs.Steps.{Progress, here, Place, Anywhere, AsBase, AsGuard, MayBecome, ExprRun, ExprPartsRun, ExprSoFar, ExprReduced, ExprFired, KeepsExprParts, ExprKept, StmtRun, StmtPartsRun, StmtSoFar, StmtReduced, StmtPassed, SubjectRun, StmtFired, KeepsStmtParts, StmtKept}
 use Rattle.rhai_rewriting.specs.SurelyUnit.{is_surely_unit}
 use Rattle.rhai_rewriting.proofs.Weights.{expr_falls, stmt_falls}
 use Rattle.rhai_rewriting.proofs.rules.Expressions.{expr_rule}
@@ -47,8 +47,8 @@ may_keep AsGuard e e' x y = y
 fired_to : {k : Context} {d d' : Bool} {e e' : Expr} → d' ≡ true → ExprRule k e e' → ExprTo k d d' e e'
 fired_to {k = k} {d = d} {e = e} {e' = e'} h r = subst (λ b. ExprTo k d b e e') (sym h) (by_expr_rule r)
 
-stmt_fired_to : {k : Context} {w d d' : Bool} {x x' : Stmt} → d' ≡ true → StmtRule k w x x' → StmtTo k w d d' x x'
-stmt_fired_to {k = k} {w = w} {d = d} {x = x} {x' = x'} h r = subst (λ b. StmtTo k w d b x x') (sym h) (by_stmt_rule r)
+pub stmt_fired_by : {r : Engine} {w : Bool} {s s' : Progress} {x x' : Stmt} → s'.is_dirty ≡ true → s'.known ≡ s.known → StmtRule (here r s) w x x' → StmtFired r w s s' x x'
+stmt_fired_by {r = r} {w = w} {s = s} {x = x} {x' = x'} h k q = record { to = subst (λ b. StmtTo (here r s) w s.is_dirty b x x') (sym h) (by_stmt_rule q); lighter = (stmt_rule q).lighter; known = k }
 
 -- ---- rules at an expression whose parts are reduced, until none fires
 
@@ -109,6 +109,11 @@ expr_parts_fit q = omega (arith, expr_falls q.to)
 
 -- ---- a statement likewise
 
+-- arms that stay
+pub same_arms : {k : Context} {d : Bool} (as' : Arms) → ArmsTo k d d as' as'
+same_arms no_arms = arms_none
+same_arms (arm c a as') = arms_more same_expr same_expr (same_arms as')
+
 same_stmt_parts : (x : Stmt) → KeepsStmtParts x x
 same_stmt_parts x = record { parts = λ r h. h; clear = λ ks h. h }
 
@@ -120,7 +125,7 @@ stmt_start {x = x} = record { to = same_stmt; keeps = same_stmt_parts x; known =
 
 pub stmt_fired : {r : Engine} {w : Bool} {s s1 s2 : Progress} {x x1 x2 : Stmt} → StmtSoFar r w s s1 x x1 → StmtFired r w s1 s2 x1 x2 → KeepsStmtParts x1 x2 → StmtSoFar r w s s2 x x2
 stmt_fired f q h = record {
-  to = stmt_then f.known f.to (stmt_fired_to q.fired q.rule);
+  to = stmt_then f.known f.to q.to;
   keeps = then_stmt_parts f.keeps h;
   known = q.known ∙ f.known;
 }
@@ -137,11 +142,11 @@ stmt_kept {r = r} {w = w} {s = s} {s1 = s1} {x = x} {x1 = x1} {x2 = x2} f q =
     subst (λ t. StmtReduced r w false s t x x2) (sym q.state) (subst (λ a. StmtReduced r w false s s1 x a) (sym q.same) z)
 
 pub stmt_fired_falls : {r : Engine} {w : Bool} {s s' : Progress} {x x' : Stmt} → StmtFired r w s s' x x' → stmt_weight x' < stmt_weight x
-stmt_fired_falls f = (stmt_rule f.rule).lighter
+stmt_fired_falls f = f.lighter
 
 pub stmt_reopened : {r : Engine} {w : Bool} {s s1 s2 : Progress} {x x1 x2 : Stmt} → StmtSoFar r w s s1 x x1 → StmtFired r w s1 s2 x1 x2 → StmtReduced r w true s s2 x x2
 stmt_reopened f q = record {
-  to = stmt_then f.known f.to (stmt_fired_to q.fired q.rule);
+  to = stmt_then f.known f.to q.to;
   reduced = λ i. absurd cc;
   clear = λ i. absurd cc;
   lighter = λ i. omega (arith, stmt_falls f.to, stmt_fired_falls q);
@@ -157,6 +162,19 @@ stmt_again f q z = record { to = stmt_then f.known f.to (stmt_then q.known q.to 
 
 pub stmt_again_falls : {r : Engine} {w : Bool} {s1 s2 s3 : Progress} {x1 x2 x3 : Stmt} → StmtPartsRun r w s1 s2 x1 x2 → StmtReduced r w true s2 s3 x2 x3 → stmt_weight x3 < stmt_weight x1
 stmt_again_falls q z = omega (arith, stmt_falls q.to, z.lighter refl)
+
+-- or a rule fired before they were
+pub stmt_early : {r : Engine} {w : Bool} {s s1 s2 : Progress} {x x1 x2 : Stmt} → StmtPassed r w s s1 x x1 → StmtFired r w s1 s2 x1 x2 → StmtPassed r w s s2 x x2
+stmt_early f q = record { to = stmt_then f.known f.to q.to; known = q.known ∙ f.known }
+
+pub subject_then : {r : Engine} {w : Bool} {s s1 s2 : Progress} {x x1 x2 : Stmt} → SubjectRun r w s s1 x x1 → StmtPartsRun r w s1 s2 x1 x2 → StmtPartsRun r w s s2 x x2
+subject_then {x2 = x2} f q = record { to = stmt_then f.known f.to q.to; parts = q.parts; clear = subst (λ ks. IsClear ks x2) f.known q.clear; known = q.known ∙ f.known }
+
+pub subject_fired : {r : Engine} {w : Bool} {s s1 s2 : Progress} {x x1 x2 : Stmt} → SubjectRun r w s s1 x x1 → StmtFired r w s1 s2 x1 x2 → StmtFired r w s s2 x x2
+subject_fired f q = record { to = stmt_then f.known f.to q.to; lighter = omega (arith, stmt_falls f.to, q.lighter); known = q.known ∙ f.known }
+
+pub subject_fits : {r : Engine} {w : Bool} {s s' : Progress} {x x' : Stmt} → SubjectRun r w s s' x x' → stmt_weight x' ≤ stmt_weight x
+subject_fits f = omega (arith, stmt_falls f.to)
 
 pub stmt_fits : {r : Engine} {w : Bool} {s s' : Progress} {x x' : Stmt} → StmtPassed r w s s' x x' → stmt_weight x' ≤ stmt_weight x
 stmt_fits f = omega (arith, stmt_falls f.to)

@@ -2,7 +2,7 @@
 use Rattle.std.proofs.Common.{◌≡◌, ℕ, zero, suc, Bool, true, false, cond, List, [], ◌∷◌, Option, Some, None, refl, sym, ap, ◌∙◌, subst}
 use Rattle.std.specs.Prelude.{◌&&◌, ◌||◌, not, is_some, nat_lt}
 use Rattle.std.proofs.lemmas.Slice.Eq.{bytes_eq-Decides}
-use Rattle.rhai_values.specs.Value.{Text, Value, UnitV, MapV, PointerV, no_values, item, same_text, is_hashable}
+use Rattle.rhai_values.specs.Value.{Text, Value, UnitV, MapV, PointerV, no_values, item, same_text, is_hashable, BoolV, IntV, CharV, TextV}
 use Rattle.rhai_meaning.specs.Constants.{constant_value, constant_values, constant_entries, constant_bool, array_value, map_value, joined_value, value_and, entry_and, is_constant, is_literal_unit, constant_for}
 use Rattle.rhai_meaning.specs.Control.{case_for, ranges_with, or_ranges, chosen}
 use Rattle.rhai_meaning.specs.Desugar.{root_of}
@@ -12,7 +12,7 @@ use Rattle.rhai_meaning.specs.Faults.{has_operands}
 use Rattle.rhai_meaning.specs.Queries.{is_control_flow_break, is_pure_expr, are_pure_exprs, are_pure_pairs, is_pure}
 use Rattle.rhai_meaning.specs.Queries.{is_unit as is_unit_expr}
 use Rattle.rhai_meaning.specs.Shape.{is_unit, is_rest, is_left_side, condition_at, case_fits, spares, default_fits, is_table}
-use Rattle.rhai_meaning.specs.Tree.{ChainFlags, SwitchTable, Callee, Expr, DynamicConstant, BoolConstant, UnitConstant, InterpolatedString, ArrayOf, MapOf, Variable, ThisPtr, Property, MethodCall, BlockExpr, FnCall, Dot, Index, And, Or, Coalesce, Exprs, no_exprs, expr, Pairs, no_pairs, pair, Arms, no_arms, arm, count_arms, Stmt, Noop, If, Switch, While, Do, For, TryCatch, Assignment, Var, FnCallStmt, Block, ExprStmt, Return, an_expr, Stmts, no_stmts, stmt}
+use Rattle.rhai_meaning.specs.Tree.{ChainFlags, SwitchTable, Callee, Expr, DynamicConstant, BoolConstant, UnitConstant, InterpolatedString, ArrayOf, MapOf, Variable, ThisPtr, Property, MethodCall, BlockExpr, FnCall, Dot, Index, And, Or, Coalesce, Exprs, no_exprs, expr, Pairs, no_pairs, pair, Arms, no_arms, arm, count_arms, Stmt, Noop, If, Switch, While, Do, For, TryCatch, Assignment, Var, FnCallStmt, Block, ExprStmt, Return, an_expr, Stmts, no_stmts, stmt, IntegerConstant, CharConstant, StringConstant}
 use Rattle.rhai_meaning.specs.Walk.{Node, OfExpr, OfStmt, Spot, RightSide, every, over_stmts, arms_at, arm_at, listed}
 use Rattle.rhai_meaning.proofs.Walk.{Alongside, stmts_alongside}
 use Rattle.rhai_parts.specs.Names.{are_all}
@@ -21,7 +21,7 @@ use Rattle.rhai_rewriting.specs.Folding.{folded}
 use Rattle.rhai_rewriting.specs.Known.{Known, look}
 use Rattle.rhai_rewriting.specs.Operands.{OperandsTo, in_other_operands, after_deciding_go, CoalesceTo, in_other_options, after_some_go}
 use Rattle.rhai_rewriting.specs.Parts.{constant_of}
-use Rattle.rhai_rewriting.specs.Reducible.{IsIrreducibleList, is_that, is_always, follows_deciding, is_some_value, follows_some, property_of, index_of, without_question, chain_answer, is_short, is_chosen, goes_on_after_leaving, tests_name, tests_constant, is_idle, idles, ends_in_return, AnswersNothing, InExpressions, IsIrreducibleAlone, IsIrreducibleNode}
+use Rattle.rhai_rewriting.specs.Reducible.{IsIrreducibleList, is_that, is_always, follows_deciding, is_some_value, follows_some, property_of, index_of, without_question, chain_answer, is_short, is_chosen, goes_on_after_leaving, tests_name, tests_constant, is_idle, idles, ends_in_return, AnswersNothing, InExpressions, IsIrreducibleAlone, IsIrreducibleNode, is_short_for}
 use Rattle.rhai_rewriting.specs.Residue.{holds_constant, IsReducedNode, when, where_opened, where_it_stands, where_chained, every_reached, AreReduced}
 use Rattle.rhai_rewriting.specs.Testing.{InLists}
 use Rattle.rhai_rewriting.specs.Rules as rule
@@ -209,7 +209,7 @@ true_decides (arm (BoolConstant b) a as') zero h = ap (λ x. Some x) h
 true_decides (arm _ a as') zero h = no h
 true_decides (arm c a as') (suc i) h = true_decides as' i h
 
-default_decides : (as' : Arms) (t : SwitchTable) (i : ℕ) → is_table as' t ≡ true → t.default ≡ Some i → arm_decides (arm_of as' i) ≡ Some true
+pub default_decides : (as' : Arms) (t : SwitchTable) (i : ℕ) → is_table as' t ≡ true → t.default ≡ Some i → arm_decides (arm_of as' i) ≡ Some true
 default_decides as' t i h q =
     all_of (are_all (case_fits (count_arms as')) t.cases && are_all (λ r. nat_lt r.arm (count_arms as')) t.ranges) (default_fits as' t t.default) h (λ x y.
     let z : default_fits as' t (Some i) ≡ true = subst (λ o. default_fits as' t o ≡ true) q y in
@@ -237,11 +237,19 @@ short_goes e as' t v q h (Some (i ∷ j ∷ is)) rs x y z w = no z
 short_goes e as' t v q h None [] x y z w = switch_none e as' t v q (x ∙ y) w
 short_goes e as' t v q h None (r ∷ rs) x y z w = no z
 
--- a `switch` over a value for which at most one arm is listed: `switch_answers`, `switch_is_if`, `switch_defaults`
-pub chosen_switch_goes : {k : Context} (e : Expr) (as' : Arms) (t : SwitchTable) → is_table as' t ≡ true → is_chosen e t ≡ true → StmtGoes k (Switch e as' t)
-chosen_switch_goes (DynamicConstant v) as' t h q =
+-- a `switch` over a constant for whose value at most one arm is listed: `switch_answers`, `switch_is_if`, `switch_defaults`
+short_switch_goes : {k : Context} (e : Expr) (as' : Arms) (t : SwitchTable) (v : Value) → constant_value e ≡ Some v → is_table as' t ≡ true → is_short_for t v ≡ true → StmtGoes k (Switch e as' t)
+short_switch_goes e as' t v c h q =
     all_of (is_hashable v) (is_short (case_for t.cases v) (ranges_with t.ranges v)) q (λ x y.
-    short_goes (DynamicConstant v) as' t v refl h (case_for t.cases v) (ranges_with t.ranges v) (ap (λ b. or_ranges t v (cond b (case_for t.cases v) None)) x) refl y)
+    short_goes e as' t v c h (case_for t.cases v) (ranges_with t.ranges v) (ap (λ b. or_ranges t v (cond b (case_for t.cases v) None)) x) refl y)
+
+pub chosen_switch_goes : {k : Context} (e : Expr) (as' : Arms) (t : SwitchTable) → is_table as' t ≡ true → is_chosen e t ≡ true → StmtGoes k (Switch e as' t)
+chosen_switch_goes (DynamicConstant v) as' t h q = short_switch_goes (DynamicConstant v) as' t v refl h q
+chosen_switch_goes (BoolConstant b) as' t h q = short_switch_goes (BoolConstant b) as' t (BoolV b) refl h q
+chosen_switch_goes (IntegerConstant n) as' t h q = short_switch_goes (IntegerConstant n) as' t (IntV n) refl h q
+chosen_switch_goes (CharConstant c) as' t h q = short_switch_goes (CharConstant c) as' t (CharV c) refl h q
+chosen_switch_goes (StringConstant x) as' t h q = short_switch_goes (StringConstant x) as' t (TextV x) refl h q
+chosen_switch_goes UnitConstant as' t h q = short_switch_goes UnitConstant as' t UnitV refl h q
 chosen_switch_goes _ as' t h q = no q
 
 -- ---- lists
@@ -370,6 +378,7 @@ alone_reduced r (OfExpr (And es)) h = h
 alone_reduced r (OfExpr (Or es)) h = h
 alone_reduced r (OfExpr (Coalesce es)) h = h
 alone_reduced r (OfStmt (If c a b)) h = h
+alone_reduced r (OfStmt (Switch e as' t)) h = λ i. h
 alone_reduced r (OfStmt (While e b)) h = h
 alone_reduced r (OfStmt (FnCallStmt c es)) h = h
 alone_reduced r _ h = tt

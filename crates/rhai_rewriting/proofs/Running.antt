@@ -13,9 +13,10 @@ use Rattle.rhai_rewriting.specs.Clear.{IsClearExpr, AreClearExprs, IsClear, AreC
 use Rattle.rhai_rewriting.specs.Context.{Context, knowing, naming, naming_some, naming_catch, known_behind, ListKind, Inside, wanted, wanted_before}
 use Rattle.rhai_rewriting.specs.Known.{Known}
 use Rattle.rhai_rewriting.specs.Residue.{when, IsReducedNode, IsReducedExpr, AreReducedArms, AreReduced, every_reached}
-use Rattle.rhai_rewriting.specs.Rewriting.{ExprTo, in_text, in_array, in_map, in_braces, in_call, in_stray_method, in_chain, in_and, in_or, in_coalesce, ExprsTo, exprs_none, exprs_more, PairsTo, pairs_none, pairs_more, in_dot, in_index, base, ArgumentTo, same_argument, in_method, in_brackets, StepsTo, same_steps, last_method, last_index, more_dot, more_index, same_target, in_target, guard, maybe_none, maybe_some, ArmsTo, arms_none, arms_more, StmtTo, in_if, in_switch, in_while, in_do, in_for, in_var, in_assignment, in_block, in_try, in_expression, in_call_statement, in_break, in_return, in_import, RestTo, same_stmts, then_stmts, in_head, in_tail, StmtsTo}
+use Rattle.rhai_rewriting.specs.Rewriting.{ExprTo, in_text, in_array, in_map, in_braces, in_call, in_stray_method, in_chain, in_and, in_or, in_coalesce, ExprsTo, exprs_none, exprs_more, PairsTo, pairs_none, pairs_more, in_dot, in_index, base, ArgumentTo, same_argument, in_method, in_brackets, StepsTo, same_steps, last_method, last_index, more_dot, more_index, same_target, in_target, guard, maybe_none, maybe_some, ArmsTo, arms_none, arms_more, StmtTo, in_if, in_switch, in_while, in_do, in_for, in_var, in_assignment, in_block, in_try, in_expression, in_call_statement, in_break, in_return, in_import, RestTo, same_stmts, then_stmts, in_head, in_tail, StmtsTo, same_expr}
+use Rattle.rhai_rewriting.proofs.Firing.{same_arms}
 use Rattle.rhai_rewriting.proofs.Keeping.{no_first}
-use Rattle.rhai_rewriting.specs.Steps.{AnswersNone, ArmsAnswerNone, Progress, here, Place, Anywhere, AsBase, AsGuard, ExprRun, ExprsRun, PairsRun, MaybeRun, ArmsRun, StepsRun, ArgumentRun, ChainRun, TargetRun, ListUnder, ArmRun, SidesRun, LinkRun, LoopRun, SwitchRun, ForRun, TryRun, AssignRun, loop_front, catch_front, is_chain_node, is_method, ExprPartsRun, StmtRun, ItemRun, StmtPartsRun, known_behind_all, EachRun, ListRun, StmtsRun, ListPassed, SweepRun}
+use Rattle.rhai_rewriting.specs.Steps.{AnswersNone, ArmsAnswerNone, Progress, here, Place, Anywhere, AsBase, AsGuard, ExprRun, ExprsRun, PairsRun, MaybeRun, ArmsRun, SubjectRun, StepsRun, ArgumentRun, ChainRun, TargetRun, ListUnder, ArmRun, SidesRun, LinkRun, LoopRun, ForRun, TryRun, AssignRun, loop_front, catch_front, is_chain_node, is_method, ExprPartsRun, StmtRun, ItemRun, StmtPartsRun, known_behind_all, EachRun, ListRun, StmtsRun, ListPassed, SweepRun}
 use Rattle.rhai_rewriting.specs.SurelyUnit.{is_surely_unit}
 use Rattle.rhai_meaning.specs.Weight.{weight}
 use Rattle.rhai_rewriting.proofs.Clearing.{clear_tests}
@@ -416,12 +417,16 @@ assignment_run {s1 = s1} {s2 = s2} {l' = l'} {e = e} {e' = e'} p q = record {
   known = q.known ∙ p.known;
 }
 
-pub switch_run : {r : Engine} {w : Bool} {t : SwitchTable} {s s1 s2 : Progress} {e e' : Expr} {as' bs : Arms} → ExprRun r Anywhere s s1 e e' → ArmsRun r s1 s2 as' bs → StmtPartsRun r w s s2 (Switch e as' t) (Switch e' bs t)
-switch_run {r = r} {t = t} {s1 = s1} {s2 = s2} {as' = as'} {bs = bs} p q = record {
-  to = in_switch p.to (knows (λ k. ArmsTo k s1.is_dirty s2.is_dirty as' bs) p.known q.to);
-  parts = (tt, ((p.answers, listed_answers bs (listed t) q.answers), (p.reduced, listed_arms r bs (listed t) q.reduced)));
+-- the subject of a `switch`, and its arms
+pub subject_run : {r : Engine} {w : Bool} {as' : Arms} {t : SwitchTable} {s s' : Progress} {e e' : Expr} → ExprRun r Anywhere s s' e e' → SubjectRun r w s s' (Switch e as' t) (Switch e' as' t)
+subject_run {as' = as'} p = record { to = in_switch p.to (same_arms as'); subject = (p.answers, p.reduced); known = p.known }
+
+pub arms_run : {r : Engine} {w : Bool} {t : SwitchTable} {s s' : Progress} {e : Expr} {as' bs : Arms} → AnswersNone e × IsReducedExpr r e → ArmsRun r s s' as' bs → StmtPartsRun r w s s' (Switch e as' t) (Switch e bs t)
+arms_run {r = r} {t = t} {bs = bs} h q = record {
+  to = in_switch same_expr q.to;
+  parts = (tt, ((h.0, listed_answers bs (listed t) q.answers), (h.1, listed_arms r bs (listed t) q.reduced)));
   clear = tt;
-  known = q.known ∙ p.known;
+  known = q.known;
 }
 
 pub break_run : {r : Engine} {w b o : Bool} {s s' : Progress} {m m' : MaybeExpr} → MaybeRun r s s' m m' → StmtPartsRun r w s s' (BreakLoop b o m) (BreakLoop b o m')
@@ -543,9 +548,3 @@ counts {r = r} {s1 = s1} x i n p h d q e j = record { between = s1; head = p; bo
 
 pub tries : {r : Engine} {s s1 s2 s3 s4 : Progress} {a a' b b' : Stmts} (x : Option (Option Text)) (n : ℕ) → StmtsRun r (Inside false) s s1 a a' → n ≡ length s1.known → (s2.is_dirty ≡ s1.is_dirty) × (s2.known ≡ catch_front x ++ s1.known) → StmtsRun r (Inside false) s2 s3 b b' → s4.is_dirty ≡ s3.is_dirty → s4.known ≡ drop (length s3.known - n) s3.known → TryRun r x s s4 a b a' b'
 tries {r = r} {s1 = s1} x n p h d q e j = record { between = s1; body = p; branch = listed_under _ (catch_front x) n (catch_names r x s1.known) h d q e j }
-
-pub both_switch : {r : Engine} {s s1 s2 : Progress} {e e' : Expr} {as' bs : Arms} → ExprRun r Anywhere s s1 e e' → ArmsRun r s1 s2 as' bs → SwitchRun r s s2 e as' e' bs
-both_switch {s1 = s1} p q = record { between = s1; subject = p; arms = q }
-
-pub switch_kept : {r : Engine} {w : Bool} {t t' : SwitchTable} {s s' : Progress} {e e' : Expr} {as' bs : Arms} → t' ≡ t → SwitchRun r s s' e as' e' bs → StmtPartsRun r w s s' (Switch e as' t) (Switch e' bs t')
-switch_kept {r = r} {w = w} {t = t} {s = s} {s' = s'} {e = e} {e' = e'} {as' = as'} {bs = bs} h p = subst (λ y. StmtPartsRun r w s s' (Switch e as' t) (Switch e' bs y)) (sym h) (switch_run p.subject p.arms)

@@ -13,6 +13,7 @@ pub mod Rules
 pub mod Rewriting
 pub mod Shapes
 pub mod Testing
+pub mod Choosing
 pub mod Clear
 pub mod Residue
 pub mod Reducible
@@ -28,6 +29,7 @@ pub mod WorkedRewrites
 pub mod WorkedNodes
 pub mod WorkedConditions
 pub mod WorkedTables
+pub mod WorkedSwitches
 pub mod WorkedConstants
 pub mod WorkedKnown
 pub mod WorkedLists

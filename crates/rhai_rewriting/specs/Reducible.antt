@@ -1,8 +1,7 @@
 -- Trees of the whole language in which nothing is left to reduce: each case on one node or on one list.
 use Rattle.std.specs.Prelude.{◌≡◌, ℕ, Bool, true, false, ◌&&◌, ◌||◌, not, List, [], ◌∷◌, Option, Some, None}
-use Rattle.rhai_values.specs.Value.{Text, Value, MapV, same_text, is_hashable}
+use Rattle.rhai_values.specs.Value.{Text, Value, MapV, same_text}
 use Rattle.rhai_meaning.specs.Constants.{constant_value, constant_values, constant_bool, is_constant}
-use Rattle.rhai_meaning.specs.Control.{case_for, ranges_with}
 use Rattle.rhai_meaning.specs.Elements.{entry}
 use Rattle.rhai_meaning.specs.Engine.{Engine}
 use Rattle.rhai_meaning.specs.Shape.{is_unit}
@@ -12,24 +11,8 @@ use Rattle.rhai_rewriting.specs.Folding.{folded}
 use Rattle.rhai_rewriting.specs.Indexing.{indexed}
 pub use Rattle.rhai_rewriting.specs.Answering.{is_that, is_always, follows_deciding, is_some_value, follows_some, property_of, index_of, without_question, chain_answer, AnswersNothing, of_first, InExpressions}
 use Rattle.rhai_rewriting.specs.Residue.{holds_constant}
+pub use Rattle.rhai_rewriting.specs.Choosing.{is_short, own_value, is_short_for, is_short_over, is_chosen}
 pub use Rattle.rhai_rewriting.specs.Testing.{tests_name, tests_constant, goes_on_after_leaving, is_idle, idles, IsIrreducibleList, InLists}
-
--- ---- `switch`
-
--- a case list of at most one arm, or neither a case list nor a range
-abbrev pub is_short : Option (List ℕ) → List ℕ → Bool
-is_short (Some []) rs = true
-is_short (Some (i ∷ [])) rs = true
-is_short (Some (i ∷ j ∷ is)) rs = false
-is_short None [] = true
-is_short None (r ∷ rs) = false
-
-abbrev pub is_short_for : SwitchTable → Value → Bool
-is_short_for t v = is_hashable v && is_short (case_for t.cases v) (ranges_with t.ranges v)
-
-abbrev pub is_chosen : Expr → SwitchTable → Bool
-is_chosen (DynamicConstant v) t = is_short_for t v
-is_chosen _ t = false
 
 -- ---- lists
 

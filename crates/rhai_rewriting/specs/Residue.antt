@@ -2,10 +2,11 @@
 use Rattle.std.specs.Prelude.{◌≡◌, Bool, true, false, ◌&&◌, not, Option, Some, None}
 use Rattle.rhai_meaning.specs.Engine.{Engine}
 use Rattle.rhai_meaning.specs.Constants.{constant_bool, constant_values, is_constant, is_literal_unit}
-use Rattle.rhai_meaning.specs.Shape.{is_rest, is_left_side}
-use Rattle.rhai_meaning.specs.Tree.{Expr, ArrayOf, BlockExpr, FnCall, Dot, Index, And, Or, Coalesce, Exprs, Pairs, MaybeExpr, Arms, no_arms, arm, Stmt, If, While, Assignment, ExprStmt, FnCallStmt, Stmts, no_stmts, stmt}
+use Rattle.rhai_meaning.specs.Shape.{is_rest, is_left_side, is_table}
+use Rattle.rhai_meaning.specs.Tree.{Expr, ArrayOf, BlockExpr, FnCall, Dot, Index, And, Or, Coalesce, Exprs, Pairs, MaybeExpr, Arms, no_arms, arm, Stmt, If, Switch, While, Assignment, ExprStmt, FnCallStmt, Stmts, no_stmts, stmt}
 use Rattle.rhai_meaning.specs.Walk.{Node, OfExpr, OfStmt, Spot, RightSide, Walk, every, parts_of_expr, parts_of_stmt, over_expr, over_exprs, over_pairs, over_maybe, over_stmt, over_stmts}
 use Rattle.rhai_rewriting.specs.Folding.{folded}
+use Rattle.rhai_rewriting.specs.Choosing.{is_chosen}
 use Rattle.rhai_rewriting.specs.Answering.{is_always, follows_deciding, follows_some, AnswersNothing, InExpressions}
 use Rattle.rhai_rewriting.specs.Testing.{IsIrreducibleList, InLists}
 
@@ -16,7 +17,7 @@ abbrev pub holds_constant : Stmts → Bool
 holds_constant (stmt (ExprStmt e) no_stmts) = is_constant e && not (is_literal_unit e)
 holds_constant _ = false
 
--- A node by itself, as `IsIrreducibleAlone` of the whole language, but for `switch`.
+-- A node by itself, as `IsIrreducibleAlone` of the whole language; of a `switch` without a table nothing is claimed.
 abbrev pub IsReducedNode : Engine → Node → Type 0
 IsReducedNode r (OfExpr (ArrayOf es)) = constant_values es ≡ None
 IsReducedNode r (OfExpr (BlockExpr ss)) = holds_constant ss ≡ false
@@ -25,6 +26,7 @@ IsReducedNode r (OfExpr (And es)) = follows_deciding false es ≡ false
 IsReducedNode r (OfExpr (Or es)) = follows_deciding true es ≡ false
 IsReducedNode r (OfExpr (Coalesce es)) = follows_some es ≡ false
 IsReducedNode r (OfStmt (If c a b)) = constant_bool c ≡ None
+IsReducedNode r (OfStmt (Switch e as' t)) = is_table as' t ≡ true → is_chosen e t ≡ false
 IsReducedNode r (OfStmt (While e b)) = is_always false e ≡ false
 IsReducedNode r (OfStmt (FnCallStmt c es)) = folded r c es ≡ None
 IsReducedNode r _ = Unit {0}

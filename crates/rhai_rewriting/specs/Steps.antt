@@ -5,7 +5,7 @@ use Rattle.rhai_meaning.specs.Engine.{Engine}
 use Rattle.rhai_meaning.specs.Queries.{is_unit}
 use Rattle.rhai_meaning.specs.Shape.{is_rest, is_argument, is_left_side}
 use Rattle.rhai_values.specs.Value.{Text}
-use Rattle.rhai_meaning.specs.Tree.{Expr, MethodCall, Dot, Index, Exprs, Pairs, MaybeExpr, Arms, no_arms, arm, Stmt, Stmts, no_stmts, stmt, joined}
+use Rattle.rhai_meaning.specs.Tree.{Expr, MethodCall, Dot, Index, Exprs, Pairs, MaybeExpr, Arms, no_arms, arm, Stmt, Switch, Stmts, no_stmts, stmt, joined}
 use Rattle.rhai_meaning.specs.Walk.{OfExpr, OfStmt, over_exprs, over_pairs, over_maybe}
 use Rattle.rhai_meaning.specs.Weight.{stmt_weight, weight}
 use Rattle.rhai_rewriting.specs.Answering.{AnswersNothing, of_first}
@@ -203,11 +203,6 @@ pub record LoopRun (r : Engine) (p : Place) (s s' : Progress) (e : Expr) (b : St
   pub head : ExprRun r p s between e e'
   pub body : StmtsRun r (Inside false) between s' b b'
 
-pub record SwitchRun (r : Engine) (s s' : Progress) (e : Expr) (as' : Arms) (e' : Expr) (bs : Arms) : Type 0 where
-  pub between : Progress
-  pub subject : ExprRun r Anywhere s between e e'
-  pub arms : ArmsRun r between s' as' bs
-
 pub record ForRun (r : Engine) (x : Text) (i : Option Text) (s s' : Progress) (e : Expr) (b : Stmts) (e' : Expr) (b' : Stmts) : Type 0 where
   pub between : Progress
   pub head : ExprRun r Anywhere s between e e'
@@ -262,6 +257,17 @@ pub record StmtPartsRun (r : Engine) (w : Bool) (s s' : Progress) (x x' : Stmt) 
   pub clear : IsClear s.known x'
   pub known : s'.known ≡ s.known
 
+-- the subject of a `switch` is reduced
+abbrev pub HasReducedSubject : Engine → Stmt → Type 0
+HasReducedSubject r (Switch e as' t) = AnswersNone e × IsReducedExpr r e
+HasReducedSubject r _ = Unit {0}
+
+-- the subject alone
+pub record SubjectRun (r : Engine) (w : Bool) (s s' : Progress) (x x' : Stmt) : Type 0 where
+  pub to : StmtTo (here r s) w s.is_dirty s'.is_dirty x x'
+  pub subject : HasReducedSubject r x'
+  pub known : s'.known ≡ s.known
+
 -- ---- rules at a node whose parts are reduced, until none fires
 
 -- the parts of what a node became are reduced where its own were
@@ -307,9 +313,9 @@ pub record StmtPassed (r : Engine) (w : Bool) (s s' : Progress) (x x' : Stmt) : 
   pub to : StmtTo (here r s) w s.is_dirty s'.is_dirty x x'
   pub known : s'.known ≡ s.known
 
--- ---- one node, whose parts are reduced: a rule fired, or none fires at it
+-- ---- one node, whose parts are reduced: a rule fired (at a statement also several), or none fires at it
 
--- a rule fired, and set the flag
+-- it set the flag
 pub record ExprFired (r : Engine) (p : Place) (s s' : Progress) (e e' : Expr) : Type 0 where
   pub rule : ExprRule (here r s) e e'
   pub stays : MayBecome p e e'
@@ -317,8 +323,8 @@ pub record ExprFired (r : Engine) (p : Place) (s s' : Progress) (e e' : Expr) : 
   pub known : s'.known ≡ s.known
 
 pub record StmtFired (r : Engine) (w : Bool) (s s' : Progress) (x x' : Stmt) : Type 0 where
-  pub rule : StmtRule (here r s) w x x'
-  pub fired : s'.is_dirty ≡ true
+  pub to : StmtTo (here r s) w s.is_dirty s'.is_dirty x x'
+  pub lighter : stmt_weight x' < stmt_weight x
   pub known : s'.known ≡ s.known
 
 -- nothing is left to reduce at the node: it is kept, and the state
@@ -333,6 +339,11 @@ pub record StmtKept (r : Engine) (s s' : Progress) (x x' : Stmt) : Type 0 where
   pub same : x' ≡ x
   pub state : s' ≡ s
   pub reduced : IsReducedNode r (OfStmt x)
+
+-- the parts of a statement, or (not opened) what rules made of it before its parts were gone over
+abbrev pub StmtOpened : Bool → Engine → Bool → Progress → Progress → Stmt → Stmt → Type 0
+StmtOpened true r w s s' x x' = StmtPartsRun r w s s' x x'
+StmtOpened false r w s s' x x' = StmtFired r w s s' x x'
 
 -- ---- what a rule makes of a node, wherever that stands
 

@@ -5,13 +5,13 @@ use Rattle.rhai_tree.specs.declared.stmt.Stmt as declared_stmt
 use Rattle.rhai_meaning.specs.Engine.{Engine}
 use Rattle.rhai_meaning.specs.Tree.{Expr, Stmt}
 use Rattle.rhai_meaning.specs.Walk.{OfExpr, OfStmt}
-use Rattle.rhai_reading.proofs.Cases.{ExprCase, array_case, variable_case, braces_case, call_case, dot_case, index_case, and_case, or_case, coalesce_case, StmtCase, if_case, while_case, expression_case, call_statement_case}
+use Rattle.rhai_reading.proofs.Cases.{ExprCase, array_case, variable_case, braces_case, call_case, dot_case, index_case, and_case, or_case, coalesce_case, StmtCase, if_case, switch_case, while_case, expression_case, call_statement_case}
 use Rattle.rhai_rewriting.specs.Known.{Known}
 use Rattle.rhai_rewriting.specs.Residue.{IsReducedNode}
 use Rattle.rhai_rewriting.specs.Shapes.{is_expression}
 use Rattle.rhai_rewriting.specs.Steps.{AnswersNone, Place, Progress}
 use Rattle.rhai_steps.specs.NodeSteps.{ExprStep}
-use Rattle.rhai_steps.proofs.NodeKinds.{NoArray, NoBraces, NoCall, NoVariable, NoAnd, NoOr, NoCoalesce, NoDot, NoIndex, NoIf, NoExpression, NoCallStatement, NoWhile}
+use Rattle.rhai_steps.proofs.NodeKinds.{NoArray, NoBraces, NoCall, NoVariable, NoAnd, NoOr, NoCoalesce, NoDot, NoIndex, NoIf, NoExpression, NoCallStatement, NoSwitch, NoWhile}
 use Rattle.rhai_steps.proofs.Stepping.{expr_stays}
 use Rattle.rhai_rules.specs.Settled.{is_braces, known_value, is_settled_in_braces}
 
@@ -45,8 +45,9 @@ nothing_left (array_case es p) na nb nc nd ne nf ng nh ni = absurd (ni es p refl
 nothing_left _ na nb nc nd ne nf ng nh ni = expr_stays tt refl (λ i. refl)
 
 -- a statement of no kind that has one
-pub no_rule : (r : Engine) {x : declared_stmt.Stmt} {s : Stmt} → StmtCase x s → NoCallStatement x → NoIf x → NoWhile x → IsReducedNode r (OfStmt s)
-no_rule r (call_statement_case c p) na nb nc = absurd (na c p refl)
-no_rule r (if_case f p) na nb nc = absurd (nb f p refl)
-no_rule r (while_case f p) na nb nc = absurd (nc f p refl)
-no_rule r _ na nb nc = tt
+pub no_rule : (r : Engine) {x : declared_stmt.Stmt} {s : Stmt} → StmtCase x s → NoCallStatement x → NoIf x → NoWhile x → NoSwitch x → IsReducedNode r (OfStmt s)
+no_rule r (call_statement_case c p) na nb nc nd = absurd (na c p refl)
+no_rule r (if_case f p) na nb nc nd = absurd (nb f p refl)
+no_rule r (while_case f p) na nb nc nd = absurd (nc f p refl)
+no_rule r (switch_case b p) na nb nc nd = absurd (nd b p refl)
+no_rule r _ na nb nc nd = tt

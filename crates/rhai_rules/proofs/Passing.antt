@@ -34,3 +34,6 @@ stmt_under r w s s' x x' o h = IfOk-weaker o (λ step. (r : Engine) → StmtStep
 
 pub stmt_wanted : (r : Engine) (w : Bool) (s s' : Progress) (x x' : Stmt) (o : Result NodeStep OutOfMemory) → IfOk o (λ step. (w : Bool) → StmtStep step r w s s' x x') → IfOk o (λ step. StmtStep step r w s s' x x')
 stmt_wanted r w s s' x x' o h = IfOk-weaker o (λ step. (w : Bool) → StmtStep step r w s s' x x') (λ step. StmtStep step r w s s' x x') (λ step q. q w) h
+
+pub stmt_anywhere : (r : Engine) (w : Bool) (s s' : Progress) (x x' : Stmt) (o : Result NodeStep OutOfMemory) → IfOk o (λ step. (r : Engine) (w : Bool) → StmtStep step r w s s' x x') → IfOk o (λ step. StmtStep step r w s s' x x')
+stmt_anywhere r w s s' x x' o h = IfOk-weaker o (λ step. (r : Engine) (w : Bool) → StmtStep step r w s s' x x') (λ step. StmtStep step r w s s' x x') (λ step q. q r w) h

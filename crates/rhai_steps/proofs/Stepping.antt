@@ -6,6 +6,7 @@ use Rattle.rhai_meaning.specs.Walk.{OfExpr, OfStmt}
 use Rattle.rhai_rewriting.specs.Clear.{known_value}
 use Rattle.rhai_rewriting.specs.Residue.{IsReducedNode}
 use Rattle.rhai_rewriting.specs.Steps.{AnswersNone, Progress, here, Place, Anywhere, ExprRewrite, StmtKept, StmtRewrite}
+use Rattle.rhai_rewriting.proofs.Firing.{stmt_fired_by}
 use Rattle.rhai_steps.specs.declared.step.NodeStep.{NodeStep}
 use Rattle.rhai_steps.specs.NodeSteps.{ExprStep, StmtStep, step_by}
 
@@ -33,5 +34,5 @@ expr_put {r = r} {s = s} d k q = (record { rule = q.rule (here r s); stays = q.s
 pub stmt_put : (r : Engine) (o w : Bool) (s s' : Progress) (x x' : Stmt) (n : NodeStep) → n ≡ step_by o → s'.is_dirty ≡ true → s'.known ≡ s.known → StmtRewrite o w x x' → StmtStep n r w s s' x x'
 stmt_put r o w s s' x x' n h d k q = subst (λ n. StmtStep n r w s s' x x') (sym h) (by o q) where
   by : (o : Bool) → StmtRewrite o w x x' → StmtStep (step_by o) r w s s' x x'
-  by true q = record { rule = q.rule (here r s); fired = d; known = k }
-  by false q = (record { rule = q.rule (here r s); fired = d; known = k }, q.keeps refl)
+  by true q = stmt_fired_by d k (q.rule (here r s))
+  by false q = (stmt_fired_by d k (q.rule (here r s)), q.keeps refl)

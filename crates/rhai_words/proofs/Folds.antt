@@ -18,6 +18,7 @@ use Rattle.rhai_rewriting.specs.Parts.{constant_of, named}
 use Rattle.rhai_rewriting.specs.Residue.{IsReducedExpr}
 use Rattle.rhai_rewriting.specs.Rules as rule
 use Rattle.rhai_rewriting.specs.Rules.{ExprRule, StmtRule}
+use Rattle.rhai_rewriting.proofs.Firing.{stmt_fired_by}
 use Rattle.rhai_rewriting.specs.Steps.{Progress, here, Place, KeepsStmtParts, StmtKept}
 use Rattle.rhai_rewriting.proofs.Keeping.{keeps_constant_of, may_be_constant_of}
 use Rattle.rhai_rewriting.proofs.Plain.{is_plain_value, folded_plain}
@@ -178,7 +179,7 @@ pub value_put_as_statement : {r : Engine} {w : Bool} {s s' : Progress} {x' : Stm
 value_put_as_statement {r = r} {w = w} {s = s} {s' = s'} {v = v} (FnCallStmt c es) h q =
     let f = folds r c es v (sym h) in
     subst (λ a. StmtStep step.Rewritten r w s s' (FnCallStmt c es) a) (sym q.constant)
-    (record { rule = stmt_folds (here r s) w f; fired = q.fired; known = q.known }, keeps_held (FnCallStmt c es) v)
+    (stmt_fired_by q.fired q.known (stmt_folds (here r s) w f), keeps_held (FnCallStmt c es) v)
 value_put_as_statement _ h q = absurd cc
 
 -- a call without a value has none by its operator

@@ -67,7 +67,7 @@ module _ (Q : ℕ → Type 0) where
   all_left as' (i ∷ is) h = all_with (arm_decides (arm_of as' i)) i (left_arms as' is) h.0 (all_left as' is h.1)
 
   -- of arms that are among them
-  named_holds : (i : ℕ) (js : List ℕ) → names_arm i js ≡ true → AllArms js → Q i
+  pub named_holds : (i : ℕ) (js : List ℕ) → names_arm i js ≡ true → AllArms js → Q i
   named_holds i [] e h = absurd (let z : false ≡ true = e in cc)
   named_holds i (j ∷ js) e h = by (i == j) refl e (λ r. named_holds i js r h.1) where
     by : (b : Bool) → i == j ≡ b → b || names_arm i js ≡ true → (names_arm i js ≡ true → Q i) → Q i

@@ -8,7 +8,7 @@ use Rattle.rhai_meaning.specs.Tree.{SwitchCase, SwitchRange, SwitchTable, Arms, 
 use Rattle.rhai_meaning.proofs.PureTrees.{split}
 use Rattle.rhai_rewriting.specs.Tables.{arm_of, arm_decides, left_with, left_arms, RangesTo, no_ranges, range_stays, false_range_goes, CasesTo, no_cases, case_stays, case_shrinks, empty_case_goes}
 
-join : (a b : Bool) → a ≡ true → b ≡ true → a && b ≡ true
+pub join : (a b : Bool) → a ≡ true → b ≡ true → a && b ≡ true
 join a b h k = ap (λ x. x && b) h ∙ k
 
 -- ---- what holds of every arm of a list holds of those that are left
@@ -49,7 +49,7 @@ module _ (as' : Arms) where
   ranges_all p (false_range_goes {r = r} {rs = rs} x q) h = ranges_all p q (split (p r) (are_all p rs) h).1
 
   -- what holds of a case list holds of it with the arms that are left
-  abbrev Shrinks : (SwitchCase → Bool) → Type 0
+  abbrev pub Shrinks : (SwitchCase → Bool) → Type 0
   Shrinks p = (c : SwitchCase) → p c ≡ true → p (record { value = c.value; arms = left_arms as' c.arms }) ≡ true
 
   cases_all : (p : SwitchCase → Bool) → Shrinks p → {qs : List SwitchRange} {cs ds : List SwitchCase} → CasesTo as' qs cs ds → are_all p cs ≡ true → are_all p ds ≡ true
@@ -70,7 +70,8 @@ module _ (as' : Arms) where
 
   -- ---- and of the table
 
-  module _ (t : SwitchTable) (cs : List SwitchCase) (qs : List SwitchRange) (q : CasesTo as' qs t.cases cs) (p : RangesTo as' t.ranges qs) where
+  -- of cases and ranges of which all holds that held of the table's
+  module _ (t : SwitchTable) (cs : List SwitchCase) (qs : List SwitchRange) (cases_hold : (p : SwitchCase → Bool) → Shrinks p → are_all p t.cases ≡ true → are_all p cs ≡ true) (ranges_hold : (p : SwitchRange → Bool) → are_all p t.ranges ≡ true → are_all p qs ≡ true) where
     abbrev smaller : SwitchTable
     smaller = record { cases = cs; ranges = qs; default = t.default }
 
@@ -80,13 +81,16 @@ module _ (as' : Arms) where
         let y = split (nat_lt d (count_arms as') && condition_at as' d) (spares d t) h in
         let z = split (are_all (λ l. not (names_arm d l.arms)) t.cases) (are_all (λ r. not (r.arm == d)) t.ranges) y.1 in
         join (nat_lt d (count_arms as') && condition_at as' d) (spares d smaller) y.0
-        (join (are_all (λ l. not (names_arm d l.arms)) cs) (are_all (λ r. not (r.arm == d)) qs) (cases_all (λ l. not (names_arm d l.arms)) (case_spares_still d) q z.0) (ranges_all (λ r. not (r.arm == d)) p z.1))
+        (join (are_all (λ l. not (names_arm d l.arms)) cs) (are_all (λ r. not (r.arm == d)) qs) (cases_hold (λ l. not (names_arm d l.arms)) (case_spares_still d) z.0) (ranges_hold (λ r. not (r.arm == d)) z.1))
 
-    pub fits_still : is_table as' t ≡ true → is_table as' smaller ≡ true
-    fits_still h =
+    pub fits_smaller : is_table as' t ≡ true → is_table as' smaller ≡ true
+    fits_smaller h =
         let n = count_arms as' in
         let y = split (are_all (case_fits n) t.cases && are_all (λ r. nat_lt r.arm n) t.ranges) (default_fits as' t t.default) h in
         let z = split (are_all (case_fits n) t.cases) (are_all (λ r. nat_lt r.arm n) t.ranges) y.0 in
         join (are_all (case_fits n) cs && are_all (λ r. nat_lt r.arm n) qs) (default_fits as' smaller t.default)
-        (join (are_all (case_fits n) cs) (are_all (λ r. nat_lt r.arm n) qs) (cases_all (case_fits n) (case_fits_still n) q z.0) (ranges_all (λ r. nat_lt r.arm n) p z.1))
+        (join (are_all (case_fits n) cs) (are_all (λ r. nat_lt r.arm n) qs) (cases_hold (case_fits n) (case_fits_still n) z.0) (ranges_hold (λ r. nat_lt r.arm n) z.1))
         (default_still t.default y.1)
+
+  pub fits_still : (t : SwitchTable) (cs : List SwitchCase) (qs : List SwitchRange) → CasesTo as' qs t.cases cs → RangesTo as' t.ranges qs → is_table as' t ≡ true → is_table as' (record { cases = cs; ranges = qs; default = t.default }) ≡ true
+  fits_still t cs qs q p = fits_smaller t cs qs (λ r s. cases_all r s q) (λ r. ranges_all r p)

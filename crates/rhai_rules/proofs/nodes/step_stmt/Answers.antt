@@ -2,7 +2,7 @@ use Rattle.rhai_engine.specs.EngineInfo.{engine_of}
 use Rattle.rhai_reading.proofs.Cases.{stmt_cases}
 use Rattle.rhai_steps.proofs.Stepping.{stmt_stays}
 use Rattle.rhai_rules.proofs.Kept.{no_rule}
-use Rattle.rhai_rules.proofs.Passing.{stmt_under, stmt_wanted}
+use Rattle.rhai_rules.proofs.Passing.{stmt_anywhere, stmt_under, stmt_wanted}
 use Rattle.rhai_rules.proofs.nodes.step_stmt.Goals as goal
 
 pub returns-in-Expr : goal.returns-in-Expr
@@ -29,5 +29,8 @@ returns-in-Assignment c = c.step_assignment.ensures.step _
 pub returns-in-Share : goal.returns-in-Share
 returns-in-Share c = c.step_share.ensures.step _ _
 
+pub returns-in-Switch : goal.returns-in-Switch
+returns-in-Switch c = stmt_anywhere _ _ _ _ _ _ _ c.step_switch.ensures
+
 pub returns-in_default : goal.returns-in_default
-returns-in_default c = stmt_stays (no_rule (engine_of c.args.info.now) (stmt_cases c.args.statement.now) c.in_default.not-FnCall c.in_default.not-If c.in_default.not-While)
+returns-in_default c = stmt_stays (no_rule (engine_of c.args.info.now) (stmt_cases c.args.statement.now) c.in_default.not-FnCall c.in_default.not-If c.in_default.not-While c.in_default.not-Switch)

@@ -5,8 +5,8 @@ use Rattle.rhai_values.proofs.Exact.{equal}
 use Rattle.rhai_values.specs.Reading.{value_of}
 use Rattle.rhai_reading.specs.Reading.{table_of}
 use Rattle.rhai_meaning.specs.Control.{case_for}
-use Rattle.rhai_forms.proofs.Cases.{listed_is}
-use Rattle.rhai_forms.proofs.choosing.case_list.Goals as goal
+use Rattle.rhai_nodes.proofs.Listed.{listed_is}
+use Rattle.rhai_nodes.proofs.switch.case_list.Goals as goal
 
 pub returns : goal.returns
 returns c =

@@ -1,0 +1,13 @@
+use Rattle.std.proofs.Common.{sym, ap, ◌∙◌, subst}
+use Rattle.rhai_known.specs.State.{progress}
+use Rattle.rhai_reading.specs.Reading.{stmt_of}
+use Rattle.rhai_rewriting.specs.Rules.{StmtRule}
+use Rattle.rhai_rewriting.specs.Steps.{here}
+use Rattle.rhai_rewriting.proofs.Firing.{stmt_fired_by}
+use Rattle.rhai_switch_rules.proofs.decide.decide_switch.Goals as goal
+
+pub returns : goal.returns
+returns c = λ r w.
+    let k = here r (progress c.args.state.now) in
+    stmt_fired_by c.note_fired.ensures.dirty c.note_fired.ensures.known
+    (subst (λ y. StmtRule k w (stmt_of c.args.statement.now) y) (sym (ap stmt_of c.put_stmt.ensures)) (c.in_ok-made.ensures k w))

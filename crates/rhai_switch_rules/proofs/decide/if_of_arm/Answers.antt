@@ -1,0 +1,20 @@
+use Rattle.std.proofs.Common.{◌≡◌, Some, sym, ap, ◌∙◌, subst}
+use Rattle.std.specs.Option.{option_map}
+use Rattle.std.proofs.lemmas.Result.{IfOk-weaker}
+use Rattle.rhai_tree.specs.declared.stmt.Stmt.{Stmt}
+use Rattle.rhai_nodes.specs.Blocks.{answered}
+use Rattle.rhai_meaning.specs.Tree.{If}
+use Rattle.rhai_reading.specs.Reading.{arms_of, expr_of, expressions_of, stmt_of, table_of}
+use Rattle.rhai_rewriting.specs.Tables.{arm_of, default_answer}
+use Rattle.rhai_switch_rules.specs.Deciding.{IsIfOf}
+use Rattle.rhai_switch_rules.proofs.decide.if_of_arm.Goals as goal
+
+pub unreachable-requires : goal.unreachable-requires
+unreachable-requires c = c.requires.there (c.in-None.ensures ∙ c.take_default-default.ensures.others c.args.place c.requires.other)
+
+pub returns : goal.returns
+returns c =
+    let o = default_answer (arms_of (expressions_of c.args.table.now)) (table_of c.args.table.now).default in
+    let there = c.in-Some.ensures ∙ c.take_default-default.ensures.others c.args.place c.requires.other in
+    IfOk-weaker _ (λ (s : Stmt). stmt_of s ≡ If (expr_of c.in-Some.condition) (answered (Some (expr_of c.in-Some.answer))) (answered (option_map expr_of c.take_default-default.result))) _
+    (λ s e. subst (λ p. IsIfOf p o (stmt_of s)) there (e ∙ ap (λ p. If (expr_of c.in-Some.condition) (answered (Some (expr_of c.in-Some.answer))) (answered p)) c.take_default-default.ensures.answer)) c.if_answers.ensures
