@@ -1,4 +1,5 @@
 pub mod Flattening
 pub mod Parts
+pub mod Scopes
 pub mod UpTo
 pub mod Swept

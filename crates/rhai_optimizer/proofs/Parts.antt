@@ -28,10 +28,10 @@ use Rattle.rhai_meaning.specs.Tree.{Expr, Variable, Dot, Index, Arms, MaybeExpr,
 use Rattle.rhai_meaning.specs.Shape.{catch_name}
 use Rattle.rhai_rewriting.specs.Clear.{HasClearParts, IsClear}
 use Rattle.rhai_steps.proofs.NodeKinds.{NoText, NoArray, NoMap, NoBraces, NoCall, NoDot, NoIndex, NoAnd, NoOr, NoCoalesce, NoMethod, NoVariable, NoIf, NoWhile, NoDo, NoFor, NoVar, NoAssignment, NoCallStatement, NoBlock, NoTry, NoExpression, NoBreak, NoReturn, NoImport, NoSwitch}
-use Rattle.rhai_rewriting.specs.Context.{under, knowing, known_behind, ListKind}
+use Rattle.rhai_rewriting.specs.Context.{known_behind}
 use Rattle.rhai_rewriting.specs.Known.{Known}
-use Rattle.rhai_rewriting.specs.Rewriting.{RestTo, StmtsTo, same_expr, same_stmt, flag_forgotten}
-use Rattle.rhai_rewriting.specs.Steps.{Anywhere, ExprRun, ArmsRun, Progress, is_chain_node, is_method, variable, catch_front, StepsRun, ArgumentRun, ChainRun, TargetRun, MaybeRun, SidesRun, LinkRun, ForRun, ExprPartsRun, StmtPartsRun, StmtReduced, StmtPassed, StmtRun, StmtsRun, SubjectRun, HasReducedSubject}
+use Rattle.rhai_rewriting.specs.Rewriting.{same_expr, same_stmt}
+use Rattle.rhai_rewriting.specs.Steps.{Anywhere, ExprRun, ArmsRun, Progress, is_chain_node, is_method, variable, catch_front, StepsRun, ArgumentRun, ChainRun, TargetRun, MaybeRun, SidesRun, LinkRun, ForRun, ExprPartsRun, StmtPartsRun, StmtReduced, StmtPassed, StmtRun, SubjectRun, HasReducedSubject}
 use Rattle.rhai_rewriting.specs.Residue.{ExprParts, StmtParts}
 use Rattle.rhai_known.specs.State.{known_entry, known_of}
 use Rattle.rhai_switch_rules.specs.Deciding.{Decided}
@@ -185,12 +185,6 @@ counted n es h = h ∙ sym (length-map es known_entry)
 
 pub forgotten : (n : ℕ) (es es' : List (Text × Option Dynamic)) → es' ≡ drop (length es - n) es → known_of es' ≡ drop (length (known_of es) - n) (known_of es)
 forgotten n es es' h = ap known_of h ∙ sym (drop-map known_entry (length es - n) es) ∙ ap (λ k. drop (k - n) (known_of es)) (sym (length-map es known_entry))
-
--- ---- a whole script
-
--- whatever the flag was, and where no name is known
-pub run_forgetting : {r : Engine} {m : ListKind} {s s' : Progress} {ss ss' : Stmts} → s.known ≡ [] → StmtsRun r m s s' ss ss' → StmtsTo (under r) m true true ss ss'
-run_forgetting {r = r} {m = m} {s = s} {s' = s'} {ss = ss} {ss' = ss'} h q = flag_forgotten (subst (λ ks. RestTo (knowing r ks) m true s.is_dirty s'.is_dirty ss ss') h q.to)
 
 -- ---- a `switch` whose parts were written
 

@@ -1,5 +1,5 @@
 -- A list that is rewritten in its own memory, an item at a time: the first n are done, the others are to come.
-use Rattle.std.proofs.Common.{◌≡◌, ◌<◌, ◌≤◌, ℕ, ◌+◌, Bool, List, [], ◌∷◌, ◌++◌, length, get_or, set, take, drop, sym, ap, ◌∙◌, subst, arith, append_assoc, append-nil, refl}
+use Rattle.std.proofs.Common.{◌≡◌, ◌<◌, ◌≤◌, ℕ, ◌+◌, Bool, List, [], ◌∷◌, ◌++◌, length, get_or, set, take, drop, sym, ap, ◌∙◌, subst, arith, append_assoc, append-nil}
 use Rattle.std.proofs.lemmas.List.{drop_more, drop_all, take_all, take_more_set, drop-set-lt, length-set}
 use Rattle.rhai_tree.specs.declared.expr.Expr as declared_expr
 use Rattle.rhai_tree.specs.declared.stmt.Stmt as declared_stmt

@@ -1,9 +1,10 @@
-//! The names that statements declare.
+//! The names that statements declare, and those of a scope.
 
 #![tactic(auto, using(rhai_reading::specs::Reading::shapes))]
 
-ghost use Rattle.std.specs.Prelude.{◌≡◌, ◌∷◌, ◌++◌, IfOk, OnOk};
+ghost use Rattle.std.specs.Prelude.{◌≡◌, ◌∷◌, ◌++◌, IfOk, None, OnOk, Some, cond};
 ghost use Rattle.std.specs.Cow.{cow_value};
+ghost use Rattle.std.specs.Map.Iter.{deref};
 ghost use Rattle.std.specs.Option.{option_map};
 ghost use Rattle.rhai_values.specs.Reading.{value_of};
 ghost use Rattle.rhai_known.specs.Bindings.{read};
@@ -12,11 +13,12 @@ ghost use Rattle.rhai_reading.specs.Reading.{counter_of, expr_of, is_const, stmt
 ghost use Rattle.rhai_meaning.specs.Shape.{catch_name};
 ghost use Rattle.rhai_rewriting.specs.Steps.{variable, loop_front, catch_front};
 ghost use Rattle.rhai_optimizer.specs.Parts.{declared_value};
+ghost use Rattle.rhai_optimizer.specs.Scopes.{given_onto, known_onto};
 ghost use Rattle.rhai_rewriting.specs.Context.{known_behind};
 
 use bitflags::Flags;
 use rhai_ast::{Expr, Literals, Stmt};
-use rhai_base::{ASTFlags, Dynamic, Ident, ImmutableString, OutOfMemory};
+use rhai_base::{ASTFlags, Dynamic, Ident, ImmutableString, OutOfMemory, Scope};
 use rhai_rules::OptimizerState;
 use std::alloc::Global;
 use std::borrow::Cow;
@@ -118,5 +120,57 @@ pub fn push_catch_name(state: &mut OptimizerState<'_>, expr: &Expr) -> Result<()
             push_variable(state, name)
         }
         _ => Ok(()),
+    }
+}
+
+/// A constant's value, lent.
+fn lent<'a>(is_constant: bool, value: &'a Dynamic) -> Option<Cow<'a, Dynamic>>
+    ensures { read result ≡ cond is_constant (Some value.now) None }
+{
+    if is_constant {
+        Some(Cow::Borrowed(value))
+    } else {
+        None
+    }
+}
+
+/// Notes a name of a scope.
+fn push_entry<'a>(
+    alloc: Global,
+    state: &mut OptimizerState<'a>,
+    name: &str,
+    is_constant: bool,
+    value: &'a Dynamic,
+) -> Result<(), OutOfMemory>
+    ensures { OnOk result ((state.new.is_dirty ≡ state.old.is_dirty) × ((progress state.new).known ≡ record { name = name.now; value = option_map value_of (cond is_constant (Some value.now) None) } ∷ (progress state.old).known)) }
+{
+    let name = ImmutableString::new(alloc, name)?;
+    state.push_var(name, lent(is_constant, value))
+}
+
+fn push_entries<'a>(
+    alloc: Global,
+    state: &mut OptimizerState<'a>,
+    scope: &'a Scope,
+) -> Result<(), OutOfMemory>
+    ensures { OnOk result ((state.new.is_dirty ≡ state.old.is_dirty) × ((progress state.new).known ≡ known_onto scope.now (progress state.old).known)) }
+{
+    for (name, is_constant, value) in scope.iter() {
+        push_entry(alloc, state, name, is_constant, value)?;
+    }
+    Ok(())
+}
+
+/// Notes the names of a scope, where one is given. Values are lent.
+pub fn push_scope<'a>(
+    alloc: Global,
+    state: &mut OptimizerState<'a>,
+    scope: Option<&'a Scope>,
+) -> Result<(), OutOfMemory>
+    ensures { OnOk result ((state.new.is_dirty ≡ state.old.is_dirty) × ((progress state.new).known ≡ given_onto (option_map deref scope.entry) (progress state.old).known)) }
+{
+    match scope {
+        Some(scope) => push_entries(alloc, state, scope),
+        None => Ok(()),
     }
 }

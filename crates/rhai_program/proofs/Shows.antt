@@ -15,7 +15,8 @@ use Rattle.rhai_script.specs.Script.{script_of}
 use Rattle.rhai_script.specs.declared.ast.AST.{AST}
 use Rattle.rhai_engine.specs.EngineInfo.{nothing_set}
 use Rattle.rhai_optimizer.specs.Body.{IsReducedBody}
-use Rattle.rhai_rewriting.specs.Refines.{Refines}
+use Rattle.rhai_rewriting.specs.Refines.{Refines, RefinesWhere}
+use Rattle.rhai_rewriting.proofs.simulation.Agreement.{agrees_nothing}
 use Rattle.rhai_optimizer.specs.Source.{source_of}
 use Rattle.rhai_known.specs.declared.level.OptimizationLevel.{OptimizationLevel}
 use Rattle.rhai_known.specs.declared.level.OptimizationLevel.TheVariants as level
@@ -34,17 +35,21 @@ pushed_show script after shown empty a b c d same h e f g i =
     let before : b ≡ codes "before:\n" ++ script_text (built_in script) = f ∙ ap (λ t. t ++ lines_text shown) start ∙ ap (λ t. codes "before:\n" ++ t) lines in
     i ∙ ap (λ t. t ++ script_text after) (g ∙ ap (λ t. t ++ codes "after:\n") before)
 
+-- where nothing was known, any scope agrees
+from_any_scope : {engine : Engine} {p p' : Script} → RefinesWhere engine [] p p' → Refines engine p p'
+from_any_scope {engine = engine} q = record { runs = λ host scope e. q.runs host scope e (agrees_nothing engine.constants scope) }
+
 -- the optimiser's answer for a built-in script
 pub optimized_built_in : (at : OptimizationLevel) (engine : Engine) (ss : List Stmt) (fs : List (Rc ScriptFuncDef Global)) (script : BuiltinScript) (ast : AST)
     → engine ≡ nothing_set → stmts_of ss ≡ statements_of script → fs ≡ []
-    → Refines engine (source_of ss fs) (script_of ast) → ast.lib.value.functions ≡ definitions_table (map rc_value fs)
+    → RefinesWhere engine [] (source_of ss fs) (script_of ast) → ast.lib.value.functions ≡ definitions_table (map rc_value fs)
     → (at ≡ level.None → ast.body.block ≡ ss) → (at ≢ level.None → IsReducedBody engine (script_of ast).statements)
     → Optimized at (built_in script) (script_of ast)
 optimized_built_in at engine ss fs script ast e statements none runs table kept reduced =
     let source : source_of ss fs ≡ built_in script = ap (source_of ss) none ∙ ap (λ (x : Stmts). record { statements = x; functions = [] }) statements in
     let functions : functions_of ast.lib.value ≡ [] = ap (map function_of) table ∙ ap (λ (x : List (Rc ScriptFuncDef Global)). map function_of (definitions_table (map rc_value x))) none in
     record {
-      runs = subst (λ (x : Engine). Refines x (built_in script) (script_of ast)) e (subst (λ (x : Script). Refines engine x (script_of ast)) source runs);
+      runs = subst (λ (x : Engine). Refines x (built_in script) (script_of ast)) e (subst (λ (x : Script). Refines engine x (script_of ast)) source (from_any_scope runs));
       functions = functions;
       kept = λ h. ap (λ (x : Stmts). record { statements = x; functions = functions_of ast.lib.value }) (ap stmts_of (kept h) ∙ statements)
           ∙ ap (λ (x : List Function). record { statements = statements_of script; functions = x }) functions;

@@ -1,15 +1,15 @@
 -- Nodes at which no rule can fire, of whatever kind else.
-use Rattle.std.proofs.Common.{◌≡◌, true, false, List, Option, None, refl}
+use Rattle.std.proofs.Common.{◌≡◌, true, false, List, None, refl}
 use Rattle.rhai_tree.specs.declared.expr.Expr as declared_expr
 use Rattle.rhai_tree.specs.declared.stmt.Stmt as declared_stmt
 use Rattle.rhai_meaning.specs.Engine.{Engine}
 use Rattle.rhai_meaning.specs.Tree.{Expr, Stmt}
-use Rattle.rhai_meaning.specs.Walk.{OfExpr, OfStmt}
+use Rattle.rhai_meaning.specs.Walk.{OfStmt}
 use Rattle.rhai_reading.proofs.Cases.{ExprCase, array_case, variable_case, braces_case, call_case, dot_case, index_case, and_case, or_case, coalesce_case, StmtCase, if_case, switch_case, while_case, expression_case, call_statement_case}
 use Rattle.rhai_rewriting.specs.Known.{Known}
 use Rattle.rhai_rewriting.specs.Residue.{IsReducedNode}
 use Rattle.rhai_rewriting.specs.Shapes.{is_expression}
-use Rattle.rhai_rewriting.specs.Steps.{AnswersNone, Place, Progress}
+use Rattle.rhai_rewriting.specs.Steps.{Place, Progress}
 use Rattle.rhai_steps.specs.NodeSteps.{ExprStep}
 use Rattle.rhai_steps.proofs.NodeKinds.{NoArray, NoBraces, NoCall, NoVariable, NoAnd, NoOr, NoCoalesce, NoDot, NoIndex, NoIf, NoExpression, NoCallStatement, NoSwitch, NoWhile}
 use Rattle.rhai_steps.proofs.Stepping.{expr_stays}

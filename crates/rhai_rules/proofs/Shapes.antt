@@ -13,7 +13,7 @@ use Rattle.rhai_rewriting.specs.Context.{Context}
 use Rattle.rhai_rewriting.specs.Residue.{holds_constant}
 use Rattle.rhai_rewriting.specs.Rules as rule
 use Rattle.rhai_rewriting.specs.Rules.{ExprRule}
-use Rattle.rhai_rewriting.specs.Steps.{Progress, here, Place, Anywhere, AsBase, AsGuard, ExprRewrite}
+use Rattle.rhai_rewriting.specs.Steps.{Progress, Place, Anywhere, AsBase, AsGuard}
 use Rattle.rhai_rewriting.proofs.Keeping.{keeps_constant, may_be_constant}
 use Rattle.rhai_steps.specs.NodeSteps.{Puts, ExprStep}
 use Rattle.rhai_steps.specs.Standing.{is_root, may_stand}

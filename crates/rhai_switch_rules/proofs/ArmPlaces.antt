@@ -1,8 +1,8 @@
 -- Arms by their places.
-use Rattle.std.proofs.Common.{◌≡◌, ℕ, zero, suc, ◌<◌, ◌≤◌, ◌∙◌, Bool, take, List, [], ◌∷◌, Option, Some, None, get_or, set, length, refl, sym, ap, arith}
+use Rattle.std.proofs.Common.{◌≡◌, ℕ, zero, suc, ◌<◌, ◌≤◌, ◌∙◌, Bool, take, List, [], ◌∷◌, Some, None, get_or, set, length, refl, sym, ap, arith}
 use Rattle.rhai_tree.specs.declared.expr.BinaryExpr.{BinaryExpr}
 use Rattle.rhai_tree.specs.declared.stmt.Stmt as declared_stmt
-use Rattle.rhai_meaning.specs.Tree.{Expr, Arms, no_arms, arm, count_arms, Stmt}
+use Rattle.rhai_meaning.specs.Tree.{Expr, no_arms, arm, count_arms, Stmt}
 use Rattle.rhai_reading.proofs.Cases.{StmtCase, switch_case}
 use Rattle.rhai_steps.proofs.NodeKinds.{NoSwitch}
 use Rattle.rhai_switch_rules.specs.Deciding.{arms_in, default_in, choice_at}

@@ -1,12 +1,10 @@
 -- What a `switch` is decided to, by what is left of its arms.
 use Rattle.std.proofs.Common.{◌≡◌, ℕ, Bool, true, false, cond, List, [], ◌∷◌, Option, Some, None, refl, sym, ap, ◌∙◌, subst}
-use Rattle.std.specs.Prelude.{◌==◌, ◌&&◌}
-use Rattle.std.specs.Option.{option_map}
 use Rattle.std.proofs.lemmas.Bool.Decides.{Decides-eqb}
 use Rattle.rhai_values.specs.Value.{Value, is_hashable}
-use Rattle.rhai_meaning.specs.Constants.{constant_value, constant_bool}
+use Rattle.rhai_meaning.specs.Constants.{constant_value}
 use Rattle.rhai_meaning.specs.Control.{chosen}
-use Rattle.rhai_meaning.specs.Tree.{SwitchTable, Expr, Arms, Stmt, If, Switch, Block, ExprStmt, no_stmts, stmt}
+use Rattle.rhai_meaning.specs.Tree.{SwitchTable, Expr, Arms, Stmt, If, Switch, ExprStmt, no_stmts, stmt}
 use Rattle.rhai_nodes.specs.Blocks.{answered}
 use Rattle.rhai_rewriting.specs.Context.{Context}
 use Rattle.rhai_rewriting.specs.Rules.{StmtRule, switch_answers, switch_is_if, switch_defaults}

@@ -1,6 +1,6 @@
 -- Answers that no list asks for, by the rule `switch_forgets`.
-use Rattle.std.proofs.Common.{◌≡◌, ℕ, zero, suc, ◌+◌, ◌<◌, ◌≤◌, Bool, true, false, not, List, [], ◌∷◌, ◌++◌, Option, Some, None, length, take, set, refl, sym, ap, ◌∙◌, subst, arith}
-use Rattle.std.specs.Prelude.{◌||◌, ◌&&◌, ◌==◌, slice_get, replicate}
+use Rattle.std.proofs.Common.{◌≡◌, ℕ, zero, suc, ◌<◌, ◌≤◌, Bool, true, false, not, List, [], ◌∷◌, ◌++◌, Option, Some, None, length, take, set, refl, sym, ap, ◌∙◌, subst, arith}
+use Rattle.std.specs.Prelude.{◌||◌, ◌==◌, slice_get}
 use Rattle.std.proofs.lemmas.Bool.Decides.{Decides-eqb}
 use Rattle.rhai_meaning.specs.Constants.{is_literal_unit}
 use Rattle.rhai_meaning.specs.Queries.{is_unit}
@@ -11,7 +11,7 @@ use Rattle.rhai_meaning.specs.Weight.{stmt_weight}
 use Rattle.std.proofs.lemmas.List.{take_all, length-set}
 use Rattle.rhai_rewriting.specs.Context.{Context}
 use Rattle.rhai_rewriting.proofs.rules.Statements.{stmt_rule}
-use Rattle.rhai_rewriting.specs.Rewriting.{StmtTo, same_stmt, then_stmt, by_stmt_rule}
+use Rattle.rhai_rewriting.specs.Rewriting.{StmtTo, then_stmt, by_stmt_rule}
 use Rattle.rhai_rewriting.specs.Rules.{switch_forgets}
 use Rattle.rhai_rewriting.specs.Tables.{arm_of, forgotten}
 use Rattle.rhai_switch_rules.specs.Forgetting.{marked, answer_left, forgets, loses_answer, loses_answers}

@@ -1,12 +1,11 @@
 -- The parts of a `switch` stay reduced where its table gets smaller, and where it loses answers that no list asks for.
-use Rattle.std.proofs.Common.{◌≡◌, ℕ, zero, suc, Bool, true, false, cond, List, [], ◌∷◌, ◌++◌, Option, Some, None, refl, sym, ap, ◌∙◌, subst}
-use Rattle.std.specs.Prelude.{slice_get, replicate}
-use Rattle.rhai_meaning.specs.Engine.{Engine}
+use Rattle.std.proofs.Common.{◌≡◌, ℕ, zero, suc, Bool, true, false, List, [], ◌∷◌, Some, refl, sym, ◌∙◌}
+use Rattle.std.specs.Prelude.{slice_get}
 use Rattle.rhai_meaning.specs.Shape.{names_arm}
 use Rattle.rhai_meaning.specs.Tree.{SwitchTable, Expr, Arms, no_arms, arm, Switch}
 use Rattle.rhai_meaning.specs.Walk.{Walk, over_arms, arm_at, arms_at, listed}
 use Rattle.rhai_rewriting.specs.Answering.{AnswersNothing, of_first}
-use Rattle.rhai_rewriting.specs.Residue.{IsReducedNode, every_reached, StmtParts}
+use Rattle.rhai_rewriting.specs.Residue.{IsReducedNode, every_reached}
 use Rattle.rhai_rewriting.specs.Steps.{KeepsStmtParts}
 use Rattle.rhai_rewriting.proofs.rules.Arms.{AllArms}
 use Rattle.rhai_switch_rules.specs.Forgetting.{forgets}

@@ -1,10 +1,10 @@
 -- A `switch` that is not decided is not reducible.
 use Rattle.std.proofs.Common.{◌≡◌, ℕ, Bool, true, false, cond, List, [], ◌∷◌, Option, Some, None, refl, sym, ap, ◌∙◌}
-use Rattle.std.specs.Prelude.{◌==◌, ◌&&◌}
+use Rattle.std.specs.Prelude.{◌&&◌}
 use Rattle.std.proofs.lemmas.Bool.Decides.{Decides-eqb}
-use Rattle.rhai_values.specs.Value.{Value, UnitV, BoolV, IntV, CharV, TextV, is_hashable}
+use Rattle.rhai_values.specs.Value.{Value, is_hashable}
 use Rattle.rhai_meaning.specs.Constants.{constant_value}
-use Rattle.rhai_meaning.specs.Control.{case_for, ranges_with, or_ranges, chosen}
+use Rattle.rhai_meaning.specs.Control.{case_for, ranges_with, or_ranges}
 use Rattle.rhai_meaning.specs.Engine.{Engine}
 use Rattle.rhai_meaning.specs.Shape.{is_table}
 use Rattle.rhai_meaning.specs.Tree.{SwitchTable, Expr, DynamicConstant, BoolConstant, IntegerConstant, CharConstant, StringConstant, UnitConstant, Arms, Stmt, Switch}
@@ -13,7 +13,6 @@ use Rattle.rhai_rewriting.specs.Choosing.{is_short, own_value, is_short_for, is_
 use Rattle.rhai_rewriting.specs.Residue.{IsReducedNode}
 use Rattle.rhai_rewriting.specs.Tables.{arm_of, arm_decides, left_with, left_arms}
 use Rattle.rhai_rewriting.proofs.Reducing.{default_decides}
-use Rattle.rhai_switch_rules.specs.declared.choice.Choice.{Choice}
 use Rattle.rhai_switch_rules.specs.declared.choice.Choice.TheVariants.{Nothing, Answer, Only, Several}
 use Rattle.rhai_switch_rules.specs.Choices.{first_of, choice_of}
 use Rattle.rhai_switch_rules.specs.Deciding.{hashable, is_default, but_default, choice_over, choice_at}

@@ -1,6 +1,6 @@
 -- A table of which something goes over a constant subject, by the rule `switch_narrows`.
 use Rattle.std.proofs.Common.{◌≡◌, ℕ, suc, ◌+◌, ◌<◌, ◌≤◌, Bool, true, false, cond, not, List, [], ◌∷◌, ◌++◌, Option, Some, None, length, refl, sym, ap, ◌∙◌, subst, arith}
-use Rattle.std.specs.Prelude.{◌||◌, ◌&&◌, ◌==◌}
+use Rattle.std.specs.Prelude.{◌||◌, ◌==◌}
 use Rattle.std.specs.Option.{option_map}
 use Rattle.std.proofs.lemmas.Bool.Decides.{Decides-eqb}
 use Rattle.rhai_parts.specs.Names.{are_all}
@@ -14,7 +14,7 @@ use Rattle.rhai_meaning.specs.Weight.{cases_weight, table_weight}
 use Rattle.rhai_meaning.proofs.PureTrees.{split}
 use Rattle.rhai_rewriting.specs.Context.{Context}
 use Rattle.rhai_rewriting.specs.Rules.{StmtRule, switch_narrows}
-use Rattle.rhai_rewriting.specs.Tables.{arm_of, arm_decides, left_with, left_arms, are_of}
+use Rattle.rhai_rewriting.specs.Tables.{arm_of, arm_decides, left_with, left_arms}
 use Rattle.rhai_rewriting.proofs.rules.Arms.{AllArms, all_split, all_left}
 use Rattle.rhai_rewriting.proofs.rules.Fitting.{Shrinks, join, fits_smaller}
 use Rattle.rhai_switch_rules.specs.Shrinking.{loses_arms, has_some}

@@ -10,7 +10,7 @@ use Rattle.rhai_meaning.specs.Weight.{cases_weight, table_weight}
 use Rattle.rhai_rewriting.specs.Answering.{is_that}
 use Rattle.rhai_rewriting.specs.Context.{Context}
 use Rattle.rhai_rewriting.specs.Rules.{StmtRule, switch_shrinks}
-use Rattle.rhai_rewriting.specs.Tables.{arm_of, arm_decides, left_with, left_arms, RangesTo, no_ranges, range_stays, false_range_goes, CasesTo, no_cases, case_stays, case_shrinks, empty_case_goes}
+use Rattle.rhai_rewriting.specs.Tables.{arm_of, arm_decides, left_with, left_arms, RangesTo, no_ranges, range_stays, false_range_goes, CasesTo, no_cases, case_shrinks, empty_case_goes}
 use Rattle.rhai_rewriting.proofs.rules.Arms.{AllArms, all_split, all_left}
 use Rattle.rhai_switch_rules.specs.Cases.{AreDistinct}
 use Rattle.rhai_switch_rules.specs.Shrinking.{is_false_arm, has_false, left_ranges, has_some, loses_arms, is_none, list_shrinks, lists_shrink, stays, left_cases, shrinks, shrunk}

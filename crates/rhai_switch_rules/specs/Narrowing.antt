@@ -1,7 +1,7 @@
 -- Tables of which something goes over a constant subject: what does not stand for it.
-use Rattle.std.specs.Prelude.{ℕ, Bool, true, false, not, ◌||◌, ◌&&◌, cond, List, [], ◌∷◌, length, nat_lt, Option, Some, None}
+use Rattle.std.specs.Prelude.{ℕ, Bool, true, false, not, ◌||◌, cond, List, [], ◌∷◌, length, nat_lt, Option, Some, None}
 use Rattle.rhai_values.specs.Value.{Value, same}
-use Rattle.rhai_meaning.specs.Control.{holds, case_for}
+use Rattle.rhai_meaning.specs.Control.{holds}
 use Rattle.rhai_meaning.specs.Tree.{Arms, SwitchCase, SwitchRange, SwitchTable}
 use Rattle.rhai_rewriting.specs.Tables.{arm_of, arm_decides, left_arms}
 use Rattle.rhai_switch_rules.specs.Shrinking.{loses_arms, has_some}

@@ -1,6 +1,5 @@
 -- Tables of which something goes whatever the subject is.
 use Rattle.std.specs.Prelude.{ℕ, suc, Bool, true, false, not, ◌||◌, ◌&&◌, cond, List, [], ◌∷◌, length, nat_lt, Option, Some, None}
-use Rattle.rhai_values.specs.Value.{Value}
 use Rattle.rhai_meaning.specs.Tree.{Arms, SwitchCase, SwitchRange, SwitchTable}
 use Rattle.rhai_rewriting.specs.Answering.{is_that}
 use Rattle.rhai_rewriting.specs.Tables.{arm_of, arm_decides, left_arms}

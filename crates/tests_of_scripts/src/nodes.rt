@@ -52,7 +52,7 @@ fn changed(
     said: &Said,
 ) -> Option<StmtBlock> {
     if question == "top_level" {
-        return said.made(optimize_top_level(said.alloc, info, statements));
+        return said.made(optimize_top_level(said.alloc, info, None, statements));
     }
     reduce(info, statements.statements_mut().get_mut(0), said);
     Some(statements)

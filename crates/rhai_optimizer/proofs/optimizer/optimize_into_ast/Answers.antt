@@ -2,7 +2,7 @@ use Rattle.std.proofs.Common.{ap, ◌∙◌, false}
 use Rattle.rhai_functions.specs.FnLib.{functions_of}
 use Rattle.rhai_functions.specs.declared.fn_lib.FnLib.{FnLib}
 use Rattle.rhai_script.specs.Contents.{Contents}
-use Rattle.rhai_rewriting.proofs.soundness.Theorem.{refines, lighter}
+use Rattle.rhai_optimizer.proofs.Scopes.{refines_where, lighter}
 use Rattle.rhai_rewriting.proofs.soundness.OperatorCalls.{calls_stay}
 use Rattle.rhai_rewriting.proofs.soundness.WellFormed.{stmts_well}
 use Rattle.rhai_optimizer.proofs.optimizer.optimize_into_ast.Goals as goal
@@ -10,7 +10,7 @@ use Rattle.rhai_optimizer.proofs.optimizer.optimize_into_ast.Goals as goal
 pub returns-clause-refines : goal.returns-clause-refines
 returns-clause-refines c =
     let to = rw (c.new-block.ensures.block) at c.in_ok-block.ensures.to in
-    refines (rw (c.new-2.ensures.body, c.statements_of.ensures) to)
+    refines_where (rw (c.new-2.ensures.body, c.statements_of.ensures) to)
     (ap (λ l. functions_of l.value) c.new-2.ensures.lib ∙ ap functions_of c.in_ok-lib.ensures.ok ∙ c.in_ok-from_functions.ensures.table)
 
 pub returns-clause-lighter : goal.returns-clause-lighter

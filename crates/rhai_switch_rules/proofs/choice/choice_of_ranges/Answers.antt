@@ -1,4 +1,4 @@
-use Rattle.std.proofs.Common.{sym, ap, get_or, drop, ◌+◌, ◌∙◌}
+use Rattle.std.proofs.Common.{sym, ap, drop, ◌+◌, ◌∙◌}
 use Rattle.rhai_values.specs.Reading.{value_of}
 use Rattle.rhai_reading.specs.Reading.{arms_of}
 use Rattle.rhai_rewriting.specs.Tables.{arm_of, arm_decides}

@@ -1,4 +1,4 @@
-use Rattle.std.proofs.Common.{sym, ap, ◌∙◌, subst}
+use Rattle.std.proofs.Common.{sym, ap, subst}
 use Rattle.rhai_known.specs.State.{progress}
 use Rattle.rhai_reading.specs.Reading.{stmt_of}
 use Rattle.rhai_rewriting.specs.Rules.{StmtRule}

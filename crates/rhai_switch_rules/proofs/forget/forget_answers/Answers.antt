@@ -1,5 +1,5 @@
-use Rattle.std.proofs.Common.{◌≡◌, Bool, true, false, Some, take, refl, sym, ap, rules, ◌∙◌, add-one, arith}
-use Rattle.std.specs.Prelude.{◌||◌, slice_get}
+use Rattle.std.proofs.Common.{◌≡◌, take, refl, sym, ap, rules, ◌∙◌, add-one, arith}
+use Rattle.std.specs.Prelude.{◌||◌}
 use Rattle.std.proofs.lemmas.List.{length-set}
 use Rattle.rhai_reading.specs.Reading.{arms_of, expr_of}
 use Rattle.rhai_switch_rules.specs.Forgetting.{loses_answer, loses_answers}

@@ -1,6 +1,3 @@
-use Rattle.std.proofs.Common.{ap, subst}
-use Rattle.std.specs.Map.{keys_of}
-use Rattle.rhai_values.proofs.Exact.{equal}
 use Rattle.rhai_switch_rules.proofs.Entries.{all_distinct}
 use Rattle.rhai_switch_rules.proofs.shrink.any_shrinks.Goals as goal
 

@@ -6,7 +6,7 @@ use Rattle.rhai_known.specs.State.{progress}
 use Rattle.rhai_meaning.specs.Constants.{constant_value}
 use Rattle.rhai_reading.specs.Reading.{arms_of, cases_of, expr_of, expressions_of, subject_of, table_of}
 use Rattle.rhai_switch_rules.specs.Steps.{switch_of, TableStep}
-use Rattle.rhai_switch_rules.proofs.Stepped.{narrow_step, table_alone, with_table}
+use Rattle.rhai_switch_rules.proofs.Stepped.{narrow_step, table_alone}
 use Rattle.rhai_switch_rules.proofs.tables.narrow_block.Goals as goal
 use Rattle.rhai_switch_rules.proofs.tables.narrow_block.Goals.{in-Owned-1, in-Borrowed-1}
 

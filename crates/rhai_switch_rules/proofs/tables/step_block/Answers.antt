@@ -1,4 +1,4 @@
-use Rattle.std.proofs.Common.{◌≡◌, true, false, sym, ap, ◌∙◌}
+use Rattle.std.proofs.Common.{◌≡◌, true, false}
 use Rattle.std.proofs.lemmas.Result.{IfOk-weaker}
 use Rattle.rhai_known.specs.State.{progress}
 use Rattle.rhai_reading.specs.Reading.{arms_of, cases_of, expr_of, expressions_of, subject_of, table_of}
