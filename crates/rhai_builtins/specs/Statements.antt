@@ -1,8 +1,8 @@
--- The statements of the built-in scripts, in the order in which the program lists them.
+-- The statements of the built-in scripts, in the order in which the program lists them, and the functions of the one that has any.
 use Rattle.std.specs.Prelude.{List, [], ◌∷◌, Some, None, pos, negsuc, false, true, codes}
 use Rattle.rhai_values.specs.Value.{IntV, ArrayV, values}
 use Rattle.rhai_base.specs.Operators.{Plus, Multiply, Divide, EqualTo}
-use Rattle.rhai_meaning.specs.Tree.{NoToken, SwitchCase, SwitchTable, Expr, BoolConstant, IntegerConstant, UnitConstant, BlockExpr, FnCall, MethodCall, Dot, Coalesce, no_exprs, expr, exprs, an_expr, Arms, no_arms, arm, Stmt, If, Switch, While, For, Block, ExprStmt, Return, Stmts, no_stmts, stmts}
+use Rattle.rhai_meaning.specs.Tree.{NoToken, SwitchCase, SwitchTable, Expr, BoolConstant, IntegerConstant, StringConstant, UnitConstant, InterpolatedString, BlockExpr, FnCall, MethodCall, Dot, Coalesce, no_exprs, expr, exprs, an_expr, Arms, no_arms, arm, Stmt, If, Switch, While, For, Block, ExprStmt, Return, Stmts, no_stmts, stmts, Function}
 use Rattle.rhai_builtins.specs.Trees.{called, int, variable, array, over, link, element, alone, evaluates, declares, assigns, calls}
 
 -- 1 + 1 == 2
@@ -119,3 +119,19 @@ constants_statements = stmts (
     ∷ assigned_sum
     ∷ printing_block
     ∷ [])
+
+-- foo(1) foo("!")
+abbrev pub merge_statements : Stmts
+merge_statements = stmts (calls (codes "foo") (int 1) ∷ calls (codes "foo") (StringConstant (codes "!")) ∷ [])
+
+-- `hello${n}`
+abbrev pub greeting : Expr
+greeting = InterpolatedString (exprs (StringConstant (codes "hello") ∷ variable (codes "n") ∷ []))
+
+-- fn foo(n) { `hello${n}` }
+abbrev pub greeting_function : Function
+greeting_function = record { name = codes "foo"; this_type = None; params = codes "n" ∷ []; body = evaluates greeting }
+
+-- of foo(x) and foo(n) the later one alone
+abbrev pub merge_functions : List Function
+merge_functions = greeting_function ∷ []

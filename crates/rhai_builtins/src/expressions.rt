@@ -4,7 +4,7 @@
 ghost use Rattle.std.specs.Prelude.{◌≡◌, ◌∷◌, [], IfOk, Ok, Some, None, true};
 ghost use Rattle.rhai_tokens.specs.Symbols.{token_text};
 ghost use Rattle.rhai_reading.specs.Reading.{callee_of, expr_of, exprs_of, stmts_of, mark_of};
-ghost use Rattle.rhai_meaning.specs.Tree.{ArrayOf, BlockExpr, BoolConstant, IntegerConstant};
+ghost use Rattle.rhai_meaning.specs.Tree.{ArrayOf, BlockExpr, BoolConstant, IntegerConstant, StringConstant};
 ghost use Rattle.rhai_builtins.specs.Trees.{called, element, operation, variable};
 
 use rhai_ast::{BinaryExpr, Expr, FnCallExpr, StmtBlock};
@@ -32,6 +32,14 @@ pub(crate) fn certain() -> Expr
     ensures { expr_of result ≡ BoolConstant true }
 {
     Expr::BoolConstant(true, Position::NONE)
+}
+
+/// A text, as a constant.
+pub(crate) fn text(alloc: Global, text: &str) -> Result<Expr, OutOfMemory>
+    ensures { IfOk result (λ e. expr_of e ≡ StringConstant text.now) }
+{
+    let text = ImmutableString::new(alloc, text)?;
+    Ok(Expr::StringConstant(text, Position::NONE))
 }
 
 pub(crate) fn variable(alloc: Global, name: &str) -> Result<Expr, OutOfMemory>

@@ -1,4 +1,4 @@
-//! The statements of the scripts that the program knows.
+//! The statements and functions of the scripts that the program knows.
 //!
 //! They stand below their names and what prints them (`rhai_notation`), whose edits would each begin with what lets go of a tree.
 #![tactic(auto)]
@@ -6,11 +6,13 @@
 mod constants;
 mod expressions;
 mod lines;
+mod merge;
 mod names;
 mod statements;
 mod switch;
 
 pub use constants::constants_statements;
+pub use merge::{merge_functions, merge_statements};
 pub use names::{base_statements, opassign_statements, rewrite_statements, shadow_statements};
 pub use statements::{
     bits_statements, coalesce_statements, divide_statements, endless_statements, first_statements,

@@ -96,6 +96,7 @@ impl Drop for EngineInfo {
 }
 
 impl EngineInfo {
+    ghost use Rattle.rhai_engine.specs.declared.engine_info.EngineConstant.{EngineConstant};
     ghost use Rattle.rhai_engine.specs.EngineInfo.{built_in_at, engine_of, knowing_constant, mapping, nothing_set, overriding, tries_builtin};
 
     /// Nothing set, fast operators off.
@@ -119,6 +120,15 @@ impl EngineInfo {
     {
         self.constants.push(EngineConstant { name, value })?;
         Ok(())
+    }
+
+    /// The constants in the order in which they were added, each name with its value; a later one of a name wins.
+    pub fn constants(&self) -> EngineConstants<'_>
+        ensures { result.constants.now ≡ self.now.constants }
+    {
+        EngineConstants {
+            constants: self.constants.as_slice(),
+        }
     }
 
     /// The value of the latest constant of this name.
@@ -259,5 +269,27 @@ impl EngineInfo {
         matches!(op, Token::ExclusiveRange | Token::InclusiveRange)
             || self.fast_operators
             || !self.is_overridden(op.literal_syntax(), types)
+    }
+}
+
+/// Goes over the constants of an engine's record.
+#[derive(Drop)]
+pub struct EngineConstants<'a> {
+    constants: &'a [EngineConstant],
+}
+
+impl<'a> Iterator for EngineConstants<'a> {
+    ghost use Rattle.std.specs.Iterator.{YieldsFirstBy, item_count};
+
+    type Item = (&'a ImmutableString, &'a Dynamic);
+
+    ghost next_gives = { YieldsFirstBy (λ e. record { name = e.0.now; value = e.1.now }) (λ s. s.constants.now) };
+
+    ghost remaining = { item_count (λ s. s.constants.now) };
+
+    fn next(&mut self) -> Option<(&'a ImmutableString, &'a Dynamic)> {
+        let (first, others) = self.constants.split_first()?;
+        self.constants = others;
+        Some((&first.name, &first.value))
     }
 }

@@ -3,4 +3,4 @@
 
 mod engine_info;
 
-pub use engine_info::EngineInfo;
+pub use engine_info::{EngineConstants, EngineInfo};

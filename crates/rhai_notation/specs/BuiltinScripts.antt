@@ -1,8 +1,8 @@
 -- The built-in scripts.
 use Rattle.std.specs.Prelude.{List, [], ◌∷◌, Option, Some, None, codes, if◌then◌else◌}
 use Rattle.rhai_values.specs.Value.{Text, same_text}
-use Rattle.rhai_meaning.specs.Tree.{Stmts, no_stmts}
-use Rattle.rhai_builtins.specs.Statements.{base_statements, bits_statements, coalesce_statements, constants_statements, divide_statements, endless_statements, first_statements, index_statements, opassign_statements, return_statements, rewrite_statements, shadow_statements, switch_statements, tail_statements}
+use Rattle.rhai_meaning.specs.Tree.{Function, Stmts, no_stmts}
+use Rattle.rhai_builtins.specs.Statements.{base_statements, bits_statements, coalesce_statements, constants_statements, divide_statements, endless_statements, first_statements, index_statements, merge_functions, merge_statements, opassign_statements, return_statements, rewrite_statements, shadow_statements, switch_statements, tail_statements}
 use Rattle.rhai_notation.specs.declared.builtin.BuiltinScript.{BuiltinScript}
 use Rattle.rhai_notation.specs.declared.builtin.BuiltinScript.TheVariants as script
 
@@ -22,6 +22,7 @@ name_of script.Switch = codes "switch"
 name_of script.Divide = codes "divide"
 name_of script.Endless = codes "endless"
 name_of script.Constants = codes "constants"
+name_of script.Merge = codes "merge"
 
 abbrev pub all_scripts : List BuiltinScript
 all_scripts =
@@ -40,6 +41,7 @@ all_scripts =
     script.Divide ∷
     script.Endless ∷
     script.Constants ∷
+    script.Merge ∷
     []
 
 -- the first of the scripts that has this name
@@ -66,3 +68,8 @@ statements_of script.Switch = switch_statements
 statements_of script.Divide = divide_statements
 statements_of script.Endless = endless_statements
 statements_of script.Constants = constants_statements
+statements_of script.Merge = merge_statements
+
+abbrev pub script_functions : BuiltinScript → List Function
+script_functions script.Merge = merge_functions
+script_functions _ = []

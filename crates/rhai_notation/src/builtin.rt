@@ -1,17 +1,20 @@
 //! The scripts that the program knows.
 #![tactic(auto, using(rhai_reading::specs::Reading::shapes))]
 
-ghost use Rattle.std.specs.Prelude.{◌≡◌, IfOk};
-ghost use Rattle.rhai_reading.specs.Reading.{stmts_of};
+ghost use Rattle.std.specs.Prelude.{◌≡◌, IfOk, map};
+ghost use Rattle.std.specs.Rc.{rc_value};
+ghost use Rattle.rhai_reading.specs.Reading.{function_of, stmts_of};
 
-use rhai_ast::Stmt;
+use rhai_ast::{ScriptFuncDef, Stmt};
 use rhai_base::OutOfMemory;
 use rhai_builtins::{
     base_statements, bits_statements, coalesce_statements, constants_statements, divide_statements,
-    endless_statements, first_statements, index_statements, opassign_statements, return_statements,
-    rewrite_statements, shadow_statements, switch_statements, tail_statements,
+    endless_statements, first_statements, index_statements, merge_functions, merge_statements,
+    opassign_statements, return_statements, rewrite_statements, shadow_statements,
+    switch_statements, tail_statements,
 };
 use std::alloc::Global;
+use std::rc::Rc;
 
 /// A built-in script.
 #[derive(Clone, Copy, Debug, PartialEq, Eq)]
@@ -46,13 +49,15 @@ pub enum BuiltinScript {
     Endless,
     /// `const A = 40 + 2; let b = 123; const B = b * A; const C = 999; b = A + C; { const Z = 0; print(Z); }`
     Constants,
+    /// ``fn foo(n) { `hello${n}` } foo(1) foo("!")``
+    Merge,
 }
 
 impl BuiltinScript {
-    ghost use Rattle.rhai_notation.specs.BuiltinScripts.{name_of, script_named, statements_of};
+    ghost use Rattle.rhai_notation.specs.BuiltinScripts.{name_of, script_functions, script_named, statements_of};
 
     /// Each script once.
-    pub const ALL: [BuiltinScript; 15] = [
+    pub const ALL: [BuiltinScript; 16] = [
         BuiltinScript::First,
         BuiltinScript::Empty,
         BuiltinScript::Index,
@@ -68,6 +73,7 @@ impl BuiltinScript {
         BuiltinScript::Divide,
         BuiltinScript::Endless,
         BuiltinScript::Constants,
+        BuiltinScript::Merge,
     ];
 
     /// The name by which the program knows it.
@@ -90,6 +96,7 @@ impl BuiltinScript {
             BuiltinScript::Divide => "divide",
             BuiltinScript::Endless => "endless",
             BuiltinScript::Constants => "constants",
+            BuiltinScript::Merge => "merge",
         }
     }
 
@@ -125,6 +132,17 @@ impl BuiltinScript {
             BuiltinScript::Divide => divide_statements(alloc),
             BuiltinScript::Endless => endless_statements(alloc),
             BuiltinScript::Constants => constants_statements(alloc),
+            BuiltinScript::Merge => merge_statements(alloc),
+        }
+    }
+
+    /// Its functions; only `merge` has any.
+    pub fn functions(self, alloc: Global) -> Result<Vec<Rc<ScriptFuncDef>>, OutOfMemory>
+        ensures { IfOk result (λ functions. map function_of (map rc_value functions.items) ≡ script_functions self) }
+    {
+        match self {
+            BuiltinScript::Merge => merge_functions(alloc),
+            _ => Ok(Vec::new(alloc)),
         }
     }
 }

@@ -1,5 +1,6 @@
--- What a scope says of names, pushed one by one.
-use Rattle.std.proofs.Common.{◌≡◌, ◌≤◌, Bool, true, false, List, [], ◌∷◌, map, cond, Some, None, refl, ap, ◌∙◌, subst, arith}
+-- What the record and a scope say of names, pushed one by one.
+use Rattle.std.proofs.Common.{◌≡◌, Bool, true, false, List, [], ◌∷◌, ◌++◌, map, cond, Some, None, refl, sym, ap, ◌∙◌}
+use Rattle.std.proofs.lemmas.List.{append_assoc}
 use Rattle.std.specs.Option.{option_map}
 use Rattle.std.specs.Prelude.{Option}
 use Rattle.rhai_values.specs.Reading.{value_of}
@@ -8,44 +9,44 @@ use Rattle.rhai_values.specs.declared.scope.Scope.{Scope}
 use Rattle.rhai_values.specs.declared.scope.ScopeEntry.{ScopeEntry}
 use Rattle.rhai_host.specs.Entries.{entry_meant}
 use Rattle.rhai_meaning.specs.Act as act
-use Rattle.rhai_meaning.specs.Engine.{Engine}
+use Rattle.rhai_meaning.specs.Engine.{Engine, Binding}
 use Rattle.rhai_meaning.specs.Run.{reversed}
-use Rattle.rhai_meaning.specs.Tree.{Script, Stmts}
-use Rattle.rhai_meaning.specs.Weight.{weight}
-use Rattle.rhai_rewriting.specs.Context.{Context, Whole, ListKind, knowing}
+use Rattle.rhai_meaning.specs.Tree.{Script}
 use Rattle.rhai_rewriting.specs.Known.{Known}
-use Rattle.rhai_rewriting.specs.Refines.{RefinesWhere}
-use Rattle.rhai_rewriting.specs.Rewriting.{RestTo, StmtsTo, flag_forgotten}
-use Rattle.rhai_rewriting.specs.Scripts.{known_in}
-use Rattle.rhai_rewriting.specs.Steps.{Progress, StmtsRun}
-use Rattle.rhai_rewriting.proofs.Weights.{stmts_fall}
-use Rattle.rhai_rewriting.proofs.soundness.Theorem.{keeps_meaning}
-use Rattle.rhai_optimizer.specs.Scopes.{known_onto, given_onto, scope_known}
+use Rattle.rhai_rewriting.specs.Scripts.{captures_nothing, known_in, known_of, known_at_top, known_in_bodies, known_inside}
+use Rattle.rhai_optimizer.specs.Scopes.{known_onto, given_onto, constants_onto, start_of}
 
 lent_value : (b : Bool) (v : Dynamic) → option_map value_of (cond b (Some v) None) ≡ cond b (Some (value_of v)) None
 lent_value true v = refl
 lent_value false v = refl
 
-onto : (es : List ScopeEntry) (fs : List act.ScopeEntry) → known_onto es (known_in fs) ≡ known_in (reversed (map entry_meant es) fs)
-onto [] fs = refl
-onto (e ∷ es) fs =
-    ap (λ v. known_onto es (record { name = e.name; value = v } ∷ known_in fs)) (lent_value e.is_constant e.value)
-    ∙ onto es (entry_meant e ∷ fs)
+onto : (es : List ScopeEntry) (fs : List act.ScopeEntry) (ks : List Known) → known_onto es (known_in fs ++ ks) ≡ known_in (reversed (map entry_meant es) fs) ++ ks
+onto [] fs ks = refl
+onto (e ∷ es) fs ks =
+    ap (λ v. known_onto es (record { name = e.name; value = v } ∷ (known_in fs ++ ks))) (lent_value e.is_constant e.value)
+    ∙ onto es (entry_meant e ∷ fs) ks
 
-pub given_known : (o : Option Scope) → given_onto o [] ≡ scope_known o
-given_known None = refl
-given_known (Some es) = onto es []
+given : (o : Option Scope) (ks : List Known) → given_onto o ks ≡ known_in (start_of o) ++ ks
+given None ks = refl
+given (Some es) ks = onto es [] ks
 
--- whatever the flag was
-pub run_knowing : {r : Engine} {m : ListKind} {s s' : Progress} {ss ss' : Stmts} (ks : List Known) → s.known ≡ ks → StmtsRun r m s s' ss ss' → StmtsTo (knowing r ks) m true true ss ss'
-run_knowing {r = r} {m = m} {s = s} {s' = s'} {ss = ss} {ss' = ss'} ks h q = flag_forgotten (subst (λ ks. RestTo (knowing r ks) m true s.is_dirty s'.is_dirty ss ss') h q.to)
+constants : (bs : List Binding) (ks : List Known) → constants_onto bs ks ≡ known_of bs ++ ks
+constants [] ks = refl
+constants (b ∷ bs) ks = constants bs (record { name = b.name; value = Some b.value } ∷ ks) ∙ sym (append_assoc (known_of bs) (record { name = b.name; value = Some b.value } ∷ []) ks)
 
--- ---- what a derivation over a script's statements promises of the script
+append_none : (ks : List Known) → ks ++ [] ≡ ks
+append_none [] = refl
+append_none (k ∷ ks) = ap (λ ls. k ∷ ls) (append_none ks)
 
-pub refines_where : {r : Engine} {ks : List Known} {p p' : Script} → StmtsTo (knowing r ks) Whole true true p.statements p'.statements → p'.functions ≡ p.functions → RefinesWhere r ks p p'
-refines_where {r = r} {ks = ks} {p = p} {p' = p'} to same = record {
-  runs = λ host scope e ag. keeps_meaning r host ks true true p p' scope e to same ag;
-}
+pub at_top : (r : Engine) (o : Option Scope) → given_onto o (constants_onto r.constants []) ≡ known_at_top r (start_of o)
+at_top r o = given o (constants_onto r.constants []) ∙ ap (λ ks. known_in (start_of o) ++ ks) (constants r.constants [] ∙ append_none (known_of r.constants))
 
-pub lighter : {k : Context} {ss ss' : Stmts} → StmtsTo k Whole true true ss ss' → weight ss' ≤ weight ss
-lighter to = omega (arith, stmts_fall to)
+pub in_bodies : (r : Engine) (o : Option Scope) → constants_onto r.constants (given_onto o []) ≡ known_in_bodies r (start_of o)
+in_bodies r o = constants r.constants (given_onto o []) ∙ ap (λ ks. known_of r.constants ++ ks) (given o [] ∙ append_none (known_in (start_of o)))
+
+-- what is known in bodies, from nothing
+pub pushed_inside : (r : Engine) (o : Option Scope) (p : Script) (ks ks' : List Known) (d : Type 0) → captures_nothing p ≡ true → d × (ks' ≡ constants_onto r.constants (given_onto o ks)) → ks ≡ [] → ks' ≡ known_inside r (start_of o) p
+pushed_inside r o p ks ks' d h e n = e.1 ∙ ap (λ ls. constants_onto r.constants (given_onto o ls)) n ∙ in_bodies r o ∙ sym (ap (λ b. cond b (known_in_bodies r (start_of o)) []) h)
+
+pub nothing_inside : (r : Engine) (o : Option Scope) (p : Script) (ks : List Known) → captures_nothing p ≡ false → ks ≡ [] → ks ≡ known_inside r (start_of o) p
+nothing_inside r o p ks h n = n ∙ sym (ap (λ b. cond b (known_in_bodies r (start_of o)) []) h)

@@ -3,9 +3,11 @@
 
 mod blocks;
 mod cycle;
+mod functions;
 mod lists;
 mod names;
 mod optimizer;
+mod passes;
 
-pub use optimizer::{optimize_into_ast, optimize_top_level};
+pub use optimizer::{optimize_counted, optimize_into_ast, optimize_top_level};
 pub use rhai_known::{OptimizationLevel, OptimizerState};

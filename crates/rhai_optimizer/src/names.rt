@@ -1,6 +1,6 @@
-//! The names that statements declare, and those of a scope.
+//! The names that statements and functions declare, and those of the record and of a scope.
 
-#![tactic(auto, using(rhai_reading::specs::Reading::shapes))]
+#![tactic(auto, using(rhai_reading::specs::Reading::shapes, crate::proofs::Bodies::params))]
 
 ghost use Rattle.std.specs.Prelude.{◌≡◌, ◌∷◌, ◌++◌, IfOk, None, OnOk, Some, cond};
 ghost use Rattle.std.specs.Cow.{cow_value};
@@ -13,12 +13,15 @@ ghost use Rattle.rhai_reading.specs.Reading.{counter_of, expr_of, is_const, stmt
 ghost use Rattle.rhai_meaning.specs.Shape.{catch_name};
 ghost use Rattle.rhai_rewriting.specs.Steps.{variable, loop_front, catch_front};
 ghost use Rattle.rhai_optimizer.specs.Parts.{declared_value};
-ghost use Rattle.rhai_optimizer.specs.Scopes.{given_onto, known_onto};
+ghost use Rattle.rhai_optimizer.specs.Scopes.{constants_onto, given_onto, known_onto};
 ghost use Rattle.rhai_rewriting.specs.Context.{known_behind};
+ghost use Rattle.rhai_rewriting.specs.Known.{shadow_all};
+ghost use Rattle.rhai_engine.specs.EngineInfo.{engine_of};
 
 use bitflags::Flags;
 use rhai_ast::{Expr, Literals, Stmt};
 use rhai_base::{ASTFlags, Dynamic, Ident, ImmutableString, OutOfMemory, Scope};
+use rhai_engine::EngineInfo;
 use rhai_rules::OptimizerState;
 use std::alloc::Global;
 use std::borrow::Cow;
@@ -88,6 +91,19 @@ fn push_variable(state: &mut OptimizerState<'_>, name: &ImmutableString) -> Resu
     ensures { OnOk result ((state.new.is_dirty ≡ state.old.is_dirty) × ((progress state.new).known ≡ variable name.now ∷ (progress state.old).known)) }
 {
     state.push_var(name.clone()?, None)
+}
+
+/// Notes the parameters of a function.
+pub fn push_params(
+    state: &mut OptimizerState<'_>,
+    params: &[ImmutableString],
+) -> Result<(), OutOfMemory>
+    ensures { OnOk result ((state.new.is_dirty ≡ state.old.is_dirty) × ((progress state.new).known ≡ shadow_all params.now (progress state.old).known)) }
+{
+    for param in params {
+        push_variable(state, param)?;
+    }
+    Ok(())
 }
 
 /// Notes the names of a `for`: its counter's, if it has one, and its own.
@@ -162,7 +178,7 @@ fn push_entries<'a>(
 }
 
 /// Notes the names of a scope, where one is given. Values are lent.
-pub fn push_scope<'a>(
+fn push_scope<'a>(
     alloc: Global,
     state: &mut OptimizerState<'a>,
     scope: Option<&'a Scope>,
@@ -173,4 +189,43 @@ pub fn push_scope<'a>(
         Some(scope) => push_entries(alloc, state, scope),
         None => Ok(()),
     }
+}
+
+/// Notes the constants of the record. Names are shared, values lent.
+fn push_constants<'a>(
+    state: &mut OptimizerState<'a>,
+    info: &'a EngineInfo,
+) -> Result<(), OutOfMemory>
+    ensures { OnOk result ((state.new.is_dirty ≡ state.old.is_dirty) × ((progress state.new).known ≡ constants_onto (engine_of info.now).constants (progress state.old).known)) }
+{
+    for (name, value) in info.constants() {
+        state.push_var(name.clone()?, lent(true, value))?;
+    }
+    Ok(())
+}
+
+/// Notes what is known at top level: the record's constants, and the scope's names, which hide them.
+pub fn push_at_top<'a>(
+    alloc: Global,
+    state: &mut OptimizerState<'a>,
+    info: &'a EngineInfo,
+    scope: Option<&'a Scope>,
+) -> Result<(), OutOfMemory>
+    ensures { OnOk result ((state.new.is_dirty ≡ state.old.is_dirty) × ((progress state.new).known ≡ given_onto (option_map deref scope.entry) (constants_onto (engine_of info.now).constants (progress state.old).known))) }
+{
+    push_constants(state, info)?;
+    push_scope(alloc, state, scope)
+}
+
+/// Notes what is known in bodies, which start without the scope: its names, and the record's constants, which hide them.
+pub fn push_in_bodies<'a>(
+    alloc: Global,
+    state: &mut OptimizerState<'a>,
+    info: &'a EngineInfo,
+    scope: Option<&'a Scope>,
+) -> Result<(), OutOfMemory>
+    ensures { OnOk result ((state.new.is_dirty ≡ state.old.is_dirty) × ((progress state.new).known ≡ constants_onto (engine_of info.now).constants (given_onto (option_map deref scope.entry) (progress state.old).known))) }
+{
+    push_scope(alloc, state, scope)?;
+    push_constants(state, info)
 }

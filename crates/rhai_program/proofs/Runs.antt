@@ -1,5 +1,5 @@
--- What `run` prints.
-use Rattle.std.proofs.Common.{◌≡◌, ℕ, List, [], ◌++◌, refl, ap, ◌∙◌}
+-- What runs report.
+use Rattle.std.proofs.Common.{◌≡◌, ℕ, List, [], ◌++◌, codes, refl, ap, ◌∙◌}
 use Rattle.rhai_values.specs.Value.{Text}
 use Rattle.rhai_values.specs.declared.scope.ScopeEntry.{ScopeEntry}
 use Rattle.rhai_meaning.specs.Agreeing.{AgreeOn}
@@ -11,8 +11,12 @@ use Rattle.rhai_meaning.specs.Tree.{Script}
 use Rattle.rhai_engine.specs.EngineInfo.{nothing_set}
 use Rattle.rhai_host.specs.Entries.{start_scope}
 use Rattle.rhai_host.specs.Report.{ReportsRun}
-use Rattle.rhai_host.specs.ProgramHost.{program_host}
 use Rattle.rhai_host.specs.Print.{report_text}
+use Rattle.rhai_host.specs.ProgramHost.{program_host}
+use Rattle.rhai_rewriting.specs.Refines.{Refines}
+use Rattle.rhai_rewriting.specs.Reports.{Follows}
+use Rattle.rhai_rewriting.proofs.simulation.Agreement.{agrees_nothing}
+use Rattle.rhai_rewriting.proofs.soundness.Reports.{refines_reports}
 use Rattle.rhai_program.specs.Words.{reported}
 
 -- a host answers as it does
@@ -20,11 +24,26 @@ agrees : (h : Host) (r : Report) → AgreeOn h h r.calls
 agrees h r = record { answers = λ past c b. refl; modules = λ x. refl }
 
 -- a run of the evaluator, from a scope and under a record that hold nothing
-pub pushed_run : (engine : Engine) (scope : List ScopeEntry) (after : Script) (turns : ℕ) (report : Report) (empty text : Text)
-    → engine ≡ nothing_set → scope ≡ [] → empty ≡ [] → ReportsRun engine program_host (core_script after) (start_scope scope) turns report
-    → text ≡ empty ++ report_text report → text ≡ report_text (reported after turns)
-pushed_run engine scope after turns report empty text nothing none start reports printed =
+pub run_reported : (engine : Engine) (scope : List ScopeEntry) (after : Script) (turns : ℕ) (report : Report)
+    → engine ≡ nothing_set → scope ≡ [] → ReportsRun engine program_host (core_script after) (start_scope scope) turns report
+    → report ≡ reported after turns
+run_reported engine scope after turns report nothing none reports =
     let of_engine = λ (e : Engine). report_of AtStatements (run_script e program_host (core_script after) AtStatements (start_scope scope) turns) in
     let of_scope = λ (es : List ScopeEntry). report_of AtStatements (run_script nothing_set program_host (core_script after) AtStatements (start_scope es) turns) in
-    let told : report ≡ reported after turns = reports program_host (agrees program_host report) ∙ ap of_engine nothing ∙ ap of_scope none in
-    printed ∙ ap (λ t. t ++ report_text report) start ∙ ap report_text told
+    reports program_host (agrees program_host report) ∙ ap of_engine nothing ∙ ap of_scope none
+
+pub report_pushed : (old new : Text) (r r' : Report) → r ≡ r' → new ≡ old ++ report_text r → new ≡ old ++ report_text r'
+report_pushed old new r r' h e = e ∙ ap (λ q. old ++ report_text q) h
+
+-- two reports, push by push
+pub pushed_reports : (before after r r' empty a b c d : Text) → empty ≡ [] → r ≡ before → r' ≡ after
+    → a ≡ empty ++ codes "before:\n" → b ≡ a ++ r → c ≡ b ++ codes "after:\n" → d ≡ c ++ r'
+    → d ≡ codes "before:\n" ++ before ++ codes "after:\n" ++ after
+pushed_reports before after r r' empty a b c d h first second e f g i =
+    let start : a ≡ codes "before:\n" = e ∙ ap (λ t. t ++ codes "before:\n") h in
+    let one : b ≡ codes "before:\n" ++ before = f ∙ ap (λ t. t ++ r) start ∙ ap (λ t. codes "before:\n" ++ t) first in
+    i ∙ ap (λ t. t ++ r') (g ∙ ap (λ t. t ++ codes "after:\n") one) ∙ ap (λ t. (codes "before:\n" ++ before ++ codes "after:\n") ++ t) second
+
+-- what runs alike reports alike
+pub followed : (before after : Script) (turns : ℕ) → Refines nothing_set before after → Follows (reported before turns) (reported after turns)
+followed before after turns q = (refines_reports nothing_set [] before after (record { runs = λ host scope e ag. q.runs host scope e }) program_host [] AtStatements (agrees_nothing [] [])).follows turns

@@ -8,15 +8,20 @@ use Rattle.rhai_meaning.specs.Tree.{Script}
 use Rattle.rhai_known.specs.declared.level.OptimizationLevel.{OptimizationLevel}
 use Rattle.rhai_known.specs.declared.level.OptimizationLevel.TheVariants as level
 use Rattle.rhai_engine.specs.EngineInfo.{nothing_set}
-use Rattle.rhai_optimizer.specs.Body.{IsReducedBody}
+use Rattle.rhai_functions.specs.Table.{table_of}
+use Rattle.rhai_optimizer.specs.Optimised.{IsReducedScript}
+use Rattle.rhai_rewriting.specs.Kept.{Keeps}
+use Rattle.rhai_rewriting.specs.Reducible.{IsIrreducibleScript}
 use Rattle.rhai_rewriting.specs.Refines.{Refines}
+use Rattle.rhai_rewriting.specs.Reports.{Follows}
+use Rattle.rhai_meaning.specs.Faults.{IsWellFormedScript}
 use Rattle.rhai_notation.specs.declared.builtin.BuiltinScript.{BuiltinScript}
 use Rattle.rhai_program.specs.declared.request.Request.{Request}
 use Rattle.rhai_program.specs.declared.request.Request.TheVariants as request
 use Rattle.rhai_host.specs.ProgramHost.{program_host}
 use Rattle.rhai_notation.specs.Notation.{script_text}
 use Rattle.rhai_host.specs.Print.{report_text}
-use Rattle.rhai_notation.specs.BuiltinScripts.{name_of, all_scripts, script_named, statements_of}
+use Rattle.rhai_notation.specs.BuiltinScripts.{name_of, all_scripts, script_functions, script_named, statements_of}
 
 abbrev pub level_named : Text → Option OptimizationLevel
 level_named name =
@@ -62,17 +67,17 @@ listing (s ∷ ss) = name_of s ++ codes "\n" ++ listing ss
 abbrev pub showing : Script → Script → Text
 showing before after = codes "before:\n" ++ script_text before ++ codes "after:\n" ++ script_text after
 
--- a built-in script has no functions
 abbrev pub built_in : BuiltinScript → Script
-built_in script = record { statements = statements_of script; functions = [] }
+built_in script = record { statements = statements_of script; functions = table_of (script_functions script) }
 
--- what the optimiser makes of a script, where the engine has nothing set: one that runs alike, with the same
--- functions; at level `None` the script itself, else one whose statements leave nothing to reduce
+-- what the optimiser makes of a script, where the engine has nothing set: one that runs alike; at level `None` the script itself, else one
+-- with nothing to reduce
 pub record Optimized (at : OptimizationLevel) (before after : Script) : Type 0 where
   pub runs : Refines nothing_set before after
-  pub functions : after.functions ≡ before.functions
-  pub kept : at ≡ level.None → after ≡ before
-  pub reduced : at ≢ level.None → IsReducedBody nothing_set after.statements
+  pub keeps : Keeps before after
+  pub untouched : at ≡ level.None → after ≡ before
+  pub irreducible : at ≢ level.None → IsWellFormedScript before → IsIrreducibleScript nothing_set after
+  pub reduced : at ≢ level.None → IsReducedScript nothing_set after
 
 -- what a run of a script reports: from an empty scope, with nothing set, and with the program's host
 abbrev pub reported : Script → ℕ → Report
@@ -83,3 +88,10 @@ abbrev pub Answers : Request → Text → Type 0
 Answers request.List text = text ≡ listing all_scripts
 Answers (request.Show script at) text = (after : Script) × Optimized at (built_in script) after × (text ≡ showing (built_in script) after)
 Answers (request.Run script at turns) text = (after : Script) × Optimized at (built_in script) after × (text ≡ report_text (reported after turns))
+
+-- reports of two runs, of a script and of what the optimiser makes of it: the second follows the first
+pub record BothReports (at : OptimizationLevel) (before : Script) (turns : ℕ) (text : Text) : Type 0 where
+  pub after : Script
+  pub optimized : Optimized at before after
+  pub follows : Follows (reported before turns) (reported after turns)
+  pub shown : text ≡ codes "before:\n" ++ report_text (reported before turns) ++ codes "after:\n" ++ report_text (reported after turns)

@@ -5,7 +5,7 @@
 mod program;
 mod request;
 
-pub use program::run_words;
+pub use program::{both_reports, run_words};
 pub use request::Request;
 pub use rhai_host::{ProgramHost, push_report};
 pub use rhai_notation::BuiltinScript;

@@ -1,21 +1,22 @@
 //! The program: words in, text and a status out.
-ghost use Rattle.std.specs.Prelude.{◌≡◌, ◌≤◌, ◌⊎◌, length, map, string_bytes, IsNone, IsSome, IfSome, IfOk, OnOk, MatchOption};
+ghost use Rattle.std.specs.Prelude.{◌≡◌, ◌≤◌, ◌⊎◌, ◌++◌, length, map, string_bytes, IsNone, IsSome, IfSome, IfOk, OnOk, MatchOption};
 ghost use Rattle.std.specs.Io.KnownBytes.{Appends, WriteAppends};
 ghost use Rattle.rhai_program.specs.Output.{AppendsAnswer, AppendsAnswerStart, AppendsStart};
 ghost use Rattle.rhai_notation.specs.BuiltinScripts.{all_scripts};
-ghost use Rattle.rhai_program.specs.Words.{request_of, usage, listing, built_in, Answers, Optimized};
+ghost use Rattle.rhai_program.specs.Words.{request_of, usage, listing, built_in, reported, Answers, BothReports, Optimized};
+ghost use Rattle.rhai_host.specs.Print.{report_text};
 ghost use Rattle.rhai_script.specs.Script.{script_of};
 
 use crate::request::Request;
-use rhai_ast::StmtBlock;
-use rhai_base::{OutOfMemory, Scope, Span};
+use rhai_base::{OutOfMemory, Scope};
 use rhai_host::{ProgramHost, push_report};
-use rhai_notation::{BuiltinScript, push_lines, push_script};
+use rhai_notation::{BuiltinScript, push_script};
 use rhai_optimizer::{OptimizationLevel, optimize_into_ast};
 use rhai_run::{EngineInfo, plain_run};
-use rhai_script::AST;
+use rhai_script::{AST, FnLib};
 use std::alloc::Global;
 use std::io;
+use std::rc::Rc;
 
 /// The line that other words than a request's are answered with.
 const USAGE: &str = "usage: rhai_opt list | show NAME LEVEL | run NAME LEVEL TURNS\n";
@@ -133,19 +134,17 @@ fn show(
 ) -> Result<String, OutOfMemory>
     ensures { IfOk result (λ text. Answers (Request.Show script level) (string_bytes text)) }
 {
-    let statements = script.statements(alloc)?;
-    // In a block, statements go by one call, and not each by its kind.
-    let before = StmtBlock::new_with_span(statements, Span::NONE);
+    let before = written(alloc, script)?;
+    let after = optimized(alloc, script, level)?;
     let mut text = String::new(alloc);
     text.push_str("before:\n")?;
-    push_lines(before.statements(), &mut text)?;
-    let after = optimized(alloc, script, level)?;
+    push_script(&before, &mut text)?;
     text.push_str("after:\n")?;
     push_script(&after, &mut text)?;
     Ok(text)
 }
 
-/// The report of a run from an empty scope with the program's host.
+/// The report of a run of the optimised script.
 fn run(
     alloc: Global,
     script: BuiltinScript,
@@ -154,13 +153,49 @@ fn run(
 ) -> Result<String, OutOfMemory>
     ensures { IfOk result (λ text. Answers (Request.Run script level turns) (string_bytes text)) }
 {
-    let engine = EngineInfo::new(alloc);
     let after = optimized(alloc, script, level)?;
-    let scope = Scope::new(alloc);
-    let report = plain_run(alloc, &after, &engine, &ProgramHost, &scope, turns)?;
     let mut text = String::new(alloc);
-    push_report(&report, &mut text)?;
+    push_run(alloc, &after, turns, &mut text)?;
     Ok(text)
+}
+
+/// What runs of a built-in script report before and after the optimiser, both with so many turns: where the first one ended, the second
+/// says the same of its end, its variables and its calls, and has as many turns left at least.
+pub fn both_reports(
+    alloc: Global,
+    script: BuiltinScript,
+    level: OptimizationLevel,
+    turns: u64,
+) -> Result<String, OutOfMemory>
+    ensures { IfOk result (λ text. BothReports level (built_in script) turns (string_bytes text)) }
+{
+    let before = written(alloc, script)?;
+    let after = optimized(alloc, script, level)?;
+    let mut text = String::new(alloc);
+    text.push_str("before:\n")?;
+    push_run(alloc, &before, turns, &mut text)?;
+    text.push_str("after:\n")?;
+    push_run(alloc, &after, turns, &mut text)?;
+    Ok(text)
+}
+
+/// Appends the report of a run of a script from an empty scope, under a record with nothing set, with the program's host.
+fn push_run(alloc: Global, script: &AST, turns: u64, text: &mut String) -> Result<(), OutOfMemory>
+    ensures { OnOk result (string_bytes text.new ≡ string_bytes text.old ++ report_text (reported (script_of script.now) turns)) }
+{
+    let engine = EngineInfo::new(alloc);
+    let scope = Scope::new(alloc);
+    let report = plain_run(alloc, script, &engine, &ProgramHost, &scope, turns)?;
+    push_report(&report, text)
+}
+
+/// A built-in script as it is written.
+fn written(alloc: Global, script: BuiltinScript) -> Result<AST, OutOfMemory>
+    ensures { IfOk result (λ before. script_of before ≡ built_in script) }
+{
+    let statements = script.statements(alloc)?;
+    let functions = FnLib::from_functions(alloc, script.functions(alloc)?)?;
+    Ok(AST::new(statements, Rc::new(alloc, functions)?))
 }
 
 /// A built-in script, optimised under a record with nothing set.
@@ -173,7 +208,7 @@ fn optimized(
 {
     let engine = EngineInfo::new(alloc);
     let statements = script.statements(alloc)?;
-    let functions = Vec::new(alloc);
+    let functions = script.functions(alloc)?;
     let after = optimize_into_ast(alloc, &engine, None, statements, functions, level)?;
     Ok(after)
 }

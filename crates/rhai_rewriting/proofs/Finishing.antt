@@ -17,7 +17,7 @@ use Rattle.rhai_rewriting.specs.Finished.{IsFinished, AreFinished, FinishedIsIrr
 use Rattle.rhai_rewriting.specs.Folding.{folded}
 use Rattle.rhai_rewriting.specs.Reducible.{is_always, follows_deciding, is_some_value, follows_some, chain_answer, AnswersNothing, of_first, is_chosen, goes_on_after_leaving, tests_constant, idles, ends_in_return, IsIrreducibleList, IsIrreducibleNode, IsIrreducibleBody, AreIrreducibleBodies}
 use Rattle.rhai_rewriting.specs.Residue.{holds_constant}
-use Rattle.rhai_rewriting.specs.Rewriting.{ExprTo, same_expr, by_expr_rule, in_text, in_array, in_map, in_braces, in_call, in_chain, in_and, in_or, in_coalesce, ExprsTo, exprs_none, exprs_more, PairsTo, pairs_none, pairs_more, ChainTo, in_dot, in_index, base, ArgumentTo, in_method, in_brackets, same_argument, StepsTo, same_steps, last_method, last_index, more_dot, more_index, TargetTo, same_target, in_target, guard, MaybeTo, maybe_some, ArmsTo, arms_none, arms_more, StmtTo, by_stmt_rule, in_if, in_switch, in_while, in_do, in_for, in_var, in_assignment, in_block, in_try, in_expression, in_call_statement, in_break, in_return, in_import, RestTo, same_stmts, in_head, in_tail}
+use Rattle.rhai_rewriting.specs.Rewriting.{ExprTo, same_expr, by_expr_rule, in_text, in_array, in_map, in_braces, in_call, in_chain, in_and, in_or, in_coalesce, ExprsTo, exprs_none, exprs_more, PairsTo, pairs_none, pairs_more, ChainTo, in_dot, in_index, base, ArgumentTo, in_method, in_brackets, same_argument, StepsTo, same_steps, last_method, last_index, more_dot, more_index, TargetTo, same_target, in_target, guard, MaybeTo, maybe_some, ArmsTo, arms_more, StmtTo, by_stmt_rule, in_if, in_switch, in_while, in_do, in_for, in_var, in_assignment, in_block, in_try, in_expression, in_call_statement, in_break, in_return, in_import, RestTo, same_stmts, in_head, in_tail}
 use Rattle.rhai_rewriting.specs.Scripts.{naming_all}
 use Rattle.rhai_rewriting.specs.SurelyUnit.{is_surely_unit}
 use Rattle.rhai_rewriting.proofs.Plain.{is_plain_value, folded_plain}

@@ -1,15 +1,13 @@
 -- Rules at a node until none fires, and lists that were rewritten behind their front.
-use Rattle.std.proofs.Common.{◌≡◌, ◌<◌, ◌≤◌, ℕ, Bool, true, false, List, Option, None, refl, sym, ap, ◌∙◌, subst, arith}
+use Rattle.std.proofs.Common.{◌≡◌, ◌<◌, ◌≤◌, Bool, true, false, List, None, refl, sym, ◌∙◌, subst, arith}
 use Rattle.rhai_meaning.specs.Desugar.{root_of}
 use Rattle.rhai_meaning.specs.Engine.{Engine}
 use Rattle.rhai_meaning.specs.Queries.{is_unit}
-use Rattle.rhai_meaning.specs.Tree.{Expr, Variable, BlockExpr, And, Or, Coalesce, Stmt, Var, Stmts, no_stmts, stmt, joined, Arms, no_arms, arm}
-use Rattle.rhai_meaning.specs.Walk.{OfExpr, OfStmt}
+use Rattle.rhai_meaning.specs.Tree.{Expr, Variable, BlockExpr, And, Or, Coalesce, Stmt, Stmts, no_stmts, stmt, joined, Arms, no_arms, arm}
 use Rattle.rhai_meaning.specs.Weight.{expr_weight, stmt_weight}
 use Rattle.rhai_rewriting.specs.Clear.{known_value, IsClearExpr, HasClearParts, IsClear}
 use Rattle.rhai_rewriting.specs.Context.{Context, knowing, behind, ListKind}
 use Rattle.rhai_rewriting.specs.Known.{Known}
-use Rattle.rhai_rewriting.specs.Residue.{IsReducedNode, IsReducedExpr, IsReduced, ExprParts, StmtParts}
 use Rattle.rhai_rewriting.specs.Rewriting.{ExprTo, same_expr, then_expr, by_expr_rule, StmtTo, same_stmt, then_stmt, by_stmt_rule, RestTo, in_tail, ArmsTo, arms_none, arms_more}
 use Rattle.rhai_rewriting.specs.Rules.{ExprRule, StmtRule}
 use Rattle.rhai_rewriting.specs.Steps.{Progress, here, Place, Anywhere, AsBase, AsGuard, MayBecome, ExprRun, ExprPartsRun, ExprSoFar, ExprReduced, ExprFired, KeepsExprParts, ExprKept, StmtRun, StmtPartsRun, StmtSoFar, StmtReduced, StmtPassed, SubjectRun, StmtFired, KeepsStmtParts, StmtKept}

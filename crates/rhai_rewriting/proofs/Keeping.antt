@@ -1,7 +1,7 @@
 -- What rules make of nodes whose parts are reduced has parts that are.
-use Rattle.std.proofs.Common.{◌≡◌, Bool, true, false, List, Option, Some, None, refl, sym, ap, ◌∙◌}
-use Rattle.rhai_values.specs.Value.{Text, Value, UnitV, PointerV, no_values, item, is_unit}
-use Rattle.rhai_meaning.specs.Constants.{constant_for, constant_bool, literal_value, pointer_to}
+use Rattle.std.proofs.Common.{◌≡◌, Bool, true, false, List, None, refl, sym, ◌∙◌}
+use Rattle.rhai_values.specs.Value.{Value, UnitV, PointerV, no_values, item, is_unit}
+use Rattle.rhai_meaning.specs.Constants.{constant_for}
 use Rattle.rhai_meaning.specs.Desugar.{root_of}
 use Rattle.rhai_meaning.specs.Engine.{Engine}
 use Rattle.rhai_meaning.specs.Queries.{is_unit as is_unit_expr}
@@ -10,7 +10,7 @@ use Rattle.rhai_meaning.specs.Walk.{OfExpr, over_stmts}
 use Rattle.rhai_rewriting.specs.Answering.{AnswersNothing, of_first}
 use Rattle.rhai_rewriting.specs.Clear.{IsClearExpr, HasClearParts, IsClear, AreClear}
 use Rattle.rhai_rewriting.specs.Known.{Known}
-use Rattle.rhai_rewriting.specs.Residue.{IsReducedExpr, AreReduced, ExprParts, StmtParts}
+use Rattle.rhai_rewriting.specs.Residue.{IsReducedExpr, AreReduced, StmtParts}
 use Rattle.rhai_rewriting.specs.Rules.{block_or_noop, chosen}
 use Rattle.rhai_rewriting.specs.Steps.{Place, Anywhere, AsBase, AsGuard, MayBecome, KeepsExprParts, KeepsStmtParts}
 use Rattle.rhai_rewriting.specs.Testing.{IsIrreducibleList}

@@ -13,3 +13,5 @@ pub mod rules
 pub mod soundness
 pub mod Finishing
 pub mod Reaching
+pub mod Passing
+pub mod Irreducible

@@ -9,7 +9,7 @@ use Rattle.rhai_meaning.specs.Shape.{is_rest, is_argument, is_member, is_left_si
 use Rattle.rhai_meaning.specs.Walk.{over_arms, arm_at, arms_at, listed}
 use Rattle.rhai_meaning.specs.Tree.{ChainFlags, SwitchTable, Callee, Expr, InterpolatedString, ArrayOf, MapOf, Variable, ThisPtr, Property, MethodCall, BlockExpr, FnCall, Dot, Index, And, Or, Coalesce, Exprs, no_exprs, expr, Pairs, no_pairs, pair, MaybeExpr, no_expr, an_expr, Arms, no_arms, arm, Stmt, If, Switch, While, Do, For, Var, Assignment, Block, TryCatch, ExprStmt, FnCallStmt, BreakLoop, Return, Import, Stmts, no_stmts, stmt}
 use Rattle.rhai_rewriting.specs.Answering.{AnswersNothing, of_first}
-use Rattle.rhai_rewriting.specs.Clear.{IsClearExpr, AreClearExprs, IsClear, AreClear}
+use Rattle.rhai_rewriting.specs.Clear.{AreClearExprs, AreClear}
 use Rattle.rhai_rewriting.specs.Context.{Context, knowing, naming, naming_some, naming_catch, known_behind, ListKind, Inside, wanted, wanted_before}
 use Rattle.rhai_rewriting.specs.Known.{Known}
 use Rattle.rhai_rewriting.specs.Residue.{when, IsReducedNode, IsReducedExpr, AreReducedArms, AreReduced, every_reached}
@@ -283,7 +283,7 @@ all_front (stmt s ss) ks =
     let g = all_front ss (known_behind s ks) in
     (g.0 ++ f.0, g.1 ∙ ap (λ l. g.0 ++ l) f.1 ∙ sym (append_assoc g.0 f.0 ks))
 
-drop_front : (front ks : List Known) → drop (length (front ++ ks) - length ks) (front ++ ks) ≡ ks
+pub drop_front : (front ks : List Known) → drop (length (front ++ ks) - length ks) (front ++ ks) ≡ ks
 drop_front front ks = let e : length (front ++ ks) - length ks ≡ length front = omega (arith, length-append front ks) in ap (λ n. drop n (front ++ ks)) e ∙ drop-append_seam front ks
 
 pub rewound : (ss : Stmts) (ks : List Known) → drop (length (known_behind_all ss ks) - length ks) (known_behind_all ss ks) ≡ ks

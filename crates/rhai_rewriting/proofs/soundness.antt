@@ -5,7 +5,6 @@ pub mod OperatorCalls
 pub mod Behind
 pub mod Derivation
 pub mod Scripts
-pub mod Theorem
 pub mod Unrefined
 pub mod Congruence
 pub mod Apart
@@ -13,3 +12,4 @@ pub mod Capturing
 pub mod Kept
 pub mod Start
 pub mod Whole
+pub mod Reports

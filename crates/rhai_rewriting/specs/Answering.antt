@@ -4,7 +4,7 @@ use Rattle.rhai_values.specs.Value.{Text, Value, MapV}
 use Rattle.rhai_meaning.specs.Constants.{constant_value, constant_bool}
 use Rattle.rhai_meaning.specs.Elements.{entry}
 use Rattle.rhai_meaning.specs.Shape.{is_unit}
-use Rattle.rhai_meaning.specs.Tree.{Expr, Property, Dot, Index, Exprs, no_exprs, expr, Stmt, Assignment}
+use Rattle.rhai_meaning.specs.Tree.{Expr, Property, Dot, Index, Exprs, no_exprs, expr, Assignment}
 use Rattle.rhai_meaning.specs.Walk.{Node, OfExpr, OfStmt, Walk, parts_of_expr, parts_of_stmt, arms_at, listed}
 use Rattle.rhai_rewriting.specs.Indexing.{indexed}
 

@@ -35,3 +35,7 @@ pub mod WorkedKnown
 pub mod WorkedLists
 pub mod WorkedListConditions
 pub mod WorkedQueries
+pub mod Passes
+pub mod Kept
+pub mod Reports
+pub mod WorkedPromises

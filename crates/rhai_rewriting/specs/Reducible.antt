@@ -1,14 +1,10 @@
 -- Trees of the whole language in which nothing is left to reduce: each case on one node or on one list.
-use Rattle.std.specs.Prelude.{◌≡◌, ℕ, Bool, true, false, ◌&&◌, ◌||◌, not, List, [], ◌∷◌, Option, Some, None}
-use Rattle.rhai_values.specs.Value.{Text, Value, MapV, same_text}
-use Rattle.rhai_meaning.specs.Constants.{constant_value, constant_values, constant_bool, is_constant}
-use Rattle.rhai_meaning.specs.Elements.{entry}
+use Rattle.std.specs.Prelude.{◌≡◌, Bool, true, false, List, [], ◌∷◌, None}
+use Rattle.rhai_meaning.specs.Constants.{constant_values, constant_bool}
 use Rattle.rhai_meaning.specs.Engine.{Engine}
-use Rattle.rhai_meaning.specs.Shape.{is_unit}
-use Rattle.rhai_meaning.specs.Tree.{SwitchTable, Expr, DynamicConstant, ArrayOf, Variable, Property, BlockExpr, FnCall, Dot, Index, And, Or, Coalesce, Exprs, no_exprs, expr, Stmt, Noop, If, Switch, While, Do, For, Var, Assignment, FnCallStmt, Block, TryCatch, ExprStmt, Return, an_expr, Stmts, no_stmts, stmt, Function, Script}
-use Rattle.rhai_meaning.specs.Walk.{Node, OfExpr, OfStmt, Walk, every, over_stmts, parts_of_expr, parts_of_stmt, arms_at, listed}
+use Rattle.rhai_meaning.specs.Tree.{ArrayOf, BlockExpr, FnCall, And, Or, Coalesce, If, Switch, While, FnCallStmt, Return, an_expr, Stmts, no_stmts, stmt, Function, Script}
+use Rattle.rhai_meaning.specs.Walk.{Node, OfExpr, OfStmt, every, over_stmts}
 use Rattle.rhai_rewriting.specs.Folding.{folded}
-use Rattle.rhai_rewriting.specs.Indexing.{indexed}
 pub use Rattle.rhai_rewriting.specs.Answering.{is_that, is_always, follows_deciding, is_some_value, follows_some, property_of, index_of, without_question, chain_answer, AnswersNothing, of_first, InExpressions}
 use Rattle.rhai_rewriting.specs.Residue.{holds_constant}
 pub use Rattle.rhai_rewriting.specs.Choosing.{is_short, own_value, is_short_for, is_short_over, is_chosen}

@@ -1,5 +1,5 @@
 -- Trees in which none of the forms below is left, at every depth that the optimiser reaches.
-use Rattle.std.specs.Prelude.{◌≡◌, Bool, true, false, ◌&&◌, not, Option, Some, None}
+use Rattle.std.specs.Prelude.{◌≡◌, Bool, true, false, ◌&&◌, not, None}
 use Rattle.rhai_meaning.specs.Engine.{Engine}
 use Rattle.rhai_meaning.specs.Constants.{constant_bool, constant_values, is_constant, is_literal_unit}
 use Rattle.rhai_meaning.specs.Shape.{is_rest, is_left_side, is_table}

@@ -6,7 +6,7 @@ use Rattle.rhai_meaning.specs.Desugar.{root_of, ends_in_call}
 use Rattle.rhai_meaning.specs.Engine.{Engine, Binding}
 use Rattle.rhai_meaning.specs.Plain.{all_true}
 use Rattle.rhai_meaning.specs.Shape.{is_chain}
-use Rattle.rhai_meaning.specs.Tree.{Expr, Variable, ThisPtr, FnCall, Dot, Index, Assignment, FnCallStmt, Function, Script}
+use Rattle.rhai_meaning.specs.Tree.{Callee, Expr, Variable, ThisPtr, FnCall, Dot, Index, Assignment, FnCallStmt, Function, Script}
 use Rattle.rhai_meaning.specs.Walk.{Node, OfExpr, OfStmt, over_script}
 use Rattle.rhai_rewriting.specs.Context.{Context, Whole}
 use Rattle.rhai_rewriting.specs.Known.{Known, shadow_all}
@@ -37,6 +37,12 @@ abbrev pub is_capturing : Node → Bool
 is_capturing (OfExpr (FnCall c es)) = c.captures
 is_capturing (OfStmt (FnCallStmt c es)) = c.captures
 is_capturing _ = false
+
+-- what holds of every callee that captures
+abbrev pub Captures : (Callee → Type 0) → Node → Type 0
+Captures Q (OfExpr (FnCall c es)) = c.captures ≡ true → Q c
+Captures Q (OfStmt (FnCallStmt c es)) = c.captures ≡ true → Q c
+Captures Q _ = Unit {0}
 
 -- no call of a script captures
 abbrev pub captures_nothing : Script → Bool

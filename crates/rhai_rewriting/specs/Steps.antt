@@ -157,6 +157,13 @@ pub record StmtsRun (r : Engine) (m : ListKind) (s s' : Progress) (ss ss' : Stmt
   pub returns_nothing : m ≡ Whole → ends_in_return ss' ≡ false
   pub known : s'.known ≡ s.known
 
+-- the statements of a script or a function's body: nothing is left to reduce in the list itself, nor in its nodes at every depth that the
+-- optimiser reaches
+pub record IsReducedBody (r : Engine) (ss : Stmts) : Type 0 where
+  pub list : IsIrreducibleList ss
+  pub returns_nothing : ends_in_return ss ≡ false
+  pub nodes : AreReduced r ss
+
 -- a list while it is gone over again
 pub record ListPassed (r : Engine) (m : ListKind) (s s' : Progress) (ss ss' : Stmts) : Type 0 where
   pub to : StmtsTo (here r s) m s.is_dirty s'.is_dirty ss ss'
@@ -339,11 +346,6 @@ pub record StmtKept (r : Engine) (s s' : Progress) (x x' : Stmt) : Type 0 where
   pub same : x' ≡ x
   pub state : s' ≡ s
   pub reduced : IsReducedNode r (OfStmt x)
-
--- the parts of a statement, or (not opened) what rules made of it before its parts were gone over
-abbrev pub StmtOpened : Bool → Engine → Bool → Progress → Progress → Stmt → Stmt → Type 0
-StmtOpened true r w s s' x x' = StmtPartsRun r w s s' x x'
-StmtOpened false r w s s' x x' = StmtFired r w s s' x x'
 
 -- ---- what a rule makes of a node, wherever that stands
 

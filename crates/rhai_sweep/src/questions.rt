@@ -12,8 +12,8 @@ ghost use Rattle.rhai_sweep.specs.Sweep as spec;
 use crate::mark::ListMark;
 use bitflags::Flags;
 use rhai_base::ASTFlags;
+use rhai_deep_queries::{exports_nothing, is_surely_unit};
 use rhai_stmts::StmtQueries;
-use rhai_surely_unit::{exports_nothing, is_surely_unit};
 use rhai_tree::{Expr, Stmt};
 
 /// Is it a name alone?

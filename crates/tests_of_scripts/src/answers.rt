@@ -19,7 +19,7 @@ impl Answers for Scripts {
 }
 
 /// Questions about words that the program is given.
-const OF_WORDS: [&str; 5] = ["words", "unflushed", "cut", "request", "builtin"];
+const OF_WORDS: [&str; 6] = ["words", "unflushed", "cut", "request", "builtin", "both"];
 
 /// Questions about reports and the program's host.
 const OF_REPORTS: [&str; 3] = ["stuck", "host", "module"];

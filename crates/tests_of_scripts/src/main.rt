@@ -3,6 +3,7 @@
 
 mod answers;
 mod following;
+mod functions;
 mod given;
 mod guide_runs;
 mod long;

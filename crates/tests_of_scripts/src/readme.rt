@@ -1,4 +1,5 @@
-//! The example of the README, line by line.
+//! A sum is optimised and run, over the crates one by one. The example of the README, `example_first`, is over
+//! `rhai_lang` alone.
 
 use rhai_ast::{Expr, FnCallExpr, Stmt};
 use rhai_base::{Boxed, ImmutableString, Namespace, OutOfMemory, Position, Scope, Seq, Token};

@@ -1,6 +1,7 @@
 //! What the program answers to words, and how it ends where a write or a flush is refused.
 
-use rhai_program::{BuiltinScript, Request, run_words};
+use crate::scripts::level_named;
+use rhai_program::{BuiltinScript, Request, both_reports, run_words};
 use std::alloc::Global;
 use std::{io, str};
 use tests_reader::Said;
@@ -15,11 +16,26 @@ pub fn answer(question: &str, text: &str, said: &Said) {
 fn asked(question: &str, words: &[String], said: &Said) {
     match question {
         "request" => said.debug(&Request::parse(words)),
+        "both" => both(words, said),
         "cut" => cut(words, said),
         _ => say_told(
             &tell(said.alloc, words, usize::MAX, question == "words"),
             said,
         ),
+    }
+}
+
+/// The two reports of a script that words name as those of `run` do.
+fn both(words: &[String], said: &Said) {
+    let [name, level, turns] = words else {
+        return said.want("a script, a level and turns");
+    };
+    if let Some(script) = BuiltinScript::named(name.as_str())
+        && let Some(level) = level_named(level.as_str())
+        && let Some(turns) = said.made(turns.parse::<u64>())
+        && let Some(text) = said.made(both_reports(said.alloc, script, level, turns))
+    {
+        said.put(text.as_str());
     }
 }
 

@@ -4,7 +4,7 @@
 use crate::following::parting;
 use crate::given::{Given, read_given};
 use crate::nodes::{places, places_read};
-use crate::{long, names, nodes};
+use crate::{functions, long, names, nodes};
 use rhai_ast::{FnAccess, FnNamespace, Stmt, StmtQueries};
 use rhai_base::{Boxed, OutOfMemory};
 use rhai_host::{ProgramHost, push_report};
@@ -49,6 +49,11 @@ fn asked(question: &str, given: &Given, script: &str, said: &Said) {
         "run" => run(given, script, said),
         "rewrite" => rewrite(given, script, said),
         "names" => names::answer(given, script, said),
+        "passes" => functions::say_passes(given, script, OptimizationLevel::Simple, said),
+        "passes_none" => functions::say_passes(given, script, OptimizationLevel::None, said),
+        "passes_within" => functions::say_passes_within(given, script, said),
+        "shared" => functions::say_shared(given, script, said),
+        "merge_optimized" => functions::say_merged(given, script, BETWEEN, said),
         "deep" => long::deep(script, said),
         "long" => long::long(script, said),
         "repeated" => long::repeated(given, script, said),

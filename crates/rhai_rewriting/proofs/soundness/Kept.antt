@@ -7,20 +7,22 @@ use Rattle.rhai_meaning.specs.Constants.{constant_for}
 use Rattle.rhai_meaning.specs.Engine.{Engine}
 use Rattle.rhai_meaning.specs.Faults.{is_reserved, AreWellFormedFunctions, IsWellFormedScript}
 use Rattle.rhai_meaning.specs.Plain.{all_true, is_plain_node, is_plain}
-use Rattle.rhai_meaning.specs.Tree.{ChainFlags, Callee, Expr, FnCall, FnCallStmt, Stmts, Function, Script}
-use Rattle.rhai_meaning.specs.Walk.{Node, OfExpr, OfStmt, Around, around_spot, around_parts, outermost, every, throughout, over_stmts, over_functions, over_script, arm_at, arms_at, listed}
+use Rattle.rhai_meaning.specs.Tree.{ChainFlags, Callee, Expr, Stmts, Function, Script}
+use Rattle.rhai_meaning.specs.Walk.{Node, OfExpr, Around, around_spot, around_parts, outermost, every, throughout, over_stmts, over_functions, over_script, arm_at, arms_at, listed}
 use Rattle.rhai_meaning.specs.Weight.{weight}
 use Rattle.rhai_meaning.proofs.PureTrees.{split}
 use Rattle.rhai_meaning.proofs.Walk.{Alongside, stmts_alongside, every_throughout}
 use Rattle.rhai_rewriting.specs.Context.{Context, ListKind}
+use Rattle.rhai_rewriting.specs.Kept.{AreNoHeavier, Keeps}
 use Rattle.rhai_rewriting.specs.Known.{Known}
 use Rattle.rhai_rewriting.specs.Parts.{constant_of, link}
 use Rattle.rhai_rewriting.specs.Rewriting.{RestTo}
-use Rattle.rhai_rewriting.specs.Scripts.{is_capturing, captures_nothing, assigns_to_place, FunctionTo, FunctionsTo, no_functions, functions, ScriptTo}
+use Rattle.rhai_rewriting.specs.Scripts.{Captures, is_capturing, captures_nothing, assigns_to_place, FunctionTo, FunctionsTo, no_functions, functions, ScriptTo}
 use Rattle.rhai_rewriting.proofs.Plain.{is_plain_value}
 use Rattle.rhai_rewriting.proofs.Weights.{stmts_fall}
 use Rattle.rhai_rewriting.proofs.rules.Lasting.{SameNode, same_call, same_assignment, Lasting}
 use Rattle.rhai_rewriting.proofs.soundness.Lasting.{stmts_keep}
+use Rattle.rhai_rewriting.proofs.soundness.OperatorCalls.{calls_stay}
 use Rattle.rhai_rewriting.proofs.soundness.WellFormed.{stmts_well}
 
 -- ---- a test of every node, and where it stands
@@ -165,12 +167,6 @@ apart_lasts l = record {
 pub captures_nothing_still : {engine : Engine} {top inner : List Known} {p p' : Script} → ScriptTo engine top inner p p' → captures_nothing p ≡ true → captures_nothing p' ≡ true
 captures_nothing_still to h = script_true (λ n. not (is_capturing n)) apart_lasts to h
 
--- what holds of every callee that captures
-abbrev pub Captures : (Callee → Type 0) → Node → Type 0
-Captures Q (OfExpr (FnCall c es)) = c.captures ≡ true → Q c
-Captures Q (OfStmt (FnCallStmt c es)) = c.captures ≡ true → Q c
-Captures Q _ = Unit {0}
-
 module _ (Q : Callee → Type 0) where
   captures_again : {n n' : Node} → SameNode n n' → Captures Q n → Captures Q n'
   captures_again (same_call e) h = h
@@ -233,3 +229,20 @@ body_lighter p = omega (arith, stmts_fall p.body)
 
 pub statements_lighter : {engine : Engine} {top inner : List Known} {p p' : Script} → ScriptTo engine top inner p p' → weight p'.statements ≤ weight p.statements
 statements_lighter to = omega (arith, stmts_fall to.statements)
+
+-- ---- all of it
+
+bodies_lighter : {k : Context} {fs fs' : List Function} → FunctionsTo k fs fs' → AreNoHeavier fs fs'
+bodies_lighter no_functions = tt
+bodies_lighter (functions p q) = (body_lighter p, bodies_lighter q)
+
+pub script_keeps : {engine : Engine} {top inner : List Known} {p p' : Script} → ScriptTo engine top inner p p' → Keeps p p'
+script_keeps to = record {
+  well_formed = well_formed_stays to;
+  plain = plain_stays to;
+  places = places_stay to;
+  captures = λ Q. no_capture_anew (λ c. Q c ≡ true) to;
+  operators = calls_stay to.statements;
+  statements = statements_lighter to;
+  functions = bodies_lighter to.functions;
+}

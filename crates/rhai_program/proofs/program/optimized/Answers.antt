@@ -1,7 +1,6 @@
+use Rattle.std.proofs.Common.{refl}
 use Rattle.rhai_program.proofs.Shows.{optimized_built_in}
 use Rattle.rhai_program.proofs.program.optimized.Goals as goal
 
 pub returns : goal.returns
-returns c =
-    optimized_built_in _ _ _ _ _ c.in_ok-after.after c.new-engine.ensures c.in_ok-statements.ensures c.new-functions.ensures.items
-    c.in_ok-after.ensures.refines c.in_ok-after.ensures.functions c.in_ok-after.ensures.kept c.in_ok-after.ensures.reduced
+returns c = optimized_built_in _ _ _ _ _ _ c.in_ok-after.after c.new-engine.ensures refl c.in_ok-statements.ensures c.in_ok-functions.ensures c.in_ok-after.ensures

@@ -1,11 +1,12 @@
+use Rattle.std.proofs.Common.{◌++◌, ap, ◌∙◌}
+use Rattle.rhai_host.specs.Print.{report_text}
 use Rattle.rhai_script.specs.Script.{script_of}
-use Rattle.rhai_program.proofs.Runs.{pushed_run}
+use Rattle.rhai_program.specs.Words.{reported}
 use Rattle.rhai_program.proofs.program.run.Goals as goal
 
 pub returns : goal.returns
 returns c = (
   script_of c.in_ok-after.after,
   c.in_ok-after.ensures,
-  pushed_run _ _ _ _ _ _ _ c.new-engine.ensures c.new-scope.ensures c.new-text.ensures.bytes
-      c.in_ok-report.ensures c.in_ok-push_report.ensures,
+  c.in_ok-push_run.ensures ∙ ap (λ t. t ++ report_text (reported (script_of c.in_ok-after.after) c.args.turns)) c.new-text.ensures.bytes,
 )

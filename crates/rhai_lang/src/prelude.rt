@@ -1,0 +1,7 @@
+//! The traits that carry calls which are inherent to their types in rhai: `use rhai_lang::prelude::*;` brings them.
+
+pub use rhai_ast::{
+    CallQueries, ExprQueries, FromStmt, IntoExpr, Literals, NodeQueries, SetPosition, StmtQueries,
+    SwitchCases, Take, Walk,
+};
+pub use rhai_script_queries::ScriptQueries;

@@ -1,0 +1,127 @@
+-- Functions whose bodies are optimised, and their table.
+use Rattle.std.proofs.Common.{◌≡◌, ℕ, ◌+◌, ◌-◌, ◌<◌, Bool, true, false, None, List, [], ◌∷◌, ◌++◌, map, length, drop, get_or, add-one, append-nil, if◌then◌else◌, refl, sym, ap, ◌∙◌, subst}
+use Rattle.std.proofs.Math.Seq.{drop-cons, drop-length}
+use Rattle.std.proofs.lemmas.List.{append_assoc, map-append}
+use Rattle.std.specs.Rc.{rc_value}
+use Rattle.std.specs.declared.alloc.Global.{Global}
+use Rattle.std.specs.declared.rc.Rc.{Rc}
+use Rattle.rhai_values.specs.Value.{Text}
+use Rattle.rhai_meaning.specs.Calls.{key, same_key}
+use Rattle.rhai_meaning.specs.Engine.{Engine}
+use Rattle.rhai_meaning.specs.Tree.{Stmts}
+use Rattle.rhai_reading.specs.Reading.{function_of, stmts_of}
+use Rattle.rhai_rewriting.specs.Context.{Context, Whole, knowing}
+use Rattle.rhai_rewriting.specs.Known.{Known, shadow_all}
+use Rattle.rhai_rewriting.specs.Rewriting.{RestTo, same_stmts, flag_forgotten}
+use Rattle.rhai_rewriting.specs.Scripts.{FunctionTo, FunctionsTo, no_functions as none_to, functions as more_to}
+use Rattle.rhai_rewriting.specs.Steps.{Progress, IsReducedBody}
+use Rattle.rhai_rewriting.proofs.Flags.{stmts_kept}
+use Rattle.rhai_rewriting.proofs.Running.{drop_front}
+use Rattle.rhai_tree.specs.declared.script_fn.ScriptFuncDef.{ScriptFuncDef}
+use Rattle.rhai_functions.specs.FnKey.{definition_key, definitions_table}
+use Rattle.rhai_functions.specs.Table.{put_by, put_all_by}
+use Rattle.rhai_optimizer.specs.Functions.{Header, header_of, FunctionRun, FunctionsRun, no_functions, one_more, BodyRun}
+use Rattle.rhai_optimizer.specs.Optimised.{AreReducedBodies}
+use Rattle.rhai_optimizer.specs.Passes.{PassRun}
+
+-- ---- names
+
+shadow_front : (xs : List Text) (front ks : List Known) → (f : List Known) × (shadow_all xs (front ++ ks) ≡ f ++ ks)
+shadow_front [] front ks = (front, refl)
+shadow_front (x ∷ xs) front ks = shadow_front xs (record { name = x; value = None } ∷ front) ks
+
+-- the parameters are forgotten
+pub unshadowed : (xs : List Text) (n : ℕ) (ks ls : List Known) → n ≡ length ks → ls ≡ drop (length (shadow_all xs ks) - n) (shadow_all xs ks) → ls ≡ ks
+unshadowed xs n ks ls h e =
+    let f = shadow_front xs [] ks in
+    e ∙ ap (λ i. drop (length (shadow_all xs ks) - i) (shadow_all xs ks)) h ∙ ap (λ l. drop (length l - length ks) l) f.1 ∙ drop_front f.0 ks
+
+-- the parameters of a loop over them
+pub params-drop : (xs : List Text) (i : ℕ) (d : Text) (ks : List Known) → i < length xs → shadow_all (drop i xs) ks ≡ shadow_all (drop (i + 1) xs) (record { name = get_or xs i d; value = None } ∷ ks)
+params-drop xs i d ks h = rw (add-one, drop-cons xs i d) refl
+
+pub params-end : (xs : List Text) (ks : List Known) → shadow_all (drop (length xs) xs) ks ≡ ks
+params-end xs ks = ap (λ ys. shadow_all ys ks) (drop-length xs)
+
+pub ruleset params = (params-drop, params-end)
+
+-- ---- one body
+
+kept_reduced : {r : Engine} {k : Context} {ss ss' : Stmts} → RestTo k Whole true false false ss ss' → IsReducedBody r ss' → IsReducedBody r ss
+kept_reduced {r = r} to h = subst (λ ss. IsReducedBody r ss) (sym (stmts_kept to refl).1) h
+
+module _ {r : Engine} {ks : List Known} (f f' : ScriptFuncDef) (same : header_of f' ≡ header_of f) where
+  body_to : {set : Bool} {s s' : Progress} → s.known ≡ shadow_all f.params ks → PassRun r set s s' (stmts_of f.body.block) (stmts_of f'.body.block) → FunctionTo (knowing r ks) (function_of f) (function_of f')
+  body_to {set = set} {s = s} e run = record {
+    name = ap (λ (h : Header). h.name) same;
+    this_type = ap (λ (h : Header). h.this_type) same;
+    params = ap (λ (h : Header). h.params) same;
+    body = flag_forgotten (subst (λ ls. RestTo (knowing r ls) Whole true false set (stmts_of f.body.block) (stmts_of f'.body.block)) e run.to);
+  }
+
+  body_kept : (set : Bool) {s s' : Progress} → PassRun r set s s' (stmts_of f.body.block) (stmts_of f'.body.block) → set ≡ false → FunctionRun r ks f f
+  body_kept true run h = absurd (let z : true ≡ false = h in cc)
+  body_kept false run h = record { header = refl; to = record { name = refl; this_type = refl; params = refl; body = same_stmts }; reduced = kept_reduced run.to run.reduced }
+
+  pub body_run : (set : Bool) {s s' : Progress} → s.known ≡ shadow_all f.params ks → PassRun r set s s' (stmts_of f.body.block) (stmts_of f'.body.block) → BodyRun r ks set f f'
+  body_run set e run = record {
+    run = record { header = same; to = body_to e run; reduced = run.reduced };
+    kept = body_kept set run;
+  }
+
+-- ---- a table of them
+
+same_definition : {r : Engine} {ks : List Known} {f f' : ScriptFuncDef} → FunctionRun r ks f f' → definition_key f' ≡ definition_key f
+same_definition p = ap (λ (h : Header). key h.name (length h.params) h.this_type) p.header
+
+module _ {r : Engine} {ks : List Known} where
+  put_run : {f f' : ScriptFuncDef} {gs gs' : List ScriptFuncDef} → FunctionRun r ks f f' → FunctionsRun r ks gs gs' → FunctionsRun r ks (put_by definition_key gs f) (put_by definition_key gs' f')
+  put_run p no_functions = one_more p no_functions
+  put_run {f = f} {f' = f'} p (one_more {f = g} {f' = g'} {fs = gs} {fs' = gs'} q qs) =
+      subst (λ b. FunctionsRun r ks (if same_key (definition_key f) (definition_key g) then f ∷ gs else g ∷ put_by definition_key gs f) (if b then f' ∷ gs' else g' ∷ put_by definition_key gs' f'))
+      (sym (ap (λ x. same_key x (definition_key g')) (same_definition p) ∙ ap (same_key (definition_key f)) (same_definition q)))
+      (by (put_run p qs) (same_key (definition_key f) (definition_key g))) where
+        by : FunctionsRun r ks (put_by definition_key gs f) (put_by definition_key gs' f') → (b : Bool) → FunctionsRun r ks (if b then f ∷ gs else g ∷ put_by definition_key gs f) (if b then f' ∷ gs' else g' ∷ put_by definition_key gs' f')
+        by rest true = one_more p qs
+        by rest false = one_more q rest
+
+  put_all_run : {fs fs' gs gs' : List ScriptFuncDef} → FunctionsRun r ks gs gs' → FunctionsRun r ks fs fs' → FunctionsRun r ks (put_all_by definition_key gs fs) (put_all_by definition_key gs' fs')
+  put_all_run table no_functions = table
+  put_all_run table (one_more p ps) = put_all_run (put_run p table) ps
+
+  pub table_run : {fs fs' : List ScriptFuncDef} → FunctionsRun r ks fs fs' → FunctionsRun r ks (definitions_table fs) (definitions_table fs')
+  table_run p = put_all_run no_functions p
+
+  pub functions_to : {fs fs' : List ScriptFuncDef} → FunctionsRun r ks fs fs' → FunctionsTo (knowing r ks) (map function_of fs) (map function_of fs')
+  functions_to no_functions = none_to
+  functions_to (one_more p ps) = more_to p.to (functions_to ps)
+
+  pub same_headers : {fs fs' : List ScriptFuncDef} → FunctionsRun r ks fs fs' → map header_of fs' ≡ map header_of fs
+  same_headers no_functions = refl
+  same_headers (one_more p ps) = λ i. p.header i ∷ same_headers ps i
+
+  pub bodies_reduced : {fs fs' : List ScriptFuncDef} → FunctionsRun r ks fs fs' → AreReducedBodies r (map function_of fs')
+  bodies_reduced no_functions = tt
+  bodies_reduced (one_more p ps) = (p.reduced, bodies_reduced ps)
+
+-- ---- one after another
+
+-- with what becomes of the rest behind those that are done it is what becomes of all
+abbrev pub Done : Engine → List Known → (all rest done : List ScriptFuncDef) → Type 0
+Done r ks all rest done = (gs : List ScriptFuncDef) → FunctionsRun r ks rest gs → FunctionsRun r ks all (done ++ gs)
+
+pub next_done : {r : Engine} {ks : List Known} (all rest done : List ScriptFuncDef) (f f' : ScriptFuncDef) → FunctionRun r ks f f' → Done r ks all (f ∷ rest) done → Done r ks all rest (done ++ f' ∷ [])
+next_done {r = r} {ks = ks} all rest done f f' p d = λ gs q. subst (λ hs. FunctionsRun r ks all hs) (sym (append_assoc done (f' ∷ []) gs)) (d (f' ∷ gs) (one_more p q))
+
+pub all_done : {r : Engine} {ks : List Known} (all done : List ScriptFuncDef) → Done r ks all [] done → FunctionsRun r ks all done
+all_done {r = r} {ks = ks} all done d = subst (λ hs. FunctionsRun r ks all hs) (append-nil done) (d [] no_functions)
+
+-- a loop over shared functions
+pub next_function : {r : Engine} {ks ls : List Known} (all : List ScriptFuncDef) (rest rest' made made' : List (Rc ScriptFuncDef Global)) (f f' : Rc ScriptFuncDef Global)
+    → ls ≡ ks → rest ≡ f ∷ rest' → made' ≡ made ++ f' ∷ [] → FunctionRun r ls f.value f'.value → Done r ks all (map rc_value rest) (map rc_value made) → Done r ks all (map rc_value rest') (map rc_value made')
+next_function {r = r} {ks = ks} all rest rest' made made' f f' k e h run d =
+    subst (λ l. Done r ks all (map rc_value rest') l) (sym (ap (map rc_value) h ∙ map-append rc_value made (f' ∷ [])))
+    (next_done all (map rc_value rest') (map rc_value made) f.value f'.value (subst (λ ls. FunctionRun r ls f.value f'.value) k run) (subst (λ l. Done r ks all l (map rc_value made)) (ap (map rc_value) e) d))
+
+pub no_more_functions : {r : Engine} {ks : List Known} (all : List ScriptFuncDef) (rest made : List (Rc ScriptFuncDef Global)) → rest ≡ [] → Done r ks all (map rc_value rest) (map rc_value made) → FunctionsRun r ks all (map rc_value made)
+no_more_functions {r = r} {ks = ks} all rest made e d = all_done all (map rc_value made) (subst (λ l. Done r ks all (map rc_value l) (map rc_value made)) e d)

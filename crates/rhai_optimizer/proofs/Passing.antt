@@ -1,0 +1,101 @@
+-- Passes over a script's statements.
+use Rattle.std.specs.Prelude.{◌↔◌, IsTrue}
+use Rattle.std.proofs.Common.{◌≡◌, ◌<◌, ◌+◌, ◌-◌, ◌^◌, ℕ, suc, min, Bool, true, false, List, [], ◌∷◌, refl, sym, ap, ◌∙◌, subst, arith}
+use Rattle.rhai_meaning.specs.Engine.{Engine}
+use Rattle.rhai_meaning.specs.Tree.{Stmts, no_stmts, stmt}
+use Rattle.rhai_meaning.specs.Weight.{weight}
+use Rattle.rhai_reading.specs.Reading.{stmts_of}
+use Rattle.rhai_tree.specs.declared.stmt.Stmt.{Stmt}
+use Rattle.rhai_rewriting.specs.Context.{Context, Whole, knowing}
+use Rattle.rhai_rewriting.specs.Known.{Known}
+use Rattle.rhai_rewriting.specs.Passes.{no_pass, one_more, Passes, last_pass, ScriptPasses, PassesWithin}
+use Rattle.rhai_rewriting.specs.Rewriting.{StmtsTo, RestTo}
+use Rattle.rhai_rewriting.specs.Steps.{Progress, StmtsRun, IsReducedBody}
+use Rattle.rhai_rewriting.proofs.Passing.{passes_are_bounded, script_passes_to}
+use Rattle.rhai_rewriting.proofs.Weights.{stmts_fall}
+use Rattle.rhai_optimizer.specs.Passes.{PassRun, Counts, SettingSoFar, PassesRun}
+
+-- a list that was gone over from a clear flag
+pub pass_run : {r : Engine} {s s1 s' : Progress} {ss ss' : Stmts} → s1.is_dirty ≡ false → s1.known ≡ s.known → StmtsRun r Whole s1 s' ss ss' → PassRun r s'.is_dirty s s' ss ss'
+pass_run {r = r} {s = s} {s1 = s1} {s' = s'} {ss = ss} {ss' = ss'} clear same run = record {
+  to = subst (λ d. RestTo (knowing r s.known) Whole true d s'.is_dirty ss ss') clear (subst (λ ks. RestTo (knowing r ks) Whole true s1.is_dirty s'.is_dirty ss ss') same run.to);
+  reduced = record { list = run.list; returns_nothing = run.returns_nothing refl; nodes = run.reduced };
+  known = run.known ∙ same;
+}
+
+-- ---- the loop over passes
+
+pub no_pass_yet : {r : Engine} {s : Progress} {ss : Stmts} → SettingSoFar r 0 s s ss ss
+no_pass_yet = record { made = 0; passes = no_pass; saturated = refl; known = refl }
+
+to_known : {r : Engine} {d : Bool} {ks ls : List Known} {ss ss' : Stmts} → ks ≡ ls → StmtsTo (knowing r ks) Whole false d ss ss' → StmtsTo (knowing r ls) Whole false d ss ss'
+to_known {r = r} {d = d} {ss = ss} {ss' = ss'} e to = subst (λ ks. RestTo (knowing r ks) Whole true false d ss ss') e to
+
+one_counted : (n m k : ℕ) → n ≡ min m (2 ^ 64 - 1) → k ≡ min (n + 1) (2 ^ 64 - 1) → k ≡ min (suc m) (2 ^ 64 - 1)
+one_counted n m k h j = omega (arith, h, j)
+
+pub pass_counted : {r : Engine} {n k : ℕ} {s s1 s' : Progress} {ss ss1 ss' : Stmts} → k ≡ min (n + 1) (2 ^ 64 - 1) → SettingSoFar r n s s1 ss ss1 → PassRun r true s1 s' ss1 ss' → SettingSoFar r k s s' ss ss'
+pass_counted {n = n} {k = k} h so_far run = record {
+  made = suc so_far.made;
+  passes = one_more so_far.passes (to_known so_far.known run.to);
+  saturated = one_counted n so_far.made k so_far.saturated h;
+  known = run.known ∙ so_far.known;
+}
+
+pub pass_falls : {r : Engine} {s s' : Progress} {ss ss' : Stmts} → PassRun r true s s' ss ss' → weight ss' < weight ss
+pass_falls run = omega (arith, stmts_fall run.to)
+
+-- passes over statements that are there
+over_some : {k : Context} {n : ℕ} (ss : Stmts) {ss' : Stmts} → (ss ≡ no_stmts → ⊥) → Passes k n ss ss' → ScriptPasses k n ss ss'
+over_some no_stmts h p = absurd (h refl)
+over_some (stmt s ss) h p = p
+
+pub passes_done : {r : Engine} {n k : ℕ} {s s1 s' : Progress} {ss ss1 ss' : Stmts} → (ss ≡ no_stmts → ⊥) → k ≡ min (n + 1) (2 ^ 64 - 1) → SettingSoFar r n s s1 ss ss1 → PassRun r false s1 s' ss1 ss' → PassesRun r k s s' ss ss'
+passes_done {n = n} {k = k} {ss = ss} some h so_far run = record {
+  counts = record {
+    made = suc so_far.made;
+    passes = over_some ss some (last_pass so_far.passes (to_known so_far.known run.to));
+    saturated = one_counted n so_far.made k so_far.saturated h;
+  };
+  reduced = run.reduced;
+  known = run.known ∙ so_far.known;
+}
+
+reduced_none : (r : Engine) → IsReducedBody r no_stmts
+reduced_none r = record { list = record { ends_where_left = refl; tests_no_constant = refl; never_idles = refl }; returns_nothing = refl; nodes = tt }
+
+pub passes_none : {r : Engine} {s : Progress} (ss : Stmts) → ss ≡ no_stmts → PassesRun r 0 s s ss ss
+passes_none {r = r} {s = s} ss e = subst (λ z. PassesRun r 0 s s z z) (sym e) (record {
+  counts = record { made = 0; passes = (refl, refl); saturated = refl };
+  reduced = reduced_none r;
+  known = refl;
+})
+
+-- what has statements is not read as none
+some_stmts : (ss : List Stmt) → stmts_of ss ≡ no_stmts → ss ≡ []
+some_stmts [] h = refl
+some_stmts (s ∷ ss) h = absurd cc
+
+pub not_none : (b : Bool) (ss : List Stmt) → (IsTrue b ↔ (ss ≡ [])) → b ≡ false → stmts_of ss ≡ no_stmts → ⊥
+not_none b ss h e q = let p : false ≡ true = sym e ∙ h.1 (some_stmts ss q) in cc
+
+pub none_read : (b : Bool) (ss : List Stmt) → (IsTrue b ↔ (ss ≡ [])) → b ≡ true → stmts_of ss ≡ no_stmts
+none_read b ss h e = ap stmts_of (h.0 e)
+
+-- ---- what the number says
+
+pub counts_knowing : {r : Engine} {ks ls : List Known} {n : ℕ} {ss ss' : Stmts} → ks ≡ ls → Counts (knowing r ks) n ss ss' → Counts (knowing r ls) n ss ss'
+counts_knowing {r = r} {n = n} {ss = ss} {ss' = ss'} e c = subst (λ ks. Counts (knowing r ks) n ss ss') e c
+
+pub counts_to : {k : Context} {n : ℕ} {ss ss' : Stmts} → Counts k n ss ss' → StmtsTo k Whole true true ss ss'
+counts_to {ss = ss} {ss' = ss'} c = script_passes_to c.made ss ss' c.passes
+
+pub counts_within : {k : Context} {n : ℕ} {ss ss' : Stmts} → Counts k n ss ss' → PassesWithin n ss ss'
+counts_within {k = k} {n = n} {ss = ss} {ss' = ss'} c =
+    let b = passes_are_bounded k c.made ss ss' c.passes in
+    record {
+      none = λ e. omega (arith, c.saturated, b.none e);
+      some = λ f. omega (arith, c.saturated, b.some f);
+      changed = λ f. omega (arith, c.saturated, b.changed f);
+      most = omega (arith, c.saturated, b.most);
+    }

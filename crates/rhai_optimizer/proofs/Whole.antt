@@ -1,0 +1,182 @@
+-- The promise over a whole script, from what was made of its parts.
+use Rattle.std.proofs.Common.{◌≡◌, ◌≢◌, ℕ, Bool, true, false, List, [], ◌∷◌, map, cond, if◌then◌else◌, None, refl, sym, ap, ◌∙◌, subst}
+use Rattle.std.specs.Prelude.{◌&&◌}
+use Rattle.std.specs.Rc.{rc_value}
+use Rattle.std.specs.declared.alloc.Global.{Global}
+use Rattle.std.specs.declared.rc.Rc.{Rc}
+use Rattle.rhai_tree.specs.declared.script_fn.ScriptFuncDef.{ScriptFuncDef}
+use Rattle.rhai_tree.specs.declared.stmt.Stmt.{Stmt}
+use Rattle.rhai_meaning.specs.Act.{ScopeEntry}
+use Rattle.rhai_meaning.specs.Calls.{same_key}
+use Rattle.rhai_meaning.specs.Engine.{Engine}
+use Rattle.rhai_meaning.specs.Faults.{IsWellFormedScript, AreWellFormedFunctions}
+use Rattle.rhai_meaning.specs.Tree.{Function, Script}
+use Rattle.rhai_meaning.specs.Walk.{over_functions, over_stmts}
+use Rattle.rhai_meaning.proofs.PureTrees.{split}
+use Rattle.rhai_reading.specs.Reading.{function_of, stmts_of}
+use Rattle.rhai_rewriting.specs.Context.{Context, Whole, knowing}
+use Rattle.rhai_rewriting.specs.Known.{Known}
+use Rattle.rhai_rewriting.specs.Reducible.{AreIrreducibleBodies, IsIrreducibleScript}
+use Rattle.rhai_rewriting.specs.Rewriting.{StmtsTo, same_stmts}
+use Rattle.rhai_rewriting.specs.Scripts.{captures_nothing, known_at_top, known_in_bodies, known_inside, MayKnow, nothing_known, none_capture, FunctionsTo, ScriptTo}
+use Rattle.rhai_rewriting.specs.Steps.{IsReducedBody}
+use Rattle.rhai_rewriting.proofs.Irreducible.{body_irreducible}
+use Rattle.rhai_rewriting.proofs.soundness.Kept.{script_keeps, well_formed_stays}
+use Rattle.rhai_rewriting.proofs.soundness.Start.{agrees_inside}
+use Rattle.rhai_rewriting.proofs.soundness.Whole.{functions_same, script_refines}
+use Rattle.rhai_deep_queries.specs.Walks.{capture_walk, listing}
+use Rattle.rhai_functions.specs.FnKey.{definitions_table}
+use Rattle.rhai_functions.specs.Table.{key_of, put_by, put_all_by, table_of}
+use Rattle.rhai_functions.proofs.Tables.{map-put_all}
+use Rattle.rhai_known.specs.declared.level.OptimizationLevel.{OptimizationLevel}
+use Rattle.rhai_known.specs.declared.level.OptimizationLevel.TheVariants as level
+use Rattle.rhai_script.specs.Script.{script_of}
+use Rattle.rhai_script.specs.declared.ast.AST.{AST}
+use Rattle.rhai_optimizer.specs.Functions.{header_of, FunctionsRun}
+use Rattle.rhai_optimizer.specs.Optimised.{optimises_nothing, AreReducedBodies, IsReducedScript, Optimised, PartsOptimised, PassesCounted}
+use Rattle.rhai_optimizer.specs.Passes.{Counts}
+use Rattle.rhai_optimizer.specs.Source.{source_of}
+use Rattle.rhai_optimizer.proofs.Bodies.{table_run, functions_to, same_headers, bodies_reduced}
+use Rattle.rhai_optimizer.proofs.Passing.{counts_to, counts_within}
+
+-- ---- where no function captures, none of a table does
+
+both_true : (a b : Bool) → a ≡ true → b ≡ true → a && b ≡ true
+both_true a b h k = ap (λ x. x && b) h ∙ k
+
+put_apart : (gs : List Function) (f : Function) → over_functions capture_walk gs ≡ true → over_stmts capture_walk f.body ≡ true → over_functions capture_walk (put_by key_of gs f) ≡ true
+put_apart [] f h k = both_true (over_stmts capture_walk f.body) true k refl
+put_apart (g ∷ gs) f h k = by (put_apart gs f (split (over_stmts capture_walk g.body) (over_functions capture_walk gs) h).1 k) (same_key (key_of f) (key_of g)) where
+  z : (over_stmts capture_walk g.body ≡ true) × (over_functions capture_walk gs ≡ true)
+  z = split (over_stmts capture_walk g.body) (over_functions capture_walk gs) h
+
+  by : over_functions capture_walk (put_by key_of gs f) ≡ true → (b : Bool) → over_functions capture_walk (if b then f ∷ gs else g ∷ put_by key_of gs f) ≡ true
+  by rest true = both_true (over_stmts capture_walk f.body) (over_functions capture_walk gs) k z.1
+  by rest false = both_true (over_stmts capture_walk g.body) (over_functions capture_walk (put_by key_of gs f)) z.0 rest
+
+table_apart : (gs fs : List Function) → over_functions capture_walk gs ≡ true → over_functions capture_walk fs ≡ true → over_functions capture_walk (put_all_by key_of gs fs) ≡ true
+table_apart gs [] h k = h
+table_apart gs (f ∷ fs) h k =
+    let z = split (over_stmts capture_walk f.body) (over_functions capture_walk fs) k in
+    table_apart (put_by key_of gs f) fs (put_apart gs f h z.0) z.1
+
+source_apart : (ss : List Stmt) (fs : List (Rc ScriptFuncDef Global)) → captures_nothing (listing ss fs) ≡ true → captures_nothing (source_of ss fs) ≡ true
+source_apart ss fs h =
+    let gs = map function_of (map rc_value fs) in
+    let z = split (over_stmts capture_walk (stmts_of ss)) (over_functions capture_walk gs) h in
+    both_true (over_stmts capture_walk (stmts_of ss)) (over_functions capture_walk (table_of gs)) z.0 (table_apart [] gs refl z.1)
+
+-- what bodies know may be known of the script
+may_know : (r : Engine) (start : List ScopeEntry) (ss : List Stmt) (fs : List (Rc ScriptFuncDef Global)) → MayKnow (source_of ss fs) (known_inside r start (listing ss fs))
+may_know r start ss fs = by (captures_nothing (listing ss fs)) refl where
+  by : (b : Bool) → captures_nothing (listing ss fs) ≡ b → MayKnow (source_of ss fs) (cond b (known_in_bodies r start) [])
+  by true h = none_capture (source_apart ss fs h)
+  by false h = nothing_known
+
+-- ---- the script
+
+pub table_meant : (fs : List ScriptFuncDef) → map function_of (definitions_table fs) ≡ table_of (map function_of fs)
+table_meant fs = map-put_all function_of key_of [] fs
+
+bodies_irreducible : (r : Engine) (fs : List Function) → AreReducedBodies r fs → AreWellFormedFunctions fs → AreIrreducibleBodies r fs
+bodies_irreducible r [] h w = tt
+bodies_irreducible r (f ∷ fs) h w = (body_irreducible r f.body h.0 w.1, bodies_irreducible r fs h.1 w.2)
+
+script_irreducible : (r : Engine) (p : Script) → IsReducedScript r p → IsWellFormedScript p → IsIrreducibleScript r p
+script_irreducible r p h w = record { statements = body_irreducible r p.statements h.statements w.0; functions = bodies_irreducible r p.functions h.functions w.1 }
+
+simple_optimises : level.Simple ≢ level.None
+simple_optimises e = cc
+
+full_optimises : level.Full ≢ level.None
+full_optimises e = cc
+
+abbrev Inside : Engine → List ScopeEntry → List Stmt → List (Rc ScriptFuncDef Global) → List Known
+Inside r start ss fs = known_inside r start (listing ss fs)
+
+-- the functions of the one and of the other, by their tables
+of_tables : (k : Context) (fs fs' : List (Rc ScriptFuncDef Global)) → FunctionsTo k (map function_of (definitions_table (map rc_value fs))) (map function_of (definitions_table (map rc_value fs'))) → FunctionsTo k (table_of (map function_of (map rc_value fs))) (table_of (map function_of (map rc_value fs')))
+of_tables k fs fs' to =
+    subst (λ gs. FunctionsTo k gs (table_of (map function_of (map rc_value fs')))) (table_meant (map rc_value fs))
+    (subst (λ gs. FunctionsTo k (map function_of (definitions_table (map rc_value fs))) gs) (table_meant (map rc_value fs')) to)
+
+-- the script that is made of them
+made_of : (ss : List Stmt) (fs : List (Rc ScriptFuncDef Global)) (ast : AST) → ast.body.block ≡ ss → ast.lib.value.functions ≡ definitions_table (map rc_value fs) → source_of ss fs ≡ script_of ast
+made_of ss fs ast body table = λ i. record { statements = stmts_of (sym body i); functions = sym (ap (map function_of) table ∙ table_meant (map rc_value fs)) i }
+
+module _ {r : Engine} {start : List ScopeEntry} {ss : List Stmt} {fs : List (Rc ScriptFuncDef Global)} {ss' : List Stmt} {fs' : List (Rc ScriptFuncDef Global)} {number : ℕ} where
+  module _ {l : OptimizationLevel} (p : PartsOptimised r start l ss fs ss' fs' number) where
+    optimised_to : l ≢ level.None → ScriptTo r (known_at_top r start) (Inside r start ss fs) (source_of ss fs) (source_of ss' fs')
+    optimised_to h = record { statements = counts_to (p.counts h); functions = of_tables (knowing r (Inside r start ss fs)) fs fs' (functions_to (table_run (p.functions h))) }
+
+    untouched_to : l ≡ level.None → ScriptTo r (known_at_top r start) (Inside r start ss fs) (source_of ss fs) (source_of ss' fs')
+    untouched_to h = record {
+      statements = subst (λ z. StmtsTo (knowing r (known_at_top r start)) Whole true true (stmts_of ss) (stmts_of z)) (sym (p.none h).0) same_stmts;
+      functions = subst (λ z. FunctionsTo (knowing r (Inside r start ss fs)) (source_of ss fs).functions (table_of (map function_of z))) (sym (p.none h).1.0) (functions_same (knowing r (Inside r start ss fs)) (source_of ss fs).functions);
+    }
+
+    table_headers : l ≢ level.None → map header_of (definitions_table (map rc_value fs')) ≡ map header_of (definitions_table (map rc_value fs))
+    table_headers h = same_headers (table_run (p.functions h))
+
+    source_reduced : l ≢ level.None → IsReducedScript r (source_of ss' fs')
+    source_reduced h = record { statements = p.reduced h; functions = subst (λ gs. AreReducedBodies r gs) (table_meant (map rc_value fs')) (bodies_reduced (table_run (p.functions h))) }
+
+  script_to : (l : OptimizationLevel) → PartsOptimised r start l ss fs ss' fs' number → ScriptTo r (known_at_top r start) (Inside r start ss fs) (source_of ss fs) (source_of ss' fs')
+  script_to level.None p = untouched_to p refl
+  script_to level.Simple p = optimised_to p simple_optimises
+  script_to level.Full p = optimised_to p full_optimises
+
+  headers_to : (l : OptimizationLevel) → PartsOptimised r start l ss fs ss' fs' number → map header_of (definitions_table (map rc_value fs')) ≡ map header_of (definitions_table (map rc_value fs))
+  headers_to level.None p = ap (λ gs. map header_of (definitions_table gs)) (p.none refl).1.0
+  headers_to level.Simple p = table_headers p simple_optimises
+  headers_to level.Full p = table_headers p full_optimises
+
+  module _ (ast : AST) (body : ast.body.block ≡ ss') (table : ast.lib.value.functions ≡ definitions_table (map rc_value fs')) where
+    pub whole : (l : OptimizationLevel) → PartsOptimised r start l ss fs ss' fs' number → (ast.source ≡ None) × ((ast.doc ≡ []) × (ast.lib.value.id ≡ None)) → Optimised r start l ss fs ast
+    whole l p unnamed =
+        let to : ScriptTo r (known_at_top r start) (Inside r start ss fs) (source_of ss fs) (script_of ast) = subst (λ q. ScriptTo r (known_at_top r start) (Inside r start ss fs) (source_of ss fs) q) (made_of ss' fs' ast body table) (script_to l p) in
+        let reduced : (l ≢ level.None → IsReducedScript r (script_of ast)) = λ h. subst (λ q. IsReducedScript r q) (made_of ss' fs' ast body table) (source_reduced p h) in
+        record {
+          refines = script_refines to (may_know r start ss fs) (agrees_inside r start (listing ss fs));
+          keeps = script_keeps to;
+          irreducible = λ h w. script_irreducible r (script_of ast) (reduced h) (well_formed_stays to w);
+          reduced = reduced;
+          headers = ap (map header_of) table ∙ headers_to l p;
+          untouched = λ h. (body ∙ (p.none h).0, table ∙ ap definitions_table (p.none h).1.0);
+          unnamed = unnamed;
+        }
+
+    pub passes_counted : (l : OptimizationLevel) → PartsOptimised r start l ss fs ss' fs' number → PassesCounted r start l (source_of ss fs) (script_of ast) number
+    passes_counted l p =
+        let counts : (l ≢ level.None → Counts (knowing r (known_at_top r start)) number (stmts_of ss) (script_of ast).statements) = λ h. subst (λ (q : Script). Counts (knowing r (known_at_top r start)) number (stmts_of ss) q.statements) (made_of ss' fs' ast body table) (p.counts h) in
+        record { made = counts; within = λ h. counts_within (counts h); none = λ h. (p.none h).1.1 }
+
+-- ---- at a level
+
+none_by : (l : OptimizationLevel) → optimises_nothing l ≡ true → l ≡ level.None
+none_by level.None h = refl
+none_by level.Simple h = absurd (let z : false ≡ true = h in cc)
+none_by level.Full h = absurd (let z : false ≡ true = h in cc)
+
+some_by : (l : OptimizationLevel) → optimises_nothing l ≡ false → l ≢ level.None
+some_by level.None h e = let z : true ≡ false = h in cc
+some_by level.Simple h e = cc
+some_by level.Full h e = cc
+
+pub parts_untouched : {r : Engine} {start : List ScopeEntry} (l : OptimizationLevel) (ss : List Stmt) (fs : List (Rc ScriptFuncDef Global)) → optimises_nothing l ≡ true → PartsOptimised r start l ss fs ss fs 0
+parts_untouched l ss fs h = record {
+  counts = λ n. absurd (n (none_by l h));
+  reduced = λ n. absurd (n (none_by l h));
+  functions = λ n. absurd (n (none_by l h));
+  none = λ e. (refl, (refl, refl));
+}
+
+pub parts_made : {r : Engine} {start : List ScopeEntry} {ss ss' : List Stmt} {fs fs' : List (Rc ScriptFuncDef Global)} {number : ℕ} (l : OptimizationLevel) → optimises_nothing l ≡ false
+    → Counts (knowing r (known_at_top r start)) number (stmts_of ss) (stmts_of ss') → IsReducedBody r (stmts_of ss') → FunctionsRun r (known_inside r start (listing ss fs)) (map rc_value fs) (map rc_value fs')
+    → PartsOptimised r start l ss fs ss' fs' number
+parts_made l h counts reduced functions = record {
+  counts = λ n. counts;
+  reduced = λ n. reduced;
+  functions = λ n. functions;
+  none = λ e. absurd (some_by l h e);
+}

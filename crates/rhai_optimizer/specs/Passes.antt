@@ -1,0 +1,32 @@
+-- Passes over a script's statements, as they are counted.
+use Rattle.std.specs.Prelude.{◌≡◌, ℕ, ◌-◌, ◌^◌, min, Bool, false}
+use Rattle.rhai_meaning.specs.Engine.{Engine}
+use Rattle.rhai_meaning.specs.Tree.{Stmts}
+use Rattle.rhai_rewriting.specs.Context.{Context, Whole, knowing}
+use Rattle.rhai_rewriting.specs.Passes.{Setting, ScriptPasses}
+use Rattle.rhai_rewriting.specs.Rewriting.{StmtsTo}
+use Rattle.rhai_rewriting.specs.Steps.{Progress, IsReducedBody}
+
+-- one pass, from a clear flag; set: whether the flag is set behind it
+pub record PassRun (r : Engine) (set : Bool) (s s' : Progress) (ss ss' : Stmts) : Type 0 where
+  pub to : StmtsTo (knowing r s.known) Whole false set ss ss'
+  pub reduced : IsReducedBody r ss'
+  pub known : s'.known ≡ s.known
+
+-- the number of the passes that were made; it stays at the greatest that a `u64` holds
+pub record Counts (k : Context) (number : ℕ) (ss ss' : Stmts) : Type 0 where
+  pub made : ℕ
+  pub passes : ScriptPasses k made ss ss'
+  pub saturated : number ≡ min made (2 ^ 64 - 1)
+
+-- so many passes that set the flag, while more are made
+pub record SettingSoFar (r : Engine) (number : ℕ) (s s' : Progress) (ss ss' : Stmts) : Type 0 where
+  pub made : ℕ
+  pub passes : Setting (knowing r s.known) made ss ss'
+  pub saturated : number ≡ min made (2 ^ 64 - 1)
+  pub known : s'.known ≡ s.known
+
+pub record PassesRun (r : Engine) (number : ℕ) (s s' : Progress) (ss ss' : Stmts) : Type 0 where
+  pub counts : Counts (knowing r s.known) number ss ss'
+  pub reduced : IsReducedBody r ss'
+  pub known : s'.known ≡ s.known

@@ -1,0 +1,92 @@
+//! Questions about functions that are optimised, and about how many passes are made.
+
+use crate::given::Given;
+use crate::scripts::{made, printed, push_run};
+use rhai_ast::ScriptFuncDef;
+use rhai_base::OutOfMemory;
+use rhai_optimizer::{OptimizationLevel, optimize_counted};
+use rhai_script::AST;
+use std::rc::Rc;
+use tests_reader::{Said, Script, split};
+
+/// Says how many passes are made over the statements of a script at a level.
+pub fn say_passes(given: &Given, text: &str, level: OptimizationLevel, said: &Said) {
+    if let Some(passes) = passes(given, text, level, said) {
+        said.display(&passes);
+    }
+}
+
+/// Says whether there are as many passes as a line before the script allows: at least, and at most.
+pub fn say_passes_within(given: &Given, text: &str, said: &Said) {
+    let (bounds, text) = split(text, "\n");
+    let (least, most) = split(bounds, " ");
+    if let Some(passes) = passes(given, text, OptimizationLevel::Simple, said)
+        && let Some(least) = said.made(least.parse::<u64>())
+        && let Some(most) = said.made(most.parse::<u64>())
+    {
+        said.display(&(least <= passes && passes <= most));
+    }
+}
+
+fn passes(given: &Given, text: &str, level: OptimizationLevel, said: &Said) -> Option<u64> {
+    let script = said.script(text)?;
+    let (_, passes) = said.made(counted(given, script, level, said))?;
+    Some(passes)
+}
+
+fn counted(
+    given: &Given,
+    script: Script,
+    level: OptimizationLevel,
+    said: &Said,
+) -> Result<(AST, u64), OutOfMemory> {
+    let Script {
+        statements,
+        functions,
+    } = script;
+    let (info, scope) = (&given.info, Some(&given.scope));
+    optimize_counted(said.alloc, info, scope, statements, functions, level)
+}
+
+/// Says of each function that its reader still holds whether it is the same after the optimiser, or another one.
+pub fn say_shared(given: &Given, text: &str, said: &Said) {
+    if let Some(script) = said.script(text)
+        && let Some(held) = said.made(copies(&script.functions, said))
+        && let Some(script) = made(given, script, OptimizationLevel::Simple, said)
+    {
+        for (function, before) in script.get().shared_lib().iter().zip(held.as_slice()) {
+            said.word(function.name.as_str());
+            said.word(if Rc::ptr_eq(function, before) {
+                "is the same"
+            } else {
+                "is another"
+            });
+        }
+    }
+}
+
+fn copies(
+    functions: &Vec<Rc<ScriptFuncDef>>,
+    said: &Said,
+) -> Result<Vec<Rc<ScriptFuncDef>>, OutOfMemory> {
+    let mut held = Vec::new(said.alloc);
+    for function in functions {
+        held.push(function.clone()?)?;
+    }
+    Ok(held)
+}
+
+/// A script that is optimised, merged with another one as it is: how it is printed, and the report of its run.
+pub fn say_merged(given: &Given, text: &str, between: &str, said: &Said) {
+    let (first, second) = split(text, between);
+    if let Some(first) = said.script(first)
+        && let Some(second) = said.script(second)
+        && let Some(first) = made(given, first, OptimizationLevel::Simple, said)
+        && let Some(second) = made(given, second, OptimizationLevel::None, said)
+        && let Some(both) = said.made(first.get().merge(second.get()))
+    {
+        let mut told = printed(&both, said);
+        said.made(push_run(given, &both, &mut told, said));
+        said.put(told.as_str());
+    }
+}
