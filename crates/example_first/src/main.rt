@@ -3,33 +3,31 @@
 
 use rhai_lang::prelude::*;
 use rhai_lang::{
-    ASTNode, Boxed, EngineInfo, Expr, FnAccess, FnCallExpr, ImmutableString, Namespace,
-    OptimizationLevel, OutOfMemory, Position, ProgramHost, Scope, ScriptFuncDef, Seq, Span, Stmt,
-    StmtBlock, Token, check_tree, optimize_into_ast, plain_run, push_report, push_script,
+    AST, ASTNode, EngineInfo, FnAccess, FnLib, ImmutableString, OptimizationLevel, OutOfMemory,
+    Position, ProgramHost, Scope, ScriptFuncDef, Seq, Span, Stmt, StmtBlock, Token, make,
+    optimize_ast, plain_run, push_report, push_script,
 };
 use std::alloc::{AllocError, Global};
 use std::rc::Rc;
 
-/// The call of a function or of an operator over integers, as a parser would build it.
-fn call(alloc: Global, name: &str, numbers: &[i64]) -> Result<Stmt, OutOfMemory> {
-    let mut args = Seq::new(alloc);
-    for number in numbers {
-        args.push(Expr::IntegerConstant(*number, Position::NONE))?;
-    }
-    let call = FnCallExpr {
-        namespace: Namespace::none(alloc),
-        name: ImmutableString::new(alloc, name)?,
-        args,
-        capture_parent_scope: false,
-        op_token: Token::lookup_symbol_from_syntax(name), // of an operator alone
-    };
-    Ok(Stmt::FnCall(Boxed::new(alloc, call)?, Position::NONE))
+/// `log(1); answer()`
+fn calls(alloc: Global) -> Result<Vec<Stmt>, OutOfMemory> {
+    let one = Seq::from_array(alloc, [make::integer(1, Position::NONE)])?;
+    let log = make::call_stmt(alloc, "log", one, Position::NONE)?;
+    let answer = make::call_stmt(alloc, "answer", Seq::new(alloc), Position::NONE)?;
+    Ok(vec![in alloc; log, answer]?)
 }
 
 /// `fn answer() { 40 + 2 }`
 fn answer(alloc: Global) -> Result<ScriptFuncDef, OutOfMemory> {
+    let (forty, two) = (
+        make::integer(40, Position::NONE),
+        make::integer(2, Position::NONE),
+    );
+    let sum = make::operator(alloc, Token::Plus, forty, two, Position::NONE)?;
+    let body = vec![in alloc; make::expr_stmt(alloc, sum)?]?;
     Ok(ScriptFuncDef {
-        body: StmtBlock::new_with_span(vec![in alloc; call(alloc, "+", &[40, 2])?]?, Span::NONE),
+        body: StmtBlock::new_with_span(body, Span::NONE),
         name: ImmutableString::new(alloc, "answer")?,
         this_type: None,
         access: FnAccess::Public,
@@ -38,14 +36,14 @@ fn answer(alloc: Global) -> Result<ScriptFuncDef, OutOfMemory> {
     })
 }
 
-/// What becomes of `log(1); answer()`.
+/// What becomes of the two.
 fn told(alloc: Global) -> Result<String, OutOfMemory> {
-    let statements = vec![in alloc; call(alloc, "log", &[1])?, call(alloc, "answer", &[])?]?;
     let functions = vec![in alloc; Rc::new(alloc, answer(alloc)?)?]?;
-    let well_formed = check_tree(alloc, statements.as_slice(), functions.as_slice()).is_ok();
+    let lib = Rc::new(alloc, FnLib::from_functions(alloc, functions)?)?;
+    let script = AST::new(calls(alloc)?, lib);
+    let well_formed = script.check().is_ok();
     let info = EngineInfo::new(alloc); // overrides no operator
-    let level = OptimizationLevel::Simple;
-    let script = optimize_into_ast(alloc, &info, None, statements, functions, level)?;
+    let script = optimize_ast(alloc, &info, None, script, OptimizationLevel::Simple)?;
     let flat = script.walk(&mut |path: &[ASTNode]| path.len() < 3)?; // stops at a longer path
     let mut text = format!(in alloc; "well-formed: {well_formed}, flat: {flat}\n")?;
     push_script(&script, &mut text)?;

@@ -30,8 +30,8 @@ pub fn check_tree(
     check_functions(alloc, functions)
 }
 
-/// Whether no node that a walk shows calls `eval`, `is_def_var` or `is_def_fn` without a namespace, imports,
-/// exports or shares names, or has the flag EXPORTED. It is not in rhai.
+/// Whether no node that a walk shows calls `eval`, `is_def_var` or `is_def_fn` without a namespace, or
+/// shares names. It is not in rhai.
 pub fn is_plain(statements: &[Stmt], functions: &[Rc<ScriptFuncDef>]) -> bool
     ensures { result ≡ plain.is_plain (script_by statements.now functions.now) }
 {

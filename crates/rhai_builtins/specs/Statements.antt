@@ -2,8 +2,8 @@
 use Rattle.std.specs.Prelude.{List, [], ◌∷◌, Some, None, pos, negsuc, false, true, codes}
 use Rattle.rhai_values.specs.Value.{IntV, ArrayV, values}
 use Rattle.rhai_base.specs.Operators.{Plus, Multiply, Divide, EqualTo}
-use Rattle.rhai_meaning.specs.Tree.{NoToken, SwitchCase, SwitchTable, Expr, BoolConstant, IntegerConstant, StringConstant, UnitConstant, InterpolatedString, BlockExpr, FnCall, MethodCall, Dot, Coalesce, no_exprs, expr, exprs, an_expr, Arms, no_arms, arm, Stmt, If, Switch, While, For, Block, ExprStmt, Return, Stmts, no_stmts, stmts, Function}
-use Rattle.rhai_builtins.specs.Trees.{called, int, variable, array, over, link, element, alone, evaluates, declares, assigns, calls}
+use Rattle.rhai_meaning.specs.Tree.{NoToken, SwitchCase, SwitchTable, Expr, BoolConstant, IntegerConstant, StringConstant, UnitConstant, Variable, InterpolatedString, BlockExpr, FnCall, MethodCall, Dot, Coalesce, no_exprs, expr, exprs, an_expr, Arms, no_arms, arm, Stmt, If, Switch, While, For, Var, Block, ExprStmt, Return, Import, Stmts, no_stmts, stmts, Function}
+use Rattle.rhai_builtins.specs.Trees.{called, int, variable, array, over, going_on, element, alone, evaluates, declares, assigns, calls}
 
 -- 1 + 1 == 2
 abbrev pub first_condition : Expr
@@ -67,7 +67,7 @@ shadow_statements = stmts (declares true (codes "x") (int 42) ∷ printing_loop 
 
 -- {a}.push(1)
 abbrev pub pushing : Expr
-pushing = Dot (link false) (BlockExpr (evaluates (variable (codes "a")))) (MethodCall (called (codes "push") NoToken) (expr (int 1) no_exprs))
+pushing = Dot going_on (BlockExpr (evaluates (variable (codes "a")))) (MethodCall (called (codes "push") NoToken) (expr (int 1) no_exprs))
 
 -- let a = []; {a}.push(1); a
 abbrev pub base_statements : Stmts
@@ -135,3 +135,19 @@ greeting_function = record { name = codes "foo"; this_type = None; params = code
 -- of foo(x) and foo(n) the later one alone
 abbrev pub merge_functions : List Function
 merge_functions = greeting_function ∷ []
+
+-- import "m" as a
+abbrev pub imported : Stmt
+imported = Import (StringConstant (codes "m")) (codes "a")
+
+-- export let x = a::v
+abbrev pub exported : Stmt
+exported = Var false true (codes "x") (Variable (codes "a" ∷ []) (codes "v"))
+
+-- x + 1
+abbrev pub one_added : Expr
+one_added = over Plus (variable (codes "x")) (int 1)
+
+-- import "m" as a; export let x = a::v; x + 1
+abbrev pub import_statements : Stmts
+import_statements = stmts (imported ∷ exported ∷ ExprStmt one_added ∷ [])

@@ -1,36 +1,24 @@
 -- Short forms of trees.
-use Rattle.std.specs.Prelude.{ℕ, Bool, List, [], false, true, None, pos}
+use Rattle.std.specs.Prelude.{ℕ, Bool, List, false, None, pos}
 use Rattle.rhai_values.specs.Value.{Text}
 use Rattle.rhai_base.specs.Operators.{Operator, symbol}
-use Rattle.rhai_meaning.specs.Tree.{Callee, CallToken, NoToken, OfOperator, ChainFlags, Expr, IntegerConstant, ArrayOf, Variable, FnCall, Index, no_exprs, expr, exprs, Stmt, Var, Assignment, FnCallStmt, ExprStmt, Stmts, no_stmts, stmt}
-
--- what is called by its name alone
-abbrev pub called : Text → CallToken → Callee
-called name token = record { namespace = []; name = name; captures = false; token = token }
+pub use Rattle.rhai_make.specs.Trees.{called, variable, operation, element}
+use Rattle.rhai_meaning.specs.Tree.{NoToken, OfOperator, ChainFlags, Expr, IntegerConstant, ArrayOf, no_exprs, expr, exprs, Stmt, Var, Assignment, FnCallStmt, ExprStmt, Stmts, no_stmts, stmt}
 
 -- ---- expressions
 
 abbrev pub int : ℕ → Expr
 int n = IntegerConstant (pos n)
 
-abbrev pub variable : Text → Expr
-variable name = Variable [] name
-
 abbrev pub array : List Expr → Expr
 array es = ArrayOf (exprs es)
-
-abbrev pub operation : Text → CallToken → Expr → Expr → Expr
-operation name token lhs rhs = FnCall (called name token) (expr lhs (expr rhs no_exprs))
 
 abbrev pub over : Operator → Expr → Expr → Expr
 over op lhs rhs = operation (symbol op) (OfOperator op) lhs rhs
 
--- a link of a chain; the last index ends it
-abbrev pub link : Bool → ChainFlags
-link breaks = record { negated = false; breaks = breaks; exported = false }
-
-abbrev pub element : Expr → Expr → Expr
-element e index = Index (link true) e index
+-- a link of a chain
+abbrev pub going_on : ChainFlags
+going_on = record { negated = false; breaks = false; exported = false }
 
 -- ---- statements
 

@@ -8,9 +8,10 @@ ghost use Rattle.rhai_builtins.specs.Trees.{operation, variable};
 ghost use Rattle.rhai_builtins.specs.Statements as spec;
 
 use crate::expressions::{both, integer, operation, variable};
-use crate::lines::{alone, assigned, block, braced, called, declared, with};
+use crate::lines::{alone, assigned, block, called, declared, with};
 use rhai_ast::{Expr, Stmt};
 use rhai_base::{ASTFlags, OutOfMemory, Token};
+use rhai_make::block_stmt;
 use std::alloc::Global;
 
 /// The statements of `const A = 40 + 2; let b = 123; const B = b * A; const C = 999; b = A + C; { const Z = 0; print(Z); }`.
@@ -65,5 +66,5 @@ fn printing_block(alloc: Global) -> Result<Stmt, OutOfMemory>
 {
     let constant = declared(alloc, ASTFlags::CONSTANT, "Z", integer(0))?;
     let (statements, z) = both(alone(alloc, constant)?, variable(alloc, "Z"))?;
-    braced(alloc, block(with(statements, called(alloc, "print", z))?))
+    block_stmt(alloc, block(with(statements, called(alloc, "print", z))?))
 }

@@ -7,12 +7,14 @@ mod constants;
 mod expressions;
 mod lines;
 mod merge;
+mod modules;
 mod names;
 mod statements;
 mod switch;
 
 pub use constants::constants_statements;
 pub use merge::{merge_functions, merge_statements};
+pub use modules::import_statements;
 pub use names::{base_statements, opassign_statements, rewrite_statements, shadow_statements};
 pub use statements::{
     bits_statements, coalesce_statements, divide_statements, endless_statements, first_statements,

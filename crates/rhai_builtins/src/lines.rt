@@ -4,14 +4,14 @@
 ghost use Rattle.std.specs.Prelude.{◌≡◌, ◌∷◌, ◌++◌, [], IfOk, Ok};
 ghost use Rattle.rhai_tree.specs.declared.stmt.Stmt.{Stmt};
 ghost use Rattle.rhai_reading.specs.Reading.{expr_of, is_const, is_exported, stmt_of, stmts_of};
-ghost use Rattle.rhai_meaning.specs.Tree.{Block, ExprStmt, Var};
+ghost use Rattle.rhai_meaning.specs.Tree.{Var};
 ghost use Rattle.rhai_builtins.specs.Trees.{assigns, calls, evaluates};
 
-use crate::expressions::{both, call_with, variable};
-use rhai_ast::{BinaryExpr, Expr, Stmt, StmtBlock};
-use rhai_base::{
-    ASTFlags, Boxed, Ident, ImmutableString, OpAssignment, OutOfMemory, Position, Span,
-};
+use crate::expressions::{both, variable};
+use rhai_ast::{Expr, Stmt, StmtBlock};
+use rhai_base::{ASTFlags, Ident, OutOfMemory, Position, Seq, Span};
+use rhai_make as make;
+use rhai_make::expr_stmt;
 use std::alloc::Global;
 
 pub(crate) fn block(statements: Vec<Stmt>) -> StmtBlock
@@ -42,31 +42,13 @@ pub(crate) fn with(
 pub(crate) fn evaluated_alone(alloc: Global, expr: Expr) -> Result<Vec<Stmt>, OutOfMemory>
     ensures { IfOk result (λ statements. stmts_of statements.items ≡ evaluates (expr_of expr)) }
 {
-    alone(alloc, evaluated(alloc, expr)?)
-}
-
-/// The statement that evaluates an expression.
-pub(crate) fn evaluated(alloc: Global, expr: Expr) -> Result<Stmt, OutOfMemory>
-    ensures { IfOk result (λ statement. stmt_of statement ≡ ExprStmt (expr_of expr)) }
-{
-    Ok(Stmt::Expr(Boxed::new(alloc, expr)?))
-}
-
-/// A block as a statement.
-pub(crate) fn braced(alloc: Global, block: StmtBlock) -> Result<Stmt, OutOfMemory>
-    ensures { IfOk result (λ statement. stmt_of statement ≡ Block (stmts_of block.block)) }
-{
-    Ok(Stmt::Block(Boxed::new(alloc, block)?))
+    alone(alloc, expr_stmt(alloc, expr)?)
 }
 
 pub(crate) fn name_of(alloc: Global, text: &str) -> Result<Ident, OutOfMemory>
     ensures { IfOk result (λ name. name.name ≡ text.now) }
 {
-    let name = ImmutableString::new(alloc, text)?;
-    Ok(Ident {
-        name,
-        pos: Position::NONE,
-    })
+    make::ident(alloc, text, Position::NONE)
 }
 
 /// A declaration, of a constant if that flag is set.
@@ -79,24 +61,21 @@ pub(crate) fn declared(
     ensures { IfOk result (λ statement. stmt_of statement ≡ Var (is_const flags) (is_exported flags) name.now (expr_of value)) }
 {
     let (value, name) = both(value, name_of(alloc, name))?;
-    let declaration = Boxed::new(alloc, (name, value, None))?;
-    Ok(Stmt::Var(declaration, flags, Position::NONE))
+    make::declaration(alloc, flags, name, value, Position::NONE)
 }
 
 /// A straight assignment to a variable.
 pub(crate) fn assigned(alloc: Global, name: &str, value: Expr) -> Result<Stmt, OutOfMemory>
     ensures { IfOk result (λ statement. stmt_of statement ≡ assigns name.now (expr_of value)) }
 {
-    let (rhs, lhs) = both(value, variable(alloc, name))?;
-    let sign = OpAssignment::new_assignment(Position::NONE);
-    let assignment = Boxed::new(alloc, (sign, BinaryExpr { lhs, rhs }))?;
-    Ok(Stmt::Assignment(assignment))
+    let (value, name) = both(value, variable(alloc, name))?;
+    make::assignment(alloc, name, value, Position::NONE)
 }
 
 /// A call with one argument, as a statement.
 pub(crate) fn called(alloc: Global, name: &str, argument: Expr) -> Result<Stmt, OutOfMemory>
     ensures { IfOk result (λ statement. stmt_of statement ≡ calls name.now (expr_of argument)) }
 {
-    let call = call_with(alloc, name, argument)?;
-    Ok(Stmt::FnCall(call, Position::NONE))
+    let args = Seq::from_array(alloc, [argument])?;
+    make::call_stmt(alloc, name, args, Position::NONE)
 }

@@ -7,10 +7,11 @@ ghost use Rattle.rhai_meaning.specs.Tree.{BlockExpr, ExprStmt};
 ghost use Rattle.rhai_builtins.specs.Trees as tree;
 ghost use Rattle.rhai_builtins.specs.Statements as spec;
 
-use crate::expressions::{array, both, braces, call_with, integer, operation, variable};
-use crate::lines::{alone, assigned, block, called, declared, evaluated, name_of, with};
+use crate::expressions::{array, both, call_with, integer, operation, variable};
+use crate::lines::{alone, assigned, block, called, declared, name_of, with};
 use rhai_ast::{BinaryExpr, Expr, FlowControl, Stmt, StmtBlock};
 use rhai_base::{ASTFlags, Boxed, OutOfMemory, Position, Seq, Token};
+use rhai_make::{block_expr, expr_stmt};
 use std::alloc::Global;
 
 /// The statements of `let x = 1; x = x + 2; x`.
@@ -59,15 +60,15 @@ fn rewriting_braces(alloc: Global) -> Result<Expr, OutOfMemory>
     ensures { IfOk result (λ expr. expr_of expr ≡ BlockExpr spec.rewriting_block) }
 {
     let statements = alone(alloc, assigned(alloc, "x", integer(5))?)?;
-    let statements = with(statements, evaluated(alloc, integer(1)))?;
-    braces(alloc, block(statements))
+    let statements = with(statements, expr_stmt(alloc, integer(1)))?;
+    block_expr(alloc, block(statements))
 }
 
 /// The statement that evaluates a variable.
 fn evaluated_name(alloc: Global, name: &str) -> Result<Stmt, OutOfMemory>
     ensures { IfOk result (λ statement. stmt_of statement ≡ ExprStmt (tree.variable name.now)) }
 {
-    evaluated(alloc, variable(alloc, name)?)
+    expr_stmt(alloc, variable(alloc, name)?)
 }
 
 /// The statements of `const x = 42; for x in [1, 2] { print(x); }`.
@@ -126,7 +127,7 @@ fn pushing(alloc: Global) -> Result<Stmt, OutOfMemory>
     let (lhs, push) = both(lhs, call_with(alloc, "push", integer(1)))?;
     let rhs = Expr::MethodCall(push, Position::NONE);
     let sides = Boxed::new(alloc, BinaryExpr { lhs, rhs })?;
-    evaluated(alloc, Expr::Dot(sides, ASTFlags::NONE, Position::NONE))
+    expr_stmt(alloc, Expr::Dot(sides, ASTFlags::NONE, Position::NONE))
 }
 
 /// A variable as a block.
@@ -134,5 +135,5 @@ fn braced_name(alloc: Global, name: &str) -> Result<Expr, OutOfMemory>
     ensures { IfOk result (λ expr. expr_of expr ≡ BlockExpr (tree.evaluates (tree.variable name.now))) }
 {
     let statements = alone(alloc, evaluated_name(alloc, name)?)?;
-    braces(alloc, block(statements))
+    block_expr(alloc, block(statements))
 }

@@ -10,9 +10,10 @@ ghost use Rattle.rhai_builtins.specs.Trees.{element, evaluates, int, operation, 
 ghost use Rattle.rhai_builtins.specs.Statements.{bits_statements, coalesce_statements, divide_statements, endless_statements, first_condition, first_statements, index_statements, return_statements, tail_statements};
 
 use crate::expressions::{array, element, integer, operation};
-use crate::lines::{alone, block, braced, called, evaluated, evaluated_alone, with};
+use crate::lines::{alone, block, called, evaluated_alone, with};
 use rhai_ast::{Expr, FlowControl, Stmt, StmtBlock};
 use rhai_base::{ASTFlags, Boxed, INT, OutOfMemory, Position, Seq, Token};
+use rhai_make::{block_stmt, expr_stmt};
 use std::alloc::Global;
 
 /// The statements of `if 1 + 1 == 2 { 40 + 2 } else { 1 / 0 }`.
@@ -112,8 +113,8 @@ fn returned(alloc: Global, value: Expr) -> Result<Stmt, OutOfMemory>
 pub fn tail_statements(alloc: Global) -> Result<Vec<Stmt>, OutOfMemory>
     ensures { IfOk result (λ statements. stmts_of statements.items ≡ tail_statements) }
 {
-    let statements = alone(alloc, evaluated(alloc, integer(42))?)?;
-    with(statements, braced(alloc, StmtBlock::none(alloc)))
+    let statements = alone(alloc, expr_stmt(alloc, integer(42))?)?;
+    with(statements, block_stmt(alloc, StmtBlock::none(alloc)))
 }
 
 /// The statements of `loop {} print(1)`.

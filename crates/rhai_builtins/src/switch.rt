@@ -7,11 +7,12 @@ ghost use Rattle.rhai_meaning.specs.Tree.{IntegerConstant};
 ghost use Rattle.rhai_builtins.specs.Trees.{array, int};
 ghost use Rattle.rhai_builtins.specs.Statements as spec;
 
-use crate::expressions::{array, both, call, certain, integer};
+use crate::expressions::{array, both, certain, integer};
 use crate::lines::alone;
 use indexmap::IndexMap;
 use rhai_ast::{BinaryExpr, CaseBlocksList, Cases, Expr, Stmt, SwitchBlock, SwitchCasesCollection};
 use rhai_base::{Boxed, Dynamic, INT, OutOfMemory, Position, Seq};
+use rhai_make::call;
 use std::alloc::Global;
 
 /// The statement of `switch [1] { [1] if f() => 1, [1] => 2, _ => 3 }`.
@@ -58,7 +59,7 @@ fn cases(alloc: Global) -> Result<Cases, OutOfMemory>
 fn arms(alloc: Global) -> Result<Seq<BinaryExpr>, OutOfMemory>
     ensures { IfOk result (λ arms. arms_of arms ≡ spec.switch_arms) }
 {
-    let asked = Expr::FnCall(call(alloc, "f", Seq::new(alloc), None)?, Position::NONE);
+    let asked = call(alloc, "f", Seq::new(alloc), Position::NONE)?;
     let arms = [arm(asked, 1), arm(certain(), 2), arm(certain(), 3)];
     Ok(Seq::from_array(alloc, arms)?)
 }

@@ -34,7 +34,7 @@ use Rattle.rhai_state.specs.declared.state.Interrupt.TheVariants.{Stuck}
 use Rattle.rhai_state.specs.declared.state.State.{State}
 use Rattle.rhai_host.specs.declared.report.Stuck.TheVariants as why
 use Rattle.rhai_machine.specs.Chaining.{StepsOn, HasAccess, Reaches, access_meant, chain_core, head_of, method_core}
-use Rattle.rhai_forms.specs.Links.{link_steps, rest_steps, step_core, step_in, steps_on}
+use Rattle.rhai_forms.specs.Links.{link_steps, rest_steps, step_core, steps_on}
 use Rattle.rhai_state.specs.Evaluating.{RunsCore, RunsExprs}
 use Rattle.rhai_machine.specs.Placing.{current_in, made, place_in, read_base}
 use Rattle.rhai_state.specs.Runs.{Setting, Acting, Goes, Leads, Runs, given}
@@ -71,7 +71,7 @@ module _ (here : Setting) (loop : Bool) (e : tree.Expr) (s s1 : State) where
 
 module _ (here : Setting) (loop : Bool) (rest : Rest) (l : Link) (h : rest_steps loop rest ≡ link_steps loop rest l) where
   abbrev pub step_here : core.Step
-  step_here = step_in loop rest.is_dot l.is_exported (expr_of l.argument.now)
+  step_here = step_core loop rest.is_dot (expr_of l.argument.now)
 
   head_by : (o : Option Rest) → head_of (steps_on loop (is_negated rest.options) step_here o) ≡ step_here
   head_by None = refl
@@ -134,33 +134,33 @@ module _ (here : Setting) (loop : Bool) (rest : Rest) (l : Link) (h : rest_steps
     old = current_in here (store_of s) c
 
     module _ (e : (is_negated rest.options && is_unit old.value) ≡ false) where
-      to_access : (b : Bool) → l.is_exported ≡ b → (next : chains.Access → places.Current → Act) → Goes here (Acting (first_step (head_of (rest_steps loop rest)) old next)) s (Acting (access here.world (step_in loop rest.is_dot b (expr_of l.argument.now)) (λ a. refreshed old (λ d. next a d)))) s
-      to_access b x next =
+      to_access : (next : chains.Access → places.Current → Act) → Goes here (Acting (first_step (head_of (rest_steps loop rest)) old next)) s (Acting (access here.world (step_core loop rest.is_dot (expr_of l.argument.now)) (λ a. refreshed old (λ d. next a d)))) s
+      to_access next =
           goes_then here (goes_as here _ _ s (ap (λ o. Acting (choose o unit (access here.world (head_of (rest_steps loop rest)) (λ a. refreshed old (λ d. next a d))))) e))
-          (goes_as here _ _ s (ap (λ p. Acting (access here.world p (λ a. refreshed old (λ d. next a d)))) (head_is ∙ ap (λ o. step_in loop rest.is_dot o (expr_of l.argument.now)) x)))
+          (goes_as here _ _ s (ap (λ p. Acting (access here.world p (λ a. refreshed old (λ d. next a d)))) head_is))
 
-      module _ (x : l.is_exported ≡ false) (s1 : State) where
-        module _ (a : Access) (q : HasAccess here (step_in loop rest.is_dot false (expr_of l.argument.now)) s (Ok a) s1) where
+      module _ (s1 : State) where
+        module _ (a : Access) (q : HasAccess here (step_core loop rest.is_dot (expr_of l.argument.now)) s (Ok a) s1) where
           abbrev Again : Result Unit Interrupt → Type 0
           Again z = (u : Value) (next : places.Current → Act) → Leads here (Acting (refreshed (made c u) next)) s1 z s1 (λ i. Acting (next (current_in here (store_of s1) c)))
 
           pub reach_gone : (y : Interrupt) → Again (Err y) → Reaches here loop rest c s (Err y) s1
-          reach_gone y z = λ next. stops_then here s1 y (goes_then here (to_access false x next) (q (λ b. refreshed old (λ d. next b d)))) (z (or_unit (place_in here c (store_of s))) (λ d. next (access_meant a) d))
+          reach_gone y z = λ next. stops_then here s1 y (goes_then here (to_access next) (q (λ b. refreshed old (λ d. next b d)))) (z (or_unit (place_in here c (store_of s))) (λ d. next (access_meant a) d))
 
           pub reach_runs : (i : Unit) → Again (Ok i) → Reaches here loop rest c s (Ok (Some a)) s1
-          reach_runs i z = λ next. goes_then here (to_access false x next) (goes_then here (q (λ b. refreshed old (λ d. next b d))) (z (or_unit (place_in here c (store_of s))) (λ d. next (access_meant a) d)))
+          reach_runs i z = λ next. goes_then here (to_access next) (goes_then here (q (λ b. refreshed old (λ d. next b d))) (z (or_unit (place_in here c (store_of s))) (λ d. next (access_meant a) d)))
 
 -- ---- accesses
 
 module _ (here : Setting) (loop : Bool) (s s1 : State) where
-  access_as : (dot b : Bool) (e : tree.Expr) (x : Result Access Interrupt) → dot ≡ b → HasAccess here (step_in loop b false e) s x s1 → HasAccess here (step_in loop dot false e) s x s1
-  access_as dot b e x h q = subst (λ c. HasAccess here (step_in loop c false e) s x s1) (sym h) q
+  access_as : (dot b : Bool) (e : tree.Expr) (x : Result Access Interrupt) → dot ≡ b → HasAccess here (step_core loop b e) s x s1 → HasAccess here (step_core loop dot e) s x s1
+  access_as dot b e x h q = subst (λ c. HasAccess here (step_core loop c e) s x s1) (sym h) q
 
   module _ (dot : Bool) (h : dot ≡ true) (e : Expr) where
-    member_as : (t : tree.Expr) (x : Result Access Interrupt) → expr_of e ≡ t → HasAccess here (step_in loop true false t) s x s1 → HasAccess here (step_in loop dot false (expr_of e)) s x s1
-    member_as t x k q = access_as dot true (expr_of e) x h (subst (λ u. HasAccess here (step_in loop true false u) s x s1) (sym k) q)
+    member_as : (t : tree.Expr) (x : Result Access Interrupt) → expr_of e ≡ t → HasAccess here (step_core loop true t) s x s1 → HasAccess here (step_core loop dot (expr_of e)) s x s1
+    member_as t x k q = access_as dot true (expr_of e) x h (subst (λ u. HasAccess here (step_core loop true u) s x s1) (sym k) q)
 
-    pub method_reached : (f got : FnCallExpr) (p : Position) (x : Result Access Interrupt) → e ≡ kind.MethodCall f p → got ≡ f → HasAccess here (method_core loop got) s x s1 → HasAccess here (step_in loop dot false (expr_of e)) s x s1
+    pub method_reached : (f got : FnCallExpr) (p : Position) (x : Result Access Interrupt) → e ≡ kind.MethodCall f p → got ≡ f → HasAccess here (method_core loop got) s x s1 → HasAccess here (step_core loop dot (expr_of e)) s x s1
     method_reached f got p x k g q = member_as (tree.MethodCall (callee_of f) (exprs_of f.args)) x (ap expr_of k ∙ expr_of-MethodCall f p) (subst (λ d. HasAccess here (method_core loop d) s x s1) g q)
 
 no_member : (loop : Bool) {x : Expr} {t : tree.Expr} → ExprCase x t → ((n : Text × Text × Text) (p : Position) → x ≡ kind.Property n p → ⊥) → ((f : FnCallExpr) (p : Position) → x ≡ kind.MethodCall f p → ⊥) → member_of loop t ≡ core.IllStep
@@ -185,7 +185,7 @@ no_member loop (and_case xs p) h k = refl
 no_member loop (or_case xs p) h k = refl
 no_member loop (coalesce_case xs p) h k = refl
 
-pub member_stuck : (here : Setting) (loop : Bool) (s : State) (dot : Bool) → dot ≡ true → (e : Expr) → ((n : Text × Text × Text) (p : Position) → e ≡ kind.Property n p → ⊥) → ((f : FnCallExpr) (p : Position) → e ≡ kind.MethodCall f p → ⊥) → HasAccess here (step_in loop dot false (expr_of e)) s (Err (Stuck why.WrongKind)) s
+pub member_stuck : (here : Setting) (loop : Bool) (s : State) (dot : Bool) → dot ≡ true → (e : Expr) → ((n : Text × Text × Text) (p : Position) → e ≡ kind.Property n p → ⊥) → ((f : FnCallExpr) (p : Position) → e ≡ kind.MethodCall f p → ⊥) → HasAccess here (step_core loop dot (expr_of e)) s (Err (Stuck why.WrongKind)) s
 member_stuck here loop s dot h e n m = access_as here loop s s dot true (expr_of e) (Err (Stuck why.WrongKind)) h (subst (λ p. HasAccess here p s (Err (Stuck why.WrongKind)) s) (sym (no_member loop (expr_cases e) n m)) (λ next. record { turns = omega arith; runs = λ d le. refl }))
 
 -- methods

@@ -12,7 +12,7 @@ use Rattle.rhai_meaning.specs.Run.{call_body, entered, function_of, reversed}
 use Rattle.rhai_state.specs.declared.state.Interrupt.{Interrupt}
 use Rattle.rhai_state.specs.declared.state.Interrupt.TheVariants.{NoMemory, Return, Break, Continue, Throw, Stuck, OutOfTurns}
 use Rattle.rhai_state.specs.declared.state.State.{State}
-use Rattle.rhai_host.specs.Entries.{variable_meant}
+use Rattle.rhai_state.specs.Entries.{entry_meant}
 use Rattle.rhai_state.specs.Exits.{function_end}
 use Rattle.rhai_state.specs.Runs.{Setting, Acting, Listing, Over, Goes, Stops, Leads, given, env}
 use Rattle.rhai_state.specs.State.{store_of}
@@ -93,5 +93,5 @@ module _ (here : Setting) (a : ScriptCall) (next : Value → Option Value → Ac
 pub back_is : (s s1 s2 s3 b : State) → store_of s1 ≡ store_of s → s2.scope ≡ s1.scope → s2.this ≡ s1.this → store_of s3 ≡ record (store_of s2) { calls = (store_of b).calls } → store_of s3 ≡ record (store_of s) { calls = (store_of b).calls }
 back_is s s1 s2 s3 b same scope this resumed =
     resumed
-    ∙ (λ i. record { scope = reversed (map variable_meant (scope i).items) []; this = option_map value_of (this i); calls = (store_of b).calls })
+    ∙ (λ i. record { scope = reversed (map entry_meant (scope i).items) []; this = option_map value_of (this i); calls = (store_of b).calls })
     ∙ ap (λ (st : Store). record { scope = st.scope; this = st.this; calls = (store_of b).calls }) same

@@ -6,7 +6,7 @@ use Rattle.rhai_values.specs.Reading.{value_of, value_of-Array}
 use Rattle.rhai_values.specs.Value.{Text, Value, ArrayV, TextV, values}
 use Rattle.rhai_tree.specs.declared.expr.FnCallExpr.{FnCallExpr}
 use Rattle.rhai_reading.specs.Reading.{callee_of, exprs_of}
-use Rattle.rhai_meaning.specs.ActForms.{give}
+use Rattle.rhai_meaning.specs.ActForms.{ask_host, give}
 use Rattle.rhai_meaning.specs.Calls.{called}
 use Rattle.rhai_meaning.specs.Control.{texts_joined}
 use Rattle.rhai_meaning.specs.Core as core
@@ -20,8 +20,11 @@ use Rattle.rhai_state.specs.declared.state.State.{State}
 use Rattle.rhai_host.specs.declared.report.Stuck.TheVariants as why
 use Rattle.rhai_state.specs.Evaluating.{call_core, IsConstant, RunsBlock, RunsCall, RunsCore, RunsDeed, RunsExpr, RunsExprs, RunsStmt}
 use Rattle.rhai_state.specs.Runs.{Setting, Acting, Runs, given}
+use Rattle.rhai_forms.specs.Variables.{in_module, qualified_in}
 use Rattle.rhai_forms.proofs.Callees.{count_exprs_of}
-use Rattle.rhai_state.proofs.Goes.{gives, goes_then, leads_then}
+use Rattle.rhai_forms.proofs.Modules.{module_goes}
+use Rattle.rhai_state.specs.State.{store_of}
+use Rattle.rhai_state.proofs.Goes.{gives, goes_as, goes_then, leads_then}
 use Rattle.rhai_state.proofs.Statements.{deed_line}
 
 module _ (here : Setting) (loop : Bool) where
@@ -37,6 +40,10 @@ module _ (here : Setting) (loop : Bool) where
 
   pub called_as : (k : tree.Callee) (d : core.Callee) (vs : List Value) (s s1 : State) (r : Result Dynamic Interrupt) → callee_by k k.token ≡ d → Runs here (Acting (called here.world d vs)) s r s1 → Runs here (Acting (called here.world (callee_by k k.token) vs)) s r s1
   called_as k d vs s s1 r h q = subst (λ x. Runs here (Acting (called here.world x vs)) s r s1) (sym h) q
+
+  -- in a module, by the aliases of the scope
+  pub called_in_module : (k : tree.Callee) (vs : List Value) (s s1 : State) (r : Result Dynamic Interrupt) → called here.world (callee_by k k.token) vs ≡ in_module k.namespace k.name (λ f. ask_host f vs) → Runs here (Acting (ask_host (qualified_in (store_of s).scope k.namespace k.name) vs)) s r s1 → Runs here (Acting (called here.world (callee_by k k.token) vs)) s r s1
+  called_in_module k vs s s1 r h q = leads_then here s1 r (λ v. given (value_of v)) (goes_then here (goes_as here _ _ s (ap Acting h)) (module_goes here k.namespace k.name (λ f. ask_host f vs) s)) q
 
   module _ (c : FnCallExpr) (s : State) where
     abbrev called_core : core.Expr

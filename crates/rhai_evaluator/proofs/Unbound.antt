@@ -1,7 +1,7 @@
 -- Where `this` is not bound, it stays so.
 use Rattle.std.proofs.Common.{◌≡◌, ℕ, zero, suc, Bool, true, false, ◌∷◌, [], ◌++◌, List, Option, Some, None}
 use Rattle.rhai_values.specs.Value.{Text, Value}
-use Rattle.rhai_meaning.specs.Act.{ScopeEntry, Store, World, Again, Ending, Gives, Leaves, Ended, Halted, Result, At, Root, OfName, OfThis, Act, Stop, Fail, Then, Turn, Read, Write, AskHost, Invoke, Loop, Scoped, Acts, Only, Do, Named, Finish, Env, and_then, with_turn, found, read, read_this, read_root, write_at, write, write_this, write_root, leave, call_then, returned, on_again, rounds, run, run_all}
+use Rattle.rhai_meaning.specs.Act.{is_constant, ScopeEntry, Store, World, Again, Ending, Gives, Leaves, Ended, Halted, Result, At, Root, OfName, OfThis, Act, Stop, Fail, Then, Turn, Read, Write, Resolve, AskHost, Invoke, Loop, Scoped, Acts, Only, Do, Named, Finish, Env, and_then, with_turn, found, resolved, read, read_this, read_root, write_at, write, write_this, write_root, leave, call_then, returned, on_again, rounds, run, run_all}
 use Rattle.rhai_meaning.specs.Relations.{store_of}
 
 abbrev Unbound : Store → Type 0
@@ -45,7 +45,7 @@ after_write_at must false x v s t h = h
 
 after_write : (must : Bool) (o : Option ScopeEntry) (x : Text) (v : Value) → Keeps (write must o x v)
 after_write must None x v s t h = h
-after_write must (Some e) x v s t h = after_write_at must e.constant x v s t h
+after_write must (Some e) x v s t h = after_write_at must (is_constant e.kind) x v s t h
 
 after_write_this : (o : Option Value) (v : Value) (s : Store) (t : ℕ) → o ≡ None → Unbound s → Unbound (store_of (write_this o v s t))
 after_write_this None v s t e h = h
@@ -75,6 +75,7 @@ module _ (w : World) (env : Env) where
     unbound (Turn a) s t h = after_turn t s _ h (unbound a)
     unbound (Read r) s t h = after_read_root w r s t h
     unbound (Write must r v) s t h = after_write_root w must r v s t h
+    unbound (Resolve a next) s t h = unbound (next (resolved s.scope a)) s t h
     unbound (AskHost c next) s t h = unbound (next (w.host.answer s.calls c)) (record s { calls = s.calls ++ c ∷ [] }) t h
     unbound (Invoke a next) s t h = after_call s (env.invoke a s.scope s.calls t) _ h (λ v u. unbound (next v u))
     unbound (Loop a) s t h = after_rounds env.rounds _ (unbound a) s t h

@@ -48,7 +48,13 @@ impl<'a, H: Host> Evaluator<'a, H> {
         if call.namespace.is_empty() {
             return self.call_word(state, &call.name, call.capture_parent_scope, args);
         }
-        let name = qualified(self.machine.alloc, &call.namespace, call.name.as_str())?;
+        let scope = state.scope.as_slice();
+        let name = qualified(
+            self.machine.alloc,
+            scope,
+            &call.namespace,
+            call.name.as_str(),
+        )?;
         let name = ImmutableString::new(self.machine.alloc, name.as_str())?;
         self.machine.ask_host(state, name, args)
     }

@@ -5,7 +5,7 @@
 ghost use Rattle.std.specs.Prelude.{false};
 ghost use Rattle.rhai_reading.specs.Reading.{chain_flags, expr_of};
 ghost use Rattle.rhai_machine.specs.Chaining.{access_meant, StepsOn};
-ghost use Rattle.rhai_forms.specs.Links.{rest_steps, step_in};
+ghost use Rattle.rhai_forms.specs.Links.{rest_steps, step_core};
 ghost use Rattle.rhai_machine.specs.Setting.{setting};
 ghost use Rattle.rhai_state.specs.Evaluating.{Runs, RunsCore};
 ghost use Rattle.rhai_machine.specs.Placing.{current_in};
@@ -92,9 +92,6 @@ impl<'a, H: Host> Evaluator<'a, H> {
             return Ok(None);
         }
         let link = rest.link();
-        if link.is_exported {
-            return Err(Interrupt::Stuck(Stuck::WrongKind));
-        }
         let access = self.access(state, rest.is_dot, link.argument)?;
         self.machine.refreshed(state, current)?;
         Ok(Some(access))
@@ -108,7 +105,7 @@ impl<'a, H: Host> Evaluator<'a, H> {
         is_dot: bool,
         argument: &'e Expr,
     ) -> Result<Access<'e>, Interrupt>
-        ensures { let here = setting H.answers H.modules self.now.machine in spec.HasAccess here (step_in self.now.in_loop is_dot false (expr_of argument.now)) state.old result state.new }
+        ensures { let here = setting H.answers H.modules self.now.machine in spec.HasAccess here (step_core self.now.in_loop is_dot (expr_of argument.now)) state.old result state.new }
     {
         if !is_dot {
             return Ok(Access::Index(self.expr(state, argument)?));

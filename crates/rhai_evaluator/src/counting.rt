@@ -2,11 +2,11 @@
 
 #![tactic(auto, using(rhai_reading::specs::Reading::shapes, rhai_values::specs::Reading::kinds))]
 
-ghost use Rattle.std.specs.Prelude.{◌≡◌, true, false, ◌^◌, ◌≤ℤ◌, ◌+ℤ◌, pos, map};
+ghost use Rattle.std.specs.Prelude.{◌≡◌, true, ◌^◌, ◌≤ℤ◌, ◌+ℤ◌, pos, map};
 ghost use Rattle.rhai_reading.specs.Reading.{counter_of, expr_of, stmts_of};
 ghost use Rattle.rhai_values.specs.Reading.{value_of};
 ghost use Rattle.rhai_meaning.specs.Desugar.{core_expr, core_stmts};
-ghost use Rattle.rhai_meaning.specs.Act.{Named};
+ghost use Rattle.rhai_meaning.specs.Act.{IsVariable, Named};
 ghost use Rattle.rhai_meaning.specs.Control.{counted, for_count, for_each};
 ghost use Rattle.rhai_meaning.specs.Core.{For};
 ghost use Rattle.rhai_machine.specs.Setting.{setting};
@@ -19,7 +19,8 @@ use rhai_ast::FlowControl;
 use rhai_base::{Dynamic, Ident, Seq};
 use rhai_host::{Host, Stuck};
 use rhai_state::{
-    Interrupt, State, declare_count, next_count, nth, round_ended, rounds_before, rounds_through,
+    EntryKind, Interrupt, State, declare_count, next_count, nth, round_ended, rounds_before,
+    rounds_through,
 };
 
 impl<'a, H: Host> Evaluator<'a, H> {
@@ -98,7 +99,7 @@ impl<'a, H: Host> Evaluator<'a, H> {
         count: Option<i64>,
         item: Dynamic,
     ) -> Result<Option<Dynamic>, Interrupt>
-        ensures { let here = setting H.answers H.modules self.now.machine in (k : _) → count ≡ count_of k → RunsRound here (counted (counter_of parts.now.1) k (Named parts.now.0.name false (value_of item) (body_of here (stmts_of parts.now.2.body.block)))) state.old result state.new }
+        ensures { let here = setting H.answers H.modules self.now.machine in (k : _) → count ≡ count_of k → RunsRound here (counted (counter_of parts.now.1) k (Named parts.now.0.name IsVariable (value_of item) (body_of here (stmts_of parts.now.2.body.block)))) state.old result state.new }
     {
         state.take_turn()?;
         let names = state.scope.len();
@@ -116,11 +117,11 @@ impl<'a, H: Host> Evaluator<'a, H> {
         count: Option<i64>,
         item: Dynamic,
     ) -> Result<Dynamic, Interrupt>
-        ensures { let here = setting H.answers H.modules self.now.machine in (k : _) → count ≡ count_of k → RunsList here (counted (counter_of parts.now.1) k (Named parts.now.0.name false (value_of item) (body_of here (stmts_of parts.now.2.body.block)))) state.old result state.new }
+        ensures { let here = setting H.answers H.modules self.now.machine in (k : _) → count ≡ count_of k → RunsList here (counted (counter_of parts.now.1) k (Named parts.now.0.name IsVariable (value_of item) (body_of here (stmts_of parts.now.2.body.block)))) state.old result state.new }
     {
         let (name, counter, flow) = parts;
         declare_count(state, counter, count)?;
-        state.declare(&name.name, false, item)?;
+        state.declare(&name.name, EntryKind::Variable, item)?;
         self.inside_loop().statements(state, flow.body.statements())
     }
 }

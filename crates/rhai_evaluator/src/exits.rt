@@ -21,7 +21,7 @@ use rhai_state::{
 };
 
 impl<'a, H: Host> Evaluator<'a, H> {
-    /// `break` and `continue`, which are stuck before their value is run outside a loop of the function, and with EXPORTED.
+    /// `break` and `continue`, which are stuck before their value is run outside a loop of the function.
     #[cycle(evaluate)]
     pub fn break_loop(
         &self,
@@ -31,14 +31,14 @@ impl<'a, H: Host> Evaluator<'a, H> {
     ) -> Result<Dynamic, Interrupt>
         ensures { RunsLine (setting H.answers H.modules self.now.machine) (core_stmt self.now.in_loop (tree.BreakLoop (breaks options) (is_exported options) (maybe_of value.now))) state.old result state.new }
     {
-        if !(self.in_loop && !options.contains(ASTFlags::EXPORTED)) {
+        if !self.in_loop {
             return Err(Interrupt::Stuck(Stuck::WrongKind));
         }
         let value = self.optional(state, value)?;
         Err(loop_exit(options.contains(ASTFlags::BREAK), value))
     }
 
-    /// `return` and `throw`; one with EXPORTED is stuck.
+    /// `return` and `throw`.
     #[cycle(evaluate)]
     pub fn leave(
         &self,
@@ -48,9 +48,6 @@ impl<'a, H: Host> Evaluator<'a, H> {
     ) -> Result<Dynamic, Interrupt>
         ensures { RunsLine (setting H.answers H.modules self.now.machine) (core_stmt self.now.in_loop (tree.Return (breaks options) (is_exported options) (maybe_of value.now))) state.old result state.new }
     {
-        if options.contains(ASTFlags::EXPORTED) {
-            return Err(Interrupt::Stuck(Stuck::WrongKind));
-        }
         let value = self.optional(state, value)?;
         Err(function_exit(options.contains(ASTFlags::BREAK), value))
     }

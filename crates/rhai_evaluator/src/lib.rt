@@ -12,6 +12,7 @@ mod invoking;
 mod logic;
 mod loops;
 mod methods;
+mod modules;
 mod statements;
 mod targets;
 

@@ -14,7 +14,7 @@ use crate::evaluator::Evaluator;
 use bitflags::Flags;
 use rhai_ast::{Expr, ExprQueries, FlowControl, StmtBlock};
 use rhai_base::{ASTFlags, Dynamic};
-use rhai_host::{Host, Stuck};
+use rhai_host::Host;
 use rhai_state::{Interrupt, State, ends_at, round_ended, truth};
 
 impl<'a, H: Host> Evaluator<'a, H> {
@@ -73,7 +73,7 @@ impl<'a, H: Host> Evaluator<'a, H> {
         }
     }
 
-    /// `do`; one with EXPORTED is stuck.
+    /// `do`.
     #[cycle(evaluate)]
     pub fn do_loop(
         &self,
@@ -83,9 +83,6 @@ impl<'a, H: Host> Evaluator<'a, H> {
     ) -> Result<Dynamic, Interrupt>
         ensures { RunsLine (setting H.answers H.modules self.now.machine) (core_stmt self.now.in_loop (tree.Do (is_negated options) (is_exported options) (expr_of flow.now.expr) (stmts_of flow.now.body.block))) state.old result state.new }
     {
-        if options.contains(ASTFlags::EXPORTED) {
-            return Err(Interrupt::Stuck(Stuck::WrongKind));
-        }
         self.repeated(state, flow, options.contains(ASTFlags::NEGATED))
     }
 

@@ -42,9 +42,15 @@ impl<'a, H: Host> Evaluator<'a, H> {
             Stmt::Do(flow, options, _) => self.do_loop(state, flow.get(), *options),
             Stmt::Switch(block, _) => self.switch(state, block.get()),
             Stmt::For(parts, _) => self.for_loop(state, parts.get()),
-            Stmt::Import(_, _) | Stmt::Export(_, _) | Stmt::Share(_) => {
-                Err(Interrupt::Stuck(Stuck::WrongKind))
+            Stmt::Import(parts, _) => {
+                let (path, alias) = parts.get();
+                self.import(state, path, alias)
             }
+            Stmt::Export(parts, _) => {
+                let (name, alias) = parts.get();
+                self.export(state, name, alias)
+            }
+            Stmt::Share(_) => Err(Interrupt::Stuck(Stuck::WrongKind)),
         }
     }
 
@@ -59,7 +65,7 @@ impl<'a, H: Host> Evaluator<'a, H> {
         }
     }
 
-    /// `let` and `const`; one that is exported is stuck.
+    /// `let` and `const`; with EXPORTED they export their value too.
     #[cycle(evaluate)]
     fn declaration(
         &self,
@@ -70,11 +76,10 @@ impl<'a, H: Host> Evaluator<'a, H> {
     ) -> Result<Dynamic, Interrupt>
         ensures { RunsLine (setting H.answers H.modules self.now.machine) (core_stmt self.now.in_loop (tree.Var (is_const options) (is_exported options) name.now.name (expr_of value.now))) state.old result state.new }
     {
-        if options.contains(ASTFlags::EXPORTED) {
-            return Err(Interrupt::Stuck(Stuck::WrongKind));
-        }
         let value = self.expr(state, value)?;
-        state.declare(&name.name, options.contains(ASTFlags::CONSTANT), value)?;
+        let is_constant = options.contains(ASTFlags::CONSTANT);
+        let is_exported = options.contains(ASTFlags::EXPORTED);
+        state.declare_name(&name.name, is_constant, is_exported, value)?;
         Ok(Dynamic::Unit)
     }
 

@@ -12,14 +12,13 @@ use Rattle.rhai_tree.specs.declared.expr.Expr.TheVariants as expr_kind
 use Rattle.rhai_tree.specs.declared.expr.FnCallExpr.{FnCallExpr}
 use Rattle.rhai_meaning.specs.Faults.{is_catch}
 use Rattle.rhai_parts.specs.declared.ident.Ident.{Ident}
-use Rattle.rhai_tree.specs.declared.stmt.FlowControl.{FlowControl}
 use Rattle.rhai_tree.specs.declared.stmt.Stmt as declared_stmt
 use Rattle.rhai_tree.specs.declared.stmt.Stmt.TheVariants as stmt_kind
 use Rattle.rhai_meaning.specs.Plain.{is_plain_expr, is_plain_stmt}
 use Rattle.rhai_meaning.specs.Shape.{catch_name, is_left_side, is_member, is_rest}
 use Rattle.rhai_meaning.specs.Tree.{Expr, Stmt}
 use Rattle.rhai_meaning.specs.Walk.{Around, Member, OfExpr, Whole, around_parts, right_role, whole}
-use Rattle.rhai_reading.proofs.Cases.{ExprCase, StmtCase, break_loop_case, call_case, call_statement_case, do_case, dot_case, export_case, import_case, return_case, share_case, var_case, index_case, method_call_case, property_case, this_ptr_case, unit_case, variable_case}
+use Rattle.rhai_reading.proofs.Cases.{ExprCase, StmtCase, call_case, call_statement_case, dot_case, share_case, index_case, method_call_case, property_case, this_ptr_case, unit_case, variable_case}
 
 -- it is none of these
 abbrev NoDot : declared_expr.Expr → Type 0
@@ -60,14 +59,12 @@ no_left_side (dot_case s k p) a b c d = absurd (c s k p refl)
 no_left_side (index_case s k p) a b c d = absurd (d s k p refl)
 no_left_side _ a b c d = refl
 
-pub no_call_nor_chain : {x : declared_expr.Expr} {e : Expr} → ExprCase x e
-    → ((c : FnCallExpr) (p : Position) → x ≡ expr_kind.MethodCall c p → ⊥) → ((c : FnCallExpr) (p : Position) → x ≡ expr_kind.FnCall c p → ⊥) → NoDot x → NoIndex x
+pub no_call : {x : declared_expr.Expr} {e : Expr} → ExprCase x e
+    → ((c : FnCallExpr) (p : Position) → x ≡ expr_kind.MethodCall c p → ⊥) → ((c : FnCallExpr) (p : Position) → x ≡ expr_kind.FnCall c p → ⊥)
     → true ≡ is_plain_expr e
-no_call_nor_chain (method_call_case f p) a b c d = absurd (a f p refl)
-no_call_nor_chain (call_case f p) a b c d = absurd (b f p refl)
-no_call_nor_chain (dot_case s k p) a b c d = absurd (c s k p refl)
-no_call_nor_chain (index_case s k p) a b c d = absurd (d s k p refl)
-no_call_nor_chain _ a b c d = refl
+no_call (method_call_case f p) a b = absurd (a f p refl)
+no_call (call_case f p) a b = absurd (b f p refl)
+no_call _ a b = refl
 
 pub no_catch : {x : declared_expr.Expr} {e : Expr} → ExprCase x e → ((p : Position) → x ≡ expr_kind.Unit p → ⊥) → NoVariable x → false ≡ is_catch (catch_name e)
 no_catch (unit_case p) a b = absurd (a p refl)
@@ -77,21 +74,9 @@ no_catch _ a b = refl
 -- ---- statements
 
 pub plain_alone : {x : declared_stmt.Stmt} {s : Stmt} → StmtCase x s
-    → ((f : FlowControl) (k : ASTFlags) (p : Position) → x ≡ stmt_kind.Do f k p → ⊥)
-    → ((v : Ident × declared_expr.Expr × Option NonZeroUsize) (k : ASTFlags) (p : Position) → x ≡ stmt_kind.Var v k p → ⊥)
     → ((c : FnCallExpr) (p : Position) → x ≡ stmt_kind.FnCall c p → ⊥)
-    → ((e : Option declared_expr.Expr) (k : ASTFlags) (p : Position) → x ≡ stmt_kind.BreakLoop e k p → ⊥)
-    → ((e : Option declared_expr.Expr) (k : ASTFlags) (p : Position) → x ≡ stmt_kind.Return e k p → ⊥)
-    → ((m : declared_expr.Expr × Ident) (p : Position) → x ≡ stmt_kind.Import m p → ⊥)
-    → ((n : Ident × Ident) (p : Position) → x ≡ stmt_kind.Export n p → ⊥)
     → ((xs : List (Ident × Option NonZeroUsize)) → x ≡ stmt_kind.Share xs → ⊥)
     → true ≡ is_plain_stmt s
-plain_alone (do_case f k p) a b c d e m n o = absurd (a f k p refl)
-plain_alone (var_case v k p) a b c d e m n o = absurd (b v k p refl)
-plain_alone (call_statement_case f p) a b c d e m n o = absurd (c f p refl)
-plain_alone (break_loop_case x k p) a b c d e m n o = absurd (d x k p refl)
-plain_alone (return_case x k p) a b c d e m n o = absurd (e x k p refl)
-plain_alone (import_case x p) a b c d e m n o = absurd (m x p refl)
-plain_alone (export_case x p) a b c d e m n o = absurd (n x p refl)
-plain_alone (share_case xs) a b c d e m n o = absurd (o xs refl)
-plain_alone _ a b c d e m n o = refl
+plain_alone (call_statement_case f p) a b = absurd (a f p refl)
+plain_alone (share_case xs) a b = absurd (b xs refl)
+plain_alone _ a b = refl

@@ -14,8 +14,6 @@ ghost use Rattle.rhai_walk.specs.Children.{over_children, over_parts};
 ghost use Rattle.rhai_walk.specs.Left.{left_of};
 ghost use Rattle.rhai_walk.specs.Nodes.{node_of};
 
-use bitflags::Flags;
-use rhai_base::ASTFlags;
 use rhai_parts::is_among;
 use rhai_tree::{Expr, FnCallExpr, ScriptFuncDef, Stmt};
 use rhai_walk::{ASTNode, Children};
@@ -84,9 +82,6 @@ fn is_plain_expr(expr: &Expr) -> bool
 {
     match expr {
         Expr::MethodCall(call, _) | Expr::FnCall(call, _) => !is_barred_call(call.get()),
-        Expr::Dot(_, options, _) | Expr::Index(_, options, _) => {
-            !options.contains(ASTFlags::EXPORTED)
-        }
         _ => true,
     }
 }
@@ -95,12 +90,8 @@ fn is_plain_stmt(stmt: &Stmt) -> bool
     ensures { result ≡ plain.is_plain_stmt (stmt_of stmt.now) }
 {
     match stmt {
-        Stmt::Do(_, options, _)
-        | Stmt::Var(_, options, _)
-        | Stmt::BreakLoop(_, options, _)
-        | Stmt::Return(_, options, _) => !options.contains(ASTFlags::EXPORTED),
         Stmt::FnCall(call, _) => !is_barred_call(call.get()),
-        Stmt::Import(_, _) | Stmt::Export(_, _) | Stmt::Share(_) => false,
+        Stmt::Share(_) => false,
         _ => true,
     }
 }

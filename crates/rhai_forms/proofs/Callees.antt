@@ -10,7 +10,7 @@ use Rattle.rhai_values.specs.Value.{Text, Value}
 use Rattle.rhai_tree.specs.declared.expr.Expr.{Expr}
 use Rattle.rhai_meaning.specs.Act.{World}
 use Rattle.rhai_meaning.specs.ActForms.{ask_host}
-use Rattle.rhai_meaning.specs.Calls.{of_table, operate}
+use Rattle.rhai_meaning.specs.Calls.{called, of_table, operate}
 use Rattle.rhai_meaning.specs.Core as core
 use Rattle.rhai_meaning.specs.Desugar as desugar
 use Rattle.rhai_meaning.specs.Desugar.{callee_by}
@@ -19,6 +19,7 @@ use Rattle.rhai_reading.specs.Reading.{exprs_of}
 use Rattle.rhai_meaning.specs.Tree.{CallToken, NoToken, OfOperator, OfOther, Callee, count_exprs}
 use Rattle.rhai_engine.specs.EngineInfo.{built_in_of, built_in_at}
 use Rattle.rhai_forms.specs.Operators.{operator_by, called_operator}
+use Rattle.rhai_forms.specs.Variables.{in_module}
 
 pub count_exprs_of : (xs : List Expr) → count_exprs (exprs_of xs) ≡ length xs
 count_exprs_of [] = refl
@@ -51,16 +52,16 @@ by_names : (k : Callee) (ns : List Text) → is_none ns ≡ true → desugar.by_
 by_names k [] h = refl
 by_names k (m ∷ ms) h = cc
 
-by_modules : (k : Callee) (ns : List Text) → is_none ns ≡ false → desugar.by_name k ns ≡ core.Qualified (desugar.qualified ns k.name)
-by_modules k [] h = cc
-by_modules k (m ∷ ms) h = refl
+by_modules : (w : World) (k : Callee) (ns : List Text) (vs : List Value) → is_none ns ≡ false → called w (desugar.by_name k ns) vs ≡ in_module ns k.name (λ f. ask_host f vs)
+by_modules w k [] vs h = cc
+by_modules w k (m ∷ ms) vs h = refl
 
 module _ (k : Callee) (n : ℕ) (h : is_callable k n ≡ true) (e : None ≡ called_operator k n) where
   pub named_callee : is_none k.namespace ≡ true → callee_by k k.token ≡ core.ByName k.name k.captures
   named_callee s = name_callee_by k n k.token h e ∙ by_names k k.namespace s
 
-  pub qualified_callee : is_none k.namespace ≡ false → callee_by k k.token ≡ core.Qualified (desugar.qualified k.namespace k.name)
-  qualified_callee s = name_callee_by k n k.token h e ∙ by_modules k k.namespace s
+  pub qualified_callee : (w : World) (vs : List Value) → is_none k.namespace ≡ false → called w (callee_by k k.token) vs ≡ in_module k.namespace k.name (λ f. ask_host f vs)
+  qualified_callee w vs s = ap (λ f. called w f vs) (name_callee_by k n k.token h e) ∙ by_modules w k k.namespace vs s
 
 -- ---- the host in place of an operator
 

@@ -1,9 +1,9 @@
 -- The links of chains, and the steps that they mean.
-use Rattle.std.specs.Prelude.{◌≡◌, Bool, false, cond, Option, Some, None}
+use Rattle.std.specs.Prelude.{◌≡◌, Bool, cond, Option, Some, None}
 use Rattle.rhai_parts.specs.declared.flags.ASTFlags.{ASTFlags}
 use Rattle.rhai_tree.specs.declared.expr.BinaryExpr.{BinaryExpr}
 use Rattle.rhai_tree.specs.declared.expr.Expr.{Expr}
-use Rattle.rhai_reading.specs.Reading.{chain_flags, expr_of, is_exported, is_negated}
+use Rattle.rhai_reading.specs.Reading.{chain_flags, expr_of, is_negated}
 use Rattle.rhai_meaning.specs.Core as core
 use Rattle.rhai_meaning.specs.Desugar.{core_expr, member_of, steps_of}
 use Rattle.rhai_meaning.specs.Tree as tree
@@ -13,10 +13,6 @@ use Rattle.rhai_forms.specs.declared.links.Rest.{Rest}
 -- a step by the kind of its node and its argument
 abbrev pub step_core : (loop dot : Bool) → tree.Expr → core.Step
 step_core loop dot e = cond dot (member_of loop e) (core.Index (core_expr loop e))
-
--- the same in a node that may be exported
-abbrev pub step_in : (loop dot exported : Bool) → tree.Expr → core.Step
-step_in loop dot exported e = cond exported core.IllStep (step_core loop dot e)
 
 -- the steps of the rest of a chain
 abbrev pub rest_steps : Bool → Rest → core.Steps
@@ -28,15 +24,15 @@ steps_on loop optional p None = core.last optional p
 steps_on loop optional p (Some r) = core.more optional p (rest_steps loop r)
 
 abbrev pub link_steps : Bool → Rest → Link → core.Steps
-link_steps loop r l = steps_on loop (is_negated r.options) (step_in loop r.is_dot l.is_exported (expr_of l.argument.now)) l.rest
+link_steps loop r l = steps_on loop (is_negated r.options) (step_core loop r.is_dot (expr_of l.argument.now)) l.rest
 
 -- a link that is the last one, and one by a node
 abbrev pub IsLast : Expr → Link → Type 0
-IsLast e l = (l.argument.now ≡ e) × (l.is_exported ≡ false) × (l.rest ≡ None)
+IsLast e l = (l.argument.now ≡ e) × (l.rest ≡ None)
 
 abbrev pub IsRest : BinaryExpr → Bool → ASTFlags → Option Rest → Type 0
 IsRest b dot k None = ⊥
 IsRest b dot k (Some r) = (r.is_dot ≡ dot) × (r.options ≡ k) × (r.right.now ≡ b.rhs)
 
 abbrev pub IsInner : BinaryExpr → Bool → ASTFlags → Link → Type 0
-IsInner b dot k l = (l.argument.now ≡ b.lhs) × (l.is_exported ≡ is_exported k) × IsRest b dot k l.rest
+IsInner b dot k l = (l.argument.now ≡ b.lhs) × IsRest b dot k l.rest

@@ -16,4 +16,4 @@ pub use operators::{
     asks_assigning, assigning_name, assigning_operator, builtin, fault_text, is_callable,
     operator_called,
 };
-pub use variables::{Root, position, qualified, root_of};
+pub use variables::{Root, module_at, position, qualified, root_of};

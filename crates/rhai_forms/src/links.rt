@@ -29,8 +29,6 @@ pub struct Rest<'a> {
 pub struct Link<'a> {
     /// What stands behind the `.` or in the index.
     pub argument: &'a Expr,
-    /// Whether it stands in a node that is exported, which has no meaning.
-    pub is_exported: bool,
     /// What is left then.
     pub rest: Option<Rest<'a>>,
 }
@@ -58,7 +56,6 @@ pub fn is_chain(is_dot: bool, options: ASTFlags, right: &Expr) -> bool
     ensures { result ≡ shape.is_chain is_dot (chain_flags options) (expr_of right.now) }
 {
     is_rest(is_dot, options.contains(ASTFlags::BREAK), right)
-        && !options.contains(ASTFlags::EXPORTED)
 }
 
 fn last_link(argument: &Expr) -> Link<'_>
@@ -66,7 +63,6 @@ fn last_link(argument: &Expr) -> Link<'_>
 {
     Link {
         argument,
-        is_exported: false,
         rest: None,
     }
 }
@@ -77,7 +73,6 @@ fn inner_link(sides: &BinaryExpr, is_dot: bool, options: ASTFlags) -> Link<'_>
 {
     Link {
         argument: &sides.lhs,
-        is_exported: options.contains(ASTFlags::EXPORTED),
         rest: Some(Rest {
             is_dot,
             options,

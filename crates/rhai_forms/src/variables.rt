@@ -1,17 +1,21 @@
 //! What names stand for: a name or `this`, where a name stands, and a name in a module.
 
-#![tactic(auto, using(rhai_reading::specs::Reading::shapes))]
+#![tactic(auto, using(rhai_reading::specs::Reading::shapes, rhai_values::specs::Reading::kinds, rhai_state::proofs::Variables::resolving))]
 
-ghost use Rattle.std.specs.Prelude.{◌≡◌, MatchOption, IfOk, option_map};
+ghost use Rattle.std.specs.Prelude.{◌≡◌, ◌++◌, codes, map, MatchOption, IfOk, OnOk, option_map};
 ghost use Rattle.std.specs.String.{string_bytes};
 ghost use Rattle.rhai_reading.specs.Reading.{expr_of, path_of};
+ghost use Rattle.rhai_values.specs.Reading.{value_of};
+ghost use Rattle.rhai_meaning.specs.Act as act;
+ghost use Rattle.rhai_meaning.specs.Act.{resolved};
+ghost use Rattle.rhai_state.specs.Entries.{scope_meant};
 ghost use Rattle.rhai_state.specs.Variables.{IsLatest, IsMissing};
-ghost use Rattle.rhai_forms.specs.Variables.{root_meant};
+ghost use Rattle.rhai_forms.specs.Variables.{root_meant, qualified_in};
 ghost use Rattle.rhai_meaning.specs.Desugar as desugar;
 
 use rhai_ast::Expr;
-use rhai_base::{ImmutableString, Namespace};
-use rhai_host::Variable;
+use rhai_base::{Dynamic, Ident, ImmutableString, Namespace};
+use rhai_state::Entry;
 use std::alloc::{AllocError, Global};
 
 /// What has a value that can be replaced.
@@ -23,13 +27,13 @@ pub enum Root<'a> {
     This,
 }
 
-/// Where the latest entry of a name stands.
-pub fn position(scope: &[Variable], name: &str) -> Option<usize>
+/// Where the latest entry of a name stands, past aliases and exports.
+pub fn position(scope: &[Entry], name: &str) -> Option<usize>
     ensures { MatchOption result (IsMissing name.now scope.now) (IsLatest name.now scope.now) }
 {
     let mut rest = scope;
     while let Some((last, others)) = rest.split_last() {
-        if last.0.as_str() == name {
+        if last.is_called(name) {
             return Some(others.len());
         }
         rest = others;
@@ -37,17 +41,74 @@ pub fn position(scope: &[Variable], name: &str) -> Option<usize>
     None
 }
 
-/// A name with its modules', joined by `::`.
-pub fn qualified(alloc: Global, namespace: &Namespace, name: &str) -> Result<String, AllocError>
-    ensures { IfOk result (λ t. string_bytes t ≡ desugar.qualified (path_of namespace.now) name.now) }
+/// The module's name by the latest alias of this name, else the name itself.
+pub fn module_at<'s>(scope: &'s [Entry], name: &'s str) -> &'s str
+    ensures { result.now ≡ resolved (scope_meant scope.now) name.now }
+{
+    let mut rest = scope;
+    while let Some((last, others)) = rest.split_last() {
+        if last.is_alias_of(name) {
+            return module_name(&last.value);
+        }
+        rest = others;
+    }
+    name
+}
+
+/// The text that an alias holds.
+fn module_name(value: &Dynamic) -> &str
+    ensures { result.now ≡ act.module_name (value_of value.now) }
+{
+    match value {
+        Dynamic::Str(name) => name.as_str(),
+        Dynamic::Unit
+        | Dynamic::Bool(_)
+        | Dynamic::Int(_)
+        | Dynamic::Char(_)
+        | Dynamic::Array(_)
+        | Dynamic::Map(_)
+        | Dynamic::FnPtr(_)
+        | Dynamic::Range(_, _)
+        | Dynamic::RangeInclusive(_, _) => "",
+    }
+}
+
+/// A name with its modules', joined by `::`; a first one that is an alias is its module's.
+pub fn qualified(
+    alloc: Global,
+    scope: &[Entry],
+    namespace: &Namespace,
+    name: &str,
+) -> Result<String, AllocError>
+    ensures { IfOk result (λ t. string_bytes t ≡ qualified_in (scope_meant scope.now) (path_of namespace.now) name.now) }
 {
     let mut text = String::new(alloc);
-    for module in namespace.path.as_slice() {
-        text.push_str(module.as_str())?;
-        text.push_str("::")?;
+    let Some((first, others)) = namespace.path.as_slice().split_first() else {
+        text.push_str(name)?;
+        return Ok(text);
+    };
+    push_module(&mut text, module_at(scope, first.as_str()))?;
+    push_qualified(&mut text, others, name)?;
+    Ok(text)
+}
+
+/// Appends a name with its modules'.
+fn push_qualified(text: &mut String, modules: &[Ident], name: &str) -> Result<(), AllocError>
+    ensures { OnOk result (string_bytes text.new ≡ string_bytes text.old ++ desugar.qualified (map (λ i. i.name) modules.now) name.now) }
+{
+    for module in modules {
+        push_module(text, module.as_str())?;
     }
     text.push_str(name)?;
-    Ok(text)
+    Ok(())
+}
+
+fn push_module(text: &mut String, name: &str) -> Result<(), AllocError>
+    ensures { OnOk result (string_bytes text.new ≡ string_bytes text.old ++ name.now ++ codes "::") }
+{
+    text.push_str(name)?;
+    text.push_str("::")?;
+    Ok(())
 }
 
 /// What an expression names that has a value of its own.

@@ -12,6 +12,10 @@ map_twice : (fs : List ScriptFuncDef) → map key_of (map function_of fs) ≡ ma
 map_twice [] = refl
 map_twice (f ∷ fs) = ap (λ ks. definition_key f ∷ ks) (map_twice fs)
 
+-- functions of distinct keys are their table
+pub whole_table : (fs : List ScriptFuncDef) → are_distinct (map key_of (map function_of fs)) ≡ true → definitions_table fs ≡ fs
+whole_table fs h = own_table definition_key fs (sym (ap are_distinct (map_twice fs)) ∙ h)
+
 -- what is chosen of a table is a table
 pub table-chosen : {P : Type 0} (R : P → ScriptFuncDef → Bool → P → Type 0) (p : P) (fs chosen : List ScriptFuncDef) → IsFiltered R p fs chosen → are_distinct (map key_of (map function_of fs)) ≡ true → definitions_table chosen ≡ chosen
 table-chosen R p fs chosen h distinct =

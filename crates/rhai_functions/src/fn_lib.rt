@@ -87,6 +87,16 @@ impl FnLib {
         Ok(())
     }
 
+    /// The id, and the functions in the table's order.
+    pub fn into_parts(self) -> Result<(Option<ImmutableString>, Vec<Rc<ScriptFuncDef>>), AllocError>
+        ensures id { IfOk result (λ parts. parts.0 ≡ self.id) }
+        ensures functions { IfOk result (λ parts. map rc_value parts.1.items ≡ self.functions) }
+        ensures table { IfOk result (λ parts. definitions_table (map rc_value parts.1.items) ≡ self.functions) }
+    {
+        let FnLib { id, functions } = self;
+        Ok((id, functions.into_functions()?))
+    }
+
     /// How many functions there are.
     pub fn len(&self) -> usize
         ensures { result ≡ length self.now.functions }
@@ -125,6 +135,16 @@ fn unnamed(functions: FnTable) -> FnLib
     FnLib {
         id: None,
         functions,
+    }
+}
+
+/// The table itself where nothing else shares it, else a copy of it, which shares its functions.
+pub fn unshared(lib: SharedLib) -> Result<FnLib, AllocError>
+    ensures { IfOk result (λ own. own ≡ lib.value) }
+{
+    match Rc::try_unwrap(lib) {
+        Ok(own) => Ok(own),
+        Err(shared) => shared.as_ref().clone(),
     }
 }
 

@@ -5,7 +5,7 @@ ghost use Rattle.std.specs.Rc.{rc_value};
 ghost use Rattle.std.specs.Iterator.{YieldsFirstBy, item_count};
 ghost use Rattle.rhai_reading.specs.Reading.{function_of};
 ghost use Rattle.rhai_functions.specs.Table.{are_distinct, key_of, put_by, put_all_by, find_by};
-ghost use Rattle.rhai_functions.specs.FnKey.{definition_key, fn_key_of, key_meant, shown};
+ghost use Rattle.rhai_functions.specs.FnKey.{definition_key, definitions_table, fn_key_of, key_meant, shown};
 
 use indexmap::IndexMap;
 use indexmap::map::Values;
@@ -134,6 +134,19 @@ impl FnTable {
             table.put(function)?;
         }
         Ok(table)
+    }
+
+    /// The functions alone, in the table's order.
+    pub fn into_functions(self) -> Result<Vec<Rc<ScriptFuncDef>>, AllocError>
+        ensures functions { IfOk result (λ all. map rc_value all.items ≡ self) }
+        ensures table { IfOk result (λ all. definitions_table (map rc_value all.items) ≡ self) }
+    {
+        let mut all = Vec::new(self.allocator());
+        let FnTable { functions } = self;
+        for function in functions.into_values() {
+            all.push(function)?;
+        }
+        Ok(all)
     }
 
     /// How many functions there are.

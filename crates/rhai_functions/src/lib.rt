@@ -8,7 +8,7 @@ mod id;
 
 pub use filter::{chosen_functions, kept_functions, shared_functions};
 pub use fn_lib::{
-    FnLib, SharedLib, allocator_of, copy_of_id, replaced, take_id, with_all, without_id,
+    FnLib, SharedLib, allocator_of, copy_of_id, replaced, take_id, unshared, with_all, without_id,
 };
 pub use fn_table::{FnKey, FnLibIter};
 pub use id::name_of;

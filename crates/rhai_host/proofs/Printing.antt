@@ -5,7 +5,7 @@ use Rattle.rhai_values.specs.Value.{Text}
 use Rattle.rhai_values.specs.declared.dynamic.Dynamic.{Dynamic}
 use Rattle.rhai_values.specs.Reading.{value_of}
 use Rattle.rhai_host.specs.declared.host.HostCall.{HostCall}
-use Rattle.rhai_host.specs.Entries.{variable_meant}
+use Rattle.rhai_host.specs.Entries.{variable_meant, export_meant}
 use Rattle.rhai_host.specs.Host.{call_meant}
 
 pub values-drop : (xs : List Dynamic) (i : ℕ) (d : Dynamic) → i < length xs → map value_of (drop i xs) ≡ value_of (get_or xs i d) ∷ map value_of (drop (i + 1) xs)
@@ -27,4 +27,10 @@ variables-drop xs i d h = rw (add-one, drop-cons xs i d) refl
 pub variables-end : (xs : List (Text × Bool × Dynamic)) → map variable_meant (drop (length xs) xs) ≡ []
 variables-end xs = ap (map variable_meant) (drop-length xs)
 
-pub ruleset steps = (values-drop, values-end, calls-drop, calls-end, variables-drop, variables-end)
+pub exports-drop : (xs : List (Text × Dynamic)) (i : ℕ) (d : Text × Dynamic) → i < length xs → map export_meant (drop i xs) ≡ export_meant (get_or xs i d) ∷ map export_meant (drop (i + 1) xs)
+exports-drop xs i d h = rw (add-one, drop-cons xs i d) refl
+
+pub exports-end : (xs : List (Text × Dynamic)) → map export_meant (drop (length xs) xs) ≡ []
+exports-end xs = ap (map export_meant) (drop-length xs)
+
+pub ruleset steps = (values-drop, values-end, calls-drop, calls-end, variables-drop, variables-end, exports-drop, exports-end)

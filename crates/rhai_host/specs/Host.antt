@@ -3,7 +3,7 @@ use Rattle.std.specs.Prelude.{List, map, option_map}
 use Rattle.rhai_values.specs.Reading.{value_of}
 use Rattle.rhai_meaning.specs.Act as act
 use Rattle.rhai_meaning.specs.Act.{Answer, Answers, AnswersThrow, Host}
-use Rattle.rhai_meaning.specs.Host.{ModuleValue, module_value_of}
+use Rattle.rhai_meaning.specs.Host.{ModuleValue, ModulePath, module_value_of, module_in}
 use Rattle.rhai_host.specs.declared.host.HostCall.{HostCall}
 use Rattle.rhai_host.specs.declared.host.HostAnswer.{HostAnswer}
 use Rattle.rhai_host.specs.declared.host.HostAnswer.TheVariants as answer_kind
@@ -15,6 +15,11 @@ abbrev pub answer_meant : HostAnswer → Answer
 answer_meant (answer_kind.Value v r) = Answers (value_of v) (option_map value_of r)
 answer_meant (answer_kind.Throw v) = AnswersThrow (value_of v)
 
--- the host that answers so and has these values of modules
-abbrev pub host_of : (List act.HostCall → act.HostCall → Answer) → List ModuleValue → Host
-host_of answers modules = record { answer = answers; module_value = module_value_of modules }
+-- values of modules, by their names, and modules, by their paths
+pub record Modules : Type 0 where
+  pub values : List ModuleValue
+  pub paths : List ModulePath
+
+-- the host that answers so and has these modules
+abbrev pub host_of : (List act.HostCall → act.HostCall → Answer) → Modules → Host
+host_of answers modules = record { answer = answers; module_value = module_value_of modules.values; module_of = module_in modules.paths }

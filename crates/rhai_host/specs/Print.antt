@@ -1,7 +1,7 @@
 -- How a run's report is printed.
 use Rattle.std.specs.Prelude.{List, [], ◌∷◌, ◌++◌, Option, Some, None, codes, decimal, if◌then◌else◌}
 use Rattle.rhai_values.specs.Value.{Text, Value, inner}
-use Rattle.rhai_meaning.specs.Act.{ScopeEntry, HostCall}
+use Rattle.rhai_meaning.specs.Act.{is_constant, ScopeEntry, HostCall}
 use Rattle.rhai_meaning.specs.Run.{End, WithValue, WithThrown, WithStuck, WithoutTurns, Report}
 use Rattle.rhai_host.specs.Report.{stuck_number, stuck_name}
 
@@ -12,12 +12,20 @@ end_text (WithStuck f) = codes "stuck " ++ decimal (stuck_number f) ++ codes " "
 end_text WithoutTurns = codes "out of turns"
 
 abbrev pub variable_text : ScopeEntry → Text
-variable_text e = (if e.constant then codes "constant " else codes "variable ") ++ e.name ++ codes " = " ++ inner e.value ++ codes "\n"
+variable_text e = (if is_constant e.kind then codes "constant " else codes "variable ") ++ e.name ++ codes " = " ++ inner e.value ++ codes "\n"
 
 -- a name a line
 abbrev pub variables_text : List ScopeEntry → Text
 variables_text [] = []
 variables_text (e ∷ es) = variable_text e ++ variables_text es
+
+abbrev pub export_text : Text × Value → Text
+export_text e = codes "export " ++ e.0 ++ codes " = " ++ inner e.1 ++ codes "\n"
+
+-- an export a line
+abbrev pub exports_text : List (Text × Value) → Text
+exports_text [] = []
+exports_text (e ∷ es) = export_text e ++ exports_text es
 
 -- values with the text that goes before the first of them, and commas between them
 abbrev pub values_text : Text → List Value → Text
@@ -39,4 +47,4 @@ calls_text (c ∷ cs) = call_text c ++ calls_text cs
 -- `this` is not printed: at top level it is never bound
 abbrev pub report_text : Report → Text
 report_text r =
-    codes "end: " ++ end_text r.ended ++ codes "\nturns left: " ++ decimal r.turns ++ codes "\n" ++ variables_text r.variables ++ calls_text r.calls
+    codes "end: " ++ end_text r.ended ++ codes "\nturns left: " ++ decimal r.turns ++ codes "\n" ++ variables_text r.variables ++ exports_text r.exports ++ calls_text r.calls

@@ -1,8 +1,8 @@
--- What the program's host answers: a function of the call alone.
-use Rattle.std.specs.Prelude.{List, [], ◌∷◌, ◌++◌, Option, Some, None, true, codes, if◌then◌else◌}
-use Rattle.rhai_values.specs.Value.{Value, UnitV, BoolV, TextV, ArrayV, items, values, same_text, text_of}
+-- What the program's host answers: a function of the call alone. What it knows of modules.
+use Rattle.std.specs.Prelude.{List, [], ◌∷◌, ◌++◌, Option, Some, None, true, pos, codes, if◌then◌else◌}
+use Rattle.rhai_values.specs.Value.{Value, UnitV, BoolV, IntV, TextV, ArrayV, items, values, same_text, text_of}
 use Rattle.rhai_meaning.specs.Act.{HostCall, Answer, Answers, Host}
-use Rattle.rhai_host.specs.Host.{host_of}
+use Rattle.rhai_host.specs.Host.{Modules, host_of}
 
 abbrev pub unit_alone : Answer
 unit_alone = Answers UnitV None
@@ -29,6 +29,12 @@ program_answer c =
     else if same_text c.name (codes "push") then pushed c.receiver c.arguments
     else unit_alone
 
--- it has no values of modules
+-- the path m leads to module m, whose value v is 7
+abbrev pub program_modules : Modules
+program_modules = record {
+  values = record { name = codes "m::v"; value = IntV (pos 7) } ∷ [];
+  paths = record { path = codes "m"; name = codes "m" } ∷ [];
+}
+
 abbrev pub program_host : Host
-program_host = host_of (λ past call. program_answer call) []
+program_host = host_of (λ past call. program_answer call) program_modules

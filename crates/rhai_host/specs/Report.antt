@@ -13,7 +13,7 @@ use Rattle.rhai_host.specs.declared.report.RunEnd.{RunEnd}
 use Rattle.rhai_host.specs.declared.report.RunEnd.TheVariants as ended
 use Rattle.rhai_host.specs.declared.report.RunReport.{RunReport}
 use Rattle.rhai_host.specs.Host.{call_meant}
-use Rattle.rhai_host.specs.Entries.{variable_meant}
+use Rattle.rhai_host.specs.Entries.{variable_meant, export_meant}
 
 abbrev pub stuck_meant : Stuck → act.Stuck
 stuck_meant stuck.Unbound = act.Unbound
@@ -22,6 +22,7 @@ stuck_meant stuck.WriteToConstant = act.WriteToConstant
 stuck_meant stuck.NoPlace = act.NoPlace
 stuck_meant stuck.CounterTooLarge = act.CounterTooLarge
 stuck_meant stuck.UnboundThis = act.UnboundThis
+stuck_meant stuck.UnknownModule = act.UnknownModule
 
 abbrev pub stuck_number : act.Stuck → ℕ
 stuck_number act.Unbound = 1
@@ -30,6 +31,7 @@ stuck_number act.WriteToConstant = 3
 stuck_number act.NoPlace = 4
 stuck_number act.CounterTooLarge = 5
 stuck_number act.UnboundThis = 6
+stuck_number act.UnknownModule = 7
 
 abbrev pub stuck_name : act.Stuck → Text
 stuck_name act.Unbound = codes "Unbound"
@@ -38,6 +40,7 @@ stuck_name act.WriteToConstant = codes "WriteToConstant"
 stuck_name act.NoPlace = codes "NoPlace"
 stuck_name act.CounterTooLarge = codes "CounterTooLarge"
 stuck_name act.UnboundThis = codes "UnboundThis"
+stuck_name act.UnknownModule = codes "UnknownModule"
 
 abbrev pub end_meant : RunEnd → End
 end_meant (ended.Value v) = WithValue (value_of v)
@@ -50,12 +53,13 @@ abbrev pub report_meant : RunReport → Report
 report_meant r = record {
   ended = end_meant r.run_end;
   variables = map variable_meant r.variables;
+  exports = map export_meant r.exports;
   this = None;
   calls = map call_meant r.calls;
   turns = r.turns_left;
 }
 
 -- A report on the run of a script's statements: so runs the script with each host, by rows for one, that has the same
--- module values and answers the reported calls as this one does.
+-- modules and their values, and answers the reported calls as this one does.
 abbrev pub ReportsRun : Engine → act.Host → Script → List act.ScopeEntry → ℕ → Report → Type 0
 ReportsRun engine host p scope n r = (h : act.Host) → AgreeOn host h r.calls → r ≡ report_of AtStatements (run_script engine h p AtStatements scope n)

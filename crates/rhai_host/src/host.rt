@@ -2,8 +2,8 @@
 ghost use Rattle.std.specs.Prelude.{◌≡◌, ◌++◌, ◌∷◌, [], List, map, option_map, IfOk, OnOk, OnErr};
 ghost use Rattle.rhai_values.specs.Reading.{value_of};
 ghost use Rattle.rhai_meaning.specs.Act as act;
-ghost use Rattle.rhai_meaning.specs.Host.{ModuleValue, module_value_of};
-ghost use Rattle.rhai_host.specs.Host.{call_meant, answer_meant};
+ghost use Rattle.rhai_meaning.specs.Host.{module_value_of, module_in};
+ghost use Rattle.rhai_host.specs.Host.{Modules, call_meant, answer_meant};
 
 use rhai_base::{Dynamic, ImmutableString, OutOfMemory, Seq};
 use std::alloc::Global;
@@ -38,8 +38,8 @@ pub trait Host {
     /// The answer to a call, by the calls before it and the call.
     ghost answers: { Self → List act.HostCall → act.HostCall → act.Answer };
 
-    /// The values of modules, by their names joined by `::`.
-    ghost modules: { Self → List ModuleValue };
+    /// The values of modules, by their names joined by `::`, and the modules by their paths.
+    ghost modules: { Self → Modules };
 
     /// Answers a call; `past` are the calls of the run before it. The answer hangs on these two alone.
     fn answer(
@@ -52,7 +52,11 @@ pub trait Host {
 
     /// A module's value, by its names joined by `::`.
     fn module_value(&self, alloc: Global, qualified: &str) -> Result<Option<Dynamic>, OutOfMemory>
-        ensures { IfOk result (λ v. option_map value_of v ≡ module_value_of (modules self.now) qualified.now) };
+        ensures { IfOk result (λ v. option_map value_of v ≡ module_value_of (modules self.now).values qualified.now) };
+
+    /// The name of the module that a path leads to; `None` where there is none. This is no call.
+    fn module(&self, alloc: Global, path: &str) -> Result<Option<ImmutableString>, OutOfMemory>
+        ensures { IfOk result (λ m. m ≡ module_in (modules self.now).paths path.now) };
 }
 
 /// Asks a host. The call goes to the calls of the run; a refused one leaves them as they are.

@@ -9,4 +9,4 @@ mod report;
 pub use host::{Host, HostAnswer, HostCall, ask};
 pub use print::push_report;
 pub use program_host::ProgramHost;
-pub use report::{RunEnd, RunReport, Stuck, Variable};
+pub use report::{Export, RunEnd, RunReport, Stuck, Variable};

@@ -5,16 +5,16 @@ ghost use Rattle.std.specs.Prelude.{◌≡◌, ◌++◌, [], OnOk, map, string_b
 ghost use Rattle.std.specs.Option.{option_copied, option_map};
 ghost use Rattle.rhai_values.specs.Reading.{value_of};
 ghost use Rattle.rhai_values.specs.Value.{inner};
-ghost use Rattle.rhai_host.specs.Entries.{variable_meant};
+ghost use Rattle.rhai_host.specs.Entries.{variable_meant, export_meant};
 ghost use Rattle.rhai_host.specs.Host.{call_meant};
 ghost use Rattle.rhai_meaning.specs.Run.{WithStuck};
 ghost use Rattle.rhai_host.specs.Report.{end_meant, report_meant, stuck_meant};
-ghost use Rattle.rhai_host.specs.Print.{called_on, end_text, variable_text, variables_text, values_text, call_text, calls_text, report_text};
+ghost use Rattle.rhai_host.specs.Print.{called_on, end_text, variable_text, variables_text, export_text, exports_text, values_text, call_text, calls_text, report_text};
 
-use crate::{HostCall, RunEnd, RunReport, Stuck, Variable};
+use crate::{Export, HostCall, RunEnd, RunReport, Stuck, Variable};
 use rhai_base::{Dynamic, OutOfMemory};
 
-/// Appends a report: the end, the turns left, then each variable and each call on a line.
+/// Appends a report: the end, the turns left, then each variable, each export and each call on a line.
 pub fn push_report(report: &RunReport, text: &mut String) -> Result<(), OutOfMemory>
     ensures { OnOk result (string_bytes text.new ≡ string_bytes text.old ++ report_text (report_meant report.now)) }
 {
@@ -24,6 +24,7 @@ pub fn push_report(report: &RunReport, text: &mut String) -> Result<(), OutOfMem
     write!(text, "{}", report.turns_left)?;
     text.push_str("\n")?;
     push_variables(report.variables.as_slice(), text)?;
+    push_exports(report.exports.as_slice(), text)?;
     push_calls(report.calls.as_slice(), text)
 }
 
@@ -75,6 +76,28 @@ fn push_variable(variable: &Variable, text: &mut String) -> Result<(), OutOfMemo
         "variable "
     };
     text.push_str(kind)?;
+    text.push_str(name.as_str())?;
+    text.push_str(" = ")?;
+    value.push_inner(text)?;
+    text.push_str("\n")?;
+    Ok(())
+}
+
+/// Appends exports, each on a line.
+fn push_exports(exports: &[Export], text: &mut String) -> Result<(), OutOfMemory>
+    ensures { OnOk result (string_bytes text.new ≡ string_bytes text.old ++ exports_text (map export_meant exports.now)) }
+{
+    for export in exports {
+        push_export(export, text)?;
+    }
+    Ok(())
+}
+
+fn push_export(export: &Export, text: &mut String) -> Result<(), OutOfMemory>
+    ensures { OnOk result (string_bytes text.new ≡ string_bytes text.old ++ export_text (export_meant export.now)) }
+{
+    let (name, value) = export;
+    text.push_str("export ")?;
     text.push_str(name.as_str())?;
     text.push_str(" = ")?;
     value.push_inner(text)?;

@@ -1,7 +1,7 @@
 //! The program's host.
-#![tactic(auto, using(rhai_values::specs::Reading::kinds))]
+#![tactic(auto, using(rhai_values::specs::Reading::kinds, crate::proofs::ProgramHosts::known))]
 
-ghost use Rattle.std.specs.Prelude.{◌≡◌, ◌++◌, [], IfOk, None, map};
+ghost use Rattle.std.specs.Prelude.{◌≡◌, ◌++◌, IfOk, None, map};
 ghost use Rattle.std.specs.Option.{option_map};
 ghost use Rattle.rhai_values.specs.Reading.{value_of};
 ghost use Rattle.rhai_values.specs.Value.{TextV, text_of};
@@ -14,16 +14,16 @@ use rhai_base::{Dynamic, ImmutableString, OutOfMemory};
 use std::alloc::Global;
 
 /// What answers the calls that are not built in: `f` answers `true`, `+` joins its two arguments as texts, and the
-/// method `push` with one argument appends it to an array. All else answers unit, and there are no modules.
+/// method `push` with one argument appends it to an array. All else answers unit. The path `m` leads to module `m`, whose value `v` is 7.
 #[derive(Clone, Copy, Debug, PartialEq, Eq)]
 pub struct ProgramHost;
 
 impl Host for ProgramHost {
-    ghost use Rattle.rhai_host.specs.ProgramHost.{program_answer};
+    ghost use Rattle.rhai_host.specs.ProgramHost.{program_answer, program_modules};
 
     ghost answers = { λ host past call. program_answer call };
 
-    ghost modules = { λ host. [] };
+    ghost modules = { λ host. program_modules };
 
     fn answer(
         &self,
@@ -42,9 +42,19 @@ impl Host for ProgramHost {
     fn module_value(
         &self,
         _alloc: Global,
-        _qualified: &str,
+        qualified: &str,
     ) -> Result<Option<Dynamic>, OutOfMemory> {
-        Ok(None)
+        match qualified {
+            "m::v" => Ok(Some(Dynamic::Int(7))),
+            _ => Ok(None),
+        }
+    }
+
+    fn module(&self, alloc: Global, path: &str) -> Result<Option<ImmutableString>, OutOfMemory> {
+        match path {
+            "m" => Ok(Some(ImmutableString::new(alloc, "m")?)),
+            _ => Ok(None),
+        }
     }
 }
 

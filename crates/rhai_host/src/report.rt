@@ -20,6 +20,8 @@ pub enum Stuck {
     CounterTooLarge,
     /// `this` where it is not bound.
     UnboundThis,
+    /// A path that leads to no module.
+    UnknownModule,
 }
 
 impl Stuck {
@@ -34,6 +36,7 @@ impl Stuck {
             Stuck::NoPlace => 4,
             Stuck::CounterTooLarge => 5,
             Stuck::UnboundThis => 6,
+            Stuck::UnknownModule => 7,
         }
     }
 
@@ -48,6 +51,7 @@ impl Stuck {
             Stuck::NoPlace => "NoPlace",
             Stuck::CounterTooLarge => "CounterTooLarge",
             Stuck::UnboundThis => "UnboundThis",
+            Stuck::UnknownModule => "UnknownModule",
         }
     }
 }
@@ -68,6 +72,9 @@ pub enum RunEnd {
 /// A name, whether it is a constant, and its value.
 pub type Variable = (ImmutableString, bool, Dynamic);
 
+/// An exported name, and its value.
+pub type Export = (ImmutableString, Dynamic);
+
 /// A run's end, and what it left.
 #[derive(Debug, Drop, PartialEq, Eq)]
 pub struct RunReport {
@@ -75,6 +82,8 @@ pub struct RunReport {
     pub run_end: RunEnd,
     /// The names of the start scope, and then those added at top level, in order.
     pub variables: Seq<Variable>,
+    /// The exports of the script's own list, in order.
+    pub exports: Seq<Export>,
     /// The calls to the host, in order.
     pub calls: Seq<HostCall>,
     /// The turns left.

@@ -17,12 +17,13 @@ pub use rhai_base::{
     builtin_unary_op,
 };
 pub use rhai_host::{ProgramHost, push_report};
+pub use rhai_make as make;
 pub use rhai_notation::{push_lines, push_script};
 pub use rhai_optimizer::{
-    OptimizationLevel, OptimizerState, optimize_counted, optimize_into_ast, optimize_top_level,
+    OptimizationLevel, OptimizerState, optimize_ast, optimize_counted, optimize_into_ast,
 };
 pub use rhai_run::{
     EngineInfo, Host, HostAnswer, HostCall, RunEnd, RunReport, Stuck, Variable, plain_run,
 };
-pub use rhai_script::{AST, FnKey, FnLib, FnLibIter, SharedLib};
+pub use rhai_script::{AST, AstParts, Doc, FnKey, FnLib, FnLibIter, SharedLib};
 pub use rhai_script_queries::{FnMetadataIter, LiteralVariables, ScriptFnMetadata, ScriptQueries};

@@ -1,4 +1,5 @@
 pub mod Placing
+pub mod Modules
 pub mod Writing
 pub mod Roots
 pub mod Chaining

@@ -1,12 +1,12 @@
 -- What stands at places, and the runs of the acts on them.
-use Rattle.std.proofs.Common.{◌≡◌, ℕ, Bool, true, List, [], ◌∷◌, ◌++◌, map, get_or, Option, Some, None, Ok, Err, refl, sym, ap, subst, ◌∙◌, arith}
+use Rattle.std.proofs.Common.{◌≡◌, ℕ, List, [], ◌∷◌, ◌++◌, map, get_or, Option, Some, None, Ok, Err, refl, sym, ap, subst, ◌∙◌, arith}
 use Rattle.std.specs.Prelude.{option_map}
 use Rattle.std.proofs.lemmas.List.{map-append}
 use Rattle.rhai_values.specs.declared.dynamic.Dynamic.{Dynamic}
 use Rattle.rhai_values.specs.Reading.{value_of}
 use Rattle.rhai_values.specs.Value.{Text, Value, UnitV}
 use Rattle.rhai_meaning.specs.Act as act
-use Rattle.rhai_meaning.specs.Act.{ScopeEntry, IsStuck, Unbound, NoPlace, Gives, Ended, Halted, At, Store, Act, OfName, OfThis, Read, found, read, read_this, read_root}
+use Rattle.rhai_meaning.specs.Act.{IsConstant, ScopeEntry, IsStuck, Unbound, NoPlace, Gives, Ended, Halted, At, Store, Act, OfName, OfThis, Read, found, read, read_this, read_root}
 use Rattle.rhai_meaning.specs.ActForms.{give}
 use Rattle.rhai_meaning.specs.Engine.{constant_named}
 use Rattle.rhai_meaning.specs.Elements.{at_index}
@@ -23,12 +23,13 @@ use Rattle.rhai_state.specs.declared.state.State.{State}
 use Rattle.rhai_forms.specs.declared.variables.Root.{Root}
 use Rattle.rhai_host.specs.declared.report.Stuck as report
 use Rattle.rhai_host.specs.declared.report.Stuck.TheVariants as why
-use Rattle.rhai_host.specs.Entries.{variable_meant}
+use Rattle.rhai_state.specs.declared.entries.Entry.{Entry}
+use Rattle.rhai_state.specs.Entries.{entry_meant}
 use Rattle.rhai_machine.specs.Placing.{place_meant, root_value, root_stuck, value_at, stuck_by, HasPart, HasRoot, current_in}
 use Rattle.rhai_host.specs.Report.{stuck_meant}
 use Rattle.rhai_state.specs.Runs.{Setting, Acting, Over, Halting, Goes, Stops, given}
 use Rattle.rhai_state.specs.State.{store_of}
-use Rattle.rhai_state.specs.Variables.{Entries, IsMissing, IsLatest}
+use Rattle.rhai_state.specs.Variables.{IsMissing, IsLatest}
 use Rattle.rhai_forms.specs.Variables.{root_meant}
 use Rattle.rhai_state.proofs.Goes.{stops_by}
 use Rattle.rhai_state.proofs.Variables.{found-missing, found-latest, get-latest, latest_below}
@@ -36,16 +37,16 @@ use Rattle.rhai_state.proofs.Variables.{found-missing, found-latest, get-latest,
 -- ---- roots
 
 -- a name that is not in scope is the record's
-constant_itself : (x : Text) (o : Option Value) → option_map (λ (e : ScopeEntry). e.value) (option_map (λ v. record { name = x; constant = true; value = v }) o) ≡ o
+constant_itself : (x : Text) (o : Option Value) → option_map (λ (e : ScopeEntry). e.value) (option_map (λ v. record { name = x; kind = IsConstant; value = v }) o) ≡ o
 constant_itself x None = refl
 constant_itself x (Some v) = refl
 
-module _ (here : Setting) (x : Text) (es : Entries) where
+module _ (here : Setting) (x : Text) (es : List Entry) where
   abbrev named_value : Option Value
-  named_value = option_map (λ (e : ScopeEntry). e.value) (found here.world.engine.constants (reversed (map variable_meant es) []) x)
+  named_value = option_map (λ (e : ScopeEntry). e.value) (found here.world.engine.constants (reversed (map entry_meant es) []) x)
 
-  pub latest_value : (i : ℕ) (l : IsLatest x es i) (d : Text × Bool × Dynamic) → named_value ≡ Some (value_of (get_or es i d).2)
-  latest_value i l d = ap (option_map (λ (e : ScopeEntry). e.value)) (found-latest here.world.engine.constants x es i l) ∙ ap (λ (e : Text × Bool × Dynamic). Some (value_of e.2)) (sym (get-latest x es i l d))
+  pub latest_value : (i : ℕ) (l : IsLatest x es i) (d : Entry) → named_value ≡ Some (value_of (get_or es i d).value)
+  latest_value i l d = ap (option_map (λ (e : ScopeEntry). e.value)) (found-latest here.world.engine.constants x es i l) ∙ ap (λ (e : Entry). Some (value_of e.value)) (sym (get-latest x es i l d))
 
   pub constant_value : IsMissing x es → named_value ≡ constant_named here.world.engine.constants x
   constant_value h = ap (option_map (λ (e : ScopeEntry). e.value)) (found-missing here.world.engine.constants x es h) ∙ constant_itself x (constant_named here.world.engine.constants x)

@@ -7,7 +7,7 @@ use Rattle.rhai_values.specs.declared.dynamic.Dynamic.{Dynamic}
 use Rattle.rhai_values.specs.Reading.{value_of}
 use Rattle.rhai_values.specs.Value.{Text, Value, UnitV, BoolV, IntV, CharV, TextV, ArrayV, MapV, PointerV, RangeV, RangeInclusiveV}
 use Rattle.rhai_meaning.specs.Act as act
-use Rattle.rhai_meaning.specs.Act.{ScopeEntry, IsStuck, NoPlace, WriteToConstant, Gives, Ended, Halted, At, Store, Act, OfName, OfThis, Read, Write, and_then, found, put, read, read_root, read_this, run, write, write_at, write_root, write_this}
+use Rattle.rhai_meaning.specs.Act.{IsConstant, is_constant, ScopeEntry, IsStuck, NoPlace, WriteToConstant, Gives, Ended, Halted, At, Store, Act, OfName, OfThis, Read, Write, and_then, found, put, read, read_root, read_this, run, write, write_at, write_root, write_this}
 use Rattle.rhai_meaning.specs.ActForms.{value_then}
 use Rattle.rhai_meaning.specs.Engine.{constant_named}
 use Rattle.rhai_meaning.specs.Elements.{at_index, index_in, count, value_at as item_at, with_value_at, with_entry}
@@ -18,12 +18,13 @@ use Rattle.rhai_state.specs.declared.state.Interrupt.{Interrupt}
 use Rattle.rhai_state.specs.declared.state.Interrupt.TheVariants.{Stuck}
 use Rattle.rhai_state.specs.declared.state.State.{State}
 use Rattle.rhai_host.specs.declared.report.Stuck.TheVariants as why
-use Rattle.rhai_host.specs.Entries.{variable_meant}
+use Rattle.rhai_state.specs.declared.entries.Entry.{Entry}
+use Rattle.rhai_state.specs.Entries.{kind_meant, entry_meant}
 use Rattle.rhai_host.specs.Host.{call_meant}
 use Rattle.rhai_machine.specs.Placing.{root_value, root_stuck, constant_end}
 use Rattle.rhai_state.specs.Runs.{Setting, Task, Acting, Over, Halting, env, run_of, stopped, stop_of, Goes, Stops, Leads, given}
 use Rattle.rhai_state.specs.State.{store_of}
-use Rattle.rhai_state.specs.Variables.{Entries, IsMissing, IsLatest}
+use Rattle.rhai_state.specs.Variables.{IsMissing, IsLatest}
 use Rattle.rhai_state.proofs.Goes.{goes_as, goes_then, stops_by, stops_then, value_goes, value_stops}
 use Rattle.rhai_machine.proofs.Placing.{constant_value, fails, latest_value, read_goes, read_stops}
 use Rattle.rhai_state.proofs.Variables.{found-latest, found-missing, get-latest, put-latest, set-latest}
@@ -102,7 +103,7 @@ module _ (here : Setting) (must : Bool) (s : State) (ks : List places.PlaceKey) 
   write_free false x u st t = refl
 
   -- a constant stays as it is
-  module _ (x : Text) (e : ScopeEntry) (is : found here.world.engine.constants (store_of s).scope x ≡ Some e) (c : e.constant ≡ true) where
+  module _ (x : Text) (e : ScopeEntry) (is : found here.world.engine.constants (store_of s).scope x ≡ Some e) (c : is_constant e.kind ≡ true) where
     abbrev write_here : Act
     write_here = write_place must (record { root = OfName x; keys = ks }) w
 
@@ -126,50 +127,50 @@ module _ (here : Setting) (must : Bool) (s : State) (ks : List places.PlaceKey) 
     constant_leads r q = subst (λ o. Leads here (Acting write_here) s o s (λ z. given UnitV)) (sym q) (constant_leads_by must (along e.value ks) refl refl)
 
   -- a variable by its name
-  module _ (x : Text) (i : ℕ) (l : IsLatest x s.scope.items i) (d : Text × Bool × Dynamic) where
-    abbrev old : Text × Bool × Dynamic
+  module _ (x : Text) (i : ℕ) (l : IsLatest x s.scope.items i) (d : Entry) where
+    abbrev old : Entry
     old = get_or s.scope.items i d
 
-    rooted : root_value here (store_of s) (OfName x) ≡ Some (value_of old.2)
+    rooted : root_value here (store_of s) (OfName x) ≡ Some (value_of old.value)
     rooted = latest_value here x s.scope.items i l d
 
-    found_old : found here.world.engine.constants (store_of s).scope x ≡ Some (variable_meant old)
-    found_old = found-latest here.world.engine.constants x s.scope.items i l ∙ ap (λ e. Some (variable_meant e)) (sym (get-latest x s.scope.items i l d))
+    found_old : found here.world.engine.constants (store_of s).scope x ≡ Some (entry_meant old)
+    found_old = found-latest here.world.engine.constants x s.scope.items i l ∙ ap (λ e. Some (entry_meant e)) (sym (get-latest x s.scope.items i l d))
 
-    pub name_nowhere : with_along (value_of old.2) ks w ≡ None → Stops here (Acting (write_place must (record { root = OfName x; keys = ks }) w)) s (Stuck why.NoPlace) s
-    name_nowhere k = write_nowhere (OfName x) (value_of old.2) rooted k
+    pub name_nowhere : with_along (value_of old.value) ks w ≡ None → Stops here (Acting (write_place must (record { root = OfName x; keys = ks }) w)) s (Stuck why.NoPlace) s
+    name_nowhere k = write_nowhere (OfName x) (value_of old.value) rooted k
 
-    scope_after : (v : Dynamic) (es : Entries) → es ≡ set s.scope.items i (old.0, old.1, v) → reversed (map variable_meant es) [] ≡ put (store_of s).scope x (value_of v)
+    scope_after : (v : Dynamic) (es : List Entry) → es ≡ set s.scope.items i (record old { value = v }) → reversed (map entry_meant es) [] ≡ put (store_of s).scope x (value_of v)
     scope_after v es h =
-        let here_is : (old.0, old.1, v) ≡ (l.here.0, l.here.1, v) = ap (λ (e : Text × Bool × Dynamic). (e.0, e.1, v)) (get-latest x s.scope.items i l d) in
-        ap (λ (fs : Entries). reversed (map variable_meant fs) []) (h ∙ ap (λ e. set s.scope.items i e) here_is ∙ set-latest x s.scope.items i l (l.here.0, l.here.1, v)) ∙ sym (put-latest x s.scope.items i l v)
+        let here_is : (record old { value = v }) ≡ (record l.here { value = v }) = ap (λ (e : Entry). record e { value = v }) (get-latest x s.scope.items i l d) in
+        ap (λ (fs : List Entry). reversed (map entry_meant fs) []) (h ∙ ap (λ e. set s.scope.items i e) here_is ∙ set-latest x s.scope.items i l (record l.here { value = v })) ∙ sym (put-latest x s.scope.items i l v)
 
-    pub name_written : (v : Dynamic) (s' : State) → old.1 ≡ false → with_along (value_of old.2) ks w ≡ Some (value_of v) → s'.scope.items ≡ set s.scope.items i (old.0, old.1, v) → s'.this ≡ s.this → s'.calls ≡ s.calls → s'.turns ≡ s.turns → Goes here (Acting (write_place must (record { root = OfName x; keys = ks }) w)) s (given UnitV) s'
+    pub name_written : (v : Dynamic) (s' : State) → is_constant (kind_meant old.kind) ≡ false → with_along (value_of old.value) ks w ≡ Some (value_of v) → s'.scope.items ≡ set s.scope.items i (record old { value = v }) → s'.this ≡ s.this → s'.calls ≡ s.calls → s'.turns ≡ s.turns → Goes here (Acting (write_place must (record { root = OfName x; keys = ks }) w)) s (given UnitV) s'
     name_written v s' b k e0 e1 e2 e3 =
         let scope : (store_of s').scope ≡ put (store_of s).scope x (value_of v) = scope_after v s'.scope.items e0 in
-        write_then (OfName x) (value_of old.2) (value_of v) s' rooted k
+        write_then (OfName x) (value_of old.value) (value_of v) s' rooted k
         (record {
           turns = omega (arith, e3);
           runs = λ d le. ap (λ o. write must o x (value_of v) (store_of s) s.turns) found_old ∙ ap (λ c. write_at must c x (value_of v) (store_of s) s.turns) b ∙ write_free must x (value_of v) (store_of s) s.turns ∙ (λ j. At (Ended (Gives UnitV)) (record { scope = sym scope j; this = ap (option_map value_of) (sym e1) j; calls = ap (map call_meant) (sym e2) j }) (sym e3 j));
         })
 
   -- by the entry that was taken out and put back, with a value in it
-  module _ (x : Text) (i : ℕ) (l : IsLatest x s.scope.items i) (g : Text × Bool × Dynamic) (e : g ≡ get_or s.scope.items i g) (s' : State) (v : Dynamic) (a : s'.scope.items ≡ set s.scope.items i (g.0, g.1, v)) (b : s'.this ≡ s.this) (c : s'.calls ≡ s.calls) (t : s'.turns ≡ s.turns) where
-    kept_store : v ≡ g.2 → store_of s' ≡ store_of s
+  module _ (x : Text) (i : ℕ) (l : IsLatest x s.scope.items i) (g : Entry) (e : g ≡ get_or s.scope.items i g) (s' : State) (v : Dynamic) (a : s'.scope.items ≡ set s.scope.items i (record g { value = v })) (b : s'.this ≡ s.this) (c : s'.calls ≡ s.calls) (t : s'.turns ≡ s.turns) where
+    kept_store : v ≡ g.value → store_of s' ≡ store_of s
     kept_store k =
-        let items : s'.scope.items ≡ s.scope.items = a ∙ ap (λ (u : Dynamic). set s.scope.items i (g.0, g.1, u)) k ∙ ap (set s.scope.items i) e ∙ set-get_or s.scope.items i g in
-        λ j. record { scope = reversed (map variable_meant (items j)) []; this = ap (option_map value_of) b j; calls = ap (map call_meant) c j }
+        let items : s'.scope.items ≡ s.scope.items = a ∙ ap (λ (u : Dynamic). set s.scope.items i (record g { value = u })) k ∙ ap (set s.scope.items i) e ∙ set-get_or s.scope.items i g in
+        λ j. record { scope = reversed (map entry_meant (items j)) []; this = ap (option_map value_of) b j; calls = ap (map call_meant) c j }
 
-    pub written_at : g.1 ≡ false → with_along (value_of g.2) ks w ≡ Some (value_of v) → Goes here (Acting (write_place must (record { root = OfName x; keys = ks }) w)) s (given UnitV) s'
-    written_at h k = name_written x i l g v s' (ap (λ (y : Text × Bool × Dynamic). y.1) (sym e) ∙ h) (ap (λ (y : Text × Bool × Dynamic). with_along (value_of y.2) ks w) (sym e) ∙ k) (a ∙ ap (λ (y : Text × Bool × Dynamic). set s.scope.items i (y.0, y.1, v)) e) b c t
+    pub written_at : is_constant (kind_meant g.kind) ≡ false → with_along (value_of g.value) ks w ≡ Some (value_of v) → Goes here (Acting (write_place must (record { root = OfName x; keys = ks }) w)) s (given UnitV) s'
+    written_at h k = name_written x i l g v s' (ap (λ (y : Entry). is_constant (kind_meant y.kind)) (sym e) ∙ h) (ap (λ (y : Entry). with_along (value_of y.value) ks w) (sym e) ∙ k) (a ∙ ap (λ (y : Entry). set s.scope.items i (record y { value = v })) e) b c t
 
-    pub nowhere_at : v ≡ g.2 → with_along (value_of g.2) ks w ≡ None → Stops here (Acting (write_place must (record { root = OfName x; keys = ks }) w)) s (Stuck why.NoPlace) s'
-    nowhere_at k h = same_leads {T = Unit} here (Acting (write_place must (record { root = OfName x; keys = ks }) w)) s s' (Err (Stuck why.NoPlace)) (λ z. given UnitV) (kept_store k) t (name_nowhere x i l g (ap (λ (y : Text × Bool × Dynamic). with_along (value_of y.2) ks w) (sym e) ∙ h))
+    pub nowhere_at : v ≡ g.value → with_along (value_of g.value) ks w ≡ None → Stops here (Acting (write_place must (record { root = OfName x; keys = ks }) w)) s (Stuck why.NoPlace) s'
+    nowhere_at k h = same_leads {T = Unit} here (Acting (write_place must (record { root = OfName x; keys = ks }) w)) s s' (Err (Stuck why.NoPlace)) (λ z. given UnitV) (kept_store k) t (name_nowhere x i l g (ap (λ (y : Entry). with_along (value_of y.value) ks w) (sym e) ∙ h))
 
-    pub constant_at : (r : Result Unit Interrupt) → v ≡ g.2 → g.1 ≡ true → r ≡ constant_end must (along (value_of g.2) ks) → Leads here (Acting (write_place must (record { root = OfName x; keys = ks }) w)) s r s' (λ z. given UnitV)
+    pub constant_at : (r : Result Unit Interrupt) → v ≡ g.value → is_constant (kind_meant g.kind) ≡ true → r ≡ constant_end must (along (value_of g.value) ks) → Leads here (Acting (write_place must (record { root = OfName x; keys = ks }) w)) s r s' (λ z. given UnitV)
     constant_at r k h q =
-        let there : found here.world.engine.constants (store_of s).scope x ≡ Some (variable_meant g) = found_old x i l g ∙ ap (λ y. Some (variable_meant y)) (sym e) in
-        same_leads here (Acting (write_place must (record { root = OfName x; keys = ks }) w)) s s' r (λ z. given UnitV) (kept_store k) t (constant_leads x (variable_meant g) there h r q)
+        let there : found here.world.engine.constants (store_of s).scope x ≡ Some (entry_meant g) = found_old x i l g ∙ ap (λ y. Some (entry_meant y)) (sym e) in
+        same_leads here (Acting (write_place must (record { root = OfName x; keys = ks }) w)) s s' r (λ z. given UnitV) (kept_store k) t (constant_leads x (entry_meant g) there h r q)
 
   -- a name that is not in scope
   module _ (x : Text) (h : IsMissing x s.scope.items) (o : Option Value) (k : constant_named here.world.engine.constants x ≡ o) where
@@ -177,12 +178,12 @@ module _ (here : Setting) (must : Bool) (s : State) (ks : List places.PlaceKey) 
     record_unbound e = write_unrooted (OfName x) (Stuck why.Unbound) (constant_value here x s.scope.items h ∙ k ∙ e) refl
 
     pub record_constant : (v : Value) (r : Result Unit Interrupt) → o ≡ Some v → r ≡ constant_end must (along v ks) → Leads here (Acting (write_place must (record { root = OfName x; keys = ks }) w)) s r s (λ z. given UnitV)
-    record_constant v r e q = constant_leads x (record { name = x; constant = true; value = v }) (found-missing here.world.engine.constants x s.scope.items h ∙ ap (option_map (λ u. record { name = x; constant = true; value = u })) (k ∙ e)) refl r q
+    record_constant v r e q = constant_leads x (record { name = x; kind = IsConstant; value = v }) (found-missing here.world.engine.constants x s.scope.items h ∙ ap (option_map (λ u. record { name = x; kind = IsConstant; value = u })) (k ∙ e)) refl r q
 
   pub this_written : (v v' : Dynamic) (s' : State) → s.this ≡ Some v → with_along (value_of v) ks w ≡ Some (value_of v') → s'.this ≡ Some v' → s'.scope.items ≡ s.scope.items → s'.calls ≡ s.calls → s'.turns ≡ s.turns → Goes here (Acting (write_place must (record { root = OfThis; keys = ks }) w)) s (given UnitV) s'
   this_written v v' s' h k e0 e1 e2 e3 = write_then OfThis (value_of v) (value_of v') s' (ap (option_map value_of) h) k (record {
     turns = omega (arith, e3);
-    runs = λ d le. ap (λ o. write_this o (value_of v') (store_of s) s.turns) (ap (option_map value_of) h) ∙ (λ j. At (Ended (Gives UnitV)) (record { scope = ap (λ (fs : Entries). reversed (map variable_meant fs) []) (sym e1) j; this = ap (option_map value_of) (sym e0) j; calls = ap (map call_meant) (sym e2) j }) (sym e3 j));
+    runs = λ d le. ap (λ o. write_this o (value_of v') (store_of s) s.turns) (ap (option_map value_of) h) ∙ (λ j. At (Ended (Gives UnitV)) (record { scope = ap (λ (fs : List Entry). reversed (map entry_meant fs) []) (sym e1) j; this = ap (option_map value_of) (sym e0) j; calls = ap (map call_meant) (sym e2) j }) (sym e3 j));
   })
 
 -- ---- a place without keys is its root

@@ -2,16 +2,15 @@
 use Rattle.std.specs.Prelude.{List, map}
 use Rattle.rhai_meaning.specs.Act.{HostCall, Answer}
 use Rattle.rhai_meaning.specs.Desugar.{core_function}
-use Rattle.rhai_meaning.specs.Host.{ModuleValue}
 use Rattle.rhai_meaning.specs.Run.{world_of}
 use Rattle.rhai_functions.specs.FnLib.{functions_of}
 use Rattle.rhai_engine.specs.EngineInfo.{engine_of}
-use Rattle.rhai_host.specs.Host.{host_of}
+use Rattle.rhai_host.specs.Host.{Modules, host_of}
 use Rattle.rhai_machine.specs.declared.steps.machine.Machine.{Machine}
 use Rattle.rhai_state.specs.Runs.{Setting, setting_of}
 
 -- that of a machine, by what its host answers and its modules hold
-abbrev pub setting : {H : Type 0} → (H → List HostCall → HostCall → Answer) → (H → List ModuleValue) → Machine H → Setting
+abbrev pub setting : {H : Type 0} → (H → List HostCall → HostCall → Answer) → (H → Modules) → Machine H → Setting
 setting answers modules e =
     let fs = (map core_function (functions_of e.functions.now)) in
     setting_of (world_of (engine_of e.info.now) (host_of (answers e.host.now) (modules e.host.now)) fs) fs

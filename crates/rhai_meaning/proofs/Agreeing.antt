@@ -2,7 +2,7 @@
 use Rattle.std.proofs.Common.{◌≡◌, ℕ, zero, suc, Bool, true, List, [], ◌∷◌, ◌++◌, map, Option, Some, None, refl, ap, subst, ◌∙◌}
 use Rattle.rhai_values.specs.Value.{Text, Value}
 use Rattle.rhai_meaning.specs.Engine.{Engine}
-use Rattle.rhai_meaning.specs.Act.{ScopeEntry, HostCall, Host, Key, Store, World, Again, Ending, Gives, Leaves, Ended, Halted, Result, At, OfName, OfThis, ScriptCall, Act, Stop, Fail, Then, Turn, Read, Write, AskHost, Invoke, Loop, Scoped, Acts, Only, Do, Named, Finish, Env, and_then, with_turn, leave, call_then, returned, on_again, rounds, run, run_all}
+use Rattle.rhai_meaning.specs.Act.{ScopeEntry, HostCall, Host, Key, Store, World, Again, Ending, Gives, Leaves, Ended, Halted, Result, At, OfName, OfThis, ScriptCall, Act, Stop, Fail, Then, Turn, Read, Write, Resolve, AskHost, Invoke, Loop, Scoped, Acts, Only, Do, Named, Finish, Env, and_then, with_turn, resolved, leave, call_then, returned, on_again, rounds, run, run_all}
 use Rattle.rhai_meaning.specs.Agreeing.{SameAnswers, AgreeOn}
 use Rattle.rhai_meaning.specs.Relations.{Begins, calls_of, store_of}
 use Rattle.rhai_meaning.specs.Core.{Function, Script}
@@ -76,6 +76,7 @@ module _ (h h' : Host) where
         same_run (Read OfThis) s t q = refl
         same_run (Write must (OfName x) v) s t q = refl
         same_run (Write must OfThis v) s t q = refl
+        same_run (Resolve a next) s t q = same_run (next (resolved s.scope a)) s t q
         same_run (AskHost c next) s t q =
             let s1 = record s { calls = s.calls ++ c ∷ [] } in
             let b = (preserves w env g.adds (next (h.answer s.calls c)) s1 t).calls in
@@ -88,19 +89,19 @@ module _ (h h' : Host) where
         pub same_run_all : (p : Acts) (s : Store) (t : ℕ) → Same (run_all w env p s t) (run_all w' env' p s t)
         same_run_all (Only a) s t = same_run a s t
         same_run_all (Do a next) s t = same_then (run w env a s t) _ _ _ (λ e s1 t1. (preserves_all w env g.adds (next e) s1 t1).calls) (same_run a s t) (λ e s1 t1. same_run_all (next e) s1 t1)
-        same_run_all (Named x c v p) s t = same_run_all p _ t
+        same_run_all (Named x k v p) s t = same_run_all p _ t
         same_run_all (Finish p) s t = same_returned (run_all w env p s t) _ (same_run_all p s t)
 
 -- ---- scripts
 
-module _ (engine : Engine) (h h' : Host) (modules : (x : Text) → h.module_value x ≡ h'.module_value x) (lends : Bool) where
+module _ (engine : Engine) (h h' : Host) (modules : (x : Text) → h.module_value x ≡ h'.module_value x) (paths : (p : Text) → h.module_of p ≡ h'.module_of p) (lends : Bool) where
   module _ (keys : List Key) where
     same_body_call : (env env' : Env) → SameEnv h h' env env' → (o : Option Function) (a : ScriptCall) (scope : List ScopeEntry) (calls : List HostCall) (t : ℕ) → Same h h' (call_body lends (w h h' engine keys) env o a scope calls t) (call_body lends (w' h h' engine keys) env' o a scope calls t)
     same_body_call env env' g None a scope calls t q = refl
     same_body_call env env' g (Some f) a scope calls t q =
         let s = entered lends f a scope calls in
         same_turn h h' t s _ (λ s1 t1. run_all (w' h h' engine keys) env' (body_acts (w h h' engine keys) f.body) s1 t1) (λ t1. same_run_all h h' engine keys env env' g (body_acts (w h h' engine keys) f.body) s t1) q
-        ∙ ap (λ p. with_turn t s (λ s1 t1. run_all (w' h h' engine keys) env' p s1 t1)) (same_body engine keys h h' modules f.body)
+        ∙ ap (λ p. with_turn t s (λ s1 t1. run_all (w' h h' engine keys) env' p s1 t1)) (same_body engine keys h h' modules paths f.body)
 
     same_invoke : (fs : List Function) (d : ℕ) (a : ScriptCall) (scope : List ScopeEntry) (calls : List HostCall) (t : ℕ) → Same h h' (invoke_at lends (w h h' engine keys) fs d a scope calls t) (invoke_at lends (w' h h' engine keys) fs d a scope calls t)
     same_invoke fs zero a scope calls t q = refl
@@ -114,13 +115,13 @@ module _ (engine : Engine) (h h' : Host) (modules : (x : Text) → h.module_valu
     same_run_at p AtStatements scope n q =
         let s : Store = record { scope = scope; this = None; calls = [] } in
         same_run_all h h' engine keys _ _ (same_env p.functions n) (body_acts (w h h' engine keys) p.statements) s n q
-        ∙ ap (λ q1. run_all (w' h h' engine keys) (env_at lends (w' h h' engine keys) p.functions n) q1 s n) (same_body engine keys h h' modules p.statements)
+        ∙ ap (λ q1. run_all (w' h h' engine keys) (env_at lends (w' h h' engine keys) p.functions n) q1 s n) (same_body engine keys h h' modules paths p.statements)
     same_run_at p (AtFunction k this vs) scope n q = same_body_call _ _ (same_env p.functions n) (function_of p.functions k) _ [] [] n q
 
 -- the whole script, by the calls that its run reports
 pub same_script : (engine : Engine) (h h' : Host) (p : Script) (e : EntryPoint) (scope : List ScopeEntry) (n : ℕ) → AgreeOn h h' (calls_of (run_script engine h p e scope n)) → run_script engine h p e scope n ≡ run_script engine h' p e scope n
 unfolding run_script
-same_script engine h h' p e scope n g = same_run_at engine h h' g.modules true (map key_of p.functions) p e scope n g.answers
+same_script engine h h' p e scope n g = same_run_at engine h h' g.modules g.paths true (map key_of p.functions) p e scope n g.answers
 
 report_calls : (e : EntryPoint) (r : Result) → (report_of e r).calls ≡ calls_of r
 report_calls e (At o s t) = refl

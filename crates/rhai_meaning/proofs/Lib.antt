@@ -11,6 +11,7 @@ pub mod SameActs
 pub mod PureActs
 pub mod PureTrees
 pub mod PurityLaws
+pub mod ModuleLaws
 pub mod LiteralLaws
 pub mod FaultLaws
 pub mod Rows

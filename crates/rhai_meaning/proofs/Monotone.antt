@@ -1,7 +1,7 @@
 -- One result follows another: how that passes through each part of a run. More turns and a deeper call.
 use Rattle.std.proofs.Common.{ℕ, zero, suc, ◌+◌, ◌≤◌, Bool, true, false, List, [], ◌∷◌, ◌++◌, Option, Some, None, arith}
 use Rattle.rhai_values.specs.Value.{Text, Value}
-use Rattle.rhai_meaning.specs.Act.{ScopeEntry, HostCall, Store, World, Again, Ending, Gives, Leaves, Halt, OutOfTurns, Ended, Halted, Result, At, Root, OfName, OfThis, ScriptCall, Act, Stop, Fail, Then, Turn, Read, Write, AskHost, Invoke, Loop, Scoped, Acts, Only, Do, Named, Finish, Env, and_then, with_turn, found, read, read_this, read_root, write_at, write, write_this, write_root, leave, call_then, returned, on_again, rounds, run, run_all}
+use Rattle.rhai_meaning.specs.Act.{ScopeEntry, is_constant, resolved, HostCall, Store, World, Again, Ending, Gives, Leaves, Halt, OutOfTurns, Ended, Halted, Result, At, Root, OfName, OfThis, ScriptCall, Act, Stop, Fail, Then, Turn, Read, Write, Resolve, AskHost, Invoke, Loop, Scoped, Acts, Only, Do, Named, Finish, Env, and_then, with_turn, found, read, read_this, read_root, write_at, write, write_this, write_root, leave, call_then, returned, on_again, rounds, run, run_all}
 use Rattle.rhai_meaning.specs.Relations.{Begins, here, calls_of, store_of}
 use Rattle.rhai_meaning.proofs.Relations.{Follows, same, short, AnyHalt, IsOut, Keeps}
 use Rattle.rhai_meaning.proofs.Preserves.{begins_trans, After, after_same, preserves_on_again, preserves_rounds, OnlyAdds, preserves, preserves_all}
@@ -65,7 +65,7 @@ module _ (U : Halt → Type 0) (out : U OutOfTurns) (k : ℕ) where
 
   follow_write : (must : Bool) (o : Option ScopeEntry) (x : Text) (v : Value) (s : Store) (t t' : ℕ) → t + k ≤ t' → Follows U k (write must o x v s t) (write must o x v s t')
   follow_write must None x v s t t' le = same le
-  follow_write must (Some e) x v s t t' le = follow_write_at must e.constant x v s t t' le
+  follow_write must (Some e) x v s t t' le = follow_write_at must (is_constant e.kind) x v s t t' le
 
   follow_write_this : (o : Option Value) (v : Value) (s : Store) (t t' : ℕ) → t + k ≤ t' → Follows U k (write_this o v s t) (write_this o v s t')
   follow_write_this None v s t t' le = same le
@@ -113,6 +113,7 @@ module _ (U : Halt → Type 0) (out : U OutOfTurns) (k : ℕ) where
       monotone (Turn a) s t t' le = follow_turn s t t' le _ _ (λ t1 t1' le1. monotone a s t1 t1' le1) (λ s1 t1. (preserves w env' deep.adds a s1 t1).calls)
       monotone (Read r) s t t' le = follow_read_root w r s t t' le
       monotone (Write must r v) s t t' le = follow_write_root w must r v s t t' le
+      monotone (Resolve a next) s t t' le = monotone (next (resolved s.scope a)) s t t' le
       monotone (AskHost c next) s t t' le = monotone (next (w.host.answer s.calls c)) (record s { calls = s.calls ++ c ∷ [] }) t t' le
       monotone (Invoke a next) s t t' le = follow_call s (deep.invoke a s.scope s.calls t t' le) _ _ (λ v u cs t1 t1' le1. monotone (next v u) _ t1 t1' le1) (λ v u s1 t1. (preserves w env' deep.adds (next v u) s1 t1).calls)
       monotone (Loop a) s t t' le = follow_rounds (λ s. Unit {0}) env.rounds env'.rounds deep.rounds _ _ (λ s1 t1 t1' q le1. monotone a s1 t1 t1' le1) (λ s1 t1 q. tt) (λ s1 t1. preserves w env' deep.adds a s1 t1) s t t' tt le

@@ -1,8 +1,8 @@
 -- What holds of a single act: calls are only added, and the names of the scope and its constants stay.
 use Rattle.std.proofs.Common.{◌≡◌, ℕ, zero, suc, ◌-◌, ◌≤◌, Bool, true, false, cond, List, [], ◌∷◌, ◌++◌, length, drop, Option, Some, None, refl, sym, ap, ◌∙◌, subst, arith}
-use Rattle.rhai_values.specs.Value.{Text, Value, same_text}
+use Rattle.rhai_values.specs.Value.{Text, Value}
 use Rattle.rhai_meaning.specs.Engine.{Binding}
-use Rattle.rhai_meaning.specs.Act.{ScopeEntry, HostCall, Store, World, Again, Ending, Gives, Leaves, Ended, Halted, Result, At, Root, OfName, OfThis, Act, Stop, Fail, Then, Turn, Read, Write, AskHost, Invoke, Loop, Scoped, Acts, Only, Do, Named, Finish, Env, and_then, with_turn, found, put, read, read_this, read_root, write_at, write, write_this, write_root, restore, leave, call_then, returned, on_again, rounds, run, run_all}
+use Rattle.rhai_meaning.specs.Act.{ScopeEntry, is_constant, is_called, HostCall, Store, World, Again, Ending, Gives, Leaves, Ended, Halted, Result, At, Root, OfName, OfThis, Act, Stop, Fail, Then, Turn, Read, Write, Resolve, AskHost, Invoke, Loop, Scoped, Acts, Only, Do, Named, Finish, Env, and_then, with_turn, found, put, read, read_this, read_root, write_at, write, write_this, write_root, resolved, restore, leave, call_then, returned, on_again, rounds, run, run_all}
 use Rattle.rhai_meaning.specs.Relations.{Begins, here, more, calls_of, store_of}
 pub use Rattle.rhai_meaning.specs.Relations.{OnlyAdds}
 use Rattle.rhai_meaning.proofs.Relations.{Keeps, none, one, changed, Grows, kept, pushed}
@@ -102,18 +102,18 @@ restore_twice es fs x (kept p) = ap (restore es) (sym (restore_keeps p))
 restore_twice es fs x (pushed {e = y} {fs = gs} p) =
     restore_pushed es gs y (grows_tail p) ∙ restore_twice es gs x p ∙ ap (restore es) (sym (restore_pushed (x ∷ es) gs y p))
 
-is_constant : Option ScopeEntry → Bool
-is_constant None = true
-is_constant (Some e) = e.constant
+stays : Option ScopeEntry → Bool
+stays None = true
+stays (Some e) = is_constant e.kind
 
-put_one : (b : Bool) (o : Option ScopeEntry) (d e : ScopeEntry) (es : List ScopeEntry) (x : Text) (v : Value) → cond b (Some d) o ≡ Some e → e.constant ≡ false → (o ≡ Some e → Keeps es (put es x v)) → Keeps (d ∷ es) (cond b (record d { value = v } ∷ es) (d ∷ put es x v))
-unfolding is_constant
-put_one true o d e es x v f c h = changed (ap is_constant f ∙ c) (keeps_refl es)
+put_one : (b : Bool) (o : Option ScopeEntry) (d e : ScopeEntry) (es : List ScopeEntry) (x : Text) (v : Value) → cond b (Some d) o ≡ Some e → is_constant e.kind ≡ false → (o ≡ Some e → Keeps es (put es x v)) → Keeps (d ∷ es) (cond b (record d { value = v } ∷ es) (d ∷ put es x v))
+unfolding stays
+put_one true o d e es x v f c h = changed (ap stays f ∙ c) (keeps_refl es)
 put_one false o d e es x v f c h = one (h f)
 
-put_keeps : (bs : List Binding) (es : List ScopeEntry) (x : Text) (v : Value) (e : ScopeEntry) → found bs es x ≡ Some e → e.constant ≡ false → Keeps es (put es x v)
+put_keeps : (bs : List Binding) (es : List ScopeEntry) (x : Text) (v : Value) (e : ScopeEntry) → found bs es x ≡ Some e → is_constant e.kind ≡ false → Keeps es (put es x v)
 put_keeps bs [] x v e f c = none
-put_keeps bs (d ∷ es) x v e f c = put_one (same_text d.name x) (found bs es x) d e es x v f c (λ g. put_keeps bs es x v e g c)
+put_keeps bs (d ∷ es) x v e f c = put_one (is_called d x) (found bs es x) d e es x v f c (λ g. put_keeps bs es x v e g c)
 
 preserves_read : (o : Option ScopeEntry) (s : Store) (t : ℕ) → After Keeps s (store_of (read o s t))
 preserves_read None s t = after_same s
@@ -123,14 +123,14 @@ preserves_read_this : (o : Option Value) (s : Store) (t : ℕ) → After Keeps s
 preserves_read_this None s t = after_same s
 preserves_read_this (Some v) s t = after_same s
 
-preserves_write_at : (bs : List Binding) (must b : Bool) (e : ScopeEntry) (x : Text) (v : Value) (s : Store) (t : ℕ) → e.constant ≡ b → found bs s.scope x ≡ Some e → After Keeps s (store_of (write_at must b x v s t))
+preserves_write_at : (bs : List Binding) (must b : Bool) (e : ScopeEntry) (x : Text) (v : Value) (s : Store) (t : ℕ) → is_constant e.kind ≡ b → found bs s.scope x ≡ Some e → After Keeps s (store_of (write_at must b x v s t))
 preserves_write_at bs true true e x v s t c f = after_same s
 preserves_write_at bs false true e x v s t c f = after_same s
 preserves_write_at bs must false e x v s t c f = record { calls = here; scope = put_keeps bs s.scope x v e f c }
 
 preserves_write : (bs : List Binding) (must : Bool) (o : Option ScopeEntry) (x : Text) (v : Value) (s : Store) (t : ℕ) → found bs s.scope x ≡ o → After Keeps s (store_of (write must o x v s t))
 preserves_write bs must None x v s t f = after_same s
-preserves_write bs must (Some e) x v s t f = preserves_write_at bs must e.constant e x v s t refl f
+preserves_write bs must (Some e) x v s t f = preserves_write_at bs must (is_constant e.kind) e x v s t refl f
 
 preserves_write_this : (o : Option Value) (v : Value) (s : Store) (t : ℕ) → After Keeps s (store_of (write_this o v s t))
 preserves_write_this None v s t = after_same s
@@ -160,6 +160,7 @@ module _ (w : World) (env : Env) (adds : OnlyAdds env) where
     preserves (Turn a) s t = preserves_turn t s _ (λ t1. preserves a s t1)
     preserves (Read r) s t = preserves_read_root w r s t
     preserves (Write must r v) s t = preserves_write_root w must r v s t
+    preserves (Resolve a next) s t = preserves (next (resolved s.scope a)) s t
     preserves (AskHost c next) s t =
         let q = preserves (next (w.host.answer s.calls c)) (record s { calls = s.calls ++ c ∷ [] }) t in
         record { calls = more c q.calls; scope = q.scope }
@@ -171,6 +172,6 @@ module _ (w : World) (env : Env) (adds : OnlyAdds env) where
     preserves_all (Only a) s t = let q = preserves a s t in record { calls = q.calls; scope = kept q.scope }
     preserves_all (Do a next) s t = preserves_then Grows grows_weaker s (run w env a s t) (preserves a s t) _ (λ e s1 t1. preserves_all (next e) s1 t1)
     preserves_all (Finish p) s t = preserves_returned s (run_all w env p s t) (preserves_all p s t)
-    preserves_all (Named x c v p) s t =
-        let q = preserves_all p (record s { scope = record { name = x; constant = c; value = v } ∷ s.scope }) t in
+    preserves_all (Named x k v p) s t =
+        let q = preserves_all p (record s { scope = record { name = x; kind = k; value = v } ∷ s.scope }) t in
         record { calls = q.calls; scope = grows_tail q.scope }

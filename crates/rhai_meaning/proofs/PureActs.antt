@@ -2,8 +2,8 @@
 use Rattle.std.proofs.Common.{◌≡◌, ℕ, zero, suc, ◌+◌, Bool, true, false, cond, List, [], ◌∷◌, Option, Some, None, refl, sym, ap, ◌∙◌, arith}
 use Rattle.std.specs.Prelude.{nat_lt, ◌^◌, ℤ, pos, ◌+ℤ◌}
 use Rattle.rhai_values.specs.Value.{Text, Value, UnitV, IntV}
-use Rattle.rhai_meaning.specs.Act.{World, ScopeEntry, Store, Ending, Gives, Leaves, Again, Stuck, WrongKind, CounterTooLarge, Halt, IsStuck, OutOfTurns, Outcome, Ended, Halted, Result, At, Act, Stop, Fail, Then, Turn, Loop, Scoped, Acts, Only, Do, Named, Env, and_then, with_turn, leave, restore, rounds, on_again, run}
-use Rattle.rhai_meaning.specs.ActForms.{give, ◌>>=◌, choose, truth, branch, if_true, on_throw, end_round, again_then, then_line}
+use Rattle.rhai_meaning.specs.Act.{World, EntryKind, IsVariable, Unbound, OfName, Read, found, read, ScopeEntry, Store, Ending, Gives, Leaves, Again, Stuck, WrongKind, CounterTooLarge, Halt, IsStuck, OutOfTurns, Outcome, Ended, Halted, Result, At, Act, Stop, Fail, Then, Turn, Loop, Scoped, Acts, Only, Do, Named, Env, and_then, with_turn, leave, restore, rounds, on_again, run}
+use Rattle.rhai_meaning.specs.ActForms.{give, ◌>>=◌, choose, truth, branch, if_true, on_throw, end_round, again_then, each_value, then_line}
 use Rattle.rhai_meaning.specs.Control.{round, counted, for_each, for_count}
 use Rattle.rhai_meaning.specs.Laws.{Settled, Gave, Stopped, settled, spend}
 use Rattle.rhai_meaning.specs.Relations.{OnlyAdds}
@@ -126,7 +126,7 @@ module _ (w : World) where
   pub l_only : (a : Act) → Pure a → PureList (Only a)
   l_only a p = record { scoped = record { cost = p.cost; end = p.end; runs = record { by = λ env adds s t. ap (leave s.scope) (p.runs.by env adds s t) ∙ spend_leave p.cost (settled p.end) s t } } }
 
-  pub l_named : (x : Text) (c : Bool) (v : Value) (p : Acts) → PureList p → PureList (Named x c v p)
+  pub l_named : (x : Text) (c : EntryKind) (v : Value) (p : Acts) → PureList p → PureList (Named x c v p)
   l_named x c v p h =
       let q = h.scoped in
       record {
@@ -135,7 +135,7 @@ module _ (w : World) where
           end = q.end;
           runs = record {
             by = λ env adds s t.
-                let e : ScopeEntry = record { name = x; constant = c; value = v } in
+                let e : ScopeEntry = record { name = x; kind = c; value = v } in
                 let s1 : Store = record s { scope = e ∷ s.scope } in
                 scoped_named w env adds x c v p s t ∙ ap (leave s.scope) (q.runs.by env adds s1 t) ∙ spend_named q.cost (settled q.end) s e t;
           };
@@ -143,10 +143,10 @@ module _ (w : World) where
       }
 
   -- before a list that reads no name, a name makes no difference
-  pub unnamed : (x : Text) (c : Bool) (v : Value) (p : Acts) → PureList p → (env : Env) → OnlyAdds env → (s : Store) (t : ℕ) → run w env (Scoped (Named x c v p)) s t ≡ run w env (Scoped p) s t
+  pub unnamed : (x : Text) (c : EntryKind) (v : Value) (p : Acts) → PureList p → (env : Env) → OnlyAdds env → (s : Store) (t : ℕ) → run w env (Scoped (Named x c v p)) s t ≡ run w env (Scoped p) s t
   unnamed x c v p h env adds s t =
       let q = h.scoped in
-      let e : ScopeEntry = record { name = x; constant = c; value = v } in
+      let e : ScopeEntry = record { name = x; kind = c; value = v } in
       let s1 : Store = record s { scope = e ∷ s.scope } in
       scoped_named w env adds x c v p s t ∙ ap (leave s.scope) (q.runs.by env adds s1 t) ∙ spend_named q.cost (settled q.end) s e t ∙ sym (q.runs.by env adds s t)
 
@@ -175,6 +175,78 @@ module _ (w : World) where
   pub l_line : (a : Act) (k : Value → Acts) → Pure a → ((v : Value) → PureList (k v)) → PureList (then_line a k)
   l_line a k p l = line_pure a k p.cost p.end p.runs l
 
+  -- ---- acts that change nothing, and end by the store
+
+  pub record PureFrom (a : Act) (s : Store) : Type 0 where
+    pub cost : ℕ
+    pub end : Settled
+    pub by : (env : Env) → OnlyAdds env → (t : ℕ) → run w env a s t ≡ spend cost (settled end) s t
+
+  -- from each store
+  pub record Calm (a : Act) : Type 0 where
+    pub from : (s : Store) → PureFrom a s
+
+  pub record CalmList (p : Acts) : Type 0 where
+    pub scoped : Calm (Scoped p)
+
+  pub calm_of : {a : Act} → Pure a → Calm a
+  calm_of p = record { from = λ s. record { cost = p.cost; end = p.end; by = λ env adds t. p.runs.by env adds s t } }
+
+  read_from : (x : Text) (s : Store) (o : Option ScopeEntry) → found w.engine.constants s.scope x ≡ o → PureFrom (Read (OfName x)) s
+  read_from x s None q = record { cost = 0; end = Stopped Unbound; by = λ env adds t. ap (λ z. read z s t) q }
+  read_from x s (Some e) q = record { cost = 0; end = Gave e.value; by = λ env adds t. ap (λ z. read z s t) q }
+
+  pub calm_read : (x : Text) → Calm (Read (OfName x))
+  calm_read x = record { from = λ s. read_from x s _ refl }
+
+  then_from : (a : Act) (next : Ending → Act) (s : Store) (n : ℕ) (z : Settled) → ((env : Env) → OnlyAdds env → (t : ℕ) → run w env a s t ≡ spend n (settled z) s t) → ((v : Value) → PureFrom (next (Gives v)) s) → PureFrom (Then a next) s
+  then_from a next s n (Gave v) h k =
+      let q = k v in
+      record {
+        cost = plus n q.cost;
+        end = q.end;
+        by = λ env adds t. ap (λ r. and_then r (λ i. run w env (next i))) (h env adds t) ∙ spend_then n q.cost (Gives v) (settled q.end) s t _ (λ t1. q.by env adds t1);
+      }
+  then_from a next s n (Stopped f) h k = record {
+    cost = n;
+    end = Stopped f;
+    by = λ env adds t. ap (λ r. and_then r (λ i. run w env (next i))) (h env adds t) ∙ spend_halted n (IsStuck f) s t _;
+  }
+
+  pub calm_only : {a : Act} → Calm a → CalmList (Only a)
+  calm_only {a = a} p = record {
+    scoped = record {
+      from = λ s.
+          let q = p.from s in
+          record { cost = q.cost; end = q.end; by = λ env adds t. ap (leave s.scope) (q.by env adds t) ∙ spend_leave q.cost (settled q.end) s t };
+    };
+  }
+
+  pub calm_line : (a : Act) (k : Value → Acts) → Calm a → ((v : Value) → CalmList (k v)) → CalmList (then_line a k)
+  calm_line a k p h = record {
+    scoped = record {
+      from = λ s.
+          let q = p.from s in
+          let r = then_from a (λ e. Scoped (each_value k e)) s q.cost q.end q.by (λ v. (h v).scoped.from s) in
+          record { cost = r.cost; end = r.end; by = λ env adds t. scoped_do w env adds a (λ e. each_value k e) s t ∙ r.by env adds t };
+    };
+  }
+
+  pub calm_named : (x : Text) (k : EntryKind) (v : Value) {p : Acts} → CalmList p → CalmList (Named x k v p)
+  calm_named x k v {p = p} h = record {
+    scoped = record {
+      from = λ s.
+          let e : ScopeEntry = record { name = x; kind = k; value = v } in
+          let s1 : Store = record s { scope = e ∷ s.scope } in
+          let q = h.scoped.from s1 in
+          record {
+            cost = q.cost;
+            end = q.end;
+            by = λ env adds t. scoped_named w env adds x k v p s t ∙ ap (leave s.scope) (q.by env adds t) ∙ spend_named q.cost (settled q.end) s e t;
+          };
+    };
+  }
+
   -- ---- loops
 
   rounds_pure : (p : Acts) (a : Act) (n : ℕ) (z : Settled) → Runs (Scoped p) n (settled z) → Pure a → Pure (Then (round p) (λ e. again_then a e))
@@ -201,15 +273,15 @@ module _ (w : World) where
 
   l_counted : (i : Option Text) (k : ℕ) (p : Acts) → PureList p → PureList (counted i k p)
   l_counted None k p h = h
-  l_counted (Some i) k p h = counted_when (nat_lt k (2 ^ 63)) _ _ (l_named i false (IntV (pos k)) p h) (l_only _ (p_fail CounterTooLarge))
+  l_counted (Some i) k p h = counted_when (nat_lt k (2 ^ 63)) _ _ (l_named i IsVariable (IntV (pos k)) p h) (l_only _ (p_fail CounterTooLarge))
 
   pub p_for_each : (x : Text) (i : Option Text) (body : Acts) → PureList body → (k : ℕ) (vs : List Value) → Pure (for_each x i body k vs)
   p_for_each x i body h k [] = p_give UnitV
-  p_for_each x i body h k (v ∷ vs) = p_round _ _ (l_counted i k _ (l_named x false v body h)) (p_for_each x i body h (suc k) vs)
+  p_for_each x i body h k (v ∷ vs) = p_round _ _ (l_counted i k _ (l_named x IsVariable v body h)) (p_for_each x i body h (suc k) vs)
 
   pub p_for_count : (x : Text) (i : Option Text) (body : Acts) → PureList body → (k : ℕ) (a : ℤ) (n : ℕ) → Pure (for_count x i body k a n)
   p_for_count x i body h k a zero = p_give UnitV
-  p_for_count x i body h k a (suc n) = p_round _ _ (l_counted i k _ (l_named x false (IntV a) body h)) (p_for_count x i body h (suc k) (a +ℤ pos 1) n)
+  p_for_count x i body h k a (suc n) = p_round _ _ (l_counted i k _ (l_named x IsVariable (IntV a) body h)) (p_for_count x i body h (suc k) (a +ℤ pos 1) n)
 
   -- a block that throws nothing needs no branch
   try_pure : (a : Act) (f : Value → Act) (n : ℕ) (z : Settled) → Runs a n (settled z) → Pure (Then a (λ e. on_throw f e))

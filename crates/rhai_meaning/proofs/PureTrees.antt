@@ -1,19 +1,20 @@
 -- What is pure changes nothing, calls nobody, throws nothing, and gives a value or is stuck after some turns.
-use Rattle.std.proofs.Common.{◌≡◌, ℕ, zero, suc, Bool, true, false, not, cond, ◌&&◌, List, [], ◌∷◌, ◌++◌, Option, Some, None, refl, ap, ◌∙◌}
+use Rattle.std.proofs.Common.{◌≡◌, ℕ, zero, suc, Bool, true, false, cond, ◌&&◌, List, [], ◌∷◌, ◌++◌, Option, Some, None, refl, ap, ◌∙◌}
 use Rattle.std.specs.Prelude.{slice_get, ◌+ℤ◌, ◌-ℤ◌, pos}
-use Rattle.rhai_values.specs.Value.{Text, Value, UnitV, BoolV, ArrayV, RangeV, RangeInclusiveV, items, is_hashable, same}
-use Rattle.rhai_meaning.specs.Act.{World, WrongKind, Act, Stop, Leaves, Again, Acts}
-use Rattle.rhai_meaning.specs.ActForms.{give, unit, if_true, ◌>>=◌}
+use Rattle.rhai_values.specs.Value.{Text, Value, UnitV, BoolV, TextV, ArrayV, RangeV, RangeInclusiveV, items, is_hashable, same}
+use Rattle.rhai_meaning.specs.Act.{World, EntryKind, IsExport, WrongKind, UnknownModule, OfName, Act, Stop, Read, Scoped, Leaves, Again, Acts, Only, Named}
+use Rattle.rhai_meaning.specs.ActForms.{give, unit, if_true, ◌>>=◌, then_line}
 use Rattle.rhai_meaning.specs.Control.{round, ArmActs, holds, ranges_with, case_for, or_ranges, chosen, try_arm, first_arm, answer_of, default_of, switch_on, size, for_all, do_loop}
 use Rattle.rhai_meaning.specs.Core as core
-use Rattle.rhai_meaning.specs.Desugar.{core_expr, core_exprs, core_pairs, core_arms, core_stmt, core_stmts, guard_by, try_by}
+use Rattle.rhai_meaning.specs.Desugar.{core_expr, core_exprs, core_pairs, core_arms, core_stmt, core_stmts, guard_by, try_by, alias}
 use Rattle.rhai_meaning.specs.Laws.{Gave}
-use Rattle.rhai_meaning.specs.Meaning.{act, with_args, with_pairs, both, either, first_some, arm_acts, loop, deed, acts, wanted_value}
-use Rattle.rhai_meaning.specs.Queries.{is_literally, ArmPurity, is_pure_arm, listed_arms_are_pure, answer_is_pure, default_is_pure, table_is_pure, is_pure_expr, are_pure_exprs, are_pure_pairs, arm_purities, is_pure, are_pure, is_internally_pure, is_internally_pure_expr, are_internally_pure}
+use Rattle.rhai_meaning.specs.Meaning.{module_known, module_at, exporting, act, with_args, with_pairs, both, either, first_some, arm_acts, loop, deed, acts, wanted_value}
+use Rattle.rhai_meaning.specs.Queries.{is_literally, ArmPurity, is_pure_arm, listed_arms_are_pure, answer_is_pure, default_is_pure, table_is_pure, is_pure_expr, are_pure_exprs, are_pure_pairs, arm_purities, is_pure, are_pure, is_internally_pure, is_internally_pure_expr, are_internally_pure, is_no_export, exports_nothing}
 use Rattle.rhai_meaning.specs.Shape.{is_unit, is_map, is_table, catch_name}
 use Rattle.rhai_meaning.specs.Tree.{SwitchCase, SwitchRange, SwitchTable, Expr, DynamicConstant, BoolConstant, IntegerConstant, CharConstant, StringConstant, UnitConstant, InterpolatedString, ArrayOf, MapOf, Variable, ThisPtr, Property, MethodCall, BlockExpr, FnCall, Dot, Index, And, Or, Coalesce, Exprs, no_exprs, expr, Pairs, no_pairs, pair, Arms, no_arms, arm, Stmt, Noop, If, Switch, While, Do, For, Var, Block, TryCatch, ExprStmt, Import, Export, Stmts, no_stmts, stmt}
-use Rattle.rhai_meaning.specs.Walk.{arm_at, arms_of_cases, arms_of_ranges}
-use Rattle.rhai_meaning.proofs.PureActs.{Pure, PureList, p_give, p_fail, p_bind, p_choose, p_if, p_loop, l_only, l_named, l_line, p_round, p_for_each, p_for_count, p_try}
+use Rattle.rhai_meaning.specs.Plain.{all_true}
+use Rattle.rhai_meaning.specs.Walk.{over_expr, over_stmt, over_stmts, arm_at, arms_of_cases, arms_of_ranges}
+use Rattle.rhai_meaning.proofs.PureActs.{Pure, PureList, Calm, CalmList, calm_of, calm_read, calm_only, calm_line, calm_named, p_give, p_fail, p_bind, p_choose, p_if, p_loop, l_only, l_named, l_line, p_round, p_for_each, p_for_count, p_try}
 
 pub split : (a b : Bool) → a && b ≡ true → (a ≡ true) × (b ≡ true)
 split true b h = (refl, h)
@@ -145,20 +146,8 @@ module _ (w : World) where
   pub data PureStmt : core.Stmt → Type 0 where
     pure_deed : {d : core.Deed} → Pure w (deed w d) → PureStmt (core.Does d)
 
-  -- one that may declare a name
-  pub data InternalStmt : core.Stmt → Type 0 where
-    declares : {c : Bool} {x : Text} {e : core.Expr} → Pure w (act w e) → InternalStmt (core.Var c x e)
-    internal_deed : {d : core.Deed} → Pure w (deed w d) → InternalStmt (core.Does d)
-
-  internal : {l : core.Stmt} → PureStmt l → InternalStmt l
-  internal (pure_deed p) = internal_deed p
-
   pure_line : (b : Bool) {l : core.Stmt} → PureStmt l → (ss : core.Stmts) → ((v : Value) → PureList w (acts w b ss v)) → (v : Value) → PureList w (acts w b (core.stmt l ss) v)
   pure_line b (pure_deed p) ss k v = l_line w _ _ p (λ u. k u)
-
-  internal_line : (b : Bool) {l : core.Stmt} → InternalStmt l → (ss : core.Stmts) → ((v : Value) → PureList w (acts w b ss v)) → (v : Value) → PureList w (acts w b (core.stmt l ss) v)
-  internal_line b (declares {c = c} {x = x} p) ss k v = l_line w _ _ p (λ u. l_named w x c u _ (k UnitV))
-  internal_line b (internal_deed p) ss k v = l_line w _ _ p (λ u. k u)
 
   mutual
     pub pure_expr : (l : Bool) (e : Expr) → is_pure_expr e ≡ true → Pure w (act w (core_expr l e))
@@ -217,7 +206,7 @@ module _ (w : World) where
         let z = split (is_pure_expr e) (table_is_pure (arm_purities as') t) h in
         pure_deed (deed_or_ill (is_table as' t) _ (p_bind w _ _ (pure_expr l e z.0) (λ v. switch_pure (pure_arms l as') t z.1 v)))
     pure_stmt l (While e b) h = pure_deed (never_pure l e h _)
-    pure_stmt l (Do n exported e b) h = let z = split (is_literally n e) (are_pure b) h in pure_deed (deed_or_ill (not exported) _ (once_pure l n e z.0 _ (pure_list true false b z.1 UnitV)))
+    pure_stmt l (Do n exported e b) h = let z = split (is_literally n e) (are_pure b) h in pure_deed (once_pure l n e z.0 _ (pure_list true false b z.1 UnitV))
     pure_stmt l (For x i e b) h = let z = split (is_pure_expr e) (are_pure b) h in pure_deed (p_bind w _ _ (pure_expr l e z.0) (λ v. for_pure x i _ (pure_list true false b z.1 UnitV) v))
     pure_stmt l (Block ss) h = pure_deed (pure_list l true ss h UnitV).scoped
     pure_stmt l (TryCatch x a b) h =
@@ -231,44 +220,119 @@ module _ (w : World) where
     pure_list l b no_stmts h v = l_only w _ (p_give w (wanted_value b v))
     pure_list l b (stmt s ss) h v = let z = split (is_pure s) (are_pure ss) h in pure_line b (pure_stmt l s z.0) (core_stmts l ss) (λ u. pure_list l b ss z.1 u) v
 
-  -- ---- inside a list
+  -- ---- a module's name
 
-  var_or_ill : (exported c : Bool) (x : Text) (e : core.Expr) → Pure w (act w e) → InternalStmt (cond exported (core.Does core.IllDeed) (core.Var c x e))
-  var_or_ill true c x e h = internal_deed (p_fail w WrongKind)
-  var_or_ill false c x e h = declares h
+  known_pure : (o : Option Text) → Pure w (module_known o)
+  known_pure None = p_fail w UnknownModule
+  known_pure (Some m) = p_give w (TextV m)
 
-  mutual
-    pub internal_list : (l b : Bool) (ss : Stmts) → are_internally_pure ss ≡ true → (v : Value) → PureList w (acts w b (core_stmts l ss) v)
-    internal_list l b no_stmts h v = l_only w _ (p_give w (wanted_value b v))
-    internal_list l b (stmt s ss) h v = let z = split (is_internally_pure s) (are_internally_pure ss) h in internal_line b (internal_stmt l s z.0) (core_stmts l ss) (λ u. internal_list l b ss z.1 u) v
+  module_pure : (v : Value) → Pure w (module_at w v)
+  module_pure (TextV p) = known_pure (w.host.module_of p)
+  module_pure _ = p_fail w WrongKind
 
-    internal_expr : (l : Bool) (e : Expr) → is_internally_pure_expr e ≡ true → Pure w (act w (core_expr l e))
-    internal_expr l (BlockExpr ss) h = (internal_list l true ss h UnitV).scoped
-    internal_expr l (DynamicConstant v) h = pure_expr l (DynamicConstant v) h
-    internal_expr l (BoolConstant b) h = p_give w _
-    internal_expr l (IntegerConstant n) h = p_give w _
-    internal_expr l (CharConstant c) h = p_give w _
-    internal_expr l (StringConstant t) h = p_give w _
-    internal_expr l UnitConstant h = p_give w _
-    internal_expr l (InterpolatedString es) h = pure_expr l (InterpolatedString es) h
-    internal_expr l (ArrayOf es) h = pure_expr l (ArrayOf es) h
-    internal_expr l (MapOf ps template) h = pure_expr l (MapOf ps template) h
-    internal_expr l (And es) h = pure_expr l (And es) h
-    internal_expr l (Or es) h = pure_expr l (Or es) h
-    internal_expr l (Coalesce es) h = pure_expr l (Coalesce es) h
-    internal_expr l _ h = no h
+  -- ---- inside a list: C of acts, D of lists; reads: so is the read of a name
 
-    pub internal_stmt : (l : Bool) (s : Stmt) → is_internally_pure s ≡ true → InternalStmt (core_stmt l s)
-    internal_stmt l (Var c exported x e) h = var_or_ill exported c x _ (pure_expr l e h)
-    internal_stmt l (ExprStmt e) h = internal_deed (internal_expr l e h)
-    internal_stmt l (Import e x) h = internal_deed (p_fail w WrongKind)
-    internal_stmt l (Export x y) h = internal_deed (p_fail w WrongKind)
-    internal_stmt l Noop h = internal_deed (p_give w UnitV)
-    internal_stmt l (If c a b) h = internal (pure_stmt l (If c a b) h)
-    internal_stmt l (Switch e as' t) h = internal (pure_stmt l (Switch e as' t) h)
-    internal_stmt l (While e b) h = internal (pure_stmt l (While e b) h)
-    internal_stmt l (Do n exported e b) h = internal (pure_stmt l (Do n exported e b) h)
-    internal_stmt l (For x i e b) h = internal (pure_stmt l (For x i e b) h)
-    internal_stmt l (Block ss) h = internal (pure_stmt l (Block ss) h)
-    internal_stmt l (TryCatch x a b) h = internal (pure_stmt l (TryCatch x a b) h)
-    internal_stmt l _ h = no h
+  pub record Mild (C : Act → Type 0) (D : Acts → Type 0) (reads : Bool) : Type 0 where
+    pub of_pure : {a : Act} → Pure w a → C a
+    pub read : (x : Text) → reads ≡ true → C (Read (OfName x))
+    pub scoped : {p : Acts} → D p → C (Scoped p)
+    pub only : {a : Act} → C a → D (Only a)
+    pub line : (a : Act) (k : Value → Acts) → C a → ((v : Value) → D (k v)) → D (then_line a k)
+    pub named : (x : Text) (k : EntryKind) (v : Value) {p : Acts} → D p → D (Named x k v p)
+
+  calm_mild : Mild (Calm w) (CalmList w) true
+  calm_mild = record {
+    of_pure = λ p. calm_of w p;
+    read = λ x q. calm_read w x;
+    scoped = λ h. h.scoped;
+    only = λ p. calm_only w p;
+    line = λ a k p h. calm_line w a k p h;
+    named = λ x k v h. calm_named w x k v h;
+  }
+
+  pure_mild : Mild (Pure w) (PureList w) false
+  pure_mild = record {
+    of_pure = λ p. p;
+    read = λ x q. no q;
+    scoped = λ h. h.scoped;
+    only = λ p. l_only w _ p;
+    line = λ a k p h. l_line w a k p h;
+    named = λ x k v h. l_named w x k v _ h;
+  }
+
+  -- a statement that may add to the scope
+  pub data InternalStmt (C : Act → Type 0) : core.Stmt → Type 0 where
+    declares : {k : EntryKind} {b : Bool} {x : Text} {e : core.Expr} → C (act w e) → InternalStmt C (core.Var k b x e)
+    internal_deed : {d : core.Deed} → C (deed w d) → InternalStmt C (core.Does d)
+
+  module _ (C : Act → Type 0) (D : Acts → Type 0) (reads : Bool) (g : Mild C D reads) where
+    pub exporting_mild : (b : Bool) (x : Text) (v : Value) {p : Acts} → D p → D (exporting b x v p)
+    exporting_mild true x v h = g.named x IsExport v h
+    exporting_mild false x v h = h
+
+    internal : {l : core.Stmt} → PureStmt l → InternalStmt C l
+    internal (pure_deed p) = internal_deed (g.of_pure p)
+
+    alias_internal : (x : Text) (e : core.Expr) → Pure w (act w e) → InternalStmt C (alias x e)
+    alias_internal [] e p = internal_deed (g.of_pure (p_bind w _ _ (p_bind w _ _ p module_pure) (λ v. p_give w UnitV)))
+    alias_internal (c ∷ cs) e p = declares (g.of_pure (p_bind w _ _ p module_pure))
+
+    read_or_none : (b : Bool) → reads ≡ b → (reads ≡ false → false ≡ true) → (x : Text) → C (Read (OfName x))
+    read_or_none true q k x = g.read x q
+    read_or_none false q k x = no (k q)
+
+    internal_line : (b : Bool) {l : core.Stmt} → InternalStmt C l → (ss : core.Stmts) → ((v : Value) → D (acts w b ss v)) → (v : Value) → D (acts w b (core.stmt l ss) v)
+    internal_line b (declares {k = k} {b = exported} {x = x} p) ss h v = g.line _ _ p (λ u. g.named x k u (exporting_mild exported x u (h UnitV)))
+    internal_line b (internal_deed p) ss h v = g.line _ _ p (λ u. h u)
+
+    mutual
+      pub list_inside : (l b : Bool) (ss : Stmts) → are_internally_pure ss ≡ true → (reads ≡ false → over_stmts (all_true is_no_export) ss ≡ true) → (v : Value) → D (acts w b (core_stmts l ss) v)
+      list_inside l b no_stmts h q v = g.only (g.of_pure (p_give w (wanted_value b v)))
+      list_inside l b (stmt s ss) h q v =
+          let z = split (is_internally_pure s) (are_internally_pure ss) h in
+          internal_line b (stmt_inside l s z.0 (λ i. (split (over_stmt (all_true is_no_export) s) (over_stmts (all_true is_no_export) ss) (q i)).0)) (core_stmts l ss)
+          (λ u. list_inside l b ss z.1 (λ i. (split (over_stmt (all_true is_no_export) s) (over_stmts (all_true is_no_export) ss) (q i)).1) u) v
+
+      expr_inside : (l : Bool) (e : Expr) → is_internally_pure_expr e ≡ true → (reads ≡ false → over_expr (all_true is_no_export) e ≡ true) → C (act w (core_expr l e))
+      expr_inside l (BlockExpr ss) h q = g.scoped (list_inside l true ss h q UnitV)
+      expr_inside l (DynamicConstant v) h q = g.of_pure (pure_expr l (DynamicConstant v) h)
+      expr_inside l (BoolConstant b) h q = g.of_pure (p_give w _)
+      expr_inside l (IntegerConstant n) h q = g.of_pure (p_give w _)
+      expr_inside l (CharConstant c) h q = g.of_pure (p_give w _)
+      expr_inside l (StringConstant t) h q = g.of_pure (p_give w _)
+      expr_inside l UnitConstant h q = g.of_pure (p_give w _)
+      expr_inside l (InterpolatedString es) h q = g.of_pure (pure_expr l (InterpolatedString es) h)
+      expr_inside l (ArrayOf es) h q = g.of_pure (pure_expr l (ArrayOf es) h)
+      expr_inside l (MapOf ps template) h q = g.of_pure (pure_expr l (MapOf ps template) h)
+      expr_inside l (And es) h q = g.of_pure (pure_expr l (And es) h)
+      expr_inside l (Or es) h q = g.of_pure (pure_expr l (Or es) h)
+      expr_inside l (Coalesce es) h q = g.of_pure (pure_expr l (Coalesce es) h)
+      expr_inside l _ h q = no h
+
+      pub stmt_inside : (l : Bool) (s : Stmt) → is_internally_pure s ≡ true → (reads ≡ false → over_stmt (all_true is_no_export) s ≡ true) → InternalStmt C (core_stmt l s)
+      stmt_inside l (Var c exported x e) h q = declares (g.of_pure (pure_expr l e h))
+      stmt_inside l (ExprStmt e) h q = internal_deed (expr_inside l e h q)
+      stmt_inside l (Import e x) h q = alias_internal x _ (pure_expr l e h)
+      stmt_inside l (Export x y) h q = declares (read_or_none reads refl q x)
+      stmt_inside l Noop h q = internal_deed (g.of_pure (p_give w UnitV))
+      stmt_inside l (If c a b) h q = internal (pure_stmt l (If c a b) h)
+      stmt_inside l (Switch e as' t) h q = internal (pure_stmt l (Switch e as' t) h)
+      stmt_inside l (While e b) h q = internal (pure_stmt l (While e b) h)
+      stmt_inside l (Do n exported e b) h q = internal (pure_stmt l (Do n exported e b) h)
+      stmt_inside l (For x i e b) h q = internal (pure_stmt l (For x i e b) h)
+      stmt_inside l (Block ss) h q = internal (pure_stmt l (Block ss) h)
+      stmt_inside l (TryCatch x a b) h q = internal (pure_stmt l (TryCatch x a b) h)
+      stmt_inside l _ h q = no h
+
+  always : {A : Type 0} → true ≡ false → A
+  always h = absurd (let z : true ≡ false = h in cc)
+
+  -- it ends by the store; and whatever the names are, where it exports nothing
+  pub internal_stmt : (l : Bool) (s : Stmt) → is_internally_pure s ≡ true → InternalStmt (Calm w) (core_stmt l s)
+  internal_stmt l s h = stmt_inside (Calm w) (CalmList w) true calm_mild l s h (λ q. always q)
+
+  pub internal_list : (l b : Bool) (ss : Stmts) → are_internally_pure ss ≡ true → (v : Value) → CalmList w (acts w b (core_stmts l ss) v)
+  internal_list l b ss h v = list_inside (Calm w) (CalmList w) true calm_mild l b ss h (λ q. always q) v
+
+  pub nameless_list : (l b : Bool) (ss : Stmts) → are_internally_pure ss ≡ true → exports_nothing ss ≡ true → (v : Value) → PureList w (acts w b (core_stmts l ss) v)
+  nameless_list l b ss h q v = list_inside (Pure w) (PureList w) false pure_mild l b ss h (λ i. q) v

@@ -1,18 +1,18 @@
 -- The laws on purity and dependence.
 use Rattle.std.proofs.Common.{◌≡◌, ℕ, zero, suc, ◌+◌, ◌-◌, ◌≤◌, Bool, true, false, List, refl, sym, ap, ◌∙◌, subst, arith}
-use Rattle.rhai_values.specs.Value.{Value}
-use Rattle.rhai_meaning.specs.Act.{World, ScopeEntry, Store, Outcome, Result, At, Act, Acts, Only, Named, Env, and_then, run, run_all}
+use Rattle.rhai_values.specs.Value.{Text, Value}
+use Rattle.rhai_meaning.specs.Act.{World, EntryKind, ScopeEntry, Store, Outcome, Result, At, Act, Acts, Only, Named, Env, and_then, run, run_all}
 use Rattle.rhai_meaning.specs.ActForms.{give, unit, each_value, then_line}
 use Rattle.rhai_meaning.specs.Core as core
 use Rattle.rhai_meaning.specs.Desugar.{core_expr, core_stmt}
-use Rattle.rhai_meaning.specs.Laws.{spend, Settled, Gave, Stopped, settled, Quiet, a_value, is_stuck, out_of_turns, outcome_of, ChangesNothing, no_more, one_more, AddsOne, SameNames, no_names, same_name, PureExprLaw, PureLaw, InternallyPureLaw, IndependentLaw}
-use Rattle.rhai_meaning.specs.Meaning.{act, deed, line}
+use Rattle.rhai_meaning.specs.Laws.{spend, Settled, Gave, Stopped, settled, Quiet, a_value, is_stuck, out_of_turns, outcome_of, ChangesNothing, no_more, one_more, an_export, AddsOne, SameNames, no_names, same_name, PureExprLaw, PureLaw, InternallyPureLaw, IndependentLaw}
+use Rattle.rhai_meaning.specs.Meaning.{exporting, act, deed, line}
 use Rattle.rhai_meaning.specs.Queries.{is_block_dependent}
 use Rattle.rhai_meaning.specs.Relations.{OnlyAdds, store_of}
 use Rattle.rhai_meaning.specs.Tree.{Expr, Stmt, Noop, If, Switch, While, Do, For, Var, Assignment, FnCallStmt, Block, TryCatch, ExprStmt, BreakLoop, Return, Import, Export, Share}
 use Rattle.rhai_meaning.proofs.Relations.{Keeps, none, one, changed}
 use Rattle.rhai_meaning.proofs.Preserves.{preserves}
-use Rattle.rhai_meaning.proofs.PureActs.{Pure, spend_enough}
+use Rattle.rhai_meaning.proofs.PureActs.{Pure, Calm, spend_enough}
 use Rattle.rhai_meaning.proofs.PureTrees.{PureStmt, pure_deed, InternalStmt, declares, internal_deed, pure_expr, pure_stmt, internal_stmt}
 use Rattle.rhai_meaning.proofs.Sequencing.{line_unit}
 
@@ -61,14 +61,18 @@ module _ (w : World) (env : Env) (adds : OnlyAdds env) where
   adds_none k h (suc n) z s zero = record { calls = refl; this = refl; scope = no_more; quiet = out_of_turns }
   adds_none k h (suc n) z s (suc t) = adds_none k h n z s t
 
-  after_pure : (a : Act) (k : Value → Acts) → Pure w a → ((v : Value) (s : Store) (t : ℕ) → AddsOne s (run_all w env (k v) s t)) → (s : Store) (t : ℕ) → AddsOne s (run_all w env (then_line a k) s t)
-  after_pure a k p h s t = subst (λ r. AddsOne s (and_then r (λ e. run_all w env (each_value k e)))) (sym (p.runs.by env adds s t)) (adds_none k h p.cost p.end s t)
+  after_calm : (a : Act) (k : Value → Acts) → Calm w a → ((v : Value) (s : Store) (t : ℕ) → AddsOne s (run_all w env (k v) s t)) → (s : Store) (t : ℕ) → AddsOne s (run_all w env (then_line a k) s t)
+  after_calm a k p h s t = let q = p.from s in subst (λ r. AddsOne s (and_then r (λ e. run_all w env (each_value k e)))) (sym (q.by env adds t)) (adds_none k h q.cost q.end s t)
 
-  internal_alone : (l : core.Stmt) → InternalStmt w l → (s : Store) (t : ℕ) → AddsOne s (run_all w env (line w l (λ v. Only (give v))) s t)
-  internal_alone _ (declares {c = c} {x = x} {e = e} p) s t =
-      after_pure (act w e) (λ v. Named x c v (Only unit)) p (λ v s1 t1. record { calls = refl; this = refl; scope = one_more (record { name = x; constant = c; value = v }); quiet = a_value }) s t
+  -- a name, and its export or none
+  one_named : (k : EntryKind) (b : Bool) (x : Text) (v : Value) (s : Store) (t : ℕ) → AddsOne s (run_all w env (Named x k v (exporting b x v (Only unit))) s t)
+  one_named k true x v s t = record { calls = refl; this = refl; scope = an_export x v (one_more (record { name = x; kind = k; value = v })); quiet = a_value }
+  one_named k false x v s t = record { calls = refl; this = refl; scope = one_more (record { name = x; kind = k; value = v }); quiet = a_value }
+
+  internal_alone : (l : core.Stmt) → InternalStmt w (Calm w) l → (s : Store) (t : ℕ) → AddsOne s (run_all w env (line w l (λ v. Only (give v))) s t)
+  internal_alone _ (declares {k = k} {b = b} {x = x} {e = e} p) s t = after_calm (act w e) (λ v. Named x k v (exporting b x v (Only unit))) p (λ v s1 t1. one_named k b x v s1 t1) s t
   internal_alone _ (internal_deed {d = d} p) s t =
-      after_pure (deed w d) (λ v. Only (give v)) p (λ v s1 t1. record { calls = refl; this = refl; scope = no_more; quiet = a_value }) s t
+      after_calm (deed w d) (λ v. Only (give v)) p (λ v s1 t1. record { calls = refl; this = refl; scope = no_more; quiet = a_value }) s t
 
 pub internally_pure_law : (l : Stmt) → InternallyPureLaw l
 internally_pure_law l h = record { at = λ w env adds loop s t. internal_alone w env adds (core_stmt loop l) (internal_stmt w loop l h) s t }
@@ -99,8 +103,8 @@ independent loop (TryCatch x a b) h = undeclaring _
 independent loop (ExprStmt e) h = undeclaring _
 independent loop (BreakLoop b exported m) h = undeclaring _
 independent loop (Return b exported m) h = undeclaring _
-independent loop (Import e x) h = undeclaring _
-independent loop (Export x y) h = undeclaring _
+independent loop (Import e x) h = absurd (let z : true ≡ false = h in cc)
+independent loop (Export x y) h = absurd (let z : true ≡ false = h in cc)
 independent loop (Share xs) h = undeclaring _
 
 names_stay : (w : World) (env : Env) → OnlyAdds env → (l : core.Stmt) → Undeclaring l → (s : Store) (t : ℕ) → SameNames s.scope (store_of (run_all w env (line w l (λ v. Only (give v))) s t)).scope

@@ -1,7 +1,7 @@
 -- How one result relates to another, and one scope to a later one.
 use Rattle.std.specs.Prelude.{◌≡◌, ℕ, ◌+◌, ◌≤◌, false, List, [], ◌∷◌}
 use Rattle.rhai_values.specs.Value.{Value}
-use Rattle.rhai_meaning.specs.Act.{ScopeEntry, Store, Halt, IsStuck, OutOfTurns, Outcome, Halted, Result, At}
+use Rattle.rhai_meaning.specs.Act.{is_constant, ScopeEntry, Store, Halt, IsStuck, OutOfTurns, Outcome, Halted, Result, At}
 use Rattle.rhai_meaning.specs.Relations.{Begins, calls_of}
 
 -- the second result is the first with k more turns left at least, or the first halted in a way of U
@@ -22,7 +22,7 @@ IsOut OutOfTurns = Unit {0}
 pub data Keeps : List ScopeEntry → List ScopeEntry → Type 0 where
   none : Keeps [] []
   one : {e : ScopeEntry} {es fs : List ScopeEntry} → Keeps es fs → Keeps (e ∷ es) (e ∷ fs)
-  changed : {e : ScopeEntry} {v : Value} {es fs : List ScopeEntry} → e.constant ≡ false → Keeps es fs → Keeps (e ∷ es) (record e { value = v } ∷ fs)
+  changed : {e : ScopeEntry} {v : Value} {es fs : List ScopeEntry} → is_constant e.kind ≡ false → Keeps es fs → Keeps (e ∷ es) (record e { value = v } ∷ fs)
 
 -- that, under names that were pushed
 pub data Grows : List ScopeEntry → List ScopeEntry → Type 0 where

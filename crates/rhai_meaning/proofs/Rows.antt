@@ -10,7 +10,7 @@ use Rattle.rhai_meaning.specs.Core.{Script}
 use Rattle.rhai_meaning.specs.Run.{EntryPoint, run_script}
 use Rattle.rhai_meaning.proofs.Agreeing.{same_script}
 use Rattle.rhai_meaning.specs.Agreeing.{AgreeOn}
-use Rattle.rhai_meaning.specs.Host.{ModuleValue, same_receiver, same_call, same_calls, answer_of, module_value_of, host_of, rows_of}
+use Rattle.rhai_meaning.specs.Host.{ModuleValue, same_receiver, same_call, same_calls, answer_of, ModulePath, module_in, module_value_of, host_of, rows_of}
 use Rattle.rhai_meaning.specs.Relations.{Begins, here, more, calls_of}
 
 -- ---- calls that are the same are equal
@@ -92,14 +92,15 @@ split cs ds here = ([], sym (append-nil cs))
 split cs ds (more c p) = let q = split (cs ++ c ∷ []) ds p in (c ∷ q.0, q.1 ∙ append_assoc cs (c ∷ []) q.0)
 
 -- the rows of some calls answer each of them as the host did
-pub rows_agree : (h : Host) (ms : List ModuleValue) → ((x : Text) → h.module_value x ≡ module_value_of ms x) → (calls : List HostCall) → AgreeOn h (host_of (rows_of h [] calls) ms) calls
-rows_agree h ms modules calls = record {
+pub rows_agree : (h : Host) (us : List ModuleValue) (ms : List ModulePath) → ((x : Text) → h.module_value x ≡ module_value_of us x) → ((p : Text) → h.module_of p ≡ module_in ms p) → (calls : List HostCall) → AgreeOn h (host_of (rows_of h [] calls) us ms) calls
+rows_agree h us ms modules paths calls = record {
   modules = modules;
+  paths = paths;
   answers = λ past c b.
       let q = split (past ++ c ∷ []) calls b in
       row_answers h [] past q.0 c past refl ∙ ap (λ cs. answer_of (rows_of h [] cs) past c) (sym (append_assoc past (c ∷ []) q.0) ∙ sym q.1);
 }
 
 -- so each run is that with a host by rows
-pub run_by_rows : (engine : Engine) (h : Host) (ms : List ModuleValue) → ((x : Text) → h.module_value x ≡ module_value_of ms x) → (p : Script) (e : EntryPoint) (scope : List ScopeEntry) (n : ℕ) → run_script engine h p e scope n ≡ run_script engine (host_of (rows_of h [] (calls_of (run_script engine h p e scope n))) ms) p e scope n
-run_by_rows engine h ms modules p e scope n = same_script engine h _ p e scope n (rows_agree h ms modules _)
+pub run_by_rows : (engine : Engine) (h : Host) (us : List ModuleValue) (ms : List ModulePath) → ((x : Text) → h.module_value x ≡ module_value_of us x) → ((q : Text) → h.module_of q ≡ module_in ms q) → (p : Script) (e : EntryPoint) (scope : List ScopeEntry) (n : ℕ) → run_script engine h p e scope n ≡ run_script engine (host_of (rows_of h [] (calls_of (run_script engine h p e scope n))) us ms) p e scope n
+run_by_rows engine h us ms modules paths p e scope n = same_script engine h _ p e scope n (rows_agree h us ms modules paths _)

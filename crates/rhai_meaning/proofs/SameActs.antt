@@ -1,20 +1,20 @@
 -- What a script means doesn't depend on what a host answers: worlds that differ in that alone make the same acts of it.
 use Rattle.std.proofs.Common.{◌≡◌, Bool, true, false, List, [], ◌∷◌, Option, Some, None, refl}
-use Rattle.rhai_values.specs.Value.{Text, Value, UnitV, BoolV, PointerV}
+use Rattle.rhai_values.specs.Value.{Text, Value, UnitV, BoolV, TextV, PointerV}
 use Rattle.rhai_base.specs.Operators.{Operator}
 use Rattle.rhai_meaning.specs.Engine.{Engine}
-use Rattle.rhai_meaning.specs.Act.{Leaves, Host, Key, Root, World, Act, Stop, Then, Read, Loop, Scoped, Acts, Do, Named, Finish}
-use Rattle.rhai_meaning.specs.ActForms.{give, ◌>>=◌, value_then, each_value, choose, if_true, of_constant}
-use Rattle.rhai_meaning.specs.Calls.{assigned, Word, TypeOf, IsShared, Fn, Curry, CallFn, word, curried, call_pointer, call_word, called}
+use Rattle.rhai_meaning.specs.Act.{Leaves, Host, Key, Root, World, Act, Stop, Then, Read, Resolve, Loop, Scoped, Acts, Do, Named, Finish}
+use Rattle.rhai_meaning.specs.ActForms.{give, unit, ◌>>=◌, value_then, each_value, choose, if_true, of_constant}
+use Rattle.rhai_meaning.specs.Calls.{assigned, Word, TypeOf, IsShared, Fn, Curry, CallFn, word, curried, call_pointer, call_word, within, called}
 use Rattle.rhai_meaning.specs.Chains.{Access, OfProperty, OfIndex, OfMethod, property, index, method_key, to_method, value_alone, method, applied, unless_unit, set_at, assign_last, assign_root}
 use Rattle.rhai_meaning.specs.Control.{switch_on, round, while_guarded, do_loop, for_all, try_of}
-use Rattle.rhai_meaning.specs.Core.{Callee, OnOperator, Qualified, ByName, Expr, Ill, Constant, InterpolatedString, ArrayOf, MapOf, Variable, ModuleVariable, ThisPtr, BlockExpr, FnCall, Chain, And, Or, Coalesce, Exprs, no_exprs, expr, Pairs, no_pairs, pair, Base, OnPlace, OnValue, Step, IllStep, Property, Index, Method, Steps, last, more, Target, IllTarget, Nowhere, ToRoot, ToPart, Guard, Always, When, Arms, no_arms, arm, Deed, IllDeed, Noop, If, Switch, While, Do, For, Assignment, Block, TryCatch, Evaluate, Leave, Stmt, Var, Does, Stmts, no_stmts, stmt}
-use Rattle.rhai_meaning.specs.Meaning.{exit, act, with_args, with_pairs, both, either, first_some, at_base, access, steps, assign_steps, assign, arm_acts, loop, deed, line, acts}
+use Rattle.rhai_meaning.specs.Core.{Callee, OnOperator, Qualified, ByName, Expr, Ill, Constant, InterpolatedString, ArrayOf, MapOf, Variable, ModuleVariable, ModuleOf, ThisPtr, BlockExpr, FnCall, Chain, And, Or, Coalesce, Exprs, no_exprs, expr, Pairs, no_pairs, pair, Base, OnPlace, OnValue, Step, IllStep, Property, Index, Method, Steps, last, more, Target, IllTarget, Nowhere, ToRoot, ToPart, Guard, Always, When, Arms, no_arms, arm, Deed, IllDeed, Noop, If, Switch, While, Do, For, Assignment, Block, TryCatch, Evaluate, Discard, Leave, Stmt, Var, Does, Stmts, no_stmts, stmt}
+use Rattle.rhai_meaning.specs.Meaning.{exit, module_known, module_at, exporting, act, with_args, with_pairs, both, either, first_some, at_base, access, steps, assign_steps, assign, arm_acts, loop, deed, line, acts}
 use Rattle.rhai_meaning.specs.Places.{Current, without_place, at_root, refreshed}
 use Rattle.rhai_meaning.specs.Run.{body_acts}
 use Rattle.rhai_meaning.specs.Shape.{is_unit}
 
-module _ (engine : Engine) (functions : List Key) (h h' : Host) (modules : (x : Text) → h.module_value x ≡ h'.module_value x) where
+module _ (engine : Engine) (functions : List Key) (h h' : Host) (modules : (x : Text) → h.module_value x ≡ h'.module_value x) (paths : (p : Text) → h.module_of p ≡ h'.module_of p) where
   abbrev w : World
   w = record { engine = engine; host = h; functions = functions }
 
@@ -35,7 +35,7 @@ module _ (engine : Engine) (functions : List Key) (h h' : Host) (modules : (x : 
 
   same_called : (c : Callee) (vs : List Value) → called w c vs ≡ called w' c vs
   same_called (OnOperator op) vs = refl
-  same_called (Qualified f) vs = refl
+  same_called (Qualified m f) vs = refl
   same_called (ByName f captures) vs = same_word captures f (word f) vs
 
   same_method : (f : Text) (k : Word) (vs : List Value) (c : Current) (n n' : Current → Act) → ((d : Current) → n d ≡ n' d) → method w f k vs c n ≡ method w' f k vs c n'
@@ -64,6 +64,10 @@ module _ (engine : Engine) (functions : List Key) (h h' : Host) (modules : (x : 
   same_assign_root None v r = refl
   same_assign_root (Some op) v r = refl
 
+  same_module : (v : Value) → module_at w v ≡ module_at w' v
+  same_module (TextV p) = λ i. module_known (paths p i)
+  same_module _ = refl
+
   mutual
     pub same_act : (e : Expr) → act w e ≡ act w' e
     same_act Ill = refl
@@ -72,7 +76,8 @@ module _ (engine : Engine) (functions : List Key) (h h' : Host) (modules : (x : 
     same_act (ArrayOf es) = same_args es _ _ (λ vs. refl)
     same_act (MapOf ps) = same_pairs ps _ _ (λ vs. refl)
     same_act (Variable x) = refl
-    same_act (ModuleVariable x) = λ i. of_constant (modules x i)
+    same_act (ModuleVariable m x) = λ i. Resolve m (λ n. of_constant (modules (within n x) i))
+    same_act (ModuleOf e) = λ i. Then (same_act e i) (λ x. value_then (λ v. same_module v i) x)
     same_act ThisPtr = refl
     same_act (BlockExpr ss) = λ i. Scoped (same_acts true ss UnitV i)
     same_act (FnCall c es) = same_args es _ _ (λ vs. same_called c vs)
@@ -145,10 +150,11 @@ module _ (engine : Engine) (functions : List Key) (h h' : Host) (modules : (x : 
     same_deed (Block ss) = λ i. Scoped (same_acts true ss UnitV i)
     same_deed (TryCatch x a b) = λ i. try_of (same_acts false a UnitV i) x (same_acts false b UnitV i)
     same_deed (Evaluate e) = same_act e
+    same_deed (Discard e) = λ i. Then (same_act e i) (λ x. value_then (λ v. unit) x)
     same_deed (Leave k e) = λ i. Then (same_act e i) (λ x. value_then (λ v. Stop (Leaves (exit k v))) x)
 
     same_line : (s : Stmt) (f f' : Value → Acts) → ((v : Value) → f v ≡ f' v) → line w s f ≡ line w' s f'
-    same_line (Var c x e) f f' q = λ i. Do (same_act e i) (λ y. each_value (λ v. Named x c v (q UnitV i)) y)
+    same_line (Var k b x e) f f' q = λ i. Do (same_act e i) (λ y. each_value (λ v. Named x k v (exporting b x v (q UnitV i))) y)
     same_line (Does d) f f' k = λ i. Do (same_deed d i) (λ x. each_value (λ v. k v i) x)
 
     pub same_acts : (b : Bool) (ss : Stmts) (v : Value) → acts w b ss v ≡ acts w' b ss v

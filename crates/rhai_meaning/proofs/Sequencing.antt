@@ -1,8 +1,8 @@
 -- The laws of sequencing: unit, associativity and extensionality, of results, of acts by their value, and of lists; what
 -- leaves takes nothing of what follows with it. Braces and the end of a body pass through.
-use Rattle.std.proofs.Common.{◌≡◌, ℕ, ◌-◌, Bool, List, ◌∷◌, length, drop, refl, ap, ◌∙◌}
+use Rattle.std.proofs.Common.{◌≡◌, ℕ, ◌-◌, List, ◌∷◌, length, drop, refl, ap, ◌∙◌}
 use Rattle.rhai_values.specs.Value.{Text, Value}
-use Rattle.rhai_meaning.specs.Act.{ScopeEntry, Store, World, Exit, Ending, Gives, Leaves, Ended, Halted, Result, At, Act, Stop, Then, Scoped, Acts, Only, Do, Named, Finish, Env, and_then, leave, returned, run, run_all}
+use Rattle.rhai_meaning.specs.Act.{EntryKind, ScopeEntry, Store, World, Exit, Ending, Gives, Leaves, Ended, Halted, Result, At, Act, Stop, Then, Scoped, Acts, Only, Do, Named, Finish, Env, and_then, leave, returned, run, run_all}
 use Rattle.rhai_meaning.specs.ActForms.{give, value_then, ◌>>=◌, each_value, then_line}
 use Rattle.rhai_meaning.specs.Relations.{store_of}
 use Rattle.rhai_meaning.proofs.Relations.{Keeps, Grows}
@@ -125,9 +125,9 @@ module _ (w : World) (env : Env) where
         leave_then s.scope (run w env a s t) _ k ∙ then_same_at (λ s1. Keeps s.scope s1.scope) (run w env a s t) _ _ k (λ e s1 t1 q. leave_by s.scope s1.scope q (run_all w env (next e) s1 t1))
 
     -- a name may be taken away by itself
-    pub scoped_named : (x : Text) (c : Bool) (v : Value) (p : Acts) → SameRun (Scoped (Named x c v p)) (Scoped (Named x c v (Only (Scoped p))))
+    pub scoped_named : (x : Text) (c : EntryKind) (v : Value) (p : Acts) → SameRun (Scoped (Named x c v p)) (Scoped (Named x c v (Only (Scoped p))))
     scoped_named x c v p s t =
-        let e : ScopeEntry = record { name = x; constant = c; value = v } in
+        let e : ScopeEntry = record { name = x; kind = c; value = v } in
         let s1 : Store = record s { scope = e ∷ s.scope } in
         leave_twice s.scope e (run_all w env p s1 t) (preserves_all w env adds p s1 t).scope
 

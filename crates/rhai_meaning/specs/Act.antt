@@ -1,13 +1,33 @@
 -- Acts, of which the meaning of every construct is made, and what an act does from a store with some turns left.
-use Rattle.std.specs.Prelude.{ℕ, zero, suc, ◌-◌, Bool, true, false, cond, List, [], ◌∷◌, ◌++◌, length, drop, Option, Some, None, option_map}
-use Rattle.rhai_values.specs.Value.{Text, Value, UnitV, same_text}
+use Rattle.std.specs.Prelude.{ℕ, zero, suc, ◌-◌, Bool, true, false, cond, ◌&&◌, List, [], ◌∷◌, ◌++◌, length, drop, Option, Some, None, option_map}
+use Rattle.rhai_values.specs.Value.{Text, Value, UnitV, TextV, same_text}
 use Rattle.rhai_meaning.specs.Engine.{Engine, Binding, constant_named}
 
--- a name of the scope
+-- what stands in the scope: a name, which is a variable or a constant; an alias, whose value is a module's name; an export
+pub data EntryKind : Type 0 where
+  IsVariable : EntryKind
+  IsConstant : EntryKind
+  IsAlias : EntryKind
+  IsExport : EntryKind
+
 pub record ScopeEntry : Type 0 where
   pub name : Text
-  pub constant : Bool
+  pub kind : EntryKind
   pub value : Value
+
+-- what no write changes: all but a variable
+abbrev pub is_constant : EntryKind → Bool
+is_constant IsVariable = false
+is_constant _ = true
+
+abbrev pub is_name : EntryKind → Bool
+is_name IsVariable = true
+is_name IsConstant = true
+is_name _ = false
+
+abbrev pub is_alias : EntryKind → Bool
+is_alias IsAlias = true
+is_alias _ = false
 
 -- a question to the host
 pub record HostCall : Type 0 where
@@ -20,9 +40,11 @@ pub data Answer : Type 0 where
   Answers : Value → Option Value → Answer
   AnswersThrow : Value → Answer
 
+-- module_of: the name of the module of a path
 pub record Host : Type 0 where
   pub answer : List HostCall → HostCall → Answer
   pub module_value : Text → Option Value
+  pub module_of : Text → Option Text
 
 -- a script function's name, number of parameters and receiver type
 pub record Key : Type 0 where
@@ -36,7 +58,7 @@ pub record World : Type 0 where
   pub host : Host
   pub functions : List Key
 
--- the names, latest first, `this`, and the host calls in order
+-- the names, aliases and exports, latest first, `this`, and the host calls in order
 pub record Store : Type 0 where
   pub scope : List ScopeEntry
   pub this : Option Value
@@ -49,6 +71,7 @@ pub data Stuck : Type 0 where
   NoPlace : Stuck
   CounterTooLarge : Stuck
   UnboundThis : Stuck
+  UnknownModule : Stuck
 
 -- a way to leave what is run; Again: the end of a round that another one follows
 pub data Exit : Type 0 where
@@ -101,20 +124,22 @@ mutual
     Read : Root → Act
     -- replaces it, and gives unit; a constant that must be written is stuck, and else stays as it is
     Write : Bool → Root → Value → Act
+    -- goes on with the module's name where this is an alias, else with this
+    Resolve : Text → (Text → Act) → Act
     -- asks the host
     AskHost : HostCall → (Answer → Act) → Act
     -- calls a script function; goes on with its value and its last `this`
     Invoke : ScriptCall → (Value → Option Value → Act) → Act
     -- rounds, as long as they end in Again
     Loop : Act → Act
-    -- takes the names away that the list pushed
+    -- takes away what the list added to the scope
     Scoped : Acts → Act
 
-  -- a list of acts may push names; where it is finished a return is its value
+  -- a list of acts may add entries to the scope; where it is finished a return is its value
   pub data Acts : Type 0 where
     Only : Act → Acts
     Do : Act → (Ending → Acts) → Acts
-    Named : Text → Bool → Value → Acts → Acts
+    Named : Text → EntryKind → Value → Acts → Acts
     Finish : Acts → Acts
 
 -- the rounds of a loop, and a script call: a function of the caller's scope, the calls so far and the turns left
@@ -130,14 +155,27 @@ abbrev pub with_turn : ℕ → Store → (Store → ℕ → Result) → Result
 with_turn zero st next = At (Halted OutOfTurns) st zero
 with_turn (suc t) st next = next st t
 
+-- a name, no alias and no export
+abbrev pub is_called : ScopeEntry → Text → Bool
+is_called e x = is_name e.kind && same_text e.name x
+
 -- the latest entry of a name, else the record's constant
 abbrev pub found : List Binding → List ScopeEntry → Text → Option ScopeEntry
-found bs [] x = option_map (λ v. record { name = x; constant = true; value = v }) (constant_named bs x)
-found bs (e ∷ es) x = cond (same_text e.name x) (Some e) (found bs es x)
+found bs [] x = option_map (λ v. record { name = x; kind = IsConstant; value = v }) (constant_named bs x)
+found bs (e ∷ es) x = cond (is_called e x) (Some e) (found bs es x)
 
 abbrev pub put : List ScopeEntry → Text → Value → List ScopeEntry
 put [] x v = []
-put (e ∷ es) x v = cond (same_text e.name x) (record e { value = v } ∷ es) (e ∷ put es x v)
+put (e ∷ es) x v = cond (is_called e x) (record e { value = v } ∷ es) (e ∷ put es x v)
+
+abbrev pub module_name : Value → Text
+module_name (TextV m) = m
+module_name _ = []
+
+-- the module's name by the latest alias of this name, else the name itself
+abbrev pub resolved : List ScopeEntry → Text → Text
+resolved [] a = a
+resolved (e ∷ es) a = cond (is_alias e.kind && same_text e.name a) (module_name e.value) (resolved es a)
 
 abbrev pub read : Option ScopeEntry → Store → ℕ → Result
 read None st t = At (Halted (IsStuck Unbound)) st t
@@ -159,7 +197,7 @@ write_at must false x v st t = At (Ended (Gives UnitV)) (record st { scope = put
 
 abbrev pub write : Bool → Option ScopeEntry → Text → Value → Store → ℕ → Result
 write must None x v st t = At (Halted (IsStuck Unbound)) st t
-write must (Some e) x v st t = write_at must e.constant x v st t
+write must (Some e) x v st t = write_at must (is_constant e.kind) x v st t
 
 abbrev pub write_this : Option Value → Value → Store → ℕ → Result
 write_this None v st t = At (Halted (IsStuck UnboundThis)) st t
@@ -169,7 +207,7 @@ abbrev pub write_root : World → Bool → Root → Value → Store → ℕ → 
 write_root w must (OfName x) v st t = write must (found w.engine.constants st.scope x) x v st t
 write_root w must OfThis v st t = write_this st.this v st t
 
--- a block takes its names away
+-- a block takes away what it added
 abbrev pub restore : List ScopeEntry → List ScopeEntry → List ScopeEntry
 restore old new = drop (length new - length old) new
 
@@ -212,6 +250,7 @@ abbrev mutual
   run w env (Turn a) st t = with_turn t st (run w env a)
   run w env (Read r) st t = read_root w r st t
   run w env (Write must r v) st t = write_root w must r v st t
+  run w env (Resolve a next) st t = run w env (next (resolved st.scope a)) st t
   run w env (AskHost c next) st t = run w env (next (w.host.answer st.calls c)) (record st { calls = st.calls ++ c ∷ [] }) t
   run w env (Invoke a next) st t = call_then st (env.invoke a st.scope st.calls t) (λ v u. run w env (next v u))
   run w env (Loop a) st t = rounds env.rounds (run w env a) st t
@@ -220,6 +259,6 @@ abbrev mutual
   pub run_all : World → Env → Acts → Store → ℕ → Result
   run_all w env (Only a) st t = run w env a st t
   run_all w env (Do a next) st t = and_then (run w env a st t) (λ e. run_all w env (next e))
-  run_all w env (Named x c v p) st t =
-      run_all w env p (record st { scope = record { name = x; constant = c; value = v } ∷ st.scope }) t
+  run_all w env (Named x k v p) st t =
+      run_all w env p (record st { scope = record { name = x; kind = k; value = v } ∷ st.scope }) t
   run_all w env (Finish p) st t = returned (run_all w env p st t)

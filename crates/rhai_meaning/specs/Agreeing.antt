@@ -8,7 +8,8 @@ use Rattle.rhai_meaning.specs.Relations.{Begins}
 abbrev pub SameAnswers : Host → Host → List HostCall → Type 0
 SameAnswers h h' calls = (past : List HostCall) (c : HostCall) → Begins (past ++ c ∷ []) calls → h.answer past c ≡ h'.answer past c
 
--- that, and the same values of modules
+-- that, and the same modules and values of modules
 pub record AgreeOn (h h' : Host) (calls : List HostCall) : Type 0 where
   pub answers : SameAnswers h h' calls
   pub modules : (x : Text) → h.module_value x ≡ h'.module_value x
+  pub paths : (p : Text) → h.module_of p ≡ h'.module_of p

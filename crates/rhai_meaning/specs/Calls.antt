@@ -3,7 +3,7 @@ use Rattle.std.specs.Prelude.{ℕ, Bool, true, false, ◌&&◌, ◌||◌, List, 
 use Rattle.rhai_values.specs.Value.{Text, Value, BoolV, TextV, PointerV, items, values, same_text}
 use Rattle.rhai_base.specs.Operators.{Operator, Computed, NoEntry, Is, Overflows, symbol}
 use Rattle.rhai_meaning.specs.Engine.{built_in, asks_assigning, assigning, mapped_type_name}
-use Rattle.rhai_meaning.specs.Act.{WrongKind, Key, World, Act, Fail, Invoke}
+use Rattle.rhai_meaning.specs.Act.{WrongKind, Key, World, Act, Fail, Resolve, Invoke}
 use Rattle.rhai_meaning.specs.Core.{Callee, OnOperator, Qualified, ByName}
 use Rattle.rhai_parts.specs.Names.{is_valid_name}
 use Rattle.rhai_meaning.specs.ActForms.{give, throw, choose, ask_host}
@@ -92,7 +92,11 @@ call_word w captures f Curry (p ∷ vs) = curried p vs
 call_word w captures f CallFn (p ∷ vs) = call_pointer w captures p vs
 call_word w captures f _ vs = call_named w captures f vs
 
+-- a name in a module
+abbrev pub within : Text → Text → Text
+within m x = m ++ codes "::" ++ x
+
 abbrev pub called : World → Callee → List Value → Act
 called w (OnOperator op) vs = operate w op vs
-called w (Qualified f) vs = ask_host f vs
+called w (Qualified m f) vs = Resolve m (λ n. ask_host (within n f) vs)
 called w (ByName f captures) vs = call_word w captures f (word f) vs

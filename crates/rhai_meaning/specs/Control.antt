@@ -1,7 +1,7 @@
 -- Loops, `switch` and `try` over the acts of their parts.
 use Rattle.std.specs.Prelude.{ℕ, zero, suc, ◌^◌, Bool, true, false, cond, ◌&&◌, List, [], ◌∷◌, ◌++◌, Option, Some, None, ℤ, pos, negsuc, ◌+ℤ◌, ◌-ℤ◌, nat_lt, slice_get, int_lt, int_le}
 use Rattle.rhai_values.specs.Value.{Text, Value, IntV, ArrayV, RangeV, RangeInclusiveV, items, same, is_hashable, text_of}
-use Rattle.rhai_meaning.specs.Act.{Throws, Again, Ending, Gives, Leaves, WrongKind, CounterTooLarge, Act, Stop, Fail, Then, Turn, Loop, Scoped, Acts, Only, Named}
+use Rattle.rhai_meaning.specs.Act.{IsVariable, Throws, Again, Ending, Gives, Leaves, WrongKind, CounterTooLarge, Act, Stop, Fail, Then, Turn, Loop, Scoped, Acts, Only, Named}
 use Rattle.rhai_meaning.specs.Tree.{IntRange, ExclusiveInt, InclusiveInt, SwitchTable, SwitchCase, SwitchRange}
 use Rattle.rhai_meaning.specs.Shape.{is_unit}
 use Rattle.rhai_meaning.specs.ActForms.{unit, choose, if_true, ◌>>=◌, on_throw, end_round, again_then}
@@ -74,16 +74,16 @@ do_loop true body guard = Loop (Then (round body) (λ e. again_then (guard >>= �
 
 abbrev pub counted : Option Text → ℕ → Acts → Acts
 counted None k p = p
-counted (Some i) k p = cond (nat_lt k (2 ^ 63)) (Named i false (IntV (pos k)) p) (Only (Fail CounterTooLarge))
+counted (Some i) k p = cond (nat_lt k (2 ^ 63)) (Named i IsVariable (IntV (pos k)) p) (Only (Fail CounterTooLarge))
 
 -- the rounds of a `for` from the k-th on
 abbrev pub for_each : Text → Option Text → Acts → ℕ → List Value → Act
 for_each x counter body k [] = unit
-for_each x counter body k (v ∷ vs) = Then (round (counted counter k (Named x false v body))) (λ e. again_then (for_each x counter body (suc k) vs) e)
+for_each x counter body k (v ∷ vs) = Then (round (counted counter k (Named x IsVariable v body))) (λ e. again_then (for_each x counter body (suc k) vs) e)
 
 abbrev pub for_count : Text → Option Text → Acts → ℕ → ℤ → ℕ → Act
 for_count x counter body k a zero = unit
-for_count x counter body k a (suc n) = Then (round (counted counter k (Named x false (IntV a) body))) (λ e. again_then (for_count x counter body (suc k) (a +ℤ pos 1) n) e)
+for_count x counter body k a (suc n) = Then (round (counted counter k (Named x IsVariable (IntV a) body))) (λ e. again_then (for_count x counter body (suc k) (a +ℤ pos 1) n) e)
 
 abbrev pub size : ℤ → ℕ
 size (pos n) = n
@@ -99,7 +99,7 @@ for_all x counter body _ = Fail WrongKind
 
 abbrev pub named : Option Text → Value → Acts → Acts
 named None v p = p
-named (Some x) v p = Named x false v p
+named (Some x) v p = Named x IsVariable v p
 
 -- a branch that throws unit throws the caught value
 abbrev pub end_branch : Value → Ending → Act

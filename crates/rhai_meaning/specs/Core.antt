@@ -2,13 +2,14 @@
 use Rattle.std.specs.Prelude.{Bool, List, Option}
 use Rattle.rhai_values.specs.Value.{Text, Value}
 use Rattle.rhai_base.specs.Operators.{Operator}
-use Rattle.rhai_meaning.specs.Act.{Root}
+use Rattle.rhai_meaning.specs.Act.{EntryKind, Root}
 use Rattle.rhai_meaning.specs.Tree.{PropertyNames, SwitchTable}
 
--- an operator, a host function by its whole name, or a name (captures: the function sees the caller's names)
+-- an operator, a host function by a module or an alias and the rest of its name, or a name (captures: the function sees
+-- the caller's names)
 pub data Callee : Type 0 where
   OnOperator : Operator → Callee
-  Qualified : Text → Callee
+  Qualified : Text → Text → Callee
   ByName : Text → Bool → Callee
 
 -- how a statement leaves the list that it stands in
@@ -27,8 +28,10 @@ mutual
     ArrayOf : Exprs → Expr
     MapOf : Pairs → Expr
     Variable : Text → Expr
-    -- by its whole name
-    ModuleVariable : Text → Expr
+    -- by a module or an alias, and the rest of its name
+    ModuleVariable : Text → Text → Expr
+    -- the name of the module of a path
+    ModuleOf : Expr → Expr
     ThisPtr : Expr
     BlockExpr : Stmts → Expr
     FnCall : Callee → Exprs → Expr
@@ -78,7 +81,7 @@ mutual
     no_arms : Arms
     arm : Expr → Expr → Arms → Arms
 
-  -- what a statement does that declares no name
+  -- what a statement does that adds nothing to the scope
   pub data Deed : Type 0 where
     IllDeed : Deed
     Noop : Deed
@@ -92,11 +95,13 @@ mutual
     Block : Stmts → Deed
     TryCatch : Option Text → Stmts → Stmts → Deed
     Evaluate : Expr → Deed
+    -- that, for unit
+    Discard : Expr → Deed
     Leave : ExitKind → Expr → Deed
 
-  -- true: a constant
+  -- Var adds an entry of this kind to the scope; true: and an export of its value under the same name
   pub data Stmt : Type 0 where
-    Var : Bool → Text → Expr → Stmt
+    Var : EntryKind → Bool → Text → Expr → Stmt
     Does : Deed → Stmt
 
   pub data Stmts : Type 0 where

@@ -1,23 +1,24 @@
 -- From trees to their core: each test of a node is made here, once.
-use Rattle.std.specs.Prelude.{ℕ, Bool, true, false, not, cond, ◌&&◌, List, [], ◌∷◌, ◌++◌, map, Option, Some, None, codes}
+use Rattle.std.specs.Prelude.{ℕ, Bool, true, false, not, cond, ◌&&◌, List, [], ◌∷◌, map, Option, Some, None}
 use Rattle.rhai_values.specs.Value.{Text, UnitV, BoolV, IntV, CharV, TextV}
-use Rattle.rhai_meaning.specs.Act.{Root, OfName, OfThis}
+use Rattle.rhai_meaning.specs.Act.{EntryKind, IsVariable, IsConstant, IsAlias, IsExport, Root, OfName, OfThis}
+use Rattle.rhai_meaning.specs.Calls.{within}
 use Rattle.rhai_meaning.specs.Tree as tree
-use Rattle.rhai_meaning.specs.Core.{Callee, OnOperator, Qualified, ByName, ExitKind, Breaking, Continuing, Returning, Throwing, Expr, Ill, Constant, InterpolatedString, ArrayOf, MapOf, Variable, ModuleVariable, ThisPtr, BlockExpr, FnCall, Chain, And, Or, Coalesce, Exprs, no_exprs, expr, Pairs, no_pairs, pair, Base, OnPlace, OnValue, Step, IllStep, Property, Index, Method, Steps, last, more, Target, IllTarget, Nowhere, ToRoot, ToPart, Guard, Always, When, Arms, no_arms, arm, Deed, IllDeed, Noop, If, Switch, While, Do, For, Assignment, Block, TryCatch, Evaluate, Leave, Stmt, Var, Does, Stmts, no_stmts, stmt, Function, Script}
+use Rattle.rhai_meaning.specs.Core.{Callee, OnOperator, Qualified, ByName, ExitKind, Breaking, Continuing, Returning, Throwing, Expr, Ill, Constant, InterpolatedString, ArrayOf, MapOf, Variable, ModuleVariable, ModuleOf, ThisPtr, BlockExpr, FnCall, Chain, And, Or, Coalesce, Exprs, no_exprs, expr, Pairs, no_pairs, pair, Base, OnPlace, OnValue, Step, IllStep, Property, Index, Method, Steps, last, more, Target, IllTarget, Nowhere, ToRoot, ToPart, Guard, Always, When, Arms, no_arms, arm, Deed, IllDeed, Noop, If, Switch, While, Do, For, Assignment, Block, TryCatch, Evaluate, Discard, Leave, Stmt, Var, Does, Stmts, no_stmts, stmt, Function, Script}
 use Rattle.rhai_meaning.specs.Shape.{is_unit, is_map, is_chain, is_callable, is_table, is_left_side, catch_name}
 
 -- the names of the namespace and the name, joined by `::`
 abbrev pub qualified : List Text → Text → Text
 qualified [] x = x
-qualified (m ∷ ms) x = m ++ codes "::" ++ qualified ms x
+qualified (m ∷ ms) x = within m (qualified ms x)
 
 abbrev pub variable : List Text → Text → Expr
 variable [] x = Variable x
-variable (m ∷ ms) x = ModuleVariable (qualified (m ∷ ms) x)
+variable (m ∷ ms) x = ModuleVariable m (qualified ms x)
 
 abbrev pub by_name : tree.Callee → List Text → Callee
 by_name c [] = ByName c.name c.captures
-by_name c (m ∷ ms) = Qualified (qualified (m ∷ ms) c.name)
+by_name c (m ∷ ms) = Qualified m (qualified ms c.name)
 
 abbrev pub callee_by : tree.Callee → tree.CallToken → Callee
 callee_by c tree.NoToken = by_name c c.namespace
@@ -63,6 +64,20 @@ guard_by _ e = When e
 abbrev pub try_by : Option (Option Text) → Stmts → Stmts → Deed
 try_by None a b = IllDeed
 try_by (Some x) a b = TryCatch x a b
+
+abbrev pub name_kind : Bool → EntryKind
+name_kind true = IsConstant
+name_kind false = IsVariable
+
+-- the alias, or the name itself where there is none
+abbrev pub or_own : Text → Text → Text
+or_own [] x = x
+or_own (c ∷ cs) x = c ∷ cs
+
+-- an alias of the module of a path; without a name there is none
+abbrev pub alias : Text → Expr → Stmt
+alias [] e = Does (Discard (ModuleOf e))
+alias (c ∷ cs) e = Var IsAlias false (c ∷ cs) (ModuleOf e)
 
 abbrev pub break_kind : Bool → ExitKind
 break_kind true = Breaking
@@ -110,15 +125,14 @@ abbrev mutual
   member_of loop (tree.MethodCall c es) = method_of c (tree.count_exprs es) (core_exprs loop es)
   member_of loop _ = IllStep
 
-  -- the steps of a chain by its right side; p: that side as the last argument; an argument in a node with EXPORTED has no
-  -- meaning
+  -- the steps of a chain by its right side; p: that side as the last argument
   pub steps_of : Bool → (dot : Bool) → tree.ChainFlags → Step → tree.Expr → Steps
   steps_of loop dot k p (tree.Dot m l r) =
       cond k.breaks (last k.negated p)
-      (more k.negated (cond m.exported IllStep (cond dot (member_of loop l) (Index (core_expr loop l)))) (steps_of loop true m (member_of loop r) r))
+      (more k.negated (cond dot (member_of loop l) (Index (core_expr loop l))) (steps_of loop true m (member_of loop r) r))
   steps_of loop dot k p (tree.Index m l r) =
       cond k.breaks (last k.negated p)
-      (more k.negated (cond m.exported IllStep (cond dot (member_of loop l) (Index (core_expr loop l)))) (steps_of loop false m (Index (core_expr loop r)) r))
+      (more k.negated (cond dot (member_of loop l) (Index (core_expr loop l))) (steps_of loop false m (Index (core_expr loop r)) r))
   steps_of loop dot k p _ = last k.negated p
 
   pub target_of : Bool → tree.Expr → Target
@@ -141,18 +155,18 @@ abbrev mutual
   core_stmt loop (tree.If e a b) = Does (If (core_expr loop e) (core_stmts loop a) (core_stmts loop b))
   core_stmt loop (tree.Switch e as' t) = Does (cond (is_table as' t) (Switch (core_expr loop e) (core_arms loop as') t) IllDeed)
   core_stmt loop (tree.While e body) = Does (While (guard_by e (core_expr loop e)) (core_stmts true body))
-  core_stmt loop (tree.Do negated exported e body) = Does (cond (not exported) (Do negated (core_expr loop e) (core_stmts true body)) IllDeed)
+  core_stmt loop (tree.Do negated exported e body) = Does (Do negated (core_expr loop e) (core_stmts true body))
   core_stmt loop (tree.For x i e body) = Does (For x i (core_expr loop e) (core_stmts true body))
-  core_stmt loop (tree.Var constant exported x e) = cond exported (Does IllDeed) (Var constant x (core_expr loop e))
+  core_stmt loop (tree.Var constant exported x e) = Var (name_kind constant) exported x (core_expr loop e)
   core_stmt loop (tree.Assignment op l e) = Does (cond (is_left_side l) (Assignment op (target_of loop l) (core_expr loop e)) IllDeed)
   core_stmt loop (tree.FnCallStmt c es) = Does (Evaluate (call_of c (tree.count_exprs es) (core_exprs loop es)))
   core_stmt loop (tree.Block ss) = Does (Block (core_stmts loop ss))
   core_stmt loop (tree.TryCatch x a b) = Does (try_by (catch_name x) (core_stmts loop a) (core_stmts loop b))
   core_stmt loop (tree.ExprStmt e) = Does (Evaluate (core_expr loop e))
-  core_stmt loop (tree.BreakLoop is_break exported m) = Does (cond (loop && not exported) (Leave (break_kind is_break) (core_maybe loop m)) IllDeed)
-  core_stmt loop (tree.Return is_throw exported m) = Does (cond (not exported) (Leave (return_kind is_throw) (core_maybe loop m)) IllDeed)
-  core_stmt loop (tree.Import e x) = Does IllDeed
-  core_stmt loop (tree.Export x y) = Does IllDeed
+  core_stmt loop (tree.BreakLoop is_break exported m) = Does (cond loop (Leave (break_kind is_break) (core_maybe loop m)) IllDeed)
+  core_stmt loop (tree.Return is_throw exported m) = Does (Leave (return_kind is_throw) (core_maybe loop m))
+  core_stmt loop (tree.Import e x) = alias x (core_expr loop e)
+  core_stmt loop (tree.Export x y) = Var IsExport false (or_own y x) (Variable x)
   core_stmt loop (tree.Share xs) = Does IllDeed
 
   pub core_stmts : Bool → tree.Stmts → Stmts

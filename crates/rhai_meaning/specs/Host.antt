@@ -36,8 +36,17 @@ abbrev pub module_value_of : List ModuleValue → Text → Option Value
 module_value_of [] x = None
 module_value_of (m ∷ ms) x = if same_text m.name x then Some m.value else module_value_of ms x
 
-abbrev pub host_of : List Row → List ModuleValue → Host
-host_of rows ms = record { answer = answer_of rows; module_value = module_value_of ms }
+-- a module by its path
+pub record ModulePath : Type 0 where
+  pub path : Text
+  pub name : Text
+
+abbrev pub module_in : List ModulePath → Text → Option Text
+module_in [] p = None
+module_in (m ∷ ms) p = if same_text m.path p then Some m.name else module_in ms p
+
+abbrev pub host_of : List Row → List ModuleValue → List ModulePath → Host
+host_of rows vs ms = record { answer = answer_of rows; module_value = module_value_of vs; module_of = module_in ms }
 
 -- the rows of a run's calls: each with those before it, and with the answer of a host; past: the calls before all of them
 abbrev pub rows_of : Host → List HostCall → List HostCall → List Row

@@ -1,8 +1,8 @@
 -- What is promised of runs of pure and of literal trees.
 use Rattle.std.specs.Prelude.{◌≡◌, ℕ, zero, suc, ◌-◌, ◌≤◌, Bool, true, false, List, [], ◌∷◌, Some, None}
-use Rattle.rhai_values.specs.Value.{Value, PointerV}
+use Rattle.rhai_values.specs.Value.{Text, Value, PointerV}
 use Rattle.rhai_parts.specs.Names.{is_valid_name}
-use Rattle.rhai_meaning.specs.Act.{World, ScopeEntry, Store, Gives, Stuck, IsStuck, OutOfTurns, Outcome, Ended, Halted, Result, At, Only, Env, run, run_all}
+use Rattle.rhai_meaning.specs.Act.{World, IsExport, ScopeEntry, Store, Gives, Stuck, IsStuck, OutOfTurns, Outcome, Ended, Halted, Result, At, Act, Acts, Only, Env, resolved, run, run_all}
 use Rattle.rhai_meaning.specs.ActForms.{give}
 use Rattle.rhai_meaning.specs.Constants.{constant_value, literal_value, constant_for}
 use Rattle.rhai_meaning.specs.Desugar.{core_expr, core_stmt}
@@ -10,8 +10,9 @@ use Rattle.rhai_meaning.specs.Faults.{IsWellFormedExpr, IsWellFormedScript, scri
 use Rattle.rhai_meaning.specs.Meaning.{act, line}
 use Rattle.rhai_meaning.specs.Queries.{is_pure_expr, is_pure, is_internally_pure, is_block_dependent}
 use Rattle.rhai_meaning.specs.Relations.{OnlyAdds, store_of}
+use Rattle.rhai_meaning.specs.Run.{exports}
 use Rattle.rhai_meaning.specs.Walk.{Around}
-use Rattle.rhai_meaning.specs.Tree.{Expr, Stmt, Script}
+use Rattle.rhai_meaning.specs.Tree.{Expr, Stmt, Var, Export, Script}
 
 -- ---- runs that change nothing
 
@@ -48,10 +49,11 @@ pub record ChangesNothing (s : Store) (r : ℕ → Result) : Type 0 where
   pub end : Settled
   pub within : (t : ℕ) → bound ≤ t → r t ≡ At (settled end) s (t - bound)
 
--- at most one name is added
+-- at most one name or alias is added, beside exports
 pub data OneMore (es : List ScopeEntry) : List ScopeEntry → Type 0 where
   no_more : OneMore es es
   one_more : (e : ScopeEntry) → OneMore es (e ∷ es)
+  an_export : {fs : List ScopeEntry} (x : Text) (v : Value) → OneMore es fs → OneMore es (record { name = x; kind = IsExport; value = v } ∷ fs)
 
 pub record AddsOne (s : Store) (r : Result) : Type 0 where
   pub calls : (store_of r).calls ≡ s.calls
@@ -84,13 +86,26 @@ PureExprLaw e = is_pure_expr e ≡ true → Anywhere (λ w env loop s. ChangesNo
 abbrev pub PureLaw : Stmt → Type 0
 PureLaw l = is_pure l ≡ true → Anywhere (λ w env loop s. ChangesNothing s (λ t. run_stmt w env loop l s t))
 
--- One that is pure inside a list adds at most a name.
+-- One that is pure inside a list adds at most a name or an alias, and exports, which a block takes away.
 abbrev pub InternallyPureLaw : Stmt → Type 0
 InternallyPureLaw l = is_internally_pure l ≡ true → Anywhere (λ w env loop s. (t : ℕ) → AddsOne s (run_stmt w env loop l s t))
 
 -- One that isn't block dependent leaves the names as they were.
 abbrev pub IndependentLaw : Stmt → Type 0
 IndependentLaw l = is_block_dependent l ≡ false → Anywhere (λ w env loop s. (t : ℕ) → SameNames s.scope (store_of (run_stmt w env loop l s t)).scope)
+
+-- A declaration with EXPORTED does what it does without, and then what an export of its name does.
+abbrev pub ExportedLaw : Bool → Text → Expr → Type 0
+ExportedLaw c x e =
+    (next : Value → Acts) → Anywhere (λ w env loop s. (t : ℕ) → run_all w env (line w (core_stmt loop (Var c true x e)) next) s t ≡ run_all w env (line w (core_stmt loop (Var c false x e)) (λ v. line w (core_stmt loop (Export x [])) next)) s t)
+
+-- An act exports nothing and changes no alias, whatever lists are run in it: a run's exports are those of the script's own list.
+pub record SameModules (es fs : List ScopeEntry) : Type 0 where
+  pub exports : exports fs ≡ exports es
+  pub aliases : (a : Text) → resolved fs a ≡ resolved es a
+
+abbrev pub UnexportedLaw : Act → Type 0
+UnexportedLaw a = (w : World) (env : Env) → OnlyAdds env → (s : Store) (t : ℕ) → SameModules s.scope (store_of (run w env a s t)).scope
 
 -- The value of a literal is that of each run, at once.
 abbrev pub LiteralLaw : Expr → Type 0

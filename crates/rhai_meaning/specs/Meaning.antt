@@ -1,11 +1,11 @@
 -- What scripts do: the act of each construct, by recursion on the core alone.
-use Rattle.std.specs.Prelude.{Bool, true, false, List, [], ◌∷◌, Option}
+use Rattle.std.specs.Prelude.{Bool, true, false, List, [], ◌∷◌, Option, Some, None}
 use Rattle.rhai_values.specs.Value.{Text, Value, UnitV, BoolV, TextV, ArrayV, MapV, values}
 use Rattle.rhai_base.specs.Operators.{Operator}
-use Rattle.rhai_meaning.specs.Act.{Exit, Returns, Breaks, Continues, Throws, Leaves, WrongKind, NoPlace, OfName, OfThis, World, Act, Stop, Fail, Read, Loop, Scoped, Acts, Only, Named}
-use Rattle.rhai_meaning.specs.Core.{ExitKind, Breaking, Continuing, Returning, Throwing, Expr, Ill, Constant, InterpolatedString, ArrayOf, MapOf, Variable, ModuleVariable, ThisPtr, BlockExpr, FnCall, Chain, And, Or, Coalesce, Exprs, no_exprs, expr, Pairs, no_pairs, pair, Base, OnPlace, OnValue, Step, IllStep, Property, Index, Method, Steps, last, more, Target, IllTarget, Nowhere, ToRoot, ToPart, Guard, Always, When, Arms, no_arms, arm, Deed, IllDeed, Noop, If, Switch, While, Do, For, Assignment, Block, TryCatch, Evaluate, Leave, Stmt, Var, Does, Stmts, no_stmts, stmt}
+use Rattle.rhai_meaning.specs.Act.{Exit, Returns, Breaks, Continues, Throws, Leaves, WrongKind, NoPlace, UnknownModule, IsExport, OfName, OfThis, World, Act, Stop, Fail, Read, Resolve, Loop, Scoped, Acts, Only, Named}
+use Rattle.rhai_meaning.specs.Core.{ExitKind, Breaking, Continuing, Returning, Throwing, Expr, Ill, Constant, InterpolatedString, ArrayOf, MapOf, Variable, ModuleVariable, ModuleOf, ThisPtr, BlockExpr, FnCall, Chain, And, Or, Coalesce, Exprs, no_exprs, expr, Pairs, no_pairs, pair, Base, OnPlace, OnValue, Step, IllStep, Property, Index, Method, Steps, last, more, Target, IllTarget, Nowhere, ToRoot, ToPart, Guard, Always, When, Arms, no_arms, arm, Deed, IllDeed, Noop, If, Switch, While, Do, For, Assignment, Block, TryCatch, Evaluate, Discard, Leave, Stmt, Var, Does, Stmts, no_stmts, stmt}
 use Rattle.rhai_meaning.specs.ActForms.{give, unit, choose, if_true, ◌>>=◌, then_line, of_constant}
-use Rattle.rhai_meaning.specs.Calls.{called}
+use Rattle.rhai_meaning.specs.Calls.{within, called}
 use Rattle.rhai_meaning.specs.Chains.{Access, OfProperty, OfIndex, OfMethod, applied, unless_unit, assign_last, assign_root}
 use Rattle.rhai_meaning.specs.Control.{texts_joined, ArmActs, switch_on, round, while_guarded, do_loop, for_all, try_of}
 use Rattle.rhai_meaning.specs.Elements.{fields_of}
@@ -23,6 +23,20 @@ abbrev pub wanted_value : Bool → Value → Value
 wanted_value true v = v
 wanted_value false v = UnitV
 
+-- the module that the host knows by a path
+abbrev pub module_known : Option Text → Act
+module_known (Some m) = give (TextV m)
+module_known None = Fail UnknownModule
+
+abbrev pub module_at : World → Value → Act
+module_at w (TextV p) = module_known (w.host.module_of p)
+module_at w _ = Fail WrongKind
+
+-- before a list an export of a value, or nothing
+abbrev pub exporting : Bool → Text → Value → Acts → Acts
+exporting true x v p = Named x IsExport v p
+exporting false x v p = p
+
 abbrev pub text : List Value → Act
 text vs = give (TextV (texts_joined vs))
 
@@ -34,7 +48,8 @@ abbrev mutual
   act w (ArrayOf es) = with_args w es (λ vs. give (ArrayV (values vs)))
   act w (MapOf ps) = with_pairs w ps (λ vs. give (MapV (fields_of vs)))
   act w (Variable x) = Read (OfName x)
-  act w (ModuleVariable x) = of_constant (w.host.module_value x)
+  act w (ModuleVariable m x) = Resolve m (λ n. of_constant (w.host.module_value (within n x)))
+  act w (ModuleOf e) = act w e >>= λ v. module_at w v
   act w ThisPtr = Read OfThis
   act w (BlockExpr ss) = Scoped (acts w true ss UnitV)
   act w (FnCall c es) = with_args w es (λ vs. called w c vs)
@@ -107,10 +122,11 @@ abbrev mutual
   deed w (Block ss) = Scoped (acts w true ss UnitV)
   deed w (TryCatch x a b) = try_of (acts w false a UnitV) x (acts w false b UnitV)
   deed w (Evaluate e) = act w e
+  deed w (Discard e) = act w e >>= λ v. unit
   deed w (Leave k e) = act w e >>= λ v. Stop (Leaves (exit k v))
 
   pub line : World → Stmt → (Value → Acts) → Acts
-  line w (Var c x e) next = then_line (act w e) (λ v. Named x c v (next UnitV))
+  line w (Var k exported x e) next = then_line (act w e) (λ v. Named x k v (exporting exported x v (next UnitV)))
   line w (Does d) next = then_line (deed w d) next
 
   pub acts : World → Bool → Stmts → Value → Acts

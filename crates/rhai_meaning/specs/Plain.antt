@@ -1,25 +1,17 @@
 -- Plain scripts: those whose every node has a meaning beside its form.
 use Rattle.std.specs.Prelude.{Bool, true, false, not, ◌&&◌}
 use Rattle.rhai_meaning.specs.Shape.{is_barred}
-use Rattle.rhai_meaning.specs.Tree.{Expr, MethodCall, FnCall, Dot, Index, Stmt, Do, Var, FnCallStmt, BreakLoop, Return, Import, Export, Share, Script}
+use Rattle.rhai_meaning.specs.Tree.{Expr, MethodCall, FnCall, Stmt, FnCallStmt, Share, Script}
 use Rattle.rhai_meaning.specs.Walk.{Node, OfExpr, OfStmt, Walk, over_script, arms_at, listed}
 
--- no call of `eval`, `is_def_var` or `is_def_fn`, no import, export or shared name, no flag EXPORTED
+-- no call of `eval`, `is_def_var` or `is_def_fn`, and no shared name
 abbrev pub is_plain_expr : Expr → Bool
 is_plain_expr (MethodCall c es) = not (is_barred c)
 is_plain_expr (FnCall c es) = not (is_barred c)
-is_plain_expr (Dot k l r) = not k.exported
-is_plain_expr (Index k l r) = not k.exported
 is_plain_expr _ = true
 
 abbrev pub is_plain_stmt : Stmt → Bool
-is_plain_stmt (Do negated exported e b) = not exported
-is_plain_stmt (Var constant exported x e) = not exported
 is_plain_stmt (FnCallStmt c es) = not (is_barred c)
-is_plain_stmt (BreakLoop breaks exported m) = not exported
-is_plain_stmt (Return throws exported m) = not exported
-is_plain_stmt (Import e x) = false
-is_plain_stmt (Export x y) = false
 is_plain_stmt (Share xs) = false
 is_plain_stmt _ = true
 

@@ -6,7 +6,8 @@ use Rattle.rhai_values.specs.Value.{same_text, same_bool}
 use Rattle.rhai_meaning.specs.Constants.{is_constant, are_constant}
 use Rattle.rhai_meaning.specs.Shape.{is_none}
 use Rattle.rhai_meaning.specs.Tree.{Callee, SwitchTable, Expr, BoolConstant, UnitConstant, InterpolatedString, ArrayOf, MapOf, Variable, Property, BlockExpr, FnCall, And, Or, Coalesce, Exprs, no_exprs, expr, Pairs, no_pairs, pair, Arms, no_arms, arm, Stmt, Noop, If, Switch, While, Do, For, Var, FnCallStmt, Block, TryCatch, ExprStmt, BreakLoop, Return, Import, Export, Stmts, no_stmts, stmt}
-use Rattle.rhai_meaning.specs.Walk.{arms_of_cases, arms_of_ranges, arm_at}
+use Rattle.rhai_meaning.specs.Plain.{all_true}
+use Rattle.rhai_meaning.specs.Walk.{Node, OfStmt, over_stmts, arms_of_cases, arms_of_ranges, arm_at}
 
 -- ---- purity
 
@@ -78,7 +79,7 @@ abbrev mutual
   are_pure no_stmts = true
   are_pure (stmt s ss) = is_pure s && are_pure ss
 
--- pure but for names that its list takes away
+-- pure but for what its list takes away
 abbrev mutual
   pub is_internally_pure : Stmt → Bool
   is_internally_pure (Var constant exported x e) = is_pure_expr e
@@ -95,12 +96,22 @@ abbrev mutual
   are_internally_pure no_stmts = true
   are_internally_pure (stmt s ss) = is_internally_pure s && are_internally_pure ss
 
+-- no `export`, and no declaration that is exported
+abbrev pub is_no_export : Node → Bool
+is_no_export (OfStmt (Var constant true x e)) = false
+is_no_export (OfStmt (Export x y)) = false
+is_no_export n = true
+
+-- at any depth
+abbrev pub exports_nothing : Stmts → Bool
+exports_nothing ss = over_stmts (all_true is_no_export) ss
+
 -- ---- dependence on the list around
 
 abbrev pub is_eval : Callee → Bool
 is_eval c = is_none c.namespace && same_text c.name (codes "eval")
 
--- whether a statement belongs to the list in which it stands, as it may add names there
+-- whether a statement belongs to the list in which it stands, as it may add to the scope there
 abbrev mutual
   pub is_block_dependent : Stmt → Bool
   is_block_dependent (Var constant exported x e) = true

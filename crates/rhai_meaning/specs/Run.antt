@@ -2,7 +2,7 @@
 use Rattle.std.specs.Prelude.{ℕ, zero, suc, Bool, true, false, cond, ◌&&◌, List, [], ◌∷◌, length, map, Option, Some, None}
 use Rattle.rhai_values.specs.Value.{Text, Value, UnitV}
 use Rattle.rhai_meaning.specs.Engine.{Engine}
-use Rattle.rhai_meaning.specs.Act.{ScopeEntry, HostCall, Host, Key, World, Store, Stuck, Unbound, WrongKind, Returns, Throws, Gives, Leaves, IsStuck, OutOfTurns, Outcome, Ended, Halted, Result, At, ScriptCall, Acts, Finish, Env, with_turn, run_all}
+use Rattle.rhai_meaning.specs.Act.{EntryKind, IsVariable, IsExport, is_name, ScopeEntry, HostCall, Host, Key, World, Store, Stuck, Unbound, WrongKind, Returns, Throws, Gives, Leaves, IsStuck, OutOfTurns, Outcome, Ended, Halted, Result, At, ScriptCall, Acts, Finish, Env, with_turn, run_all}
 use Rattle.rhai_meaning.specs.Core.{Function, Script, Stmts}
 use Rattle.rhai_meaning.specs.Calls.{same_key, key}
 use Rattle.rhai_meaning.specs.Meaning.{acts}
@@ -18,7 +18,7 @@ function_of (f ∷ fs) k = cond (same_key (key_of f) k) (Some f) (function_of fs
 abbrev pub bind : List Text → List Value → List ScopeEntry → List ScopeEntry
 bind [] vs scope = scope
 bind (x ∷ xs) [] scope = scope
-bind (x ∷ xs) (v ∷ vs) scope = bind xs vs (record { name = x; constant = false; value = v } ∷ scope)
+bind (x ∷ xs) (v ∷ vs) scope = bind xs vs (record { name = x; kind = IsVariable; value = v } ∷ scope)
 
 abbrev pub seen : Bool → List ScopeEntry → List ScopeEntry
 seen true scope = scope
@@ -74,6 +74,7 @@ pub data End : Type 0 where
 pub record Report : Type 0 where
   pub ended : End
   pub variables : List ScopeEntry
+  pub exports : List (Text × Value)
   pub this : Option Value
   pub calls : List HostCall
   pub turns : ℕ
@@ -90,10 +91,22 @@ abbrev pub reversed : List ScopeEntry → List ScopeEntry → List ScopeEntry
 reversed [] es = es
 reversed (f ∷ fs) es = reversed fs (f ∷ es)
 
--- variables in order, of a function none
-abbrev pub variables_of : EntryPoint → List ScopeEntry → List ScopeEntry
-variables_of AtStatements es = reversed es []
-variables_of (AtFunction k this vs) es = []
+abbrev pub names : List ScopeEntry → List ScopeEntry
+names [] = []
+names (e ∷ es) = cond (is_name e.kind) (e ∷ names es) (names es)
+
+abbrev pub is_export : EntryKind → Bool
+is_export IsExport = true
+is_export _ = false
+
+abbrev pub exports : List ScopeEntry → List (Text × Value)
+exports [] = []
+exports (e ∷ es) = cond (is_export e.kind) ((e.name, e.value) ∷ exports es) (exports es)
+
+-- what a run leaves in its scope, in order; of a function nothing
+abbrev pub scope_left : EntryPoint → List ScopeEntry → List ScopeEntry
+scope_left AtStatements es = reversed es []
+scope_left (AtFunction k this vs) es = []
 
 abbrev pub report_of : EntryPoint → Result → Report
-report_of e (At o st t) = record { ended = end_of o; variables = variables_of e st.scope; this = st.this; calls = st.calls; turns = t }
+report_of e (At o st t) = let left = scope_left e st.scope in record { ended = end_of o; variables = names left; exports = exports left; this = st.this; calls = st.calls; turns = t }

@@ -57,7 +57,7 @@ is_rest dot breaks e = if dot then is_member e else breaks
 
 -- whether the outermost node of a chain has a meaning
 abbrev pub is_chain : (dot : Bool) → ChainFlags → Expr → Bool
-is_chain dot k r = is_rest dot k.breaks r && not k.exported
+is_chain dot k r = is_rest dot k.breaks r
 
 -- ---- the table of a `switch`
 

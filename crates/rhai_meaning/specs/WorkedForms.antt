@@ -27,10 +27,10 @@ unfolding text_of
 joins c = elim c.arguments [ [] ↦ Answers UnitV None | v ∷ vs ↦ elim vs [ [] ↦ Answers UnitV None | w ∷ ws ↦ Answers (TextV (text_of v ++ text_of w)) None ] ]
 
 abbrev pub joining : Host
-joining = record { answer = λ past c. joins c; module_value = λ x. None }
+joining = record { answer = λ past c. joins c; module_value = λ x. None; module_of = λ p. None }
 
 abbrev pub throwing : Host
-throwing = record { answer = λ past c. AnswersThrow (TextV c.name); module_value = λ x. None }
+throwing = record { answer = λ past c. AnswersThrow (TextV c.name); module_value = λ x. None; module_of = λ p. None }
 
 abbrev pub overriding : Text → List Text → Bool → Engine
 overriding f types fast = record nothing_set { overrides = record { name = f; types = types } ∷ []; fast_operators = fast }
@@ -45,7 +45,7 @@ unfolding ran_with
 ran engine host ss = ran_with engine host [] 0 ss
 
 abbrev pub ends : End → List HostCall → Report
-ends e cs = record { ended = e; variables = []; this = None; calls = cs; turns = 0 }
+ends e cs = record { ended = e; variables = []; exports = []; this = None; calls = cs; turns = 0 }
 
 abbrev pub asked : String → List Value → HostCall
 asked f vs = record { name = codes f; receiver = None; arguments = vs }

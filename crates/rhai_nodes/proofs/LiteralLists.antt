@@ -26,7 +26,7 @@ pub values_before-more : (vs : List Value) (v : Value) (ws : Option (List Value)
 values_before-more vs v None = refl
 values_before-more vs v (Some ws) = ap Some (sym (append_assoc vs (v ∷ []) ws))
 
-values_before-end : (vs : List Value) → values_before vs (Some []) ≡ Some vs
+pub values_before-end : (vs : List Value) → values_before vs (Some []) ≡ Some vs
 values_before-end vs = ap Some (append-nil vs)
 
 pub values_before-all : (xs : List Expr) (i : ℕ) (vs : List Value) → i ≡ length xs

@@ -9,6 +9,7 @@ mod literals;
 mod making;
 mod place;
 mod switch;
+mod taken;
 
 pub use block::{block_from, if_answers};
 pub use call::call_expression;
@@ -21,3 +22,4 @@ pub use making::{
 };
 pub use place::{place_expr, place_stmt};
 pub use switch::{case_list, switch_table};
+pub use taken::value_of_constant;

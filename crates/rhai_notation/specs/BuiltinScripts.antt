@@ -2,7 +2,7 @@
 use Rattle.std.specs.Prelude.{List, [], ◌∷◌, Option, Some, None, codes, if◌then◌else◌}
 use Rattle.rhai_values.specs.Value.{Text, same_text}
 use Rattle.rhai_meaning.specs.Tree.{Function, Stmts, no_stmts}
-use Rattle.rhai_builtins.specs.Statements.{base_statements, bits_statements, coalesce_statements, constants_statements, divide_statements, endless_statements, first_statements, index_statements, merge_functions, merge_statements, opassign_statements, return_statements, rewrite_statements, shadow_statements, switch_statements, tail_statements}
+use Rattle.rhai_builtins.specs.Statements.{base_statements, bits_statements, coalesce_statements, constants_statements, divide_statements, endless_statements, first_statements, import_statements, index_statements, merge_functions, merge_statements, opassign_statements, return_statements, rewrite_statements, shadow_statements, switch_statements, tail_statements}
 use Rattle.rhai_notation.specs.declared.builtin.BuiltinScript.{BuiltinScript}
 use Rattle.rhai_notation.specs.declared.builtin.BuiltinScript.TheVariants as script
 
@@ -23,6 +23,7 @@ name_of script.Divide = codes "divide"
 name_of script.Endless = codes "endless"
 name_of script.Constants = codes "constants"
 name_of script.Merge = codes "merge"
+name_of script.Import = codes "import"
 
 abbrev pub all_scripts : List BuiltinScript
 all_scripts =
@@ -42,6 +43,7 @@ all_scripts =
     script.Endless ∷
     script.Constants ∷
     script.Merge ∷
+    script.Import ∷
     []
 
 -- the first of the scripts that has this name
@@ -69,6 +71,7 @@ statements_of script.Divide = divide_statements
 statements_of script.Endless = endless_statements
 statements_of script.Constants = constants_statements
 statements_of script.Merge = merge_statements
+statements_of script.Import = import_statements
 
 abbrev pub script_functions : BuiltinScript → List Function
 script_functions script.Merge = merge_functions

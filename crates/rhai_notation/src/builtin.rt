@@ -9,9 +9,9 @@ use rhai_ast::{ScriptFuncDef, Stmt};
 use rhai_base::OutOfMemory;
 use rhai_builtins::{
     base_statements, bits_statements, coalesce_statements, constants_statements, divide_statements,
-    endless_statements, first_statements, index_statements, merge_functions, merge_statements,
-    opassign_statements, return_statements, rewrite_statements, shadow_statements,
-    switch_statements, tail_statements,
+    endless_statements, first_statements, import_statements, index_statements, merge_functions,
+    merge_statements, opassign_statements, return_statements, rewrite_statements,
+    shadow_statements, switch_statements, tail_statements,
 };
 use std::alloc::Global;
 use std::rc::Rc;
@@ -51,13 +51,15 @@ pub enum BuiltinScript {
     Constants,
     /// ``fn foo(n) { `hello${n}` } foo(1) foo("!")``
     Merge,
+    /// `import "m" as a; export let x = a::v; x + 1`
+    Import,
 }
 
 impl BuiltinScript {
     ghost use Rattle.rhai_notation.specs.BuiltinScripts.{name_of, script_functions, script_named, statements_of};
 
     /// Each script once.
-    pub const ALL: [BuiltinScript; 16] = [
+    pub const ALL: [BuiltinScript; 17] = [
         BuiltinScript::First,
         BuiltinScript::Empty,
         BuiltinScript::Index,
@@ -74,6 +76,7 @@ impl BuiltinScript {
         BuiltinScript::Endless,
         BuiltinScript::Constants,
         BuiltinScript::Merge,
+        BuiltinScript::Import,
     ];
 
     /// The name by which the program knows it.
@@ -97,6 +100,7 @@ impl BuiltinScript {
             BuiltinScript::Endless => "endless",
             BuiltinScript::Constants => "constants",
             BuiltinScript::Merge => "merge",
+            BuiltinScript::Import => "import",
         }
     }
 
@@ -133,6 +137,7 @@ impl BuiltinScript {
             BuiltinScript::Endless => endless_statements(alloc),
             BuiltinScript::Constants => constants_statements(alloc),
             BuiltinScript::Merge => merge_statements(alloc),
+            BuiltinScript::Import => import_statements(alloc),
         }
     }
 

@@ -9,14 +9,15 @@ use Rattle.rhai_values.specs.declared.scope.Scope.{Scope}
 use Rattle.rhai_values.specs.declared.scope.ScopeEntry.{ScopeEntry}
 use Rattle.rhai_host.specs.Entries.{entry_meant}
 use Rattle.rhai_meaning.specs.Act as act
+use Rattle.rhai_meaning.specs.Desugar.{name_kind}
 use Rattle.rhai_meaning.specs.Engine.{Engine, Binding}
 use Rattle.rhai_meaning.specs.Run.{reversed}
 use Rattle.rhai_meaning.specs.Tree.{Script}
 use Rattle.rhai_rewriting.specs.Known.{Known}
-use Rattle.rhai_rewriting.specs.Scripts.{captures_nothing, known_in, known_of, known_at_top, known_in_bodies, known_inside}
+use Rattle.rhai_rewriting.specs.Scripts.{captures_nothing, fixed_value, known_in, known_of, known_at_top, known_in_bodies, known_inside}
 use Rattle.rhai_optimizer.specs.Scopes.{known_onto, given_onto, constants_onto, start_of}
 
-lent_value : (b : Bool) (v : Dynamic) → option_map value_of (cond b (Some v) None) ≡ cond b (Some (value_of v)) None
+lent_value : (b : Bool) (v : Dynamic) → option_map value_of (cond b (Some v) None) ≡ fixed_value (name_kind b) (value_of v)
 lent_value true v = refl
 lent_value false v = refl
 

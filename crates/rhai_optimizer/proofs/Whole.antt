@@ -30,10 +30,9 @@ use Rattle.rhai_functions.specs.Table.{key_of, put_by, put_all_by, table_of}
 use Rattle.rhai_functions.proofs.Tables.{map-put_all}
 use Rattle.rhai_known.specs.declared.level.OptimizationLevel.{OptimizationLevel}
 use Rattle.rhai_known.specs.declared.level.OptimizationLevel.TheVariants as level
-use Rattle.rhai_script.specs.Script.{script_of}
-use Rattle.rhai_script.specs.declared.ast.AST.{AST}
+use Rattle.rhai_script.specs.Contents.{Contents, meant}
 use Rattle.rhai_optimizer.specs.Functions.{header_of, FunctionsRun}
-use Rattle.rhai_optimizer.specs.Optimised.{optimises_nothing, AreReducedBodies, IsReducedScript, Optimised, PartsOptimised, PassesCounted}
+use Rattle.rhai_optimizer.specs.Optimised.{optimises_nothing, AreReducedBodies, Becomes, IsReducedScript, Optimised, PartsOptimised, PassesCounted}
 use Rattle.rhai_optimizer.specs.Passes.{Counts}
 use Rattle.rhai_optimizer.specs.Source.{source_of}
 use Rattle.rhai_optimizer.proofs.Bodies.{table_run, functions_to, same_headers, bodies_reduced}
@@ -100,9 +99,9 @@ of_tables k fs fs' to =
     subst (λ gs. FunctionsTo k gs (table_of (map function_of (map rc_value fs')))) (table_meant (map rc_value fs))
     (subst (λ gs. FunctionsTo k (map function_of (definitions_table (map rc_value fs))) gs) (table_meant (map rc_value fs')) to)
 
--- the script that is made of them
-made_of : (ss : List Stmt) (fs : List (Rc ScriptFuncDef Global)) (ast : AST) → ast.body.block ≡ ss → ast.lib.value.functions ≡ definitions_table (map rc_value fs) → source_of ss fs ≡ script_of ast
-made_of ss fs ast body table = λ i. record { statements = stmts_of (sym body i); functions = sym (ap (map function_of) table ∙ table_meant (map rc_value fs)) i }
+-- the script that they stand for
+made_of : (ss : List Stmt) (fs : List (Rc ScriptFuncDef Global)) (s : Contents) → s.statements ≡ ss → s.functions ≡ definitions_table (map rc_value fs) → source_of ss fs ≡ meant s
+made_of ss fs s body table = λ i. record { statements = stmts_of (sym body i); functions = sym (ap (map function_of) table ∙ table_meant (map rc_value fs)) i }
 
 module _ {r : Engine} {start : List ScopeEntry} {ss : List Stmt} {fs : List (Rc ScriptFuncDef Global)} {ss' : List Stmt} {fs' : List (Rc ScriptFuncDef Global)} {number : ℕ} where
   module _ {l : OptimizationLevel} (p : PartsOptimised r start l ss fs ss' fs' number) where
@@ -131,25 +130,25 @@ module _ {r : Engine} {start : List ScopeEntry} {ss : List Stmt} {fs : List (Rc 
   headers_to level.Simple p = table_headers p simple_optimises
   headers_to level.Full p = table_headers p full_optimises
 
-  module _ (ast : AST) (body : ast.body.block ≡ ss') (table : ast.lib.value.functions ≡ definitions_table (map rc_value fs')) where
-    pub whole : (l : OptimizationLevel) → PartsOptimised r start l ss fs ss' fs' number → (ast.source ≡ None) × ((ast.doc ≡ []) × (ast.lib.value.id ≡ None)) → Optimised r start l ss fs ast
-    whole l p unnamed =
-        let to : ScriptTo r (known_at_top r start) (Inside r start ss fs) (source_of ss fs) (script_of ast) = subst (λ q. ScriptTo r (known_at_top r start) (Inside r start ss fs) (source_of ss fs) q) (made_of ss' fs' ast body table) (script_to l p) in
-        let reduced : (l ≢ level.None → IsReducedScript r (script_of ast)) = λ h. subst (λ q. IsReducedScript r q) (made_of ss' fs' ast body table) (source_reduced p h) in
-        record {
-          refines = script_refines to (may_know r start ss fs) (agrees_inside r start (listing ss fs));
-          keeps = script_keeps to;
-          irreducible = λ h w. script_irreducible r (script_of ast) (reduced h) (well_formed_stays to w);
-          reduced = reduced;
-          headers = ap (map header_of) table ∙ headers_to l p;
-          untouched = λ h. (body ∙ (p.none h).0, table ∙ ap definitions_table (p.none h).1.0);
-          unnamed = unnamed;
-        }
+  becomes : (l : OptimizationLevel) → PartsOptimised r start l ss fs ss' fs' number → Becomes r start l (source_of ss fs) (source_of ss' fs')
+  becomes l p = record {
+    refines = script_refines (script_to l p) (may_know r start ss fs) (agrees_inside r start (listing ss fs));
+    keeps = script_keeps (script_to l p);
+    irreducible = λ h w. script_irreducible r (source_of ss' fs') (source_reduced p h) (well_formed_stays (script_to l p) w);
+    reduced = source_reduced p;
+  }
 
-    pub passes_counted : (l : OptimizationLevel) → PartsOptimised r start l ss fs ss' fs' number → PassesCounted r start l (source_of ss fs) (script_of ast) number
-    passes_counted l p =
-        let counts : (l ≢ level.None → Counts (knowing r (known_at_top r start)) number (stmts_of ss) (script_of ast).statements) = λ h. subst (λ (q : Script). Counts (knowing r (known_at_top r start)) number (stmts_of ss) q.statements) (made_of ss' fs' ast body table) (p.counts h) in
-        record { made = counts; within = λ h. counts_within (counts h); none = λ h. (p.none h).1.1 }
+  module _ (before after : Contents) (from : before.statements ≡ ss) (table : before.functions ≡ definitions_table (map rc_value fs)) (to : after.statements ≡ ss') (table' : after.functions ≡ definitions_table (map rc_value fs')) where
+    pub whole : (l : OptimizationLevel) → PartsOptimised r start l ss fs ss' fs' number → (after.source ≡ before.source) × ((after.doc ≡ before.doc) × (after.id ≡ before.id)) → Optimised r start l before after
+    whole l p named = record {
+      script = subst (λ q. Becomes r start l q (meant after)) (made_of ss fs before from table) (subst (λ q. Becomes r start l (source_of ss fs) q) (made_of ss' fs' after to table') (becomes l p));
+      headers = ap (map header_of) table' ∙ headers_to l p ∙ sym (ap (map header_of) table);
+      untouched = λ h. (to ∙ (p.none h).0 ∙ sym from, table' ∙ ap definitions_table (p.none h).1.0 ∙ sym table);
+      named = named;
+    }
+
+  pub passes_counted : (l : OptimizationLevel) → PartsOptimised r start l ss fs ss' fs' number → PassesCounted r start l (stmts_of ss) (stmts_of ss') number
+  passes_counted l p = record { made = p.counts; within = λ h. counts_within (p.counts h); none = λ h. (p.none h).1.1 }
 
 -- ---- at a level
 

@@ -9,5 +9,5 @@ mod names;
 mod optimizer;
 mod passes;
 
-pub use optimizer::{optimize_counted, optimize_into_ast, optimize_top_level};
+pub use optimizer::{optimize_ast, optimize_counted, optimize_into_ast};
 pub use rhai_known::{OptimizationLevel, OptimizerState};

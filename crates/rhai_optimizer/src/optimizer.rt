@@ -4,30 +4,32 @@ ghost use Rattle.std.specs.Map.Iter.{deref};
 ghost use Rattle.std.specs.Option.{option_map};
 ghost use Rattle.std.specs.Rc.{rc_value};
 ghost use Rattle.rhai_engine.specs.EngineInfo.{engine_of};
+ghost use Rattle.rhai_functions.specs.FnKey.{definitions_table};
 ghost use Rattle.rhai_optimizer.specs.Optimised as spec;
-ghost use Rattle.rhai_optimizer.specs.Optimised.{Optimised, PartsOptimised, PassesCounted};
+ghost use Rattle.rhai_optimizer.specs.Optimised.{Optimised, PartsOptimised, PassesCounted, given};
 ghost use Rattle.rhai_optimizer.specs.Passes.{Counts};
 ghost use Rattle.rhai_optimizer.specs.Scopes.{start_of};
-ghost use Rattle.rhai_optimizer.specs.Source.{source_of};
 ghost use Rattle.rhai_reading.specs.Reading.{stmts_of};
-ghost use Rattle.rhai_rewriting.specs.Context.{Whole, knowing};
-ghost use Rattle.rhai_rewriting.specs.Rewriting.{StmtsTo};
+ghost use Rattle.rhai_rewriting.specs.Context.{knowing};
 ghost use Rattle.rhai_rewriting.specs.Scripts.{known_at_top};
 ghost use Rattle.rhai_rewriting.specs.Steps.{IsReducedBody};
-ghost use Rattle.rhai_script.specs.Script.{script_of};
+ghost use Rattle.rhai_script.specs.Contents.{contents};
 
 use crate::cycle::Optimizer;
 use crate::names::push_at_top;
 use rhai_ast::{ScriptFuncDef, Stmt, StmtBlock};
-use rhai_base::{OutOfMemory, Position, Scope};
+use rhai_base::{ImmutableString, OutOfMemory, Position, Scope};
 use rhai_engine::EngineInfo;
+use rhai_functions::{take_id, unshared};
 use rhai_known::{OptimizationLevel, OptimizerState};
 use rhai_nodes::statements_of;
-use rhai_script::{AST, FnLib};
+use rhai_script::{AST, AstParts, FnLib};
 use std::alloc::Global;
 use std::rc::Rc;
 
-/// The statements of a script, optimised in their place, and the number of passes that were made over them.
+/// The statements of a script, optimised in their place, and the number of passes that were made over them. It knows the record's
+/// constants, those of the scope, which hide them, and that the scope's variables are none. Where there is nothing to reduce, it takes
+/// memory for these names alone.
 fn optimize_statements<'a>(
     alloc: Global,
     info: &'a EngineInfo,
@@ -43,25 +45,6 @@ fn optimize_statements<'a>(
     let optimizer = Optimizer { alloc, info };
     let passes = optimizer.passes(&mut state, statements.statements_mut())?;
     Ok((statements, passes))
-}
-
-/// The statements of a script, optimised in their place. It knows the record's constants, those of the scope, which hide them, and that
-/// the scope's variables are none. Where there is nothing to reduce, it takes memory for these names alone. Refused for want of memory
-/// alone; then none are handed out.
-///
-/// rhai keeps it to itself; there it is asked for a level.
-pub fn optimize_top_level<'a>(
-    alloc: Global,
-    info: &'a EngineInfo,
-    scope: Option<&'a Scope>,
-    statements: StmtBlock,
-) -> Result<StmtBlock, OutOfMemory>
-    ensures to { IfOk result (λ optimised. StmtsTo (knowing (engine_of info.now) (known_at_top (engine_of info.now) (start_of (option_map deref scope.entry)))) Whole true true (stmts_of statements.block) (stmts_of optimised.block)) }
-    ensures reduced { IfOk result (λ optimised. IsReducedBody (engine_of info.now) (stmts_of optimised.block)) }
-    ensures span { IfOk result (λ optimised. optimised.span ≡ statements.span) }
-{
-    let (statements, _) = optimize_statements(alloc, info, scope, statements)?;
-    Ok(statements)
 }
 
 /// Whether nothing is optimised at a level.
@@ -104,8 +87,8 @@ pub fn optimize_counted(
     functions: Vec<Rc<ScriptFuncDef>>,
     level: OptimizationLevel,
 ) -> Result<(AST, u64), OutOfMemory>
-    ensures promise { IfOk result (λ r. Optimised (engine_of info.now) (start_of (option_map deref scope.entry)) level statements.items functions.items r.0) }
-    ensures passes { IfOk result (λ r. PassesCounted (engine_of info.now) (start_of (option_map deref scope.entry)) level (source_of statements.items functions.items) (script_of r.0) r.1) }
+    ensures promise { IfOk result (λ r. Optimised (engine_of info.now) (start_of (option_map deref scope.entry)) level (given statements.items functions.items) (contents r.0)) }
+    ensures passes { IfOk result (λ r. PassesCounted (engine_of info.now) (start_of (option_map deref scope.entry)) level (stmts_of statements.items) (stmts_of (contents r.0).statements) r.1) }
 {
     let block = StmtBlock::new(statements, Position::NONE, Position::NONE);
     let (block, functions, passes) = optimize_parts(alloc, info, scope, block, functions, level)?;
@@ -128,8 +111,52 @@ pub fn optimize_into_ast(
     functions: Vec<Rc<ScriptFuncDef>>,
     level: OptimizationLevel,
 ) -> Result<AST, OutOfMemory>
-    ensures { IfOk result (λ ast. Optimised (engine_of info.now) (start_of (option_map deref scope.entry)) level statements.items functions.items ast) }
+    ensures { IfOk result (λ ast. Optimised (engine_of info.now) (start_of (option_map deref scope.entry)) level (given statements.items functions.items) (contents ast)) }
 {
     let (ast, _) = optimize_counted(alloc, info, scope, statements, functions, level)?;
     Ok(ast)
+}
+
+/// The script optimised at a level, as `optimize_into_ast` does it. It keeps its source, its doc and the id of its table. A function that
+/// no other script shares is optimised in its place. Refused for want of memory alone; then no script is handed out.
+///
+/// A method of `Engine` in rhai.
+pub fn optimize_ast(
+    alloc: Global,
+    info: &EngineInfo,
+    scope: Option<&Scope>,
+    ast: AST,
+    level: OptimizationLevel,
+) -> Result<AST, OutOfMemory>
+    ensures { IfOk result (λ made. Optimised (engine_of info.now) (start_of (option_map deref scope.entry)) level (contents ast) (contents made)) }
+{
+    let AstParts {
+        source,
+        doc,
+        body,
+        lib,
+    } = ast.into_parts();
+    let (id, functions) = unshared(lib)?.into_parts()?;
+    let (body, functions, _) = optimize_parts(alloc, info, scope, body, functions, level)?;
+    let lib = Rc::new(alloc, named_lib(alloc, id, functions)?)?;
+    Ok(AST::from_parts(AstParts {
+        source,
+        doc,
+        body,
+        lib,
+    }))
+}
+
+/// The table of these functions with this id.
+fn named_lib(
+    alloc: Global,
+    id: Option<ImmutableString>,
+    functions: Vec<Rc<ScriptFuncDef>>,
+) -> Result<FnLib, OutOfMemory>
+    ensures id { IfOk result (λ lib. lib.id ≡ id) }
+    ensures functions { IfOk result (λ lib. lib.functions ≡ definitions_table (map rc_value functions.items)) }
+{
+    let mut lib = FnLib::from_functions(alloc, functions)?;
+    take_id(&mut lib, id);
+    Ok(lib)
 }

@@ -1,24 +1,23 @@
 -- What `show` prints, and what the optimiser makes of a built-in script.
-use Rattle.std.proofs.Common.{◌≡◌, ◌≢◌, List, [], ◌++◌, codes, map, ap, ◌∙◌, sym, subst}
+use Rattle.std.proofs.Common.{◌≡◌, ◌≢◌, List, [], ◌++◌, codes, map, ap, ◌∙◌, subst}
 use Rattle.std.specs.declared.alloc.Global.{Global}
 use Rattle.std.specs.declared.rc.Rc.{Rc}
 use Rattle.std.specs.Rc.{rc_value}
 use Rattle.rhai_values.specs.Value.{Text}
 use Rattle.rhai_meaning.specs.Act.{ScopeEntry}
 use Rattle.rhai_meaning.specs.Engine.{Engine}
-use Rattle.rhai_meaning.specs.Tree.{Stmts, Script, Function}
+use Rattle.rhai_meaning.specs.Tree.{Script}
 use Rattle.rhai_reading.specs.Reading.{stmts_of, function_of}
 use Rattle.rhai_tree.specs.declared.script_fn.ScriptFuncDef.{ScriptFuncDef}
 use Rattle.rhai_tree.specs.declared.stmt.Stmt.{Stmt}
-use Rattle.rhai_functions.specs.FnKey.{definitions_table}
-use Rattle.rhai_functions.specs.FnLib.{functions_of}
 use Rattle.rhai_functions.specs.Table.{table_of}
+use Rattle.rhai_script.specs.Contents.{Contents, contents, meant}
 use Rattle.rhai_script.specs.Script.{script_of}
 use Rattle.rhai_script.specs.declared.ast.AST.{AST}
 use Rattle.rhai_engine.specs.EngineInfo.{nothing_set}
 use Rattle.rhai_rewriting.specs.Refines.{Refines, RefinesWhere}
 use Rattle.rhai_rewriting.proofs.simulation.Agreement.{agrees_nothing}
-use Rattle.rhai_optimizer.specs.Optimised.{Optimised}
+use Rattle.rhai_optimizer.specs.Optimised.{given, Optimised}
 use Rattle.rhai_optimizer.specs.Source.{source_of}
 use Rattle.rhai_optimizer.proofs.Whole.{table_meant}
 use Rattle.rhai_known.specs.declared.level.OptimizationLevel.{OptimizationLevel}
@@ -41,18 +40,20 @@ from_any_scope : {engine : Engine} {p p' : Script} → RefinesWhere engine [] p 
 from_any_scope {engine = engine} q = record { runs = λ host scope e. q.runs host scope e (agrees_nothing engine.constants scope) }
 
 -- the optimiser's answer for a script, under a record with nothing set and without a scope
-optimized_script : (at : OptimizationLevel) (ss : List Stmt) (fs : List (Rc ScriptFuncDef Global)) (ast : AST) → Optimised nothing_set [] at ss fs ast → Optimized at (source_of ss fs) (script_of ast)
-optimized_script at ss fs ast o = record {
-  runs = from_any_scope o.refines;
-  keeps = o.keeps;
-  untouched = λ h. let z = o.untouched h in (λ i. record { statements = stmts_of (z.0 i); functions = (ap (map function_of) z.1 ∙ table_meant (map rc_value fs)) i });
-  irreducible = o.irreducible;
-  reduced = o.reduced;
-}
+optimized_script : (at : OptimizationLevel) (ss : List Stmt) (fs : List (Rc ScriptFuncDef Global)) (s : Contents) → Optimised nothing_set [] at (given ss fs) s → Optimized at (source_of ss fs) (meant s)
+optimized_script at ss fs s o = subst (λ p. Optimized at p (meant s)) (λ i. record { statements = stmts_of ss; functions = table_meant (map rc_value fs) i }) given_made where
+  given_made : Optimized at (meant (given ss fs)) (meant s)
+  given_made = record {
+    runs = from_any_scope o.script.refines;
+    keeps = o.script.keeps;
+    untouched = λ h. let z = o.untouched h in (λ i. record { statements = stmts_of (z.0 i); functions = map function_of (z.1 i) });
+    irreducible = o.script.irreducible;
+    reduced = o.script.reduced;
+  }
 
 pub optimized_built_in : (at : OptimizationLevel) (engine : Engine) (start : List ScopeEntry) (ss : List Stmt) (fs : List (Rc ScriptFuncDef Global)) (script : BuiltinScript) (ast : AST)
     → engine ≡ nothing_set → start ≡ [] → stmts_of ss ≡ statements_of script → map function_of (map rc_value fs) ≡ script_functions script
-    → Optimised engine start at ss fs ast → Optimized at (built_in script) (script_of ast)
+    → Optimised engine start at (given ss fs) (contents ast) → Optimized at (built_in script) (script_of ast)
 optimized_built_in at engine start ss fs script ast e none statements functions o =
     let source : source_of ss fs ≡ built_in script = λ i. record { statements = statements i; functions = table_of (functions i) } in
-    subst (λ p. Optimized at p (script_of ast)) source (optimized_script at ss fs ast (subst (λ es. Optimised nothing_set es at ss fs ast) none (subst (λ x. Optimised x start at ss fs ast) e o)))
+    subst (λ p. Optimized at p (script_of ast)) source (optimized_script at ss fs (contents ast) (subst (λ es. Optimised nothing_set es at (given ss fs) (contents ast)) none (subst (λ x. Optimised x start at (given ss fs) (contents ast)) e o)))

@@ -12,7 +12,7 @@ use Rattle.rhai_meaning.specs.Faults.{has_operands}
 use Rattle.rhai_meaning.specs.Queries.{is_control_flow_break, is_pure_expr, are_pure_exprs, are_pure_pairs, is_pure}
 use Rattle.rhai_meaning.specs.Queries.{is_unit as is_unit_expr}
 use Rattle.rhai_meaning.specs.Shape.{is_unit, is_rest, is_left_side, condition_at, case_fits, spares, default_fits, is_table}
-use Rattle.rhai_meaning.specs.Tree.{ChainFlags, SwitchTable, Callee, Expr, DynamicConstant, BoolConstant, UnitConstant, InterpolatedString, ArrayOf, MapOf, Variable, ThisPtr, Property, BlockExpr, FnCall, Dot, Index, And, Or, Coalesce, Exprs, no_exprs, expr, Pairs, no_pairs, pair, Arms, no_arms, arm, count_arms, Stmt, Noop, If, Switch, While, Assignment, Var, FnCallStmt, ExprStmt, Return, an_expr, Stmts, no_stmts, stmt, IntegerConstant, CharConstant, StringConstant}
+use Rattle.rhai_meaning.specs.Tree.{ChainFlags, SwitchTable, Callee, Expr, DynamicConstant, BoolConstant, UnitConstant, InterpolatedString, ArrayOf, MapOf, Variable, ThisPtr, Property, BlockExpr, FnCall, Dot, Index, And, Or, Coalesce, Exprs, no_exprs, expr, Pairs, no_pairs, pair, Arms, no_arms, arm, count_arms, Stmt, Noop, If, Switch, While, Assignment, Var, FnCallStmt, ExprStmt, Return, an_expr, Stmts, no_stmts, stmt, IntegerConstant, CharConstant, StringConstant, Block}
 use Rattle.rhai_meaning.specs.Walk.{Node, OfExpr, OfStmt, Spot, RightSide, every, over_stmts, arms_at, arm_at, listed}
 use Rattle.rhai_meaning.proofs.Walk.{Alongside, stmts_alongside}
 use Rattle.rhai_parts.specs.Names.{are_all}

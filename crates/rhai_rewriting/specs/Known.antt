@@ -2,7 +2,7 @@
 use Rattle.std.specs.Prelude.{◌≡◌, true, cond, List, [], ◌∷◌, Option, Some, None}
 use Rattle.rhai_values.specs.Value.{Text, Value, same_text}
 use Rattle.rhai_meaning.specs.Engine.{Binding}
-use Rattle.rhai_meaning.specs.Act.{ScopeEntry, found}
+use Rattle.rhai_meaning.specs.Act.{ScopeEntry, is_constant, found}
 
 -- a name, with its value where it is a constant
 pub record Known : Type 0 where
@@ -36,7 +36,7 @@ shadow_all (x ∷ xs) ks = shadow_all xs (shadow x ks)
 -- a constant of this value, or no name at all: then a run that reads it is stuck
 abbrev pub Fits : Value → Option ScopeEntry → Type 0
 Fits v None = Unit {0}
-Fits v (Some e) = (e.constant ≡ true) × (e.value ≡ v)
+Fits v (Some e) = (is_constant e.kind ≡ true) × (e.value ≡ v)
 
 -- in a scope and the record's constants
 pub record Agrees (bs : List Binding) (ks : List Known) (es : List ScopeEntry) : Type 0 where

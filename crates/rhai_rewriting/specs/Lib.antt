@@ -35,6 +35,7 @@ pub mod WorkedKnown
 pub mod WorkedLists
 pub mod WorkedListConditions
 pub mod WorkedQueries
+pub mod WorkedModules
 pub mod Passes
 pub mod Kept
 pub mod Reports

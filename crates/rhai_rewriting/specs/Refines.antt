@@ -9,7 +9,7 @@ use Rattle.rhai_meaning.specs.Tree.{Script}
 use Rattle.rhai_rewriting.specs.Known.{Known, Agrees}
 
 -- A run by its number of turns: with some number of turns it ends in this outcome and this store.
--- The store holds the scope, `this` and the host calls in order.
+-- The store holds the scope with its names, aliases and exports, `this`, and the host calls in order.
 abbrev pub EndsSo : (ℕ → Result) → Outcome → Store → Type 0
 EndsSo r o s = (n : ℕ) × (left : ℕ) × (r n ≡ At o s left)
 

@@ -19,10 +19,11 @@ abbrev pub is_out_of_turns : End → Bool
 is_out_of_turns WithoutTurns = true
 is_out_of_turns _ = false
 
--- the same end, the same variables, the same last `this` and the same calls, with as many turns left at least
+-- the same end, the same variables, the same exports, the same last `this` and the same calls, with as many turns left at least
 pub record EndsAs (r r' : Report) : Type 0 where
   pub ended : r'.ended ≡ r.ended
   pub variables : r'.variables ≡ r.variables
+  pub exports : r'.exports ≡ r.exports
   pub this : r'.this ≡ r.this
   pub calls : r'.calls ≡ r.calls
   pub turns : r.turns ≤ r'.turns

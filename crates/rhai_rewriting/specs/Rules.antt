@@ -48,7 +48,7 @@ spliced b no_stmts (stmt s back) = stmt s back
 spliced true no_stmts no_stmts = stmt Noop no_stmts
 spliced false no_stmts no_stmts = no_stmts
 
--- a list inside takes away the names that it adds
+-- a list inside takes away what it adds to the scope
 abbrev pub is_pure_in : ListKind → Stmt → Bool
 is_pure_in Whole s = is_pure s
 is_pure_in (Inside b) s = is_internally_pure s
@@ -169,7 +169,7 @@ pub data ListRule (k : Context) : ListKind → Bool → Stmts → Stmts → Type
   -- a pure statement goes where its value is not wanted, and so does a name alone
   pure_goes : {m : ListKind} {u : Bool} {s : Stmt} {ss : Stmts} → wanted_before (wanted m) ss ≡ false → is_pure s ≡ true → ListRule k m u (stmt s ss) ss
   lone_goes : {m : ListKind} {u : Bool} {ns : List Text} {x : Text} {ss : Stmts} → wanted_before (wanted m) ss ≡ false → ListRule k m u (stmt (ExprStmt (Variable ns x)) ss) ss
-  -- inside a declaration does too, where nothing that follows reads a name or exports one
+  -- inside a declaration or an `import` does too, where nothing that follows reads a name or exports one
   pure_inside_goes : {b u : Bool} {s : Stmt} {ss : Stmts} → wanted_before b ss ≡ false → is_internally_pure s ≡ true → are_internally_pure ss ≡ true → exports_nothing ss ≡ true → ListRule k (Inside b) u (stmt s ss) ss
   -- a last `return e` of a script or a function is `e`; a last `return;` goes behind unit, and else does nothing
   last_return : {u exported : Bool} {e : Expr} → ListRule k Whole u (stmt (Return false exported (an_expr e)) no_stmts) (stmt (ExprStmt e) no_stmts)

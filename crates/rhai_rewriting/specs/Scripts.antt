@@ -1,7 +1,7 @@
 -- Scripts whose statements and functions are rewritten, and what is known where.
 use Rattle.std.specs.Prelude.{◌≡◌, Bool, true, false, not, ◌&&◌, List, [], ◌∷◌, ◌++◌, Option, Some, None, cond}
-use Rattle.rhai_values.specs.Value.{Text}
-use Rattle.rhai_meaning.specs.Act.{ScopeEntry, Root}
+use Rattle.rhai_values.specs.Value.{Text, Value}
+use Rattle.rhai_meaning.specs.Act.{EntryKind, IsConstant, ScopeEntry, Root}
 use Rattle.rhai_meaning.specs.Desugar.{root_of, ends_in_call}
 use Rattle.rhai_meaning.specs.Engine.{Engine, Binding}
 use Rattle.rhai_meaning.specs.Plain.{all_true}
@@ -14,10 +14,14 @@ use Rattle.rhai_rewriting.specs.Rewriting.{StmtsTo}
 
 -- ---- what is known at the start
 
+abbrev pub fixed_value : EntryKind → Value → Option Value
+fixed_value IsConstant v = Some v
+fixed_value _ v = None
+
 -- a scope's constants, and that its variables are none
 abbrev pub known_in : List ScopeEntry → List Known
 known_in [] = []
-known_in (e ∷ es) = record { name = e.name; value = cond e.constant (Some e.value) None } ∷ known_in es
+known_in (e ∷ es) = record { name = e.name; value = fixed_value e.kind e.value } ∷ known_in es
 
 -- the record's constants, a later one of a name first
 abbrev pub known_of : List Binding → List Known

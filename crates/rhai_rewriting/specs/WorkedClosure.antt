@@ -3,7 +3,7 @@
 use Rattle.std.specs.Prelude.{◌≡◌, Bool, true, false, [], ◌∷◌, Option, Some, None, codes, refl}
 use Rattle.std.proofs.Common.{subst}
 use Rattle.rhai_values.specs.Value.{Text, Value, BoolV}
-use Rattle.rhai_meaning.specs.Act.{ScopeEntry}
+use Rattle.rhai_meaning.specs.Act.{ScopeEntry, IsConstant}
 use Rattle.rhai_meaning.specs.Tree.{ChainFlags, Callee, NoToken, SwitchTable, Expr, BoolConstant, InterpolatedString, MapOf, Variable, MethodCall, BlockExpr, Dot, Index, And, Or, Coalesce, no_exprs, expr, exprs, no_pairs, pair, an_expr, no_arms, arm, If, Switch, While, Do, For, Var, Assignment, FnCallStmt, TryCatch, ExprStmt, BreakLoop, Return, no_stmts, stmts, Function, Script, FnCall, Import}
 use Rattle.rhai_meaning.specs.WorkedForms.{int, nothing_set, i}
 use Rattle.rhai_rewriting.specs.Context.{Context, under, noting, Whole}
@@ -178,7 +178,7 @@ loop_row = in_for (by_expr_rule (known_name (BoolV true) refl)) (in_head (in_exp
 -- ---- scripts
 
 abbrev scope : ScopeEntry
-scope = record { name = codes "x"; constant = true; value = BoolV true }
+scope = record { name = codes "x"; kind = IsConstant; value = BoolV true }
 
 -- fn g(y) { x }, where no call captures, and fn g(x) { x }
 abbrev function : Text → Expr → Function

@@ -3,6 +3,7 @@ use Rattle.std.specs.Prelude.{◌≡◌, Bool, true, false, [], ◌∷◌, Some,
 use Prim.Native.String.{String}
 use Rattle.rhai_values.specs.Value.{Value}
 use Rattle.rhai_meaning.specs.Act.{ScopeEntry}
+use Rattle.rhai_meaning.specs.Desugar.{name_kind}
 use Rattle.rhai_meaning.specs.WorkedForms.{i}
 use Rattle.rhai_rewriting.specs.Known.{Known, look, shadow, shadow_all, Fits}
 
@@ -10,7 +11,7 @@ abbrev constant : String → Value → Known
 constant x v = record { name = codes x; value = Some v }
 
 abbrev entry : String → Bool → Value → ScopeEntry
-entry x c v = record { name = codes x; constant = c; value = v }
+entry x c v = record { name = codes x; kind = name_kind c; value = v }
 
 known_constant : look (constant "y" (i 2) ∷ constant "x" (i 1) ∷ []) (codes "x") ≡ Some (i 1)
 known_constant = refl

@@ -32,7 +32,7 @@ variable_stays = (refl, refl)
 -- a name with a namespace is another one: const x = 1; ns::x, and const x = #{a: 1}; ns::x.a, ns::x["a"], where the host's
 -- modules have a value for ns::x
 abbrev in_module : Value → Host
-in_module v = record { answer = λ past c. Answers UnitV None; module_value = λ y. Some v }
+in_module v = record { answer = λ past c. Answers UnitV None; module_value = λ y. Some v; module_of = λ p. None }
 
 abbrev of_module : Expr
 of_module = Variable (codes "ns" ∷ []) (codes "x")
@@ -228,11 +228,11 @@ else_outside = (refl, refl)
 -- ---- bases of chains
 
 abbrev answering : Host
-answering = record { answer = λ past c. Answers (i 1) None; module_value = λ y. None }
+answering = record { answer = λ past c. Answers (i 1) None; module_value = λ y. None; module_of = λ p. None }
 
 -- a base that is no place doesn't become one: let x = 1; (() ?? x).m(), and x.m(), where the method gives its receiver 2
 abbrev renewing : Host
-renewing = record { answer = λ past c. Answers UnitV (Some (i 2)); module_value = λ y. None }
+renewing = record { answer = λ past c. Answers UnitV (Some (i 2)); module_value = λ y. None; module_of = λ p. None }
 
 abbrev calls_method : Expr → List Stmt
 calls_method e = let' "x" (int 1) ∷ show (Dot dot e (MethodCall (named (codes "m") false) (exprs []))) ∷ []
@@ -287,7 +287,7 @@ assignment_inside = (refl, refl)
 
 -- a method may give its receiver another value: x = x + x.f() where f makes it 5 and answers 1
 abbrev changing : Host
-changing = record { answer = λ past c. Answers (i 1) (Some (i 5)); module_value = λ x. None }
+changing = record { answer = λ past c. Answers (i 1) (Some (i 5)); module_value = λ x. None; module_of = λ p. None }
 
 abbrev method : Expr
 method = Dot dot (var "x") (MethodCall (named (codes "f") false) (exprs []))

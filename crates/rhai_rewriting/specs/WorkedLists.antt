@@ -4,7 +4,7 @@ use Prim.Native.String.{String}
 use native.Mathlib.Bridge.{le_by_compare, IsLe}
 use Rattle.rhai_values.specs.Value.{Value, UnitV, ArrayV, MapV, PointerV, values, field, no_fields}
 use Rattle.rhai_base.specs.Operators.{Plus, computed}
-use Rattle.rhai_meaning.specs.Act.{HostCall, ScopeEntry, WrongKind}
+use Rattle.rhai_meaning.specs.Act.{IsVariable, IsConstant, HostCall, ScopeEntry, WrongKind}
 use Rattle.rhai_meaning.specs.Run.{End, Report, WithValue, WithStuck}
 use Rattle.rhai_meaning.specs.Tree.{Expr, DynamicConstant, StringConstant, BoolConstant, UnitConstant, Variable, Dot, Index, And, no_expr, an_expr, Stmt, Noop, If, While, For, Var, Block, TryCatch, ExprStmt, Return, Share, exprs, stmts, Assignment, BlockExpr}
 use Rattle.rhai_meaning.specs.WorkedForms.{int, nothing_set, joining, ran, ends, i, op, call}
@@ -24,14 +24,14 @@ abbrev pub const : String → Expr → Stmt
 const x e = Var true false (codes x) e
 
 abbrev pub variable : String → Value → ScopeEntry
-variable x v = record { name = codes x; constant = false; value = v }
+variable x v = record { name = codes x; kind = IsVariable; value = v }
 
 abbrev pub constant : String → Value → ScopeEntry
-constant x v = record { name = codes x; constant = true; value = v }
+constant x v = record { name = codes x; kind = IsConstant; value = v }
 
 -- an end with these variables
 abbrev pub ends_with : End → List ScopeEntry → List HostCall → Report
-ends_with e vs cs = record { ended = e; variables = vs; this = None; calls = cs; turns = 0 }
+ends_with e vs cs = record { ended = e; variables = vs; exports = []; this = None; calls = cs; turns = 0 }
 
 abbrev t : Expr
 t = BoolConstant true

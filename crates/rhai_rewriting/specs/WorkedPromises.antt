@@ -34,13 +34,13 @@ one_that_changes p = absurd (let z : 2 ≤ 1 = p.changed (λ e. cc) in omega (ar
 -- ---- reports
 
 abbrev ended : End → List HostCall → ℕ → Report
-ended e calls turns = record { ended = e; variables = []; this = None; calls = calls; turns = turns }
+ended e calls turns = record { ended = e; variables = []; exports = []; this = None; calls = calls; turns = turns }
 
 abbrev asked : List HostCall
 asked = record { name = codes "f"; receiver = None; arguments = [] } ∷ []
 
 itself : Follows (ended (WithValue (i 1)) asked 3) (ended (WithValue (i 1)) asked 3)
-itself = record { same_end = λ h. record { ended = refl; variables = refl; this = refl; calls = refl; turns = omega arith }; same_calls = here }
+itself = record { same_end = λ h. record { ended = refl; variables = refl; exports = refl; this = refl; calls = refl; turns = omega arith }; same_calls = here }
 
 another_value : Follows (ended (WithValue (i 1)) [] 0) (ended (WithValue (i 2)) [] 0) → ⊥
 another_value f = absurd (let z = (f.same_end refl).ended in cc)
@@ -53,6 +53,9 @@ fewer_turns f = absurd (let z : 1 ≤ 0 = (f.same_end refl).turns in omega (arit
 
 a_call_less : Follows (ended (WithValue UnitV) asked 0) (ended (WithValue UnitV) [] 0) → ⊥
 a_call_less f = absurd (let z = (f.same_end refl).calls in cc)
+
+an_export_less : Follows (record (ended (WithValue UnitV) [] 0) { exports = (codes "x", i 1) ∷ [] }) (ended (WithValue UnitV) [] 0) → ⊥
+an_export_less f = absurd (let z = (f.same_end refl).exports in cc)
 
 -- what is endless may not end
 end_of_the_endless : ReportsFollow (λ n. ended WithoutTurns [] 0) (λ n. ended (WithValue UnitV) [] n) → ⊥

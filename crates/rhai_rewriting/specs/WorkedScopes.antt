@@ -59,7 +59,7 @@ capture = (refl, refl)
 
 -- let x = 1; { x }.m(); f(x): a base that becomes a name is changed by its method
 abbrev renewing : Host
-renewing = record { answer = λ past c. Answers UnitV (Some (i 2)); module_value = λ y. None }
+renewing = record { answer = λ past c. Answers UnitV (Some (i 2)); module_value = λ y. None; module_of = λ p. None }
 
 abbrev based : Expr → List Stmt
 based e = Var false false (codes "x") (int 1) ∷ ExprStmt (Dot (record { negated = false; breaks = true; exported = false }) e (MethodCall (record { namespace = []; name = codes "m"; captures = false; token = NoToken }) (exprs []))) ∷ f x ∷ []

@@ -1,12 +1,13 @@
 -- Arrays, and braces by what they hold.
 use Rattle.std.proofs.Common.{◌≡◌, ◌≢◌, ◌≤◌, Bool, true, false, not, ◌&&◌, List, [], ◌∷◌, length, map, ◌↔◌, IsTrue, Option, Some, None, refl, sym, ap, ◌∙◌, subst, arith}
+use Rattle.std.specs.Prelude.{is_some}
 use Rattle.rhai_tree.specs.declared.stmt.Stmt as declared_stmt
 use Rattle.rhai_reading.specs.Reading.{stmts_of}
 use Rattle.rhai_parts.specs.declared.ident.Ident.{Ident}
 use Rattle.rhai_rewriting.specs.Known.{Known, look}
 use Rattle.rhai_values.specs.Value.{Text, Value, ArrayV, values, is_unit}
-use Rattle.rhai_meaning.specs.Constants.{array_value, constant_values, constant_for, is_constant, is_literal_unit, literal_value}
-use Rattle.rhai_meaning.specs.Engine.{Engine, or_else}
+use Rattle.rhai_meaning.specs.Constants.{array_value, constant_values, constant_for, constant_value, is_constant, is_literal_unit}
+use Rattle.rhai_meaning.specs.Engine.{Engine}
 use Rattle.rhai_meaning.specs.Queries.{is_unit as is_unit_expr}
 use Rattle.rhai_meaning.specs.Tree.{Expr, ArrayOf, UnitConstant, Variable, ThisPtr, BlockExpr, Exprs, Stmt, ExprStmt, Stmts, no_stmts, stmt}
 use Rattle.rhai_rewriting.specs.Context.{Context}
@@ -15,6 +16,7 @@ use Rattle.rhai_rewriting.specs.Rules as rule
 use Rattle.rhai_rewriting.specs.Rules.{ExprRule}
 use Rattle.rhai_rewriting.specs.Steps.{Progress, Place, Anywhere, AsBase, AsGuard}
 use Rattle.rhai_rewriting.proofs.Keeping.{keeps_constant, may_be_constant}
+use Rattle.rhai_steps.specs.Folded.{FoldsConstant}
 use Rattle.rhai_steps.specs.NodeSteps.{Puts, ExprStep}
 use Rattle.rhai_steps.specs.Standing.{is_root, may_stand}
 use Rattle.rhai_steps.proofs.Places.{not-false, not-true}
@@ -23,13 +25,13 @@ use Rattle.rhai_rules.specs.Settled.{known_value, is_array, is_braces, value_of_
 
 -- ---- arrays
 
-alone : {A : Type 0} (o : Option A) → or_else o None ≡ o
-alone None = refl
-alone (Some x) = refl
+array_constant : (e : Expr) → is_array e ≡ true → constant_value e ≡ value_of_array e
+array_constant (ArrayOf es) h = refl
+array_constant _ h = absurd cc
 
-pub array_literal : (e : Expr) → is_array e ≡ true → literal_value e ≡ value_of_array e
-array_literal (ArrayOf es) h = alone (array_value (constant_values es))
-array_literal _ h = absurd cc
+none_of : (o : Option Value) → is_some o ≡ false → None ≡ o
+none_of None h = refl
+none_of (Some v) h = absurd cc
 
 no_array : (o : Option (List Value)) → None ≡ array_value o → o ≡ None
 no_array None h = refl
@@ -46,15 +48,21 @@ array_folds {k = k} {es = es} {v = v} (Some vs) i h =
     subst (λ x. ExprRule k (ArrayOf es) (constant_for x)) same (rule.array_of_constants i)
 
 -- the value of an array of constants took its place
-pub array_put : {s s' : Progress} {e' : Expr} {v : Value} (e : Expr) → is_array e ≡ true → Some v ≡ value_of_array e → Puts s s' e' v → (r : Engine) (p : Place) → ExprStep true r p s s' e e'
+array_put : {s s' : Progress} {e' : Expr} {v : Value} (e : Expr) → is_array e ≡ true → Some v ≡ value_of_array e → Puts s s' e' v → (r : Engine) (p : Place) → ExprStep true r p s s' e e'
 array_put {s = s} {s' = s'} {v = v} (ArrayOf es) i h q r p =
     subst (λ a. ExprStep true r p s s' (ArrayOf es) a) (sym q.constant)
     (record { rule = array_folds (constant_values es) refl h; stays = may_be_constant p (ArrayOf es) v refl refl (array_not_unit (constant_values es) v h); fired = q.fired; known = q.known }, keeps_constant (ArrayOf es) v)
 array_put _ i h q r p = absurd cc
 
-pub array_stays : {s : Progress} (e : Expr) → is_array e ≡ true → None ≡ value_of_array e → (r : Engine) (p : Place) → ExprStep false r p s s e e
+array_stays : {s : Progress} (e : Expr) → is_array e ≡ true → None ≡ value_of_array e → (r : Engine) (p : Place) → ExprStep false r p s s e e
 array_stays (ArrayOf es) i h r p = expr_stays (no_array (constant_values es) h) refl (λ q. refl)
 array_stays _ i h r p = absurd cc
+
+pub array_step : (b : Bool) (s s' : Progress) (e e' : Expr) → is_array e ≡ true → FoldsConstant b s s' e e' → (r : Engine) (p : Place) → ExprStep b r p s s' e e'
+array_step true s s' e e' i f r p = array_put e i (sym f.1 ∙ array_constant e i) f.2 r p
+array_step false s s' e e' i f r p =
+    subst (λ a. ExprStep false r p s s' e a) (sym f.2)
+    (subst (λ t. ExprStep false r p s t e e) (sym f.1) (array_stays e i (none_of (constant_value e) f.0 ∙ array_constant e i) r p))
 
 -- ---- lists of none, of one and of more
 

@@ -9,13 +9,13 @@ use Rattle.rhai_meaning.specs.Core as core
 use Rattle.rhai_meaning.specs.Desugar.{core_function, core_script, core_stmts}
 use Rattle.rhai_meaning.specs.Engine.{Engine}
 use Rattle.rhai_meaning.specs.Meaning.{acts}
-use Rattle.rhai_meaning.specs.Run.{AtStatements, Report, end_of, report_of, run_script, world_of}
+use Rattle.rhai_meaning.specs.Run.{AtStatements, Report, end_of, exports, names, report_of, run_script, world_of}
 use Rattle.rhai_meaning.specs.Tree.{Script}
 use Rattle.rhai_state.specs.declared.state.Interrupt.{Interrupt}
 use Rattle.rhai_state.specs.declared.state.Interrupt.TheVariants.{NoMemory, Return, Break, Continue, Throw, Stuck, OutOfTurns}
 use Rattle.rhai_state.specs.declared.state.State.{State}
 use Rattle.rhai_host.specs.declared.report.RunEnd.{RunEnd}
-use Rattle.rhai_host.specs.Entries.{variable_meant}
+use Rattle.rhai_state.specs.Entries.{entry_meant}
 use Rattle.rhai_state.specs.Evaluating.{EndsAs, RunsStmts}
 use Rattle.rhai_host.specs.Host.{call_meant}
 use Rattle.rhai_host.specs.Report.{end_meant, ReportsRun}
@@ -29,7 +29,7 @@ abbrev pub script_setting : Engine → Host → Script → Setting
 script_setting engine host p = let fs = (map core_function p.functions) in setting_of (world_of engine host fs) fs
 
 abbrev report_at : State → RunEnd → Report
-report_at s e = record { ended = end_meant e; variables = map variable_meant s.scope.items; this = None; calls = map call_meant s.calls; turns = s.turns }
+report_at s e = record { ended = end_meant e; variables = names (map entry_meant s.scope.items); exports = exports (map entry_meant s.scope.items); this = None; calls = map call_meant s.calls; turns = s.turns }
 
 -- the run with one host is that with each that answers the calls alike
 with_agreeing : (engine : Engine) (host : Host) (p : core.Script) (scope : List ScopeEntry) (n : ℕ) (r : Report) → r ≡ report_of AtStatements (run_script engine host p AtStatements scope n) → ReportsRun engine host p scope n r
@@ -46,7 +46,7 @@ module _ (engine : Engine) (host : Host) (p : Script) (scope : List ScopeEntry) 
       let ran : run_all here.world (env here n) whole_acts (store_of s) s.turns ≡ At o (store_of s1) s1.turns = q.runs n (omega (arith, turns)) in
       let this : (store_of s1).this ≡ None = sym (ap (λ r. (store_after r).this) ran) ∙ unbound_all here.world (env here n) whole_acts (store_of s) s.turns (ap (λ st. st.this) at_start) in
       sym (ap (λ r. report_of AtStatements (returned r)) ((λ i. run_all here.world (env here n) whole_acts (sym at_start i) (sym turns i)) ∙ ran)
-      ∙ (λ i. record { ended = sym h i; variables = reversed_twice (map variable_meant s1.scope.items) i; this = this i; calls = map call_meant s1.calls; turns = s1.turns }))
+      ∙ (λ i. record { ended = sym h i; variables = names (reversed_twice (map entry_meant s1.scope.items) i); exports = exports (reversed_twice (map entry_meant s1.scope.items) i); this = this i; calls = map call_meant s1.calls; turns = s1.turns }))
 
   ended_report : (ended : Result Dynamic Interrupt) (e : RunEnd) → EndsAs ended e → RunsStmts (script_setting engine host p) false p.statements s ended s1 → report_at s1 e ≡ report_of AtStatements (run_script engine host (core_script p) AtStatements scope n)
   ended_report (Ok v) e h q = outcome_report _ e (ap end_meant h) (q true)

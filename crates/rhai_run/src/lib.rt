@@ -5,5 +5,5 @@
 mod run;
 
 pub use rhai_engine::EngineInfo;
-pub use rhai_host::{Host, HostAnswer, HostCall, RunEnd, RunReport, Stuck, Variable};
+pub use rhai_host::{Export, Host, HostAnswer, HostCall, RunEnd, RunReport, Stuck, Variable};
 pub use run::plain_run;

@@ -1,9 +1,12 @@
 -- What a script is: a source, a doc, a list of statements and a table of functions with an id; and what is made of two.
-use Rattle.std.specs.Prelude.{List, [], ◌++◌, Option, None}
+use Rattle.std.specs.Prelude.{List, [], ◌++◌, map, Option, None}
 use Rattle.rhai_values.specs.Value.{Text}
 use Rattle.rhai_tree.specs.declared.stmt.Stmt.{Stmt}
 use Rattle.rhai_tree.specs.declared.script_fn.ScriptFuncDef.{ScriptFuncDef}
+use Rattle.rhai_meaning.specs.Tree.{Script}
+use Rattle.rhai_reading.specs.Reading.{function_of, stmts_of}
 use Rattle.rhai_script.specs.declared.ast.AST.{AST}
+use Rattle.rhai_script.specs.declared.ast.AstParts.{AstParts}
 use Rattle.rhai_functions.specs.declared.fn_lib.FnLib.{FnLib}
 use Rattle.rhai_functions.specs.FnKey.{definition_key}
 use Rattle.rhai_functions.specs.Table.{put_all_by}
@@ -19,6 +22,13 @@ pub record Contents : Type 0 where
 
 abbrev pub contents : AST → Contents
 contents s = record { source = s.source; doc = s.doc; statements = s.body.block; id = s.lib.value.id; functions = s.lib.value.functions }
+
+abbrev pub parts_contents : AstParts → Contents
+parts_contents p = record { source = p.source; doc = p.doc; statements = p.body.block; id = p.lib.value.id; functions = p.lib.value.functions }
+
+-- the script that it stands for
+abbrev pub meant : Contents → Script
+meant s = record { statements = stmts_of s.statements; functions = map function_of s.functions }
 
 -- the functions of the one, and these put in, each in turn
 abbrev pub put_all : List ScriptFuncDef → List ScriptFuncDef → List ScriptFuncDef

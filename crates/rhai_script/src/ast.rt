@@ -4,7 +4,7 @@ ghost use Rattle.std.specs.Option.{option_copied};
 ghost use Rattle.std.specs.List.Retain.{IsFiltered};
 ghost use Rattle.rhai_reading.specs.Reading.{stmts_of};
 ghost use Rattle.rhai_tree.specs.declared.script_fn.ScriptFuncDef.{ScriptFuncDef as definition};
-ghost use Rattle.rhai_script.specs.Contents.{contents, with_source, without_source, with_doc, with_table, with_functions, without_statements, joined_over, merged, combined};
+ghost use Rattle.rhai_script.specs.Contents.{contents, parts_contents, with_source, without_source, with_doc, with_table, with_functions, without_statements, joined_over, merged, combined};
 ghost use Rattle.rhai_functions.specs.Filter.{Answers, AnswersShort};
 
 use rhai_ast::{FnAccess, FnNamespace, Stmt, StmtBlock};
@@ -51,6 +51,19 @@ impl Clone for AST {
             lib,
         })
     }
+}
+
+/// What a script is made of.
+#[derive(Drop)]
+pub struct AstParts {
+    /// Its source, where there is one.
+    pub source: Option<ImmutableString>,
+    /// Its doc text.
+    pub doc: Doc,
+    /// Its statements.
+    pub body: StmtBlock,
+    /// Its functions.
+    pub lib: SharedLib,
 }
 
 impl AST {
@@ -252,7 +265,49 @@ impl AST {
         self.merged_with(other, lib)
     }
 
+    /// What it is made of.
+    pub fn into_parts(self) -> AstParts
+        ensures { parts_contents result ≡ contents self }
+    {
+        let AST {
+            source,
+            doc,
+            body,
+            lib,
+        } = self;
+        AstParts {
+            source,
+            doc,
+            body,
+            lib,
+        }
+    }
+
+    /// The script of these parts.
+    pub fn from_parts(parts: AstParts) -> AST
+        ensures { contents result ≡ parts_contents parts }
+    {
+        let AstParts {
+            source,
+            doc,
+            body,
+            lib,
+        } = parts;
+        AST {
+            source,
+            doc,
+            body,
+            lib,
+        }
+    }
+
     /// The statements; the rest goes.
+    pub fn into_statements(self) -> Vec<Stmt>
+        ensures { result.items ≡ self.body.block }
+    {
+        self.into_body().into_statements().into_vec()
+    }
+
     fn into_body(self) -> StmtBlock
         ensures { result ≡ self.body }
     {

@@ -6,7 +6,7 @@ use Rattle.rhai_values.specs.declared.dynamic.Dynamic.TheVariants as value
 use Rattle.rhai_values.specs.Reading.{value_of, value_of-Array, value_of-Range, value_of-RangeInclusive, value_of-Unit, DynamicCase, array_case, range_case, range_inclusive_case, dynamic_cases}
 use Rattle.rhai_values.specs.Value.{Text, Value, UnitV, IntV, ArrayV, items, values}
 use Rattle.rhai_meaning.specs.Desugar.{core_expr}
-use Rattle.rhai_meaning.specs.Act.{Acts, Named, Act, Fail, Then, WrongKind}
+use Rattle.rhai_meaning.specs.Act.{IsVariable, Acts, Named, Act, Fail, Then, WrongKind}
 use Rattle.rhai_meaning.specs.ActForms.{again_then, ◌>>=◌}
 use Rattle.rhai_meaning.specs.Control.{counted, for_all, for_count, for_each, round, size}
 use Rattle.rhai_meaning.specs.Meaning.{act}
@@ -35,7 +35,7 @@ count_start = refl
 module _ (here : Setting) where
   module _ (x : Text) (c : Option Text) (p : Acts) where
     abbrev round_over : ℕ → Value → Acts
-    round_over k v = counted c k (Named x false v p)
+    round_over k v = counted c k (Named x IsVariable v p)
 
     -- ---- arrays
 
@@ -141,5 +141,5 @@ module _ (here : Setting) where
   pub for_round_runs : (p : Acts) (s s1 s2 s3 : State) (names : ℕ) (u : Unit) (ended : Result Dynamic Interrupt) (o : Result (Option Dynamic) Interrupt) → TakesTurn s (Ok u) s1 → names ≡ length s1.scope.items → RunsList here p s1 ended s2 → Cut here names s2 s3 → o ≡ round_of ended → RunsRound here p s o s3
   for_round_runs p s s1 s2 s3 names u ended o t h q c e = round_runs here p s s1 s3 u ended t (scoped_leads here p s1 s2 s3 names ended (λ v. UnitV) h c q) o e
 
-  pub for_body_runs : (i : Option Text) (x : Text) (k : ℕ) (v : Dynamic) (p : Acts) (s s1 s2 s3 : State) (u : Unit) (r : Result Dynamic Interrupt) → RunsCounted here i k s (Ok u) s1 → store_of s2 ≡ named_in (Some x) (value_of v) (store_of s1) → s2.turns ≡ s1.turns → RunsList here p s2 r s3 → RunsList here (counted i k (Named x false (value_of v) p)) s r s3
-  for_body_runs i x k v p s s1 s2 s3 u r q h t l = leads_then here s3 r (λ w. given UnitV) (goes_then here (q (Named x false (value_of v) p)) (named_goes here (Some x) (value_of v) p s1 s2 h t)) l
+  pub for_body_runs : (i : Option Text) (x : Text) (k : ℕ) (v : Dynamic) (p : Acts) (s s1 s2 s3 : State) (u : Unit) (r : Result Dynamic Interrupt) → RunsCounted here i k s (Ok u) s1 → store_of s2 ≡ named_in (Some x) (value_of v) (store_of s1) → s2.turns ≡ s1.turns → RunsList here p s2 r s3 → RunsList here (counted i k (Named x IsVariable (value_of v) p)) s r s3
+  for_body_runs i x k v p s s1 s2 s3 u r q h t l = leads_then here s3 r (λ w. given UnitV) (goes_then here (q (Named x IsVariable (value_of v) p)) (named_goes here (Some x) (value_of v) p s1 s2 h t)) l

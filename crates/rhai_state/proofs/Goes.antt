@@ -13,7 +13,7 @@ use Rattle.rhai_state.specs.declared.state.Interrupt.{Interrupt}
 use Rattle.rhai_state.specs.declared.state.Interrupt.TheVariants.{Stuck}
 use Rattle.rhai_state.specs.declared.state.State.{State}
 use Rattle.rhai_host.specs.declared.report.Stuck.TheVariants as why
-use Rattle.rhai_host.specs.Entries.{variable_meant}
+use Rattle.rhai_state.specs.Entries.{entry_meant}
 use Rattle.rhai_state.specs.Evaluating.{or_stuck}
 use Rattle.rhai_host.specs.Host.{call_meant}
 use Rattle.rhai_state.specs.Runs as runs
@@ -112,8 +112,8 @@ module _ (here : Setting) where
 
   leave_goes : (es : List ScopeEntry) (names : ℕ) (s s1 : State) (o : Outcome) → length es ≡ names → Cut names s s1 → Goes here (Within es (Over o)) s (Over o) s1
   leave_goes es names s s1 o h c =
-      let scope = restore_cut_to variable_meant es names s.scope.items h in
-      let same : reversed (map variable_meant s1.scope.items) [] ≡ restore es (reversed (map variable_meant s.scope.items) []) = ap (λ l. reversed (map variable_meant l) []) c.scope ∙ scope in
+      let scope = restore_cut_to entry_meant es names s.scope.items h in
+      let same : reversed (map entry_meant s1.scope.items) [] ≡ restore es (reversed (map entry_meant s.scope.items) []) = ap (λ l. reversed (map entry_meant l) []) c.scope ∙ scope in
       record {
         turns = omega (arith, c.turns);
         runs = λ d le i. At o (record { scope = sym same i; this = sym (ap (λ t. option_map value_of t) c.this) i; calls = sym (ap (map call_meant) c.calls) i }) (sym c.turns i);
@@ -126,7 +126,7 @@ module _ (here : Setting) where
   -- braces
   pub scoped_leads : (p : Acts) (s s1 s2 : State) (names : ℕ) (r : Result Dynamic Interrupt) (g : Dynamic → Value) → names ≡ length s.scope.items → Cut names s1 s2 → Leads here (Listing p) s r s1 (λ v. given (g v)) → Leads here (Acting (Scoped p)) s r s2 (λ v. given (g v))
   scoped_leads p s s1 s2 names r g h c q =
-      let long : length (store_of s).scope ≡ names = length_scope variable_meant s.scope.items ∙ sym h in
+      let long : length (store_of s).scope ≡ names = length_scope entry_meant s.scope.items ∙ sym h in
       leads_then s2 r (λ v. given (g v)) (record { turns = omega arith; runs = λ d le. refl }) (within_leads (store_of s).scope names (Listing p) s s1 s2 r g long c q)
 
   pub named_goes : (x : Option Text) (v : Value) (p : Acts) (s s1 : State) → store_of s1 ≡ named_in x v (store_of s) → s1.turns ≡ s.turns → Goes here (Listing (named x v p)) s (Listing p) s1

@@ -5,6 +5,7 @@ pub mod Scopes
 pub mod Goes
 pub mod Variables
 pub mod Statements
+pub mod Declared
 pub mod Rounds
 pub mod Loops
 pub mod Counted

@@ -1,10 +1,10 @@
 -- Statements: one after another, one by its parts.
-use Rattle.std.proofs.Common.{◌≡◌, ℕ, ◌+◌, ◌<◌, ◌≤◌, Bool, true, false, List, length, drop, get_or, Result, Ok, Err, refl, sym, ap, ◌∙◌, subst, arith, cond}
+use Rattle.std.proofs.Common.{◌≡◌, ℕ, ◌+◌, ◌<◌, ◌≤◌, Bool, true, false, List, length, drop, get_or, Result, Ok, Err, refl, sym, ap, ◌∙◌, subst, arith}
 use Rattle.std.proofs.lemmas.List.{drop_all}
 use Rattle.rhai_values.specs.declared.dynamic.Dynamic.{Dynamic}
 use Rattle.rhai_values.specs.declared.dynamic.Dynamic.TheVariants as value
 use Rattle.rhai_values.specs.Reading.{value_of, value_of-Unit}
-use Rattle.rhai_values.specs.Value.{Text, Value, UnitV}
+use Rattle.rhai_values.specs.Value.{Value, UnitV}
 use Rattle.rhai_tree.specs.declared.stmt.Stmt.{Stmt}
 use Rattle.rhai_reading.specs.Reading.{stmt_of, stmts_of}
 use Rattle.rhai_reading.proofs.ItemLists.{stmts_of-drop}
@@ -76,15 +76,6 @@ module _ (here : Setting) (loop : Bool) where
   -- a node without meaning
   pub ill_line : (s : State) → RunsLine here (core.Does core.IllDeed) s (Err (Stuck why.WrongKind)) s
   ill_line s = λ next. record { turns = omega arith; runs = λ d le. refl }
-
-  -- ---- names
-
-  module _ (constant exported : Bool) (x : Text) (e : tree.Expr) where
-    abbrev var_line : core.Stmt
-    var_line = core_stmt loop (tree.Var constant exported x e)
-
-    var_is : exported ≡ false → core.Var constant x (core_expr loop e) ≡ var_line
-    var_is h = ap (λ b. cond b (core.Does core.IllDeed) (core.Var constant x (core_expr loop e))) (sym h)
 
   -- `if`
   module _ (e : tree.Expr) (a b : tree.Stmts) (s s1 : State) where

@@ -1,22 +1,21 @@
 -- Names in a scope, latest last.
-use Rattle.std.specs.Prelude.{◌≡◌, ℕ, Bool, true, false, List, [], ◌∷◌, ◌++◌, length}
-use Rattle.rhai_values.specs.Value.{Text, same_text}
-use Rattle.rhai_values.specs.declared.dynamic.Dynamic.{Dynamic}
+use Rattle.std.specs.Prelude.{◌≡◌, ℕ, true, false, List, [], ◌∷◌, ◌++◌, length}
+use Rattle.rhai_values.specs.Value.{Text}
+use Rattle.rhai_meaning.specs.Act.{is_called}
+use Rattle.rhai_state.specs.declared.entries.Entry.{Entry}
+use Rattle.rhai_state.specs.Entries.{entry_meant}
 
-abbrev pub Entries : Type 0
-Entries = List (Text × Bool × Dynamic)
-
--- nothing there has the name
-abbrev pub IsMissing : Text → Entries → Type 0
+-- no name there is this
+abbrev pub IsMissing : Text → List Entry → Type 0
 IsMissing x [] = Unit {0}
-IsMissing x (e ∷ es) = (same_text e.0 x ≡ false) × IsMissing x es
+IsMissing x (e ∷ es) = (is_called (entry_meant e) x ≡ false) × IsMissing x es
 
 -- the last entry of a name stands there
-pub record IsLatest (x : Text) (es : Entries) (i : ℕ) : Type 0 where
-  pub front : Entries
-  pub back : Entries
-  pub here : Text × Bool × Dynamic
+pub record IsLatest (x : Text) (es : List Entry) (i : ℕ) : Type 0 where
+  pub front : List Entry
+  pub back : List Entry
+  pub here : Entry
   pub whole : es ≡ front ++ here ∷ back
   pub place : i ≡ length front
-  pub named : same_text here.0 x ≡ true
+  pub named : is_called (entry_meant here) x ≡ true
   pub latest : IsMissing x back

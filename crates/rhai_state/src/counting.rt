@@ -10,6 +10,7 @@ ghost use Rattle.rhai_state.specs.Exits.{count_of};
 ghost use Rattle.rhai_state.specs.Runs.{Setting};
 ghost use Rattle.rhai_values.specs.declared.dynamic.Dynamic.TheVariants as value;
 
+use crate::entries::EntryKind;
 use crate::state::{Interrupt, State};
 use rhai_base::{Dynamic, Ident};
 use rhai_host::Stuck;
@@ -58,7 +59,7 @@ pub fn declare_count(
     let Some(count) = count else {
         return Err(Interrupt::Stuck(Stuck::CounterTooLarge));
     };
-    state.declare(&counter.name, false, Dynamic::Int(count))?;
+    state.declare(&counter.name, EntryKind::Variable, Dynamic::Int(count))?;
     Ok(())
 }
 

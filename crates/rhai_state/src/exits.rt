@@ -12,6 +12,7 @@ ghost use Rattle.rhai_state.specs.Exits.{body_end, branch_end, function_end, rou
 ghost use Rattle.rhai_state.specs.State.{named_in, store_of};
 ghost use Rattle.rhai_meaning.specs.Shape as shape;
 
+use crate::entries::EntryKind;
 use crate::state::{Interrupt, State};
 use rhai_base::{Dynamic, ImmutableString, OutOfMemory};
 use rhai_host::{RunEnd, Stuck};
@@ -105,7 +106,7 @@ pub fn declare_caught(
     ensures turns { OnOk result (state.new.turns ≡ state.old.turns) }
 {
     if let Some(name) = name {
-        state.declare(name, false, caught.clone()?)?;
+        state.declare(name, EntryKind::Variable, caught.clone()?)?;
     }
     Ok(())
 }

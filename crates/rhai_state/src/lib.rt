@@ -2,6 +2,7 @@
 #![tactic(auto)]
 
 mod counting;
+mod entries;
 mod exits;
 mod pointers;
 mod state;
@@ -9,6 +10,7 @@ mod values;
 mod words;
 
 pub use counting::{declare_count, next_count, nth, rounds_before, rounds_through};
+pub use entries::{Entry, EntryKind};
 pub use exits::{
     body_ended, branch_ended, declare_caught, ends_at, function_ended, function_exit, loop_exit,
     round_ended, run_end,

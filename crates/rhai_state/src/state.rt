@@ -1,14 +1,20 @@
 //! What a run changes, and how a part of it ends.
 
+#![tactic(auto, using(crate::proofs::Declared::declaring))]
+
 ghost use Rattle.std.specs.Prelude.{◌≡◌, map, IfOk, OnOk, ◌∷◌, None, [], option_map};
+ghost use Rattle.rhai_meaning.specs.Desugar.{name_kind};
 ghost use Rattle.rhai_meaning.specs.Run.{bind, seen};
 ghost use Rattle.rhai_values.specs.Reading.{value_of};
 ghost use Rattle.rhai_state.specs.declared.state.Interrupt.TheVariants.{NoMemory};
-ghost use Rattle.rhai_state.specs.State.{store_of, GoesOn, TakesTurn};
-ghost use Rattle.rhai_host.specs.Entries.{entry_meant, scope_meant, start_scope, variable_meant};
+ghost use Rattle.rhai_state.specs.State.{aliased_in, declared_in, store_of, with_entry, GoesOn, TakesTurn};
+ghost use Rattle.rhai_host.specs.Entries.{start_scope};
+ghost use Rattle.rhai_host.specs.Entries.{entry_meant as start_entry};
+ghost use Rattle.rhai_state.specs.Entries.{kind_meant, entry_meant, scope_meant};
 
+use crate::entries::{Entry, EntryKind};
 use rhai_base::{Dynamic, ImmutableString, OutOfMemory, Scope, Seq};
-use rhai_host::{HostCall, Stuck, Variable};
+use rhai_host::{HostCall, Stuck};
 use std::alloc::{AllocError, AllocFailed, Global};
 
 /// Why a part of a run has no value.
@@ -54,11 +60,11 @@ impl<T: Drop> From<AllocFailed<T>> for Interrupt {
     }
 }
 
-/// The names, `this`, the calls so far, and the turns left.
+/// The entries of the scope, `this`, the calls so far, and the turns left.
 #[derive(Drop)]
 pub struct State {
-    /// The names, latest last.
-    pub scope: Vec<Variable>,
+    /// The entries of the scope, latest last.
+    pub scope: Vec<Entry>,
     /// The value of `this`, where it is bound.
     pub this: Option<Dynamic>,
     /// The calls to the host, in order.
@@ -74,7 +80,7 @@ impl State {
         ensures turns { IfOk result (λ s. s.turns ≡ turns) }
     {
         Ok(State {
-            scope: variables(alloc, scope)?,
+            scope: entries(alloc, scope)?,
             this: None,
             calls: Seq::new(alloc),
             turns,
@@ -103,23 +109,62 @@ impl State {
         Ok(true)
     }
 
-    /// Adds a name.
+    /// Adds an entry.
     pub fn declare(
         &mut self,
         name: &ImmutableString,
-        is_constant: bool,
+        kind: EntryKind,
         value: Dynamic,
     ) -> Result<(), AllocError>
-        ensures store { OnOk result (store_of self.new ≡ record (store_of self.old) { scope = record { name = name.now; constant = is_constant; value = value_of value } ∷ (store_of self.old).scope }) }
+        ensures store { OnOk result (store_of self.new ≡ with_entry name.now (kind_meant kind) (value_of value) (store_of self.old)) }
         ensures turns { OnOk result (self.new.turns ≡ self.old.turns) }
     {
-        self.scope.push((name.clone()?, is_constant, value))?;
+        self.scope.push(Entry {
+            name: name.clone()?,
+            kind,
+            value,
+        })?;
         Ok(())
+    }
+
+    /// Adds a name, and an export of its value where it is exported.
+    pub fn declare_name(
+        &mut self,
+        name: &ImmutableString,
+        is_constant: bool,
+        is_exported: bool,
+        value: Dynamic,
+    ) -> Result<(), AllocError>
+        ensures store { OnOk result (store_of self.new ≡ declared_in (name_kind is_constant) is_exported name.now (value_of value) (store_of self.old)) }
+        ensures turns { OnOk result (self.new.turns ≡ self.old.turns) }
+    {
+        let kind = EntryKind::of_name(is_constant);
+        if !is_exported {
+            return self.declare(name, kind, value);
+        }
+        let exported = value.clone()?;
+        self.declare(name, kind, value)?;
+        self.declare(name, EntryKind::Export, exported)
+    }
+
+    /// Adds an alias of the module that is meant; without a name there is none.
+    pub fn declare_alias(
+        &mut self,
+        name: &ImmutableString,
+        meant: Dynamic,
+    ) -> Result<(), AllocError>
+        ensures store { OnOk result (store_of self.new ≡ aliased_in name.now (value_of meant) (store_of self.old)) }
+        ensures turns { OnOk result (self.new.turns ≡ self.old.turns) }
+    {
+        if name.as_str().is_empty() {
+            return Ok(());
+        }
+        self.declare(name, EntryKind::Alias, meant)
     }
 }
 
 impl State {
-    /// Where a function's body starts: with its parameters over a copy of the names around where the call captures
+    /// Where a function's body starts: with its parameters over a copy of the entries around where the call captures
     /// them, and with the calls so far, which go along.
     pub fn enter(
         &mut self,
@@ -136,12 +181,12 @@ impl State {
         ensures turns_stay { OnOk result (self.new.turns ≡ self.old.turns) }
         ensures calls_go { OnOk result (self.new.calls ≡ []) }
     {
-        let names = if captures {
+        let around = if captures {
             copied(alloc, self.scope.as_slice())?
         } else {
             Vec::new(alloc)
         };
-        let scope = bound(names, params, args)?;
+        let scope = bound(around, params, args)?;
         let calls = std::mem::replace(&mut self.calls, Seq::new(alloc));
         Ok(State {
             scope,
@@ -169,43 +214,66 @@ impl State {
     }
 }
 
-/// The same names with the same values.
-fn copied(alloc: Global, scope: &[Variable]) -> Result<Vec<Variable>, AllocError>
+/// The same entries.
+fn copied(alloc: Global, scope: &[Entry]) -> Result<Vec<Entry>, AllocError>
     ensures { IfOk result (λ vs. vs.items ≡ scope.now) }
 {
     let mut copies = Vec::new(alloc);
-    for variable in scope {
-        copies.push((variable.0.clone()?, variable.1, variable.2.clone()?))?;
+    for held in scope {
+        copies.push(Entry {
+            name: held.name.clone()?,
+            kind: held.kind,
+            value: held.value.clone()?,
+        })?;
     }
     Ok(copies)
 }
 
-/// Parameters with their values, over other names.
+/// Parameters with their values, over other entries.
 fn bound(
-    names: Vec<Variable>,
+    around: Vec<Entry>,
     params: &[ImmutableString],
     args: Seq<Dynamic>,
-) -> Result<Vec<Variable>, AllocError>
-    ensures { IfOk result (λ vs. scope_meant vs.items ≡ bind params.now (map value_of args) (scope_meant names.items)) }
+) -> Result<Vec<Entry>, AllocError>
+    ensures { IfOk result (λ vs. scope_meant vs.items ≡ bind params.now (map value_of args) (scope_meant around.items)) }
 {
-    let mut scope = names;
+    let mut scope = around;
     let mut rest = args.into_rest();
     for param in params {
         let Some(arg) = rest.next() else {
             return Ok(scope);
         };
-        scope.push((param.clone()?, false, arg))?;
+        scope.push(Entry {
+            name: param.clone()?,
+            kind: EntryKind::Variable,
+            value: arg,
+        })?;
     }
     Ok(scope)
 }
 
-fn variables(alloc: Global, scope: &Scope) -> Result<Vec<Variable>, AllocError>
-    ensures { IfOk result (λ vs. map variable_meant vs.items ≡ map entry_meant scope.now) }
+fn entries(alloc: Global, scope: &Scope) -> Result<Vec<Entry>, AllocError>
+    ensures { IfOk result (λ es. map entry_meant es.items ≡ map start_entry scope.now) }
 {
-    let mut variables = Vec::new(alloc);
+    let mut entries = Vec::new(alloc);
     for (name, is_constant, value) in scope.iter() {
-        let name = ImmutableString::new(alloc, name)?;
-        variables.push((name, is_constant, value.clone()?))?;
+        entries.push(started(alloc, name, is_constant, value)?)?;
     }
-    Ok(variables)
+    Ok(entries)
+}
+
+/// The entry of a name that a run starts with.
+fn started(
+    alloc: Global,
+    name: &str,
+    is_constant: bool,
+    value: &Dynamic,
+) -> Result<Entry, AllocError>
+    ensures { IfOk result (λ e. entry_meant e ≡ record { name = name.now; kind = name_kind is_constant; value = value_of value.now }) }
+{
+    Ok(Entry {
+        name: ImmutableString::new(alloc, name)?,
+        kind: EntryKind::of_name(is_constant),
+        value: value.clone()?,
+    })
 }

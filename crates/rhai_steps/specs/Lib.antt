@@ -1,3 +1,4 @@
 pub mod NodeSteps
 pub mod Places
 pub mod Standing
+pub mod Folded

@@ -2,18 +2,19 @@
 
 #![tactic(auto, using(rhai_reading::specs::Reading::shapes))]
 
-ghost use Rattle.std.specs.Prelude.{◌≡◌, IfOk, OnOk, true};
+ghost use Rattle.std.specs.Prelude.{◌≡◌, IfOk, OnOk, Some, true};
 ghost use Rattle.rhai_values.specs.Reading.{value_of};
 ghost use Rattle.rhai_meaning.specs.Constants as constants;
 ghost use Rattle.rhai_meaning.specs.Tree.{UnitConstant, Noop, ExprStmt};
 ghost use Rattle.rhai_known.specs.State.{progress};
 ghost use Rattle.rhai_reading.specs.Reading.{expr_of, stmt_of};
+ghost use Rattle.rhai_steps.specs.Folded.{FoldsConstant};
 ghost use Rattle.rhai_steps.specs.NodeSteps.{Puts, PutsStatement};
 
 use rhai_ast::{Expr, ExprQueries, Literals, Stmt, StmtQueries};
 use rhai_base::{Dynamic, OutOfMemory, Position};
 use rhai_known::OptimizerState;
-use rhai_nodes::{expression_statement, put_expr, put_stmt};
+use rhai_nodes::{expression_statement, put_expr, put_stmt, value_of_constant};
 use std::alloc::Global;
 
 /// Notes that a rule fired.
@@ -38,6 +39,33 @@ pub fn put_constant(
     let constant = Expr::from_dynamic(alloc, value, expr.position())?;
     put_expr(expr, constant);
     Ok(())
+}
+
+/// Takes the value of a constant out of its place, where unit stands then.
+fn take_constant(alloc: Global, expr: &mut Expr) -> Result<Dynamic, OutOfMemory>
+    requires { constants.is_constant (expr_of expr.now) ≡ true }
+    ensures { IfOk result (λ v. constants.constant_value (expr_of expr.old) ≡ Some (value_of v)) }
+{
+    let pos = expr.position();
+    let constant = std::mem::replace(expr, Expr::Unit(pos));
+    value_of_constant(alloc, constant)
+}
+
+/// A constant becomes its value, into which what its parts hold is moved. It says whether it is one; what is none stays.
+#[inline(never)]
+pub fn fold_constant(
+    alloc: Global,
+    state: &mut OptimizerState<'_>,
+    expr: &mut Expr,
+) -> Result<bool, OutOfMemory>
+    ensures { IfOk result (λ b. FoldsConstant b (progress state.old) (progress state.new) (expr_of expr.old) (expr_of expr.new)) }
+{
+    if !expr.is_constant() {
+        return Ok(false);
+    }
+    let value = take_constant(alloc, expr)?;
+    put_constant(alloc, state, expr, value)?;
+    Ok(true)
 }
 
 /// Puts unit in the place of an expression.

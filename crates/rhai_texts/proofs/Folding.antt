@@ -1,18 +1,18 @@
 -- Literals of constants that fold to their value.
 use Rattle.std.proofs.Common.{◌≡◌, Bool, true, false, List, Option, Some, None, refl, sym, ap, ◌∙◌, subst}
 use Rattle.rhai_values.specs.Value.{Text, Value, TextV, MapV}
-use Rattle.rhai_meaning.specs.Constants.{constant_for, constant_values, constant_entries, joined_value, map_value, literal_value}
+use Rattle.rhai_meaning.specs.Constants.{constant_for, constant_value, constant_values, constant_entries, joined_value, map_value, literal_value}
 use Rattle.rhai_meaning.specs.Control.{texts_joined}
 use Rattle.rhai_meaning.specs.Elements.{fields_of}
 use Rattle.rhai_meaning.specs.Engine.{Engine, or_else}
 use Rattle.rhai_meaning.specs.Tree.{Expr, InterpolatedString, MapOf}
 use Rattle.rhai_meaning.specs.Walk.{OfExpr}
 use Rattle.rhai_rewriting.specs.Rules as rule
-use Rattle.rhai_rewriting.specs.Rules.{ExprRule}
 use Rattle.rhai_rewriting.specs.Clear.{known_value}
 use Rattle.rhai_rewriting.specs.Residue.{IsReducedNode}
 use Rattle.rhai_rewriting.specs.Steps.{Progress, Place, AnswersNone, ExprKept, ExprRewrite}
 use Rattle.rhai_rewriting.proofs.Keeping.{keeps_constant, may_be_constant}
+use Rattle.rhai_steps.specs.Folded.{FoldsConstant}
 use Rattle.rhai_steps.specs.NodeSteps.{ExprStep, Puts}
 use Rattle.rhai_steps.proofs.Stepping.{expr_put}
 use Rattle.rhai_passes.specs.Passes.{NodePass, ExprPass}
@@ -30,9 +30,9 @@ text-folds (InterpolatedString es) v i h p = by (constant_values es) refl h wher
       subst (λ w. ExprRewrite p (InterpolatedString es) (constant_for w)) same (record { rule = λ k. rule.text_folds vs q; stays = may_be_constant p _ (TextV (texts_joined vs)) refl refl refl; keeps = keeps_constant _ (TextV (texts_joined vs)) })
 text-folds _ v i h p = absurd cc
 
-map-folds : (e : Expr) (v : Value) → is_map e ≡ true → Some v ≡ literal_value e → (p : Place) → ExprRewrite p e (constant_for v)
+map-folds : (e : Expr) (v : Value) → is_map e ≡ true → Some v ≡ constant_value e → (p : Place) → ExprRewrite p e (constant_for v)
 map-folds (MapOf ps template) v i h p = by (constant_entries ps) refl h where
-  by : (o : Option (List (Text × Value))) → constant_entries ps ≡ o → Some v ≡ or_else (map_value o) None → ExprRewrite p (MapOf ps template) (constant_for v)
+  by : (o : Option (List (Text × Value))) → constant_entries ps ≡ o → Some v ≡ map_value o → ExprRewrite p (MapOf ps template) (constant_for v)
   by None q h = absurd cc
   by (Some vs) q h =
       let same : MapV (fields_of vs) ≡ v = cc in
@@ -47,8 +47,9 @@ put-as {s = s} {s' = s'} {e = e} f q r p = subst (λ a. ExprStep true r p s s' e
 pub text_put : {s s' : Progress} {e e' : Expr} {v : Value} → is_interpolated e ≡ true → Some v ≡ literal_value e → Puts s s' e' v → (r : Engine) (p : Place) → ExprStep true r p s s' e e'
 text_put {e = e} {v = v} i h q = put-as (text-folds e v i h) q
 
-pub map_put : {s s' : Progress} {e e' : Expr} {v : Value} → is_map e ≡ true → Some v ≡ literal_value e → Puts s s' e' v → (r : Engine) (p : Place) → ExprStep true r p s s' e e'
-map_put {e = e} {v = v} i h q = put-as (map-folds e v i h) q
+pub map_folded : (b : Bool) (s s' : Progress) (e e' : Expr) → is_map e ≡ true → FoldsConstant b s s' e e' → Folds b s s' e e'
+map_folded true s s' e e' i f = put-as (map-folds e f.0 i (sym f.1)) f.2
+map_folded false s s' e e' i f = (f.1, f.2)
 
 kept : (r : Engine) (p : Place) (s s' : Progress) (e e' : Expr) → IsReducedNode r (OfExpr e) → AnswersNone e → known_value s.known e ≡ None → s' ≡ s → e' ≡ e → ExprKept r p s s' e e'
 kept r p s s' e e' h a u i j = record { same = j; state = i; answers = a; reduced = h; unknown = λ _. u }

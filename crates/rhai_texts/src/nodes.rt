@@ -15,7 +15,7 @@ ghost use Rattle.rhai_texts.specs.Parts.{Folds, NodeChange};
 use crate::joining::text_changes;
 use rhai_ast::{Expr, Literals};
 use rhai_base::OutOfMemory;
-use rhai_steps::{OptimizerState, note_fired, put_constant};
+use rhai_steps::{OptimizerState, fold_constant, note_fired, put_constant};
 use std::alloc::Global;
 
 /// What goes of the parts of an interpolated text; the answer is whether any went.
@@ -73,11 +73,7 @@ fn map_of_constants(
     requires { spec.is_map (expr_of expr.now) ≡ true }
     ensures { IfOk result (λ b. Folds b (progress state.old) (progress state.new) (expr_of expr.old) (expr_of expr.new)) }
 {
-    if let Some(value) = expr.get_literal_value(alloc)? {
-        put_constant(alloc, state, expr, value)?;
-        return Ok(true);
-    }
-    Ok(false)
+    fold_constant(alloc, state, expr)
 }
 
 /// One step at a map literal. It says whether a rule fired.

@@ -3,6 +3,7 @@
 
 mod copy;
 mod hashable;
+mod kinds;
 mod text;
 
 ghost use Rattle.std.specs.Prelude.{◌≡◌, ◌≢◌, ◌++◌, ◌↔◌, IsTrue, IfOk, MatchResult, OnOk, OnErr, List};

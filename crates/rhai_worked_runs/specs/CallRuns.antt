@@ -17,7 +17,7 @@ unfolding ran
 function_as_entry = refl
 
 method_as_entry : run (world_with (double ∷ [])) no_stmts (AtFunction (key (codes "double") 0 (Some (codes "array"))) (Some (ArrayV (values (i 3 ∷ [])))) []) [] 1
-    ≡ record { ended = gives (i 6); variables = []; this = Some (ArrayV (values (i 6 ∷ []))); calls = []; turns = 0 }
+    ≡ record { ended = gives (i 6); variables = []; exports = []; this = Some (ArrayV (values (i 6 ∷ []))); calls = []; turns = 0 }
 unfolding ran
 method_as_entry = refl
 
@@ -42,7 +42,7 @@ type_of_a_range = refl
 -- ---- a host by rows: the second call answers by a throw
 
 abbrev by_rows : World
-by_rows = record { engine = nothing_set; functions = []; host = host_of (record { past = []; call = asked "f" []; answer = Answers (i 7) None } ∷ record { past = asked "f" [] ∷ []; call = asked "f" []; answer = AnswersThrow (i 8) } ∷ []) (record { name = codes "a::x"; value = i 9 } ∷ []) }
+by_rows = record { engine = nothing_set; functions = []; host = host_of (record { past = []; call = asked "f" []; answer = Answers (i 7) None } ∷ record { past = asked "f" [] ∷ []; call = asked "f" []; answer = AnswersThrow (i 8) } ∷ []) (record { name = codes "a::x"; value = i 9 } ∷ []) [] }
 
 host_by_rows : ran_in by_rows (let' "x" (fn "f" []) ∷ ExprStmt (fn "f" []) ∷ []) 0 ≡ report (WithThrown (i 8)) (var_is "x" (i 7) ∷ []) (asked "f" [] ∷ asked "f" [] ∷ []) 0
 unfolding ran

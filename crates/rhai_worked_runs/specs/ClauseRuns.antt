@@ -11,7 +11,7 @@ use Rattle.rhai_worked_runs.specs.Runs.{ran_in, ran, report, gives, throws}
 
 -- a host that answers 3, and 4 as the new receiver
 abbrev new_receiver : World
-new_receiver = record { engine = nothing_set; host = record { answer = λ past c. Answers (i 3) (Some (i 4)); module_value = λ x. None }; functions = [] }
+new_receiver = record { engine = nothing_set; host = record { answer = λ past c. Answers (i 3) (Some (i 4)); module_value = λ x. None; module_of = λ p. None }; functions = [] }
 
 -- ---- indices
 

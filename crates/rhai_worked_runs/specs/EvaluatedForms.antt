@@ -4,7 +4,7 @@ use Rattle.rhai_values.specs.Value.{Text, Value, UnitV, same_text, text_of}
 use Rattle.rhai_base.specs.Operators.{computed, on_chars}
 use Rattle.rhai_meaning.specs.Act.{ScopeEntry, HostCall, Key, Host, Answer, Answers}
 use Rattle.rhai_meaning.specs.Control.{texts_joined}
-use Rattle.rhai_meaning.specs.Desugar.{core_script}
+use Rattle.rhai_meaning.specs.Desugar.{name_kind, core_script}
 use Rattle.rhai_meaning.specs.Elements.{character}
 use Rattle.rhai_meaning.specs.Engine.{Engine, Binding, Override, TypeName}
 use Rattle.rhai_meaning.specs.Run.{EntryPoint, End, Report, report_of, run_script}
@@ -29,7 +29,7 @@ abbrev pub function : Option Text → Text → List Text → List Stmt → Funct
 function t f xs ss = record { name = f; this_type = t; params = xs; body = stmts ss }
 
 abbrev pub entry : Text → Bool → Value → ScopeEntry
-entry x c v = record { name = x; constant = c; value = v }
+entry x c v = record { name = x; kind = name_kind c; value = v }
 
 abbrev pub asked : Option Value → Text → List Value → HostCall
 asked r f vs = record { name = f; receiver = r; arguments = vs }
@@ -50,7 +50,7 @@ abbrev pub function_key : Text → ℕ → Option Text → Key
 function_key f n t = record { name = f; arity = n; this_type = t }
 
 abbrev pub ends : End → List ScopeEntry → Option Value → List HostCall → ℕ → Report
-ends e vs this cs n = record { ended = e; variables = vs; this = this; calls = cs; turns = n }
+ends e vs this cs n = record { ended = e; variables = vs; exports = []; this = this; calls = cs; turns = n }
 
 -- the answer at this number of past calls, unit past the end
 abbrev pub nth : List Answer → ℕ → Answer
@@ -75,7 +75,7 @@ value_of [] x = None
 value_of (b ∷ bs) x = cond (same_text b.name x) (Some b.value) (value_of bs x)
 
 abbrev pub host : List Named → List Answer → List Binding → Host
-host ns others bs = record { answer = λ past c. nth (answers_of ns others c.name) (length past); module_value = λ x. value_of bs x }
+host ns others bs = record { answer = λ past c. nth (answers_of ns others c.name) (length past); module_value = λ x. value_of bs x; module_of = λ p. None }
 
 unfoldable pub ran : Engine → Host → List Function → List Stmt → EntryPoint → List ScopeEntry → ℕ → Report
 unfolding run_script computed on_chars character text_of texts_joined

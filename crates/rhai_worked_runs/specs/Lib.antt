@@ -4,6 +4,7 @@ pub mod DirectedRuns
 pub mod EntryRuns
 pub mod EvaluatedForms
 pub mod HiddenRuns
+pub mod ModuleRuns
 pub mod MoreRuns
 pub mod PathTests
 pub mod PointerRuns1

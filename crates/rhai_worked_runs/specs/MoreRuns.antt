@@ -213,7 +213,7 @@ condition_no_bool : ran (If (int 5) (stmts (ExprStmt (int 1) ∷ [])) no_stmts �
 unfolding ran
 condition_no_bool = refl
 
-host_throws : ran_in (record { engine = nothing_set; host = record { answer = λ past c. AnswersThrow (TextV c.name); module_value = λ x. None }; functions = [] }) (ExprStmt (op Plus (fn "f" [] ∷ fn "g" [] ∷ [])) ∷ ExprStmt (fn "h" []) ∷ []) 0 ≡ report (WithThrown (TextV (codes "f"))) [] (asked "f" [] ∷ []) 0
+host_throws : ran_in (record { engine = nothing_set; host = record { answer = λ past c. AnswersThrow (TextV c.name); module_value = λ x. None; module_of = λ p. None }; functions = [] }) (ExprStmt (op Plus (fn "f" [] ∷ fn "g" [] ∷ [])) ∷ ExprStmt (fn "h" []) ∷ []) 0 ≡ report (WithThrown (TextV (codes "f"))) [] (asked "f" [] ∷ []) 0
 unfolding ran
 host_throws = refl
 

@@ -148,7 +148,7 @@ flow_9202681 = refl
 -- switch false { #{"k": ""}: , #{"a": 3, "b": ()}: , (): 0 0 |  | default - | true => m }
 -- try { throw m } catch x { export x as  }
 -- fn push(x) { for x in <[]> { true; "f"; "a" }; Index?!(x, 0) **= x; return #{a: x} }
-odd_9401168 : ran (engine (binding (codes "c") (BoolV true) ∷ []) (override (codes "!") ((codes "range=") ∷ []) ∷ override (codes "%") ((codes "i64") ∷ (codes "i64") ∷ []) ∷ override (codes "**=") ((codes "array") ∷ (codes "i64") ∷ []) ∷ override (codes "+") ((codes "i64") ∷ (codes "i64") ∷ []) ∷ override (codes "/=") ((codes "bool") ∷ []) ∷ override (codes "<<=") ((codes "i64") ∷ (codes "i64") ∷ []) ∷ override (codes "==") ((codes "Fn") ∷ []) ∷ override (codes ">>") ((codes "i64") ∷ (codes "range") ∷ []) ∷ override (codes ">>") ((codes "range") ∷ (codes "()") ∷ []) ∷ override (codes "|=") ((codes "range") ∷ (codes "char") ∷ []) ∷ []) [] false) (host (named (codes "h") (Answers (IntV (negsuc 0)) (Some (CharV 97)) ∷ Answers (MapV no_fields) None ∷ Answers (RangeV (pos 2) (pos 5)) None ∷ Answers (CharV 233) None ∷ AnswersThrow (PointerV (codes "h") (values ((BoolV true) ∷ []))) ∷ []) ∷ named (codes "+") (Answers (IntV (pos 3)) (Some UnitV) ∷ Answers (CharV 97) None ∷ Answers (MapV (field (codes "b") (BoolV true) no_fields)) None ∷ Answers (MapV (field (codes "b") (IntV (pos 1)) (field (codes "k") (TextV (codes "f")) no_fields))) None ∷ Answers (TextV (codes "a")) (Some (RangeInclusiveV (pos 1) (pos 2))) ∷ []) ∷ []) (Answers (PointerV (codes "f") (values (UnitV ∷ []))) None ∷ Answers UnitV (Some (IntV (pos 1))) ∷ Answers (TextV (codes "b")) None ∷ Answers (IntV (negsuc 1)) None ∷ []) (binding (codes "ns::a") (IntV (pos 5)) ∷ binding (codes "ns::x") (BoolV true) ∷ [])) ((function None (codes "push") ((codes "x") ∷ []) ((For (codes "x") None (DynamicConstant (ArrayV (values []))) (stmts ((ExprStmt (BoolConstant true)) ∷ (ExprStmt (StringConstant (codes "f"))) ∷ (ExprStmt (StringConstant (codes "a"))) ∷ []))) ∷ (Assignment (Some Power) (Index (flags true true) (Variable [] (codes "x")) (IntegerConstant (pos 0))) (Variable [] (codes "x"))) ∷ (Return false false (an_expr (MapOf (pair (codes "a") (Variable [] (codes "x")) no_pairs) ((codes "a") ∷ [])))) ∷ [])) ∷ []) ((Var true false (codes "m") (CharConstant 233)) ∷ (Switch (BoolConstant false) (arm (BoolConstant true) (Variable [] (codes "m")) no_arms) (table (case (MapV (field (codes "k") (TextV (codes "")) no_fields)) [] ∷ case (MapV (field (codes "a") (IntV (pos 3)) (field (codes "b") UnitV no_fields))) [] ∷ case UnitV (0 ∷ 0 ∷ []) ∷ []) [] None)) ∷ (TryCatch (Variable [] (codes "x")) (stmts ((Return true false (an_expr (Variable [] (codes "m")))) ∷ [])) (stmts ((Export (codes "x") (codes "")) ∷ []))) ∷ []) AtStatements [] 5 ≡ ends (WithStuck WrongKind) (entry (codes "m") true (CharV 233) ∷ []) None [] 5
+odd_9401168 : ran (engine (binding (codes "c") (BoolV true) ∷ []) (override (codes "!") ((codes "range=") ∷ []) ∷ override (codes "%") ((codes "i64") ∷ (codes "i64") ∷ []) ∷ override (codes "**=") ((codes "array") ∷ (codes "i64") ∷ []) ∷ override (codes "+") ((codes "i64") ∷ (codes "i64") ∷ []) ∷ override (codes "/=") ((codes "bool") ∷ []) ∷ override (codes "<<=") ((codes "i64") ∷ (codes "i64") ∷ []) ∷ override (codes "==") ((codes "Fn") ∷ []) ∷ override (codes ">>") ((codes "i64") ∷ (codes "range") ∷ []) ∷ override (codes ">>") ((codes "range") ∷ (codes "()") ∷ []) ∷ override (codes "|=") ((codes "range") ∷ (codes "char") ∷ []) ∷ []) [] false) (host (named (codes "h") (Answers (IntV (negsuc 0)) (Some (CharV 97)) ∷ Answers (MapV no_fields) None ∷ Answers (RangeV (pos 2) (pos 5)) None ∷ Answers (CharV 233) None ∷ AnswersThrow (PointerV (codes "h") (values ((BoolV true) ∷ []))) ∷ []) ∷ named (codes "+") (Answers (IntV (pos 3)) (Some UnitV) ∷ Answers (CharV 97) None ∷ Answers (MapV (field (codes "b") (BoolV true) no_fields)) None ∷ Answers (MapV (field (codes "b") (IntV (pos 1)) (field (codes "k") (TextV (codes "f")) no_fields))) None ∷ Answers (TextV (codes "a")) (Some (RangeInclusiveV (pos 1) (pos 2))) ∷ []) ∷ []) (Answers (PointerV (codes "f") (values (UnitV ∷ []))) None ∷ Answers UnitV (Some (IntV (pos 1))) ∷ Answers (TextV (codes "b")) None ∷ Answers (IntV (negsuc 1)) None ∷ []) (binding (codes "ns::a") (IntV (pos 5)) ∷ binding (codes "ns::x") (BoolV true) ∷ [])) ((function None (codes "push") ((codes "x") ∷ []) ((For (codes "x") None (DynamicConstant (ArrayV (values []))) (stmts ((ExprStmt (BoolConstant true)) ∷ (ExprStmt (StringConstant (codes "f"))) ∷ (ExprStmt (StringConstant (codes "a"))) ∷ []))) ∷ (Assignment (Some Power) (Index (flags true true) (Variable [] (codes "x")) (IntegerConstant (pos 0))) (Variable [] (codes "x"))) ∷ (Return false false (an_expr (MapOf (pair (codes "a") (Variable [] (codes "x")) no_pairs) ((codes "a") ∷ [])))) ∷ [])) ∷ []) ((Var true false (codes "m") (CharConstant 233)) ∷ (Switch (BoolConstant false) (arm (BoolConstant true) (Variable [] (codes "m")) no_arms) (table (case (MapV (field (codes "k") (TextV (codes "")) no_fields)) [] ∷ case (MapV (field (codes "a") (IntV (pos 3)) (field (codes "b") UnitV no_fields))) [] ∷ case UnitV (0 ∷ 0 ∷ []) ∷ []) [] None)) ∷ (TryCatch (Variable [] (codes "x")) (stmts ((Return true false (an_expr (Variable [] (codes "m")))) ∷ [])) (stmts ((Export (codes "x") (codes "")) ∷ []))) ∷ []) AtStatements [] 5 ≡ ends (WithValue UnitV) (entry (codes "m") true (CharV 233) ∷ []) None [] 5
 unfolding ran
 odd_9401168 = refl
 

@@ -1,5 +1,5 @@
 -- Runs for single cases of the definitions: places, receivers, left sides, loops and kinds.
-use Rattle.std.specs.Prelude.{◌≡◌, ℕ, true, false, List, [], ◌∷◌, Option, Some, None, codes, refl}
+use Rattle.std.specs.Prelude.{◌≡◌, ℕ, Bool, true, false, List, [], ◌∷◌, Option, Some, None, codes, refl}
 use Rattle.rhai_values.specs.Value.{UnitV, BoolV, CharV, TextV, ArrayV, values}
 use Rattle.rhai_base.specs.Operators.{Plus, Minus, UpTo, Through}
 use Rattle.rhai_meaning.specs.Calls.{key}
@@ -43,7 +43,7 @@ for_over_ranges = refl
 
 -- a host that answers 3, and 4 as the new receiver
 abbrev new_receiver : World
-new_receiver = record { engine = nothing_set; host = record { answer = λ past c. Answers (i 3) (Some (i 4)); module_value = λ x. None }; functions = [] }
+new_receiver = record { engine = nothing_set; host = record { answer = λ past c. Answers (i 3) (Some (i 4)); module_value = λ x. None; module_of = λ p. None }; functions = [] }
 
 -- a getter's new receiver, and that of `index$get$`, go
 getter_writes_nothing : (ran_in new_receiver (let' "x" (int 1) ∷ ExprStmt (dot (var "x") (prop "p")) ∷ ExprStmt (at (var "x") (StringConstant (codes "q"))) ∷ ExprStmt (var "x") ∷ []) 0).ended ≡ gives (i 1)
@@ -96,7 +96,7 @@ ill_targets = refl
 
 -- `fn g() { this = 5; throw 1 }` as entry
 entry_that_throws : run (world_with (record { name = codes "g"; this_type = None; params = []; body = stmts (Assignment None ThisPtr (int 5) ∷ Return true false (an_expr (int 1)) ∷ []) } ∷ [])) no_stmts (AtFunction (key (codes "g") 0 None) (Some (i 0)) []) [] 1
-    ≡ record { ended = WithThrown (i 1); variables = []; this = Some (i 5); calls = []; turns = 0 }
+    ≡ record { ended = WithThrown (i 1); variables = []; exports = []; this = Some (i 5); calls = []; turns = 0 }
 unfolding ran
 entry_that_throws = refl
 
@@ -106,7 +106,7 @@ unfolding ran
 unmapped = refl
 
 -- `switch "a" { "a" if f() => 1, _ => 2 }` where f answers false
-guarded_text_passes : (ran_in (record { engine = nothing_set; host = record { answer = λ past c. Answers (BoolV false) None; module_value = λ x. None }; functions = [] }) (Switch (StringConstant (codes "a")) (arms ((fn "f" [], int 1) ∷ (BoolConstant true, int 2) ∷ [])) (record { cases = record { value = TextV (codes "a"); arms = 0 ∷ [] } ∷ []; ranges = []; default = Some 1 }) ∷ []) 0).ended ≡ gives (i 2)
+guarded_text_passes : (ran_in (record { engine = nothing_set; host = record { answer = λ past c. Answers (BoolV false) None; module_value = λ x. None; module_of = λ p. None }; functions = [] }) (Switch (StringConstant (codes "a")) (arms ((fn "f" [], int 1) ∷ (BoolConstant true, int 2) ∷ [])) (record { cases = record { value = TextV (codes "a"); arms = 0 ∷ [] } ∷ []; ranges = []; default = Some 1 }) ∷ []) 0).ended ≡ gives (i 2)
 unfolding ran
 guarded_text_passes = refl
 
@@ -150,36 +150,38 @@ empty_operands_run : (ran (ExprStmt (And no_exprs) ∷ []) 0).ended ≡ gives (B
 unfolding ran
 empty_operands_run = refl
 
--- ---- nodes with EXPORTED
+-- ---- the flag EXPORTED, which says nothing of nodes other than declarations
 
-abbrev exported_dot : Expr → Expr → Expr
-exported_dot l r = Dot (record { negated = false; breaks = false; exported = true }) l r
+abbrev dot_flagged : Bool → Expr → Expr → Expr
+dot_flagged o l r = Dot (record { negated = false; breaks = false; exported = o }) l r
 
-abbrev exported_index : Expr → Expr → Expr
-exported_index l r = Index (record { negated = false; breaks = true; exported = true }) l r
+abbrev index_flagged : Bool → Expr → Expr → Expr
+index_flagged o l r = Index (record { negated = false; breaks = true; exported = o }) l r
 
 abbrev reports : List Stmt → List Report
 reports [] = []
 reports (s ∷ ss) = ran (s ∷ []) 1 ∷ reports ss
 
--- do { f() } while false; return f(); f().a; f()[0]; and loop { break f() }, whose body takes its turn
-exported_nodes : reports (Do false true (BoolConstant false) (stmts (ExprStmt (fn "f" []) ∷ [])) ∷ Return false true (an_expr (fn "f" [])) ∷ ExprStmt (exported_dot (fn "f" []) (prop "a")) ∷ ExprStmt (exported_index (fn "f" []) (int 0)) ∷ While UnitConstant (stmts (BreakLoop true true (an_expr (fn "f" [])) ∷ [])) ∷ [])
-    ≡ report (WithStuck WrongKind) [] [] 1 ∷ report (WithStuck WrongKind) [] [] 1 ∷ report (WithStuck WrongKind) [] [] 1 ∷ report (WithStuck WrongKind) [] [] 1 ∷ report (WithStuck WrongKind) [] [] 0 ∷ []
+-- do { f() } while false; return f(); f().a; [1][0]; loop { break f() }; f()[g()].a; a.b = f()
+abbrev flagged : Bool → List Stmt
+flagged o =
+    Do false o (BoolConstant false) (stmts (ExprStmt (fn "f" []) ∷ []))
+    ∷ Return false o (an_expr (fn "f" []))
+    ∷ ExprStmt (dot_flagged o (fn "f" []) (prop "a"))
+    ∷ ExprStmt (index_flagged o (array (int 1 ∷ [])) (int 0))
+    ∷ While UnitConstant (stmts (BreakLoop true o (an_expr (fn "f" [])) ∷ []))
+    ∷ ExprStmt (Index (record { negated = false; breaks = false; exported = false }) (fn "f" []) (dot_flagged o (fn "g" []) (prop "a")))
+    ∷ Assignment None (dot_flagged o (var "a") (prop "b")) (fn "f" [])
+    ∷ []
+
+exported_nodes : reports (flagged true) ≡ reports (flagged false)
 unfolding ran
 exported_nodes = refl
 
--- f()[g()].a, whose second node has it: stuck where the first step is reached, before its index; ()?[g()].a does not reach it
-exported_rest : reports (ExprStmt (Index (record { negated = false; breaks = false; exported = false }) (fn "f" []) (exported_dot (fn "g" []) (prop "a"))) ∷ ExprStmt (Index (record { negated = true; breaks = false; exported = false }) UnitConstant (exported_dot (fn "g" []) (prop "a"))) ∷ [])
-    ≡ report (WithStuck WrongKind) [] (asked "f" [] ∷ []) 1 ∷ report (gives UnitV) [] [] 1 ∷ []
+exported_index : ran (ExprStmt (index_flagged true (array (int 1 ∷ [])) (int 0)) ∷ []) 0 ≡ report (gives (i 1)) [] [] 0
 unfolding ran
-exported_rest = refl
+exported_index = refl
 
--- a.b = f(), where a is unbound: stuck behind the right side
-exported_left_side : ran (Assignment None (exported_dot (var "a") (prop "b")) (fn "f" []) ∷ []) 0 ≡ report (WithStuck WrongKind) [] (asked "f" [] ∷ []) 0
+exported_break : ran (While UnitConstant (stmts (BreakLoop true true (an_expr (fn "f" [])) ∷ [])) ∷ []) 1 ≡ report (gives (BoolV true)) [] (asked "f" [] ∷ []) 0
 unfolding ran
-exported_left_side = refl
-
--- let a = 1; a.b[0] = f(), whose second node has it: before the getter of b is asked
-exported_rest_of_a_left_side : ran (let' "a" (int 1) ∷ Assignment None (dot (var "a") (exported_index (prop "b") (int 0))) (fn "f" []) ∷ []) 0 ≡ report (WithStuck WrongKind) (var_is "a" (i 1) ∷ []) (asked "f" [] ∷ []) 0
-unfolding ran
-exported_rest_of_a_left_side = refl
+exported_break = refl

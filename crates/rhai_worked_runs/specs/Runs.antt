@@ -12,7 +12,7 @@ use Rattle.rhai_meaning.specs.Run.{Report, End, AtStatements, WithValue, WithThr
 use Rattle.rhai_worked_runs.specs.Terms.{i, run, World, int, var, op, fn, let', const', array, at, dot, prop, meth, map_one, program_answer, program_host, nothing_set, world, world_with, asked, var_is, const_is}
 
 abbrev pub report : End → List ScopeEntry → List HostCall → ℕ → Report
-report e names cs n = record { ended = e; variables = names; this = None; calls = cs; turns = n }
+report e names cs n = record { ended = e; variables = names; exports = []; this = None; calls = cs; turns = n }
 
 -- the statements, with no names, and what the examples compute with
 unfoldable pub ran_in : World → List Stmt → ℕ → Report
@@ -137,7 +137,7 @@ unfolding ran
 guarded_case_answers = refl
 
 abbrev says_false : World
-says_false = record { engine = nothing_set; host = record { answer = λ past c. Answers (BoolV false) None; module_value = λ x. None }; functions = [] }
+says_false = record { engine = nothing_set; host = record { answer = λ past c. Answers (BoolV false) None; module_value = λ x. None; module_of = λ p. None }; functions = [] }
 
 guarded_case_passes : ran_in says_false (guarded ∷ []) 0 ≡ report (gives (i 2)) [] (asked "f" [] ∷ []) 0
 unfolding ran

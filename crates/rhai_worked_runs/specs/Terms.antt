@@ -2,7 +2,7 @@
 use Rattle.std.specs.Prelude.{ℕ, true, false, List, [], ◌∷◌, ◌++◌, Option, Some, None, codes, if◌then◌else◌}
 use Prim.Native.String.{String}
 use Rattle.rhai_values.specs.Value.{Value, UnitV, BoolV, TextV, ArrayV, items, values, same_text, text_of}
-use Rattle.rhai_meaning.specs.Act.{HostCall, ScopeEntry, Host, Answer, Answers}
+use Rattle.rhai_meaning.specs.Act.{IsVariable, IsConstant, HostCall, ScopeEntry, Host, Answer, Answers}
 use Rattle.rhai_meaning.specs.Engine.{Engine}
 use Rattle.rhai_meaning.specs.Tree.{Callee, NoToken, Function, Expr, Stmt, Stmts, Variable, FnCall, Dot, Index, Property, MethodCall, exprs, Var, ArrayOf, MapOf, pair, no_pairs}
 use Rattle.rhai_meaning.specs.Desugar.{core_script}
@@ -62,7 +62,7 @@ program_answer past call =
     (if same_text call.name (codes "push") then pushed call.receiver call.arguments else Answers UnitV None))
 
 abbrev pub program_host : Host
-program_host = record { answer = λ past call. program_answer past call; module_value = λ x. None }
+program_host = record { answer = λ past call. program_answer past call; module_value = λ x. None; module_of = λ p. None }
 
 -- record, host and functions of a run
 pub record World : Type 0 where
@@ -77,10 +77,10 @@ abbrev pub world : World
 world = world_with []
 
 abbrev pub var_is : String → Value → ScopeEntry
-var_is x v = record { name = codes x; constant = false; value = v }
+var_is x v = record { name = codes x; kind = IsVariable; value = v }
 
 abbrev pub const_is : String → Value → ScopeEntry
-const_is x v = record { name = codes x; constant = true; value = v }
+const_is x v = record { name = codes x; kind = IsConstant; value = v }
 
 unfoldable pub run : World → Stmts → EntryPoint → List ScopeEntry → ℕ → Report
 unfolding run_script

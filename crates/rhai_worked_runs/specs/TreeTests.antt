@@ -126,7 +126,7 @@ plain_calls : plain (ExprStmt (fn "eval" (StringConstant (codes "x") ∷ [])) �
 plain_calls = refl
 
 plain_statements : plain (Import (StringConstant (codes "m")) (codes "a") ∷ []) ∷ plain (Export (codes "x") [] ∷ []) ∷ plain (Share (codes "x" ∷ []) ∷ []) ∷ plain (Var false true (codes "x") (int 1) ∷ []) ∷ plain (const' "x" (int 1) ∷ []) ∷ []
-    ≡ false ∷ false ∷ false ∷ false ∷ true ∷ []
+    ≡ true ∷ true ∷ false ∷ true ∷ true ∷ []
 plain_statements = refl
 
 -- do {} while true, break, return, a.b and a[0], without EXPORTED and with it
@@ -134,11 +134,11 @@ abbrev chain_flags : (breaks exported : Bool) → ChainFlags
 chain_flags b o = record { negated = false; breaks = b; exported = o }
 
 plain_flags : map (λ o. plain (Do false o (BoolConstant true) no_stmts ∷ []) ∷ plain (BreakLoop true o no_expr ∷ []) ∷ plain (Return false o no_expr ∷ []) ∷ plain (ExprStmt (Dot (chain_flags false o) (var "a") (prop "b")) ∷ []) ∷ plain (ExprStmt (Index (chain_flags true o) (var "a") (int 0)) ∷ []) ∷ []) (false ∷ true ∷ [])
-    ≡ (true ∷ true ∷ true ∷ true ∷ true ∷ []) ∷ (false ∷ false ∷ false ∷ false ∷ false ∷ []) ∷ []
+    ≡ (true ∷ true ∷ true ∷ true ∷ true ∷ []) ∷ (true ∷ true ∷ true ∷ true ∷ true ∷ []) ∷ []
 plain_flags = refl
 
 -- a.b.c and a.b[0], whose second node has it
-plain_rest_of_a_chain : plain (ExprStmt (dot (var "a") (Dot (chain_flags false true) (prop "b") (prop "c"))) ∷ []) ∷ plain (ExprStmt (dot (var "a") (Index (chain_flags true true) (prop "b") (int 0))) ∷ []) ∷ [] ≡ false ∷ false ∷ []
+plain_rest_of_a_chain : plain (ExprStmt (dot (var "a") (Dot (chain_flags false true) (prop "b") (prop "c"))) ∷ []) ∷ plain (ExprStmt (dot (var "a") (Index (chain_flags true true) (prop "b") (int 0))) ∷ []) ∷ [] ≡ true ∷ true ∷ []
 plain_rest_of_a_chain = refl
 
 -- it is no fault

@@ -3,7 +3,7 @@ use Rattle.std.specs.Prelude.{◌≡◌, Bool, true, false, List, [], ◌∷◌,
 use Prim.Native.String.{String}
 use Rattle.rhai_values.specs.Value.{Text, Value, UnitV, TextV, PointerV, values}
 use Rattle.rhai_base.specs.Operators.{computed}
-use Rattle.rhai_meaning.specs.Act.{ScopeEntry, Unbound, WrongKind, Key, Gives, Ended, At, ScriptCall, run_all, IsStuck, OutOfTurns, Halted, World, Invoke}
+use Rattle.rhai_meaning.specs.Act.{IsVariable, ScopeEntry, Unbound, WrongKind, Key, Gives, Ended, At, ScriptCall, run_all, IsStuck, OutOfTurns, Halted, World, Invoke}
 use Rattle.rhai_meaning.specs.Calls.{key, call_named, call_pointer}
 use Rattle.rhai_meaning.specs.ActForms.{give}
 use Rattle.rhai_meaning.specs.Desugar.{core_expr}
@@ -144,7 +144,7 @@ abbrev two_parameters : core.Function
 two_parameters = record { name = codes "f"; this_type = None; params = codes "x" ∷ codes "y" ∷ []; body = body }
 
 abbrev variable : String → Value → ScopeEntry
-variable x v = record { name = codes x; constant = false; value = v }
+variable x v = record { name = codes x; kind = IsVariable; value = v }
 
 abbrev world : World
 world = world_of nothing_set joining (two_parameters ∷ [])
@@ -195,10 +195,10 @@ unfoldable entered_by : core.Function → Key → Report
 unfolding run_script computed joins
 entered_by f k = let e = AtFunction k (Some (i 5)) (i 1 ∷ i 2 ∷ []) in report_of e (run_script nothing_set joining (record { statements = core.no_stmts; functions = f ∷ [] }) e (variable "z" (i 3) ∷ []) 1)
 
-function_entered : entered_by two_parameters (key (codes "f") 2 None) ≡ record { ended = WithValue (i 7); variables = []; this = Some (i 5); calls = []; turns = 0 }
+function_entered : entered_by two_parameters (key (codes "f") 2 None) ≡ record { ended = WithValue (i 7); variables = []; exports = []; this = Some (i 5); calls = []; turns = 0 }
 unfolding entered_by
 function_entered = refl
 
-function_missed : entered_by two_parameters (key (codes "f") 1 None) ≡ record { ended = WithStuck Unbound; variables = []; this = None; calls = []; turns = 1 }
+function_missed : entered_by two_parameters (key (codes "f") 1 None) ≡ record { ended = WithStuck Unbound; variables = []; exports = []; this = None; calls = []; turns = 1 }
 unfolding entered_by
 function_missed = refl

@@ -12,7 +12,7 @@ abbrev answers : List HostCall → HostCall → Value → Row
 answers past c v = record { past = past; call = c; answer = Answers v None }
 
 abbrev by : List Row → Host
-by rows = host_of rows []
+by rows = host_of rows [] []
 
 -- ---- rows: each with the calls before it
 
@@ -48,14 +48,21 @@ by_receiver : (by (answers [] (record (asked "f" []) { receiver = Some (i 1) }) 
 by_receiver = refl
 
 -- values of modules: the first of a name
-module_named : (host_of [] (record { name = codes "m::x"; value = i 1 } ∷ record { name = codes "m::x"; value = i 2 } ∷ [])).module_value (codes "m::x") ≡ Some (i 1)
+module_named : (host_of [] (record { name = codes "m::x"; value = i 1 } ∷ record { name = codes "m::x"; value = i 2 } ∷ []) []).module_value (codes "m::x") ≡ Some (i 1)
 module_named = refl
 
-module_after : (host_of [] (record { name = codes "m::x"; value = i 1 } ∷ record { name = codes "m::y"; value = i 2 } ∷ [])).module_value (codes "m::y") ≡ Some (i 2)
+module_after : (host_of [] (record { name = codes "m::x"; value = i 1 } ∷ record { name = codes "m::y"; value = i 2 } ∷ []) []).module_value (codes "m::y") ≡ Some (i 2)
 module_after = refl
 
-module_missing : (host_of [] (record { name = codes "m::x"; value = i 1 } ∷ [])).module_value (codes "x") ≡ None
+module_missing : (host_of [] (record { name = codes "m::x"; value = i 1 } ∷ []) []).module_value (codes "x") ≡ None
 module_missing = refl
+
+-- modules: the first of a path
+path_named : (host_of [] [] (record { path = codes "p"; name = codes "m" } ∷ record { path = codes "q"; name = codes "n" } ∷ record { path = codes "q"; name = codes "o" } ∷ [])).module_of (codes "q") ≡ Some (codes "n")
+path_named = refl
+
+path_missing : (host_of [] [] (record { path = codes "p"; name = codes "m" } ∷ [])).module_of (codes "m") ≡ None
+path_missing = refl
 
 -- ---- operators that the host answers: at these types, in this order, with this name
 

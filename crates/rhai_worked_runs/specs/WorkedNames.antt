@@ -2,7 +2,7 @@
 use Rattle.std.specs.Prelude.{◌≡◌, ℕ, true, false, List, [], ◌∷◌, Some, None, codes, refl}
 use Prim.Native.String.{String}
 use Rattle.rhai_values.specs.Value.{Value, UnitV, TextV}
-use Rattle.rhai_meaning.specs.Act.{ScopeEntry, Store, Unbound, UnboundThis, WriteToConstant, WrongKind, Ending, Exit, Returns, Breaks, Continues, Throws, Again, Gives, Leaves, IsStuck, OutOfTurns, Ended, Halted, Result, At, Root, OfName, OfThis, Act, Stop, Fail, Then, Turn, Read, Write, Invoke, Loop, Scoped, Acts, Only, Named, Finish, Env, World, run, run_all}
+use Rattle.rhai_meaning.specs.Act.{IsVariable, IsConstant, ScopeEntry, Store, Unbound, UnboundThis, WriteToConstant, WrongKind, Ending, Exit, Returns, Breaks, Continues, Throws, Again, Gives, Leaves, IsStuck, OutOfTurns, Ended, Halted, Result, At, Root, OfName, OfThis, Act, Stop, Fail, Then, Turn, Read, Write, Invoke, Loop, Scoped, Acts, Only, Named, Finish, Env, World, run, run_all}
 use Rattle.rhai_meaning.specs.ActForms.{give, unit, ◌>>=◌, then_line, on_throw, end_round, again_then, ask_host, ask_method}
 use Rattle.rhai_meaning.specs.Engine.{Engine}
 use Rattle.rhai_meaning.specs.Run.{AtStatements, report_of, world_of, WithValue, WithThrown, WithStuck, end_of}
@@ -11,10 +11,10 @@ use Rattle.rhai_meaning.specs.WorkedForms.{nothing_set, joins, joining, throwing
 -- ---- short forms
 
 abbrev variable : String → Value → ScopeEntry
-variable x v = record { name = codes x; constant = false; value = v }
+variable x v = record { name = codes x; kind = IsVariable; value = v }
 
 abbrev constant : String → Value → ScopeEntry
-constant x v = record { name = codes x; constant = true; value = v }
+constant x v = record { name = codes x; kind = IsConstant; value = v }
 
 -- x = 1, and under it y = 2 and an older x = 3, a constant c = 4
 abbrev some_names : List ScopeEntry
@@ -93,21 +93,21 @@ no_this_written = refl
 -- ---- braces: { const x = 10; { let x = 20; x = 21; y = 22; } x }
 
 abbrev inner : Acts
-inner = Named (codes "x") false (i 20) (then_line (Write true (name "x") (i 21)) (λ v. then_line (Write true (name "y") (i 22)) (λ u. Only unit)))
+inner = Named (codes "x") IsVariable (i 20) (then_line (Write true (name "x") (i 21)) (λ v. then_line (Write true (name "y") (i 22)) (λ u. Only unit)))
 
-braces_in_braces : ran (Scoped (Named (codes "x") true (i 10) (then_line (Scoped inner) (λ v. Only (Read (name "x")))))) (stored some_names) 0 ≡ ended (Gives (i 10)) (stored (variable "x" (i 1) ∷ variable "y" (i 22) ∷ variable "x" (i 3) ∷ constant "c" (i 4) ∷ []))
+braces_in_braces : ran (Scoped (Named (codes "x") IsConstant (i 10) (then_line (Scoped inner) (λ v. Only (Read (name "x")))))) (stored some_names) 0 ≡ ended (Gives (i 10)) (stored (variable "x" (i 1) ∷ variable "y" (i 22) ∷ variable "x" (i 3) ∷ constant "c" (i 4) ∷ []))
 braces_in_braces = refl
 
 -- const x = 10; x = 11: a constant hides the variable
-hidden_by_constant : ran (Scoped (Named (codes "x") true (i 10) (Only (Write true (name "x") (i 11))))) (stored some_names) 0 ≡ At (Halted (IsStuck WriteToConstant)) (stored some_names) 0
+hidden_by_constant : ran (Scoped (Named (codes "x") IsConstant (i 10) (Only (Write true (name "x") (i 11))))) (stored some_names) 0 ≡ At (Halted (IsStuck WriteToConstant)) (stored some_names) 0
 hidden_by_constant = refl
 
 -- what leaves braces takes their names away too
-left_braces : ran (Scoped (Named (codes "z") false (i 10) (Only (leaving (Breaks (i 1)))))) (stored some_names) 0 ≡ ended (Leaves (Breaks (i 1))) (stored some_names)
+left_braces : ran (Scoped (Named (codes "z") IsVariable (i 10) (Only (leaving (Breaks (i 1)))))) (stored some_names) 0 ≡ ended (Leaves (Breaks (i 1))) (stored some_names)
 left_braces = refl
 
 -- names of a list stay without braces
-names_stay : run_all world (calls_as (Gives UnitV)) (Named (codes "z") false (i 10) (Only unit)) (stored []) 0 ≡ ended (Gives UnitV) (stored (variable "z" (i 10) ∷ []))
+names_stay : run_all world (calls_as (Gives UnitV)) (Named (codes "z") IsVariable (i 10) (Only unit)) (stored []) 0 ≡ ended (Gives UnitV) (stored (variable "z" (i 10) ∷ []))
 names_stay = refl
 
 -- variables are reported in the order in which they were declared

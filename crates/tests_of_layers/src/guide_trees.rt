@@ -7,11 +7,23 @@ use rhai_ast::{
     NodeQueries, SetPosition, Stmt, StmtBlock, StmtQueries, SwitchBlock, SwitchCases,
     SwitchCasesCollection, Walk, check_tree, is_plain,
 };
-use rhai_base::{ASTFlags, AstError, Boxed, Dynamic, INT, OutOfMemory, Position, RangeCase, Seq};
+use rhai_base::{
+    ASTFlags, AstError, Boxed, Dynamic, INT, OutOfMemory, Position, RangeCase, Seq, Token,
+};
+use rhai_make::{declaration, ident, integer, operator};
 use std::alloc::Global;
 use tests_reader::Said;
 
-/// `break 42`, as a parser would build it.
+/// `let x = 40 + 2`, as a parser would build it.
+fn declared(alloc: Global) -> Result<Stmt, OutOfMemory> {
+    let forty = integer(40, Position::new(1, 9));
+    let two = integer(2, Position::new(1, 14));
+    let sum = operator(alloc, Token::Plus, forty, two, Position::new(1, 12))?;
+    let x = ident(alloc, "x", Position::new(1, 5))?;
+    declaration(alloc, ASTFlags::NONE, x, sum, Position::new(1, 1))
+}
+
+/// `break 42`, by hand.
 fn leaving(alloc: Global) -> Result<Stmt, OutOfMemory> {
     let value = Boxed::new(alloc, Expr::IntegerConstant(42, Position::new(1, 14)))?;
     Ok(Stmt::BreakLoop(Some(value), ASTFlags::BREAK, Position::new(1, 8)))
@@ -157,6 +169,7 @@ pub fn answer(name: &str, said: &Said) {
         "constant" => of_constants(said),
         "endless" => of_script(endless(said.alloc), said),
         "leaving" => of_script(leaving(said.alloc), said),
+        "declared" => of_script(declared(said.alloc), said),
         "without arms" => of_script(without_arms(said.alloc), said),
         _ => of_table(name, said),
     }

@@ -20,6 +20,7 @@ pub fn answer(question: &str, text: &str, said: &Said) -> bool {
     }
     match question {
         "operate" => operate(text, said),
+        "pointer" => pointer(text, said),
         "scope" => scope(said),
         "ten" => said.inner(&Dynamic::Int(RangeCase::from(0..=9).len())),
         _ => return false,
@@ -61,6 +62,17 @@ fn describe(value: &Dynamic, said: &Said) {
     said.word_if(value.is_hashable(), "a key");
     if let Dynamic::FnPtr(pointer) = value {
         say_pointer(pointer, said);
+    }
+}
+
+/// The pointer to a function of this name, where there is one.
+fn pointer(name: &str, said: &Said) {
+    let Some(name) = said.shared(name) else {
+        return;
+    };
+    match FnPtr::new(said.alloc, name) {
+        Some(pointer) => say_pointer(&pointer, said),
+        None => said.word("none"),
     }
 }
 

@@ -7,11 +7,11 @@ use Rattle.rhai_values.specs.declared.dynamic.Dynamic.TheVariants as value
 use Rattle.rhai_values.specs.Reading.{value_of, value_of-Unit}
 use Rattle.rhai_values.specs.Value.{Text, UnitV, same_text}
 use Rattle.rhai_meaning.specs.Act.{Answers}
-use Rattle.rhai_meaning.specs.Host.{module_value_of}
+use Rattle.rhai_meaning.specs.Host.{module_value_of, module_in}
 use Rattle.rhai_host.specs.declared.host.HostCall.{HostCall}
 use Rattle.rhai_host.specs.Host.{call_meant}
 use Rattle.tests_reader.specs.declared.rows.AnswerRow.{AnswerRow}
-use Rattle.tests_of_scripts.specs.HostRows.{fits, answered, answer_among, modules_of}
+use Rattle.tests_of_scripts.specs.HostRows.{fits, answered, answer_among, modules_of, paths_of}
 
 pub answer_among-drop : (rs : List AnswerRow) (i : ℕ) (d : AnswerRow) (n : ℕ) (f : Text) → i < length rs
     → answer_among (drop i rs) n f ≡ (if fits (get_or rs i d) n f then answered (get_or rs i d) else answer_among (drop (i + 1) rs) n f)
@@ -27,6 +27,13 @@ module_value_of-drop ms i d x h = rw (add-one, drop-cons ms i d) refl
 pub module_value_of-end : (ms : List (Text × Dynamic)) (x : Text) → module_value_of (modules_of (drop (length ms) ms)) x ≡ None
 module_value_of-end ms x = ap (λ l. module_value_of (modules_of l) x) (drop-length ms)
 
+pub module_in-drop : (ps : List (Text × Text)) (i : ℕ) (d : Text × Text) (x : Text) → i < length ps
+    → module_in (paths_of (drop i ps)) x ≡ (if same_text (get_or ps i d).0 x then Some (get_or ps i d).1 else module_in (paths_of (drop (i + 1) ps)) x)
+module_in-drop ps i d x h = rw (add-one, drop-cons ps i d) refl
+
+pub module_in-end : (ps : List (Text × Text)) (x : Text) → module_in (paths_of (drop (length ps) ps)) x ≡ None
+module_in-end ps x = ap (λ l. module_in (paths_of l) x) (drop-length ps)
+
 pub calls-counted : (cs : List HostCall) → length (map call_meant cs) ≡ length cs
 calls-counted cs = length-map cs call_meant
 
@@ -41,4 +48,4 @@ answer_among-none rs cs i f e h =
     ∙ h
     ∙ ap (λ (n : ℕ). answer_among rs n f) (sym (calls-counted cs))
 
-pub ruleset steps = (answer_among-drop, answer_among-end, module_value_of-drop, module_value_of-end, calls-counted)
+pub ruleset steps = (answer_among-drop, answer_among-end, module_value_of-drop, module_value_of-end, module_in-drop, module_in-end, calls-counted)

@@ -4,7 +4,8 @@ use Rattle.rhai_values.specs.declared.dynamic.Dynamic.{Dynamic}
 use Rattle.rhai_values.specs.Reading.{value_of}
 use Rattle.rhai_values.specs.Value.{Text, UnitV, same_text}
 use Rattle.rhai_meaning.specs.Act.{Answer, Answers, AnswersThrow}
-use Rattle.rhai_meaning.specs.Host.{ModuleValue}
+use Rattle.rhai_meaning.specs.Host.{ModuleValue, ModulePath}
+use Rattle.rhai_host.specs.Host.{Modules}
 use Rattle.tests_reader.specs.declared.rows.AnswerRow.{AnswerRow}
 
 abbrev pub is_after : Option ℕ → ℕ → Bool
@@ -28,3 +29,9 @@ answer_among (r ∷ rs) n f = if fits r n f then answered r else answer_among rs
 
 abbrev pub modules_of : List (Text × Dynamic) → List ModuleValue
 modules_of ms = map (λ m. record { name = m.0; value = value_of m.1 }) ms
+
+abbrev pub paths_of : List (Text × Text) → List ModulePath
+paths_of ps = map (λ p. record { path = p.0; name = p.1 }) ps
+
+abbrev pub modules_by : List (Text × Dynamic) → List (Text × Text) → Modules
+modules_by ms ps = record { values = modules_of ms; paths = paths_of ps }

@@ -22,7 +22,7 @@ impl Answers for Scripts {
 const OF_WORDS: [&str; 6] = ["words", "unflushed", "cut", "request", "builtin", "both"];
 
 /// Questions about reports and the program's host.
-const OF_REPORTS: [&str; 3] = ["stuck", "host", "module"];
+const OF_REPORTS: [&str; 4] = ["stuck", "host", "module", "path"];
 
 /// Questions about an engine's record.
 const OF_RECORD: [&str; 6] = [

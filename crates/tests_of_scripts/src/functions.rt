@@ -4,7 +4,7 @@ use crate::given::Given;
 use crate::scripts::{made, printed, push_run};
 use rhai_ast::ScriptFuncDef;
 use rhai_base::OutOfMemory;
-use rhai_optimizer::{OptimizationLevel, optimize_counted};
+use rhai_optimizer::{OptimizationLevel, optimize_ast, optimize_counted};
 use rhai_script::AST;
 use std::rc::Rc;
 use tests_reader::{Said, Script, split};
@@ -89,4 +89,26 @@ pub fn say_merged(given: &Given, text: &str, between: &str, said: &Said) {
         said.made(push_run(given, &both, &mut told, said));
         said.put(told.as_str());
     }
+}
+
+/// A script with a source, a doc and an id of its table, optimised as it is: what it has of these then, and how it is printed.
+pub fn say_named(given: &Given, text: &str, said: &Said) {
+    if let Some(script) = said.script(text)
+        && let Some(script) = made(given, script, OptimizationLevel::None, said)
+        && let Some(script) = said.made(optimized_as_it_is(given, script.get(), said))
+    {
+        said.word(script.source().unwrap_or("no source"));
+        said.word(script.doc());
+        said.word(script.shared_lib().id().unwrap_or("no id"));
+        said.put("\n");
+        said.put(printed(&script, said).as_str());
+    }
+}
+
+fn optimized_as_it_is(given: &Given, script: &AST, said: &Said) -> Result<AST, OutOfMemory> {
+    let mut script = script.clone()?;
+    script.set_source("file")?;
+    script.set_doc("doc")?;
+    let (info, scope) = (&given.info, Some(&given.scope));
+    optimize_ast(said.alloc, info, scope, script, OptimizationLevel::Simple)
 }

@@ -4,6 +4,7 @@
 ghost use Rattle.std.specs.Prelude.{◌≡◌, length, IfOk, option_map};
 ghost use Rattle.rhai_values.specs.Reading.{value_of};
 ghost use Rattle.rhai_host.specs.Host.{answer_meant};
+ghost use Rattle.rhai_meaning.specs.Host.{module_in};
 ghost use Rattle.tests_of_scripts.specs.HostRows as spec;
 
 use rhai_base::{Dynamic, ImmutableString, OutOfMemory, Scope, Seq};
@@ -16,14 +17,15 @@ use tests_reader::{AnswerRow, Said, read_answer, read_binding, split};
 pub struct RowsHost {
     answers: Seq<AnswerRow>,
     modules: Seq<(ImmutableString, Dynamic)>,
+    paths: Seq<(ImmutableString, ImmutableString)>,
 }
 
 impl Host for RowsHost {
-    ghost use Rattle.tests_of_scripts.specs.HostRows.{answer_among, modules_of};
+    ghost use Rattle.tests_of_scripts.specs.HostRows.{answer_among, modules_by};
 
     ghost answers = { λ h past c. answer_among h.answers (length past) c.name };
 
-    ghost modules = { λ h. modules_of h.modules };
+    ghost modules = { λ h. modules_by h.modules h.paths };
 
     fn answer(
         &self,
@@ -54,6 +56,25 @@ impl Host for RowsHost {
         }
         Ok(None)
     }
+
+    fn module(&self, _alloc: Global, path: &str) -> Result<Option<ImmutableString>, OutOfMemory> {
+        known_module(self.paths.as_slice(), path)
+    }
+}
+
+/// The module of the first path that is this one.
+fn known_module(
+    paths: &[(ImmutableString, ImmutableString)],
+    path: &str,
+) -> Result<Option<ImmutableString>, OutOfMemory>
+    ensures { IfOk result (λ m. m ≡ module_in (spec.paths_of paths.now) path.now) }
+{
+    for known in paths {
+        if known.0.as_str() == path {
+            return Ok(Some(known.1.clone()?));
+        }
+    }
+    Ok(None)
 }
 
 /// Whether a row is for a call of this name after so many others.
@@ -113,14 +134,15 @@ pub struct Given {
 }
 
 /// Reads what a run is given, a line each: `turns 3`, of the scope `variable x = 1` and `constant x = 1`, of the record
-/// `record x = 1`, `override + i64 i64`, `type i64 as int` and `fast operators`, of the host `module m::x = 1` and
-/// rows as `answer 0 f => 1 then 2`, or `host of the program` in their place. Three turns, where no line says how many.
+/// `record x = 1`, `override + i64 i64`, `type i64 as int` and `fast operators`, of the host `module m::x = 1`,
+/// `path q = m` and rows as `answer 0 f => 1 then 2`, or `host of the program` in their place. Three turns, where no line says how many.
 pub fn read_given(text: &str, said: &Said) -> Given {
     let mut given = Given {
         info: EngineInfo::new(said.alloc),
         host: RowsHost {
             answers: Seq::new(said.alloc),
             modules: Seq::new(said.alloc),
+            paths: Seq::new(said.alloc),
         },
         by_program: false,
         scope: Scope::new(said.alloc),
@@ -139,6 +161,7 @@ fn read_line(line: &str, given: &mut Given, said: &Said) {
         "answer" => read_row(rest, given, said),
         "host" => given.by_program = true,
         "type" => rename(rest, &mut given.info, said),
+        "path" => know(rest, &mut given.host, said),
         "override" => override_operator(rest, &mut given.info, said),
         "fast" => given.info.set_fast_operators(true),
         "variable" | "constant" | "record" | "module" => bind(word, rest, given, said),
@@ -187,6 +210,16 @@ fn rename(text: &str, info: &mut EngineInfo, said: &Said) {
         && let Some(to) = said.shared(to)
     {
         said.made(info.set_type_name(from, to));
+    }
+}
+
+/// A path and the module that it leads to.
+fn know(text: &str, host: &mut RowsHost, said: &Said) {
+    let (path, name) = split(text, " = ");
+    if let Some(path) = said.shared(path)
+        && let Some(name) = said.shared(name)
+    {
+        said.made(host.paths.push((path, name)));
     }
 }
 

@@ -23,7 +23,7 @@ impl Host for Seven {
     // the two in the logic: what a run reports is proved of every host that answers so
     ghost answers = { λ host past call. Answers (IntV (pos 7)) None };
 
-    ghost modules = { λ host. [] };
+    ghost modules = { λ host. record { values = []; paths = [] } };
 
     fn answer(
         &self,
@@ -38,6 +38,10 @@ impl Host for Seven {
     }
 
     fn module_value(&self, _alloc: Global, _name: &str) -> Result<Option<Dynamic>, OutOfMemory> {
+        Ok(None)
+    }
+
+    fn module(&self, _alloc: Global, _path: &str) -> Result<Option<ImmutableString>, OutOfMemory> {
         Ok(None)
     }
 }

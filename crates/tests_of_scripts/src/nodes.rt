@@ -1,13 +1,15 @@
 //! The calls below the optimiser's entry, and where nodes stand.
 
 use crate::record::say_value;
-use rhai_ast::{ASTNode, Expr, FnCallExpr, NodeQueries, Stmt, StmtBlock, walk_statements};
+use rhai_ast::{ASTNode, Expr, FnCallExpr, NodeQueries, Stmt, walk_statements};
 use rhai_base::Position;
 use rhai_folding::{constant_bool, folded};
 use rhai_notation::push_lines;
-use rhai_optimizer::{OptimizationLevel, OptimizerState, optimize_top_level};
+use rhai_optimizer::{OptimizationLevel, OptimizerState, optimize_ast};
 use rhai_rules::{Place, reduce_expr, reduce_stmt};
 use rhai_run::EngineInfo;
+use rhai_script::{AST, FnLib};
+use std::rc::Rc;
 use tests_reader::{Said, Script};
 
 pub fn answer(question: &str, info: &EngineInfo, text: &str, said: &Said) {
@@ -32,9 +34,8 @@ fn of_statements(question: &str, info: &EngineInfo, text: &str, said: &Said) {
     else {
         return;
     };
-    let block = StmtBlock::new(statements, Position::NONE, Position::NONE);
-    if let Some(changed) = changed(question, info, block, said) {
-        say_lines(changed.statements(), said);
+    if let Some(changed) = changed(question, info, statements, said) {
+        say_lines(changed.as_slice(), said);
     }
 }
 
@@ -48,14 +49,22 @@ fn say_lines(statements: &[Stmt], said: &Said) {
 fn changed(
     question: &str,
     info: &EngineInfo,
-    mut statements: StmtBlock,
+    mut statements: Vec<Stmt>,
     said: &Said,
-) -> Option<StmtBlock> {
+) -> Option<Vec<Stmt>> {
     if question == "top_level" {
-        return said.made(optimize_top_level(said.alloc, info, None, statements));
+        return top_level(info, statements, said);
     }
-    reduce(info, statements.statements_mut().get_mut(0), said);
+    reduce(info, statements.get_mut(0), said);
     Some(statements)
+}
+
+fn top_level(info: &EngineInfo, statements: Vec<Stmt>, said: &Said) -> Option<Vec<Stmt>> {
+    let lib = said.made(Rc::new(said.alloc, FnLib::new(said.alloc)))?;
+    let script = AST::new(statements, lib);
+    let level = OptimizationLevel::Simple;
+    let script = said.made(optimize_ast(said.alloc, info, None, script, level))?;
+    Some(script.into_statements())
 }
 
 /// One step on a statement, or on the expression that it is; says whether something was done.

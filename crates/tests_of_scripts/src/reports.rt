@@ -10,18 +10,20 @@ pub fn answer(question: &str, text: &str, said: &Said) {
     match question {
         "stuck" => stuck(text, said),
         "module" => module(text, said),
+        "path" => path(text, said),
         _ => host(text, said),
     }
 }
 
 /// Reasons by their names.
-static REASONS: [(&str, Stuck); 6] = [
+static REASONS: [(&str, Stuck); 7] = [
     ("Unbound", Stuck::Unbound),
     ("WrongKind", Stuck::WrongKind),
     ("WriteToConstant", Stuck::WriteToConstant),
     ("NoPlace", Stuck::NoPlace),
     ("CounterTooLarge", Stuck::CounterTooLarge),
     ("UnboundThis", Stuck::UnboundThis),
+    ("UnknownModule", Stuck::UnknownModule),
 ];
 
 fn stuck(name: &str, said: &Said) {
@@ -37,6 +39,7 @@ fn say_stuck(reason: Stuck, said: &Said) {
     let report = RunReport {
         run_end: RunEnd::Stuck(reason),
         variables: Seq::new(said.alloc),
+        exports: Seq::new(said.alloc),
         calls: Seq::new(said.alloc),
         turns_left: 1,
     };
@@ -51,6 +54,14 @@ fn say_stuck(reason: Stuck, said: &Said) {
 fn module(name: &str, said: &Said) {
     let value = said.found(ProgramHost.module_value(said.alloc, name));
     say_value(value.as_ref(), said);
+}
+
+/// The module that it knows by a path.
+fn path(path: &str, said: &Said) {
+    match said.found(ProgramHost.module(said.alloc, path)) {
+        Some(name) => said.put(name.as_str()),
+        None => said.put("none"),
+    }
 }
 
 /// Its answer to a call: a name, or `''` for none, and its arguments in an array; behind ` on ` its receiver.

@@ -80,6 +80,8 @@ pub(crate) enum ExprKind {
     Variable,
     Property,
     Method,
+    Alone,
+    Spoiled,
 }
 
 /// What a statement is.
@@ -101,6 +103,7 @@ pub(crate) enum StmtKind {
     Import,
     Export,
     Share,
+    Spoiled,
 }
 
 /// An expression's kind with its parts.
@@ -133,9 +136,12 @@ pub(crate) static STATEMENTS: [Part; 1] = [Part::Statements];
 /// An expression as a statement, or an assignment to it.
 pub(crate) static ALONE: [Part; 2] = [Part::Expr, Part::Assigned];
 
-/// Expressions by their words.
-pub(crate) static EXPRS: [(&str, ExprKind, &[Part]); 7] = [
+/// Expressions by their words. Behind `alone` stands what else stands at the right of a `.`, behind `spoiled` a node in which
+/// something is wrong that no printed text shows.
+pub(crate) static EXPRS: [(&str, ExprKind, &[Part]); 9] = [
     ("this", ExprKind::This, &[]),
+    ("alone", ExprKind::Alone, &[BLANK, Part::Link]),
+    ("spoiled", ExprKind::Spoiled, &[BLANK, Part::Expr]),
     ("text", ExprKind::Text, &[OPEN, Part::Operands]),
     ("and", ExprKind::And, &[OPEN, Part::Operands]),
     ("or", ExprKind::Or, &[OPEN, Part::Operands]),
@@ -153,7 +159,8 @@ pub(crate) static EXPRS: [(&str, ExprKind, &[Part]); 7] = [
 ];
 
 /// The same at the right of a `.`
-pub(crate) static LINKS: [(&str, ExprKind, &[Part]); 2] = [
+pub(crate) static LINKS: [(&str, ExprKind, &[Part]); 3] = [
+    ("spoiled", ExprKind::Spoiled, &[BLANK, Part::Link]),
     (
         "Dot",
         ExprKind::Dot,
@@ -191,8 +198,9 @@ const IS: Part = Part::Letters(" = ");
 const AS: Part = Part::Letters(" as ");
 
 /// Statements by their words.
-pub(crate) static STMTS: [(&str, StmtKind, &[Part]); 19] = [
+pub(crate) static STMTS: [(&str, StmtKind, &[Part]); 20] = [
     ("noop", StmtKind::Noop, &[]),
+    ("spoiled", StmtKind::Spoiled, &[BLANK, Part::Statement]),
     (
         "if",
         StmtKind::If,

@@ -7,6 +7,7 @@ mod joined;
 mod letters;
 mod names;
 mod nodes;
+mod odd;
 mod parts;
 mod questions;
 mod reading;

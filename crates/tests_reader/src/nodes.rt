@@ -4,6 +4,7 @@ use crate::forms::{ExprKind, StmtKind};
 use crate::joined::both;
 use crate::letters::Letters;
 use crate::names::Called;
+use crate::odd;
 use crate::parts::Parts;
 use rhai_ast::{BinaryExpr, Expr, FnCallExpr, Literals, Stmt, StmtBlock, SwitchBlock};
 use rhai_base::{
@@ -27,6 +28,8 @@ impl<'a> Letters<'a> {
             ExprKind::Call | ExprKind::Variable | ExprKind::Property | ExprKind::Method => {
                 self.of_name(kind, parts)
             }
+            ExprKind::Alone => Some(parts.expr()),
+            ExprKind::Spoiled => Some(odd::spoiled_expr(self.alloc, parts.expr())),
         }
     }
 
@@ -140,6 +143,7 @@ impl<'a> Letters<'a> {
             StmtKind::Import => self.import(parts, pos),
             StmtKind::Export => self.export(parts, pos),
             StmtKind::Share => self.share(parts),
+            StmtKind::Spoiled => Some(odd::spoiled_stmt(self.alloc, parts.statements.pop()?)),
         }
     }
 

@@ -40,6 +40,11 @@ impl Said {
 
     // ---- faults
 
+    /// Whether all was read and made so far.
+    pub fn is_whole(&self) -> bool {
+        self.fault.get().is_none()
+    }
+
     /// Remembers the first fault.
     pub(crate) fn refuse(&self, fault: Unread) {
         if self.fault.get().is_none() {

@@ -60,7 +60,7 @@ impl<'a, H: Host> Machine<'a, H> {
     {
         let scope = state.scope.as_slice();
         match position(scope, name) {
-            Some(place) => Ok(&scope[place].2),
+            Some(place) => Ok(&scope[place].value),
             None => match self.info.constant_named(name) {
                 Some(value) => Ok(value),
                 None => Err(Stuck::Unbound),

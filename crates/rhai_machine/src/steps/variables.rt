@@ -1,6 +1,6 @@
-//! Names and `this`: what stands there.
+//! Names and `this`: what stands there; modules.
 
-#![tactic(auto, using(rhai_reading::specs::Reading::shapes))]
+#![tactic(auto, using(rhai_reading::specs::Reading::shapes, rhai_values::specs::Reading::kinds))]
 
 ghost use Rattle.rhai_reading.specs.Reading.{path_of};
 ghost use Rattle.rhai_meaning.specs.Act.{Read};
@@ -8,7 +8,10 @@ ghost use Rattle.rhai_machine.specs.Setting.{setting};
 ghost use Rattle.rhai_state.specs.Evaluating.{Runs, RunsCore};
 ghost use Rattle.rhai_state.specs.Runs.{Acting};
 ghost use Rattle.rhai_forms.specs.Variables.{root_meant};
+ghost use Rattle.rhai_values.specs.Reading.{value_of};
+ghost use Rattle.rhai_state.specs.declared.state.State.{State};
 ghost use Rattle.rhai_meaning.specs.Desugar as desugar;
+ghost use Rattle.rhai_meaning.specs.Meaning as meaning;
 
 use crate::steps::machine::Machine;
 use rhai_base::{Dynamic, ImmutableString, Namespace};
@@ -17,7 +20,8 @@ use rhai_host::{Host, Stuck};
 use rhai_state::{Interrupt, State};
 
 impl<'a, H: Host> Machine<'a, H> {
-    /// A variable's value: that of its latest entry, or of a module of the host.
+    /// A variable's value: that of its latest entry, or of a module of the host,
+    /// which an alias may name.
     pub fn variable(
         &self,
         state: &State,
@@ -29,7 +33,8 @@ impl<'a, H: Host> Machine<'a, H> {
         if namespace.is_empty() {
             return self.read(state, Root::Name(name));
         }
-        let qualified = qualified(self.alloc, namespace, name.as_str())?;
+        let scope = state.scope.as_slice();
+        let qualified = qualified(self.alloc, scope, namespace, name.as_str())?;
         match self.host.module_value(self.alloc, qualified.as_str())? {
             Some(value) => Ok(value),
             None => Err(Interrupt::Stuck(Stuck::Unbound)),
@@ -43,6 +48,28 @@ impl<'a, H: Host> Machine<'a, H> {
         match self.root_value(state, root) {
             Ok(value) => Ok(value.clone()?),
             Err(stuck) => Err(Interrupt::Stuck(stuck)),
+        }
+    }
+
+    /// The name of the module that a path leads to. What is no text is stuck, and so is a path that the host does not
+    /// know. This is no call.
+    pub fn module_at(&self, path: &Dynamic) -> Result<Dynamic, Interrupt>
+        ensures { let here = setting H.answers H.modules self.now in (s : State) → Runs here (Acting (meaning.module_at here.world (value_of path.now))) s result s }
+    {
+        match path {
+            Dynamic::Str(path) => match self.host.module(self.alloc, path.as_str())? {
+                Some(name) => Ok(Dynamic::Str(name)),
+                None => Err(Interrupt::Stuck(Stuck::UnknownModule)),
+            },
+            Dynamic::Unit
+            | Dynamic::Bool(_)
+            | Dynamic::Int(_)
+            | Dynamic::Char(_)
+            | Dynamic::Array(_)
+            | Dynamic::Map(_)
+            | Dynamic::FnPtr(_)
+            | Dynamic::Range(_, _)
+            | Dynamic::RangeInclusive(_, _) => Err(Interrupt::Stuck(Stuck::WrongKind)),
         }
     }
 }

@@ -55,10 +55,10 @@ impl<'a, H: Host> Machine<'a, H> {
             return self.write_in_constant(must, name, keys);
         };
         let variable = &mut state.scope[place];
-        if variable.1 {
-            return constant_end(must, &variable.2, keys);
+        if variable.kind.is_constant() {
+            return constant_end(must, &variable.value, keys);
         }
-        if replace_along(&mut variable.2, keys, value)? {
+        if replace_along(&mut variable.value, keys, value)? {
             Ok(())
         } else {
             Err(Interrupt::Stuck(Stuck::NoPlace))

@@ -7,13 +7,13 @@ use Rattle.rhai_base.specs.Operators.{Operator, Computed, NoEntry, Is, Overflows
 use Rattle.rhai_meaning.specs.Engine.{built_in, asks_assigning, assigning}
 use Rattle.rhai_meaning.specs.Act.{World, Env, Exit, Throws, Root, Key, Act}
 use Rattle.rhai_meaning.specs.ActForms.{give, ask_host}
-use Rattle.rhai_meaning.specs.Calls.{of_table, operate, assigned, pointer_to, curried, has_key, key, call_named, call_pointer, Word, ToHost, TypeOf, IsShared, Fn, Curry, CallFn, word, call_word, called}
+use Rattle.rhai_meaning.specs.Calls.{of_table, operate, assigned, pointer_to, curried, has_key, key, call_named, call_pointer, Word, ToHost, TypeOf, IsShared, Fn, Curry, CallFn, word, call_word, within, called}
 use Rattle.rhai_meaning.specs.Chains.{Access, OfProperty, OfIndex, OfMethod, or_throw, ask_for, property, index, after_method, method_key, to_method, method, applied, set_by_host, set_element, set_property, set_index, set_placed, set_at, assign_last, assign_root}
 use Rattle.rhai_meaning.specs.Core.{Callee, OnOperator, Qualified, ByName}
 use Rattle.rhai_meaning.specs.Elements.{element, character, bit}
 use Rattle.rhai_meaning.specs.Places.{AtIndex, Place, Current, along, with_along, or_no_place, write_place, part, without_place, again_at, refreshed, put_at, put_back}
 use Rattle.rhai_meaning.specs.Tree.{PropertyNames}
-use Rattle.rhai_rewriting.proofs.acts.Within.{AnyValue, CallsIn, Within, in_give, in_stop, in_fail, bind_in, choose_in, read_in, write_in, ask_in, answered_in, invoke_in}
+use Rattle.rhai_rewriting.proofs.acts.Within.{AnyValue, CallsIn, Within, in_give, in_stop, in_fail, bind_in, choose_in, read_in, write_in, resolve_in, ask_in, answered_in, invoke_in}
 
 module _ (w : World) (env : Env) (L : Exit → Type 0) (th : (v : Value) → L (Throws v)) (calls : CallsIn L env) where
   abbrev Any : Act → Type 0
@@ -62,7 +62,7 @@ module _ (w : World) (env : Env) (L : Exit → Type 0) (th : (v : Value) → L (
 
   pub called_in : (c : Callee) (vs : List Value) → Any (called w c vs)
   called_in (OnOperator op) vs = operate_in op vs
-  called_in (Qualified f) vs = host_in f vs
+  called_in (Qualified m f) vs = resolve_in w env m (λ n. host_in (within n f) vs)
   called_in (ByName f b) vs = word_in b f (word f) vs
 
   module _ (V : Value → Type 0) (unit : V UnitV) where

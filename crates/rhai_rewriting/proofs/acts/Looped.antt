@@ -2,7 +2,7 @@
 use Rattle.std.proofs.Common.{ℕ, zero, suc, Bool, true, false, cond, List, [], ◌∷◌, Option, Some, None}
 use Rattle.std.specs.Prelude.{ℤ, pos, ◌+ℤ◌, ◌-ℤ◌, ◌^◌, nat_lt}
 use Rattle.rhai_values.specs.Value.{Text, Value, UnitV, IntV, ArrayV, RangeV, RangeInclusiveV, items}
-use Rattle.rhai_meaning.specs.Act.{World, Env, Exit, Breaks, Throws, Again, Ending, Gives, Leaves, WrongKind, CounterTooLarge, Act, Then, Acts}
+use Rattle.rhai_meaning.specs.Act.{World, IsVariable, Env, Exit, Breaks, Throws, Again, Ending, Gives, Leaves, WrongKind, CounterTooLarge, Act, Then, Acts}
 use Rattle.rhai_meaning.specs.ActForms.{on_throw, again_then}
 use Rattle.rhai_meaning.specs.Control.{round, do_loop, counted, for_each, for_count, size, for_all, named, end_branch, try_of}
 use Rattle.rhai_meaning.specs.Core.{Expr, Always, When}
@@ -45,15 +45,15 @@ module _ (w : World) (env : Env) (L M : Exit → Type 0) (V : Value → Type 0) 
 
   counted_in : (i : Option Text) (k : ℕ) {p : Acts} → Body p → Body (counted i k p)
   counted_in None k h = h
-  counted_in (Some i) k h = counted_when (nat_lt k (2 ^ 63)) (named_in w env i false (IntV (pos k)) h) (only_in w env (in_fail w env CounterTooLarge))
+  counted_in (Some i) k h = counted_when (nat_lt k (2 ^ 63)) (named_in w env i IsVariable (IntV (pos k)) h) (only_in w env (in_fail w env CounterTooLarge))
 
   each_in : (x : Text) (i : Option Text) {p : Acts} → Body p → (k : ℕ) (vs : List Value) → Fits (for_each x i p k vs)
   each_in x i h k [] = in_give w env UnitV unit
-  each_in x i h k (v ∷ vs) = then_again (one_round (counted_in i k (named_in w env x false v h))) (each_in x i h (suc k) vs)
+  each_in x i h k (v ∷ vs) = then_again (one_round (counted_in i k (named_in w env x IsVariable v h))) (each_in x i h (suc k) vs)
 
   count_in : (x : Text) (i : Option Text) {p : Acts} → Body p → (k : ℕ) (a : ℤ) (n : ℕ) → Fits (for_count x i p k a n)
   count_in x i h k a zero = in_give w env UnitV unit
-  count_in x i h k a (suc n) = then_again (one_round (counted_in i k (named_in w env x false (IntV a) h))) (count_in x i h (suc k) (a +ℤ pos 1) n)
+  count_in x i h k a (suc n) = then_again (one_round (counted_in i k (named_in w env x IsVariable (IntV a) h))) (count_in x i h (suc k) (a +ℤ pos 1) n)
 
   pub for_in : (x : Text) (i : Option Text) {p : Acts} → Body p → (v : Value) → Fits (for_all x i p v)
   for_in x i h (ArrayV vs) = each_in x i h 0 (items vs)
@@ -66,7 +66,7 @@ module _ (w : World) (env : Env) (L M : Exit → Type 0) (V : Value → Type 0) 
 module _ (w : World) (env : Env) (M : Exit → Type 0) (V : Value → Type 0) (th : (v : Value) → M (Throws v)) (unit : V UnitV) where
   caught_in : (x : Option Text) (v : Value) {p : Acts} → WithinAll w env M AnyValue p → WithinAll w env M AnyValue (named x v p)
   caught_in None v h = h
-  caught_in (Some x) v h = named_in w env x false v h
+  caught_in (Some x) v h = named_in w env x IsVariable v h
 
   branch_end : (u : Value) (e : Ending) → EndingIn M AnyValue e → Within w env M V (end_branch u e)
   branch_end u (Gives v) h = in_give w env UnitV unit

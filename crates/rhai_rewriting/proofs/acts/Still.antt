@@ -1,7 +1,7 @@
 -- Acts that write nothing: the scope after them is as it was.
-use Rattle.std.proofs.Common.{◌≡◌, ℕ, zero, suc, Bool, List, [], ◌∷◌, ◌++◌, Option, Some, None, refl, ◌∙◌, subst}
+use Rattle.std.proofs.Common.{◌≡◌, ℕ, zero, suc, List, [], ◌∷◌, ◌++◌, Option, Some, None, refl, ◌∙◌, subst}
 use Rattle.rhai_values.specs.Value.{Text, Value}
-use Rattle.rhai_meaning.specs.Act.{ScopeEntry, HostCall, Answer, World, Store, Ending, Leaves, Again, Ended, Halted, Stuck, Root, OfName, OfThis, Result, At, Act, Stop, Fail, Then, Turn, Read, AskHost, Loop, Scoped, Acts, Only, Do, Named, Env, and_then, with_turn, leave, rounds, on_again, read, read_this, read_root, found, restore, run, run_all}
+use Rattle.rhai_meaning.specs.Act.{EntryKind, ScopeEntry, HostCall, Answer, World, Store, Ending, Leaves, Again, Ended, Halted, Stuck, Root, OfName, OfThis, Result, At, Act, Stop, Fail, Then, Turn, Read, Resolve, AskHost, Loop, Scoped, Acts, Only, Do, Named, Env, and_then, with_turn, leave, rounds, on_again, read, read_this, read_root, found, resolved, restore, run, run_all}
 use Rattle.rhai_meaning.specs.Relations.{store_of}
 use Rattle.rhai_meaning.proofs.Relations.{Grows, kept, pushed}
 use Rattle.rhai_meaning.proofs.Preserves.{keeps_refl, restore_keeps, restore_pushed}
@@ -13,6 +13,7 @@ mutual
     still_then : {a : Act} {next : Ending → Act} → Still a → ((e : Ending) → Still (next e)) → Still (Then a next)
     still_turn : {a : Act} → Still a → Still (Turn a)
     still_read : {r : Root} → Still (Read r)
+    still_resolve : {x : Text} {next : Text → Act} → ((m : Text) → Still (next m)) → Still (Resolve x next)
     still_ask : {c : HostCall} {next : Answer → Act} → ((a : Answer) → Still (next a)) → Still (AskHost c next)
     still_loop : {a : Act} → Still a → Still (Loop a)
     still_scoped : {p : Acts} → StillList p → Still (Scoped p)
@@ -20,7 +21,7 @@ mutual
   pub data StillList : Acts → Type 0 where
     still_only : {a : Act} → Still a → StillList (Only a)
     still_do : {a : Act} {next : Ending → Acts} → Still a → ((e : Ending) → StillList (next e)) → StillList (Do a next)
-    still_named : {x : Text} {c : Bool} {v : Value} {p : Acts} → StillList p → StillList (Named x c v p)
+    still_named : {x : Text} {c : EntryKind} {v : Value} {p : Acts} → StillList p → StillList (Named x c v p)
 
 -- a scope under names that were added
 data Above (es : List ScopeEntry) : List ScopeEntry → Type 0 where
@@ -89,6 +90,7 @@ module _ (w : World) (env : Env) where
     still (still_then {a = a} h k) s t = same_then s.scope (run w env a s t) (still h s t) _ (λ e s1 t1. still (k e) s1 t1)
     still (still_turn h) s t = same_turn t s _ (λ t1. still h s t1)
     still (still_read {r = r}) s t = same_root w r s t
+    still (still_resolve {x = x} h) s t = still (h (resolved s.scope x)) s t
     still (still_ask {c = c} h) s t = record { is = (still (h (w.host.answer s.calls c)) (record s { calls = s.calls ++ c ∷ [] }) t).is }
     still (still_loop {a = a} h) s t = same_rounds env.rounds (run w env a) (λ s1 t1. still h s1 t1) s t
     still (still_scoped {p = p} h) s t = same_leave s.scope (run_all w env p s t) (still_list h s t)
@@ -97,4 +99,4 @@ module _ (w : World) (env : Env) where
     still_list (still_only {a = a} h) s t = record { is = subst (λ fs. Above fs (store_of (run w env a s t)).scope) (still h s t).is level }
     still_list (still_do {a = a} h k) s t = on_then s.scope (run w env a s t) (still h s t) _ (λ e s1 t1. still_list (k e) s1 t1)
     still_list (still_named {x = x} {c = c} {v = v} h) s t =
-        let q = still_list h (record s { scope = record { name = x; constant = c; value = v } ∷ s.scope }) t in record { is = above_tail q.is }
+        let q = still_list h (record s { scope = record { name = x; kind = c; value = v } ∷ s.scope }) t in record { is = above_tail q.is }

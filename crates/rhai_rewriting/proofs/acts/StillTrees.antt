@@ -17,7 +17,7 @@ use Rattle.rhai_meaning.specs.Shape.{is_unit}
 use Rattle.rhai_meaning.specs.OperatorCalls.{is_operator}
 use Rattle.rhai_meaning.specs.Tree.{CallToken, NoToken, OfOperator, OfOther, Callee, PropertyNames, Expr}
 use Rattle.rhai_rewriting.specs.SelfAssign.{writes_nothing, leaves_names}
-use Rattle.rhai_rewriting.proofs.acts.Still.{Still, still_stop, still_fail, still_then, still_turn, still_read, still_ask, still_loop, still_scoped, StillList, still_only, still_do, still_named}
+use Rattle.rhai_rewriting.proofs.acts.Still.{Still, still_stop, still_fail, still_then, still_turn, still_read, still_resolve, still_ask, still_loop, still_scoped, StillList, still_only, still_do, still_named}
 use Rattle.rhai_rewriting.proofs.acts.Trees.{Closed, expr_held}
 
 no : {A : Type 0} → false ≡ true → A
@@ -152,6 +152,7 @@ still_closed w = record {
   gives = λ v. still_stop;
   fail = λ f. still_fail;
   read = λ r. still_read;
+  resolve = λ a h. still_resolve h;
   bind = λ h k. still_bind h k;
   scoped = λ h. still_scoped h;
   only = λ h. still_only h;

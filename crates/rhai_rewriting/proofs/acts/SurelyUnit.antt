@@ -1,8 +1,8 @@
 -- A statement that surely is unit gives no other value.
-use Rattle.std.proofs.Common.{◌≡◌, Bool, true, false, not, cond, List, [], ◌∷◌, Option, Some, None, refl}
+use Rattle.std.proofs.Common.{◌≡◌, Bool, true, false, cond, List, [], ◌∷◌, Option, Some, None, refl}
 use Rattle.rhai_values.specs.Value.{Text, Value, UnitV}
 use Rattle.rhai_base.specs.Operators.{Operator}
-use Rattle.rhai_meaning.specs.Act.{World, Env, Act, Acts}
+use Rattle.rhai_meaning.specs.Act.{World, EntryKind, Env, Act, Acts}
 use Rattle.rhai_meaning.specs.Chains.{Access}
 use Rattle.rhai_meaning.specs.Core as core
 use Rattle.rhai_meaning.specs.Desugar.{guard_by, try_by, target_of, core_expr, core_stmt}
@@ -64,21 +64,17 @@ module _ (w : World) (env : Env) where
   -- one that declares a name gives unit by what follows
   pub data UnitStmt : core.Stmt → Type 0 where
     unit_deed : {d : core.Deed} → UnitOnly (deed w d) → UnitStmt (core.Does d)
-    unit_var : {c : Bool} {x : Text} {e : core.Expr} → UnitStmt (core.Var c x e)
+    unit_var : {c : EntryKind} {b : Bool} {x : Text} {e : core.Expr} → UnitStmt (core.Var c b x e)
 
   pub unit_of : {d : core.Deed} → UnitStmt (core.Does d) → UnitOnly (deed w d)
   unit_of (unit_deed h) = h
 
-  var_unit : (b c : Bool) (x : Text) (e : core.Expr) → UnitStmt (cond b (core.Does core.IllDeed) (core.Var c x e))
-  var_unit true c x e = unit_deed (in_fail w env _)
-  var_unit false c x e = unit_var
-
   pub surely_unit : CallsIn Valueless env → (l : Bool) (s : Stmt) → is_surely_unit s ≡ true → UnitStmt (core_stmt l s)
   surely_unit calls l Noop h = unit_deed (in_give w env UnitV refl)
-  surely_unit calls l (Var c b x e) h = var_unit b c x _
+  surely_unit calls l (Var c b x e) h = unit_var
   surely_unit calls l (Assignment op a e) h = unit_deed (deed_or_ill (is_left_side a) _ (bind_in w env (in_any w env (act w (core_expr l e))) (λ v y. target_unit (target_of l a) op v)))
   surely_unit calls l (TryCatch x a b) h = unit_deed (try_unit (catch_name x) _ _)
   surely_unit calls l (While e b) h = unit_deed (while_unit e _ (list_unbroken w env calls true false b h UnitV))
-  surely_unit calls l (Do n exported e b) h = unit_deed (deed_or_ill (not exported) _ (do_in w env Valueless AnyExit IsUnit (λ y j. tt) tt (λ v j. j) refl n (in_any w env (act w (core_expr l e))) (list_unbroken w env calls true false b h UnitV)))
+  surely_unit calls l (Do n exported e b) h = unit_deed (do_in w env Valueless AnyExit IsUnit (λ y j. tt) tt (λ v j. j) refl n (in_any w env (act w (core_expr l e))) (list_unbroken w env calls true false b h UnitV))
   surely_unit calls l (For x i e b) h = unit_deed (bind_in w env (in_any w env (act w (core_expr l e))) (λ v y. for_in w env Valueless AnyExit IsUnit (λ z j. tt) tt (λ u j. j) refl x i (list_unbroken w env calls true false b h UnitV) v))
   surely_unit calls l _ h = no h

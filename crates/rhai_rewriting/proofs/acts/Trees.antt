@@ -1,16 +1,16 @@
 -- What closes under the constructs of the language holds of the act of each tree all of whose nodes it allows.
 use Rattle.std.proofs.Common.{◌≡◌, ℕ, zero, suc, Bool, true, false, cond, List, [], ◌∷◌, Option, Some, None}
-use Rattle.std.specs.Prelude.{not, ◌&&◌, slice_get}
-use Rattle.rhai_values.specs.Value.{Text, Value, UnitV}
+use Rattle.std.specs.Prelude.{◌&&◌, slice_get}
+use Rattle.rhai_values.specs.Value.{Text, Value, UnitV, TextV}
 use Rattle.rhai_base.specs.Operators.{Operator}
-use Rattle.rhai_meaning.specs.Act.{World, Returns, Breaks, Continues, Throws, Leaves, Stuck, Root, OfThis, Act, Stop, Fail, Read, Scoped, Acts, Only, Named}
+use Rattle.rhai_meaning.specs.Act.{World, EntryKind, IsExport, OfName, Resolve, Returns, Breaks, Continues, Throws, Leaves, Stuck, Root, OfThis, Act, Stop, Fail, Read, Scoped, Acts, Only, Named}
 use Rattle.rhai_meaning.specs.ActForms.{give, ◌>>=◌, choose, truth, branch, if_true, then_line, of_constant}
 use Rattle.rhai_meaning.specs.Calls.{called}
 use Rattle.rhai_meaning.specs.Chains.{Access, OfProperty, OfIndex, OfMethod, applied, assign_last, assign_root}
 use Rattle.rhai_meaning.specs.Control.{ArmActs, try_arm, first_arm, answer_of, default_of, chosen, switch_on, do_loop, for_all, try_of}
 use Rattle.rhai_meaning.specs.Core as core
-use Rattle.rhai_meaning.specs.Desugar.{variable, name_target, root_of, based, ends_in_call, part_target, guard_by, try_by, callee_by, return_kind, break_kind, member_of, steps_of, target_of, core_expr, core_exprs, core_pairs, core_arms, core_maybe, core_stmt, core_stmts}
-use Rattle.rhai_meaning.specs.Meaning.{act, with_args, with_pairs, both, either, first_some, at_base, access, steps, assign_steps, assign, arm_acts, loop, deed, line, acts, exit, wanted_value}
+use Rattle.rhai_meaning.specs.Desugar.{variable, alias, name_target, root_of, based, ends_in_call, part_target, guard_by, try_by, callee_by, return_kind, break_kind, member_of, steps_of, target_of, core_expr, core_exprs, core_pairs, core_arms, core_maybe, core_stmt, core_stmts}
+use Rattle.rhai_meaning.specs.Meaning.{module_known, module_at, exporting, act, with_args, with_pairs, both, either, first_some, at_base, access, steps, assign_steps, assign, arm_acts, loop, deed, line, acts, exit, wanted_value}
 use Rattle.rhai_meaning.specs.Places.{Current, refreshed}
 use Rattle.rhai_meaning.specs.Plain.{all_true}
 use Rattle.rhai_meaning.specs.Shape.{is_unit, is_map, is_chain, is_callable, is_left_side, is_table, catch_name}
@@ -33,11 +33,12 @@ pub record Closed (w : World) (C : Act → Type 0) (D : Acts → Type 0) (P : No
   pub gives : (v : Value) → C (give v)
   pub fail : (f : Stuck) → C (Fail f)
   pub read : (r : Root) → C (Read r)
+  pub resolve : (a : Text) {f : Text → Act} → ((m : Text) → C (f m)) → C (Resolve a f)
   pub bind : {a : Act} {f : Value → Act} → C a → ((v : Value) → C (f v)) → C (a >>= f)
   pub scoped : {p : Acts} → D p → C (Scoped p)
   pub only : {a : Act} → C a → D (Only a)
   pub line : {a : Act} {f : Value → Acts} → C a → ((v : Value) → D (f v)) → D (then_line a f)
-  pub named : (x : Text) (b : Bool) (v : Value) {p : Acts} → D p → D (Named x b v p)
+  pub named : (x : Text) (b : EntryKind) (v : Value) {p : Acts} → D p → D (Named x b v p)
   pub refreshes : (c : Current) {f : Current → Act} → ((d : Current) → C (f d)) → C (refreshed c f)
   pub property : (p : PropertyNames) → Applies w C (OfProperty p)
   pub index : (i : Value) → Applies w C (OfIndex i)
@@ -103,7 +104,15 @@ module _ (w : World) (C : Act → Type 0) (D : Acts → Type 0) (P : Node → Bo
 
   variable_held : (ns : List Text) (x : Text) → C (act w (variable ns x))
   variable_held [] x = g.read _
-  variable_held (n ∷ ns) x = module_held _
+  variable_held (n ∷ ns) x = g.resolve n (λ m. module_held _)
+
+  known_held : (o : Option Text) → C (module_known o)
+  known_held None = g.fail _
+  known_held (Some m) = g.gives _
+
+  path_held : (v : Value) → C (module_at w v)
+  path_held (TextV p) = known_held (w.host.module_of p)
+  path_held _ = g.fail _
 
   -- ---- chains
 
@@ -198,15 +207,19 @@ module _ (w : World) (C : Act → Type 0) (D : Acts → Type 0) (P : Node → Bo
 
   data HeldStmt : core.Stmt → Type 0 where
     held_deed : {d : core.Deed} → C (deed w d) → HeldStmt (core.Does d)
-    held_var : {c : Bool} {x : Text} {e : core.Expr} → C (act w e) → HeldStmt (core.Var c x e)
+    held_var : {c : EntryKind} {b : Bool} {x : Text} {e : core.Expr} → C (act w e) → HeldStmt (core.Var c b x e)
+
+  exporting_held : (b : Bool) (x : Text) (v : Value) {p : Acts} → D p → D (exporting b x v p)
+  exporting_held true x v h = g.named x IsExport v h
+  exporting_held false x v h = h
 
   line_held : {l : core.Stmt} → HeldStmt l → {f : Value → Acts} → ((v : Value) → D (f v)) → D (line w l f)
   line_held (held_deed h) k = g.line h (λ v. k v)
-  line_held (held_var {c = c} {x = x} h) k = g.line h (λ v. g.named x c v (k UnitV))
+  line_held (held_var {c = c} {b = b} {x = x} h) k = g.line h (λ v. g.named x c v (exporting_held b x v (k UnitV)))
 
-  var_held : (b c : Bool) (x : Text) (e : core.Expr) → C (act w e) → HeldStmt (cond b (core.Does core.IllDeed) (core.Var c x e))
-  var_held true c x e h = held_deed (g.fail _)
-  var_held false c x e h = held_var h
+  alias_held : (x : Text) (e : core.Expr) → C (act w e) → HeldStmt (alias x e)
+  alias_held [] e h = held_deed (g.bind (g.bind h path_held) (λ v. g.gives UnitV))
+  alias_held (c ∷ cs) e h = held_var (g.bind h path_held)
 
   while_held : (e : Expr) (x : core.Expr) {p : Acts} → C (act w x) → D p → C (loop w (guard_by e x) p)
   while_held UnitConstant x q h = g.always h
@@ -263,11 +276,11 @@ module _ (w : World) (C : Act → Type 0) (D : Acts → Type 0) (P : Node → Bo
     steps_held l dot k p (Dot m a r) j h =
         let z = split (over_expr W a) (over_expr W r) (inner (Dot m a r) h) in
         either_steps k.breaks _ _ (last_held k.negated p j)
-        (more_held k.negated _ _ (either_step m.exported _ _ ill_step (either_step dot _ _ (member_held l a z.0) (index_held _ (expr_held l a z.0)))) (steps_held l true m (member_of l r) r (member_held l r z.1) z.1))
+        (more_held k.negated _ _ (either_step dot _ _ (member_held l a z.0) (index_held _ (expr_held l a z.0))) (steps_held l true m (member_of l r) r (member_held l r z.1) z.1))
     steps_held l dot k p (Index m a r) j h =
         let z = split (over_expr W a) (over_expr W r) (inner (Index m a r) h) in
         either_steps k.breaks _ _ (last_held k.negated p j)
-        (more_held k.negated _ _ (either_step m.exported _ _ ill_step (either_step dot _ _ (member_held l a z.0) (index_held _ (expr_held l a z.0)))) (steps_held l false m (core.Index (core_expr l r)) r (index_held _ (expr_held l r z.1)) z.1))
+        (more_held k.negated _ _ (either_step dot _ _ (member_held l a z.0) (index_held _ (expr_held l a z.0))) (steps_held l false m (core.Index (core_expr l r)) r (index_held _ (expr_held l r z.1)) z.1))
     steps_held l dot k p _ j h = last_held k.negated p j
 
     target_held : (l : Bool) (e : Expr) → over_expr W e ≡ true → Writes w C → (op : Option Operator) (v : Value) → C (assign w op (target_of l e) v)
@@ -322,9 +335,9 @@ module _ (w : World) (C : Act → Type 0) (D : Acts → Type 0) (P : Node → Bo
         let z = split (over_expr W e) (arms_at true (λ p q. p && q) (over_arms W as') (listed t)) (inner_stmt (Switch e as' t) h) in
         held_deed (deed_held_or_ill (is_table as' t) _ (g.bind (expr_held l e z.0) (λ v. switch_held (arms_held l as') t z.1 v)))
     stmt_held l (While e b) h = let z = split (over_expr W e) (over_stmts W b) (inner_stmt (While e b) h) in held_deed (while_held e _ (expr_held l e z.0) (list_held true false b z.1 UnitV))
-    stmt_held l (Do n o e b) h = let z = split (over_expr W e) (over_stmts W b) (inner_stmt (Do n o e b) h) in held_deed (deed_held_or_ill (not o) _ (g.again n (expr_held l e z.0) (list_held true false b z.1 UnitV)))
+    stmt_held l (Do n o e b) h = let z = split (over_expr W e) (over_stmts W b) (inner_stmt (Do n o e b) h) in held_deed (g.again n (expr_held l e z.0) (list_held true false b z.1 UnitV))
     stmt_held l (For x i e b) h = let z = split (over_expr W e) (over_stmts W b) (inner_stmt (For x i e b) h) in held_deed (g.bind (expr_held l e z.0) (λ v. g.each x i (list_held true false b z.1 UnitV) v))
-    stmt_held l (Var c exported x e) h = var_held exported c x _ (expr_held l e (inner_stmt (Var c exported x e) h))
+    stmt_held l (Var c exported x e) h = held_var (expr_held l e (inner_stmt (Var c exported x e) h))
     stmt_held l (Assignment op a e) h =
         let z = split (over_expr W a) (over_expr W e) (inner_stmt (Assignment op a e) h) in
         let q = g.writes op a e (own_stmt (Assignment op a e) h) in
@@ -333,10 +346,10 @@ module _ (w : World) (C : Act → Type 0) (D : Acts → Type 0) (P : Node → Bo
     stmt_held l (Block ss) h = held_deed (g.scoped (list_held l true ss (inner_stmt (Block ss) h) UnitV))
     stmt_held l (TryCatch x a b) h = let z = split (over_stmts W a) (over_stmts W b) (inner_stmt (TryCatch x a b) h) in held_deed (try_or_ill (catch_name x) _ _ (list_held l false a z.0 UnitV) (list_held l false b z.1 UnitV))
     stmt_held l (ExprStmt e) h = held_deed (expr_held l e (inner_stmt (ExprStmt e) h))
-    stmt_held l (BreakLoop b o m) h = held_deed (deed_held_or_ill (l && not o) _ (break_held l b o m (own_stmt (BreakLoop b o m) h) (maybe_held l m (inner_stmt (BreakLoop b o m) h))))
-    stmt_held l (Return b o m) h = held_deed (deed_held_or_ill (not o) _ (return_held b (maybe_held l m (inner_stmt (Return b o m) h))))
-    stmt_held l (Import e x) h = held_deed (g.fail _)
-    stmt_held l (Export x y) h = held_deed (g.fail _)
+    stmt_held l (BreakLoop b o m) h = held_deed (deed_held_or_ill l _ (break_held l b o m (own_stmt (BreakLoop b o m) h) (maybe_held l m (inner_stmt (BreakLoop b o m) h))))
+    stmt_held l (Return b o m) h = held_deed (return_held b (maybe_held l m (inner_stmt (Return b o m) h)))
+    stmt_held l (Import e x) h = alias_held x _ (expr_held l e (inner_stmt (Import e x) h))
+    stmt_held l (Export x y) h = held_var (g.read (OfName x))
     stmt_held l (Share xs) h = held_deed (g.fail _)
 
     pub list_held : (l b : Bool) (ss : Stmts) → over_stmts W ss ≡ true → (v : Value) → D (acts w b (core_stmts l ss) v)

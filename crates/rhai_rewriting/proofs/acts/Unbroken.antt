@@ -7,7 +7,7 @@ use Rattle.rhai_meaning.specs.Desugar.{callee_by, core_stmts}
 use Rattle.rhai_meaning.specs.Meaning.{acts}
 use Rattle.rhai_meaning.specs.Tree.{Stmts}
 use Rattle.rhai_rewriting.specs.SurelyUnit.{carries_nothing, breaks_carry_nothing}
-use Rattle.rhai_rewriting.proofs.acts.Within.{AnyValue, Valueless, CallsIn, Within, WithinAll, in_give, in_stop, in_fail, bind_in, scoped_in, read_in, only_in, line_in, named_in}
+use Rattle.rhai_rewriting.proofs.acts.Within.{AnyValue, Valueless, CallsIn, Within, WithinAll, in_give, in_stop, in_fail, bind_in, scoped_in, read_in, resolve_in, only_in, line_in, named_in}
 use Rattle.rhai_rewriting.proofs.acts.Chained.{called_in, refreshed_in, applied_in, assign_last_in, assign_root_in}
 use Rattle.rhai_rewriting.proofs.acts.Looped.{always_in, when_in, do_in, for_in, try_in}
 use Rattle.rhai_rewriting.proofs.acts.Trees.{Closed, list_held}
@@ -21,6 +21,7 @@ module _ (w : World) (env : Env) (calls : CallsIn Valueless env) where
     gives = λ v. in_give w env v tt;
     fail = λ f. in_fail w env f;
     read = λ r. read_in w env r;
+    resolve = λ a h. resolve_in w env a h;
     bind = λ h k. bind_in w env h (λ v y. k v);
     scoped = λ h. scoped_in w env h;
     only = λ h. only_in w env h;

@@ -1,7 +1,7 @@
 -- Acts by the values that they may give and the ways in which they may leave.
 use Rattle.std.proofs.Common.{◌≡◌, ℕ, zero, suc, Bool, true, false, List, ◌∷◌, [], ◌++◌, Option, Some, None, refl, ap}
 use Rattle.rhai_values.specs.Value.{Text, Value, UnitV}
-use Rattle.rhai_meaning.specs.Act.{World, ScopeEntry, HostCall, Answer, Answers, AnswersThrow, Store, Exit, Returns, Breaks, Continues, Throws, Again, Ending, Gives, Leaves, Stuck, Ended, Halted, Result, At, Root, OfName, OfThis, ScriptCall, Act, Stop, Fail, Then, Turn, Read, Write, AskHost, Invoke, Loop, Scoped, Acts, Only, Named, Env, and_then, with_turn, call_then, found, read, read_this, read_root, write_at, write, write_this, write_root, leave, returned, rounds, on_again, run, run_all}
+use Rattle.rhai_meaning.specs.Act.{World, EntryKind, is_constant, resolved, ScopeEntry, HostCall, Answer, Answers, AnswersThrow, Store, Exit, Returns, Breaks, Continues, Throws, Again, Ending, Gives, Leaves, Stuck, Ended, Halted, Result, At, Root, OfName, OfThis, ScriptCall, Act, Stop, Fail, Then, Turn, Read, Write, Resolve, AskHost, Invoke, Loop, Scoped, Acts, Only, Named, Env, and_then, with_turn, call_then, found, read, read_this, read_root, write_at, write, write_this, write_root, leave, returned, rounds, on_again, run, run_all}
 use Rattle.rhai_meaning.specs.ActForms.{give, value_then, ◌>>=◌, each_value, then_line, choose, truth, branch, if_true, answered, end_round}
 use Rattle.rhai_meaning.specs.Control.{round}
 
@@ -83,7 +83,7 @@ module _ (L : Exit → Type 0) (V : Value → Type 0) where
 
   in_write : V UnitV → (must : Bool) (o : Option ScopeEntry) (x : Text) (v : Value) (s : Store) (t : ℕ) → ResultIn L V (write must o x v s t)
   in_write h must None x v s t = tt
-  in_write h must (Some e) x v s t = in_write_at h must e.constant x v s t
+  in_write h must (Some e) x v s t = in_write_at h must (is_constant e.kind) x v s t
 
   in_write_this : V UnitV → (o : Option Value) (v : Value) (s : Store) (t : ℕ) → ResultIn L V (write_this o v s t)
   in_write_this h None v s t = tt
@@ -171,6 +171,9 @@ module _ (w : World) (env : Env) where
   pub write_in : {L : Exit → Type 0} {V : Value → Type 0} (must : Bool) (r : Root) (v : Value) → V UnitV → Within L V (Write must r v)
   write_in {L = L} {V = V} must r v h = record { by = λ s t. in_write_root L V h w must r v s t }
 
+  pub resolve_in : {L : Exit → Type 0} {V : Value → Type 0} (a : Text) {next : Text → Act} → ((m : Text) → Within L V (next m)) → Within L V (Resolve a next)
+  resolve_in a h = record { by = λ s t. (h (resolved s.scope a)).by s t }
+
   pub ask_in : {L : Exit → Type 0} {V : Value → Type 0} (c : HostCall) {next : Answer → Act} → ((a : Answer) → Within L V (next a)) → Within L V (AskHost c next)
   ask_in c h = record { by = λ s t. (h (w.host.answer s.calls c)).by (record s { calls = s.calls ++ c ∷ [] }) t }
 
@@ -193,8 +196,8 @@ module _ (w : World) (env : Env) where
   pub line_in : {L : Exit → Type 0} {V V' : Value → Type 0} {a : Act} {f : Value → Acts} → Within L V a → ((v : Value) → V v → WithinAll L V' (f v)) → WithinAll L V' (then_line a f)
   line_in {L = L} {V = V} {V' = V'} {a = a} h k = record { by = λ s t. in_then L V L V' (run w env a s t) _ (h.by s t) (λ e j s1 t1. (each_in {V = V} k e j).by s1 t1) }
 
-  pub named_in : {L : Exit → Type 0} {V : Value → Type 0} (x : Text) (b : Bool) (v : Value) {p : Acts} → WithinAll L V p → WithinAll L V (Named x b v p)
-  named_in x b v h = record { by = λ s t. h.by (record s { scope = record { name = x; constant = b; value = v } ∷ s.scope }) t }
+  pub named_in : {L : Exit → Type 0} {V : Value → Type 0} (x : Text) (b : EntryKind) (v : Value) {p : Acts} → WithinAll L V p → WithinAll L V (Named x b v p)
+  named_in x b v h = record { by = λ s t. h.by (record s { scope = record { name = x; kind = b; value = v } ∷ s.scope }) t }
 
   pub unit_first : {a : Act} (f : Value → Acts) → Within AnyExit IsUnit a → (s : Store) (t : ℕ) → run_all w env (then_line a f) s t ≡ run_all w env (then_line a (λ v. f UnitV)) s t
   unit_first {a = a} f h s t = unit_result w env f (run w env a s t) (h.by s t)

@@ -18,7 +18,7 @@ use Rattle.rhai_meaning.proofs.PureTrees.{internal_list}
 use Rattle.rhai_rewriting.specs.Context.{Context}
 use Rattle.rhai_rewriting.specs.Known.{unknown}
 use Rattle.rhai_rewriting.specs.Operands.{with_last}
-use Rattle.rhai_rewriting.proofs.simulation.Laws.{simulates_assoc, simulates_unassoc, simulates_stuck, simulates_braces, pure_ending_goes}
+use Rattle.rhai_rewriting.proofs.simulation.Laws.{simulates_assoc, simulates_unassoc, simulates_stuck, simulates_braces, calm_ending_goes}
 use Rattle.rhai_rewriting.proofs.simulation.Setting.{Setting, world}
 use Rattle.rhai_rewriting.proofs.simulation.Simulation.{Simulates, simulates_trans, simulates_refl, simulates_equal}
 use Rattle.rhai_rewriting.proofs.simulation.Forms.{simulates_bind, simulates_if, stmt_refl, stmt_of_deed}
@@ -62,7 +62,7 @@ while_true {e = e} {body = body} h = record {
 
 try_goes : {k : Context} (c : Setting k) (x : Option (Option Text)) (body branch : Stmts) → are_internally_pure body ≡ true → Simulates c (deed (world c) (try_by x (core_stmts c.in_loop body) (core_stmts c.in_loop branch))) unit
 try_goes c None body branch h = simulates_stuck WrongKind unit
-try_goes c (Some x) body branch h = pure_ending_goes _ _ unit (internal_list (world c) c.in_loop false body h UnitV).scoped (λ v. simulates_refl)
+try_goes c (Some x) body branch h = calm_ending_goes _ _ unit (internal_list (world c) c.in_loop false body h UnitV).scoped (λ v. simulates_refl)
 
 pub pure_try : {k : Context} {w : Bool} {x : Expr} {body branch : Stmts} → are_internally_pure body ≡ true → StmtObligation k w (TryCatch x body branch) Noop
 pure_try {x = x} {body = body} {branch = branch} h = record {

@@ -9,7 +9,7 @@ use Rattle.rhai_meaning.specs.Meaning.{deed, line, acts, wanted_value}
 use Rattle.rhai_meaning.specs.Queries.{is_noop}
 use Rattle.rhai_meaning.specs.Tree.{Stmt, Noop, Switch, ExprStmt, no_stmts, stmt}
 use Rattle.rhai_meaning.specs.Weight.{stmt_weight}
-use Rattle.rhai_meaning.proofs.PureActs.{Pure, p_give, l_only}
+use Rattle.rhai_meaning.proofs.PureActs.{Calm, calm_of, p_give, l_only}
 use Rattle.rhai_meaning.proofs.PureTrees.{PureStmt, pure_deed, InternalStmt, declares, internal_deed, pure_stmt, internal_stmt}
 use Rattle.rhai_rewriting.specs.Context.{Context, ListKind, Whole, Inside, wanted}
 use Rattle.rhai_rewriting.specs.Rules.{is_pure_in}
@@ -17,7 +17,7 @@ use Rattle.rhai_rewriting.specs.SurelyUnit.{is_surely_unit}
 use Rattle.rhai_rewriting.proofs.simulation.Setting.{Setting, Start, world}
 use Rattle.rhai_rewriting.proofs.simulation.Simulation.{all_trans, all_equal}
 use Rattle.rhai_rewriting.proofs.simulation.Lists.{SimulatesList, list_of_all, list_trans}
-use Rattle.rhai_rewriting.proofs.simulation.Dropped.{from_any, all_goes}
+use Rattle.rhai_rewriting.proofs.simulation.Dropped.{all_goes}
 use Rattle.rhai_rewriting.proofs.acts.Within.{unit_first}
 use Rattle.rhai_rewriting.proofs.acts.SurelyUnit.{no, UnitOnly, UnitStmt, unit_of, surely_unit}
 use Rattle.rhai_rewriting.proofs.rules.Leaving.{stmt_heavy}
@@ -29,15 +29,15 @@ module _ {k : Context} (c : Setting k) where
   abbrev ending : ListKind → Value → Acts
   ending m v = Only (give (wanted_value (wanted m) v))
 
-  deed_last : (m : ListKind) (d : core.Deed) → Pure (world c) (deed (world c) d) → ((n : Start k) → UnitOnly (world c) n.env (deed (world c) d)) → SimulatesList c m (line (world c) (core.Does d) (ending m)) (ending m UnitV)
+  deed_last : (m : ListKind) (d : core.Deed) → Calm (world c) (deed (world c) d) → ((n : Start k) → UnitOnly (world c) n.env (deed (world c) d)) → SimulatesList c m (line (world c) (core.Does d) (ending m)) (ending m UnitV)
   deed_last m d p u = list_of_all m
-      (all_trans (all_equal (λ n. unit_first (world c) n.env (ending m) (u n) n.store n.turns)) (all_goes c (deed (world c) d) (ending m UnitV) (from_any (deed (world c) d) p)))
+      (all_trans (all_equal (λ n. unit_first (world c) n.env (ending m) (u n) n.store n.turns)) (all_goes c (deed (world c) d) (ending m UnitV) p))
 
   pure_last : (m : ListKind) (l : core.Stmt) → PureStmt (world c) l → ((n : Start k) → UnitStmt (world c) n.env l) → SimulatesList c m (line (world c) l (ending m)) (ending m UnitV)
-  pure_last m _ (pure_deed {d = d} p) u = deed_last m d p (λ n. unit_of (world c) n.env (u n))
+  pure_last m _ (pure_deed {d = d} p) u = deed_last m d (calm_of (world c) p) (λ n. unit_of (world c) n.env (u n))
 
-  inside_last : (b : Bool) (l : core.Stmt) → InternalStmt (world c) l → ((n : Start k) → UnitStmt (world c) n.env l) → SimulatesList c (Inside b) (line (world c) l (ending (Inside b))) (ending (Inside b) UnitV)
-  inside_last b _ (declares {c = f} {x = x} {e = e} p) u = record { closed = inside_goes c (core.Var f x e) (ending (Inside b) UnitV) (declares p) (l_only (world c) _ (p_give (world c) _)) }
+  inside_last : (b : Bool) (l : core.Stmt) → InternalStmt (world c) (Calm (world c)) l → ((n : Start k) → UnitStmt (world c) n.env l) → SimulatesList c (Inside b) (line (world c) l (ending (Inside b))) (ending (Inside b) UnitV)
+  inside_last b _ (declares {k = f} {b = o} {x = x} {e = e} p) u = record { closed = inside_goes c (core.Var f o x e) (ending (Inside b) UnitV) (declares p) (l_only (world c) _ (p_give (world c) _)) }
   inside_last b _ (internal_deed {d = d} p) u = deed_last (Inside b) d p (λ n. unit_of (world c) n.env (u n))
 
   unit_last : (m : ListKind) (s : Stmt) → is_pure_in m s ≡ true → is_surely_unit s ≡ true → SimulatesList c m (line (world c) (core_stmt c.in_loop s) (ending m)) (ending m UnitV)

@@ -1,5 +1,5 @@
 -- The rules of lists that are left: a lemma each, of the rule's name.
-use Rattle.std.proofs.Common.{◌≡◌, ◌≤◌, Bool, true, false, not, ◌&&◌, cond, refl, sym, ap, ◌∙◌, arith}
+use Rattle.std.proofs.Common.{◌≡◌, ◌≤◌, Bool, true, false, cond, refl, sym, ap, ◌∙◌, arith}
 use Rattle.rhai_values.specs.Value.{Value}
 use Rattle.rhai_meaning.specs.Act.{Returns, Gives, Leaves, Ended, Halted, Result, At, Stop, Acts, Only, and_then, returned, run, run_all}
 use Rattle.rhai_meaning.specs.ActForms.{give, each_value, value_then}
@@ -12,10 +12,8 @@ use Rattle.rhai_meaning.specs.Weight.{stmt_weight}
 use Rattle.rhai_meaning.proofs.Sequencing.{line_leaves}
 use Rattle.rhai_rewriting.specs.Context.{Context, ListKind, Whole}
 use Rattle.rhai_rewriting.proofs.simulation.Setting.{Setting, Start, world, run_from}
-use Rattle.rhai_rewriting.proofs.simulation.Simulation.{SimulatesAll, all_equal, all_refl, simulates_refl}
-use Rattle.rhai_rewriting.proofs.simulation.Forms.{all_line}
-use Rattle.rhai_rewriting.proofs.simulation.Lists.{SimulatesList, list_of_all, list_trans}
-use Rattle.rhai_rewriting.proofs.rules.Given.{deed_meant}
+use Rattle.rhai_rewriting.proofs.simulation.Simulation.{SimulatesAll, all_equal}
+use Rattle.rhai_rewriting.proofs.simulation.Lists.{list_of_all}
 use Rattle.rhai_rewriting.proofs.rules.Obligation.{ListObligation}
 
 -- what follows doesn't matter; b: whether the statement has a meaning
@@ -24,8 +22,8 @@ left_alone c true x e f g = all_equal (λ n. line_leaves (world c) n.env (act (w
 left_alone c false x e f g = all_equal (λ n. refl)
 
 leaves_alone : {k : Context} (c : Setting k) (s : Stmt) → is_control_flow_break s ≡ true → (f g : Value → Acts) → SimulatesAll c (line (world c) (core_stmt c.in_loop s) f) (line (world c) (core_stmt c.in_loop s) g)
-leaves_alone c (Return b o m) h f g = left_alone c (not o) (return_kind b) (core_maybe c.in_loop m) f g
-leaves_alone c (BreakLoop b o m) h f g = left_alone c (c.in_loop && not o) (break_kind b) (core_maybe c.in_loop m) f g
+leaves_alone c (Return b o m) h f g = left_alone c true (return_kind b) (core_maybe c.in_loop m) f g
+leaves_alone c (BreakLoop b o m) h f g = left_alone c c.in_loop (break_kind b) (core_maybe c.in_loop m) f g
 leaves_alone c _ h f g = absurd (let z : false ≡ true = h in cc)
 
 pub stmt_heavy : (s : Stmt) → 1 ≤ stmt_weight s
@@ -42,15 +40,11 @@ after_leave {m = m} {s = s} {t = t} {ss = ss} h = record {
 
 -- ---- a last `return`
 
--- b: whether it has a meaning
-last_meant : {k : Context} (c : Setting k) (b : Bool) (e : core.Expr) (f : Value → Acts) → SimulatesList c Whole (line (world c) (core.Does (cond b (core.Leave core.Returning e) core.IllDeed)) f) (line (world c) (core.Does (core.Leave core.Returning e)) f)
-last_meant c b e f = list_of_all Whole (all_line (deed_meant b (core.Leave core.Returning e) simulates_refl) (λ v. all_refl))
-
 pub last_return : {k : Context} {u exported : Bool} {e : Expr} → ListObligation k Whole u (stmt (Return false exported (an_expr e)) no_stmts) (stmt (ExprStmt e) no_stmts)
-last_return {exported = o} {e = e} = record {
+last_return {e = e} = record {
   lighter = omega arith;
   keeps = λ P l lasts j. ((lasts.expression e, j.0.1), tt);
-  sound = λ c v z. list_trans Whole (last_meant c (not o) _ _) (record { closed = all_equal (λ n. returned_value c n (run_from c n (act (world c) (core_expr c.in_loop e)))) });
+  sound = λ c v z. record { closed = all_equal (λ n. returned_value c n (run_from c n (act (world c) (core_expr c.in_loop e)))) };
 } where
   returned_value : {k : Context} (c : Setting k) (n : Start k) (r : Result) → returned (and_then (and_then r (λ x. run (world c) n.env (value_then (λ v. Stop (Leaves (Returns v))) x))) (λ x. run_all (world c) n.env (each_value (λ u. Only (give u)) x))) ≡ returned (and_then r (λ x. run_all (world c) n.env (each_value (λ u. Only (give u)) x)))
   returned_value c n (At (Ended (Gives v)) s t) = refl
@@ -58,15 +52,15 @@ last_return {exported = o} {e = e} = record {
   returned_value c n (At (Halted f) s t) = refl
 
 pub last_return_goes : {k : Context} {exported : Bool} → ListObligation k Whole true (stmt (Return false exported no_expr) no_stmts) no_stmts
-last_return_goes {exported = o} = record {
+last_return_goes = record {
   lighter = omega arith;
   keeps = λ P l lasts j. tt;
-  sound = λ c v z. list_trans Whole (last_meant c (not o) _ _) (record { closed = all_equal (λ n. ap (λ u. At (Ended (Gives u)) n.store n.turns) (sym (z refl))) });
+  sound = λ c v z. record { closed = all_equal (λ n. ap (λ u. At (Ended (Gives u)) n.store n.turns) (sym (z refl))) };
 }
 
 pub last_return_noop : {k : Context} {u exported : Bool} → ListObligation k Whole u (stmt (Return false exported no_expr) no_stmts) (stmt Noop no_stmts)
-last_return_noop {exported = o} = record {
+last_return_noop = record {
   lighter = omega arith;
   keeps = λ P l lasts j. ((lasts.noop, tt), tt);
-  sound = λ c v z. list_trans Whole (last_meant c (not o) _ _) (record { closed = all_equal (λ n. refl) });
+  sound = λ c v z. record { closed = all_equal (λ n. refl) };
 }

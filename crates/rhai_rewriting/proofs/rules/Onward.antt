@@ -2,7 +2,7 @@
 use Rattle.std.proofs.Common.{◌≡◌, ℕ, ◌+◌, Bool, true, false, cond, List, [], Some, None, refl, sym, ap, ◌∙◌, subst, arith}
 use Rattle.std.specs.Prelude.{ℤ, ◌&&◌, not, codes, if◌then◌else◌}
 use Rattle.rhai_values.specs.Value.{Text, Value, Fields, UnitV, BoolV, IntV, TextV, ArrayV, MapV, values}
-use Rattle.rhai_meaning.specs.Act.{WrongKind, Act, Fail}
+use Rattle.rhai_meaning.specs.Act.{WrongKind, Act}
 use Rattle.rhai_meaning.specs.ActForms.{◌>>=◌}
 use Rattle.rhai_meaning.specs.Chains.{OfIndex, OfMethod, applied, unless_unit}
 use Rattle.rhai_meaning.specs.Constants.{constant_value}
@@ -27,7 +27,7 @@ use Rattle.rhai_rewriting.proofs.rules.Chains.{constant_root, not_unit, no_unit,
 use Rattle.rhai_rewriting.proofs.rules.Entries.{index_known}
 use Rattle.rhai_rewriting.proofs.rules.Given.{constant_then, constant_of_means, constant_of_light, constant_of_keeps}
 use Rattle.rhai_rewriting.proofs.rules.Lasting.{Lasting}
-use Rattle.rhai_rewriting.proofs.rules.Literals.{array_goes, map_goes, element_picked, entry_picked, element_root, entry_root, element_light, entry_light, element_keeps, entry_keeps}
+use Rattle.rhai_rewriting.proofs.rules.Literals.{element_picked, entry_picked, element_root, entry_root, element_light, entry_light, element_keeps, entry_keeps}
 use Rattle.rhai_rewriting.proofs.rules.Obligation.{ExprObligation}
 
 -- ---- a chain as core
@@ -43,9 +43,9 @@ link_core : (loop dot : Bool) (f : ChainFlags) (e x : Expr) → core_expr loop (
 link_core loop true f e x = refl
 link_core loop false f e x = refl
 
-link_steps : (loop dot dot' : Bool) (f m : ChainFlags) (a r : Expr) → f.breaks ≡ false → steps_in loop dot f (link dot' m a r) ≡ core.more f.negated (cond m.exported core.IllStep (argument loop dot a)) (steps_in loop dot' m r)
-link_steps loop dot true f m a r q = ap (λ b. cond b (core.last f.negated (argument loop dot (Dot m a r))) (core.more f.negated (cond m.exported core.IllStep (argument loop dot a)) (steps_in loop true m r))) q
-link_steps loop dot false f m a r q = ap (λ b. cond b (core.last f.negated (argument loop dot (Index m a r))) (core.more f.negated (cond m.exported core.IllStep (argument loop dot a)) (steps_in loop false m r))) q
+link_steps : (loop dot dot' : Bool) (f m : ChainFlags) (a r : Expr) → f.breaks ≡ false → steps_in loop dot f (link dot' m a r) ≡ core.more f.negated (argument loop dot a) (steps_in loop dot' m r)
+link_steps loop dot true f m a r q = ap (λ b. cond b (core.last f.negated (argument loop dot (Dot m a r))) (core.more f.negated (argument loop dot a) (steps_in loop true m r))) q
+link_steps loop dot false f m a r q = ap (λ b. cond b (core.last f.negated (argument loop dot (Index m a r))) (core.more f.negated (argument loop dot a) (steps_in loop false m r))) q
 
 link_fits : (dot dot' : Bool) (f m : ChainFlags) (a r : Expr) → f.breaks ≡ false → is_rest dot f.breaks (link dot' m a r) ≡ (is_argument dot a && is_rest dot' m.breaks r)
 link_fits dot true f m a r q = ap (λ b. if b then not dot else (is_argument dot a && is_rest true m.breaks r)) q
@@ -60,37 +60,30 @@ module _ {k : Context} (c : Setting k) where
   abbrev step_at : Bool → core.Step → Value → (Current → Act) → Act
   step_at o p v next = unless_unit o (without_place v) (access (world c) p (λ q. refreshed (without_place v) (λ d. applied (world c) q d next)))
 
-  -- x, y: whether both nodes have their shape; a, b: whether they have EXPORTED
-  onward_meant : (x y a b : Bool) (e e' : core.Expr) (o : Bool) (p : core.Step) (sts : core.Steps) → Simulates c (act (world c) e >>= λ v. step_at o core.IllStep v (λ z. steps (world c) sts z)) (Fail WrongKind) → Simulates c (act (world c) e >>= λ v. step_at o p v (λ z. steps (world c) sts z)) (act (world c) e' >>= λ v. steps (world c) sts (without_place v)) → Simulates c (act (world c) (cond ((x && y) && not a) (core.Chain (core.OnValue e) (core.more o (cond b core.IllStep p) sts)) core.Ill)) (act (world c) (cond (y && not b) (core.Chain (core.OnValue e') sts) core.Ill))
-  onward_meant true true false false e e' o p sts i h = h
-  onward_meant true true false true e e' o p sts i h = i
-  onward_meant true true true b e e' o p sts i h = simulates_stuck WrongKind _
-  onward_meant true false a b e e' o p sts i h = simulates_refl
-  onward_meant false y a b e e' o p sts i h = simulates_stuck WrongKind _
-
-  -- a step without meaning at a value that isn't past a `?`
-  ill_next : (o : Bool) (v : Value) → (o && is_unit v) ≡ false → (next : Current → Act) → Simulates c (step_at o core.IllStep v next) (Fail WrongKind)
-  ill_next o v n next = not_unit c (o && is_unit v) _ _ _ n (simulates_stuck WrongKind _)
+  -- x, y: whether both nodes have their shape
+  onward_meant : (x y : Bool) (e e' : core.Expr) (o : Bool) (p : core.Step) (sts : core.Steps) → Simulates c (act (world c) e >>= λ v. step_at o p v (λ z. steps (world c) sts z)) (act (world c) e' >>= λ v. steps (world c) sts (without_place v)) → Simulates c (act (world c) (cond (x && y) (core.Chain (core.OnValue e) (core.more o p sts)) core.Ill)) (act (world c) (cond y (core.Chain (core.OnValue e') sts) core.Ill))
+  onward_meant true true e e' o p sts h = h
+  onward_meant true false e e' o p sts h = simulates_refl
+  onward_meant false y e e' o p sts h = simulates_stuck WrongKind _
 
   -- from e', which does what the first step over e does, the chain goes on
-  goes_on : (dot dot' : Bool) (f m : ChainFlags) (e a e' r : Expr) → f.breaks ≡ false → root_of e ≡ None → root_of e' ≡ None → ((next : Current → Act) → Simulates c (act (world c) (core_expr c.in_loop e) >>= λ v. step_at f.negated core.IllStep v next) (Fail WrongKind)) → ((next : Current → Act) → Simulates c (act (world c) (core_expr c.in_loop e) >>= λ v. step_at f.negated (argument c.in_loop dot a) v next) (act (world c) (core_expr c.in_loop e') >>= λ v. next (without_place v))) → Simulates c (act (world c) (core_expr c.in_loop (link dot f e (link dot' m a r)))) (act (world c) (core_expr c.in_loop (link dot' m e' r)))
-  goes_on dot dot' f m e a e' r q n n' i h =
+  goes_on : (dot dot' : Bool) (f m : ChainFlags) (e a e' r : Expr) → f.breaks ≡ false → root_of e ≡ None → root_of e' ≡ None → ((next : Current → Act) → Simulates c (act (world c) (core_expr c.in_loop e) >>= λ v. step_at f.negated (argument c.in_loop dot a) v next) (act (world c) (core_expr c.in_loop e') >>= λ v. next (without_place v))) → Simulates c (act (world c) (core_expr c.in_loop (link dot f e (link dot' m a r)))) (act (world c) (core_expr c.in_loop (link dot' m e' r)))
+  goes_on dot dot' f m e a e' r q n n' h =
       let l = c.in_loop in
       let sts = steps_in l dot' m r in
       let p = argument l dot a in
-      let old : core_expr l (link dot f e (link dot' m a r)) ≡ cond ((is_argument dot a && is_rest dot' m.breaks r) && not f.exported) (core.Chain (core.OnValue (core_expr l e)) (core.more f.negated (cond m.exported core.IllStep p) sts)) core.Ill =
-      link_core l dot f e (link dot' m a r) ∙ (λ j. cond (link_fits dot dot' f m a r q j && not f.exported) (core.Chain (based (n j) (core_expr l e)) (link_steps l dot dot' f m a r q j)) core.Ill) in
+      let old : core_expr l (link dot f e (link dot' m a r)) ≡ cond (is_argument dot a && is_rest dot' m.breaks r) (core.Chain (core.OnValue (core_expr l e)) (core.more f.negated p sts)) core.Ill =
+      link_core l dot f e (link dot' m a r) ∙ (λ j. cond (link_fits dot dot' f m a r q j) (core.Chain (based (n j) (core_expr l e)) (link_steps l dot dot' f m a r q j)) core.Ill) in
       let new : core_expr l (link dot' m e' r) ≡ cond (is_chain dot' m r) (core.Chain (core.OnValue (core_expr l e')) sts) core.Ill =
       link_core l dot' m e' r ∙ (λ j. cond (is_chain dot' m r) (core.Chain (based (n' j) (core_expr l e')) sts) core.Ill) in
       subst (λ z. Simulates c (act (world c) z) (act (world c) (core_expr l (link dot' m e' r)))) (sym old)
-      (subst (λ z. Simulates c (act (world c) (cond ((is_argument dot a && is_rest dot' m.breaks r) && not f.exported) (core.Chain (core.OnValue (core_expr l e)) (core.more f.negated (cond m.exported core.IllStep p) sts)) core.Ill)) (act (world c) z)) (sym new)
-      (onward_meant (is_argument dot a) (is_rest dot' m.breaks r) f.exported m.exported (core_expr l e) (core_expr l e') f.negated p sts (i (λ z. steps (world c) sts z)) (h (λ z. steps (world c) sts z))))
+      (subst (λ z. Simulates c (act (world c) (cond (is_argument dot a && is_rest dot' m.breaks r) (core.Chain (core.OnValue (core_expr l e)) (core.more f.negated p sts)) core.Ill)) (act (world c) z)) (sym new)
+      (onward_meant (is_argument dot a) (is_rest dot' m.breaks r) (core_expr l e) (core_expr l e') f.negated p sts (h (λ z. steps (world c) sts z))))
 
   -- from the answer u of a step at a constant
   onward : (dot dot' : Bool) (f m : ChainFlags) (e a r : Expr) (v u : Value) → f.breaks ≡ false → constant_value e ≡ Some v → (f.negated && is_unit v) ≡ false → ((next : Current → Act) → Simulates c (step_at f.negated (argument c.in_loop dot a) v next) (next (without_place u))) → Simulates c (act (world c) (core_expr c.in_loop (link dot f e (link dot' m a r)))) (act (world c) (core_expr c.in_loop (link dot' m (constant_of u) r)))
   onward dot dot' f m e a r v u q h n j =
       goes_on dot dot' f m e a (constant_of u) r q (constant_root e v h) (constant_no_root u)
-      (λ next. simulates_trans (constant_then c e v (λ w. step_at f.negated core.IllStep w next) h) (ill_next f.negated v n next))
       (λ next.
       subst (λ z. Simulates c (act (world c) (core_expr c.in_loop e) >>= λ w. step_at f.negated (argument c.in_loop dot a) w next) (act (world c) z >>= λ w. next (without_place w))) (sym (constant_of_means c.in_loop u))
       (simulates_trans (constant_then c e v (λ w. step_at f.negated (argument c.in_loop dot a) w next) h) (simulates_trans (j next) (simulates_equal (λ i. refl)))))
@@ -165,19 +158,19 @@ pub element_of_array_first : {k : Context} {f : ChainFlags} {es : Exprs} {e : Ex
 element_of_array_first {f = f} {es = es} {e = e} dot m i r n j b h q x y = record {
   lighter = omega (arith, link_weight dot m i r, link_weight dot m e r, element_light es j e y);
   keeps = λ P l lasts z. goes_on_keeps P l lasts false dot f m (ArrayOf es) i e r b (element_keeps P l lasts es j e y (base_stood P l lasts false f (ArrayOf es) (link dot m i r) z).1) z;
-  sound = λ c. goes_on c false dot f m (ArrayOf es) i e r b refl (element_root es j e h y) (λ next. array_goes c es _ _ h (λ vs. ill_next c f.negated (ArrayV (values vs)) (no_unit c f.negated false refl) next)) (λ next. element_picked c es n j e _ (λ v. next (without_place v)) h x y (λ vs u p. index_next c f.negated i (ArrayV (values vs)) (IntV n) u q p next));
+  sound = λ c. goes_on c false dot f m (ArrayOf es) i e r b refl (element_root es j e h y) (λ next. element_picked c es n j e _ (λ v. next (without_place v)) h x y (λ vs u p. index_next c f.negated i (ArrayV (values vs)) (IntV n) u q p next));
 }
 
 pub property_of_map_first : {k : Context} {f : ChainFlags} {ps : Pairs} {template : List Text} (dot : Bool) (m : ChainFlags) (p : PropertyNames) (r : Expr) → f.breaks ≡ false → are_pure_pairs ps ≡ true → ExprObligation k (Dot f (MapOf ps template) (link dot m (Property p) r)) (link dot m (or_unit (pair_for ps p.name)) r)
 property_of_map_first {f = f} {ps = ps} {template = template} dot m p r b h = record {
   lighter = omega (arith, link_weight dot m (Property p) r, link_weight dot m (or_unit (pair_for ps p.name)) r, entry_light ps p.name);
   keeps = λ P l lasts z. goes_on_keeps P l lasts true dot f m (MapOf ps template) (Property p) (or_unit (pair_for ps p.name)) r b (entry_keeps P l lasts ps p.name (base_stood P l lasts true f (MapOf ps template) (link dot m (Property p) r) z).1) z;
-  sound = λ c. goes_on c true dot f m (MapOf ps template) (Property p) (or_unit (pair_for ps p.name)) r b refl (entry_root ps p.name h) (λ next. map_goes c ps template _ _ h (λ fs. ill_next c f.negated (MapV fs) (no_unit c f.negated false refl) next)) (λ next. entry_picked c ps template p.name _ (λ v. next (without_place v)) h (λ fs. property_next c f.negated p fs next));
+  sound = λ c. goes_on c true dot f m (MapOf ps template) (Property p) (or_unit (pair_for ps p.name)) r b refl (entry_root ps p.name h) (λ next. entry_picked c ps template p.name _ (λ v. next (without_place v)) h (λ fs. property_next c f.negated p fs next));
 }
 
 pub entry_of_map_first : {k : Context} {f : ChainFlags} {ps : Pairs} {template : List Text} (dot : Bool) (m : ChainFlags) (i r : Expr) (x : Text) → f.breaks ≡ false → are_pure_pairs ps ≡ true → constant_value i ≡ Some (TextV x) → ExprObligation k (Index f (MapOf ps template) (link dot m i r)) (link dot m (or_unit (pair_for ps x)) r)
 entry_of_map_first {f = f} {ps = ps} {template = template} dot m i r x b h q = record {
   lighter = omega (arith, link_weight dot m i r, link_weight dot m (or_unit (pair_for ps x)) r, entry_light ps x);
   keeps = λ P l lasts z. goes_on_keeps P l lasts false dot f m (MapOf ps template) i (or_unit (pair_for ps x)) r b (entry_keeps P l lasts ps x (base_stood P l lasts false f (MapOf ps template) (link dot m i r) z).1) z;
-  sound = λ c. goes_on c false dot f m (MapOf ps template) i (or_unit (pair_for ps x)) r b refl (entry_root ps x h) (λ next. map_goes c ps template _ _ h (λ fs. ill_next c f.negated (MapV fs) (no_unit c f.negated false refl) next)) (λ next. entry_picked c ps template x _ (λ v. next (without_place v)) h (λ fs. index_next c f.negated i (MapV fs) (TextV x) (entry fs x) q refl next));
+  sound = λ c. goes_on c false dot f m (MapOf ps template) i (or_unit (pair_for ps x)) r b refl (entry_root ps x h) (λ next. entry_picked c ps template x _ (λ v. next (without_place v)) h (λ fs. index_next c f.negated i (MapV fs) (TextV x) (entry fs x) q refl next));
 }

@@ -13,7 +13,7 @@ use Rattle.rhai_meaning.specs.Engine.{Engine, is_open, mapped_type_name}
 use Rattle.rhai_meaning.specs.Meaning.{act, deed, acts}
 use Rattle.rhai_meaning.specs.Queries.{is_block_dependent}
 use Rattle.rhai_meaning.specs.Relations.{here}
-use Rattle.rhai_meaning.specs.Tree.{CallToken, NoToken, OfOperator, OfOther, Callee, Expr, UnitConstant, DynamicConstant, BoolConstant, StringConstant, ArrayOf, BlockExpr, FnCall, Exprs, no_exprs, expr, Stmt, Noop, If, Var, Block, ExprStmt, FnCallStmt, Stmts, no_stmts, stmt}
+use Rattle.rhai_meaning.specs.Tree.{CallToken, NoToken, OfOperator, OfOther, Callee, Expr, UnitConstant, DynamicConstant, BoolConstant, StringConstant, ArrayOf, BlockExpr, FnCall, Exprs, no_exprs, expr, Stmt, Noop, If, Var, Block, ExprStmt, FnCallStmt, Stmts, no_stmts, stmt, Import, Export}
 use Rattle.rhai_meaning.proofs.Preserves.{preserves}
 use Rattle.rhai_meaning.proofs.Sequencing.{leave_same, SameRunAll, line_only, line_same, line_unit}
 use Rattle.rhai_meaning.specs.Walk.{Node, Around, whole, throughout, over_expr, over_stmt, over_stmts}
@@ -97,6 +97,8 @@ braces_of_deed c w d = stmt_of_deed (simulates_equal (λ m. scoped_deed (world c
 
 lone_statement : {k : Context} (c : Setting k) (w : Bool) (s : Stmt) → is_block_dependent s ≡ false → SimulatesStmt c w (core_stmt c.in_loop (Block (stmt s no_stmts))) (core_stmt c.in_loop s)
 lone_statement c w (Var d n x e) q = absurd (let z : true ≡ false = q in cc)
+lone_statement c w (Import e x) q = absurd (let z : true ≡ false = q in cc)
+lone_statement c w (Export x y) q = absurd (let z : true ≡ false = q in cc)
 lone_statement c w _ q = braces_of_deed c w _
 
 pub block_of_statement : {k : Context} {w : Bool} {s : Stmt} → is_block_dependent s ≡ false → StmtObligation k w (Block (stmt s no_stmts)) s

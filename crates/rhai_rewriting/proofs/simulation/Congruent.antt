@@ -6,9 +6,9 @@ use Rattle.rhai_base.specs.Operators.{Operator, Computed, NoEntry, Is, Overflows
 use Rattle.rhai_parts.specs.Names.{is_valid_name}
 use Rattle.rhai_meaning.specs.Engine.{built_in, asks_assigning}
 use Rattle.rhai_meaning.specs.Elements.{element, character, bit}
-use Rattle.rhai_meaning.specs.Act.{HostCall, Answer, Answers, AnswersThrow, Key, World, Returns, Breaks, Continues, Throws, Again, Ending, Gives, Leaves, Stuck, WrongKind, Root, ScriptCall, Act, Stop, Fail, Then, Turn, Read, Write, AskHost, Invoke, Loop, Scoped, Acts, Named}
+use Rattle.rhai_meaning.specs.Act.{IsVariable, HostCall, Answer, Answers, AnswersThrow, Key, World, Returns, Breaks, Continues, Throws, Again, Ending, Gives, Leaves, Stuck, WrongKind, Root, ScriptCall, Act, Stop, Fail, Then, Turn, Read, Write, Resolve, AskHost, Invoke, Loop, Scoped, Acts, Named}
 use Rattle.rhai_meaning.specs.ActForms.{give, value_then, ◌>>=◌, choose, truth, branch, if_true, on_throw, end_round, again_then, answered, ask_host, ask_method}
-use Rattle.rhai_meaning.specs.Calls.{of_table, operate, assigned, pointer_to, curried, has_key, key, call_named, call_pointer, Word, ToHost, TypeOf, IsShared, Fn, Curry, CallFn, word, call_word, called}
+use Rattle.rhai_meaning.specs.Calls.{of_table, operate, assigned, pointer_to, curried, has_key, key, call_named, call_pointer, Word, ToHost, TypeOf, IsShared, Fn, Curry, CallFn, word, call_word, within, called}
 use Rattle.rhai_meaning.specs.Chains.{Access, OfProperty, OfIndex, OfMethod, or_throw, ask_for, property, index, after_method, method_key, to_method, value_alone, method, applied, unless_unit, set_by_host, set_element, set_property, set_index, set_placed, set_at, assign_last, assign_root}
 use Rattle.rhai_meaning.specs.Control.{ArmActs, try_arm, first_arm, answer_of, round, while_guarded, do_loop, counted, for_each, for_count, for_all, named, end_branch, try_of}
 use Rattle.rhai_meaning.specs.Core.{Callee, OnOperator, Qualified, ByName}
@@ -23,6 +23,7 @@ pub record Congruent (P : Act → Act → Type 0) (Allowed : Bool → Type 0) : 
   pub turn : (a b : Act) → P a b → P (Turn a) (Turn b)
   pub read : (r : Root) → P (Read r) (Read r)
   pub write : (must : Bool) (r : Root) (v : Value) → P (Write must r v) (Write must r v)
+  pub resolve : (a : Text) (next next' : Text → Act) → ((m : Text) → P (next m) (next' m)) → P (Resolve a next) (Resolve a next')
   pub ask : (call : HostCall) (next next' : Answer → Act) → ((a : Answer) → P (next a) (next' a)) → P (AskHost call next) (AskHost call next')
   pub invoke : (a : ScriptCall) (next next' : Value → Option Value → Act) → Allowed a.captures → ((v : Value) (u : Option Value) → P (next v u) (next' v u)) → P (Invoke a next) (Invoke a next')
   pub loop : (a b : Act) → P a b → P (Loop a) (Loop b)
@@ -118,12 +119,12 @@ module _ (P : Act → Act → Type 0) (Allowed : Bool → Type 0) (g : Congruent
 
   abbrev pub AllowedCallee : Callee → Type 0
   AllowedCallee (OnOperator op) = Unit {0}
-  AllowedCallee (Qualified f) = Unit {0}
+  AllowedCallee (Qualified m f) = Unit {0}
   AllowedCallee (ByName f b) = Allowed b
 
   pub c_called : (w : World) (c : Callee) → AllowedCallee c → (vs : List Value) → P (called w c vs) (called w c vs)
   c_called w (OnOperator op) ok vs = c_operate w op vs
-  c_called w (Qualified f) ok vs = c_ask_host f vs
+  c_called w (Qualified m f) ok vs = g.resolve m _ _ (λ n. c_ask_host (within n f) vs)
   c_called w (ByName f b) ok vs = c_call_word w b ok f (word f) vs
 
   -- ---- chains
@@ -271,7 +272,7 @@ module _ (P : Act → Act → Type 0) (Allowed : Bool → Type 0) (g : Congruent
 
   -- each round of a `for`
   abbrev pub RoundsAlike : Text → Option Text → Acts → Acts → Type 0
-  RoundsAlike x i p q = (k : ℕ) (v : Value) → P (Scoped (counted i k (Named x false v p))) (Scoped (counted i k (Named x false v q)))
+  RoundsAlike x i p q = (k : ℕ) (v : Value) → P (Scoped (counted i k (Named x IsVariable v p))) (Scoped (counted i k (Named x IsVariable v q)))
 
   c_for_each : (x : Text) (i : Option Text) (p q : Acts) → RoundsAlike x i p q → (k : ℕ) (vs : List Value) → P (for_each x i p k vs) (for_each x i q k vs)
   c_for_each x i p q h k [] = g.stop _

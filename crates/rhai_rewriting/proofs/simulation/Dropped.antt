@@ -1,26 +1,17 @@
 -- A list goes on without an act that changes nothing.
 use Rattle.std.proofs.Common.{◌≡◌, ℕ, zero, suc, ◌+◌, ◌-◌, ◌≤◌, sym, ap, ◌∙◌, subst, arith}
 use Rattle.rhai_values.specs.Value.{Value}
-use Rattle.rhai_meaning.specs.Act.{World, Store, Gives, Stuck, IsStuck, Outcome, Ended, Halted, Result, At, Act, Acts, Env, and_then, run, run_all}
+use Rattle.rhai_meaning.specs.Act.{Store, Gives, Stuck, IsStuck, Outcome, Ended, Halted, Result, At, Act, Acts, Env, and_then, run, run_all}
 use Rattle.rhai_meaning.specs.ActForms.{each_value, then_line}
 use Rattle.rhai_meaning.specs.Laws.{Settled, Gave, Stopped, settled, spend}
 use Rattle.rhai_meaning.proofs.Relations.{Follows, short, AnyHalt}
 use Rattle.rhai_meaning.proofs.Preserves.{OnlyAdds, preserves_all}
 use Rattle.rhai_meaning.proofs.Monotone.{monotone_all}
 use Rattle.rhai_meaning.proofs.Ends.{Ends, Met, stuck, met_self, met_move}
-use Rattle.rhai_meaning.proofs.PureActs.{Pure, spend_enough}
+use Rattle.rhai_meaning.proofs.PureActs.{Calm, spend_enough}
 use Rattle.rhai_rewriting.specs.Context.{Context}
 use Rattle.rhai_rewriting.proofs.simulation.Setting.{Setting, world, environment, run_all_by_depth, adds_at, steady_at, rises_all}
 use Rattle.rhai_rewriting.proofs.simulation.Simulation.{SimulatesAll}
-
--- from this store it changes nothing
-pub record PureFrom (w : World) (a : Act) (s : Store) : Type 0 where
-  pub cost : ℕ
-  pub end : Settled
-  pub by : (env : Env) → OnlyAdds env → (t : ℕ) → run w env a s t ≡ spend cost (settled end) s t
-
-pub from_any : {w : World} (a : Act) → Pure w a → (s : Store) → PureFrom w a s
-from_any a p s = record { cost = p.cost; end = p.end; by = λ env adds t. p.runs.by env adds s t }
 
 spend_rest : (n : ℕ) (o : Outcome) (s : Store) (t : ℕ) → n ≤ t → spend n o s t ≡ At o s (t - n)
 spend_rest n o s t le = let e : t ≡ n + (t - n) = omega (arith, le) in ap (spend n o s) e ∙ spend_enough n o s (t - n)
@@ -57,14 +48,14 @@ module _ {k : Context} (c : Setting k) where
   drop_met a p s n (Gave v) h d t = met_move (run_all_by_depth c p) (run_all_by_depth c (then_line a (λ u. p))) s s _ (λ o s1 x. ends_drop a p s n v h o s1 x) (met_self (run_all_by_depth c p) (rises_all c p) d s t)
   drop_met a p s n (Stopped f) h d t = stuck f s (ends_stuck a p s n f h)
 
-  pub all_goes : (a : Act) (p : Acts) → ((s : Store) → PureFrom (world c) a s) → SimulatesAll c (then_line a (λ v. p)) p
+  pub all_goes : (a : Act) (p : Acts) → Calm (world c) a → SimulatesAll c (then_line a (λ v. p)) p
   all_goes a p pure = record {
     at = λ d. record {
       matches = λ s t ag. record {
         forward =
-            let z = pure s in
+            let z = pure.from s in
             subst (λ r. Follows AnyHalt 0 (then_list d p r) (run_all (world c) (environment c d) p s t)) (sym (z.by (environment c d) (adds_at c d) t)) (drop_follows d p z.cost z.end s t t (omega arith));
-        backward = let z = pure s in drop_met a p s z.cost z.end z.by d t;
+        backward = let z = pure.from s in drop_met a p s z.cost z.end z.by d t;
       };
     };
   }

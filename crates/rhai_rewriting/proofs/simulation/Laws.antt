@@ -7,12 +7,12 @@ use Rattle.rhai_meaning.specs.Laws.{Settled, Gave, Stopped, settled, spend}
 use Rattle.rhai_meaning.proofs.Relations.{Follows, short, AnyHalt}
 use Rattle.rhai_meaning.proofs.Monotone.{monotone, follows_trans}
 use Rattle.rhai_meaning.proofs.Ends.{met_move, ends_turn}
-use Rattle.rhai_meaning.proofs.Preserves.{preserves}
-use Rattle.rhai_meaning.proofs.PureActs.{Runs, Pure}
+use Rattle.rhai_meaning.proofs.Preserves.{OnlyAdds, preserves}
+use Rattle.rhai_meaning.proofs.PureActs.{Pure, Calm, calm_of}
 use Rattle.rhai_meaning.proofs.Sequencing.{bind_unit, bind_assoc, line_unit, scoped_only, leave_same}
 use Rattle.rhai_rewriting.specs.Context.{Context}
 use Rattle.rhai_rewriting.proofs.simulation.Setting.{Setting, Agreed, world, environment, run_by_depth, adds_at, steady_at}
-use Rattle.rhai_rewriting.proofs.simulation.Matching.{SimulatesAt, ends_as}
+use Rattle.rhai_rewriting.proofs.simulation.Matching.{Matches, SimulatesAt, ends_as, matches_as}
 use Rattle.rhai_rewriting.proofs.simulation.Simulation.{stage, Simulates, is_stuck, simulates_trans, simulates_refl, simulates_equal, simulates_or_stuck}
 use Rattle.rhai_rewriting.proofs.simulation.Forms.{simulates_bind}
 
@@ -85,15 +85,16 @@ module _ (w : World) (env : Env) where
   stuck_late (suc n) f next s zero = refl
   stuck_late (suc n) f next s (suc t) = stuck_late n f next s t
 
-settled_goes : {k : Context} {c : Setting k} (a : Act) (next : Ending → Act) (b : Act) (n : ℕ) (z : Settled) → Runs (world c) a n (settled z) → ((v : Value) → Simulates c (next (Gives v)) b) → Simulates c (Then a next) b
-settled_goes {c = c} a next b n (Gave v) r h =
-    simulates_trans {b = after_turns n (next (Gives v))} (simulates_equal (λ m. ap (λ q. and_then q (λ e. run (world c) m.env (next e))) (r.by m.env m.adds m.store m.turns) ∙ given_late (world c) m.env n v next m.store m.turns)) (turns_go n (h v))
-settled_goes {c = c} a next b n (Stopped f) r h =
-    simulates_trans {b = after_turns n (Fail f)} (simulates_equal (λ m. ap (λ q. and_then q (λ e. run (world c) m.env (next e))) (r.by m.env m.adds m.store m.turns) ∙ stuck_late (world c) m.env n f next m.store m.turns)) (turns_go n (simulates_stuck f b))
+-- what comes after it, late
+late_goes : {k : Context} {c : Setting k} (a : Act) (next : Ending → Act) (b : Act) (s : Store) (n : ℕ) (z : Settled) → ((env : Env) → OnlyAdds env → (t : ℕ) → run (world c) env a s t ≡ spend n (settled z) s t) → ((v : Value) → Simulates c (next (Gives v)) b) → (d t : ℕ) → Agreed k s → Matches (run_by_depth c (Then a next)) d s t (run (world c) (environment c d) b s t)
+late_goes {c = c} a next b s n (Gave v) r h d t ag = matches_as (λ d1 t1. ap (λ q. and_then q (λ e. run (world c) (environment c d1) (next e))) (r (environment c d1) (adds_at c d1) t1) ∙ given_late (world c) (environment c d1) n v next s t1) (((turns_go {c = c} n (h v)).at d).matches s t ag)
+late_goes {c = c} a next b s n (Stopped f) r h d t ag = matches_as (λ d1 t1. ap (λ q. and_then q (λ e. run (world c) (environment c d1) (next e))) (r (environment c d1) (adds_at c d1) t1) ∙ stuck_late (world c) (environment c d1) n f next s t1) (((turns_go {c = c} n (simulates_stuck f b)).at d).matches s t ag)
 
--- a pure act may go, whatever comes after by how it ends
-pub pure_ending_goes : {k : Context} {c : Setting k} (a : Act) (next : Ending → Act) (b : Act) → Pure (world c) a → ((v : Value) → Simulates c (next (Gives v)) b) → Simulates c (Then a next) b
-pure_ending_goes a next b p h = settled_goes a next b p.cost p.end p.runs h
+-- an act that changes nothing may go, whatever comes after by how it ends
+pub calm_ending_goes : {k : Context} {c : Setting k} (a : Act) (next : Ending → Act) (b : Act) → Calm (world c) a → ((v : Value) → Simulates c (next (Gives v)) b) → Simulates c (Then a next) b
+calm_ending_goes a next b p h = record {
+  at = λ d. record { matches = λ s t ag. let q = p.from s in late_goes a next b s q.cost q.end q.by h d t ag };
+}
 
 pub pure_goes : {k : Context} {c : Setting k} (a : Act) (f : Value → Act) (b : Act) → Pure (world c) a → ((v : Value) → Simulates c (f v) b) → Simulates c (a >>= f) b
-pure_goes a f b p h = pure_ending_goes a _ b p h
+pure_goes {c = c} a f b p h = calm_ending_goes a _ b (calm_of (world c) p) h

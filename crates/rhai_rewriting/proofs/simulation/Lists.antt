@@ -1,13 +1,14 @@
 -- Lists, closed at their end: a whole one by its return, an inside one by taking its names away.
-use Rattle.std.proofs.Common.{◌≡◌, Bool, true, List, Option, Some, None, refl, sym}
+use Rattle.std.proofs.Common.{◌≡◌, Bool, true, List, Option, Some, None, refl, sym, false}
 use Rattle.rhai_values.specs.Value.{Text, Value}
-use Rattle.rhai_meaning.specs.Act.{Ending, Gives, Leaves, Act, Scoped, Acts, Do, Named, Finish}
+use Rattle.rhai_meaning.specs.Act.{EntryKind, IsConstant, IsExport, is_name, Ending, Gives, Leaves, Act, Scoped, Acts, Do, Named, Finish}
 use Rattle.rhai_meaning.specs.ActForms.{each_value, then_line}
+use Rattle.rhai_meaning.specs.Meaning.{exporting}
 use Rattle.rhai_meaning.proofs.Sequencing.{scoped_do, scoped_named, finish_do}
 use Rattle.rhai_rewriting.specs.Context.{Context, ListKind, Whole, Inside}
 use Rattle.rhai_rewriting.specs.Known.{Known, KnowsLess}
 use Rattle.rhai_rewriting.proofs.simulation.Setting.{Setting, noted, beneath, knowing_fewer, world}
-use Rattle.rhai_rewriting.proofs.simulation.Simulation.{Simulates, SimulatesAll, simulates_trans, all_trans, simulates_knowing_less, all_knowing_less, simulates_equal, all_equal, simulates_refl, all_refl, simulates_then, all_do, all_finish, all_only, all_noted, simulates_scoped}
+use Rattle.rhai_rewriting.proofs.simulation.Simulation.{Simulates, SimulatesAll, simulates_trans, all_trans, simulates_knowing_less, all_knowing_less, simulates_equal, all_equal, simulates_refl, all_refl, simulates_then, all_do, all_finish, all_only, all_noted, simulates_scoped, all_beside}
 
 abbrev pub Closed : {k : Context} → Setting k → ListKind → Acts → Acts → Type 0
 Closed c Whole p q = SimulatesAll c (Finish p) (Finish q)
@@ -49,7 +50,7 @@ pub list_line : {k : Context} {c : Setting k} (m : ListKind) (a : Act) {f f' : V
 list_line m a h = list_do m a (in_each_value m h)
 
 -- behind a name that is added, of which this is known
-pub list_noted : {k : Context} {c : Setting k} (m : ListKind) (x : Text) (o : Option Value) (b : Bool) (v : Value) → ((w : Value) → o ≡ Some w → (b ≡ true) × (v ≡ w)) → {p q : Acts} → SimulatesList (noted x o c) m p q → SimulatesList c m (Named x b v p) (Named x b v q)
+pub list_noted : {k : Context} {c : Setting k} (m : ListKind) (x : Text) (o : Option Value) (b : EntryKind) (v : Value) → ((w : Value) → o ≡ Some w → (b ≡ IsConstant) × (v ≡ w)) → {p q : Acts} → SimulatesList (noted x o c) m p q → SimulatesList c m (Named x b v p) (Named x b v q)
 list_noted Whole x o b v f {p = p} {q = q} h = record {
   closed = all_trans (all_equal (λ n. refl)) (all_trans (all_noted x o b v f h.closed) (all_equal (λ n. refl)));
 }
@@ -57,5 +58,18 @@ list_noted {c = c} (Inside w) x o b v f {p = p} {q = q} h = record {
   closed = simulates_trans (simulates_equal (λ n. scoped_named (world c) n.env n.adds x b v p n.store n.turns)) (simulates_trans (simulates_scoped (all_noted x o b v f (all_only h.closed))) (simulates_equal (λ n. sym (scoped_named (world c) n.env n.adds x b v q n.store n.turns))));
 }
 
-pub list_named : {k : Context} {c : Setting k} (m : ListKind) (x : Text) (b : Bool) (v : Value) {p q : Acts} → SimulatesList (beneath x c) m p q → SimulatesList c m (Named x b v p) (Named x b v q)
+pub list_named : {k : Context} {c : Setting k} (m : ListKind) (x : Text) (b : EntryKind) (v : Value) {p q : Acts} → SimulatesList (beneath x c) m p q → SimulatesList c m (Named x b v p) (Named x b v q)
 list_named m x b v h = list_noted m x None b v (λ w z. absurd (let y : None ≡ Some w = z in cc)) h
+
+-- behind an alias or an export
+pub list_beside : {k : Context} {c : Setting k} (m : ListKind) (x : Text) (b : EntryKind) (v : Value) → is_name b ≡ false → {p q : Acts} → SimulatesList c m p q → SimulatesList c m (Named x b v p) (Named x b v q)
+list_beside Whole x b v e {p = p} {q = q} h = record {
+  closed = all_trans (all_equal (λ n. refl)) (all_trans (all_beside x b v e h.closed) (all_equal (λ n. refl)));
+}
+list_beside {c = c} (Inside w) x b v e {p = p} {q = q} h = record {
+  closed = simulates_trans (simulates_equal (λ n. scoped_named (world c) n.env n.adds x b v p n.store n.turns)) (simulates_trans (simulates_scoped (all_beside x b v e (all_only h.closed))) (simulates_equal (λ n. sym (scoped_named (world c) n.env n.adds x b v q n.store n.turns))));
+}
+
+pub list_exporting : {k : Context} {c : Setting k} (m : ListKind) (b : Bool) (x : Text) (v : Value) {p q : Acts} → SimulatesList c m p q → SimulatesList c m (exporting b x v p) (exporting b x v q)
+list_exporting m true x v h = list_beside m x IsExport v refl h
+list_exporting m false x v h = h

@@ -1,14 +1,14 @@
 -- At one depth: an act whose runs match those of another. Each basic act keeps this.
-use Rattle.std.proofs.Common.{◌≡◌, ℕ, ◌+◌, ◌≤◌, Bool, true, [], ◌∷◌, ◌++◌, Option, Some, None, refl, subst, arith}
+use Rattle.std.proofs.Common.{◌≡◌, ℕ, ◌+◌, ◌≤◌, [], ◌∷◌, ◌++◌, Option, Some, None, false, refl, sym, subst, arith}
 use Rattle.rhai_values.specs.Value.{Text, Value}
-use Rattle.rhai_meaning.specs.Act.{HostCall, Answer, Store, Ending, Outcome, Ended, Result, At, ScriptCall, Act, Stop, Fail, Then, Turn, Read, Write, AskHost, Invoke, Loop, Scoped, Acts, Only, Do, Named, Finish, Env, leave, rounds, run, run_all}
+use Rattle.rhai_meaning.specs.Act.{EntryKind, IsConstant, is_name, resolved, HostCall, Answer, Store, Ending, Outcome, Ended, Result, At, ScriptCall, Act, Stop, Fail, Then, Turn, Read, Write, Resolve, AskHost, Invoke, Loop, Scoped, Acts, Only, Do, Named, Finish, Env, leave, rounds, run, run_all}
 use Rattle.rhai_meaning.specs.Relations.{store_of}
 use Rattle.rhai_meaning.proofs.Relations.{Follows, AnyHalt, IsOut}
 use Rattle.rhai_meaning.proofs.Preserves.{preserves, preserves_all}
 use Rattle.rhai_meaning.proofs.Monotone.{follow_call, follow_then, follow_turn, follow_returned, follow_leave, follow_rounds, Deeper, monotone, monotone_all, follows_refl, follows_trans}
 use Rattle.rhai_meaning.proofs.Ends.{met_call, Run, Ends, Met, stays, met_self, met_move, met_then, met_turn, met_leave, met_returned, met_rounds}
 use Rattle.rhai_rewriting.specs.Context.{Context}
-use Rattle.rhai_rewriting.proofs.simulation.Agreement.{agrees_keeps, agrees_noting}
+use Rattle.rhai_rewriting.proofs.simulation.Agreement.{agrees_keeps, agrees_noting, agrees_beside}
 use Rattle.rhai_rewriting.proofs.simulation.Setting.{Setting, world, environment, noted, beneath, Agreed, run_by_depth, run_all_by_depth, adds_at, rises, rises_all}
 
 -- The result r is what a run p may give: it follows p from this depth and these turns, and p meets it with enough of them.
@@ -53,6 +53,13 @@ ends_as {p = p} {q = q} {s = s} {s1 = s1} h {o = o} {s' = s'} x = record {
   turns = x.turns;
   over = x.over;
   by = λ d t n le lt. subst (λ r. (left : ℕ) × (n ≤ left) × (r ≡ At o s' left)) (h d t) (x.by d t n le lt);
+}
+
+-- the same runs from a store
+pub matches_as : {p q : Run} {s : Store} → ((d t : ℕ) → q d s t ≡ p d s t) → {d t : ℕ} {r : Result} → Matches p d s t r → Matches q d s t r
+matches_as {p = p} {q = q} {s = s} h {d = d} {t = t} {r = r} m = record {
+  forward = subst (λ x. Follows AnyHalt 0 x r) (sym (h d t)) m.forward;
+  backward = met_move p q s s r (λ o s' x. ends_as (λ d1 t1. sym (h d1 t1)) x) m.backward;
 }
 
 -- ---- each basic act
@@ -128,16 +135,33 @@ at_scoped {c = c} {p = p} i = record {
 }
 
 -- under a name, of which this is known
-pub at_noted : {k : Context} {c : Setting k} {g : Stage} (x : Text) (o : Option Value) (b : Bool) (v : Value) → ((w : Value) → o ≡ Some w → (b ≡ true) × (v ≡ w)) → {p q : Acts} → SimulatesAllAt (noted x o c) g p q → SimulatesAllAt c g (Named x b v p) (Named x b v q)
+pub at_noted : {k : Context} {c : Setting k} {g : Stage} (x : Text) (o : Option Value) (b : EntryKind) (v : Value) → ((w : Value) → o ≡ Some w → (b ≡ IsConstant) × (v ≡ w)) → {p q : Acts} → SimulatesAllAt (noted x o c) g p q → SimulatesAllAt c g (Named x b v p) (Named x b v q)
 at_noted {k = k} {c = c} x o b v f {p = p} i = record {
   matches = λ s t ag.
-      let s1 : Store = record s { scope = record { name = x; constant = b; value = v } ∷ s.scope } in
+      let s1 : Store = record s { scope = record { name = x; kind = b; value = v } ∷ s.scope } in
       let z = i.matches s1 t (agrees_noting k.engine.constants k.known s.scope x o b v f ag) in
       record { forward = z.forward; backward = met_move (run_all_by_depth c p) (run_all_by_depth c (Named x b v p)) s1 s _ (λ o s' y. ends_as (λ d t1. refl) y) z.backward };
 }
 
-pub at_named : {k : Context} {c : Setting k} {g : Stage} (x : Text) (b : Bool) (v : Value) {p q : Acts} → SimulatesAllAt (beneath x c) g p q → SimulatesAllAt c g (Named x b v p) (Named x b v q)
+pub at_named : {k : Context} {c : Setting k} {g : Stage} (x : Text) (b : EntryKind) (v : Value) {p q : Acts} → SimulatesAllAt (beneath x c) g p q → SimulatesAllAt c g (Named x b v p) (Named x b v q)
 at_named x b v i = at_noted x None b v (λ w h. absurd (let z : None ≡ Some w = h in cc)) i
+
+-- beside an alias or an export
+pub at_beside : {k : Context} {c : Setting k} {g : Stage} (x : Text) (b : EntryKind) (v : Value) → is_name b ≡ false → {p q : Acts} → SimulatesAllAt c g p q → SimulatesAllAt c g (Named x b v p) (Named x b v q)
+at_beside {k = k} {c = c} x b v e {p = p} i = record {
+  matches = λ s t ag.
+      let s1 : Store = record s { scope = record { name = x; kind = b; value = v } ∷ s.scope } in
+      let z = i.matches s1 t (agrees_beside k.engine.constants k.known s.scope x b v e ag) in
+      record { forward = z.forward; backward = met_move (run_all_by_depth c p) (run_all_by_depth c (Named x b v p)) s1 s _ (λ o s' y. ends_as (λ d t1. refl) y) z.backward };
+}
+
+pub at_resolve : {k : Context} {c : Setting k} {g : Stage} (a : Text) {next next' : Text → Act} → ((m : Text) → SimulatesAt c g (next m) (next' m)) → SimulatesAt c g (Resolve a next) (Resolve a next')
+at_resolve {c = c} a {next = next} h = record {
+  matches = λ s t ag.
+      let m = resolved s.scope a in
+      let z = (h m).matches s t ag in
+      record { forward = z.forward; backward = met_move (run_by_depth c (next m)) (run_by_depth c (Resolve a next)) s s _ (λ o s' x. ends_as (λ d t1. refl) x) z.backward };
+}
 
 pub at_ask : {k : Context} {c : Setting k} {g : Stage} (call : HostCall) {next next' : Answer → Act} → ((a : Answer) → SimulatesAt c g (next a) (next' a)) → SimulatesAt c g (AskHost call next) (AskHost call next')
 at_ask {c = c} call {next = next} h = record {
@@ -200,6 +224,7 @@ mutual
   at_refl (Turn a) c g m = at_turn (at_refl a c g m)
   at_refl (Read r) c g m = at_equal (λ s t ag. refl)
   at_refl (Write must r v) c g m = at_equal (λ s t ag. refl)
+  at_refl (Resolve a next) c g m = at_resolve a (λ n. at_refl (next n) c g m)
   at_refl (AskHost call next) c g m = at_ask call (λ a. at_refl (next a) c g m)
   at_refl (Invoke a next) c g m = at_invoke a m (λ v u. at_refl (next v u) c g m)
   at_refl (Loop a) c g m = at_loop m.rounds (at_refl a c g m)

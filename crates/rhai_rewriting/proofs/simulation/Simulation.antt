@@ -1,7 +1,7 @@
 -- An act that does what another does, at every depth.
-use Rattle.std.proofs.Common.{◌≡◌, ℕ, Bool, true, List, Option, Some, refl, subst, arith}
+use Rattle.std.proofs.Common.{◌≡◌, ℕ, Bool, true, List, Option, Some, refl, subst, arith, false}
 use Rattle.rhai_values.specs.Value.{Text, Value}
-use Rattle.rhai_meaning.specs.Act.{HostCall, Answer, Store, Ending, Stuck, IsStuck, Halted, Result, At, ScriptCall, Act, Then, Turn, AskHost, Invoke, Loop, Scoped, Acts, Only, Do, Named, Finish}
+use Rattle.rhai_meaning.specs.Act.{EntryKind, IsConstant, is_name, HostCall, Answer, Store, Ending, Stuck, IsStuck, Halted, Result, At, ScriptCall, Act, Then, Turn, Resolve, AskHost, Invoke, Loop, Scoped, Acts, Only, Do, Named, Finish}
 use Rattle.rhai_meaning.specs.Relations.{Begins, calls_of}
 use Rattle.rhai_meaning.proofs.Relations.{Follows, short, AnyHalt}
 use Rattle.rhai_meaning.proofs.Monotone.{follows_refl, follows_trans}
@@ -10,7 +10,7 @@ use Rattle.rhai_rewriting.specs.Context.{Context}
 use Rattle.rhai_rewriting.specs.Known.{Known, KnowsLess}
 use Rattle.rhai_rewriting.proofs.simulation.Agreement.{agrees_knowing_less}
 use Rattle.rhai_rewriting.proofs.simulation.Setting.{Setting, noted, knowing_fewer, environment, Agreed, Start, run_from, run_all_from, run_by_depth, run_all_by_depth, steady_at, rises}
-use Rattle.rhai_rewriting.proofs.simulation.Matching.{Stage, SimulatesAt, SimulatesAllAt, CallsMatch, calling, at_equal, all_at_equal, at_then, at_turn, at_ask, at_invoke, at_loop, at_do, at_scoped, at_finish, at_only, at_noted, at_refl, all_at_refl}
+use Rattle.rhai_rewriting.proofs.simulation.Matching.{Stage, SimulatesAt, SimulatesAllAt, CallsMatch, calling, at_equal, all_at_equal, at_then, at_turn, at_ask, at_invoke, at_loop, at_do, at_scoped, at_finish, at_only, at_noted, at_refl, all_at_refl, at_resolve, at_beside}
 
 -- the new run in the old one's environment
 abbrev pub stage : {k : Context} → Setting k → ℕ → Stage
@@ -99,14 +99,20 @@ all_finish i = record { at = λ d. at_finish (i.at d) }
 pub all_only : {k : Context} {c : Setting k} {a b : Act} → Simulates c a b → SimulatesAll c (Only a) (Only b)
 all_only i = record { at = λ d. at_only (i.at d) }
 
-pub all_noted : {k : Context} {c : Setting k} (x : Text) (o : Option Value) (b : Bool) (v : Value) → ((w : Value) → o ≡ Some w → (b ≡ true) × (v ≡ w)) → {p q : Acts} → SimulatesAll (noted x o c) p q → SimulatesAll c (Named x b v p) (Named x b v q)
+pub all_noted : {k : Context} {c : Setting k} (x : Text) (o : Option Value) (b : EntryKind) (v : Value) → ((w : Value) → o ≡ Some w → (b ≡ IsConstant) × (v ≡ w)) → {p q : Acts} → SimulatesAll (noted x o c) p q → SimulatesAll c (Named x b v p) (Named x b v q)
 all_noted x o b v f i = record { at = λ d. at_noted x o b v f (i.at d) }
+
+pub all_beside : {k : Context} {c : Setting k} (x : Text) (b : EntryKind) (v : Value) → is_name b ≡ false → {p q : Acts} → SimulatesAll c p q → SimulatesAll c (Named x b v p) (Named x b v q)
+all_beside x b v e i = record { at = λ d. at_beside x b v e (i.at d) }
 
 pub simulates_scoped : {k : Context} {c : Setting k} {p q : Acts} → SimulatesAll c p q → Simulates c (Scoped p) (Scoped q)
 simulates_scoped i = record { at = λ d. at_scoped (i.at d) }
 
 pub simulates_turn : {k : Context} {c : Setting k} {a b : Act} → Simulates c a b → Simulates c (Turn a) (Turn b)
 simulates_turn i = record { at = λ d. at_turn (i.at d) }
+
+pub simulates_resolve : {k : Context} {c : Setting k} (a : Text) {next next' : Text → Act} → ((m : Text) → Simulates c (next m) (next' m)) → Simulates c (Resolve a next) (Resolve a next')
+simulates_resolve a h = record { at = λ d. at_resolve a (λ m. (h m).at d) }
 
 pub simulates_ask : {k : Context} {c : Setting k} (call : HostCall) {next next' : Answer → Act} → ((a : Answer) → Simulates c (next a) (next' a)) → Simulates c (AskHost call next) (AskHost call next')
 simulates_ask call h = record { at = λ d. at_ask call (λ a. (h a).at d) }

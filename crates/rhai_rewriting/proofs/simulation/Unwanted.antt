@@ -1,10 +1,10 @@
 -- Where a list's value is not wanted: acts that are alike but for it.
 use Rattle.std.proofs.Common.{◌≡◌, ℕ, Bool, true, false, Option, Some, None, List, refl, sym, ap, ◌∙◌}
-use Rattle.rhai_values.specs.Value.{Value, UnitV}
+use Rattle.rhai_values.specs.Value.{Text, Value, UnitV}
 use Rattle.rhai_meaning.specs.Act.{World, ScopeEntry, Store, Ending, Gives, Leaves, Ended, Halted, Result, At, Act, Scoped, Acts, Named, Env, and_then, leave, run, run_all}
 use Rattle.rhai_meaning.specs.Core.{Expr, Var, Does, If, Block, Stmts, no_stmts, stmt}
 use Rattle.rhai_meaning.specs.ActForms.{unit, value_then, ◌>>=◌, branch, truth, if_true, each_value, then_line}
-use Rattle.rhai_meaning.specs.Meaning.{act, deed, line, acts}
+use Rattle.rhai_meaning.specs.Meaning.{exporting, act, deed, line, acts}
 use Rattle.rhai_meaning.proofs.Monotone.{Action}
 use Rattle.rhai_meaning.proofs.Sequencing.{then_assoc, then_same, SameRun, SameRunAll, bind_same, bind_assoc, line_same, line_assoc}
 use Rattle.rhai_rewriting.specs.Context.{Context}
@@ -37,12 +37,16 @@ module _ (w : World) (env : Env) where
   drop_each k k' h (Gives v) s t = h v s t
   drop_each k k' h (Leaves x) s t = refl
 
+  exporting_drop : (b : Bool) (x : Text) (v : Value) (p q : Acts) → ((s : Store) (t : ℕ) → run_all w env p s t ≡ and_then (run_all w env q s t) drop) → (s : Store) (t : ℕ) → run_all w env (exporting b x v p) s t ≡ and_then (run_all w env (exporting b x v q) s t) drop
+  exporting_drop true x v p q h s t = h _ t
+  exporting_drop false x v p q h s t = h s t
+
   acts_drop : (ss : Stmts) (v : Value) (s : Store) (t : ℕ) → run_all w env (acts w false ss v) s t ≡ and_then (run_all w env (acts w true ss v) s t) drop
   acts_drop no_stmts v s t = refl
   acts_drop (stmt (Does d) ss) v s t =
       then_same (run w env (deed w d) s t) _ _ (drop_each (λ u. acts w false ss u) (λ u. acts w true ss u) (λ u s1 t1. acts_drop ss u s1 t1)) ∙ sym (then_assoc (run w env (deed w d) s t) _ _)
-  acts_drop (stmt (Var c x e) ss) v s t =
-      then_same (run w env (act w e) s t) _ _ (drop_each (λ u. Named x c u (acts w false ss UnitV)) (λ u. Named x c u (acts w true ss UnitV)) (λ u s1 t1. acts_drop ss UnitV _ t1)) ∙ sym (then_assoc (run w env (act w e) s t) _ _)
+  acts_drop (stmt (Var k b x e) ss) v s t =
+      then_same (run w env (act w e) s t) _ _ (drop_each (λ u. Named x k u (exporting b x u (acts w false ss UnitV))) (λ u. Named x k u (exporting b x u (acts w true ss UnitV))) (λ u s1 t1. exporting_drop b x u _ _ (λ s2 t2. acts_drop ss UnitV s2 t2) _ t1)) ∙ sym (then_assoc (run w env (act w e) s t) _ _)
 
   leave_drop : (es : List ScopeEntry) (r : Result) → and_then (leave es (and_then r drop)) drop ≡ and_then (leave es r) drop
   leave_drop es (At (Ended (Gives v)) s t) = refl

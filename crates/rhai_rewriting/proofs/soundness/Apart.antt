@@ -1,7 +1,7 @@
 -- Where no call captures, it makes no difference whether a body may see the scope of one that does.
 use Rattle.std.proofs.Common.{◌≡◌, ℕ, zero, suc, Bool, true, false, cond, List, [], ◌∷◌, ◌++◌, Option, Some, None, refl, ap}
 use Rattle.rhai_values.specs.Value.{Text, Value}
-use Rattle.rhai_meaning.specs.Act.{ScopeEntry, HostCall, Answer, World, Store, Ending, Stuck, Root, Result, ScriptCall, Key, Act, Stop, Fail, Then, Turn, Read, Write, AskHost, Invoke, Loop, Scoped, Acts, Only, Do, Named, Finish, Env, and_then, with_turn, call_then, leave, returned, rounds, run, run_all}
+use Rattle.rhai_meaning.specs.Act.{EntryKind, resolved, ScopeEntry, HostCall, Answer, World, Store, Ending, Stuck, Root, Result, ScriptCall, Key, Act, Stop, Fail, Then, Turn, Read, Write, Resolve, AskHost, Invoke, Loop, Scoped, Acts, Only, Do, Named, Finish, Env, and_then, with_turn, call_then, leave, returned, rounds, run, run_all}
 use Rattle.rhai_meaning.specs.Calls.{same_key}
 use Rattle.rhai_meaning.specs.Core.{Function, Script}
 use Rattle.rhai_meaning.specs.Run.{EntryPoint, AtStatements, AtFunction, run_at, key_of, function_of, entered, seen, bind, body_acts, call_body, env_at}
@@ -16,6 +16,7 @@ mutual
     apart_turn : {a : Act} → Apart a → Apart (Turn a)
     apart_read : {r : Root} → Apart (Read r)
     apart_write : {must : Bool} {r : Root} {v : Value} → Apart (Write must r v)
+    apart_resolve : {x : Text} {next : Text → Act} → ((m : Text) → Apart (next m)) → Apart (Resolve x next)
     apart_ask : {c : HostCall} {next : Answer → Act} → ((a : Answer) → Apart (next a)) → Apart (AskHost c next)
     apart_invoke : {a : ScriptCall} {next : Value → Option Value → Act} → a.captures ≡ false → ((v : Value) (u : Option Value) → Apart (next v u)) → Apart (Invoke a next)
     apart_loop : {a : Act} → Apart a → Apart (Loop a)
@@ -24,7 +25,7 @@ mutual
   pub data AllApart : Acts → Type 0 where
     apart_only : {a : Act} → Apart a → AllApart (Only a)
     apart_do : {a : Act} {next : Ending → Acts} → Apart a → ((e : Ending) → AllApart (next e)) → AllApart (Do a next)
-    apart_named : {x : Text} {c : Bool} {v : Value} {p : Acts} → AllApart p → AllApart (Named x c v p)
+    apart_named : {x : Text} {c : EntryKind} {v : Value} {p : Acts} → AllApart p → AllApart (Named x c v p)
     apart_finish : {p : Acts} → AllApart p → AllApart (Finish p)
 
 abbrev pub IsFalse : Bool → Type 0
@@ -38,6 +39,7 @@ apart_congruent = record {
   turn = λ a b h. apart_turn h;
   read = λ r. apart_read;
   write = λ must r v. apart_write;
+  resolve = λ x next next' h. apart_resolve h;
   ask = λ c next next' h. apart_ask h;
   invoke = λ a next next' ok h. apart_invoke ok h;
   loop = λ a b h. apart_loop h;
@@ -61,6 +63,7 @@ module _ (w : World) (env env' : Env) (but : SameBut env env') where
     same_run (apart_turn h) s t = λ i. with_turn t s (λ s1 t1. same_run h s1 t1 i)
     same_run apart_read s t = refl
     same_run apart_write s t = refl
+    same_run (apart_resolve {x = x} h) s t = same_run (h (resolved s.scope x)) s t
     same_run (apart_ask {c = c} h) s t = same_run (h (w.host.answer s.calls c)) (record s { calls = s.calls ++ c ∷ [] }) t
     same_run (apart_invoke {a = a} e h) s t = λ i. call_then s (but.invoke a s.scope s.calls t e i) (λ v u s1 t1. same_run (h v u) s1 t1 i)
     same_run (apart_loop {a = a} h) s t = same_rounds env.rounds env'.rounds (run w env a) (run w env' a) but.rounds (λ s1 t1. same_run h s1 t1) s t

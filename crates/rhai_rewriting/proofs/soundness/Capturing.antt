@@ -2,7 +2,7 @@
 use Rattle.std.proofs.Common.{◌≡◌, ℕ, Bool, true, false, cond, List, [], ◌∷◌, Option, Some, None, refl}
 use Rattle.std.specs.Prelude.{not, nat_lt, pos, ◌^◌}
 use Rattle.rhai_values.specs.Value.{Text, Value, UnitV, IntV}
-use Rattle.rhai_meaning.specs.Act.{World, CounterTooLarge, Breaks, Ending, Gives, Leaves, Act, Stop, Scoped, Acts, Only, Fail, Named}
+use Rattle.rhai_meaning.specs.Act.{World, IsVariable, CounterTooLarge, Breaks, Ending, Gives, Leaves, Act, Stop, Scoped, Acts, Only, Fail, Named}
 use Rattle.rhai_meaning.specs.ActForms.{each_value, value_then}
 use Rattle.rhai_meaning.specs.Chains.{OfProperty, OfIndex, OfMethod}
 use Rattle.rhai_meaning.specs.Control.{counted, named}
@@ -14,7 +14,7 @@ use Rattle.rhai_meaning.specs.Walk.{Node, over_stmts}
 use Rattle.rhai_rewriting.specs.Scripts.{is_capturing}
 use Rattle.rhai_rewriting.proofs.acts.Trees.{Closed, list_held}
 use Rattle.rhai_rewriting.proofs.simulation.Congruent.{c_bind, c_called, AllowedCallee, c_refreshed, c_applied, c_assign_last, c_assign_root, c_round, c_while, c_do, c_for_all, c_try}
-use Rattle.rhai_rewriting.proofs.soundness.Apart.{Apart, apart_stop, apart_fail, apart_then, apart_read, apart_loop, apart_scoped, AllApart, apart_only, apart_do, apart_named, IsFalse, apart_congruent}
+use Rattle.rhai_rewriting.proofs.soundness.Apart.{Apart, apart_stop, apart_fail, apart_then, apart_read, apart_resolve, apart_loop, apart_scoped, AllApart, apart_only, apart_do, apart_named, IsFalse, apart_congruent}
 
 abbrev P : Act → Act → Type 0
 P a b = Apart a
@@ -40,11 +40,11 @@ each_apart : (f : Value → Acts) → ((v : Value) → AllApart (f v)) → (e : 
 each_apart f h (Gives v) = h v
 each_apart f h (Leaves x) = apart_only apart_stop
 
-count_apart : (b : Bool) (i : Text) (v : Value) (p : Acts) → AllApart p → AllApart (cond b (Named i false v p) (Only (Fail CounterTooLarge)))
+count_apart : (b : Bool) (i : Text) (v : Value) (p : Acts) → AllApart p → AllApart (cond b (Named i IsVariable v p) (Only (Fail CounterTooLarge)))
 count_apart true i v p h = apart_named h
 count_apart false i v p h = apart_only apart_fail
 
-counted_apart : (x : Text) (i : Option Text) (n : ℕ) (v : Value) (p : Acts) → AllApart p → Apart (Scoped (counted i n (Named x false v p)))
+counted_apart : (x : Text) (i : Option Text) (n : ℕ) (v : Value) (p : Acts) → AllApart p → Apart (Scoped (counted i n (Named x IsVariable v p)))
 counted_apart x None n v p h = apart_scoped (apart_named h)
 counted_apart x (Some i) n v p h = apart_scoped (count_apart (nat_lt n (2 ^ 63)) i (IntV (pos n)) _ (apart_named h))
 
@@ -61,6 +61,7 @@ apart_closed w = record {
   gives = λ v. apart_stop;
   fail = λ f. apart_fail;
   read = λ r. apart_read;
+  resolve = λ a h. apart_resolve h;
   bind = λ {a} {f} h k. c_bind P IsFalse apart_congruent a a f f h k;
   scoped = λ h. apart_scoped h;
   only = λ h. apart_only h;

@@ -3,7 +3,7 @@ use Rattle.std.proofs.Common.{ℕ, Bool, true, false, cond, List, [], ◌∷◌,
 use Rattle.std.specs.Prelude.{slice_get, pos, ◌^◌, nat_lt}
 use Rattle.rhai_values.specs.Value.{Text, Value, UnitV, IntV}
 use Rattle.rhai_base.specs.Operators.{Operator}
-use Rattle.rhai_meaning.specs.Act.{Root, Act, Fail, Scoped, Acts, Named, Only, CounterTooLarge}
+use Rattle.rhai_meaning.specs.Act.{IsVariable, Root, Act, Fail, Scoped, Acts, Named, Only, CounterTooLarge}
 use Rattle.rhai_meaning.specs.Chains.{Access}
 use Rattle.rhai_meaning.specs.Control.{ArmActs, switch_on, default_of, chosen}
 use Rattle.rhai_meaning.specs.Core as core
@@ -16,7 +16,7 @@ use Rattle.rhai_rewriting.specs.Context.{Context, Inside, naming, naming_some, n
 use Rattle.rhai_rewriting.proofs.simulation.Congruent.{Congruent, c_bind, c_unless, c_refreshed, c_applied, c_first, c_answer, c_try, RoundsAlike, MaybeAlike, ArmsAlike, no_arms_alike, arms_alike}
 use Rattle.rhai_rewriting.proofs.simulation.Lists.{SimulatesList, list_named}
 use Rattle.rhai_rewriting.proofs.simulation.Setting.{Setting, beneath, world}
-use Rattle.rhai_rewriting.proofs.simulation.Simulation.{Simulates, simulates_trans, simulates_refl, simulates_then, simulates_turn, simulates_ask, simulates_invoke, simulates_loop}
+use Rattle.rhai_rewriting.proofs.simulation.Simulation.{Simulates, simulates_trans, simulates_refl, simulates_then, simulates_turn, simulates_resolve, simulates_ask, simulates_invoke, simulates_loop}
 
 abbrev pub Any : Bool → Type 0
 Any b = Unit {0}
@@ -29,6 +29,7 @@ congruent c = record {
   turn = λ a b h. simulates_turn h;
   read = λ r. simulates_refl;
   write = λ must r v. simulates_refl;
+  resolve = λ a next next' h. simulates_resolve a h;
   ask = λ call next next' h. simulates_ask call h;
   invoke = λ a next next' ok h. simulates_invoke a h;
   loop = λ a b h. simulates_loop h;
@@ -136,9 +137,9 @@ module _ {k : Context} (c : Setting k) where
   unfolding in_body
   body_alike ss ss' h = left_body (h (in_body c)).closed
 
-  counter_alike : (b : Bool) (i : Text) (n : Value) (p q : Acts) → SimulatesList (beneath i c) (Inside false) p q → Simulates c (Scoped (cond b (Named i false n p) (Only (Fail CounterTooLarge)))) (Scoped (cond b (Named i false n q) (Only (Fail CounterTooLarge))))
+  counter_alike : (b : Bool) (i : Text) (n : Value) (p q : Acts) → SimulatesList (beneath i c) (Inside false) p q → Simulates c (Scoped (cond b (Named i IsVariable n p) (Only (Fail CounterTooLarge)))) (Scoped (cond b (Named i IsVariable n q) (Only (Fail CounterTooLarge))))
   counter_alike false i n p q h = simulates_refl
-  counter_alike true i n p q h = (list_named (Inside false) i false n h).closed
+  counter_alike true i n p q h = (list_named (Inside false) i IsVariable n h).closed
 
 list_in_body : {k : Context} {c : Setting k} (p q : Acts) → SimulatesList (in_body c) (Inside false) p q → SimulatesList c (Inside false) p q
 list_in_body p q h = record { closed = left_body h.closed }
@@ -149,10 +150,10 @@ module _ {k : Context} (c : Setting k) where
 
   pub rounds_alike : (x : Text) (i : Option Text) (ss ss' : Stmts) → InsideAlike (naming x (naming_some i k)) ss ss' → RoundsAlike (λ a b. Simulates c a b) Any (congruent c) x i (body_of ss) (body_of ss')
   unfolding in_body
-  rounds_alike x None ss ss' h n v = (list_named (Inside false) x false v (list_in_body _ _ (h (in_body (beneath x c))))).closed
-  rounds_alike x (Some i) ss ss' h n v = counter_alike c (nat_lt n (2 ^ 63)) i (IntV (pos n)) _ _ (list_named (Inside false) x false v (list_in_body _ _ (h (in_body (beneath x (beneath i c))))))
+  rounds_alike x None ss ss' h n v = (list_named (Inside false) x IsVariable v (list_in_body _ _ (h (in_body (beneath x c))))).closed
+  rounds_alike x (Some i) ss ss' h n v = counter_alike c (nat_lt n (2 ^ 63)) i (IntV (pos n)) _ _ (list_named (Inside false) x IsVariable v (list_in_body _ _ (h (in_body (beneath x (beneath i c))))))
 
   pub try_alike : (o : Option (Option Text)) (a a' b b' : Stmts) → InsideAlike k a a' → InsideAlike (naming_catch o k) b b' → Simulates c (deed (world c) (try_by o (core_stmts c.in_loop a) (core_stmts c.in_loop b))) (deed (world c) (try_by o (core_stmts c.in_loop a') (core_stmts c.in_loop b')))
   try_alike None a a' b b' h j = simulates_refl
   try_alike (Some None) a a' b b' h j = c_try (λ x y. Simulates c x y) Any (congruent c) None _ _ _ _ (h c).closed (λ v. (j c).closed)
-  try_alike (Some (Some x)) a a' b b' h j = c_try (λ y z. Simulates c y z) Any (congruent c) (Some x) _ _ _ _ (h c).closed (λ v. (list_named (Inside false) x false v (j (beneath x c))).closed)
+  try_alike (Some (Some x)) a a' b b' h j = c_try (λ y z. Simulates c y z) Any (congruent c) (Some x) _ _ _ _ (h c).closed (λ v. (list_named (Inside false) x IsVariable v (j (beneath x c))).closed)

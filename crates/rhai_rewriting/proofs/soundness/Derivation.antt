@@ -1,13 +1,13 @@
 -- What a tree was rewritten to does what the tree does: by induction on the derivation.
-use Rattle.std.proofs.Common.{◌≡◌, ℕ, zero, suc, Bool, true, false, cond, ◌∷◌, List, Option, refl, sym, ap, ◌∙◌, subst}
-use Rattle.std.specs.Prelude.{not, ◌&&◌, slice_get}
+use Rattle.std.proofs.Common.{◌≡◌, ℕ, zero, suc, Bool, true, false, cond, [], ◌∷◌, List, Option, refl, sym, ap, ◌∙◌, subst}
+use Rattle.std.specs.Prelude.{◌&&◌, slice_get}
 use Rattle.rhai_values.specs.Value.{Text, Value, UnitV}
 use Rattle.rhai_base.specs.Operators.{Operator}
-use Rattle.rhai_meaning.specs.Act.{Act, Acts, Only}
+use Rattle.rhai_meaning.specs.Act.{EntryKind, Act, Acts, Only}
 use Rattle.rhai_meaning.specs.ActForms.{give}
 use Rattle.rhai_meaning.specs.Calls.{called}
 use Rattle.rhai_meaning.specs.Core as core
-use Rattle.rhai_meaning.specs.Desugar.{callee_by, call_of, root_of, based, ends_in_call, part_target, guard_by, break_kind, return_kind, core_expr, core_exprs, core_pairs, member_of, method_of, steps_of, target_of, core_arms, core_maybe, core_stmt, core_stmts}
+use Rattle.rhai_meaning.specs.Desugar.{alias, callee_by, call_of, root_of, based, ends_in_call, part_target, guard_by, break_kind, core_expr, core_exprs, core_pairs, member_of, method_of, steps_of, target_of, core_arms, core_maybe, core_stmt, core_stmts}
 use Rattle.rhai_meaning.specs.Queries.{is_unit}
 use Rattle.rhai_meaning.specs.Shape.{is_unit as is_unit_value}
 use Rattle.rhai_meaning.specs.Shape.{is_chain, is_callable, is_table, is_left_side, keys, are_distinct, are_among, catch_name}
@@ -59,9 +59,12 @@ map_sound c template ks ks' ps ps' e h =
 test_sound : {k : Context} (c : Setting k) (w b b' : Bool) (x y : core.Deed) → b ≡ b' → Simulates c (deed (world c) x) (deed (world c) y) → SimulatesStmt c w (core.Does (cond b x core.IllDeed)) (core.Does (cond b' y core.IllDeed))
 test_sound c w b b' x y e h = stmt_of_deed (meant_again c b b' x y (λ z. sym e ∙ z) h)
 
-var_sound : {k : Context} (c : Setting k) (w exported constant : Bool) (x : Text) (e e' : core.Expr) → Simulates c (act (world c) e) (act (world c) e') → SimulatesStmt c w (cond exported (core.Does core.IllDeed) (core.Var constant x e)) (cond exported (core.Does core.IllDeed) (core.Var constant x e'))
-var_sound c w true constant x e e' h = stmt_refl
-var_sound c w false constant x e e' h = record { before = λ rest. all_line h (λ v. all_refl) }
+var_sound : {k : Context} {c : Setting k} {w b : Bool} {y : EntryKind} {x : Text} {e e' : core.Expr} → Simulates c (act (world c) e) (act (world c) e') → SimulatesStmt c w (core.Var y b x e) (core.Var y b x e')
+var_sound h = record { before = λ rest. all_line h (λ v. all_refl) }
+
+alias_sound : {k : Context} (c : Setting k) (w : Bool) (x : Text) (e e' : core.Expr) → Simulates c (act (world c) e) (act (world c) e') → SimulatesStmt c w (alias x e) (alias x e')
+alias_sound c w [] e e' h = stmt_of_deed (simulates_bind (simulates_bind h (λ v. simulates_refl)) (λ v. simulates_refl))
+alias_sound c w (x ∷ xs) e e' h = var_sound (simulates_bind h (λ v. simulates_refl))
 
 -- ---- a guard
 
@@ -88,25 +91,21 @@ while_sound c e e' ss ss' h u j = by (is_unit e) refl where
 -- ---- the shape of a chain
 
 chain_fits : {k : Context} {dot d d' : Bool} {r r' : Expr} (f : ChainFlags) → StepsTo k dot f.breaks d d' r r' → is_chain dot f r ≡ is_chain dot f r'
-chain_fits f h = ap (λ b. b && not f.exported) (rest_fits h)
+chain_fits f h = rest_fits h
 
 -- its last argument, of a `Dot` (dot) or an `Index`
 abbrev last_step : (loop dot : Bool) → Expr → core.Step
 last_step loop dot e = cond dot (member_of loop e) (core.Index (core_expr loop e))
 
 steps_end : (loop : Bool) (f : ChainFlags) (p : core.Step) (r : Expr) → f.breaks ≡ true → steps_of loop false f p r ≡ core.last f.negated p
-steps_end loop f p (Dot m l r) h = ap (λ b. cond b (core.last f.negated p) (core.more f.negated (cond m.exported core.IllStep (core.Index (core_expr loop l))) (steps_of loop true m (member_of loop r) r))) h
-steps_end loop f p (Index m l r) h = ap (λ b. cond b (core.last f.negated p) (core.more f.negated (cond m.exported core.IllStep (core.Index (core_expr loop l))) (steps_of loop false m (core.Index (core_expr loop r)) r))) h
+steps_end loop f p (Dot m l r) h = ap (λ b. cond b (core.last f.negated p) (core.more f.negated (core.Index (core_expr loop l)) (steps_of loop true m (member_of loop r) r))) h
+steps_end loop f p (Index m l r) h = ap (λ b. cond b (core.last f.negated p) (core.more f.negated (core.Index (core_expr loop l)) (steps_of loop false m (core.Index (core_expr loop r)) r))) h
 steps_end loop f p _ h = refl
 
 -- behind a chain that goes on
 goes_on : {k : Context} (c : Setting k) (b : Bool) (x x' y y' : core.Steps) → b ≡ false → StepsAlike c y y' → StepsAlike c (cond b x y) (cond b x' y')
 goes_on c true x x' y y' e h = absurd (let z : true ≡ false = e in cc)
 goes_on c false x x' y y' e h = h
-
-either_alike : {k : Context} (c : Setting k) (b : Bool) (p p' : core.Step) → StepAlike c p p' → StepAlike c (cond b core.IllStep p) (cond b core.IllStep p')
-either_alike c true p p' h = step_refl c core.IllStep
-either_alike c false p p' h = h
 
 member_sound : {k : Context} (c : Setting k) (f : Callee) (es es' : Exprs) → count_exprs es ≡ count_exprs es' → ((next : List Value → Act) → Simulates c (with_args (world c) (core_exprs c.in_loop es) next) (with_args (world c) (core_exprs c.in_loop es') next)) → StepAlike c (member_of c.in_loop (MethodCall f es)) (member_of c.in_loop (MethodCall f es'))
 member_sound c f es es' e h =
@@ -193,8 +192,8 @@ mutual
       subst (λ sts. StepsAlike c sts (steps_of c.in_loop false f p' e')) (sym (steps_end c.in_loop f p e z))
       (subst (λ sts. StepsAlike c (core.last f.negated p) sts) (sym (steps_end c.in_loop f p' e' z))
       (last_alike c f.negated (index_alike c (core_expr c.in_loop e) (core_expr c.in_loop e') (expr_sound h c))))
-  steps_sound (more_dot {f = m} h i) c f z = goes_on c f.breaks _ _ _ _ z (more_alike c f.negated (either_alike c m.exported _ _ (argument_sound h c)) (steps_sound i c m refl))
-  steps_sound (more_index {f = m} h i) c f z = goes_on c f.breaks _ _ _ _ z (more_alike c f.negated (either_alike c m.exported _ _ (argument_sound h c)) (steps_sound i c m refl))
+  steps_sound (more_dot {f = m} h i) c f z = goes_on c f.breaks _ _ _ _ z (more_alike c f.negated (argument_sound h c) (steps_sound i c m refl))
+  steps_sound (more_index {f = m} h i) c f z = goes_on c f.breaks _ _ _ _ z (more_alike c f.negated (argument_sound h c) (steps_sound i c m refl))
 
   target_sound : {k : Context} {d d' : Bool} {e e' : Expr} → TargetTo k d d' e e' → (c : Setting k) (op : Option Operator) (v : Value) → Simulates c (assign (world c) op (target_of c.in_loop e) v) (assign (world c) op (target_of c.in_loop e') v)
   target_sound same_target c op v = simulates_refl
@@ -231,11 +230,10 @@ mutual
       stmt_of_deed (meant_again c (is_table as' t) (is_table bs t) (core.Switch (core_expr c.in_loop e) (core_arms c.in_loop as') t) (core.Switch (core_expr c.in_loop e') (core_arms c.in_loop bs) t) (table_stays i t)
       (simulates_bind (expr_sound h c) (λ v. switch_alike c (arm_acts (world c) (core_arms c.in_loop as')) (arm_acts (world c) (core_arms c.in_loop bs)) (arm_sound i c) t v)))
   stmt_sound (in_while {e = e} {e' = e'} {b = b} {b' = b'} (guard h u) i) c = stmt_of_deed (while_sound c e e' b b' (expr_sound h c) u (λ k. stmts_sound i k UnitV (λ z. refl)))
-  stmt_sound {w = w} (in_do {negated = n} {exported = o} {e = e} {e' = e'} {b = b} {b' = b'} h i) c =
-      test_sound c w (not o) (not o) (core.Do n (core_expr c.in_loop e) (core_stmts true b)) (core.Do n (core_expr c.in_loop e') (core_stmts true b')) refl
-      (c_do (λ x y. Simulates c x y) Any (congruent c) n _ _ _ _ (body_alike c b b' (λ k. stmts_sound i k UnitV (λ z. refl))) (expr_sound h c))
+  stmt_sound (in_do {negated = n} {b = b} {b' = b'} h i) c =
+      stmt_of_deed (c_do (λ x y. Simulates c x y) Any (congruent c) n _ _ _ _ (body_alike c b b' (λ k. stmts_sound i k UnitV (λ z. refl))) (expr_sound h c))
   stmt_sound (in_for {x = x} {i = n} {b = b} {b' = b'} h i) c = stmt_of_deed (simulates_bind (expr_sound h c) (λ v. c_for_all (λ y z. Simulates c y z) Any (congruent c) x n _ _ (rounds_alike c x n b b' (λ k. stmts_sound i k UnitV (λ z. refl))) v))
-  stmt_sound {w = w} (in_var {constant = b} {exported = o} {x = x} {e = e} {e' = e'} h) c = var_sound c w o b x (core_expr c.in_loop e) (core_expr c.in_loop e') (expr_sound h c)
+  stmt_sound (in_var h) c = var_sound (expr_sound h c)
   stmt_sound {w = w} (in_assignment {op = op} {l = l} {l' = l'} {e = e} {e' = e'} h i) c =
       test_sound c w (is_left_side l) (is_left_side l') (core.Assignment op (target_of c.in_loop l) (core_expr c.in_loop e)) (core.Assignment op (target_of c.in_loop l') (core_expr c.in_loop e')) (target_fits h)
       (simulates_bind (expr_sound i c) (λ v. target_sound h c op v))
@@ -243,11 +241,10 @@ mutual
   stmt_sound (in_try {x = x} {a = a} {a' = a'} {b = b} {b' = b'} h i) c = stmt_of_deed (try_alike c (catch_name x) a a' b b' (λ k. stmts_sound h k UnitV (λ z. refl)) (λ k. stmts_sound i k UnitV (λ z. refl)))
   stmt_sound (in_expression h) c = stmt_of_deed (expr_sound h c)
   stmt_sound (in_call_statement {c = f} {es = es} {es' = es'} h) c = stmt_of_deed (counted_sound c f (core_exprs c.in_loop es) (core_exprs c.in_loop es') (same_count h) (λ next. args_sound h c next))
-  stmt_sound {w = w} (in_break {breaks = b} {exported = o} {m = m} {m' = m'} h) c =
-      test_sound c w (c.in_loop && not o) (c.in_loop && not o) (core.Leave (break_kind b) (core_maybe c.in_loop m)) (core.Leave (break_kind b) (core_maybe c.in_loop m')) refl (simulates_bind (maybe_sound h c) (λ v. simulates_refl))
-  stmt_sound {w = w} (in_return {throws = b} {exported = o} {m = m} {m' = m'} h) c =
-      test_sound c w (not o) (not o) (core.Leave (return_kind b) (core_maybe c.in_loop m)) (core.Leave (return_kind b) (core_maybe c.in_loop m')) refl (simulates_bind (maybe_sound h c) (λ v. simulates_refl))
-  stmt_sound (in_import h) c = stmt_refl
+  stmt_sound {w = w} (in_break {breaks = b} {m = m} {m' = m'} h) c =
+      test_sound c w c.in_loop c.in_loop (core.Leave (break_kind b) (core_maybe c.in_loop m)) (core.Leave (break_kind b) (core_maybe c.in_loop m')) refl (simulates_bind (maybe_sound h c) (λ v. simulates_refl))
+  stmt_sound (in_return h) c = stmt_of_deed (simulates_bind (maybe_sound h c) (λ v. simulates_refl))
+  stmt_sound {w = w} (in_import {x = x} {e = e} {e' = e'} h) c = alias_sound c w x (core_expr c.in_loop e) (core_expr c.in_loop e') (expr_sound h c)
 
   pub stmts_sound : {k : Context} {m : ListKind} {u d d' : Bool} {ss ss' : Stmts} → RestTo k m u d d' ss ss' → (c : Setting k) (v : Value) → (u ≡ true → v ≡ UnitV) → SimulatesList c m (acts (world c) (wanted m) (core_stmts c.in_loop ss) v) (acts (world c) (wanted m) (core_stmts c.in_loop ss') v)
   stmts_sound same_stmts c v z = list_refl

@@ -64,8 +64,8 @@ target_fits (in_target (in_index p q)) = refl
 -- a left side that was a place still is one, and nothing else becomes one
 pub target_stays : {k : Context} {d d' : Bool} {e e' : Expr} → TargetTo k d d' e e' → is_place e ≡ is_place e'
 target_stays same_target = refl
-target_stays (in_target (in_dot {f = f} (base p u) q)) = λ i. (rest_fits q i && not f.exported) && (has_root (sym u i) && not (calls_fit q i))
-target_stays (in_target (in_index {f = f} (base p u) q)) = λ i. (rest_fits q i && not f.exported) && (has_root (sym u i) && not (calls_fit q i))
+target_stays (in_target (in_dot {f = f} (base p u) q)) = λ i. rest_fits q i && (has_root (sym u i) && not (calls_fit q i))
+target_stays (in_target (in_index {f = f} (base p u) q)) = λ i. rest_fits q i && (has_root (sym u i) && not (calls_fit q i))
 
 abbrev standing : Bool → Role → Around
 standing l r = record { in_loop = l; role = r }

@@ -14,7 +14,7 @@ calls_reported e (At o s left) = refl
 
 -- a run that ended, in the same way
 ends_as : (e : EntryPoint) (o : Ending) (s : Store) (left left' : ℕ) → left ≤ left' → EndsAs (report_of e (At (Ended o) s left)) (report_of e (At (Ended o) s left'))
-ends_as e o s left left' h = record { ended = refl; variables = refl; this = refl; calls = refl; turns = h }
+ends_as e o s left left' h = record { ended = refl; variables = refl; exports = refl; this = refl; calls = refl; turns = h }
 
 module _ (e : EntryPoint) (r r' : ℕ → Result) (g : RunRefines r r') where
   same_end : (n : ℕ) (q : Result) → r n ≡ q → has_ended (report_of e q).ended ≡ true → EndsAs (report_of e q) (report_of e (r' n))

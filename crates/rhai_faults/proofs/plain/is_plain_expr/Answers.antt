@@ -1,6 +1,6 @@
 use Rattle.rhai_reading.proofs.Cases.{expr_cases}
-use Rattle.rhai_faults.proofs.Others.{no_call_nor_chain}
+use Rattle.rhai_faults.proofs.Others.{no_call}
 use Rattle.rhai_faults.proofs.plain.is_plain_expr.Goals as goal
 
 pub returns-in_default : goal.returns-in_default
-returns-in_default c = no_call_nor_chain (expr_cases c.args.expr.now) c.in_default.not-MethodCall c.in_default.not-FnCall c.in_default.not-Dot c.in_default.not-Index
+returns-in_default c = no_call (expr_cases c.args.expr.now) c.in_default.not-MethodCall c.in_default.not-FnCall

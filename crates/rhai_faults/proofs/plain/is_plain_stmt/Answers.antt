@@ -5,4 +5,4 @@ use Rattle.rhai_faults.proofs.plain.is_plain_stmt.Goals as goal
 pub returns-in_default : goal.returns-in_default
 returns-in_default c =
     let no = c.in_default in
-    plain_alone (stmt_cases c.args.stmt.now) no.not-Do no.not-Var no.not-FnCall no.not-BreakLoop no.not-Return no.not-Import no.not-Export no.not-Share
+    plain_alone (stmt_cases c.args.stmt.now) no.not-FnCall no.not-Share

@@ -1,6 +1,7 @@
-use Rattle.std.proofs.Common.{ap, ◌∙◌}
+use Rattle.std.proofs.Common.{refl, ap, ◌∙◌}
 use Rattle.rhai_functions.specs.declared.fn_lib.FnLib.{FnLib}
-use Rattle.rhai_script.specs.Contents.{Contents}
+use Rattle.rhai_script.specs.Contents.{Contents, contents}
+use Rattle.rhai_optimizer.specs.Optimised.{given}
 use Rattle.rhai_optimizer.proofs.Whole.{whole, passes_counted}
 use Rattle.rhai_optimizer.proofs.optimizer.optimize_counted.Goals as goal
 
@@ -8,10 +9,14 @@ pub returns-clause-promise : goal.returns-clause-promise
 returns-clause-promise c =
     let parts = rw (c.new-block.ensures.block) at c.in_ok-block.ensures in
     let e = c.new-2.ensures.contents in
-    whole c.new-2.result (c.new-2.ensures.body ∙ c.statements_of.ensures) (ap (λ l. l.value.functions) c.new-2.ensures.lib ∙ ap (λ (l : FnLib). l.functions) c.in_ok-lib.ensures.ok ∙ c.in_ok-from_functions.ensures.definitions) _ parts
+    whole (given c.args.statements.items c.args.functions.items) (contents c.new-2.result) refl refl
+    (ap (λ (x : Contents). x.statements) e ∙ c.statements_of.ensures)
+    (ap (λ (x : Contents). x.functions) e ∙ ap (λ (l : FnLib). l.functions) c.in_ok-lib.ensures.ok ∙ c.in_ok-from_functions.ensures.definitions)
+    _ parts
     (ap (λ (x : Contents). x.source) e, (ap (λ (x : Contents). x.doc) e, ap (λ (x : Contents). x.id) e ∙ ap (λ (l : FnLib). l.id) c.in_ok-lib.ensures.ok ∙ c.in_ok-from_functions.ensures.id))
 
 pub returns-clause-passes : goal.returns-clause-passes
 returns-clause-passes c =
     let parts = rw (c.new-block.ensures.block) at c.in_ok-block.ensures in
-    passes_counted c.new-2.result (c.new-2.ensures.body ∙ c.statements_of.ensures) (ap (λ l. l.value.functions) c.new-2.ensures.lib ∙ ap (λ (l : FnLib). l.functions) c.in_ok-lib.ensures.ok ∙ c.in_ok-from_functions.ensures.definitions) _ parts
+    let e = c.new-2.ensures.contents in
+    rw (ap (λ (x : Contents). x.statements) e ∙ c.statements_of.ensures) (passes_counted _ parts)

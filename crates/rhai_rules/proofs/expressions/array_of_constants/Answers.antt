@@ -1,14 +1,20 @@
-use Rattle.std.proofs.Common.{◌≡◌, Option, ◌∙◌}
+use Rattle.std.proofs.Common.{Bool}
 use Rattle.std.proofs.lemmas.Result.{IfOk-weaker}
-use Rattle.std.specs.Option.{option_map}
-use Rattle.rhai_values.specs.declared.dynamic.Dynamic.{Dynamic}
-use Rattle.rhai_values.specs.Reading.{value_of}
-use Rattle.rhai_meaning.specs.Constants.{literal_value}
+use Rattle.rhai_known.specs.State.{progress}
+use Rattle.rhai_meaning.specs.Engine.{Engine}
 use Rattle.rhai_reading.specs.Reading.{expr_of}
-use Rattle.rhai_rules.proofs.Shapes.{array_literal}
+use Rattle.rhai_rewriting.specs.Steps.{Place}
+use Rattle.rhai_steps.specs.Folded.{FoldsConstant}
+use Rattle.rhai_steps.specs.NodeSteps.{ExprStep}
+use Rattle.rhai_rules.proofs.Shapes.{array_step}
 use Rattle.rhai_rules.proofs.expressions.array_of_constants.Goals as goal
 
 pub returns : goal.returns
 returns c =
-    let P : Option Dynamic → Type 0 = λ v. option_map value_of v ≡ literal_value (expr_of c.args.expr.now) in
-    IfOk-weaker _ P _ (λ v h. h ∙ array_literal _ c.requires) c.get_literal_value.ensures.value
+    let s = progress c.args.state.now in
+    let s' = progress c.fold_constant.new.state in
+    let e = expr_of c.args.expr.now in
+    let e' = expr_of c.fold_constant.new.expr in
+    let P : Bool → Type 0 = λ b. FoldsConstant b s s' e e' in
+    let Q : Bool → Type 0 = λ b. (r : Engine) (p : Place) → ExprStep b r p s s' e e' in
+    IfOk-weaker c.fold_constant.result P Q (λ b h. array_step b s s' e e' c.requires h) c.fold_constant.ensures

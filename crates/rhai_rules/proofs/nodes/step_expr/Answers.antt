@@ -30,7 +30,7 @@ pub returns-in-Stmt : goal.returns-in-Stmt
 returns-in-Stmt c = step_passes _ _ _ _ _ _ _ (c.step_braces.ensures (engine_of c.args.info.now))
 
 pub returns-in-Array : goal.returns-in-Array
-returns-in-Array c = step_anywhere _ _ _ _ _ _ _ c.step_array.ensures
+returns-in-Array c = step_anywhere _ _ _ _ _ _ _ c.array_of_constants.ensures
 
 pub returns-in-Map : goal.returns-in-Map
 returns-in-Map c = step_anywhere _ _ _ _ _ _ _ c.step_map.ensures

@@ -12,4 +12,4 @@ returns g c =
     let script = script_of c.args.ast.now in
     let scope = start_scope c.args.scope.now in
     let ran = rw (c.deref.ensures, c.shared_lib.ensures, c.statements.ensures) at c.statements-ended.ensures in
-    rw c.from_vec.ensures (script_report engine host script scope c.args.turns c.in_ok-state.state c.statements-ended.new.state c.in_ok-state.ensures.store c.in_ok-state.ensures.turns _ _ c.in_ok-run_end.ensures ran)
+    rw (c.in_ok-variables.ensures.names, c.in_ok-variables.ensures.exports) (script_report engine host script scope c.args.turns c.in_ok-state.state c.statements-ended.new.state c.in_ok-state.ensures.store c.in_ok-state.ensures.turns _ _ c.in_ok-run_end.ensures ran)

@@ -1,5 +1,5 @@
 use Rattle.std.proofs.Common.{◌≡◌, ◌++◌, drop}
 use Rattle.rhai_state.proofs.state.copied.Given as goal
 
-abbrev pub invariant-loop-variable : goal.invariant-loop-variable
-invariant-loop-variable l = l.copies.items ++ drop l.variable-index l.scope ≡ l.scope
+abbrev pub invariant-loop-held : goal.invariant-loop-held
+invariant-loop-held l = l.copies.items ++ drop l.held-index l.scope ≡ l.scope

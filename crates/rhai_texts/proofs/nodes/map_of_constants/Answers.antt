@@ -1,8 +1,18 @@
-use Rattle.std.proofs.Common.{sym, ap, ◌∙◌}
-use Rattle.std.specs.Option.{option_map}
-use Rattle.rhai_values.specs.Reading.{value_of}
-use Rattle.rhai_texts.proofs.Folding.{map_put}
+use Rattle.std.proofs.Common.{Bool}
+use Rattle.std.proofs.lemmas.Result.{IfOk-weaker}
+use Rattle.rhai_known.specs.State.{progress}
+use Rattle.rhai_reading.specs.Reading.{expr_of}
+use Rattle.rhai_steps.specs.Folded.{FoldsConstant}
+use Rattle.rhai_texts.specs.Parts.{Folds}
+use Rattle.rhai_texts.proofs.Folding.{map_folded}
 use Rattle.rhai_texts.proofs.nodes.map_of_constants.Goals as goal
 
-pub returns-in-Some : goal.returns-in-Some
-returns-in-Some c = map_put c.requires (sym (ap (option_map value_of) c.in-Some.is) ∙ c.in_ok-value.ensures.value) c.in_ok-put_constant.ensures
+pub returns : goal.returns
+returns c =
+    let s = progress c.args.state.now in
+    let s' = progress c.fold_constant.new.state in
+    let e = expr_of c.args.expr.now in
+    let e' = expr_of c.fold_constant.new.expr in
+    let P : Bool → Type 0 = λ b. FoldsConstant b s s' e e' in
+    let Q : Bool → Type 0 = λ b. Folds b s s' e e' in
+    IfOk-weaker c.fold_constant.result P Q (λ b h. map_folded b s s' e e' c.requires h) c.fold_constant.ensures

@@ -6,18 +6,19 @@ use mir.Val.{SFits}
 use Rattle.std.proofs.lemmas.Result.{err_from_is_err_and}
 use Rattle.std.proofs.lemmas.List.{length-map}
 use Rattle.std.specs.Option.{option_copied, option_map}
+use Rattle.rhai_values.specs.declared.dynamic.Dynamic.{Dynamic}
 use Rattle.rhai_values.specs.Reading.{value_of, value_of-Int}
+use Rattle.rhai_meaning.specs.Meaning.{module_at}
 use Rattle.rhai_base.specs.Builtin.{operator_of}
 use Rattle.rhai_reading.specs.Reading.{arms_of, callee_of, chain_flags, counter_of, expr_of, exprs_of, expressions_of, is_negated, keys_of, pairs_of, range_of, stmt_of, stmts_of, table_of}
 use Rattle.rhai_functions.specs.FnKey.{definition_key}
 use Rattle.rhai_functions.specs.FnLib.{functions_of}
 use Rattle.rhai_functions.specs.Table.{find_by}
-use Rattle.rhai_meaning.specs.Act.{Invoke, Named, OutOfTurns, Store}
+use Rattle.rhai_meaning.specs.Act.{IsVariable, Invoke, Named, OutOfTurns, Store}
 use Rattle.rhai_meaning.specs.ActForms.{ask_host}
 use Rattle.rhai_meaning.specs.Calls as calls
 use Rattle.rhai_meaning.specs.Calls.{call_named, key}
 use Rattle.rhai_meaning.specs.Core as core
-use Rattle.rhai_meaning.specs.Desugar as desugar
 use Rattle.rhai_meaning.specs.Run.{bind, seen}
 use Rattle.rhai_meaning.specs.Control.{counted}
 use Rattle.rhai_meaning.specs.Desugar.{core_expr, core_stmts, ends_in_call}
@@ -32,7 +33,8 @@ use Rattle.rhai_state.specs.Runs.{Acting, Halting, Runs, given, stop_of}
 use Rattle.rhai_machine.specs.Placing.{current_in}
 use Rattle.rhai_state.specs.State.{store_of}
 use Rattle.rhai_forms.specs.LeftSides.{side_core}
-use Rattle.rhai_forms.specs.Variables.{root_meant}
+use Rattle.rhai_forms.specs.Variables.{qualified_in, root_meant}
+use Rattle.rhai_state.specs.Entries.{scope_meant}
 use Rattle.rhai_state.specs.Words.{word_meant}
 use Rattle.rhai_machine.specs.declared.steps.parts.Access.TheVariants as reached
 use Rattle.rhai_machine.specs.Placing.{current_in}
@@ -42,9 +44,9 @@ use Rattle.rhai_chains.proofs.Targets.{last_nowhere, last_plain, last_stops, rea
 use Rattle.rhai_evaluator.proofs.ByKind.{array_of_expr, block_of_stmt, braces_of_expr, call_of_expr, call_of_stmt, dot_of_expr, for_of_stmt, if_of_stmt, index_of_expr, map_of_expr, method_of_expr, property_of_expr, switch_of_stmt, text_of_expr}
 use Rattle.rhai_state.proofs.Counted.{each_ends, each_next, each_stops, for_array, for_body_runs, for_closed_range, for_other, for_range, for_round_runs, range_end, range_ends, range_next, range_start, range_stops}
 use Rattle.rhai_evaluator.proofs.Leaving.{catch_runs, try_catches, try_ends, try_stops}
-use Rattle.rhai_evaluator.proofs.Nodes.{call_stuck, call_stops, call_runs, called_as}
+use Rattle.rhai_evaluator.proofs.Nodes.{call_stuck, call_stops, call_runs, called_as, called_in_module}
 use Rattle.rhai_forms.proofs.Callees.{named_callee, operator_callee, qualified_callee}
-use Rattle.rhai_state.proofs.Goes.{leads_then, stops_by}
+use Rattle.rhai_state.proofs.Goes.{leads_then, stops_by, value_goes}
 use Rattle.rhai_evaluator.proofs.Invoked.{back_is, invoke_goes, invoke_late, invoke_stops}
 use Rattle.rhai_evaluator.proofs.Known.{call_runs_function, found_nothing, found_weight}
 use Rattle.rhai_evaluator.proofs.Words.{call_asks, word_asks, word_gives, word_names, word_points, word_stops}
@@ -443,7 +445,7 @@ pub for_round-returns : goal.for_round-returns
 for_round-returns g t c =
     let ended = c.for_body-ended.new.state in
     let left : State = record { scope = c.truncate.new.self; this = ended.this; calls = ended.calls; turns = ended.turns } in
-    λ k e. for_round_runs (setting g.H.Host.answers g.H.Host.modules c.args.self.now.machine) (counted (counter_of c.args.parts.now.1) k (Named c.args.parts.now.0.name false (value_of c.args.item) (body_of (setting g.H.Host.answers g.H.Host.modules c.args.self.now.machine) (stmts_of c.args.parts.now.2.body.block)))) c.args.state.now c.take_turn.new.self ended left c.len-names.result c.in_ok-take_turn.field-0 c.for_body-ended.result c.round_ended.result c.in_ok-take_turn.ensures (omega (arith, c.len-names.ensures, c.take_turn.new.self.scope.ok.0)) (c.for_body-ended.ensures k e) (record { scope = c.truncate.ensures.items; this = refl; calls = refl; turns = refl }) c.round_ended.ensures
+    λ k e. for_round_runs (setting g.H.Host.answers g.H.Host.modules c.args.self.now.machine) (counted (counter_of c.args.parts.now.1) k (Named c.args.parts.now.0.name IsVariable (value_of c.args.item) (body_of (setting g.H.Host.answers g.H.Host.modules c.args.self.now.machine) (stmts_of c.args.parts.now.2.body.block)))) c.args.state.now c.take_turn.new.self ended left c.len-names.result c.in_ok-take_turn.field-0 c.for_body-ended.result c.round_ended.result c.in_ok-take_turn.ensures (omega (arith, c.len-names.ensures, c.take_turn.new.self.scope.ok.0)) (c.for_body-ended.ensures k e) (record { scope = c.truncate.ensures.items; this = refl; calls = refl; turns = refl }) c.round_ended.ensures
 
 pub for_each-returns-in_err-value : goal.for_each-returns-in_err-value
 for_each-returns-in_err-value g t c = let p = err_from_is_err_and c.from_residual.result c.from_residual.ensures.1 in
@@ -535,8 +537,8 @@ called-returns-then-is_empty g t c = called_as (setting g.H.Host.answers g.H.Hos
 pub called-returns : goal.called-returns
 called-returns g t c =
     let k = (callee_of c.args.call.now) in
-    let name = c.in_ok-name-2.ensures ∙ c.as_str-2.ensures.value ∙ c.in_ok-name.ensures ∙ ap (desugar.qualified k.namespace) c.as_str.ensures in
-    called_as (setting g.H.Host.answers g.H.Host.modules c.args.self.now.machine) c.args.self.now.in_loop k (core.Qualified (desugar.qualified k.namespace k.name)) (map value_of c.args.args) c.args.state.now c.ask_host.new.state c.ask_host.result (qualified_callee k (length c.args.call.now.args) c.requires c.in_default.ensures (sym c.is_empty.ensures.names ∙ c.if-is_empty.false)) (subst (λ f. Runs (setting g.H.Host.answers g.H.Host.modules c.args.self.now.machine) (Acting (ask_host f (map value_of c.args.args))) c.args.state.now c.ask_host.result c.ask_host.new.state) name c.ask_host.ensures)
+    let name = c.in_ok-name-2.ensures ∙ c.as_str-2.ensures.value ∙ c.in_ok-name.ensures ∙ ap (λ es. qualified_in (scope_meant es) k.namespace c.as_str.result.now) c.as_slice-scope.ensures.value ∙ ap (qualified_in (store_of c.args.state.now).scope k.namespace) c.as_str.ensures in
+    called_in_module (setting g.H.Host.answers g.H.Host.modules c.args.self.now.machine) c.args.self.now.in_loop k (map value_of c.args.args) c.args.state.now c.ask_host.new.state c.ask_host.result (qualified_callee k (length c.args.call.now.args) c.requires c.in_default.ensures (setting g.H.Host.answers g.H.Host.modules c.args.self.now.machine).world (map value_of c.args.args) (sym c.is_empty.ensures.names ∙ c.if-is_empty.false)) (subst (λ f. Runs (setting g.H.Host.answers g.H.Host.modules c.args.self.now.machine) (Acting (ask_host f (map value_of c.args.args))) c.args.state.now c.ask_host.result c.ask_host.new.state) name c.ask_host.ensures)
 
 pub call_word-returns-then-is_to_host : goal.call_word-returns-then-is_to_host
 call_word-returns-then-is_to_host g t c = word_asks (setting g.H.Host.answers g.H.Host.modules c.args.self.now.machine) c.args.captures c.args.name.now (map value_of c.args.args) (word_meant c.of-word.result) (c.of-word.ensures ∙ ap calls.word c.as_str.ensures) c.args.state.now c.ask_host.new.state c.ask_host.result (sym c.is_to_host.ensures ∙ c.if-is_to_host.true) (rw c.in_ok-clone.ensures.cases at c.ask_host.ensures)
@@ -645,7 +647,7 @@ reach-returns-in_err-refreshed g t c = let p = err_from_is_err_and c.from_residu
       | reach-else-contains-via-then-contains+else-is_unit_at w ↦ ap (λ b. b && is_unit (current_in (setting g.H.Host.answers g.H.Host.modules c.args.self.now.machine) (store_of c.args.state.now) c.args.current.now).value) (sym (c.contains.ensures tt) ∙ w.if-contains.true) ∙ sym w.is_unit_at.ensures ∙ w.if-is_unit_at.false
       | reach-else-contains-via-else-contains w ↦ ap (λ b. b && is_unit (current_in (setting g.H.Host.answers g.H.Host.modules c.args.self.now.machine) (store_of c.args.state.now) c.args.current.now).value) (sym (c.contains.ensures tt) ∙ w.if-contains.false)
     ] in
-    rw (p.1, p.2) (reach_gone (setting g.H.Host.answers g.H.Host.modules c.args.self.now.machine) c.args.self.now.in_loop c.args.rest c.link-link.result (c.link-link.ensures.steps c.args.self.now.in_loop) c.args.current.now c.args.state.now goes_on c.if-link.false c.access.new.state c.in_ok-access.access c.in_ok-access.ensures _ c.in_err-refreshed.ensures)
+    rw (p.1, p.2) (reach_gone (setting g.H.Host.answers g.H.Host.modules c.args.self.now.machine) c.args.self.now.in_loop c.args.rest c.link-link.result (c.link-link.ensures.steps c.args.self.now.in_loop) c.args.current.now c.args.state.now goes_on c.access.new.state c.in_ok-access.access c.in_ok-access.ensures _ c.in_err-refreshed.ensures)
 
 pub reach-returns : goal.reach-returns
 reach-returns g t c =
@@ -654,7 +656,7 @@ reach-returns g t c =
       | reach-else-contains-via-then-contains+else-is_unit_at w ↦ ap (λ b. b && is_unit (current_in (setting g.H.Host.answers g.H.Host.modules c.args.self.now.machine) (store_of c.args.state.now) c.args.current.now).value) (sym (c.contains.ensures tt) ∙ w.if-contains.true) ∙ sym w.is_unit_at.ensures ∙ w.if-is_unit_at.false
       | reach-else-contains-via-else-contains w ↦ ap (λ b. b && is_unit (current_in (setting g.H.Host.answers g.H.Host.modules c.args.self.now.machine) (store_of c.args.state.now) c.args.current.now).value) (sym (c.contains.ensures tt) ∙ w.if-contains.false)
     ] in
-    reach_runs (setting g.H.Host.answers g.H.Host.modules c.args.self.now.machine) c.args.self.now.in_loop c.args.rest c.link-link.result (c.link-link.ensures.steps c.args.self.now.in_loop) c.args.current.now c.args.state.now goes_on c.if-link.false c.access.new.state c.in_ok-access.access c.in_ok-access.ensures c.in_ok-refreshed.field-0 c.in_ok-refreshed.ensures
+    reach_runs (setting g.H.Host.answers g.H.Host.modules c.args.self.now.machine) c.args.self.now.in_loop c.args.rest c.link-link.result (c.link-link.ensures.steps c.args.self.now.in_loop) c.args.current.now c.args.state.now goes_on c.access.new.state c.in_ok-access.access c.in_ok-access.ensures c.in_ok-refreshed.field-0 c.in_ok-refreshed.ensures
 
 pub method_access-returns-then-not-is_callable : goal.method_access-returns-then-not-is_callable
 method_access-returns-then-not-is_callable g t c = method_stuck (setting g.H.Host.answers g.H.Host.modules c.args.self.now.machine) c.args.self.now.in_loop c.args.call.now c.args.state.now (sym c.is_callable.ensures ∙ c.if-not-is_callable.true)
@@ -766,3 +768,8 @@ changed_method-returns-in_err-read g t c o h = let p = err_from_is_err_and c.fro
 
 pub changed_method-returns : goal.changed_method-returns
 changed_method-returns g t c o h = read_changes (setting g.H.Host.answers g.H.Host.modules c.args.self.now.machine) _ c.in_ok-read.read c.args.state.now c.method.new.state c.in_ok-read.ensures o (value_of c.args.value) c.assigned.result c.assigned.new.state (value_of c.in_ok-old.old) c.in_ok-old.ensures (c.assigned.ensures o h)
+
+pub module_of-returns : goal.module_of-returns
+module_of-returns g t c =
+    let here = setting g.H.Host.answers g.H.Host.modules c.args.self.now.machine in
+    leads_then here c.expr.new.state c.module_at.result (λ (v : Dynamic). given (value_of v)) (value_goes here (module_at here.world) c.in_ok-path.ensures) (c.module_at.ensures c.expr.new.state)

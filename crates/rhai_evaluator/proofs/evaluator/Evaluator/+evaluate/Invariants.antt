@@ -77,6 +77,12 @@ decreases-choice g l = level l.self.now.depth (bodies_weight (functions_of l.sel
 abbrev pub decreases-declaration : goal.decreases-declaration
 decreases-declaration g l = level l.self.now.depth (bodies_weight (functions_of l.self.now.machine.functions.now)) + 9 * expr_weight (expr_of l.value.now) + 2
 
+abbrev pub decreases-import : goal.decreases-import
+decreases-import g l = level l.self.now.depth (bodies_weight (functions_of l.self.now.machine.functions.now)) + 9 * expr_weight (expr_of l.path.now) + 3
+
+abbrev pub decreases-module_of : goal.decreases-module_of
+decreases-module_of g l = level l.self.now.depth (bodies_weight (functions_of l.self.now.machine.functions.now)) + 9 * expr_weight (expr_of l.path.now) + 2
+
 abbrev pub decreases-assignment : goal.decreases-assignment
 decreases-assignment g l = level l.self.now.depth (bodies_weight (functions_of l.self.now.machine.functions.now)) + 9 * (expr_weight (expr_of l.sides.now.lhs) + expr_weight (expr_of l.sides.now.rhs)) + 13
 

@@ -1,0 +1,73 @@
+//! Statements.
+#![tactic(auto, using(rhai_reading::specs::Reading::shapes))]
+
+ghost use Rattle.std.specs.Prelude.{◌≡◌, IfOk, None};
+ghost use Rattle.rhai_reading.specs.Reading.{expr_of, exprs_of, is_const, is_exported, mark_of, stmt_of, stmts_of};
+ghost use Rattle.rhai_meaning.specs.Tree.{Assignment, Block, ExprStmt, FnCallStmt, Var};
+ghost use Rattle.rhai_make.specs.Trees as tree;
+
+use crate::expressions::fn_call;
+use rhai_ast::{BinaryExpr, Expr, Stmt, StmtBlock};
+use rhai_base::{
+    ASTFlags, Boxed, Ident, ImmutableString, OpAssignment, OutOfMemory, Position, Seq,
+};
+use std::alloc::Global;
+
+/// A name where it stands.
+pub fn ident(alloc: Global, name: &str, pos: Position) -> Result<Ident, OutOfMemory>
+    ensures name { IfOk result (λ made. made.name ≡ name.now) }
+    ensures pos { IfOk result (λ made. made.pos ≡ pos) }
+{
+    let name = ImmutableString::new(alloc, name)?;
+    Ok(Ident { name, pos })
+}
+
+/// The statement that evaluates an expression.
+pub fn expr_stmt(alloc: Global, expr: Expr) -> Result<Stmt, OutOfMemory>
+    ensures { IfOk result (λ s. stmt_of s ≡ ExprStmt (expr_of expr)) }
+{
+    Ok(Stmt::Expr(Boxed::new(alloc, expr)?))
+}
+
+/// A block as a statement.
+pub fn block_stmt(alloc: Global, block: StmtBlock) -> Result<Stmt, OutOfMemory>
+    ensures { IfOk result (λ s. stmt_of s ≡ Block (stmts_of block.block)) }
+{
+    Ok(Stmt::Block(Boxed::new(alloc, block)?))
+}
+
+/// A declaration: of a constant and exported, if these flags are set.
+pub fn declaration(
+    alloc: Global,
+    flags: ASTFlags,
+    name: Ident,
+    value: Expr,
+    pos: Position,
+) -> Result<Stmt, OutOfMemory>
+    ensures { IfOk result (λ s. stmt_of s ≡ Var (is_const flags) (is_exported flags) name.name (expr_of value)) }
+{
+    let parts = Boxed::new(alloc, (name, value, None))?;
+    Ok(Stmt::Var(parts, flags, pos))
+}
+
+/// A straight assignment, whose `=` stands there.
+pub fn assignment(alloc: Global, lhs: Expr, rhs: Expr, pos: Position) -> Result<Stmt, OutOfMemory>
+    ensures { IfOk result (λ s. stmt_of s ≡ Assignment None (expr_of lhs) (expr_of rhs)) }
+{
+    let sign = OpAssignment::new_assignment(pos);
+    let parts = Boxed::new(alloc, (sign, BinaryExpr { lhs, rhs }))?;
+    Ok(Stmt::Assignment(parts))
+}
+
+/// The call of a function as a statement.
+pub fn call_stmt(
+    alloc: Global,
+    name: &str,
+    args: Seq<Expr>,
+    pos: Position,
+) -> Result<Stmt, OutOfMemory>
+    ensures { IfOk result (λ s. stmt_of s ≡ FnCallStmt (tree.called name.now (mark_of None)) (exprs_of args)) }
+{
+    let call = fn_call(alloc, name, args, None)?;
+    Ok(Stmt::FnCall(call, pos))
+}

@@ -1,0 +1,22 @@
+use Rattle.std.proofs.Common.{sym, ap, ◌∙◌}
+use Rattle.rhai_functions.specs.declared.fn_lib.FnLib.{FnLib}
+use Rattle.rhai_script.specs.Contents.{Contents, contents}
+use Rattle.rhai_optimizer.proofs.Whole.{whole}
+use Rattle.rhai_optimizer.proofs.optimizer.optimize_ast.Goals as goal
+
+pub returns : goal.returns
+returns c =
+    let taken = c.into_parts-source.ensures in
+    let made = c.from_parts.ensures in
+    whole (contents c.args.ast) (contents c.from_parts.result)
+    (ap (λ (x : Contents). x.statements) (sym taken))
+    (ap (λ (x : Contents). x.functions) (sym taken) ∙ sym (ap (λ (l : FnLib). l.functions) c.in_ok-unshared.ensures) ∙ sym c.in_ok-id.ensures.table)
+    (ap (λ (x : Contents). x.statements) made)
+    (ap (λ (x : Contents). x.functions) made ∙ ap (λ (l : FnLib). l.functions) c.in_ok-lib.ensures.ok ∙ c.in_ok-named_lib.ensures.functions)
+    c.args.level c.in_ok-body.ensures (
+      ap (λ (x : Contents). x.source) made ∙ ap (λ (x : Contents). x.source) taken,
+      (
+        ap (λ (x : Contents). x.doc) made ∙ ap (λ (x : Contents). x.doc) taken,
+        ap (λ (x : Contents). x.id) made ∙ ap (λ (l : FnLib). l.id) c.in_ok-lib.ensures.ok ∙ c.in_ok-named_lib.ensures.id ∙ c.in_ok-id.ensures.id ∙ ap (λ (l : FnLib). l.id) c.in_ok-unshared.ensures ∙ ap (λ (x : Contents). x.id) taken,
+      ),
+    )

@@ -1,0 +1,48 @@
+//! Tests of a script.
+ghost use Rattle.std.specs.Prelude.{◌≡◌};
+ghost use Rattle.rhai_faults.specs.PlainWalk.{plain_walk};
+ghost use Rattle.rhai_faults.specs.Refusals.{Finds};
+ghost use Rattle.rhai_functions.specs.FnLib.{functions_of};
+ghost use Rattle.rhai_meaning.specs.Faults as faults;
+ghost use Rattle.rhai_meaning.specs.Laws.{WellFormedLaw};
+ghost use Rattle.rhai_meaning.specs.Plain as plain;
+ghost use Rattle.rhai_meaning.specs.Walk.{over_functions};
+ghost use Rattle.rhai_script.specs.Script.{script_of};
+
+use crate::ast::AST;
+use rhai_ast::{check_tree, is_plain};
+use rhai_base::TreeFault;
+use rhai_functions::{FnLib, allocator_of, shared_functions};
+use std::slice;
+
+impl AST {
+    /// Its first fault, as `check_tree` finds it. It is not in rhai.
+    pub fn check(&self) -> Result<(), TreeFault>
+        ensures first { Finds (faults.script_fault (script_of self.now)) result }
+        ensures law { WellFormedLaw (script_of self.now) }
+    {
+        let lib = self.shared_lib();
+        let Ok(functions) = shared_functions(lib) else {
+            return Err(TreeFault::OutOfMemory);
+        };
+        check_tree(allocator_of(lib), self.statements(), functions.as_slice())
+    }
+
+    /// Whether it is plain, as `is_plain` says of its parts. It takes no memory. It is not in rhai.
+    pub fn is_plain(&self) -> bool
+        ensures { result ≡ plain.is_plain (script_of self.now) }
+    {
+        is_plain(self.statements(), &[]) && are_plain(self.shared_lib())
+    }
+}
+
+fn are_plain(lib: &FnLib) -> bool
+    ensures { result ≡ over_functions plain_walk (functions_of lib.now) }
+{
+    for function in lib.iter() {
+        if !is_plain(&[], slice::from_ref(function)) {
+            return false;
+        }
+    }
+    true
+}
