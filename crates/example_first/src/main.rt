@@ -3,9 +3,9 @@
 
 use rhai_lang::prelude::*;
 use rhai_lang::{
-    AST, ASTNode, EngineInfo, FnAccess, FnLib, ImmutableString, OptimizationLevel, OutOfMemory,
-    Position, ProgramHost, Scope, ScriptFuncDef, Seq, Span, Stmt, StmtBlock, Token, make,
-    optimize_ast, plain_run, push_report, push_script,
+    AST, ASTNode, EngineInfo, FnLib, OptimizationLevel, OutOfMemory, Position, Scope,
+    ScriptFuncDef, Seq, Stmt, Token, UnitHost, make, optimize_ast, plain_run, push_report,
+    push_script,
 };
 use std::alloc::{AllocError, Global};
 use std::rc::Rc;
@@ -26,14 +26,7 @@ fn answer(alloc: Global) -> Result<ScriptFuncDef, OutOfMemory> {
     );
     let sum = make::operator(alloc, Token::Plus, forty, two, Position::NONE)?;
     let body = vec![in alloc; make::expr_stmt(alloc, sum)?]?;
-    Ok(ScriptFuncDef {
-        body: StmtBlock::new_with_span(body, Span::NONE),
-        name: ImmutableString::new(alloc, "answer")?,
-        this_type: None,
-        access: FnAccess::Public,
-        params: Seq::new(alloc),
-        comments: Seq::new(alloc),
-    })
+    make::function(alloc, "answer", &[], body)
 }
 
 /// What becomes of the two.
@@ -47,7 +40,7 @@ fn told(alloc: Global) -> Result<String, OutOfMemory> {
     let flat = script.walk(&mut |path: &[ASTNode]| path.len() < 3)?; // stops at a longer path
     let mut text = format!(in alloc; "well-formed: {well_formed}, flat: {flat}\n")?;
     push_script(&script, &mut text)?;
-    let report = plain_run(alloc, &script, &info, &ProgramHost, &Scope::new(alloc), 10)?;
+    let report = plain_run(alloc, &script, &info, &UnitHost, &Scope::new(alloc), 10)?;
     push_report(&report, &mut text)?;
     Ok(text)
 }

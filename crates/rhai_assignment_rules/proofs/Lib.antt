@@ -1,5 +1,4 @@
 pub mod Assigning
-pub mod Below
 pub mod Fired
 pub mod Names
 pub mod Others

@@ -1,11 +1,11 @@
 -- Shared names, one by one.
-use Rattle.std.proofs.Common.{◌≡◌, ℕ, ◌+◌, ◌<◌, Bool, true, false, ◌||◌, not, List, [], ◌∷◌, Option, Some, None, is_some, length, get_or, drop, map, ◌↔◌, IsTrue, refl, sym, ap, ◌∙◌, add-one}
+use Rattle.std.proofs.Common.{◌≡◌, ℕ, ◌+◌, ◌<◌, Bool, true, false, ◌||◌, not, List, [], ◌∷◌, Option, Some, None, is_some, length, get_or, drop, ◌↔◌, IsTrue, refl, ap, ◌∙◌, add-one}
 use Rattle.std.proofs.Math.Seq.{drop-cons, drop-length}
 use Rattle.std.specs.List.{filter}
 use Rattle.std.specs.Prelude.{if◌then◌else◌}
 use Rattle.std.specs.declared.num.NonZeroUsize.{NonZeroUsize}
 use Rattle.rhai_parts.specs.declared.ident.Ident.{Ident}
-use Rattle.rhai_values.specs.Value.{Text, Value}
+use Rattle.rhai_values.specs.Value.{Value}
 use Rattle.rhai_meaning.specs.Tree.{Share}
 use Rattle.rhai_reading.specs.Reading.{shared_names}
 use Rattle.rhai_rewriting.specs.Known.{Known, look, unless_known, unknown}

@@ -1,12 +1,8 @@
--- The walk that asks whether a node may write a name.
+-- Whether a node may write a name.
 use Rattle.std.specs.Prelude.{Bool}
-use Rattle.rhai_meaning.specs.Plain.{all_true}
 use Rattle.rhai_meaning.specs.Tree.{Expr, Stmt}
-use Rattle.rhai_meaning.specs.Walk.{Walk, OfExpr, OfStmt}
+use Rattle.rhai_meaning.specs.Walk.{OfExpr, OfStmt}
 use Rattle.rhai_rewriting.specs.SelfAssign.{writes_nothing}
-
-abbrev pub writing_walk : Walk Bool
-writing_walk = all_true writes_nothing
 
 abbrev pub expr_writes_nothing : Expr → Bool
 expr_writes_nothing e = writes_nothing (OfExpr e)

@@ -158,7 +158,8 @@ fn assign_by_operator(operation: &mut OpAssignment, value: &mut Expr)
 /// `x = x op e` is `x op= e`.
 fn self_assign(state: &mut OptimizerState<'_>, statement: &mut Stmt)
     requires { settled.holds_operation (stmt_of statement.now) ≡ true }
-    ensures { (r : Engine) (w : Bool) → settled.is_settled_assignment r (stmt_of statement.old) ≡ false → Fires r w (progress state.old) (progress state.new) (stmt_of statement.old) (stmt_of statement.new) }
+    ensures { (r : Engine) (w : Bool) → settled.is_settled_assignment r (stmt_of statement.old) ≡ false
+        → Fires r w (progress state.old) (progress state.new) (stmt_of statement.old) (stmt_of statement.new) }
 {
     note_fired(state);
     match statement {
@@ -178,7 +179,9 @@ pub fn step_assignment(
 ) -> NodeStep
     requires { settled.is_assignment (stmt_of statement.now) ≡ true }
     ensures answer { result ≡ answer (settled.is_settled_assignment (engine_of info.now) (stmt_of statement.old)) }
-    ensures step { (w : Bool) → StmtStep result (engine_of info.now) w (progress state.old) (progress state.new) (stmt_of statement.old) (stmt_of statement.new) }
+    ensures step { (w : Bool)
+        → StmtStep result (engine_of info.now) w (progress state.old) (progress state.new) (stmt_of statement.old)
+        (stmt_of statement.new) }
 {
     if is_settled_assignment(info, statement) {
         return NodeStep::Kept;

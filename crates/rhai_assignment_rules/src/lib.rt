@@ -1,5 +1,5 @@
-//! The rules at assignments and at shared names, in their place. A test by reference says whether a rule fires; where none does nothing is
-//! moved. None takes memory.
+//! The rules at assignments and at shared names, in their place. A test by reference says whether a rule fires; where
+//! none does nothing is moved. None takes memory.
 #![tactic(auto)]
 
 mod assignment;

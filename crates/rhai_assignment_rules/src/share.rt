@@ -72,7 +72,8 @@ fn keep_unknown(alloc: Global, state: &OptimizerState<'_>, names: &mut Seq<Share
 /// Of shared names those that are known go.
 fn share_known(state: &mut OptimizerState<'_>, statement: &mut Stmt)
     requires { settled.is_settled_share (known_of state.now.entries) (stmt_of statement.now) ≡ false }
-    ensures { (r : Engine) (w : Bool) → Fires r w (progress state.old) (progress state.new) (stmt_of statement.old) (stmt_of statement.new) }
+    ensures { (r : Engine) (w : Bool)
+        → Fires r w (progress state.old) (progress state.new) (stmt_of statement.old) (stmt_of statement.new) }
 {
     note_fired(state);
     match statement {
@@ -87,7 +88,8 @@ fn share_known(state: &mut OptimizerState<'_>, statement: &mut Stmt)
 /// Where nothing is shared nothing is left.
 fn share_nothing(state: &mut OptimizerState<'_>, statement: &mut Stmt)
     requires { settled.shares_nothing (stmt_of statement.now) ≡ true }
-    ensures { (r : Engine) (w : Bool) → Fires r w (progress state.old) (progress state.new) (stmt_of statement.old) (stmt_of statement.new) }
+    ensures { (r : Engine) (w : Bool)
+        → Fires r w (progress state.old) (progress state.new) (stmt_of statement.old) (stmt_of statement.new) }
 {
     put_nothing(state, statement);
 }
@@ -95,8 +97,13 @@ fn share_nothing(state: &mut OptimizerState<'_>, statement: &mut Stmt)
 /// Rewrites shared names by the rule that fires at them, if one does.
 pub fn step_share(state: &mut OptimizerState<'_>, statement: &mut Stmt) -> NodeStep
     requires { settled.is_share (stmt_of statement.now) ≡ true }
-    ensures answer { result ≡ answer (not (settled.shares_nothing (stmt_of statement.old)) && settled.is_settled_share (known_of state.old.entries) (stmt_of statement.old)) }
-    ensures step { (r : Engine) (w : Bool) → StmtStep result r w (progress state.old) (progress state.new) (stmt_of statement.old) (stmt_of statement.new) }
+    ensures answer { result
+        ≡ answer
+        (not (settled.shares_nothing (stmt_of statement.old))
+        && settled.is_settled_share (known_of state.old.entries) (stmt_of statement.old)) }
+    ensures step { (r : Engine) (w : Bool)
+        → StmtStep result r w (progress state.old) (progress state.new) (stmt_of statement.old)
+        (stmt_of statement.new) }
 {
     if shares_nothing(statement) {
         share_nothing(state, statement);

@@ -5,25 +5,27 @@
 ghost use Rattle.std.specs.Prelude.{◌≡◌};
 ghost use Rattle.rhai_faults.specs.Refusals.{Finds};
 ghost use Rattle.rhai_faults.specs.Scripts.{script_by};
+ghost use Rattle.rhai_faults.specs.Standing.{Stands, StandsInScript, defs_of, fault_in};
 ghost use Rattle.rhai_meaning.specs.Faults as faults;
 ghost use Rattle.rhai_meaning.specs.Laws.{WellFormedLaw};
 ghost use Rattle.rhai_meaning.specs.Plain as plain;
 
-use rhai_base::TreeFault;
-use rhai_faults::{are_plain, are_plain_functions, check_functions, check_stmts};
+use rhai_faults::{TreeError, are_plain, are_plain_functions, check_functions, check_stmts};
 use rhai_tree::{ScriptFuncDef, Stmt};
 use std::alloc::Global;
 use std::rc::Rc;
 
 /// The first fault of the statements, and then of the functions in order, a function's name before its body: in
-/// the order of the walk, and at one node the fault with the smallest number. Ok exactly where the tree is
-/// well-formed, if there is memory for the keys of each map literal. It is not in rhai.
+/// the order of the walk, and at one node the fault with the smallest number; and where that node stands, a name
+/// where its body begins. Ok exactly where the tree is well-formed, if there is memory for the keys of each map
+/// literal. It is not in rhai.
 pub fn check_tree(
     alloc: Global,
     statements: &[Stmt],
     functions: &[Rc<ScriptFuncDef>],
-) -> Result<(), TreeFault>
-    ensures first { Finds (faults.script_fault (script_by statements.now functions.now)) result }
+) -> Result<(), TreeError>
+    ensures first { Finds (faults.script_fault (script_by statements.now functions.now)) (fault_in result) }
+    ensures stands { Stands (StandsInScript statements.now (defs_of functions.now)) result }
     ensures law { WellFormedLaw (script_by statements.now functions.now) }
 {
     check_stmts(alloc, statements, false)?;

@@ -17,6 +17,7 @@ pub use node::NodeQueries;
 pub use place::SetPosition;
 pub use rhai_base::{CaseBlocksList, Cases, TreeFault};
 pub use rhai_exprs::{CallQueries, ExprQueries, IntoExpr, Literals};
+pub use rhai_faults::TreeError;
 pub use rhai_stmts::StmtQueries;
 pub use rhai_tree::{
     BinaryExpr, Expr, FlowControl, FnAccess, FnCallExpr, FnNamespace, ScriptFuncDef, Stmt,

@@ -1,5 +1,5 @@
-//! Operators that need no engine; the cases of a `switch`, by values and by ranges; and, passed on, values, names, tokens and
-//! lists.
+//! Operators that need no engine; the cases of a `switch`, by values and by ranges; and, passed on, values, names,
+//! tokens and lists.
 #![tactic(auto)]
 
 mod builtin;

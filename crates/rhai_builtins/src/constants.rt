@@ -14,7 +14,8 @@ use rhai_base::{ASTFlags, OutOfMemory, Token};
 use rhai_make::block_stmt;
 use std::alloc::Global;
 
-/// The statements of `const A = 40 + 2; let b = 123; const B = b * A; const C = 999; b = A + C; { const Z = 0; print(Z); }`.
+/// The statements of `const A = 40 + 2; let b = 123; const B = b * A; const C = 999; b = A + C; { const Z = 0;
+/// print(Z); }`.
 pub fn constants_statements(alloc: Global) -> Result<Vec<Stmt>, OutOfMemory>
     ensures { IfOk result (λ statements. stmts_of statements.items ≡ spec.constants_statements) }
 {
@@ -54,7 +55,8 @@ fn assigned_sum(alloc: Global) -> Result<Stmt, OutOfMemory>
 
 /// An operator over two variables.
 fn over_variables(alloc: Global, token: Token, lhs: &str, rhs: &str) -> Result<Expr, OutOfMemory>
-    ensures { IfOk result (λ expr. expr_of expr ≡ operation (token_text token) (mark_of (Some token)) (variable lhs.now) (variable rhs.now)) }
+    ensures { IfOk result (λ expr.
+        expr_of expr ≡ operation (token_text token) (mark_of (Some token)) (variable lhs.now) (variable rhs.now)) }
 {
     let (lhs, rhs) = both(variable(alloc, lhs)?, variable(alloc, rhs))?;
     operation(alloc, token, lhs, rhs)

@@ -12,8 +12,8 @@ use rhai_base::{Boxed, INT, OutOfMemory, Position, Seq, Token};
 use rhai_make as make;
 use std::alloc::Global;
 
-/// What was made before beside what is made next, where that is not refused. Who makes the next one holds nothing meanwhile: to let
-/// go of a tree is dear to prove.
+/// What was made before beside what is made next, where that is not refused. Who makes the next one holds nothing
+/// meanwhile: to let go of a tree is dear to prove.
 pub(crate) fn both<A: Drop, B, E>(first: A, second: Result<B, E>) -> Result<(A, B), E>
     ensures { IfOk result (λ p. (p.0 ≡ first) × (second ≡ Ok p.1)) }
 {
@@ -78,7 +78,8 @@ pub(crate) fn operation(
     lhs: Expr,
     rhs: Expr,
 ) -> Result<Expr, OutOfMemory>
-    ensures { IfOk result (λ e. expr_of e ≡ operation (token_text token) (mark_of (Some token)) (expr_of lhs) (expr_of rhs)) }
+    ensures { IfOk result (λ e.
+        expr_of e ≡ operation (token_text token) (mark_of (Some token)) (expr_of lhs) (expr_of rhs)) }
 {
     make::operator(alloc, token, lhs, rhs, Position::NONE)
 }

@@ -58,7 +58,8 @@ pub(crate) fn declared(
     name: &str,
     value: Expr,
 ) -> Result<Stmt, OutOfMemory>
-    ensures { IfOk result (λ statement. stmt_of statement ≡ Var (is_const flags) (is_exported flags) name.now (expr_of value)) }
+    ensures { IfOk result (λ statement.
+        stmt_of statement ≡ Var (is_const flags) (is_exported flags) name.now (expr_of value)) }
 {
     let (value, name) = both(value, name_of(alloc, name))?;
     make::declaration(alloc, flags, name, value, Position::NONE)

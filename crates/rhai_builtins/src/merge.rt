@@ -1,5 +1,5 @@
-//! The script that comes of `fn foo(x) { 42 + x } foo(1)`, merged with ``fn foo(n) { `hello${n}` } foo("!")``: the later function
-//! takes the place of the earlier one.
+//! The script that comes of `fn foo(x) { 42 + x } foo(1)`, merged with ``fn foo(n) { `hello${n}` } foo("!")``: the
+//! later function takes the place of the earlier one.
 #![tactic(auto, using(rhai_reading::specs::Reading::shapes))]
 
 ghost use Rattle.std.specs.Prelude.{◌≡◌, ◌∷◌, [], IfOk, codes, map};
@@ -10,9 +10,10 @@ ghost use Rattle.rhai_builtins.specs.Trees.{calls, evaluates};
 ghost use Rattle.rhai_builtins.specs.Statements as spec;
 
 use crate::expressions::{both, integer, text, variable};
-use crate::lines::{alone, block, called, evaluated_alone, with};
-use rhai_ast::{Expr, FnAccess, ScriptFuncDef, Stmt};
-use rhai_base::{Boxed, ImmutableString, OutOfMemory, Position, Seq};
+use crate::lines::{alone, called, evaluated_alone, with};
+use rhai_ast::{Expr, ScriptFuncDef, Stmt};
+use rhai_base::{Boxed, OutOfMemory, Position, Seq};
+use rhai_make as make;
 use std::alloc::Global;
 use std::rc::Rc;
 
@@ -43,25 +44,7 @@ pub fn merge_functions(alloc: Global) -> Result<Vec<Rc<ScriptFuncDef>>, OutOfMem
 fn greeting_function(alloc: Global) -> Result<ScriptFuncDef, OutOfMemory>
     ensures { IfOk result (λ function. function_of function ≡ spec.greeting_function) }
 {
-    let name = ImmutableString::new(alloc, "foo")?;
-    let params = names_alone(alloc, "n")?;
-    let body = block(greeting_alone(alloc)?);
-    Ok(ScriptFuncDef {
-        body,
-        name,
-        this_type: None,
-        access: FnAccess::Public,
-        params,
-        comments: Seq::new(alloc),
-    })
-}
-
-/// A list of one name.
-fn names_alone(alloc: Global, name: &str) -> Result<Seq<ImmutableString>, OutOfMemory>
-    ensures { IfOk result (λ names. names ≡ name.now ∷ []) }
-{
-    let name = ImmutableString::new(alloc, name)?;
-    Ok(Seq::from_array(alloc, [name])?)
+    make::function(alloc, "foo", &["n"], greeting_alone(alloc)?)
 }
 
 /// A list of the statement that evaluates `` `hello${n}` ``.

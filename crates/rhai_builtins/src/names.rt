@@ -91,7 +91,8 @@ fn printing_loop(alloc: Global) -> Result<Stmt, OutOfMemory>
 /// `[1, 2]`, and the block `{ print(x); }`.
 fn printing_flow(alloc: Global) -> Result<FlowControl, OutOfMemory>
     ensures expr { IfOk result (λ flow. expr_of flow.expr ≡ tree.array (tree.int 1 ∷ tree.int 2 ∷ [])) }
-    ensures body { IfOk result (λ flow. stmts_of flow.body.block ≡ tree.alone (tree.calls (codes "print") (tree.variable (codes "x")))) }
+    ensures body { IfOk result (λ flow.
+        stmts_of flow.body.block ≡ tree.alone (tree.calls (codes "print") (tree.variable (codes "x")))) }
 {
     let printed = called(alloc, "print", variable(alloc, "x")?)?;
     let (body, expr) = both(alone(alloc, printed)?, one_and_two(alloc))?;

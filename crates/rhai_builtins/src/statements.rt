@@ -56,7 +56,10 @@ fn operation_alone(
     lhs: INT,
     rhs: INT,
 ) -> Result<Vec<Stmt>, OutOfMemory>
-    ensures { IfOk result (λ statements. stmts_of statements.items ≡ evaluates (operation (token_text token) (mark_of (Some token)) (IntegerConstant lhs) (IntegerConstant rhs))) }
+    ensures { IfOk result (λ statements.
+        stmts_of statements.items
+        ≡ evaluates
+        (operation (token_text token) (mark_of (Some token)) (IntegerConstant lhs) (IntegerConstant rhs))) }
 {
     let value = operation(alloc, token, integer(lhs), integer(rhs))?;
     evaluated_alone(alloc, value)
@@ -79,7 +82,8 @@ pub fn bits_statements(alloc: Global) -> Result<Vec<Stmt>, OutOfMemory>
 
 /// The statement that evaluates what stands at an index.
 fn element_alone(alloc: Global, expr: Expr, index: INT) -> Result<Vec<Stmt>, OutOfMemory>
-    ensures { IfOk result (λ statements. stmts_of statements.items ≡ evaluates (element (expr_of expr) (IntegerConstant index))) }
+    ensures { IfOk result (λ statements.
+        stmts_of statements.items ≡ evaluates (element (expr_of expr) (IntegerConstant index))) }
 {
     evaluated_alone(alloc, element(alloc, expr, integer(index))?)
 }

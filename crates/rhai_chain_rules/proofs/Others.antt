@@ -1,5 +1,5 @@
 -- Values and nodes by their kinds.
-use Rattle.std.proofs.Common.{◌≡◌, false, refl}
+use Rattle.std.proofs.Common.{◌≡◌, false, None, refl}
 use Rattle.rhai_values.specs.declared.dynamic.Dynamic.{Dynamic}
 use Rattle.rhai_values.specs.declared.dynamic.Dynamic.TheVariants as dynamic
 use Rattle.rhai_values.specs.declared.fn_ptr.FnPtr.{FnPtr}
@@ -12,7 +12,7 @@ use Rattle.rhai_rewriting.specs.Parts.{constant_of}
 use Rattle.rhai_rewriting.specs.Steps.{Place, is_chain_node}
 use Rattle.rhai_tree.specs.declared.expr.Expr as declared_expr
 use Rattle.rhai_steps.proofs.NodeKinds.{NoDot, NoIndex}
-use Rattle.rhai_chain_rules.specs.Chains.{ends_in_unit}
+use Rattle.rhai_chain_rules.specs.Chains.{unit_ends_by}
 use Rattle.rhai_chain_rules.specs.Onward.{argument, goes_on}
 
 abbrev pub NoPointer : Dynamic → Type 0
@@ -36,7 +36,7 @@ ends (dot_case b k p) d i = absurd (d b k p refl)
 ends (index_case b k p) d i = absurd (i b k p refl)
 ends _ d i = refl
 
-pub ends_nowhere : (p : Place) {x : declared_expr.Expr} {e : Expr} → ExprCase x e → NoDot x → NoIndex x → false ≡ ends_in_unit p e
+pub ends_nowhere : (p : Place) {x : declared_expr.Expr} {e : Expr} → ExprCase x e → NoDot x → NoIndex x → None ≡ unit_ends_by p e
 ends_nowhere p (dot_case b k q) d i = absurd (d b k q refl)
 ends_nowhere p (index_case b k q) d i = absurd (i b k q refl)
 ends_nowhere p _ d i = refl

@@ -12,15 +12,21 @@ use Rattle.rhai_rewriting.specs.Steps.{AnswersNone, Place}
 use Rattle.rhai_steps.specs.Standing.{may_stand}
 use Rattle.rhai_tree.specs.declared.expr.BinaryExpr.{BinaryExpr}
 use Rattle.rhai_tree.specs.declared.expr.Expr as declared
+use Rattle.rhai_part_rules.specs.declared.asking.Access.{Access}
+use Rattle.rhai_part_rules.specs.declared.asking.Access.TheVariants as access_kind
 use Rattle.rhai_part_rules.specs.Answers.{constant_answer, known_answer, allowed}
 use Rattle.rhai_part_rules.specs.Literals.{literal_answer}
 use Rattle.rhai_chain_rules.specs.Onward.{argument, onward, Rewrites}
 
--- a chain that ends with unit, past a `?` of unit, where it may become unit
-abbrev pub ends_in_unit : Place → Expr → Bool
-ends_in_unit p (Dot f l r) = may_stand p UnitConstant && (f.negated && is_unit l)
-ends_in_unit p (Index f l r) = may_stand p UnitConstant && (f.negated && is_unit l)
-ends_in_unit p _ = false
+-- a chain that ends with unit, past a `?` of unit, where it may become unit: by which node
+abbrev pub ended_by : Access → Bool → Option Access
+ended_by a true = Some a
+ended_by a false = None
+
+abbrev pub unit_ends_by : Place → Expr → Option Access
+unit_ends_by p (Dot f l r) = ended_by access_kind.Dot (may_stand p UnitConstant && (f.negated && is_unit l))
+unit_ends_by p (Index f l r) = ended_by access_kind.Index (may_stand p UnitConstant && (f.negated && is_unit l))
+unit_ends_by p _ = None
 
 -- by value: at a constant, or at a known name
 abbrev pub value_answer : Engine → List Known → (unit dot : Bool) → ChainFlags → Expr → Expr → Option Value

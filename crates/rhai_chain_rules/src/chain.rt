@@ -1,49 +1,95 @@
-//! The rules at a chain whose parts are reduced, in its place. Which one fires is found by reference; then the part that its first step
-//! answers takes the place of the base and of that step. Where none fires nothing is moved.
+//! The rules at a chain whose parts are reduced, in its place. Which one fires is found by reference; then the part
+//! that its first step answers takes the place of the base and of that step. Where none fires nothing is moved.
 
 #![tactic(auto, using(rhai_reading::specs::Reading::shapes, rhai_values::specs::Reading::kinds))]
 
-ghost use Rattle.std.specs.Prelude.{◌≡◌, ◌&&◌, IfOk, true};
+ghost use Rattle.std.specs.Prelude.{◌≡◌, ◌&&◌, IfOk, Some, true};
 ghost use Rattle.std.specs.Option.{option_map};
 ghost use Rattle.rhai_values.specs.Reading.{value_of};
 ghost use Rattle.rhai_reading.specs.Reading.{breaks, chain_flags, expr_of, is_negated};
+ghost use Rattle.rhai_meaning.specs.Engine.{Engine};
 ghost use Rattle.rhai_meaning.specs.Queries as queries;
 ghost use Rattle.rhai_meaning.specs.Tree.{DynamicConstant, UnitConstant};
 ghost use Rattle.rhai_engine.specs.EngineInfo.{engine_of};
 ghost use Rattle.rhai_known.specs.State.{progress};
 ghost use Rattle.rhai_rewriting.specs.Parts as parts;
+ghost use Rattle.rhai_rewriting.specs.Steps as steps;
 ghost use Rattle.rhai_rewriting.specs.Steps.{is_chain_node};
 ghost use Rattle.rhai_steps.specs.NodeSteps.{ExprStep};
 ghost use Rattle.rhai_steps.specs.Places.{place_of};
 ghost use Rattle.rhai_steps.specs.Standing as standing;
 ghost use Rattle.rhai_part_rules.specs.Answers as answers;
-ghost use Rattle.rhai_chain_rules.specs.Chains.{IsTaken, PartStep, SidesStep, ChainStep, ends_in_unit, value_answer};
+ghost use Rattle.rhai_part_rules.specs.Asking.{is_dot};
+ghost use Rattle.rhai_part_rules.specs.declared.asking.Access.TheVariants as access_kind;
+ghost use Rattle.rhai_chain_rules.specs.Chains.{IsTaken, PartStep, SidesStep, ChainStep};
+ghost use Rattle.rhai_chain_rules.specs.Chains.{ended_by, unit_ends_by, value_answer};
 ghost use Rattle.rhai_chain_rules.specs.Onward as onward;
 
-use crate::onward::{argument, onward, unit_may_stand};
+use crate::onward::{argument, onward, reach, unit_may_stand};
 use bitflags::Flags;
 use rhai_ast::{BinaryExpr, Expr, ExprQueries, Literals};
 use rhai_base::{ASTFlags, Boxed, Dynamic, OutOfMemory, Position};
 use rhai_engine::EngineInfo;
 use rhai_nodes::put_expr;
-use rhai_part_rules::{constant_answer, known_answer, literal_answer, take_part};
+use rhai_part_rules::{Access, constant_answer, known_answer, literal_answer, take_part};
 use rhai_steps::{OptimizerState, Place, may_be_unit, note_fired, put_unit};
 use std::alloc::Global;
 
 fn is_ended(place: Place, flags: ASTFlags, base: &Expr) -> bool
-    ensures { result ≡ standing.may_stand (place_of place) UnitConstant && (is_negated flags && queries.is_unit (expr_of base.now)) }
+    ensures { result
+        ≡ standing.may_stand (place_of place) UnitConstant
+        && (is_negated flags && queries.is_unit (expr_of base.now)) }
 {
     may_be_unit(place) && flags.contains(ASTFlags::NEGATED) && base.is_unit()
 }
 
-/// Whether a chain over unit, past a `?`, is unit: the rules `unit_ends_dot` and `unit_ends_index`.
-fn unit_ends(place: Place, expr: &Expr) -> bool
-    ensures { result ≡ ends_in_unit (place_of place) (expr_of expr.now) }
+fn ended(place: Place, flags: ASTFlags, base: &Expr, access: Access) -> Option<Access>
+    ensures { result
+        ≡ ended_by access
+        (standing.may_stand (place_of place) UnitConstant
+        && (is_negated flags && queries.is_unit (expr_of base.now))) }
+{
+    if is_ended(place, flags, base) {
+        Some(access)
+    } else {
+        None
+    }
+}
+
+/// By which node a chain over unit, past a `?`, is unit, if by one.
+fn unit_ends(place: Place, expr: &Expr) -> Option<Access>
+    ensures { result ≡ unit_ends_by (place_of place) (expr_of expr.now) }
 {
     match expr {
-        Expr::Dot(sides, flags, _) => is_ended(place, *flags, &sides.get().lhs),
-        Expr::Index(sides, flags, _) => is_ended(place, *flags, &sides.get().lhs),
-        _ => false,
+        Expr::Dot(sides, flags, _) => ended(place, *flags, &sides.get().lhs, Access::Dot),
+        Expr::Index(sides, flags, _) => ended(place, *flags, &sides.get().lhs, Access::Index),
+        _ => None,
+    }
+}
+
+/// `()?.r` is `()`.
+fn unit_ends_dot(state: &mut OptimizerState<'_>, expr: &mut Expr)
+    ensures { (p : steps.Place) (r : Engine) → unit_ends_by p (expr_of expr.old) ≡ Some access_kind.Dot
+        → ExprStep true r p (progress state.old) (progress state.new) (expr_of expr.old) (expr_of expr.new) }
+{
+    put_unit(state, expr);
+}
+
+/// `()?[r]` is `()`.
+fn unit_ends_index(state: &mut OptimizerState<'_>, expr: &mut Expr)
+    ensures { (p : steps.Place) (r : Engine) → unit_ends_by p (expr_of expr.old) ≡ Some access_kind.Index
+        → ExprStep true r p (progress state.old) (progress state.new) (expr_of expr.old) (expr_of expr.new) }
+{
+    put_unit(state, expr);
+}
+
+fn end_in_unit(state: &mut OptimizerState<'_>, expr: &mut Expr, access: Access)
+    ensures { (p : steps.Place) (r : Engine) → unit_ends_by p (expr_of expr.old) ≡ Some access
+        → ExprStep true r p (progress state.old) (progress state.new) (expr_of expr.old) (expr_of expr.new) }
+{
+    match access {
+        Access::Dot => unit_ends_dot(state, expr),
+        Access::Index => unit_ends_index(state, expr),
     }
 }
 
@@ -82,20 +128,23 @@ fn value_answer(
     alloc: Global,
     info: &EngineInfo,
     state: &OptimizerState<'_>,
-    is_dot: bool,
+    access: Access,
     flags: ASTFlags,
     sides: &BinaryExpr,
     unit: bool,
 ) -> Result<Option<Dynamic>, OutOfMemory>
-    ensures { IfOk result (λ v. option_map value_of v ≡ value_answer (engine_of info.now) (progress state.now).known unit is_dot (chain_flags flags) (expr_of sides.now.lhs) (expr_of sides.now.rhs)) }
+    ensures { IfOk result (λ v.
+        option_map value_of v
+        ≡ value_answer (engine_of info.now) (progress state.now).known unit (is_dot access) (chain_flags flags)
+        (expr_of sides.now.lhs) (expr_of sides.now.rhs)) }
 {
-    let first = argument(flags, &sides.rhs);
-    let answer = constant_answer(alloc, info, is_dot, flags, &sides.lhs, first)?;
+    let (first, reach) = (argument(flags, &sides.rhs), reach(flags, &sides.rhs));
+    let answer = constant_answer(alloc, info, access, reach, flags, &sides.lhs, first)?;
     match allowed(unit, answer) {
         Some(value) => Ok(Some(value)),
         None => Ok(allowed(
             unit,
-            known_answer(alloc, state, is_dot, &sides.lhs, &sides.rhs)?,
+            known_answer(alloc, state, access, &sides.lhs, &sides.rhs)?,
         )),
     }
 }
@@ -103,14 +152,15 @@ fn value_answer(
 /// The part of a literal that the first step answers, out of its place.
 fn literal_taken(
     alloc: Global,
-    is_dot: bool,
+    access: Access,
     flags: ASTFlags,
     sides: &mut BinaryExpr,
     unit: bool,
 ) -> Result<Option<Expr>, OutOfMemory>
-    ensures { IfOk result (λ part. IsTaken unit is_dot (breaks flags) sides.old sides.new part) }
+    ensures { IfOk result (λ part. IsTaken unit (is_dot access) (breaks flags) sides.old sides.new part) }
 {
-    match literal_answer(alloc, unit, is_dot, &sides.lhs, argument(flags, &sides.rhs))? {
+    let (first, reach) = (argument(flags, &sides.rhs), reach(flags, &sides.rhs));
+    match literal_answer(alloc, unit, access, reach, &sides.lhs, first)? {
         Some(found) => Ok(Some(take_part(&mut sides.lhs, found))),
         None => Ok(None),
     }
@@ -121,17 +171,19 @@ fn first_answer(
     alloc: Global,
     info: &EngineInfo,
     state: &OptimizerState<'_>,
-    is_dot: bool,
+    access: Access,
     flags: ASTFlags,
     sides: &mut BinaryExpr,
     place: Place,
 ) -> Result<Option<Expr>, OutOfMemory>
-    ensures { IfOk result (λ part. PartStep (engine_of info.now) (progress state.now).known (place_of place) is_dot (chain_flags flags) sides.old sides.new part) }
+    ensures { IfOk result (λ part.
+        PartStep (engine_of info.now) (progress state.now).known (place_of place) (is_dot access) (chain_flags flags)
+        sides.old sides.new part) }
 {
     let unit = unit_may_stand(place, flags, &sides.rhs);
-    match value_answer(alloc, info, state, is_dot, flags, sides, unit)? {
+    match value_answer(alloc, info, state, access, flags, sides, unit)? {
         Some(value) => Ok(Some(constant_of(alloc, value, sides.lhs.position())?)),
-        None => literal_taken(alloc, is_dot, flags, sides, unit),
+        None => literal_taken(alloc, access, flags, sides, unit),
     }
 }
 
@@ -140,14 +192,16 @@ fn sides_answer(
     alloc: Global,
     info: &EngineInfo,
     state: &OptimizerState<'_>,
-    is_dot: bool,
+    access: Access,
     flags: ASTFlags,
     sides: &mut BinaryExpr,
     place: Place,
 ) -> Result<Option<Expr>, OutOfMemory>
-    ensures { IfOk result (λ made. SidesStep (engine_of info.now) (progress state.now).known (place_of place) is_dot (chain_flags flags) sides.old sides.new made) }
+    ensures { IfOk result (λ made.
+        SidesStep (engine_of info.now) (progress state.now).known (place_of place) (is_dot access) (chain_flags flags)
+        sides.old sides.new made) }
 {
-    match first_answer(alloc, info, state, is_dot, flags, sides, place)? {
+    match first_answer(alloc, info, state, access, flags, sides, place)? {
         Some(part) => Ok(Some(onward(flags, &mut sides.rhs, part))),
         None => Ok(None),
     }
@@ -161,21 +215,39 @@ fn chain_answer(
     place: Place,
 ) -> Result<Option<Expr>, OutOfMemory>
     requires { is_chain_node (expr_of expr.now) ≡ true }
-    ensures { IfOk result (λ made. ChainStep (engine_of info.now) (progress state.now).known (place_of place) (expr_of expr.old) (expr_of expr.new) made) }
+    ensures { IfOk result (λ made.
+        ChainStep (engine_of info.now) (progress state.now).known (place_of place) (expr_of expr.old)
+        (expr_of expr.new) made) }
 {
     match expr {
         Expr::Dot(sides, flags, _) => {
-            sides_answer(alloc, info, state, true, *flags, sides.get_mut(), place)
+            sides_answer(
+                alloc,
+                info,
+                state,
+                Access::Dot,
+                *flags,
+                sides.get_mut(),
+                place,
+            )
         }
         Expr::Index(sides, flags, _) => {
-            sides_answer(alloc, info, state, false, *flags, sides.get_mut(), place)
+            sides_answer(
+                alloc,
+                info,
+                state,
+                Access::Index,
+                *flags,
+                sides.get_mut(),
+                place,
+            )
         }
         _ => unreachable!(),
     }
 }
 
-/// Rewrites a chain by the rule that fires at it, if one does, and says whether one did: the part that its first step answers takes the
-/// place of the base and of that step.
+/// Rewrites a chain by the rule that fires at it, if one does, and says whether one did: the part that its first step
+/// answers takes the place of the base and of that step.
 pub fn step_chain(
     alloc: Global,
     info: &EngineInfo,
@@ -184,10 +256,12 @@ pub fn step_chain(
     place: Place,
 ) -> Result<bool, OutOfMemory>
     requires { is_chain_node (expr_of expr.now) ≡ true }
-    ensures { IfOk result (λ fired. ExprStep fired (engine_of info.now) (place_of place) (progress state.old) (progress state.new) (expr_of expr.old) (expr_of expr.new)) }
+    ensures { IfOk result (λ fired.
+        ExprStep fired (engine_of info.now) (place_of place) (progress state.old) (progress state.new)
+        (expr_of expr.old) (expr_of expr.new)) }
 {
-    if unit_ends(place, expr) {
-        put_unit(state, expr);
+    if let Some(access) = unit_ends(place, expr) {
+        end_in_unit(state, expr, access);
         return Ok(true);
     }
     match chain_answer(alloc, info, state, expr, place)? {

@@ -7,12 +7,14 @@ ghost use Rattle.rhai_reading.specs.Reading.{breaks, expr_of};
 ghost use Rattle.rhai_meaning.specs.Tree.{UnitConstant};
 ghost use Rattle.rhai_steps.specs.Places.{place_of};
 ghost use Rattle.rhai_steps.specs.Standing as standing;
+ghost use Rattle.rhai_part_rules.specs.Asking as asking;
 ghost use Rattle.rhai_chain_rules.specs.Onward as onward;
 
 use bitflags::Flags;
 use rhai_ast::{Expr, Take};
 use rhai_base::ASTFlags;
 use rhai_nodes::put_expr;
+use rhai_part_rules::{Reach, reach_of};
 use rhai_steps::{Place, may_be_unit};
 
 /// The argument of the first step, by the right side of its node.
@@ -42,9 +44,17 @@ fn goes_on(flags: ASTFlags, right: &Expr) -> bool
     }
 }
 
+/// How far the first step reaches.
+pub(crate) fn reach(flags: ASTFlags, right: &Expr) -> Reach
+    ensures { result ≡ asking.reach_by (onward.goes_on (breaks flags) (expr_of right.now)) }
+{
+    reach_of(goes_on(flags, right))
+}
+
 /// Whether the first step may answer unit.
 pub(crate) fn unit_may_stand(place: Place, flags: ASTFlags, right: &Expr) -> bool
-    ensures { result ≡ standing.may_stand (place_of place) (onward.onward (breaks flags) (expr_of right.now) UnitConstant) }
+    ensures { result
+        ≡ standing.may_stand (place_of place) (onward.onward (breaks flags) (expr_of right.now) UnitConstant) }
 {
     goes_on(flags, right) || may_be_unit(place)
 }

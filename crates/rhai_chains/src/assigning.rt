@@ -32,7 +32,13 @@ pub fn assign_property<H: Host>(
     value: Dynamic,
     current: Current,
 ) -> Result<(), Interrupt>
-    ensures { let here = setting H.answers H.modules machine.now in (o : _) → StandsFor (Some op) o → Leads here (Acting (chains.assign_last here.world o (value_of value) (access_meant (reached.Property names.entry)) (current_in here (store_of state.old) current.entry))) state.old result state.new (λ z. given UnitV) }
+    ensures { let here = setting H.answers H.modules machine.now in
+        (o : _) → StandsFor (Some op) o
+        → Leads here
+        (Acting
+        (chains.assign_last here.world o (value_of value) (access_meant (reached.Property names.entry))
+        (current_in here (store_of state.old) current.entry)))
+        state.old result state.new (λ z. given UnitV) }
 {
     let written = changed_property(machine, state, op, names, value, &current)?;
     set_at(machine, state, Access::Property(names), written, current)
@@ -47,7 +53,13 @@ pub fn assign_index<H: Host>(
     value: Dynamic,
     current: Current,
 ) -> Result<(), Interrupt>
-    ensures { let here = setting H.answers H.modules machine.now in (o : _) → StandsFor (Some op) o → Leads here (Acting (chains.assign_last here.world o (value_of value) (access_meant (reached.Index index_value)) (current_in here (store_of state.old) current.entry))) state.old result state.new (λ z. given UnitV) }
+    ensures { let here = setting H.answers H.modules machine.now in
+        (o : _) → StandsFor (Some op) o
+        → Leads here
+        (Acting
+        (chains.assign_last here.world o (value_of value) (access_meant (reached.Index index_value))
+        (current_in here (store_of state.old) current.entry)))
+        state.old result state.new (λ z. given UnitV) }
 {
     let at = index_value.clone()?;
     let written = changed_index(machine, state, op, at, value, &current)?;
@@ -63,7 +75,11 @@ fn changed_property<H: Host>(
     value: Dynamic,
     current: &Current,
 ) -> Result<Dynamic, Interrupt>
-    ensures { let here = setting H.answers H.modules machine.now in let c = current_in here (store_of state.old) current.now in (o : _) → operator_of op ≡ Some o → Changes here o (value_of value) (λ next. chains.property (names_meant names.entry) c c.value next) state.old result state.new }
+    ensures { let here = setting H.answers H.modules machine.now in
+        let c = current_in here (store_of state.old) current.now in
+        (o : _) → operator_of op ≡ Some o
+        → Changes here o (value_of value) (λ next. chains.property (names_meant names.entry) c c.value next)
+        state.old result state.new }
 {
     let found = find_property(machine, state, names, current)?;
     let old = found_value(machine, state, current, found)?;
@@ -79,7 +95,11 @@ fn changed_index<H: Host>(
     value: Dynamic,
     current: &Current,
 ) -> Result<Dynamic, Interrupt>
-    ensures { let here = setting H.answers H.modules machine.now in let c = current_in here (store_of state.old) current.now in (o : _) → operator_of op ≡ Some o → Changes here o (value_of value) (λ next. chains.index c c.value (value_of index_value) next) state.old result state.new }
+    ensures { let here = setting H.answers H.modules machine.now in
+        let c = current_in here (store_of state.old) current.now in
+        (o : _) → operator_of op ≡ Some o
+        → Changes here o (value_of value) (λ next. chains.index c c.value (value_of index_value) next) state.old
+        result state.new }
 {
     let found = find_index(machine, state, current, index_value)?;
     let old = found_value(machine, state, current, found)?;

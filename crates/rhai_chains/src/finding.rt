@@ -29,20 +29,24 @@ pub fn property_step<'c, H: Host>(
     names: PropertyNames,
     current: Current<'c>,
 ) -> Result<Current<'c>, Interrupt>
-    ensures { let here = setting H.answers H.modules machine.now in let c = spec.current_in here (store_of state.old) current.entry in StepsOn here (λ next. chains.property (names_meant names.entry) c c.value next) state.old result state.new }
+    ensures { let here = setting H.answers H.modules machine.now in
+        let c = spec.current_in here (store_of state.old) current.entry in
+        StepsOn here (λ next. chains.property (names_meant names.entry) c c.value next) state.old result state.new }
 {
     let found = find_property(machine, state, names, &current)?;
     Ok(found_at(current, found)?)
 }
 
 /// Where a property is, or its value.
-pub fn find_property<H: Host>(
+pub(crate) fn find_property<H: Host>(
     machine: &Machine<H>,
     state: &mut State,
     names: PropertyNames,
     current: &Current,
 ) -> Result<Found, Interrupt>
-    ensures { let here = setting H.answers H.modules machine.now in let c = spec.current_in here (store_of state.old) current.now in Finds here c (λ next. chains.property (names_meant names.entry) c c.value next) state.old result state.new }
+    ensures { let here = setting H.answers H.modules machine.now in
+        let c = spec.current_in here (store_of state.old) current.now in
+        Finds here c (λ next. chains.property (names_meant names.entry) c c.value next) state.old result state.new }
 {
     let key = PlaceKey::AtEntry(names.name.clone()?);
     if machine.current_part(state, current).inside(&key).is_some() {
@@ -59,20 +63,24 @@ pub fn index_step<'c, H: Host>(
     current: Current<'c>,
     index_value: Dynamic,
 ) -> Result<Current<'c>, Interrupt>
-    ensures { let here = setting H.answers H.modules machine.now in let c = spec.current_in here (store_of state.old) current.entry in StepsOn here (λ next. chains.index c c.value (value_of index_value) next) state.old result state.new }
+    ensures { let here = setting H.answers H.modules machine.now in
+        let c = spec.current_in here (store_of state.old) current.entry in
+        StepsOn here (λ next. chains.index c c.value (value_of index_value) next) state.old result state.new }
 {
     let found = find_index(machine, state, &current, index_value)?;
     Ok(found_at(current, found)?)
 }
 
 /// Where an index leads, or its value.
-pub fn find_index<H: Host>(
+pub(crate) fn find_index<H: Host>(
     machine: &Machine<H>,
     state: &mut State,
     current: &Current,
     index_value: Dynamic,
 ) -> Result<Found, Interrupt>
-    ensures { let here = setting H.answers H.modules machine.now in let c = spec.current_in here (store_of state.old) current.now in Finds here c (λ next. chains.index c c.value (value_of index_value) next) state.old result state.new }
+    ensures { let here = setting H.answers H.modules machine.now in
+        let c = spec.current_in here (store_of state.old) current.now in
+        Finds here c (λ next. chains.index c c.value (value_of index_value) next) state.old result state.new }
 {
     match index(machine.current_part(state, current), index_value) {
         Indexed::Part(key) => Ok(Found::Part(key)),
@@ -89,7 +97,10 @@ fn ask_index<H: Host>(
     current: &Current,
     index_value: Dynamic,
 ) -> Result<Found, Interrupt>
-    ensures { let here = setting H.answers H.modules machine.now in let c = spec.current_in here (store_of state.old) current.now in Finds here c (λ next. chains.ask_for (codes "index$get$") c.value (value_of index_value ∷ []) next) state.old result state.new }
+    ensures { let here = setting H.answers H.modules machine.now in
+        let c = spec.current_in here (store_of state.old) current.now in
+        Finds here c (λ next. chains.ask_for (codes "index$get$") c.value (value_of index_value ∷ []) next) state.old
+        result state.new }
 {
     let args = Seq::from_array(machine.alloc, [index_value])?;
     let name = ImmutableString::new(machine.alloc, "index$get$")?;
@@ -97,13 +108,16 @@ fn ask_index<H: Host>(
 }
 
 /// The value that a step has found.
-pub fn found_value<H: Host>(
+pub(crate) fn found_value<H: Host>(
     machine: &Machine<H>,
     state: &State,
     current: &Current,
     found: Found,
 ) -> Result<Dynamic, AllocError>
-    ensures { IfOk result (λ v. value_of v ≡ (found_in (spec.current_in (setting H.answers H.modules machine.now) (store_of state.now) current.now) found).value) }
+    ensures { IfOk result (λ v.
+        value_of v
+        ≡ (found_in (spec.current_in (setting H.answers H.modules machine.now) (store_of state.now) current.now)
+        found).value) }
 {
     match found {
         Found::Part(key) => match machine.current_part(state, current).inside(&key) {
@@ -116,7 +130,8 @@ pub fn found_value<H: Host>(
 
 /// What a step has found, at its place if it has one.
 fn found_at<'a>(current: Current<'a>, found: Found) -> Result<Current<'a>, AllocError>
-    ensures { IfOk result (λ c. (here : _) (st : _) → spec.current_in here st c ≡ found_in (spec.current_in here st current.entry) found) }
+    ensures { IfOk result (λ c.
+        (here : _) (st : _) → spec.current_in here st c ≡ found_in (spec.current_in here st current.entry) found) }
 {
     match found {
         Found::Part(key) => at_key(current, key),
@@ -125,7 +140,7 @@ fn found_at<'a>(current: Current<'a>, found: Found) -> Result<Current<'a>, Alloc
 }
 
 /// An error of the language, as its text is thrown.
-pub fn thrown(alloc: Global, text: &str) -> Result<Interrupt, AllocError>
+pub(crate) fn thrown(alloc: Global, text: &str) -> Result<Interrupt, AllocError>
     ensures { IfOk result (λ x. stop_of x ≡ Some (Leaving (Throws (TextV text.now)))) }
 {
     Ok(Interrupt::Throw(Dynamic::Str(ImmutableString::new(alloc, text)?)))

@@ -29,7 +29,10 @@ pub fn set_at<H: Host>(
     value: Dynamic,
     current: Current,
 ) -> Result<(), Interrupt>
-    ensures { let here = setting H.answers H.modules machine.now in let c = spec.current_in here (store_of state.old) current.entry in Leads here (Acting (chains.set_at (value_of value) (access_meant access.entry) c c.place)) state.old result state.new (λ z. given UnitV) }
+    ensures { let here = setting H.answers H.modules machine.now in
+        let c = spec.current_in here (store_of state.old) current.entry in
+        Leads here (Acting (chains.set_at (value_of value) (access_meant access.entry) c c.place)) state.old result
+        state.new (λ z. given UnitV) }
 {
     match current {
         Current::At(place) => set_at_place(machine, state, access, value, place),
@@ -44,7 +47,10 @@ fn set_at_place<H: Host>(
     value: Dynamic,
     place: Place,
 ) -> Result<(), Interrupt>
-    ensures { let here = setting H.answers H.modules machine.now in let c = spec.current_in here (store_of state.old) (kind.At place.entry) in Leads here (Acting (chains.set_at (value_of value) (access_meant access.entry) c c.place)) state.old result state.new (λ z. given UnitV) }
+    ensures { let here = setting H.answers H.modules machine.now in
+        let c = spec.current_in here (store_of state.old) (kind.At place.entry) in
+        Leads here (Acting (chains.set_at (value_of value) (access_meant access.entry) c c.place)) state.old result
+        state.new (λ z. given UnitV) }
 {
     match access {
         Access::Property(names) => set_property(machine, state, names, value, place),
@@ -61,7 +67,13 @@ fn set_property<H: Host>(
     value: Dynamic,
     place: Place,
 ) -> Result<(), Interrupt>
-    ensures { let here = setting H.answers H.modules machine.now in let c = spec.current_in here (store_of state.old) (kind.At place.entry) in Leads here (Acting (chains.set_property (names_meant names.entry) (value_of value) (spec.place_meant place.entry) c c.value)) state.old result state.new (λ z. given UnitV) }
+    ensures { let here = setting H.answers H.modules machine.now in
+        let c = spec.current_in here (store_of state.old) (kind.At place.entry) in
+        Leads here
+        (Acting
+        (chains.set_property (names_meant names.entry) (value_of value) (spec.place_meant place.entry) c
+        c.value))
+        state.old result state.new (λ z. given UnitV) }
 {
     let key = PlaceKey::AtEntry(names.name.clone()?);
     if machine.place_part(state, &place).inside(&key).is_some() {
@@ -78,7 +90,12 @@ fn set_property_by_host<H: Host>(
     value: Dynamic,
     place: Place,
 ) -> Result<(), Interrupt>
-    ensures { let here = setting H.answers H.modules machine.now in Leads here (Acting (chains.set_by_host setter.now (value_of value ∷ []) (spec.current_in here (store_of state.old) (kind.At place.entry)))) state.old result state.new (λ z. given UnitV) }
+    ensures { let here = setting H.answers H.modules machine.now in
+        Leads here
+        (Acting
+        (chains.set_by_host setter.now (value_of value ∷ [])
+        (spec.current_in here (store_of state.old) (kind.At place.entry))))
+        state.old result state.new (λ z. given UnitV) }
 {
     let args = Seq::from_array(machine.alloc, [value])?;
     set_by_host(machine, state, setter.clone()?, args, &Current::At(place))
@@ -92,7 +109,12 @@ fn set_index<H: Host>(
     value: Dynamic,
     place: Place,
 ) -> Result<(), Interrupt>
-    ensures { let here = setting H.answers H.modules machine.now in let c = spec.current_in here (store_of state.old) (kind.At place.entry) in Leads here (Acting (chains.set_index (value_of value) (spec.place_meant place.entry) c c.value (value_of index_value))) state.old result state.new (λ z. given UnitV) }
+    ensures { let here = setting H.answers H.modules machine.now in
+        let c = spec.current_in here (store_of state.old) (kind.At place.entry) in
+        Leads here
+        (Acting
+        (chains.set_index (value_of value) (spec.place_meant place.entry) c c.value (value_of index_value)))
+        state.old result state.new (λ z. given UnitV) }
 {
     match index_target(machine.place_part(state, &place), index_value) {
         IndexTarget::Part(key) => machine.write_under(state, place, key, value),
@@ -111,7 +133,12 @@ fn set_index_by_host<H: Host>(
     value: Dynamic,
     place: Place,
 ) -> Result<(), Interrupt>
-    ensures { let here = setting H.answers H.modules machine.now in Leads here (Acting (chains.set_by_host (codes "index$set$") (value_of index_value ∷ value_of value ∷ []) (spec.current_in here (store_of state.old) (kind.At place.entry)))) state.old result state.new (λ z. given UnitV) }
+    ensures { let here = setting H.answers H.modules machine.now in
+        Leads here
+        (Acting
+        (chains.set_by_host (codes "index$set$") (value_of index_value ∷ value_of value ∷ [])
+        (spec.current_in here (store_of state.old) (kind.At place.entry))))
+        state.old result state.new (λ z. given UnitV) }
 {
     let args = Seq::from_array(machine.alloc, [index_value, value])?;
     let name = ImmutableString::new(machine.alloc, "index$set$")?;

@@ -1,4 +1,5 @@
-//! The rules at an `if`. What a rule makes does not depend on where the statement stands, nor on what was changed before.
+//! The rules at an `if`. What a rule makes does not depend on where the statement stands, nor on what was changed
+//! before.
 
 #![tactic(auto, using(rhai_reading::specs::Reading::shapes))]
 
@@ -76,21 +77,26 @@ fn if_decided(
     body: StmtBlock,
     branch: StmtBlock,
 ) -> Result<Stmt, OutOfMemory>
-    ensures { IfOk result (λ s. (o w : Bool) (e : tree.Expr) → constants.constant_bool e ≡ Some decided → StmtRewrite o w (If e (stmts_of body.block) (stmts_of branch.block)) (stmt_of s)) }
+    ensures { IfOk result (λ s.
+        (o w : Bool) (e : tree.Expr) → constants.constant_bool e ≡ Some decided
+        → StmtRewrite o w (If e (stmts_of body.block) (stmts_of branch.block)) (stmt_of s)) }
 {
     block_or_noop(alloc, chosen(decided, body, branch))
 }
 
 /// Whether an `if` has no statements.
 pub(crate) fn has_no_statements(flow: &FlowControl) -> bool
-    ensures { result ≡ settled.is_empty (stmts_of flow.now.body.block) && settled.is_empty (stmts_of flow.now.branch.block) }
+    ensures { result
+        ≡ settled.is_empty (stmts_of flow.now.body.block) && settled.is_empty (stmts_of flow.now.branch.block) }
 {
     is_empty(&flow.body) && is_empty(&flow.branch)
 }
 
 /// Whether an `if` stays.
 pub(crate) fn is_settled_if(flow: &FlowControl) -> bool
-    ensures { result ≡ settled.is_settled_if (expr_of flow.now.expr) (stmts_of flow.now.body.block) (stmts_of flow.now.branch.block) }
+    ensures { result
+        ≡ settled.is_settled_if (expr_of flow.now.expr) (stmts_of flow.now.body.block)
+        (stmts_of flow.now.branch.block) }
 {
     if has_no_statements(flow) {
         return false;
@@ -105,8 +111,11 @@ pub(crate) fn reduce_if(
     pos: Position,
     wanted: bool,
 ) -> Result<Stmt, OutOfMemory>
-    requires { settled.is_settled_if (expr_of flow.expr) (stmts_of flow.body.block) (stmts_of flow.branch.block) ≡ false }
-    ensures { IfOk result (λ s. StmtRewrite (settled.opens_if wanted (stmts_of flow.body.block) (stmts_of flow.branch.block)) wanted (If (expr_of flow.expr) (stmts_of flow.body.block) (stmts_of flow.branch.block)) (stmt_of s)) }
+    requires { settled.is_settled_if (expr_of flow.expr) (stmts_of flow.body.block) (stmts_of flow.branch.block)
+        ≡ false }
+    ensures { IfOk result (λ s.
+        StmtRewrite (settled.opens_if wanted (stmts_of flow.body.block) (stmts_of flow.branch.block)) wanted
+        (If (expr_of flow.expr) (stmts_of flow.body.block) (stmts_of flow.branch.block)) (stmt_of s)) }
 {
     if has_no_statements(&flow) {
         return if_without_blocks(alloc, flow.expr, pos, wanted);

@@ -71,7 +71,8 @@ fn is_bare_if_alone(statements: &[Stmt]) -> bool
 
 /// Whether an `if` holds another one alone, both without an `else`, and takes its condition.
 pub(crate) fn nests(flow: &FlowControl) -> bool
-    ensures { result ≡ settled.nests (expr_of flow.now.expr) (stmts_of flow.now.body.block) (stmts_of flow.now.branch.block) }
+    ensures { result
+        ≡ settled.nests (expr_of flow.now.expr) (stmts_of flow.now.body.block) (stmts_of flow.now.branch.block) }
 {
     is_empty(&flow.branch) && goes_on(&flow.expr) && is_bare_if_alone(flow.body.statements())
 }
@@ -109,7 +110,8 @@ fn take_inner(alloc: Global, flow: &mut FlowControl) -> Expr
     requires { settled.is_bare_if_alone (stmts_of flow.now.body.block) ≡ true }
     ensures condition { flow.new.expr ≡ flow.old.expr }
     ensures branch { flow.new.branch ≡ flow.old.branch }
-    ensures inner { stmts_of flow.old.body.block ≡ stmt (If (expr_of result) (stmts_of flow.new.body.block) no_stmts) no_stmts }
+    ensures inner { stmts_of flow.old.body.block
+        ≡ stmt (If (expr_of result) (stmts_of flow.new.body.block) no_stmts) no_stmts }
 {
     let (condition, body) = parts_of_only_if(replace(&mut flow.body, StmtBlock::none(alloc)));
     flow.body = body;
@@ -124,10 +126,12 @@ fn both(alloc: Global, outer: Expr, inner: Expr, pos: Position) -> Result<Expr, 
     Ok(Expr::And(Boxed::new(alloc, operands)?, pos))
 }
 
-/// An `if` alone in an `if`, both without an `else`, is one `if` over both conditions. The `&&` is reduced: the outer condition is no
-/// constant, as an `if` over one is decided first.
+/// An `if` alone in an `if`, both without an `else`, is one `if` over both conditions. The `&&` is reduced: the outer
+/// condition is no constant, as an `if` over one is decided first.
 fn nested_if(alloc: Global, flow: &mut FlowControl) -> Result<(), OutOfMemory>
-    requires nests { settled.nests (expr_of flow.now.expr) (stmts_of flow.now.body.block) (stmts_of flow.now.branch.block) ≡ true }
+    requires nests { settled.nests (expr_of flow.now.expr) (stmts_of flow.now.body.block)
+        (stmts_of flow.now.branch.block)
+        ≡ true }
     requires undecided { constants.constant_bool (expr_of flow.now.expr) ≡ None }
     requires alone { settled.is_and (expr_of flow.now.expr) ≡ false }
     ensures { OnOk result ((w : Bool) → StmtRewrite false w (if_of flow.old) (if_of flow.new)) }
@@ -139,10 +143,12 @@ fn nested_if(alloc: Global, flow: &mut FlowControl) -> Result<(), OutOfMemory>
     Ok(())
 }
 
-/// Where the outer condition is an `&&` already, the inner one becomes its last operand. The `&&` stays reduced: its last operand before is
-/// not the constant false.
+/// Where the outer condition is an `&&` already, the inner one becomes its last operand. The `&&` stays reduced: its
+/// last operand before is not the constant false.
 fn nested_if_joins(alloc: Global, flow: &mut FlowControl) -> Result<(), OutOfMemory>
-    requires nests { settled.nests (expr_of flow.now.expr) (stmts_of flow.now.body.block) (stmts_of flow.now.branch.block) ≡ true }
+    requires nests { settled.nests (expr_of flow.now.expr) (stmts_of flow.now.body.block)
+        (stmts_of flow.now.branch.block)
+        ≡ true }
     requires joins { settled.is_and (expr_of flow.now.expr) ≡ true }
     ensures { OnOk result ((w : Bool) → StmtRewrite false w (if_of flow.old) (if_of flow.new)) }
 {
@@ -170,7 +176,9 @@ fn push_last(operands: &mut Seq<Expr>, operand: Expr) -> Result<(), OutOfMemory>
 
 /// Joins an `if` with the one alone in it.
 pub(crate) fn join_ifs(alloc: Global, flow: &mut FlowControl) -> Result<(), OutOfMemory>
-    requires nests { settled.nests (expr_of flow.now.expr) (stmts_of flow.now.body.block) (stmts_of flow.now.branch.block) ≡ true }
+    requires nests { settled.nests (expr_of flow.now.expr) (stmts_of flow.now.body.block)
+        (stmts_of flow.now.branch.block)
+        ≡ true }
     requires undecided { constants.constant_bool (expr_of flow.now.expr) ≡ None }
     ensures { OnOk result ((w : Bool) → StmtRewrite false w (if_of flow.old) (if_of flow.new)) }
 {

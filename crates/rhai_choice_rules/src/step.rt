@@ -42,7 +42,8 @@ fn is_settled(statement: &Stmt) -> bool
 /// What an `if` that does not stay is rewritten to.
 fn rewritten(alloc: Global, statement: Stmt, is_wanted: bool) -> Result<Stmt, OutOfMemory>
     requires { settled.is_settled (stmt_of statement) ≡ false }
-    ensures { IfOk result (λ s. StmtRewrite (settled.reopens is_wanted (stmt_of statement)) is_wanted (stmt_of statement) (stmt_of s)) }
+    ensures { IfOk result (λ s.
+        StmtRewrite (settled.reopens is_wanted (stmt_of statement)) is_wanted (stmt_of statement) (stmt_of s)) }
 {
     match statement {
         Stmt::If(flow, pos) => reduce_if(alloc, flow.into_inner(), pos, is_wanted),
@@ -61,7 +62,9 @@ fn rewrite(
     requires { settled.is_settled (stmt_of statement.now) ≡ false }
     ensures dirty { OnOk result ((progress state.new).is_dirty ≡ true) }
     ensures known { OnOk result ((progress state.new).known ≡ (progress state.old).known) }
-    ensures rewritten { OnOk result (StmtRewrite (settled.reopens is_wanted (stmt_of statement.old)) is_wanted (stmt_of statement.old) (stmt_of statement.new)) }
+    ensures rewritten { OnOk result
+        (StmtRewrite (settled.reopens is_wanted (stmt_of statement.old)) is_wanted (stmt_of statement.old)
+        (stmt_of statement.new)) }
 {
     note_fired(state);
     let made = rewritten(alloc, statement.take(), is_wanted)?;
@@ -108,7 +111,10 @@ pub fn step_if(
 ) -> Result<NodeStep, OutOfMemory>
     requires { settled.is_if (stmt_of statement.now) ≡ true }
     ensures answer { IfOk result (λ step. step ≡ answer is_wanted (stmt_of statement.old)) }
-    ensures step { IfOk result (λ step. (r : Engine) → StmtStep step r is_wanted (progress state.old) (progress state.new) (stmt_of statement.old) (stmt_of statement.new)) }
+    ensures step { IfOk result (λ step.
+        (r : Engine)
+        → StmtStep step r is_wanted (progress state.old) (progress state.new) (stmt_of statement.old)
+        (stmt_of statement.new)) }
 {
     if !is_settled(statement) {
         let reopens = reopens(statement, is_wanted);

@@ -1,3 +1,2 @@
-pub mod Below
-pub mod Bodies
+pub mod Listed
 pub mod Others

@@ -1,4 +1,4 @@
--- The walks that ask whether a `break` has an expression, whether a statement exports, and whether a call captures.
+-- What is asked of nodes: whether a `break` has an expression, whether a statement exports, and whether a call captures.
 use Rattle.std.specs.Prelude.{Bool, not, List, map}
 use Rattle.std.specs.Rc.{rc_value}
 use Rattle.std.specs.declared.alloc.Global.{Global}
@@ -18,9 +18,6 @@ unit_walk = all_true carries_nothing
 
 abbrev pub stmt_carries_nothing : Stmt → Bool
 stmt_carries_nothing s = carries_nothing (OfStmt s)
-
-abbrev pub export_walk : Walk Bool
-export_walk = all_true is_no_export
 
 abbrev pub stmt_is_no_export : Stmt → Bool
 stmt_is_no_export s = is_no_export (OfStmt s)

@@ -1,5 +1,5 @@
-//! What the optimiser asks of nodes at any depth, by reference and without memory: whether the value of a statement, if it gives one, is unit,
-//! whether it exports nothing, and whether no call of a script captures.
+//! What the optimiser asks of nodes at any depth, by reference and without memory: whether the value of a statement,
+//! if it gives one, is unit, whether it exports nothing, and whether no call of a script captures.
 #![tactic(auto)]
 
 mod captures;

@@ -7,17 +7,14 @@ ghost use Rattle.rhai_meaning.specs.Walk.{over_stmts};
 ghost use Rattle.rhai_reading.specs.Reading.{stmt_of, stmts_of};
 ghost use Rattle.rhai_rewriting.specs.SurelyUnit as spec;
 ghost use Rattle.rhai_deep_queries.specs.Walks.{stmt_carries_nothing, unit_walk};
-ghost use Rattle.rhai_walk.specs.Children.{over_children, over_parts};
-ghost use Rattle.rhai_walk.specs.Left.{left_of};
-ghost use Rattle.rhai_walk.specs.Nodes.{node_of};
 
 use bitflags::Flags;
 use rhai_base::ASTFlags;
 use rhai_tree::Stmt;
-use rhai_walk::{ASTNode, Children};
+use rhai_walk::{ASTNode, NodeTest, every_statement};
 
-/// Is its value unit, if it gives one? That of a `Noop`, a declaration, an assignment or a `try` is; that of a loop where no
-/// `break` in its body has an expression, at any depth.
+/// Is its value unit, if it gives one? That of a `Noop`, a declaration, an assignment or a `try` is; that of a loop
+/// where no `break` in its body has an expression, at any depth.
 pub fn is_surely_unit(statement: &Stmt) -> bool
     ensures { result ≡ spec.is_surely_unit (stmt_of statement.now) }
 {
@@ -35,42 +32,22 @@ pub fn is_surely_unit(statement: &Stmt) -> bool
 fn breaks_carry_nothing(statements: &[Stmt]) -> bool
     ensures { result ≡ over_stmts unit_walk (stmts_of statements.now) }
 {
-    carry_nothing(Children::of_statements(statements))
-}
-
-/// Whether no `break` among children or below them has an expression.
-#[cycle(carrying)]
-fn carry_nothing(children: Children) -> bool
-    ensures { result ≡ over_children unit_walk (left_of children.entry) }
-{
-    for child in children {
-        if !carries_nothing(child.node) || !carries_nothing_below(child.node) {
-            return false;
-        }
-    }
-    true
-}
-
-/// Whether no `break` below a node has an expression.
-#[cycle(carrying)]
-fn carries_nothing_below(node: ASTNode) -> bool
-    ensures { result ≡ over_parts unit_walk (node_of node.entry) }
-{
-    let children = Children::of(node);
-    if children.are_of_leaf() {
-        true
-    } else {
-        carry_nothing(children)
-    }
+    every_statement(&CarriesNothingTest, statements)
 }
 
 /// Whether a node is no `break` with an expression.
-fn carries_nothing(node: ASTNode) -> bool
-    ensures { result ≡ spec.carries_nothing (node_of node.entry) }
-{
-    match node {
-        ASTNode::Expr(_) => true,
-        ASTNode::Stmt(statement) => is_no_carrying_break(statement),
+struct CarriesNothingTest;
+
+impl NodeTest for CarriesNothingTest {
+    ghost use Rattle.rhai_rewriting.specs.SurelyUnit.{carries_nothing};
+
+    ghost holds = { λ test n. carries_nothing n };
+
+    fn holds_at(&self, node: ASTNode) -> bool {
+        match node {
+            ASTNode::Expr(_) => true,
+            ASTNode::Stmt(statement) => is_no_carrying_break(statement),
+        }
     }
 }
 

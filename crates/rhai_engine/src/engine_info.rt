@@ -1,5 +1,5 @@
 //! What an engine fixes for every script that it runs.
-ghost use Rattle.std.specs.Prelude.{◌≡◌, [], ◌∷◌, map, false, IfOk, OnOk, OnErr};
+ghost use Rattle.std.specs.Prelude.{◌≡◌, [], ◌∷◌, map, false, not, IfOk, OnOk, OnErr};
 ghost use Rattle.std.specs.Option.{option_map};
 ghost use Rattle.std.specs.Map.Iter.{deref};
 ghost use Rattle.rhai_base.specs.Builtin.{answered, computed_of};
@@ -7,6 +7,7 @@ ghost use Rattle.rhai_values.specs.Reading.{value_of};
 ghost use Rattle.rhai_values.specs.Value.{type_name};
 ghost use Rattle.rhai_meaning.specs.Engine.{constant_named, has_override, mapped_name, overrides_any, same_texts};
 ghost use Rattle.rhai_engine.specs.Override.{is_override};
+ghost use Rattle.rhai_meaning.specs.Shape.{is_none};
 
 use rhai_base::{
     Dynamic, Fault, ImmutableString, OutOfMemory, Seq, Token, builtin_binary_op, builtin_unary_op,
@@ -188,6 +189,13 @@ impl EngineInfo {
         Ok(())
     }
 
+    /// Whether the host answers any operator.
+    pub fn has_overrides(&self) -> bool
+        ensures { result ≡ not (is_none (engine_of self.now).overrides) }
+    {
+        !self.overrides.is_empty()
+    }
+
     /// Whether the host answers the operator of this name at operands of these types.
     pub fn is_overridden(&self, name: &str, types: &[&str]) -> bool
         ensures { result ≡ has_override (engine_of self.now).overrides name.now (map deref types.now) }
@@ -246,7 +254,8 @@ impl EngineInfo {
         x: &Dynamic,
         y: &Dynamic,
     ) -> Result<Option<Result<Dynamic, Fault>>, OutOfMemory>
-        ensures { IfOk result (λ r. computed_of r ≡ built_in_at (engine_of self.now) op (value_of x.now ∷ value_of y.now ∷ [])) }
+        ensures { IfOk result (λ r.
+            computed_of r ≡ built_in_at (engine_of self.now) op (value_of x.now ∷ value_of y.now ∷ [])) }
     {
         if !self.tries_builtin_at(op, x, y) {
             return Ok(None);
@@ -256,7 +265,8 @@ impl EngineInfo {
 
     /// Whether the built-in operator is tried at two values. Where none is overridden, their types are not asked for.
     fn tries_builtin_at(&self, op: Token, x: &Dynamic, y: &Dynamic) -> bool
-        ensures { result ≡ tries_builtin (engine_of self.now) op (type_name (value_of x.now) ∷ type_name (value_of y.now) ∷ []) }
+        ensures { result
+            ≡ tries_builtin (engine_of self.now) op (type_name (value_of x.now) ∷ type_name (value_of y.now) ∷ []) }
     {
         self.overrides.is_empty() || self.tries_builtin(op, &[x.type_name(), y.type_name()])
     }

@@ -2,6 +2,7 @@ pub mod Unbound
 mod Maps
 mod Operands
 mod Nodes
+mod OperatorCalls
 mod Leaving
 mod ByKind
 mod Switches

@@ -56,6 +56,9 @@ module _ (here : Setting) (loop : Bool) where
     call_stuck h = subst (λ x. RunsCore here x s (Err (Stuck why.WrongKind)) s) (sym (call_is false h)) (record { turns = omega arith; runs = λ d le. refl })
 
     module _ (h : is_callable (callee_of c) (length c.args) ≡ true) (s1 : State) where
+      pub call_as : (r : Result Dynamic Interrupt) → RunsCore here called_core s r s1 → RunsCall here loop (callee_of c) (exprs_of c.args) s r s1
+      call_as r q = subst (λ y. RunsCore here y s r s1) (sym (call_is true h)) q
+
       pub call_stops : (x : Interrupt) → RunsExprs here loop (exprs_of c.args) s (Err x) s1 → RunsCall here loop (callee_of c) (exprs_of c.args) s (Err x) s1
       call_stops x q = subst (λ y. RunsCore here y s (Err x) s1) (sym (call_is true h)) (q (λ vs. called here.world (callee_by (callee_of c) (callee_of c).token) vs))
 

@@ -25,13 +25,17 @@ use rhai_state::{Interrupt, State};
 impl<'a, H: Host> Evaluator<'a, H> {
     /// The right side first, then what stands at the left.
     #[cycle(evaluate)]
+    #[inline(never)]
     pub fn assignment(
         &self,
         state: &mut State,
         op: &OpAssignment,
         sides: &BinaryExpr,
     ) -> Result<Dynamic, Interrupt>
-        ensures { RunsLine (setting H.answers H.modules self.now.machine) (core_stmt self.now.in_loop (tree.Assignment (operator_of op.now.op) (expr_of sides.now.lhs) (expr_of sides.now.rhs))) state.old result state.new }
+        ensures { RunsLine (setting H.answers H.modules self.now.machine)
+            (core_stmt self.now.in_loop
+            (tree.Assignment (operator_of op.now.op) (expr_of sides.now.lhs) (expr_of sides.now.rhs)))
+            state.old result state.new }
     {
         let Some(side) = left_side(&self.machine, &sides.lhs) else {
             return Err(Interrupt::Stuck(Stuck::WrongKind));
@@ -49,7 +53,12 @@ impl<'a, H: Host> Evaluator<'a, H> {
         side: LeftSide,
         value: Dynamic,
     ) -> Result<Dynamic, Interrupt>
-        ensures { let here = setting H.answers H.modules self.now.machine in Runs here (Acting (meaning.assign here.world (operator_of op.now.op) (side_core self.now.in_loop side.entry) (value_of value))) state.old result state.new }
+        ensures { let here = setting H.answers H.modules self.now.machine in
+            Runs here
+            (Acting
+            (meaning.assign here.world (operator_of op.now.op) (side_core self.now.in_loop side.entry)
+            (value_of value)))
+            state.old result state.new }
     {
         match side {
             LeftSide::Root(root) => self.machine.assign_root(state, op, root, value),

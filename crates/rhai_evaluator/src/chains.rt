@@ -29,6 +29,7 @@ use rhai_state::{Interrupt, State};
 impl<'a, H: Host> Evaluator<'a, H> {
     /// A chain by its outermost node: its base, then its steps.
     #[cycle(evaluate)]
+    #[inline(never)]
     pub fn chain(
         &self,
         state: &mut State,
@@ -36,7 +37,10 @@ impl<'a, H: Host> Evaluator<'a, H> {
         is_dot: bool,
         options: ASTFlags,
     ) -> Result<Dynamic, Interrupt>
-        ensures { RunsCore (setting H.answers H.modules self.now.machine) (spec.chain_core self.now.in_loop is_dot (chain_flags options) (expr_of sides.now.lhs) (expr_of sides.now.rhs)) state.old result state.new }
+        ensures { RunsCore (setting H.answers H.modules self.now.machine)
+            (spec.chain_core self.now.in_loop is_dot (chain_flags options) (expr_of sides.now.lhs)
+            (expr_of sides.now.rhs))
+            state.old result state.new }
     {
         if !is_chain(is_dot, options, &sides.rhs) {
             return Err(Interrupt::Stuck(Stuck::WrongKind));
@@ -53,7 +57,14 @@ impl<'a, H: Host> Evaluator<'a, H> {
     /// The base of a chain: a place, or a value.
     #[cycle(evaluate)]
     fn base<'e>(&self, state: &mut State, expr: &'e Expr) -> Result<Current<'e>, Interrupt>
-        ensures { let here = setting H.answers H.modules self.now.machine in StepsOn here (λ next. meaning.at_base here.world (desugar.based (desugar.root_of (expr_of expr.now)) (desugar.core_expr self.now.in_loop (expr_of expr.now))) next) state.old result state.new }
+        ensures { let here = setting H.answers H.modules self.now.machine in
+            StepsOn here
+            (λ next.
+            meaning.at_base here.world
+            (desugar.based (desugar.root_of (expr_of expr.now))
+            (desugar.core_expr self.now.in_loop (expr_of expr.now)))
+            next)
+            state.old result state.new }
     {
         match root_of(expr) {
             Some(root) => self.machine.at_root(state, root),
@@ -64,7 +75,12 @@ impl<'a, H: Host> Evaluator<'a, H> {
     /// The value of what is left of a chain, from what it has come to.
     #[cycle(evaluate)]
     fn steps(&self, state: &mut State, rest: Rest, current: Current) -> Result<Dynamic, Interrupt>
-        ensures { let here = setting H.answers H.modules self.now.machine in Runs here (Acting (meaning.steps here.world (rest_steps self.now.in_loop rest.entry) (current_in here (store_of state.old) current.entry))) state.old result state.new }
+        ensures { let here = setting H.answers H.modules self.now.machine in
+            Runs here
+            (Acting
+            (meaning.steps here.world (rest_steps self.now.in_loop rest.entry)
+            (current_in here (store_of state.old) current.entry)))
+            state.old result state.new }
     {
         let link = rest.link();
         let Some(access) = self.reach(state, rest, &current)? else {
@@ -86,7 +102,8 @@ impl<'a, H: Host> Evaluator<'a, H> {
         rest: Rest<'e>,
         current: &Current,
     ) -> Result<Option<Access<'e>>, Interrupt>
-        ensures { let here = setting H.answers H.modules self.now.machine in spec.Reaches here self.now.in_loop rest.entry current.now state.old result state.new }
+        ensures { let here = setting H.answers H.modules self.now.machine in
+            spec.Reaches here self.now.in_loop rest.entry current.now state.old result state.new }
     {
         if rest.options.contains(ASTFlags::NEGATED) && self.machine.is_unit_at(state, current) {
             return Ok(None);
@@ -105,7 +122,8 @@ impl<'a, H: Host> Evaluator<'a, H> {
         is_dot: bool,
         argument: &'e Expr,
     ) -> Result<Access<'e>, Interrupt>
-        ensures { let here = setting H.answers H.modules self.now.machine in spec.HasAccess here (step_core self.now.in_loop is_dot (expr_of argument.now)) state.old result state.new }
+        ensures { let here = setting H.answers H.modules self.now.machine in
+            spec.HasAccess here (step_core self.now.in_loop is_dot (expr_of argument.now)) state.old result state.new }
     {
         if !is_dot {
             return Ok(Access::Index(self.expr(state, argument)?));
@@ -131,7 +149,8 @@ impl<'a, H: Host> Evaluator<'a, H> {
         state: &mut State,
         call: &'e FnCallExpr,
     ) -> Result<Access<'e>, Interrupt>
-        ensures { let here = setting H.answers H.modules self.now.machine in spec.HasAccess here (spec.method_core self.now.in_loop call.now) state.old result state.new }
+        ensures { let here = setting H.answers H.modules self.now.machine in
+            spec.HasAccess here (spec.method_core self.now.in_loop call.now) state.old result state.new }
     {
         if !is_callable(call) {
             return Err(Interrupt::Stuck(Stuck::WrongKind));
@@ -148,7 +167,10 @@ impl<'a, H: Host> Evaluator<'a, H> {
         access: Access,
         current: Current<'c>,
     ) -> Result<Current<'c>, Interrupt>
-        ensures { let here = setting H.answers H.modules self.now.machine in let c = current_in here (store_of state.old) current.entry in StepsOn here (λ next. chains.applied here.world (access_meant access.entry) c next) state.old result state.new }
+        ensures { let here = setting H.answers H.modules self.now.machine in
+            let c = current_in here (store_of state.old) current.entry in
+            StepsOn here (λ next. chains.applied here.world (access_meant access.entry) c next) state.old result
+            state.new }
     {
         match access {
             Access::Property(names) => property_step(&self.machine, state, names, current),

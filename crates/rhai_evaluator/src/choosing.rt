@@ -21,11 +21,16 @@ use rhai_queries::is_table;
 use rhai_state::{Interrupt, State, truth};
 
 impl<'a, H: Host> Evaluator<'a, H> {
-    /// The first arm in the subject's list, or else in its ranges, whose condition holds; else the default. One with a table
-    /// that no tree has is stuck.
+    /// The first arm in the subject's list, or else in its ranges, whose condition holds; else the default. One with a
+    /// table that no tree has is stuck.
     #[cycle(evaluate)]
+    #[inline(never)]
     pub fn switch(&self, state: &mut State, block: &SwitchBlock) -> Result<Dynamic, Interrupt>
-        ensures { RunsLine (setting H.answers H.modules self.now.machine) (core_stmt self.now.in_loop (tree.Switch (expr_of (subject_of block.now)) (arms_of (expressions_of (cases_of block.now))) (table_of (cases_of block.now)))) state.old result state.new }
+        ensures { RunsLine (setting H.answers H.modules self.now.machine)
+            (core_stmt self.now.in_loop
+            (tree.Switch (expr_of (subject_of block.now)) (arms_of (expressions_of (cases_of block.now)))
+            (table_of (cases_of block.now))))
+            state.old result state.new }
     {
         if !is_table(&block.cases) {
             return Err(Interrupt::Stuck(Stuck::WrongKind));
@@ -41,7 +46,12 @@ impl<'a, H: Host> Evaluator<'a, H> {
         table: &SwitchCasesCollection,
         subject: &Dynamic,
     ) -> Result<Dynamic, Interrupt>
-        ensures { let here = setting H.answers H.modules self.now.machine in Runs here (Acting (switch_on (arms_here here self.now.in_loop (arms_of (expressions_of table.now))) (table_of table.now) (value_of subject.now))) state.old result state.new }
+        ensures { let here = setting H.answers H.modules self.now.machine in
+            Runs here
+            (Acting
+            (switch_on (arms_here here self.now.in_loop (arms_of (expressions_of table.now)))
+            (table_of table.now) (value_of subject.now)))
+            state.old result state.new }
     {
         match self.chosen_arm(state, table, subject)? {
             Some(value) => Ok(value),
@@ -49,7 +59,8 @@ impl<'a, H: Host> Evaluator<'a, H> {
         }
     }
 
-    /// The answer of an arm of the subject's list, or of its ranges where it has no list; `None` where no condition holds.
+    /// The answer of an arm of the subject's list, or of its ranges where it has no list; `None` where no condition
+    /// holds.
     #[cycle(evaluate)]
     fn chosen_arm(
         &self,
@@ -57,7 +68,9 @@ impl<'a, H: Host> Evaluator<'a, H> {
         table: &SwitchCasesCollection,
         subject: &Dynamic,
     ) -> Result<Option<Dynamic>, Interrupt>
-        ensures { let here = setting H.answers H.modules self.now.machine in RunsFirstArm here (arms_here here self.now.in_loop (arms_of (expressions_of table.now))) (chosen (table_of table.now) (value_of subject.now)) state.old result state.new }
+        ensures { let here = setting H.answers H.modules self.now.machine in
+            RunsFirstArm here (arms_here here self.now.in_loop (arms_of (expressions_of table.now)))
+            (chosen (table_of table.now) (value_of subject.now)) state.old result state.new }
     {
         let arms = table.expressions.as_slice();
         match case_list(table, subject) {
@@ -74,7 +87,9 @@ impl<'a, H: Host> Evaluator<'a, H> {
         arms: &[BinaryExpr],
         places: &[usize],
     ) -> Result<Option<Dynamic>, Interrupt>
-        ensures { let here = setting H.answers H.modules self.now.machine in RunsFirstArm here (arms_here here self.now.in_loop (arms_of arms.now)) places.now state.old result state.new }
+        ensures { let here = setting H.answers H.modules self.now.machine in
+            RunsFirstArm here (arms_here here self.now.in_loop (arms_of arms.now)) places.now state.old result
+            state.new }
     {
         for place in places {
             if let Some(value) = self.arm(state, arms, *place)? {
@@ -93,7 +108,9 @@ impl<'a, H: Host> Evaluator<'a, H> {
         ranges: &[RangeCase],
         subject: &Dynamic,
     ) -> Result<Option<Dynamic>, Interrupt>
-        ensures { let here = setting H.answers H.modules self.now.machine in RunsFirstArm here (arms_here here self.now.in_loop (arms_of arms.now)) (ranges_with (map range_of ranges.now) (value_of subject.now)) state.old result state.new }
+        ensures { let here = setting H.answers H.modules self.now.machine in
+            RunsFirstArm here (arms_here here self.now.in_loop (arms_of arms.now))
+            (ranges_with (map range_of ranges.now) (value_of subject.now)) state.old result state.new }
     {
         for range in ranges {
             if let Some(value) = self.range_arm(state, arms, range, subject)? {
@@ -112,7 +129,9 @@ impl<'a, H: Host> Evaluator<'a, H> {
         range: &RangeCase,
         subject: &Dynamic,
     ) -> Result<Option<Dynamic>, Interrupt>
-        ensures { let here = setting H.answers H.modules self.now.machine in RunsFirstArm here (arms_here here self.now.in_loop (arms_of arms.now)) (ranges_with (range_of range.now ∷ []) (value_of subject.now)) state.old result state.new }
+        ensures { let here = setting H.answers H.modules self.now.machine in
+            RunsFirstArm here (arms_here here self.now.in_loop (arms_of arms.now))
+            (ranges_with (range_of range.now ∷ []) (value_of subject.now)) state.old result state.new }
     {
         if range.contains(subject) {
             self.arm(state, arms, range.index())
@@ -129,7 +148,9 @@ impl<'a, H: Host> Evaluator<'a, H> {
         arms: &[BinaryExpr],
         place: usize,
     ) -> Result<Option<Dynamic>, Interrupt>
-        ensures { let here = setting H.answers H.modules self.now.machine in RunsArm here (slice_get (arms_here here self.now.in_loop (arms_of arms.now)) place) state.old result state.new }
+        ensures { let here = setting H.answers H.modules self.now.machine in
+            RunsArm here (slice_get (arms_here here self.now.in_loop (arms_of arms.now)) place) state.old result
+            state.new }
     {
         let Some(arm) = arms.get(place) else {
             return Ok(None);
@@ -148,7 +169,9 @@ impl<'a, H: Host> Evaluator<'a, H> {
         arms: &[BinaryExpr],
         place: Option<usize>,
     ) -> Result<Dynamic, Interrupt>
-        ensures { let here = setting H.answers H.modules self.now.machine in Runs here (Acting (default_of (arms_here here self.now.in_loop (arms_of arms.now)) place)) state.old result state.new }
+        ensures { let here = setting H.answers H.modules self.now.machine in
+            Runs here (Acting (default_of (arms_here here self.now.in_loop (arms_of arms.now)) place)) state.old result
+            state.new }
     {
         let Some(place) = place else {
             return Ok(Dynamic::Unit);

@@ -26,12 +26,16 @@ use rhai_state::{
 impl<'a, H: Host> Evaluator<'a, H> {
     /// `for` over the elements of an array or over a range; anything else is stuck.
     #[cycle(evaluate)]
+    #[inline(never)]
     pub fn for_loop(
         &self,
         state: &mut State,
         parts: &(Ident, Option<Ident>, FlowControl),
     ) -> Result<Dynamic, Interrupt>
-        ensures { RunsDeed (setting H.answers H.modules self.now.machine) (For parts.now.0.name (counter_of parts.now.1) (core_expr self.now.in_loop (expr_of parts.now.2.expr)) (core_stmts true (stmts_of parts.now.2.body.block))) state.old result state.new }
+        ensures { RunsDeed (setting H.answers H.modules self.now.machine)
+            (For parts.now.0.name (counter_of parts.now.1) (core_expr self.now.in_loop (expr_of parts.now.2.expr))
+            (core_stmts true (stmts_of parts.now.2.body.block)))
+            state.old result state.new }
     {
         match self.expr(state, &parts.2.expr)?.into_array() {
             Ok(items) => self.for_each(state, parts, items),
@@ -54,7 +58,12 @@ impl<'a, H: Host> Evaluator<'a, H> {
         parts: &(Ident, Option<Ident>, FlowControl),
         items: Seq<Dynamic>,
     ) -> Result<Dynamic, Interrupt>
-        ensures { let here = setting H.answers H.modules self.now.machine in Runs here (Acting (for_each parts.now.0.name (counter_of parts.now.1) (body_of here (stmts_of parts.now.2.body.block)) 0 (map value_of items))) state.old result state.new }
+        ensures { let here = setting H.answers H.modules self.now.machine in
+            Runs here
+            (Acting
+            (for_each parts.now.0.name (counter_of parts.now.1)
+            (body_of here (stmts_of parts.now.2.body.block)) 0 (map value_of items)))
+            state.old result state.new }
     {
         let mut count = Some(0);
         let mut rest = items.into_rest();
@@ -77,7 +86,12 @@ impl<'a, H: Host> Evaluator<'a, H> {
         rounds: u128,
     ) -> Result<Dynamic, Interrupt>
         requires { (first +ℤ pos rounds) ≤ℤ pos (2 ^ 63) }
-        ensures { let here = setting H.answers H.modules self.now.machine in Runs here (Acting (for_count parts.now.0.name (counter_of parts.now.1) (body_of here (stmts_of parts.now.2.body.block)) 0 first rounds)) state.old result state.new }
+        ensures { let here = setting H.answers H.modules self.now.machine in
+            Runs here
+            (Acting
+            (for_count parts.now.0.name (counter_of parts.now.1)
+            (body_of here (stmts_of parts.now.2.body.block)) 0 first rounds))
+            state.old result state.new }
     {
         let mut count = Some(0);
         for index in 0..rounds {
@@ -90,7 +104,8 @@ impl<'a, H: Host> Evaluator<'a, H> {
         Ok(Dynamic::Unit)
     }
 
-    /// A round with its turn, the counter and the value: the loop's value where it is left, `None` where another round follows.
+    /// A round with its turn, the counter and the value: the loop's value where it is left, `None` where another round
+    /// follows.
     #[cycle(evaluate)]
     fn for_round(
         &self,
@@ -99,7 +114,13 @@ impl<'a, H: Host> Evaluator<'a, H> {
         count: Option<i64>,
         item: Dynamic,
     ) -> Result<Option<Dynamic>, Interrupt>
-        ensures { let here = setting H.answers H.modules self.now.machine in (k : _) → count ≡ count_of k → RunsRound here (counted (counter_of parts.now.1) k (Named parts.now.0.name IsVariable (value_of item) (body_of here (stmts_of parts.now.2.body.block)))) state.old result state.new }
+        ensures { let here = setting H.answers H.modules self.now.machine in
+            (k : _) → count ≡ count_of k
+            → RunsRound here
+            (counted (counter_of parts.now.1) k
+            (Named parts.now.0.name IsVariable (value_of item)
+            (body_of here (stmts_of parts.now.2.body.block))))
+            state.old result state.new }
     {
         state.take_turn()?;
         let names = state.scope.len();
@@ -117,7 +138,13 @@ impl<'a, H: Host> Evaluator<'a, H> {
         count: Option<i64>,
         item: Dynamic,
     ) -> Result<Dynamic, Interrupt>
-        ensures { let here = setting H.answers H.modules self.now.machine in (k : _) → count ≡ count_of k → RunsList here (counted (counter_of parts.now.1) k (Named parts.now.0.name IsVariable (value_of item) (body_of here (stmts_of parts.now.2.body.block)))) state.old result state.new }
+        ensures { let here = setting H.answers H.modules self.now.machine in
+            (k : _) → count ≡ count_of k
+            → RunsList here
+            (counted (counter_of parts.now.1) k
+            (Named parts.now.0.name IsVariable (value_of item)
+            (body_of here (stmts_of parts.now.2.body.block))))
+            state.old result state.new }
     {
         let (name, counter, flow) = parts;
         declare_count(state, counter, count)?;

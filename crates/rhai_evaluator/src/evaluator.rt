@@ -29,7 +29,7 @@ pub struct Evaluator<'a, H> {
 
 impl<'a, H: Host> Evaluator<'a, H> {
     /// The same in the body of a loop.
-    pub fn inside_loop(&self) -> Evaluator<'a, H>
+    pub(crate) fn inside_loop(&self) -> Evaluator<'a, H>
         ensures { result ≡ record self.now { in_loop = true } }
     {
         Evaluator {
@@ -41,8 +41,9 @@ impl<'a, H: Host> Evaluator<'a, H> {
 
     /// The same in the body of a function that is entered with so many turns left. `None` where they are not fewer than
     /// when the body around was entered, which no run comes to.
-    pub fn inside_function(&self, turns: u64) -> Option<Evaluator<'a, H>>
-        ensures { MatchOption result (self.now.depth ≤ turns) (λ e. (e ≡ record self.now { in_loop = false; depth = turns }) × (turns < self.now.depth)) }
+    pub(crate) fn inside_function(&self, turns: u64) -> Option<Evaluator<'a, H>>
+        ensures { MatchOption result (self.now.depth ≤ turns) (λ e.
+            (e ≡ record self.now { in_loop = false; depth = turns }) × (turns < self.now.depth)) }
     {
         if turns >= self.depth {
             return None;
@@ -57,7 +58,8 @@ impl<'a, H: Host> Evaluator<'a, H> {
     /// The value of an expression.
     #[cycle(evaluate)]
     pub fn expr(&self, state: &mut State, expr: &Expr) -> Result<Dynamic, Interrupt>
-        ensures { RunsExpr (setting H.answers H.modules self.now.machine) self.now.in_loop (expr_of expr.now) state.old result state.new }
+        ensures { RunsExpr (setting H.answers H.modules self.now.machine) self.now.in_loop (expr_of expr.now) state.old
+            result state.new }
     {
         match expr {
             Expr::DynamicConstant(value, _) => constant(value.get()),
@@ -93,7 +95,8 @@ impl<'a, H: Host> Evaluator<'a, H> {
     /// The values of expressions, from the first to the last.
     #[cycle(evaluate)]
     pub fn exprs(&self, state: &mut State, exprs: &[Expr]) -> Result<Seq<Dynamic>, Interrupt>
-        ensures { RunsExprs (setting H.answers H.modules self.now.machine) self.now.in_loop (exprs_of exprs.now) state.old result state.new }
+        ensures { RunsExprs (setting H.answers H.modules self.now.machine) self.now.in_loop (exprs_of exprs.now)
+            state.old result state.new }
     {
         let mut values = Seq::with_capacity(self.machine.alloc, exprs.len())?;
         for expr in exprs {
@@ -105,12 +108,13 @@ impl<'a, H: Host> Evaluator<'a, H> {
 
     /// The value of an expression, unit for none.
     #[cycle(evaluate)]
-    pub fn optional(
+    pub(crate) fn optional(
         &self,
         state: &mut State,
         expr: &Option<Boxed<Expr>>,
     ) -> Result<Dynamic, Interrupt>
-        ensures { RunsMaybe (setting H.answers H.modules self.now.machine) self.now.in_loop (maybe_of expr.now) state.old result state.new }
+        ensures { RunsMaybe (setting H.answers H.modules self.now.machine) self.now.in_loop (maybe_of expr.now)
+            state.old result state.new }
     {
         match expr {
             Some(expr) => self.expr(state, expr.get()),
@@ -120,12 +124,15 @@ impl<'a, H: Host> Evaluator<'a, H> {
 
     /// A map, from its literal.
     #[cycle(evaluate)]
+    #[inline(never)]
     fn map(
         &self,
         state: &mut State,
         literal: &(Seq<(Ident, Expr)>, StringMap<Dynamic>),
     ) -> Result<Dynamic, Interrupt>
-        ensures { RunsCore (setting H.answers H.modules self.now.machine) (core_expr self.now.in_loop (MapOf (pairs_of literal.now.0) (keys_of literal.now.1))) state.old result state.new }
+        ensures { RunsCore (setting H.answers H.modules self.now.machine)
+            (core_expr self.now.in_loop (MapOf (pairs_of literal.now.0) (keys_of literal.now.1))) state.old result
+            state.new }
     {
         let (members, template) = literal;
         if !is_map(self.machine.alloc, members.as_slice(), template)? {
@@ -141,7 +148,8 @@ impl<'a, H: Host> Evaluator<'a, H> {
         state: &mut State,
         members: &[(Ident, Expr)],
     ) -> Result<StringMap<Dynamic>, Interrupt>
-        ensures { RunsMembers (setting H.answers H.modules self.now.machine) self.now.in_loop (pairs_of members.now) state.old result state.new }
+        ensures { RunsMembers (setting H.answers H.modules self.now.machine) self.now.in_loop (pairs_of members.now)
+            state.old result state.new }
     {
         let mut map = StringMap::new(self.machine.alloc);
         for member in members {

@@ -23,13 +23,16 @@ use rhai_state::{
 impl<'a, H: Host> Evaluator<'a, H> {
     /// `break` and `continue`, which are stuck before their value is run outside a loop of the function.
     #[cycle(evaluate)]
-    pub fn break_loop(
+    #[inline(never)]
+    pub(crate) fn break_loop(
         &self,
         state: &mut State,
         value: &Option<Boxed<Expr>>,
         options: ASTFlags,
     ) -> Result<Dynamic, Interrupt>
-        ensures { RunsLine (setting H.answers H.modules self.now.machine) (core_stmt self.now.in_loop (tree.BreakLoop (breaks options) (is_exported options) (maybe_of value.now))) state.old result state.new }
+        ensures { RunsLine (setting H.answers H.modules self.now.machine)
+            (core_stmt self.now.in_loop (tree.BreakLoop (breaks options) (is_exported options) (maybe_of value.now)))
+            state.old result state.new }
     {
         if !self.in_loop {
             return Err(Interrupt::Stuck(Stuck::WrongKind));
@@ -40,13 +43,16 @@ impl<'a, H: Host> Evaluator<'a, H> {
 
     /// `return` and `throw`.
     #[cycle(evaluate)]
+    #[inline(never)]
     pub fn leave(
         &self,
         state: &mut State,
         value: &Option<Boxed<Expr>>,
         options: ASTFlags,
     ) -> Result<Dynamic, Interrupt>
-        ensures { RunsLine (setting H.answers H.modules self.now.machine) (core_stmt self.now.in_loop (tree.Return (breaks options) (is_exported options) (maybe_of value.now))) state.old result state.new }
+        ensures { RunsLine (setting H.answers H.modules self.now.machine)
+            (core_stmt self.now.in_loop (tree.Return (breaks options) (is_exported options) (maybe_of value.now)))
+            state.old result state.new }
     {
         let value = self.optional(state, value)?;
         Err(function_exit(options.contains(ASTFlags::BREAK), value))
@@ -54,8 +60,13 @@ impl<'a, H: Host> Evaluator<'a, H> {
 
     /// `try`: what is thrown goes to the branch.
     #[cycle(evaluate)]
+    #[inline(never)]
     pub fn try_catch(&self, state: &mut State, flow: &FlowControl) -> Result<Dynamic, Interrupt>
-        ensures { RunsLine (setting H.answers H.modules self.now.machine) (core_stmt self.now.in_loop (tree.TryCatch (expr_of flow.now.expr) (stmts_of flow.now.body.block) (stmts_of flow.now.branch.block))) state.old result state.new }
+        ensures { RunsLine (setting H.answers H.modules self.now.machine)
+            (core_stmt self.now.in_loop
+            (tree.TryCatch (expr_of flow.now.expr) (stmts_of flow.now.body.block)
+            (stmts_of flow.now.branch.block)))
+            state.old result state.new }
     {
         let Some(name) = catch_name(&flow.expr) else {
             return Err(Interrupt::Stuck(Stuck::WrongKind));
@@ -75,7 +86,9 @@ impl<'a, H: Host> Evaluator<'a, H> {
         caught: Dynamic,
         branch: &StmtBlock,
     ) -> Result<Dynamic, Interrupt>
-        ensures { RunsCatch (setting H.answers H.modules self.now.machine) (core_stmts self.now.in_loop (stmts_of branch.now.block)) (option_copied name.entry) (value_of caught) state.old result state.new }
+        ensures { RunsCatch (setting H.answers H.modules self.now.machine)
+            (core_stmts self.now.in_loop (stmts_of branch.now.block)) (option_copied name.entry) (value_of caught)
+            state.old result state.new }
     {
         let names = state.scope.len();
         declare_caught(state, name, &caught)?;

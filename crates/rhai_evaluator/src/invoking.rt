@@ -26,6 +26,7 @@ use rhai_state::{Interrupt, State, function_ended};
 impl<'a, H: Host> Evaluator<'a, H> {
     /// A script's function of this name without receiver type, else the host.
     #[cycle(evaluate)]
+    #[inline(never)]
     pub fn call_named(
         &self,
         state: &mut State,
@@ -33,7 +34,9 @@ impl<'a, H: Host> Evaluator<'a, H> {
         captures: bool,
         args: Seq<Dynamic>,
     ) -> Result<Dynamic, Interrupt>
-        ensures { let here = setting H.answers H.modules self.now.machine in Runs here (Acting (calls.call_named here.world captures name.now (map value_of args))) state.old result state.new }
+        ensures { let here = setting H.answers H.modules self.now.machine in
+            Runs here (Acting (calls.call_named here.world captures name.now (map value_of args))) state.old result
+            state.new }
     {
         let key = FnKey {
             name: name.clone()?,
@@ -51,7 +54,7 @@ impl<'a, H: Host> Evaluator<'a, H> {
 
     /// A function's value and its last `this`. It takes a turn.
     #[cycle(evaluate)]
-    pub fn invoke(
+    pub(crate) fn invoke(
         &self,
         state: &mut State,
         function: &ScriptFuncDef,
@@ -59,8 +62,19 @@ impl<'a, H: Host> Evaluator<'a, H> {
         this: Option<Dynamic>,
         args: Seq<Dynamic>,
     ) -> Result<(Dynamic, Option<Dynamic>), Interrupt>
-        requires { weight (stmts_of function.now.body.block) ≤ bodies_weight (functions_of self.now.machine.functions.now) }
-        ensures { let here = setting H.answers H.modules self.now.machine in run.function_of here.functions (definition_key function.now) ≡ Some (core_function (function_of function.now)) → RunsInvoke here (record { function = definition_key function.now; captures = captures; this = option_map value_of this; arguments = map value_of args }) state.old result state.new }
+        requires { weight (stmts_of function.now.body.block) ≤ bodies_weight
+            (functions_of self.now.machine.functions.now) }
+        ensures { let here = setting H.answers H.modules self.now.machine in
+            run.function_of here.functions (definition_key function.now)
+            ≡ Some (core_function (function_of function.now))
+            → RunsInvoke here
+            (record {
+              function = definition_key function.now;
+              captures = captures;
+              this = option_map value_of this;
+              arguments = map value_of args;
+            })
+            state.old result state.new }
     {
         state.take_turn()?;
         let Some(inside) = self.inside_function(state.turns) else {

@@ -15,8 +15,10 @@ use rhai_state::{Interrupt, State, some_value, truth};
 impl<'a, H: Host> Evaluator<'a, H> {
     /// `&&`: the operands up to the first that is false.
     #[cycle(evaluate)]
+    #[inline(never)]
     pub fn both(&self, state: &mut State, operands: &[Expr]) -> Result<Dynamic, Interrupt>
-        ensures { RunsBoth (setting H.answers H.modules self.now.machine) self.now.in_loop (exprs_of operands.now) state.old result state.new }
+        ensures { RunsBoth (setting H.answers H.modules self.now.machine) self.now.in_loop (exprs_of operands.now)
+            state.old result state.new }
     {
         for operand in operands {
             if !truth(self.expr(state, operand)?)? {
@@ -28,8 +30,10 @@ impl<'a, H: Host> Evaluator<'a, H> {
 
     /// `||`: the operands up to the first that is true.
     #[cycle(evaluate)]
+    #[inline(never)]
     pub fn either(&self, state: &mut State, operands: &[Expr]) -> Result<Dynamic, Interrupt>
-        ensures { RunsEither (setting H.answers H.modules self.now.machine) self.now.in_loop (exprs_of operands.now) state.old result state.new }
+        ensures { RunsEither (setting H.answers H.modules self.now.machine) self.now.in_loop (exprs_of operands.now)
+            state.old result state.new }
     {
         for operand in operands {
             if truth(self.expr(state, operand)?)? {
@@ -41,8 +45,14 @@ impl<'a, H: Host> Evaluator<'a, H> {
 
     /// `??`: the operands up to the first that is not unit.
     #[cycle(evaluate)]
-    pub fn first_some(&self, state: &mut State, operands: &[Expr]) -> Result<Dynamic, Interrupt>
-        ensures { RunsFirstSome (setting H.answers H.modules self.now.machine) self.now.in_loop (exprs_of operands.now) state.old result state.new }
+    #[inline(never)]
+    pub(crate) fn first_some(
+        &self,
+        state: &mut State,
+        operands: &[Expr],
+    ) -> Result<Dynamic, Interrupt>
+        ensures { RunsFirstSome (setting H.answers H.modules self.now.machine) self.now.in_loop (exprs_of operands.now)
+            state.old result state.new }
     {
         for operand in operands {
             if let Some(value) = some_value(self.expr(state, operand)?) {

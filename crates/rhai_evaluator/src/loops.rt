@@ -21,7 +21,8 @@ impl<'a, H: Host> Evaluator<'a, H> {
     /// A round that runs a loop's body: the loop's value where it is left, `None` where another round follows.
     #[cycle(evaluate)]
     fn round(&self, state: &mut State, body: &StmtBlock) -> Result<Option<Dynamic>, Interrupt>
-        ensures round { let here = setting H.answers H.modules self.now.machine in RunsRound here (body_of here (stmts_of body.now.block)) state.old result state.new }
+        ensures round { let here = setting H.answers H.modules self.now.machine in
+            RunsRound here (body_of here (stmts_of body.now.block)) state.old result state.new }
         ensures turns { IfOk result (λ o. state.new.turns < state.old.turns) }
     {
         let inside = self.inside_loop();
@@ -31,8 +32,17 @@ impl<'a, H: Host> Evaluator<'a, H> {
 
     /// `while`; one whose guard is a literal `()` is `loop`.
     #[cycle(evaluate)]
-    pub fn while_loop(&self, state: &mut State, flow: &FlowControl) -> Result<Dynamic, Interrupt>
-        ensures { let here = setting H.answers H.modules self.now.machine in RunsDeed here (While (guard_by (expr_of flow.now.expr) (core_expr self.now.in_loop (expr_of flow.now.expr))) (core_stmts true (stmts_of flow.now.body.block))) state.old result state.new }
+    #[inline(never)]
+    pub(crate) fn while_loop(
+        &self,
+        state: &mut State,
+        flow: &FlowControl,
+    ) -> Result<Dynamic, Interrupt>
+        ensures { let here = setting H.answers H.modules self.now.machine in
+            RunsDeed here
+            (While (guard_by (expr_of flow.now.expr) (core_expr self.now.in_loop (expr_of flow.now.expr)))
+            (core_stmts true (stmts_of flow.now.body.block)))
+            state.old result state.new }
     {
         if flow.expr.is_unit() {
             self.endless(state, &flow.body)
@@ -43,7 +53,8 @@ impl<'a, H: Host> Evaluator<'a, H> {
 
     #[cycle(evaluate)]
     fn endless(&self, state: &mut State, body: &StmtBlock) -> Result<Dynamic, Interrupt>
-        ensures { RunsDeed (setting H.answers H.modules self.now.machine) (While Always (core_stmts true (stmts_of body.now.block))) state.old result state.new }
+        ensures { RunsDeed (setting H.answers H.modules self.now.machine)
+            (While Always (core_stmts true (stmts_of body.now.block))) state.old result state.new }
     {
         loop {
             if let Some(value) = self.round(state, body)? {
@@ -59,7 +70,9 @@ impl<'a, H: Host> Evaluator<'a, H> {
         guard: &Expr,
         body: &StmtBlock,
     ) -> Result<Dynamic, Interrupt>
-        ensures { RunsDeed (setting H.answers H.modules self.now.machine) (While (When (core_expr self.now.in_loop (expr_of guard.now))) (core_stmts true (stmts_of body.now.block))) state.old result state.new }
+        ensures { RunsDeed (setting H.answers H.modules self.now.machine)
+            (While (When (core_expr self.now.in_loop (expr_of guard.now))) (core_stmts true (stmts_of body.now.block)))
+            state.old result state.new }
     {
         let inside = self.inside_loop();
         loop {
@@ -75,13 +88,18 @@ impl<'a, H: Host> Evaluator<'a, H> {
 
     /// `do`.
     #[cycle(evaluate)]
-    pub fn do_loop(
+    #[inline(never)]
+    pub(crate) fn do_loop(
         &self,
         state: &mut State,
         flow: &FlowControl,
         options: ASTFlags,
     ) -> Result<Dynamic, Interrupt>
-        ensures { RunsLine (setting H.answers H.modules self.now.machine) (core_stmt self.now.in_loop (tree.Do (is_negated options) (is_exported options) (expr_of flow.now.expr) (stmts_of flow.now.body.block))) state.old result state.new }
+        ensures { RunsLine (setting H.answers H.modules self.now.machine)
+            (core_stmt self.now.in_loop
+            (tree.Do (is_negated options) (is_exported options) (expr_of flow.now.expr)
+            (stmts_of flow.now.body.block)))
+            state.old result state.new }
     {
         self.repeated(state, flow, options.contains(ASTFlags::NEGATED))
     }
@@ -94,7 +112,10 @@ impl<'a, H: Host> Evaluator<'a, H> {
         flow: &FlowControl,
         until: bool,
     ) -> Result<Dynamic, Interrupt>
-        ensures { RunsDeed (setting H.answers H.modules self.now.machine) (Do until (core_expr self.now.in_loop (expr_of flow.now.expr)) (core_stmts true (stmts_of flow.now.body.block))) state.old result state.new }
+        ensures { RunsDeed (setting H.answers H.modules self.now.machine)
+            (Do until (core_expr self.now.in_loop (expr_of flow.now.expr))
+            (core_stmts true (stmts_of flow.now.body.block)))
+            state.old result state.new }
     {
         loop {
             if let Some(value) = self.round(state, &flow.body)? {

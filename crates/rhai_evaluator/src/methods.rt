@@ -32,7 +32,10 @@ impl<'a, H: Host> Evaluator<'a, H> {
         args: Seq<Dynamic>,
         current: Current<'c>,
     ) -> Result<Current<'c>, Interrupt>
-        ensures { let here = setting H.answers H.modules self.now.machine in let c = current_in here (store_of state.old) current.entry in StepsOn here (λ next. chains.method here.world name.now (calls.word name.now) (map value_of args) c next) state.old result state.new }
+        ensures { let here = setting H.answers H.modules self.now.machine in
+            let c = current_in here (store_of state.old) current.entry in
+            StepsOn here (λ next. chains.method here.world name.now (calls.word name.now) (map value_of args) c next)
+            state.old result state.new }
     {
         let receiver = self.machine.copied(state, &current)?;
         let word = Word::of(name.as_str());
@@ -54,7 +57,9 @@ impl<'a, H: Host> Evaluator<'a, H> {
         receiver: &Dynamic,
         args: &[Dynamic],
     ) -> Result<Dynamic, Interrupt>
-        ensures { let here = setting H.answers H.modules self.now.machine in Runs here (Acting (calls.call_pointer here.world false (value_of receiver.now) (map value_of args.now))) state.old result state.new }
+        ensures { let here = setting H.answers H.modules self.now.machine in
+            Runs here (Acting (calls.call_pointer here.world false (value_of receiver.now) (map value_of args.now)))
+            state.old result state.new }
     {
         let (name, args) = pointed_with(self.machine.alloc, receiver, args)?;
         self.call_named(state, &name, false, args)
@@ -70,7 +75,14 @@ impl<'a, H: Host> Evaluator<'a, H> {
         args: Seq<Dynamic>,
         current: Current<'c>,
     ) -> Result<Current<'c>, Interrupt>
-        ensures { let here = setting H.answers H.modules self.now.machine in let c = current_in here (store_of state.old) current.entry in value_of receiver ≡ c.value → StepsOn here (λ next. chains.to_method name.now (map value_of args) c (chains.method_key here.world name.now (map value_of args) c.value) next) state.old result state.new }
+        ensures { let here = setting H.answers H.modules self.now.machine in
+            let c = current_in here (store_of state.old) current.entry in
+            value_of receiver ≡ c.value
+            → StepsOn here
+            (λ next.
+            chains.to_method name.now (map value_of args) c
+            (chains.method_key here.world name.now (map value_of args) c.value) next)
+            state.old result state.new }
     {
         let (value, receiver) = self.call_method(state, name, receiver, args)?;
         put_back(&self.machine, state, &current, receiver)?;
@@ -86,7 +98,8 @@ impl<'a, H: Host> Evaluator<'a, H> {
         receiver: Dynamic,
         args: Seq<Dynamic>,
     ) -> Result<(Dynamic, Option<Dynamic>), Interrupt>
-        ensures { spec.CallsMethod (setting H.answers H.modules self.now.machine) name.now (value_of receiver) (map value_of args) state.old result state.new }
+        ensures { spec.CallsMethod (setting H.answers H.modules self.now.machine) name.now (value_of receiver)
+            (map value_of args) state.old result state.new }
     {
         match self
             .machine

@@ -21,13 +21,15 @@ use rhai_state::{EntryKind, Interrupt, State};
 impl<'a, H: Host> Evaluator<'a, H> {
     /// `import`: the path first, and then an alias of its module where one is named.
     #[cycle(evaluate)]
+    #[inline(never)]
     pub fn import(
         &self,
         state: &mut State,
         path: &Expr,
         alias: &Ident,
     ) -> Result<Dynamic, Interrupt>
-        ensures { RunsLine (setting H.answers H.modules self.now.machine) (core_stmt self.now.in_loop (tree.Import (expr_of path.now) alias.now.name)) state.old result state.new }
+        ensures { RunsLine (setting H.answers H.modules self.now.machine)
+            (core_stmt self.now.in_loop (tree.Import (expr_of path.now) alias.now.name)) state.old result state.new }
     {
         let module = self.module_of(state, path)?;
         state.declare_alias(&alias.name, module)?;
@@ -37,20 +39,23 @@ impl<'a, H: Host> Evaluator<'a, H> {
     /// The name of the module that a path leads to.
     #[cycle(evaluate)]
     fn module_of(&self, state: &mut State, path: &Expr) -> Result<Dynamic, Interrupt>
-        ensures { RunsCore (setting H.answers H.modules self.now.machine) (ModuleOf (core_expr self.now.in_loop (expr_of path.now))) state.old result state.new }
+        ensures { RunsCore (setting H.answers H.modules self.now.machine)
+            (ModuleOf (core_expr self.now.in_loop (expr_of path.now))) state.old result state.new }
     {
         let path = self.expr(state, path)?;
         self.machine.module_at(&path)
     }
 
     /// `export`: the value of a name, under its alias where it has one.
+    #[inline(never)]
     pub fn export(
         &self,
         state: &mut State,
         name: &Ident,
         alias: &Ident,
     ) -> Result<Dynamic, Interrupt>
-        ensures { RunsLine (setting H.answers H.modules self.now.machine) (core_stmt self.now.in_loop (tree.Export name.now.name alias.now.name)) state.old result state.new }
+        ensures { RunsLine (setting H.answers H.modules self.now.machine)
+            (core_stmt self.now.in_loop (tree.Export name.now.name alias.now.name)) state.old result state.new }
     {
         let value = self.machine.read(state, Root::Name(&name.name))?;
         state.declare(or_own(&alias.name, &name.name), EntryKind::Export, value)?;

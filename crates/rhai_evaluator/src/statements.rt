@@ -19,7 +19,8 @@ use rhai_state::{Interrupt, State, truth};
 impl<'a, H: Host> Evaluator<'a, H> {
     #[cycle(evaluate)]
     fn statement(&self, state: &mut State, statement: &Stmt) -> Result<Dynamic, Interrupt>
-        ensures { RunsStmt (setting H.answers H.modules self.now.machine) self.now.in_loop (stmt_of statement.now) state.old result state.new }
+        ensures { RunsStmt (setting H.answers H.modules self.now.machine) self.now.in_loop (stmt_of statement.now)
+            state.old result state.new }
     {
         match statement {
             Stmt::Noop(_) => Ok(Dynamic::Unit),
@@ -55,8 +56,13 @@ impl<'a, H: Host> Evaluator<'a, H> {
     }
 
     #[cycle(evaluate)]
+    #[inline(never)]
     fn choice(&self, state: &mut State, flow: &FlowControl) -> Result<Dynamic, Interrupt>
-        ensures { RunsDeed (setting H.answers H.modules self.now.machine) (If (core_expr self.now.in_loop (expr_of flow.now.expr)) (core_stmts self.now.in_loop (stmts_of flow.now.body.block)) (core_stmts self.now.in_loop (stmts_of flow.now.branch.block))) state.old result state.new }
+        ensures { RunsDeed (setting H.answers H.modules self.now.machine)
+            (If (core_expr self.now.in_loop (expr_of flow.now.expr))
+            (core_stmts self.now.in_loop (stmts_of flow.now.body.block))
+            (core_stmts self.now.in_loop (stmts_of flow.now.branch.block)))
+            state.old result state.new }
     {
         if truth(self.expr(state, &flow.expr)?)? {
             self.block(state, &flow.body)
@@ -67,6 +73,7 @@ impl<'a, H: Host> Evaluator<'a, H> {
 
     /// `let` and `const`; with EXPORTED they export their value too.
     #[cycle(evaluate)]
+    #[inline(never)]
     fn declaration(
         &self,
         state: &mut State,
@@ -74,7 +81,10 @@ impl<'a, H: Host> Evaluator<'a, H> {
         value: &Expr,
         options: ASTFlags,
     ) -> Result<Dynamic, Interrupt>
-        ensures { RunsLine (setting H.answers H.modules self.now.machine) (core_stmt self.now.in_loop (tree.Var (is_const options) (is_exported options) name.now.name (expr_of value.now))) state.old result state.new }
+        ensures { RunsLine (setting H.answers H.modules self.now.machine)
+            (core_stmt self.now.in_loop
+            (tree.Var (is_const options) (is_exported options) name.now.name (expr_of value.now)))
+            state.old result state.new }
     {
         let value = self.expr(state, value)?;
         let is_constant = options.contains(ASTFlags::CONSTANT);
@@ -86,7 +96,8 @@ impl<'a, H: Host> Evaluator<'a, H> {
     /// Runs statements whose names go when they end.
     #[cycle(evaluate)]
     pub fn block(&self, state: &mut State, block: &StmtBlock) -> Result<Dynamic, Interrupt>
-        ensures { RunsBlock (setting H.answers H.modules self.now.machine) self.now.in_loop (stmts_of block.now.block) state.old result state.new }
+        ensures { RunsBlock (setting H.answers H.modules self.now.machine) self.now.in_loop (stmts_of block.now.block)
+            state.old result state.new }
     {
         let names = state.scope.len();
         let ended = self.statements(state, block.statements());
@@ -97,7 +108,8 @@ impl<'a, H: Host> Evaluator<'a, H> {
     /// Runs statements in turn, for the value of the last one.
     #[cycle(evaluate)]
     pub fn statements(&self, state: &mut State, statements: &[Stmt]) -> Result<Dynamic, Interrupt>
-        ensures { RunsStmts (setting H.answers H.modules self.now.machine) self.now.in_loop (stmts_of statements.now) state.old result state.new }
+        ensures { RunsStmts (setting H.answers H.modules self.now.machine) self.now.in_loop (stmts_of statements.now)
+            state.old result state.new }
     {
         let mut value = Dynamic::Unit;
         for statement in statements {

@@ -33,7 +33,7 @@ impl<'a, H: Host> Evaluator<'a, H> {
     /// Assigns to the part that a chain leads to, by its base and what is left of it then. Only a name or `this` has
     /// parts with a place, and the value of a call has none.
     #[cycle(evaluate)]
-    pub fn assign_part(
+    pub(crate) fn assign_part(
         &self,
         state: &mut State,
         op: &OpAssignment,
@@ -41,7 +41,12 @@ impl<'a, H: Host> Evaluator<'a, H> {
         rest: Rest,
         value: Dynamic,
     ) -> Result<(), Interrupt>
-        ensures { let here = setting H.answers H.modules self.now.machine in Leads here (Acting (meaning.assign here.world (operator_of op.now.op) (part_core self.now.in_loop (expr_of base.now) rest.entry) (value_of value))) state.old result state.new (λ z. given UnitV) }
+        ensures { let here = setting H.answers H.modules self.now.machine in
+            Leads here
+            (Acting
+            (meaning.assign here.world (operator_of op.now.op)
+            (part_core self.now.in_loop (expr_of base.now) rest.entry) (value_of value)))
+            state.old result state.new (λ z. given UnitV) }
     {
         if !is_chain(rest.is_dot, rest.options, rest.right) {
             return Err(Interrupt::Stuck(Stuck::WrongKind));
@@ -71,7 +76,12 @@ impl<'a, H: Host> Evaluator<'a, H> {
         value: Dynamic,
         current: Current,
     ) -> Result<(), Interrupt>
-        ensures { let here = setting H.answers H.modules self.now.machine in Leads here (Acting (meaning.assign_steps here.world (operator_of op.now.op) (value_of value) (rest_steps self.now.in_loop rest.entry) (current_in here (store_of state.old) current.entry))) state.old result state.new (λ z. given UnitV) }
+        ensures { let here = setting H.answers H.modules self.now.machine in
+            Leads here
+            (Acting
+            (meaning.assign_steps here.world (operator_of op.now.op) (value_of value)
+            (rest_steps self.now.in_loop rest.entry) (current_in here (store_of state.old) current.entry)))
+            state.old result state.new (λ z. given UnitV) }
     {
         let link = rest.link();
         let Some(access) = self.reach(state, rest, &current)? else {
@@ -96,7 +106,12 @@ impl<'a, H: Host> Evaluator<'a, H> {
         value: Dynamic,
         current: Current,
     ) -> Result<(), Interrupt>
-        ensures { let here = setting H.answers H.modules self.now.machine in Leads here (Acting (chains.assign_last here.world (operator_of op.now.op) (value_of value) (access_meant access.entry) (current_in here (store_of state.old) current.entry))) state.old result state.new (λ z. given UnitV) }
+        ensures { let here = setting H.answers H.modules self.now.machine in
+            Leads here
+            (Acting
+            (chains.assign_last here.world (operator_of op.now.op) (value_of value) (access_meant access.entry)
+            (current_in here (store_of state.old) current.entry)))
+            state.old result state.new (λ z. given UnitV) }
     {
         let Some(token) = assigning_operator(op) else {
             return set_at(&self.machine, state, access, value, current);
@@ -126,7 +141,12 @@ impl<'a, H: Host> Evaluator<'a, H> {
         value: Dynamic,
         current: Current,
     ) -> Result<Dynamic, Interrupt>
-        ensures { let here = setting H.answers H.modules self.now.machine in let c = current_in here (store_of state.old) current.entry in (o : _) → operator_of op ≡ Some o → Changes here o (value_of value) (λ next. chains.method here.world name.now (calls.word name.now) (map value_of args) c next) state.old result state.new }
+        ensures { let here = setting H.answers H.modules self.now.machine in
+            let c = current_in here (store_of state.old) current.entry in
+            (o : _) → operator_of op ≡ Some o
+            → Changes here o (value_of value)
+            (λ next. chains.method here.world name.now (calls.word name.now) (map value_of args) c next)
+            state.old result state.new }
     {
         let read = self.method(state, name, args, current)?;
         let old = self.machine.current_value(state, read)?;

@@ -4,4 +4,4 @@ pub mod FoundLists
 pub mod KeyLists
 pub mod Operations
 pub mod Others
-pub mod PlainLists
+pub mod Standing

@@ -3,3 +3,4 @@ pub mod Places
 pub mod PlainWalk
 pub mod Refusals
 pub mod Scripts
+pub mod Standing

@@ -1,6 +1,6 @@
 //! Whether all nodes have a meaning beside their form.
 
-#![tactic(auto, using(rhai_reading::specs::Reading::shapes, rhai_reading::proofs::ItemLists::steps, crate::proofs::PlainLists::lists))]
+#![tactic(auto, using(rhai_reading::specs::Reading::shapes, rhai_reading::proofs::ItemLists::steps))]
 
 ghost use Rattle.std.specs.Prelude.{◌≡◌};
 ghost use Rattle.rhai_faults.specs.PlainWalk.{plain_walk};
@@ -10,13 +10,10 @@ ghost use Rattle.rhai_meaning.specs.Shape.{is_barred};
 ghost use Rattle.rhai_meaning.specs.Walk.{over_functions, over_stmts};
 ghost use Rattle.rhai_parts.specs.Names as names;
 ghost use Rattle.rhai_reading.specs.Reading.{callee_of, expr_of, stmt_of, stmts_of};
-ghost use Rattle.rhai_walk.specs.Children.{over_children, over_parts};
-ghost use Rattle.rhai_walk.specs.Left.{left_of};
-ghost use Rattle.rhai_walk.specs.Nodes.{node_of};
 
 use rhai_parts::is_among;
 use rhai_tree::{Expr, FnCallExpr, ScriptFuncDef, Stmt};
-use rhai_walk::{ASTNode, Children};
+use rhai_walk::{ASTNode, NodeTest, every_body, every_statement};
 use std::rc::Rc;
 
 /// The functions that ask for what the optimiser may take away.
@@ -26,54 +23,29 @@ const BARRED: [&str; 3] = ["eval", "is_def_var", "is_def_fn"];
 pub fn are_plain_functions(functions: &[Rc<ScriptFuncDef>]) -> bool
     ensures { result ≡ over_functions plain_walk (functions_of functions.now) }
 {
-    for function in functions {
-        if !are_plain(function.body.statements()) {
-            return false;
-        }
-    }
-    true
+    every_body(&PlainTest, functions)
 }
 
 /// Whether all nodes of statements that a walk shows are plain.
 pub fn are_plain(statements: &[Stmt]) -> bool
     ensures { result ≡ over_stmts plain_walk (stmts_of statements.now) }
 {
-    are_all_plain(Children::of_statements(statements))
-}
-
-/// Whether children and all nodes below them are plain.
-#[cycle(plain)]
-fn are_all_plain(children: Children) -> bool
-    ensures { result ≡ over_children plain_walk (left_of children.entry) }
-{
-    for child in children {
-        if !is_plain_alone(child.node) || !is_plain_below(child.node) {
-            return false;
-        }
-    }
-    true
-}
-
-/// Whether the nodes below one are plain.
-#[cycle(plain)]
-fn is_plain_below(node: ASTNode) -> bool
-    ensures { result ≡ over_parts plain_walk (node_of node.entry) }
-{
-    let children = Children::of(node);
-    if children.are_of_leaf() {
-        true
-    } else {
-        are_all_plain(children)
-    }
+    every_statement(&PlainTest, statements)
 }
 
 /// Whether a node is plain, its children not looked at.
-fn is_plain_alone(node: ASTNode) -> bool
-    ensures { result ≡ plain.is_plain_node (node_of node.entry) }
-{
-    match node {
-        ASTNode::Expr(expr) => is_plain_expr(expr),
-        ASTNode::Stmt(stmt) => is_plain_stmt(stmt),
+struct PlainTest;
+
+impl NodeTest for PlainTest {
+    ghost use Rattle.rhai_meaning.specs.Plain.{is_plain_node};
+
+    ghost holds = { λ test n. is_plain_node n };
+
+    fn holds_at(&self, node: ASTNode) -> bool {
+        match node {
+            ASTNode::Expr(expr) => is_plain_expr(expr),
+            ASTNode::Stmt(stmt) => is_plain_stmt(stmt),
+        }
     }
 }
 

@@ -2,7 +2,7 @@
 
 #![tactic(auto, using(rhai_reading::specs::Reading::shapes, rhai_values::specs::Reading::kinds))]
 
-ghost use Rattle.std.specs.Prelude.{◌≡◌, ◌&&◌, if◌then◌else◌};
+ghost use Rattle.std.specs.Prelude.{◌≡◌, ◌&&◌, true, false, if◌then◌else◌};
 ghost use Rattle.rhai_meaning.specs.Faults as faults;
 ghost use Rattle.rhai_meaning.specs.Shape as shape;
 ghost use Rattle.rhai_parts.specs.Names as names;
@@ -31,8 +31,21 @@ pub fn is_formed(call: &FnCallExpr) -> bool
 fn is_symbol(name: &str) -> bool
     ensures { result ≡ names.is_among name.now names.symbols }
 {
+    if begins_word(name) {
+        return false;
+    }
     match Token::lookup_symbol_from_syntax(name) {
         Some(token) => operands(token).is_some(),
+        None => false,
+    }
+}
+
+/// Whether a name begins with a letter or `_`, as no symbol does.
+fn begins_word(name: &str) -> bool
+    ensures { result ≡ true → names.is_among name.now names.symbols ≡ false }
+{
+    match name.as_bytes().first() {
+        Some(first) => first.is_ascii_alphabetic() || *first == b'_',
         None => false,
     }
 }

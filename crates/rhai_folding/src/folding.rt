@@ -30,15 +30,16 @@ fn value_alone(answer: Option<Result<Dynamic, Fault>>) -> Option<Dynamic>
     }
 }
 
-/// The value of an operator call over constants, where it is built in and answers one. A call of a function is left at once, before
-/// room is set aside for a value.
+/// The value of an operator call over constants, where it is built in and answers one. A call of a function is left at
+/// once, before room is set aside for a value.
 #[inline]
 pub fn folded(
     alloc: Global,
     info: &EngineInfo,
     call: &FnCallExpr,
 ) -> Result<Option<Dynamic>, OutOfMemory>
-    ensures { IfOk result (λ v. option_map value_of v ≡ spec.folded (engine_of info.now) (callee_of call.now) (exprs_of call.now.args)) }
+    ensures { IfOk result (λ v.
+        option_map value_of v ≡ spec.folded (engine_of info.now) (callee_of call.now) (exprs_of call.now.args)) }
 {
     match call.op_token {
         Some(op) => folded_operator(alloc, info, op, call.args.as_slice()),
@@ -54,7 +55,10 @@ fn folded_operator(
     op: Token,
     operands: &[Expr],
 ) -> Result<Option<Dynamic>, OutOfMemory>
-    ensures { IfOk result (λ v. option_map value_of v ≡ spec.folded_values (engine_of info.now) (mark_of (Some op)) (constants.constant_values (exprs_of operands.now))) }
+    ensures { IfOk result (λ v.
+        option_map value_of v
+        ≡ spec.folded_values (engine_of info.now) (mark_of (Some op))
+        (constants.constant_values (exprs_of operands.now))) }
 {
     match operands {
         [x] => folded_one(alloc, info, op, x),
@@ -69,7 +73,10 @@ fn folded_one(
     op: Token,
     x: &Expr,
 ) -> Result<Option<Dynamic>, OutOfMemory>
-    ensures { IfOk result (λ v. option_map value_of v ≡ spec.folded_values (engine_of info.now) (mark_of (Some op)) (constants.constant_values (expr (expr_of x.now) no_exprs))) }
+    ensures { IfOk result (λ v.
+        option_map value_of v
+        ≡ spec.folded_values (engine_of info.now) (mark_of (Some op))
+        (constants.constant_values (expr (expr_of x.now) no_exprs))) }
 {
     match x.constant_value(alloc)? {
         Some(x) => Ok(info.builtin_unary(op, &x)),
@@ -86,7 +93,10 @@ fn folded_values(
     x: &Dynamic,
     y: &Dynamic,
 ) -> Result<Option<Dynamic>, OutOfMemory>
-    ensures { IfOk result (λ v. option_map value_of v ≡ spec.folded_values (engine_of info.now) (mark_of (Some op)) (Some (value_of x.now ∷ value_of y.now ∷ []))) }
+    ensures { IfOk result (λ v.
+        option_map value_of v
+        ≡ spec.folded_values (engine_of info.now) (mark_of (Some op))
+        (Some (value_of x.now ∷ value_of y.now ∷ []))) }
 {
     let answer = info.builtin_binary(alloc, op, x, y)?;
     Ok(value_alone(answer))
@@ -106,7 +116,9 @@ fn folded_integers(
     x: INT,
     y: INT,
 ) -> Result<Option<Dynamic>, OutOfMemory>
-    ensures { IfOk result (λ v. option_map value_of v ≡ spec.folded_values (engine_of info.now) (mark_of (Some op)) (Some (IntV x ∷ IntV y ∷ []))) }
+    ensures { IfOk result (λ v.
+        option_map value_of v
+        ≡ spec.folded_values (engine_of info.now) (mark_of (Some op)) (Some (IntV x ∷ IntV y ∷ []))) }
 {
     folded_values(alloc, info, op, &integer(x), &integer(y))
 }
@@ -118,7 +130,10 @@ fn folded_two(
     x: &Expr,
     y: &Expr,
 ) -> Result<Option<Dynamic>, OutOfMemory>
-    ensures { IfOk result (λ v. option_map value_of v ≡ spec.folded_values (engine_of info.now) (mark_of (Some op)) (constants.constant_values (expr (expr_of x.now) (expr (expr_of y.now) no_exprs)))) }
+    ensures { IfOk result (λ v.
+        option_map value_of v
+        ≡ spec.folded_values (engine_of info.now) (mark_of (Some op))
+        (constants.constant_values (expr (expr_of x.now) (expr (expr_of y.now) no_exprs)))) }
 {
     match (x, y) {
         (Expr::IntegerConstant(x, _), Expr::IntegerConstant(y, _)) => {
@@ -135,7 +150,10 @@ fn folded_constants(
     x: &Expr,
     y: &Expr,
 ) -> Result<Option<Dynamic>, OutOfMemory>
-    ensures { IfOk result (λ v. option_map value_of v ≡ spec.folded_values (engine_of info.now) (mark_of (Some op)) (constants.constant_values (expr (expr_of x.now) (expr (expr_of y.now) no_exprs)))) }
+    ensures { IfOk result (λ v.
+        option_map value_of v
+        ≡ spec.folded_values (engine_of info.now) (mark_of (Some op))
+        (constants.constant_values (expr (expr_of x.now) (expr (expr_of y.now) no_exprs)))) }
 {
     match x.constant_value(alloc)? {
         Some(x) => folded_with_constant(alloc, info, op, &x, y),
@@ -150,7 +168,11 @@ fn folded_with_constant(
     x: &Dynamic,
     y: &Expr,
 ) -> Result<Option<Dynamic>, OutOfMemory>
-    ensures { IfOk result (λ v. option_map value_of v ≡ spec.folded_values (engine_of info.now) (mark_of (Some op)) (constants.value_and (Some (value_of x.now)) (constants.constant_values (expr (expr_of y.now) no_exprs)))) }
+    ensures { IfOk result (λ v.
+        option_map value_of v
+        ≡ spec.folded_values (engine_of info.now) (mark_of (Some op))
+        (constants.value_and (Some (value_of x.now))
+        (constants.constant_values (expr (expr_of y.now) no_exprs)))) }
 {
     match y.constant_value(alloc)? {
         Some(y) => folded_values(alloc, info, op, x, &y),

@@ -14,6 +14,6 @@ pub use links::{Link, Rest, is_chain};
 pub use maps::{insert, is_map};
 pub use operators::{
     asks_assigning, assigning_name, assigning_operator, builtin, fault_text, is_callable,
-    operator_called,
+    operator_called, two_operands,
 };
 pub use variables::{Root, module_at, position, qualified, root_of};

@@ -38,7 +38,8 @@ impl<'a> Rest<'a> {
     pub fn link(self) -> Link<'a>
         ensures steps { (loop : _) → spec.rest_steps loop self.entry ≡ spec.link_steps loop self.entry result }
         ensures argument { expr_weight (expr_of result.argument.now) ≤ expr_weight (expr_of self.entry.right.now) }
-        ensures rest { IfSome result.rest (λ r. expr_weight (expr_of r.right.now) + 1 ≤ expr_weight (expr_of self.entry.right.now)) }
+        ensures rest { IfSome result.rest (λ r.
+            expr_weight (expr_of r.right.now) + 1 ≤ expr_weight (expr_of self.entry.right.now)) }
     {
         if self.options.contains(ASTFlags::BREAK) {
             return last_link(self.right);

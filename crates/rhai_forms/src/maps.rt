@@ -29,7 +29,8 @@ pub fn is_map(
 
 /// Puts a member's value under its key.
 pub fn insert(map: &mut StringMap<Dynamic>, key: &Ident, value: Dynamic) -> Result<(), AllocError>
-    ensures { OnOk result (fields (members_of map.new) ≡ with_entry (fields (members_of map.old)) key.now.name (value_of value)) }
+    ensures { OnOk result
+        (fields (members_of map.new) ≡ with_entry (fields (members_of map.old)) key.now.name (value_of value)) }
 {
     map.insert(key.name.clone()?, value)
 }

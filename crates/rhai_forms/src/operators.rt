@@ -2,18 +2,19 @@
 
 #![tactic(auto, using(rhai_reading::specs::Reading::shapes, rhai_values::specs::Reading::kinds))]
 
-ghost use Rattle.std.specs.Prelude.{◌≡◌, true, length, map, [], ◌∷◌, IfOk, Some, codes};
+ghost use Rattle.std.specs.Prelude.{◌≡◌, ◌≢◌, ◌+◌, ◌≤◌, true, length, map, [], ◌∷◌, IfOk, IfSome, MatchOption, Some, codes};
 ghost use Rattle.rhai_values.specs.Reading.{value_of};
-ghost use Rattle.rhai_reading.specs.Reading.{callee_of};
+ghost use Rattle.rhai_reading.specs.Reading.{callee_of, expr_of, exprs_of};
 ghost use Rattle.rhai_base.specs.Builtin.{answered, computed_of, operator_of};
 ghost use Rattle.rhai_meaning.specs.Engine.{assigning};
 ghost use Rattle.rhai_values.specs.Value.{TextV};
 ghost use Rattle.rhai_engine.specs.EngineInfo.{built_in_at, engine_of};
+ghost use Rattle.rhai_meaning.specs.Weight.{expr_weight, exprs_weight};
 ghost use Rattle.rhai_meaning.specs.Shape as shape;
 ghost use Rattle.rhai_meaning.specs.Engine as engine;
 ghost use Rattle.rhai_forms.specs.Operators as spec;
 
-use rhai_ast::FnCallExpr;
+use rhai_ast::{Expr, FnCallExpr};
 use rhai_base::{
     Dynamic, Fault, ImmutableString, OpAssignment, OutOfMemory, Token, builtin_binary_op,
 };
@@ -35,6 +36,18 @@ pub fn operator_called(call: &FnCallExpr) -> Option<Token>
 {
     let op = call.op_token?;
     if is_call_of(call, op) { Some(op) } else { None }
+}
+
+/// The operands of a call that has two.
+pub fn two_operands(operands: &[Expr]) -> Option<(&Expr, &Expr)>
+    ensures operands { MatchOption result (length operands.now ≢ 2) (λ p. operands.now ≡ p.0.now ∷ p.1.now ∷ []) }
+    ensures weight { IfSome result (λ p.
+        expr_weight (expr_of p.0.now) + expr_weight (expr_of p.1.now) ≤ exprs_weight (exprs_of operands.now)) }
+{
+    match operands {
+        [x, y] => Some((x, y)),
+        _ => None,
+    }
 }
 
 /// What the built-in operator answers; `None` where the host is asked in its place.
@@ -98,8 +111,13 @@ pub fn asks_assigning(
     old: &Dynamic,
     new: &Dynamic,
 ) -> Result<bool, OutOfMemory>
-    ensures { IfOk result (λ b. (o : _) → operator_of op ≡ Some o → b ≡ engine.asks_assigning (engine_of info.now) o (value_of old.now ∷ value_of new.now ∷ [])) }
+    ensures { IfOk result (λ b.
+        (o : _) → operator_of op ≡ Some o
+        → b ≡ engine.asks_assigning (engine_of info.now) o (value_of old.now ∷ value_of new.now ∷ [])) }
 {
+    if !info.has_overrides() {
+        return Ok(false);
+    }
     let name = assigning_name(alloc, op)?;
     if !info.is_overridden(name.as_str(), &[old.type_name(), new.type_name()]) {
         return Ok(false);

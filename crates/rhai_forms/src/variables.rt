@@ -59,28 +59,22 @@ pub fn module_at<'s>(scope: &'s [Entry], name: &'s str) -> &'s str
 fn module_name(value: &Dynamic) -> &str
     ensures { result.now ≡ act.module_name (value_of value.now) }
 {
-    match value {
-        Dynamic::Str(name) => name.as_str(),
-        Dynamic::Unit
-        | Dynamic::Bool(_)
-        | Dynamic::Int(_)
-        | Dynamic::Char(_)
-        | Dynamic::Array(_)
-        | Dynamic::Map(_)
-        | Dynamic::FnPtr(_)
-        | Dynamic::Range(_, _)
-        | Dynamic::RangeInclusive(_, _) => "",
-    }
+    let Ok(name) = value.as_immutable_string_ref() else {
+        return "";
+    };
+    name.as_str()
 }
 
 /// A name with its modules', joined by `::`; a first one that is an alias is its module's.
+#[inline(never)]
 pub fn qualified(
     alloc: Global,
     scope: &[Entry],
     namespace: &Namespace,
     name: &str,
 ) -> Result<String, AllocError>
-    ensures { IfOk result (λ t. string_bytes t ≡ qualified_in (scope_meant scope.now) (path_of namespace.now) name.now) }
+    ensures { IfOk result (λ t.
+        string_bytes t ≡ qualified_in (scope_meant scope.now) (path_of namespace.now) name.now) }
 {
     let mut text = String::new(alloc);
     let Some((first, others)) = namespace.path.as_slice().split_first() else {
@@ -94,7 +88,8 @@ pub fn qualified(
 
 /// Appends a name with its modules'.
 fn push_qualified(text: &mut String, modules: &[Ident], name: &str) -> Result<(), AllocError>
-    ensures { OnOk result (string_bytes text.new ≡ string_bytes text.old ++ desugar.qualified (map (λ i. i.name) modules.now) name.now) }
+    ensures { OnOk result
+        (string_bytes text.new ≡ string_bytes text.old ++ desugar.qualified (map (λ i. i.name) modules.now) name.now) }
 {
     for module in modules {
         push_module(text, module.as_str())?;

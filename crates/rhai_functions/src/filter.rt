@@ -40,7 +40,8 @@ pub fn chosen_functions<F: Fn(FnNamespace, FnAccess, bool, &str, usize) -> bool>
     filter: &F,
 ) -> Result<Vec<Rc<ScriptFuncDef>>, OutOfMemory>
     requires { F.IsAlwaysCallable filter.now }
-    ensures filtered { IfOk result (λ chosen. IsFiltered (Answers F.Fn) filter.now lib.now.functions (map rc_value chosen.items)) }
+    ensures filtered { IfOk result (λ chosen.
+        IsFiltered (Answers F.Fn) filter.now lib.now.functions (map rc_value chosen.items)) }
     ensures table { IfOk result (λ chosen. definitions_table (map rc_value chosen.items) ≡ map rc_value chosen.items) }
 {
     let mut chosen = Vec::new(allocator_of(lib));
@@ -58,7 +59,8 @@ pub fn kept_functions<F: Fn(FnNamespace, FnAccess, &str, usize) -> bool>(
     filter: &F,
 ) -> Result<Vec<Rc<ScriptFuncDef>>, OutOfMemory>
     requires { F.IsAlwaysCallable filter.now }
-    ensures filtered { IfOk result (λ kept. IsFiltered (AnswersShort F.Fn) filter.now lib.now.functions (map rc_value kept.items)) }
+    ensures filtered { IfOk result (λ kept.
+        IsFiltered (AnswersShort F.Fn) filter.now lib.now.functions (map rc_value kept.items)) }
     ensures table { IfOk result (λ kept. definitions_table (map rc_value kept.items) ≡ map rc_value kept.items) }
 {
     chosen_functions(

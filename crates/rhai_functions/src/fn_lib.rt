@@ -59,7 +59,8 @@ impl FnLib {
         alloc: Global,
         functions: Vec<Rc<ScriptFuncDef>>,
     ) -> Result<FnLib, OutOfMemory>
-        ensures table { IfOk result (λ lib. functions_of lib ≡ table_of (map function_of (map rc_value functions.items))) }
+        ensures table { IfOk result (λ lib.
+            functions_of lib ≡ table_of (map function_of (map rc_value functions.items))) }
         ensures definitions { IfOk result (λ lib. lib.functions ≡ definitions_table (map rc_value functions.items)) }
         ensures id { IfOk result (λ lib. lib.id ≡ None) }
     {
@@ -113,7 +114,8 @@ impl FnLib {
 
     /// The function of a key.
     pub fn get(&self, key: &FnKey) -> Option<&Rc<ScriptFuncDef>>
-        ensures { option_map rc_value (option_copied result) ≡ find_by definition_key (key_meant key.now) self.now.functions }
+        ensures { option_map rc_value (option_copied result)
+            ≡ find_by definition_key (key_meant key.now) self.now.functions }
     {
         self.functions.get(key)
     }
@@ -175,7 +177,8 @@ pub fn with_all(
     functions: Vec<Rc<ScriptFuncDef>>,
 ) -> Result<FnLib, OutOfMemory>
     ensures id { IfOk result (λ made. made.id ≡ first_name id.now lib.now.id) }
-    ensures functions { IfOk result (λ made. made.functions ≡ put_all_by definition_key lib.now.functions (map rc_value functions.items)) }
+    ensures functions { IfOk result (λ made.
+        made.functions ≡ put_all_by definition_key lib.now.functions (map rc_value functions.items)) }
 {
     let id = match id {
         Some(id) => Some(id.clone()?),

@@ -137,7 +137,7 @@ impl FnTable {
     }
 
     /// The functions alone, in the table's order.
-    pub fn into_functions(self) -> Result<Vec<Rc<ScriptFuncDef>>, AllocError>
+    pub(crate) fn into_functions(self) -> Result<Vec<Rc<ScriptFuncDef>>, AllocError>
         ensures functions { IfOk result (λ all. map rc_value all.items ≡ self) }
         ensures table { IfOk result (λ all. definitions_table (map rc_value all.items) ≡ self) }
     {

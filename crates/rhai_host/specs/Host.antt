@@ -1,5 +1,5 @@
 -- What is asked of a host, and what it answers.
-use Rattle.std.specs.Prelude.{List, map, option_map}
+use Rattle.std.specs.Prelude.{List, [], map, option_map}
 use Rattle.rhai_values.specs.Reading.{value_of}
 use Rattle.rhai_meaning.specs.Act as act
 use Rattle.rhai_meaning.specs.Act.{Answer, Answers, AnswersThrow, Host}
@@ -19,6 +19,10 @@ answer_meant (answer_kind.Throw v) = AnswersThrow (value_of v)
 pub record Modules : Type 0 where
   pub values : List ModuleValue
   pub paths : List ModulePath
+
+-- none
+abbrev pub no_modules : Modules
+no_modules = record { values = []; paths = [] }
 
 -- the host that answers so and has these modules
 abbrev pub host_of : (List act.HostCall → act.HostCall → Answer) → Modules → Host

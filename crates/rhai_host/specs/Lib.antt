@@ -1,5 +1,4 @@
 pub mod Entries
 pub mod Host
 pub mod Print
-pub mod ProgramHost
 pub mod Report

@@ -1,14 +1,17 @@
 -- How a run's report is printed.
 use Rattle.std.specs.Prelude.{List, [], ◌∷◌, ◌++◌, Option, Some, None, codes, decimal, if◌then◌else◌}
 use Rattle.rhai_values.specs.Value.{Text, Value, inner}
-use Rattle.rhai_meaning.specs.Act.{is_constant, ScopeEntry, HostCall}
+use Rattle.rhai_meaning.specs.Act.{is_constant, ScopeEntry, HostCall, Stuck}
 use Rattle.rhai_meaning.specs.Run.{End, WithValue, WithThrown, WithStuck, WithoutTurns, Report}
 use Rattle.rhai_host.specs.Report.{stuck_number, stuck_name}
+
+abbrev pub stuck_text : Stuck → Text
+stuck_text f = decimal (stuck_number f) ++ codes " " ++ stuck_name f
 
 abbrev pub end_text : End → Text
 end_text (WithValue v) = codes "value " ++ inner v
 end_text (WithThrown v) = codes "thrown " ++ inner v
-end_text (WithStuck f) = codes "stuck " ++ decimal (stuck_number f) ++ codes " " ++ stuck_name f
+end_text (WithStuck f) = codes "stuck " ++ stuck_text f
 end_text WithoutTurns = codes "out of turns"
 
 abbrev pub variable_text : ScopeEntry → Text

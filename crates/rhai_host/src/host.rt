@@ -48,7 +48,8 @@ pub trait Host {
         past: &[HostCall],
         call: &HostCall,
     ) -> Result<HostAnswer, OutOfMemory>
-        ensures { IfOk result (λ a. answer_meant a ≡ answers self.now (map call_meant past.now) (call_meant call.now)) };
+        ensures { IfOk result (λ a.
+            answer_meant a ≡ answers self.now (map call_meant past.now) (call_meant call.now)) };
 
     /// A module's value, by its names joined by `::`.
     fn module_value(&self, alloc: Global, qualified: &str) -> Result<Option<Dynamic>, OutOfMemory>
@@ -66,7 +67,8 @@ pub fn ask<H: Host>(
     calls: &mut Seq<HostCall>,
     call: HostCall,
 ) -> Result<HostAnswer, OutOfMemory>
-    ensures answer { IfOk result (λ a. answer_meant a ≡ H.answers host.now (map call_meant calls.old) (call_meant call)) }
+    ensures answer { IfOk result (λ a.
+        answer_meant a ≡ H.answers host.now (map call_meant calls.old) (call_meant call)) }
     ensures calls { OnOk result (calls.new ≡ calls.old ++ call ∷ []) }
     ensures refused { OnErr result (calls.new ≡ calls.old) }
 {

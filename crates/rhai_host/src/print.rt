@@ -1,64 +1,56 @@
 //! A run's report in print. A refused call can leave a part of what it appends.
 #![tactic(auto, using(rhai_values::specs::Reading::kinds, crate::proofs::Printing::steps))]
 
-ghost use Rattle.std.specs.Prelude.{◌≡◌, ◌++◌, [], OnOk, map, string_bytes};
+ghost use Rattle.std.specs.Prelude.{◌≡◌, ◌++◌, [], OnOk, Some, map, string_bytes};
 ghost use Rattle.std.specs.Option.{option_copied, option_map};
 ghost use Rattle.rhai_values.specs.Reading.{value_of};
-ghost use Rattle.rhai_values.specs.Value.{inner};
 ghost use Rattle.rhai_host.specs.Entries.{variable_meant, export_meant};
 ghost use Rattle.rhai_host.specs.Host.{call_meant};
-ghost use Rattle.rhai_meaning.specs.Run.{WithStuck};
 ghost use Rattle.rhai_host.specs.Report.{end_meant, report_meant, stuck_meant};
-ghost use Rattle.rhai_host.specs.Print.{called_on, end_text, variable_text, variables_text, export_text, exports_text, values_text, call_text, calls_text, report_text};
+ghost use Rattle.rhai_host.specs.Print.{called_on, end_text, stuck_text, variable_text, variables_text, export_text, exports_text, values_text, call_text, calls_text, report_text};
 
 use crate::{Export, HostCall, RunEnd, RunReport, Stuck, Variable};
 use rhai_base::{Dynamic, OutOfMemory};
+use std::fmt;
 
 /// Appends a report: the end, the turns left, then each variable, each export and each call on a line.
 pub fn push_report(report: &RunReport, text: &mut String) -> Result<(), OutOfMemory>
     ensures { OnOk result (string_bytes text.new ≡ string_bytes text.old ++ report_text (report_meant report.now)) }
 {
-    text.push_str("end: ")?;
-    push_end(&report.run_end, text)?;
-    text.push_str("\nturns left: ")?;
-    write!(text, "{}", report.turns_left)?;
-    text.push_str("\n")?;
+    let (end, turns) = (&report.run_end, report.turns_left);
+    write!(text, "end: {end}\nturns left: {turns}\n")?;
     push_variables(report.variables.as_slice(), text)?;
     push_exports(report.exports.as_slice(), text)?;
     push_calls(report.calls.as_slice(), text)
 }
 
-fn push_end(end: &RunEnd, text: &mut String) -> Result<(), OutOfMemory>
-    ensures { OnOk result (string_bytes text.new ≡ string_bytes text.old ++ end_text (end_meant end.now)) }
-{
-    match end {
-        RunEnd::Value(value) => push_ending("value ", value, text),
-        RunEnd::Thrown(value) => push_ending("thrown ", value, text),
-        RunEnd::Stuck(stuck) => push_stuck(*stuck, text),
-        RunEnd::OutOfTurns => Ok(text.push_str("out of turns")?),
+/// As a report has it: its number and its name.
+impl fmt::Display for Stuck {
+    ghost output = { λ stuck. Some (stuck_text (stuck_meant stuck)) };
+
+    fn fmt<W: fmt::Write>(&self, f: &mut fmt::Formatter<W>) -> fmt::Result {
+        write!(f, "{} {}", self.number(), self.name())
     }
 }
 
-/// Appends a word and a value.
-fn push_ending(word: &str, value: &Dynamic, text: &mut String) -> Result<(), OutOfMemory>
-    ensures { OnOk result (string_bytes text.new ≡ string_bytes text.old ++ (word.now ++ inner (value_of value.now))) }
-{
-    text.push_str(word)?;
-    Ok(value.push_inner(text)?)
-}
+/// As a report has it: a value as an array writes it.
+impl fmt::Display for RunEnd {
+    ghost output = { λ end. Some (end_text (end_meant end)) };
 
-fn push_stuck(stuck: Stuck, text: &mut String) -> Result<(), OutOfMemory>
-    ensures { OnOk result (string_bytes text.new ≡ string_bytes text.old ++ end_text (WithStuck (stuck_meant stuck))) }
-{
-    text.push_str("stuck ")?;
-    write!(text, "{}", stuck.number())?;
-    text.push_str(" ")?;
-    Ok(text.push_str(stuck.name())?)
+    fn fmt<W: fmt::Write>(&self, f: &mut fmt::Formatter<W>) -> fmt::Result {
+        match self {
+            RunEnd::Value(value) => write!(f, "value {value:?}"),
+            RunEnd::Thrown(value) => write!(f, "thrown {value:?}"),
+            RunEnd::Stuck(stuck) => write!(f, "stuck {stuck}"),
+            RunEnd::OutOfTurns => f.write_str("out of turns"),
+        }
+    }
 }
 
 /// Appends names, each on a line.
 fn push_variables(variables: &[Variable], text: &mut String) -> Result<(), OutOfMemory>
-    ensures { OnOk result (string_bytes text.new ≡ string_bytes text.old ++ variables_text (map variable_meant variables.now)) }
+    ensures { OnOk result
+        (string_bytes text.new ≡ string_bytes text.old ++ variables_text (map variable_meant variables.now)) }
 {
     for variable in variables {
         push_variable(variable, text)?;
@@ -67,7 +59,8 @@ fn push_variables(variables: &[Variable], text: &mut String) -> Result<(), OutOf
 }
 
 fn push_variable(variable: &Variable, text: &mut String) -> Result<(), OutOfMemory>
-    ensures { OnOk result (string_bytes text.new ≡ string_bytes text.old ++ variable_text (variable_meant variable.now)) }
+    ensures { OnOk result
+        (string_bytes text.new ≡ string_bytes text.old ++ variable_text (variable_meant variable.now)) }
 {
     let (name, is_constant, value) = variable;
     let kind = if *is_constant {
@@ -85,7 +78,8 @@ fn push_variable(variable: &Variable, text: &mut String) -> Result<(), OutOfMemo
 
 /// Appends exports, each on a line.
 fn push_exports(exports: &[Export], text: &mut String) -> Result<(), OutOfMemory>
-    ensures { OnOk result (string_bytes text.new ≡ string_bytes text.old ++ exports_text (map export_meant exports.now)) }
+    ensures { OnOk result
+        (string_bytes text.new ≡ string_bytes text.old ++ exports_text (map export_meant exports.now)) }
 {
     for export in exports {
         push_export(export, text)?;
@@ -129,7 +123,9 @@ fn push_call(call: &HostCall, text: &mut String) -> Result<(), OutOfMemory>
 
 /// Appends what a method is called on.
 fn push_receiver(receiver: Option<&Dynamic>, text: &mut String) -> Result<(), OutOfMemory>
-    ensures { OnOk result (string_bytes text.new ≡ string_bytes text.old ++ called_on (option_map value_of (option_copied receiver.entry))) }
+    ensures { OnOk result
+        (string_bytes text.new
+        ≡ string_bytes text.old ++ called_on (option_map value_of (option_copied receiver.entry))) }
 {
     if let Some(receiver) = receiver {
         receiver.push_inner(text)?;

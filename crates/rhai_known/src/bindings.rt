@@ -17,7 +17,7 @@ pub type Binding<'a> = Option<Cow<'a, Dynamic>>;
 pub type Bindings<'a> = BTreeMap<String, Vec<Binding<'a>>>;
 
 /// The value of the newest binding of a name.
-pub fn latest<'b>(bindings: &'b Bindings<'_>, name: &str) -> Option<&'b Dynamic>
+pub(crate) fn latest<'b>(bindings: &'b Bindings<'_>, name: &str) -> Option<&'b Dynamic>
     ensures { option_copied result ≡ newest (held_in bindings.now name.now) }
 {
     newest_of(bindings.get(name)?.as_slice())
@@ -42,7 +42,11 @@ fn value_of<'b>(value: &'b Cow<'_, Dynamic>) -> &'b Dynamic
 }
 
 /// A name has a list, which may be empty. It holds what was held before, whether refused or not.
-pub fn make_room(alloc: Global, bindings: &mut Bindings<'_>, name: &str) -> Result<(), OutOfMemory>
+pub(crate) fn make_room(
+    alloc: Global,
+    bindings: &mut Bindings<'_>,
+    name: &str,
+) -> Result<(), OutOfMemory>
     ensures same { held_in bindings.new ≡ held_in bindings.old }
     ensures room { OnOk result (IsSome (get_by_text bindings.new name.now)) }
 {
@@ -57,7 +61,7 @@ pub fn make_room(alloc: Global, bindings: &mut Bindings<'_>, name: &str) -> Resu
 }
 
 /// Adds a binding of a name. A refused call adds nothing.
-pub fn add<'a>(
+pub(crate) fn add<'a>(
     bindings: &mut Bindings<'a>,
     name: &str,
     binding: Binding<'a>,
@@ -76,7 +80,7 @@ pub fn add<'a>(
 }
 
 /// Takes the newest binding of a name away.
-pub fn take_newest(bindings: &mut Bindings<'_>, name: &str)
+pub(crate) fn take_newest(bindings: &mut Bindings<'_>, name: &str)
     ensures { held_in bindings.new ≡ without_newest name.now (held_in bindings.old) }
 {
     if let Some(list) = bindings.get_mut(name) {

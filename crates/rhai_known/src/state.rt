@@ -16,8 +16,8 @@ use std::borrow::Cow;
 use std::collections::BTreeMap;
 use std::marker::Model;
 
-/// What the optimiser is given, and what changes while it works: whether a rule has fired since the flag was cleared, and
-/// the names that are known, seen as a list, the newest first.
+/// What the optimiser is given, and what changes while it works: whether a rule has fired since the flag was cleared,
+/// and the names that are known, seen as a list, the newest first.
 #[derive(Drop)]
 pub struct OptimizerState<'a> {
     info: &'a EngineInfo,
@@ -43,7 +43,11 @@ impl<'a> Model for OptimizerState<'a> {
 
     ghost coded = { Prim.hlevel (codes, dynamic.the_row.coded, entry.the_row.coded, engine_info.the_row.coded) };
 
-    ghost view = { λ s. record { setting = record { info = s.info.now; scope = option_map deref s.scope; level = s.level }; is_dirty = s.is_dirty; entries = entries_of (reverse s.names.items) (held_in s.bindings) } };
+    ghost view = { λ s. record {
+      setting = record { info = s.info.now; scope = option_map deref s.scope; level = s.level };
+      is_dirty = s.is_dirty;
+      entries = entries_of (reverse s.names.items) (held_in s.bindings);
+    } };
 
     ghost invariant = { λ s. Settled (reverse s.names.items) (held_in s.bindings) };
 }

@@ -8,7 +8,7 @@ pub use rhai_ast::{
     ASTNode, BinaryExpr, CallQueries, Expr, ExprQueries, FlowControl, FnAccess, FnCallExpr,
     FnNamespace, FromStmt, IntoExpr, Literals, NodeQueries, ScriptFuncDef, SetPosition, Stmt,
     StmtBlock, StmtBlockContainer, StmtQueries, SwitchBlock, SwitchCases, SwitchCasesCollection,
-    Take, Walk, check_tree, is_plain, walk_statements,
+    Take, TreeError, Walk, check_tree, is_plain, walk_statements,
 };
 pub use rhai_base::{
     ASTFlags, AstError, Boxed, CaseBlocksList, Cases, Dynamic, Fault, FnName, FnPtr, INT, Ident,
@@ -16,12 +16,13 @@ pub use rhai_base::{
     Rest, Scope, ScopeEntry, ScopeIter, Seq, Span, StringMap, Token, TreeFault, builtin_binary_op,
     builtin_unary_op,
 };
-pub use rhai_host::{ProgramHost, push_report};
+pub use rhai_host::{UnitHost, push_report};
 pub use rhai_make as make;
 pub use rhai_notation::{push_lines, push_script};
 pub use rhai_optimizer::{
     OptimizationLevel, OptimizerState, optimize_ast, optimize_counted, optimize_into_ast,
 };
+pub use rhai_reader::{ReadError, read_script, read_statements, read_value};
 pub use rhai_run::{
     EngineInfo, Host, HostAnswer, HostCall, RunEnd, RunReport, Stuck, Variable, plain_run,
 };

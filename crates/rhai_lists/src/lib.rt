@@ -1,4 +1,5 @@
-//! Lists of statements that lose some of them. What goes is let go here, so that the crates above, which say what goes, let go of none.
+//! Lists of statements that lose some of them. What goes is let go here, so that the crates above, which say what
+//! goes, let go of none.
 #![tactic(auto)]
 
 ghost use Rattle.std.specs.Prelude.{◌≡◌, ◌<◌, ◌+◌, length, take, slice_set};

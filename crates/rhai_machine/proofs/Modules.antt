@@ -1,9 +1,9 @@
 -- Names in modules of the host, and modules by their paths.
 use Rattle.std.proofs.Common.{◌≡◌, false, List, [], ◌∷◌, Some, None, refl, ap}
 use Rattle.rhai_values.specs.declared.dynamic.Dynamic.{Dynamic}
-use Rattle.rhai_values.specs.Reading.{value_of}
-use Rattle.rhai_values.specs.Value.{Text, TextV}
-use Rattle.rhai_meaning.specs.Act.{World, Unbound, UnknownModule}
+use Rattle.rhai_values.specs.Reading.{value_of, DynamicCase, str_case, dynamic_cases}
+use Rattle.rhai_values.specs.Value.{Text, Value, TextV}
+use Rattle.rhai_meaning.specs.Act.{World, Unbound, UnknownModule, WrongKind, Fail}
 use Rattle.rhai_meaning.specs.ActForms.{of_constant}
 use Rattle.rhai_meaning.specs.Desugar.{variable}
 use Rattle.rhai_meaning.specs.Meaning.{act, module_at, module_known}
@@ -13,10 +13,15 @@ use Rattle.rhai_state.specs.declared.state.Interrupt.TheVariants.{Stuck}
 use Rattle.rhai_state.specs.declared.state.State.{State}
 use Rattle.rhai_state.specs.Runs.{Setting, Acting, Goes, Stops, given}
 use Rattle.rhai_state.specs.State.{store_of}
-use Rattle.rhai_state.proofs.Goes.{gives, goes_as, goes_then}
+use Rattle.rhai_state.proofs.Goes.{gives, goes_as, goes_then, stuck_here}
+use Rattle.rhai_state.proofs.PointerRuns.{IsNoText}
 use Rattle.rhai_forms.specs.Variables.{in_module, qualified_in}
 use Rattle.rhai_forms.proofs.Modules.{module_goes}
 use Rattle.rhai_machine.proofs.Placing.{fails}
+
+no_path : (w : World) {v : Dynamic} {u : Value} → DynamicCase v u → IsNoText v → module_at w u ≡ Fail WrongKind
+no_path w (str_case t) h = absurd (h t refl)
+no_path w _ h = refl
 
 variable_is : (w : World) (ns : List Text) (x : Text) → is_none ns ≡ false → act w (variable ns x) ≡ in_module ns x (λ y. of_constant (w.host.module_value y))
 variable_is w [] x h = cc
@@ -35,6 +40,9 @@ module _ (here : Setting) (s : State) where
 
     pub module_value_stops : here.world.host.module_value whole_name ≡ None → Stops here (Acting (act here.world (variable ns x))) s (Stuck why.Unbound) s
     module_value_stops e = goes_then here to_module (goes_then here (goes_as here _ _ s (ap (λ o. Acting (of_constant o)) e)) (fails here s Unbound))
+
+  pub path_stops : (v : Dynamic) → IsNoText v → Stops here (Acting (module_at here.world (value_of v))) s (Stuck why.WrongKind) s
+  path_stops v h = stuck_here here _ s (no_path here.world (dynamic_cases v) h)
 
   module _ (p : Text) where
     pub module_known_goes : (m : Text) → here.world.host.module_of p ≡ Some m → Goes here (Acting (module_at here.world (TextV p))) s (given (TextV m)) s

@@ -1,4 +1,5 @@
-//! What a run is made of beneath its recursion: its single steps, by which its state is read, written, computed and asked.
+//! What a run is made of beneath its recursion: its single steps, by which its state is read, written, computed and
+//! asked.
 #![tactic(auto)]
 
 mod steps;

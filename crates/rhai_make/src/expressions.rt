@@ -75,7 +75,8 @@ pub fn operator(
     rhs: Expr,
     pos: Position,
 ) -> Result<Expr, OutOfMemory>
-    ensures { IfOk result (λ e. expr_of e ≡ tree.operation (token_text token) (mark_of (Some token)) (expr_of lhs) (expr_of rhs)) }
+    ensures { IfOk result (λ e.
+        expr_of e ≡ tree.operation (token_text token) (mark_of (Some token)) (expr_of lhs) (expr_of rhs)) }
 {
     let operands = Seq::from_array(alloc, [lhs, rhs])?;
     let call = fn_call(alloc, token.literal_syntax(), operands, Some(token))?;

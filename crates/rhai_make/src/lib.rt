@@ -2,7 +2,9 @@
 #![tactic(auto)]
 
 mod expressions;
+mod functions;
 mod statements;
 
 pub use expressions::{array, block_expr, call, fn_call, index, integer, operator, text, variable};
+pub use functions::function;
 pub use statements::{assignment, block_stmt, call_stmt, declaration, expr_stmt, ident};

@@ -10,7 +10,8 @@ use rhai_base::{Dynamic, INT, OutOfMemory};
 /// Appends a value that no other constant stands for.
 #[tactic(auto)]
 pub(crate) fn push_value(value: &Dynamic, text: &mut String) -> Result<(), OutOfMemory>
-    ensures { OnOk result (string_bytes text.new ≡ string_bytes text.old ++ (codes "<" ++ inner (value_of value.now) ++ codes ">")) }
+    ensures { OnOk result
+        (string_bytes text.new ≡ string_bytes text.old ++ (codes "<" ++ inner (value_of value.now) ++ codes ">")) }
 {
     text.push_str("<")?;
     value.push_inner(text)?;

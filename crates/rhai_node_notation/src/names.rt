@@ -67,7 +67,8 @@ pub(crate) fn push_loop_names(
     counter: &Option<Ident>,
     text: &mut String,
 ) -> Result<(), OutOfMemory>
-    ensures { OnOk result (string_bytes text.new ≡ string_bytes text.old ++ loop_names name.now.name (counter_of counter.now)) }
+    ensures { OnOk result
+        (string_bytes text.new ≡ string_bytes text.old ++ loop_names name.now.name (counter_of counter.now)) }
 {
     match counter {
         Some(counter) => write!(text, "({}, {})", name.as_str(), counter.as_str())?,
@@ -78,7 +79,8 @@ pub(crate) fn push_loop_names(
 
 /// Appends the words before a declared name.
 pub(crate) fn push_declaration(options: ASTFlags, text: &mut String) -> Result<(), OutOfMemory>
-    ensures { OnOk result (string_bytes text.new ≡ string_bytes text.old ++ declaration_text (is_const options) (is_exported options)) }
+    ensures { OnOk result
+        (string_bytes text.new ≡ string_bytes text.old ++ declaration_text (is_const options) (is_exported options)) }
 {
     if options.contains(ASTFlags::EXPORTED) {
         text.push_str("export ")?;
@@ -133,7 +135,8 @@ pub(crate) fn push_catch(name: &Expr, text: &mut String) -> Result<(), OutOfMemo
 
 /// Appends the catch name, which has no modules.
 fn push_caught(modules: &Namespace, name: &str, text: &mut String) -> Result<(), OutOfMemory>
-    ensures { OnOk result (string_bytes text.new ≡ string_bytes text.old ++ catch_text (Variable (path_of modules.now) name.now)) }
+    ensures { OnOk result
+        (string_bytes text.new ≡ string_bytes text.old ++ catch_text (Variable (path_of modules.now) name.now)) }
 {
     text.push_str(" catch ")?;
     if modules.is_empty() {

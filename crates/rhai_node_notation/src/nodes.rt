@@ -60,7 +60,9 @@ fn push_list(
     after: &str,
     text: &mut String,
 ) -> Result<(), OutOfMemory>
-    ensures { OnOk result (string_bytes text.new ≡ string_bytes text.old ++ (before.now ++ exprs_text [] (exprs_of exprs.now) ++ after.now)) }
+    ensures { OnOk result
+        (string_bytes text.new
+        ≡ string_bytes text.old ++ (before.now ++ exprs_text [] (exprs_of exprs.now) ++ after.now)) }
 {
     text.push_str(before)?;
     push_exprs(exprs, text)?;
@@ -70,7 +72,8 @@ fn push_list(
 /// Appends an expression after a mark.
 #[cycle(nodes)]
 fn push_after(before: &str, expr: &Expr, text: &mut String) -> Result<(), OutOfMemory>
-    ensures { OnOk result (string_bytes text.new ≡ string_bytes text.old ++ (before.now ++ expr_text (expr_of expr.now))) }
+    ensures { OnOk result
+        (string_bytes text.new ≡ string_bytes text.old ++ (before.now ++ expr_text (expr_of expr.now))) }
 {
     text.push_str(before)?;
     push_expr(expr, text)
@@ -91,7 +94,9 @@ fn push_exprs(exprs: &[Expr], text: &mut String) -> Result<(), OutOfMemory>
 
 #[cycle(nodes)]
 fn push_map(pairs: &[(Ident, Expr)], text: &mut String) -> Result<(), OutOfMemory>
-    ensures { OnOk result (string_bytes text.new ≡ string_bytes text.old ++ (codes "#{" ++ pairs_text [] (pairs_of pairs.now) ++ codes "}")) }
+    ensures { OnOk result
+        (string_bytes text.new
+        ≡ string_bytes text.old ++ (codes "#{" ++ pairs_text [] (pairs_of pairs.now) ++ codes "}")) }
 {
     text.push_str("#{")?;
     push_pairs(pairs, text)?;
@@ -115,7 +120,8 @@ fn push_pairs(pairs: &[(Ident, Expr)], text: &mut String) -> Result<(), OutOfMem
 
 #[cycle(nodes)]
 fn push_call(call: &FnCallExpr, text: &mut String) -> Result<(), OutOfMemory>
-    ensures { OnOk result (string_bytes text.new ≡ string_bytes text.old ++ call_text (callee_of call.now) (exprs_of call.now.args)) }
+    ensures { OnOk result
+        (string_bytes text.new ≡ string_bytes text.old ++ call_text (callee_of call.now) (exprs_of call.now.args)) }
 {
     push_callee(call, text)?;
     push_list("(", call.args.as_slice(), ")", text)
@@ -129,7 +135,13 @@ fn push_step(
     options: ASTFlags,
     text: &mut String,
 ) -> Result<(), OutOfMemory>
-    ensures { OnOk result (string_bytes text.new ≡ string_bytes text.old ++ (word.now ++ flags_text (chain_flags options) ++ codes "(" ++ expr_text (expr_of sides.now.lhs) ++ codes ", " ++ expr_text (expr_of sides.now.rhs) ++ codes ")")) }
+    ensures { OnOk result
+        (string_bytes text.new
+        ≡ string_bytes text.old
+        ++ (word.now ++ flags_text (chain_flags options)
+        ++ codes
+        "(" ++ expr_text (expr_of sides.now.lhs) ++ codes ", " ++ expr_text (expr_of sides.now.rhs)
+        ++ codes ")")) }
 {
     text.push_str(word)?;
     push_flags(options, text)?;
@@ -166,7 +178,11 @@ pub fn push_stmt(stmt: &Stmt, text: &mut String) -> Result<(), OutOfMemory>
 
 #[cycle(nodes)]
 fn push_if(flow: &FlowControl, text: &mut String) -> Result<(), OutOfMemory>
-    ensures { OnOk result (string_bytes text.new ≡ string_bytes text.old ++ stmt_text (If (expr_of flow.now.expr) (stmts_of flow.now.body.block) (stmts_of flow.now.branch.block))) }
+    ensures { OnOk result
+        (string_bytes text.new
+        ≡ string_bytes text.old
+        ++ stmt_text
+        (If (expr_of flow.now.expr) (stmts_of flow.now.body.block) (stmts_of flow.now.branch.block))) }
 {
     push_after("if ", &flow.expr, text)?;
     push_block_after(" ", &flow.body, text)?;
@@ -175,7 +191,12 @@ fn push_if(flow: &FlowControl, text: &mut String) -> Result<(), OutOfMemory>
 
 #[cycle(nodes)]
 fn push_switch(switch: &SwitchBlock, text: &mut String) -> Result<(), OutOfMemory>
-    ensures { OnOk result (string_bytes text.new ≡ string_bytes text.old ++ stmt_text (Switch (expr_of (subject_of switch.now)) (arms_of (expressions_of (cases_of switch.now))) (table_of (cases_of switch.now)))) }
+    ensures { OnOk result
+        (string_bytes text.new
+        ≡ string_bytes text.old
+        ++ stmt_text
+        (Switch (expr_of (subject_of switch.now)) (arms_of (expressions_of (cases_of switch.now)))
+        (table_of (cases_of switch.now)))) }
 {
     push_after("switch ", &switch.expr, text)?;
     text.push_str(" { ")?;
@@ -201,7 +222,9 @@ fn push_arms(arms: &[BinaryExpr], text: &mut String) -> Result<(), OutOfMemory>
 
 #[cycle(nodes)]
 fn push_while(flow: &FlowControl, text: &mut String) -> Result<(), OutOfMemory>
-    ensures { OnOk result (string_bytes text.new ≡ string_bytes text.old ++ stmt_text (While (expr_of flow.now.expr) (stmts_of flow.now.body.block))) }
+    ensures { OnOk result
+        (string_bytes text.new
+        ≡ string_bytes text.old ++ stmt_text (While (expr_of flow.now.expr) (stmts_of flow.now.body.block))) }
 {
     push_guard(&flow.expr, text)?;
     push_block(&flow.body, text)
@@ -221,7 +244,12 @@ fn push_guard(guard: &Expr, text: &mut String) -> Result<(), OutOfMemory>
 
 #[cycle(nodes)]
 fn push_do(flow: &FlowControl, options: ASTFlags, text: &mut String) -> Result<(), OutOfMemory>
-    ensures { OnOk result (string_bytes text.new ≡ string_bytes text.old ++ stmt_text (Do (is_negated options) (is_exported options) (expr_of flow.now.expr) (stmts_of flow.now.body.block))) }
+    ensures { OnOk result
+        (string_bytes text.new
+        ≡ string_bytes text.old
+        ++ stmt_text
+        (Do (is_negated options) (is_exported options) (expr_of flow.now.expr)
+        (stmts_of flow.now.body.block))) }
 {
     push_block_after("do ", &flow.body, text)?;
     if options.contains(ASTFlags::NEGATED) {
@@ -236,7 +264,12 @@ fn push_for(
     parts: &(Ident, Option<Ident>, FlowControl),
     text: &mut String,
 ) -> Result<(), OutOfMemory>
-    ensures { OnOk result (string_bytes text.new ≡ string_bytes text.old ++ stmt_text (For parts.now.0.name (counter_of parts.now.1) (expr_of parts.now.2.expr) (stmts_of parts.now.2.body.block))) }
+    ensures { OnOk result
+        (string_bytes text.new
+        ≡ string_bytes text.old
+        ++ stmt_text
+        (For parts.now.0.name (counter_of parts.now.1) (expr_of parts.now.2.expr)
+        (stmts_of parts.now.2.body.block))) }
 {
     text.push_str("for ")?;
     push_loop_names(&parts.0, &parts.1, text)?;
@@ -251,7 +284,10 @@ fn push_var(
     options: ASTFlags,
     text: &mut String,
 ) -> Result<(), OutOfMemory>
-    ensures { OnOk result (string_bytes text.new ≡ string_bytes text.old ++ stmt_text (Var (is_const options) (is_exported options) name.now.name (expr_of value.now))) }
+    ensures { OnOk result
+        (string_bytes text.new
+        ≡ string_bytes text.old
+        ++ stmt_text (Var (is_const options) (is_exported options) name.now.name (expr_of value.now))) }
 {
     push_declaration(options, text)?;
     text.push_str(name.as_str())?;
@@ -260,7 +296,11 @@ fn push_var(
 
 #[cycle(nodes)]
 fn push_assignment(parts: &(OpAssignment, BinaryExpr), text: &mut String) -> Result<(), OutOfMemory>
-    ensures { OnOk result (string_bytes text.new ≡ string_bytes text.old ++ stmt_text (Assignment (operator_of parts.now.0.op) (expr_of parts.now.1.lhs) (expr_of parts.now.1.rhs))) }
+    ensures { OnOk result
+        (string_bytes text.new
+        ≡ string_bytes text.old
+        ++ stmt_text
+        (Assignment (operator_of parts.now.0.op) (expr_of parts.now.1.lhs) (expr_of parts.now.1.rhs))) }
 {
     push_expr(&parts.1.lhs, text)?;
     push_assigning(&parts.0, text)?;
@@ -270,7 +310,9 @@ fn push_assignment(parts: &(OpAssignment, BinaryExpr), text: &mut String) -> Res
 /// Appends a call as a statement.
 #[cycle(nodes)]
 fn push_called(call: &FnCallExpr, text: &mut String) -> Result<(), OutOfMemory>
-    ensures { OnOk result (string_bytes text.new ≡ string_bytes text.old ++ stmt_text (FnCallStmt (callee_of call.now) (exprs_of call.now.args))) }
+    ensures { OnOk result
+        (string_bytes text.new
+        ≡ string_bytes text.old ++ stmt_text (FnCallStmt (callee_of call.now) (exprs_of call.now.args))) }
 {
     text.push_str("call ")?;
     push_call(call, text)
@@ -279,14 +321,20 @@ fn push_called(call: &FnCallExpr, text: &mut String) -> Result<(), OutOfMemory>
 /// Appends a block as a statement.
 #[cycle(nodes)]
 fn push_inner_block(block: &StmtBlock, text: &mut String) -> Result<(), OutOfMemory>
-    ensures { OnOk result (string_bytes text.new ≡ string_bytes text.old ++ stmt_text (Block (stmts_of block.now.block))) }
+    ensures { OnOk result
+        (string_bytes text.new ≡ string_bytes text.old ++ stmt_text (Block (stmts_of block.now.block))) }
 {
     push_block_after("block ", block, text)
 }
 
 #[cycle(nodes)]
 fn push_try(flow: &FlowControl, text: &mut String) -> Result<(), OutOfMemory>
-    ensures { OnOk result (string_bytes text.new ≡ string_bytes text.old ++ stmt_text (TryCatch (expr_of flow.now.expr) (stmts_of flow.now.body.block) (stmts_of flow.now.branch.block))) }
+    ensures { OnOk result
+        (string_bytes text.new
+        ≡ string_bytes text.old
+        ++ stmt_text
+        (TryCatch (expr_of flow.now.expr) (stmts_of flow.now.body.block)
+        (stmts_of flow.now.branch.block))) }
 {
     push_block_after("try ", &flow.body, text)?;
     push_catch(&flow.expr, text)?;
@@ -300,7 +348,10 @@ fn push_break(
     options: ASTFlags,
     text: &mut String,
 ) -> Result<(), OutOfMemory>
-    ensures { OnOk result (string_bytes text.new ≡ string_bytes text.old ++ stmt_text (BreakLoop (breaks options) (is_exported options) (maybe_of value.now))) }
+    ensures { OnOk result
+        (string_bytes text.new
+        ≡ string_bytes text.old
+        ++ stmt_text (BreakLoop (breaks options) (is_exported options) (maybe_of value.now))) }
 {
     if options.contains(ASTFlags::BREAK) {
         text.push_str("break")?;
@@ -317,7 +368,10 @@ fn push_return(
     options: ASTFlags,
     text: &mut String,
 ) -> Result<(), OutOfMemory>
-    ensures { OnOk result (string_bytes text.new ≡ string_bytes text.old ++ stmt_text (Return (breaks options) (is_exported options) (maybe_of value.now))) }
+    ensures { OnOk result
+        (string_bytes text.new
+        ≡ string_bytes text.old
+        ++ stmt_text (Return (breaks options) (is_exported options) (maybe_of value.now))) }
 {
     if options.contains(ASTFlags::BREAK) {
         text.push_str("throw")?;
@@ -340,7 +394,8 @@ fn push_after_word(value: &Option<Boxed<Expr>>, text: &mut String) -> Result<(),
 
 #[cycle(nodes)]
 fn push_import(path: &Expr, alias: &Ident, text: &mut String) -> Result<(), OutOfMemory>
-    ensures { OnOk result (string_bytes text.new ≡ string_bytes text.old ++ stmt_text (Import (expr_of path.now) alias.now.name)) }
+    ensures { OnOk result
+        (string_bytes text.new ≡ string_bytes text.old ++ stmt_text (Import (expr_of path.now) alias.now.name)) }
 {
     push_after("import ", path, text)?;
     text.push_str(" as ")?;
@@ -348,14 +403,16 @@ fn push_import(path: &Expr, alias: &Ident, text: &mut String) -> Result<(), OutO
 }
 
 fn push_export(name: &Ident, alias: &Ident, text: &mut String) -> Result<(), OutOfMemory>
-    ensures { OnOk result (string_bytes text.new ≡ string_bytes text.old ++ stmt_text (Export name.now.name alias.now.name)) }
+    ensures { OnOk result
+        (string_bytes text.new ≡ string_bytes text.old ++ stmt_text (Export name.now.name alias.now.name)) }
 {
     write!(text, "export {} as {}", name.as_str(), alias.as_str())?;
     Ok(())
 }
 
 fn push_share(names: &[(Ident, Option<NonZeroUsize>)], text: &mut String) -> Result<(), OutOfMemory>
-    ensures { OnOk result (string_bytes text.new ≡ string_bytes text.old ++ stmt_text (Share (shared_names names.now))) }
+    ensures { OnOk result
+        (string_bytes text.new ≡ string_bytes text.old ++ stmt_text (Share (shared_names names.now))) }
 {
     text.push_str("share ")?;
     push_shared(names, text)
@@ -379,7 +436,8 @@ pub fn push_block(block: &StmtBlock, text: &mut String) -> Result<(), OutOfMemor
 /// Appends statements in braces after a mark.
 #[cycle(nodes)]
 fn push_block_after(before: &str, block: &StmtBlock, text: &mut String) -> Result<(), OutOfMemory>
-    ensures { OnOk result (string_bytes text.new ≡ string_bytes text.old ++ (before.now ++ block_text (stmts_of block.now.block))) }
+    ensures { OnOk result
+        (string_bytes text.new ≡ string_bytes text.old ++ (before.now ++ block_text (stmts_of block.now.block))) }
 {
     text.push_str(before)?;
     push_block(block, text)

@@ -58,7 +58,9 @@ pub fn if_answers(
     otherwise: Option<Expr>,
     pos: Position,
 ) -> Result<Stmt, OutOfMemory>
-    ensures { IfOk result (λ s. stmt_of s ≡ If (expr_of condition) (answered (Some (expr_of answer))) (answered (option_map expr_of otherwise))) }
+    ensures { IfOk result (λ s.
+        stmt_of s
+        ≡ If (expr_of condition) (answered (Some (expr_of answer))) (answered (option_map expr_of otherwise))) }
 {
     let flow = FlowControl {
         expr: condition,

@@ -53,7 +53,8 @@ impl StmtDrain {
 
     /// Takes the first statement that is left.
     pub fn next(&mut self) -> Option<Stmt>
-        ensures { MatchOption result ((self.old.statements ≡ []) × (self.new.statements ≡ [])) (λ s. self.old.statements ≡ s ∷ self.new.statements) }
+        ensures { MatchOption result ((self.old.statements ≡ []) × (self.new.statements ≡ [])) (λ s.
+            self.old.statements ≡ s ∷ self.new.statements) }
     {
         self.statements.next()
     }

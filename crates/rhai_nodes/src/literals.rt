@@ -35,8 +35,8 @@ pub fn literal_value(alloc: Global, expr: &Expr) -> Result<Option<Dynamic>, OutO
     }
 }
 
-/// The value of a constant, lent where the tree holds it whole. A literal of parts is first asked whether it is one: what is none takes
-/// no memory.
+/// The value of a constant, lent where the tree holds it whole. A literal of parts is first asked whether it is one:
+/// what is none takes no memory.
 pub fn constant_value(alloc: Global, expr: &Expr) -> Result<Option<Cow<'_, Dynamic>>, OutOfMemory>
     ensures { IfOk result (λ v. lent_value v ≡ constants.constant_value (expr_of expr.now)) }
 {

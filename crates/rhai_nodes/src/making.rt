@@ -1,5 +1,5 @@
-//! Nodes made of nodes, and put in the place of nodes. What is left over is let go here, so that the crates above, which rewrite
-//! trees, let go of none.
+//! Nodes made of nodes, and put in the place of nodes. What is left over is let go here, so that the crates above,
+//! which rewrite trees, let go of none.
 
 ghost use Rattle.std.specs.Prelude.{◌≡◌, ◌≢◌, [], ◌∷◌, IfOk, length, MatchOption};
 ghost use Rattle.rhai_tree.specs.declared.stmt.Stmt.TheVariants as kind;

@@ -43,7 +43,8 @@ pub fn case_list<'a>(
     table: &'a SwitchCasesCollection,
     subject: &Dynamic,
 ) -> Option<&'a CaseBlocksList>
-    ensures { option_map (λ l. l.blocks) (option_copied result) ≡ cond (is_hashable (value_of subject.now)) (case_for (table_of table.now).cases (value_of subject.now)) None }
+    ensures { option_map (λ l. l.blocks) (option_copied result)
+        ≡ cond (is_hashable (value_of subject.now)) (case_for (table_of table.now).cases (value_of subject.now)) None }
 {
     if !subject.is_hashable() {
         return None;

@@ -15,8 +15,8 @@ use rhai_base::{Dynamic, Ident, OutOfMemory, Seq, StringMap};
 use rhai_tree::Expr;
 use std::alloc::Global;
 
-/// The value of a constant, into which what its parts hold is moved: of constants in constants each text and each inner value stays in
-/// its memory, so that it takes linear time, however deep they stand.
+/// The value of a constant, into which what its parts hold is moved: of constants in constants each text and each
+/// inner value stays in its memory, so that it takes linear time, however deep they stand.
 pub fn value_of_constant(alloc: Global, expr: Expr) -> Result<Dynamic, OutOfMemory>
     requires { constants.is_constant (expr_of expr) ≡ true }
     ensures { IfOk result (λ v. constants.constant_value (expr_of expr) ≡ Some (value_of v)) }
@@ -58,7 +58,8 @@ fn copied_value(alloc: Global, expr: &Expr) -> Result<Option<Dynamic>, OutOfMemo
 }
 
 fn taken_array(alloc: Global, items: Seq<Expr>) -> Result<Option<Dynamic>, OutOfMemory>
-    ensures { IfOk result (λ v. option_map value_of v ≡ constants.array_value (constants.constant_values (exprs_of items))) }
+    ensures { IfOk result (λ v.
+        option_map value_of v ≡ constants.array_value (constants.constant_values (exprs_of items))) }
 {
     let mut values = Vec::with_capacity(alloc, items.len())?;
     let mut rest = items.into_rest();
@@ -72,7 +73,8 @@ fn taken_array(alloc: Global, items: Seq<Expr>) -> Result<Option<Dynamic>, OutOf
 }
 
 fn taken_map(alloc: Global, members: Seq<(Ident, Expr)>) -> Result<Option<Dynamic>, OutOfMemory>
-    ensures { IfOk result (λ v. option_map value_of v ≡ constants.map_value (constants.constant_entries (pairs_of members))) }
+    ensures { IfOk result (λ v.
+        option_map value_of v ≡ constants.map_value (constants.constant_entries (pairs_of members))) }
 {
     let mut map = StringMap::new(alloc);
     let mut rest = members.into_rest();
@@ -88,7 +90,8 @@ fn taken_map(alloc: Global, members: Seq<(Ident, Expr)>) -> Result<Option<Dynami
 /// Puts a value under a name, in place of what was there.
 #[tactic(auto, using(crate::proofs::Entries::insert_is))]
 fn put_under(map: &mut StringMap<Dynamic>, name: Ident, value: Dynamic) -> Result<(), OutOfMemory>
-    ensures { OnOk result (fields (members_of map.new) ≡ with_entry (fields (members_of map.old)) name.name (value_of value)) }
+    ensures { OnOk result
+        (fields (members_of map.new) ≡ with_entry (fields (members_of map.old)) name.name (value_of value)) }
 {
     let Ident { name, pos: _pos } = name;
     map.insert(name, value)?;

@@ -1,2 +1,1 @@
-pub mod BuiltinScripts
 pub mod Notation

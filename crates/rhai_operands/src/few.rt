@@ -28,7 +28,7 @@ fn none_may_stand(place: Place, operation: Operation) -> bool
 }
 
 /// Do operands stay where they stand? One that may stand there does not, nor do none.
-pub fn is_settled(place: Place, operation: Operation, operands: &[Expr]) -> bool
+pub(crate) fn is_settled(place: Place, operation: Operation, operands: &[Expr]) -> bool
     ensures { result ≡ spec.is_settled (place_of place) operation (exprs_of operands.now) }
 {
     match operands {
@@ -40,21 +40,24 @@ pub fn is_settled(place: Place, operation: Operation, operands: &[Expr]) -> bool
 
 /// One operand of `&&` is that operand.
 fn and_of_one(operand: Expr) -> Expr
-    ensures { (p : steps.Place) → standing.may_stand p (expr_of operand) ≡ true → ExprRewrite p (And (expr (expr_of operand) no_exprs)) (expr_of result) }
+    ensures { (p : steps.Place) → standing.may_stand p (expr_of operand) ≡ true
+        → ExprRewrite p (And (expr (expr_of operand) no_exprs)) (expr_of result) }
 {
     operand
 }
 
 /// One operand of `||` is that operand.
 fn or_of_one(operand: Expr) -> Expr
-    ensures { (p : steps.Place) → standing.may_stand p (expr_of operand) ≡ true → ExprRewrite p (Or (expr (expr_of operand) no_exprs)) (expr_of result) }
+    ensures { (p : steps.Place) → standing.may_stand p (expr_of operand) ≡ true
+        → ExprRewrite p (Or (expr (expr_of operand) no_exprs)) (expr_of result) }
 {
     operand
 }
 
 /// One operand of `??` is that operand.
 fn coalesce_of_one(operand: Expr) -> Expr
-    ensures { (p : steps.Place) → standing.may_stand p (expr_of operand) ≡ true → ExprRewrite p (Coalesce (expr (expr_of operand) no_exprs)) (expr_of result) }
+    ensures { (p : steps.Place) → standing.may_stand p (expr_of operand) ≡ true
+        → ExprRewrite p (Coalesce (expr (expr_of operand) no_exprs)) (expr_of result) }
 {
     operand
 }
@@ -75,14 +78,16 @@ fn or_of_none(pos: Position) -> Expr
 
 /// `??` of no operands is unit.
 fn coalesce_of_none(pos: Position) -> Expr
-    ensures { (p : steps.Place) → standing.may_stand p UnitConstant ≡ true → ExprRewrite p (Coalesce no_exprs) (expr_of result) }
+    ensures { (p : steps.Place) → standing.may_stand p UnitConstant ≡ true
+        → ExprRewrite p (Coalesce no_exprs) (expr_of result) }
 {
     Expr::Unit(pos)
 }
 
 /// What an operator of one operand is.
 fn of_one(operation: Operation, operand: Expr) -> Expr
-    ensures { (p : steps.Place) → standing.may_stand p (expr_of operand) ≡ true → ExprRewrite p (spec.node_of operation (expr (expr_of operand) no_exprs)) (expr_of result) }
+    ensures { (p : steps.Place) → standing.may_stand p (expr_of operand) ≡ true
+        → ExprRewrite p (spec.node_of operation (expr (expr_of operand) no_exprs)) (expr_of result) }
 {
     match operation {
         Operation::And => and_of_one(operand),
@@ -93,7 +98,8 @@ fn of_one(operation: Operation, operand: Expr) -> Expr
 
 /// What an operator of no operands is.
 fn of_none(operation: Operation, pos: Position) -> Expr
-    ensures { (p : steps.Place) → standing.may_stand p (spec.none_of operation) ≡ true → ExprRewrite p (spec.node_of operation no_exprs) (expr_of result) }
+    ensures { (p : steps.Place) → standing.may_stand p (spec.none_of operation) ≡ true
+        → ExprRewrite p (spec.node_of operation no_exprs) (expr_of result) }
 {
     match operation {
         Operation::And => and_of_none(pos),
@@ -103,7 +109,7 @@ fn of_none(operation: Operation, pos: Position) -> Expr
 }
 
 /// What an operator is whose operands do not stay.
-pub fn of_few(place: Place, operation: Operation, operands: Seq<Expr>, pos: Position) -> Expr
+pub(crate) fn of_few(place: Place, operation: Operation, operands: Seq<Expr>, pos: Position) -> Expr
     requires { spec.is_settled (place_of place) operation (exprs_of operands) ≡ false }
     ensures { ExprRewrite (place_of place) (spec.node_of operation (exprs_of operands)) (expr_of result) }
 {

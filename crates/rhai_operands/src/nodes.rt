@@ -1,4 +1,5 @@
-//! The rules at `&&`, `||` and `??`, in the node's place. A node is taken out only where it is left with one operand or none.
+//! The rules at `&&`, `||` and `??`, in the node's place. A node is taken out only where it is left with one operand
+//! or none.
 
 #![tactic(auto, using(rhai_reading::specs::Reading::shapes))]
 
@@ -75,7 +76,8 @@ fn put_rewritten(state: &mut OptimizerState<'_>, expr: &mut Expr, place: Place)
     put_expr(expr, rewritten);
 }
 
-/// One step at `&&`, `||` or `??`: a pass over its operands, or what it is with one operand or none. It says whether a rule fired.
+/// One step at `&&`, `||` or `??`: a pass over its operands, or what it is with one operand or none. It says whether a
+/// rule fired.
 pub fn step_operands(
     alloc: Global,
     state: &mut OptimizerState<'_>,
@@ -83,7 +85,9 @@ pub fn step_operands(
     place: Place,
 ) -> bool
     requires { spec.has_operation (expr_of expr.now) ≡ true }
-    ensures { (r : Engine) → PassStep result r (place_of place) (progress state.old) (progress state.new) (expr_of expr.old) (expr_of expr.new) }
+    ensures { (r : Engine)
+        → PassStep result r (place_of place) (progress state.old) (progress state.new) (expr_of expr.old)
+        (expr_of expr.new) }
 {
     if change_operands(alloc, expr) {
         note_fired(state);

@@ -51,7 +51,7 @@ fn is_some_constant(operand: &Expr) -> bool
 }
 
 /// Is an operand a constant after which the operator goes on?
-pub fn goes_on(operation: Operation, operand: &Expr) -> bool
+pub(crate) fn goes_on(operation: Operation, operand: &Expr) -> bool
     ensures { result ≡ spec.goes_on operation (expr_of operand.now) }
 {
     match operation {
@@ -62,7 +62,7 @@ pub fn goes_on(operation: Operation, operand: &Expr) -> bool
 }
 
 /// Is an operand a constant that decides?
-pub fn decides(operation: Operation, operand: &Expr) -> bool
+pub(crate) fn decides(operation: Operation, operand: &Expr) -> bool
     ensures { result ≡ spec.decides operation (expr_of operand.now) }
 {
     match operation {
@@ -73,7 +73,7 @@ pub fn decides(operation: Operation, operand: &Expr) -> bool
 }
 
 /// Does an operand go directly before a constant that decides?
-pub fn goes_before(operation: Operation, operand: &Expr) -> bool
+pub(crate) fn goes_before(operation: Operation, operand: &Expr) -> bool
     ensures { result ≡ spec.goes_before operation (expr_of operand.now) }
 {
     match operation {

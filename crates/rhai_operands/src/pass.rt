@@ -15,10 +15,12 @@ use rhai_base::Seq;
 use rhai_passes::{move_down, shorten};
 use std::alloc::Global;
 
-/// Does the operand at a place go, as a constant after which the operator goes on? One operand stays: those that are kept, or that follow.
+/// Does the operand at a place go, as a constant after which the operator goes on? One operand stays: those that are
+/// kept, or that follow.
 fn goes(operation: Operation, operands: &[Expr], at: usize, kept: usize) -> bool
     requires { at < length operands.now }
-    ensures goes_on { result ≡ true → (d : Expr) → spec.goes_on operation (expr_of (slice_index_or operands.now at d)) ≡ true }
+    ensures goes_on { result ≡ true → (d : Expr)
+        → spec.goes_on operation (expr_of (slice_index_or operands.now at d)) ≡ true }
     ensures others { result ≡ true → at + 1 < kept + length operands.now }
 {
     goes_on(operation, &operands[at]) && (kept > 0 || at + 1 < operands.len())
@@ -37,8 +39,8 @@ fn pure_from(operation: Operation, operands: &[Expr], kept: usize) -> usize
     from
 }
 
-/// Ends operands at a constant that decides: those behind it go, and those directly before it that are pure. Those before it are kept up to
-/// a place.
+/// Ends operands at a constant that decides: those behind it go, and those directly before it that are pure. Those
+/// before it are kept up to a place.
 fn end_at(alloc: Global, operation: Operation, operands: &mut Seq<Expr>, at: usize, kept: usize)
     requires below { kept ≤ at }
     requires inside { at < length operands.old }
@@ -70,29 +72,32 @@ fn pass(alloc: Global, operation: Operation, operands: &mut Seq<Expr>)
 
 /// What goes of the operands of a node; the answer is whether any went.
 fn change(alloc: Global, operation: Operation, operands: &mut Seq<Expr>) -> bool
-    ensures { NodeChange result (spec.node_of operation (exprs_of operands.old)) (spec.node_of operation (exprs_of operands.new)) }
+    ensures { NodeChange result (spec.node_of operation (exprs_of operands.old))
+        (spec.node_of operation (exprs_of operands.new)) }
 {
     let len = operands.len();
     pass(alloc, operation, operands);
     operands.len() != len
 }
 
-/// Of the operands of `&&` constants that are true go, those after one that is false, and what is pure directly before that one. One stays.
-pub fn and_changes(alloc: Global, operands: &mut Seq<Expr>) -> bool
+/// Of the operands of `&&` constants that are true go, those after one that is false, and what is pure directly before
+/// that one. One stays.
+pub(crate) fn and_changes(alloc: Global, operands: &mut Seq<Expr>) -> bool
     ensures { NodeChange result (And (exprs_of operands.old)) (And (exprs_of operands.new)) }
 {
     change(alloc, Operation::And, operands)
 }
 
-/// Of the operands of `||` constants that are false go, those after one that is true, and what is pure directly before that one. One stays.
-pub fn or_changes(alloc: Global, operands: &mut Seq<Expr>) -> bool
+/// Of the operands of `||` constants that are false go, those after one that is true, and what is pure directly before
+/// that one. One stays.
+pub(crate) fn or_changes(alloc: Global, operands: &mut Seq<Expr>) -> bool
     ensures { NodeChange result (Or (exprs_of operands.old)) (Or (exprs_of operands.new)) }
 {
     change(alloc, Operation::Or, operands)
 }
 
 /// Of the operands of `??` constants that are unit go, and those after a constant that is not. One stays.
-pub fn coalesce_changes(alloc: Global, operands: &mut Seq<Expr>) -> bool
+pub(crate) fn coalesce_changes(alloc: Global, operands: &mut Seq<Expr>) -> bool
     ensures { NodeChange result (Coalesce (exprs_of operands.old)) (Coalesce (exprs_of operands.new)) }
 {
     change(alloc, Operation::Coalesce, operands)

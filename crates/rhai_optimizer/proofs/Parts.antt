@@ -33,10 +33,11 @@ use Rattle.rhai_rewriting.specs.Rewriting.{same_expr, same_stmt}
 use Rattle.rhai_rewriting.specs.Steps.{Anywhere, ExprRun, ArmsRun, Progress, is_chain_node, is_method, variable, catch_front, StepsRun, ArgumentRun, ChainRun, TargetRun, MaybeRun, SidesRun, LinkRun, ForRun, ExprPartsRun, StmtPartsRun, StmtReduced, StmtPassed, StmtRun, SubjectRun, HasReducedSubject}
 use Rattle.rhai_rewriting.specs.Residue.{ExprParts, StmtParts}
 use Rattle.rhai_known.specs.State.{known_entry, known_of}
+use Rattle.rhai_rules.proofs.Kept.{nothing_left}
 use Rattle.rhai_switch_rules.specs.Deciding.{Decided}
 use Rattle.std.proofs.lemmas.List.{length-map, drop-map}
-use Rattle.rhai_optimizer.specs.Parts.{declared_value, StmtOnce}
-use Rattle.rhai_rewriting.proofs.Firing.{stmt_then, stmt_pass, stmt_again_falls, stmt_done}
+use Rattle.rhai_optimizer.specs.Parts.{StaysAnywhere, declared_value, StmtOnce}
+use Rattle.rhai_rewriting.proofs.Firing.{expr_done, expr_kept, expr_start, stmt_then, stmt_pass, stmt_again_falls, stmt_done}
 use Rattle.rhai_rewriting.proofs.Running.{sides_dot, sides_index, link_dot, link_index, maybe_none_run, subject_run, arms_run}
 
 -- ---- trees that are spelled so
@@ -101,6 +102,11 @@ pub expr_stays : {r : Engine} {s : Progress} (x : declared_expr.Expr) → NoText
 expr_stays {r = r} {s = s} x a b c d e f g h i j k =
     let z = not_opened r s.known (expr_cases x) a b c d e f g h i j k in
     record { to = same_expr; place = refl; unit = refl; parts = z.0; clear = z.1; known = refl }
+
+-- and where no rule fires at it either, at each place
+pub leaf_stays : (x : declared_expr.Expr) → NoText x → NoArray x → NoMap x → NoVariable x → NoMethod x → NoBraces x → NoCall x → NoDot x → NoIndex x → NoAnd x → NoOr x → NoCoalesce x → StaysAnywhere (expr_of x)
+leaf_stays x text array map variable method braces call dot index and or coalesce r p s =
+    expr_done (expr_stays x text array map braces call dot index and or coalesce method) (expr_kept expr_start (nothing_left (expr_cases x) call variable dot index and or coalesce braces array))
 
 chain_by : {x : declared_expr.Expr} {e : Expr} → ExprCase x e → NoDot x → NoIndex x → is_chain_node e ≡ false
 chain_by (dot_case y k p) f g = absurd (f y k p refl)

@@ -29,7 +29,8 @@ impl<'a> Optimizer<'a> {
         state: &mut OptimizerState<'_>,
         function: &mut ScriptFuncDef,
     ) -> Result<bool, OutOfMemory>
-        ensures run { IfOk result (λ changed. BodyRun (record_of self.now) (progress state.old).known changed function.old function.new) }
+        ensures run { IfOk result (λ changed.
+            BodyRun (record_of self.now) (progress state.old).known changed function.old function.new) }
         ensures known { IfOk result (λ changed. (progress state.new).known ≡ (progress state.old).known) }
     {
         let len = state.len();
@@ -45,7 +46,8 @@ impl<'a> Optimizer<'a> {
         state: &mut OptimizerState<'_>,
         mut function: ScriptFuncDef,
     ) -> Result<Rc<ScriptFuncDef>, OutOfMemory>
-        ensures run { IfOk result (λ made. FunctionRun (record_of self.now) (progress state.old).known function made.value) }
+        ensures run { IfOk result (λ made.
+            FunctionRun (record_of self.now) (progress state.old).known function made.value) }
         ensures known { IfOk result (λ made. (progress state.new).known ≡ (progress state.old).known) }
     {
         self.function_body(state, &mut function)?;
@@ -58,7 +60,8 @@ impl<'a> Optimizer<'a> {
         state: &mut OptimizerState<'_>,
         function: Rc<ScriptFuncDef>,
     ) -> Result<Rc<ScriptFuncDef>, OutOfMemory>
-        ensures run { IfOk result (λ made. FunctionRun (record_of self.now) (progress state.old).known function.value made.value) }
+        ensures run { IfOk result (λ made.
+            FunctionRun (record_of self.now) (progress state.old).known function.value made.value) }
         ensures known { IfOk result (λ made. (progress state.new).known ≡ (progress state.old).known) }
     {
         let mut copy = function.as_ref().clone()?;
@@ -74,7 +77,8 @@ impl<'a> Optimizer<'a> {
         state: &mut OptimizerState<'_>,
         function: Rc<ScriptFuncDef>,
     ) -> Result<Rc<ScriptFuncDef>, OutOfMemory>
-        ensures run { IfOk result (λ made. FunctionRun (record_of self.now) (progress state.old).known function.value made.value) }
+        ensures run { IfOk result (λ made.
+            FunctionRun (record_of self.now) (progress state.old).known function.value made.value) }
         ensures known { IfOk result (λ made. (progress state.new).known ≡ (progress state.old).known) }
     {
         match Rc::try_unwrap(function) {
@@ -88,7 +92,9 @@ impl<'a> Optimizer<'a> {
         state: &mut OptimizerState<'_>,
         functions: Vec<Rc<ScriptFuncDef>>,
     ) -> Result<Vec<Rc<ScriptFuncDef>>, OutOfMemory>
-        ensures { IfOk result (λ made. FunctionsRun (record_of self.now) (progress state.old).known (map rc_value functions.items) (map rc_value made.items)) }
+        ensures { IfOk result (λ made.
+            FunctionsRun (record_of self.now) (progress state.old).known (map rc_value functions.items)
+            (map rc_value made.items)) }
     {
         let mut made = Vec::new(self.alloc);
         for function in functions {
@@ -97,8 +103,8 @@ impl<'a> Optimizer<'a> {
         Ok(made)
     }
 
-    /// Notes what is known in bodies: what is known outside, the record's constants before the scope's names, unless a call of the script
-    /// captures; then nothing.
+    /// Notes what is known in bodies: what is known outside, the record's constants before the scope's names, unless a
+    /// call of the script captures; then nothing.
     fn push_inside(
         &self,
         state: &mut OptimizerState<'a>,
@@ -106,7 +112,11 @@ impl<'a> Optimizer<'a> {
         statements: &[Stmt],
         functions: &[Rc<ScriptFuncDef>],
     ) -> Result<(), OutOfMemory>
-        ensures { OnOk result ((progress state.old).known ≡ [] → (progress state.new).known ≡ known_inside (record_of self.now) (start_of (option_map deref scope.entry)) (listing statements.now functions.now)) }
+        ensures { OnOk result
+            ((progress state.old).known ≡ []
+            → (progress state.new).known
+            ≡ known_inside (record_of self.now) (start_of (option_map deref scope.entry))
+            (listing statements.now functions.now)) }
     {
         if captures_nothing(statements, functions) {
             return push_in_bodies(self.alloc, state, self.info, scope);
@@ -121,7 +131,11 @@ impl<'a> Optimizer<'a> {
         statements: &[Stmt],
         functions: Vec<Rc<ScriptFuncDef>>,
     ) -> Result<Vec<Rc<ScriptFuncDef>>, OutOfMemory>
-        ensures { IfOk result (λ made. FunctionsRun (record_of self.now) (known_inside (record_of self.now) (start_of (option_map deref scope.entry)) (listing statements.now functions.items)) (map rc_value functions.items) (map rc_value made.items)) }
+        ensures { IfOk result (λ made.
+            FunctionsRun (record_of self.now)
+            (known_inside (record_of self.now) (start_of (option_map deref scope.entry))
+            (listing statements.now functions.items))
+            (map rc_value functions.items) (map rc_value made.items)) }
     {
         let mut state = OptimizerState::new(
             self.alloc,

@@ -26,28 +26,31 @@ fn note(state: &mut OptimizerState<'_>, has_changed: bool)
 }
 
 /// Sweeps a list from its end. It says whether the last statement is the expression of a `return` now.
-pub fn sweep_list(
+pub(crate) fn sweep_list(
     alloc: Global,
     state: &mut OptimizerState<'_>,
     statements: &mut Seq<Stmt>,
     mark: ListMark,
 ) -> bool
-    ensures { SweepRun (mark_of mark) result (progress state.old) (progress state.new) (stmts_of statements.old) (stmts_of statements.new) }
+    ensures { SweepRun (mark_of mark) result (progress state.old) (progress state.new) (stmts_of statements.old)
+        (stmts_of statements.new) }
 {
     let swept = sweep(alloc, mark, statements);
     note(state, swept.has_changed);
     swept.is_bared
 }
 
-/// Sweeps a script's own list before its statements are gone over, so that the expression of a last `return` is gone over once, as what it
-/// becomes.
-pub fn sweep_before(
+/// Sweeps a script's own list before its statements are gone over, so that the expression of a last `return` is gone
+/// over once, as what it becomes.
+pub(crate) fn sweep_before(
     alloc: Global,
     state: &mut OptimizerState<'_>,
     statements: &mut Seq<Stmt>,
     mark: ListMark,
 )
-    ensures { (r : Engine) → ListPassed r (mark_of mark) (progress state.old) (progress state.new) (stmts_of statements.old) (stmts_of statements.new) }
+    ensures { (r : Engine)
+        → ListPassed r (mark_of mark) (progress state.old) (progress state.new) (stmts_of statements.old)
+        (stmts_of statements.new) }
 {
     match mark {
         ListMark::Whole => {

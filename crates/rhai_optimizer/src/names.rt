@@ -63,19 +63,25 @@ fn note(
     flags: ASTFlags,
     expr: &Expr,
 ) -> Result<(), OutOfMemory>
-    ensures { OnOk result ((state.new.is_dirty ≡ state.old.is_dirty) × ((progress state.new).known ≡ record { name = name.now.name; value = declared_value (is_const flags) (expr_of expr.now) } ∷ (progress state.old).known)) }
+    ensures { OnOk result
+        ((state.new.is_dirty ≡ state.old.is_dirty)
+        × ((progress state.new).known
+        ≡ record { name = name.now.name; value = declared_value (is_const flags) (expr_of expr.now) }
+        ∷ (progress state.old).known)) }
 {
     let value = declared(alloc, flags, expr)?;
     state.push_var(name.name.clone()?, held(value))
 }
 
 /// Notes what a statement declares, for those that come after it.
-pub fn declare(
+pub(crate) fn declare(
     alloc: Global,
     state: &mut OptimizerState<'_>,
     statement: &Stmt,
 ) -> Result<(), OutOfMemory>
-    ensures { OnOk result ((state.new.is_dirty ≡ state.old.is_dirty) × ((progress state.new).known ≡ known_behind (stmt_of statement.now) (progress state.old).known)) }
+    ensures { OnOk result
+        ((state.new.is_dirty ≡ state.old.is_dirty)
+        × ((progress state.new).known ≡ known_behind (stmt_of statement.now) (progress state.old).known)) }
 {
     match statement {
         Stmt::Var(parts, flags, _) => {
@@ -88,17 +94,21 @@ pub fn declare(
 
 /// Notes a name of which nothing is known.
 fn push_variable(state: &mut OptimizerState<'_>, name: &ImmutableString) -> Result<(), OutOfMemory>
-    ensures { OnOk result ((state.new.is_dirty ≡ state.old.is_dirty) × ((progress state.new).known ≡ variable name.now ∷ (progress state.old).known)) }
+    ensures { OnOk result
+        ((state.new.is_dirty ≡ state.old.is_dirty)
+        × ((progress state.new).known ≡ variable name.now ∷ (progress state.old).known)) }
 {
     state.push_var(name.clone()?, None)
 }
 
 /// Notes the parameters of a function.
-pub fn push_params(
+pub(crate) fn push_params(
     state: &mut OptimizerState<'_>,
     params: &[ImmutableString],
 ) -> Result<(), OutOfMemory>
-    ensures { OnOk result ((state.new.is_dirty ≡ state.old.is_dirty) × ((progress state.new).known ≡ shadow_all params.now (progress state.old).known)) }
+    ensures { OnOk result
+        ((state.new.is_dirty ≡ state.old.is_dirty)
+        × ((progress state.new).known ≡ shadow_all params.now (progress state.old).known)) }
 {
     for param in params {
         push_variable(state, param)?;
@@ -107,12 +117,15 @@ pub fn push_params(
 }
 
 /// Notes the names of a `for`: its counter's, if it has one, and its own.
-pub fn push_loop_names(
+pub(crate) fn push_loop_names(
     state: &mut OptimizerState<'_>,
     name: &Ident,
     counter: &Option<Ident>,
 ) -> Result<(), OutOfMemory>
-    ensures { OnOk result ((state.new.is_dirty ≡ state.old.is_dirty) × ((progress state.new).known ≡ loop_front name.now.name (counter_of counter.now) ++ (progress state.old).known)) }
+    ensures { OnOk result
+        ((state.new.is_dirty ≡ state.old.is_dirty)
+        × ((progress state.new).known
+        ≡ loop_front name.now.name (counter_of counter.now) ++ (progress state.old).known)) }
 {
     match counter {
         Some(counter) => {
@@ -124,8 +137,14 @@ pub fn push_loop_names(
 }
 
 /// Notes a catch name, if it is one.
-pub fn push_catch_name(state: &mut OptimizerState<'_>, expr: &Expr) -> Result<(), OutOfMemory>
-    ensures { OnOk result ((state.new.is_dirty ≡ state.old.is_dirty) × ((progress state.new).known ≡ catch_front (catch_name (expr_of expr.now)) ++ (progress state.old).known)) }
+pub(crate) fn push_catch_name(
+    state: &mut OptimizerState<'_>,
+    expr: &Expr,
+) -> Result<(), OutOfMemory>
+    ensures { OnOk result
+        ((state.new.is_dirty ≡ state.old.is_dirty)
+        × ((progress state.new).known
+        ≡ catch_front (catch_name (expr_of expr.now)) ++ (progress state.old).known)) }
 {
     match expr {
         Expr::Variable(parts, _, _) => {
@@ -158,7 +177,11 @@ fn push_entry<'a>(
     is_constant: bool,
     value: &'a Dynamic,
 ) -> Result<(), OutOfMemory>
-    ensures { OnOk result ((state.new.is_dirty ≡ state.old.is_dirty) × ((progress state.new).known ≡ record { name = name.now; value = option_map value_of (cond is_constant (Some value.now) None) } ∷ (progress state.old).known)) }
+    ensures { OnOk result
+        ((state.new.is_dirty ≡ state.old.is_dirty)
+        × ((progress state.new).known
+        ≡ record { name = name.now; value = option_map value_of (cond is_constant (Some value.now) None) }
+        ∷ (progress state.old).known)) }
 {
     let name = ImmutableString::new(alloc, name)?;
     state.push_var(name, lent(is_constant, value))
@@ -169,7 +192,9 @@ fn push_entries<'a>(
     state: &mut OptimizerState<'a>,
     scope: &'a Scope,
 ) -> Result<(), OutOfMemory>
-    ensures { OnOk result ((state.new.is_dirty ≡ state.old.is_dirty) × ((progress state.new).known ≡ known_onto scope.now (progress state.old).known)) }
+    ensures { OnOk result
+        ((state.new.is_dirty ≡ state.old.is_dirty)
+        × ((progress state.new).known ≡ known_onto scope.now (progress state.old).known)) }
 {
     for (name, is_constant, value) in scope.iter() {
         push_entry(alloc, state, name, is_constant, value)?;
@@ -183,7 +208,9 @@ fn push_scope<'a>(
     state: &mut OptimizerState<'a>,
     scope: Option<&'a Scope>,
 ) -> Result<(), OutOfMemory>
-    ensures { OnOk result ((state.new.is_dirty ≡ state.old.is_dirty) × ((progress state.new).known ≡ given_onto (option_map deref scope.entry) (progress state.old).known)) }
+    ensures { OnOk result
+        ((state.new.is_dirty ≡ state.old.is_dirty)
+        × ((progress state.new).known ≡ given_onto (option_map deref scope.entry) (progress state.old).known)) }
 {
     match scope {
         Some(scope) => push_entries(alloc, state, scope),
@@ -196,7 +223,10 @@ fn push_constants<'a>(
     state: &mut OptimizerState<'a>,
     info: &'a EngineInfo,
 ) -> Result<(), OutOfMemory>
-    ensures { OnOk result ((state.new.is_dirty ≡ state.old.is_dirty) × ((progress state.new).known ≡ constants_onto (engine_of info.now).constants (progress state.old).known)) }
+    ensures { OnOk result
+        ((state.new.is_dirty ≡ state.old.is_dirty)
+        × ((progress state.new).known
+        ≡ constants_onto (engine_of info.now).constants (progress state.old).known)) }
 {
     for (name, value) in info.constants() {
         state.push_var(name.clone()?, lent(true, value))?;
@@ -205,26 +235,35 @@ fn push_constants<'a>(
 }
 
 /// Notes what is known at top level: the record's constants, and the scope's names, which hide them.
-pub fn push_at_top<'a>(
+pub(crate) fn push_at_top<'a>(
     alloc: Global,
     state: &mut OptimizerState<'a>,
     info: &'a EngineInfo,
     scope: Option<&'a Scope>,
 ) -> Result<(), OutOfMemory>
-    ensures { OnOk result ((state.new.is_dirty ≡ state.old.is_dirty) × ((progress state.new).known ≡ given_onto (option_map deref scope.entry) (constants_onto (engine_of info.now).constants (progress state.old).known))) }
+    ensures { OnOk result
+        ((state.new.is_dirty ≡ state.old.is_dirty)
+        × ((progress state.new).known
+        ≡ given_onto (option_map deref scope.entry)
+        (constants_onto (engine_of info.now).constants (progress state.old).known))) }
 {
     push_constants(state, info)?;
     push_scope(alloc, state, scope)
 }
 
-/// Notes what is known in bodies, which start without the scope: its names, and the record's constants, which hide them.
-pub fn push_in_bodies<'a>(
+/// Notes what is known in bodies, which start without the scope: its names, and the record's constants, which hide
+/// them.
+pub(crate) fn push_in_bodies<'a>(
     alloc: Global,
     state: &mut OptimizerState<'a>,
     info: &'a EngineInfo,
     scope: Option<&'a Scope>,
 ) -> Result<(), OutOfMemory>
-    ensures { OnOk result ((state.new.is_dirty ≡ state.old.is_dirty) × ((progress state.new).known ≡ constants_onto (engine_of info.now).constants (given_onto (option_map deref scope.entry) (progress state.old).known))) }
+    ensures { OnOk result
+        ((state.new.is_dirty ≡ state.old.is_dirty)
+        × ((progress state.new).known
+        ≡ constants_onto (engine_of info.now).constants
+        (given_onto (option_map deref scope.entry) (progress state.old).known))) }
 {
     push_scope(alloc, state, scope)?;
     push_constants(state, info)

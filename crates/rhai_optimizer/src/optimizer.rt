@@ -27,16 +27,20 @@ use rhai_script::{AST, AstParts, FnLib};
 use std::alloc::Global;
 use std::rc::Rc;
 
-/// The statements of a script, optimised in their place, and the number of passes that were made over them. It knows the record's
-/// constants, those of the scope, which hide them, and that the scope's variables are none. Where there is nothing to reduce, it takes
-/// memory for these names alone.
+/// The statements of a script, optimised in their place, and the number of passes that were made over them. It knows
+/// the record's constants, those of the scope, which hide them, and that the scope's variables are none. Where there
+/// is nothing to reduce, it takes memory for these names alone.
 fn optimize_statements<'a>(
     alloc: Global,
     info: &'a EngineInfo,
     scope: Option<&'a Scope>,
     mut statements: StmtBlock,
 ) -> Result<(StmtBlock, u64), OutOfMemory>
-    ensures counts { IfOk result (λ r. Counts (knowing (engine_of info.now) (known_at_top (engine_of info.now) (start_of (option_map deref scope.entry)))) r.1 (stmts_of statements.block) (stmts_of r.0.block)) }
+    ensures counts { IfOk result (λ r.
+        Counts
+        (knowing (engine_of info.now)
+        (known_at_top (engine_of info.now) (start_of (option_map deref scope.entry))))
+        r.1 (stmts_of statements.block) (stmts_of r.0.block)) }
     ensures reduced { IfOk result (λ r. IsReducedBody (engine_of info.now) (stmts_of r.0.block)) }
     ensures span { IfOk result (λ r. r.0.span ≡ statements.span) }
 {
@@ -66,7 +70,9 @@ fn optimize_parts<'a>(
     functions: Vec<Rc<ScriptFuncDef>>,
     level: OptimizationLevel,
 ) -> Result<(StmtBlock, Vec<Rc<ScriptFuncDef>>, u64), OutOfMemory>
-    ensures { IfOk result (λ r. PartsOptimised (engine_of info.now) (start_of (option_map deref scope.entry)) level statements.block functions.items r.0.block r.1.items r.2) }
+    ensures { IfOk result (λ r.
+        PartsOptimised (engine_of info.now) (start_of (option_map deref scope.entry)) level statements.block
+        functions.items r.0.block r.1.items r.2) }
 {
     if optimises_nothing(level) {
         return Ok((statements, functions, 0));
@@ -77,8 +83,9 @@ fn optimize_parts<'a>(
     Ok((statements, functions, passes))
 }
 
-/// The same as `optimize_into_ast`, with the number of passes that were made over the statements: the last one changed nothing, each one
-/// before it made them lighter. It is 0 for no statements and at level `None`, and stays at the greatest that fits.
+/// The same as `optimize_into_ast`, with the number of passes that were made over the statements: the last one changed
+/// nothing, each one before it made them lighter. It is 0 for no statements and at level `None`, and stays at the
+/// greatest that fits.
 pub fn optimize_counted(
     alloc: Global,
     info: &EngineInfo,
@@ -87,8 +94,12 @@ pub fn optimize_counted(
     functions: Vec<Rc<ScriptFuncDef>>,
     level: OptimizationLevel,
 ) -> Result<(AST, u64), OutOfMemory>
-    ensures promise { IfOk result (λ r. Optimised (engine_of info.now) (start_of (option_map deref scope.entry)) level (given statements.items functions.items) (contents r.0)) }
-    ensures passes { IfOk result (λ r. PassesCounted (engine_of info.now) (start_of (option_map deref scope.entry)) level (stmts_of statements.items) (stmts_of (contents r.0).statements) r.1) }
+    ensures promise { IfOk result (λ r.
+        Optimised (engine_of info.now) (start_of (option_map deref scope.entry)) level
+        (given statements.items functions.items) (contents r.0)) }
+    ensures passes { IfOk result (λ r.
+        PassesCounted (engine_of info.now) (start_of (option_map deref scope.entry)) level (stmts_of statements.items)
+        (stmts_of (contents r.0).statements) r.1) }
 {
     let block = StmtBlock::new(statements, Position::NONE, Position::NONE);
     let (block, functions, passes) = optimize_parts(alloc, info, scope, block, functions, level)?;
@@ -96,11 +107,11 @@ pub fn optimize_counted(
     Ok((AST::new(statements_of(block), lib), passes))
 }
 
-/// The script of these statements and functions, optimised at a level: it does what they do, entered at its statements or at any of its
-/// functions, where a run starts with a scope that agrees with the one given and with the record, as that one does. Statements and bodies
-/// are optimised; at level `None` they come out as they went in. Functions keep all else. The script has no source and no doc, and its
-/// table no id. Where a key comes twice among the functions the later one takes the earlier one's place. Refused for want of memory
-/// alone; then no script is handed out.
+/// The script of these statements and functions, optimised at a level: it does what they do, entered at its statements
+/// or at any of its functions, where a run starts with a scope that agrees with the one given and with the record, as
+/// that one does. Statements and bodies are optimised; at level `None` they come out as they went in. Functions keep
+/// all else. The script has no source and no doc, and its table no id. Where a key comes twice among the functions the
+/// later one takes the earlier one's place. Refused for want of memory alone; then no script is handed out.
 ///
 /// A method of `Engine` in rhai. There an overridden `!` is folded too, and the level `Full` asks the host.
 pub fn optimize_into_ast(
@@ -111,14 +122,17 @@ pub fn optimize_into_ast(
     functions: Vec<Rc<ScriptFuncDef>>,
     level: OptimizationLevel,
 ) -> Result<AST, OutOfMemory>
-    ensures { IfOk result (λ ast. Optimised (engine_of info.now) (start_of (option_map deref scope.entry)) level (given statements.items functions.items) (contents ast)) }
+    ensures { IfOk result (λ ast.
+        Optimised (engine_of info.now) (start_of (option_map deref scope.entry)) level
+        (given statements.items functions.items) (contents ast)) }
 {
     let (ast, _) = optimize_counted(alloc, info, scope, statements, functions, level)?;
     Ok(ast)
 }
 
-/// The script optimised at a level, as `optimize_into_ast` does it. It keeps its source, its doc and the id of its table. A function that
-/// no other script shares is optimised in its place. Refused for want of memory alone; then no script is handed out.
+/// The script optimised at a level, as `optimize_into_ast` does it. It keeps its source, its doc and the id of its
+/// table. A function that no other script shares is optimised in its place. Refused for want of memory alone; then no
+/// script is handed out.
 ///
 /// A method of `Engine` in rhai.
 pub fn optimize_ast(
@@ -128,7 +142,9 @@ pub fn optimize_ast(
     ast: AST,
     level: OptimizationLevel,
 ) -> Result<AST, OutOfMemory>
-    ensures { IfOk result (λ made. Optimised (engine_of info.now) (start_of (option_map deref scope.entry)) level (contents ast) (contents made)) }
+    ensures { IfOk result (λ made.
+        Optimised (engine_of info.now) (start_of (option_map deref scope.entry)) level (contents ast)
+        (contents made)) }
 {
     let AstParts {
         source,

@@ -21,7 +21,9 @@ impl<'a> Optimizer<'a> {
         state: &mut OptimizerState<'_>,
         statements: &mut Seq<Stmt>,
     ) -> Result<bool, OutOfMemory>
-        ensures { IfOk result (λ set. PassRun (record_of self.now) set (progress state.old) (progress state.new) (stmts_of statements.old) (stmts_of statements.new)) }
+        ensures { IfOk result (λ set.
+            PassRun (record_of self.now) set (progress state.old) (progress state.new) (stmts_of statements.old)
+            (stmts_of statements.new)) }
     {
         state.clear_dirty();
         self.stmt_block(state, statements, ListMark::Whole)?;
@@ -34,7 +36,9 @@ impl<'a> Optimizer<'a> {
         state: &mut OptimizerState<'_>,
         statements: &mut Seq<Stmt>,
     ) -> Result<u64, OutOfMemory>
-        ensures { IfOk result (λ number. PassesRun (record_of self.now) number (progress state.old) (progress state.new) (stmts_of statements.old) (stmts_of statements.new)) }
+        ensures { IfOk result (λ number.
+            PassesRun (record_of self.now) number (progress state.old) (progress state.new) (stmts_of statements.old)
+            (stmts_of statements.new)) }
     {
         let mut number: u64 = 0;
         if statements.is_empty() {

@@ -1,4 +1,5 @@
-//! What a step answers at a constant, by value. What answers nothing takes no memory; of an array, a text or a map one part is copied alone.
+//! What a step answers at a constant, by value. What answers nothing takes no memory; of an array, a text or a map one
+//! part is copied alone.
 
 #![tactic(auto, using(rhai_reading::specs::Reading::shapes, rhai_values::specs::Reading::kinds, crate::proofs::Others::kinds_of_values))]
 
@@ -15,7 +16,9 @@ ghost use Rattle.rhai_engine.specs.EngineInfo.{engine_of};
 ghost use Rattle.rhai_rewriting.specs.Answering as answering;
 ghost use Rattle.rhai_rewriting.specs.Indexing as indexing;
 ghost use Rattle.rhai_part_rules.specs.Answers as answers;
+ghost use Rattle.rhai_part_rules.specs.Asking.{is_dot};
 
+use crate::asking::{Access, Reach};
 use bitflags::Flags;
 use rhai_ast::{Expr, FnCallExpr, Literals};
 use rhai_base::{ASTFlags, Dynamic, INT, ImmutableString, OutOfMemory};
@@ -44,6 +47,30 @@ pub(crate) fn property_of_constant(
     match value {
         Dynamic::Map(members) => Ok(Some(entry(members, name).to_value()?)),
         _ => Ok(None),
+    }
+}
+
+/// So it is where the chain goes on from that entry.
+fn property_of_constant_first(
+    value: &Dynamic,
+    name: &ImmutableString,
+) -> Result<Option<Dynamic>, OutOfMemory>
+    ensures { IfOk result (λ v. option_map value_of v ≡ answering.property_of (Some (value_of value.now)) name.now) }
+{
+    property_of_constant(value, name)
+}
+
+#[inline]
+fn property_answer(
+    reach: Reach,
+    value: &Dynamic,
+    name: &ImmutableString,
+) -> Result<Option<Dynamic>, OutOfMemory>
+    ensures { IfOk result (λ v. option_map value_of v ≡ answering.property_of (Some (value_of value.now)) name.now) }
+{
+    match reach {
+        Reach::Whole => property_of_constant(value, name),
+        Reach::First => property_of_constant_first(value, name),
     }
 }
 
@@ -85,12 +112,55 @@ fn index_of_constant(value: &Dynamic, index: &Dynamic) -> Result<Option<Dynamic>
     }
 }
 
+/// So it is where the chain goes on from that part.
+fn index_of_constant_first(value: &Dynamic, index: &Dynamic) -> Result<Option<Dynamic>, OutOfMemory>
+    ensures { IfOk result (λ v. option_map value_of v ≡ indexing.indexed (value_of value.now) (value_of index.now)) }
+{
+    index_of_constant(value, index)
+}
+
+#[inline]
+fn part_at(reach: Reach, value: &Dynamic, index: &Dynamic) -> Result<Option<Dynamic>, OutOfMemory>
+    ensures { IfOk result (λ v. option_map value_of v ≡ indexing.indexed (value_of value.now) (value_of index.now)) }
+{
+    match reach {
+        Reach::Whole => index_of_constant(value, index),
+        Reach::First => index_of_constant_first(value, index),
+    }
+}
+
 /// The method `type_of` of a constant is the name of its type, as the record has it.
 fn type_of_method(alloc: Global, info: &EngineInfo, value: &Dynamic) -> Result<Dynamic, OutOfMemory>
     ensures { IfOk result (λ v. value_of v ≡ TextV (mapped_type_name (engine_of info.now) (value_of value.now))) }
 {
     let name = info.map_type_name(value.type_name());
     Ok(Dynamic::Str(ImmutableString::new(alloc, name)?))
+}
+
+/// So it is where the chain goes on from that name.
+fn type_of_method_first(
+    alloc: Global,
+    info: &EngineInfo,
+    value: &Dynamic,
+) -> Result<Dynamic, OutOfMemory>
+    ensures { IfOk result (λ v. value_of v ≡ TextV (mapped_type_name (engine_of info.now) (value_of value.now))) }
+{
+    type_of_method(alloc, info, value)
+}
+
+#[inline]
+fn type_answer(
+    alloc: Global,
+    info: &EngineInfo,
+    reach: Reach,
+    value: &Dynamic,
+) -> Result<Dynamic, OutOfMemory>
+    ensures { IfOk result (λ v. value_of v ≡ TextV (mapped_type_name (engine_of info.now) (value_of value.now))) }
+{
+    match reach {
+        Reach::Whole => type_of_method(alloc, info, value),
+        Reach::First => type_of_method_first(alloc, info, value),
+    }
 }
 
 /// The method `is_shared` of a constant is false.
@@ -100,19 +170,38 @@ fn is_shared_method() -> Dynamic
     Dynamic::Bool(false)
 }
 
+/// So it is where the chain goes on from that.
+fn is_shared_method_first() -> Dynamic
+    ensures { value_of result ≡ BoolV false }
+{
+    is_shared_method()
+}
+
+#[inline]
+fn shared_answer(reach: Reach) -> Dynamic
+    ensures { value_of result ≡ BoolV false }
+{
+    match reach {
+        Reach::Whole => is_shared_method(),
+        Reach::First => is_shared_method_first(),
+    }
+}
+
 /// What a method of the language's own answers at a value.
 fn word_answer(
     alloc: Global,
     info: &EngineInfo,
+    reach: Reach,
     value: &Dynamic,
     name: &str,
 ) -> Result<Option<Dynamic>, OutOfMemory>
-    ensures { IfOk result (λ v. option_map value_of v ≡ answers.word_answer (engine_of info.now) (value_of value.now) name.now) }
+    ensures { IfOk result (λ v.
+        option_map value_of v ≡ answers.word_answer (engine_of info.now) (value_of value.now) name.now) }
 {
     if name == "type_of" {
-        Ok(Some(type_of_method(alloc, info, value)?))
+        Ok(Some(type_answer(alloc, info, reach, value)?))
     } else if name == "is_shared" {
-        Ok(Some(is_shared_method()))
+        Ok(Some(shared_answer(reach)))
     } else {
         Ok(None)
     }
@@ -144,14 +233,18 @@ fn is_bare(call: &FnCallExpr) -> bool
 fn method_answer(
     alloc: Global,
     info: &EngineInfo,
+    reach: Reach,
     flags: ASTFlags,
     value: &Dynamic,
     call: &FnCallExpr,
 ) -> Result<Option<Dynamic>, OutOfMemory>
-    ensures { IfOk result (λ v. option_map value_of v ≡ answers.method_answer (engine_of info.now) (is_negated flags) (value_of value.now) (callee_of call.now) (exprs_of call.now.args)) }
+    ensures { IfOk result (λ v.
+        option_map value_of v
+        ≡ answers.method_answer (engine_of info.now) (is_negated flags) (value_of value.now) (callee_of call.now)
+        (exprs_of call.now.args)) }
 {
     if is_bare(call) && !(flags.contains(ASTFlags::NEGATED) && value.is_unit()) {
-        word_answer(alloc, info, value, call.name.as_str())
+        word_answer(alloc, info, reach, value, call.name.as_str())
     } else {
         Ok(None)
     }
@@ -160,28 +253,35 @@ fn method_answer(
 fn member_answer(
     alloc: Global,
     info: &EngineInfo,
+    reach: Reach,
     flags: ASTFlags,
     value: &Dynamic,
     member: &Expr,
 ) -> Result<Option<Dynamic>, OutOfMemory>
-    ensures { IfOk result (λ v. option_map value_of v ≡ answers.member_answer (engine_of info.now) (is_negated flags) (value_of value.now) (expr_of member.now)) }
+    ensures { IfOk result (λ v.
+        option_map value_of v
+        ≡ answers.member_answer (engine_of info.now) (is_negated flags) (value_of value.now)
+        (expr_of member.now)) }
 {
     match member {
-        Expr::Property(names, _) => property_of_constant(value, &names.get().2),
-        Expr::MethodCall(call, _) => method_answer(alloc, info, flags, value, call.get()),
+        Expr::Property(names, _) => property_answer(reach, value, &names.get().2),
+        Expr::MethodCall(call, _) => method_answer(alloc, info, reach, flags, value, call.get()),
         _ => Ok(None),
     }
 }
 
 fn index_answer(
     alloc: Global,
+    reach: Reach,
     value: &Dynamic,
     index: &Expr,
 ) -> Result<Option<Dynamic>, OutOfMemory>
-    ensures { IfOk result (λ v. option_map value_of v ≡ answering.index_of (Some (value_of value.now)) (constants.constant_value (expr_of index.now))) }
+    ensures { IfOk result (λ v.
+        option_map value_of v
+        ≡ answering.index_of (Some (value_of value.now)) (constants.constant_value (expr_of index.now))) }
 {
     match index.constant_value(alloc)? {
-        Some(index) => index_of_constant(value, &index),
+        Some(index) => part_at(reach, value, &index),
         None => Ok(None),
     }
 }
@@ -189,17 +289,20 @@ fn index_answer(
 fn answer_at(
     alloc: Global,
     info: &EngineInfo,
-    is_dot: bool,
+    access: Access,
+    reach: Reach,
     flags: ASTFlags,
     value: &Dynamic,
     argument: &Expr,
 ) -> Result<Option<Dynamic>, OutOfMemory>
-    ensures { IfOk result (λ v. option_map value_of v ≡ answers.answer_at (engine_of info.now) is_dot (is_negated flags) (value_of value.now) (expr_of argument.now)) }
+    ensures { IfOk result (λ v.
+        option_map value_of v
+        ≡ answers.answer_at (engine_of info.now) (is_dot access) (is_negated flags) (value_of value.now)
+        (expr_of argument.now)) }
 {
-    if is_dot {
-        member_answer(alloc, info, flags, value, argument)
-    } else {
-        index_answer(alloc, value, argument)
+    match access {
+        Access::Dot => member_answer(alloc, info, reach, flags, value, argument),
+        Access::Index => index_answer(alloc, reach, value, argument),
     }
 }
 
@@ -207,15 +310,19 @@ fn answer_at(
 pub fn constant_answer(
     alloc: Global,
     info: &EngineInfo,
-    is_dot: bool,
+    access: Access,
+    reach: Reach,
     flags: ASTFlags,
     base: &Expr,
     argument: &Expr,
 ) -> Result<Option<Dynamic>, OutOfMemory>
-    ensures { IfOk result (λ v. option_map value_of v ≡ answers.constant_answer (engine_of info.now) is_dot (is_negated flags) (expr_of base.now) (expr_of argument.now)) }
+    ensures { IfOk result (λ v.
+        option_map value_of v
+        ≡ answers.constant_answer (engine_of info.now) (is_dot access) (is_negated flags) (expr_of base.now)
+        (expr_of argument.now)) }
 {
     match whole_value(alloc, base)? {
-        Some(value) => answer_at(alloc, info, is_dot, flags, &value, argument),
+        Some(value) => answer_at(alloc, info, access, reach, flags, &value, argument),
         None => Ok(None),
     }
 }

@@ -2,7 +2,7 @@
 
 #![tactic(auto, using(rhai_reading::specs::Reading::shapes, rhai_values::specs::Reading::kinds, crate::proofs::Others::kinds_of_values))]
 
-ghost use Rattle.std.specs.Prelude.{◌≡◌, IfOk, Some};
+ghost use Rattle.std.specs.Prelude.{◌≡◌, IfOk, Some, true};
 ghost use Rattle.std.specs.Option.{option_copied, option_map};
 ghost use Rattle.rhai_values.specs.Reading.{value_of};
 ghost use Rattle.rhai_reading.specs.Reading.{expr_of};
@@ -11,8 +11,10 @@ ghost use Rattle.rhai_known.specs.State.{progress};
 ghost use Rattle.rhai_rewriting.specs.Answering as answering;
 ghost use Rattle.rhai_rewriting.specs.Clear as clear;
 ghost use Rattle.rhai_part_rules.specs.Answers as answers;
+ghost use Rattle.rhai_part_rules.specs.Asking.{is_dot};
 
 use crate::answers::property_of_constant;
+use crate::asking::Access;
 use rhai_ast::{Expr, Literals};
 use rhai_base::{Dynamic, ImmutableString, OutOfMemory};
 use rhai_steps::OptimizerState;
@@ -20,7 +22,8 @@ use std::alloc::Global;
 
 /// The value of a name that is known as a constant, lent.
 fn known_value<'s>(state: &'s OptimizerState<'_>, expr: &Expr) -> Option<&'s Dynamic>
-    ensures { option_map value_of (option_copied result) ≡ clear.known_value (progress state.now).known (expr_of expr.now) }
+    ensures { option_map value_of (option_copied result)
+        ≡ clear.known_value (progress state.now).known (expr_of expr.now) }
 {
     match expr {
         Expr::Variable(parts, _, _) => {
@@ -40,7 +43,9 @@ fn known_property(
     base: &Expr,
     name: &ImmutableString,
 ) -> Result<Option<Dynamic>, OutOfMemory>
-    ensures { IfOk result (λ v. option_map value_of v ≡ answering.property_of (clear.known_value (progress state.now).known (expr_of base.now)) name.now) }
+    ensures { IfOk result (λ v.
+        option_map value_of v
+        ≡ answering.property_of (clear.known_value (progress state.now).known (expr_of base.now)) name.now) }
 {
     match known_value(state, base) {
         Some(value) => property_of_constant(value, name),
@@ -49,7 +54,8 @@ fn known_property(
 }
 
 fn entry_at(value: &Dynamic, index: &Dynamic) -> Result<Option<Dynamic>, OutOfMemory>
-    ensures { IfOk result (λ v. option_map value_of v ≡ answers.entry_of (Some (value_of value.now)) (Some (value_of index.now))) }
+    ensures { IfOk result (λ v.
+        option_map value_of v ≡ answers.entry_of (Some (value_of value.now)) (Some (value_of index.now))) }
 {
     match index {
         Dynamic::Str(key) => property_of_constant(value, key),
@@ -58,7 +64,9 @@ fn entry_at(value: &Dynamic, index: &Dynamic) -> Result<Option<Dynamic>, OutOfMe
 }
 
 fn entry_of(alloc: Global, value: &Dynamic, index: &Expr) -> Result<Option<Dynamic>, OutOfMemory>
-    ensures { IfOk result (λ v. option_map value_of v ≡ answers.entry_of (Some (value_of value.now)) (constants.constant_value (expr_of index.now))) }
+    ensures { IfOk result (λ v.
+        option_map value_of v
+        ≡ answers.entry_of (Some (value_of value.now)) (constants.constant_value (expr_of index.now))) }
 {
     match index.constant_value(alloc)? {
         Some(index) => entry_at(value, &index),
@@ -73,7 +81,10 @@ fn known_entry(
     base: &Expr,
     index: &Expr,
 ) -> Result<Option<Dynamic>, OutOfMemory>
-    ensures { IfOk result (λ v. option_map value_of v ≡ answers.entry_of (clear.known_value (progress state.now).known (expr_of base.now)) (constants.constant_value (expr_of index.now))) }
+    ensures { IfOk result (λ v.
+        option_map value_of v
+        ≡ answers.entry_of (clear.known_value (progress state.now).known (expr_of base.now))
+        (constants.constant_value (expr_of index.now))) }
 {
     match known_value(state, base) {
         Some(value) => entry_of(alloc, value, index),
@@ -81,21 +92,35 @@ fn known_entry(
     }
 }
 
+fn known_member(
+    state: &OptimizerState<'_>,
+    base: &Expr,
+    right: &Expr,
+) -> Result<Option<Dynamic>, OutOfMemory>
+    ensures { IfOk result (λ v.
+        option_map value_of v
+        ≡ answers.known_answer (progress state.now).known true (expr_of base.now) (expr_of right.now)) }
+{
+    match right {
+        Expr::Property(names, _) => known_property(state, base, &names.get().2),
+        _ => Ok(None),
+    }
+}
+
 /// What a chain of one step answers at a known name.
 pub fn known_answer(
     alloc: Global,
     state: &OptimizerState<'_>,
-    is_dot: bool,
+    access: Access,
     base: &Expr,
     right: &Expr,
 ) -> Result<Option<Dynamic>, OutOfMemory>
-    ensures { IfOk result (λ v. option_map value_of v ≡ answers.known_answer (progress state.now).known is_dot (expr_of base.now) (expr_of right.now)) }
+    ensures { IfOk result (λ v.
+        option_map value_of v
+        ≡ answers.known_answer (progress state.now).known (is_dot access) (expr_of base.now) (expr_of right.now)) }
 {
-    if !is_dot {
-        return known_entry(alloc, state, base, right);
-    }
-    match right {
-        Expr::Property(names, _) => known_property(state, base, &names.get().2),
-        _ => Ok(None),
+    match access {
+        Access::Dot => known_member(state, base, right),
+        Access::Index => known_entry(alloc, state, base, right),
     }
 }

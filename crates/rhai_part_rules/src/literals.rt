@@ -1,5 +1,5 @@
-//! Parts of the literals of arrays and maps: which one a step answers, by reference, and then that one out of its place. The others stay
-//! where they are.
+//! Parts of the literals of arrays and maps: which one a step answers, by reference, and then that one out of its
+//! place. The others stay where they are.
 
 #![tactic(auto, using(rhai_reading::specs::Reading::shapes, rhai_values::specs::Reading::kinds, crate::proofs::Others::kinds_of_values))]
 
@@ -11,8 +11,10 @@ ghost use Rattle.rhai_meaning.specs.Constants as constants;
 ghost use Rattle.rhai_meaning.specs.Elements as elements;
 ghost use Rattle.rhai_meaning.specs.Queries as queries;
 ghost use Rattle.rhai_rewriting.specs.Indexing as indexing;
+ghost use Rattle.rhai_part_rules.specs.Asking.{is_dot};
 ghost use Rattle.rhai_part_rules.specs.Literals as literals;
 
+use crate::asking::{Access, Reach};
 use rhai_ast::{Expr, ExprQueries, Literals, Take};
 use rhai_base::{Dynamic, INT, Ident, OutOfMemory, Position, Seq};
 use rhai_nodes::place_expr;
@@ -60,7 +62,8 @@ fn integer_of(expr: &Expr) -> Option<INT>
 }
 
 fn element_at(items: &[Expr], index: INT) -> Option<Found>
-    ensures { option_map (literals.found_item (exprs_of items.now)) result ≡ literals.element_for (exprs_of items.now) (Some index) }
+    ensures { option_map (literals.found_item (exprs_of items.now)) result
+        ≡ literals.element_for (exprs_of items.now) (Some index) }
 {
     match place_in(items.len(), index) {
         Some(place) => Some(Found::At(place)),
@@ -70,7 +73,9 @@ fn element_at(items: &[Expr], index: INT) -> Option<Found>
 
 /// A constant index of an array literal, in range, is the element there.
 fn element_of_array(items: &[Expr], index: &Expr) -> Option<Found>
-    ensures { option_map (literals.found_item (exprs_of items.now)) result ≡ literals.element_for (exprs_of items.now) (literals.integer_of (constants.constant_value (expr_of index.now))) }
+    ensures { option_map (literals.found_item (exprs_of items.now)) result
+        ≡ literals.element_for (exprs_of items.now)
+        (literals.integer_of (constants.constant_value (expr_of index.now))) }
 {
     match integer_of(index) {
         Some(index) => element_at(items, index),
@@ -78,9 +83,19 @@ fn element_of_array(items: &[Expr], index: &Expr) -> Option<Found>
     }
 }
 
+/// So it is where the chain goes on from that element.
+fn element_of_array_first(items: &[Expr], index: &Expr) -> Option<Found>
+    ensures { option_map (literals.found_item (exprs_of items.now)) result
+        ≡ literals.element_for (exprs_of items.now)
+        (literals.integer_of (constants.constant_value (expr_of index.now))) }
+{
+    element_of_array(items, index)
+}
+
 /// The last member of a key.
 fn member_for(members: &[(Ident, Expr)], key: &str) -> Found
-    ensures { literals.found_member (pairs_of members.now) result ≡ indexing.or_unit (indexing.pair_for (pairs_of members.now) key.now) }
+    ensures { literals.found_member (pairs_of members.now) result
+        ≡ indexing.or_unit (indexing.pair_for (pairs_of members.now) key.now) }
 {
     let mut left = members;
     while let Some((member, earlier)) = left.split_last() {
@@ -94,7 +109,8 @@ fn member_for(members: &[(Ident, Expr)], key: &str) -> Found
 
 /// A property of a map literal is the last member of its name, and unit where there is none.
 fn property_of_map(members: &[(Ident, Expr)], member: &Expr) -> Option<Found>
-    ensures { option_map (literals.found_member (pairs_of members.now)) result ≡ literals.property_for (pairs_of members.now) (expr_of member.now) }
+    ensures { option_map (literals.found_member (pairs_of members.now)) result
+        ≡ literals.property_for (pairs_of members.now) (expr_of member.now) }
 {
     match member {
         Expr::Property(names, _) => Some(member_for(members, names.get().2.as_str())),
@@ -102,8 +118,17 @@ fn property_of_map(members: &[(Ident, Expr)], member: &Expr) -> Option<Found>
     }
 }
 
+/// So it is where the chain goes on from that member.
+fn property_of_map_first(members: &[(Ident, Expr)], member: &Expr) -> Option<Found>
+    ensures { option_map (literals.found_member (pairs_of members.now)) result
+        ≡ literals.property_for (pairs_of members.now) (expr_of member.now) }
+{
+    property_of_map(members, member)
+}
+
 fn entry_at(members: &[(Ident, Expr)], index: &Dynamic) -> Option<Found>
-    ensures { option_map (literals.found_member (pairs_of members.now)) result ≡ literals.entry_for (pairs_of members.now) (Some (value_of index.now)) }
+    ensures { option_map (literals.found_member (pairs_of members.now)) result
+        ≡ literals.entry_for (pairs_of members.now) (Some (value_of index.now)) }
 {
     match index {
         Dynamic::Str(key) => Some(member_for(members, key.as_str())),
@@ -117,7 +142,9 @@ fn entry_of_map(
     members: &[(Ident, Expr)],
     index: &Expr,
 ) -> Result<Option<Found>, OutOfMemory>
-    ensures { IfOk result (λ found. option_map (literals.found_member (pairs_of members.now)) found ≡ literals.entry_for (pairs_of members.now) (constants.constant_value (expr_of index.now))) }
+    ensures { IfOk result (λ found.
+        option_map (literals.found_member (pairs_of members.now)) found
+        ≡ literals.entry_for (pairs_of members.now) (constants.constant_value (expr_of index.now))) }
 {
     match index.constant_value(alloc)? {
         Some(index) => Ok(entry_at(members, &index)),
@@ -125,43 +152,101 @@ fn entry_of_map(
     }
 }
 
-fn array_part(is_dot: bool, items: &[Expr], argument: &Expr) -> Option<Found>
-    ensures { option_map (literals.found_item (exprs_of items.now)) result ≡ literals.array_part is_dot (exprs_of items.now) (expr_of argument.now) }
+/// So it is where the chain goes on from that member.
+fn entry_of_map_first(
+    alloc: Global,
+    members: &[(Ident, Expr)],
+    index: &Expr,
+) -> Result<Option<Found>, OutOfMemory>
+    ensures { IfOk result (λ found.
+        option_map (literals.found_member (pairs_of members.now)) found
+        ≡ literals.entry_for (pairs_of members.now) (constants.constant_value (expr_of index.now))) }
 {
-    if is_dot {
-        None
-    } else {
-        element_of_array(items, argument)
+    entry_of_map(alloc, members, index)
+}
+
+#[inline]
+fn element_part(reach: Reach, items: &[Expr], index: &Expr) -> Option<Found>
+    ensures { option_map (literals.found_item (exprs_of items.now)) result
+        ≡ literals.element_for (exprs_of items.now)
+        (literals.integer_of (constants.constant_value (expr_of index.now))) }
+{
+    match reach {
+        Reach::Whole => element_of_array(items, index),
+        Reach::First => element_of_array_first(items, index),
+    }
+}
+
+#[inline]
+fn property_part(reach: Reach, members: &[(Ident, Expr)], member: &Expr) -> Option<Found>
+    ensures { option_map (literals.found_member (pairs_of members.now)) result
+        ≡ literals.property_for (pairs_of members.now) (expr_of member.now) }
+{
+    match reach {
+        Reach::Whole => property_of_map(members, member),
+        Reach::First => property_of_map_first(members, member),
+    }
+}
+
+#[inline]
+fn entry_part(
+    alloc: Global,
+    reach: Reach,
+    members: &[(Ident, Expr)],
+    index: &Expr,
+) -> Result<Option<Found>, OutOfMemory>
+    ensures { IfOk result (λ found.
+        option_map (literals.found_member (pairs_of members.now)) found
+        ≡ literals.entry_for (pairs_of members.now) (constants.constant_value (expr_of index.now))) }
+{
+    match reach {
+        Reach::Whole => entry_of_map(alloc, members, index),
+        Reach::First => entry_of_map_first(alloc, members, index),
+    }
+}
+
+fn array_part(access: Access, reach: Reach, items: &[Expr], argument: &Expr) -> Option<Found>
+    ensures { option_map (literals.found_item (exprs_of items.now)) result
+        ≡ literals.array_part (is_dot access) (exprs_of items.now) (expr_of argument.now) }
+{
+    match access {
+        Access::Dot => None,
+        Access::Index => element_part(reach, items, argument),
     }
 }
 
 fn map_part(
     alloc: Global,
-    is_dot: bool,
+    access: Access,
+    reach: Reach,
     members: &[(Ident, Expr)],
     argument: &Expr,
 ) -> Result<Option<Found>, OutOfMemory>
-    ensures { IfOk result (λ found. option_map (literals.found_member (pairs_of members.now)) found ≡ literals.map_part is_dot (pairs_of members.now) (expr_of argument.now)) }
+    ensures { IfOk result (λ found.
+        option_map (literals.found_member (pairs_of members.now)) found
+        ≡ literals.map_part (is_dot access) (pairs_of members.now) (expr_of argument.now)) }
 {
-    if is_dot {
-        Ok(property_of_map(members, argument))
-    } else {
-        entry_of_map(alloc, members, argument)
+    match access {
+        Access::Dot => Ok(property_part(reach, members, argument)),
+        Access::Index => entry_part(alloc, reach, members, argument),
     }
 }
 
 /// Which part of a literal a step answers.
 fn literal_part(
     alloc: Global,
-    is_dot: bool,
+    access: Access,
+    reach: Reach,
     base: &Expr,
     argument: &Expr,
 ) -> Result<Option<Found>, OutOfMemory>
-    ensures { IfOk result (λ found. option_map (literals.found_part (expr_of base.now)) found ≡ literals.literal_part is_dot (expr_of base.now) (expr_of argument.now)) }
+    ensures { IfOk result (λ found.
+        option_map (literals.found_part (expr_of base.now)) found
+        ≡ literals.literal_part (is_dot access) (expr_of base.now) (expr_of argument.now)) }
 {
     match base {
-        Expr::Array(items, _) => Ok(array_part(is_dot, items.get().as_slice(), argument)),
-        Expr::Map(map, _) => map_part(alloc, is_dot, map.get().0.as_slice(), argument),
+        Expr::Array(items, _) => Ok(array_part(access, reach, items.get().as_slice(), argument)),
+        Expr::Map(map, _) => map_part(alloc, access, reach, map.get().0.as_slice(), argument),
         _ => Ok(None),
     }
 }
@@ -205,13 +290,16 @@ fn is_unit_part(base: &Expr, found: Found) -> bool
 pub fn literal_answer(
     alloc: Global,
     unit: bool,
-    is_dot: bool,
+    access: Access,
+    reach: Reach,
     base: &Expr,
     argument: &Expr,
 ) -> Result<Option<Found>, OutOfMemory>
-    ensures { IfOk result (λ found. option_map (literals.found_part (expr_of base.now)) found ≡ literals.literal_answer unit is_dot (expr_of base.now) (expr_of argument.now)) }
+    ensures { IfOk result (λ found.
+        option_map (literals.found_part (expr_of base.now)) found
+        ≡ literals.literal_answer unit (is_dot access) (expr_of base.now) (expr_of argument.now)) }
 {
-    match literal_part(alloc, is_dot, base, argument)? {
+    match literal_part(alloc, access, reach, base, argument)? {
         Some(found) if (unit || !is_unit_part(base, found)) && base.is_pure() => Ok(Some(found)),
         _ => Ok(None),
     }

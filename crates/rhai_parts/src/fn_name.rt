@@ -50,7 +50,8 @@ impl Model for FnName {
 impl FnName {
     /// The name, where a function may have it. It takes no memory.
     pub fn new(name: ImmutableString) -> Option<FnName>
-        ensures { MatchOption result (names.is_valid_name name ≡ false) (λ n. (n ≡ name) × (names.is_valid_name name ≡ true)) }
+        ensures { MatchOption result (names.is_valid_name name ≡ false) (λ n.
+            (n ≡ name) × (names.is_valid_name name ≡ true)) }
     {
         if is_valid_name(name.as_str()) {
             Some(FnName { name })

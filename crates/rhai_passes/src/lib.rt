@@ -1,5 +1,5 @@
-//! Rules at a node, several in one pass over its parts, and lists of expressions that lose some of them. What goes is let go here, so that
-//! the crates above, which say what goes, let go of none.
+//! Rules at a node, several in one pass over its parts, and lists of expressions that lose some of them. What goes is
+//! let go here, so that the crates above, which say what goes, let go of none.
 #![tactic(auto)]
 
 ghost use Rattle.std.specs.Prelude.{◌≡◌, ◌≢◌, ◌<◌, ◌≤◌, ◌+◌, ◌++◌, ◌∷◌, [], MatchOption, length, take, drop, slice_index_or};

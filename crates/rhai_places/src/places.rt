@@ -87,7 +87,9 @@ pub fn replace_along(
     keys: &[PlaceKey],
     part: Dynamic,
 ) -> Result<bool, AllocError>
-    ensures ok { IfOk result (λ done. model.with_along (value_of value.old) (map key_meant keys.now) (value_of part) ≡ (if done then Some (value_of value.new) else None)) }
+    ensures ok { IfOk result (λ done.
+        model.with_along (value_of value.old) (map key_meant keys.now) (value_of part)
+        ≡ (if done then Some (value_of value.new) else None)) }
     ensures kept { IfOk result (λ done. done ≡ false → value.new ≡ value.old) }
 {
     let Some((key, others)) = keys.split_first() else {
@@ -113,7 +115,10 @@ fn replace_element(
     others: &[PlaceKey],
     part: Dynamic,
 ) -> Result<bool, AllocError>
-    ensures ok { IfOk result (λ done. model.with_along (ArrayV (values (map value_of items.old))) (model.AtIndex index ∷ map key_meant others.now) (value_of part) ≡ (if done then Some (ArrayV (values (map value_of items.new))) else None)) }
+    ensures ok { IfOk result (λ done.
+        model.with_along (ArrayV (values (map value_of items.old))) (model.AtIndex index ∷ map key_meant others.now)
+        (value_of part)
+        ≡ (if done then Some (ArrayV (values (map value_of items.new))) else None)) }
     ensures kept { IfOk result (λ done. done ≡ false → items.new ≡ items.old) }
 {
     let Some(place) = index_in(items.len(), index) else {
@@ -132,7 +137,10 @@ fn replace_entry(
     others: &[PlaceKey],
     part: Dynamic,
 ) -> Result<bool, AllocError>
-    ensures ok { IfOk result (λ done. model.with_along (MapV (fields (members_of members.old))) (model.AtEntry key.now ∷ map key_meant others.now) (value_of part) ≡ (if done then Some (MapV (fields (members_of members.new))) else None)) }
+    ensures ok { IfOk result (λ done.
+        model.with_along (MapV (fields (members_of members.old))) (model.AtEntry key.now ∷ map key_meant others.now)
+        (value_of part)
+        ≡ (if done then Some (MapV (fields (members_of members.new))) else None)) }
     ensures kept { IfOk result (λ done. done ≡ false → members.new ≡ members.old) }
 {
     match members.get_mut(key) {
@@ -148,7 +156,11 @@ fn add_entry(
     others: &[PlaceKey],
     part: Dynamic,
 ) -> Result<bool, AllocError>
-    ensures ok { IfOk result (λ done. lookup (is_at (slice_cmp nat_cmp key.now)) members.old ≡ None → model.with_along (MapV (fields (members_of members.old))) (model.AtEntry key.now ∷ map key_meant others.now) (value_of part) ≡ (if done then Some (MapV (fields (members_of members.new))) else None)) }
+    ensures ok { IfOk result (λ done.
+        lookup (is_at (slice_cmp nat_cmp key.now)) members.old ≡ None
+        → model.with_along (MapV (fields (members_of members.old)))
+        (model.AtEntry key.now ∷ map key_meant others.now) (value_of part)
+        ≡ (if done then Some (MapV (fields (members_of members.new))) else None)) }
     ensures kept { IfOk result (λ done. done ≡ false → members.new ≡ members.old) }
 {
     if !others.is_empty() {

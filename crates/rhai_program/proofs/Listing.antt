@@ -3,8 +3,8 @@ use Rattle.std.proofs.Common.{◌≡◌, ℕ, ◌+◌, ◌<◌, List, ◌++◌, 
 use Rattle.std.specs.Prelude.{codes}
 use Rattle.std.proofs.lemmas.List.{append_assoc, at_drop_more}
 use Rattle.rhai_values.specs.Value.{Text}
-use Rattle.rhai_notation.specs.BuiltinScripts.{name_of}
-use Rattle.rhai_notation.specs.declared.builtin.BuiltinScript.{BuiltinScript}
+use Rattle.rhai_samples.specs.BuiltinScripts.{name_of}
+use Rattle.rhai_samples.specs.declared.builtin.BuiltinScript.{BuiltinScript}
 use Rattle.rhai_program.specs.Words.{listing}
 
 pub listing_next : (ss : List BuiltinScript) (i : ℕ) (d : BuiltinScript) (before named after name whole : Text) → i < length ss → name ≡ name_of (get_or ss i d)

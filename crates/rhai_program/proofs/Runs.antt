@@ -12,7 +12,7 @@ use Rattle.rhai_engine.specs.EngineInfo.{nothing_set}
 use Rattle.rhai_host.specs.Entries.{start_scope}
 use Rattle.rhai_host.specs.Report.{ReportsRun}
 use Rattle.rhai_host.specs.Print.{report_text}
-use Rattle.rhai_host.specs.ProgramHost.{program_host}
+use Rattle.rhai_samples.specs.ProgramHost.{program_host}
 use Rattle.rhai_rewriting.specs.Refines.{Refines}
 use Rattle.rhai_rewriting.specs.Reports.{Follows}
 use Rattle.rhai_rewriting.proofs.simulation.Agreement.{agrees_nothing}

@@ -21,9 +21,9 @@ use Rattle.rhai_optimizer.specs.Optimised.{given, Optimised}
 use Rattle.rhai_optimizer.specs.Source.{source_of}
 use Rattle.rhai_optimizer.proofs.Whole.{table_meant}
 use Rattle.rhai_known.specs.declared.level.OptimizationLevel.{OptimizationLevel}
-use Rattle.rhai_notation.specs.declared.builtin.BuiltinScript.{BuiltinScript}
+use Rattle.rhai_samples.specs.declared.builtin.BuiltinScript.{BuiltinScript}
 use Rattle.rhai_notation.specs.Notation.{script_text}
-use Rattle.rhai_notation.specs.BuiltinScripts.{script_functions, statements_of}
+use Rattle.rhai_samples.specs.BuiltinScripts.{script_functions, statements_of}
 use Rattle.rhai_program.specs.Words.{built_in, showing, Optimized}
 
 -- both scripts, push by push

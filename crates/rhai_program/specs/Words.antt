@@ -15,13 +15,13 @@ use Rattle.rhai_rewriting.specs.Reducible.{IsIrreducibleScript}
 use Rattle.rhai_rewriting.specs.Refines.{Refines}
 use Rattle.rhai_rewriting.specs.Reports.{Follows}
 use Rattle.rhai_meaning.specs.Faults.{IsWellFormedScript}
-use Rattle.rhai_notation.specs.declared.builtin.BuiltinScript.{BuiltinScript}
+use Rattle.rhai_samples.specs.declared.builtin.BuiltinScript.{BuiltinScript}
 use Rattle.rhai_program.specs.declared.request.Request.{Request}
 use Rattle.rhai_program.specs.declared.request.Request.TheVariants as request
-use Rattle.rhai_host.specs.ProgramHost.{program_host}
+use Rattle.rhai_samples.specs.ProgramHost.{program_host}
 use Rattle.rhai_notation.specs.Notation.{script_text}
 use Rattle.rhai_host.specs.Print.{report_text}
-use Rattle.rhai_notation.specs.BuiltinScripts.{name_of, all_scripts, script_functions, script_named, statements_of}
+use Rattle.rhai_samples.specs.BuiltinScripts.{name_of, all_scripts, script_functions, script_named, statements_of}
 
 abbrev pub level_named : Text → Option OptimizationLevel
 level_named name =

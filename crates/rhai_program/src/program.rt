@@ -2,17 +2,18 @@
 ghost use Rattle.std.specs.Prelude.{◌≡◌, ◌≤◌, ◌⊎◌, ◌++◌, length, map, string_bytes, IsNone, IsSome, IfSome, IfOk, OnOk, MatchOption};
 ghost use Rattle.std.specs.Io.KnownBytes.{Appends, WriteAppends};
 ghost use Rattle.rhai_program.specs.Output.{AppendsAnswer, AppendsAnswerStart, AppendsStart};
-ghost use Rattle.rhai_notation.specs.BuiltinScripts.{all_scripts};
+ghost use Rattle.rhai_samples.specs.BuiltinScripts.{all_scripts};
 ghost use Rattle.rhai_program.specs.Words.{request_of, usage, listing, built_in, reported, Answers, BothReports, Optimized};
 ghost use Rattle.rhai_host.specs.Print.{report_text};
 ghost use Rattle.rhai_script.specs.Script.{script_of};
 
 use crate::request::Request;
 use rhai_base::{OutOfMemory, Scope};
-use rhai_host::{ProgramHost, push_report};
-use rhai_notation::{BuiltinScript, push_script};
+use rhai_host::push_report;
+use rhai_notation::push_script;
 use rhai_optimizer::{OptimizationLevel, optimize_into_ast};
 use rhai_run::{EngineInfo, plain_run};
+use rhai_samples::{BuiltinScript, ProgramHost};
 use rhai_script::{AST, FnLib};
 use std::alloc::Global;
 use std::io;
@@ -30,18 +31,23 @@ pub fn run_words<W: io::Write, E: io::Write>(
     err: &mut E,
 ) -> u8
     // A request is never answered by 2, and other words never by 0.
-    ensures status { MatchOption (request_of (map string_bytes words.now)) ((result ≡ 1) ⊎ (result ≡ 2)) (λ _. (result ≡ 0) ⊎ (result ≡ 1)) }
+    ensures status { MatchOption (request_of (map string_bytes words.now)) ((result ≡ 1) ⊎ (result ≡ 2)) (λ _.
+        (result ≡ 0) ⊎ (result ≡ 1)) }
 
     // Each writes to one side alone.
     ensures request { IsSome (request_of (map string_bytes words.now)) → err.new ≡ err.old }
     ensures other_words { IsNone (request_of (map string_bytes words.now)) → out.new ≡ out.old }
 
-    ensures answer { result ≡ 0 → IfSome (request_of (map string_bytes words.now)) (λ r. AppendsAnswer r (W.contents out.old) (W.contents out.new)) }
+    ensures answer { result ≡ 0
+        → IfSome (request_of (map string_bytes words.now)) (λ r.
+        AppendsAnswer r (W.contents out.old) (W.contents out.new)) }
     ensures usage { result ≡ 2 → Appends (E.contents err.old) (E.contents err.new) usage }
 
     // Whatever the status, no more is written than a beginning of the answer, or of the usage.
-    ensures start_of_answer { IfSome (request_of (map string_bytes words.now)) (λ r. AppendsAnswerStart r (W.contents out.old) (W.contents out.new)) }
-    ensures start_of_usage { IsNone (request_of (map string_bytes words.now)) → AppendsStart (E.contents err.old) (E.contents err.new) usage }
+    ensures start_of_answer { IfSome (request_of (map string_bytes words.now)) (λ r.
+        AppendsAnswerStart r (W.contents out.old) (W.contents out.new)) }
+    ensures start_of_usage { IsNone (request_of (map string_bytes words.now))
+        → AppendsStart (E.contents err.old) (E.contents err.new) usage }
 {
     match Request::parse(words) {
         Some(request) => put_answer(alloc, request, out),
@@ -159,8 +165,8 @@ fn run(
     Ok(text)
 }
 
-/// What runs of a built-in script report before and after the optimiser, both with so many turns: where the first one ended, the second
-/// says the same of its end, its variables and its calls, and has as many turns left at least.
+/// What runs of a built-in script report before and after the optimiser, both with so many turns: where the first one
+/// ended, the second says the same of its end, its variables and its calls, and has as many turns left at least.
 pub fn both_reports(
     alloc: Global,
     script: BuiltinScript,
@@ -179,9 +185,11 @@ pub fn both_reports(
     Ok(text)
 }
 
-/// Appends the report of a run of a script from an empty scope, under a record with nothing set, with the program's host.
+/// Appends the report of a run of a script from an empty scope, under a record with nothing set, with the program's
+/// host.
 fn push_run(alloc: Global, script: &AST, turns: u64, text: &mut String) -> Result<(), OutOfMemory>
-    ensures { OnOk result (string_bytes text.new ≡ string_bytes text.old ++ report_text (reported (script_of script.now) turns)) }
+    ensures { OnOk result
+        (string_bytes text.new ≡ string_bytes text.old ++ report_text (reported (script_of script.now) turns)) }
 {
     let engine = EngineInfo::new(alloc);
     let scope = Scope::new(alloc);

@@ -3,8 +3,8 @@ ghost use Rattle.std.specs.Prelude.{◌≡◌, map, string_bytes};
 ghost use Rattle.std.specs.Str.{all_ascii_digits};
 ghost use Rattle.rhai_program.specs.Words.{level_named, request_of, turns_named};
 
-use rhai_notation::BuiltinScript;
 use rhai_optimizer::OptimizationLevel;
+use rhai_samples::BuiltinScript;
 
 /// A request.
 #[derive(Clone, Copy, Debug, PartialEq, Eq)]

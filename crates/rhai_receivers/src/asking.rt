@@ -29,7 +29,9 @@ pub fn ask_for<H: Host>(
     current: &Current,
     args: Seq<Dynamic>,
 ) -> Result<Found, Interrupt>
-    ensures { let here = setting H.answers H.modules machine.now in let c = spec.current_in here (store_of state.old) current.now in Finds here c (λ next. chains.ask_for name c.value (map value_of args) next) state.old result state.new }
+    ensures { let here = setting H.answers H.modules machine.now in
+        let c = spec.current_in here (store_of state.old) current.now in
+        Finds here c (λ next. chains.ask_for name c.value (map value_of args) next) state.old result state.new }
 {
     let receiver = machine.copied(state, current)?;
     let (value, _) = machine.ask_method(state, name, receiver, args)?;
@@ -44,7 +46,11 @@ pub fn set_by_host<H: Host>(
     args: Seq<Dynamic>,
     current: &Current,
 ) -> Result<(), Interrupt>
-    ensures { let here = setting H.answers H.modules machine.now in Leads here (Acting (chains.set_by_host name (map value_of args) (spec.current_in here (store_of state.old) current.now))) state.old result state.new (λ z. given UnitV) }
+    ensures { let here = setting H.answers H.modules machine.now in
+        Leads here
+        (Acting
+        (chains.set_by_host name (map value_of args) (spec.current_in here (store_of state.old) current.now)))
+        state.old result state.new (λ z. given UnitV) }
 {
     let receiver = machine.copied(state, current)?;
     let (_, receiver) = machine.ask_method(state, name, receiver, args)?;
@@ -58,7 +64,12 @@ pub fn put_back<H: Host>(
     current: &Current,
     receiver: Option<Dynamic>,
 ) -> Result<(), Interrupt>
-    ensures { let here = setting H.answers H.modules machine.now in Leads here (Acting (places.put_back (spec.current_in here (store_of state.old) current.now) (option_map value_of receiver))) state.old result state.new (λ z. given UnitV) }
+    ensures { let here = setting H.answers H.modules machine.now in
+        Leads here
+        (Acting
+        (places.put_back (spec.current_in here (store_of state.old) current.now)
+        (option_map value_of receiver)))
+        state.old result state.new (λ z. given UnitV) }
 {
     let Some(receiver) = receiver else {
         return Ok(());
@@ -72,7 +83,10 @@ pub fn put_back<H: Host>(
 
 /// Whether that value stands at a place.
 fn is_standing<H: Host>(machine: &Machine<H>, state: &State, place: &Place, value: &Dynamic) -> bool
-    ensures { result ≡ same (spec.current_in (setting H.answers H.modules machine.now) (store_of state.now) (kind.At place.now)).value (value_of value.now) }
+    ensures { result
+        ≡ same
+        (spec.current_in (setting H.answers H.modules machine.now) (store_of state.now) (kind.At place.now)).value
+        (value_of value.now) }
 {
     match machine.place_part(state, place) {
         Part::Stored(stored) => stored.is_equal(value),

@@ -1,5 +1,5 @@
-//! The receiver of a chain's step: what the host answers for it, and where its new value goes; what an expression is as a left
-//! side.
+//! The receiver of a chain's step: what the host answers for it, and where its new value goes; what an expression is
+//! as a left side.
 #![tactic(auto)]
 
 mod asking;

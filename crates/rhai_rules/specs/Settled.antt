@@ -1,6 +1,6 @@
 -- Arrays, braces and names at which no rule fires, their parts being reduced.
 use Rattle.std.specs.Prelude.{Bool, true, false, not, List, Option, Some, None, if◌then◌else◌}
-use Rattle.rhai_values.specs.Value.{Value, is_unit}
+use Rattle.rhai_values.specs.Value.{Value, PointerV, no_values, is_unit}
 use Rattle.rhai_meaning.specs.Constants.{array_value, constant_values}
 use Rattle.rhai_meaning.specs.Tree.{Expr, ArrayOf, UnitConstant, Variable, BlockExpr, Stmt, ExprStmt, Stmts, no_stmts, stmt}
 use Rattle.rhai_rewriting.specs.Known.{Known}
@@ -48,3 +48,8 @@ abbrev pub known_there : Place → List Known → Expr → Option Value
 known_there Anywhere ks e = known_value ks e
 known_there AsBase ks e = None
 known_there AsGuard ks e = unless_unit (known_value ks e)
+
+-- a pointer without values of parameters
+abbrev pub is_bare_pointer : Value → Bool
+is_bare_pointer (PointerV f no_values) = true
+is_bare_pointer _ = false

@@ -1,13 +1,14 @@
-//! The rule at a name that is known as a constant.
+//! The rules at a name that is known as a constant.
 
-#![tactic(auto, using(rhai_reading::specs::Reading::shapes))]
+#![tactic(auto, using(rhai_reading::specs::Reading::shapes, rhai_values::specs::Reading::kinds))]
 
-ghost use Rattle.std.specs.Prelude.{◌≡◌, IfOk, true};
+ghost use Rattle.std.specs.Prelude.{◌≡◌, IfOk, OnOk, Some, true, false};
 ghost use Rattle.std.specs.Option.{option_map};
 ghost use Rattle.rhai_values.specs.Reading.{value_of};
 ghost use Rattle.rhai_known.specs.State.{progress};
 ghost use Rattle.rhai_reading.specs.Reading.{expr_of};
 ghost use Rattle.rhai_meaning.specs.Engine.{Engine};
+ghost use Rattle.rhai_rewriting.specs.Steps as promises;
 ghost use Rattle.rhai_steps.specs.NodeSteps.{ExprStep};
 ghost use Rattle.rhai_steps.specs.Places.{place_of};
 ghost use Rattle.rhai_rules.specs.Settled as settled;
@@ -28,7 +29,8 @@ fn copied(value: Option<&Dynamic>) -> Result<Option<Dynamic>, OutOfMemory>
 
 /// The value of a name that is known as a constant.
 fn known_value(state: &OptimizerState<'_>, expr: &Expr) -> Result<Option<Dynamic>, OutOfMemory>
-    ensures { IfOk result (λ v. option_map value_of v ≡ settled.known_value (progress state.now).known (expr_of expr.now)) }
+    ensures { IfOk result (λ v.
+        option_map value_of v ≡ settled.known_value (progress state.now).known (expr_of expr.now)) }
 {
     match expr {
         Expr::Variable(parts, _, _) => {
@@ -57,7 +59,8 @@ fn known_there(
     expr: &Expr,
     place: Place,
 ) -> Result<Option<Dynamic>, OutOfMemory>
-    ensures { IfOk result (λ v. option_map value_of v ≡ settled.known_there (place_of place) (progress state.now).known (expr_of expr.now)) }
+    ensures { IfOk result (λ v.
+        option_map value_of v ≡ settled.known_there (place_of place) (progress state.now).known (expr_of expr.now)) }
 {
     match place {
         Place::Anywhere => known_value(state, expr),
@@ -66,7 +69,78 @@ fn known_there(
     }
 }
 
-/// A name that is known as a constant is its value (`known_name`, and `known_pointer`: of a pointer without values the call that makes it).
+/// Whether a value is a pointer without values of parameters.
+fn is_bare_pointer(value: &Dynamic) -> bool
+    ensures { result ≡ settled.is_bare_pointer (value_of value.now) }
+{
+    match value {
+        Dynamic::FnPtr(pointer) => !pointer.is_curried(),
+        Dynamic::Unit
+        | Dynamic::Bool(_)
+        | Dynamic::Int(_)
+        | Dynamic::Char(_)
+        | Dynamic::Str(_)
+        | Dynamic::Array(_)
+        | Dynamic::Map(_)
+        | Dynamic::Range(_, _)
+        | Dynamic::RangeInclusive(_, _) => false,
+    }
+}
+
+/// A name that is known as a constant is its value, wherever that may stand.
+fn known_name(
+    alloc: Global,
+    state: &mut OptimizerState<'_>,
+    expr: &mut Expr,
+    value: Dynamic,
+) -> Result<(), OutOfMemory>
+    requires variable { settled.is_variable (expr_of expr.now) ≡ true }
+    requires constant { settled.is_bare_pointer (value_of value) ≡ false }
+    ensures { OnOk result
+        ((p : promises.Place) (r : Engine)
+        → Some (value_of value) ≡ settled.known_there p (progress state.old).known (expr_of expr.old)
+        → ExprStep true r p (progress state.old) (progress state.new) (expr_of expr.old) (expr_of expr.new)) }
+{
+    put_constant(alloc, state, expr, value)
+}
+
+/// A name that is known as a pointer without values is the call that makes it.
+fn known_pointer(
+    alloc: Global,
+    state: &mut OptimizerState<'_>,
+    expr: &mut Expr,
+    pointer: Dynamic,
+) -> Result<(), OutOfMemory>
+    requires variable { settled.is_variable (expr_of expr.now) ≡ true }
+    requires bare { settled.is_bare_pointer (value_of pointer) ≡ true }
+    ensures { OnOk result
+        ((p : promises.Place) (r : Engine)
+        → Some (value_of pointer) ≡ settled.known_there p (progress state.old).known (expr_of expr.old)
+        → ExprStep true r p (progress state.old) (progress state.new) (expr_of expr.old) (expr_of expr.new)) }
+{
+    put_constant(alloc, state, expr, pointer)
+}
+
+fn put_known(
+    alloc: Global,
+    state: &mut OptimizerState<'_>,
+    expr: &mut Expr,
+    value: Dynamic,
+) -> Result<(), OutOfMemory>
+    requires { settled.is_variable (expr_of expr.now) ≡ true }
+    ensures { OnOk result
+        ((p : promises.Place) (r : Engine)
+        → Some (value_of value) ≡ settled.known_there p (progress state.old).known (expr_of expr.old)
+        → ExprStep true r p (progress state.old) (progress state.new) (expr_of expr.old) (expr_of expr.new)) }
+{
+    if is_bare_pointer(&value) {
+        known_pointer(alloc, state, expr, value)
+    } else {
+        known_name(alloc, state, expr, value)
+    }
+}
+
+/// A name that is known as a constant becomes it, where it may; whether it did.
 #[inline(never)]
 pub(crate) fn step_name(
     alloc: Global,
@@ -75,10 +149,13 @@ pub(crate) fn step_name(
     place: Place,
 ) -> Result<bool, OutOfMemory>
     requires { settled.is_variable (expr_of expr.now) ≡ true }
-    ensures { IfOk result (λ fired. (r : Engine) → ExprStep fired r (place_of place) (progress state.old) (progress state.new) (expr_of expr.old) (expr_of expr.new)) }
+    ensures { IfOk result (λ fired.
+        (r : Engine)
+        → ExprStep fired r (place_of place) (progress state.old) (progress state.new) (expr_of expr.old)
+        (expr_of expr.new)) }
 {
     if let Some(value) = known_there(state, expr, place)? {
-        put_constant(alloc, state, expr, value)?;
+        put_known(alloc, state, expr, value)?;
         return Ok(true);
     }
     Ok(false)

@@ -35,7 +35,9 @@ pub fn plain_run<H: Host>(
     scope: &Scope,
     turns: u64,
 ) -> Result<RunReport, OutOfMemory>
-    ensures { IfOk result (λ r. ReportsRun (engine_of info.now) (host_of (H.answers host.now) (H.modules host.now)) (core_script (script_of ast.now)) (start_scope scope.now) turns (report_meant r)) }
+    ensures { IfOk result (λ r.
+        ReportsRun (engine_of info.now) (host_of (H.answers host.now) (H.modules host.now))
+        (core_script (script_of ast.now)) (start_scope scope.now) turns (report_meant r)) }
 {
     let evaluator = Evaluator {
         machine: Machine {
@@ -86,8 +88,10 @@ fn push_part(
     exports: &mut Seq<Export>,
     held: Entry,
 ) -> Result<(), OutOfMemory>
-    ensures names { OnOk result (map variable_meant variables.new ≡ map variable_meant variables.old ++ left.names (entry_meant held ∷ [])) }
-    ensures exports { OnOk result (map export_meant exports.new ≡ map export_meant exports.old ++ left.exports (entry_meant held ∷ [])) }
+    ensures names { OnOk result
+        (map variable_meant variables.new ≡ map variable_meant variables.old ++ left.names (entry_meant held ∷ [])) }
+    ensures exports { OnOk result
+        (map export_meant exports.new ≡ map export_meant exports.old ++ left.exports (entry_meant held ∷ [])) }
 {
     let Entry { name, kind, value } = held;
     match kind {

@@ -72,10 +72,18 @@ impl AST {
 
     /// A script of these statements and functions, without a source and a doc. It takes no memory.
     pub fn new(statements: Vec<Stmt>, functions: SharedLib) -> AST
-        ensures script { script_of result ≡ record { statements = stmts_of statements.items; functions = functions_of functions.value } }
+        ensures script { script_of result
+            ≡ record { statements = stmts_of statements.items; functions = functions_of functions.value } }
         ensures body { result.body.block ≡ statements.items }
         ensures lib { result.lib ≡ functions }
-        ensures contents { contents result ≡ record { source = None; doc = []; statements = statements.items; id = functions.value.id; functions = functions.value.functions } }
+        ensures contents { contents result
+            ≡ record {
+              source = None;
+              doc = [];
+              statements = statements.items;
+              id = functions.value.id;
+              functions = functions.value.functions;
+            } }
     {
         AST {
             source: None,
@@ -91,7 +99,16 @@ impl AST {
         functions: SharedLib,
         source: &str,
     ) -> Result<AST, OutOfMemory>
-        ensures { IfOk result (λ s. contents s ≡ with_source source.now (record { source = None; doc = []; statements = statements.items; id = functions.value.id; functions = functions.value.functions })) }
+        ensures { IfOk result (λ s.
+            contents s
+            ≡ with_source source.now
+            (record {
+              source = None;
+              doc = [];
+              statements = statements.items;
+              id = functions.value.id;
+              functions = functions.value.functions;
+            })) }
     {
         let mut script = AST::new(statements, functions);
         script.set_source(source)?;
@@ -100,7 +117,15 @@ impl AST {
 
     /// A script of a table alone, whose id is the source.
     pub fn new_from_module(functions: SharedLib) -> Result<AST, OutOfMemory>
-        ensures { IfOk result (λ s. contents s ≡ record { source = functions.value.id; doc = []; statements = []; id = functions.value.id; functions = functions.value.functions }) }
+        ensures { IfOk result (λ s.
+            contents s
+            ≡ record {
+              source = functions.value.id;
+              doc = [];
+              statements = [];
+              id = functions.value.id;
+              functions = functions.value.functions;
+            }) }
     {
         let source = copy_of_id(&functions)?;
         Ok(AST {
@@ -113,7 +138,8 @@ impl AST {
 
     /// A script of nothing.
     pub fn empty(alloc: Global) -> Result<AST, OutOfMemory>
-        ensures { IfOk result (λ s. contents s ≡ record { source = None; doc = []; statements = []; id = None; functions = [] }) }
+        ensures { IfOk result (λ s.
+            contents s ≡ record { source = None; doc = []; statements = []; id = None; functions = [] }) }
     {
         let lib = no_functions(alloc)?;
         Ok(AST::new(Vec::new(alloc), lib))
@@ -186,7 +212,8 @@ impl AST {
     /// A script of the source, the doc and this table alone.
     fn only(&self, lib: SharedLib) -> Result<AST, OutOfMemory>
         requires { lib.value.id ≡ None }
-        ensures { IfOk result (λ s. contents s ≡ without_statements (with_table lib.value.functions (contents self.now))) }
+        ensures { IfOk result (λ s.
+            contents s ≡ without_statements (with_table lib.value.functions (contents self.now))) }
     {
         let source = self.source.clone()?;
         let doc = self.doc.clone()?;
@@ -200,7 +227,8 @@ impl AST {
 
     /// A script of the source, the doc and the functions, in a table of its own without an id.
     pub fn clone_functions_only(&self) -> Result<AST, OutOfMemory>
-        ensures { IfOk result (λ s. contents s ≡ without_statements (with_table self.now.lib.value.functions (contents self.now))) }
+        ensures { IfOk result (λ s.
+            contents s ≡ without_statements (with_table self.now.lib.value.functions (contents self.now))) }
     {
         self.only(own_copy(&self.lib)?)
     }
@@ -212,7 +240,9 @@ impl AST {
         filter: F,
     ) -> Result<AST, OutOfMemory>
         requires { F.IsAlwaysCallable filter }
-        ensures { IfOk result (λ s. (chosen : List definition) × IsFiltered (Answers F.Fn) filter self.now.lib.value.functions chosen × (contents s ≡ without_statements (with_table chosen (contents self.now)))) }
+        ensures { IfOk result (λ s.
+            (chosen : List definition) × IsFiltered (Answers F.Fn) filter self.now.lib.value.functions chosen
+            × (contents s ≡ without_statements (with_table chosen (contents self.now)))) }
     {
         let lib = only_chosen(&self.lib, &filter)?;
         self.only(lib)
@@ -229,7 +259,8 @@ impl AST {
 
     /// A script in place of two, with this table.
     fn merged_with(&self, other: &AST, lib: SharedLib) -> Result<AST, OutOfMemory>
-        ensures { IfOk result (λ s. contents s ≡ joined_over lib.value other.now.source (contents self.now) (contents other.now)) }
+        ensures { IfOk result (λ s.
+            contents s ≡ joined_over lib.value other.now.source (contents self.now) (contents other.now)) }
     {
         let source = other.source.clone()?;
         let doc = self.doc.joined(allocator_of(&lib), &other.doc)?;
@@ -245,7 +276,8 @@ impl AST {
     /// A script in place of two: the second's statements come after the first's, and its functions take the places of
     /// those of their keys. Its source is the second's.
     pub fn merge(&self, other: &AST) -> Result<AST, OutOfMemory>
-        ensures { IfOk result (λ s. contents s ≡ merged (contents self.now) (contents other.now) other.now.lib.value.functions) }
+        ensures { IfOk result (λ s.
+            contents s ≡ merged (contents self.now) (contents other.now) other.now.lib.value.functions) }
     {
         let lib = put_all(&self.lib, &other.source, &other.lib)?;
         self.merged_with(other, lib)
@@ -259,7 +291,9 @@ impl AST {
         filter: F,
     ) -> Result<AST, OutOfMemory>
         requires { F.IsAlwaysCallable filter }
-        ensures { IfOk result (λ s. (chosen : List definition) × IsFiltered (Answers F.Fn) filter other.now.lib.value.functions chosen × (contents s ≡ merged (contents self.now) (contents other.now) chosen)) }
+        ensures { IfOk result (λ s.
+            (chosen : List definition) × IsFiltered (Answers F.Fn) filter other.now.lib.value.functions chosen
+            × (contents s ≡ merged (contents self.now) (contents other.now) chosen)) }
     {
         let lib = put_chosen(&self.lib, &other.source, &other.lib, &filter)?;
         self.merged_with(other, lib)
@@ -322,7 +356,8 @@ impl AST {
 
     /// Takes in the doc and the statements of a second script, and this table.
     fn combine_with(&mut self, other: AST, lib: SharedLib) -> Result<(), OutOfMemory>
-        ensures ok { OnOk result (contents self.new ≡ joined_over lib.value self.old.source (contents self.old) (contents other)) }
+        ensures ok { OnOk result
+            (contents self.new ≡ joined_over lib.value self.old.source (contents self.old) (contents other)) }
         ensures err { OnErr result (contents self.new ≡ contents self.old) }
     {
         let doc = self.doc.joined(allocator_of(&lib), &other.doc)?;
@@ -335,7 +370,8 @@ impl AST {
     /// Takes in a second script: its statements come after the first's, and its functions take the places of those of
     /// their keys. The source stays. A refused call changes nothing.
     pub fn combine(&mut self, other: AST) -> Result<(), OutOfMemory>
-        ensures ok { OnOk result (contents self.new ≡ combined (contents self.old) (contents other) other.lib.value.functions) }
+        ensures ok { OnOk result
+            (contents self.new ≡ combined (contents self.old) (contents other) other.lib.value.functions) }
         ensures err { OnErr result (contents self.new ≡ contents self.old) }
     {
         let lib = put_all(&self.lib, &None, &other.lib)?;
@@ -350,7 +386,9 @@ impl AST {
         filter: F,
     ) -> Result<(), OutOfMemory>
         requires { F.IsAlwaysCallable filter }
-        ensures ok { OnOk result ((chosen : List definition) × IsFiltered (Answers F.Fn) filter other.lib.value.functions chosen × (contents self.new ≡ combined (contents self.old) (contents other) chosen)) }
+        ensures ok { OnOk result
+            ((chosen : List definition) × IsFiltered (Answers F.Fn) filter other.lib.value.functions chosen
+            × (contents self.new ≡ combined (contents self.old) (contents other) chosen)) }
         ensures err { OnErr result (contents self.new ≡ contents self.old) }
     {
         let lib = put_chosen(&self.lib, &None, &other.lib, &filter)?;
@@ -364,7 +402,9 @@ impl AST {
         filter: F,
     ) -> Result<(), OutOfMemory>
         requires { F.IsAlwaysCallable filter }
-        ensures ok { OnOk result ((kept : List definition) × IsFiltered (AnswersShort F.Fn) filter self.old.lib.value.functions kept × (contents self.new ≡ with_functions kept (contents self.old))) }
+        ensures ok { OnOk result
+            ((kept : List definition) × IsFiltered (AnswersShort F.Fn) filter self.old.lib.value.functions kept
+            × (contents self.new ≡ with_functions kept (contents self.old))) }
         ensures err { OnErr result (contents self.new ≡ contents self.old) }
     {
         self.lib = retained(&self.lib, &filter)?;

@@ -2,6 +2,7 @@
 ghost use Rattle.std.specs.Prelude.{◌≡◌};
 ghost use Rattle.rhai_faults.specs.PlainWalk.{plain_walk};
 ghost use Rattle.rhai_faults.specs.Refusals.{Finds};
+ghost use Rattle.rhai_faults.specs.Standing.{Stands, StandsInScript, fault_in};
 ghost use Rattle.rhai_functions.specs.FnLib.{functions_of};
 ghost use Rattle.rhai_meaning.specs.Faults as faults;
 ghost use Rattle.rhai_meaning.specs.Laws.{WellFormedLaw};
@@ -10,20 +11,24 @@ ghost use Rattle.rhai_meaning.specs.Walk.{over_functions};
 ghost use Rattle.rhai_script.specs.Script.{script_of};
 
 use crate::ast::AST;
-use rhai_ast::{check_tree, is_plain};
-use rhai_base::TreeFault;
+use rhai_ast::{TreeError, check_tree, is_plain};
+use rhai_base::{Position, TreeFault};
 use rhai_functions::{FnLib, allocator_of, shared_functions};
 use std::slice;
 
 impl AST {
-    /// Its first fault, as `check_tree` finds it. It is not in rhai.
-    pub fn check(&self) -> Result<(), TreeFault>
-        ensures first { Finds (faults.script_fault (script_of self.now)) result }
+    /// Its first fault, and where it stands, as `check_tree` finds it. It is not in rhai.
+    pub fn check(&self) -> Result<(), TreeError>
+        ensures first { Finds (faults.script_fault (script_of self.now)) (fault_in result) }
+        ensures stands { Stands (StandsInScript self.now.body.block self.now.lib.value.functions) result }
         ensures law { WellFormedLaw (script_of self.now) }
     {
         let lib = self.shared_lib();
         let Ok(functions) = shared_functions(lib) else {
-            return Err(TreeFault::OutOfMemory);
+            return Err(TreeError {
+                fault: TreeFault::OutOfMemory,
+                position: Position::NONE,
+            });
         };
         check_tree(allocator_of(lib), self.statements(), functions.as_slice())
     }

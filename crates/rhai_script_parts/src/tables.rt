@@ -46,7 +46,9 @@ pub fn only_chosen<F: Fn(FnNamespace, FnAccess, bool, &str, usize) -> bool>(
     filter: &F,
 ) -> Result<SharedLib, OutOfMemory>
     requires { F.IsAlwaysCallable filter.now }
-    ensures { IfOk result (λ made. (chosen : List definition) × IsFiltered (Answers F.Fn) filter.now lib.now.functions chosen × (made.value.id ≡ None) × (made.value.functions ≡ chosen)) }
+    ensures { IfOk result (λ made.
+        (chosen : List definition) × IsFiltered (Answers F.Fn) filter.now lib.now.functions chosen
+        × (made.value.id ≡ None) × (made.value.functions ≡ chosen)) }
 {
     let chosen = chosen_functions(lib, filter)?;
     shared(FnLib::from_functions(allocator_of(lib), chosen)?)
@@ -59,7 +61,9 @@ pub fn retained<F: Fn(FnNamespace, FnAccess, &str, usize) -> bool>(
     filter: &F,
 ) -> Result<SharedLib, OutOfMemory>
     requires { F.IsAlwaysCallable filter.now }
-    ensures { IfOk result (λ made. (kept : List definition) × IsFiltered (AnswersShort F.Fn) filter.now lib.now.functions kept × (made.value.id ≡ lib.now.id) × (made.value.functions ≡ kept)) }
+    ensures { IfOk result (λ made.
+        (kept : List definition) × IsFiltered (AnswersShort F.Fn) filter.now lib.now.functions kept
+        × (made.value.id ≡ lib.now.id) × (made.value.functions ≡ kept)) }
 {
     let kept = kept_functions(lib, filter)?;
     shared(replaced(lib, kept)?)
@@ -72,7 +76,8 @@ pub fn put_all(
     other: &FnLib,
 ) -> Result<SharedLib, OutOfMemory>
     ensures id { IfOk result (λ made. made.value.id ≡ first_name id.now lib.now.id) }
-    ensures functions { IfOk result (λ made. made.value.functions ≡ put_all_by definition_key lib.now.functions other.now.functions) }
+    ensures functions { IfOk result (λ made.
+        made.value.functions ≡ put_all_by definition_key lib.now.functions other.now.functions) }
 {
     shared(with_all(lib, id, shared_functions(other)?)?)
 }
@@ -86,7 +91,10 @@ pub fn put_chosen<F: Fn(FnNamespace, FnAccess, bool, &str, usize) -> bool>(
     filter: &F,
 ) -> Result<SharedLib, OutOfMemory>
     requires { F.IsAlwaysCallable filter.now }
-    ensures { IfOk result (λ made. (chosen : List definition) × IsFiltered (Answers F.Fn) filter.now other.now.functions chosen × (made.value.id ≡ first_name id.now lib.now.id) × (made.value.functions ≡ put_all_by definition_key lib.now.functions chosen)) }
+    ensures { IfOk result (λ made.
+        (chosen : List definition) × IsFiltered (Answers F.Fn) filter.now other.now.functions chosen
+        × (made.value.id ≡ first_name id.now lib.now.id)
+        × (made.value.functions ≡ put_all_by definition_key lib.now.functions chosen)) }
 {
     let chosen = chosen_functions(other, filter)?;
     shared(with_all(lib, id, chosen)?)

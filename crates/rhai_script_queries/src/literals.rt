@@ -74,7 +74,9 @@ impl<'a> LiteralVariables<'a> {
         parts: &'a (Ident, Expr, Option<NonZeroUsize>),
         options: ASTFlags,
     ) -> Result<Option<Variable<'a>>, OutOfMemory>
-        ensures { Tries result (sought_at self.now.constants self.now.variables (Var (is_const options) (is_exported options) parts.now.0.name (expr_of parts.now.1))) }
+        ensures { Tries result
+            (sought_at self.now.constants self.now.variables
+            (Var (is_const options) (is_exported options) parts.now.0.name (expr_of parts.now.1))) }
     {
         let constant = declares_constant(options);
         if !self.wants(constant) {

@@ -81,7 +81,8 @@ fn walk_bodies<'a, F: FnMut(&[ASTNode]) -> bool>(
 ) -> Result<bool, OutOfMemory>
     requires { F.IsAlwaysCallable on_node.old }
     ensures callable { F.IsAlwaysCallable on_node.new }
-    ensures walks { Walks F.FnMut path.old.items result on_node.old (over_functions listing (functions_of lib.now)) on_node.new path.new.items }
+    ensures walks { Walks F.FnMut path.old.items result on_node.old (over_functions listing (functions_of lib.now))
+        on_node.new path.new.items }
 {
     for function in lib.iter() {
         if !walk_statements(function.body.statements(), path, on_node)? {

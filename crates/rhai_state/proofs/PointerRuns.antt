@@ -1,10 +1,10 @@
--- Pointers to functions: what is no pointer, and a pointer's values before others.
+-- Pointers to functions: what is no name and no pointer, and a pointer's values before others.
 use Rattle.std.proofs.Common.{◌≡◌, Bool, List, ◌∷◌, ◌++◌, map, Err, Ok, refl, sym, ap, ◌∙◌}
 use Rattle.std.proofs.lemmas.List.{map-append}
 use Rattle.rhai_values.specs.declared.dynamic.Dynamic.{Dynamic}
 use Rattle.rhai_values.specs.declared.dynamic.Dynamic.TheVariants as kind
 use Rattle.rhai_values.specs.declared.fn_ptr.FnPtr.{FnPtr}
-use Rattle.rhai_values.specs.Reading.{value_of, value_of-FnPtr, DynamicCase, fn_ptr_case, dynamic_cases}
+use Rattle.rhai_values.specs.Reading.{value_of, value_of-FnPtr, DynamicCase, str_case, fn_ptr_case, dynamic_cases}
 use Rattle.rhai_values.specs.Value.{Text, Value, PointerV, items, values}
 use Rattle.rhai_meaning.specs.Act.{WrongKind, World, Fail}
 use Rattle.rhai_meaning.specs.Calls as calls
@@ -15,6 +15,13 @@ use Rattle.rhai_host.specs.declared.report.Stuck.TheVariants as why
 use Rattle.rhai_state.specs.Runs.{Setting, Acting, Goes, Stops, Runs}
 use Rattle.rhai_state.proofs.Counted.{items_values}
 use Rattle.rhai_state.proofs.Goes.{gives, goes_as, goes_then, stuck_here}
+
+abbrev pub IsNoText : Dynamic → Type 0
+IsNoText v = (t : Text) → v ≡ kind.Str t → ⊥
+
+unnamed_other : {v : Dynamic} {w : Value} → DynamicCase v w → IsNoText v → calls.pointer_to w ≡ Fail WrongKind
+unnamed_other (str_case t) h = absurd (h t refl)
+unnamed_other _ h = refl
 
 abbrev pub IsNoPointer : Dynamic → Type 0
 IsNoPointer v = (p : FnPtr) → v ≡ kind.FnPtr p → ⊥
@@ -35,6 +42,9 @@ joined p vs all e =
     ∙ ap (map value_of) (sym e)
 
 module _ (here : Setting) (s : State) where
+  pub unnamed_stuck : (v : Dynamic) → IsNoText v → Runs here (Acting (calls.pointer_to (value_of v))) s (Err (Stuck why.WrongKind)) s
+  unnamed_stuck v h = stuck_here here _ s (unnamed_other (dynamic_cases v) h)
+
   pub curried_stuck : (v : Dynamic) (us : List Value) → IsNoPointer v → Runs here (Acting (calls.curried (value_of v) us)) s (Err (Stuck why.WrongKind)) s
   curried_stuck v us h = stuck_here here _ s (curried_other (dynamic_cases v) h us)
 

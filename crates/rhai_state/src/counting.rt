@@ -51,7 +51,8 @@ pub fn declare_count(
     counter: &Option<Ident>,
     count: Option<i64>,
 ) -> Result<(), Interrupt>
-    ensures { (here : Setting) (k : _) → count ≡ count_of k → RunsCounted here (counter_of counter.now) k state.old result state.new }
+    ensures { (here : Setting) (k : _) → count ≡ count_of k
+        → RunsCounted here (counter_of counter.now) k state.old result state.new }
 {
     let Some(counter) = counter else {
         return Ok(());

@@ -84,6 +84,7 @@ pub fn round_ended(ended: Result<Dynamic, Interrupt>) -> Result<Option<Dynamic>,
 }
 
 /// How a function ends by its body: a return is its value, and no break leaves it.
+#[inline(never)]
 pub fn function_ended(ended: Result<Dynamic, Interrupt>) -> Result<Dynamic, Interrupt>
     ensures { result ≡ function_end ended }
 {
@@ -102,7 +103,8 @@ pub fn declare_caught(
     name: Option<&ImmutableString>,
     caught: &Dynamic,
 ) -> Result<(), AllocError>
-    ensures store { OnOk result (store_of state.new ≡ named_in (option_copied name.entry) (value_of caught.now) (store_of state.old)) }
+    ensures store { OnOk result
+        (store_of state.new ≡ named_in (option_copied name.entry) (value_of caught.now) (store_of state.old)) }
     ensures turns { OnOk result (state.new.turns ≡ state.old.turns) }
 {
     if let Some(name) = name {

@@ -19,29 +19,22 @@ use std::alloc::{AllocError, Global};
 pub fn pointer_to(alloc: Global, name: &Dynamic) -> Result<Dynamic, Interrupt>
     ensures { (here : Setting) (s : State) → Runs here (Acting (calls.pointer_to (value_of name.now))) s result s }
 {
-    match name {
-        Dynamic::Str(name) => match FnPtr::new(alloc, name.clone()?) {
-            Some(pointer) => Ok(Dynamic::FnPtr(pointer)),
-            None => {
-                let fault = ImmutableString::new(alloc, "function name")?;
-                Err(Interrupt::Throw(Dynamic::Str(fault)))
-            }
-        },
-        Dynamic::Unit
-        | Dynamic::Bool(_)
-        | Dynamic::Int(_)
-        | Dynamic::Char(_)
-        | Dynamic::Array(_)
-        | Dynamic::Map(_)
-        | Dynamic::FnPtr(_)
-        | Dynamic::Range(_, _)
-        | Dynamic::RangeInclusive(_, _) => Err(Interrupt::Stuck(Stuck::WrongKind)),
+    let Ok(name) = name.as_immutable_string_ref() else {
+        return Err(Interrupt::Stuck(Stuck::WrongKind));
+    };
+    match FnPtr::new(alloc, name.clone()?) {
+        Some(pointer) => Ok(Dynamic::FnPtr(pointer)),
+        None => {
+            let fault = ImmutableString::new(alloc, "function name")?;
+            Err(Interrupt::Throw(Dynamic::Str(fault)))
+        }
     }
 }
 
 /// `curry`: a pointer with values of further parameters.
 pub fn curried(pointer: &Dynamic, values: &[Dynamic]) -> Result<Dynamic, Interrupt>
-    ensures { (here : Setting) (s : State) → Runs here (Acting (calls.curried (value_of pointer.now) (map value_of values.now))) s result s }
+    ensures { (here : Setting) (s : State)
+        → Runs here (Acting (calls.curried (value_of pointer.now) (map value_of values.now))) s result s }
 {
     match pointer {
         Dynamic::FnPtr(pointer) => Ok(Dynamic::FnPtr(with_values(pointer, values)?)),
@@ -66,7 +59,9 @@ pub fn pointed(
     alloc: Global,
     args: &[Dynamic],
 ) -> Result<Option<(ImmutableString, Seq<Dynamic>)>, Interrupt>
-    ensures { (here : Setting) (captures : Bool) (f : Text) (s : State) → Leads here (Acting (calls.call_word here.world captures f calls.CallFn (map value_of args.now))) s result s (λ o. pointed_then here captures f (map value_of args.now) o) }
+    ensures { (here : Setting) (captures : Bool) (f : Text) (s : State)
+        → Leads here (Acting (calls.call_word here.world captures f calls.CallFn (map value_of args.now))) s result s
+        (λ o. pointed_then here captures f (map value_of args.now) o) }
 {
     match args.split_first() {
         Some((pointer, values)) => Ok(Some(pointed_with(alloc, pointer, values)?)),
@@ -80,7 +75,9 @@ pub fn pointed_with(
     pointer: &Dynamic,
     values: &[Dynamic],
 ) -> Result<(ImmutableString, Seq<Dynamic>), Interrupt>
-    ensures { (here : Setting) (captures : Bool) (s : State) → Leads here (Acting (calls.call_pointer here.world captures (value_of pointer.now) (map value_of values.now))) s result s (λ p. Acting (calls.call_named here.world captures p.0 (map value_of p.1))) }
+    ensures { (here : Setting) (captures : Bool) (s : State)
+        → Leads here (Acting (calls.call_pointer here.world captures (value_of pointer.now) (map value_of values.now)))
+        s result s (λ p. Acting (calls.call_named here.world captures p.0 (map value_of p.1))) }
 {
     let Dynamic::FnPtr(pointer) = pointer else {
         return Err(Interrupt::Stuck(Stuck::WrongKind));

@@ -76,7 +76,8 @@ pub struct State {
 impl State {
     /// Where a run starts.
     pub fn new(alloc: Global, scope: &Scope, turns: u64) -> Result<State, AllocError>
-        ensures store { IfOk result (λ s. store_of s ≡ record { scope = start_scope scope.now; this = None; calls = [] }) }
+        ensures store { IfOk result (λ s.
+            store_of s ≡ record { scope = start_scope scope.now; this = None; calls = [] }) }
         ensures turns { IfOk result (λ s. s.turns ≡ turns) }
     {
         Ok(State {
@@ -116,7 +117,8 @@ impl State {
         kind: EntryKind,
         value: Dynamic,
     ) -> Result<(), AllocError>
-        ensures store { OnOk result (store_of self.new ≡ with_entry name.now (kind_meant kind) (value_of value) (store_of self.old)) }
+        ensures store { OnOk result
+            (store_of self.new ≡ with_entry name.now (kind_meant kind) (value_of value) (store_of self.old)) }
         ensures turns { OnOk result (self.new.turns ≡ self.old.turns) }
     {
         self.scope.push(Entry {
@@ -135,7 +137,9 @@ impl State {
         is_exported: bool,
         value: Dynamic,
     ) -> Result<(), AllocError>
-        ensures store { OnOk result (store_of self.new ≡ declared_in (name_kind is_constant) is_exported name.now (value_of value) (store_of self.old)) }
+        ensures store { OnOk result
+            (store_of self.new
+            ≡ declared_in (name_kind is_constant) is_exported name.now (value_of value) (store_of self.old)) }
         ensures turns { OnOk result (self.new.turns ≡ self.old.turns) }
     {
         let kind = EntryKind::of_name(is_constant);
@@ -166,6 +170,7 @@ impl State {
 impl State {
     /// Where a function's body starts: with its parameters over a copy of the entries around where the call captures
     /// them, and with the calls so far, which go along.
+    #[inline(never)]
     pub fn enter(
         &mut self,
         alloc: Global,
@@ -174,7 +179,13 @@ impl State {
         this: Option<Dynamic>,
         args: Seq<Dynamic>,
     ) -> Result<State, AllocError>
-        ensures store { IfOk result (λ s. store_of s ≡ record { scope = bind params.now (map value_of args) (seen captures (store_of self.old).scope); this = option_map value_of this; calls = (store_of self.old).calls }) }
+        ensures store { IfOk result (λ s.
+            store_of s
+            ≡ record {
+              scope = bind params.now (map value_of args) (seen captures (store_of self.old).scope);
+              this = option_map value_of this;
+              calls = (store_of self.old).calls;
+            }) }
         ensures turns { IfOk result (λ s. s.turns ≡ self.old.turns) }
         ensures scope { OnOk result (self.new.scope ≡ self.old.scope) }
         ensures around { OnOk result (self.new.this ≡ self.old.this) }
@@ -197,6 +208,7 @@ impl State {
     }
 
     /// Goes on after a function's body, with its calls and turns. The body's last `this`.
+    #[inline(never)]
     pub fn resume(&mut self, body: State) -> Option<Dynamic>
         ensures store { store_of self.new ≡ record (store_of self.old) { calls = (store_of body).calls } }
         ensures turns { self.new.turns ≡ body.turns }
@@ -235,7 +247,8 @@ fn bound(
     params: &[ImmutableString],
     args: Seq<Dynamic>,
 ) -> Result<Vec<Entry>, AllocError>
-    ensures { IfOk result (λ vs. scope_meant vs.items ≡ bind params.now (map value_of args) (scope_meant around.items)) }
+    ensures { IfOk result (λ vs.
+        scope_meant vs.items ≡ bind params.now (map value_of args) (scope_meant around.items)) }
 {
     let mut scope = around;
     let mut rest = args.into_rest();
@@ -269,7 +282,8 @@ fn started(
     is_constant: bool,
     value: &Dynamic,
 ) -> Result<Entry, AllocError>
-    ensures { IfOk result (λ e. entry_meant e ≡ record { name = name.now; kind = name_kind is_constant; value = value_of value.now }) }
+    ensures { IfOk result (λ e.
+        entry_meant e ≡ record { name = name.now; kind = name_kind is_constant; value = value_of value.now }) }
 {
     Ok(Entry {
         name: ImmutableString::new(alloc, name)?,

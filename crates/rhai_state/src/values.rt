@@ -35,6 +35,7 @@ fn truth_of(value: &Dynamic) -> Option<bool>
 }
 
 /// The value of a constant of its own, which never stands for unit.
+#[inline(never)]
 pub fn constant(value: &Dynamic) -> Result<Dynamic, Interrupt>
     ensures { IsConstant (value_of value.now) result }
 {
@@ -45,6 +46,7 @@ pub fn constant(value: &Dynamic) -> Result<Dynamic, Interrupt>
 }
 
 /// The texts of values, joined.
+#[inline(never)]
 pub fn joined_text(alloc: Global, values: Seq<Dynamic>) -> Result<Dynamic, AllocError>
     ensures { IfOk result (λ v. value_of v ≡ TextV (texts_joined (map value_of values))) }
 {

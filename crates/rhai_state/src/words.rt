@@ -66,7 +66,9 @@ impl Word {
 
 /// `is_shared`: no value is.
 pub fn is_shared(args: &[Dynamic]) -> Option<Dynamic>
-    ensures { (here : Setting) (s : State) (next : Act) → Goes here (Acting (word_or here.world.engine calls.IsShared (map value_of args.now) next)) s (arm_then next result) s }
+    ensures { (here : Setting) (s : State) (next : Act)
+        → Goes here (Acting (word_or here.world.engine calls.IsShared (map value_of args.now) next)) s
+        (arm_then next result) s }
 {
     match args {
         [_] => Some(Dynamic::Bool(false)),
@@ -76,7 +78,9 @@ pub fn is_shared(args: &[Dynamic]) -> Option<Dynamic>
 
 /// `is_shared` of a receiver: no value is.
 pub fn is_shared_by(args: &[Dynamic]) -> Option<Dynamic>
-    ensures { (here : _) (s : State) (v : _) (next : places.Current → Act) (other : Act) → Leads here (Acting (method_or here.world.engine calls.IsShared v (map value_of args.now) next other)) s (Ok result) s (λ o. value_or next other o) }
+    ensures { (here : _) (s : State) (v : _) (next : places.Current → Act) (other : Act)
+        → Leads here (Acting (method_or here.world.engine calls.IsShared v (map value_of args.now) next other)) s
+        (Ok result) s (λ o. value_or next other o) }
 {
     match args {
         [] => Some(Dynamic::Bool(false)),

@@ -80,7 +80,8 @@ fn reduced_block(statement: Stmt) -> Stmt
 #[inline(never)]
 fn rewrite_block(state: &mut OptimizerState<'_>, statement: &mut Stmt)
     requires { settled.is_settled_block (stmt_of statement.now) ≡ false }
-    ensures { (r : Engine) (w : Bool) → Fires r w (progress state.old) (progress state.new) (stmt_of statement.old) (stmt_of statement.new) }
+    ensures { (r : Engine) (w : Bool)
+        → Fires r w (progress state.old) (progress state.new) (stmt_of statement.old) (stmt_of statement.new) }
 {
     note_fired(state);
     let made = reduced_block(statement.take());
@@ -91,7 +92,9 @@ fn rewrite_block(state: &mut OptimizerState<'_>, statement: &mut Stmt)
 pub fn step_block(state: &mut OptimizerState<'_>, statement: &mut Stmt) -> NodeStep
     requires { settled.is_block (stmt_of statement.now) ≡ true }
     ensures answer { result ≡ answer (settled.is_settled_block (stmt_of statement.old)) }
-    ensures step { (r : Engine) (w : Bool) → StmtStep result r w (progress state.old) (progress state.new) (stmt_of statement.old) (stmt_of statement.new) }
+    ensures step { (r : Engine) (w : Bool)
+        → StmtStep result r w (progress state.old) (progress state.new) (stmt_of statement.old)
+        (stmt_of statement.new) }
 {
     if is_settled_block(statement) {
         return NodeStep::Kept;

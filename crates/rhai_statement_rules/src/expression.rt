@@ -30,7 +30,8 @@ fn statement_of_braces(block: Boxed<StmtBlock>) -> Stmt
 
 /// An expression statement over a call is a call statement.
 fn statement_of_call(call: Boxed<FnCallExpr>, pos: Position) -> Stmt
-    ensures { (o w : Bool) → StmtRewrite o w (ExprStmt (FnCall (callee_of call) (exprs_of call.args))) (stmt_of result) }
+    ensures { (o w : Bool)
+        → StmtRewrite o w (ExprStmt (FnCall (callee_of call) (exprs_of call.args))) (stmt_of result) }
 {
     Stmt::FnCall(call, pos)
 }
@@ -81,7 +82,8 @@ fn reduced_expression(statement: Stmt) -> Stmt
 #[inline(never)]
 fn rewrite_expression(state: &mut OptimizerState<'_>, statement: &mut Stmt)
     requires { settled.is_settled_expression (stmt_of statement.now) ≡ false }
-    ensures { (r : Engine) (w : Bool) → Fires r w (progress state.old) (progress state.new) (stmt_of statement.old) (stmt_of statement.new) }
+    ensures { (r : Engine) (w : Bool)
+        → Fires r w (progress state.old) (progress state.new) (stmt_of statement.old) (stmt_of statement.new) }
 {
     note_fired(state);
     let made = reduced_expression(statement.take());
@@ -92,7 +94,9 @@ fn rewrite_expression(state: &mut OptimizerState<'_>, statement: &mut Stmt)
 pub fn step_expression(state: &mut OptimizerState<'_>, statement: &mut Stmt) -> NodeStep
     requires { settled.is_expression (stmt_of statement.now) ≡ true }
     ensures answer { result ≡ answer (settled.is_settled_expression (stmt_of statement.old)) }
-    ensures step { (r : Engine) (w : Bool) → StmtStep result r w (progress state.old) (progress state.new) (stmt_of statement.old) (stmt_of statement.new) }
+    ensures step { (r : Engine) (w : Bool)
+        → StmtStep result r w (progress state.old) (progress state.new) (stmt_of statement.old)
+        (stmt_of statement.new) }
 {
     if is_settled_expression(statement) {
         return NodeStep::Kept;

@@ -1,5 +1,5 @@
-//! The rules at a statement whose parts are optimised already, in its place: all but those at call statements and at a `switch`. A test by
-//! reference says whether a rule fires; where none does nothing is moved, and no memory is taken.
+//! The rules at a statement whose parts are optimised already, in its place: all but those at call statements and at a
+//! `switch`. A test by reference says whether a rule fires; where none does nothing is moved, and no memory is taken.
 #![tactic(auto)]
 
 mod block;

@@ -38,7 +38,8 @@ fn put_endless(state: &mut OptimizerState<'_>, flow: &mut FlowControl)
 #[inline(never)]
 fn while_true(state: &mut OptimizerState<'_>, statement: &mut Stmt)
     requires { settled.decided_loop (stmt_of statement.now) ≡ Some true }
-    ensures { (r : Engine) (w : Bool) → Fires r w (progress state.old) (progress state.new) (stmt_of statement.old) (stmt_of statement.new) }
+    ensures { (r : Engine) (w : Bool)
+        → Fires r w (progress state.old) (progress state.new) (stmt_of statement.old) (stmt_of statement.new) }
 {
     match statement {
         Stmt::While(flow, _) => put_endless(state, flow.get_mut()),
@@ -49,7 +50,8 @@ fn while_true(state: &mut OptimizerState<'_>, statement: &mut Stmt)
 /// A `while` over false does nothing.
 fn while_false(state: &mut OptimizerState<'_>, statement: &mut Stmt)
     requires { settled.decided_loop (stmt_of statement.now) ≡ Some false }
-    ensures { (r : Engine) (w : Bool) → Fires r w (progress state.old) (progress state.new) (stmt_of statement.old) (stmt_of statement.new) }
+    ensures { (r : Engine) (w : Bool)
+        → Fires r w (progress state.old) (progress state.new) (stmt_of statement.old) (stmt_of statement.new) }
 {
     put_nothing(state, statement);
 }
@@ -58,7 +60,9 @@ fn while_false(state: &mut OptimizerState<'_>, statement: &mut Stmt)
 pub fn step_while(state: &mut OptimizerState<'_>, statement: &mut Stmt) -> NodeStep
     requires { settled.is_while (stmt_of statement.now) ≡ true }
     ensures answer { result ≡ answer (is_none (settled.decided_loop (stmt_of statement.old))) }
-    ensures step { (r : Engine) (w : Bool) → StmtStep result r w (progress state.old) (progress state.new) (stmt_of statement.old) (stmt_of statement.new) }
+    ensures step { (r : Engine) (w : Bool)
+        → StmtStep result r w (progress state.old) (progress state.new) (stmt_of statement.old)
+        (stmt_of statement.new) }
 {
     match decided_loop(statement) {
         None => NodeStep::Kept,

@@ -39,7 +39,8 @@ fn is_settled_try(statement: &Stmt) -> bool
 /// A `try` over a body that is pure inside does nothing.
 fn pure_try(state: &mut OptimizerState<'_>, statement: &mut Stmt)
     requires { settled.is_settled_try (stmt_of statement.now) ≡ false }
-    ensures { (r : Engine) (w : Bool) → Fires r w (progress state.old) (progress state.new) (stmt_of statement.old) (stmt_of statement.new) }
+    ensures { (r : Engine) (w : Bool)
+        → Fires r w (progress state.old) (progress state.new) (stmt_of statement.old) (stmt_of statement.new) }
 {
     put_nothing(state, statement);
 }
@@ -48,7 +49,9 @@ fn pure_try(state: &mut OptimizerState<'_>, statement: &mut Stmt)
 pub fn step_try(state: &mut OptimizerState<'_>, statement: &mut Stmt) -> NodeStep
     requires { settled.is_try (stmt_of statement.now) ≡ true }
     ensures answer { result ≡ answer (settled.is_settled_try (stmt_of statement.old)) }
-    ensures step { (r : Engine) (w : Bool) → StmtStep result r w (progress state.old) (progress state.new) (stmt_of statement.old) (stmt_of statement.new) }
+    ensures step { (r : Engine) (w : Bool)
+        → StmtStep result r w (progress state.old) (progress state.new) (stmt_of statement.old)
+        (stmt_of statement.new) }
 {
     if is_settled_try(statement) {
         return NodeStep::Kept;

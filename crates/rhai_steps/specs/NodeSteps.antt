@@ -3,7 +3,7 @@ use Rattle.std.specs.Prelude.{◌≡◌, Bool, true, false, Some}
 use Rattle.rhai_values.specs.Value.{Value}
 use Rattle.rhai_meaning.specs.Constants.{constant_for, literal_value}
 use Rattle.rhai_meaning.specs.Engine.{Engine}
-use Rattle.rhai_meaning.specs.Tree.{Expr, Stmt, ExprStmt}
+use Rattle.rhai_meaning.specs.Tree.{Expr, Stmt}
 use Rattle.rhai_steps.specs.declared.step.NodeStep.{NodeStep}
 use Rattle.rhai_steps.specs.declared.step.NodeStep.TheVariants as step
 use Rattle.rhai_rewriting.specs.Steps.{Progress, Place, ExprFired, KeepsExprParts, ExprKept, StmtFired, KeepsStmtParts, StmtKept}
@@ -22,14 +22,9 @@ abbrev pub step_by : Bool → NodeStep
 step_by true = step.Reopened
 step_by false = step.Rewritten
 
--- the constant for a value was put in an expression's place, or in a statement's
+-- the constant for a value was put in an expression's place
 pub record Puts (s s' : Progress) (e' : Expr) (v : Value) : Type 0 where
   pub fired : s'.is_dirty ≡ true
   pub known : s'.known ≡ s.known
   pub constant : e' ≡ constant_for v
   pub literal : literal_value e' ≡ Some v
-
-pub record PutsStatement (s s' : Progress) (x' : Stmt) (v : Value) : Type 0 where
-  pub fired : s'.is_dirty ≡ true
-  pub known : s'.known ≡ s.known
-  pub constant : x' ≡ ExprStmt (constant_for v)

@@ -5,16 +5,16 @@
 ghost use Rattle.std.specs.Prelude.{◌≡◌, IfOk, OnOk, Some, true};
 ghost use Rattle.rhai_values.specs.Reading.{value_of};
 ghost use Rattle.rhai_meaning.specs.Constants as constants;
-ghost use Rattle.rhai_meaning.specs.Tree.{UnitConstant, Noop, ExprStmt};
+ghost use Rattle.rhai_meaning.specs.Tree.{UnitConstant, Noop};
 ghost use Rattle.rhai_known.specs.State.{progress};
 ghost use Rattle.rhai_reading.specs.Reading.{expr_of, stmt_of};
 ghost use Rattle.rhai_steps.specs.Folded.{FoldsConstant};
-ghost use Rattle.rhai_steps.specs.NodeSteps.{Puts, PutsStatement};
+ghost use Rattle.rhai_steps.specs.NodeSteps.{Puts};
 
 use rhai_ast::{Expr, ExprQueries, Literals, Stmt, StmtQueries};
-use rhai_base::{Dynamic, OutOfMemory, Position};
+use rhai_base::{Dynamic, OutOfMemory};
 use rhai_known::OptimizerState;
-use rhai_nodes::{expression_statement, put_expr, put_stmt, value_of_constant};
+use rhai_nodes::{put_expr, put_stmt, value_of_constant};
 use std::alloc::Global;
 
 /// Notes that a rule fired.
@@ -51,14 +51,16 @@ fn take_constant(alloc: Global, expr: &mut Expr) -> Result<Dynamic, OutOfMemory>
     value_of_constant(alloc, constant)
 }
 
-/// A constant becomes its value, into which what its parts hold is moved. It says whether it is one; what is none stays.
+/// A constant becomes its value, into which what its parts hold is moved. It says whether it is one; what is none
+/// stays.
 #[inline(never)]
 pub fn fold_constant(
     alloc: Global,
     state: &mut OptimizerState<'_>,
     expr: &mut Expr,
 ) -> Result<bool, OutOfMemory>
-    ensures { IfOk result (λ b. FoldsConstant b (progress state.old) (progress state.new) (expr_of expr.old) (expr_of expr.new)) }
+    ensures { IfOk result (λ b.
+        FoldsConstant b (progress state.old) (progress state.new) (expr_of expr.old) (expr_of expr.new)) }
 {
     if !expr.is_constant() {
         return Ok(false);
@@ -78,30 +80,6 @@ pub fn put_unit(state: &mut OptimizerState<'_>, expr: &mut Expr)
     note_fired(state);
     let pos = expr.position();
     put_expr(expr, Expr::Unit(pos));
-}
-
-/// The statement of the constant for a value.
-fn constant_statement(alloc: Global, value: Dynamic, pos: Position) -> Result<Stmt, OutOfMemory>
-    ensures { IfOk result (λ s. stmt_of s ≡ ExprStmt (constants.constant_for (value_of value))) }
-{
-    let constant = Expr::from_dynamic(alloc, value, pos)?;
-    expression_statement(alloc, constant)
-}
-
-/// Puts the statement of the constant for a value in the place of a statement that stands for it.
-#[inline(never)]
-pub fn put_constant_statement(
-    alloc: Global,
-    state: &mut OptimizerState<'_>,
-    statement: &mut Stmt,
-    value: Dynamic,
-) -> Result<(), OutOfMemory>
-    ensures { OnOk result (PutsStatement (progress state.old) (progress state.new) (stmt_of statement.new) (value_of value)) }
-{
-    note_fired(state);
-    let constant = constant_statement(alloc, value, statement.position())?;
-    put_stmt(statement, constant);
-    Ok(())
 }
 
 /// Puts nothing in the place of a statement.

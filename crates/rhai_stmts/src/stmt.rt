@@ -32,7 +32,8 @@ pub trait StmtQueries {
     fn is_internally_pure(&self) -> bool;
 
     /// Does it belong to the list in which it stands, as it may add names there? A `let`, an `import`, an `export` and
-    /// a call of `eval` without a namespace do, and an expression that is such a call or a block of such statements, or of none, as in rhai.
+    /// a call of `eval` without a namespace do, and an expression that is such a call or a block of such statements,
+    /// or of none, as in rhai.
     ///
     /// A law holds of every tree: a run of one that does not leaves the names as they were.
     fn is_block_dependent(&self) -> bool;
@@ -40,8 +41,8 @@ pub trait StmtQueries {
     /// Does it leave its list: is it a `return`, `throw`, `break` or `continue`?
     fn is_control_flow_break(&self) -> bool;
 
-    /// Does it have a value: is it an `if`, a `switch`, a block, an expression or a call? A loop that a `break` may leave
-    /// with a value is none of these.
+    /// Does it have a value: is it an `if`, a `switch`, a block, an expression or a call? A loop that a `break` may
+    /// leave with a value is none of these.
     fn returns_value(&self) -> bool;
 
     /// Can it stand without a semicolon: is it an `if`, a `switch`, a `while`, a `for`, a block or a `try`?

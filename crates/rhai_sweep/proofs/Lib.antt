@@ -1,5 +1,6 @@
 pub mod Closed
 pub mod Deciding
+pub mod Firing
 pub mod Idle
 pub mod Kept
 pub mod Marked

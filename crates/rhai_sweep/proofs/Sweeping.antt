@@ -1,7 +1,7 @@
 -- What each decision of a sweep does to what is kept.
-use Rattle.std.proofs.Common.{◌≡◌, List, Bool, true, false, refl, sym, ◌∙◌, subst}
+use Rattle.std.proofs.Common.{◌≡◌, List, Bool, true, false, Option, Some, None, refl, sym, ◌∙◌, subst}
 use Rattle.std.specs.Prelude.{◌&&◌, ◌||◌, not}
-use Rattle.rhai_meaning.specs.Queries.{is_pure, is_noop, is_control_flow_break}
+use Rattle.rhai_meaning.specs.Queries.{is_pure, is_internally_pure, is_noop, is_control_flow_break}
 use Rattle.rhai_meaning.specs.Tree.{Expr, Variable, Stmt, Noop, Var, ExprStmt, BreakLoop, Return, no_expr, an_expr, Stmts, no_stmts, stmt}
 use Rattle.rhai_rewriting.specs.Clear.{AreClear}
 use Rattle.rhai_rewriting.specs.Known.{Known}
@@ -13,14 +13,17 @@ use Rattle.rhai_rewriting.specs.Rules as rule
 use Rattle.rhai_rewriting.specs.Rules.{is_pure_in, ListRule}
 use Rattle.rhai_rewriting.specs.SurelyUnit.{is_surely_unit}
 use Rattle.rhai_sweep.specs.declared.behind.Behind.{Behind}
-use Rattle.rhai_sweep.specs.Sweep.{is_lone, goes, returns_value, returns_nothing, fades, is_nothing, returns_at_end, keeps_none, keeps, skips, keeps_noop, keeps_bared, IsSwept, AreQuiet, Fading, DecidedTo}
+use Rattle.rhai_sweep.specs.declared.behind.Fading.{Fading}
+use Rattle.rhai_sweep.specs.declared.behind.Fading.TheVariants as fading_kind
+use Rattle.rhai_sweep.specs.declared.behind.Going.{Going}
+use Rattle.rhai_sweep.specs.declared.behind.Going.TheVariants as going_kind
+use Rattle.rhai_sweep.specs.Sweep.{is_lone, goes_as, returns_value, returns_nothing, fades_as, is_nothing, returns_at_end, keeps_none, keeps, skips, keeps_noop, keeps_bared, IsSwept, AreQuiet, FadesAlone, DecidedTo}
 
 pub no : {A : Type 0} → false ≡ true → A
 no h = absurd (let z : false ≡ true = h in cc)
 
-one_of : {A : Type 0} (a b : Bool) → a || b ≡ true → (a ≡ true → A) → (b ≡ true → A) → A
-one_of true b h f g = f refl
-one_of false b h f g = g h
+pub none_some : {A B : Type 0} {x : B} → None ≡ Some x → A
+none_some {B = B} {x = x} h = absurd (let z : None ≡ Some x = h in cc)
 
 pub all_of : {A : Type 0} (a b : Bool) → a && b ≡ true → (a ≡ true → b ≡ true → A) → A
 all_of true b h f = f refl h
@@ -33,15 +36,11 @@ lone_rule (ExprStmt (Variable ns x)) rest w h = rule.lone_goes w
 lone_rule (ExprStmt _) rest w h = no h
 lone_rule _ rest w h = no h
 
-inside_rule : {k : Context} (m : ListKind) {u : Bool} (s : Stmt) (rest : Stmts) → wanted_before (wanted m) rest ≡ false → AreQuiet rest → is_pure_in m s ≡ true → ListRule k m u (stmt s rest) rest
-inside_rule Whole s rest w p h = rule.pure_goes w h
-inside_rule (Inside b) s rest w p h = rule.pure_inside_goes w h p.0 p.1
-
-goes_rule : {k : Context} (m : ListKind) {u b : Bool} (s : Stmt) (rest : Stmts) → wanted_before (wanted m) rest ≡ false → (b ≡ true → AreQuiet rest) → goes m b s ≡ true → ListRule k m u (stmt s rest) rest
-goes_rule m {b = b} s rest w p h =
-    one_of (is_pure s) _ h (λ x. rule.pure_goes w x) (λ y.
-    one_of (is_lone s) _ y (λ x. lone_rule s rest w x) (λ z.
-    all_of b (is_pure_in m s) z (λ x q. inside_rule m s rest w (p x) q)))
+goes_rule : {k : Context} {u : Bool} (g : Going) (m : ListKind) (b : Bool) (s : Stmt) (rest : Stmts) → wanted_before (wanted m) rest ≡ false → (b ≡ true → AreQuiet rest) → goes_as g m b s ≡ true → ListRule k m u (stmt s rest) rest
+goes_rule going_kind.Pure m b s rest w p h = rule.pure_goes w h
+goes_rule going_kind.Lone m b s rest w p h = lone_rule s rest w h
+goes_rule going_kind.PureInside Whole b s rest w p h = no h
+goes_rule going_kind.PureInside (Inside i) b s rest w p h = all_of b (is_internally_pure s) h (λ x q. rule.pure_inside_goes w q (p x).0 (p x).1)
 
 nothing_goes_rule : {k : Context} (m : ListKind) (t : Stmt) → returns_nothing m t ≡ true → ListRule k m true (stmt t no_stmts) no_stmts
 nothing_goes_rule Whole (Return false exported no_expr) h = rule.last_return_goes
@@ -57,13 +56,13 @@ nothing_noop_rule Whole (Return true exported e) h = no h
 nothing_noop_rule Whole _ h = no h
 nothing_noop_rule (Inside b) t h = no h
 
-fades_rule : {k : Context} (m : ListKind) (t : Stmt) → fades m t ≡ true → ListRule k m true (stmt t no_stmts) no_stmts
-fades_rule m t h =
-    one_of (is_pure_in m t && is_surely_unit t) _ h (λ x. all_of (is_pure_in m t) _ x (λ p q. rule.last_unit_goes p q)) (λ x. nothing_goes_rule m t x)
+pub fades_rule : {k : Context} (x : Fading) (m : ListKind) (t : Stmt) → fades_as x m t ≡ true → ListRule k m true (stmt t no_stmts) no_stmts
+fades_rule fading_kind.LastReturn m t h = nothing_goes_rule m t h
+fades_rule fading_kind.LastUnit m t h = all_of (is_pure_in m t) _ h (λ p q. rule.last_unit_goes p q)
 
-noop_rule : {k : Context} (m : ListKind) {u : Bool} (t : Stmt) → fades m t ≡ true → is_noop t ≡ false → ListRule k m u (stmt t no_stmts) (stmt Noop no_stmts)
-noop_rule m t h n =
-    one_of (is_pure_in m t && is_surely_unit t) _ h (λ x. all_of (is_pure_in m t) _ x (λ p q. rule.last_unit_noop p q n)) (λ x. nothing_noop_rule m t x)
+pub noop_rule : {k : Context} {u : Bool} (x : Fading) (m : ListKind) (t : Stmt) → fades_as x m t ≡ true → is_noop t ≡ false → ListRule k m u (stmt t no_stmts) (stmt Noop no_stmts)
+noop_rule fading_kind.LastReturn m t h n = nothing_noop_rule m t h
+noop_rule fading_kind.LastUnit m t h n = all_of (is_pure_in m t) _ h (λ p q. rule.last_unit_noop p q n)
 
 -- ---- derivations
 
@@ -126,7 +125,7 @@ swept_more m s (stmt t rest) h i z = record {
 
 -- ---- nothing yet
 
-pub decided_start : {m : ListKind} → DecidedTo m (record { is_last = true; fades = false; is_quiet = true; has_changed = false; is_bared = false }) no_stmts no_stmts
+pub decided_start : {m : ListKind} → DecidedTo m (record { is_last = true; fading = None; is_quiet = true; has_changed = false; is_bared = false }) no_stmts no_stmts
 decided_start {m = m} = record {
   to = λ k u d. same_stmts;
   kept = keeps_none;
@@ -134,7 +133,7 @@ decided_start {m = m} = record {
   bared = λ z. no z;
   swept = swept_nothing m;
   last = refl;
-  fading = λ h. no h;
+  fading = λ x h. none_some h;
   quiet = λ h. (refl, refl);
 }
 
@@ -149,17 +148,17 @@ pure_declares : (s : Stmt) (ks : List Known) → is_pure s ≡ true → known_be
 pure_declares (Var constant exported x e) ks h = no h
 pure_declares _ ks h = refl
 
-goes_clear : (m : ListKind) (b : Bool) (s : Stmt) (rest : Stmts) (ks : List Known) → (b ≡ true → AreQuiet rest) → goes m b s ≡ true → AreClear (known_behind s ks) rest → AreClear ks rest
-goes_clear m b s rest ks p h c =
-    one_of (is_pure s) _ h (λ x. subst (λ l. AreClear l rest) (pure_declares s ks x) c) (λ y.
-    one_of (is_lone s) _ y (λ x. subst (λ l. AreClear l rest) (lone_declares s ks x) c) (λ z.
-    all_of b (is_pure_in m s) z (λ x q. pure_clear ks rest (p x).0)))
+goes_clear : (g : Going) (m : ListKind) (b : Bool) (s : Stmt) (rest : Stmts) (ks : List Known) → (b ≡ true → AreQuiet rest) → goes_as g m b s ≡ true → AreClear (known_behind s ks) rest → AreClear ks rest
+goes_clear going_kind.Pure m b s rest ks p h c = subst (λ l. AreClear l rest) (pure_declares s ks h) c
+goes_clear going_kind.Lone m b s rest ks p h c = subst (λ l. AreClear l rest) (lone_declares s ks h) c
+goes_clear going_kind.PureInside Whole b s rest ks p h c = no h
+goes_clear going_kind.PureInside (Inside i) b s rest ks p h c = all_of b (is_internally_pure s) h (λ x q. pure_clear ks rest (p x).0)
 
-pub decided_goes : {m : ListKind} {b : Behind} {s : Stmt} {ss rest : Stmts} → DecidedTo m b ss rest → wanted_before (wanted m) rest ≡ false → goes m b.is_quiet s ≡ true → DecidedTo m (record { is_last = b.is_last; fades = b.fades; is_quiet = b.is_quiet; has_changed = true; is_bared = b.is_bared }) (stmt s ss) rest
-decided_goes {m = m} {b = b} {s = s} {rest = rest} f w h = record {
-  to = then_rule f (λ k u. goes_rule m s rest w f.quiet h);
+pub decided_goes : {m : ListKind} {b : Behind} {s : Stmt} {ss rest : Stmts} (g : Going) → DecidedTo m b ss rest → wanted_before (wanted m) rest ≡ false → goes_as g m b.is_quiet s ≡ true → DecidedTo m (record { is_last = b.is_last; fading = b.fading; is_quiet = b.is_quiet; has_changed = true; is_bared = b.is_bared }) (stmt s ss) rest
+decided_goes {m = m} {b = b} {s = s} {rest = rest} g f w h = record {
+  to = then_rule f (λ k u. goes_rule g m b.is_quiet s rest w f.quiet h);
   kept = skips f.kept;
-  clear = λ z ks c. goes_clear m b.is_quiet s rest ks f.quiet h (f.clear z _ c.1);
+  clear = λ z ks c. goes_clear g m b.is_quiet s rest ks f.quiet h (f.clear z _ c.1);
   bared = λ z. refl;
   swept = f.swept;
   last = f.last;
@@ -169,8 +168,8 @@ decided_goes {m = m} {b = b} {s = s} {rest = rest} f w h = record {
 
 -- ---- a statement that stays, and does not leave the list
 
-pub decided_stays : {m : ListKind} {b : Behind} {s : Stmt} {ss rest : Stmts} (fading quiet : Bool) → DecidedTo m b ss rest → is_control_flow_break s ≡ false → (b.is_last ≡ false → is_idle s ≡ false) → (fading ≡ true → Fading m (stmt s rest)) → (quiet ≡ true → AreQuiet (stmt s rest)) → DecidedTo m (record { is_last = false; fades = fading; is_quiet = quiet; has_changed = b.has_changed; is_bared = b.is_bared }) (stmt s ss) (stmt s rest)
-decided_stays {m = m} {b = b} {s = s} {rest = rest} fading quiet f h i g p = record {
+pub decided_stays : {m : ListKind} {b : Behind} {s : Stmt} {ss rest : Stmts} (fades : Option Fading) (quiet : Bool) → DecidedTo m b ss rest → is_control_flow_break s ≡ false → (b.is_last ≡ false → is_idle s ≡ false) → ((x : Fading) → fades ≡ Some x → FadesAlone m x (stmt s rest)) → (quiet ≡ true → AreQuiet (stmt s rest)) → DecidedTo m (record { is_last = false; fading = fades; is_quiet = quiet; has_changed = b.has_changed; is_bared = b.is_bared }) (stmt s ss) (stmt s rest)
+decided_stays {m = m} {b = b} {s = s} {rest = rest} fades quiet f h i g p = record {
   to = behind_it s f;
   kept = keeps f.kept;
   clear = λ z ks c. (c.0, f.clear z _ c.1);
@@ -191,8 +190,8 @@ leaves_to true l (stmt t rest) e h p = then_stmts p (by_list_rule (rule.after_le
 leaves_to false false (stmt t rest) e h p = then_stmts p (by_list_rule (rule.after_leave h))
 leaves_to false true (stmt t rest) e h p = no (sym e)
 
-pub decided_leaves : {m : ListKind} {b : Behind} {s : Stmt} {ss rest : Stmts} (fading : Bool) → DecidedTo m b ss rest → is_control_flow_break s ≡ true → returns_value m s ≡ false → (fading ≡ true → Fading m (stmt s no_stmts)) → DecidedTo m (record { is_last = false; fades = fading; is_quiet = false; has_changed = b.has_changed || not b.is_last; is_bared = false }) (stmt s ss) (stmt s no_stmts)
-decided_leaves {m = m} {b = b} {s = s} {rest = rest} fading f h r g = record {
+pub decided_leaves : {m : ListKind} {b : Behind} {s : Stmt} {ss rest : Stmts} (fades : Option Fading) → DecidedTo m b ss rest → is_control_flow_break s ≡ true → returns_value m s ≡ false → ((x : Fading) → fades ≡ Some x → FadesAlone m x (stmt s no_stmts)) → DecidedTo m (record { is_last = false; fading = fades; is_quiet = false; has_changed = b.has_changed || not b.is_last; is_bared = false }) (stmt s ss) (stmt s no_stmts)
+decided_leaves {m = m} {b = b} {s = s} {rest = rest} fades f h r g = record {
   to = λ k u d. leaves_to b.has_changed b.is_last rest f.last h (behind_it s f k u d);
   kept = keeps keeps_none;
   clear = λ z ks c. (c.0, tt);
@@ -209,7 +208,7 @@ bares_to : {k : Context} {u d d1 exported : Bool} {e : Expr} {ss : Stmts} (rest 
 bares_to no_stmts p = then_stmts p (by_list_rule rule.last_return)
 bares_to (stmt t rest) p = then_stmts p (then_stmts (by_list_rule (rule.after_leave refl)) (by_list_rule rule.last_return))
 
-pub decided_bares : {b : Behind} {exported : Bool} {e : Expr} {ss rest : Stmts} → DecidedTo Whole b ss rest → DecidedTo Whole (record { is_last = false; fades = false; is_quiet = false; has_changed = true; is_bared = true }) (stmt (Return false exported (an_expr e)) ss) (stmt (ExprStmt e) no_stmts)
+pub decided_bares : {b : Behind} {exported : Bool} {e : Expr} {ss rest : Stmts} → DecidedTo Whole b ss rest → DecidedTo Whole (record { is_last = false; fading = None; is_quiet = false; has_changed = true; is_bared = true }) (stmt (Return false exported (an_expr e)) ss) (stmt (ExprStmt e) no_stmts)
 decided_bares {b = b} {exported = exported} {e = e} {rest = rest} f = record {
   to = λ k u d. bares_to rest (behind_it (Return false exported (an_expr e)) f k u d);
   kept = keeps_bared;
@@ -217,52 +216,50 @@ decided_bares {b = b} {exported = exported} {e = e} {rest = rest} f = record {
   bared = λ z. refl;
   swept = swept_alone Whole (ExprStmt e) refl;
   last = refl;
-  fading = λ h. no h;
+  fading = λ x h. none_some h;
   quiet = λ h. no h;
 }
 
 -- ---- the one behind fades
 
-fades_at : {k : Context} (m : ListKind) {v : Bool} {t : Stmt} {rest : Stmts} → v ≡ true → rest ≡ stmt t no_stmts → fades m t ≡ true → ListRule k m v rest no_stmts
-fades_at {k = k} m {t = t} {rest = rest} v e h = subst (λ x. ListRule k m x rest no_stmts) (sym v) (subst (λ x. ListRule k m true x no_stmts) (sym e) (fades_rule m t h))
+pub fades_at : {k : Context} {v : Bool} {rest : Stmts} (x : Fading) (m : ListKind) → v ≡ true → FadesAlone m x rest → ListRule k m v rest no_stmts
+fades_at {k = k} {rest = rest} x m v z = subst (λ y. ListRule k m y rest no_stmts) (sym v) (subst (λ y. ListRule k m true y no_stmts) (sym z.1.1) (fades_rule x m z.1.0 z.1.2))
 
-noop_at : {k : Context} (m : ListKind) {v : Bool} {t : Stmt} {rest : Stmts} → rest ≡ stmt t no_stmts → fades m t ≡ true → is_noop t ≡ false → ListRule k m v rest (stmt Noop no_stmts)
-noop_at {k = k} m {v = v} {t = t} e h n = subst (λ x. ListRule k m v x (stmt Noop no_stmts)) (sym e) (noop_rule m t h n)
+pub noop_at : {k : Context} {v : Bool} {t : Stmt} {rest : Stmts} (x : Fading) (m : ListKind) → rest ≡ stmt t no_stmts → fades_as x m t ≡ true → is_noop t ≡ false → ListRule k m v rest (stmt Noop no_stmts)
+noop_at {k = k} {v = v} {t = t} x m e h n = subst (λ y. ListRule k m v y (stmt Noop no_stmts)) (sym e) (noop_rule x m t h n)
 
 -- behind a statement that is surely unit it goes
-pub decided_fades : {m : ListKind} {b : Behind} {s : Stmt} {ss rest : Stmts} → DecidedTo m b ss rest → b.fades ≡ true → is_surely_unit s ≡ true → DecidedTo m (record { is_last = false; fades = false; is_quiet = false; has_changed = true; is_bared = false }) (stmt s ss) (stmt s no_stmts)
-decided_fades {m = m} {s = s} f h q =
-    let z = f.fading h in
-    record {
-      to = λ k u d. then_stmts (behind_it s f k u d) (in_tail (by_list_rule (fades_at m q z.1.1 z.1.2)));
-      kept = keeps keeps_none;
-      clear = λ z ks c. (c.0, tt);
-      bared = λ z. refl;
-      swept = swept_alone m s (stays_no_return m s (unit_stays s q));
-      last = refl;
-      fading = λ h. no h;
-      quiet = λ h. no h;
-    }
+pub decided_fades : {m : ListKind} {b : Behind} {s : Stmt} {ss rest : Stmts} (x : Fading) → DecidedTo m b ss rest → b.fading ≡ Some x → is_surely_unit s ≡ true → DecidedTo m (record { is_last = false; fading = None; is_quiet = false; has_changed = true; is_bared = false }) (stmt s ss) (stmt s no_stmts)
+decided_fades {m = m} {s = s} x f h q = record {
+  to = λ k u d. then_stmts (behind_it s f k u d) (in_tail (by_list_rule (fades_at x m q (f.fading x h))));
+  kept = keeps keeps_none;
+  clear = λ z ks c. (c.0, tt);
+  bared = λ z. refl;
+  swept = swept_alone m s (stays_no_return m s (unit_stays s q));
+  last = refl;
+  fading = λ x h. none_some h;
+  quiet = λ h. no h;
+}
 
 -- behind another one it does nothing
-pub decided_noop : {m : ListKind} {b : Behind} {s t : Stmt} {ss rest : Stmts} → DecidedTo m b ss rest → b.fades ≡ true → rest ≡ stmt t no_stmts → is_noop t ≡ false → is_control_flow_break s ≡ false → is_idle s ≡ false → DecidedTo m (record { is_last = false; fades = false; is_quiet = false; has_changed = true; is_bared = false }) (stmt s ss) (stmt s (stmt Noop no_stmts))
-decided_noop {m = m} {s = s} {t = t} f h e n q i =
-    let z = f.fading h in
-    let faded : fades m t ≡ true = subst (λ x. fades m x ≡ true) (let p = z.1.1 in cc) z.1.2 in
+pub decided_noop : {m : ListKind} {b : Behind} {s t : Stmt} {ss rest : Stmts} (x : Fading) → DecidedTo m b ss rest → b.fading ≡ Some x → rest ≡ stmt t no_stmts → is_noop t ≡ false → is_control_flow_break s ≡ false → is_idle s ≡ false → DecidedTo m (record { is_last = false; fading = None; is_quiet = false; has_changed = true; is_bared = false }) (stmt s ss) (stmt s (stmt Noop no_stmts))
+decided_noop {m = m} {s = s} {t = t} x f h e n q i =
+    let z = f.fading x h in
+    let faded : fades_as x m t ≡ true = subst (λ y. fades_as x m y ≡ true) (let p = z.1.1 in cc) z.1.2 in
     record {
-      to = λ k u d. then_stmts (behind_it s f k u d) (in_tail (by_list_rule (noop_at m e faded n)));
+      to = λ k u d. then_stmts (behind_it s f k u d) (in_tail (by_list_rule (noop_at x m e faded n)));
       kept = keeps keeps_noop;
       clear = λ z ks c. (c.0, (tt, tt));
       bared = λ z. refl;
       swept = swept_more m s (stmt Noop no_stmts) q (λ x. i) (swept_alone m Noop (stays_no_return m Noop refl));
       last = refl;
-      fading = λ h. no h;
+      fading = λ x h. none_some h;
       quiet = λ h. no h;
     }
 
 -- at the start of a list it goes
-pub decided_ends : {m : ListKind} {b : Behind} {ss rest : Stmts} → DecidedTo m b ss rest → b.fades ≡ true → (k : Context) (d : Bool) → RestTo k m true d true ss no_stmts
-decided_ends {m = m} f h k d = let z = f.fading h in then_stmts (f.to k true d) (by_list_rule (fades_at m refl z.1.1 z.1.2))
+pub decided_ends : {m : ListKind} {b : Behind} {ss rest : Stmts} (x : Fading) → DecidedTo m b ss rest → b.fading ≡ Some x → (k : Context) (d : Bool) → RestTo k m true d true ss no_stmts
+decided_ends {m = m} x f h k d = then_stmts (f.to k true d) (by_list_rule (fades_at x m refl (f.fading x h)))
 
 pub swept_empty : (m : ListKind) → IsSwept m no_stmts
 swept_empty = swept_nothing

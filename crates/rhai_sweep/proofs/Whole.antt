@@ -1,5 +1,5 @@
 -- A whole list, decided place by place from its end.
-use Rattle.std.proofs.Common.{◌≡◌, ◌<◌, ℕ, ◌+◌, Bool, true, false, [], ◌∷◌, length, take, drop, refl, sym, ap, ◌∙◌, subst, arith}
+use Rattle.std.proofs.Common.{◌≡◌, ◌<◌, ℕ, ◌+◌, Bool, true, false, Some, None, [], ◌∷◌, length, take, drop, refl, sym, ap, ◌∙◌, subst, arith}
 use Rattle.std.specs.Prelude.{◌||◌}
 use Rattle.std.proofs.lemmas.List.{drop_more, drop-take, take-take}
 use Rattle.std.proofs.Math.Seq.{drop-length}
@@ -14,6 +14,7 @@ use Rattle.rhai_rewriting.specs.Context.{under, ListKind}
 use Rattle.rhai_rewriting.specs.Rewriting.{RestTo, same_stmts}
 use Rattle.rhai_rewriting.proofs.Flags.{stmts_kept}
 use Rattle.rhai_sweep.specs.declared.behind.Behind.{Behind}
+use Rattle.rhai_sweep.specs.declared.behind.Fading.{Fading}
 use Rattle.rhai_sweep.specs.declared.swept.Swept.{Swept}
 use Rattle.rhai_sweep.specs.Steps.{Declared, kept, headed, Step, SoFar, Decided, Sweeps}
 use Rattle.rhai_sweep.specs.Sweep.{IsSwept, Keeps, keeps_none}
@@ -38,7 +39,7 @@ headed-at xs n ss = headed-one (drop n xs) ss ∙ sym (ap (λ l. headed l ss) (d
 headed-same : (xs ys : Declared) (n : ℕ) (ss : Stmts) → take (n + 1) xs ≡ take (n + 1) ys → headed (drop n xs) ss ≡ headed (drop n ys) ss
 headed-same xs ys n ss h = headed-at xs n ss ∙ ap (λ l. headed (drop n l) ss) h ∙ sym (headed-at ys n ss)
 
-pub sofar_start : {m : ListKind} {xs : Declared} (n : ℕ) → n ≡ length xs → SoFar m n xs xs (record { is_last = true; fades = false; is_quiet = true; has_changed = false; is_bared = false })
+pub sofar_start : {m : ListKind} {xs : Declared} (n : ℕ) → n ≡ length xs → SoFar m n xs xs (record { is_last = true; fading = None; is_quiet = true; has_changed = false; is_bared = false })
 sofar_start {m = m} {xs = xs} n h =
     let none : drop n xs ≡ [] = ap (λ k. drop k xs) h ∙ drop-length xs in
     record {
@@ -73,11 +74,11 @@ sofar_end {m = m} {n = n} {all = all} {now = now} {b = b} s e =
 abbrev some_engine : Engine
 some_engine = record { constants = []; overrides = []; type_names = []; fast_operators = false }
 
-pub sweeps_faded : {m : ListKind} {old now new : Declared} {b : Behind} → Decided m old now b → b.fades ≡ true → new ≡ take 0 now → Sweeps m old new (record { has_changed = true; is_bared = false; moved = 0 })
-sweeps_faded {m = m} {old = old} {now = now} {new = new} {b = b} p h e =
+pub sweeps_faded : {m : ListKind} {old now new : Declared} {b : Behind} (x : Fading) → Decided m old now b → b.fading ≡ Some x → new ≡ take 0 now → Sweeps m old new (record { has_changed = true; is_bared = false; moved = 0 })
+sweeps_faded {m = m} {old = old} {now = now} {new = new} {b = b} x p h e =
     let after : Swept = record { has_changed = true; is_bared = false; moved = 0 } in
     subst (λ z. Sweeps m old z after) (sym e) (record {
-      to = λ k d. decided_ends p.decided h k d;
+      to = λ k d. decided_ends x p.decided h k d;
       swept = swept_empty m;
       kept = keeps_none;
       clear = λ z ks c. tt;

@@ -1,12 +1,15 @@
 -- A step of a sweep, in the list's own memory.
 use Rattle.std.specs.Prelude.{◌≡◌, ◌<◌, ◌≤◌, ◌+◌, ◌||◌, ℕ, Bool, true, false, cond, List, [], ◌∷◌, length, take, drop, slice_set as set}
+use Rattle.rhai_tokens.specs.declared.position.Position.{Position}
 use Rattle.rhai_tree.specs.declared.stmt.Stmt as declared_stmt
+use Rattle.rhai_tree.specs.declared.stmt.Stmt.TheVariants.{Noop as noop_at}
 use Rattle.rhai_meaning.specs.Tree.{Stmts, stmt}
 use Rattle.rhai_reading.specs.Reading.{stmt_of, stmts_of}
 use Rattle.rhai_rewriting.specs.Clear.{AreClear}
 use Rattle.rhai_rewriting.specs.Known.{Known}
 use Rattle.rhai_rewriting.specs.Context.{Context, ListKind, wanted}
 use Rattle.rhai_rewriting.specs.Rewriting.{RestTo}
+use Rattle.rhai_rewriting.specs.Rules.{ListRule}
 use Rattle.rhai_sweep.specs.Sweep.{DecidedTo, IsSwept, Keeps, bared, closed_up}
 use Rattle.rhai_sweep.specs.declared.behind.Behind.{Behind}
 use Rattle.rhai_sweep.specs.declared.swept.Swept.{Swept}
@@ -32,6 +35,18 @@ pub record BaredAt (at : ℕ) (old new : Declared) (s : declared_stmt.Stmt) : Ty
   pub expression : declared_stmt.Stmt
   pub put : new ≡ set old at expression
   pub reads : stmt_of expression ≡ bared (stmt_of s)
+
+-- at a place a `Noop` stands
+pub record MarkedAt (at : ℕ) (old new : Declared) : Type 0 where
+  pub position : Position
+  pub put : new ≡ set old at (noop_at position)
+
+-- a rule takes what is kept from a place on to what is kept then, in every context; behind unit alone
+abbrev pub Fires : ListKind → ℕ → Declared → Declared → Type 0
+Fires m n old new = (k : Context) (u : Bool) → ListRule k m u (kept m (drop n old)) (kept m (drop n new))
+
+abbrev pub FiresBehindUnit : ListKind → ℕ → Declared → Declared → Type 0
+FiresBehindUnit m n old new = (k : Context) → ListRule k m true (kept m (drop n old)) (kept m (drop n new))
 
 -- those before a place stay as they are; the one there is decided, whatever stood behind it
 pub record Step (m : ListKind) (at : ℕ) (old new : Declared) (b b' : Behind) : Type 0 where

@@ -1,5 +1,5 @@
 -- A sweep over a list of statements, from its end.
-use Rattle.std.specs.Prelude.{◌≡◌, List, Bool, true, false, cond, ◌&&◌, ◌||◌, not}
+use Rattle.std.specs.Prelude.{◌≡◌, List, Bool, true, false, cond, ◌&&◌, ◌||◌, not, Option, Some, None, if◌then◌else◌}
 use Rattle.rhai_meaning.specs.Queries.{is_pure, is_internally_pure, are_internally_pure, is_noop}
 use Rattle.rhai_meaning.specs.Tree.{Expr, Variable, Stmt, Noop, ExprStmt, Return, no_expr, an_expr, Stmts, no_stmts, stmt}
 use Rattle.rhai_rewriting.specs.Clear.{AreClear}
@@ -11,6 +11,10 @@ use Rattle.rhai_rewriting.specs.Rewriting.{RestTo}
 use Rattle.rhai_rewriting.specs.Rules.{is_pure_in}
 use Rattle.rhai_rewriting.specs.SurelyUnit.{is_surely_unit}
 use Rattle.rhai_sweep.specs.declared.behind.Behind.{Behind}
+use Rattle.rhai_sweep.specs.declared.behind.Fading.{Fading}
+use Rattle.rhai_sweep.specs.declared.behind.Fading.TheVariants as fading_kind
+use Rattle.rhai_sweep.specs.declared.behind.Going.{Going}
+use Rattle.rhai_sweep.specs.declared.behind.Going.TheVariants as going_kind
 
 -- ---- what a statement is by itself
 
@@ -27,9 +31,23 @@ is_lone _ = false
 abbrev pub is_quiet : Stmt → Bool
 is_quiet s = is_internally_pure s && stmt_exports_nothing s
 
--- It goes where its value is not wanted. The first test is whether all that follow are quiet.
-abbrev pub goes : ListKind → Bool → Stmt → Bool
-goes m b s = is_pure s || (is_lone s || (b && is_pure_in m s))
+-- inside a list, before quiet ones (the first test)
+abbrev pub goes_inside : ListKind → Bool → Stmt → Bool
+goes_inside Whole b s = false
+goes_inside (Inside w) b s = b && is_internally_pure s
+
+-- by which rule it goes where its value is not wanted; the first test is whether all that follow are quiet
+abbrev pub goes_by : ListKind → Bool → Stmt → Option Going
+goes_by m b s =
+    if is_pure s then Some going_kind.Pure
+    else if is_lone s then Some going_kind.Lone
+    else if goes_inside m b s then Some going_kind.PureInside
+    else None
+
+abbrev pub goes_as : Going → ListKind → Bool → Stmt → Bool
+goes_as going_kind.Pure m b s = is_pure s
+goes_as going_kind.Lone m b s = is_lone s
+goes_as going_kind.PureInside m b s = goes_inside m b s
 
 -- `return e` and `return;` of a script or a function
 abbrev pub whole_returns_value : Stmt → Bool
@@ -53,9 +71,16 @@ abbrev pub bared : Stmt → Stmt
 bared (Return throws exported (an_expr e)) = ExprStmt e
 bared s = s
 
--- as the last one it goes behind unit, and else does nothing
-abbrev pub fades : ListKind → Stmt → Bool
-fades m s = (is_pure_in m s && is_surely_unit s) || returns_nothing m s
+-- as the last one it goes behind unit, and else does nothing: by which rules
+abbrev pub fades_as : Fading → ListKind → Stmt → Bool
+fades_as fading_kind.LastReturn m s = returns_nothing m s
+fades_as fading_kind.LastUnit m s = is_pure_in m s && is_surely_unit s
+
+abbrev pub return_fades : ListKind → Stmt → Option Fading
+return_fades m s = if returns_nothing m s then Some fading_kind.LastReturn else None
+
+abbrev pub unit_fades : ListKind → Stmt → Option Fading
+unit_fades m s = if is_pure_in m s && is_surely_unit s then Some fading_kind.LastUnit else None
 
 -- ---- what is kept of a list
 
@@ -87,8 +112,8 @@ abbrev pub AreQuiet : Stmts → Type 0
 AreQuiet ss = (are_internally_pure ss ≡ true) × (exports_nothing ss ≡ true)
 
 -- one statement alone, which fades
-abbrev pub Fading : ListKind → Stmts → Type 0
-Fading m rest = (wanted m ≡ true) × ((t : Stmt) × (rest ≡ stmt t no_stmts) × (fades m t ≡ true))
+abbrev pub FadesAlone : ListKind → Fading → Stmts → Type 0
+FadesAlone m x rest = (wanted m ≡ true) × ((t : Stmt) × (rest ≡ stmt t no_stmts) × (fades_as x m t ≡ true))
 
 -- these statements are decided, from their end: the rest of them is kept
 pub record DecidedTo (m : ListKind) (b : Behind) (ss rest : Stmts) : Type 0 where
@@ -98,7 +123,7 @@ pub record DecidedTo (m : ListKind) (b : Behind) (ss rest : Stmts) : Type 0 wher
   pub bared : b.is_bared ≡ true → b.has_changed ≡ true
   pub swept : IsSwept m rest
   pub last : b.is_last ≡ is_nothing rest
-  pub fading : b.fades ≡ true → Fading m rest
+  pub fading : (x : Fading) → b.fading ≡ Some x → FadesAlone m x rest
   pub quiet : b.is_quiet ≡ true → AreQuiet rest
 
 -- ---- a list in which what goes is marked by a `Noop` whose value is not wanted

@@ -18,7 +18,10 @@ use std::alloc::Global;
 /// Is the statement at a place a mark: a `Noop` whose value is not wanted?
 fn is_mark(is_wanted: bool, list: &[Stmt], at: usize) -> bool
     requires { at < length list.now }
-    ensures { (d : Stmt) → result ≡ queries.is_noop (stmt_of (slice_index_or list.now at d)) && not (wanted_before is_wanted (stmts_of (drop (at + 1) list.now))) }
+    ensures { (d : Stmt)
+        → result
+        ≡ queries.is_noop (stmt_of (slice_index_or list.now at d))
+        && not (wanted_before is_wanted (stmts_of (drop (at + 1) list.now))) }
 {
     list[at].is_noop() && !is_wanted_at(is_wanted, list, at)
 }
@@ -45,7 +48,7 @@ fn move_down(list: &mut Seq<Stmt>, from: usize, to: usize)
 }
 
 /// The marks of a list go. The answer is how many statements were moved, each once: all that are left.
-pub fn close_up(alloc: Global, is_wanted: bool, list: &mut Seq<Stmt>) -> usize
+pub(crate) fn close_up(alloc: Global, is_wanted: bool, list: &mut Seq<Stmt>) -> usize
     ensures closed { stmts_of list.new ≡ closed_up is_wanted (stmts_of list.old) }
     ensures moved { result ≡ length list.new }
 {

@@ -6,6 +6,7 @@ mod closing;
 mod mark;
 mod passes;
 mod questions;
+mod rules;
 mod steps;
 mod swept;
 

@@ -6,10 +6,9 @@ ghost use Rattle.rhai_sweep.specs.Steps.{Decided, Sweeps};
 use crate::behind::Behind;
 use crate::closing::close_up;
 use crate::mark::ListMark;
-use crate::steps::decide;
+use crate::steps::{decide, go_last};
 use crate::swept::Swept;
 use rhai_base::Seq;
-use rhai_lists::shorten;
 use rhai_tree::Stmt;
 use std::alloc::Global;
 
@@ -20,7 +19,7 @@ fn decide_all(alloc: Global, mark: ListMark, list: &mut Seq<Stmt>) -> Behind
     let mut at = list.len();
     let mut behind = Behind {
         is_last: true,
-        fades: false,
+        fading: None,
         is_quiet: true,
         has_changed: false,
         is_bared: false,
@@ -37,8 +36,8 @@ pub fn sweep(alloc: Global, mark: ListMark, list: &mut Seq<Stmt>) -> Swept
     ensures { Sweeps (mark_of mark) list.old list.new result }
 {
     let behind = decide_all(alloc, mark, list);
-    if behind.fades {
-        shorten(alloc, list, 0);
+    if let Some(fading) = behind.fading {
+        go_last(alloc, fading, list, 0);
         return Swept {
             has_changed: true,
             is_bared: false,

@@ -9,6 +9,7 @@ ghost use Rattle.rhai_rewriting.specs.Rules as rules;
 ghost use Rattle.rhai_sweep.specs.Marks.{mark_of};
 ghost use Rattle.rhai_sweep.specs.Sweep as spec;
 
+use crate::behind::{Fading, Going};
 use crate::mark::ListMark;
 use bitflags::Flags;
 use rhai_base::ASTFlags;
@@ -17,7 +18,7 @@ use rhai_stmts::StmtQueries;
 use rhai_tree::{Expr, Stmt};
 
 /// Is it a name alone?
-pub fn is_lone(statement: &Stmt) -> bool
+fn is_lone(statement: &Stmt) -> bool
     ensures { result ≡ spec.is_lone (stmt_of statement.now) }
 {
     match statement {
@@ -36,7 +37,7 @@ fn is_name(expr: &Expr) -> bool
 }
 
 /// Is it pure in such a list? A list inside takes away the names that it adds.
-pub fn is_pure_in(mark: ListMark, statement: &Stmt) -> bool
+fn is_pure_in(mark: ListMark, statement: &Stmt) -> bool
     ensures { result ≡ rules.is_pure_in (mark_of mark) (stmt_of statement.now) }
 {
     match mark {
@@ -46,21 +47,41 @@ pub fn is_pure_in(mark: ListMark, statement: &Stmt) -> bool
 }
 
 /// Is it pure inside a list, and does it export nothing?
-pub fn is_quiet(statement: &Stmt) -> bool
+pub(crate) fn is_quiet(statement: &Stmt) -> bool
     ensures { result ≡ spec.is_quiet (stmt_of statement.now) }
 {
     statement.is_internally_pure() && exports_nothing(statement)
 }
 
-/// Does it go where its value is not wanted? The flag: all that follow are quiet.
-pub fn goes(mark: ListMark, are_quiet: bool, statement: &Stmt) -> bool
-    ensures { result ≡ spec.goes (mark_of mark) are_quiet (stmt_of statement.now) }
+/// Does it go inside a list? The flag: all that follow are quiet.
+fn goes_inside(mark: ListMark, are_quiet: bool, statement: &Stmt) -> bool
+    ensures { result ≡ spec.goes_inside (mark_of mark) are_quiet (stmt_of statement.now) }
 {
-    statement.is_pure() || is_lone(statement) || are_quiet && is_pure_in(mark, statement)
+    match mark {
+        ListMark::Whole => false,
+        ListMark::Inside { is_wanted: _ } => are_quiet && statement.is_internally_pure(),
+    }
+}
+
+/// By which rule does it go where its value is not wanted, if by one? The flag: all that follow are quiet.
+pub(crate) fn goes_by(mark: ListMark, are_quiet: bool, statement: &Stmt) -> Option<Going>
+    ensures { result ≡ spec.goes_by (mark_of mark) are_quiet (stmt_of statement.now) }
+{
+    if statement.is_pure() {
+        return Some(Going::Pure);
+    }
+    if is_lone(statement) {
+        return Some(Going::Lone);
+    }
+    if goes_inside(mark, are_quiet, statement) {
+        Some(Going::PureInside)
+    } else {
+        None
+    }
 }
 
 /// Is it a `return e` of a script or a function?
-pub fn returns_value(mark: ListMark, statement: &Stmt) -> bool
+pub(crate) fn returns_value(mark: ListMark, statement: &Stmt) -> bool
     ensures { result ≡ spec.returns_value (mark_of mark) (stmt_of statement.now) }
 {
     match mark {
@@ -79,7 +100,7 @@ fn is_return_of_value(statement: &Stmt) -> bool
 }
 
 /// Is it a `return;` of a script or a function?
-pub fn returns_nothing(mark: ListMark, statement: &Stmt) -> bool
+fn returns_nothing(mark: ListMark, statement: &Stmt) -> bool
     ensures { result ≡ spec.returns_nothing (mark_of mark) (stmt_of statement.now) }
 {
     match mark {
@@ -97,9 +118,24 @@ fn is_return_of_nothing(statement: &Stmt) -> bool
     }
 }
 
-/// Does it go behind unit as the last one, and else do nothing?
-pub fn fades(mark: ListMark, statement: &Stmt) -> bool
-    ensures { result ≡ spec.fades (mark_of mark) (stmt_of statement.now) }
+/// Does a `return;` go behind unit as the last one, and else do nothing?
+pub(crate) fn return_fades(mark: ListMark, statement: &Stmt) -> Option<Fading>
+    ensures { result ≡ spec.return_fades (mark_of mark) (stmt_of statement.now) }
 {
-    is_pure_in(mark, statement) && is_surely_unit(statement) || returns_nothing(mark, statement)
+    if returns_nothing(mark, statement) {
+        Some(Fading::LastReturn)
+    } else {
+        None
+    }
+}
+
+/// Does one go behind unit as the last one, and else do nothing, since it is pure and surely unit?
+pub(crate) fn unit_fades(mark: ListMark, statement: &Stmt) -> Option<Fading>
+    ensures { result ≡ spec.unit_fades (mark_of mark) (stmt_of statement.now) }
+{
+    if is_pure_in(mark, statement) && is_surely_unit(statement) {
+        Some(Fading::LastUnit)
+    } else {
+        None
+    }
 }

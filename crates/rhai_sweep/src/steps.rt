@@ -1,44 +1,42 @@
-//! The decisions of a sweep, in the list's own memory. A statement that goes is marked by a `Noop` in its place.
+//! The decisions of a sweep: which rule fires at a statement, asked by reference, and what is known before it then.
 
 #![tactic(auto, using(rhai_reading::specs::Reading::shapes))]
 
-ghost use Rattle.std.specs.Prelude.{◌≡◌, ◌<◌, ◌&&◌, ◌||◌, not, true, false, length, slice_index_or};
+ghost use Rattle.std.specs.Prelude.{◌≡◌, ◌<◌, ◌+◌, ◌-◌, ◌&&◌, ◌||◌, not, true, false, Some, None, length, take, slice_index_or};
 ghost use Rattle.rhai_meaning.specs.Queries as queries;
 ghost use Rattle.rhai_reading.specs.Reading.{stmt_of};
 ghost use Rattle.rhai_rewriting.specs.Context.{wanted};
 ghost use Rattle.rhai_tree.specs.declared.stmt.Stmt.{Stmt};
 ghost use Rattle.rhai_sweep.specs.Marks.{mark_of};
-ghost use Rattle.rhai_sweep.specs.Steps.{BaredAt, Step, cut};
+ghost use Rattle.rhai_sweep.specs.Steps.{MarkedAt, Step, cut};
 ghost use Rattle.rhai_sweep.specs.declared.mark.ListMark.{ListMark};
 ghost use Rattle.rhai_sweep.specs.Sweep as spec;
 
-use crate::behind::Behind;
+use crate::behind::{Behind, Fading, Going};
 use crate::mark::ListMark;
-use crate::questions::{fades, goes, is_quiet, returns_nothing, returns_value};
-use rhai_base::{Position, Seq};
+use crate::questions::{goes_by, is_quiet, return_fades, returns_value, unit_fades};
+use crate::rules::{
+    after_leave, last_return, last_return_goes, last_return_noop, last_unit_goes, last_unit_noop,
+    lone_goes, pure_goes, pure_inside_goes,
+};
+use rhai_base::Seq;
 use rhai_deep_queries::is_surely_unit;
-use rhai_lists::{cut_behind, put_nothing};
-use rhai_nodes::put_stmt;
 use rhai_stmts::StmtQueries;
 use rhai_tree::Stmt;
 use std::alloc::Global;
-use std::mem::replace;
 
-/// A statement goes, since its value is not wanted.
-fn mark_gone(mark: ListMark, list: &mut Seq<Stmt>, at: usize, behind: Behind) -> Behind
+/// A statement goes by a rule, since its value is not wanted.
+fn go(mark: ListMark, going: Going, list: &mut Seq<Stmt>, at: usize, behind: Behind) -> Behind
     requires inside { at < length list.old }
     requires unwanted { behind.is_last && wanted (mark_of mark) ≡ false }
-    requires goes { (d : Stmt) → spec.goes (mark_of mark) behind.is_quiet (stmt_of (slice_index_or list.old at d)) ≡ true }
+    requires goes { (d : Stmt)
+        → spec.goes_as going (mark_of mark) behind.is_quiet (stmt_of (slice_index_or list.old at d)) ≡ true }
     ensures { Step (mark_of mark) at list.old list.new behind result }
 {
-    let pos = list.as_slice()[at].position();
-    put_nothing(list, at, pos);
-    Behind {
-        is_last: behind.is_last,
-        fades: behind.fades,
-        is_quiet: behind.is_quiet,
-        has_changed: true,
-        is_bared: behind.is_bared,
+    match going {
+        Going::Pure => pure_goes(mark, list, at, behind),
+        Going::Lone => lone_goes(mark, list, at, behind),
+        Going::PureInside => pure_inside_goes(mark, list, at, behind),
     }
 }
 
@@ -53,48 +51,22 @@ fn keep_last(mark: ListMark, list: &mut Seq<Stmt>, at: usize, behind: Behind) ->
     let statement = &list.as_slice()[at];
     Behind {
         is_last: false,
-        fades: fades(mark, statement),
+        fading: unit_fades(mark, statement),
         is_quiet: is_quiet(statement),
         has_changed: behind.has_changed,
         is_bared: behind.is_bared,
     }
 }
 
-/// Those behind a place go, where any are kept.
+/// Those behind a statement that leaves the list go, where any are kept.
 fn leave_none_behind(alloc: Global, list: &mut Seq<Stmt>, at: usize, is_last: bool)
-    requires { at < length list.old }
+    requires inside { at < length list.old }
+    requires leaves { (d : Stmt) → queries.is_control_flow_break (stmt_of (slice_index_or list.old at d)) ≡ true }
     ensures { list.new ≡ cut is_last at list.old }
 {
     if !is_last {
-        cut_behind(alloc, list, at);
+        after_leave(alloc, list, at);
     }
-}
-
-/// The expression of a `return`, as a statement.
-fn expression_of(statement: Stmt) -> Stmt
-    requires { spec.whole_returns_value (stmt_of statement) ≡ true }
-    ensures { stmt_of result ≡ spec.bared (stmt_of statement) }
-{
-    match statement {
-        Stmt::Return(expr, _, _) => match expr {
-            Some(expr) => Stmt::Expr(expr),
-            None => unreachable!(),
-        },
-        _ => unreachable!(),
-    }
-}
-
-/// A `return e` becomes `e`.
-fn bare(list: &mut Seq<Stmt>, at: usize)
-    requires inside { at < length list.old }
-    requires returns { (d : Stmt) → spec.whole_returns_value (stmt_of (slice_index_or list.old at d)) ≡ true }
-    ensures { (d : Stmt) → BaredAt at list.old list.new (slice_index_or list.old at d) }
-{
-    let Some(place) = list.get_mut(at) else {
-        unreachable!()
-    };
-    let statement = replace(place, Stmt::Noop(Position::NONE));
-    put_stmt(place, expression_of(statement));
 }
 
 /// A statement leaves the list: those behind it go. A `return e` of a script or a function becomes `e`.
@@ -106,10 +78,10 @@ fn leave(alloc: Global, mark: ListMark, list: &mut Seq<Stmt>, at: usize, behind:
     leave_none_behind(alloc, list, at, behind.is_last);
     let statement = &list.as_slice()[at];
     if returns_value(mark, statement) {
-        bare(list, at);
+        last_return(list, at);
         return Behind {
             is_last: false,
-            fades: false,
+            fading: None,
             is_quiet: false,
             has_changed: true,
             is_bared: true,
@@ -120,38 +92,73 @@ fn leave(alloc: Global, mark: ListMark, list: &mut Seq<Stmt>, at: usize, behind:
 
 /// What is known where a statement leaves the list.
 fn left_by(mark: ListMark, statement: &Stmt, behind: Behind) -> Behind
-    ensures { result ≡ record { is_last = false; fades = spec.returns_nothing (mark_of mark) (stmt_of statement.now); is_quiet = false; has_changed = behind.has_changed || not behind.is_last; is_bared = false } }
+    ensures { result
+        ≡ record {
+          is_last = false;
+          fading = spec.return_fades (mark_of mark) (stmt_of statement.now);
+          is_quiet = false;
+          has_changed = behind.has_changed
+              || not behind.is_last;
+          is_bared = false;
+        } }
 {
     let has_changed = behind.has_changed || !behind.is_last;
     Behind {
         is_last: false,
-        fades: returns_nothing(mark, statement),
+        fading: return_fades(mark, statement),
         is_quiet: false,
         has_changed,
         is_bared: false,
     }
 }
 
+/// The last one goes behind unit: behind so many statements.
+pub(crate) fn go_last(alloc: Global, fading: Fading, list: &mut Seq<Stmt>, len: usize)
+    ensures { list.new ≡ take len list.old }
+{
+    match fading {
+        Fading::LastReturn => last_return_goes(alloc, list, len),
+        Fading::LastUnit => last_unit_goes(alloc, list, len),
+    }
+}
+
+/// The last one does nothing.
+fn end_in_noop(fading: Fading, list: &mut Seq<Stmt>)
+    requires some { 0 < length list.old }
+    requires acts { (d : Stmt) → queries.is_noop (stmt_of (slice_index_or list.old (length list.old - 1) d)) ≡ false }
+    ensures { MarkedAt (length list.old - 1) list.old list.new }
+{
+    match fading {
+        Fading::LastReturn => last_return_noop(list),
+        Fading::LastUnit => last_unit_noop(list),
+    }
+}
+
 /// A statement stays before one that fades: behind unit that one goes, else it does nothing.
-fn stay_before_fading(alloc: Global, list: &mut Seq<Stmt>, at: usize, behind: Behind) -> Behind
+fn stay_before_fading(
+    alloc: Global,
+    fading: Fading,
+    list: &mut Seq<Stmt>,
+    at: usize,
+    behind: Behind,
+) -> Behind
     requires inside { at < length list.old }
-    requires fades { behind.fades ≡ true }
+    requires fades { behind.fading ≡ Some fading }
     requires stays { (d : Stmt) → queries.is_control_flow_break (stmt_of (slice_index_or list.old at d)) ≡ false }
     requires impure { (d : Stmt) → queries.is_pure (stmt_of (slice_index_or list.old at d)) ≡ false }
     ensures { (mark : ListMark) → Step (mark_of mark) at list.old list.new behind result }
 {
     let last = list.len() - 1;
     if is_surely_unit(&list.as_slice()[at]) {
-        cut_behind(alloc, list, at);
+        go_last(alloc, fading, list, at + 1);
     } else if list.as_slice()[last].is_noop() {
         return kept_before(behind);
     } else {
-        let pos = list.as_slice()[last].position();
-        put_nothing(list, last, pos);
+        end_in_noop(fading, list);
     }
     Behind {
         is_last: false,
-        fades: false,
+        fading: None,
         is_quiet: false,
         has_changed: true,
         is_bared: false,
@@ -160,11 +167,18 @@ fn stay_before_fading(alloc: Global, list: &mut Seq<Stmt>, at: usize, behind: Be
 
 /// What is known before a statement that stays, whose value is not wanted.
 fn kept_before(behind: Behind) -> Behind
-    ensures { result ≡ record { is_last = false; fades = false; is_quiet = false; has_changed = behind.has_changed; is_bared = behind.is_bared } }
+    ensures { result
+        ≡ record {
+          is_last = false;
+          fading = None;
+          is_quiet = false;
+          has_changed = behind.has_changed;
+          is_bared = behind.is_bared;
+        } }
 {
     Behind {
         is_last: false,
-        fades: false,
+        fading: None,
         is_quiet: false,
         has_changed: behind.has_changed,
         is_bared: behind.is_bared,
@@ -172,7 +186,7 @@ fn kept_before(behind: Behind) -> Behind
 }
 
 /// Decides the statement at a place of a list; those behind it are decided.
-pub fn decide(
+pub(crate) fn decide(
     alloc: Global,
     mark: ListMark,
     list: &mut Seq<Stmt>,
@@ -189,11 +203,11 @@ pub fn decide(
     if behind.is_last && mark.is_wanted() {
         return keep_last(mark, list, at, behind);
     }
-    if goes(mark, behind.is_quiet, statement) {
-        return mark_gone(mark, list, at, behind);
+    if let Some(going) = goes_by(mark, behind.is_quiet, statement) {
+        return go(mark, going, list, at, behind);
     }
-    if behind.fades {
-        return stay_before_fading(alloc, list, at, behind);
+    if let Some(fading) = behind.fading {
+        return stay_before_fading(alloc, fading, list, at, behind);
     }
     kept_before(behind)
 }

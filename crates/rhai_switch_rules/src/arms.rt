@@ -25,7 +25,8 @@ pub(crate) fn decided(arms: &[BinaryExpr], place: usize) -> Option<bool>
 /// Takes an arm's answer out of its place.
 pub(crate) fn take_answer(arms: &mut Seq<BinaryExpr>, place: usize) -> Option<Expr>
     ensures answer { option_map expr_of result ≡ tables.answer_of_arm (tables.arm_of (arms_of arms.old) place) }
-    ensures others { (i : ℕ) → (i ≡ place → ⊥) → tables.arm_of (arms_of arms.new) i ≡ tables.arm_of (arms_of arms.old) i }
+    ensures others { (i : ℕ) → (i ≡ place → ⊥)
+        → tables.arm_of (arms_of arms.new) i ≡ tables.arm_of (arms_of arms.old) i }
 {
     match arms.get_mut(place) {
         Some(arm) => Some(arm.rhs.take()),
@@ -35,8 +36,10 @@ pub(crate) fn take_answer(arms: &mut Seq<BinaryExpr>, place: usize) -> Option<Ex
 
 /// Takes out the answer of a table's default.
 pub(crate) fn take_default(table: &mut SwitchCasesCollection) -> Option<Expr>
-    ensures answer { option_map expr_of result ≡ tables.default_answer (arms_of (expressions_of table.old)) (table_of table.old).default }
-    ensures others { (i : ℕ) → ((table_of table.old).default ≡ Some i → ⊥) → tables.arm_of (arms_of (expressions_of table.new)) i ≡ tables.arm_of (arms_of (expressions_of table.old)) i }
+    ensures answer { option_map expr_of result
+        ≡ tables.default_answer (arms_of (expressions_of table.old)) (table_of table.old).default }
+    ensures others { (i : ℕ) → ((table_of table.old).default ≡ Some i → ⊥)
+        → tables.arm_of (arms_of (expressions_of table.new)) i ≡ tables.arm_of (arms_of (expressions_of table.old)) i }
 {
     match table.def_case {
         Some(place) => take_answer(&mut table.expressions, place),

@@ -69,7 +69,9 @@ fn choice_of_list(arms: &[BinaryExpr], places: &[usize]) -> Choice
 }
 
 fn choice_of_ranges(arms: &[BinaryExpr], ranges: &[RangeCase], subject: &Dynamic) -> Choice
-    ensures { result ≡ choices.choice_of (arms_of arms.now) (left_arms (arms_of arms.now) (ranges_with (map range_of ranges.now) (value_of subject.now))) }
+    ensures { result
+        ≡ choices.choice_of (arms_of arms.now)
+        (left_arms (arms_of arms.now) (ranges_with (map range_of ranges.now) (value_of subject.now))) }
 {
     let mut choice = Choice::Nothing;
     for range in ranges {
@@ -83,7 +85,8 @@ fn choice_of_ranges(arms: &[BinaryExpr], ranges: &[RangeCase], subject: &Dynamic
 
 /// What is left for a subject: of its list, or where it has none of the ranges that hold it.
 pub(crate) fn choice_for(table: &SwitchCasesCollection, subject: &Dynamic) -> Choice
-    ensures { let as' = arms_of (expressions_of table.now) in result ≡ choices.choice_of as' (left_arms as' (chosen (table_of table.now) (value_of subject.now))) }
+    ensures { let as' = arms_of (expressions_of table.now) in
+        result ≡ choices.choice_of as' (left_arms as' (chosen (table_of table.now) (value_of subject.now))) }
 {
     let arms = table.expressions.as_slice();
     match case_list(table, subject) {

@@ -50,7 +50,9 @@ fn but_default(default: Option<usize>, choice: Choice) -> Choice
 
 /// What is left for a constant subject, unless it holds a pointer.
 fn choice_of_subject(table: &SwitchCasesCollection, subject: &Dynamic) -> Choice
-    ensures { result ≡ deciding.choice_over (arms_of (expressions_of table.now)) (table_of table.now) (deciding.hashable (Some (value_of subject.now))) }
+    ensures { result
+        ≡ deciding.choice_over (arms_of (expressions_of table.now)) (table_of table.now)
+        (deciding.hashable (Some (value_of subject.now))) }
 {
     if !subject.is_hashable() {
         return Choice::Several;
@@ -59,7 +61,10 @@ fn choice_of_subject(table: &SwitchCasesCollection, subject: &Dynamic) -> Choice
 }
 
 fn choice_over(alloc: Global, switch: &SwitchBlock) -> Result<Choice, OutOfMemory>
-    ensures { IfOk result (λ c. c ≡ deciding.choice_over (arms_of (expressions_of (cases_of switch.now))) (table_of (cases_of switch.now)) (deciding.hashable (constants.constant_value (expr_of (subject_of switch.now))))) }
+    ensures { IfOk result (λ c.
+        c
+        ≡ deciding.choice_over (arms_of (expressions_of (cases_of switch.now))) (table_of (cases_of switch.now))
+        (deciding.hashable (constants.constant_value (expr_of (subject_of switch.now))))) }
 {
     match switch.expr.constant_value(alloc)? {
         Some(subject) => Ok(choice_of_subject(&switch.cases, &subject)),
@@ -81,7 +86,8 @@ fn choice_at(alloc: Global, statement: &Stmt) -> Result<Choice, OutOfMemory>
 
 /// Takes out the answer of a statement's arm.
 fn taken_answer(statement: &mut Stmt, place: usize) -> Option<Expr>
-    ensures { option_map expr_of result ≡ tables.answer_of_arm (tables.arm_of (deciding.arms_in (stmt_of statement.old)) place) }
+    ensures { option_map expr_of result
+        ≡ tables.answer_of_arm (tables.arm_of (deciding.arms_in (stmt_of statement.old)) place) }
 {
     match statement {
         Stmt::Switch(switch, _) => take_answer(&mut switch.get_mut().cases.expressions, place),
@@ -91,7 +97,9 @@ fn taken_answer(statement: &mut Stmt, place: usize) -> Option<Expr>
 
 /// Takes out the answer of a statement's default.
 fn taken_default(statement: &mut Stmt) -> Option<Expr>
-    ensures { option_map expr_of result ≡ tables.default_answer (deciding.arms_in (stmt_of statement.old)) (deciding.default_in (stmt_of statement.old)) }
+    ensures { option_map expr_of result
+        ≡ tables.default_answer (deciding.arms_in (stmt_of statement.old))
+        (deciding.default_in (stmt_of statement.old)) }
 {
     match statement {
         Stmt::Switch(switch, _) => take_default(&mut switch.get_mut().cases),
@@ -119,7 +127,9 @@ fn if_of_arm(
 ) -> Result<Stmt, OutOfMemory>
     requires there { None ≡ tables.arm_of (arms_of (expressions_of table.now)) place → ⊥ }
     requires other { (table_of table.now).default ≡ Some place → ⊥ }
-    ensures { IfOk result (λ s. deciding.IsIfOf (tables.arm_of (arms_of (expressions_of table.old)) place) (tables.default_answer (arms_of (expressions_of table.old)) (table_of table.old).default) (stmt_of s)) }
+    ensures { IfOk result (λ s.
+        deciding.IsIfOf (tables.arm_of (arms_of (expressions_of table.old)) place)
+        (tables.default_answer (arms_of (expressions_of table.old)) (table_of table.old).default) (stmt_of s)) }
 {
     let default = take_default(table);
     match take_arm(&mut table.expressions, place) {
@@ -171,13 +181,17 @@ fn is_open(choice: &Choice) -> bool
     matches!(choice, Choice::Several)
 }
 
-/// Rewrites a `switch` that its subject decides, and says whether it did. It does so before its arms are reduced as well as after.
+/// Rewrites a `switch` that its subject decides, and says whether it did. It does so before its arms are reduced as
+/// well as after.
 pub fn decide_switch(
     alloc: Global,
     state: &mut OptimizerState<'_>,
     statement: &mut Stmt,
 ) -> Result<bool, OutOfMemory>
-    ensures { IfOk result (λ fired. (r : Engine) (w : Bool) → deciding.Decided fired r w (progress state.old) (progress state.new) (stmt_of statement.old) (stmt_of statement.new)) }
+    ensures { IfOk result (λ fired.
+        (r : Engine) (w : Bool)
+        → deciding.Decided fired r w (progress state.old) (progress state.new) (stmt_of statement.old)
+        (stmt_of statement.new)) }
 {
     let choice = choice_at(alloc, statement)?;
     if is_open(&choice) {

@@ -68,7 +68,9 @@ pub(crate) fn listed_arms(
     alloc: Global,
     table: &SwitchCasesCollection,
 ) -> Result<Vec<bool>, OutOfMemory>
-    ensures { IfOk result (λ m. m.items ≡ forgetting.marked (replicate (length (expressions_of table.now)) false) (listed (table_of table.now))) }
+    ensures { IfOk result (λ m.
+        m.items
+        ≡ forgetting.marked (replicate (length (expressions_of table.now)) false) (listed (table_of table.now))) }
 {
     let mut marks = no_marks(alloc, table.expressions.len())?;
     mark_cases(&mut marks, &table.cases);

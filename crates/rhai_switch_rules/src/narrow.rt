@@ -46,7 +46,8 @@ fn has_other(cases: &Cases, subject: &Dynamic) -> bool
 
 /// How many ranges hold the subject: those that are not false, up to one that is true.
 fn only_len(arms: &[BinaryExpr], ranges: &[RangeCase], subject: &Dynamic) -> usize
-    ensures { result ≡ length (narrowing.only_ranges (arms_of arms.now) (value_of subject.now) (map range_of ranges.now)) }
+    ensures { result
+        ≡ length (narrowing.only_ranges (arms_of arms.now) (value_of subject.now) (map range_of ranges.now)) }
 {
     let mut len: usize = 0;
     for range in ranges {
@@ -70,7 +71,9 @@ fn loses_ranges(arms: &[BinaryExpr], ranges: &[RangeCase], subject: &Dynamic) ->
 
 /// Whether something goes where a list stands for the subject.
 fn list_narrows(table: &SwitchCasesCollection, places: &[usize], subject: &Dynamic) -> bool
-    ensures { result ≡ narrowing.narrows_by (arms_of (expressions_of table.now)) (table_of table.now) (value_of subject.now) (Some places.now) }
+    ensures { result
+        ≡ narrowing.narrows_by (arms_of (expressions_of table.now)) (table_of table.now) (value_of subject.now)
+        (Some places.now) }
 {
     if loses_arms(table.expressions.as_slice(), places) {
         return true;
@@ -83,7 +86,8 @@ fn list_narrows(table: &SwitchCasesCollection, places: &[usize], subject: &Dynam
 
 /// Whether something goes where none does.
 fn ranges_narrow(table: &SwitchCasesCollection, subject: &Dynamic) -> bool
-    ensures { result ≡ narrowing.narrows_by (arms_of (expressions_of table.now)) (table_of table.now) (value_of subject.now) None }
+    ensures { result
+        ≡ narrowing.narrows_by (arms_of (expressions_of table.now)) (table_of table.now) (value_of subject.now) None }
 {
     if !table.cases.as_map().is_empty() {
         return true;
@@ -98,7 +102,9 @@ fn ranges_narrow(table: &SwitchCasesCollection, subject: &Dynamic) -> bool
 /// Whether something goes over this subject.
 pub(crate) fn narrows(table: &SwitchCasesCollection, subject: &Dynamic) -> bool
     requires { is_hashable (value_of subject.now) ≡ true }
-    ensures { result ≡ narrowing.narrows_by (arms_of (expressions_of table.now)) (table_of table.now) (value_of subject.now) (case_for (table_of table.now).cases (value_of subject.now)) }
+    ensures { result
+        ≡ narrowing.narrows_by (arms_of (expressions_of table.now)) (table_of table.now) (value_of subject.now)
+        (case_for (table_of table.now).cases (value_of subject.now)) }
 {
     match case_list(table, subject) {
         Some(list) => list_narrows(table, list.blocks.as_slice(), subject),
@@ -108,12 +114,14 @@ pub(crate) fn narrows(table: &SwitchCasesCollection, subject: &Dynamic) -> bool
 
 /// Keeps the list that stands for the subject, with the arms of it that are left.
 pub(crate) fn only_cases(alloc: Global, arms: &[BinaryExpr], cases: &mut Cases, subject: &Dynamic)
-    ensures { map case_of cases.new ≡ narrowing.only_cases (arms_of arms.now) (value_of subject.now) (map case_of cases.old) }
+    ensures { map case_of cases.new
+        ≡ narrowing.only_cases (arms_of arms.now) (value_of subject.now) (map case_of cases.old) }
 {
     let mut map = cases.replace_map(IndexMap::new(alloc));
     map.retain(
         |key: &Dynamic, list: &mut CaseBlocksList| -> bool
-            ensures { (list.new.blocks ≡ left_arms (arms_of arms.entry.now) list.old.blocks) × (result ≡ same (value_of key.now) (value_of subject.entry.now)) }
+            ensures { (list.new.blocks ≡ left_arms (arms_of arms.entry.now) list.old.blocks)
+                × (result ≡ same (value_of key.now) (value_of subject.entry.now)) }
         {
             keep_left(alloc, arms, list);
             stands_for(key, subject)
@@ -143,7 +151,8 @@ pub(crate) fn only_ranges(
     ranges: &mut Seq<RangeCase>,
     subject: &Dynamic,
 )
-    ensures { map range_of ranges.new ≡ narrowing.only_ranges (arms_of arms.now) (value_of subject.now) (map range_of ranges.old) }
+    ensures { map range_of ranges.new
+        ≡ narrowing.only_ranges (arms_of arms.now) (value_of subject.now) (map range_of ranges.old) }
 {
     let mut left = replace(ranges, Seq::new(alloc)).into_vec();
     left.retain(|range| range.contains(subject) && !is_false(arms, range.index()));

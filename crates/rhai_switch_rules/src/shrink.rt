@@ -1,4 +1,5 @@
-//! Tables of which something goes whatever the subject is: false arms and ranges, arms behind a true one, and lists that are empty then.
+//! Tables of which something goes whatever the subject is: false arms and ranges, arms behind a true one, and lists
+//! that are empty then.
 
 #![tactic(auto, using(rhai_reading::specs::Reading::shapes))]
 
@@ -127,7 +128,8 @@ pub(crate) fn shrink_cases(alloc: Global, arms: &[BinaryExpr], cases: &mut Cases
     let mut map = cases.replace_map(IndexMap::new(alloc));
     map.retain(
         |_: &Dynamic, list: &mut CaseBlocksList| -> bool
-            ensures { (list.new.blocks ≡ left_arms (arms_of arms.entry.now) list.old.blocks) × (result ≡ shrinking.stays keeps_empty list.new.blocks) }
+            ensures { (list.new.blocks ≡ left_arms (arms_of arms.entry.now) list.old.blocks)
+                × (result ≡ shrinking.stays keeps_empty list.new.blocks) }
         {
             keep_left(alloc, arms, list);
             keeps_empty || !list.blocks.is_empty()

@@ -16,14 +16,18 @@ use rhai_base::OutOfMemory;
 use rhai_steps::{NodeStep, OptimizerState};
 use std::alloc::Global;
 
-/// Rewrites a `switch` by the rules that fire at it, if some do. What its subject decides has parts that are to be gone over again.
+/// Rewrites a `switch` by the rules that fire at it, if some do. What its subject decides has parts that are to be
+/// gone over again.
 pub fn step_switch(
     alloc: Global,
     state: &mut OptimizerState<'_>,
     statement: &mut Stmt,
 ) -> Result<NodeStep, OutOfMemory>
     requires { steps.is_switch (stmt_of statement.now) ≡ true }
-    ensures { IfOk result (λ step. (r : Engine) (w : Bool) → StmtStep step r w (progress state.old) (progress state.new) (stmt_of statement.old) (stmt_of statement.new)) }
+    ensures { IfOk result (λ step.
+        (r : Engine) (w : Bool)
+        → StmtStep step r w (progress state.old) (progress state.new) (stmt_of statement.old)
+        (stmt_of statement.new)) }
 {
     if decide_switch(alloc, state, statement)? {
         return Ok(NodeStep::Reopened);

@@ -44,7 +44,8 @@ fn switch_shrinks(
 ) -> bool
     ensures arms { expressions_of table.new ≡ expressions_of table.old }
     ensures noted { steps.Noted result (progress state.old) (progress state.new) }
-    ensures shrinks { steps.Shrinks result (arms_of (expressions_of table.old)) (table_of table.old) (table_of table.new) }
+    ensures shrinks { steps.Shrinks result (arms_of (expressions_of table.old)) (table_of table.old)
+        (table_of table.new) }
 {
     if !shrinks(table) {
         return false;
@@ -57,7 +58,9 @@ fn switch_shrinks(
 fn narrow_table(alloc: Global, table: &mut SwitchCasesCollection, subject: &Dynamic)
     requires { is_hashable (value_of subject.now) ≡ true }
     ensures arms { expressions_of table.new ≡ expressions_of table.old }
-    ensures table { table_of table.new ≡ narrowing.narrowed_by (arms_of (expressions_of table.old)) (table_of table.old) (value_of subject.now) (case_for (table_of table.old).cases (value_of subject.now)) }
+    ensures table { table_of table.new
+        ≡ narrowing.narrowed_by (arms_of (expressions_of table.old)) (table_of table.old) (value_of subject.now)
+        (case_for (table_of table.old).cases (value_of subject.now)) }
 {
     if case_list(table, subject).is_some() {
         only_cases(
@@ -87,7 +90,8 @@ fn switch_narrows(
 ) -> bool
     ensures arms { expressions_of table.new ≡ expressions_of table.old }
     ensures noted { steps.Noted result (progress state.old) (progress state.new) }
-    ensures narrows { steps.Narrows result (arms_of (expressions_of table.old)) (value_of subject.now) (table_of table.old) (table_of table.new) }
+    ensures narrows { steps.Narrows result (arms_of (expressions_of table.old)) (value_of subject.now)
+        (table_of table.old) (table_of table.new) }
 {
     if !subject.is_hashable() || !narrows(table, subject) {
         return false;
@@ -102,7 +106,9 @@ fn narrow_block(
     state: &mut OptimizerState<'_>,
     switch: &mut SwitchBlock,
 ) -> Result<bool, OutOfMemory>
-    ensures { IfOk result (λ fired. steps.TableStep fired (progress state.old) (progress state.new) (steps.switch_of switch.old) (steps.switch_of switch.new)) }
+    ensures { IfOk result (λ fired.
+        steps.TableStep fired (progress state.old) (progress state.new) (steps.switch_of switch.old)
+        (steps.switch_of switch.new)) }
 {
     match switch.expr.constant_value(alloc)? {
         Some(subject) => Ok(switch_narrows(alloc, state, &mut switch.cases, &subject)),
@@ -116,7 +122,10 @@ fn switch_forgets(
     state: &mut OptimizerState<'_>,
     table: &mut SwitchCasesCollection,
 ) -> Result<bool, OutOfMemory>
-    ensures { IfOk result (λ fired. (table_of table.new ≡ table_of table.old) × steps.Forgets fired (progress state.old) (progress state.new) (table_of table.old) (arms_of (expressions_of table.old)) (arms_of (expressions_of table.new))) }
+    ensures { IfOk result (λ fired.
+        (table_of table.new ≡ table_of table.old)
+        × steps.Forgets fired (progress state.old) (progress state.new) (table_of table.old)
+        (arms_of (expressions_of table.old)) (arms_of (expressions_of table.new))) }
 {
     let marks = listed_arms(alloc, table)?;
     if !forget_answers(&mut table.expressions, marks.as_slice()) {
@@ -131,7 +140,9 @@ fn step_block(
     state: &mut OptimizerState<'_>,
     switch: &mut SwitchBlock,
 ) -> Result<bool, OutOfMemory>
-    ensures { IfOk result (λ fired. steps.TableStep fired (progress state.old) (progress state.new) (steps.switch_of switch.old) (steps.switch_of switch.new)) }
+    ensures { IfOk result (λ fired.
+        steps.TableStep fired (progress state.old) (progress state.new) (steps.switch_of switch.old)
+        (steps.switch_of switch.new)) }
 {
     if narrow_block(alloc, state, switch)? {
         return Ok(true);
@@ -148,7 +159,9 @@ pub(crate) fn step_table(
     state: &mut OptimizerState<'_>,
     statement: &mut Stmt,
 ) -> Result<bool, OutOfMemory>
-    ensures { IfOk result (λ fired. steps.TableStep fired (progress state.old) (progress state.new) (stmt_of statement.old) (stmt_of statement.new)) }
+    ensures { IfOk result (λ fired.
+        steps.TableStep fired (progress state.old) (progress state.new) (stmt_of statement.old)
+        (stmt_of statement.new)) }
 {
     match statement {
         Stmt::Switch(switch, _) => step_block(alloc, state, switch.get_mut()),

@@ -124,7 +124,8 @@ impl<V: Clone + Drop> Clone for StringMap<V> {
 impl<V: PartialEq> PartialEq for StringMap<V> {
     ghost eq = { λ x y. pointwise (λ p q. pointwise nat_eq p.0 q.0 && V.eq p.1 q.1) x y };
 
-    ghost laws = { lists_per (and_per (on_per (λ p. p.0) (partial_equiv_from_equiv nat_list_eq_equiv)) (on_per (λ p. p.1) V.laws)) };
+    ghost laws = { lists_per
+        (and_per (on_per (λ p. p.0) (partial_equiv_from_equiv nat_list_eq_equiv)) (on_per (λ p. p.1) V.laws)) };
 
     fn eq(&self, other: &Self) -> bool {
         self.map.eq(&other.map)
@@ -138,7 +139,9 @@ impl<V: Eq> Eq for StringMap<V> {
 impl<V: Hash> Hash for StringMap<V> {
     ghost hash_input = { λ m. fed.slice (λ p. fed.str p.0 ++ V.hash_input p.1) m };
 
-    ghost respects_eq = { (items_Alike (and-Alike (on_Alike (λ p. p.0) (record { fed = text_hash })) (on_Alike (λ p. p.1) (record { fed = V.respects_eq })))).fed };
+    ghost respects_eq = { (items_Alike
+        (and-Alike (on_Alike (λ p. p.0) (record { fed = text_hash }))
+        (on_Alike (λ p. p.1) (record { fed = V.respects_eq })))).fed };
 
     fn hash<H: Hasher>(&self, state: &mut H) {
         self.map.hash(state);

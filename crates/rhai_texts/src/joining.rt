@@ -1,5 +1,5 @@
-//! One pass over the parts of an interpolated text, in the list's own memory: empty ones go, and neighbouring texts are joined. Each text is
-//! copied once.
+//! One pass over the parts of an interpolated text, in the list's own memory: empty ones go, and neighbouring texts
+//! are joined. Each text is copied once.
 
 #![tactic(auto, using(rhai_reading::specs::Reading::shapes))]
 
@@ -107,9 +107,11 @@ fn join_all(alloc: Global, parts: &mut Seq<Expr>) -> Result<(), OutOfMemory>
     Ok(())
 }
 
-/// Of the parts of an interpolated text units and empty texts go, and neighbouring texts are joined. The answer is whether any went.
-pub fn text_changes(alloc: Global, parts: &mut Seq<Expr>) -> Result<bool, OutOfMemory>
-    ensures { IfOk result (λ b. NodeChange b (InterpolatedString (exprs_of parts.old)) (InterpolatedString (exprs_of parts.new))) }
+/// Of the parts of an interpolated text units and empty texts go, and neighbouring texts are joined. The answer is
+/// whether any went.
+pub(crate) fn text_changes(alloc: Global, parts: &mut Seq<Expr>) -> Result<bool, OutOfMemory>
+    ensures { IfOk result (λ b.
+        NodeChange b (InterpolatedString (exprs_of parts.old)) (InterpolatedString (exprs_of parts.new))) }
 {
     let len = parts.len();
     empty_go(alloc, parts);

@@ -36,7 +36,8 @@ fn text_folds(
     expr: &mut Expr,
 ) -> Result<bool, OutOfMemory>
     requires { spec.is_interpolated (expr_of expr.now) ≡ true }
-    ensures { IfOk result (λ b. Folds b (progress state.old) (progress state.new) (expr_of expr.old) (expr_of expr.new)) }
+    ensures { IfOk result (λ b.
+        Folds b (progress state.old) (progress state.new) (expr_of expr.old) (expr_of expr.new)) }
 {
     if let Some(value) = expr.get_literal_value(alloc)? {
         put_constant(alloc, state, expr, value)?;
@@ -52,7 +53,9 @@ pub fn step_text(
     expr: &mut Expr,
 ) -> Result<bool, OutOfMemory>
     requires { spec.is_interpolated (expr_of expr.now) ≡ true }
-    ensures { IfOk result (λ fired. (r : Engine) (p : Place) → PassStep fired r p (progress state.old) (progress state.new) (expr_of expr.old) (expr_of expr.new)) }
+    ensures { IfOk result (λ fired.
+        (r : Engine) (p : Place)
+        → PassStep fired r p (progress state.old) (progress state.new) (expr_of expr.old) (expr_of expr.new)) }
 {
     if text_folds(alloc, state, expr)? {
         return Ok(true);
@@ -71,7 +74,8 @@ fn map_of_constants(
     expr: &mut Expr,
 ) -> Result<bool, OutOfMemory>
     requires { spec.is_map (expr_of expr.now) ≡ true }
-    ensures { IfOk result (λ b. Folds b (progress state.old) (progress state.new) (expr_of expr.old) (expr_of expr.new)) }
+    ensures { IfOk result (λ b.
+        Folds b (progress state.old) (progress state.new) (expr_of expr.old) (expr_of expr.new)) }
 {
     fold_constant(alloc, state, expr)
 }
@@ -83,7 +87,9 @@ pub fn step_map(
     expr: &mut Expr,
 ) -> Result<bool, OutOfMemory>
     requires { spec.is_map (expr_of expr.now) ≡ true }
-    ensures { IfOk result (λ fired. (r : Engine) (p : Place) → ExprStep fired r p (progress state.old) (progress state.new) (expr_of expr.old) (expr_of expr.new)) }
+    ensures { IfOk result (λ fired.
+        (r : Engine) (p : Place)
+        → ExprStep fired r p (progress state.old) (progress state.new) (expr_of expr.old) (expr_of expr.new)) }
 {
     map_of_constants(alloc, state, expr)
 }

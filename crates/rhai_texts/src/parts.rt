@@ -30,7 +30,7 @@ fn is_empty_value(value: &Dynamic) -> bool
 }
 
 /// Is it a constant that adds nothing to a text: unit, or an empty text?
-pub fn is_empty_part(part: &Expr) -> bool
+pub(crate) fn is_empty_part(part: &Expr) -> bool
     ensures { result ≡ spec.is_empty_part (expr_of part.now) }
 {
     match part {
@@ -42,14 +42,14 @@ pub fn is_empty_part(part: &Expr) -> bool
 }
 
 /// Is it a text as written?
-pub fn is_text(part: &Expr) -> bool
+pub(crate) fn is_text(part: &Expr) -> bool
     ensures { result ≡ spec.is_text (expr_of part.now) }
 {
     matches!(part, Expr::StringConstant(_, _))
 }
 
 /// Adds a text as written to another; of what is none, nothing.
-pub fn push_written(part: &Expr, text: &mut String) -> Result<(), OutOfMemory>
+pub(crate) fn push_written(part: &Expr, text: &mut String) -> Result<(), OutOfMemory>
     ensures { OnOk result (string_bytes text.new ≡ string_bytes text.old ++ spec.written (expr_of part.now)) }
 {
     if let Expr::StringConstant(written, _) = part {

@@ -7,7 +7,9 @@ ghost use Rattle.std.specs.Prelude.{◌≡◌, ◌++◌, ◌∷◌, [], IfOk, Ok
 use crate::{
     BinaryExpr, Expr, FlowControl, FnCallExpr, Stmt, StmtBlock, SwitchBlock, SwitchCasesCollection,
 };
-use rhai_base::{Boxed, Ident, ImmutableString, Namespace, OpAssignment, RangeCase, Seq};
+use rhai_base::{
+    Boxed, Dynamic, Ident, ImmutableString, Namespace, OpAssignment, RangeCase, Seq, StringMap,
+};
 use std::alloc::AllocError;
 use std::num::NonZeroUsize;
 
@@ -98,7 +100,9 @@ fn copy_expr(expr: &Expr) -> Result<Expr, AllocError>
     ensures { IfOk result (λ e. e ≡ expr.now) }
 {
     match expr {
-        Expr::DynamicConstant(value, pos) => Ok(Expr::DynamicConstant(value.clone()?, *pos)),
+        Expr::DynamicConstant(value, pos) => {
+            Ok(Expr::DynamicConstant(copy_boxed_value(value)?, *pos))
+        }
         Expr::BoolConstant(b, pos) => Ok(Expr::BoolConstant(*b, *pos)),
         Expr::IntegerConstant(n, pos) => Ok(Expr::IntegerConstant(*n, *pos)),
         Expr::CharConstant(c, pos) => Ok(Expr::CharConstant(*c, *pos)),
@@ -108,8 +112,8 @@ fn copy_expr(expr: &Expr) -> Result<Expr, AllocError>
         }
         Expr::Array(items, pos) => Ok(Expr::Array(copy_boxed_exprs(items)?, *pos)),
         Expr::Map(map, pos) => {
-            let (pairs, template) = both(copy_pairs(&map.get().0)?, map.get().1.clone())?;
-            Ok(Expr::Map(Boxed::new(map.allocator(), (pairs, template))?, *pos))
+            let pairs = copy_pairs(&map.get().0)?;
+            Ok(Expr::Map(copy_map(pairs, map)?, *pos))
         }
         Expr::Unit(pos) => Ok(Expr::Unit(*pos)),
         Expr::Variable(parts, short, pos) => {
@@ -128,6 +132,15 @@ fn copy_expr(expr: &Expr) -> Result<Expr, AllocError>
     }
 }
 
+#[tactic(auto, using(rhai_data::proofs::Copies::copies))]
+#[inline(never)]
+fn copy_boxed_value(value: &Boxed<Dynamic>) -> Result<Boxed<Dynamic>, AllocError>
+    ensures { IfOk result (λ v. v ≡ value.now) }
+{
+    value.clone()
+}
+
+#[inline(never)]
 fn copy_variable(
     parts: &Boxed<(Option<NonZeroUsize>, ImmutableString, Namespace)>,
 ) -> Result<Boxed<(Option<NonZeroUsize>, ImmutableString, Namespace)>, AllocError>
@@ -139,6 +152,7 @@ fn copy_variable(
     Boxed::new(parts.allocator(), (*index, name, namespace))
 }
 
+#[inline(never)]
 fn copy_names(
     names: &Boxed<(ImmutableString, ImmutableString, ImmutableString)>,
 ) -> Result<Boxed<(ImmutableString, ImmutableString, ImmutableString)>, AllocError>
@@ -149,6 +163,17 @@ fn copy_names(
     let setter = setter.clone()?;
     let name = name.clone()?;
     Boxed::new(names.allocator(), (getter, setter, name))
+}
+
+/// A map whose pairs were copied before, as they are what is copied by recursion.
+#[inline(never)]
+fn copy_map(
+    pairs: Seq<(Ident, Expr)>,
+    map: &Boxed<(Seq<(Ident, Expr)>, StringMap<Dynamic>)>,
+) -> Result<Boxed<(Seq<(Ident, Expr)>, StringMap<Dynamic>)>, AllocError>
+    ensures { IfOk result (λ m. (m.0 ≡ pairs) × (m.1 ≡ map.now.1)) }
+{
+    Boxed::new(map.allocator(), both(pairs, map.get().1.clone())?)
 }
 
 #[cycle(copy)]
@@ -164,6 +189,7 @@ fn copy_exprs(exprs: &Seq<Expr>) -> Result<Seq<Expr>, AllocError>
 }
 
 #[cycle(copy)]
+#[inline(never)]
 fn copy_boxed_exprs(exprs: &Boxed<Seq<Expr>>) -> Result<Boxed<Seq<Expr>>, AllocError>
     ensures { IfOk result (λ es. es ≡ exprs.now) }
 {
@@ -171,6 +197,7 @@ fn copy_boxed_exprs(exprs: &Boxed<Seq<Expr>>) -> Result<Boxed<Seq<Expr>>, AllocE
 }
 
 #[cycle(copy)]
+#[inline(never)]
 fn copy_pairs(pairs: &Seq<(Ident, Expr)>) -> Result<Seq<(Ident, Expr)>, AllocError>
     ensures { IfOk result (λ ps. ps ≡ pairs.now) }
 {
@@ -184,6 +211,7 @@ fn copy_pairs(pairs: &Seq<(Ident, Expr)>) -> Result<Seq<(Ident, Expr)>, AllocErr
 }
 
 #[cycle(copy)]
+#[inline(never)]
 fn copy_boxed_expr(expr: &Boxed<Expr>) -> Result<Boxed<Expr>, AllocError>
     ensures { IfOk result (λ e. e ≡ expr.now) }
 {
@@ -191,6 +219,7 @@ fn copy_boxed_expr(expr: &Boxed<Expr>) -> Result<Boxed<Expr>, AllocError>
 }
 
 #[cycle(copy)]
+#[inline(never)]
 fn copy_optional_expr(expr: &Option<Boxed<Expr>>) -> Result<Option<Boxed<Expr>>, AllocError>
     ensures { IfOk result (λ e. e ≡ expr.now) }
 {
@@ -209,6 +238,7 @@ fn copy_sides(sides: &BinaryExpr) -> Result<BinaryExpr, AllocError>
 }
 
 #[cycle(copy)]
+#[inline(never)]
 fn copy_boxed_sides(sides: &Boxed<BinaryExpr>) -> Result<Boxed<BinaryExpr>, AllocError>
     ensures { IfOk result (λ s. s ≡ sides.now) }
 {
@@ -231,6 +261,7 @@ fn copy_call(call: &FnCallExpr) -> Result<FnCallExpr, AllocError>
 }
 
 #[cycle(copy)]
+#[inline(never)]
 fn copy_boxed_call(call: &Boxed<FnCallExpr>) -> Result<Boxed<FnCallExpr>, AllocError>
     ensures { IfOk result (λ c. c ≡ call.now) }
 {
@@ -248,6 +279,7 @@ fn copy_block(block: &StmtBlock) -> Result<StmtBlock, AllocError>
 }
 
 #[cycle(copy)]
+#[inline(never)]
 fn copy_boxed_block(block: &Boxed<StmtBlock>) -> Result<Boxed<StmtBlock>, AllocError>
     ensures { IfOk result (λ b. b ≡ block.now) }
 {
@@ -305,6 +337,7 @@ fn copy_flow(flow: &FlowControl) -> Result<FlowControl, AllocError>
 }
 
 #[cycle(copy)]
+#[inline(never)]
 fn copy_boxed_flow(flow: &Boxed<FlowControl>) -> Result<Boxed<FlowControl>, AllocError>
     ensures { IfOk result (λ f. f ≡ flow.now) }
 {
@@ -312,6 +345,7 @@ fn copy_boxed_flow(flow: &Boxed<FlowControl>) -> Result<Boxed<FlowControl>, Allo
 }
 
 #[cycle(copy)]
+#[inline(never)]
 fn copy_for(
     parts: &Boxed<(Ident, Option<Ident>, FlowControl)>,
 ) -> Result<Boxed<(Ident, Option<Ident>, FlowControl)>, AllocError>
@@ -324,6 +358,7 @@ fn copy_for(
 }
 
 #[cycle(copy)]
+#[inline(never)]
 fn copy_var(
     parts: &Boxed<(Ident, Expr, Option<NonZeroUsize>)>,
 ) -> Result<Boxed<(Ident, Expr, Option<NonZeroUsize>)>, AllocError>
@@ -335,6 +370,7 @@ fn copy_var(
 }
 
 #[cycle(copy)]
+#[inline(never)]
 fn copy_assignment(
     parts: &Boxed<(OpAssignment, BinaryExpr)>,
 ) -> Result<Boxed<(OpAssignment, BinaryExpr)>, AllocError>
@@ -345,6 +381,7 @@ fn copy_assignment(
 }
 
 #[cycle(copy)]
+#[inline(never)]
 fn copy_import(parts: &Boxed<(Expr, Ident)>) -> Result<Boxed<(Expr, Ident)>, AllocError>
     ensures { IfOk result (λ p. p ≡ parts.now) }
 {
@@ -352,6 +389,7 @@ fn copy_import(parts: &Boxed<(Expr, Ident)>) -> Result<Boxed<(Expr, Ident)>, All
     Boxed::new(parts.allocator(), both(copy_expr(path)?, alias.clone())?)
 }
 
+#[inline(never)]
 fn copy_export(names: &Boxed<(Ident, Ident)>) -> Result<Boxed<(Ident, Ident)>, AllocError>
     ensures { IfOk result (λ n. n ≡ names.now) }
 {
@@ -359,6 +397,7 @@ fn copy_export(names: &Boxed<(Ident, Ident)>) -> Result<Boxed<(Ident, Ident)>, A
     Boxed::new(names.allocator(), both(name.clone()?, alias.clone())?)
 }
 
+#[inline(never)]
 fn copy_shared(
     names: &Boxed<Seq<(Ident, Option<NonZeroUsize>)>>,
 ) -> Result<Boxed<Seq<(Ident, Option<NonZeroUsize>)>>, AllocError>
@@ -373,6 +412,7 @@ fn copy_shared(
 }
 
 #[cycle(copy)]
+#[inline(never)]
 fn copy_boxed_switch(switch: &Boxed<SwitchBlock>) -> Result<Boxed<SwitchBlock>, AllocError>
     ensures { IfOk result (λ s. s ≡ switch.now) }
 {

@@ -20,7 +20,7 @@ pub type INT = i64;
 
 /// A script's value.
 #[cycle(dynamic)]
-#[derive(Debug, PartialEq, Eq, Hash)]
+#[derive(PartialEq, Eq, Hash)]
 pub enum Dynamic {
     /// `()`
     Unit,
@@ -44,7 +44,8 @@ pub enum Dynamic {
     RangeInclusive(INT, INT),
 }
 
-/// Written by hand, so that it is proved here alone. So a value is looked at where it stands, and taken apart by its calls.
+/// Written by hand, so that it is proved here alone. So a value is looked at where it stands, and taken apart by its
+/// calls.
 impl Drop for Dynamic {
     #[cycle(let_go)]
     #[inline(always)]
@@ -110,7 +111,8 @@ impl Dynamic {
 
     /// The text that it is. Any other value is given back; in rhai the error is the name of its type.
     pub fn into_immutable_string(self) -> Result<ImmutableString, Dynamic>
-        ensures { MatchResult result (λ t. self ≡ kind.Str t) (λ v. (v ≡ self) × ((t : model.Text) → self ≢ kind.Str t)) }
+        ensures { MatchResult result (λ t. self ≡ kind.Str t)
+            (λ v. (v ≡ self) × ((t : model.Text) → self ≢ kind.Str t)) }
     {
         match self {
             Dynamic::Str(text) => Ok(text),
@@ -120,7 +122,8 @@ impl Dynamic {
 
     /// The items of the array that it is. Any other value is given back; in rhai the error is the name of its type.
     pub fn into_array(self) -> Result<Seq<Dynamic>, Dynamic>
-        ensures { MatchResult result (λ vs. self ≡ kind.Array vs) (λ v. (v ≡ self) × ((vs : List dynamic) → self ≢ kind.Array vs)) }
+        ensures { MatchResult result (λ vs. self ≡ kind.Array vs)
+            (λ v. (v ≡ self) × ((vs : List dynamic) → self ≢ kind.Array vs)) }
     {
         match self {
             Dynamic::Array(items) => Ok(items),
@@ -130,7 +133,8 @@ impl Dynamic {
 
     /// The pointer that it is. Any other value is given back. In rhai it is `try_cast`.
     pub fn into_fn_ptr(self) -> Result<FnPtr, Dynamic>
-        ensures { MatchResult result (λ p. self ≡ kind.FnPtr p) (λ v. (v ≡ self) × ((p : pointer) → self ≢ kind.FnPtr p)) }
+        ensures { MatchResult result (λ p. self ≡ kind.FnPtr p)
+            (λ v. (v ≡ self) × ((p : pointer) → self ≢ kind.FnPtr p)) }
     {
         match self {
             Dynamic::FnPtr(pointer) => Ok(pointer),
@@ -154,7 +158,7 @@ impl Dynamic {
         ensures err { OnErr result (string_bytes text.new ≡ string_bytes text.old) }
     {
         let mut form = String::new(*text.allocator());
-        text::push_form(self, &mut form)?;
+        write!(form, "{self:?}")?;
         text.push_str(form.as_str())?;
         Ok(())
     }
@@ -176,6 +180,6 @@ impl Dynamic {
     pub fn push_text(&self, text: &mut String) -> Result<(), AllocError>
         ensures { OnOk result (string_bytes text.new ≡ string_bytes text.old ++ model.text_of (value_of self.now)) }
     {
-        text::push_text(self, text)
+        write!(text, "{self}")
     }
 }

@@ -23,7 +23,8 @@ impl FnPtr {
     /// A pointer to the function of this name, without values, where a function may have the name. It
     /// takes no memory.
     pub fn new(alloc: Global, name: ImmutableString) -> Option<FnPtr>
-        ensures { MatchOption result (is_valid_name name ≡ false) (λ p. (p.name ≡ name) × (p.curried ≡ []) × (is_valid_name name ≡ true)) }
+        ensures { MatchOption result (is_valid_name name ≡ false) (λ p.
+            (p.name ≡ name) × (p.curried ≡ []) × (is_valid_name name ≡ true)) }
     {
         let name = FnName::new(name)?;
         Some(FnPtr {

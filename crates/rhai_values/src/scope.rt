@@ -50,7 +50,8 @@ impl Scope {
 
     /// Adds a variable at the end.
     pub fn push(&mut self, name: ImmutableString, value: Dynamic) -> Result<(), OutOfMemory>
-        ensures ok { OnOk result (self.new ≡ self.old ++ record { name = name; is_constant = false; value = value } ∷ []) }
+        ensures ok { OnOk result
+            (self.new ≡ self.old ++ record { name = name; is_constant = false; value = value } ∷ []) }
         ensures err { OnErr result (self.new ≡ self.old) }
     {
         self.push_entry(name, false, value)
@@ -62,7 +63,8 @@ impl Scope {
         name: ImmutableString,
         value: Dynamic,
     ) -> Result<(), OutOfMemory>
-        ensures ok { OnOk result (self.new ≡ self.old ++ record { name = name; is_constant = true; value = value } ∷ []) }
+        ensures ok { OnOk result
+            (self.new ≡ self.old ++ record { name = name; is_constant = true; value = value } ∷ []) }
         ensures err { OnErr result (self.new ≡ self.old) }
     {
         self.push_entry(name, true, value)
@@ -74,7 +76,8 @@ impl Scope {
         is_constant: bool,
         value: Dynamic,
     ) -> Result<(), OutOfMemory>
-        ensures ok { OnOk result (self.new ≡ self.old ++ record { name = name; is_constant = is_constant; value = value } ∷ []) }
+        ensures ok { OnOk result
+            (self.new ≡ self.old ++ record { name = name; is_constant = is_constant; value = value } ∷ []) }
         ensures err { OnErr result (self.new ≡ self.old) }
     {
         self.entries.push(ScopeEntry {
@@ -114,7 +117,8 @@ impl<'a> Iterator for ScopeIter<'a> {
 
     type Item = (&'a str, bool, &'a Dynamic);
 
-    ghost next_gives = { YieldsFirstBy (λ e. record { name = e.0.now; is_constant = e.1; value = e.2.now }) (λ s. s.entries.now) };
+    ghost next_gives = { YieldsFirstBy (λ e.
+        record { name = e.0.now; is_constant = e.1; value = e.2.now }) (λ s. s.entries.now) };
 
     ghost remaining = { item_count (λ s. s.entries.now) };
 

@@ -1,3 +1,4 @@
+pub mod EveryNode
 pub mod Folding
 pub mod Items
 pub mod Paths

@@ -1,4 +1,5 @@
 pub mod Children
 pub mod Left
 pub mod Nodes
+pub mod Standing
 pub mod Walking

@@ -4,13 +4,14 @@
 
 ghost use Rattle.std.specs.Prelude.{◌≡◌, [], ◌∷◌, ◌++◌, MatchOption};
 ghost use Rattle.rhai_walk.specs.Left.{arm_children, arms_left, default_left, default_of, listed_left, places_left, ranges_left};
+ghost use Rattle.rhai_walk.specs.Standing.{arms_standing, default_standing, listed_standing, sides_standing};
 ghost use Rattle.rhai_meaning.specs.Walk.{listed};
 ghost use Rattle.rhai_reading.specs.Reading.{expressions_of, table_of};
 
 use rhai_tree::{BinaryExpr, SwitchCasesCollection};
 
-/// The arms that are still to come, each time that the table lists them: by cases, then by ranges; the default is apart. It
-/// counts and holds no list: a walk has room for it at each node that has children.
+/// The arms that are still to come, each time that the table lists them: by cases, then by ranges; the default is
+/// apart. It counts and holds no list: a walk has room for it at each node that has children.
 #[derive(Clone, Copy)]
 pub(crate) struct ListedArms<'a> {
     table: &'a SwitchCasesCollection,
@@ -23,7 +24,9 @@ pub(crate) struct ListedArms<'a> {
 impl<'a> ListedArms<'a> {
     /// Those of a table.
     pub(crate) fn of(table: &'a SwitchCasesCollection) -> ListedArms<'a>
-        ensures { arms_left result ≡ listed_left (expressions_of table.now) (listed (table_of table.now)) }
+        ensures children { arms_left result ≡ listed_left (expressions_of table.now) (listed (table_of table.now)) }
+        ensures standing { arms_standing result
+            ≡ listed_standing (expressions_of table.now) (listed (table_of table.now)) }
     {
         ListedArms {
             table,
@@ -35,7 +38,10 @@ impl<'a> ListedArms<'a> {
     /// Takes the first that the table has. A place past the table names none.
     pub(crate) fn next(&mut self) -> Option<&'a BinaryExpr>
         ensures table { self.new.table ≡ self.old.table }
-        ensures arms { MatchOption result (arms_left self.old ≡ default_left self.old.table.now) (λ b. arms_left self.old ≡ arm_children b.now ++ arms_left self.new) }
+        ensures arms { MatchOption result (arms_left self.old ≡ default_left self.old.table.now) (λ b.
+            arms_left self.old ≡ arm_children b.now ++ arms_left self.new) }
+        ensures standing { MatchOption result (arms_standing self.old ≡ default_standing self.old.table.now) (λ b.
+            arms_standing self.old ≡ sides_standing b.now ++ arms_standing self.new) }
     {
         while let Some(place) = self.next_place() {
             if let Some(arm) = self.table.expressions.as_slice().get(place) {
@@ -47,7 +53,10 @@ impl<'a> ListedArms<'a> {
 
     /// The arm of the default, if the table has it.
     pub(crate) fn default(self) -> Option<&'a BinaryExpr>
-        ensures { MatchOption result (default_left self.entry.table.now ≡ []) (λ b. default_left self.entry.table.now ≡ arm_children b.now) }
+        ensures arms { MatchOption result (default_left self.entry.table.now ≡ []) (λ b.
+            default_left self.entry.table.now ≡ arm_children b.now) }
+        ensures standing { MatchOption result (default_standing self.entry.table.now ≡ []) (λ b.
+            default_standing self.entry.table.now ≡ sides_standing b.now) }
     {
         self.table.expressions.as_slice().get(self.table.def_case?)
     }
@@ -55,7 +64,8 @@ impl<'a> ListedArms<'a> {
     /// Takes the first place that is listed.
     fn next_place(&mut self) -> Option<usize>
         ensures table { self.new.table ≡ self.old.table }
-        ensures places { MatchOption result (places_left self.old ≡ default_of self.old.table.now) (λ i. places_left self.old ≡ i ∷ places_left self.new) }
+        ensures places { MatchOption result (places_left self.old ≡ default_of self.old.table.now) (λ i.
+            places_left self.old ≡ i ∷ places_left self.new) }
     {
         let cases = self.table.cases.as_map();
         while self.cases < cases.len() {
@@ -74,7 +84,8 @@ impl<'a> ListedArms<'a> {
     fn next_range(&mut self) -> Option<usize>
         ensures table { self.new.table ≡ self.old.table }
         ensures cases { self.new.cases ≡ self.old.cases }
-        ensures places { MatchOption result (ranges_left self.old ≡ default_of self.old.table.now) (λ i. ranges_left self.old ≡ i ∷ ranges_left self.new) }
+        ensures places { MatchOption result (ranges_left self.old ≡ default_of self.old.table.now) (λ i.
+            ranges_left self.old ≡ i ∷ ranges_left self.new) }
     {
         let range = self.table.ranges.as_slice().get(self.taken)?;
         self.taken += 1;

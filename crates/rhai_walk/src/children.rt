@@ -5,7 +5,8 @@
 ghost use Rattle.std.specs.Prelude.{◌≡◌, [], ◌∷◌, IsTrue};
 ghost use Rattle.rhai_walk.specs.Children.{anywhere, children};
 ghost use Rattle.rhai_walk.specs.Left.{is_nothing, left_of, statements_left};
-ghost use Rattle.rhai_walk.specs.Nodes.{child_of, node_of};
+ghost use Rattle.rhai_walk.specs.Nodes.{node_of};
+ghost use Rattle.rhai_walk.specs.Standing.{below, declared_of, standing_of, statements_standing};
 ghost use Rattle.rhai_meaning.specs.Walk.{OfExpr};
 ghost use Rattle.rhai_reading.specs.Reading.{expr_of};
 
@@ -23,7 +24,8 @@ impl<'a> Children<'a> {
     /// Those of a node. It takes no memory.
     #[inline(always)]
     pub fn of(node: ASTNode<'a>) -> Children<'a>
-        ensures { left_of result ≡ children (node_of node.entry) }
+        ensures children { left_of result ≡ children (node_of node.entry) }
+        ensures standing { standing_of result ≡ below (declared_of node.entry) }
     {
         match node {
             ASTNode::Stmt(stmt) => Children {
@@ -46,7 +48,8 @@ impl<'a> Children<'a> {
 
     /// Statements one after another.
     pub fn of_statements(statements: &'a [Stmt]) -> Children<'a>
-        ensures { left_of result ≡ statements_left statements.now }
+        ensures children { left_of result ≡ statements_left statements.now }
+        ensures standing { standing_of result ≡ statements_standing statements.now }
     {
         Children {
             parts: Parts::Statements(statements),
@@ -58,17 +61,19 @@ impl<'a> Children<'a> {
     pub fn are_of_leaf(&self) -> bool
         ensures leaf { result ≡ is_nothing self.now.parts }
         ensures none { IsTrue result → left_of self.now ≡ [] }
+        ensures nothing { IsTrue result → standing_of self.now ≡ [] }
     {
         matches!(self.parts, Parts::Nothing)
     }
 }
 
 impl<'a> Iterator for Children<'a> {
-    ghost use Rattle.std.specs.Iterator.{YieldsFirstBy, item_count};
+    ghost use Rattle.std.specs.Iterator.{item_count};
+    ghost use Rattle.rhai_walk.specs.Standing.{Yields};
 
     type Item = Child<'a>;
 
-    ghost next_gives = { YieldsFirstBy child_of left_of };
+    ghost next_gives = { Yields };
 
     ghost remaining = { item_count left_of };
 

@@ -3,6 +3,7 @@
 ghost use Rattle.std.specs.Prelude.{◌≡◌};
 ghost use Rattle.rhai_walk.specs.Children.{anywhere};
 ghost use Rattle.rhai_walk.specs.Nodes.{child_of, node_of};
+ghost use Rattle.rhai_walk.specs.Standing.{declared_of, standing_anywhere, standing_child};
 ghost use Rattle.rhai_walk.specs.declared.node.ASTNode.TheVariants as node;
 
 use rhai_base::ASTFlags;
@@ -42,7 +43,8 @@ pub struct Child<'a> {
 impl<'a> ASTNode<'a> {
     /// It, as a child that may stand anywhere.
     pub(crate) fn anywhere(self) -> Child<'a>
-        ensures { child_of result ≡ anywhere (node_of self.entry) }
+        ensures child { child_of result ≡ anywhere (node_of self.entry) }
+        ensures standing { standing_child result ≡ standing_anywhere (declared_of self.entry) }
     {
         Child {
             node: self,

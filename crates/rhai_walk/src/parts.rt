@@ -1,11 +1,13 @@
 //! What a node is made of, as far as a walk goes into it.
 
-#![tactic(auto, using(rhai_reading::specs::Reading::shapes))]
+#![tactic(auto, using(rhai_reading::specs::Reading::shapes, crate::specs::Standing::nodes_below))]
 
 ghost use Rattle.std.specs.Prelude.{◌≡◌, [], ◌∷◌, ◌++◌, MatchOption};
 ghost use Rattle.rhai_walk.specs.Children.{anywhere, children, one_step};
 ghost use Rattle.rhai_walk.specs.Left.{arm_children, arms_left, blocks_left, exprs_left, left_child, left_of_parts, listed_left, loop_left, members_left, right_child, statements_left};
 ghost use Rattle.rhai_walk.specs.Nodes.{child_of};
+ghost use Rattle.rhai_walk.specs.Standing.{arms_standing, body_standing, expr_below, expr_standing, exprs_standing, left_standing, listed_standing, maybe_standing, members_standing, right_standing, sides_standing, standing_child, standing_of_parts, statements_standing, stmt_below};
+ghost use Rattle.rhai_walk.specs.declared.parts.Parts.TheVariants as parts;
 ghost use Rattle.rhai_meaning.specs.Walk.{OfExpr, OfStmt, listed, over_maybe};
 ghost use Rattle.rhai_reading.specs.Reading.{expr_of, expressions_of, maybe_of, stmt_of, table_of};
 
@@ -57,7 +59,8 @@ impl<'a> Parts<'a> {
     /// Those of an expression.
     #[inline(always)]
     pub(crate) fn of_expr(expr: &'a Expr) -> Parts<'a>
-        ensures { left_of_parts result ≡ children (OfExpr (expr_of expr.now)) }
+        ensures children { left_of_parts result ≡ children (OfExpr (expr_of expr.now)) }
+        ensures standing { standing_of_parts result ≡ expr_below expr.now }
     {
         match expr {
             Expr::DynamicConstant(_, _)
@@ -87,7 +90,8 @@ impl<'a> Parts<'a> {
     /// Those of a statement.
     #[inline(always)]
     pub(crate) fn of_stmt(stmt: &'a Stmt) -> Parts<'a>
-        ensures { left_of_parts result ≡ children (OfStmt (stmt_of stmt.now)) }
+        ensures children { left_of_parts result ≡ children (OfStmt (stmt_of stmt.now)) }
+        ensures standing { standing_of_parts result ≡ stmt_below stmt.now }
     {
         match stmt {
             Stmt::Noop(_) | Stmt::Export(_, _) | Stmt::Share(_) => Parts::Nothing,
@@ -108,7 +112,8 @@ impl<'a> Parts<'a> {
 
     #[inline(always)]
     fn of_optional(expr: &'a Option<Boxed<Expr>>) -> Parts<'a>
-        ensures { left_of_parts result ≡ over_maybe one_step (maybe_of expr.now) }
+        ensures children { left_of_parts result ≡ over_maybe one_step (maybe_of expr.now) }
+        ensures standing { standing_of_parts result ≡ maybe_standing expr.now }
     {
         match expr {
             Some(expr) => Parts::Expr(expr.get()),
@@ -117,14 +122,18 @@ impl<'a> Parts<'a> {
     }
 
     fn of_arms(table: &'a SwitchCasesCollection) -> Parts<'a>
-        ensures { left_of_parts result ≡ listed_left (expressions_of table.now) (listed (table_of table.now)) }
+        ensures children { left_of_parts result ≡ listed_left (expressions_of table.now) (listed (table_of table.now)) }
+        ensures standing { standing_of_parts result
+            ≡ listed_standing (expressions_of table.now) (listed (table_of table.now)) }
     {
         Parts::Arms(ListedArms::of(table))
     }
 
     #[inline(always)]
     fn of_blocks(flow: &'a FlowControl) -> Parts<'a>
-        ensures { left_of_parts result ≡ blocks_left flow.now.body.block flow.now.branch.block }
+        ensures children { left_of_parts result ≡ blocks_left flow.now.body.block flow.now.branch.block }
+        ensures standing { standing_of_parts result
+            ≡ statements_standing flow.now.body.block ++ statements_standing flow.now.branch.block }
     {
         Parts::Blocks(flow.body.statements(), flow)
     }
@@ -132,7 +141,10 @@ impl<'a> Parts<'a> {
     /// The first child, and the parts after it.
     #[inline(always)]
     pub(crate) fn split_first(self) -> Option<(Child<'a>, Parts<'a>)>
-        ensures { MatchOption result (left_of_parts self.entry ≡ []) (λ p. left_of_parts self.entry ≡ child_of p.0 ∷ left_of_parts p.1) }
+        ensures children { MatchOption result (left_of_parts self.entry ≡ []) (λ p.
+            left_of_parts self.entry ≡ child_of p.0 ∷ left_of_parts p.1) }
+        ensures standing { MatchOption result (standing_of_parts self.entry ≡ []) (λ p.
+            standing_of_parts self.entry ≡ standing_child p.0 ∷ standing_of_parts p.1) }
     {
         match self {
             Parts::Nothing => None,
@@ -165,7 +177,8 @@ impl<'a> Parts<'a> {
 /// An expression, where it does not matter, and what comes after it.
 fn then<'a>(expr: &'a Expr, rest: Parts<'a>) -> (Child<'a>, Parts<'a>)
     ensures child { child_of result.0 ≡ anywhere (OfExpr (expr_of expr.now)) }
-    ensures rest { left_of_parts result.1 ≡ left_of_parts rest.entry }
+    ensures standing { standing_child result.0 ≡ expr_standing expr.now }
+    ensures rest { result.1 ≡ rest.entry }
 {
     (ASTNode::Expr(expr).anywhere(), rest)
 }
@@ -173,7 +186,8 @@ fn then<'a>(expr: &'a Expr, rest: Parts<'a>) -> (Child<'a>, Parts<'a>)
 /// The left side of a `.` or an index, and what comes after it.
 fn left_side<'a>(sides: &'a BinaryExpr, rest: Parts<'a>) -> (Child<'a>, Parts<'a>)
     ensures child { child_of result.0 ≡ left_child sides.now }
-    ensures rest { left_of_parts result.1 ≡ left_of_parts rest.entry }
+    ensures standing { standing_child result.0 ≡ left_standing sides.now }
+    ensures rest { result.1 ≡ rest.entry }
 {
     let child = Child {
         node: ASTNode::Expr(&sides.lhs),
@@ -185,7 +199,8 @@ fn left_side<'a>(sides: &'a BinaryExpr, rest: Parts<'a>) -> (Child<'a>, Parts<'a
 /// The right side of a `.` or an index, after which nothing comes.
 fn right_side<'a>(sides: &'a BinaryExpr, is_dot: bool, flags: ASTFlags) -> (Child<'a>, Parts<'a>)
     ensures child { child_of result.0 ≡ right_child is_dot sides.now flags }
-    ensures rest { left_of_parts result.1 ≡ [] }
+    ensures standing { standing_child result.0 ≡ right_standing is_dot sides.now flags }
+    ensures rest { result.1 ≡ parts.Nothing }
 {
     let child = Child {
         node: ASTNode::Expr(&sides.rhs),
@@ -195,28 +210,43 @@ fn right_side<'a>(sides: &'a BinaryExpr, is_dot: bool, flags: ASTFlags) -> (Chil
 }
 
 fn first_expr<'a>(exprs: &'a [Expr]) -> Option<(Child<'a>, Parts<'a>)>
-    ensures { MatchOption result (exprs_left exprs.now ≡ []) (λ p. exprs_left exprs.now ≡ child_of p.0 ∷ left_of_parts p.1) }
+    ensures children { MatchOption result (exprs_left exprs.now ≡ []) (λ p.
+        exprs_left exprs.now ≡ child_of p.0 ∷ left_of_parts p.1) }
+    ensures standing { MatchOption result (exprs_standing exprs.now ≡ []) (λ p.
+        exprs_standing exprs.now ≡ standing_child p.0 ∷ standing_of_parts p.1) }
 {
     let (first, rest) = exprs.split_first()?;
     Some(then(first, Parts::Exprs(rest)))
 }
 
 fn first_member<'a>(members: &'a [(Ident, Expr)]) -> Option<(Child<'a>, Parts<'a>)>
-    ensures { MatchOption result (members_left members.now ≡ []) (λ p. members_left members.now ≡ child_of p.0 ∷ left_of_parts p.1) }
+    ensures children { MatchOption result (members_left members.now ≡ []) (λ p.
+        members_left members.now ≡ child_of p.0 ∷ left_of_parts p.1) }
+    ensures standing { MatchOption result (members_standing members.now ≡ []) (λ p.
+        members_standing members.now ≡ standing_child p.0 ∷ standing_of_parts p.1) }
 {
     let (first, rest) = members.split_first()?;
     Some(then(&first.1, Parts::Members(rest)))
 }
 
 fn first_statement<'a>(statements: &'a [Stmt]) -> Option<(Child<'a>, Parts<'a>)>
-    ensures { MatchOption result (statements_left statements.now ≡ []) (λ p. statements_left statements.now ≡ child_of p.0 ∷ left_of_parts p.1) }
+    ensures children { MatchOption result (statements_left statements.now ≡ []) (λ p.
+        statements_left statements.now ≡ child_of p.0 ∷ left_of_parts p.1) }
+    ensures standing { MatchOption result (statements_standing statements.now ≡ []) (λ p.
+        statements_standing statements.now ≡ standing_child p.0 ∷ standing_of_parts p.1) }
 {
     let (first, rest) = statements.split_first()?;
     Some((ASTNode::Stmt(first).anywhere(), Parts::Statements(rest)))
 }
 
 fn first_of_blocks<'a>(body: &'a [Stmt], flow: &'a FlowControl) -> Option<(Child<'a>, Parts<'a>)>
-    ensures { MatchOption result (blocks_left body.now flow.now.branch.block ≡ []) (λ p. blocks_left body.now flow.now.branch.block ≡ child_of p.0 ∷ left_of_parts p.1) }
+    ensures children { MatchOption result (blocks_left body.now flow.now.branch.block ≡ []) (λ p.
+        blocks_left body.now flow.now.branch.block ≡ child_of p.0 ∷ left_of_parts p.1) }
+    ensures standing { MatchOption result
+        (statements_standing body.now ++ statements_standing flow.now.branch.block ≡ [])
+        (λ p.
+        statements_standing body.now ++ statements_standing flow.now.branch.block
+        ≡ standing_child p.0 ∷ standing_of_parts p.1) }
 {
     match body.split_first() {
         Some((first, rest)) => Some((ASTNode::Stmt(first).anywhere(), Parts::Blocks(rest, flow))),
@@ -225,7 +255,10 @@ fn first_of_blocks<'a>(body: &'a [Stmt], flow: &'a FlowControl) -> Option<(Child
 }
 
 fn first_of_loop<'a>(statements: &'a [Stmt]) -> Option<(Child<'a>, Parts<'a>)>
-    ensures { MatchOption result (loop_left statements.now ≡ []) (λ p. loop_left statements.now ≡ child_of p.0 ∷ left_of_parts p.1) }
+    ensures children { MatchOption result (loop_left statements.now ≡ []) (λ p.
+        loop_left statements.now ≡ child_of p.0 ∷ left_of_parts p.1) }
+    ensures standing { MatchOption result (body_standing statements.now ≡ []) (λ p.
+        body_standing statements.now ≡ standing_child p.0 ∷ standing_of_parts p.1) }
 {
     let (first, rest) = statements.split_first()?;
     let child = Child {
@@ -237,7 +270,10 @@ fn first_of_loop<'a>(statements: &'a [Stmt]) -> Option<(Child<'a>, Parts<'a>)>
 
 /// The first arm, and what comes after it: other arms, but for the default.
 fn first_arm<'a>(arms: ListedArms<'a>) -> Option<(&'a BinaryExpr, Parts<'a>)>
-    ensures { MatchOption result (arms_left arms.entry ≡ []) (λ p. arms_left arms.entry ≡ arm_children p.0.now ++ left_of_parts p.1) }
+    ensures children { MatchOption result (arms_left arms.entry ≡ []) (λ p.
+        arms_left arms.entry ≡ arm_children p.0.now ++ left_of_parts p.1) }
+    ensures standing { MatchOption result (arms_standing arms.entry ≡ []) (λ p.
+        arms_standing arms.entry ≡ sides_standing p.0.now ++ standing_of_parts p.1) }
 {
     let mut arms = arms;
     match arms.next() {

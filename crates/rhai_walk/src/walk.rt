@@ -23,7 +23,8 @@ pub fn walk_expr<'a, F: FnMut(&[ASTNode]) -> bool>(
 ) -> Result<bool, OutOfMemory>
     requires { F.IsAlwaysCallable on_node.old }
     ensures callable { F.IsAlwaysCallable on_node.new }
-    ensures walks { Walks F.FnMut path.old.items result on_node.old (expr_paths (expr_of expr.now)) on_node.new path.new.items }
+    ensures walks { Walks F.FnMut path.old.items result on_node.old (expr_paths (expr_of expr.now)) on_node.new
+        path.new.items }
 {
     answered(visit(Children::only(expr), path, on_node))
 }
@@ -36,7 +37,8 @@ pub fn walk_stmt<'a, F: FnMut(&[ASTNode]) -> bool>(
 ) -> Result<bool, OutOfMemory>
     requires { F.IsAlwaysCallable on_node.old }
     ensures callable { F.IsAlwaysCallable on_node.new }
-    ensures walks { Walks F.FnMut path.old.items result on_node.old (stmt_paths (stmt_of stmt.now)) on_node.new path.new.items }
+    ensures walks { Walks F.FnMut path.old.items result on_node.old (stmt_paths (stmt_of stmt.now)) on_node.new
+        path.new.items }
 {
     answered(visit(
         Children::of_statements(slice::from_ref(stmt)),
@@ -53,7 +55,8 @@ pub fn walk_statements<'a, F: FnMut(&[ASTNode]) -> bool>(
 ) -> Result<bool, OutOfMemory>
     requires { F.IsAlwaysCallable on_node.old }
     ensures callable { F.IsAlwaysCallable on_node.new }
-    ensures walks { Walks F.FnMut path.old.items result on_node.old (stmts_paths (stmts_of statements.now)) on_node.new path.new.items }
+    ensures walks { Walks F.FnMut path.old.items result on_node.old (stmts_paths (stmts_of statements.now)) on_node.new
+        path.new.items }
 {
     answered(visit(Children::of_statements(statements), path, on_node))
 }
@@ -85,7 +88,8 @@ fn visit<'a, F: FnMut(&[ASTNode]) -> bool>(
 ) -> Result<(), Stop>
     requires { F.IsAlwaysCallable on_node.old }
     ensures callable { F.IsAlwaysCallable on_node.new }
-    ensures walks { Walks F.FnMut path.old.items (ended result) on_node.old (over_children listing (left_of children.entry)) on_node.new path.new.items }
+    ensures walks { Walks F.FnMut path.old.items (ended result) on_node.old
+        (over_children listing (left_of children.entry)) on_node.new path.new.items }
 {
     for child in children {
         enter(child.node, path, on_node)?;
@@ -104,7 +108,8 @@ fn visit_below<'a, F: FnMut(&[ASTNode]) -> bool>(
 ) -> Result<(), Stop>
     requires { F.IsAlwaysCallable on_node.old }
     ensures callable { F.IsAlwaysCallable on_node.new }
-    ensures walks { Walks F.FnMut path.old.items (ended result) on_node.old (over_parts listing (node_of node.entry)) on_node.new path.new.items }
+    ensures walks { Walks F.FnMut path.old.items (ended result) on_node.old (over_parts listing (node_of node.entry))
+        on_node.new path.new.items }
 {
     let children = Children::of(node);
     if children.are_of_leaf() {

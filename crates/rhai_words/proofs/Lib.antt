@@ -1,3 +1,4 @@
 pub mod Arguments
+pub mod Called
 pub mod Folds
 pub mod Pointers

@@ -9,6 +9,8 @@ use Rattle.rhai_meaning.specs.Engine.{Engine, mapped_type_name}
 use Rattle.rhai_meaning.specs.Shape.{is_none}
 use Rattle.rhai_meaning.specs.Tree.{CallToken, NoToken, Callee, Expr, FnCall, Exprs, Stmt, FnCallStmt}
 use Rattle.rhai_rewriting.specs.Folding.{folded}
+use Rattle.rhai_words.specs.declared.calls.Word.{Word}
+use Rattle.rhai_words.specs.declared.calls.Word.TheVariants as word_kind
 
 -- ---- at values
 
@@ -63,6 +65,24 @@ word_value r f vs =
     else if same_text f (codes "Fn") then pointer_named (only vs)
     else if same_text f (codes "curry") then curried vs
     else None
+
+-- which function of the language's own has a name
+abbrev pub word_named : Text → Option Word
+word_named f =
+    if same_text f (codes "type_of") then Some word_kind.TypeOf
+    else if same_text f (codes "is_shared") then Some word_kind.IsShared
+    else if same_text f (codes "Fn") then Some word_kind.Fn
+    else if same_text f (codes "curry") then Some word_kind.Curry
+    else None
+
+abbrev pub word_called : Callee → Option Word
+word_called c = if is_none c.namespace then word_named c.name else None
+
+abbrev pub value_of_word : Engine → Word → Option (List Value) → Option Value
+value_of_word r word_kind.TypeOf vs = option_map (type_of r) (only vs)
+value_of_word r word_kind.IsShared vs = option_map is_shared (only vs)
+value_of_word r word_kind.Fn vs = pointer_named (only vs)
+value_of_word r word_kind.Curry vs = curried vs
 
 -- by a name alone
 abbrev pub unqualified_value : Engine → Callee → Option (List Value) → Option Value

@@ -15,7 +15,7 @@ use rhai_engine::EngineInfo;
 use std::alloc::Global;
 
 /// `type_of`: the name that scripts see for a value's type.
-pub fn type_of_value(
+pub(crate) fn type_of_value(
     alloc: Global,
     info: &EngineInfo,
     value: &Dynamic,
@@ -27,14 +27,17 @@ pub fn type_of_value(
 }
 
 /// `is_shared`: no value is.
-pub fn is_shared_value() -> Dynamic
+pub(crate) fn is_shared_value() -> Dynamic
     ensures { value_of result ≡ BoolV false }
 {
     Dynamic::Bool(false)
 }
 
 /// `Fn`: the pointer to the function that a text names, where a function may have the name.
-pub fn pointer_to_value(alloc: Global, value: &Dynamic) -> Result<Option<Dynamic>, OutOfMemory>
+pub(crate) fn pointer_to_value(
+    alloc: Global,
+    value: &Dynamic,
+) -> Result<Option<Dynamic>, OutOfMemory>
     ensures { IfOk result (λ p. option_map value_of p ≡ words.pointer_named (Some (value_of value.now))) }
 {
     match value {

@@ -1,4 +1,5 @@
-//! What calls over constants answer, a rule each. Which call it is, and whether its arguments are constants, is asked by reference.
+//! What calls over constants answer, a rule each. Which call it is, and whether its arguments are constants, is asked
+//! by reference.
 
 #![tactic(auto, using(rhai_reading::specs::Reading::shapes, rhai_values::specs::Reading::kinds))]
 
@@ -22,15 +23,25 @@ use rhai_queries::are_constant;
 use std::alloc::Global;
 use std::borrow::Cow;
 
-/// What a call answers over constants, if it is an operator's or one of the language's own functions' by its name alone. Any other is left
-/// at once.
+/// A function of the language's own.
+#[derive(Clone, Copy)]
+pub(crate) enum Word {
+    TypeOf,
+    IsShared,
+    Fn,
+    Curry,
+}
+
+/// What a call answers over constants, if it is an operator's or one of the language's own functions' by its name
+/// alone. Any other is left at once.
 #[inline]
 pub(crate) fn call_value(
     alloc: Global,
     info: &EngineInfo,
     call: &FnCallExpr,
 ) -> Result<Option<Dynamic>, OutOfMemory>
-    ensures { IfOk result (λ v. option_map value_of v ≡ words.call_value (engine_of info.now) (callee_of call.now) (exprs_of call.now.args)) }
+    ensures { IfOk result (λ v.
+        option_map value_of v ≡ words.call_value (engine_of info.now) (callee_of call.now) (exprs_of call.now.args)) }
 {
     match call.op_token {
         Some(_) => operator_folds(alloc, info, call),
@@ -40,14 +51,40 @@ pub(crate) fn call_value(
 
 /// An operator over constants that is built in is its value.
 #[inline]
-fn operator_folds(
+pub(crate) fn operator_folds(
     alloc: Global,
     info: &EngineInfo,
     call: &FnCallExpr,
 ) -> Result<Option<Dynamic>, OutOfMemory>
-    ensures { IfOk result (λ v. option_map value_of v ≡ folding.folded (engine_of info.now) (callee_of call.now) (exprs_of call.now.args)) }
+    ensures { IfOk result (λ v.
+        option_map value_of v ≡ folding.folded (engine_of info.now) (callee_of call.now) (exprs_of call.now.args)) }
 {
     folded(alloc, info, call)
+}
+
+/// Which of the language's own functions has the name.
+#[inline]
+fn word_named(name: &str) -> Option<Word>
+    ensures { result ≡ words.word_named name.now }
+{
+    match name {
+        "type_of" => Some(Word::TypeOf),
+        "is_shared" => Some(Word::IsShared),
+        "Fn" => Some(Word::Fn),
+        "curry" => Some(Word::Curry),
+        _ => None,
+    }
+}
+
+/// Which of them a call by a name is of, if it is of one: by its name alone.
+#[inline]
+pub(crate) fn word_called(call: &FnCallExpr) -> Option<Word>
+    ensures { result ≡ words.word_called (callee_of call.now) }
+{
+    if !call.namespace.is_empty() {
+        return None;
+    }
+    word_named(call.name.as_str())
 }
 
 #[inline]
@@ -56,29 +93,33 @@ fn unqualified_value(
     info: &EngineInfo,
     call: &FnCallExpr,
 ) -> Result<Option<Dynamic>, OutOfMemory>
-    ensures { IfOk result (λ v. option_map value_of v ≡ words.unqualified_value (engine_of info.now) (callee_of call.now) (constants.constant_values (exprs_of call.now.args))) }
+    ensures { IfOk result (λ v.
+        option_map value_of v
+        ≡ words.unqualified_value (engine_of info.now) (callee_of call.now)
+        (constants.constant_values (exprs_of call.now.args))) }
 {
-    if !call.namespace.is_empty() {
-        return Ok(None);
+    match word_called(call) {
+        Some(word) => word_folds(alloc, info, word, call.args.as_slice()),
+        None => Ok(None),
     }
-    word_value(alloc, info, call.name.as_str(), call.args.as_slice())
 }
 
 #[inline]
-fn word_value(
+fn word_folds(
     alloc: Global,
     info: &EngineInfo,
-    name: &str,
+    word: Word,
     args: &[Expr],
 ) -> Result<Option<Dynamic>, OutOfMemory>
-    ensures { IfOk result (λ v. option_map value_of v ≡ words.word_value (engine_of info.now) name.now (constants.constant_values (exprs_of args.now))) }
+    ensures { IfOk result (λ v.
+        option_map value_of v
+        ≡ words.value_of_word (engine_of info.now) word (constants.constant_values (exprs_of args.now))) }
 {
-    match name {
-        "type_of" => type_of_folds(alloc, info, args),
-        "is_shared" => is_shared_folds(alloc, args),
-        "Fn" => fn_folds(alloc, args),
-        "curry" => curry_folds(alloc, args),
-        _ => Ok(None),
+    match word {
+        Word::TypeOf => type_of_folds(alloc, info, args),
+        Word::IsShared => is_shared_folds(alloc, args),
+        Word::Fn => fn_folds(alloc, args),
+        Word::Curry => curry_folds(alloc, args),
     }
 }
 
@@ -94,12 +135,15 @@ fn only_constant(alloc: Global, args: &[Expr]) -> Result<Option<Cow<'_, Dynamic>
 
 /// `type_of` of a constant is the name that scripts see for its type.
 #[inline(never)]
-fn type_of_folds(
+pub(crate) fn type_of_folds(
     alloc: Global,
     info: &EngineInfo,
     args: &[Expr],
 ) -> Result<Option<Dynamic>, OutOfMemory>
-    ensures { IfOk result (λ v. option_map value_of v ≡ option_map (words.type_of (engine_of info.now)) (words.only (constants.constant_values (exprs_of args.now)))) }
+    ensures { IfOk result (λ v.
+        option_map value_of v
+        ≡ option_map (words.type_of (engine_of info.now))
+        (words.only (constants.constant_values (exprs_of args.now)))) }
 {
     match only_constant(alloc, args)? {
         Some(value) => Ok(Some(type_of_value(alloc, info, &value)?)),
@@ -109,8 +153,10 @@ fn type_of_folds(
 
 /// `is_shared` of a constant is false.
 #[inline(never)]
-fn is_shared_folds(alloc: Global, args: &[Expr]) -> Result<Option<Dynamic>, OutOfMemory>
-    ensures { IfOk result (λ v. option_map value_of v ≡ option_map words.is_shared (words.only (constants.constant_values (exprs_of args.now)))) }
+pub(crate) fn is_shared_folds(alloc: Global, args: &[Expr]) -> Result<Option<Dynamic>, OutOfMemory>
+    ensures { IfOk result (λ v.
+        option_map value_of v
+        ≡ option_map words.is_shared (words.only (constants.constant_values (exprs_of args.now)))) }
 {
     match only_constant(alloc, args)? {
         Some(_) => Ok(Some(is_shared_value())),
@@ -120,8 +166,9 @@ fn is_shared_folds(alloc: Global, args: &[Expr]) -> Result<Option<Dynamic>, OutO
 
 /// `Fn` of a text that a function may have as its name is the pointer.
 #[inline(never)]
-fn fn_folds(alloc: Global, args: &[Expr]) -> Result<Option<Dynamic>, OutOfMemory>
-    ensures { IfOk result (λ v. option_map value_of v ≡ words.pointer_named (words.only (constants.constant_values (exprs_of args.now)))) }
+pub(crate) fn fn_folds(alloc: Global, args: &[Expr]) -> Result<Option<Dynamic>, OutOfMemory>
+    ensures { IfOk result (λ v.
+        option_map value_of v ≡ words.pointer_named (words.only (constants.constant_values (exprs_of args.now)))) }
 {
     match only_constant(alloc, args)? {
         Some(value) => pointer_to_value(alloc, &value),
@@ -131,7 +178,7 @@ fn fn_folds(alloc: Global, args: &[Expr]) -> Result<Option<Dynamic>, OutOfMemory
 
 /// `curry` of a constant pointer with constants is the pointer with these values behind its own.
 #[inline(never)]
-fn curry_folds(alloc: Global, args: &[Expr]) -> Result<Option<Dynamic>, OutOfMemory>
+pub(crate) fn curry_folds(alloc: Global, args: &[Expr]) -> Result<Option<Dynamic>, OutOfMemory>
     ensures { IfOk result (λ v. option_map value_of v ≡ words.curried (constants.constant_values (exprs_of args.now))) }
 {
     match args.split_first() {
@@ -141,7 +188,11 @@ fn curry_folds(alloc: Global, args: &[Expr]) -> Result<Option<Dynamic>, OutOfMem
 }
 
 fn curried(alloc: Global, pointer: &Expr, args: &[Expr]) -> Result<Option<Dynamic>, OutOfMemory>
-    ensures { IfOk result (λ v. option_map value_of v ≡ words.curried (constants.value_and (constants.constant_value (expr_of pointer.now)) (constants.constant_values (exprs_of args.now)))) }
+    ensures { IfOk result (λ v.
+        option_map value_of v
+        ≡ words.curried
+        (constants.value_and (constants.constant_value (expr_of pointer.now))
+        (constants.constant_values (exprs_of args.now)))) }
 {
     match constant_pointer(pointer) {
         Some(pointer) => curried_with(alloc, pointer, args),
@@ -151,7 +202,8 @@ fn curried(alloc: Global, pointer: &Expr, args: &[Expr]) -> Result<Option<Dynami
 
 /// The pointer that a constant holds.
 fn constant_pointer(expr: &Expr) -> Option<&FnPtr>
-    ensures { option_map (λ p. words.pointer_value p.now) result ≡ words.pointer_alone (constants.constant_value (expr_of expr.now)) }
+    ensures { option_map (λ p. words.pointer_value p.now) result
+        ≡ words.pointer_alone (constants.constant_value (expr_of expr.now)) }
 {
     match expr {
         Expr::DynamicConstant(value, _) => as_pointer(value.get()),
@@ -188,7 +240,10 @@ fn curried_with(
     pointer: &FnPtr,
     args: &[Expr],
 ) -> Result<Option<Dynamic>, OutOfMemory>
-    ensures { IfOk result (λ v. option_map value_of v ≡ words.with_values pointer.now.name (words.values_of pointer.now) (constants.constant_values (exprs_of args.now))) }
+    ensures { IfOk result (λ v.
+        option_map value_of v
+        ≡ words.with_values pointer.now.name (words.values_of pointer.now)
+        (constants.constant_values (exprs_of args.now))) }
 {
     if !are_constant(args) {
         return Ok(None);

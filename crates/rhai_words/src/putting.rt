@@ -52,7 +52,7 @@ fn constant_of(alloc: Global, value: Dynamic, pos: Position) -> Result<Expr, Out
 
 /// Puts the constant that holds a value in the place of an expression that stands for it.
 #[inline(never)]
-pub fn hold_value(
+pub(crate) fn hold_value(
     alloc: Global,
     state: &mut OptimizerState<'_>,
     expr: &mut Expr,
@@ -75,13 +75,14 @@ fn constant_statement(alloc: Global, value: Dynamic, pos: Position) -> Result<St
 
 /// Puts the statement of the constant that holds a value in the place of a statement that stands for it.
 #[inline(never)]
-pub fn hold_value_statement(
+pub(crate) fn hold_value_statement(
     alloc: Global,
     state: &mut OptimizerState<'_>,
     statement: &mut Stmt,
     value: Dynamic,
 ) -> Result<(), OutOfMemory>
-    ensures { OnOk result (HoldsStatement (progress state.old) (progress state.new) (stmt_of statement.new) (value_of value)) }
+    ensures { OnOk result
+        (HoldsStatement (progress state.old) (progress state.new) (stmt_of statement.new) (value_of value)) }
 {
     note_fired(state);
     let constant = constant_statement(alloc, value, statement.position())?;

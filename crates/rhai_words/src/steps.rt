@@ -1,5 +1,5 @@
-//! The rules at a call, as an expression and as a statement: what it answers over constants takes its place. That is neither a name nor unit,
-//! so it may stand wherever the call does.
+//! The rules at a call, as an expression and as a statement: what it answers over constants takes its place. That is
+//! neither a name nor unit, so it may stand wherever the call does.
 
 #![tactic(auto, using(rhai_reading::specs::Reading::shapes))]
 
@@ -15,6 +15,7 @@ ghost use Rattle.rhai_words.specs.Words as words;
 
 use crate::calls::call_value;
 use crate::putting::{hold_value, hold_value_statement};
+use crate::statements::call_statement_value;
 use rhai_ast::{Expr, Stmt};
 use rhai_base::{Dynamic, OutOfMemory};
 use rhai_engine::EngineInfo;
@@ -40,7 +41,10 @@ pub fn step_call(
     expr: &mut Expr,
 ) -> Result<bool, OutOfMemory>
     requires { words.is_call (expr_of expr.now) ≡ true }
-    ensures { IfOk result (λ fired. (p : Place) → ExprStep fired (engine_of info.now) p (progress state.old) (progress state.new) (expr_of expr.old) (expr_of expr.new)) }
+    ensures { IfOk result (λ fired.
+        (p : Place)
+        → ExprStep fired (engine_of info.now) p (progress state.old) (progress state.new) (expr_of expr.old)
+        (expr_of expr.new)) }
 {
     if let Some(value) = expr_value(alloc, info, expr)? {
         hold_value(alloc, state, expr, value)?;
@@ -55,10 +59,11 @@ fn statement_value(
     info: &EngineInfo,
     statement: &Stmt,
 ) -> Result<Option<Dynamic>, OutOfMemory>
-    ensures { IfOk result (λ v. option_map value_of v ≡ words.statement_value (engine_of info.now) (stmt_of statement.now)) }
+    ensures { IfOk result (λ v.
+        option_map value_of v ≡ words.statement_value (engine_of info.now) (stmt_of statement.now)) }
 {
     match statement {
-        Stmt::FnCall(call, _) => call_value(alloc, info, call.get()),
+        Stmt::FnCall(call, _) => call_statement_value(alloc, info, call.get()),
         _ => Ok(None),
     }
 }
@@ -72,7 +77,10 @@ pub fn step_call_statement(
     statement: &mut Stmt,
 ) -> Result<NodeStep, OutOfMemory>
     requires { words.is_call_statement (stmt_of statement.now) ≡ true }
-    ensures { IfOk result (λ step. (w : Bool) → StmtStep step (engine_of info.now) w (progress state.old) (progress state.new) (stmt_of statement.old) (stmt_of statement.new)) }
+    ensures { IfOk result (λ step.
+        (w : Bool)
+        → StmtStep step (engine_of info.now) w (progress state.old) (progress state.new) (stmt_of statement.old)
+        (stmt_of statement.new)) }
 {
     if let Some(value) = statement_value(alloc, info, statement)? {
         hold_value_statement(alloc, state, statement, value)?;

@@ -1,8 +1,9 @@
 //! The pieces of docs/GUIDE.md on scripts.
 
 use crate::guide_trees;
-use rhai_ast::{ASTNode, Expr, FnAccess, ScriptFuncDef, Stmt, StmtBlock};
-use rhai_base::{ASTFlags, Boxed, Dynamic, Ident, ImmutableString, OutOfMemory, Position, Seq};
+use rhai_ast::{ASTNode, Expr, ScriptFuncDef, Stmt};
+use rhai_base::{ASTFlags, Boxed, Dynamic, Ident, ImmutableString, OutOfMemory, Position};
+use rhai_make as make;
 use rhai_script::{AST, FnLib, SharedLib};
 use rhai_script_queries::ScriptQueries;
 use std::alloc::Global;
@@ -11,14 +12,7 @@ use tests_reader::Said;
 
 /// `fn NAME() {}`, as a parser would build it.
 fn function(alloc: Global, name: &str) -> Result<Rc<ScriptFuncDef>, OutOfMemory> {
-    let function = ScriptFuncDef {
-        body: StmtBlock::new(Vec::new(alloc), Position::NONE, Position::NONE),
-        name: ImmutableString::new(alloc, name)?,
-        this_type: None,
-        access: FnAccess::Public,
-        params: Seq::new(alloc),
-        comments: Seq::new(alloc),
-    };
+    let function = make::function(alloc, name, &[], Vec::new(alloc))?;
     Ok(Rc::new(alloc, function)?)
 }
 

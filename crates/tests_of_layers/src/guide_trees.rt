@@ -53,12 +53,10 @@ fn is_whole(alloc: Global, script: &[Stmt]) -> bool {
     check_tree(alloc, script, &[]).is_ok() && is_plain(script, &[])
 }
 
-/// The number of the first fault; 0 for none.
-fn first_fault(alloc: Global, script: &[Stmt]) -> u8 {
-    match check_tree(alloc, script, &[]) {
-        Ok(()) => 0,
-        Err(fault) => fault.number(), // of the `break` alone 24, `BreakOutsideLoop`
-    }
+/// The number of the first fault, and where it stands: 24, `BreakOutsideLoop`, of the `break` alone.
+fn first_fault(alloc: Global, script: &[Stmt]) -> Option<(u8, Position)> {
+    let error = check_tree(alloc, script, &[]).err()?;
+    Some((error.fault.number(), error.position))
 }
 
 /// Whether a statement needs no semicolon and may do something: so it is of the loop.
@@ -187,7 +185,13 @@ fn say_script(script: &[Stmt], said: &Said) {
         _ => {}
     }
     said.word_if(is_whole(said.alloc, script), "whole");
-    said.count("fault", usize::from(first_fault(said.alloc, script)));
+    match first_fault(said.alloc, script) {
+        Some((number, position)) => {
+            said.count("fault", usize::from(number));
+            said.place("at", position);
+        }
+        None => said.word("no fault"),
+    }
 }
 
 fn say_loop(statement: &Stmt, said: &Said) {

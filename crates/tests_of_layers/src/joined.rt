@@ -1,5 +1,6 @@
-//! Scripts that are merged, combined and filtered, and what their filters are asked; scripts that are walked, and what their
-//! iterators give. Where a call is refused the script is said as it was before: `rt try --fail-alloc N` refuses the Nth growth.
+//! Scripts that are merged, combined and filtered, and what their filters are asked; scripts that are walked, and what
+//! their iterators give. Where a call is refused the script is said as it was before: `rt try --fail-alloc N` refuses
+//! the Nth growth.
 
 use crate::lends::lends;
 use crate::scripts::{say_made, say_script, say_texts, script, table};
@@ -30,8 +31,8 @@ pub struct Asked<'a> {
 }
 
 impl<'a> Asked<'a> {
-    /// A filter that takes `all`, what is `public`, or what is named as `f 1`, with its number of parameters; and is to be asked of
-    /// these, as `f 1, g 0`.
+    /// A filter that takes `all`, what is `public`, or what is named as `f 1`, with its number of parameters; and is
+    /// to be asked of these, as `f 1, g 0`.
     fn of(takes: &'a str, wanted: &'a str) -> Asked<'a> {
         Asked {
             takes,
@@ -69,8 +70,8 @@ fn is_named(wanted: &str, name: &str, params: usize) -> bool {
     name == wanted && count.parse::<usize>().ok() == Some(params)
 }
 
-/// What becomes of two scripts, by a filter, in each way: the line tells what the filter takes, and after a `;` what it is to be
-/// asked.
+/// What becomes of two scripts, by a filter, in each way: the line tells what the filter takes, and after a `;` what
+/// it is to be asked.
 fn join(text: &str, said: &Said) {
     let (filter, scripts) = split(text, "\n");
     let (first, second) = split(scripts, "\nwith\n");

@@ -1,5 +1,5 @@
-//! Parts that are lent: each of these functions compiles only where what it gives is a part of what it was given, lent for as
-//! long, and not a copy. While a part is lent, a change of the whole does not compile.
+//! Parts that are lent: each of these functions compiles only where what it gives is a part of what it was given, lent
+//! for as long, and not a copy. While a part is lent, a change of the whole does not compile.
 
 use crate::scripts::key;
 use rhai_ast::{ASTNode, Expr, ScriptFuncDef, Stmt, Walk};

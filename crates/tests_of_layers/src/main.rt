@@ -1,5 +1,5 @@
-//! Asks the layers of the optimiser the questions of rows, in files that the words name. What stands after the word `copies`
-//! is asked of copies.
+//! Asks the layers of the optimiser the questions of rows, in files that the words name. What stands after the word
+//! `copies` is asked of copies.
 #![tactic(auto)]
 
 mod guide;

@@ -20,8 +20,8 @@ pub fn answer(question: &str, text: &str, said: &Said) -> bool {
     true
 }
 
-/// A script of a line with its source, or `-` for none, and perhaps its doc; then its functions, each on a line. It has one
-/// statement, in line 5 of the source `b`, in line 3 of others.
+/// A script of a line with its source, or `-` for none, and perhaps its doc; then its functions, each on a line. It
+/// has one statement, in line 5 of the source `b`, in line 3 of others.
 pub fn script(text: &str, said: &Said) -> Option<Boxed<AST>> {
     let (head, functions) = split(text, "\n");
     let (source, doc) = split(head, " ");
@@ -61,8 +61,8 @@ pub fn with_body(text: &str, said: &Said) -> Option<ScriptFuncDef> {
     Some(function)
 }
 
-/// A function without statements, as `i64.f x y // first`: the type of its receiver, its name, its parameters, and a comment to
-/// know it by.
+/// A function without statements, as `i64.f x y // first`: the type of its receiver, its name, its parameters, and a
+/// comment to know it by.
 fn function(line: &str, said: &Said) -> Option<ScriptFuncDef> {
     let (signature, comment) = split(line, " // ");
     let (head, params) = split(signature, " ");
@@ -169,7 +169,8 @@ fn say_shared(first: &AST, second: &AST, said: &Said) {
     say_script(second, said);
 }
 
-/// The functions of a script alone, its statements alone, and the script without its statements, and then without its functions.
+/// The functions of a script alone, its statements alone, and the script without its statements, and then without its
+/// functions.
 fn halves(text: &str, said: &Said) {
     if let Some(mut whole) = script(text, said) {
         say_halves(whole.get_mut(), said);

@@ -5,8 +5,8 @@ use crate::scripts::with_body;
 use crate::tokens::flag;
 use crate::walks::{Walked, say_walk};
 use rhai_ast::{
-    Expr, FromStmt, ScriptFuncDef, Stmt, StmtBlock, StmtQueries, Take, TreeFault, check_tree,
-    is_plain,
+    Expr, FromStmt, ScriptFuncDef, Stmt, StmtBlock, StmtQueries, Take, TreeError, TreeFault,
+    check_tree, is_plain,
 };
 use rhai_base::{ASTFlags, AstError, OutOfMemory, Position, Span};
 use std::alloc::AllocError;
@@ -17,6 +17,7 @@ use tests_reader::Said;
 pub fn answer(question: &str, text: &str, said: &Said) -> bool {
     match question {
         "fault" => say_fault(said.lines(text).as_slice(), &[], said),
+        "told" => say_told(said.lines(text).as_slice(), said),
         "plain" => say_plain(said.lines(text).as_slice(), said),
         "walk-list" => say_walk(&Walked::List(said.lines(text).as_slice()), said),
         "flags" => flags(text, said),
@@ -33,7 +34,26 @@ pub fn answer(question: &str, text: &str, said: &Said) -> bool {
 pub fn say_fault(statements: &[Stmt], functions: &[Rc<ScriptFuncDef>], said: &Said) {
     match check_tree(said.alloc, statements, functions) {
         Ok(()) => said.word("no fault"),
-        Err(fault) => said.count("fault", usize::from(fault.number())),
+        Err(error) => say_error(error, said),
+    }
+}
+
+/// Says a fault, and where it stands.
+pub fn say_error(error: TreeError, said: &Said) {
+    said.count("fault", usize::from(error.fault.number()));
+    said.place("at", error.position);
+}
+
+/// Says the fault of statements as a user is told of it, where they stand and nowhere.
+fn say_told(statements: &[Stmt], said: &Said) {
+    if let Err(error) = check_tree(said.alloc, statements, &[]) {
+        let nowhere = TreeError {
+            fault: error.fault,
+            position: Position::NONE,
+        };
+        said.display(&error);
+        said.put("; ");
+        said.display(&nowhere);
     }
 }
 

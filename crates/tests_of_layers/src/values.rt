@@ -9,8 +9,8 @@ use rhai_base::{
 use tests_reader::{Said, split};
 
 /// Questions about a value, and about several in an array.
-const OF_VALUES: [&str; 7] = [
-    "value", "taken", "constant", "range", "integers", "equal", "holds",
+const OF_VALUES: [&str; 8] = [
+    "value", "printed", "taken", "constant", "range", "integers", "equal", "holds",
 ];
 
 pub fn answer(question: &str, text: &str, said: &Said) -> bool {
@@ -43,6 +43,7 @@ fn operate(text: &str, said: &Said) {
 fn of_value(question: &str, value: &Dynamic, said: &Said) {
     match question {
         "value" => describe(value, said),
+        "printed" => printed(value, said),
         "taken" => taken(value, said),
         "constant" => constant(value, said),
         "range" => measure(&range(value, said), said),
@@ -62,6 +63,16 @@ fn describe(value: &Dynamic, said: &Said) {
     said.word_if(value.is_hashable(), "a key");
     if let Dynamic::FnPtr(pointer) = value {
         say_pointer(pointer, said);
+    }
+}
+
+/// A value by `{}` and by `{:?}`, and of a text how long it is.
+fn printed(value: &Dynamic, said: &Said) {
+    said.display(value);
+    said.word("is ");
+    said.debug(value);
+    if let Ok(text) = value.as_immutable_string_ref() {
+        said.count("of", text.as_str().len());
     }
 }
 
@@ -150,8 +161,8 @@ fn say_operands(operands: &[Expr], said: &Said) {
     }
 }
 
-/// What is asked of values in an array: whether two are equal, which of them stand in the first, which is a range, and what
-/// an operator makes of one or two of them.
+/// What is asked of values in an array: whether two are equal, which of them stand in the first, which is a range, and
+/// what an operator makes of one or two of them.
 fn of_array(question: &str, values: &Dynamic, said: &Said) {
     match (question, values) {
         ("equal", Dynamic::Array(values)) => say_equal(values.as_slice(), said),

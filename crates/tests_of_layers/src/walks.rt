@@ -1,7 +1,9 @@
-//! Walks over trees and scripts: the paths to the nodes in turn, walks that are stopped, and what is left of their paths. A path
-//! has of each node on it whether it is a statement or an expression, and its column.
+//! Walks over trees and scripts: the paths to the nodes in turn, walks that are stopped, and what is left of their
+//! paths. A path has of each node on it whether it is a statement or an expression, and its column; in lines behind
+//! the first the line too.
 
 use rhai_ast::{ASTNode, Expr, NodeQueries, Stmt, Walk, walk_statements};
+use rhai_base::Position;
 use rhai_script::AST;
 use rhai_script_queries::ScriptQueries;
 use tests_reader::Said;
@@ -88,8 +90,18 @@ fn say_path(nodes: &[ASTNode], shown: &Said) {
     shown.word("");
     for node in nodes {
         shown.put(if node.is_stmt() { "s" } else { "e" });
-        shown.display(&node.position().position().unwrap_or(0));
+        show_place(node.position(), shown);
     }
+}
+
+/// The column of a node, behind its line where that is not the first.
+fn show_place(place: Position, shown: &Said) {
+    let line = place.line().unwrap_or(1);
+    if line > 1 {
+        shown.display(&line);
+        shown.put(":");
+    }
+    shown.display(&place.position().unwrap_or(0));
 }
 
 /// An assignment and its right side.

@@ -1,6 +1,6 @@
 //! Who answers which question.
 
-use crate::{guide_runs, readme, record, reports, requests, scripts};
+use crate::{guide_reads, guide_runs, readme, reads, record, reports, requests, scripts};
 use tests_reader::{Answers, Said};
 
 /// What answers all of them.
@@ -22,7 +22,7 @@ impl Answers for Scripts {
 const OF_WORDS: [&str; 6] = ["words", "unflushed", "cut", "request", "builtin", "both"];
 
 /// Questions about reports and the program's host.
-const OF_REPORTS: [&str; 4] = ["stuck", "host", "module", "path"];
+const OF_REPORTS: [&str; 6] = ["stuck", "why", "thrown", "host", "module", "path"];
 
 /// Questions about an engine's record.
 const OF_RECORD: [&str; 6] = [
@@ -34,6 +34,17 @@ const OF_RECORD: [&str; 6] = [
     "operator",
 ];
 
+/// Questions about what is read back.
+const OF_READS: [&str; 7] = [
+    "reads",
+    "reads_open",
+    "reads_statements",
+    "reads_value",
+    "reads_deep",
+    "place",
+    "builtins_read",
+];
+
 fn answer(question: &str, text: &str, said: &Said) {
     if OF_WORDS.contains(&question) {
         requests::answer(question, text, said);
@@ -41,10 +52,13 @@ fn answer(question: &str, text: &str, said: &Said) {
         reports::answer(question, text, said);
     } else if OF_RECORD.contains(&question) {
         record::answer(question, text, said);
+    } else if OF_READS.contains(&question) {
+        scripts::read_back(question, text, said);
     } else {
         match question {
             "readme" => say_readme(said),
             "guide" => say_guide(said),
+            "guide_reads" => say_guide_of_reading(said),
             _ => scripts::answer(question, text, said),
         }
     }
@@ -60,4 +74,11 @@ fn say_guide(said: &Said) {
     let mut text = said.taken();
     let added = guide_runs::a_script_is_run(said.alloc, &mut text);
     said.put_back(text, added);
+}
+
+fn say_guide_of_reading(said: &Said) {
+    let mut text = said.taken();
+    let read = guide_reads::a_script_is_read(said.alloc, &mut text);
+    said.made(guide_reads::a_fault_is_found(said.alloc, &mut text));
+    said.put_back(text, read);
 }

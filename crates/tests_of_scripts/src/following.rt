@@ -2,8 +2,9 @@
 
 use rhai_run::{HostCall, RunEnd, RunReport};
 
-/// What keeps a run from following the one before; none where it follows. A run that ended is followed by one that ends so, with the
-/// same variables, exports and calls and at least as many turns left; one that did not end by one whose calls begin with its calls.
+/// What keeps a run from following the one before; none where it follows. A run that ended is followed by one that
+/// ends so, with the same variables, exports and calls and at least as many turns left; one that did not end by one
+/// whose calls begin with its calls.
 pub fn parting(before: &RunReport, after: &RunReport) -> Option<&'static str> {
     match &before.run_end {
         RunEnd::Value(_) | RunEnd::Thrown(_) => parting_from_end(before, after),

@@ -91,7 +91,8 @@ pub fn say_merged(given: &Given, text: &str, between: &str, said: &Said) {
     }
 }
 
-/// A script with a source, a doc and an id of its table, optimised as it is: what it has of these then, and how it is printed.
+/// A script with a source, a doc and an id of its table, optimised as it is: what it has of these then, and how it is
+/// printed.
 pub fn say_named(given: &Given, text: &str, said: &Said) {
     if let Some(script) = said.script(text)
         && let Some(script) = made(given, script, OptimizationLevel::None, said)

@@ -133,9 +133,10 @@ pub struct Given {
     pub turns: u64,
 }
 
-/// Reads what a run is given, a line each: `turns 3`, of the scope `variable x = 1` and `constant x = 1`, of the record
-/// `record x = 1`, `override + i64 i64`, `type i64 as int` and `fast operators`, of the host `module m::x = 1`,
-/// `path q = m` and rows as `answer 0 f => 1 then 2`, or `host of the program` in their place. Three turns, where no line says how many.
+/// Reads what a run is given, a line each: `turns 3`, of the scope `variable x = 1` and `constant x = 1`, of the
+/// record `record x = 1`, `override + i64 i64`, `type i64 as int` and `fast operators`, of the host `module m::x = 1`,
+/// `path q = m` and rows as `answer 0 f => 1 then 2`, or `host of the program` in their place. Three turns, where no
+/// line says how many.
 pub fn read_given(text: &str, said: &Said) -> Given {
     let mut given = Given {
         info: EngineInfo::new(said.alloc),

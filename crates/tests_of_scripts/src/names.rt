@@ -1,5 +1,5 @@
-//! The names that a state knows, before the calls that were asked for, a line each: `push_var x = 1`, or `push_var x` for
-//! a variable; `push_scope`, which pushes the names of the scope; the other calls by their names.
+//! The names that a state knows, before the calls that were asked for, a line each: `push_var x = 1`, or `push_var x`
+//! for a variable; `push_scope`, which pushes the names of the scope; the other calls by their names.
 
 use crate::given::Given;
 use crate::record::say_value;

@@ -134,7 +134,8 @@ pub fn places_read(text: &str, said: &Said) -> u64 {
     }
 }
 
-/// A number made of where the nodes stand, in the order of a walk, where their blocks end, and which of them have a token.
+/// A number made of where the nodes stand, in the order of a walk, where their blocks end, and which of them have a
+/// token.
 pub fn places(statements: &[Stmt], said: &Said) -> u64 {
     let mut path = Vec::new(said.alloc);
     let mut sum: u64 = 0;

@@ -3,9 +3,9 @@
 
 use rhai_ast::{Expr, FnCallExpr, Stmt};
 use rhai_base::{Boxed, ImmutableString, Namespace, OutOfMemory, Position, Scope, Seq, Token};
+use rhai_host::{UnitHost, push_report};
 use rhai_notation::push_script;
 use rhai_optimizer::{OptimizationLevel, optimize_into_ast};
-use rhai_program::{ProgramHost, push_report};
 use rhai_run::{EngineInfo, plain_run};
 use rhai_script::AST;
 use std::alloc::Global;
@@ -40,6 +40,6 @@ pub fn a_sum_is_optimised_and_run(alloc: Global, text: &mut String) -> Result<()
     push_script(&script, text)?; // the line `42`: the sum is a constant by now
 
     let scope = Scope::new(alloc);
-    let report = plain_run(alloc, &script, &info, &ProgramHost, &scope, 10)?; // with ten turns
+    let report = plain_run(alloc, &script, &info, &UnitHost, &scope, 10)?; // with ten turns
     push_report(&report, text) // the lines `end: value 42` and `turns left: 10`
 }

@@ -2,13 +2,16 @@
 
 use crate::record::say_value;
 use rhai_base::{Dynamic, Seq};
-use rhai_host::{ProgramHost, push_report};
+use rhai_host::push_report;
 use rhai_run::{Host, HostAnswer, HostCall, RunEnd, RunReport, Stuck};
+use rhai_samples::ProgramHost;
 use tests_reader::{Said, split};
 
 pub fn answer(question: &str, text: &str, said: &Said) {
     match question {
         "stuck" => stuck(text, said),
+        "why" => why(text, said),
+        "thrown" => thrown(text, said),
         "module" => module(text, said),
         "path" => path(text, said),
         _ => host(text, said),
@@ -46,6 +49,22 @@ fn say_stuck(reason: Stuck, said: &Said) {
     let mut text = said.taken();
     let added = push_report(&report, &mut text);
     said.put_back(text, added);
+}
+
+/// A reason alone.
+fn why(name: &str, said: &Said) {
+    for (known, reason) in &REASONS {
+        if *known == name {
+            said.display(reason);
+        }
+    }
+}
+
+/// The end of a run that throws a value.
+fn thrown(text: &str, said: &Said) {
+    if let Some(value) = said.value_of(text) {
+        said.display(&RunEnd::Thrown(value));
+    }
 }
 
 // ---- the program's host

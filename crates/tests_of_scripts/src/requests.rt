@@ -1,7 +1,8 @@
 //! What the program answers to words, and how it ends where a write or a flush is refused.
 
 use crate::scripts::level_named;
-use rhai_program::{BuiltinScript, Request, both_reports, run_words};
+use rhai_program::{Request, both_reports, run_words};
+use rhai_samples::BuiltinScript;
 use std::alloc::Global;
 use std::{io, str};
 use tests_reader::Said;
@@ -138,8 +139,8 @@ fn say_side(head: &str, side: &Stops, said: &Said) {
 
 // ---- where there is no room
 
-/// In how many of the cases, with room for no byte, for one and so on up to all, the program writes just the beginning for
-/// which there is room, and ends with status 1 where that is not all.
+/// In how many of the cases, with room for no byte, for one and so on up to all, the program writes just the beginning
+/// for which there is room, and ends with status 1 where that is not all.
 fn cut(words: &[String], said: &Said) {
     let whole = tell(said.alloc, words, usize::MAX, true);
     let most = whole.out.taken.len().max(whole.err.taken.len());

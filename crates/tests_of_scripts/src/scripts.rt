@@ -1,16 +1,17 @@
-//! Questions about scripts: how they are printed, what the optimiser makes of them, and how they run. A script may stand
-//! behind a line `----` and what its run is given.
+//! Questions about scripts: how they are printed, what the optimiser makes of them, and how they run. A script may
+//! stand behind a line `----` and what its run is given.
 
 use crate::following::parting;
 use crate::given::{Given, read_given};
 use crate::nodes::{places, places_read};
-use crate::{functions, long, names, nodes};
+use crate::{functions, long, names, nodes, reads};
 use rhai_ast::{FnAccess, FnNamespace, Stmt, StmtQueries};
 use rhai_base::{Boxed, OutOfMemory};
-use rhai_host::{ProgramHost, push_report};
+use rhai_host::push_report;
 use rhai_notation::push_script;
 use rhai_optimizer::{OptimizationLevel, optimize_into_ast};
 use rhai_run::{RunReport, plain_run};
+use rhai_samples::ProgramHost;
 use rhai_script::AST;
 use tests_reader::{Said, Script, split};
 
@@ -25,6 +26,11 @@ pub fn answer(question: &str, text: &str, said: &Said) {
     let lines = lines.as_str();
     let (given, script) = lines.split_once(BETWEEN).unwrap_or(("", lines));
     asked(question, &read_given(given, said), script, said);
+}
+
+/// What is read back of a text, whose last line ends.
+pub fn read_back(question: &str, text: &str, said: &Said) {
+    reads::answer(question, ended(text, said).as_str(), said);
 }
 
 /// A text with an end of its last line.
@@ -139,12 +145,15 @@ fn say_last(statements: &[Stmt], said: &Said) {
 
 // ---- how a script runs
 
-/// The report of a run; where the script is not printed as it was read, how it is printed goes before.
+/// The report of a run; where the script is not printed as it was read, how it is printed goes before, and where what
+/// is printed is not read back, why not.
 fn run(given: &Given, text: &str, said: &Said) {
     if let Some(source) = optimized(given, text, OptimizationLevel::None, said)
         && let Some(script) = optimized(given, text, OptimizationLevel::Simple, said)
     {
-        say_if_other(printed(source.get(), said).as_str(), text, said);
+        let printed = printed(source.get(), said);
+        say_if_other(printed.as_str(), text, said);
+        reads::say_if_unread(printed.as_str(), said);
         say_runs(given, source.get(), script.get(), said);
     }
 }
@@ -155,8 +164,8 @@ fn say_if_other(printed: &str, text: &str, said: &Said) {
     }
 }
 
-/// The report of a script's run. The script that it is optimised to runs too, given the same; where that run does not follow, it is
-/// said why, and the script and its report.
+/// The report of a script's run. The script that it is optimised to runs too, given the same; where that run does not
+/// follow, it is said why, and the script and its report.
 pub fn say_runs(given: &Given, source: &AST, script: &AST, said: &Said) {
     let shown = printed(script, said);
     if let Some(before) = said.made(report(given, source, said))
@@ -179,8 +188,8 @@ fn say_report(report: &RunReport, said: &Said) {
     said.put_back(told, added);
 }
 
-/// What a script is optimised to with the report of its run. Where the script as it was read is not printed so, or its run has
-/// another report, both follow.
+/// What a script is optimised to with the report of its run. Where the script as it was read is not printed so, or its
+/// run has another report, both follow.
 fn rewrite(given: &Given, text: &str, said: &Said) {
     let after = outcome(given, text, OptimizationLevel::Simple, said);
     let before = outcome(given, text, OptimizationLevel::None, said);

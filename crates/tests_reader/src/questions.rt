@@ -1,8 +1,7 @@
-//! Rows of questions: a question and the text that it is asked of, then on a line of its own `= ` and the answer that is
-//! wanted. A blank line stands between two rows, and `//` at the head of a comment.
+//! Rows of questions: a question and the text that it is asked of, then on a line of its own `= ` and the answer that
+//! is wanted. A blank line stands between two rows, and `//` at the head of a comment.
 
-use crate::letters::Unread;
-use crate::said::{Said, split};
+use crate::said::{Said, Unread, split};
 use std::alloc::Global;
 
 /// What answers questions about texts.
@@ -14,8 +13,8 @@ pub trait Answers {
     fn answer(&self, question: &str, text: &str, said: &Said) -> bool;
 }
 
-/// Asks the questions of these rows, which have a name. Says which of them are answered otherwise than they want, each with
-/// its answer, and then how many are met.
+/// Asks the questions of these rows, which have a name. Says which of them are answered otherwise than they want, each
+/// with its answer, and then how many are met.
 pub fn ask_all<A: Answers>(answers: &A, name: &str, rows: &str, said: &Said) {
     let mut met: usize = 0;
     for row in rows.split("\n\n") {

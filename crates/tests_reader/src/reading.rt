@@ -1,12 +1,11 @@
 //! Reads what a question is about. Nodes come in boxes, which let go of them in one place.
 
-use crate::letters::Unread;
 use crate::said::Said;
-use crate::scripts::{Script, read_script};
-use crate::tree::{read_expr, read_lines, read_link, read_stmt};
-use crate::values::read_value;
 use rhai_ast::{Expr, Stmt};
 use rhai_base::{Boxed, Dynamic, FnPtr};
+use rhai_node_reader::{
+    ReadError, Script, Words, read_expr, read_lines, read_link, read_parts, read_stmt, read_value,
+};
 
 impl Said {
     /// What was read, or a copy of it.
@@ -20,8 +19,8 @@ impl Said {
     /// An expression, or with a `.` before it what stands at the right of one.
     pub fn expr(&self, text: &str) -> Option<Boxed<Expr>> {
         let read = match text.strip_prefix(".") {
-            Some(link) if !link.starts_with(".") => read_link(self.alloc, link),
-            _ => read_expr(self.alloc, text),
+            Some(link) if !link.starts_with(".") => read_link(self.alloc, link, Words::Odd),
+            _ => read_expr(self.alloc, text, Words::Odd),
         };
         self.perhaps_copied(self.boxed(self.read(read)))
     }
@@ -32,7 +31,7 @@ impl Said {
 
     /// A statement as it was read.
     pub fn original_stmt(&self, text: &str) -> Option<Stmt> {
-        self.read(read_stmt(self.alloc, text))
+        self.read(read_stmt(self.alloc, text, Words::Odd))
     }
 
     /// A value, or a copy that is equal; a pointer, or the first of an array, may have 1 for its first parameter, as in
@@ -90,13 +89,13 @@ impl Said {
             .unwrap_or(Vec::new(self.alloc))
     }
 
-    fn read_ended(&self, text: &str) -> Result<Vec<Stmt>, Unread> {
+    fn read_ended(&self, text: &str) -> Result<Vec<Stmt>, ReadError> {
         let lines = format!(in self.alloc; "{text}\n")?;
-        read_lines(self.alloc, lines.as_str())
+        read_lines(self.alloc, lines.as_str(), Words::Odd)
     }
 
     /// A script: statements, each on a line, and then functions, each on a line.
     pub fn script(&self, text: &str) -> Option<Script> {
-        self.read(read_script(self.alloc, text))
+        self.read(read_parts(self.alloc, text, Words::Odd))
     }
 }

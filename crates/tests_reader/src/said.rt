@@ -1,14 +1,33 @@
 //! What is said to a question.
 
-use crate::letters::Unread;
 use rhai_base::{Boxed, Dynamic, ImmutableString, Position};
+use rhai_node_reader::ReadError;
 use std::alloc::Global;
 use std::cell::Cell;
 use std::fmt::{Debug, Display, Write};
 use std::rc::Rc;
 
-/// An answer, and the first fault on the way to it, in cells, so that it is written by `&self` and no question has a `?`:
-/// docs/GATE.md says what a way out costs. A fault refuses the whole answer.
+/// Why a text is not what is asked about.
+#[derive(Clone, Copy)]
+pub(crate) enum Unread {
+    NoMemory,
+    /// Something else stands where this should.
+    Wanted(&'static str),
+}
+
+impl From<ReadError> for Unread {
+    fn from(error: ReadError) -> Unread {
+        match error {
+            ReadError::Missing { letters, .. } => Unread::Wanted(letters),
+            ReadError::Expected { what, .. } => Unread::Wanted(what),
+            ReadError::TooDeep { .. } => Unread::Wanted("fewer levels"),
+            ReadError::OutOfMemory => Unread::NoMemory,
+        }
+    }
+}
+
+/// An answer, and the first fault on the way to it, in cells, so that it is written by `&self` and no question has a
+/// `?`: docs/GATE.md says what a way out costs. A fault refuses the whole answer.
 #[derive(Drop)]
 pub struct Said {
     pub alloc: Global,
@@ -58,11 +77,11 @@ impl Said {
     }
 
     /// What was read.
-    pub(crate) fn read<T: Drop>(&self, read: Result<T, Unread>) -> Option<T> {
+    pub(crate) fn read<T: Drop>(&self, read: Result<T, ReadError>) -> Option<T> {
         match read {
             Ok(read) => Some(read),
             Err(fault) => {
-                self.refuse(fault);
+                self.refuse(Unread::from(fault));
                 None
             }
         }

@@ -1,6 +1,6 @@
 //! Operators over values, and the host.
 
-ghost use Rattle.std.specs.Prelude.{◌≡◌, Some, map};
+ghost use Rattle.std.specs.Prelude.{◌≡◌, [], ◌∷◌, Some, map};
 ghost use Rattle.std.specs.Option.{option_map};
 ghost use Rattle.rhai_values.specs.Reading.{value_of};
 ghost use Rattle.rhai_base.specs.Builtin.{operator_of};
@@ -18,19 +18,45 @@ use rhai_state::{Interrupt, State};
 
 impl<'a, H: Host> Machine<'a, H> {
     /// An operator over values: built in, or else the host's.
+    #[inline(never)]
     pub fn operate(
         &self,
         state: &mut State,
         op: Token,
         args: Seq<Dynamic>,
     ) -> Result<Dynamic, Interrupt>
-        ensures { let here = setting H.answers H.modules self.now in (o : _) → operator_of op ≡ Some o → Runs here (Acting (operate here.world o (map value_of args))) state.old result state.new }
+        ensures { let here = setting H.answers H.modules self.now in
+            (o : _) → operator_of op ≡ Some o
+            → Runs here (Acting (operate here.world o (map value_of args))) state.old result state.new }
     {
         match builtin(self.alloc, self.info, op, args.as_slice())? {
             Some(Ok(value)) => Ok(value),
             Some(Err(fault)) => Err(Interrupt::Throw(fault_text(self.alloc, fault)?)),
             None => {
                 let name = ImmutableString::new(self.alloc, op.literal_syntax())?;
+                self.ask_host(state, name, args)
+            }
+        }
+    }
+
+    /// An operator over two values, which are put into a list only where the host is asked.
+    pub fn operate_two(
+        &self,
+        state: &mut State,
+        op: Token,
+        x: Dynamic,
+        y: Dynamic,
+    ) -> Result<Dynamic, Interrupt>
+        ensures { let here = setting H.answers H.modules self.now in
+            (o : _) → operator_of op ≡ Some o
+            → Runs here (Acting (operate here.world o (value_of x ∷ value_of y ∷ []))) state.old result state.new }
+    {
+        match self.info.builtin_binary(self.alloc, op, &x, &y)? {
+            Some(Ok(value)) => Ok(value),
+            Some(Err(error)) => Err(Interrupt::Throw(fault_text(self.alloc, error)?)),
+            None => {
+                let name = ImmutableString::new(self.alloc, op.literal_syntax())?;
+                let args = Seq::from_array(self.alloc, [x, y])?;
                 self.ask_host(state, name, args)
             }
         }
@@ -43,7 +69,8 @@ impl<'a, H: Host> Machine<'a, H> {
         name: ImmutableString,
         args: Seq<Dynamic>,
     ) -> Result<Dynamic, Interrupt>
-        ensures { Runs (setting H.answers H.modules self.now) (Acting (ask_host name (map value_of args))) state.old result state.new }
+        ensures { Runs (setting H.answers H.modules self.now) (Acting (ask_host name (map value_of args))) state.old
+            result state.new }
     {
         let call = HostCall {
             name,
@@ -64,7 +91,10 @@ impl<'a, H: Host> Machine<'a, H> {
         receiver: Dynamic,
         args: Seq<Dynamic>,
     ) -> Result<(Dynamic, Option<Dynamic>), Interrupt>
-        ensures { (next : _) → Leads (setting H.answers H.modules self.now) (Acting (ask_method name (value_of receiver) (map value_of args) next)) state.old result state.new (λ a. Acting (next (value_of a.0) (option_map value_of a.1))) }
+        ensures { (next : _)
+            → Leads (setting H.answers H.modules self.now)
+            (Acting (ask_method name (value_of receiver) (map value_of args) next)) state.old result state.new
+            (λ a. Acting (next (value_of a.0) (option_map value_of a.1))) }
     {
         let call = HostCall {
             name,

@@ -31,7 +31,11 @@ impl<'a, H: Host> Machine<'a, H> {
         root: Root,
         value: Dynamic,
     ) -> Result<Dynamic, Interrupt>
-        ensures { let here = setting H.answers H.modules self.now in Runs here (Acting (chains.assign_root here.world (operator_of op.now.op) (value_of value) (root_meant root.entry))) state.old result state.new }
+        ensures { let here = setting H.answers H.modules self.now in
+            Runs here
+            (Acting
+            (chains.assign_root here.world (operator_of op.now.op) (value_of value) (root_meant root.entry)))
+            state.old result state.new }
     {
         match assigning_operator(op) {
             Some(token) => {
@@ -50,7 +54,8 @@ impl<'a, H: Host> Machine<'a, H> {
         root: Root,
         value: Dynamic,
     ) -> Result<Dynamic, Interrupt>
-        ensures { Runs (setting H.answers H.modules self.now) (Acting (Write true (root_meant root.entry) (value_of value))) state.old result state.new }
+        ensures { Runs (setting H.answers H.modules self.now)
+            (Acting (Write true (root_meant root.entry) (value_of value))) state.old result state.new }
     {
         let keys = Seq::new(self.alloc);
         self.write_place(state, true, &Place { root, keys }, value)?;
@@ -65,14 +70,17 @@ impl<'a, H: Host> Machine<'a, H> {
         old: Dynamic,
         new: Dynamic,
     ) -> Result<Dynamic, Interrupt>
-        ensures { let here = setting H.answers H.modules self.now in (o : _) → operator_of op ≡ Some o → Runs here (Acting (calls.assigned here.world (Some o) (value_of old) (value_of new))) state.old result state.new }
+        ensures { let here = setting H.answers H.modules self.now in
+            (o : _) → operator_of op ≡ Some o
+            → Runs here (Acting (calls.assigned here.world (Some o) (value_of old) (value_of new))) state.old
+            result state.new }
     {
         let asks = asks_assigning(self.alloc, self.info, op, &old, &new)?;
-        let args = Seq::from_array(self.alloc, [old, new])?;
         if asks {
+            let args = Seq::from_array(self.alloc, [old, new])?;
             self.ask_assigning(state, op, args)
         } else {
-            self.operate(state, op, args)
+            self.operate_two(state, op, old, new)
         }
     }
 
@@ -83,7 +91,9 @@ impl<'a, H: Host> Machine<'a, H> {
         op: Token,
         args: Seq<Dynamic>,
     ) -> Result<Dynamic, Interrupt>
-        ensures { let here = setting H.answers H.modules self.now in (o : _) → operator_of op ≡ Some o → Runs here (Acting (ask_host (assigning o) (map value_of args))) state.old result state.new }
+        ensures { let here = setting H.answers H.modules self.now in
+            (o : _) → operator_of op ≡ Some o
+            → Runs here (Acting (ask_host (assigning o) (map value_of args))) state.old result state.new }
     {
         let name = assigning_name(self.alloc, op)?;
         self.ask_host(state, name, args)

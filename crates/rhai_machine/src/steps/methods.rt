@@ -31,7 +31,13 @@ impl<'a, H: Host> Machine<'a, H> {
         receiver: &Dynamic,
         args: &[Dynamic],
     ) -> Result<Option<Dynamic>, Interrupt>
-        ensures { let here = setting H.answers H.modules self.now in (s : State) (next : places.Current → Act) (other : Act) → Leads here (Acting (method_or here.world.engine (word_meant word) (value_of receiver.now) (map value_of args.now) next other)) s result s (λ o. value_or next other o) }
+        ensures { let here = setting H.answers H.modules self.now in
+            (s : State) (next : places.Current → Act) (other : Act)
+            → Leads here
+            (Acting
+            (method_or here.world.engine (word_meant word) (value_of receiver.now) (map value_of args.now)
+            next other))
+            s result s (λ o. value_or next other o) }
     {
         match word {
             Word::TypeOf => match args {
@@ -51,7 +57,9 @@ impl<'a, H: Host> Machine<'a, H> {
         receiver_type: &str,
         params: usize,
     ) -> Result<Option<&Rc<ScriptFuncDef>>, AllocError>
-        ensures { IfOk result (λ o. option_map rc_value (option_copied o) ≡ spec.method_in self.now.functions.now.functions name.now params receiver_type.now) }
+        ensures { IfOk result (λ o.
+            option_map rc_value (option_copied o)
+            ≡ spec.method_in self.now.functions.now.functions name.now params receiver_type.now) }
     {
         let for_type = FnKey {
             name: name.clone()?,

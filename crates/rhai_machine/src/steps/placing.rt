@@ -43,8 +43,13 @@ pub enum Current<'a> {
 
 impl<'a, H: Host> Machine<'a, H> {
     /// The value of a name or of `this`.
-    pub fn root_value<'s>(&'s self, state: &'s State, root: Root) -> Result<&'s Dynamic, Stuck>
-        ensures { spec.HasRoot (setting H.answers H.modules self.now) (store_of state.now) (root_meant root.entry) result }
+    pub(crate) fn root_value<'s>(
+        &'s self,
+        state: &'s State,
+        root: Root,
+    ) -> Result<&'s Dynamic, Stuck>
+        ensures { spec.HasRoot (setting H.answers H.modules self.now) (store_of state.now) (root_meant root.entry)
+            result }
     {
         match root {
             Root::Name(name) => self.name_value(state, name.as_str()),
@@ -70,7 +75,10 @@ impl<'a, H: Host> Machine<'a, H> {
 
     /// A chain's base that is a name or `this`.
     pub fn at_root<'e>(&self, state: &State, root: Root<'e>) -> Result<Current<'e>, Interrupt>
-        ensures { let here = setting H.answers H.modules self.now in (next : _) → Leads here (Acting (spec.read_base (root_meant root.entry) next)) state.now result state.now (λ c. Acting (next (spec.current_in here (store_of state.now) c))) }
+        ensures { let here = setting H.answers H.modules self.now in
+            (next : _)
+            → Leads here (Acting (spec.read_base (root_meant root.entry) next)) state.now result state.now (λ c.
+            Acting (next (spec.current_in here (store_of state.now) c))) }
     {
         match self.root_value(state, root) {
             Ok(_) => Ok(Current::At(Place {
@@ -83,7 +91,8 @@ impl<'a, H: Host> Machine<'a, H> {
 
     /// What stands at a place.
     pub fn standing<'s>(&'s self, state: &'s State, place: &Place) -> Result<Part<'s>, Stuck>
-        ensures { spec.HasPart (setting H.answers H.modules self.now) (store_of state.now) (spec.place_meant place.now) result }
+        ensures { spec.HasPart (setting H.answers H.modules self.now) (store_of state.now) (spec.place_meant place.now)
+            result }
     {
         let value = self.root_value(state, place.root)?;
         match along(value, place.keys.as_slice()) {
@@ -94,7 +103,8 @@ impl<'a, H: Host> Machine<'a, H> {
 
     /// What stands at a place; unit where nothing does.
     pub fn place_part<'s>(&'s self, state: &'s State, place: &Place) -> Part<'s>
-        ensures { part_value result ≡ (spec.current_in (setting H.answers H.modules self.now) (store_of state.now) (kind.At place.now)).value }
+        ensures { part_value result
+            ≡ (spec.current_in (setting H.answers H.modules self.now) (store_of state.now) (kind.At place.now)).value }
     {
         match self.standing(state, place) {
             Ok(part) => part,
@@ -104,7 +114,8 @@ impl<'a, H: Host> Machine<'a, H> {
 
     /// What a chain has come to; unit where nothing stands at the place.
     pub fn current_part<'s>(&'s self, state: &'s State, current: &'s Current) -> Part<'s>
-        ensures { part_value result ≡ (spec.current_in (setting H.answers H.modules self.now) (store_of state.now) current.now).value }
+        ensures { part_value result
+            ≡ (spec.current_in (setting H.answers H.modules self.now) (store_of state.now) current.now).value }
     {
         match current {
             Current::At(place) => self.place_part(state, place),
@@ -114,7 +125,9 @@ impl<'a, H: Host> Machine<'a, H> {
 
     /// The value that a chain has come to.
     pub fn current_value(&self, state: &State, current: Current) -> Result<Dynamic, AllocError>
-        ensures { IfOk result (λ v. value_of v ≡ (spec.current_in (setting H.answers H.modules self.now) (store_of state.now) current.entry).value) }
+        ensures { IfOk result (λ v.
+            value_of v
+            ≡ (spec.current_in (setting H.answers H.modules self.now) (store_of state.now) current.entry).value) }
     {
         match current {
             Current::At(place) => self.place_part(state, &place).to_value(),
@@ -124,7 +137,9 @@ impl<'a, H: Host> Machine<'a, H> {
 
     /// A copy of the value that a chain has come to.
     pub fn copied(&self, state: &State, current: &Current) -> Result<Dynamic, AllocError>
-        ensures { IfOk result (λ v. value_of v ≡ (spec.current_in (setting H.answers H.modules self.now) (store_of state.now) current.now).value) }
+        ensures { IfOk result (λ v.
+            value_of v
+            ≡ (spec.current_in (setting H.answers H.modules self.now) (store_of state.now) current.now).value) }
     {
         match current {
             Current::At(place) => self.place_part(state, place).to_value(),
@@ -134,7 +149,8 @@ impl<'a, H: Host> Machine<'a, H> {
 
     /// Whether the value that a chain has come to is unit.
     pub fn is_unit_at(&self, state: &State, current: &Current) -> bool
-        ensures { result ≡ is_unit (spec.current_in (setting H.answers H.modules self.now) (store_of state.now) current.now).value }
+        ensures { result
+            ≡ is_unit (spec.current_in (setting H.answers H.modules self.now) (store_of state.now) current.now).value }
     {
         match current {
             Current::At(place) => self.place_part(state, place).is_unit(),
@@ -144,7 +160,10 @@ impl<'a, H: Host> Machine<'a, H> {
 
     /// Whether a place still leads on, after what was evaluated since.
     pub fn refreshed(&self, state: &State, current: &Current) -> Result<(), Interrupt>
-        ensures { let here = setting H.answers H.modules self.now in (u : _) (next : _) → Leads here (Acting (places.refreshed (spec.made current.now u) next)) state.now result state.now (λ z. Acting (next (spec.current_in here (store_of state.now) current.now))) }
+        ensures { let here = setting H.answers H.modules self.now in
+            (u : _) (next : _)
+            → Leads here (Acting (places.refreshed (spec.made current.now u) next)) state.now result state.now
+            (λ z. Acting (next (spec.current_in here (store_of state.now) current.now))) }
     {
         match current {
             Current::At(place) => match self.standing(state, place) {
@@ -158,7 +177,11 @@ impl<'a, H: Host> Machine<'a, H> {
 
 /// The part at a key of what a chain has come to, unit if there is none.
 pub fn at_key<'a>(current: Current<'a>, key: PlaceKey) -> Result<Current<'a>, AllocError>
-    ensures { IfOk result (λ c. (here : _) (st : _) → spec.current_in here st c ≡ places.part (spec.current_in here st current.entry) (key_meant key) (or_unit (places.inside (spec.current_in here st current.entry).value (key_meant key)))) }
+    ensures { IfOk result (λ c.
+        (here : _) (st : _)
+        → spec.current_in here st c
+        ≡ places.part (spec.current_in here st current.entry) (key_meant key)
+        (or_unit (places.inside (spec.current_in here st current.entry).value (key_meant key)))) }
 {
     match current {
         Current::At(place) => {

@@ -22,13 +22,15 @@ use rhai_state::{Interrupt, State};
 impl<'a, H: Host> Machine<'a, H> {
     /// A variable's value: that of its latest entry, or of a module of the host,
     /// which an alias may name.
+    #[inline(never)]
     pub fn variable(
         &self,
         state: &State,
         namespace: &Namespace,
         name: &ImmutableString,
     ) -> Result<Dynamic, Interrupt>
-        ensures { RunsCore (setting H.answers H.modules self.now) (desugar.variable (path_of namespace.now) name.now) state.now result state.now }
+        ensures { RunsCore (setting H.answers H.modules self.now) (desugar.variable (path_of namespace.now) name.now)
+            state.now result state.now }
     {
         if namespace.is_empty() {
             return self.read(state, Root::Name(name));
@@ -42,8 +44,10 @@ impl<'a, H: Host> Machine<'a, H> {
     }
 
     /// The value of a name or of `this`.
+    #[inline(never)]
     pub fn read(&self, state: &State, root: Root) -> Result<Dynamic, Interrupt>
-        ensures { Runs (setting H.answers H.modules self.now) (Acting (Read (root_meant root.entry))) state.now result state.now }
+        ensures { Runs (setting H.answers H.modules self.now) (Acting (Read (root_meant root.entry))) state.now result
+            state.now }
     {
         match self.root_value(state, root) {
             Ok(value) => Ok(value.clone()?),
@@ -54,22 +58,15 @@ impl<'a, H: Host> Machine<'a, H> {
     /// The name of the module that a path leads to. What is no text is stuck, and so is a path that the host does not
     /// know. This is no call.
     pub fn module_at(&self, path: &Dynamic) -> Result<Dynamic, Interrupt>
-        ensures { let here = setting H.answers H.modules self.now in (s : State) → Runs here (Acting (meaning.module_at here.world (value_of path.now))) s result s }
+        ensures { let here = setting H.answers H.modules self.now in
+            (s : State) → Runs here (Acting (meaning.module_at here.world (value_of path.now))) s result s }
     {
-        match path {
-            Dynamic::Str(path) => match self.host.module(self.alloc, path.as_str())? {
-                Some(name) => Ok(Dynamic::Str(name)),
-                None => Err(Interrupt::Stuck(Stuck::UnknownModule)),
-            },
-            Dynamic::Unit
-            | Dynamic::Bool(_)
-            | Dynamic::Int(_)
-            | Dynamic::Char(_)
-            | Dynamic::Array(_)
-            | Dynamic::Map(_)
-            | Dynamic::FnPtr(_)
-            | Dynamic::Range(_, _)
-            | Dynamic::RangeInclusive(_, _) => Err(Interrupt::Stuck(Stuck::WrongKind)),
+        let Ok(path) = path.as_immutable_string_ref() else {
+            return Err(Interrupt::Stuck(Stuck::WrongKind));
+        };
+        match self.host.module(self.alloc, path.as_str())? {
+            Some(name) => Ok(Dynamic::Str(name)),
+            None => Err(Interrupt::Stuck(Stuck::UnknownModule)),
         }
     }
 }

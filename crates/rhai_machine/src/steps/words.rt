@@ -22,8 +22,12 @@ use std::alloc::AllocError;
 
 impl<'a, H: Host> Machine<'a, H> {
     /// What a word answers at once; `None` where a function of its name is called.
+    #[inline(never)]
     pub fn word_value(&self, word: Word, args: &[Dynamic]) -> Result<Option<Dynamic>, Interrupt>
-        ensures { let here = setting H.answers H.modules self.now in (s : State) (next : Act) → Leads here (Acting (word_or here.world.engine (word_meant word) (map value_of args.now) next)) s result s (λ o. arm_then next o) }
+        ensures { let here = setting H.answers H.modules self.now in
+            (s : State) (next : Act)
+            → Leads here (Acting (word_or here.world.engine (word_meant word) (map value_of args.now) next)) s
+            result s (λ o. arm_then next o) }
     {
         match word {
             Word::TypeOf => match args {
@@ -45,7 +49,8 @@ impl<'a, H: Host> Machine<'a, H> {
 
     /// The name that scripts see for a value's type.
     pub fn type_of(&self, value: &Dynamic) -> Result<Dynamic, AllocError>
-        ensures { IfOk result (λ v. value_of v ≡ TextV (mapped_type_name (engine_of self.now.info.now) (value_of value.now))) }
+        ensures { IfOk result (λ v.
+            value_of v ≡ TextV (mapped_type_name (engine_of self.now.info.now) (value_of value.now))) }
     {
         let name = self.info.map_type_name(value.type_name());
         Ok(Dynamic::Str(ImmutableString::new(self.alloc, name)?))

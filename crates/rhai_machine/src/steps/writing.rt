@@ -23,8 +23,8 @@ use rhai_places::{PlaceKey, along, replace_along};
 use rhai_state::{Interrupt, State};
 
 impl<'a, H: Host> Machine<'a, H> {
-    /// Puts a value at a place, and adds the last entry where it is missing. A constant stays as it is; one that must be
-    /// written is stuck.
+    /// Puts a value at a place, and adds the last entry where it is missing. A constant stays as it is; one that must
+    /// be written is stuck.
     pub fn write_place(
         &self,
         state: &mut State,
@@ -32,7 +32,9 @@ impl<'a, H: Host> Machine<'a, H> {
         place: &Place,
         value: Dynamic,
     ) -> Result<(), Interrupt>
-        ensures { Leads (setting H.answers H.modules self.now) (Acting (places.write_place must (spec.place_meant place.now) (value_of value))) state.old result state.new (λ z. given UnitV) }
+        ensures { Leads (setting H.answers H.modules self.now)
+            (Acting (places.write_place must (spec.place_meant place.now) (value_of value))) state.old result state.new
+            (λ z. given UnitV) }
     {
         let keys = place.keys.as_slice();
         match place.root {
@@ -49,7 +51,11 @@ impl<'a, H: Host> Machine<'a, H> {
         keys: &[PlaceKey],
         value: Dynamic,
     ) -> Result<(), Interrupt>
-        ensures { Leads (setting H.answers H.modules self.now) (Acting (places.write_place must (record { root = OfName name.now; keys = map key_meant keys.now }) (value_of value))) state.old result state.new (λ z. given UnitV) }
+        ensures { Leads (setting H.answers H.modules self.now)
+            (Acting
+            (places.write_place must (record { root = OfName name.now; keys = map key_meant keys.now })
+            (value_of value)))
+            state.old result state.new (λ z. given UnitV) }
     {
         let Some(place) = position(state.scope.as_slice(), name) else {
             return self.write_in_constant(must, name, keys);
@@ -67,7 +73,12 @@ impl<'a, H: Host> Machine<'a, H> {
 
     /// A name that is not in scope is a constant of the record or unbound.
     fn write_in_constant(&self, must: bool, name: &str, keys: &[PlaceKey]) -> Result<(), Interrupt>
-        ensures { let here = setting H.answers H.modules self.now in (s : State) (w : Value) → IsMissing name.now s.scope.items → Leads here (Acting (places.write_place must (record { root = OfName name.now; keys = map key_meant keys.now }) w)) s result s (λ z. given UnitV) }
+        ensures { let here = setting H.answers H.modules self.now in
+            (s : State) (w : Value) → IsMissing name.now s.scope.items
+            → Leads here
+            (Acting
+            (places.write_place must (record { root = OfName name.now; keys = map key_meant keys.now }) w))
+            s result s (λ z. given UnitV) }
     {
         match self.info.constant_named(name) {
             Some(constant) => constant_end(must, constant, keys),
@@ -82,7 +93,10 @@ impl<'a, H: Host> Machine<'a, H> {
         keys: &[PlaceKey],
         value: Dynamic,
     ) -> Result<(), Interrupt>
-        ensures { Leads (setting H.answers H.modules self.now) (Acting (places.write_place must (record { root = OfThis; keys = map key_meant keys.now }) (value_of value))) state.old result state.new (λ z. given UnitV) }
+        ensures { Leads (setting H.answers H.modules self.now)
+            (Acting
+            (places.write_place must (record { root = OfThis; keys = map key_meant keys.now }) (value_of value)))
+            state.old result state.new (λ z. given UnitV) }
     {
         let Some(this) = &mut state.this else {
             return Err(Interrupt::Stuck(Stuck::UnboundThis));
@@ -102,7 +116,11 @@ impl<'a, H: Host> Machine<'a, H> {
         key: PlaceKey,
         value: Dynamic,
     ) -> Result<(), Interrupt>
-        ensures { Leads (setting H.answers H.modules self.now) (Acting (places.write_place true (places.under (key_meant key) (spec.place_meant place.entry)) (value_of value))) state.old result state.new (λ z. given UnitV) }
+        ensures { Leads (setting H.answers H.modules self.now)
+            (Acting
+            (places.write_place true (places.under (key_meant key) (spec.place_meant place.entry))
+            (value_of value)))
+            state.old result state.new (λ z. given UnitV) }
     {
         let Place { root, mut keys } = place;
         keys.push(key)?;

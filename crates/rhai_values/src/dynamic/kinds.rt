@@ -7,7 +7,7 @@ ghost use Rattle.rhai_values.specs.Value as model;
 ghost use Rattle.rhai_values.specs.Reading.{value_of};
 
 use crate::dynamic::{Dynamic, INT};
-use rhai_text::StringMap;
+use rhai_text::{ImmutableString, StringMap};
 
 impl Dynamic {
     /// Whether it is a bool.
@@ -68,7 +68,8 @@ impl Dynamic {
 
     /// The bool that it is, else the name of its type.
     pub fn as_bool(&self) -> Result<bool, &'static str>
-        ensures { MatchResult result (λ b. self.now ≡ kind.Bool b) (λ name. (name.now ≡ model.type_name (value_of self.now)) × ((b : Bool) → self.now ≢ kind.Bool b)) }
+        ensures { MatchResult result (λ b. self.now ≡ kind.Bool b)
+            (λ name. (name.now ≡ model.type_name (value_of self.now)) × ((b : Bool) → self.now ≢ kind.Bool b)) }
     {
         match self {
             Dynamic::Bool(value) => Ok(*value),
@@ -78,7 +79,8 @@ impl Dynamic {
 
     /// The integer that it is, else the name of its type.
     pub fn as_int(&self) -> Result<INT, &'static str>
-        ensures { MatchResult result (λ n. self.now ≡ kind.Int n) (λ name. (name.now ≡ model.type_name (value_of self.now)) × ((n : ℤ) → self.now ≢ kind.Int n)) }
+        ensures { MatchResult result (λ n. self.now ≡ kind.Int n)
+            (λ name. (name.now ≡ model.type_name (value_of self.now)) × ((n : ℤ) → self.now ≢ kind.Int n)) }
     {
         match self {
             Dynamic::Int(value) => Ok(*value),
@@ -88,7 +90,8 @@ impl Dynamic {
 
     /// The character that it is, else the name of its type.
     pub fn as_char(&self) -> Result<char, &'static str>
-        ensures { MatchResult result (λ c. self.now ≡ kind.Char c) (λ name. (name.now ≡ model.type_name (value_of self.now)) × ((c : ℕ) → self.now ≢ kind.Char c)) }
+        ensures { MatchResult result (λ c. self.now ≡ kind.Char c)
+            (λ name. (name.now ≡ model.type_name (value_of self.now)) × ((c : ℕ) → self.now ≢ kind.Char c)) }
     {
         match self {
             Dynamic::Char(value) => Ok(*value),
@@ -96,9 +99,21 @@ impl Dynamic {
         }
     }
 
+    /// The text that it is, else the name of its type.
+    pub fn as_immutable_string_ref(&self) -> Result<&ImmutableString, &'static str>
+        ensures { MatchResult result (λ t. self.now ≡ kind.Str t.now)
+            (λ name. (name.now ≡ model.type_name (value_of self.now)) × ((t : model.Text) → self.now ≢ kind.Str t)) }
+    {
+        match self {
+            Dynamic::Str(text) => Ok(text),
+            other => Err(other.type_name()),
+        }
+    }
+
     /// The map that it is. Any other value is given back. In rhai it is `try_cast`.
     pub fn into_map(self) -> Result<StringMap<Dynamic>, Dynamic>
-        ensures { MatchResult result (λ es. self ≡ kind.Map es) (λ v. (v ≡ self) × ((es : List (model.Text × dynamic)) → self ≢ kind.Map es)) }
+        ensures { MatchResult result (λ es. self ≡ kind.Map es)
+            (λ v. (v ≡ self) × ((es : List (model.Text × dynamic)) → self ≢ kind.Map es)) }
     {
         match self {
             Dynamic::Map(members) => Ok(members),

@@ -1,123 +1,91 @@
 //! Values as text.
 #![tactic(auto, using(crate::specs::Reading::kinds), unfolding(crate::specs::Value::inner, crate::specs::Value::text_of))]
 
-ghost use Rattle.std.specs.Prelude.{◌≡◌, ◌++◌, OnOk, codes, map};
-ghost use Rattle.std.specs.Fmt.{signed_decimal};
-ghost use Rattle.std.specs.String.{string_bytes};
+ghost use Rattle.std.specs.Prelude.{map, Some};
+ghost use Rattle.std.specs.Fmt.{WritesOnOk};
 ghost use Rattle.rhai_values.specs.Value.{inner, text_of, values, fields, ArrayV, MapV};
 ghost use Rattle.rhai_values.specs.Reading.{value_of, members_of};
 
-use crate::{Dynamic, INT};
+use crate::Dynamic;
 use rhai_data::Seq;
-use rhai_text::{ImmutableString, StringMap};
-use std::alloc::AllocError;
+use rhai_text::StringMap;
+use std::fmt;
 
-/// Appends the value without quotes, and nothing for unit.
-pub(super) fn push_text(value: &Dynamic, text: &mut String) -> Result<(), AllocError>
-    ensures { OnOk result (string_bytes text.new ≡ string_bytes text.old ++ text_of (value_of value.now)) }
-{
-    match value {
-        Dynamic::Unit => Ok(()),
-        Dynamic::Char(c) => text.push(*c),
-        Dynamic::Str(t) => text.push_str(t.as_str()),
-        Dynamic::Bool(_) => push_form(value, text),
-        Dynamic::Int(_) => push_form(value, text),
-        Dynamic::Array(_) => push_form(value, text),
-        Dynamic::Map(_) => push_form(value, text),
-        Dynamic::FnPtr(_) => push_form(value, text),
-        Dynamic::Range(_, _) => push_form(value, text),
-        Dynamic::RangeInclusive(_, _) => push_form(value, text),
-    }
-}
+/// The value without quotes, and nothing for unit.
+impl fmt::Display for Dynamic {
+    ghost output = { λ v. Some (text_of (value_of v)) };
 
-/// Appends the value as it is written inside an array.
-#[cycle(form)]
-pub(super) fn push_form(value: &Dynamic, text: &mut String) -> Result<(), AllocError>
-    ensures { OnOk result (string_bytes text.new ≡ string_bytes text.old ++ inner (value_of value.now)) }
-{
-    match value {
-        Dynamic::Unit => text.push_str("()"),
-        Dynamic::Bool(true) => text.push_str("true"),
-        Dynamic::Bool(false) => text.push_str("false"),
-        Dynamic::Int(n) => write!(text, "{n}"),
-        Dynamic::Char(c) => {
-            text.push_str("'")?;
-            text.push(*c)?;
-            text.push_str("'")?;
-            Ok(())
-        }
-        Dynamic::Str(t) => {
-            text.push_str("\"")?;
-            text.push_str(t.as_str())?;
-            text.push_str("\"")?;
-            Ok(())
-        }
-        Dynamic::Array(items) => push_items(items, text),
-        Dynamic::Map(members) => push_members(members, text),
-        Dynamic::FnPtr(pointer) => {
-            text.push_str("Fn(")?;
-            text.push_str(pointer.fn_name())?;
-            text.push_str(")")?;
-            Ok(())
-        }
-        Dynamic::Range(from, to) => {
-            push_ends(*from, "..", *to, text)?;
-            Ok(())
-        }
-        Dynamic::RangeInclusive(from, to) => {
-            push_ends(*from, "..=", *to, text)?;
-            Ok(())
+    fn fmt<W: fmt::Write>(&self, f: &mut fmt::Formatter<W>) -> fmt::Result {
+        match self {
+            Dynamic::Unit => Ok(()),
+            Dynamic::Char(c) => f.write_char(*c),
+            Dynamic::Str(text) => f.write_str(text.as_str()),
+            Dynamic::Bool(_) => write_form(self, f),
+            Dynamic::Int(_) => write_form(self, f),
+            Dynamic::Array(_) => write_form(self, f),
+            Dynamic::Map(_) => write_form(self, f),
+            Dynamic::FnPtr(_) => write_form(self, f),
+            Dynamic::Range(_, _) => write_form(self, f),
+            Dynamic::RangeInclusive(_, _) => write_form(self, f),
         }
     }
 }
 
+/// The value as it is written inside an array: texts and characters in quotes, with nothing escaped.
+impl fmt::Debug for Dynamic {
+    ghost debug_output = { λ v. Some (inner (value_of v)) };
+
+    fn fmt<W: fmt::Write>(&self, f: &mut fmt::Formatter<W>) -> fmt::Result {
+        write_form(self, f)
+    }
+}
+
 #[cycle(form)]
-fn push_items(items: &Seq<Dynamic>, text: &mut String) -> Result<(), AllocError>
-    ensures { OnOk result (string_bytes text.new ≡ string_bytes text.old ++ inner (ArrayV (values (map value_of items.now)))) }
+fn write_form<W: fmt::Write>(value: &Dynamic, f: &mut fmt::Formatter<W>) -> fmt::Result
+    ensures { WritesOnOk W.write_str_gives f.old result (inner (value_of value.now)) f.new }
 {
-    text.push_str("[")?;
+    match value {
+        Dynamic::Unit => f.write_str("()"),
+        Dynamic::Bool(true) => f.write_str("true"),
+        Dynamic::Bool(false) => f.write_str("false"),
+        Dynamic::Int(n) => write!(f, "{n}"),
+        Dynamic::Char(c) => write!(f, "'{c}'"),
+        Dynamic::Str(text) => write!(f, "\"{}\"", text.as_str()),
+        Dynamic::Array(items) => write_items(items, f),
+        Dynamic::Map(members) => write_members(members, f),
+        Dynamic::FnPtr(pointer) => write!(f, "Fn({})", pointer.fn_name()),
+        Dynamic::Range(from, to) => write!(f, "{from}..{to}"),
+        Dynamic::RangeInclusive(from, to) => write!(f, "{from}..={to}"),
+    }
+}
+
+#[cycle(form)]
+fn write_items<W: fmt::Write>(items: &Seq<Dynamic>, f: &mut fmt::Formatter<W>) -> fmt::Result
+    ensures { WritesOnOk W.write_str_gives f.old result (inner (ArrayV (values (map value_of items.now)))) f.new }
+{
+    f.write_str("[")?;
     let mut separator = "";
     for item in items.as_slice() {
-        text.push_str(separator)?;
-        push_form(item, text)?;
+        f.write_str(separator)?;
+        write_form(item, f)?;
         separator = ", ";
     }
-    text.push_str("]")?;
-    Ok(())
+    f.write_str("]")
 }
 
 #[cycle(form)]
-fn push_members(members: &StringMap<Dynamic>, text: &mut String) -> Result<(), AllocError>
-    ensures { OnOk result (string_bytes text.new ≡ string_bytes text.old ++ inner (MapV (fields (members_of members.now)))) }
+fn write_members<W: fmt::Write>(
+    members: &StringMap<Dynamic>,
+    f: &mut fmt::Formatter<W>,
+) -> fmt::Result
+    ensures { WritesOnOk W.write_str_gives f.old result (inner (MapV (fields (members_of members.now)))) f.new }
 {
-    text.push_str("#{")?;
+    f.write_str("#{")?;
     let mut before = "";
     for (key, member) in members.iter() {
-        text.push_str(before)?;
-        push_key(key, text)?;
-        push_form(member, text)?;
+        write!(f, "{before}\"{}\": ", key.as_str())?;
+        write_form(member, f)?;
         before = ", ";
     }
-    text.push_str("}")?;
-    Ok(())
-}
-
-/// Appends a key of a map and what stands before its value.
-fn push_key(key: &ImmutableString, text: &mut String) -> Result<(), AllocError>
-    ensures { OnOk result (string_bytes text.new ≡ string_bytes text.old ++ (codes "\"" ++ key.now ++ codes "\": ")) }
-{
-    text.push_str("\"")?;
-    text.push_str(key.as_str())?;
-    text.push_str("\": ")?;
-    Ok(())
-}
-
-/// Appends the ends of a range.
-fn push_ends(from: INT, dots: &str, to: INT, text: &mut String) -> Result<(), AllocError>
-    ensures { OnOk result (string_bytes text.new ≡ string_bytes text.old ++ (signed_decimal from ++ dots.now ++ signed_decimal to)) }
-{
-    write!(text, "{from}")?;
-    text.push_str(dots)?;
-    write!(text, "{to}")?;
-    Ok(())
+    f.write_str("}")
 }

@@ -6,15 +6,16 @@ use Rattle.rhai_known.specs.State.{progress}
 use Rattle.rhai_reading.specs.Reading.{chain_flags}
 use Rattle.rhai_steps.specs.Places.{place_of}
 use Rattle.rhai_values.specs.Reading.{value_of}
+use Rattle.rhai_part_rules.specs.Asking.{is_dot}
 use Rattle.rhai_chain_rules.proofs.Chains.{value_step, taken_step}
 use Rattle.rhai_chain_rules.proofs.chain.first_answer.Goals as goal
 
 pub returns-in_ok-constant_of-in-Some : goal.returns-in_ok-constant_of-in-Some
 returns-in_ok-constant_of-in-Some c =
-    value_step (engine_of c.args.info.now) (progress c.args.state.now).known (place_of c.args.place) c.args.is_dot (chain_flags c.args.flags) c.args.sides.now c.unit_may_stand-unit.result _ (value_of c.in-Some.value) c.unit_may_stand-unit.ensures (sym (ap (option_map value_of) c.in-Some.is) ∙ c.in_ok-value.ensures) c.in_ok-constant_of-in-Some.ensures
+    value_step (engine_of c.args.info.now) (progress c.args.state.now).known (place_of c.args.place) (is_dot c.args.access) (chain_flags c.args.flags) c.args.sides.now c.unit_may_stand-unit.result _ (value_of c.in-Some.value) c.unit_may_stand-unit.ensures (sym (ap (option_map value_of) c.in-Some.is) ∙ c.in_ok-value.ensures) c.in_ok-constant_of-in-Some.ensures
 
 pub returns-in-None : goal.returns-in-None
 returns-in-None c =
     IfOk-weaker _ _ _
-    (λ part h. taken_step (engine_of c.args.info.now) (progress c.args.state.now).known (place_of c.args.place) c.args.is_dot (chain_flags c.args.flags) c.args.sides.now _ c.unit_may_stand-unit.result part c.unit_may_stand-unit.ensures (sym (ap (option_map value_of) c.in-None.is) ∙ c.in_ok-value.ensures) h)
+    (λ part h. taken_step (engine_of c.args.info.now) (progress c.args.state.now).known (place_of c.args.place) (is_dot c.args.access) (chain_flags c.args.flags) c.args.sides.now _ c.unit_may_stand-unit.result part c.unit_may_stand-unit.ensures (sym (ap (option_map value_of) c.in-None.is) ∙ c.in_ok-value.ensures) h)
     c.literal_taken.ensures

@@ -1,6 +1,7 @@
-use Rattle.std.proofs.Common.{sym}
-use Rattle.rhai_chain_rules.proofs.Chains.{unit_put}
+use Rattle.std.proofs.Common.{sym, ◌∙◌}
+use Rattle.rhai_engine.specs.EngineInfo.{engine_of}
+use Rattle.rhai_steps.specs.Places.{place_of}
 use Rattle.rhai_chain_rules.proofs.chain.step_chain.Goals as goal
 
-pub returns-then-unit_ends : goal.returns-then-unit_ends
-returns-then-unit_ends c = unit_put (sym c.if-unit_ends.ensures) c.put_unit.ensures.dirty c.put_unit.ensures.known c.put_unit.ensures.unit
+pub returns-in-Some : goal.returns-in-Some
+returns-in-Some c = c.end_in_unit.ensures (place_of c.args.place) (engine_of c.args.info.now) (sym c.unit_ends.ensures ∙ c.in-Some.is)

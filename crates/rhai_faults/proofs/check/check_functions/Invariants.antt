@@ -1,6 +1,12 @@
 use Rattle.std.proofs.Common.{◌≡◌, drop}
+use Rattle.rhai_tokens.specs.declared.position.Position.{Position}
+use Rattle.rhai_meaning.specs.Faults.{TreeFault}
+use Rattle.rhai_faults.specs.Standing.{StandsInFunctions, defs_of}
 use Rattle.rhai_faults.proofs.FoundLists.{found_functions}
 use Rattle.rhai_faults.proofs.check.check_functions.Given as goal
 
 abbrev pub invariant-loop-function : goal.invariant-loop-function
-invariant-loop-function l = found_functions l.functions ≡ found_functions (drop l.function-index l.functions)
+invariant-loop-function l = record {
+  so_far : found_functions l.functions ≡ found_functions (drop l.function-index l.functions);
+  stands : (f : TreeFault) (p : Position) → StandsInFunctions (defs_of (drop l.function-index l.functions)) f p → StandsInFunctions (defs_of l.functions) f p;
+}

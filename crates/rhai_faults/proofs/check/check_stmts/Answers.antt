@@ -3,14 +3,21 @@ use Rattle.rhai_meaning.specs.Faults.{finding}
 use Rattle.rhai_meaning.specs.Walk.{over_stmts}
 use Rattle.rhai_reading.specs.Reading.{stmts_of}
 use Rattle.rhai_walk.specs.Children.{over_children}
+use Rattle.rhai_walk.specs.Standing.{statements_standing}
 use Rattle.rhai_faults.specs.Places.{around_of}
 use Rattle.rhai_faults.specs.Refusals.{Finds}
+use Rattle.rhai_faults.specs.Standing.{Stands, StandsAt, fault_in}
 use Rattle.rhai_faults.proofs.Below.{found-statements}
 use Rattle.rhai_faults.proofs.check.check_stmts.Goals as goal
 
-pub returns : goal.returns
-returns c =
+pub returns-clause-first : goal.returns-clause-first
+returns-clause-first c =
     let around = around_of c.whole.result in
-    subst (λ o. Finds o c.check_children.result)
-    (ap (λ cs. over_children finding cs around) c.of_statements.ensures ∙ found-statements c.args.statements.now around ∙ ap (over_stmts finding (stmts_of c.args.statements.now)) c.whole.ensures)
-    c.check_children.ensures
+    subst (λ o. Finds o (fault_in c.check_children.result))
+    (ap (λ cs. over_children finding cs around) c.of_statements.ensures.children ∙ found-statements c.args.statements.now around ∙ ap (over_stmts finding (stmts_of c.args.statements.now)) c.whole.ensures)
+    c.check_children.ensures.first
+
+pub returns-clause-stands : goal.returns-clause-stands
+returns-clause-stands c =
+    subst (λ a. Stands (StandsAt a (statements_standing c.args.statements.now)) c.check_children.result) c.whole.ensures
+    (subst (λ ss. Stands (StandsAt (around_of c.whole.result) ss) c.check_children.result) c.of_statements.ensures.standing c.check_children.ensures.stands)

@@ -1,5 +1,5 @@
 use Rattle.std.proofs.Common.{refl}
-use Rattle.rhai_notation.specs.BuiltinScripts.{all_scripts}
+use Rattle.rhai_samples.specs.BuiltinScripts.{all_scripts}
 use Rattle.rhai_program.proofs.Listing.{listing_next}
 use Rattle.rhai_program.proofs.program.list.Goals as goal
 

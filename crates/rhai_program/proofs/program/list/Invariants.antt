@@ -1,5 +1,5 @@
 use Rattle.std.proofs.Common.{◌≡◌, ◌++◌, drop, string_bytes}
-use Rattle.rhai_notation.specs.BuiltinScripts.{all_scripts}
+use Rattle.rhai_samples.specs.BuiltinScripts.{all_scripts}
 use Rattle.rhai_program.specs.Words.{listing}
 use Rattle.rhai_program.proofs.program.list.Given as goal
 

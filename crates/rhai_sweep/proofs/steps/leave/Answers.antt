@@ -13,7 +13,7 @@ returns-then-returns_value c =
     let e = c.leave_none_behind.ensures in
     let h1 : s ≡ get_or new c.args.at s = rw c.as_slice.ensures at c.index-as_slice-at.is in
     let h : s ≡ get_or c.args.list.now c.args.at s = cut-there c.args.behind.is_last c.args.list.now new c.args.at s e h1 in
-    let b : BaredAt c.args.at new c.bare.new.list (get_or new c.args.at s) = c.bare.ensures s in
+    let b : BaredAt c.args.at new c.last_return.new.list (get_or new c.args.at s) = c.last_return.ensures.bared s in
     step_bares s b.expression c.requires.inside h
     (b.put ∙ ap (λ (z : Declared). set z c.args.at b.expression) e)
     (b.reads ∙ sym (ap (λ z. bared (stmt_of z)) h1))

@@ -13,7 +13,7 @@ pub returns-then-is_surely_unit : goal.returns-then-is_surely_unit
 returns-then-is_surely_unit c = λ mark.
     let s = c.index-as_slice-at.result in
     let h : s ≡ get_or c.args.list.now c.args.at s = rw c.as_slice.ensures at c.index-as_slice-at.is in
-    step_fades s c.requires.inside h c.cut_behind.ensures c.requires.fades (sym c.if-is_surely_unit.ensures) (there is_pure _ c.args.list.now c.args.at s h c.requires.impure)
+    step_fades c.args.fading s c.requires.inside h c.go_last.ensures c.requires.fades (sym c.if-is_surely_unit.ensures) (there is_pure _ c.args.list.now c.args.at s h c.requires.impure)
 
 pub returns-else-is_noop : goal.returns-else-is_noop
 returns-else-is_noop c = λ mark.
@@ -22,4 +22,4 @@ returns-else-is_noop c = λ mark.
     let xs = c.args.list.now in
     let h : s ≡ get_or xs c.args.at s = rw c.as_slice.ensures at c.index-as_slice-at.is in
     let i : t ≡ get_or xs (length xs - 1) t = (rw c.as_slice-else-is_surely_unit.ensures at c.index-as_slice-last.is) ∙ ap (λ k. get_or xs (k - 1) t) c.len-last.ensures in
-    rw (c.put_nothing.ensures, c.len-last.ensures) (step_noop s t _ c.requires.inside h i refl c.requires.fades (sym c.if-is_noop.ensures) (there is_control_flow_break _ xs c.args.at s h c.requires.stays) (there is_pure _ xs c.args.at s h c.requires.impure))
+    rw c.end_in_noop.ensures.put (step_noop c.args.fading s t _ c.requires.inside h i refl c.requires.fades (sym c.if-is_noop.ensures) (there is_control_flow_break _ xs c.args.at s h c.requires.stays) (there is_pure _ xs c.args.at s h c.requires.impure))

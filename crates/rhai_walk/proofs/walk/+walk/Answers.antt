@@ -22,8 +22,8 @@ visit-loop-child-preserved g t c =
     let now = c.loop-child in
     record {
       callable = c.in_ok-visit_below.ensures.callable;
-      so_far = next_seen g.F.FnMut now.invariant.so_far (paths-next now.child-iterator c.next.new.self c.in-Some.child c.in-Some.ensures.steps) (parts_seen g.F.FnMut c.in-Some.child.node c.in_ok-enter.ensures.enters c.in_ok-visit_below.ensures.walks c.visit_below.new.path.ok.0 c.pop.ensures.rest);
-      below = (below-next _ now.child-iterator c.next.new.self c.in-Some.child c.in-Some.ensures.steps now.invariant.below).1;
+      so_far = next_seen g.F.FnMut now.invariant.so_far (paths-next now.child-iterator c.next.new.self c.in-Some.child c.in-Some.ensures.steps.0) (parts_seen g.F.FnMut c.in-Some.child.node c.in_ok-enter.ensures.enters c.in_ok-visit_below.ensures.walks c.visit_below.new.path.ok.0 c.pop.ensures.rest);
+      below = (below-next _ now.child-iterator c.next.new.self c.in-Some.child c.in-Some.ensures.steps.0 now.invariant.below).1;
     }
 
 pub visit-returns-in_err-enter-clause-walks : goal.visit-returns-in_err-enter-clause-walks
@@ -31,26 +31,26 @@ visit-returns-in_err-enter-clause-walks g t c =
     let now = c.loop-child in
     let stopped = enter_stops g.F.FnMut (Err c.in_err-enter.field-0.0) c.in_err-enter.field-0.0 refl _ _ _ (over_parts listing (node_of c.in-Some.child.node)) _ _ c.in_err-enter.ensures.enters in
     subst (λ cs. Walks g.F.FnMut c.args.path.now.items (ended c.from_residual.result) c.args.on_node.now (left_paths cs) c.enter.new.on_node c.enter.new.path.items) c.into_iter-child-iterator.ensures.into_iter_gives
-    (next_stops g.F.FnMut _ _ c.from_residual.ensures.1 _ (left_paths c.next.new.self) _ _ now.invariant.so_far (paths-next now.child-iterator c.next.new.self c.in-Some.child c.in-Some.ensures.steps) stopped)
+    (next_stops g.F.FnMut _ _ c.from_residual.ensures.1 _ (left_paths c.next.new.self) _ _ now.invariant.so_far (paths-next now.child-iterator c.next.new.self c.in-Some.child c.in-Some.ensures.steps.0) stopped)
 
 pub visit-returns-in_err-visit_below-clause-walks : goal.visit-returns-in_err-visit_below-clause-walks
 visit-returns-in_err-visit_below-clause-walks g t c =
     let now = c.loop-child in
     let stopped = parts_stop g.F.FnMut (Err c.in_err-visit_below.field-0.0) c.in_err-visit_below.field-0.0 refl _ _ _ _ _ c.in_ok-enter.ensures.enters c.in_err-visit_below.ensures.walks in
     subst (λ cs. Walks g.F.FnMut c.args.path.now.items (ended c.from_residual-in_err-visit_below.result) c.args.on_node.now (left_paths cs) c.visit_below.new.on_node c.visit_below.new.path.items) c.into_iter-child-iterator.ensures.into_iter_gives
-    (next_stops g.F.FnMut _ _ c.from_residual-in_err-visit_below.ensures.1 _ _ _ _ now.invariant.so_far (paths-next now.child-iterator c.next.new.self c.in-Some.child c.in-Some.ensures.steps) stopped)
+    (next_stops g.F.FnMut _ _ c.from_residual-in_err-visit_below.ensures.1 _ _ _ _ now.invariant.so_far (paths-next now.child-iterator c.next.new.self c.in-Some.child c.in-Some.ensures.steps.0) stopped)
 
 pub visit-returns-clause-walks : goal.visit-returns-clause-walks
 visit-returns-clause-walks g t c =
     let now = c.loop-child in
-    let none : left_of now.child-iterator ≡ [] = c.in-None.ensures.steps.0 in
+    let none : left_of now.child-iterator ≡ [] = c.in-None.ensures.steps.0.0 in
     subst (λ cs. Finished g.F.FnMut c.args.path.now.items c.args.on_node.now (left_paths cs) now.on_node now.path.items) c.into_iter-child-iterator.ensures.into_iter_gives
     (partly-end g.F.FnMut _ _ _ _ _ _ now.invariant.so_far (paths-end now.child-iterator none))
 
 pub visit_below-returns-else-are_of_leaf-clause-walks : goal.visit_below-returns-else-are_of_leaf-clause-walks
 visit_below-returns-else-are_of_leaf-clause-walks g t c =
-    subst (λ ps. Walks g.F.FnMut c.args.path.now.items (ended c.visit.result) c.args.on_node.now ps c.visit.new.on_node c.visit.new.path.items) (paths-start (node_of c.args.node) c.of-children.result c.of-children.ensures) c.visit.ensures.walks
+    subst (λ ps. Walks g.F.FnMut c.args.path.now.items (ended c.visit.result) c.args.on_node.now ps c.visit.new.on_node c.visit.new.path.items) (paths-start (node_of c.args.node) c.of-children.result c.of-children.ensures.children) c.visit.ensures.walks
 
 pub visit_below-visit-requires : goal.visit_below-visit-requires
 visit_below-visit-requires g t c =
-    search (rules, measure-falls (node_of c.args.node) c.of-children.result c.of-children.ensures)
+    search (rules, measure-falls (node_of c.args.node) c.of-children.result c.of-children.ensures.children)

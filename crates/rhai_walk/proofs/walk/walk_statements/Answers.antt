@@ -6,5 +6,5 @@ use Rattle.rhai_walk.proofs.walk.walk_statements.Goals as goal
 
 pub returns-clause-walks : goal.returns-clause-walks
 returns-clause-walks g c =
-    let of_list = ap (over_children listing) c.of_statements.ensures ∙ paths-statements c.args.statements.now in
+    let of_list = ap (over_children listing) c.of_statements.ensures.children ∙ paths-statements c.args.statements.now in
     rw (c.answered.ensures, sym of_list) c.visit.ensures.walks

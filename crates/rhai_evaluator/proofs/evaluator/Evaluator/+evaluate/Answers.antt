@@ -45,7 +45,8 @@ use Rattle.rhai_evaluator.proofs.ByKind.{array_of_expr, block_of_stmt, braces_of
 use Rattle.rhai_state.proofs.Counted.{each_ends, each_next, each_stops, for_array, for_body_runs, for_closed_range, for_other, for_range, for_round_runs, range_end, range_ends, range_next, range_start, range_stops}
 use Rattle.rhai_evaluator.proofs.Leaving.{catch_runs, try_catches, try_ends, try_stops}
 use Rattle.rhai_evaluator.proofs.Nodes.{call_stuck, call_stops, call_runs, called_as, called_in_module}
-use Rattle.rhai_forms.proofs.Callees.{named_callee, operator_callee, qualified_callee}
+use Rattle.rhai_forms.proofs.Callees.{named_callee, qualified_callee}
+use Rattle.rhai_evaluator.proofs.OperatorCalls.{left_stops, operands_run, operands_stop, operator_runs, right_stops, two_run}
 use Rattle.rhai_state.proofs.Goes.{leads_then, stops_by, value_goes}
 use Rattle.rhai_evaluator.proofs.Invoked.{back_is, invoke_goes, invoke_late, invoke_stops}
 use Rattle.rhai_evaluator.proofs.Known.{call_runs_function, found_nothing, found_weight}
@@ -521,24 +522,48 @@ call-returns-then-not-is_callable g t c = call_stuck (setting g.H.Host.answers g
 
 pub call-returns-in_err-args : goal.call-returns-in_err-args
 call-returns-in_err-args g t c = let p = err_from_is_err_and c.from_residual.result c.from_residual.ensures.1 in
-    rw (p.1, p.2) (call_stops (setting g.H.Host.answers g.H.Host.modules c.args.self.now.machine) c.args.self.now.in_loop c.args.call.now c.args.state.now (sym c.is_callable.ensures ∙ c.if-not-is_callable.false) c.exprs.new.state _ (rw c.as_slice.ensures at c.in_err-args.ensures))
+    rw (p.1, p.2) (call_stops (setting g.H.Host.answers g.H.Host.modules c.args.self.now.machine) c.args.self.now.in_loop c.args.call.now c.args.state.now (sym c.is_callable.ensures ∙ c.if-not-is_callable.false) c.exprs.new.state _ (rw c.as_slice-2.ensures at c.in_err-args.ensures))
 
 pub call-returns : goal.call-returns
-call-returns g t c = call_runs (setting g.H.Host.answers g.H.Host.modules c.args.self.now.machine) c.args.self.now.in_loop c.args.call.now c.args.state.now (sym c.is_callable.ensures ∙ c.if-not-is_callable.false) c.exprs.new.state c.in_ok-args.args c.called.new.state c.called.result (rw c.as_slice.ensures at c.in_ok-args.ensures) c.called.ensures
+call-returns g t c = call_runs (setting g.H.Host.answers g.H.Host.modules c.args.self.now.machine) c.args.self.now.in_loop c.args.call.now c.args.state.now (sym c.is_callable.ensures ∙ c.if-not-is_callable.false) c.exprs.new.state c.in_ok-args.args c.called.new.state c.called.result (rw c.as_slice-2.ensures at c.in_ok-args.ensures) c.called.ensures
 
-pub called-returns-in-Some : goal.called-returns-in-Some
-called-returns-in-Some g t c =
+pub call-returns-in-Some : goal.call-returns-in-Some
+call-returns-in-Some g t c =
     let o = c.in-Some.ensures in
-    called_as (setting g.H.Host.answers g.H.Host.modules c.args.self.now.machine) c.args.self.now.in_loop (callee_of c.args.call.now) (core.OnOperator o.0) (map value_of c.args.args) c.args.state.now c.operate.new.state c.operate.result (operator_callee (callee_of c.args.call.now) (length c.args.call.now.args) o.0 o.2) (c.operate.ensures o.0 o.1)
+    operator_runs (setting g.H.Host.answers g.H.Host.modules c.args.self.now.machine) c.args.self.now.in_loop o.0 c.args.call.now c.args.state.now c.operator.new.state c.operator.result o.2 (rw c.as_slice.ensures at (c.operator.ensures o.0 o.1))
+
+pub operator-returns-in-Some : goal.operator-returns-in-Some
+operator-returns-in-Some g t c = λ o h. rw c.in-Some.ensures.operands (c.binary.ensures o h)
+
+pub operator-returns-in_err-args-in-None : goal.operator-returns-in_err-args-in-None
+operator-returns-in_err-args-in-None g t c = λ o h.
+    let p = err_from_is_err_and c.from_residual.result c.from_residual.ensures.1 in
+    rw (p.1, p.2) (operands_stop (setting g.H.Host.answers g.H.Host.modules c.args.self.now.machine) c.args.self.now.in_loop o c.args.operands.now c.args.state.now c.exprs.new.state _ c.in_err-args-in-None.ensures)
+
+pub operator-returns-in_ok-args-in-None : goal.operator-returns-in_ok-args-in-None
+operator-returns-in_ok-args-in-None g t c = λ o h. operands_run (setting g.H.Host.answers g.H.Host.modules c.args.self.now.machine) c.args.self.now.in_loop o c.args.operands.now c.args.state.now c.exprs.new.state _ c.operate.new.state c.operate.result c.in_ok-args-in-None.ensures (c.operate.ensures o h)
+
+pub binary-returns-in_err-left : goal.binary-returns-in_err-left
+binary-returns-in_err-left g t c = λ o h.
+    let p = err_from_is_err_and c.from_residual.result c.from_residual.ensures.1 in
+    rw (p.1, p.2) (left_stops (setting g.H.Host.answers g.H.Host.modules c.args.self.now.machine) c.args.self.now.in_loop o c.args.x.now c.args.y.now c.args.state.now _ _ c.in_err-left.ensures)
+
+pub binary-returns-in_err-right : goal.binary-returns-in_err-right
+binary-returns-in_err-right g t c = λ o h.
+    let p = err_from_is_err_and c.from_residual-in_err-right.result c.from_residual-in_err-right.ensures.1 in
+    rw (p.1, p.2) (right_stops (setting g.H.Host.answers g.H.Host.modules c.args.self.now.machine) c.args.self.now.in_loop o c.args.x.now c.args.y.now c.args.state.now _ _ c.in_ok-left.ensures _ _ c.in_err-right.ensures)
+
+pub binary-returns : goal.binary-returns
+binary-returns g t c = λ o h. two_run (setting g.H.Host.answers g.H.Host.modules c.args.self.now.machine) c.args.self.now.in_loop o c.args.x.now c.args.y.now c.args.state.now _ _ c.in_ok-left.ensures _ _ c.operate_two.new.state c.operate_two.result c.in_ok-right.ensures (c.operate_two.ensures o h)
 
 pub called-returns-then-is_empty : goal.called-returns-then-is_empty
-called-returns-then-is_empty g t c = called_as (setting g.H.Host.answers g.H.Host.modules c.args.self.now.machine) c.args.self.now.in_loop (callee_of c.args.call.now) (core.ByName (callee_of c.args.call.now).name (callee_of c.args.call.now).captures) (map value_of c.args.args) c.args.state.now c.call_word.new.state c.call_word.result (named_callee (callee_of c.args.call.now) (length c.args.call.now.args) c.requires c.in_default.ensures (sym c.is_empty.ensures.names ∙ c.if-is_empty.true)) c.call_word.ensures
+called-returns-then-is_empty g t c = called_as (setting g.H.Host.answers g.H.Host.modules c.args.self.now.machine) c.args.self.now.in_loop (callee_of c.args.call.now) (core.ByName (callee_of c.args.call.now).name (callee_of c.args.call.now).captures) (map value_of c.args.args) c.args.state.now c.call_word.new.state c.call_word.result (named_callee (callee_of c.args.call.now) (length c.args.call.now.args) c.requires.0 c.requires.1 (sym c.is_empty.ensures.names ∙ c.if-is_empty.true)) c.call_word.ensures
 
 pub called-returns : goal.called-returns
 called-returns g t c =
     let k = (callee_of c.args.call.now) in
     let name = c.in_ok-name-2.ensures ∙ c.as_str-2.ensures.value ∙ c.in_ok-name.ensures ∙ ap (λ es. qualified_in (scope_meant es) k.namespace c.as_str.result.now) c.as_slice-scope.ensures.value ∙ ap (qualified_in (store_of c.args.state.now).scope k.namespace) c.as_str.ensures in
-    called_in_module (setting g.H.Host.answers g.H.Host.modules c.args.self.now.machine) c.args.self.now.in_loop k (map value_of c.args.args) c.args.state.now c.ask_host.new.state c.ask_host.result (qualified_callee k (length c.args.call.now.args) c.requires c.in_default.ensures (setting g.H.Host.answers g.H.Host.modules c.args.self.now.machine).world (map value_of c.args.args) (sym c.is_empty.ensures.names ∙ c.if-is_empty.false)) (subst (λ f. Runs (setting g.H.Host.answers g.H.Host.modules c.args.self.now.machine) (Acting (ask_host f (map value_of c.args.args))) c.args.state.now c.ask_host.result c.ask_host.new.state) name c.ask_host.ensures)
+    called_in_module (setting g.H.Host.answers g.H.Host.modules c.args.self.now.machine) c.args.self.now.in_loop k (map value_of c.args.args) c.args.state.now c.ask_host.new.state c.ask_host.result (qualified_callee k (length c.args.call.now.args) c.requires.0 c.requires.1 (setting g.H.Host.answers g.H.Host.modules c.args.self.now.machine).world (map value_of c.args.args) (sym c.is_empty.ensures.names ∙ c.if-is_empty.false)) (subst (λ f. Runs (setting g.H.Host.answers g.H.Host.modules c.args.self.now.machine) (Acting (ask_host f (map value_of c.args.args))) c.args.state.now c.ask_host.result c.ask_host.new.state) name c.ask_host.ensures)
 
 pub call_word-returns-then-is_to_host : goal.call_word-returns-then-is_to_host
 call_word-returns-then-is_to_host g t c = word_asks (setting g.H.Host.answers g.H.Host.modules c.args.self.now.machine) c.args.captures c.args.name.now (map value_of c.args.args) (word_meant c.of-word.result) (c.of-word.ensures ∙ ap calls.word c.as_str.ensures) c.args.state.now c.ask_host.new.state c.ask_host.result (sym c.is_to_host.ensures ∙ c.if-is_to_host.true) (rw c.in_ok-clone.ensures.cases at c.ask_host.ensures)

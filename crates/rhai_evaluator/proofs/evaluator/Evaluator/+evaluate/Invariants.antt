@@ -38,6 +38,12 @@ decreases-members g l = level l.self.now.depth (bodies_weight (functions_of l.se
 abbrev pub decreases-call : goal.decreases-call
 decreases-call g l = level l.self.now.depth (bodies_weight (functions_of l.self.now.machine.functions.now)) + 9 * exprs_weight (exprs_of l.call.now.args) + 9
 
+abbrev pub decreases-operator : goal.decreases-operator
+decreases-operator g l = level l.self.now.depth (bodies_weight (functions_of l.self.now.machine.functions.now)) + 9 * exprs_weight (exprs_of l.operands.now) + 8
+
+abbrev pub decreases-binary : goal.decreases-binary
+decreases-binary g l = level l.self.now.depth (bodies_weight (functions_of l.self.now.machine.functions.now)) + 9 * (expr_weight (expr_of l.x.now) + expr_weight (expr_of l.y.now)) + 2
+
 abbrev pub decreases-called : goal.decreases-called
 decreases-called g l = level l.self.now.depth (bodies_weight (functions_of l.self.now.machine.functions.now)) + 8
 

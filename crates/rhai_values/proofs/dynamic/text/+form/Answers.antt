@@ -1,50 +1,76 @@
-use Rattle.std.proofs.Common.{ℕ, List, [], ◌∷◌, ◌++◌, rules, w64, sym, ap, ◌∙◌, append_assoc}
-use Rattle.std.specs.String.{string_bytes}
-use Rattle.std.proofs.lemmas.Int.{to_z-of_z}
-use mir.Val.{SFits}
+use Rattle.std.proofs.Common.{rules, ℕ, List, [], ◌∷◌, ◌++◌, codes, true, refl, sym, ap, ◌∙◌, append_assoc, append-nil}
+use Rattle.std.proofs.Output.{has_written_append, has_written_of_eq, writes_in_calls_nil}
 use Rattle.rhai_values.specs.declared.dynamic.Dynamic.{Dynamic}
-use Rattle.rhai_values.proofs.Forms.{char_written, text_written, item_written, pointer_written, range_written, range_inclusive_written, member_written, members_after}
+use Rattle.rhai_values.specs.Reading.{value_of}
+use Rattle.rhai_values.specs.Value.{inner}
+use Rattle.rhai_values.proofs.Forms.{range_written, range_inclusive_written, items_after, item_written, members_after, member_written, members_framed}
 use Rattle.rhai_values.proofs.dynamic.text.+form.Goals as goal
 
-pub push_form-returns-in_ok-push_str-in-Char-2 : goal.push_form-returns-in_ok-push_str-in-Char-2
-push_form-returns-in_ok-push_str-in-Char-2 t c =
-    char_written _ _ _ _ _ c.in-Char.c c.in-Char.is c.in_ok-push_str-in-Char.ensures.bytes c.in_ok-push-in-Char.ensures.bytes c.in_ok-push_str-in-Char-2.ensures.bytes
+pub write_form-returns-in-Range : goal.write_form-returns-in-Range
+write_form-returns-in-Range g t c plain ok =
+    has_written_of_eq _ _ _ _ _ (range_written _ c.in-Range.from c.in-Range.to c.in-Range.is) (c.write-in-Range.ensures.writes plain ok)
 
-pub push_form-returns-in_ok-push_str-in-Str-3 : goal.push_form-returns-in_ok-push_str-in-Str-3
-push_form-returns-in_ok-push_str-in-Str-3 t c =
-    text_written _ _ _ _ _ c.in-Str.t c.in-Str.is c.in_ok-push_str-in-Str.ensures.bytes (search rules) c.in_ok-push_str-in-Str-3.ensures.bytes
+pub write_form-returns-in-RangeInclusive : goal.write_form-returns-in-RangeInclusive
+write_form-returns-in-RangeInclusive g t c plain ok =
+    has_written_of_eq _ _ _ _ _ (range_inclusive_written _ c.in-RangeInclusive.from c.in-RangeInclusive.to c.in-RangeInclusive.is)
+    (c.write-in-RangeInclusive.ensures.writes plain ok)
 
-pub push_items-loop-item-preserved : goal.push_items-loop-item-preserved
-push_items-loop-item-preserved t c = (
-  item_written (string_bytes c.loop-item.text) (string_bytes c.push_str-in-loop-item.new.self) (string_bytes c.push_form.new.text) c.loop-item.separator.now _ c.as_slice-item-items.result.now c.loop-item.item-index c.item-item.result
-      (search rules) c.item-item.is c.loop-item.invariant.0 (search rules) (search rules),
-  search rules,
+pub write_items-loop-item-init : goal.write_items-loop-item-init
+write_items-loop-item-init g t c = (
+  [],
+  ap (items_after []) c.as_slice-item-items.ensures,
+  λ plain. record { wrote = writes_in_calls_nil _ _; plain = plain },
+  ([], (refl, refl)),
 )
 
-pub push_form-returns-in_ok-push_str-in-FnPtr-3 : goal.push_form-returns-in_ok-push_str-in-FnPtr-3
-push_form-returns-in_ok-push_str-in-FnPtr-3 t c =
-    pointer_written _ _ _ _ _ c.in-FnPtr.pointer c.in-FnPtr.is c.in_ok-push_str-in-FnPtr.ensures.bytes (search rules) c.in_ok-push_str-in-FnPtr-3.ensures.bytes
+pub write_items-loop-item-preserved : goal.write_items-loop-item-preserved
+write_items-loop-item-preserved g t c =
+    let written = c.loop-item.invariant.0 in
+    let separator = c.loop-item.separator.now in (
+      (written ++ separator) ++ inner (value_of c.item-item.result),
+      item_written written separator _ c.as_slice-item-items.result.now c.loop-item.item-index c.item-item.result (search rules) c.item-item.is c.loop-item.invariant.1,
+      λ plain.
+          let before = c.loop-item.invariant.2 plain in
+          let separated = c.in_ok-write_str-2.ensures.writes before.plain (refl {a = true}) in
+          has_written_append _ _ _ _ _ _ (has_written_append _ _ _ _ _ _ before separated) (c.in_ok-write_form.ensures separated.plain (refl {a = true})),
+      search rules,
+    )
 
-pub push_members-loop-key-preserved : goal.push_members-loop-key-preserved
-push_members-loop-key-preserved t c =
+pub write_members-loop-key-init : goal.write_members-loop-key-init
+write_members-loop-key-init g t c =
+    let all = c.into_iter-key-iterator.ensures.into_iter_gives ∙ c.iter-key-items.ensures.rest in (
+      [],
+      sym all,
+      [],
+      ap (members_after []) all,
+      λ plain. record { wrote = writes_in_calls_nil _ _; plain = plain },
+      ([], (refl, refl)),
+    )
+
+pub write_members-loop-key-preserved : goal.write_members-loop-key-preserved
+write_members-loop-key-preserved g t c =
     let done = c.loop-key.invariant.0 in
+    let written = c.loop-key.invariant.2 in
+    let separator = c.loop-key.before.now in
     let e : List ℕ × Dynamic = (c.in-Some.key.now, c.in-Some.member.now) in
     let left = c.next.new.self in (
       done ++ e ∷ [],
       c.loop-key.invariant.1 ∙ ap (λ es. done ++ es) c.in-Some.ensures.steps ∙ sym (append_assoc done (e ∷ []) left),
-      member_written (string_bytes c.loop-key.text) (string_bytes c.push_str-in-loop-key.new.self) (string_bytes c.push_key.new.text) (string_bytes c.push_form.new.text) c.loop-key.before.now _ e left
-          (ap (λ es. string_bytes c.loop-key.text ++ members_after c.loop-key.before.now es) (sym c.in-Some.ensures.steps) ∙ c.loop-key.invariant.2) (search rules) (search rules) (search rules),
+      (written ++ (separator ++ (codes "\"" ++ (e.0 ++ codes "\": ")))) ++ inner (value_of e.1),
+      member_written written separator _ e left (ap (λ es. written ++ members_after separator es) (sym c.in-Some.ensures.steps) ∙ c.loop-key.invariant.3),
+      λ plain.
+          let before = c.loop-key.invariant.4 plain in
+          let keyed = has_written_of_eq _ _ _ _ _ (ap (λ k. separator ++ (codes "\"" ++ (k ++ codes "\": "))) c.as_str.ensures) (c.in_ok-write.ensures.writes before.plain (refl {a = true})) in
+          has_written_append _ _ _ _ _ _ (has_written_append _ _ _ _ _ _ before keyed) (c.in_ok-write_form.ensures keyed.plain (refl {a = true})),
       search rules,
     )
 
-pub push_form-returns-in_ok-push_ends-in-Range : goal.push_form-returns-in_ok-push_ends-in-Range
-push_form-returns-in_ok-push_ends-in-Range t c =
-    let from_fits : SFits w64 c.in-Range.from = search rules in
-    let to_fits : SFits w64 c.in-Range.to = search rules in
-    range_written _ _ _ c.in-Range.from c.in-Range.to c.in-Range.is (simp to_z-of_z at c.in_ok-push_ends-in-Range.ensures)
-
-pub push_form-returns-in_ok-push_ends-in-RangeInclusive : goal.push_form-returns-in_ok-push_ends-in-RangeInclusive
-push_form-returns-in_ok-push_ends-in-RangeInclusive t c =
-    let from_fits : SFits w64 c.in-RangeInclusive.from = search rules in
-    let to_fits : SFits w64 c.in-RangeInclusive.to = search rules in
-    range_inclusive_written _ _ _ c.in-RangeInclusive.from c.in-RangeInclusive.to c.in-RangeInclusive.is (simp to_z-of_z at c.in_ok-push_ends-in-RangeInclusive.ensures)
+pub write_members-returns : goal.write_members-returns
+write_members-returns g t c plain ok =
+    let written = c.loop-key.invariant.2 in
+    let opened = c.in_ok-write_str.ensures.writes plain (refl {a = true}) in
+    let inside = c.loop-key.invariant.4 opened.plain in
+    let closed = c.write_str-2.ensures.writes inside.plain ok in
+    let all = sym (append-nil written) ∙ ap (λ es. written ++ members_after c.loop-key.before.now es) (sym c.in-None.ensures.steps.0) ∙ c.loop-key.invariant.3 in
+    has_written_of_eq _ _ _ _ _ (ap (λ t. codes "#{" ++ (t ++ codes "}")) all ∙ members_framed c.args.members.now)
+    (has_written_append _ _ _ _ _ _ opened (has_written_append _ _ _ _ _ _ inside closed))

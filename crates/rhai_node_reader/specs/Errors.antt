@@ -1,0 +1,11 @@
+-- Where an error says that a text stops being one that is read.
+use Rattle.std.specs.Prelude.{Option, Some, None}
+use Rattle.rhai_tokens.specs.declared.position.Position.{Position}
+use Rattle.rhai_node_reader.specs.declared.error.ReadError.{ReadError}
+use Rattle.rhai_node_reader.specs.declared.error.ReadError.TheVariants as error
+
+abbrev pub place_of : ReadError → Option Position
+place_of (error.Missing letters p) = Some p
+place_of (error.Expected what p) = Some p
+place_of (error.TooDeep p) = Some p
+place_of error.OutOfMemory = None

@@ -1,0 +1,2 @@
+pub mod BuiltinScripts
+pub mod ProgramHost

@@ -1,0 +1,105 @@
+//! What is read back of what is printed, and what is said of a text that is not read.
+
+use crate::scripts::printed;
+use rhai_reader::{ReadError, read_script, read_statements, read_value};
+use rhai_samples::BuiltinScript;
+use rhai_script::{AST, FnLib};
+use std::alloc::Global;
+use std::rc::Rc;
+use tests_reader::Said;
+
+pub fn answer(question: &str, text: &str, said: &Said) {
+    match question {
+        "reads" => say_read(text, said),
+        "reads_open" => say_read(text.trim_end(), said),
+        "reads_statements" => say_statements(text, said),
+        "reads_value" => say_value(text.trim_end(), said),
+        "reads_deep" => say_deep(text, said),
+        "place" => say_place(text, said),
+        _ => say_builtins(said),
+    }
+}
+
+/// `back`, where a text is read and printed as it was.
+fn say_read(text: &str, said: &Said) {
+    match read_script(said.alloc, text) {
+        Ok(script) => say_if_same(printed(&script, said).as_str(), text, said),
+        Err(error) => said.display(&error),
+    }
+}
+
+fn say_if_same(printed: &str, text: &str, said: &Said) {
+    said.put(if printed == text { "back" } else { printed });
+}
+
+/// Says why a printed script is not read back, where it is not.
+pub fn say_if_unread(printed: &str, said: &Said) {
+    if let Err(error) = read_script(said.alloc, printed) {
+        said.put("unread: ");
+        said.display(&error);
+        said.put("\n");
+    }
+}
+
+/// How many statements are read.
+fn say_statements(text: &str, said: &Said) {
+    match read_statements(said.alloc, text) {
+        Ok(statements) => said.count("statements", statements.len()),
+        Err(error) => said.display(&error),
+    }
+}
+
+fn say_value(text: &str, said: &Said) {
+    match read_value(said.alloc, text) {
+        Ok(value) => said.put_inner(&value),
+        Err(error) => said.display(&error),
+    }
+}
+
+/// Whether an array so deep is read.
+fn say_deep(text: &str, said: &Said) {
+    let mut deep = String::new(said.alloc);
+    if let Some(depth) = said.made(text.trim_end().parse::<usize>()) {
+        for _ in 0..depth {
+            said.made(deep.push_str("["));
+        }
+        for _ in 0..depth {
+            said.made(deep.push_str("]"));
+        }
+        said.made(deep.push_str("\n"));
+        say_read(deep.as_str(), said);
+    }
+}
+
+/// The line and the column of an error, or none.
+fn say_place(text: &str, said: &Said) {
+    match read_script(said.alloc, text) {
+        Ok(_) => said.put("back"),
+        Err(error) => match error.position() {
+            Some(position) => said.place("at", position),
+            None => said.put("nowhere"),
+        },
+    }
+}
+
+/// How many of the built-in scripts are read back.
+fn say_builtins(said: &Said) {
+    let mut count: usize = 0;
+    for script in BuiltinScript::ALL {
+        if let Some(script) = said.made(script_of(said.alloc, script)) {
+            let text = printed(&script, said);
+            if let Ok(read) = read_script(said.alloc, text.as_str())
+                && printed(&read, said).as_str() == text.as_str()
+            {
+                count = count.saturating_add(1);
+            }
+        }
+    }
+    said.display(&count);
+}
+
+/// A built-in script.
+fn script_of(alloc: Global, script: BuiltinScript) -> Result<AST, ReadError> {
+    let functions = FnLib::from_functions(alloc, script.functions(alloc)?)?;
+    Ok(AST::new(script.statements(alloc)?, Rc::new(alloc, functions)?))
+}
