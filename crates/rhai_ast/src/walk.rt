@@ -1,9 +1,8 @@
 //! Walks over trees.
 
-ghost use Rattle.std.specs.Prelude.{List};
-ghost use Rattle.rhai_meaning.specs.Paths.{Path, expr_paths, stmt_paths};
-ghost use Rattle.rhai_reading.specs.Reading.{expr_of, stmt_of};
-ghost use Rattle.rhai_walk.specs.Walking.{Walks};
+ghost use Rattle.std.specs.Prelude.{List, [], ◌∷◌};
+ghost use Rattle.rhai_walk.specs.Standing.{Standing, expr_standing, stmt_standing};
+ghost use Rattle.rhai_walk.specs.Walking.{WalksOver};
 
 use rhai_base::OutOfMemory;
 use rhai_tree::{Expr, Stmt};
@@ -11,8 +10,8 @@ use rhai_walk::{ASTNode, walk_expr, walk_stmt};
 
 /// A tree over which one may walk.
 pub trait Walk {
-    /// The paths to its nodes, in the order of the walk.
-    ghost paths: { Self → List Path };
+    /// The nodes at its top, one after another.
+    ghost top: { Self → List Standing };
 
     /// Calls the closure at each node, from the top down, until it answers `false`, with the path to the node:
     /// the one that was given, then the nodes down to this one, which is last. Of a `switch` the arms that its
@@ -30,11 +29,11 @@ pub trait Walk {
     ) -> Result<bool, OutOfMemory>
         requires { F.IsAlwaysCallable on_node.old }
         ensures callable { F.IsAlwaysCallable on_node.new }
-        ensures walks { Walks F.FnMut path.old.items result on_node.old (paths self.now) on_node.new path.new.items };
+        ensures walks { WalksOver F.FnMut path.old.items result on_node.old (top self.now) on_node.new path.new.items };
 }
 
 impl Walk for Expr {
-    ghost paths = { λ e. expr_paths (expr_of e) };
+    ghost top = { λ e. expr_standing e ∷ [] };
 
     fn walk<'a, F: FnMut(&[ASTNode]) -> bool>(
         &'a self,
@@ -46,7 +45,7 @@ impl Walk for Expr {
 }
 
 impl Walk for Stmt {
-    ghost paths = { λ s. stmt_paths (stmt_of s) };
+    ghost top = { λ s. stmt_standing s ∷ [] };
 
     fn walk<'a, F: FnMut(&[ASTNode]) -> bool>(
         &'a self,

@@ -1,14 +1,11 @@
 //! What may be asked of a script.
 
 ghost use Rattle.std.specs.Prelude.{◌≡◌, map};
-ghost use Rattle.rhai_functions.specs.FnLib.{functions_of};
-ghost use Rattle.rhai_meaning.specs.Paths.{listing};
-ghost use Rattle.rhai_meaning.specs.Walk.{over_functions};
 ghost use Rattle.rhai_reading.specs.Reading.{stmts_of};
 ghost use Rattle.rhai_script_queries.specs.Literals.{left_to, sought_in};
 ghost use Rattle.rhai_script_queries.specs.Metadata.{description_of, descriptions};
-ghost use Rattle.rhai_script_queries.specs.Scripts.{WalksScript};
-ghost use Rattle.rhai_walk.specs.Walking.{Walks};
+ghost use Rattle.rhai_script_queries.specs.Scripts.{WalksScript, bodies_standing};
+ghost use Rattle.rhai_walk.specs.Walking.{WalksOver};
 
 use crate::{FnMetadataIter, LiteralVariables};
 use rhai_base::OutOfMemory;
@@ -81,8 +78,8 @@ fn walk_bodies<'a, F: FnMut(&[ASTNode]) -> bool>(
 ) -> Result<bool, OutOfMemory>
     requires { F.IsAlwaysCallable on_node.old }
     ensures callable { F.IsAlwaysCallable on_node.new }
-    ensures walks { Walks F.FnMut path.old.items result on_node.old (over_functions listing (functions_of lib.now))
-        on_node.new path.new.items }
+    ensures walks { WalksOver F.FnMut path.old.items result on_node.old (bodies_standing lib.now.functions) on_node.new
+        path.new.items }
 {
     for function in lib.iter() {
         if !walk_statements(function.body.statements(), path, on_node)? {

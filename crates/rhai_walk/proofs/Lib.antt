@@ -1,3 +1,4 @@
+pub mod Below
 pub mod EveryNode
 pub mod Folding
 pub mod Items

@@ -14,7 +14,7 @@ count = total (λ n. 1)
 
 -- ---- lists
 
-wider : (n m : ℕ) (cs : List Child) → n ≤ m → AreBelow n cs → AreBelow m cs
+pub wider : (n m : ℕ) (cs : List Child) → n ≤ m → AreBelow n cs → AreBelow m cs
 wider n m [] l h = tt
 wider n m (c ∷ cs) l h = (omega (arith, l, h.0), wider n m cs l h.1)
 
@@ -111,7 +111,7 @@ abbrev pub above : List Child → ℕ
 above [] = 0
 above (c ∷ cs) = max (1 + size_of c.node) (above cs)
 
-below-above : (cs : List Child) → AreBelow (above cs) cs
+pub below-above : (cs : List Child) → AreBelow (above cs) cs
 below-above [] = tt
 below-above (c ∷ cs) = (omega (arith, le-max_left (1 + size_of c.node) (above cs)), wider (above cs) (above (c ∷ cs)) cs (le-max_right (1 + size_of c.node) (above cs)) (below-above cs))
 

@@ -1,23 +1,18 @@
 -- Ends of walks over paths one after another, and below a node.
 use Rattle.std.proofs.Common.{◌≡◌, Bool, true, false, IsErr, IsErrAnd, List, [], ◌∷◌, ◌++◌, ℕ, ◌-◌, length, take, map, Result, Ok, Err, refl, sym, ap, subst, ◌∙◌, append_assoc, arith}
-use Rattle.std.proofs.lemmas.List.{append-nil, length-append}
+use Rattle.std.proofs.lemmas.List.{append-nil, length-append, map-append}
 use Rattle.std.proofs.Math.Seq.{take-append_seam}
 use Rattle.std.specs.Borrow.{Bor}
 use Rattle.std.specs.Fn.{Mut, CalledAt}
-use Rattle.rhai_meaning.specs.Paths.{Path}
 use Rattle.rhai_walk.specs.declared.node.ASTNode.{ASTNode}
 use Rattle.rhai_walk.specs.declared.stop.Stop.{Stop}
 use Rattle.rhai_walk.specs.declared.stop.Stop.TheVariants as stop
-use Rattle.rhai_walk.specs.Nodes.{node_of}
-use Rattle.rhai_walk.specs.Walking.{ended, Asked, Agrees, Finished, Refused, Short, Ends, Walks, Enters}
-
-map-append : {A B : Type 0} (h : A → B) (xs ys : List A) → map h (xs ++ ys) ≡ map h xs ++ map h ys
-map-append h [] ys = refl
-map-append h (x ∷ xs) ys = ap (λ zs. h x ∷ zs) (map-append h xs ys)
+use Rattle.rhai_walk.specs.Standing.{declared_of}
+use Rattle.rhai_walk.specs.Walking.{Path, ended, through, Asked, Agrees, Finished, Refused, Short, Ends, Walks, Enters}
 
 -- all paths of a node by those of its parts
 abbrev pub below : ASTNode → List Path → List Path
-below n ps = (node_of n ∷ []) ∷ map (λ p. node_of n ∷ p) ps
+below n ps = through (declared_of n) ps
 
 module _ {F : Type 0} (g : Mut F (Bor (List ASTNode) × Unit {0}) Bool) where
   agrees-then : (front : List ASTNode) (f m l : F) (ps qs : List Path) → Agrees g front f ps m → Agrees g front m qs l → Agrees g front f (ps ++ qs) l
@@ -100,19 +95,19 @@ module _ {F : Type 0} (g : Mut F (Bor (List ASTNode) × Unit {0}) Bool) where
 
   -- ---- a node and what is below it
 
-  asked-below : (front : List ASTNode) (n : ASTNode) (f : F) (p : Path) (b : Bool) (f' : F) → Asked g (front ++ n ∷ []) f p b f' → Asked g front f (node_of n ∷ p) b f'
+  asked-below : (front : List ASTNode) (n : ASTNode) (f : F) (p : Path) (b : Bool) (f' : F) → Asked g (front ++ n ∷ []) f p b f' → Asked g front f (declared_of n ∷ p) b f'
   asked-below front n f p b f' a =
       record {
         nodes = n ∷ a.nodes;
-        are = ap (λ q. node_of n ∷ q) a.are;
+        are = ap (λ q. declared_of n ∷ q) a.are;
         called = subst (λ shown. CalledAt g f shown b f') (append_assoc front (n ∷ []) a.nodes) a.called;
       }
 
-  agrees-below : (front : List ASTNode) (n : ASTNode) (f : F) (ps : List Path) (l : F) → Agrees g (front ++ n ∷ []) f ps l → Agrees g front f (map (λ p. node_of n ∷ p) ps) l
+  agrees-below : (front : List ASTNode) (n : ASTNode) (f : F) (ps : List Path) (l : F) → Agrees g (front ++ n ∷ []) f ps l → Agrees g front f (map (λ p. declared_of n ∷ p) ps) l
   agrees-below front n f [] l a = a
   agrees-below front n f (p ∷ ps) l a = (a.0, asked-below front n f p true a.0 a.1, agrees-below front n a.0 ps l a.2)
 
-  shown : (front : List ASTNode) (n : ASTNode) (f : F) (b : Bool) (m : F) → CalledAt g f (front ++ n ∷ []) b m → Asked g front f (node_of n ∷ []) b m
+  shown : (front : List ASTNode) (n : ASTNode) (f : F) (b : Bool) (m : F) → CalledAt g f (front ++ n ∷ []) b m → Asked g front f (declared_of n ∷ []) b m
   shown front n f b m c = record { nodes = n ∷ []; are = refl; called = c }
 
   pub no_room : (front : List ASTNode) (n : ASTNode) (f : F) (ps : List Path) (last : F) (left : List ASTNode) → (last ≡ f) × (left ≡ front) → Short g front f (below n ps) last left
@@ -120,8 +115,8 @@ module _ {F : Type 0} (g : Mut F (Bor (List ASTNode) × Unit {0}) Bool) where
       record {
         before = [];
         parent = [];
-        unseen = node_of n;
-        after = map (λ p. node_of n ∷ p) ps;
+        unseen = declared_of n;
+        after = map (λ p. declared_of n ∷ p) ps;
         are = refl;
         agrees = e.0;
         nodes = [];
@@ -133,8 +128,8 @@ module _ {F : Type 0} (g : Mut F (Bor (List ASTNode) × Unit {0}) Bool) where
   refused-at front n f ps last left c =
       record {
         before = [];
-        path = node_of n ∷ [];
-        after = map (λ p. node_of n ∷ p) ps;
+        path = declared_of n ∷ [];
+        after = map (λ p. declared_of n ∷ p) ps;
         are = refl;
         asked = f;
         agrees = refl;
@@ -156,14 +151,14 @@ module _ {F : Type 0} (g : Mut F (Bor (List ASTNode) × Unit {0}) Bool) where
       let b = subst (λ h. Refused g h m ps last left) c.1 a in
       record {
         before = below n b.before;
-        path = node_of n ∷ b.path;
-        after = map (λ p. node_of n ∷ p) b.after;
-        are = ap (λ rest. (node_of n ∷ []) ∷ rest) (ap (map (λ p. node_of n ∷ p)) b.are ∙ map-append (λ p. node_of n ∷ p) b.before (b.path ∷ b.after));
+        path = declared_of n ∷ b.path;
+        after = map (λ p. declared_of n ∷ p) b.after;
+        are = ap (λ rest. (declared_of n ∷ []) ∷ rest) (ap (map (λ p. declared_of n ∷ p)) b.are ∙ map-append (λ p. declared_of n ∷ p) b.before (b.path ∷ b.after));
         asked = b.asked;
         agrees = (m, shown front n f true m c.0, agrees-below front n m b.before b.asked b.agrees);
         refuses = asked-below front n b.asked b.path false last b.refuses;
         nodes = n ∷ b.nodes;
-        stays = ap (λ p. node_of n ∷ p) b.stays;
+        stays = ap (λ p. declared_of n ∷ p) b.stays;
         is_left = b.is_left ∙ append_assoc front (n ∷ []) b.nodes;
       }
 
@@ -172,13 +167,13 @@ module _ {F : Type 0} (g : Mut F (Bor (List ASTNode) × Unit {0}) Bool) where
       let b = subst (λ h. Short g h m ps last left) c.1 a in
       record {
         before = below n b.before;
-        parent = node_of n ∷ b.parent;
+        parent = declared_of n ∷ b.parent;
         unseen = b.unseen;
-        after = map (λ p. node_of n ∷ p) b.after;
-        are = ap (λ rest. (node_of n ∷ []) ∷ rest) (ap (map (λ p. node_of n ∷ p)) b.are ∙ map-append (λ p. node_of n ∷ p) b.before ((b.parent ++ b.unseen ∷ []) ∷ b.after));
+        after = map (λ p. declared_of n ∷ p) b.after;
+        are = ap (λ rest. (declared_of n ∷ []) ∷ rest) (ap (map (λ p. declared_of n ∷ p)) b.are ∙ map-append (λ p. declared_of n ∷ p) b.before ((b.parent ++ b.unseen ∷ []) ∷ b.after));
         agrees = (m, shown front n f true m c.0, agrees-below front n m b.before last b.agrees);
         nodes = n ∷ b.nodes;
-        stays = ap (λ p. node_of n ∷ p) b.stays;
+        stays = ap (λ p. declared_of n ∷ p) b.stays;
         is_left = b.is_left ∙ append_assoc front (n ∷ []) b.nodes;
       }
 

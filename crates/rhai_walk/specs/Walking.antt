@@ -3,15 +3,26 @@ use Rattle.std.specs.Prelude.{◌≡◌, ◌++◌, Bool, true, false, List, [], 
 use Rattle.std.specs.Borrow.{Bor}
 use Rattle.std.specs.Fn.{Mut, CalledAt}
 use Rattle.rhai_tokens.specs.declared.error.OutOfMemory.{OutOfMemory}
-use Rattle.rhai_meaning.specs.Paths.{Path}
-use Rattle.rhai_meaning.specs.Walk.{Node}
-use Rattle.rhai_walk.specs.Nodes.{node_of}
+use Rattle.rhai_walk.specs.Standing.{Declared, Standing, below, declared_of}
 use Rattle.rhai_walk.specs.declared.node.ASTNode.{ASTNode}
 use Rattle.rhai_walk.specs.declared.stop.Stop.{Stop}
 use Rattle.rhai_walk.specs.declared.stop.Stop.TheVariants as stop
 
+-- from the top down to a node
+abbrev pub Path : Type 0
+Path = List Declared
+
 abbrev pub path_of : List ASTNode → Path
-path_of nodes = map node_of nodes
+path_of nodes = map declared_of nodes
+
+-- the path of a node, then those of what is below it, each with the node in front
+abbrev pub through : Declared → List Path → List Path
+through n inner = (n ∷ []) ∷ map (λ p. n ∷ p) inner
+
+-- the paths to nodes one after another and to all below them, in the order of a walk
+pub data Lists : List Standing → List Path → Type 0 where
+  nothing : Lists [] []
+  next : {inner others : List Path} (s : Standing) (rest : List Standing) → Lists (below s.node) inner → Lists rest others → Lists (s ∷ rest) (through s.node inner ++ others)
 
 -- what a caller is told of a walk that ended so
 abbrev pub ended : Result Unit Stop → Result Bool OutOfMemory
@@ -54,7 +65,7 @@ module _ {F : Type 0} (g : Mut F (Bor (List ASTNode) × Unit {0}) Bool) (front :
   pub record Short (f : F) (paths : List Path) (last : F) (left : List ASTNode) : Type 0 where
     pub before : List Path
     pub parent : Path
-    pub unseen : Node
+    pub unseen : Declared
     pub after : List Path
     pub are : paths ≡ before ++ (parent ++ unseen ∷ []) ∷ after
     pub agrees : Agrees f before last
@@ -70,6 +81,12 @@ module _ {F : Type 0} (g : Mut F (Bor (List ASTNode) × Unit {0}) Bool) (front :
   abbrev pub Walks : {E : Type 0} → Result Bool E → F → List Path → F → List ASTNode → Type 0
   Walks (Ok answer) f paths last left = Ends answer f paths last left
   Walks (Err e) f paths last left = Short f paths last left
+
+  -- a walk over nodes one after another and all below them
+  pub record WalksOver {E : Type 0} (r : Result Bool E) (f : F) (nodes : List Standing) (last : F) (left : List ASTNode) : Type 0 where
+    pub paths : List Path
+    pub lists : Lists nodes paths
+    pub walks : Walks r f paths last left
 
   -- going down to a node: it stands at the end of the path that is shown, which stays; for want of memory nothing changes
   abbrev pub Enters : {E : Type 0} → Result Bool E → F → ASTNode → F → List ASTNode → Type 0

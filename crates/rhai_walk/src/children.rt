@@ -6,7 +6,7 @@ ghost use Rattle.std.specs.Prelude.{◌≡◌, [], ◌∷◌, IsTrue};
 ghost use Rattle.rhai_walk.specs.Children.{anywhere, children};
 ghost use Rattle.rhai_walk.specs.Left.{is_nothing, left_of, statements_left};
 ghost use Rattle.rhai_walk.specs.Nodes.{node_of};
-ghost use Rattle.rhai_walk.specs.Standing.{below, declared_of, standing_of, statements_standing};
+ghost use Rattle.rhai_walk.specs.Standing.{below, declared_of, expr_standing, standing_of, statements_standing};
 ghost use Rattle.rhai_meaning.specs.Walk.{OfExpr};
 ghost use Rattle.rhai_reading.specs.Reading.{expr_of};
 
@@ -39,7 +39,8 @@ impl<'a> Children<'a> {
 
     /// An expression alone.
     pub(crate) fn only(expr: &'a Expr) -> Children<'a>
-        ensures { left_of result ≡ anywhere (OfExpr (expr_of expr.now)) ∷ [] }
+        ensures children { left_of result ≡ anywhere (OfExpr (expr_of expr.now)) ∷ [] }
+        ensures standing { standing_of result ≡ expr_standing expr.now ∷ [] }
     {
         Children {
             parts: Parts::Expr(expr),

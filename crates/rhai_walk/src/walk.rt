@@ -1,13 +1,8 @@
 //! A walk over the nodes of a tree, from the top down, with the path to each.
 
-#![tactic(auto, using(rhai_reading::specs::Reading::shapes))]
-
-ghost use Rattle.rhai_meaning.specs.Paths.{expr_paths, listing, stmt_paths, stmts_paths};
-ghost use Rattle.rhai_reading.specs.Reading.{expr_of, stmt_of, stmts_of};
-ghost use Rattle.rhai_walk.specs.Children.{over_children, over_parts};
-ghost use Rattle.rhai_walk.specs.Left.{left_of};
-ghost use Rattle.rhai_walk.specs.Nodes.{node_of};
-ghost use Rattle.rhai_walk.specs.Walking.{Enters, Walks, ended};
+ghost use Rattle.std.specs.Prelude.{[], ◌∷◌};
+ghost use Rattle.rhai_walk.specs.Standing.{below, declared_of, expr_standing, standing_of, statements_standing, stmt_standing};
+ghost use Rattle.rhai_walk.specs.Walking.{Enters, WalksOver, ended};
 
 use crate::stop::{Stop, answered};
 use crate::{ASTNode, Children};
@@ -23,7 +18,7 @@ pub fn walk_expr<'a, F: FnMut(&[ASTNode]) -> bool>(
 ) -> Result<bool, OutOfMemory>
     requires { F.IsAlwaysCallable on_node.old }
     ensures callable { F.IsAlwaysCallable on_node.new }
-    ensures walks { Walks F.FnMut path.old.items result on_node.old (expr_paths (expr_of expr.now)) on_node.new
+    ensures walks { WalksOver F.FnMut path.old.items result on_node.old (expr_standing expr.now ∷ []) on_node.new
         path.new.items }
 {
     answered(visit(Children::only(expr), path, on_node))
@@ -37,7 +32,7 @@ pub fn walk_stmt<'a, F: FnMut(&[ASTNode]) -> bool>(
 ) -> Result<bool, OutOfMemory>
     requires { F.IsAlwaysCallable on_node.old }
     ensures callable { F.IsAlwaysCallable on_node.new }
-    ensures walks { Walks F.FnMut path.old.items result on_node.old (stmt_paths (stmt_of stmt.now)) on_node.new
+    ensures walks { WalksOver F.FnMut path.old.items result on_node.old (stmt_standing stmt.now ∷ []) on_node.new
         path.new.items }
 {
     answered(visit(
@@ -55,7 +50,7 @@ pub fn walk_statements<'a, F: FnMut(&[ASTNode]) -> bool>(
 ) -> Result<bool, OutOfMemory>
     requires { F.IsAlwaysCallable on_node.old }
     ensures callable { F.IsAlwaysCallable on_node.new }
-    ensures walks { Walks F.FnMut path.old.items result on_node.old (stmts_paths (stmts_of statements.now)) on_node.new
+    ensures walks { WalksOver F.FnMut path.old.items result on_node.old (statements_standing statements.now) on_node.new
         path.new.items }
 {
     answered(visit(Children::of_statements(statements), path, on_node))
@@ -88,8 +83,8 @@ fn visit<'a, F: FnMut(&[ASTNode]) -> bool>(
 ) -> Result<(), Stop>
     requires { F.IsAlwaysCallable on_node.old }
     ensures callable { F.IsAlwaysCallable on_node.new }
-    ensures walks { Walks F.FnMut path.old.items (ended result) on_node.old
-        (over_children listing (left_of children.entry)) on_node.new path.new.items }
+    ensures walks { WalksOver F.FnMut path.old.items (ended result) on_node.old (standing_of children.entry) on_node.new
+        path.new.items }
 {
     for child in children {
         enter(child.node, path, on_node)?;
@@ -108,7 +103,7 @@ fn visit_below<'a, F: FnMut(&[ASTNode]) -> bool>(
 ) -> Result<(), Stop>
     requires { F.IsAlwaysCallable on_node.old }
     ensures callable { F.IsAlwaysCallable on_node.new }
-    ensures walks { Walks F.FnMut path.old.items (ended result) on_node.old (over_parts listing (node_of node.entry))
+    ensures walks { WalksOver F.FnMut path.old.items (ended result) on_node.old (below (declared_of node.entry))
         on_node.new path.new.items }
 {
     let children = Children::of(node);
