@@ -18,7 +18,7 @@ pub use rhai_base::{
 };
 pub use rhai_host::{UnitHost, push_report};
 pub use rhai_make as make;
-pub use rhai_notation::{push_lines, push_script};
+pub use rhai_notation::{Notation, Printed, push_lines, push_script};
 pub use rhai_optimizer::{
     OptimizationLevel, OptimizerState, optimize_ast, optimize_counted, optimize_into_ast,
 };

@@ -4,4 +4,5 @@ pub use rhai_ast::{
     CallQueries, ExprQueries, FromStmt, IntoExpr, Literals, NodeQueries, SetPosition, StmtQueries,
     SwitchCases, Take, Walk,
 };
+pub use rhai_notation::Notation;
 pub use rhai_script_queries::ScriptQueries;

@@ -7,4 +7,5 @@ mod nodes;
 mod tables;
 
 pub use names::push_names;
-pub use nodes::{push_block, push_stmt};
+pub use nodes::{push_block, push_expr, push_stmt};
+pub use tables::push_table;

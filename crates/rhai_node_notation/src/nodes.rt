@@ -22,7 +22,7 @@ use std::num::NonZeroUsize;
 
 /// Appends an expression.
 #[cycle(nodes)]
-fn push_expr(expr: &Expr, text: &mut String) -> Result<(), OutOfMemory>
+pub fn push_expr(expr: &Expr, text: &mut String) -> Result<(), OutOfMemory>
     ensures { OnOk result (string_bytes text.new ≡ string_bytes text.old ++ expr_text (expr_of expr.now)) }
 {
     match expr {

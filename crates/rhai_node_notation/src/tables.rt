@@ -9,10 +9,7 @@ use rhai_ast::{Cases, SwitchCasesCollection};
 use rhai_base::{OutOfMemory, RangeCase};
 
 /// Appends cases, ranges and default.
-pub(crate) fn push_table(
-    table: &SwitchCasesCollection,
-    text: &mut String,
-) -> Result<(), OutOfMemory>
+pub fn push_table(table: &SwitchCasesCollection, text: &mut String) -> Result<(), OutOfMemory>
     ensures { OnOk result (string_bytes text.new ≡ string_bytes text.old ++ table_text (table_of table.now)) }
 {
     push_cases(&table.cases, text)?;

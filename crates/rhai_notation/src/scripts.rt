@@ -23,7 +23,7 @@ pub fn push_lines(statements: &[Stmt], text: &mut String) -> Result<(), OutOfMem
 }
 
 /// Appends a function with its body.
-fn push_function(function: &ScriptFuncDef, text: &mut String) -> Result<(), OutOfMemory>
+pub(crate) fn push_function(function: &ScriptFuncDef, text: &mut String) -> Result<(), OutOfMemory>
     ensures { OnOk result (string_bytes text.new ≡ string_bytes text.old ++ function_text (function_of function.now)) }
 {
     text.push_str("fn ")?;

@@ -80,5 +80,6 @@ fn say_guide_of_reading(said: &Said) {
     let mut text = said.taken();
     let read = guide_reads::a_script_is_read(said.alloc, &mut text);
     said.made(guide_reads::a_fault_is_found(said.alloc, &mut text));
+    said.made(guide_reads::a_statement_is_printed(said.alloc, &mut text));
     said.put_back(text, read);
 }

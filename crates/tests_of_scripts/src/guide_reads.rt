@@ -1,7 +1,7 @@
 //! The pieces of docs/GUIDE.md on scripts from text.
 
 use rhai_base::OutOfMemory;
-use rhai_notation::push_script;
+use rhai_notation::{Notation, push_script};
 use rhai_reader::{ReadError, read_script};
 use std::alloc::Global;
 use std::fmt::Write;
@@ -20,6 +20,15 @@ pub fn a_script_is_read(alloc: Global, text: &mut String) -> Result<(), ReadErro
 pub fn a_fault_is_found(alloc: Global, text: &mut String) -> Result<(), OutOfMemory> {
     if let Err(error) = read_script(alloc, "let x = f(1; 2)\n") {
         write!(text, "{error}\n")?;
+    }
+    Ok(())
+}
+
+/// Appends its first statement alone: let x = 40
+pub fn a_statement_is_printed(alloc: Global, text: &mut String) -> Result<(), ReadError> {
+    let script = read_script(alloc, TEXT)?;
+    if let Some(statement) = script.statements().first() {
+        write!(text, "{}\n", statement.printed(alloc))?;
     }
     Ok(())
 }

@@ -16,6 +16,7 @@ mod record;
 mod reports;
 mod requests;
 mod scripts;
+mod shown;
 
 use answers::Scripts;
 use std::{env, fs, io};

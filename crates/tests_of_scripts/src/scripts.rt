@@ -4,7 +4,7 @@
 use crate::following::parting;
 use crate::given::{Given, read_given};
 use crate::nodes::{places, places_read};
-use crate::{functions, long, names, nodes, reads};
+use crate::{functions, long, names, nodes, reads, shown};
 use rhai_ast::{FnAccess, FnNamespace, Stmt, StmtQueries};
 use rhai_base::{Boxed, OutOfMemory};
 use rhai_host::push_report;
@@ -65,6 +65,7 @@ fn asked(question: &str, given: &Given, script: &str, said: &Said) {
         "long" => long::long(script, said),
         "repeated" => long::repeated(given, script, said),
         "asked" => long::asked(given, script, said),
+        "shown" => shown::answer(script, said),
         _ => nodes::answer(question, &given.info, script, said),
     }
 }
