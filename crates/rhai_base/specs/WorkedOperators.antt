@@ -1,6 +1,6 @@
 -- Rows of the operators' definitions, computed from them alone.
 use Rattle.std.specs.Prelude.{◌≡◌, true, false, List, [], ◌∷◌, map, replicate, length, Some, pos, negsuc, ◌^◌, ◌-◌, refl}
-use Rattle.rhai_parts.specs.Names.{is_among, symbols}
+use Rattle.rhai_names.specs.Names.{is_among, symbols}
 use Rattle.rhai_tokens.specs.declared.token.Token.{Token}
 use Rattle.rhai_tokens.specs.declared.token.Token.TheVariants as token
 use Rattle.rhai_tokens.specs.Symbols.{token_text}

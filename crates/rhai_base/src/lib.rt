@@ -11,7 +11,7 @@ pub use builtin::{builtin_binary_op, builtin_unary_op};
 pub use cases::{CaseBlocksList, Cases};
 pub use range_case::{RangeCase, RangeCaseIter};
 pub use rhai_data::{Boxed, Rest, Seq};
-pub use rhai_parts::{ASTFlags, FnName, Ident, Namespace};
+pub use rhai_names::{ASTFlags, FnName, Ident, Namespace};
 pub use rhai_text::{ImmutableString, StringMap};
 pub use rhai_tokens::{
     AstError, Fault, OpAssignment, OutOfMemory, Position, Span, Token, TreeFault,

@@ -1,6 +1,6 @@
 -- Statements that leave with a value.
 use Rattle.std.proofs.Common.{◌≡◌, Some}
-use Rattle.rhai_parts.specs.declared.flags.ASTFlags.{ASTFlags}
+use Rattle.rhai_names.specs.declared.flags.ASTFlags.{ASTFlags}
 use Rattle.rhai_tokens.specs.declared.position.Position.{Position}
 use Rattle.rhai_tree.specs.declared.expr.Expr as declared_expr
 use Rattle.rhai_tree.specs.declared.stmt.Stmt.TheVariants as stmt_kind

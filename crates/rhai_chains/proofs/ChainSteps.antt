@@ -26,20 +26,20 @@ use Rattle.rhai_meaning.specs.Shape.{is_callable, is_chain, is_unit}
 use Rattle.rhai_meaning.specs.Tree as tree
 use Rattle.rhai_places.specs.Reading.{or_unit}
 use Rattle.rhai_machine.specs.declared.steps.parts.Access.{Access}
-use Rattle.rhai_forms.specs.declared.links.Link.{Link}
-use Rattle.rhai_forms.specs.declared.links.Rest.{Rest}
+use Rattle.rhai_run_nodes.specs.declared.links.Link.{Link}
+use Rattle.rhai_run_nodes.specs.declared.links.Rest.{Rest}
 use Rattle.rhai_machine.specs.declared.steps.placing.Current.{Current}
 use Rattle.rhai_state.specs.declared.state.Interrupt.{Interrupt}
 use Rattle.rhai_state.specs.declared.state.Interrupt.TheVariants.{Stuck}
 use Rattle.rhai_state.specs.declared.state.State.{State}
 use Rattle.rhai_host.specs.declared.report.Stuck.TheVariants as why
 use Rattle.rhai_machine.specs.Chaining.{StepsOn, HasAccess, Reaches, access_meant, chain_core, head_of, method_core}
-use Rattle.rhai_forms.specs.Links.{link_steps, rest_steps, step_core, steps_on}
+use Rattle.rhai_run_nodes.specs.Links.{link_steps, rest_steps, step_core, steps_on}
 use Rattle.rhai_state.specs.Evaluating.{RunsCore, RunsExprs}
 use Rattle.rhai_machine.specs.Placing.{current_in, made, place_in, read_base}
 use Rattle.rhai_state.specs.Runs.{Setting, Acting, Goes, Leads, Runs, given}
 use Rattle.rhai_state.specs.State.{store_of}
-use Rattle.rhai_forms.proofs.Callees.{count_exprs_of}
+use Rattle.rhai_run_nodes.proofs.Callees.{count_exprs_of}
 use Rattle.rhai_state.proofs.Goes.{goes_as, goes_then, leads_then, stops_then}
 
 -- ---- chains by their outermost node

@@ -15,8 +15,8 @@ use Rattle.rhai_meaning.specs.Chains.{assign_last, set_at}
 use Rattle.rhai_meaning.specs.Meaning as meaning
 use Rattle.rhai_meaning.specs.Places as places
 use Rattle.rhai_machine.specs.declared.steps.parts.Access.{Access}
-use Rattle.rhai_forms.specs.declared.links.Link.{Link}
-use Rattle.rhai_forms.specs.declared.links.Rest.{Rest}
+use Rattle.rhai_run_nodes.specs.declared.links.Link.{Link}
+use Rattle.rhai_run_nodes.specs.declared.links.Rest.{Rest}
 use Rattle.rhai_machine.specs.declared.steps.parts.Found.{Found}
 use Rattle.rhai_machine.specs.declared.steps.placing.Current.{Current}
 use Rattle.rhai_state.specs.declared.state.Interrupt.{Interrupt}
@@ -24,8 +24,8 @@ use Rattle.rhai_state.specs.declared.state.Interrupt.TheVariants as stopped
 use Rattle.rhai_host.specs.declared.report.Stuck.TheVariants as why
 use Rattle.rhai_state.specs.declared.state.State.{State}
 use Rattle.rhai_machine.specs.Chaining.{StepsOn, Reaches, access_meant, head_of}
-use Rattle.rhai_forms.specs.Links.{link_steps, rest_steps, steps_on}
-use Rattle.rhai_forms.specs.Operators.{StandsFor}
+use Rattle.rhai_run_nodes.specs.Links.{link_steps, rest_steps, steps_on}
+use Rattle.rhai_run_nodes.specs.Operators.{StandsFor}
 use Rattle.rhai_machine.specs.Placing.{current_in}
 use Rattle.rhai_state.specs.Runs.{Setting, Acting, Goes, Leads, Runs, given}
 use Rattle.rhai_state.specs.State.{store_of}

@@ -6,7 +6,7 @@ ghost use Rattle.std.specs.Prelude.{◌≡◌, Some};
 ghost use Rattle.rhai_values.specs.Reading.{value_of};
 ghost use Rattle.rhai_values.specs.Value.{UnitV};
 ghost use Rattle.rhai_base.specs.Builtin.{operator_of};
-ghost use Rattle.rhai_forms.specs.Operators.{StandsFor};
+ghost use Rattle.rhai_run_nodes.specs.Operators.{StandsFor};
 ghost use Rattle.rhai_machine.specs.Chaining.{access_meant, names_meant};
 ghost use Rattle.rhai_machine.specs.Setting.{setting};
 ghost use Rattle.rhai_machine.specs.Placing.{current_in};

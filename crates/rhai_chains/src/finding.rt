@@ -15,10 +15,10 @@ ghost use Rattle.rhai_meaning.specs.Chains as chains;
 ghost use Rattle.rhai_machine.specs.Placing as spec;
 
 use rhai_base::{Dynamic, ImmutableString, Seq};
+use rhai_chain_receivers::ask_for;
 use rhai_host::Host;
 use rhai_machine::{Current, Found, Machine, PropertyNames, at_key};
 use rhai_places::{Indexed, PlaceKey, index};
-use rhai_receivers::ask_for;
 use rhai_state::{Interrupt, State};
 use std::alloc::{AllocError, Global};
 

@@ -15,10 +15,10 @@ ghost use Rattle.rhai_machine.specs.Placing as spec;
 
 use crate::finding::thrown;
 use rhai_base::{Dynamic, ImmutableString, Seq};
+use rhai_chain_receivers::set_by_host;
 use rhai_host::{Host, Stuck};
 use rhai_machine::{Access, Current, Machine, Place, PropertyNames};
 use rhai_places::{IndexTarget, PlaceKey, index_target};
-use rhai_receivers::set_by_host;
 use rhai_state::{Interrupt, State};
 
 /// Writes where a last step leads; what has no place is stuck.

@@ -5,12 +5,12 @@ use Rattle.rhai_values.specs.declared.dynamic.Dynamic.TheVariants as value
 use Rattle.rhai_values.specs.Reading.{value_of}
 use Rattle.rhai_values.specs.Value.{Text, TextV}
 use Rattle.rhai_tokens.specs.declared.position.Position.{Position}
-use Rattle.rhai_parts.specs.declared.ident.Ident.{Ident}
+use Rattle.rhai_names.specs.declared.ident.Ident.{Ident}
 use Rattle.rhai_tree.specs.declared.expr.Expr.{Expr}
 use Rattle.rhai_tree.specs.declared.expr.Expr.TheVariants as expr_kind
 use Rattle.rhai_tree.specs.declared.expr.FnCallExpr.{FnCallExpr}
 use Rattle.rhai_tree.specs.declared.expr.BinaryExpr.{BinaryExpr}
-use Rattle.rhai_parts.specs.declared.flags.ASTFlags.{ASTFlags}
+use Rattle.rhai_names.specs.declared.flags.ASTFlags.{ASTFlags}
 use Rattle.rhai_tree.specs.declared.block.StmtBlock.{StmtBlock}
 use Rattle.rhai_tree.specs.declared.stmt.FlowControl.{FlowControl}
 use Rattle.rhai_tree.specs.declared.stmt.Stmt.{Stmt}

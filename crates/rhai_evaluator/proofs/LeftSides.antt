@@ -11,18 +11,18 @@ use Rattle.rhai_meaning.specs.Meaning as meaning
 use Rattle.rhai_meaning.specs.Places as places
 use Rattle.rhai_meaning.specs.Shape.{is_chain}
 use Rattle.rhai_meaning.specs.Tree as tree
-use Rattle.rhai_forms.specs.declared.links.Rest.{Rest}
+use Rattle.rhai_run_nodes.specs.declared.links.Rest.{Rest}
 use Rattle.rhai_machine.specs.declared.steps.placing.Current.{Current}
 use Rattle.rhai_state.specs.declared.state.Interrupt.{Interrupt}
 use Rattle.rhai_state.specs.declared.state.Interrupt.TheVariants.{Stuck}
 use Rattle.rhai_state.specs.declared.state.State.{State}
 use Rattle.rhai_host.specs.declared.report.Stuck.TheVariants as why
 use Rattle.rhai_machine.specs.Chaining.{StepsOn}
-use Rattle.rhai_forms.specs.Links.{rest_steps}
+use Rattle.rhai_run_nodes.specs.Links.{rest_steps}
 use Rattle.rhai_machine.specs.Placing.{current_in, read_base}
 use Rattle.rhai_state.specs.Runs.{Setting, Acting, Leads, given}
 use Rattle.rhai_state.specs.State.{store_of}
-use Rattle.rhai_forms.specs.LeftSides.{part_core}
+use Rattle.rhai_run_nodes.specs.LeftSides.{part_core}
 use Rattle.rhai_state.proofs.Goes.{leads_then}
 
 module _ (here : Setting) (loop : Bool) (l : tree.Expr) (rest : Rest) (o : Option Operator) (v : Value) (s : State) where

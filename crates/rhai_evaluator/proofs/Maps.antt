@@ -5,7 +5,7 @@ use Rattle.rhai_values.specs.declared.dynamic.Dynamic.{Dynamic}
 use Rattle.rhai_values.specs.declared.dynamic.Dynamic.TheVariants as value
 use Rattle.rhai_values.specs.Reading.{value_of, value_of-Map, members_of}
 use Rattle.rhai_values.specs.Value.{Text, Fields, MapV, fields}
-use Rattle.rhai_parts.specs.declared.ident.Ident.{Ident}
+use Rattle.rhai_names.specs.declared.ident.Ident.{Ident}
 use Rattle.rhai_tree.specs.declared.expr.Expr.{Expr}
 use Rattle.rhai_reading.specs.Reading.{expr_of, pairs_of}
 use Rattle.rhai_reading.proofs.ItemLists.{pairs_of-drop}

@@ -4,7 +4,7 @@ use Rattle.std.specs.Prelude.{◌==◌}
 use Rattle.std.proofs.lemmas.Bool.{and_parts}
 use Rattle.std.proofs.lemmas.Slice.Eq.{bytes_eq-Decides}
 use Rattle.rhai_base.specs.Operators.{Operator, Plus, arity, symbol}
-use Rattle.rhai_parts.specs.Names.{barred, is_among}
+use Rattle.rhai_names.specs.Names.{barred, is_among}
 use Rattle.rhai_values.specs.declared.dynamic.Dynamic.{Dynamic}
 use Rattle.rhai_values.specs.Reading.{value_of}
 use Rattle.rhai_values.specs.Value.{same_text}
@@ -21,8 +21,8 @@ use Rattle.rhai_state.specs.declared.state.State.{State}
 use Rattle.rhai_state.specs.Evaluating.{RunsCall, RunsCore, RunsExpr, RunsExprs}
 use Rattle.rhai_state.specs.Runs.{Setting, Acting, Runs, given}
 use Rattle.rhai_state.proofs.Goes.{goes_then, leads_then, stops_then, value_goes, value_stops}
-use Rattle.rhai_forms.specs.Operators.{called_operator, operator_by}
-use Rattle.rhai_forms.proofs.Callees.{operator_callee}
+use Rattle.rhai_run_nodes.specs.Operators.{called_operator, operator_by}
+use Rattle.rhai_run_nodes.proofs.Callees.{operator_callee}
 use Rattle.rhai_evaluator.proofs.Nodes.{call_as}
 
 -- an operator's call is callable

@@ -10,16 +10,16 @@ ghost use Rattle.rhai_meaning.specs.Desugar.{core_stmt};
 ghost use Rattle.rhai_machine.specs.Setting.{setting};
 ghost use Rattle.rhai_state.specs.Evaluating.{Runs, RunsLine};
 ghost use Rattle.rhai_state.specs.Runs.{Acting};
-ghost use Rattle.rhai_forms.specs.LeftSides.{side_core};
+ghost use Rattle.rhai_run_nodes.specs.LeftSides.{side_core};
 ghost use Rattle.rhai_meaning.specs.Meaning as meaning;
 ghost use Rattle.rhai_meaning.specs.Tree as tree;
 
 use crate::evaluator::Evaluator;
 use rhai_ast::BinaryExpr;
 use rhai_base::{Dynamic, OpAssignment};
-use rhai_forms::LeftSide;
+use rhai_chain_receivers::left_side;
 use rhai_host::{Host, Stuck};
-use rhai_receivers::left_side;
+use rhai_run_nodes::LeftSide;
 use rhai_state::{Interrupt, State};
 
 impl<'a, H: Host> Evaluator<'a, H> {

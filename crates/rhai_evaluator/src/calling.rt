@@ -6,7 +6,7 @@ ghost use Rattle.std.specs.Prelude.{◌≡◌, [], ◌∷◌, true, length, map,
 ghost use Rattle.rhai_values.specs.Reading.{value_of};
 ghost use Rattle.rhai_reading.specs.Reading.{callee_of, exprs_of};
 ghost use Rattle.rhai_base.specs.Builtin.{operator_of};
-ghost use Rattle.rhai_forms.specs.Operators.{called_operator};
+ghost use Rattle.rhai_run_nodes.specs.Operators.{called_operator};
 ghost use Rattle.rhai_meaning.specs.Desugar.{callee_by, core_exprs};
 ghost use Rattle.rhai_machine.specs.Setting.{setting};
 ghost use Rattle.rhai_state.specs.Evaluating.{Runs, RunsCall, RunsCore};
@@ -18,8 +18,8 @@ ghost use Rattle.rhai_meaning.specs.Shape as shape;
 use crate::evaluator::Evaluator;
 use rhai_ast::{Expr, FnCallExpr};
 use rhai_base::{Dynamic, ImmutableString, Seq, Token};
-use rhai_forms::{is_callable, operator_called, qualified, two_operands};
 use rhai_host::{Host, Stuck};
+use rhai_run_nodes::{is_callable, operator_called, qualified, two_operands};
 use rhai_state::{Interrupt, State, Word, pointed};
 
 impl<'a, H: Host> Evaluator<'a, H> {

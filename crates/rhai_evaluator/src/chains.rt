@@ -5,7 +5,7 @@
 ghost use Rattle.std.specs.Prelude.{false};
 ghost use Rattle.rhai_reading.specs.Reading.{chain_flags, expr_of};
 ghost use Rattle.rhai_machine.specs.Chaining.{access_meant, StepsOn};
-ghost use Rattle.rhai_forms.specs.Links.{rest_steps, step_core};
+ghost use Rattle.rhai_run_nodes.specs.Links.{rest_steps, step_core};
 ghost use Rattle.rhai_machine.specs.Setting.{setting};
 ghost use Rattle.rhai_state.specs.Evaluating.{Runs, RunsCore};
 ghost use Rattle.rhai_machine.specs.Placing.{current_in};
@@ -21,9 +21,9 @@ use bitflags::Flags;
 use rhai_ast::{BinaryExpr, Expr, FnCallExpr};
 use rhai_base::{ASTFlags, Dynamic};
 use rhai_chains::{index_step, property_step};
-use rhai_forms::{Rest, is_callable, is_chain, root_of};
 use rhai_host::{Host, Stuck};
 use rhai_machine::{Access, Current, PropertyNames};
+use rhai_run_nodes::{Rest, is_callable, is_chain, root_of};
 use rhai_state::{Interrupt, State};
 
 impl<'a, H: Host> Evaluator<'a, H> {

@@ -11,9 +11,9 @@ ghost use Rattle.rhai_state.specs.Evaluating.{RunsCore, RunsExpr, RunsExprs, Run
 
 use rhai_ast::Expr;
 use rhai_base::{Boxed, Dynamic, Ident, Seq, StringMap};
-use rhai_forms::{Root, insert, is_map};
 use rhai_host::{Host, Stuck};
 use rhai_machine::Machine;
+use rhai_run_nodes::{Root, insert, is_map};
 use rhai_state::{Interrupt, State, constant, joined_text};
 
 /// What a run is in. Its functions do what the run meaning says of trees.

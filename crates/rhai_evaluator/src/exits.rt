@@ -14,8 +14,8 @@ use crate::evaluator::Evaluator;
 use bitflags::Flags;
 use rhai_ast::{Expr, FlowControl, StmtBlock};
 use rhai_base::{ASTFlags, Boxed, Dynamic, ImmutableString};
-use rhai_forms::catch_name;
 use rhai_host::{Host, Stuck};
+use rhai_run_nodes::catch_name;
 use rhai_state::{
     Interrupt, State, body_ended, branch_ended, declare_caught, function_exit, loop_exit,
 };

@@ -17,9 +17,9 @@ ghost use Rattle.rhai_machine.specs.Chaining as spec;
 
 use crate::evaluator::Evaluator;
 use rhai_base::{Dynamic, ImmutableString, Seq};
+use rhai_chain_receivers::put_back;
 use rhai_host::Host;
 use rhai_machine::Current;
-use rhai_receivers::put_back;
 use rhai_state::{Interrupt, State, Word, pointed_with};
 
 impl<'a, H: Host> Evaluator<'a, H> {

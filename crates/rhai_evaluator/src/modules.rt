@@ -14,8 +14,8 @@ ghost use Rattle.rhai_state.specs.Evaluating.{RunsCore, RunsLine};
 use crate::evaluator::Evaluator;
 use rhai_ast::Expr;
 use rhai_base::{Dynamic, Ident, ImmutableString};
-use rhai_forms::Root;
 use rhai_host::Host;
+use rhai_run_nodes::Root;
 use rhai_state::{EntryKind, Interrupt, State};
 
 impl<'a, H: Host> Evaluator<'a, H> {

@@ -8,12 +8,12 @@ ghost use Rattle.rhai_values.specs.Value.{UnitV};
 ghost use Rattle.rhai_base.specs.Builtin.{operator_of};
 ghost use Rattle.rhai_reading.specs.Reading.{expr_of};
 ghost use Rattle.rhai_machine.specs.Chaining.{access_meant};
-ghost use Rattle.rhai_forms.specs.Links.{rest_steps};
+ghost use Rattle.rhai_run_nodes.specs.Links.{rest_steps};
 ghost use Rattle.rhai_machine.specs.Setting.{setting};
 ghost use Rattle.rhai_machine.specs.Placing.{current_in};
 ghost use Rattle.rhai_state.specs.Runs.{Acting, Leads, given};
 ghost use Rattle.rhai_state.specs.State.{store_of};
-ghost use Rattle.rhai_forms.specs.LeftSides.{part_core};
+ghost use Rattle.rhai_run_nodes.specs.LeftSides.{part_core};
 ghost use Rattle.rhai_machine.specs.Targets.{Changes};
 ghost use Rattle.rhai_meaning.specs.Calls as calls;
 ghost use Rattle.rhai_meaning.specs.Chains as chains;
@@ -24,9 +24,9 @@ use bitflags::Flags;
 use rhai_ast::Expr;
 use rhai_base::{ASTFlags, Dynamic, ImmutableString, OpAssignment, Seq, Token};
 use rhai_chains::{assign_index, assign_property, set_at};
-use rhai_forms::{Rest, assigning_operator, ends_in_call, is_chain, root_of};
 use rhai_host::{Host, Stuck};
 use rhai_machine::{Access, Current};
+use rhai_run_nodes::{Rest, assigning_operator, ends_in_call, is_chain, root_of};
 use rhai_state::{Interrupt, State};
 
 impl<'a, H: Host> Evaluator<'a, H> {

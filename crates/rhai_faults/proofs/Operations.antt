@@ -3,7 +3,7 @@ use Rattle.std.proofs.Common.{◌≡◌, suc, Bool, true, false, ◌||◌, List,
 use Rattle.rhai_tokens.specs.declared.token.Token.{Token}
 use Rattle.rhai_tokens.specs.Symbols.{token_text}
 use Rattle.rhai_tokens.specs.Tokens as tokens
-use Rattle.rhai_parts.specs.Names.{is_among, symbols}
+use Rattle.rhai_names.specs.Names.{is_among, symbols}
 use Rattle.rhai_tree.specs.declared.expr.Expr.{Expr}
 use Rattle.rhai_values.specs.Value.{Text, same_text}
 use Rattle.rhai_meaning.specs.Tree.{count_exprs}

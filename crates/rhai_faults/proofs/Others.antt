@@ -2,8 +2,8 @@
 use Rattle.std.proofs.Common.{◌≡◌, Bool, true, false, List, Option, if◌then◌else◌, refl}
 use Rattle.std.specs.declared.num.NonZeroU8.{NonZeroU8}
 use Rattle.std.specs.declared.num.NonZeroUsize.{NonZeroUsize}
-use Rattle.rhai_parts.specs.declared.flags.ASTFlags.{ASTFlags}
-use Rattle.rhai_parts.specs.declared.namespace.Namespace.{Namespace}
+use Rattle.rhai_names.specs.declared.flags.ASTFlags.{ASTFlags}
+use Rattle.rhai_names.specs.declared.namespace.Namespace.{Namespace}
 use Rattle.rhai_tokens.specs.declared.position.Position.{Position}
 use Rattle.rhai_values.specs.Value.{Text}
 use Rattle.rhai_tree.specs.declared.expr.BinaryExpr.{BinaryExpr}
@@ -11,7 +11,7 @@ use Rattle.rhai_tree.specs.declared.expr.Expr as declared_expr
 use Rattle.rhai_tree.specs.declared.expr.Expr.TheVariants as expr_kind
 use Rattle.rhai_tree.specs.declared.expr.FnCallExpr.{FnCallExpr}
 use Rattle.rhai_meaning.specs.Faults.{is_catch}
-use Rattle.rhai_parts.specs.declared.ident.Ident.{Ident}
+use Rattle.rhai_names.specs.declared.ident.Ident.{Ident}
 use Rattle.rhai_tree.specs.declared.stmt.Stmt as declared_stmt
 use Rattle.rhai_tree.specs.declared.stmt.Stmt.TheVariants as stmt_kind
 use Rattle.rhai_meaning.specs.Plain.{is_plain_expr, is_plain_stmt}

@@ -2,7 +2,7 @@
 use Rattle.std.specs.Prelude.{List, map}
 use Rattle.std.specs.Borrow.{Bor}
 use Rattle.std.specs.HashSet.{HashSet}
-use Rattle.rhai_parts.specs.declared.ident.Ident.{Ident}
+use Rattle.rhai_names.specs.declared.ident.Ident.{Ident}
 use Rattle.rhai_tree.specs.declared.expr.Expr.{Expr}
 use Rattle.rhai_meaning.specs.Shape.{keys}
 use Rattle.rhai_reading.specs.Reading.{pairs_of}

@@ -8,10 +8,10 @@ ghost use Rattle.rhai_faults.specs.Scripts.{functions_of};
 ghost use Rattle.rhai_meaning.specs.Plain as plain;
 ghost use Rattle.rhai_meaning.specs.Shape.{is_barred};
 ghost use Rattle.rhai_meaning.specs.Walk.{over_functions, over_stmts};
-ghost use Rattle.rhai_parts.specs.Names as names;
+ghost use Rattle.rhai_names.specs.Names as names;
 ghost use Rattle.rhai_reading.specs.Reading.{callee_of, expr_of, stmt_of, stmts_of};
 
-use rhai_parts::is_among;
+use rhai_names::is_among;
 use rhai_tree::{Expr, FnCallExpr, ScriptFuncDef, Stmt};
 use rhai_walk::{ASTNode, NodeTest, every_body, every_statement};
 use std::rc::Rc;

@@ -5,7 +5,7 @@
 ghost use Rattle.std.specs.Prelude.{◌≡◌, ◌&&◌, true, false, if◌then◌else◌};
 ghost use Rattle.rhai_meaning.specs.Faults as faults;
 ghost use Rattle.rhai_meaning.specs.Shape as shape;
-ghost use Rattle.rhai_parts.specs.Names as names;
+ghost use Rattle.rhai_names.specs.Names as names;
 ghost use Rattle.rhai_reading.specs.Reading.{callee_of, expr_of, breaks, exprs_of, mark_of};
 ghost use Rattle.rhai_meaning.specs.Tree.{count_exprs};
 
@@ -54,7 +54,7 @@ fn begins_word(name: &str) -> bool
 pub(crate) fn is_reserved(name: &str) -> bool
     ensures { result ≡ faults.is_reserved name.now }
 {
-    rhai_parts::is_reserved(name) || is_symbol(name)
+    rhai_names::is_reserved(name) || is_symbol(name)
 }
 
 // ---- chains

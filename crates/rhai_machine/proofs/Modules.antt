@@ -15,8 +15,8 @@ use Rattle.rhai_state.specs.Runs.{Setting, Acting, Goes, Stops, given}
 use Rattle.rhai_state.specs.State.{store_of}
 use Rattle.rhai_state.proofs.Goes.{gives, goes_as, goes_then, stuck_here}
 use Rattle.rhai_state.proofs.PointerRuns.{IsNoText}
-use Rattle.rhai_forms.specs.Variables.{in_module, qualified_in}
-use Rattle.rhai_forms.proofs.Modules.{module_goes}
+use Rattle.rhai_run_nodes.specs.Variables.{in_module, qualified_in}
+use Rattle.rhai_run_nodes.proofs.Modules.{module_goes}
 use Rattle.rhai_machine.proofs.Placing.{fails}
 
 no_path : (w : World) {v : Dynamic} {u : Value} → DynamicCase v u → IsNoText v → module_at w u ≡ Fail WrongKind

@@ -20,7 +20,7 @@ use Rattle.rhai_machine.specs.declared.steps.placing.Place.{Place}
 use Rattle.rhai_machine.specs.declared.steps.placing.Current.TheVariants as current
 use Rattle.rhai_state.specs.declared.state.Interrupt.TheVariants.{Stuck}
 use Rattle.rhai_state.specs.declared.state.State.{State}
-use Rattle.rhai_forms.specs.declared.variables.Root.{Root}
+use Rattle.rhai_run_nodes.specs.declared.variables.Root.{Root}
 use Rattle.rhai_host.specs.declared.report.Stuck as report
 use Rattle.rhai_host.specs.declared.report.Stuck.TheVariants as why
 use Rattle.rhai_state.specs.declared.entries.Entry.{Entry}
@@ -30,7 +30,7 @@ use Rattle.rhai_host.specs.Report.{stuck_meant}
 use Rattle.rhai_state.specs.Runs.{Setting, Acting, Over, Halting, Goes, Stops, given}
 use Rattle.rhai_state.specs.State.{store_of}
 use Rattle.rhai_state.specs.Variables.{IsMissing, IsLatest}
-use Rattle.rhai_forms.specs.Variables.{root_meant}
+use Rattle.rhai_run_nodes.specs.Variables.{root_meant}
 use Rattle.rhai_state.proofs.Goes.{stops_by}
 use Rattle.rhai_state.proofs.Variables.{found-missing, found-latest, get-latest, latest_below}
 

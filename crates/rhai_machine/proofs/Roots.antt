@@ -22,7 +22,7 @@ use Rattle.rhai_state.specs.declared.state.Interrupt.TheVariants.{Stuck}
 use Rattle.rhai_host.specs.declared.report.Stuck.TheVariants as why
 use Rattle.rhai_state.specs.Evaluating.{RunsExpr, RunsLine}
 use Rattle.rhai_state.specs.declared.state.State.{State}
-use Rattle.rhai_forms.specs.Operators.{StandsFor}
+use Rattle.rhai_run_nodes.specs.Operators.{StandsFor}
 use Rattle.rhai_state.specs.Runs.{Setting, Acting, Goes, Stops, Runs, given}
 use Rattle.rhai_state.specs.State.{store_of}
 use Rattle.rhai_state.proofs.Goes.{goes_as, goes_then, leads_then, stops_then, value_goes, value_stops}

@@ -22,8 +22,8 @@ use Rattle.rhai_meaning.specs.Shape.{is_chain}
 use Rattle.rhai_meaning.specs.Tree as tree
 use Rattle.rhai_machine.specs.declared.steps.parts.Access.{Access}
 use Rattle.rhai_machine.specs.declared.steps.parts.Access.TheVariants as reached
-use Rattle.rhai_forms.specs.declared.links.Rest.{Rest}
-use Rattle.rhai_forms.specs.Links.{rest_steps, step_core}
+use Rattle.rhai_run_nodes.specs.declared.links.Rest.{Rest}
+use Rattle.rhai_run_nodes.specs.Links.{rest_steps, step_core}
 use Rattle.rhai_machine.specs.declared.steps.parts.PropertyNames.{PropertyNames}
 use Rattle.rhai_machine.specs.declared.steps.placing.Current.{Current}
 use Rattle.rhai_state.specs.declared.state.Interrupt.{Interrupt}

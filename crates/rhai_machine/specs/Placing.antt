@@ -21,7 +21,7 @@ use Rattle.rhai_state.specs.declared.state.Interrupt.{Interrupt}
 use Rattle.rhai_state.specs.declared.state.Interrupt.TheVariants as stopped
 use Rattle.rhai_host.specs.Report.{stuck_meant}
 use Rattle.rhai_state.specs.Runs.{Setting}
-use Rattle.rhai_forms.specs.Variables.{root_meant}
+use Rattle.rhai_run_nodes.specs.Variables.{root_meant}
 
 abbrev pub place_meant : Place → places.Place
 place_meant p = record { root = root_meant p.root; keys = map key_meant p.keys }

@@ -5,7 +5,7 @@ use Rattle.rhai_base.specs.Operators.{Operator, Computed, NoEntry, Is, Overflows
 use Rattle.rhai_meaning.specs.Engine.{built_in, asks_assigning, assigning, mapped_type_name}
 use Rattle.rhai_meaning.specs.Act.{WrongKind, Key, World, Act, Fail, Resolve, Invoke}
 use Rattle.rhai_meaning.specs.Core.{Callee, OnOperator, Qualified, ByName}
-use Rattle.rhai_parts.specs.Names.{is_valid_name}
+use Rattle.rhai_names.specs.Names.{is_valid_name}
 use Rattle.rhai_meaning.specs.ActForms.{give, throw, choose, ask_host}
 
 -- ---- operators

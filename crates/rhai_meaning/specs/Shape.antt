@@ -3,8 +3,8 @@ use Rattle.std.specs.Prelude.{ℕ, zero, suc, Bool, true, false, not, ◌&&◌, 
 use Rattle.rhai_values.specs.Value.{Text, same_text, is_hashable}
 pub use Rattle.rhai_values.specs.Value.{is_unit}
 use Rattle.rhai_base.specs.Operators.{symbol, arity}
-use Rattle.rhai_parts.specs.Names.{is_among, are_all, symbols, barred}
-pub use Rattle.rhai_parts.specs.Paths.{is_none}
+use Rattle.rhai_names.specs.Names.{is_among, are_all, symbols, barred}
+pub use Rattle.rhai_names.specs.Paths.{is_none}
 use Rattle.rhai_meaning.specs.Tree.{CallToken, NoToken, OfOperator, OfOther, Callee, ChainFlags, SwitchCase, SwitchTable, Expr, Pairs, Arms, BoolConstant, UnitConstant, Variable, ThisPtr, Property, MethodCall, Dot, Index, no_pairs, pair, no_arms, arm, count_arms}
 
 -- ---- calls

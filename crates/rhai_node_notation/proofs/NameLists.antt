@@ -8,7 +8,7 @@ use Rattle.rhai_tokens.specs.declared.token.Token.TheVariants as token
 use Rattle.rhai_tokens.specs.Assignments.{is_no_equals}
 use Rattle.rhai_tokens.specs.Symbols.{token_text}
 use Rattle.rhai_tokens.specs.Tokens.{base_of}
-use Rattle.rhai_parts.specs.declared.ident.Ident.{Ident}
+use Rattle.rhai_names.specs.declared.ident.Ident.{Ident}
 use Rattle.rhai_base.specs.Builtin.{operator_of}
 use Rattle.rhai_meaning.specs.Desugar.{qualified}
 use Rattle.rhai_meaning.specs.Shape.{is_none}

@@ -4,7 +4,7 @@ use Rattle.std.proofs.lemmas.List.{append-nil}
 use Rattle.rhai_values.specs.Value.{Text, Value, Fields, no_fields, TextV, MapV, text_of}
 use Rattle.rhai_meaning.specs.Control.{texts_joined}
 use Rattle.rhai_meaning.specs.Elements.{with_entries, with_entry}
-use Rattle.rhai_parts.specs.declared.ident.Ident.{Ident}
+use Rattle.rhai_names.specs.declared.ident.Ident.{Ident}
 use Rattle.rhai_base.specs.Operators.{UpTo, Through}
 use Rattle.rhai_tokens.specs.declared.token.Token.TheVariants as token
 use Rattle.rhai_meaning.specs.Constants.{constant_values, constant_entries, value_and, entry_and, named_value, joined_value, map_value, range_literal}

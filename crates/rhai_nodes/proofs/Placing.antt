@@ -1,7 +1,7 @@
 -- A node that is put somewhere else is read as the same tree, and stands there.
 use Rattle.std.proofs.Common.{◌≡◌, List, [], ◌∷◌, map, Option, refl, sym, ap, ◌∙◌}
 use Rattle.rhai_tokens.specs.declared.position.Position.{Position}
-use Rattle.rhai_parts.specs.declared.ident.Ident.{Ident}
+use Rattle.rhai_names.specs.declared.ident.Ident.{Ident}
 use Rattle.std.specs.declared.num.NonZeroUsize.{NonZeroUsize}
 use Rattle.rhai_tree.specs.Defaults.{nowhere}
 use Rattle.rhai_tree.specs.declared.expr.Expr as declared_expr

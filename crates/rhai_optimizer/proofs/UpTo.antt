@@ -7,7 +7,7 @@ use Rattle.rhai_meaning.specs.Engine.{Engine}
 use Rattle.rhai_reading.specs.Reading.{expr_of, exprs_of, pairs_of, arms_of, stmt_of, stmts_of}
 use Rattle.rhai_tree.specs.declared.expr.BinaryExpr.{BinaryExpr}
 use Rattle.rhai_rewriting.proofs.rules.Arms.{arms_weight}
-use Rattle.rhai_parts.specs.declared.ident.Ident.{Ident}
+use Rattle.rhai_names.specs.declared.ident.Ident.{Ident}
 use Rattle.rhai_values.specs.Value.{Text}
 use Rattle.rhai_meaning.specs.Tree.{Expr, Pairs, pair}
 use Rattle.rhai_meaning.specs.Walk.{total, over_pairs}

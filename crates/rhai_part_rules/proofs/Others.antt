@@ -5,7 +5,7 @@ use Rattle.rhai_values.specs.declared.dynamic.Dynamic.{Dynamic}
 use Rattle.rhai_values.specs.declared.dynamic.Dynamic.TheVariants as dynamic
 use Rattle.rhai_values.specs.Reading.{value_of, DynamicCase, int_case, str_case, array_case, map_case, dynamic_cases}
 use Rattle.rhai_values.specs.Value.{Text, Value, Values, Fields, IntV, TextV, ArrayV, MapV, PointerV}
-use Rattle.rhai_parts.specs.declared.namespace.Namespace.{Namespace}
+use Rattle.rhai_names.specs.declared.namespace.Namespace.{Namespace}
 use Rattle.rhai_tokens.specs.declared.token.Token.{Token}
 use Rattle.rhai_base.specs.Operators.{Operator}
 use Rattle.rhai_base.specs.Builtin.{operator_of}

@@ -1,8 +1,8 @@
 -- All other nodes, where a match names some.
 use Rattle.std.proofs.Common.{◌≡◌, Bool, false, Option, refl}
 use Rattle.std.specs.declared.num.NonZeroUsize.{NonZeroUsize}
-use Rattle.rhai_parts.specs.declared.flags.ASTFlags.{ASTFlags}
-use Rattle.rhai_parts.specs.declared.ident.Ident.{Ident}
+use Rattle.rhai_names.specs.declared.flags.ASTFlags.{ASTFlags}
+use Rattle.rhai_names.specs.declared.ident.Ident.{Ident}
 use Rattle.rhai_tokens.specs.declared.position.Position.{Position}
 use Rattle.rhai_tree.specs.declared.block.StmtBlock.{StmtBlock}
 use Rattle.rhai_tree.specs.declared.expr.Expr as declared_expr

@@ -7,7 +7,7 @@ use Rattle.rhai_tokens.specs.declared.error.AstError.{AstError}
 use Rattle.rhai_tokens.specs.declared.error.AstError.TheVariants.{SwitchIndex, SwitchDefaultCondition, SwitchDefaultShared, SwitchKey}
 use Rattle.rhai_base.specs.declared.range_case.RangeCase.{RangeCase}
 use Rattle.rhai_base.specs.Ranges.{index_of}
-use Rattle.rhai_parts.specs.Names.{are_all}
+use Rattle.rhai_names.specs.Names.{are_all}
 use Rattle.rhai_values.specs.declared.dynamic.Dynamic.{Dynamic}
 use Rattle.rhai_values.specs.Value.{is_hashable}
 use Rattle.rhai_values.specs.Reading.{value_of}

@@ -1,7 +1,7 @@
 -- Lists of trees, item by item, for a loop that goes over one.
 use Rattle.std.proofs.Common.{◌≡◌, ℕ, ◌+◌, ◌<◌, ◌&&◌, List, Option, Some, None, is_some, length, get_or, drop, refl, add-one, ap}
 use Rattle.std.proofs.Math.Seq.{drop-cons, drop-length}
-use Rattle.rhai_parts.specs.declared.ident.Ident.{Ident}
+use Rattle.rhai_names.specs.declared.ident.Ident.{Ident}
 use Rattle.rhai_values.specs.Value.{Text, Value}
 use Rattle.rhai_tree.specs.declared.expr.Expr.{Expr}
 use Rattle.rhai_tree.specs.declared.expr.BinaryExpr.{BinaryExpr}

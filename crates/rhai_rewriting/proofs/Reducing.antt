@@ -15,7 +15,7 @@ use Rattle.rhai_meaning.specs.Shape.{is_unit, is_rest, is_left_side, condition_a
 use Rattle.rhai_meaning.specs.Tree.{ChainFlags, SwitchTable, Callee, Expr, DynamicConstant, BoolConstant, UnitConstant, InterpolatedString, ArrayOf, MapOf, Variable, ThisPtr, Property, BlockExpr, FnCall, Dot, Index, And, Or, Coalesce, Exprs, no_exprs, expr, Pairs, no_pairs, pair, Arms, no_arms, arm, count_arms, Stmt, Noop, If, Switch, While, Assignment, Var, FnCallStmt, ExprStmt, Return, an_expr, Stmts, no_stmts, stmt, IntegerConstant, CharConstant, StringConstant, Block}
 use Rattle.rhai_meaning.specs.Walk.{Node, OfExpr, OfStmt, Spot, RightSide, every, over_stmts, arms_at, arm_at, listed}
 use Rattle.rhai_meaning.proofs.Walk.{Alongside, stmts_alongside}
-use Rattle.rhai_parts.specs.Names.{are_all}
+use Rattle.rhai_names.specs.Names.{are_all}
 use Rattle.rhai_rewriting.specs.Context.{Context, known_behind, ListKind, Whole}
 use Rattle.rhai_rewriting.specs.Folding.{folded}
 use Rattle.rhai_rewriting.specs.Known.{Known, look}

@@ -1,6 +1,6 @@
 -- What may stand where, by tests.
 use Rattle.std.proofs.Common.{◌≡◌, map, Bool, true, false, not, ◌↔◌, IsTrue, List, [], ◌∷◌, Option, Some, None, is_some, refl, sym, ◌∙◌}
-use Rattle.rhai_parts.specs.declared.ident.Ident.{Ident}
+use Rattle.rhai_names.specs.declared.ident.Ident.{Ident}
 use Rattle.rhai_values.specs.Value.{Text}
 use Rattle.rhai_meaning.specs.Act.{Root}
 use Rattle.rhai_meaning.specs.Desugar.{root_of}

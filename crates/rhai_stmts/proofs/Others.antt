@@ -1,7 +1,7 @@
 -- All other statements, where a match names some.
 use Rattle.std.proofs.Common.{◌≡◌, false, Option, refl}
-use Rattle.rhai_parts.specs.declared.flags.ASTFlags.{ASTFlags}
-use Rattle.rhai_parts.specs.declared.ident.Ident.{Ident}
+use Rattle.rhai_names.specs.declared.flags.ASTFlags.{ASTFlags}
+use Rattle.rhai_names.specs.declared.ident.Ident.{Ident}
 use Rattle.rhai_tokens.specs.declared.position.Position.{Position}
 use Rattle.rhai_tree.specs.declared.block.StmtBlock.{StmtBlock}
 use Rattle.rhai_tree.specs.declared.expr.Expr as declared_expr

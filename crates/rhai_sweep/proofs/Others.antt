@@ -2,8 +2,8 @@
 use Rattle.std.proofs.Common.{◌≡◌, false, Option, refl}
 use Rattle.std.specs.declared.num.NonZeroU8.{NonZeroU8}
 use Rattle.std.specs.declared.num.NonZeroUsize.{NonZeroUsize}
-use Rattle.rhai_parts.specs.declared.flags.ASTFlags.{ASTFlags}
-use Rattle.rhai_parts.specs.declared.namespace.Namespace.{Namespace}
+use Rattle.rhai_names.specs.declared.flags.ASTFlags.{ASTFlags}
+use Rattle.rhai_names.specs.declared.namespace.Namespace.{Namespace}
 use Rattle.rhai_tokens.specs.declared.position.Position.{Position}
 use Rattle.rhai_values.specs.Value.{Text}
 use Rattle.rhai_tree.specs.declared.expr.Expr as declared_expr

@@ -2,11 +2,11 @@
 #![tactic(auto, using(crate::specs::Reading::kinds))]
 
 ghost use Rattle.std.specs.Prelude.{◌≡◌, ◌≢◌, ◌↔◌, ◌++◌, ◌∷◌, [], IsTrue, MatchOption, OnOk, OnErr, true, false};
-ghost use Rattle.rhai_parts.specs.Names.{is_valid_name};
+ghost use Rattle.rhai_names.specs.Names.{is_valid_name};
 
 use crate::Dynamic;
 use rhai_data::Seq;
-use rhai_parts::FnName;
+use rhai_names::FnName;
 use rhai_text::ImmutableString;
 use rhai_tokens::OutOfMemory;
 use std::alloc::Global;

@@ -1,7 +1,7 @@
 -- What stands below a declared node is what the theory has below its tree.
 use Rattle.std.proofs.Common.{◌≡◌, ℕ, zero, suc, List, [], ◌∷◌, ◌++◌, map, Option, Some, None, refl, sym, ap, ◌∙◌}
 use Rattle.std.proofs.lemmas.List.{map-append}
-use Rattle.rhai_parts.specs.declared.ident.Ident.{Ident}
+use Rattle.rhai_names.specs.declared.ident.Ident.{Ident}
 use Rattle.rhai_tree.specs.declared.expr.BinaryExpr.{BinaryExpr}
 use Rattle.rhai_tree.specs.declared.expr.Expr as declared_expr
 use Rattle.rhai_tree.specs.declared.stmt.Stmt as declared_stmt
@@ -59,7 +59,6 @@ listed_meant bs [] = refl
 listed_meant bs (i ∷ is) = two_meant (arm_at [] (map sides_standing bs) i) (listed_standing bs is) (arm_meant bs i) (listed_meant bs is)
 
 -- ---- nodes
-
 
 by : {cs : List Child} {ss ts : List Standing} → ts ≡ ss → cs ≡ all_meant ss → cs ≡ all_meant ts
 by {cs} {ss} {ts} e p = p ∙ ap all_meant (sym e)

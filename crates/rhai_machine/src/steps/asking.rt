@@ -12,8 +12,8 @@ ghost use Rattle.rhai_state.specs.Runs.{Acting, Leads};
 
 use crate::steps::machine::Machine;
 use rhai_base::{Dynamic, ImmutableString, Seq, Token};
-use rhai_forms::{builtin, fault_text};
 use rhai_host::{Host, HostAnswer, HostCall, ask};
+use rhai_run_nodes::{builtin, fault_text};
 use rhai_state::{Interrupt, State};
 
 impl<'a, H: Host> Machine<'a, H> {

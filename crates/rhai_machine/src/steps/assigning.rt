@@ -11,15 +11,15 @@ ghost use Rattle.rhai_meaning.specs.Engine.{assigning};
 ghost use Rattle.rhai_machine.specs.Setting.{setting};
 ghost use Rattle.rhai_state.specs.Evaluating.{Runs};
 ghost use Rattle.rhai_state.specs.Runs.{Acting};
-ghost use Rattle.rhai_forms.specs.Variables.{root_meant};
+ghost use Rattle.rhai_run_nodes.specs.Variables.{root_meant};
 ghost use Rattle.rhai_meaning.specs.Calls as calls;
 ghost use Rattle.rhai_meaning.specs.Chains as chains;
 
 use crate::steps::machine::Machine;
 use crate::steps::placing::Place;
 use rhai_base::{Dynamic, OpAssignment, Seq, Token};
-use rhai_forms::{Root, asks_assigning, assigning_name, assigning_operator};
 use rhai_host::Host;
+use rhai_run_nodes::{Root, asks_assigning, assigning_name, assigning_operator};
 use rhai_state::{Interrupt, State};
 
 impl<'a, H: Host> Machine<'a, H> {

@@ -7,7 +7,7 @@ ghost use Rattle.rhai_meaning.specs.Act.{Read};
 ghost use Rattle.rhai_machine.specs.Setting.{setting};
 ghost use Rattle.rhai_state.specs.Evaluating.{Runs, RunsCore};
 ghost use Rattle.rhai_state.specs.Runs.{Acting};
-ghost use Rattle.rhai_forms.specs.Variables.{root_meant};
+ghost use Rattle.rhai_run_nodes.specs.Variables.{root_meant};
 ghost use Rattle.rhai_values.specs.Reading.{value_of};
 ghost use Rattle.rhai_state.specs.declared.state.State.{State};
 ghost use Rattle.rhai_meaning.specs.Desugar as desugar;
@@ -15,8 +15,8 @@ ghost use Rattle.rhai_meaning.specs.Meaning as meaning;
 
 use crate::steps::machine::Machine;
 use rhai_base::{Dynamic, ImmutableString, Namespace};
-use rhai_forms::{Root, qualified};
 use rhai_host::{Host, Stuck};
+use rhai_run_nodes::{Root, qualified};
 use rhai_state::{Interrupt, State};
 
 impl<'a, H: Host> Machine<'a, H> {

@@ -17,9 +17,9 @@ ghost use Rattle.rhai_machine.specs.Placing as spec;
 use crate::steps::machine::Machine;
 use crate::steps::placing::Place;
 use rhai_base::Dynamic;
-use rhai_forms::{Root, position};
 use rhai_host::{Host, Stuck};
 use rhai_places::{PlaceKey, along, replace_along};
+use rhai_run_nodes::{Root, position};
 use rhai_state::{Interrupt, State};
 
 impl<'a, H: Host> Machine<'a, H> {

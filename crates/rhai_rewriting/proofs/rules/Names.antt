@@ -2,7 +2,7 @@
 use Rattle.std.proofs.Common.{◌≡◌, true, ℕ, Bool, false, [], Option, Some, None, refl, sym, subst, arith, ap}
 use Rattle.std.specs.Prelude.{◌&&◌, codes}
 use Rattle.rhai_values.specs.Value.{Text, Value, Fields, TextV, MapV, PointerV, values}
-use Rattle.rhai_parts.specs.Names.{is_valid_name}
+use Rattle.rhai_names.specs.Names.{is_valid_name}
 use Rattle.rhai_meaning.specs.Act.{ScopeEntry, Store, Unbound, Gives, Ended, At, OfName, Act, Read, found, read}
 use Rattle.rhai_meaning.specs.ActForms.{give, throw, choose, ◌>>=◌}
 use Rattle.rhai_meaning.specs.Chains.{OfProperty, OfIndex, applied}

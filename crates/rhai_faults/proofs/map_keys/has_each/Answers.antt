@@ -1,5 +1,5 @@
 use Rattle.std.proofs.Common.{◌&&◌, sym, ap, ◌∙◌}
-use Rattle.rhai_parts.specs.Names.{is_among}
+use Rattle.rhai_names.specs.Names.{is_among}
 use Rattle.rhai_meaning.specs.Shape.{are_among}
 use Rattle.rhai_reading.specs.Reading.{keys_of}
 use Rattle.rhai_faults.specs.MapKeys.{texts_of}

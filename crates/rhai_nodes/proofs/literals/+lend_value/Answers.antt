@@ -2,7 +2,7 @@ use Rattle.std.proofs.Common.{◌≡◌, List, [], ◌∷◌, ◌++◌, ◌+◌,
 use Rattle.std.specs.Cow.{cow_value}
 use Rattle.std.proofs.lemmas.List.{map-append}
 use Rattle.rhai_values.specs.declared.dynamic.Dynamic.{Dynamic}
-use Rattle.rhai_parts.specs.declared.ident.Ident.{Ident}
+use Rattle.rhai_names.specs.declared.ident.Ident.{Ident}
 use Rattle.rhai_tree.specs.declared.expr.Expr.{Expr}
 use Rattle.rhai_values.specs.Reading.{members_of, value_of, value_of-Array, value_of-Map, value_of-Str}
 use Rattle.rhai_values.specs.Value.{ArrayV, TextV, fields, values}

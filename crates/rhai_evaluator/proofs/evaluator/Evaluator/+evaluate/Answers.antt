@@ -32,8 +32,8 @@ use Rattle.rhai_state.specs.Evaluating.{arms_here, bodies_weight, body_of}
 use Rattle.rhai_state.specs.Runs.{Acting, Halting, Runs, given, stop_of}
 use Rattle.rhai_machine.specs.Placing.{current_in}
 use Rattle.rhai_state.specs.State.{store_of}
-use Rattle.rhai_forms.specs.LeftSides.{side_core}
-use Rattle.rhai_forms.specs.Variables.{qualified_in, root_meant}
+use Rattle.rhai_run_nodes.specs.LeftSides.{side_core}
+use Rattle.rhai_run_nodes.specs.Variables.{qualified_in, root_meant}
 use Rattle.rhai_state.specs.Entries.{scope_meant}
 use Rattle.rhai_state.specs.Words.{word_meant}
 use Rattle.rhai_machine.specs.declared.steps.parts.Access.TheVariants as reached
@@ -45,7 +45,7 @@ use Rattle.rhai_evaluator.proofs.ByKind.{array_of_expr, block_of_stmt, braces_of
 use Rattle.rhai_state.proofs.Counted.{each_ends, each_next, each_stops, for_array, for_body_runs, for_closed_range, for_other, for_range, for_round_runs, range_end, range_ends, range_next, range_start, range_stops}
 use Rattle.rhai_evaluator.proofs.Leaving.{catch_runs, try_catches, try_ends, try_stops}
 use Rattle.rhai_evaluator.proofs.Nodes.{call_stuck, call_stops, call_runs, called_as, called_in_module}
-use Rattle.rhai_forms.proofs.Callees.{named_callee, qualified_callee}
+use Rattle.rhai_run_nodes.proofs.Callees.{named_callee, qualified_callee}
 use Rattle.rhai_evaluator.proofs.OperatorCalls.{left_stops, operands_run, operands_stop, operator_runs, right_stops, two_run}
 use Rattle.rhai_state.proofs.Goes.{leads_then, stops_by, value_goes}
 use Rattle.rhai_evaluator.proofs.Invoked.{back_is, invoke_goes, invoke_late, invoke_stops}

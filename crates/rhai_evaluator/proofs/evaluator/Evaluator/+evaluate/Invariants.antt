@@ -11,7 +11,7 @@ use Rattle.rhai_meaning.specs.Control.{round}
 use Rattle.rhai_functions.specs.FnLib.{functions_of}
 use Rattle.rhai_meaning.specs.Desugar.{core_expr}
 use Rattle.rhai_state.specs.Evaluating.{bodies_weight, body_of}
-use Rattle.rhai_forms.specs.LeftSides.{side_weight}
+use Rattle.rhai_run_nodes.specs.LeftSides.{side_weight}
 use Rattle.rhai_state.proofs.Loops.{do_round, guarded_round}
 use Rattle.rhai_state.proofs.Rounds.{LoopAt}
 use Rattle.rhai_state.proofs.Counted.{CountAt, EachAt}

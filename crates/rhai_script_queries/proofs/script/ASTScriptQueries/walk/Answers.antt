@@ -32,5 +32,5 @@ returns-clause-walks g c =
     let qs : List Path = bodies_paths c.args.self.now.lib.value.functions in (
       c.walk_bodies.new.path.items,
       over_two g.F.FnMut (statements_standing c.args.self.now.body.block) (bodies_standing c.args.self.now.lib.value.functions) (subst (λ (front : List ASTNode). Walks g.F.FnMut front c.walk_bodies.result c.args.on_node.now (ps ++ qs) c.walk_bodies.new.on_node c.walk_bodies.new.path.items) c.new-path.ensures.items
-          (first_agrees g.F.FnMut c.new-path.result.items c.args.on_node.now ps qs _ c.walk_statements.new.on_node c.walk_statements.new.path.items c.walk_bodies.result c.walk_bodies.new.on_node c.walk_bodies.new.path.items c.if-not-branch.false (walked g.F.FnMut (rw c.statements.ensures at c.in_ok-walk_statements.ensures.walks)) (walked g.F.FnMut (rw (c.deref-lib.ensures, c.shared_lib.ensures) at c.walk_bodies.ensures.walks))),
+          (first_agrees g.F.FnMut c.new-path.result.items c.args.on_node.now ps qs _ c.walk_statements.new.on_node c.walk_statements.new.path.items c.walk_bodies.result c.walk_bodies.new.on_node c.walk_bodies.new.path.items c.if-not-branch.false (walked g.F.FnMut (rw c.statements.ensures at c.in_ok-walk_statements.ensures.walks)) (walked g.F.FnMut (rw (c.deref-lib.ensures, c.shared_lib.ensures) at c.walk_bodies.ensures.walks)))),
     )

@@ -3,7 +3,7 @@ use Rattle.rhai_values.specs.Reading.{value_of}
 use Rattle.rhai_machine.specs.Setting.{setting}
 use Rattle.rhai_state.specs.Evaluating.{Runs}
 use Rattle.rhai_state.specs.Runs.{Acting}
-use Rattle.rhai_forms.proofs.Assigning.{assigned_asks}
+use Rattle.rhai_run_nodes.proofs.Assigning.{assigned_asks}
 use Rattle.rhai_machine.proofs.steps.machine.Machine.assigned.Goals as goal
 
 pub returns-in_ok-args : goal.returns-in_ok-args

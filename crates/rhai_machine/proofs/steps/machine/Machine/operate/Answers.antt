@@ -6,7 +6,7 @@ use Rattle.rhai_machine.specs.Setting.{setting}
 use Rattle.rhai_state.specs.Evaluating.{Runs}
 use Rattle.rhai_state.specs.Runs.{Acting}
 use Rattle.rhai_engine.specs.EngineInfo.{built_in_at}
-use Rattle.rhai_forms.proofs.Callees.{operates_by_host}
+use Rattle.rhai_run_nodes.proofs.Callees.{operates_by_host}
 use Rattle.rhai_machine.proofs.steps.machine.Machine.operate.Goals as goal
 
 pub returns : goal.returns

@@ -1,0 +1,31 @@
+//! What an expression is as a left side.
+
+#![tactic(auto, using(rhai_reading::specs::Reading::shapes))]
+
+ghost use Rattle.std.specs.Prelude.{◌≤◌, IfSome};
+ghost use Rattle.rhai_reading.specs.Reading.{expr_of};
+ghost use Rattle.rhai_meaning.specs.Weight.{expr_weight};
+ghost use Rattle.rhai_run_nodes.specs.LeftSides as spec;
+
+use rhai_ast::Expr;
+use rhai_host::Host;
+use rhai_machine::Machine;
+use rhai_run_nodes::{LeftSide, Root, named_side, part_side};
+
+/// What an expression is as a left side; `None` where it cannot be one. Whether it may be written is tested last, after
+/// the right side's calls.
+pub fn left_side<'e, H: Host>(machine: &Machine<H>, expr: &'e Expr) -> Option<LeftSide<'e>>
+    ensures side { spec.IsSide (expr_of expr.now) result }
+    ensures weight { IfSome result (λ d. spec.side_weight d ≤ expr_weight (expr_of expr.now)) }
+{
+    match expr {
+        Expr::Variable(variable, _, _) => {
+            let (_, name, namespace) = variable.get();
+            Some(named_side(name, namespace))
+        }
+        Expr::ThisPtr(_) => Some(LeftSide::Root(Root::This)),
+        Expr::Dot(sides, options, _) => Some(part_side(sides.get(), true, *options)),
+        Expr::Index(sides, options, _) => Some(part_side(sides.get(), false, *options)),
+        _ => None,
+    }
+}

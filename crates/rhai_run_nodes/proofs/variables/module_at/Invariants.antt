@@ -1,0 +1,11 @@
+use Rattle.std.proofs.Common.{◌≡◌, length}
+use Rattle.rhai_meaning.specs.Act.{resolved}
+use Rattle.rhai_state.specs.Entries.{scope_meant}
+use Rattle.rhai_run_nodes.proofs.variables.module_at.Given as goal
+
+-- what is left decides
+abbrev pub invariant-loop-last : goal.invariant-loop-last
+invariant-loop-last l = resolved (scope_meant l.rest) l.name ≡ resolved (scope_meant l.scope) l.name
+
+abbrev pub decreases-loop-last : goal.decreases-loop-last
+decreases-loop-last l = length l.rest

@@ -1,0 +1,66 @@
+//! What can be assigned to.
+
+#![tactic(auto, using(rhai_reading::specs::Reading::shapes))]
+
+ghost use Rattle.std.specs.Prelude.{◌≡◌};
+ghost use Rattle.rhai_reading.specs.Reading.{expr_of, path_of};
+ghost use Rattle.rhai_meaning.specs.Desugar as desugar;
+ghost use Rattle.rhai_run_nodes.specs.LeftSides as spec;
+
+use crate::links::Rest;
+use crate::variables::Root;
+use bitflags::Flags;
+use rhai_ast::{BinaryExpr, Expr};
+use rhai_base::{ASTFlags, ImmutableString, Namespace};
+
+/// The left side of an assignment.
+#[derive(Clone, Copy)]
+pub enum LeftSide<'a> {
+    /// A name or `this`.
+    Root(Root<'a>),
+    /// The part that a chain leads to, by its base and what is left of it then.
+    Part(&'a Expr, Rest<'a>),
+    /// A name in a module.
+    Nowhere,
+}
+
+/// A name as a left side.
+pub fn named_side<'a>(name: &'a ImmutableString, namespace: &Namespace) -> LeftSide<'a>
+    ensures side { (loop : _) → desugar.name_target (path_of namespace.now) name.now ≡ spec.side_core loop result }
+    ensures weight { spec.side_weight result ≡ 0 }
+{
+    if namespace.is_empty() {
+        LeftSide::Root(Root::Name(name))
+    } else {
+        LeftSide::Nowhere
+    }
+}
+
+/// A chain as a left side, by its outermost node.
+pub fn part_side(sides: &BinaryExpr, is_dot: bool, options: ASTFlags) -> LeftSide<'_>
+    ensures { spec.IsPart sides.now is_dot options result }
+{
+    let rest = Rest {
+        is_dot,
+        options,
+        right: &sides.rhs,
+    };
+    LeftSide::Part(&sides.lhs, rest)
+}
+
+/// Whether a chain ends in a method's call, by its outermost node.
+#[cycle(call_end)]
+pub fn ends_in_call(is_dot: bool, is_last: bool, right: &Expr) -> bool
+    ensures { result ≡ desugar.ends_in_call is_dot is_last (expr_of right.now) }
+{
+    match right {
+        Expr::MethodCall(_, _) => is_dot,
+        Expr::Dot(sides, options, _) => {
+            !is_last && ends_in_call(true, options.contains(ASTFlags::BREAK), &sides.get().rhs)
+        }
+        Expr::Index(sides, options, _) => {
+            !is_last && ends_in_call(false, options.contains(ASTFlags::BREAK), &sides.get().rhs)
+        }
+        _ => false,
+    }
+}

@@ -1,0 +1,83 @@
+//! The nodes of a chain.
+
+#![tactic(auto, using(rhai_reading::specs::Reading::shapes, rhai_values::specs::Reading::kinds))]
+
+ghost use Rattle.std.specs.Prelude.{◌≡◌, false, ◌+◌, ◌≤◌, IfSome};
+ghost use Rattle.rhai_reading.specs.Reading.{chain_flags, expr_of};
+ghost use Rattle.rhai_meaning.specs.Weight.{expr_weight};
+ghost use Rattle.rhai_meaning.specs.Shape as shape;
+ghost use Rattle.rhai_run_nodes.specs.Links as spec;
+
+use bitflags::Flags;
+use rhai_ast::{BinaryExpr, Expr};
+use rhai_base::ASTFlags;
+use rhai_faults::is_rest;
+
+/// What is left of a chain: the right side of a `.` or an index.
+#[derive(Clone, Copy)]
+pub struct Rest<'a> {
+    /// Whether it is that of a `.`.
+    pub is_dot: bool,
+    /// The flags of its node.
+    pub options: ASTFlags,
+    /// The side.
+    pub right: &'a Expr,
+}
+
+/// The first step of what is left of a chain.
+#[derive(Clone, Copy)]
+pub struct Link<'a> {
+    /// What stands behind the `.` or in the index.
+    pub argument: &'a Expr,
+    /// What is left then.
+    pub rest: Option<Rest<'a>>,
+}
+
+impl<'a> Rest<'a> {
+    /// The first step, and what is left then.
+    pub fn link(self) -> Link<'a>
+        ensures steps { (loop : _) → spec.rest_steps loop self.entry ≡ spec.link_steps loop self.entry result }
+        ensures argument { expr_weight (expr_of result.argument.now) ≤ expr_weight (expr_of self.entry.right.now) }
+        ensures rest { IfSome result.rest (λ r.
+            expr_weight (expr_of r.right.now) + 1 ≤ expr_weight (expr_of self.entry.right.now)) }
+    {
+        if self.options.contains(ASTFlags::BREAK) {
+            return last_link(self.right);
+        }
+        match self.right {
+            Expr::Dot(sides, options, _) => inner_link(sides.get(), true, *options),
+            Expr::Index(sides, options, _) => inner_link(sides.get(), false, *options),
+            _ => last_link(self.right),
+        }
+    }
+}
+
+/// Whether the outermost node of a chain has a meaning.
+pub fn is_chain(is_dot: bool, options: ASTFlags, right: &Expr) -> bool
+    ensures { result ≡ shape.is_chain is_dot (chain_flags options) (expr_of right.now) }
+{
+    is_rest(is_dot, options.contains(ASTFlags::BREAK), right)
+}
+
+fn last_link(argument: &Expr) -> Link<'_>
+    ensures { spec.IsLast argument.now result }
+{
+    Link {
+        argument,
+        rest: None,
+    }
+}
+
+/// By a node at the right side.
+fn inner_link(sides: &BinaryExpr, is_dot: bool, options: ASTFlags) -> Link<'_>
+    ensures { spec.IsInner sides.now is_dot options result }
+{
+    Link {
+        argument: &sides.lhs,
+        rest: Some(Rest {
+            is_dot,
+            options,
+            right: &sides.rhs,
+        }),
+    }
+}
