@@ -23,7 +23,7 @@ pub use rhai_tree::{
     BinaryExpr, Expr, FlowControl, FnAccess, FnCallExpr, FnNamespace, ScriptFuncDef, Stmt,
     StmtBlock, StmtBlockContainer, SwitchBlock, SwitchCasesCollection,
 };
-pub use rhai_walk::{ASTNode, walk_statements};
+pub use rhai_walk::{ASTNode, ChainType, walk_statements};
 pub use switch::SwitchCases;
 pub use take::Take;
 pub use walk::Walk;

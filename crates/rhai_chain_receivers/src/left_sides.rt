@@ -7,7 +7,7 @@ ghost use Rattle.rhai_reading.specs.Reading.{expr_of};
 ghost use Rattle.rhai_meaning.specs.Weight.{expr_weight};
 ghost use Rattle.rhai_run_nodes.specs.LeftSides as spec;
 
-use rhai_ast::Expr;
+use rhai_ast::{ChainType, Expr};
 use rhai_host::Host;
 use rhai_machine::Machine;
 use rhai_run_nodes::{LeftSide, Root, named_side, part_side};
@@ -24,8 +24,12 @@ pub fn left_side<'e, H: Host>(machine: &Machine<H>, expr: &'e Expr) -> Option<Le
             Some(named_side(name, namespace))
         }
         Expr::ThisPtr(_) => Some(LeftSide::Root(Root::This)),
-        Expr::Dot(sides, options, _) => Some(part_side(sides.get(), true, *options)),
-        Expr::Index(sides, options, _) => Some(part_side(sides.get(), false, *options)),
+        Expr::Dot(sides, options, _) => Some(part_side(sides.get(), ChainType::Dotting, *options)),
+        Expr::Index(sides, options, _) => Some(part_side(
+            sides.get(),
+            ChainType::Indexing,
+            *options,
+        )),
         _ => None,
     }
 }

@@ -23,8 +23,8 @@ use Rattle.rhai_steps.specs.NodeSteps.{ExprStep}
 use Rattle.rhai_steps.specs.Standing.{may_stand}
 use Rattle.rhai_steps.proofs.Places.{stands}
 use Rattle.rhai_steps.proofs.Stepping.{expr_stays}
-use Rattle.rhai_part_rules.specs.declared.asking.Access.{Access}
-use Rattle.rhai_part_rules.specs.declared.asking.Access.TheVariants as access_kind
+use Rattle.rhai_walk.specs.declared.node.ChainType.{ChainType}
+use Rattle.rhai_walk.specs.declared.node.ChainType.TheVariants as access_kind
 use Rattle.rhai_part_rules.specs.Answers.{constant_answer, known_answer, other_than_unit, allowed}
 use Rattle.rhai_chain_rules.specs.Chains.{ended_by, unit_ends_by, value_answer, chain_of, IsTaken, PartStep, SidesStep, ChainStep}
 use Rattle.rhai_part_rules.specs.Literals.{literal_part, allowed_part, literal_answer}
@@ -42,31 +42,31 @@ unit_value : (e : Expr) → is_unit_expr e ≡ true → constant_value e ≡ Som
 unit_value UnitConstant h = refl
 unit_value _ h = absurd cc
 
-some_is : (a b : Access) → Some a ≡ Some b → a ≡ b
+some_is : (a b : ChainType) → Some a ≡ Some b → a ≡ b
 some_is a b h = cc
 
-ended_so : (a b : Access) (c : Bool) → ended_by a c ≡ Some b → (a ≡ b) × (c ≡ true)
+ended_so : (a b : ChainType) (c : Bool) → ended_by a c ≡ Some b → (a ≡ b) × (c ≡ true)
 ended_so a b true h = (some_is a b h, refl)
 ended_so a b false h = absurd (let z : None ≡ Some b = h in cc)
 
 module _ (r : Engine) (p : Place) (s s' : Progress) (e' : Expr) (d : s'.is_dirty ≡ true) (k : s'.known ≡ s.known) (i : e' ≡ UnitConstant) where
-  pub unit_ends_dot : (e : Expr) → unit_ends_by p e ≡ Some access_kind.Dot → ExprStep true r p s s' e e'
+  pub unit_ends_dot : (e : Expr) → unit_ends_by p e ≡ Some access_kind.Dotting → ExprStep true r p s s' e e'
   unit_ends_dot (Dot f l m) h =
-      let a = both_true (may_stand p UnitConstant) _ (ended_so access_kind.Dot access_kind.Dot _ h).1 in
+      let a = both_true (may_stand p UnitConstant) _ (ended_so access_kind.Dotting access_kind.Dotting _ h).1 in
       let b = both_true f.negated (is_unit_expr l) a.1 in
       subst (λ x. ExprStep true r p s s' (Dot f l m) x) (sym i)
       (record { rule = rule.unit_ends_dot b.0 (unit_value l b.1); stays = stands p _ _ refl refl a.0; fired = d; known = k }, keeps_unit _)
-  unit_ends_dot (Index f l m) h = absurd (let z = (ended_so access_kind.Index access_kind.Dot _ h).0 in cc)
-  unit_ends_dot _ h = absurd (let z : None ≡ Some access_kind.Dot = h in cc)
+  unit_ends_dot (Index f l m) h = absurd (let z = (ended_so access_kind.Indexing access_kind.Dotting _ h).0 in cc)
+  unit_ends_dot _ h = absurd (let z : None ≡ Some access_kind.Dotting = h in cc)
 
-  pub unit_ends_index : (e : Expr) → unit_ends_by p e ≡ Some access_kind.Index → ExprStep true r p s s' e e'
+  pub unit_ends_index : (e : Expr) → unit_ends_by p e ≡ Some access_kind.Indexing → ExprStep true r p s s' e e'
   unit_ends_index (Index f l m) h =
-      let a = both_true (may_stand p UnitConstant) _ (ended_so access_kind.Index access_kind.Index _ h).1 in
+      let a = both_true (may_stand p UnitConstant) _ (ended_so access_kind.Indexing access_kind.Indexing _ h).1 in
       let b = both_true f.negated (is_unit_expr l) a.1 in
       subst (λ x. ExprStep true r p s s' (Index f l m) x) (sym i)
       (record { rule = rule.unit_ends_index b.0 (unit_value l b.1); stays = stands p _ _ refl refl a.0; fired = d; known = k }, keeps_unit _)
-  unit_ends_index (Dot f l m) h = absurd (let z = (ended_so access_kind.Dot access_kind.Index _ h).0 in cc)
-  unit_ends_index _ h = absurd (let z : None ≡ Some access_kind.Index = h in cc)
+  unit_ends_index (Dot f l m) h = absurd (let z = (ended_so access_kind.Dotting access_kind.Indexing _ h).0 in cc)
+  unit_ends_index _ h = absurd (let z : None ≡ Some access_kind.Indexing = h in cc)
 
 -- ---- what may stand there
 

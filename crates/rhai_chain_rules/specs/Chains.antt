@@ -12,20 +12,20 @@ use Rattle.rhai_rewriting.specs.Steps.{AnswersNone, Place}
 use Rattle.rhai_steps.specs.Standing.{may_stand}
 use Rattle.rhai_tree.specs.declared.expr.BinaryExpr.{BinaryExpr}
 use Rattle.rhai_tree.specs.declared.expr.Expr as declared
-use Rattle.rhai_part_rules.specs.declared.asking.Access.{Access}
-use Rattle.rhai_part_rules.specs.declared.asking.Access.TheVariants as access_kind
+use Rattle.rhai_walk.specs.declared.node.ChainType.{ChainType}
+use Rattle.rhai_walk.specs.declared.node.ChainType.TheVariants as access_kind
 use Rattle.rhai_part_rules.specs.Answers.{constant_answer, known_answer, allowed}
 use Rattle.rhai_part_rules.specs.Literals.{literal_answer}
 use Rattle.rhai_chain_rules.specs.Onward.{argument, onward, Rewrites}
 
 -- a chain that ends with unit, past a `?` of unit, where it may become unit: by which node
-abbrev pub ended_by : Access → Bool → Option Access
+abbrev pub ended_by : ChainType → Bool → Option ChainType
 ended_by a true = Some a
 ended_by a false = None
 
-abbrev pub unit_ends_by : Place → Expr → Option Access
-unit_ends_by p (Dot f l r) = ended_by access_kind.Dot (may_stand p UnitConstant && (f.negated && is_unit l))
-unit_ends_by p (Index f l r) = ended_by access_kind.Index (may_stand p UnitConstant && (f.negated && is_unit l))
+abbrev pub unit_ends_by : Place → Expr → Option ChainType
+unit_ends_by p (Dot f l r) = ended_by access_kind.Dotting (may_stand p UnitConstant && (f.negated && is_unit l))
+unit_ends_by p (Index f l r) = ended_by access_kind.Indexing (may_stand p UnitConstant && (f.negated && is_unit l))
 unit_ends_by p _ = None
 
 -- by value: at a constant, or at a known name

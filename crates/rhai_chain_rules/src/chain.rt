@@ -19,19 +19,19 @@ ghost use Rattle.rhai_steps.specs.NodeSteps.{ExprStep};
 ghost use Rattle.rhai_steps.specs.Places.{place_of};
 ghost use Rattle.rhai_steps.specs.Standing as standing;
 ghost use Rattle.rhai_part_rules.specs.Answers as answers;
-ghost use Rattle.rhai_part_rules.specs.Asking.{is_dot};
-ghost use Rattle.rhai_part_rules.specs.declared.asking.Access.TheVariants as access_kind;
+ghost use Rattle.rhai_walk.specs.Nodes.{is_dot};
+ghost use Rattle.rhai_walk.specs.declared.node.ChainType.TheVariants as access_kind;
 ghost use Rattle.rhai_chain_rules.specs.Chains.{IsTaken, PartStep, SidesStep, ChainStep};
 ghost use Rattle.rhai_chain_rules.specs.Chains.{ended_by, unit_ends_by, value_answer};
 ghost use Rattle.rhai_chain_rules.specs.Onward as onward;
 
 use crate::onward::{argument, onward, reach, unit_may_stand};
 use bitflags::Flags;
-use rhai_ast::{BinaryExpr, Expr, ExprQueries, Literals};
+use rhai_ast::{BinaryExpr, ChainType, Expr, ExprQueries, Literals};
 use rhai_base::{ASTFlags, Boxed, Dynamic, OutOfMemory, Position};
 use rhai_engine::EngineInfo;
 use rhai_nodes::put_expr;
-use rhai_part_rules::{Access, constant_answer, known_answer, literal_answer, take_part};
+use rhai_part_rules::{constant_answer, known_answer, literal_answer, take_part};
 use rhai_steps::{OptimizerState, Place, may_be_unit, note_fired, put_unit};
 use std::alloc::Global;
 
@@ -43,7 +43,7 @@ fn is_ended(place: Place, flags: ASTFlags, base: &Expr) -> bool
     may_be_unit(place) && flags.contains(ASTFlags::NEGATED) && base.is_unit()
 }
 
-fn ended(place: Place, flags: ASTFlags, base: &Expr, access: Access) -> Option<Access>
+fn ended(place: Place, flags: ASTFlags, base: &Expr, access: ChainType) -> Option<ChainType>
     ensures { result
         ≡ ended_by access
         (standing.may_stand (place_of place) UnitConstant
@@ -57,19 +57,19 @@ fn ended(place: Place, flags: ASTFlags, base: &Expr, access: Access) -> Option<A
 }
 
 /// By which node a chain over unit, past a `?`, is unit, if by one.
-fn unit_ends(place: Place, expr: &Expr) -> Option<Access>
+fn unit_ends(place: Place, expr: &Expr) -> Option<ChainType>
     ensures { result ≡ unit_ends_by (place_of place) (expr_of expr.now) }
 {
     match expr {
-        Expr::Dot(sides, flags, _) => ended(place, *flags, &sides.get().lhs, Access::Dot),
-        Expr::Index(sides, flags, _) => ended(place, *flags, &sides.get().lhs, Access::Index),
+        Expr::Dot(sides, flags, _) => ended(place, *flags, &sides.get().lhs, ChainType::Dotting),
+        Expr::Index(sides, flags, _) => ended(place, *flags, &sides.get().lhs, ChainType::Indexing),
         _ => None,
     }
 }
 
 /// `()?.r` is `()`.
 fn unit_ends_dot(state: &mut OptimizerState<'_>, expr: &mut Expr)
-    ensures { (p : steps.Place) (r : Engine) → unit_ends_by p (expr_of expr.old) ≡ Some access_kind.Dot
+    ensures { (p : steps.Place) (r : Engine) → unit_ends_by p (expr_of expr.old) ≡ Some access_kind.Dotting
         → ExprStep true r p (progress state.old) (progress state.new) (expr_of expr.old) (expr_of expr.new) }
 {
     put_unit(state, expr);
@@ -77,19 +77,19 @@ fn unit_ends_dot(state: &mut OptimizerState<'_>, expr: &mut Expr)
 
 /// `()?[r]` is `()`.
 fn unit_ends_index(state: &mut OptimizerState<'_>, expr: &mut Expr)
-    ensures { (p : steps.Place) (r : Engine) → unit_ends_by p (expr_of expr.old) ≡ Some access_kind.Index
+    ensures { (p : steps.Place) (r : Engine) → unit_ends_by p (expr_of expr.old) ≡ Some access_kind.Indexing
         → ExprStep true r p (progress state.old) (progress state.new) (expr_of expr.old) (expr_of expr.new) }
 {
     put_unit(state, expr);
 }
 
-fn end_in_unit(state: &mut OptimizerState<'_>, expr: &mut Expr, access: Access)
+fn end_in_unit(state: &mut OptimizerState<'_>, expr: &mut Expr, access: ChainType)
     ensures { (p : steps.Place) (r : Engine) → unit_ends_by p (expr_of expr.old) ≡ Some access
         → ExprStep true r p (progress state.old) (progress state.new) (expr_of expr.old) (expr_of expr.new) }
 {
     match access {
-        Access::Dot => unit_ends_dot(state, expr),
-        Access::Index => unit_ends_index(state, expr),
+        ChainType::Dotting => unit_ends_dot(state, expr),
+        ChainType::Indexing => unit_ends_index(state, expr),
     }
 }
 
@@ -128,7 +128,7 @@ fn value_answer(
     alloc: Global,
     info: &EngineInfo,
     state: &OptimizerState<'_>,
-    access: Access,
+    access: ChainType,
     flags: ASTFlags,
     sides: &BinaryExpr,
     unit: bool,
@@ -152,7 +152,7 @@ fn value_answer(
 /// The part of a literal that the first step answers, out of its place.
 fn literal_taken(
     alloc: Global,
-    access: Access,
+    access: ChainType,
     flags: ASTFlags,
     sides: &mut BinaryExpr,
     unit: bool,
@@ -171,7 +171,7 @@ fn first_answer(
     alloc: Global,
     info: &EngineInfo,
     state: &OptimizerState<'_>,
-    access: Access,
+    access: ChainType,
     flags: ASTFlags,
     sides: &mut BinaryExpr,
     place: Place,
@@ -192,7 +192,7 @@ fn sides_answer(
     alloc: Global,
     info: &EngineInfo,
     state: &OptimizerState<'_>,
-    access: Access,
+    access: ChainType,
     flags: ASTFlags,
     sides: &mut BinaryExpr,
     place: Place,
@@ -225,7 +225,7 @@ fn chain_answer(
                 alloc,
                 info,
                 state,
-                Access::Dot,
+                ChainType::Dotting,
                 *flags,
                 sides.get_mut(),
                 place,
@@ -236,7 +236,7 @@ fn chain_answer(
                 alloc,
                 info,
                 state,
-                Access::Index,
+                ChainType::Indexing,
                 *flags,
                 sides.get_mut(),
                 place,

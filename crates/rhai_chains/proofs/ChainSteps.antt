@@ -41,6 +41,7 @@ use Rattle.rhai_state.specs.Runs.{Setting, Acting, Goes, Leads, Runs, given}
 use Rattle.rhai_state.specs.State.{store_of}
 use Rattle.rhai_run_nodes.proofs.Callees.{count_exprs_of}
 use Rattle.rhai_state.proofs.Goes.{goes_as, goes_then, leads_then, stops_then}
+use Rattle.rhai_walk.specs.Nodes.{is_dot}
 
 -- ---- chains by their outermost node
 
@@ -71,7 +72,7 @@ module _ (here : Setting) (loop : Bool) (e : tree.Expr) (s s1 : State) where
 
 module _ (here : Setting) (loop : Bool) (rest : Rest) (l : Link) (h : rest_steps loop rest ≡ link_steps loop rest l) where
   abbrev pub step_here : core.Step
-  step_here = step_core loop rest.is_dot (expr_of l.argument.now)
+  step_here = step_core loop (is_dot rest.chain) (expr_of l.argument.now)
 
   head_by : (o : Option Rest) → head_of (steps_on loop (is_negated rest.options) step_here o) ≡ step_here
   head_by None = refl
@@ -134,13 +135,13 @@ module _ (here : Setting) (loop : Bool) (rest : Rest) (l : Link) (h : rest_steps
     old = current_in here (store_of s) c
 
     module _ (e : (is_negated rest.options && is_unit old.value) ≡ false) where
-      to_access : (next : chains.Access → places.Current → Act) → Goes here (Acting (first_step (head_of (rest_steps loop rest)) old next)) s (Acting (access here.world (step_core loop rest.is_dot (expr_of l.argument.now)) (λ a. refreshed old (λ d. next a d)))) s
+      to_access : (next : chains.Access → places.Current → Act) → Goes here (Acting (first_step (head_of (rest_steps loop rest)) old next)) s (Acting (access here.world (step_core loop (is_dot rest.chain) (expr_of l.argument.now)) (λ a. refreshed old (λ d. next a d)))) s
       to_access next =
           goes_then here (goes_as here _ _ s (ap (λ o. Acting (choose o unit (access here.world (head_of (rest_steps loop rest)) (λ a. refreshed old (λ d. next a d))))) e))
           (goes_as here _ _ s (ap (λ p. Acting (access here.world p (λ a. refreshed old (λ d. next a d)))) head_is))
 
       module _ (s1 : State) where
-        module _ (a : Access) (q : HasAccess here (step_core loop rest.is_dot (expr_of l.argument.now)) s (Ok a) s1) where
+        module _ (a : Access) (q : HasAccess here (step_core loop (is_dot rest.chain) (expr_of l.argument.now)) s (Ok a) s1) where
           abbrev Again : Result Unit Interrupt → Type 0
           Again z = (u : Value) (next : places.Current → Act) → Leads here (Acting (refreshed (made c u) next)) s1 z s1 (λ i. Acting (next (current_in here (store_of s1) c)))
 

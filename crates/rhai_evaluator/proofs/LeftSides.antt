@@ -24,13 +24,14 @@ use Rattle.rhai_state.specs.Runs.{Setting, Acting, Leads, given}
 use Rattle.rhai_state.specs.State.{store_of}
 use Rattle.rhai_run_nodes.specs.LeftSides.{part_core}
 use Rattle.rhai_state.proofs.Goes.{leads_then}
+use Rattle.rhai_walk.specs.Nodes.{is_dot}
 
 module _ (here : Setting) (loop : Bool) (l : tree.Expr) (rest : Rest) (o : Option Operator) (v : Value) (s : State) where
   abbrev chained : Bool
-  chained = is_chain rest.is_dot (chain_flags rest.options) (expr_of rest.right.now)
+  chained = is_chain (is_dot rest.chain) (chain_flags rest.options) (expr_of rest.right.now)
 
   abbrev called : Bool
-  called = ends_in_call rest.is_dot (breaks rest.options) (expr_of rest.right.now)
+  called = ends_in_call (is_dot rest.chain) (breaks rest.options) (expr_of rest.right.now)
 
   abbrev part_by_tests : Bool → Option act.Root → Bool → core.Target
   part_by_tests b r c = cond b (part_target r c (rest_steps loop rest)) core.IllTarget

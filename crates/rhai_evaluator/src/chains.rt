@@ -15,10 +15,11 @@ ghost use Rattle.rhai_meaning.specs.Chains as chains;
 ghost use Rattle.rhai_meaning.specs.Desugar as desugar;
 ghost use Rattle.rhai_meaning.specs.Meaning as meaning;
 ghost use Rattle.rhai_machine.specs.Chaining as spec;
+ghost use Rattle.rhai_walk.specs.Nodes.{is_dot};
 
 use crate::evaluator::Evaluator;
 use bitflags::Flags;
-use rhai_ast::{BinaryExpr, Expr, FnCallExpr};
+use rhai_ast::{BinaryExpr, ChainType, Expr, FnCallExpr};
 use rhai_base::{ASTFlags, Dynamic};
 use rhai_chains::{index_step, property_step};
 use rhai_host::{Host, Stuck};
@@ -34,20 +35,20 @@ impl<'a, H: Host> Evaluator<'a, H> {
         &self,
         state: &mut State,
         sides: &BinaryExpr,
-        is_dot: bool,
+        chain: ChainType,
         options: ASTFlags,
     ) -> Result<Dynamic, Interrupt>
         ensures { RunsCore (setting H.answers H.modules self.now.machine)
-            (spec.chain_core self.now.in_loop is_dot (chain_flags options) (expr_of sides.now.lhs)
+            (spec.chain_core self.now.in_loop (is_dot chain) (chain_flags options) (expr_of sides.now.lhs)
             (expr_of sides.now.rhs))
             state.old result state.new }
     {
-        if !is_chain(is_dot, options, &sides.rhs) {
+        if !is_chain(chain, options, &sides.rhs) {
             return Err(Interrupt::Stuck(Stuck::WrongKind));
         }
         let base = self.base(state, &sides.lhs)?;
         let rest = Rest {
-            is_dot,
+            chain,
             options,
             right: &sides.rhs,
         };
@@ -109,7 +110,7 @@ impl<'a, H: Host> Evaluator<'a, H> {
             return Ok(None);
         }
         let link = rest.link();
-        let access = self.access(state, rest.is_dot, link.argument)?;
+        let access = self.access(state, rest.chain, link.argument)?;
         self.machine.refreshed(state, current)?;
         Ok(Some(access))
     }
@@ -119,13 +120,13 @@ impl<'a, H: Host> Evaluator<'a, H> {
     fn access<'e>(
         &self,
         state: &mut State,
-        is_dot: bool,
+        chain: ChainType,
         argument: &'e Expr,
     ) -> Result<Access<'e>, Interrupt>
         ensures { let here = setting H.answers H.modules self.now.machine in
-            spec.HasAccess here (step_core self.now.in_loop is_dot (expr_of argument.now)) state.old result state.new }
+            spec.HasAccess here (step_core self.now.in_loop (is_dot chain) (expr_of argument.now)) state.old result state.new }
     {
-        if !is_dot {
+        if !chain.is_dot() {
             return Ok(Access::Index(self.expr(state, argument)?));
         }
         match argument {

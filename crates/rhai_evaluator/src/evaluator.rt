@@ -9,7 +9,7 @@ ghost use Rattle.rhai_meaning.specs.Tree.{MapOf};
 ghost use Rattle.rhai_machine.specs.Setting.{setting};
 ghost use Rattle.rhai_state.specs.Evaluating.{RunsCore, RunsExpr, RunsExprs, RunsMaybe, RunsMembers};
 
-use rhai_ast::Expr;
+use rhai_ast::{ChainType, Expr};
 use rhai_base::{Boxed, Dynamic, Ident, Seq, StringMap};
 use rhai_host::{Host, Stuck};
 use rhai_machine::Machine;
@@ -87,8 +87,18 @@ impl<'a, H: Host> Evaluator<'a, H> {
             Expr::Coalesce(operands, _) => self.first_some(state, operands.get().as_slice()),
             Expr::Property(_, _) => Err(Interrupt::Stuck(Stuck::WrongKind)),
             Expr::MethodCall(_, _) => Err(Interrupt::Stuck(Stuck::WrongKind)),
-            Expr::Dot(sides, options, _) => self.chain(state, sides.get(), true, *options),
-            Expr::Index(sides, options, _) => self.chain(state, sides.get(), false, *options),
+            Expr::Dot(sides, options, _) => self.chain(
+                state,
+                sides.get(),
+                ChainType::Dotting,
+                *options,
+            ),
+            Expr::Index(sides, options, _) => self.chain(
+                state,
+                sides.get(),
+                ChainType::Indexing,
+                *options,
+            ),
         }
     }
 

@@ -48,14 +48,14 @@ impl<'a, H: Host> Evaluator<'a, H> {
             (part_core self.now.in_loop (expr_of base.now) rest.entry) (value_of value)))
             state.old result state.new (λ z. given UnitV) }
     {
-        if !is_chain(rest.is_dot, rest.options, rest.right) {
+        if !is_chain(rest.chain, rest.options, rest.right) {
             return Err(Interrupt::Stuck(Stuck::WrongKind));
         }
         let Some(root) = root_of(base) else {
             return Err(Interrupt::Stuck(Stuck::NoPlace));
         };
         if ends_in_call(
-            rest.is_dot,
+            rest.chain,
             rest.options.contains(ASTFlags::BREAK),
             rest.right,
         ) {

@@ -148,6 +148,16 @@ are_distinct-from_apart (x ∷ xs) h =
     (ap not (is_among-has x xs ∙ none_has x xs (IsDistinct-head same_text x xs h)))
     (are_distinct-from_apart xs (IsDistinct-tail same_text x xs h))
 
+pub apart-from_distinct : (xs : List Text) → are_distinct xs ≡ true → IsDistinct same_text xs
+unfolding IsDistinct
+apart-from_distinct [] h = tt
+apart-from_distinct (x ∷ xs) h =
+    let parts = each_true (not (is_among x xs)) (are_distinct xs) h in
+    IsDistinct-cons same_text x xs (none_same x xs (sym (is_among-has x xs) ∙ untrue (is_among x xs) parts.0)) (apart-from_distinct xs parts.1) where
+      untrue : (b : Bool) → not b ≡ true → b ≡ false
+      untrue true z = absurd (let y : false ≡ true = z in cc)
+      untrue false z = refl
+
 -- a name that stands before too
 pub are_distinct-twice : (xs : List Text) (i : ℕ) → i < length xs → has (take i xs) (get_or xs i []) ≡ true → are_distinct xs ≡ false
 are_distinct-twice [] i h k = absurd (omega arith)
@@ -254,6 +264,12 @@ pub are_same-by_count : {S : Type 0} (s : HashSet (Bor Text) S) (es : List (Text
 are_same-by_count s es m n unique ordered h k =
     let e : (m == n) ≡ (length (texts_of s) == length (keys_of es)) = ap (λ i. i == n) (h ∙ sym (length-map s.keys (λ k. k.now))) ∙ ap (λ i. length (texts_of s) == i) (k ∙ sym (length-map es (λ e. e.0))) in
     ap (λ b. b && are_among (keys_of es) (texts_of s)) e ∙ are_same-by_length (texts_of s) (keys_of es) (texts_apart s unique) (apart-from_sorted (keys_of es) ordered)
+
+-- members whose names differ, and a map, that have the same names
+pub are_same-of_members : (ms : List (Ident × Expr)) (es : List (Text × Dynamic)) (m n : ℕ) → are_distinct (names_of ms) ≡ true → IsStrictlySortedBy (slice_cmp nat_cmp) (keys_of es) → m ≡ length ms → n ≡ length es → (m == n && are_among (keys_of es) (names_of ms)) ≡ are_same (names_of ms) (keys_of es)
+are_same-of_members ms es m n apart ordered h k =
+    let e : (m == n) ≡ (length (names_of ms) == length (keys_of es)) = ap (λ i. i == n) (h ∙ sym (length-names_of ms)) ∙ ap (λ i. length (names_of ms) == i) (k ∙ sym (length-map es (λ e. e.0))) in
+    ap (λ b. b && are_among (keys_of es) (names_of ms)) e ∙ are_same-by_length (names_of ms) (keys_of es) (apart-from_distinct (names_of ms) apart) (apart-from_sorted (keys_of es) ordered)
 
 pub and_false : (a b : Bool) → a ≡ false → a ≡ (a && b)
 and_false true b h = absurd (let z : true ≡ false = h in cc)

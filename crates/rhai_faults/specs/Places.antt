@@ -4,11 +4,12 @@ use Rattle.rhai_faults.specs.declared.around.Around.{Around}
 use Rattle.rhai_faults.specs.declared.around.Role.{Role}
 use Rattle.rhai_faults.specs.declared.around.Role.TheVariants.{Whole, Member, Rest}
 use Rattle.rhai_meaning.specs.Walk as walk
+use Rattle.rhai_walk.specs.Nodes.{is_dot}
 
 abbrev pub role_of : Role → walk.Role
 role_of Whole = walk.Whole
 role_of Member = walk.Member
-role_of (Rest is_dot) = walk.Rest is_dot
+role_of (Rest chain) = walk.Rest (is_dot chain)
 
 abbrev pub around_of : Around → walk.Around
 around_of a = record { in_loop = a.in_loop; role = role_of a.role }

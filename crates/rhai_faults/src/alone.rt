@@ -10,7 +10,7 @@ ghost use Rattle.rhai_meaning.specs.Faults.{◌then◌};
 ghost use Rattle.rhai_meaning.specs.Shape as shape;
 ghost use Rattle.rhai_meaning.specs.Tree.{count_exprs};
 ghost use Rattle.rhai_reading.specs.Reading.{callee_of, chain_flags, expr_of, exprs_of, stmt_of};
-ghost use Rattle.rhai_walk.specs.Nodes.{node_of};
+ghost use Rattle.rhai_walk.specs.Nodes.{is_dot, node_of};
 
 use crate::around::Around;
 use crate::map_keys::test_keys;
@@ -19,7 +19,7 @@ use bitflags::Flags;
 use rhai_base::{ASTFlags, TreeFault};
 use rhai_queries::is_table;
 use rhai_tree::{BinaryExpr, Expr, FnCallExpr, Stmt};
-use rhai_walk::ASTNode;
+use rhai_walk::{ASTNode, ChainType};
 use std::alloc::Global;
 
 /// The fault, unless this holds.
@@ -51,8 +51,12 @@ fn check_expr(alloc: Global, expr: &Expr, around: Around) -> Result<(), TreeFaul
         Expr::Property(_, _) => demand(around.is_member(), TreeFault::ChainShape),
         Expr::MethodCall(call, _) => check_method(call.get(), around),
         Expr::FnCall(call, _) => check_call(call.get()),
-        Expr::Dot(sides, options, _) => check_chain(sides.get(), true, *options, around),
-        Expr::Index(sides, options, _) => check_chain(sides.get(), false, *options, around),
+        Expr::Dot(sides, options, _) => {
+            check_chain(sides.get(), ChainType::Dotting, *options, around)
+        }
+        Expr::Index(sides, options, _) => {
+            check_chain(sides.get(), ChainType::Indexing, *options, around)
+        }
         Expr::And(operands, _) | Expr::Or(operands, _) | Expr::Coalesce(operands, _) => {
             check_operands(operands.get().as_slice())
         }
@@ -92,16 +96,16 @@ fn check_method(call: &FnCallExpr, around: Around) -> Result<(), TreeFault>
 /// A chain is looked at where it begins, and its steps where they stand.
 fn check_chain(
     sides: &BinaryExpr,
-    is_dot: bool,
+    chain: ChainType,
     options: ASTFlags,
     around: Around,
 ) -> Result<(), TreeFault>
     ensures { Finds (faults.unless (faults.is_inside_chain (around_of around).role
-        || shape.is_rest is_dot (chain_flags options).breaks (expr_of sides.now.rhs)) faults.ChainShape) result }
+        || shape.is_rest (is_dot chain) (chain_flags options).breaks (expr_of sides.now.rhs)) faults.ChainShape) result }
 {
     let is_last = options.contains(ASTFlags::BREAK);
     demand(
-        around.is_rest() || is_rest(is_dot, is_last, &sides.rhs),
+        around.is_rest() || is_rest(chain, is_last, &sides.rhs),
         TreeFault::ChainShape,
     )
 }

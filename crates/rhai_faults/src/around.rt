@@ -7,12 +7,12 @@ ghost use Rattle.rhai_faults.specs.Places.{around_at, around_of, role_of};
 ghost use Rattle.rhai_meaning.specs.Faults as faults;
 ghost use Rattle.rhai_meaning.specs.Walk as walk;
 ghost use Rattle.rhai_reading.specs.Reading.{chain_flags, expr_of};
-ghost use Rattle.rhai_walk.specs.Nodes.{node_of, spot_of};
+ghost use Rattle.rhai_walk.specs.Nodes.{is_dot, node_of, spot_of};
 
 use bitflags::Flags;
 use rhai_base::ASTFlags;
 use rhai_tree::Expr;
-use rhai_walk::{ASTNode, Spot};
+use rhai_walk::{ASTNode, ChainType, Spot};
 
 /// As what an expression stands where it does.
 #[derive(Clone, Copy)]
@@ -21,8 +21,8 @@ pub(crate) enum Role {
     Whole,
     /// As the property or the method of a `.`.
     Member,
-    /// As the rest of a chain; whether the step before it is a `.`.
-    Rest(bool),
+    /// As the rest of a chain, behind a step of this type.
+    Rest(ChainType),
 }
 
 /// What stands around a node.
@@ -75,7 +75,7 @@ impl Around {
                 role: self.role,
             },
             Spot::LeftSide => self.left(),
-            Spot::RightSide(is_dot, options, rhs) => self.right(is_dot, options, rhs),
+            Spot::RightSide(chain, options, rhs) => self.right(chain, options, rhs),
         }
     }
 
@@ -84,8 +84,8 @@ impl Around {
         ensures { around_of result ≡ walk.around_spot walk.LeftSide (around_of self) }
     {
         let role = match self.role {
-            Role::Rest(true) => Role::Member,
-            Role::Rest(false) | Role::Whole | Role::Member => Role::Whole,
+            Role::Rest(ChainType::Dotting) => Role::Member,
+            Role::Rest(ChainType::Indexing) | Role::Whole | Role::Member => Role::Whole,
         };
         Around {
             in_loop: self.in_loop,
@@ -94,13 +94,14 @@ impl Around {
     }
 
     /// Around the right side of a `.` or an index.
-    fn right(self, is_dot: bool, options: ASTFlags, rhs: &Expr) -> Around
-        ensures { around_of result ≡ walk.around_spot (walk.RightSide is_dot (chain_flags options) (expr_of rhs.now))
+    fn right(self, chain: ChainType, options: ASTFlags, rhs: &Expr) -> Around
+        ensures { around_of result ≡ walk.around_spot (walk.RightSide (is_dot chain) (chain_flags options)
+            (expr_of rhs.now))
             (around_of self) }
     {
         Around {
             in_loop: self.in_loop,
-            role: right_role(is_dot, options.contains(ASTFlags::BREAK), rhs),
+            role: right_role(chain, options.contains(ASTFlags::BREAK), rhs),
         }
     }
 
@@ -119,21 +120,24 @@ impl Around {
     }
 }
 
-fn right_role(is_dot: bool, is_last: bool, rhs: &Expr) -> Role
-    ensures { role_of result ≡ walk.right_role is_dot is_last (expr_of rhs.now) }
+fn right_role(chain: ChainType, is_last: bool, rhs: &Expr) -> Role
+    ensures { role_of result ≡ walk.right_role (is_dot chain) is_last (expr_of rhs.now) }
 {
     if is_last {
-        return last_role(is_dot);
+        return last_role(chain);
     }
     match rhs {
-        Expr::Dot(_, _, _) | Expr::Index(_, _, _) => Role::Rest(is_dot),
-        _ => last_role(is_dot),
+        Expr::Dot(_, _, _) | Expr::Index(_, _, _) => Role::Rest(chain),
+        _ => last_role(chain),
     }
 }
 
 /// The role of what no chain goes on from.
-fn last_role(is_dot: bool) -> Role
-    ensures { role_of result ≡ (if is_dot then walk.Member else walk.Whole) }
+fn last_role(chain: ChainType) -> Role
+    ensures { role_of result ≡ (if is_dot chain then walk.Member else walk.Whole) }
 {
-    if is_dot { Role::Member } else { Role::Whole }
+    match chain {
+        ChainType::Dotting => Role::Member,
+        ChainType::Indexing => Role::Whole,
+    }
 }

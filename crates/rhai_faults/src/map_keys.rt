@@ -1,10 +1,11 @@
 //! The keys of a map literal and of its template.
 
-ghost use Rattle.std.specs.Prelude.{◌≡◌, ◌&&◌, IfOk, IsPermutation};
+ghost use Rattle.std.specs.Prelude.{◌≡◌, ◌&&◌, true, IfOk, IsPermutation};
 ghost use Rattle.rhai_faults.specs.MapKeys.{names_of, texts_of};
 ghost use Rattle.rhai_faults.specs.Refusals.{Finds};
 ghost use Rattle.rhai_meaning.specs.Faults as faults;
 ghost use Rattle.rhai_meaning.specs.Shape.{are_among, are_distinct};
+ghost use Rattle.rhai_names.specs.Names.{is_among};
 ghost use Rattle.rhai_reading.specs.Reading.{keys_of};
 
 use rhai_base::{Dynamic, Ident, StringMap, TreeFault};
@@ -12,8 +13,90 @@ use rhai_tree::Expr;
 use std::alloc::Global;
 use std::collections::HashSet;
 
+/// So many members are compared with one another, which takes no memory.
+const FEW: usize = 8;
+
 /// Whether the keys of a literal differ, and are those of its template.
 pub fn test_keys(
+    alloc: Global,
+    members: &[(Ident, Expr)],
+    template: &StringMap<Dynamic>,
+) -> Result<(), TreeFault>
+    ensures { Finds (faults.map_fault (names_of members.now) (keys_of template.now)) result }
+{
+    if members.len() <= FEW {
+        test_few(members, template)
+    } else {
+        test_many(alloc, members, template)
+    }
+}
+
+// ---- few
+
+fn test_few(members: &[(Ident, Expr)], template: &StringMap<Dynamic>) -> Result<(), TreeFault>
+    ensures { Finds (faults.map_fault (names_of members.now) (keys_of template.now)) result }
+{
+    if !differ(members) {
+        return Err(TreeFault::DuplicateMapKey);
+    }
+    if are_members(members, template) {
+        Ok(())
+    } else {
+        Err(TreeFault::MapTemplate)
+    }
+}
+
+/// Whether no two have one name.
+fn differ(members: &[(Ident, Expr)]) -> bool
+    ensures { result ≡ are_distinct (names_of members.now) }
+{
+    let mut rest = members;
+    while let Some((first, others)) = rest.split_first() {
+        if has_name(others, first.0.as_str()) {
+            return false;
+        }
+        rest = others;
+    }
+    true
+}
+
+/// Whether one has this name.
+fn has_name(members: &[(Ident, Expr)], name: &str) -> bool
+    ensures { result ≡ is_among name.now (names_of members.now) }
+{
+    let mut rest = members;
+    while let Some((first, others)) = rest.split_first() {
+        if first.0.as_str() == name {
+            return true;
+        }
+        rest = others;
+    }
+    false
+}
+
+/// Whether the template has the keys of these members, which differ, and no others.
+fn are_members(members: &[(Ident, Expr)], template: &StringMap<Dynamic>) -> bool
+    requires { are_distinct (names_of members.now) ≡ true }
+    ensures { result ≡ (are_among (names_of members.now) (keys_of template.now)
+        && are_among (keys_of template.now) (names_of members.now)) }
+{
+    members.len() == template.len() && has_members(members, template)
+}
+
+fn has_members(members: &[(Ident, Expr)], template: &StringMap<Dynamic>) -> bool
+    ensures { result ≡ are_among (keys_of template.now) (names_of members.now) }
+{
+    for (key, _) in template.iter() {
+        if !has_name(members, key.as_str()) {
+            return false;
+        }
+    }
+    true
+}
+
+// ---- many
+
+fn test_many(
     alloc: Global,
     members: &[(Ident, Expr)],
     template: &StringMap<Dynamic>,

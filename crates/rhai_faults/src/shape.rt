@@ -8,11 +8,13 @@ ghost use Rattle.rhai_meaning.specs.Shape as shape;
 ghost use Rattle.rhai_names.specs.Names as names;
 ghost use Rattle.rhai_reading.specs.Reading.{callee_of, expr_of, breaks, exprs_of, mark_of};
 ghost use Rattle.rhai_meaning.specs.Tree.{count_exprs};
+ghost use Rattle.rhai_walk.specs.Nodes.{is_dot};
 
 use bitflags::Flags;
 use rhai_base::{ASTFlags, Token};
 use rhai_queries::{is_call_of, operands};
 use rhai_tree::{BinaryExpr, Expr, FnCallExpr};
+use rhai_walk::ChainType;
 
 // ---- calls and names
 
@@ -61,43 +63,46 @@ pub(crate) fn is_reserved(name: &str) -> bool
 
 /// Whether the right side of a `.` or an index, and the chain from there on, has its shape.
 #[cycle(rest)]
-pub fn is_rest(is_dot: bool, is_last: bool, rhs: &Expr) -> bool
-    ensures { result ≡ shape.is_rest is_dot is_last (expr_of rhs.now) }
+pub fn is_rest(chain: ChainType, is_last: bool, rhs: &Expr) -> bool
+    ensures { result ≡ shape.is_rest (is_dot chain) is_last (expr_of rhs.now) }
 {
     match rhs {
         Expr::Dot(sides, options, _) => {
             if is_last {
-                !is_dot
+                !chain.is_dot()
             } else {
-                is_step(is_dot, sides.get(), true, *options)
+                is_step(chain, sides.get(), ChainType::Dotting, *options)
             }
         }
         Expr::Index(sides, options, _) => {
             if is_last {
-                !is_dot
+                !chain.is_dot()
             } else {
-                is_step(is_dot, sides.get(), false, *options)
+                is_step(chain, sides.get(), ChainType::Indexing, *options)
             }
         }
-        _ => is_end(is_dot, is_last, rhs),
+        _ => is_end(chain, is_last, rhs),
     }
 }
 
 /// Whether what no chain goes on from may stand there.
-fn is_end(is_dot: bool, is_last: bool, rhs: &Expr) -> bool
-    ensures { result ≡ (if is_dot then shape.is_member (expr_of rhs.now) else is_last) }
+fn is_end(chain: ChainType, is_last: bool, rhs: &Expr) -> bool
+    ensures { result ≡ (if is_dot chain then shape.is_member (expr_of rhs.now) else is_last) }
 {
-    if is_dot { is_member(rhs) } else { is_last }
+    match chain {
+        ChainType::Dotting => is_member(rhs),
+        ChainType::Indexing => is_last,
+    }
 }
 
 /// Whether a step's argument fits, and the chain from the step on has its shape.
 #[cycle(rest)]
-fn is_step(is_dot: bool, step: &BinaryExpr, next_is_dot: bool, options: ASTFlags) -> bool
-    ensures { result ≡ (shape.is_argument is_dot (expr_of step.now.lhs)
-        && shape.is_rest next_is_dot (breaks options) (expr_of step.now.rhs)) }
+fn is_step(chain: ChainType, step: &BinaryExpr, next: ChainType, options: ASTFlags) -> bool
+    ensures { result ≡ (shape.is_argument (is_dot chain) (expr_of step.now.lhs)
+        && shape.is_rest (is_dot next) (breaks options) (expr_of step.now.rhs)) }
 {
-    (!is_dot || is_member(&step.lhs))
-        && is_rest(next_is_dot, options.contains(ASTFlags::BREAK), &step.rhs)
+    (!chain.is_dot() || is_member(&step.lhs))
+        && is_rest(next, options.contains(ASTFlags::BREAK), &step.rhs)
 }
 
 /// Whether it is a property or a method that is called without a namespace or capturing.

@@ -25,7 +25,7 @@ pub trait Notation {
     fn push_notation(&self, text: &mut String) -> Result<(), OutOfMemory>
         ensures { OnOk result (string_bytes text.new ≡ string_bytes text.old ++ notation self.now) };
 
-    /// What `{}` and `{:?}` print, both its text. It is made with this allocator first, since `fmt` is given none.
+    /// What `{}` and `{:?}` print as its text. They make it with this allocator first, since `fmt` is given none.
     final fn printed(&self, alloc: Global) -> Printed<'_, Self>
     where
         Self: Sized,
@@ -86,7 +86,7 @@ impl Notation for AST {
     }
 }
 
-/// What `{}` and `{:?}` print, both in the notation; want of memory is a `fmt::Error`. `Notation::printed` makes it.
+/// What `{}` and `{:?}` print in the notation, made by `Notation::printed`. Refused memory is a `fmt::Error`.
 #[derive(Drop)]
 pub struct Printed<'a, T> {
     alloc: Global,

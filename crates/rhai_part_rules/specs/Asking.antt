@@ -1,13 +1,7 @@
 -- How a step of a chain asks for a part.
 use Rattle.std.specs.Prelude.{Bool, true, false}
-use Rattle.rhai_part_rules.specs.declared.asking.Access.{Access}
-use Rattle.rhai_part_rules.specs.declared.asking.Access.TheVariants as access_kind
 use Rattle.rhai_part_rules.specs.declared.asking.Reach.{Reach}
 use Rattle.rhai_part_rules.specs.declared.asking.Reach.TheVariants as reach_kind
-
-abbrev pub is_dot : Access → Bool
-is_dot access_kind.Dot = true
-is_dot access_kind.Index = false
 
 -- by whether the chain goes on
 abbrev pub reach_by : Bool → Reach

@@ -16,11 +16,11 @@ ghost use Rattle.rhai_engine.specs.EngineInfo.{engine_of};
 ghost use Rattle.rhai_rewriting.specs.Answering as answering;
 ghost use Rattle.rhai_rewriting.specs.Indexing as indexing;
 ghost use Rattle.rhai_part_rules.specs.Answers as answers;
-ghost use Rattle.rhai_part_rules.specs.Asking.{is_dot};
+ghost use Rattle.rhai_walk.specs.Nodes.{is_dot};
 
-use crate::asking::{Access, Reach};
+use crate::asking::Reach;
 use bitflags::Flags;
-use rhai_ast::{Expr, FnCallExpr, Literals};
+use rhai_ast::{ChainType, Expr, FnCallExpr, Literals};
 use rhai_base::{ASTFlags, Dynamic, INT, ImmutableString, OutOfMemory};
 use rhai_engine::EngineInfo;
 use rhai_places::{bit, character, element, entry};
@@ -289,7 +289,7 @@ fn index_answer(
 fn answer_at(
     alloc: Global,
     info: &EngineInfo,
-    access: Access,
+    access: ChainType,
     reach: Reach,
     flags: ASTFlags,
     value: &Dynamic,
@@ -301,8 +301,8 @@ fn answer_at(
         (expr_of argument.now)) }
 {
     match access {
-        Access::Dot => member_answer(alloc, info, reach, flags, value, argument),
-        Access::Index => index_answer(alloc, reach, value, argument),
+        ChainType::Dotting => member_answer(alloc, info, reach, flags, value, argument),
+        ChainType::Indexing => index_answer(alloc, reach, value, argument),
     }
 }
 
@@ -310,7 +310,7 @@ fn answer_at(
 pub fn constant_answer(
     alloc: Global,
     info: &EngineInfo,
-    access: Access,
+    access: ChainType,
     reach: Reach,
     flags: ASTFlags,
     base: &Expr,

@@ -3,15 +3,6 @@
 ghost use Rattle.std.specs.Prelude.{◌≡◌};
 ghost use Rattle.rhai_part_rules.specs.Asking as asking;
 
-/// The node that a step is of.
-#[derive(Clone, Copy)]
-pub enum Access {
-    /// A `Dot`, which asks by a property or a method.
-    Dot,
-    /// An `Index`.
-    Index,
-}
-
 /// How far the first step of a chain reaches, and so by which of two rules it answers.
 #[derive(Clone, Copy)]
 pub enum Reach {

@@ -11,11 +11,10 @@ ghost use Rattle.rhai_known.specs.State.{progress};
 ghost use Rattle.rhai_rewriting.specs.Answering as answering;
 ghost use Rattle.rhai_rewriting.specs.Clear as clear;
 ghost use Rattle.rhai_part_rules.specs.Answers as answers;
-ghost use Rattle.rhai_part_rules.specs.Asking.{is_dot};
+ghost use Rattle.rhai_walk.specs.Nodes.{is_dot};
 
 use crate::answers::property_of_constant;
-use crate::asking::Access;
-use rhai_ast::{Expr, Literals};
+use rhai_ast::{ChainType, Expr, Literals};
 use rhai_base::{Dynamic, ImmutableString, OutOfMemory};
 use rhai_steps::OptimizerState;
 use std::alloc::Global;
@@ -111,7 +110,7 @@ fn known_member(
 pub fn known_answer(
     alloc: Global,
     state: &OptimizerState<'_>,
-    access: Access,
+    access: ChainType,
     base: &Expr,
     right: &Expr,
 ) -> Result<Option<Dynamic>, OutOfMemory>
@@ -120,7 +119,7 @@ pub fn known_answer(
         ≡ answers.known_answer (progress state.now).known (is_dot access) (expr_of base.now) (expr_of right.now)) }
 {
     match access {
-        Access::Dot => known_member(state, base, right),
-        Access::Index => known_entry(alloc, state, base, right),
+        ChainType::Dotting => known_member(state, base, right),
+        ChainType::Indexing => known_entry(alloc, state, base, right),
     }
 }

@@ -8,6 +8,6 @@ mod known;
 mod literals;
 
 pub use answers::constant_answer;
-pub use asking::{Access, Reach, reach_of};
+pub use asking::{Reach, reach_of};
 pub use known::known_answer;
 pub use literals::{Found, literal_answer, take_part};

@@ -11,11 +11,11 @@ ghost use Rattle.rhai_meaning.specs.Constants as constants;
 ghost use Rattle.rhai_meaning.specs.Elements as elements;
 ghost use Rattle.rhai_meaning.specs.Queries as queries;
 ghost use Rattle.rhai_rewriting.specs.Indexing as indexing;
-ghost use Rattle.rhai_part_rules.specs.Asking.{is_dot};
+ghost use Rattle.rhai_walk.specs.Nodes.{is_dot};
 ghost use Rattle.rhai_part_rules.specs.Literals as literals;
 
-use crate::asking::{Access, Reach};
-use rhai_ast::{Expr, ExprQueries, Literals, Take};
+use crate::asking::Reach;
+use rhai_ast::{ChainType, Expr, ExprQueries, Literals, Take};
 use rhai_base::{Dynamic, INT, Ident, OutOfMemory, Position, Seq};
 use rhai_nodes::place_expr;
 use std::alloc::Global;
@@ -205,19 +205,19 @@ fn entry_part(
     }
 }
 
-fn array_part(access: Access, reach: Reach, items: &[Expr], argument: &Expr) -> Option<Found>
+fn array_part(access: ChainType, reach: Reach, items: &[Expr], argument: &Expr) -> Option<Found>
     ensures { option_map (literals.found_item (exprs_of items.now)) result
         ≡ literals.array_part (is_dot access) (exprs_of items.now) (expr_of argument.now) }
 {
     match access {
-        Access::Dot => None,
-        Access::Index => element_part(reach, items, argument),
+        ChainType::Dotting => None,
+        ChainType::Indexing => element_part(reach, items, argument),
     }
 }
 
 fn map_part(
     alloc: Global,
-    access: Access,
+    access: ChainType,
     reach: Reach,
     members: &[(Ident, Expr)],
     argument: &Expr,
@@ -227,15 +227,15 @@ fn map_part(
         ≡ literals.map_part (is_dot access) (pairs_of members.now) (expr_of argument.now)) }
 {
     match access {
-        Access::Dot => Ok(property_part(reach, members, argument)),
-        Access::Index => entry_part(alloc, reach, members, argument),
+        ChainType::Dotting => Ok(property_part(reach, members, argument)),
+        ChainType::Indexing => entry_part(alloc, reach, members, argument),
     }
 }
 
 /// Which part of a literal a step answers.
 fn literal_part(
     alloc: Global,
-    access: Access,
+    access: ChainType,
     reach: Reach,
     base: &Expr,
     argument: &Expr,
@@ -290,7 +290,7 @@ fn is_unit_part(base: &Expr, found: Found) -> bool
 pub fn literal_answer(
     alloc: Global,
     unit: bool,
-    access: Access,
+    access: ChainType,
     reach: Reach,
     base: &Expr,
     argument: &Expr,

@@ -15,6 +15,7 @@ use Rattle.rhai_meaning.specs.Weight.{expr_weight}
 use Rattle.rhai_run_nodes.specs.declared.links.Link.{Link}
 use Rattle.rhai_run_nodes.specs.declared.links.Rest.{Rest}
 use Rattle.rhai_run_nodes.specs.Links.{IsLast, link_steps, rest_steps, step_core, steps_on}
+use Rattle.rhai_walk.specs.Nodes.{is_dot}
 
 last_by : (loop dot : Bool) (k : tree.ChainFlags) (p : core.Step) (r : tree.Expr) → k.breaks ≡ true → steps_of loop dot k p r ≡ core.last k.negated p
 last_by loop dot k p (tree.Dot m a b) h = ap (λ c. cond c (core.last k.negated p) (core.more k.negated (step_core loop dot a) (steps_of loop true m (step_core loop true b) b))) h
@@ -50,11 +51,11 @@ end_by loop dot k q (or_case xs p) h i = refl
 end_by loop dot k q (coalesce_case xs p) h i = refl
 
 module _ (rest : Rest) (l : Link) where
-  last_is : (loop : Bool) → steps_of loop rest.is_dot (chain_flags rest.options) (step_core loop rest.is_dot (expr_of rest.right.now)) (expr_of rest.right.now) ≡ core.last (is_negated rest.options) (step_core loop rest.is_dot (expr_of rest.right.now)) → IsLast rest.right.now l → rest_steps loop rest ≡ link_steps loop rest l
-  last_is loop h is = h ∙ (λ i. steps_on loop (is_negated rest.options) (step_core loop rest.is_dot (expr_of (sym is.0 i))) (sym is.1 i))
+  last_is : (loop : Bool) → steps_of loop (is_dot rest.chain) (chain_flags rest.options) (step_core loop (is_dot rest.chain) (expr_of rest.right.now)) (expr_of rest.right.now) ≡ core.last (is_negated rest.options) (step_core loop (is_dot rest.chain) (expr_of rest.right.now)) → IsLast rest.right.now l → rest_steps loop rest ≡ link_steps loop rest l
+  last_is loop h is = h ∙ (λ i. steps_on loop (is_negated rest.options) (step_core loop (is_dot rest.chain) (expr_of (sym is.0 i))) (sym is.1 i))
 
   pub link_ends : IsNoDot rest.right.now → IsNoIndex rest.right.now → IsLast rest.right.now l → (loop : Bool) → rest_steps loop rest ≡ link_steps loop rest l
-  link_ends h i is loop = last_is loop (end_by loop rest.is_dot (chain_flags rest.options) (step_core loop rest.is_dot (expr_of rest.right.now)) (expr_cases rest.right.now) h i) is
+  link_ends h i is loop = last_is loop (end_by loop (is_dot rest.chain) (chain_flags rest.options) (step_core loop (is_dot rest.chain) (expr_of rest.right.now)) (expr_cases rest.right.now) h i) is
 
 -- a last link weighs no more than its side
 pub last_weighs : (e : Expr) (l : Link) → IsLast e l → (expr_weight (expr_of l.argument.now) ≤ expr_weight (expr_of e)) × IfSome l.rest (λ r. expr_weight (expr_of r.right.now) + 1 ≤ expr_weight (expr_of e))

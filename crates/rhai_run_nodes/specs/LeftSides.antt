@@ -13,12 +13,13 @@ use Rattle.rhai_run_nodes.specs.declared.left_sides.LeftSide.TheVariants as side
 use Rattle.rhai_run_nodes.specs.declared.links.Rest.{Rest}
 use Rattle.rhai_run_nodes.specs.Links.{rest_steps}
 use Rattle.rhai_run_nodes.specs.Variables.{root_meant}
+use Rattle.rhai_walk.specs.Nodes.{is_dot}
 
 -- the part that a chain leads to, by its base and what is left of it then
 abbrev pub part_core : Bool → tree.Expr → Rest → core.Target
 part_core loop l r =
-    cond (is_chain r.is_dot (chain_flags r.options) (expr_of r.right.now))
-    (part_target (root_of l) (ends_in_call r.is_dot (breaks r.options) (expr_of r.right.now)) (rest_steps loop r)) core.IllTarget
+    cond (is_chain (is_dot r.chain) (chain_flags r.options) (expr_of r.right.now))
+    (part_target (root_of l) (ends_in_call (is_dot r.chain) (breaks r.options) (expr_of r.right.now)) (rest_steps loop r)) core.IllTarget
 
 abbrev pub side_core : Bool → LeftSide → core.Target
 side_core loop (side.Root r) = core.ToRoot (root_meant r)
@@ -30,7 +31,7 @@ IsSide e None = is_left_side e ≡ false
 IsSide e (Some d) = (is_left_side e ≡ true) × ((loop : Bool) → target_of loop e ≡ side_core loop d)
 
 abbrev pub IsPart : BinaryExpr → Bool → ASTFlags → LeftSide → Type 0
-IsPart b dot k (side.Part l r) = (l.now ≡ b.lhs) × (r.is_dot ≡ dot) × (r.options ≡ k) × (r.right.now ≡ b.rhs)
+IsPart b dot k (side.Part l r) = (l.now ≡ b.lhs) × (is_dot r.chain ≡ dot) × (r.options ≡ k) × (r.right.now ≡ b.rhs)
 IsPart b dot k _ = ⊥
 
 -- what the evaluator goes on with

@@ -9,6 +9,7 @@ use Rattle.rhai_meaning.specs.Desugar.{core_expr, member_of, steps_of}
 use Rattle.rhai_meaning.specs.Tree as tree
 use Rattle.rhai_run_nodes.specs.declared.links.Link.{Link}
 use Rattle.rhai_run_nodes.specs.declared.links.Rest.{Rest}
+use Rattle.rhai_walk.specs.Nodes.{is_dot}
 
 -- a step by the kind of its node and its argument
 abbrev pub step_core : (loop dot : Bool) → tree.Expr → core.Step
@@ -16,7 +17,7 @@ step_core loop dot e = cond dot (member_of loop e) (core.Index (core_expr loop e
 
 -- the steps of the rest of a chain
 abbrev pub rest_steps : Bool → Rest → core.Steps
-rest_steps loop r = steps_of loop r.is_dot (chain_flags r.options) (step_core loop r.is_dot (expr_of r.right.now)) (expr_of r.right.now)
+rest_steps loop r = steps_of loop (is_dot r.chain) (chain_flags r.options) (step_core loop (is_dot r.chain) (expr_of r.right.now)) (expr_of r.right.now)
 
 -- the same, split
 abbrev pub steps_on : Bool → Bool → core.Step → Option Rest → core.Steps
@@ -24,7 +25,7 @@ steps_on loop optional p None = core.last optional p
 steps_on loop optional p (Some r) = core.more optional p (rest_steps loop r)
 
 abbrev pub link_steps : Bool → Rest → Link → core.Steps
-link_steps loop r l = steps_on loop (is_negated r.options) (step_core loop r.is_dot (expr_of l.argument.now)) l.rest
+link_steps loop r l = steps_on loop (is_negated r.options) (step_core loop (is_dot r.chain) (expr_of l.argument.now)) l.rest
 
 -- a link that is the last one, and one by a node
 abbrev pub IsLast : Expr → Link → Type 0
@@ -32,7 +33,7 @@ IsLast e l = (l.argument.now ≡ e) × (l.rest ≡ None)
 
 abbrev pub IsRest : BinaryExpr → Bool → ASTFlags → Option Rest → Type 0
 IsRest b dot k None = ⊥
-IsRest b dot k (Some r) = (r.is_dot ≡ dot) × (r.options ≡ k) × (r.right.now ≡ b.rhs)
+IsRest b dot k (Some r) = (is_dot r.chain ≡ dot) × (r.options ≡ k) × (r.right.now ≡ b.rhs)
 
 abbrev pub IsInner : BinaryExpr → Bool → ASTFlags → Link → Type 0
 IsInner b dot k l = (l.argument.now ≡ b.lhs) × IsRest b dot k l.rest

@@ -6,11 +6,12 @@ ghost use Rattle.std.specs.Prelude.{◌≡◌};
 ghost use Rattle.rhai_reading.specs.Reading.{expr_of, path_of};
 ghost use Rattle.rhai_meaning.specs.Desugar as desugar;
 ghost use Rattle.rhai_run_nodes.specs.LeftSides as spec;
+ghost use Rattle.rhai_walk.specs.Nodes.{is_dot};
 
 use crate::links::Rest;
 use crate::variables::Root;
 use bitflags::Flags;
-use rhai_ast::{BinaryExpr, Expr};
+use rhai_ast::{BinaryExpr, ChainType, Expr};
 use rhai_base::{ASTFlags, ImmutableString, Namespace};
 
 /// The left side of an assignment.
@@ -37,11 +38,11 @@ pub fn named_side<'a>(name: &'a ImmutableString, namespace: &Namespace) -> LeftS
 }
 
 /// A chain as a left side, by its outermost node.
-pub fn part_side(sides: &BinaryExpr, is_dot: bool, options: ASTFlags) -> LeftSide<'_>
-    ensures { spec.IsPart sides.now is_dot options result }
+pub fn part_side(sides: &BinaryExpr, chain: ChainType, options: ASTFlags) -> LeftSide<'_>
+    ensures { spec.IsPart sides.now (is_dot chain) options result }
 {
     let rest = Rest {
-        is_dot,
+        chain,
         options,
         right: &sides.rhs,
     };
@@ -50,16 +51,18 @@ pub fn part_side(sides: &BinaryExpr, is_dot: bool, options: ASTFlags) -> LeftSid
 
 /// Whether a chain ends in a method's call, by its outermost node.
 #[cycle(call_end)]
-pub fn ends_in_call(is_dot: bool, is_last: bool, right: &Expr) -> bool
-    ensures { result ≡ desugar.ends_in_call is_dot is_last (expr_of right.now) }
+pub fn ends_in_call(chain: ChainType, is_last: bool, right: &Expr) -> bool
+    ensures { result ≡ desugar.ends_in_call (is_dot chain) is_last (expr_of right.now) }
 {
     match right {
-        Expr::MethodCall(_, _) => is_dot,
+        Expr::MethodCall(_, _) => chain.is_dot(),
         Expr::Dot(sides, options, _) => {
-            !is_last && ends_in_call(true, options.contains(ASTFlags::BREAK), &sides.get().rhs)
+            let ends = options.contains(ASTFlags::BREAK);
+            !is_last && ends_in_call(ChainType::Dotting, ends, &sides.get().rhs)
         }
         Expr::Index(sides, options, _) => {
-            !is_last && ends_in_call(false, options.contains(ASTFlags::BREAK), &sides.get().rhs)
+            let ends = options.contains(ASTFlags::BREAK);
+            !is_last && ends_in_call(ChainType::Indexing, ends, &sides.get().rhs)
         }
         _ => false,
     }

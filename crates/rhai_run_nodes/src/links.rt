@@ -7,17 +7,18 @@ ghost use Rattle.rhai_reading.specs.Reading.{chain_flags, expr_of};
 ghost use Rattle.rhai_meaning.specs.Weight.{expr_weight};
 ghost use Rattle.rhai_meaning.specs.Shape as shape;
 ghost use Rattle.rhai_run_nodes.specs.Links as spec;
+ghost use Rattle.rhai_walk.specs.Nodes.{is_dot};
 
 use bitflags::Flags;
-use rhai_ast::{BinaryExpr, Expr};
+use rhai_ast::{BinaryExpr, ChainType, Expr};
 use rhai_base::ASTFlags;
 use rhai_faults::is_rest;
 
 /// What is left of a chain: the right side of a `.` or an index.
 #[derive(Clone, Copy)]
 pub struct Rest<'a> {
-    /// Whether it is that of a `.`.
-    pub is_dot: bool,
+    /// The type of the step.
+    pub chain: ChainType,
     /// The flags of its node.
     pub options: ASTFlags,
     /// The side.
@@ -45,18 +46,22 @@ impl<'a> Rest<'a> {
             return last_link(self.right);
         }
         match self.right {
-            Expr::Dot(sides, options, _) => inner_link(sides.get(), true, *options),
-            Expr::Index(sides, options, _) => inner_link(sides.get(), false, *options),
+            Expr::Dot(sides, options, _) => inner_link(sides.get(), ChainType::Dotting, *options),
+            Expr::Index(sides, options, _) => inner_link(
+                sides.get(),
+                ChainType::Indexing,
+                *options,
+            ),
             _ => last_link(self.right),
         }
     }
 }
 
 /// Whether the outermost node of a chain has a meaning.
-pub fn is_chain(is_dot: bool, options: ASTFlags, right: &Expr) -> bool
-    ensures { result ≡ shape.is_chain is_dot (chain_flags options) (expr_of right.now) }
+pub fn is_chain(chain: ChainType, options: ASTFlags, right: &Expr) -> bool
+    ensures { result ≡ shape.is_chain (is_dot chain) (chain_flags options) (expr_of right.now) }
 {
-    is_rest(is_dot, options.contains(ASTFlags::BREAK), right)
+    is_rest(chain, options.contains(ASTFlags::BREAK), right)
 }
 
 fn last_link(argument: &Expr) -> Link<'_>
@@ -69,13 +74,13 @@ fn last_link(argument: &Expr) -> Link<'_>
 }
 
 /// By a node at the right side.
-fn inner_link(sides: &BinaryExpr, is_dot: bool, options: ASTFlags) -> Link<'_>
-    ensures { spec.IsInner sides.now is_dot options result }
+fn inner_link(sides: &BinaryExpr, chain: ChainType, options: ASTFlags) -> Link<'_>
+    ensures { spec.IsInner sides.now (is_dot chain) options result }
 {
     Link {
         argument: &sides.lhs,
         rest: Some(Rest {
-            is_dot,
+            chain,
             options,
             right: &sides.rhs,
         }),

@@ -1,11 +1,13 @@
 -- The node that is lent, and where it stands.
-use Rattle.std.specs.Prelude.{Option, Some, None}
+use Rattle.std.specs.Prelude.{Bool, true, false, Option, Some, None}
 use Rattle.rhai_meaning.specs.Walk as walk
 use Rattle.rhai_meaning.specs.Walk.{Node, OfExpr, OfStmt}
 use Rattle.rhai_reading.specs.Reading.{chain_flags, expr_of, stmt_of}
 use Rattle.rhai_walk.specs.Children as theory
 use Rattle.rhai_walk.specs.declared.node.ASTNode.{ASTNode}
 use Rattle.rhai_walk.specs.declared.node.ASTNode.TheVariants as node
+use Rattle.rhai_walk.specs.declared.node.ChainType.{ChainType}
+use Rattle.rhai_walk.specs.declared.node.ChainType.TheVariants as chain_type
 use Rattle.rhai_walk.specs.declared.node.Child.{Child}
 use Rattle.rhai_walk.specs.declared.node.Spot.{Spot}
 use Rattle.rhai_walk.specs.declared.node.Spot.TheVariants as spot
@@ -14,11 +16,15 @@ abbrev pub node_of : ASTNode → Node
 node_of (node.Stmt s) = OfStmt (stmt_of s.now)
 node_of (node.Expr e) = OfExpr (expr_of e.now)
 
+abbrev pub is_dot : ChainType → Bool
+is_dot chain_type.Dotting = true
+is_dot chain_type.Indexing = false
+
 abbrev pub spot_of : Spot → Option walk.Spot
 spot_of spot.Anywhere = None
 spot_of spot.LoopBody = Some walk.LoopBody
 spot_of spot.LeftSide = Some walk.LeftSide
-spot_of (spot.RightSide is_dot options rhs) = Some (walk.RightSide is_dot (chain_flags options) (expr_of rhs.now))
+spot_of (spot.RightSide chain options rhs) = Some (walk.RightSide (is_dot chain) (chain_flags options) (expr_of rhs.now))
 
 abbrev pub child_of : Child → theory.Child
 child_of c = record { spot = spot_of c.spot; node = node_of c.node }

@@ -12,5 +12,5 @@ mod walk;
 
 pub use children::Children;
 pub use every::{NodeTest, every_below, every_body, every_statement};
-pub use node::{ASTNode, Child, Spot};
+pub use node::{ASTNode, ChainType, Child, Spot};
 pub use walk::{walk_expr, walk_statements, walk_stmt};

@@ -2,7 +2,7 @@
 
 ghost use Rattle.std.specs.Prelude.{◌≡◌};
 ghost use Rattle.rhai_walk.specs.Children.{anywhere};
-ghost use Rattle.rhai_walk.specs.Nodes.{child_of, node_of};
+ghost use Rattle.rhai_walk.specs.Nodes.{child_of, is_dot, node_of};
 ghost use Rattle.rhai_walk.specs.Standing.{declared_of, standing_anywhere, standing_child};
 ghost use Rattle.rhai_walk.specs.declared.node.ASTNode.TheVariants as node;
 
@@ -18,6 +18,15 @@ pub enum ASTNode<'a> {
     Expr(&'a Expr),
 }
 
+/// The node that a step of a chain is of.
+#[derive(Clone, Copy)]
+pub enum ChainType {
+    /// A `Dot`, which asks by a property or a method.
+    Dotting,
+    /// An `Index`.
+    Indexing,
+}
+
 /// Where a node stands in the one right above it, where that matters.
 #[derive(Clone, Copy)]
 pub enum Spot<'a> {
@@ -27,8 +36,8 @@ pub enum Spot<'a> {
     LoopBody,
     /// On the left side of a `.` or an index.
     LeftSide,
-    /// On the right side of a `.` (`true`) or an index with these flags: that expression.
-    RightSide(bool, ASTFlags, &'a Expr),
+    /// On the right side of a `.` or an index with these flags: that expression.
+    RightSide(ChainType, ASTFlags, &'a Expr),
 }
 
 /// A node right below another.
@@ -38,6 +47,15 @@ pub struct Child<'a> {
     pub node: ASTNode<'a>,
     /// Where it stands.
     pub spot: Spot<'a>,
+}
+
+impl ChainType {
+    /// Whether it is a `Dot`.
+    pub fn is_dot(self) -> bool
+        ensures { result ≡ is_dot self }
+    {
+        matches!(self, ChainType::Dotting)
+    }
 }
 
 impl<'a> ASTNode<'a> {

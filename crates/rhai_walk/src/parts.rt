@@ -5,14 +5,14 @@
 ghost use Rattle.std.specs.Prelude.{◌≡◌, [], ◌∷◌, ◌++◌, MatchOption};
 ghost use Rattle.rhai_walk.specs.Children.{anywhere, children, one_step};
 ghost use Rattle.rhai_walk.specs.Left.{arm_children, arms_left, blocks_left, exprs_left, left_child, left_of_parts, listed_left, loop_left, members_left, right_child, statements_left};
-ghost use Rattle.rhai_walk.specs.Nodes.{child_of};
+ghost use Rattle.rhai_walk.specs.Nodes.{child_of, is_dot};
 ghost use Rattle.rhai_walk.specs.Standing.{arms_standing, body_standing, expr_below, expr_standing, exprs_standing, left_standing, listed_standing, maybe_standing, members_standing, right_standing, sides_standing, standing_child, standing_of_parts, statements_standing, stmt_below};
 ghost use Rattle.rhai_walk.specs.declared.parts.Parts.TheVariants as parts;
 ghost use Rattle.rhai_meaning.specs.Walk.{OfExpr, OfStmt, listed, over_maybe};
 ghost use Rattle.rhai_reading.specs.Reading.{expr_of, expressions_of, maybe_of, stmt_of, table_of};
 
 use crate::arms::ListedArms;
-use crate::node::{ASTNode, Child, Spot};
+use crate::node::{ASTNode, ChainType, Child, Spot};
 use rhai_base::{ASTFlags, Boxed, Ident};
 use rhai_tree::{BinaryExpr, Expr, FlowControl, Stmt, SwitchBlock, SwitchCasesCollection};
 
@@ -151,9 +151,13 @@ impl<'a> Parts<'a> {
             Parts::Expr(expr) => Some(then(expr, Parts::Nothing)),
             Parts::Sides(sides) => Some(then(&sides.lhs, Parts::Expr(&sides.rhs))),
             Parts::Dot(sides, flags) => Some(left_side(sides, Parts::RightOfDot(sides, flags))),
-            Parts::RightOfDot(sides, flags) => Some(right_side(sides, true, *flags)),
+            Parts::RightOfDot(sides, flags) => Some(right_side(sides, ChainType::Dotting, *flags)),
             Parts::Index(sides, flags) => Some(left_side(sides, Parts::RightOfIndex(sides, flags))),
-            Parts::RightOfIndex(sides, flags) => Some(right_side(sides, false, *flags)),
+            Parts::RightOfIndex(sides, flags) => Some(right_side(
+                sides,
+                ChainType::Indexing,
+                *flags,
+            )),
             Parts::Exprs(exprs) => first_expr(exprs),
             Parts::Members(members) => first_member(members),
             Parts::Statements(statements) => first_statement(statements),
@@ -197,14 +201,18 @@ fn left_side<'a>(sides: &'a BinaryExpr, rest: Parts<'a>) -> (Child<'a>, Parts<'a
 }
 
 /// The right side of a `.` or an index, after which nothing comes.
-fn right_side<'a>(sides: &'a BinaryExpr, is_dot: bool, flags: ASTFlags) -> (Child<'a>, Parts<'a>)
-    ensures child { child_of result.0 ≡ right_child is_dot sides.now flags }
-    ensures standing { standing_child result.0 ≡ right_standing is_dot sides.now flags }
+fn right_side<'a>(
+    sides: &'a BinaryExpr,
+    chain: ChainType,
+    flags: ASTFlags,
+) -> (Child<'a>, Parts<'a>)
+    ensures child { child_of result.0 ≡ right_child (is_dot chain) sides.now flags }
+    ensures standing { standing_child result.0 ≡ right_standing (is_dot chain) sides.now flags }
     ensures rest { result.1 ≡ parts.Nothing }
 {
     let child = Child {
         node: ASTNode::Expr(&sides.rhs),
-        spot: Spot::RightSide(is_dot, flags, &sides.rhs),
+        spot: Spot::RightSide(chain, flags, &sides.rhs),
     };
     (child, Parts::Nothing)
 }

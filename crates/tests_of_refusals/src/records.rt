@@ -4,20 +4,23 @@ use crate::scripts::{made, say_made, source};
 use crate::tried::Tried;
 use rhai_base::{Dynamic, Fault, OutOfMemory, Scope, Token};
 use rhai_host::push_report;
-use rhai_notation::{push_lines, push_script};
+use rhai_notation::{Notation, push_lines, push_script};
 use rhai_optimizer::{
     OptimizationLevel, OptimizerState, optimize_ast, optimize_counted, optimize_into_ast,
 };
 use rhai_run::{EngineInfo, RunReport, plain_run};
 use rhai_samples::{BuiltinScript, ProgramHost};
 use rhai_script::AST;
+use std::alloc::Global;
 use std::borrow::Cow;
+use std::fmt::Write;
 
 /// The calls.
 pub const CALLS: &str =
     "EngineInfo::add_constant EngineInfo::set_type_name EngineInfo::override_operator EngineInfo::builtin_binary \
     OptimizerState::push_var optimize_into_ast/none optimize_into_ast/simple optimize_into_ast/full optimize_counted \
-    optimize_ast plain_run push_report push_script push_lines BuiltinScript::statements BuiltinScript::functions";
+    optimize_ast plain_run push_report push_script push_lines push_notation Printed::fmt BuiltinScript::statements \
+    BuiltinScript::functions";
 
 pub fn make(name: &str, tried: &Tried) -> bool {
     match name {
@@ -28,7 +31,7 @@ pub fn make(name: &str, tried: &Tried) -> bool {
         "optimize_counted" => counted(tried),
         "optimize_ast" => again(tried),
         "plain_run" | "push_report" => run(name, tried),
-        "push_script" | "push_lines" => printed(name, tried),
+        "push_script" | "push_lines" | "push_notation" | "Printed::fmt" => printed(name, tried),
         "BuiltinScript::statements" | "BuiltinScript::functions" => builtins(name, tried),
         _ => return of_record(name, tried),
     }
@@ -230,21 +233,31 @@ fn say_report(name: &str, report: &RunReport, tried: &Tried) {
 
 fn printed(name: &str, tried: &Tried) {
     if let Some(script) = source(tried) {
-        let mut text = String::new(tried.said.alloc);
-        if tried.is_refused(&push_printed(name, script.get(), &mut text)) {
+        let alloc = tried.said.alloc;
+        let mut text = String::new(alloc);
+        if tried.is_refused(&push_printed(alloc, name, script.get(), &mut text)) {
             let begun = text;
-            text = String::new(tried.said.alloc);
-            tried.said.made(push_printed(name, script.get(), &mut text));
+            text = String::new(alloc);
+            tried
+                .said
+                .made(push_printed(alloc, name, script.get(), &mut text));
             tried.want(text.starts_with(begun.as_str()), "another text");
         }
         tried.said.word(text.as_str());
     }
 }
 
-fn push_printed(name: &str, script: &AST, text: &mut String) -> Result<(), OutOfMemory> {
+fn push_printed(
+    alloc: Global,
+    name: &str,
+    script: &AST,
+    text: &mut String,
+) -> Result<(), OutOfMemory> {
     match name {
         "push_script" => push_script(script, text),
-        _ => push_lines(script.statements(), text),
+        "push_lines" => push_lines(script.statements(), text),
+        "push_notation" => script.push_notation(text),
+        _ => write!(text, "{}", script.printed(alloc)).map_err(|_| OutOfMemory),
     }
 }
 

@@ -2,13 +2,14 @@ use Rattle.std.proofs.Common.{sym, ap, ◌∙◌}
 use Rattle.rhai_meaning.specs.Walk.{right_role}
 use Rattle.rhai_reading.specs.Reading.{expr_of}
 use Rattle.rhai_reading.proofs.Cases.{expr_cases}
+use Rattle.rhai_walk.specs.Nodes.{is_dot}
 use Rattle.rhai_faults.proofs.Others.{no_step}
 use Rattle.rhai_faults.proofs.around.right_role.Goals as goal
 
 pub returns-in_default : goal.returns-in_default
 returns-in_default c =
-    let is_dot = c.args.is_dot in
+    let dot = is_dot c.args.chain in
     let rhs = expr_of c.args.rhs.now in
     c.last_role-in_default.ensures
-    ∙ no_step is_dot (expr_cases c.args.rhs.now) c.in_default.not-Dot c.in_default.not-Index
-    ∙ ap (λ b. right_role is_dot b rhs) (sym c.if-is_last.false)
+    ∙ no_step dot (expr_cases c.args.rhs.now) c.in_default.not-Dot c.in_default.not-Index
+    ∙ ap (λ b. right_role dot b rhs) (sym c.if-is_last.false)

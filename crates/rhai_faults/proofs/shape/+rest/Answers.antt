@@ -1,7 +1,8 @@
 use Rattle.std.proofs.Common.{◌∙◌}
 use Rattle.rhai_reading.proofs.Cases.{expr_cases}
+use Rattle.rhai_walk.specs.Nodes.{is_dot}
 use Rattle.rhai_faults.proofs.Others.{no_chain}
 use Rattle.rhai_faults.proofs.shape.+rest.Goals as goal
 
 pub is_rest-returns-in_default : goal.is_rest-returns-in_default
-is_rest-returns-in_default t c = c.is_end.ensures ∙ no_chain c.args.is_dot c.args.is_last (expr_cases c.args.rhs.now) c.in_default.not-Dot c.in_default.not-Index
+is_rest-returns-in_default t c = c.is_end.ensures ∙ no_chain (is_dot c.args.chain) c.args.is_last (expr_cases c.args.rhs.now) c.in_default.not-Dot c.in_default.not-Index

@@ -62,6 +62,7 @@ use Rattle.rhai_evaluator.proofs.Maps.{map_runs, map_stops, members_start, membe
 use Rattle.rhai_evaluator.proofs.MethodSteps.{back_runs, back_stops, call_stops as method_call_stops, found_fits, found_runs, missing_asks, word_given, word_passed, word_stopped}
 use Rattle.rhai_chains.proofs.ChainSteps.{applied_stops, chain_runs, member_stuck, method_given, method_reached, method_stops, method_stuck, reach_gone, reach_runs, steps_end, steps_more, steps_stop, steps_unit}
 use Rattle.rhai_evaluator.proofs.evaluator.Evaluator.+evaluate.Goals as goal
+use Rattle.rhai_walk.specs.Nodes.{is_dot}
 use Rattle.rhai_evaluator.proofs.evaluator.Evaluator.+evaluate.Goals.{reach-else-contains-via-then-contains+else-is_unit_at, reach-else-contains-via-else-contains}
 
 -- arguments
@@ -646,7 +647,7 @@ invoke-statements-ended-requires g t c =
 
 -- chains
 pub chain-returns : goal.chain-returns
-chain-returns g t c = chain_runs (setting g.H.Host.answers g.H.Host.modules c.args.self.now.machine) c.args.self.now.in_loop c.args.is_dot (chain_flags c.args.options) (expr_of c.args.sides.now.lhs) (expr_of c.args.sides.now.rhs) c.args.state.now c.base.new.state (sym c.is_chain.ensures ∙ c.if-not-is_chain.false) c.in_ok-base.base c.steps.new.state c.steps.result c.in_ok-base.ensures c.steps.ensures
+chain-returns g t c = chain_runs (setting g.H.Host.answers g.H.Host.modules c.args.self.now.machine) c.args.self.now.in_loop (is_dot c.args.chain) (chain_flags c.args.options) (expr_of c.args.sides.now.lhs) (expr_of c.args.sides.now.rhs) c.args.state.now c.base.new.state (sym c.is_chain.ensures ∙ c.if-not-is_chain.false) c.in_ok-base.base c.steps.new.state c.steps.result c.in_ok-base.ensures c.steps.ensures
 
 pub steps-returns-in_err-access : goal.steps-returns-in_err-access
 steps-returns-in_err-access g t c = let p = err_from_is_err_and c.from_residual.result c.from_residual.ensures.1 in
@@ -694,10 +695,10 @@ pub method_access-returns : goal.method_access-returns
 method_access-returns g t c = method_given (setting g.H.Host.answers g.H.Host.modules c.args.self.now.machine) c.args.self.now.in_loop c.args.call.now c.args.state.now (sym c.is_callable.ensures ∙ c.if-not-is_callable.false) c.exprs.new.state c.in_ok-args.args (rw c.as_slice.ensures at c.in_ok-args.ensures)
 
 pub access-returns-in-MethodCall : goal.access-returns-in-MethodCall
-access-returns-in-MethodCall g t c = method_reached (setting g.H.Host.answers g.H.Host.modules c.args.self.now.machine) c.args.self.now.in_loop c.args.state.now c.method_access.new.state c.args.is_dot c.if-not-is_dot.false c.args.argument.now c.in-MethodCall.call c.get-in-MethodCall.result.now c.in-MethodCall.field-1 c.method_access.result c.in-MethodCall.is c.get-in-MethodCall.ensures c.method_access.ensures
+access-returns-in-MethodCall g t c = method_reached (setting g.H.Host.answers g.H.Host.modules c.args.self.now.machine) c.args.self.now.in_loop c.args.state.now c.method_access.new.state (is_dot c.args.chain) (sym c.is_dot.ensures ∙ c.if-not-is_dot.false) c.args.argument.now c.in-MethodCall.call c.get-in-MethodCall.result.now c.in-MethodCall.field-1 c.method_access.result c.in-MethodCall.is c.get-in-MethodCall.ensures c.method_access.ensures
 
 pub access-returns-in_default : goal.access-returns-in_default
-access-returns-in_default g t c = member_stuck (setting g.H.Host.answers g.H.Host.modules c.args.self.now.machine) c.args.self.now.in_loop c.args.state.now c.args.is_dot c.if-not-is_dot.false c.args.argument.now c.in_default.not-Property c.in_default.not-MethodCall
+access-returns-in_default g t c = member_stuck (setting g.H.Host.answers g.H.Host.modules c.args.self.now.machine) c.args.self.now.in_loop c.args.state.now (is_dot c.args.chain) (sym c.is_dot.ensures ∙ c.if-not-is_dot.false) c.args.argument.now c.in_default.not-Property c.in_default.not-MethodCall
 
 pub call_receiver-returns : goal.call_receiver-returns
 call_receiver-returns g t c = leads_then (setting g.H.Host.answers g.H.Host.modules c.args.self.now.machine) c.call_named.new.state c.call_named.result (λ v. given (value_of v)) (c.in_ok-name.ensures (setting g.H.Host.answers g.H.Host.modules c.args.self.now.machine) false c.args.state.now) c.call_named.ensures
@@ -745,14 +746,14 @@ pub assign_part-returns-in_default : goal.assign_part-returns-in_default
 assign_part-returns-in_default g t c = part_unplaced (setting g.H.Host.answers g.H.Host.modules c.args.self.now.machine) c.args.self.now.in_loop (expr_of c.args.base.now) c.args.rest (operator_of c.args.op.now.op) (value_of c.args.value) c.args.state.now (sym c.if-not-is_chain.false ∙ c.is_chain.ensures) c.in_default.ensures
 
 pub assign_part-returns-then-ends_in_call : goal.assign_part-returns-then-ends_in_call
-assign_part-returns-then-ends_in_call g t c = part_called (setting g.H.Host.answers g.H.Host.modules c.args.self.now.machine) c.args.self.now.in_loop (expr_of c.args.base.now) c.args.rest (operator_of c.args.op.now.op) (value_of c.args.value) c.args.state.now (sym c.if-not-is_chain.false ∙ c.is_chain.ensures) (root_meant c.in-Some.root) c.in-Some.ensures (sym c.if-ends_in_call.true ∙ c.ends_in_call.ensures ∙ ap (λ b. ends_in_call c.args.rest.is_dot b (expr_of c.args.rest.right.now)) (c.contains.ensures tt))
+assign_part-returns-then-ends_in_call g t c = part_called (setting g.H.Host.answers g.H.Host.modules c.args.self.now.machine) c.args.self.now.in_loop (expr_of c.args.base.now) c.args.rest (operator_of c.args.op.now.op) (value_of c.args.value) c.args.state.now (sym c.if-not-is_chain.false ∙ c.is_chain.ensures) (root_meant c.in-Some.root) c.in-Some.ensures (sym c.if-ends_in_call.true ∙ c.ends_in_call.ensures ∙ ap (λ b. ends_in_call (is_dot c.args.rest.chain) b (expr_of c.args.rest.right.now)) (c.contains.ensures tt))
 
 pub assign_part-returns-in_err-current : goal.assign_part-returns-in_err-current
 assign_part-returns-in_err-current g t c = let p = err_from_is_err_and c.from_residual.result c.from_residual.ensures.1 in
-    rw (p.1, p.2) (part_stops (setting g.H.Host.answers g.H.Host.modules c.args.self.now.machine) c.args.self.now.in_loop (expr_of c.args.base.now) c.args.rest (operator_of c.args.op.now.op) (value_of c.args.value) c.args.state.now (sym c.if-not-is_chain.false ∙ c.is_chain.ensures) (root_meant c.in-Some.root) c.in-Some.ensures (sym c.if-ends_in_call.false ∙ c.ends_in_call.ensures ∙ ap (λ b. ends_in_call c.args.rest.is_dot b (expr_of c.args.rest.right.now)) (c.contains.ensures tt)) c.args.state.now _ c.in_err-current.ensures)
+    rw (p.1, p.2) (part_stops (setting g.H.Host.answers g.H.Host.modules c.args.self.now.machine) c.args.self.now.in_loop (expr_of c.args.base.now) c.args.rest (operator_of c.args.op.now.op) (value_of c.args.value) c.args.state.now (sym c.if-not-is_chain.false ∙ c.is_chain.ensures) (root_meant c.in-Some.root) c.in-Some.ensures (sym c.if-ends_in_call.false ∙ c.ends_in_call.ensures ∙ ap (λ b. ends_in_call (is_dot c.args.rest.chain) b (expr_of c.args.rest.right.now)) (c.contains.ensures tt)) c.args.state.now _ c.in_err-current.ensures)
 
 pub assign_part-returns : goal.assign_part-returns
-assign_part-returns g t c = part_runs (setting g.H.Host.answers g.H.Host.modules c.args.self.now.machine) c.args.self.now.in_loop (expr_of c.args.base.now) c.args.rest (operator_of c.args.op.now.op) (value_of c.args.value) c.args.state.now (sym c.if-not-is_chain.false ∙ c.is_chain.ensures) (root_meant c.in-Some.root) c.in-Some.ensures (sym c.if-ends_in_call.false ∙ c.ends_in_call.ensures ∙ ap (λ b. ends_in_call c.args.rest.is_dot b (expr_of c.args.rest.right.now)) (c.contains.ensures tt)) c.args.state.now c.in_ok-current.current c.assign_steps.new.state c.assign_steps.result c.in_ok-current.ensures c.assign_steps.ensures
+assign_part-returns g t c = part_runs (setting g.H.Host.answers g.H.Host.modules c.args.self.now.machine) c.args.self.now.in_loop (expr_of c.args.base.now) c.args.rest (operator_of c.args.op.now.op) (value_of c.args.value) c.args.state.now (sym c.if-not-is_chain.false ∙ c.is_chain.ensures) (root_meant c.in-Some.root) c.in-Some.ensures (sym c.if-ends_in_call.false ∙ c.ends_in_call.ensures ∙ ap (λ b. ends_in_call (is_dot c.args.rest.chain) b (expr_of c.args.rest.right.now)) (c.contains.ensures tt)) c.args.state.now c.in_ok-current.current c.assign_steps.new.state c.assign_steps.result c.in_ok-current.ensures c.assign_steps.ensures
 
 pub assign_steps-returns-in_err-access : goal.assign_steps-returns-in_err-access
 assign_steps-returns-in_err-access g t c = let p = err_from_is_err_and c.from_residual.result c.from_residual.ensures.1 in

@@ -4,7 +4,7 @@ use Rattle.rhai_meaning.specs.Faults.{◌then◌}
 use Rattle.rhai_reading.specs.Reading.{keys_of}
 use Rattle.rhai_faults.specs.MapKeys.{names_of, texts_of}
 use Rattle.rhai_faults.proofs.KeyLists.{are_same, are_same-permutation}
-use Rattle.rhai_faults.proofs.map_keys.test_keys.Goals as goal
+use Rattle.rhai_faults.proofs.map_keys.test_many.Goals as goal
 
 pub returns-then-are_keys : goal.returns-then-are_keys
 returns-then-are_keys c =
