@@ -17,8 +17,8 @@ use Rattle.rhai_walk.specs.Nodes.{child_of, node_of, spot_of}
 use Rattle.rhai_walk.specs.Standing.{below, declared_of, place_of, standing_child, standing_of, statements_standing, tree_of}
 use Rattle.rhai_walk.specs.declared.children.Children.{Children}
 use Rattle.rhai_walk.specs.declared.node.ASTNode.{ASTNode}
-use Rattle.rhai_walk.specs.declared.node.ASTNode.TheVariants as node
 use Rattle.rhai_walk.specs.declared.node.Child as lent
+use Rattle.rhai_walk.proofs.Below.{tree_same}
 use Rattle.rhai_faults.specs.Places.{around_at}
 use Rattle.rhai_faults.specs.Refusals.{Finds, IsTheFirst, meant}
 use Rattle.rhai_faults.specs.Standing.{OnFault, Stands, StandsAt, StandsInFunctions, by_name, deeper, defs_of, fault_in, here, in_body, in_others, later}
@@ -59,10 +59,6 @@ stands_each (Ok x) P Q k h = tt
 stands_each (Err e) P Q k h = on_each (meant e.fault) (λ f. P f e.position) (λ f. Q f e.position) (λ f. k f e.position) h
 
 -- ---- child by child
-
-tree_same : (n : ASTNode) → tree_of (declared_of n) ≡ node_of n
-tree_same (node.Stmt s) = refl
-tree_same (node.Expr e) = refl
 
 spot_found : (s : Option walk.Spot) (p : walk.Around → Option TreeFault) (a : walk.Around) → at_spot finding s p a ≡ p (around_at s a)
 spot_found None p a = refl

@@ -11,15 +11,12 @@ use Rattle.rhai_reading.specs.Reading.{arms_of, cases_of, expr_of, expressions_o
 use Rattle.rhai_reading.proofs.Cases as cases
 use Rattle.rhai_reading.proofs.Cases.{ExprCase, StmtCase, expr_cases, stmt_cases}
 use Rattle.rhai_walk.specs.Children.{Child, anywhere, children, one_step, placed_at}
+use Rattle.rhai_walk.specs.Left.{all_meant, meant}
+use Rattle.rhai_walk.specs.Nodes.{node_of}
+use Rattle.rhai_walk.specs.declared.node.ASTNode.{ASTNode}
+use Rattle.rhai_walk.specs.declared.node.ASTNode.TheVariants as node
 use Rattle.rhai_walk.specs.Standing as standing
-use Rattle.rhai_walk.specs.Standing.{Declared, DeclaredExpr, DeclaredStmt, Standing, below, body_standing, expr_below, expr_standing, exprs_standing, listed_standing, maybe_standing, members_standing, sides_standing, statements_standing, stmt_below, tree_of}
-
--- as the theory has it
-abbrev pub meant : Standing → Child
-meant s = record { spot = s.spot; node = tree_of s.node }
-
-abbrev pub all_meant : List Standing → List Child
-all_meant ss = map meant ss
+use Rattle.rhai_walk.specs.Standing.{Declared, DeclaredExpr, DeclaredStmt, Standing, below, body_standing, declared_of, expr_below, expr_standing, exprs_standing, listed_standing, maybe_standing, members_standing, sides_standing, statements_standing, stmt_below, tree_of}
 
 -- ---- lists
 
@@ -111,3 +108,9 @@ stmt_case _ _ (cases.share_case xs) = by (standing.stmt_below-Share xs) refl
 pub below_meant : (n : Declared) → children (tree_of n) ≡ all_meant (below n)
 below_meant (DeclaredExpr e) = expr_case e (expr_of e) (expr_cases e)
 below_meant (DeclaredStmt s) = stmt_case s (stmt_of s) (stmt_cases s)
+
+-- ---- what is lent
+
+pub tree_same : (n : ASTNode) → tree_of (declared_of n) ≡ node_of n
+tree_same (node.Stmt s) = refl
+tree_same (node.Expr e) = refl

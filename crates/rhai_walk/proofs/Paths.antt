@@ -12,7 +12,8 @@ use Rattle.rhai_walk.specs.Walking.{Lists, Path, Walks, WalksOver, ended, next, 
 use Rattle.rhai_walk.specs.declared.children.Children.{Children}
 use Rattle.rhai_walk.specs.declared.node.ASTNode.{ASTNode}
 use Rattle.rhai_walk.specs.declared.node.Child.{Child}
-use Rattle.rhai_walk.proofs.Below.{all_meant, below_meant, meant}
+use Rattle.rhai_walk.specs.Left.{all_meant}
+use Rattle.rhai_walk.proofs.Below.{below_meant}
 use Rattle.rhai_walk.proofs.Folding.{Folds, over_parts-children}
 use Rattle.rhai_walk.proofs.Sizes.{above, below-above, children_below, wider}
 use Rattle.rhai_walk.proofs.Walking as walking

@@ -1,11 +1,10 @@
 -- The first of the arms that are listed.
 use Rattle.std.proofs.Common.{◌≡◌, ℕ, zero, suc, List, [], ◌∷◌, ◌++◌, map, Option, Some, None, MatchOption, slice_get, refl, sym, ap, subst, ◌∙◌}
 use Rattle.rhai_tree.specs.declared.expr.BinaryExpr.{BinaryExpr}
-use Rattle.rhai_meaning.specs.Walk.{arm_at, arm_of_default, arms_at, over_arms}
+use Rattle.rhai_meaning.specs.Walk.{arm_at, arm_of_default, arms_at}
 use Rattle.rhai_tree.specs.declared.switch.SwitchCasesCollection.{SwitchCasesCollection}
-use Rattle.rhai_reading.specs.Reading.{arms_of, expressions_of, table_of}
-use Rattle.rhai_walk.specs.Children.{Child, one_step}
-use Rattle.rhai_walk.specs.Left.{arm_children, arms_left, default_left, default_of, listed_left, places_left}
+use Rattle.rhai_reading.specs.Reading.{expressions_of, table_of}
+use Rattle.rhai_walk.specs.Arms.{places_left}
 use Rattle.rhai_walk.specs.declared.arms.ListedArms.{ListedArms}
 use Rattle.std.specs.Borrow.{Bor}
 use Rattle.std.specs.Slice.{IsItemAt}
@@ -46,23 +45,3 @@ module _ {A : Type 0} (of : BinaryExpr → List A) where
   made-default t bs i None given e h =
       ap (λ d. made_at (expressions_of t) (arm_of_default d)) given
       ∙ ap (λ (cs : List A). cs ++ []) (arm_lacks (expressions_of t) i (item_past (expressions_of t) bs i e h))
-
--- ---- the children of each
-
-left_made : (bs : List BinaryExpr) (is : List ℕ) → listed_left bs is ≡ made_at arm_children bs is
-left_made bs is = ap (λ rows. arms_at [] (λ cs ds. cs ++ ds) rows is) (rows bs) where
-  rows : (bs : List BinaryExpr) → over_arms one_step (arms_of bs) ≡ map arm_children bs
-  rows [] = refl
-  rows (b ∷ bs) = ap (λ cs. arm_children b ∷ cs) (rows bs)
-
-pub arms-some : (l m : ListedArms) (bs : List BinaryExpr) (i : ℕ) (b : Bor BinaryExpr) → m.table ≡ l.table → places_left l ≡ i ∷ places_left m → bs ≡ expressions_of m.table.now → IsItemAt bs i (Some b) → arms_left l ≡ arm_children b.now ++ arms_left m
-arms-some l m bs i b same falls e h =
-    left_made (expressions_of l.table.now) (places_left l) ∙ made-some arm_children l m bs i b same falls e h ∙ ap (λ (cs : List Child). arm_children b.now ++ cs) (sym (left_made (expressions_of m.table.now) (places_left m)))
-
-pub arms-none : (l m : ListedArms) (bs : List BinaryExpr) (i : ℕ) (r : Option (Bor BinaryExpr)) → m.table ≡ l.table → places_left l ≡ i ∷ places_left m → bs ≡ expressions_of m.table.now → IsItemAt bs i r → ((b : Bor BinaryExpr) → r ≡ Some b → ⊥) → arms_left l ≡ arms_left m
-arms-none l m bs i r same falls e h other =
-    left_made (expressions_of l.table.now) (places_left l) ∙ made-none arm_children l m bs i r same falls e h other ∙ sym (left_made (expressions_of m.table.now) (places_left m))
-
-pub default-arm : (t : SwitchCasesCollection) (bs : List BinaryExpr) (i : ℕ) (r : Option (Bor BinaryExpr)) → (table_of t).default ≡ Some i → bs ≡ expressions_of t → IsItemAt bs i r → MatchOption r (default_left t ≡ []) (λ b. default_left t ≡ arm_children b.now)
-default-arm t bs i r given e h =
-    subst (λ (cs : List Child). MatchOption r (cs ≡ []) (λ b. cs ≡ arm_children b.now)) (sym (left_made (expressions_of t) (default_of t))) (made-default arm_children t bs i r given e h)

@@ -1,3 +1,4 @@
+pub mod Arms
 pub mod Children
 pub mod Left
 pub mod Nodes

@@ -25,9 +25,8 @@ use Rattle.rhai_tree.specs.declared.switch.SwitchCasesCollection.{SwitchCasesCol
 use Rattle.rhai_meaning.specs.Walk.{Node, OfExpr, OfStmt, Spot, LoopBody, LeftSide, RightSide, arms_at, listed}
 use Rattle.rhai_reading.specs.Positions.{ExprLayer, StmtLayer, position_of, stmt_position_of}
 use Rattle.rhai_reading.specs.Reading.{cases_of, chain_flags, expr_of, expressions_of, stmt_of, subject_of, table_of}
-use Rattle.std.specs.Iterator.{YieldsFirstBy}
-use Rattle.rhai_walk.specs.Left.{default_of, left_of, places_left}
-use Rattle.rhai_walk.specs.Nodes.{child_of, spot_of}
+use Rattle.rhai_walk.specs.Arms.{default_of, places_left}
+use Rattle.rhai_walk.specs.Nodes.{spot_of}
 use Rattle.rhai_walk.specs.declared.arms.ListedArms.{ListedArms}
 use Rattle.rhai_walk.specs.declared.children.Children.{Children}
 use Rattle.rhai_walk.specs.declared.node.ASTNode.{ASTNode}
@@ -180,10 +179,6 @@ standing_of_parts (parts.Answers arms) = drop 1 (arms_standing arms)
 
 abbrev pub standing_of : Children → List Standing
 standing_of c = standing_of_parts c.parts
-
--- the first child that was left, in both
-abbrev pub Yields : Children → Option Child → Children → Type 0
-Yields s r t = YieldsFirstBy child_of left_of s r t × YieldsFirstBy standing_child standing_of s r t
 
 -- ---- what stands below each node
 

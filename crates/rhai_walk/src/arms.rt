@@ -3,7 +3,7 @@
 #![tactic(auto, using(rhai_reading::specs::Reading::shapes))]
 
 ghost use Rattle.std.specs.Prelude.{◌≡◌, [], ◌∷◌, ◌++◌, MatchOption};
-ghost use Rattle.rhai_walk.specs.Left.{arm_children, arms_left, default_left, default_of, listed_left, places_left, ranges_left};
+ghost use Rattle.rhai_walk.specs.Arms.{default_of, places_left, ranges_left};
 ghost use Rattle.rhai_walk.specs.Standing.{arms_standing, default_standing, listed_standing, sides_standing};
 ghost use Rattle.rhai_meaning.specs.Walk.{listed};
 ghost use Rattle.rhai_reading.specs.Reading.{expressions_of, table_of};
@@ -24,8 +24,7 @@ pub(crate) struct ListedArms<'a> {
 impl<'a> ListedArms<'a> {
     /// Those of a table.
     pub(crate) fn of(table: &'a SwitchCasesCollection) -> ListedArms<'a>
-        ensures children { arms_left result ≡ listed_left (expressions_of table.now) (listed (table_of table.now)) }
-        ensures standing { arms_standing result
+        ensures { arms_standing result
             ≡ listed_standing (expressions_of table.now) (listed (table_of table.now)) }
     {
         ListedArms {
@@ -38,8 +37,6 @@ impl<'a> ListedArms<'a> {
     /// Takes the first that the table has. A place past the table names none.
     pub(crate) fn next(&mut self) -> Option<&'a BinaryExpr>
         ensures table { self.new.table ≡ self.old.table }
-        ensures arms { MatchOption result (arms_left self.old ≡ default_left self.old.table.now) (λ b.
-            arms_left self.old ≡ arm_children b.now ++ arms_left self.new) }
         ensures standing { MatchOption result (arms_standing self.old ≡ default_standing self.old.table.now) (λ b.
             arms_standing self.old ≡ sides_standing b.now ++ arms_standing self.new) }
     {
@@ -53,9 +50,7 @@ impl<'a> ListedArms<'a> {
 
     /// The arm of the default, if the table has it.
     pub(crate) fn default(self) -> Option<&'a BinaryExpr>
-        ensures arms { MatchOption result (default_left self.entry.table.now ≡ []) (λ b.
-            default_left self.entry.table.now ≡ arm_children b.now) }
-        ensures standing { MatchOption result (default_standing self.entry.table.now ≡ []) (λ b.
+        ensures { MatchOption result (default_standing self.entry.table.now ≡ []) (λ b.
             default_standing self.entry.table.now ≡ sides_standing b.now) }
     {
         self.table.expressions.as_slice().get(self.table.def_case?)

@@ -3,12 +3,10 @@
 #![tactic(auto, using(rhai_reading::specs::Reading::shapes))]
 
 ghost use Rattle.std.specs.Prelude.{◌≡◌, [], ◌∷◌, IsTrue};
-ghost use Rattle.rhai_walk.specs.Children.{anywhere, children};
+ghost use Rattle.rhai_walk.specs.Children.{children};
 ghost use Rattle.rhai_walk.specs.Left.{is_nothing, left_of, statements_left};
 ghost use Rattle.rhai_walk.specs.Nodes.{node_of};
 ghost use Rattle.rhai_walk.specs.Standing.{below, declared_of, expr_standing, standing_of, statements_standing};
-ghost use Rattle.rhai_meaning.specs.Walk.{OfExpr};
-ghost use Rattle.rhai_reading.specs.Reading.{expr_of};
 
 use crate::node::{ASTNode, Child};
 use crate::parts::Parts;
@@ -39,8 +37,7 @@ impl<'a> Children<'a> {
 
     /// An expression alone.
     pub(crate) fn only(expr: &'a Expr) -> Children<'a>
-        ensures children { left_of result ≡ anywhere (OfExpr (expr_of expr.now)) ∷ [] }
-        ensures standing { standing_of result ≡ expr_standing expr.now ∷ [] }
+        ensures { standing_of result ≡ expr_standing expr.now ∷ [] }
     {
         Children {
             parts: Parts::Expr(expr),
@@ -70,7 +67,7 @@ impl<'a> Children<'a> {
 
 impl<'a> Iterator for Children<'a> {
     ghost use Rattle.std.specs.Iterator.{item_count};
-    ghost use Rattle.rhai_walk.specs.Standing.{Yields};
+    ghost use Rattle.rhai_walk.specs.Left.{Yields};
 
     type Item = Child<'a>;
 

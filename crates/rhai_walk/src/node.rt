@@ -1,8 +1,7 @@
 //! Nodes that are lent, and where they stand.
 
 ghost use Rattle.std.specs.Prelude.{◌≡◌};
-ghost use Rattle.rhai_walk.specs.Children.{anywhere};
-ghost use Rattle.rhai_walk.specs.Nodes.{child_of, is_dot, node_of};
+ghost use Rattle.rhai_walk.specs.Nodes.{is_dot};
 ghost use Rattle.rhai_walk.specs.Standing.{declared_of, standing_anywhere, standing_child};
 ghost use Rattle.rhai_walk.specs.declared.node.ASTNode.TheVariants as node;
 
@@ -61,8 +60,7 @@ impl ChainType {
 impl<'a> ASTNode<'a> {
     /// It, as a child that may stand anywhere.
     pub(crate) fn anywhere(self) -> Child<'a>
-        ensures child { child_of result ≡ anywhere (node_of self.entry) }
-        ensures standing { standing_child result ≡ standing_anywhere (declared_of self.entry) }
+        ensures { standing_child result ≡ standing_anywhere (declared_of self.entry) }
     {
         Child {
             node: self,

@@ -3,13 +3,11 @@
 #![tactic(auto, using(rhai_reading::specs::Reading::shapes, crate::specs::Standing::nodes_below))]
 
 ghost use Rattle.std.specs.Prelude.{◌≡◌, [], ◌∷◌, ◌++◌, MatchOption};
-ghost use Rattle.rhai_walk.specs.Children.{anywhere, children, one_step};
-ghost use Rattle.rhai_walk.specs.Left.{arm_children, arms_left, blocks_left, exprs_left, left_child, left_of_parts, listed_left, loop_left, members_left, right_child, statements_left};
-ghost use Rattle.rhai_walk.specs.Nodes.{child_of, is_dot};
+ghost use Rattle.rhai_walk.specs.Nodes.{is_dot};
 ghost use Rattle.rhai_walk.specs.Standing.{arms_standing, body_standing, expr_below, expr_standing, exprs_standing, left_standing, listed_standing, maybe_standing, members_standing, right_standing, sides_standing, standing_child, standing_of_parts, statements_standing, stmt_below};
 ghost use Rattle.rhai_walk.specs.declared.parts.Parts.TheVariants as parts;
-ghost use Rattle.rhai_meaning.specs.Walk.{OfExpr, OfStmt, listed, over_maybe};
-ghost use Rattle.rhai_reading.specs.Reading.{expr_of, expressions_of, maybe_of, stmt_of, table_of};
+ghost use Rattle.rhai_meaning.specs.Walk.{listed};
+ghost use Rattle.rhai_reading.specs.Reading.{expressions_of, table_of};
 
 use crate::arms::ListedArms;
 use crate::node::{ASTNode, ChainType, Child, Spot};
@@ -59,8 +57,7 @@ impl<'a> Parts<'a> {
     /// Those of an expression.
     #[inline(always)]
     pub(crate) fn of_expr(expr: &'a Expr) -> Parts<'a>
-        ensures children { left_of_parts result ≡ children (OfExpr (expr_of expr.now)) }
-        ensures standing { standing_of_parts result ≡ expr_below expr.now }
+        ensures { standing_of_parts result ≡ expr_below expr.now }
     {
         match expr {
             Expr::DynamicConstant(_, _)
@@ -90,8 +87,7 @@ impl<'a> Parts<'a> {
     /// Those of a statement.
     #[inline(always)]
     pub(crate) fn of_stmt(stmt: &'a Stmt) -> Parts<'a>
-        ensures children { left_of_parts result ≡ children (OfStmt (stmt_of stmt.now)) }
-        ensures standing { standing_of_parts result ≡ stmt_below stmt.now }
+        ensures { standing_of_parts result ≡ stmt_below stmt.now }
     {
         match stmt {
             Stmt::Noop(_) | Stmt::Export(_, _) | Stmt::Share(_) => Parts::Nothing,
@@ -112,8 +108,7 @@ impl<'a> Parts<'a> {
 
     #[inline(always)]
     fn of_optional(expr: &'a Option<Boxed<Expr>>) -> Parts<'a>
-        ensures children { left_of_parts result ≡ over_maybe one_step (maybe_of expr.now) }
-        ensures standing { standing_of_parts result ≡ maybe_standing expr.now }
+        ensures { standing_of_parts result ≡ maybe_standing expr.now }
     {
         match expr {
             Some(expr) => Parts::Expr(expr.get()),
@@ -122,8 +117,7 @@ impl<'a> Parts<'a> {
     }
 
     fn of_arms(table: &'a SwitchCasesCollection) -> Parts<'a>
-        ensures children { left_of_parts result ≡ listed_left (expressions_of table.now) (listed (table_of table.now)) }
-        ensures standing { standing_of_parts result
+        ensures { standing_of_parts result
             ≡ listed_standing (expressions_of table.now) (listed (table_of table.now)) }
     {
         Parts::Arms(ListedArms::of(table))
@@ -131,8 +125,7 @@ impl<'a> Parts<'a> {
 
     #[inline(always)]
     fn of_blocks(flow: &'a FlowControl) -> Parts<'a>
-        ensures children { left_of_parts result ≡ blocks_left flow.now.body.block flow.now.branch.block }
-        ensures standing { standing_of_parts result
+        ensures { standing_of_parts result
             ≡ statements_standing flow.now.body.block ++ statements_standing flow.now.branch.block }
     {
         Parts::Blocks(flow.body.statements(), flow)
@@ -141,9 +134,7 @@ impl<'a> Parts<'a> {
     /// The first child, and the parts after it.
     #[inline(always)]
     pub(crate) fn split_first(self) -> Option<(Child<'a>, Parts<'a>)>
-        ensures children { MatchOption result (left_of_parts self.entry ≡ []) (λ p.
-            left_of_parts self.entry ≡ child_of p.0 ∷ left_of_parts p.1) }
-        ensures standing { MatchOption result (standing_of_parts self.entry ≡ []) (λ p.
+        ensures { MatchOption result (standing_of_parts self.entry ≡ []) (λ p.
             standing_of_parts self.entry ≡ standing_child p.0 ∷ standing_of_parts p.1) }
     {
         match self {
@@ -180,7 +171,6 @@ impl<'a> Parts<'a> {
 
 /// An expression, where it does not matter, and what comes after it.
 fn then<'a>(expr: &'a Expr, rest: Parts<'a>) -> (Child<'a>, Parts<'a>)
-    ensures child { child_of result.0 ≡ anywhere (OfExpr (expr_of expr.now)) }
     ensures standing { standing_child result.0 ≡ expr_standing expr.now }
     ensures rest { result.1 ≡ rest.entry }
 {
@@ -189,7 +179,6 @@ fn then<'a>(expr: &'a Expr, rest: Parts<'a>) -> (Child<'a>, Parts<'a>)
 
 /// The left side of a `.` or an index, and what comes after it.
 fn left_side<'a>(sides: &'a BinaryExpr, rest: Parts<'a>) -> (Child<'a>, Parts<'a>)
-    ensures child { child_of result.0 ≡ left_child sides.now }
     ensures standing { standing_child result.0 ≡ left_standing sides.now }
     ensures rest { result.1 ≡ rest.entry }
 {
@@ -206,7 +195,6 @@ fn right_side<'a>(
     chain: ChainType,
     flags: ASTFlags,
 ) -> (Child<'a>, Parts<'a>)
-    ensures child { child_of result.0 ≡ right_child (is_dot chain) sides.now flags }
     ensures standing { standing_child result.0 ≡ right_standing (is_dot chain) sides.now flags }
     ensures rest { result.1 ≡ parts.Nothing }
 {
@@ -218,9 +206,7 @@ fn right_side<'a>(
 }
 
 fn first_expr<'a>(exprs: &'a [Expr]) -> Option<(Child<'a>, Parts<'a>)>
-    ensures children { MatchOption result (exprs_left exprs.now ≡ []) (λ p.
-        exprs_left exprs.now ≡ child_of p.0 ∷ left_of_parts p.1) }
-    ensures standing { MatchOption result (exprs_standing exprs.now ≡ []) (λ p.
+    ensures { MatchOption result (exprs_standing exprs.now ≡ []) (λ p.
         exprs_standing exprs.now ≡ standing_child p.0 ∷ standing_of_parts p.1) }
 {
     let (first, rest) = exprs.split_first()?;
@@ -228,9 +214,7 @@ fn first_expr<'a>(exprs: &'a [Expr]) -> Option<(Child<'a>, Parts<'a>)>
 }
 
 fn first_member<'a>(members: &'a [(Ident, Expr)]) -> Option<(Child<'a>, Parts<'a>)>
-    ensures children { MatchOption result (members_left members.now ≡ []) (λ p.
-        members_left members.now ≡ child_of p.0 ∷ left_of_parts p.1) }
-    ensures standing { MatchOption result (members_standing members.now ≡ []) (λ p.
+    ensures { MatchOption result (members_standing members.now ≡ []) (λ p.
         members_standing members.now ≡ standing_child p.0 ∷ standing_of_parts p.1) }
 {
     let (first, rest) = members.split_first()?;
@@ -238,9 +222,7 @@ fn first_member<'a>(members: &'a [(Ident, Expr)]) -> Option<(Child<'a>, Parts<'a
 }
 
 fn first_statement<'a>(statements: &'a [Stmt]) -> Option<(Child<'a>, Parts<'a>)>
-    ensures children { MatchOption result (statements_left statements.now ≡ []) (λ p.
-        statements_left statements.now ≡ child_of p.0 ∷ left_of_parts p.1) }
-    ensures standing { MatchOption result (statements_standing statements.now ≡ []) (λ p.
+    ensures { MatchOption result (statements_standing statements.now ≡ []) (λ p.
         statements_standing statements.now ≡ standing_child p.0 ∷ standing_of_parts p.1) }
 {
     let (first, rest) = statements.split_first()?;
@@ -248,9 +230,7 @@ fn first_statement<'a>(statements: &'a [Stmt]) -> Option<(Child<'a>, Parts<'a>)>
 }
 
 fn first_of_blocks<'a>(body: &'a [Stmt], flow: &'a FlowControl) -> Option<(Child<'a>, Parts<'a>)>
-    ensures children { MatchOption result (blocks_left body.now flow.now.branch.block ≡ []) (λ p.
-        blocks_left body.now flow.now.branch.block ≡ child_of p.0 ∷ left_of_parts p.1) }
-    ensures standing { MatchOption result
+    ensures { MatchOption result
         (statements_standing body.now ++ statements_standing flow.now.branch.block ≡ [])
         (λ p.
         statements_standing body.now ++ statements_standing flow.now.branch.block
@@ -263,9 +243,7 @@ fn first_of_blocks<'a>(body: &'a [Stmt], flow: &'a FlowControl) -> Option<(Child
 }
 
 fn first_of_loop<'a>(statements: &'a [Stmt]) -> Option<(Child<'a>, Parts<'a>)>
-    ensures children { MatchOption result (loop_left statements.now ≡ []) (λ p.
-        loop_left statements.now ≡ child_of p.0 ∷ left_of_parts p.1) }
-    ensures standing { MatchOption result (body_standing statements.now ≡ []) (λ p.
+    ensures { MatchOption result (body_standing statements.now ≡ []) (λ p.
         body_standing statements.now ≡ standing_child p.0 ∷ standing_of_parts p.1) }
 {
     let (first, rest) = statements.split_first()?;
@@ -278,9 +256,7 @@ fn first_of_loop<'a>(statements: &'a [Stmt]) -> Option<(Child<'a>, Parts<'a>)>
 
 /// The first arm, and what comes after it: other arms, but for the default.
 fn first_arm<'a>(arms: ListedArms<'a>) -> Option<(&'a BinaryExpr, Parts<'a>)>
-    ensures children { MatchOption result (arms_left arms.entry ≡ []) (λ p.
-        arms_left arms.entry ≡ arm_children p.0.now ++ left_of_parts p.1) }
-    ensures standing { MatchOption result (arms_standing arms.entry ≡ []) (λ p.
+    ensures { MatchOption result (arms_standing arms.entry ≡ []) (λ p.
         arms_standing arms.entry ≡ sides_standing p.0.now ++ standing_of_parts p.1) }
 {
     let mut arms = arms;

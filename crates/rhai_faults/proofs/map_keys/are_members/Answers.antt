@@ -1,4 +1,4 @@
-use Rattle.std.proofs.Common.{◌&&◌, ◌==◌, sym, ap, ◌∙◌, eq-eqb}
+use Rattle.std.proofs.Common.{◌&&◌, ◌==◌, length, refl, sym, ap, ◌∙◌, eq-eqb}
 use Rattle.std.proofs.lemmas.Bool.{ne_eqb}
 use Rattle.rhai_meaning.specs.Shape.{are_among}
 use Rattle.rhai_reading.specs.Reading.{keys_of}
@@ -6,18 +6,18 @@ use Rattle.rhai_faults.specs.MapKeys.{names_of}
 use Rattle.rhai_faults.proofs.KeyLists.{and_false, are_same-of_members}
 use Rattle.rhai_faults.proofs.map_keys.are_members.Goals as goal
 
-pub returns-then-len : goal.returns-then-len
-returns-then-len c =
+pub returns-then-members-len : goal.returns-then-members-len
+returns-then-members-len c =
     let members = c.args.members.now in
     let template = c.args.template.now in
     let within = are_among (keys_of template) (names_of members) in
-    c.has_members.ensures ∙ sym (ap (λ b. b && within) (eq-eqb c.len.result c.len-2.result c.if-len.true))
-    ∙ are_same-of_members members template c.len.result c.len-2.result c.requires c.len-2.ensures.ordered c.len.ensures c.len-2.ensures.len
+    c.has_members.ensures ∙ sym (ap (λ b. b && within) (eq-eqb (length members) c.len.result c.if-members-len.true))
+    ∙ are_same-of_members members template (length members) c.len.result c.requires c.len.ensures.ordered refl c.len.ensures.len
 
-pub returns-else-len : goal.returns-else-len
-returns-else-len c =
+pub returns-else-members-len : goal.returns-else-members-len
+returns-else-members-len c =
     let members = c.args.members.now in
     let template = c.args.template.now in
     let within = are_among (keys_of template) (names_of members) in
-    and_false (c.len.result == c.len-2.result) within (ne_eqb c.len.result c.len-2.result c.if-len.false)
-    ∙ are_same-of_members members template c.len.result c.len-2.result c.requires c.len-2.ensures.ordered c.len.ensures c.len-2.ensures.len
+    and_false (length members == c.len.result) within (ne_eqb (length members) c.len.result c.if-members-len.false)
+    ∙ are_same-of_members members template (length members) c.len.result c.requires c.len.ensures.ordered refl c.len.ensures.len

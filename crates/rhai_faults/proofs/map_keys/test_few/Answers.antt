@@ -17,8 +17,8 @@ returns-then-are_members c =
     ap (λ b. faults.unless b faults.DuplicateMapKey then other) (sym c.differ.ensures ∙ c.if-not-differ.false)
     ∙ ap (λ b. faults.unless b faults.MapTemplate) (sym c.are_members.ensures ∙ c.if-are_members.true)
 
-pub returns : goal.returns
-returns c =
+pub returns-else-are_members : goal.returns-else-are_members
+returns-else-are_members c =
     let other = faults.unless (are_same (names_of c.args.members.now) (keys_of c.args.template.now)) faults.MapTemplate in
     ap (λ b. faults.unless b faults.DuplicateMapKey then other) (sym c.differ.ensures ∙ c.if-not-differ.false)
     ∙ ap (λ b. faults.unless b faults.MapTemplate) (sym c.are_members.ensures ∙ c.if-are_members.false)

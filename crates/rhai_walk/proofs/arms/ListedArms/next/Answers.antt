@@ -1,11 +1,7 @@
 use Rattle.std.proofs.Common.{sym, ◌∙◌}
 use Rattle.rhai_walk.specs.Standing.{sides_standing}
-use Rattle.rhai_walk.proofs.Steps.{arms-none, arms-some, made-none, made-some}
+use Rattle.rhai_walk.proofs.Steps.{made-none, made-some}
 use Rattle.rhai_walk.proofs.arms.ListedArms.next.Goals as goal
-
-pub returns-in-Some-get-clause-arms : goal.returns-in-Some-get-clause-arms
-returns-in-Some-get-clause-arms c =
-    sym c.loop-place.invariant.arms ∙ arms-some c.loop-place.self c.next_place.new.self _ c.in-Some.place c.in-Some-get.arm c.in-Some.ensures.table c.in-Some.ensures.places c.as_slice.ensures c.in-Some-get.ensures.lookup
 
 pub returns-in-Some-get-clause-standing : goal.returns-in-Some-get-clause-standing
 returns-in-Some-get-clause-standing c =
@@ -14,6 +10,5 @@ returns-in-Some-get-clause-standing c =
 pub loop-place-preserved : goal.loop-place-preserved
 loop-place-preserved c = record {
   table = c.in-Some.ensures.table ∙ c.loop-place.invariant.table;
-  arms = sym (arms-none c.loop-place.self c.next_place.new.self _ c.in-Some.place c.get.result c.in-Some.ensures.table c.in-Some.ensures.places c.as_slice.ensures c.get.ensures.lookup c.in_default-get.not-Some) ∙ c.loop-place.invariant.arms;
   standing = sym (made-none sides_standing c.loop-place.self c.next_place.new.self _ c.in-Some.place c.get.result c.in-Some.ensures.table c.in-Some.ensures.places c.as_slice.ensures c.get.ensures.lookup c.in_default-get.not-Some) ∙ c.loop-place.invariant.standing;
 }

@@ -1,12 +1,11 @@
 use Rattle.std.proofs.Common.{◌≡◌, length}
-use Rattle.rhai_walk.specs.Left.{arms_left, places_left}
+use Rattle.rhai_walk.specs.Arms.{places_left}
 use Rattle.rhai_walk.specs.Standing.{arms_standing}
 use Rattle.rhai_walk.proofs.arms.ListedArms.next.Given as goal
 
 abbrev pub invariant-loop-place : goal.invariant-loop-place
 invariant-loop-place l = record {
   table : l.self.table ≡ l.fn.self.table;
-  arms : arms_left l.self ≡ arms_left l.fn.self;
   standing : arms_standing l.self ≡ arms_standing l.fn.self;
 }
 

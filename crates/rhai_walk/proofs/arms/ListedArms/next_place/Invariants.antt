@@ -1,6 +1,6 @@
 use Rattle.std.proofs.Common.{◌≡◌, ◌-◌, length}
 use Rattle.rhai_reading.specs.Reading.{table_of}
-use Rattle.rhai_walk.specs.Left.{places_left}
+use Rattle.rhai_walk.specs.Arms.{places_left}
 use Rattle.rhai_walk.proofs.arms.ListedArms.next_place.Given as goal
 
 abbrev pub invariant-loop-self : goal.invariant-loop-self

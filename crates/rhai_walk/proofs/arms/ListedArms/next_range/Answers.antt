@@ -1,5 +1,5 @@
 use Rattle.std.proofs.Common.{◌≡◌, rules}
-use Rattle.rhai_walk.specs.Left.{default_of, ranges_left}
+use Rattle.rhai_walk.specs.Arms.{default_of, ranges_left}
 use Rattle.rhai_walk.proofs.Places.{range-none, range-some}
 use Rattle.rhai_walk.proofs.arms.ListedArms.next_range.Goals as goal
 
