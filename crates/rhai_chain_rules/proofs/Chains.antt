@@ -1,21 +1,17 @@
 -- What became of a chain, by what its first step answers.
-use Rattle.std.proofs.Common.{◌≡◌, Bool, true, false, not, List, Option, Some, None, is_some, refl, sym, ap, ◌∙◌, subst, inl, inr}
-use Rattle.std.specs.Prelude.{◌&&◌, ◌||◌, ◌⊎◌, if◌then◌else◌}
-use Rattle.std.specs.Option.{option_map}
-use Rattle.rhai_names.specs.declared.flags.ASTFlags.{ASTFlags}
+use Rattle.std.proofs.Common.{◌≡◌, Bool, true, false, List, Option, Some, None, refl, sym, ap, ◌∙◌, subst, inl, inr}
+use Rattle.std.specs.Prelude.{◌&&◌, ◌⊎◌, if◌then◌else◌}
 use Rattle.rhai_values.specs.Value.{Value, UnitV, is_unit}
 use Rattle.rhai_meaning.specs.Constants.{constant_value}
-use Rattle.rhai_meaning.specs.Desugar.{root_of}
 use Rattle.rhai_meaning.specs.Engine.{Engine, or_else}
 use Rattle.rhai_meaning.specs.Queries.{is_pure_expr}
 use Rattle.rhai_meaning.specs.Queries.{is_unit as is_unit_expr}
 use Rattle.rhai_meaning.specs.Tree.{ChainFlags, Expr, UnitConstant, Dot, Index}
-use Rattle.rhai_reading.specs.Reading.{chain_flags, expr_of}
-use Rattle.rhai_rewriting.specs.Clear.{known_value}
+use Rattle.rhai_reading.specs.Reading.{expr_of}
 use Rattle.rhai_rewriting.specs.Known.{Known}
 use Rattle.rhai_rewriting.specs.Parts.{constant_of, link}
 use Rattle.rhai_rewriting.specs.Rules as rule
-use Rattle.rhai_rewriting.specs.Steps.{AnswersNone, Progress, here, Place, Anywhere, is_chain_node}
+use Rattle.rhai_rewriting.specs.Steps.{AnswersNone, Progress, Place, is_chain_node}
 use Rattle.rhai_rewriting.proofs.Keeping.{keeps_unit}
 use Rattle.rhai_tree.specs.declared.expr.BinaryExpr.{BinaryExpr}
 use Rattle.rhai_tree.specs.declared.expr.Expr as declared
@@ -25,10 +21,10 @@ use Rattle.rhai_steps.proofs.Places.{stands}
 use Rattle.rhai_steps.proofs.Stepping.{expr_stays}
 use Rattle.rhai_walk.specs.declared.node.ChainType.{ChainType}
 use Rattle.rhai_walk.specs.declared.node.ChainType.TheVariants as access_kind
-use Rattle.rhai_part_rules.specs.Answers.{constant_answer, known_answer, other_than_unit, allowed}
-use Rattle.rhai_chain_rules.specs.Chains.{ended_by, unit_ends_by, value_answer, chain_of, IsTaken, PartStep, SidesStep, ChainStep}
-use Rattle.rhai_part_rules.specs.Literals.{literal_part, allowed_part, literal_answer}
-use Rattle.rhai_chain_rules.specs.Onward.{argument, onward, goes_on, Rewrites}
+use Rattle.rhai_part_rules.specs.Answers.{constant_answer, known_answer, allowed}
+use Rattle.rhai_chain_rules.specs.Chains.{ended_by, unit_ends_by, value_answer, chain_of, IsTaken, PartStep, ChainStep}
+use Rattle.rhai_part_rules.specs.Literals.{allowed_part, literal_answer}
+use Rattle.rhai_chain_rules.specs.Onward.{argument, onward, Rewrites}
 use Rattle.rhai_chain_rules.proofs.Quiet.{chain_quiet}
 use Rattle.rhai_chain_rules.proofs.Rules.{constant_rewrites, known_rewrites, literal_rewrites}
 

@@ -1,5 +1,5 @@
 -- Parts that a step answers: they are no places, and as reduced and as clear as the base that they were parts of.
-use Rattle.std.proofs.Common.{◌≡◌, ℕ, zero, suc, Bool, true, false, cond, List, Option, Some, None, refl, sym, ap, ◌∙◌, subst}
+use Rattle.std.proofs.Common.{◌≡◌, ℕ, zero, suc, Bool, true, false, cond, List, Option, Some, None, refl, subst}
 use Rattle.std.specs.Prelude.{◌&&◌}
 use Rattle.rhai_values.specs.Value.{Text, Value, UnitV, same_text}
 use Rattle.rhai_meaning.specs.Desugar.{root_of}

@@ -1,9 +1,8 @@
 -- The rules at a chain: a lemma for each, whether the chain ends with its first step or goes on.
 use Rattle.std.proofs.Common.{◌≡◌, ℕ, Bool, true, false, not, List, [], ◌∷◌, Option, Some, None, refl, sym, ap, ◌∙◌, subst, inl, inr}
 use Rattle.std.specs.Prelude.{ℤ, ◌&&◌, ◌⊎◌, codes, if◌then◌else◌}
-use Rattle.rhai_values.specs.Value.{Text, Value, UnitV, BoolV, IntV, TextV, MapV, Fields, same_text, is_unit}
+use Rattle.rhai_values.specs.Value.{Text, Value, BoolV, IntV, TextV, MapV, Fields, same_text, is_unit}
 use Rattle.rhai_meaning.specs.Constants.{constant_value}
-use Rattle.rhai_meaning.specs.Desugar.{root_of}
 use Rattle.rhai_meaning.specs.Elements.{at_index, index_in, entry}
 use Rattle.rhai_meaning.specs.Engine.{Engine, mapped_type_name}
 use Rattle.rhai_meaning.specs.Queries.{is_pure_expr, are_pure_exprs, are_pure_pairs}
@@ -14,7 +13,7 @@ use Rattle.rhai_rewriting.specs.Answering.{property_of, index_of}
 use Rattle.rhai_rewriting.specs.Clear.{known_value}
 use Rattle.rhai_rewriting.specs.Context.{Context, knowing}
 use Rattle.rhai_rewriting.specs.Indexing.{indexed, expr_at, pair_for, or_unit}
-use Rattle.rhai_rewriting.specs.Known.{Known, look}
+use Rattle.rhai_rewriting.specs.Known.{Known}
 use Rattle.rhai_rewriting.specs.Parts.{constant_of, named, link}
 use Rattle.rhai_rewriting.specs.Rules as rule
 use Rattle.rhai_rewriting.specs.Rules.{ExprRule}
@@ -24,7 +23,7 @@ use Rattle.rhai_rewriting.proofs.Reducing.{root_of_value, unit_of_value}
 use Rattle.rhai_rewriting.proofs.rules.Equality.{text_is}
 use Rattle.rhai_meaning.proofs.PureTrees.{split}
 use Rattle.rhai_steps.specs.Standing.{may_stand}
-use Rattle.rhai_part_rules.specs.Answers.{whole_value, has_no_token, is_empty, is_bare, word_answer, method_answer, member_answer, answer_at, constant_answer, entry_of, known_answer}
+use Rattle.rhai_part_rules.specs.Answers.{whole_value, has_no_token, is_empty, is_bare, method_answer, member_answer, answer_at, constant_answer, entry_of, known_answer}
 use Rattle.rhai_part_rules.specs.Literals.{integer_of, element_for, entry_for, property_for, literal_part}
 use Rattle.rhai_chain_rules.specs.Onward.{argument, onward, Rewrites}
 use Rattle.rhai_chain_rules.proofs.Parts.{IsPart, constant_is_part, element_is_part, entry_is_part}

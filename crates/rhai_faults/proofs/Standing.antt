@@ -16,7 +16,6 @@ use Rattle.rhai_walk.specs.Left.{left_of}
 use Rattle.rhai_walk.specs.Nodes.{child_of, node_of, spot_of}
 use Rattle.rhai_walk.specs.Standing.{below, declared_of, place_of, standing_child, standing_of, statements_standing, tree_of}
 use Rattle.rhai_walk.specs.declared.children.Children.{Children}
-use Rattle.rhai_walk.specs.declared.node.ASTNode.{ASTNode}
 use Rattle.rhai_walk.specs.declared.node.Child as lent
 use Rattle.rhai_walk.proofs.Below.{tree_same}
 use Rattle.rhai_faults.specs.Places.{around_at}

@@ -3,7 +3,7 @@ use Rattle.std.specs.Prelude.{Bool, true, false, ◌&&◌, not, List, Option, So
 use Rattle.rhai_values.specs.Value.{Text, Value, BoolV, TextV, MapV, same_text, is_unit}
 use Rattle.rhai_meaning.specs.Constants.{constant_value}
 use Rattle.rhai_meaning.specs.Elements.{at_index, entry}
-use Rattle.rhai_meaning.specs.Engine.{Engine, or_else, mapped_type_name}
+use Rattle.rhai_meaning.specs.Engine.{Engine, mapped_type_name}
 use Rattle.rhai_meaning.specs.Shape.{is_none}
 use Rattle.rhai_meaning.specs.Tree.{CallToken, NoToken, Callee, Expr, ArrayOf, MapOf, Property, MethodCall, Exprs, no_exprs, expr}
 use Rattle.rhai_rewriting.specs.Answering.{property_of, index_of}
