@@ -86,7 +86,7 @@ module _ (here : Setting) (loop : Bool) (rest : Rest) (l : Link) (h : rest_steps
   first_step p c next = unless_unit (is_negated rest.options) c (access here.world p (λ a. refreshed c (λ d. next a d)))
 
   -- what it does then
-  abbrev read_on : Option Rest → places.Current → Act
+  abbrev pub read_on : Option Rest → places.Current → Act
   read_on None x = give x.value
   read_on (Some r) x = meaning.steps here.world (rest_steps loop r) x
 
@@ -94,7 +94,7 @@ module _ (here : Setting) (loop : Bool) (rest : Rest) (l : Link) (h : rest_steps
   steps_by None c = refl
   steps_by (Some r) c = refl
 
-  steps_are : (c : places.Current) → meaning.steps here.world (rest_steps loop rest) c ≡ first_step (head_of (rest_steps loop rest)) c (λ a d. chains.applied here.world a d (read_on l.rest))
+  pub steps_are : (c : places.Current) → meaning.steps here.world (rest_steps loop rest) c ≡ first_step (head_of (rest_steps loop rest)) c (λ a d. chains.applied here.world a d (read_on l.rest))
   steps_are c = ap (λ sts. meaning.steps here.world sts c) h ∙ steps_by l.rest c ∙ ap (λ p. first_step p c (λ a d. chains.applied here.world a d (read_on l.rest))) (sym head_is)
 
   module _ (c : Current) (s s1 : State) where

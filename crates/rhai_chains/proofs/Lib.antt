@@ -1,3 +1,4 @@
 pub mod Quiet
 pub mod ChainSteps
 pub mod Targets
+pub mod Direct

@@ -2,9 +2,11 @@
 #![tactic(auto)]
 
 mod assigning;
+mod direct;
 mod finding;
 mod setting;
 
 pub use assigning::{assign_index, assign_property};
+pub use direct::direct_value;
 pub use finding::{index_step, property_step};
 pub use setting::set_at;

@@ -21,7 +21,7 @@ use crate::evaluator::Evaluator;
 use bitflags::Flags;
 use rhai_ast::{BinaryExpr, ChainType, Expr, FnCallExpr};
 use rhai_base::{ASTFlags, Dynamic};
-use rhai_chains::{index_step, property_step};
+use rhai_chains::{direct_value, index_step, property_step};
 use rhai_host::{Host, Stuck};
 use rhai_machine::{Access, Current, PropertyNames};
 use rhai_run_nodes::{Rest, is_callable, is_chain, root_of};
@@ -83,6 +83,9 @@ impl<'a, H: Host> Evaluator<'a, H> {
             (current_in here (store_of state.old) current.entry)))
             state.old result state.new }
     {
+        if let Some(value) = direct_value(&self.machine, state, rest, &current)? {
+            return Ok(value);
+        }
         let link = rest.link();
         let Some(access) = self.reach(state, rest, &current)? else {
             return Ok(Dynamic::Unit);

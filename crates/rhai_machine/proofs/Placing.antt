@@ -65,7 +65,7 @@ at_itself : (o : Option Value) → at_index o (λ w. along w []) ≡ o
 at_itself None = refl
 at_itself (Some v) = refl
 
-along_snoc : (v : Value) (ks : List places.PlaceKey) (k : places.PlaceKey) → along v (ks ++ k ∷ []) ≡ at_index (along v ks) (λ u. inside u k)
+pub along_snoc : (v : Value) (ks : List places.PlaceKey) (k : places.PlaceKey) → along v (ks ++ k ∷ []) ≡ at_index (along v ks) (λ u. inside u k)
 along_snoc v [] k = at_itself (inside v k)
 along_snoc v (j ∷ js) k = by (inside v j) (λ u. along_snoc u js k) where
   by : (o : Option Value) → ((u : Value) → along u (js ++ k ∷ []) ≡ at_index (along u js) (λ x. inside x k)) → at_index o (λ w. along w (js ++ k ∷ [])) ≡ at_index (at_index o (λ w. along w js)) (λ u. inside u k)
