@@ -1,4 +1,4 @@
 pub mod Quiet
 pub mod ChainSteps
 pub mod Targets
-pub mod Direct
+pub mod Following

@@ -1,17 +1,21 @@
--- Chains of properties of maps: nothing is run between them, so their place need not be looked up again.
-use Rattle.std.specs.Prelude.{◌≡◌, Bool, Option, Some}
-use Rattle.rhai_values.specs.Value.{Value}
+-- Chains whose steps run nothing, to parts of arrays and maps: their place need not be looked up again.
+use Rattle.std.specs.Prelude.{◌≡◌, ℤ, Bool, Some}
+use Rattle.rhai_values.specs.Value.{Value, IntV}
+use Rattle.rhai_tree.specs.declared.expr.Expr.{Expr}
+use Rattle.rhai_reading.specs.Reading.{expr_of}
+use Rattle.rhai_meaning.specs.Act.{Act}
+use Rattle.rhai_meaning.specs.Chains as chains
+use Rattle.rhai_meaning.specs.Desugar.{core_expr}
 use Rattle.rhai_meaning.specs.Meaning as meaning
 use Rattle.rhai_meaning.specs.Places as places
-use Rattle.rhai_meaning.specs.Tree as tree
-use Rattle.rhai_reading.specs.Reading.{expr_of}
-use Rattle.rhai_tree.specs.declared.expr.Expr.{Expr}
 use Rattle.rhai_machine.specs.Placing.{value_at}
-use Rattle.rhai_run_nodes.specs.Links.{rest_steps}
+use Rattle.rhai_run_nodes.specs.Links.{rest_steps, step_core}
 use Rattle.rhai_run_nodes.specs.declared.links.Rest.{Rest}
 use Rattle.rhai_state.specs.Runs.{Setting, Acting, Goes, given}
 use Rattle.rhai_state.specs.State.{store_of}
 use Rattle.rhai_state.specs.declared.state.State.{State}
+use Rattle.rhai_walk.specs.Nodes.{is_dot}
+use Rattle.rhai_walk.specs.declared.node.ChainType.{ChainType}
 
 -- what a chain has come to is what stands at its place
 pub record StandsThere (here : Setting) (s : State) (c : places.Current) : Type 0 where
@@ -24,11 +28,17 @@ abbrev pub Comes : Setting → State → Bool → Rest → places.Current → Va
 Comes here s loop rest c v = Goes here (Acting (meaning.steps here.world (rest_steps loop rest) c)) s (given v) s
 
 -- from one value to another, wherever the first stands
-abbrev pub ComesFrom : Rest → Value → Value → Type 0
-ComesFrom rest u v = (here : Setting) (s : State) (loop : Bool) (c : places.Current) → c.value ≡ u → StandsThere here s c → Comes here s loop rest c v
+abbrev pub ComesFrom : Setting → State → Rest → Value → Value → Type 0
+ComesFrom here s rest u v = (loop : Bool) (c : places.Current) → c.value ≡ u → StandsThere here s c → Comes here s loop rest c v
 
--- it names a property, which is this one of that value
-pub record IsPropertyOf (e : Expr) (u v : Value) : Type 0 where
-  pub names : tree.PropertyNames
-  pub is : expr_of e ≡ tree.Property names
-  pub part : places.inside u (places.AtEntry names.name) ≡ Some v
+-- a step from a value to a part of it, whose argument changes nothing
+pub record StepsTo (here : Setting) (s : State) (chain : ChainType) (argument : Expr) (u v : Value) : Type 0 where
+  pub to : chains.Access
+  pub key : places.PlaceKey
+  pub part : places.inside u key ≡ Some v
+  pub reached : (loop : Bool) (next : chains.Access → Act) → Goes here (Acting (meaning.access here.world (step_core loop (is_dot chain) (expr_of argument)) next)) s (Acting (next to)) s
+  pub applied : (c : places.Current) → c.value ≡ u → (next : places.Current → Act) → chains.applied here.world to c next ≡ next (places.part c key v)
+
+-- an index of this value, which changes nothing
+abbrev pub IsIndex : Setting → State → Expr → ℤ → Type 0
+IsIndex here s e i = (loop : Bool) → Goes here (Acting (meaning.act here.world (core_expr loop (expr_of e)))) s (given (IntV i)) s

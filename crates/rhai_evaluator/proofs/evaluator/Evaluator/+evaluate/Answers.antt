@@ -650,21 +650,24 @@ pub chain-returns : goal.chain-returns
 chain-returns g t c = chain_runs (setting g.H.Host.answers g.H.Host.modules c.args.self.now.machine) c.args.self.now.in_loop (is_dot c.args.chain) (chain_flags c.args.options) (expr_of c.args.sides.now.lhs) (expr_of c.args.sides.now.rhs) c.args.state.now c.base.new.state (sym c.is_chain.ensures ∙ c.if-not-is_chain.false) c.in_ok-base.base c.steps.new.state c.steps.result c.in_ok-base.ensures c.steps.ensures
 
 pub steps-returns-in_err-access : goal.steps-returns-in_err-access
-steps-returns-in_err-access g t c = let p = err_from_is_err_and c.from_residual.result c.from_residual.ensures.1 in
+steps-returns-in_err-access g t c = let p = err_from_is_err_and c.from_residual-in_err-access.result c.from_residual-in_err-access.ensures.1 in
     rw (p.1, p.2) (steps_stop (setting g.H.Host.answers g.H.Host.modules c.args.self.now.machine) c.args.self.now.in_loop c.args.rest c.link-link.result (c.link-link.ensures.steps c.args.self.now.in_loop) c.args.current c.args.state.now c.reach.new.state _ c.in_err-access.ensures)
 
-pub steps-returns-in_default : goal.steps-returns-in_default
-steps-returns-in_default g t c = steps_unit (setting g.H.Host.answers g.H.Host.modules c.args.self.now.machine) c.args.self.now.in_loop c.args.rest c.link-link.result (c.link-link.ensures.steps c.args.self.now.in_loop) c.args.current c.args.state.now c.reach.new.state (rw c.in_default.is at c.in_ok-access.ensures)
+pub steps-returns-in-Some : goal.steps-returns-in-Some
+steps-returns-in-Some g t c = c.in-Some.ensures c.args.self.now.in_loop
+
+pub steps-returns-in_default-2 : goal.steps-returns-in_default-2
+steps-returns-in_default-2 g t c = steps_unit (setting g.H.Host.answers g.H.Host.modules c.args.self.now.machine) c.args.self.now.in_loop c.args.rest c.link-link.result (c.link-link.ensures.steps c.args.self.now.in_loop) c.args.current c.args.state.now c.reach.new.state (rw c.in_default-2.is at c.in_ok-access.ensures)
 
 pub steps-returns-in_err-current : goal.steps-returns-in_err-current
 steps-returns-in_err-current g t c = let p = err_from_is_err_and c.from_residual-in_err-current.result c.from_residual-in_err-current.ensures.1 in
-    rw (p.1, p.2) (applied_stops (setting g.H.Host.answers g.H.Host.modules c.args.self.now.machine) c.args.self.now.in_loop c.args.rest c.link-link.result (c.link-link.ensures.steps c.args.self.now.in_loop) c.args.current c.args.state.now c.reach.new.state c.in-Some.access (rw c.in-Some.is at c.in_ok-access.ensures) c.applied.new.state _ c.in_err-current.ensures)
+    rw (p.1, p.2) (applied_stops (setting g.H.Host.answers g.H.Host.modules c.args.self.now.machine) c.args.self.now.in_loop c.args.rest c.link-link.result (c.link-link.ensures.steps c.args.self.now.in_loop) c.args.current c.args.state.now c.reach.new.state c.in-Some-2.access (rw c.in-Some-2.is at c.in_ok-access.ensures) c.applied.new.state _ c.in_err-current.ensures)
 
 pub steps-returns-in-Some-rest : goal.steps-returns-in-Some-rest
-steps-returns-in-Some-rest g t c = steps_more (setting g.H.Host.answers g.H.Host.modules c.args.self.now.machine) c.args.self.now.in_loop c.args.rest c.link-link.result (c.link-link.ensures.steps c.args.self.now.in_loop) c.args.current c.args.state.now c.reach.new.state c.in-Some.access (rw c.in-Some.is at c.in_ok-access.ensures) c.applied.new.state c.in_ok-current.current c.in_ok-current.ensures c.in-Some-rest.rest c.steps.new.state c.steps.result c.in-Some-rest.is c.steps.ensures
+steps-returns-in-Some-rest g t c = steps_more (setting g.H.Host.answers g.H.Host.modules c.args.self.now.machine) c.args.self.now.in_loop c.args.rest c.link-link.result (c.link-link.ensures.steps c.args.self.now.in_loop) c.args.current c.args.state.now c.reach.new.state c.in-Some-2.access (rw c.in-Some-2.is at c.in_ok-access.ensures) c.applied.new.state c.in_ok-current.current c.in_ok-current.ensures c.in-Some-rest.rest c.steps.new.state c.steps.result c.in-Some-rest.is c.steps.ensures
 
 pub steps-returns-in_ok-current_value-in-None : goal.steps-returns-in_ok-current_value-in-None
-steps-returns-in_ok-current_value-in-None g t c = steps_end (setting g.H.Host.answers g.H.Host.modules c.args.self.now.machine) c.args.self.now.in_loop c.args.rest c.link-link.result (c.link-link.ensures.steps c.args.self.now.in_loop) c.args.current c.args.state.now c.reach.new.state c.in-Some.access (rw c.in-Some.is at c.in_ok-access.ensures) c.applied.new.state c.in_ok-current.current c.in_ok-current.ensures c.in_ok-current_value-in-None.field-0 c.in-None.is c.in_ok-current_value-in-None.ensures
+steps-returns-in_ok-current_value-in-None g t c = steps_end (setting g.H.Host.answers g.H.Host.modules c.args.self.now.machine) c.args.self.now.in_loop c.args.rest c.link-link.result (c.link-link.ensures.steps c.args.self.now.in_loop) c.args.current c.args.state.now c.reach.new.state c.in-Some-2.access (rw c.in-Some-2.is at c.in_ok-access.ensures) c.applied.new.state c.in_ok-current.current c.in_ok-current.ensures c.in_ok-current_value-in-None.field-0 c.in-None.is c.in_ok-current_value-in-None.ensures
 
 pub reach-returns-in_err-refreshed : goal.reach-returns-in_err-refreshed
 reach-returns-in_err-refreshed g t c = let p = err_from_is_err_and c.from_residual-in_err-refreshed.result c.from_residual-in_err-refreshed.ensures.1 in
