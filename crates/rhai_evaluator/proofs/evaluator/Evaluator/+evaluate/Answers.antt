@@ -1,4 +1,5 @@
-use Rattle.std.proofs.Common.{◌≡◌, ◌+◌, ◌*◌, ◌≤◌, ◌&&◌, suc, true, false, None, Some, Ok, Err, drop, get_or, length, map, subst, refl, sym, ap, ◌∙◌, arith, rules}
+use Rattle.std.proofs.Common.{◌≡◌, ◌+◌, ◌*◌, ◌≤◌, ◌&&◌, suc, Bool, true, false, None, Some, Ok, Err, drop, get_or, length, map, subst, refl, sym, ap, ◌∙◌, arith, rules}
+use Rattle.std.specs.Prelude.{IfSome}
 use Rattle.std.specs.Int.{w64}
 use Rattle.std.proofs.lemmas.Int.{to_z-of_z}
 use Rattle.std.proofs.lemmas.List.{drop_all, drop_more}
@@ -28,6 +29,7 @@ use Rattle.rhai_meaning.specs.Weight.{expr_weight, exprs_weight, own_weight, stm
 use Rattle.rhai_state.specs.declared.state.State.{State}
 use Rattle.rhai_machine.specs.Chaining.{method_in}
 use Rattle.rhai_machine.specs.Setting.{setting}
+use Rattle.rhai_chains.specs.Direct.{Comes}
 use Rattle.rhai_state.specs.Evaluating.{arms_here, bodies_weight, body_of}
 use Rattle.rhai_state.specs.Runs.{Acting, Halting, Runs, given, stop_of}
 use Rattle.rhai_machine.specs.Placing.{current_in}
@@ -654,7 +656,8 @@ steps-returns-in_err-access g t c = let p = err_from_is_err_and c.from_residual-
     rw (p.1, p.2) (steps_stop (setting g.H.Host.answers g.H.Host.modules c.args.self.now.machine) c.args.self.now.in_loop c.args.rest c.link-link.result (c.link-link.ensures.steps c.args.self.now.in_loop) c.args.current c.args.state.now c.reach.new.state _ c.in_err-access.ensures)
 
 pub steps-returns-in-Some : goal.steps-returns-in-Some
-steps-returns-in-Some g t c = c.in-Some.ensures c.args.self.now.in_loop
+steps-returns-in-Some g t c =
+    subst (λ o. IfSome o (λ v. (loop : Bool) → Comes (setting g.H.Host.answers g.H.Host.modules c.args.self.now.machine) c.args.state.now loop c.args.rest (current_in (setting g.H.Host.answers g.H.Host.modules c.args.self.now.machine) (store_of c.args.state.now) c.args.current) (value_of v))) c.in-Some.is c.in_ok-value.ensures c.args.self.now.in_loop
 
 pub steps-returns-in_default-2 : goal.steps-returns-in_default-2
 steps-returns-in_default-2 g t c = steps_unit (setting g.H.Host.answers g.H.Host.modules c.args.self.now.machine) c.args.self.now.in_loop c.args.rest c.link-link.result (c.link-link.ensures.steps c.args.self.now.in_loop) c.args.current c.args.state.now c.reach.new.state (rw c.in_default-2.is at c.in_ok-access.ensures)
