@@ -8,12 +8,13 @@ use rhai_script_queries::ScriptQueries;
 
 /// The calls.
 pub const CALLS: &str =
-    "walk_statements Stmt::walk Expr::walk AST::walk AST::iter_literal_variables";
+    "walk_statements Stmt::walk Stmt::walk/first_growth Expr::walk AST::walk AST::iter_literal_variables";
 
 pub fn make(name: &str, tried: &Tried) -> bool {
     match name {
         "walk_statements" => statements(tried),
         "Stmt::walk" => each_statement(tried),
+        "Stmt::walk/first_growth" => first_growth(tried),
         "Expr::walk" => expression(tried),
         "AST::walk" => of_script(tried),
         "AST::iter_literal_variables" => variables(tried),
@@ -83,6 +84,24 @@ fn each_statement(tried: &Tried) {
             say_walk(Walked::Statement(statement), tried);
         }
     }
+}
+
+/// A walk over one node, whose path grows once, from nothing: refused there, it calls the closure for no node and leaves
+/// the path empty.
+fn first_growth(tried: &Tried) {
+    let Some(script) = tried.said.script("noop\n") else {
+        return;
+    };
+    let (mut path, mut lengths) = (Vec::new(tried.said.alloc), room(tried));
+    for statement in &script.statements {
+        let walked = Walked::Statement(statement);
+        if tried.said.is_whole() && tried.is_refused(&walk(walked, &mut path, &mut lengths)) {
+            tried.want(lengths.is_empty(), "the closure was called");
+            tried.want(path.is_empty(), "a path is left");
+            tried.said.made(walk(walked, &mut path, &mut lengths));
+        }
+    }
+    tried.said.count("paths", lengths.len());
 }
 
 fn expression(tried: &Tried) {
