@@ -4,6 +4,8 @@
 
 pub mod prelude;
 
+pub use bitflags::Flags;
+pub use indexmap::IndexMap;
 pub use rhai_ast::{
     ASTNode, BinaryExpr, CallQueries, Expr, ExprQueries, FlowControl, FnAccess, FnCallExpr,
     FnNamespace, FromStmt, IntoExpr, Literals, NodeQueries, ScriptFuncDef, SetPosition, Stmt,
@@ -24,7 +26,7 @@ pub use rhai_optimizer::{
 };
 pub use rhai_reader::{ReadError, read_script, read_statements, read_value};
 pub use rhai_run::{
-    EngineInfo, Host, HostAnswer, HostCall, RunEnd, RunReport, Stuck, Variable, plain_run,
+    EngineInfo, Export, Host, HostAnswer, HostCall, RunEnd, RunReport, Stuck, Variable, plain_run,
 };
 pub use rhai_script::{AST, AstParts, Doc, FnKey, FnLib, FnLibIter, SharedLib};
 pub use rhai_script_queries::{FnMetadataIter, LiteralVariables, ScriptFnMetadata, ScriptQueries};
