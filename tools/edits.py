@@ -137,11 +137,12 @@ def section(kept):
     height = -(-len(cells) // GROUPS)
     cells += ["|  |  |  "] * (height * GROUPS - len(cells))
     lines = ["| crate | gate | hand " * GROUPS, "|---|---|---" * GROUPS, *("".join(cells[row::height]) for row in range(height))]
+    table = "".join(line + "|\n" for line in lines)
     return f"""{HEADING}
 Of each crate that has any, named without `rhai_`: those in the gate; and by hand, of how many, those that were refused
 at the sources as they stand. `tools/edits.py` writes this, and tries those of a crate, or the next N in turn.
 
-{"".join(line + "|" + chr(10) for line in lines)}
+{table}
 In all {gate} in the gate and {len(states)} by hand; of these {states.count("now")} were refused at these sources, and
 {states.count("then")} more when they were last tried, at others.
 """
