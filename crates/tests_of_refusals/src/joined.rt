@@ -5,7 +5,6 @@ use crate::tried::{Tried, is_among};
 use rhai_ast::{FnAccess, FnNamespace};
 use rhai_base::{Boxed, OutOfMemory};
 use rhai_script::AST;
-use tests_reader::Script;
 
 /// The calls.
 pub const CALLS: &str =
@@ -39,12 +38,9 @@ fn second(name: &str, tried: &Tried) -> Option<Boxed<AST>> {
 
 /// A second script for which nothing grows but the first's table: no statements, no doc.
 fn function_alone(tried: &Tried) -> Option<Boxed<AST>> {
-    let Script {
-        statements,
-        functions,
-    } = tried.said.script("fn h() { [1, 2] }\n")?;
-    let lib = shared(functions, tried)?;
-    tried.said.boxed(Some(AST::new(statements, lib)))
+    let script = tried.said.script("fn h() { [1, 2] }\n")?;
+    let lib = shared(script.functions, tried)?;
+    tried.said.boxed(Some(AST::new(script.statements, lib)))
 }
 
 fn join(name: &str, first: &mut AST, second: &AST, tried: &Tried) {

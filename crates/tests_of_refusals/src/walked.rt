@@ -86,20 +86,23 @@ fn each_statement(tried: &Tried) {
     }
 }
 
+fn first_growth(tried: &Tried) {
+    if let Some(script) = tried.said.script("noop\n")
+        && let Some(statement) = script.statements.first()
+    {
+        say_first(Walked::Statement(statement), tried);
+    }
+}
+
 /// A walk over one node, whose path grows once, from nothing: refused there, it calls the closure for no node and leaves
 /// the path empty.
-fn first_growth(tried: &Tried) {
-    let Some(script) = tried.said.script("noop\n") else {
-        return;
-    };
-    let (mut path, mut lengths) = (Vec::new(tried.said.alloc), room(tried));
-    for statement in &script.statements {
-        let walked = Walked::Statement(statement);
-        if tried.said.is_whole() && tried.is_refused(&walk(walked, &mut path, &mut lengths)) {
-            tried.want(lengths.is_empty(), "the closure was called");
-            tried.want(path.is_empty(), "a path is left");
-            tried.said.made(walk(walked, &mut path, &mut lengths));
-        }
+fn say_first(walked: Walked, tried: &Tried) {
+    let mut path = Vec::new(tried.said.alloc);
+    let mut lengths = room(tried);
+    if tried.said.is_whole() && tried.is_refused(&walk(walked, &mut path, &mut lengths)) {
+        tried.want(lengths.is_empty(), "the closure was called");
+        tried.want(path.is_empty(), "a path is left");
+        tried.said.made(walk(walked, &mut path, &mut lengths));
     }
     tried.said.count("paths", lengths.len());
 }
