@@ -6,27 +6,105 @@ pub mod prelude;
 
 pub use bitflags::Flags;
 pub use indexmap::IndexMap;
-pub use rhai_ast::{
-    ASTNode, BinaryExpr, CallQueries, Expr, ExprQueries, FlowControl, FnAccess, FnCallExpr,
-    FnNamespace, FromStmt, IntoExpr, Literals, NodeQueries, ScriptFuncDef, SetPosition, Stmt,
-    StmtBlock, StmtBlockContainer, StmtQueries, SwitchBlock, SwitchCases, SwitchCasesCollection,
-    Take, TreeError, Walk, check_tree, is_plain, walk_statements,
-};
-pub use rhai_base::{
-    ASTFlags, AstError, Boxed, CaseBlocksList, Cases, Dynamic, Fault, FnName, FnPtr, INT, Ident,
-    ImmutableString, Namespace, OpAssignment, OutOfMemory, Position, RangeCase, RangeCaseIter,
-    Rest, Scope, ScopeEntry, ScopeIter, Seq, Span, StringMap, Token, TreeFault, builtin_binary_op,
-    builtin_unary_op,
-};
-pub use rhai_host::{UnitHost, push_report};
+pub use rhai_ast::ASTNode;
+pub use rhai_ast::BinaryExpr;
+pub use rhai_ast::CallQueries;
+pub use rhai_ast::Expr;
+pub use rhai_ast::ExprQueries;
+pub use rhai_ast::FlowControl;
+pub use rhai_ast::FnAccess;
+pub use rhai_ast::FnCallExpr;
+pub use rhai_ast::FnNamespace;
+pub use rhai_ast::FromStmt;
+pub use rhai_ast::IntoExpr;
+pub use rhai_ast::Literals;
+pub use rhai_ast::NodeQueries;
+pub use rhai_ast::ScriptFuncDef;
+pub use rhai_ast::SetPosition;
+pub use rhai_ast::Stmt;
+pub use rhai_ast::StmtBlock;
+pub use rhai_ast::StmtBlockContainer;
+pub use rhai_ast::StmtQueries;
+pub use rhai_ast::SwitchBlock;
+pub use rhai_ast::SwitchCases;
+pub use rhai_ast::SwitchCasesCollection;
+pub use rhai_ast::Take;
+pub use rhai_ast::TreeError;
+pub use rhai_ast::Walk;
+pub use rhai_ast::check_tree;
+pub use rhai_ast::is_plain;
+pub use rhai_ast::walk_statements;
+pub use rhai_base::ASTFlags;
+pub use rhai_base::AstError;
+pub use rhai_base::Boxed;
+pub use rhai_base::CaseBlocksList;
+pub use rhai_base::Cases;
+pub use rhai_base::Dynamic;
+pub use rhai_base::Fault;
+pub use rhai_base::FnName;
+pub use rhai_base::FnPtr;
+pub use rhai_base::INT;
+pub use rhai_base::Ident;
+pub use rhai_base::ImmutableString;
+pub use rhai_base::Namespace;
+pub use rhai_base::OpAssignment;
+pub use rhai_base::OutOfMemory;
+pub use rhai_base::Position;
+pub use rhai_base::RangeCase;
+pub use rhai_base::RangeCaseIter;
+pub use rhai_base::Rest;
+pub use rhai_base::Scope;
+pub use rhai_base::ScopeEntry;
+pub use rhai_base::ScopeIter;
+pub use rhai_base::Seq;
+pub use rhai_base::Span;
+pub use rhai_base::StringMap;
+pub use rhai_base::Token;
+pub use rhai_base::TreeFault;
+pub use rhai_base::builtin_binary_op;
+pub use rhai_base::builtin_unary_op;
+pub use rhai_host::UnitHost;
+pub use rhai_host::push_report;
 pub use rhai_make as make;
-pub use rhai_notation::{Notation, Printed, push_lines, push_script};
-pub use rhai_optimizer::{
-    OptimizationLevel, OptimizerState, optimize_ast, optimize_counted, optimize_into_ast,
-};
-pub use rhai_reader::{ReadError, read_script, read_statements, read_value};
-pub use rhai_run::{
-    EngineInfo, Export, Host, HostAnswer, HostCall, RunEnd, RunReport, Stuck, Variable, plain_run,
-};
-pub use rhai_script::{AST, AstParts, Doc, FnKey, FnLib, FnLibIter, SharedLib};
-pub use rhai_script_queries::{FnMetadataIter, LiteralVariables, ScriptFnMetadata, ScriptQueries};
+pub use rhai_notation::Notation;
+pub use rhai_notation::Printed;
+pub use rhai_notation::push_lines;
+pub use rhai_notation::push_script;
+pub use rhai_optimizer::OptimizationLevel;
+pub use rhai_optimizer::OptimizerState;
+pub use rhai_optimizer::optimize_ast;
+pub use rhai_optimizer::optimize_counted;
+pub use rhai_optimizer::optimize_into_ast;
+pub use rhai_parser::LexError;
+pub use rhai_parser::ParseError;
+pub use rhai_parser::ParseErrorType;
+pub use rhai_parser::ParseOptions;
+pub use rhai_parser::compile;
+pub use rhai_parser::compile_expression;
+pub use rhai_parser::compile_expression_with;
+pub use rhai_parser::compile_with;
+pub use rhai_reader::ReadError;
+pub use rhai_reader::read_script;
+pub use rhai_reader::read_statements;
+pub use rhai_reader::read_value;
+pub use rhai_run::EngineInfo;
+pub use rhai_run::Export;
+pub use rhai_run::Host;
+pub use rhai_run::HostAnswer;
+pub use rhai_run::HostCall;
+pub use rhai_run::RunEnd;
+pub use rhai_run::RunReport;
+pub use rhai_run::Stuck;
+pub use rhai_run::Variable;
+pub use rhai_run::plain_run;
+pub use rhai_script::AST;
+pub use rhai_script::AstParts;
+pub use rhai_script::Doc;
+pub use rhai_script::FnKey;
+pub use rhai_script::FnLib;
+pub use rhai_script::FnLibIter;
+pub use rhai_script::SharedLib;
+pub use rhai_script_queries::FnMetadataIter;
+pub use rhai_script_queries::LiteralVariables;
+pub use rhai_script_queries::ScriptFnMetadata;
+pub use rhai_script_queries::ScriptQueries;

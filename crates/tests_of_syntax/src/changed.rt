@@ -1,0 +1,248 @@
+//! Texts of scripts that are cut short or changed: whatever they are, there is an answer, and a refusal stands in the
+//! text.
+
+use crate::blocks::{HEAD, block_of};
+use rhai_base::Position;
+use rhai_parser::compile;
+use std::alloc::{AllocError, Global};
+
+/// What texts came to.
+#[derive(Clone, Copy)]
+struct Counts {
+    texts: u64,
+    scripts: u64,
+    outside: u64,
+}
+
+/// Letters that are put into texts.
+static LETTERS: [&str; 64] = [
+    "{",
+    "}",
+    "(",
+    ")",
+    "[",
+    "]",
+    "()",
+    "#{",
+    ";",
+    ",",
+    ":",
+    "::",
+    ".",
+    "?.",
+    "?[",
+    "..",
+    "..=",
+    "|",
+    "||",
+    "&",
+    "&&",
+    "^",
+    "!",
+    "??",
+    "=",
+    "==",
+    "=>",
+    "+=",
+    "<",
+    "<<",
+    "-",
+    "+",
+    "*",
+    "**",
+    "/",
+    "\"",
+    "'",
+    "`",
+    "${",
+    "\\",
+    "#",
+    "#\"",
+    "//",
+    "/*",
+    "*/",
+    "///",
+    "\n",
+    "\r\n",
+    "\t",
+    "\u{e9}",
+    "\u{1f600}",
+    "0x",
+    "1.5",
+    "9223372036854775808",
+    " if ",
+    " fn ",
+    " let ",
+    " in ",
+    " switch ",
+    " _ ",
+    " this ",
+    " eval(",
+    " while ",
+    " for ",
+];
+
+/// A sequence of numbers in which no order is seen.
+#[derive(Drop)]
+struct Numbers {
+    state: u64,
+}
+
+impl Numbers {
+    fn next(&mut self) -> u64 {
+        let mut state = self.state;
+        state ^= state << 13;
+        state ^= state >> 7;
+        state ^= state << 17;
+        self.state = state;
+        state
+    }
+
+    /// A number below this one.
+    fn below(&mut self, count: usize) -> usize {
+        let number = self.next();
+        match number.checked_rem(count as u64) {
+            Some(rest) => rest as usize,
+            None => 0,
+        }
+    }
+}
+
+impl Counts {
+    fn none() -> Counts {
+        Counts {
+            texts: 0,
+            scripts: 0,
+            outside: 0,
+        }
+    }
+
+    /// What texts came to that had this done to them.
+    fn told(self, alloc: Global, done: &str) -> Result<String, AllocError> {
+        let Counts {
+            texts,
+            scripts,
+            outside,
+        } = self;
+        format!(in alloc;
+            "{done}: {texts} texts, {scripts} are scripts, {outside} are refused outside of them\n"
+        )
+    }
+}
+
+/// Says what became of the texts of these blocks, each cut short at each place.
+pub(crate) fn cut_all(alloc: Global, rows: &str) -> Result<String, AllocError> {
+    let mut counts = Counts::none();
+    for written in rows.split(HEAD).skip(1) {
+        counts = cut(alloc, counts, block_of(written).text);
+    }
+    counts.told(alloc, "cut")
+}
+
+/// Says what became of so many texts of these blocks that are changed.
+pub(crate) fn change(
+    alloc: Global,
+    rows: &str,
+    count: u64,
+    seed: u64,
+) -> Result<String, AllocError> {
+    let counts = changed(alloc, Counts::none(), rows, count, seed)?;
+    counts.told(alloc, "changed")
+}
+
+/// Each beginning of a text.
+fn cut(alloc: Global, counts: Counts, text: &str) -> Counts {
+    let mut counts = counts;
+    for (length, _) in text.char_indices() {
+        if let Some(beginning) = text.get(..length) {
+            counts = with(alloc, counts, beginning);
+        }
+    }
+    counts
+}
+
+/// So many texts, each with some letters changed.
+fn changed(
+    alloc: Global,
+    counts: Counts,
+    rows: &str,
+    count: u64,
+    seed: u64,
+) -> Result<Counts, AllocError> {
+    let blocks: Vec<&str> = rows.split(HEAD).skip(1).collect(alloc)?;
+    let mut numbers = Numbers {
+        state: seed.wrapping_mul(2).wrapping_add(1),
+    };
+    let mut counts = counts;
+    for _ in 0..count {
+        let index = numbers.below(blocks.len());
+        let text = match blocks.get(index) {
+            Some(written) => block_of(written).text,
+            None => "",
+        };
+        let changed = with_changes(alloc, text, &mut numbers)?;
+        counts = with(alloc, counts, changed.as_str());
+    }
+    Ok(counts)
+}
+
+/// The text with up to four changes.
+fn with_changes(alloc: Global, text: &str, numbers: &mut Numbers) -> Result<String, AllocError> {
+    let mut changed = String::from_str(alloc, text)?;
+    for _ in 0..numbers.below(4) {
+        changed = with_change(alloc, changed.as_str(), numbers)?;
+    }
+    with_change(alloc, changed.as_str(), numbers)
+}
+
+/// The text with letters put in, and some left out there.
+fn with_change(alloc: Global, text: &str, numbers: &mut Numbers) -> Result<String, AllocError> {
+    let place = numbers.below(text.len().saturating_add(1));
+    let behind = place.saturating_add(numbers.below(4));
+    let letters = LETTERS
+        .get(numbers.below(LETTERS.len()))
+        .copied()
+        .unwrap_or("");
+    let mut changed = String::from_str(alloc, text.get(..place).unwrap_or(text))?;
+    changed.push_str(letters)?;
+    changed.push_str(text.get(behind..).unwrap_or(""))?;
+    Ok(changed)
+}
+
+fn with(alloc: Global, counts: Counts, text: &str) -> Counts {
+    let texts = counts.texts.saturating_add(1);
+    let Counts {
+        scripts,
+        outside,
+        ..
+    } = counts;
+    match compile(alloc, text) {
+        Ok(_) => Counts {
+            texts,
+            scripts: scripts.saturating_add(1),
+            outside,
+        },
+        Err(error) if is_within(text, error.position()) => Counts {
+            texts,
+            scripts,
+            outside,
+        },
+        Err(_) => Counts {
+            texts,
+            scripts,
+            outside: outside.saturating_add(1),
+        },
+    }
+}
+
+/// Whether a place is one of a text, or its end.
+fn is_within(text: &str, position: Position) -> bool {
+    let Some(line) = position.line() else {
+        return false;
+    };
+    let column = position.position().unwrap_or(0);
+    match text.split('\n').nth(line.saturating_sub(1)) {
+        Some(letters) => column > 0 && column <= letters.chars().count().saturating_add(1),
+        None => false,
+    }
+}

@@ -1,0 +1,87 @@
+//! Runs of scripts before and after they are optimised.
+
+use crate::blocks::{Block, HEAD, block_of};
+use rhai_base::Scope;
+use rhai_host::{UnitHost, push_report};
+use rhai_optimizer::{OptimizationLevel, optimize_ast};
+use rhai_parser::compile;
+use rhai_run::{EngineInfo, RunEnd, plain_run};
+use rhai_script::AST;
+use std::alloc::{AllocError, Global};
+use std::fmt::Write;
+
+/// How many turns a run has.
+const TURNS: u64 = 500;
+
+/// How runs came out.
+#[derive(Clone, Copy)]
+struct Counts {
+    alike: usize,
+    stuck: usize,
+}
+
+/// Says of each block whose script runs otherwise once it is optimised how it does, and then how many run alike.
+pub(crate) fn ask(alloc: Global, rows: &str) -> Result<String, AllocError> {
+    let mut said = String::new(alloc);
+    let mut counts = Counts { alike: 0, stuck: 0 };
+    for written in rows.split(HEAD).skip(1) {
+        counts = with(alloc, counts, block_of(written), &mut said)?;
+    }
+    let Counts { alike, stuck } = counts;
+    writeln!(said, "runs: {alike} alike, {stuck} stuck before")?;
+    Ok(said)
+}
+
+fn with(
+    alloc: Global,
+    counts: Counts,
+    block: Block<'_>,
+    said: &mut String,
+) -> Result<Counts, AllocError> {
+    let Counts { alike, stuck } = counts;
+    let Ok(script) = compile(alloc, block.text) else {
+        return Ok(counts);
+    };
+    let (before, is_stuck) = report(alloc, &script)?;
+    if is_stuck {
+        return Ok(Counts {
+            alike,
+            stuck: stuck.saturating_add(1),
+        });
+    }
+    let info = EngineInfo::new(alloc);
+    let script = optimize_ast(alloc, &info, None, script, OptimizationLevel::Simple).map_err(
+        |_| AllocError,
+    )?;
+    let (after, _) = report(alloc, &script)?;
+    if before.as_str() == after.as_str() {
+        return Ok(Counts {
+            alike: alike.saturating_add(1),
+            stuck,
+        });
+    }
+    said.push_str(block.head)?;
+    said.push_str(" ran\n")?;
+    said.push_str(before.as_str())?;
+    said.push_str("and runs\n")?;
+    said.push_str(after.as_str())?;
+    Ok(counts)
+}
+
+/// The report of a run but for the turns that are left, and whether it was stuck.
+fn report(alloc: Global, script: &AST) -> Result<(String, bool), AllocError> {
+    let info = EngineInfo::new(alloc);
+    let report = plain_run(alloc, script, &info, &UnitHost, &Scope::new(alloc), TURNS).map_err(
+        |_| AllocError,
+    )?;
+    let mut text = String::new(alloc);
+    push_report(&report, &mut text).map_err(|_| AllocError)?;
+    let mut kept = String::new(alloc);
+    for line in text.as_str().lines() {
+        if !line.starts_with("turns left") {
+            kept.push_str(line)?;
+            kept.push('\n')?;
+        }
+    }
+    Ok((kept, matches!(&report.run_end, RunEnd::Stuck(_))))
+}
