@@ -6,11 +6,10 @@ use rhai_base::Position;
 use rhai_parser::compile;
 use std::alloc::{AllocError, Global};
 
-/// What texts came to.
+/// How many texts were asked, and how many of them were refused where they have no place.
 #[derive(Clone, Copy)]
 struct Counts {
     texts: u64,
-    scripts: u64,
     outside: u64,
 }
 
@@ -112,21 +111,14 @@ impl Counts {
     fn none() -> Counts {
         Counts {
             texts: 0,
-            scripts: 0,
             outside: 0,
         }
     }
 
     /// What texts came to that had this done to them.
     fn told(self, alloc: Global, done: &str) -> Result<String, AllocError> {
-        let Counts {
-            texts,
-            scripts,
-            outside,
-        } = self;
-        format!(in alloc;
-            "{done}: {texts} texts, {scripts} are scripts, {outside} are refused outside of them\n"
-        )
+        let Counts { texts, outside } = self;
+        format!(in alloc; "{done}: {texts} texts, {outside} refused outside of them\n")
     }
 }
 
@@ -209,29 +201,15 @@ fn with_change(alloc: Global, text: &str, numbers: &mut Numbers) -> Result<Strin
     Ok(changed)
 }
 
+/// A text is a script, or refused within it.
 fn with(alloc: Global, counts: Counts, text: &str) -> Counts {
-    let texts = counts.texts.saturating_add(1);
-    let Counts {
-        scripts,
-        outside,
-        ..
-    } = counts;
-    match compile(alloc, text) {
-        Ok(_) => Counts {
-            texts,
-            scripts: scripts.saturating_add(1),
-            outside,
-        },
-        Err(error) if is_within(text, error.position()) => Counts {
-            texts,
-            scripts,
-            outside,
-        },
-        Err(_) => Counts {
-            texts,
-            scripts,
-            outside: outside.saturating_add(1),
-        },
+    let is_outside = match compile(alloc, text) {
+        Ok(_) => false,
+        Err(error) => !is_within(text, error.position()),
+    };
+    Counts {
+        texts: counts.texts.saturating_add(1),
+        outside: counts.outside.saturating_add(u64::from(is_outside)),
     }
 }
 
