@@ -114,7 +114,7 @@ pub fn made(script: Script, tried: &Tried) -> Option<Boxed<AST>> {
     Some(script)
 }
 
-pub fn shared(functions: Vec<Rc<ScriptFuncDef>>, tried: &Tried) -> Option<SharedLib> {
+fn shared(functions: Vec<Rc<ScriptFuncDef>>, tried: &Tried) -> Option<SharedLib> {
     tried.said.counted(
         tried
             .said
