@@ -52,7 +52,7 @@ fn ask(rt: &HostRuntime, question: &str, name: &str) -> io::Result<()> {
         "places" => say(rt, places::ask(rt.alloc(), rows)),
         "runs" => say(rt, runs::ask(rt.alloc(), rows)),
         "cut" => say(rt, changed::cut_all(rt.alloc(), rows)),
-        "changed" => say(rt, changed::change(rt.alloc(), rows, 10_000, 1)),
+        "changed" => say(rt, changed::change(rt.alloc(), rows, 5_000, 1)),
         _ => Ok(()),
     }
 }
