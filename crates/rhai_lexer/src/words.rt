@@ -30,7 +30,7 @@ static KEYWORDS: [(&str, Keyword); 22] = [
 ];
 
 /// Words that are kept for later, and the language's own.
-static RESERVED: [&str; 41] = [
+static RESERVED: [&str; 38] = [
     "var",
     "static",
     "shared",
@@ -69,9 +69,6 @@ static RESERVED: [&str; 41] = [
     "type_of",
     "print",
     "debug",
-    "true",
-    "false",
-    "_",
 ];
 
 /// The word that stands next, which begins with a letter or a `_`.
