@@ -191,14 +191,21 @@ fn with_changes(alloc: Global, text: &str, numbers: &mut Numbers) -> Result<Stri
 fn with_change(alloc: Global, text: &str, numbers: &mut Numbers) -> Result<String, AllocError> {
     let place = numbers.below(text.len().saturating_add(1));
     let behind = place.saturating_add(numbers.below(4));
-    let letters = LETTERS
-        .get(numbers.below(LETTERS.len()))
-        .copied()
-        .unwrap_or("");
+    let letters = letters_at(numbers.below(LETTERS.len()));
     let mut changed = String::from_str(alloc, text.get(..place).unwrap_or(text))?;
     changed.push_str(letters)?;
     changed.push_str(text.get(behind..).unwrap_or(""))?;
     Ok(changed)
+}
+
+/// The letters at a place of their list.
+fn letters_at(index: usize) -> &'static str {
+    for (place, letters) in LETTERS.iter().enumerate() {
+        if place == index {
+            return letters;
+        }
+    }
+    ""
 }
 
 /// A text is a script, or refused within it.
