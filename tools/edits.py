@@ -91,13 +91,13 @@ def tried(crate, edits, clone):
         file = file_of(edit, clone)
         file.rename(file.with_suffix(""))
     ran = subprocess.run(["rt", "must-fail", crate], cwd=clone, stdout=subprocess.PIPE, text=True)
-    print(ran.stdout, end="", flush=True)
+    print(ran.stdout, f"{crate}: rt must-fail ended with status {ran.returncode}", sep="", flush=True)
     found = [match.groups() for match in map(LINE.match, ran.stdout.splitlines()) if match]
     return {edit: outcome_of(text) for edit, text in found if outcome_of(text)}
 
 
 def try_all(edits, kept):
-    """Tries these edits, and keeps after each crate what came of them; answers those that were not refused."""
+    """Tries these edits, and keeps after each crate what came of them; answers what became of those that were not refused."""
     failed = []
     with tempfile.TemporaryDirectory() as folder:
         clone = pathlib.Path(folder) / "clone"
@@ -108,7 +108,7 @@ def try_all(edits, kept):
             today = datetime.date.today().isoformat()
             kept.update({edit: (sums[edit], today, outcome) for edit, outcome in outcomes.items()})
             write_kept(kept)
-            failed += [edit for edit in sums if outcomes.get(edit) not in REFUSED]
+            failed += [f"{outcomes.get(edit, 'not tried')}: {edit}" for edit in sums if outcomes.get(edit) not in REFUSED]
     return failed
 
 
@@ -159,7 +159,8 @@ def main(words):
         sys.exit(__doc__)
     text = GATE.read_text()
     GATE.write_text(text[: text.index(HEADING)] + section(kept))
-    print(*(f"NOT REFUSED: {edit}" for edit in failed), sep="\n", end="\n" if failed else "")
+    for what in failed:
+        print(what)
     return 1 if failed else 0
 
 

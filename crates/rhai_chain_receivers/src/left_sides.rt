@@ -8,13 +8,11 @@ ghost use Rattle.rhai_meaning.specs.Weight.{expr_weight};
 ghost use Rattle.rhai_run_nodes.specs.LeftSides as spec;
 
 use rhai_ast::{ChainType, Expr};
-use rhai_host::Host;
-use rhai_machine::Machine;
 use rhai_run_nodes::{LeftSide, Root, named_side, part_side};
 
 /// What an expression is as a left side; `None` where it cannot be one. Whether it may be written is tested last, after
 /// the right side's calls.
-pub fn left_side<'e, H: Host>(machine: &Machine<H>, expr: &'e Expr) -> Option<LeftSide<'e>>
+pub fn left_side(expr: &Expr) -> Option<LeftSide<'_>>
     ensures side { spec.IsSide (expr_of expr.now) result }
     ensures weight { IfSome result (λ d. spec.side_weight d ≤ expr_weight (expr_of expr.now)) }
 {

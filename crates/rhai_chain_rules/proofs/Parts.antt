@@ -12,9 +12,11 @@ use Rattle.rhai_rewriting.specs.Answering.{AnswersNothing, of_first}
 use Rattle.rhai_rewriting.specs.Clear.{IsClearExpr, AreClearExprs, HasClearParts, IsClear, AreClear}
 use Rattle.rhai_rewriting.specs.Context.{known_behind}
 use Rattle.rhai_rewriting.specs.Indexing.{expr_at, pair_for, or_unit}
+use Rattle.rhai_rewriting.specs.Evals.{keeps_names}
 use Rattle.rhai_rewriting.specs.Known.{Known}
 use Rattle.rhai_rewriting.specs.Parts.{constant_of}
 use Rattle.rhai_rewriting.specs.Residue.{IsReducedExpr, AreReducedExprs, AreReducedPairs}
+use Rattle.rhai_rewriting.proofs.Clearing.{unclaimed}
 use Rattle.rhai_rewriting.proofs.Reducing.{root_of_value}
 use Rattle.rhai_rewriting.proofs.rules.Literals.{element_root, entry_root}
 
@@ -67,7 +69,7 @@ mutual
 
   stmts_clear : (ks : List Known) (ss : Stmts) → are_pure ss ≡ true → AreClear ks ss
   stmts_clear ks no_stmts h = tt
-  stmts_clear ks (stmt s ss) h = let z = split (is_pure s) (are_pure ss) h in (stmt_clear ks s z.0, stmts_clear (known_behind s ks) ss z.1)
+  stmts_clear ks (stmt s ss) h = let z = split (is_pure s) (are_pure ss) h in (stmt_clear ks s z.0, unclaimed (keeps_names s) (stmts_clear (known_behind s ks) ss z.1))
 
 parts_clear : (ks : List Known) (e : Expr) → is_pure_expr e ≡ true → HasClearParts ks e
 parts_clear ks (BlockExpr ss) h = stmts_clear ks ss h

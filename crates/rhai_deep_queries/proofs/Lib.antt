@@ -1,2 +1,3 @@
+pub mod NoneBelow
 pub mod Listed
 pub mod Others

@@ -15,6 +15,7 @@ use Rattle.rhai_tree.specs.declared.stmt.Stmt.TheVariants as stmt_kind
 use Rattle.rhai_meaning.specs.Tree.{Expr, Stmt}
 use Rattle.rhai_meaning.specs.Walk.{OfExpr, OfStmt}
 use Rattle.rhai_reading.proofs.Cases.{ExprCase, StmtCase, call_case, call_statement_case, noop_case, while_case, do_case, for_case, var_case, assignment_case, try_catch_case, break_loop_case, export_case}
+use Rattle.rhai_rewriting.specs.Evals.{is_no_eval}
 use Rattle.rhai_rewriting.specs.Scripts.{is_capturing}
 use Rattle.rhai_rewriting.specs.SurelyUnit.{is_surely_unit}
 use Rattle.rhai_deep_queries.specs.Walks.{stmt_carries_nothing, stmt_is_no_export}
@@ -58,3 +59,11 @@ no_call _ a = refl
 pub no_call_statement : {x : declared_stmt.Stmt} {s : Stmt} → StmtCase x s → ((c : FnCallExpr) (p : Position) → x ≡ stmt_kind.FnCall c p → ⊥) → false ≡ is_capturing (OfStmt s)
 no_call_statement (call_statement_case f p) a = absurd (a f p refl)
 no_call_statement _ a = refl
+
+pub no_eval_call : {x : declared_expr.Expr} {e : Expr} → ExprCase x e → ((c : FnCallExpr) (p : Position) → x ≡ expr_kind.FnCall c p → ⊥) → true ≡ is_no_eval (OfExpr e)
+no_eval_call (call_case f p) a = absurd (a f p refl)
+no_eval_call _ a = refl
+
+pub no_eval_statement : {x : declared_stmt.Stmt} {s : Stmt} → StmtCase x s → ((c : FnCallExpr) (p : Position) → x ≡ stmt_kind.FnCall c p → ⊥) → true ≡ is_no_eval (OfStmt s)
+no_eval_statement (call_statement_case f p) a = absurd (a f p refl)
+no_eval_statement _ a = refl

@@ -37,7 +37,7 @@ impl<'a, H: Host> Evaluator<'a, H> {
             (tree.Assignment (operator_of op.now.op) (expr_of sides.now.lhs) (expr_of sides.now.rhs)))
             state.old result state.new }
     {
-        let Some(side) = left_side(&self.machine, &sides.lhs) else {
+        let Some(side) = left_side(&sides.lhs) else {
             return Err(Interrupt::Stuck(Stuck::WrongKind));
         };
         let value = self.expr(state, &sides.rhs)?;

@@ -34,7 +34,7 @@ pub fn shared_functions(lib: &FnLib) -> Result<Vec<Rc<ScriptFuncDef>>, OutOfMemo
     Ok(all)
 }
 
-/// The functions of which the filter says `true`, in the table's order, in which it is asked of each once.
+/// The functions of which the filter says `true`, by an answer for each, in the table's order.
 pub fn chosen_functions<F: Fn(FnNamespace, FnAccess, bool, &str, usize) -> bool>(
     lib: &FnLib,
     filter: &F,

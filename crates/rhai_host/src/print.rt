@@ -1,7 +1,7 @@
-//! A run's report in print. A refused call can leave a part of what it appends.
+//! A run's report in print. What is not public can leave a part of what it appends, where it is refused.
 #![tactic(auto, using(rhai_values::specs::Reading::kinds, crate::proofs::Printing::steps))]
 
-ghost use Rattle.std.specs.Prelude.{◌≡◌, ◌++◌, [], OnOk, Some, map, string_bytes};
+ghost use Rattle.std.specs.Prelude.{◌≡◌, ◌++◌, [], OnErr, OnOk, Some, map, string_bytes};
 ghost use Rattle.std.specs.Option.{option_copied, option_map};
 ghost use Rattle.rhai_values.specs.Reading.{value_of};
 ghost use Rattle.rhai_host.specs.Entries.{variable_meant, export_meant};
@@ -13,8 +13,20 @@ use crate::{Export, HostCall, RunEnd, RunReport, Stuck, Variable};
 use rhai_base::{Dynamic, OutOfMemory};
 use std::fmt;
 
-/// Appends a report: the end, the turns left, then each variable, each export and each call on a line.
+/// Appends a report: the end, the turns left, then each variable, each export and each call on a line. A refused call
+/// leaves the text as it was.
 pub fn push_report(report: &RunReport, text: &mut String) -> Result<(), OutOfMemory>
+    ensures ok { OnOk result (string_bytes text.new ≡ string_bytes text.old ++ report_text (report_meant report.now)) }
+    ensures err { OnErr result (string_bytes text.new ≡ string_bytes text.old) }
+{
+    let mut lines = String::new(*text.allocator());
+    write_report(report, &mut lines)?;
+    text.push_str(lines.as_str())?;
+    Ok(())
+}
+
+/// The same; a refused call can leave a part.
+fn write_report(report: &RunReport, text: &mut String) -> Result<(), OutOfMemory>
     ensures { OnOk result (string_bytes text.new ≡ string_bytes text.old ++ report_text (report_meant report.now)) }
 {
     let (end, turns) = (&report.run_end, report.turns_left);

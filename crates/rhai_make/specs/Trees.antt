@@ -1,5 +1,6 @@
 -- Short forms of trees.
 use Rattle.std.specs.Prelude.{[], false, true}
+use Rattle.rhai_names.specs.declared.flags.ASTFlags.{ASTFlags}
 use Rattle.rhai_values.specs.Value.{Text}
 use Rattle.rhai_meaning.specs.Tree.{Callee, CallToken, ChainFlags, Expr, Variable, FnCall, Index, no_exprs, expr}
 
@@ -16,6 +17,10 @@ operation name token lhs rhs = FnCall (called name token) (expr lhs (expr rhs no
 -- the last index of a chain ends it
 abbrev pub ending : ChainFlags
 ending = record { negated = false; breaks = true; exported = false }
+
+-- the flag BREAK alone
+abbrev pub ends_here : ASTFlags
+ends_here = record { 0 = 8 }
 
 abbrev pub element : Expr → Expr → Expr
 element e index = Index ending e index

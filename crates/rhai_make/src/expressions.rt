@@ -1,28 +1,31 @@
 //! Expressions.
-#![tactic(auto, using(rhai_reading::specs::Reading::shapes))]
+#![tactic(auto, using(rhai_reading::specs::Reading::shapes, rhai_reading::specs::Positions::places))]
 
 ghost use Rattle.std.specs.Prelude.{◌≡◌, IfOk, None, Some};
 ghost use Rattle.rhai_tokens.specs.Symbols.{token_text};
 ghost use Rattle.rhai_reading.specs.Reading.{callee_of, expr_of, exprs_of, mark_of, stmts_of};
+ghost use Rattle.rhai_reading.specs.Positions.{options_of, position_of};
 ghost use Rattle.rhai_meaning.specs.Tree.{ArrayOf, BlockExpr, FnCall, IntegerConstant, StringConstant};
 ghost use Rattle.rhai_make.specs.Trees as tree;
 
-use rhai_ast::{BinaryExpr, Expr, FnCallExpr, StmtBlock};
 use rhai_base::{
     ASTFlags, Boxed, INT, ImmutableString, Namespace, OutOfMemory, Position, Seq, Token,
 };
+use rhai_tree::{BinaryExpr, Expr, FnCallExpr, StmtBlock};
 use std::alloc::Global;
 
 /// An integer.
 pub fn integer(value: INT, pos: Position) -> Expr
-    ensures { expr_of result ≡ IntegerConstant value }
+    ensures means { expr_of result ≡ IntegerConstant value }
+    ensures stands { position_of result ≡ pos }
 {
     Expr::IntegerConstant(value, pos)
 }
 
 /// A text.
 pub fn text(alloc: Global, text: &str, pos: Position) -> Result<Expr, OutOfMemory>
-    ensures { IfOk result (λ e. expr_of e ≡ StringConstant text.now) }
+    ensures means { IfOk result (λ e. expr_of e ≡ StringConstant text.now) }
+    ensures stands { IfOk result (λ e. position_of e ≡ pos) }
 {
     let text = ImmutableString::new(alloc, text)?;
     Ok(Expr::StringConstant(text, pos))
@@ -30,7 +33,8 @@ pub fn text(alloc: Global, text: &str, pos: Position) -> Result<Expr, OutOfMemor
 
 /// A variable.
 pub fn variable(alloc: Global, name: &str, pos: Position) -> Result<Expr, OutOfMemory>
-    ensures { IfOk result (λ e. expr_of e ≡ tree.variable name.now) }
+    ensures means { IfOk result (λ e. expr_of e ≡ tree.variable name.now) }
+    ensures stands { IfOk result (λ e. position_of e ≡ pos) }
 {
     let name = ImmutableString::new(alloc, name)?;
     let parts = Boxed::new(alloc, (None, name, Namespace::none(alloc)))?;
@@ -39,21 +43,25 @@ pub fn variable(alloc: Global, name: &str, pos: Position) -> Result<Expr, OutOfM
 
 /// An array.
 pub fn array(alloc: Global, items: Seq<Expr>, pos: Position) -> Result<Expr, OutOfMemory>
-    ensures { IfOk result (λ e. expr_of e ≡ ArrayOf (exprs_of items)) }
+    ensures means { IfOk result (λ e. expr_of e ≡ ArrayOf (exprs_of items)) }
+    ensures stands { IfOk result (λ e. position_of e ≡ pos) }
 {
     Ok(Expr::Array(Boxed::new(alloc, items)?, pos))
 }
 
 /// A block as an expression.
 pub fn block_expr(alloc: Global, block: StmtBlock) -> Result<Expr, OutOfMemory>
-    ensures { IfOk result (λ e. expr_of e ≡ BlockExpr (stmts_of block.block)) }
+    ensures means { IfOk result (λ e. expr_of e ≡ BlockExpr (stmts_of block.block)) }
+    ensures stands { IfOk result (λ e. position_of e ≡ block.span.start) }
 {
     Ok(Expr::Stmt(Boxed::new(alloc, block)?))
 }
 
 /// What stands at an index, as a chain that ends there.
 pub fn index(alloc: Global, lhs: Expr, rhs: Expr, pos: Position) -> Result<Expr, OutOfMemory>
-    ensures { IfOk result (λ e. expr_of e ≡ tree.element (expr_of lhs) (expr_of rhs)) }
+    ensures means { IfOk result (λ e. expr_of e ≡ tree.element (expr_of lhs) (expr_of rhs)) }
+    ensures stands { IfOk result (λ e. position_of e ≡ pos) }
+    ensures options { IfOk result (λ e. options_of e ≡ tree.ends_here) }
 {
     let sides = Boxed::new(alloc, BinaryExpr { lhs, rhs })?;
     Ok(Expr::Index(sides, ASTFlags::BREAK, pos))
@@ -61,7 +69,8 @@ pub fn index(alloc: Global, lhs: Expr, rhs: Expr, pos: Position) -> Result<Expr,
 
 /// The call of a function.
 pub fn call(alloc: Global, name: &str, args: Seq<Expr>, pos: Position) -> Result<Expr, OutOfMemory>
-    ensures { IfOk result (λ e. expr_of e ≡ FnCall (tree.called name.now (mark_of None)) (exprs_of args)) }
+    ensures means { IfOk result (λ e. expr_of e ≡ FnCall (tree.called name.now (mark_of None)) (exprs_of args)) }
+    ensures stands { IfOk result (λ e. position_of e ≡ pos) }
 {
     let call = fn_call(alloc, name, args, None)?;
     Ok(Expr::FnCall(call, pos))
@@ -75,8 +84,9 @@ pub fn operator(
     rhs: Expr,
     pos: Position,
 ) -> Result<Expr, OutOfMemory>
-    ensures { IfOk result (λ e.
+    ensures means { IfOk result (λ e.
         expr_of e ≡ tree.operation (token_text token) (mark_of (Some token)) (expr_of lhs) (expr_of rhs)) }
+    ensures stands { IfOk result (λ e. position_of e ≡ pos) }
 {
     let operands = Seq::from_array(alloc, [lhs, rhs])?;
     let call = fn_call(alloc, token.literal_syntax(), operands, Some(token))?;

@@ -3,10 +3,11 @@
 
 ghost use Rattle.std.specs.Prelude.{◌≡◌, [], IfOk, None, map};
 ghost use Rattle.rhai_reading.specs.Reading.{function_of, stmts_of};
+ghost use Rattle.rhai_tree.specs.Defaults.{nowhere};
 ghost use Rattle.rhai_tree.specs.declared.script_fn.FnAccess.TheVariants as access;
 
-use rhai_ast::{FnAccess, ScriptFuncDef, Stmt, StmtBlock};
 use rhai_base::{ImmutableString, OutOfMemory, Seq, Span};
+use rhai_tree::{FnAccess, ScriptFuncDef, Stmt, StmtBlock};
 use std::alloc::Global;
 
 /// A function that other scripts see, for a receiver of any type, without a comment. Its block has no span.
@@ -25,6 +26,7 @@ pub fn function(
           body = stmts_of body.items;
         }) }
     ensures keeps { IfOk result (λ f. (f.access ≡ access.Public) × (f.comments ≡ [])) }
+    ensures stands { IfOk result (λ f. (f.body.span.start ≡ nowhere) × (f.body.span.end ≡ nowhere)) }
 {
     Ok(ScriptFuncDef {
         body: StmtBlock::new_with_span(body, Span::NONE),

@@ -7,5 +7,10 @@ use Rattle.rhai_node_reader.specs.declared.error.ReadError.TheVariants as error
 abbrev pub place_of : ReadError → Option Position
 place_of (error.Missing letters p) = Some p
 place_of (error.Expected what p) = Some p
+place_of (error.Zeros p) = Some p
+place_of (error.Keyword p) = Some p
+place_of (error.KeyTwice p) = Some p
+place_of (error.ParameterTwice p) = Some p
+place_of (error.FunctionTwice p) = Some p
 place_of (error.TooDeep p) = Some p
 place_of error.OutOfMemory = None

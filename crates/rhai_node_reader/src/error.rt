@@ -27,6 +27,36 @@ pub enum ReadError {
         /// Where it should begin.
         position: Position,
     },
+    /// The integer there has zeros before it, or it is 0 with a sign.
+    #[error("{place}: an integer has no zeros before it, and 0 no sign", place = Place(*.position))]
+    Zeros {
+        /// Where the integer begins.
+        position: Position,
+    },
+    /// The word there is one of the language, and no name.
+    #[error("{place}: a word of the language is no name", place = Place(*.position))]
+    Keyword {
+        /// Where the word begins.
+        position: Position,
+    },
+    /// The key there is in its map, or in its table of a `switch`, already.
+    #[error("{place}: this key is there already", place = Place(*.position))]
+    KeyTwice {
+        /// Where the key begins.
+        position: Position,
+    },
+    /// The parameter there has the name of one before it.
+    #[error("{place}: this parameter is there already", place = Place(*.position))]
+    ParameterTwice {
+        /// Where the parameter begins.
+        position: Position,
+    },
+    /// A function before the one there has its name, as many parameters and the same receiver.
+    #[error("{place}: this function is there already", place = Place(*.position))]
+    FunctionTwice {
+        /// Where the function's body begins.
+        position: Position,
+    },
     /// What begins there is nested too deeply to be read.
     #[error("{place}: nested too deeply", place = Place(*.position))]
     TooDeep {
@@ -46,6 +76,11 @@ impl ReadError {
         match self {
             ReadError::Missing { position, .. }
             | ReadError::Expected { position, .. }
+            | ReadError::Zeros { position }
+            | ReadError::Keyword { position }
+            | ReadError::KeyTwice { position }
+            | ReadError::ParameterTwice { position }
+            | ReadError::FunctionTwice { position }
             | ReadError::TooDeep { position } => Some(position),
             ReadError::OutOfMemory => None,
         }

@@ -4,7 +4,7 @@ use crate::error::ReadError;
 use crate::joined::both;
 use crate::letters::{Letters, Words};
 use rhai_ast::{FnAccess, ScriptFuncDef, Stmt};
-use rhai_base::{ImmutableString, Seq};
+use rhai_base::{Ident, ImmutableString, Seq};
 use std::alloc::Global;
 use std::rc::Rc;
 
@@ -83,11 +83,20 @@ impl<'a> Letters<'a> {
     fn push_params(&self, params: &mut Vec<ImmutableString>) {
         for _ in 0..self.most() {
             if let Some(name) = self.ident() {
-                self.push(params, Some(name.name));
+                self.push_param(params, name);
             }
             if !self.skip(", ") {
                 break;
             }
         }
+    }
+
+    /// Adds a parameter, whose name should be a new one.
+    fn push_param(&self, params: &mut Vec<ImmutableString>, param: Ident) {
+        if self.words == Words::Printed && params.contains(&param.name) {
+            let position = param.pos;
+            self.refuse(ReadError::ParameterTwice { position });
+        }
+        self.push(params, Some(param.name));
     }
 }

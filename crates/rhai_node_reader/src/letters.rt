@@ -12,11 +12,18 @@ use std::str;
 /// Which words a text may have.
 #[derive(Clone, Copy, Debug, PartialEq, Eq)]
 pub enum Words {
-    /// Those of the notation.
+    /// Those of the notation, and names as in rhai.
     Printed,
-    /// Also `spoiled` and `alone`, for nodes that no printed text shows.
+    /// Also `spoiled` and `alone`, for nodes that no printed text shows, and names that rhai refuses.
     Odd,
 }
+
+/// The words of the language, which are no names.
+static KEYWORDS: [&str; 25] = [
+    "true", "false", "let", "const", "if", "else", "switch", "do", "while", "until", "loop", "for",
+    "in", "continue", "break", "fn", "private", "return", "throw", "try", "catch", "import",
+    "export", "as", "this",
+];
 
 /// What letters are.
 #[derive(Clone, Copy)]
@@ -65,7 +72,7 @@ impl<'a> Letters<'a> {
     // ---- faults
 
     /// Remembers the first fault.
-    fn refuse(&self, fault: ReadError) {
+    pub(crate) fn refuse(&self, fault: ReadError) {
         if self.is_sound() {
             self.fault.set(Some(fault));
         }
@@ -190,9 +197,9 @@ impl<'a> Letters<'a> {
         }
     }
 
-    /// Goes past the end of a line, which should stand next.
+    /// Goes past the end of a line, which should stand next; the last line need not end.
     pub(crate) fn end_line(&self) {
-        if !self.skip("\n") {
+        if !self.is_at_end() && !self.skip("\n") {
             self.want("the end of the line");
         }
     }
@@ -285,6 +292,14 @@ impl<'a> Letters<'a> {
             self.want("a name");
             return None;
         }
+        self.name_of(word, pos)
+    }
+
+    /// A name of these letters, which should be no word of the language.
+    pub(crate) fn name_of(&self, word: &str, pos: Position) -> Option<Ident> {
+        if self.words == Words::Printed && KEYWORDS.contains(&word) {
+            self.refuse(ReadError::Keyword { position: pos });
+        }
         self.ident_of(word, pos)
     }
 
@@ -305,9 +320,13 @@ impl<'a> Letters<'a> {
     /// An integer, where one stands next.
     pub(crate) fn integer(&self) -> Option<INT> {
         let before = self.place();
-        let integer = self.first(self.count(Kind::OfIntegers))?.parse::<INT>();
+        let digits = self.first(self.count(Kind::OfIntegers))?;
+        let integer = digits.parse::<INT>();
         if integer.is_err() {
             self.come_back(before);
+        } else if has_zeros(digits) {
+            let position = before.here();
+            self.refuse(ReadError::Zeros { position });
         }
         integer.ok()
     }
@@ -323,6 +342,14 @@ impl<'a> Letters<'a> {
                 0
             }
         }
+    }
+}
+
+/// Whether an integer has zeros before it, or is 0 with a sign.
+fn has_zeros(digits: &str) -> bool {
+    match digits.strip_prefix('-') {
+        Some(number) => number.starts_with('0'),
+        None => digits.len() > 1 && digits.starts_with('0'),
     }
 }
 

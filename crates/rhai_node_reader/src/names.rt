@@ -40,7 +40,7 @@ impl<'a> Letters<'a> {
     }
 
     fn called_of(&self, word: &str, pos: Position) -> Option<Called> {
-        match self.ident_of(word, pos) {
+        match self.name_of(word, pos) {
             Some(name) => Some(Called {
                 namespace: Namespace::none(self.alloc),
                 name,
@@ -69,7 +69,7 @@ impl<'a> Letters<'a> {
             "" => self.symbol(),
             word => word,
         };
-        self.ident_of(word, pos)
+        self.name_of(word, pos)
     }
 
     /// An operator, and goes past the `(`; this is wanted where none stands next.
@@ -152,7 +152,7 @@ impl<'a> Letters<'a> {
 
     fn alias(&self, parts: &mut Parts) {
         let pos = self.here();
-        self.push_name(self.ident_of(self.word(), pos), parts);
+        self.push_name(self.name_of(self.word(), pos), parts);
     }
 
     fn names(&self, parts: &mut Parts) {

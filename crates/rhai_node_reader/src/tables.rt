@@ -1,9 +1,10 @@
 //! What a `switch` chooses by.
 
+use crate::error::ReadError;
 use crate::letters::Letters;
 use indexmap::IndexMap;
 use rhai_ast::{CaseBlocksList, Cases, SwitchCasesCollection};
-use rhai_base::{INT, RangeCase, Seq};
+use rhai_base::{Dynamic, INT, Position, RangeCase, Seq};
 
 impl<'a> Letters<'a> {
     /// Cases, ranges and default, with `|` between them; the table has no arms yet.
@@ -21,10 +22,9 @@ impl<'a> Letters<'a> {
     fn cases(&self) -> Cases {
         let mut cases = IndexMap::new(self.alloc);
         for _ in 0..self.most() {
+            let position = self.here();
             match self.value() {
-                Some(key) => {
-                    self.made(cases.insert(key, self.places()));
-                }
+                Some(key) => self.case(&mut cases, key, position),
                 None => break,
             }
             if !self.skip(", ") {
@@ -33,6 +33,18 @@ impl<'a> Letters<'a> {
         }
         self.expect(" | ");
         Cases::from_map(cases)
+    }
+
+    /// Puts the places of a case's arms there, under its value, which should be a new one.
+    fn case(
+        &self,
+        cases: &mut IndexMap<Dynamic, CaseBlocksList>,
+        value: Dynamic,
+        position: Position,
+    ) {
+        if let Some(Some(_places)) = self.made(cases.insert(value, self.places())) {
+            self.refuse(ReadError::KeyTwice { position });
+        }
     }
 
     /// The places of a case's arms; where there are none a blank may stand for them.

@@ -72,7 +72,7 @@ impl<'a> Letters<'a> {
             return members;
         }
         for _ in 0..self.most() {
-            let key = self.member_key();
+            let key = self.member_key(&members);
             self.put(&mut members, key, self.value_within(depth));
             if !self.skip(", ") {
                 break;
@@ -94,11 +94,16 @@ impl<'a> Letters<'a> {
         }
     }
 
-    fn member_key(&self) -> Option<ImmutableString> {
+    /// A key, which should be none of these members.
+    fn member_key(&self, members: &StringMap<Dynamic>) -> Option<ImmutableString> {
+        let position = self.here();
         self.expect("\"");
-        let key = self.text();
+        let key = self.text()?;
+        if members.get(&key).is_some() {
+            self.refuse(ReadError::KeyTwice { position });
+        }
         self.expect(": ");
-        key
+        Some(key)
     }
 
     /// The rest of a text.

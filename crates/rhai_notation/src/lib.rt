@@ -1,4 +1,4 @@
-//! How nodes and scripts are printed. A refused call can leave a part of what it appends.
+//! How nodes and scripts are printed.
 #![tactic(auto)]
 
 mod printed;

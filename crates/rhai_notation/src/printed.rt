@@ -1,14 +1,14 @@
 //! What `{}` and `{:?}` print: all that has a text in the notation.
 #![tactic(auto)]
 
-ghost use Rattle.std.specs.Prelude.{◌≡◌, ◌++◌, OnOk, Some, string_bytes};
+ghost use Rattle.std.specs.Prelude.{◌≡◌, ◌++◌, OnErr, OnOk, Some, string_bytes};
 ghost use Rattle.rhai_values.specs.Value.{Text};
 ghost use Rattle.rhai_reading.specs.Reading.{expr_of, function_of, stmt_of, stmts_of, table_of};
 ghost use Rattle.rhai_node_notation.specs.Nodes.{block_text, expr_text, stmt_text, table_text};
 ghost use Rattle.rhai_notation.specs.Notation.{function_text, script_text};
 ghost use Rattle.rhai_script.specs.Script.{script_of};
 
-use crate::scripts::{push_function, push_script};
+use crate::scripts::{write_function, write_script};
 use rhai_ast::{Expr, ScriptFuncDef, Stmt, StmtBlock, SwitchCasesCollection};
 use rhai_base::OutOfMemory;
 use rhai_node_notation::{push_block, push_expr, push_stmt, push_table};
@@ -21,9 +21,20 @@ pub trait Notation {
     /// Its text.
     ghost notation: { Self → Text };
 
-    /// Appends its text. A refused call can leave a part of it.
-    fn push_notation(&self, text: &mut String) -> Result<(), OutOfMemory>
+    /// Appends its text. A refused call can leave a part of it, where `push_notation` leaves none.
+    fn write_notation(&self, text: &mut String) -> Result<(), OutOfMemory>
         ensures { OnOk result (string_bytes text.new ≡ string_bytes text.old ++ notation self.now) };
+
+    /// Appends its text. A refused call leaves the text as it was.
+    final fn push_notation(&self, text: &mut String) -> Result<(), OutOfMemory>
+        ensures ok { OnOk result (string_bytes text.new ≡ string_bytes text.old ++ notation self.now) }
+        ensures err { OnErr result (string_bytes text.new ≡ string_bytes text.old) }
+    {
+        let mut form = String::new(*text.allocator());
+        self.write_notation(&mut form)?;
+        text.push_str(form.as_str())?;
+        Ok(())
+    }
 
     /// What `{}` and `{:?}` print as its text. They make it with this allocator first, since `fmt` is given none.
     final fn printed(&self, alloc: Global) -> Printed<'_, Self>
@@ -38,7 +49,7 @@ pub trait Notation {
 impl Notation for Expr {
     ghost notation = { λ expr. expr_text (expr_of expr) };
 
-    fn push_notation(&self, text: &mut String) -> Result<(), OutOfMemory> {
+    fn write_notation(&self, text: &mut String) -> Result<(), OutOfMemory> {
         push_expr(self, text)
     }
 }
@@ -46,7 +57,7 @@ impl Notation for Expr {
 impl Notation for Stmt {
     ghost notation = { λ stmt. stmt_text (stmt_of stmt) };
 
-    fn push_notation(&self, text: &mut String) -> Result<(), OutOfMemory> {
+    fn write_notation(&self, text: &mut String) -> Result<(), OutOfMemory> {
         push_stmt(self, text)
     }
 }
@@ -55,7 +66,7 @@ impl Notation for Stmt {
 impl Notation for StmtBlock {
     ghost notation = { λ block. block_text (stmts_of block.block) };
 
-    fn push_notation(&self, text: &mut String) -> Result<(), OutOfMemory> {
+    fn write_notation(&self, text: &mut String) -> Result<(), OutOfMemory> {
         push_block(self, text)
     }
 }
@@ -64,7 +75,7 @@ impl Notation for StmtBlock {
 impl Notation for SwitchCasesCollection {
     ghost notation = { λ table. table_text (table_of table) };
 
-    fn push_notation(&self, text: &mut String) -> Result<(), OutOfMemory> {
+    fn write_notation(&self, text: &mut String) -> Result<(), OutOfMemory> {
         push_table(self, text)
     }
 }
@@ -72,8 +83,8 @@ impl Notation for SwitchCasesCollection {
 impl Notation for ScriptFuncDef {
     ghost notation = { λ function. function_text (function_of function) };
 
-    fn push_notation(&self, text: &mut String) -> Result<(), OutOfMemory> {
-        push_function(self, text)
+    fn write_notation(&self, text: &mut String) -> Result<(), OutOfMemory> {
+        write_function(self, text)
     }
 }
 
@@ -81,8 +92,8 @@ impl Notation for ScriptFuncDef {
 impl Notation for AST {
     ghost notation = { λ script. script_text (script_of script) };
 
-    fn push_notation(&self, text: &mut String) -> Result<(), OutOfMemory> {
-        push_script(self, text)
+    fn write_notation(&self, text: &mut String) -> Result<(), OutOfMemory> {
+        write_script(self, text)
     }
 }
 
@@ -98,7 +109,7 @@ impl<T: Notation> fmt::Display for Printed<'_, T> {
 
     fn fmt<W: fmt::Write>(&self, f: &mut fmt::Formatter<W>) -> fmt::Result {
         let mut text = String::new(self.alloc);
-        self.item.push_notation(&mut text).map_err(|_| fmt::Error)?;
+        self.item.write_notation(&mut text).map_err(|_| fmt::Error)?;
         f.write_str(text.as_str())
     }
 }

@@ -22,7 +22,7 @@ use Rattle.rhai_functions.specs.FnKey.{definition_key, definitions_table}
 use Rattle.rhai_functions.specs.Table.{put_by, put_all_by}
 use Rattle.rhai_optimizer.specs.Functions.{Header, header_of, FunctionRun, FunctionsRun, no_functions, one_more, BodyRun}
 use Rattle.rhai_optimizer.specs.Optimised.{AreReducedBodies}
-use Rattle.rhai_optimizer.specs.Passes.{PassRun}
+use Rattle.rhai_reducer.specs.Pass.{PassRun}
 
 -- ---- names
 

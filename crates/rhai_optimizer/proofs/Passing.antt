@@ -10,18 +10,11 @@ use Rattle.rhai_rewriting.specs.Context.{Context, Whole, knowing}
 use Rattle.rhai_rewriting.specs.Known.{Known}
 use Rattle.rhai_rewriting.specs.Passes.{no_pass, one_more, Passes, last_pass, ScriptPasses, PassesWithin}
 use Rattle.rhai_rewriting.specs.Rewriting.{StmtsTo, RestTo}
-use Rattle.rhai_rewriting.specs.Steps.{Progress, StmtsRun, IsReducedBody}
+use Rattle.rhai_rewriting.specs.Steps.{Progress, IsReducedBody}
 use Rattle.rhai_rewriting.proofs.Passing.{passes_are_bounded, script_passes_to}
 use Rattle.rhai_rewriting.proofs.Weights.{stmts_fall}
-use Rattle.rhai_optimizer.specs.Passes.{PassRun, Counts, SettingSoFar, PassesRun}
-
--- a list that was gone over from a clear flag
-pub pass_run : {r : Engine} {s s1 s' : Progress} {ss ss' : Stmts} → s1.is_dirty ≡ false → s1.known ≡ s.known → StmtsRun r Whole s1 s' ss ss' → PassRun r s'.is_dirty s s' ss ss'
-pass_run {r = r} {s = s} {s1 = s1} {s' = s'} {ss = ss} {ss' = ss'} clear same run = record {
-  to = subst (λ d. RestTo (knowing r s.known) Whole true d s'.is_dirty ss ss') clear (subst (λ ks. RestTo (knowing r ks) Whole true s1.is_dirty s'.is_dirty ss ss') same run.to);
-  reduced = record { list = run.list; returns_nothing = run.returns_nothing refl; nodes = run.reduced };
-  known = run.known ∙ same;
-}
+use Rattle.rhai_optimizer.specs.Passes.{Counts, SettingSoFar, PassesRun}
+use Rattle.rhai_reducer.specs.Pass.{PassRun}
 
 -- ---- the loop over passes
 

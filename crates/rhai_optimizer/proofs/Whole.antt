@@ -18,12 +18,11 @@ use Rattle.rhai_rewriting.specs.Context.{Context, Whole, knowing}
 use Rattle.rhai_rewriting.specs.Known.{Known}
 use Rattle.rhai_rewriting.specs.Reducible.{AreIrreducibleBodies, IsIrreducibleScript}
 use Rattle.rhai_rewriting.specs.Rewriting.{StmtsTo, same_stmts}
-use Rattle.rhai_rewriting.specs.Scripts.{captures_nothing, known_at_top, known_in_bodies, known_inside, MayKnow, nothing_known, none_capture, FunctionsTo, ScriptTo}
-use Rattle.rhai_rewriting.specs.Steps.{IsReducedBody}
+use Rattle.rhai_rewriting.specs.Scripts.{captures_nothing, known_at_top, known_in_bodies, known_inside, MayKnow, nothing_known, none_capture, FunctionsTo, OptimisedTo, ScriptTo}
 use Rattle.rhai_rewriting.proofs.Irreducible.{body_irreducible}
 use Rattle.rhai_rewriting.proofs.soundness.Kept.{script_keeps, well_formed_stays}
 use Rattle.rhai_rewriting.proofs.soundness.Start.{agrees_inside}
-use Rattle.rhai_rewriting.proofs.soundness.Whole.{functions_same, script_refines}
+use Rattle.rhai_rewriting.proofs.soundness.Whole.{functions_same, optimised_refines, script_refines}
 use Rattle.rhai_deep_queries.specs.Walks.{capture_walk, listing}
 use Rattle.rhai_functions.specs.FnKey.{definitions_table}
 use Rattle.rhai_functions.specs.Table.{key_of, put_by, put_all_by, table_of}
@@ -31,9 +30,8 @@ use Rattle.rhai_functions.proofs.Tables.{map-put_all}
 use Rattle.rhai_known.specs.declared.level.OptimizationLevel.{OptimizationLevel}
 use Rattle.rhai_known.specs.declared.level.OptimizationLevel.TheVariants as level
 use Rattle.rhai_script.specs.Contents.{Contents, meant}
-use Rattle.rhai_optimizer.specs.Functions.{header_of, FunctionsRun}
-use Rattle.rhai_optimizer.specs.Optimised.{optimises_nothing, AreReducedBodies, Becomes, IsReducedScript, Optimised, PartsOptimised, PassesCounted}
-use Rattle.rhai_optimizer.specs.Passes.{Counts}
+use Rattle.rhai_optimizer.specs.Functions.{header_of}
+use Rattle.rhai_optimizer.specs.Optimised.{optimises_nothing, AreReducedBodies, Becomes, IsReducedScript, Optimised, PartsOptimised, PartsReduced, PassesCounted}
 use Rattle.rhai_optimizer.specs.Source.{source_of}
 use Rattle.rhai_optimizer.proofs.Bodies.{table_run, functions_to, same_headers, bodies_reduced}
 use Rattle.rhai_optimizer.proofs.Passing.{counts_to, counts_within}
@@ -106,7 +104,7 @@ made_of ss fs s body table = λ i. record { statements = stmts_of (sym body i); 
 module _ {r : Engine} {start : List ScopeEntry} {ss : List Stmt} {fs : List (Rc ScriptFuncDef Global)} {ss' : List Stmt} {fs' : List (Rc ScriptFuncDef Global)} {number : ℕ} where
   module _ {l : OptimizationLevel} (p : PartsOptimised r start l ss fs ss' fs' number) where
     optimised_to : l ≢ level.None → ScriptTo r (known_at_top r start) (Inside r start ss fs) (source_of ss fs) (source_of ss' fs')
-    optimised_to h = record { statements = counts_to (p.counts h); functions = of_tables (knowing r (Inside r start ss fs)) fs fs' (functions_to (table_run (p.functions h))) }
+    optimised_to h = record { statements = counts_to (p.some h).counts; functions = of_tables (knowing r (Inside r start ss fs)) fs fs' (functions_to (table_run (p.some h).functions)) }
 
     untouched_to : l ≡ level.None → ScriptTo r (known_at_top r start) (Inside r start ss fs) (source_of ss fs) (source_of ss' fs')
     untouched_to h = record {
@@ -115,10 +113,10 @@ module _ {r : Engine} {start : List ScopeEntry} {ss : List Stmt} {fs : List (Rc 
     }
 
     table_headers : l ≢ level.None → map header_of (definitions_table (map rc_value fs')) ≡ map header_of (definitions_table (map rc_value fs))
-    table_headers h = same_headers (table_run (p.functions h))
+    table_headers h = same_headers (table_run (p.some h).functions)
 
     source_reduced : l ≢ level.None → IsReducedScript r (source_of ss' fs')
-    source_reduced h = record { statements = p.reduced h; functions = subst (λ gs. AreReducedBodies r gs) (table_meant (map rc_value fs')) (bodies_reduced (table_run (p.functions h))) }
+    source_reduced h = record { statements = (p.some h).reduced; functions = subst (λ gs. AreReducedBodies r gs) (table_meant (map rc_value fs')) (bodies_reduced (table_run (p.some h).functions)) }
 
   script_to : (l : OptimizationLevel) → PartsOptimised r start l ss fs ss' fs' number → ScriptTo r (known_at_top r start) (Inside r start ss fs) (source_of ss fs) (source_of ss' fs')
   script_to level.None p = untouched_to p refl
@@ -148,7 +146,7 @@ module _ {r : Engine} {start : List ScopeEntry} {ss : List Stmt} {fs : List (Rc 
     }
 
   pub passes_counted : (l : OptimizationLevel) → PartsOptimised r start l ss fs ss' fs' number → PassesCounted r start l (stmts_of ss) (stmts_of ss') number
-  passes_counted l p = record { made = p.counts; within = λ h. counts_within (p.counts h); none = λ h. (p.none h).1.1 }
+  passes_counted l p = record { made = λ h. (p.some h).counts; within = λ h. counts_within (p.some h).counts; none = λ h. (p.none h).1.1 }
 
 -- ---- at a level
 
@@ -164,18 +162,29 @@ some_by level.Full h e = cc
 
 pub parts_untouched : {r : Engine} {start : List ScopeEntry} (l : OptimizationLevel) (ss : List Stmt) (fs : List (Rc ScriptFuncDef Global)) → optimises_nothing l ≡ true → PartsOptimised r start l ss fs ss fs 0
 parts_untouched l ss fs h = record {
-  counts = λ n. absurd (n (none_by l h));
-  reduced = λ n. absurd (n (none_by l h));
-  functions = λ n. absurd (n (none_by l h));
+  some = λ n. absurd (n (none_by l h));
   none = λ e. (refl, (refl, refl));
 }
 
-pub parts_made : {r : Engine} {start : List ScopeEntry} {ss ss' : List Stmt} {fs fs' : List (Rc ScriptFuncDef Global)} {number : ℕ} (l : OptimizationLevel) → optimises_nothing l ≡ false
-    → Counts (knowing r (known_at_top r start)) number (stmts_of ss) (stmts_of ss') → IsReducedBody r (stmts_of ss') → FunctionsRun r (known_inside r start (listing ss fs)) (map rc_value fs) (map rc_value fs')
-    → PartsOptimised r start l ss fs ss' fs' number
-parts_made l h counts reduced functions = record {
-  counts = λ n. counts;
-  reduced = λ n. reduced;
-  functions = λ n. functions;
+pub parts_made : {r : Engine} {start : List ScopeEntry} {ss ss' : List Stmt} {fs fs' : List (Rc ScriptFuncDef Global)} {number : ℕ} (l : OptimizationLevel) → optimises_nothing l ≡ false → PartsReduced r start ss fs ss' fs' number → PartsOptimised r start l ss fs ss' fs' number
+parts_made l h p = record {
+  some = λ n. p;
   none = λ e. absurd (some_by l h e);
+}
+
+-- a script that is handed back
+same_script : (r : Engine) (start : List ScopeEntry) (p : Script) → OptimisedTo r start p p
+same_script r start p = record { statements = same_stmts; functions = functions_same (knowing r (known_inside r start p)) p.functions }
+
+pub script_untouched : {r : Engine} {start : List ScopeEntry} (l : OptimizationLevel) (s : Contents) → optimises_nothing l ≡ true → Optimised r start l s s
+script_untouched {r = r} {start = start} l s h = record {
+  script = record {
+    refines = optimised_refines r start (same_script r start (meant s));
+    keeps = script_keeps (same_script r start (meant s));
+    irreducible = λ n. absurd (n (none_by l h));
+    reduced = λ n. absurd (n (none_by l h));
+  };
+  headers = refl;
+  untouched = λ e. (refl, refl);
+  named = (refl, (refl, refl));
 }

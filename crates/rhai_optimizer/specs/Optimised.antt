@@ -62,11 +62,15 @@ pub record Optimised (r : Engine) (start : List ScopeEntry) (l : OptimizationLev
 abbrev pub given : List Stmt → List (Rc ScriptFuncDef Global) → Contents
 given ss fs = record { source = None; doc = []; statements = ss; id = None; functions = definitions_table (map rc_value fs) }
 
--- the statements and the functions before they are made a script of
+-- the statements and the functions, optimised, before they are made a script of
+pub record PartsReduced (r : Engine) (start : List ScopeEntry) (ss : List Stmt) (fs : List (Rc ScriptFuncDef Global)) (ss' : List Stmt) (fs' : List (Rc ScriptFuncDef Global)) (number : ℕ) : Type 0 where
+  pub counts : Counts (knowing r (known_at_top r start)) number (stmts_of ss) (stmts_of ss')
+  pub reduced : IsReducedBody r (stmts_of ss')
+  pub functions : FunctionsRun r (known_inside r start (listing ss fs)) (map rc_value fs) (map rc_value fs')
+
+-- at a level
 pub record PartsOptimised (r : Engine) (start : List ScopeEntry) (l : OptimizationLevel) (ss : List Stmt) (fs : List (Rc ScriptFuncDef Global)) (ss' : List Stmt) (fs' : List (Rc ScriptFuncDef Global)) (number : ℕ) : Type 0 where
-  pub counts : l ≢ level.None → Counts (knowing r (known_at_top r start)) number (stmts_of ss) (stmts_of ss')
-  pub reduced : l ≢ level.None → IsReducedBody r (stmts_of ss')
-  pub functions : l ≢ level.None → FunctionsRun r (known_inside r start (listing ss fs)) (map rc_value fs) (map rc_value fs')
+  pub some : l ≢ level.None → PartsReduced r start ss fs ss' fs' number
   pub none : l ≡ level.None → (ss' ≡ ss) × ((map rc_value fs' ≡ map rc_value fs) × (number ≡ 0))
 
 -- the number of passes over the statements

@@ -1,17 +1,10 @@
 -- Passes over a script's statements, as they are counted.
-use Rattle.std.specs.Prelude.{◌≡◌, ℕ, ◌-◌, ◌^◌, min, Bool, false}
+use Rattle.std.specs.Prelude.{◌≡◌, ℕ, ◌-◌, ◌^◌, min}
 use Rattle.rhai_meaning.specs.Engine.{Engine}
 use Rattle.rhai_meaning.specs.Tree.{Stmts}
-use Rattle.rhai_rewriting.specs.Context.{Context, Whole, knowing}
+use Rattle.rhai_rewriting.specs.Context.{Context, knowing}
 use Rattle.rhai_rewriting.specs.Passes.{Setting, ScriptPasses}
-use Rattle.rhai_rewriting.specs.Rewriting.{StmtsTo}
 use Rattle.rhai_rewriting.specs.Steps.{Progress, IsReducedBody}
-
--- one pass, from a clear flag; set: whether the flag is set behind it
-pub record PassRun (r : Engine) (set : Bool) (s s' : Progress) (ss ss' : Stmts) : Type 0 where
-  pub to : StmtsTo (knowing r s.known) Whole false set ss ss'
-  pub reduced : IsReducedBody r ss'
-  pub known : s'.known ≡ s.known
 
 -- the number of the passes that were made; it stays at the greatest that a `u64` holds
 pub record Counts (k : Context) (number : ℕ) (ss ss' : Stmts) : Type 0 where

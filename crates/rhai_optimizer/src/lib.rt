@@ -1,13 +1,10 @@
-//! The optimiser of scripts.
+//! The optimiser of scripts: their statements and functions, over the recursion of rhai_reducer.
 #![tactic(auto)]
 
-mod blocks;
-mod cycle;
 mod functions;
-mod lists;
-mod names;
 mod optimizer;
 mod passes;
+mod start;
 
 pub use optimizer::{optimize_ast, optimize_counted, optimize_into_ast};
 pub use rhai_known::{OptimizationLevel, OptimizerState};

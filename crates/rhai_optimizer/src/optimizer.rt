@@ -6,7 +6,7 @@ ghost use Rattle.std.specs.Rc.{rc_value};
 ghost use Rattle.rhai_engine.specs.EngineInfo.{engine_of};
 ghost use Rattle.rhai_functions.specs.FnKey.{definitions_table};
 ghost use Rattle.rhai_optimizer.specs.Optimised as spec;
-ghost use Rattle.rhai_optimizer.specs.Optimised.{Optimised, PartsOptimised, PassesCounted, given};
+ghost use Rattle.rhai_optimizer.specs.Optimised.{Optimised, PartsOptimised, PartsReduced, PassesCounted, given};
 ghost use Rattle.rhai_optimizer.specs.Passes.{Counts};
 ghost use Rattle.rhai_optimizer.specs.Scopes.{start_of};
 ghost use Rattle.rhai_reading.specs.Reading.{stmts_of};
@@ -15,14 +15,16 @@ ghost use Rattle.rhai_rewriting.specs.Scripts.{known_at_top};
 ghost use Rattle.rhai_rewriting.specs.Steps.{IsReducedBody};
 ghost use Rattle.rhai_script.specs.Contents.{contents};
 
-use crate::cycle::Optimizer;
-use crate::names::push_at_top;
+use crate::functions::optimize_functions;
+use crate::passes::make_passes;
+use crate::start::push_at_top;
 use rhai_ast::{ScriptFuncDef, Stmt, StmtBlock};
 use rhai_base::{ImmutableString, OutOfMemory, Position, Scope};
 use rhai_engine::EngineInfo;
 use rhai_functions::{take_id, unshared};
 use rhai_known::{OptimizationLevel, OptimizerState};
 use rhai_nodes::statements_of;
+use rhai_reducer::Optimizer;
 use rhai_script::{AST, AstParts, FnLib};
 use std::alloc::Global;
 use std::rc::Rc;
@@ -47,7 +49,7 @@ fn optimize_statements<'a>(
     let mut state = OptimizerState::new(alloc, info, scope, OptimizationLevel::Simple);
     push_at_top(alloc, &mut state, info, scope)?;
     let optimizer = Optimizer { alloc, info };
-    let passes = optimizer.passes(&mut state, statements.statements_mut())?;
+    let passes = make_passes(&optimizer, &mut state, statements.statements_mut())?;
     Ok((statements, passes))
 }
 
@@ -61,8 +63,26 @@ fn optimises_nothing(level: OptimizationLevel) -> bool
     }
 }
 
-/// The statements and the functions of a script, optimised at a level, and the number of passes over the statements.
+/// The statements and the functions of a script, optimised, and the number of passes over the statements.
 fn optimize_parts<'a>(
+    alloc: Global,
+    info: &'a EngineInfo,
+    scope: Option<&'a Scope>,
+    statements: StmtBlock,
+    functions: Vec<Rc<ScriptFuncDef>>,
+) -> Result<(StmtBlock, Vec<Rc<ScriptFuncDef>>, u64), OutOfMemory>
+    ensures { IfOk result (λ r.
+        PartsReduced (engine_of info.now) (start_of (option_map deref scope.entry)) statements.block functions.items
+        r.0.block r.1.items r.2) }
+{
+    let optimizer = Optimizer { alloc, info };
+    let functions = optimize_functions(&optimizer, scope, statements.statements(), functions)?;
+    let (statements, passes) = optimize_statements(alloc, info, scope, statements)?;
+    Ok((statements, functions, passes))
+}
+
+/// The same at a level.
+fn optimize_parts_at<'a>(
     alloc: Global,
     info: &'a EngineInfo,
     scope: Option<&'a Scope>,
@@ -77,15 +97,12 @@ fn optimize_parts<'a>(
     if optimises_nothing(level) {
         return Ok((statements, functions, 0));
     }
-    let optimizer = Optimizer { alloc, info };
-    let functions = optimizer.functions(scope, statements.statements(), functions)?;
-    let (statements, passes) = optimize_statements(alloc, info, scope, statements)?;
-    Ok((statements, functions, passes))
+    optimize_parts(alloc, info, scope, statements, functions)
 }
 
-/// The same as `optimize_into_ast`, with the number of passes that were made over the statements: the last one changed
-/// nothing, each one before it made them lighter. It is 0 for no statements and at level `None`, and stays at the
-/// greatest that fits.
+/// The script of `optimize_into_ast`, which hands it on, with the number of passes that were made over the statements:
+/// the last one changed nothing, each one before it made them lighter. It is 0 for no statements and at level `None`,
+/// and stays at the greatest that fits.
 pub fn optimize_counted(
     alloc: Global,
     info: &EngineInfo,
@@ -102,7 +119,9 @@ pub fn optimize_counted(
         (stmts_of (contents r.0).statements) r.1) }
 {
     let block = StmtBlock::new(statements, Position::NONE, Position::NONE);
-    let (block, functions, passes) = optimize_parts(alloc, info, scope, block, functions, level)?;
+    let (block, functions, passes) = optimize_parts_at(
+        alloc, info, scope, block, functions, level,
+    )?;
     let lib = Rc::new(alloc, FnLib::from_functions(alloc, functions)?)?;
     Ok((AST::new(statements_of(block), lib), passes))
 }
@@ -131,8 +150,8 @@ pub fn optimize_into_ast(
 }
 
 /// The script optimised at a level, as `optimize_into_ast` does it. It keeps its source, its doc and the id of its
-/// table. A function that no other script shares is optimised in its place. Refused for want of memory alone; then no
-/// script is handed out.
+/// table. A function that no other script shares is optimised in its place. At level `None` it is the script as it was
+/// given, and takes no memory. Refused for want of memory alone; then no script is handed out.
 ///
 /// A method of `Engine` in rhai.
 pub fn optimize_ast(
@@ -146,6 +165,9 @@ pub fn optimize_ast(
         Optimised (engine_of info.now) (start_of (option_map deref scope.entry)) level (contents ast)
         (contents made)) }
 {
+    if optimises_nothing(level) {
+        return Ok(ast);
+    }
     let AstParts {
         source,
         doc,
@@ -153,7 +175,7 @@ pub fn optimize_ast(
         lib,
     } = ast.into_parts();
     let (id, functions) = unshared(lib)?.into_parts()?;
-    let (body, functions, _) = optimize_parts(alloc, info, scope, body, functions, level)?;
+    let (body, functions, _) = optimize_parts(alloc, info, scope, body, functions)?;
     let lib = Rc::new(alloc, named_lib(alloc, id, functions)?)?;
     Ok(AST::from_parts(AstParts {
         source,

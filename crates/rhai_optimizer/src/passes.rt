@@ -4,52 +4,34 @@
 
 ghost use Rattle.std.specs.Prelude.{◌≡◌, IfOk, false};
 ghost use Rattle.rhai_known.specs.State.{progress};
-ghost use Rattle.rhai_optimizer.specs.Parts.{record_of};
-ghost use Rattle.rhai_optimizer.specs.Passes.{PassRun, PassesRun};
+ghost use Rattle.rhai_optimizer.specs.Passes.{PassesRun};
 ghost use Rattle.rhai_reading.specs.Reading.{stmts_of};
+ghost use Rattle.rhai_reducer.specs.Parts.{record_of};
 
-use crate::cycle::Optimizer;
 use rhai_ast::Stmt;
 use rhai_base::{OutOfMemory, Seq};
-use rhai_rules::OptimizerState;
-use rhai_sweep::ListMark;
+use rhai_known::OptimizerState;
+use rhai_reducer::Optimizer;
 
-impl<'a> Optimizer<'a> {
-    /// Goes over the statements of a script or of a body once. Whether that changed them.
-    pub fn pass(
-        &self,
-        state: &mut OptimizerState<'_>,
-        statements: &mut Seq<Stmt>,
-    ) -> Result<bool, OutOfMemory>
-        ensures { IfOk result (λ set.
-            PassRun (record_of self.now) set (progress state.old) (progress state.new) (stmts_of statements.old)
-            (stmts_of statements.new)) }
-    {
-        state.clear_dirty();
-        self.stmt_block(state, statements, ListMark::Whole)?;
-        Ok(state.is_dirty())
+/// Goes over statements until a pass changes nothing. How many passes were made; none over no statements.
+pub(crate) fn make_passes(
+    optimizer: &Optimizer<'_>,
+    state: &mut OptimizerState<'_>,
+    statements: &mut Seq<Stmt>,
+) -> Result<u64, OutOfMemory>
+    ensures { IfOk result (λ number.
+        PassesRun (record_of optimizer.now) number (progress state.old) (progress state.new) (stmts_of statements.old)
+        (stmts_of statements.new)) }
+{
+    let mut number: u64 = 0;
+    if statements.is_empty() {
+        return Ok(number);
     }
-
-    /// Goes over statements until a pass changes nothing. How many passes were made; none over no statements.
-    pub fn passes(
-        &self,
-        state: &mut OptimizerState<'_>,
-        statements: &mut Seq<Stmt>,
-    ) -> Result<u64, OutOfMemory>
-        ensures { IfOk result (λ number.
-            PassesRun (record_of self.now) number (progress state.old) (progress state.new) (stmts_of statements.old)
-            (stmts_of statements.new)) }
-    {
-        let mut number: u64 = 0;
-        if statements.is_empty() {
+    loop {
+        let has_changed = optimizer.pass(state, statements)?;
+        number = number.saturating_add(1);
+        if !has_changed {
             return Ok(number);
-        }
-        loop {
-            let has_changed = self.pass(state, statements)?;
-            number = number.saturating_add(1);
-            if !has_changed {
-                return Ok(number);
-            }
         }
     }
 }

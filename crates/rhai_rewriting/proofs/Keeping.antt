@@ -62,6 +62,9 @@ keeps_unit e = record { parts = λ r h. (tt, (tt, tt)); clear = λ ks h. tt }
 pub keeps_braced : (e : Expr) → KeepsExprParts (BlockExpr (stmt (ExprStmt e) no_stmts)) e
 keeps_braced e = record { parts = λ r h. h.1.1.0.1.1.1.1; clear = λ ks h. clear_parts ks e h.0 }
 
+pub keeps_braced_call : (c : Callee) (es : Exprs) → KeepsExprParts (BlockExpr (stmt (FnCallStmt c es) no_stmts)) (FnCall c es)
+keeps_braced_call c es = record { parts = λ r h. h.1.1.0.1; clear = λ ks h. tt }
+
 constant_of_parts : (ks : List Known) (v : Value) → HasClearParts ks (constant_of v)
 constant_of_parts ks UnitV = tt
 constant_of_parts ks _ = tt

@@ -1,6 +1,7 @@
 pub mod Firing
 pub mod Flags
 pub mod Knowing
+pub mod Evals
 pub mod Plain
 pub mod Reducing
 pub mod Clearing

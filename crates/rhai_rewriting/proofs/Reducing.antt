@@ -18,6 +18,7 @@ use Rattle.rhai_meaning.proofs.Walk.{Alongside, stmts_alongside}
 use Rattle.rhai_names.specs.Names.{are_all}
 use Rattle.rhai_rewriting.specs.Context.{Context, known_behind, ListKind, Whole}
 use Rattle.rhai_rewriting.specs.Folding.{folded}
+use Rattle.rhai_rewriting.specs.Evals.{keeps_names}
 use Rattle.rhai_rewriting.specs.Known.{Known, look}
 use Rattle.rhai_rewriting.specs.Operands.{OperandsTo, in_other_operands, after_deciding_go, CoalesceTo, in_other_options, after_some_go}
 use Rattle.rhai_rewriting.specs.Parts.{constant_of}
@@ -339,13 +340,15 @@ still_known false exported y x e ks v h q = ap (λ b. cond b None (look ks x)) h
 known_test_goes : (x : Text) (v : Value) (ss : Stmts) {k : Context} {m : ListKind} {u : Bool} → tests_name x ss ≡ true → look k.known x ≡ Some v → ListGoes k m u ss
 known_test_goes x v no_stmts h q d = no h
 known_test_goes x v (stmt (Var c o y e) ss) {k = k} h q d =
-    all_of (not (same_text y x)) (tests_name x ss) h (λ a b.
-    let z = known_test_goes x v ss b (still_known c o y x e k.known v (unlike (same_text y x) a) q) d in (stmt (Var c o y e) z.0, in_tail z.1))
+    all_of (keeps_names (Var c o y e)) _ h (λ f g.
+    all_of (not (same_text y x)) (tests_name x ss) g (λ a b.
+    let z = known_test_goes x v ss b (still_known c o y x e k.known v (unlike (same_text y x) a) q) d in (stmt (Var c o y e) z.0, in_tail z.1)))
 known_test_goes x v (stmt (If (Variable [] y) a b) ss) {k = k} h q d =
-    one_of (same_text x y) (tests_name x ss) h
+    one_of (same_text x y) _ h
     (λ z. (stmt (If (constant_of v) a b) ss, in_head (in_if (by_expr_rule (rule.known_name v (ap (look k.known) (sym (text_is x y z)) ∙ q))) same_stmts same_stmts)))
-    (λ z. let r = known_test_goes x v ss z q d in (stmt (If (Variable [] y) a b) r.0, in_tail r.1))
-known_test_goes x v (stmt s ss) h q d = let z = known_test_goes x v ss h q d in (stmt s z.0, in_tail z.1)
+    (λ z. all_of (keeps_names (If (Variable [] y) a b)) _ z (λ f g.
+    let r = known_test_goes x v ss g q d in (stmt (If (Variable [] y) a b) r.0, in_tail r.1)))
+known_test_goes x v (stmt s ss) h q d = all_of (keeps_names s) _ h (λ f g. let z = known_test_goes x v ss g q d in (stmt s z.0, in_tail z.1))
 
 pub declared : (o : Option Value) → is_some o ≡ true → (v : Value) × (o ≡ Some v)
 declared None h = no h
@@ -361,12 +364,13 @@ noted_there x o v ks q = ap (λ b. cond b o (look ks x)) (same_self x) ∙ q
 pub known_condition_goes : (ss : Stmts) {k : Context} {m : ListKind} {u : Bool} → tests_constant ss ≡ true → ListGoes k m u ss
 known_condition_goes no_stmts h d = no h
 known_condition_goes (stmt (Var true o x e) ss) {k = k} h d =
-    one_of (is_constant e && tests_name x ss) (tests_constant ss) h
+    all_of (keeps_names (Var true o x e)) _ h (λ f g.
+    one_of (is_constant e && tests_name x ss) (tests_constant ss) g
     (λ z. all_of (is_constant e) (tests_name x ss) z (λ a b.
     let y = declared (constant_value e) a in
     let r = known_test_goes x y.0 ss b (noted_there x (constant_value e) y.0 k.known y.1) d in (stmt (Var true o x e) r.0, in_tail r.1)))
-    (λ z. let r = known_condition_goes ss z d in (stmt (Var true o x e) r.0, in_tail r.1))
-known_condition_goes (stmt s ss) h d = let z = known_condition_goes ss h d in (stmt s z.0, in_tail z.1)
+    (λ z. let r = known_condition_goes ss z d in (stmt (Var true o x e) r.0, in_tail r.1)))
+known_condition_goes (stmt s ss) h d = all_of (keeps_names s) _ h (λ f g. let z = known_condition_goes ss g d in (stmt s z.0, in_tail z.1))
 
 -- ---- what is irreducible is reduced in the small language's sense
 

@@ -1,5 +1,5 @@
 -- Runs over the parts of a node, one after another, and over the items of a list.
-use Rattle.std.proofs.Common.{◌≡◌, ℕ, ◌≤◌, ◌<◌, ◌-◌, zero, suc, Bool, true, false, ◌&&◌, List, Option, [], ◌∷◌, ◌++◌, length, drop, Some, None, refl, sym, ap, ◌∙◌, subst, arith, append_assoc, length-append}
+use Rattle.std.proofs.Common.{◌≡◌, ℕ, ◌≤◌, ◌<◌, ◌-◌, zero, suc, Bool, true, false, ◌&&◌, ◌||◌, List, Option, [], ◌∷◌, ◌++◌, length, drop, Some, None, refl, sym, ap, ◌∙◌, subst, arith, append_assoc, length-append}
 use Rattle.std.proofs.Math.Seq.{drop-append_seam}
 use Rattle.rhai_meaning.specs.Constants.{constant_value}
 use Rattle.rhai_meaning.specs.Engine.{Engine}
@@ -11,15 +11,17 @@ use Rattle.rhai_meaning.specs.Tree.{ChainFlags, SwitchTable, Callee, Expr, Inter
 use Rattle.rhai_rewriting.specs.Answering.{AnswersNothing, of_first}
 use Rattle.rhai_rewriting.specs.Clear.{AreClearExprs, AreClear}
 use Rattle.rhai_rewriting.specs.Context.{Context, knowing, naming, naming_some, naming_catch, known_behind, ListKind, Inside, wanted, wanted_before}
-use Rattle.rhai_rewriting.specs.Known.{Known}
+use Rattle.rhai_rewriting.specs.Evals.{keeps_names}
+use Rattle.rhai_rewriting.specs.Known.{Known, KnowsLess, look}
 use Rattle.rhai_rewriting.specs.Residue.{when, IsReducedNode, IsReducedExpr, AreReducedArms, AreReduced, every_reached}
-use Rattle.rhai_rewriting.specs.Rewriting.{ExprTo, in_text, in_array, in_map, in_braces, in_call, in_stray_method, in_chain, in_and, in_or, in_coalesce, ExprsTo, exprs_none, exprs_more, PairsTo, pairs_none, pairs_more, in_dot, in_index, base, ArgumentTo, same_argument, in_method, in_brackets, StepsTo, same_steps, last_method, last_index, more_dot, more_index, same_target, in_target, guard, maybe_none, maybe_some, ArmsTo, arms_none, arms_more, StmtTo, in_if, in_switch, in_while, in_do, in_for, in_var, in_assignment, in_block, in_try, in_expression, in_call_statement, in_break, in_return, in_import, RestTo, same_stmts, then_stmts, in_head, in_tail, StmtsTo, same_expr}
+use Rattle.rhai_rewriting.specs.Rewriting.{ExprTo, in_text, in_array, in_map, in_braces, in_call, in_stray_method, in_chain, in_and, in_or, in_coalesce, ExprsTo, exprs_none, exprs_more, PairsTo, pairs_none, pairs_more, in_dot, in_index, base, ArgumentTo, same_argument, in_method, in_brackets, StepsTo, same_steps, last_method, last_index, more_dot, more_index, same_target, in_target, guard, maybe_none, maybe_some, ArmsTo, arms_none, arms_more, StmtTo, in_if, in_switch, in_while, in_do, in_for, in_var, in_assignment, in_block, in_try, in_expression, in_call_statement, in_break, in_return, in_import, RestTo, same_stmts, then_stmts, in_head, in_tail, flag_forgotten, StmtsTo, same_expr}
 use Rattle.rhai_rewriting.proofs.Firing.{same_arms}
 use Rattle.rhai_rewriting.proofs.Keeping.{no_first}
-use Rattle.rhai_rewriting.specs.Steps.{AnswersNone, ArmsAnswerNone, Progress, here, Place, Anywhere, AsBase, AsGuard, ExprRun, ExprsRun, PairsRun, MaybeRun, ArmsRun, SubjectRun, StepsRun, ArgumentRun, ChainRun, TargetRun, ListUnder, ArmRun, SidesRun, LinkRun, LoopRun, ForRun, TryRun, AssignRun, loop_front, catch_front, is_chain_node, is_method, ExprPartsRun, StmtRun, ItemRun, StmtPartsRun, known_behind_all, EachRun, ListRun, StmtsRun, ListPassed, SweepRun}
+use Rattle.rhai_rewriting.specs.Steps.{AnswersNone, ArmsAnswerNone, Progress, here, Place, Anywhere, AsBase, AsGuard, ExprRun, ExprsRun, PairsRun, MaybeRun, ArmsRun, SubjectRun, StepsRun, ArgumentRun, ChainRun, TargetRun, ListUnder, ArmRun, SidesRun, LinkRun, LoopRun, ForRun, TryRun, AssignRun, loop_front, catch_front, is_chain_node, is_method, ExprPartsRun, StmtRun, ItemRun, StmtPartsRun, EachRun, UnknownRun, ListRun, StmtsRun, ListPassed, SweepRun}
 use Rattle.rhai_rewriting.specs.SurelyUnit.{is_surely_unit}
 use Rattle.rhai_meaning.specs.Weight.{weight}
-use Rattle.rhai_rewriting.proofs.Clearing.{clear_tests}
+use Rattle.rhai_rewriting.proofs.Clearing.{clear_tests, unclaimed, not_claimed}
+use Rattle.rhai_rewriting.proofs.Knowing.{head_knowing_less}
 use Rattle.rhai_rewriting.proofs.Weights.{stmts_fall}
 
 -- ---- the same names are known, so one derivation goes after another
@@ -43,16 +45,71 @@ exprs_more_run {s1 = s1} {s2 = s2} {es = es} {es' = es'} p q = record {
 
 -- ---- statements of a list: each knows what those before it declare
 
+declared_front : (s : Stmt) (ks : List Known) → (front : List Known) × (known_behind s ks ≡ front ++ ks)
+declared_front (Var true exported x e) ks = (record { name = x; value = constant_value e } ∷ [], refl)
+declared_front (Var false exported x e) ks = (record { name = x; value = None } ∷ [], refl)
+declared_front _ ks = ([], refl)
+
 pub each_none_run : {r : Engine} {m : ListKind} {s : Progress} → EachRun r m s s no_stmts no_stmts
-each_none_run = record { to = λ u. same_stmts; reduced = tt; clear = tt; known = refl }
+each_none_run = record { to = λ u. same_stmts; reduced = tt; clear = tt; front = []; known = refl }
 
 pub each_more_run : {r : Engine} {m : ListKind} {s s1 s2 : Progress} {x x' : Stmt} {ss ss' : Stmts} → ItemRun r (wanted_before (wanted m) ss) s s1 x x' → EachRun r m s1 s2 ss ss' → EachRun r m s s2 (stmt x ss) (stmt x' ss')
-each_more_run {r = r} {m = m} {s = s} {s1 = s1} {s2 = s2} {x' = x'} {ss = ss} {ss' = ss'} p q = record {
-  to = λ u. then_stmts (in_head p.to) (in_tail (knows (λ k. RestTo k m (is_surely_unit x') s1.is_dirty s2.is_dirty ss ss') p.known (q.to (is_surely_unit x'))));
+each_more_run {r = r} {m = m} {s = s} {s1 = s1} {s2 = s2} {x' = x'} {ss = ss} {ss' = ss'} p q =
+    let f = declared_front x' s.known in
+    record {
+      to = λ u. then_stmts (in_head p.to) (in_tail (knows (λ k. RestTo k m (is_surely_unit x') s1.is_dirty s2.is_dirty ss ss') p.known (q.to (is_surely_unit x'))));
+      reduced = (p.reduced, q.reduced);
+      clear = (p.clear, unclaimed (keeps_names x') (subst (λ ks. AreClear ks ss') p.known q.clear));
+      front = q.front ++ f.0;
+      known = q.known ∙ ap (λ l. q.front ++ l) (p.known ∙ f.1) ∙ sym (append_assoc q.front f.0 s.known);
+    }
+
+-- ---- and behind a call of `eval` nothing
+
+none_known : {ks ls : List Known} → ks ≡ [] → KnowsLess ks ls
+none_known {ks = ks} h = record { is = λ x v q. absurd (let z : None ≡ Some v = sym (ap (λ l. look l x) h) ∙ q in cc) }
+
+pub unknown_none_run : {r : Engine} {m : ListKind} {s : Progress} → UnknownRun r m s s no_stmts no_stmts
+unknown_none_run = record { to = λ ks u. same_stmts; reduced = tt; known = refl }
+
+pub unknown_more_run : {r : Engine} {m : ListKind} {s s1 s2 : Progress} {x x' : Stmt} {ss ss' : Stmts} → s.known ≡ [] → StmtRun r (wanted_before (wanted m) ss) s s1 x x' → UnknownRun r m s1 s2 ss ss' → UnknownRun r m s s2 (stmt x ss) (stmt x' ss')
+unknown_more_run {x' = x'} h p q = record {
+  to = λ ks u. then_stmts (head_knowing_less (none_known h) p.to) (in_tail (q.to (known_behind x' ks) (is_surely_unit x')));
   reduced = (p.reduced, q.reduced);
-  clear = (p.clear, subst (λ ks. AreClear ks ss') p.known q.clear);
-  known = q.known ∙ ap (known_behind_all ss') p.known;
+  known = q.known ∙ p.known;
 }
+
+-- a state, and whether something has changed beside it
+abbrev pub beside : Progress → Progress → Progress
+beside s u = record { is_dirty = u.is_dirty || s.is_dirty; known = s.known }
+
+-- and where that is noted
+pub each_noted : {r : Engine} {m : ListKind} {s s2 : Progress} {ss ss' : Stmts} (s1 u : Progress) → s2.is_dirty ≡ u.is_dirty || s1.is_dirty → s2.known ≡ s1.known → EachRun r m s (beside s1 u) ss ss' → EachRun r m s s2 ss ss'
+each_noted {r = r} {m = m} {s = s} {ss = ss} {ss' = ss'} s1 u d k p = record {
+  to = λ v. subst (λ b. RestTo (here r s) m v s.is_dirty b ss ss') (sym d) (p.to v);
+  reduced = p.reduced;
+  clear = p.clear;
+  front = p.front;
+  known = k ∙ p.known;
+}
+
+flagged : {k : Context} {m : ListKind} {u : Bool} {ss ss' : Stmts} (d d' : Bool) → RestTo k m u false d' ss ss' → RestTo k m u d (d' || d) ss ss'
+flagged true true h = flag_forgotten h
+flagged true false h = flag_forgotten h
+flagged false true h = h
+flagged false false h = h
+
+pub each_ends_run : {r : Engine} {m : ListKind} {s s1 u u' : Progress} {x x' : Stmt} {ss ss' : Stmts} → ItemRun r (wanted_before (wanted m) ss) s s1 x x' → keeps_names x' ≡ false → u.is_dirty ≡ false → UnknownRun r m u u' ss ss' → EachRun r m s (beside s1 u') (stmt x ss) (stmt x' ss')
+each_ends_run {r = r} {m = m} {s = s} {s1 = s1} {u' = u'} {x' = x'} {ss = ss} {ss' = ss'} p h d q =
+    let f = declared_front x' s.known in
+    let k = known_behind x' s.known in
+    record {
+      to = λ v. then_stmts (in_head p.to) (in_tail (flagged s1.is_dirty u'.is_dirty (subst (λ b. RestTo (knowing r k) m (is_surely_unit x') b u'.is_dirty ss ss') d (q.to k (is_surely_unit x')))));
+      reduced = (p.reduced, q.reduced);
+      clear = (p.clear, not_claimed (keeps_names x') _ h);
+      front = f.0;
+      known = p.known ∙ f.1;
+    }
 
 -- ---- the parts of an expression
 
@@ -271,23 +328,8 @@ no_steps_run {e = e} c = record { to = same_steps; answers = λ h i. absurd cc; 
 
 -- ---- what a list declared is forgotten at its end
 
-declared_front : (s : Stmt) (ks : List Known) → (front : List Known) × (known_behind s ks ≡ front ++ ks)
-declared_front (Var true exported x e) ks = (record { name = x; value = constant_value e } ∷ [], refl)
-declared_front (Var false exported x e) ks = (record { name = x; value = None } ∷ [], refl)
-declared_front _ ks = ([], refl)
-
-all_front : (ss : Stmts) (ks : List Known) → (front : List Known) × (known_behind_all ss ks ≡ front ++ ks)
-all_front no_stmts ks = ([], refl)
-all_front (stmt s ss) ks =
-    let f = declared_front s ks in
-    let g = all_front ss (known_behind s ks) in
-    (g.0 ++ f.0, g.1 ∙ ap (λ l. g.0 ++ l) f.1 ∙ sym (append_assoc g.0 f.0 ks))
-
 pub drop_front : (front ks : List Known) → drop (length (front ++ ks) - length ks) (front ++ ks) ≡ ks
 drop_front front ks = let e : length (front ++ ks) - length ks ≡ length front = omega (arith, length-append front ks) in ap (λ n. drop n (front ++ ks)) e ∙ drop-append_seam front ks
-
-pub rewound : (ss : Stmts) (ks : List Known) → drop (length (known_behind_all ss ks) - length ks) (known_behind_all ss ks) ≡ ks
-rewound ss ks = let f = all_front ss ks in ap (λ l. drop (length l - length ks) l) f.1 ∙ drop_front f.0 ks
 
 -- a whole list, its statements one after another
 pub list_run : {r : Engine} {m : ListKind} {s s1 s2 : Progress} {ss ss' : Stmts} (n : ℕ) → n ≡ length s.known → EachRun r m s s1 ss ss' → s2.is_dirty ≡ s1.is_dirty → s2.known ≡ drop (length s1.known - n) s1.known → ListRun r m s s2 ss ss'
@@ -295,7 +337,7 @@ list_run {r = r} {m = m} {s = s} {s1 = s1} {ss = ss} {ss' = ss'} n h p d k = rec
   to = subst (λ b. RestTo (here r s) m true s.is_dirty b ss ss') (sym d) (p.to true);
   reduced = p.reduced;
   clear = p.clear;
-  known = k ∙ ap (λ i. drop (length s1.known - i) s1.known) h ∙ ap (λ l. drop (length l - length s.known) l) p.known ∙ rewound ss' s.known;
+  known = k ∙ ap (λ i. drop (length s1.known - i) s1.known) h ∙ ap (λ l. drop (length l - length s.known) l) p.known ∙ drop_front p.front s.known;
 }
 
 -- what is rewritten then as it is everywhere

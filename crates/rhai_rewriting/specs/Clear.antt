@@ -3,7 +3,9 @@ use Rattle.std.specs.Prelude.{◌≡◌, List, [], ◌∷◌, Option, None}
 use Rattle.rhai_values.specs.Value.{Text, Value}
 use Rattle.rhai_meaning.specs.Tree.{Expr, Variable, BlockExpr, And, Or, Coalesce, Exprs, no_exprs, expr, Stmt, If, Block, ExprStmt, Stmts, no_stmts, stmt}
 use Rattle.rhai_rewriting.specs.Context.{known_behind}
+use Rattle.rhai_rewriting.specs.Evals.{keeps_names}
 use Rattle.rhai_rewriting.specs.Known.{Known, look}
+use Rattle.rhai_rewriting.specs.Residue.{when}
 
 -- what is known of a name, if it has no namespace
 abbrev pub known_at : List Known → List Text → Text → Option Value
@@ -33,9 +35,10 @@ abbrev mutual
   IsClear ks (ExprStmt e) = IsClearExpr ks e
   IsClear ks _ = Unit {0}
 
+  -- of statements behind a call of `eval` nothing is claimed
   pub AreClear : List Known → Stmts → Type 0
   AreClear ks no_stmts = Unit {0}
-  AreClear ks (stmt s ss) = IsClear ks s × AreClear (known_behind s ks) ss
+  AreClear ks (stmt s ss) = IsClear ks s × when (keeps_names s) (AreClear (known_behind s ks) ss)
 
 -- the parts of an expression, whatever it is itself
 abbrev pub HasClearParts : List Known → Expr → Type 0

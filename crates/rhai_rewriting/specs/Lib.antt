@@ -3,6 +3,7 @@ pub mod Known
 pub mod Context
 pub mod SurelyUnit
 pub mod Exports
+pub mod Evals
 pub mod Folding
 pub mod Parts
 pub mod Operands
@@ -11,7 +12,6 @@ pub mod Tables
 pub mod SelfAssign
 pub mod Rules
 pub mod Rewriting
-pub mod Shapes
 pub mod Testing
 pub mod Choosing
 pub mod Clear

@@ -9,7 +9,7 @@ use Rattle.rhai_meaning.specs.Control.{chosen as cases_for}
 use Rattle.rhai_meaning.specs.Elements.{index_in, entry, fields_of}
 use Rattle.rhai_meaning.specs.Engine.{overrides_any, mapped_type_name, assigning}
 use Rattle.rhai_meaning.specs.Faults.{has_operands}
-use Rattle.rhai_meaning.specs.Queries.{is_block_dependent, is_any_dependent, are_pure_exprs, are_pure_pairs, is_pure, is_internally_pure, are_internally_pure, is_control_flow_break, is_noop}
+use Rattle.rhai_meaning.specs.Queries.{is_eval, is_block_dependent, is_any_dependent, are_pure_exprs, are_pure_pairs, is_pure, is_internally_pure, are_internally_pure, is_control_flow_break, is_noop}
 use Rattle.rhai_meaning.specs.Shape.{is_unit, is_table, names_arm}
 use Rattle.rhai_meaning.specs.Walk.{listed}
 use Rattle.rhai_meaning.specs.Weight.{table_weight}
@@ -63,6 +63,8 @@ pub data ExprRule (k : Context) : Expr → Expr → Type 0 where
   braces_empty : ExprRule k (BlockExpr no_stmts) UnitConstant
   -- `{ e }` is `e`
   braces_of_expression : {e : Expr} → ExprRule k (BlockExpr (stmt (ExprStmt e) no_stmts)) e
+  -- so is one call, unless it belongs to its block
+  braces_of_call : {c : Callee} {es : Exprs} → is_eval c ≡ false → ExprRule k (BlockExpr (stmt (FnCallStmt c es) no_stmts)) (FnCall c es)
   -- an operator over constants that is built in is its value
   operator_folds : {c : Callee} {es : Exprs} {v : Value} → folded k.engine c es ≡ Some v → ExprRule k (FnCall c es) (constant_for v)
   -- operands of `&&`, `||` and `??`; one stays

@@ -1,5 +1,5 @@
 -- What the functions of the optimiser promise: a tree was rewritten, nothing in it is left to reduce, and the same names are known.
-use Rattle.std.specs.Prelude.{◌≡◌, ◌<◌, Bool, true, false, List, [], ◌∷◌, Option, Some, None}
+use Rattle.std.specs.Prelude.{◌≡◌, ◌<◌, Bool, true, false, List, [], ◌∷◌, ◌++◌, Option, Some, None}
 use Rattle.rhai_meaning.specs.Desugar.{root_of}
 use Rattle.rhai_meaning.specs.Engine.{Engine}
 use Rattle.rhai_meaning.specs.Queries.{is_unit}
@@ -129,17 +129,19 @@ pub record ItemRun (r : Engine) (w : Bool) (s s' : Progress) (x x' : Stmt) : Typ
   pub clear : IsClear s.known x'
   pub known : s'.known ≡ known_behind x' s.known
 
--- what is known behind statements
-abbrev pub known_behind_all : Stmts → List Known → List Known
-known_behind_all no_stmts ks = ks
-known_behind_all (stmt s ss) ks = known_behind_all ss (known_behind s ks)
-
--- each statement of a list, whatever stands before the list
+-- each statement of a list, whatever stands before the list; what they declare comes in front
 pub record EachRun (r : Engine) (m : ListKind) (s s' : Progress) (ss ss' : Stmts) : Type 0 where
   pub to : (u : Bool) → RestTo (here r s) m u s.is_dirty s'.is_dirty ss ss'
   pub reduced : AreReduced r ss'
   pub clear : AreClear s.known ss'
-  pub known : s'.known ≡ known_behind_all ss' s.known
+  pub front : List Known
+  pub known : s'.known ≡ front ++ s.known
+
+-- statements that are gone over where no name is known, whatever is known there
+pub record UnknownRun (r : Engine) (m : ListKind) (s s' : Progress) (ss ss' : Stmts) : Type 0 where
+  pub to : (ks : List Known) (u : Bool) → RestTo (knowing r ks) m u s.is_dirty s'.is_dirty ss ss'
+  pub reduced : AreReduced r ss'
+  pub known : s'.known ≡ s.known
 
 -- a whole list, of which the statements are reduced
 pub record ListRun (r : Engine) (m : ListKind) (s s' : Progress) (ss ss' : Stmts) : Type 0 where

@@ -5,19 +5,20 @@ use Rattle.rhai_meaning.specs.Constants.{is_constant}
 use Rattle.rhai_meaning.specs.Queries.{is_control_flow_break}
 use Rattle.rhai_meaning.specs.Tree.{Variable, BlockExpr, Stmt, Noop, If, While, Do, For, Var, Block, TryCatch, ExprStmt, Stmts, no_stmts, stmt}
 use Rattle.rhai_meaning.specs.Walk.{Node, OfExpr, OfStmt}
+use Rattle.rhai_rewriting.specs.Evals.{keeps_names}
 
--- an `if` has this name alone as its condition, before the name is declared again
+-- an `if` has this name alone as its condition, before the name is declared again and before `eval` is called
 abbrev pub tests_name : Text → Stmts → Bool
 tests_name x no_stmts = false
-tests_name x (stmt (Var constant exported y e) ss) = not (same_text y x) && tests_name x ss
-tests_name x (stmt (If (Variable [] y) a b) ss) = same_text x y || tests_name x ss
-tests_name x (stmt s ss) = tests_name x ss
+tests_name x (stmt (Var constant exported y e) ss) = keeps_names (Var constant exported y e) && (not (same_text y x) && tests_name x ss)
+tests_name x (stmt (If (Variable [] y) a b) ss) = same_text x y || (keeps_names (If (Variable [] y) a b) && tests_name x ss)
+tests_name x (stmt s ss) = keeps_names s && tests_name x ss
 
 -- so it does with a `const` of a constant expression
 abbrev pub tests_constant : Stmts → Bool
 tests_constant no_stmts = false
-tests_constant (stmt (Var true exported x e) ss) = (is_constant e && tests_name x ss) || tests_constant ss
-tests_constant (stmt s ss) = tests_constant ss
+tests_constant (stmt (Var true exported x e) ss) = keeps_names (Var true exported x e) && ((is_constant e && tests_name x ss) || tests_constant ss)
+tests_constant (stmt s ss) = keeps_names s && tests_constant ss
 
 -- a statement follows one that leaves the list
 abbrev pub goes_on_after_leaving : Stmts → Bool

@@ -1,7 +1,7 @@
 -- Worked answers: what of the whole language is left to reduce, and what comes near it.
 use Rattle.std.specs.Prelude.{◌≡◌, true, false, [], ◌∷◌, Some, None, pos, negsuc, codes, refl}
 use Rattle.rhai_values.specs.Value.{ArrayV, MapV, values, field, no_fields}
-use Rattle.rhai_meaning.specs.Tree.{ChainFlags, SwitchTable, ExclusiveInt, Expr, DynamicConstant, IntegerConstant, BoolConstant, UnitConstant, Variable, Property, Dot, Index, Noop, If, Var, ExprStmt, BreakLoop, Return, no_expr, an_expr, no_stmts, exprs, stmts, Assignment, While, Script, Stmt, Stmts}
+use Rattle.rhai_meaning.specs.Tree.{ChainFlags, SwitchTable, ExclusiveInt, Expr, DynamicConstant, IntegerConstant, BoolConstant, UnitConstant, Variable, Property, Dot, Index, Noop, If, Var, Block, ExprStmt, BreakLoop, Return, no_expr, an_expr, no_stmts, exprs, stmts, Assignment, While, Script, Stmt, Stmts}
 use Rattle.rhai_meaning.specs.WorkedForms.{int, call, i, nothing_set}
 use Rattle.rhai_rewriting.specs.Reducible.{is_always, follows_deciding, follows_some, chain_answer, is_chosen, goes_on_after_leaving, tests_constant, idles, ends_in_return, IsIrreducibleList, IsIrreducibleNode, IsIrreducibleBody, IsIrreducibleScript}
 use Rattle.rhai_meaning.specs.Walk.{OfExpr, OfStmt, every, over_expr}
@@ -90,6 +90,16 @@ constant_tested = refl
 
 declared_again : tests_constant (stmts (Var true false (codes "x") (BoolConstant false) ∷ Var false false (codes "x") (int 1) ∷ If x no_stmts no_stmts ∷ [])) ≡ false
 declared_again = refl
+
+unknown_behind_eval : tests_constant (stmts (Var true false (codes "x") (BoolConstant false) ∷ ExprStmt (call "eval" []) ∷ If x no_stmts no_stmts ∷ [])) ≡ false
+unknown_behind_eval = refl
+
+-- also where it is nested in an expression; not where a list inside calls it
+unknown_behind_nested : tests_constant (stmts (Var true false (codes "x") (BoolConstant false) ∷ ExprStmt (call "f" (call "eval" [] ∷ [])) ∷ If x no_stmts no_stmts ∷ [])) ≡ false
+unknown_behind_nested = refl
+
+known_behind_a_block : tests_constant (stmts (Var true false (codes "x") (BoolConstant false) ∷ Block (stmts (ExprStmt (call "eval" []) ∷ [])) ∷ If x no_stmts no_stmts ∷ [])) ≡ true
+known_behind_a_block = refl
 
 variable_tested : tests_constant (stmts (Var false false (codes "x") (BoolConstant false) ∷ If x no_stmts no_stmts ∷ [])) ≡ false
 variable_tested = refl

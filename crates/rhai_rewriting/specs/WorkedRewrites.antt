@@ -9,7 +9,7 @@ use Rattle.rhai_meaning.specs.Tree.{Callee, NoToken, OfOperator, DynamicConstant
 use Rattle.rhai_meaning.specs.WorkedForms.{int, op, call, nothing_set, joining, ran, ends, asked, i}
 use Rattle.rhai_rewriting.specs.Context.{Whole, under}
 use Rattle.rhai_rewriting.specs.Rewriting.{StmtsTo, then_stmts, by_stmt_rule, by_expr_rule, by_list_rule, in_array, in_expression, in_head, in_tail, exprs_none, exprs_more}
-use Rattle.rhai_rewriting.specs.Rules.{array_of_constants, braces_empty, braces_of_expression, operator_folds, if_without_blocks, if_decided, block_empty, block_of_statement, statement_of_braces, statement_of_call, call_statement_folds, block_gives_way}
+use Rattle.rhai_rewriting.specs.Rules.{array_of_constants, braces_empty, braces_of_expression, braces_of_call, operator_folds, if_without_blocks, if_decided, block_empty, block_of_statement, statement_of_braces, statement_of_call, call_statement_folds, block_gives_way}
 
 -- the one is rewritten to the other, and this is what each does with the host that joins texts
 abbrev pub Row : List Stmt → List Stmt → Report → Type 0
@@ -41,6 +41,11 @@ braces_empty_row = (in_head (in_expression (in_array (exprs_more (by_expr_rule b
 braces_of_expression_row : Row (ExprStmt (ArrayOf (exprs (BlockExpr (stmts (ExprStmt (call "f" []) ∷ [])) ∷ []))) ∷ []) (ExprStmt (ArrayOf (exprs (call "f" [] ∷ []))) ∷ []) (ends (WithValue (ArrayV (values (UnitV ∷ [])))) asks_f)
 unfolding ran
 braces_of_expression_row = (in_head (in_expression (in_array (exprs_more (by_expr_rule braces_of_expression) exprs_none))), refl, refl)
+
+-- [{ f() }], the call as a statement
+braces_of_call_row : Row (ExprStmt (ArrayOf (exprs (BlockExpr (stmts (f ∷ [])) ∷ []))) ∷ []) (ExprStmt (ArrayOf (exprs (call "f" [] ∷ []))) ∷ []) (ends (WithValue (ArrayV (values (UnitV ∷ [])))) asks_f)
+unfolding ran
+braces_of_call_row = (in_head (in_expression (in_array (exprs_more (by_expr_rule (braces_of_call refl)) exprs_none))), refl, refl)
 
 -- 40 + 2, and a call after it
 operator_folds_row : Row (ExprStmt (op Plus (int 40 ∷ int 2 ∷ [])) ∷ f ∷ []) (ExprStmt (int 42) ∷ f ∷ []) (ends (WithValue UnitV) asks_f)

@@ -3,14 +3,14 @@ use Rattle.std.proofs.Common.{◌≡◌, true, false, List, None, refl}
 use Rattle.rhai_tree.specs.declared.expr.Expr as declared_expr
 use Rattle.rhai_tree.specs.declared.stmt.Stmt as declared_stmt
 use Rattle.rhai_meaning.specs.Engine.{Engine}
-use Rattle.rhai_meaning.specs.Tree.{Expr, Stmt}
+use Rattle.rhai_meaning.specs.Tree.{Callee, Expr, FnCall, Exprs, Stmt}
 use Rattle.rhai_meaning.specs.Walk.{OfStmt}
 use Rattle.rhai_reading.proofs.Cases.{ExprCase, array_case, variable_case, braces_case, call_case, dot_case, index_case, and_case, or_case, coalesce_case, StmtCase, if_case, switch_case, while_case, expression_case, call_statement_case}
 use Rattle.rhai_rewriting.specs.Known.{Known}
 use Rattle.rhai_rewriting.specs.Residue.{IsReducedNode}
-use Rattle.rhai_rewriting.specs.Shapes.{is_expression}
-use Rattle.rhai_rewriting.specs.Steps.{Place, Progress}
+use Rattle.rhai_rewriting.specs.Steps.{Place, Anywhere, AsBase, AsGuard, Progress}
 use Rattle.rhai_steps.specs.NodeSteps.{ExprStep}
+use Rattle.rhai_steps.specs.Standing.{may_stand}
 use Rattle.rhai_steps.proofs.NodeKinds.{NoArray, NoBraces, NoCall, NoVariable, NoAnd, NoOr, NoCoalesce, NoDot, NoIndex, NoIf, NoExpression, NoCallStatement, NoSwitch, NoWhile}
 use Rattle.rhai_steps.proofs.Stepping.{expr_stays}
 use Rattle.rhai_rules.specs.Settled.{is_braces, known_value, is_settled_in_braces}
@@ -23,13 +23,16 @@ pub not_braces : {x : declared_expr.Expr} {e : Expr} → ExprCase x e → NoBrac
 not_braces (braces_case b) h = absurd (h b refl)
 not_braces _ h = refl
 
-pub no_expression : {x : declared_stmt.Stmt} {s : Stmt} → StmtCase x s → NoExpression x → false ≡ is_expression s
-no_expression (expression_case e) h = absurd (h e refl)
-no_expression _ h = refl
+pub settled_in_braces : (p : Place) {x : declared_stmt.Stmt} {s : Stmt} → StmtCase x s → NoExpression x → NoCallStatement x → true ≡ is_settled_in_braces p s
+settled_in_braces p (expression_case e) h i = absurd (h e refl)
+settled_in_braces p (call_statement_case c q) h i = absurd (i c q refl)
+settled_in_braces p _ h i = refl
 
-pub settled_in_braces : (p : Place) {x : declared_stmt.Stmt} {s : Stmt} → StmtCase x s → NoExpression x → true ≡ is_settled_in_braces p s
-settled_in_braces p (expression_case e) h = absurd (h e refl)
-settled_in_braces p _ h = refl
+-- a call is neither a place nor a literal unit
+pub call_stands : (p : Place) (c : Callee) (es : Exprs) → may_stand p (FnCall c es) ≡ true
+call_stands Anywhere c es = refl
+call_stands AsBase c es = refl
+call_stands AsGuard c es = refl
 
 -- a whole expression of no kind that has a rule
 pub nothing_left : {r : Engine} {p : Place} {s : Progress} {x : declared_expr.Expr} {e : Expr} → ExprCase x e → NoCall x → NoVariable x → NoDot x → NoIndex x → NoAnd x → NoOr x → NoCoalesce x → NoBraces x → NoArray x → ExprStep false r p s s e e

@@ -2,7 +2,8 @@
 use Rattle.std.specs.Prelude.{Bool, true, false, not, List, Option, Some, None, if◌then◌else◌}
 use Rattle.rhai_values.specs.Value.{Value, PointerV, no_values, is_unit}
 use Rattle.rhai_meaning.specs.Constants.{array_value, constant_values}
-use Rattle.rhai_meaning.specs.Tree.{Expr, ArrayOf, UnitConstant, Variable, BlockExpr, Stmt, ExprStmt, Stmts, no_stmts, stmt}
+use Rattle.rhai_meaning.specs.Tree.{Expr, ArrayOf, UnitConstant, Variable, BlockExpr, Stmt, ExprStmt, FnCallStmt, Stmts, no_stmts, stmt}
+use Rattle.rhai_meaning.specs.Queries.{is_eval}
 use Rattle.rhai_rewriting.specs.Known.{Known}
 use Rattle.rhai_steps.specs.Standing.{may_stand}
 use Rattle.rhai_rewriting.specs.Steps.{Place, Anywhere, AsBase, AsGuard}
@@ -27,9 +28,10 @@ value_of_array _ = None
 
 abbrev pub is_settled_in_braces : Place → Stmt → Bool
 is_settled_in_braces p (ExprStmt e) = not (may_stand p e)
+is_settled_in_braces p (FnCallStmt c es) = is_eval c
 is_settled_in_braces p _ = true
 
--- braces that hold neither nothing nor one expression that may stand there
+-- braces that hold neither nothing, nor one call, nor one expression that may stand there
 abbrev pub is_settled_braces : Place → Stmts → Bool
 is_settled_braces p no_stmts = not (may_stand p UnitConstant)
 is_settled_braces p (stmt s no_stmts) = is_settled_in_braces p s

@@ -1,24 +1,28 @@
--- A script and the parts that are handed to the tests of a tree.
-use Rattle.std.proofs.Common.{◌≡◌, Bool, true, false, ◌&&◌, List, [], ◌∷◌, map, refl, sym, ap, ◌∙◌}
-use Rattle.std.specs.Rc.{rc_value}
-use Rattle.std.specs.declared.alloc.Global.{Global}
-use Rattle.std.specs.declared.rc.Rc.{Rc}
+-- What the tests of a tree say of a script and of the functions of its table.
+use Rattle.std.proofs.Common.{◌≡◌, Bool, true, false, ◌&&◌, List, [], ◌∷◌, map, Option, None, Some, refl, sym, ap, ◌∙◌}
+use Rattle.rhai_tokens.specs.declared.position.Position.{Position}
 use Rattle.rhai_tree.specs.declared.script_fn.ScriptFuncDef.{ScriptFuncDef}
-use Rattle.rhai_tree.specs.declared.stmt.Stmt.{Stmt}
+use Rattle.rhai_meaning.specs.Faults.{ReservedName, TreeFault, finding, functions_fault, is_reserved, unless, ◌then◌}
+use Rattle.rhai_meaning.specs.Walk.{outermost, over_stmts}
 use Rattle.rhai_reading.specs.Reading.{function_of, stmts_of}
-use Rattle.rhai_faults.specs.Scripts as parts
-use Rattle.rhai_faults.specs.Scripts.{script_by}
-use Rattle.rhai_script.specs.Script.{script_of}
-use Rattle.rhai_script.specs.declared.ast.AST.{AST}
-
-functions_same : (fs : List (Rc ScriptFuncDef Global)) → parts.functions_of fs ≡ map function_of (map rc_value fs)
-functions_same [] = refl
-functions_same (f ∷ fs) = ap (λ gs. function_of f.value ∷ gs) (functions_same fs)
-
-pub script_same : (ast : AST) (ss : List Stmt) (fs : List (Rc ScriptFuncDef Global)) → ss ≡ ast.body.block → map rc_value fs ≡ ast.lib.value.functions → script_by ss fs ≡ script_of ast
-script_same ast ss fs e h = λ i. record { statements = stmts_of (e i); functions = (functions_same fs ∙ ap (map function_of) h) i }
+use Rattle.rhai_faults.specs.Standing.{StandsInFunctions, by_name, in_body, in_others}
 
 -- a test that failed without functions fails with them
 pub fails_with : (a b r : Bool) → r ≡ (a && true) → r ≡ false → r ≡ (a && b)
 fails_with true b r h k = absurd (let z : true ≡ false = sym h ∙ k in cc)
 fails_with false b r h k = h
+
+single_then : (a b r : Option TreeFault) → a then (b then r) ≡ (a then (b then None)) then r
+single_then (Some f) b r = refl
+single_then None (Some f) r = refl
+single_then None None r = refl
+
+-- the first fault of a function, before those after it
+pub first_of : (d : ScriptFuncDef) (ds : List ScriptFuncDef) → functions_fault (map function_of (d ∷ ds)) ≡ functions_fault (function_of d ∷ []) then functions_fault (map function_of ds)
+first_of d ds = single_then _ (over_stmts finding (stmts_of d.body.block) outermost) (functions_fault (map function_of ds))
+
+-- where the fault of a function alone stands
+pub stands_alone : {d : ScriptFuncDef} (ds : List ScriptFuncDef) {f : TreeFault} {p : Position} → StandsInFunctions (d ∷ []) f p → StandsInFunctions (d ∷ ds) f p
+stands_alone ds (by_name d os h) = by_name d ds h
+stands_alone ds (in_body d os h k) = in_body d ds h k
+stands_alone ds (in_others d os h k) = elim k [ ]

@@ -37,7 +37,7 @@ impl Drop for AST {
 }
 
 impl Clone for AST {
-    ghost is_clone = { λ s t. contents t ≡ contents s };
+    ghost is_clone = { λ s t. (contents t ≡ contents s) × (t.body.span ≡ s.body.span) };
 
     fn clone(&self) -> Result<AST, AllocError> {
         let source = self.source.clone()?;
@@ -233,8 +233,8 @@ impl AST {
         self.only(own_copy(&self.lib)?)
     }
 
-    /// A script of the source, the doc and the functions that the filter chooses. It is asked of each function once, in
-    /// the table's order.
+    /// A script of the source, the doc and the functions that the filter chooses, by an answer for each, in the table's
+    /// order.
     pub fn clone_functions_only_filtered<F: Fn(FnNamespace, FnAccess, bool, &str, usize) -> bool>(
         &self,
         filter: F,
@@ -283,8 +283,7 @@ impl AST {
         self.merged_with(other, lib)
     }
 
-    /// The same with those functions of the second that the filter chooses. It is asked of each of them once, in the
-    /// table's order.
+    /// The same with those functions of the second that the filter chooses, by an answer for each, in the table's order.
     pub fn merge_filtered<F: Fn(FnNamespace, FnAccess, bool, &str, usize) -> bool>(
         &self,
         other: &AST,
@@ -301,7 +300,8 @@ impl AST {
 
     /// What it is made of.
     pub fn into_parts(self) -> AstParts
-        ensures { parts_contents result ≡ contents self }
+        ensures contents { parts_contents result ≡ contents self }
+        ensures body { result.body ≡ self.body }
     {
         let AST {
             source,
@@ -319,7 +319,8 @@ impl AST {
 
     /// The script of these parts.
     pub fn from_parts(parts: AstParts) -> AST
-        ensures { contents result ≡ parts_contents parts }
+        ensures contents { contents result ≡ parts_contents parts }
+        ensures body { result.body ≡ parts.body }
     {
         let AstParts {
             source,
@@ -378,8 +379,7 @@ impl AST {
         self.combine_with(other, lib)
     }
 
-    /// The same with those functions of the second that the filter chooses. It is asked of each of them once, in the
-    /// table's order.
+    /// The same with those functions of the second that the filter chooses, by an answer for each, in the table's order.
     pub fn combine_filtered<F: Fn(FnNamespace, FnAccess, bool, &str, usize) -> bool>(
         &mut self,
         other: AST,
@@ -395,8 +395,8 @@ impl AST {
         self.combine_with(other, lib)
     }
 
-    /// Keeps the functions that the filter chooses, and the table's id. The filter is asked of each function once, in
-    /// the table's order. A table that other scripts share stays as it is. A refused call changes nothing.
+    /// Keeps the functions that the filter chooses, by an answer for each, in the table's order, and the table's id. A
+    /// table that other scripts share stays as it is. A refused call changes nothing.
     pub fn retain_functions<F: Fn(FnNamespace, FnAccess, &str, usize) -> bool>(
         &mut self,
         filter: F,

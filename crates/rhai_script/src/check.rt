@@ -2,7 +2,7 @@
 ghost use Rattle.std.specs.Prelude.{◌≡◌};
 ghost use Rattle.rhai_faults.specs.PlainWalk.{plain_walk};
 ghost use Rattle.rhai_faults.specs.Refusals.{Finds};
-ghost use Rattle.rhai_faults.specs.Standing.{Stands, StandsInScript, fault_in};
+ghost use Rattle.rhai_faults.specs.Standing.{Stands, StandsInFunctions, StandsInScript, fault_in};
 ghost use Rattle.rhai_functions.specs.FnLib.{functions_of};
 ghost use Rattle.rhai_meaning.specs.Faults as faults;
 ghost use Rattle.rhai_meaning.specs.Laws.{WellFormedLaw};
@@ -11,26 +11,24 @@ ghost use Rattle.rhai_meaning.specs.Walk.{over_functions};
 ghost use Rattle.rhai_script.specs.Script.{script_of};
 
 use crate::ast::AST;
-use rhai_ast::{TreeError, check_tree, is_plain};
-use rhai_base::{Position, TreeFault};
-use rhai_functions::{FnLib, allocator_of, shared_functions};
+use rhai_ast::{TreeError, is_plain};
+use rhai_faults::{check_functions, check_stmts};
+use rhai_functions::{FnLib, allocator_of};
+use std::alloc::Global;
 use std::slice;
 
 impl AST {
-    /// Its first fault, and where it stands, as `check_tree` finds it. It is not in rhai.
+    /// Its first fault, and where it stands, as `check_tree` finds it, but without a list of the functions. It is not in
+    /// rhai.
     pub fn check(&self) -> Result<(), TreeError>
         ensures first { Finds (faults.script_fault (script_of self.now)) (fault_in result) }
         ensures stands { Stands (StandsInScript self.now.body.block self.now.lib.value.functions) result }
         ensures law { WellFormedLaw (script_of self.now) }
     {
         let lib = self.shared_lib();
-        let Ok(functions) = shared_functions(lib) else {
-            return Err(TreeError {
-                fault: TreeFault::OutOfMemory,
-                position: Position::NONE,
-            });
-        };
-        check_tree(allocator_of(lib), self.statements(), functions.as_slice())
+        let alloc = allocator_of(lib);
+        check_stmts(alloc, self.statements(), false)?;
+        check_table(alloc, lib)
     }
 
     /// Whether it is plain, as `is_plain` says of its parts. It takes no memory. It is not in rhai.
@@ -39,6 +37,17 @@ impl AST {
     {
         is_plain(self.statements(), &[]) && are_plain(self.shared_lib())
     }
+}
+
+/// The first fault of the functions of a table, in its order.
+fn check_table(alloc: Global, lib: &FnLib) -> Result<(), TreeError>
+    ensures first { Finds (faults.functions_fault (functions_of lib.now)) (fault_in result) }
+    ensures stands { Stands (StandsInFunctions lib.now.functions) result }
+{
+    for function in lib.iter() {
+        check_functions(alloc, slice::from_ref(function))?;
+    }
+    Ok(())
 }
 
 fn are_plain(lib: &FnLib) -> bool

@@ -39,8 +39,7 @@ pub fn own_copy(lib: &FnLib) -> Result<SharedLib, OutOfMemory>
     shared(without_id(lib)?)
 }
 
-/// A table of the functions that the filter chooses, without an id. It is asked of each function once, in the
-/// table's order.
+/// A table of the functions that the filter chooses, by an answer for each, in the table's order; without an id.
 pub fn only_chosen<F: Fn(FnNamespace, FnAccess, bool, &str, usize) -> bool>(
     lib: &FnLib,
     filter: &F,
@@ -54,8 +53,7 @@ pub fn only_chosen<F: Fn(FnNamespace, FnAccess, bool, &str, usize) -> bool>(
     shared(FnLib::from_functions(allocator_of(lib), chosen)?)
 }
 
-/// A table of the functions that the filter chooses, with the id. It is asked of each function once, in the table's
-/// order.
+/// A table of the functions that the filter chooses, by an answer for each, in the table's order; with the id.
 pub fn retained<F: Fn(FnNamespace, FnAccess, &str, usize) -> bool>(
     lib: &FnLib,
     filter: &F,
@@ -82,8 +80,7 @@ pub fn put_all(
     shared(with_all(lib, id, shared_functions(other)?)?)
 }
 
-/// The same with those functions of the second that the filter chooses. It is asked of each of them once, in the
-/// table's order.
+/// The same with those functions of the second that the filter chooses, by an answer for each, in the table's order.
 pub fn put_chosen<F: Fn(FnNamespace, FnAccess, bool, &str, usize) -> bool>(
     lib: &FnLib,
     id: &Option<ImmutableString>,

@@ -5,7 +5,10 @@ use Rattle.rhai_meaning.specs.Queries.{is_pure, is_internally_pure, is_noop, is_
 use Rattle.rhai_meaning.specs.Tree.{Expr, Variable, Stmt, Noop, Var, ExprStmt, BreakLoop, Return, no_expr, an_expr, Stmts, no_stmts, stmt}
 use Rattle.rhai_rewriting.specs.Clear.{AreClear}
 use Rattle.rhai_rewriting.specs.Known.{Known}
-use Rattle.rhai_rewriting.proofs.Clearing.{pure_clear}
+use Rattle.rhai_rewriting.proofs.Clearing.{claimed, unclaimed, within, pure_clear}
+use Rattle.rhai_rewriting.proofs.Evals.{pure_keeps}
+use Rattle.rhai_rewriting.specs.Evals.{keeps_names}
+use Rattle.rhai_rewriting.specs.Residue.{when}
 use Rattle.rhai_rewriting.specs.Context.{Context, behind, known_behind, ListKind, Whole, Inside, wanted, wanted_before}
 use Rattle.rhai_rewriting.specs.Reducible.{is_idle, ends_in_return}
 use Rattle.rhai_rewriting.specs.Rewriting.{RestTo, same_stmts, then_stmts, by_list_rule, in_tail}
@@ -144,13 +147,18 @@ lone_declares : (s : Stmt) (ks : List Known) → is_lone s ≡ true → known_be
 lone_declares (Var constant exported x e) ks h = no h
 lone_declares _ ks h = refl
 
+lone_keeps : (s : Stmt) → is_lone s ≡ true → keeps_names s ≡ true
+lone_keeps (ExprStmt (Variable ns x)) h = refl
+lone_keeps (ExprStmt _) h = no h
+lone_keeps _ h = no h
+
 pure_declares : (s : Stmt) (ks : List Known) → is_pure s ≡ true → known_behind s ks ≡ ks
 pure_declares (Var constant exported x e) ks h = no h
 pure_declares _ ks h = refl
 
-goes_clear : (g : Going) (m : ListKind) (b : Bool) (s : Stmt) (rest : Stmts) (ks : List Known) → (b ≡ true → AreQuiet rest) → goes_as g m b s ≡ true → AreClear (known_behind s ks) rest → AreClear ks rest
-goes_clear going_kind.Pure m b s rest ks p h c = subst (λ l. AreClear l rest) (pure_declares s ks h) c
-goes_clear going_kind.Lone m b s rest ks p h c = subst (λ l. AreClear l rest) (lone_declares s ks h) c
+goes_clear : (g : Going) (m : ListKind) (b : Bool) (s : Stmt) (rest : Stmts) (ks : List Known) → (b ≡ true → AreQuiet rest) → goes_as g m b s ≡ true → when (keeps_names s) (AreClear (known_behind s ks) rest) → AreClear ks rest
+goes_clear going_kind.Pure m b s rest ks p h c = subst (λ l. AreClear l rest) (pure_declares s ks h) (claimed (pure_keeps s h) c)
+goes_clear going_kind.Lone m b s rest ks p h c = subst (λ l. AreClear l rest) (lone_declares s ks h) (claimed (lone_keeps s h) c)
 goes_clear going_kind.PureInside Whole b s rest ks p h c = no h
 goes_clear going_kind.PureInside (Inside i) b s rest ks p h c = all_of b (is_internally_pure s) h (λ x q. pure_clear ks rest (p x).0)
 
@@ -158,7 +166,7 @@ pub decided_goes : {m : ListKind} {b : Behind} {s : Stmt} {ss rest : Stmts} (g :
 decided_goes {m = m} {b = b} {s = s} {rest = rest} g f w h = record {
   to = then_rule f (λ k u. goes_rule g m b.is_quiet s rest w f.quiet h);
   kept = skips f.kept;
-  clear = λ z ks c. goes_clear g m b.is_quiet s rest ks f.quiet h (f.clear z _ c.1);
+  clear = λ z ks c. goes_clear g m b.is_quiet s rest ks f.quiet h (within (keeps_names s) (f.clear z _) c.1);
   bared = λ z. refl;
   swept = f.swept;
   last = f.last;
@@ -172,7 +180,7 @@ pub decided_stays : {m : ListKind} {b : Behind} {s : Stmt} {ss rest : Stmts} (fa
 decided_stays {m = m} {b = b} {s = s} {rest = rest} fades quiet f h i g p = record {
   to = behind_it s f;
   kept = keeps f.kept;
-  clear = λ z ks c. (c.0, f.clear z _ c.1);
+  clear = λ z ks c. (c.0, within (keeps_names s) (f.clear z _) c.1);
   bared = f.bared;
   swept = swept_more m s rest h (λ x. i (f.last ∙ x)) f.swept;
   last = refl;
@@ -194,7 +202,7 @@ pub decided_leaves : {m : ListKind} {b : Behind} {s : Stmt} {ss rest : Stmts} (f
 decided_leaves {m = m} {b = b} {s = s} {rest = rest} fades f h r g = record {
   to = λ k u d. leaves_to b.has_changed b.is_last rest f.last h (behind_it s f k u d);
   kept = keeps keeps_none;
-  clear = λ z ks c. (c.0, tt);
+  clear = λ z ks c. (c.0, unclaimed (keeps_names s) tt);
   bared = λ z. no z;
   swept = swept_alone m s r;
   last = refl;
@@ -233,7 +241,7 @@ pub decided_fades : {m : ListKind} {b : Behind} {s : Stmt} {ss rest : Stmts} (x 
 decided_fades {m = m} {s = s} x f h q = record {
   to = λ k u d. then_stmts (behind_it s f k u d) (in_tail (by_list_rule (fades_at x m q (f.fading x h))));
   kept = keeps keeps_none;
-  clear = λ z ks c. (c.0, tt);
+  clear = λ z ks c. (c.0, unclaimed (keeps_names s) tt);
   bared = λ z. refl;
   swept = swept_alone m s (stays_no_return m s (unit_stays s q));
   last = refl;
@@ -249,7 +257,7 @@ decided_noop {m = m} {s = s} {t = t} x f h e n q i =
     record {
       to = λ k u d. then_stmts (behind_it s f k u d) (in_tail (by_list_rule (noop_at x m e faded n)));
       kept = keeps keeps_noop;
-      clear = λ z ks c. (c.0, (tt, tt));
+      clear = λ z ks c. (c.0, unclaimed (keeps_names s) (tt, tt));
       bared = λ z. refl;
       swept = swept_more m s (stmt Noop no_stmts) q (λ x. i) (swept_alone m Noop (stays_no_return m Noop refl));
       last = refl;

@@ -172,14 +172,23 @@ impl Dynamic {
             return Ok(text.clone()?);
         }
         let mut text = String::new(alloc);
-        self.push_text(&mut text)?;
+        write!(text, "{self}")?;
         Ok(ImmutableString::from_string(text)?)
     }
 
-    /// Appends what `text_of` answers. A refused call may have appended a beginning of it.
+    /// Appends what `text_of` answers. A refused call leaves the text as it was.
     pub fn push_text(&self, text: &mut String) -> Result<(), AllocError>
-        ensures { OnOk result (string_bytes text.new ≡ string_bytes text.old ++ model.text_of (value_of self.now)) }
+        ensures ok { OnOk result (string_bytes text.new ≡ string_bytes text.old ++ model.text_of (value_of self.now)) }
+        ensures err { OnErr result (string_bytes text.new ≡ string_bytes text.old) }
     {
-        write!(text, "{self}")
+        if let Dynamic::Str(own) = self {
+            return text.push_str(own.as_str());
+        }
+        if let Dynamic::Char(own) = self {
+            return text.push(*own);
+        }
+        let mut form = String::new(*text.allocator());
+        write!(form, "{self}")?;
+        text.push_str(form.as_str())
     }
 }

@@ -1,6 +1,6 @@
 //! Scripts that are joined and filtered.
 
-use crate::scripts::{made, say_made, say_script, shown, source};
+use crate::scripts::{made, say_made, say_script, shared, shown, source};
 use crate::tried::{Tried, is_among};
 use rhai_ast::{FnAccess, FnNamespace};
 use rhai_base::{Boxed, OutOfMemory};
@@ -8,8 +8,8 @@ use rhai_script::AST;
 
 /// The calls.
 pub const CALLS: &str =
-    "AST::merge AST::merge_filtered AST::clone_functions_only_filtered AST::combine AST::combine_filtered \
-    AST::retain_functions";
+    "AST::merge AST::merge_filtered AST::clone_functions_only_filtered AST::combine AST::combine/table_growth \
+    AST::combine_filtered AST::retain_functions";
 
 /// The second script: one function takes the place of one of the first, one is new.
 const SECOND: &str = "let q = 1
@@ -22,15 +22,25 @@ pub fn make(name: &str, tried: &Tried) -> bool {
         return false;
     }
     if let Some(mut first) = source(tried)
-        && let Some(second) = second(tried)
+        && let Some(second) = second(name, tried)
     {
         join(name, first.get_mut(), second.get(), tried);
     }
     true
 }
 
-fn second(tried: &Tried) -> Option<Boxed<AST>> {
-    made(tried.said.script(SECOND)?, tried)
+fn second(name: &str, tried: &Tried) -> Option<Boxed<AST>> {
+    match name {
+        "AST::combine/table_growth" => function_alone(tried),
+        _ => made(tried.said.script(SECOND)?, tried),
+    }
+}
+
+/// A second script for which nothing grows but the first's table: no statements, no doc.
+fn function_alone(tried: &Tried) -> Option<Boxed<AST>> {
+    let script = tried.said.script("fn h() { [1, 2] }\n")?;
+    let lib = shared(script.functions, tried)?;
+    tried.said.boxed(Some(AST::new(script.statements, lib)))
 }
 
 fn join(name: &str, first: &mut AST, second: &AST, tried: &Tried) {
@@ -70,7 +80,7 @@ fn change(name: &str, first: &mut AST, second: &AST, tried: &Tried) {
 
 fn changed(name: &str, first: &mut AST, second: AST) -> Result<(), OutOfMemory> {
     match name {
-        "AST::combine" => first.combine(second),
+        "AST::combine" | "AST::combine/table_growth" => first.combine(second),
         "AST::combine_filtered" => first.combine_filtered(second, is_long),
         _ => first.retain_functions(|_, _, _: &str, params| params > 0),
     }

@@ -114,7 +114,7 @@ pub fn made(script: Script, tried: &Tried) -> Option<Boxed<AST>> {
     Some(script)
 }
 
-fn shared(functions: Vec<Rc<ScriptFuncDef>>, tried: &Tried) -> Option<SharedLib> {
+pub fn shared(functions: Vec<Rc<ScriptFuncDef>>, tried: &Tried) -> Option<SharedLib> {
     tried.said.counted(
         tried
             .said

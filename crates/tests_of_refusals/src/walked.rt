@@ -8,12 +8,13 @@ use rhai_script_queries::ScriptQueries;
 
 /// The calls.
 pub const CALLS: &str =
-    "walk_statements Stmt::walk Expr::walk AST::walk AST::iter_literal_variables";
+    "walk_statements Stmt::walk Stmt::walk/first_growth Expr::walk AST::walk AST::iter_literal_variables";
 
 pub fn make(name: &str, tried: &Tried) -> bool {
     match name {
         "walk_statements" => statements(tried),
         "Stmt::walk" => each_statement(tried),
+        "Stmt::walk/first_growth" => first_growth(tried),
         "Expr::walk" => expression(tried),
         "AST::walk" => of_script(tried),
         "AST::iter_literal_variables" => variables(tried),
@@ -83,6 +84,27 @@ fn each_statement(tried: &Tried) {
             say_walk(Walked::Statement(statement), tried);
         }
     }
+}
+
+fn first_growth(tried: &Tried) {
+    if let Some(script) = tried.said.script("noop\n")
+        && let Some(statement) = script.statements.first()
+    {
+        say_first(Walked::Statement(statement), tried);
+    }
+}
+
+/// A walk over one node, whose path grows once, from nothing: refused there, it calls the closure for no node and leaves
+/// the path empty.
+fn say_first(walked: Walked, tried: &Tried) {
+    let mut path = Vec::new(tried.said.alloc);
+    let mut lengths = room(tried);
+    if tried.said.is_whole() && tried.is_refused(&walk(walked, &mut path, &mut lengths)) {
+        tried.want(lengths.is_empty(), "the closure was called");
+        tried.want(path.is_empty(), "a path is left");
+        tried.said.made(walk(walked, &mut path, &mut lengths));
+    }
+    tried.said.count("paths", lengths.len());
 }
 
 fn expression(tried: &Tried) {

@@ -35,8 +35,9 @@ const OF_RECORD: [&str; 6] = [
 ];
 
 /// Questions about what is read back.
-const OF_READS: [&str; 7] = [
+const OF_READS: [&str; 8] = [
     "reads",
+    "stands",
     "reads_open",
     "reads_statements",
     "reads_value",

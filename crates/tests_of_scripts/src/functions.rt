@@ -1,11 +1,13 @@
-//! Questions about functions that are optimised, and about how many passes are made.
+//! Questions about functions that are optimised, about the literals of what is optimised, and about how many passes
+//! are made.
 
 use crate::given::Given;
 use crate::scripts::{made, printed, push_run};
 use rhai_ast::ScriptFuncDef;
-use rhai_base::OutOfMemory;
+use rhai_base::{OutOfMemory, Scope};
 use rhai_optimizer::{OptimizationLevel, optimize_ast, optimize_counted};
 use rhai_script::AST;
+use rhai_script_queries::ScriptQueries;
 use std::rc::Rc;
 use tests_reader::{Said, Script, split};
 
@@ -112,4 +114,30 @@ fn optimized_as_it_is(given: &Given, script: &AST, said: &Said) -> Result<AST, O
     script.set_doc("doc")?;
     let (info, scope) = (&given.info, Some(&given.scope));
     optimize_ast(said.alloc, info, scope, script, OptimizationLevel::Simple)
+}
+
+/// What stands in a scope into which the literals of an optimised script's constants are pushed, and how many they are.
+pub fn say_literals(given: &Given, text: &str, said: &Said) {
+    if let Some(script) = said.script(text)
+        && let Some(script) = made(given, script, OptimizationLevel::Simple, said)
+    {
+        let scope = literals(script.get(), said);
+        for (name, _, value) in scope.iter() {
+            said.word(name);
+            said.inner(value);
+        }
+        said.count("of", scope.len());
+    }
+}
+
+fn literals(script: &AST, said: &Said) -> Scope {
+    let mut scope = Scope::new(said.alloc);
+    for constant in script.iter_literal_variables(true, false) {
+        if let Some((name, _, value)) = said.made(constant)
+            && let Some(name) = said.shared(name)
+        {
+            said.made(scope.push_constant(name, value));
+        }
+    }
+    scope
 }

@@ -1,6 +1,7 @@
 //! What is read back of what is printed, and what is said of a text that is not read.
 
 use crate::scripts::printed;
+use rhai_ast::{FnAccess, ScriptFuncDef, StmtQueries};
 use rhai_reader::{ReadError, read_script, read_statements, read_value};
 use rhai_samples::BuiltinScript;
 use rhai_script::{AST, FnLib};
@@ -12,6 +13,7 @@ pub fn answer(question: &str, text: &str, said: &Said) {
     match question {
         "reads" => say_read(text, said),
         "reads_open" => say_read(text.trim_end(), said),
+        "stands" => say_stands(text, said),
         "reads_statements" => say_statements(text, said),
         "reads_value" => say_value(text.trim_end(), said),
         "reads_deep" => say_deep(text, said),
@@ -28,8 +30,42 @@ fn say_read(text: &str, said: &Said) {
     }
 }
 
+/// The last line of the text need not end.
 fn say_if_same(printed: &str, text: &str, said: &Said) {
-    said.put(if printed == text { "back" } else { printed });
+    let is_same = printed == text || printed.strip_suffix('\n') == Some(text);
+    said.put(if is_same { "back" } else { printed });
+}
+
+/// Where each statement and each body of a script stands, and what its functions have; then its first fault.
+fn say_stands(text: &str, said: &Said) {
+    match read_script(said.alloc, text) {
+        Ok(script) => {
+            for statement in script.statements() {
+                said.place("at", statement.position());
+            }
+            for function in script.shared_lib().iter() {
+                say_function(function, said);
+            }
+            say_fault(&script, said);
+        }
+        Err(error) => said.display(&error),
+    }
+}
+
+fn say_function(function: &ScriptFuncDef, said: &Said) {
+    said.word(function.name.as_str());
+    said.word_if(function.access == FnAccess::Public, "public");
+    said.count("comments", function.comments.len());
+    said.place("from", function.body.position());
+    said.place("to", function.body.end_position());
+}
+
+fn say_fault(script: &AST, said: &Said) {
+    if let Err(error) = script.check() {
+        said.word("");
+        said.display(&error.fault);
+        said.place("at", error.position);
+    }
 }
 
 /// Says why a printed script is not read back, where it is not.

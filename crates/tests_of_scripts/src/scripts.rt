@@ -60,6 +60,7 @@ fn asked(question: &str, given: &Given, script: &str, said: &Said) {
         "passes_within" => functions::say_passes_within(given, script, said),
         "shared" => functions::say_shared(given, script, said),
         "named" => functions::say_named(given, script, said),
+        "literals" => functions::say_literals(given, script, said),
         "merge_optimized" => functions::say_merged(given, script, BETWEEN, said),
         "deep" => long::deep(script, said),
         "long" => long::long(script, said),

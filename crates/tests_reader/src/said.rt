@@ -20,6 +20,11 @@ impl From<ReadError> for Unread {
         match error {
             ReadError::Missing { letters, .. } => Unread::Wanted(letters),
             ReadError::Expected { what, .. } => Unread::Wanted(what),
+            ReadError::Zeros { .. } => Unread::Wanted("fewer zeros"),
+            ReadError::KeyTwice { .. } => Unread::Wanted("another key"),
+            ReadError::Keyword { .. } => Unread::Wanted("a name"),
+            ReadError::ParameterTwice { .. } => Unread::Wanted("another parameter"),
+            ReadError::FunctionTwice { .. } => Unread::Wanted("another function"),
             ReadError::TooDeep { .. } => Unread::Wanted("fewer levels"),
             ReadError::OutOfMemory => Unread::NoMemory,
         }

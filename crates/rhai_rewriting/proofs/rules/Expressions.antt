@@ -9,7 +9,7 @@ use Rattle.rhai_meaning.specs.Desugar.{core_expr}
 use Rattle.rhai_meaning.specs.Shape.{is_callable}
 use Rattle.rhai_meaning.specs.Meaning.{act}
 use Rattle.rhai_meaning.specs.Relations.{here}
-use Rattle.rhai_meaning.specs.Tree.{Callee, Expr, DynamicConstant, UnitConstant, ArrayOf, BlockExpr, FnCall, Exprs, count_exprs, ExprStmt, no_stmts, stmt}
+use Rattle.rhai_meaning.specs.Tree.{Callee, Expr, DynamicConstant, UnitConstant, ArrayOf, BlockExpr, FnCall, Exprs, count_exprs, ExprStmt, FnCallStmt, no_stmts, stmt}
 use Rattle.rhai_meaning.proofs.Sequencing.{leave_same}
 use Rattle.rhai_meaning.specs.Walk.{Node, Around, whole, throughout, over_expr}
 use Rattle.rhai_rewriting.specs.Context.{Context}
@@ -54,6 +54,13 @@ braces_of_expression {e = e} = record {
   sound = λ c. simulates_equal (λ m. scoped_deed (world c) m.env c.in_loop m.adds (core.Evaluate (core_expr c.in_loop e)) m.store m.turns);
 }
 
+pub braces_of_call : {k : Context} {f : Callee} {es : Exprs} → ExprObligation k (BlockExpr (stmt (FnCallStmt f es) no_stmts)) (FnCall f es)
+braces_of_call {f = f} {es = es} = record {
+  lighter = omega arith;
+  keeps = λ P l lasts h. (lasts.call f es h.1.0.0, h.1.0.1);
+  sound = λ c. simulates_equal (λ m. scoped_deed (world c) m.env c.in_loop m.adds (core.Evaluate (core_expr c.in_loop (FnCall f es))) m.store m.turns);
+}
+
 -- ---- an operator that folds
 
 -- a pointer may be the call that makes it; an operator answers none
@@ -84,6 +91,7 @@ pub expr_rule : {k : Context} {e e' : Expr} → ExprRule k e e' → ExprObligati
 expr_rule (rule.array_of_constants h) = array_of_constants h
 expr_rule rule.braces_empty = braces_empty
 expr_rule rule.braces_of_expression = braces_of_expression
+expr_rule (rule.braces_of_call h) = braces_of_call
 expr_rule (rule.operator_folds h) = operator_folds h
 expr_rule (rule.and_changes h j) = logic.and_changes h j
 expr_rule (rule.or_changes h j) = logic.or_changes h j

@@ -52,4 +52,5 @@ pub record Lasting (P : Around → Node → Type 0) (l : Bool) : Type 0 where
   pub expression : (e : Expr) → P (whole l) (OfStmt (ExprStmt e))
   pub onward : (dot dot' : Bool) (f m : ChainFlags) (e a e' r : Expr) → f.breaks ≡ false → P (whole l) (OfExpr (link dot f e (link dot' m a r))) → (b : Around) → P b (OfExpr (link dot' m a r)) → P (whole l) (OfExpr (link dot' m e' r))
   pub conjunction : (es : Exprs) → has_operands es ≡ true → P (whole l) (OfExpr (And es))
+  pub call : (c : Callee) (es : Exprs) → P (whole l) (OfStmt (FnCallStmt c es)) → P (whole l) (OfExpr (FnCall c es))
   pub call_statement : (c : Callee) (es : Exprs) → P (whole l) (OfExpr (FnCall c es)) → P (whole l) (OfStmt (FnCallStmt c es))

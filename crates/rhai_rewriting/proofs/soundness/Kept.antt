@@ -98,6 +98,7 @@ plain_lasts l = record {
   expression = λ e. refl;
   onward = onward_plain;
   conjunction = λ es h. refl;
+  call = λ c es h. h;
   call_statement = λ c es h. h;
 }
 
@@ -125,6 +126,7 @@ places_last l = record {
   expression = λ e. refl;
   onward = λ dot dot' f m e a e' r q h b j. refl;
   conjunction = λ es h. refl;
+  call = λ c es h. refl;
   call_statement = λ c es h. refl;
 }
 
@@ -161,6 +163,7 @@ apart_lasts l = record {
   expression = λ e. refl;
   onward = onward_apart;
   conjunction = λ es h. refl;
+  call = λ c es h. h;
   call_statement = λ c es h. h;
 }
 
@@ -196,6 +199,7 @@ module _ (Q : Callee → Type 0) where
     expression = λ e. tt;
     onward = onward_captures;
     conjunction = λ es h. tt;
+    call = λ c es h. h;
     call_statement = λ c es h. h;
   }
 

@@ -62,6 +62,7 @@ operators_last l = record {
   expression = λ e. tt;
   onward = no_chain;
   conjunction = λ es h. tt;
+  call = λ c es h. h;
   call_statement = λ c es h. h;
 }
 

@@ -16,6 +16,7 @@ rule_not_true : {k : Context} {e e' : Expr} → ExprRule k e e' → is_true e �
 rule_not_true (rule.array_of_constants h) = refl
 rule_not_true rule.braces_empty = refl
 rule_not_true rule.braces_of_expression = refl
+rule_not_true (rule.braces_of_call h) = refl
 rule_not_true (rule.operator_folds h) = refl
 rule_not_true (rule.and_changes h j) = refl
 rule_not_true (rule.or_changes h j) = refl

@@ -70,6 +70,7 @@ faultless_lasts l = record {
   expression = λ e. refl;
   onward = onward_faultless l;
   conjunction = λ es h. ap (λ b. unless b NoOperands) h;
+  call = λ c es h. h;
   call_statement = λ c es h. h;
 }
 

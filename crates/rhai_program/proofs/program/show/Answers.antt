@@ -6,5 +6,5 @@ pub returns : goal.returns
 returns c = (
   script_of c.in_ok-after.after,
   c.in_ok-after.ensures,
-  pushed_show _ _ _ _ _ _ _ _ c.in_ok-before.ensures c.new-text.ensures.bytes c.in_ok-push_str.ensures.bytes c.in_ok-push_script.ensures c.in_ok-push_str-2.ensures.bytes c.in_ok-push_script-2.ensures,
+  pushed_show _ _ _ _ _ _ _ _ c.in_ok-before.ensures c.new-text.ensures.bytes c.in_ok-push_str.ensures.bytes c.in_ok-push_script.ensures.ok c.in_ok-push_str-2.ensures.bytes c.in_ok-push_script-2.ensures.ok,
 )

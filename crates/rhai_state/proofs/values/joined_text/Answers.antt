@@ -7,7 +7,7 @@ use Rattle.rhai_state.proofs.Texts.{texts_next, texts_end}
 use Rattle.rhai_state.proofs.values.joined_text.Goals as goal
 
 pub loop-value-preserved : goal.loop-value-preserved
-loop-value-preserved c = texts_next _ _ _ _ _ _ c.loop-value-test.true c.value-item.is c.loop-value.invariant c.in_ok-push_text.ensures
+loop-value-preserved c = texts_next _ _ _ _ _ _ c.loop-value-test.true c.value-item.is c.loop-value.invariant c.in_ok-push_text.ensures.ok
 
 pub returns : goal.returns
 returns c =

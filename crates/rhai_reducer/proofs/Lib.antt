@@ -1,0 +1,5 @@
+pub mod Flattening
+pub mod Parts
+pub mod Passing
+pub mod UpTo
+pub mod Swept

@@ -1,0 +1,4 @@
+pub mod Blocks
+pub mod Going
+pub mod Parts
+pub mod Pass
