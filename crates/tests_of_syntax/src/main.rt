@@ -6,9 +6,12 @@ mod bad;
 mod blocks;
 mod changed;
 mod places;
+mod rows;
 mod runs;
 mod trees;
+mod usual_host;
 
+use rows::Question;
 use std::alloc::AllocError;
 use std::{env, fs, io};
 
@@ -47,9 +50,9 @@ fn ask(rt: &HostRuntime, question: &str, name: &str) -> io::Result<()> {
     let rows = fs::read_to_string(rt, name)?;
     let rows = rows.as_str();
     match question {
-        "trees" => say(rt, trees::ask(rt.alloc(), rows)),
-        "bad" => say(rt, bad::ask(rt.alloc(), rows)),
-        "places" => say(rt, places::ask(rt.alloc(), rows)),
+        "trees" => say(rt, rows::ask(rt.alloc(), Question::Tree, rows)),
+        "bad" => say(rt, rows::ask(rt.alloc(), Question::Refusal, rows)),
+        "places" => say(rt, rows::ask(rt.alloc(), Question::Places, rows)),
         "runs" => say(rt, runs::ask(rt.alloc(), rows)),
         "cut" => say(rt, changed::cut_all(rt.alloc(), rows)),
         "changed" => say(rt, changed::change(rt.alloc(), rows, 5_000, 1)),

@@ -1,8 +1,9 @@
 //! Runs of scripts before and after they are optimised.
 
 use crate::blocks::{Block, HEAD, block_of};
+use crate::usual_host::UsualHost;
 use rhai_base::Scope;
-use rhai_host::{UnitHost, push_report};
+use rhai_host::push_report;
 use rhai_optimizer::{OptimizationLevel, optimize_ast};
 use rhai_parser::compile;
 use rhai_run::{EngineInfo, RunEnd, plain_run};
@@ -13,7 +14,7 @@ use std::fmt::Write;
 /// How many turns a run has.
 const TURNS: u64 = 500;
 
-/// How runs came out.
+/// How many runs are alike, and how many of these are stuck, before the script is optimised and behind.
 #[derive(Clone, Copy)]
 struct Counts {
     alike: usize,
@@ -28,7 +29,7 @@ pub(crate) fn ask(alloc: Global, rows: &str) -> Result<String, AllocError> {
         counts = with(alloc, counts, block_of(written), &mut said)?;
     }
     let Counts { alike, stuck } = counts;
-    writeln!(said, "runs: {alike} alike, {stuck} stuck before")?;
+    writeln!(said, "runs: {alike} alike, {stuck} of them stuck")?;
     Ok(said)
 }
 
@@ -43,37 +44,27 @@ fn with(
         return Ok(counts);
     };
     let (before, is_stuck) = report(alloc, &script)?;
-    if is_stuck {
-        return Ok(Counts {
-            alike,
-            stuck: stuck.saturating_add(1),
-        });
-    }
     let info = EngineInfo::new(alloc);
-    let script = optimize_ast(alloc, &info, None, script, OptimizationLevel::Simple).map_err(
-        |_| AllocError,
-    )?;
+    let script = optimize_ast(alloc, &info, None, script, OptimizationLevel::Simple)
+        .map_err(|_| AllocError)?;
     let (after, _) = report(alloc, &script)?;
     if before.as_str() == after.as_str() {
         return Ok(Counts {
             alike: alike.saturating_add(1),
-            stuck,
+            stuck: stuck.saturating_add(usize::from(is_stuck)),
         });
     }
-    said.push_str(block.head)?;
-    said.push_str(" ran\n")?;
-    said.push_str(before.as_str())?;
-    said.push_str("and runs\n")?;
-    said.push_str(after.as_str())?;
+    for part in [block.head, " ran\n", before.as_str(), "and runs\n", after.as_str()] {
+        said.push_str(part)?;
+    }
     Ok(counts)
 }
 
 /// The report of a run but for the turns that are left, and whether it was stuck.
 fn report(alloc: Global, script: &AST) -> Result<(String, bool), AllocError> {
     let info = EngineInfo::new(alloc);
-    let report = plain_run(alloc, script, &info, &UnitHost, &Scope::new(alloc), TURNS).map_err(
-        |_| AllocError,
-    )?;
+    let report = plain_run(alloc, script, &info, &UsualHost, &Scope::new(alloc), TURNS)
+        .map_err(|_| AllocError)?;
     let mut text = String::new(alloc);
     push_report(&report, &mut text).map_err(|_| AllocError)?;
     let mut kept = String::new(alloc);
