@@ -47,7 +47,15 @@ fn is_met(
     let told = told(alloc, question, block.text)?;
     let is_met = told.as_str().trim() == wanted(question, block).trim();
     if !is_met {
-        for part in ["==== ", block.head, "\n", block.text, "\n---- is\n", told.as_str(), "\n"] {
+        for part in [
+            "==== ",
+            block.head,
+            "\n",
+            block.text,
+            "\n---- is\n",
+            told.as_str(),
+            "\n",
+        ] {
             said.push_str(part)?;
         }
     }

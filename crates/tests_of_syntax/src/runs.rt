@@ -45,8 +45,9 @@ fn with(
     };
     let (before, is_stuck) = report(alloc, &script)?;
     let info = EngineInfo::new(alloc);
-    let script = optimize_ast(alloc, &info, None, script, OptimizationLevel::Simple)
-        .map_err(|_| AllocError)?;
+    let script = optimize_ast(alloc, &info, None, script, OptimizationLevel::Simple).map_err(
+        |_| AllocError,
+    )?;
     let (after, _) = report(alloc, &script)?;
     if before.as_str() == after.as_str() {
         return Ok(Counts {
@@ -54,7 +55,13 @@ fn with(
             stuck: stuck.saturating_add(usize::from(is_stuck)),
         });
     }
-    for part in [block.head, " ran\n", before.as_str(), "and runs\n", after.as_str()] {
+    for part in [
+        block.head,
+        " ran\n",
+        before.as_str(),
+        "and runs\n",
+        after.as_str(),
+    ] {
         said.push_str(part)?;
     }
     Ok(counts)
@@ -63,8 +70,9 @@ fn with(
 /// The report of a run but for the turns that are left, and whether it was stuck.
 fn report(alloc: Global, script: &AST) -> Result<(String, bool), AllocError> {
     let info = EngineInfo::new(alloc);
-    let report = plain_run(alloc, script, &info, &UsualHost, &Scope::new(alloc), TURNS)
-        .map_err(|_| AllocError)?;
+    let report = plain_run(alloc, script, &info, &UsualHost, &Scope::new(alloc), TURNS).map_err(
+        |_| AllocError,
+    )?;
     let mut text = String::new(alloc);
     push_report(&report, &mut text).map_err(|_| AllocError)?;
     let mut kept = String::new(alloc);

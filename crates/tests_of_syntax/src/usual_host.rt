@@ -36,11 +36,7 @@ impl Host for UsualHost {
         }
     }
 
-    fn module_value(
-        &self,
-        alloc: Global,
-        qualified: &str,
-    ) -> Result<Option<Dynamic>, OutOfMemory> {
+    fn module_value(&self, alloc: Global, qualified: &str) -> Result<Option<Dynamic>, OutOfMemory> {
         ProgramHost.module_value(alloc, qualified)
     }
 
