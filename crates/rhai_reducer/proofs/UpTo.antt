@@ -149,18 +149,18 @@ fresh_none : {k : Context} {m : ListKind} {u d : Bool} (b : Bool) → b ≡ fals
 fresh_none true h = absurd (let z : true ≡ false = h in cc)
 fresh_none false h = same_stmts
 
-goes_none : (b : Bool) {r : Engine} {m : ListKind} (g : Going) → list_goes b r m g g no_stmts no_stmts
-goes_none true g = λ f. record { to = λ u. fresh_none g.unknown.is_dirty f.clear; reduced = tt; clear = tt; front = []; known = refl }
-goes_none false g = λ f. (refl, unknown_none_run)
+goes_none : (b : Bool) (r : Engine) (m : ListKind) (g : Going) → list_goes b r m g g no_stmts no_stmts
+goes_none true r m g = λ f. record { to = λ u. fresh_none g.unknown.is_dirty f.clear; reduced = tt; clear = tt; front = []; known = refl }
+goes_none false r m g = λ f. (refl, unknown_none_run)
 
-goes_more : (b b1 : Bool) {r : Engine} {m : ListKind} {g g1 g2 : Going} {x x' : Stmt} {ss ss' : Stmts} → g1.are_known ≡ b1 → item_goes b r (wanted_before (wanted m) ss) g g1 x x' → list_goes b1 r m g1 g2 ss ss' → list_goes b r m g g2 (stmt x ss) (stmt x' ss')
-goes_more true true h p q = λ f. each_more_run p.1 (q (subst IsFresh (sym p.0.1) f))
-goes_more true false {r = r} {m = m} {g = g} {g2 = g2} {x = x} {x' = x'} {ss = ss} {ss' = ss'} h p q = λ f.
+goes_more : (b b1 : Bool) (r : Engine) (m : ListKind) (g g1 g2 : Going) (x x' : Stmt) (ss ss' : Stmts) → g1.are_known ≡ b1 → item_goes b r (wanted_before (wanted m) ss) g g1 x x' → list_goes b1 r m g1 g2 ss ss' → list_goes b r m g g2 (stmt x ss) (stmt x' ss')
+goes_more true true r m g g1 g2 x x' ss ss' h p q = λ f. each_more_run p.1 (q (subst IsFresh (sym p.0.1) f))
+goes_more true false r m g g1 g2 x x' ss ss' h p q = λ f.
     let fresh = subst IsFresh (sym p.0.1) f in
     let z = q fresh.nothing in
     subst (λ t. EachRun r m g.state (beside t g2.unknown) (stmt x ss) (stmt x' ss')) (sym z.0) (each_ends_run p.1 (sym p.0.0 ∙ h) fresh.clear z.1)
-goes_more false true h p q = absurd (let z : true ≡ false = sym h ∙ p.0.0 in cc)
-goes_more false false h p q = λ f. let z = q (p.1.known ∙ f) in (z.0 ∙ p.0.1, unknown_more_run f p.1 z.1)
+goes_more false true r m g g1 g2 x x' ss ss' h p q = absurd (let z : true ≡ false = sym h ∙ p.0.0 in cc)
+goes_more false false r m g g1 g2 x x' ss ss' h p q = λ f. let z = q (p.1.known ∙ f) in (z.0 ∙ p.0.1, unknown_more_run f p.1 z.1)
 
 pub record StmtItem (r : Engine) (m : ListKind) (rest : List declared_stmt.Stmt) (g g' : Going) (x x' : declared_stmt.Stmt) : Type 0 where
   pub run : ItemGoes r (wanted_before (wanted m) (stmts_of rest)) g g' (stmt_of x) (stmt_of x')
@@ -173,8 +173,8 @@ stmt_item {r = r} {g = g} {g' = g'} {x = x} {x' = x'} h f = record { run = subst
 
 pub stmts_by : (r : Engine) (m : ListKind) → ByItems stmt_weighs stmts_weigh (StmtItem r m) (StmtItems r m)
 stmts_by r m = record {
-  none = λ {g}. record { run = goes_none g.are_known g };
-  more = λ {g} {g1} i is. record { run = goes_more g.are_known g1.are_known refl i.run is.run };
+  none = λ {d = g}. record { run = goes_none g.are_known r m g };
+  more = λ {d = g} {d1 = g1} i is. record { run = goes_more g.are_known g1.are_known _ _ _ _ _ _ _ _ _ refl i.run is.run };
   heavier = λ x rest. omega arith;
 }
 
