@@ -4,7 +4,7 @@ use Rattle.rhai_reading.specs.Reading.{stmts_of}
 use Rattle.rhai_reducer.specs.Parts.{record_of}
 use Rattle.rhai_reducer.specs.Pass.{PassRun}
 use Rattle.rhai_reducer.proofs.Passing.{pass_run}
-use Rattle.rhai_reducer.proofs.pass.Optimizer.pass.Goals as goal
+use Rattle.rhai_reducer.proofs.cycle.Optimizer.pass.Goals as goal
 
 pub returns : goal.returns
 returns c =
