@@ -289,13 +289,13 @@ pub item-returns-then-not-are_known : goal.item-returns-then-not-are_known
 item-returns-then-not-are_known t c = rw c.if-not-are_known.true ((refl, refl), c.in_ok-stmt.ensures)
 
 pub item-returns : goal.item-returns
-item-returns t c = rw c.if-not-are_known.false ((c.keeps_names.ensures, refl), item_run c.in_ok-stmt.ensures c.in_ok-declare.ensures.0 c.in_ok-declare.ensures.1)
+item-returns t c = rw c.if-not-are_known.false ((c.keeps_names.ensures, refl), item_run c.in_ok-stmt-2.ensures c.in_ok-declare.ensures.0 c.in_ok-declare.ensures.1)
 
 pub each-loop-at-preserved : goal.each-loop-at-preserved
 each-loop-at-preserved t c =
     record {
       fresh = c.loop-at.invariant.fresh;
-      to = up_next c.item.new.statement (stmts_by _ _) c.loop-at.invariant.to (omega (arith, c.len-at-end.ensures, c.loop-at-test.true)) c.in-Some.ensures.value.1 (stmt_item (rw (c.is_wanted.ensures, c.as_slice.ensures) at c.is_wanted_at-is_wanted.ensures) c.in_ok-item.ensures);
+      to = up_next c.item.new.statement (stmts_by _ _) c.loop-at.invariant.to (omega (arith, c.len-at-end.ensures, c.loop-at-test.true)) c.in-Some.ensures.value.1 (stmt_item (rw (c.is_wanted.ensures, c.as_slice.ensures) at c.is_wanted_at-is_wanted.ensures) c.in_ok-are_known.ensures);
     }
 
 pub each-returns : goal.each-returns
