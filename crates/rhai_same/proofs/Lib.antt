@@ -1,0 +1,4 @@
+pub mod Exact
+pub mod Items
+pub mod Others
+pub mod Tokens
