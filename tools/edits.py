@@ -39,7 +39,7 @@ LINE = re.compile(r"^(?:rt: )?must-fail (\w+/\S+)\.edit: (.*)")
 def crates():
     """The crates, the lowest first."""
     lines = (TOP / "crates.txt").read_text().splitlines()
-    return [line.split(":")[0].strip() for line in lines if line and not line.startswith("#")]
+    return [line.split(":")[0].split()[0] for line in lines if line and not line.startswith("#")]
 
 
 def edits_of(crate, ending):

@@ -1,11 +1,11 @@
 -- Assignments that are made by an operator.
 use Rattle.std.proofs.Common.{◌≡◌, ◌<◌, ◌≤◌, Bool, true, false, not, ◌&&◌, List, [], ◌∷◌, length, Option, Some, None, is_some, refl, sym, ap, ◌∙◌, subst, arith}
 use Rattle.rhai_tree.specs.declared.expr.Expr as declared_expr
-use Rattle.rhai_values.specs.Value.{Text}
+use Rattle.rhai_base.specs.Value.{Text}
 use Rattle.rhai_base.specs.Operators.{Operator}
 use Rattle.rhai_meaning.specs.Engine.{Engine, overrides_any, assigning}
 use Rattle.rhai_meaning.specs.Tree.{CallToken, NoToken, OfOperator, OfOther, Callee, Expr, Variable, FnCall, Exprs, no_exprs, expr, Stmt, Assignment}
-use Rattle.rhai_reading.specs.Reading.{exprs_of, mark_by}
+use Rattle.rhai_tree.specs.Reading.{exprs_of, mark_by}
 use Rattle.rhai_rewriting.specs.Rules as rule
 use Rattle.rhai_rewriting.specs.Rules.{StmtRule}
 use Rattle.rhai_rewriting.specs.SelfAssign.{has_op_assignment, leaves_names}

@@ -1,6 +1,6 @@
 -- Rules that fired.
 use Rattle.std.proofs.Common.{◌≡◌, Bool, true, false, ◌||◌, ◌+◌, ◌<◌, ◌≤◌, ℕ, List, [], ◌∷◌, length, Option, Some, None, is_some, sym, ap, ◌∙◌, subst, arith}
-use Rattle.rhai_values.specs.Value.{Text, Value}
+use Rattle.rhai_base.specs.Value.{Text, Value}
 use Rattle.rhai_meaning.specs.Engine.{Engine}
 use Rattle.rhai_meaning.specs.Tree.{Stmt, Noop, Share}
 use Rattle.rhai_rewriting.specs.Known.{Known, look, unless_known, unknown}

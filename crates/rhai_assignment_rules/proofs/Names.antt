@@ -4,10 +4,10 @@ use Rattle.std.proofs.Math.Seq.{drop-cons, drop-length}
 use Rattle.std.specs.List.{filter}
 use Rattle.std.specs.Prelude.{if◌then◌else◌}
 use Rattle.std.specs.declared.num.NonZeroUsize.{NonZeroUsize}
-use Rattle.rhai_names.specs.declared.ident.Ident.{Ident}
-use Rattle.rhai_values.specs.Value.{Value}
+use Rattle.rhai_tokens.specs.declared.ident.Ident.{Ident}
+use Rattle.rhai_base.specs.Value.{Value}
 use Rattle.rhai_meaning.specs.Tree.{Share}
-use Rattle.rhai_reading.specs.Reading.{shared_names}
+use Rattle.rhai_tree.specs.Reading.{shared_names}
 use Rattle.rhai_rewriting.specs.Known.{Known, look, unless_known, unknown}
 use Rattle.rhai_assignment_rules.specs.Settled.{knows_some, shares_nothing}
 

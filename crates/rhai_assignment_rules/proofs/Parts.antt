@@ -1,7 +1,7 @@
 -- What the rules make of statements whose parts are reduced has parts that are.
 use Rattle.std.proofs.Common.{List, [], Some, None}
 use Rattle.rhai_base.specs.Operators.{Operator}
-use Rattle.rhai_values.specs.Value.{Text}
+use Rattle.rhai_base.specs.Value.{Text}
 use Rattle.rhai_meaning.specs.Tree.{Callee, Expr, Variable, FnCall, no_exprs, expr, Assignment, Share}
 use Rattle.rhai_rewriting.specs.Steps.{KeepsStmtParts}
 

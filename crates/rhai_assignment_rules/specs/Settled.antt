@@ -1,6 +1,6 @@
 -- Assignments and shared names at which no rule fires, their parts being reduced.
 use Rattle.std.specs.Prelude.{Bool, true, false, ◌&&◌, ◌||◌, not, List, [], ◌∷◌, Option, Some, None, is_some}
-use Rattle.rhai_values.specs.Value.{Text, same_text}
+use Rattle.rhai_base.specs.Value.{Text, same_text}
 use Rattle.rhai_meaning.specs.Engine.{Engine, overrides_any, assigning}
 use Rattle.rhai_meaning.specs.Tree.{CallToken, NoToken, OfOperator, Expr, Variable, FnCall, Exprs, no_exprs, expr, Stmt, Assignment, Share}
 use Rattle.rhai_rewriting.specs.Known.{Known, look}

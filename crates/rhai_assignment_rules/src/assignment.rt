@@ -1,12 +1,12 @@
 //! The rule at an assignment.
 
-#![tactic(auto, using(rhai_reading::specs::Reading::shapes))]
+#![tactic(auto, using(rhai_tree::specs::Reading::shapes))]
 
 ghost use Rattle.std.specs.Prelude.{◌≡◌, true, false, Bool, Some, length, is_none};
 ghost use Rattle.rhai_engine.specs.EngineInfo.{engine_of};
 ghost use Rattle.rhai_known.specs.State.{progress};
 ghost use Rattle.rhai_meaning.specs.Engine.{Engine};
-ghost use Rattle.rhai_reading.specs.Reading.{callee_of, expr_of, exprs_of, mark_by, mark_of, stmt_of};
+ghost use Rattle.rhai_tree.specs.Reading.{callee_of, expr_of, exprs_of, mark_by, mark_of, stmt_of};
 ghost use Rattle.rhai_base.specs.Builtin.{operator_of};
 ghost use Rattle.rhai_assignment_rules.specs.Firing.{Fires, answer};
 ghost use Rattle.rhai_assignment_rules.specs.Settled as settled;

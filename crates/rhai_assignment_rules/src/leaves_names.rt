@@ -1,10 +1,10 @@
 //! Whether an expression leaves all names as they are.
 
-#![tactic(auto, using(rhai_reading::specs::Reading::shapes))]
+#![tactic(auto, using(rhai_tree::specs::Reading::shapes))]
 
 ghost use Rattle.std.specs.Prelude.{◌≡◌};
 ghost use Rattle.rhai_meaning.specs.OperatorCalls.{is_operator};
-ghost use Rattle.rhai_reading.specs.Reading.{callee_of, expr_of, stmt_of};
+ghost use Rattle.rhai_tree.specs.Reading.{callee_of, expr_of, stmt_of};
 ghost use Rattle.rhai_rewriting.specs.SelfAssign as spec;
 ghost use Rattle.rhai_assignment_rules.specs.WritingWalk as walk;
 

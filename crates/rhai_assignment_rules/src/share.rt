@@ -1,11 +1,11 @@
 //! The rules at shared names.
 
-#![tactic(auto, using(rhai_reading::specs::Reading::shapes, crate::proofs::Names::steps))]
+#![tactic(auto, using(rhai_tree::specs::Reading::shapes, crate::proofs::Names::steps))]
 
 ghost use Rattle.std.specs.Prelude.{◌≡◌, ◌&&◌, not, true, false, Bool, is_some};
 ghost use Rattle.rhai_known.specs.State.{known_of, progress};
 ghost use Rattle.rhai_meaning.specs.Engine.{Engine};
-ghost use Rattle.rhai_reading.specs.Reading.{shared_names, stmt_of};
+ghost use Rattle.rhai_tree.specs.Reading.{shared_names, stmt_of};
 ghost use Rattle.rhai_rewriting.specs.Known.{look, unknown};
 ghost use Rattle.rhai_assignment_rules.specs.Firing.{Fires, answer};
 ghost use Rattle.rhai_assignment_rules.specs.Settled as settled;

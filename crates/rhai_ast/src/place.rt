@@ -4,8 +4,8 @@
 
 ghost use Rattle.std.specs.Prelude.{◌≡◌};
 ghost use Rattle.rhai_nodes.specs.Placed.{placed, stmt_placed};
-ghost use Rattle.rhai_reading.specs.Positions.{position_of};
-ghost use Rattle.rhai_reading.specs.Reading.{expr_of, stmt_of};
+ghost use Rattle.rhai_tree.specs.Positions.{position_of};
+ghost use Rattle.rhai_tree.specs.Reading.{expr_of, stmt_of};
 
 use rhai_base::Position;
 use rhai_nodes::{place_expr, place_stmt};

@@ -1,12 +1,12 @@
 -- Values of different kinds in the operators' table.
 use Rattle.std.proofs.Common.{◌≡◌, ℕ, ℤ, List, Bool, false, Option, Some, None, map, refl, sym, ap, ◌∙◌}
-use Rattle.rhai_values.specs.declared.dynamic.Dynamic.{Dynamic}
-use Rattle.rhai_values.specs.declared.dynamic.Dynamic.TheVariants as dynamic
-use Rattle.rhai_values.specs.declared.fn_ptr.FnPtr.{FnPtr}
-use Rattle.rhai_values.specs.Value.{Text, Value, Values, UnitV, BoolV, IntV, CharV, TextV, ArrayV, MapV, PointerV, RangeV, RangeInclusiveV, values, Fields, fields}
+use Rattle.rhai_base.specs.declared.dynamic.Dynamic.{Dynamic}
+use Rattle.rhai_base.specs.declared.dynamic.Dynamic.TheVariants as dynamic
+use Rattle.rhai_base.specs.declared.fn_ptr.FnPtr.{FnPtr}
+use Rattle.rhai_base.specs.Value.{Text, Value, Values, UnitV, BoolV, IntV, CharV, TextV, ArrayV, MapV, PointerV, RangeV, RangeInclusiveV, values, Fields, fields}
 use Rattle.rhai_base.specs.Operators.{Operator, Computed, on_ints}
 use Rattle.rhai_base.specs.Builtin.{row, equality_of, unjoined}
-use Rattle.rhai_values.specs.Reading.{value_of, value_of-Unit, value_of-Bool, value_of-Int, value_of-Char, value_of-Str, value_of-Array, value_of-Map, value_of-FnPtr, value_of-Range, value_of-RangeInclusive, members_of, DynamicCase, dynamic_cases, unit_case, bool_case, int_case, char_case, str_case, array_case, map_case, fn_ptr_case, range_case, range_inclusive_case}
+use Rattle.rhai_base.specs.Reading.{value_of, value_of-Unit, value_of-Bool, value_of-Int, value_of-Char, value_of-Str, value_of-Array, value_of-Map, value_of-FnPtr, value_of-Range, value_of-RangeInclusive, members_of, DynamicCase, dynamic_cases, unit_case, bool_case, int_case, char_case, str_case, array_case, map_case, fn_ptr_case, range_case, range_inclusive_case}
 
 -- a value and one of another kind, by what they stand for
 abbrev Differs : Value → Value → Type 0

@@ -1,3 +1,9 @@
+pub mod Forms
+pub mod Hashable
+pub mod Exact
+pub mod Recovered
+pub mod Same
+pub mod Units
 pub mod Rows
 pub mod Differing
 pub mod Upward

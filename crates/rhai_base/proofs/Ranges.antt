@@ -1,6 +1,6 @@
 -- Ranges in the operators' table.
 use Rattle.std.proofs.Common.{◌≡◌, Bool, true, false, refl}
-use Rattle.rhai_values.specs.Value.{Value, UnitV, BoolV, IntV, CharV, TextV, ArrayV, MapV, PointerV, RangeV, RangeInclusiveV}
+use Rattle.rhai_base.specs.Value.{Value, UnitV, BoolV, IntV, CharV, TextV, ArrayV, MapV, PointerV, RangeV, RangeInclusiveV}
 use Rattle.rhai_base.specs.Operators.{binary, on_chars}
 use Rattle.rhai_base.specs.Builtin.{range_operator, range_between}
 

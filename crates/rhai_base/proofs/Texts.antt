@@ -1,9 +1,9 @@
 -- Which values are texts or characters.
 use Rattle.std.proofs.Common.{◌≡◌, ℕ, false, refl}
-use Rattle.rhai_values.specs.declared.dynamic.Dynamic.{Dynamic}
-use Rattle.rhai_values.specs.declared.dynamic.Dynamic.TheVariants as value
-use Rattle.rhai_values.specs.Reading.{value_of, DynamicCase, str_case, char_case, dynamic_cases}
-use Rattle.rhai_values.specs.Value.{Text, Value}
+use Rattle.rhai_base.specs.declared.dynamic.Dynamic.{Dynamic}
+use Rattle.rhai_base.specs.declared.dynamic.Dynamic.TheVariants as value
+use Rattle.rhai_base.specs.Reading.{value_of, DynamicCase, str_case, char_case, dynamic_cases}
+use Rattle.rhai_base.specs.Value.{Text, Value}
 use Rattle.rhai_base.specs.Builtin.{is_text}
 
 no_text : {v : Dynamic} {w : Value} → DynamicCase v w → ((t : Text) → v ≡ value.Str t → ⊥) → ((c : ℕ) → v ≡ value.Char c → ⊥) → false ≡ is_text w

@@ -1,3 +1,5 @@
+pub mod Value
+pub mod Reading
 pub mod Operators
 pub mod Builtin
 pub mod Ranges

@@ -1,7 +1,7 @@
 -- The operators and what the built-in ones answer.
 use Rattle.std.specs.Prelude.{ℕ, zero, suc, ◌-◌, ◌^◌, Bool, true, false, not, ◌&&◌, ◌||◌, List, [], ◌∷◌, ◌++◌, ℤ, pos, negsuc, ◌+ℤ◌, ◌-ℤ◌, ◌*ℤ◌, codes, ◌==◌, nat_lt, nat_le, int_lt, int_le, int_div, int_rem, bit_and, bit_or, bit_xor, if◌then◌else◌}
 use Rattle.std.specs.Char.{encode_utf8}
-use Rattle.rhai_values.specs.Value.{Text, Value, UnitV, BoolV, IntV, CharV, TextV, RangeV, RangeInclusiveV, same_text, same_int, same_bool, type_name}
+use Rattle.rhai_base.specs.Value.{Text, Value, UnitV, BoolV, IntV, CharV, TextV, RangeV, RangeInclusiveV, same_text, same_int, same_bool, type_name}
 
 pub data Operator : Type 0 where
   Plus : Operator

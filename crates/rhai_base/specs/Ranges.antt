@@ -6,7 +6,7 @@ use Rattle.rhai_base.specs.declared.range_case.RangeCase.{RangeCase}
 use Rattle.rhai_base.specs.declared.range_case.RangeCase.TheVariants.{ExclusiveInt, InclusiveInt}
 use Rattle.rhai_base.specs.declared.range_case.RangeCaseIter.{RangeCaseIter}
 use Rattle.rhai_base.specs.Upward.{upward}
-use Rattle.rhai_values.specs.Value.{Value, IntV}
+use Rattle.rhai_base.specs.Value.{Value, IntV}
 
 -- the integer is in the range; a range that was iterated over to its end holds none
 abbrev pub holds : RangeCase → ℤ → Bool

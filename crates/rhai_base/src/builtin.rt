@@ -1,16 +1,16 @@
 //! The operators that need no engine.
-#![tactic(auto, using(rhai_values::specs::Reading::kinds), unfolding(crate::specs::Operators::binary, crate::specs::Operators::on_chars, rhai_values::specs::Value::text_of))]
+#![tactic(auto, using(crate::specs::Reading::kinds), unfolding(crate::specs::Operators::binary, crate::specs::Operators::on_chars, crate::specs::Value::text_of))]
 
 ghost use Rattle.std.specs.Prelude.{◌≡◌, ◌++◌, IfOk};
-ghost use Rattle.rhai_values.specs.Value as model;
-ghost use Rattle.rhai_values.specs.Reading.{value_of};
+ghost use Rattle.rhai_base.specs.Value as model;
+ghost use Rattle.rhai_base.specs.Reading.{value_of};
 ghost use Rattle.rhai_base.specs.Operators as table;
 ghost use Rattle.rhai_base.specs.Builtin.{computed_of, answered, row, binary_at, unary_at, compared, equality_of, number_or_fault, plain_operator, unjoined, is_text, joins};
 
+use crate::dynamic::{Dynamic, INT};
 use crate::range_operators::range_of;
 use rhai_text::ImmutableString;
 use rhai_tokens::{Fault, OutOfMemory, Token};
-use rhai_values::{Dynamic, INT};
 use std::alloc::Global;
 use std::cmp::Ordering;
 

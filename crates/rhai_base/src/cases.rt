@@ -2,9 +2,9 @@
 
 ghost use Rattle.std.specs.Prelude.{◌≡◌};
 
+use crate::dynamic::Dynamic;
 use indexmap::IndexMap;
 use rhai_data::Seq;
-use rhai_values::Dynamic;
 use std::alloc::AllocError;
 use std::marker::Model;
 
@@ -40,9 +40,9 @@ impl Drop for Cases {
 impl Model for Cases {
     ghost use Rattle.std.specs.Prelude.{List};
     ghost use Rattle.std.specs.Coded.{coded_list, coded×};
-    ghost use Rattle.rhai_values.specs.declared.dynamic.Dynamic.{Dynamic};
+    ghost use Rattle.rhai_base.specs.declared.dynamic.Dynamic.{Dynamic};
     ghost use Rattle.rhai_base.specs.declared.cases.CaseBlocksList.{CaseBlocksList};
-    ghost use Rattle.rhai_values.specs.contracts.dynamic.Dynamic as value;
+    ghost use Rattle.rhai_base.specs.contracts.dynamic.Dynamic as value;
     ghost use Rattle.rhai_base.specs.contracts.cases.CaseBlocksList as blocks;
 
     ghost Value = { List (Dynamic × CaseBlocksList) };

@@ -1,11 +1,11 @@
 //! The ranges of a `switch`.
-#![tactic(auto, using(rhai_values::specs::Reading::kinds))]
+#![tactic(auto, using(crate::specs::Reading::kinds))]
 
 ghost use Rattle.std.specs.Prelude.{◌≡◌, ◌<◌, ◌-◌, ◌^◌, [], ◌↔◌, IsTrue, length, pos};
 ghost use Rattle.std.specs.Option.{SomeIff};
-ghost use Rattle.rhai_values.specs.Reading.{value_of};
+ghost use Rattle.rhai_base.specs.Reading.{value_of};
 
-use rhai_values::{Dynamic, INT};
+use crate::dynamic::{Dynamic, INT};
 use std::alloc::AllocError;
 use std::ops::{Range, RangeInclusive};
 

@@ -1,13 +1,13 @@
 //! Ranges, as the operators `..` and `..=` make them.
-#![tactic(auto, using(rhai_values::specs::Reading::kinds, crate::proofs::Ranges::range_row))]
+#![tactic(auto, using(crate::specs::Reading::kinds, crate::proofs::Ranges::range_row))]
 
 ghost use Rattle.std.specs.Prelude.{◌≡◌};
 ghost use Rattle.rhai_base.specs.Operators.{binary};
 ghost use Rattle.rhai_base.specs.Builtin.{answered, computed_of, end_or, range_between, range_operator, range_value};
-ghost use Rattle.rhai_values.specs.Reading.{value_of};
+ghost use Rattle.rhai_base.specs.Reading.{value_of};
 
+use crate::dynamic::{Dynamic, INT};
 use rhai_tokens::Fault;
-use rhai_values::{Dynamic, INT};
 
 /// What the table holds for `..=` where the end belongs to the range, or else for `..`. One end may be
 /// left out, as unit: a missing start is 0, a missing end the greatest integer.

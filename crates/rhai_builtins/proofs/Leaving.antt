@@ -1,11 +1,11 @@
 -- Statements that leave with a value.
 use Rattle.std.proofs.Common.{◌≡◌, Some}
-use Rattle.rhai_names.specs.declared.flags.ASTFlags.{ASTFlags}
+use Rattle.rhai_tokens.specs.declared.flags.ASTFlags.{ASTFlags}
 use Rattle.rhai_tokens.specs.declared.position.Position.{Position}
 use Rattle.rhai_tree.specs.declared.expr.Expr as declared_expr
 use Rattle.rhai_tree.specs.declared.stmt.Stmt.TheVariants as stmt_kind
 use Rattle.rhai_meaning.specs.Tree.{Return, an_expr}
-use Rattle.rhai_reading.specs.Reading.{breaks, expr_of, is_exported, stmt_of, stmt_of-Return}
+use Rattle.rhai_tree.specs.Reading.{breaks, expr_of, is_exported, stmt_of, stmt_of-Return}
 
 pub returned : (e : declared_expr.Expr) (k : ASTFlags) (p : Position) → stmt_of (stmt_kind.Return (Some e) k p) ≡ Return (breaks k) (is_exported k) (an_expr (expr_of e))
 returned e k p = stmt_of-Return (Some e) k p

@@ -10,7 +10,7 @@ use Rattle.rhai_tree.specs.declared.stmt.FlowControl.{FlowControl}
 use Rattle.rhai_tree.specs.declared.stmt.Stmt as declared_stmt
 use Rattle.rhai_tree.specs.declared.switch.SwitchBlock.{SwitchBlock}
 use Rattle.rhai_tree.specs.declared.switch.SwitchCasesCollection.{SwitchCasesCollection}
-use Rattle.rhai_reading.specs.Reading.{cases_of, expressions_of, subject_of, table_by, table_of}
+use Rattle.rhai_tree.specs.Reading.{cases_of, expressions_of, subject_of, table_by, table_of}
 
 abbrev Parts : Type 0
 Parts = open_one.SwitchBlock-F declared_expr.Expr declared_stmt.Stmt StmtBlock BinaryExpr FnCallExpr FlowControl SwitchBlock SwitchCasesCollection

@@ -1,6 +1,6 @@
 -- The statements of the built-in scripts, in the order in which the program lists them, and the functions of the one that has any.
 use Rattle.std.specs.Prelude.{List, [], ◌∷◌, Some, None, pos, negsuc, false, true, codes}
-use Rattle.rhai_values.specs.Value.{IntV, ArrayV, values}
+use Rattle.rhai_base.specs.Value.{IntV, ArrayV, values}
 use Rattle.rhai_base.specs.Operators.{Plus, Multiply, Divide, EqualTo}
 use Rattle.rhai_meaning.specs.Tree.{NoToken, SwitchCase, SwitchTable, Expr, BoolConstant, IntegerConstant, StringConstant, UnitConstant, Variable, InterpolatedString, BlockExpr, FnCall, MethodCall, Dot, Coalesce, no_exprs, expr, exprs, an_expr, Arms, no_arms, arm, Stmt, If, Switch, While, For, Var, Block, ExprStmt, Return, Import, Stmts, no_stmts, stmts, Function}
 use Rattle.rhai_builtins.specs.Trees.{called, int, variable, array, over, going_on, element, alone, evaluates, declares, assigns, calls}

@@ -1,6 +1,6 @@
 -- Short forms of trees.
 use Rattle.std.specs.Prelude.{ℕ, Bool, List, false, None, pos}
-use Rattle.rhai_values.specs.Value.{Text}
+use Rattle.rhai_base.specs.Value.{Text}
 use Rattle.rhai_base.specs.Operators.{Operator, symbol}
 pub use Rattle.rhai_make.specs.Trees.{called, variable, operation, element}
 use Rattle.rhai_meaning.specs.Tree.{NoToken, OfOperator, ChainFlags, Expr, IntegerConstant, ArrayOf, no_exprs, expr, exprs, Stmt, Var, Assignment, FnCallStmt, ExprStmt, Stmts, no_stmts, stmt}

@@ -1,9 +1,9 @@
 //! The script of constants and a variable.
-#![tactic(auto, using(rhai_reading::specs::Reading::shapes))]
+#![tactic(auto, using(rhai_tree::specs::Reading::shapes))]
 
 ghost use Rattle.std.specs.Prelude.{◌≡◌, IfOk, Some};
 ghost use Rattle.rhai_tokens.specs.Symbols.{token_text};
-ghost use Rattle.rhai_reading.specs.Reading.{expr_of, stmt_of, stmts_of, mark_of};
+ghost use Rattle.rhai_tree.specs.Reading.{expr_of, stmt_of, stmts_of, mark_of};
 ghost use Rattle.rhai_builtins.specs.Trees.{operation, variable};
 ghost use Rattle.rhai_builtins.specs.Statements as spec;
 

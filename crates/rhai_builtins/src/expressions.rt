@@ -1,9 +1,9 @@
 //! Expressions that are built by hand, without positions.
-#![tactic(auto, using(rhai_reading::specs::Reading::shapes))]
+#![tactic(auto, using(rhai_tree::specs::Reading::shapes))]
 
 ghost use Rattle.std.specs.Prelude.{◌≡◌, ◌∷◌, [], IfOk, Ok, None, Some, true};
 ghost use Rattle.rhai_tokens.specs.Symbols.{token_text};
-ghost use Rattle.rhai_reading.specs.Reading.{callee_of, expr_of, exprs_of, mark_of};
+ghost use Rattle.rhai_tree.specs.Reading.{callee_of, expr_of, exprs_of, mark_of};
 ghost use Rattle.rhai_meaning.specs.Tree.{ArrayOf, BoolConstant, IntegerConstant, StringConstant};
 ghost use Rattle.rhai_make.specs.Trees.{called, element, operation, variable};
 

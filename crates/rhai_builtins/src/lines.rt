@@ -1,9 +1,9 @@
 //! Statements that are built by hand, without positions, and lists of them.
-#![tactic(auto, using(rhai_reading::specs::Reading::shapes))]
+#![tactic(auto, using(rhai_tree::specs::Reading::shapes))]
 
 ghost use Rattle.std.specs.Prelude.{◌≡◌, ◌∷◌, ◌++◌, [], IfOk, Ok};
 ghost use Rattle.rhai_tree.specs.declared.stmt.Stmt.{Stmt};
-ghost use Rattle.rhai_reading.specs.Reading.{expr_of, is_const, is_exported, stmt_of, stmts_of};
+ghost use Rattle.rhai_tree.specs.Reading.{expr_of, is_const, is_exported, stmt_of, stmts_of};
 ghost use Rattle.rhai_meaning.specs.Tree.{Var};
 ghost use Rattle.rhai_builtins.specs.Trees.{assigns, calls, evaluates};
 

@@ -1,10 +1,10 @@
 //! The script that comes of `fn foo(x) { 42 + x } foo(1)`, merged with ``fn foo(n) { `hello${n}` } foo("!")``: the
 //! later function takes the place of the earlier one.
-#![tactic(auto, using(rhai_reading::specs::Reading::shapes))]
+#![tactic(auto, using(rhai_tree::specs::Reading::shapes))]
 
 ghost use Rattle.std.specs.Prelude.{◌≡◌, ◌∷◌, [], IfOk, codes, map};
 ghost use Rattle.std.specs.Rc.{rc_value};
-ghost use Rattle.rhai_reading.specs.Reading.{expr_of, function_of, stmt_of, stmts_of};
+ghost use Rattle.rhai_tree.specs.Reading.{expr_of, function_of, stmt_of, stmts_of};
 ghost use Rattle.rhai_meaning.specs.Tree.{StringConstant};
 ghost use Rattle.rhai_builtins.specs.Trees.{calls, evaluates};
 ghost use Rattle.rhai_builtins.specs.Statements as spec;

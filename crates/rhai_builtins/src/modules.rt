@@ -1,8 +1,8 @@
 //! The script that imports and exports.
-#![tactic(auto, using(rhai_reading::specs::Reading::shapes))]
+#![tactic(auto, using(rhai_tree::specs::Reading::shapes))]
 
 ghost use Rattle.std.specs.Prelude.{◌≡◌, ◌∷◌, [], IfOk};
-ghost use Rattle.rhai_reading.specs.Reading.{expr_of, path_of, stmt_of, stmts_of};
+ghost use Rattle.rhai_tree.specs.Reading.{expr_of, path_of, stmt_of, stmts_of};
 ghost use Rattle.rhai_meaning.specs.Tree.{ExprStmt, Variable};
 ghost use Rattle.rhai_builtins.specs.Statements as spec;
 

@@ -1,8 +1,8 @@
 //! The scripts that declare names.
-#![tactic(auto, using(rhai_reading::specs::Reading::shapes))]
+#![tactic(auto, using(rhai_tree::specs::Reading::shapes))]
 
 ghost use Rattle.std.specs.Prelude.{◌≡◌, ◌∷◌, [], IfOk, codes, false};
-ghost use Rattle.rhai_reading.specs.Reading.{expr_of, stmt_of, stmts_of};
+ghost use Rattle.rhai_tree.specs.Reading.{expr_of, stmt_of, stmts_of};
 ghost use Rattle.rhai_meaning.specs.Tree.{BlockExpr, ExprStmt};
 ghost use Rattle.rhai_builtins.specs.Trees as tree;
 ghost use Rattle.rhai_builtins.specs.Statements as spec;

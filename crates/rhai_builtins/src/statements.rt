@@ -1,10 +1,10 @@
 //! The scripts of one statement, or of statements without names.
-#![tactic(auto, using(rhai_reading::specs::Reading::shapes))]
+#![tactic(auto, using(rhai_tree::specs::Reading::shapes))]
 
 ghost use Rattle.std.specs.Prelude.{◌≡◌, IfOk, Some, false};
 ghost use Rattle.rhai_base.specs.Operators.{Plus};
 ghost use Rattle.rhai_tokens.specs.Symbols.{token_text};
-ghost use Rattle.rhai_reading.specs.Reading.{expr_of, stmt_of, stmts_of, mark_of};
+ghost use Rattle.rhai_tree.specs.Reading.{expr_of, stmt_of, stmts_of, mark_of};
 ghost use Rattle.rhai_meaning.specs.Tree.{IntegerConstant, Return, an_expr};
 ghost use Rattle.rhai_builtins.specs.Trees.{element, evaluates, int, operation, over};
 ghost use Rattle.rhai_builtins.specs.Statements.{bits_statements, coalesce_statements, divide_statements, endless_statements, first_condition, first_statements, index_statements, return_statements, tail_statements};

@@ -1,8 +1,8 @@
 //! The script of a `switch`.
-#![tactic(auto, using(rhai_reading::specs::Reading::shapes, rhai_values::specs::Reading::kinds, crate::proofs::Switches::made))]
+#![tactic(auto, using(rhai_tree::specs::Reading::shapes, rhai_base::specs::Reading::kinds, crate::proofs::Switches::made))]
 
 ghost use Rattle.std.specs.Prelude.{◌≡◌, ◌∷◌, [], IfOk, map};
-ghost use Rattle.rhai_reading.specs.Reading.{arms_of, case_of, expr_of, expressions_of, stmts_of, table_of};
+ghost use Rattle.rhai_tree.specs.Reading.{arms_of, case_of, expr_of, expressions_of, stmts_of, table_of};
 ghost use Rattle.rhai_meaning.specs.Tree.{IntegerConstant};
 ghost use Rattle.rhai_builtins.specs.Trees.{array, int};
 ghost use Rattle.rhai_builtins.specs.Statements as spec;

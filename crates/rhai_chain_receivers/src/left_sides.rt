@@ -1,9 +1,9 @@
 //! What an expression is as a left side.
 
-#![tactic(auto, using(rhai_reading::specs::Reading::shapes))]
+#![tactic(auto, using(rhai_tree::specs::Reading::shapes))]
 
 ghost use Rattle.std.specs.Prelude.{◌≤◌, IfSome};
-ghost use Rattle.rhai_reading.specs.Reading.{expr_of};
+ghost use Rattle.rhai_tree.specs.Reading.{expr_of};
 ghost use Rattle.rhai_meaning.specs.Weight.{expr_weight};
 ghost use Rattle.rhai_run_nodes.specs.LeftSides as spec;
 

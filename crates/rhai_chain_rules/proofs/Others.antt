@@ -1,13 +1,13 @@
 -- Values and nodes by their kinds.
 use Rattle.std.proofs.Common.{◌≡◌, false, None, refl}
-use Rattle.rhai_values.specs.declared.dynamic.Dynamic.{Dynamic}
-use Rattle.rhai_values.specs.declared.dynamic.Dynamic.TheVariants as dynamic
-use Rattle.rhai_values.specs.declared.fn_ptr.FnPtr.{FnPtr}
-use Rattle.rhai_values.specs.Reading.{value_of, DynamicCase, fn_ptr_case, dynamic_cases}
-use Rattle.rhai_values.specs.Value.{Value}
+use Rattle.rhai_base.specs.declared.dynamic.Dynamic.{Dynamic}
+use Rattle.rhai_base.specs.declared.dynamic.Dynamic.TheVariants as dynamic
+use Rattle.rhai_base.specs.declared.fn_ptr.FnPtr.{FnPtr}
+use Rattle.rhai_base.specs.Reading.{value_of, DynamicCase, fn_ptr_case, dynamic_cases}
+use Rattle.rhai_base.specs.Value.{Value}
 use Rattle.rhai_meaning.specs.Constants.{constant_for}
 use Rattle.rhai_meaning.specs.Tree.{Expr}
-use Rattle.rhai_reading.proofs.Cases.{ExprCase, dot_case, index_case}
+use Rattle.rhai_tree.proofs.Cases.{ExprCase, dot_case, index_case}
 use Rattle.rhai_rewriting.specs.Parts.{constant_of}
 use Rattle.rhai_rewriting.specs.Steps.{Place, is_chain_node}
 use Rattle.rhai_tree.specs.declared.expr.Expr as declared_expr

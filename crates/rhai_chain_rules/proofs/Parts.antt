@@ -1,7 +1,7 @@
 -- Parts that a step answers: they are no places, and as reduced and as clear as the base that they were parts of.
 use Rattle.std.proofs.Common.{◌≡◌, ℕ, zero, suc, Bool, true, false, cond, List, Option, Some, None, refl, subst}
 use Rattle.std.specs.Prelude.{◌&&◌}
-use Rattle.rhai_values.specs.Value.{Text, Value, UnitV, same_text}
+use Rattle.rhai_base.specs.Value.{Text, Value, UnitV, same_text}
 use Rattle.rhai_meaning.specs.Desugar.{root_of}
 use Rattle.rhai_meaning.specs.Engine.{Engine, or_else}
 use Rattle.rhai_meaning.specs.Queries.{is_pure_expr, are_pure_exprs, are_pure_pairs, is_pure, are_pure}

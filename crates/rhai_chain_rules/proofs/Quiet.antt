@@ -2,7 +2,7 @@
 use Rattle.std.proofs.Common.{◌≡◌, ℕ, zero, suc, Bool, true, false, not, cond, List, [], ◌∷◌, Option, Some, None, is_some, refl, sym, ap, ◌∙◌, subst}
 use Rattle.std.specs.Prelude.{ℤ, ◌&&◌, ◌⊎◌, if◌then◌else◌}
 use Rattle.std.proofs.Common.{inl, inr}
-use Rattle.rhai_values.specs.Value.{Text, Value, UnitV, IntV, TextV, values, same_text, is_unit}
+use Rattle.rhai_base.specs.Value.{Text, Value, UnitV, IntV, TextV, values, same_text, is_unit}
 use Rattle.rhai_meaning.specs.Constants.{constant_value, constant_values, constant_entries, array_value, map_value, joined_value, value_and, entry_and, is_constant}
 use Rattle.rhai_meaning.specs.Elements.{count, value_at, at_index, index_in, element, entry, fields_of}
 use Rattle.rhai_meaning.specs.Engine.{Engine, or_else}

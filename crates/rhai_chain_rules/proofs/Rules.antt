@@ -1,7 +1,7 @@
 -- The rules at a chain: a lemma for each, whether the chain ends with its first step or goes on.
 use Rattle.std.proofs.Common.{◌≡◌, ℕ, Bool, true, false, not, List, [], ◌∷◌, Option, Some, None, refl, sym, ap, ◌∙◌, subst, inl, inr}
 use Rattle.std.specs.Prelude.{ℤ, ◌&&◌, ◌⊎◌, codes, if◌then◌else◌}
-use Rattle.rhai_values.specs.Value.{Text, Value, BoolV, IntV, TextV, MapV, Fields, same_text, is_unit}
+use Rattle.rhai_base.specs.Value.{Text, Value, BoolV, IntV, TextV, MapV, Fields, same_text, is_unit}
 use Rattle.rhai_meaning.specs.Constants.{constant_value}
 use Rattle.rhai_meaning.specs.Elements.{at_index, index_in, entry}
 use Rattle.rhai_meaning.specs.Engine.{Engine, mapped_type_name}

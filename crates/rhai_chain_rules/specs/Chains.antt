@@ -1,11 +1,11 @@
 -- What the functions at a chain answer: the part of the first step, what the chain becomes, or that no step answers.
 use Rattle.std.specs.Prelude.{◌≡◌, Bool, true, false, ◌&&◌, List, Option, Some, None}
 use Rattle.std.specs.Option.{option_map}
-use Rattle.rhai_values.specs.Value.{Value}
+use Rattle.rhai_base.specs.Value.{Value}
 use Rattle.rhai_meaning.specs.Engine.{Engine, or_else}
 use Rattle.rhai_meaning.specs.Queries.{is_unit}
 use Rattle.rhai_meaning.specs.Tree.{ChainFlags, Expr, UnitConstant, Dot, Index}
-use Rattle.rhai_reading.specs.Reading.{expr_of}
+use Rattle.rhai_tree.specs.Reading.{expr_of}
 use Rattle.rhai_rewriting.specs.Known.{Known}
 use Rattle.rhai_rewriting.specs.Parts.{link}
 use Rattle.rhai_rewriting.specs.Steps.{AnswersNone, Place}

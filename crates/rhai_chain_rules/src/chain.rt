@@ -1,12 +1,12 @@
 //! The rules at a chain whose parts are reduced, in its place. Which one fires is found by reference; then the part
 //! that its first step answers takes the place of the base and of that step. Where none fires nothing is moved.
 
-#![tactic(auto, using(rhai_reading::specs::Reading::shapes, rhai_values::specs::Reading::kinds))]
+#![tactic(auto, using(rhai_tree::specs::Reading::shapes, rhai_base::specs::Reading::kinds))]
 
 ghost use Rattle.std.specs.Prelude.{◌≡◌, ◌&&◌, IfOk, Some, true};
 ghost use Rattle.std.specs.Option.{option_map};
-ghost use Rattle.rhai_values.specs.Reading.{value_of};
-ghost use Rattle.rhai_reading.specs.Reading.{breaks, chain_flags, expr_of, is_negated};
+ghost use Rattle.rhai_base.specs.Reading.{value_of};
+ghost use Rattle.rhai_tree.specs.Reading.{breaks, chain_flags, expr_of, is_negated};
 ghost use Rattle.rhai_meaning.specs.Engine.{Engine};
 ghost use Rattle.rhai_meaning.specs.Queries as queries;
 ghost use Rattle.rhai_meaning.specs.Tree.{DynamicConstant, UnitConstant};

@@ -1,9 +1,9 @@
 //! A chain by its first step, and what is left of it behind that.
 
-#![tactic(auto, using(rhai_reading::specs::Reading::shapes))]
+#![tactic(auto, using(rhai_tree::specs::Reading::shapes))]
 
 ghost use Rattle.std.specs.Prelude.{◌≡◌, true, false};
-ghost use Rattle.rhai_reading.specs.Reading.{breaks, expr_of};
+ghost use Rattle.rhai_tree.specs.Reading.{breaks, expr_of};
 ghost use Rattle.rhai_meaning.specs.Tree.{UnitConstant};
 ghost use Rattle.rhai_steps.specs.Places.{place_of};
 ghost use Rattle.rhai_steps.specs.Standing as standing;

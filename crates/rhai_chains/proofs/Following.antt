@@ -1,9 +1,9 @@
 -- Chains whose steps run nothing.
 use Rattle.std.proofs.Common.{◌≡◌, ℤ, Bool, false, cond, ◌&&◌, [], ◌∷◌, ◌++◌, Option, Some, None, refl, sym, ap, ◌∙◌, subst}
 use Rattle.std.specs.Prelude.{IfSome, codes, option_map}
-use Rattle.rhai_values.specs.Value.{Value, Values, IntV, ArrayV, MapV, Fields}
+use Rattle.rhai_base.specs.Value.{Value, Values, IntV, ArrayV, MapV, Fields}
 use Rattle.rhai_tree.specs.declared.expr.Expr.{Expr}
-use Rattle.rhai_reading.specs.Reading.{expr_of, is_negated}
+use Rattle.rhai_tree.specs.Reading.{expr_of, is_negated}
 use Rattle.rhai_meaning.specs.Act as act
 use Rattle.rhai_meaning.specs.Act.{Act, Read}
 use Rattle.rhai_meaning.specs.ActForms.{choose, give, unit}

@@ -1,7 +1,7 @@
 -- Acts after which there are the same names.
 use Rattle.std.proofs.Common.{ℕ, Bool, true, false, List, [], ◌∷◌, Option, Some, None, refl}
 use Rattle.std.specs.Prelude.{codes}
-use Rattle.rhai_values.specs.Value.{Text, Value, IntV, TextV, ArrayV, MapV}
+use Rattle.rhai_base.specs.Value.{Text, Value, IntV, TextV, ArrayV, MapV}
 use Rattle.rhai_base.specs.Operators.{Operator, Computed, NoEntry, Is, Overflows, symbol}
 use Rattle.rhai_meaning.specs.Act as act
 use Rattle.rhai_meaning.specs.Act.{Act, AskHost, At, Ended, Gives, Halted, Leaves, Store, HostCall, run, and_then}

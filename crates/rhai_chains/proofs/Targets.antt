@@ -1,12 +1,12 @@
 -- Assignments to parts of values, step after step.
 use Rattle.std.proofs.Common.{◌≡◌, Bool, List, Option, Some, None, Result, Ok, Err, refl, sym, ap, subst, ◌∙◌, arith}
 use Rattle.rhai_tokens.specs.declared.token.Token.{Token}
-use Rattle.rhai_values.specs.declared.dynamic.Dynamic.{Dynamic}
-use Rattle.rhai_values.specs.Reading.{value_of}
-use Rattle.rhai_values.specs.Value.{Text, Value, UnitV}
+use Rattle.rhai_base.specs.declared.dynamic.Dynamic.{Dynamic}
+use Rattle.rhai_base.specs.Reading.{value_of}
+use Rattle.rhai_base.specs.Value.{Text, Value, UnitV}
 use Rattle.rhai_base.specs.Builtin.{operator_of}
 use Rattle.rhai_base.specs.Operators.{Operator}
-use Rattle.rhai_reading.specs.Reading.{is_negated}
+use Rattle.rhai_tree.specs.Reading.{is_negated}
 use Rattle.rhai_meaning.specs.Act.{Act, Fail, NoPlace}
 use Rattle.rhai_meaning.specs.ActForms.{give, ◌>>=◌}
 use Rattle.rhai_meaning.specs.Calls.{assigned}

@@ -1,8 +1,8 @@
 -- Chains whose steps run nothing, to parts of arrays and maps: their place need not be looked up again.
 use Rattle.std.specs.Prelude.{◌≡◌, ℤ, Bool, Some}
-use Rattle.rhai_values.specs.Value.{Value, IntV}
+use Rattle.rhai_base.specs.Value.{Value, IntV}
 use Rattle.rhai_tree.specs.declared.expr.Expr.{Expr}
-use Rattle.rhai_reading.specs.Reading.{expr_of}
+use Rattle.rhai_tree.specs.Reading.{expr_of}
 use Rattle.rhai_meaning.specs.Act.{Act}
 use Rattle.rhai_meaning.specs.Chains as chains
 use Rattle.rhai_meaning.specs.Desugar.{core_expr}

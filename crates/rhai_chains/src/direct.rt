@@ -1,7 +1,7 @@
 //! Chains whose steps run nothing: properties of maps, and elements of arrays by integers and by names. They are
 //! followed by reference, so the base is looked up once.
 
-#![tactic(auto, using(rhai_reading::specs::Reading::shapes, rhai_values::specs::Reading::kinds))]
+#![tactic(auto, using(rhai_tree::specs::Reading::shapes, rhai_base::specs::Reading::kinds))]
 
 ghost use Rattle.std.specs.Prelude.{◌≡◌, IfOk, IfSome, Some};
 ghost use Rattle.rhai_chains.specs.Direct.{Comes, ComesFrom, IsIndex, StepsTo};
@@ -10,8 +10,8 @@ ghost use Rattle.rhai_machine.specs.Setting.{setting};
 ghost use Rattle.rhai_places.specs.Reading.{part_value};
 ghost use Rattle.rhai_run_nodes.specs.Variables.{root_meant};
 ghost use Rattle.rhai_state.specs.State.{store_of};
-ghost use Rattle.rhai_values.specs.Reading.{value_of};
-ghost use Rattle.rhai_values.specs.Value.{IntV};
+ghost use Rattle.rhai_base.specs.Reading.{value_of};
+ghost use Rattle.rhai_base.specs.Value.{IntV};
 ghost use Rattle.rhai_walk.specs.declared.node.ChainType.TheVariants as chain_type;
 
 use bitflags::Flags;

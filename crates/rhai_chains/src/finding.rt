@@ -1,14 +1,14 @@
 //! Parts of what a chain has come to: properties and indices.
 
-#![tactic(auto, using(rhai_reading::specs::Reading::shapes, rhai_values::specs::Reading::kinds, rhai_machine::proofs::Chaining::chaining))]
+#![tactic(auto, using(rhai_tree::specs::Reading::shapes, rhai_base::specs::Reading::kinds, rhai_machine::proofs::Chaining::chaining))]
 
 ghost use Rattle.std.specs.Prelude.{◌≡◌, [], ◌∷◌, codes, IfOk, Some};
 ghost use Rattle.rhai_machine.specs.Chaining.{StepsOn, names_meant};
 ghost use Rattle.rhai_machine.specs.Setting.{setting};
 ghost use Rattle.rhai_state.specs.Runs.{Leaving, stop_of};
 ghost use Rattle.rhai_state.specs.State.{store_of};
-ghost use Rattle.rhai_values.specs.Reading.{value_of};
-ghost use Rattle.rhai_values.specs.Value.{TextV};
+ghost use Rattle.rhai_base.specs.Reading.{value_of};
+ghost use Rattle.rhai_base.specs.Value.{TextV};
 ghost use Rattle.rhai_meaning.specs.Act.{Throws};
 ghost use Rattle.rhai_machine.specs.Targets.{Finds, found_in};
 ghost use Rattle.rhai_meaning.specs.Chains as chains;

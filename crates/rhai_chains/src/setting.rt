@@ -1,14 +1,14 @@
 //! Writes to parts: properties, indices, and where a last step leads.
 
-#![tactic(auto, using(rhai_reading::specs::Reading::shapes, rhai_values::specs::Reading::kinds, rhai_machine::proofs::Chaining::chaining))]
+#![tactic(auto, using(rhai_tree::specs::Reading::shapes, rhai_base::specs::Reading::kinds, rhai_machine::proofs::Chaining::chaining))]
 
 ghost use Rattle.std.specs.Prelude.{[], ◌∷◌, codes};
 ghost use Rattle.rhai_machine.specs.Chaining.{access_meant, names_meant};
 ghost use Rattle.rhai_machine.specs.Setting.{setting};
 ghost use Rattle.rhai_state.specs.Runs.{Acting, Leads, given};
 ghost use Rattle.rhai_state.specs.State.{store_of};
-ghost use Rattle.rhai_values.specs.Reading.{value_of};
-ghost use Rattle.rhai_values.specs.Value.{UnitV};
+ghost use Rattle.rhai_base.specs.Reading.{value_of};
+ghost use Rattle.rhai_base.specs.Value.{UnitV};
 ghost use Rattle.rhai_meaning.specs.Chains as chains;
 ghost use Rattle.rhai_machine.specs.declared.steps.placing.Current.TheVariants as kind;
 ghost use Rattle.rhai_machine.specs.Placing as spec;

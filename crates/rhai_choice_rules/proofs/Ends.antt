@@ -2,7 +2,7 @@
 use Rattle.std.proofs.Common.{◌≡◌, Bool, true, false, List, [], ◌∷◌, ◌++◌, refl, sym, ap, ◌∙◌}
 use Rattle.rhai_tree.specs.declared.expr.Expr as declared_expr
 use Rattle.rhai_meaning.specs.Tree.{expr}
-use Rattle.rhai_reading.specs.Reading.{expr_of, exprs_of}
+use Rattle.rhai_tree.specs.Reading.{expr_of, exprs_of}
 use Rattle.rhai_rewriting.specs.Answering.{is_always}
 use Rattle.rhai_rewriting.specs.Operands.{with_last}
 use Rattle.rhai_choice_rules.specs.Settled.{ends_false}

@@ -3,7 +3,7 @@ use Rattle.std.proofs.Common.{◌≡◌, ◌≤◌, Bool, true, false, not, ◌&
 use Rattle.rhai_tree.specs.declared.stmt.Stmt as declared_stmt
 use Rattle.rhai_meaning.specs.Constants.{constant_bool}
 use Rattle.rhai_meaning.specs.Tree.{Expr, And, Exprs, no_exprs, expr, Stmt, If, Stmts, no_stmts, stmt}
-use Rattle.rhai_reading.specs.Reading.{stmts_of}
+use Rattle.rhai_tree.specs.Reading.{stmts_of}
 use Rattle.rhai_rewriting.specs.Operands.{with_last}
 use Rattle.rhai_rewriting.specs.Rules as rule
 use Rattle.rhai_rewriting.specs.Steps.{StmtRewrite}

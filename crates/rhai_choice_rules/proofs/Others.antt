@@ -3,7 +3,7 @@ use Rattle.std.proofs.Common.{◌≡◌, Bool, true, false, refl}
 use Rattle.rhai_tree.specs.declared.expr.Expr as declared_expr
 use Rattle.rhai_tree.specs.declared.stmt.Stmt as declared_stmt
 use Rattle.rhai_meaning.specs.Tree.{Expr, Stmt}
-use Rattle.rhai_reading.proofs.Cases.{ExprCase, and_case, StmtCase, if_case}
+use Rattle.rhai_tree.proofs.Cases.{ExprCase, and_case, StmtCase, if_case}
 use Rattle.rhai_steps.proofs.NodeKinds.{NoAnd, NoIf}
 use Rattle.rhai_choice_rules.specs.Settled.{is_settled, reopens, goes_on, is_and, is_bare_if, is_nest}
 

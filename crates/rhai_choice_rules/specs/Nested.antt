@@ -1,7 +1,7 @@
 -- An `if` by its declared parts, and an `&&` that took an operand.
 use Rattle.rhai_tree.specs.declared.stmt.FlowControl.{FlowControl}
 use Rattle.rhai_meaning.specs.Tree.{Expr, And, Exprs, Stmt, If}
-use Rattle.rhai_reading.specs.Reading.{expr_of, stmts_of}
+use Rattle.rhai_tree.specs.Reading.{expr_of, stmts_of}
 use Rattle.rhai_rewriting.specs.Operands.{with_last}
 
 abbrev pub if_of : FlowControl → Stmt

@@ -1,11 +1,11 @@
 //! An `if` alone in an `if`.
 
-#![tactic(auto, using(rhai_reading::specs::Reading::shapes))]
+#![tactic(auto, using(rhai_tree::specs::Reading::shapes))]
 
 ghost use Rattle.std.specs.Prelude.{◌≡◌, true, false, Bool, None, OnOk, IfOk};
 ghost use Rattle.rhai_meaning.specs.Constants as constants;
 ghost use Rattle.rhai_meaning.specs.Tree.{And, If, expr, no_exprs, no_stmts, stmt};
-ghost use Rattle.rhai_reading.specs.Reading.{expr_of, exprs_of, stmt_of, stmts_of};
+ghost use Rattle.rhai_tree.specs.Reading.{expr_of, exprs_of, stmt_of, stmts_of};
 ghost use Rattle.rhai_rewriting.specs.Answering.{is_always};
 ghost use Rattle.rhai_rewriting.specs.Operands.{with_last};
 ghost use Rattle.rhai_rewriting.specs.Steps.{StmtRewrite};

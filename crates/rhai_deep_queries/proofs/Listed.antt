@@ -5,7 +5,7 @@ use Rattle.std.specs.declared.alloc.Global.{Global}
 use Rattle.std.specs.declared.rc.Rc.{Rc}
 use Rattle.rhai_tree.specs.declared.script_fn.ScriptFuncDef.{ScriptFuncDef}
 use Rattle.rhai_meaning.specs.Tree.{Function}
-use Rattle.rhai_reading.specs.Reading.{function_of}
+use Rattle.rhai_tree.specs.Reading.{function_of}
 
 pub listed : (fs : List (Rc ScriptFuncDef Global)) → map function_of (map rc_value fs) ≡ map (λ f. function_of f.value) fs
 listed [] = refl

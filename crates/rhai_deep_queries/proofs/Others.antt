@@ -1,8 +1,8 @@
 -- All other nodes, where a match names some.
 use Rattle.std.proofs.Common.{◌≡◌, true, false, Option, refl}
 use Rattle.std.specs.declared.num.NonZeroUsize.{NonZeroUsize}
-use Rattle.rhai_names.specs.declared.flags.ASTFlags.{ASTFlags}
-use Rattle.rhai_names.specs.declared.ident.Ident.{Ident}
+use Rattle.rhai_tokens.specs.declared.flags.ASTFlags.{ASTFlags}
+use Rattle.rhai_tokens.specs.declared.ident.Ident.{Ident}
 use Rattle.rhai_tokens.specs.declared.op_assignment.OpAssignment.{OpAssignment}
 use Rattle.rhai_tokens.specs.declared.position.Position.{Position}
 use Rattle.rhai_tree.specs.declared.expr.BinaryExpr.{BinaryExpr}
@@ -14,7 +14,7 @@ use Rattle.rhai_tree.specs.declared.stmt.Stmt as declared_stmt
 use Rattle.rhai_tree.specs.declared.stmt.Stmt.TheVariants as stmt_kind
 use Rattle.rhai_meaning.specs.Tree.{Expr, Stmt}
 use Rattle.rhai_meaning.specs.Walk.{OfExpr, OfStmt}
-use Rattle.rhai_reading.proofs.Cases.{ExprCase, StmtCase, call_case, call_statement_case, noop_case, while_case, do_case, for_case, var_case, assignment_case, try_catch_case, break_loop_case, export_case}
+use Rattle.rhai_tree.proofs.Cases.{ExprCase, StmtCase, call_case, call_statement_case, noop_case, while_case, do_case, for_case, var_case, assignment_case, try_catch_case, break_loop_case, export_case}
 use Rattle.rhai_rewriting.specs.Evals.{is_no_eval}
 use Rattle.rhai_rewriting.specs.Scripts.{is_capturing}
 use Rattle.rhai_rewriting.specs.SurelyUnit.{is_surely_unit}

@@ -5,7 +5,7 @@ use Rattle.std.specs.declared.alloc.Global.{Global}
 use Rattle.std.specs.declared.rc.Rc.{Rc}
 use Rattle.rhai_tree.specs.declared.script_fn.ScriptFuncDef as declared
 use Rattle.rhai_tree.specs.declared.stmt.Stmt as written
-use Rattle.rhai_reading.specs.Reading.{function_of, stmts_of}
+use Rattle.rhai_tree.specs.Reading.{function_of, stmts_of}
 use Rattle.rhai_meaning.specs.Plain.{all_true}
 use Rattle.rhai_meaning.specs.Tree.{Stmt, Script}
 use Rattle.rhai_meaning.specs.Walk.{Node, Walk, OfStmt}

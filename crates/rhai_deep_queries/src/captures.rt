@@ -1,11 +1,11 @@
 //! Whether calls see the names of their caller.
 
-#![tactic(auto, using(rhai_reading::specs::Reading::shapes, rhai_reading::proofs::ItemLists::steps))]
+#![tactic(auto, using(rhai_tree::specs::Reading::shapes, rhai_tree::proofs::ItemLists::steps))]
 
 ghost use Rattle.std.specs.Prelude.{◌≡◌};
 ghost use Rattle.rhai_deep_queries.specs.Walks.{listing};
 ghost use Rattle.rhai_meaning.specs.Walk.{OfExpr, OfStmt};
-ghost use Rattle.rhai_reading.specs.Reading.{expr_of, stmt_of};
+ghost use Rattle.rhai_tree.specs.Reading.{expr_of, stmt_of};
 ghost use Rattle.rhai_rewriting.specs.Scripts as spec;
 
 use rhai_tree::{Expr, ScriptFuncDef, Stmt};

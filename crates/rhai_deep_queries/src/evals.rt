@@ -1,11 +1,11 @@
 //! Whether a statement calls `eval`.
 
-#![tactic(auto, using(rhai_reading::specs::Reading::shapes, rhai_reading::proofs::ItemLists::steps))]
+#![tactic(auto, using(rhai_tree::specs::Reading::shapes, rhai_tree::proofs::ItemLists::steps))]
 
 ghost use Rattle.std.specs.Prelude.{◌≡◌};
 ghost use Rattle.rhai_meaning.specs.Queries.{is_eval};
 ghost use Rattle.rhai_meaning.specs.Walk.{OfExpr, OfStmt};
-ghost use Rattle.rhai_reading.specs.Reading.{callee_of, expr_of, stmt_of};
+ghost use Rattle.rhai_tree.specs.Reading.{callee_of, expr_of, stmt_of};
 ghost use Rattle.rhai_rewriting.specs.Evals as spec;
 ghost use Rattle.rhai_walk.specs.Children.{over_children, over_node, over_parts};
 ghost use Rattle.rhai_walk.specs.Left.{left_of};

@@ -1,9 +1,9 @@
 //! Whether a statement exports a name.
 
-#![tactic(auto, using(rhai_reading::specs::Reading::shapes, rhai_reading::proofs::ItemLists::steps))]
+#![tactic(auto, using(rhai_tree::specs::Reading::shapes, rhai_tree::proofs::ItemLists::steps))]
 
 ghost use Rattle.std.specs.Prelude.{◌≡◌};
-ghost use Rattle.rhai_reading.specs.Reading.{stmt_of};
+ghost use Rattle.rhai_tree.specs.Reading.{stmt_of};
 ghost use Rattle.rhai_rewriting.specs.Exports as spec;
 ghost use Rattle.rhai_deep_queries.specs.Walks.{stmt_is_no_export};
 

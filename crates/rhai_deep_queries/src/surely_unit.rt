@@ -1,10 +1,10 @@
 //! Whether the value of a statement, if it gives one, is unit.
 
-#![tactic(auto, using(rhai_reading::specs::Reading::shapes, rhai_reading::proofs::ItemLists::steps))]
+#![tactic(auto, using(rhai_tree::specs::Reading::shapes, rhai_tree::proofs::ItemLists::steps))]
 
 ghost use Rattle.std.specs.Prelude.{◌≡◌};
 ghost use Rattle.rhai_meaning.specs.Walk.{over_stmts};
-ghost use Rattle.rhai_reading.specs.Reading.{stmt_of, stmts_of};
+ghost use Rattle.rhai_tree.specs.Reading.{stmt_of, stmts_of};
 ghost use Rattle.rhai_rewriting.specs.SurelyUnit as spec;
 ghost use Rattle.rhai_deep_queries.specs.Walks.{stmt_carries_nothing, unit_walk};
 

@@ -1,8 +1,8 @@
 -- The latest of a name, of a list and of what stands before its last item.
 use Rattle.std.proofs.Common.{◌≡◌, true, false, if◌then◌else◌, List, [], ◌∷◌, ◌++◌, Option, Some, None, refl, ap, ◌∙◌}
 use Rattle.std.proofs.lemmas.List.{map-append}
-use Rattle.rhai_values.specs.Reading.{value_of}
-use Rattle.rhai_values.specs.Value.{Text, Value, same_text}
+use Rattle.rhai_base.specs.Reading.{value_of}
+use Rattle.rhai_base.specs.Value.{Text, Value, same_text}
 use Rattle.rhai_meaning.specs.Engine.{Binding, TypeName, or_else, constant_named, mapped_in}
 use Rattle.rhai_engine.specs.declared.engine_info.EngineConstant.{EngineConstant}
 use Rattle.rhai_engine.specs.EngineInfo.{constants_of}

@@ -3,7 +3,7 @@ use Rattle.std.proofs.Common.{◌≡◌, ◌<◌, ◌≤◌, Bool, true, false, 
 use Rattle.rhai_tokens.specs.declared.token.Token.{Token}
 use Rattle.rhai_base.specs.Operators.{Operator, Computed, NoEntry, computed}
 use Rattle.rhai_base.specs.Builtin.{operator_of}
-use Rattle.rhai_values.specs.Value.{Value}
+use Rattle.rhai_base.specs.Value.{Value}
 use Rattle.rhai_meaning.specs.Engine.{Engine, is_open}
 use Rattle.rhai_engine.specs.EngineInfo.{built_in_of, built_in_at}
 

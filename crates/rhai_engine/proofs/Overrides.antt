@@ -2,7 +2,7 @@
 use Rattle.std.proofs.Common.{◌≡◌, ◌≢◌, ℕ, suc, ◌+◌, ◌<◌, Bool, true, false, ◌&&◌, ◌||◌, List, [], ◌∷◌, length, get_or, drop, map, refl, ap, add-one, arith, Bor, ◌⊎◌, ◌∙◌, sym, inl, inr}
 use Rattle.std.specs.Map.Iter.{deref}
 use Rattle.std.proofs.Math.Seq.{drop-cons, drop-length}
-use Rattle.rhai_values.specs.Value.{Text, same_text}
+use Rattle.rhai_base.specs.Value.{Text, same_text}
 use Rattle.rhai_meaning.specs.Engine.{Override, has_override, overrides_any, same_texts}
 use Rattle.rhai_engine.specs.Override.{is_override}
 

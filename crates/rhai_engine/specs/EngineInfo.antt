@@ -1,12 +1,12 @@
 -- The abstract record that an engine's record stands for.
 use Rattle.std.specs.Prelude.{Bool, false, not, ◌||◌, List, [], ◌∷◌, ◌++◌, map, Option, Some, None}
-use Rattle.rhai_values.specs.Value.{Text, Value}
+use Rattle.rhai_base.specs.Value.{Text, Value}
 use Rattle.rhai_base.specs.Operators.{Operator, Computed, NoEntry}
 use Rattle.rhai_base.specs.Builtin.{operator_of}
 use Rattle.rhai_tokens.specs.declared.token.Token.{Token}
 use Rattle.rhai_tokens.specs.Symbols.{token_text}
 use Rattle.rhai_tokens.specs.Tokens.{makes_range}
-use Rattle.rhai_values.specs.Reading.{value_of}
+use Rattle.rhai_base.specs.Reading.{value_of}
 use Rattle.rhai_meaning.specs.Engine.{Engine, Binding, built_in, has_override}
 use Rattle.rhai_engine.specs.declared.engine_info.EngineConstant.{EngineConstant}
 use Rattle.rhai_engine.specs.declared.engine_info.EngineInfo.{EngineInfo}

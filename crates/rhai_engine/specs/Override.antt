@@ -1,6 +1,6 @@
 -- Whether an override is the one asked for.
 use Rattle.std.specs.Prelude.{Bool, ◌&&◌, List}
-use Rattle.rhai_values.specs.Value.{Text, same_text}
+use Rattle.rhai_base.specs.Value.{Text, same_text}
 use Rattle.rhai_meaning.specs.Engine.{Override, same_texts}
 
 abbrev pub is_override : Override → Text → List Text → Bool

@@ -3,8 +3,8 @@ ghost use Rattle.std.specs.Prelude.{◌≡◌, [], ◌∷◌, map, false, not, I
 ghost use Rattle.std.specs.Option.{option_map};
 ghost use Rattle.std.specs.Map.Iter.{deref};
 ghost use Rattle.rhai_base.specs.Builtin.{answered, computed_of};
-ghost use Rattle.rhai_values.specs.Reading.{value_of};
-ghost use Rattle.rhai_values.specs.Value.{type_name};
+ghost use Rattle.rhai_base.specs.Reading.{value_of};
+ghost use Rattle.rhai_base.specs.Value.{type_name};
 ghost use Rattle.rhai_meaning.specs.Engine.{constant_named, has_override, mapped_name, overrides_any, same_texts};
 ghost use Rattle.rhai_engine.specs.Override.{is_override};
 ghost use Rattle.rhai_meaning.specs.Shape.{is_none};

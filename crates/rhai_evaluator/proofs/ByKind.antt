@@ -1,22 +1,22 @@
 -- A node of a kind runs as its parts do.
 use Rattle.std.proofs.Common.{◌≡◌, Bool, true, false, List, map, Option, Result, Ok, Err, sym, ap, ◌∙◌, subst}
-use Rattle.rhai_values.specs.declared.dynamic.Dynamic.{Dynamic}
-use Rattle.rhai_values.specs.declared.dynamic.Dynamic.TheVariants as value
-use Rattle.rhai_values.specs.Reading.{value_of}
-use Rattle.rhai_values.specs.Value.{Text, TextV}
+use Rattle.rhai_base.specs.declared.dynamic.Dynamic.{Dynamic}
+use Rattle.rhai_base.specs.declared.dynamic.Dynamic.TheVariants as value
+use Rattle.rhai_base.specs.Reading.{value_of}
+use Rattle.rhai_base.specs.Value.{Text, TextV}
 use Rattle.rhai_tokens.specs.declared.position.Position.{Position}
-use Rattle.rhai_names.specs.declared.ident.Ident.{Ident}
+use Rattle.rhai_tokens.specs.declared.ident.Ident.{Ident}
 use Rattle.rhai_tree.specs.declared.expr.Expr.{Expr}
 use Rattle.rhai_tree.specs.declared.expr.Expr.TheVariants as expr_kind
 use Rattle.rhai_tree.specs.declared.expr.FnCallExpr.{FnCallExpr}
 use Rattle.rhai_tree.specs.declared.expr.BinaryExpr.{BinaryExpr}
-use Rattle.rhai_names.specs.declared.flags.ASTFlags.{ASTFlags}
+use Rattle.rhai_tokens.specs.declared.flags.ASTFlags.{ASTFlags}
 use Rattle.rhai_tree.specs.declared.block.StmtBlock.{StmtBlock}
 use Rattle.rhai_tree.specs.declared.stmt.FlowControl.{FlowControl}
 use Rattle.rhai_tree.specs.declared.stmt.Stmt.{Stmt}
 use Rattle.rhai_tree.specs.declared.stmt.Stmt.TheVariants as stmt_kind
 use Rattle.rhai_tree.specs.declared.switch.SwitchBlock.{SwitchBlock}
-use Rattle.rhai_reading.specs.Reading.{arms_of, callee_of, cases_of, counter_of, expr_of, chain_flags, expr_of-Array, expr_of-Dot, expr_of-FnCall, expr_of-Index, expr_of-InterpolatedString, expr_of-Map, expr_of-MethodCall, expr_of-Property, expr_of-Stmt, exprs_of, expressions_of, keys_of, pairs_of, property_names, stmt_of, stmt_of-Block, stmt_of-FnCall, stmt_of-For, stmt_of-If, stmt_of-Switch, stmts_of, subject_of, table_of}
+use Rattle.rhai_tree.specs.Reading.{arms_of, callee_of, cases_of, counter_of, expr_of, chain_flags, expr_of-Array, expr_of-Dot, expr_of-FnCall, expr_of-Index, expr_of-InterpolatedString, expr_of-Map, expr_of-MethodCall, expr_of-Property, expr_of-Stmt, exprs_of, expressions_of, keys_of, pairs_of, property_names, stmt_of, stmt_of-Block, stmt_of-FnCall, stmt_of-For, stmt_of-If, stmt_of-Switch, stmts_of, subject_of, table_of}
 use Rattle.rhai_meaning.specs.Control.{texts_joined}
 use Rattle.rhai_meaning.specs.Core as core
 use Rattle.rhai_meaning.specs.Desugar.{core_expr, core_stmt, core_stmts}

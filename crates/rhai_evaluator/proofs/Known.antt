@@ -1,11 +1,11 @@
 -- A script's functions by their keys.
 use Rattle.std.proofs.Common.{◌≡◌, ◌≤◌, Bool, true, false, cond, List, [], ◌∷◌, map, length, Option, Some, None, Result, refl, sym, ap, ◌∙◌, subst, arith, if◌then◌else◌}
-use Rattle.rhai_values.specs.declared.dynamic.Dynamic.{Dynamic}
-use Rattle.rhai_values.specs.Reading.{value_of}
-use Rattle.rhai_values.specs.Value.{Text, Value}
+use Rattle.rhai_base.specs.declared.dynamic.Dynamic.{Dynamic}
+use Rattle.rhai_base.specs.Reading.{value_of}
+use Rattle.rhai_base.specs.Value.{Text, Value}
 use Rattle.rhai_tree.specs.declared.script_fn.ScriptFuncDef.{ScriptFuncDef}
-use Rattle.rhai_reading.specs.Reading.{stmts_of}
-use Rattle.rhai_reading.specs.Reading as reading
+use Rattle.rhai_tree.specs.Reading.{stmts_of}
+use Rattle.rhai_tree.specs.Reading as reading
 use Rattle.rhai_functions.specs.FnKey.{definition_key}
 use Rattle.rhai_functions.specs.Table.{find_by}
 use Rattle.rhai_functions.proofs.Keys.{same_key-true}

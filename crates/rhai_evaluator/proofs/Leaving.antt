@@ -1,9 +1,9 @@
 -- Ways to leave a list, and `try`.
 use Rattle.std.proofs.Common.{◌≡◌, ℕ, Bool, true, false, length, Option, Some, None, Result, Ok, Err, refl, sym, ap, subst, arith, if◌then◌else◌}
-use Rattle.rhai_values.specs.declared.dynamic.Dynamic.{Dynamic}
-use Rattle.rhai_values.specs.declared.dynamic.Dynamic.TheVariants as value
-use Rattle.rhai_values.specs.Reading.{value_of, value_of-Unit}
-use Rattle.rhai_values.specs.Value.{Text, Value, UnitV}
+use Rattle.rhai_base.specs.declared.dynamic.Dynamic.{Dynamic}
+use Rattle.rhai_base.specs.declared.dynamic.Dynamic.TheVariants as value
+use Rattle.rhai_base.specs.Reading.{value_of, value_of-Unit}
+use Rattle.rhai_base.specs.Value.{Text, Value, UnitV}
 use Rattle.rhai_meaning.specs.Tree as tree
 use Rattle.rhai_meaning.specs.Act.{Exit, Throws, Gives, Leaves, Ended, At, Act, Acts, Stop, Then, Scoped, run}
 use Rattle.rhai_meaning.specs.ActForms.{choose, on_throw}

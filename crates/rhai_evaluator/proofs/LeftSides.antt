@@ -1,8 +1,8 @@
 -- Assignments to parts of values, by the left side.
 use Rattle.std.proofs.Common.{◌≡◌, Bool, true, false, cond, Option, Some, None, Result, Ok, Err, refl, subst, arith}
-use Rattle.rhai_values.specs.Value.{Value, UnitV}
+use Rattle.rhai_base.specs.Value.{Value, UnitV}
 use Rattle.rhai_base.specs.Operators.{Operator}
-use Rattle.rhai_reading.specs.Reading.{breaks, chain_flags, expr_of}
+use Rattle.rhai_tree.specs.Reading.{breaks, chain_flags, expr_of}
 use Rattle.rhai_meaning.specs.Act as act
 use Rattle.rhai_meaning.specs.Act.{Act}
 use Rattle.rhai_meaning.specs.Core as core

@@ -1,14 +1,14 @@
 -- The members of a map, from the first to the last.
 use Rattle.std.proofs.Common.{◌≡◌, ℕ, ◌+◌, ◌<◌, ◌≤◌, Bool, true, List, [], length, drop, get_or, Ok, Err, sym, ap, ◌∙◌, subst, cond}
 use Rattle.std.proofs.lemmas.List.{drop_all}
-use Rattle.rhai_values.specs.declared.dynamic.Dynamic.{Dynamic}
-use Rattle.rhai_values.specs.declared.dynamic.Dynamic.TheVariants as value
-use Rattle.rhai_values.specs.Reading.{value_of, value_of-Map, members_of}
-use Rattle.rhai_values.specs.Value.{Text, Fields, MapV, fields}
-use Rattle.rhai_names.specs.declared.ident.Ident.{Ident}
+use Rattle.rhai_base.specs.declared.dynamic.Dynamic.{Dynamic}
+use Rattle.rhai_base.specs.declared.dynamic.Dynamic.TheVariants as value
+use Rattle.rhai_base.specs.Reading.{value_of, value_of-Map, members_of}
+use Rattle.rhai_base.specs.Value.{Text, Fields, MapV, fields}
+use Rattle.rhai_tokens.specs.declared.ident.Ident.{Ident}
 use Rattle.rhai_tree.specs.declared.expr.Expr.{Expr}
-use Rattle.rhai_reading.specs.Reading.{expr_of, pairs_of}
-use Rattle.rhai_reading.proofs.ItemLists.{pairs_of-drop}
+use Rattle.rhai_tree.specs.Reading.{expr_of, pairs_of}
+use Rattle.rhai_tree.proofs.ItemLists.{pairs_of-drop}
 use Rattle.rhai_meaning.specs.Tree as tree
 use Rattle.rhai_meaning.specs.Act.{Act}
 use Rattle.rhai_meaning.specs.ActForms.{give, ◌>>=◌}

@@ -1,11 +1,11 @@
 -- Nodes by their parts: arrays, texts, calls, braces.
 use Rattle.std.proofs.Common.{◌≡◌, Bool, true, false, cond, List, map, length, Option, Result, Ok, Err, refl, sym, ap, ◌∙◌, subst, arith}
-use Rattle.rhai_values.specs.declared.dynamic.Dynamic.{Dynamic}
-use Rattle.rhai_values.specs.declared.dynamic.Dynamic.TheVariants as value
-use Rattle.rhai_values.specs.Reading.{value_of, value_of-Array}
-use Rattle.rhai_values.specs.Value.{Text, Value, ArrayV, TextV, values}
+use Rattle.rhai_base.specs.declared.dynamic.Dynamic.{Dynamic}
+use Rattle.rhai_base.specs.declared.dynamic.Dynamic.TheVariants as value
+use Rattle.rhai_base.specs.Reading.{value_of, value_of-Array}
+use Rattle.rhai_base.specs.Value.{Text, Value, ArrayV, TextV, values}
 use Rattle.rhai_tree.specs.declared.expr.FnCallExpr.{FnCallExpr}
-use Rattle.rhai_reading.specs.Reading.{callee_of, exprs_of}
+use Rattle.rhai_tree.specs.Reading.{callee_of, exprs_of}
 use Rattle.rhai_meaning.specs.ActForms.{ask_host, give}
 use Rattle.rhai_meaning.specs.Calls.{called}
 use Rattle.rhai_meaning.specs.Control.{texts_joined}

@@ -1,13 +1,13 @@
 -- Lists of expressions, from the first to the last: arguments, and operands up to the one that decides.
 use Rattle.std.proofs.Common.{◌≡◌, ℕ, ◌+◌, ◌<◌, ◌≤◌, Bool, true, false, List, [], ◌∷◌, ◌++◌, map, length, drop, get_or, Option, Some, None, Ok, Err, refl, sym, ap, ◌∙◌, append_assoc, append-nil, if◌then◌else◌}
 use Rattle.std.proofs.lemmas.List.{map-append, drop_all}
-use Rattle.rhai_values.specs.declared.dynamic.Dynamic.{Dynamic}
-use Rattle.rhai_values.specs.declared.dynamic.Dynamic.TheVariants as value
-use Rattle.rhai_values.specs.Reading.{value_of, value_of-Bool, value_of-Unit}
-use Rattle.rhai_values.specs.Value.{Value, BoolV}
+use Rattle.rhai_base.specs.declared.dynamic.Dynamic.{Dynamic}
+use Rattle.rhai_base.specs.declared.dynamic.Dynamic.TheVariants as value
+use Rattle.rhai_base.specs.Reading.{value_of, value_of-Bool, value_of-Unit}
+use Rattle.rhai_base.specs.Value.{Value, BoolV}
 use Rattle.rhai_tree.specs.declared.expr.Expr.{Expr}
-use Rattle.rhai_reading.specs.Reading.{expr_of, exprs_of}
-use Rattle.rhai_reading.proofs.ItemLists.{exprs_of-drop}
+use Rattle.rhai_tree.specs.Reading.{expr_of, exprs_of}
+use Rattle.rhai_tree.proofs.ItemLists.{exprs_of-drop}
 use Rattle.rhai_meaning.specs.Desugar.{core_expr, core_exprs}
 use Rattle.rhai_meaning.specs.Tree as tree
 use Rattle.rhai_meaning.specs.Act.{Act}

@@ -4,13 +4,13 @@ use Rattle.std.specs.Prelude.{◌==◌}
 use Rattle.std.proofs.lemmas.Bool.{and_parts}
 use Rattle.std.proofs.lemmas.Slice.Eq.{bytes_eq-Decides}
 use Rattle.rhai_base.specs.Operators.{Operator, Plus, arity, symbol}
-use Rattle.rhai_names.specs.Names.{barred, is_among}
-use Rattle.rhai_values.specs.declared.dynamic.Dynamic.{Dynamic}
-use Rattle.rhai_values.specs.Reading.{value_of}
-use Rattle.rhai_values.specs.Value.{same_text}
+use Rattle.rhai_tokens.specs.Names.{barred, is_among}
+use Rattle.rhai_base.specs.declared.dynamic.Dynamic.{Dynamic}
+use Rattle.rhai_base.specs.Reading.{value_of}
+use Rattle.rhai_base.specs.Value.{same_text}
 use Rattle.rhai_tree.specs.declared.expr.Expr.{Expr}
 use Rattle.rhai_tree.specs.declared.expr.FnCallExpr.{FnCallExpr}
-use Rattle.rhai_reading.specs.Reading.{callee_of, expr_of, exprs_of}
+use Rattle.rhai_tree.specs.Reading.{callee_of, expr_of, exprs_of}
 use Rattle.rhai_meaning.specs.Calls.{operate}
 use Rattle.rhai_meaning.specs.Core as core
 use Rattle.rhai_meaning.specs.Desugar.{core_exprs}

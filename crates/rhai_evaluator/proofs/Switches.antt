@@ -3,14 +3,14 @@ use Rattle.std.proofs.Common.{◌≡◌, ℕ, zero, suc, ◌+◌, ◌<◌, ◌�
 use Rattle.std.specs.Prelude.{nat_lt, option_map, pos, slice_get}
 use Rattle.std.proofs.lemmas.Bool.Decides.{nat_tests}
 use Rattle.std.proofs.lemmas.List.{drop_more}
-use Rattle.rhai_values.specs.declared.dynamic.Dynamic.{Dynamic}
-use Rattle.rhai_values.specs.declared.dynamic.Dynamic.TheVariants as value
-use Rattle.rhai_values.specs.Reading.{value_of, value_of-Unit}
-use Rattle.rhai_values.specs.Value.{Value}
+use Rattle.rhai_base.specs.declared.dynamic.Dynamic.{Dynamic}
+use Rattle.rhai_base.specs.declared.dynamic.Dynamic.TheVariants as value
+use Rattle.rhai_base.specs.Reading.{value_of, value_of-Unit}
+use Rattle.rhai_base.specs.Value.{Value}
 use Rattle.rhai_tree.specs.declared.expr.BinaryExpr.{BinaryExpr}
 use Rattle.rhai_base.specs.declared.range_case.RangeCase.{RangeCase}
 use Rattle.rhai_base.specs.declared.range_case.RangeCase.TheVariants as range_kind
-use Rattle.rhai_reading.specs.Reading.{arms_of, expr_of, range_of}
+use Rattle.rhai_tree.specs.Reading.{arms_of, expr_of, range_of}
 use Rattle.rhai_meaning.specs.Act.{Act}
 use Rattle.rhai_meaning.specs.ActForms.{choose, truth}
 use Rattle.rhai_meaning.specs.Control.{ArmActs, answer_of, chosen, default_of, first_arm, holds, ranges_with, switch_on, try_arm}

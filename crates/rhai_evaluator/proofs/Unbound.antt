@@ -1,6 +1,6 @@
 -- Where `this` is not bound, it stays so.
 use Rattle.std.proofs.Common.{◌≡◌, ℕ, zero, suc, Bool, true, false, ◌∷◌, [], ◌++◌, List, Option, Some, None}
-use Rattle.rhai_values.specs.Value.{Text, Value}
+use Rattle.rhai_base.specs.Value.{Text, Value}
 use Rattle.rhai_meaning.specs.Act.{is_constant, ScopeEntry, Store, World, Again, Ending, Gives, Leaves, Ended, Halted, Result, At, Root, OfName, OfThis, Act, Stop, Fail, Then, Turn, Read, Write, Resolve, AskHost, Invoke, Loop, Scoped, Acts, Only, Do, Named, Finish, Env, and_then, with_turn, found, resolved, read, read_this, read_root, write_at, write, write_this, write_root, leave, call_then, returned, on_again, rounds, run, run_all}
 use Rattle.rhai_meaning.specs.Relations.{store_of}
 

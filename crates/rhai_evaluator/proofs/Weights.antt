@@ -1,11 +1,11 @@
 -- What parts weigh, where a function goes into one of them.
 use Rattle.std.proofs.Common.{◌≡◌, ℕ, zero, suc, ◌+◌, ◌*◌, ◌<◌, ◌≤◌, List, [], ◌∷◌, length, get_or, Option, Some, None, sym, subst, arith}
 use Rattle.std.specs.Prelude.{slice_get, IfSome}
-use Rattle.rhai_names.specs.declared.ident.Ident.{Ident}
+use Rattle.rhai_tokens.specs.declared.ident.Ident.{Ident}
 use Rattle.rhai_tree.specs.declared.expr.BinaryExpr.{BinaryExpr}
 use Rattle.rhai_tree.specs.declared.expr.Expr.{Expr}
 use Rattle.rhai_tree.specs.declared.stmt.Stmt.{Stmt}
-use Rattle.rhai_reading.specs.Reading.{arms_of, expr_of, exprs_of, pairs_of, stmt_of, stmts_of}
+use Rattle.rhai_tree.specs.Reading.{arms_of, expr_of, exprs_of, pairs_of, stmt_of, stmts_of}
 use Rattle.rhai_meaning.specs.Tree.{Arms}
 use Rattle.rhai_meaning.specs.Walk.{over_arms, over_pairs, sum_of, total}
 use Rattle.rhai_meaning.specs.Weight.{expr_weight, exprs_weight, own_weight, stmt_weight, weight}

@@ -1,8 +1,8 @@
 -- Calls by names: the language's own words, script functions, the host.
 use Rattle.std.proofs.Common.{◌≡◌, Bool, true, false, ◌||◌, List, [], ◌∷◌, map, length, Option, Some, None, Result, Ok, Err, refl, sym, ap, ◌∙◌, subst, cond}
-use Rattle.rhai_values.specs.declared.dynamic.Dynamic.{Dynamic}
-use Rattle.rhai_values.specs.Reading.{value_of}
-use Rattle.rhai_values.specs.Value.{Text, Value}
+use Rattle.rhai_base.specs.declared.dynamic.Dynamic.{Dynamic}
+use Rattle.rhai_base.specs.Reading.{value_of}
+use Rattle.rhai_base.specs.Value.{Text, Value}
 use Rattle.rhai_meaning.specs.Act.{Key, ScriptCall, Act, Invoke}
 use Rattle.rhai_meaning.specs.ActForms.{ask_host, choose, give}
 use Rattle.rhai_meaning.specs.Act.{World}

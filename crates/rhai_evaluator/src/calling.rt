@@ -1,10 +1,10 @@
 //! Calls: operators, the language's own words, script functions, the host.
 
-#![tactic(auto, using(rhai_reading::specs::Reading::shapes, rhai_values::specs::Reading::kinds))]
+#![tactic(auto, using(rhai_tree::specs::Reading::shapes, rhai_base::specs::Reading::kinds))]
 
 ghost use Rattle.std.specs.Prelude.{◌≡◌, [], ◌∷◌, true, length, map, Some, None};
-ghost use Rattle.rhai_values.specs.Reading.{value_of};
-ghost use Rattle.rhai_reading.specs.Reading.{callee_of, exprs_of};
+ghost use Rattle.rhai_base.specs.Reading.{value_of};
+ghost use Rattle.rhai_tree.specs.Reading.{callee_of, exprs_of};
 ghost use Rattle.rhai_base.specs.Builtin.{operator_of};
 ghost use Rattle.rhai_run_nodes.specs.Operators.{called_operator};
 ghost use Rattle.rhai_meaning.specs.Desugar.{callee_by, core_exprs};

@@ -1,9 +1,9 @@
 //! Chains: their base, then step after step.
 
-#![tactic(auto, using(rhai_reading::specs::Reading::shapes, rhai_values::specs::Reading::kinds))]
+#![tactic(auto, using(rhai_tree::specs::Reading::shapes, rhai_base::specs::Reading::kinds))]
 
 ghost use Rattle.std.specs.Prelude.{false};
-ghost use Rattle.rhai_reading.specs.Reading.{chain_flags, expr_of};
+ghost use Rattle.rhai_tree.specs.Reading.{chain_flags, expr_of};
 ghost use Rattle.rhai_machine.specs.Chaining.{access_meant, StepsOn};
 ghost use Rattle.rhai_run_nodes.specs.Links.{rest_steps, step_core};
 ghost use Rattle.rhai_machine.specs.Setting.{setting};

@@ -1,10 +1,10 @@
 //! `switch`.
 
-#![tactic(auto, using(rhai_reading::specs::Reading::shapes, rhai_values::specs::Reading::kinds))]
+#![tactic(auto, using(rhai_tree::specs::Reading::shapes, rhai_base::specs::Reading::kinds))]
 
 ghost use Rattle.std.specs.Prelude.{[], ◌∷◌, None, map, slice_get};
-ghost use Rattle.rhai_reading.specs.Reading.{arms_of, cases_of, expr_of, expressions_of, range_of, subject_of, table_of};
-ghost use Rattle.rhai_values.specs.Reading.{value_of};
+ghost use Rattle.rhai_tree.specs.Reading.{arms_of, cases_of, expr_of, expressions_of, range_of, subject_of, table_of};
+ghost use Rattle.rhai_base.specs.Reading.{value_of};
 ghost use Rattle.rhai_meaning.specs.Control.{chosen, default_of, ranges_with, switch_on};
 ghost use Rattle.rhai_meaning.specs.Desugar.{core_stmt};
 ghost use Rattle.rhai_machine.specs.Setting.{setting};

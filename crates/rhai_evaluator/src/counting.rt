@@ -1,10 +1,10 @@
 //! `for`.
 
-#![tactic(auto, using(rhai_reading::specs::Reading::shapes, rhai_values::specs::Reading::kinds))]
+#![tactic(auto, using(rhai_tree::specs::Reading::shapes, rhai_base::specs::Reading::kinds))]
 
 ghost use Rattle.std.specs.Prelude.{◌≡◌, true, ◌^◌, ◌≤ℤ◌, ◌+ℤ◌, pos, map};
-ghost use Rattle.rhai_reading.specs.Reading.{counter_of, expr_of, stmts_of};
-ghost use Rattle.rhai_values.specs.Reading.{value_of};
+ghost use Rattle.rhai_tree.specs.Reading.{counter_of, expr_of, stmts_of};
+ghost use Rattle.rhai_base.specs.Reading.{value_of};
 ghost use Rattle.rhai_meaning.specs.Desugar.{core_expr, core_stmts};
 ghost use Rattle.rhai_meaning.specs.Act.{IsVariable, Named};
 ghost use Rattle.rhai_meaning.specs.Control.{counted, for_count, for_each};

@@ -1,9 +1,9 @@
 //! The recursion over a tree.
 
-#![tactic(auto, using(rhai_reading::specs::Reading::shapes, rhai_values::specs::Reading::kinds))]
+#![tactic(auto, using(rhai_tree::specs::Reading::shapes, rhai_base::specs::Reading::kinds))]
 
 ghost use Rattle.std.specs.Prelude.{◌≡◌, ◌<◌, ◌≤◌, true, false, MatchOption};
-ghost use Rattle.rhai_reading.specs.Reading.{expr_of, exprs_of, keys_of, maybe_of, pairs_of};
+ghost use Rattle.rhai_tree.specs.Reading.{expr_of, exprs_of, keys_of, maybe_of, pairs_of};
 ghost use Rattle.rhai_meaning.specs.Desugar.{core_expr};
 ghost use Rattle.rhai_meaning.specs.Tree.{MapOf};
 ghost use Rattle.rhai_machine.specs.Setting.{setting};

@@ -1,10 +1,10 @@
 //! Ways to leave a list of statements, and `try`.
 
-#![tactic(auto, using(rhai_reading::specs::Reading::shapes, rhai_values::specs::Reading::kinds))]
+#![tactic(auto, using(rhai_tree::specs::Reading::shapes, rhai_base::specs::Reading::kinds))]
 
 ghost use Rattle.std.specs.Option.{option_copied};
-ghost use Rattle.rhai_reading.specs.Reading.{breaks, expr_of, is_exported, maybe_of, stmts_of};
-ghost use Rattle.rhai_values.specs.Reading.{value_of};
+ghost use Rattle.rhai_tree.specs.Reading.{breaks, expr_of, is_exported, maybe_of, stmts_of};
+ghost use Rattle.rhai_base.specs.Reading.{value_of};
 ghost use Rattle.rhai_meaning.specs.Desugar.{core_stmt, core_stmts};
 ghost use Rattle.rhai_machine.specs.Setting.{setting};
 ghost use Rattle.rhai_state.specs.Evaluating.{RunsCatch, RunsLine};

@@ -1,11 +1,11 @@
 //! Calls of a script's functions.
 
-#![tactic(auto, using(rhai_values::specs::Reading::kinds))]
+#![tactic(auto, using(rhai_base::specs::Reading::kinds))]
 
 ghost use Rattle.std.specs.Prelude.{◌≡◌, ◌≤◌, Some, map};
 ghost use Rattle.std.specs.Option.{option_map};
-ghost use Rattle.rhai_values.specs.Reading.{value_of};
-ghost use Rattle.rhai_reading.specs.Reading.{function_of, stmts_of};
+ghost use Rattle.rhai_base.specs.Reading.{value_of};
+ghost use Rattle.rhai_tree.specs.Reading.{function_of, stmts_of};
 ghost use Rattle.rhai_functions.specs.FnKey.{definition_key};
 ghost use Rattle.rhai_functions.specs.FnLib.{functions_of};
 ghost use Rattle.rhai_meaning.specs.Desugar.{core_function};

@@ -1,8 +1,8 @@
 //! `&&`, `||` and `??`: operands up to the first that decides.
 
-#![tactic(auto, using(rhai_values::specs::Reading::kinds))]
+#![tactic(auto, using(rhai_base::specs::Reading::kinds))]
 
-ghost use Rattle.rhai_reading.specs.Reading.{exprs_of};
+ghost use Rattle.rhai_tree.specs.Reading.{exprs_of};
 ghost use Rattle.rhai_machine.specs.Setting.{setting};
 ghost use Rattle.rhai_state.specs.Evaluating.{RunsBoth, RunsEither, RunsFirstSome};
 

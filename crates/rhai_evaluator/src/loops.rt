@@ -1,9 +1,9 @@
 //! `while`, `loop` and `do`.
 
-#![tactic(auto, using(rhai_reading::specs::Reading::shapes, rhai_values::specs::Reading::kinds))]
+#![tactic(auto, using(rhai_tree::specs::Reading::shapes, rhai_base::specs::Reading::kinds))]
 
 ghost use Rattle.std.specs.Prelude.{◌<◌, true, IfOk};
-ghost use Rattle.rhai_reading.specs.Reading.{expr_of, is_exported, is_negated, stmts_of};
+ghost use Rattle.rhai_tree.specs.Reading.{expr_of, is_exported, is_negated, stmts_of};
 ghost use Rattle.rhai_meaning.specs.Core.{Always, Do, When, While};
 ghost use Rattle.rhai_meaning.specs.Desugar.{core_expr, core_stmt, core_stmts, guard_by};
 ghost use Rattle.rhai_machine.specs.Setting.{setting};

@@ -1,9 +1,9 @@
 //! `import` and `export`.
 
-#![tactic(auto, using(rhai_reading::specs::Reading::shapes, rhai_values::specs::Reading::kinds))]
+#![tactic(auto, using(rhai_tree::specs::Reading::shapes, rhai_base::specs::Reading::kinds))]
 
 ghost use Rattle.std.specs.Prelude.{◌≡◌};
-ghost use Rattle.rhai_reading.specs.Reading.{expr_of};
+ghost use Rattle.rhai_tree.specs.Reading.{expr_of};
 ghost use Rattle.rhai_meaning.specs.Core.{ModuleOf};
 ghost use Rattle.rhai_meaning.specs.Desugar.{core_expr, core_stmt};
 ghost use Rattle.rhai_meaning.specs.Desugar as desugar;

@@ -1,9 +1,9 @@
 //! What may be asked of a call.
 
-#![tactic(auto, using(rhai_reading::specs::Reading::shapes))]
+#![tactic(auto, using(rhai_tree::specs::Reading::shapes))]
 
 ghost use Rattle.std.specs.Prelude.{◌≡◌, ◌↔◌, ◌≢◌, [], IsTrue, is_some};
-ghost use Rattle.rhai_reading.specs.Reading.{exprs_of};
+ghost use Rattle.rhai_tree.specs.Reading.{exprs_of};
 ghost use Rattle.rhai_meaning.specs.Queries as queries;
 
 use rhai_queries::are_constant;

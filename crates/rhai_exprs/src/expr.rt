@@ -1,10 +1,10 @@
 //! What may be asked of an expression.
 
-#![tactic(auto, using(rhai_reading::specs::Reading::shapes, rhai_reading::specs::Positions::places))]
+#![tactic(auto, using(rhai_tree::specs::Reading::shapes, rhai_tree::specs::Positions::places))]
 
 ghost use Rattle.std.specs.Prelude.{◌≡◌};
-ghost use Rattle.rhai_reading.specs.Reading.{expr_of};
-ghost use Rattle.rhai_reading.specs.Positions.{options_of, position_of, start_of};
+ghost use Rattle.rhai_tree.specs.Reading.{expr_of};
+ghost use Rattle.rhai_tree.specs.Positions.{options_of, position_of, start_of};
 ghost use Rattle.rhai_meaning.specs.Constants as constants;
 ghost use Rattle.rhai_meaning.specs.Laws.{PureExprLaw};
 ghost use Rattle.rhai_meaning.specs.Queries as queries;

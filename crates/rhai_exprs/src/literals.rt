@@ -4,10 +4,10 @@
 
 ghost use Rattle.std.specs.Prelude.{◌≡◌, IfOk, Some};
 ghost use Rattle.std.specs.Option.{option_map};
-ghost use Rattle.rhai_values.specs.Reading.{value_of};
+ghost use Rattle.rhai_base.specs.Reading.{value_of};
 ghost use Rattle.rhai_nodes.specs.Lent.{lent_value};
-ghost use Rattle.rhai_reading.specs.Reading.{expr_of};
-ghost use Rattle.rhai_reading.specs.Positions.{AreAt, arguments_of, position_of};
+ghost use Rattle.rhai_tree.specs.Reading.{expr_of};
+ghost use Rattle.rhai_tree.specs.Positions.{AreAt, arguments_of, position_of};
 ghost use Rattle.rhai_meaning.specs.Constants as constants;
 ghost use Rattle.rhai_meaning.specs.Laws.{ConstantLaw, LiteralLaw};
 

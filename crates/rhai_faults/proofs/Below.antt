@@ -5,7 +5,7 @@ use Rattle.rhai_meaning.specs.Faults.{TreeFault, finding, ◌then◌}
 use Rattle.rhai_meaning.specs.Walk as walk
 use Rattle.rhai_meaning.specs.Walk.{Node, over_stmts}
 use Rattle.rhai_tree.specs.declared.stmt.Stmt.{Stmt}
-use Rattle.rhai_reading.specs.Reading.{stmts_of}
+use Rattle.rhai_tree.specs.Reading.{stmts_of}
 use Rattle.rhai_walk.specs.Children.{children, over_children, over_parts}
 use Rattle.rhai_walk.specs.Left.{left_of, statements_left}
 use Rattle.rhai_walk.specs.declared.children.Children.{Children}

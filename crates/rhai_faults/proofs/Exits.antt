@@ -7,7 +7,7 @@ use Rattle.rhai_tokens.specs.declared.error.TreeFault.{TreeFault}
 use Rattle.rhai_tree.specs.declared.expr.Expr.{Expr}
 use Rattle.rhai_meaning.specs.Faults as faults
 use Rattle.rhai_meaning.specs.Faults.{◌then◌}
-use Rattle.rhai_reading.specs.Reading.{exprs_of}
+use Rattle.rhai_tree.specs.Reading.{exprs_of}
 use Rattle.rhai_faults.specs.Refusals.{Finds, IsTheFirst, meant}
 
 first_stays : (o p m : Option TreeFault) → IsTheFirst o m → IsTheFirst (o then p) m

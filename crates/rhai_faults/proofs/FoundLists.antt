@@ -6,7 +6,7 @@ use Rattle.std.specs.declared.rc.Rc.{Rc}
 use Rattle.rhai_tree.specs.declared.script_fn.ScriptFuncDef.{ScriptFuncDef}
 use Rattle.rhai_meaning.specs.Faults.{TreeFault, ReservedName, finding, functions_fault, is_reserved, unless, ◌then◌}
 use Rattle.rhai_meaning.specs.Walk.{outermost, over_stmts}
-use Rattle.rhai_reading.specs.Reading.{stmts_of}
+use Rattle.rhai_tree.specs.Reading.{stmts_of}
 use Rattle.rhai_faults.specs.Scripts.{functions_of}
 
 abbrev pub found_functions : List (Rc ScriptFuncDef Global) → Option TreeFault

@@ -3,11 +3,11 @@ use Rattle.std.proofs.Common.{◌≡◌, suc, Bool, true, false, ◌||◌, List,
 use Rattle.rhai_tokens.specs.declared.token.Token.{Token}
 use Rattle.rhai_tokens.specs.Symbols.{token_text}
 use Rattle.rhai_tokens.specs.Tokens as tokens
-use Rattle.rhai_names.specs.Names.{is_among, symbols}
+use Rattle.rhai_tokens.specs.Names.{is_among, symbols}
 use Rattle.rhai_tree.specs.declared.expr.Expr.{Expr}
-use Rattle.rhai_values.specs.Value.{Text, same_text}
+use Rattle.rhai_base.specs.Value.{Text, same_text}
 use Rattle.rhai_meaning.specs.Tree.{count_exprs}
-use Rattle.rhai_reading.specs.Reading.{exprs_of}
+use Rattle.rhai_tree.specs.Reading.{exprs_of}
 use Rattle.rhai_queries.specs.Operators.{token_arity}
 use Rattle.rhai_faults.proofs.KeyLists.{is_among-same}
 

@@ -10,7 +10,7 @@ use Rattle.rhai_tree.specs.declared.script_fn.ScriptFuncDef.{ScriptFuncDef}
 use Rattle.rhai_meaning.specs.Faults.{TreeFault, ReservedName, fault_of, finding, functions_fault, is_reserved, unless, ◌then◌}
 use Rattle.rhai_meaning.specs.Walk as walk
 use Rattle.rhai_meaning.specs.Walk.{around_parts, over_stmts}
-use Rattle.rhai_reading.specs.Reading.{function_of, stmts_of}
+use Rattle.rhai_tree.specs.Reading.{function_of, stmts_of}
 use Rattle.rhai_walk.specs.Children.{at_spot, over_children, over_node, over_parts}
 use Rattle.rhai_walk.specs.Left.{left_of}
 use Rattle.rhai_walk.specs.Nodes.{child_of, node_of, spot_of}

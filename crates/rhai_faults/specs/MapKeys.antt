@@ -2,11 +2,11 @@
 use Rattle.std.specs.Prelude.{List, map}
 use Rattle.std.specs.Borrow.{Bor}
 use Rattle.std.specs.HashSet.{HashSet}
-use Rattle.rhai_names.specs.declared.ident.Ident.{Ident}
+use Rattle.rhai_tokens.specs.declared.ident.Ident.{Ident}
 use Rattle.rhai_tree.specs.declared.expr.Expr.{Expr}
 use Rattle.rhai_meaning.specs.Shape.{keys}
-use Rattle.rhai_reading.specs.Reading.{pairs_of}
-use Rattle.rhai_values.specs.Value.{Text}
+use Rattle.rhai_tree.specs.Reading.{pairs_of}
+use Rattle.rhai_base.specs.Value.{Text}
 
 abbrev pub names_of : List (Ident × Expr) → List Text
 names_of members = keys (pairs_of members)

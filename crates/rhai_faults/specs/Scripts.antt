@@ -7,7 +7,7 @@ use Rattle.rhai_tree.specs.declared.script_fn.ScriptFuncDef.{ScriptFuncDef}
 use Rattle.rhai_meaning.specs.Faults.{TreeFault, finding}
 use Rattle.rhai_meaning.specs.Tree.{Function, Script}
 use Rattle.rhai_meaning.specs.Walk.{over_stmts, whole}
-use Rattle.rhai_reading.specs.Reading.{function_of, stmts_of}
+use Rattle.rhai_tree.specs.Reading.{function_of, stmts_of}
 
 abbrev pub functions_of : List (Rc ScriptFuncDef Global) → List Function
 functions_of fs = map (λ f. function_of f.value) fs

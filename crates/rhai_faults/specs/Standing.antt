@@ -8,7 +8,7 @@ use Rattle.rhai_tree.specs.declared.script_fn.ScriptFuncDef.{ScriptFuncDef}
 use Rattle.rhai_tree.specs.declared.stmt.Stmt.{Stmt}
 use Rattle.rhai_meaning.specs.Faults.{TreeFault, ReservedName, fault_of, finding, functions_fault, is_reserved}
 use Rattle.rhai_meaning.specs.Walk.{Around, around_parts, outermost}
-use Rattle.rhai_reading.specs.Reading.{function_of}
+use Rattle.rhai_tree.specs.Reading.{function_of}
 use Rattle.rhai_walk.specs.Children.{over_node}
 use Rattle.rhai_walk.specs.Standing.{Standing, below, place_of, statements_standing, tree_of}
 use Rattle.rhai_faults.specs.Places.{around_at}

@@ -1,6 +1,6 @@
 //! What is wrong with a node alone: tests of its kind, and of what is right below it.
 
-#![tactic(auto, using(rhai_reading::specs::Reading::shapes, crate::proofs::Exits::operands_counted))]
+#![tactic(auto, using(rhai_tree::specs::Reading::shapes, crate::proofs::Exits::operands_counted))]
 
 ghost use Rattle.std.specs.Prelude.{◌||◌};
 ghost use Rattle.rhai_faults.specs.Places.{around_of};
@@ -9,7 +9,7 @@ ghost use Rattle.rhai_meaning.specs.Faults as faults;
 ghost use Rattle.rhai_meaning.specs.Faults.{◌then◌};
 ghost use Rattle.rhai_meaning.specs.Shape as shape;
 ghost use Rattle.rhai_meaning.specs.Tree.{count_exprs};
-ghost use Rattle.rhai_reading.specs.Reading.{callee_of, chain_flags, expr_of, exprs_of, stmt_of};
+ghost use Rattle.rhai_tree.specs.Reading.{callee_of, chain_flags, expr_of, exprs_of, stmt_of};
 ghost use Rattle.rhai_walk.specs.Nodes.{is_dot, node_of};
 
 use crate::around::Around;

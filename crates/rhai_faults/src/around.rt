@@ -1,12 +1,12 @@
 //! What stands around a node.
 
-#![tactic(auto, using(rhai_reading::specs::Reading::shapes))]
+#![tactic(auto, using(rhai_tree::specs::Reading::shapes))]
 
 ghost use Rattle.std.specs.Prelude.{◌≡◌, if◌then◌else◌};
 ghost use Rattle.rhai_faults.specs.Places.{around_at, around_of, role_of};
 ghost use Rattle.rhai_meaning.specs.Faults as faults;
 ghost use Rattle.rhai_meaning.specs.Walk as walk;
-ghost use Rattle.rhai_reading.specs.Reading.{chain_flags, expr_of};
+ghost use Rattle.rhai_tree.specs.Reading.{chain_flags, expr_of};
 ghost use Rattle.rhai_walk.specs.Nodes.{is_dot, node_of, spot_of};
 
 use bitflags::Flags;

@@ -1,6 +1,6 @@
 //! The first fault of a tree, and where it stands.
 
-#![tactic(auto, using(rhai_reading::specs::Reading::shapes, rhai_reading::proofs::ItemLists::steps, crate::proofs::FoundLists::found))]
+#![tactic(auto, using(rhai_tree::specs::Reading::shapes, rhai_tree::proofs::ItemLists::steps, crate::proofs::FoundLists::found))]
 
 ghost use Rattle.std.specs.Prelude.{◌≡◌, IfErr, not};
 ghost use Rattle.rhai_faults.specs.Places.{around_of};

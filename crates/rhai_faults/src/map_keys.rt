@@ -5,8 +5,8 @@ ghost use Rattle.rhai_faults.specs.MapKeys.{names_of, texts_of};
 ghost use Rattle.rhai_faults.specs.Refusals.{Finds};
 ghost use Rattle.rhai_meaning.specs.Faults as faults;
 ghost use Rattle.rhai_meaning.specs.Shape.{are_among, are_distinct};
-ghost use Rattle.rhai_names.specs.Names.{is_among};
-ghost use Rattle.rhai_reading.specs.Reading.{keys_of};
+ghost use Rattle.rhai_tokens.specs.Names.{is_among};
+ghost use Rattle.rhai_tree.specs.Reading.{keys_of};
 
 use rhai_base::{Dynamic, Ident, StringMap, TreeFault};
 use rhai_tree::Expr;

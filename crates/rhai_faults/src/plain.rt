@@ -1,6 +1,6 @@
 //! Whether all nodes have a meaning beside their form.
 
-#![tactic(auto, using(rhai_reading::specs::Reading::shapes, rhai_reading::proofs::ItemLists::steps))]
+#![tactic(auto, using(rhai_tree::specs::Reading::shapes, rhai_tree::proofs::ItemLists::steps))]
 
 ghost use Rattle.std.specs.Prelude.{◌≡◌};
 ghost use Rattle.rhai_faults.specs.PlainWalk.{plain_walk};
@@ -8,10 +8,10 @@ ghost use Rattle.rhai_faults.specs.Scripts.{functions_of};
 ghost use Rattle.rhai_meaning.specs.Plain as plain;
 ghost use Rattle.rhai_meaning.specs.Shape.{is_barred};
 ghost use Rattle.rhai_meaning.specs.Walk.{over_functions, over_stmts};
-ghost use Rattle.rhai_names.specs.Names as names;
-ghost use Rattle.rhai_reading.specs.Reading.{callee_of, expr_of, stmt_of, stmts_of};
+ghost use Rattle.rhai_tokens.specs.Names as names;
+ghost use Rattle.rhai_tree.specs.Reading.{callee_of, expr_of, stmt_of, stmts_of};
 
-use rhai_names::is_among;
+use rhai_tokens::is_among;
 use rhai_tree::{Expr, FnCallExpr, ScriptFuncDef, Stmt};
 use rhai_walk::{ASTNode, NodeTest, every_body, every_statement};
 use std::rc::Rc;

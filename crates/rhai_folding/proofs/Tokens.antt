@@ -3,14 +3,14 @@ use Rattle.std.proofs.Common.{◌≡◌, ◌<◌, ◌≤◌, List, [], ◌∷◌
 use Rattle.rhai_tokens.specs.declared.token.Token.{Token}
 use Rattle.rhai_base.specs.Operators.{Operator}
 use Rattle.rhai_base.specs.Builtin.{operator_of}
-use Rattle.rhai_values.specs.Value.{Value}
+use Rattle.rhai_base.specs.Value.{Value}
 use Rattle.rhai_meaning.specs.Constants.{computed_value, value_and, constant_value, constant_values}
 use Rattle.rhai_meaning.specs.Engine.{Engine}
 use Rattle.rhai_meaning.specs.Tree.{CallToken, NoToken, OfOperator, OfOther}
 use Rattle.rhai_engine.specs.EngineInfo.{built_in_of, built_in_at}
 use Rattle.rhai_engine.proofs.Operands.{built_in-few, built_in-many}
 use Rattle.rhai_tree.specs.declared.expr.Expr.{Expr}
-use Rattle.rhai_reading.specs.Reading.{mark_by, mark_of, expr_of, exprs_of}
+use Rattle.rhai_tree.specs.Reading.{mark_by, mark_of, expr_of, exprs_of}
 use Rattle.rhai_rewriting.specs.Folding.{folded_values}
 
 folded-by : (engine : Engine) (vs : List Value) (o : Option Operator) → folded_values engine (mark_by o) (Some vs) ≡ computed_value (built_in_of engine vs o)

@@ -1,13 +1,13 @@
 -- Constants other than a bool decide nothing, nor does what is none.
 use Rattle.std.proofs.Common.{◌≡◌, Bool, List, Option, Some, None, refl}
 use Rattle.rhai_tokens.specs.declared.position.Position.{Position}
-use Rattle.rhai_values.specs.declared.dynamic.Dynamic.{Dynamic}
-use Rattle.rhai_values.specs.Value.{Text, Value}
+use Rattle.rhai_base.specs.declared.dynamic.Dynamic.{Dynamic}
+use Rattle.rhai_base.specs.Value.{Text, Value}
 use Rattle.rhai_meaning.specs.Constants.{array_value, constant_bool, joined_value, map_value, truth_of}
 use Rattle.rhai_meaning.specs.Tree.{Expr}
 use Rattle.rhai_tree.specs.declared.expr.Expr as declared_expr
 use Rattle.rhai_tree.specs.declared.expr.Expr.TheVariants as expr_kind
-use Rattle.rhai_reading.proofs.Cases.{ExprCase, dynamic_constant_case, bool_constant_case, interpolated_string_case, array_case, map_case}
+use Rattle.rhai_tree.proofs.Cases.{ExprCase, dynamic_constant_case, bool_constant_case, interpolated_string_case, array_case, map_case}
 
 no_array : (vs : Option (List Value)) → None ≡ truth_of (array_value vs)
 no_array None = refl

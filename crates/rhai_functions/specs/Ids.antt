@@ -1,6 +1,6 @@
 -- Ids of tables.
 use Rattle.std.specs.Prelude.{[], ◌∷◌, Option, Some, None}
-use Rattle.rhai_values.specs.Value.{Text}
+use Rattle.rhai_base.specs.Value.{Text}
 
 -- an empty name is none
 abbrev pub named : Text → Option Text

@@ -3,7 +3,7 @@ ghost use Rattle.std.specs.Prelude.{◌≡◌, [], length, map, IsTrue, IfOk, On
 ghost use Rattle.std.specs.Option.{option_copied, option_map};
 ghost use Rattle.std.specs.Rc.{rc_value};
 ghost use Rattle.std.specs.Iterator.{YieldsFirstBy, item_count};
-ghost use Rattle.rhai_reading.specs.Reading.{function_of};
+ghost use Rattle.rhai_tree.specs.Reading.{function_of};
 ghost use Rattle.rhai_functions.specs.Table.{are_distinct, key_of, put_by, put_all_by, find_by};
 ghost use Rattle.rhai_functions.specs.FnKey.{definition_key, definitions_table, fn_key_of, key_meant, shown};
 

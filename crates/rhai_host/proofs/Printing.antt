@@ -1,9 +1,9 @@
 -- The items of a report, one after another, for a loop that goes over them.
 use Rattle.std.proofs.Common.{◌≡◌, ℕ, ◌+◌, ◌<◌, Bool, List, [], ◌∷◌, map, length, get_or, drop, refl, ap, add-one}
 use Rattle.std.proofs.Math.Seq.{drop-cons, drop-length}
-use Rattle.rhai_values.specs.Value.{Text}
-use Rattle.rhai_values.specs.declared.dynamic.Dynamic.{Dynamic}
-use Rattle.rhai_values.specs.Reading.{value_of}
+use Rattle.rhai_base.specs.Value.{Text}
+use Rattle.rhai_base.specs.declared.dynamic.Dynamic.{Dynamic}
+use Rattle.rhai_base.specs.Reading.{value_of}
 use Rattle.rhai_host.specs.declared.host.HostCall.{HostCall}
 use Rattle.rhai_host.specs.Entries.{variable_meant, export_meant}
 use Rattle.rhai_host.specs.Host.{call_meant}

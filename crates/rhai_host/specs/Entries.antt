@@ -1,9 +1,9 @@
 -- The names of a scope, and what is exported.
 use Rattle.std.specs.Prelude.{Bool, List, [], map}
-use Rattle.rhai_values.specs.Value.{Text, Value}
-use Rattle.rhai_values.specs.Reading.{value_of}
-use Rattle.rhai_values.specs.declared.dynamic.Dynamic.{Dynamic}
-use Rattle.rhai_values.specs.declared.scope.ScopeEntry.{ScopeEntry}
+use Rattle.rhai_base.specs.Value.{Text, Value}
+use Rattle.rhai_base.specs.Reading.{value_of}
+use Rattle.rhai_base.specs.declared.dynamic.Dynamic.{Dynamic}
+use Rattle.rhai_base.specs.declared.scope.ScopeEntry.{ScopeEntry}
 use Rattle.rhai_meaning.specs.Act as act
 use Rattle.rhai_meaning.specs.Desugar.{name_kind}
 use Rattle.rhai_meaning.specs.Run.{reversed}

@@ -1,6 +1,6 @@
 -- What is asked of a host, and what it answers.
 use Rattle.std.specs.Prelude.{List, [], map, option_map}
-use Rattle.rhai_values.specs.Reading.{value_of}
+use Rattle.rhai_base.specs.Reading.{value_of}
 use Rattle.rhai_meaning.specs.Act as act
 use Rattle.rhai_meaning.specs.Act.{Answer, Answers, AnswersThrow, Host}
 use Rattle.rhai_meaning.specs.Host.{ModuleValue, ModulePath, module_value_of, module_in}

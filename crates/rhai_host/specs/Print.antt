@@ -1,6 +1,6 @@
 -- How a run's report is printed.
 use Rattle.std.specs.Prelude.{List, [], ◌∷◌, ◌++◌, Option, Some, None, codes, decimal, if◌then◌else◌}
-use Rattle.rhai_values.specs.Value.{Text, Value, inner}
+use Rattle.rhai_base.specs.Value.{Text, Value, inner}
 use Rattle.rhai_meaning.specs.Act.{is_constant, ScopeEntry, HostCall, Stuck}
 use Rattle.rhai_meaning.specs.Run.{End, WithValue, WithThrown, WithStuck, WithoutTurns, Report}
 use Rattle.rhai_host.specs.Report.{stuck_number, stuck_name}

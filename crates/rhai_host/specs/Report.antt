@@ -1,7 +1,7 @@
 -- What a report says.
 use Rattle.std.specs.Prelude.{◌≡◌, ℕ, List, map, None, codes}
-use Rattle.rhai_values.specs.Value.{Text}
-use Rattle.rhai_values.specs.Reading.{value_of}
+use Rattle.rhai_base.specs.Value.{Text}
+use Rattle.rhai_base.specs.Reading.{value_of}
 use Rattle.rhai_meaning.specs.Act as act
 use Rattle.rhai_meaning.specs.Agreeing.{AgreeOn}
 use Rattle.rhai_meaning.specs.Core.{Script}

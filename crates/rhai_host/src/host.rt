@@ -1,6 +1,6 @@
 //! What a script asks its host.
 ghost use Rattle.std.specs.Prelude.{◌≡◌, ◌++◌, ◌∷◌, [], List, map, option_map, IfOk, OnOk, OnErr};
-ghost use Rattle.rhai_values.specs.Reading.{value_of};
+ghost use Rattle.rhai_base.specs.Reading.{value_of};
 ghost use Rattle.rhai_meaning.specs.Act as act;
 ghost use Rattle.rhai_meaning.specs.Host.{module_value_of, module_in};
 ghost use Rattle.rhai_host.specs.Host.{Modules, call_meant, answer_meant};

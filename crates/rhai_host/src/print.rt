@@ -1,9 +1,9 @@
 //! A run's report in print. What is not public can leave a part of what it appends, where it is refused.
-#![tactic(auto, using(rhai_values::specs::Reading::kinds, crate::proofs::Printing::steps))]
+#![tactic(auto, using(rhai_base::specs::Reading::kinds, crate::proofs::Printing::steps))]
 
 ghost use Rattle.std.specs.Prelude.{◌≡◌, ◌++◌, [], OnErr, OnOk, Some, map, string_bytes};
 ghost use Rattle.std.specs.Option.{option_copied, option_map};
-ghost use Rattle.rhai_values.specs.Reading.{value_of};
+ghost use Rattle.rhai_base.specs.Reading.{value_of};
 ghost use Rattle.rhai_host.specs.Entries.{variable_meant, export_meant};
 ghost use Rattle.rhai_host.specs.Host.{call_meant};
 ghost use Rattle.rhai_host.specs.Report.{end_meant, report_meant, stuck_meant};

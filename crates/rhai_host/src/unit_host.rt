@@ -1,8 +1,8 @@
 //! A host for looking at what a script asks.
-#![tactic(auto, using(rhai_values::specs::Reading::kinds))]
+#![tactic(auto, using(rhai_base::specs::Reading::kinds))]
 
 ghost use Rattle.std.specs.Prelude.{None};
-ghost use Rattle.rhai_values.specs.Value.{UnitV};
+ghost use Rattle.rhai_base.specs.Value.{UnitV};
 ghost use Rattle.rhai_meaning.specs.Act.{Answers};
 ghost use Rattle.rhai_host.specs.Host.{no_modules};
 

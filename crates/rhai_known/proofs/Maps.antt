@@ -13,7 +13,7 @@ use Rattle.std.proofs.lemmas.List.{reverse-append, map-append, length-take}
 use Rattle.std.proofs.lemmas.Map.Text.{btree_map_updates_text}
 use Rattle.std.proofs.lemmas.Slice.Eq.{bytes_eq-Decides}
 use Rattle.rhai_text.specs.Text.{Text}
-use Rattle.rhai_values.specs.declared.dynamic.Dynamic.{Dynamic}
+use Rattle.rhai_base.specs.declared.dynamic.Dynamic.{Dynamic}
 use Rattle.rhai_known.specs.Bindings.{Held, read, older, with_newest, without_newest, newest_first, held, held_in}
 
 abbrev pub Bound : Type 0

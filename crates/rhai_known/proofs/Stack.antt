@@ -6,8 +6,8 @@ use Rattle.std.proofs.Math.Path.{fun_ext}
 use Rattle.std.proofs.lemmas.List.{reverse-append, length-reverse}
 use Rattle.std.proofs.lemmas.Slice.Eq.{bytes_eq-Decides}
 use Rattle.rhai_text.specs.Text.{Text}
-use Rattle.rhai_values.specs.declared.dynamic.Dynamic.{Dynamic}
-use Rattle.rhai_values.specs.Reading.{value_of}
+use Rattle.rhai_base.specs.declared.dynamic.Dynamic.{Dynamic}
+use Rattle.rhai_base.specs.Reading.{value_of}
 use Rattle.rhai_rewriting.specs.Known.{look}
 use Rattle.rhai_known.specs.Bindings.{Held, newest, older, with_newest, without_newest}
 use Rattle.rhai_known.specs.State.{entries_of, Settled, known_of}

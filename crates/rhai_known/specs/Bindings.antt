@@ -8,7 +8,7 @@ use Rattle.std.specs.declared.alloc.Global.{Global}
 use Rattle.std.specs.declared.borrow.Cow.{Cow}
 use Rattle.std.specs.declared.vec.Vec.{Vec}
 use Rattle.rhai_text.specs.Text.{Text}
-use Rattle.rhai_values.specs.declared.dynamic.Dynamic.{Dynamic}
+use Rattle.rhai_base.specs.declared.dynamic.Dynamic.{Dynamic}
 
 -- what is bound to each name
 abbrev pub Held : Type 0

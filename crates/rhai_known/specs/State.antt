@@ -2,9 +2,9 @@
 use Rattle.std.specs.Prelude.{◌≡◌, Bool, List, [], ◌∷◌, length, map, Option}
 use Rattle.std.specs.Option.{option_map}
 use Rattle.rhai_text.specs.Text.{Text}
-use Rattle.rhai_values.specs.declared.dynamic.Dynamic.{Dynamic}
-use Rattle.rhai_values.specs.declared.scope.Scope.{Scope}
-use Rattle.rhai_values.specs.Reading.{value_of}
+use Rattle.rhai_base.specs.declared.dynamic.Dynamic.{Dynamic}
+use Rattle.rhai_base.specs.declared.scope.Scope.{Scope}
+use Rattle.rhai_base.specs.Reading.{value_of}
 use Rattle.rhai_rewriting.specs.Known.{Known}
 use Rattle.rhai_rewriting.specs.Steps.{Progress}
 use Rattle.rhai_engine.specs.declared.engine_info.EngineInfo.{EngineInfo}

@@ -2,7 +2,7 @@
 ghost use Rattle.std.specs.Prelude.{◌≡◌, ◌-◌, ◌∷◌, [], true, false, length, drop, OnErr, OnOk};
 ghost use Rattle.std.specs.Option.{option_copied, option_map};
 ghost use Rattle.std.specs.Map.Iter.{deref};
-ghost use Rattle.rhai_values.specs.Reading.{value_of};
+ghost use Rattle.rhai_base.specs.Reading.{value_of};
 ghost use Rattle.rhai_rewriting.specs.Known.{look};
 ghost use Rattle.rhai_known.specs.Bindings.{read};
 ghost use Rattle.rhai_known.specs.State.{known_of};
@@ -33,8 +33,8 @@ impl<'a> Model for OptimizerState<'a> {
     ghost use Rattle.std.specs.Coded.{codes};
     ghost use Rattle.std.specs.Option.{option_map};
     ghost use Rattle.std.specs.Map.Iter.{deref};
-    ghost use Rattle.rhai_values.specs.contracts.dynamic.Dynamic as dynamic;
-    ghost use Rattle.rhai_values.specs.contracts.scope.ScopeEntry as entry;
+    ghost use Rattle.rhai_base.specs.contracts.dynamic.Dynamic as dynamic;
+    ghost use Rattle.rhai_base.specs.contracts.scope.ScopeEntry as entry;
     ghost use Rattle.rhai_engine.specs.contracts.engine_info.EngineInfo as engine_info;
     ghost use Rattle.rhai_known.specs.Bindings.{held_in};
     ghost use Rattle.rhai_known.specs.State.{Standing, Settled, entries_of};

@@ -1,8 +1,8 @@
 -- Names in modules of the host, and modules by their paths.
 use Rattle.std.proofs.Common.{◌≡◌, false, List, [], ◌∷◌, Some, None, refl, ap}
-use Rattle.rhai_values.specs.declared.dynamic.Dynamic.{Dynamic}
-use Rattle.rhai_values.specs.Reading.{value_of, DynamicCase, str_case, dynamic_cases}
-use Rattle.rhai_values.specs.Value.{Text, Value, TextV}
+use Rattle.rhai_base.specs.declared.dynamic.Dynamic.{Dynamic}
+use Rattle.rhai_base.specs.Reading.{value_of, DynamicCase, str_case, dynamic_cases}
+use Rattle.rhai_base.specs.Value.{Text, Value, TextV}
 use Rattle.rhai_meaning.specs.Act.{World, Unbound, UnknownModule, WrongKind, Fail}
 use Rattle.rhai_meaning.specs.ActForms.{of_constant}
 use Rattle.rhai_meaning.specs.Desugar.{variable}

@@ -1,11 +1,11 @@
 -- The steps of chains.
 use Rattle.std.specs.Prelude.{Bool, false, ℕ, cond, List, map, Option, Some, None, Result, option_map}
-use Rattle.rhai_values.specs.declared.dynamic.Dynamic.{Dynamic}
-use Rattle.rhai_values.specs.Reading.{value_of}
-use Rattle.rhai_values.specs.Value.{Text, Value, UnitV}
+use Rattle.rhai_base.specs.declared.dynamic.Dynamic.{Dynamic}
+use Rattle.rhai_base.specs.Reading.{value_of}
+use Rattle.rhai_base.specs.Value.{Text, Value, UnitV}
 use Rattle.rhai_tree.specs.declared.expr.FnCallExpr.{FnCallExpr}
 use Rattle.rhai_tree.specs.declared.script_fn.ScriptFuncDef.{ScriptFuncDef}
-use Rattle.rhai_reading.specs.Reading.{callee_of, exprs_of, is_negated}
+use Rattle.rhai_tree.specs.Reading.{callee_of, exprs_of, is_negated}
 use Rattle.rhai_functions.specs.FnKey.{definition_key}
 use Rattle.rhai_functions.specs.Table.{find_by}
 use Rattle.rhai_meaning.specs.Act.{Act, Key, Invoke}

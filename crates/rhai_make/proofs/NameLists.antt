@@ -2,7 +2,7 @@
 use Rattle.std.proofs.Common.{◌≡◌, ℕ, ◌+◌, ◌<◌, List, [], ◌∷◌, map, length, get_or, drop, refl, ap, add-one}
 use Rattle.std.proofs.Math.Seq.{drop-cons, drop-length}
 use Rattle.std.specs.Borrow.{Bor}
-use Rattle.rhai_values.specs.Value.{Text}
+use Rattle.rhai_base.specs.Value.{Text}
 
 pub names-drop : (xs : List (Bor Text)) (i : ℕ) (d : Bor Text) → i < length xs
     → map (λ name. name.now) (drop i xs) ≡ (get_or xs i d).now ∷ map (λ name. name.now) (drop (i + 1) xs)

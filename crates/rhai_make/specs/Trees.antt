@@ -1,7 +1,7 @@
 -- Short forms of trees.
 use Rattle.std.specs.Prelude.{[], false, true}
-use Rattle.rhai_names.specs.declared.flags.ASTFlags.{ASTFlags}
-use Rattle.rhai_values.specs.Value.{Text}
+use Rattle.rhai_tokens.specs.declared.flags.ASTFlags.{ASTFlags}
+use Rattle.rhai_base.specs.Value.{Text}
 use Rattle.rhai_meaning.specs.Tree.{Callee, CallToken, ChainFlags, Expr, Variable, FnCall, Index, no_exprs, expr}
 
 -- what is called by its name alone

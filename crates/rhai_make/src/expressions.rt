@@ -1,10 +1,10 @@
 //! Expressions.
-#![tactic(auto, using(rhai_reading::specs::Reading::shapes, rhai_reading::specs::Positions::places))]
+#![tactic(auto, using(rhai_tree::specs::Reading::shapes, rhai_tree::specs::Positions::places))]
 
 ghost use Rattle.std.specs.Prelude.{◌≡◌, IfOk, None, Some};
 ghost use Rattle.rhai_tokens.specs.Symbols.{token_text};
-ghost use Rattle.rhai_reading.specs.Reading.{callee_of, expr_of, exprs_of, mark_of, stmts_of};
-ghost use Rattle.rhai_reading.specs.Positions.{options_of, position_of};
+ghost use Rattle.rhai_tree.specs.Reading.{callee_of, expr_of, exprs_of, mark_of, stmts_of};
+ghost use Rattle.rhai_tree.specs.Positions.{options_of, position_of};
 ghost use Rattle.rhai_meaning.specs.Tree.{ArrayOf, BlockExpr, FnCall, IntegerConstant, StringConstant};
 ghost use Rattle.rhai_make.specs.Trees as tree;
 

@@ -1,8 +1,8 @@
 //! Functions.
-#![tactic(auto, using(rhai_reading::specs::Reading::shapes, crate::proofs::NameLists::steps))]
+#![tactic(auto, using(rhai_tree::specs::Reading::shapes, crate::proofs::NameLists::steps))]
 
 ghost use Rattle.std.specs.Prelude.{◌≡◌, [], IfOk, None, map};
-ghost use Rattle.rhai_reading.specs.Reading.{function_of, stmts_of};
+ghost use Rattle.rhai_tree.specs.Reading.{function_of, stmts_of};
 ghost use Rattle.rhai_tree.specs.Defaults.{nowhere};
 ghost use Rattle.rhai_tree.specs.declared.script_fn.FnAccess.TheVariants as access;
 

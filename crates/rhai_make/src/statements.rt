@@ -1,9 +1,9 @@
 //! Statements.
-#![tactic(auto, using(rhai_reading::specs::Reading::shapes, rhai_reading::specs::Positions::places))]
+#![tactic(auto, using(rhai_tree::specs::Reading::shapes, rhai_tree::specs::Positions::places))]
 
 ghost use Rattle.std.specs.Prelude.{◌≡◌, IfOk, None};
-ghost use Rattle.rhai_reading.specs.Reading.{expr_of, exprs_of, is_const, is_exported, mark_of, stmt_of, stmts_of};
-ghost use Rattle.rhai_reading.specs.Positions.{start_of, stmt_options_of, stmt_position_of};
+ghost use Rattle.rhai_tree.specs.Reading.{expr_of, exprs_of, is_const, is_exported, mark_of, stmt_of, stmts_of};
+ghost use Rattle.rhai_tree.specs.Positions.{start_of, stmt_options_of, stmt_position_of};
 ghost use Rattle.rhai_meaning.specs.Tree.{Assignment, Block, ExprStmt, FnCallStmt, Var};
 ghost use Rattle.rhai_make.specs.Trees as tree;
 

@@ -1,6 +1,6 @@
 -- A run that ends, with enough depth and turns.
 use Rattle.std.proofs.Common.{List, ◌≡◌, ℕ, zero, suc, ◌+◌, ◌≤◌, Option, refl, ap, ◌∙◌, subst, arith}
-use Rattle.rhai_values.specs.Value.{Value}
+use Rattle.rhai_base.specs.Value.{Value}
 use Rattle.rhai_meaning.specs.Act.{ScopeEntry, HostCall, Store, Returns, Throws, Again, Ending, Gives, Leaves, Halt, IsStuck, Stuck, OutOfTurns, Outcome, Ended, Halted, Result, At, and_then, with_turn, leave, restore, call_then, returned_outcome, returned, on_again, rounds}
 use Rattle.rhai_meaning.proofs.Relations.{Follows, same, short, IsOut}
 use Rattle.rhai_meaning.proofs.Monotone.{Action}

@@ -2,9 +2,9 @@
 use Rattle.std.proofs.Common.{◌≡◌, ℕ, Bool, true, false, not, cond, ◌&&◌, List, [], ◌∷◌, Option, Some, None, refl, sym, ap, ◌∙◌, subst}
 use Rattle.std.specs.Prelude.{codes, if◌then◌else◌, ◌==◌}
 use Rattle.std.proofs.lemmas.Slice.Eq.{bytes_eq-Decides}
-use Rattle.rhai_values.specs.Value.{Text, Value, UnitV, TextV, ArrayV, PointerV, no_values, item, values, same_text}
+use Rattle.rhai_base.specs.Value.{Text, Value, UnitV, TextV, ArrayV, PointerV, no_values, item, values, same_text}
 use Rattle.rhai_base.specs.Operators.{Operator, Plus, UpTo, Through, symbol, arity, computed, binary}
-use Rattle.rhai_names.specs.Names.{is_valid_name}
+use Rattle.rhai_tokens.specs.Names.{is_valid_name}
 use Rattle.rhai_meaning.specs.Act.{World, Store, Gives, Ended, At, Act, Env, and_then, run}
 use Rattle.rhai_meaning.specs.ActForms.{give, value_then, choose}
 use Rattle.rhai_meaning.specs.Constants.{array_value, map_value, joined_value, value_and, entry_and, constant_value, constant_values, constant_entries, range_end, range_literal, pointer_literal, named_value, call_value, literal_value, constant_for}

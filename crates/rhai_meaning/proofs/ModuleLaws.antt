@@ -1,7 +1,7 @@
 -- The laws on exports and aliases.
 use Rattle.std.proofs.Common.{◌≡◌, ℕ, Bool, true, false, cond, ◌&&◌, List, ◌∷◌, Some, refl, sym, ap, ◌∙◌}
 use Rattle.std.proofs.lemmas.Slice.Eq.{bytes_eq-Decides}
-use Rattle.rhai_values.specs.Value.{Text, Value, UnitV, same_text}
+use Rattle.rhai_base.specs.Value.{Text, Value, UnitV, same_text}
 use Rattle.rhai_meaning.specs.Act.{EntryKind, IsVariable, IsConstant, IsExport, is_constant, is_alias, module_name, resolved, found, read, World, ScopeEntry, Store, Ending, Gives, Leaves, OfName, Act, Read, Acts, Named, Env, and_then, run, run_all}
 use Rattle.rhai_meaning.specs.ActForms.{each_value, then_line}
 use Rattle.rhai_meaning.specs.Desugar.{name_kind, core_expr}

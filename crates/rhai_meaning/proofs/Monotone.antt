@@ -1,6 +1,6 @@
 -- One result follows another: how that passes through each part of a run. More turns and a deeper call.
 use Rattle.std.proofs.Common.{ℕ, zero, suc, ◌+◌, ◌≤◌, Bool, true, false, List, [], ◌∷◌, ◌++◌, Option, Some, None, arith}
-use Rattle.rhai_values.specs.Value.{Text, Value}
+use Rattle.rhai_base.specs.Value.{Text, Value}
 use Rattle.rhai_meaning.specs.Act.{ScopeEntry, is_constant, resolved, HostCall, Store, World, Again, Ending, Gives, Leaves, Halt, OutOfTurns, Ended, Halted, Result, At, Root, OfName, OfThis, ScriptCall, Act, Stop, Fail, Then, Turn, Read, Write, Resolve, AskHost, Invoke, Loop, Scoped, Acts, Only, Do, Named, Finish, Env, and_then, with_turn, found, read, read_this, read_root, write_at, write, write_this, write_root, leave, call_then, returned, on_again, rounds, run, run_all}
 use Rattle.rhai_meaning.specs.Relations.{Begins, here, calls_of, store_of}
 use Rattle.rhai_meaning.proofs.Relations.{Follows, same, short, AnyHalt, IsOut, Keeps}

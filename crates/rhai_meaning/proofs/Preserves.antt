@@ -1,6 +1,6 @@
 -- What holds of a single act: calls are only added, and the names of the scope and its constants stay.
 use Rattle.std.proofs.Common.{◌≡◌, ℕ, zero, suc, ◌-◌, ◌≤◌, Bool, true, false, cond, List, [], ◌∷◌, ◌++◌, length, drop, Option, Some, None, refl, sym, ap, ◌∙◌, subst, arith}
-use Rattle.rhai_values.specs.Value.{Text, Value}
+use Rattle.rhai_base.specs.Value.{Text, Value}
 use Rattle.rhai_meaning.specs.Engine.{Binding}
 use Rattle.rhai_meaning.specs.Act.{ScopeEntry, is_constant, is_called, HostCall, Store, World, Again, Ending, Gives, Leaves, Ended, Halted, Result, At, Root, OfName, OfThis, Act, Stop, Fail, Then, Turn, Read, Write, Resolve, AskHost, Invoke, Loop, Scoped, Acts, Only, Do, Named, Finish, Env, and_then, with_turn, found, put, read, read_this, read_root, write_at, write, write_this, write_root, resolved, restore, leave, call_then, returned, on_again, rounds, run, run_all}
 use Rattle.rhai_meaning.specs.Relations.{Begins, here, more, calls_of, store_of}

@@ -1,7 +1,7 @@
 -- Acts that change nothing: they take some turns, and then give a value or are stuck.
 use Rattle.std.proofs.Common.{◌≡◌, ℕ, zero, suc, ◌+◌, Bool, true, false, cond, List, [], ◌∷◌, Option, Some, None, refl, sym, ap, ◌∙◌, arith}
 use Rattle.std.specs.Prelude.{nat_lt, ◌^◌, ℤ, pos, ◌+ℤ◌}
-use Rattle.rhai_values.specs.Value.{Text, Value, UnitV, IntV}
+use Rattle.rhai_base.specs.Value.{Text, Value, UnitV, IntV}
 use Rattle.rhai_meaning.specs.Act.{World, EntryKind, IsVariable, Unbound, OfName, Read, found, read, ScopeEntry, Store, Ending, Gives, Leaves, Again, Stuck, WrongKind, CounterTooLarge, Halt, IsStuck, OutOfTurns, Outcome, Ended, Halted, Result, At, Act, Stop, Fail, Then, Turn, Loop, Scoped, Acts, Only, Do, Named, Env, and_then, with_turn, leave, restore, rounds, on_again, run}
 use Rattle.rhai_meaning.specs.ActForms.{give, ◌>>=◌, choose, truth, branch, if_true, on_throw, end_round, again_then, each_value, then_line}
 use Rattle.rhai_meaning.specs.Control.{round, counted, for_each, for_count}

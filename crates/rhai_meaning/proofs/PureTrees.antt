@@ -1,7 +1,7 @@
 -- What is pure changes nothing, calls nobody, throws nothing, and gives a value or is stuck after some turns.
 use Rattle.std.proofs.Common.{◌≡◌, ℕ, zero, suc, Bool, true, false, cond, ◌&&◌, List, [], ◌∷◌, ◌++◌, Option, Some, None, refl, ap, ◌∙◌}
 use Rattle.std.specs.Prelude.{slice_get, ◌+ℤ◌, ◌-ℤ◌, pos}
-use Rattle.rhai_values.specs.Value.{Text, Value, UnitV, BoolV, TextV, ArrayV, RangeV, RangeInclusiveV, items, is_hashable, same}
+use Rattle.rhai_base.specs.Value.{Text, Value, UnitV, BoolV, TextV, ArrayV, RangeV, RangeInclusiveV, items, is_hashable, same}
 use Rattle.rhai_meaning.specs.Act.{World, EntryKind, IsExport, WrongKind, UnknownModule, OfName, Act, Stop, Read, Scoped, Leaves, Again, Acts, Only, Named}
 use Rattle.rhai_meaning.specs.ActForms.{give, unit, if_true, ◌>>=◌, then_line}
 use Rattle.rhai_meaning.specs.Control.{round, ArmActs, holds, ranges_with, case_for, or_ranges, chosen, try_arm, first_arm, answer_of, default_of, switch_on, size, for_all, do_loop}

@@ -1,6 +1,6 @@
 -- The laws on purity and dependence.
 use Rattle.std.proofs.Common.{◌≡◌, ℕ, zero, suc, ◌+◌, ◌-◌, ◌≤◌, Bool, true, false, List, refl, sym, ap, ◌∙◌, subst, arith}
-use Rattle.rhai_values.specs.Value.{Text, Value}
+use Rattle.rhai_base.specs.Value.{Text, Value}
 use Rattle.rhai_meaning.specs.Act.{World, EntryKind, ScopeEntry, Store, Outcome, Result, At, Act, Acts, Only, Named, Env, and_then, run, run_all}
 use Rattle.rhai_meaning.specs.ActForms.{give, unit, each_value, then_line}
 use Rattle.rhai_meaning.specs.Core as core

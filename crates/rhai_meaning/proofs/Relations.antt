@@ -1,6 +1,6 @@
 -- How one result relates to another, and one scope to a later one.
 use Rattle.std.specs.Prelude.{◌≡◌, ℕ, ◌+◌, ◌≤◌, false, List, [], ◌∷◌}
-use Rattle.rhai_values.specs.Value.{Value}
+use Rattle.rhai_base.specs.Value.{Value}
 use Rattle.rhai_meaning.specs.Act.{is_constant, ScopeEntry, Store, Halt, IsStuck, OutOfTurns, Outcome, Halted, Result, At}
 use Rattle.rhai_meaning.specs.Relations.{Begins, calls_of}
 

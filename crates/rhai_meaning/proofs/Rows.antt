@@ -2,8 +2,8 @@
 use Rattle.std.proofs.Common.{◌≡◌, ℕ, Bool, true, false, List, [], ◌∷◌, ◌++◌, Option, Some, None, if◌then◌else◌, refl, sym, ap, ◌∙◌, subst, append_assoc, ◌&&◌}
 use Rattle.std.proofs.lemmas.Bool.{and_parts}
 use Rattle.std.proofs.lemmas.List.{append-nil}
-use Rattle.rhai_values.specs.Value.{Text, Value, TextV, ArrayV, items, values, same_text, same_items}
-use Rattle.rhai_values.proofs.Same.{same_exact, same_itself}
+use Rattle.rhai_base.specs.Value.{Text, Value, TextV, ArrayV, items, values, same_text, same_items}
+use Rattle.rhai_base.proofs.Same.{same_exact, same_itself}
 use Rattle.rhai_meaning.specs.Engine.{Engine}
 use Rattle.rhai_meaning.specs.Act.{ScopeEntry, HostCall, Answer, Host}
 use Rattle.rhai_meaning.specs.Core.{Script}

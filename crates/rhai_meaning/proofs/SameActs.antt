@@ -1,6 +1,6 @@
 -- What a script means doesn't depend on what a host answers: worlds that differ in that alone make the same acts of it.
 use Rattle.std.proofs.Common.{◌≡◌, Bool, true, false, List, [], ◌∷◌, Option, Some, None, refl}
-use Rattle.rhai_values.specs.Value.{Text, Value, UnitV, BoolV, TextV, PointerV}
+use Rattle.rhai_base.specs.Value.{Text, Value, UnitV, BoolV, TextV, PointerV}
 use Rattle.rhai_base.specs.Operators.{Operator}
 use Rattle.rhai_meaning.specs.Engine.{Engine}
 use Rattle.rhai_meaning.specs.Act.{Leaves, Host, Key, Root, World, Act, Stop, Then, Read, Resolve, Loop, Scoped, Acts, Do, Named, Finish}

@@ -1,7 +1,7 @@
 -- The laws of sequencing: unit, associativity and extensionality, of results, of acts by their value, and of lists; what
 -- leaves takes nothing of what follows with it. Braces and the end of a body pass through.
 use Rattle.std.proofs.Common.{◌≡◌, ℕ, ◌-◌, List, ◌∷◌, length, drop, refl, ap, ◌∙◌}
-use Rattle.rhai_values.specs.Value.{Text, Value}
+use Rattle.rhai_base.specs.Value.{Text, Value}
 use Rattle.rhai_meaning.specs.Act.{EntryKind, ScopeEntry, Store, World, Exit, Ending, Gives, Leaves, Ended, Halted, Result, At, Act, Stop, Then, Scoped, Acts, Only, Do, Named, Finish, Env, and_then, leave, returned, run, run_all}
 use Rattle.rhai_meaning.specs.ActForms.{give, value_then, ◌>>=◌, each_value, then_line}
 use Rattle.rhai_meaning.specs.Relations.{store_of}

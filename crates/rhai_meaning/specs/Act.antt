@@ -1,6 +1,6 @@
 -- Acts, of which the meaning of every construct is made, and what an act does from a store with some turns left.
 use Rattle.std.specs.Prelude.{ℕ, zero, suc, ◌-◌, Bool, true, false, cond, ◌&&◌, List, [], ◌∷◌, ◌++◌, length, drop, Option, Some, None, option_map}
-use Rattle.rhai_values.specs.Value.{Text, Value, UnitV, TextV, same_text}
+use Rattle.rhai_base.specs.Value.{Text, Value, UnitV, TextV, same_text}
 use Rattle.rhai_meaning.specs.Engine.{Engine, Binding, constant_named}
 
 -- what stands in the scope: a name, which is a variable or a constant; an alias, whose value is a module's name; an export

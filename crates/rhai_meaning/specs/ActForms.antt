@@ -1,6 +1,6 @@
 -- Short forms of acts.
 use Rattle.std.specs.Prelude.{Bool, true, false, List, Option, Some, None}
-use Rattle.rhai_values.specs.Value.{Text, Value, UnitV, BoolV, TextV}
+use Rattle.rhai_base.specs.Value.{Text, Value, UnitV, BoolV, TextV}
 use Rattle.rhai_meaning.specs.Act.{Breaks, Continues, Throws, Again, Ending, Gives, Leaves, WrongKind, Unbound, Answer, Answers, AnswersThrow, Act, Stop, Fail, Then, AskHost, Acts, Only, Do}
 
 abbrev pub give : Value → Act

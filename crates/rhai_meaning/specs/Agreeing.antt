@@ -1,6 +1,6 @@
 -- Hosts that answer the calls of a run alike.
 use Rattle.std.specs.Prelude.{◌≡◌, List, [], ◌∷◌, ◌++◌}
-use Rattle.rhai_values.specs.Value.{Text}
+use Rattle.rhai_base.specs.Value.{Text}
 use Rattle.rhai_meaning.specs.Act.{HostCall, Host}
 use Rattle.rhai_meaning.specs.Relations.{Begins}
 

@@ -1,11 +1,11 @@
 -- Calls: operators, the language's own functions, script functions and the host.
 use Rattle.std.specs.Prelude.{ℕ, Bool, true, false, ◌&&◌, ◌||◌, List, [], ◌∷◌, ◌++◌, length, Option, Some, None, cond, codes, ◌==◌}
-use Rattle.rhai_values.specs.Value.{Text, Value, BoolV, TextV, PointerV, items, values, same_text}
+use Rattle.rhai_base.specs.Value.{Text, Value, BoolV, TextV, PointerV, items, values, same_text}
 use Rattle.rhai_base.specs.Operators.{Operator, Computed, NoEntry, Is, Overflows, symbol}
 use Rattle.rhai_meaning.specs.Engine.{built_in, asks_assigning, assigning, mapped_type_name}
 use Rattle.rhai_meaning.specs.Act.{WrongKind, Key, World, Act, Fail, Resolve, Invoke}
 use Rattle.rhai_meaning.specs.Core.{Callee, OnOperator, Qualified, ByName}
-use Rattle.rhai_names.specs.Names.{is_valid_name}
+use Rattle.rhai_tokens.specs.Names.{is_valid_name}
 use Rattle.rhai_meaning.specs.ActForms.{give, throw, choose, ask_host}
 
 -- ---- operators

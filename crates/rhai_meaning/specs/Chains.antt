@@ -1,6 +1,6 @@
 -- Chains of properties, indices and methods: what one step does, and the last step of an assignment.
 use Rattle.std.specs.Prelude.{Bool, true, false, ◌&&◌, List, [], ◌∷◌, length, Option, Some, None, ℤ, cond, codes, option_map}
-use Rattle.rhai_values.specs.Value.{Text, Value, BoolV, IntV, TextV, ArrayV, MapV, type_name}
+use Rattle.rhai_base.specs.Value.{Text, Value, BoolV, IntV, TextV, ArrayV, MapV, type_name}
 use Rattle.rhai_base.specs.Operators.{Operator}
 use Rattle.rhai_meaning.specs.Act.{NoPlace, Root, Key, World, Act, Fail, Read, Write, Invoke}
 use Rattle.rhai_meaning.specs.ActForms.{unit, throw, choose, ◌>>=◌, ask_method}

@@ -1,6 +1,6 @@
 -- Loops, `switch` and `try` over the acts of their parts.
 use Rattle.std.specs.Prelude.{ℕ, zero, suc, ◌^◌, Bool, true, false, cond, ◌&&◌, List, [], ◌∷◌, ◌++◌, Option, Some, None, ℤ, pos, negsuc, ◌+ℤ◌, ◌-ℤ◌, nat_lt, slice_get, int_lt, int_le}
-use Rattle.rhai_values.specs.Value.{Text, Value, IntV, ArrayV, RangeV, RangeInclusiveV, items, same, is_hashable, text_of}
+use Rattle.rhai_base.specs.Value.{Text, Value, IntV, ArrayV, RangeV, RangeInclusiveV, items, same, is_hashable, text_of}
 use Rattle.rhai_meaning.specs.Act.{IsVariable, Throws, Again, Ending, Gives, Leaves, WrongKind, CounterTooLarge, Act, Stop, Fail, Then, Turn, Loop, Scoped, Acts, Only, Named}
 use Rattle.rhai_meaning.specs.Tree.{IntRange, ExclusiveInt, InclusiveInt, SwitchTable, SwitchCase, SwitchRange}
 use Rattle.rhai_meaning.specs.Shape.{is_unit}

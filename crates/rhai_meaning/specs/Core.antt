@@ -1,6 +1,6 @@
 -- What a tree means, as a tree: no tests are left to make, and all nodes without meaning have one form.
 use Rattle.std.specs.Prelude.{Bool, List, Option}
-use Rattle.rhai_values.specs.Value.{Text, Value}
+use Rattle.rhai_base.specs.Value.{Text, Value}
 use Rattle.rhai_base.specs.Operators.{Operator}
 use Rattle.rhai_meaning.specs.Act.{EntryKind, Root}
 use Rattle.rhai_meaning.specs.Tree.{PropertyNames, SwitchTable}

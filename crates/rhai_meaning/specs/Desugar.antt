@@ -1,6 +1,6 @@
 -- From trees to their core: each test of a node is made here, once.
 use Rattle.std.specs.Prelude.{ℕ, Bool, true, false, not, cond, ◌&&◌, List, [], ◌∷◌, map, Option, Some, None}
-use Rattle.rhai_values.specs.Value.{Text, UnitV, BoolV, IntV, CharV, TextV}
+use Rattle.rhai_base.specs.Value.{Text, UnitV, BoolV, IntV, CharV, TextV}
 use Rattle.rhai_meaning.specs.Act.{EntryKind, IsVariable, IsConstant, IsAlias, IsExport, Root, OfName, OfThis}
 use Rattle.rhai_meaning.specs.Calls.{within}
 use Rattle.rhai_meaning.specs.Tree as tree

@@ -1,7 +1,7 @@
 -- Elements, entries, characters and bits: one part of a value, read and written.
 use Rattle.std.specs.Prelude.{ℕ, zero, suc, ◌-◌, ◌/◌, ◌%◌, ◌^◌, List, [], ◌∷◌, length, Option, Some, None, ℤ, pos, negsuc, ◌==◌, nat_lt, slice_get, if◌then◌else◌, option_map}
 use Rattle.std.specs.Str.{chars}
-use Rattle.rhai_values.specs.Value.{Text, Value, Values, Fields, UnitV, BoolV, CharV, no_values, item, no_fields, field, same_text}
+use Rattle.rhai_base.specs.Value.{Text, Value, Values, Fields, UnitV, BoolV, CharV, no_values, item, no_fields, field, same_text}
 use Rattle.rhai_base.specs.Operators.{bits_of, text_lt}
 
 abbrev pub if_below : ℕ → ℕ → Option ℕ

@@ -1,6 +1,6 @@
 -- The engine's record: what it fixes for every script.
 use Rattle.std.specs.Prelude.{Bool, true, false, not, ◌&&◌, ◌||◌, List, [], ◌∷◌, ◌++◌, map, Option, Some, None, if◌then◌else◌, codes}
-use Rattle.rhai_values.specs.Value.{Text, Value, type_name, same_text}
+use Rattle.rhai_base.specs.Value.{Text, Value, type_name, same_text}
 use Rattle.rhai_base.specs.Operators.{Operator, Computed, NoEntry, Is, Overflows, computed, symbol, is_range}
 
 pub record Binding : Type 0 where

@@ -2,8 +2,8 @@
 use Rattle.std.specs.Prelude.{◌≡◌, ℕ, Bool, true, false, not, ◌&&◌, ◌||◌, List, [], ◌∷◌, Option, Some, None}
 pub use Rattle.rhai_tokens.specs.declared.error.TreeFault.{TreeFault}
 pub use Rattle.rhai_tokens.specs.declared.error.TreeFault.TheVariants.{DuplicateMapKey, MapTemplate, NoOperands, UnitConstant, BreakOutsideLoop, ReservedName, ChainShape, AssignTarget, OperatorName, CatchName, SwitchTable as SwitchFault}
-use Rattle.rhai_values.specs.Value.{Text}
-use Rattle.rhai_names.specs.Names.{is_among, reserved, symbols}
+use Rattle.rhai_base.specs.Value.{Text}
+use Rattle.rhai_tokens.specs.Names.{is_among, reserved, symbols}
 use Rattle.rhai_meaning.specs.Engine.{or_else}
 use Rattle.rhai_meaning.specs.Shape.{is_unit, has_token, is_rest, is_table, is_left_side, catch_name, keys, are_distinct, are_among}
 use Rattle.rhai_meaning.specs.Tree.{Callee, Expr, DynamicConstant, MapOf, Property, MethodCall, FnCall, Dot, Index, And, Or, Coalesce, Exprs, no_exprs, expr, count_exprs, Stmt, Switch, Assignment, FnCallStmt, TryCatch, BreakLoop, Stmts, Function, Script}

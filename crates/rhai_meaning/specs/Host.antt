@@ -1,6 +1,6 @@
 -- A host by rows.
 use Rattle.std.specs.Prelude.{Bool, true, false, ◌&&◌, List, [], ◌∷◌, ◌++◌, Option, Some, None, if◌then◌else◌}
-use Rattle.rhai_values.specs.Value.{Text, Value, UnitV, same, same_items, same_text, values}
+use Rattle.rhai_base.specs.Value.{Text, Value, UnitV, same, same_items, same_text, values}
 use Rattle.rhai_meaning.specs.Act.{HostCall, Answer, Answers, Host}
 
 pub record Row : Type 0 where

@@ -1,7 +1,7 @@
 -- What is promised of runs of pure and of literal trees.
 use Rattle.std.specs.Prelude.{◌≡◌, ℕ, zero, suc, ◌-◌, ◌≤◌, Bool, true, false, List, [], ◌∷◌, Some, None}
-use Rattle.rhai_values.specs.Value.{Text, Value, PointerV}
-use Rattle.rhai_names.specs.Names.{is_valid_name}
+use Rattle.rhai_base.specs.Value.{Text, Value, PointerV}
+use Rattle.rhai_tokens.specs.Names.{is_valid_name}
 use Rattle.rhai_meaning.specs.Act.{World, IsExport, ScopeEntry, Store, Gives, Stuck, IsStuck, OutOfTurns, Outcome, Ended, Halted, Result, At, Act, Acts, Only, Env, resolved, run, run_all}
 use Rattle.rhai_meaning.specs.ActForms.{give}
 use Rattle.rhai_meaning.specs.Constants.{constant_value, literal_value, constant_for}

@@ -1,6 +1,6 @@
 -- What scripts do: the act of each construct, by recursion on the core alone.
 use Rattle.std.specs.Prelude.{Bool, true, false, List, [], ◌∷◌, Option, Some, None}
-use Rattle.rhai_values.specs.Value.{Text, Value, UnitV, BoolV, TextV, ArrayV, MapV, values}
+use Rattle.rhai_base.specs.Value.{Text, Value, UnitV, BoolV, TextV, ArrayV, MapV, values}
 use Rattle.rhai_base.specs.Operators.{Operator}
 use Rattle.rhai_meaning.specs.Act.{Exit, Returns, Breaks, Continues, Throws, Leaves, WrongKind, NoPlace, UnknownModule, IsExport, OfName, OfThis, World, Act, Stop, Fail, Read, Resolve, Loop, Scoped, Acts, Only, Named}
 use Rattle.rhai_meaning.specs.Core.{ExitKind, Breaking, Continuing, Returning, Throwing, Expr, Ill, Constant, InterpolatedString, ArrayOf, MapOf, Variable, ModuleVariable, ModuleOf, ThisPtr, BlockExpr, FnCall, Chain, And, Or, Coalesce, Exprs, no_exprs, expr, Pairs, no_pairs, pair, Base, OnPlace, OnValue, Step, IllStep, Property, Index, Method, Steps, last, more, Target, IllTarget, Nowhere, ToRoot, ToPart, Guard, Always, When, Arms, no_arms, arm, Deed, IllDeed, Noop, If, Switch, While, Do, For, Assignment, Block, TryCatch, Evaluate, Discard, Leave, Stmt, Var, Does, Stmts, no_stmts, stmt}

@@ -1,6 +1,6 @@
 -- Places: a name or `this`, and the keys that lead on from there through arrays and maps.
 use Rattle.std.specs.Prelude.{Bool, not, List, [], ◌∷◌, ◌++◌, Option, Some, None, ℤ, option_map}
-use Rattle.rhai_values.specs.Value.{Text, Value, ArrayV, MapV, same}
+use Rattle.rhai_base.specs.Value.{Text, Value, ArrayV, MapV, same}
 use Rattle.rhai_meaning.specs.Act.{NoPlace, Root, Act, Fail, Read, Write}
 use Rattle.rhai_meaning.specs.ActForms.{give, unit, ◌>>=◌}
 use Rattle.rhai_meaning.specs.Elements.{at_index, element, with_element, entry, with_entry}

@@ -2,7 +2,7 @@
 use Rattle.std.specs.Prelude.{ℕ, Bool, true, false, ◌&&◌, ◌||◌, List, [], ◌∷◌, ◌++◌, Option, Some, None, codes}
 use Rattle.rhai_tokens.specs.declared.token.Token.{Token}
 use Rattle.rhai_tokens.specs.declared.token.Token.TheVariants as token
-use Rattle.rhai_values.specs.Value.{same_text, same_bool}
+use Rattle.rhai_base.specs.Value.{same_text, same_bool}
 use Rattle.rhai_meaning.specs.Constants.{is_constant, are_constant}
 use Rattle.rhai_meaning.specs.Shape.{is_none}
 use Rattle.rhai_meaning.specs.Tree.{Callee, SwitchTable, Expr, BoolConstant, UnitConstant, InterpolatedString, ArrayOf, MapOf, Variable, Property, BlockExpr, FnCall, And, Or, Coalesce, Exprs, no_exprs, expr, Pairs, no_pairs, pair, Arms, no_arms, arm, Stmt, Noop, If, Switch, While, Do, For, Var, FnCallStmt, Block, TryCatch, ExprStmt, BreakLoop, Return, Import, Export, Stmts, no_stmts, stmt}

@@ -1,6 +1,6 @@
 -- Script calls, and the run of a whole script.
 use Rattle.std.specs.Prelude.{ℕ, zero, suc, Bool, true, false, cond, ◌&&◌, List, [], ◌∷◌, length, map, Option, Some, None}
-use Rattle.rhai_values.specs.Value.{Text, Value, UnitV}
+use Rattle.rhai_base.specs.Value.{Text, Value, UnitV}
 use Rattle.rhai_meaning.specs.Engine.{Engine}
 use Rattle.rhai_meaning.specs.Act.{EntryKind, IsVariable, IsExport, is_name, ScopeEntry, HostCall, Host, Key, World, Store, Stuck, Unbound, WrongKind, Returns, Throws, Gives, Leaves, IsStuck, OutOfTurns, Outcome, Ended, Halted, Result, At, ScriptCall, Acts, Finish, Env, with_turn, run_all}
 use Rattle.rhai_meaning.specs.Core.{Function, Script, Stmts}

@@ -1,10 +1,10 @@
 -- Which nodes have a meaning: the tests of one node, which run nothing.
 use Rattle.std.specs.Prelude.{ℕ, zero, suc, Bool, true, false, not, ◌&&◌, ◌||◌, List, [], ◌∷◌, Option, Some, None, if◌then◌else◌, ◌==◌, nat_lt}
-use Rattle.rhai_values.specs.Value.{Text, same_text, is_hashable}
-pub use Rattle.rhai_values.specs.Value.{is_unit}
+use Rattle.rhai_base.specs.Value.{Text, same_text, is_hashable}
+pub use Rattle.rhai_base.specs.Value.{is_unit}
 use Rattle.rhai_base.specs.Operators.{symbol, arity}
-use Rattle.rhai_names.specs.Names.{is_among, are_all, symbols, barred}
-pub use Rattle.rhai_names.specs.Paths.{is_none}
+use Rattle.rhai_tokens.specs.Names.{is_among, are_all, symbols, barred}
+pub use Rattle.rhai_tokens.specs.Paths.{is_none}
 use Rattle.rhai_meaning.specs.Tree.{CallToken, NoToken, OfOperator, OfOther, Callee, ChainFlags, SwitchCase, SwitchTable, Expr, Pairs, Arms, BoolConstant, UnitConstant, Variable, ThisPtr, Property, MethodCall, Dot, Index, no_pairs, pair, no_arms, arm, count_arms}
 
 -- ---- calls

@@ -1,7 +1,7 @@
 -- Trees as rhai has them, without positions and memory: on them stand the faults, the weight, the rewrite rules
 -- and what is left to reduce.
 use Rattle.std.specs.Prelude.{ℕ, ℤ, Bool, List, [], ◌∷◌, Option, suc}
-use Rattle.rhai_values.specs.Value.{Text, Value}
+use Rattle.rhai_base.specs.Value.{Text, Value}
 use Rattle.rhai_base.specs.Operators.{Operator}
 
 -- the token that a call holds

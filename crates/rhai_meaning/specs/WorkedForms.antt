@@ -1,7 +1,7 @@
 -- Short forms for worked runs: trees and hosts that are written by hand.
 use Rattle.std.specs.Prelude.{ℕ, Bool, false, List, [], ◌∷◌, ◌++◌, None, pos, codes}
 use Prim.Native.String.{String}
-use Rattle.rhai_values.specs.Value.{Text, Value, UnitV, IntV, TextV, text_of}
+use Rattle.rhai_base.specs.Value.{Text, Value, UnitV, IntV, TextV, text_of}
 use Rattle.rhai_base.specs.Operators.{Operator, symbol, computed}
 use Rattle.rhai_meaning.specs.Act.{HostCall, Host, Answer, Answers, AnswersThrow}
 use Rattle.rhai_meaning.specs.Desugar.{core_script}

@@ -1,9 +1,9 @@
 -- The guard of a loop, and blocks that are not empty.
 use Rattle.std.proofs.Common.{◌≡◌, false, ◌==◌, List, [], ◌∷◌, ◌++◌, codes, length, refl, ap, append_assoc, ◌∙◌}
 use Rattle.rhai_tree.specs.declared.stmt.Stmt as declared
-use Rattle.rhai_values.specs.Value.{Text}
+use Rattle.rhai_base.specs.Value.{Text}
 use Rattle.rhai_meaning.specs.Tree.{DynamicConstant, BoolConstant, IntegerConstant, CharConstant, StringConstant, UnitConstant, InterpolatedString, ArrayOf, MapOf, Variable, ThisPtr, Property, MethodCall, BlockExpr, FnCall, Dot, Index, And, Or, Coalesce, Expr, Stmts, While}
-use Rattle.rhai_reading.specs.Reading.{stmts_of}
+use Rattle.rhai_tree.specs.Reading.{stmts_of}
 use Rattle.rhai_node_notation.specs.Nodes.{block_text, guard_text, stmt_text, stmts_text}
 
 pub guarded : (e : Expr) (ss : Stmts) → stmt_text (While e ss) ≡ guard_text e ++ block_text ss

@@ -2,18 +2,18 @@
 use Rattle.std.proofs.Common.{◌≡◌, ℕ, ◌+◌, ◌<◌, true, false, List, [], ◌∷◌, ◌++◌, Option, Some, codes, length, get_or, drop, map, refl, sym, ap, append_assoc, ◌∙◌, add-one, if◌then◌else◌}
 use Rattle.std.proofs.Math.Seq.{drop-cons, drop-length}
 use Rattle.std.specs.declared.num.NonZeroUsize.{NonZeroUsize}
-use Rattle.rhai_values.specs.Value.{Text}
+use Rattle.rhai_base.specs.Value.{Text}
 use Rattle.rhai_tokens.specs.declared.token.Token.{Token}
 use Rattle.rhai_tokens.specs.declared.token.Token.TheVariants as token
 use Rattle.rhai_tokens.specs.Assignments.{is_no_equals}
 use Rattle.rhai_tokens.specs.Symbols.{token_text}
 use Rattle.rhai_tokens.specs.Tokens.{base_of}
-use Rattle.rhai_names.specs.declared.ident.Ident.{Ident}
+use Rattle.rhai_tokens.specs.declared.ident.Ident.{Ident}
 use Rattle.rhai_base.specs.Builtin.{operator_of}
 use Rattle.rhai_meaning.specs.Desugar.{qualified}
 use Rattle.rhai_meaning.specs.Shape.{is_none}
 use Rattle.rhai_meaning.specs.Tree.{Variable}
-use Rattle.rhai_reading.specs.Reading.{shared_names}
+use Rattle.rhai_tree.specs.Reading.{shared_names}
 use Rattle.rhai_node_notation.specs.Nodes.{assigning_text, catch_text, names_text}
 
 -- two pushes, and what is left to push

@@ -4,9 +4,9 @@ use Rattle.std.proofs.Math.Seq.{drop-cons, drop-length}
 use Rattle.std.specs.Fmt.{decimal}
 use Rattle.rhai_base.specs.declared.range_case.RangeCase.{RangeCase}
 use Rattle.rhai_base.specs.Ranges.{index_of}
-use Rattle.rhai_values.specs.Value.{Text}
-use Rattle.rhai_reading.specs.Reading.{range_of}
-use Rattle.rhai_reading.proofs.Ranges.{range_arm}
+use Rattle.rhai_base.specs.Value.{Text}
+use Rattle.rhai_tree.specs.Reading.{range_of}
+use Rattle.rhai_tree.proofs.Ranges.{range_arm}
 use Rattle.rhai_node_notation.specs.Nodes.{numbers_text, range_text, ranges_text}
 
 pub places-drop : (ns : List ℕ) (i d : ℕ) → i < length ns → numbers_text (drop i ns) ≡ codes " " ++ decimal (get_or ns i d) ++ numbers_text (drop (i + 1) ns)

@@ -1,7 +1,7 @@
 -- How nodes are printed. Two trees may print alike.
 use Rattle.std.specs.Prelude.{ℕ, Bool, List, [], ◌∷◌, ◌++◌, Option, Some, None, codes, if◌then◌else◌}
 use Rattle.std.specs.Fmt.{decimal, signed_decimal}
-use Rattle.rhai_values.specs.Value.{Text, UnitV, BoolV, IntV, CharV, TextV, inner}
+use Rattle.rhai_base.specs.Value.{Text, UnitV, BoolV, IntV, CharV, TextV, inner}
 use Rattle.rhai_base.specs.Operators.{Operator, symbol}
 use Rattle.rhai_meaning.specs.Desugar.{qualified}
 use Rattle.rhai_meaning.specs.Queries.{is_unit}

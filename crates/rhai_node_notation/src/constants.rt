@@ -1,9 +1,9 @@
 //! Constants in the notation.
-#![tactic(auto, unfolding(rhai_values::specs::Value::inner))]
+#![tactic(auto, unfolding(rhai_base::specs::Value::inner))]
 
 ghost use Rattle.std.specs.Prelude.{◌≡◌, ◌++◌, OnOk, codes, string_bytes};
-ghost use Rattle.rhai_values.specs.Value.{BoolV, CharV, IntV, TextV, UnitV, inner};
-ghost use Rattle.rhai_values.specs.Reading.{value_of};
+ghost use Rattle.rhai_base.specs.Value.{BoolV, CharV, IntV, TextV, UnitV, inner};
+ghost use Rattle.rhai_base.specs.Reading.{value_of};
 
 use rhai_base::{Dynamic, INT, OutOfMemory};
 

@@ -1,11 +1,11 @@
 //! Names and words in the notation.
-#![tactic(auto, using(rhai_reading::specs::Reading::shapes, crate::proofs::NameLists::names))]
+#![tactic(auto, using(rhai_tree::specs::Reading::shapes, crate::proofs::NameLists::names))]
 
 ghost use Rattle.std.specs.Prelude.{◌≡◌, ◌++◌, [], OnOk, string_bytes};
 ghost use Rattle.rhai_base.specs.Builtin.{operator_of};
 ghost use Rattle.rhai_meaning.specs.Desugar.{qualified};
 ghost use Rattle.rhai_meaning.specs.Tree.{Variable};
-ghost use Rattle.rhai_reading.specs.Reading.{callee_of, chain_flags, counter_of, expr_of, is_const, is_exported, path_of, shared_names};
+ghost use Rattle.rhai_tree.specs.Reading.{callee_of, chain_flags, counter_of, expr_of, is_const, is_exported, path_of, shared_names};
 ghost use Rattle.rhai_node_notation.specs.Nodes.{assigning_text, callee_text, catch_text, declaration_text, flags_text, loop_names, names_text};
 
 use bitflags::Flags;

@@ -1,9 +1,9 @@
 //! Nodes in the notation.
-#![tactic(auto, using(rhai_reading::specs::Reading::shapes, rhai_reading::proofs::ItemLists::steps, crate::proofs::Guards::nodes))]
+#![tactic(auto, using(rhai_tree::specs::Reading::shapes, rhai_tree::proofs::ItemLists::steps, crate::proofs::Guards::nodes))]
 
 ghost use Rattle.std.specs.Prelude.{◌≡◌, ◌++◌, [], OnOk, codes, string_bytes};
 ghost use Rattle.rhai_base.specs.Builtin.{operator_of};
-ghost use Rattle.rhai_reading.specs.Reading.{arms_of, breaks, callee_of, cases_of, chain_flags, counter_of, expr_of, expressions_of, exprs_of, is_const, is_exported, is_negated, maybe_of, pairs_of, shared_names, stmt_of, stmts_of, subject_of, table_of};
+ghost use Rattle.rhai_tree.specs.Reading.{arms_of, breaks, callee_of, cases_of, chain_flags, counter_of, expr_of, expressions_of, exprs_of, is_const, is_exported, is_negated, maybe_of, pairs_of, shared_names, stmt_of, stmts_of, subject_of, table_of};
 ghost use Rattle.rhai_meaning.specs.Tree.{Assignment, Block, BreakLoop, Do, Export, FnCallStmt, For, If, Import, Return, Share, Switch, TryCatch, Var, While};
 ghost use Rattle.rhai_node_notation.specs.Nodes.{after_word, arms_text, block_text, call_text, expr_text, exprs_text, flags_text, guard_text, pairs_text, stmt_text, stmts_text};
 

@@ -1,8 +1,8 @@
 //! Tables of a `switch` in the notation.
-#![tactic(auto, using(rhai_reading::specs::Reading::shapes, crate::proofs::TableLists::tables))]
+#![tactic(auto, using(rhai_tree::specs::Reading::shapes, crate::proofs::TableLists::tables))]
 
 ghost use Rattle.std.specs.Prelude.{◌≡◌, ◌++◌, [], OnOk, map, string_bytes};
-ghost use Rattle.rhai_reading.specs.Reading.{case_of, range_of, table_of};
+ghost use Rattle.rhai_tree.specs.Reading.{case_of, range_of, table_of};
 ghost use Rattle.rhai_node_notation.specs.Nodes.{cases_text, default_text, numbers_text, range_text, ranges_text, table_text};
 
 use rhai_ast::{Cases, SwitchCasesCollection};

@@ -7,8 +7,8 @@ use Rattle.rhai_tree.specs.declared.expr.Expr.TheViews as views
 use Rattle.rhai_tree.specs.declared.stmt.Stmt.{Stmt}
 use Rattle.rhai_tree.specs.declared.stmt.Stmt.TheVariants as stmt_kind
 use Rattle.rhai_meaning.specs.Tree.{Block, Noop, no_stmts, stmt}
-use Rattle.rhai_reading.specs.Positions.{StmtLayer}
-use Rattle.rhai_reading.specs.Reading.{stmt_of, stmt_of-Block, stmt_of-Noop}
+use Rattle.rhai_tree.specs.Positions.{StmtLayer}
+use Rattle.rhai_tree.specs.Reading.{stmt_of, stmt_of-Block, stmt_of-Noop}
 use Rattle.rhai_nodes.specs.Blocks.{block_in, block_made_of, block_of_one, followed_at}
 
 other_in : (s : Stmt) (x : StmtLayer) → ((p : Position) → views.roll-Stmt x ≡ stmt_kind.Noop p → ⊥) → ((b : StmtBlock) → views.roll-Stmt x ≡ stmt_kind.Block b → ⊥)

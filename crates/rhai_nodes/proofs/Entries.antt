@@ -9,9 +9,9 @@ use Rattle.std.proofs.lemmas.Bool.Decides.{nat_tests}
 use Rattle.std.proofs.lemmas.Cmp.{nat_list_cmp_total}
 use Rattle.std.proofs.lemmas.Map.Lookups.{exact_bytes}
 use Rattle.std.proofs.lemmas.Map.Text.{is_eq-slice_cmp}
-use Rattle.rhai_values.specs.declared.dynamic.Dynamic.{Dynamic}
-use Rattle.rhai_values.specs.Value.{Text, field, fields, same_text}
-use Rattle.rhai_values.specs.Reading.{value_of, members_of}
+use Rattle.rhai_base.specs.declared.dynamic.Dynamic.{Dynamic}
+use Rattle.rhai_base.specs.Value.{Text, field, fields, same_text}
+use Rattle.rhai_base.specs.Reading.{value_of, members_of}
 use Rattle.rhai_base.specs.Operators.{text_lt}
 use Rattle.rhai_meaning.specs.Elements.{with_entry}
 

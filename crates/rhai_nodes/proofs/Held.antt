@@ -1,10 +1,10 @@
 -- Values that no other constant stands for.
 use Rattle.std.proofs.Common.{◌≡◌, ◌≢◌, false, refl}
-use Rattle.rhai_values.specs.declared.dynamic.Dynamic.{Dynamic}
-use Rattle.rhai_values.specs.declared.dynamic.Dynamic.TheVariants as kind
-use Rattle.rhai_values.specs.declared.fn_ptr.FnPtr.{FnPtr}
-use Rattle.rhai_values.specs.Reading.{value_of, DynamicCase, unit_case, bool_case, int_case, char_case, str_case, fn_ptr_case, dynamic_cases}
-use Rattle.rhai_values.specs.Value.{Text, Value}
+use Rattle.rhai_base.specs.declared.dynamic.Dynamic.{Dynamic}
+use Rattle.rhai_base.specs.declared.dynamic.Dynamic.TheVariants as kind
+use Rattle.rhai_base.specs.declared.fn_ptr.FnPtr.{FnPtr}
+use Rattle.rhai_base.specs.Reading.{value_of, DynamicCase, unit_case, bool_case, int_case, char_case, str_case, fn_ptr_case, dynamic_cases}
+use Rattle.rhai_base.specs.Value.{Text, Value}
 use Rattle.rhai_meaning.specs.Constants.{constant_for}
 use Rattle.rhai_meaning.specs.Tree.{DynamicConstant}
 use Rattle.rhai_nodes.specs.Scalars.{is_scalar}

@@ -2,15 +2,15 @@
 use Rattle.std.proofs.Common.{◌≡◌, Bool, true, false, cond, List, [], ◌∷◌, map, Some, refl, sym, ap, ◌∙◌, if◌then◌else◌}
 use Rattle.std.specs.Option.{option_map}
 use Rattle.std.specs.Map.{lookup}
-use Rattle.rhai_values.proofs.Exact.{exact, equal}
-use Rattle.rhai_values.proofs.Recovered.{same_value}
-use Rattle.rhai_values.proofs.Same.{tests_same}
-use Rattle.rhai_values.specs.contracts.dynamic.DynamicEq.TheImpl.Laws as eq_laws
-use Rattle.rhai_values.specs.declared.dynamic.Dynamic.{Dynamic}
-use Rattle.rhai_values.specs.Reading.{value_of}
-use Rattle.rhai_values.specs.Value.{same}
+use Rattle.rhai_base.proofs.Exact.{exact, equal}
+use Rattle.rhai_base.proofs.Recovered.{same_value}
+use Rattle.rhai_base.proofs.Same.{tests_same}
+use Rattle.rhai_base.specs.contracts.dynamic.DynamicEq.TheImpl.Laws as eq_laws
+use Rattle.rhai_base.specs.declared.dynamic.Dynamic.{Dynamic}
+use Rattle.rhai_base.specs.Reading.{value_of}
+use Rattle.rhai_base.specs.Value.{same}
 use Rattle.rhai_base.specs.declared.cases.CaseBlocksList.{CaseBlocksList}
-use Rattle.rhai_reading.specs.Reading.{case_of}
+use Rattle.rhai_tree.specs.Reading.{case_of}
 use Rattle.rhai_meaning.specs.Control.{case_for}
 
 equal_is : (x y : Dynamic) → equal x y ≡ same (value_of y) (value_of x)

@@ -1,11 +1,11 @@
 -- Expressions for pointers.
 use Rattle.std.proofs.Common.{◌≡◌, ◌≢◌, ◌↔◌, IsTrue, Bool, false, List, [], ◌∷◌, map, true, Some, refl, sym, ap, ◌∙◌}
-use Rattle.rhai_values.specs.declared.dynamic.Dynamic.{Dynamic}
-use Rattle.rhai_values.specs.Value.{Text, PointerV, no_values, values}
-use Rattle.rhai_values.specs.Reading.{value_of}
+use Rattle.rhai_base.specs.declared.dynamic.Dynamic.{Dynamic}
+use Rattle.rhai_base.specs.Value.{Text, PointerV, no_values, values}
+use Rattle.rhai_base.specs.Reading.{value_of}
 use Rattle.rhai_meaning.specs.Constants.{constant_for, literal_value, pointer_call}
 use Rattle.rhai_meaning.proofs.LiteralLaws.{constant_for_law}
-use Rattle.rhai_names.specs.Names.{is_valid_name}
+use Rattle.rhai_tokens.specs.Names.{is_valid_name}
 use Rattle.rhai_meaning.specs.Tree.{DynamicConstant}
 
 -- a pointer with values is held as it is

@@ -10,7 +10,7 @@ use Rattle.rhai_tree.specs.declared.stmt.Stmt.{Stmt}
 use Rattle.rhai_tree.specs.declared.stmt.Stmt.TheVariants as stmt_kind
 use Rattle.rhai_meaning.specs.Tree as tree
 use Rattle.rhai_meaning.specs.Tree.{ExprStmt, Stmts, no_stmts, stmt}
-use Rattle.rhai_reading.specs.Positions.{StmtLayer, stmt_position_of}
+use Rattle.rhai_tree.specs.Positions.{StmtLayer, stmt_position_of}
 
 -- the block of an answer, and of none
 abbrev pub answered : Option tree.Expr → Stmts

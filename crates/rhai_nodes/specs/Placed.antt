@@ -1,16 +1,16 @@
 -- Nodes put somewhere else.
 use Rattle.std.specs.Prelude.{◌≡◌, ℕ, ℤ, Bool, List, map, Option}
 use Rattle.std.proofs.Common.{sym, ap, ◌∙◌}
-use Rattle.rhai_values.specs.declared.dynamic.Dynamic.{Dynamic}
+use Rattle.rhai_base.specs.declared.dynamic.Dynamic.{Dynamic}
 use Rattle.rhai_tokens.specs.declared.op_assignment.OpAssignment.{OpAssignment}
 use Rattle.rhai_tokens.specs.declared.position.Position.{Position}
 use Rattle.rhai_tokens.specs.declared.position.Span.{Span}
-use Rattle.rhai_names.specs.declared.flags.ASTFlags.{ASTFlags}
-use Rattle.rhai_names.specs.declared.ident.Ident.{Ident}
-use Rattle.rhai_names.specs.declared.namespace.Namespace.{Namespace}
+use Rattle.rhai_tokens.specs.declared.flags.ASTFlags.{ASTFlags}
+use Rattle.rhai_tokens.specs.declared.ident.Ident.{Ident}
+use Rattle.rhai_tokens.specs.declared.namespace.Namespace.{Namespace}
 use Rattle.std.specs.declared.num.NonZeroU8.{NonZeroU8}
 use Rattle.std.specs.declared.num.NonZeroUsize.{NonZeroUsize}
-use Rattle.rhai_values.specs.Value.{Text}
+use Rattle.rhai_base.specs.Value.{Text}
 use Rattle.rhai_tree.specs.Defaults.{nowhere}
 use Rattle.rhai_tree.specs.declared.expr.Expr as declared_expr
 use Rattle.rhai_tree.specs.declared.expr.Expr.TheOpen as open_one
@@ -23,7 +23,7 @@ use Rattle.rhai_tree.specs.declared.expr.BinaryExpr.{BinaryExpr}
 use Rattle.rhai_tree.specs.declared.expr.FnCallExpr.{FnCallExpr}
 use Rattle.rhai_tree.specs.declared.stmt.FlowControl.{FlowControl}
 use Rattle.rhai_tree.specs.declared.switch.SwitchBlock.{SwitchBlock}
-use Rattle.rhai_reading.specs.Positions.{ExprLayer, StmtLayer}
+use Rattle.rhai_tree.specs.Positions.{ExprLayer, StmtLayer}
 
 -- a block with other braces
 abbrev pub with_span : Span → StmtBlock → StmtBlock

@@ -2,7 +2,7 @@
 use Rattle.std.specs.Prelude.{Option, Some, None}
 use Rattle.rhai_tokens.specs.declared.token.Token.{Token}
 use Rattle.rhai_base.specs.Builtin.{binary_at}
-use Rattle.rhai_values.specs.Value.{Value}
+use Rattle.rhai_base.specs.Value.{Value}
 use Rattle.rhai_meaning.specs.Constants.{computed_value}
 
 abbrev pub range_made : Token → Option Value → Option Value → Option Value

@@ -1,6 +1,6 @@
 -- Values without parts.
 use Rattle.std.specs.Prelude.{Bool, true, false}
-use Rattle.rhai_values.specs.Value.{Value, UnitV, BoolV, IntV, CharV}
+use Rattle.rhai_base.specs.Value.{Value, UnitV, BoolV, IntV, CharV}
 
 abbrev pub is_scalar : Value → Bool
 is_scalar UnitV = true

@@ -1,6 +1,6 @@
 -- The table of a `switch` that is made of parts.
 use Rattle.std.specs.Prelude.{◌≡◌, ℕ, List, Option, Some, None, Result, MatchResult}
-use Rattle.rhai_values.specs.declared.dynamic.Dynamic.{Dynamic}
+use Rattle.rhai_base.specs.declared.dynamic.Dynamic.{Dynamic}
 use Rattle.rhai_tokens.specs.declared.error.AstError.{AstError}
 use Rattle.rhai_base.specs.declared.range_case.RangeCase.{RangeCase}
 use Rattle.rhai_tree.specs.declared.expr.BinaryExpr.{BinaryExpr}

@@ -1,11 +1,11 @@
 //! Blocks made of statements and of answers.
 
-#![tactic(auto, using(crate::specs::Blocks::blocks, rhai_reading::specs::Reading::shapes))]
+#![tactic(auto, using(crate::specs::Blocks::blocks, rhai_tree::specs::Reading::shapes))]
 
 ghost use Rattle.std.specs.Prelude.{◌≡◌, IfOk, Some};
 ghost use Rattle.std.specs.Option.{option_map};
 ghost use Rattle.rhai_meaning.specs.Tree.{If};
-ghost use Rattle.rhai_reading.specs.Reading.{expr_of, stmt_of, stmts_of};
+ghost use Rattle.rhai_tree.specs.Reading.{expr_of, stmt_of, stmts_of};
 ghost use Rattle.rhai_nodes.specs.Blocks.{answered, block_made_of, block_of_one};
 
 use crate::making::expression_statement;

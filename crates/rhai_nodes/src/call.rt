@@ -1,6 +1,6 @@
 //! Calls as expressions.
 
-#![tactic(auto, using(rhai_reading::specs::Reading::shapes))]
+#![tactic(auto, using(rhai_tree::specs::Reading::shapes))]
 
 ghost use Rattle.std.specs.Prelude.{◌≡◌, IfOk};
 ghost use Rattle.rhai_tree.specs.declared.expr.Expr.TheVariants.{FnCall};

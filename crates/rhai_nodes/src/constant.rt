@@ -1,12 +1,12 @@
 //! Constants for values.
 
-#![tactic(auto, using(rhai_reading::specs::Reading::shapes, rhai_values::specs::Reading::kinds, rhai_reading::specs::Positions::places, crate::proofs::Pointers::pointers))]
+#![tactic(auto, using(rhai_tree::specs::Reading::shapes, rhai_base::specs::Reading::kinds, rhai_tree::specs::Positions::places, crate::proofs::Pointers::pointers))]
 
 ghost use Rattle.std.specs.Prelude.{◌≡◌, [], IfOk, Some, false, map};
-ghost use Rattle.rhai_values.specs.Reading.{value_of};
-ghost use Rattle.rhai_values.specs.Value.{PointerV, values};
-ghost use Rattle.rhai_reading.specs.Positions.{AreAt, arguments_of, position_of};
-ghost use Rattle.rhai_reading.specs.Reading.{expr_of};
+ghost use Rattle.rhai_base.specs.Reading.{value_of};
+ghost use Rattle.rhai_base.specs.Value.{PointerV, values};
+ghost use Rattle.rhai_tree.specs.Positions.{AreAt, arguments_of, position_of};
+ghost use Rattle.rhai_tree.specs.Reading.{expr_of};
 ghost use Rattle.rhai_meaning.specs.Constants as constants;
 ghost use Rattle.rhai_nodes.specs.Scalars.{is_scalar};
 ghost use Rattle.rhai_meaning.specs.Tree.{DynamicConstant};

@@ -1,6 +1,6 @@
 //! Statements that leave their list one by one. Those that are left are let go here, as in `making`.
 
-#![tactic(auto, using(rhai_reading::specs::Reading::shapes))]
+#![tactic(auto, using(rhai_tree::specs::Reading::shapes))]
 
 ghost use Rattle.std.specs.Prelude.{◌≡◌, [], ◌∷◌, ◌++◌, ◌↔◌, IfOk, IsTrue, MatchOption, OnErr, OnOk};
 

@@ -1,18 +1,18 @@
 //! The values of literals.
 
-#![tactic(auto, using(rhai_reading::specs::Reading::shapes, rhai_values::specs::Reading::kinds, rhai_reading::proofs::ItemLists::steps, crate::proofs::LiteralLists::literals), unfolding(rhai_base::specs::Operators::binary))]
+#![tactic(auto, using(rhai_tree::specs::Reading::shapes, rhai_base::specs::Reading::kinds, rhai_tree::proofs::ItemLists::steps, crate::proofs::LiteralLists::literals), unfolding(rhai_base::specs::Operators::binary))]
 
 ghost use Rattle.std.specs.Prelude.{◌≡◌, ◌++◌, IfOk, OnOk};
 ghost use Rattle.std.specs.Cow.{cow_value};
 ghost use Rattle.std.specs.Option.{option_map};
 ghost use Rattle.rhai_base.specs.Builtin.{binary_at};
-ghost use Rattle.rhai_values.specs.Reading.{members_of, value_of};
-ghost use Rattle.rhai_values.specs.Value.{fields, text_of};
+ghost use Rattle.rhai_base.specs.Reading.{members_of, value_of};
+ghost use Rattle.rhai_base.specs.Value.{fields, text_of};
 ghost use Rattle.rhai_meaning.specs.Elements.{with_entry};
 ghost use Rattle.std.specs.String.{string_bytes};
 ghost use Rattle.rhai_nodes.specs.Lent.{lent_value};
 ghost use Rattle.rhai_nodes.specs.Ranges.{range_made};
-ghost use Rattle.rhai_reading.specs.Reading.{callee_of, expr_of, exprs_of, pairs_of};
+ghost use Rattle.rhai_tree.specs.Reading.{callee_of, expr_of, exprs_of, pairs_of};
 ghost use Rattle.rhai_meaning.specs.Constants as constants;
 ghost use Rattle.rhai_meaning.specs.Tree.{FnCall, expr, no_exprs};
 

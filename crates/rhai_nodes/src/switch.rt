@@ -1,12 +1,12 @@
 //! The table of a `switch`.
 
-#![tactic(auto, using(rhai_reading::specs::Reading::shapes, rhai_values::specs::Reading::kinds))]
+#![tactic(auto, using(rhai_tree::specs::Reading::shapes, rhai_base::specs::Reading::kinds))]
 
 ghost use Rattle.std.specs.Prelude.{◌≡◌, None, cond};
 ghost use Rattle.std.specs.Option.{option_copied, option_map};
-ghost use Rattle.rhai_reading.specs.Reading.{table_of};
-ghost use Rattle.rhai_values.specs.Reading.{value_of};
-ghost use Rattle.rhai_values.specs.Value.{is_hashable};
+ghost use Rattle.rhai_tree.specs.Reading.{table_of};
+ghost use Rattle.rhai_base.specs.Reading.{value_of};
+ghost use Rattle.rhai_base.specs.Value.{is_hashable};
 ghost use Rattle.rhai_meaning.specs.Control.{case_for};
 ghost use Rattle.rhai_nodes.specs.Tables.{IsTableOf};
 

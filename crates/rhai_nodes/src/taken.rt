@@ -1,13 +1,13 @@
 //! The values of constants, into which what their parts hold is moved.
 
-#![tactic(auto, using(rhai_reading::specs::Reading::shapes, rhai_values::specs::Reading::kinds, rhai_reading::proofs::ItemLists::steps, crate::proofs::LiteralLists::literals))]
+#![tactic(auto, using(rhai_tree::specs::Reading::shapes, rhai_base::specs::Reading::kinds, rhai_tree::proofs::ItemLists::steps, crate::proofs::LiteralLists::literals))]
 
 ghost use Rattle.std.specs.Prelude.{◌≡◌, IfOk, OnOk, Some, true};
 ghost use Rattle.std.specs.Option.{option_map};
-ghost use Rattle.rhai_values.specs.Reading.{members_of, value_of};
-ghost use Rattle.rhai_values.specs.Value.{fields};
+ghost use Rattle.rhai_base.specs.Reading.{members_of, value_of};
+ghost use Rattle.rhai_base.specs.Value.{fields};
 ghost use Rattle.rhai_meaning.specs.Elements.{with_entry};
-ghost use Rattle.rhai_reading.specs.Reading.{expr_of, exprs_of, pairs_of};
+ghost use Rattle.rhai_tree.specs.Reading.{expr_of, exprs_of, pairs_of};
 ghost use Rattle.rhai_meaning.specs.Constants as constants;
 
 use crate::literals::constant_value;

@@ -1,6 +1,6 @@
 -- How a script is printed.
 use Rattle.std.specs.Prelude.{List, [], ◌∷◌, ◌++◌, Option, Some, None, codes}
-use Rattle.rhai_values.specs.Value.{Text}
+use Rattle.rhai_base.specs.Value.{Text}
 use Rattle.rhai_meaning.specs.Tree.{Stmts, no_stmts, stmt, Function, Script}
 use Rattle.rhai_node_notation.specs.Nodes.{block_text, names_text, stmt_text}
 

@@ -2,8 +2,8 @@
 #![tactic(auto)]
 
 ghost use Rattle.std.specs.Prelude.{◌≡◌, ◌++◌, OnErr, OnOk, Some, string_bytes};
-ghost use Rattle.rhai_values.specs.Value.{Text};
-ghost use Rattle.rhai_reading.specs.Reading.{expr_of, function_of, stmt_of, stmts_of, table_of};
+ghost use Rattle.rhai_base.specs.Value.{Text};
+ghost use Rattle.rhai_tree.specs.Reading.{expr_of, function_of, stmt_of, stmts_of, table_of};
 ghost use Rattle.rhai_node_notation.specs.Nodes.{block_text, expr_text, stmt_text, table_text};
 ghost use Rattle.rhai_notation.specs.Notation.{function_text, script_text};
 ghost use Rattle.rhai_script.specs.Script.{script_of};

@@ -1,8 +1,8 @@
 //! Scripts in the notation.
-#![tactic(auto, using(rhai_reading::specs::Reading::shapes, rhai_reading::proofs::ItemLists::steps))]
+#![tactic(auto, using(rhai_tree::specs::Reading::shapes, rhai_tree::proofs::ItemLists::steps))]
 
 ghost use Rattle.std.specs.Prelude.{◌≡◌, ◌++◌, OnErr, OnOk, string_bytes};
-ghost use Rattle.rhai_reading.specs.Reading.{function_of, stmts_of};
+ghost use Rattle.rhai_tree.specs.Reading.{function_of, stmts_of};
 ghost use Rattle.rhai_notation.specs.Notation.{function_text, lines_text, script_text};
 ghost use Rattle.rhai_script.specs.Script.{script_of};
 

@@ -4,7 +4,7 @@ use Rattle.rhai_tree.specs.declared.expr.Expr as declared_expr
 use Rattle.rhai_meaning.specs.Tree.{Expr, BoolConstant, UnitConstant, And, Or, Coalesce, no_exprs, expr}
 use Rattle.rhai_meaning.specs.Engine.{Engine}
 use Rattle.rhai_meaning.specs.Walk.{OfExpr}
-use Rattle.rhai_reading.specs.Reading.{expr_of, exprs_of}
+use Rattle.rhai_tree.specs.Reading.{expr_of, exprs_of}
 use Rattle.rhai_rewriting.specs.Clear.{known_value}
 use Rattle.rhai_rewriting.specs.Known.{Known}
 use Rattle.rhai_rewriting.specs.Residue.{IsReducedNode}

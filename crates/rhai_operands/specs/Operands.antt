@@ -1,7 +1,7 @@
 -- The operands of `&&`, `||` and `??`, by their operator: which of them go, and what is left to reduce.
 use Rattle.std.specs.Prelude.{◌≡◌, ◌≤◌, ◌+◌, ℕ, Bool, true, false, not, List, [], ◌∷◌, ◌++◌, length, take, drop, Option, Some, None}
 use Rattle.rhai_tree.specs.declared.expr.Expr as declared_expr
-use Rattle.rhai_values.specs.Value.{Value}
+use Rattle.rhai_base.specs.Value.{Value}
 use Rattle.rhai_meaning.specs.Constants.{constant_value}
 use Rattle.rhai_meaning.specs.Engine.{Engine}
 use Rattle.rhai_meaning.specs.Faults.{has_operands}
@@ -9,7 +9,7 @@ use Rattle.rhai_meaning.specs.Queries.{is_pure_expr}
 use Rattle.rhai_meaning.specs.Shape.{is_unit}
 use Rattle.rhai_meaning.specs.Tree.{Expr, BoolConstant, UnitConstant, And, Or, Coalesce, Exprs, no_exprs, expr}
 use Rattle.rhai_meaning.specs.Walk.{OfExpr}
-use Rattle.rhai_reading.specs.Reading.{expr_of, exprs_of}
+use Rattle.rhai_tree.specs.Reading.{expr_of, exprs_of}
 use Rattle.rhai_rewriting.specs.Answering.{is_always, is_some_value, follows_deciding, follows_some}
 use Rattle.rhai_rewriting.specs.Operands.{OperandsTo, CoalesceTo}
 use Rattle.rhai_rewriting.specs.Residue.{IsReducedNode}

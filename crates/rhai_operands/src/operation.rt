@@ -1,10 +1,10 @@
 //! What the operators `&&`, `||` and `??` ask of an operand.
 
-#![tactic(auto, using(rhai_reading::specs::Reading::shapes, rhai_values::specs::Reading::kinds))]
+#![tactic(auto, using(rhai_tree::specs::Reading::shapes, rhai_base::specs::Reading::kinds))]
 
 ghost use Rattle.std.specs.Prelude.{◌≡◌};
 ghost use Rattle.rhai_meaning.specs.Constants as constants;
-ghost use Rattle.rhai_reading.specs.Reading.{expr_of};
+ghost use Rattle.rhai_tree.specs.Reading.{expr_of};
 ghost use Rattle.rhai_rewriting.specs.Answering as answering;
 ghost use Rattle.rhai_operands.specs.Operands as spec;
 

@@ -1,10 +1,10 @@
 //! One pass over operands: which of them go, in the list's own memory.
 
-#![tactic(auto, using(rhai_reading::specs::Reading::shapes))]
+#![tactic(auto, using(rhai_tree::specs::Reading::shapes))]
 
 ghost use Rattle.std.specs.Prelude.{◌≡◌, ◌<◌, ◌≤◌, ◌+◌, true, length, slice_index_or};
 ghost use Rattle.rhai_meaning.specs.Tree.{And, Or, Coalesce};
-ghost use Rattle.rhai_reading.specs.Reading.{expr_of, exprs_of};
+ghost use Rattle.rhai_tree.specs.Reading.{expr_of, exprs_of};
 ghost use Rattle.rhai_tree.specs.declared.expr.Expr.{Expr};
 ghost use Rattle.rhai_operands.specs.Operands as spec;
 ghost use Rattle.rhai_operands.specs.Operands.{Ends, GoBefore, NodeChange, OperandsPass};

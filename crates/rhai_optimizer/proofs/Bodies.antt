@@ -5,11 +5,11 @@ use Rattle.std.proofs.lemmas.List.{append_assoc, map-append}
 use Rattle.std.specs.Rc.{rc_value}
 use Rattle.std.specs.declared.alloc.Global.{Global}
 use Rattle.std.specs.declared.rc.Rc.{Rc}
-use Rattle.rhai_values.specs.Value.{Text}
+use Rattle.rhai_base.specs.Value.{Text}
 use Rattle.rhai_meaning.specs.Calls.{key, same_key}
 use Rattle.rhai_meaning.specs.Engine.{Engine}
 use Rattle.rhai_meaning.specs.Tree.{Stmts}
-use Rattle.rhai_reading.specs.Reading.{function_of, stmts_of}
+use Rattle.rhai_tree.specs.Reading.{function_of, stmts_of}
 use Rattle.rhai_rewriting.specs.Context.{Context, Whole, knowing}
 use Rattle.rhai_rewriting.specs.Known.{Known, shadow_all}
 use Rattle.rhai_rewriting.specs.Rewriting.{RestTo, same_stmts, flag_forgotten}

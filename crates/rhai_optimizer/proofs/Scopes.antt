@@ -3,10 +3,10 @@ use Rattle.std.proofs.Common.{◌≡◌, Bool, true, false, List, [], ◌∷◌,
 use Rattle.std.proofs.lemmas.List.{append_assoc}
 use Rattle.std.specs.Option.{option_map}
 use Rattle.std.specs.Prelude.{Option}
-use Rattle.rhai_values.specs.Reading.{value_of}
-use Rattle.rhai_values.specs.declared.dynamic.Dynamic.{Dynamic}
-use Rattle.rhai_values.specs.declared.scope.Scope.{Scope}
-use Rattle.rhai_values.specs.declared.scope.ScopeEntry.{ScopeEntry}
+use Rattle.rhai_base.specs.Reading.{value_of}
+use Rattle.rhai_base.specs.declared.dynamic.Dynamic.{Dynamic}
+use Rattle.rhai_base.specs.declared.scope.Scope.{Scope}
+use Rattle.rhai_base.specs.declared.scope.ScopeEntry.{ScopeEntry}
 use Rattle.rhai_host.specs.Entries.{entry_meant}
 use Rattle.rhai_meaning.specs.Act as act
 use Rattle.rhai_meaning.specs.Desugar.{name_kind}

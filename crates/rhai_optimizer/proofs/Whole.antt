@@ -13,7 +13,7 @@ use Rattle.rhai_meaning.specs.Faults.{IsWellFormedScript, AreWellFormedFunctions
 use Rattle.rhai_meaning.specs.Tree.{Function, Script}
 use Rattle.rhai_meaning.specs.Walk.{over_functions, over_stmts}
 use Rattle.rhai_meaning.proofs.PureTrees.{split}
-use Rattle.rhai_reading.specs.Reading.{function_of, stmts_of}
+use Rattle.rhai_tree.specs.Reading.{function_of, stmts_of}
 use Rattle.rhai_rewriting.specs.Context.{Context, Whole, knowing}
 use Rattle.rhai_rewriting.specs.Known.{Known}
 use Rattle.rhai_rewriting.specs.Reducible.{AreIrreducibleBodies, IsIrreducibleScript}

@@ -1,8 +1,8 @@
 -- Functions whose bodies are optimised.
 use Rattle.std.specs.Prelude.{◌≡◌, Bool, false, List, [], ◌∷◌, Option}
-use Rattle.rhai_values.specs.Value.{Text}
+use Rattle.rhai_base.specs.Value.{Text}
 use Rattle.rhai_meaning.specs.Engine.{Engine}
-use Rattle.rhai_reading.specs.Reading.{function_of, stmts_of}
+use Rattle.rhai_tree.specs.Reading.{function_of, stmts_of}
 use Rattle.rhai_rewriting.specs.Context.{knowing}
 use Rattle.rhai_rewriting.specs.Known.{Known}
 use Rattle.rhai_rewriting.specs.Scripts.{FunctionTo}

@@ -16,7 +16,7 @@ use Rattle.rhai_rewriting.specs.Reducible.{IsIrreducibleScript}
 use Rattle.rhai_rewriting.specs.Refines.{RefinesWhere}
 use Rattle.rhai_rewriting.specs.Scripts.{known_at_top, known_inside}
 use Rattle.rhai_rewriting.specs.Steps.{IsReducedBody}
-use Rattle.rhai_reading.specs.Reading.{stmts_of}
+use Rattle.rhai_tree.specs.Reading.{stmts_of}
 use Rattle.rhai_deep_queries.specs.Walks.{listing}
 use Rattle.rhai_functions.specs.FnKey.{definitions_table}
 use Rattle.rhai_known.specs.declared.level.OptimizationLevel.{OptimizationLevel}

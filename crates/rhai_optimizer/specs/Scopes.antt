@@ -1,9 +1,9 @@
 -- What the record and a script's scope say of names before a run.
 use Rattle.std.specs.Prelude.{List, [], ◌∷◌, Option, Some, None, cond}
 use Rattle.std.specs.Option.{option_map}
-use Rattle.rhai_values.specs.Reading.{value_of}
-use Rattle.rhai_values.specs.declared.scope.Scope.{Scope}
-use Rattle.rhai_values.specs.declared.scope.ScopeEntry.{ScopeEntry}
+use Rattle.rhai_base.specs.Reading.{value_of}
+use Rattle.rhai_base.specs.declared.scope.Scope.{Scope}
+use Rattle.rhai_base.specs.declared.scope.ScopeEntry.{ScopeEntry}
 use Rattle.rhai_host.specs.Entries.{start_scope}
 use Rattle.rhai_meaning.specs.Act as act
 use Rattle.rhai_meaning.specs.Engine.{Binding}

@@ -1,6 +1,6 @@
 //! Functions, whose bodies are optimised as a script's statements are, with their parameters as variables.
 
-#![tactic(auto, using(rhai_reading::specs::Reading::shapes, crate::proofs::Bodies::params))]
+#![tactic(auto, using(rhai_tree::specs::Reading::shapes, crate::proofs::Bodies::params))]
 
 ghost use Rattle.std.specs.Prelude.{◌≡◌, [], IfOk, OnOk, map};
 ghost use Rattle.std.specs.Map.Iter.{deref};

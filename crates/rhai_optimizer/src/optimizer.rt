@@ -9,7 +9,7 @@ ghost use Rattle.rhai_optimizer.specs.Optimised as spec;
 ghost use Rattle.rhai_optimizer.specs.Optimised.{Optimised, PartsOptimised, PartsReduced, PassesCounted, given};
 ghost use Rattle.rhai_optimizer.specs.Passes.{Counts};
 ghost use Rattle.rhai_optimizer.specs.Scopes.{start_of};
-ghost use Rattle.rhai_reading.specs.Reading.{stmts_of};
+ghost use Rattle.rhai_tree.specs.Reading.{stmts_of};
 ghost use Rattle.rhai_rewriting.specs.Context.{knowing};
 ghost use Rattle.rhai_rewriting.specs.Scripts.{known_at_top};
 ghost use Rattle.rhai_rewriting.specs.Steps.{IsReducedBody};

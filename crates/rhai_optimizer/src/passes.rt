@@ -1,11 +1,11 @@
 //! Passes over a script's statements, until one changes nothing.
 
-#![tactic(auto, using(rhai_reading::specs::Reading::shapes))]
+#![tactic(auto, using(rhai_tree::specs::Reading::shapes))]
 
 ghost use Rattle.std.specs.Prelude.{◌≡◌, IfOk, false};
 ghost use Rattle.rhai_known.specs.State.{progress};
 ghost use Rattle.rhai_optimizer.specs.Passes.{PassesRun};
-ghost use Rattle.rhai_reading.specs.Reading.{stmts_of};
+ghost use Rattle.rhai_tree.specs.Reading.{stmts_of};
 ghost use Rattle.rhai_reducer.specs.Parts.{record_of};
 
 use rhai_ast::Stmt;

@@ -1,11 +1,11 @@
 //! The names of the record and of a scope: what is known where a script starts.
 
-#![tactic(auto, using(rhai_reading::specs::Reading::shapes))]
+#![tactic(auto, using(rhai_tree::specs::Reading::shapes))]
 
 ghost use Rattle.std.specs.Prelude.{◌≡◌, ◌∷◌, None, OnOk, Some, cond};
 ghost use Rattle.std.specs.Map.Iter.{deref};
 ghost use Rattle.std.specs.Option.{option_map};
-ghost use Rattle.rhai_values.specs.Reading.{value_of};
+ghost use Rattle.rhai_base.specs.Reading.{value_of};
 ghost use Rattle.rhai_known.specs.Bindings.{read};
 ghost use Rattle.rhai_known.specs.State.{progress};
 ghost use Rattle.rhai_optimizer.specs.Scopes.{constants_onto, given_onto, known_onto};

@@ -1,17 +1,17 @@
 -- Values and nodes by their kinds: which of them answer nothing.
 use Rattle.std.proofs.Common.{◌≡◌, Bool, true, false, not, List, [], ◌∷◌, Option, Some, None, is_some, ◌↔◌, IsTrue, refl}
 use Rattle.std.specs.Prelude.{ℤ}
-use Rattle.rhai_values.specs.declared.dynamic.Dynamic.{Dynamic}
-use Rattle.rhai_values.specs.declared.dynamic.Dynamic.TheVariants as dynamic
-use Rattle.rhai_values.specs.Reading.{DynamicCase, int_case, str_case, array_case, map_case}
-use Rattle.rhai_values.specs.Value.{Text, Value, Values, Fields, IntV, TextV, ArrayV, MapV}
+use Rattle.rhai_base.specs.declared.dynamic.Dynamic.{Dynamic}
+use Rattle.rhai_base.specs.declared.dynamic.Dynamic.TheVariants as dynamic
+use Rattle.rhai_base.specs.Reading.{DynamicCase, int_case, str_case, array_case, map_case}
+use Rattle.rhai_base.specs.Value.{Text, Value, Values, Fields, IntV, TextV, ArrayV, MapV}
 use Rattle.rhai_tokens.specs.declared.token.Token.{Token}
 use Rattle.rhai_base.specs.Operators.{Operator}
 use Rattle.rhai_base.specs.Builtin.{operator_of}
 use Rattle.rhai_tree.specs.declared.expr.Expr as declared_expr
 use Rattle.rhai_tree.specs.declared.expr.Expr.TheVariants as expr_kind
-use Rattle.rhai_reading.specs.Reading.{exprs_of, pairs_of, mark_by, mark_of}
-use Rattle.rhai_reading.proofs.Cases.{ExprCase, integer_constant_case, dynamic_constant_case, interpolated_string_case, array_case as array_expr, map_case as map_expr, variable_case, property_case, method_call_case}
+use Rattle.rhai_tree.specs.Reading.{exprs_of, pairs_of, mark_by, mark_of}
+use Rattle.rhai_tree.proofs.Cases.{ExprCase, integer_constant_case, dynamic_constant_case, interpolated_string_case, array_case as array_expr, map_case as map_expr, variable_case, property_case, method_call_case}
 use Rattle.rhai_meaning.specs.Constants.{constant_value, constant_values, constant_entries, array_value, map_value, joined_value}
 use Rattle.rhai_meaning.specs.Engine.{Engine}
 use Rattle.rhai_meaning.specs.Tree.{Expr, UnitConstant, Pairs}

@@ -1,6 +1,6 @@
 -- What a step answers by value: at a constant, and at a name that is known as a constant map.
 use Rattle.std.specs.Prelude.{Bool, true, false, ◌&&◌, not, List, Option, Some, None, codes, if◌then◌else◌}
-use Rattle.rhai_values.specs.Value.{Text, Value, BoolV, TextV, MapV, same_text, is_unit}
+use Rattle.rhai_base.specs.Value.{Text, Value, BoolV, TextV, MapV, same_text, is_unit}
 use Rattle.rhai_meaning.specs.Constants.{constant_value}
 use Rattle.rhai_meaning.specs.Elements.{at_index, entry}
 use Rattle.rhai_meaning.specs.Engine.{Engine, mapped_type_name}

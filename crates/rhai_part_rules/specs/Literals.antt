@@ -1,6 +1,6 @@
 -- What a step answers at the literal of an array or a map: one of its parts.
 use Rattle.std.specs.Prelude.{ℕ, zero, suc, Bool, true, false, Option, Some, None, ℤ, if◌then◌else◌}
-use Rattle.rhai_values.specs.Value.{Value, IntV, TextV}
+use Rattle.rhai_base.specs.Value.{Value, IntV, TextV}
 use Rattle.rhai_meaning.specs.Constants.{constant_value}
 use Rattle.rhai_meaning.specs.Elements.{at_index, index_in}
 use Rattle.rhai_meaning.specs.Queries.{is_pure_expr, is_unit}

@@ -1,13 +1,13 @@
 //! What a step answers at a constant, by value. What answers nothing takes no memory; of an array, a text or a map one
 //! part is copied alone.
 
-#![tactic(auto, using(rhai_reading::specs::Reading::shapes, rhai_values::specs::Reading::kinds, crate::proofs::Others::kinds_of_values))]
+#![tactic(auto, using(rhai_tree::specs::Reading::shapes, rhai_base::specs::Reading::kinds, crate::proofs::Others::kinds_of_values))]
 
 ghost use Rattle.std.specs.Prelude.{◌≡◌, IfOk, Some, false};
 ghost use Rattle.std.specs.Option.{option_copied, option_map};
-ghost use Rattle.rhai_values.specs.Reading.{value_of};
-ghost use Rattle.rhai_values.specs.Value.{BoolV, IntV, TextV};
-ghost use Rattle.rhai_reading.specs.Reading.{callee_of, expr_of, exprs_of, is_negated, mark_of};
+ghost use Rattle.rhai_base.specs.Reading.{value_of};
+ghost use Rattle.rhai_base.specs.Value.{BoolV, IntV, TextV};
+ghost use Rattle.rhai_tree.specs.Reading.{callee_of, expr_of, exprs_of, is_negated, mark_of};
 ghost use Rattle.rhai_meaning.specs.Constants as constants;
 ghost use Rattle.rhai_meaning.specs.Elements as elements;
 ghost use Rattle.rhai_meaning.specs.Engine.{mapped_type_name};

@@ -13,10 +13,10 @@ use Rattle.std.proofs.lemmas.Cmp.{same_from_slice_cmp}
 use Rattle.std.proofs.lemmas.Map.Steps.{set_value_same}
 use Rattle.std.proofs.lemmas.Map.Text.{is_eq-slice_cmp}
 use Rattle.std.proofs.lemmas.Slice.Eq.{bytes_eq-Decides}
-use Rattle.rhai_values.specs.declared.dynamic.Dynamic.{Dynamic}
-use Rattle.rhai_values.specs.declared.dynamic.Dynamic.TheVariants as dynamic
-use Rattle.rhai_values.specs.Reading.{value_of, members_of, DynamicCase, array_case, map_case, dynamic_cases}
-use Rattle.rhai_values.specs.Value.{Text, Value, UnitV, ArrayV, MapV, item, Fields, values, fields, field, same_text}
+use Rattle.rhai_base.specs.declared.dynamic.Dynamic.{Dynamic}
+use Rattle.rhai_base.specs.declared.dynamic.Dynamic.TheVariants as dynamic
+use Rattle.rhai_base.specs.Reading.{value_of, members_of, DynamicCase, array_case, map_case, dynamic_cases}
+use Rattle.rhai_base.specs.Value.{Text, Value, UnitV, ArrayV, MapV, item, Fields, values, fields, field, same_text}
 use Rattle.rhai_base.specs.Operators.{text_lt}
 use Rattle.rhai_meaning.specs.Elements.{at_index, index_in, entry, with_value_at, with_element, with_entry}
 use Rattle.rhai_meaning.specs.Places.{PlaceKey, AtIndex, AtEntry, inside, along, with_inside, with_along}

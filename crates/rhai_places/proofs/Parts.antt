@@ -14,9 +14,9 @@ use Rattle.std.specs.Str.Iter.{chars_rest, chars_steps}
 use Rattle.std.specs.declared.str.Chars.{Chars}
 use Rattle.std.proofs.lemmas.Map.Text.{is_eq-slice_cmp}
 use Rattle.std.proofs.lemmas.Str.{Chars-Drains, IsUtf8-past_char, chars_past_char, encodes-chars}
-use Rattle.rhai_values.specs.declared.dynamic.Dynamic.{Dynamic}
-use Rattle.rhai_values.specs.Reading.{value_of, members_of}
-use Rattle.rhai_values.specs.Value.{Text, UnitV, BoolV, CharV, values, fields, same_text}
+use Rattle.rhai_base.specs.declared.dynamic.Dynamic.{Dynamic}
+use Rattle.rhai_base.specs.Reading.{value_of, members_of}
+use Rattle.rhai_base.specs.Value.{Text, UnitV, BoolV, CharV, values, fields, same_text}
 use Rattle.rhai_base.specs.Operators.{bits_of}
 use Rattle.rhai_meaning.specs.Elements.{at_index, index_in, count, value_at, element, entry, character, bit}
 

@@ -1,7 +1,7 @@
 -- What an index comes to.
 use Rattle.std.specs.Prelude.{◌≡◌, true, [], ◌∷◌, codes}
-use Rattle.rhai_values.specs.Reading.{value_of}
-use Rattle.rhai_values.specs.Value.{Value}
+use Rattle.rhai_base.specs.Reading.{value_of}
+use Rattle.rhai_base.specs.Value.{Value}
 use Rattle.rhai_meaning.specs.Act.{Act}
 use Rattle.rhai_meaning.specs.ActForms.{throw}
 use Rattle.rhai_meaning.specs.Chains.{ask_for, index, set_by_host, set_index}

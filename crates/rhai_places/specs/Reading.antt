@@ -1,7 +1,7 @@
 -- The keys and the values that the declared ones stand for.
 use Rattle.std.specs.Prelude.{Option, Some, None}
-use Rattle.rhai_values.specs.Reading.{value_of}
-use Rattle.rhai_values.specs.Value.{Value, UnitV}
+use Rattle.rhai_base.specs.Reading.{value_of}
+use Rattle.rhai_base.specs.Value.{Value, UnitV}
 use Rattle.rhai_meaning.specs.Places as places
 use Rattle.rhai_places.specs.declared.standing.Part.{Part}
 use Rattle.rhai_places.specs.declared.standing.Part.TheVariants.{Stored, Missing}

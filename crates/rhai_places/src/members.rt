@@ -3,8 +3,8 @@
 #![tactic(auto, using(crate::proofs::Parts::parts))]
 
 ghost use Rattle.std.specs.Prelude.{◌≡◌};
-ghost use Rattle.rhai_values.specs.Reading.{members_of};
-ghost use Rattle.rhai_values.specs.Value.{fields};
+ghost use Rattle.rhai_base.specs.Reading.{members_of};
+ghost use Rattle.rhai_base.specs.Value.{fields};
 ghost use Rattle.rhai_meaning.specs.Elements as model;
 ghost use Rattle.rhai_places.specs.Reading.{part_value};
 

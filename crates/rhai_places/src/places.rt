@@ -1,6 +1,6 @@
 //! What stands along keys, and its replacement in its place.
 
-#![tactic(auto, using(rhai_values::specs::Reading::kinds, crate::proofs::AlongKeys::along_keys))]
+#![tactic(auto, using(rhai_base::specs::Reading::kinds, crate::proofs::AlongKeys::along_keys))]
 
 ghost use Rattle.std.specs.Prelude.{◌≡◌, ◌∷◌, false, map, IfOk, Some, None, if◌then◌else◌};
 ghost use Rattle.std.specs.BTreeMap.{is_at};
@@ -8,8 +8,8 @@ ghost use Rattle.std.specs.Cmp.Lexicographic.{slice_cmp};
 ghost use Rattle.std.specs.Map.{lookup};
 ghost use Rattle.std.specs.Option.{option_map};
 ghost use Rattle.std.specs.Ordering.{nat_cmp};
-ghost use Rattle.rhai_values.specs.Reading.{value_of, members_of};
-ghost use Rattle.rhai_values.specs.Value.{UnitV, ArrayV, MapV, fields, values};
+ghost use Rattle.rhai_base.specs.Reading.{value_of, members_of};
+ghost use Rattle.rhai_base.specs.Value.{UnitV, ArrayV, MapV, fields, values};
 ghost use Rattle.rhai_meaning.specs.Places as model;
 ghost use Rattle.rhai_places.specs.Reading.{key_meant, part_value};
 

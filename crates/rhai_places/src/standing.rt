@@ -1,9 +1,9 @@
 //! What stands at a place.
 
-#![tactic(auto, using(rhai_values::specs::Reading::kinds, crate::proofs::Parts::parts))]
+#![tactic(auto, using(rhai_base::specs::Reading::kinds, crate::proofs::Parts::parts))]
 
 ghost use Rattle.std.specs.Prelude.{◌≡◌, IfOk};
-ghost use Rattle.rhai_values.specs.Reading.{value_of};
+ghost use Rattle.rhai_base.specs.Reading.{value_of};
 ghost use Rattle.rhai_meaning.specs.Shape as shape;
 ghost use Rattle.rhai_places.specs.Reading.{part_value};
 

@@ -1,9 +1,9 @@
 //! What an index comes to, at a value that is read and at one that is written.
 
-#![tactic(auto, using(rhai_values::specs::Reading::kinds, crate::proofs::Indexes::indexes))]
+#![tactic(auto, using(rhai_base::specs::Reading::kinds, crate::proofs::Indexes::indexes))]
 
-ghost use Rattle.rhai_values.specs.Reading.{value_of};
-ghost use Rattle.rhai_values.specs.declared.dynamic.Dynamic.TheVariants as kind;
+ghost use Rattle.rhai_base.specs.Reading.{value_of};
+ghost use Rattle.rhai_base.specs.declared.dynamic.Dynamic.TheVariants as kind;
 ghost use Rattle.rhai_places.specs.Indexing.{IsIndexed, IsIndexTarget};
 ghost use Rattle.rhai_places.specs.Reading.{part_value};
 

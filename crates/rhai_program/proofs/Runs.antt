@@ -1,7 +1,7 @@
 -- What runs report.
 use Rattle.std.proofs.Common.{◌≡◌, ℕ, List, [], ◌++◌, codes, refl, ap, ◌∙◌}
-use Rattle.rhai_values.specs.Value.{Text}
-use Rattle.rhai_values.specs.declared.scope.ScopeEntry.{ScopeEntry}
+use Rattle.rhai_base.specs.Value.{Text}
+use Rattle.rhai_base.specs.declared.scope.ScopeEntry.{ScopeEntry}
 use Rattle.rhai_meaning.specs.Agreeing.{AgreeOn}
 use Rattle.rhai_meaning.specs.Act.{Host}
 use Rattle.rhai_meaning.specs.Desugar.{core_script}

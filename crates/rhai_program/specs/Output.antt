@@ -1,7 +1,7 @@
 -- What a write leaves where it may have been refused.
 use Rattle.std.specs.Prelude.{◌⊎◌, ℕ, List, Option, take}
 use Rattle.std.specs.Io.KnownBytes.{Appends, Keeps}
-use Rattle.rhai_values.specs.Value.{Text}
+use Rattle.rhai_base.specs.Value.{Text}
 use Rattle.rhai_program.specs.declared.request.Request.{Request}
 use Rattle.rhai_program.specs.Words.{Answers}
 

@@ -7,19 +7,19 @@ use Rattle.rhai_tokens.specs.declared.error.AstError.{AstError}
 use Rattle.rhai_tokens.specs.declared.error.AstError.TheVariants.{SwitchIndex, SwitchDefaultCondition, SwitchDefaultShared, SwitchKey}
 use Rattle.rhai_base.specs.declared.range_case.RangeCase.{RangeCase}
 use Rattle.rhai_base.specs.Ranges.{index_of}
-use Rattle.rhai_names.specs.Names.{are_all}
-use Rattle.rhai_values.specs.declared.dynamic.Dynamic.{Dynamic}
-use Rattle.rhai_values.specs.Value.{is_hashable}
-use Rattle.rhai_values.specs.Reading.{value_of}
+use Rattle.rhai_tokens.specs.Names.{are_all}
+use Rattle.rhai_base.specs.declared.dynamic.Dynamic.{Dynamic}
+use Rattle.rhai_base.specs.Value.{is_hashable}
+use Rattle.rhai_base.specs.Reading.{value_of}
 use Rattle.rhai_tree.specs.declared.expr.BinaryExpr.{BinaryExpr}
 use Rattle.rhai_base.specs.declared.cases.CaseBlocksList.{CaseBlocksList}
 use Rattle.rhai_meaning.specs.Queries.{is_literally}
 use Rattle.rhai_meaning.specs.Shape as shape
 use Rattle.rhai_meaning.specs.Tree.{Expr, BoolConstant, Arms, no_arms, arm, count_arms}
-use Rattle.rhai_reading.specs.Reading.{arms_of, case_of, expr_of, range_of, table_by}
+use Rattle.rhai_tree.specs.Reading.{arms_of, case_of, expr_of, range_of, table_by}
 use Rattle.rhai_queries.specs.SwitchTables.{are_keys, default_at, default_tested, lists_name, lists_within, ranges_name, ranges_within, refusal, RefusalLaw}
 use Rattle.rhai_meaning.proofs.Truth.{and_assoc}
-use Rattle.rhai_reading.proofs.Ranges.{range_arm}
+use Rattle.rhai_tree.proofs.Ranges.{range_arm}
 
 abbrev pub is_accepted : Option AstError → Bool
 is_accepted None = true

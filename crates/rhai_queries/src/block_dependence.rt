@@ -1,9 +1,9 @@
 //! Dependence on the list around.
 
-#![tactic(auto, using(rhai_reading::specs::Reading::shapes, rhai_reading::proofs::ItemLists::steps))]
+#![tactic(auto, using(rhai_tree::specs::Reading::shapes, rhai_tree::proofs::ItemLists::steps))]
 
 ghost use Rattle.std.specs.Prelude.{◌≡◌};
-ghost use Rattle.rhai_reading.specs.Reading.{callee_of, expr_of, stmt_of, stmts_of};
+ghost use Rattle.rhai_tree.specs.Reading.{callee_of, expr_of, stmt_of, stmts_of};
 ghost use Rattle.rhai_meaning.specs.Queries as queries;
 
 use rhai_tree::{Expr, FnCallExpr, Stmt};

@@ -1,9 +1,9 @@
 //! Constants.
 
-#![tactic(auto, using(rhai_reading::specs::Reading::shapes, rhai_reading::proofs::ItemLists::steps))]
+#![tactic(auto, using(rhai_tree::specs::Reading::shapes, rhai_tree::proofs::ItemLists::steps))]
 
 ghost use Rattle.std.specs.Prelude.{◌≡◌, is_some};
-ghost use Rattle.rhai_reading.specs.Reading.{expr_of, exprs_of, pairs_of};
+ghost use Rattle.rhai_tree.specs.Reading.{expr_of, exprs_of, pairs_of};
 ghost use Rattle.rhai_meaning.specs.Constants as constants;
 ghost use Rattle.rhai_meaning.specs.Queries as queries;
 

@@ -1,9 +1,9 @@
 //! Purity but for names that the list around takes away.
 
-#![tactic(auto, using(rhai_reading::specs::Reading::shapes, rhai_reading::proofs::ItemLists::steps))]
+#![tactic(auto, using(rhai_tree::specs::Reading::shapes, rhai_tree::proofs::ItemLists::steps))]
 
 ghost use Rattle.std.specs.Prelude.{◌≡◌};
-ghost use Rattle.rhai_reading.specs.Reading.{expr_of, stmt_of, stmts_of};
+ghost use Rattle.rhai_tree.specs.Reading.{expr_of, stmt_of, stmts_of};
 ghost use Rattle.rhai_meaning.specs.Queries as queries;
 
 use crate::purity::{is_pure, is_pure_expr};

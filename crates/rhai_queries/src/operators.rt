@@ -1,9 +1,9 @@
 //! Calls of operators by their tokens.
 
-#![tactic(auto, using(rhai_values::specs::Reading::kinds))]
+#![tactic(auto, using(rhai_base::specs::Reading::kinds))]
 
 ghost use Rattle.std.specs.Prelude.{◌≡◌, length};
-ghost use Rattle.rhai_reading.specs.Reading.{callee_of, mark_of};
+ghost use Rattle.rhai_tree.specs.Reading.{callee_of, mark_of};
 ghost use Rattle.rhai_meaning.specs.Shape.{has_token};
 ghost use Rattle.rhai_queries.specs.Operators.{token_arity};
 

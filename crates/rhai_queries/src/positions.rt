@@ -1,10 +1,10 @@
 //! Where nodes stand.
 
-#![tactic(auto, using(rhai_reading::specs::Positions::places))]
+#![tactic(auto, using(rhai_tree::specs::Positions::places))]
 
 ghost use Rattle.std.specs.Prelude.{◌≡◌, map};
 ghost use Rattle.rhai_tree.specs.Defaults.{nowhere};
-ghost use Rattle.rhai_reading.specs.Positions.{first_or, position_of, start_of, stmt_position_of};
+ghost use Rattle.rhai_tree.specs.Positions.{first_or, position_of, start_of, stmt_position_of};
 
 use rhai_base::{Ident, Position};
 use rhai_tree::{Expr, Stmt};

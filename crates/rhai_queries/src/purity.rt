@@ -1,10 +1,10 @@
 //! Purity: whether a run calls nothing, throws nothing and changes nothing.
 
-#![tactic(auto, using(rhai_reading::specs::Reading::shapes, rhai_reading::proofs::ItemLists::steps, crate::proofs::Tables::tables))]
+#![tactic(auto, using(rhai_tree::specs::Reading::shapes, rhai_tree::proofs::ItemLists::steps, crate::proofs::Tables::tables))]
 
 ghost use Rattle.std.specs.Prelude.{◌≡◌, ◌&&◌, true, map, slice_get};
 ghost use Rattle.rhai_queries.specs.Arms.{has_pure_answer, is_pure_if_any};
-ghost use Rattle.rhai_reading.specs.Reading.{arms_of, case_of, cases_of, expr_of, expressions_of, exprs_of, pairs_of, range_of, stmt_of, stmts_of, subject_of, table_of};
+ghost use Rattle.rhai_tree.specs.Reading.{arms_of, case_of, cases_of, expr_of, expressions_of, exprs_of, pairs_of, range_of, stmt_of, stmts_of, subject_of, table_of};
 ghost use Rattle.rhai_meaning.specs.Queries as queries;
 ghost use Rattle.rhai_meaning.specs.Walk.{arms_of_cases, arms_of_ranges};
 

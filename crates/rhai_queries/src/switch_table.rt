@@ -1,12 +1,12 @@
 //! The table of a `switch`: what makes parts no table.
 
-#![tactic(auto, using(rhai_reading::specs::Reading::shapes, rhai_values::specs::Reading::kinds))]
+#![tactic(auto, using(rhai_tree::specs::Reading::shapes, rhai_base::specs::Reading::kinds))]
 
 ghost use Rattle.std.specs.Prelude.{◌≡◌, ◌==◌, nat_lt};
 ghost use Rattle.std.specs.List.{list_all, list_any};
 ghost use Rattle.rhai_meaning.specs.Shape as shape;
 ghost use Rattle.rhai_queries.specs.SwitchTables as tables;
-ghost use Rattle.rhai_reading.specs.Reading.{arms_of, expressions_of, table_of};
+ghost use Rattle.rhai_tree.specs.Reading.{arms_of, expressions_of, table_of};
 
 use crate::constants::is_literally;
 use rhai_base::{AstError, Cases, RangeCase};

@@ -4,9 +4,9 @@
 #![tactic(auto)]
 
 ghost use Rattle.std.specs.Prelude.{◌≡◌, IfOk, OnOk};
-ghost use Rattle.rhai_values.specs.Value.{inner};
-ghost use Rattle.rhai_values.specs.Reading.{value_of};
-ghost use Rattle.rhai_reading.specs.Reading.{stmts_of};
+ghost use Rattle.rhai_base.specs.Value.{inner};
+ghost use Rattle.rhai_base.specs.Reading.{value_of};
+ghost use Rattle.rhai_tree.specs.Reading.{stmts_of};
 ghost use Rattle.rhai_script.specs.Script.{script_of};
 ghost use Rattle.rhai_notation.specs.Notation.{lines_text, script_text};
 ghost use Rattle.rhai_reader.specs.Texts.{AreLinesOf};

@@ -6,8 +6,8 @@ use Rattle.rhai_tree.specs.declared.stmt.Stmt as declared_stmt
 use Rattle.rhai_tree.specs.declared.stmt.Stmt.TheVariants as stmt_kind
 use Rattle.rhai_meaning.specs.Engine.{Engine}
 use Rattle.rhai_meaning.specs.Queries.{is_block_dependent, is_any_dependent}
-use Rattle.rhai_reading.specs.Reading.{stmt_of, stmts_of, stmt_of-Noop}
-use Rattle.rhai_reading.proofs.Cases.{StmtCase, block_case, stmt_cases}
+use Rattle.rhai_tree.specs.Reading.{stmt_of, stmts_of, stmt_of-Noop}
+use Rattle.rhai_tree.proofs.Cases.{StmtCase, block_case, stmt_cases}
 use Rattle.rhai_meaning.specs.Tree.{Stmt, Noop, Var, Block, Stmts, no_stmts, stmt, joined}
 use Rattle.rhai_rewriting.specs.Clear.{AreClear}
 use Rattle.rhai_rewriting.specs.Context.{Context, known_behind, ListKind, wanted, wanted_before}

@@ -5,12 +5,12 @@ use Rattle.std.specs.declared.num.NonZeroUsize.{NonZeroUsize}
 use Rattle.std.specs.Prelude.{Option, Result, IfOk}
 use Rattle.std.proofs.lemmas.Result.{IfOk-weaker}
 use Rattle.rhai_tokens.specs.declared.error.OutOfMemory.{OutOfMemory}
-use Rattle.rhai_names.specs.declared.flags.ASTFlags.{ASTFlags}
-use Rattle.rhai_names.specs.declared.ident.Ident.{Ident}
-use Rattle.rhai_values.specs.Value.{Text}
+use Rattle.rhai_tokens.specs.declared.flags.ASTFlags.{ASTFlags}
+use Rattle.rhai_tokens.specs.declared.ident.Ident.{Ident}
+use Rattle.rhai_base.specs.Value.{Text}
 use Rattle.rhai_tree.specs.declared.expr.Expr as declared_expr
 use Rattle.rhai_tree.specs.declared.expr.BinaryExpr.{BinaryExpr}
-use Rattle.rhai_values.specs.declared.dynamic.Dynamic.{Dynamic}
+use Rattle.rhai_base.specs.declared.dynamic.Dynamic.{Dynamic}
 use Rattle.rhai_tree.specs.declared.expr.FnCallExpr.{FnCallExpr}
 use Rattle.rhai_tree.specs.declared.block.StmtBlock.{StmtBlock}
 use Rattle.rhai_tree.specs.declared.stmt.FlowControl.{FlowControl}
@@ -20,8 +20,8 @@ use Rattle.rhai_tree.specs.declared.expr.Expr.TheOpen as open_one
 use Rattle.rhai_tree.specs.declared.expr.Expr.TheViews as views
 use Rattle.rhai_tree.specs.declared.stmt.Stmt as declared_stmt
 use Rattle.rhai_tree.specs.declared.stmt.Stmt.TheVariants as stmt_kind
-use Rattle.rhai_reading.specs.Reading.{table_by, table_of, subject_of, cases_of, expressions_of, arms_of, expr_of, stmt_of, stmts_of, stmt_of-Var, is_const, is_exported, breaks, chain_flags}
-use Rattle.rhai_reading.proofs.Cases.{ExprCase, interpolated_string_case, array_case, map_case, unit_case, variable_case, method_call_case, braces_case, call_case, dot_case, index_case, and_case, or_case, coalesce_case, expr_cases, StmtCase, if_case, switch_case, while_case, do_case, for_case, var_case, assignment_case, call_statement_case, block_case, try_catch_case, expression_case, break_loop_case, return_case, import_case, stmt_cases}
+use Rattle.rhai_tree.specs.Reading.{table_by, table_of, subject_of, cases_of, expressions_of, arms_of, expr_of, stmt_of, stmts_of, stmt_of-Var, is_const, is_exported, breaks, chain_flags}
+use Rattle.rhai_tree.proofs.Cases.{ExprCase, interpolated_string_case, array_case, map_case, unit_case, variable_case, method_call_case, braces_case, call_case, dot_case, index_case, and_case, or_case, coalesce_case, expr_cases, StmtCase, if_case, switch_case, while_case, do_case, for_case, var_case, assignment_case, call_statement_case, block_case, try_catch_case, expression_case, break_loop_case, return_case, import_case, stmt_cases}
 use Rattle.rhai_meaning.specs.Engine.{Engine}
 use Rattle.rhai_meaning.specs.Tree.{Expr, Variable, Dot, Index, Arms, MaybeExpr, no_expr, Stmt, Var, Stmts, Switch, SwitchTable}
 use Rattle.rhai_meaning.specs.Shape.{catch_name}

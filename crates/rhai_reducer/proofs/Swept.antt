@@ -5,7 +5,7 @@ use Rattle.rhai_tree.specs.declared.stmt.Stmt as declared_stmt
 use Rattle.rhai_meaning.specs.Engine.{Engine}
 use Rattle.rhai_meaning.specs.Tree.{Stmts}
 use Rattle.rhai_meaning.specs.Weight.{weight}
-use Rattle.rhai_reading.specs.Reading.{stmts_of}
+use Rattle.rhai_tree.specs.Reading.{stmts_of}
 use Rattle.rhai_engine.specs.EngineInfo.{nothing_set}
 use Rattle.rhai_rewriting.specs.Context.{under, ListKind}
 use Rattle.rhai_rewriting.specs.Residue.{AreReduced}

@@ -4,11 +4,11 @@ use Rattle.std.proofs.lemmas.List.{drop_more, drop_all, take_all, take_more_set,
 use Rattle.rhai_tree.specs.declared.expr.Expr as declared_expr
 use Rattle.rhai_tree.specs.declared.stmt.Stmt as declared_stmt
 use Rattle.rhai_meaning.specs.Engine.{Engine}
-use Rattle.rhai_reading.specs.Reading.{expr_of, exprs_of, pairs_of, arms_of, stmt_of, stmts_of}
+use Rattle.rhai_tree.specs.Reading.{expr_of, exprs_of, pairs_of, arms_of, stmt_of, stmts_of}
 use Rattle.rhai_tree.specs.declared.expr.BinaryExpr.{BinaryExpr}
 use Rattle.rhai_rewriting.proofs.rules.Arms.{arms_weight}
-use Rattle.rhai_names.specs.declared.ident.Ident.{Ident}
-use Rattle.rhai_values.specs.Value.{Text}
+use Rattle.rhai_tokens.specs.declared.ident.Ident.{Ident}
+use Rattle.rhai_base.specs.Value.{Text}
 use Rattle.rhai_meaning.specs.Tree.{Expr, Pairs, pair, Stmt, Stmts, no_stmts, stmt}
 use Rattle.rhai_meaning.specs.Walk.{total, over_pairs}
 use Rattle.rhai_rewriting.specs.Context.{Context, ListKind, wanted, wanted_before}

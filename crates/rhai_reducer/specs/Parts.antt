@@ -1,7 +1,7 @@
 -- The record that an optimiser uses, what is left as it is, what a statement declares, and what came of it where it
 -- was gone over once.
 use Rattle.std.specs.Prelude.{Bool, true, false, Option, None}
-use Rattle.rhai_values.specs.Value.{Value}
+use Rattle.rhai_base.specs.Value.{Value}
 use Rattle.rhai_meaning.specs.Constants.{constant_value}
 use Rattle.rhai_meaning.specs.Engine.{Engine}
 use Rattle.rhai_meaning.specs.Tree.{Expr, Stmt}

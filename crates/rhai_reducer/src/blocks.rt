@@ -1,10 +1,10 @@
 //! Blocks in a list.
 
-#![tactic(auto, using(rhai_reading::specs::Reading::shapes))]
+#![tactic(auto, using(rhai_tree::specs::Reading::shapes))]
 
 ghost use Rattle.std.specs.Prelude.{◌≡◌, OnOk, true, false};
 ghost use Rattle.rhai_known.specs.State.{progress};
-ghost use Rattle.rhai_reading.specs.Reading.{stmt_of, stmts_of};
+ghost use Rattle.rhai_tree.specs.Reading.{stmt_of, stmts_of};
 ghost use Rattle.rhai_meaning.specs.Queries as queries;
 ghost use Rattle.rhai_meaning.specs.Tree.{Block, no_stmts, stmt};
 ghost use Rattle.rhai_reducer.specs.Blocks as spec;

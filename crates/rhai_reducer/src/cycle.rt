@@ -1,10 +1,10 @@
 //! The recursion over a tree, in place: parts first, then the node.
 
-#![tactic(auto, using(rhai_reading::specs::Reading::shapes))]
+#![tactic(auto, using(rhai_tree::specs::Reading::shapes))]
 
 ghost use Rattle.std.specs.Prelude.{◌≡◌, Bool, IfOk, IsTrue, OnOk, true, false};
 ghost use Rattle.rhai_known.specs.State.{progress};
-ghost use Rattle.rhai_reading.specs.Reading.{arms_of, breaks, callee_of, cases_of, counter_of, expr_of, expressions_of, exprs_of, maybe_of, pairs_of, stmt_of, stmts_of, subject_of, table_of};
+ghost use Rattle.rhai_tree.specs.Reading.{arms_of, breaks, callee_of, cases_of, counter_of, expr_of, expressions_of, exprs_of, maybe_of, pairs_of, stmt_of, stmts_of, subject_of, table_of};
 ghost use Rattle.rhai_meaning.specs.Shape.{catch_name};
 ghost use Rattle.rhai_meaning.specs.Tree.{If};
 ghost use Rattle.rhai_sweep.specs.Marks.{mark_of};

@@ -1,9 +1,9 @@
 //! Expressions that are left as they are.
 
-#![tactic(auto, using(rhai_reading::specs::Reading::shapes))]
+#![tactic(auto, using(rhai_tree::specs::Reading::shapes))]
 
 ghost use Rattle.std.specs.Prelude.{IsTrue};
-ghost use Rattle.rhai_reading.specs.Reading.{expr_of};
+ghost use Rattle.rhai_tree.specs.Reading.{expr_of};
 ghost use Rattle.rhai_reducer.specs.Parts.{StaysAnywhere};
 
 use rhai_ast::Expr;

@@ -1,11 +1,11 @@
 //! A list while it is gone over, and the sweep over it when its statements are reduced.
 
-#![tactic(auto, using(rhai_reading::specs::Reading::shapes))]
+#![tactic(auto, using(rhai_tree::specs::Reading::shapes))]
 
 ghost use Rattle.std.specs.Prelude.{◌≡◌, ◌<◌, ◌+◌, ◌||◌, length, drop};
 ghost use Rattle.rhai_known.specs.State.{progress};
 ghost use Rattle.rhai_meaning.specs.Engine.{Engine};
-ghost use Rattle.rhai_reading.specs.Reading.{stmts_of};
+ghost use Rattle.rhai_tree.specs.Reading.{stmts_of};
 ghost use Rattle.rhai_rewriting.specs.Context as rewriting;
 ghost use Rattle.rhai_rewriting.specs.Steps.{ListPassed, SweepRun};
 ghost use Rattle.rhai_sweep.specs.Marks.{mark_of};

@@ -1,14 +1,14 @@
 //! The names that statements declare, also in loops and catches.
 
-#![tactic(auto, using(rhai_reading::specs::Reading::shapes))]
+#![tactic(auto, using(rhai_tree::specs::Reading::shapes))]
 
 ghost use Rattle.std.specs.Prelude.{◌≡◌, ◌∷◌, ◌++◌, IfOk, OnOk};
 ghost use Rattle.std.specs.Cow.{cow_value};
 ghost use Rattle.std.specs.Option.{option_map};
-ghost use Rattle.rhai_values.specs.Reading.{value_of};
+ghost use Rattle.rhai_base.specs.Reading.{value_of};
 ghost use Rattle.rhai_known.specs.Bindings.{read};
 ghost use Rattle.rhai_known.specs.State.{progress};
-ghost use Rattle.rhai_reading.specs.Reading.{counter_of, expr_of, is_const, stmt_of};
+ghost use Rattle.rhai_tree.specs.Reading.{counter_of, expr_of, is_const, stmt_of};
 ghost use Rattle.rhai_meaning.specs.Shape.{catch_name};
 ghost use Rattle.rhai_rewriting.specs.Steps.{variable, loop_front, catch_front};
 ghost use Rattle.rhai_reducer.specs.Parts.{declared_value};

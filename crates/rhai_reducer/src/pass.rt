@@ -1,10 +1,10 @@
 //! One pass over the statements of a script or of a body.
 
-#![tactic(auto, using(rhai_reading::specs::Reading::shapes))]
+#![tactic(auto, using(rhai_tree::specs::Reading::shapes))]
 
 ghost use Rattle.std.specs.Prelude.{IfOk};
 ghost use Rattle.rhai_known.specs.State.{progress};
-ghost use Rattle.rhai_reading.specs.Reading.{stmts_of};
+ghost use Rattle.rhai_tree.specs.Reading.{stmts_of};
 ghost use Rattle.rhai_reducer.specs.Parts.{record_of};
 ghost use Rattle.rhai_reducer.specs.Pass.{PassRun};
 

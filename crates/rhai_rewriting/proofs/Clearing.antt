@@ -1,6 +1,6 @@
 -- Where no `if` tests a name that is known, none tests a `const` of its list; and where that is so.
 use Rattle.std.proofs.Common.{◌≡◌, Bool, true, false, ◌&&◌, not, List, [], Some, None, refl, sym, ap, ◌∙◌}
-use Rattle.rhai_values.specs.Value.{Text, Value, same_text}
+use Rattle.rhai_base.specs.Value.{Text, Value, same_text}
 use Rattle.rhai_meaning.specs.Constants.{constant_value, is_constant}
 use Rattle.rhai_meaning.specs.Queries.{is_pure_expr, are_pure_exprs, is_pure, are_pure, is_internally_pure_expr, is_internally_pure, are_internally_pure}
 use Rattle.rhai_meaning.specs.Tree.{Expr, Variable, BlockExpr, And, Or, Coalesce, Exprs, no_exprs, expr, Stmt, If, Var, Block, ExprStmt, Stmts, no_stmts, stmt}

@@ -1,7 +1,7 @@
 -- Of a well-formed tree either nothing is left to reduce, at any depth, or a step of the relation applies.
 use Rattle.std.proofs.Common.{◌≡◌, ℕ, zero, suc, Bool, true, false, ◌⊎◌, inl, inr, List, [], ◌∷◌, Option, Some, None, refl, sym, ap, ◌∙◌, subst}
 use Rattle.std.specs.Prelude.{not, if◌then◌else◌}
-use Rattle.rhai_values.specs.Value.{Text, Value, UnitV}
+use Rattle.rhai_base.specs.Value.{Text, Value, UnitV}
 use Rattle.rhai_meaning.specs.Constants.{constant_values, constant_bool}
 use Rattle.rhai_meaning.specs.Desugar.{root_of}
 use Rattle.rhai_meaning.specs.Engine.{Engine}

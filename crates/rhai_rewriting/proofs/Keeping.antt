@@ -1,6 +1,6 @@
 -- What rules make of nodes whose parts are reduced has parts that are.
 use Rattle.std.proofs.Common.{◌≡◌, Bool, true, false, List, None, refl, sym, ◌∙◌}
-use Rattle.rhai_values.specs.Value.{Value, UnitV, PointerV, no_values, item, is_unit}
+use Rattle.rhai_base.specs.Value.{Value, UnitV, PointerV, no_values, item, is_unit}
 use Rattle.rhai_meaning.specs.Constants.{constant_for}
 use Rattle.rhai_meaning.specs.Desugar.{root_of}
 use Rattle.rhai_meaning.specs.Engine.{Engine}

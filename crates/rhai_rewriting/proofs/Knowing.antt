@@ -1,6 +1,6 @@
 -- Lists of names that know less than others, and one statement that is rewritten where fewer names are known.
 use Rattle.std.proofs.Common.{◌≡◌, Bool, true, false, cond, List, ◌∷◌, Option, Some, None}
-use Rattle.rhai_values.specs.Value.{Text, Value, same_text}
+use Rattle.rhai_base.specs.Value.{Text, Value, same_text}
 use Rattle.rhai_meaning.specs.Constants.{constant_value}
 use Rattle.rhai_meaning.specs.Tree.{Stmt, Var, Stmts, stmt}
 use Rattle.rhai_rewriting.specs.Context.{Context, knowing, known_behind, ListKind, wanted, wanted_before}

@@ -2,7 +2,7 @@
 use Rattle.std.proofs.Common.{◌≡◌, ℤ, Bool, true, false, List, [], ◌∷◌, ◌++◌, Option, Some, None, if◌then◌else◌, refl, subst, pos, suc, zero, ℕ}
 use Rattle.std.specs.Prelude.{negsuc, int_div, int_rem, ◌+ℤ◌, ◌-ℤ◌, ◌*ℤ◌}
 use Rattle.std.specs.Char.{encode_utf8}
-use Rattle.rhai_values.specs.Value.{Text, Value, UnitV, BoolV, IntV, CharV, TextV, PointerV, same_text, type_name}
+use Rattle.rhai_base.specs.Value.{Text, Value, UnitV, BoolV, IntV, CharV, TextV, PointerV, same_text, type_name}
 use Rattle.rhai_base.specs.Operators as table
 use Rattle.rhai_base.specs.Operators.{Operator, Computed, NoEntry, Is, Overflows, fits, quotient, remainder, on_ints, on_bools, on_texts, on_chars, on_units, on_joined, on_from, on_to, on_different, binary, unary, computed}
 use Rattle.rhai_meaning.specs.Engine.{Engine, is_open, built_in}

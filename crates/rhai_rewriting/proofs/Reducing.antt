@@ -2,7 +2,7 @@
 use Rattle.std.proofs.Common.{◌≡◌, ℕ, zero, suc, Bool, true, false, cond, List, [], ◌∷◌, Option, Some, None, refl, sym, ap, ◌∙◌, subst}
 use Rattle.std.specs.Prelude.{◌&&◌, ◌||◌, not, is_some, nat_lt}
 use Rattle.std.proofs.lemmas.Slice.Eq.{bytes_eq-Decides}
-use Rattle.rhai_values.specs.Value.{Text, Value, UnitV, MapV, PointerV, no_values, item, same_text, is_hashable, BoolV, IntV, CharV, TextV}
+use Rattle.rhai_base.specs.Value.{Text, Value, UnitV, MapV, PointerV, no_values, item, same_text, is_hashable, BoolV, IntV, CharV, TextV}
 use Rattle.rhai_meaning.specs.Constants.{constant_value, constant_values, constant_entries, constant_bool, array_value, map_value, joined_value, value_and, entry_and, is_constant, is_literal_unit, constant_for}
 use Rattle.rhai_meaning.specs.Control.{case_for, ranges_with, or_ranges, chosen}
 use Rattle.rhai_meaning.specs.Desugar.{root_of}
@@ -15,7 +15,7 @@ use Rattle.rhai_meaning.specs.Shape.{is_unit, is_rest, is_left_side, condition_a
 use Rattle.rhai_meaning.specs.Tree.{ChainFlags, SwitchTable, Callee, Expr, DynamicConstant, BoolConstant, UnitConstant, InterpolatedString, ArrayOf, MapOf, Variable, ThisPtr, Property, BlockExpr, FnCall, Dot, Index, And, Or, Coalesce, Exprs, no_exprs, expr, Pairs, no_pairs, pair, Arms, no_arms, arm, count_arms, Stmt, Noop, If, Switch, While, Assignment, Var, FnCallStmt, ExprStmt, Return, an_expr, Stmts, no_stmts, stmt, IntegerConstant, CharConstant, StringConstant, Block}
 use Rattle.rhai_meaning.specs.Walk.{Node, OfExpr, OfStmt, Spot, RightSide, every, over_stmts, arms_at, arm_at, listed}
 use Rattle.rhai_meaning.proofs.Walk.{Alongside, stmts_alongside}
-use Rattle.rhai_names.specs.Names.{are_all}
+use Rattle.rhai_tokens.specs.Names.{are_all}
 use Rattle.rhai_rewriting.specs.Context.{Context, known_behind, ListKind, Whole}
 use Rattle.rhai_rewriting.specs.Folding.{folded}
 use Rattle.rhai_rewriting.specs.Evals.{keeps_names}

@@ -3,7 +3,7 @@ use Rattle.std.proofs.Common.{◌≡◌, ℕ, ◌≤◌, ◌<◌, ◌-◌, zero,
 use Rattle.std.proofs.Math.Seq.{drop-append_seam}
 use Rattle.rhai_meaning.specs.Constants.{constant_value}
 use Rattle.rhai_meaning.specs.Engine.{Engine}
-use Rattle.rhai_values.specs.Value.{Text}
+use Rattle.rhai_base.specs.Value.{Text}
 use Rattle.rhai_base.specs.Operators.{Operator}
 use Rattle.rhai_meaning.specs.Shape.{is_rest, is_argument, is_member, is_left_side, catch_name}
 use Rattle.rhai_meaning.specs.Walk.{over_arms, arm_at, arms_at, listed}

@@ -1,6 +1,6 @@
 -- What is left to reduce in operands and in chains.
 use Rattle.std.specs.Prelude.{◌≡◌, Bool, true, false, ◌||◌, not, Option, Some, None}
-use Rattle.rhai_values.specs.Value.{Text, Value, MapV}
+use Rattle.rhai_base.specs.Value.{Text, Value, MapV}
 use Rattle.rhai_meaning.specs.Constants.{constant_value, constant_bool}
 use Rattle.rhai_meaning.specs.Elements.{entry}
 use Rattle.rhai_meaning.specs.Shape.{is_unit}

@@ -1,6 +1,6 @@
 -- What is left to choose in a `switch` over a constant: neither several arms nor ranges.
 use Rattle.std.specs.Prelude.{ℕ, Bool, true, false, ◌&&◌, List, [], ◌∷◌, Option, Some, None}
-use Rattle.rhai_values.specs.Value.{Value, UnitV, BoolV, IntV, CharV, TextV, is_hashable}
+use Rattle.rhai_base.specs.Value.{Value, UnitV, BoolV, IntV, CharV, TextV, is_hashable}
 use Rattle.rhai_meaning.specs.Control.{case_for, ranges_with}
 use Rattle.rhai_meaning.specs.Tree.{SwitchTable, Expr, DynamicConstant, BoolConstant, IntegerConstant, CharConstant, StringConstant, UnitConstant}
 

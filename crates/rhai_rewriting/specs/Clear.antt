@@ -1,6 +1,6 @@
 -- Trees in which no `if` tests a name that is known there as a constant, in all parts that a rule may put in a node's place.
 use Rattle.std.specs.Prelude.{◌≡◌, List, [], ◌∷◌, Option, None}
-use Rattle.rhai_values.specs.Value.{Text, Value}
+use Rattle.rhai_base.specs.Value.{Text, Value}
 use Rattle.rhai_meaning.specs.Tree.{Expr, Variable, BlockExpr, And, Or, Coalesce, Exprs, no_exprs, expr, Stmt, If, Block, ExprStmt, Stmts, no_stmts, stmt}
 use Rattle.rhai_rewriting.specs.Context.{known_behind}
 use Rattle.rhai_rewriting.specs.Evals.{keeps_names}

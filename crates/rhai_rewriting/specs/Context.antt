@@ -1,6 +1,6 @@
 -- Where a tree stands: what its rewriting may rely on, and what the list is in which a statement stands.
 use Rattle.std.specs.Prelude.{Bool, true, false, List, [], ◌∷◌, Option, Some, None}
-use Rattle.rhai_values.specs.Value.{Text, Value}
+use Rattle.rhai_base.specs.Value.{Text, Value}
 use Rattle.rhai_meaning.specs.Constants.{constant_value}
 use Rattle.rhai_meaning.specs.Engine.{Engine}
 use Rattle.rhai_meaning.specs.Tree.{Stmt, Var, Stmts, no_stmts, stmt}

@@ -1,6 +1,6 @@
 -- What operator calls over constants answer without asking the host.
 use Rattle.std.specs.Prelude.{List, Option, Some, None}
-use Rattle.rhai_values.specs.Value.{Value}
+use Rattle.rhai_base.specs.Value.{Value}
 use Rattle.rhai_meaning.specs.Engine.{Engine, built_in}
 use Rattle.rhai_meaning.specs.Constants.{computed_value, constant_values}
 use Rattle.rhai_meaning.specs.Tree.{CallToken, OfOperator, Callee, Exprs}

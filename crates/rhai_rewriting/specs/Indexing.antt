@@ -1,6 +1,6 @@
 -- What an index answers without the host, and the parts of array and map literals.
 use Rattle.std.specs.Prelude.{ℕ, zero, suc, cond, Option, Some, None}
-use Rattle.rhai_values.specs.Value.{Text, Value, IntV, TextV, ArrayV, MapV, same_text}
+use Rattle.rhai_base.specs.Value.{Text, Value, IntV, TextV, ArrayV, MapV, same_text}
 use Rattle.rhai_meaning.specs.Elements.{element, entry, character, bit}
 use Rattle.rhai_meaning.specs.Engine.{or_else}
 use Rattle.rhai_meaning.specs.Tree.{Expr, UnitConstant, Exprs, no_exprs, expr, Pairs, no_pairs, pair}

@@ -1,6 +1,6 @@
 -- The names that the optimiser knows.
 use Rattle.std.specs.Prelude.{◌≡◌, true, cond, List, [], ◌∷◌, Option, Some, None}
-use Rattle.rhai_values.specs.Value.{Text, Value, same_text}
+use Rattle.rhai_base.specs.Value.{Text, Value, same_text}
 use Rattle.rhai_meaning.specs.Engine.{Binding}
 use Rattle.rhai_meaning.specs.Act.{ScopeEntry, is_constant, found}
 

@@ -1,6 +1,6 @@
 -- What becomes of the operands of `&&`, `||` and `??`, and of the parts of an interpolated text: one change at a time.
 use Rattle.std.specs.Prelude.{◌≡◌, Bool, true, false, not, [], ◌++◌, Some}
-use Rattle.rhai_values.specs.Value.{Text, Value, UnitV, text_of}
+use Rattle.rhai_base.specs.Value.{Text, Value, UnitV, text_of}
 use Rattle.rhai_meaning.specs.Constants.{constant_value, constant_bool}
 use Rattle.rhai_meaning.specs.Queries.{is_pure_expr}
 use Rattle.rhai_meaning.specs.Shape.{is_unit}

@@ -1,6 +1,6 @@
 -- The constant that a rule leaves, the callees of the language's own functions, and the nodes of chains.
 use Rattle.std.specs.Prelude.{Bool, true, false, []}
-use Rattle.rhai_values.specs.Value.{Text, Value, UnitV, BoolV, IntV, CharV, TextV}
+use Rattle.rhai_base.specs.Value.{Text, Value, UnitV, BoolV, IntV, CharV, TextV}
 use Rattle.rhai_meaning.specs.Tree.{ChainFlags, Callee, NoToken, Expr, DynamicConstant, BoolConstant, IntegerConstant, CharConstant, StringConstant, UnitConstant, Dot, Index}
 
 -- the constant of a value; a pointer is one too

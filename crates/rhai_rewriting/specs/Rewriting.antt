@@ -1,6 +1,6 @@
 -- What may be rewritten to what: the rules, in turn and inside trees. The two flags are the dirty flag before and after.
 use Rattle.std.specs.Prelude.{◌≡◌, Bool, true, false, List, Option}
-use Rattle.rhai_values.specs.Value.{Text}
+use Rattle.rhai_base.specs.Value.{Text}
 use Rattle.rhai_base.specs.Operators.{Operator}
 use Rattle.rhai_meaning.specs.Desugar.{root_of}
 use Rattle.rhai_meaning.specs.Queries.{is_unit}

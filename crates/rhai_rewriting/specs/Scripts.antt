@@ -1,6 +1,6 @@
 -- Scripts whose statements and functions are rewritten, and what is known where.
 use Rattle.std.specs.Prelude.{◌≡◌, Bool, true, false, not, ◌&&◌, List, [], ◌∷◌, ◌++◌, Option, Some, None, cond}
-use Rattle.rhai_values.specs.Value.{Text, Value}
+use Rattle.rhai_base.specs.Value.{Text, Value}
 use Rattle.rhai_meaning.specs.Act.{EntryKind, IsConstant, ScopeEntry, Root}
 use Rattle.rhai_meaning.specs.Desugar.{root_of, ends_in_call}
 use Rattle.rhai_meaning.specs.Engine.{Engine, Binding}

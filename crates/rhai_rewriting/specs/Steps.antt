@@ -4,7 +4,7 @@ use Rattle.rhai_meaning.specs.Desugar.{root_of}
 use Rattle.rhai_meaning.specs.Engine.{Engine}
 use Rattle.rhai_meaning.specs.Queries.{is_unit}
 use Rattle.rhai_meaning.specs.Shape.{is_rest, is_argument, is_left_side}
-use Rattle.rhai_values.specs.Value.{Text}
+use Rattle.rhai_base.specs.Value.{Text}
 use Rattle.rhai_meaning.specs.Tree.{Expr, MethodCall, Dot, Index, Exprs, Pairs, MaybeExpr, Arms, no_arms, arm, Stmt, Switch, Stmts, no_stmts, stmt, joined}
 use Rattle.rhai_meaning.specs.Walk.{OfExpr, OfStmt, over_exprs, over_pairs, over_maybe}
 use Rattle.rhai_meaning.specs.Weight.{stmt_weight, weight}

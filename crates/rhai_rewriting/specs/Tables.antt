@@ -1,7 +1,7 @@
 -- The arms of a `switch` that are left to be tried, and its default.
 use Rattle.std.specs.Prelude.{◌≡◌, ℕ, zero, suc, Bool, true, false, List, [], ◌∷◌, Option, Some, None}
-use Rattle.rhai_values.specs.Value.{Value}
-use Rattle.rhai_names.specs.Names.{are_all}
+use Rattle.rhai_base.specs.Value.{Value}
+use Rattle.rhai_tokens.specs.Names.{are_all}
 use Rattle.rhai_meaning.specs.Constants.{constant_bool}
 use Rattle.rhai_meaning.specs.Control.{case_for}
 use Rattle.rhai_meaning.specs.Shape.{names_arm}

@@ -1,6 +1,6 @@
 -- The lists in a node, and lists in which something is left to reduce.
 use Rattle.std.specs.Prelude.{◌≡◌, Bool, true, false, ◌&&◌, ◌||◌, not, []}
-use Rattle.rhai_values.specs.Value.{Text, same_text}
+use Rattle.rhai_base.specs.Value.{Text, same_text}
 use Rattle.rhai_meaning.specs.Constants.{is_constant}
 use Rattle.rhai_meaning.specs.Queries.{is_control_flow_break}
 use Rattle.rhai_meaning.specs.Tree.{Variable, BlockExpr, Stmt, Noop, If, While, Do, For, Var, Block, TryCatch, ExprStmt, Stmts, no_stmts, stmt}

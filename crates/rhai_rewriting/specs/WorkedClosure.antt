@@ -2,7 +2,7 @@
 -- becomes none; rules one after another; names; scripts. Arrays stand in `WorkedRewrites`, blocks in `WorkedLists`.
 use Rattle.std.specs.Prelude.{◌≡◌, Bool, true, false, [], ◌∷◌, Option, Some, None, codes, refl}
 use Rattle.std.proofs.Common.{subst}
-use Rattle.rhai_values.specs.Value.{Text, Value, BoolV}
+use Rattle.rhai_base.specs.Value.{Text, Value, BoolV}
 use Rattle.rhai_meaning.specs.Act.{ScopeEntry, IsConstant}
 use Rattle.rhai_meaning.specs.Tree.{ChainFlags, Callee, NoToken, SwitchTable, Expr, BoolConstant, InterpolatedString, MapOf, Variable, MethodCall, BlockExpr, Dot, Index, And, Or, Coalesce, no_exprs, expr, exprs, no_pairs, pair, an_expr, no_arms, arm, If, Switch, While, Do, For, Var, Assignment, FnCallStmt, TryCatch, ExprStmt, BreakLoop, Return, no_stmts, stmts, Function, Script, FnCall, Import}
 use Rattle.rhai_meaning.specs.WorkedForms.{int, nothing_set, i}

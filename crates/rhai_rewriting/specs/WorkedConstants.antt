@@ -1,7 +1,7 @@
 -- For the rules over constants: a part that is none is run. Scripts in which f() stands in its place ask the host first for f,
 -- and what the rule would leave asks nobody.
 use Rattle.std.specs.Prelude.{◌≡◌, true, false, List, [], ◌∷◌, map, Option, Some, None, codes, refl}
-use Rattle.rhai_values.specs.Value.{Text, UnitV, BoolV, TextV, ArrayV, PointerV, values}
+use Rattle.rhai_base.specs.Value.{Text, UnitV, BoolV, TextV, ArrayV, PointerV, values}
 use Rattle.rhai_base.specs.Operators.{Plus, computed}
 use Rattle.rhai_meaning.specs.Act.{HostCall}
 use Rattle.rhai_meaning.specs.Control.{texts_joined}

@@ -1,7 +1,7 @@
 -- Worked answers on names that are known.
 use Rattle.std.specs.Prelude.{◌≡◌, Bool, true, false, [], ◌∷◌, Some, None, codes, refl}
 use Prim.Native.String.{String}
-use Rattle.rhai_values.specs.Value.{Value}
+use Rattle.rhai_base.specs.Value.{Value}
 use Rattle.rhai_meaning.specs.Act.{ScopeEntry}
 use Rattle.rhai_meaning.specs.Desugar.{name_kind}
 use Rattle.rhai_meaning.specs.WorkedForms.{i}

@@ -1,7 +1,7 @@
 -- For conditions of the rules on known names, on lists and blocks, on the bases of chains, on left sides and on assignments: two
 -- scripts that the rule without it would take for one, and what each does.
 use Rattle.std.specs.Prelude.{◌≡◌, ℕ, true, false, [], ◌∷◌, None, codes, refl, List, Some}
-use Rattle.rhai_values.specs.Value.{Text, Value, UnitV, ArrayV, MapV, values, field, no_fields, TextV, PointerV}
+use Rattle.rhai_base.specs.Value.{Text, Value, UnitV, ArrayV, MapV, values, field, no_fields, TextV, PointerV}
 use Rattle.rhai_base.specs.Operators.{Plus, Minus, computed}
 use Rattle.rhai_rewriting.specs.Parts.{named}
 use Rattle.rhai_rewriting.specs.WorkedNodes.{dot, safe, index, property}

@@ -2,7 +2,7 @@
 use Rattle.std.specs.Prelude.{◌≡◌, true, false, List, [], ◌∷◌, Some, None, codes, refl}
 use Prim.Native.String.{String}
 use native.Mathlib.Bridge.{le_by_compare, IsLe}
-use Rattle.rhai_values.specs.Value.{Value, UnitV, ArrayV, MapV, PointerV, values, field, no_fields}
+use Rattle.rhai_base.specs.Value.{Value, UnitV, ArrayV, MapV, PointerV, values, field, no_fields}
 use Rattle.rhai_base.specs.Operators.{Plus, computed}
 use Rattle.rhai_meaning.specs.Act.{IsVariable, IsConstant, HostCall, ScopeEntry, WrongKind}
 use Rattle.rhai_meaning.specs.Run.{End, Report, WithValue, WithStuck}

@@ -1,7 +1,7 @@
 -- Imports and exports: small scripts, what they may be rewritten to, and what both do; and for conditions of the rules two
 -- scripts that the rule without it would take for one.
 use Rattle.std.specs.Prelude.{◌≡◌, true, false, List, [], ◌∷◌, None, codes, refl}
-use Rattle.rhai_values.specs.Value.{Text, Value, UnitV}
+use Rattle.rhai_base.specs.Value.{Text, Value, UnitV}
 use Rattle.rhai_base.specs.Operators.{Plus, computed}
 use Rattle.rhai_meaning.specs.Act.{ScopeEntry, HostCall, Host, Answers, Unbound}
 use Rattle.rhai_meaning.specs.Host.{host_of}

@@ -1,7 +1,7 @@
 -- The promises on passes and on reports, on small cases.
 use Rattle.std.proofs.Common.{ℕ, ◌≤◌, List, [], ◌∷◌, None, refl, arith}
 use Rattle.std.specs.Prelude.{codes}
-use Rattle.rhai_values.specs.Value.{UnitV}
+use Rattle.rhai_base.specs.Value.{UnitV}
 use Rattle.rhai_meaning.specs.Act.{HostCall}
 use Rattle.rhai_meaning.specs.Relations.{here}
 use Rattle.rhai_meaning.specs.Run.{End, WithValue, WithThrown, WithoutTurns, Report}

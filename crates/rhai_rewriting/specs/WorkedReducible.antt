@@ -1,6 +1,6 @@
 -- Worked answers: what of the whole language is left to reduce, and what comes near it.
 use Rattle.std.specs.Prelude.{◌≡◌, true, false, [], ◌∷◌, Some, None, pos, negsuc, codes, refl}
-use Rattle.rhai_values.specs.Value.{ArrayV, MapV, values, field, no_fields}
+use Rattle.rhai_base.specs.Value.{ArrayV, MapV, values, field, no_fields}
 use Rattle.rhai_meaning.specs.Tree.{ChainFlags, SwitchTable, ExclusiveInt, Expr, DynamicConstant, IntegerConstant, BoolConstant, UnitConstant, Variable, Property, Dot, Index, Noop, If, Var, Block, ExprStmt, BreakLoop, Return, no_expr, an_expr, no_stmts, exprs, stmts, Assignment, While, Script, Stmt, Stmts}
 use Rattle.rhai_meaning.specs.WorkedForms.{int, call, i, nothing_set}
 use Rattle.rhai_rewriting.specs.Reducible.{is_always, follows_deciding, follows_some, chain_answer, is_chosen, goes_on_after_leaving, tests_constant, idles, ends_in_return, IsIrreducibleList, IsIrreducibleNode, IsIrreducibleBody, IsIrreducibleScript}

@@ -1,7 +1,7 @@
 -- For rules on arrays, braces, operators, `if`, blocks and call statements a small script, what it may be rewritten to, and what
 -- both do. The other rules stand in `WorkedNodes` and `WorkedLists`.
 use Rattle.std.specs.Prelude.{◌≡◌, true, false, List, [], ◌∷◌, codes, refl}
-use Rattle.rhai_values.specs.Value.{UnitV, ArrayV, values}
+use Rattle.rhai_base.specs.Value.{UnitV, ArrayV, values}
 use Rattle.rhai_base.specs.Operators.{Plus, computed}
 use Rattle.rhai_meaning.specs.Act.{HostCall}
 use Rattle.rhai_meaning.specs.Run.{Report, WithValue}

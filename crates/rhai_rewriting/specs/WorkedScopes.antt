@@ -1,6 +1,6 @@
 -- Runs that differ where the closure's conditions don't hold: names that are variables, bases, guards, and calls that capture.
 use Rattle.std.specs.Prelude.{◌≡◌, ℕ, true, false, List, [], ◌∷◌, Some, None, codes, refl}
-use Rattle.rhai_values.specs.Value.{UnitV, ArrayV, values}
+use Rattle.rhai_base.specs.Value.{UnitV, ArrayV, values}
 use Rattle.rhai_meaning.specs.Act.{HostCall, Answers, Host, WrongKind}
 use Rattle.rhai_meaning.specs.Run.{End, WithStuck, WithoutTurns}
 use Rattle.rhai_meaning.specs.Tree.{NoToken, Expr, DynamicConstant, UnitConstant, Variable, MethodCall, BlockExpr, FnCall, Dot, exprs, Stmt, While, For, Var, Block, TryCatch, ExprStmt, Return, an_expr, no_stmts, stmts, Function}

@@ -1,6 +1,6 @@
 -- A `switch` over a constant: over which values it is reducible, and what it comes to.
 use Rattle.std.specs.Prelude.{◌≡◌, true, false, List, [], ◌∷◌, Option, Some, None, ℕ, pos, codes, refl}
-use Rattle.rhai_values.specs.Value.{Value, UnitV, BoolV, CharV, TextV, ArrayV, PointerV, values}
+use Rattle.rhai_base.specs.Value.{Value, UnitV, BoolV, CharV, TextV, ArrayV, PointerV, values}
 use Rattle.rhai_meaning.specs.Act.{WrongKind}
 use Rattle.rhai_meaning.specs.Run.{WithValue, WithStuck}
 use Rattle.rhai_meaning.specs.Tree.{Expr, DynamicConstant, BoolConstant, CharConstant, StringConstant, UnitConstant, ArrayOf, Variable, SwitchCase, SwitchRange, SwitchTable, ExclusiveInt, Stmt, If, Switch, ExprStmt, FnCallStmt, NoToken, exprs, arms, stmts}

@@ -1,6 +1,6 @@
 -- For conditions of the rules of `switch`: two scripts that the rule without it would take for one, and what each does.
 use Rattle.std.specs.Prelude.{◌≡◌, ℕ, true, false, List, [], ◌∷◌, Option, Some, None, pos, codes, refl}
-use Rattle.rhai_values.specs.Value.{UnitV, PointerV, values}
+use Rattle.rhai_base.specs.Value.{UnitV, PointerV, values}
 use Rattle.rhai_meaning.specs.Act.{WrongKind}
 use Rattle.rhai_meaning.specs.Faults.{NoOperands, finding}
 use Rattle.rhai_meaning.specs.Run.{WithValue, WithStuck}

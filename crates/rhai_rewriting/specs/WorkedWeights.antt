@@ -1,6 +1,6 @@
 -- Worked answers on single trees: what each node weighs, what folds, and what is left to reduce.
 use Rattle.std.specs.Prelude.{◌≡◌, true, false, [], ◌∷◌, Some, None, codes, refl}
-use Rattle.rhai_values.specs.Value.{BoolV, ArrayV, values}
+use Rattle.rhai_base.specs.Value.{BoolV, ArrayV, values}
 use Rattle.rhai_base.specs.Operators.{Plus, Divide, EqualTo, NotEqualTo, computed}
 use Rattle.rhai_meaning.specs.Tree.{Callee, NoToken, OfOperator, OfOther, DynamicConstant, BoolConstant, CharConstant, StringConstant, UnitConstant, ArrayOf, BlockExpr, Noop, If, Block, ExprStmt, FnCallStmt, exprs, stmts}
 use Rattle.rhai_meaning.specs.Walk.{Node, OfExpr, OfStmt}

@@ -5,7 +5,7 @@ use Rattle.rhai_tree.specs.declared.stmt.Stmt as declared_stmt
 use Rattle.rhai_meaning.specs.Engine.{Engine}
 use Rattle.rhai_meaning.specs.Tree.{Callee, Expr, FnCall, Exprs, Stmt}
 use Rattle.rhai_meaning.specs.Walk.{OfStmt}
-use Rattle.rhai_reading.proofs.Cases.{ExprCase, array_case, variable_case, braces_case, call_case, dot_case, index_case, and_case, or_case, coalesce_case, StmtCase, if_case, switch_case, while_case, expression_case, call_statement_case}
+use Rattle.rhai_tree.proofs.Cases.{ExprCase, array_case, variable_case, braces_case, call_case, dot_case, index_case, and_case, or_case, coalesce_case, StmtCase, if_case, switch_case, while_case, expression_case, call_statement_case}
 use Rattle.rhai_rewriting.specs.Known.{Known}
 use Rattle.rhai_rewriting.specs.Residue.{IsReducedNode}
 use Rattle.rhai_rewriting.specs.Steps.{Place, Anywhere, AsBase, AsGuard, Progress}

@@ -1,8 +1,8 @@
 -- A name that is known as a constant.
 use Rattle.std.proofs.Common.{◌≡◌, Bool, true, false, List, [], ◌∷◌, Option, Some, None, refl, sym, ap, ◌∙◌, subst}
 use Rattle.std.specs.Prelude.{if◌then◌else◌}
-use Rattle.rhai_values.specs.Value.{Text, Value, UnitV, BoolV, IntV, CharV, TextV, PointerV, no_values, is_unit}
-use Rattle.rhai_names.specs.Names.{is_valid_name}
+use Rattle.rhai_base.specs.Value.{Text, Value, UnitV, BoolV, IntV, CharV, TextV, PointerV, no_values, is_unit}
+use Rattle.rhai_tokens.specs.Names.{is_valid_name}
 use Rattle.rhai_meaning.specs.Constants.{constant_for, literal_value}
 use Rattle.rhai_meaning.specs.Engine.{Engine}
 use Rattle.rhai_meaning.specs.Tree.{Expr, Variable}

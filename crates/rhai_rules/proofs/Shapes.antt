@@ -2,10 +2,10 @@
 use Rattle.std.proofs.Common.{◌≡◌, ◌≢◌, ◌≤◌, Bool, true, false, not, ◌&&◌, List, [], ◌∷◌, length, map, ◌↔◌, IsTrue, Option, Some, None, refl, sym, ap, ◌∙◌, subst, arith}
 use Rattle.std.specs.Prelude.{is_some}
 use Rattle.rhai_tree.specs.declared.stmt.Stmt as declared_stmt
-use Rattle.rhai_reading.specs.Reading.{stmts_of}
-use Rattle.rhai_names.specs.declared.ident.Ident.{Ident}
+use Rattle.rhai_tree.specs.Reading.{stmts_of}
+use Rattle.rhai_tokens.specs.declared.ident.Ident.{Ident}
 use Rattle.rhai_rewriting.specs.Known.{Known, look}
-use Rattle.rhai_values.specs.Value.{Text, Value, ArrayV, values, is_unit}
+use Rattle.rhai_base.specs.Value.{Text, Value, ArrayV, values, is_unit}
 use Rattle.rhai_meaning.specs.Constants.{array_value, constant_values, constant_for, constant_value, is_constant, is_literal_unit}
 use Rattle.rhai_meaning.specs.Engine.{Engine}
 use Rattle.rhai_meaning.specs.Queries.{is_unit as is_unit_expr}

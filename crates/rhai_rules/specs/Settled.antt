@@ -1,6 +1,6 @@
 -- Arrays, braces and names at which no rule fires, their parts being reduced.
 use Rattle.std.specs.Prelude.{Bool, true, false, not, List, Option, Some, None, if◌then◌else◌}
-use Rattle.rhai_values.specs.Value.{Value, PointerV, no_values, is_unit}
+use Rattle.rhai_base.specs.Value.{Value, PointerV, no_values, is_unit}
 use Rattle.rhai_meaning.specs.Constants.{array_value, constant_values}
 use Rattle.rhai_meaning.specs.Tree.{Expr, ArrayOf, UnitConstant, Variable, BlockExpr, Stmt, ExprStmt, FnCallStmt, Stmts, no_stmts, stmt}
 use Rattle.rhai_meaning.specs.Queries.{is_eval}

@@ -1,12 +1,12 @@
 //! The rules at a name that is known as a constant.
 
-#![tactic(auto, using(rhai_reading::specs::Reading::shapes, rhai_values::specs::Reading::kinds))]
+#![tactic(auto, using(rhai_tree::specs::Reading::shapes, rhai_base::specs::Reading::kinds))]
 
 ghost use Rattle.std.specs.Prelude.{◌≡◌, IfOk, OnOk, Some, true, false};
 ghost use Rattle.std.specs.Option.{option_map};
-ghost use Rattle.rhai_values.specs.Reading.{value_of};
+ghost use Rattle.rhai_base.specs.Reading.{value_of};
 ghost use Rattle.rhai_known.specs.State.{progress};
-ghost use Rattle.rhai_reading.specs.Reading.{expr_of};
+ghost use Rattle.rhai_tree.specs.Reading.{expr_of};
 ghost use Rattle.rhai_meaning.specs.Engine.{Engine};
 ghost use Rattle.rhai_rewriting.specs.Steps as promises;
 ghost use Rattle.rhai_steps.specs.NodeSteps.{ExprStep};

@@ -1,6 +1,6 @@
 -- The names of a scope and its exports, an entry at a time.
 use Rattle.std.proofs.Common.{◌≡◌, Bool, true, false, cond, List, [], ◌∷◌, ◌++◌, refl, sym, ap, ◌∙◌, append_assoc}
-use Rattle.rhai_values.specs.Value.{Text, Value}
+use Rattle.rhai_base.specs.Value.{Text, Value}
 use Rattle.rhai_meaning.specs.Act.{ScopeEntry, is_name}
 use Rattle.rhai_meaning.specs.Run.{exports, is_export, names}
 

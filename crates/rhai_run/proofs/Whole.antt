@@ -1,7 +1,7 @@
 -- The report on a whole run.
 use Rattle.std.proofs.Common.{◌≡◌, ℕ, true, false, List, [], map, None, Result, Ok, Err, sym, ap, subst, ◌∙◌, arith}
-use Rattle.rhai_values.specs.declared.dynamic.Dynamic.{Dynamic}
-use Rattle.rhai_values.specs.Value.{UnitV}
+use Rattle.rhai_base.specs.declared.dynamic.Dynamic.{Dynamic}
+use Rattle.rhai_base.specs.Value.{UnitV}
 use Rattle.rhai_meaning.specs.Act.{ScopeEntry, Host, Outcome, At, Acts, returned, returned_outcome, run_all}
 use Rattle.rhai_meaning.specs.Relations.{store_of as store_after}
 use Rattle.rhai_meaning.specs.Agreeing.{AgreeOn}

@@ -1,7 +1,7 @@
 -- When an operator's assignment is a host call.
 use Rattle.std.proofs.Common.{◌≡◌, Bool, true, false, not, ◌&&◌, List, [], ◌∷◌, map, Option, Some, None, is_none, Result, Ok, Err, refl, sym, ap, ◌∙◌}
-use Rattle.rhai_values.specs.declared.dynamic.Dynamic.{Dynamic}
-use Rattle.rhai_values.specs.Value.{Value, type_name}
+use Rattle.rhai_base.specs.declared.dynamic.Dynamic.{Dynamic}
+use Rattle.rhai_base.specs.Value.{Value, type_name}
 use Rattle.rhai_tokens.specs.declared.token.Token.{Token}
 use Rattle.rhai_tokens.specs.declared.error.Fault.{Fault}
 use Rattle.rhai_tokens.specs.declared.error.Fault.TheVariants.{Arithmetic}

@@ -6,7 +6,7 @@ use Rattle.rhai_tokens.specs.declared.token.Token.TheVariants as token
 use Rattle.rhai_base.specs.Operators.{Operator, NoEntry, symbol}
 use Rattle.rhai_base.specs.Builtin.{operator_of}
 use Rattle.rhai_tokens.specs.Symbols.{token_text}
-use Rattle.rhai_values.specs.Value.{Text, Value}
+use Rattle.rhai_base.specs.Value.{Text, Value}
 use Rattle.rhai_tree.specs.declared.expr.Expr.{Expr}
 use Rattle.rhai_meaning.specs.Act.{World}
 use Rattle.rhai_meaning.specs.ActForms.{ask_host}
@@ -15,7 +15,7 @@ use Rattle.rhai_meaning.specs.Core as core
 use Rattle.rhai_meaning.specs.Desugar as desugar
 use Rattle.rhai_meaning.specs.Desugar.{callee_by}
 use Rattle.rhai_meaning.specs.Shape.{is_none, has_token, is_barred, is_callable}
-use Rattle.rhai_reading.specs.Reading.{exprs_of}
+use Rattle.rhai_tree.specs.Reading.{exprs_of}
 use Rattle.rhai_meaning.specs.Tree.{CallToken, NoToken, OfOperator, OfOther, Callee, count_exprs}
 use Rattle.rhai_engine.specs.EngineInfo.{built_in_of, built_in_at}
 use Rattle.rhai_run_nodes.specs.Operators.{operator_by, called_operator}

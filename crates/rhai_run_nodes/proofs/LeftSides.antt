@@ -1,12 +1,12 @@
 -- Left sides of assignments by their kind.
 use Rattle.std.proofs.Common.{◌≡◌, Bool, false, refl}
 use Rattle.rhai_tokens.specs.declared.position.Position.{Position}
-use Rattle.rhai_names.specs.declared.flags.ASTFlags.{ASTFlags}
+use Rattle.rhai_tokens.specs.declared.flags.ASTFlags.{ASTFlags}
 use Rattle.rhai_tree.specs.declared.expr.BinaryExpr.{BinaryExpr}
 use Rattle.rhai_tree.specs.declared.expr.Expr.{Expr}
 use Rattle.rhai_tree.specs.declared.expr.Expr.TheVariants as kind
 use Rattle.rhai_tree.specs.declared.expr.FnCallExpr.{FnCallExpr}
-use Rattle.rhai_reading.proofs.Cases.{ExprCase, dot_case, index_case, method_call_case}
+use Rattle.rhai_tree.proofs.Cases.{ExprCase, dot_case, index_case, method_call_case}
 use Rattle.rhai_meaning.specs.Desugar.{ends_in_call}
 use Rattle.rhai_meaning.specs.Tree as tree
 

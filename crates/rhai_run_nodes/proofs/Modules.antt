@@ -1,8 +1,8 @@
 -- Names in modules, by the aliases of a scope.
 use Rattle.std.proofs.Common.{◌≡◌, List, [], ◌∷◌, refl, arith}
-use Rattle.rhai_values.specs.declared.dynamic.Dynamic.{Dynamic}
-use Rattle.rhai_values.specs.Reading.{value_of, DynamicCase, str_case, dynamic_cases}
-use Rattle.rhai_values.specs.Value.{Text, Value}
+use Rattle.rhai_base.specs.declared.dynamic.Dynamic.{Dynamic}
+use Rattle.rhai_base.specs.Reading.{value_of, DynamicCase, str_case, dynamic_cases}
+use Rattle.rhai_base.specs.Value.{Text, Value}
 use Rattle.rhai_meaning.specs.Act.{Act, module_name}
 use Rattle.rhai_state.specs.declared.state.State.{State}
 use Rattle.rhai_state.specs.Runs.{Setting, Acting, Goes}

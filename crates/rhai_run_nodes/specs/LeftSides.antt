@@ -1,8 +1,8 @@
 -- Left sides of assignments, and the targets that they mean.
 use Rattle.std.specs.Prelude.{◌≡◌, ℕ, Bool, true, false, cond, Option, Some, None}
-use Rattle.rhai_names.specs.declared.flags.ASTFlags.{ASTFlags}
+use Rattle.rhai_tokens.specs.declared.flags.ASTFlags.{ASTFlags}
 use Rattle.rhai_tree.specs.declared.expr.BinaryExpr.{BinaryExpr}
-use Rattle.rhai_reading.specs.Reading.{breaks, chain_flags, expr_of}
+use Rattle.rhai_tree.specs.Reading.{breaks, chain_flags, expr_of}
 use Rattle.rhai_meaning.specs.Core as core
 use Rattle.rhai_meaning.specs.Desugar.{ends_in_call, part_target, root_of, target_of}
 use Rattle.rhai_meaning.specs.Shape.{is_chain, is_left_side}

@@ -1,9 +1,9 @@
 -- The links of chains, and the steps that they mean.
 use Rattle.std.specs.Prelude.{◌≡◌, Bool, cond, Option, Some, None}
-use Rattle.rhai_names.specs.declared.flags.ASTFlags.{ASTFlags}
+use Rattle.rhai_tokens.specs.declared.flags.ASTFlags.{ASTFlags}
 use Rattle.rhai_tree.specs.declared.expr.BinaryExpr.{BinaryExpr}
 use Rattle.rhai_tree.specs.declared.expr.Expr.{Expr}
-use Rattle.rhai_reading.specs.Reading.{chain_flags, expr_of, is_negated}
+use Rattle.rhai_tree.specs.Reading.{chain_flags, expr_of, is_negated}
 use Rattle.rhai_meaning.specs.Core as core
 use Rattle.rhai_meaning.specs.Desugar.{core_expr, member_of, steps_of}
 use Rattle.rhai_meaning.specs.Tree as tree

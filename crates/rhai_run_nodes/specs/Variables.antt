@@ -1,6 +1,6 @@
 -- What a name or `this` stands for.
 use Rattle.std.specs.Prelude.{List, [], ◌∷◌}
-use Rattle.rhai_values.specs.Value.{Text}
+use Rattle.rhai_base.specs.Value.{Text}
 use Rattle.rhai_meaning.specs.Act as act
 use Rattle.rhai_meaning.specs.Act.{Act, Resolve, resolved}
 use Rattle.rhai_meaning.specs.Calls.{within}

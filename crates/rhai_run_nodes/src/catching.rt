@@ -1,10 +1,10 @@
 //! The name under which a thrown value is caught.
 
-#![tactic(auto, using(rhai_reading::specs::Reading::shapes))]
+#![tactic(auto, using(rhai_tree::specs::Reading::shapes))]
 
 ghost use Rattle.std.specs.Prelude.{◌≡◌};
 ghost use Rattle.std.specs.Option.{option_copied, option_map};
-ghost use Rattle.rhai_reading.specs.Reading.{expr_of};
+ghost use Rattle.rhai_tree.specs.Reading.{expr_of};
 ghost use Rattle.rhai_meaning.specs.Shape as shape;
 
 use rhai_ast::Expr;

@@ -1,9 +1,9 @@
 //! The nodes of a chain.
 
-#![tactic(auto, using(rhai_reading::specs::Reading::shapes, rhai_values::specs::Reading::kinds))]
+#![tactic(auto, using(rhai_tree::specs::Reading::shapes, rhai_base::specs::Reading::kinds))]
 
 ghost use Rattle.std.specs.Prelude.{◌≡◌, false, ◌+◌, ◌≤◌, IfSome};
-ghost use Rattle.rhai_reading.specs.Reading.{chain_flags, expr_of};
+ghost use Rattle.rhai_tree.specs.Reading.{chain_flags, expr_of};
 ghost use Rattle.rhai_meaning.specs.Weight.{expr_weight};
 ghost use Rattle.rhai_meaning.specs.Shape as shape;
 ghost use Rattle.rhai_run_nodes.specs.Links as spec;

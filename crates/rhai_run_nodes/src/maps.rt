@@ -1,9 +1,9 @@
 //! Map literals.
 
 ghost use Rattle.std.specs.Prelude.{◌≡◌, IfOk, OnOk};
-ghost use Rattle.rhai_values.specs.Reading.{members_of, value_of};
-ghost use Rattle.rhai_values.specs.Value.{fields};
-ghost use Rattle.rhai_reading.specs.Reading.{keys_of, pairs_of};
+ghost use Rattle.rhai_base.specs.Reading.{members_of, value_of};
+ghost use Rattle.rhai_base.specs.Value.{fields};
+ghost use Rattle.rhai_tree.specs.Reading.{keys_of, pairs_of};
 ghost use Rattle.rhai_meaning.specs.Elements.{with_entry};
 ghost use Rattle.rhai_meaning.specs.Shape as shape;
 

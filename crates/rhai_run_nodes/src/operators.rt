@@ -1,13 +1,13 @@
 //! Calls of operators, and operators over values.
 
-#![tactic(auto, using(rhai_reading::specs::Reading::shapes, rhai_values::specs::Reading::kinds))]
+#![tactic(auto, using(rhai_tree::specs::Reading::shapes, rhai_base::specs::Reading::kinds))]
 
 ghost use Rattle.std.specs.Prelude.{◌≡◌, ◌≢◌, ◌+◌, ◌≤◌, true, length, map, [], ◌∷◌, IfOk, IfSome, MatchOption, Some, codes};
-ghost use Rattle.rhai_values.specs.Reading.{value_of};
-ghost use Rattle.rhai_reading.specs.Reading.{callee_of, expr_of, exprs_of};
+ghost use Rattle.rhai_base.specs.Reading.{value_of};
+ghost use Rattle.rhai_tree.specs.Reading.{callee_of, expr_of, exprs_of};
 ghost use Rattle.rhai_base.specs.Builtin.{answered, computed_of, operator_of};
 ghost use Rattle.rhai_meaning.specs.Engine.{assigning};
-ghost use Rattle.rhai_values.specs.Value.{TextV};
+ghost use Rattle.rhai_base.specs.Value.{TextV};
 ghost use Rattle.rhai_engine.specs.EngineInfo.{built_in_at, engine_of};
 ghost use Rattle.rhai_meaning.specs.Weight.{expr_weight, exprs_weight};
 ghost use Rattle.rhai_meaning.specs.Shape as shape;

@@ -1,11 +1,11 @@
 //! What names stand for: a name or `this`, where a name stands, and a name in a module.
 
-#![tactic(auto, using(rhai_reading::specs::Reading::shapes, rhai_values::specs::Reading::kinds, rhai_state::proofs::Variables::resolving))]
+#![tactic(auto, using(rhai_tree::specs::Reading::shapes, rhai_base::specs::Reading::kinds, rhai_state::proofs::Variables::resolving))]
 
 ghost use Rattle.std.specs.Prelude.{◌≡◌, ◌++◌, codes, map, MatchOption, IfOk, OnOk, option_map};
 ghost use Rattle.std.specs.String.{string_bytes};
-ghost use Rattle.rhai_reading.specs.Reading.{expr_of, path_of};
-ghost use Rattle.rhai_values.specs.Reading.{value_of};
+ghost use Rattle.rhai_tree.specs.Reading.{expr_of, path_of};
+ghost use Rattle.rhai_base.specs.Reading.{value_of};
 ghost use Rattle.rhai_meaning.specs.Act as act;
 ghost use Rattle.rhai_meaning.specs.Act.{resolved};
 ghost use Rattle.rhai_state.specs.Entries.{scope_meant};

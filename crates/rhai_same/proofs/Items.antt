@@ -3,13 +3,13 @@ use Rattle.std.proofs.Common.{◌≡◌, ℕ, suc, ◌+◌, ◌<◌, ◌≤◌, 
 use Rattle.std.proofs.Math.Seq.{drop-cons, drop-length}
 use Rattle.std.proofs.lemmas.List.{at_drop_all}
 use Rattle.std.specs.declared.num.NonZeroUsize.{NonZeroUsize}
-use Rattle.rhai_names.specs.declared.ident.Ident.{Ident}
-use Rattle.rhai_values.specs.Value.{Text}
+use Rattle.rhai_tokens.specs.declared.ident.Ident.{Ident}
+use Rattle.rhai_base.specs.Value.{Text}
 use Rattle.rhai_tree.specs.declared.expr.BinaryExpr.{BinaryExpr}
 use Rattle.rhai_tree.specs.declared.expr.Expr.{Expr}
 use Rattle.rhai_tree.specs.declared.stmt.Stmt.{Stmt}
 use Rattle.rhai_base.specs.declared.range_case.RangeCase.{RangeCase}
-use Rattle.rhai_reading.specs.Reading.{arms_of, exprs_of, pairs_of, range_of, shared_names, stmts_of}
+use Rattle.rhai_tree.specs.Reading.{arms_of, exprs_of, pairs_of, range_of, shared_names, stmts_of}
 use Rattle.rhai_same.specs.Alike.{alike_arms, alike_exprs, alike_pairs, alike_ranges, alike_stmts}
 
 abbrev pub path_names : List Ident → List Text

@@ -6,7 +6,7 @@ use Rattle.rhai_tokens.specs.Assignments.{is_no_equals}
 use Rattle.rhai_base.specs.Builtin.{operator_of}
 use Rattle.rhai_base.specs.Operators.{Operator, Plus, Minus, Multiply, Divide, Modulo, Power, ShiftLeft, ShiftRight, BitAnd, BitOr, BitXor, EqualTo, NotEqualTo, Less, Greater, LessOrEqual, GreaterOrEqual, UpTo, Through, Not, Negative, Positive}
 use Rattle.rhai_meaning.specs.Tree.{CallToken, NoToken, OfOperator, OfOther}
-use Rattle.rhai_reading.specs.Reading.{mark_by}
+use Rattle.rhai_tree.specs.Reading.{mark_by}
 use Rattle.rhai_same.specs.Alike.{operator_number, token_number}
 
 -- the tokens by their numbers

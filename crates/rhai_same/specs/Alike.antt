@@ -1,6 +1,6 @@
 -- Whether two trees are alike, by cases. Trees that are alike are equal, and only those.
 use Rattle.std.specs.Prelude.{ℕ, ℤ, Bool, true, false, ◌&&◌, List, [], ◌∷◌, Option, Some, None, bytes_eq, ◌==◌}
-use Rattle.rhai_values.specs.Value.{same, same_bool, same_int, same_text}
+use Rattle.rhai_base.specs.Value.{same, same_bool, same_int, same_text}
 use Rattle.rhai_base.specs.Operators.{Operator, Plus, Minus, Multiply, Divide, Modulo, Power, ShiftLeft, ShiftRight, BitAnd, BitOr, BitXor, EqualTo, NotEqualTo, Less, Greater, LessOrEqual, GreaterOrEqual, UpTo, Through, Not, Negative, Positive}
 use Rattle.rhai_meaning.specs.Calls.{same_type}
 use Rattle.rhai_meaning.specs.Engine.{same_texts}

@@ -1,9 +1,9 @@
 //! Whether a node is like one of which these are the parts, for nodes that hold no others.
-#![tactic(auto, using(rhai_reading::specs::Reading::shapes))]
+#![tactic(auto, using(rhai_tree::specs::Reading::shapes))]
 
 ghost use Rattle.std.specs.Prelude.{◌≡◌};
-ghost use Rattle.rhai_values.specs.Reading.{value_of};
-ghost use Rattle.rhai_reading.specs.Reading.{expr_of, path_of, property_names, shared_names, stmt_of};
+ghost use Rattle.rhai_base.specs.Reading.{value_of};
+ghost use Rattle.rhai_tree.specs.Reading.{expr_of, path_of, property_names, shared_names, stmt_of};
 ghost use Rattle.rhai_meaning.specs.Tree.{BoolConstant, CharConstant, DynamicConstant, Export, IntegerConstant, Noop, Property, Share, StringConstant, ThisPtr, UnitConstant, Variable};
 ghost use Rattle.rhai_same.specs.Alike.{alike_expr, alike_stmt};
 

@@ -5,7 +5,7 @@ ghost use Rattle.std.specs.Prelude.{◌≡◌};
 ghost use Rattle.std.specs.Option.{option_map};
 ghost use Rattle.rhai_meaning.specs.Calls.{same_type};
 ghost use Rattle.rhai_meaning.specs.Engine.{same_texts};
-ghost use Rattle.rhai_reading.specs.Reading.{counter_of, keys_of, path_of, shared_names};
+ghost use Rattle.rhai_tree.specs.Reading.{counter_of, keys_of, path_of, shared_names};
 
 use rhai_base::{Dynamic, Ident, ImmutableString, Namespace, StringMap};
 use std::num::NonZeroUsize;

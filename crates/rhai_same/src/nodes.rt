@@ -1,10 +1,10 @@
 //! Whether two nodes are alike, by one recursion over both trees. A function `is_..` is given the parts of the first
 //! node, and asks whether the second node is like it.
-#![tactic(auto, using(rhai_reading::specs::Reading::shapes, rhai_reading::proofs::ItemLists::steps))]
+#![tactic(auto, using(rhai_tree::specs::Reading::shapes, rhai_tree::proofs::ItemLists::steps))]
 
 ghost use Rattle.std.specs.Prelude.{◌≡◌, ◌&&◌};
 ghost use Rattle.rhai_base.specs.Builtin.{operator_of};
-ghost use Rattle.rhai_reading.specs.Reading.{arms_of, breaks, callee_of, cases_of, chain_flags, counter_of, expr_of, expressions_of, exprs_of, is_const, is_exported, is_negated, keys_of, maybe_of, pairs_of, stmt_of, stmts_of, subject_of, table_of};
+ghost use Rattle.rhai_tree.specs.Reading.{arms_of, breaks, callee_of, cases_of, chain_flags, counter_of, expr_of, expressions_of, exprs_of, is_const, is_exported, is_negated, keys_of, maybe_of, pairs_of, stmt_of, stmts_of, subject_of, table_of};
 ghost use Rattle.rhai_meaning.specs.Tree.{And, ArrayOf, Assignment, Block, BlockExpr, BreakLoop, Coalesce, Do, Dot, ExprStmt, FnCall, FnCallStmt, For, If, Import, Index, InterpolatedString, MapOf, MethodCall, Or, Return, Switch, TryCatch, Var, While};
 ghost use Rattle.rhai_same.specs.Alike.{alike_arms, alike_callee, alike_expr, alike_exprs, alike_maybe, alike_pairs, alike_stmt, alike_stmts};
 

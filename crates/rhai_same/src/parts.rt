@@ -1,10 +1,10 @@
 //! Parts of two nodes that hold no other nodes.
-#![tactic(auto, using(rhai_reading::specs::Reading::shapes, crate::proofs::Tokens::numbers))]
+#![tactic(auto, using(rhai_tree::specs::Reading::shapes, crate::proofs::Tokens::numbers))]
 
 ghost use Rattle.std.specs.Prelude.{◌≡◌, ◌==◌};
 ghost use Rattle.rhai_base.specs.Builtin.{operator_of};
-ghost use Rattle.rhai_values.specs.Value.{same_bool};
-ghost use Rattle.rhai_reading.specs.Reading.{callee_of, chain_flags, has_bits, mark_of, property_names};
+ghost use Rattle.rhai_base.specs.Value.{same_bool};
+ghost use Rattle.rhai_tree.specs.Reading.{callee_of, chain_flags, has_bits, mark_of, property_names};
 ghost use Rattle.rhai_same.specs.Alike.{alike_callee, alike_flags, alike_property, operator_number, token_number};
 
 use crate::names::alike_path;

@@ -1,9 +1,9 @@
 //! Two scripts.
-#![tactic(auto, using(rhai_reading::specs::Reading::shapes))]
+#![tactic(auto, using(rhai_tree::specs::Reading::shapes))]
 
 ghost use Rattle.std.specs.Prelude.{◌≡◌, ◌↔◌, IsTrue};
 ghost use Rattle.rhai_functions.specs.FnLib.{functions_of};
-ghost use Rattle.rhai_reading.specs.Reading.{expr_of, function_of, stmt_of, stmts_of};
+ghost use Rattle.rhai_tree.specs.Reading.{expr_of, function_of, stmt_of, stmts_of};
 ghost use Rattle.rhai_script.specs.Script.{script_of};
 ghost use Rattle.rhai_same.specs.Alike.{alike_function, alike_functions, alike_script};
 

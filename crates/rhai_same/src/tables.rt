@@ -1,8 +1,8 @@
 //! Tables of two `switch`es.
-#![tactic(auto, using(rhai_reading::specs::Reading::shapes, crate::proofs::Items::tables))]
+#![tactic(auto, using(rhai_tree::specs::Reading::shapes, crate::proofs::Items::tables))]
 
 ghost use Rattle.std.specs.Prelude.{◌≡◌, map};
-ghost use Rattle.rhai_reading.specs.Reading.{case_of, range_of, table_of};
+ghost use Rattle.rhai_tree.specs.Reading.{case_of, range_of, table_of};
 ghost use Rattle.rhai_same.specs.Alike.{alike_case, alike_cases, alike_default, alike_range, alike_ranges, alike_table, end_of, is_inclusive, start_of};
 
 use rhai_base::{Cases, INT, RangeCase};

@@ -2,10 +2,10 @@
 use Rattle.std.proofs.Common.{◌≡◌, ◌≢◌, ◌<◌, ◌≤◌, true, false, List, [], ◌∷◌, ◌++◌, Some, None, length, map, codes, if◌then◌else◌, refl, ap, ◌∙◌, arith}
 use Rattle.std.specs.Prelude.{pos}
 use Rattle.std.proofs.lemmas.Cmp.{nat_list_eq_equiv}
-use Rattle.rhai_values.specs.Value.{Text, Value, UnitV, IntV, ArrayV, item, items, values, same_text}
-use Rattle.rhai_values.specs.declared.dynamic.Dynamic.{Dynamic}
-use Rattle.rhai_values.specs.declared.dynamic.Dynamic.TheVariants as dynamic
-use Rattle.rhai_values.specs.Reading.{value_of, value_of-Unit, value_of-Array, DynamicCase, array_case, dynamic_cases}
+use Rattle.rhai_base.specs.Value.{Text, Value, UnitV, IntV, ArrayV, item, items, values, same_text}
+use Rattle.rhai_base.specs.declared.dynamic.Dynamic.{Dynamic}
+use Rattle.rhai_base.specs.declared.dynamic.Dynamic.TheVariants as dynamic
+use Rattle.rhai_base.specs.Reading.{value_of, value_of-Unit, value_of-Array, DynamicCase, array_case, dynamic_cases}
 use Rattle.rhai_meaning.specs.Act.{Answers}
 use Rattle.rhai_meaning.specs.Host.{module_value_of, module_in}
 use Rattle.rhai_samples.specs.ProgramHost.{joined_texts, pushed, appended, unit_alone, program_modules}

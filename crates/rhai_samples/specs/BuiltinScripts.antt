@@ -1,6 +1,6 @@
 -- The built-in scripts.
 use Rattle.std.specs.Prelude.{List, [], ◌∷◌, Option, Some, None, codes, if◌then◌else◌}
-use Rattle.rhai_values.specs.Value.{Text, same_text}
+use Rattle.rhai_base.specs.Value.{Text, same_text}
 use Rattle.rhai_meaning.specs.Tree.{Function, Stmts, no_stmts}
 use Rattle.rhai_builtins.specs.Statements.{base_statements, bits_statements, coalesce_statements, constants_statements, divide_statements, endless_statements, first_statements, import_statements, index_statements, merge_functions, merge_statements, opassign_statements, return_statements, rewrite_statements, shadow_statements, switch_statements, tail_statements}
 use Rattle.rhai_samples.specs.declared.builtin.BuiltinScript.{BuiltinScript}

@@ -1,6 +1,6 @@
 -- What the program's host answers: a function of the call alone. What it knows of modules.
 use Rattle.std.specs.Prelude.{List, [], ◌∷◌, ◌++◌, Option, Some, None, true, pos, codes, if◌then◌else◌}
-use Rattle.rhai_values.specs.Value.{Value, UnitV, BoolV, IntV, TextV, ArrayV, items, values, same_text, text_of}
+use Rattle.rhai_base.specs.Value.{Value, UnitV, BoolV, IntV, TextV, ArrayV, items, values, same_text, text_of}
 use Rattle.rhai_meaning.specs.Act.{HostCall, Answer, Answers, Host}
 use Rattle.rhai_host.specs.Host.{Modules, host_of}
 

@@ -1,9 +1,9 @@
 //! The scripts that the program knows.
-#![tactic(auto, using(rhai_reading::specs::Reading::shapes))]
+#![tactic(auto, using(rhai_tree::specs::Reading::shapes))]
 
 ghost use Rattle.std.specs.Prelude.{◌≡◌, IfOk, map};
 ghost use Rattle.std.specs.Rc.{rc_value};
-ghost use Rattle.rhai_reading.specs.Reading.{function_of, stmts_of};
+ghost use Rattle.rhai_tree.specs.Reading.{function_of, stmts_of};
 
 use rhai_ast::{ScriptFuncDef, Stmt};
 use rhai_base::OutOfMemory;

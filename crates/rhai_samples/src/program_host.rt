@@ -1,10 +1,10 @@
 //! The program's host.
-#![tactic(auto, using(rhai_values::specs::Reading::kinds, crate::proofs::ProgramHosts::known))]
+#![tactic(auto, using(rhai_base::specs::Reading::kinds, crate::proofs::ProgramHosts::known))]
 
 ghost use Rattle.std.specs.Prelude.{◌≡◌, ◌++◌, IfOk, None, map};
 ghost use Rattle.std.specs.Option.{option_map};
-ghost use Rattle.rhai_values.specs.Reading.{value_of};
-ghost use Rattle.rhai_values.specs.Value.{TextV, text_of};
+ghost use Rattle.rhai_base.specs.Reading.{value_of};
+ghost use Rattle.rhai_base.specs.Value.{TextV, text_of};
 ghost use Rattle.rhai_meaning.specs.Act.{Answers};
 ghost use Rattle.rhai_host.specs.Host.{answer_meant};
 ghost use Rattle.rhai_samples.specs.ProgramHost as spec;

@@ -4,7 +4,7 @@ use Rattle.rhai_tokens.specs.declared.position.Position.{Position}
 use Rattle.rhai_tree.specs.declared.script_fn.ScriptFuncDef.{ScriptFuncDef}
 use Rattle.rhai_meaning.specs.Faults.{ReservedName, TreeFault, finding, functions_fault, is_reserved, unless, ◌then◌}
 use Rattle.rhai_meaning.specs.Walk.{outermost, over_stmts}
-use Rattle.rhai_reading.specs.Reading.{function_of, stmts_of}
+use Rattle.rhai_tree.specs.Reading.{function_of, stmts_of}
 use Rattle.rhai_faults.specs.Standing.{StandsInFunctions, by_name, in_body, in_others}
 
 -- a test that failed without functions fails with them

@@ -1,6 +1,6 @@
 -- Doc texts of scripts.
 use Rattle.std.specs.Prelude.{[], ◌∷◌, ◌++◌, Option, Some, None}
-use Rattle.rhai_values.specs.Value.{Text}
+use Rattle.rhai_base.specs.Value.{Text}
 
 abbrev pub text_or_empty : Option Text → Text
 text_or_empty None = []

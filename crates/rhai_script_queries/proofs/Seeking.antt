@@ -2,16 +2,16 @@
 use Rattle.std.proofs.Common.{◌≡◌, Bool, true, false, if◌then◌else◌, List, [], ◌∷◌, ◌++◌, Option, Some, None, Result, Ok, Err, IsErr, ◌<◌, length, refl, sym, ap, ◌∙◌, append_assoc, arith}
 use Rattle.std.proofs.lemmas.List.{append-nil, length-append}
 use Rattle.std.specs.declared.num.NonZeroUsize.{NonZeroUsize}
-use Rattle.rhai_names.specs.declared.flags.ASTFlags.{ASTFlags}
-use Rattle.rhai_names.specs.declared.ident.Ident.{Ident}
+use Rattle.rhai_tokens.specs.declared.flags.ASTFlags.{ASTFlags}
+use Rattle.rhai_tokens.specs.declared.ident.Ident.{Ident}
 use Rattle.rhai_tokens.specs.declared.position.Position.{Position}
 use Rattle.rhai_tree.specs.declared.expr.Expr as declared_expr
 use Rattle.rhai_tree.specs.declared.stmt.Stmt.{Stmt}
 use Rattle.rhai_tree.specs.declared.stmt.Stmt.TheVariants as stmt_kind
-use Rattle.rhai_reading.proofs.Cases.{StmtCase, var_case}
-use Rattle.rhai_reading.specs.Reading.{stmt_of, stmts_of}
-use Rattle.rhai_values.specs.Reading.{value_of}
-use Rattle.rhai_values.specs.Value.{Text, Value}
+use Rattle.rhai_tree.proofs.Cases.{StmtCase, var_case}
+use Rattle.rhai_tree.specs.Reading.{stmt_of, stmts_of}
+use Rattle.rhai_base.specs.Reading.{value_of}
+use Rattle.rhai_base.specs.Value.{Text, Value}
 use Rattle.rhai_meaning.specs.Constants.{literal_value}
 use Rattle.rhai_meaning.specs.Tree.{Expr, Var}
 use Rattle.rhai_meaning.specs.Tree as tree

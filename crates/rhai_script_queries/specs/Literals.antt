@@ -1,12 +1,12 @@
 -- The top-level variables of a script that have literal values.
 use Rattle.std.specs.Prelude.{◌≡◌, Bool, List, [], ◌∷◌, ◌++◌, Option, Some, None, Result, Ok, Err, MatchOption, if◌then◌else◌}
 use Rattle.std.specs.Borrow.{Bor}
-use Rattle.rhai_values.specs.Value.{Text, Value}
-use Rattle.rhai_values.specs.Reading.{value_of}
-use Rattle.rhai_values.specs.declared.dynamic.Dynamic.{Dynamic}
+use Rattle.rhai_base.specs.Value.{Text, Value}
+use Rattle.rhai_base.specs.Reading.{value_of}
+use Rattle.rhai_base.specs.declared.dynamic.Dynamic.{Dynamic}
 use Rattle.rhai_meaning.specs.Constants.{literal_value}
 use Rattle.rhai_meaning.specs.Tree.{Stmt, Var, Stmts, no_stmts, stmt}
-use Rattle.rhai_reading.specs.Reading.{stmts_of}
+use Rattle.rhai_tree.specs.Reading.{stmts_of}
 use Rattle.rhai_script_queries.specs.declared.literals.LiteralVariables.{LiteralVariables}
 
 pub record Literal : Type 0 where

@@ -1,7 +1,7 @@
 -- What a function of a script says of itself.
 use Rattle.std.specs.Prelude.{List, Option, map}
 use Rattle.std.specs.Option.{option_copied}
-use Rattle.rhai_values.specs.Value.{Text}
+use Rattle.rhai_base.specs.Value.{Text}
 use Rattle.rhai_tree.specs.declared.script_fn.FnAccess.{FnAccess}
 use Rattle.rhai_tree.specs.declared.script_fn.ScriptFuncDef.{ScriptFuncDef}
 use Rattle.rhai_script_queries.specs.declared.metadata.FnMetadataIter.{FnMetadataIter}

@@ -1,11 +1,11 @@
 //! The literal variables of a script.
 
-#![tactic(auto, using(rhai_reading::specs::Reading::shapes))]
+#![tactic(auto, using(rhai_tree::specs::Reading::shapes))]
 
 ghost use Rattle.std.specs.Prelude.{◌≡◌, if◌then◌else◌};
 ghost use Rattle.std.specs.Iterator.{item_count};
 ghost use Rattle.rhai_meaning.specs.Tree.{Var};
-ghost use Rattle.rhai_reading.specs.Reading.{expr_of, is_const, is_exported, stmt_of, stmts_of};
+ghost use Rattle.rhai_tree.specs.Reading.{expr_of, is_const, is_exported, stmt_of, stmts_of};
 ghost use Rattle.rhai_script_queries.specs.Literals.{Gives, Tries, left_to, sought_at, sought_in};
 
 use bitflags::Flags;

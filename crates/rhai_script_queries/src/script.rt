@@ -1,7 +1,7 @@
 //! What may be asked of a script.
 
 ghost use Rattle.std.specs.Prelude.{◌≡◌, map};
-ghost use Rattle.rhai_reading.specs.Reading.{stmts_of};
+ghost use Rattle.rhai_tree.specs.Reading.{stmts_of};
 ghost use Rattle.rhai_script_queries.specs.Literals.{left_to, sought_in};
 ghost use Rattle.rhai_script_queries.specs.Metadata.{description_of, descriptions};
 ghost use Rattle.rhai_script_queries.specs.Scripts.{WalksScript, bodies_standing};

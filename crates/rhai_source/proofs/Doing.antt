@@ -1,15 +1,14 @@
--- Scripts that are one, and scripts that the optimiser makes one of, do the same.
-use Rattle.std.proofs.Common.{◌≡◌, [], sym, subst}
+-- Scripts of which the optimiser makes two that are alike do the same.
+use Rattle.std.proofs.Common.{Bool, [], Result, Ok, Err, IsTrue}
+use Rattle.std.specs.Prelude.{IfOk}
+use Rattle.rhai_bare.specs.Bare.{SpelledAlike}
 use Rattle.rhai_meaning.specs.Engine.{Engine}
 use Rattle.rhai_meaning.specs.Tree.{Script}
 use Rattle.rhai_known.specs.declared.level.OptimizationLevel.{OptimizationLevel}
-use Rattle.rhai_rewriting.specs.Refines.{RefinesWhere}
-use Rattle.rhai_rewriting.specs.Scripts.{known_at_top}
 use Rattle.rhai_optimizer.specs.Optimised.{Becomes}
-use Rattle.rhai_source.specs.Alike.{DoTheSame, itself, refined_alike}
+use Rattle.rhai_source.specs.Alike.{DoTheSame, refined_alike}
 
-pub same_alike : {r : Engine} {p p' : Script} → p ≡ p' → DoTheSame r p p'
-same_alike {r = r} {p = p} h = subst (λ q. DoTheSame r p q) h itself
-
-pub reduced_alike : {r : Engine} {l : OptimizationLevel} {p p' q q' : Script} → Becomes r [] l p q → Becomes r [] l p' q' → q ≡ q' → DoTheSame r p p'
-reduced_alike {r = r} {p' = p'} b b' h = refined_alike b.refines (subst (λ x. RefinesWhere r (known_at_top r []) p' x) (sym h) b'.refines)
+pub reduced_alike : {E : Type 0} (x : Result Bool E) {r : Engine} {l : OptimizationLevel} {p p' q q' : Script} → Becomes r [] l p q → Becomes r [] l p' q'
+    → IfOk x (λ a. IsTrue a → SpelledAlike q q') → IfOk x (λ a. IsTrue a → DoTheSame r p p')
+reduced_alike (Ok a) b b' h = λ i. refined_alike b.refines b'.refines (h i)
+reduced_alike (Err e) b b' h = tt

@@ -1,11 +1,25 @@
-//! Scripts as text in rhai's own syntax. What is printed is read again and compared before it is handed out.
+//! Scripts as texts: they are read, optimised, merged and printed. What is printed in rhai's own syntax is read again
+//! and compared before it is handed out.
 #![tactic(auto)]
 
+mod entry;
 mod error;
+mod known;
+mod merged;
 mod optimized;
 mod printed;
+mod refusal;
+mod syntax;
 
-pub use error::{SourceError, TextError};
+pub use entry::entered;
+pub use error::SourceError;
+pub use known::constants;
+pub use merged::merge;
 pub use optimized::{OptimizedText, optimize_text};
-pub use printed::{SourceText, push_source, source};
+pub use printed::{Written, push_source, source};
+pub use refusal::{Refusal, Why};
 pub use rhai_spelling::{SpellError, Unspelled};
+pub use syntax::{Syntax, read, write};
+
+/// The version of all that stands here.
+pub const VERSION: &str = "0.1.0";

@@ -1,19 +1,15 @@
 //! Scripts optimised from text to text.
 
-ghost use Rattle.std.specs.Prelude.{IfOk};
-ghost use Rattle.std.specs.Map.Iter.{deref};
-ghost use Rattle.std.specs.Option.{option_map};
+ghost use Rattle.std.specs.Prelude.{◌≡◌, IfOk, string_bytes};
 ghost use Rattle.rhai_engine.specs.EngineInfo.{engine_of};
-ghost use Rattle.rhai_optimizer.specs.Scopes.{start_of};
 ghost use Rattle.rhai_script.specs.Script.{script_of};
-ghost use Rattle.rhai_source.specs.Alike.{BecomesText};
+ghost use Rattle.rhai_source.specs.Texts.{BecomesText, IsReadAs};
 
-use crate::error::TextError;
-use crate::printed::{SourceText, source};
-use rhai_base::Scope;
+use crate::printed::Written;
+use crate::refusal::Refusal;
+use crate::syntax::{Syntax, read, write};
 use rhai_engine::EngineInfo;
 use rhai_optimizer::{OptimizationLevel, optimize_ast};
-use rhai_parser::compile;
 use rhai_script::AST;
 use std::alloc::Global;
 
@@ -21,32 +17,32 @@ use std::alloc::Global;
 #[derive(Drop)]
 pub struct OptimizedText {
     /// The script that the given text is read as.
-    pub written: AST,
+    pub given: AST,
     /// The text.
     pub text: String,
     /// The script that this one is read as.
     pub script: AST,
 }
 
-/// The text of a script, optimised under an engine's record and for a start scope, as `optimize_ast` does it. Between
-/// the scripts that both texts are read as stands what `optimize_ast` and `source` promise. Refused where the text is
-/// no script, where what it becomes has no text, and for want of memory.
+/// The text of a script, optimised under an engine's record. Between the script that the given text is read as and the
+/// one that the answer is read as stands what `optimize_ast` and `write` promise.
 pub fn optimize_text(
     alloc: Global,
-    info: &EngineInfo,
-    scope: Option<&Scope>,
+    syntax: Syntax,
     text: &str,
+    info: &EngineInfo,
     level: OptimizationLevel,
-) -> Result<OptimizedText, TextError>
+) -> Result<OptimizedText, Refusal>
     ensures { IfOk result (λ made.
-        BecomesText (engine_of info.now) (start_of (option_map deref scope.entry)) level (script_of made.written)
+        IsReadAs syntax text.now (script_of made.given)
+        × BecomesText (engine_of info.now) syntax level (script_of made.given) (string_bytes made.text)
         (script_of made.script)) }
 {
-    let written = compile(alloc, text)?;
-    let optimized = optimize_ast(alloc, info, scope, written.clone()?, level)?;
-    let SourceText { text, script } = source(alloc, info, &optimized)?;
+    let given = read(alloc, syntax, text)?;
+    let optimized = optimize_ast(alloc, info, None, given.clone()?, level)?;
+    let Written { text, script } = write(alloc, syntax, info, optimized)?;
     Ok(OptimizedText {
-        written,
+        given,
         text,
         script,
     })

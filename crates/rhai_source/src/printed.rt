@@ -12,31 +12,31 @@ use rhai_base::OutOfMemory;
 use rhai_engine::EngineInfo;
 use rhai_optimizer::{OptimizationLevel, optimize_ast};
 use rhai_parser::{ParseOptions, compile_with};
-use rhai_same::same_script;
 use rhai_script::AST;
+use rhai_spelled_alike::spelled_alike;
 use std::alloc::Global;
 
-/// A script in print.
+/// A script that was written.
 #[derive(Drop)]
-pub struct SourceText {
+pub struct Written {
     /// Its text.
     pub text: String,
     /// The script that the text is read as.
     pub script: AST,
 }
 
-/// A script's text in rhai's own syntax, and the script that this is read as: the same but for positions, or one that
-/// does the same, where the optimiser makes the same of both. Comments of functions and the script's doc are printed.
+/// A script's text in rhai's own syntax, and the script that this is read as: the same but for positions and how it is
+/// spelled, or one of which the optimiser makes the same. Comments of functions and the script's doc are printed.
 /// Refused where no text spells the script, by the node's position, and for want of memory.
 ///
 /// rhai prints no scripts.
-pub fn source(alloc: Global, info: &EngineInfo, script: &AST) -> Result<SourceText, SourceError>
+pub fn source(alloc: Global, info: &EngineInfo, script: &AST) -> Result<Written, SourceError>
     ensures { IfOk result (λ made. DoTheSame (engine_of info.now) (script_of script.now) (script_of made.script)) }
 {
     let text = rhai_spelling::spelled(alloc, script)?;
     let read = compile_with(alloc, text.as_str(), unbounded()).map_err(SourceError::Unread)?;
     if are_alike(alloc, info, script, &read)? {
-        return Ok(SourceText { text, script: read });
+        return Ok(Written { text, script: read });
     }
     Err(SourceError::AnotherScript)
 }
@@ -52,7 +52,7 @@ pub fn push_source(script: &AST, text: &mut String) -> Result<(), SourceError>
         .map_err(|_| SourceError::OutOfMemory)
 }
 
-/// Whether two scripts are one but for positions, or the optimiser makes one of both.
+/// Whether two scripts are the same but for how they are spelled, or the optimiser makes such of both.
 fn are_alike(
     alloc: Global,
     info: &EngineInfo,
@@ -62,12 +62,13 @@ fn are_alike(
     ensures { IfOk result (λ alike.
         IsTrue alike → DoTheSame (engine_of info.now) (script_of first.now) (script_of second.now)) }
 {
-    if same_script(first, second) {
+    let is_alike = spelled_alike(alloc, first, second)?;
+    if is_alike {
         return Ok(true);
     }
     let first = reduced(alloc, info, first)?;
     let second = reduced(alloc, info, second)?;
-    Ok(same_script(&first, &second))
+    spelled_alike(alloc, &first, &second)
 }
 
 /// What the optimiser makes of a script of which nothing is known.

@@ -1,10 +1,10 @@
 -- Rounds of a `for`, over the elements of an array or over a range.
 use Rattle.std.proofs.Common.{◌≡◌, ℕ, suc, ◌≤◌, ◌<◌, ℤ, pos, ◌+ℤ◌, ◌-ℤ◌, ◌-◌, ◌+◌, Bool, false, List, [], ◌∷◌, map, length, Option, Some, None, Result, Ok, Err, refl, sym, ap, ◌∙◌, arith}
 use Rattle.std.proofs.lemmas.Int.{ints}
-use Rattle.rhai_values.specs.declared.dynamic.Dynamic.{Dynamic}
-use Rattle.rhai_values.specs.declared.dynamic.Dynamic.TheVariants as value
-use Rattle.rhai_values.specs.Reading.{value_of, value_of-Array, value_of-Range, value_of-RangeInclusive, value_of-Unit, DynamicCase, array_case, range_case, range_inclusive_case, dynamic_cases}
-use Rattle.rhai_values.specs.Value.{Text, Value, UnitV, IntV, ArrayV, items, values}
+use Rattle.rhai_base.specs.declared.dynamic.Dynamic.{Dynamic}
+use Rattle.rhai_base.specs.declared.dynamic.Dynamic.TheVariants as value
+use Rattle.rhai_base.specs.Reading.{value_of, value_of-Array, value_of-Range, value_of-RangeInclusive, value_of-Unit, DynamicCase, array_case, range_case, range_inclusive_case, dynamic_cases}
+use Rattle.rhai_base.specs.Value.{Text, Value, UnitV, IntV, ArrayV, items, values}
 use Rattle.rhai_meaning.specs.Desugar.{core_expr}
 use Rattle.rhai_meaning.specs.Act.{IsVariable, Acts, Named, Act, Fail, Then, WrongKind}
 use Rattle.rhai_meaning.specs.ActForms.{again_then, ◌>>=◌}

@@ -2,9 +2,9 @@
 use Rattle.std.proofs.Common.{◌≡◌, ℕ, Bool, List, [], length, take, map, Option, Some, None, Result, Ok, Err, refl, sym, ap, subst, ◌∙◌, arith}
 use Rattle.std.specs.Prelude.{IfSome, option_map}
 use Rattle.std.proofs.lemmas.Option.{IfSome_then}
-use Rattle.rhai_values.specs.declared.dynamic.Dynamic.{Dynamic}
-use Rattle.rhai_values.specs.Reading.{value_of}
-use Rattle.rhai_values.specs.Value.{Text, Value}
+use Rattle.rhai_base.specs.declared.dynamic.Dynamic.{Dynamic}
+use Rattle.rhai_base.specs.Reading.{value_of}
+use Rattle.rhai_base.specs.Value.{Text, Value}
 use Rattle.rhai_meaning.specs.Act.{ScopeEntry, Ending, Gives, Halt, IsStuck, WrongKind, OutOfTurns, Outcome, Ended, Halted, At, Act, Fail, Turn, Then, Acts, Scoped, and_then, leave, restore, with_turn, run, run_all}
 use Rattle.rhai_meaning.specs.ActForms.{give, value_then, each_value, ◌>>=◌, then_line, branch, choose, if_true, truth}
 use Rattle.rhai_meaning.specs.Control.{named}

@@ -1,11 +1,11 @@
 -- Pointers to functions: what is no name and no pointer, and a pointer's values before others.
 use Rattle.std.proofs.Common.{◌≡◌, Bool, List, ◌∷◌, ◌++◌, map, Err, Ok, refl, sym, ap, ◌∙◌}
 use Rattle.std.proofs.lemmas.List.{map-append}
-use Rattle.rhai_values.specs.declared.dynamic.Dynamic.{Dynamic}
-use Rattle.rhai_values.specs.declared.dynamic.Dynamic.TheVariants as kind
-use Rattle.rhai_values.specs.declared.fn_ptr.FnPtr.{FnPtr}
-use Rattle.rhai_values.specs.Reading.{value_of, value_of-FnPtr, DynamicCase, str_case, fn_ptr_case, dynamic_cases}
-use Rattle.rhai_values.specs.Value.{Text, Value, PointerV, items, values}
+use Rattle.rhai_base.specs.declared.dynamic.Dynamic.{Dynamic}
+use Rattle.rhai_base.specs.declared.dynamic.Dynamic.TheVariants as kind
+use Rattle.rhai_base.specs.declared.fn_ptr.FnPtr.{FnPtr}
+use Rattle.rhai_base.specs.Reading.{value_of, value_of-FnPtr, DynamicCase, str_case, fn_ptr_case, dynamic_cases}
+use Rattle.rhai_base.specs.Value.{Text, Value, PointerV, items, values}
 use Rattle.rhai_meaning.specs.Act.{WrongKind, World, Fail}
 use Rattle.rhai_meaning.specs.Calls as calls
 use Rattle.rhai_meaning.specs.Calls.{call_named, call_pointer}

@@ -1,7 +1,7 @@
 -- Rounds of loops.
 use Rattle.std.proofs.Common.{◌≡◌, ℕ, zero, suc, ◌≤◌, Result, Ok, Err, refl, ap, ◌∙◌, arith}
-use Rattle.rhai_values.specs.declared.dynamic.Dynamic.{Dynamic}
-use Rattle.rhai_values.specs.Value.{Value, UnitV}
+use Rattle.rhai_base.specs.declared.dynamic.Dynamic.{Dynamic}
+use Rattle.rhai_base.specs.Value.{Value, UnitV}
 use Rattle.rhai_meaning.specs.Act as act
 use Rattle.rhai_meaning.specs.Act.{Again, Leaves, Outcome, Ended, At, Store, Act, Acts, Then, Loop, Scoped, and_then, on_again, rounds, run}
 use Rattle.rhai_meaning.specs.ActForms.{end_round, again_then}

@@ -1,13 +1,13 @@
 -- Statements: one after another, one by its parts.
 use Rattle.std.proofs.Common.{◌≡◌, ℕ, ◌+◌, ◌<◌, ◌≤◌, Bool, true, false, List, length, drop, get_or, Result, Ok, Err, refl, sym, ap, ◌∙◌, subst, arith}
 use Rattle.std.proofs.lemmas.List.{drop_all}
-use Rattle.rhai_values.specs.declared.dynamic.Dynamic.{Dynamic}
-use Rattle.rhai_values.specs.declared.dynamic.Dynamic.TheVariants as value
-use Rattle.rhai_values.specs.Reading.{value_of, value_of-Unit}
-use Rattle.rhai_values.specs.Value.{Value, UnitV}
+use Rattle.rhai_base.specs.declared.dynamic.Dynamic.{Dynamic}
+use Rattle.rhai_base.specs.declared.dynamic.Dynamic.TheVariants as value
+use Rattle.rhai_base.specs.Reading.{value_of, value_of-Unit}
+use Rattle.rhai_base.specs.Value.{Value, UnitV}
 use Rattle.rhai_tree.specs.declared.stmt.Stmt.{Stmt}
-use Rattle.rhai_reading.specs.Reading.{stmt_of, stmts_of}
-use Rattle.rhai_reading.proofs.ItemLists.{stmts_of-drop}
+use Rattle.rhai_tree.specs.Reading.{stmt_of, stmts_of}
+use Rattle.rhai_tree.proofs.ItemLists.{stmts_of-drop}
 use Rattle.rhai_meaning.specs.Tree as tree
 use Rattle.rhai_meaning.specs.Act.{Act, Scoped}
 use Rattle.rhai_meaning.specs.ActForms.{choose, if_true, truth, ◌>>=◌}

@@ -1,9 +1,9 @@
 -- Texts of values, joined.
 use Rattle.std.proofs.Common.{◌≡◌, ℕ, ◌+◌, ◌<◌, ◌≤◌, ◌++◌, List, map, length, drop, get_or, sym, ap, ◌∙◌, append_assoc, append-nil}
 use Rattle.std.proofs.lemmas.List.{drop_all, drop_more}
-use Rattle.rhai_values.specs.declared.dynamic.Dynamic.{Dynamic}
-use Rattle.rhai_values.specs.Reading.{value_of}
-use Rattle.rhai_values.specs.Value.{Text, text_of}
+use Rattle.rhai_base.specs.declared.dynamic.Dynamic.{Dynamic}
+use Rattle.rhai_base.specs.Reading.{value_of}
+use Rattle.rhai_base.specs.Value.{Text, text_of}
 use Rattle.rhai_meaning.specs.Control.{texts_joined}
 
 -- the texts so far, and what is left to join

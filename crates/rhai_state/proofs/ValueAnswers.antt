@@ -1,14 +1,14 @@
 -- Values by their kind.
 use Rattle.std.proofs.Common.{◌≡◌, Bool, Option, Some, None, Ok, Err, refl}
-use Rattle.rhai_values.specs.declared.dynamic.Dynamic.{Dynamic}
-use Rattle.rhai_values.specs.declared.dynamic.Dynamic.TheVariants as value
-use Rattle.rhai_values.specs.Reading.{value_of, DynamicCase, bool_case, dynamic_cases}
+use Rattle.rhai_base.specs.declared.dynamic.Dynamic.{Dynamic}
+use Rattle.rhai_base.specs.declared.dynamic.Dynamic.TheVariants as value
+use Rattle.rhai_base.specs.Reading.{value_of, DynamicCase, bool_case, dynamic_cases}
 use Rattle.rhai_meaning.specs.ActForms.{truth}
 use Rattle.rhai_state.specs.declared.state.Interrupt.{Interrupt}
 use Rattle.rhai_state.specs.declared.state.Interrupt.TheVariants.{Stuck}
 use Rattle.rhai_host.specs.declared.report.Stuck.TheVariants as why
 use Rattle.rhai_state.specs.Evaluating.{or_stuck}
-use Rattle.rhai_values.specs.Value.{Value}
+use Rattle.rhai_base.specs.Value.{Value}
 
 not_truth : {v : Dynamic} {w : Value} → DynamicCase v w → ((b : Bool) → v ≡ value.Bool b → ⊥) → truth w ≡ None
 not_truth (bool_case b) h = absurd (h b refl)

@@ -1,10 +1,10 @@
 -- Words that answer at once.
 use Rattle.std.proofs.Common.{◌≡◌, ◌-◌, ◌<◌, ◌≤◌, false, List, [], ◌∷◌, map, length, drop, take, get_or, Some, refl, sym, ap, arith}
 use Rattle.std.proofs.lemmas.List.{take_all}
-use Rattle.rhai_values.specs.declared.dynamic.Dynamic.{Dynamic}
-use Rattle.rhai_values.specs.declared.dynamic.Dynamic.TheVariants as kind
-use Rattle.rhai_values.specs.Reading.{value_of, value_of-Bool}
-use Rattle.rhai_values.specs.Value.{Value, TextV}
+use Rattle.rhai_base.specs.declared.dynamic.Dynamic.{Dynamic}
+use Rattle.rhai_base.specs.declared.dynamic.Dynamic.TheVariants as kind
+use Rattle.rhai_base.specs.Reading.{value_of, value_of-Bool}
+use Rattle.rhai_base.specs.Value.{Value, TextV}
 use Rattle.rhai_meaning.specs.Act.{Act}
 use Rattle.rhai_meaning.specs.Calls as calls
 use Rattle.rhai_meaning.specs.Engine.{mapped_type_name}

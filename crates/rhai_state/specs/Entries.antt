@@ -1,6 +1,6 @@
 -- What stands in the scope of a run.
 use Rattle.std.specs.Prelude.{List, [], map}
-use Rattle.rhai_values.specs.Reading.{value_of}
+use Rattle.rhai_base.specs.Reading.{value_of}
 use Rattle.rhai_meaning.specs.Act as act
 use Rattle.rhai_meaning.specs.Run.{reversed}
 use Rattle.rhai_state.specs.declared.entries.Entry.{Entry}

@@ -1,8 +1,8 @@
 -- What the evaluator's functions answer.
 use Rattle.std.specs.Prelude.{◌≡◌, ℕ, Bool, true, false, List, map, Option, Some, None, Result, Ok, Err, option_map}
-use Rattle.rhai_values.specs.Value.{Text, Value, UnitV, Fields, fields}
-use Rattle.rhai_values.specs.declared.dynamic.Dynamic.{Dynamic}
-use Rattle.rhai_values.specs.Reading.{value_of, members_of}
+use Rattle.rhai_base.specs.Value.{Text, Value, UnitV, Fields, fields}
+use Rattle.rhai_base.specs.declared.dynamic.Dynamic.{Dynamic}
+use Rattle.rhai_base.specs.Reading.{value_of, members_of}
 use Rattle.rhai_meaning.specs.Tree as tree
 use Rattle.rhai_meaning.specs.Act.{Ended, ScriptCall, Act, Acts, Then, Invoke, Scoped}
 use Rattle.rhai_meaning.specs.Calls.{call_named}

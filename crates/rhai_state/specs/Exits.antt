@@ -1,8 +1,8 @@
 -- How parts of a run end by the ends of their parts.
 use Rattle.std.specs.Prelude.{◌≡◌, ℕ, ℤ, pos, ◌^◌, cond, nat_lt, Option, Some, None, Result, Ok, Err}
-use Rattle.rhai_values.specs.declared.dynamic.Dynamic.{Dynamic}
-use Rattle.rhai_values.specs.declared.dynamic.Dynamic.TheVariants as value
-use Rattle.rhai_values.specs.Reading.{value_of}
+use Rattle.rhai_base.specs.declared.dynamic.Dynamic.{Dynamic}
+use Rattle.rhai_base.specs.declared.dynamic.Dynamic.TheVariants as value
+use Rattle.rhai_base.specs.Reading.{value_of}
 use Rattle.rhai_meaning.specs.Act.{Exit, Again, Ending, Gives, Leaves}
 use Rattle.rhai_meaning.specs.Shape.{is_unit}
 use Rattle.rhai_state.specs.declared.state.Interrupt.{Interrupt}

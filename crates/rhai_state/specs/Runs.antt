@@ -1,8 +1,8 @@
 -- What is left to do of a run, and how far the evaluator's functions come with it.
 use Rattle.std.specs.Prelude.{◌≡◌, ℕ, ◌≤◌, true, List, Option, Some, None, IfSome, Result, Ok, Err}
-use Rattle.rhai_values.specs.Value.{Value}
-use Rattle.rhai_values.specs.declared.dynamic.Dynamic.{Dynamic}
-use Rattle.rhai_values.specs.Reading.{value_of}
+use Rattle.rhai_base.specs.Value.{Value}
+use Rattle.rhai_base.specs.declared.dynamic.Dynamic.{Dynamic}
+use Rattle.rhai_base.specs.Reading.{value_of}
 use Rattle.rhai_meaning.specs.Act as act
 use Rattle.rhai_meaning.specs.Act.{ScopeEntry, Exit, Returns, Breaks, Continues, Throws, Ending, Gives, Leaves, Halt, IsStuck, OutOfTurns, Outcome, Ended, Halted, At, Store, World, Act, Acts, Env, and_then, leave, run, run_all}
 use Rattle.rhai_meaning.specs.Core.{Function}

@@ -1,7 +1,7 @@
 -- Where a run stands.
 use Rattle.std.specs.Prelude.{◌≡◌, Bool, true, false, suc, [], ◌∷◌, map, Option, Some, None, Result, Ok, Err, option_map}
-use Rattle.rhai_values.specs.Value.{Text, Value}
-use Rattle.rhai_values.specs.Reading.{value_of}
+use Rattle.rhai_base.specs.Value.{Text, Value}
+use Rattle.rhai_base.specs.Reading.{value_of}
 use Rattle.rhai_meaning.specs.Act.{EntryKind, IsVariable, IsAlias, IsExport, Store}
 use Rattle.rhai_meaning.specs.Run.{reversed}
 use Rattle.rhai_state.specs.declared.state.Interrupt.{Interrupt}

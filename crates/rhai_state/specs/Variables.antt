@@ -1,6 +1,6 @@
 -- Names in a scope, latest last.
 use Rattle.std.specs.Prelude.{◌≡◌, ℕ, true, false, List, [], ◌∷◌, ◌++◌, length}
-use Rattle.rhai_values.specs.Value.{Text}
+use Rattle.rhai_base.specs.Value.{Text}
 use Rattle.rhai_meaning.specs.Act.{is_called}
 use Rattle.rhai_state.specs.declared.entries.Entry.{Entry}
 use Rattle.rhai_state.specs.Entries.{entry_meant}

@@ -1,14 +1,14 @@
 //! The rounds of a `for`.
 
-#![tactic(auto, using(rhai_reading::specs::Reading::shapes, rhai_values::specs::Reading::kinds))]
+#![tactic(auto, using(rhai_tree::specs::Reading::shapes, rhai_base::specs::Reading::kinds))]
 
 ghost use Rattle.std.specs.Prelude.{◌≡◌, false, ◌^◌, ◌≤ℤ◌, ◌<ℤ◌, ◌+ℤ◌, ◌-ℤ◌, pos, suc};
-ghost use Rattle.rhai_reading.specs.Reading.{counter_of};
+ghost use Rattle.rhai_tree.specs.Reading.{counter_of};
 ghost use Rattle.rhai_meaning.specs.Control.{size};
 ghost use Rattle.rhai_state.specs.Evaluating.{RunsCounted};
 ghost use Rattle.rhai_state.specs.Exits.{count_of};
 ghost use Rattle.rhai_state.specs.Runs.{Setting};
-ghost use Rattle.rhai_values.specs.declared.dynamic.Dynamic.TheVariants as value;
+ghost use Rattle.rhai_base.specs.declared.dynamic.Dynamic.TheVariants as value;
 
 use crate::entries::EntryKind;
 use crate::state::{Interrupt, State};

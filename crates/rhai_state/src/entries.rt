@@ -3,7 +3,7 @@
 ghost use Rattle.std.specs.Prelude.{◌≡◌, ◌&&◌};
 ghost use Rattle.rhai_meaning.specs.Act as act;
 ghost use Rattle.rhai_meaning.specs.Desugar.{name_kind};
-ghost use Rattle.rhai_values.specs.Value.{same_text};
+ghost use Rattle.rhai_base.specs.Value.{same_text};
 ghost use Rattle.rhai_state.specs.Entries.{kind_meant, entry_meant};
 
 use rhai_base::{Dynamic, ImmutableString};

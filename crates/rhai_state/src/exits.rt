@@ -1,10 +1,10 @@
 //! Ways to leave a list of statements, a loop, a `try`, a function and a run.
 
-#![tactic(auto, using(rhai_values::specs::Reading::kinds))]
+#![tactic(auto, using(rhai_base::specs::Reading::kinds))]
 
 ghost use Rattle.std.specs.Prelude.{◌≡◌, OnOk, if◌then◌else◌, ◌<◌, ◌↔◌, IfOk, IsTrue};
 ghost use Rattle.std.specs.Option.{option_copied};
-ghost use Rattle.rhai_values.specs.Reading.{value_of};
+ghost use Rattle.rhai_base.specs.Reading.{value_of};
 ghost use Rattle.rhai_meaning.specs.Desugar.{break_kind, return_kind};
 ghost use Rattle.rhai_meaning.specs.Meaning.{exit};
 ghost use Rattle.rhai_state.specs.Evaluating.{EndsAs};

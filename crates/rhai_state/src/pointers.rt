@@ -1,10 +1,10 @@
 //! Pointers to functions.
 
-#![tactic(auto, using(rhai_values::specs::Reading::kinds))]
+#![tactic(auto, using(rhai_base::specs::Reading::kinds))]
 
 ghost use Rattle.std.specs.Prelude.{◌≡◌, ◌++◌, Bool, IfOk, OnOk, map};
-ghost use Rattle.rhai_values.specs.Value.{Text};
-ghost use Rattle.rhai_values.specs.Reading.{value_of};
+ghost use Rattle.rhai_base.specs.Value.{Text};
+ghost use Rattle.rhai_base.specs.Reading.{value_of};
 ghost use Rattle.rhai_state.specs.declared.state.State.{State};
 ghost use Rattle.rhai_state.specs.Evaluating.{pointed_then};
 ghost use Rattle.rhai_state.specs.Runs.{Acting, Leads, Runs, Setting};

@@ -5,7 +5,7 @@
 ghost use Rattle.std.specs.Prelude.{◌≡◌, map, IfOk, OnOk, ◌∷◌, None, [], option_map};
 ghost use Rattle.rhai_meaning.specs.Desugar.{name_kind};
 ghost use Rattle.rhai_meaning.specs.Run.{bind, seen};
-ghost use Rattle.rhai_values.specs.Reading.{value_of};
+ghost use Rattle.rhai_base.specs.Reading.{value_of};
 ghost use Rattle.rhai_state.specs.declared.state.Interrupt.TheVariants.{NoMemory};
 ghost use Rattle.rhai_state.specs.State.{aliased_in, declared_in, store_of, with_entry, GoesOn, TakesTurn};
 ghost use Rattle.rhai_host.specs.Entries.{start_scope};

@@ -1,11 +1,11 @@
 //! What is asked of values while a script is run.
 
-#![tactic(auto, using(rhai_values::specs::Reading::kinds))]
+#![tactic(auto, using(rhai_base::specs::Reading::kinds))]
 
 ghost use Rattle.std.specs.Prelude.{◌≡◌, IfOk, if◌then◌else◌, map};
 ghost use Rattle.rhai_meaning.specs.Shape.{is_unit};
-ghost use Rattle.rhai_values.specs.Reading.{value_of};
-ghost use Rattle.rhai_values.specs.Value.{TextV};
+ghost use Rattle.rhai_base.specs.Reading.{value_of};
+ghost use Rattle.rhai_base.specs.Value.{TextV};
 ghost use Rattle.rhai_meaning.specs.ActForms.{truth as truth_of};
 ghost use Rattle.rhai_meaning.specs.Control.{texts_joined};
 ghost use Rattle.rhai_state.specs.Evaluating.{or_stuck, IsConstant};

@@ -1,9 +1,9 @@
 //! The language's own words.
 
-#![tactic(auto, using(rhai_values::specs::Reading::kinds))]
+#![tactic(auto, using(rhai_base::specs::Reading::kinds))]
 
 ghost use Rattle.std.specs.Prelude.{◌≡◌, Ok, map};
-ghost use Rattle.rhai_values.specs.Reading.{value_of};
+ghost use Rattle.rhai_base.specs.Reading.{value_of};
 ghost use Rattle.rhai_meaning.specs.Act.{Act};
 ghost use Rattle.rhai_state.specs.declared.state.State.{State};
 ghost use Rattle.rhai_state.specs.Evaluating.{arm_then};

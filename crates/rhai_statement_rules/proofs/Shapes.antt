@@ -4,7 +4,7 @@ use Rattle.rhai_tree.specs.declared.stmt.Stmt as declared_stmt
 use Rattle.rhai_meaning.specs.Engine.{Engine}
 use Rattle.rhai_meaning.specs.Tree.{Stmt, While, Block, TryCatch, ExprStmt, Stmts, no_stmts, stmt}
 use Rattle.rhai_meaning.specs.Walk.{OfStmt}
-use Rattle.rhai_reading.specs.Reading.{stmts_of}
+use Rattle.rhai_tree.specs.Reading.{stmts_of}
 use Rattle.rhai_rewriting.specs.Answering.{is_that}
 use Rattle.rhai_rewriting.specs.Residue.{IsReducedNode}
 use Rattle.rhai_statement_rules.specs.Settled.{is_block, is_expression, is_while, is_try, decided_loop}

@@ -1,13 +1,13 @@
 //! The rules at a `while`.
 
-#![tactic(auto, using(rhai_reading::specs::Reading::shapes))]
+#![tactic(auto, using(rhai_tree::specs::Reading::shapes))]
 
 ghost use Rattle.std.specs.Prelude.{◌≡◌, true, false, Bool, Some, is_none};
 ghost use Rattle.rhai_assignment_rules.specs.Firing.{Fires, answer};
 ghost use Rattle.rhai_known.specs.State.{progress};
 ghost use Rattle.rhai_meaning.specs.Engine.{Engine};
 ghost use Rattle.rhai_meaning.specs.Tree.{UnitConstant};
-ghost use Rattle.rhai_reading.specs.Reading.{expr_of, stmt_of};
+ghost use Rattle.rhai_tree.specs.Reading.{expr_of, stmt_of};
 ghost use Rattle.rhai_statement_rules.specs.Settled as settled;
 ghost use Rattle.rhai_steps.specs.NodeSteps.{StmtStep};
 

@@ -1,7 +1,7 @@
 -- What may stand where, by tests.
 use Rattle.std.proofs.Common.{◌≡◌, map, Bool, true, false, not, ◌↔◌, IsTrue, List, [], ◌∷◌, Option, Some, None, is_some, refl, sym, ◌∙◌}
-use Rattle.rhai_names.specs.declared.ident.Ident.{Ident}
-use Rattle.rhai_values.specs.Value.{Text}
+use Rattle.rhai_tokens.specs.declared.ident.Ident.{Ident}
+use Rattle.rhai_base.specs.Value.{Text}
 use Rattle.rhai_meaning.specs.Act.{Root}
 use Rattle.rhai_meaning.specs.Desugar.{root_of}
 use Rattle.rhai_meaning.specs.Queries.{is_unit}

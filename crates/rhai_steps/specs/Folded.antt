@@ -1,6 +1,6 @@
 -- Constants that become their values.
 use Rattle.std.specs.Prelude.{◌≡◌, Bool, true, false, Some}
-use Rattle.rhai_values.specs.Value.{Value}
+use Rattle.rhai_base.specs.Value.{Value}
 use Rattle.rhai_meaning.specs.Constants.{constant_value, is_constant}
 use Rattle.rhai_meaning.specs.Tree.{Expr}
 use Rattle.rhai_rewriting.specs.Steps.{Progress}

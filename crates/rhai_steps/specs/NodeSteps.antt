@@ -1,6 +1,6 @@
 -- What came of the rules at a node.
 use Rattle.std.specs.Prelude.{◌≡◌, Bool, true, false, Some}
-use Rattle.rhai_values.specs.Value.{Value}
+use Rattle.rhai_base.specs.Value.{Value}
 use Rattle.rhai_meaning.specs.Constants.{constant_for, literal_value}
 use Rattle.rhai_meaning.specs.Engine.{Engine}
 use Rattle.rhai_meaning.specs.Tree.{Expr, Stmt}

@@ -1,9 +1,9 @@
 //! Where expressions stand, and what may stand there.
 
-#![tactic(auto, using(rhai_reading::specs::Reading::shapes))]
+#![tactic(auto, using(rhai_tree::specs::Reading::shapes))]
 
 ghost use Rattle.std.specs.Prelude.{◌≡◌, ◌↔◌, IsTrue, []};
-ghost use Rattle.rhai_reading.specs.Reading.{expr_of};
+ghost use Rattle.rhai_tree.specs.Reading.{expr_of};
 ghost use Rattle.rhai_meaning.specs.Tree.{UnitConstant};
 ghost use Rattle.rhai_steps.specs.Places.{place_of};
 ghost use Rattle.rhai_steps.specs.Standing as standing;

@@ -1,13 +1,13 @@
 //! Constants that take the place of a node, and the note that a rule fired.
 
-#![tactic(auto, using(rhai_reading::specs::Reading::shapes))]
+#![tactic(auto, using(rhai_tree::specs::Reading::shapes))]
 
 ghost use Rattle.std.specs.Prelude.{◌≡◌, IfOk, OnOk, Some, true};
-ghost use Rattle.rhai_values.specs.Reading.{value_of};
+ghost use Rattle.rhai_base.specs.Reading.{value_of};
 ghost use Rattle.rhai_meaning.specs.Constants as constants;
 ghost use Rattle.rhai_meaning.specs.Tree.{UnitConstant, Noop};
 ghost use Rattle.rhai_known.specs.State.{progress};
-ghost use Rattle.rhai_reading.specs.Reading.{expr_of, stmt_of};
+ghost use Rattle.rhai_tree.specs.Reading.{expr_of, stmt_of};
 ghost use Rattle.rhai_steps.specs.Folded.{FoldsConstant};
 ghost use Rattle.rhai_steps.specs.NodeSteps.{Puts};
 

@@ -1,10 +1,10 @@
 //! What may be asked of a statement.
 
-#![tactic(auto, using(rhai_reading::specs::Reading::shapes, rhai_reading::specs::Positions::places))]
+#![tactic(auto, using(rhai_tree::specs::Reading::shapes, rhai_tree::specs::Positions::places))]
 
 ghost use Rattle.std.specs.Prelude.{◌≡◌};
-ghost use Rattle.rhai_reading.specs.Reading.{stmt_of};
-ghost use Rattle.rhai_reading.specs.Positions.{stmt_options_of, stmt_position_of};
+ghost use Rattle.rhai_tree.specs.Reading.{stmt_of};
+ghost use Rattle.rhai_tree.specs.Positions.{stmt_options_of, stmt_position_of};
 ghost use Rattle.rhai_meaning.specs.Laws.{IndependentLaw, InternallyPureLaw, PureLaw};
 ghost use Rattle.rhai_meaning.specs.Queries as queries;
 

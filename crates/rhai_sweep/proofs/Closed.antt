@@ -4,7 +4,7 @@ use Rattle.std.specs.Prelude.{◌&&◌, not}
 use Rattle.rhai_tree.specs.declared.stmt.Stmt as declared_stmt
 use Rattle.rhai_meaning.specs.Queries.{is_pure, is_noop, is_control_flow_break}
 use Rattle.rhai_meaning.specs.Tree.{Stmt, Noop, Stmts, no_stmts, stmt}
-use Rattle.rhai_reading.specs.Reading.{stmt_of, stmts_of}
+use Rattle.rhai_tree.specs.Reading.{stmt_of, stmts_of}
 use Rattle.rhai_rewriting.specs.Context.{wanted_before}
 use Rattle.rhai_sweep.specs.Steps.{Declared}
 use Rattle.rhai_sweep.specs.Sweep.{is_nothing, closed_up}

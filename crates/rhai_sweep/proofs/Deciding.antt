@@ -7,10 +7,10 @@ use Rattle.rhai_tree.specs.declared.stmt.Stmt as declared_stmt
 use Rattle.rhai_tree.specs.declared.stmt.Stmt.TheVariants.{Noop as noop_at}
 use Rattle.rhai_tree.specs.declared.stmt.Stmt.TheVariants as stmt_kind
 use Rattle.rhai_tree.specs.declared.expr.Expr as declared_expr
-use Rattle.rhai_names.specs.declared.flags.ASTFlags.{ASTFlags}
+use Rattle.rhai_tokens.specs.declared.flags.ASTFlags.{ASTFlags}
 use Rattle.rhai_meaning.specs.Queries.{is_pure, is_internally_pure, is_noop, is_control_flow_break}
 use Rattle.rhai_meaning.specs.Tree.{Stmt, Noop, Return, no_expr, an_expr, Stmts, no_stmts, stmt}
-use Rattle.rhai_reading.specs.Reading.{stmt_of, stmts_of, breaks, is_exported, stmt_of-Noop, stmt_of-Expr, stmt_of-Return}
+use Rattle.rhai_tree.specs.Reading.{stmt_of, stmts_of, breaks, is_exported, stmt_of-Noop, stmt_of-Expr, stmt_of-Return}
 use Rattle.rhai_rewriting.specs.Context.{ListKind, Whole, Inside, wanted}
 use Rattle.rhai_rewriting.specs.Exports.{stmt_exports_nothing}
 use Rattle.rhai_rewriting.specs.Rules.{is_pure_in}

@@ -6,7 +6,7 @@ use Rattle.rhai_tree.specs.declared.stmt.Stmt as declared_stmt
 use Rattle.rhai_tree.specs.declared.stmt.Stmt.TheVariants.{Noop as no_statement}
 use Rattle.rhai_meaning.specs.Queries.{is_noop, is_control_flow_break}
 use Rattle.rhai_meaning.specs.Tree.{Stmt, Noop, Return, no_expr, an_expr, Stmts, no_stmts, stmt}
-use Rattle.rhai_reading.specs.Reading.{stmt_of, stmts_of}
+use Rattle.rhai_tree.specs.Reading.{stmt_of, stmts_of}
 use Rattle.rhai_rewriting.specs.Context.{Context, ListKind, Whole, Inside, wanted}
 use Rattle.rhai_rewriting.specs.Rules as rule
 use Rattle.rhai_rewriting.specs.Rules.{ListRule}

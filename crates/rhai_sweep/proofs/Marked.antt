@@ -8,7 +8,7 @@ use Rattle.rhai_tree.specs.declared.stmt.Stmt as declared_stmt
 use Rattle.rhai_tree.specs.declared.stmt.Stmt.TheVariants.{Noop as noop_at}
 use Rattle.rhai_meaning.specs.Queries.{is_noop}
 use Rattle.rhai_meaning.specs.Tree.{Stmts, no_stmts, stmt, joined}
-use Rattle.rhai_reading.specs.Reading.{stmt_of, stmts_of}
+use Rattle.rhai_tree.specs.Reading.{stmt_of, stmts_of}
 use Rattle.rhai_rewriting.specs.Context.{wanted_before}
 use Rattle.rhai_sweep.specs.Steps.{Declared}
 use Rattle.rhai_sweep.specs.Sweep.{closed_up}

@@ -4,7 +4,7 @@ use Rattle.rhai_tokens.specs.declared.position.Position.{Position}
 use Rattle.rhai_tree.specs.declared.stmt.Stmt as declared_stmt
 use Rattle.rhai_tree.specs.declared.stmt.Stmt.TheVariants.{Noop as noop_at}
 use Rattle.rhai_meaning.specs.Tree.{Stmts, stmt}
-use Rattle.rhai_reading.specs.Reading.{stmt_of, stmts_of}
+use Rattle.rhai_tree.specs.Reading.{stmt_of, stmts_of}
 use Rattle.rhai_rewriting.specs.Clear.{AreClear}
 use Rattle.rhai_rewriting.specs.Known.{Known}
 use Rattle.rhai_rewriting.specs.Context.{Context, ListKind, wanted}

@@ -1,10 +1,10 @@
 //! Marks that are closed up.
 
-#![tactic(auto, using(rhai_reading::specs::Reading::shapes))]
+#![tactic(auto, using(rhai_tree::specs::Reading::shapes))]
 
 ghost use Rattle.std.specs.Prelude.{◌≡◌, ◌<◌, ◌≤◌, ◌+◌, ◌++◌, ◌∷◌, [], ◌&&◌, not, length, take, drop, slice_index_or};
 ghost use Rattle.rhai_meaning.specs.Queries as queries;
-ghost use Rattle.rhai_reading.specs.Reading.{stmt_of, stmts_of};
+ghost use Rattle.rhai_tree.specs.Reading.{stmt_of, stmts_of};
 ghost use Rattle.rhai_rewriting.specs.Context.{wanted_before};
 ghost use Rattle.rhai_tree.specs.declared.stmt.Stmt.{Stmt};
 ghost use Rattle.rhai_sweep.specs.Sweep.{closed_up};

@@ -1,10 +1,10 @@
 //! What a sweep asks of a statement.
 
-#![tactic(auto, using(rhai_reading::specs::Reading::shapes))]
+#![tactic(auto, using(rhai_tree::specs::Reading::shapes))]
 
 ghost use Rattle.std.specs.Prelude.{◌≡◌};
 ghost use Rattle.rhai_meaning.specs.Queries as queries;
-ghost use Rattle.rhai_reading.specs.Reading.{expr_of, stmt_of};
+ghost use Rattle.rhai_tree.specs.Reading.{expr_of, stmt_of};
 ghost use Rattle.rhai_rewriting.specs.Rules as rules;
 ghost use Rattle.rhai_sweep.specs.Marks.{mark_of};
 ghost use Rattle.rhai_sweep.specs.Sweep as spec;

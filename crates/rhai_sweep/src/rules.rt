@@ -1,11 +1,11 @@
 //! The rules of lists, a function each, in the list's own memory. A statement that goes is marked by a `Noop` in its
 //! place.
 
-#![tactic(auto, using(rhai_reading::specs::Reading::shapes))]
+#![tactic(auto, using(rhai_tree::specs::Reading::shapes))]
 
 ghost use Rattle.std.specs.Prelude.{◌≡◌, ◌<◌, ◌≤◌, ◌+◌, ◌-◌, ◌&&◌, true, false, ℕ, length, take, drop, slice_index_or};
 ghost use Rattle.rhai_meaning.specs.Queries as queries;
-ghost use Rattle.rhai_reading.specs.Reading.{stmt_of};
+ghost use Rattle.rhai_tree.specs.Reading.{stmt_of};
 ghost use Rattle.rhai_rewriting.specs.Context.{ListKind, Whole, wanted};
 ghost use Rattle.rhai_tree.specs.declared.stmt.Stmt.{Stmt};
 ghost use Rattle.rhai_sweep.specs.Marks.{mark_of};

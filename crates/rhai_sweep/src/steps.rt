@@ -1,10 +1,10 @@
 //! The decisions of a sweep: which rule fires at a statement, asked by reference, and what is known before it then.
 
-#![tactic(auto, using(rhai_reading::specs::Reading::shapes))]
+#![tactic(auto, using(rhai_tree::specs::Reading::shapes))]
 
 ghost use Rattle.std.specs.Prelude.{◌≡◌, ◌<◌, ◌+◌, ◌-◌, ◌&&◌, ◌||◌, not, true, false, Some, None, length, take, slice_index_or};
 ghost use Rattle.rhai_meaning.specs.Queries as queries;
-ghost use Rattle.rhai_reading.specs.Reading.{stmt_of};
+ghost use Rattle.rhai_tree.specs.Reading.{stmt_of};
 ghost use Rattle.rhai_rewriting.specs.Context.{wanted};
 ghost use Rattle.rhai_tree.specs.declared.stmt.Stmt.{Stmt};
 ghost use Rattle.rhai_sweep.specs.Marks.{mark_of};

@@ -3,14 +3,14 @@ use Rattle.std.proofs.Common.{◌≡◌, ℕ, zero, suc, ◌<◌, ◌≤◌, ◌
 use Rattle.rhai_tree.specs.declared.expr.BinaryExpr.{BinaryExpr}
 use Rattle.rhai_tree.specs.declared.stmt.Stmt as declared_stmt
 use Rattle.rhai_meaning.specs.Tree.{Expr, no_arms, arm, count_arms, Stmt}
-use Rattle.rhai_reading.proofs.Cases.{StmtCase, switch_case}
+use Rattle.rhai_tree.proofs.Cases.{StmtCase, switch_case}
 use Rattle.rhai_steps.proofs.NodeKinds.{NoSwitch}
 use Rattle.rhai_switch_rules.specs.Deciding.{arms_in, default_in, choice_at}
 use Rattle.rhai_switch_rules.specs.declared.choice.Choice.TheVariants.{Several}
 use Rattle.rhai_switch_rules.specs.Forgetting.{answer_left, forgets, loses_answer, loses_answers}
 use Rattle.rhai_switch_rules.proofs.Forgotten.{put, answer_in}
 use Rattle.std.specs.Prelude.{◌||◌, slice_get}
-use Rattle.rhai_reading.specs.Reading.{arms_of, expr_of}
+use Rattle.rhai_tree.specs.Reading.{arms_of, expr_of}
 use Rattle.rhai_rewriting.specs.Tables.{arm_of}
 
 abbrev pub both_of : BinaryExpr → Expr × Expr

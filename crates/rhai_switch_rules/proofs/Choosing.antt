@@ -7,11 +7,11 @@ use Rattle.std.specs.Range.{range_inclusive_start, range_inclusive_end, range_in
 use Rattle.rhai_base.specs.Ranges.{holds_value, index_of}
 use Rattle.rhai_base.specs.declared.range_case.RangeCase.{RangeCase}
 use Rattle.rhai_base.specs.declared.range_case.RangeCase.TheVariants as range_kind
-use Rattle.rhai_values.specs.Value.{Value, IntV}
+use Rattle.rhai_base.specs.Value.{Value, IntV}
 use Rattle.rhai_meaning.specs.Control.{holds, ranges_with}
 use Rattle.rhai_meaning.specs.Tree.{Arms, IntRange, ExclusiveInt, InclusiveInt}
 use Rattle.rhai_switch_rules.proofs.Places.{place_is}
-use Rattle.rhai_reading.specs.Reading.{range_of}
+use Rattle.rhai_tree.specs.Reading.{range_of}
 use Rattle.rhai_rewriting.specs.Tables.{arm_of, arm_decides, left_with, left_arms}
 use Rattle.rhai_switch_rules.specs.declared.choice.Choice.{Choice}
 use Rattle.rhai_switch_rules.specs.declared.choice.Choice.TheVariants.{Nothing, Answer, Only, Several}

@@ -1,7 +1,7 @@
 -- What a `switch` is decided to, by what is left of its arms.
 use Rattle.std.proofs.Common.{◌≡◌, ℕ, Bool, true, false, cond, List, [], ◌∷◌, Option, Some, None, refl, sym, ap, ◌∙◌, subst}
 use Rattle.std.proofs.lemmas.Bool.Decides.{Decides-eqb}
-use Rattle.rhai_values.specs.Value.{Value, is_hashable}
+use Rattle.rhai_base.specs.Value.{Value, is_hashable}
 use Rattle.rhai_meaning.specs.Constants.{constant_value}
 use Rattle.rhai_meaning.specs.Control.{chosen}
 use Rattle.rhai_meaning.specs.Tree.{SwitchTable, Expr, Arms, Stmt, If, Switch, ExprStmt, no_stmts, stmt}

@@ -5,17 +5,17 @@ use Rattle.std.specs.Map.{keys_of}
 use Rattle.std.specs.Map.Calls.{RetainsPairs}
 use Rattle.std.specs.Option.{option_map}
 use Rattle.std.specs.Prelude.{◌||◌, ◌&&◌, ◌==◌, if◌then◌else◌}
-use Rattle.rhai_values.proofs.Exact.{equal}
-use Rattle.rhai_values.specs.declared.dynamic.Dynamic.{Dynamic}
-use Rattle.rhai_values.specs.Reading.{value_of}
-use Rattle.rhai_values.specs.Value.{Value, same}
+use Rattle.rhai_base.proofs.Exact.{equal}
+use Rattle.rhai_base.specs.declared.dynamic.Dynamic.{Dynamic}
+use Rattle.rhai_base.specs.Reading.{value_of}
+use Rattle.rhai_base.specs.Value.{Value, same}
 use Rattle.rhai_base.specs.Ranges.{holds_value, index_of}
 use Rattle.rhai_base.specs.declared.cases.CaseBlocksList.{CaseBlocksList}
 use Rattle.rhai_base.specs.declared.range_case.RangeCase.{RangeCase}
 use Rattle.rhai_meaning.specs.Control.{case_for}
 use Rattle.rhai_meaning.specs.Tree.{Arms}
 use Rattle.rhai_nodes.proofs.Listed.{listed_is}
-use Rattle.rhai_reading.specs.Reading.{case_of, range_of}
+use Rattle.rhai_tree.specs.Reading.{case_of, range_of}
 use Rattle.rhai_meaning.specs.Walk.{arms_of_ranges}
 use Rattle.rhai_rewriting.specs.Answering.{is_that}
 use Rattle.rhai_rewriting.specs.Tables.{arm_of, arm_decides, left_with, left_arms}

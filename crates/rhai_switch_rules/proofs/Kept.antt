@@ -2,7 +2,7 @@
 use Rattle.std.proofs.Common.{◌≡◌, ℕ, Bool, true, false, cond, List, [], ◌∷◌, Option, Some, None, refl, sym, ap, ◌∙◌}
 use Rattle.std.specs.Prelude.{◌&&◌}
 use Rattle.std.proofs.lemmas.Bool.Decides.{Decides-eqb}
-use Rattle.rhai_values.specs.Value.{Value, is_hashable}
+use Rattle.rhai_base.specs.Value.{Value, is_hashable}
 use Rattle.rhai_meaning.specs.Constants.{constant_value}
 use Rattle.rhai_meaning.specs.Control.{case_for, ranges_with, or_ranges}
 use Rattle.rhai_meaning.specs.Engine.{Engine}

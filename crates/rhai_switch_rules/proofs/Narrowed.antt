@@ -3,8 +3,8 @@ use Rattle.std.proofs.Common.{◌≡◌, ℕ, suc, ◌+◌, ◌<◌, ◌≤◌, 
 use Rattle.std.specs.Prelude.{◌||◌, ◌==◌}
 use Rattle.std.specs.Option.{option_map}
 use Rattle.std.proofs.lemmas.Bool.Decides.{Decides-eqb}
-use Rattle.rhai_names.specs.Names.{are_all}
-use Rattle.rhai_values.specs.Value.{Value, same, is_hashable}
+use Rattle.rhai_tokens.specs.Names.{are_all}
+use Rattle.rhai_base.specs.Value.{Value, same, is_hashable}
 use Rattle.rhai_meaning.specs.Constants.{constant_value}
 use Rattle.rhai_meaning.specs.Control.{holds, ranges_with, case_for, or_ranges, chosen}
 use Rattle.rhai_meaning.specs.Shape.{names_arm, is_table}

@@ -2,7 +2,7 @@
 use Rattle.std.proofs.Common.{◌≡◌, ℕ, suc, ◌+◌, ◌<◌, ◌≤◌, Bool, true, false, cond, not, List, [], ◌∷◌, ◌++◌, Option, Some, None, length, refl, sym, ap, ◌∙◌, subst, arith}
 use Rattle.std.specs.Prelude.{◌||◌, ◌&&◌, nat_lt}
 use Rattle.std.proofs.lemmas.Bool.Decides.{nat_tests}
-use Rattle.rhai_values.specs.Value.{Value, same}
+use Rattle.rhai_base.specs.Value.{Value, same}
 use Rattle.rhai_meaning.specs.Control.{case_for}
 use Rattle.rhai_meaning.specs.Tree.{Expr, Arms, SwitchCase, SwitchRange, SwitchTable, Switch}
 use Rattle.rhai_meaning.specs.Walk.{arms_of_cases, arms_of_ranges, arm_of_default, listed}

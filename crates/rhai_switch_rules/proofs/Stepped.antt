@@ -11,14 +11,14 @@ use Rattle.rhai_tree.specs.declared.stmt.FlowControl.{FlowControl}
 use Rattle.rhai_tree.specs.declared.stmt.Stmt as declared_stmt
 use Rattle.rhai_tree.specs.declared.switch.SwitchBlock.{SwitchBlock}
 use Rattle.rhai_tree.specs.declared.switch.SwitchCasesCollection.{SwitchCasesCollection}
-use Rattle.rhai_values.specs.Value.{Value}
+use Rattle.rhai_base.specs.Value.{Value}
 use Rattle.rhai_meaning.specs.Constants.{constant_value}
 use Rattle.rhai_meaning.specs.Control.{case_for}
 use Rattle.rhai_meaning.specs.Engine.{Engine}
 use Rattle.rhai_meaning.specs.Shape.{names_arm}
 use Rattle.rhai_meaning.specs.Tree.{Expr, Arms, count_arms, Stmt, Switch, SwitchTable}
 use Rattle.rhai_meaning.specs.Walk.{listed}
-use Rattle.rhai_reading.specs.Reading.{arms_of, cases_of, expr_of, expressions_of, subject_of, table_by, table_of}
+use Rattle.rhai_tree.specs.Reading.{arms_of, cases_of, expr_of, expressions_of, subject_of, table_by, table_of}
 use Rattle.rhai_rewriting.specs.Context.{Context}
 use Rattle.rhai_rewriting.specs.Rewriting.{StmtTo}
 use Rattle.rhai_rewriting.specs.Rules.{StmtRule}

@@ -1,6 +1,6 @@
 -- What a `switch` is decided to by its subject and the conditions of its arms.
 use Rattle.std.specs.Prelude.{◌≡◌, ℕ, Bool, true, false, cond, Option, Some, None, ◌==◌}
-use Rattle.rhai_values.specs.Value.{Value, is_hashable}
+use Rattle.rhai_base.specs.Value.{Value, is_hashable}
 use Rattle.rhai_meaning.specs.Constants.{constant_value}
 use Rattle.rhai_meaning.specs.Control.{chosen}
 use Rattle.rhai_meaning.specs.Engine.{Engine}

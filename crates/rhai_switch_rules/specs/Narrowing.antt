@@ -1,6 +1,6 @@
 -- Tables of which something goes over a constant subject: what does not stand for it.
 use Rattle.std.specs.Prelude.{ℕ, Bool, true, false, not, ◌||◌, cond, List, [], ◌∷◌, length, nat_lt, Option, Some, None}
-use Rattle.rhai_values.specs.Value.{Value, same}
+use Rattle.rhai_base.specs.Value.{Value, same}
 use Rattle.rhai_meaning.specs.Control.{holds}
 use Rattle.rhai_meaning.specs.Tree.{Arms, SwitchCase, SwitchRange, SwitchTable}
 use Rattle.rhai_rewriting.specs.Tables.{arm_of, arm_decides, left_arms}

@@ -1,12 +1,12 @@
 -- What comes of the table of a `switch`.
 use Rattle.std.specs.Prelude.{◌≡◌, Bool, true, false, List, replicate}
 use Rattle.rhai_tree.specs.declared.switch.SwitchBlock.{SwitchBlock}
-use Rattle.rhai_values.specs.Value.{Value, is_hashable}
+use Rattle.rhai_base.specs.Value.{Value, is_hashable}
 use Rattle.rhai_meaning.specs.Control.{case_for}
 use Rattle.rhai_meaning.specs.Engine.{Engine}
 use Rattle.rhai_meaning.specs.Tree.{Arms, count_arms, Stmt, Switch, SwitchTable}
 use Rattle.rhai_meaning.specs.Walk.{listed}
-use Rattle.rhai_reading.specs.Reading.{arms_of, cases_of, expr_of, expressions_of, subject_of, table_of}
+use Rattle.rhai_tree.specs.Reading.{arms_of, cases_of, expr_of, expressions_of, subject_of, table_of}
 use Rattle.rhai_rewriting.specs.Steps.{Progress, StmtFired, KeepsStmtParts}
 use Rattle.rhai_switch_rules.specs.Cases.{AreDistinct}
 use Rattle.rhai_switch_rules.specs.Forgetting.{marked, forgets, loses_answers}

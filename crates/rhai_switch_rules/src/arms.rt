@@ -1,10 +1,10 @@
 //! The arms of a `switch`: what their conditions decide, and arms that are taken out of their places.
 
-#![tactic(auto, using(rhai_reading::specs::Reading::shapes))]
+#![tactic(auto, using(rhai_tree::specs::Reading::shapes))]
 
 ghost use Rattle.std.specs.Prelude.{◌≡◌, ℕ, Some};
 ghost use Rattle.std.specs.Option.{option_map};
-ghost use Rattle.rhai_reading.specs.Reading.{arms_of, expr_of, expressions_of, table_of};
+ghost use Rattle.rhai_tree.specs.Reading.{arms_of, expr_of, expressions_of, table_of};
 ghost use Rattle.rhai_rewriting.specs.Tables as tables;
 ghost use Rattle.rhai_switch_rules.specs.Shrinking as shrinking;
 

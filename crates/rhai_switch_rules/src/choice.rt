@@ -1,11 +1,11 @@
 //! Which arms of a `switch` are left to be tried for a value.
 
-#![tactic(auto, using(rhai_reading::specs::Reading::shapes))]
+#![tactic(auto, using(rhai_tree::specs::Reading::shapes))]
 
 ghost use Rattle.std.specs.Prelude.{◌≡◌, map};
-ghost use Rattle.rhai_values.specs.Reading.{value_of};
+ghost use Rattle.rhai_base.specs.Reading.{value_of};
 ghost use Rattle.rhai_meaning.specs.Control.{chosen, ranges_with};
-ghost use Rattle.rhai_reading.specs.Reading.{arms_of, expressions_of, range_of, table_of};
+ghost use Rattle.rhai_tree.specs.Reading.{arms_of, expressions_of, range_of, table_of};
 ghost use Rattle.rhai_rewriting.specs.Tables.{left_arms};
 ghost use Rattle.rhai_switch_rules.specs.Choices as choices;
 

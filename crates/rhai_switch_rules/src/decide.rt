@@ -1,14 +1,14 @@
 //! A `switch` that its subject decides: an answer, an `if`, or the default.
 
-#![tactic(auto, using(rhai_reading::specs::Reading::shapes))]
+#![tactic(auto, using(rhai_tree::specs::Reading::shapes))]
 
 ghost use Rattle.std.specs.Prelude.{◌≡◌, Bool, IfOk, None, Some};
 ghost use Rattle.std.specs.Option.{option_map};
-ghost use Rattle.rhai_values.specs.Reading.{value_of};
+ghost use Rattle.rhai_base.specs.Reading.{value_of};
 ghost use Rattle.rhai_known.specs.State.{progress};
 ghost use Rattle.rhai_meaning.specs.Constants as constants;
 ghost use Rattle.rhai_meaning.specs.Engine.{Engine};
-ghost use Rattle.rhai_reading.specs.Reading.{arms_of, cases_of, expr_of, expressions_of, stmt_of, subject_of, table_of};
+ghost use Rattle.rhai_tree.specs.Reading.{arms_of, cases_of, expr_of, expressions_of, stmt_of, subject_of, table_of};
 ghost use Rattle.rhai_rewriting.specs.Context.{Context};
 ghost use Rattle.rhai_rewriting.specs.Rules.{StmtRule};
 ghost use Rattle.rhai_rewriting.specs.Tables as tables;

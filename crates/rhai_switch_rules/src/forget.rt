@@ -1,10 +1,10 @@
 //! Arms that no list names: their answers are never asked for.
 
-#![tactic(auto, using(rhai_reading::specs::Reading::shapes))]
+#![tactic(auto, using(rhai_tree::specs::Reading::shapes))]
 
 ghost use Rattle.std.specs.Prelude.{◌≡◌, ◌≤◌, [], ◌∷◌, IfOk, length, map, replicate, false};
 ghost use Rattle.rhai_meaning.specs.Walk.{arms_of_cases, arms_of_ranges, arm_of_default, listed};
-ghost use Rattle.rhai_reading.specs.Reading.{arms_of, case_of, expr_of, expressions_of, range_of, table_of};
+ghost use Rattle.rhai_tree.specs.Reading.{arms_of, case_of, expr_of, expressions_of, range_of, table_of};
 ghost use Rattle.rhai_switch_rules.specs.Forgetting as forgetting;
 
 use rhai_ast::{BinaryExpr, Expr, ExprQueries, SwitchCasesCollection};

@@ -1,13 +1,13 @@
 //! Tables over a constant subject, of which only what stands for it is kept.
 
-#![tactic(auto, using(rhai_reading::specs::Reading::shapes))]
+#![tactic(auto, using(rhai_tree::specs::Reading::shapes))]
 
 ghost use Rattle.std.specs.Prelude.{◌≡◌, None, Some, length, map, not, true};
 ghost use Rattle.std.specs.List.{list_any};
-ghost use Rattle.rhai_values.specs.Reading.{value_of};
-ghost use Rattle.rhai_values.specs.Value.{is_hashable, same};
+ghost use Rattle.rhai_base.specs.Reading.{value_of};
+ghost use Rattle.rhai_base.specs.Value.{is_hashable, same};
 ghost use Rattle.rhai_meaning.specs.Control.{case_for};
-ghost use Rattle.rhai_reading.specs.Reading.{arms_of, case_of, expressions_of, range_of, table_of};
+ghost use Rattle.rhai_tree.specs.Reading.{arms_of, case_of, expressions_of, range_of, table_of};
 ghost use Rattle.rhai_rewriting.specs.Tables.{left_arms};
 ghost use Rattle.rhai_meaning.specs.Walk.{arms_of_ranges};
 ghost use Rattle.rhai_switch_rules.specs.Narrowing as narrowing;

@@ -1,11 +1,11 @@
 //! Tables of which something goes whatever the subject is: false arms and ranges, arms behind a true one, and lists
 //! that are empty then.
 
-#![tactic(auto, using(rhai_reading::specs::Reading::shapes))]
+#![tactic(auto, using(rhai_tree::specs::Reading::shapes))]
 
 ghost use Rattle.std.specs.Prelude.{◌≡◌, length, map};
 ghost use Rattle.std.specs.List.{list_any};
-ghost use Rattle.rhai_reading.specs.Reading.{arms_of, case_of, expressions_of, range_of, table_of};
+ghost use Rattle.rhai_tree.specs.Reading.{arms_of, case_of, expressions_of, range_of, table_of};
 ghost use Rattle.rhai_rewriting.specs.Tables.{left_arms};
 ghost use Rattle.rhai_switch_rules.specs.Cases.{AreDistinct};
 ghost use Rattle.rhai_switch_rules.specs.Shrinking as shrinking;

@@ -1,11 +1,11 @@
 //! One step at a `switch`, in its place.
 
-#![tactic(auto, using(rhai_reading::specs::Reading::shapes))]
+#![tactic(auto, using(rhai_tree::specs::Reading::shapes))]
 
 ghost use Rattle.std.specs.Prelude.{◌≡◌, Bool, IfOk, true};
 ghost use Rattle.rhai_known.specs.State.{progress};
 ghost use Rattle.rhai_meaning.specs.Engine.{Engine};
-ghost use Rattle.rhai_reading.specs.Reading.{stmt_of};
+ghost use Rattle.rhai_tree.specs.Reading.{stmt_of};
 ghost use Rattle.rhai_steps.specs.NodeSteps.{StmtStep};
 ghost use Rattle.rhai_switch_rules.specs.Steps as steps;
 

@@ -1,13 +1,13 @@
 //! The rules by which the table of a `switch` gets smaller, in its own memory.
 
-#![tactic(auto, using(rhai_reading::specs::Reading::shapes))]
+#![tactic(auto, using(rhai_tree::specs::Reading::shapes))]
 
 ghost use Rattle.std.specs.Prelude.{◌≡◌, IfOk, true};
-ghost use Rattle.rhai_values.specs.Reading.{value_of};
-ghost use Rattle.rhai_values.specs.Value.{is_hashable};
+ghost use Rattle.rhai_base.specs.Reading.{value_of};
+ghost use Rattle.rhai_base.specs.Value.{is_hashable};
 ghost use Rattle.rhai_known.specs.State.{progress};
 ghost use Rattle.rhai_meaning.specs.Control.{case_for};
-ghost use Rattle.rhai_reading.specs.Reading.{arms_of, expressions_of, stmt_of, table_of};
+ghost use Rattle.rhai_tree.specs.Reading.{arms_of, expressions_of, stmt_of, table_of};
 ghost use Rattle.rhai_switch_rules.specs.Narrowing as narrowing;
 ghost use Rattle.rhai_switch_rules.specs.Shrinking as shrinking;
 ghost use Rattle.rhai_switch_rules.specs.Steps as steps;

@@ -1,6 +1,6 @@
 -- Literals of constants that fold to their value.
 use Rattle.std.proofs.Common.{◌≡◌, Bool, true, false, List, Option, Some, None, refl, sym, ap, ◌∙◌, subst}
-use Rattle.rhai_values.specs.Value.{Text, Value, TextV, MapV}
+use Rattle.rhai_base.specs.Value.{Text, Value, TextV, MapV}
 use Rattle.rhai_meaning.specs.Constants.{constant_for, constant_value, constant_values, constant_entries, joined_value, map_value, literal_value}
 use Rattle.rhai_meaning.specs.Control.{texts_joined}
 use Rattle.rhai_meaning.specs.Elements.{fields_of}

@@ -1,1 +1,3 @@
+pub mod Paths
+pub mod Words
 pub mod Applied

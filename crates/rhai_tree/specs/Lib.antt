@@ -1,2 +1,4 @@
+pub mod Positions
+pub mod Reading
 pub mod Defaults
 pub mod Lends

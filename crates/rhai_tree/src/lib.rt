@@ -1,4 +1,4 @@
-//! The syntax tree: its declared types, and copies of trees.
+//! The syntax tree: its declared types, copies of trees, and which tree of the meaning each stands for.
 #![tactic(auto)]
 
 mod block;

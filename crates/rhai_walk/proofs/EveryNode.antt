@@ -8,7 +8,7 @@ use Rattle.rhai_meaning.specs.Walk.{Node, over_functions, over_stmts}
 use Rattle.rhai_meaning.proofs.Truth.{and_assoc}
 use Rattle.rhai_tree.specs.declared.script_fn.ScriptFuncDef.{ScriptFuncDef}
 use Rattle.rhai_tree.specs.declared.stmt.Stmt.{Stmt}
-use Rattle.rhai_reading.specs.Reading.{function_of, stmts_of}
+use Rattle.rhai_tree.specs.Reading.{function_of, stmts_of}
 use Rattle.rhai_walk.specs.Children.{children, over_children, over_parts}
 use Rattle.rhai_walk.specs.Left.{left_of, statements_left}
 use Rattle.rhai_walk.specs.declared.children.Children.{Children}

@@ -3,7 +3,7 @@ use Rattle.std.proofs.Common.{◌≡◌, ℕ, zero, suc, List, [], ◌∷◌, �
 use Rattle.rhai_tree.specs.declared.expr.BinaryExpr.{BinaryExpr}
 use Rattle.rhai_meaning.specs.Walk.{arm_at, arm_of_default, arms_at}
 use Rattle.rhai_tree.specs.declared.switch.SwitchCasesCollection.{SwitchCasesCollection}
-use Rattle.rhai_reading.specs.Reading.{expressions_of, table_of}
+use Rattle.rhai_tree.specs.Reading.{expressions_of, table_of}
 use Rattle.rhai_walk.specs.Arms.{places_left}
 use Rattle.rhai_walk.specs.declared.arms.ListedArms.{ListedArms}
 use Rattle.std.specs.Borrow.{Bor}

@@ -3,7 +3,7 @@ use Rattle.std.specs.Prelude.{Bool, true, false, List, map, Option}
 use Rattle.std.specs.Iterator.{YieldsFirstBy}
 use Rattle.rhai_tree.specs.declared.stmt.Stmt.{Stmt}
 use Rattle.rhai_meaning.specs.Walk.{over_stmts}
-use Rattle.rhai_reading.specs.Reading.{stmts_of}
+use Rattle.rhai_tree.specs.Reading.{stmts_of}
 use Rattle.rhai_walk.specs.Children as theory
 use Rattle.rhai_walk.specs.Children.{one_step}
 use Rattle.rhai_walk.specs.Nodes.{child_of}

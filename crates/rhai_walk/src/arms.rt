@@ -1,12 +1,12 @@
 //! The arms that the table of a `switch` lists.
 
-#![tactic(auto, using(rhai_reading::specs::Reading::shapes))]
+#![tactic(auto, using(rhai_tree::specs::Reading::shapes))]
 
 ghost use Rattle.std.specs.Prelude.{◌≡◌, [], ◌∷◌, ◌++◌, MatchOption};
 ghost use Rattle.rhai_walk.specs.Arms.{default_of, places_left, ranges_left};
 ghost use Rattle.rhai_walk.specs.Standing.{arms_standing, default_standing, listed_standing, sides_standing};
 ghost use Rattle.rhai_meaning.specs.Walk.{listed};
-ghost use Rattle.rhai_reading.specs.Reading.{expressions_of, table_of};
+ghost use Rattle.rhai_tree.specs.Reading.{expressions_of, table_of};
 
 use rhai_tree::{BinaryExpr, SwitchCasesCollection};
 

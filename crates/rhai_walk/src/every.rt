@@ -1,11 +1,11 @@
 //! A question to every node of a tree.
 
-#![tactic(auto, using(rhai_reading::specs::Reading::shapes, crate::proofs::EveryNode::bodies))]
+#![tactic(auto, using(rhai_tree::specs::Reading::shapes, crate::proofs::EveryNode::bodies))]
 
 ghost use Rattle.std.specs.Prelude.{◌≡◌, Bool, map};
 ghost use Rattle.rhai_meaning.specs.Plain.{all_true};
 ghost use Rattle.rhai_meaning.specs.Walk.{Node, over_functions, over_stmts};
-ghost use Rattle.rhai_reading.specs.Reading.{function_of, stmts_of};
+ghost use Rattle.rhai_tree.specs.Reading.{function_of, stmts_of};
 ghost use Rattle.rhai_walk.specs.Children.{over_children, over_parts};
 ghost use Rattle.rhai_walk.specs.Left.{left_of};
 ghost use Rattle.rhai_walk.specs.Nodes.{node_of};

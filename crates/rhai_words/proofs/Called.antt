@@ -2,7 +2,7 @@
 use Rattle.std.proofs.Common.{◌≡◌, Bool, true, false, List, Option, Some, None, refl, ap, if◌then◌else◌}
 use Rattle.std.specs.Prelude.{codes}
 use Rattle.std.specs.Option.{option_map}
-use Rattle.rhai_values.specs.Value.{Text, Value, same_text}
+use Rattle.rhai_base.specs.Value.{Text, Value, same_text}
 use Rattle.rhai_meaning.specs.Engine.{Engine}
 use Rattle.rhai_meaning.specs.Shape.{is_none}
 use Rattle.rhai_meaning.specs.Tree.{Callee}

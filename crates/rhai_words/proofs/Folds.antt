@@ -3,8 +3,8 @@ use Rattle.std.proofs.Common.{◌≡◌, Bool, true, false, List, [], ◌∷◌,
 use Rattle.std.specs.Prelude.{codes}
 use Rattle.std.specs.Option.{option_map}
 use Rattle.std.proofs.lemmas.Slice.Eq.{bytes_eq-Decides}
-use Rattle.rhai_values.specs.Value.{Text, Value, UnitV, TextV, PointerV, Values, no_values, items, values, same_text, is_unit}
-use Rattle.rhai_names.specs.Names.{is_valid_name}
+use Rattle.rhai_base.specs.Value.{Text, Value, UnitV, TextV, PointerV, Values, no_values, items, values, same_text, is_unit}
+use Rattle.rhai_tokens.specs.Names.{is_valid_name}
 use Rattle.rhai_meaning.specs.Constants.{constant_value, constant_values, constant_for}
 use Rattle.rhai_meaning.specs.Engine.{Engine}
 use Rattle.rhai_meaning.specs.Tree.{CallToken, NoToken, OfOperator, OfOther, Callee, Expr, DynamicConstant, FnCall, Exprs, no_exprs, expr, Stmt, ExprStmt, FnCallStmt}

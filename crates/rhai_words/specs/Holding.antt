@@ -1,6 +1,6 @@
 -- The constant that holds a value was put in an expression's place, or in a statement's.
 use Rattle.std.specs.Prelude.{◌≡◌, true}
-use Rattle.rhai_values.specs.Value.{Value}
+use Rattle.rhai_base.specs.Value.{Value}
 use Rattle.rhai_meaning.specs.Tree.{Expr, Stmt, ExprStmt}
 use Rattle.rhai_rewriting.specs.Parts.{constant_of}
 use Rattle.rhai_rewriting.specs.Steps.{Progress}

@@ -1,9 +1,9 @@
 -- What calls over constants answer without asking the host.
 use Rattle.std.specs.Prelude.{Bool, true, false, List, [], ◌∷◌, ◌++◌, map, Option, Some, None, codes, if◌then◌else◌}
 use Rattle.std.specs.Option.{option_map}
-use Rattle.rhai_values.specs.declared.fn_ptr.FnPtr.{FnPtr}
-use Rattle.rhai_values.specs.Reading.{value_of}
-use Rattle.rhai_values.specs.Value.{Text, Value, BoolV, TextV, PointerV, items, values, same_text}
+use Rattle.rhai_base.specs.declared.fn_ptr.FnPtr.{FnPtr}
+use Rattle.rhai_base.specs.Reading.{value_of}
+use Rattle.rhai_base.specs.Value.{Text, Value, BoolV, TextV, PointerV, items, values, same_text}
 use Rattle.rhai_meaning.specs.Constants.{constant_values, pointer_to}
 use Rattle.rhai_meaning.specs.Engine.{Engine, mapped_type_name}
 use Rattle.rhai_meaning.specs.Shape.{is_none}

@@ -1,14 +1,14 @@
 //! What calls over constants answer, a rule each. Which call it is, and whether its arguments are constants, is asked
 //! by reference.
 
-#![tactic(auto, using(rhai_reading::specs::Reading::shapes, rhai_values::specs::Reading::kinds))]
+#![tactic(auto, using(rhai_tree::specs::Reading::shapes, rhai_base::specs::Reading::kinds))]
 
 ghost use Rattle.std.specs.Prelude.{◌≡◌, IfOk, Some};
 ghost use Rattle.std.specs.Cow.{cow_value};
 ghost use Rattle.std.specs.Option.{option_map};
-ghost use Rattle.rhai_values.specs.Reading.{value_of};
+ghost use Rattle.rhai_base.specs.Reading.{value_of};
 ghost use Rattle.rhai_nodes.specs.Lent.{lent_value};
-ghost use Rattle.rhai_reading.specs.Reading.{callee_of, expr_of, exprs_of};
+ghost use Rattle.rhai_tree.specs.Reading.{callee_of, expr_of, exprs_of};
 ghost use Rattle.rhai_meaning.specs.Constants as constants;
 ghost use Rattle.rhai_engine.specs.EngineInfo.{engine_of};
 ghost use Rattle.rhai_rewriting.specs.Folding as folding;

@@ -1,11 +1,11 @@
 //! What call statements over constants answer, a rule each: as the rule of the call as an expression says.
 
-#![tactic(auto, using(rhai_reading::specs::Reading::shapes, rhai_values::specs::Reading::kinds))]
+#![tactic(auto, using(rhai_tree::specs::Reading::shapes, rhai_base::specs::Reading::kinds))]
 
 ghost use Rattle.std.specs.Prelude.{◌≡◌, IfOk};
 ghost use Rattle.std.specs.Option.{option_map};
-ghost use Rattle.rhai_values.specs.Reading.{value_of};
-ghost use Rattle.rhai_reading.specs.Reading.{callee_of, exprs_of};
+ghost use Rattle.rhai_base.specs.Reading.{value_of};
+ghost use Rattle.rhai_tree.specs.Reading.{callee_of, exprs_of};
 ghost use Rattle.rhai_meaning.specs.Constants as constants;
 ghost use Rattle.rhai_engine.specs.EngineInfo.{engine_of};
 ghost use Rattle.rhai_rewriting.specs.Folding as folding;

@@ -1,13 +1,13 @@
 //! The rules at a call, as an expression and as a statement: what it answers over constants takes its place. That is
 //! neither a name nor unit, so it may stand wherever the call does.
 
-#![tactic(auto, using(rhai_reading::specs::Reading::shapes))]
+#![tactic(auto, using(rhai_tree::specs::Reading::shapes))]
 
 ghost use Rattle.std.specs.Prelude.{◌≡◌, IfOk, Bool, true};
 ghost use Rattle.std.specs.Option.{option_map};
-ghost use Rattle.rhai_values.specs.Reading.{value_of};
+ghost use Rattle.rhai_base.specs.Reading.{value_of};
 ghost use Rattle.rhai_known.specs.State.{progress};
-ghost use Rattle.rhai_reading.specs.Reading.{expr_of, stmt_of};
+ghost use Rattle.rhai_tree.specs.Reading.{expr_of, stmt_of};
 ghost use Rattle.rhai_engine.specs.EngineInfo.{engine_of};
 ghost use Rattle.rhai_rewriting.specs.Steps.{Place};
 ghost use Rattle.rhai_steps.specs.NodeSteps.{ExprStep, StmtStep};

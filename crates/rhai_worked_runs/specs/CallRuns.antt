@@ -1,6 +1,6 @@
 -- More runs, computed: entries at functions, pointers, hosts by rows, faults.
 use Rattle.std.specs.Prelude.{◌≡◌, true, false, [], ◌∷◌, Some, None, negsuc, codes, refl}
-use Rattle.rhai_values.specs.Value.{UnitV, CharV, TextV, ArrayV, MapV, values, field, no_fields}
+use Rattle.rhai_base.specs.Value.{UnitV, CharV, TextV, ArrayV, MapV, values, field, no_fields}
 use Rattle.rhai_meaning.specs.Act.{WrongKind, NoPlace, UnboundThis, Answers, AnswersThrow}
 use Rattle.rhai_base.specs.Operators.{Plus, UpTo}
 use Rattle.rhai_meaning.specs.Host.{host_of}

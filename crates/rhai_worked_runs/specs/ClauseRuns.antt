@@ -1,7 +1,7 @@
 -- Runs for single clauses: indices, methods without a place, ranges, loop names, statements without a value, the start.
 use Rattle.std.specs.Prelude.{◌≡◌, ℕ, true, false, List, [], ◌∷◌, Option, Some, None, map, pos, codes, refl}
 use Prim.Native.String.{String}
-use Rattle.rhai_values.specs.Value.{Value, UnitV, BoolV, CharV, TextV, MapV, ArrayV, PointerV, values, field, no_fields}
+use Rattle.rhai_base.specs.Value.{Value, UnitV, BoolV, CharV, TextV, MapV, ArrayV, PointerV, values, field, no_fields}
 use Rattle.rhai_base.specs.Operators.{Plus, UpTo}
 use Rattle.rhai_meaning.specs.Act.{Answers, NoPlace, Unbound, UnboundThis}
 use Rattle.rhai_meaning.specs.Run.{AtStatements, Report, End, WithStuck}

@@ -1,6 +1,6 @@
 -- Runs of small scripts for single sentences of the meaning, each as an evaluator of its own computed it.
 use Rattle.std.specs.Prelude.{◌≡◌, true, false, [], ◌∷◌, None, Some, pos, negsuc, codes, refl}
-use Rattle.rhai_values.specs.Value.{UnitV, BoolV, IntV, CharV, TextV, ArrayV, MapV, PointerV, RangeV, RangeInclusiveV, values, field, no_fields}
+use Rattle.rhai_base.specs.Value.{UnitV, BoolV, IntV, CharV, TextV, ArrayV, MapV, PointerV, RangeV, RangeInclusiveV, values, field, no_fields}
 use Rattle.rhai_base.specs.Operators.{Plus}
 use Rattle.rhai_meaning.specs.Act.{Answers, Unbound, WrongKind, WriteToConstant, NoPlace, UnboundThis}
 use Rattle.rhai_meaning.specs.Run.{AtStatements, WithValue, WithThrown, WithStuck}

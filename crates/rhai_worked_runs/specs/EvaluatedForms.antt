@@ -1,6 +1,6 @@
 -- Short forms for runs that an evaluator of its own computed: scripts, hosts by the number of past calls, reports.
 use Rattle.std.specs.Prelude.{ℕ, zero, suc, Bool, false, cond, List, [], ◌∷◌, length, Option, None, Some}
-use Rattle.rhai_values.specs.Value.{Text, Value, UnitV, same_text, text_of}
+use Rattle.rhai_base.specs.Value.{Text, Value, UnitV, same_text, text_of}
 use Rattle.rhai_base.specs.Operators.{computed, on_chars}
 use Rattle.rhai_meaning.specs.Act.{ScopeEntry, HostCall, Key, Host, Answer, Answers}
 use Rattle.rhai_meaning.specs.Control.{texts_joined}

@@ -1,6 +1,6 @@
 -- Runs of scripts that print as others do, made at random, as an evaluator of its own computed them.
 use Rattle.std.specs.Prelude.{◌≡◌, true, false, [], ◌∷◌, None, Some, pos, negsuc, codes, refl}
-use Rattle.rhai_values.specs.Value.{UnitV, BoolV, IntV, CharV, TextV, ArrayV, MapV, PointerV, RangeV, RangeInclusiveV, values, field, no_fields}
+use Rattle.rhai_base.specs.Value.{UnitV, BoolV, IntV, CharV, TextV, ArrayV, MapV, PointerV, RangeV, RangeInclusiveV, values, field, no_fields}
 use Rattle.rhai_base.specs.Operators.{Plus, Divide, EqualTo, Not}
 use Rattle.rhai_meaning.specs.Act.{Answers, WrongKind, AnswersThrow}
 use Rattle.rhai_meaning.specs.Run.{AtStatements, WithStuck}

@@ -1,7 +1,7 @@
 -- Worked runs of imports, aliases and exports.
 use Rattle.std.specs.Prelude.{◌≡◌, true, false, List, [], ◌∷◌, Some, None, codes, refl}
 use Prim.Native.String.{String}
-use Rattle.rhai_values.specs.Value.{Text, Value, UnitV, TextV}
+use Rattle.rhai_base.specs.Value.{Text, Value, UnitV, TextV}
 use Rattle.rhai_base.specs.Operators.{Plus}
 use Rattle.rhai_meaning.specs.Act.{HostCall, ScopeEntry, IsAlias, IsExport, Unbound, WrongKind, WriteToConstant, UnknownModule, resolved, put, found}
 use Rattle.rhai_meaning.specs.Calls.{key}

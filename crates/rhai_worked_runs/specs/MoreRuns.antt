@@ -1,6 +1,6 @@
 -- More runs: what the engine's record fixes, calls, and scripts that are optimised elsewhere, as they are written.
 use Rattle.std.specs.Prelude.{◌≡◌, ℕ, true, false, List, [], ◌∷◌, Some, None, pos, codes, refl}
-use Rattle.rhai_values.specs.Value.{UnitV, BoolV, TextV, ArrayV, values}
+use Rattle.rhai_base.specs.Value.{UnitV, BoolV, TextV, ArrayV, values}
 use Rattle.rhai_base.specs.Operators.{EqualTo, Plus, Minus, Multiply, Divide}
 use Rattle.rhai_meaning.specs.Act.{AnswersThrow, WrongKind}
 use Rattle.rhai_meaning.specs.Engine.{Engine}

@@ -1,6 +1,6 @@
 -- The paths to the nodes of a tree, and its weight, row by row.
 use Rattle.std.specs.Prelude.{◌≡◌, ℕ, true, false, List, [], ◌∷◌, length, Some, None, pos, codes, refl, nat_lt, if◌then◌else◌}
-use Rattle.rhai_values.specs.Value.{IntV}
+use Rattle.rhai_base.specs.Value.{IntV}
 use Rattle.rhai_base.specs.Operators.{Plus, Multiply}
 use Rattle.rhai_meaning.specs.Paths.{Path, script_paths, stmts_paths, stmt_paths}
 use Rattle.rhai_meaning.specs.Tree.{Expr, BoolConstant, DynamicConstant, UnitConstant, ThisPtr, InterpolatedString, BlockExpr, And, Coalesce, ExclusiveInt, Stmt, Noop, If, Switch, While, Do, For, Block, TryCatch, ExprStmt, FnCallStmt, Assignment, BreakLoop, Return, Import, Export, Share, an_expr, no_expr, arms, no_stmts, exprs, stmts}

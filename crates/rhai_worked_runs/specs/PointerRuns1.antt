@@ -1,6 +1,6 @@
 -- Runs with pointers that hold values, of scripts made at random, as an evaluator of its own computed them.
 use Rattle.std.specs.Prelude.{◌≡◌, true, false, [], ◌∷◌, None, Some, pos, negsuc, codes, refl}
-use Rattle.rhai_values.specs.Value.{UnitV, BoolV, IntV, CharV, TextV, ArrayV, MapV, PointerV, RangeV, RangeInclusiveV, values, field, no_fields}
+use Rattle.rhai_base.specs.Value.{UnitV, BoolV, IntV, CharV, TextV, ArrayV, MapV, PointerV, RangeV, RangeInclusiveV, values, field, no_fields}
 use Rattle.rhai_base.specs.Operators.{Plus, Minus, Multiply, Divide, Modulo, ShiftLeft, BitAnd, BitOr, BitXor, EqualTo, NotEqualTo, Less, Greater, LessOrEqual, GreaterOrEqual, Not}
 use Rattle.rhai_meaning.specs.Act.{Answers, Unbound, WriteToConstant, NoPlace, UnboundThis, AnswersThrow}
 use Rattle.rhai_meaning.specs.Run.{AtStatements, WithValue, WithThrown, WithStuck, WithoutTurns}

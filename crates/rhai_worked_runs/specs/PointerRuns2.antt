@@ -1,6 +1,6 @@
 -- More runs with pointers that hold values.
 use Rattle.std.specs.Prelude.{◌≡◌, true, false, [], ◌∷◌, None, Some, pos, negsuc, codes, refl}
-use Rattle.rhai_values.specs.Value.{UnitV, BoolV, IntV, CharV, TextV, ArrayV, MapV, PointerV, RangeV, RangeInclusiveV, values, field, no_fields}
+use Rattle.rhai_base.specs.Value.{UnitV, BoolV, IntV, CharV, TextV, ArrayV, MapV, PointerV, RangeV, RangeInclusiveV, values, field, no_fields}
 use Rattle.rhai_base.specs.Operators.{Plus, Minus, Multiply, Divide, Modulo, Power, ShiftLeft, ShiftRight, BitAnd, BitOr, BitXor, Less, Greater, GreaterOrEqual, UpTo, Through, Not}
 use Rattle.rhai_meaning.specs.Act.{Answers, Unbound, WrongKind, WriteToConstant, NoPlace, AnswersThrow}
 use Rattle.rhai_meaning.specs.Run.{AtStatements, WithValue, WithThrown, WithStuck, WithoutTurns}

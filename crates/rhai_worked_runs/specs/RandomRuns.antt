@@ -1,6 +1,6 @@
 -- Runs of scripts made at random, as an evaluator of its own computed them.
 use Rattle.std.specs.Prelude.{◌≡◌, true, false, [], ◌∷◌, None, Some, pos, negsuc, codes, refl}
-use Rattle.rhai_values.specs.Value.{UnitV, BoolV, IntV, CharV, TextV, ArrayV, MapV, PointerV, RangeV, RangeInclusiveV, values, field, no_fields}
+use Rattle.rhai_base.specs.Value.{UnitV, BoolV, IntV, CharV, TextV, ArrayV, MapV, PointerV, RangeV, RangeInclusiveV, values, field, no_fields}
 use Rattle.rhai_base.specs.Operators.{Plus, Minus, Multiply, Divide, Modulo, Power, ShiftLeft, ShiftRight, BitAnd, BitOr, BitXor, EqualTo, NotEqualTo, Less, Greater, LessOrEqual, GreaterOrEqual, UpTo, Through, Not}
 use Rattle.rhai_meaning.specs.Act.{Answers, Unbound, WrongKind, WriteToConstant, NoPlace, UnboundThis, AnswersThrow}
 use Rattle.rhai_meaning.specs.Run.{AtStatements, WithValue, WithThrown, WithStuck, AtFunction, WithoutTurns}

@@ -1,6 +1,6 @@
 -- Runs for single cases of the definitions: places, receivers, left sides, loops and kinds.
 use Rattle.std.specs.Prelude.{◌≡◌, ℕ, Bool, true, false, List, [], ◌∷◌, Option, Some, None, codes, refl}
-use Rattle.rhai_values.specs.Value.{UnitV, BoolV, CharV, TextV, ArrayV, values}
+use Rattle.rhai_base.specs.Value.{UnitV, BoolV, CharV, TextV, ArrayV, values}
 use Rattle.rhai_base.specs.Operators.{Plus, Minus, UpTo, Through}
 use Rattle.rhai_meaning.specs.Calls.{key}
 use Rattle.rhai_meaning.specs.Act.{Unbound, WrongKind, WriteToConstant, NoPlace, CounterTooLarge, Answers, Acts, Only, Fail}

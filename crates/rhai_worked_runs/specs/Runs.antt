@@ -1,7 +1,7 @@
 -- Runs of small scripts, computed from the definitions alone.
 use Rattle.std.specs.Prelude.{◌≡◌, ℕ, true, false, List, [], ◌∷◌, Some, None, pos, negsuc, codes, refl}
 use Prim.Native.String.{String}
-use Rattle.rhai_values.specs.Value.{Value, UnitV, BoolV, TextV, ArrayV, MapV, values, field, no_fields, text_of}
+use Rattle.rhai_base.specs.Value.{Value, UnitV, BoolV, TextV, ArrayV, MapV, values, field, no_fields, text_of}
 use Rattle.rhai_meaning.specs.Act.{HostCall, ScopeEntry, Unbound, WrongKind, WriteToConstant, Answers}
 use Rattle.rhai_base.specs.Operators.{Plus, Divide, Minus, Multiply, LessOrEqual, Not, computed}
 use Rattle.rhai_meaning.specs.Engine.{Engine}

@@ -1,7 +1,7 @@
 -- Short forms for trees that are written by hand, and the host of the program.
 use Rattle.std.specs.Prelude.{ℕ, true, false, List, [], ◌∷◌, ◌++◌, Option, Some, None, codes, if◌then◌else◌}
 use Prim.Native.String.{String}
-use Rattle.rhai_values.specs.Value.{Value, UnitV, BoolV, TextV, ArrayV, items, values, same_text, text_of}
+use Rattle.rhai_base.specs.Value.{Value, UnitV, BoolV, TextV, ArrayV, items, values, same_text, text_of}
 use Rattle.rhai_meaning.specs.Act.{IsVariable, IsConstant, HostCall, ScopeEntry, Host, Answer, Answers}
 use Rattle.rhai_meaning.specs.Engine.{Engine}
 use Rattle.rhai_meaning.specs.Tree.{Callee, NoToken, Function, Expr, Stmt, Stmts, Variable, FnCall, Dot, Index, Property, MethodCall, exprs, Var, ArrayOf, MapOf, pair, no_pairs}

@@ -1,6 +1,6 @@
 -- Answers for single cases of the definitions: queries, faults, plain scripts, the order of the walk, paths.
 use Rattle.std.specs.Prelude.{◌≡◌, ℕ, Bool, true, false, List, [], ◌∷◌, ◌++◌, Option, Some, None, pos, codes, refl, option_map, map, length}
-use Rattle.rhai_values.specs.Value.{BoolV}
+use Rattle.rhai_base.specs.Value.{BoolV}
 use Rattle.rhai_base.specs.Operators.{Plus, Multiply}
 use Rattle.rhai_tokens.specs.declared.token.Token.TheVariants as token
 use Rattle.rhai_tokens.specs.Refusals.{number_of_fault}

@@ -1,7 +1,7 @@
 -- Tests of trees and queries, row by row.
 use Rattle.std.specs.Prelude.{◌≡◌, ℕ, Bool, true, false, List, [], ◌∷◌, Option, Some, None, pos, negsuc, codes, refl, map, option_map}
 use Prim.Native.String.{String}
-use Rattle.rhai_values.specs.Value.{Value, UnitV, IntV, TextV, ArrayV, MapV, PointerV, RangeV, RangeInclusiveV, no_values, values, field, no_fields}
+use Rattle.rhai_base.specs.Value.{Value, UnitV, IntV, TextV, ArrayV, MapV, PointerV, RangeV, RangeInclusiveV, no_values, values, field, no_fields}
 use Rattle.rhai_base.specs.Operators.{Plus, UpTo, Through, binary}
 use Rattle.rhai_tokens.specs.declared.token.Token.TheVariants as token
 use Rattle.rhai_meaning.specs.Constants.{is_constant, literal_value, constant_for}

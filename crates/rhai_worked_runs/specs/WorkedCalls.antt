@@ -1,7 +1,7 @@
 -- Worked runs of calls: the language's own functions, function pointers and script functions.
 use Rattle.std.specs.Prelude.{◌≡◌, Bool, true, false, List, [], ◌∷◌, Some, None, codes, refl}
 use Prim.Native.String.{String}
-use Rattle.rhai_values.specs.Value.{Text, Value, UnitV, TextV, PointerV, values}
+use Rattle.rhai_base.specs.Value.{Text, Value, UnitV, TextV, PointerV, values}
 use Rattle.rhai_base.specs.Operators.{computed}
 use Rattle.rhai_meaning.specs.Act.{IsVariable, ScopeEntry, Unbound, WrongKind, Key, Gives, Ended, At, ScriptCall, run_all, IsStuck, OutOfTurns, Halted, World, Invoke}
 use Rattle.rhai_meaning.specs.Calls.{key, call_named, call_pointer}

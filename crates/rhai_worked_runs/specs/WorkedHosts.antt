@@ -1,6 +1,6 @@
 -- Worked runs with hosts by rows, and with records that let the host answer operators.
 use Rattle.std.specs.Prelude.{◌≡◌, true, false, List, [], ◌∷◌, Some, None, pos, codes, refl}
-use Rattle.rhai_values.specs.Value.{Value, UnitV, BoolV, TextV, RangeV}
+use Rattle.rhai_base.specs.Value.{Value, UnitV, BoolV, TextV, RangeV}
 use Rattle.rhai_base.specs.Operators.{Plus, UpTo}
 use Rattle.rhai_meaning.specs.Act.{HostCall, Answers, AnswersThrow, Host}
 use Rattle.rhai_meaning.specs.Host.{Row, host_of}

@@ -1,7 +1,7 @@
 -- Worked runs of acts: names, `this`, braces, ends, loops and turns.
 use Rattle.std.specs.Prelude.{◌≡◌, ℕ, true, false, List, [], ◌∷◌, Some, None, codes, refl}
 use Prim.Native.String.{String}
-use Rattle.rhai_values.specs.Value.{Value, UnitV, TextV}
+use Rattle.rhai_base.specs.Value.{Value, UnitV, TextV}
 use Rattle.rhai_meaning.specs.Act.{IsVariable, IsConstant, ScopeEntry, Store, Unbound, UnboundThis, WriteToConstant, WrongKind, Ending, Exit, Returns, Breaks, Continues, Throws, Again, Gives, Leaves, IsStuck, OutOfTurns, Ended, Halted, Result, At, Root, OfName, OfThis, Act, Stop, Fail, Then, Turn, Read, Write, Invoke, Loop, Scoped, Acts, Only, Named, Finish, Env, World, run, run_all}
 use Rattle.rhai_meaning.specs.ActForms.{give, unit, ◌>>=◌, then_line, on_throw, end_round, again_then, ask_host, ask_method}
 use Rattle.rhai_meaning.specs.Engine.{Engine}

@@ -1,6 +1,6 @@
 -- Worked runs of small scripts, computed from the definitions alone: constants, operators, blocks and lists.
 use Rattle.std.specs.Prelude.{◌≡◌, true, false, [], ◌∷◌, codes, refl}
-use Rattle.rhai_values.specs.Value.{UnitV, BoolV, CharV, TextV, ArrayV, values}
+use Rattle.rhai_base.specs.Value.{UnitV, BoolV, CharV, TextV, ArrayV, values}
 use Rattle.rhai_base.specs.Operators.{Plus, Not}
 use Rattle.rhai_meaning.specs.Act.{WrongKind}
 use Rattle.rhai_meaning.specs.Run.{WithValue, WithThrown, WithStuck}

@@ -1,6 +1,6 @@
 -- Worked answers on trees: the walk, faults, constants and what belongs to its block.
 use Rattle.std.specs.Prelude.{◌≡◌, ℕ, true, false, List, [], ◌∷◌, ◌++◌, Some, None, codes, refl}
-use Rattle.rhai_values.specs.Value.{UnitV, BoolV, CharV, TextV, ArrayV, PointerV, values}
+use Rattle.rhai_base.specs.Value.{UnitV, BoolV, CharV, TextV, ArrayV, PointerV, values}
 use Rattle.rhai_base.specs.Operators.{Plus, Not}
 use Rattle.rhai_meaning.specs.Constants.{constant_value, constant_bool, constant_for}
 use Rattle.rhai_meaning.specs.Faults.{IsFaultless}

@@ -43,6 +43,9 @@ pub struct Tally {
     wrong: Cell<usize>,
     all_trees: Cell<usize>,
     all_calls: Cell<usize>,
+    printed: Cell<usize>,
+    unspelled: Cell<usize>,
+    another: Cell<usize>,
 }
 
 impl Tally {
@@ -54,6 +57,9 @@ impl Tally {
             wrong: Cell::new(0),
             all_trees: Cell::new(0),
             all_calls: Cell::new(0),
+            printed: Cell::new(0),
+            unspelled: Cell::new(0),
+            another: Cell::new(0),
         }
     }
 
@@ -70,6 +76,21 @@ impl Tally {
     /// Counts calls.
     pub fn calls(&self, count: usize) {
         add(&self.calls, count);
+    }
+
+    /// Counts a script that is printed in rhai's own syntax and read as one that does the same.
+    pub fn printed(&self) {
+        add(&self.printed, 1);
+    }
+
+    /// Counts one that no text spells.
+    pub fn unspelled(&self) {
+        add(&self.unspelled, 1);
+    }
+
+    /// Counts one whose text is not known to be read as what does the same.
+    pub fn another(&self) {
+        add(&self.another, 1);
     }
 
     /// Says how many trees of a kind were asked since this was said last.
@@ -96,8 +117,20 @@ impl Tally {
             self.all_trees.replace(0),
             self.all_calls.replace(0),
         );
+        self.say_sources();
         self.said.display(&self.wrong.get());
         self.said.put(" answers are not as wanted\n");
+    }
+
+    fn say_sources(&self) {
+        let said = &self.said;
+        said.put("in rhai's own syntax: ");
+        said.display(&self.printed.get());
+        said.put(" do the same, ");
+        said.display(&self.unspelled.get());
+        said.put(" have no text, ");
+        said.display(&self.another.get());
+        said.put(" are read as another script\n");
     }
 }
 

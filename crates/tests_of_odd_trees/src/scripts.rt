@@ -4,17 +4,20 @@ use crate::case::Case;
 use crate::copies;
 use rhai_ast::ASTNode;
 use rhai_notation::{push_lines, push_script};
+use rhai_run::EngineInfo;
 use rhai_script::AST;
 use rhai_script_queries::ScriptQueries;
+use rhai_source::{SourceError, source};
 use tests_reader::Said;
 
-/// Asks all of a script: how it is printed, what it has, a walk over it, what becomes of its copies.
+/// Asks all of a script: how it is printed in both syntaxes, what it has, a walk over it, what becomes of its copies.
 pub fn ask(case: &Case, script: &AST) {
     let said = Said::new(case.alloc, false);
     case.want(
         printed(script, &said) == printed(script, &said),
         "a script in print",
     );
+    ask_source(case, script);
     ask_parts(case, script, &said);
     ask_walk(case, script);
     copies::ask(case, script, &said);
@@ -26,6 +29,17 @@ fn printed(script: &AST, said: &Said) -> String {
     said.made(push_script(script, &mut text));
     said.made(push_lines(script.statements(), &mut text));
     text
+}
+
+/// In rhai's own syntax it is refused by a reason, or read as a script that does the same.
+fn ask_source(case: &Case, script: &AST) {
+    let info = EngineInfo::new(case.alloc);
+    match source(case.alloc, &info, script) {
+        Ok(_) => case.tally.printed(),
+        Err(SourceError::Unspelled(_)) => case.tally.unspelled(),
+        Err(SourceError::AnotherScript) => case.tally.another(),
+        Err(_) => case.want(false, "a script in rhai's own syntax"),
+    }
 }
 
 fn ask_parts(case: &Case, script: &AST, said: &Said) {

@@ -1,8 +1,8 @@
 -- A host by rows: what it answers by a call's name and by how many calls came before.
 use Rattle.std.specs.Prelude.{ℕ, Bool, true, ◌&&◌, ◌==◌, List, [], ◌∷◌, map, Option, Some, None, option_map, if◌then◌else◌}
-use Rattle.rhai_values.specs.declared.dynamic.Dynamic.{Dynamic}
-use Rattle.rhai_values.specs.Reading.{value_of}
-use Rattle.rhai_values.specs.Value.{Text, UnitV, same_text}
+use Rattle.rhai_base.specs.declared.dynamic.Dynamic.{Dynamic}
+use Rattle.rhai_base.specs.Reading.{value_of}
+use Rattle.rhai_base.specs.Value.{Text, UnitV, same_text}
 use Rattle.rhai_meaning.specs.Act.{Answer, Answers, AnswersThrow}
 use Rattle.rhai_meaning.specs.Host.{ModuleValue, ModulePath}
 use Rattle.rhai_host.specs.Host.{Modules}

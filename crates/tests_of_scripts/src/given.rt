@@ -1,8 +1,8 @@
 //! What a run is given, read from lines of text: its turns, start scope and record, and a host by rows.
-#![tactic(auto, using(rhai_values::specs::Reading::kinds, crate::proofs::HostRows::steps))]
+#![tactic(auto, using(rhai_base::specs::Reading::kinds, crate::proofs::HostRows::steps))]
 
 ghost use Rattle.std.specs.Prelude.{◌≡◌, length, IfOk, option_map};
-ghost use Rattle.rhai_values.specs.Reading.{value_of};
+ghost use Rattle.rhai_base.specs.Reading.{value_of};
 ghost use Rattle.rhai_host.specs.Host.{answer_meant};
 ghost use Rattle.rhai_meaning.specs.Host.{module_in};
 ghost use Rattle.tests_of_scripts.specs.HostRows as spec;

@@ -1,8 +1,8 @@
 //! The pieces of the guide on running scripts.
-#![tactic(auto, using(rhai_values::specs::Reading::kinds))]
+#![tactic(auto, using(rhai_base::specs::Reading::kinds))]
 
 ghost use Rattle.std.specs.Prelude.{[], pos, None};
-ghost use Rattle.rhai_values.specs.Value.{IntV};
+ghost use Rattle.rhai_base.specs.Value.{IntV};
 ghost use Rattle.rhai_meaning.specs.Act.{Answers};
 
 use rhai_ast::{Expr, FnCallExpr, Stmt};

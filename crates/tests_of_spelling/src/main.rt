@@ -1,6 +1,7 @@
 //! Asks how trees are spelled in rhai's own syntax, and whether what is printed is read as what does the same.
 #![tactic(auto)]
 
+mod alike;
 mod blocks;
 mod rows;
 mod spelled;
@@ -28,6 +29,7 @@ fn ask(rt: &HostRuntime, question: &str, name: &str) -> io::Result<()> {
     let rows = rows.as_str();
     match question {
         "spelled" => say(rt, rows::ask(rt.alloc(), Question::Spelled, rows)),
+        "alike" => say(rt, alike::ask(rt.alloc(), rows)),
         "printed" => say(rt, rows::ask(rt.alloc(), Question::Printed, rows)),
         _ => Ok(()),
     }

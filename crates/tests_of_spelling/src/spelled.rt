@@ -55,7 +55,7 @@ fn told_optimized(alloc: Global, script: AST) -> Result<String, AllocError> {
 }
 
 /// What a script is read as once it is printed, or why it is not.
-fn read_again(alloc: Global, script: &AST) -> Result<Result<AST, String>, AllocError> {
+pub(crate) fn read_again(alloc: Global, script: &AST) -> Result<Result<AST, String>, AllocError> {
     let text = match spelled(alloc, script) {
         Ok(text) => text,
         Err(error) => return Ok(Err(format!(in alloc; "no text: {error}")?)),

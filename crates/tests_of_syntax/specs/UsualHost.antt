@@ -1,6 +1,6 @@
 -- What the host of the runs answers: a function of the call alone.
 use Rattle.std.specs.Prelude.{None, true, false, pos, codes, if◌then◌else◌, ◌||◌}
-use Rattle.rhai_values.specs.Value.{BoolV, IntV, same_text}
+use Rattle.rhai_base.specs.Value.{BoolV, IntV, same_text}
 use Rattle.rhai_meaning.specs.Act.{HostCall, Answer, Answers}
 use Rattle.rhai_samples.specs.ProgramHost.{program_answer}
 

@@ -51,6 +51,7 @@ fn ask(rt: &HostRuntime, question: &str, name: &str) -> io::Result<()> {
     let rows = rows.as_str();
     match question {
         "trees" => say(rt, rows::ask(rt.alloc(), Question::Tree, rows)),
+        "expressions" => say(rt, rows::ask(rt.alloc(), Question::Expression, rows)),
         "bad" => say(rt, rows::ask(rt.alloc(), Question::Refusal, rows)),
         "places" => say(rt, rows::ask(rt.alloc(), Question::Places, rows)),
         "runs" => say(rt, runs::ask(rt.alloc(), rows)),

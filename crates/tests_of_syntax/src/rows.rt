@@ -10,6 +10,8 @@ use std::fmt::Write;
 pub(crate) enum Question {
     /// Its tree.
     Tree,
+    /// Its tree, as one expression.
+    Expression,
     /// Where its nodes stand.
     Places,
     /// Where and why it is refused.
@@ -33,6 +35,7 @@ pub(crate) fn ask(alloc: Global, question: Question, rows: &str) -> Result<Strin
 fn asked(question: Question) -> &'static str {
     match question {
         Question::Tree => "trees",
+        Question::Expression => "expressions",
         Question::Places => "places",
         Question::Refusal => "bad texts",
     }
@@ -65,6 +68,7 @@ fn is_met(
 fn told(alloc: Global, question: Question, text: &str) -> Result<String, AllocError> {
     match question {
         Question::Tree => trees::told(alloc, text),
+        Question::Expression => trees::told_expression(alloc, text),
         Question::Places => places::told(alloc, text),
         Question::Refusal => bad::told(alloc, text),
     }
@@ -73,7 +77,7 @@ fn told(alloc: Global, question: Question, text: &str) -> Result<String, AllocEr
 /// What a block wants; of a refused text its head says it.
 fn wanted<'a>(question: Question, block: Block<'a>) -> &'a str {
     match question {
-        Question::Tree | Question::Places => block.wanted,
+        Question::Tree | Question::Expression | Question::Places => block.wanted,
         Question::Refusal => block.head,
     }
 }

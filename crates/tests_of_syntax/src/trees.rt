@@ -2,7 +2,7 @@
 
 use rhai_ast::{FnAccess, ScriptFuncDef};
 use rhai_notation::push_script;
-use rhai_parser::compile;
+use rhai_parser::{ParseError, compile, compile_expression};
 use rhai_script::AST;
 use std::alloc::{AllocError, Global};
 use std::fmt::Write;
@@ -12,7 +12,21 @@ use std::rc::Rc;
 pub(crate) fn told(alloc: Global, text: &str) -> Result<String, AllocError> {
     match compile(alloc, text) {
         Ok(script) => told_script(alloc, &script),
-        Err(error) => format!(in alloc; "refused: {error}\n"),
+        Err(error) => told_refusal(alloc, &error),
+    }
+}
+
+fn told_refusal(alloc: Global, error: &ParseError) -> Result<String, AllocError> {
+    let line = error.position().line().unwrap_or(0);
+    let column = error.position().position().unwrap_or(0);
+    format!(in alloc; "refused: line {line}, column {column}\n")
+}
+
+/// What a text of one expression becomes.
+pub(crate) fn told_expression(alloc: Global, text: &str) -> Result<String, AllocError> {
+    match compile_expression(alloc, text) {
+        Ok(script) => told_script(alloc, &script),
+        Err(error) => told_refusal(alloc, &error),
     }
 }
 

@@ -1,7 +1,7 @@
 //! A host that answers what scripts ask most.
 
 ghost use Rattle.std.specs.Prelude.{◌≡◌, None};
-ghost use Rattle.rhai_values.specs.Reading.{value_of};
+ghost use Rattle.rhai_base.specs.Reading.{value_of};
 ghost use Rattle.rhai_meaning.specs.Act.{Answers};
 ghost use Rattle.rhai_host.specs.Host.{answer_meant};
 

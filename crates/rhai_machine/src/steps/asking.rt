@@ -2,7 +2,7 @@
 
 ghost use Rattle.std.specs.Prelude.{◌≡◌, [], ◌∷◌, Some, map};
 ghost use Rattle.std.specs.Option.{option_map};
-ghost use Rattle.rhai_values.specs.Reading.{value_of};
+ghost use Rattle.rhai_base.specs.Reading.{value_of};
 ghost use Rattle.rhai_base.specs.Builtin.{operator_of};
 ghost use Rattle.rhai_meaning.specs.ActForms.{ask_host, ask_method};
 ghost use Rattle.rhai_meaning.specs.Calls.{operate};

@@ -1,9 +1,9 @@
 //! Places, and what stands there.
 
-#![tactic(auto, using(rhai_values::specs::Reading::kinds, crate::proofs::Placing::placing))]
+#![tactic(auto, using(rhai_base::specs::Reading::kinds, crate::proofs::Placing::placing))]
 
 ghost use Rattle.std.specs.Prelude.{◌≡◌, IfOk};
-ghost use Rattle.rhai_values.specs.Reading.{value_of};
+ghost use Rattle.rhai_base.specs.Reading.{value_of};
 ghost use Rattle.rhai_meaning.specs.Act.{OfName};
 ghost use Rattle.rhai_meaning.specs.Shape.{is_unit};
 ghost use Rattle.rhai_places.specs.Reading.{key_meant, or_unit, part_value};

@@ -1,14 +1,14 @@
 //! Names and `this`: what stands there; modules.
 
-#![tactic(auto, using(rhai_reading::specs::Reading::shapes, rhai_values::specs::Reading::kinds))]
+#![tactic(auto, using(rhai_tree::specs::Reading::shapes, rhai_base::specs::Reading::kinds))]
 
-ghost use Rattle.rhai_reading.specs.Reading.{path_of};
+ghost use Rattle.rhai_tree.specs.Reading.{path_of};
 ghost use Rattle.rhai_meaning.specs.Act.{Read};
 ghost use Rattle.rhai_machine.specs.Setting.{setting};
 ghost use Rattle.rhai_state.specs.Evaluating.{Runs, RunsCore};
 ghost use Rattle.rhai_state.specs.Runs.{Acting};
 ghost use Rattle.rhai_run_nodes.specs.Variables.{root_meant};
-ghost use Rattle.rhai_values.specs.Reading.{value_of};
+ghost use Rattle.rhai_base.specs.Reading.{value_of};
 ghost use Rattle.rhai_state.specs.declared.state.State.{State};
 ghost use Rattle.rhai_meaning.specs.Desugar as desugar;
 ghost use Rattle.rhai_meaning.specs.Meaning as meaning;

@@ -1,10 +1,10 @@
 //! Writes to places.
 
-#![tactic(auto, using(rhai_values::specs::Reading::kinds, crate::proofs::Placing::placing))]
+#![tactic(auto, using(rhai_base::specs::Reading::kinds, crate::proofs::Placing::placing))]
 
 ghost use Rattle.std.specs.Prelude.{◌≡◌, true, map};
-ghost use Rattle.rhai_values.specs.Reading.{value_of};
-ghost use Rattle.rhai_values.specs.Value.{UnitV, Value};
+ghost use Rattle.rhai_base.specs.Reading.{value_of};
+ghost use Rattle.rhai_base.specs.Value.{UnitV, Value};
 ghost use Rattle.rhai_meaning.specs.Act.{OfName, OfThis};
 ghost use Rattle.rhai_places.specs.Reading.{key_meant};
 ghost use Rattle.rhai_state.specs.declared.state.State.{State};

@@ -1,8 +1,8 @@
 -- Calls, steps of chains and assignments, by the values that they may give and the ways in which they may leave.
 use Rattle.std.proofs.Common.{Bool, true, false, List, [], ◌∷◌, length, Option, Some, None}
 use Rattle.std.specs.Prelude.{ℤ, codes, option_map}
-use Rattle.rhai_values.specs.Value.{Text, Value, UnitV, IntV, TextV, ArrayV, MapV, PointerV}
-use Rattle.rhai_names.specs.Names.{is_valid_name}
+use Rattle.rhai_base.specs.Value.{Text, Value, UnitV, IntV, TextV, ArrayV, MapV, PointerV}
+use Rattle.rhai_tokens.specs.Names.{is_valid_name}
 use Rattle.rhai_base.specs.Operators.{Operator, Computed, NoEntry, Is, Overflows, symbol}
 use Rattle.rhai_meaning.specs.Engine.{built_in, asks_assigning, assigning}
 use Rattle.rhai_meaning.specs.Act.{World, Env, Exit, Throws, Root, Key, Act}

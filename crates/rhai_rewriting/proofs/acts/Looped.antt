@@ -1,7 +1,7 @@
 -- Loops and `try`, by the values that they may give and the ways in which they may leave.
 use Rattle.std.proofs.Common.{ℕ, zero, suc, Bool, true, false, cond, List, [], ◌∷◌, Option, Some, None}
 use Rattle.std.specs.Prelude.{ℤ, pos, ◌+ℤ◌, ◌-ℤ◌, ◌^◌, nat_lt}
-use Rattle.rhai_values.specs.Value.{Text, Value, UnitV, IntV, ArrayV, RangeV, RangeInclusiveV, items}
+use Rattle.rhai_base.specs.Value.{Text, Value, UnitV, IntV, ArrayV, RangeV, RangeInclusiveV, items}
 use Rattle.rhai_meaning.specs.Act.{World, IsVariable, Env, Exit, Breaks, Throws, Again, Ending, Gives, Leaves, WrongKind, CounterTooLarge, Act, Then, Acts}
 use Rattle.rhai_meaning.specs.ActForms.{on_throw, again_then}
 use Rattle.rhai_meaning.specs.Control.{round, do_loop, counted, for_each, for_count, size, for_all, named, end_branch, try_of}

@@ -1,6 +1,6 @@
 -- Acts that write nothing: the scope after them is as it was.
 use Rattle.std.proofs.Common.{◌≡◌, ℕ, zero, suc, List, [], ◌∷◌, ◌++◌, Option, Some, None, refl, ◌∙◌, subst}
-use Rattle.rhai_values.specs.Value.{Text, Value}
+use Rattle.rhai_base.specs.Value.{Text, Value}
 use Rattle.rhai_meaning.specs.Act.{EntryKind, ScopeEntry, HostCall, Answer, World, Store, Ending, Leaves, Again, Ended, Halted, Stuck, Root, OfName, OfThis, Result, At, Act, Stop, Fail, Then, Turn, Read, Resolve, AskHost, Loop, Scoped, Acts, Only, Do, Named, Env, and_then, with_turn, leave, rounds, on_again, read, read_this, read_root, found, resolved, restore, run, run_all}
 use Rattle.rhai_meaning.specs.Relations.{store_of}
 use Rattle.rhai_meaning.proofs.Relations.{Grows, kept, pushed}

@@ -1,7 +1,7 @@
 -- A tree without assignments, method calls and calls but those of operators writes nothing.
 use Rattle.std.proofs.Common.{◌≡◌, ℕ, zero, suc, Bool, true, false, cond, List, [], ◌∷◌, Option, Some, None}
 use Rattle.std.specs.Prelude.{ℤ, pos, ◌+ℤ◌, ◌-ℤ◌, ◌^◌, nat_lt, codes, option_map}
-use Rattle.rhai_values.specs.Value.{Text, Value, IntV, TextV, ArrayV, MapV, RangeV, RangeInclusiveV, items}
+use Rattle.rhai_base.specs.Value.{Text, Value, IntV, TextV, ArrayV, MapV, RangeV, RangeInclusiveV, items}
 use Rattle.rhai_base.specs.Operators.{Computed, NoEntry, Is, Overflows, symbol}
 use Rattle.rhai_meaning.specs.Engine.{built_in}
 use Rattle.rhai_meaning.specs.Act.{World, Answer, Answers, AnswersThrow, Breaks, Continues, Throws, Again, Ending, Gives, Leaves, Act, Acts}

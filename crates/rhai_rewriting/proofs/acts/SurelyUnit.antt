@@ -1,6 +1,6 @@
 -- A statement that surely is unit gives no other value.
 use Rattle.std.proofs.Common.{◌≡◌, Bool, true, false, cond, List, [], ◌∷◌, Option, Some, None, refl}
-use Rattle.rhai_values.specs.Value.{Text, Value, UnitV}
+use Rattle.rhai_base.specs.Value.{Text, Value, UnitV}
 use Rattle.rhai_base.specs.Operators.{Operator}
 use Rattle.rhai_meaning.specs.Act.{World, EntryKind, Env, Act, Acts}
 use Rattle.rhai_meaning.specs.Chains.{Access}

@@ -1,7 +1,7 @@
 -- What closes under the constructs of the language holds of the act of each tree all of whose nodes it allows.
 use Rattle.std.proofs.Common.{◌≡◌, ℕ, zero, suc, Bool, true, false, cond, List, [], ◌∷◌, Option, Some, None}
 use Rattle.std.specs.Prelude.{◌&&◌, slice_get}
-use Rattle.rhai_values.specs.Value.{Text, Value, UnitV, TextV}
+use Rattle.rhai_base.specs.Value.{Text, Value, UnitV, TextV}
 use Rattle.rhai_base.specs.Operators.{Operator}
 use Rattle.rhai_meaning.specs.Act.{World, EntryKind, IsExport, OfName, Resolve, Returns, Breaks, Continues, Throws, Leaves, Stuck, Root, OfThis, Act, Stop, Fail, Read, Scoped, Acts, Only, Named}
 use Rattle.rhai_meaning.specs.ActForms.{give, ◌>>=◌, choose, truth, branch, if_true, then_line, of_constant}

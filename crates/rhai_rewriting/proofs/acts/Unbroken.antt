@@ -1,6 +1,6 @@
 -- A tree in which no `break` has an expression leaves no loop with another value than unit.
 use Rattle.std.proofs.Common.{◌≡◌, Bool, true, false, refl}
-use Rattle.rhai_values.specs.Value.{Value}
+use Rattle.rhai_base.specs.Value.{Value}
 use Rattle.rhai_meaning.specs.Act.{World, Env, Throws}
 use Rattle.rhai_meaning.specs.Chains.{OfProperty, OfIndex, OfMethod}
 use Rattle.rhai_meaning.specs.Desugar.{callee_by, core_stmts}

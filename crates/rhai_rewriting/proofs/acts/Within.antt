@@ -1,6 +1,6 @@
 -- Acts by the values that they may give and the ways in which they may leave.
 use Rattle.std.proofs.Common.{◌≡◌, ℕ, zero, suc, Bool, true, false, List, ◌∷◌, [], ◌++◌, Option, Some, None, refl, ap}
-use Rattle.rhai_values.specs.Value.{Text, Value, UnitV}
+use Rattle.rhai_base.specs.Value.{Text, Value, UnitV}
 use Rattle.rhai_meaning.specs.Act.{World, EntryKind, is_constant, resolved, ScopeEntry, HostCall, Answer, Answers, AnswersThrow, Store, Exit, Returns, Breaks, Continues, Throws, Again, Ending, Gives, Leaves, Stuck, Ended, Halted, Result, At, Root, OfName, OfThis, ScriptCall, Act, Stop, Fail, Then, Turn, Read, Write, Resolve, AskHost, Invoke, Loop, Scoped, Acts, Only, Named, Env, and_then, with_turn, call_then, found, read, read_this, read_root, write_at, write, write_this, write_root, leave, returned, rounds, on_again, run, run_all}
 use Rattle.rhai_meaning.specs.ActForms.{give, value_then, ◌>>=◌, each_value, then_line, choose, truth, branch, if_true, answered, end_round}
 use Rattle.rhai_meaning.specs.Control.{round}

@@ -1,7 +1,7 @@
 -- The arms of a `switch`: those that are tried are listed, and what holds of all that are listed holds of them.
 use Rattle.std.proofs.Common.{◌≡◌, ℕ, zero, suc, ◌+◌, ◌≤◌, Bool, true, false, cond, List, [], ◌∷◌, ◌++◌, Option, Some, None, refl, sym, ap, subst, arith}
 use Rattle.std.specs.Prelude.{◌==◌, ◌||◌}
-use Rattle.rhai_values.specs.Value.{Value, same, is_hashable}
+use Rattle.rhai_base.specs.Value.{Value, same, is_hashable}
 use Rattle.rhai_meaning.specs.Control.{holds, ranges_with, case_for, or_ranges, chosen}
 use Rattle.rhai_meaning.specs.Shape.{names_arm}
 use Rattle.rhai_meaning.specs.Tree.{SwitchCase, SwitchRange, SwitchTable, Expr, Arms, no_arms, arm}

@@ -1,7 +1,7 @@
 -- Lists of statements that add nothing to the scope: braces around them make no difference.
 use Rattle.std.proofs.Common.{◌≡◌, ℕ, Bool, true, false, refl, sym, ap, ◌∙◌}
 use Rattle.std.proofs.lemmas.Bool.{or_parts}
-use Rattle.rhai_values.specs.Value.{Text, Value, UnitV}
+use Rattle.rhai_base.specs.Value.{Text, Value, UnitV}
 use Rattle.rhai_meaning.specs.Act.{World, Store, Ending, Gives, Leaves, Stop, Scoped, Acts, Only, Named, Env, and_then, leave, run, run_all}
 use Rattle.rhai_meaning.specs.ActForms.{give, each_value}
 use Rattle.rhai_meaning.specs.Core.{Deed, Stmt, Var, Does, Stmts, no_stmts, stmt}

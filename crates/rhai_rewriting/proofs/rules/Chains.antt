@@ -1,7 +1,7 @@
 -- The rules of chains over constants and literals: a lemma each, of the rule's name.
 use Rattle.std.proofs.Common.{◌≡◌, ℕ, Bool, true, false, cond, List, [], Some, None, refl, sym, ◌∙◌, subst, arith}
 use Rattle.std.specs.Prelude.{ℤ, codes, ◌&&◌}
-use Rattle.rhai_values.specs.Value.{Text, Value, Fields, UnitV, BoolV, IntV, TextV, ArrayV, MapV, values}
+use Rattle.rhai_base.specs.Value.{Text, Value, Fields, UnitV, BoolV, IntV, TextV, ArrayV, MapV, values}
 use Rattle.rhai_meaning.specs.Act.{Act, WrongKind}
 use Rattle.rhai_meaning.specs.ActForms.{give, unit, choose, ◌>>=◌}
 use Rattle.rhai_meaning.specs.Chains.{OfIndex, OfMethod, applied}

@@ -1,6 +1,6 @@
 -- Constants give their values, or are stuck where a node has no meaning.
 use Rattle.std.proofs.Common.{◌≡◌, ℕ, Bool, true, false, cond, List, ◌∷◌, Option, Some, None, refl, sym, ap, ◌∙◌, subst}
-use Rattle.rhai_values.specs.Value.{Text, Value, TextV, ArrayV, MapV, PointerV, values}
+use Rattle.rhai_base.specs.Value.{Text, Value, TextV, ArrayV, MapV, PointerV, values}
 use Rattle.rhai_base.specs.Operators.{Operator, Computed, NoEntry, Is, Overflows, symbol}
 use Rattle.rhai_meaning.specs.Engine.{built_in}
 use Rattle.rhai_meaning.specs.Act.{World, Store, Gives, WrongKind, IsStuck, Ended, Halted, Result, At, Act, Env, and_then, run}

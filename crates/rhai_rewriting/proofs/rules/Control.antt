@@ -1,6 +1,6 @@
 -- The rules of loops, `try` and nested `if`s: a lemma each, of the rule's name.
 use Rattle.std.proofs.Common.{◌≡◌, ◌<◌, ◌+◌, ℕ, zero, suc, Bool, true, false, List, [], length, Option, Some, None, refl, sym, subst, arith}
-use Rattle.rhai_values.specs.Value.{Text, Value, UnitV, BoolV}
+use Rattle.rhai_base.specs.Value.{Text, Value, UnitV, BoolV}
 use Rattle.rhai_meaning.specs.Act.{World, Store, WrongKind, Act, Scoped, Acts, Env, rounds, run}
 use Rattle.rhai_meaning.specs.ActForms.{give, unit, ◌>>=◌, truth, branch, if_true}
 use Rattle.rhai_meaning.specs.Constants.{constant_bool}

@@ -2,7 +2,7 @@
 use Rattle.std.proofs.Common.{◌≡◌, ℕ, suc, Bool, true, false, cond, List, [], ◌∷◌, length, Option, Some, None, refl, sym, ap, ◌∙◌}
 use Rattle.std.specs.Prelude.{ℤ, codes, option_map}
 use Rattle.std.proofs.lemmas.Slice.Eq.{bytes_eq-Decides}
-use Rattle.rhai_values.specs.Value.{Text, Value, Fields, UnitV, IntV, TextV, ArrayV, MapV, same_text, values, no_fields, field}
+use Rattle.rhai_base.specs.Value.{Text, Value, Fields, UnitV, IntV, TextV, ArrayV, MapV, same_text, values, no_fields, field}
 use Rattle.rhai_base.specs.Operators.{text_lt}
 use Rattle.rhai_meaning.specs.Act.{Act}
 use Rattle.rhai_meaning.specs.Chains.{or_throw, index}

@@ -1,6 +1,6 @@
 -- The rules of expressions: a lemma each, of the rule's name.
 use Rattle.std.proofs.Common.{◌≡◌, ◌≤◌, Bool, List, Some, true, refl, sym, ap, subst, arith}
-use Rattle.rhai_values.specs.Value.{Value, UnitV, ArrayV, PointerV, values}
+use Rattle.rhai_base.specs.Value.{Value, UnitV, ArrayV, PointerV, values}
 use Rattle.rhai_meaning.specs.Act.{Gives, Ended, At}
 use Rattle.rhai_meaning.specs.ActForms.{give}
 use Rattle.rhai_meaning.specs.Constants.{array_value, constant_values, constant_for}

@@ -1,8 +1,8 @@
 -- A table of a `switch` that got smaller fits the arms as it did.
 use Rattle.std.proofs.Common.{◌≡◌, ℕ, Bool, true, false, List, [], ◌∷◌, Option, Some, None, refl, ap, ◌∙◌}
 use Rattle.std.specs.Prelude.{◌&&◌, ◌||◌, ◌==◌, not, nat_lt}
-use Rattle.rhai_names.specs.Names.{are_all}
-use Rattle.rhai_values.specs.Value.{is_hashable}
+use Rattle.rhai_tokens.specs.Names.{are_all}
+use Rattle.rhai_base.specs.Value.{is_hashable}
 use Rattle.rhai_meaning.specs.Shape.{condition_at, names_arm, case_fits, spares, default_fits, is_table}
 use Rattle.rhai_meaning.specs.Tree.{SwitchCase, SwitchRange, SwitchTable, Arms, count_arms}
 use Rattle.rhai_meaning.proofs.PureTrees.{split}

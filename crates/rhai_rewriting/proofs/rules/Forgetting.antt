@@ -3,8 +3,8 @@ use Rattle.std.proofs.Common.{◌≡◌, ℕ, zero, suc, ◌+◌, ◌≤◌, Boo
 use Rattle.std.specs.Prelude.{◌&&◌, ◌==◌, nat_lt, slice_get}
 use Rattle.std.proofs.lemmas.Bool.{or_parts}
 use Rattle.std.proofs.lemmas.Bool.Decides.{Decides-eqb}
-use Rattle.rhai_values.specs.Value.{Value}
-use Rattle.rhai_names.specs.Names.{are_all}
+use Rattle.rhai_base.specs.Value.{Value}
+use Rattle.rhai_tokens.specs.Names.{are_all}
 use Rattle.rhai_meaning.specs.Act.{Act}
 use Rattle.rhai_meaning.specs.Constants.{is_literal_unit}
 use Rattle.rhai_meaning.specs.Control.{try_arm, first_arm, answer_of, default_of, chosen, switch_on}

@@ -1,6 +1,6 @@
 -- A constant does what giving its value does, and arguments that are constant give theirs.
 use Rattle.std.proofs.Common.{◌≡◌, ◌≤◌, ℕ, Bool, true, false, cond, List, Option, Some, None, refl, sym, ap, ◌∙◌, subst, arith}
-use Rattle.rhai_values.specs.Value.{Text, Value, UnitV, BoolV}
+use Rattle.rhai_base.specs.Value.{Text, Value, UnitV, BoolV}
 use Rattle.rhai_meaning.specs.Act.{Store, Gives, WrongKind, Ended, Result, At, Act, Env, and_then, run}
 use Rattle.rhai_meaning.specs.ActForms.{give, value_then, ◌>>=◌, branch, truth, if_true, choose}
 use Rattle.rhai_meaning.specs.Constants.{array_value, map_value, joined_value, constant_value, constant_values, constant_entries, constant_bool, truth_of}

@@ -1,6 +1,6 @@
 -- The rules of lists whose last statement gives unit: a lemma each, of the rule's name.
 use Rattle.std.proofs.Common.{◌≡◌, ◌≤◌, Bool, true, false, refl, sym, subst, arith}
-use Rattle.rhai_values.specs.Value.{Value, UnitV}
+use Rattle.rhai_base.specs.Value.{Value, UnitV}
 use Rattle.rhai_meaning.specs.Act.{Acts, Only}
 use Rattle.rhai_meaning.specs.ActForms.{give}
 use Rattle.rhai_meaning.specs.Core as core

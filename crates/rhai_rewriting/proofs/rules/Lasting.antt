@@ -1,6 +1,6 @@
 -- What may be asked of every node, so that each rewriting keeps it; l: whether the tree stands in a loop's body.
 use Rattle.std.proofs.Common.{◌≡◌, Bool, true, false, List, Option, []}
-use Rattle.rhai_values.specs.Value.{Text, Value}
+use Rattle.rhai_base.specs.Value.{Text, Value}
 use Rattle.rhai_base.specs.Operators.{Operator}
 use Rattle.rhai_meaning.specs.Constants.{constant_for, pointer_call}
 use Rattle.rhai_meaning.specs.Tree.{ChainFlags, SwitchTable, Arms, Callee, Expr, InterpolatedString, ArrayOf, MapOf, MethodCall, BlockExpr, FnCall, Dot, Index, And, Or, Coalesce, Exprs, count_exprs, Pairs, MaybeExpr, Noop, If, Switch, While, Do, For, Var, Assignment, Block, TryCatch, ExprStmt, FnCallStmt, BreakLoop, Return, Import, Share, Stmts, Variable}

@@ -1,6 +1,6 @@
 -- The rules of lists that are left: a lemma each, of the rule's name.
 use Rattle.std.proofs.Common.{◌≡◌, ◌≤◌, Bool, true, false, cond, refl, sym, ap, ◌∙◌, arith}
-use Rattle.rhai_values.specs.Value.{Value}
+use Rattle.rhai_base.specs.Value.{Value}
 use Rattle.rhai_meaning.specs.Act.{Returns, Gives, Leaves, Ended, Halted, Result, At, Stop, Acts, Only, and_then, returned, run, run_all}
 use Rattle.rhai_meaning.specs.ActForms.{give, each_value, value_then}
 use Rattle.rhai_meaning.specs.Core as core

@@ -1,7 +1,7 @@
 -- A part of a literal whose parts are pure: the other parts go, and what comes after has its value.
 use Rattle.std.proofs.Common.{◌≡◌, ℕ, ◌≤◌, ◌+◌, zero, suc, Bool, true, false, cond, List, [], ◌∷◌, length, Option, Some, None, refl, ap, subst, arith}
 use Rattle.std.specs.Prelude.{ℤ}
-use Rattle.rhai_values.specs.Value.{Text, Value, Fields, UnitV, ArrayV, MapV, same_text, values}
+use Rattle.rhai_base.specs.Value.{Text, Value, Fields, UnitV, ArrayV, MapV, same_text, values}
 use Rattle.rhai_meaning.specs.Act.{Act, Fail, WrongKind}
 use Rattle.rhai_meaning.specs.ActForms.{give, ◌>>=◌}
 use Rattle.rhai_meaning.specs.Core as core

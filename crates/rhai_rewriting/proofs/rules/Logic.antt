@@ -1,6 +1,6 @@
 -- The rules of `&&`, `||` and `??`: a lemma each, of the rule's name.
 use Rattle.std.proofs.Common.{◌≡◌, ◌<◌, Bool, true, false, not, Option, Some, None, refl, sym, subst, arith}
-use Rattle.rhai_values.specs.Value.{Value, UnitV, BoolV}
+use Rattle.rhai_base.specs.Value.{Value, UnitV, BoolV}
 use Rattle.rhai_meaning.specs.Act.{World, Act, run}
 use Rattle.rhai_meaning.specs.ActForms.{give, unit, choose, truth, branch, if_true, ◌>>=◌}
 use Rattle.rhai_meaning.specs.Constants.{constant_bool}

@@ -1,8 +1,8 @@
 -- The rules of names that are known: a lemma each, of the rule's name.
 use Rattle.std.proofs.Common.{◌≡◌, true, ℕ, Bool, false, [], Option, Some, None, refl, sym, subst, arith, ap}
 use Rattle.std.specs.Prelude.{◌&&◌, codes}
-use Rattle.rhai_values.specs.Value.{Text, Value, Fields, TextV, MapV, PointerV, values}
-use Rattle.rhai_names.specs.Names.{is_valid_name}
+use Rattle.rhai_base.specs.Value.{Text, Value, Fields, TextV, MapV, PointerV, values}
+use Rattle.rhai_tokens.specs.Names.{is_valid_name}
 use Rattle.rhai_meaning.specs.Act.{ScopeEntry, Store, Unbound, Gives, Ended, At, OfName, Act, Read, found, read}
 use Rattle.rhai_meaning.specs.ActForms.{give, throw, choose, ◌>>=◌}
 use Rattle.rhai_meaning.specs.Chains.{OfProperty, OfIndex, applied}

@@ -1,6 +1,6 @@
 -- What each rule owes: its tree is lighter, has at every node what the old one has there, and does what the old one does.
 use Rattle.std.proofs.Common.{◌≡◌, ◌<◌, Bool, true}
-use Rattle.rhai_values.specs.Value.{Value, UnitV}
+use Rattle.rhai_base.specs.Value.{Value, UnitV}
 use Rattle.rhai_meaning.specs.Desugar.{core_expr, core_stmt, core_stmts}
 use Rattle.rhai_meaning.specs.Meaning.{act, acts}
 use Rattle.rhai_meaning.specs.Tree.{Expr, Stmt, Stmts}

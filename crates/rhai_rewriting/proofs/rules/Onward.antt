@@ -1,7 +1,7 @@
 -- The rules of the first step of a longer chain over a constant or a literal: a lemma each, of the rule's name.
 use Rattle.std.proofs.Common.{◌≡◌, ℕ, ◌+◌, Bool, true, false, cond, List, [], Some, None, refl, sym, ap, ◌∙◌, subst, arith}
 use Rattle.std.specs.Prelude.{ℤ, ◌&&◌, not, codes, if◌then◌else◌}
-use Rattle.rhai_values.specs.Value.{Text, Value, Fields, UnitV, BoolV, IntV, TextV, ArrayV, MapV, values}
+use Rattle.rhai_base.specs.Value.{Text, Value, Fields, UnitV, BoolV, IntV, TextV, ArrayV, MapV, values}
 use Rattle.rhai_meaning.specs.Act.{WrongKind, Act}
 use Rattle.rhai_meaning.specs.ActForms.{◌>>=◌}
 use Rattle.rhai_meaning.specs.Chains.{OfIndex, OfMethod, applied, unless_unit}

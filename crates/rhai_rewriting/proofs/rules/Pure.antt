@@ -1,6 +1,6 @@
 -- The rules of lists by which pure statements go: a lemma each, of the rule's name.
 use Rattle.std.proofs.Common.{◌≡◌, Bool, true, false, List, [], ◌∷◌, Option, Some, None, refl, ap, arith}
-use Rattle.rhai_values.specs.Value.{Text, Value}
+use Rattle.rhai_base.specs.Value.{Text, Value}
 use Rattle.rhai_meaning.specs.Act.{World, IsExport, Store, Unbound, Scoped, Acts, Named, resolved}
 use Rattle.rhai_meaning.specs.Calls.{within}
 use Rattle.rhai_meaning.specs.ActForms.{each_value, then_line, of_constant}

@@ -2,7 +2,7 @@
 use Rattle.std.proofs.Common.{◌≡◌, ℕ, Bool, true, false, cond, List, [], ◌∷◌, Option, Some, None, refl, sym, ap, ◌∙◌, subst, arith}
 use Rattle.std.specs.Prelude.{◌&&◌, ◌||◌, map}
 use Rattle.std.proofs.lemmas.Bool.{or_parts}
-use Rattle.rhai_values.specs.Value.{Text, Value, same_text, type_name}
+use Rattle.rhai_base.specs.Value.{Text, Value, same_text, type_name}
 use Rattle.rhai_base.specs.Operators.{Operator}
 use Rattle.rhai_meaning.specs.Engine.{Engine, Override, same_texts, has_override, overrides_any, asks_assigning, assigning}
 use Rattle.rhai_meaning.specs.Act.{World, ScopeEntry, Store, Gives, Leaves, Unbound, WrongKind, Ended, Halted, Result, At, OfName, Act, Fail, Read, Write, Env, and_then, found, read, run}

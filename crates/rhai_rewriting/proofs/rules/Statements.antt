@@ -1,9 +1,9 @@
 -- The rules of statements: a lemma each, of the rule's name.
 use Rattle.std.proofs.Common.{◌≡◌, ◌+◌, ◌≤◌, ℕ, Bool, true, false, [], Option, Some, None, if◌then◌else◌, refl, sym, ap, ◌∙◌, subst, arith, List, ◌++◌}
 use Rattle.std.specs.Prelude.{codes}
-use Rattle.rhai_values.specs.Value.{Text, Value, UnitV, BoolV, TextV, PointerV, Values, values, items}
+use Rattle.rhai_base.specs.Value.{Text, Value, UnitV, BoolV, TextV, PointerV, Values, values, items}
 use Rattle.rhai_base.specs.Operators.{Operator, Computed, NoEntry, computed}
-use Rattle.rhai_names.specs.Names.{is_valid_name}
+use Rattle.rhai_tokens.specs.Names.{is_valid_name}
 use Rattle.rhai_meaning.specs.Act.{World, Store, Gives, WrongKind, Act, Scoped, Only, Env, run}
 use Rattle.rhai_meaning.specs.ActForms.{give, unit, ◌>>=◌, truth, branch, then_line}
 use Rattle.rhai_meaning.specs.Constants.{computed_value, constant_value, constant_bool, constant_for, constant_values}

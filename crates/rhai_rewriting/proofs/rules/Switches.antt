@@ -1,7 +1,7 @@
 -- The rules of a `switch` over a constant: a lemma each, of the rule's name.
 use Rattle.std.proofs.Common.{◌≡◌, ℕ, zero, suc, ◌+◌, ◌≤◌, Bool, true, false, cond, List, [], ◌∷◌, Option, Some, None, refl, sym, ap, ◌∙◌, subst, arith}
 use Rattle.std.specs.Prelude.{slice_get}
-use Rattle.rhai_values.specs.Value.{Value, UnitV}
+use Rattle.rhai_base.specs.Value.{Value, UnitV}
 use Rattle.rhai_meaning.specs.Act.{Act, Scoped, run}
 use Rattle.rhai_meaning.specs.ActForms.{unit, truth, branch}
 use Rattle.rhai_meaning.specs.Constants.{constant_value, constant_bool, truth_of}

@@ -1,6 +1,6 @@
 -- The rules by which the table of a `switch` gets smaller: a lemma each, of the rule's name.
 use Rattle.std.proofs.Common.{◌≡◌, ℕ, ◌<◌, Bool, true, false, cond, List, [], ◌∷◌, ◌++◌, Option, Some, None, refl, sym, ap, ◌∙◌, subst, arith}
-use Rattle.rhai_values.specs.Value.{Value, same, is_hashable}
+use Rattle.rhai_base.specs.Value.{Value, same, is_hashable}
 use Rattle.rhai_meaning.specs.Act.{WrongKind, Act}
 use Rattle.rhai_meaning.specs.Constants.{constant_value}
 use Rattle.rhai_meaning.specs.Control.{holds, ranges_with, case_for, or_ranges, chosen, try_arm, first_arm, default_of, switch_on}

@@ -1,6 +1,6 @@
 -- The rules of interpolated texts and of maps: a lemma each, of the rule's name.
 use Rattle.std.proofs.Common.{◌≡◌, ◌<◌, Bool, List, [], ◌∷◌, ◌++◌, Some, sym, ap, ◌∙◌, refl, subst, arith, append_assoc}
-use Rattle.rhai_values.specs.Value.{Text, Value, TextV, MapV, text_of}
+use Rattle.rhai_base.specs.Value.{Text, Value, TextV, MapV, text_of}
 use Rattle.rhai_meaning.specs.Act.{Act, run}
 use Rattle.rhai_meaning.specs.ActForms.{give}
 use Rattle.rhai_meaning.specs.Constants.{constant_values, constant_entries}

@@ -1,8 +1,8 @@
 -- The rules of the language's own functions over constants: a lemma each, of the rule's name.
 use Rattle.std.proofs.Common.{◌≡◌, Bool, true, false, List, [], ◌∷◌, ◌++◌, Some, sym, subst, arith}
 use Rattle.std.specs.Prelude.{codes}
-use Rattle.rhai_values.specs.Value.{Text, Value, BoolV, TextV, PointerV, Values, values, items}
-use Rattle.rhai_names.specs.Names.{is_valid_name}
+use Rattle.rhai_base.specs.Value.{Text, Value, BoolV, TextV, PointerV, Values, values, items}
+use Rattle.rhai_tokens.specs.Names.{is_valid_name}
 use Rattle.rhai_meaning.specs.Act.{Act}
 use Rattle.rhai_meaning.specs.ActForms.{give, throw, choose}
 use Rattle.rhai_meaning.specs.Calls.{called}

@@ -1,7 +1,7 @@
 -- What is known goes on to hold, under names that are added and values that change.
 use Rattle.std.proofs.Common.{◌≡◌, true, false, cond, List, [], ◌∷◌, Option, Some, None, refl, sym, ap, ◌∙◌, subst}
 use Rattle.std.specs.Prelude.{◌&&◌}
-use Rattle.rhai_values.specs.Value.{Text, Value, same_text}
+use Rattle.rhai_base.specs.Value.{Text, Value, same_text}
 use Rattle.rhai_meaning.specs.Engine.{Binding}
 use Rattle.rhai_meaning.specs.Act.{EntryKind, IsVariable, IsConstant, IsAlias, IsExport, is_constant, is_name, is_called, ScopeEntry, found}
 use Rattle.rhai_meaning.specs.Run.{bind}

@@ -1,9 +1,9 @@
 -- What is kept by each basic act is kept by each construct over the acts of its parts.
 use Rattle.std.proofs.Common.{ℕ, zero, suc, Bool, true, false, List, [], ◌∷◌, ◌++◌, length, Option, Some, None}
 use Rattle.std.specs.Prelude.{slice_get, ℤ, ◌+ℤ◌, pos, not, option_map}
-use Rattle.rhai_values.specs.Value.{Text, Value, IntV, TextV, ArrayV, MapV, PointerV, RangeV, RangeInclusiveV, items, same}
+use Rattle.rhai_base.specs.Value.{Text, Value, IntV, TextV, ArrayV, MapV, PointerV, RangeV, RangeInclusiveV, items, same}
 use Rattle.rhai_base.specs.Operators.{Operator, Computed, NoEntry, Is, Overflows, symbol}
-use Rattle.rhai_names.specs.Names.{is_valid_name}
+use Rattle.rhai_tokens.specs.Names.{is_valid_name}
 use Rattle.rhai_meaning.specs.Engine.{built_in, asks_assigning}
 use Rattle.rhai_meaning.specs.Elements.{element, character, bit}
 use Rattle.rhai_meaning.specs.Act.{IsVariable, HostCall, Answer, Answers, AnswersThrow, Key, World, Returns, Breaks, Continues, Throws, Again, Ending, Gives, Leaves, Stuck, WrongKind, Root, ScriptCall, Act, Stop, Fail, Then, Turn, Read, Write, Resolve, AskHost, Invoke, Loop, Scoped, Acts, Named}

@@ -1,6 +1,6 @@
 -- Inside the short forms of acts, and inside statements.
 use Rattle.std.proofs.Common.{Bool, true, false, Option, Some, None}
-use Rattle.rhai_values.specs.Value.{Value}
+use Rattle.rhai_base.specs.Value.{Value}
 use Rattle.rhai_meaning.specs.Act.{Ending, Gives, Leaves, Act, Acts}
 use Rattle.rhai_meaning.specs.ActForms.{value_then, ◌>>=◌, truth, branch, if_true, each_value, then_line}
 use Rattle.rhai_meaning.specs.Core.{Deed, Stmt, Does}

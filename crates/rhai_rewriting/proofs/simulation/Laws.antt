@@ -1,6 +1,6 @@
 -- The laws of acts one after another, as simulations. A pure act whose value isn't needed may go.
 use Rattle.std.proofs.Common.{◌≡◌, ℕ, zero, suc, Bool, true, false, Option, Some, None, refl, sym, ap, ◌∙◌, arith}
-use Rattle.rhai_values.specs.Value.{Value, UnitV}
+use Rattle.rhai_base.specs.Value.{Value, UnitV}
 use Rattle.rhai_meaning.specs.Act.{World, Store, Ending, Gives, Stuck, IsStuck, Ended, Halted, Act, Fail, Then, Turn, Scoped, Only, Env, and_then, with_turn, leave, run}
 use Rattle.rhai_meaning.specs.ActForms.{give, unit, ◌>>=◌, truth, branch, if_true, then_line}
 use Rattle.rhai_meaning.specs.Laws.{Settled, Gave, Stopped, settled, spend}

@@ -1,6 +1,6 @@
 -- Lists, closed at their end: a whole one by its return, an inside one by taking its names away.
 use Rattle.std.proofs.Common.{◌≡◌, Bool, true, List, Option, Some, None, refl, sym, false}
-use Rattle.rhai_values.specs.Value.{Text, Value}
+use Rattle.rhai_base.specs.Value.{Text, Value}
 use Rattle.rhai_meaning.specs.Act.{EntryKind, IsConstant, IsExport, is_name, Ending, Gives, Leaves, Act, Scoped, Acts, Do, Named, Finish}
 use Rattle.rhai_meaning.specs.ActForms.{each_value, then_line}
 use Rattle.rhai_meaning.specs.Meaning.{exporting}

@@ -1,6 +1,6 @@
 -- What lemmas on runs share: where a tree stands, the world, and the environments by depth.
 use Rattle.std.proofs.Common.{ℕ, ◌≤◌, Bool, List, Option, None, arith}
-use Rattle.rhai_values.specs.Value.{Text, Value}
+use Rattle.rhai_base.specs.Value.{Text, Value}
 use Rattle.rhai_meaning.specs.Act.{Host, Key, Store, World, Result, Act, Acts, Env, run, run_all}
 use Rattle.rhai_meaning.proofs.Preserves.{OnlyAdds}
 use Rattle.rhai_meaning.proofs.Relations.{AnyHalt, IsOut}

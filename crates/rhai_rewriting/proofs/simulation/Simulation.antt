@@ -1,6 +1,6 @@
 -- An act that does what another does, at every depth.
 use Rattle.std.proofs.Common.{◌≡◌, ℕ, Bool, true, List, Option, Some, refl, subst, arith, false}
-use Rattle.rhai_values.specs.Value.{Text, Value}
+use Rattle.rhai_base.specs.Value.{Text, Value}
 use Rattle.rhai_meaning.specs.Act.{EntryKind, IsConstant, is_name, HostCall, Answer, Store, Ending, Stuck, IsStuck, Halted, Result, At, ScriptCall, Act, Then, Turn, Resolve, AskHost, Invoke, Loop, Scoped, Acts, Only, Do, Named, Finish}
 use Rattle.rhai_meaning.specs.Relations.{Begins, calls_of}
 use Rattle.rhai_meaning.proofs.Relations.{Follows, short, AnyHalt}

@@ -1,6 +1,6 @@
 -- Where a list's value is not wanted: acts that are alike but for it.
 use Rattle.std.proofs.Common.{◌≡◌, ℕ, Bool, true, false, Option, Some, None, List, refl, sym, ap, ◌∙◌}
-use Rattle.rhai_values.specs.Value.{Text, Value, UnitV}
+use Rattle.rhai_base.specs.Value.{Text, Value, UnitV}
 use Rattle.rhai_meaning.specs.Act.{World, ScopeEntry, Store, Ending, Gives, Leaves, Ended, Halted, Result, At, Act, Scoped, Acts, Named, Env, and_then, leave, run, run_all}
 use Rattle.rhai_meaning.specs.Core.{Expr, Var, Does, If, Block, Stmts, no_stmts, stmt}
 use Rattle.rhai_meaning.specs.ActForms.{unit, value_then, ◌>>=◌, branch, truth, if_true, each_value, then_line}

@@ -1,6 +1,6 @@
 -- Where no call captures, it makes no difference whether a body may see the scope of one that does.
 use Rattle.std.proofs.Common.{◌≡◌, ℕ, zero, suc, Bool, true, false, cond, List, [], ◌∷◌, ◌++◌, Option, Some, None, refl, ap}
-use Rattle.rhai_values.specs.Value.{Text, Value}
+use Rattle.rhai_base.specs.Value.{Text, Value}
 use Rattle.rhai_meaning.specs.Act.{EntryKind, resolved, ScopeEntry, HostCall, Answer, World, Store, Ending, Stuck, Root, Result, ScriptCall, Key, Act, Stop, Fail, Then, Turn, Read, Write, Resolve, AskHost, Invoke, Loop, Scoped, Acts, Only, Do, Named, Finish, Env, and_then, with_turn, call_then, leave, returned, rounds, run, run_all}
 use Rattle.rhai_meaning.specs.Calls.{same_key}
 use Rattle.rhai_meaning.specs.Core.{Function, Script}

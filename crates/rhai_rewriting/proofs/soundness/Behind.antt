@@ -1,6 +1,6 @@
 -- Behind a statement that stays: what it pushes is known, and its value is unit where it surely is.
 use Rattle.std.proofs.Common.{◌≡◌, ℕ, Bool, true, false, [], ◌∷◌, Option, Some, None, refl, sym, ap, ◌∙◌, subst}
-use Rattle.rhai_values.specs.Value.{Text, Value, UnitV}
+use Rattle.rhai_base.specs.Value.{Text, Value, UnitV}
 use Rattle.rhai_meaning.specs.Act.{IsVariable, IsConstant, IsAlias, IsExport, Store, Gives, Ended, Result, At, Act, Acts, Named, Env, and_then, run, run_all}
 use Rattle.rhai_meaning.specs.ActForms.{each_value, then_line}
 use Rattle.rhai_meaning.specs.Constants.{constant_value}

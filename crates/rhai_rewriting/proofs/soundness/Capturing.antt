@@ -1,7 +1,7 @@
 -- A tree in which no call captures means acts in which none does.
 use Rattle.std.proofs.Common.{◌≡◌, ℕ, Bool, true, false, cond, List, [], ◌∷◌, Option, Some, None, refl}
 use Rattle.std.specs.Prelude.{not, nat_lt, pos, ◌^◌}
-use Rattle.rhai_values.specs.Value.{Text, Value, UnitV, IntV}
+use Rattle.rhai_base.specs.Value.{Text, Value, UnitV, IntV}
 use Rattle.rhai_meaning.specs.Act.{World, IsVariable, CounterTooLarge, Breaks, Ending, Gives, Leaves, Act, Stop, Scoped, Acts, Only, Fail, Named}
 use Rattle.rhai_meaning.specs.ActForms.{each_value, value_then}
 use Rattle.rhai_meaning.specs.Chains.{OfProperty, OfIndex, OfMethod}

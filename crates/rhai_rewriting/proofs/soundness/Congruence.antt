@@ -1,7 +1,7 @@
 -- Simulations go through every construct of the language, and through chains and loops whose parts simulate.
 use Rattle.std.proofs.Common.{ℕ, Bool, true, false, cond, List, [], ◌∷◌, Option, Some, None}
 use Rattle.std.specs.Prelude.{slice_get, pos, ◌^◌, nat_lt}
-use Rattle.rhai_values.specs.Value.{Text, Value, UnitV, IntV}
+use Rattle.rhai_base.specs.Value.{Text, Value, UnitV, IntV}
 use Rattle.rhai_base.specs.Operators.{Operator}
 use Rattle.rhai_meaning.specs.Act.{IsVariable, Root, Act, Fail, Scoped, Acts, Named, Only, CounterTooLarge}
 use Rattle.rhai_meaning.specs.Chains.{Access}

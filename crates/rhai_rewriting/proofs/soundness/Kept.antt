@@ -2,7 +2,7 @@
 -- and no call that captures is made anew.
 use Rattle.std.proofs.Common.{◌≡◌, ◌≤◌, ℕ, Bool, true, false, List, [], ◌∷◌, refl, sym, ap, ◌∙◌, arith}
 use Rattle.std.specs.Prelude.{◌&&◌, not}
-use Rattle.rhai_values.specs.Value.{Value, UnitV, PointerV}
+use Rattle.rhai_base.specs.Value.{Value, UnitV, PointerV}
 use Rattle.rhai_meaning.specs.Constants.{constant_for}
 use Rattle.rhai_meaning.specs.Engine.{Engine}
 use Rattle.rhai_meaning.specs.Faults.{is_reserved, AreWellFormedFunctions, IsWellFormedScript}

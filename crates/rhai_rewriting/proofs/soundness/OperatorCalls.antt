@@ -1,6 +1,6 @@
 -- Statements all of whose calls are those of operators stay so.
 use Rattle.std.proofs.Common.{◌≡◌, Bool, true, false}
-use Rattle.rhai_values.specs.Value.{Value, UnitV, PointerV}
+use Rattle.rhai_base.specs.Value.{Value, UnitV, PointerV}
 use Rattle.rhai_meaning.specs.Constants.{constant_for}
 use Rattle.rhai_meaning.specs.OperatorCalls.{CallsOperator}
 use Rattle.rhai_meaning.specs.Tree.{ChainFlags, Expr, Stmts}

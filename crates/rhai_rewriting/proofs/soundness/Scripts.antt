@@ -1,6 +1,6 @@
 -- Whole scripts: calls of script functions, capturing or not, and runs.
 use Rattle.std.proofs.Common.{◌≡◌, ℕ, zero, suc, ◌+◌, ◌≤◌, Bool, true, false, cond, ◌&&◌, ◌⊎◌, inl, inr, List, [], ◌∷◌, length, Option, Some, None, refl, sym, ◌∙◌, subst, arith}
-use Rattle.rhai_values.specs.Value.{Text}
+use Rattle.rhai_base.specs.Value.{Text}
 use Rattle.rhai_meaning.specs.Act.{World, ScopeEntry, Key, ScriptCall, Store, Ending, Stuck, IsStuck, Outcome, Ended, Halted, Result, At, Acts, Env, with_turn, run_all}
 use Rattle.rhai_meaning.specs.Core.{Function, Script, Stmts}
 use Rattle.rhai_meaning.specs.Calls.{same_key, key}

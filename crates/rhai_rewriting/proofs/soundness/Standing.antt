@@ -1,7 +1,7 @@
 -- What the parts of a node may not become: a condition that is literally true stays so, a place stays the same place.
 use Rattle.std.proofs.Common.{◌≡◌, ℕ, zero, suc, Bool, true, false, Option, Some, None, refl, sym, ap, ◌∙◌}
 use Rattle.std.specs.Prelude.{◌&&◌, nat_lt}
-use Rattle.rhai_names.specs.Names.{are_all}
+use Rattle.rhai_tokens.specs.Names.{are_all}
 use Rattle.rhai_meaning.specs.Shape.{is_true, condition_at, case_fits, spares, default_fits, is_table}
 use Rattle.rhai_meaning.specs.Tree.{SwitchTable, Expr, Arms, count_arms}
 use Rattle.rhai_rewriting.specs.Context.{Context}

@@ -1,7 +1,7 @@
 -- What the record and a scope fix holds where a run starts: at top level in that scope, and in a body without it.
 use Rattle.std.proofs.Common.{◌≡◌, Bool, true, false, cond, List, [], ◌∷◌, ◌++◌, Option, Some, None, refl, sym, ap, ◌∙◌, append_assoc}
 use Rattle.std.specs.Prelude.{◌&&◌, option_map}
-use Rattle.rhai_values.specs.Value.{Text, Value, same_text}
+use Rattle.rhai_base.specs.Value.{Text, Value, same_text}
 use Rattle.rhai_meaning.specs.Act.{EntryKind, IsVariable, IsConstant, is_name, ScopeEntry, found}
 use Rattle.rhai_meaning.specs.Engine.{Engine, Binding, or_else, constant_named}
 use Rattle.rhai_meaning.specs.Tree.{Script}

@@ -1,6 +1,6 @@
 -- Runs that do not refine another: a row for each part of the definition.
 use Rattle.std.proofs.Common.{◌≡◌, ℕ, inl, inr, true, List, [], ◌∷◌, ◌++◌, None, refl, arith}
-use Rattle.rhai_values.specs.Value.{Value, UnitV, BoolV}
+use Rattle.rhai_base.specs.Value.{Value, UnitV, BoolV}
 use Rattle.rhai_meaning.specs.Act.{HostCall, Store, Gives, Unbound, IsStuck, OutOfTurns, Outcome, Ended, Halted, Result, At}
 use Rattle.rhai_meaning.specs.Relations.{Begins, here, more}
 use Rattle.rhai_meaning.specs.WorkedForms.{asked}

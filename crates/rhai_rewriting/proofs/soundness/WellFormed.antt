@@ -1,7 +1,7 @@
 -- A well-formed tree stays well-formed.
 use Rattle.std.proofs.Common.{◌≡◌, Bool, true, false, Some, None, refl, ap, subst}
 use Rattle.std.specs.Prelude.{◌||◌, ◌&&◌, not, if◌then◌else◌}
-use Rattle.rhai_values.specs.Value.{Value, UnitV, PointerV}
+use Rattle.rhai_base.specs.Value.{Value, UnitV, PointerV}
 use Rattle.rhai_meaning.specs.Constants.{constant_for}
 use Rattle.rhai_meaning.specs.Faults.{NoOperands, ChainShape, AssignTarget, SwitchFault, unless, call_fault, map_fault, is_member_role, is_inside_chain, ◌then◌, IsFaultless, AreWellFormed}
 use Rattle.rhai_meaning.specs.Shape.{is_argument, is_rest, is_table}

@@ -1,6 +1,6 @@
 -- The theorem over whole scripts: one whose statements and functions were rewritten does what it did.
 use Rattle.std.proofs.Common.{◌≡◌, Bool, true, false, cond, List, [], ◌∷◌, length, map, refl, sym, subst}
-use Rattle.rhai_values.specs.Value.{UnitV}
+use Rattle.rhai_base.specs.Value.{UnitV}
 use Rattle.rhai_meaning.specs.Act.{World, ScopeEntry}
 use Rattle.rhai_meaning.specs.Calls.{key}
 use Rattle.rhai_meaning.specs.Core as core

@@ -1,8 +1,8 @@
 use Rattle.std.proofs.Common.{◌≡◌, rules, true, false, sym, ap, ◌∙◌}
 use Rattle.rhai_base.specs.Builtin.{operator_of}
 use Rattle.rhai_meaning.specs.Tree.{Assignment}
-use Rattle.rhai_reading.specs.Reading.{shapes, expr_of, stmt_of, stmt_of-Assignment}
-use Rattle.rhai_reading.proofs.Cases.{stmt_cases}
+use Rattle.rhai_tree.specs.Reading.{shapes, expr_of, stmt_of, stmt_of-Assignment}
+use Rattle.rhai_tree.proofs.Cases.{stmt_cases}
 use Rattle.rhai_tokens.specs.declared.op_assignment.OpAssignment.{OpAssignment}
 use Rattle.rhai_tree.specs.declared.expr.BinaryExpr.{BinaryExpr}
 use Rattle.rhai_assignment_rules.proofs.Assigning.{self_assigned_as}

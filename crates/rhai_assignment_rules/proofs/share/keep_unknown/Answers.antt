@@ -1,7 +1,7 @@
 use Rattle.std.proofs.Common.{rules, ap, ◌∙◌}
 use Rattle.std.proofs.lemmas.Fn.{filter_same}
 use Rattle.rhai_known.specs.State.{known_of}
-use Rattle.rhai_reading.specs.Reading.{shared_names}
+use Rattle.rhai_tree.specs.Reading.{shared_names}
 use Rattle.rhai_rewriting.specs.Known.{unknown}
 use Rattle.rhai_assignment_rules.proofs.Names.{is_unknown, left}
 use Rattle.rhai_assignment_rules.proofs.share.keep_unknown.Goals as goal

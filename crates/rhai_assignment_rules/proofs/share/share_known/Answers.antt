@@ -1,6 +1,6 @@
 use Rattle.std.proofs.Common.{◌≡◌, rules, true, false, sym, ap, ◌∙◌}
-use Rattle.rhai_reading.specs.Reading.{shapes, stmt_of, shared_names, stmt_of-Share}
-use Rattle.rhai_reading.proofs.Cases.{stmt_cases}
+use Rattle.rhai_tree.specs.Reading.{shapes, stmt_of, shared_names, stmt_of-Share}
+use Rattle.rhai_tree.proofs.Cases.{stmt_cases}
 use Rattle.rhai_meaning.specs.Tree.{Share}
 use Rattle.rhai_rewriting.specs.Known.{unknown}
 use Rattle.rhai_assignment_rules.proofs.Fired.{shared}

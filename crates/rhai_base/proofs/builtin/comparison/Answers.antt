@@ -1,7 +1,7 @@
 use Rattle.std.proofs.Common.{rules}
-use Rattle.rhai_values.specs.Reading.{kinds}
+use Rattle.rhai_base.specs.Reading.{kinds}
 use Rattle.rhai_base.specs.Operators.{binary, on_chars}
-use Rattle.rhai_values.specs.Value.{text_of}
+use Rattle.rhai_base.specs.Value.{text_of}
 use Rattle.rhai_base.proofs.builtin.comparison.Goals as goal
 
 pub returns-in-LessThan : goal.returns-in-LessThan

@@ -1,6 +1,6 @@
 use Rattle.std.proofs.Common.{map}
 use Rattle.std.proofs.lemmas.Result.{err_from_is_err_and}
-use Rattle.rhai_values.specs.Reading.{value_of}
+use Rattle.rhai_base.specs.Reading.{value_of}
 use Rattle.rhai_machine.specs.Setting.{setting}
 use Rattle.rhai_machine.proofs.Chaining.{host_sets, host_stops}
 use Rattle.rhai_chain_receivers.proofs.asking.set_by_host.Goals as goal

@@ -3,9 +3,9 @@ use Rattle.std.specs.Option.{option_map}
 use Rattle.std.proofs.lemmas.Result.{IfOk-weaker}
 use Rattle.rhai_engine.specs.EngineInfo.{engine_of}
 use Rattle.rhai_known.specs.State.{progress}
-use Rattle.rhai_reading.specs.Reading.{chain_flags}
+use Rattle.rhai_tree.specs.Reading.{chain_flags}
 use Rattle.rhai_steps.specs.Places.{place_of}
-use Rattle.rhai_values.specs.Reading.{value_of}
+use Rattle.rhai_base.specs.Reading.{value_of}
 use Rattle.rhai_walk.specs.Nodes.{is_dot}
 use Rattle.rhai_chain_rules.proofs.Chains.{value_step, taken_step}
 use Rattle.rhai_chain_rules.proofs.chain.first_answer.Goals as goal

@@ -1,5 +1,5 @@
 use Rattle.std.proofs.lemmas.Result.{err_from_is_err_and}
-use Rattle.rhai_values.specs.Reading.{value_of}
+use Rattle.rhai_base.specs.Reading.{value_of}
 use Rattle.rhai_machine.specs.declared.steps.parts.Access.TheVariants as reached
 use Rattle.rhai_machine.specs.Chaining.{names_meant}
 use Rattle.rhai_machine.specs.Placing.{current_in}

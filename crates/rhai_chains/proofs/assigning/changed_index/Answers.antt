@@ -1,6 +1,6 @@
 use Rattle.std.proofs.lemmas.Result.{err_from_is_err_and}
 use Rattle.rhai_meaning.specs.Chains.{index}
-use Rattle.rhai_values.specs.Reading.{value_of}
+use Rattle.rhai_base.specs.Reading.{value_of}
 use Rattle.rhai_machine.specs.Setting.{setting}
 use Rattle.rhai_machine.specs.Placing.{current_in}
 use Rattle.rhai_state.specs.State.{store_of}

@@ -1,5 +1,5 @@
 use Rattle.std.proofs.Common.{sym, ap, ◌∙◌}
-use Rattle.rhai_values.specs.Reading.{value_of}
+use Rattle.rhai_base.specs.Reading.{value_of}
 use Rattle.rhai_places.specs.Reading.{part_value}
 use Rattle.rhai_machine.specs.Setting.{setting}
 use Rattle.rhai_chains.proofs.Following.{comes_last, further_each}

@@ -1,4 +1,4 @@
-use Rattle.rhai_reading.specs.Reading.{expr_of}
+use Rattle.rhai_tree.specs.Reading.{expr_of}
 use Rattle.rhai_meaning.specs.Weight.{expr_weight}
 use Rattle.rhai_chains.proofs.direct.+part_of.Given as goal
 

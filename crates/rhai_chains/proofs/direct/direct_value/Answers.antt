@@ -1,5 +1,5 @@
 use Rattle.std.proofs.Common.{◌≡◌, Some, sym, ap, ◌∙◌, subst}
-use Rattle.rhai_values.specs.Reading.{value_of}
+use Rattle.rhai_base.specs.Reading.{value_of}
 use Rattle.rhai_places.specs.Reading.{part_value}
 use Rattle.rhai_machine.specs.Placing.{current_in, place_meant, value_at}
 use Rattle.rhai_machine.specs.Setting.{setting}

@@ -1,6 +1,6 @@
 use Rattle.std.proofs.Common.{◌≡◌, Some, map, sym, ap, ◌∙◌, rules}
-use Rattle.rhai_values.specs.Reading.{value_of, value_of-Array}
-use Rattle.rhai_values.specs.Value.{values}
+use Rattle.rhai_base.specs.Reading.{value_of, value_of-Array}
+use Rattle.rhai_base.specs.Value.{values}
 use Rattle.rhai_meaning.specs.Elements.{element}
 use Rattle.rhai_machine.specs.Setting.{setting}
 use Rattle.rhai_chains.proofs.Following.{element_steps}

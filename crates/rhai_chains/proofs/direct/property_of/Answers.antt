@@ -1,7 +1,7 @@
 use Rattle.std.proofs.Common.{ap, ◌∙◌}
-use Rattle.rhai_values.specs.Reading.{members_of, value_of, value_of-Map}
-use Rattle.rhai_values.specs.Value.{fields}
-use Rattle.rhai_reading.specs.Reading.{expr_of, expr_of-Property, property_names}
+use Rattle.rhai_base.specs.Reading.{members_of, value_of, value_of-Map}
+use Rattle.rhai_base.specs.Value.{fields}
+use Rattle.rhai_tree.specs.Reading.{expr_of, expr_of-Property, property_names}
 use Rattle.rhai_meaning.specs.Elements as elements
 use Rattle.rhai_places.specs.Reading.{part_value}
 use Rattle.rhai_chains.proofs.Following.{property_steps}

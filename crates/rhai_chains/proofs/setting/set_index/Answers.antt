@@ -4,8 +4,8 @@ use Rattle.rhai_meaning.specs.Act.{Throws}
 use Rattle.rhai_meaning.specs.ActForms.{throw}
 use Rattle.rhai_meaning.specs.Chains.{set_by_host}
 use Rattle.rhai_places.specs.Reading.{part_value}
-use Rattle.rhai_values.specs.Reading.{value_of}
-use Rattle.rhai_values.specs.Value.{TextV, UnitV}
+use Rattle.rhai_base.specs.Reading.{value_of}
+use Rattle.rhai_base.specs.Value.{TextV, UnitV}
 use Rattle.rhai_machine.specs.declared.steps.placing.Current.TheVariants as kind
 use Rattle.rhai_machine.specs.Setting.{setting}
 use Rattle.rhai_machine.specs.Placing.{current_in, place_meant}

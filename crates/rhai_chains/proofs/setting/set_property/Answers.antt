@@ -1,8 +1,8 @@
 use Rattle.std.proofs.Common.{sym, ◌∙◌}
 use Rattle.rhai_meaning.specs.Places.{AtEntry, inside}
 use Rattle.rhai_places.specs.Reading.{part_value}
-use Rattle.rhai_values.specs.Reading.{value_of}
-use Rattle.rhai_values.specs.Value.{UnitV}
+use Rattle.rhai_base.specs.Reading.{value_of}
+use Rattle.rhai_base.specs.Value.{UnitV}
 use Rattle.rhai_machine.specs.declared.steps.placing.Current.TheVariants as kind
 use Rattle.rhai_machine.specs.Chaining.{names_meant}
 use Rattle.rhai_machine.specs.Setting.{setting}

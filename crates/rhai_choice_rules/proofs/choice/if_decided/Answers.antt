@@ -1,7 +1,7 @@
 use Rattle.std.proofs.Common.{◌≡◌, refl, ap, ◌∙◌}
 use Rattle.std.proofs.lemmas.Result.{IfOk-weaker}
 use Rattle.rhai_tree.specs.declared.stmt.Stmt.{Stmt}
-use Rattle.rhai_reading.specs.Reading.{stmt_of, stmts_of}
+use Rattle.rhai_tree.specs.Reading.{stmt_of, stmts_of}
 use Rattle.rhai_rewriting.specs.Rules.{if_decided, block_or_noop}
 use Rattle.rhai_rewriting.proofs.Keeping.{keeps_chosen}
 use Rattle.rhai_steps.proofs.Stepping.{stmt_rewrite_as}

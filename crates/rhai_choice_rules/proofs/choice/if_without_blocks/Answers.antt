@@ -1,7 +1,7 @@
 use Rattle.std.proofs.Common.{◌≡◌, refl}
 use Rattle.std.proofs.lemmas.Result.{IfOk-weaker}
 use Rattle.rhai_tree.specs.declared.stmt.Stmt.{Stmt}
-use Rattle.rhai_reading.specs.Reading.{expr_of, stmt_of}
+use Rattle.rhai_tree.specs.Reading.{expr_of, stmt_of}
 use Rattle.rhai_rewriting.specs.Rules.{condition_alone}
 use Rattle.rhai_steps.proofs.Stepping.{stmt_rewrite_as}
 use Rattle.rhai_choice_rules.proofs.Choosing.{bare_if}

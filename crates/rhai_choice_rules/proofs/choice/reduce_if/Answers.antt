@@ -1,7 +1,7 @@
 use Rattle.std.proofs.Common.{◌≡◌, Bool, true, refl, sym, ap, ◌∙◌}
 use Rattle.std.proofs.lemmas.Result.{IfOk-weaker}
 use Rattle.rhai_tree.specs.declared.block.StmtBlock.{StmtBlock}
-use Rattle.rhai_reading.specs.Reading.{expr_of, stmts_of}
+use Rattle.rhai_tree.specs.Reading.{expr_of, stmts_of}
 use Rattle.rhai_meaning.specs.Tree.{If}
 use Rattle.rhai_steps.proofs.Stepping.{stmt_rewrite_as}
 use Rattle.rhai_choice_rules.proofs.Choosing.{bare_opens}

@@ -2,7 +2,7 @@ use Rattle.std.proofs.Common.{Bool, false, ap}
 use Rattle.std.proofs.lemmas.Result.{on_ok_weaker}
 use Rattle.rhai_tree.specs.declared.block.StmtBlock.{StmtBlock}
 use Rattle.rhai_meaning.specs.Tree.{If}
-use Rattle.rhai_reading.specs.Reading.{expr_of, stmts_of}
+use Rattle.rhai_tree.specs.Reading.{expr_of, stmts_of}
 use Rattle.rhai_rewriting.specs.Steps.{StmtRewrite}
 use Rattle.rhai_choice_rules.specs.Nested.{Joins, if_of}
 use Rattle.rhai_choice_rules.proofs.Nesting.{nests_alone, joins_made}

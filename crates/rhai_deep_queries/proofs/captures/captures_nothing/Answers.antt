@@ -1,7 +1,7 @@
 use Rattle.std.proofs.Common.{◌&&◌, map, sym, ap, ◌∙◌}
 use Rattle.std.specs.Rc.{rc_value}
 use Rattle.rhai_meaning.specs.Walk.{over_functions}
-use Rattle.rhai_reading.specs.Reading.{function_of}
+use Rattle.rhai_tree.specs.Reading.{function_of}
 use Rattle.rhai_deep_queries.specs.Walks.{capture_walk}
 use Rattle.rhai_deep_queries.proofs.Listed.{listed}
 use Rattle.rhai_deep_queries.proofs.captures.captures_nothing.Goals as goal

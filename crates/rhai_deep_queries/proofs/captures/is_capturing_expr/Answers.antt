@@ -1,4 +1,4 @@
-use Rattle.rhai_reading.proofs.Cases.{expr_cases}
+use Rattle.rhai_tree.proofs.Cases.{expr_cases}
 use Rattle.rhai_deep_queries.proofs.Others.{no_call}
 use Rattle.rhai_deep_queries.proofs.captures.is_capturing_expr.Goals as goal
 

@@ -1,4 +1,4 @@
-use Rattle.rhai_reading.proofs.Cases.{stmt_cases}
+use Rattle.rhai_tree.proofs.Cases.{stmt_cases}
 use Rattle.rhai_deep_queries.proofs.Others.{no_eval_statement}
 use Rattle.rhai_deep_queries.proofs.evals.is_no_eval_statement.Goals as goal
 

@@ -1,4 +1,4 @@
-use Rattle.rhai_reading.proofs.Cases.{stmt_cases}
+use Rattle.rhai_tree.proofs.Cases.{stmt_cases}
 use Rattle.rhai_deep_queries.proofs.Others.{no_break}
 use Rattle.rhai_deep_queries.proofs.surely_unit.is_no_carrying_break.Goals as goal
 

@@ -1,6 +1,6 @@
 use Rattle.std.proofs.Common.{sym, ap, ◌∙◌}
 use Rattle.std.proofs.lemmas.Bool.{not-false, not-true}
-use Rattle.rhai_values.specs.Value.{same_text}
+use Rattle.rhai_base.specs.Value.{same_text}
 use Rattle.std.proofs.lemmas.Slice.Zip.{Zip-more, either_empty_from_Zip}
 use Rattle.rhai_engine.proofs.Overrides.{same_texts-other, same_texts-same, same_texts-lengths, same_texts-none, lengths-rest}
 use Rattle.rhai_engine.proofs.engine_info.are_named.Goals as goal

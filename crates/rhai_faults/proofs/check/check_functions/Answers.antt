@@ -2,7 +2,7 @@ use Rattle.std.proofs.Common.{◌≡◌, ◌+◌, false, None, drop, not, sym, a
 use Rattle.rhai_tree.specs.declared.script_fn.ScriptFuncDef.{ScriptFuncDef}
 use Rattle.rhai_meaning.specs.Faults.{ReservedName, finding, is_reserved, unless, ◌then◌}
 use Rattle.rhai_meaning.specs.Walk.{outermost, over_stmts}
-use Rattle.rhai_reading.specs.Reading.{stmts_of}
+use Rattle.rhai_tree.specs.Reading.{stmts_of}
 use Rattle.rhai_walk.specs.Standing.{statements_standing}
 use Rattle.rhai_faults.specs.Refusals.{IsTheFirst, meant}
 use Rattle.rhai_faults.specs.Standing.{StandsAt, StandsInFunctions, defs_of}

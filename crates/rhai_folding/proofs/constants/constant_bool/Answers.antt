@@ -1,4 +1,4 @@
-use Rattle.rhai_reading.proofs.Cases.{expr_cases}
+use Rattle.rhai_tree.proofs.Cases.{expr_cases}
 use Rattle.rhai_folding.proofs.Undecided.{undecided}
 use Rattle.rhai_folding.proofs.constants.constant_bool.Goals as goal
 

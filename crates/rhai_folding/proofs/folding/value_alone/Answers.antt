@@ -1,6 +1,6 @@
 use Rattle.std.proofs.Common.{rules}
-use Rattle.rhai_reading.specs.Reading.{shapes}
-use Rattle.rhai_values.specs.Reading.{kinds}
+use Rattle.rhai_tree.specs.Reading.{shapes}
+use Rattle.rhai_base.specs.Reading.{kinds}
 use Rattle.rhai_folding.proofs.folding.value_alone.Goals as goal
 
 pub returns-in-Some-Err-Arithmetic : goal.returns-in-Some-Err-Arithmetic

@@ -1,6 +1,6 @@
 use Rattle.std.proofs.Common.{arith}
 use Rattle.std.proofs.lemmas.Grind.{common_steps}
-use Rattle.rhai_values.specs.Reading.{kinds}
+use Rattle.rhai_base.specs.Reading.{kinds}
 use Rattle.rhai_host.proofs.Printing.{steps}
 use Rattle.rhai_host.proofs.print.write_report.Goals as goal
 

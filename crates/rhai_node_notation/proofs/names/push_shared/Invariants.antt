@@ -1,7 +1,7 @@
 use Rattle.std.proofs.Common.{◌≡◌, [], ◌++◌, drop, string_bytes}
 use denote.Text.{Utf8}
 use denote.Shadow.{shadow}
-use Rattle.rhai_reading.specs.Reading.{shared_names}
+use Rattle.rhai_tree.specs.Reading.{shared_names}
 use Rattle.rhai_node_notation.specs.Nodes.{names_text}
 use Rattle.rhai_node_notation.proofs.names.push_shared.Given as goal
 

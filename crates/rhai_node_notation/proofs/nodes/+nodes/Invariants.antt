@@ -1,7 +1,7 @@
 use Rattle.std.proofs.Common.{◌≡◌, [], ◌++◌, drop, string_bytes}
 use denote.Text.{Utf8}
 use denote.Shadow.{shadow}
-use Rattle.rhai_reading.specs.Reading.{arms_of, exprs_of, pairs_of, stmts_of}
+use Rattle.rhai_tree.specs.Reading.{arms_of, exprs_of, pairs_of, stmts_of}
 use Rattle.rhai_node_notation.specs.Nodes.{arms_text, exprs_text, pairs_text, stmts_text}
 use Rattle.rhai_node_notation.proofs.nodes.+nodes.Given as goal
 

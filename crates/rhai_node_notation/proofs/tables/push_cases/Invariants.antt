@@ -1,7 +1,7 @@
 use Rattle.std.proofs.Common.{◌≡◌, [], ◌++◌, map, string_bytes}
 use denote.Text.{Utf8}
 use denote.Shadow.{shadow}
-use Rattle.rhai_reading.specs.Reading.{case_of}
+use Rattle.rhai_tree.specs.Reading.{case_of}
 use Rattle.rhai_node_notation.specs.Nodes.{cases_text}
 use Rattle.rhai_node_notation.proofs.tables.push_cases.Given as goal
 

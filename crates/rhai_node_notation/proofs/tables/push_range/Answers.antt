@@ -1,6 +1,6 @@
 use Rattle.std.proofs.Common.{arith}
 use Rattle.std.proofs.lemmas.Grind.{common_steps}
-use Rattle.rhai_reading.specs.Reading.{shapes}
+use Rattle.rhai_tree.specs.Reading.{shapes}
 use Rattle.rhai_node_notation.proofs.TableLists.{tables}
 use Rattle.rhai_node_notation.proofs.tables.push_range.Goals as goal
 

@@ -1,7 +1,7 @@
 use Rattle.std.proofs.Common.{◌≡◌, [], ◌++◌, drop, map, string_bytes}
 use denote.Text.{Utf8}
 use denote.Shadow.{shadow}
-use Rattle.rhai_reading.specs.Reading.{range_of}
+use Rattle.rhai_tree.specs.Reading.{range_of}
 use Rattle.rhai_node_notation.specs.Nodes.{ranges_text}
 use Rattle.rhai_node_notation.proofs.tables.push_ranges.Given as goal
 

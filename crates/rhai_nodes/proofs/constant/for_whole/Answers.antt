@@ -1,7 +1,7 @@
 use Rattle.std.proofs.Common.{◌≡◌, Some, sym, ap, ◌∙◌}
 use Rattle.std.proofs.lemmas.Result.{IfOk-weaker}
-use Rattle.rhai_values.specs.Reading.{value_of}
-use Rattle.rhai_reading.specs.Reading.{expr_of}
+use Rattle.rhai_base.specs.Reading.{value_of}
+use Rattle.rhai_tree.specs.Reading.{expr_of}
 use Rattle.rhai_meaning.specs.Constants.{constant_for, literal_value}
 use Rattle.rhai_meaning.specs.Tree.{DynamicConstant}
 use Rattle.rhai_nodes.proofs.Held.{held}

@@ -1,15 +1,15 @@
 use Rattle.std.proofs.Common.{◌≡◌, List, [], ◌∷◌, ◌++◌, ◌+◌, Some, drop, map, sym, ap, ◌∙◌, arith}
 use Rattle.std.specs.Cow.{cow_value}
 use Rattle.std.proofs.lemmas.List.{map-append}
-use Rattle.rhai_values.specs.declared.dynamic.Dynamic.{Dynamic}
-use Rattle.rhai_names.specs.declared.ident.Ident.{Ident}
+use Rattle.rhai_base.specs.declared.dynamic.Dynamic.{Dynamic}
+use Rattle.rhai_tokens.specs.declared.ident.Ident.{Ident}
 use Rattle.rhai_tree.specs.declared.expr.Expr.{Expr}
-use Rattle.rhai_values.specs.Reading.{members_of, value_of, value_of-Array, value_of-Map, value_of-Str}
-use Rattle.rhai_values.specs.Value.{ArrayV, TextV, fields, values}
+use Rattle.rhai_base.specs.Reading.{members_of, value_of, value_of-Array, value_of-Map, value_of-Str}
+use Rattle.rhai_base.specs.Value.{ArrayV, TextV, fields, values}
 use Rattle.rhai_meaning.specs.Constants.{array_value, value_and, entry_and, constant_value, constant_values, constant_entries}
 use Rattle.rhai_nodes.specs.Lent.{lent_value}
-use Rattle.rhai_reading.specs.Reading.{expr_of, exprs_of, pairs_of}
-use Rattle.rhai_reading.proofs.ItemLists.{exprs_of-drop, pairs_of-drop}
+use Rattle.rhai_tree.specs.Reading.{expr_of, exprs_of, pairs_of}
+use Rattle.rhai_tree.proofs.ItemLists.{exprs_of-drop, pairs_of-drop}
 use Rattle.rhai_nodes.proofs.LiteralLists.{values_before, values_before-more, values_before-all, joined_from-all, map_from, map_from-more, map_from-all}
 use Rattle.rhai_nodes.proofs.literals.+lend_value.Goals as goal
 

@@ -1,9 +1,9 @@
 use Rattle.std.proofs.Common.{None, cond, ap, ◌∙◌}
 use Rattle.std.specs.Option.{option_map}
 use Rattle.std.specs.Map.{lookup}
-use Rattle.rhai_values.proofs.Exact.{equal}
-use Rattle.rhai_values.specs.Reading.{value_of}
-use Rattle.rhai_reading.specs.Reading.{table_of}
+use Rattle.rhai_base.proofs.Exact.{equal}
+use Rattle.rhai_base.specs.Reading.{value_of}
+use Rattle.rhai_tree.specs.Reading.{table_of}
 use Rattle.rhai_meaning.specs.Control.{case_for}
 use Rattle.rhai_nodes.proofs.Listed.{listed_is}
 use Rattle.rhai_nodes.proofs.switch.case_list.Goals as goal

@@ -1,6 +1,6 @@
 use Rattle.rhai_known.specs.State.{progress}
 use Rattle.rhai_meaning.specs.Weight.{weight}
-use Rattle.rhai_reading.specs.Reading.{stmts_of}
+use Rattle.rhai_tree.specs.Reading.{stmts_of}
 use Rattle.rhai_reducer.specs.Parts.{record_of}
 use Rattle.rhai_optimizer.specs.Passes.{SettingSoFar}
 use Rattle.rhai_optimizer.proofs.passes.make_passes.Given as goal

@@ -1,6 +1,6 @@
 use Rattle.std.proofs.Common.{SFits, w64, rules}
 use Rattle.std.proofs.lemmas.Int.{to_z-of_z}
-use Rattle.rhai_values.specs.Reading.{kinds}
+use Rattle.rhai_base.specs.Reading.{kinds}
 use Rattle.rhai_part_rules.proofs.answers.bit_at.Goals as goal
 
 pub returns : goal.returns

@@ -1,5 +1,5 @@
-use Rattle.rhai_values.specs.Reading.{dynamic_cases}
-use Rattle.rhai_values.specs.Reading.{value_of}
+use Rattle.rhai_base.specs.Reading.{dynamic_cases}
+use Rattle.rhai_base.specs.Reading.{value_of}
 use Rattle.rhai_part_rules.proofs.Others.{no_index}
 use Rattle.rhai_part_rules.proofs.answers.index_of_constant.Goals as goal
 

@@ -1,7 +1,7 @@
-use Rattle.rhai_reading.proofs.Cases.{expr_cases}
+use Rattle.rhai_tree.proofs.Cases.{expr_cases}
 use Rattle.rhai_engine.specs.EngineInfo.{engine_of}
-use Rattle.rhai_reading.specs.Reading.{is_negated}
-use Rattle.rhai_values.specs.Reading.{value_of}
+use Rattle.rhai_tree.specs.Reading.{is_negated}
+use Rattle.rhai_base.specs.Reading.{value_of}
 use Rattle.rhai_part_rules.proofs.Others.{no_member}
 use Rattle.rhai_part_rules.proofs.answers.member_answer.Goals as goal
 

@@ -1,5 +1,5 @@
-use Rattle.rhai_values.specs.Reading.{dynamic_cases}
-use Rattle.rhai_values.specs.Reading.{value_of}
+use Rattle.rhai_base.specs.Reading.{dynamic_cases}
+use Rattle.rhai_base.specs.Reading.{value_of}
 use Rattle.rhai_part_rules.proofs.Others.{no_entry}
 use Rattle.rhai_part_rules.proofs.known.entry_at.Goals as goal
 

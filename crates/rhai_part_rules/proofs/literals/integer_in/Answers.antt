@@ -1,4 +1,4 @@
-use Rattle.rhai_values.specs.Reading.{dynamic_cases}
+use Rattle.rhai_base.specs.Reading.{dynamic_cases}
 use Rattle.rhai_part_rules.proofs.Others.{no_integer}
 use Rattle.rhai_part_rules.proofs.literals.integer_in.Goals as goal
 

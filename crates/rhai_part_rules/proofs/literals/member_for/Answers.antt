@@ -1,5 +1,5 @@
 use Rattle.std.proofs.Common.{sym, ◌∙◌, ap}
-use Rattle.rhai_values.specs.Value.{same_text}
+use Rattle.rhai_base.specs.Value.{same_text}
 use Rattle.rhai_part_rules.proofs.Members.{one_less, member_found}
 use Rattle.rhai_part_rules.proofs.literals.member_for.Goals as goal
 

@@ -1,7 +1,7 @@
 use Rattle.std.proofs.Common.{SFits, w64, ap, sym, ◌∙◌}
 use Rattle.std.proofs.lemmas.Int.{to_z-of_z}
 use Rattle.std.specs.Option.{option_map}
-use Rattle.rhai_values.specs.Reading.{value_of}
+use Rattle.rhai_base.specs.Reading.{value_of}
 use Rattle.rhai_places.proofs.Parts.{get_is, element_some}
 use Rattle.rhai_places.proofs.elements.element.Goals as goal
 

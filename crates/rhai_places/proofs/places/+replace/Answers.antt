@@ -6,8 +6,8 @@ use Rattle.std.specs.Cmp.Lexicographic.{slice_cmp}
 use Rattle.std.specs.Map.{set_value}
 use Rattle.std.specs.Ordering.{nat_cmp}
 use Rattle.std.specs.Prelude.{if◌then◌else◌}
-use Rattle.rhai_values.specs.Reading.{value_of, members_of}
-use Rattle.rhai_values.specs.Value.{MapV, fields}
+use Rattle.rhai_base.specs.Reading.{value_of, members_of}
+use Rattle.rhai_base.specs.Value.{MapV, fields}
 use Rattle.rhai_meaning.specs.Elements.{index_in}
 use Rattle.rhai_places.specs.Reading.{key_meant}
 use Rattle.rhai_places.proofs.AlongKeys.{no_element_written, element_written, entry_written, entry_kept, none_by}

@@ -4,8 +4,8 @@ use Rattle.std.specs.Cmp.Lexicographic.{slice_cmp}
 use Rattle.std.specs.Ordering.{nat_cmp}
 use Rattle.std.proofs.lemmas.Bool.Decides.{nat_tests}
 use Rattle.std.proofs.lemmas.List.{length-map}
-use Rattle.rhai_values.specs.Reading.{value_of, members_of}
-use Rattle.rhai_values.specs.Value.{MapV, fields}
+use Rattle.rhai_base.specs.Reading.{value_of, members_of}
+use Rattle.rhai_base.specs.Value.{MapV, fields}
 use Rattle.rhai_places.specs.Reading.{key_meant}
 use Rattle.rhai_places.proofs.AlongKeys.{no_entry_written, entry_added}
 use Rattle.rhai_places.proofs.places.add_entry.Goals as goal

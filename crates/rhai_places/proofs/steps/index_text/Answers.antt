@@ -1,5 +1,5 @@
 use Rattle.std.proofs.Common.{rules}
-use Rattle.rhai_values.specs.Reading.{kinds}
+use Rattle.rhai_base.specs.Reading.{kinds}
 use Rattle.rhai_places.proofs.Indexes.{indexes}
 use Rattle.rhai_places.proofs.steps.index_text.Goals as goal
 

@@ -1,6 +1,6 @@
 use Rattle.std.proofs.Common.{◌+◌, ◌*◌, length}
 use Rattle.rhai_known.specs.State.{progress}
-use Rattle.rhai_reading.specs.Reading.{stmt_of, stmts_of}
+use Rattle.rhai_tree.specs.Reading.{stmt_of, stmts_of}
 use Rattle.rhai_meaning.specs.Weight.{stmt_weight, weight}
 use Rattle.rhai_reducer.proofs.Flattening.{MovesSoFar}
 use Rattle.rhai_reducer.proofs.blocks.+flatten.Given as goal

@@ -1,5 +1,5 @@
 use Rattle.std.proofs.Common.{◌≡◌, drop}
-use Rattle.rhai_reading.specs.Reading.{stmts_of}
+use Rattle.rhai_tree.specs.Reading.{stmts_of}
 use Rattle.rhai_reducer.specs.Blocks.{any_gives_way}
 use Rattle.rhai_reducer.proofs.blocks.any_gives_way.Given as goal
 

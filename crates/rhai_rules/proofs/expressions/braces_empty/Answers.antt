@@ -1,6 +1,6 @@
 use Rattle.std.proofs.Common.{refl}
 use Rattle.rhai_rewriting.specs.Rules.{braces_empty}
-use Rattle.rhai_reading.specs.Reading.{expr_of-Unit}
+use Rattle.rhai_tree.specs.Reading.{expr_of-Unit}
 use Rattle.rhai_rewriting.proofs.Keeping.{keeps_unit}
 use Rattle.rhai_steps.proofs.Stepping.{expr_rewrite_as}
 use Rattle.rhai_steps.proofs.Places.{stands}

@@ -1,7 +1,7 @@
 use Rattle.std.proofs.Common.{◌≡◌, true, false, refl, sym, ap, ◌∙◌}
 use Rattle.rhai_tree.specs.declared.expr.Expr.{Expr}
-use Rattle.rhai_reading.specs.Reading.{stmt_of, expr_of, stmt_of-Expr, stmt_of-FnCall}
-use Rattle.rhai_reading.proofs.Cases.{stmt_cases}
+use Rattle.rhai_tree.specs.Reading.{stmt_of, expr_of, stmt_of-Expr, stmt_of-FnCall}
+use Rattle.rhai_tree.proofs.Cases.{stmt_cases}
 use Rattle.rhai_meaning.specs.Tree.{BlockExpr, ExprStmt, no_stmts, stmt}
 use Rattle.rhai_steps.specs.Places.{place_of}
 use Rattle.rhai_steps.proofs.Stepping.{expr_rewrite_as}

@@ -1,5 +1,5 @@
 use Rattle.std.proofs.Common.{◌≡◌, true, false, ◌∙◌}
-use Rattle.rhai_reading.proofs.Cases.{expr_cases}
+use Rattle.rhai_tree.proofs.Cases.{expr_cases}
 use Rattle.rhai_rules.proofs.Kept.{not_braces}
 use Rattle.rhai_rules.proofs.expressions.is_settled.Goals as goal
 

@@ -1,4 +1,4 @@
-use Rattle.rhai_reading.proofs.Cases.{stmt_cases}
+use Rattle.rhai_tree.proofs.Cases.{stmt_cases}
 use Rattle.rhai_steps.specs.Places.{place_of}
 use Rattle.rhai_rules.proofs.Kept.{settled_in_braces}
 use Rattle.rhai_rules.proofs.expressions.is_settled_in_braces.Goals as goal

@@ -1,6 +1,6 @@
 use Rattle.std.proofs.Common.{List, refl, sym, ap, ◌∙◌}
 use Rattle.rhai_tree.specs.declared.stmt.Stmt.{Stmt}
-use Rattle.rhai_reading.specs.Reading.{stmts_of}
+use Rattle.rhai_tree.specs.Reading.{stmts_of}
 use Rattle.rhai_meaning.specs.Tree.{BlockExpr}
 use Rattle.rhai_steps.specs.Places.{place_of}
 use Rattle.rhai_rules.specs.Settled.{is_settled_braces}

@@ -1,5 +1,5 @@
 use Rattle.std.proofs.Common.{sym, ap}
-use Rattle.rhai_reading.specs.Reading.{expr_of}
+use Rattle.rhai_tree.specs.Reading.{expr_of}
 use Rattle.rhai_steps.proofs.Stepping.{expr_rewrite_as}
 use Rattle.rhai_rules.proofs.expressions.rewrite_braces.Goals as goal
 

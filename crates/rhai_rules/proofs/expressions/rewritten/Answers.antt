@@ -1,7 +1,7 @@
 use Rattle.std.proofs.Common.{◌≡◌, true, false, refl, sym, ap, ◌∙◌}
 use Rattle.rhai_tree.specs.declared.block.StmtBlock.{StmtBlock}
-use Rattle.rhai_reading.specs.Reading.{expr_of, stmts_of, expr_of-Stmt}
-use Rattle.rhai_reading.proofs.Cases.{expr_cases}
+use Rattle.rhai_tree.specs.Reading.{expr_of, stmts_of, expr_of-Stmt}
+use Rattle.rhai_tree.proofs.Cases.{expr_cases}
 use Rattle.rhai_meaning.specs.Tree.{BlockExpr}
 use Rattle.rhai_steps.proofs.Stepping.{expr_rewrite_as}
 use Rattle.rhai_rules.proofs.Kept.{not_braces}

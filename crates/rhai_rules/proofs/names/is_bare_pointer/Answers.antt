@@ -1,8 +1,8 @@
 use Rattle.std.proofs.Common.{◌≡◌, true, false, not, List, [], ◌∷◌, map, ◌↔◌, IsTrue, refl, sym, ap, ◌∙◌}
 use Rattle.std.specs.Prelude.{◌≢◌, Bool}
-use Rattle.rhai_values.specs.declared.dynamic.Dynamic.{Dynamic}
-use Rattle.rhai_values.specs.Reading.{value_of, value_of-FnPtr}
-use Rattle.rhai_values.specs.Value.{Text, PointerV, values}
+use Rattle.rhai_base.specs.declared.dynamic.Dynamic.{Dynamic}
+use Rattle.rhai_base.specs.Reading.{value_of, value_of-FnPtr}
+use Rattle.rhai_base.specs.Value.{Text, PointerV, values}
 use Rattle.rhai_rules.specs.Settled.{is_bare_pointer}
 use Rattle.rhai_rules.proofs.names.is_bare_pointer.Goals as goal
 

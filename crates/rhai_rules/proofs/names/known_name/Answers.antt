@@ -1,7 +1,7 @@
 use Rattle.std.proofs.lemmas.Result.{IfOk-weaker}
-use Rattle.rhai_values.specs.Reading.{value_of}
+use Rattle.rhai_base.specs.Reading.{value_of}
 use Rattle.rhai_known.specs.State.{progress}
-use Rattle.rhai_reading.specs.Reading.{expr_of}
+use Rattle.rhai_tree.specs.Reading.{expr_of}
 use Rattle.rhai_steps.specs.NodeSteps.{Puts}
 use Rattle.rhai_rules.proofs.Naming.{name_put}
 use Rattle.rhai_rules.proofs.names.known_name.Goals as goal

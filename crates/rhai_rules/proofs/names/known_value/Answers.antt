@@ -1,4 +1,4 @@
-use Rattle.rhai_reading.proofs.Cases.{expr_cases}
+use Rattle.rhai_tree.proofs.Cases.{expr_cases}
 use Rattle.rhai_rules.proofs.Kept.{no_known_value}
 use Rattle.rhai_rules.proofs.names.known_value.Goals as goal
 

@@ -1,6 +1,6 @@
 use Rattle.std.proofs.Common.{sym, ap, ◌∙◌}
 use Rattle.std.specs.Option.{option_map}
-use Rattle.rhai_values.specs.Reading.{value_of}
+use Rattle.rhai_base.specs.Reading.{value_of}
 use Rattle.rhai_steps.specs.Places.{place_of}
 use Rattle.rhai_rules.proofs.Naming.{name_stays}
 use Rattle.rhai_rules.proofs.names.step_name.Goals as goal

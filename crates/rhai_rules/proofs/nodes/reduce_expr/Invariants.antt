@@ -1,6 +1,6 @@
 use Rattle.rhai_engine.specs.EngineInfo.{engine_of}
 use Rattle.rhai_known.specs.State.{progress}
-use Rattle.rhai_reading.specs.Reading.{expr_of}
+use Rattle.rhai_tree.specs.Reading.{expr_of}
 use Rattle.rhai_meaning.specs.Weight.{expr_weight}
 use Rattle.rhai_rewriting.specs.Steps.{ExprSoFar}
 use Rattle.rhai_steps.specs.Places.{place_of}

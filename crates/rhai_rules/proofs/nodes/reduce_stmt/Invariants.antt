@@ -1,6 +1,6 @@
 use Rattle.rhai_engine.specs.EngineInfo.{engine_of}
 use Rattle.rhai_known.specs.State.{progress}
-use Rattle.rhai_reading.specs.Reading.{stmt_of}
+use Rattle.rhai_tree.specs.Reading.{stmt_of}
 use Rattle.rhai_meaning.specs.Weight.{stmt_weight}
 use Rattle.rhai_rewriting.specs.Steps.{StmtSoFar}
 use Rattle.rhai_rules.proofs.nodes.reduce_stmt.Given as goal

@@ -1,5 +1,5 @@
 use Rattle.rhai_engine.specs.EngineInfo.{engine_of}
-use Rattle.rhai_reading.proofs.Cases.{expr_cases}
+use Rattle.rhai_tree.proofs.Cases.{expr_cases}
 use Rattle.rhai_passes.proofs.Passing.{step_passes}
 use Rattle.rhai_rules.proofs.Kept.{nothing_left}
 use Rattle.rhai_rules.proofs.Passing.{step_here, step_under, step_at, step_anywhere, pass_anywhere}

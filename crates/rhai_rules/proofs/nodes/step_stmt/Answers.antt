@@ -1,5 +1,5 @@
 use Rattle.rhai_engine.specs.EngineInfo.{engine_of}
-use Rattle.rhai_reading.proofs.Cases.{stmt_cases}
+use Rattle.rhai_tree.proofs.Cases.{stmt_cases}
 use Rattle.rhai_steps.proofs.Stepping.{stmt_stays}
 use Rattle.rhai_rules.proofs.Kept.{no_rule}
 use Rattle.rhai_rules.proofs.Passing.{stmt_anywhere, stmt_under, stmt_wanted}

@@ -1,5 +1,5 @@
 use Rattle.std.proofs.Common.{◌≡◌, true, sym, ◌∙◌, [], ◌∷◌}
-use Rattle.rhai_values.specs.Reading.{value_of}
+use Rattle.rhai_base.specs.Reading.{value_of}
 use Rattle.rhai_meaning.specs.Engine.{assigning, is_overridden}
 use Rattle.rhai_engine.specs.EngineInfo.{engine_of}
 use Rattle.rhai_run_nodes.proofs.Assigning.{asks_for_none, asks_where_none}

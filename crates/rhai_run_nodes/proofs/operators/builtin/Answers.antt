@@ -1,7 +1,7 @@
 use Rattle.std.proofs.Common.{arith, map}
 use Rattle.std.proofs.lemmas.List.{length-map}
 use borrow.Author.Tests.{ltb-true, ltb-false}
-use Rattle.rhai_values.specs.Reading.{value_of}
+use Rattle.rhai_base.specs.Reading.{value_of}
 use Rattle.rhai_engine.specs.EngineInfo.{engine_of}
 use Rattle.rhai_engine.proofs.Operands.{built_in-few, built_in-many}
 use Rattle.rhai_run_nodes.proofs.operators.builtin.Goals as goal

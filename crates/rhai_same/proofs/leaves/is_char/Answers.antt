@@ -1,4 +1,4 @@
-use Rattle.rhai_reading.proofs.Cases.{expr_cases}
+use Rattle.rhai_tree.proofs.Cases.{expr_cases}
 use Rattle.rhai_same.proofs.Others.{other_char}
 use Rattle.rhai_same.proofs.leaves.is_char.Goals as goal
 

@@ -1,5 +1,5 @@
-use Rattle.rhai_values.specs.Reading.{value_of}
-use Rattle.rhai_reading.proofs.Cases.{expr_cases}
+use Rattle.rhai_base.specs.Reading.{value_of}
+use Rattle.rhai_tree.proofs.Cases.{expr_cases}
 use Rattle.rhai_same.proofs.Others.{other_dynamic}
 use Rattle.rhai_same.proofs.leaves.is_dynamic.Goals as goal
 

@@ -1,4 +1,4 @@
-use Rattle.rhai_reading.proofs.Cases.{stmt_cases}
+use Rattle.rhai_tree.proofs.Cases.{stmt_cases}
 use Rattle.rhai_same.proofs.Others.{other_noop}
 use Rattle.rhai_same.proofs.leaves.is_noop.Goals as goal
 

@@ -1,5 +1,5 @@
-use Rattle.rhai_reading.specs.Reading.{property_names}
-use Rattle.rhai_reading.proofs.Cases.{expr_cases}
+use Rattle.rhai_tree.specs.Reading.{property_names}
+use Rattle.rhai_tree.proofs.Cases.{expr_cases}
 use Rattle.rhai_same.proofs.Others.{other_property}
 use Rattle.rhai_same.proofs.leaves.is_property.Goals as goal
 

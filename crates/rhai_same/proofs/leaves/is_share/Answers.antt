@@ -1,5 +1,5 @@
-use Rattle.rhai_reading.specs.Reading.{shared_names}
-use Rattle.rhai_reading.proofs.Cases.{stmt_cases}
+use Rattle.rhai_tree.specs.Reading.{shared_names}
+use Rattle.rhai_tree.proofs.Cases.{stmt_cases}
 use Rattle.rhai_same.proofs.Others.{other_share}
 use Rattle.rhai_same.proofs.leaves.is_share.Goals as goal
 

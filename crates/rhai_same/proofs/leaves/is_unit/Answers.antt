@@ -1,4 +1,4 @@
-use Rattle.rhai_reading.proofs.Cases.{expr_cases}
+use Rattle.rhai_tree.proofs.Cases.{expr_cases}
 use Rattle.rhai_same.proofs.Others.{other_unit}
 use Rattle.rhai_same.proofs.leaves.is_unit.Goals as goal
 

@@ -1,5 +1,5 @@
-use Rattle.rhai_reading.specs.Reading.{path_of}
-use Rattle.rhai_reading.proofs.Cases.{expr_cases}
+use Rattle.rhai_tree.specs.Reading.{path_of}
+use Rattle.rhai_tree.proofs.Cases.{expr_cases}
 use Rattle.rhai_same.proofs.Others.{other_variable}
 use Rattle.rhai_same.proofs.leaves.is_variable.Goals as goal
 

@@ -1,6 +1,6 @@
 use Rattle.std.proofs.Common.{◌≡◌}
 use Rattle.rhai_meaning.specs.Engine.{same_texts}
-use Rattle.rhai_reading.specs.Reading.{keys_of}
+use Rattle.rhai_tree.specs.Reading.{keys_of}
 use Rattle.rhai_same.proofs.names.alike_keys.Given as goal
 
 abbrev pub invariant-loop-key : goal.invariant-loop-key

@@ -1,6 +1,6 @@
 use Rattle.std.proofs.Common.{◌≡◌, drop}
 use Rattle.rhai_meaning.specs.Engine.{same_texts}
-use Rattle.rhai_reading.specs.Reading.{shared_names}
+use Rattle.rhai_tree.specs.Reading.{shared_names}
 use Rattle.rhai_same.proofs.names.alike_shared.Given as goal
 
 abbrev pub invariant-loop-shared : goal.invariant-loop-shared

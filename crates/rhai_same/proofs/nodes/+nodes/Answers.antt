@@ -1,14 +1,14 @@
 use Rattle.std.proofs.Common.{◌≡◌, Bool, List, sym, ap, ◌∙◌}
 use Rattle.rhai_tokens.specs.declared.position.Position.{Position}
-use Rattle.rhai_names.specs.declared.ident.Ident.{Ident}
-use Rattle.rhai_values.specs.declared.dynamic.Dynamic.{Dynamic}
-use Rattle.rhai_values.specs.Value.{Text}
+use Rattle.rhai_tokens.specs.declared.ident.Ident.{Ident}
+use Rattle.rhai_base.specs.declared.dynamic.Dynamic.{Dynamic}
+use Rattle.rhai_base.specs.Value.{Text}
 use Rattle.rhai_tree.specs.declared.expr.Expr as declared_expr
 use Rattle.rhai_tree.specs.declared.expr.Expr.TheVariants as expr_kind
 use Rattle.rhai_meaning.specs.Tree.{Expr, MapOf}
 use Rattle.rhai_base.specs.Builtin.{operator_of}
-use Rattle.rhai_reading.specs.Reading.{arms_of, breaks, callee_of, cases_of, chain_flags, counter_of, expr_of, expr_of-Map, expressions_of, exprs_of, is_const, is_exported, is_negated, keys_of, maybe_of, pairs_of, stmts_of, subject_of, table_of}
-use Rattle.rhai_reading.proofs.Cases.{expr_cases, stmt_cases}
+use Rattle.rhai_tree.specs.Reading.{arms_of, breaks, callee_of, cases_of, chain_flags, counter_of, expr_of, expr_of-Map, expressions_of, exprs_of, is_const, is_exported, is_negated, keys_of, maybe_of, pairs_of, stmts_of, subject_of, table_of}
+use Rattle.rhai_tree.proofs.Cases.{expr_cases, stmt_cases}
 use Rattle.rhai_same.specs.Alike.{alike_expr}
 use Rattle.rhai_same.proofs.Items.{arms_ended, exprs_ended, pairs_ended, stmts_ended}
 use Rattle.rhai_same.proofs.Others.{other_interpolated, other_array, other_map, other_method_call, other_block_expr, other_fn_call, other_dot, other_index, other_and, other_or, other_coalesce, other_if, other_switch, other_while, other_do, other_for, other_var, other_assignment, other_called, other_block_stmt, other_try, other_expr_stmt, other_break, other_return, other_import}

@@ -1,5 +1,5 @@
 use Rattle.std.proofs.Common.{◌≡◌, drop}
-use Rattle.rhai_reading.specs.Reading.{arms_of, exprs_of, pairs_of, stmts_of}
+use Rattle.rhai_tree.specs.Reading.{arms_of, exprs_of, pairs_of, stmts_of}
 use Rattle.rhai_same.specs.Alike.{alike_arms, alike_exprs, alike_pairs, alike_stmts}
 use Rattle.rhai_same.proofs.nodes.+nodes.Given as goal
 

@@ -1,5 +1,5 @@
 use Rattle.std.proofs.Common.{◌≡◌, map}
-use Rattle.rhai_reading.specs.Reading.{function_of}
+use Rattle.rhai_tree.specs.Reading.{function_of}
 use Rattle.rhai_same.specs.Alike.{alike_functions}
 use Rattle.rhai_same.proofs.scripts.alike_functions.Given as goal
 

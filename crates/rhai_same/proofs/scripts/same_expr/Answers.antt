@@ -1,4 +1,4 @@
-use Rattle.rhai_reading.specs.Reading.{expr_of}
+use Rattle.rhai_tree.specs.Reading.{expr_of}
 use Rattle.rhai_same.proofs.Exact.{same_exprs}
 use Rattle.rhai_same.proofs.scripts.same_expr.Goals as goal
 

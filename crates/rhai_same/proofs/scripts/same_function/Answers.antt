@@ -1,4 +1,4 @@
-use Rattle.rhai_reading.specs.Reading.{function_of}
+use Rattle.rhai_tree.specs.Reading.{function_of}
 use Rattle.rhai_same.proofs.Exact.{same_functions}
 use Rattle.rhai_same.proofs.scripts.same_function.Goals as goal
 

@@ -1,4 +1,4 @@
-use Rattle.rhai_reading.specs.Reading.{stmt_of}
+use Rattle.rhai_tree.specs.Reading.{stmt_of}
 use Rattle.rhai_same.proofs.Exact.{same_statements}
 use Rattle.rhai_same.proofs.scripts.same_stmt.Goals as goal
 

@@ -1,4 +1,4 @@
-use Rattle.rhai_reading.specs.Reading.{stmts_of}
+use Rattle.rhai_tree.specs.Reading.{stmts_of}
 use Rattle.rhai_same.proofs.Exact.{same_lists}
 use Rattle.rhai_same.proofs.scripts.same_stmts.Goals as goal
 

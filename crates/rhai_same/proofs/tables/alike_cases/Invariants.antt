@@ -1,5 +1,5 @@
 use Rattle.std.proofs.Common.{◌≡◌, map}
-use Rattle.rhai_reading.specs.Reading.{case_of}
+use Rattle.rhai_tree.specs.Reading.{case_of}
 use Rattle.rhai_same.specs.Alike.{alike_cases}
 use Rattle.rhai_same.proofs.tables.alike_cases.Given as goal
 

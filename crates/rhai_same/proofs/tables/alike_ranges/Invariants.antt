@@ -1,5 +1,5 @@
 use Rattle.std.proofs.Common.{◌≡◌, drop, map}
-use Rattle.rhai_reading.specs.Reading.{range_of}
+use Rattle.rhai_tree.specs.Reading.{range_of}
 use Rattle.rhai_same.specs.Alike.{alike_ranges}
 use Rattle.rhai_same.proofs.tables.alike_ranges.Given as goal
 

@@ -1,5 +1,5 @@
 use Rattle.std.proofs.Common.{sym, ap, ◌∙◌}
-use Rattle.rhai_values.specs.Reading.{value_of}
+use Rattle.rhai_base.specs.Reading.{value_of}
 use Rattle.rhai_samples.specs.ProgramHost.{appended}
 use Rattle.rhai_samples.proofs.ProgramHosts.{appended_item, appended_none}
 use Rattle.rhai_samples.proofs.program_host.appended.Goals as goal

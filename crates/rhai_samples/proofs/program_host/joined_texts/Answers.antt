@@ -1,7 +1,7 @@
 use Rattle.std.proofs.Common.{arith, map, ◌∙◌}
 use Rattle.std.proofs.lemmas.Bool.{ltb-true, ltb-false}
 use Rattle.std.proofs.lemmas.List.{length-map}
-use Rattle.rhai_values.specs.Reading.{value_of}
+use Rattle.rhai_base.specs.Reading.{value_of}
 use Rattle.rhai_samples.proofs.ProgramHosts.{joined_texts-few, joined_texts-many}
 use Rattle.rhai_samples.proofs.program_host.joined_texts.Goals as goal
 use Rattle.rhai_samples.proofs.program_host.joined_texts.Goals.{in_default-via-then-args-lt2, in_default-via-else-args-lt2+else-args-lt3}

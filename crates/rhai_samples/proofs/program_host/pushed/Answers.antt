@@ -1,8 +1,8 @@
 use Rattle.std.proofs.Common.{arith, map, length, ap, List, ◌∙◌}
 use Rattle.std.proofs.lemmas.Bool.{ltb-true, ltb-false}
 use Rattle.std.proofs.lemmas.List.{length-map}
-use Rattle.rhai_values.specs.declared.dynamic.Dynamic.{Dynamic}
-use Rattle.rhai_values.specs.Reading.{value_of}
+use Rattle.rhai_base.specs.declared.dynamic.Dynamic.{Dynamic}
+use Rattle.rhai_base.specs.Reading.{value_of}
 use Rattle.rhai_samples.proofs.ProgramHosts.{pushed-few, pushed-many}
 use Rattle.rhai_samples.proofs.program_host.pushed.Goals as goal
 use Rattle.rhai_samples.proofs.program_host.pushed.Goals.{in_default-as_slice-via-then-as_slice-lt1, in_default-as_slice-via-else-as_slice-lt1+else-this-lt2}

@@ -8,7 +8,7 @@ use Rattle.rhai_faults.specs.Refusals.{IsTheFirst, meant}
 use Rattle.rhai_faults.specs.Scripts as parts
 use Rattle.rhai_faults.specs.Standing.{OnFault, StandsInFunctions, defs_of, in_others}
 use Rattle.rhai_meaning.specs.Faults.{functions_fault, ◌then◌}
-use Rattle.rhai_reading.specs.Reading.{function_of}
+use Rattle.rhai_tree.specs.Reading.{function_of}
 use Rattle.rhai_script.proofs.Tests.{first_of, stands_alone}
 use Rattle.rhai_script.proofs.check.check_table.Goals as goal
 

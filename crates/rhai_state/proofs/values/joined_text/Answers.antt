@@ -1,8 +1,8 @@
 use Rattle.std.proofs.Common.{arith, ap, map, ◌∙◌}
 use Rattle.std.specs.String.{string_bytes}
-use Rattle.rhai_values.specs.Reading.{value_of, value_of-Str}
+use Rattle.rhai_base.specs.Reading.{value_of, value_of-Str}
 use Rattle.rhai_meaning.specs.Control.{texts_joined}
-use Rattle.rhai_values.specs.Value.{TextV}
+use Rattle.rhai_base.specs.Value.{TextV}
 use Rattle.rhai_state.proofs.Texts.{texts_next, texts_end}
 use Rattle.rhai_state.proofs.values.joined_text.Goals as goal
 

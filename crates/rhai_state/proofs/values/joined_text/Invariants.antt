@@ -1,6 +1,6 @@
 use Rattle.std.proofs.Common.{◌≡◌, ◌++◌, drop, map}
 use Rattle.std.specs.String.{string_bytes}
-use Rattle.rhai_values.specs.Reading.{value_of}
+use Rattle.rhai_base.specs.Reading.{value_of}
 use Rattle.rhai_meaning.specs.Control.{texts_joined}
 use Rattle.rhai_state.proofs.values.joined_text.Given as goal
 

@@ -1,5 +1,5 @@
 use Rattle.std.proofs.Common.{refl, ◌∙◌}
-use Rattle.rhai_reading.specs.Reading.{stmts_of, stmt_of-Block, stmt_of-Noop}
+use Rattle.rhai_tree.specs.Reading.{stmts_of, stmt_of-Block, stmt_of-Noop}
 use Rattle.rhai_rewriting.specs.Rules.{statement_of_braces}
 use Rattle.rhai_rewriting.proofs.Keeping.{keeps_braces}
 use Rattle.rhai_steps.proofs.Stepping.{stmt_rewrite_as}

@@ -1,6 +1,6 @@
 use Rattle.std.proofs.Common.{Some, ap, ◌∙◌}
 use Rattle.rhai_tree.specs.declared.expr.Expr.{Expr}
-use Rattle.rhai_reading.specs.Reading.{expr_of}
+use Rattle.rhai_tree.specs.Reading.{expr_of}
 use Rattle.rhai_rewriting.specs.Tables.{answer_of_arm}
 use Rattle.rhai_switch_rules.proofs.ArmPlaces.{arm_there, arm_missing, arm_stays}
 use Rattle.rhai_switch_rules.proofs.arms.take_answer.Goals as goal

@@ -1,6 +1,6 @@
 use Rattle.std.proofs.Common.{Some, ap, ◌∙◌}
 use Rattle.rhai_tree.specs.declared.expr.Expr.{Expr}
-use Rattle.rhai_reading.specs.Reading.{expr_of}
+use Rattle.rhai_tree.specs.Reading.{expr_of}
 use Rattle.rhai_switch_rules.proofs.ArmPlaces.{arm_there, arm_missing}
 use Rattle.rhai_switch_rules.proofs.arms.take_arm.Goals as goal
 

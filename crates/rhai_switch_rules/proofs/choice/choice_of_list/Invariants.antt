@@ -1,5 +1,5 @@
 use Rattle.std.proofs.Common.{◌≡◌, drop}
-use Rattle.rhai_reading.specs.Reading.{arms_of}
+use Rattle.rhai_tree.specs.Reading.{arms_of}
 use Rattle.rhai_switch_rules.specs.declared.choice.Choice.TheVariants.{Nothing}
 use Rattle.rhai_switch_rules.specs.Choices.{choice_behind}
 use Rattle.rhai_switch_rules.proofs.choice.choice_of_list.Given as goal

@@ -1,6 +1,6 @@
 use Rattle.std.proofs.Common.{sym, ap, drop, ◌+◌, ◌∙◌}
-use Rattle.rhai_values.specs.Reading.{value_of}
-use Rattle.rhai_reading.specs.Reading.{arms_of}
+use Rattle.rhai_base.specs.Reading.{value_of}
+use Rattle.rhai_tree.specs.Reading.{arms_of}
 use Rattle.rhai_rewriting.specs.Tables.{arm_of, arm_decides}
 use Rattle.rhai_switch_rules.specs.Choices.{behind, choice_behind}
 use Rattle.rhai_switch_rules.proofs.Choosing.{held, range-in, range-out}

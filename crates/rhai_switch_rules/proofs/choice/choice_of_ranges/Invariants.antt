@@ -1,6 +1,6 @@
 use Rattle.std.proofs.Common.{◌≡◌, drop}
-use Rattle.rhai_values.specs.Reading.{value_of}
-use Rattle.rhai_reading.specs.Reading.{arms_of}
+use Rattle.rhai_base.specs.Reading.{value_of}
+use Rattle.rhai_tree.specs.Reading.{arms_of}
 use Rattle.rhai_switch_rules.specs.declared.choice.Choice.TheVariants.{Nothing}
 use Rattle.rhai_switch_rules.specs.Choices.{choice_behind}
 use Rattle.rhai_switch_rules.proofs.Choosing.{held}

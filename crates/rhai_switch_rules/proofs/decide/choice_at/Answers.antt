@@ -1,4 +1,4 @@
-use Rattle.rhai_reading.proofs.Cases.{stmt_cases}
+use Rattle.rhai_tree.proofs.Cases.{stmt_cases}
 use Rattle.rhai_switch_rules.proofs.ArmPlaces.{no_choice}
 use Rattle.rhai_switch_rules.proofs.decide.choice_at.Goals as goal
 

@@ -1,6 +1,6 @@
 use Rattle.std.proofs.Common.{sym, ap, subst}
 use Rattle.rhai_known.specs.State.{progress}
-use Rattle.rhai_reading.specs.Reading.{stmt_of}
+use Rattle.rhai_tree.specs.Reading.{stmt_of}
 use Rattle.rhai_rewriting.specs.Rules.{StmtRule}
 use Rattle.rhai_rewriting.specs.Steps.{here}
 use Rattle.rhai_rewriting.proofs.Firing.{stmt_fired_by}

@@ -4,7 +4,7 @@ use Rattle.std.proofs.lemmas.Result.{IfOk-weaker}
 use Rattle.rhai_tree.specs.declared.stmt.Stmt.{Stmt}
 use Rattle.rhai_nodes.specs.Blocks.{answered}
 use Rattle.rhai_meaning.specs.Tree.{If}
-use Rattle.rhai_reading.specs.Reading.{arms_of, expr_of, expressions_of, stmt_of, table_of}
+use Rattle.rhai_tree.specs.Reading.{arms_of, expr_of, expressions_of, stmt_of, table_of}
 use Rattle.rhai_rewriting.specs.Tables.{default_answer}
 use Rattle.rhai_switch_rules.specs.Deciding.{IsIfOf}
 use Rattle.rhai_switch_rules.proofs.decide.if_of_arm.Goals as goal

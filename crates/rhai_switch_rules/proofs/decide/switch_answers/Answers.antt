@@ -2,7 +2,7 @@ use Rattle.std.proofs.Common.{◌≡◌, sym, ap, ◌∙◌, subst}
 use Rattle.std.proofs.lemmas.Result.{IfOk-weaker}
 use Rattle.rhai_tree.specs.declared.stmt.Stmt.{Stmt}
 use Rattle.rhai_tree.specs.declared.stmt.Stmt.TheVariants as kind
-use Rattle.rhai_reading.specs.Reading.{expr_of, stmt_of, stmt_of-Expr}
+use Rattle.rhai_tree.specs.Reading.{expr_of, stmt_of, stmt_of-Expr}
 use Rattle.rhai_rewriting.specs.Rules.{StmtRule}
 use Rattle.rhai_switch_rules.proofs.Decided.{answers, no_answer}
 use Rattle.rhai_switch_rules.proofs.decide.switch_answers.Goals as goal

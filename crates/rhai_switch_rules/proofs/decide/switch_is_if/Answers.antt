@@ -2,8 +2,8 @@ use Rattle.std.proofs.Common.{◌≡◌, sym, ap, ◌∙◌}
 use Rattle.std.proofs.lemmas.Result.{IfOk-weaker}
 use Rattle.rhai_tree.specs.declared.stmt.Stmt.{Stmt}
 use Rattle.rhai_tree.specs.declared.switch.SwitchBlock.{SwitchBlock}
-use Rattle.rhai_reading.specs.Reading.{arms_of, cases_of, expr_of, expressions_of, stmt_of, stmt_of-Switch, subject_of, table_of}
-use Rattle.rhai_reading.proofs.Cases.{stmt_cases}
+use Rattle.rhai_tree.specs.Reading.{arms_of, cases_of, expr_of, expressions_of, stmt_of, stmt_of-Switch, subject_of, table_of}
+use Rattle.rhai_tree.proofs.Cases.{stmt_cases}
 use Rattle.rhai_rewriting.specs.Tables.{arm_of, default_answer}
 use Rattle.rhai_switch_rules.specs.declared.choice.Choice.TheVariants.{Only, Several}
 use Rattle.rhai_switch_rules.specs.Deciding.{IsIfOf}

@@ -1,5 +1,5 @@
 use Rattle.std.proofs.Common.{sym, ap}
-use Rattle.rhai_reading.proofs.Cases.{stmt_cases}
+use Rattle.rhai_tree.proofs.Cases.{stmt_cases}
 use Rattle.rhai_rewriting.specs.Tables.{arm_of, answer_of_arm}
 use Rattle.rhai_switch_rules.proofs.ArmPlaces.{no_arms_in}
 use Rattle.rhai_switch_rules.proofs.decide.taken_answer.Goals as goal

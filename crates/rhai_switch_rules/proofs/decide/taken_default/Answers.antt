@@ -1,6 +1,6 @@
 use Rattle.std.proofs.Common.{sym, ap}
-use Rattle.rhai_reading.specs.Reading.{stmt_of}
-use Rattle.rhai_reading.proofs.Cases.{stmt_cases}
+use Rattle.rhai_tree.specs.Reading.{stmt_of}
+use Rattle.rhai_tree.proofs.Cases.{stmt_cases}
 use Rattle.rhai_rewriting.specs.Tables.{default_answer}
 use Rattle.rhai_switch_rules.specs.Deciding.{arms_in}
 use Rattle.rhai_switch_rules.proofs.ArmPlaces.{no_default_in}

@@ -1,7 +1,7 @@
 use Rattle.std.proofs.Common.{◌≡◌, take, refl, sym, ap, rules, ◌∙◌, add-one, arith}
 use Rattle.std.specs.Prelude.{◌||◌}
 use Rattle.std.proofs.lemmas.List.{length-set}
-use Rattle.rhai_reading.specs.Reading.{arms_of, expr_of}
+use Rattle.rhai_tree.specs.Reading.{arms_of, expr_of}
 use Rattle.rhai_switch_rules.specs.Forgetting.{loses_answer, loses_answers}
 use Rattle.rhai_switch_rules.proofs.ArmPlaces.{arm_written, answer_there, forgets_all, loses_all, mark_there}
 use Rattle.rhai_switch_rules.proofs.Forgotten.{untouched, no_marks_lose, put, put_next, loses_next, answer_in}

@@ -1,5 +1,5 @@
 use Rattle.std.proofs.Common.{◌≡◌, length, take}
-use Rattle.rhai_reading.specs.Reading.{arms_of}
+use Rattle.rhai_tree.specs.Reading.{arms_of}
 use Rattle.rhai_switch_rules.specs.Forgetting.{forgets, loses_answers}
 use Rattle.rhai_switch_rules.proofs.forget.forget_answers.Given as goal
 

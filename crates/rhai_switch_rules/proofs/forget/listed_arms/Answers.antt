@@ -1,7 +1,7 @@
 use Rattle.std.proofs.Common.{List, false, map, ap, replicate, ◌∙◌}
 use Rattle.rhai_base.specs.declared.range_case.RangeCase.{RangeCase}
 use Rattle.rhai_meaning.specs.Walk.{arms_of_cases, arms_of_ranges, arm_of_default, listed}
-use Rattle.rhai_reading.specs.Reading.{range_of, table_of}
+use Rattle.rhai_tree.specs.Reading.{range_of, table_of}
 use Rattle.rhai_switch_rules.specs.Forgetting.{marked}
 use Rattle.rhai_switch_rules.proofs.Forgotten.{marks_listed}
 use Rattle.rhai_switch_rules.proofs.forget.listed_arms.Goals as goal

@@ -1,6 +1,6 @@
 use Rattle.std.proofs.Common.{map, sym, ap, ◌∙◌}
 use Rattle.rhai_meaning.specs.Walk.{arms_of_cases}
-use Rattle.rhai_reading.specs.Reading.{case_of}
+use Rattle.rhai_tree.specs.Reading.{case_of}
 use Rattle.rhai_switch_rules.specs.Forgetting.{marked}
 use Rattle.rhai_switch_rules.proofs.Forgotten.{marked-more}
 use Rattle.rhai_switch_rules.proofs.forget.mark_cases.Goals as goal

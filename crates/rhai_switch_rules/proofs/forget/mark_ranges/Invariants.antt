@@ -1,6 +1,6 @@
 use Rattle.std.proofs.Common.{◌≡◌, drop, map}
 use Rattle.rhai_meaning.specs.Walk.{arms_of_ranges}
-use Rattle.rhai_reading.specs.Reading.{range_of}
+use Rattle.rhai_tree.specs.Reading.{range_of}
 use Rattle.rhai_switch_rules.specs.Forgetting.{marked}
 use Rattle.rhai_switch_rules.proofs.forget.mark_ranges.Given as goal
 

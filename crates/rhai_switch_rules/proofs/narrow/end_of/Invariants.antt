@@ -1,6 +1,6 @@
 use Rattle.std.proofs.Common.{◌≡◌, ◌+◌, drop, map}
 use Rattle.rhai_meaning.specs.Walk.{arms_of_ranges}
-use Rattle.rhai_reading.specs.Reading.{arms_of, range_of}
+use Rattle.rhai_tree.specs.Reading.{arms_of, range_of}
 use Rattle.rhai_switch_rules.specs.Shrinking.{end_of}
 use Rattle.rhai_switch_rules.proofs.narrow.end_of.Given as goal
 

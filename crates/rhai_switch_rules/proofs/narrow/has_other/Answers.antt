@@ -1,5 +1,5 @@
 use Rattle.std.proofs.Common.{◌∙◌}
-use Rattle.rhai_values.specs.Reading.{value_of}
+use Rattle.rhai_base.specs.Reading.{value_of}
 use Rattle.rhai_switch_rules.proofs.Entries.{some_other}
 use Rattle.rhai_switch_rules.proofs.narrow.has_other.Goals as goal
 

@@ -1,6 +1,6 @@
 use Rattle.std.proofs.Common.{rules, map, ap, ◌∙◌}
-use Rattle.rhai_values.specs.Reading.{value_of}
-use Rattle.rhai_reading.specs.Reading.{arms_of, case_of}
+use Rattle.rhai_base.specs.Reading.{value_of}
+use Rattle.rhai_tree.specs.Reading.{arms_of, case_of}
 use Rattle.rhai_switch_rules.specs.Narrowing.{only_cases}
 use Rattle.rhai_switch_rules.proofs.Entries.{only_kept}
 use Rattle.rhai_switch_rules.proofs.narrow.only_cases.Goals as goal

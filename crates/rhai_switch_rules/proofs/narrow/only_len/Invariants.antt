@@ -1,6 +1,6 @@
 use Rattle.std.proofs.Common.{◌≡◌, ◌+◌, ◌≤◌, drop, length, map}
-use Rattle.rhai_values.specs.Reading.{value_of}
-use Rattle.rhai_reading.specs.Reading.{arms_of, range_of}
+use Rattle.rhai_base.specs.Reading.{value_of}
+use Rattle.rhai_tree.specs.Reading.{arms_of, range_of}
 use Rattle.rhai_switch_rules.specs.Narrowing.{only_ranges}
 use Rattle.rhai_switch_rules.proofs.narrow.only_len.Given as goal
 

@@ -1,9 +1,9 @@
 use Rattle.std.proofs.Common.{List, rules, map, take, ap, ◌∙◌}
 use Rattle.std.proofs.lemmas.Fn.{filter_same}
 use Rattle.rhai_base.specs.declared.range_case.RangeCase.{RangeCase}
-use Rattle.rhai_values.specs.Reading.{value_of}
+use Rattle.rhai_base.specs.Reading.{value_of}
 use Rattle.rhai_meaning.specs.Walk.{arms_of_ranges}
-use Rattle.rhai_reading.specs.Reading.{arms_of, range_of}
+use Rattle.rhai_tree.specs.Reading.{arms_of, range_of}
 use Rattle.rhai_switch_rules.specs.Narrowing.{only_ranges}
 use Rattle.rhai_switch_rules.specs.Shrinking.{end_of}
 use Rattle.rhai_switch_rules.proofs.Entries.{is_held, up_to, held_ranges}

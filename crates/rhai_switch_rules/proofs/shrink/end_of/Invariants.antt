@@ -1,5 +1,5 @@
 use Rattle.std.proofs.Common.{◌≡◌, ◌+◌, drop}
-use Rattle.rhai_reading.specs.Reading.{arms_of}
+use Rattle.rhai_tree.specs.Reading.{arms_of}
 use Rattle.rhai_switch_rules.specs.Shrinking.{end_of}
 use Rattle.rhai_switch_rules.proofs.shrink.end_of.Given as goal
 

@@ -1,5 +1,5 @@
 use Rattle.std.proofs.Common.{◌≡◌, drop, map}
-use Rattle.rhai_reading.specs.Reading.{arms_of, range_of}
+use Rattle.rhai_tree.specs.Reading.{arms_of, range_of}
 use Rattle.rhai_switch_rules.specs.Shrinking.{has_false}
 use Rattle.rhai_switch_rules.proofs.shrink.has_false.Given as goal
 

@@ -1,6 +1,6 @@
 use Rattle.std.proofs.Common.{rules, filter, take, ap, ◌∙◌}
 use Rattle.std.proofs.lemmas.Fn.{filter_same}
-use Rattle.rhai_reading.specs.Reading.{arms_of}
+use Rattle.rhai_tree.specs.Reading.{arms_of}
 use Rattle.rhai_rewriting.specs.Tables.{left_arms}
 use Rattle.rhai_switch_rules.specs.Shrinking.{end_of}
 use Rattle.rhai_switch_rules.proofs.Entries.{is_open_arm, left_of}

@@ -1,5 +1,5 @@
 use Rattle.std.proofs.Common.{◌≡◌, ◌+◌, ◌≤◌, drop, length}
-use Rattle.rhai_reading.specs.Reading.{arms_of}
+use Rattle.rhai_tree.specs.Reading.{arms_of}
 use Rattle.rhai_rewriting.specs.Tables.{left_arms}
 use Rattle.rhai_switch_rules.proofs.shrink.left_len.Given as goal
 

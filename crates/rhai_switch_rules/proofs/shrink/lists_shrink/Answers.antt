@@ -1,5 +1,5 @@
 use Rattle.std.proofs.Common.{◌∙◌}
-use Rattle.rhai_reading.specs.Reading.{arms_of}
+use Rattle.rhai_tree.specs.Reading.{arms_of}
 use Rattle.rhai_switch_rules.proofs.Entries.{some_shrink}
 use Rattle.rhai_switch_rules.proofs.shrink.lists_shrink.Goals as goal
 

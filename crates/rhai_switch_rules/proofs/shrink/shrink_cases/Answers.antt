@@ -1,5 +1,5 @@
 use Rattle.std.proofs.Common.{rules, map, ap, ◌∙◌}
-use Rattle.rhai_reading.specs.Reading.{arms_of, case_of}
+use Rattle.rhai_tree.specs.Reading.{arms_of, case_of}
 use Rattle.rhai_switch_rules.specs.Shrinking.{left_cases}
 use Rattle.rhai_switch_rules.proofs.Entries.{left_kept}
 use Rattle.rhai_switch_rules.proofs.shrink.shrink_cases.Goals as goal

@@ -1,6 +1,6 @@
 use Rattle.std.proofs.Common.{rules, map, ap, ◌∙◌}
 use Rattle.std.proofs.lemmas.Fn.{filter_same}
-use Rattle.rhai_reading.specs.Reading.{arms_of, range_of}
+use Rattle.rhai_tree.specs.Reading.{arms_of, range_of}
 use Rattle.rhai_switch_rules.specs.Shrinking.{left_ranges}
 use Rattle.rhai_switch_rules.proofs.Entries.{is_open_range, open_ranges}
 use Rattle.rhai_switch_rules.proofs.shrink.shrink_ranges.Goals as goal

@@ -1,10 +1,10 @@
 use Rattle.std.proofs.Common.{◌≡◌, Some, sym, ap, ◌∙◌, subst}
 use Rattle.rhai_tree.specs.declared.switch.SwitchBlock.{SwitchBlock}
-use Rattle.rhai_values.specs.declared.dynamic.Dynamic.{Dynamic}
-use Rattle.rhai_values.specs.Reading.{value_of}
+use Rattle.rhai_base.specs.declared.dynamic.Dynamic.{Dynamic}
+use Rattle.rhai_base.specs.Reading.{value_of}
 use Rattle.rhai_known.specs.State.{progress}
 use Rattle.rhai_meaning.specs.Constants.{constant_value}
-use Rattle.rhai_reading.specs.Reading.{arms_of, cases_of, expr_of, expressions_of, subject_of, table_of}
+use Rattle.rhai_tree.specs.Reading.{arms_of, cases_of, expr_of, expressions_of, subject_of, table_of}
 use Rattle.rhai_switch_rules.specs.Steps.{switch_of, TableStep}
 use Rattle.rhai_switch_rules.proofs.Stepped.{narrow_step, table_alone}
 use Rattle.rhai_switch_rules.proofs.tables.narrow_block.Goals as goal

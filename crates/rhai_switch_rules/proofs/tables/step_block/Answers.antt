@@ -1,7 +1,7 @@
 use Rattle.std.proofs.Common.{◌≡◌, true, false}
 use Rattle.std.proofs.lemmas.Result.{IfOk-weaker}
 use Rattle.rhai_known.specs.State.{progress}
-use Rattle.rhai_reading.specs.Reading.{arms_of, cases_of, expr_of, expressions_of, subject_of, table_of}
+use Rattle.rhai_tree.specs.Reading.{arms_of, cases_of, expr_of, expressions_of, subject_of, table_of}
 use Rattle.rhai_switch_rules.specs.Steps.{switch_of, Forgets}
 use Rattle.rhai_switch_rules.proofs.Stepped.{shrink_step, forget_step, kept_then, table_alone, arms_alone, with_table}
 use Rattle.rhai_switch_rules.proofs.tables.step_block.Goals as goal

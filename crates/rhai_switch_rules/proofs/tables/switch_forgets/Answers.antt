@@ -1,6 +1,6 @@
 use Rattle.std.proofs.Common.{false, length, replicate, refl, sym, ap, ◌∙◌, arith}
 use Rattle.std.proofs.lemmas.List.{length-replicate}
-use Rattle.rhai_reading.specs.Reading.{arms_of, expressions_of, table_of}
+use Rattle.rhai_tree.specs.Reading.{arms_of, expressions_of, table_of}
 use Rattle.rhai_meaning.specs.Walk.{listed}
 use Rattle.rhai_switch_rules.specs.Forgetting.{forgets, loses_answers}
 use Rattle.rhai_switch_rules.proofs.Forgotten.{marks_length, forgets_none}

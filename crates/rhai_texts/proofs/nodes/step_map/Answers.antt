@@ -2,7 +2,7 @@ use Rattle.std.proofs.Common.{Bool}
 use Rattle.std.proofs.lemmas.Result.{IfOk-weaker}
 use Rattle.rhai_known.specs.State.{progress}
 use Rattle.rhai_meaning.specs.Engine.{Engine}
-use Rattle.rhai_reading.specs.Reading.{expr_of}
+use Rattle.rhai_tree.specs.Reading.{expr_of}
 use Rattle.rhai_rewriting.specs.Steps.{Place}
 use Rattle.rhai_steps.specs.NodeSteps.{ExprStep}
 use Rattle.rhai_texts.specs.Parts.{Folds}

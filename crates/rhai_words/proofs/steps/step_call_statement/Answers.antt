@@ -1,6 +1,6 @@
 use Rattle.std.proofs.Common.{sym, ap, ◌∙◌}
 use Rattle.std.specs.Option.{option_map}
-use Rattle.rhai_values.specs.Reading.{value_of}
+use Rattle.rhai_base.specs.Reading.{value_of}
 use Rattle.rhai_words.proofs.Folds.{value_put_as_statement, call_stays_as_statement}
 use Rattle.rhai_words.proofs.steps.step_call_statement.Goals as goal
 

@@ -1,5 +1,5 @@
 use Rattle.std.proofs.Common.{rules}
-use Rattle.rhai_values.specs.Reading.{kinds}
+use Rattle.rhai_base.specs.Reading.{kinds}
 use Rattle.rhai_base.proofs.range_case.RangeCase.set_index.Goals as goal
 
 pub returns-in-ExclusiveInt : goal.returns-in-ExclusiveInt

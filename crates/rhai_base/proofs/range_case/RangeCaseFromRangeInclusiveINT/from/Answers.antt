@@ -1,5 +1,5 @@
 use Rattle.std.proofs.Common.{rules}
-use Rattle.rhai_values.specs.Reading.{kinds}
+use Rattle.rhai_base.specs.Reading.{kinds}
 use Rattle.rhai_base.proofs.range_case.RangeCaseFromRangeInclusiveINT.from.Goals as goal
 
 pub returns : goal.returns

@@ -7,11 +7,11 @@ use mir.Val.{SFits}
 use Rattle.std.proofs.lemmas.Result.{err_from_is_err_and}
 use Rattle.std.proofs.lemmas.List.{length-map}
 use Rattle.std.specs.Option.{option_copied, option_map}
-use Rattle.rhai_values.specs.declared.dynamic.Dynamic.{Dynamic}
-use Rattle.rhai_values.specs.Reading.{value_of, value_of-Int}
+use Rattle.rhai_base.specs.declared.dynamic.Dynamic.{Dynamic}
+use Rattle.rhai_base.specs.Reading.{value_of, value_of-Int}
 use Rattle.rhai_meaning.specs.Meaning.{module_at}
 use Rattle.rhai_base.specs.Builtin.{operator_of}
-use Rattle.rhai_reading.specs.Reading.{arms_of, callee_of, chain_flags, counter_of, expr_of, exprs_of, expressions_of, is_negated, keys_of, pairs_of, range_of, stmt_of, stmts_of, table_of}
+use Rattle.rhai_tree.specs.Reading.{arms_of, callee_of, chain_flags, counter_of, expr_of, exprs_of, expressions_of, is_negated, keys_of, pairs_of, range_of, stmt_of, stmts_of, table_of}
 use Rattle.rhai_functions.specs.FnKey.{definition_key}
 use Rattle.rhai_functions.specs.FnLib.{functions_of}
 use Rattle.rhai_functions.specs.Table.{find_by}

@@ -3,8 +3,8 @@ use Rattle.rhai_machine.specs.Setting.{setting}
 use Rattle.rhai_evaluator.proofs.Operands.{ArgsAt, OperandsAt, both_of, either_of, first_of}
 use Rattle.rhai_evaluator.proofs.Maps.{MembersAt}
 use Rattle.rhai_state.proofs.Statements.{StmtsAt}
-use Rattle.rhai_values.specs.Reading.{value_of}
-use Rattle.rhai_reading.specs.Reading.{arms_of, cases_of, counter_of, expr_of, exprs_of, expressions_of, maybe_of, pairs_of, range_of, stmt_of, stmts_of, subject_of}
+use Rattle.rhai_base.specs.Reading.{value_of}
+use Rattle.rhai_tree.specs.Reading.{arms_of, cases_of, counter_of, expr_of, exprs_of, expressions_of, maybe_of, pairs_of, range_of, stmt_of, stmts_of, subject_of}
 use Rattle.rhai_meaning.specs.Walk.{over_maybe, over_pairs, total}
 use Rattle.rhai_meaning.specs.Weight.{expr_weight, exprs_weight, own_weight, stmt_weight, weight}
 use Rattle.rhai_meaning.specs.Control.{round}

@@ -1,7 +1,7 @@
 use Rattle.std.proofs.Common.{sym, ap, ◌∙◌}
 use Rattle.std.specs.Prelude.{reverse}
 use Rattle.std.specs.Option.{option_map}
-use Rattle.rhai_values.specs.Reading.{value_of}
+use Rattle.rhai_base.specs.Reading.{value_of}
 use Rattle.rhai_rewriting.specs.Known.{look}
 use Rattle.rhai_known.specs.Bindings.{held_in}
 use Rattle.rhai_known.specs.State.{Standing, known_of}

@@ -1,7 +1,7 @@
 use Rattle.std.proofs.Common.{◌-◌, List, length, drop, ap, ◌∙◌, arith}
 use Rattle.std.specs.Prelude.{Option}
 use Rattle.rhai_text.specs.Text.{Text}
-use Rattle.rhai_values.specs.declared.dynamic.Dynamic.{Dynamic}
+use Rattle.rhai_base.specs.declared.dynamic.Dynamic.{Dynamic}
 use Rattle.rhai_known.proofs.Stack.{rewound}
 use Rattle.rhai_known.proofs.state.OptimizerState.rewind_var.Goals as goal
 

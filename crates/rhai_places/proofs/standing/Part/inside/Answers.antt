@@ -1,5 +1,5 @@
 use Rattle.std.proofs.Common.{rules}
-use Rattle.rhai_values.specs.Reading.{kinds}
+use Rattle.rhai_base.specs.Reading.{kinds}
 use Rattle.rhai_places.proofs.AlongKeys.{along_keys}
 use Rattle.rhai_places.proofs.standing.Part.inside.Goals as goal
 

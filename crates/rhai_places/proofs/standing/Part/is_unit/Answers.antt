@@ -1,5 +1,5 @@
 use Rattle.std.proofs.Common.{rules}
-use Rattle.rhai_values.specs.Reading.{kinds}
+use Rattle.rhai_base.specs.Reading.{kinds}
 use Rattle.rhai_places.proofs.Parts.{parts}
 use Rattle.rhai_places.proofs.standing.Part.is_unit.Goals as goal
 

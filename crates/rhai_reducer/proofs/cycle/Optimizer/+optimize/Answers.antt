@@ -3,9 +3,9 @@ use Rattle.std.proofs.lemmas.Result.{on_ok_weaker}
 use Rattle.std.specs.declared.num.NonZeroUsize.{NonZeroUsize}
 use Rattle.rhai_known.specs.State.{progress}
 use Rattle.rhai_tokens.specs.declared.op_assignment.OpAssignment.{OpAssignment}
-use Rattle.rhai_names.specs.declared.ident.Ident.{Ident}
-use Rattle.rhai_values.specs.declared.dynamic.Dynamic.{Dynamic}
-use Rattle.rhai_values.specs.Value.{Text}
+use Rattle.rhai_tokens.specs.declared.ident.Ident.{Ident}
+use Rattle.rhai_base.specs.declared.dynamic.Dynamic.{Dynamic}
+use Rattle.rhai_base.specs.Value.{Text}
 use Rattle.rhai_base.specs.Builtin.{operator_of}
 use Rattle.rhai_tree.specs.declared.expr.Expr.{Expr}
 use Rattle.rhai_tree.specs.declared.expr.BinaryExpr.{BinaryExpr}
@@ -13,7 +13,7 @@ use Rattle.rhai_tree.specs.declared.expr.FnCallExpr.{FnCallExpr}
 use Rattle.rhai_tree.specs.declared.block.StmtBlock.{StmtBlock}
 use Rattle.rhai_tree.specs.declared.stmt.FlowControl.{FlowControl}
 use Rattle.rhai_tree.specs.declared.switch.SwitchBlock.{SwitchBlock}
-use Rattle.rhai_reading.specs.Reading.{shapes, subject_of, cases_of, expressions_of, arms_of, table_of, breaks, is_negated, is_const, is_exported, chain_flags, keys_of, counter_of, callee_of, expr_of, exprs_of, pairs_of, maybe_of, stmt_of, stmts_of, expr_of-InterpolatedString, expr_of-Array, expr_of-Map, expr_of-MethodCall, expr_of-Stmt, expr_of-FnCall, expr_of-Dot, expr_of-Index, expr_of-And, expr_of-Or, expr_of-Coalesce, stmt_of-If, stmt_of-Switch, stmt_of-While, stmt_of-Do, stmt_of-For, stmt_of-Var, stmt_of-Assignment, stmt_of-Block, stmt_of-TryCatch, stmt_of-Expr, stmt_of-FnCall, stmt_of-BreakLoop, stmt_of-Return, stmt_of-Import}
+use Rattle.rhai_tree.specs.Reading.{shapes, subject_of, cases_of, expressions_of, arms_of, table_of, breaks, is_negated, is_const, is_exported, chain_flags, keys_of, counter_of, callee_of, expr_of, exprs_of, pairs_of, maybe_of, stmt_of, stmts_of, expr_of-InterpolatedString, expr_of-Array, expr_of-Map, expr_of-MethodCall, expr_of-Stmt, expr_of-FnCall, expr_of-Dot, expr_of-Index, expr_of-And, expr_of-Or, expr_of-Coalesce, stmt_of-If, stmt_of-Switch, stmt_of-While, stmt_of-Do, stmt_of-For, stmt_of-Var, stmt_of-Assignment, stmt_of-Block, stmt_of-TryCatch, stmt_of-Expr, stmt_of-FnCall, stmt_of-BreakLoop, stmt_of-Return, stmt_of-Import}
 use Rattle.rhai_meaning.specs.Tree.{InterpolatedString, ArrayOf, MapOf, MethodCall, BlockExpr, FnCall, Dot, Index, And, Or, Coalesce, If, Switch, While, Do, For, Var, Assignment, Block, TryCatch, ExprStmt, FnCallStmt, an_expr, BreakLoop, Return, Import}
 use Rattle.rhai_meaning.specs.Weight.{weight}
 use Rattle.rhai_rewriting.proofs.Firing.{expr_done, stmt_pass, stmt_fits, stmt_early, stmt_fired_falls, subject_then, subject_fired, subject_fits}

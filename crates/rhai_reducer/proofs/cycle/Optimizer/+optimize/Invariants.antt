@@ -1,6 +1,6 @@
 use Rattle.std.proofs.Common.{◌+◌, ◌*◌}
 use Rattle.rhai_known.specs.State.{progress}
-use Rattle.rhai_reading.specs.Reading.{subject_of, cases_of, expressions_of, arms_of, expr_of, exprs_of, pairs_of, maybe_of, stmt_of, stmts_of}
+use Rattle.rhai_tree.specs.Reading.{subject_of, cases_of, expressions_of, arms_of, expr_of, exprs_of, pairs_of, maybe_of, stmt_of, stmts_of}
 use Rattle.rhai_rewriting.proofs.rules.Arms.{arms_weight}
 use Rattle.rhai_meaning.specs.Walk.{total, over_pairs, over_maybe}
 use Rattle.rhai_sweep.specs.Marks.{mark_of}

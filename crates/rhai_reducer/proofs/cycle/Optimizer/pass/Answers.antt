@@ -1,6 +1,6 @@
 use Rattle.std.proofs.Common.{sym, ap, subst}
 use Rattle.rhai_known.specs.State.{known_of, progress}
-use Rattle.rhai_reading.specs.Reading.{stmts_of}
+use Rattle.rhai_tree.specs.Reading.{stmts_of}
 use Rattle.rhai_reducer.specs.Parts.{record_of}
 use Rattle.rhai_reducer.specs.Pass.{PassRun}
 use Rattle.rhai_reducer.proofs.Passing.{pass_run}

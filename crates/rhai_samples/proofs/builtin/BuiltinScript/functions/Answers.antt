@@ -2,7 +2,7 @@ use Rattle.std.proofs.Common.{◌≡◌, List, [], map, refl, ap, ◌∙◌, rul
 use Rattle.std.specs.Rc.{rc_value}
 use Rattle.std.specs.declared.alloc.Global.{Global}
 use Rattle.std.specs.declared.rc.Rc.{Rc}
-use Rattle.rhai_reading.specs.Reading.{function_of}
+use Rattle.rhai_tree.specs.Reading.{function_of}
 use Rattle.rhai_tree.specs.declared.script_fn.ScriptFuncDef.{ScriptFuncDef}
 use Rattle.rhai_samples.specs.BuiltinScripts.{script_functions}
 use Rattle.rhai_samples.specs.declared.builtin.BuiltinScript.{BuiltinScript}

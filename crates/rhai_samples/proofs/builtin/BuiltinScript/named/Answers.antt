@@ -1,5 +1,5 @@
 use Rattle.std.proofs.Common.{refl, sym, ap, ◌∙◌}
-use Rattle.rhai_values.specs.Value.{same_text}
+use Rattle.rhai_base.specs.Value.{same_text}
 use Rattle.rhai_samples.specs.BuiltinScripts.{all_scripts}
 use Rattle.rhai_samples.proofs.Among.{among_other, among_found, among_none}
 use Rattle.rhai_samples.proofs.builtin.BuiltinScript.named.Goals as goal

@@ -1,5 +1,5 @@
 use Rattle.std.proofs.Common.{rules}
-use Rattle.rhai_values.specs.Reading.{kinds}
+use Rattle.rhai_base.specs.Reading.{kinds}
 use Rattle.rhai_samples.proofs.program_host.ProgramHostHost.answer.Goals as goal
 
 pub returns-in-f : goal.returns-in-f

@@ -1,9 +1,9 @@
 use Rattle.std.proofs.Common.{◌≡◌, Bool, Some, if◌then◌else◌, sym, ap, ◌∙◌}
 use Rattle.std.specs.Option.{option_map}
-use Rattle.rhai_values.specs.Reading.{value_of}
+use Rattle.rhai_base.specs.Reading.{value_of}
 use Rattle.rhai_meaning.specs.Constants.{literal_value}
 use Rattle.rhai_meaning.specs.Tree.{Var}
-use Rattle.rhai_reading.specs.Reading.{expr_of, is_const, is_exported}
+use Rattle.rhai_tree.specs.Reading.{expr_of, is_const, is_exported}
 use Rattle.rhai_script_queries.specs.Literals.{sought_at}
 use Rattle.rhai_script_queries.proofs.Seeking.{tries_refused, unwanted, wanted_found, wanted_none, wanted_refused}
 use Rattle.rhai_script_queries.proofs.literals.LiteralVariables.declared.Goals as goal

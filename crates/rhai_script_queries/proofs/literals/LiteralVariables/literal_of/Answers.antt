@@ -1,7 +1,7 @@
 use Rattle.std.proofs.Common.{sym, ap, subst, ◌∙◌}
 use Rattle.rhai_meaning.specs.Tree.{Stmt}
-use Rattle.rhai_reading.specs.Reading.{stmt_of, stmt_of-Var}
-use Rattle.rhai_reading.proofs.Cases.{stmt_cases}
+use Rattle.rhai_tree.specs.Reading.{stmt_of, stmt_of-Var}
+use Rattle.rhai_tree.proofs.Cases.{stmt_cases}
 use Rattle.rhai_script_queries.specs.Literals.{Tries, sought_at}
 use Rattle.rhai_script_queries.proofs.Seeking.{none_sought}
 use Rattle.rhai_script_queries.proofs.literals.LiteralVariables.literal_of.Goals as goal

@@ -1,7 +1,7 @@
 use Rattle.std.proofs.Common.{◌≡◌, ◌<◌, List, [], ◌∷◌, length, ap, arith}
 use Rattle.std.proofs.lemmas.Grind.{common_steps}
 use Rattle.rhai_tree.specs.declared.stmt.Stmt.{Stmt}
-use Rattle.rhai_reading.specs.Reading.{stmt_of, stmts_of}
+use Rattle.rhai_tree.specs.Reading.{stmt_of, stmts_of}
 use Rattle.rhai_script_queries.specs.Literals.{Comes, Sought, left_to, sought_as, sought_at, sought_in}
 use Rattle.rhai_script_queries.proofs.Seeking.{fewer, passed-end, passed-found, passed-next, passed-refused, passed-start, split}
 use Rattle.rhai_script_queries.proofs.literals.LiteralVariablesIterator.next.Goals as goal

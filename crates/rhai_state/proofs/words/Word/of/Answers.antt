@@ -1,5 +1,5 @@
 use Rattle.std.proofs.Common.{rules}
-use Rattle.rhai_values.specs.Reading.{kinds}
+use Rattle.rhai_base.specs.Reading.{kinds}
 use Rattle.rhai_state.proofs.words.Word.of.Goals as goal
 
 pub returns-in_default : goal.returns-in_default

@@ -1,5 +1,5 @@
 use Rattle.std.proofs.Common.{rules}
-use Rattle.rhai_values.specs.Reading.{kinds}
+use Rattle.rhai_base.specs.Reading.{kinds}
 use Rattle.tests_of_syntax.proofs.usual_host.UsualHostHost.answer.Goals as goal
 
 pub returns-in-len : goal.returns-in-len

@@ -1,6 +1,6 @@
 use Rattle.std.proofs.Common.{◌≡◌, ◌∙◌, [], ◌∷◌, sym, subst}
 use Rattle.rhai_base.specs.Operators.{NoEntry}
-use Rattle.rhai_values.specs.Reading.{value_of}
+use Rattle.rhai_base.specs.Reading.{value_of}
 use Rattle.rhai_meaning.specs.ActForms.{ask_host}
 use Rattle.rhai_machine.specs.Setting.{setting}
 use Rattle.rhai_state.specs.Evaluating.{Runs}

@@ -1,5 +1,5 @@
 use Rattle.std.proofs.Common.{sym, ap}
-use Rattle.rhai_values.specs.Reading.{value_of}
+use Rattle.rhai_base.specs.Reading.{value_of}
 use Rattle.rhai_machine.specs.Setting.{setting}
 use Rattle.rhai_run_nodes.specs.Variables.{root_meant}
 use Rattle.rhai_machine.proofs.Placing.{read_given, read_stuck}

@@ -1,6 +1,6 @@
 use Rattle.std.proofs.Common.{map, refl, sym}
 use Rattle.rhai_places.specs.Reading.{key_meant}
-use Rattle.rhai_values.specs.Reading.{value_of}
+use Rattle.rhai_base.specs.Reading.{value_of}
 use Rattle.rhai_machine.specs.Setting.{setting}
 use Rattle.rhai_machine.proofs.Writing.{record_constant, record_unbound}
 use Rattle.rhai_machine.proofs.steps.machine.Machine.write_in_constant.Goals as goal

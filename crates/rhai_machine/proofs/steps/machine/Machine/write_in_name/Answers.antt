@@ -1,6 +1,6 @@
 use Rattle.std.proofs.Common.{◌≡◌, Some, None, get_or, map, rules, refl, sym, ap, subst, ◌∙◌}
 use Rattle.std.specs.Prelude.{if◌then◌else◌}
-use Rattle.rhai_values.specs.Reading.{value_of}
+use Rattle.rhai_base.specs.Reading.{value_of}
 use Rattle.rhai_places.specs.Reading.{key_meant}
 use Rattle.rhai_machine.specs.Setting.{setting}
 use Rattle.rhai_state.specs.Variables.{IsLatest, IsMissing}

@@ -1,0 +1,5 @@
+pub mod Acts
+pub mod Roles
+pub mod Values
+pub mod Trees
+pub mod Scripts

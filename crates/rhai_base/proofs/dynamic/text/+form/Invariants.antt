@@ -1,0 +1,18 @@
+use Rattle.std.proofs.Common.{◌≡◌, ℕ, List, ◌++◌, [], drop}
+use Rattle.std.specs.Fmt.{HasWritten, IsPlainFormatter}
+use Rattle.std.specs.Str.{IsUtf8}
+use Rattle.rhai_base.specs.declared.dynamic.Dynamic.{Dynamic}
+use Rattle.rhai_base.specs.Value.{Text}
+use Rattle.rhai_base.proofs.Forms.{items_after, members_after}
+use Rattle.rhai_base.proofs.dynamic.text.+form.Given as goal
+
+abbrev pub invariant-write_items-loop-item : goal.invariant-write_items-loop-item
+invariant-write_items-loop-item g l =
+    (written : Text) × (written ++ items_after l.separator (drop l.item-index l.item-items) ≡ items_after [] l.items)
+    × (IsPlainFormatter l.initial.f → HasWritten g.W.Write.write_str_gives l.initial.f written l.f) × IsUtf8 l.separator
+
+abbrev pub invariant-write_members-loop-key : goal.invariant-write_members-loop-key
+invariant-write_members-loop-key g l =
+    (done : List (List ℕ × Dynamic)) × (l.members ≡ done ++ l.key-iterator)
+    × (written : Text) × (written ++ members_after l.before l.key-iterator ≡ members_after [] l.members)
+    × (IsPlainFormatter l.initial.f → HasWritten g.W.Write.write_str_gives l.initial.f written l.f) × IsUtf8 l.before

@@ -1,0 +1,89 @@
+//! Why a call does not answer, and its number.
+
+ghost use Rattle.std.specs.Prelude.{◌<ℤ◌, pos};
+
+use rhai_base::{OutOfMemory, Position};
+use rhai_source::{Refusal, Why};
+use std::alloc::AllocError;
+use std::fmt::{self, Display, Write};
+
+/// Why a call does not answer.
+#[derive(Debug, Drop)]
+pub(crate) enum Failure {
+    /// The options are none that this library knows.
+    Options,
+    /// A text is not in UTF-8.
+    Bytes,
+    /// The constants are refused.
+    Constants(Refusal),
+    /// The text is.
+    Text(Refusal),
+    /// There was no memory.
+    OutOfMemory,
+}
+
+impl Failure {
+    /// Its number for a caller: -1 for options, -2 for bytes that are no text, -3 for constants, -4 for a text that is
+    /// no script, -5 for a script that has no text, -6 for want of memory.
+    pub(crate) fn code(&self) -> i64
+        ensures { result <ℤ pos 0 }
+    {
+        match self {
+            Failure::Options => -1,
+            Failure::Bytes => -2,
+            Failure::Constants(refusal) => code_of(refusal, -3),
+            Failure::Text(refusal) => code_of(refusal, -4),
+            Failure::OutOfMemory => -6,
+        }
+    }
+
+    /// Where it stands in its text.
+    pub(crate) fn position(&self) -> Position {
+        match self {
+            Failure::Constants(refusal) | Failure::Text(refusal) => refusal.position,
+            Failure::Options | Failure::Bytes | Failure::OutOfMemory => Position::NONE,
+        }
+    }
+}
+
+/// The number of a refusal, where that of another one is this.
+fn code_of(refusal: &Refusal, otherwise: i64) -> i64
+    requires { otherwise <ℤ pos 0 }
+    ensures { result <ℤ pos 0 }
+{
+    match &refusal.why {
+        Why::OutOfMemory => -6,
+        Why::NoText(_) | Why::AnotherScript => -5,
+        Why::NoScript(_) | Why::NoNotation(_) | Why::NoConstant | Why::NoFunction => otherwise,
+    }
+}
+
+/// The reason, without the place.
+impl Display for Failure {
+    fn fmt<W: Write>(&self, f: &mut fmt::Formatter<W>) -> fmt::Result {
+        match self {
+            Failure::Options => f.write_str("these options are of another version"),
+            Failure::Bytes => f.write_str("the text is not in UTF-8"),
+            Failure::Constants(refusal) | Failure::Text(refusal) => write!(f, "{}", refusal.why),
+            Failure::OutOfMemory => f.write_str("out of memory"),
+        }
+    }
+}
+
+impl From<Refusal> for Failure {
+    fn from(refusal: Refusal) -> Failure {
+        Failure::Text(refusal)
+    }
+}
+
+impl From<OutOfMemory> for Failure {
+    fn from(_: OutOfMemory) -> Failure {
+        Failure::OutOfMemory
+    }
+}
+
+impl From<AllocError> for Failure {
+    fn from(_: AllocError) -> Failure {
+        Failure::OutOfMemory
+    }
+}

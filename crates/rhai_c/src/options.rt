@@ -1,0 +1,68 @@
+//! How texts are read, optimised and run.
+
+ghost use Rattle.std.specs.Prelude.{IfOk};
+ghost use Rattle.rhai_c.specs.Options.{IsLevel, IsSyntax};
+
+use crate::codes::Failure;
+use rhai_optimizer::OptimizationLevel;
+use rhai_parser::ParseOptions;
+use rhai_source::Syntax;
+
+/// What a caller may choose.
+#[repr(C)]
+#[derive(Clone, Copy, Debug, PartialEq, Eq)]
+pub struct BalvuzsomOptions {
+    /// How many bytes this struct has: 48.
+    pub size: u64,
+    /// How many rounds and calls a run has.
+    pub turns: u64,
+    /// How much is optimised: 0 for nothing, 1 for `Simple`, 2 for `Full`.
+    pub level: u32,
+    /// 1 where texts are trees in print, 0 where they are in rhai's own syntax.
+    pub flags: u32,
+    /// How deep a text may nest; 0 for as deep as is ever read.
+    pub max_expr_depth: u64,
+    /// How deep a function may nest; 0 for as deep as is ever read.
+    pub max_function_expr_depth: u64,
+    /// How many bytes a literal text may have; 0 for any number.
+    pub max_string_size: u64,
+}
+
+/// How many bytes the options have.
+const SIZE: u64 = 48;
+
+impl BalvuzsomOptions {
+    /// How texts are written. Refused where the struct is another one.
+    pub(crate) fn syntax(&self) -> Result<Syntax, Failure>
+        ensures { IfOk result (IsSyntax self.now.flags) }
+    {
+        if self.size != SIZE {
+            return Err(Failure::Options);
+        }
+        match self.flags {
+            0 => Ok(Syntax::Rhai(self.bounds())),
+            1 => Ok(Syntax::Notation),
+            _ => Err(Failure::Options),
+        }
+    }
+
+    fn bounds(&self) -> ParseOptions {
+        ParseOptions {
+            max_expr_depth: self.max_expr_depth as usize,
+            max_function_expr_depth: self.max_function_expr_depth as usize,
+            max_string_size: self.max_string_size as usize,
+        }
+    }
+
+    /// How much is optimised.
+    pub(crate) fn level(&self) -> Result<OptimizationLevel, Failure>
+        ensures { IfOk result (IsLevel self.now.level) }
+    {
+        match self.level {
+            0 => Ok(OptimizationLevel::None),
+            1 => Ok(OptimizationLevel::Simple),
+            2 => Ok(OptimizationLevel::Full),
+            _ => Err(Failure::Options),
+        }
+    }
+}

@@ -1,0 +1,5 @@
+pub mod ByCases
+pub mod Defaults
+pub mod Entries
+pub mod Lists
+pub mod Switches

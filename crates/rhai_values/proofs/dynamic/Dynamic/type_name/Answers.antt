@@ -1,6 +1,0 @@
-use Rattle.std.proofs.Common.{rules}
-use Rattle.rhai_values.specs.Reading.{kinds}
-use Rattle.rhai_values.proofs.dynamic.Dynamic.type_name.Goals as goal
-
-pub returns-in-Bool : goal.returns-in-Bool
-returns-in-Bool c = search (rules, kinds)

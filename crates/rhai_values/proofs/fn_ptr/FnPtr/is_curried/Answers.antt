@@ -1,5 +1,0 @@
-use Rattle.std.proofs.Common.{rules}
-use Rattle.rhai_values.proofs.fn_ptr.FnPtr.is_curried.Goals as goal
-
-pub returns : goal.returns
-returns c = search rules

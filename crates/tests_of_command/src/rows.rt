@@ -1,0 +1,79 @@
+//! Blocks headed by the words that are asked, with a file's text and what is answered.
+
+use crate::blocks::{Block, HEAD, block_of};
+use crate::shelf::Shelf;
+use crate::stops::Stops;
+use rhai_command::run_words;
+use std::alloc::{AllocError, Global};
+use std::fmt::Write;
+use std::str;
+
+/// What was told.
+#[derive(Drop)]
+struct Told {
+    status: u8,
+    out: Stops,
+    err: Stops,
+}
+
+/// Says of each block what is answered, where that is not what is wanted, or where with less room something else than a
+/// beginning is written; and then how many blocks are met, and in how many cases there was less room.
+pub(crate) fn ask(alloc: Global, rows: &str) -> Result<String, AllocError> {
+    let mut said = String::new(alloc);
+    let (mut met, mut cuts): (usize, usize) = (0, 0);
+    for written in rows.split(HEAD).skip(1) {
+        let block = block_of(written);
+        let whole = tell(alloc, block, usize::MAX)?;
+        let cut = cuts_of(alloc, block, &whole)?;
+        let told = text_of(alloc, &whole)?;
+        if told.as_str().trim() == block.wanted.trim() && cut.is_some() {
+            met = met.saturating_add(1);
+            cuts = cuts.saturating_add(cut.unwrap_or(0));
+        } else {
+            writeln!(said, "==== {}\n{}\n---- is\n{told}", block.head, block.text)?;
+        }
+    }
+    writeln!(said, "command: {met} met, cut short {cuts} times")?;
+    Ok(said)
+}
+
+/// What the command tells where either side has room for so many bytes.
+fn tell(alloc: Global, block: Block<'_>, room: usize) -> Result<Told, AllocError> {
+    let mut words = Vec::new(alloc);
+    for word in block.head.split_whitespace() {
+        words.push(String::from_str(alloc, word)?)?;
+    }
+    let mut shelf = Shelf {
+        alloc,
+        text: block.text,
+    };
+    let (mut out, mut err) = (Stops::new(alloc, room), Stops::new(alloc, room));
+    let status = run_words(alloc, words.as_slice(), &mut shelf, &mut out, &mut err);
+    Ok(Told { status, out, err })
+}
+
+/// In how many cases there was less room, some forty of a long answer, if each of them ended with status 2 and wrote a
+/// beginning.
+fn cuts_of(alloc: Global, block: Block<'_>, whole: &Told) -> Result<Option<usize>, AllocError> {
+    let most = whole.out.taken.len().max(whole.err.taken.len());
+    let mut cuts: usize = 0;
+    for room in (0..most).step_by(most / 40 + 1) {
+        cuts = cuts.saturating_add(1);
+        let cut = tell(alloc, block, room)?;
+        let is_beginning = cut.out.begins(&whole.out) && cut.err.begins(&whole.err);
+        if cut.status != 2 || !is_beginning {
+            return Ok(None);
+        }
+    }
+    Ok(Some(cuts))
+}
+
+fn text_of(alloc: Global, told: &Told) -> Result<String, AllocError> {
+    let out = str::from_utf8(told.out.taken.as_slice()).unwrap_or("no text");
+    let err = str::from_utf8(told.err.taken.as_slice()).unwrap_or("no text");
+    let mut text = format!(in alloc; "status {}\n{out}", told.status)?;
+    for line in err.lines() {
+        writeln!(text, "! {line}")?;
+    }
+    Ok(text)
+}
