@@ -1,9 +1,9 @@
 //! Optimises scripts in files, checks them, runs them and prints their trees; `--help` says how.
 #![tactic(auto)]
 
-use rhai_command::{Files, run_words};
 use std::process::ExitCode;
 use std::{env, fs, io};
+use tool_command::{Files, run_words};
 
 /// The files of the system, and standard input.
 #[derive(Drop)]

@@ -1,16 +1,16 @@
 -- Assignments that are made by an operator.
 use Rattle.std.proofs.Common.{◌≡◌, ◌<◌, ◌≤◌, Bool, true, false, not, ◌&&◌, List, [], ◌∷◌, length, Option, Some, None, is_some, refl, sym, ap, ◌∙◌, subst, arith}
-use Rattle.rhai_tree.specs.declared.expr.Expr as declared_expr
+use Rattle.ast_types.specs.declared.expr.Expr as declared_expr
 use Rattle.rhai_base.specs.Value.{Text}
 use Rattle.rhai_base.specs.Operators.{Operator}
-use Rattle.rhai_meaning.specs.Engine.{Engine, overrides_any, assigning}
-use Rattle.rhai_meaning.specs.Tree.{CallToken, NoToken, OfOperator, OfOther, Callee, Expr, Variable, FnCall, Exprs, no_exprs, expr, Stmt, Assignment}
-use Rattle.rhai_tree.specs.Reading.{exprs_of, mark_by}
-use Rattle.rhai_rewriting.specs.Rules as rule
-use Rattle.rhai_rewriting.specs.Rules.{StmtRule}
-use Rattle.rhai_rewriting.specs.SelfAssign.{has_op_assignment, leaves_names}
-use Rattle.rhai_rewriting.specs.Steps.{Progress, here, KeepsStmtParts}
-use Rattle.rhai_rewriting.proofs.rules.Equality.{text_is}
+use Rattle.theory_meaning.specs.Engine.{Engine, overrides_any, assigning}
+use Rattle.theory_meaning.specs.Tree.{CallToken, NoToken, OfOperator, OfOther, Callee, Expr, Variable, FnCall, Exprs, no_exprs, expr, Stmt, Assignment}
+use Rattle.ast_types.specs.Reading.{exprs_of, mark_by}
+use Rattle.theory_rewriting.specs.Rules as rule
+use Rattle.theory_rewriting.specs.Rules.{StmtRule}
+use Rattle.theory_rewriting.specs.SelfAssign.{has_op_assignment, leaves_names}
+use Rattle.theory_rewriting.specs.Steps.{Progress, here, KeepsStmtParts}
+use Rattle.theory_rewriting.proofs.rules.Equality.{text_is}
 use Rattle.rhai_steps.proofs.Places.{not-false, not-true}
 use Rattle.rhai_assignment_rules.specs.Firing.{Fires}
 use Rattle.rhai_assignment_rules.specs.Settled.{is_name, has_form, is_open, may_assign, are_name_and_value, operates_on, assigns_itself, is_settled_assignment, token_called, second, second_operand, has_operation, holds_operation}

@@ -1,14 +1,14 @@
 -- Rules that fired.
 use Rattle.std.proofs.Common.{◌≡◌, Bool, true, false, ◌||◌, ◌+◌, ◌<◌, ◌≤◌, ℕ, List, [], ◌∷◌, length, Option, Some, None, is_some, sym, ap, ◌∙◌, subst, arith}
 use Rattle.rhai_base.specs.Value.{Text, Value}
-use Rattle.rhai_meaning.specs.Engine.{Engine}
-use Rattle.rhai_meaning.specs.Tree.{Stmt, Noop, Share}
-use Rattle.rhai_rewriting.specs.Known.{Known, look, unless_known, unknown}
-use Rattle.rhai_rewriting.specs.Rules as rule
-use Rattle.rhai_rewriting.specs.Rules.{StmtRule}
-use Rattle.rhai_rewriting.specs.Steps.{Progress, here, KeepsStmtParts}
-use Rattle.rhai_rewriting.proofs.Firing.{stmt_fired_by}
-use Rattle.rhai_rewriting.proofs.Keeping.{keeps_noop}
+use Rattle.theory_meaning.specs.Engine.{Engine}
+use Rattle.theory_meaning.specs.Tree.{Stmt, Noop, Share}
+use Rattle.theory_rewriting.specs.Known.{Known, look, unless_known, unknown}
+use Rattle.theory_rewriting.specs.Rules as rule
+use Rattle.theory_rewriting.specs.Rules.{StmtRule}
+use Rattle.theory_rewriting.specs.Steps.{Progress, here, KeepsStmtParts}
+use Rattle.theory_rewriting.proofs.Firing.{stmt_fired_by}
+use Rattle.theory_rewriting.proofs.Keeping.{keeps_noop}
 use Rattle.rhai_steps.proofs.Places.{not-false}
 use Rattle.rhai_assignment_rules.specs.Firing.{Fires}
 use Rattle.rhai_assignment_rules.specs.Settled.{is_settled_share, shares_nothing, knows_some}

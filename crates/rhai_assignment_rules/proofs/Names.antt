@@ -4,11 +4,11 @@ use Rattle.std.proofs.Math.Seq.{drop-cons, drop-length}
 use Rattle.std.specs.List.{filter}
 use Rattle.std.specs.Prelude.{if◌then◌else◌}
 use Rattle.std.specs.declared.num.NonZeroUsize.{NonZeroUsize}
-use Rattle.rhai_tokens.specs.declared.ident.Ident.{Ident}
+use Rattle.base_tokens.specs.declared.ident.Ident.{Ident}
 use Rattle.rhai_base.specs.Value.{Value}
-use Rattle.rhai_meaning.specs.Tree.{Share}
-use Rattle.rhai_tree.specs.Reading.{shared_names}
-use Rattle.rhai_rewriting.specs.Known.{Known, look, unless_known, unknown}
+use Rattle.theory_meaning.specs.Tree.{Share}
+use Rattle.ast_types.specs.Reading.{shared_names}
+use Rattle.theory_rewriting.specs.Known.{Known, look, unless_known, unknown}
 use Rattle.rhai_assignment_rules.specs.Settled.{knows_some, shares_nothing}
 
 pub knows-drop : (ks : List Known) (xs : List (Ident × Option NonZeroUsize)) (i : ℕ) (d : Ident × Option NonZeroUsize) → i < length xs → knows_some ks (shared_names (drop i xs)) ≡ (is_some (look ks (get_or xs i d).0.name) || knows_some ks (shared_names (drop (i + 1) xs)))

@@ -1,15 +1,15 @@
 -- All other nodes, where a match names some.
 use Rattle.std.proofs.Common.{◌≡◌, true, false, List, Option, refl}
 use Rattle.std.specs.declared.num.NonZeroUsize.{NonZeroUsize}
-use Rattle.rhai_tokens.specs.declared.ident.Ident.{Ident}
+use Rattle.base_tokens.specs.declared.ident.Ident.{Ident}
 use Rattle.rhai_base.specs.Value.{Text}
-use Rattle.rhai_tree.specs.declared.expr.Expr as declared_expr
-use Rattle.rhai_tree.specs.declared.stmt.Stmt as declared_stmt
-use Rattle.rhai_tree.specs.declared.stmt.Stmt.TheVariants as stmt_kind
-use Rattle.rhai_meaning.specs.Engine.{Engine}
-use Rattle.rhai_meaning.specs.Tree.{Expr, Stmt, NoToken}
-use Rattle.rhai_tree.proofs.Cases.{ExprCase, variable_case, method_call_case, call_case, StmtCase, assignment_case, call_statement_case, share_case}
-use Rattle.rhai_rewriting.specs.Known.{Known}
+use Rattle.ast_types.specs.declared.expr.Expr as declared_expr
+use Rattle.ast_types.specs.declared.stmt.Stmt as declared_stmt
+use Rattle.ast_types.specs.declared.stmt.Stmt.TheVariants as stmt_kind
+use Rattle.theory_meaning.specs.Engine.{Engine}
+use Rattle.theory_meaning.specs.Tree.{Expr, Stmt, NoToken}
+use Rattle.ast_types.proofs.Cases.{ExprCase, variable_case, method_call_case, call_case, StmtCase, assignment_case, call_statement_case, share_case}
+use Rattle.theory_rewriting.specs.Known.{Known}
 use Rattle.rhai_steps.proofs.NodeKinds.{NoVariable, NoCall, NoMethod, NoAssignment, NoCallStatement}
 use Rattle.rhai_assignment_rules.specs.Settled.{is_name, operates_on, assigns_itself, token_called, has_operation, holds_operation, is_settled_assignment, is_settled_share, shares_nothing}
 use Rattle.rhai_assignment_rules.specs.WritingWalk.{expr_writes_nothing, stmt_writes_nothing}

@@ -2,8 +2,8 @@
 use Rattle.std.proofs.Common.{List, [], Some, None}
 use Rattle.rhai_base.specs.Operators.{Operator}
 use Rattle.rhai_base.specs.Value.{Text}
-use Rattle.rhai_meaning.specs.Tree.{Callee, Expr, Variable, FnCall, no_exprs, expr, Assignment, Share}
-use Rattle.rhai_rewriting.specs.Steps.{KeepsStmtParts}
+use Rattle.theory_meaning.specs.Tree.{Callee, Expr, Variable, FnCall, no_exprs, expr, Assignment, Share}
+use Rattle.theory_rewriting.specs.Steps.{KeepsStmtParts}
 
 pub keeps_share : (xs ys : List Text) → KeepsStmtParts (Share xs) (Share ys)
 keeps_share xs ys = record { parts = λ r h. (tt, (tt, tt)); clear = λ ks h. tt }

@@ -1,10 +1,10 @@
 -- A rule that fired at a statement.
 use Rattle.std.specs.Prelude.{Bool, true, false}
-use Rattle.rhai_meaning.specs.Engine.{Engine}
-use Rattle.rhai_meaning.specs.Tree.{Stmt}
+use Rattle.theory_meaning.specs.Engine.{Engine}
+use Rattle.theory_meaning.specs.Tree.{Stmt}
 use Rattle.rhai_steps.specs.declared.step.NodeStep.{NodeStep}
 use Rattle.rhai_steps.specs.declared.step.NodeStep.TheVariants as step
-use Rattle.rhai_rewriting.specs.Steps.{Progress, StmtFired, KeepsStmtParts}
+use Rattle.theory_rewriting.specs.Steps.{Progress, StmtFired, KeepsStmtParts}
 
 -- what it made has parts that are reduced
 abbrev pub Fires : Engine → Bool → Progress → Progress → Stmt → Stmt → Type 0

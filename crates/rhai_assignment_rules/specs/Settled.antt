@@ -1,10 +1,10 @@
 -- Assignments and shared names at which no rule fires, their parts being reduced.
 use Rattle.std.specs.Prelude.{Bool, true, false, ◌&&◌, ◌||◌, not, List, [], ◌∷◌, Option, Some, None, is_some}
 use Rattle.rhai_base.specs.Value.{Text, same_text}
-use Rattle.rhai_meaning.specs.Engine.{Engine, overrides_any, assigning}
-use Rattle.rhai_meaning.specs.Tree.{CallToken, NoToken, OfOperator, Expr, Variable, FnCall, Exprs, no_exprs, expr, Stmt, Assignment, Share}
-use Rattle.rhai_rewriting.specs.Known.{Known, look}
-use Rattle.rhai_rewriting.specs.SelfAssign.{has_op_assignment, leaves_names}
+use Rattle.theory_meaning.specs.Engine.{Engine, overrides_any, assigning}
+use Rattle.theory_meaning.specs.Tree.{CallToken, NoToken, OfOperator, Expr, Variable, FnCall, Exprs, no_exprs, expr, Stmt, Assignment, Share}
+use Rattle.theory_rewriting.specs.Known.{Known, look}
+use Rattle.theory_rewriting.specs.SelfAssign.{has_op_assignment, leaves_names}
 
 -- ---- shared names
 

@@ -1,21 +1,21 @@
 //! The rule at an assignment.
 
-#![tactic(auto, using(rhai_tree::specs::Reading::shapes))]
+#![tactic(auto, using(ast_types::specs::Reading::shapes))]
 
 ghost use Rattle.std.specs.Prelude.{◌≡◌, true, false, Bool, Some, length, is_none};
-ghost use Rattle.rhai_engine.specs.EngineInfo.{engine_of};
-ghost use Rattle.rhai_known.specs.State.{progress};
-ghost use Rattle.rhai_meaning.specs.Engine.{Engine};
-ghost use Rattle.rhai_tree.specs.Reading.{callee_of, expr_of, exprs_of, mark_by, mark_of, stmt_of};
+ghost use Rattle.base_engine.specs.EngineInfo.{engine_of};
+ghost use Rattle.opt_known.specs.State.{progress};
+ghost use Rattle.theory_meaning.specs.Engine.{Engine};
+ghost use Rattle.ast_types.specs.Reading.{callee_of, expr_of, exprs_of, mark_by, mark_of, stmt_of};
 ghost use Rattle.rhai_base.specs.Builtin.{operator_of};
 ghost use Rattle.rhai_assignment_rules.specs.Firing.{Fires, answer};
 ghost use Rattle.rhai_assignment_rules.specs.Settled as settled;
 ghost use Rattle.rhai_steps.specs.NodeSteps.{StmtStep};
 
 use crate::leaves_names::leaves_names;
+use base_engine::EngineInfo;
 use rhai_ast::{BinaryExpr, Expr, FnCallExpr, Stmt, Take};
 use rhai_base::{OpAssignment, Seq, Token};
-use rhai_engine::EngineInfo;
 use rhai_nodes::put_expr;
 use rhai_steps::{NodeStep, OptimizerState, note_fired};
 

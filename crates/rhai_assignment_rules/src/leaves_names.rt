@@ -1,11 +1,11 @@
 //! Whether an expression leaves all names as they are.
 
-#![tactic(auto, using(rhai_tree::specs::Reading::shapes))]
+#![tactic(auto, using(ast_types::specs::Reading::shapes))]
 
 ghost use Rattle.std.specs.Prelude.{◌≡◌};
-ghost use Rattle.rhai_meaning.specs.OperatorCalls.{is_operator};
-ghost use Rattle.rhai_tree.specs.Reading.{callee_of, expr_of, stmt_of};
-ghost use Rattle.rhai_rewriting.specs.SelfAssign as spec;
+ghost use Rattle.theory_meaning.specs.OperatorCalls.{is_operator};
+ghost use Rattle.ast_types.specs.Reading.{callee_of, expr_of, stmt_of};
+ghost use Rattle.theory_rewriting.specs.SelfAssign as spec;
 ghost use Rattle.rhai_assignment_rules.specs.WritingWalk as walk;
 
 use rhai_ast::{ASTNode, Expr, FnCallExpr, Stmt};
@@ -23,7 +23,7 @@ pub(crate) fn leaves_names(expr: &Expr) -> bool
 struct WritesNothingTest;
 
 impl NodeTest for WritesNothingTest {
-    ghost use Rattle.rhai_rewriting.specs.SelfAssign.{writes_nothing};
+    ghost use Rattle.theory_rewriting.specs.SelfAssign.{writes_nothing};
 
     ghost holds = { λ test n. writes_nothing n };
 

@@ -1,12 +1,12 @@
 //! The rules at shared names.
 
-#![tactic(auto, using(rhai_tree::specs::Reading::shapes, crate::proofs::Names::steps))]
+#![tactic(auto, using(ast_types::specs::Reading::shapes, crate::proofs::Names::steps))]
 
 ghost use Rattle.std.specs.Prelude.{◌≡◌, ◌&&◌, not, true, false, Bool, is_some};
-ghost use Rattle.rhai_known.specs.State.{known_of, progress};
-ghost use Rattle.rhai_meaning.specs.Engine.{Engine};
-ghost use Rattle.rhai_tree.specs.Reading.{shared_names, stmt_of};
-ghost use Rattle.rhai_rewriting.specs.Known.{look, unknown};
+ghost use Rattle.opt_known.specs.State.{known_of, progress};
+ghost use Rattle.theory_meaning.specs.Engine.{Engine};
+ghost use Rattle.ast_types.specs.Reading.{shared_names, stmt_of};
+ghost use Rattle.theory_rewriting.specs.Known.{look, unknown};
 ghost use Rattle.rhai_assignment_rules.specs.Firing.{Fires, answer};
 ghost use Rattle.rhai_assignment_rules.specs.Settled as settled;
 ghost use Rattle.rhai_steps.specs.NodeSteps.{StmtStep};

@@ -1,7 +1,7 @@
 -- What may be asked of a node that is lent.
 use Rattle.std.specs.Prelude.{Bool, true, false}
-use Rattle.rhai_tokens.specs.declared.position.Position.{Position}
-use Rattle.rhai_tree.specs.Positions.{position_of, stmt_position_of}
+use Rattle.base_tokens.specs.declared.position.Position.{Position}
+use Rattle.ast_types.specs.Positions.{position_of, stmt_position_of}
 use Rattle.rhai_walk.specs.declared.node.ASTNode.{ASTNode}
 use Rattle.rhai_walk.specs.declared.node.ASTNode.TheVariants as node
 

@@ -5,9 +5,9 @@
 ghost use Rattle.std.specs.Prelude.{◌≡◌, IfOk};
 ghost use Rattle.rhai_nodes.specs.Blocks.{block_made_of};
 
+use ast_types::{Stmt, StmtBlock};
 use rhai_base::OutOfMemory;
 use rhai_nodes::block_from;
-use rhai_tree::{Stmt, StmtBlock};
 use std::alloc::Global;
 
 /// Blocks made of statements.

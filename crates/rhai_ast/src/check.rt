@@ -6,12 +6,12 @@ ghost use Rattle.std.specs.Prelude.{◌≡◌};
 ghost use Rattle.rhai_faults.specs.Refusals.{Finds};
 ghost use Rattle.rhai_faults.specs.Scripts.{script_by};
 ghost use Rattle.rhai_faults.specs.Standing.{Stands, StandsInScript, defs_of, fault_in};
-ghost use Rattle.rhai_meaning.specs.Faults as faults;
-ghost use Rattle.rhai_meaning.specs.Laws.{WellFormedLaw};
-ghost use Rattle.rhai_meaning.specs.Plain as plain;
+ghost use Rattle.theory_meaning.specs.Faults as faults;
+ghost use Rattle.theory_meaning.specs.Laws.{WellFormedLaw};
+ghost use Rattle.theory_meaning.specs.Plain as plain;
 
+use ast_types::{ScriptFuncDef, Stmt};
 use rhai_faults::{TreeError, are_plain, are_plain_functions, check_functions, check_stmts};
-use rhai_tree::{ScriptFuncDef, Stmt};
 use std::alloc::Global;
 use std::rc::Rc;
 

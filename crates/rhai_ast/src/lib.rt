@@ -11,6 +11,10 @@ mod switch;
 mod take;
 mod walk;
 
+pub use ast_types::{
+    BinaryExpr, Expr, FlowControl, FnAccess, FnCallExpr, FnNamespace, ScriptFuncDef, Stmt,
+    StmtBlock, StmtBlockContainer, SwitchBlock, SwitchCasesCollection,
+};
 pub use block::FromStmt;
 pub use check::{check_tree, is_plain};
 pub use node::NodeQueries;
@@ -19,10 +23,6 @@ pub use rhai_base::{CaseBlocksList, Cases, TreeFault};
 pub use rhai_exprs::{CallQueries, ExprQueries, IntoExpr, Literals};
 pub use rhai_faults::TreeError;
 pub use rhai_stmts::StmtQueries;
-pub use rhai_tree::{
-    BinaryExpr, Expr, FlowControl, FnAccess, FnCallExpr, FnNamespace, ScriptFuncDef, Stmt,
-    StmtBlock, StmtBlockContainer, SwitchBlock, SwitchCasesCollection,
-};
 pub use rhai_walk::{ASTNode, ChainType, walk_statements};
 pub use switch::SwitchCases;
 pub use take::Take;

@@ -4,12 +4,12 @@
 
 ghost use Rattle.std.specs.Prelude.{◌≡◌};
 ghost use Rattle.rhai_nodes.specs.Placed.{placed, stmt_placed};
-ghost use Rattle.rhai_tree.specs.Positions.{position_of};
-ghost use Rattle.rhai_tree.specs.Reading.{expr_of, stmt_of};
+ghost use Rattle.ast_types.specs.Positions.{position_of};
+ghost use Rattle.ast_types.specs.Reading.{expr_of, stmt_of};
 
+use ast_types::{Expr, Stmt};
 use rhai_base::Position;
 use rhai_nodes::{place_expr, place_stmt};
-use rhai_tree::{Expr, Stmt};
 
 /// Setting where a node stands.
 pub trait SetPosition {

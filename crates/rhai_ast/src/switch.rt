@@ -5,10 +5,10 @@
 ghost use Rattle.rhai_nodes.specs.Tables.{IsTableOf};
 ghost use Rattle.rhai_queries.specs.SwitchTables.{RefusalLaw};
 
+use ast_types::{BinaryExpr, SwitchCasesCollection};
 use indexmap::IndexMap;
 use rhai_base::{AstError, CaseBlocksList, Dynamic, RangeCase};
 use rhai_nodes::switch_table;
-use rhai_tree::{BinaryExpr, SwitchCasesCollection};
 
 /// How the table of a `switch` is made.
 pub trait SwitchCases: Sized {

@@ -1,14 +1,14 @@
 //! Nodes taken out of their place.
 
-#![tactic(auto, using(rhai_tree::specs::Reading::shapes))]
+#![tactic(auto, using(ast_types::specs::Reading::shapes))]
 
 ghost use Rattle.std.specs.Prelude.{◌≡◌};
-ghost use Rattle.rhai_tree.specs.Defaults.{nowhere};
-ghost use Rattle.rhai_tree.specs.declared.expr.Expr.TheVariants.{Unit};
-ghost use Rattle.rhai_tree.specs.declared.stmt.Stmt.TheVariants.{Noop};
+ghost use Rattle.ast_types.specs.Defaults.{nowhere};
+ghost use Rattle.ast_types.specs.declared.expr.Expr.TheVariants.{Unit};
+ghost use Rattle.ast_types.specs.declared.stmt.Stmt.TheVariants.{Noop};
 
+use ast_types::{Expr, Stmt};
 use rhai_base::Position;
-use rhai_tree::{Expr, Stmt};
 
 /// Taking a node out of its place.
 pub trait Take {

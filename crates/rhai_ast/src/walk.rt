@@ -4,8 +4,8 @@ ghost use Rattle.std.specs.Prelude.{List, [], ◌∷◌};
 ghost use Rattle.rhai_walk.specs.Standing.{Standing, expr_standing, stmt_standing};
 ghost use Rattle.rhai_walk.specs.Walking.{WalksOver};
 
+use ast_types::{Expr, Stmt};
 use rhai_base::OutOfMemory;
-use rhai_tree::{Expr, Stmt};
 use rhai_walk::{ASTNode, walk_expr, walk_stmt};
 
 /// A tree over which one may walk.

@@ -8,12 +8,12 @@ use Rattle.std.specs.Char.{encode_utf8}
 use Rattle.std.proofs.lemmas.Bool.Decides.{nat_tests}
 use Rattle.std.proofs.lemmas.Cmp.{nat_list_cmp_total}
 use Rattle.std.proofs.lemmas.Map.Text.{is_eq-slice_cmp}
-use Rattle.rhai_tokens.specs.declared.token.Token.{Token}
-use Rattle.rhai_tokens.specs.declared.token.Token.TheVariants as token
+use Rattle.base_tokens.specs.declared.token.Token.{Token}
+use Rattle.base_tokens.specs.declared.token.Token.TheVariants as token
 use Rattle.rhai_base.specs.Value.{Text, Value, UnitV, BoolV, IntV, CharV, TextV, same_text, type_name}
 use Rattle.rhai_base.specs.Operators as table
 use Rattle.rhai_base.specs.Operators.{Operator, NoEntry, is_bool, binary, on_texts, on_chars, text_lt, is_range}
-use Rattle.rhai_tokens.specs.Tokens.{makes_range}
+use Rattle.base_tokens.specs.Tokens.{makes_range}
 use Rattle.rhai_base.specs.Builtin.{operator_of, plain_operator, row, binary_at, equality_of, compared, unjoined, is_text, joins}
 
 -- ---- texts and characters in order

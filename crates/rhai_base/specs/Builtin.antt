@@ -4,10 +4,10 @@ use Rattle.std.specs.declared.cmp.Ordering.{Ordering}
 use Rattle.std.specs.Ordering.{nat_cmp, is_eq, is_lt, is_le, is_gt, is_ge}
 use Rattle.std.specs.Cmp.Lexicographic.{slice_cmp}
 use Rattle.rhai_base.specs.declared.dynamic.Dynamic.{Dynamic}
-use Rattle.rhai_tokens.specs.declared.token.Token.{Token}
-use Rattle.rhai_tokens.specs.declared.token.Token.TheVariants as token
-use Rattle.rhai_tokens.specs.declared.error.Fault.{Fault}
-use Rattle.rhai_tokens.specs.declared.error.Fault.TheVariants.{Arithmetic}
+use Rattle.base_tokens.specs.declared.token.Token.{Token}
+use Rattle.base_tokens.specs.declared.token.Token.TheVariants as token
+use Rattle.base_tokens.specs.declared.error.Fault.{Fault}
+use Rattle.base_tokens.specs.declared.error.Fault.TheVariants.{Arithmetic}
 use Rattle.rhai_base.specs.Value.{Value, UnitV, BoolV, IntV, CharV, TextV, RangeV, RangeInclusiveV, is_unit, same_text, type_name}
 use Rattle.rhai_base.specs.Operators.{Operator, Plus, Minus, Multiply, Divide, Modulo, Power, ShiftLeft, ShiftRight, BitAnd, BitOr, BitXor, EqualTo, NotEqualTo, Less, LessOrEqual, Greater, GreaterOrEqual, UpTo, Through, Not, Negative, Positive, greatest, Computed, NoEntry, Is, Overflows, is_bool, on_ints, on_bools, binary, unary}
 use Rattle.rhai_base.specs.Reading.{value_of}

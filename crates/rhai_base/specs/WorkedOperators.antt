@@ -1,10 +1,10 @@
 -- Rows of the operators' definitions, computed from them alone.
 use Rattle.std.specs.Prelude.{◌≡◌, true, false, List, [], ◌∷◌, map, replicate, length, Some, pos, negsuc, ◌^◌, ◌-◌, refl}
-use Rattle.rhai_tokens.specs.Names.{is_among, symbols}
-use Rattle.rhai_tokens.specs.declared.token.Token.{Token}
-use Rattle.rhai_tokens.specs.declared.token.Token.TheVariants as token
-use Rattle.rhai_tokens.specs.Symbols.{token_text}
-use Rattle.rhai_tokens.specs.Tokens.{makes_range}
+use Rattle.base_tokens.specs.Names.{is_among, symbols}
+use Rattle.base_tokens.specs.declared.token.Token.{Token}
+use Rattle.base_tokens.specs.declared.token.Token.TheVariants as token
+use Rattle.base_tokens.specs.Symbols.{token_text}
+use Rattle.base_tokens.specs.Tokens.{makes_range}
 use Rattle.rhai_base.specs.Value.{UnitV, BoolV, IntV, RangeV, RangeInclusiveV}
 use Rattle.rhai_base.specs.Builtin.{operator_of}
 use Rattle.rhai_base.specs.Operators.{Operator, Plus, Minus, Multiply, Divide, Modulo, Power, ShiftLeft, ShiftRight, BitAnd, BitOr, BitXor, EqualTo, NotEqualTo, Less, Greater, LessOrEqual, GreaterOrEqual, UpTo, Through, Not, Negative, Positive, symbol, arity, is_range, NoEntry, Is, Overflows, greatest, binary, computed}

@@ -9,8 +9,8 @@ ghost use Rattle.rhai_base.specs.Builtin.{computed_of, answered, row, binary_at,
 
 use crate::dynamic::{Dynamic, INT};
 use crate::range_operators::range_of;
-use rhai_text::ImmutableString;
-use rhai_tokens::{Fault, OutOfMemory, Token};
+use base_text::ImmutableString;
+use base_tokens::{Fault, OutOfMemory, Token};
 use std::alloc::Global;
 use std::cmp::Ordering;
 

@@ -3,8 +3,8 @@
 ghost use Rattle.std.specs.Prelude.{◌≡◌};
 
 use crate::dynamic::Dynamic;
+use base_lists::Seq;
 use indexmap::IndexMap;
-use rhai_data::Seq;
 use std::alloc::AllocError;
 use std::marker::Model;
 
@@ -18,7 +18,7 @@ pub struct CaseBlocksList {
 impl Clone for CaseBlocksList {
     ghost is_clone = { λ b c. c ≡ b };
 
-    #[tactic(auto, using(rhai_data::proofs::Copies::copies))]
+    #[tactic(auto, using(base_lists::proofs::Copies::copies))]
     fn clone(&self) -> Result<CaseBlocksList, AllocError> {
         let blocks = self.blocks.clone()?;
         Ok(CaseBlocksList { blocks })
@@ -55,7 +55,7 @@ impl Model for Cases {
 impl Clone for Cases {
     ghost is_clone = { λ c d. d ≡ c };
 
-    #[tactic(auto, using(rhai_data::proofs::Copies::copies))]
+    #[tactic(auto, using(base_lists::proofs::Copies::copies))]
     fn clone(&self) -> Result<Cases, AllocError> {
         let copies = self.map.clone()?;
         Ok(Cases { map: copies })

@@ -10,9 +10,9 @@ ghost use Rattle.std.specs.Prelude.{◌≡◌, ◌≢◌, ◌++◌, ◌↔◌, I
 ghost use Rattle.rhai_base.specs.declared.dynamic.Dynamic.TheVariants as kind;
 
 use crate::FnPtr;
-use rhai_data::Seq;
-use rhai_text::{ImmutableString, StringMap};
-use rhai_tokens::OutOfMemory;
+use base_lists::Seq;
+use base_text::{ImmutableString, StringMap};
+use base_tokens::OutOfMemory;
 use std::alloc::{AllocError, Global};
 
 /// The integers of scripts.

@@ -2,12 +2,12 @@
 #![tactic(auto, using(crate::specs::Reading::kinds))]
 
 ghost use Rattle.std.specs.Prelude.{◌≡◌, ◌≢◌, ◌↔◌, ◌++◌, ◌∷◌, [], IsTrue, MatchOption, OnOk, OnErr, true, false};
-ghost use Rattle.rhai_tokens.specs.Names.{is_valid_name};
+ghost use Rattle.base_tokens.specs.Names.{is_valid_name};
 
 use crate::Dynamic;
-use rhai_data::Seq;
-use rhai_text::ImmutableString;
-use rhai_tokens::{FnName, OutOfMemory};
+use base_lists::Seq;
+use base_text::ImmutableString;
+use base_tokens::{FnName, OutOfMemory};
 use std::alloc::Global;
 
 /// A pointer to a function, by its name, with the values of its first parameters.

@@ -10,15 +10,15 @@ mod range_case;
 mod range_operators;
 mod scope;
 
+pub use base_lists::{Boxed, Rest, Seq};
+pub use base_text::{ImmutableString, StringMap};
+pub use base_tokens::{
+    ASTFlags, AstError, Fault, FnName, Ident, Namespace, OpAssignment, OutOfMemory, Position, Span,
+    Token, TreeFault,
+};
 pub use builtin::{builtin_binary_op, builtin_unary_op};
 pub use cases::{CaseBlocksList, Cases};
 pub use dynamic::{Dynamic, INT};
 pub use fn_ptr::FnPtr;
 pub use range_case::{RangeCase, RangeCaseIter};
-pub use rhai_data::{Boxed, Rest, Seq};
-pub use rhai_text::{ImmutableString, StringMap};
-pub use rhai_tokens::{
-    ASTFlags, AstError, Fault, FnName, Ident, Namespace, OpAssignment, OutOfMemory, Position, Span,
-    Token, TreeFault,
-};
 pub use scope::{Scope, ScopeEntry, ScopeIter};

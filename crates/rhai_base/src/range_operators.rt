@@ -7,7 +7,7 @@ ghost use Rattle.rhai_base.specs.Builtin.{answered, computed_of, end_or, range_b
 ghost use Rattle.rhai_base.specs.Reading.{value_of};
 
 use crate::dynamic::{Dynamic, INT};
-use rhai_tokens::Fault;
+use base_tokens::Fault;
 
 /// What the table holds for `..=` where the end belongs to the range, or else for `..`. One end may be
 /// left out, as unit: a missing start is 0, a missing end the greatest integer.

@@ -2,9 +2,9 @@
 ghost use Rattle.std.specs.Prelude.{◌≡◌, [], ◌∷◌, ◌++◌, OnOk, OnErr, length, false, true};
 
 use crate::Dynamic;
-use rhai_data::Seq;
-use rhai_text::ImmutableString;
-use rhai_tokens::OutOfMemory;
+use base_lists::Seq;
+use base_text::ImmutableString;
+use base_tokens::OutOfMemory;
 use std::alloc::Global;
 use std::marker::Model;
 

@@ -5,15 +5,15 @@ ghost use Rattle.rhai_c.specs.Options.{IsMerged, IsOptimized};
 
 use crate::codes::Failure;
 use crate::options::BalvuzsomOptions;
+use base_engine::EngineInfo;
 use rhai_base::{Position, Scope};
-use rhai_engine::EngineInfo;
-use rhai_findings::findings;
-use rhai_host::{UnitHost, push_report};
 use rhai_run::plain_run;
-use rhai_source::{OptimizedText, Written, constants, merge, optimize_text, read};
+use run_host::{UnitHost, push_report};
 use std::alloc::{AllocError, Global};
 use std::fmt::Write;
 use std::str;
+use text_source::{OptimizedText, Written, constants, merge, optimize_text, read};
+use tool_findings::findings;
 
 /// The text of an optimised script.
 pub(crate) fn optimized(

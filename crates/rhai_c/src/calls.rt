@@ -10,8 +10,8 @@ use crate::asked::{checked, merged, optimized, reported};
 use crate::codes::Failure;
 use crate::options::BalvuzsomOptions;
 use crate::room::{BalvuzsomRefusal, answered, refused};
-use rhai_source::VERSION;
 use std::alloc::Global;
+use text_source::VERSION;
 
 /// The text of a script, optimised; `known` declares constants, on which it may rest. The script that it is read as does
 /// what the one that the source is read as does.

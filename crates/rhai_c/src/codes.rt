@@ -3,9 +3,9 @@
 ghost use Rattle.std.specs.Prelude.{◌<ℤ◌, pos};
 
 use rhai_base::{OutOfMemory, Position};
-use rhai_source::{Refusal, Why};
 use std::alloc::AllocError;
 use std::fmt::{self, Display, Write};
+use text_source::{Refusal, Why};
 
 /// Why a call does not answer.
 #[derive(Debug, Drop)]

@@ -1,6 +1,6 @@
 //! What the host answers for what a chain has come to, and where a receiver's new value goes.
 
-#![tactic(auto, using(rhai_tree::specs::Reading::shapes, rhai_base::specs::Reading::kinds, rhai_machine::proofs::Placing::placing))]
+#![tactic(auto, using(ast_types::specs::Reading::shapes, rhai_base::specs::Reading::kinds, rhai_machine::proofs::Placing::placing))]
 
 ghost use Rattle.std.specs.Prelude.{◌≡◌, map};
 ghost use Rattle.std.specs.Option.{option_map};
@@ -8,18 +8,18 @@ ghost use Rattle.rhai_base.specs.Reading.{value_of};
 ghost use Rattle.rhai_base.specs.Value.{UnitV, same};
 ghost use Rattle.rhai_machine.specs.Setting.{setting};
 ghost use Rattle.rhai_machine.specs.Targets.{Finds};
-ghost use Rattle.rhai_state.specs.Runs.{Acting, Leads, given};
-ghost use Rattle.rhai_state.specs.State.{store_of};
-ghost use Rattle.rhai_meaning.specs.Chains as chains;
-ghost use Rattle.rhai_meaning.specs.Places as places;
+ghost use Rattle.run_state.specs.Runs.{Acting, Leads, given};
+ghost use Rattle.run_state.specs.State.{store_of};
+ghost use Rattle.theory_meaning.specs.Chains as chains;
+ghost use Rattle.theory_meaning.specs.Places as places;
 ghost use Rattle.rhai_machine.specs.declared.steps.placing.Current.TheVariants as kind;
 ghost use Rattle.rhai_machine.specs.Placing as spec;
 
 use rhai_base::{Dynamic, ImmutableString, Seq};
-use rhai_host::Host;
 use rhai_machine::{Current, Found, Machine, Place};
-use rhai_places::Part;
-use rhai_state::{Interrupt, State};
+use run_host::Host;
+use run_places::Part;
+use run_state::{Interrupt, State};
 
 /// The value that the host answers for what a chain has come to, whose new value is not kept.
 pub fn ask_for<H: Host>(

@@ -1,10 +1,10 @@
 //! What an expression is as a left side.
 
-#![tactic(auto, using(rhai_tree::specs::Reading::shapes))]
+#![tactic(auto, using(ast_types::specs::Reading::shapes))]
 
 ghost use Rattle.std.specs.Prelude.{◌≤◌, IfSome};
-ghost use Rattle.rhai_tree.specs.Reading.{expr_of};
-ghost use Rattle.rhai_meaning.specs.Weight.{expr_weight};
+ghost use Rattle.ast_types.specs.Reading.{expr_of};
+ghost use Rattle.theory_meaning.specs.Weight.{expr_weight};
 ghost use Rattle.rhai_run_nodes.specs.LeftSides as spec;
 
 use rhai_ast::{ChainType, Expr};

@@ -2,19 +2,19 @@
 use Rattle.std.proofs.Common.{◌≡◌, Bool, true, false, List, Option, Some, None, refl, sym, ap, ◌∙◌, subst, inl, inr}
 use Rattle.std.specs.Prelude.{◌&&◌, ◌⊎◌, if◌then◌else◌}
 use Rattle.rhai_base.specs.Value.{Value, UnitV, is_unit}
-use Rattle.rhai_meaning.specs.Constants.{constant_value}
-use Rattle.rhai_meaning.specs.Engine.{Engine, or_else}
-use Rattle.rhai_meaning.specs.Queries.{is_pure_expr}
-use Rattle.rhai_meaning.specs.Queries.{is_unit as is_unit_expr}
-use Rattle.rhai_meaning.specs.Tree.{ChainFlags, Expr, UnitConstant, Dot, Index}
-use Rattle.rhai_tree.specs.Reading.{expr_of}
-use Rattle.rhai_rewriting.specs.Known.{Known}
-use Rattle.rhai_rewriting.specs.Parts.{constant_of, link}
-use Rattle.rhai_rewriting.specs.Rules as rule
-use Rattle.rhai_rewriting.specs.Steps.{AnswersNone, Progress, Place, is_chain_node}
-use Rattle.rhai_rewriting.proofs.Keeping.{keeps_unit}
-use Rattle.rhai_tree.specs.declared.expr.BinaryExpr.{BinaryExpr}
-use Rattle.rhai_tree.specs.declared.expr.Expr as declared
+use Rattle.theory_meaning.specs.Constants.{constant_value}
+use Rattle.theory_meaning.specs.Engine.{Engine, or_else}
+use Rattle.theory_meaning.specs.Queries.{is_pure_expr}
+use Rattle.theory_meaning.specs.Queries.{is_unit as is_unit_expr}
+use Rattle.theory_meaning.specs.Tree.{ChainFlags, Expr, UnitConstant, Dot, Index}
+use Rattle.ast_types.specs.Reading.{expr_of}
+use Rattle.theory_rewriting.specs.Known.{Known}
+use Rattle.theory_rewriting.specs.Parts.{constant_of, link}
+use Rattle.theory_rewriting.specs.Rules as rule
+use Rattle.theory_rewriting.specs.Steps.{AnswersNone, Progress, Place, is_chain_node}
+use Rattle.theory_rewriting.proofs.Keeping.{keeps_unit}
+use Rattle.ast_types.specs.declared.expr.BinaryExpr.{BinaryExpr}
+use Rattle.ast_types.specs.declared.expr.Expr as declared
 use Rattle.rhai_steps.specs.NodeSteps.{ExprStep}
 use Rattle.rhai_steps.specs.Standing.{may_stand}
 use Rattle.rhai_steps.proofs.Places.{stands}

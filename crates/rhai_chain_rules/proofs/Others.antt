@@ -5,12 +5,12 @@ use Rattle.rhai_base.specs.declared.dynamic.Dynamic.TheVariants as dynamic
 use Rattle.rhai_base.specs.declared.fn_ptr.FnPtr.{FnPtr}
 use Rattle.rhai_base.specs.Reading.{value_of, DynamicCase, fn_ptr_case, dynamic_cases}
 use Rattle.rhai_base.specs.Value.{Value}
-use Rattle.rhai_meaning.specs.Constants.{constant_for}
-use Rattle.rhai_meaning.specs.Tree.{Expr}
-use Rattle.rhai_tree.proofs.Cases.{ExprCase, dot_case, index_case}
-use Rattle.rhai_rewriting.specs.Parts.{constant_of}
-use Rattle.rhai_rewriting.specs.Steps.{Place, is_chain_node}
-use Rattle.rhai_tree.specs.declared.expr.Expr as declared_expr
+use Rattle.theory_meaning.specs.Constants.{constant_for}
+use Rattle.theory_meaning.specs.Tree.{Expr}
+use Rattle.ast_types.proofs.Cases.{ExprCase, dot_case, index_case}
+use Rattle.theory_rewriting.specs.Parts.{constant_of}
+use Rattle.theory_rewriting.specs.Steps.{Place, is_chain_node}
+use Rattle.ast_types.specs.declared.expr.Expr as declared_expr
 use Rattle.rhai_steps.proofs.NodeKinds.{NoDot, NoIndex}
 use Rattle.rhai_chain_rules.specs.Chains.{unit_ends_by}
 use Rattle.rhai_chain_rules.specs.Onward.{argument, goes_on}

@@ -2,23 +2,23 @@
 use Rattle.std.proofs.Common.{◌≡◌, ℕ, zero, suc, Bool, true, false, cond, List, Option, Some, None, refl, subst}
 use Rattle.std.specs.Prelude.{◌&&◌}
 use Rattle.rhai_base.specs.Value.{Text, Value, UnitV, same_text}
-use Rattle.rhai_meaning.specs.Desugar.{root_of}
-use Rattle.rhai_meaning.specs.Engine.{Engine, or_else}
-use Rattle.rhai_meaning.specs.Queries.{is_pure_expr, are_pure_exprs, are_pure_pairs, is_pure, are_pure}
-use Rattle.rhai_meaning.specs.Tree.{Expr, UnitConstant, ArrayOf, MapOf, Variable, BlockExpr, And, Or, Coalesce, Exprs, no_exprs, expr, Pairs, no_pairs, pair, Stmt, If, Block, ExprStmt, Stmts, no_stmts, stmt}
-use Rattle.rhai_meaning.specs.Walk.{OfExpr, over_exprs, over_pairs}
-use Rattle.rhai_meaning.proofs.PureTrees.{split}
-use Rattle.rhai_rewriting.specs.Answering.{AnswersNothing, of_first}
-use Rattle.rhai_rewriting.specs.Clear.{IsClearExpr, AreClearExprs, HasClearParts, IsClear, AreClear}
-use Rattle.rhai_rewriting.specs.Context.{known_behind}
-use Rattle.rhai_rewriting.specs.Indexing.{expr_at, pair_for, or_unit}
-use Rattle.rhai_rewriting.specs.Evals.{keeps_names}
-use Rattle.rhai_rewriting.specs.Known.{Known}
-use Rattle.rhai_rewriting.specs.Parts.{constant_of}
-use Rattle.rhai_rewriting.specs.Residue.{IsReducedExpr, AreReducedExprs, AreReducedPairs}
-use Rattle.rhai_rewriting.proofs.Clearing.{unclaimed}
-use Rattle.rhai_rewriting.proofs.Reducing.{root_of_value}
-use Rattle.rhai_rewriting.proofs.rules.Literals.{element_root, entry_root}
+use Rattle.theory_meaning.specs.Desugar.{root_of}
+use Rattle.theory_meaning.specs.Engine.{Engine, or_else}
+use Rattle.theory_meaning.specs.Queries.{is_pure_expr, are_pure_exprs, are_pure_pairs, is_pure, are_pure}
+use Rattle.theory_meaning.specs.Tree.{Expr, UnitConstant, ArrayOf, MapOf, Variable, BlockExpr, And, Or, Coalesce, Exprs, no_exprs, expr, Pairs, no_pairs, pair, Stmt, If, Block, ExprStmt, Stmts, no_stmts, stmt}
+use Rattle.theory_meaning.specs.Walk.{OfExpr, over_exprs, over_pairs}
+use Rattle.theory_meaning.proofs.PureTrees.{split}
+use Rattle.theory_rewriting.specs.Answering.{AnswersNothing, of_first}
+use Rattle.theory_rewriting.specs.Clear.{IsClearExpr, AreClearExprs, HasClearParts, IsClear, AreClear}
+use Rattle.theory_rewriting.specs.Context.{known_behind}
+use Rattle.theory_rewriting.specs.Indexing.{expr_at, pair_for, or_unit}
+use Rattle.theory_rewriting.specs.Evals.{keeps_names}
+use Rattle.theory_rewriting.specs.Known.{Known}
+use Rattle.theory_rewriting.specs.Parts.{constant_of}
+use Rattle.theory_rewriting.specs.Residue.{IsReducedExpr, AreReducedExprs, AreReducedPairs}
+use Rattle.theory_rewriting.proofs.Clearing.{unclaimed}
+use Rattle.theory_rewriting.proofs.Reducing.{root_of_value}
+use Rattle.theory_rewriting.proofs.rules.Literals.{element_root, entry_root}
 
 pub record IsPart (e part : Expr) : Type 0 where
   pub no_root : root_of part ≡ None

@@ -3,17 +3,17 @@ use Rattle.std.proofs.Common.{◌≡◌, ℕ, zero, suc, Bool, true, false, not,
 use Rattle.std.specs.Prelude.{ℤ, ◌&&◌, ◌⊎◌, if◌then◌else◌}
 use Rattle.std.proofs.Common.{inl, inr}
 use Rattle.rhai_base.specs.Value.{Text, Value, UnitV, IntV, TextV, values, same_text, is_unit}
-use Rattle.rhai_meaning.specs.Constants.{constant_value, constant_values, constant_entries, array_value, map_value, joined_value, value_and, entry_and, is_constant}
-use Rattle.rhai_meaning.specs.Elements.{count, value_at, at_index, index_in, element, entry, fields_of}
-use Rattle.rhai_meaning.specs.Engine.{Engine, or_else}
-use Rattle.rhai_meaning.specs.Queries.{is_pure_expr, are_pure_exprs, are_pure_pairs}
-use Rattle.rhai_meaning.specs.Queries.{is_unit as is_unit_expr}
-use Rattle.rhai_meaning.specs.Tree.{ChainFlags, PropertyNames, Expr, UnitConstant, InterpolatedString, ArrayOf, MapOf, Property, BlockExpr, Dot, Index, And, Or, Coalesce, Exprs, no_exprs, expr, count_exprs, Pairs, no_pairs, pair}
-use Rattle.rhai_rewriting.specs.Answering.{property_of, index_of, without_question, is_some_value}
-use Rattle.rhai_rewriting.specs.Indexing.{expr_at, pair_for, or_unit}
-use Rattle.rhai_rewriting.specs.Parts.{link}
-use Rattle.rhai_rewriting.specs.Steps.{AnswersNone}
-use Rattle.rhai_rewriting.proofs.rules.Entries.{value_or, entry_for as value_for}
+use Rattle.theory_meaning.specs.Constants.{constant_value, constant_values, constant_entries, array_value, map_value, joined_value, value_and, entry_and, is_constant}
+use Rattle.theory_meaning.specs.Elements.{count, value_at, at_index, index_in, element, entry, fields_of}
+use Rattle.theory_meaning.specs.Engine.{Engine, or_else}
+use Rattle.theory_meaning.specs.Queries.{is_pure_expr, are_pure_exprs, are_pure_pairs}
+use Rattle.theory_meaning.specs.Queries.{is_unit as is_unit_expr}
+use Rattle.theory_meaning.specs.Tree.{ChainFlags, PropertyNames, Expr, UnitConstant, InterpolatedString, ArrayOf, MapOf, Property, BlockExpr, Dot, Index, And, Or, Coalesce, Exprs, no_exprs, expr, count_exprs, Pairs, no_pairs, pair}
+use Rattle.theory_rewriting.specs.Answering.{property_of, index_of, without_question, is_some_value}
+use Rattle.theory_rewriting.specs.Indexing.{expr_at, pair_for, or_unit}
+use Rattle.theory_rewriting.specs.Parts.{link}
+use Rattle.theory_rewriting.specs.Steps.{AnswersNone}
+use Rattle.theory_rewriting.proofs.rules.Entries.{value_or, entry_for as value_for}
 use Rattle.rhai_part_rules.specs.Answers.{constant_answer, allowed}
 use Rattle.rhai_part_rules.specs.Literals.{integer_of, element_for, entry_for, allowed_part, literal_answer}
 use Rattle.rhai_chain_rules.specs.Onward.{argument}

@@ -2,26 +2,26 @@
 use Rattle.std.proofs.Common.{◌≡◌, ℕ, Bool, true, false, not, List, [], ◌∷◌, Option, Some, None, refl, sym, ap, ◌∙◌, subst, inl, inr}
 use Rattle.std.specs.Prelude.{ℤ, ◌&&◌, ◌⊎◌, codes, if◌then◌else◌}
 use Rattle.rhai_base.specs.Value.{Text, Value, BoolV, IntV, TextV, MapV, Fields, same_text, is_unit}
-use Rattle.rhai_meaning.specs.Constants.{constant_value}
-use Rattle.rhai_meaning.specs.Elements.{at_index, index_in, entry}
-use Rattle.rhai_meaning.specs.Engine.{Engine, mapped_type_name}
-use Rattle.rhai_meaning.specs.Queries.{is_pure_expr, are_pure_exprs, are_pure_pairs}
-use Rattle.rhai_meaning.specs.Queries.{is_unit as is_unit_expr}
-use Rattle.rhai_meaning.specs.Shape.{is_argument, is_none}
-use Rattle.rhai_meaning.specs.Tree.{CallToken, NoToken, Callee, ChainFlags, PropertyNames, Expr, UnitConstant, ArrayOf, MapOf, Variable, Property, MethodCall, Dot, Index, Exprs, no_exprs, expr, count_exprs, Pairs}
-use Rattle.rhai_rewriting.specs.Answering.{property_of, index_of}
-use Rattle.rhai_rewriting.specs.Clear.{known_value}
-use Rattle.rhai_rewriting.specs.Context.{Context, knowing}
-use Rattle.rhai_rewriting.specs.Indexing.{indexed, expr_at, pair_for, or_unit}
-use Rattle.rhai_rewriting.specs.Known.{Known}
-use Rattle.rhai_rewriting.specs.Parts.{constant_of, named, link}
-use Rattle.rhai_rewriting.specs.Rules as rule
-use Rattle.rhai_rewriting.specs.Rules.{ExprRule}
-use Rattle.rhai_rewriting.specs.Steps.{Place}
-use Rattle.rhai_rewriting.proofs.Keeping.{keeps_constant_of}
-use Rattle.rhai_rewriting.proofs.Reducing.{root_of_value, unit_of_value}
-use Rattle.rhai_rewriting.proofs.rules.Equality.{text_is}
-use Rattle.rhai_meaning.proofs.PureTrees.{split}
+use Rattle.theory_meaning.specs.Constants.{constant_value}
+use Rattle.theory_meaning.specs.Elements.{at_index, index_in, entry}
+use Rattle.theory_meaning.specs.Engine.{Engine, mapped_type_name}
+use Rattle.theory_meaning.specs.Queries.{is_pure_expr, are_pure_exprs, are_pure_pairs}
+use Rattle.theory_meaning.specs.Queries.{is_unit as is_unit_expr}
+use Rattle.theory_meaning.specs.Shape.{is_argument, is_none}
+use Rattle.theory_meaning.specs.Tree.{CallToken, NoToken, Callee, ChainFlags, PropertyNames, Expr, UnitConstant, ArrayOf, MapOf, Variable, Property, MethodCall, Dot, Index, Exprs, no_exprs, expr, count_exprs, Pairs}
+use Rattle.theory_rewriting.specs.Answering.{property_of, index_of}
+use Rattle.theory_rewriting.specs.Clear.{known_value}
+use Rattle.theory_rewriting.specs.Context.{Context, knowing}
+use Rattle.theory_rewriting.specs.Indexing.{indexed, expr_at, pair_for, or_unit}
+use Rattle.theory_rewriting.specs.Known.{Known}
+use Rattle.theory_rewriting.specs.Parts.{constant_of, named, link}
+use Rattle.theory_rewriting.specs.Rules as rule
+use Rattle.theory_rewriting.specs.Rules.{ExprRule}
+use Rattle.theory_rewriting.specs.Steps.{Place}
+use Rattle.theory_rewriting.proofs.Keeping.{keeps_constant_of}
+use Rattle.theory_rewriting.proofs.Reducing.{root_of_value, unit_of_value}
+use Rattle.theory_rewriting.proofs.rules.Equality.{text_is}
+use Rattle.theory_meaning.proofs.PureTrees.{split}
 use Rattle.rhai_steps.specs.Standing.{may_stand}
 use Rattle.rhai_part_rules.specs.Answers.{whole_value, has_no_token, is_empty, is_bare, method_answer, member_answer, answer_at, constant_answer, entry_of, known_answer}
 use Rattle.rhai_part_rules.specs.Literals.{integer_of, element_for, entry_for, property_for, literal_part}

@@ -2,18 +2,18 @@
 use Rattle.std.proofs.Common.{◌≡◌, Bool, true, false, not, List, None, is_some, refl, sym, ap, ◌∙◌, subst}
 use Rattle.std.specs.Prelude.{◌&&◌, ◌⊎◌}
 use Rattle.std.proofs.Common.{inl, inr}
-use Rattle.rhai_meaning.specs.Desugar.{root_of}
-use Rattle.rhai_meaning.specs.Engine.{Engine}
-use Rattle.rhai_meaning.specs.Queries.{is_unit}
-use Rattle.rhai_meaning.specs.Shape.{is_rest, is_argument}
-use Rattle.rhai_meaning.specs.Tree.{ChainFlags, Expr, UnitConstant, Dot, Index}
-use Rattle.rhai_meaning.specs.Walk.{OfExpr}
-use Rattle.rhai_rewriting.specs.Answering.{AnswersNothing}
-use Rattle.rhai_rewriting.specs.Clear.{HasClearParts}
-use Rattle.rhai_rewriting.specs.Known.{Known}
-use Rattle.rhai_rewriting.specs.Parts.{link}
-use Rattle.rhai_rewriting.specs.Residue.{IsReducedExpr, ExprParts, when}
-use Rattle.rhai_rewriting.specs.Steps.{Place, Anywhere, AsBase, AsGuard, MayBecome, KeepsExprParts}
+use Rattle.theory_meaning.specs.Desugar.{root_of}
+use Rattle.theory_meaning.specs.Engine.{Engine}
+use Rattle.theory_meaning.specs.Queries.{is_unit}
+use Rattle.theory_meaning.specs.Shape.{is_rest, is_argument}
+use Rattle.theory_meaning.specs.Tree.{ChainFlags, Expr, UnitConstant, Dot, Index}
+use Rattle.theory_meaning.specs.Walk.{OfExpr}
+use Rattle.theory_rewriting.specs.Answering.{AnswersNothing}
+use Rattle.theory_rewriting.specs.Clear.{HasClearParts}
+use Rattle.theory_rewriting.specs.Known.{Known}
+use Rattle.theory_rewriting.specs.Parts.{link}
+use Rattle.theory_rewriting.specs.Residue.{IsReducedExpr, ExprParts, when}
+use Rattle.theory_rewriting.specs.Steps.{Place, Anywhere, AsBase, AsGuard, MayBecome, KeepsExprParts}
 use Rattle.rhai_steps.specs.Standing.{may_stand}
 use Rattle.rhai_steps.proofs.Places.{stands}
 use Rattle.rhai_chain_rules.specs.Onward.{argument, onward}

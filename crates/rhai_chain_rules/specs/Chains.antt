@@ -2,16 +2,16 @@
 use Rattle.std.specs.Prelude.{◌≡◌, Bool, true, false, ◌&&◌, List, Option, Some, None}
 use Rattle.std.specs.Option.{option_map}
 use Rattle.rhai_base.specs.Value.{Value}
-use Rattle.rhai_meaning.specs.Engine.{Engine, or_else}
-use Rattle.rhai_meaning.specs.Queries.{is_unit}
-use Rattle.rhai_meaning.specs.Tree.{ChainFlags, Expr, UnitConstant, Dot, Index}
-use Rattle.rhai_tree.specs.Reading.{expr_of}
-use Rattle.rhai_rewriting.specs.Known.{Known}
-use Rattle.rhai_rewriting.specs.Parts.{link}
-use Rattle.rhai_rewriting.specs.Steps.{AnswersNone, Place}
+use Rattle.theory_meaning.specs.Engine.{Engine, or_else}
+use Rattle.theory_meaning.specs.Queries.{is_unit}
+use Rattle.theory_meaning.specs.Tree.{ChainFlags, Expr, UnitConstant, Dot, Index}
+use Rattle.ast_types.specs.Reading.{expr_of}
+use Rattle.theory_rewriting.specs.Known.{Known}
+use Rattle.theory_rewriting.specs.Parts.{link}
+use Rattle.theory_rewriting.specs.Steps.{AnswersNone, Place}
 use Rattle.rhai_steps.specs.Standing.{may_stand}
-use Rattle.rhai_tree.specs.declared.expr.BinaryExpr.{BinaryExpr}
-use Rattle.rhai_tree.specs.declared.expr.Expr as declared
+use Rattle.ast_types.specs.declared.expr.BinaryExpr.{BinaryExpr}
+use Rattle.ast_types.specs.declared.expr.Expr as declared
 use Rattle.rhai_walk.specs.declared.node.ChainType.{ChainType}
 use Rattle.rhai_walk.specs.declared.node.ChainType.TheVariants as access_kind
 use Rattle.rhai_part_rules.specs.Answers.{constant_answer, known_answer, allowed}

@@ -1,11 +1,11 @@
 -- A chain by its first step: the argument of that step, and what is left of the chain behind it.
 use Rattle.std.specs.Prelude.{Bool, true, false, List}
-use Rattle.rhai_meaning.specs.Tree.{Expr, Dot, Index}
-use Rattle.rhai_meaning.specs.Engine.{Engine}
-use Rattle.rhai_rewriting.specs.Context.{knowing}
-use Rattle.rhai_rewriting.specs.Known.{Known}
-use Rattle.rhai_rewriting.specs.Rules.{ExprRule}
-use Rattle.rhai_rewriting.specs.Steps.{Place, MayBecome, KeepsExprParts}
+use Rattle.theory_meaning.specs.Tree.{Expr, Dot, Index}
+use Rattle.theory_meaning.specs.Engine.{Engine}
+use Rattle.theory_rewriting.specs.Context.{knowing}
+use Rattle.theory_rewriting.specs.Known.{Known}
+use Rattle.theory_rewriting.specs.Rules.{ExprRule}
+use Rattle.theory_rewriting.specs.Steps.{Place, MayBecome, KeepsExprParts}
 
 -- of a node with this right side, that ends the chain (breaks) or not
 abbrev pub argument : (breaks : Bool) → Expr → Expr

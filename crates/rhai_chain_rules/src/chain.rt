@@ -1,20 +1,20 @@
 //! The rules at a chain whose parts are reduced, in its place. Which one fires is found by reference; then the part
 //! that its first step answers takes the place of the base and of that step. Where none fires nothing is moved.
 
-#![tactic(auto, using(rhai_tree::specs::Reading::shapes, rhai_base::specs::Reading::kinds))]
+#![tactic(auto, using(ast_types::specs::Reading::shapes, rhai_base::specs::Reading::kinds))]
 
 ghost use Rattle.std.specs.Prelude.{◌≡◌, ◌&&◌, IfOk, Some, true};
 ghost use Rattle.std.specs.Option.{option_map};
 ghost use Rattle.rhai_base.specs.Reading.{value_of};
-ghost use Rattle.rhai_tree.specs.Reading.{breaks, chain_flags, expr_of, is_negated};
-ghost use Rattle.rhai_meaning.specs.Engine.{Engine};
-ghost use Rattle.rhai_meaning.specs.Queries as queries;
-ghost use Rattle.rhai_meaning.specs.Tree.{DynamicConstant, UnitConstant};
-ghost use Rattle.rhai_engine.specs.EngineInfo.{engine_of};
-ghost use Rattle.rhai_known.specs.State.{progress};
-ghost use Rattle.rhai_rewriting.specs.Parts as parts;
-ghost use Rattle.rhai_rewriting.specs.Steps as steps;
-ghost use Rattle.rhai_rewriting.specs.Steps.{is_chain_node};
+ghost use Rattle.ast_types.specs.Reading.{breaks, chain_flags, expr_of, is_negated};
+ghost use Rattle.theory_meaning.specs.Engine.{Engine};
+ghost use Rattle.theory_meaning.specs.Queries as queries;
+ghost use Rattle.theory_meaning.specs.Tree.{DynamicConstant, UnitConstant};
+ghost use Rattle.base_engine.specs.EngineInfo.{engine_of};
+ghost use Rattle.opt_known.specs.State.{progress};
+ghost use Rattle.theory_rewriting.specs.Parts as parts;
+ghost use Rattle.theory_rewriting.specs.Steps as steps;
+ghost use Rattle.theory_rewriting.specs.Steps.{is_chain_node};
 ghost use Rattle.rhai_steps.specs.NodeSteps.{ExprStep};
 ghost use Rattle.rhai_steps.specs.Places.{place_of};
 ghost use Rattle.rhai_steps.specs.Standing as standing;
@@ -26,10 +26,10 @@ ghost use Rattle.rhai_chain_rules.specs.Chains.{ended_by, unit_ends_by, value_an
 ghost use Rattle.rhai_chain_rules.specs.Onward as onward;
 
 use crate::onward::{argument, onward, reach, unit_may_stand};
+use base_engine::EngineInfo;
 use bitflags::Flags;
 use rhai_ast::{BinaryExpr, ChainType, Expr, ExprQueries, Literals};
 use rhai_base::{ASTFlags, Boxed, Dynamic, OutOfMemory, Position};
-use rhai_engine::EngineInfo;
 use rhai_nodes::put_expr;
 use rhai_part_rules::{constant_answer, known_answer, literal_answer, take_part};
 use rhai_steps::{OptimizerState, Place, may_be_unit, note_fired, put_unit};

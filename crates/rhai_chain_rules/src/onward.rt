@@ -1,10 +1,10 @@
 //! A chain by its first step, and what is left of it behind that.
 
-#![tactic(auto, using(rhai_tree::specs::Reading::shapes))]
+#![tactic(auto, using(ast_types::specs::Reading::shapes))]
 
 ghost use Rattle.std.specs.Prelude.{◌≡◌, true, false};
-ghost use Rattle.rhai_tree.specs.Reading.{breaks, expr_of};
-ghost use Rattle.rhai_meaning.specs.Tree.{UnitConstant};
+ghost use Rattle.ast_types.specs.Reading.{breaks, expr_of};
+ghost use Rattle.theory_meaning.specs.Tree.{UnitConstant};
 ghost use Rattle.rhai_steps.specs.Places.{place_of};
 ghost use Rattle.rhai_steps.specs.Standing as standing;
 ghost use Rattle.rhai_part_rules.specs.Asking as asking;

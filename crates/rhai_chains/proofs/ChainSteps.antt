@@ -4,43 +4,43 @@ use Rattle.rhai_base.specs.declared.dynamic.Dynamic.{Dynamic}
 use Rattle.rhai_base.specs.declared.dynamic.Dynamic.TheVariants as value
 use Rattle.rhai_base.specs.Reading.{value_of, value_of-Unit}
 use Rattle.rhai_base.specs.Value.{Text, Value}
-use Rattle.rhai_tokens.specs.declared.position.Position.{Position}
-use Rattle.rhai_tree.specs.declared.expr.Expr.{Expr}
-use Rattle.rhai_tree.specs.declared.expr.Expr.TheVariants as kind
-use Rattle.rhai_tree.specs.declared.expr.FnCallExpr.{FnCallExpr}
-use Rattle.rhai_tree.specs.Reading.{callee_of, expr_of, expr_of-MethodCall, exprs_of, is_negated}
-use Rattle.rhai_tree.proofs.Cases.{ExprCase, expr_cases, dynamic_constant_case, bool_constant_case, integer_constant_case, char_constant_case, string_constant_case, interpolated_string_case, array_case, map_case, unit_case, variable_case, this_ptr_case, property_case, method_call_case, braces_case, call_case, dot_case, index_case, and_case, or_case, coalesce_case}
-use Rattle.rhai_meaning.specs.Act as act
-use Rattle.rhai_meaning.specs.Act.{Act, Ended, Gives, At}
-use Rattle.rhai_meaning.specs.ActForms.{choose, give, unit}
-use Rattle.rhai_meaning.specs.Chains as chains
-use Rattle.rhai_meaning.specs.Chains.{unless_unit}
-use Rattle.rhai_meaning.specs.Core as core
-use Rattle.rhai_meaning.specs.Desugar as desugar
-use Rattle.rhai_meaning.specs.Desugar.{based, core_expr, core_exprs, member_of, root_of}
-use Rattle.rhai_meaning.specs.Meaning as meaning
-use Rattle.rhai_meaning.specs.Meaning.{access, at_base}
-use Rattle.rhai_meaning.specs.Places as places
-use Rattle.rhai_meaning.specs.Places.{refreshed}
-use Rattle.rhai_meaning.specs.Shape.{is_callable, is_chain, is_unit}
-use Rattle.rhai_meaning.specs.Tree as tree
-use Rattle.rhai_places.specs.Reading.{or_unit}
+use Rattle.base_tokens.specs.declared.position.Position.{Position}
+use Rattle.ast_types.specs.declared.expr.Expr.{Expr}
+use Rattle.ast_types.specs.declared.expr.Expr.TheVariants as kind
+use Rattle.ast_types.specs.declared.expr.FnCallExpr.{FnCallExpr}
+use Rattle.ast_types.specs.Reading.{callee_of, expr_of, expr_of-MethodCall, exprs_of, is_negated}
+use Rattle.ast_types.proofs.Cases.{ExprCase, expr_cases, dynamic_constant_case, bool_constant_case, integer_constant_case, char_constant_case, string_constant_case, interpolated_string_case, array_case, map_case, unit_case, variable_case, this_ptr_case, property_case, method_call_case, braces_case, call_case, dot_case, index_case, and_case, or_case, coalesce_case}
+use Rattle.theory_meaning.specs.Act as act
+use Rattle.theory_meaning.specs.Act.{Act, Ended, Gives, At}
+use Rattle.theory_meaning.specs.ActForms.{choose, give, unit}
+use Rattle.theory_meaning.specs.Chains as chains
+use Rattle.theory_meaning.specs.Chains.{unless_unit}
+use Rattle.theory_meaning.specs.Core as core
+use Rattle.theory_meaning.specs.Desugar as desugar
+use Rattle.theory_meaning.specs.Desugar.{based, core_expr, core_exprs, member_of, root_of}
+use Rattle.theory_meaning.specs.Meaning as meaning
+use Rattle.theory_meaning.specs.Meaning.{access, at_base}
+use Rattle.theory_meaning.specs.Places as places
+use Rattle.theory_meaning.specs.Places.{refreshed}
+use Rattle.theory_meaning.specs.Shape.{is_callable, is_chain, is_unit}
+use Rattle.theory_meaning.specs.Tree as tree
+use Rattle.run_places.specs.Reading.{or_unit}
 use Rattle.rhai_machine.specs.declared.steps.parts.Access.{Access}
 use Rattle.rhai_run_nodes.specs.declared.links.Link.{Link}
 use Rattle.rhai_run_nodes.specs.declared.links.Rest.{Rest}
 use Rattle.rhai_machine.specs.declared.steps.placing.Current.{Current}
-use Rattle.rhai_state.specs.declared.state.Interrupt.{Interrupt}
-use Rattle.rhai_state.specs.declared.state.Interrupt.TheVariants.{Stuck}
-use Rattle.rhai_state.specs.declared.state.State.{State}
-use Rattle.rhai_host.specs.declared.report.Stuck.TheVariants as why
+use Rattle.run_state.specs.declared.state.Interrupt.{Interrupt}
+use Rattle.run_state.specs.declared.state.Interrupt.TheVariants.{Stuck}
+use Rattle.run_state.specs.declared.state.State.{State}
+use Rattle.run_host.specs.declared.report.Stuck.TheVariants as why
 use Rattle.rhai_machine.specs.Chaining.{StepsOn, HasAccess, Reaches, access_meant, chain_core, head_of, method_core}
 use Rattle.rhai_run_nodes.specs.Links.{link_steps, rest_steps, step_core, steps_on}
-use Rattle.rhai_state.specs.Evaluating.{RunsCore, RunsExprs}
+use Rattle.run_state.specs.Evaluating.{RunsCore, RunsExprs}
 use Rattle.rhai_machine.specs.Placing.{current_in, made, place_in, read_base}
-use Rattle.rhai_state.specs.Runs.{Setting, Acting, Goes, Leads, Runs, given}
-use Rattle.rhai_state.specs.State.{store_of}
+use Rattle.run_state.specs.Runs.{Setting, Acting, Goes, Leads, Runs, given}
+use Rattle.run_state.specs.State.{store_of}
 use Rattle.rhai_run_nodes.proofs.Callees.{count_exprs_of}
-use Rattle.rhai_state.proofs.Goes.{goes_as, goes_then, leads_then, stops_then}
+use Rattle.run_state.proofs.Goes.{goes_as, goes_then, leads_then, stops_then}
 use Rattle.rhai_walk.specs.Nodes.{is_dot}
 
 -- ---- chains by their outermost node

@@ -2,32 +2,32 @@
 use Rattle.std.proofs.Common.{◌≡◌, ℤ, Bool, false, cond, ◌&&◌, [], ◌∷◌, ◌++◌, Option, Some, None, refl, sym, ap, ◌∙◌, subst}
 use Rattle.std.specs.Prelude.{IfSome, codes, option_map}
 use Rattle.rhai_base.specs.Value.{Value, Values, IntV, ArrayV, MapV, Fields}
-use Rattle.rhai_tree.specs.declared.expr.Expr.{Expr}
-use Rattle.rhai_tree.specs.Reading.{expr_of, is_negated}
-use Rattle.rhai_meaning.specs.Act as act
-use Rattle.rhai_meaning.specs.Act.{Act, Read}
-use Rattle.rhai_meaning.specs.ActForms.{choose, give, unit}
-use Rattle.rhai_meaning.specs.Chains as chains
-use Rattle.rhai_meaning.specs.Chains.{or_throw}
-use Rattle.rhai_meaning.specs.Desugar.{core_expr, member_of, root_of}
-use Rattle.rhai_meaning.specs.Elements.{at_index, element, entry}
-use Rattle.rhai_meaning.specs.Meaning as meaning
-use Rattle.rhai_meaning.specs.Places as places
-use Rattle.rhai_meaning.specs.Places.{AtEntry, AtIndex, again_at, along, inside, or_no_place, part, read_place, refreshed, under}
-use Rattle.rhai_meaning.specs.Shape.{is_unit}
-use Rattle.rhai_meaning.specs.Tree as tree
-use Rattle.rhai_places.specs.Reading.{or_unit, part_value}
-use Rattle.rhai_places.specs.declared.standing.Part.{Part}
+use Rattle.ast_types.specs.declared.expr.Expr.{Expr}
+use Rattle.ast_types.specs.Reading.{expr_of, is_negated}
+use Rattle.theory_meaning.specs.Act as act
+use Rattle.theory_meaning.specs.Act.{Act, Read}
+use Rattle.theory_meaning.specs.ActForms.{choose, give, unit}
+use Rattle.theory_meaning.specs.Chains as chains
+use Rattle.theory_meaning.specs.Chains.{or_throw}
+use Rattle.theory_meaning.specs.Desugar.{core_expr, member_of, root_of}
+use Rattle.theory_meaning.specs.Elements.{at_index, element, entry}
+use Rattle.theory_meaning.specs.Meaning as meaning
+use Rattle.theory_meaning.specs.Places as places
+use Rattle.theory_meaning.specs.Places.{AtEntry, AtIndex, again_at, along, inside, or_no_place, part, read_place, refreshed, under}
+use Rattle.theory_meaning.specs.Shape.{is_unit}
+use Rattle.theory_meaning.specs.Tree as tree
+use Rattle.run_places.specs.Reading.{or_unit, part_value}
+use Rattle.run_places.specs.declared.standing.Part.{Part}
 use Rattle.rhai_machine.specs.Placing.{root_value, value_at}
 use Rattle.rhai_machine.proofs.Chaining.{property_part}
 use Rattle.rhai_machine.proofs.Placing.{along_snoc, read_goes}
 use Rattle.rhai_run_nodes.specs.Links.{link_steps, rest_steps}
 use Rattle.rhai_run_nodes.specs.declared.links.Link.{Link}
 use Rattle.rhai_run_nodes.specs.declared.links.Rest.{Rest}
-use Rattle.rhai_state.specs.Runs.{Setting, Acting, Goes, given}
-use Rattle.rhai_state.specs.State.{store_of}
-use Rattle.rhai_state.specs.declared.state.State.{State}
-use Rattle.rhai_state.proofs.Goes.{gives, goes_as, goes_then, value_goes}
+use Rattle.run_state.specs.Runs.{Setting, Acting, Goes, given}
+use Rattle.run_state.specs.State.{store_of}
+use Rattle.run_state.specs.declared.state.State.{State}
+use Rattle.run_state.proofs.Goes.{gives, goes_as, goes_then, value_goes}
 use Rattle.rhai_walk.specs.declared.node.ChainType.TheVariants as chain_type
 use Rattle.rhai_chains.specs.Direct.{Comes, ComesFrom, IsIndex, StandsThere, StepsTo}
 use Rattle.rhai_chains.proofs.ChainSteps.{first_step, head_is, read_on, step_here, steps_are}

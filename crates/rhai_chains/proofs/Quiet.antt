@@ -3,17 +3,17 @@ use Rattle.std.proofs.Common.{ℕ, Bool, true, false, List, [], ◌∷◌, Optio
 use Rattle.std.specs.Prelude.{codes}
 use Rattle.rhai_base.specs.Value.{Text, Value, IntV, TextV, ArrayV, MapV}
 use Rattle.rhai_base.specs.Operators.{Operator, Computed, NoEntry, Is, Overflows, symbol}
-use Rattle.rhai_meaning.specs.Act as act
-use Rattle.rhai_meaning.specs.Act.{Act, AskHost, At, Ended, Gives, Halted, Leaves, Store, HostCall, run, and_then}
-use Rattle.rhai_meaning.specs.ActForms.{answered, ask_host, choose, give, throw, value_then, ◌>>=◌}
-use Rattle.rhai_meaning.specs.Calls.{assigned, of_table}
-use Rattle.rhai_meaning.specs.Chains.{ask_for, index, or_throw, property}
-use Rattle.rhai_meaning.specs.Engine.{asks_assigning, assigning, built_in}
-use Rattle.rhai_meaning.specs.Places.{Current, without_place}
-use Rattle.rhai_meaning.specs.Tree.{PropertyNames}
-use Rattle.rhai_state.specs.declared.state.State.{State}
-use Rattle.rhai_state.specs.Runs.{Setting, Acting, Over, Goes, env}
-use Rattle.rhai_state.specs.State.{store_of}
+use Rattle.theory_meaning.specs.Act as act
+use Rattle.theory_meaning.specs.Act.{Act, AskHost, At, Ended, Gives, Halted, Leaves, Store, HostCall, run, and_then}
+use Rattle.theory_meaning.specs.ActForms.{answered, ask_host, choose, give, throw, value_then, ◌>>=◌}
+use Rattle.theory_meaning.specs.Calls.{assigned, of_table}
+use Rattle.theory_meaning.specs.Chains.{ask_for, index, or_throw, property}
+use Rattle.theory_meaning.specs.Engine.{asks_assigning, assigning, built_in}
+use Rattle.theory_meaning.specs.Places.{Current, without_place}
+use Rattle.theory_meaning.specs.Tree.{PropertyNames}
+use Rattle.run_state.specs.declared.state.State.{State}
+use Rattle.run_state.specs.Runs.{Setting, Acting, Over, Goes, env}
+use Rattle.run_state.specs.State.{store_of}
 use Rattle.rhai_machine.proofs.Chaining.{KeepsNames, Names, kept_by}
 
 module _ (here : Setting) where

@@ -1,37 +1,37 @@
 -- Assignments to parts of values, step after step.
 use Rattle.std.proofs.Common.{◌≡◌, Bool, List, Option, Some, None, Result, Ok, Err, refl, sym, ap, subst, ◌∙◌, arith}
-use Rattle.rhai_tokens.specs.declared.token.Token.{Token}
+use Rattle.base_tokens.specs.declared.token.Token.{Token}
 use Rattle.rhai_base.specs.declared.dynamic.Dynamic.{Dynamic}
 use Rattle.rhai_base.specs.Reading.{value_of}
 use Rattle.rhai_base.specs.Value.{Text, Value, UnitV}
 use Rattle.rhai_base.specs.Builtin.{operator_of}
 use Rattle.rhai_base.specs.Operators.{Operator}
-use Rattle.rhai_tree.specs.Reading.{is_negated}
-use Rattle.rhai_meaning.specs.Act.{Act, Fail, NoPlace}
-use Rattle.rhai_meaning.specs.ActForms.{give, ◌>>=◌}
-use Rattle.rhai_meaning.specs.Calls.{assigned}
-use Rattle.rhai_meaning.specs.Chains as chains
-use Rattle.rhai_meaning.specs.Chains.{assign_last, set_at}
-use Rattle.rhai_meaning.specs.Meaning as meaning
-use Rattle.rhai_meaning.specs.Places as places
+use Rattle.ast_types.specs.Reading.{is_negated}
+use Rattle.theory_meaning.specs.Act.{Act, Fail, NoPlace}
+use Rattle.theory_meaning.specs.ActForms.{give, ◌>>=◌}
+use Rattle.theory_meaning.specs.Calls.{assigned}
+use Rattle.theory_meaning.specs.Chains as chains
+use Rattle.theory_meaning.specs.Chains.{assign_last, set_at}
+use Rattle.theory_meaning.specs.Meaning as meaning
+use Rattle.theory_meaning.specs.Places as places
 use Rattle.rhai_machine.specs.declared.steps.parts.Access.{Access}
 use Rattle.rhai_run_nodes.specs.declared.links.Link.{Link}
 use Rattle.rhai_run_nodes.specs.declared.links.Rest.{Rest}
 use Rattle.rhai_machine.specs.declared.steps.parts.Found.{Found}
 use Rattle.rhai_machine.specs.declared.steps.placing.Current.{Current}
-use Rattle.rhai_state.specs.declared.state.Interrupt.{Interrupt}
-use Rattle.rhai_state.specs.declared.state.Interrupt.TheVariants as stopped
-use Rattle.rhai_host.specs.declared.report.Stuck.TheVariants as why
-use Rattle.rhai_state.specs.declared.state.State.{State}
+use Rattle.run_state.specs.declared.state.Interrupt.{Interrupt}
+use Rattle.run_state.specs.declared.state.Interrupt.TheVariants as stopped
+use Rattle.run_host.specs.declared.report.Stuck.TheVariants as why
+use Rattle.run_state.specs.declared.state.State.{State}
 use Rattle.rhai_machine.specs.Chaining.{StepsOn, Reaches, access_meant, head_of}
 use Rattle.rhai_run_nodes.specs.Links.{link_steps, rest_steps, steps_on}
 use Rattle.rhai_run_nodes.specs.Operators.{StandsFor}
 use Rattle.rhai_machine.specs.Placing.{current_in}
-use Rattle.rhai_state.specs.Runs.{Setting, Acting, Goes, Leads, Runs, given}
-use Rattle.rhai_state.specs.State.{store_of}
+use Rattle.run_state.specs.Runs.{Setting, Acting, Goes, Leads, Runs, given}
+use Rattle.run_state.specs.State.{store_of}
 use Rattle.rhai_machine.specs.Targets.{Changes, Finds, found_in}
 use Rattle.rhai_machine.proofs.Chaining.{KeepsNames, same_current}
-use Rattle.rhai_state.proofs.Goes.{gives, goes_as, goes_then, leads_then, stops_then, value_goes, value_stops}
+use Rattle.run_state.proofs.Goes.{gives, goes_as, goes_then, leads_then, stops_then, value_goes, value_stops}
 use Rattle.rhai_chains.proofs.Quiet.{Quiet, quiet_assigned, quiet_give, quiet_stays, quiet_then}
 use Rattle.rhai_chains.proofs.ChainSteps.{first_step, head_is, step_here}
 

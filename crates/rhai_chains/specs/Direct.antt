@@ -1,19 +1,19 @@
 -- Chains whose steps run nothing, to parts of arrays and maps: their place need not be looked up again.
 use Rattle.std.specs.Prelude.{◌≡◌, ℤ, Bool, Some}
 use Rattle.rhai_base.specs.Value.{Value, IntV}
-use Rattle.rhai_tree.specs.declared.expr.Expr.{Expr}
-use Rattle.rhai_tree.specs.Reading.{expr_of}
-use Rattle.rhai_meaning.specs.Act.{Act}
-use Rattle.rhai_meaning.specs.Chains as chains
-use Rattle.rhai_meaning.specs.Desugar.{core_expr}
-use Rattle.rhai_meaning.specs.Meaning as meaning
-use Rattle.rhai_meaning.specs.Places as places
+use Rattle.ast_types.specs.declared.expr.Expr.{Expr}
+use Rattle.ast_types.specs.Reading.{expr_of}
+use Rattle.theory_meaning.specs.Act.{Act}
+use Rattle.theory_meaning.specs.Chains as chains
+use Rattle.theory_meaning.specs.Desugar.{core_expr}
+use Rattle.theory_meaning.specs.Meaning as meaning
+use Rattle.theory_meaning.specs.Places as places
 use Rattle.rhai_machine.specs.Placing.{value_at}
 use Rattle.rhai_run_nodes.specs.Links.{rest_steps, step_core}
 use Rattle.rhai_run_nodes.specs.declared.links.Rest.{Rest}
-use Rattle.rhai_state.specs.Runs.{Setting, Acting, Goes, given}
-use Rattle.rhai_state.specs.State.{store_of}
-use Rattle.rhai_state.specs.declared.state.State.{State}
+use Rattle.run_state.specs.Runs.{Setting, Acting, Goes, given}
+use Rattle.run_state.specs.State.{store_of}
+use Rattle.run_state.specs.declared.state.State.{State}
 use Rattle.rhai_walk.specs.Nodes.{is_dot}
 use Rattle.rhai_walk.specs.declared.node.ChainType.{ChainType}
 

@@ -1,6 +1,6 @@
 //! Assignments to parts by an operator, which reads them first.
 
-#![tactic(auto, using(rhai_tree::specs::Reading::shapes, rhai_base::specs::Reading::kinds))]
+#![tactic(auto, using(ast_types::specs::Reading::shapes, rhai_base::specs::Reading::kinds))]
 
 ghost use Rattle.std.specs.Prelude.{◌≡◌, Some};
 ghost use Rattle.rhai_base.specs.Reading.{value_of};
@@ -10,18 +10,18 @@ ghost use Rattle.rhai_run_nodes.specs.Operators.{StandsFor};
 ghost use Rattle.rhai_machine.specs.Chaining.{access_meant, names_meant};
 ghost use Rattle.rhai_machine.specs.Setting.{setting};
 ghost use Rattle.rhai_machine.specs.Placing.{current_in};
-ghost use Rattle.rhai_state.specs.Runs.{Acting, Leads, given};
-ghost use Rattle.rhai_state.specs.State.{store_of};
+ghost use Rattle.run_state.specs.Runs.{Acting, Leads, given};
+ghost use Rattle.run_state.specs.State.{store_of};
 ghost use Rattle.rhai_machine.specs.Targets.{Changes};
 ghost use Rattle.rhai_machine.specs.declared.steps.parts.Access.TheVariants as reached;
-ghost use Rattle.rhai_meaning.specs.Chains as chains;
+ghost use Rattle.theory_meaning.specs.Chains as chains;
 
 use crate::finding::{find_index, find_property, found_value};
 use crate::setting::set_at;
 use rhai_base::{Dynamic, Token};
-use rhai_host::Host;
 use rhai_machine::{Access, Current, Machine, PropertyNames};
-use rhai_state::{Interrupt, State};
+use run_host::Host;
+use run_state::{Interrupt, State};
 
 /// Assigns to a property by an operator.
 pub fn assign_property<H: Host>(

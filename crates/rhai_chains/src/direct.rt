@@ -1,15 +1,15 @@
 //! Chains whose steps run nothing: properties of maps, and elements of arrays by integers and by names. They are
 //! followed by reference, so the base is looked up once.
 
-#![tactic(auto, using(rhai_tree::specs::Reading::shapes, rhai_base::specs::Reading::kinds))]
+#![tactic(auto, using(ast_types::specs::Reading::shapes, rhai_base::specs::Reading::kinds))]
 
 ghost use Rattle.std.specs.Prelude.{◌≡◌, IfOk, IfSome, Some};
 ghost use Rattle.rhai_chains.specs.Direct.{Comes, ComesFrom, IsIndex, StepsTo};
 ghost use Rattle.rhai_machine.specs.Placing.{current_in, root_value};
 ghost use Rattle.rhai_machine.specs.Setting.{setting};
-ghost use Rattle.rhai_places.specs.Reading.{part_value};
+ghost use Rattle.run_places.specs.Reading.{part_value};
 ghost use Rattle.rhai_run_nodes.specs.Variables.{root_meant};
-ghost use Rattle.rhai_state.specs.State.{store_of};
+ghost use Rattle.run_state.specs.State.{store_of};
 ghost use Rattle.rhai_base.specs.Reading.{value_of};
 ghost use Rattle.rhai_base.specs.Value.{IntV};
 ghost use Rattle.rhai_walk.specs.declared.node.ChainType.TheVariants as chain_type;
@@ -17,11 +17,11 @@ ghost use Rattle.rhai_walk.specs.declared.node.ChainType.TheVariants as chain_ty
 use bitflags::Flags;
 use rhai_ast::{ChainType, Expr};
 use rhai_base::{ASTFlags, Dynamic, INT, Seq};
-use rhai_host::Host;
 use rhai_machine::{Current, Machine, Place};
-use rhai_places::{Part, element, entry};
 use rhai_run_nodes::{Rest, Root, root_of};
-use rhai_state::State;
+use run_host::Host;
+use run_places::{Part, element, entry};
+use run_state::State;
 use std::alloc::AllocError;
 
 /// The value that what is left of a chain comes to from what stands at a place, if no step of it runs anything.

@@ -1,25 +1,25 @@
 //! Parts of what a chain has come to: properties and indices.
 
-#![tactic(auto, using(rhai_tree::specs::Reading::shapes, rhai_base::specs::Reading::kinds, rhai_machine::proofs::Chaining::chaining))]
+#![tactic(auto, using(ast_types::specs::Reading::shapes, rhai_base::specs::Reading::kinds, rhai_machine::proofs::Chaining::chaining))]
 
 ghost use Rattle.std.specs.Prelude.{◌≡◌, [], ◌∷◌, codes, IfOk, Some};
 ghost use Rattle.rhai_machine.specs.Chaining.{StepsOn, names_meant};
 ghost use Rattle.rhai_machine.specs.Setting.{setting};
-ghost use Rattle.rhai_state.specs.Runs.{Leaving, stop_of};
-ghost use Rattle.rhai_state.specs.State.{store_of};
+ghost use Rattle.run_state.specs.Runs.{Leaving, stop_of};
+ghost use Rattle.run_state.specs.State.{store_of};
 ghost use Rattle.rhai_base.specs.Reading.{value_of};
 ghost use Rattle.rhai_base.specs.Value.{TextV};
-ghost use Rattle.rhai_meaning.specs.Act.{Throws};
+ghost use Rattle.theory_meaning.specs.Act.{Throws};
 ghost use Rattle.rhai_machine.specs.Targets.{Finds, found_in};
-ghost use Rattle.rhai_meaning.specs.Chains as chains;
+ghost use Rattle.theory_meaning.specs.Chains as chains;
 ghost use Rattle.rhai_machine.specs.Placing as spec;
 
 use rhai_base::{Dynamic, ImmutableString, Seq};
 use rhai_chain_receivers::ask_for;
-use rhai_host::Host;
 use rhai_machine::{Current, Found, Machine, PropertyNames, at_key};
-use rhai_places::{Indexed, PlaceKey, index};
-use rhai_state::{Interrupt, State};
+use run_host::Host;
+use run_places::{Indexed, PlaceKey, index};
+use run_state::{Interrupt, State};
 use std::alloc::{AllocError, Global};
 
 /// A property: the entry of a map, or what the host's getter answers.

@@ -1,25 +1,25 @@
 //! Writes to parts: properties, indices, and where a last step leads.
 
-#![tactic(auto, using(rhai_tree::specs::Reading::shapes, rhai_base::specs::Reading::kinds, rhai_machine::proofs::Chaining::chaining))]
+#![tactic(auto, using(ast_types::specs::Reading::shapes, rhai_base::specs::Reading::kinds, rhai_machine::proofs::Chaining::chaining))]
 
 ghost use Rattle.std.specs.Prelude.{[], ◌∷◌, codes};
 ghost use Rattle.rhai_machine.specs.Chaining.{access_meant, names_meant};
 ghost use Rattle.rhai_machine.specs.Setting.{setting};
-ghost use Rattle.rhai_state.specs.Runs.{Acting, Leads, given};
-ghost use Rattle.rhai_state.specs.State.{store_of};
+ghost use Rattle.run_state.specs.Runs.{Acting, Leads, given};
+ghost use Rattle.run_state.specs.State.{store_of};
 ghost use Rattle.rhai_base.specs.Reading.{value_of};
 ghost use Rattle.rhai_base.specs.Value.{UnitV};
-ghost use Rattle.rhai_meaning.specs.Chains as chains;
+ghost use Rattle.theory_meaning.specs.Chains as chains;
 ghost use Rattle.rhai_machine.specs.declared.steps.placing.Current.TheVariants as kind;
 ghost use Rattle.rhai_machine.specs.Placing as spec;
 
 use crate::finding::thrown;
 use rhai_base::{Dynamic, ImmutableString, Seq};
 use rhai_chain_receivers::set_by_host;
-use rhai_host::{Host, Stuck};
 use rhai_machine::{Access, Current, Machine, Place, PropertyNames};
-use rhai_places::{IndexTarget, PlaceKey, index_target};
-use rhai_state::{Interrupt, State};
+use run_host::{Host, Stuck};
+use run_places::{IndexTarget, PlaceKey, index_target};
+use run_state::{Interrupt, State};
 
 /// Writes where a last step leads; what has no place is stuck.
 pub fn set_at<H: Host>(

@@ -1,13 +1,13 @@
 -- An `if` that is decided, has no statements, or stays.
 use Rattle.std.proofs.Common.{◌≡◌, Bool, true, false, not, ◌&&◌, ◌↔◌, IsTrue, List, [], ◌∷◌, Option, Some, None, is_some, refl, sym, ap, ◌∙◌, subst}
-use Rattle.rhai_tree.specs.declared.stmt.Stmt as declared_stmt
-use Rattle.rhai_meaning.specs.Constants.{constant_bool}
-use Rattle.rhai_meaning.specs.Tree.{Expr, Stmt, Noop, If, Block, Stmts, no_stmts, stmt}
-use Rattle.rhai_tree.specs.Reading.{stmts_of}
-use Rattle.rhai_rewriting.specs.Rules as rule
-use Rattle.rhai_rewriting.specs.Rules.{block_or_noop, condition_alone}
-use Rattle.rhai_rewriting.specs.Steps.{StmtRewrite}
-use Rattle.rhai_rewriting.proofs.Keeping.{keeps_condition}
+use Rattle.ast_types.specs.declared.stmt.Stmt as declared_stmt
+use Rattle.theory_meaning.specs.Constants.{constant_bool}
+use Rattle.theory_meaning.specs.Tree.{Expr, Stmt, Noop, If, Block, Stmts, no_stmts, stmt}
+use Rattle.ast_types.specs.Reading.{stmts_of}
+use Rattle.theory_rewriting.specs.Rules as rule
+use Rattle.theory_rewriting.specs.Rules.{block_or_noop, condition_alone}
+use Rattle.theory_rewriting.specs.Steps.{StmtRewrite}
+use Rattle.theory_rewriting.proofs.Keeping.{keeps_condition}
 use Rattle.rhai_steps.proofs.Places.{not-true}
 use Rattle.rhai_choice_rules.specs.Settled.{is_empty, is_settled_if, opens_if, reopens}
 

@@ -1,9 +1,9 @@
 -- All other nodes, where a match names some.
 use Rattle.std.proofs.Common.{◌≡◌, Bool, true, false, refl}
-use Rattle.rhai_tree.specs.declared.expr.Expr as declared_expr
-use Rattle.rhai_tree.specs.declared.stmt.Stmt as declared_stmt
-use Rattle.rhai_meaning.specs.Tree.{Expr, Stmt}
-use Rattle.rhai_tree.proofs.Cases.{ExprCase, and_case, StmtCase, if_case}
+use Rattle.ast_types.specs.declared.expr.Expr as declared_expr
+use Rattle.ast_types.specs.declared.stmt.Stmt as declared_stmt
+use Rattle.theory_meaning.specs.Tree.{Expr, Stmt}
+use Rattle.ast_types.proofs.Cases.{ExprCase, and_case, StmtCase, if_case}
 use Rattle.rhai_steps.proofs.NodeKinds.{NoAnd, NoIf}
 use Rattle.rhai_choice_rules.specs.Settled.{is_settled, reopens, goes_on, is_and, is_bare_if, is_nest}
 

@@ -1,8 +1,8 @@
 -- An `if` at which no rule fires, its parts being reduced.
 use Rattle.std.specs.Prelude.{Bool, true, false, ◌&&◌, not, Option, Some, None, is_some}
-use Rattle.rhai_meaning.specs.Constants.{constant_bool}
-use Rattle.rhai_meaning.specs.Tree.{Expr, And, Exprs, no_exprs, expr, Stmt, If, Stmts, no_stmts, stmt}
-use Rattle.rhai_rewriting.specs.Answering.{is_always}
+use Rattle.theory_meaning.specs.Constants.{constant_bool}
+use Rattle.theory_meaning.specs.Tree.{Expr, And, Exprs, no_exprs, expr, Stmt, If, Stmts, no_stmts, stmt}
+use Rattle.theory_rewriting.specs.Answering.{is_always}
 
 abbrev pub is_empty : Stmts → Bool
 is_empty no_stmts = true

@@ -1,6 +1,6 @@
 -- What comes of an `if`.
 use Rattle.std.specs.Prelude.{Bool, true, false}
-use Rattle.rhai_meaning.specs.Tree.{Stmt}
+use Rattle.theory_meaning.specs.Tree.{Stmt}
 use Rattle.rhai_steps.specs.declared.step.NodeStep.{NodeStep}
 use Rattle.rhai_steps.specs.declared.step.NodeStep.TheVariants as step
 use Rattle.rhai_steps.specs.NodeSteps.{step_by}

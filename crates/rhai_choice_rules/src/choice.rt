@@ -1,20 +1,20 @@
 //! The rules at an `if`. What a rule makes does not depend on where the statement stands, nor on what was changed
 //! before.
 
-#![tactic(auto, using(rhai_tree::specs::Reading::shapes))]
+#![tactic(auto, using(ast_types::specs::Reading::shapes))]
 
 ghost use Rattle.std.specs.Prelude.{◌≡◌, ◌&&◌, IfOk, Some, false, Bool};
-ghost use Rattle.rhai_meaning.specs.Constants as constants;
-ghost use Rattle.rhai_meaning.specs.Tree.{If, no_stmts};
-ghost use Rattle.rhai_meaning.specs.Tree as tree;
-ghost use Rattle.rhai_tree.specs.Reading.{expr_of, stmt_of, stmts_of};
-ghost use Rattle.rhai_rewriting.specs.Rules as rules;
-ghost use Rattle.rhai_rewriting.specs.Steps.{StmtRewrite};
+ghost use Rattle.theory_meaning.specs.Constants as constants;
+ghost use Rattle.theory_meaning.specs.Tree.{If, no_stmts};
+ghost use Rattle.theory_meaning.specs.Tree as tree;
+ghost use Rattle.ast_types.specs.Reading.{expr_of, stmt_of, stmts_of};
+ghost use Rattle.theory_rewriting.specs.Rules as rules;
+ghost use Rattle.theory_rewriting.specs.Steps.{StmtRewrite};
 ghost use Rattle.rhai_choice_rules.specs.Settled as settled;
 
+use opt_folding::constant_bool;
 use rhai_ast::{Expr, FlowControl, Stmt, StmtBlock};
 use rhai_base::{OutOfMemory, Position};
-use rhai_folding::constant_bool;
 use rhai_nodes::{block_statement, blocks_of, expression_statement, followed_by_nothing};
 use std::alloc::Global;
 
@@ -36,7 +36,7 @@ fn block_or_noop(alloc: Global, block: StmtBlock) -> Result<Stmt, OutOfMemory>
 }
 
 /// A condition that nothing depends on; where a value is wanted, followed by nothing.
-#[tactic(auto, using(rhai_tree::specs::Reading::shapes, rhai_nodes::proofs::Blocks::followed_tree))]
+#[tactic(auto, using(ast_types::specs::Reading::shapes, rhai_nodes::proofs::Blocks::followed_tree))]
 fn condition_alone(
     alloc: Global,
     expr: Expr,

@@ -1,21 +1,21 @@
 //! An `if` alone in an `if`.
 
-#![tactic(auto, using(rhai_tree::specs::Reading::shapes))]
+#![tactic(auto, using(ast_types::specs::Reading::shapes))]
 
 ghost use Rattle.std.specs.Prelude.{◌≡◌, true, false, Bool, None, OnOk, IfOk};
-ghost use Rattle.rhai_meaning.specs.Constants as constants;
-ghost use Rattle.rhai_meaning.specs.Tree.{And, If, expr, no_exprs, no_stmts, stmt};
-ghost use Rattle.rhai_tree.specs.Reading.{expr_of, exprs_of, stmt_of, stmts_of};
-ghost use Rattle.rhai_rewriting.specs.Answering.{is_always};
-ghost use Rattle.rhai_rewriting.specs.Operands.{with_last};
-ghost use Rattle.rhai_rewriting.specs.Steps.{StmtRewrite};
+ghost use Rattle.theory_meaning.specs.Constants as constants;
+ghost use Rattle.theory_meaning.specs.Tree.{And, If, expr, no_exprs, no_stmts, stmt};
+ghost use Rattle.ast_types.specs.Reading.{expr_of, exprs_of, stmt_of, stmts_of};
+ghost use Rattle.theory_rewriting.specs.Answering.{is_always};
+ghost use Rattle.theory_rewriting.specs.Operands.{with_last};
+ghost use Rattle.theory_rewriting.specs.Steps.{StmtRewrite};
 ghost use Rattle.rhai_choice_rules.specs.Nested.{Joins, if_of};
 ghost use Rattle.rhai_choice_rules.specs.Settled as settled;
 
 use crate::choice::is_empty;
+use opt_folding::constant_bool;
 use rhai_ast::{Expr, ExprQueries, FlowControl, Stmt, StmtBlock, Take};
 use rhai_base::{Boxed, OutOfMemory, Position, Seq};
-use rhai_folding::constant_bool;
 use rhai_nodes::{only_statement, put_expr};
 use std::alloc::Global;
 use std::mem::replace;

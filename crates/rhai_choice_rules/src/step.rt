@@ -1,12 +1,12 @@
 //! One step at an `if`, in its place.
 
-#![tactic(auto, using(rhai_tree::specs::Reading::shapes))]
+#![tactic(auto, using(ast_types::specs::Reading::shapes))]
 
 ghost use Rattle.std.specs.Prelude.{◌≡◌, IfOk, OnOk, true, false, Bool};
-ghost use Rattle.rhai_known.specs.State.{progress};
-ghost use Rattle.rhai_meaning.specs.Engine.{Engine};
-ghost use Rattle.rhai_tree.specs.Reading.{stmt_of};
-ghost use Rattle.rhai_rewriting.specs.Steps.{StmtRewrite};
+ghost use Rattle.opt_known.specs.State.{progress};
+ghost use Rattle.theory_meaning.specs.Engine.{Engine};
+ghost use Rattle.ast_types.specs.Reading.{stmt_of};
+ghost use Rattle.theory_rewriting.specs.Steps.{StmtRewrite};
 ghost use Rattle.rhai_choice_rules.specs.Settled as settled;
 ghost use Rattle.rhai_choice_rules.specs.Steps.{answer};
 ghost use Rattle.rhai_steps.specs.NodeSteps.{StmtStep};

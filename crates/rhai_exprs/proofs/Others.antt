@@ -2,15 +2,15 @@
 use Rattle.std.proofs.Common.{◌≡◌, false, Option, refl}
 use Rattle.std.specs.declared.num.NonZeroU8.{NonZeroU8}
 use Rattle.std.specs.declared.num.NonZeroUsize.{NonZeroUsize}
-use Rattle.rhai_tokens.specs.declared.namespace.Namespace.{Namespace}
-use Rattle.rhai_tokens.specs.declared.position.Position.{Position}
-use Rattle.rhai_tokens.specs.declared.token.Token.{Token}
+use Rattle.base_tokens.specs.declared.namespace.Namespace.{Namespace}
+use Rattle.base_tokens.specs.declared.position.Position.{Position}
+use Rattle.base_tokens.specs.declared.token.Token.{Token}
 use Rattle.rhai_base.specs.Value.{Text}
-use Rattle.rhai_tree.specs.declared.expr.Expr as declared_expr
-use Rattle.rhai_tree.specs.declared.expr.Expr.TheVariants as expr_kind
-use Rattle.rhai_meaning.specs.Queries.{is_unit, may_follow}
-use Rattle.rhai_meaning.specs.Tree.{Expr}
-use Rattle.rhai_tree.proofs.Cases.{ExprCase, property_case, unit_case, variable_case}
+use Rattle.ast_types.specs.declared.expr.Expr as declared_expr
+use Rattle.ast_types.specs.declared.expr.Expr.TheVariants as expr_kind
+use Rattle.theory_meaning.specs.Queries.{is_unit, may_follow}
+use Rattle.theory_meaning.specs.Tree.{Expr}
+use Rattle.ast_types.proofs.Cases.{ExprCase, property_case, unit_case, variable_case}
 
 pub no_unit : {x : declared_expr.Expr} {e : Expr} → ExprCase x e → ((p : Position) → x ≡ expr_kind.Unit p → ⊥) → false ≡ is_unit e
 no_unit (unit_case p) u = absurd (u p refl)

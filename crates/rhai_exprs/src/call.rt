@@ -1,13 +1,13 @@
 //! What may be asked of a call.
 
-#![tactic(auto, using(rhai_tree::specs::Reading::shapes))]
+#![tactic(auto, using(ast_types::specs::Reading::shapes))]
 
 ghost use Rattle.std.specs.Prelude.{◌≡◌, ◌↔◌, ◌≢◌, [], IsTrue, is_some};
-ghost use Rattle.rhai_tree.specs.Reading.{exprs_of};
-ghost use Rattle.rhai_meaning.specs.Queries as queries;
+ghost use Rattle.ast_types.specs.Reading.{exprs_of};
+ghost use Rattle.theory_meaning.specs.Queries as queries;
 
+use ast_types::FnCallExpr;
 use rhai_queries::are_constant;
-use rhai_tree::FnCallExpr;
 
 /// What may be asked of a call.
 pub trait CallQueries {

@@ -1,16 +1,16 @@
 //! What may be asked of an expression.
 
-#![tactic(auto, using(rhai_tree::specs::Reading::shapes, rhai_tree::specs::Positions::places))]
+#![tactic(auto, using(ast_types::specs::Reading::shapes, ast_types::specs::Positions::places))]
 
 ghost use Rattle.std.specs.Prelude.{◌≡◌};
-ghost use Rattle.rhai_tree.specs.Reading.{expr_of};
-ghost use Rattle.rhai_tree.specs.Positions.{options_of, position_of, start_of};
-ghost use Rattle.rhai_meaning.specs.Constants as constants;
-ghost use Rattle.rhai_meaning.specs.Laws.{PureExprLaw};
-ghost use Rattle.rhai_meaning.specs.Queries as queries;
+ghost use Rattle.ast_types.specs.Reading.{expr_of};
+ghost use Rattle.ast_types.specs.Positions.{options_of, position_of, start_of};
+ghost use Rattle.theory_meaning.specs.Constants as constants;
+ghost use Rattle.theory_meaning.specs.Laws.{PureExprLaw};
+ghost use Rattle.theory_meaning.specs.Queries as queries;
 
+use ast_types::Expr;
 use rhai_base::{ASTFlags, Position, Token};
-use rhai_tree::Expr;
 
 /// What may be asked of an expression.
 pub trait ExprQueries {
@@ -50,7 +50,7 @@ impl ExprQueries for Expr {
         rhai_queries::is_constant(self)
     }
 
-    #[tactic(auto, using(rhai_meaning::proofs::PurityLaws::pure_expr_law))]
+    #[tactic(auto, using(theory_meaning::proofs::PurityLaws::pure_expr_law))]
     fn is_pure(&self) -> bool
         ensures value { result ≡ queries.is_pure_expr (expr_of self.now) }
         ensures law { PureExprLaw (expr_of self.now) }

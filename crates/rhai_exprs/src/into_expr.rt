@@ -3,11 +3,11 @@
 #![tactic(auto)]
 
 ghost use Rattle.std.specs.Prelude.{◌≡◌, IfOk};
-ghost use Rattle.rhai_tree.specs.declared.expr.Expr.TheVariants.{FnCall};
+ghost use Rattle.ast_types.specs.declared.expr.Expr.TheVariants.{FnCall};
 
+use ast_types::{Expr, FnCallExpr};
 use rhai_base::{OutOfMemory, Position};
 use rhai_nodes::call_expression;
-use rhai_tree::{Expr, FnCallExpr};
 use std::alloc::Global;
 
 /// Calls as expressions.

@@ -6,14 +6,14 @@ ghost use Rattle.std.specs.Prelude.{◌≡◌, IfOk, Some};
 ghost use Rattle.std.specs.Option.{option_map};
 ghost use Rattle.rhai_base.specs.Reading.{value_of};
 ghost use Rattle.rhai_nodes.specs.Lent.{lent_value};
-ghost use Rattle.rhai_tree.specs.Reading.{expr_of};
-ghost use Rattle.rhai_tree.specs.Positions.{AreAt, arguments_of, position_of};
-ghost use Rattle.rhai_meaning.specs.Constants as constants;
-ghost use Rattle.rhai_meaning.specs.Laws.{ConstantLaw, LiteralLaw};
+ghost use Rattle.ast_types.specs.Reading.{expr_of};
+ghost use Rattle.ast_types.specs.Positions.{AreAt, arguments_of, position_of};
+ghost use Rattle.theory_meaning.specs.Constants as constants;
+ghost use Rattle.theory_meaning.specs.Laws.{ConstantLaw, LiteralLaw};
 
+use ast_types::Expr;
 use rhai_base::{Dynamic, OutOfMemory, Position};
 use rhai_nodes::{constant_for, literal_value};
-use rhai_tree::Expr;
 use std::alloc::Global;
 use std::borrow::Cow;
 
@@ -35,7 +35,7 @@ pub trait Literals: Sized {
 }
 
 impl Literals for Expr {
-    #[tactic(auto, using(rhai_meaning::proofs::LiteralLaws::literal_law, rhai_meaning::proofs::LiteralLaws::constant_is_literal))]
+    #[tactic(auto, using(theory_meaning::proofs::LiteralLaws::literal_law, theory_meaning::proofs::LiteralLaws::constant_is_literal))]
     fn get_literal_value(&self, alloc: Global) -> Result<Option<Dynamic>, OutOfMemory>
         ensures value { IfOk result (λ v. option_map value_of v ≡ constants.literal_value (expr_of self.now)) }
         ensures runs { LiteralLaw (expr_of self.now) }

@@ -1,11 +1,11 @@
 -- What is found below a node, child by child.
 use Rattle.std.proofs.Common.{◌≡◌, List, [], Option, None, Some, refl, sym, ap, ◌∙◌}
 use Rattle.std.proofs.Math.Path.{fun_ext}
-use Rattle.rhai_meaning.specs.Faults.{TreeFault, finding, ◌then◌}
-use Rattle.rhai_meaning.specs.Walk as walk
-use Rattle.rhai_meaning.specs.Walk.{Node, over_stmts}
-use Rattle.rhai_tree.specs.declared.stmt.Stmt.{Stmt}
-use Rattle.rhai_tree.specs.Reading.{stmts_of}
+use Rattle.theory_meaning.specs.Faults.{TreeFault, finding, ◌then◌}
+use Rattle.theory_meaning.specs.Walk as walk
+use Rattle.theory_meaning.specs.Walk.{Node, over_stmts}
+use Rattle.ast_types.specs.declared.stmt.Stmt.{Stmt}
+use Rattle.ast_types.specs.Reading.{stmts_of}
 use Rattle.rhai_walk.specs.Children.{children, over_children, over_parts}
 use Rattle.rhai_walk.specs.Left.{left_of, statements_left}
 use Rattle.rhai_walk.specs.declared.children.Children.{Children}

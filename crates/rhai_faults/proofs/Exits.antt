@@ -3,11 +3,11 @@ use Rattle.std.proofs.Common.{◌≡◌, not, ◌==◌, List, [], ◌∷◌, len
 use Rattle.std.proofs.Math.Dec.{eqb-suc-zero}
 use Rattle.std.proofs.lemmas.Result.{err_from_is_err_and}
 use Rattle.std.specs.Result.{IsErrAnd}
-use Rattle.rhai_tokens.specs.declared.error.TreeFault.{TreeFault}
-use Rattle.rhai_tree.specs.declared.expr.Expr.{Expr}
-use Rattle.rhai_meaning.specs.Faults as faults
-use Rattle.rhai_meaning.specs.Faults.{◌then◌}
-use Rattle.rhai_tree.specs.Reading.{exprs_of}
+use Rattle.base_tokens.specs.declared.error.TreeFault.{TreeFault}
+use Rattle.ast_types.specs.declared.expr.Expr.{Expr}
+use Rattle.theory_meaning.specs.Faults as faults
+use Rattle.theory_meaning.specs.Faults.{◌then◌}
+use Rattle.ast_types.specs.Reading.{exprs_of}
 use Rattle.rhai_faults.specs.Refusals.{Finds, IsTheFirst, meant}
 
 first_stays : (o p m : Option TreeFault) → IsTheFirst o m → IsTheFirst (o then p) m

@@ -3,10 +3,10 @@ use Rattle.std.proofs.Common.{◌≡◌, ℕ, ◌+◌, ◌<◌, not, List, Optio
 use Rattle.std.proofs.Math.Seq.{drop-cons, drop-length}
 use Rattle.std.specs.declared.alloc.Global.{Global}
 use Rattle.std.specs.declared.rc.Rc.{Rc}
-use Rattle.rhai_tree.specs.declared.script_fn.ScriptFuncDef.{ScriptFuncDef}
-use Rattle.rhai_meaning.specs.Faults.{TreeFault, ReservedName, finding, functions_fault, is_reserved, unless, ◌then◌}
-use Rattle.rhai_meaning.specs.Walk.{outermost, over_stmts}
-use Rattle.rhai_tree.specs.Reading.{stmts_of}
+use Rattle.ast_types.specs.declared.script_fn.ScriptFuncDef.{ScriptFuncDef}
+use Rattle.theory_meaning.specs.Faults.{TreeFault, ReservedName, finding, functions_fault, is_reserved, unless, ◌then◌}
+use Rattle.theory_meaning.specs.Walk.{outermost, over_stmts}
+use Rattle.ast_types.specs.Reading.{stmts_of}
 use Rattle.rhai_faults.specs.Scripts.{functions_of}
 
 abbrev pub found_functions : List (Rc ScriptFuncDef Global) → Option TreeFault

@@ -15,13 +15,13 @@ use Rattle.std.specs.HashSet.{HashSet, PutsKey}
 use Rattle.std.specs.List.{AllByRecursion, IsDistinct, list_any}
 use Rattle.std.specs.List.Sorted.{IsPermutation, IsStrictlySortedBy}
 use Rattle.std.specs.Ordering.{nat_cmp, eq_by_cmp}
-use Rattle.rhai_tokens.specs.Names.{is_among}
-use Rattle.rhai_tokens.specs.declared.ident.Ident.{Ident}
-use Rattle.rhai_tree.specs.declared.expr.Expr.{Expr}
+use Rattle.base_tokens.specs.Names.{is_among}
+use Rattle.base_tokens.specs.declared.ident.Ident.{Ident}
+use Rattle.ast_types.specs.declared.expr.Expr.{Expr}
 use Rattle.rhai_base.specs.declared.dynamic.Dynamic.{Dynamic}
 use Rattle.rhai_base.specs.Value.{Text, same_text}
-use Rattle.rhai_meaning.specs.Shape.{are_among, are_distinct}
-use Rattle.rhai_tree.specs.Reading.{keys_of}
+use Rattle.theory_meaning.specs.Shape.{are_among, are_distinct}
+use Rattle.ast_types.specs.Reading.{keys_of}
 use Rattle.rhai_faults.specs.MapKeys.{names_of, texts_of}
 
 -- ---- tests by one another

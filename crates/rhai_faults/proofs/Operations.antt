@@ -1,13 +1,13 @@
 -- Operators by their tokens.
 use Rattle.std.proofs.Common.{◌≡◌, suc, Bool, true, false, ◌||◌, List, [], ◌∷◌, ◌++◌, drop, length, map, take, Option, Some, None, is_some, if◌then◌else◌, refl, ap, ◌∙◌, rules}
-use Rattle.rhai_tokens.specs.declared.token.Token.{Token}
-use Rattle.rhai_tokens.specs.Symbols.{token_text}
-use Rattle.rhai_tokens.specs.Tokens as tokens
-use Rattle.rhai_tokens.specs.Names.{is_among, symbols}
-use Rattle.rhai_tree.specs.declared.expr.Expr.{Expr}
+use Rattle.base_tokens.specs.declared.token.Token.{Token}
+use Rattle.base_tokens.specs.Symbols.{token_text}
+use Rattle.base_tokens.specs.Tokens as tokens
+use Rattle.base_tokens.specs.Names.{is_among, symbols}
+use Rattle.ast_types.specs.declared.expr.Expr.{Expr}
 use Rattle.rhai_base.specs.Value.{Text, same_text}
-use Rattle.rhai_meaning.specs.Tree.{count_exprs}
-use Rattle.rhai_tree.specs.Reading.{exprs_of}
+use Rattle.theory_meaning.specs.Tree.{count_exprs}
+use Rattle.ast_types.specs.Reading.{exprs_of}
 use Rattle.rhai_queries.specs.Operators.{token_arity}
 use Rattle.rhai_faults.proofs.KeyLists.{is_among-same}
 

@@ -2,23 +2,23 @@
 use Rattle.std.proofs.Common.{◌≡◌, Bool, true, false, List, Option, if◌then◌else◌, refl}
 use Rattle.std.specs.declared.num.NonZeroU8.{NonZeroU8}
 use Rattle.std.specs.declared.num.NonZeroUsize.{NonZeroUsize}
-use Rattle.rhai_tokens.specs.declared.flags.ASTFlags.{ASTFlags}
-use Rattle.rhai_tokens.specs.declared.namespace.Namespace.{Namespace}
-use Rattle.rhai_tokens.specs.declared.position.Position.{Position}
+use Rattle.base_tokens.specs.declared.flags.ASTFlags.{ASTFlags}
+use Rattle.base_tokens.specs.declared.namespace.Namespace.{Namespace}
+use Rattle.base_tokens.specs.declared.position.Position.{Position}
 use Rattle.rhai_base.specs.Value.{Text}
-use Rattle.rhai_tree.specs.declared.expr.BinaryExpr.{BinaryExpr}
-use Rattle.rhai_tree.specs.declared.expr.Expr as declared_expr
-use Rattle.rhai_tree.specs.declared.expr.Expr.TheVariants as expr_kind
-use Rattle.rhai_tree.specs.declared.expr.FnCallExpr.{FnCallExpr}
-use Rattle.rhai_meaning.specs.Faults.{is_catch}
-use Rattle.rhai_tokens.specs.declared.ident.Ident.{Ident}
-use Rattle.rhai_tree.specs.declared.stmt.Stmt as declared_stmt
-use Rattle.rhai_tree.specs.declared.stmt.Stmt.TheVariants as stmt_kind
-use Rattle.rhai_meaning.specs.Plain.{is_plain_expr, is_plain_stmt}
-use Rattle.rhai_meaning.specs.Shape.{catch_name, is_left_side, is_member, is_rest}
-use Rattle.rhai_meaning.specs.Tree.{Expr, Stmt}
-use Rattle.rhai_meaning.specs.Walk.{Around, Member, OfExpr, Whole, around_parts, right_role, whole}
-use Rattle.rhai_tree.proofs.Cases.{ExprCase, StmtCase, call_case, call_statement_case, dot_case, share_case, index_case, method_call_case, property_case, this_ptr_case, unit_case, variable_case}
+use Rattle.ast_types.specs.declared.expr.BinaryExpr.{BinaryExpr}
+use Rattle.ast_types.specs.declared.expr.Expr as declared_expr
+use Rattle.ast_types.specs.declared.expr.Expr.TheVariants as expr_kind
+use Rattle.ast_types.specs.declared.expr.FnCallExpr.{FnCallExpr}
+use Rattle.theory_meaning.specs.Faults.{is_catch}
+use Rattle.base_tokens.specs.declared.ident.Ident.{Ident}
+use Rattle.ast_types.specs.declared.stmt.Stmt as declared_stmt
+use Rattle.ast_types.specs.declared.stmt.Stmt.TheVariants as stmt_kind
+use Rattle.theory_meaning.specs.Plain.{is_plain_expr, is_plain_stmt}
+use Rattle.theory_meaning.specs.Shape.{catch_name, is_left_side, is_member, is_rest}
+use Rattle.theory_meaning.specs.Tree.{Expr, Stmt}
+use Rattle.theory_meaning.specs.Walk.{Around, Member, OfExpr, Whole, around_parts, right_role, whole}
+use Rattle.ast_types.proofs.Cases.{ExprCase, StmtCase, call_case, call_statement_case, dot_case, share_case, index_case, method_call_case, property_case, this_ptr_case, unit_case, variable_case}
 
 -- it is none of these
 abbrev NoDot : declared_expr.Expr → Type 0

@@ -5,12 +5,12 @@ use Rattle.std.proofs.lemmas.Result.{err_from_is_err_and}
 use Rattle.std.specs.Result.{IsErrAnd}
 use Rattle.std.specs.declared.alloc.Global.{Global}
 use Rattle.std.specs.declared.rc.Rc.{Rc}
-use Rattle.rhai_tokens.specs.declared.position.Position.{Position}
-use Rattle.rhai_tree.specs.declared.script_fn.ScriptFuncDef.{ScriptFuncDef}
-use Rattle.rhai_meaning.specs.Faults.{TreeFault, ReservedName, fault_of, finding, functions_fault, is_reserved, unless, ◌then◌}
-use Rattle.rhai_meaning.specs.Walk as walk
-use Rattle.rhai_meaning.specs.Walk.{around_parts, over_stmts}
-use Rattle.rhai_tree.specs.Reading.{function_of, stmts_of}
+use Rattle.base_tokens.specs.declared.position.Position.{Position}
+use Rattle.ast_types.specs.declared.script_fn.ScriptFuncDef.{ScriptFuncDef}
+use Rattle.theory_meaning.specs.Faults.{TreeFault, ReservedName, fault_of, finding, functions_fault, is_reserved, unless, ◌then◌}
+use Rattle.theory_meaning.specs.Walk as walk
+use Rattle.theory_meaning.specs.Walk.{around_parts, over_stmts}
+use Rattle.ast_types.specs.Reading.{function_of, stmts_of}
 use Rattle.rhai_walk.specs.Children.{at_spot, over_children, over_node, over_parts}
 use Rattle.rhai_walk.specs.Left.{left_of}
 use Rattle.rhai_walk.specs.Nodes.{child_of, node_of, spot_of}

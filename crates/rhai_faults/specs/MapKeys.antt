@@ -2,10 +2,10 @@
 use Rattle.std.specs.Prelude.{List, map}
 use Rattle.std.specs.Borrow.{Bor}
 use Rattle.std.specs.HashSet.{HashSet}
-use Rattle.rhai_tokens.specs.declared.ident.Ident.{Ident}
-use Rattle.rhai_tree.specs.declared.expr.Expr.{Expr}
-use Rattle.rhai_meaning.specs.Shape.{keys}
-use Rattle.rhai_tree.specs.Reading.{pairs_of}
+use Rattle.base_tokens.specs.declared.ident.Ident.{Ident}
+use Rattle.ast_types.specs.declared.expr.Expr.{Expr}
+use Rattle.theory_meaning.specs.Shape.{keys}
+use Rattle.ast_types.specs.Reading.{pairs_of}
 use Rattle.rhai_base.specs.Value.{Text}
 
 abbrev pub names_of : List (Ident × Expr) → List Text

@@ -3,7 +3,7 @@ use Rattle.std.specs.Prelude.{Option, Some, None}
 use Rattle.rhai_faults.specs.declared.around.Around.{Around}
 use Rattle.rhai_faults.specs.declared.around.Role.{Role}
 use Rattle.rhai_faults.specs.declared.around.Role.TheVariants.{Whole, Member, Rest}
-use Rattle.rhai_meaning.specs.Walk as walk
+use Rattle.theory_meaning.specs.Walk as walk
 use Rattle.rhai_walk.specs.Nodes.{is_dot}
 
 abbrev pub role_of : Role → walk.Role

@@ -1,7 +1,7 @@
 -- When a test of a tree answers a fault.
 use Rattle.std.specs.Prelude.{◌≡◌, Option, Some, None, Result, MatchResult}
-use Rattle.rhai_tokens.specs.declared.error.TreeFault.{TreeFault}
-use Rattle.rhai_tokens.specs.declared.error.TreeFault.TheVariants.{OutOfMemory}
+use Rattle.base_tokens.specs.declared.error.TreeFault.{TreeFault}
+use Rattle.base_tokens.specs.declared.error.TreeFault.TheVariants.{OutOfMemory}
 
 -- the fault that is found; want of memory says nothing of the tree
 abbrev pub meant : TreeFault → Option TreeFault

@@ -2,12 +2,12 @@
 use Rattle.std.specs.Prelude.{Bool, List, map, Option}
 use Rattle.std.specs.declared.alloc.Global.{Global}
 use Rattle.std.specs.declared.rc.Rc.{Rc}
-use Rattle.rhai_tree.specs.declared.stmt.Stmt.{Stmt}
-use Rattle.rhai_tree.specs.declared.script_fn.ScriptFuncDef.{ScriptFuncDef}
-use Rattle.rhai_meaning.specs.Faults.{TreeFault, finding}
-use Rattle.rhai_meaning.specs.Tree.{Function, Script}
-use Rattle.rhai_meaning.specs.Walk.{over_stmts, whole}
-use Rattle.rhai_tree.specs.Reading.{function_of, stmts_of}
+use Rattle.ast_types.specs.declared.stmt.Stmt.{Stmt}
+use Rattle.ast_types.specs.declared.script_fn.ScriptFuncDef.{ScriptFuncDef}
+use Rattle.theory_meaning.specs.Faults.{TreeFault, finding}
+use Rattle.theory_meaning.specs.Tree.{Function, Script}
+use Rattle.theory_meaning.specs.Walk.{over_stmts, whole}
+use Rattle.ast_types.specs.Reading.{function_of, stmts_of}
 
 abbrev pub functions_of : List (Rc ScriptFuncDef Global) → List Function
 functions_of fs = map (λ f. function_of f.value) fs

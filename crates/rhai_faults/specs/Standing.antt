@@ -3,12 +3,12 @@ use Rattle.std.specs.Prelude.{◌≡◌, true, false, List, [], ◌∷◌, map, 
 use Rattle.std.specs.declared.alloc.Global.{Global}
 use Rattle.std.specs.declared.rc.Rc.{Rc}
 use Rattle.std.specs.Rc.{rc_value}
-use Rattle.rhai_tokens.specs.declared.position.Position.{Position}
-use Rattle.rhai_tree.specs.declared.script_fn.ScriptFuncDef.{ScriptFuncDef}
-use Rattle.rhai_tree.specs.declared.stmt.Stmt.{Stmt}
-use Rattle.rhai_meaning.specs.Faults.{TreeFault, ReservedName, fault_of, finding, functions_fault, is_reserved}
-use Rattle.rhai_meaning.specs.Walk.{Around, around_parts, outermost}
-use Rattle.rhai_tree.specs.Reading.{function_of}
+use Rattle.base_tokens.specs.declared.position.Position.{Position}
+use Rattle.ast_types.specs.declared.script_fn.ScriptFuncDef.{ScriptFuncDef}
+use Rattle.ast_types.specs.declared.stmt.Stmt.{Stmt}
+use Rattle.theory_meaning.specs.Faults.{TreeFault, ReservedName, fault_of, finding, functions_fault, is_reserved}
+use Rattle.theory_meaning.specs.Walk.{Around, around_parts, outermost}
+use Rattle.ast_types.specs.Reading.{function_of}
 use Rattle.rhai_walk.specs.Children.{over_node}
 use Rattle.rhai_walk.specs.Standing.{Standing, below, place_of, statements_standing, tree_of}
 use Rattle.rhai_faults.specs.Places.{around_at}

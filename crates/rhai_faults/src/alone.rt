@@ -1,24 +1,24 @@
 //! What is wrong with a node alone: tests of its kind, and of what is right below it.
 
-#![tactic(auto, using(rhai_tree::specs::Reading::shapes, crate::proofs::Exits::operands_counted))]
+#![tactic(auto, using(ast_types::specs::Reading::shapes, crate::proofs::Exits::operands_counted))]
 
 ghost use Rattle.std.specs.Prelude.{◌||◌};
 ghost use Rattle.rhai_faults.specs.Places.{around_of};
 ghost use Rattle.rhai_faults.specs.Refusals.{Finds};
-ghost use Rattle.rhai_meaning.specs.Faults as faults;
-ghost use Rattle.rhai_meaning.specs.Faults.{◌then◌};
-ghost use Rattle.rhai_meaning.specs.Shape as shape;
-ghost use Rattle.rhai_meaning.specs.Tree.{count_exprs};
-ghost use Rattle.rhai_tree.specs.Reading.{callee_of, chain_flags, expr_of, exprs_of, stmt_of};
+ghost use Rattle.theory_meaning.specs.Faults as faults;
+ghost use Rattle.theory_meaning.specs.Faults.{◌then◌};
+ghost use Rattle.theory_meaning.specs.Shape as shape;
+ghost use Rattle.theory_meaning.specs.Tree.{count_exprs};
+ghost use Rattle.ast_types.specs.Reading.{callee_of, chain_flags, expr_of, exprs_of, stmt_of};
 ghost use Rattle.rhai_walk.specs.Nodes.{is_dot, node_of};
 
 use crate::around::Around;
 use crate::map_keys::test_keys;
 use crate::shape::{is_catch, is_formed, is_left_side, is_rest};
+use ast_types::{BinaryExpr, Expr, FnCallExpr, Stmt};
 use bitflags::Flags;
 use rhai_base::{ASTFlags, TreeFault};
 use rhai_queries::is_table;
-use rhai_tree::{BinaryExpr, Expr, FnCallExpr, Stmt};
 use rhai_walk::{ASTNode, ChainType};
 use std::alloc::Global;
 

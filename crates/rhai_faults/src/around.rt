@@ -1,17 +1,17 @@
 //! What stands around a node.
 
-#![tactic(auto, using(rhai_tree::specs::Reading::shapes))]
+#![tactic(auto, using(ast_types::specs::Reading::shapes))]
 
 ghost use Rattle.std.specs.Prelude.{◌≡◌, if◌then◌else◌};
 ghost use Rattle.rhai_faults.specs.Places.{around_at, around_of, role_of};
-ghost use Rattle.rhai_meaning.specs.Faults as faults;
-ghost use Rattle.rhai_meaning.specs.Walk as walk;
-ghost use Rattle.rhai_tree.specs.Reading.{chain_flags, expr_of};
+ghost use Rattle.theory_meaning.specs.Faults as faults;
+ghost use Rattle.theory_meaning.specs.Walk as walk;
+ghost use Rattle.ast_types.specs.Reading.{chain_flags, expr_of};
 ghost use Rattle.rhai_walk.specs.Nodes.{is_dot, node_of, spot_of};
 
+use ast_types::Expr;
 use bitflags::Flags;
 use rhai_base::ASTFlags;
-use rhai_tree::Expr;
 use rhai_walk::{ASTNode, ChainType, Spot};
 
 /// As what an expression stands where it does.

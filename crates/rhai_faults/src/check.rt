@@ -1,17 +1,17 @@
 //! The first fault of a tree, and where it stands.
 
-#![tactic(auto, using(rhai_tree::specs::Reading::shapes, rhai_tree::proofs::ItemLists::steps, crate::proofs::FoundLists::found))]
+#![tactic(auto, using(ast_types::specs::Reading::shapes, ast_types::proofs::ItemLists::steps, crate::proofs::FoundLists::found))]
 
 ghost use Rattle.std.specs.Prelude.{◌≡◌, IfErr, not};
 ghost use Rattle.rhai_faults.specs.Places.{around_of};
 ghost use Rattle.rhai_faults.specs.Refusals.{Finds};
 ghost use Rattle.rhai_faults.specs.Scripts.{found_stmts, functions_of};
 ghost use Rattle.rhai_faults.specs.Standing.{Stands, StandsAt, StandsInFunctions, defs_of, fault_in};
-ghost use Rattle.rhai_meaning.specs.Faults as faults;
-ghost use Rattle.rhai_meaning.specs.Faults.{finding};
+ghost use Rattle.theory_meaning.specs.Faults as faults;
+ghost use Rattle.theory_meaning.specs.Faults.{finding};
 ghost use Rattle.rhai_walk.specs.Children.{over_children, over_parts};
-ghost use Rattle.rhai_meaning.specs.Walk as walk;
-ghost use Rattle.rhai_meaning.specs.Walk.{around_parts};
+ghost use Rattle.theory_meaning.specs.Walk as walk;
+ghost use Rattle.theory_meaning.specs.Walk.{around_parts};
 ghost use Rattle.rhai_walk.specs.Left.{left_of};
 ghost use Rattle.rhai_walk.specs.Nodes.{node_of};
 ghost use Rattle.rhai_walk.specs.Standing.{below, declared_of, place_of, standing_of, statements_standing};
@@ -20,9 +20,9 @@ use crate::alone::{check_alone, demand};
 use crate::around::Around;
 use crate::error::TreeError;
 use crate::shape::is_reserved;
+use ast_types::{ScriptFuncDef, Stmt};
 use rhai_base::{Position, TreeFault};
 use rhai_queries::{position, stmt_position};
-use rhai_tree::{ScriptFuncDef, Stmt};
 use rhai_walk::{ASTNode, Children};
 use std::alloc::Global;
 use std::rc::Rc;

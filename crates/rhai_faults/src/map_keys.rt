@@ -3,13 +3,13 @@
 ghost use Rattle.std.specs.Prelude.{◌≡◌, ◌&&◌, true, IfOk, IsPermutation};
 ghost use Rattle.rhai_faults.specs.MapKeys.{names_of, texts_of};
 ghost use Rattle.rhai_faults.specs.Refusals.{Finds};
-ghost use Rattle.rhai_meaning.specs.Faults as faults;
-ghost use Rattle.rhai_meaning.specs.Shape.{are_among, are_distinct};
-ghost use Rattle.rhai_tokens.specs.Names.{is_among};
-ghost use Rattle.rhai_tree.specs.Reading.{keys_of};
+ghost use Rattle.theory_meaning.specs.Faults as faults;
+ghost use Rattle.theory_meaning.specs.Shape.{are_among, are_distinct};
+ghost use Rattle.base_tokens.specs.Names.{is_among};
+ghost use Rattle.ast_types.specs.Reading.{keys_of};
 
+use ast_types::Expr;
 use rhai_base::{Dynamic, Ident, StringMap, TreeFault};
-use rhai_tree::Expr;
 use std::alloc::Global;
 use std::collections::HashSet;
 

@@ -1,18 +1,18 @@
 //! Whether all nodes have a meaning beside their form.
 
-#![tactic(auto, using(rhai_tree::specs::Reading::shapes, rhai_tree::proofs::ItemLists::steps))]
+#![tactic(auto, using(ast_types::specs::Reading::shapes, ast_types::proofs::ItemLists::steps))]
 
 ghost use Rattle.std.specs.Prelude.{◌≡◌};
 ghost use Rattle.rhai_faults.specs.PlainWalk.{plain_walk};
 ghost use Rattle.rhai_faults.specs.Scripts.{functions_of};
-ghost use Rattle.rhai_meaning.specs.Plain as plain;
-ghost use Rattle.rhai_meaning.specs.Shape.{is_barred};
-ghost use Rattle.rhai_meaning.specs.Walk.{over_functions, over_stmts};
-ghost use Rattle.rhai_tokens.specs.Names as names;
-ghost use Rattle.rhai_tree.specs.Reading.{callee_of, expr_of, stmt_of, stmts_of};
+ghost use Rattle.theory_meaning.specs.Plain as plain;
+ghost use Rattle.theory_meaning.specs.Shape.{is_barred};
+ghost use Rattle.theory_meaning.specs.Walk.{over_functions, over_stmts};
+ghost use Rattle.base_tokens.specs.Names as names;
+ghost use Rattle.ast_types.specs.Reading.{callee_of, expr_of, stmt_of, stmts_of};
 
-use rhai_tokens::is_among;
-use rhai_tree::{Expr, FnCallExpr, ScriptFuncDef, Stmt};
+use ast_types::{Expr, FnCallExpr, ScriptFuncDef, Stmt};
+use base_tokens::is_among;
 use rhai_walk::{ASTNode, NodeTest, every_body, every_statement};
 use std::rc::Rc;
 
@@ -37,7 +37,7 @@ pub fn are_plain(statements: &[Stmt]) -> bool
 struct PlainTest;
 
 impl NodeTest for PlainTest {
-    ghost use Rattle.rhai_meaning.specs.Plain.{is_plain_node};
+    ghost use Rattle.theory_meaning.specs.Plain.{is_plain_node};
 
     ghost holds = { λ test n. is_plain_node n };
 

@@ -1,19 +1,19 @@
 //! The shape of a node: tests that look at it alone, and at what is right below it.
 
-#![tactic(auto, using(rhai_tree::specs::Reading::shapes, rhai_base::specs::Reading::kinds))]
+#![tactic(auto, using(ast_types::specs::Reading::shapes, rhai_base::specs::Reading::kinds))]
 
 ghost use Rattle.std.specs.Prelude.{◌≡◌, ◌&&◌, true, false, if◌then◌else◌};
-ghost use Rattle.rhai_meaning.specs.Faults as faults;
-ghost use Rattle.rhai_meaning.specs.Shape as shape;
-ghost use Rattle.rhai_tokens.specs.Names as names;
-ghost use Rattle.rhai_tree.specs.Reading.{callee_of, expr_of, breaks, exprs_of, mark_of};
-ghost use Rattle.rhai_meaning.specs.Tree.{count_exprs};
+ghost use Rattle.theory_meaning.specs.Faults as faults;
+ghost use Rattle.theory_meaning.specs.Shape as shape;
+ghost use Rattle.base_tokens.specs.Names as names;
+ghost use Rattle.ast_types.specs.Reading.{callee_of, expr_of, breaks, exprs_of, mark_of};
+ghost use Rattle.theory_meaning.specs.Tree.{count_exprs};
 ghost use Rattle.rhai_walk.specs.Nodes.{is_dot};
 
+use ast_types::{BinaryExpr, Expr, FnCallExpr};
 use bitflags::Flags;
 use rhai_base::{ASTFlags, Token};
 use rhai_queries::{is_call_of, operands};
-use rhai_tree::{BinaryExpr, Expr, FnCallExpr};
 use rhai_walk::ChainType;
 
 // ---- calls and names
@@ -56,7 +56,7 @@ fn begins_word(name: &str) -> bool
 pub(crate) fn is_reserved(name: &str) -> bool
     ensures { result ≡ faults.is_reserved name.now }
 {
-    rhai_tokens::is_reserved(name) || is_symbol(name)
+    base_tokens::is_reserved(name) || is_symbol(name)
 }
 
 // ---- chains

@@ -2,8 +2,8 @@
 use Rattle.std.proofs.Common.{◌≡◌, suc, Result, Ok, Err, IfOk, Bool, true, false, List, [], ◌∷◌, ◌++◌, map, refl, sym, ap, subst, ◌∙◌, append_assoc}
 use Rattle.std.proofs.lemmas.List.{append-nil}
 use Rattle.std.specs.List.Retain.{IsFiltered, ReturnsInTurn}
-use Rattle.rhai_tree.specs.Reading.{function_of}
-use Rattle.rhai_tree.specs.declared.script_fn.ScriptFuncDef.{ScriptFuncDef}
+use Rattle.ast_types.specs.Reading.{function_of}
+use Rattle.ast_types.specs.declared.script_fn.ScriptFuncDef.{ScriptFuncDef}
 use Rattle.rhai_functions.specs.FnKey.{definition_key, definitions_table}
 use Rattle.rhai_functions.specs.Table.{key_of, are_distinct}
 use Rattle.rhai_functions.proofs.Laws.{own_table, are_distinct-chosen}

@@ -4,8 +4,8 @@ use Rattle.std.proofs.lemmas.Bool.{and_parts, eqb-true}
 use Rattle.std.proofs.lemmas.Slice.Eq.{bytes_eq-Decides}
 use Rattle.std.specs.Option.{option_eq}
 use Rattle.rhai_base.specs.Value.{Text, same_text}
-use Rattle.rhai_meaning.specs.Act.{Key}
-use Rattle.rhai_meaning.specs.Calls.{same_key, same_type}
+use Rattle.theory_meaning.specs.Act.{Key}
+use Rattle.theory_meaning.specs.Calls.{same_key, same_type}
 use Rattle.rhai_functions.specs.declared.fn_table.FnKey.{FnKey}
 use Rattle.rhai_functions.specs.contracts.fn_table.FnKeyPartialEq.TheImpl as derived
 use Rattle.rhai_functions.specs.FnKey.{key_meant}

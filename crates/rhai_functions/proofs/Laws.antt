@@ -3,8 +3,8 @@ use Rattle.std.proofs.Common.{◌≡◌, Bool, true, false, not, List, [], ◌�
 use Rattle.std.proofs.lemmas.Bool.{and_parts, and_from, or_parts, or_from, not-true, both_ways, false_from_ne_true}
 use Rattle.std.proofs.lemmas.List.{append-nil}
 use Rattle.std.specs.List.{items_where_true}
-use Rattle.rhai_meaning.specs.Act.{Key}
-use Rattle.rhai_meaning.specs.Calls.{same_key, has_key}
+use Rattle.theory_meaning.specs.Act.{Key}
+use Rattle.theory_meaning.specs.Calls.{same_key, has_key}
 use Rattle.rhai_functions.specs.Table.{put_by, put_all_by, are_distinct}
 use Rattle.rhai_functions.proofs.Keys.{same_key-true}
 

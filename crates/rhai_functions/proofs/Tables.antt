@@ -8,10 +8,10 @@ use Rattle.std.specs.Rc.{rc_value}
 use Rattle.std.specs.declared.rc.Rc.{Rc}
 use Rattle.std.specs.declared.alloc.Global.{Global}
 use Rattle.indexmap.specs.IndexMap.{insert_entry}
-use Rattle.rhai_meaning.specs.Act.{Key}
-use Rattle.rhai_meaning.specs.Calls.{same_key, has_key}
-use Rattle.rhai_tree.specs.Reading.{function_of}
-use Rattle.rhai_tree.specs.declared.script_fn.ScriptFuncDef.{ScriptFuncDef}
+use Rattle.theory_meaning.specs.Act.{Key}
+use Rattle.theory_meaning.specs.Calls.{same_key, has_key}
+use Rattle.ast_types.specs.Reading.{function_of}
+use Rattle.ast_types.specs.declared.script_fn.ScriptFuncDef.{ScriptFuncDef}
 use Rattle.rhai_functions.specs.declared.fn_table.FnKey.{FnKey}
 use Rattle.rhai_functions.specs.FnKey.{key_meant, fn_key_of, definition_key, IsTable}
 use Rattle.rhai_functions.specs.Table.{put_by, put_all_by, find_by, are_distinct, key_of}

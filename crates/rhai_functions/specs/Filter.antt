@@ -2,10 +2,10 @@
 use Rattle.std.specs.Prelude.{◌≡◌, ℕ, Bool, true, List, length}
 use Rattle.std.specs.Borrow.{Bor}
 use Rattle.std.specs.Fn.{Shared}
-use Rattle.rhai_tree.specs.declared.script_fn.FnAccess.{FnAccess}
-use Rattle.rhai_tree.specs.declared.script_fn.ScriptFuncDef.{ScriptFuncDef}
-use Rattle.rhai_tree.specs.declared.script_fn.FnNamespace.{FnNamespace}
-use Rattle.rhai_tree.specs.declared.script_fn.FnNamespace.TheVariants.{Internal}
+use Rattle.ast_types.specs.declared.script_fn.FnAccess.{FnAccess}
+use Rattle.ast_types.specs.declared.script_fn.ScriptFuncDef.{ScriptFuncDef}
+use Rattle.ast_types.specs.declared.script_fn.FnNamespace.{FnNamespace}
+use Rattle.ast_types.specs.declared.script_fn.FnNamespace.TheVariants.{Internal}
 
 -- asked of a function of a script (internal, of a script, its access, its name, how many parameters it has), the filter may answer b; it stays as it is
 pub record Answers {F : Type 0} (g : Shared F (FnNamespace × (FnAccess × (Bool × (Bor (List ℕ) × (ℕ × Unit {0}))))) Bool) (f : F) (function : ScriptFuncDef) (b : Bool) (left : F) : Type 0 where

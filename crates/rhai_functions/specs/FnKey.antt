@@ -3,10 +3,10 @@ use Rattle.std.specs.Prelude.{◌≡◌, IsTrue, List, [], map, length}
 use Rattle.std.specs.declared.rc.Rc.{Rc}
 use Rattle.std.specs.declared.alloc.Global.{Global}
 use Rattle.std.specs.Borrow.{Bor}
-use Rattle.rhai_meaning.specs.Act.{Key}
-use Rattle.rhai_meaning.specs.Calls.{key}
-use Rattle.rhai_tree.specs.Reading.{function_of}
-use Rattle.rhai_tree.specs.declared.script_fn.ScriptFuncDef.{ScriptFuncDef}
+use Rattle.theory_meaning.specs.Act.{Key}
+use Rattle.theory_meaning.specs.Calls.{key}
+use Rattle.ast_types.specs.Reading.{function_of}
+use Rattle.ast_types.specs.declared.script_fn.ScriptFuncDef.{ScriptFuncDef}
 use Rattle.rhai_functions.specs.declared.fn_table.FnKey.{FnKey}
 use Rattle.rhai_functions.specs.Table.{key_of, put_all_by, are_distinct}
 

@@ -1,7 +1,7 @@
 -- The functions that a table holds, as trees.
 use Rattle.std.specs.Prelude.{List, map}
-use Rattle.rhai_meaning.specs.Tree.{Function}
-use Rattle.rhai_tree.specs.Reading.{function_of}
+use Rattle.theory_meaning.specs.Tree.{Function}
+use Rattle.ast_types.specs.Reading.{function_of}
 use Rattle.rhai_functions.specs.declared.fn_lib.FnLib.{FnLib}
 
 abbrev pub functions_of : FnLib → List Function

@@ -1,8 +1,8 @@
 -- Tables of functions: each key once, in the order in which the keys came first.
 use Rattle.std.specs.Prelude.{Bool, true, not, ◌&&◌, List, [], ◌∷◌, length, Option, Some, None, if◌then◌else◌}
-use Rattle.rhai_meaning.specs.Act.{Key}
-use Rattle.rhai_meaning.specs.Calls.{key, same_key, has_key}
-use Rattle.rhai_meaning.specs.Tree.{Function}
+use Rattle.theory_meaning.specs.Act.{Key}
+use Rattle.theory_meaning.specs.Calls.{key, same_key, has_key}
+use Rattle.theory_meaning.specs.Tree.{Function}
 
 module _ {F : Type 0} (key_of : F → Key) where
   -- in the place of the one of an equal key, else last

@@ -2,7 +2,7 @@
 ghost use Rattle.std.specs.Prelude.{◌≡◌, [], length, map, ◌↔◌, IsTrue, IfOk, OnOk, OnErr, None};
 ghost use Rattle.std.specs.Option.{option_copied, option_map};
 ghost use Rattle.std.specs.Rc.{rc_value};
-ghost use Rattle.rhai_tree.specs.Reading.{function_of};
+ghost use Rattle.ast_types.specs.Reading.{function_of};
 ghost use Rattle.rhai_functions.specs.FnKey.{definition_key, definitions_table, key_meant};
 ghost use Rattle.rhai_functions.specs.Table.{table_of, are_distinct, key_of, put_all_by, find_by};
 ghost use Rattle.rhai_functions.specs.Ids.{named, first_name};

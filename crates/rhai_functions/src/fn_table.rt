@@ -3,7 +3,7 @@ ghost use Rattle.std.specs.Prelude.{◌≡◌, [], length, map, IsTrue, IfOk, On
 ghost use Rattle.std.specs.Option.{option_copied, option_map};
 ghost use Rattle.std.specs.Rc.{rc_value};
 ghost use Rattle.std.specs.Iterator.{YieldsFirstBy, item_count};
-ghost use Rattle.rhai_tree.specs.Reading.{function_of};
+ghost use Rattle.ast_types.specs.Reading.{function_of};
 ghost use Rattle.rhai_functions.specs.Table.{are_distinct, key_of, put_by, put_all_by, find_by};
 ghost use Rattle.rhai_functions.specs.FnKey.{definition_key, definitions_table, fn_key_of, key_meant, shown};
 
@@ -78,8 +78,8 @@ impl Model for FnTable {
     ghost use Rattle.std.specs.Coded.{coded_list};
     ghost use Rattle.std.specs.Rc.{rc_value};
     ghost use Rattle.indexmap.specs.IndexMap.{keys, values};
-    ghost use Rattle.rhai_tree.specs.declared.script_fn.ScriptFuncDef.{ScriptFuncDef};
-    ghost use Rattle.rhai_tree.specs.contracts.script_fn.ScriptFuncDef as function;
+    ghost use Rattle.ast_types.specs.declared.script_fn.ScriptFuncDef.{ScriptFuncDef};
+    ghost use Rattle.ast_types.specs.contracts.script_fn.ScriptFuncDef as function;
     ghost use Rattle.rhai_functions.specs.FnKey.{IsTable};
 
     ghost Value = { List ScriptFuncDef };
@@ -184,8 +184,8 @@ impl<'a> Model for FnLibIter<'a> {
     ghost use Rattle.std.specs.Prelude.{List, map};
     ghost use Rattle.std.specs.Coded.{coded_list};
     ghost use Rattle.std.specs.Rc.{rc_value};
-    ghost use Rattle.rhai_tree.specs.declared.script_fn.ScriptFuncDef.{ScriptFuncDef};
-    ghost use Rattle.rhai_tree.specs.contracts.script_fn.ScriptFuncDef as function;
+    ghost use Rattle.ast_types.specs.declared.script_fn.ScriptFuncDef.{ScriptFuncDef};
+    ghost use Rattle.ast_types.specs.contracts.script_fn.ScriptFuncDef as function;
 
     ghost Value = { List ScriptFuncDef };
 

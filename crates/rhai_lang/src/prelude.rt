@@ -5,5 +5,5 @@ pub use rhai_ast::{
     CallQueries, ExprQueries, FromStmt, IntoExpr, Literals, NodeQueries, SetPosition, StmtQueries,
     SwitchCases, Take, Walk,
 };
-pub use rhai_notation::Notation;
-pub use rhai_script_queries::ScriptQueries;
+pub use script_queries::ScriptQueries;
+pub use text_notation::Notation;

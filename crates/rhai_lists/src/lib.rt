@@ -3,10 +3,10 @@
 #![tactic(auto)]
 
 ghost use Rattle.std.specs.Prelude.{◌≡◌, ◌<◌, ◌+◌, length, take, slice_set};
-ghost use Rattle.rhai_tree.specs.declared.stmt.Stmt.TheVariants.{Noop};
+ghost use Rattle.ast_types.specs.declared.stmt.Stmt.TheVariants.{Noop};
 
+use ast_types::Stmt;
 use rhai_base::{Position, Seq};
-use rhai_tree::Stmt;
 use std::alloc::Global;
 use std::mem::replace;
 

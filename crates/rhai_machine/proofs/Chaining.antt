@@ -4,23 +4,23 @@ use Rattle.std.specs.Prelude.{codes, is_some, option_map}
 use Rattle.rhai_base.specs.declared.dynamic.Dynamic.{Dynamic}
 use Rattle.rhai_base.specs.Reading.{value_of}
 use Rattle.rhai_base.specs.Value.{Text, Value, UnitV, BoolV, IntV, CharV, TextV, ArrayV, MapV, PointerV, RangeV, RangeInclusiveV}
-use Rattle.rhai_meaning.specs.Act.{Answer, At, Store, Act, run}
-use Rattle.rhai_meaning.specs.Act as act
-use Rattle.rhai_meaning.specs.ActForms.{answered, ask_method, give}
-use Rattle.rhai_meaning.specs.Chains.{ask_for, index, property, set_by_host, set_index, set_property}
-use Rattle.rhai_meaning.specs.Places as places
-use Rattle.rhai_meaning.specs.Places.{AtEntry, Current, along, inside, part}
-use Rattle.rhai_meaning.specs.Elements.{at_index}
-use Rattle.rhai_meaning.specs.Tree.{PropertyNames}
-use Rattle.rhai_places.specs.Reading.{or_unit}
-use Rattle.rhai_state.specs.declared.state.State.{State}
+use Rattle.theory_meaning.specs.Act.{Answer, At, Store, Act, run}
+use Rattle.theory_meaning.specs.Act as act
+use Rattle.theory_meaning.specs.ActForms.{answered, ask_method, give}
+use Rattle.theory_meaning.specs.Chains.{ask_for, index, property, set_by_host, set_index, set_property}
+use Rattle.theory_meaning.specs.Places as places
+use Rattle.theory_meaning.specs.Places.{AtEntry, Current, along, inside, part}
+use Rattle.theory_meaning.specs.Elements.{at_index}
+use Rattle.theory_meaning.specs.Tree.{PropertyNames}
+use Rattle.run_places.specs.Reading.{or_unit}
+use Rattle.run_state.specs.declared.state.State.{State}
 use Rattle.rhai_machine.specs.declared.steps.placing.Current as declared
 use Rattle.rhai_machine.specs.declared.steps.placing.Current.TheVariants as kind
 use Rattle.rhai_machine.specs.Placing.{root_value, place_meant, made, current_in}
-use Rattle.rhai_state.specs.declared.state.Interrupt.{Interrupt}
-use Rattle.rhai_state.specs.Runs.{Setting, Task, env, Acting, Over, Goes, Leads, Stops, given}
-use Rattle.rhai_state.specs.State.{store_of}
-use Rattle.rhai_state.proofs.Goes.{gives, goes_as, goes_then, leads_then, stops_then}
+use Rattle.run_state.specs.declared.state.Interrupt.{Interrupt}
+use Rattle.run_state.specs.Runs.{Setting, Task, env, Acting, Over, Goes, Leads, Stops, given}
+use Rattle.run_state.specs.State.{store_of}
+use Rattle.run_state.proofs.Goes.{gives, goes_as, goes_then, leads_then, stops_then}
 
 -- ---- properties
 

@@ -3,18 +3,18 @@ use Rattle.std.proofs.Common.{◌≡◌, false, List, [], ◌∷◌, Some, None,
 use Rattle.rhai_base.specs.declared.dynamic.Dynamic.{Dynamic}
 use Rattle.rhai_base.specs.Reading.{value_of, DynamicCase, str_case, dynamic_cases}
 use Rattle.rhai_base.specs.Value.{Text, Value, TextV}
-use Rattle.rhai_meaning.specs.Act.{World, Unbound, UnknownModule, WrongKind, Fail}
-use Rattle.rhai_meaning.specs.ActForms.{of_constant}
-use Rattle.rhai_meaning.specs.Desugar.{variable}
-use Rattle.rhai_meaning.specs.Meaning.{act, module_at, module_known}
-use Rattle.rhai_meaning.specs.Shape.{is_none}
-use Rattle.rhai_host.specs.declared.report.Stuck.TheVariants as why
-use Rattle.rhai_state.specs.declared.state.Interrupt.TheVariants.{Stuck}
-use Rattle.rhai_state.specs.declared.state.State.{State}
-use Rattle.rhai_state.specs.Runs.{Setting, Acting, Goes, Stops, given}
-use Rattle.rhai_state.specs.State.{store_of}
-use Rattle.rhai_state.proofs.Goes.{gives, goes_as, goes_then, stuck_here}
-use Rattle.rhai_state.proofs.PointerRuns.{IsNoText}
+use Rattle.theory_meaning.specs.Act.{World, Unbound, UnknownModule, WrongKind, Fail}
+use Rattle.theory_meaning.specs.ActForms.{of_constant}
+use Rattle.theory_meaning.specs.Desugar.{variable}
+use Rattle.theory_meaning.specs.Meaning.{act, module_at, module_known}
+use Rattle.theory_meaning.specs.Shape.{is_none}
+use Rattle.run_host.specs.declared.report.Stuck.TheVariants as why
+use Rattle.run_state.specs.declared.state.Interrupt.TheVariants.{Stuck}
+use Rattle.run_state.specs.declared.state.State.{State}
+use Rattle.run_state.specs.Runs.{Setting, Acting, Goes, Stops, given}
+use Rattle.run_state.specs.State.{store_of}
+use Rattle.run_state.proofs.Goes.{gives, goes_as, goes_then, stuck_here}
+use Rattle.run_state.proofs.PointerRuns.{IsNoText}
 use Rattle.rhai_run_nodes.specs.Variables.{in_module, qualified_in}
 use Rattle.rhai_run_nodes.proofs.Modules.{module_goes}
 use Rattle.rhai_machine.proofs.Placing.{fails}

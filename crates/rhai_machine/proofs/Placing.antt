@@ -5,34 +5,34 @@ use Rattle.std.proofs.lemmas.List.{map-append}
 use Rattle.rhai_base.specs.declared.dynamic.Dynamic.{Dynamic}
 use Rattle.rhai_base.specs.Reading.{value_of}
 use Rattle.rhai_base.specs.Value.{Text, Value, UnitV}
-use Rattle.rhai_meaning.specs.Act as act
-use Rattle.rhai_meaning.specs.Act.{IsConstant, ScopeEntry, IsStuck, Unbound, NoPlace, Gives, Ended, Halted, At, Store, Act, OfName, OfThis, Read, found, read, read_this, read_root}
-use Rattle.rhai_meaning.specs.ActForms.{give}
-use Rattle.rhai_meaning.specs.Engine.{constant_named}
-use Rattle.rhai_meaning.specs.Elements.{at_index}
-use Rattle.rhai_meaning.specs.Places as places
-use Rattle.rhai_meaning.specs.Places.{inside, along, or_no_place, part, without_place}
-use Rattle.rhai_meaning.specs.Run.{reversed}
-use Rattle.rhai_places.specs.declared.places.PlaceKey.{PlaceKey}
-use Rattle.rhai_places.specs.declared.standing.Part.{Part}
-use Rattle.rhai_places.specs.Reading.{key_meant, part_value, or_unit}
+use Rattle.theory_meaning.specs.Act as act
+use Rattle.theory_meaning.specs.Act.{IsConstant, ScopeEntry, IsStuck, Unbound, NoPlace, Gives, Ended, Halted, At, Store, Act, OfName, OfThis, Read, found, read, read_this, read_root}
+use Rattle.theory_meaning.specs.ActForms.{give}
+use Rattle.theory_meaning.specs.Engine.{constant_named}
+use Rattle.theory_meaning.specs.Elements.{at_index}
+use Rattle.theory_meaning.specs.Places as places
+use Rattle.theory_meaning.specs.Places.{inside, along, or_no_place, part, without_place}
+use Rattle.theory_meaning.specs.Run.{reversed}
+use Rattle.run_places.specs.declared.places.PlaceKey.{PlaceKey}
+use Rattle.run_places.specs.declared.standing.Part.{Part}
+use Rattle.run_places.specs.Reading.{key_meant, part_value, or_unit}
 use Rattle.rhai_machine.specs.declared.steps.placing.Place.{Place}
 use Rattle.rhai_machine.specs.declared.steps.placing.Current.TheVariants as current
-use Rattle.rhai_state.specs.declared.state.Interrupt.TheVariants.{Stuck}
-use Rattle.rhai_state.specs.declared.state.State.{State}
+use Rattle.run_state.specs.declared.state.Interrupt.TheVariants.{Stuck}
+use Rattle.run_state.specs.declared.state.State.{State}
 use Rattle.rhai_run_nodes.specs.declared.variables.Root.{Root}
-use Rattle.rhai_host.specs.declared.report.Stuck as report
-use Rattle.rhai_host.specs.declared.report.Stuck.TheVariants as why
-use Rattle.rhai_state.specs.declared.entries.Entry.{Entry}
-use Rattle.rhai_state.specs.Entries.{entry_meant}
+use Rattle.run_host.specs.declared.report.Stuck as report
+use Rattle.run_host.specs.declared.report.Stuck.TheVariants as why
+use Rattle.run_state.specs.declared.entries.Entry.{Entry}
+use Rattle.run_state.specs.Entries.{entry_meant}
 use Rattle.rhai_machine.specs.Placing.{place_meant, root_value, root_stuck, value_at, stuck_by, HasPart, HasRoot, current_in}
-use Rattle.rhai_host.specs.Report.{stuck_meant}
-use Rattle.rhai_state.specs.Runs.{Setting, Acting, Over, Halting, Goes, Stops, given}
-use Rattle.rhai_state.specs.State.{store_of}
-use Rattle.rhai_state.specs.Variables.{IsMissing, IsLatest}
+use Rattle.run_host.specs.Report.{stuck_meant}
+use Rattle.run_state.specs.Runs.{Setting, Acting, Over, Halting, Goes, Stops, given}
+use Rattle.run_state.specs.State.{store_of}
+use Rattle.run_state.specs.Variables.{IsMissing, IsLatest}
 use Rattle.rhai_run_nodes.specs.Variables.{root_meant}
-use Rattle.rhai_state.proofs.Goes.{stops_by}
-use Rattle.rhai_state.proofs.Variables.{found-missing, found-latest, get-latest, latest_below}
+use Rattle.run_state.proofs.Goes.{stops_by}
+use Rattle.run_state.proofs.Variables.{found-missing, found-latest, get-latest, latest_below}
 
 -- ---- roots
 

@@ -1,32 +1,32 @@
 -- Assignments: the statement, and those to names and to `this`.
 use Rattle.std.proofs.Common.{◌≡◌, Bool, true, false, cond, Option, Some, None, Result, Ok, Err, sym, ap, subst, arith}
-use Rattle.rhai_tokens.specs.declared.token.Token.{Token}
+use Rattle.base_tokens.specs.declared.token.Token.{Token}
 use Rattle.rhai_base.specs.declared.dynamic.Dynamic.{Dynamic}
 use Rattle.rhai_base.specs.declared.dynamic.Dynamic.TheVariants as value
 use Rattle.rhai_base.specs.Reading.{value_of, value_of-Unit}
 use Rattle.rhai_base.specs.Value.{UnitV}
 use Rattle.rhai_base.specs.Builtin.{operator_of}
 use Rattle.rhai_base.specs.Operators.{Operator}
-use Rattle.rhai_meaning.specs.Act as act
-use Rattle.rhai_meaning.specs.Act.{Act, Ended, Gives, At, Read, Write}
-use Rattle.rhai_meaning.specs.ActForms.{◌>>=◌}
-use Rattle.rhai_meaning.specs.Calls.{assigned}
-use Rattle.rhai_meaning.specs.Chains.{assign_root}
-use Rattle.rhai_meaning.specs.Core as core
-use Rattle.rhai_meaning.specs.Desugar.{core_expr, target_of}
-use Rattle.rhai_meaning.specs.Meaning as meaning
-use Rattle.rhai_meaning.specs.Shape.{is_left_side}
-use Rattle.rhai_meaning.specs.Tree as tree
-use Rattle.rhai_state.specs.declared.state.Interrupt.{Interrupt}
-use Rattle.rhai_state.specs.declared.state.Interrupt.TheVariants.{Stuck}
-use Rattle.rhai_host.specs.declared.report.Stuck.TheVariants as why
-use Rattle.rhai_state.specs.Evaluating.{RunsExpr, RunsLine}
-use Rattle.rhai_state.specs.declared.state.State.{State}
+use Rattle.theory_meaning.specs.Act as act
+use Rattle.theory_meaning.specs.Act.{Act, Ended, Gives, At, Read, Write}
+use Rattle.theory_meaning.specs.ActForms.{◌>>=◌}
+use Rattle.theory_meaning.specs.Calls.{assigned}
+use Rattle.theory_meaning.specs.Chains.{assign_root}
+use Rattle.theory_meaning.specs.Core as core
+use Rattle.theory_meaning.specs.Desugar.{core_expr, target_of}
+use Rattle.theory_meaning.specs.Meaning as meaning
+use Rattle.theory_meaning.specs.Shape.{is_left_side}
+use Rattle.theory_meaning.specs.Tree as tree
+use Rattle.run_state.specs.declared.state.Interrupt.{Interrupt}
+use Rattle.run_state.specs.declared.state.Interrupt.TheVariants.{Stuck}
+use Rattle.run_host.specs.declared.report.Stuck.TheVariants as why
+use Rattle.run_state.specs.Evaluating.{RunsExpr, RunsLine}
+use Rattle.run_state.specs.declared.state.State.{State}
 use Rattle.rhai_run_nodes.specs.Operators.{StandsFor}
-use Rattle.rhai_state.specs.Runs.{Setting, Acting, Goes, Stops, Runs, given}
-use Rattle.rhai_state.specs.State.{store_of}
-use Rattle.rhai_state.proofs.Goes.{goes_as, goes_then, leads_then, stops_then, value_goes, value_stops}
-use Rattle.rhai_state.proofs.Statements.{deed_line, ill_line}
+use Rattle.run_state.specs.Runs.{Setting, Acting, Goes, Stops, Runs, given}
+use Rattle.run_state.specs.State.{store_of}
+use Rattle.run_state.proofs.Goes.{goes_as, goes_then, leads_then, stops_then, value_goes, value_stops}
+use Rattle.run_state.proofs.Statements.{deed_line, ill_line}
 
 -- a write's answer
 pub unit_value : (here : Setting) (a : Act) (s s1 : State) → Goes here (Acting a) s (given UnitV) s1 → Goes here (Acting a) s (given (value_of value.Unit)) s1

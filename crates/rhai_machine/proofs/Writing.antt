@@ -6,28 +6,28 @@ use Rattle.std.proofs.lemmas.Option.{IfSome_then}
 use Rattle.rhai_base.specs.declared.dynamic.Dynamic.{Dynamic}
 use Rattle.rhai_base.specs.Reading.{value_of}
 use Rattle.rhai_base.specs.Value.{Text, Value, UnitV, BoolV, IntV, CharV, TextV, ArrayV, MapV, PointerV, RangeV, RangeInclusiveV}
-use Rattle.rhai_meaning.specs.Act as act
-use Rattle.rhai_meaning.specs.Act.{IsConstant, is_constant, ScopeEntry, IsStuck, NoPlace, WriteToConstant, Gives, Ended, Halted, At, Store, Act, OfName, OfThis, Read, Write, and_then, found, put, read, read_root, read_this, run, write, write_at, write_root, write_this}
-use Rattle.rhai_meaning.specs.ActForms.{value_then}
-use Rattle.rhai_meaning.specs.Engine.{constant_named}
-use Rattle.rhai_meaning.specs.Elements.{at_index, index_in, count, value_at as item_at, with_value_at, with_entry}
-use Rattle.rhai_meaning.specs.Places as places
-use Rattle.rhai_meaning.specs.Places.{AtIndex, AtEntry, inside, along, with_inside, with_along, or_no_place, write_place}
-use Rattle.rhai_meaning.specs.Run.{reversed}
-use Rattle.rhai_state.specs.declared.state.Interrupt.{Interrupt}
-use Rattle.rhai_state.specs.declared.state.Interrupt.TheVariants.{Stuck}
-use Rattle.rhai_state.specs.declared.state.State.{State}
-use Rattle.rhai_host.specs.declared.report.Stuck.TheVariants as why
-use Rattle.rhai_state.specs.declared.entries.Entry.{Entry}
-use Rattle.rhai_state.specs.Entries.{kind_meant, entry_meant}
-use Rattle.rhai_host.specs.Host.{call_meant}
+use Rattle.theory_meaning.specs.Act as act
+use Rattle.theory_meaning.specs.Act.{IsConstant, is_constant, ScopeEntry, IsStuck, NoPlace, WriteToConstant, Gives, Ended, Halted, At, Store, Act, OfName, OfThis, Read, Write, and_then, found, put, read, read_root, read_this, run, write, write_at, write_root, write_this}
+use Rattle.theory_meaning.specs.ActForms.{value_then}
+use Rattle.theory_meaning.specs.Engine.{constant_named}
+use Rattle.theory_meaning.specs.Elements.{at_index, index_in, count, value_at as item_at, with_value_at, with_entry}
+use Rattle.theory_meaning.specs.Places as places
+use Rattle.theory_meaning.specs.Places.{AtIndex, AtEntry, inside, along, with_inside, with_along, or_no_place, write_place}
+use Rattle.theory_meaning.specs.Run.{reversed}
+use Rattle.run_state.specs.declared.state.Interrupt.{Interrupt}
+use Rattle.run_state.specs.declared.state.Interrupt.TheVariants.{Stuck}
+use Rattle.run_state.specs.declared.state.State.{State}
+use Rattle.run_host.specs.declared.report.Stuck.TheVariants as why
+use Rattle.run_state.specs.declared.entries.Entry.{Entry}
+use Rattle.run_state.specs.Entries.{kind_meant, entry_meant}
+use Rattle.run_host.specs.Host.{call_meant}
 use Rattle.rhai_machine.specs.Placing.{root_value, root_stuck, constant_end}
-use Rattle.rhai_state.specs.Runs.{Setting, Task, Acting, Over, Halting, env, run_of, stopped, stop_of, Goes, Stops, Leads, given}
-use Rattle.rhai_state.specs.State.{store_of}
-use Rattle.rhai_state.specs.Variables.{IsMissing, IsLatest}
-use Rattle.rhai_state.proofs.Goes.{goes_as, goes_then, stops_by, stops_then, value_goes, value_stops}
+use Rattle.run_state.specs.Runs.{Setting, Task, Acting, Over, Halting, env, run_of, stopped, stop_of, Goes, Stops, Leads, given}
+use Rattle.run_state.specs.State.{store_of}
+use Rattle.run_state.specs.Variables.{IsMissing, IsLatest}
+use Rattle.run_state.proofs.Goes.{goes_as, goes_then, stops_by, stops_then, value_goes, value_stops}
 use Rattle.rhai_machine.proofs.Placing.{constant_value, fails, latest_value, read_goes, read_stops}
-use Rattle.rhai_state.proofs.Variables.{found-latest, found-missing, get-latest, put-latest, set-latest}
+use Rattle.run_state.proofs.Variables.{found-latest, found-missing, get-latest, put-latest, set-latest}
 
 -- ---- where keys lead on, a part can be replaced
 

@@ -3,34 +3,34 @@ use Rattle.std.specs.Prelude.{Bool, false, ℕ, cond, List, map, Option, Some, N
 use Rattle.rhai_base.specs.declared.dynamic.Dynamic.{Dynamic}
 use Rattle.rhai_base.specs.Reading.{value_of}
 use Rattle.rhai_base.specs.Value.{Text, Value, UnitV}
-use Rattle.rhai_tree.specs.declared.expr.FnCallExpr.{FnCallExpr}
-use Rattle.rhai_tree.specs.declared.script_fn.ScriptFuncDef.{ScriptFuncDef}
-use Rattle.rhai_tree.specs.Reading.{callee_of, exprs_of, is_negated}
+use Rattle.ast_types.specs.declared.expr.FnCallExpr.{FnCallExpr}
+use Rattle.ast_types.specs.declared.script_fn.ScriptFuncDef.{ScriptFuncDef}
+use Rattle.ast_types.specs.Reading.{callee_of, exprs_of, is_negated}
 use Rattle.rhai_functions.specs.FnKey.{definition_key}
 use Rattle.rhai_functions.specs.Table.{find_by}
-use Rattle.rhai_meaning.specs.Act.{Act, Key, Invoke}
-use Rattle.rhai_meaning.specs.ActForms.{ask_method}
-use Rattle.rhai_meaning.specs.Calls.{key}
-use Rattle.rhai_meaning.specs.Chains as chains
-use Rattle.rhai_meaning.specs.Chains.{method_key, unless_unit}
-use Rattle.rhai_meaning.specs.Core as core
-use Rattle.rhai_meaning.specs.Desugar.{based, core_expr, core_exprs, method_of, root_of, steps_of}
-use Rattle.rhai_meaning.specs.Meaning.{access}
-use Rattle.rhai_meaning.specs.Places as places
-use Rattle.rhai_meaning.specs.Places.{refreshed}
-use Rattle.rhai_meaning.specs.Shape.{is_chain}
-use Rattle.rhai_meaning.specs.Tree as tree
+use Rattle.theory_meaning.specs.Act.{Act, Key, Invoke}
+use Rattle.theory_meaning.specs.ActForms.{ask_method}
+use Rattle.theory_meaning.specs.Calls.{key}
+use Rattle.theory_meaning.specs.Chains as chains
+use Rattle.theory_meaning.specs.Chains.{method_key, unless_unit}
+use Rattle.theory_meaning.specs.Core as core
+use Rattle.theory_meaning.specs.Desugar.{based, core_expr, core_exprs, method_of, root_of, steps_of}
+use Rattle.theory_meaning.specs.Meaning.{access}
+use Rattle.theory_meaning.specs.Places as places
+use Rattle.theory_meaning.specs.Places.{refreshed}
+use Rattle.theory_meaning.specs.Shape.{is_chain}
+use Rattle.theory_meaning.specs.Tree as tree
 use Rattle.rhai_machine.specs.declared.steps.parts.Access.{Access}
 use Rattle.rhai_machine.specs.declared.steps.parts.Access.TheVariants as reached
 use Rattle.rhai_run_nodes.specs.declared.links.Rest.{Rest}
 use Rattle.rhai_run_nodes.specs.Links.{rest_steps, step_core}
 use Rattle.rhai_machine.specs.declared.steps.parts.PropertyNames.{PropertyNames}
 use Rattle.rhai_machine.specs.declared.steps.placing.Current.{Current}
-use Rattle.rhai_state.specs.declared.state.Interrupt.{Interrupt}
-use Rattle.rhai_state.specs.declared.state.State.{State}
+use Rattle.run_state.specs.declared.state.Interrupt.{Interrupt}
+use Rattle.run_state.specs.declared.state.State.{State}
 use Rattle.rhai_machine.specs.Placing.{current_in}
-use Rattle.rhai_state.specs.Runs.{Setting, Task, Acting, Leads, given}
-use Rattle.rhai_state.specs.State.{store_of}
+use Rattle.run_state.specs.Runs.{Setting, Task, Acting, Leads, given}
+use Rattle.run_state.specs.State.{store_of}
 
 abbrev pub names_meant : PropertyNames → tree.PropertyNames
 names_meant n = record { getter = n.getter.now; setter = n.setter.now; name = n.name.now }

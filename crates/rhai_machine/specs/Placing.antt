@@ -4,23 +4,23 @@ use Rattle.std.specs.Borrow.{Bor}
 use Rattle.rhai_base.specs.declared.dynamic.Dynamic.{Dynamic}
 use Rattle.rhai_base.specs.Reading.{value_of}
 use Rattle.rhai_base.specs.Value.{Value}
-use Rattle.rhai_meaning.specs.Act as act
-use Rattle.rhai_meaning.specs.Act.{Store, Act, Read, OfName, OfThis, Unbound, UnboundThis, NoPlace, found}
-use Rattle.rhai_meaning.specs.ActForms.{◌>>=◌}
-use Rattle.rhai_meaning.specs.Elements.{at_index}
-use Rattle.rhai_meaning.specs.Places as places
-use Rattle.rhai_meaning.specs.Places.{along, at_root, without_place}
-use Rattle.rhai_places.specs.declared.standing.Part.{Part}
-use Rattle.rhai_places.specs.Reading.{key_meant, part_value, or_unit}
+use Rattle.theory_meaning.specs.Act as act
+use Rattle.theory_meaning.specs.Act.{Store, Act, Read, OfName, OfThis, Unbound, UnboundThis, NoPlace, found}
+use Rattle.theory_meaning.specs.ActForms.{◌>>=◌}
+use Rattle.theory_meaning.specs.Elements.{at_index}
+use Rattle.theory_meaning.specs.Places as places
+use Rattle.theory_meaning.specs.Places.{along, at_root, without_place}
+use Rattle.run_places.specs.declared.standing.Part.{Part}
+use Rattle.run_places.specs.Reading.{key_meant, part_value, or_unit}
 use Rattle.rhai_machine.specs.declared.steps.placing.Place.{Place}
 use Rattle.rhai_machine.specs.declared.steps.placing.Current.{Current}
 use Rattle.rhai_machine.specs.declared.steps.placing.Current.TheVariants.{At, Loose}
-use Rattle.rhai_host.specs.declared.report.Stuck.{Stuck}
-use Rattle.rhai_host.specs.declared.report.Stuck.TheVariants as why
-use Rattle.rhai_state.specs.declared.state.Interrupt.{Interrupt}
-use Rattle.rhai_state.specs.declared.state.Interrupt.TheVariants as stopped
-use Rattle.rhai_host.specs.Report.{stuck_meant}
-use Rattle.rhai_state.specs.Runs.{Setting}
+use Rattle.run_host.specs.declared.report.Stuck.{Stuck}
+use Rattle.run_host.specs.declared.report.Stuck.TheVariants as why
+use Rattle.run_state.specs.declared.state.Interrupt.{Interrupt}
+use Rattle.run_state.specs.declared.state.Interrupt.TheVariants as stopped
+use Rattle.run_host.specs.Report.{stuck_meant}
+use Rattle.run_state.specs.Runs.{Setting}
 use Rattle.rhai_run_nodes.specs.Variables.{root_meant}
 
 abbrev pub place_meant : Place → places.Place

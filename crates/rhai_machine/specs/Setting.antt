@@ -1,13 +1,13 @@
 -- What a machine's steps run in.
 use Rattle.std.specs.Prelude.{List, map}
-use Rattle.rhai_meaning.specs.Act.{HostCall, Answer}
-use Rattle.rhai_meaning.specs.Desugar.{core_function}
-use Rattle.rhai_meaning.specs.Run.{world_of}
+use Rattle.theory_meaning.specs.Act.{HostCall, Answer}
+use Rattle.theory_meaning.specs.Desugar.{core_function}
+use Rattle.theory_meaning.specs.Run.{world_of}
 use Rattle.rhai_functions.specs.FnLib.{functions_of}
-use Rattle.rhai_engine.specs.EngineInfo.{engine_of}
-use Rattle.rhai_host.specs.Host.{Modules, host_of}
+use Rattle.base_engine.specs.EngineInfo.{engine_of}
+use Rattle.run_host.specs.Host.{Modules, host_of}
 use Rattle.rhai_machine.specs.declared.steps.machine.Machine.{Machine}
-use Rattle.rhai_state.specs.Runs.{Setting, setting_of}
+use Rattle.run_state.specs.Runs.{Setting, setting_of}
 
 -- that of a machine, by what its host answers and its modules hold
 abbrev pub setting : {H : Type 0} → (H → List HostCall → HostCall → Answer) → (H → Modules) → Machine H → Setting

@@ -4,17 +4,17 @@ use Rattle.rhai_base.specs.declared.dynamic.Dynamic.{Dynamic}
 use Rattle.rhai_base.specs.Reading.{value_of}
 use Rattle.rhai_base.specs.Value.{Value}
 use Rattle.rhai_base.specs.Operators.{Operator}
-use Rattle.rhai_meaning.specs.Act.{Act}
-use Rattle.rhai_meaning.specs.ActForms.{◌>>=◌}
-use Rattle.rhai_meaning.specs.Calls.{assigned}
-use Rattle.rhai_meaning.specs.Places as places
-use Rattle.rhai_meaning.specs.Places.{inside, part, without_place}
-use Rattle.rhai_places.specs.Reading.{key_meant, or_unit}
+use Rattle.theory_meaning.specs.Act.{Act}
+use Rattle.theory_meaning.specs.ActForms.{◌>>=◌}
+use Rattle.theory_meaning.specs.Calls.{assigned}
+use Rattle.theory_meaning.specs.Places as places
+use Rattle.theory_meaning.specs.Places.{inside, part, without_place}
+use Rattle.run_places.specs.Reading.{key_meant, or_unit}
 use Rattle.rhai_machine.specs.declared.steps.parts.Found.{Found}
 use Rattle.rhai_machine.specs.declared.steps.parts.Found.TheVariants as found
-use Rattle.rhai_state.specs.declared.state.Interrupt.{Interrupt}
-use Rattle.rhai_state.specs.declared.state.State.{State}
-use Rattle.rhai_state.specs.Runs.{Setting, Acting, Leads}
+use Rattle.run_state.specs.declared.state.Interrupt.{Interrupt}
+use Rattle.run_state.specs.declared.state.State.{State}
+use Rattle.run_state.specs.Runs.{Setting, Acting, Leads}
 
 -- what a step has found at a current value
 abbrev pub found_in : places.Current → Found → places.Current

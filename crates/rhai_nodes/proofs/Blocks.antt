@@ -1,14 +1,14 @@
 -- A statement that is no block, and something, makes a block of itself; the tree of one that nothing follows.
 use Rattle.std.proofs.Common.{◌≡◌, refl, sym, ap, ◌∙◌}
-use Rattle.rhai_tokens.specs.declared.position.Position.{Position}
-use Rattle.rhai_tree.specs.declared.block.StmtBlock.{StmtBlock}
-use Rattle.rhai_tree.specs.declared.expr.Expr.TheOpen as open_one
-use Rattle.rhai_tree.specs.declared.expr.Expr.TheViews as views
-use Rattle.rhai_tree.specs.declared.stmt.Stmt.{Stmt}
-use Rattle.rhai_tree.specs.declared.stmt.Stmt.TheVariants as stmt_kind
-use Rattle.rhai_meaning.specs.Tree.{Block, Noop, no_stmts, stmt}
-use Rattle.rhai_tree.specs.Positions.{StmtLayer}
-use Rattle.rhai_tree.specs.Reading.{stmt_of, stmt_of-Block, stmt_of-Noop}
+use Rattle.base_tokens.specs.declared.position.Position.{Position}
+use Rattle.ast_types.specs.declared.block.StmtBlock.{StmtBlock}
+use Rattle.ast_types.specs.declared.expr.Expr.TheOpen as open_one
+use Rattle.ast_types.specs.declared.expr.Expr.TheViews as views
+use Rattle.ast_types.specs.declared.stmt.Stmt.{Stmt}
+use Rattle.ast_types.specs.declared.stmt.Stmt.TheVariants as stmt_kind
+use Rattle.theory_meaning.specs.Tree.{Block, Noop, no_stmts, stmt}
+use Rattle.ast_types.specs.Positions.{StmtLayer}
+use Rattle.ast_types.specs.Reading.{stmt_of, stmt_of-Block, stmt_of-Noop}
 use Rattle.rhai_nodes.specs.Blocks.{block_in, block_made_of, block_of_one, followed_at}
 
 other_in : (s : Stmt) (x : StmtLayer) → ((p : Position) → views.roll-Stmt x ≡ stmt_kind.Noop p → ⊥) → ((b : StmtBlock) → views.roll-Stmt x ≡ stmt_kind.Block b → ⊥)

@@ -13,7 +13,7 @@ use Rattle.rhai_base.specs.declared.dynamic.Dynamic.{Dynamic}
 use Rattle.rhai_base.specs.Value.{Text, field, fields, same_text}
 use Rattle.rhai_base.specs.Reading.{value_of, members_of}
 use Rattle.rhai_base.specs.Operators.{text_lt}
-use Rattle.rhai_meaning.specs.Elements.{with_entry}
+use Rattle.theory_meaning.specs.Elements.{with_entry}
 
 first_decides : (c d : ℕ) (o : Ordering) → (nat_lt c d || (c == d && is_lt o)) ≡ is_lt (ordering_then (nat_cmp c d) o)
 first_decides c d o = grind (arith, nat_tests)

@@ -5,8 +5,8 @@ use Rattle.rhai_base.specs.declared.dynamic.Dynamic.TheVariants as kind
 use Rattle.rhai_base.specs.declared.fn_ptr.FnPtr.{FnPtr}
 use Rattle.rhai_base.specs.Reading.{value_of, DynamicCase, unit_case, bool_case, int_case, char_case, str_case, fn_ptr_case, dynamic_cases}
 use Rattle.rhai_base.specs.Value.{Text, Value}
-use Rattle.rhai_meaning.specs.Constants.{constant_for}
-use Rattle.rhai_meaning.specs.Tree.{DynamicConstant}
+use Rattle.theory_meaning.specs.Constants.{constant_for}
+use Rattle.theory_meaning.specs.Tree.{DynamicConstant}
 use Rattle.rhai_nodes.specs.Scalars.{is_scalar}
 
 held_by : {v : Dynamic} {w : Value} → DynamicCase v w → is_scalar w ≡ false → ((t : Text) → v ≢ kind.Str t) → ((p : FnPtr) → v ≢ kind.FnPtr p) → constant_for w ≡ DynamicConstant w

@@ -10,8 +10,8 @@ use Rattle.rhai_base.specs.declared.dynamic.Dynamic.{Dynamic}
 use Rattle.rhai_base.specs.Reading.{value_of}
 use Rattle.rhai_base.specs.Value.{same}
 use Rattle.rhai_base.specs.declared.cases.CaseBlocksList.{CaseBlocksList}
-use Rattle.rhai_tree.specs.Reading.{case_of}
-use Rattle.rhai_meaning.specs.Control.{case_for}
+use Rattle.ast_types.specs.Reading.{case_of}
+use Rattle.theory_meaning.specs.Control.{case_for}
 
 equal_is : (x y : Dynamic) → equal x y ≡ same (value_of y) (value_of x)
 equal_is x y =

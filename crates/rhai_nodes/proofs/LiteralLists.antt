@@ -2,16 +2,16 @@
 use Rattle.std.proofs.Common.{◌≡◌, ◌<◌, ◌≤◌, ℕ, drop, ◌∙◌, List, [], ◌∷◌, ◌++◌, length, Option, Some, None, refl, sym, ap, append_assoc, arith}
 use Rattle.std.proofs.lemmas.List.{append-nil}
 use Rattle.rhai_base.specs.Value.{Text, Value, Fields, no_fields, TextV, MapV, text_of}
-use Rattle.rhai_meaning.specs.Control.{texts_joined}
-use Rattle.rhai_meaning.specs.Elements.{with_entries, with_entry}
-use Rattle.rhai_tokens.specs.declared.ident.Ident.{Ident}
+use Rattle.theory_meaning.specs.Control.{texts_joined}
+use Rattle.theory_meaning.specs.Elements.{with_entries, with_entry}
+use Rattle.base_tokens.specs.declared.ident.Ident.{Ident}
 use Rattle.rhai_base.specs.Operators.{UpTo, Through}
-use Rattle.rhai_tokens.specs.declared.token.Token.TheVariants as token
-use Rattle.rhai_meaning.specs.Constants.{constant_values, constant_entries, value_and, entry_and, named_value, joined_value, map_value, range_literal}
-use Rattle.rhai_tree.specs.declared.expr.Expr.{Expr}
-use Rattle.rhai_tree.specs.Reading.{exprs_of, pairs_of}
+use Rattle.base_tokens.specs.declared.token.Token.TheVariants as token
+use Rattle.theory_meaning.specs.Constants.{constant_values, constant_entries, value_and, entry_and, named_value, joined_value, map_value, range_literal}
+use Rattle.ast_types.specs.declared.expr.Expr.{Expr}
+use Rattle.ast_types.specs.Reading.{exprs_of, pairs_of}
 use Rattle.rhai_nodes.specs.Ranges.{range_made}
-use Rattle.rhai_tree.proofs.ItemLists.{exprs_of-end, pairs_of-end}
+use Rattle.ast_types.proofs.ItemLists.{exprs_of-end, pairs_of-end}
 
 -- the values that stand before those of a list
 abbrev pub values_before : List Value → Option (List Value) → Option (List Value)

@@ -1,13 +1,13 @@
 -- All other expressions, where a match names some.
 use Rattle.std.proofs.Common.{◌≡◌, ℤ, None, refl}
-use Rattle.rhai_tokens.specs.declared.position.Position.{Position}
+use Rattle.base_tokens.specs.declared.position.Position.{Position}
 use Rattle.rhai_base.specs.Value.{Text}
-use Rattle.rhai_tree.specs.declared.expr.Expr as declared_expr
-use Rattle.rhai_tree.specs.declared.expr.Expr.TheVariants as expr_kind
-use Rattle.rhai_tree.specs.declared.expr.FnCallExpr.{FnCallExpr}
-use Rattle.rhai_meaning.specs.Constants.{call_value, pointer_literal, range_end}
-use Rattle.rhai_meaning.specs.Tree.{Expr}
-use Rattle.rhai_tree.proofs.Cases.{ExprCase, call_case, integer_constant_case, string_constant_case, unit_case}
+use Rattle.ast_types.specs.declared.expr.Expr as declared_expr
+use Rattle.ast_types.specs.declared.expr.Expr.TheVariants as expr_kind
+use Rattle.ast_types.specs.declared.expr.FnCallExpr.{FnCallExpr}
+use Rattle.theory_meaning.specs.Constants.{call_value, pointer_literal, range_end}
+use Rattle.theory_meaning.specs.Tree.{Expr}
+use Rattle.ast_types.proofs.Cases.{ExprCase, call_case, integer_constant_case, string_constant_case, unit_case}
 
 pub no_call : {x : declared_expr.Expr} {e : Expr} → ExprCase x e → ((c : FnCallExpr) (p : Position) → x ≡ expr_kind.FnCall c p → ⊥) → None ≡ call_value e
 no_call (call_case c p) f = absurd (f c p refl)

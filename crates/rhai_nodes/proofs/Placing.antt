@@ -1,20 +1,20 @@
 -- A node that is put somewhere else is read as the same tree, and stands there.
 use Rattle.std.proofs.Common.{◌≡◌, List, [], ◌∷◌, map, Option, refl, sym, ap, ◌∙◌}
-use Rattle.rhai_tokens.specs.declared.position.Position.{Position}
-use Rattle.rhai_tokens.specs.declared.ident.Ident.{Ident}
+use Rattle.base_tokens.specs.declared.position.Position.{Position}
+use Rattle.base_tokens.specs.declared.ident.Ident.{Ident}
 use Rattle.std.specs.declared.num.NonZeroUsize.{NonZeroUsize}
-use Rattle.rhai_tree.specs.Defaults.{nowhere}
-use Rattle.rhai_tree.specs.declared.expr.Expr as declared_expr
-use Rattle.rhai_tree.specs.declared.expr.Expr.TheOpen as open_one
-use Rattle.rhai_tree.specs.declared.expr.Expr.TheViews as views
-use Rattle.rhai_tree.specs.declared.expr.Expr.TheVariants as expr_kind
-use Rattle.rhai_tree.specs.declared.stmt.Stmt.TheVariants as stmt_kind
-use Rattle.rhai_tree.specs.declared.stmt.Stmt as declared_stmt
-use Rattle.rhai_tree.specs.Positions as positions
-use Rattle.rhai_tree.specs.Positions.{ExprLayer, StmtLayer, position_of}
-use Rattle.rhai_tree.specs.Reading as reading
-use Rattle.rhai_tree.specs.Reading.{expr_of, shared_names, stmt_of}
-use Rattle.rhai_meaning.specs.Tree.{ExprStmt, Share}
+use Rattle.ast_types.specs.Defaults.{nowhere}
+use Rattle.ast_types.specs.declared.expr.Expr as declared_expr
+use Rattle.ast_types.specs.declared.expr.Expr.TheOpen as open_one
+use Rattle.ast_types.specs.declared.expr.Expr.TheViews as views
+use Rattle.ast_types.specs.declared.expr.Expr.TheVariants as expr_kind
+use Rattle.ast_types.specs.declared.stmt.Stmt.TheVariants as stmt_kind
+use Rattle.ast_types.specs.declared.stmt.Stmt as declared_stmt
+use Rattle.ast_types.specs.Positions as positions
+use Rattle.ast_types.specs.Positions.{ExprLayer, StmtLayer, position_of}
+use Rattle.ast_types.specs.Reading as reading
+use Rattle.ast_types.specs.Reading.{expr_of, shared_names, stmt_of}
+use Rattle.theory_meaning.specs.Tree.{ExprStmt, Share}
 use Rattle.rhai_nodes.specs.Placed.{placed, placed_in, stmt_placed, stmt_placed_in, with_span, name_placed}
 
 -- ---- it is read as the same tree

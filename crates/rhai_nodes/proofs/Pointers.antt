@@ -3,10 +3,10 @@ use Rattle.std.proofs.Common.{◌≡◌, ◌≢◌, ◌↔◌, IsTrue, Bool, fal
 use Rattle.rhai_base.specs.declared.dynamic.Dynamic.{Dynamic}
 use Rattle.rhai_base.specs.Value.{Text, PointerV, no_values, values}
 use Rattle.rhai_base.specs.Reading.{value_of}
-use Rattle.rhai_meaning.specs.Constants.{constant_for, literal_value, pointer_call}
-use Rattle.rhai_meaning.proofs.LiteralLaws.{constant_for_law}
-use Rattle.rhai_tokens.specs.Names.{is_valid_name}
-use Rattle.rhai_meaning.specs.Tree.{DynamicConstant}
+use Rattle.theory_meaning.specs.Constants.{constant_for, literal_value, pointer_call}
+use Rattle.theory_meaning.proofs.LiteralLaws.{constant_for_law}
+use Rattle.base_tokens.specs.Names.{is_valid_name}
+use Rattle.theory_meaning.specs.Tree.{DynamicConstant}
 
 -- a pointer with values is held as it is
 pub constant_for-curried : (f : Text) (vs : List Dynamic) → vs ≢ [] → constant_for (PointerV f (values (map value_of vs))) ≡ DynamicConstant (PointerV f (values (map value_of vs)))

@@ -1,16 +1,16 @@
 -- The blocks that a statement makes.
 use Rattle.std.specs.Prelude.{◌≡◌, [], ◌∷◌, Option, Some, None}
 use Rattle.std.proofs.Common.{ap, sym, ◌∙◌}
-use Rattle.rhai_tokens.specs.declared.position.Position.{Position}
-use Rattle.rhai_tree.specs.Defaults.{nowhere}
-use Rattle.rhai_tree.specs.declared.block.StmtBlock.{StmtBlock}
-use Rattle.rhai_tree.specs.declared.expr.Expr.TheOpen as open_one
-use Rattle.rhai_tree.specs.declared.expr.Expr.TheViews as views
-use Rattle.rhai_tree.specs.declared.stmt.Stmt.{Stmt}
-use Rattle.rhai_tree.specs.declared.stmt.Stmt.TheVariants as stmt_kind
-use Rattle.rhai_meaning.specs.Tree as tree
-use Rattle.rhai_meaning.specs.Tree.{ExprStmt, Stmts, no_stmts, stmt}
-use Rattle.rhai_tree.specs.Positions.{StmtLayer, stmt_position_of}
+use Rattle.base_tokens.specs.declared.position.Position.{Position}
+use Rattle.ast_types.specs.Defaults.{nowhere}
+use Rattle.ast_types.specs.declared.block.StmtBlock.{StmtBlock}
+use Rattle.ast_types.specs.declared.expr.Expr.TheOpen as open_one
+use Rattle.ast_types.specs.declared.expr.Expr.TheViews as views
+use Rattle.ast_types.specs.declared.stmt.Stmt.{Stmt}
+use Rattle.ast_types.specs.declared.stmt.Stmt.TheVariants as stmt_kind
+use Rattle.theory_meaning.specs.Tree as tree
+use Rattle.theory_meaning.specs.Tree.{ExprStmt, Stmts, no_stmts, stmt}
+use Rattle.ast_types.specs.Positions.{StmtLayer, stmt_position_of}
 
 -- the block of an answer, and of none
 abbrev pub answered : Option tree.Expr → Stmts

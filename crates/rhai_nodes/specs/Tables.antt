@@ -1,12 +1,12 @@
 -- The table of a `switch` that is made of parts.
 use Rattle.std.specs.Prelude.{◌≡◌, ℕ, List, Option, Some, None, Result, MatchResult}
 use Rattle.rhai_base.specs.declared.dynamic.Dynamic.{Dynamic}
-use Rattle.rhai_tokens.specs.declared.error.AstError.{AstError}
+use Rattle.base_tokens.specs.declared.error.AstError.{AstError}
 use Rattle.rhai_base.specs.declared.range_case.RangeCase.{RangeCase}
-use Rattle.rhai_tree.specs.declared.expr.BinaryExpr.{BinaryExpr}
-use Rattle.rhai_tree.specs.declared.expr.Expr.TheViews as views
+use Rattle.ast_types.specs.declared.expr.BinaryExpr.{BinaryExpr}
+use Rattle.ast_types.specs.declared.expr.Expr.TheViews as views
 use Rattle.rhai_base.specs.declared.cases.CaseBlocksList.{CaseBlocksList}
-use Rattle.rhai_tree.specs.declared.switch.SwitchCasesCollection.{SwitchCasesCollection}
+use Rattle.ast_types.specs.declared.switch.SwitchCasesCollection.{SwitchCasesCollection}
 use Rattle.rhai_queries.specs.SwitchTables.{refusal}
 
 -- the parts as a table where they are not refused, else why they are

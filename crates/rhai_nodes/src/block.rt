@@ -1,17 +1,17 @@
 //! Blocks made of statements and of answers.
 
-#![tactic(auto, using(crate::specs::Blocks::blocks, rhai_tree::specs::Reading::shapes))]
+#![tactic(auto, using(crate::specs::Blocks::blocks, ast_types::specs::Reading::shapes))]
 
 ghost use Rattle.std.specs.Prelude.{◌≡◌, IfOk, Some};
 ghost use Rattle.std.specs.Option.{option_map};
-ghost use Rattle.rhai_meaning.specs.Tree.{If};
-ghost use Rattle.rhai_tree.specs.Reading.{expr_of, stmt_of, stmts_of};
+ghost use Rattle.theory_meaning.specs.Tree.{If};
+ghost use Rattle.ast_types.specs.Reading.{expr_of, stmt_of, stmts_of};
 ghost use Rattle.rhai_nodes.specs.Blocks.{answered, block_made_of, block_of_one};
 
 use crate::making::expression_statement;
+use ast_types::{Expr, FlowControl, Stmt, StmtBlock};
 use rhai_base::{Boxed, OutOfMemory, Position, Seq, Span};
 use rhai_queries::stmt_position;
-use rhai_tree::{Expr, FlowControl, Stmt, StmtBlock};
 use std::alloc::Global;
 
 /// A block's own block; for nothing an empty one; else one of the statement alone.

@@ -1,12 +1,12 @@
 //! Calls as expressions.
 
-#![tactic(auto, using(rhai_tree::specs::Reading::shapes))]
+#![tactic(auto, using(ast_types::specs::Reading::shapes))]
 
 ghost use Rattle.std.specs.Prelude.{◌≡◌, IfOk};
-ghost use Rattle.rhai_tree.specs.declared.expr.Expr.TheVariants.{FnCall};
+ghost use Rattle.ast_types.specs.declared.expr.Expr.TheVariants.{FnCall};
 
+use ast_types::{Expr, FnCallExpr};
 use rhai_base::{Boxed, OutOfMemory, Position};
-use rhai_tree::{Expr, FnCallExpr};
 use std::alloc::Global;
 
 /// The call as an expression there.

@@ -1,18 +1,18 @@
 //! Constants for values.
 
-#![tactic(auto, using(rhai_tree::specs::Reading::shapes, rhai_base::specs::Reading::kinds, rhai_tree::specs::Positions::places, crate::proofs::Pointers::pointers))]
+#![tactic(auto, using(ast_types::specs::Reading::shapes, rhai_base::specs::Reading::kinds, ast_types::specs::Positions::places, crate::proofs::Pointers::pointers))]
 
 ghost use Rattle.std.specs.Prelude.{◌≡◌, [], IfOk, Some, false, map};
 ghost use Rattle.rhai_base.specs.Reading.{value_of};
 ghost use Rattle.rhai_base.specs.Value.{PointerV, values};
-ghost use Rattle.rhai_tree.specs.Positions.{AreAt, arguments_of, position_of};
-ghost use Rattle.rhai_tree.specs.Reading.{expr_of};
-ghost use Rattle.rhai_meaning.specs.Constants as constants;
+ghost use Rattle.ast_types.specs.Positions.{AreAt, arguments_of, position_of};
+ghost use Rattle.ast_types.specs.Reading.{expr_of};
+ghost use Rattle.theory_meaning.specs.Constants as constants;
 ghost use Rattle.rhai_nodes.specs.Scalars.{is_scalar};
-ghost use Rattle.rhai_meaning.specs.Tree.{DynamicConstant};
+ghost use Rattle.theory_meaning.specs.Tree.{DynamicConstant};
 
+use ast_types::{Expr, FnCallExpr};
 use rhai_base::{Boxed, Dynamic, FnPtr, ImmutableString, Namespace, OutOfMemory, Position, Seq};
-use rhai_tree::{Expr, FnCallExpr};
 use std::alloc::Global;
 
 /// The constant for a value.

@@ -1,11 +1,11 @@
 //! Statements that leave their list one by one. Those that are left are let go here, as in `making`.
 
-#![tactic(auto, using(rhai_tree::specs::Reading::shapes))]
+#![tactic(auto, using(ast_types::specs::Reading::shapes))]
 
 ghost use Rattle.std.specs.Prelude.{◌≡◌, [], ◌∷◌, ◌++◌, ◌↔◌, IfOk, IsTrue, MatchOption, OnErr, OnOk};
 
+use ast_types::{Stmt, StmtBlock};
 use rhai_base::{OutOfMemory, Rest, Seq};
-use rhai_tree::{Stmt, StmtBlock};
 use std::mem::replace;
 
 /// The statements of a list that are still to come, taken from the front.

@@ -1,6 +1,6 @@
 //! The values of literals.
 
-#![tactic(auto, using(rhai_tree::specs::Reading::shapes, rhai_base::specs::Reading::kinds, rhai_tree::proofs::ItemLists::steps, crate::proofs::LiteralLists::literals), unfolding(rhai_base::specs::Operators::binary))]
+#![tactic(auto, using(ast_types::specs::Reading::shapes, rhai_base::specs::Reading::kinds, ast_types::proofs::ItemLists::steps, crate::proofs::LiteralLists::literals), unfolding(rhai_base::specs::Operators::binary))]
 
 ghost use Rattle.std.specs.Prelude.{◌≡◌, ◌++◌, IfOk, OnOk};
 ghost use Rattle.std.specs.Cow.{cow_value};
@@ -8,20 +8,20 @@ ghost use Rattle.std.specs.Option.{option_map};
 ghost use Rattle.rhai_base.specs.Builtin.{binary_at};
 ghost use Rattle.rhai_base.specs.Reading.{members_of, value_of};
 ghost use Rattle.rhai_base.specs.Value.{fields, text_of};
-ghost use Rattle.rhai_meaning.specs.Elements.{with_entry};
+ghost use Rattle.theory_meaning.specs.Elements.{with_entry};
 ghost use Rattle.std.specs.String.{string_bytes};
 ghost use Rattle.rhai_nodes.specs.Lent.{lent_value};
 ghost use Rattle.rhai_nodes.specs.Ranges.{range_made};
-ghost use Rattle.rhai_tree.specs.Reading.{callee_of, expr_of, exprs_of, pairs_of};
-ghost use Rattle.rhai_meaning.specs.Constants as constants;
-ghost use Rattle.rhai_meaning.specs.Tree.{FnCall, expr, no_exprs};
+ghost use Rattle.ast_types.specs.Reading.{callee_of, expr_of, exprs_of, pairs_of};
+ghost use Rattle.theory_meaning.specs.Constants as constants;
+ghost use Rattle.theory_meaning.specs.Tree.{FnCall, expr, no_exprs};
 
+use ast_types::{Expr, FnCallExpr};
 use rhai_base::{
     Dynamic, Fault, FnPtr, Ident, ImmutableString, OutOfMemory, Seq, StringMap, Token,
     builtin_binary_op,
 };
 use rhai_queries::is_constant;
-use rhai_tree::{Expr, FnCallExpr};
 use std::alloc::Global;
 use std::borrow::Cow;
 

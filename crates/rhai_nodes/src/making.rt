@@ -2,11 +2,11 @@
 //! which rewrite trees, let go of none.
 
 ghost use Rattle.std.specs.Prelude.{◌≡◌, ◌≢◌, [], ◌∷◌, IfOk, length, MatchOption};
-ghost use Rattle.rhai_tree.specs.declared.stmt.Stmt.TheVariants as kind;
+ghost use Rattle.ast_types.specs.declared.stmt.Stmt.TheVariants as kind;
 ghost use Rattle.rhai_nodes.specs.Blocks.{followed_at};
 
+use ast_types::{Expr, FlowControl, Stmt, StmtBlock};
 use rhai_base::{Boxed, OutOfMemory, Position, Span};
-use rhai_tree::{Expr, FlowControl, Stmt, StmtBlock};
 use std::alloc::Global;
 
 /// Puts an expression in the place of another, which is let go.

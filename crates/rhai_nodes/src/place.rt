@@ -5,8 +5,8 @@
 ghost use Rattle.std.specs.Prelude.{◌≡◌, map};
 ghost use Rattle.rhai_nodes.specs.Placed.{name_placed, placed, stmt_placed};
 
+use ast_types::{Expr, Stmt};
 use rhai_base::{Ident, Position, Seq};
-use rhai_tree::{Expr, Stmt};
 use std::num::NonZeroUsize;
 
 /// Puts an expression there, as `SetPosition` says.

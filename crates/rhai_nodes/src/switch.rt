@@ -1,19 +1,19 @@
 //! The table of a `switch`.
 
-#![tactic(auto, using(rhai_tree::specs::Reading::shapes, rhai_base::specs::Reading::kinds))]
+#![tactic(auto, using(ast_types::specs::Reading::shapes, rhai_base::specs::Reading::kinds))]
 
 ghost use Rattle.std.specs.Prelude.{◌≡◌, None, cond};
 ghost use Rattle.std.specs.Option.{option_copied, option_map};
-ghost use Rattle.rhai_tree.specs.Reading.{table_of};
+ghost use Rattle.ast_types.specs.Reading.{table_of};
 ghost use Rattle.rhai_base.specs.Reading.{value_of};
 ghost use Rattle.rhai_base.specs.Value.{is_hashable};
-ghost use Rattle.rhai_meaning.specs.Control.{case_for};
+ghost use Rattle.theory_meaning.specs.Control.{case_for};
 ghost use Rattle.rhai_nodes.specs.Tables.{IsTableOf};
 
+use ast_types::{BinaryExpr, SwitchCasesCollection};
 use indexmap::IndexMap;
 use rhai_base::{AstError, CaseBlocksList, Cases, Dynamic, RangeCase, Seq};
 use rhai_queries::table_refusal;
-use rhai_tree::{BinaryExpr, SwitchCasesCollection};
 
 /// A table of these parts, unless it is refused.
 pub fn switch_table(

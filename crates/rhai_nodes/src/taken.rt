@@ -1,18 +1,18 @@
 //! The values of constants, into which what their parts hold is moved.
 
-#![tactic(auto, using(rhai_tree::specs::Reading::shapes, rhai_base::specs::Reading::kinds, rhai_tree::proofs::ItemLists::steps, crate::proofs::LiteralLists::literals))]
+#![tactic(auto, using(ast_types::specs::Reading::shapes, rhai_base::specs::Reading::kinds, ast_types::proofs::ItemLists::steps, crate::proofs::LiteralLists::literals))]
 
 ghost use Rattle.std.specs.Prelude.{◌≡◌, IfOk, OnOk, Some, true};
 ghost use Rattle.std.specs.Option.{option_map};
 ghost use Rattle.rhai_base.specs.Reading.{members_of, value_of};
 ghost use Rattle.rhai_base.specs.Value.{fields};
-ghost use Rattle.rhai_meaning.specs.Elements.{with_entry};
-ghost use Rattle.rhai_tree.specs.Reading.{expr_of, exprs_of, pairs_of};
-ghost use Rattle.rhai_meaning.specs.Constants as constants;
+ghost use Rattle.theory_meaning.specs.Elements.{with_entry};
+ghost use Rattle.ast_types.specs.Reading.{expr_of, exprs_of, pairs_of};
+ghost use Rattle.theory_meaning.specs.Constants as constants;
 
 use crate::literals::constant_value;
+use ast_types::Expr;
 use rhai_base::{Dynamic, Ident, OutOfMemory, Seq, StringMap};
-use rhai_tree::Expr;
 use std::alloc::Global;
 
 /// The value of a constant, into which what its parts hold is moved: of constants in constants each text and each

@@ -1,20 +1,20 @@
 -- One change of operands, and what it keeps.
 use Rattle.std.proofs.Common.{◌≡◌, ◌<◌, Bool, true, false, [], ◌∷◌, ◌++◌, length, Option, Some, None, refl, arith}
 use Rattle.rhai_base.specs.Value.{Value, UnitV}
-use Rattle.rhai_meaning.specs.Constants.{constant_value, constant_bool}
-use Rattle.rhai_meaning.specs.Engine.{Engine}
-use Rattle.rhai_meaning.specs.Faults.{has_operands}
-use Rattle.rhai_meaning.specs.Shape.{is_unit}
-use Rattle.rhai_meaning.specs.Tree.{Expr, Exprs, no_exprs, expr}
-use Rattle.rhai_meaning.specs.Walk.{OfExpr}
-use Rattle.rhai_tree.specs.Reading.{exprs_of}
-use Rattle.rhai_rewriting.specs.Answering.{is_that, is_some_value}
-use Rattle.rhai_rewriting.specs.Context.{Context}
-use Rattle.rhai_rewriting.specs.Operands.{OperandsTo, in_other_operands, passing_goes, after_deciding_go, pure_before_deciding_goes, CoalesceTo, in_other_options, unit_goes, after_some_go}
-use Rattle.rhai_rewriting.specs.Residue.{IsReducedNode}
-use Rattle.rhai_rewriting.specs.Rules as rule
-use Rattle.rhai_rewriting.specs.Rules.{ExprRule}
-use Rattle.rhai_rewriting.specs.Steps.{Place, Anywhere, AsBase, AsGuard, MayBecome, KeepsExprParts}
+use Rattle.theory_meaning.specs.Constants.{constant_value, constant_bool}
+use Rattle.theory_meaning.specs.Engine.{Engine}
+use Rattle.theory_meaning.specs.Faults.{has_operands}
+use Rattle.theory_meaning.specs.Shape.{is_unit}
+use Rattle.theory_meaning.specs.Tree.{Expr, Exprs, no_exprs, expr}
+use Rattle.theory_meaning.specs.Walk.{OfExpr}
+use Rattle.ast_types.specs.Reading.{exprs_of}
+use Rattle.theory_rewriting.specs.Answering.{is_that, is_some_value}
+use Rattle.theory_rewriting.specs.Context.{Context}
+use Rattle.theory_rewriting.specs.Operands.{OperandsTo, in_other_operands, passing_goes, after_deciding_go, pure_before_deciding_goes, CoalesceTo, in_other_options, unit_goes, after_some_go}
+use Rattle.theory_rewriting.specs.Residue.{IsReducedNode}
+use Rattle.theory_rewriting.specs.Rules as rule
+use Rattle.theory_rewriting.specs.Rules.{ExprRule}
+use Rattle.theory_rewriting.specs.Steps.{Place, Anywhere, AsBase, AsGuard, MayBecome, KeepsExprParts}
 use Rattle.rhai_steps.proofs.Places.{not-true}
 use Rattle.rhai_passes.proofs.Listed.{Listed, answers, reduced, clear}
 use Rattle.rhai_passes.proofs.Passing.{Changes}

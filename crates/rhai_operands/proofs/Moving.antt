@@ -3,9 +3,9 @@ use Rattle.std.proofs.Common.{◌≡◌, ◌<◌, ◌≤◌, ℕ, zero, suc, ◌
 use Rattle.std.specs.Prelude.{◌||◌}
 use Rattle.std.proofs.lemmas.Bool.Decides.{eqb_tells}
 use Rattle.std.proofs.lemmas.List.{append_assoc, append-nil, drop_more, drop_all, take_more, take_all, length-append, length-drop, length-take-le, length_push}
-use Rattle.rhai_tree.specs.declared.expr.Expr as declared_expr
-use Rattle.rhai_meaning.specs.Tree.{Expr, Exprs, no_exprs, expr, count_exprs}
-use Rattle.rhai_tree.specs.Reading.{expr_of, exprs_of}
+use Rattle.ast_types.specs.declared.expr.Expr as declared_expr
+use Rattle.theory_meaning.specs.Tree.{Expr, Exprs, no_exprs, expr, count_exprs}
+use Rattle.ast_types.specs.Reading.{expr_of, exprs_of}
 use Rattle.rhai_passes.specs.Passes.{InTurn, no_change, one_more}
 use Rattle.rhai_passes.proofs.Passing.{turn_then, turns_pass}
 use Rattle.rhai_operands.specs.declared.operation.Operation.{Operation}

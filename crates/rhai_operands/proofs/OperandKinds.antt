@@ -1,16 +1,16 @@
 -- Declared nodes that are none of a kind, and what is asked of values.
 use Rattle.std.proofs.Common.{◌≡◌, true, false, not, ◌&&◌, List, Option, Some, None, is_some, refl}
-use Rattle.rhai_tokens.specs.declared.position.Position.{Position}
+use Rattle.base_tokens.specs.declared.position.Position.{Position}
 use Rattle.rhai_base.specs.Value.{Text, Value}
 use Rattle.rhai_base.specs.declared.dynamic.Dynamic.{Dynamic}
-use Rattle.rhai_tree.specs.declared.expr.Expr as declared_expr
-use Rattle.rhai_tree.specs.declared.expr.Expr.TheVariants as expr_kind
-use Rattle.rhai_meaning.specs.Constants.{constant_value, constant_values, constant_entries, array_value, map_value, joined_value}
-use Rattle.rhai_meaning.specs.Tree.{Expr}
-use Rattle.rhai_tree.specs.Reading.{exprs_of, pairs_of}
-use Rattle.rhai_tree.proofs.Cases.{ExprCase, dynamic_constant_case, interpolated_string_case, array_case, map_case, unit_case, and_case, or_case, coalesce_case}
-use Rattle.rhai_rewriting.specs.Answering.{is_some_value}
-use Rattle.rhai_rewriting.specs.Steps.{Place}
+use Rattle.ast_types.specs.declared.expr.Expr as declared_expr
+use Rattle.ast_types.specs.declared.expr.Expr.TheVariants as expr_kind
+use Rattle.theory_meaning.specs.Constants.{constant_value, constant_values, constant_entries, array_value, map_value, joined_value}
+use Rattle.theory_meaning.specs.Tree.{Expr}
+use Rattle.ast_types.specs.Reading.{exprs_of, pairs_of}
+use Rattle.ast_types.proofs.Cases.{ExprCase, dynamic_constant_case, interpolated_string_case, array_case, map_case, unit_case, and_case, or_case, coalesce_case}
+use Rattle.theory_rewriting.specs.Answering.{is_some_value}
+use Rattle.theory_rewriting.specs.Steps.{Place}
 use Rattle.rhai_steps.proofs.NodeKinds.{NoAnd, NoOr, NoCoalesce}
 use Rattle.rhai_operands.specs.Operands.{has_operation, is_unit_value, is_settled_node}
 

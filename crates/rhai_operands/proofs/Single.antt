@@ -1,16 +1,16 @@
 -- One operand, and none.
 use Rattle.std.proofs.Common.{◌≡◌, ◌≢◌, ◌≤◌, Bool, true, false, not, List, [], ◌∷◌, length, None, refl, sym, ap, ◌∙◌, subst, arith}
-use Rattle.rhai_tree.specs.declared.expr.Expr as declared_expr
-use Rattle.rhai_meaning.specs.Tree.{Expr, BoolConstant, UnitConstant, And, Or, Coalesce, no_exprs, expr}
-use Rattle.rhai_meaning.specs.Engine.{Engine}
-use Rattle.rhai_meaning.specs.Walk.{OfExpr}
-use Rattle.rhai_tree.specs.Reading.{expr_of, exprs_of}
-use Rattle.rhai_rewriting.specs.Clear.{known_value}
-use Rattle.rhai_rewriting.specs.Known.{Known}
-use Rattle.rhai_rewriting.specs.Residue.{IsReducedNode}
-use Rattle.rhai_rewriting.specs.Rules as rule
-use Rattle.rhai_rewriting.specs.Steps.{Progress, Place, Anywhere, AsBase, AsGuard, AnswersNone, ExprRewrite, KeepsExprParts}
-use Rattle.rhai_rewriting.proofs.Keeping.{keeps_unit, keeps_and, keeps_or, keeps_coalesce}
+use Rattle.ast_types.specs.declared.expr.Expr as declared_expr
+use Rattle.theory_meaning.specs.Tree.{Expr, BoolConstant, UnitConstant, And, Or, Coalesce, no_exprs, expr}
+use Rattle.theory_meaning.specs.Engine.{Engine}
+use Rattle.theory_meaning.specs.Walk.{OfExpr}
+use Rattle.ast_types.specs.Reading.{expr_of, exprs_of}
+use Rattle.theory_rewriting.specs.Clear.{known_value}
+use Rattle.theory_rewriting.specs.Known.{Known}
+use Rattle.theory_rewriting.specs.Residue.{IsReducedNode}
+use Rattle.theory_rewriting.specs.Rules as rule
+use Rattle.theory_rewriting.specs.Steps.{Progress, Place, Anywhere, AsBase, AsGuard, AnswersNone, ExprRewrite, KeepsExprParts}
+use Rattle.theory_rewriting.proofs.Keeping.{keeps_unit, keeps_and, keeps_or, keeps_coalesce}
 use Rattle.rhai_steps.specs.Standing.{may_stand}
 use Rattle.rhai_steps.proofs.Places.{not-false, stands}
 use Rattle.rhai_steps.proofs.Stepping.{expr_rewrite_as, expr_stays}

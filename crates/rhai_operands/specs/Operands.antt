@@ -1,19 +1,19 @@
 -- The operands of `&&`, `||` and `??`, by their operator: which of them go, and what is left to reduce.
 use Rattle.std.specs.Prelude.{◌≡◌, ◌≤◌, ◌+◌, ℕ, Bool, true, false, not, List, [], ◌∷◌, ◌++◌, length, take, drop, Option, Some, None}
-use Rattle.rhai_tree.specs.declared.expr.Expr as declared_expr
+use Rattle.ast_types.specs.declared.expr.Expr as declared_expr
 use Rattle.rhai_base.specs.Value.{Value}
-use Rattle.rhai_meaning.specs.Constants.{constant_value}
-use Rattle.rhai_meaning.specs.Engine.{Engine}
-use Rattle.rhai_meaning.specs.Faults.{has_operands}
-use Rattle.rhai_meaning.specs.Queries.{is_pure_expr}
-use Rattle.rhai_meaning.specs.Shape.{is_unit}
-use Rattle.rhai_meaning.specs.Tree.{Expr, BoolConstant, UnitConstant, And, Or, Coalesce, Exprs, no_exprs, expr}
-use Rattle.rhai_meaning.specs.Walk.{OfExpr}
-use Rattle.rhai_tree.specs.Reading.{expr_of, exprs_of}
-use Rattle.rhai_rewriting.specs.Answering.{is_always, is_some_value, follows_deciding, follows_some}
-use Rattle.rhai_rewriting.specs.Operands.{OperandsTo, CoalesceTo}
-use Rattle.rhai_rewriting.specs.Residue.{IsReducedNode}
-use Rattle.rhai_rewriting.specs.Steps.{Place}
+use Rattle.theory_meaning.specs.Constants.{constant_value}
+use Rattle.theory_meaning.specs.Engine.{Engine}
+use Rattle.theory_meaning.specs.Faults.{has_operands}
+use Rattle.theory_meaning.specs.Queries.{is_pure_expr}
+use Rattle.theory_meaning.specs.Shape.{is_unit}
+use Rattle.theory_meaning.specs.Tree.{Expr, BoolConstant, UnitConstant, And, Or, Coalesce, Exprs, no_exprs, expr}
+use Rattle.theory_meaning.specs.Walk.{OfExpr}
+use Rattle.ast_types.specs.Reading.{expr_of, exprs_of}
+use Rattle.theory_rewriting.specs.Answering.{is_always, is_some_value, follows_deciding, follows_some}
+use Rattle.theory_rewriting.specs.Operands.{OperandsTo, CoalesceTo}
+use Rattle.theory_rewriting.specs.Residue.{IsReducedNode}
+use Rattle.theory_rewriting.specs.Steps.{Place}
 use Rattle.rhai_steps.specs.Standing.{may_stand}
 use Rattle.rhai_passes.specs.Passes.{InTurn, NodePass}
 use Rattle.rhai_operands.specs.declared.operation.Operation.{Operation}

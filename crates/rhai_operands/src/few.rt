@@ -1,12 +1,12 @@
 //! One operand, and none.
 
-#![tactic(auto, using(rhai_tree::specs::Reading::shapes))]
+#![tactic(auto, using(ast_types::specs::Reading::shapes))]
 
 ghost use Rattle.std.specs.Prelude.{◌≡◌, true, false};
-ghost use Rattle.rhai_meaning.specs.Tree.{And, Or, Coalesce, no_exprs, expr, UnitConstant};
-ghost use Rattle.rhai_tree.specs.Reading.{expr_of, exprs_of};
-ghost use Rattle.rhai_rewriting.specs.Steps as steps;
-ghost use Rattle.rhai_rewriting.specs.Steps.{ExprRewrite};
+ghost use Rattle.theory_meaning.specs.Tree.{And, Or, Coalesce, no_exprs, expr, UnitConstant};
+ghost use Rattle.ast_types.specs.Reading.{expr_of, exprs_of};
+ghost use Rattle.theory_rewriting.specs.Steps as steps;
+ghost use Rattle.theory_rewriting.specs.Steps.{ExprRewrite};
 ghost use Rattle.rhai_steps.specs.Places.{place_of};
 ghost use Rattle.rhai_steps.specs.Standing as standing;
 ghost use Rattle.rhai_operands.specs.Operands as spec;

@@ -1,14 +1,14 @@
 //! The rules at `&&`, `||` and `??`, in the node's place. A node is taken out only where it is left with one operand
 //! or none.
 
-#![tactic(auto, using(rhai_tree::specs::Reading::shapes))]
+#![tactic(auto, using(ast_types::specs::Reading::shapes))]
 
 ghost use Rattle.std.specs.Prelude.{◌≡◌, true, false};
-ghost use Rattle.rhai_meaning.specs.Engine.{Engine};
-ghost use Rattle.rhai_known.specs.State.{progress};
+ghost use Rattle.theory_meaning.specs.Engine.{Engine};
+ghost use Rattle.opt_known.specs.State.{progress};
 ghost use Rattle.rhai_passes.specs.Passes.{PassStep};
-ghost use Rattle.rhai_tree.specs.Reading.{expr_of};
-ghost use Rattle.rhai_rewriting.specs.Steps.{ExprRewrite};
+ghost use Rattle.ast_types.specs.Reading.{expr_of};
+ghost use Rattle.theory_rewriting.specs.Steps.{ExprRewrite};
 ghost use Rattle.rhai_steps.specs.Places.{place_of};
 ghost use Rattle.rhai_operands.specs.Operands as spec;
 ghost use Rattle.rhai_operands.specs.Operands.{NodeChange};

@@ -1,15 +1,15 @@
 //! What the operators `&&`, `||` and `??` ask of an operand.
 
-#![tactic(auto, using(rhai_tree::specs::Reading::shapes, rhai_base::specs::Reading::kinds))]
+#![tactic(auto, using(ast_types::specs::Reading::shapes, rhai_base::specs::Reading::kinds))]
 
 ghost use Rattle.std.specs.Prelude.{◌≡◌};
-ghost use Rattle.rhai_meaning.specs.Constants as constants;
-ghost use Rattle.rhai_tree.specs.Reading.{expr_of};
-ghost use Rattle.rhai_rewriting.specs.Answering as answering;
+ghost use Rattle.theory_meaning.specs.Constants as constants;
+ghost use Rattle.ast_types.specs.Reading.{expr_of};
+ghost use Rattle.theory_rewriting.specs.Answering as answering;
 ghost use Rattle.rhai_operands.specs.Operands as spec;
 
+use opt_folding::constant_bool;
 use rhai_ast::{Expr, ExprQueries};
-use rhai_folding::constant_bool;
 
 /// An operator that asks its operands one after another.
 #[derive(Clone, Copy)]

@@ -1,11 +1,11 @@
 //! One pass over operands: which of them go, in the list's own memory.
 
-#![tactic(auto, using(rhai_tree::specs::Reading::shapes))]
+#![tactic(auto, using(ast_types::specs::Reading::shapes))]
 
 ghost use Rattle.std.specs.Prelude.{◌≡◌, ◌<◌, ◌≤◌, ◌+◌, true, length, slice_index_or};
-ghost use Rattle.rhai_meaning.specs.Tree.{And, Or, Coalesce};
-ghost use Rattle.rhai_tree.specs.Reading.{expr_of, exprs_of};
-ghost use Rattle.rhai_tree.specs.declared.expr.Expr.{Expr};
+ghost use Rattle.theory_meaning.specs.Tree.{And, Or, Coalesce};
+ghost use Rattle.ast_types.specs.Reading.{expr_of, exprs_of};
+ghost use Rattle.ast_types.specs.declared.expr.Expr.{Expr};
 ghost use Rattle.rhai_operands.specs.Operands as spec;
 ghost use Rattle.rhai_operands.specs.Operands.{Ends, GoBefore, NodeChange, OperandsPass};
 

@@ -6,23 +6,23 @@ use Rattle.std.specs.Rc.{rc_value}
 use Rattle.std.specs.declared.alloc.Global.{Global}
 use Rattle.std.specs.declared.rc.Rc.{Rc}
 use Rattle.rhai_base.specs.Value.{Text}
-use Rattle.rhai_meaning.specs.Calls.{key, same_key}
-use Rattle.rhai_meaning.specs.Engine.{Engine}
-use Rattle.rhai_meaning.specs.Tree.{Stmts}
-use Rattle.rhai_tree.specs.Reading.{function_of, stmts_of}
-use Rattle.rhai_rewriting.specs.Context.{Context, Whole, knowing}
-use Rattle.rhai_rewriting.specs.Known.{Known, shadow_all}
-use Rattle.rhai_rewriting.specs.Rewriting.{RestTo, same_stmts, flag_forgotten}
-use Rattle.rhai_rewriting.specs.Scripts.{FunctionTo, FunctionsTo, no_functions as none_to, functions as more_to}
-use Rattle.rhai_rewriting.specs.Steps.{Progress, IsReducedBody}
-use Rattle.rhai_rewriting.proofs.Flags.{stmts_kept}
-use Rattle.rhai_rewriting.proofs.Running.{drop_front}
-use Rattle.rhai_tree.specs.declared.script_fn.ScriptFuncDef.{ScriptFuncDef}
+use Rattle.theory_meaning.specs.Calls.{key, same_key}
+use Rattle.theory_meaning.specs.Engine.{Engine}
+use Rattle.theory_meaning.specs.Tree.{Stmts}
+use Rattle.ast_types.specs.Reading.{function_of, stmts_of}
+use Rattle.theory_rewriting.specs.Context.{Context, Whole, knowing}
+use Rattle.theory_rewriting.specs.Known.{Known, shadow_all}
+use Rattle.theory_rewriting.specs.Rewriting.{RestTo, same_stmts, flag_forgotten}
+use Rattle.theory_rewriting.specs.Scripts.{FunctionTo, FunctionsTo, no_functions as none_to, functions as more_to}
+use Rattle.theory_rewriting.specs.Steps.{Progress, IsReducedBody}
+use Rattle.theory_rewriting.proofs.Flags.{stmts_kept}
+use Rattle.theory_rewriting.proofs.Running.{drop_front}
+use Rattle.ast_types.specs.declared.script_fn.ScriptFuncDef.{ScriptFuncDef}
 use Rattle.rhai_functions.specs.FnKey.{definition_key, definitions_table}
 use Rattle.rhai_functions.specs.Table.{put_by, put_all_by}
 use Rattle.rhai_optimizer.specs.Functions.{Header, header_of, FunctionRun, FunctionsRun, no_functions, one_more, BodyRun}
 use Rattle.rhai_optimizer.specs.Optimised.{AreReducedBodies}
-use Rattle.rhai_reducer.specs.Pass.{PassRun}
+use Rattle.opt_reducer.specs.Pass.{PassRun}
 
 -- ---- names
 

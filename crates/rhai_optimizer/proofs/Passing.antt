@@ -1,20 +1,20 @@
 -- Passes over a script's statements.
 use Rattle.std.specs.Prelude.{◌↔◌, IsTrue}
 use Rattle.std.proofs.Common.{◌≡◌, ◌<◌, ◌+◌, ◌-◌, ◌^◌, ℕ, suc, min, Bool, true, false, List, [], ◌∷◌, refl, sym, ap, ◌∙◌, subst, arith}
-use Rattle.rhai_meaning.specs.Engine.{Engine}
-use Rattle.rhai_meaning.specs.Tree.{Stmts, no_stmts, stmt}
-use Rattle.rhai_meaning.specs.Weight.{weight}
-use Rattle.rhai_tree.specs.Reading.{stmts_of}
-use Rattle.rhai_tree.specs.declared.stmt.Stmt.{Stmt}
-use Rattle.rhai_rewriting.specs.Context.{Context, Whole, knowing}
-use Rattle.rhai_rewriting.specs.Known.{Known}
-use Rattle.rhai_rewriting.specs.Passes.{no_pass, one_more, Passes, last_pass, ScriptPasses, PassesWithin}
-use Rattle.rhai_rewriting.specs.Rewriting.{StmtsTo, RestTo}
-use Rattle.rhai_rewriting.specs.Steps.{Progress, IsReducedBody}
-use Rattle.rhai_rewriting.proofs.Passing.{passes_are_bounded, script_passes_to}
-use Rattle.rhai_rewriting.proofs.Weights.{stmts_fall}
+use Rattle.theory_meaning.specs.Engine.{Engine}
+use Rattle.theory_meaning.specs.Tree.{Stmts, no_stmts, stmt}
+use Rattle.theory_meaning.specs.Weight.{weight}
+use Rattle.ast_types.specs.Reading.{stmts_of}
+use Rattle.ast_types.specs.declared.stmt.Stmt.{Stmt}
+use Rattle.theory_rewriting.specs.Context.{Context, Whole, knowing}
+use Rattle.theory_rewriting.specs.Known.{Known}
+use Rattle.theory_rewriting.specs.Passes.{no_pass, one_more, Passes, last_pass, ScriptPasses, PassesWithin}
+use Rattle.theory_rewriting.specs.Rewriting.{StmtsTo, RestTo}
+use Rattle.theory_rewriting.specs.Steps.{Progress, IsReducedBody}
+use Rattle.theory_rewriting.proofs.Passing.{passes_are_bounded, script_passes_to}
+use Rattle.theory_rewriting.proofs.Weights.{stmts_fall}
 use Rattle.rhai_optimizer.specs.Passes.{Counts, SettingSoFar, PassesRun}
-use Rattle.rhai_reducer.specs.Pass.{PassRun}
+use Rattle.opt_reducer.specs.Pass.{PassRun}
 
 -- ---- the loop over passes
 

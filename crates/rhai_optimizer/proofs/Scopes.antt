@@ -7,14 +7,14 @@ use Rattle.rhai_base.specs.Reading.{value_of}
 use Rattle.rhai_base.specs.declared.dynamic.Dynamic.{Dynamic}
 use Rattle.rhai_base.specs.declared.scope.Scope.{Scope}
 use Rattle.rhai_base.specs.declared.scope.ScopeEntry.{ScopeEntry}
-use Rattle.rhai_host.specs.Entries.{entry_meant}
-use Rattle.rhai_meaning.specs.Act as act
-use Rattle.rhai_meaning.specs.Desugar.{name_kind}
-use Rattle.rhai_meaning.specs.Engine.{Engine, Binding}
-use Rattle.rhai_meaning.specs.Run.{reversed}
-use Rattle.rhai_meaning.specs.Tree.{Script}
-use Rattle.rhai_rewriting.specs.Known.{Known}
-use Rattle.rhai_rewriting.specs.Scripts.{captures_nothing, fixed_value, known_in, known_of, known_at_top, known_in_bodies, known_inside}
+use Rattle.run_host.specs.Entries.{entry_meant}
+use Rattle.theory_meaning.specs.Act as act
+use Rattle.theory_meaning.specs.Desugar.{name_kind}
+use Rattle.theory_meaning.specs.Engine.{Engine, Binding}
+use Rattle.theory_meaning.specs.Run.{reversed}
+use Rattle.theory_meaning.specs.Tree.{Script}
+use Rattle.theory_rewriting.specs.Known.{Known}
+use Rattle.theory_rewriting.specs.Scripts.{captures_nothing, fixed_value, known_in, known_of, known_at_top, known_in_bodies, known_inside}
 use Rattle.rhai_optimizer.specs.Scopes.{known_onto, given_onto, constants_onto, start_of}
 
 lent_value : (b : Bool) (v : Dynamic) → option_map value_of (cond b (Some v) None) ≡ fixed_value (name_kind b) (value_of v)

@@ -4,31 +4,31 @@ use Rattle.std.specs.Prelude.{◌&&◌}
 use Rattle.std.specs.Rc.{rc_value}
 use Rattle.std.specs.declared.alloc.Global.{Global}
 use Rattle.std.specs.declared.rc.Rc.{Rc}
-use Rattle.rhai_tree.specs.declared.script_fn.ScriptFuncDef.{ScriptFuncDef}
-use Rattle.rhai_tree.specs.declared.stmt.Stmt.{Stmt}
-use Rattle.rhai_meaning.specs.Act.{ScopeEntry}
-use Rattle.rhai_meaning.specs.Calls.{same_key}
-use Rattle.rhai_meaning.specs.Engine.{Engine}
-use Rattle.rhai_meaning.specs.Faults.{IsWellFormedScript, AreWellFormedFunctions}
-use Rattle.rhai_meaning.specs.Tree.{Function, Script}
-use Rattle.rhai_meaning.specs.Walk.{over_functions, over_stmts}
-use Rattle.rhai_meaning.proofs.PureTrees.{split}
-use Rattle.rhai_tree.specs.Reading.{function_of, stmts_of}
-use Rattle.rhai_rewriting.specs.Context.{Context, Whole, knowing}
-use Rattle.rhai_rewriting.specs.Known.{Known}
-use Rattle.rhai_rewriting.specs.Reducible.{AreIrreducibleBodies, IsIrreducibleScript}
-use Rattle.rhai_rewriting.specs.Rewriting.{StmtsTo, same_stmts}
-use Rattle.rhai_rewriting.specs.Scripts.{captures_nothing, known_at_top, known_in_bodies, known_inside, MayKnow, nothing_known, none_capture, FunctionsTo, OptimisedTo, ScriptTo}
-use Rattle.rhai_rewriting.proofs.Irreducible.{body_irreducible}
-use Rattle.rhai_rewriting.proofs.soundness.Kept.{script_keeps, well_formed_stays}
-use Rattle.rhai_rewriting.proofs.soundness.Start.{agrees_inside}
-use Rattle.rhai_rewriting.proofs.soundness.Whole.{functions_same, optimised_refines, script_refines}
-use Rattle.rhai_deep_queries.specs.Walks.{capture_walk, listing}
+use Rattle.ast_types.specs.declared.script_fn.ScriptFuncDef.{ScriptFuncDef}
+use Rattle.ast_types.specs.declared.stmt.Stmt.{Stmt}
+use Rattle.theory_meaning.specs.Act.{ScopeEntry}
+use Rattle.theory_meaning.specs.Calls.{same_key}
+use Rattle.theory_meaning.specs.Engine.{Engine}
+use Rattle.theory_meaning.specs.Faults.{IsWellFormedScript, AreWellFormedFunctions}
+use Rattle.theory_meaning.specs.Tree.{Function, Script}
+use Rattle.theory_meaning.specs.Walk.{over_functions, over_stmts}
+use Rattle.theory_meaning.proofs.PureTrees.{split}
+use Rattle.ast_types.specs.Reading.{function_of, stmts_of}
+use Rattle.theory_rewriting.specs.Context.{Context, Whole, knowing}
+use Rattle.theory_rewriting.specs.Known.{Known}
+use Rattle.theory_rewriting.specs.Reducible.{AreIrreducibleBodies, IsIrreducibleScript}
+use Rattle.theory_rewriting.specs.Rewriting.{StmtsTo, same_stmts}
+use Rattle.theory_rewriting.specs.Scripts.{captures_nothing, known_at_top, known_in_bodies, known_inside, MayKnow, nothing_known, none_capture, FunctionsTo, OptimisedTo, ScriptTo}
+use Rattle.theory_rewriting.proofs.Irreducible.{body_irreducible}
+use Rattle.theory_rewriting.proofs.soundness.Kept.{script_keeps, well_formed_stays}
+use Rattle.theory_rewriting.proofs.soundness.Start.{agrees_inside}
+use Rattle.theory_rewriting.proofs.soundness.Whole.{functions_same, optimised_refines, script_refines}
+use Rattle.opt_queries.specs.Walks.{capture_walk, listing}
 use Rattle.rhai_functions.specs.FnKey.{definitions_table}
 use Rattle.rhai_functions.specs.Table.{key_of, put_by, put_all_by, table_of}
 use Rattle.rhai_functions.proofs.Tables.{map-put_all}
-use Rattle.rhai_known.specs.declared.level.OptimizationLevel.{OptimizationLevel}
-use Rattle.rhai_known.specs.declared.level.OptimizationLevel.TheVariants as level
+use Rattle.opt_known.specs.declared.level.OptimizationLevel.{OptimizationLevel}
+use Rattle.opt_known.specs.declared.level.OptimizationLevel.TheVariants as level
 use Rattle.rhai_script.specs.Contents.{Contents, meant}
 use Rattle.rhai_optimizer.specs.Functions.{header_of}
 use Rattle.rhai_optimizer.specs.Optimised.{optimises_nothing, AreReducedBodies, Becomes, IsReducedScript, Optimised, PartsOptimised, PartsReduced, PassesCounted}

@@ -1,14 +1,14 @@
 -- Functions whose bodies are optimised.
 use Rattle.std.specs.Prelude.{◌≡◌, Bool, false, List, [], ◌∷◌, Option}
 use Rattle.rhai_base.specs.Value.{Text}
-use Rattle.rhai_meaning.specs.Engine.{Engine}
-use Rattle.rhai_tree.specs.Reading.{function_of, stmts_of}
-use Rattle.rhai_rewriting.specs.Context.{knowing}
-use Rattle.rhai_rewriting.specs.Known.{Known}
-use Rattle.rhai_rewriting.specs.Scripts.{FunctionTo}
-use Rattle.rhai_rewriting.specs.Steps.{IsReducedBody}
-use Rattle.rhai_tree.specs.declared.script_fn.FnAccess.{FnAccess}
-use Rattle.rhai_tree.specs.declared.script_fn.ScriptFuncDef.{ScriptFuncDef}
+use Rattle.theory_meaning.specs.Engine.{Engine}
+use Rattle.ast_types.specs.Reading.{function_of, stmts_of}
+use Rattle.theory_rewriting.specs.Context.{knowing}
+use Rattle.theory_rewriting.specs.Known.{Known}
+use Rattle.theory_rewriting.specs.Scripts.{FunctionTo}
+use Rattle.theory_rewriting.specs.Steps.{IsReducedBody}
+use Rattle.ast_types.specs.declared.script_fn.FnAccess.{FnAccess}
+use Rattle.ast_types.specs.declared.script_fn.ScriptFuncDef.{ScriptFuncDef}
 
 -- what a function says beside its body
 pub record Header : Type 0 where

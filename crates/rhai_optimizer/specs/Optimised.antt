@@ -3,24 +3,24 @@ use Rattle.std.specs.Prelude.{◌≡◌, ◌≢◌, ℕ, Bool, true, false, List
 use Rattle.std.specs.Rc.{rc_value}
 use Rattle.std.specs.declared.alloc.Global.{Global}
 use Rattle.std.specs.declared.rc.Rc.{Rc}
-use Rattle.rhai_tree.specs.declared.script_fn.ScriptFuncDef.{ScriptFuncDef}
-use Rattle.rhai_tree.specs.declared.stmt.Stmt.{Stmt}
-use Rattle.rhai_meaning.specs.Act.{ScopeEntry}
-use Rattle.rhai_meaning.specs.Engine.{Engine}
-use Rattle.rhai_meaning.specs.Faults.{IsWellFormedScript}
-use Rattle.rhai_meaning.specs.Tree.{Function, Script, Stmts}
-use Rattle.rhai_rewriting.specs.Context.{knowing}
-use Rattle.rhai_rewriting.specs.Kept.{Keeps}
-use Rattle.rhai_rewriting.specs.Passes.{PassesWithin}
-use Rattle.rhai_rewriting.specs.Reducible.{IsIrreducibleScript}
-use Rattle.rhai_rewriting.specs.Refines.{RefinesWhere}
-use Rattle.rhai_rewriting.specs.Scripts.{known_at_top, known_inside}
-use Rattle.rhai_rewriting.specs.Steps.{IsReducedBody}
-use Rattle.rhai_tree.specs.Reading.{stmts_of}
-use Rattle.rhai_deep_queries.specs.Walks.{listing}
+use Rattle.ast_types.specs.declared.script_fn.ScriptFuncDef.{ScriptFuncDef}
+use Rattle.ast_types.specs.declared.stmt.Stmt.{Stmt}
+use Rattle.theory_meaning.specs.Act.{ScopeEntry}
+use Rattle.theory_meaning.specs.Engine.{Engine}
+use Rattle.theory_meaning.specs.Faults.{IsWellFormedScript}
+use Rattle.theory_meaning.specs.Tree.{Function, Script, Stmts}
+use Rattle.theory_rewriting.specs.Context.{knowing}
+use Rattle.theory_rewriting.specs.Kept.{Keeps}
+use Rattle.theory_rewriting.specs.Passes.{PassesWithin}
+use Rattle.theory_rewriting.specs.Reducible.{IsIrreducibleScript}
+use Rattle.theory_rewriting.specs.Refines.{RefinesWhere}
+use Rattle.theory_rewriting.specs.Scripts.{known_at_top, known_inside}
+use Rattle.theory_rewriting.specs.Steps.{IsReducedBody}
+use Rattle.ast_types.specs.Reading.{stmts_of}
+use Rattle.opt_queries.specs.Walks.{listing}
 use Rattle.rhai_functions.specs.FnKey.{definitions_table}
-use Rattle.rhai_known.specs.declared.level.OptimizationLevel.{OptimizationLevel}
-use Rattle.rhai_known.specs.declared.level.OptimizationLevel.TheVariants as level
+use Rattle.opt_known.specs.declared.level.OptimizationLevel.{OptimizationLevel}
+use Rattle.opt_known.specs.declared.level.OptimizationLevel.TheVariants as level
 use Rattle.rhai_script.specs.Contents.{Contents, meant}
 use Rattle.rhai_optimizer.specs.Functions.{header_of, FunctionsRun}
 use Rattle.rhai_optimizer.specs.Passes.{Counts}

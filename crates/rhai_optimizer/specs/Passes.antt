@@ -1,10 +1,10 @@
 -- Passes over a script's statements, as they are counted.
 use Rattle.std.specs.Prelude.{◌≡◌, ℕ, ◌-◌, ◌^◌, min}
-use Rattle.rhai_meaning.specs.Engine.{Engine}
-use Rattle.rhai_meaning.specs.Tree.{Stmts}
-use Rattle.rhai_rewriting.specs.Context.{Context, knowing}
-use Rattle.rhai_rewriting.specs.Passes.{Setting, ScriptPasses}
-use Rattle.rhai_rewriting.specs.Steps.{Progress, IsReducedBody}
+use Rattle.theory_meaning.specs.Engine.{Engine}
+use Rattle.theory_meaning.specs.Tree.{Stmts}
+use Rattle.theory_rewriting.specs.Context.{Context, knowing}
+use Rattle.theory_rewriting.specs.Passes.{Setting, ScriptPasses}
+use Rattle.theory_rewriting.specs.Steps.{Progress, IsReducedBody}
 
 -- the number of the passes that were made; it stays at the greatest that a `u64` holds
 pub record Counts (k : Context) (number : ℕ) (ss ss' : Stmts) : Type 0 where

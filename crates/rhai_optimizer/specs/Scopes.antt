@@ -4,10 +4,10 @@ use Rattle.std.specs.Option.{option_map}
 use Rattle.rhai_base.specs.Reading.{value_of}
 use Rattle.rhai_base.specs.declared.scope.Scope.{Scope}
 use Rattle.rhai_base.specs.declared.scope.ScopeEntry.{ScopeEntry}
-use Rattle.rhai_host.specs.Entries.{start_scope}
-use Rattle.rhai_meaning.specs.Act as act
-use Rattle.rhai_meaning.specs.Engine.{Binding}
-use Rattle.rhai_rewriting.specs.Known.{Known}
+use Rattle.run_host.specs.Entries.{start_scope}
+use Rattle.theory_meaning.specs.Act as act
+use Rattle.theory_meaning.specs.Engine.{Binding}
+use Rattle.theory_rewriting.specs.Known.{Known}
 
 -- ---- names in the order in which they were pushed, on top of others
 

@@ -1,25 +1,25 @@
 //! Functions, whose bodies are optimised as a script's statements are, with their parameters as variables.
 
-#![tactic(auto, using(rhai_tree::specs::Reading::shapes, crate::proofs::Bodies::params))]
+#![tactic(auto, using(ast_types::specs::Reading::shapes, crate::proofs::Bodies::params))]
 
 ghost use Rattle.std.specs.Prelude.{◌≡◌, [], IfOk, OnOk, map};
 ghost use Rattle.std.specs.Map.Iter.{deref};
 ghost use Rattle.std.specs.Option.{option_map};
 ghost use Rattle.std.specs.Rc.{rc_value};
-ghost use Rattle.rhai_deep_queries.specs.Walks.{listing};
-ghost use Rattle.rhai_known.specs.State.{progress};
+ghost use Rattle.opt_queries.specs.Walks.{listing};
+ghost use Rattle.opt_known.specs.State.{progress};
 ghost use Rattle.rhai_optimizer.specs.Functions.{BodyRun, FunctionRun, FunctionsRun};
 ghost use Rattle.rhai_optimizer.specs.Scopes.{start_of};
-ghost use Rattle.rhai_reducer.specs.Parts.{record_of};
-ghost use Rattle.rhai_rewriting.specs.Known.{shadow_all};
-ghost use Rattle.rhai_rewriting.specs.Scripts.{known_inside};
+ghost use Rattle.opt_reducer.specs.Parts.{record_of};
+ghost use Rattle.theory_rewriting.specs.Known.{shadow_all};
+ghost use Rattle.theory_rewriting.specs.Scripts.{known_inside};
 
 use crate::start::push_in_bodies;
+use opt_known::{OptimizationLevel, OptimizerState};
+use opt_queries::captures_nothing;
+use opt_reducer::Optimizer;
 use rhai_ast::{ScriptFuncDef, Stmt};
 use rhai_base::{ImmutableString, OutOfMemory, Scope};
-use rhai_deep_queries::captures_nothing;
-use rhai_known::{OptimizationLevel, OptimizerState};
-use rhai_reducer::Optimizer;
 use std::rc::Rc;
 
 /// Notes the parameters of a function.

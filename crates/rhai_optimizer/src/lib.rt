@@ -1,4 +1,4 @@
-//! The optimiser of scripts: their statements and functions, over the recursion of rhai_reducer.
+//! The optimiser of scripts: their statements and functions, over the recursion of opt_reducer.
 #![tactic(auto)]
 
 mod functions;
@@ -6,5 +6,5 @@ mod optimizer;
 mod passes;
 mod start;
 
+pub use opt_known::{OptimizationLevel, OptimizerState};
 pub use optimizer::{optimize_ast, optimize_counted, optimize_into_ast};
-pub use rhai_known::{OptimizationLevel, OptimizerState};

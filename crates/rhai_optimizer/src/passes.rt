@@ -1,17 +1,17 @@
 //! Passes over a script's statements, until one changes nothing.
 
-#![tactic(auto, using(rhai_tree::specs::Reading::shapes))]
+#![tactic(auto, using(ast_types::specs::Reading::shapes))]
 
 ghost use Rattle.std.specs.Prelude.{◌≡◌, IfOk, false};
-ghost use Rattle.rhai_known.specs.State.{progress};
+ghost use Rattle.opt_known.specs.State.{progress};
 ghost use Rattle.rhai_optimizer.specs.Passes.{PassesRun};
-ghost use Rattle.rhai_tree.specs.Reading.{stmts_of};
-ghost use Rattle.rhai_reducer.specs.Parts.{record_of};
+ghost use Rattle.ast_types.specs.Reading.{stmts_of};
+ghost use Rattle.opt_reducer.specs.Parts.{record_of};
 
+use opt_known::OptimizerState;
+use opt_reducer::Optimizer;
 use rhai_ast::Stmt;
 use rhai_base::{OutOfMemory, Seq};
-use rhai_known::OptimizerState;
-use rhai_reducer::Optimizer;
 
 /// Goes over statements until a pass changes nothing. How many passes were made; none over no statements.
 pub(crate) fn make_passes(

@@ -1,19 +1,19 @@
 //! The names of the record and of a scope: what is known where a script starts.
 
-#![tactic(auto, using(rhai_tree::specs::Reading::shapes))]
+#![tactic(auto, using(ast_types::specs::Reading::shapes))]
 
 ghost use Rattle.std.specs.Prelude.{◌≡◌, ◌∷◌, None, OnOk, Some, cond};
 ghost use Rattle.std.specs.Map.Iter.{deref};
 ghost use Rattle.std.specs.Option.{option_map};
 ghost use Rattle.rhai_base.specs.Reading.{value_of};
-ghost use Rattle.rhai_known.specs.Bindings.{read};
-ghost use Rattle.rhai_known.specs.State.{progress};
+ghost use Rattle.opt_known.specs.Bindings.{read};
+ghost use Rattle.opt_known.specs.State.{progress};
 ghost use Rattle.rhai_optimizer.specs.Scopes.{constants_onto, given_onto, known_onto};
-ghost use Rattle.rhai_engine.specs.EngineInfo.{engine_of};
+ghost use Rattle.base_engine.specs.EngineInfo.{engine_of};
 
+use base_engine::EngineInfo;
+use opt_known::OptimizerState;
 use rhai_base::{Dynamic, ImmutableString, OutOfMemory, Scope};
-use rhai_engine::EngineInfo;
-use rhai_known::OptimizerState;
 use std::alloc::Global;
 use std::borrow::Cow;
 

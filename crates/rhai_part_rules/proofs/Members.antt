@@ -2,15 +2,15 @@
 use Rattle.std.proofs.Common.{◌≡◌, ℕ, zero, suc, ◌<◌, ◌≤◌, ◌+◌, ◌-◌, true, false, cond, List, [], ◌∷◌, ◌++◌, length, map, get_or, Option, Some, None, Bor, refl, sym, ap, ◌∙◌, append_assoc, arith}
 use Rattle.std.specs.Prelude.{ℤ}
 use Rattle.std.proofs.lemmas.List.{append-nil}
-use Rattle.rhai_tokens.specs.declared.ident.Ident.{Ident}
+use Rattle.base_tokens.specs.declared.ident.Ident.{Ident}
 use Rattle.rhai_base.specs.Value.{Text, same_text}
-use Rattle.rhai_meaning.specs.Elements.{at_index, index_in}
-use Rattle.rhai_meaning.specs.Engine.{or_else}
+use Rattle.theory_meaning.specs.Elements.{at_index, index_in}
+use Rattle.theory_meaning.specs.Engine.{or_else}
 use Rattle.std.specs.Slice.{IsItemAt}
-use Rattle.rhai_meaning.specs.Tree.{Expr, UnitConstant, count_exprs}
-use Rattle.rhai_tree.specs.Reading.{expr_of, exprs_of, pairs_of}
-use Rattle.rhai_rewriting.specs.Indexing.{expr_at, pair_for, or_unit}
-use Rattle.rhai_tree.specs.declared.expr.Expr as declared_expr
+use Rattle.theory_meaning.specs.Tree.{Expr, UnitConstant, count_exprs}
+use Rattle.ast_types.specs.Reading.{expr_of, exprs_of, pairs_of}
+use Rattle.theory_rewriting.specs.Indexing.{expr_at, pair_for, or_unit}
+use Rattle.ast_types.specs.declared.expr.Expr as declared_expr
 use Rattle.rhai_part_rules.specs.Literals.{member_at, found_item, found_member}
 use Rattle.rhai_part_rules.specs.declared.literals.Found.TheVariants.{At, Missing}
 

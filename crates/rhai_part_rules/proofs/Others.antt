@@ -5,21 +5,21 @@ use Rattle.rhai_base.specs.declared.dynamic.Dynamic.{Dynamic}
 use Rattle.rhai_base.specs.declared.dynamic.Dynamic.TheVariants as dynamic
 use Rattle.rhai_base.specs.Reading.{DynamicCase, int_case, str_case, array_case, map_case}
 use Rattle.rhai_base.specs.Value.{Text, Value, Values, Fields, IntV, TextV, ArrayV, MapV}
-use Rattle.rhai_tokens.specs.declared.token.Token.{Token}
+use Rattle.base_tokens.specs.declared.token.Token.{Token}
 use Rattle.rhai_base.specs.Operators.{Operator}
 use Rattle.rhai_base.specs.Builtin.{operator_of}
-use Rattle.rhai_tree.specs.declared.expr.Expr as declared_expr
-use Rattle.rhai_tree.specs.declared.expr.Expr.TheVariants as expr_kind
-use Rattle.rhai_tree.specs.Reading.{exprs_of, pairs_of, mark_by, mark_of}
-use Rattle.rhai_tree.proofs.Cases.{ExprCase, integer_constant_case, dynamic_constant_case, interpolated_string_case, array_case as array_expr, map_case as map_expr, variable_case, property_case, method_call_case}
-use Rattle.rhai_meaning.specs.Constants.{constant_value, constant_values, constant_entries, array_value, map_value, joined_value}
-use Rattle.rhai_meaning.specs.Engine.{Engine}
-use Rattle.rhai_meaning.specs.Tree.{Expr, UnitConstant, Pairs}
-use Rattle.rhai_tokens.specs.declared.position.Position.{Position}
-use Rattle.rhai_rewriting.specs.Answering.{property_of}
-use Rattle.rhai_rewriting.specs.Clear.{known_value}
-use Rattle.rhai_rewriting.specs.Indexing.{indexed}
-use Rattle.rhai_rewriting.specs.Known.{Known}
+use Rattle.ast_types.specs.declared.expr.Expr as declared_expr
+use Rattle.ast_types.specs.declared.expr.Expr.TheVariants as expr_kind
+use Rattle.ast_types.specs.Reading.{exprs_of, pairs_of, mark_by, mark_of}
+use Rattle.ast_types.proofs.Cases.{ExprCase, integer_constant_case, dynamic_constant_case, interpolated_string_case, array_case as array_expr, map_case as map_expr, variable_case, property_case, method_call_case}
+use Rattle.theory_meaning.specs.Constants.{constant_value, constant_values, constant_entries, array_value, map_value, joined_value}
+use Rattle.theory_meaning.specs.Engine.{Engine}
+use Rattle.theory_meaning.specs.Tree.{Expr, UnitConstant, Pairs}
+use Rattle.base_tokens.specs.declared.position.Position.{Position}
+use Rattle.theory_rewriting.specs.Answering.{property_of}
+use Rattle.theory_rewriting.specs.Clear.{known_value}
+use Rattle.theory_rewriting.specs.Indexing.{indexed}
+use Rattle.theory_rewriting.specs.Known.{Known}
 use Rattle.rhai_steps.proofs.NodeKinds.{NoArray, NoMap, NoVariable, NoMethod}
 use Rattle.rhai_part_rules.specs.Answers.{whole_value, has_no_token, is_empty, member_answer, entry_of, known_answer}
 use Rattle.rhai_part_rules.specs.Literals.{integer_of, property_for, entry_for, literal_part, found_part}

@@ -1,14 +1,14 @@
 -- What a step answers by value: at a constant, and at a name that is known as a constant map.
 use Rattle.std.specs.Prelude.{Bool, true, false, ◌&&◌, not, List, Option, Some, None, codes, if◌then◌else◌}
 use Rattle.rhai_base.specs.Value.{Text, Value, BoolV, TextV, MapV, same_text, is_unit}
-use Rattle.rhai_meaning.specs.Constants.{constant_value}
-use Rattle.rhai_meaning.specs.Elements.{at_index, entry}
-use Rattle.rhai_meaning.specs.Engine.{Engine, mapped_type_name}
-use Rattle.rhai_meaning.specs.Shape.{is_none}
-use Rattle.rhai_meaning.specs.Tree.{CallToken, NoToken, Callee, Expr, ArrayOf, MapOf, Property, MethodCall, Exprs, no_exprs, expr}
-use Rattle.rhai_rewriting.specs.Answering.{property_of, index_of}
-use Rattle.rhai_rewriting.specs.Clear.{known_value}
-use Rattle.rhai_rewriting.specs.Known.{Known}
+use Rattle.theory_meaning.specs.Constants.{constant_value}
+use Rattle.theory_meaning.specs.Elements.{at_index, entry}
+use Rattle.theory_meaning.specs.Engine.{Engine, mapped_type_name}
+use Rattle.theory_meaning.specs.Shape.{is_none}
+use Rattle.theory_meaning.specs.Tree.{CallToken, NoToken, Callee, Expr, ArrayOf, MapOf, Property, MethodCall, Exprs, no_exprs, expr}
+use Rattle.theory_rewriting.specs.Answering.{property_of, index_of}
+use Rattle.theory_rewriting.specs.Clear.{known_value}
+use Rattle.theory_rewriting.specs.Known.{Known}
 
 -- ---- at a constant
 

@@ -1,11 +1,11 @@
 -- What a step answers at the literal of an array or a map: one of its parts.
 use Rattle.std.specs.Prelude.{ℕ, zero, suc, Bool, true, false, Option, Some, None, ℤ, if◌then◌else◌}
 use Rattle.rhai_base.specs.Value.{Value, IntV, TextV}
-use Rattle.rhai_meaning.specs.Constants.{constant_value}
-use Rattle.rhai_meaning.specs.Elements.{at_index, index_in}
-use Rattle.rhai_meaning.specs.Queries.{is_pure_expr, is_unit}
-use Rattle.rhai_meaning.specs.Tree.{Expr, UnitConstant, ArrayOf, MapOf, Property, Exprs, count_exprs, Pairs, no_pairs, pair}
-use Rattle.rhai_rewriting.specs.Indexing.{expr_at, pair_for, or_unit}
+use Rattle.theory_meaning.specs.Constants.{constant_value}
+use Rattle.theory_meaning.specs.Elements.{at_index, index_in}
+use Rattle.theory_meaning.specs.Queries.{is_pure_expr, is_unit}
+use Rattle.theory_meaning.specs.Tree.{Expr, UnitConstant, ArrayOf, MapOf, Property, Exprs, count_exprs, Pairs, no_pairs, pair}
+use Rattle.theory_rewriting.specs.Indexing.{expr_at, pair_for, or_unit}
 use Rattle.rhai_part_rules.specs.declared.literals.Found.{Found}
 use Rattle.rhai_part_rules.specs.declared.literals.Found.TheVariants.{At, Missing}
 

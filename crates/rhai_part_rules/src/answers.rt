@@ -1,29 +1,29 @@
 //! What a step answers at a constant, by value. What answers nothing takes no memory; of an array, a text or a map one
 //! part is copied alone.
 
-#![tactic(auto, using(rhai_tree::specs::Reading::shapes, rhai_base::specs::Reading::kinds, crate::proofs::Others::kinds_of_values))]
+#![tactic(auto, using(ast_types::specs::Reading::shapes, rhai_base::specs::Reading::kinds, crate::proofs::Others::kinds_of_values))]
 
 ghost use Rattle.std.specs.Prelude.{◌≡◌, IfOk, Some, false};
 ghost use Rattle.std.specs.Option.{option_copied, option_map};
 ghost use Rattle.rhai_base.specs.Reading.{value_of};
 ghost use Rattle.rhai_base.specs.Value.{BoolV, IntV, TextV};
-ghost use Rattle.rhai_tree.specs.Reading.{callee_of, expr_of, exprs_of, is_negated, mark_of};
-ghost use Rattle.rhai_meaning.specs.Constants as constants;
-ghost use Rattle.rhai_meaning.specs.Elements as elements;
-ghost use Rattle.rhai_meaning.specs.Engine.{mapped_type_name};
+ghost use Rattle.ast_types.specs.Reading.{callee_of, expr_of, exprs_of, is_negated, mark_of};
+ghost use Rattle.theory_meaning.specs.Constants as constants;
+ghost use Rattle.theory_meaning.specs.Elements as elements;
+ghost use Rattle.theory_meaning.specs.Engine.{mapped_type_name};
 ghost use Rattle.rhai_nodes.specs.Lent.{lent_value};
-ghost use Rattle.rhai_engine.specs.EngineInfo.{engine_of};
-ghost use Rattle.rhai_rewriting.specs.Answering as answering;
-ghost use Rattle.rhai_rewriting.specs.Indexing as indexing;
+ghost use Rattle.base_engine.specs.EngineInfo.{engine_of};
+ghost use Rattle.theory_rewriting.specs.Answering as answering;
+ghost use Rattle.theory_rewriting.specs.Indexing as indexing;
 ghost use Rattle.rhai_part_rules.specs.Answers as answers;
 ghost use Rattle.rhai_walk.specs.Nodes.{is_dot};
 
 use crate::asking::Reach;
+use base_engine::EngineInfo;
 use bitflags::Flags;
 use rhai_ast::{ChainType, Expr, FnCallExpr, Literals};
 use rhai_base::{ASTFlags, Dynamic, INT, ImmutableString, OutOfMemory};
-use rhai_engine::EngineInfo;
-use rhai_places::{bit, character, element, entry};
+use run_places::{bit, character, element, entry};
 use std::alloc::Global;
 use std::borrow::Cow;
 

@@ -1,15 +1,15 @@
 //! What a step answers at a name that is known as a constant map.
 
-#![tactic(auto, using(rhai_tree::specs::Reading::shapes, rhai_base::specs::Reading::kinds, crate::proofs::Others::kinds_of_values))]
+#![tactic(auto, using(ast_types::specs::Reading::shapes, rhai_base::specs::Reading::kinds, crate::proofs::Others::kinds_of_values))]
 
 ghost use Rattle.std.specs.Prelude.{◌≡◌, IfOk, Some, true};
 ghost use Rattle.std.specs.Option.{option_copied, option_map};
 ghost use Rattle.rhai_base.specs.Reading.{value_of};
-ghost use Rattle.rhai_tree.specs.Reading.{expr_of};
-ghost use Rattle.rhai_meaning.specs.Constants as constants;
-ghost use Rattle.rhai_known.specs.State.{progress};
-ghost use Rattle.rhai_rewriting.specs.Answering as answering;
-ghost use Rattle.rhai_rewriting.specs.Clear as clear;
+ghost use Rattle.ast_types.specs.Reading.{expr_of};
+ghost use Rattle.theory_meaning.specs.Constants as constants;
+ghost use Rattle.opt_known.specs.State.{progress};
+ghost use Rattle.theory_rewriting.specs.Answering as answering;
+ghost use Rattle.theory_rewriting.specs.Clear as clear;
 ghost use Rattle.rhai_part_rules.specs.Answers as answers;
 ghost use Rattle.rhai_walk.specs.Nodes.{is_dot};
 

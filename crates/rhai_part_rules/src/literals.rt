@@ -1,16 +1,16 @@
 //! Parts of the literals of arrays and maps: which one a step answers, by reference, and then that one out of its
 //! place. The others stay where they are.
 
-#![tactic(auto, using(rhai_tree::specs::Reading::shapes, rhai_base::specs::Reading::kinds, crate::proofs::Others::kinds_of_values))]
+#![tactic(auto, using(ast_types::specs::Reading::shapes, rhai_base::specs::Reading::kinds, crate::proofs::Others::kinds_of_values))]
 
 ghost use Rattle.std.specs.Prelude.{◌≡◌, ◌<◌, IfOk, IfSome, Some};
 ghost use Rattle.std.specs.Option.{option_map};
 ghost use Rattle.rhai_base.specs.Reading.{value_of};
-ghost use Rattle.rhai_tree.specs.Reading.{expr_of, exprs_of, pairs_of};
-ghost use Rattle.rhai_meaning.specs.Constants as constants;
-ghost use Rattle.rhai_meaning.specs.Elements as elements;
-ghost use Rattle.rhai_meaning.specs.Queries as queries;
-ghost use Rattle.rhai_rewriting.specs.Indexing as indexing;
+ghost use Rattle.ast_types.specs.Reading.{expr_of, exprs_of, pairs_of};
+ghost use Rattle.theory_meaning.specs.Constants as constants;
+ghost use Rattle.theory_meaning.specs.Elements as elements;
+ghost use Rattle.theory_meaning.specs.Queries as queries;
+ghost use Rattle.theory_rewriting.specs.Indexing as indexing;
 ghost use Rattle.rhai_walk.specs.Nodes.{is_dot};
 ghost use Rattle.rhai_part_rules.specs.Literals as literals;
 

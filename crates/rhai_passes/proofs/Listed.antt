@@ -1,10 +1,10 @@
 -- What is claimed of each expression of a list, for changes of lists.
-use Rattle.rhai_meaning.specs.Engine.{Engine}
-use Rattle.rhai_meaning.specs.Tree.{Expr, Exprs, no_exprs, expr}
-use Rattle.rhai_rewriting.specs.Clear.{IsClearExpr, AreClearExprs}
-use Rattle.rhai_rewriting.specs.Known.{Known}
-use Rattle.rhai_rewriting.specs.Residue.{IsReducedExpr, AreReducedExprs}
-use Rattle.rhai_rewriting.specs.Steps.{AnswersNone, AnswerNone}
+use Rattle.theory_meaning.specs.Engine.{Engine}
+use Rattle.theory_meaning.specs.Tree.{Expr, Exprs, no_exprs, expr}
+use Rattle.theory_rewriting.specs.Clear.{IsClearExpr, AreClearExprs}
+use Rattle.theory_rewriting.specs.Known.{Known}
+use Rattle.theory_rewriting.specs.Residue.{IsReducedExpr, AreReducedExprs}
+use Rattle.theory_rewriting.specs.Steps.{AnswersNone, AnswerNone}
 use Rattle.std.specs.Prelude.{List}
 
 -- F holds of a list where E holds of each

@@ -1,14 +1,14 @@
 -- Passes over the parts of a node.
 use Rattle.std.proofs.Common.{◌≡◌, ◌<◌, Bool, true, false, refl, sym, ◌∙◌, subst, arith}
-use Rattle.rhai_meaning.specs.Engine.{Engine}
-use Rattle.rhai_meaning.specs.Tree.{Expr, Exprs}
-use Rattle.rhai_meaning.specs.Weight.{expr_weight}
-use Rattle.rhai_rewriting.specs.Context.{Context}
-use Rattle.rhai_rewriting.specs.Rewriting.{ExprTo, same_expr, then_expr, by_expr_rule}
-use Rattle.rhai_rewriting.specs.Rules.{ExprRule}
-use Rattle.rhai_rewriting.specs.Steps.{Progress, here, Place, MayBecome, ExprSoFar, ExprFired, ExprRewrite, KeepsExprParts}
-use Rattle.rhai_rewriting.proofs.Firing.{expr_then, may_then, expr_fired_falls}
-use Rattle.rhai_rewriting.proofs.Weights.{expr_falls}
+use Rattle.theory_meaning.specs.Engine.{Engine}
+use Rattle.theory_meaning.specs.Tree.{Expr, Exprs}
+use Rattle.theory_meaning.specs.Weight.{expr_weight}
+use Rattle.theory_rewriting.specs.Context.{Context}
+use Rattle.theory_rewriting.specs.Rewriting.{ExprTo, same_expr, then_expr, by_expr_rule}
+use Rattle.theory_rewriting.specs.Rules.{ExprRule}
+use Rattle.theory_rewriting.specs.Steps.{Progress, here, Place, MayBecome, ExprSoFar, ExprFired, ExprRewrite, KeepsExprParts}
+use Rattle.theory_rewriting.proofs.Firing.{expr_then, may_then, expr_fired_falls}
+use Rattle.theory_rewriting.proofs.Weights.{expr_falls}
 use Rattle.rhai_steps.specs.NodeSteps.{ExprStep}
 use Rattle.rhai_passes.specs.Passes.{InTurn, no_change, one_more, NodePass, ExprPass, PassStep}
 

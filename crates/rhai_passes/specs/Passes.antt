@@ -1,11 +1,11 @@
 -- Rules at a node, several in one pass over its parts.
 use Rattle.std.specs.Prelude.{◌≡◌, ◌<◌, Bool, true, false}
-use Rattle.rhai_meaning.specs.Engine.{Engine}
-use Rattle.rhai_meaning.specs.Tree.{Expr, Exprs}
-use Rattle.rhai_meaning.specs.Weight.{expr_weight}
-use Rattle.rhai_rewriting.specs.Context.{Context}
-use Rattle.rhai_rewriting.specs.Rewriting.{ExprTo}
-use Rattle.rhai_rewriting.specs.Steps.{Progress, here, Place, MayBecome, KeepsExprParts, ExprKept}
+use Rattle.theory_meaning.specs.Engine.{Engine}
+use Rattle.theory_meaning.specs.Tree.{Expr, Exprs}
+use Rattle.theory_meaning.specs.Weight.{expr_weight}
+use Rattle.theory_rewriting.specs.Context.{Context}
+use Rattle.theory_rewriting.specs.Rewriting.{ExprTo}
+use Rattle.theory_rewriting.specs.Steps.{Progress, here, Place, MayBecome, KeepsExprParts, ExprKept}
 
 -- changes of a list, one after another
 pub data InTurn (R : Exprs → Exprs → Type 0) : Exprs → Exprs → Type 0 where

@@ -3,10 +3,10 @@
 #![tactic(auto)]
 
 ghost use Rattle.std.specs.Prelude.{◌≡◌, ◌≢◌, ◌<◌, ◌≤◌, ◌+◌, ◌++◌, ◌∷◌, [], MatchOption, length, take, drop, slice_index_or};
-ghost use Rattle.rhai_tree.specs.declared.expr.Expr.{Expr};
+ghost use Rattle.ast_types.specs.declared.expr.Expr.{Expr};
 
+use ast_types::Expr;
 use rhai_base::Seq;
-use rhai_tree::Expr;
 use std::alloc::Global;
 use std::mem::replace;
 

@@ -1,11 +1,11 @@
 -- Members of a map of constants, one by one.
 use Rattle.std.proofs.Common.{◌≡◌, ℕ, suc, ◌+◌, ◌<◌, Bool, ◌&&◌, List, ◌∷◌, is_some, length, get_or, drop, add-one}
 use Rattle.std.proofs.Math.Seq.{drop-cons}
-use Rattle.rhai_tokens.specs.declared.ident.Ident.{Ident}
-use Rattle.rhai_tree.specs.declared.expr.Expr.{Expr}
-use Rattle.rhai_meaning.specs.Constants.{constant_entries, constant_value, is_constant}
-use Rattle.rhai_tree.specs.Reading.{expr_of, pairs_of}
-use Rattle.rhai_tree.proofs.ItemLists.{is_some-entry_and}
+use Rattle.base_tokens.specs.declared.ident.Ident.{Ident}
+use Rattle.ast_types.specs.declared.expr.Expr.{Expr}
+use Rattle.theory_meaning.specs.Constants.{constant_entries, constant_value, is_constant}
+use Rattle.ast_types.specs.Reading.{expr_of, pairs_of}
+use Rattle.ast_types.proofs.ItemLists.{is_some-entry_and}
 
 abbrev pub members_constant : List (Ident × Expr) → Bool
 members_constant ps = is_some (constant_entries (pairs_of ps))

@@ -1,18 +1,18 @@
 -- All other nodes, where a match names some.
 use Rattle.std.proofs.Common.{◌≡◌, Bool, false, Option, refl}
 use Rattle.std.specs.declared.num.NonZeroUsize.{NonZeroUsize}
-use Rattle.rhai_tokens.specs.declared.flags.ASTFlags.{ASTFlags}
-use Rattle.rhai_tokens.specs.declared.ident.Ident.{Ident}
-use Rattle.rhai_tokens.specs.declared.position.Position.{Position}
-use Rattle.rhai_tree.specs.declared.block.StmtBlock.{StmtBlock}
-use Rattle.rhai_tree.specs.declared.expr.Expr as declared_expr
-use Rattle.rhai_tree.specs.declared.expr.Expr.TheVariants as expr_kind
-use Rattle.rhai_tree.specs.declared.expr.FnCallExpr.{FnCallExpr}
-use Rattle.rhai_tree.specs.declared.stmt.Stmt as declared_stmt
-use Rattle.rhai_tree.specs.declared.stmt.Stmt.TheVariants as stmt_kind
-use Rattle.rhai_meaning.specs.Queries.{is_block_dependent, is_dependent_expr, is_internally_pure, is_internally_pure_expr, is_literally, is_pure, is_pure_expr}
-use Rattle.rhai_meaning.specs.Tree.{Expr, Stmt}
-use Rattle.rhai_tree.proofs.Cases.{ExprCase, bool_constant_case, braces_case, call_case, StmtCase, call_statement_case, export_case, expression_case, import_case, var_case}
+use Rattle.base_tokens.specs.declared.flags.ASTFlags.{ASTFlags}
+use Rattle.base_tokens.specs.declared.ident.Ident.{Ident}
+use Rattle.base_tokens.specs.declared.position.Position.{Position}
+use Rattle.ast_types.specs.declared.block.StmtBlock.{StmtBlock}
+use Rattle.ast_types.specs.declared.expr.Expr as declared_expr
+use Rattle.ast_types.specs.declared.expr.Expr.TheVariants as expr_kind
+use Rattle.ast_types.specs.declared.expr.FnCallExpr.{FnCallExpr}
+use Rattle.ast_types.specs.declared.stmt.Stmt as declared_stmt
+use Rattle.ast_types.specs.declared.stmt.Stmt.TheVariants as stmt_kind
+use Rattle.theory_meaning.specs.Queries.{is_block_dependent, is_dependent_expr, is_internally_pure, is_internally_pure_expr, is_literally, is_pure, is_pure_expr}
+use Rattle.theory_meaning.specs.Tree.{Expr, Stmt}
+use Rattle.ast_types.proofs.Cases.{ExprCase, bool_constant_case, braces_case, call_case, StmtCase, call_statement_case, export_case, expression_case, import_case, var_case}
 
 -- it is none of these
 abbrev NoBraces : declared_expr.Expr → Type 0

@@ -3,23 +3,23 @@ use Rattle.std.proofs.Common.{◌≡◌, ◌↔◌, ℕ, zero, suc, Bool, true, 
 use Rattle.std.proofs.lemmas.Bool.Decides.{nat_tests}
 use Rattle.std.proofs.lemmas.Cmp.{nat_eq_equiv}
 use Rattle.std.specs.List.{list_all, list_any}
-use Rattle.rhai_tokens.specs.declared.error.AstError.{AstError}
-use Rattle.rhai_tokens.specs.declared.error.AstError.TheVariants.{SwitchIndex, SwitchDefaultCondition, SwitchDefaultShared, SwitchKey}
+use Rattle.base_tokens.specs.declared.error.AstError.{AstError}
+use Rattle.base_tokens.specs.declared.error.AstError.TheVariants.{SwitchIndex, SwitchDefaultCondition, SwitchDefaultShared, SwitchKey}
 use Rattle.rhai_base.specs.declared.range_case.RangeCase.{RangeCase}
 use Rattle.rhai_base.specs.Ranges.{index_of}
-use Rattle.rhai_tokens.specs.Names.{are_all}
+use Rattle.base_tokens.specs.Names.{are_all}
 use Rattle.rhai_base.specs.declared.dynamic.Dynamic.{Dynamic}
 use Rattle.rhai_base.specs.Value.{is_hashable}
 use Rattle.rhai_base.specs.Reading.{value_of}
-use Rattle.rhai_tree.specs.declared.expr.BinaryExpr.{BinaryExpr}
+use Rattle.ast_types.specs.declared.expr.BinaryExpr.{BinaryExpr}
 use Rattle.rhai_base.specs.declared.cases.CaseBlocksList.{CaseBlocksList}
-use Rattle.rhai_meaning.specs.Queries.{is_literally}
-use Rattle.rhai_meaning.specs.Shape as shape
-use Rattle.rhai_meaning.specs.Tree.{Expr, BoolConstant, Arms, no_arms, arm, count_arms}
-use Rattle.rhai_tree.specs.Reading.{arms_of, case_of, expr_of, range_of, table_by}
+use Rattle.theory_meaning.specs.Queries.{is_literally}
+use Rattle.theory_meaning.specs.Shape as shape
+use Rattle.theory_meaning.specs.Tree.{Expr, BoolConstant, Arms, no_arms, arm, count_arms}
+use Rattle.ast_types.specs.Reading.{arms_of, case_of, expr_of, range_of, table_by}
 use Rattle.rhai_queries.specs.SwitchTables.{are_keys, default_at, default_tested, lists_name, lists_within, ranges_name, ranges_within, refusal, RefusalLaw}
-use Rattle.rhai_meaning.proofs.Truth.{and_assoc}
-use Rattle.rhai_tree.proofs.Ranges.{range_arm}
+use Rattle.theory_meaning.proofs.Truth.{and_assoc}
+use Rattle.ast_types.proofs.Ranges.{range_arm}
 
 abbrev pub is_accepted : Option AstError → Bool
 is_accepted None = true

@@ -3,12 +3,12 @@ use Rattle.std.proofs.Common.{◌≡◌, ℕ, zero, suc, Bool, true, ◌&&◌, L
 use Rattle.std.proofs.Math.Seq.{drop-cons, drop-length}
 use Rattle.rhai_base.specs.declared.range_case.RangeCase.{RangeCase}
 use Rattle.rhai_base.specs.Ranges.{index_of}
-use Rattle.rhai_tree.specs.declared.expr.BinaryExpr.{BinaryExpr}
-use Rattle.rhai_meaning.specs.Queries.{ArmPurity, answer_is_pure, arm_purities, is_pure_arm, listed_arms_are_pure}
-use Rattle.rhai_meaning.specs.Walk.{arm_at, arms_of_ranges}
-use Rattle.rhai_tree.specs.Reading.{arms_of, range_of}
-use Rattle.rhai_meaning.proofs.Truth.{and_assoc}
-use Rattle.rhai_tree.proofs.Ranges.{range_arm}
+use Rattle.ast_types.specs.declared.expr.BinaryExpr.{BinaryExpr}
+use Rattle.theory_meaning.specs.Queries.{ArmPurity, answer_is_pure, arm_purities, is_pure_arm, listed_arms_are_pure}
+use Rattle.theory_meaning.specs.Walk.{arm_at, arms_of_ranges}
+use Rattle.ast_types.specs.Reading.{arms_of, range_of}
+use Rattle.theory_meaning.proofs.Truth.{and_assoc}
+use Rattle.ast_types.proofs.Ranges.{range_arm}
 use Rattle.rhai_queries.specs.Arms.{has_pure_answer, is_pure_if_any}
 
 -- one list of places after another

@@ -1,8 +1,8 @@
 -- Purity of an arm of a `switch`, where the table has it.
 use Rattle.std.specs.Prelude.{Bool, true, false, ◌&&◌, Option, Some, None}
-use Rattle.rhai_tree.specs.declared.expr.BinaryExpr.{BinaryExpr}
-use Rattle.rhai_meaning.specs.Queries.{is_pure_expr}
-use Rattle.rhai_tree.specs.Reading.{expr_of}
+use Rattle.ast_types.specs.declared.expr.BinaryExpr.{BinaryExpr}
+use Rattle.theory_meaning.specs.Queries.{is_pure_expr}
+use Rattle.ast_types.specs.Reading.{expr_of}
 
 -- its condition and its answer; no arm asks nothing
 abbrev pub is_pure_if_any : Option BinaryExpr → Bool

@@ -1,6 +1,6 @@
 -- The operators of tokens.
 use Rattle.std.specs.Prelude.{ℕ, Option, option_map}
-use Rattle.rhai_tokens.specs.declared.token.Token.{Token}
+use Rattle.base_tokens.specs.declared.token.Token.{Token}
 use Rattle.rhai_base.specs.Operators.{arity}
 use Rattle.rhai_base.specs.Builtin.{operator_of}
 

@@ -4,15 +4,15 @@ use Rattle.std.specs.List.{list_all, list_any}
 use Rattle.rhai_base.specs.declared.dynamic.Dynamic.{Dynamic}
 use Rattle.rhai_base.specs.Value.{is_hashable}
 use Rattle.rhai_base.specs.Reading.{value_of}
-use Rattle.rhai_tokens.specs.declared.error.AstError.{AstError}
-use Rattle.rhai_tokens.specs.declared.error.AstError.TheVariants.{SwitchIndex, SwitchDefaultCondition, SwitchDefaultShared, SwitchKey}
-use Rattle.rhai_tree.specs.declared.expr.BinaryExpr.{BinaryExpr}
+use Rattle.base_tokens.specs.declared.error.AstError.{AstError}
+use Rattle.base_tokens.specs.declared.error.AstError.TheVariants.{SwitchIndex, SwitchDefaultCondition, SwitchDefaultShared, SwitchKey}
+use Rattle.ast_types.specs.declared.expr.BinaryExpr.{BinaryExpr}
 use Rattle.rhai_base.specs.declared.cases.CaseBlocksList.{CaseBlocksList}
 use Rattle.rhai_base.specs.declared.range_case.RangeCase.{RangeCase}
 use Rattle.rhai_base.specs.Ranges.{index_of}
-use Rattle.rhai_meaning.specs.Queries.{is_literally}
-use Rattle.rhai_meaning.specs.Shape.{is_table}
-use Rattle.rhai_tree.specs.Reading.{arms_of, expr_of, table_by}
+use Rattle.theory_meaning.specs.Queries.{is_literally}
+use Rattle.theory_meaning.specs.Shape.{is_table}
+use Rattle.ast_types.specs.Reading.{arms_of, expr_of, table_by}
 
 abbrev pub are_keys : List (Dynamic × CaseBlocksList) → Bool
 are_keys cases = list_all (λ e. is_hashable (value_of e.0)) cases

@@ -1,12 +1,12 @@
 //! Dependence on the list around.
 
-#![tactic(auto, using(rhai_tree::specs::Reading::shapes, rhai_tree::proofs::ItemLists::steps))]
+#![tactic(auto, using(ast_types::specs::Reading::shapes, ast_types::proofs::ItemLists::steps))]
 
 ghost use Rattle.std.specs.Prelude.{◌≡◌};
-ghost use Rattle.rhai_tree.specs.Reading.{callee_of, expr_of, stmt_of, stmts_of};
-ghost use Rattle.rhai_meaning.specs.Queries as queries;
+ghost use Rattle.ast_types.specs.Reading.{callee_of, expr_of, stmt_of, stmts_of};
+ghost use Rattle.theory_meaning.specs.Queries as queries;
 
-use rhai_tree::{Expr, FnCallExpr, Stmt};
+use ast_types::{Expr, FnCallExpr, Stmt};
 
 /// Whether it belongs to the list in which it stands.
 #[cycle(dependent)]

@@ -1,14 +1,14 @@
 //! Constants.
 
-#![tactic(auto, using(rhai_tree::specs::Reading::shapes, rhai_tree::proofs::ItemLists::steps))]
+#![tactic(auto, using(ast_types::specs::Reading::shapes, ast_types::proofs::ItemLists::steps))]
 
 ghost use Rattle.std.specs.Prelude.{◌≡◌, is_some};
-ghost use Rattle.rhai_tree.specs.Reading.{expr_of, exprs_of, pairs_of};
-ghost use Rattle.rhai_meaning.specs.Constants as constants;
-ghost use Rattle.rhai_meaning.specs.Queries as queries;
+ghost use Rattle.ast_types.specs.Reading.{expr_of, exprs_of, pairs_of};
+ghost use Rattle.theory_meaning.specs.Constants as constants;
+ghost use Rattle.theory_meaning.specs.Queries as queries;
 
+use ast_types::Expr;
 use rhai_base::Ident;
-use rhai_tree::Expr;
 
 /// Whether it is a constant: one of the constant kinds, or an array, a map or a text all of whose parts are.
 #[cycle(constant)]

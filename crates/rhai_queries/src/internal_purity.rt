@@ -1,13 +1,13 @@
 //! Purity but for names that the list around takes away.
 
-#![tactic(auto, using(rhai_tree::specs::Reading::shapes, rhai_tree::proofs::ItemLists::steps))]
+#![tactic(auto, using(ast_types::specs::Reading::shapes, ast_types::proofs::ItemLists::steps))]
 
 ghost use Rattle.std.specs.Prelude.{◌≡◌};
-ghost use Rattle.rhai_tree.specs.Reading.{expr_of, stmt_of, stmts_of};
-ghost use Rattle.rhai_meaning.specs.Queries as queries;
+ghost use Rattle.ast_types.specs.Reading.{expr_of, stmt_of, stmts_of};
+ghost use Rattle.theory_meaning.specs.Queries as queries;
 
 use crate::purity::{is_pure, is_pure_expr};
-use rhai_tree::{Expr, Stmt};
+use ast_types::{Expr, Stmt};
 
 /// Whether it is pure but for a name that its list takes away.
 #[cycle(internally_pure)]

@@ -3,12 +3,12 @@
 #![tactic(auto, using(rhai_base::specs::Reading::kinds))]
 
 ghost use Rattle.std.specs.Prelude.{◌≡◌, length};
-ghost use Rattle.rhai_tree.specs.Reading.{callee_of, mark_of};
-ghost use Rattle.rhai_meaning.specs.Shape.{has_token};
+ghost use Rattle.ast_types.specs.Reading.{callee_of, mark_of};
+ghost use Rattle.theory_meaning.specs.Shape.{has_token};
 ghost use Rattle.rhai_queries.specs.Operators.{token_arity};
 
+use ast_types::FnCallExpr;
 use rhai_base::Token;
-use rhai_tree::FnCallExpr;
 
 /// Whether a call has all that one of the token's operator has: no namespace, the operator's name, as many
 /// arguments as it has operands, and no sight of the caller's scope.

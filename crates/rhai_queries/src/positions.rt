@@ -1,13 +1,13 @@
 //! Where nodes stand.
 
-#![tactic(auto, using(rhai_tree::specs::Positions::places))]
+#![tactic(auto, using(ast_types::specs::Positions::places))]
 
 ghost use Rattle.std.specs.Prelude.{◌≡◌, map};
-ghost use Rattle.rhai_tree.specs.Defaults.{nowhere};
-ghost use Rattle.rhai_tree.specs.Positions.{first_or, position_of, start_of, stmt_position_of};
+ghost use Rattle.ast_types.specs.Defaults.{nowhere};
+ghost use Rattle.ast_types.specs.Positions.{first_or, position_of, start_of, stmt_position_of};
 
+use ast_types::{Expr, Stmt};
 use rhai_base::{Ident, Position};
-use rhai_tree::{Expr, Stmt};
 use std::num::NonZeroUsize;
 
 /// Where an expression stands; a block where it begins.

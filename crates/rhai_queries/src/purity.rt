@@ -1,17 +1,17 @@
 //! Purity: whether a run calls nothing, throws nothing and changes nothing.
 
-#![tactic(auto, using(rhai_tree::specs::Reading::shapes, rhai_tree::proofs::ItemLists::steps, crate::proofs::Tables::tables))]
+#![tactic(auto, using(ast_types::specs::Reading::shapes, ast_types::proofs::ItemLists::steps, crate::proofs::Tables::tables))]
 
 ghost use Rattle.std.specs.Prelude.{◌≡◌, ◌&&◌, true, map, slice_get};
 ghost use Rattle.rhai_queries.specs.Arms.{has_pure_answer, is_pure_if_any};
-ghost use Rattle.rhai_tree.specs.Reading.{arms_of, case_of, cases_of, expr_of, expressions_of, exprs_of, pairs_of, range_of, stmt_of, stmts_of, subject_of, table_of};
-ghost use Rattle.rhai_meaning.specs.Queries as queries;
-ghost use Rattle.rhai_meaning.specs.Walk.{arms_of_cases, arms_of_ranges};
+ghost use Rattle.ast_types.specs.Reading.{arms_of, case_of, cases_of, expr_of, expressions_of, exprs_of, pairs_of, range_of, stmt_of, stmts_of, subject_of, table_of};
+ghost use Rattle.theory_meaning.specs.Queries as queries;
+ghost use Rattle.theory_meaning.specs.Walk.{arms_of_cases, arms_of_ranges};
 
 use crate::constants::is_literally;
+use ast_types::{BinaryExpr, Expr, FlowControl, Stmt, SwitchBlock, SwitchCasesCollection};
 use bitflags::Flags;
 use rhai_base::{ASTFlags, Cases, Ident, RangeCase};
-use rhai_tree::{BinaryExpr, Expr, FlowControl, Stmt, SwitchBlock, SwitchCasesCollection};
 
 /// Whether an expression is pure.
 #[cycle(pure)]

@@ -1,16 +1,16 @@
 //! The table of a `switch`: what makes parts no table.
 
-#![tactic(auto, using(rhai_tree::specs::Reading::shapes, rhai_base::specs::Reading::kinds))]
+#![tactic(auto, using(ast_types::specs::Reading::shapes, rhai_base::specs::Reading::kinds))]
 
 ghost use Rattle.std.specs.Prelude.{◌≡◌, ◌==◌, nat_lt};
 ghost use Rattle.std.specs.List.{list_all, list_any};
-ghost use Rattle.rhai_meaning.specs.Shape as shape;
+ghost use Rattle.theory_meaning.specs.Shape as shape;
 ghost use Rattle.rhai_queries.specs.SwitchTables as tables;
-ghost use Rattle.rhai_tree.specs.Reading.{arms_of, expressions_of, table_of};
+ghost use Rattle.ast_types.specs.Reading.{arms_of, expressions_of, table_of};
 
 use crate::constants::is_literally;
+use ast_types::{BinaryExpr, SwitchCasesCollection};
 use rhai_base::{AstError, Cases, RangeCase};
-use rhai_tree::{BinaryExpr, SwitchCasesCollection};
 
 /// Whether it is a table: what `table_refusal` does not refuse.
 pub fn is_table(table: &SwitchCasesCollection) -> bool

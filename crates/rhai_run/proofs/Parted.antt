@@ -1,8 +1,8 @@
 -- The names of a scope and its exports, an entry at a time.
 use Rattle.std.proofs.Common.{◌≡◌, Bool, true, false, cond, List, [], ◌∷◌, ◌++◌, refl, sym, ap, ◌∙◌, append_assoc}
 use Rattle.rhai_base.specs.Value.{Text, Value}
-use Rattle.rhai_meaning.specs.Act.{ScopeEntry, is_name}
-use Rattle.rhai_meaning.specs.Run.{exports, is_export, names}
+use Rattle.theory_meaning.specs.Act.{ScopeEntry, is_name}
+use Rattle.theory_meaning.specs.Run.{exports, is_export, names}
 
 split : {A : Type 0} (b : Bool) (x : A) (xs : List A) → cond b (x ∷ xs) xs ≡ cond b (x ∷ []) [] ++ xs
 split true x xs = refl

@@ -2,28 +2,28 @@
 use Rattle.std.proofs.Common.{◌≡◌, ℕ, true, false, List, [], map, None, Result, Ok, Err, sym, ap, subst, ◌∙◌, arith}
 use Rattle.rhai_base.specs.declared.dynamic.Dynamic.{Dynamic}
 use Rattle.rhai_base.specs.Value.{UnitV}
-use Rattle.rhai_meaning.specs.Act.{ScopeEntry, Host, Outcome, At, Acts, returned, returned_outcome, run_all}
-use Rattle.rhai_meaning.specs.Relations.{store_of as store_after}
-use Rattle.rhai_meaning.specs.Agreeing.{AgreeOn}
-use Rattle.rhai_meaning.specs.Core as core
-use Rattle.rhai_meaning.specs.Desugar.{core_function, core_script, core_stmts}
-use Rattle.rhai_meaning.specs.Engine.{Engine}
-use Rattle.rhai_meaning.specs.Meaning.{acts}
-use Rattle.rhai_meaning.specs.Run.{AtStatements, Report, end_of, exports, names, report_of, run_script, world_of}
-use Rattle.rhai_meaning.specs.Tree.{Script}
-use Rattle.rhai_state.specs.declared.state.Interrupt.{Interrupt}
-use Rattle.rhai_state.specs.declared.state.Interrupt.TheVariants.{NoMemory, Return, Break, Continue, Throw, Stuck, OutOfTurns}
-use Rattle.rhai_state.specs.declared.state.State.{State}
-use Rattle.rhai_host.specs.declared.report.RunEnd.{RunEnd}
-use Rattle.rhai_state.specs.Entries.{entry_meant}
-use Rattle.rhai_state.specs.Evaluating.{EndsAs, RunsStmts}
-use Rattle.rhai_host.specs.Host.{call_meant}
-use Rattle.rhai_host.specs.Report.{end_meant, ReportsRun}
-use Rattle.rhai_state.specs.Runs.{Setting, setting_of, env, Goes, Listing, Over}
-use Rattle.rhai_state.specs.State.{store_of}
-use Rattle.rhai_meaning.proofs.Agreeing.{same_report}
-use Rattle.rhai_evaluator.proofs.Unbound.{unbound_all}
-use Rattle.rhai_state.proofs.Scopes.{reversed_twice}
+use Rattle.theory_meaning.specs.Act.{ScopeEntry, Host, Outcome, At, Acts, returned, returned_outcome, run_all}
+use Rattle.theory_meaning.specs.Relations.{store_of as store_after}
+use Rattle.theory_meaning.specs.Agreeing.{AgreeOn}
+use Rattle.theory_meaning.specs.Core as core
+use Rattle.theory_meaning.specs.Desugar.{core_function, core_script, core_stmts}
+use Rattle.theory_meaning.specs.Engine.{Engine}
+use Rattle.theory_meaning.specs.Meaning.{acts}
+use Rattle.theory_meaning.specs.Run.{AtStatements, Report, end_of, exports, names, report_of, run_script, world_of}
+use Rattle.theory_meaning.specs.Tree.{Script}
+use Rattle.run_state.specs.declared.state.Interrupt.{Interrupt}
+use Rattle.run_state.specs.declared.state.Interrupt.TheVariants.{NoMemory, Return, Break, Continue, Throw, Stuck, OutOfTurns}
+use Rattle.run_state.specs.declared.state.State.{State}
+use Rattle.run_host.specs.declared.report.RunEnd.{RunEnd}
+use Rattle.run_state.specs.Entries.{entry_meant}
+use Rattle.run_state.specs.Evaluating.{EndsAs, RunsStmts}
+use Rattle.run_host.specs.Host.{call_meant}
+use Rattle.run_host.specs.Report.{end_meant, ReportsRun}
+use Rattle.run_state.specs.Runs.{Setting, setting_of, env, Goes, Listing, Over}
+use Rattle.run_state.specs.State.{store_of}
+use Rattle.theory_meaning.proofs.Agreeing.{same_report}
+use Rattle.run_evaluator.proofs.Unbound.{unbound_all}
+use Rattle.run_state.proofs.Scopes.{reversed_twice}
 
 abbrev pub script_setting : Engine → Host → Script → Setting
 script_setting engine host p = let fs = (map core_function p.functions) in setting_of (world_of engine host fs) fs

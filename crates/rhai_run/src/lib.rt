@@ -4,6 +4,6 @@
 
 mod run;
 
-pub use rhai_engine::EngineInfo;
-pub use rhai_host::{Export, Host, HostAnswer, HostCall, RunEnd, RunReport, Stuck, Variable};
+pub use base_engine::EngineInfo;
 pub use run::plain_run;
+pub use run_host::{Export, Host, HostAnswer, HostCall, RunEnd, RunReport, Stuck, Variable};

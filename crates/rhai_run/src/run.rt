@@ -1,21 +1,21 @@
 //! A run of a whole script.
 
 ghost use Rattle.std.specs.Prelude.{◌≡◌, ◌++◌, ◌∷◌, [], map, IfOk, OnOk};
-ghost use Rattle.rhai_meaning.specs.Desugar.{core_script};
+ghost use Rattle.theory_meaning.specs.Desugar.{core_script};
 ghost use Rattle.rhai_script.specs.Script.{script_of};
-ghost use Rattle.rhai_engine.specs.EngineInfo.{engine_of};
-ghost use Rattle.rhai_host.specs.Host.{host_of};
-ghost use Rattle.rhai_host.specs.Report.{report_meant, ReportsRun};
-ghost use Rattle.rhai_host.specs.Entries.{export_meant, start_scope, variable_meant};
-ghost use Rattle.rhai_meaning.specs.Run as left;
-ghost use Rattle.rhai_state.specs.Entries.{entry_meant};
+ghost use Rattle.base_engine.specs.EngineInfo.{engine_of};
+ghost use Rattle.run_host.specs.Host.{host_of};
+ghost use Rattle.run_host.specs.Report.{report_meant, ReportsRun};
+ghost use Rattle.run_host.specs.Entries.{export_meant, start_scope, variable_meant};
+ghost use Rattle.theory_meaning.specs.Run as left;
+ghost use Rattle.run_state.specs.Entries.{entry_meant};
 
 use crate::{EngineInfo, Export, Host, RunReport, Variable};
 use rhai_base::{OutOfMemory, Scope, Seq};
-use rhai_evaluator::Evaluator;
 use rhai_machine::Machine;
 use rhai_script::AST;
-use rhai_state::{Entry, EntryKind, State, run_end};
+use run_evaluator::Evaluator;
+use run_state::{Entry, EntryKind, State, run_end};
 use std::alloc::Global;
 
 /// Runs a script's statements from a scope, with so many turns. It only borrows the script, and uses no rule and no

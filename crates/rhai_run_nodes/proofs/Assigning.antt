@@ -2,16 +2,16 @@
 use Rattle.std.proofs.Common.{◌≡◌, Bool, true, false, not, ◌&&◌, List, [], ◌∷◌, map, Option, Some, None, is_none, Result, Ok, Err, refl, sym, ap, ◌∙◌}
 use Rattle.rhai_base.specs.declared.dynamic.Dynamic.{Dynamic}
 use Rattle.rhai_base.specs.Value.{Value, type_name}
-use Rattle.rhai_tokens.specs.declared.token.Token.{Token}
-use Rattle.rhai_tokens.specs.declared.error.Fault.{Fault}
-use Rattle.rhai_tokens.specs.declared.error.Fault.TheVariants.{Arithmetic}
+use Rattle.base_tokens.specs.declared.token.Token.{Token}
+use Rattle.base_tokens.specs.declared.error.Fault.{Fault}
+use Rattle.base_tokens.specs.declared.error.Fault.TheVariants.{Arithmetic}
 use Rattle.rhai_base.specs.Builtin.{binary_at, computed_of, operator_of, row}
 use Rattle.rhai_base.specs.Operators.{Operator, binary, computed}
-use Rattle.rhai_meaning.specs.Act.{World}
-use Rattle.rhai_meaning.specs.ActForms.{ask_host, choose}
-use Rattle.rhai_meaning.specs.Calls.{assigned, operate}
-use Rattle.rhai_meaning.specs.Engine.{Engine, Override, asks_assigning, assigning, has_entry, has_override, is_overridden}
-use Rattle.rhai_meaning.specs.Shape.{is_none as no_override}
+use Rattle.theory_meaning.specs.Act.{World}
+use Rattle.theory_meaning.specs.ActForms.{ask_host, choose}
+use Rattle.theory_meaning.specs.Calls.{assigned, operate}
+use Rattle.theory_meaning.specs.Engine.{Engine, Override, asks_assigning, assigning, has_entry, has_override, is_overridden}
+use Rattle.theory_meaning.specs.Shape.{is_none as no_override}
 
 entry_by : (r : Option (Result Dynamic Fault)) → is_none r ≡ not (has_entry (computed_of r))
 entry_by None = refl

@@ -1,23 +1,23 @@
 -- Operator calls by their tokens.
 use Rattle.std.proofs.Common.{◌≡◌, ℕ, suc, Bool, true, false, not, ◌&&◌, if◌then◌else◌, List, [], ◌∷◌, length, Option, Some, None, refl, sym, ap, ◌∙◌}
 use Rattle.std.proofs.lemmas.Bool.{and_parts}
-use Rattle.rhai_tokens.specs.declared.token.Token.{Token}
-use Rattle.rhai_tokens.specs.declared.token.Token.TheVariants as token
+use Rattle.base_tokens.specs.declared.token.Token.{Token}
+use Rattle.base_tokens.specs.declared.token.Token.TheVariants as token
 use Rattle.rhai_base.specs.Operators.{Operator, NoEntry, symbol}
 use Rattle.rhai_base.specs.Builtin.{operator_of}
-use Rattle.rhai_tokens.specs.Symbols.{token_text}
+use Rattle.base_tokens.specs.Symbols.{token_text}
 use Rattle.rhai_base.specs.Value.{Text, Value}
-use Rattle.rhai_tree.specs.declared.expr.Expr.{Expr}
-use Rattle.rhai_meaning.specs.Act.{World}
-use Rattle.rhai_meaning.specs.ActForms.{ask_host}
-use Rattle.rhai_meaning.specs.Calls.{called, of_table, operate}
-use Rattle.rhai_meaning.specs.Core as core
-use Rattle.rhai_meaning.specs.Desugar as desugar
-use Rattle.rhai_meaning.specs.Desugar.{callee_by}
-use Rattle.rhai_meaning.specs.Shape.{is_none, has_token, is_barred, is_callable}
-use Rattle.rhai_tree.specs.Reading.{exprs_of}
-use Rattle.rhai_meaning.specs.Tree.{CallToken, NoToken, OfOperator, OfOther, Callee, count_exprs}
-use Rattle.rhai_engine.specs.EngineInfo.{built_in_of, built_in_at}
+use Rattle.ast_types.specs.declared.expr.Expr.{Expr}
+use Rattle.theory_meaning.specs.Act.{World}
+use Rattle.theory_meaning.specs.ActForms.{ask_host}
+use Rattle.theory_meaning.specs.Calls.{called, of_table, operate}
+use Rattle.theory_meaning.specs.Core as core
+use Rattle.theory_meaning.specs.Desugar as desugar
+use Rattle.theory_meaning.specs.Desugar.{callee_by}
+use Rattle.theory_meaning.specs.Shape.{is_none, has_token, is_barred, is_callable}
+use Rattle.ast_types.specs.Reading.{exprs_of}
+use Rattle.theory_meaning.specs.Tree.{CallToken, NoToken, OfOperator, OfOther, Callee, count_exprs}
+use Rattle.base_engine.specs.EngineInfo.{built_in_of, built_in_at}
 use Rattle.rhai_run_nodes.specs.Operators.{operator_by, called_operator}
 use Rattle.rhai_run_nodes.specs.Variables.{in_module}
 

@@ -1,17 +1,17 @@
 -- The nodes of a chain, one after another.
 use Rattle.std.proofs.Common.{◌≡◌, ◌+◌, ◌≤◌, Bool, true, false, cond, refl, sym, ap, ◌∙◌, subst, arith}
 use Rattle.std.specs.Prelude.{IfSome}
-use Rattle.rhai_tokens.specs.declared.flags.ASTFlags.{ASTFlags}
-use Rattle.rhai_tokens.specs.declared.position.Position.{Position}
-use Rattle.rhai_tree.specs.declared.expr.BinaryExpr.{BinaryExpr}
-use Rattle.rhai_tree.specs.declared.expr.Expr.{Expr}
-use Rattle.rhai_tree.specs.declared.expr.Expr.TheVariants as kind
-use Rattle.rhai_tree.specs.Reading.{chain_flags, expr_of, is_negated}
-use Rattle.rhai_tree.proofs.Cases.{ExprCase, expr_cases, dynamic_constant_case, bool_constant_case, integer_constant_case, char_constant_case, string_constant_case, interpolated_string_case, array_case, map_case, unit_case, variable_case, this_ptr_case, property_case, method_call_case, braces_case, call_case, dot_case, index_case, and_case, or_case, coalesce_case}
-use Rattle.rhai_meaning.specs.Core as core
-use Rattle.rhai_meaning.specs.Desugar.{steps_of}
-use Rattle.rhai_meaning.specs.Tree as tree
-use Rattle.rhai_meaning.specs.Weight.{expr_weight}
+use Rattle.base_tokens.specs.declared.flags.ASTFlags.{ASTFlags}
+use Rattle.base_tokens.specs.declared.position.Position.{Position}
+use Rattle.ast_types.specs.declared.expr.BinaryExpr.{BinaryExpr}
+use Rattle.ast_types.specs.declared.expr.Expr.{Expr}
+use Rattle.ast_types.specs.declared.expr.Expr.TheVariants as kind
+use Rattle.ast_types.specs.Reading.{chain_flags, expr_of, is_negated}
+use Rattle.ast_types.proofs.Cases.{ExprCase, expr_cases, dynamic_constant_case, bool_constant_case, integer_constant_case, char_constant_case, string_constant_case, interpolated_string_case, array_case, map_case, unit_case, variable_case, this_ptr_case, property_case, method_call_case, braces_case, call_case, dot_case, index_case, and_case, or_case, coalesce_case}
+use Rattle.theory_meaning.specs.Core as core
+use Rattle.theory_meaning.specs.Desugar.{steps_of}
+use Rattle.theory_meaning.specs.Tree as tree
+use Rattle.theory_meaning.specs.Weight.{expr_weight}
 use Rattle.rhai_run_nodes.specs.declared.links.Link.{Link}
 use Rattle.rhai_run_nodes.specs.declared.links.Rest.{Rest}
 use Rattle.rhai_run_nodes.specs.Links.{IsLast, link_steps, rest_steps, step_core, steps_on}

@@ -2,22 +2,22 @@
 use Rattle.std.proofs.Common.{◌≡◌, true, false, Option, Some, None, refl, sym, ap, subst, ◌∙◌}
 use Rattle.std.specs.declared.num.NonZeroU8.{NonZeroU8}
 use Rattle.std.specs.declared.num.NonZeroUsize.{NonZeroUsize}
-use Rattle.rhai_tokens.specs.declared.position.Position.{Position}
-use Rattle.rhai_tokens.specs.declared.token.Token.{Token}
-use Rattle.rhai_tokens.specs.declared.token.Token.TheVariants as token
-use Rattle.rhai_tokens.specs.Assignments.{is_no_equals}
-use Rattle.rhai_tokens.specs.Tokens.{base_of}
+use Rattle.base_tokens.specs.declared.position.Position.{Position}
+use Rattle.base_tokens.specs.declared.token.Token.{Token}
+use Rattle.base_tokens.specs.declared.token.Token.TheVariants as token
+use Rattle.base_tokens.specs.Assignments.{is_no_equals}
+use Rattle.base_tokens.specs.Tokens.{base_of}
 use Rattle.rhai_base.specs.Builtin.{operator_of}
 use Rattle.rhai_base.specs.Operators.{Operator, Plus, Minus, Multiply, Divide, Modulo, Power, ShiftLeft, ShiftRight, BitAnd, BitOr, BitXor}
-use Rattle.rhai_tokens.specs.declared.namespace.Namespace.{Namespace}
+use Rattle.base_tokens.specs.declared.namespace.Namespace.{Namespace}
 use Rattle.rhai_base.specs.Value.{Text}
-use Rattle.rhai_tree.specs.declared.expr.Expr.{Expr}
-use Rattle.rhai_tree.specs.declared.expr.Expr.TheVariants as kind
-use Rattle.rhai_tree.specs.Reading.{expr_of}
-use Rattle.rhai_tree.proofs.Cases.{ExprCase, expr_cases, dynamic_constant_case, bool_constant_case, integer_constant_case, char_constant_case, string_constant_case, interpolated_string_case, array_case, map_case, unit_case, variable_case, this_ptr_case, property_case, method_call_case, braces_case, call_case, dot_case, index_case, and_case, or_case, coalesce_case}
-use Rattle.rhai_meaning.specs.Desugar.{root_of}
-use Rattle.rhai_meaning.specs.Shape.{catch_name}
-use Rattle.rhai_meaning.specs.Tree as tree
+use Rattle.ast_types.specs.declared.expr.Expr.{Expr}
+use Rattle.ast_types.specs.declared.expr.Expr.TheVariants as kind
+use Rattle.ast_types.specs.Reading.{expr_of}
+use Rattle.ast_types.proofs.Cases.{ExprCase, expr_cases, dynamic_constant_case, bool_constant_case, integer_constant_case, char_constant_case, string_constant_case, interpolated_string_case, array_case, map_case, unit_case, variable_case, this_ptr_case, property_case, method_call_case, braces_case, call_case, dot_case, index_case, and_case, or_case, coalesce_case}
+use Rattle.theory_meaning.specs.Desugar.{root_of}
+use Rattle.theory_meaning.specs.Shape.{catch_name}
+use Rattle.theory_meaning.specs.Tree as tree
 use Rattle.rhai_run_nodes.specs.Operators.{StandsFor}
 
 -- ---- catch names and roots

@@ -3,11 +3,11 @@ use Rattle.std.proofs.Common.{◌≡◌, List, [], ◌∷◌, refl, arith}
 use Rattle.rhai_base.specs.declared.dynamic.Dynamic.{Dynamic}
 use Rattle.rhai_base.specs.Reading.{value_of, DynamicCase, str_case, dynamic_cases}
 use Rattle.rhai_base.specs.Value.{Text, Value}
-use Rattle.rhai_meaning.specs.Act.{Act, module_name}
-use Rattle.rhai_state.specs.declared.state.State.{State}
-use Rattle.rhai_state.specs.Runs.{Setting, Acting, Goes}
-use Rattle.rhai_state.specs.State.{store_of}
-use Rattle.rhai_state.proofs.PointerRuns.{IsNoText}
+use Rattle.theory_meaning.specs.Act.{Act, module_name}
+use Rattle.run_state.specs.declared.state.State.{State}
+use Rattle.run_state.specs.Runs.{Setting, Acting, Goes}
+use Rattle.run_state.specs.State.{store_of}
+use Rattle.run_state.proofs.PointerRuns.{IsNoText}
 use Rattle.rhai_run_nodes.specs.Variables.{in_module, qualified_in}
 
 unnamed : {v : Dynamic} {w : Value} → DynamicCase v w → IsNoText v → [] ≡ module_name w

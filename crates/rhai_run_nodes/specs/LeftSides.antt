@@ -1,13 +1,13 @@
 -- Left sides of assignments, and the targets that they mean.
 use Rattle.std.specs.Prelude.{◌≡◌, ℕ, Bool, true, false, cond, Option, Some, None}
-use Rattle.rhai_tokens.specs.declared.flags.ASTFlags.{ASTFlags}
-use Rattle.rhai_tree.specs.declared.expr.BinaryExpr.{BinaryExpr}
-use Rattle.rhai_tree.specs.Reading.{breaks, chain_flags, expr_of}
-use Rattle.rhai_meaning.specs.Core as core
-use Rattle.rhai_meaning.specs.Desugar.{ends_in_call, part_target, root_of, target_of}
-use Rattle.rhai_meaning.specs.Shape.{is_chain, is_left_side}
-use Rattle.rhai_meaning.specs.Tree as tree
-use Rattle.rhai_meaning.specs.Weight.{expr_weight}
+use Rattle.base_tokens.specs.declared.flags.ASTFlags.{ASTFlags}
+use Rattle.ast_types.specs.declared.expr.BinaryExpr.{BinaryExpr}
+use Rattle.ast_types.specs.Reading.{breaks, chain_flags, expr_of}
+use Rattle.theory_meaning.specs.Core as core
+use Rattle.theory_meaning.specs.Desugar.{ends_in_call, part_target, root_of, target_of}
+use Rattle.theory_meaning.specs.Shape.{is_chain, is_left_side}
+use Rattle.theory_meaning.specs.Tree as tree
+use Rattle.theory_meaning.specs.Weight.{expr_weight}
 use Rattle.rhai_run_nodes.specs.declared.left_sides.LeftSide.{LeftSide}
 use Rattle.rhai_run_nodes.specs.declared.left_sides.LeftSide.TheVariants as side
 use Rattle.rhai_run_nodes.specs.declared.links.Rest.{Rest}

@@ -1,12 +1,12 @@
 -- The links of chains, and the steps that they mean.
 use Rattle.std.specs.Prelude.{◌≡◌, Bool, cond, Option, Some, None}
-use Rattle.rhai_tokens.specs.declared.flags.ASTFlags.{ASTFlags}
-use Rattle.rhai_tree.specs.declared.expr.BinaryExpr.{BinaryExpr}
-use Rattle.rhai_tree.specs.declared.expr.Expr.{Expr}
-use Rattle.rhai_tree.specs.Reading.{chain_flags, expr_of, is_negated}
-use Rattle.rhai_meaning.specs.Core as core
-use Rattle.rhai_meaning.specs.Desugar.{core_expr, member_of, steps_of}
-use Rattle.rhai_meaning.specs.Tree as tree
+use Rattle.base_tokens.specs.declared.flags.ASTFlags.{ASTFlags}
+use Rattle.ast_types.specs.declared.expr.BinaryExpr.{BinaryExpr}
+use Rattle.ast_types.specs.declared.expr.Expr.{Expr}
+use Rattle.ast_types.specs.Reading.{chain_flags, expr_of, is_negated}
+use Rattle.theory_meaning.specs.Core as core
+use Rattle.theory_meaning.specs.Desugar.{core_expr, member_of, steps_of}
+use Rattle.theory_meaning.specs.Tree as tree
 use Rattle.rhai_run_nodes.specs.declared.links.Link.{Link}
 use Rattle.rhai_run_nodes.specs.declared.links.Rest.{Rest}
 use Rattle.rhai_walk.specs.Nodes.{is_dot}

@@ -1,10 +1,10 @@
 -- The operator of a call, by its token.
 use Rattle.std.specs.Prelude.{◌≡◌, ℕ, Option, Some, None, if◌then◌else◌}
-use Rattle.rhai_tokens.specs.declared.token.Token.{Token}
+use Rattle.base_tokens.specs.declared.token.Token.{Token}
 use Rattle.rhai_base.specs.Operators.{Operator}
 use Rattle.rhai_base.specs.Builtin.{operator_of}
-use Rattle.rhai_meaning.specs.Shape.{has_token}
-use Rattle.rhai_meaning.specs.Tree.{CallToken, NoToken, OfOperator, OfOther, Callee}
+use Rattle.theory_meaning.specs.Shape.{has_token}
+use Rattle.theory_meaning.specs.Tree.{CallToken, NoToken, OfOperator, OfOther, Callee}
 
 abbrev pub operator_by : Callee → ℕ → CallToken → Option Operator
 operator_by c n NoToken = None

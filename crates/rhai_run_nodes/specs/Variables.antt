@@ -1,10 +1,10 @@
 -- What a name or `this` stands for.
 use Rattle.std.specs.Prelude.{List, [], ◌∷◌}
 use Rattle.rhai_base.specs.Value.{Text}
-use Rattle.rhai_meaning.specs.Act as act
-use Rattle.rhai_meaning.specs.Act.{Act, Resolve, resolved}
-use Rattle.rhai_meaning.specs.Calls.{within}
-use Rattle.rhai_meaning.specs.Desugar.{qualified}
+use Rattle.theory_meaning.specs.Act as act
+use Rattle.theory_meaning.specs.Act.{Act, Resolve, resolved}
+use Rattle.theory_meaning.specs.Calls.{within}
+use Rattle.theory_meaning.specs.Desugar.{qualified}
 use Rattle.rhai_run_nodes.specs.declared.variables.Root.{Root}
 use Rattle.rhai_run_nodes.specs.declared.variables.Root.TheVariants.{Name, This}
 

@@ -1,11 +1,11 @@
 //! The name under which a thrown value is caught.
 
-#![tactic(auto, using(rhai_tree::specs::Reading::shapes))]
+#![tactic(auto, using(ast_types::specs::Reading::shapes))]
 
 ghost use Rattle.std.specs.Prelude.{◌≡◌};
 ghost use Rattle.std.specs.Option.{option_copied, option_map};
-ghost use Rattle.rhai_tree.specs.Reading.{expr_of};
-ghost use Rattle.rhai_meaning.specs.Shape as shape;
+ghost use Rattle.ast_types.specs.Reading.{expr_of};
+ghost use Rattle.theory_meaning.specs.Shape as shape;
 
 use rhai_ast::Expr;
 use rhai_base::ImmutableString;

@@ -1,10 +1,10 @@
 //! What can be assigned to.
 
-#![tactic(auto, using(rhai_tree::specs::Reading::shapes))]
+#![tactic(auto, using(ast_types::specs::Reading::shapes))]
 
 ghost use Rattle.std.specs.Prelude.{◌≡◌};
-ghost use Rattle.rhai_tree.specs.Reading.{expr_of, path_of};
-ghost use Rattle.rhai_meaning.specs.Desugar as desugar;
+ghost use Rattle.ast_types.specs.Reading.{expr_of, path_of};
+ghost use Rattle.theory_meaning.specs.Desugar as desugar;
 ghost use Rattle.rhai_run_nodes.specs.LeftSides as spec;
 ghost use Rattle.rhai_walk.specs.Nodes.{is_dot};
 

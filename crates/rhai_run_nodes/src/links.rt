@@ -1,11 +1,11 @@
 //! The nodes of a chain.
 
-#![tactic(auto, using(rhai_tree::specs::Reading::shapes, rhai_base::specs::Reading::kinds))]
+#![tactic(auto, using(ast_types::specs::Reading::shapes, rhai_base::specs::Reading::kinds))]
 
 ghost use Rattle.std.specs.Prelude.{◌≡◌, false, ◌+◌, ◌≤◌, IfSome};
-ghost use Rattle.rhai_tree.specs.Reading.{chain_flags, expr_of};
-ghost use Rattle.rhai_meaning.specs.Weight.{expr_weight};
-ghost use Rattle.rhai_meaning.specs.Shape as shape;
+ghost use Rattle.ast_types.specs.Reading.{chain_flags, expr_of};
+ghost use Rattle.theory_meaning.specs.Weight.{expr_weight};
+ghost use Rattle.theory_meaning.specs.Shape as shape;
 ghost use Rattle.rhai_run_nodes.specs.Links as spec;
 ghost use Rattle.rhai_walk.specs.Nodes.{is_dot};
 

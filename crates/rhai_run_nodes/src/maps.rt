@@ -3,9 +3,9 @@
 ghost use Rattle.std.specs.Prelude.{◌≡◌, IfOk, OnOk};
 ghost use Rattle.rhai_base.specs.Reading.{members_of, value_of};
 ghost use Rattle.rhai_base.specs.Value.{fields};
-ghost use Rattle.rhai_tree.specs.Reading.{keys_of, pairs_of};
-ghost use Rattle.rhai_meaning.specs.Elements.{with_entry};
-ghost use Rattle.rhai_meaning.specs.Shape as shape;
+ghost use Rattle.ast_types.specs.Reading.{keys_of, pairs_of};
+ghost use Rattle.theory_meaning.specs.Elements.{with_entry};
+ghost use Rattle.theory_meaning.specs.Shape as shape;
 
 use rhai_ast::{Expr, TreeFault};
 use rhai_base::{Dynamic, Ident, OutOfMemory, StringMap};

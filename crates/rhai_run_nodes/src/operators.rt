@@ -1,24 +1,24 @@
 //! Calls of operators, and operators over values.
 
-#![tactic(auto, using(rhai_tree::specs::Reading::shapes, rhai_base::specs::Reading::kinds))]
+#![tactic(auto, using(ast_types::specs::Reading::shapes, rhai_base::specs::Reading::kinds))]
 
 ghost use Rattle.std.specs.Prelude.{◌≡◌, ◌≢◌, ◌+◌, ◌≤◌, true, length, map, [], ◌∷◌, IfOk, IfSome, MatchOption, Some, codes};
 ghost use Rattle.rhai_base.specs.Reading.{value_of};
-ghost use Rattle.rhai_tree.specs.Reading.{callee_of, expr_of, exprs_of};
+ghost use Rattle.ast_types.specs.Reading.{callee_of, expr_of, exprs_of};
 ghost use Rattle.rhai_base.specs.Builtin.{answered, computed_of, operator_of};
-ghost use Rattle.rhai_meaning.specs.Engine.{assigning};
+ghost use Rattle.theory_meaning.specs.Engine.{assigning};
 ghost use Rattle.rhai_base.specs.Value.{TextV};
-ghost use Rattle.rhai_engine.specs.EngineInfo.{built_in_at, engine_of};
-ghost use Rattle.rhai_meaning.specs.Weight.{expr_weight, exprs_weight};
-ghost use Rattle.rhai_meaning.specs.Shape as shape;
-ghost use Rattle.rhai_meaning.specs.Engine as engine;
+ghost use Rattle.base_engine.specs.EngineInfo.{built_in_at, engine_of};
+ghost use Rattle.theory_meaning.specs.Weight.{expr_weight, exprs_weight};
+ghost use Rattle.theory_meaning.specs.Shape as shape;
+ghost use Rattle.theory_meaning.specs.Engine as engine;
 ghost use Rattle.rhai_run_nodes.specs.Operators as spec;
 
+use base_engine::EngineInfo;
 use rhai_ast::{Expr, FnCallExpr};
 use rhai_base::{
     Dynamic, Fault, ImmutableString, OpAssignment, OutOfMemory, Token, builtin_binary_op,
 };
-use rhai_engine::EngineInfo;
 use rhai_faults::{is_barred_call, is_formed};
 use rhai_queries::is_call_of;
 use std::alloc::{AllocError, Global};

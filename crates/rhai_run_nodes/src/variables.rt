@@ -1,21 +1,21 @@
 //! What names stand for: a name or `this`, where a name stands, and a name in a module.
 
-#![tactic(auto, using(rhai_tree::specs::Reading::shapes, rhai_base::specs::Reading::kinds, rhai_state::proofs::Variables::resolving))]
+#![tactic(auto, using(ast_types::specs::Reading::shapes, rhai_base::specs::Reading::kinds, run_state::proofs::Variables::resolving))]
 
 ghost use Rattle.std.specs.Prelude.{◌≡◌, ◌++◌, codes, map, MatchOption, IfOk, OnOk, option_map};
 ghost use Rattle.std.specs.String.{string_bytes};
-ghost use Rattle.rhai_tree.specs.Reading.{expr_of, path_of};
+ghost use Rattle.ast_types.specs.Reading.{expr_of, path_of};
 ghost use Rattle.rhai_base.specs.Reading.{value_of};
-ghost use Rattle.rhai_meaning.specs.Act as act;
-ghost use Rattle.rhai_meaning.specs.Act.{resolved};
-ghost use Rattle.rhai_state.specs.Entries.{scope_meant};
-ghost use Rattle.rhai_state.specs.Variables.{IsLatest, IsMissing};
+ghost use Rattle.theory_meaning.specs.Act as act;
+ghost use Rattle.theory_meaning.specs.Act.{resolved};
+ghost use Rattle.run_state.specs.Entries.{scope_meant};
+ghost use Rattle.run_state.specs.Variables.{IsLatest, IsMissing};
 ghost use Rattle.rhai_run_nodes.specs.Variables.{root_meant, qualified_in};
-ghost use Rattle.rhai_meaning.specs.Desugar as desugar;
+ghost use Rattle.theory_meaning.specs.Desugar as desugar;
 
 use rhai_ast::Expr;
 use rhai_base::{Dynamic, Ident, ImmutableString, Namespace};
-use rhai_state::Entry;
+use run_state::Entry;
 use std::alloc::{AllocError, Global};
 
 /// What has a value that can be replaced.

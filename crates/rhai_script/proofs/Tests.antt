@@ -1,10 +1,10 @@
 -- What the tests of a tree say of a script and of the functions of its table.
 use Rattle.std.proofs.Common.{◌≡◌, Bool, true, false, ◌&&◌, List, [], ◌∷◌, map, Option, None, Some, refl, sym, ap, ◌∙◌}
-use Rattle.rhai_tokens.specs.declared.position.Position.{Position}
-use Rattle.rhai_tree.specs.declared.script_fn.ScriptFuncDef.{ScriptFuncDef}
-use Rattle.rhai_meaning.specs.Faults.{ReservedName, TreeFault, finding, functions_fault, is_reserved, unless, ◌then◌}
-use Rattle.rhai_meaning.specs.Walk.{outermost, over_stmts}
-use Rattle.rhai_tree.specs.Reading.{function_of, stmts_of}
+use Rattle.base_tokens.specs.declared.position.Position.{Position}
+use Rattle.ast_types.specs.declared.script_fn.ScriptFuncDef.{ScriptFuncDef}
+use Rattle.theory_meaning.specs.Faults.{ReservedName, TreeFault, finding, functions_fault, is_reserved, unless, ◌then◌}
+use Rattle.theory_meaning.specs.Walk.{outermost, over_stmts}
+use Rattle.ast_types.specs.Reading.{function_of, stmts_of}
 use Rattle.rhai_faults.specs.Standing.{StandsInFunctions, by_name, in_body, in_others}
 
 -- a test that failed without functions fails with them

@@ -1,10 +1,10 @@
 -- What a script is: a source, a doc, a list of statements and a table of functions with an id; and what is made of two.
 use Rattle.std.specs.Prelude.{List, [], ◌++◌, map, Option, None}
 use Rattle.rhai_base.specs.Value.{Text}
-use Rattle.rhai_tree.specs.declared.stmt.Stmt.{Stmt}
-use Rattle.rhai_tree.specs.declared.script_fn.ScriptFuncDef.{ScriptFuncDef}
-use Rattle.rhai_meaning.specs.Tree.{Script}
-use Rattle.rhai_tree.specs.Reading.{function_of, stmts_of}
+use Rattle.ast_types.specs.declared.stmt.Stmt.{Stmt}
+use Rattle.ast_types.specs.declared.script_fn.ScriptFuncDef.{ScriptFuncDef}
+use Rattle.theory_meaning.specs.Tree.{Script}
+use Rattle.ast_types.specs.Reading.{function_of, stmts_of}
 use Rattle.rhai_script.specs.declared.ast.AST.{AST}
 use Rattle.rhai_script.specs.declared.ast.AstParts.{AstParts}
 use Rattle.rhai_functions.specs.declared.fn_lib.FnLib.{FnLib}

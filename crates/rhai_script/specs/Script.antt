@@ -1,6 +1,6 @@
 -- The script that an `AST` stands for.
-use Rattle.rhai_meaning.specs.Tree.{Script}
-use Rattle.rhai_tree.specs.Reading.{stmts_of}
+use Rattle.theory_meaning.specs.Tree.{Script}
+use Rattle.ast_types.specs.Reading.{stmts_of}
 use Rattle.rhai_functions.specs.FnLib.{functions_of}
 use Rattle.rhai_script.specs.declared.ast.AST.{AST}
 

@@ -2,8 +2,8 @@
 ghost use Rattle.std.specs.Prelude.{◌≡◌, ◌≢◌, [], List, ◌↔◌, IsTrue, IfOk, OnOk, OnErr, None};
 ghost use Rattle.std.specs.Option.{option_copied};
 ghost use Rattle.std.specs.List.Retain.{IsFiltered};
-ghost use Rattle.rhai_tree.specs.Reading.{stmts_of};
-ghost use Rattle.rhai_tree.specs.declared.script_fn.ScriptFuncDef.{ScriptFuncDef as definition};
+ghost use Rattle.ast_types.specs.Reading.{stmts_of};
+ghost use Rattle.ast_types.specs.declared.script_fn.ScriptFuncDef.{ScriptFuncDef as definition};
 ghost use Rattle.rhai_script.specs.Contents.{contents, parts_contents, with_source, without_source, with_doc, with_table, with_functions, without_statements, joined_over, merged, combined};
 ghost use Rattle.rhai_functions.specs.Filter.{Answers, AnswersShort};
 

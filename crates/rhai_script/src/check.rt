@@ -4,10 +4,10 @@ ghost use Rattle.rhai_faults.specs.PlainWalk.{plain_walk};
 ghost use Rattle.rhai_faults.specs.Refusals.{Finds};
 ghost use Rattle.rhai_faults.specs.Standing.{Stands, StandsInFunctions, StandsInScript, fault_in};
 ghost use Rattle.rhai_functions.specs.FnLib.{functions_of};
-ghost use Rattle.rhai_meaning.specs.Faults as faults;
-ghost use Rattle.rhai_meaning.specs.Laws.{WellFormedLaw};
-ghost use Rattle.rhai_meaning.specs.Plain as plain;
-ghost use Rattle.rhai_meaning.specs.Walk.{over_functions};
+ghost use Rattle.theory_meaning.specs.Faults as faults;
+ghost use Rattle.theory_meaning.specs.Laws.{WellFormedLaw};
+ghost use Rattle.theory_meaning.specs.Plain as plain;
+ghost use Rattle.theory_meaning.specs.Walk.{over_functions};
 ghost use Rattle.rhai_script.specs.Script.{script_of};
 
 use crate::ast::AST;

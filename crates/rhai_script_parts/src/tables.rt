@@ -5,7 +5,7 @@ ghost use Rattle.rhai_functions.specs.FnKey.{definition_key};
 ghost use Rattle.rhai_functions.specs.Ids.{named, first_name};
 ghost use Rattle.rhai_functions.specs.Table.{put_all_by};
 ghost use Rattle.rhai_functions.specs.Filter.{Answers, AnswersShort};
-ghost use Rattle.rhai_tree.specs.declared.script_fn.ScriptFuncDef.{ScriptFuncDef as definition};
+ghost use Rattle.ast_types.specs.declared.script_fn.ScriptFuncDef.{ScriptFuncDef as definition};
 
 use rhai_ast::{FnAccess, FnNamespace};
 use rhai_base::{ImmutableString, OutOfMemory};

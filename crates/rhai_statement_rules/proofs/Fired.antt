@@ -1,12 +1,12 @@
 -- Rules that fired.
 use Rattle.std.proofs.Common.{◌≡◌, Bool, true, false, Option, Some, None, refl, sym, ap, ◌∙◌, subst}
-use Rattle.rhai_tree.specs.declared.block.StmtBlock.{StmtBlock}
-use Rattle.rhai_meaning.specs.Engine.{Engine}
-use Rattle.rhai_meaning.specs.Tree.{Expr, UnitConstant, Stmt, Noop, While, TryCatch, Stmts}
-use Rattle.rhai_tree.specs.Reading.{stmts_of}
-use Rattle.rhai_rewriting.specs.Rules as rule
-use Rattle.rhai_rewriting.specs.Steps.{Progress, here, StmtRewrite}
-use Rattle.rhai_rewriting.proofs.Keeping.{keeps_loop}
+use Rattle.ast_types.specs.declared.block.StmtBlock.{StmtBlock}
+use Rattle.theory_meaning.specs.Engine.{Engine}
+use Rattle.theory_meaning.specs.Tree.{Expr, UnitConstant, Stmt, Noop, While, TryCatch, Stmts}
+use Rattle.ast_types.specs.Reading.{stmts_of}
+use Rattle.theory_rewriting.specs.Rules as rule
+use Rattle.theory_rewriting.specs.Steps.{Progress, here, StmtRewrite}
+use Rattle.theory_rewriting.proofs.Keeping.{keeps_loop}
 use Rattle.rhai_steps.proofs.Places.{not-false}
 use Rattle.rhai_assignment_rules.specs.Firing.{Fires}
 use Rattle.rhai_assignment_rules.proofs.Fired.{fires, gone}

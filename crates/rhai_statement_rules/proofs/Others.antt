@@ -1,9 +1,9 @@
 -- All other nodes, where a match names some.
 use Rattle.std.proofs.Common.{◌≡◌, true, false, None, refl}
-use Rattle.rhai_tree.specs.declared.expr.Expr as declared_expr
-use Rattle.rhai_tree.specs.declared.stmt.Stmt as declared_stmt
-use Rattle.rhai_meaning.specs.Tree.{Expr, Stmt}
-use Rattle.rhai_tree.proofs.Cases.{ExprCase, braces_case, call_case, StmtCase, while_case, block_case, try_catch_case, expression_case}
+use Rattle.ast_types.specs.declared.expr.Expr as declared_expr
+use Rattle.ast_types.specs.declared.stmt.Stmt as declared_stmt
+use Rattle.theory_meaning.specs.Tree.{Expr, Stmt}
+use Rattle.ast_types.proofs.Cases.{ExprCase, braces_case, call_case, StmtCase, while_case, block_case, try_catch_case, expression_case}
 use Rattle.rhai_steps.proofs.NodeKinds.{NoBraces, NoCall, NoWhile, NoBlock, NoTry, NoExpression}
 use Rattle.rhai_statement_rules.specs.Settled.{is_settled_block, stays, is_settled_expression, decided_loop, is_settled_try}
 

@@ -1,12 +1,12 @@
 -- Lists of none, of one and of more, and statements of a kind at which nothing is left to reduce.
 use Rattle.std.proofs.Common.{◌≡◌, ◌≢◌, ◌≤◌, Bool, true, false, List, [], ◌∷◌, length, Option, None, refl, sym, ap, ◌∙◌, arith}
-use Rattle.rhai_tree.specs.declared.stmt.Stmt as declared_stmt
-use Rattle.rhai_meaning.specs.Engine.{Engine}
-use Rattle.rhai_meaning.specs.Tree.{Stmt, While, Block, TryCatch, ExprStmt, Stmts, no_stmts, stmt}
-use Rattle.rhai_meaning.specs.Walk.{OfStmt}
-use Rattle.rhai_tree.specs.Reading.{stmts_of}
-use Rattle.rhai_rewriting.specs.Answering.{is_that}
-use Rattle.rhai_rewriting.specs.Residue.{IsReducedNode}
+use Rattle.ast_types.specs.declared.stmt.Stmt as declared_stmt
+use Rattle.theory_meaning.specs.Engine.{Engine}
+use Rattle.theory_meaning.specs.Tree.{Stmt, While, Block, TryCatch, ExprStmt, Stmts, no_stmts, stmt}
+use Rattle.theory_meaning.specs.Walk.{OfStmt}
+use Rattle.ast_types.specs.Reading.{stmts_of}
+use Rattle.theory_rewriting.specs.Answering.{is_that}
+use Rattle.theory_rewriting.specs.Residue.{IsReducedNode}
 use Rattle.rhai_statement_rules.specs.Settled.{is_block, is_expression, is_while, is_try, decided_loop}
 
 -- a test that says yes of each list of two or more

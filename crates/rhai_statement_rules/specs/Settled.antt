@@ -1,8 +1,8 @@
 -- Statements at which no rule fires, their parts being reduced.
 use Rattle.std.specs.Prelude.{Bool, true, false, not, Option, None}
-use Rattle.rhai_meaning.specs.Constants.{constant_bool}
-use Rattle.rhai_meaning.specs.Queries.{are_internally_pure, is_block_dependent}
-use Rattle.rhai_meaning.specs.Tree.{Expr, BlockExpr, FnCall, Stmt, While, Block, TryCatch, ExprStmt, Stmts, no_stmts, stmt}
+use Rattle.theory_meaning.specs.Constants.{constant_bool}
+use Rattle.theory_meaning.specs.Queries.{are_internally_pure, is_block_dependent}
+use Rattle.theory_meaning.specs.Tree.{Expr, BlockExpr, FnCall, Stmt, While, Block, TryCatch, ExprStmt, Stmts, no_stmts, stmt}
 
 -- ---- blocks
 

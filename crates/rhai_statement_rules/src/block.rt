@@ -1,15 +1,15 @@
 //! The rules at a block.
 
-#![tactic(auto, using(rhai_tree::specs::Reading::shapes))]
+#![tactic(auto, using(ast_types::specs::Reading::shapes))]
 
 ghost use Rattle.std.specs.Prelude.{◌≡◌, true, false, Bool};
 ghost use Rattle.rhai_assignment_rules.specs.Firing.{Fires, answer};
-ghost use Rattle.rhai_known.specs.State.{progress};
-ghost use Rattle.rhai_meaning.specs.Engine.{Engine};
-ghost use Rattle.rhai_meaning.specs.Queries as queries;
-ghost use Rattle.rhai_meaning.specs.Tree.{Block, no_stmts, stmt};
-ghost use Rattle.rhai_tree.specs.Reading.{stmt_of, stmts_of};
-ghost use Rattle.rhai_rewriting.specs.Steps.{StmtRewrite};
+ghost use Rattle.opt_known.specs.State.{progress};
+ghost use Rattle.theory_meaning.specs.Engine.{Engine};
+ghost use Rattle.theory_meaning.specs.Queries as queries;
+ghost use Rattle.theory_meaning.specs.Tree.{Block, no_stmts, stmt};
+ghost use Rattle.ast_types.specs.Reading.{stmt_of, stmts_of};
+ghost use Rattle.theory_rewriting.specs.Steps.{StmtRewrite};
 ghost use Rattle.rhai_statement_rules.specs.Settled as settled;
 ghost use Rattle.rhai_steps.specs.NodeSteps.{StmtStep};
 

@@ -1,18 +1,18 @@
 //! The rules at a `while`.
 
-#![tactic(auto, using(rhai_tree::specs::Reading::shapes))]
+#![tactic(auto, using(ast_types::specs::Reading::shapes))]
 
 ghost use Rattle.std.specs.Prelude.{◌≡◌, true, false, Bool, Some, is_none};
 ghost use Rattle.rhai_assignment_rules.specs.Firing.{Fires, answer};
-ghost use Rattle.rhai_known.specs.State.{progress};
-ghost use Rattle.rhai_meaning.specs.Engine.{Engine};
-ghost use Rattle.rhai_meaning.specs.Tree.{UnitConstant};
-ghost use Rattle.rhai_tree.specs.Reading.{expr_of, stmt_of};
+ghost use Rattle.opt_known.specs.State.{progress};
+ghost use Rattle.theory_meaning.specs.Engine.{Engine};
+ghost use Rattle.theory_meaning.specs.Tree.{UnitConstant};
+ghost use Rattle.ast_types.specs.Reading.{expr_of, stmt_of};
 ghost use Rattle.rhai_statement_rules.specs.Settled as settled;
 ghost use Rattle.rhai_steps.specs.NodeSteps.{StmtStep};
 
+use opt_folding::constant_bool;
 use rhai_ast::{FlowControl, Stmt};
-use rhai_folding::constant_bool;
 use rhai_steps::{NodeStep, OptimizerState, put_nothing, put_unit};
 
 /// What the guard of a `while` decides.

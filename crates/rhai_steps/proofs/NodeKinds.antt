@@ -2,24 +2,24 @@
 use Rattle.std.proofs.Common.{◌≡◌, List, Option, true, false, refl}
 use Rattle.std.specs.declared.num.NonZeroU8.{NonZeroU8}
 use Rattle.std.specs.declared.num.NonZeroUsize.{NonZeroUsize}
-use Rattle.rhai_tokens.specs.declared.position.Position.{Position}
-use Rattle.rhai_tokens.specs.declared.flags.ASTFlags.{ASTFlags}
-use Rattle.rhai_tokens.specs.declared.ident.Ident.{Ident}
-use Rattle.rhai_tokens.specs.declared.namespace.Namespace.{Namespace}
-use Rattle.rhai_tokens.specs.declared.op_assignment.OpAssignment.{OpAssignment}
+use Rattle.base_tokens.specs.declared.position.Position.{Position}
+use Rattle.base_tokens.specs.declared.flags.ASTFlags.{ASTFlags}
+use Rattle.base_tokens.specs.declared.ident.Ident.{Ident}
+use Rattle.base_tokens.specs.declared.namespace.Namespace.{Namespace}
+use Rattle.base_tokens.specs.declared.op_assignment.OpAssignment.{OpAssignment}
 use Rattle.rhai_base.specs.Value.{Text}
 use Rattle.rhai_base.specs.declared.dynamic.Dynamic.{Dynamic}
-use Rattle.rhai_tree.specs.declared.block.StmtBlock.{StmtBlock}
-use Rattle.rhai_tree.specs.declared.expr.BinaryExpr.{BinaryExpr}
-use Rattle.rhai_tree.specs.declared.expr.Expr as declared_expr
-use Rattle.rhai_tree.specs.declared.expr.Expr.TheVariants as expr_kind
-use Rattle.rhai_tree.specs.declared.expr.FnCallExpr.{FnCallExpr}
-use Rattle.rhai_tree.specs.declared.stmt.FlowControl.{FlowControl}
-use Rattle.rhai_tree.specs.declared.stmt.Stmt as declared_stmt
-use Rattle.rhai_tree.specs.declared.stmt.Stmt.TheVariants as stmt_kind
-use Rattle.rhai_tree.specs.declared.switch.SwitchBlock.{SwitchBlock}
-use Rattle.rhai_meaning.specs.Tree.{Expr}
-use Rattle.rhai_tree.proofs.Cases.{ExprCase, variable_case, this_ptr_case}
+use Rattle.ast_types.specs.declared.block.StmtBlock.{StmtBlock}
+use Rattle.ast_types.specs.declared.expr.BinaryExpr.{BinaryExpr}
+use Rattle.ast_types.specs.declared.expr.Expr as declared_expr
+use Rattle.ast_types.specs.declared.expr.Expr.TheVariants as expr_kind
+use Rattle.ast_types.specs.declared.expr.FnCallExpr.{FnCallExpr}
+use Rattle.ast_types.specs.declared.stmt.FlowControl.{FlowControl}
+use Rattle.ast_types.specs.declared.stmt.Stmt as declared_stmt
+use Rattle.ast_types.specs.declared.stmt.Stmt.TheVariants as stmt_kind
+use Rattle.ast_types.specs.declared.switch.SwitchBlock.{SwitchBlock}
+use Rattle.theory_meaning.specs.Tree.{Expr}
+use Rattle.ast_types.proofs.Cases.{ExprCase, variable_case, this_ptr_case}
 use Rattle.rhai_steps.specs.Standing.{is_root}
 
 -- ---- expressions

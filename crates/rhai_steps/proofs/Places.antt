@@ -1,12 +1,12 @@
 -- What may stand where, by tests.
 use Rattle.std.proofs.Common.{◌≡◌, map, Bool, true, false, not, ◌↔◌, IsTrue, List, [], ◌∷◌, Option, Some, None, is_some, refl, sym, ◌∙◌}
-use Rattle.rhai_tokens.specs.declared.ident.Ident.{Ident}
+use Rattle.base_tokens.specs.declared.ident.Ident.{Ident}
 use Rattle.rhai_base.specs.Value.{Text}
-use Rattle.rhai_meaning.specs.Act.{Root}
-use Rattle.rhai_meaning.specs.Desugar.{root_of}
-use Rattle.rhai_meaning.specs.Queries.{is_unit}
-use Rattle.rhai_meaning.specs.Tree.{Expr, Variable}
-use Rattle.rhai_rewriting.specs.Steps.{Place, Anywhere, AsBase, AsGuard, MayBecome}
+use Rattle.theory_meaning.specs.Act.{Root}
+use Rattle.theory_meaning.specs.Desugar.{root_of}
+use Rattle.theory_meaning.specs.Queries.{is_unit}
+use Rattle.theory_meaning.specs.Tree.{Expr, Variable}
+use Rattle.theory_rewriting.specs.Steps.{Place, Anywhere, AsBase, AsGuard, MayBecome}
 use Rattle.rhai_steps.specs.Standing.{is_root, may_stand}
 
 pub not-false : (b : Bool) → not b ≡ false → b ≡ true

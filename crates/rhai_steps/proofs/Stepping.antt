@@ -1,12 +1,12 @@
 -- What came of a node, by what was put in its place.
 use Rattle.std.proofs.Common.{◌≡◌, Bool, true, false, None, refl, sym, subst}
-use Rattle.rhai_meaning.specs.Engine.{Engine}
-use Rattle.rhai_meaning.specs.Tree.{Expr, Stmt}
-use Rattle.rhai_meaning.specs.Walk.{OfExpr, OfStmt}
-use Rattle.rhai_rewriting.specs.Clear.{known_value}
-use Rattle.rhai_rewriting.specs.Residue.{IsReducedNode}
-use Rattle.rhai_rewriting.specs.Steps.{AnswersNone, Progress, here, Place, Anywhere, ExprRewrite, StmtKept, StmtRewrite}
-use Rattle.rhai_rewriting.proofs.Firing.{stmt_fired_by}
+use Rattle.theory_meaning.specs.Engine.{Engine}
+use Rattle.theory_meaning.specs.Tree.{Expr, Stmt}
+use Rattle.theory_meaning.specs.Walk.{OfExpr, OfStmt}
+use Rattle.theory_rewriting.specs.Clear.{known_value}
+use Rattle.theory_rewriting.specs.Residue.{IsReducedNode}
+use Rattle.theory_rewriting.specs.Steps.{AnswersNone, Progress, here, Place, Anywhere, ExprRewrite, StmtKept, StmtRewrite}
+use Rattle.theory_rewriting.proofs.Firing.{stmt_fired_by}
 use Rattle.rhai_steps.specs.declared.step.NodeStep.{NodeStep}
 use Rattle.rhai_steps.specs.NodeSteps.{ExprStep, StmtStep, step_by}
 

@@ -1,9 +1,9 @@
 -- Constants that become their values.
 use Rattle.std.specs.Prelude.{◌≡◌, Bool, true, false, Some}
 use Rattle.rhai_base.specs.Value.{Value}
-use Rattle.rhai_meaning.specs.Constants.{constant_value, is_constant}
-use Rattle.rhai_meaning.specs.Tree.{Expr}
-use Rattle.rhai_rewriting.specs.Steps.{Progress}
+use Rattle.theory_meaning.specs.Constants.{constant_value, is_constant}
+use Rattle.theory_meaning.specs.Tree.{Expr}
+use Rattle.theory_rewriting.specs.Steps.{Progress}
 use Rattle.rhai_steps.specs.NodeSteps.{Puts}
 
 -- whether a constant was put for its value; what is none stays

@@ -1,12 +1,12 @@
 -- What came of the rules at a node.
 use Rattle.std.specs.Prelude.{◌≡◌, Bool, true, false, Some}
 use Rattle.rhai_base.specs.Value.{Value}
-use Rattle.rhai_meaning.specs.Constants.{constant_for, literal_value}
-use Rattle.rhai_meaning.specs.Engine.{Engine}
-use Rattle.rhai_meaning.specs.Tree.{Expr, Stmt}
+use Rattle.theory_meaning.specs.Constants.{constant_for, literal_value}
+use Rattle.theory_meaning.specs.Engine.{Engine}
+use Rattle.theory_meaning.specs.Tree.{Expr, Stmt}
 use Rattle.rhai_steps.specs.declared.step.NodeStep.{NodeStep}
 use Rattle.rhai_steps.specs.declared.step.NodeStep.TheVariants as step
-use Rattle.rhai_rewriting.specs.Steps.{Progress, Place, ExprFired, KeepsExprParts, ExprKept, StmtFired, KeepsStmtParts, StmtKept}
+use Rattle.theory_rewriting.specs.Steps.{Progress, Place, ExprFired, KeepsExprParts, ExprKept, StmtFired, KeepsStmtParts, StmtKept}
 
 -- at an expression: whether one fired
 abbrev pub ExprStep : Bool → Engine → Place → Progress → Progress → Expr → Expr → Type 0

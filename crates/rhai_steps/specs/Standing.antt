@@ -1,9 +1,9 @@
 -- What may stand where.
 use Rattle.std.specs.Prelude.{Bool, true, not, is_some}
-use Rattle.rhai_meaning.specs.Desugar.{root_of}
-use Rattle.rhai_meaning.specs.Queries.{is_unit}
-use Rattle.rhai_meaning.specs.Tree.{Expr}
-use Rattle.rhai_rewriting.specs.Steps.{Place, Anywhere, AsBase, AsGuard}
+use Rattle.theory_meaning.specs.Desugar.{root_of}
+use Rattle.theory_meaning.specs.Queries.{is_unit}
+use Rattle.theory_meaning.specs.Tree.{Expr}
+use Rattle.theory_rewriting.specs.Steps.{Place, Anywhere, AsBase, AsGuard}
 
 abbrev pub is_root : Expr → Bool
 is_root e = is_some (root_of e)

@@ -5,7 +5,7 @@ mod place;
 mod putting;
 mod step;
 
+pub use opt_known::OptimizerState;
 pub use place::{Place, may_be_unit, may_stand};
 pub use putting::{fold_constant, note_fired, put_constant, put_nothing, put_unit};
-pub use rhai_known::OptimizerState;
 pub use step::{NodeStep, step_of};

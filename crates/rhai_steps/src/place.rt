@@ -1,10 +1,10 @@
 //! Where expressions stand, and what may stand there.
 
-#![tactic(auto, using(rhai_tree::specs::Reading::shapes))]
+#![tactic(auto, using(ast_types::specs::Reading::shapes))]
 
 ghost use Rattle.std.specs.Prelude.{◌≡◌, ◌↔◌, IsTrue, []};
-ghost use Rattle.rhai_tree.specs.Reading.{expr_of};
-ghost use Rattle.rhai_meaning.specs.Tree.{UnitConstant};
+ghost use Rattle.ast_types.specs.Reading.{expr_of};
+ghost use Rattle.theory_meaning.specs.Tree.{UnitConstant};
 ghost use Rattle.rhai_steps.specs.Places.{place_of};
 ghost use Rattle.rhai_steps.specs.Standing as standing;
 

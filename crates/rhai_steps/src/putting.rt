@@ -1,19 +1,19 @@
 //! Constants that take the place of a node, and the note that a rule fired.
 
-#![tactic(auto, using(rhai_tree::specs::Reading::shapes))]
+#![tactic(auto, using(ast_types::specs::Reading::shapes))]
 
 ghost use Rattle.std.specs.Prelude.{◌≡◌, IfOk, OnOk, Some, true};
 ghost use Rattle.rhai_base.specs.Reading.{value_of};
-ghost use Rattle.rhai_meaning.specs.Constants as constants;
-ghost use Rattle.rhai_meaning.specs.Tree.{UnitConstant, Noop};
-ghost use Rattle.rhai_known.specs.State.{progress};
-ghost use Rattle.rhai_tree.specs.Reading.{expr_of, stmt_of};
+ghost use Rattle.theory_meaning.specs.Constants as constants;
+ghost use Rattle.theory_meaning.specs.Tree.{UnitConstant, Noop};
+ghost use Rattle.opt_known.specs.State.{progress};
+ghost use Rattle.ast_types.specs.Reading.{expr_of, stmt_of};
 ghost use Rattle.rhai_steps.specs.Folded.{FoldsConstant};
 ghost use Rattle.rhai_steps.specs.NodeSteps.{Puts};
 
+use opt_known::OptimizerState;
 use rhai_ast::{Expr, ExprQueries, Literals, Stmt, StmtQueries};
 use rhai_base::{Dynamic, OutOfMemory};
-use rhai_known::OptimizerState;
 use rhai_nodes::{put_expr, put_stmt, value_of_constant};
 use std::alloc::Global;
 

@@ -1,18 +1,18 @@
 -- All other statements, where a match names some.
 use Rattle.std.proofs.Common.{◌≡◌, false, Option, refl}
-use Rattle.rhai_tokens.specs.declared.flags.ASTFlags.{ASTFlags}
-use Rattle.rhai_tokens.specs.declared.ident.Ident.{Ident}
-use Rattle.rhai_tokens.specs.declared.position.Position.{Position}
-use Rattle.rhai_tree.specs.declared.block.StmtBlock.{StmtBlock}
-use Rattle.rhai_tree.specs.declared.expr.Expr as declared_expr
-use Rattle.rhai_tree.specs.declared.expr.FnCallExpr.{FnCallExpr}
-use Rattle.rhai_tree.specs.declared.stmt.FlowControl.{FlowControl}
-use Rattle.rhai_tree.specs.declared.stmt.Stmt as declared_stmt
-use Rattle.rhai_tree.specs.declared.stmt.Stmt.TheVariants as stmt_kind
-use Rattle.rhai_tree.specs.declared.switch.SwitchBlock.{SwitchBlock}
-use Rattle.rhai_meaning.specs.Queries.{is_control_flow_break, is_noop, is_self_terminated, returns_value}
-use Rattle.rhai_meaning.specs.Tree.{Stmt}
-use Rattle.rhai_tree.proofs.Cases.{StmtCase, block_case, break_loop_case, call_statement_case, expression_case, for_case, if_case, noop_case, return_case, switch_case, try_catch_case, while_case}
+use Rattle.base_tokens.specs.declared.flags.ASTFlags.{ASTFlags}
+use Rattle.base_tokens.specs.declared.ident.Ident.{Ident}
+use Rattle.base_tokens.specs.declared.position.Position.{Position}
+use Rattle.ast_types.specs.declared.block.StmtBlock.{StmtBlock}
+use Rattle.ast_types.specs.declared.expr.Expr as declared_expr
+use Rattle.ast_types.specs.declared.expr.FnCallExpr.{FnCallExpr}
+use Rattle.ast_types.specs.declared.stmt.FlowControl.{FlowControl}
+use Rattle.ast_types.specs.declared.stmt.Stmt as declared_stmt
+use Rattle.ast_types.specs.declared.stmt.Stmt.TheVariants as stmt_kind
+use Rattle.ast_types.specs.declared.switch.SwitchBlock.{SwitchBlock}
+use Rattle.theory_meaning.specs.Queries.{is_control_flow_break, is_noop, is_self_terminated, returns_value}
+use Rattle.theory_meaning.specs.Tree.{Stmt}
+use Rattle.ast_types.proofs.Cases.{StmtCase, block_case, break_loop_case, call_statement_case, expression_case, for_case, if_case, noop_case, return_case, switch_case, try_catch_case, while_case}
 
 pub no_noop : {x : declared_stmt.Stmt} {s : Stmt} → StmtCase x s → ((p : Position) → x ≡ stmt_kind.Noop p → ⊥) → false ≡ is_noop s
 no_noop (noop_case p) n = absurd (n p refl)

@@ -1,15 +1,15 @@
 //! What may be asked of a statement.
 
-#![tactic(auto, using(rhai_tree::specs::Reading::shapes, rhai_tree::specs::Positions::places))]
+#![tactic(auto, using(ast_types::specs::Reading::shapes, ast_types::specs::Positions::places))]
 
 ghost use Rattle.std.specs.Prelude.{◌≡◌};
-ghost use Rattle.rhai_tree.specs.Reading.{stmt_of};
-ghost use Rattle.rhai_tree.specs.Positions.{stmt_options_of, stmt_position_of};
-ghost use Rattle.rhai_meaning.specs.Laws.{IndependentLaw, InternallyPureLaw, PureLaw};
-ghost use Rattle.rhai_meaning.specs.Queries as queries;
+ghost use Rattle.ast_types.specs.Reading.{stmt_of};
+ghost use Rattle.ast_types.specs.Positions.{stmt_options_of, stmt_position_of};
+ghost use Rattle.theory_meaning.specs.Laws.{IndependentLaw, InternallyPureLaw, PureLaw};
+ghost use Rattle.theory_meaning.specs.Queries as queries;
 
+use ast_types::Stmt;
 use rhai_base::{ASTFlags, Position};
-use rhai_tree::Stmt;
 
 /// What may be asked of a statement.
 pub trait StmtQueries {
@@ -63,7 +63,7 @@ impl StmtQueries for Stmt {
         matches!(self, Stmt::Noop(_))
     }
 
-    #[tactic(auto, using(rhai_meaning::proofs::PurityLaws::pure_law))]
+    #[tactic(auto, using(theory_meaning::proofs::PurityLaws::pure_law))]
     fn is_pure(&self) -> bool
         ensures value { result ≡ queries.is_pure (stmt_of self.now) }
         ensures law { PureLaw (stmt_of self.now) }
@@ -71,7 +71,7 @@ impl StmtQueries for Stmt {
         rhai_queries::is_pure(self)
     }
 
-    #[tactic(auto, using(rhai_meaning::proofs::PurityLaws::internally_pure_law))]
+    #[tactic(auto, using(theory_meaning::proofs::PurityLaws::internally_pure_law))]
     fn is_internally_pure(&self) -> bool
         ensures value { result ≡ queries.is_internally_pure (stmt_of self.now) }
         ensures law { InternallyPureLaw (stmt_of self.now) }
@@ -79,7 +79,7 @@ impl StmtQueries for Stmt {
         rhai_queries::is_internally_pure(self)
     }
 
-    #[tactic(auto, using(rhai_meaning::proofs::PurityLaws::independent_law))]
+    #[tactic(auto, using(theory_meaning::proofs::PurityLaws::independent_law))]
     fn is_block_dependent(&self) -> bool
         ensures value { result ≡ queries.is_block_dependent (stmt_of self.now) }
         ensures law { IndependentLaw (stmt_of self.now) }

@@ -1,11 +1,11 @@
 -- Lists in which what goes is marked.
 use Rattle.std.proofs.Common.{◌≡◌, ℕ, zero, suc, Bool, true, false, cond, [], ◌∷◌, length, get_or, set, refl, sym, ap, ◌∙◌, arith}
 use Rattle.std.specs.Prelude.{◌&&◌, not}
-use Rattle.rhai_tree.specs.declared.stmt.Stmt as declared_stmt
-use Rattle.rhai_meaning.specs.Queries.{is_pure, is_noop, is_control_flow_break}
-use Rattle.rhai_meaning.specs.Tree.{Stmt, Noop, Stmts, no_stmts, stmt}
-use Rattle.rhai_tree.specs.Reading.{stmt_of, stmts_of}
-use Rattle.rhai_rewriting.specs.Context.{wanted_before}
+use Rattle.ast_types.specs.declared.stmt.Stmt as declared_stmt
+use Rattle.theory_meaning.specs.Queries.{is_pure, is_noop, is_control_flow_break}
+use Rattle.theory_meaning.specs.Tree.{Stmt, Noop, Stmts, no_stmts, stmt}
+use Rattle.ast_types.specs.Reading.{stmt_of, stmts_of}
+use Rattle.theory_rewriting.specs.Context.{wanted_before}
 use Rattle.rhai_sweep.specs.Steps.{Declared}
 use Rattle.rhai_sweep.specs.Sweep.{is_nothing, closed_up}
 use Rattle.rhai_sweep.proofs.Sweeping.{no}

@@ -2,19 +2,19 @@
 use Rattle.std.proofs.Common.{◌≡◌, ◌<◌, ℕ, ◌+◌, ◌-◌, suc, Bool, true, false, [], ◌∷◌, Some, None, length, get_or, set, take, drop, refl, sym, ap, ◌∙◌, subst, arith}
 use Rattle.std.specs.Prelude.{◌&&◌, ◌||◌, not, Option, if◌then◌else◌}
 use Rattle.std.proofs.lemmas.List.{drop_more, drop_all, drop-set, drop-set-add, drop-take, take-set, take-set-le, take-take, get_or-drop, get_or-set_other, get_or-take, length-drop, length-set, length-take-le}
-use Rattle.rhai_tokens.specs.declared.position.Position.{Position}
-use Rattle.rhai_tree.specs.declared.stmt.Stmt as declared_stmt
-use Rattle.rhai_tree.specs.declared.stmt.Stmt.TheVariants.{Noop as noop_at}
-use Rattle.rhai_tree.specs.declared.stmt.Stmt.TheVariants as stmt_kind
-use Rattle.rhai_tree.specs.declared.expr.Expr as declared_expr
-use Rattle.rhai_tokens.specs.declared.flags.ASTFlags.{ASTFlags}
-use Rattle.rhai_meaning.specs.Queries.{is_pure, is_internally_pure, is_noop, is_control_flow_break}
-use Rattle.rhai_meaning.specs.Tree.{Stmt, Noop, Return, no_expr, an_expr, Stmts, no_stmts, stmt}
-use Rattle.rhai_tree.specs.Reading.{stmt_of, stmts_of, breaks, is_exported, stmt_of-Noop, stmt_of-Expr, stmt_of-Return}
-use Rattle.rhai_rewriting.specs.Context.{ListKind, Whole, Inside, wanted}
-use Rattle.rhai_rewriting.specs.Exports.{stmt_exports_nothing}
-use Rattle.rhai_rewriting.specs.Rules.{is_pure_in}
-use Rattle.rhai_rewriting.specs.SurelyUnit.{is_surely_unit}
+use Rattle.base_tokens.specs.declared.position.Position.{Position}
+use Rattle.ast_types.specs.declared.stmt.Stmt as declared_stmt
+use Rattle.ast_types.specs.declared.stmt.Stmt.TheVariants.{Noop as noop_at}
+use Rattle.ast_types.specs.declared.stmt.Stmt.TheVariants as stmt_kind
+use Rattle.ast_types.specs.declared.expr.Expr as declared_expr
+use Rattle.base_tokens.specs.declared.flags.ASTFlags.{ASTFlags}
+use Rattle.theory_meaning.specs.Queries.{is_pure, is_internally_pure, is_noop, is_control_flow_break}
+use Rattle.theory_meaning.specs.Tree.{Stmt, Noop, Return, no_expr, an_expr, Stmts, no_stmts, stmt}
+use Rattle.ast_types.specs.Reading.{stmt_of, stmts_of, breaks, is_exported, stmt_of-Noop, stmt_of-Expr, stmt_of-Return}
+use Rattle.theory_rewriting.specs.Context.{ListKind, Whole, Inside, wanted}
+use Rattle.theory_rewriting.specs.Exports.{stmt_exports_nothing}
+use Rattle.theory_rewriting.specs.Rules.{is_pure_in}
+use Rattle.theory_rewriting.specs.SurelyUnit.{is_surely_unit}
 use Rattle.rhai_sweep.specs.declared.behind.Behind.{Behind}
 use Rattle.rhai_sweep.specs.declared.behind.Fading.{Fading}
 use Rattle.rhai_sweep.specs.declared.behind.Fading.TheVariants as fading_kind

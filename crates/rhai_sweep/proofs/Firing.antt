@@ -1,15 +1,15 @@
 -- The rules of lists at what is kept from a place on.
 use Rattle.std.proofs.Common.{◌≡◌, ◌<◌, ℕ, ◌+◌, ◌-◌, Bool, true, false, [], length, get_or, set, take, drop, refl, sym, ap, ◌∙◌, subst, arith}
 use Rattle.std.proofs.lemmas.List.{drop_all, drop-set, length-take}
-use Rattle.rhai_tree.specs.Defaults.{nowhere}
-use Rattle.rhai_tree.specs.declared.stmt.Stmt as declared_stmt
-use Rattle.rhai_tree.specs.declared.stmt.Stmt.TheVariants.{Noop as no_statement}
-use Rattle.rhai_meaning.specs.Queries.{is_noop, is_control_flow_break}
-use Rattle.rhai_meaning.specs.Tree.{Stmt, Noop, Return, no_expr, an_expr, Stmts, no_stmts, stmt}
-use Rattle.rhai_tree.specs.Reading.{stmt_of, stmts_of}
-use Rattle.rhai_rewriting.specs.Context.{Context, ListKind, Whole, Inside, wanted}
-use Rattle.rhai_rewriting.specs.Rules as rule
-use Rattle.rhai_rewriting.specs.Rules.{ListRule}
+use Rattle.ast_types.specs.Defaults.{nowhere}
+use Rattle.ast_types.specs.declared.stmt.Stmt as declared_stmt
+use Rattle.ast_types.specs.declared.stmt.Stmt.TheVariants.{Noop as no_statement}
+use Rattle.theory_meaning.specs.Queries.{is_noop, is_control_flow_break}
+use Rattle.theory_meaning.specs.Tree.{Stmt, Noop, Return, no_expr, an_expr, Stmts, no_stmts, stmt}
+use Rattle.ast_types.specs.Reading.{stmt_of, stmts_of}
+use Rattle.theory_rewriting.specs.Context.{Context, ListKind, Whole, Inside, wanted}
+use Rattle.theory_rewriting.specs.Rules as rule
+use Rattle.theory_rewriting.specs.Rules.{ListRule}
 use Rattle.rhai_sweep.specs.declared.behind.Fading.{Fading}
 use Rattle.rhai_sweep.specs.declared.behind.Fading.TheVariants as fading_kind
 use Rattle.rhai_sweep.specs.Steps.{Declared, BaredAt, Fires, FiresBehindUnit, MarkedAt, kept}

@@ -1,9 +1,9 @@
 -- What is not pure does not idle.
 use Rattle.std.proofs.Common.{◌≡◌, Bool, true, false, refl, sym, ◌∙◌}
-use Rattle.rhai_meaning.specs.Queries.{is_pure}
-use Rattle.rhai_meaning.specs.Tree.{Stmt}
-use Rattle.rhai_rewriting.specs.Reducible.{is_idle}
-use Rattle.rhai_rewriting.proofs.Reducing.{idle_pure}
+use Rattle.theory_meaning.specs.Queries.{is_pure}
+use Rattle.theory_meaning.specs.Tree.{Stmt}
+use Rattle.theory_rewriting.specs.Reducible.{is_idle}
+use Rattle.theory_rewriting.proofs.Reducing.{idle_pure}
 use Rattle.rhai_sweep.proofs.Sweeping.{no}
 
 un_pure : (a b : Bool) → (a ≡ true → b ≡ true) → b ≡ false → a ≡ false

@@ -1,9 +1,9 @@
 -- What holds of every node of a list holds of every node of what a sweep keeps of it: also where the expression of a `return` stands for it.
 use Rattle.std.proofs.Common.{Bool, false}
-use Rattle.rhai_meaning.specs.Engine.{Engine}
-use Rattle.rhai_meaning.specs.Tree.{Expr, Noop, ExprStmt, Return, an_expr, Stmts}
-use Rattle.rhai_meaning.specs.Walk.{Node, OfStmt, every, over_stmts}
-use Rattle.rhai_rewriting.specs.Reducible.{IsIrreducibleNode}
+use Rattle.theory_meaning.specs.Engine.{Engine}
+use Rattle.theory_meaning.specs.Tree.{Expr, Noop, ExprStmt, Return, an_expr, Stmts}
+use Rattle.theory_meaning.specs.Walk.{Node, OfStmt, every, over_stmts}
+use Rattle.theory_rewriting.specs.Reducible.{IsIrreducibleNode}
 use Rattle.rhai_sweep.specs.Sweep.{Keeps, keeps_none, keeps, skips, keeps_noop, keeps_bared}
 
 kept_every : (P : Node → Type 0) → P (OfStmt Noop) → ((exported : Bool) (e : Expr) → P (OfStmt (Return false exported (an_expr e))) → P (OfStmt (ExprStmt e))) → {b : Bool} {ss rest : Stmts} → Keeps b ss rest → over_stmts (every P) ss → over_stmts (every P) rest

@@ -3,13 +3,13 @@ use Rattle.std.proofs.Common.{◌≡◌, ◌<◌, ◌≤◌, ℕ, ◌+◌, Bool,
 use Rattle.std.specs.Prelude.{◌&&◌, not}
 use Rattle.std.proofs.lemmas.List.{drop_more, drop_all, drop-set-lt, take_more, take_more_set, take-set-le, length-take-le}
 use Rattle.std.proofs.lemmas.Grind.{drop_more_same}
-use Rattle.rhai_tree.specs.Defaults.{nowhere}
-use Rattle.rhai_tree.specs.declared.stmt.Stmt as declared_stmt
-use Rattle.rhai_tree.specs.declared.stmt.Stmt.TheVariants.{Noop as noop_at}
-use Rattle.rhai_meaning.specs.Queries.{is_noop}
-use Rattle.rhai_meaning.specs.Tree.{Stmts, no_stmts, stmt, joined}
-use Rattle.rhai_tree.specs.Reading.{stmt_of, stmts_of}
-use Rattle.rhai_rewriting.specs.Context.{wanted_before}
+use Rattle.ast_types.specs.Defaults.{nowhere}
+use Rattle.ast_types.specs.declared.stmt.Stmt as declared_stmt
+use Rattle.ast_types.specs.declared.stmt.Stmt.TheVariants.{Noop as noop_at}
+use Rattle.theory_meaning.specs.Queries.{is_noop}
+use Rattle.theory_meaning.specs.Tree.{Stmts, no_stmts, stmt, joined}
+use Rattle.ast_types.specs.Reading.{stmt_of, stmts_of}
+use Rattle.theory_rewriting.specs.Context.{wanted_before}
 use Rattle.rhai_sweep.specs.Steps.{Declared}
 use Rattle.rhai_sweep.specs.Sweep.{closed_up}
 

@@ -1,20 +1,20 @@
 -- What each decision of a sweep does to what is kept.
 use Rattle.std.proofs.Common.{◌≡◌, List, Bool, true, false, Option, Some, None, refl, sym, ◌∙◌, subst}
 use Rattle.std.specs.Prelude.{◌&&◌, ◌||◌, not}
-use Rattle.rhai_meaning.specs.Queries.{is_pure, is_internally_pure, is_noop, is_control_flow_break}
-use Rattle.rhai_meaning.specs.Tree.{Expr, Variable, Stmt, Noop, Var, ExprStmt, BreakLoop, Return, no_expr, an_expr, Stmts, no_stmts, stmt}
-use Rattle.rhai_rewriting.specs.Clear.{AreClear}
-use Rattle.rhai_rewriting.specs.Known.{Known}
-use Rattle.rhai_rewriting.proofs.Clearing.{claimed, unclaimed, within, pure_clear}
-use Rattle.rhai_rewriting.proofs.Evals.{pure_keeps}
-use Rattle.rhai_rewriting.specs.Evals.{keeps_names}
-use Rattle.rhai_rewriting.specs.Residue.{when}
-use Rattle.rhai_rewriting.specs.Context.{Context, behind, known_behind, ListKind, Whole, Inside, wanted, wanted_before}
-use Rattle.rhai_rewriting.specs.Reducible.{is_idle, ends_in_return}
-use Rattle.rhai_rewriting.specs.Rewriting.{RestTo, same_stmts, then_stmts, by_list_rule, in_tail}
-use Rattle.rhai_rewriting.specs.Rules as rule
-use Rattle.rhai_rewriting.specs.Rules.{is_pure_in, ListRule}
-use Rattle.rhai_rewriting.specs.SurelyUnit.{is_surely_unit}
+use Rattle.theory_meaning.specs.Queries.{is_pure, is_internally_pure, is_noop, is_control_flow_break}
+use Rattle.theory_meaning.specs.Tree.{Expr, Variable, Stmt, Noop, Var, ExprStmt, BreakLoop, Return, no_expr, an_expr, Stmts, no_stmts, stmt}
+use Rattle.theory_rewriting.specs.Clear.{AreClear}
+use Rattle.theory_rewriting.specs.Known.{Known}
+use Rattle.theory_rewriting.proofs.Clearing.{claimed, unclaimed, within, pure_clear}
+use Rattle.theory_rewriting.proofs.Evals.{pure_keeps}
+use Rattle.theory_rewriting.specs.Evals.{keeps_names}
+use Rattle.theory_rewriting.specs.Residue.{when}
+use Rattle.theory_rewriting.specs.Context.{Context, behind, known_behind, ListKind, Whole, Inside, wanted, wanted_before}
+use Rattle.theory_rewriting.specs.Reducible.{is_idle, ends_in_return}
+use Rattle.theory_rewriting.specs.Rewriting.{RestTo, same_stmts, then_stmts, by_list_rule, in_tail}
+use Rattle.theory_rewriting.specs.Rules as rule
+use Rattle.theory_rewriting.specs.Rules.{is_pure_in, ListRule}
+use Rattle.theory_rewriting.specs.SurelyUnit.{is_surely_unit}
 use Rattle.rhai_sweep.specs.declared.behind.Behind.{Behind}
 use Rattle.rhai_sweep.specs.declared.behind.Fading.{Fading}
 use Rattle.rhai_sweep.specs.declared.behind.Fading.TheVariants as fading_kind

@@ -3,16 +3,16 @@ use Rattle.std.proofs.Common.{◌≡◌, ◌<◌, ℕ, ◌+◌, Bool, true, fals
 use Rattle.std.specs.Prelude.{◌||◌}
 use Rattle.std.proofs.lemmas.List.{drop_more, drop-take, take-take}
 use Rattle.std.proofs.Math.Seq.{drop-length}
-use Rattle.rhai_tree.specs.Defaults.{nowhere}
-use Rattle.rhai_tree.specs.declared.stmt.Stmt as declared_stmt
-use Rattle.rhai_tree.specs.declared.stmt.Stmt.TheVariants.{Noop as noop_at}
-use Rattle.rhai_meaning.specs.Engine.{Engine}
-use Rattle.rhai_meaning.specs.Tree.{Stmts}
-use Rattle.rhai_tree.specs.Reading.{stmts_of}
-use Rattle.rhai_rewriting.specs.Clear.{AreClear}
-use Rattle.rhai_rewriting.specs.Context.{under, ListKind}
-use Rattle.rhai_rewriting.specs.Rewriting.{RestTo, same_stmts}
-use Rattle.rhai_rewriting.proofs.Flags.{stmts_kept}
+use Rattle.ast_types.specs.Defaults.{nowhere}
+use Rattle.ast_types.specs.declared.stmt.Stmt as declared_stmt
+use Rattle.ast_types.specs.declared.stmt.Stmt.TheVariants.{Noop as noop_at}
+use Rattle.theory_meaning.specs.Engine.{Engine}
+use Rattle.theory_meaning.specs.Tree.{Stmts}
+use Rattle.ast_types.specs.Reading.{stmts_of}
+use Rattle.theory_rewriting.specs.Clear.{AreClear}
+use Rattle.theory_rewriting.specs.Context.{under, ListKind}
+use Rattle.theory_rewriting.specs.Rewriting.{RestTo, same_stmts}
+use Rattle.theory_rewriting.proofs.Flags.{stmts_kept}
 use Rattle.rhai_sweep.specs.declared.behind.Behind.{Behind}
 use Rattle.rhai_sweep.specs.declared.behind.Fading.{Fading}
 use Rattle.rhai_sweep.specs.declared.swept.Swept.{Swept}

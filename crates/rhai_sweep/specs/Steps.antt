@@ -1,15 +1,15 @@
 -- A step of a sweep, in the list's own memory.
 use Rattle.std.specs.Prelude.{◌≡◌, ◌<◌, ◌≤◌, ◌+◌, ◌||◌, ℕ, Bool, true, false, cond, List, [], ◌∷◌, length, take, drop, slice_set as set}
-use Rattle.rhai_tokens.specs.declared.position.Position.{Position}
-use Rattle.rhai_tree.specs.declared.stmt.Stmt as declared_stmt
-use Rattle.rhai_tree.specs.declared.stmt.Stmt.TheVariants.{Noop as noop_at}
-use Rattle.rhai_meaning.specs.Tree.{Stmts, stmt}
-use Rattle.rhai_tree.specs.Reading.{stmt_of, stmts_of}
-use Rattle.rhai_rewriting.specs.Clear.{AreClear}
-use Rattle.rhai_rewriting.specs.Known.{Known}
-use Rattle.rhai_rewriting.specs.Context.{Context, ListKind, wanted}
-use Rattle.rhai_rewriting.specs.Rewriting.{RestTo}
-use Rattle.rhai_rewriting.specs.Rules.{ListRule}
+use Rattle.base_tokens.specs.declared.position.Position.{Position}
+use Rattle.ast_types.specs.declared.stmt.Stmt as declared_stmt
+use Rattle.ast_types.specs.declared.stmt.Stmt.TheVariants.{Noop as noop_at}
+use Rattle.theory_meaning.specs.Tree.{Stmts, stmt}
+use Rattle.ast_types.specs.Reading.{stmt_of, stmts_of}
+use Rattle.theory_rewriting.specs.Clear.{AreClear}
+use Rattle.theory_rewriting.specs.Known.{Known}
+use Rattle.theory_rewriting.specs.Context.{Context, ListKind, wanted}
+use Rattle.theory_rewriting.specs.Rewriting.{RestTo}
+use Rattle.theory_rewriting.specs.Rules.{ListRule}
 use Rattle.rhai_sweep.specs.Sweep.{DecidedTo, IsSwept, Keeps, bared, closed_up}
 use Rattle.rhai_sweep.specs.declared.behind.Behind.{Behind}
 use Rattle.rhai_sweep.specs.declared.swept.Swept.{Swept}

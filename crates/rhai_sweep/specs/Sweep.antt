@@ -1,15 +1,15 @@
 -- A sweep over a list of statements, from its end.
 use Rattle.std.specs.Prelude.{◌≡◌, List, Bool, true, false, cond, ◌&&◌, ◌||◌, not, Option, Some, None, if◌then◌else◌}
-use Rattle.rhai_meaning.specs.Queries.{is_pure, is_internally_pure, are_internally_pure, is_noop}
-use Rattle.rhai_meaning.specs.Tree.{Expr, Variable, Stmt, Noop, ExprStmt, Return, no_expr, an_expr, Stmts, no_stmts, stmt}
-use Rattle.rhai_rewriting.specs.Clear.{AreClear}
-use Rattle.rhai_rewriting.specs.Exports.{exports_nothing, stmt_exports_nothing}
-use Rattle.rhai_rewriting.specs.Known.{Known}
-use Rattle.rhai_rewriting.specs.Context.{Context, ListKind, Whole, Inside, wanted, wanted_before}
-use Rattle.rhai_rewriting.specs.Reducible.{goes_on_after_leaving, idles, ends_in_return}
-use Rattle.rhai_rewriting.specs.Rewriting.{RestTo}
-use Rattle.rhai_rewriting.specs.Rules.{is_pure_in}
-use Rattle.rhai_rewriting.specs.SurelyUnit.{is_surely_unit}
+use Rattle.theory_meaning.specs.Queries.{is_pure, is_internally_pure, are_internally_pure, is_noop}
+use Rattle.theory_meaning.specs.Tree.{Expr, Variable, Stmt, Noop, ExprStmt, Return, no_expr, an_expr, Stmts, no_stmts, stmt}
+use Rattle.theory_rewriting.specs.Clear.{AreClear}
+use Rattle.theory_rewriting.specs.Exports.{exports_nothing, stmt_exports_nothing}
+use Rattle.theory_rewriting.specs.Known.{Known}
+use Rattle.theory_rewriting.specs.Context.{Context, ListKind, Whole, Inside, wanted, wanted_before}
+use Rattle.theory_rewriting.specs.Reducible.{goes_on_after_leaving, idles, ends_in_return}
+use Rattle.theory_rewriting.specs.Rewriting.{RestTo}
+use Rattle.theory_rewriting.specs.Rules.{is_pure_in}
+use Rattle.theory_rewriting.specs.SurelyUnit.{is_surely_unit}
 use Rattle.rhai_sweep.specs.declared.behind.Behind.{Behind}
 use Rattle.rhai_sweep.specs.declared.behind.Fading.{Fading}
 use Rattle.rhai_sweep.specs.declared.behind.Fading.TheVariants as fading_kind

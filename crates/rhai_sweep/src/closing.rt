@@ -1,18 +1,18 @@
 //! Marks that are closed up.
 
-#![tactic(auto, using(rhai_tree::specs::Reading::shapes))]
+#![tactic(auto, using(ast_types::specs::Reading::shapes))]
 
 ghost use Rattle.std.specs.Prelude.{◌≡◌, ◌<◌, ◌≤◌, ◌+◌, ◌++◌, ◌∷◌, [], ◌&&◌, not, length, take, drop, slice_index_or};
-ghost use Rattle.rhai_meaning.specs.Queries as queries;
-ghost use Rattle.rhai_tree.specs.Reading.{stmt_of, stmts_of};
-ghost use Rattle.rhai_rewriting.specs.Context.{wanted_before};
-ghost use Rattle.rhai_tree.specs.declared.stmt.Stmt.{Stmt};
+ghost use Rattle.theory_meaning.specs.Queries as queries;
+ghost use Rattle.ast_types.specs.Reading.{stmt_of, stmts_of};
+ghost use Rattle.theory_rewriting.specs.Context.{wanted_before};
+ghost use Rattle.ast_types.specs.declared.stmt.Stmt.{Stmt};
 ghost use Rattle.rhai_sweep.specs.Sweep.{closed_up};
 
+use ast_types::Stmt;
 use rhai_base::Seq;
 use rhai_lists::shorten;
 use rhai_stmts::StmtQueries;
-use rhai_tree::Stmt;
 use std::alloc::Global;
 
 /// Is the statement at a place a mark: a `Noop` whose value is not wanted?

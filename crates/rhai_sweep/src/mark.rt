@@ -11,7 +11,7 @@ pub enum ListMark {
 
 impl ListMark {
     ghost use Rattle.std.specs.Prelude.{◌≡◌};
-    ghost use Rattle.rhai_rewriting.specs.Context.{wanted};
+    ghost use Rattle.theory_rewriting.specs.Context.{wanted};
     ghost use Rattle.rhai_sweep.specs.Marks.{mark_of};
 
     /// Whether the value of the last statement is wanted.

@@ -8,8 +8,8 @@ use crate::closing::close_up;
 use crate::mark::ListMark;
 use crate::steps::{decide, go_last};
 use crate::swept::Swept;
+use ast_types::Stmt;
 use rhai_base::Seq;
-use rhai_tree::Stmt;
 use std::alloc::Global;
 
 /// Decides each statement of a list, from its end.

@@ -1,21 +1,21 @@
 //! What a sweep asks of a statement.
 
-#![tactic(auto, using(rhai_tree::specs::Reading::shapes))]
+#![tactic(auto, using(ast_types::specs::Reading::shapes))]
 
 ghost use Rattle.std.specs.Prelude.{◌≡◌};
-ghost use Rattle.rhai_meaning.specs.Queries as queries;
-ghost use Rattle.rhai_tree.specs.Reading.{expr_of, stmt_of};
-ghost use Rattle.rhai_rewriting.specs.Rules as rules;
+ghost use Rattle.theory_meaning.specs.Queries as queries;
+ghost use Rattle.ast_types.specs.Reading.{expr_of, stmt_of};
+ghost use Rattle.theory_rewriting.specs.Rules as rules;
 ghost use Rattle.rhai_sweep.specs.Marks.{mark_of};
 ghost use Rattle.rhai_sweep.specs.Sweep as spec;
 
 use crate::behind::{Fading, Going};
 use crate::mark::ListMark;
+use ast_types::{Expr, Stmt};
 use bitflags::Flags;
+use opt_queries::{exports_nothing, is_surely_unit};
 use rhai_base::ASTFlags;
-use rhai_deep_queries::{exports_nothing, is_surely_unit};
 use rhai_stmts::StmtQueries;
-use rhai_tree::{Expr, Stmt};
 
 /// Is it a name alone?
 fn is_lone(statement: &Stmt) -> bool

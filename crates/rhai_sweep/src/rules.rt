@@ -1,13 +1,13 @@
 //! The rules of lists, a function each, in the list's own memory. A statement that goes is marked by a `Noop` in its
 //! place.
 
-#![tactic(auto, using(rhai_tree::specs::Reading::shapes))]
+#![tactic(auto, using(ast_types::specs::Reading::shapes))]
 
 ghost use Rattle.std.specs.Prelude.{◌≡◌, ◌<◌, ◌≤◌, ◌+◌, ◌-◌, ◌&&◌, true, false, ℕ, length, take, drop, slice_index_or};
-ghost use Rattle.rhai_meaning.specs.Queries as queries;
-ghost use Rattle.rhai_tree.specs.Reading.{stmt_of};
-ghost use Rattle.rhai_rewriting.specs.Context.{ListKind, Whole, wanted};
-ghost use Rattle.rhai_tree.specs.declared.stmt.Stmt.{Stmt};
+ghost use Rattle.theory_meaning.specs.Queries as queries;
+ghost use Rattle.ast_types.specs.Reading.{stmt_of};
+ghost use Rattle.theory_rewriting.specs.Context.{ListKind, Whole, wanted};
+ghost use Rattle.ast_types.specs.declared.stmt.Stmt.{Stmt};
 ghost use Rattle.rhai_sweep.specs.Marks.{mark_of};
 ghost use Rattle.rhai_sweep.specs.Steps.{BaredAt, Fires, FiresBehindUnit, MarkedAt, Step, kept};
 ghost use Rattle.rhai_sweep.specs.Sweep as spec;
@@ -15,11 +15,11 @@ ghost use Rattle.rhai_sweep.specs.declared.behind.Fading.TheVariants as fading_k
 
 use crate::behind::Behind;
 use crate::mark::ListMark;
+use ast_types::Stmt;
 use rhai_base::{Position, Seq};
 use rhai_lists::{cut_behind, put_nothing, shorten};
 use rhai_nodes::put_stmt;
 use rhai_stmts::StmtQueries;
-use rhai_tree::Stmt;
 use std::alloc::Global;
 use std::mem::replace;
 

@@ -1,12 +1,12 @@
 //! The decisions of a sweep: which rule fires at a statement, asked by reference, and what is known before it then.
 
-#![tactic(auto, using(rhai_tree::specs::Reading::shapes))]
+#![tactic(auto, using(ast_types::specs::Reading::shapes))]
 
 ghost use Rattle.std.specs.Prelude.{◌≡◌, ◌<◌, ◌+◌, ◌-◌, ◌&&◌, ◌||◌, not, true, false, Some, None, length, take, slice_index_or};
-ghost use Rattle.rhai_meaning.specs.Queries as queries;
-ghost use Rattle.rhai_tree.specs.Reading.{stmt_of};
-ghost use Rattle.rhai_rewriting.specs.Context.{wanted};
-ghost use Rattle.rhai_tree.specs.declared.stmt.Stmt.{Stmt};
+ghost use Rattle.theory_meaning.specs.Queries as queries;
+ghost use Rattle.ast_types.specs.Reading.{stmt_of};
+ghost use Rattle.theory_rewriting.specs.Context.{wanted};
+ghost use Rattle.ast_types.specs.declared.stmt.Stmt.{Stmt};
 ghost use Rattle.rhai_sweep.specs.Marks.{mark_of};
 ghost use Rattle.rhai_sweep.specs.Steps.{MarkedAt, Step, cut};
 ghost use Rattle.rhai_sweep.specs.declared.mark.ListMark.{ListMark};
@@ -19,10 +19,10 @@ use crate::rules::{
     after_leave, last_return, last_return_goes, last_return_noop, last_unit_goes, last_unit_noop,
     lone_goes, pure_goes, pure_inside_goes,
 };
+use ast_types::Stmt;
+use opt_queries::is_surely_unit;
 use rhai_base::Seq;
-use rhai_deep_queries::is_surely_unit;
 use rhai_stmts::StmtQueries;
-use rhai_tree::Stmt;
 use std::alloc::Global;
 
 /// A statement goes by a rule, since its value is not wanted.

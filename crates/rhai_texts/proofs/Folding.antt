@@ -1,17 +1,17 @@
 -- Literals of constants that fold to their value.
 use Rattle.std.proofs.Common.{◌≡◌, Bool, true, false, List, Option, Some, None, refl, sym, ap, ◌∙◌, subst}
 use Rattle.rhai_base.specs.Value.{Text, Value, TextV, MapV}
-use Rattle.rhai_meaning.specs.Constants.{constant_for, constant_value, constant_values, constant_entries, joined_value, map_value, literal_value}
-use Rattle.rhai_meaning.specs.Control.{texts_joined}
-use Rattle.rhai_meaning.specs.Elements.{fields_of}
-use Rattle.rhai_meaning.specs.Engine.{Engine, or_else}
-use Rattle.rhai_meaning.specs.Tree.{Expr, InterpolatedString, MapOf}
-use Rattle.rhai_meaning.specs.Walk.{OfExpr}
-use Rattle.rhai_rewriting.specs.Rules as rule
-use Rattle.rhai_rewriting.specs.Clear.{known_value}
-use Rattle.rhai_rewriting.specs.Residue.{IsReducedNode}
-use Rattle.rhai_rewriting.specs.Steps.{Progress, Place, AnswersNone, ExprKept, ExprRewrite}
-use Rattle.rhai_rewriting.proofs.Keeping.{keeps_constant, may_be_constant}
+use Rattle.theory_meaning.specs.Constants.{constant_for, constant_value, constant_values, constant_entries, joined_value, map_value, literal_value}
+use Rattle.theory_meaning.specs.Control.{texts_joined}
+use Rattle.theory_meaning.specs.Elements.{fields_of}
+use Rattle.theory_meaning.specs.Engine.{Engine, or_else}
+use Rattle.theory_meaning.specs.Tree.{Expr, InterpolatedString, MapOf}
+use Rattle.theory_meaning.specs.Walk.{OfExpr}
+use Rattle.theory_rewriting.specs.Rules as rule
+use Rattle.theory_rewriting.specs.Clear.{known_value}
+use Rattle.theory_rewriting.specs.Residue.{IsReducedNode}
+use Rattle.theory_rewriting.specs.Steps.{Progress, Place, AnswersNone, ExprKept, ExprRewrite}
+use Rattle.theory_rewriting.proofs.Keeping.{keeps_constant, may_be_constant}
 use Rattle.rhai_steps.specs.Folded.{FoldsConstant}
 use Rattle.rhai_steps.specs.NodeSteps.{ExprStep, Puts}
 use Rattle.rhai_steps.proofs.Stepping.{expr_put}

@@ -1,12 +1,12 @@
 -- Declared nodes that are none of a kind.
 use Rattle.std.proofs.Common.{◌≡◌, false, [], refl}
-use Rattle.rhai_tokens.specs.declared.position.Position.{Position}
+use Rattle.base_tokens.specs.declared.position.Position.{Position}
 use Rattle.rhai_base.specs.Value.{Text}
 use Rattle.rhai_base.specs.declared.dynamic.Dynamic.{Dynamic}
-use Rattle.rhai_tree.specs.declared.expr.Expr as declared_expr
-use Rattle.rhai_tree.specs.declared.expr.Expr.TheVariants as expr_kind
-use Rattle.rhai_meaning.specs.Tree.{Expr}
-use Rattle.rhai_tree.proofs.Cases.{ExprCase, dynamic_constant_case, string_constant_case, interpolated_string_case, unit_case}
+use Rattle.ast_types.specs.declared.expr.Expr as declared_expr
+use Rattle.ast_types.specs.declared.expr.Expr.TheVariants as expr_kind
+use Rattle.theory_meaning.specs.Tree.{Expr}
+use Rattle.ast_types.proofs.Cases.{ExprCase, dynamic_constant_case, string_constant_case, interpolated_string_case, unit_case}
 use Rattle.rhai_steps.proofs.NodeKinds.{NoText}
 use Rattle.rhai_texts.specs.Parts.{is_interpolated, is_text, written, is_empty_part}
 

@@ -3,13 +3,13 @@ use Rattle.std.proofs.Common.{◌≡◌, ◌<◌, ◌≤◌, ℕ, ◌+◌, ◌-�
 use Rattle.std.proofs.Math.Dec.{eqb}
 use Rattle.std.proofs.lemmas.Bool.Decides.{eqb_tells}
 use Rattle.std.proofs.lemmas.List.{append_assoc, append-nil, drop_more, drop_all, drop-drop, drop-set-lt, take_all, take-set-le, length-set, length-take-le, get_or-set_same, get_or_read, set-get_or}
-use Rattle.rhai_tree.specs.declared.expr.Expr as declared_expr
+use Rattle.ast_types.specs.declared.expr.Expr as declared_expr
 use Rattle.rhai_base.specs.Value.{Text, Value, UnitV, TextV, text_of}
-use Rattle.rhai_meaning.specs.Tree.{Expr, DynamicConstant, StringConstant, UnitConstant, InterpolatedString, Exprs, expr, count_exprs}
-use Rattle.rhai_tree.specs.Reading.{expr_of, exprs_of}
-use Rattle.rhai_rewriting.specs.Operands.{TextTo, in_other_parts, texts_join, empty_goes}
-use Rattle.rhai_rewriting.specs.Rules as rule
-use Rattle.rhai_rewriting.specs.Steps.{Place, Anywhere, AsBase, AsGuard, MayBecome, KeepsExprParts}
+use Rattle.theory_meaning.specs.Tree.{Expr, DynamicConstant, StringConstant, UnitConstant, InterpolatedString, Exprs, expr, count_exprs}
+use Rattle.ast_types.specs.Reading.{expr_of, exprs_of}
+use Rattle.theory_rewriting.specs.Operands.{TextTo, in_other_parts, texts_join, empty_goes}
+use Rattle.theory_rewriting.specs.Rules as rule
+use Rattle.theory_rewriting.specs.Steps.{Place, Anywhere, AsBase, AsGuard, MayBecome, KeepsExprParts}
 use Rattle.rhai_passes.specs.Passes.{InTurn, no_change, one_more}
 use Rattle.rhai_passes.proofs.Listed.{Listed, answers, reduced}
 use Rattle.rhai_passes.proofs.Passing.{Changes, turn_then, turns_pass}

@@ -1,12 +1,12 @@
 -- The parts of an interpolated text: what goes of them, and what is joined.
 use Rattle.std.specs.Prelude.{◌≡◌, ◌<◌, ◌≤◌, ◌+◌, ℕ, Bool, true, false, List, [], ◌∷◌, length, get_or, set, drop}
-use Rattle.rhai_tree.specs.declared.expr.Expr as declared_expr
+use Rattle.ast_types.specs.declared.expr.Expr as declared_expr
 use Rattle.rhai_base.specs.Value.{Text, Value, UnitV, TextV}
-use Rattle.rhai_meaning.specs.Engine.{Engine}
-use Rattle.rhai_meaning.specs.Tree.{Expr, DynamicConstant, StringConstant, UnitConstant, InterpolatedString, MapOf, expr}
-use Rattle.rhai_tree.specs.Reading.{expr_of, exprs_of}
-use Rattle.rhai_rewriting.specs.Operands.{TextTo}
-use Rattle.rhai_rewriting.specs.Steps.{Progress, Place}
+use Rattle.theory_meaning.specs.Engine.{Engine}
+use Rattle.theory_meaning.specs.Tree.{Expr, DynamicConstant, StringConstant, UnitConstant, InterpolatedString, MapOf, expr}
+use Rattle.ast_types.specs.Reading.{expr_of, exprs_of}
+use Rattle.theory_rewriting.specs.Operands.{TextTo}
+use Rattle.theory_rewriting.specs.Steps.{Progress, Place}
 use Rattle.rhai_steps.specs.NodeSteps.{ExprStep}
 use Rattle.rhai_passes.specs.Passes.{InTurn, NodePass}
 

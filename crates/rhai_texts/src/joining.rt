@@ -1,11 +1,11 @@
 //! One pass over the parts of an interpolated text, in the list's own memory: empty ones go, and neighbouring texts
 //! are joined. Each text is copied once.
 
-#![tactic(auto, using(rhai_tree::specs::Reading::shapes))]
+#![tactic(auto, using(ast_types::specs::Reading::shapes))]
 
 ghost use Rattle.std.specs.Prelude.{◌≡◌, ◌<◌, ◌≤◌, ◌+◌, IfOk, OnOk, length};
-ghost use Rattle.rhai_meaning.specs.Tree.{InterpolatedString, StringConstant};
-ghost use Rattle.rhai_tree.specs.Reading.{exprs_of};
+ghost use Rattle.theory_meaning.specs.Tree.{InterpolatedString, StringConstant};
+ghost use Rattle.ast_types.specs.Reading.{exprs_of};
 ghost use Rattle.rhai_texts.specs.Parts.{AreTexts, Joins, JoinedAt, NodeChange, PartsChange, PutText};
 
 use crate::parts::{is_empty_part, is_text, push_written};

@@ -1,13 +1,13 @@
 //! The rules at an interpolated text and at a map literal, in the node's place.
 
-#![tactic(auto, using(rhai_tree::specs::Reading::shapes))]
+#![tactic(auto, using(ast_types::specs::Reading::shapes))]
 
 ghost use Rattle.std.specs.Prelude.{◌≡◌, IfOk, true};
-ghost use Rattle.rhai_meaning.specs.Engine.{Engine};
-ghost use Rattle.rhai_known.specs.State.{progress};
+ghost use Rattle.theory_meaning.specs.Engine.{Engine};
+ghost use Rattle.opt_known.specs.State.{progress};
 ghost use Rattle.rhai_passes.specs.Passes.{PassStep};
-ghost use Rattle.rhai_tree.specs.Reading.{expr_of};
-ghost use Rattle.rhai_rewriting.specs.Steps.{Place};
+ghost use Rattle.ast_types.specs.Reading.{expr_of};
+ghost use Rattle.theory_rewriting.specs.Steps.{Place};
 ghost use Rattle.rhai_steps.specs.NodeSteps.{ExprStep};
 ghost use Rattle.rhai_texts.specs.Parts as spec;
 ghost use Rattle.rhai_texts.specs.Parts.{Folds, NodeChange};

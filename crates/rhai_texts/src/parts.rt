@@ -1,11 +1,11 @@
 //! What is asked of a part of an interpolated text.
 
-#![tactic(auto, using(rhai_tree::specs::Reading::shapes, rhai_base::specs::Reading::kinds))]
+#![tactic(auto, using(ast_types::specs::Reading::shapes, rhai_base::specs::Reading::kinds))]
 
 ghost use Rattle.std.specs.Prelude.{◌≡◌, ◌++◌, OnOk};
 ghost use Rattle.std.specs.String.{string_bytes};
 ghost use Rattle.rhai_base.specs.Reading.{value_of};
-ghost use Rattle.rhai_tree.specs.Reading.{expr_of};
+ghost use Rattle.ast_types.specs.Reading.{expr_of};
 ghost use Rattle.rhai_texts.specs.Parts as spec;
 
 use rhai_ast::Expr;

@@ -1,15 +1,15 @@
 -- What stands below a declared node is what the theory has below its tree.
 use Rattle.std.proofs.Common.{◌≡◌, ℕ, zero, suc, List, [], ◌∷◌, ◌++◌, map, Option, Some, None, refl, sym, ap, ◌∙◌}
 use Rattle.std.proofs.lemmas.List.{map-append}
-use Rattle.rhai_tokens.specs.declared.ident.Ident.{Ident}
-use Rattle.rhai_tree.specs.declared.expr.BinaryExpr.{BinaryExpr}
-use Rattle.rhai_tree.specs.declared.expr.Expr as declared_expr
-use Rattle.rhai_tree.specs.declared.stmt.Stmt as declared_stmt
-use Rattle.rhai_meaning.specs.Tree.{Expr, Stmt}
-use Rattle.rhai_meaning.specs.Walk.{OfExpr, OfStmt, LoopBody, arm_at, arms_at, listed, over_arms, over_exprs, over_maybe, over_pairs, over_stmts}
-use Rattle.rhai_tree.specs.Reading.{arms_of, cases_of, expr_of, expressions_of, exprs_of, maybe_of, pairs_of, stmt_of, stmts_of, subject_of, table_of}
-use Rattle.rhai_tree.proofs.Cases as cases
-use Rattle.rhai_tree.proofs.Cases.{ExprCase, StmtCase, expr_cases, stmt_cases}
+use Rattle.base_tokens.specs.declared.ident.Ident.{Ident}
+use Rattle.ast_types.specs.declared.expr.BinaryExpr.{BinaryExpr}
+use Rattle.ast_types.specs.declared.expr.Expr as declared_expr
+use Rattle.ast_types.specs.declared.stmt.Stmt as declared_stmt
+use Rattle.theory_meaning.specs.Tree.{Expr, Stmt}
+use Rattle.theory_meaning.specs.Walk.{OfExpr, OfStmt, LoopBody, arm_at, arms_at, listed, over_arms, over_exprs, over_maybe, over_pairs, over_stmts}
+use Rattle.ast_types.specs.Reading.{arms_of, cases_of, expr_of, expressions_of, exprs_of, maybe_of, pairs_of, stmt_of, stmts_of, subject_of, table_of}
+use Rattle.ast_types.proofs.Cases as cases
+use Rattle.ast_types.proofs.Cases.{ExprCase, StmtCase, expr_cases, stmt_cases}
 use Rattle.rhai_walk.specs.Children.{Child, anywhere, children, one_step, placed_at}
 use Rattle.rhai_walk.specs.Left.{all_meant, meant}
 use Rattle.rhai_walk.specs.Nodes.{node_of}

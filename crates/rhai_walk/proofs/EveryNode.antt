@@ -3,12 +3,12 @@ use Rattle.std.proofs.Common.{◌≡◌, ℕ, ◌+◌, ◌<◌, true, false, ◌
 use Rattle.std.proofs.Math.Seq.{drop-cons, drop-length}
 use Rattle.std.specs.declared.alloc.Global.{Global}
 use Rattle.std.specs.declared.rc.Rc.{Rc}
-use Rattle.rhai_meaning.specs.Plain.{all_true}
-use Rattle.rhai_meaning.specs.Walk.{Node, over_functions, over_stmts}
-use Rattle.rhai_meaning.proofs.Truth.{and_assoc}
-use Rattle.rhai_tree.specs.declared.script_fn.ScriptFuncDef.{ScriptFuncDef}
-use Rattle.rhai_tree.specs.declared.stmt.Stmt.{Stmt}
-use Rattle.rhai_tree.specs.Reading.{function_of, stmts_of}
+use Rattle.theory_meaning.specs.Plain.{all_true}
+use Rattle.theory_meaning.specs.Walk.{Node, over_functions, over_stmts}
+use Rattle.theory_meaning.proofs.Truth.{and_assoc}
+use Rattle.ast_types.specs.declared.script_fn.ScriptFuncDef.{ScriptFuncDef}
+use Rattle.ast_types.specs.declared.stmt.Stmt.{Stmt}
+use Rattle.ast_types.specs.Reading.{function_of, stmts_of}
 use Rattle.rhai_walk.specs.Children.{children, over_children, over_parts}
 use Rattle.rhai_walk.specs.Left.{left_of, statements_left}
 use Rattle.rhai_walk.specs.declared.children.Children.{Children}

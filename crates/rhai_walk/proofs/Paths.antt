@@ -3,9 +3,9 @@ use Rattle.std.proofs.Common.{◌≡◌, ◌<◌, Bool, Result, Ok, ℕ, zero, s
 use Rattle.std.proofs.lemmas.List.{append-nil, map-append}
 use Rattle.std.specs.Borrow.{Bor}
 use Rattle.std.specs.Fn.{Mut}
-use Rattle.rhai_meaning.specs.Paths as meaning
-use Rattle.rhai_meaning.specs.Paths.{listing}
-use Rattle.rhai_meaning.specs.Walk.{Spot}
+use Rattle.theory_meaning.specs.Paths as meaning
+use Rattle.theory_meaning.specs.Paths.{listing}
+use Rattle.theory_meaning.specs.Walk.{Spot}
 use Rattle.rhai_walk.specs.Children.{AreBelow, at_spot, children, over_children, over_node, over_parts, size_of}
 use Rattle.rhai_walk.specs.Standing.{Declared, Standing, below, declared_of, standing_child, standing_of, tree_of}
 use Rattle.rhai_walk.specs.Walking.{Lists, Path, Walks, WalksOver, ended, next, nothing, through}

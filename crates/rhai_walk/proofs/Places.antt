@@ -8,9 +8,9 @@ use Rattle.rhai_base.specs.declared.dynamic.Dynamic.{Dynamic}
 use Rattle.rhai_base.specs.declared.range_case.RangeCase.{RangeCase}
 use Rattle.rhai_base.specs.Ranges.{index_of}
 use Rattle.rhai_base.specs.declared.cases.CaseBlocksList.{CaseBlocksList}
-use Rattle.rhai_meaning.specs.Walk.{arms_of_cases, arms_of_ranges}
-use Rattle.rhai_tree.specs.Reading.{case_of, range_of}
-use Rattle.rhai_tree.proofs.Ranges.{range_arm}
+use Rattle.theory_meaning.specs.Walk.{arms_of_cases, arms_of_ranges}
+use Rattle.ast_types.specs.Reading.{case_of, range_of}
+use Rattle.ast_types.proofs.Ranges.{range_arm}
 use Rattle.rhai_walk.proofs.Items.{item_past, item_there}
 
 -- the places that are left: of cases from one on, of ranges, and of the default

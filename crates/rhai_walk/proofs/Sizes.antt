@@ -1,8 +1,8 @@
 -- Each child of a node is smaller than the node.
 use Rattle.std.proofs.Common.{◌≡◌, ◌<◌, ◌≤◌, ◌+◌, ◌*◌, ℕ, zero, suc, List, [], ◌∷◌, ◌++◌, map, max, sym, subst, arith}
 use Rattle.std.proofs.Math.Nat.{le-max_left, le-max_right, max-le}
-use Rattle.rhai_meaning.specs.Tree.{Expr, DynamicConstant, BoolConstant, IntegerConstant, CharConstant, StringConstant, UnitConstant, InterpolatedString, ArrayOf, MapOf, Variable, ThisPtr, Property, MethodCall, BlockExpr, FnCall, Dot, Index, And, Or, Coalesce, Exprs, no_exprs, expr, Pairs, no_pairs, pair, MaybeExpr, no_expr, an_expr, Arms, no_arms, arm, Stmt, Noop, If, Switch, While, Do, For, Var, Assignment, FnCallStmt, Block, TryCatch, ExprStmt, BreakLoop, Return, Import, Export, Share, Stmts, no_stmts, stmt}
-use Rattle.rhai_meaning.specs.Walk.{Node, OfExpr, OfStmt, Spot, LoopBody, Walk, arm_at, arms_at, listed, over_arms, over_expr, over_exprs, over_maybe, over_pairs, over_stmts, sum_of, total}
+use Rattle.theory_meaning.specs.Tree.{Expr, DynamicConstant, BoolConstant, IntegerConstant, CharConstant, StringConstant, UnitConstant, InterpolatedString, ArrayOf, MapOf, Variable, ThisPtr, Property, MethodCall, BlockExpr, FnCall, Dot, Index, And, Or, Coalesce, Exprs, no_exprs, expr, Pairs, no_pairs, pair, MaybeExpr, no_expr, an_expr, Arms, no_arms, arm, Stmt, Noop, If, Switch, While, Do, For, Var, Assignment, FnCallStmt, Block, TryCatch, ExprStmt, BreakLoop, Return, Import, Export, Share, Stmts, no_stmts, stmt}
+use Rattle.theory_meaning.specs.Walk.{Node, OfExpr, OfStmt, Spot, LoopBody, Walk, arm_at, arms_at, listed, over_arms, over_expr, over_exprs, over_maybe, over_pairs, over_stmts, sum_of, total}
 use Rattle.rhai_walk.specs.Left.{left_of}
 use Rattle.rhai_walk.specs.Nodes.{child_of, node_of}
 use Rattle.rhai_walk.specs.declared.children.Children.{Children}

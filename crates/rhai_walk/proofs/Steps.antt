@@ -1,9 +1,9 @@
 -- The first of the arms that are listed.
 use Rattle.std.proofs.Common.{◌≡◌, ℕ, zero, suc, List, [], ◌∷◌, ◌++◌, map, Option, Some, None, MatchOption, slice_get, refl, sym, ap, ◌∙◌}
-use Rattle.rhai_tree.specs.declared.expr.BinaryExpr.{BinaryExpr}
-use Rattle.rhai_meaning.specs.Walk.{arm_at, arm_of_default, arms_at}
-use Rattle.rhai_tree.specs.declared.switch.SwitchCasesCollection.{SwitchCasesCollection}
-use Rattle.rhai_tree.specs.Reading.{expressions_of, table_of}
+use Rattle.ast_types.specs.declared.expr.BinaryExpr.{BinaryExpr}
+use Rattle.theory_meaning.specs.Walk.{arm_at, arm_of_default, arms_at}
+use Rattle.ast_types.specs.declared.switch.SwitchCasesCollection.{SwitchCasesCollection}
+use Rattle.ast_types.specs.Reading.{expressions_of, table_of}
 use Rattle.rhai_walk.specs.Arms.{places_left}
 use Rattle.rhai_walk.specs.declared.arms.ListedArms.{ListedArms}
 use Rattle.std.specs.Borrow.{Bor}

@@ -1,8 +1,8 @@
 -- The arms that the table of a `switch` has still to list.
 use Rattle.std.specs.Prelude.{ℕ, List, ◌++◌, drop}
-use Rattle.rhai_tree.specs.declared.switch.SwitchCasesCollection.{SwitchCasesCollection}
-use Rattle.rhai_meaning.specs.Walk.{arm_of_default, arms_of_cases, arms_of_ranges}
-use Rattle.rhai_tree.specs.Reading.{table_of}
+use Rattle.ast_types.specs.declared.switch.SwitchCasesCollection.{SwitchCasesCollection}
+use Rattle.theory_meaning.specs.Walk.{arm_of_default, arms_of_cases, arms_of_ranges}
+use Rattle.ast_types.specs.Reading.{table_of}
 use Rattle.rhai_walk.specs.declared.arms.ListedArms.{ListedArms}
 
 -- the place of the default

@@ -1,6 +1,6 @@
 -- The children of a node, in the walk's order, each with where it stands: a walk is a fold over them.
 use Rattle.std.specs.Prelude.{◌<◌, ℕ, List, [], ◌∷◌, ◌++◌, Option, Some, None, map}
-use Rattle.rhai_meaning.specs.Walk.{Node, OfExpr, OfStmt, Spot, Walk, arms_at, listed, parts_of_expr, parts_of_stmt, total}
+use Rattle.theory_meaning.specs.Walk.{Node, OfExpr, OfStmt, Spot, Walk, arms_at, listed, parts_of_expr, parts_of_stmt, total}
 
 -- a node right below another, and where it stands there, where that matters
 pub record Child : Type 0 where

@@ -1,9 +1,9 @@
 -- The children that are still to come, as the theory has them.
 use Rattle.std.specs.Prelude.{Bool, true, false, List, map, Option}
 use Rattle.std.specs.Iterator.{YieldsFirstBy}
-use Rattle.rhai_tree.specs.declared.stmt.Stmt.{Stmt}
-use Rattle.rhai_meaning.specs.Walk.{over_stmts}
-use Rattle.rhai_tree.specs.Reading.{stmts_of}
+use Rattle.ast_types.specs.declared.stmt.Stmt.{Stmt}
+use Rattle.theory_meaning.specs.Walk.{over_stmts}
+use Rattle.ast_types.specs.Reading.{stmts_of}
 use Rattle.rhai_walk.specs.Children as theory
 use Rattle.rhai_walk.specs.Children.{one_step}
 use Rattle.rhai_walk.specs.Nodes.{child_of}

@@ -1,8 +1,8 @@
 -- The node that is lent, and where it stands.
 use Rattle.std.specs.Prelude.{Bool, true, false, Option, Some, None}
-use Rattle.rhai_meaning.specs.Walk as walk
-use Rattle.rhai_meaning.specs.Walk.{Node, OfExpr, OfStmt}
-use Rattle.rhai_tree.specs.Reading.{chain_flags, expr_of, stmt_of}
+use Rattle.theory_meaning.specs.Walk as walk
+use Rattle.theory_meaning.specs.Walk.{Node, OfExpr, OfStmt}
+use Rattle.ast_types.specs.Reading.{chain_flags, expr_of, stmt_of}
 use Rattle.rhai_walk.specs.Children as theory
 use Rattle.rhai_walk.specs.declared.node.ASTNode.{ASTNode}
 use Rattle.rhai_walk.specs.declared.node.ASTNode.TheVariants as node

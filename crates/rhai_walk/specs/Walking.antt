@@ -2,7 +2,7 @@
 use Rattle.std.specs.Prelude.{◌≡◌, ◌++◌, Bool, true, false, List, [], ◌∷◌, map, Result, Ok, Err}
 use Rattle.std.specs.Borrow.{Bor}
 use Rattle.std.specs.Fn.{Mut, CalledAt}
-use Rattle.rhai_tokens.specs.declared.error.OutOfMemory.{OutOfMemory}
+use Rattle.base_tokens.specs.declared.error.OutOfMemory.{OutOfMemory}
 use Rattle.rhai_walk.specs.Standing.{Declared, Standing, below, declared_of}
 use Rattle.rhai_walk.specs.declared.node.ASTNode.{ASTNode}
 use Rattle.rhai_walk.specs.declared.stop.Stop.{Stop}

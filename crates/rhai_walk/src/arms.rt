@@ -1,14 +1,14 @@
 //! The arms that the table of a `switch` lists.
 
-#![tactic(auto, using(rhai_tree::specs::Reading::shapes))]
+#![tactic(auto, using(ast_types::specs::Reading::shapes))]
 
 ghost use Rattle.std.specs.Prelude.{◌≡◌, [], ◌∷◌, ◌++◌, MatchOption};
 ghost use Rattle.rhai_walk.specs.Arms.{default_of, places_left, ranges_left};
 ghost use Rattle.rhai_walk.specs.Standing.{arms_standing, default_standing, listed_standing, sides_standing};
-ghost use Rattle.rhai_meaning.specs.Walk.{listed};
-ghost use Rattle.rhai_tree.specs.Reading.{expressions_of, table_of};
+ghost use Rattle.theory_meaning.specs.Walk.{listed};
+ghost use Rattle.ast_types.specs.Reading.{expressions_of, table_of};
 
-use rhai_tree::{BinaryExpr, SwitchCasesCollection};
+use ast_types::{BinaryExpr, SwitchCasesCollection};
 
 /// The arms that are still to come, each time that the table lists them: by cases, then by ranges; the default is
 /// apart. It counts and holds no list: a walk has room for it at each node that has children.

@@ -1,6 +1,6 @@
 //! The children of a node.
 
-#![tactic(auto, using(rhai_tree::specs::Reading::shapes))]
+#![tactic(auto, using(ast_types::specs::Reading::shapes))]
 
 ghost use Rattle.std.specs.Prelude.{◌≡◌, [], ◌∷◌, IsTrue};
 ghost use Rattle.rhai_walk.specs.Children.{children};
@@ -10,7 +10,7 @@ ghost use Rattle.rhai_walk.specs.Standing.{below, declared_of, expr_standing, st
 
 use crate::node::{ASTNode, Child};
 use crate::parts::Parts;
-use rhai_tree::{Expr, Stmt};
+use ast_types::{Expr, Stmt};
 
 /// The children of a node that are still to come, in the order of a walk.
 #[derive(Drop)]

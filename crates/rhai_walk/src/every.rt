@@ -1,18 +1,18 @@
 //! A question to every node of a tree.
 
-#![tactic(auto, using(rhai_tree::specs::Reading::shapes, crate::proofs::EveryNode::bodies))]
+#![tactic(auto, using(ast_types::specs::Reading::shapes, crate::proofs::EveryNode::bodies))]
 
 ghost use Rattle.std.specs.Prelude.{◌≡◌, Bool, map};
-ghost use Rattle.rhai_meaning.specs.Plain.{all_true};
-ghost use Rattle.rhai_meaning.specs.Walk.{Node, over_functions, over_stmts};
-ghost use Rattle.rhai_tree.specs.Reading.{function_of, stmts_of};
+ghost use Rattle.theory_meaning.specs.Plain.{all_true};
+ghost use Rattle.theory_meaning.specs.Walk.{Node, over_functions, over_stmts};
+ghost use Rattle.ast_types.specs.Reading.{function_of, stmts_of};
 ghost use Rattle.rhai_walk.specs.Children.{over_children, over_parts};
 ghost use Rattle.rhai_walk.specs.Left.{left_of};
 ghost use Rattle.rhai_walk.specs.Nodes.{node_of};
 
 use crate::children::Children;
 use crate::node::ASTNode;
-use rhai_tree::{ScriptFuncDef, Stmt};
+use ast_types::{ScriptFuncDef, Stmt};
 use std::rc::Rc;
 
 /// A question to one node, what is below it not looked at.

@@ -5,8 +5,8 @@ ghost use Rattle.rhai_walk.specs.Nodes.{is_dot};
 ghost use Rattle.rhai_walk.specs.Standing.{declared_of, standing_anywhere, standing_child};
 ghost use Rattle.rhai_walk.specs.declared.node.ASTNode.TheVariants as node;
 
+use ast_types::{Expr, Stmt};
 use rhai_base::ASTFlags;
-use rhai_tree::{Expr, Stmt};
 
 /// A node of a tree, lent.
 #[derive(Clone, Copy)]

@@ -1,18 +1,18 @@
 //! What a node is made of, as far as a walk goes into it.
 
-#![tactic(auto, using(rhai_tree::specs::Reading::shapes, crate::specs::Standing::nodes_below))]
+#![tactic(auto, using(ast_types::specs::Reading::shapes, crate::specs::Standing::nodes_below))]
 
 ghost use Rattle.std.specs.Prelude.{◌≡◌, [], ◌∷◌, ◌++◌, MatchOption};
 ghost use Rattle.rhai_walk.specs.Nodes.{is_dot};
 ghost use Rattle.rhai_walk.specs.Standing.{arms_standing, body_standing, expr_below, expr_standing, exprs_standing, left_standing, listed_standing, maybe_standing, members_standing, right_standing, sides_standing, standing_child, standing_of_parts, statements_standing, stmt_below};
 ghost use Rattle.rhai_walk.specs.declared.parts.Parts.TheVariants as parts;
-ghost use Rattle.rhai_meaning.specs.Walk.{listed};
-ghost use Rattle.rhai_tree.specs.Reading.{expressions_of, table_of};
+ghost use Rattle.theory_meaning.specs.Walk.{listed};
+ghost use Rattle.ast_types.specs.Reading.{expressions_of, table_of};
 
 use crate::arms::ListedArms;
 use crate::node::{ASTNode, ChainType, Child, Spot};
+use ast_types::{BinaryExpr, Expr, FlowControl, Stmt, SwitchBlock, SwitchCasesCollection};
 use rhai_base::{ASTFlags, Boxed, Ident};
-use rhai_tree::{BinaryExpr, Expr, FlowControl, Stmt, SwitchBlock, SwitchCasesCollection};
 
 /// The parts of a node that are still to come.
 #[derive(Clone, Copy)]

@@ -6,8 +6,8 @@ ghost use Rattle.rhai_walk.specs.Walking.{Enters, WalksOver, ended};
 
 use crate::stop::{Stop, answered};
 use crate::{ASTNode, Children};
+use ast_types::{Expr, Stmt};
 use rhai_base::OutOfMemory;
-use rhai_tree::{Expr, Stmt};
 use std::slice;
 
 /// Walks over an expression, as `Walk::walk` says.

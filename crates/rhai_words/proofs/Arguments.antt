@@ -1,10 +1,10 @@
 -- Arguments of calls, by the values of constants.
 use Rattle.std.proofs.Common.{◌≡◌, ◌<◌, ◌≤◌, List, [], ◌∷◌, length, Option, Some, None, refl, ap, ◌∙◌, arith}
 use Rattle.rhai_base.specs.Value.{Value}
-use Rattle.rhai_meaning.specs.Constants.{constant_value, constant_values, value_and}
-use Rattle.rhai_meaning.specs.Tree.{Expr, Exprs, no_exprs, expr}
-use Rattle.rhai_tree.specs.Reading.{expr_of, exprs_of}
-use Rattle.rhai_tree.specs.declared.expr.Expr as declared_expr
+use Rattle.theory_meaning.specs.Constants.{constant_value, constant_values, value_and}
+use Rattle.theory_meaning.specs.Tree.{Expr, Exprs, no_exprs, expr}
+use Rattle.ast_types.specs.Reading.{expr_of, exprs_of}
+use Rattle.ast_types.specs.declared.expr.Expr as declared_expr
 use Rattle.rhai_words.specs.Words.{only}
 
 -- ---- of declared arguments

@@ -3,9 +3,9 @@ use Rattle.std.proofs.Common.{◌≡◌, Bool, true, false, List, Option, Some, 
 use Rattle.std.specs.Prelude.{codes}
 use Rattle.std.specs.Option.{option_map}
 use Rattle.rhai_base.specs.Value.{Text, Value, same_text}
-use Rattle.rhai_meaning.specs.Engine.{Engine}
-use Rattle.rhai_meaning.specs.Shape.{is_none}
-use Rattle.rhai_meaning.specs.Tree.{Callee}
+use Rattle.theory_meaning.specs.Engine.{Engine}
+use Rattle.theory_meaning.specs.Shape.{is_none}
+use Rattle.theory_meaning.specs.Tree.{Callee}
 use Rattle.rhai_words.specs.declared.calls.Word.{Word}
 use Rattle.rhai_words.specs.declared.calls.Word.TheVariants as word_kind
 use Rattle.rhai_words.specs.Words.{only, type_of, is_shared, pointer_named, curried, word_named, word_called, word_value, value_of_word, unqualified_value}

@@ -4,24 +4,24 @@ use Rattle.std.specs.Prelude.{codes}
 use Rattle.std.specs.Option.{option_map}
 use Rattle.std.proofs.lemmas.Slice.Eq.{bytes_eq-Decides}
 use Rattle.rhai_base.specs.Value.{Text, Value, UnitV, TextV, PointerV, Values, no_values, items, values, same_text, is_unit}
-use Rattle.rhai_tokens.specs.Names.{is_valid_name}
-use Rattle.rhai_meaning.specs.Constants.{constant_value, constant_values, constant_for}
-use Rattle.rhai_meaning.specs.Engine.{Engine}
-use Rattle.rhai_meaning.specs.Tree.{CallToken, NoToken, OfOperator, OfOther, Callee, Expr, DynamicConstant, FnCall, Exprs, no_exprs, expr, Stmt, ExprStmt, FnCallStmt}
-use Rattle.rhai_meaning.specs.Walk.{OfExpr}
-use Rattle.rhai_rewriting.specs.Answering.{AnswersNothing}
-use Rattle.rhai_rewriting.specs.Clear.{IsClearExpr}
-use Rattle.rhai_rewriting.specs.Context.{Context}
-use Rattle.rhai_rewriting.specs.Folding.{folded}
-use Rattle.rhai_rewriting.specs.Known.{Known}
-use Rattle.rhai_rewriting.specs.Parts.{constant_of, named}
-use Rattle.rhai_rewriting.specs.Residue.{IsReducedExpr}
-use Rattle.rhai_rewriting.specs.Rules as rule
-use Rattle.rhai_rewriting.specs.Rules.{ExprRule, StmtRule}
-use Rattle.rhai_rewriting.proofs.Firing.{stmt_fired_by}
-use Rattle.rhai_rewriting.specs.Steps.{Progress, here, Place, KeepsStmtParts, StmtKept}
-use Rattle.rhai_rewriting.proofs.Keeping.{keeps_constant_of, may_be_constant_of}
-use Rattle.rhai_rewriting.proofs.Plain.{is_plain_value, folded_plain}
+use Rattle.base_tokens.specs.Names.{is_valid_name}
+use Rattle.theory_meaning.specs.Constants.{constant_value, constant_values, constant_for}
+use Rattle.theory_meaning.specs.Engine.{Engine}
+use Rattle.theory_meaning.specs.Tree.{CallToken, NoToken, OfOperator, OfOther, Callee, Expr, DynamicConstant, FnCall, Exprs, no_exprs, expr, Stmt, ExprStmt, FnCallStmt}
+use Rattle.theory_meaning.specs.Walk.{OfExpr}
+use Rattle.theory_rewriting.specs.Answering.{AnswersNothing}
+use Rattle.theory_rewriting.specs.Clear.{IsClearExpr}
+use Rattle.theory_rewriting.specs.Context.{Context}
+use Rattle.theory_rewriting.specs.Folding.{folded}
+use Rattle.theory_rewriting.specs.Known.{Known}
+use Rattle.theory_rewriting.specs.Parts.{constant_of, named}
+use Rattle.theory_rewriting.specs.Residue.{IsReducedExpr}
+use Rattle.theory_rewriting.specs.Rules as rule
+use Rattle.theory_rewriting.specs.Rules.{ExprRule, StmtRule}
+use Rattle.theory_rewriting.proofs.Firing.{stmt_fired_by}
+use Rattle.theory_rewriting.specs.Steps.{Progress, here, Place, KeepsStmtParts, StmtKept}
+use Rattle.theory_rewriting.proofs.Keeping.{keeps_constant_of, may_be_constant_of}
+use Rattle.theory_rewriting.proofs.Plain.{is_plain_value, folded_plain}
 use Rattle.rhai_steps.specs.declared.step.NodeStep.TheVariants as step
 use Rattle.rhai_steps.specs.NodeSteps.{ExprStep, StmtStep}
 use Rattle.rhai_steps.proofs.Stepping.{expr_stays, stmt_stays}

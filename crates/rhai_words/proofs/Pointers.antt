@@ -1,22 +1,22 @@
 -- Constant pointers, and the values that stand behind their own.
 use Rattle.std.proofs.Common.{◌≡◌, ℕ, false, List, [], ◌∷◌, ◌++◌, length, drop, Option, Some, None, is_some, refl, sym, ap, ◌∙◌, append_assoc}
 use Rattle.std.proofs.lemmas.List.{append-nil}
-use Rattle.rhai_tokens.specs.declared.position.Position.{Position}
+use Rattle.base_tokens.specs.declared.position.Position.{Position}
 use Rattle.rhai_base.specs.declared.dynamic.Dynamic.{Dynamic}
 use Rattle.rhai_base.specs.Value.{Text, Value, PointerV, Values, items, values}
 use Rattle.rhai_base.specs.Builtin.{operator_of}
 use Rattle.rhai_base.specs.Operators.{Operator}
-use Rattle.rhai_tokens.specs.declared.token.Token.{Token}
-use Rattle.rhai_meaning.specs.Constants.{array_value, joined_value, map_value, constant_value, constant_values, value_and}
-use Rattle.rhai_meaning.specs.Engine.{Engine}
-use Rattle.rhai_meaning.specs.Tree.{Callee, Expr, Exprs, Stmt}
-use Rattle.rhai_tree.specs.declared.expr.Expr as declared_expr
-use Rattle.rhai_tree.specs.declared.expr.Expr.TheVariants as expr_kind
-use Rattle.rhai_tree.specs.declared.stmt.Stmt as declared_stmt
-use Rattle.rhai_tree.specs.Reading.{exprs_of, mark_by, mark_of}
-use Rattle.rhai_tree.proofs.Cases.{ExprCase, dynamic_constant_case, interpolated_string_case, array_case, map_case, call_case, StmtCase, call_statement_case}
-use Rattle.rhai_tree.proofs.ItemLists.{exprs_of-end}
-use Rattle.rhai_rewriting.specs.Folding.{folded}
+use Rattle.base_tokens.specs.declared.token.Token.{Token}
+use Rattle.theory_meaning.specs.Constants.{array_value, joined_value, map_value, constant_value, constant_values, value_and}
+use Rattle.theory_meaning.specs.Engine.{Engine}
+use Rattle.theory_meaning.specs.Tree.{Callee, Expr, Exprs, Stmt}
+use Rattle.ast_types.specs.declared.expr.Expr as declared_expr
+use Rattle.ast_types.specs.declared.expr.Expr.TheVariants as expr_kind
+use Rattle.ast_types.specs.declared.stmt.Stmt as declared_stmt
+use Rattle.ast_types.specs.Reading.{exprs_of, mark_by, mark_of}
+use Rattle.ast_types.proofs.Cases.{ExprCase, dynamic_constant_case, interpolated_string_case, array_case, map_case, call_case, StmtCase, call_statement_case}
+use Rattle.ast_types.proofs.ItemLists.{exprs_of-end}
+use Rattle.theory_rewriting.specs.Folding.{folded}
 use Rattle.rhai_steps.proofs.NodeKinds.{NoCall, NoCallStatement}
 use Rattle.rhai_words.specs.Words.{curried, with_values, pointer_alone, value_by, expr_value, statement_value}
 

@@ -1,9 +1,9 @@
 -- The constant that holds a value was put in an expression's place, or in a statement's.
 use Rattle.std.specs.Prelude.{◌≡◌, true}
 use Rattle.rhai_base.specs.Value.{Value}
-use Rattle.rhai_meaning.specs.Tree.{Expr, Stmt, ExprStmt}
-use Rattle.rhai_rewriting.specs.Parts.{constant_of}
-use Rattle.rhai_rewriting.specs.Steps.{Progress}
+use Rattle.theory_meaning.specs.Tree.{Expr, Stmt, ExprStmt}
+use Rattle.theory_rewriting.specs.Parts.{constant_of}
+use Rattle.theory_rewriting.specs.Steps.{Progress}
 
 pub record Holds (s s' : Progress) (e' : Expr) (v : Value) : Type 0 where
   pub fired : s'.is_dirty ≡ true

@@ -4,11 +4,11 @@ use Rattle.std.specs.Option.{option_map}
 use Rattle.rhai_base.specs.declared.fn_ptr.FnPtr.{FnPtr}
 use Rattle.rhai_base.specs.Reading.{value_of}
 use Rattle.rhai_base.specs.Value.{Text, Value, BoolV, TextV, PointerV, items, values, same_text}
-use Rattle.rhai_meaning.specs.Constants.{constant_values, pointer_to}
-use Rattle.rhai_meaning.specs.Engine.{Engine, mapped_type_name}
-use Rattle.rhai_meaning.specs.Shape.{is_none}
-use Rattle.rhai_meaning.specs.Tree.{CallToken, NoToken, Callee, Expr, FnCall, Exprs, Stmt, FnCallStmt}
-use Rattle.rhai_rewriting.specs.Folding.{folded}
+use Rattle.theory_meaning.specs.Constants.{constant_values, pointer_to}
+use Rattle.theory_meaning.specs.Engine.{Engine, mapped_type_name}
+use Rattle.theory_meaning.specs.Shape.{is_none}
+use Rattle.theory_meaning.specs.Tree.{CallToken, NoToken, Callee, Expr, FnCall, Exprs, Stmt, FnCallStmt}
+use Rattle.theory_rewriting.specs.Folding.{folded}
 use Rattle.rhai_words.specs.declared.calls.Word.{Word}
 use Rattle.rhai_words.specs.declared.calls.Word.TheVariants as word_kind
 

@@ -6,12 +6,12 @@ ghost use Rattle.std.specs.Prelude.{◌≡◌, IfOk, Some, false};
 ghost use Rattle.std.specs.Option.{option_map};
 ghost use Rattle.rhai_base.specs.Reading.{value_of};
 ghost use Rattle.rhai_base.specs.Value.{BoolV};
-ghost use Rattle.rhai_meaning.specs.Constants as constants;
-ghost use Rattle.rhai_engine.specs.EngineInfo.{engine_of};
+ghost use Rattle.theory_meaning.specs.Constants as constants;
+ghost use Rattle.base_engine.specs.EngineInfo.{engine_of};
 ghost use Rattle.rhai_words.specs.Words as words;
 
+use base_engine::EngineInfo;
 use rhai_base::{Dynamic, FnPtr, ImmutableString, OutOfMemory};
-use rhai_engine::EngineInfo;
 use std::alloc::Global;
 
 /// `type_of`: the name that scripts see for a value's type.

@@ -1,24 +1,24 @@
 //! What calls over constants answer, a rule each. Which call it is, and whether its arguments are constants, is asked
 //! by reference.
 
-#![tactic(auto, using(rhai_tree::specs::Reading::shapes, rhai_base::specs::Reading::kinds))]
+#![tactic(auto, using(ast_types::specs::Reading::shapes, rhai_base::specs::Reading::kinds))]
 
 ghost use Rattle.std.specs.Prelude.{◌≡◌, IfOk, Some};
 ghost use Rattle.std.specs.Cow.{cow_value};
 ghost use Rattle.std.specs.Option.{option_map};
 ghost use Rattle.rhai_base.specs.Reading.{value_of};
 ghost use Rattle.rhai_nodes.specs.Lent.{lent_value};
-ghost use Rattle.rhai_tree.specs.Reading.{callee_of, expr_of, exprs_of};
-ghost use Rattle.rhai_meaning.specs.Constants as constants;
-ghost use Rattle.rhai_engine.specs.EngineInfo.{engine_of};
-ghost use Rattle.rhai_rewriting.specs.Folding as folding;
+ghost use Rattle.ast_types.specs.Reading.{callee_of, expr_of, exprs_of};
+ghost use Rattle.theory_meaning.specs.Constants as constants;
+ghost use Rattle.base_engine.specs.EngineInfo.{engine_of};
+ghost use Rattle.theory_rewriting.specs.Folding as folding;
 ghost use Rattle.rhai_words.specs.Words as words;
 
 use crate::answers::{is_shared_value, pointer_to_value, type_of_value};
+use base_engine::EngineInfo;
+use opt_folding::folded;
 use rhai_ast::{Expr, FnCallExpr, Literals};
 use rhai_base::{Dynamic, FnPtr, OutOfMemory};
-use rhai_engine::EngineInfo;
-use rhai_folding::folded;
 use rhai_queries::are_constant;
 use std::alloc::Global;
 use std::borrow::Cow;

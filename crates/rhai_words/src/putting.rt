@@ -1,13 +1,13 @@
 //! Constants that hold values, in the place of nodes.
 
-#![tactic(auto, using(rhai_tree::specs::Reading::shapes, rhai_base::specs::Reading::kinds))]
+#![tactic(auto, using(ast_types::specs::Reading::shapes, rhai_base::specs::Reading::kinds))]
 
 ghost use Rattle.std.specs.Prelude.{◌≡◌, IfOk, OnOk};
 ghost use Rattle.rhai_base.specs.Reading.{value_of};
-ghost use Rattle.rhai_meaning.specs.Tree.{DynamicConstant, ExprStmt};
-ghost use Rattle.rhai_known.specs.State.{progress};
-ghost use Rattle.rhai_tree.specs.Reading.{expr_of, stmt_of};
-ghost use Rattle.rhai_rewriting.specs.Parts as parts;
+ghost use Rattle.theory_meaning.specs.Tree.{DynamicConstant, ExprStmt};
+ghost use Rattle.opt_known.specs.State.{progress};
+ghost use Rattle.ast_types.specs.Reading.{expr_of, stmt_of};
+ghost use Rattle.theory_rewriting.specs.Parts as parts;
 ghost use Rattle.rhai_words.specs.Holding.{Holds, HoldsStatement};
 ghost use Rattle.rhai_words.specs.Words as words;
 

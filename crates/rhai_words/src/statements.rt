@@ -1,22 +1,22 @@
 //! What call statements over constants answer, a rule each: as the rule of the call as an expression says.
 
-#![tactic(auto, using(rhai_tree::specs::Reading::shapes, rhai_base::specs::Reading::kinds))]
+#![tactic(auto, using(ast_types::specs::Reading::shapes, rhai_base::specs::Reading::kinds))]
 
 ghost use Rattle.std.specs.Prelude.{◌≡◌, IfOk};
 ghost use Rattle.std.specs.Option.{option_map};
 ghost use Rattle.rhai_base.specs.Reading.{value_of};
-ghost use Rattle.rhai_tree.specs.Reading.{callee_of, exprs_of};
-ghost use Rattle.rhai_meaning.specs.Constants as constants;
-ghost use Rattle.rhai_engine.specs.EngineInfo.{engine_of};
-ghost use Rattle.rhai_rewriting.specs.Folding as folding;
+ghost use Rattle.ast_types.specs.Reading.{callee_of, exprs_of};
+ghost use Rattle.theory_meaning.specs.Constants as constants;
+ghost use Rattle.base_engine.specs.EngineInfo.{engine_of};
+ghost use Rattle.theory_rewriting.specs.Folding as folding;
 ghost use Rattle.rhai_words.specs.Words as words;
 
 use crate::calls::{
     Word, curry_folds, fn_folds, is_shared_folds, operator_folds, type_of_folds, word_called,
 };
+use base_engine::EngineInfo;
 use rhai_ast::{Expr, FnCallExpr};
 use rhai_base::{Dynamic, OutOfMemory};
-use rhai_engine::EngineInfo;
 use std::alloc::Global;
 
 /// What a call statement answers over constants, if it is of an operator or one of the language's own functions by its

@@ -1,24 +1,24 @@
 //! The rules at a call, as an expression and as a statement: what it answers over constants takes its place. That is
 //! neither a name nor unit, so it may stand wherever the call does.
 
-#![tactic(auto, using(rhai_tree::specs::Reading::shapes))]
+#![tactic(auto, using(ast_types::specs::Reading::shapes))]
 
 ghost use Rattle.std.specs.Prelude.{◌≡◌, IfOk, Bool, true};
 ghost use Rattle.std.specs.Option.{option_map};
 ghost use Rattle.rhai_base.specs.Reading.{value_of};
-ghost use Rattle.rhai_known.specs.State.{progress};
-ghost use Rattle.rhai_tree.specs.Reading.{expr_of, stmt_of};
-ghost use Rattle.rhai_engine.specs.EngineInfo.{engine_of};
-ghost use Rattle.rhai_rewriting.specs.Steps.{Place};
+ghost use Rattle.opt_known.specs.State.{progress};
+ghost use Rattle.ast_types.specs.Reading.{expr_of, stmt_of};
+ghost use Rattle.base_engine.specs.EngineInfo.{engine_of};
+ghost use Rattle.theory_rewriting.specs.Steps.{Place};
 ghost use Rattle.rhai_steps.specs.NodeSteps.{ExprStep, StmtStep};
 ghost use Rattle.rhai_words.specs.Words as words;
 
 use crate::calls::call_value;
 use crate::putting::{hold_value, hold_value_statement};
 use crate::statements::call_statement_value;
+use base_engine::EngineInfo;
 use rhai_ast::{Expr, Stmt};
 use rhai_base::{Dynamic, OutOfMemory};
-use rhai_engine::EngineInfo;
 use rhai_steps::{NodeStep, OptimizerState};
 use std::alloc::Global;
 

@@ -3,10 +3,10 @@
 use crate::blocks::{Block, HEAD, block_of};
 use crate::shelf::Shelf;
 use crate::stops::Stops;
-use rhai_command::run_words;
 use std::alloc::{AllocError, Global};
 use std::fmt::Write;
 use std::str;
+use tool_command::run_words;
 
 /// What was told.
 #[derive(Drop)]

@@ -1,8 +1,8 @@
 //! Files that stand nowhere.
 
-use rhai_command::Files;
 use std::alloc::Global;
 use std::io;
+use tool_command::Files;
 
 /// A file `a.rhai` with a text, which standard input has too; `b.rhai` with a line; `c.rhai`, which is no text; and no
 /// other.

@@ -1,11 +1,11 @@
 //! The pieces of docs/GUIDE.md on scripts.
 
 use crate::guide_trees;
+use ast_make as make;
 use rhai_ast::{ASTNode, Expr, ScriptFuncDef, Stmt};
 use rhai_base::{ASTFlags, Boxed, Dynamic, Ident, ImmutableString, OutOfMemory, Position};
-use rhai_make as make;
 use rhai_script::{AST, FnLib, SharedLib};
-use rhai_script_queries::ScriptQueries;
+use script_queries::ScriptQueries;
 use std::alloc::Global;
 use std::rc::Rc;
 use tests_reader::Said;

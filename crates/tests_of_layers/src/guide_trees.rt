@@ -1,6 +1,7 @@
 //! The pieces of docs/GUIDE.md on trees.
 
 use crate::nodes::say_literal;
+use ast_make::{declaration, ident, integer, operator};
 use indexmap::IndexMap;
 use rhai_ast::{
     ASTNode, BinaryExpr, CaseBlocksList, Cases, Expr, ExprQueries, FlowControl, Literals,
@@ -10,7 +11,6 @@ use rhai_ast::{
 use rhai_base::{
     ASTFlags, AstError, Boxed, Dynamic, INT, OutOfMemory, Position, RangeCase, Seq, Token,
 };
-use rhai_make::{declaration, ident, integer, operator};
 use std::alloc::Global;
 use tests_reader::Said;
 

@@ -8,7 +8,7 @@ use crate::walks::{Walked, say_walk};
 use rhai_ast::{FnAccess, FnNamespace};
 use rhai_base::Boxed;
 use rhai_script::AST;
-use rhai_script_queries::{ScriptFnMetadata, ScriptQueries};
+use script_queries::{ScriptFnMetadata, ScriptQueries};
 use std::cell::Cell;
 use tests_reader::{Said, split};
 

@@ -5,7 +5,7 @@ use crate::scripts::key;
 use rhai_ast::{ASTNode, Expr, ScriptFuncDef, Stmt, Walk};
 use rhai_base::{Dynamic, OutOfMemory, Scope};
 use rhai_script::{AST, FnKey, FnLib};
-use rhai_script_queries::{ScriptFnMetadata, ScriptQueries};
+use script_queries::{ScriptFnMetadata, ScriptQueries};
 use std::alloc::Global;
 use std::rc::Rc;
 use tests_reader::Said;

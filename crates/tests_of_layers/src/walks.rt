@@ -5,7 +5,7 @@
 use rhai_ast::{ASTNode, Expr, NodeQueries, Stmt, Walk, walk_statements};
 use rhai_base::Position;
 use rhai_script::AST;
-use rhai_script_queries::ScriptQueries;
+use script_queries::ScriptQueries;
 use tests_reader::Said;
 
 /// What is walked over.

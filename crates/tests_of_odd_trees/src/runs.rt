@@ -5,12 +5,12 @@ use crate::case::{Case, Run};
 use crate::following::parting;
 use crate::scripts;
 use rhai_base::{Boxed, OutOfMemory, Scope};
-use rhai_host::push_report;
 use rhai_optimizer::{OptimizationLevel, optimize_ast, optimize_counted, optimize_into_ast};
 use rhai_run::{EngineInfo, RunEnd, RunReport, Stuck, plain_run};
-use rhai_samples::ProgramHost;
 use rhai_script::AST;
+use run_host::push_report;
 use tests_reader::{Said, Script};
+use tool_samples::ProgramHost;
 
 /// How many turns a run has.
 const TURNS: u64 = 20;

@@ -3,12 +3,12 @@
 use crate::case::Case;
 use crate::copies;
 use rhai_ast::ASTNode;
-use rhai_notation::{push_lines, push_script};
 use rhai_run::EngineInfo;
 use rhai_script::AST;
-use rhai_script_queries::ScriptQueries;
-use rhai_source::{SourceError, source};
+use script_queries::ScriptQueries;
 use tests_reader::Said;
+use text_notation::{push_lines, push_script};
+use text_source::{SourceError, source};
 
 /// Asks all of a script: how it is printed in both syntaxes, what it has, a walk over it, what becomes of its copies.
 pub fn ask(case: &Case, script: &AST) {

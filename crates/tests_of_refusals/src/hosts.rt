@@ -2,8 +2,8 @@
 
 use crate::tried::Tried;
 use rhai_base::{ImmutableString, OutOfMemory, Seq};
-use rhai_host::{Host, HostAnswer, HostCall, ask};
-use rhai_samples::ProgramHost;
+use run_host::{Host, HostAnswer, HostCall, ask};
+use tool_samples::ProgramHost;
 
 /// The calls.
 pub const CALLS: &str = "ask ProgramHost::answer ProgramHost::module_value ProgramHost::module";

@@ -1,12 +1,12 @@
 //! Nodes that are made by short ways.
 
 use crate::tried::Tried;
-use rhai_ast::StmtBlock;
-use rhai_base::{ASTFlags, Position, Seq, Token};
-use rhai_make::{
+use ast_make::{
     array, assignment, block_expr, block_stmt, call, call_stmt, declaration, expr_stmt, fn_call,
     function, ident, index, integer, operator, text, variable,
 };
+use rhai_ast::StmtBlock;
+use rhai_base::{ASTFlags, Position, Seq, Token};
 
 /// The calls.
 pub const CALLS: &str =

@@ -3,17 +3,17 @@
 use crate::scripts::{made, say_made, source};
 use crate::tried::Tried;
 use rhai_base::{Dynamic, Fault, OutOfMemory, Scope, Token};
-use rhai_host::push_report;
-use rhai_notation::{Notation, push_lines, push_script};
 use rhai_optimizer::{
     OptimizationLevel, OptimizerState, optimize_ast, optimize_counted, optimize_into_ast,
 };
 use rhai_run::{EngineInfo, RunReport, plain_run};
-use rhai_samples::{BuiltinScript, ProgramHost};
 use rhai_script::AST;
+use run_host::push_report;
 use std::alloc::Global;
 use std::borrow::Cow;
 use std::fmt::Write;
+use text_notation::{Notation, push_lines, push_script};
+use tool_samples::{BuiltinScript, ProgramHost};
 
 /// The calls.
 pub const CALLS: &str =

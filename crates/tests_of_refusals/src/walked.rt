@@ -4,7 +4,7 @@ use crate::trees::script;
 use crate::tried::Tried;
 use rhai_ast::{ASTNode, Expr, Stmt, Walk, walk_statements};
 use rhai_base::OutOfMemory;
-use rhai_script_queries::ScriptQueries;
+use script_queries::ScriptQueries;
 
 /// The calls.
 pub const CALLS: &str =

@@ -2,9 +2,9 @@
 
 use crate::tried::Tried;
 use rhai_optimizer::OptimizationLevel;
-use rhai_program::{both_reports, run_words};
-use rhai_samples::BuiltinScript;
 use std::io;
+use tool_program::{both_reports, run_words};
+use tool_samples::BuiltinScript;
 
 /// The calls.
 pub const CALLS: &str = "run_words/list run_words/show run_words/run both_reports";

@@ -6,10 +6,10 @@ use Rattle.rhai_base.specs.declared.dynamic.Dynamic.{Dynamic}
 use Rattle.rhai_base.specs.declared.dynamic.Dynamic.TheVariants as value
 use Rattle.rhai_base.specs.Reading.{value_of, value_of-Unit}
 use Rattle.rhai_base.specs.Value.{Text, UnitV, same_text}
-use Rattle.rhai_meaning.specs.Act.{Answers}
-use Rattle.rhai_meaning.specs.Host.{module_value_of, module_in}
-use Rattle.rhai_host.specs.declared.host.HostCall.{HostCall}
-use Rattle.rhai_host.specs.Host.{call_meant}
+use Rattle.theory_meaning.specs.Act.{Answers}
+use Rattle.theory_meaning.specs.Host.{module_value_of, module_in}
+use Rattle.run_host.specs.declared.host.HostCall.{HostCall}
+use Rattle.run_host.specs.Host.{call_meant}
 use Rattle.tests_reader.specs.declared.rows.AnswerRow.{AnswerRow}
 use Rattle.tests_of_scripts.specs.HostRows.{fits, answered, answer_among, modules_of, paths_of}
 

@@ -3,9 +3,9 @@ use Rattle.std.specs.Prelude.{ℕ, Bool, true, ◌&&◌, ◌==◌, List, [], ◌
 use Rattle.rhai_base.specs.declared.dynamic.Dynamic.{Dynamic}
 use Rattle.rhai_base.specs.Reading.{value_of}
 use Rattle.rhai_base.specs.Value.{Text, UnitV, same_text}
-use Rattle.rhai_meaning.specs.Act.{Answer, Answers, AnswersThrow}
-use Rattle.rhai_meaning.specs.Host.{ModuleValue, ModulePath}
-use Rattle.rhai_host.specs.Host.{Modules}
+use Rattle.theory_meaning.specs.Act.{Answer, Answers, AnswersThrow}
+use Rattle.theory_meaning.specs.Host.{ModuleValue, ModulePath}
+use Rattle.run_host.specs.Host.{Modules}
 use Rattle.tests_reader.specs.declared.rows.AnswerRow.{AnswerRow}
 
 abbrev pub is_after : Option ℕ → ℕ → Bool

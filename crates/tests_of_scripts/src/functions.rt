@@ -7,7 +7,7 @@ use rhai_ast::ScriptFuncDef;
 use rhai_base::{OutOfMemory, Scope};
 use rhai_optimizer::{OptimizationLevel, optimize_ast, optimize_counted};
 use rhai_script::AST;
-use rhai_script_queries::ScriptQueries;
+use script_queries::ScriptQueries;
 use std::rc::Rc;
 use tests_reader::{Said, Script, split};
 

@@ -3,8 +3,8 @@
 
 ghost use Rattle.std.specs.Prelude.{◌≡◌, length, IfOk, option_map};
 ghost use Rattle.rhai_base.specs.Reading.{value_of};
-ghost use Rattle.rhai_host.specs.Host.{answer_meant};
-ghost use Rattle.rhai_meaning.specs.Host.{module_in};
+ghost use Rattle.run_host.specs.Host.{answer_meant};
+ghost use Rattle.theory_meaning.specs.Host.{module_in};
 ghost use Rattle.tests_of_scripts.specs.HostRows as spec;
 
 use rhai_base::{Dynamic, ImmutableString, OutOfMemory, Scope, Seq};

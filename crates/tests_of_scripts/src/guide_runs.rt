@@ -3,15 +3,15 @@
 
 ghost use Rattle.std.specs.Prelude.{[], pos, None};
 ghost use Rattle.rhai_base.specs.Value.{IntV};
-ghost use Rattle.rhai_meaning.specs.Act.{Answers};
+ghost use Rattle.theory_meaning.specs.Act.{Answers};
 
 use rhai_ast::{Expr, FnCallExpr, Stmt};
 use rhai_base::{
     Boxed, Dynamic, ImmutableString, Namespace, OutOfMemory, Position, Scope, Seq, Token,
 };
-use rhai_host::push_report;
 use rhai_run::{EngineInfo, Host, HostAnswer, HostCall, plain_run};
 use rhai_script::{AST, FnLib};
+use run_host::push_report;
 use std::alloc::Global;
 use std::rc::Rc;
 

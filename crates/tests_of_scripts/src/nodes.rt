@@ -1,16 +1,16 @@
 //! The calls below the optimiser's entry, and where nodes stand.
 
 use crate::record::say_value;
+use opt_folding::{constant_bool, folded};
+use opt_rules::{Place, reduce_expr, reduce_stmt};
 use rhai_ast::{ASTNode, Expr, FnCallExpr, NodeQueries, Stmt, walk_statements};
 use rhai_base::Position;
-use rhai_folding::{constant_bool, folded};
-use rhai_notation::push_lines;
 use rhai_optimizer::{OptimizationLevel, OptimizerState, optimize_ast};
-use rhai_rules::{Place, reduce_expr, reduce_stmt};
 use rhai_run::EngineInfo;
 use rhai_script::{AST, FnLib};
 use std::rc::Rc;
 use tests_reader::{Said, Script};
+use text_notation::push_lines;
 
 pub fn answer(question: &str, info: &EngineInfo, text: &str, said: &Said) {
     match question {

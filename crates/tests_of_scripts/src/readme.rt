@@ -3,12 +3,12 @@
 
 use rhai_ast::{Expr, FnCallExpr, Stmt};
 use rhai_base::{Boxed, ImmutableString, Namespace, OutOfMemory, Position, Scope, Seq, Token};
-use rhai_host::{UnitHost, push_report};
-use rhai_notation::push_script;
 use rhai_optimizer::{OptimizationLevel, optimize_into_ast};
 use rhai_run::{EngineInfo, plain_run};
 use rhai_script::AST;
+use run_host::{UnitHost, push_report};
 use std::alloc::Global;
+use text_notation::push_script;
 
 /// `40 + 2;`, as a parser would build it.
 fn sum(alloc: Global) -> Result<Stmt, OutOfMemory> {

@@ -2,12 +2,12 @@
 
 use crate::scripts::printed;
 use rhai_ast::{FnAccess, ScriptFuncDef, StmtQueries};
-use rhai_reader::{ReadError, read_script, read_statements, read_value};
-use rhai_samples::BuiltinScript;
 use rhai_script::{AST, FnLib};
 use std::alloc::Global;
 use std::rc::Rc;
 use tests_reader::Said;
+use text_reader::{ReadError, read_script, read_statements, read_value};
+use tool_samples::BuiltinScript;
 
 pub fn answer(question: &str, text: &str, said: &Said) {
     match question {

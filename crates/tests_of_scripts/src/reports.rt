@@ -2,10 +2,10 @@
 
 use crate::record::say_value;
 use rhai_base::{Dynamic, Seq};
-use rhai_host::push_report;
 use rhai_run::{Host, HostAnswer, HostCall, RunEnd, RunReport, Stuck};
-use rhai_samples::ProgramHost;
+use run_host::push_report;
 use tests_reader::{Said, split};
+use tool_samples::ProgramHost;
 
 pub fn answer(question: &str, text: &str, said: &Said) {
     match question {

@@ -1,11 +1,11 @@
 //! What the program answers to words, and how it ends where a write or a flush is refused.
 
 use crate::scripts::level_named;
-use rhai_program::{Request, both_reports, run_words};
-use rhai_samples::BuiltinScript;
 use std::alloc::Global;
 use std::{io, str};
 use tests_reader::Said;
+use tool_program::{Request, both_reports, run_words};
+use tool_samples::BuiltinScript;
 
 pub fn answer(question: &str, text: &str, said: &Said) {
     match question {

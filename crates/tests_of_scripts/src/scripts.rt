@@ -7,13 +7,13 @@ use crate::nodes::{places, places_read};
 use crate::{functions, long, names, nodes, reads, shown};
 use rhai_ast::{FnAccess, FnNamespace, Stmt, StmtQueries};
 use rhai_base::{Boxed, OutOfMemory};
-use rhai_host::push_report;
-use rhai_notation::push_script;
 use rhai_optimizer::{OptimizationLevel, optimize_into_ast};
 use rhai_run::{RunReport, plain_run};
-use rhai_samples::ProgramHost;
 use rhai_script::AST;
+use run_host::push_report;
 use tests_reader::{Said, Script, split};
+use text_notation::push_script;
+use tool_samples::ProgramHost;
 
 /// What stands between what a run is given and the script, and between two scripts.
 const BETWEEN: &str = "----\n";

@@ -4,15 +4,15 @@
 use crate::blocks::{Block, HEAD, block_of};
 use crate::spelled::read_again;
 use rhai_base::{OutOfMemory, Scope};
-use rhai_host::push_report;
 use rhai_optimizer::{OptimizationLevel, optimize_ast};
-use rhai_reader::read_script;
 use rhai_run::{EngineInfo, plain_run};
-use rhai_samples::ProgramHost;
 use rhai_script::AST;
-use rhai_source::{SourceError, Written, push_source, source};
+use run_host::push_report;
 use std::alloc::{AllocError, Global};
 use std::fmt::Write;
+use text_reader::read_script;
+use text_source::{SourceError, Written, push_source, source};
+use tool_samples::ProgramHost;
 
 /// How many turns a run has.
 const TURNS: u64 = 50;

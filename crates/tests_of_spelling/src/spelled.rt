@@ -1,15 +1,15 @@
 //! Scripts in print, read again.
 
 use rhai_base::OutOfMemory;
-use rhai_notation::push_script;
 use rhai_optimizer::{OptimizationLevel, optimize_ast};
-use rhai_parser::{ParseOptions, compile, compile_with};
-use rhai_reader::read_script;
 use rhai_run::EngineInfo;
-use rhai_same::same_script;
 use rhai_script::AST;
-use rhai_spelling::spelled;
 use std::alloc::{AllocError, Global};
+use text_notation::push_script;
+use text_parser::{ParseOptions, compile, compile_with};
+use text_reader::read_script;
+use text_same::same_script;
+use text_spelling::spelled;
 
 /// What the text of a tree of the notation is read as, or that the tree is refused, as one or in print.
 pub(crate) fn told(alloc: Global, tree: &str) -> Result<String, AllocError> {

@@ -1,8 +1,8 @@
 -- What the host of the runs answers: a function of the call alone.
 use Rattle.std.specs.Prelude.{None, true, false, pos, codes, if◌then◌else◌, ◌||◌}
 use Rattle.rhai_base.specs.Value.{BoolV, IntV, same_text}
-use Rattle.rhai_meaning.specs.Act.{HostCall, Answer, Answers}
-use Rattle.rhai_samples.specs.ProgramHost.{program_answer}
+use Rattle.theory_meaning.specs.Act.{HostCall, Answer, Answers}
+use Rattle.tool_samples.specs.ProgramHost.{program_answer}
 
 abbrev pub usual_answer : HostCall → Answer
 usual_answer c =

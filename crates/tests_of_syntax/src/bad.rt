@@ -1,7 +1,7 @@
 //! Where and why texts are no scripts.
 
-use rhai_parser::{ParseError, ParseErrorType, compile};
 use std::alloc::{AllocError, Global};
+use text_parser::{ParseError, ParseErrorType, compile};
 
 /// Line, column and the name of the reason, by which a text is refused.
 pub(crate) fn told(alloc: Global, text: &str) -> Result<String, AllocError> {

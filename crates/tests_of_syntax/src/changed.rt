@@ -3,8 +3,8 @@
 
 use crate::blocks::{HEAD, block_of};
 use rhai_base::Position;
-use rhai_parser::compile;
 use std::alloc::{AllocError, Global};
+use text_parser::compile;
 
 /// How many texts were asked, and how many of them were refused where they have no place.
 #[derive(Clone, Copy)]

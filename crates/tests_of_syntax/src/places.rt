@@ -2,12 +2,12 @@
 
 use rhai_ast::{ASTNode, NodeQueries};
 use rhai_base::Position;
-use rhai_parser::compile;
 use rhai_script::AST;
-use rhai_script_queries::ScriptQueries;
+use script_queries::ScriptQueries;
 use std::alloc::{AllocError, Global};
 use std::cell::Cell;
 use std::fmt::Write;
+use text_parser::compile;
 
 /// The places of a text's nodes, in the order of a walk.
 pub(crate) fn told(alloc: Global, text: &str) -> Result<String, AllocError> {

@@ -3,13 +3,13 @@
 use crate::blocks::{Block, HEAD, block_of};
 use crate::usual_host::UsualHost;
 use rhai_base::Scope;
-use rhai_host::push_report;
 use rhai_optimizer::{OptimizationLevel, optimize_ast};
-use rhai_parser::compile;
 use rhai_run::{EngineInfo, RunEnd, plain_run};
 use rhai_script::AST;
+use run_host::push_report;
 use std::alloc::{AllocError, Global};
 use std::fmt::Write;
+use text_parser::compile;
 
 /// How many turns a run has.
 const TURNS: u64 = 500;

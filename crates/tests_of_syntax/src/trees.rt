@@ -1,12 +1,12 @@
 //! The trees of scripts.
 
 use rhai_ast::{FnAccess, ScriptFuncDef};
-use rhai_notation::push_script;
-use rhai_parser::{ParseError, compile, compile_expression};
 use rhai_script::AST;
 use std::alloc::{AllocError, Global};
 use std::fmt::Write;
 use std::rc::Rc;
+use text_notation::push_script;
+use text_parser::{ParseError, compile, compile_expression};
 
 /// What a text becomes.
 pub(crate) fn told(alloc: Global, text: &str) -> Result<String, AllocError> {

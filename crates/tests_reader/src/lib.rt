@@ -1,4 +1,4 @@
-//! Reads what is asked for tests, by rhai_node_reader, and what a run is given. Asks the questions of rows, and takes
+//! Reads what is asked for tests, by text_node_reader, and what a run is given. Asks the questions of rows, and takes
 //! what is said to them.
 #![tactic(auto)]
 
@@ -9,6 +9,6 @@ mod rows;
 mod said;
 
 pub use questions::{Answers, ask_all};
-pub use rhai_node_reader::Script;
 pub use rows::{AnswerRow, read_answer, read_binding};
 pub use said::{Said, split};
+pub use text_node_reader::Script;

@@ -3,7 +3,7 @@
 use crate::said::Said;
 use rhai_ast::{Expr, Stmt};
 use rhai_base::{Boxed, Dynamic, FnPtr};
-use rhai_node_reader::{
+use text_node_reader::{
     ReadError, Script, Words, read_expr, read_lines, read_link, read_parts, read_stmt, read_value,
 };
 

@@ -2,8 +2,8 @@
 ghost use Rattle.std.specs.Prelude.{◌≡◌, IfOk};
 
 use crate::{Dynamic, FnPtr};
-use rhai_data::Seq;
-use rhai_text::StringMap;
+use base_lists::Seq;
+use base_text::StringMap;
 use std::alloc::AllocError;
 
 #[cycle(copy)]

@@ -6,8 +6,8 @@ ghost use Rattle.rhai_base.specs.Value as model;
 ghost use Rattle.rhai_base.specs.Reading.{value_of, members_of};
 
 use crate::Dynamic;
-use rhai_data::Seq;
-use rhai_text::StringMap;
+use base_lists::Seq;
+use base_text::StringMap;
 
 impl Dynamic {
     /// Whether it holds no pointer to a function at any depth, so that it can be a key of a `switch`.

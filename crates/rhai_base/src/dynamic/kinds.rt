@@ -7,7 +7,7 @@ ghost use Rattle.rhai_base.specs.Value as model;
 ghost use Rattle.rhai_base.specs.Reading.{value_of};
 
 use crate::dynamic::{Dynamic, INT};
-use rhai_text::{ImmutableString, StringMap};
+use base_text::{ImmutableString, StringMap};
 
 impl Dynamic {
     /// Whether it is a bool.

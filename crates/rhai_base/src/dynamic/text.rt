@@ -7,8 +7,8 @@ ghost use Rattle.rhai_base.specs.Value.{inner, text_of, values, fields, ArrayV, 
 ghost use Rattle.rhai_base.specs.Reading.{value_of, members_of};
 
 use crate::Dynamic;
-use rhai_data::Seq;
-use rhai_text::StringMap;
+use base_lists::Seq;
+use base_text::StringMap;
 use std::fmt;
 
 /// The value without quotes, and nothing for unit.

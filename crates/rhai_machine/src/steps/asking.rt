@@ -4,17 +4,17 @@ ghost use Rattle.std.specs.Prelude.{◌≡◌, [], ◌∷◌, Some, map};
 ghost use Rattle.std.specs.Option.{option_map};
 ghost use Rattle.rhai_base.specs.Reading.{value_of};
 ghost use Rattle.rhai_base.specs.Builtin.{operator_of};
-ghost use Rattle.rhai_meaning.specs.ActForms.{ask_host, ask_method};
-ghost use Rattle.rhai_meaning.specs.Calls.{operate};
+ghost use Rattle.theory_meaning.specs.ActForms.{ask_host, ask_method};
+ghost use Rattle.theory_meaning.specs.Calls.{operate};
 ghost use Rattle.rhai_machine.specs.Setting.{setting};
-ghost use Rattle.rhai_state.specs.Evaluating.{Runs};
-ghost use Rattle.rhai_state.specs.Runs.{Acting, Leads};
+ghost use Rattle.run_state.specs.Evaluating.{Runs};
+ghost use Rattle.run_state.specs.Runs.{Acting, Leads};
 
 use crate::steps::machine::Machine;
 use rhai_base::{Dynamic, ImmutableString, Seq, Token};
-use rhai_host::{Host, HostAnswer, HostCall, ask};
 use rhai_run_nodes::{builtin, fault_text};
-use rhai_state::{Interrupt, State};
+use run_host::{Host, HostAnswer, HostCall, ask};
+use run_state::{Interrupt, State};
 
 impl<'a, H: Host> Machine<'a, H> {
     /// An operator over values: built in, or else the host's.

@@ -1,26 +1,26 @@
 //! Assignments to names and to `this`, straight or by an operator.
 
-#![tactic(auto, using(rhai_tree::specs::Reading::shapes, rhai_base::specs::Reading::kinds))]
+#![tactic(auto, using(ast_types::specs::Reading::shapes, rhai_base::specs::Reading::kinds))]
 
 ghost use Rattle.std.specs.Prelude.{◌≡◌, map, true, Some};
 ghost use Rattle.rhai_base.specs.Reading.{value_of};
 ghost use Rattle.rhai_base.specs.Builtin.{operator_of};
-ghost use Rattle.rhai_meaning.specs.Act.{Write};
-ghost use Rattle.rhai_meaning.specs.ActForms.{ask_host};
-ghost use Rattle.rhai_meaning.specs.Engine.{assigning};
+ghost use Rattle.theory_meaning.specs.Act.{Write};
+ghost use Rattle.theory_meaning.specs.ActForms.{ask_host};
+ghost use Rattle.theory_meaning.specs.Engine.{assigning};
 ghost use Rattle.rhai_machine.specs.Setting.{setting};
-ghost use Rattle.rhai_state.specs.Evaluating.{Runs};
-ghost use Rattle.rhai_state.specs.Runs.{Acting};
+ghost use Rattle.run_state.specs.Evaluating.{Runs};
+ghost use Rattle.run_state.specs.Runs.{Acting};
 ghost use Rattle.rhai_run_nodes.specs.Variables.{root_meant};
-ghost use Rattle.rhai_meaning.specs.Calls as calls;
-ghost use Rattle.rhai_meaning.specs.Chains as chains;
+ghost use Rattle.theory_meaning.specs.Calls as calls;
+ghost use Rattle.theory_meaning.specs.Chains as chains;
 
 use crate::steps::machine::Machine;
 use crate::steps::placing::Place;
 use rhai_base::{Dynamic, OpAssignment, Seq, Token};
-use rhai_host::Host;
 use rhai_run_nodes::{Root, asks_assigning, assigning_name, assigning_operator};
-use rhai_state::{Interrupt, State};
+use run_host::Host;
+use run_state::{Interrupt, State};
 
 impl<'a, H: Host> Machine<'a, H> {
     /// Writes to a name or to `this`, which an operator reads first.

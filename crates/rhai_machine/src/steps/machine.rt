@@ -1,12 +1,12 @@
 //! What the steps of a run stand on.
 
-#![tactic(auto, using(rhai_tree::specs::Reading::shapes, rhai_base::specs::Reading::kinds))]
+#![tactic(auto, using(ast_types::specs::Reading::shapes, rhai_base::specs::Reading::kinds))]
 
 ghost use Rattle.std.specs.Prelude.{◌≡◌, ◌<◌};
 
-use rhai_engine::EngineInfo;
+use base_engine::EngineInfo;
 use rhai_functions::FnLib;
-use rhai_host::Host;
+use run_host::Host;
 use std::alloc::Global;
 
 /// What the steps of a run stand on: the engine's record, what answers the host's calls, and the script's functions.

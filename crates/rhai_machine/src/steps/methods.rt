@@ -6,20 +6,20 @@ ghost use Rattle.std.specs.Prelude.{◌≡◌, IfOk, map};
 ghost use Rattle.std.specs.Option.{option_copied, option_map};
 ghost use Rattle.std.specs.Rc.{rc_value};
 ghost use Rattle.rhai_base.specs.Reading.{value_of};
-ghost use Rattle.rhai_meaning.specs.Act.{Act};
-ghost use Rattle.rhai_state.specs.declared.state.State.{State};
+ghost use Rattle.theory_meaning.specs.Act.{Act};
+ghost use Rattle.run_state.specs.declared.state.State.{State};
 ghost use Rattle.rhai_machine.specs.Setting.{setting};
-ghost use Rattle.rhai_state.specs.Runs.{Acting, Leads};
-ghost use Rattle.rhai_state.specs.Words.{method_or, value_or, word_meant};
-ghost use Rattle.rhai_meaning.specs.Places as places;
+ghost use Rattle.run_state.specs.Runs.{Acting, Leads};
+ghost use Rattle.run_state.specs.Words.{method_or, value_or, word_meant};
+ghost use Rattle.theory_meaning.specs.Places as places;
 ghost use Rattle.rhai_machine.specs.Chaining as spec;
 
 use crate::steps::machine::Machine;
 use rhai_ast::ScriptFuncDef;
 use rhai_base::{Dynamic, ImmutableString};
 use rhai_functions::FnKey;
-use rhai_host::Host;
-use rhai_state::{Interrupt, State, Word, curried, is_shared_by};
+use run_host::Host;
+use run_state::{Interrupt, State, Word, curried, is_shared_by};
 use std::alloc::AllocError;
 use std::rc::Rc;
 

@@ -1,7 +1,7 @@
 //! The steps of a chain whose arguments are evaluated, and what they find.
 
 use rhai_base::{Dynamic, ImmutableString, Seq};
-use rhai_places::PlaceKey;
+use run_places::PlaceKey;
 
 /// A step whose argument is evaluated.
 #[derive(Drop)]

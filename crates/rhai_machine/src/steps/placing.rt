@@ -4,23 +4,23 @@
 
 ghost use Rattle.std.specs.Prelude.{◌≡◌, IfOk};
 ghost use Rattle.rhai_base.specs.Reading.{value_of};
-ghost use Rattle.rhai_meaning.specs.Act.{OfName};
-ghost use Rattle.rhai_meaning.specs.Shape.{is_unit};
-ghost use Rattle.rhai_places.specs.Reading.{key_meant, or_unit, part_value};
+ghost use Rattle.theory_meaning.specs.Act.{OfName};
+ghost use Rattle.theory_meaning.specs.Shape.{is_unit};
+ghost use Rattle.run_places.specs.Reading.{key_meant, or_unit, part_value};
 ghost use Rattle.rhai_machine.specs.Setting.{setting};
-ghost use Rattle.rhai_state.specs.Runs.{Acting, Leads};
-ghost use Rattle.rhai_state.specs.State.{store_of};
+ghost use Rattle.run_state.specs.Runs.{Acting, Leads};
+ghost use Rattle.run_state.specs.State.{store_of};
 ghost use Rattle.rhai_run_nodes.specs.Variables.{root_meant};
-ghost use Rattle.rhai_meaning.specs.Places as places;
+ghost use Rattle.theory_meaning.specs.Places as places;
 ghost use Rattle.rhai_machine.specs.declared.steps.placing.Current.TheVariants as kind;
 ghost use Rattle.rhai_machine.specs.Placing as spec;
 
 use crate::steps::machine::Machine;
 use rhai_base::{Dynamic, Seq};
-use rhai_host::{Host, Stuck};
-use rhai_places::{Part, PlaceKey, along};
 use rhai_run_nodes::{Root, position};
-use rhai_state::{Interrupt, State};
+use run_host::{Host, Stuck};
+use run_places::{Part, PlaceKey, along};
+use run_state::{Interrupt, State};
 use std::alloc::AllocError;
 
 /// A name or `this`, and the way on from there.

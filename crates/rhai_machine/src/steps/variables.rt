@@ -1,23 +1,23 @@
 //! Names and `this`: what stands there; modules.
 
-#![tactic(auto, using(rhai_tree::specs::Reading::shapes, rhai_base::specs::Reading::kinds))]
+#![tactic(auto, using(ast_types::specs::Reading::shapes, rhai_base::specs::Reading::kinds))]
 
-ghost use Rattle.rhai_tree.specs.Reading.{path_of};
-ghost use Rattle.rhai_meaning.specs.Act.{Read};
+ghost use Rattle.ast_types.specs.Reading.{path_of};
+ghost use Rattle.theory_meaning.specs.Act.{Read};
 ghost use Rattle.rhai_machine.specs.Setting.{setting};
-ghost use Rattle.rhai_state.specs.Evaluating.{Runs, RunsCore};
-ghost use Rattle.rhai_state.specs.Runs.{Acting};
+ghost use Rattle.run_state.specs.Evaluating.{Runs, RunsCore};
+ghost use Rattle.run_state.specs.Runs.{Acting};
 ghost use Rattle.rhai_run_nodes.specs.Variables.{root_meant};
 ghost use Rattle.rhai_base.specs.Reading.{value_of};
-ghost use Rattle.rhai_state.specs.declared.state.State.{State};
-ghost use Rattle.rhai_meaning.specs.Desugar as desugar;
-ghost use Rattle.rhai_meaning.specs.Meaning as meaning;
+ghost use Rattle.run_state.specs.declared.state.State.{State};
+ghost use Rattle.theory_meaning.specs.Desugar as desugar;
+ghost use Rattle.theory_meaning.specs.Meaning as meaning;
 
 use crate::steps::machine::Machine;
 use rhai_base::{Dynamic, ImmutableString, Namespace};
-use rhai_host::{Host, Stuck};
 use rhai_run_nodes::{Root, qualified};
-use rhai_state::{Interrupt, State};
+use run_host::{Host, Stuck};
+use run_state::{Interrupt, State};
 
 impl<'a, H: Host> Machine<'a, H> {
     /// A variable's value: that of its latest entry, or of a module of the host,

@@ -5,19 +5,19 @@
 ghost use Rattle.std.specs.Prelude.{◌≡◌, IfOk, map};
 ghost use Rattle.rhai_base.specs.Reading.{value_of};
 ghost use Rattle.rhai_base.specs.Value.{TextV};
-ghost use Rattle.rhai_engine.specs.EngineInfo.{engine_of};
-ghost use Rattle.rhai_meaning.specs.Act.{Act};
-ghost use Rattle.rhai_meaning.specs.Engine.{mapped_type_name};
-ghost use Rattle.rhai_state.specs.declared.state.State.{State};
+ghost use Rattle.base_engine.specs.EngineInfo.{engine_of};
+ghost use Rattle.theory_meaning.specs.Act.{Act};
+ghost use Rattle.theory_meaning.specs.Engine.{mapped_type_name};
+ghost use Rattle.run_state.specs.declared.state.State.{State};
 ghost use Rattle.rhai_machine.specs.Setting.{setting};
-ghost use Rattle.rhai_state.specs.Evaluating.{arm_then};
-ghost use Rattle.rhai_state.specs.Runs.{Acting, Leads};
-ghost use Rattle.rhai_state.specs.Words.{word_meant, word_or};
+ghost use Rattle.run_state.specs.Evaluating.{arm_then};
+ghost use Rattle.run_state.specs.Runs.{Acting, Leads};
+ghost use Rattle.run_state.specs.Words.{word_meant, word_or};
 
 use crate::steps::machine::Machine;
 use rhai_base::{Dynamic, ImmutableString};
-use rhai_host::Host;
-use rhai_state::{Interrupt, Word, curried, is_shared, pointer_to};
+use run_host::Host;
+use run_state::{Interrupt, Word, curried, is_shared, pointer_to};
 use std::alloc::AllocError;
 
 impl<'a, H: Host> Machine<'a, H> {

@@ -5,22 +5,22 @@
 ghost use Rattle.std.specs.Prelude.{◌≡◌, true, map};
 ghost use Rattle.rhai_base.specs.Reading.{value_of};
 ghost use Rattle.rhai_base.specs.Value.{UnitV, Value};
-ghost use Rattle.rhai_meaning.specs.Act.{OfName, OfThis};
-ghost use Rattle.rhai_places.specs.Reading.{key_meant};
-ghost use Rattle.rhai_state.specs.declared.state.State.{State};
+ghost use Rattle.theory_meaning.specs.Act.{OfName, OfThis};
+ghost use Rattle.run_places.specs.Reading.{key_meant};
+ghost use Rattle.run_state.specs.declared.state.State.{State};
 ghost use Rattle.rhai_machine.specs.Setting.{setting};
-ghost use Rattle.rhai_state.specs.Runs.{Acting, Leads, given};
-ghost use Rattle.rhai_state.specs.Variables.{IsMissing};
-ghost use Rattle.rhai_meaning.specs.Places as places;
+ghost use Rattle.run_state.specs.Runs.{Acting, Leads, given};
+ghost use Rattle.run_state.specs.Variables.{IsMissing};
+ghost use Rattle.theory_meaning.specs.Places as places;
 ghost use Rattle.rhai_machine.specs.Placing as spec;
 
 use crate::steps::machine::Machine;
 use crate::steps::placing::Place;
 use rhai_base::Dynamic;
-use rhai_host::{Host, Stuck};
-use rhai_places::{PlaceKey, along, replace_along};
 use rhai_run_nodes::{Root, position};
-use rhai_state::{Interrupt, State};
+use run_host::{Host, Stuck};
+use run_places::{PlaceKey, along, replace_along};
+use run_state::{Interrupt, State};
 
 impl<'a, H: Host> Machine<'a, H> {
     /// Puts a value at a place, and adds the last entry where it is missing. A constant stays as it is; one that must

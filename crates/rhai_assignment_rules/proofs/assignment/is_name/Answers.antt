@@ -1,4 +1,4 @@
-use Rattle.rhai_tree.proofs.Cases.{expr_cases}
+use Rattle.ast_types.proofs.Cases.{expr_cases}
 use Rattle.rhai_assignment_rules.proofs.Others.{no_name}
 use Rattle.rhai_assignment_rules.proofs.assignment.is_name.Goals as goal
 

@@ -1,5 +1,5 @@
-use Rattle.rhai_engine.specs.EngineInfo.{engine_of}
-use Rattle.rhai_tree.proofs.Cases.{stmt_cases}
+use Rattle.base_engine.specs.EngineInfo.{engine_of}
+use Rattle.ast_types.proofs.Cases.{stmt_cases}
 use Rattle.rhai_assignment_rules.proofs.Others.{no_assignment}
 use Rattle.rhai_assignment_rules.proofs.assignment.is_settled_assignment.Goals as goal
 

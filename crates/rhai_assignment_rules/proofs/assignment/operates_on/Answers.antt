@@ -1,5 +1,5 @@
-use Rattle.rhai_engine.specs.EngineInfo.{engine_of}
-use Rattle.rhai_tree.proofs.Cases.{expr_cases}
+use Rattle.base_engine.specs.EngineInfo.{engine_of}
+use Rattle.ast_types.proofs.Cases.{expr_cases}
 use Rattle.rhai_assignment_rules.proofs.Others.{no_operation}
 use Rattle.rhai_assignment_rules.proofs.assignment.operates_on.Goals as goal
 

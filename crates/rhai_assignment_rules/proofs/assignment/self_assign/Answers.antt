@@ -1,10 +1,10 @@
 use Rattle.std.proofs.Common.{◌≡◌, rules, true, false, sym, ap, ◌∙◌}
 use Rattle.rhai_base.specs.Builtin.{operator_of}
-use Rattle.rhai_meaning.specs.Tree.{Assignment}
-use Rattle.rhai_tree.specs.Reading.{shapes, expr_of, stmt_of, stmt_of-Assignment}
-use Rattle.rhai_tree.proofs.Cases.{stmt_cases}
-use Rattle.rhai_tokens.specs.declared.op_assignment.OpAssignment.{OpAssignment}
-use Rattle.rhai_tree.specs.declared.expr.BinaryExpr.{BinaryExpr}
+use Rattle.theory_meaning.specs.Tree.{Assignment}
+use Rattle.ast_types.specs.Reading.{shapes, expr_of, stmt_of, stmt_of-Assignment}
+use Rattle.ast_types.proofs.Cases.{stmt_cases}
+use Rattle.base_tokens.specs.declared.op_assignment.OpAssignment.{OpAssignment}
+use Rattle.ast_types.specs.declared.expr.BinaryExpr.{BinaryExpr}
 use Rattle.rhai_assignment_rules.proofs.Assigning.{self_assigned_as}
 use Rattle.rhai_assignment_rules.proofs.Others.{holds_none}
 use Rattle.rhai_assignment_rules.proofs.assignment.self_assign.Goals as goal

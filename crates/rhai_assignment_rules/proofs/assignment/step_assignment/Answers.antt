@@ -1,5 +1,5 @@
 use Rattle.std.proofs.Common.{sym}
-use Rattle.rhai_engine.specs.EngineInfo.{engine_of}
+use Rattle.base_engine.specs.EngineInfo.{engine_of}
 use Rattle.rhai_assignment_rules.proofs.Assigning.{operates}
 use Rattle.rhai_assignment_rules.proofs.assignment.step_assignment.Goals as goal
 

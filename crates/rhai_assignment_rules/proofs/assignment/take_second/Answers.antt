@@ -1,8 +1,8 @@
 use Rattle.std.proofs.Common.{◌≡◌, true, false, sym, ap, ◌∙◌}
-use Rattle.rhai_tree.specs.declared.expr.FnCallExpr.{FnCallExpr}
-use Rattle.rhai_meaning.specs.Tree.{FnCall}
-use Rattle.rhai_tree.specs.Reading.{callee_of, expr_of, exprs_of, expr_of-FnCall}
-use Rattle.rhai_tree.proofs.Cases.{expr_cases}
+use Rattle.ast_types.specs.declared.expr.FnCallExpr.{FnCallExpr}
+use Rattle.theory_meaning.specs.Tree.{FnCall}
+use Rattle.ast_types.specs.Reading.{callee_of, expr_of, exprs_of, expr_of-FnCall}
+use Rattle.ast_types.proofs.Cases.{expr_cases}
 use Rattle.rhai_assignment_rules.specs.Settled.{has_operation}
 use Rattle.rhai_assignment_rules.proofs.Assigning.{two_operands}
 use Rattle.rhai_assignment_rules.proofs.Others.{has_no_operation}

@@ -1,4 +1,4 @@
-use Rattle.rhai_tree.proofs.Cases.{expr_cases}
+use Rattle.ast_types.proofs.Cases.{expr_cases}
 use Rattle.rhai_assignment_rules.proofs.Others.{expr_writes}
 use Rattle.rhai_assignment_rules.proofs.leaves_names.expr_writes_nothing.Goals as goal
 

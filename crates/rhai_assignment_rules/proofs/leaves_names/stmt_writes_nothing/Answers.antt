@@ -1,4 +1,4 @@
-use Rattle.rhai_tree.proofs.Cases.{stmt_cases}
+use Rattle.ast_types.proofs.Cases.{stmt_cases}
 use Rattle.rhai_assignment_rules.proofs.Others.{stmt_writes}
 use Rattle.rhai_assignment_rules.proofs.leaves_names.stmt_writes_nothing.Goals as goal
 

@@ -1,4 +1,4 @@
-use Rattle.rhai_tree.proofs.Cases.{stmt_cases}
+use Rattle.ast_types.proofs.Cases.{stmt_cases}
 use Rattle.rhai_assignment_rules.proofs.Others.{no_share}
 use Rattle.rhai_assignment_rules.proofs.share.is_settled_share.Goals as goal
 

@@ -1,8 +1,8 @@
 use Rattle.std.proofs.Common.{rules, ap, ◌∙◌}
 use Rattle.std.proofs.lemmas.Fn.{filter_same}
-use Rattle.rhai_known.specs.State.{known_of}
-use Rattle.rhai_tree.specs.Reading.{shared_names}
-use Rattle.rhai_rewriting.specs.Known.{unknown}
+use Rattle.opt_known.specs.State.{known_of}
+use Rattle.ast_types.specs.Reading.{shared_names}
+use Rattle.theory_rewriting.specs.Known.{unknown}
 use Rattle.rhai_assignment_rules.proofs.Names.{is_unknown, left}
 use Rattle.rhai_assignment_rules.proofs.share.keep_unknown.Goals as goal
 

@@ -1,6 +1,6 @@
 use Rattle.std.proofs.Common.{◌≡◌, drop}
-use Rattle.rhai_known.specs.State.{known_of}
-use Rattle.rhai_tree.specs.Reading.{shared_names}
+use Rattle.opt_known.specs.State.{known_of}
+use Rattle.ast_types.specs.Reading.{shared_names}
 use Rattle.rhai_assignment_rules.specs.Settled.{knows_some}
 use Rattle.rhai_assignment_rules.proofs.share.knows_some.Given as goal
 

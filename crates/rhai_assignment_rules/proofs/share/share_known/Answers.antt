@@ -1,8 +1,8 @@
 use Rattle.std.proofs.Common.{◌≡◌, rules, true, false, sym, ap, ◌∙◌}
-use Rattle.rhai_tree.specs.Reading.{shapes, stmt_of, shared_names, stmt_of-Share}
-use Rattle.rhai_tree.proofs.Cases.{stmt_cases}
-use Rattle.rhai_meaning.specs.Tree.{Share}
-use Rattle.rhai_rewriting.specs.Known.{unknown}
+use Rattle.ast_types.specs.Reading.{shapes, stmt_of, shared_names, stmt_of-Share}
+use Rattle.ast_types.proofs.Cases.{stmt_cases}
+use Rattle.theory_meaning.specs.Tree.{Share}
+use Rattle.theory_rewriting.specs.Known.{unknown}
 use Rattle.rhai_assignment_rules.proofs.Fired.{shared}
 use Rattle.rhai_assignment_rules.proofs.Others.{no_share}
 use Rattle.rhai_assignment_rules.proofs.share.share_known.Goals as goal

@@ -1,6 +1,6 @@
 use Rattle.std.proofs.Common.{sym, ap, ◌∙◌}
-use Rattle.rhai_tree.specs.Reading.{stmt_of, stmt_of-Share}
-use Rattle.rhai_tree.proofs.Cases.{stmt_cases}
+use Rattle.ast_types.specs.Reading.{stmt_of, stmt_of-Share}
+use Rattle.ast_types.proofs.Cases.{stmt_cases}
 use Rattle.rhai_assignment_rules.specs.Settled.{shares_nothing}
 use Rattle.rhai_assignment_rules.proofs.Names.{nothing-of}
 use Rattle.rhai_assignment_rules.proofs.Others.{none_shared}

@@ -1,6 +1,6 @@
 use Rattle.std.proofs.Common.{refl, sym, ap, subst}
-use Rattle.rhai_meaning.specs.Faults.{functions_fault, ◌then◌}
-use Rattle.rhai_meaning.proofs.FaultLaws.{well_formed_law}
+use Rattle.theory_meaning.specs.Faults.{functions_fault, ◌then◌}
+use Rattle.theory_meaning.proofs.FaultLaws.{well_formed_law}
 use Rattle.rhai_faults.specs.Refusals.{Finds, meant}
 use Rattle.rhai_faults.specs.Scripts.{functions_of, script_by}
 use Rattle.rhai_faults.specs.Standing.{StandsInFunctions, StandsInScript, defs_of, fault_in, in_functions, in_statements}

@@ -1,4 +1,4 @@
-use Rattle.rhai_meaning.specs.Places.{without_place}
+use Rattle.theory_meaning.specs.Places.{without_place}
 use Rattle.rhai_chain_receivers.proofs.asking.ask_for.Goals as goal
 
 pub returns : goal.returns

@@ -1,6 +1,6 @@
 use Rattle.std.proofs.Common.{rules, sym}
-use Rattle.rhai_tree.specs.Reading.{shapes}
-use Rattle.rhai_tree.proofs.Cases.{expr_cases}
+use Rattle.ast_types.specs.Reading.{shapes}
+use Rattle.ast_types.proofs.Cases.{expr_cases}
 use Rattle.rhai_faults.proofs.Others.{no_left_side}
 use Rattle.rhai_chain_receivers.proofs.left_sides.left_side.Goals as goal
 

@@ -1,6 +1,6 @@
 use Rattle.std.proofs.Common.{◌≡◌, subst}
 use Rattle.std.specs.Prelude.{IfOk}
-use Rattle.rhai_tree.specs.Reading.{expr_of}
+use Rattle.ast_types.specs.Reading.{expr_of}
 use Rattle.rhai_chain_rules.proofs.Others.{plain_constant}
 use Rattle.rhai_chain_rules.proofs.chain.constant_of.Goals as goal
 

@@ -1,9 +1,9 @@
 use Rattle.std.proofs.Common.{sym, ap, ◌∙◌}
 use Rattle.std.specs.Option.{option_map}
 use Rattle.std.proofs.lemmas.Result.{IfOk-weaker}
-use Rattle.rhai_engine.specs.EngineInfo.{engine_of}
-use Rattle.rhai_known.specs.State.{progress}
-use Rattle.rhai_tree.specs.Reading.{chain_flags}
+use Rattle.base_engine.specs.EngineInfo.{engine_of}
+use Rattle.opt_known.specs.State.{progress}
+use Rattle.ast_types.specs.Reading.{chain_flags}
 use Rattle.rhai_steps.specs.Places.{place_of}
 use Rattle.rhai_base.specs.Reading.{value_of}
 use Rattle.rhai_walk.specs.Nodes.{is_dot}

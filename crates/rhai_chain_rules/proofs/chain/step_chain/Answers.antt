@@ -1,5 +1,5 @@
 use Rattle.std.proofs.Common.{sym, ◌∙◌}
-use Rattle.rhai_engine.specs.EngineInfo.{engine_of}
+use Rattle.base_engine.specs.EngineInfo.{engine_of}
 use Rattle.rhai_steps.specs.Places.{place_of}
 use Rattle.rhai_chain_rules.proofs.chain.step_chain.Goals as goal
 

@@ -1,4 +1,4 @@
-use Rattle.rhai_tree.proofs.Cases.{expr_cases}
+use Rattle.ast_types.proofs.Cases.{expr_cases}
 use Rattle.rhai_steps.specs.Places.{place_of}
 use Rattle.rhai_chain_rules.proofs.Others.{ends_nowhere}
 use Rattle.rhai_chain_rules.proofs.chain.unit_ends.Goals as goal

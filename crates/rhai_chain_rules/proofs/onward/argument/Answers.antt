@@ -1,6 +1,6 @@
 use Rattle.std.proofs.Common.{◌∙◌, ap}
-use Rattle.rhai_tree.specs.Reading.{expr_of}
-use Rattle.rhai_tree.proofs.Cases.{expr_cases}
+use Rattle.ast_types.specs.Reading.{expr_of}
+use Rattle.ast_types.proofs.Cases.{expr_cases}
 use Rattle.rhai_chain_rules.specs.Onward.{argument}
 use Rattle.rhai_chain_rules.proofs.Others.{itself}
 use Rattle.rhai_chain_rules.proofs.onward.argument.Goals as goal

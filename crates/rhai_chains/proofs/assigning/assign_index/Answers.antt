@@ -4,7 +4,7 @@ use Rattle.rhai_base.specs.Reading.{value_of}
 use Rattle.rhai_machine.specs.declared.steps.parts.Access.TheVariants as reached
 use Rattle.rhai_machine.specs.Placing.{current_in}
 use Rattle.rhai_machine.specs.Setting.{setting}
-use Rattle.rhai_state.specs.State.{store_of}
+use Rattle.run_state.specs.State.{store_of}
 use Rattle.rhai_chains.proofs.Quiet.{quiet_index}
 use Rattle.rhai_chains.proofs.Targets.{index_changes, last_stops, last_written}
 use Rattle.rhai_chains.proofs.assigning.assign_index.Goals as goal

@@ -1,6 +1,6 @@
 use Rattle.std.proofs.Common.{sym, ap, ◌∙◌}
 use Rattle.rhai_base.specs.Reading.{value_of}
-use Rattle.rhai_places.specs.Reading.{part_value}
+use Rattle.run_places.specs.Reading.{part_value}
 use Rattle.rhai_machine.specs.Setting.{setting}
 use Rattle.rhai_chains.proofs.Following.{comes_last, further_each}
 use Rattle.rhai_chains.proofs.direct.+part_of.Goals as goal

@@ -1,5 +1,5 @@
-use Rattle.rhai_tree.specs.Reading.{expr_of}
-use Rattle.rhai_meaning.specs.Weight.{expr_weight}
+use Rattle.ast_types.specs.Reading.{expr_of}
+use Rattle.theory_meaning.specs.Weight.{expr_weight}
 use Rattle.rhai_chains.proofs.direct.+part_of.Given as goal
 
 -- what is left gets lighter

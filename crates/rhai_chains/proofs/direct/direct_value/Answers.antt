@@ -1,10 +1,10 @@
 use Rattle.std.proofs.Common.{◌≡◌, Some, sym, ap, ◌∙◌, subst}
 use Rattle.rhai_base.specs.Reading.{value_of}
-use Rattle.rhai_places.specs.Reading.{part_value}
+use Rattle.run_places.specs.Reading.{part_value}
 use Rattle.rhai_machine.specs.Placing.{current_in, place_meant, value_at}
 use Rattle.rhai_machine.specs.Setting.{setting}
 use Rattle.rhai_machine.specs.declared.steps.placing.Current.TheVariants.{At}
-use Rattle.rhai_state.specs.State.{store_of}
+use Rattle.run_state.specs.State.{store_of}
 use Rattle.rhai_chains.specs.Direct.{Comes}
 use Rattle.rhai_chains.proofs.Following.{from_place}
 use Rattle.rhai_chains.proofs.direct.direct_value.Goals as goal

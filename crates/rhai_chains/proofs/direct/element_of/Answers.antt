@@ -1,7 +1,7 @@
 use Rattle.std.proofs.Common.{◌≡◌, Some, map, sym, ap, ◌∙◌, rules}
 use Rattle.rhai_base.specs.Reading.{value_of, value_of-Array}
 use Rattle.rhai_base.specs.Value.{values}
-use Rattle.rhai_meaning.specs.Elements.{element}
+use Rattle.theory_meaning.specs.Elements.{element}
 use Rattle.rhai_machine.specs.Setting.{setting}
 use Rattle.rhai_chains.proofs.Following.{element_steps}
 use Rattle.rhai_chains.proofs.direct.element_of.Goals as goal

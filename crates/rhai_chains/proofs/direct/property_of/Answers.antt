@@ -1,9 +1,9 @@
 use Rattle.std.proofs.Common.{ap, ◌∙◌}
 use Rattle.rhai_base.specs.Reading.{members_of, value_of, value_of-Map}
 use Rattle.rhai_base.specs.Value.{fields}
-use Rattle.rhai_tree.specs.Reading.{expr_of, expr_of-Property, property_names}
-use Rattle.rhai_meaning.specs.Elements as elements
-use Rattle.rhai_places.specs.Reading.{part_value}
+use Rattle.ast_types.specs.Reading.{expr_of, expr_of-Property, property_names}
+use Rattle.theory_meaning.specs.Elements as elements
+use Rattle.run_places.specs.Reading.{part_value}
 use Rattle.rhai_chains.proofs.Following.{property_steps}
 use Rattle.rhai_chains.proofs.direct.property_of.Goals as goal
 

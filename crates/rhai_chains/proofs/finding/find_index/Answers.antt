@@ -1,8 +1,8 @@
 use Rattle.rhai_machine.specs.Setting.{setting}
 use Rattle.rhai_machine.specs.Placing.{current_in}
-use Rattle.rhai_state.specs.State.{store_of}
+use Rattle.run_state.specs.State.{store_of}
 use Rattle.rhai_machine.proofs.Chaining.{index_asked}
-use Rattle.rhai_places.specs.Reading.{part_value}
+use Rattle.run_places.specs.Reading.{part_value}
 use Rattle.rhai_chains.proofs.finding.find_index.Goals as goal
 
 pub returns-in-AsksHost : goal.returns-in-AsksHost

@@ -1,11 +1,11 @@
 use Rattle.std.proofs.Common.{sym, ◌∙◌}
-use Rattle.rhai_meaning.specs.Places.{AtEntry, inside}
+use Rattle.theory_meaning.specs.Places.{AtEntry, inside}
 use Rattle.rhai_machine.specs.Chaining.{names_meant}
 use Rattle.rhai_machine.specs.Setting.{setting}
 use Rattle.rhai_machine.specs.Placing.{current_in}
-use Rattle.rhai_state.specs.State.{store_of}
+use Rattle.run_state.specs.State.{store_of}
 use Rattle.rhai_machine.proofs.Chaining.{property_asked, no_part}
-use Rattle.rhai_places.specs.Reading.{part_value}
+use Rattle.run_places.specs.Reading.{part_value}
 use Rattle.rhai_chains.proofs.finding.find_property.Goals as goal
 
 pub returns : goal.returns

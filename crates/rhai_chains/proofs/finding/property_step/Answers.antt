@@ -1,9 +1,9 @@
 use Rattle.std.proofs.lemmas.Result.{err_from_is_err_and}
-use Rattle.rhai_meaning.specs.Chains.{property}
+use Rattle.theory_meaning.specs.Chains.{property}
 use Rattle.rhai_machine.specs.Chaining.{names_meant}
 use Rattle.rhai_machine.specs.Setting.{setting}
 use Rattle.rhai_machine.specs.Placing.{current_in}
-use Rattle.rhai_state.specs.State.{store_of}
+use Rattle.run_state.specs.State.{store_of}
 use Rattle.rhai_chains.proofs.Quiet.{quiet_property}
 use Rattle.rhai_chains.proofs.Targets.{found_steps}
 use Rattle.rhai_chains.proofs.finding.property_step.Goals as goal

@@ -1,18 +1,18 @@
 use Rattle.std.proofs.Common.{[], ◌∷◌, Err, refl, arith}
 use Rattle.std.specs.Prelude.{codes}
-use Rattle.rhai_meaning.specs.Act.{Throws}
-use Rattle.rhai_meaning.specs.ActForms.{throw}
-use Rattle.rhai_meaning.specs.Chains.{set_by_host}
-use Rattle.rhai_places.specs.Reading.{part_value}
+use Rattle.theory_meaning.specs.Act.{Throws}
+use Rattle.theory_meaning.specs.ActForms.{throw}
+use Rattle.theory_meaning.specs.Chains.{set_by_host}
+use Rattle.run_places.specs.Reading.{part_value}
 use Rattle.rhai_base.specs.Reading.{value_of}
 use Rattle.rhai_base.specs.Value.{TextV, UnitV}
 use Rattle.rhai_machine.specs.declared.steps.placing.Current.TheVariants as kind
 use Rattle.rhai_machine.specs.Setting.{setting}
 use Rattle.rhai_machine.specs.Placing.{current_in, place_meant}
-use Rattle.rhai_state.specs.Runs.{Acting, Leaving, given}
-use Rattle.rhai_state.specs.State.{store_of}
+use Rattle.run_state.specs.Runs.{Acting, Leaving, given}
+use Rattle.run_state.specs.State.{store_of}
 use Rattle.rhai_machine.proofs.Chaining.{set_index_as}
-use Rattle.rhai_state.proofs.Goes.{stops_by}
+use Rattle.run_state.proofs.Goes.{stops_by}
 use Rattle.rhai_chains.proofs.setting.set_index.Goals as goal
 
 pub returns-in-Part : goal.returns-in-Part

@@ -1,14 +1,14 @@
 use Rattle.std.proofs.Common.{sym, ◌∙◌}
-use Rattle.rhai_meaning.specs.Places.{AtEntry, inside}
-use Rattle.rhai_places.specs.Reading.{part_value}
+use Rattle.theory_meaning.specs.Places.{AtEntry, inside}
+use Rattle.run_places.specs.Reading.{part_value}
 use Rattle.rhai_base.specs.Reading.{value_of}
 use Rattle.rhai_base.specs.Value.{UnitV}
 use Rattle.rhai_machine.specs.declared.steps.placing.Current.TheVariants as kind
 use Rattle.rhai_machine.specs.Chaining.{names_meant}
 use Rattle.rhai_machine.specs.Setting.{setting}
 use Rattle.rhai_machine.specs.Placing.{current_in, place_meant}
-use Rattle.rhai_state.specs.Runs.{given}
-use Rattle.rhai_state.specs.State.{store_of}
+use Rattle.run_state.specs.Runs.{given}
+use Rattle.run_state.specs.State.{store_of}
 use Rattle.rhai_machine.proofs.Chaining.{is_some_by, no_part, set_property_asked, set_property_part}
 use Rattle.rhai_chains.proofs.setting.set_property.Goals as goal
 

@@ -1,6 +1,6 @@
 use Rattle.std.proofs.Common.{ap, ◌∙◌}
 use Rattle.std.proofs.lemmas.Result.{IfOk-weaker}
-use Rattle.rhai_tree.specs.Reading.{stmt_of, stmt_of-Block, stmt_of-Noop}
+use Rattle.ast_types.specs.Reading.{stmt_of, stmt_of-Block, stmt_of-Noop}
 use Rattle.rhai_choice_rules.proofs.Choosing.{block_or_noop-none, block_or_noop-some}
 use Rattle.rhai_choice_rules.proofs.choice.block_or_noop.Goals as goal
 

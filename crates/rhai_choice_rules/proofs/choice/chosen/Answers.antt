@@ -1,5 +1,5 @@
 use Rattle.std.proofs.Common.{rules}
-use Rattle.rhai_tree.specs.Reading.{shapes}
+use Rattle.ast_types.specs.Reading.{shapes}
 use Rattle.rhai_choice_rules.proofs.choice.chosen.Goals as goal
 
 pub returns-then-decided : goal.returns-then-decided

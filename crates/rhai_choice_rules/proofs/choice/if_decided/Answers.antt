@@ -1,9 +1,9 @@
 use Rattle.std.proofs.Common.{◌≡◌, refl, ap, ◌∙◌}
 use Rattle.std.proofs.lemmas.Result.{IfOk-weaker}
-use Rattle.rhai_tree.specs.declared.stmt.Stmt.{Stmt}
-use Rattle.rhai_tree.specs.Reading.{stmt_of, stmts_of}
-use Rattle.rhai_rewriting.specs.Rules.{if_decided, block_or_noop}
-use Rattle.rhai_rewriting.proofs.Keeping.{keeps_chosen}
+use Rattle.ast_types.specs.declared.stmt.Stmt.{Stmt}
+use Rattle.ast_types.specs.Reading.{stmt_of, stmts_of}
+use Rattle.theory_rewriting.specs.Rules.{if_decided, block_or_noop}
+use Rattle.theory_rewriting.proofs.Keeping.{keeps_chosen}
 use Rattle.rhai_steps.proofs.Stepping.{stmt_rewrite_as}
 use Rattle.rhai_choice_rules.proofs.choice.if_decided.Goals as goal
 

@@ -1,8 +1,8 @@
 use Rattle.std.proofs.Common.{◌≡◌, refl}
 use Rattle.std.proofs.lemmas.Result.{IfOk-weaker}
-use Rattle.rhai_tree.specs.declared.stmt.Stmt.{Stmt}
-use Rattle.rhai_tree.specs.Reading.{expr_of, stmt_of}
-use Rattle.rhai_rewriting.specs.Rules.{condition_alone}
+use Rattle.ast_types.specs.declared.stmt.Stmt.{Stmt}
+use Rattle.ast_types.specs.Reading.{expr_of, stmt_of}
+use Rattle.theory_rewriting.specs.Rules.{condition_alone}
 use Rattle.rhai_steps.proofs.Stepping.{stmt_rewrite_as}
 use Rattle.rhai_choice_rules.proofs.Choosing.{bare_if}
 use Rattle.rhai_choice_rules.proofs.choice.if_without_blocks.Goals as goal

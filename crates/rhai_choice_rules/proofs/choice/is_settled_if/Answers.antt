@@ -1,4 +1,4 @@
-use Rattle.rhai_tree.specs.Reading.{expr_of}
+use Rattle.ast_types.specs.Reading.{expr_of}
 use Rattle.rhai_choice_rules.proofs.Choosing.{settled_if-none, settled_if-some}
 use Rattle.rhai_choice_rules.proofs.choice.is_settled_if.Goals as goal
 

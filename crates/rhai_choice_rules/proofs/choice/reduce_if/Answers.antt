@@ -1,8 +1,8 @@
 use Rattle.std.proofs.Common.{◌≡◌, Bool, true, refl, sym, ap, ◌∙◌}
 use Rattle.std.proofs.lemmas.Result.{IfOk-weaker}
-use Rattle.rhai_tree.specs.declared.block.StmtBlock.{StmtBlock}
-use Rattle.rhai_tree.specs.Reading.{expr_of, stmts_of}
-use Rattle.rhai_meaning.specs.Tree.{If}
+use Rattle.ast_types.specs.declared.block.StmtBlock.{StmtBlock}
+use Rattle.ast_types.specs.Reading.{expr_of, stmts_of}
+use Rattle.theory_meaning.specs.Tree.{If}
 use Rattle.rhai_steps.proofs.Stepping.{stmt_rewrite_as}
 use Rattle.rhai_choice_rules.proofs.Choosing.{bare_opens}
 use Rattle.rhai_choice_rules.proofs.Choosing.{bare-if, undecided}

@@ -1,4 +1,4 @@
-use Rattle.rhai_tree.proofs.Cases.{expr_cases}
+use Rattle.ast_types.proofs.Cases.{expr_cases}
 use Rattle.rhai_choice_rules.proofs.Others.{not_and}
 use Rattle.rhai_choice_rules.proofs.nested.is_and.Goals as goal
 

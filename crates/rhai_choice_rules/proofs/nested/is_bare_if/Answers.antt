@@ -1,4 +1,4 @@
-use Rattle.rhai_tree.proofs.Cases.{stmt_cases}
+use Rattle.ast_types.proofs.Cases.{stmt_cases}
 use Rattle.rhai_choice_rules.proofs.Others.{no_if}
 use Rattle.rhai_choice_rules.proofs.nested.is_bare_if.Goals as goal
 

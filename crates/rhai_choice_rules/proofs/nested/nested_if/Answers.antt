@@ -1,8 +1,8 @@
 use Rattle.std.proofs.Common.{ap, ◌∙◌}
-use Rattle.rhai_tree.specs.declared.block.StmtBlock.{StmtBlock}
-use Rattle.rhai_tree.specs.declared.expr.Expr.{Expr}
-use Rattle.rhai_meaning.specs.Tree.{And, expr, no_exprs}
-use Rattle.rhai_tree.specs.Reading.{expr_of, stmts_of}
+use Rattle.ast_types.specs.declared.block.StmtBlock.{StmtBlock}
+use Rattle.ast_types.specs.declared.expr.Expr.{Expr}
+use Rattle.theory_meaning.specs.Tree.{And, expr, no_exprs}
+use Rattle.ast_types.specs.Reading.{expr_of, stmts_of}
 use Rattle.rhai_choice_rules.proofs.Nesting.{nests_alone, nested_made}
 use Rattle.rhai_choice_rules.proofs.nested.nested_if.Goals as goal
 

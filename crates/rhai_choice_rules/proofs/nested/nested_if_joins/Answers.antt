@@ -1,9 +1,9 @@
 use Rattle.std.proofs.Common.{Bool, false, ap}
 use Rattle.std.proofs.lemmas.Result.{on_ok_weaker}
-use Rattle.rhai_tree.specs.declared.block.StmtBlock.{StmtBlock}
-use Rattle.rhai_meaning.specs.Tree.{If}
-use Rattle.rhai_tree.specs.Reading.{expr_of, stmts_of}
-use Rattle.rhai_rewriting.specs.Steps.{StmtRewrite}
+use Rattle.ast_types.specs.declared.block.StmtBlock.{StmtBlock}
+use Rattle.theory_meaning.specs.Tree.{If}
+use Rattle.ast_types.specs.Reading.{expr_of, stmts_of}
+use Rattle.theory_rewriting.specs.Steps.{StmtRewrite}
 use Rattle.rhai_choice_rules.specs.Nested.{Joins, if_of}
 use Rattle.rhai_choice_rules.proofs.Nesting.{nests_alone, joins_made}
 use Rattle.rhai_choice_rules.proofs.nested.nested_if_joins.Goals as goal

@@ -1,6 +1,6 @@
 use Rattle.std.proofs.Common.{ap, ◌∙◌}
-use Rattle.rhai_tree.specs.declared.expr.Expr.{Expr}
-use Rattle.rhai_tree.specs.Reading.{exprs_of}
+use Rattle.ast_types.specs.declared.expr.Expr.{Expr}
+use Rattle.ast_types.specs.Reading.{exprs_of}
 use Rattle.rhai_choice_rules.proofs.Ends.{pushed}
 use Rattle.rhai_choice_rules.proofs.nested.push_last.Goals as goal
 

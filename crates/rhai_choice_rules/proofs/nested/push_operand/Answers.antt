@@ -1,8 +1,8 @@
 use Rattle.std.proofs.Common.{◌≡◌, List, rules, true, false, sym, ap, ◌∙◌}
-use Rattle.rhai_tree.specs.declared.expr.Expr.{Expr}
-use Rattle.rhai_meaning.specs.Tree.{And}
-use Rattle.rhai_tree.specs.Reading.{shapes, expr_of, exprs_of, expr_of-And}
-use Rattle.rhai_tree.proofs.Cases.{expr_cases}
+use Rattle.ast_types.specs.declared.expr.Expr.{Expr}
+use Rattle.theory_meaning.specs.Tree.{And}
+use Rattle.ast_types.specs.Reading.{shapes, expr_of, exprs_of, expr_of-And}
+use Rattle.ast_types.proofs.Cases.{expr_cases}
 use Rattle.std.proofs.lemmas.Result.{on_ok_weaker}
 use Rattle.rhai_choice_rules.proofs.Nesting.{joins_as}
 use Rattle.rhai_choice_rules.proofs.Others.{not_and}

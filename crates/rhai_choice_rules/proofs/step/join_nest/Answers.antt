@@ -1,5 +1,5 @@
 use Rattle.std.proofs.Common.{◌≡◌, true, false, ◌∙◌}
-use Rattle.rhai_tree.proofs.Cases.{stmt_cases}
+use Rattle.ast_types.proofs.Cases.{stmt_cases}
 use Rattle.rhai_choice_rules.proofs.Others.{no_nest}
 use Rattle.rhai_choice_rules.proofs.step.join_nest.Goals as goal
 

@@ -1,4 +1,4 @@
-use Rattle.rhai_tree.proofs.Cases.{stmt_cases}
+use Rattle.ast_types.proofs.Cases.{stmt_cases}
 use Rattle.rhai_choice_rules.proofs.Others.{opens_nothing}
 use Rattle.rhai_choice_rules.proofs.step.reopens.Goals as goal
 

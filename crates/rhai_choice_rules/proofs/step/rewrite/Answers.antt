@@ -1,5 +1,5 @@
 use Rattle.std.proofs.Common.{ap}
-use Rattle.rhai_tree.specs.Reading.{stmt_of}
+use Rattle.ast_types.specs.Reading.{stmt_of}
 use Rattle.rhai_choice_rules.proofs.Choosing.{stmt_replaced}
 use Rattle.rhai_choice_rules.proofs.step.rewrite.Goals as goal
 

@@ -1,9 +1,9 @@
 use Rattle.std.proofs.Common.{◌≡◌, true, false, sym, ap, ◌∙◌}
 use Rattle.std.proofs.lemmas.Result.{IfOk-weaker}
-use Rattle.rhai_tree.specs.declared.stmt.FlowControl.{FlowControl}
-use Rattle.rhai_tree.specs.Reading.{expr_of, stmt_of, stmts_of, stmt_of-If}
-use Rattle.rhai_meaning.specs.Tree.{If}
-use Rattle.rhai_tree.proofs.Cases.{stmt_cases}
+use Rattle.ast_types.specs.declared.stmt.FlowControl.{FlowControl}
+use Rattle.ast_types.specs.Reading.{expr_of, stmt_of, stmts_of, stmt_of-If}
+use Rattle.theory_meaning.specs.Tree.{If}
+use Rattle.ast_types.proofs.Cases.{stmt_cases}
 use Rattle.rhai_choice_rules.proofs.Choosing.{stmt_spelled}
 use Rattle.rhai_choice_rules.proofs.Others.{stays}
 use Rattle.rhai_choice_rules.proofs.step.rewritten.Goals as goal

@@ -1,4 +1,4 @@
-use Rattle.rhai_tree.proofs.Cases.{expr_cases}
+use Rattle.ast_types.proofs.Cases.{expr_cases}
 use Rattle.rhai_exprs.proofs.Others.{none_follows}
 use Rattle.rhai_exprs.proofs.expr.may_follow.Goals as goal
 

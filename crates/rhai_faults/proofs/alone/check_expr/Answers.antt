@@ -1,8 +1,8 @@
 use Rattle.std.proofs.Common.{sym, ap, ◌∙◌, subst}
-use Rattle.rhai_meaning.specs.Faults.{ChainShape, call_fault, expr_fault, is_member_role, map_fault, unless, ◌then◌}
-use Rattle.rhai_meaning.specs.Shape.{keys}
-use Rattle.rhai_meaning.specs.Tree.{count_exprs}
-use Rattle.rhai_tree.specs.Reading.{callee_of, expr_of, expr_of-FnCall, expr_of-Map, expr_of-MethodCall, exprs_of, keys_of, pairs_of}
+use Rattle.theory_meaning.specs.Faults.{ChainShape, call_fault, expr_fault, is_member_role, map_fault, unless, ◌then◌}
+use Rattle.theory_meaning.specs.Shape.{keys}
+use Rattle.theory_meaning.specs.Tree.{count_exprs}
+use Rattle.ast_types.specs.Reading.{callee_of, expr_of, expr_of-FnCall, expr_of-Map, expr_of-MethodCall, exprs_of, keys_of, pairs_of}
 use Rattle.rhai_faults.specs.Places.{around_of}
 use Rattle.rhai_faults.specs.Refusals.{Finds}
 use Rattle.rhai_faults.proofs.alone.check_expr.Goals as goal

@@ -1,7 +1,7 @@
 use Rattle.std.proofs.Common.{sym, ap, ◌∙◌, subst}
-use Rattle.rhai_meaning.specs.Faults.{call_fault, stmt_fault}
-use Rattle.rhai_meaning.specs.Tree.{count_exprs}
-use Rattle.rhai_tree.specs.Reading.{callee_of, exprs_of, stmt_of, stmt_of-FnCall}
+use Rattle.theory_meaning.specs.Faults.{call_fault, stmt_fault}
+use Rattle.theory_meaning.specs.Tree.{count_exprs}
+use Rattle.ast_types.specs.Reading.{callee_of, exprs_of, stmt_of, stmt_of-FnCall}
 use Rattle.rhai_faults.specs.Places.{around_of}
 use Rattle.rhai_faults.specs.Refusals.{Finds}
 use Rattle.rhai_faults.proofs.alone.check_stmt.Goals as goal

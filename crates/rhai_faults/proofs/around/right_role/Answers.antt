@@ -1,7 +1,7 @@
 use Rattle.std.proofs.Common.{sym, ap, ◌∙◌}
-use Rattle.rhai_meaning.specs.Walk.{right_role}
-use Rattle.rhai_tree.specs.Reading.{expr_of}
-use Rattle.rhai_tree.proofs.Cases.{expr_cases}
+use Rattle.theory_meaning.specs.Walk.{right_role}
+use Rattle.ast_types.specs.Reading.{expr_of}
+use Rattle.ast_types.proofs.Cases.{expr_cases}
 use Rattle.rhai_walk.specs.Nodes.{is_dot}
 use Rattle.rhai_faults.proofs.Others.{no_step}
 use Rattle.rhai_faults.proofs.around.right_role.Goals as goal

@@ -2,8 +2,8 @@ use Rattle.std.proofs.Common.{sym, ap, subst, ◌∙◌, rules}
 use Rattle.rhai_walk.specs.Nodes.{node_of}
 use Rattle.rhai_walk.specs.Standing.{below, declared_of, standing_of}
 use Rattle.rhai_walk.proofs.Sizes.{below-next, below-start, measure-falls}
-use Rattle.rhai_meaning.specs.Faults.{fault_of, finding, ◌then◌}
-use Rattle.rhai_meaning.specs.Walk.{around_parts}
+use Rattle.theory_meaning.specs.Faults.{fault_of, finding, ◌then◌}
+use Rattle.theory_meaning.specs.Walk.{around_parts}
 use Rattle.rhai_walk.specs.Children.{over_parts}
 use Rattle.rhai_faults.specs.Places.{around_of}
 use Rattle.rhai_faults.specs.Refusals.{Finds, meant}

@@ -1,6 +1,6 @@
 use Rattle.std.proofs.Common.{◌≡◌, length}
-use Rattle.rhai_tokens.specs.declared.position.Position.{Position}
-use Rattle.rhai_meaning.specs.Faults.{TreeFault}
+use Rattle.base_tokens.specs.declared.position.Position.{Position}
+use Rattle.theory_meaning.specs.Faults.{TreeFault}
 use Rattle.rhai_walk.specs.Children.{AreBelow}
 use Rattle.rhai_walk.specs.Left.{left_of}
 use Rattle.rhai_walk.specs.Nodes.{node_of}

@@ -1,8 +1,8 @@
 use Rattle.std.proofs.Common.{◌≡◌, ◌+◌, false, None, drop, not, sym, ap, subst, ◌∙◌}
-use Rattle.rhai_tree.specs.declared.script_fn.ScriptFuncDef.{ScriptFuncDef}
-use Rattle.rhai_meaning.specs.Faults.{ReservedName, finding, is_reserved, unless, ◌then◌}
-use Rattle.rhai_meaning.specs.Walk.{outermost, over_stmts}
-use Rattle.rhai_tree.specs.Reading.{stmts_of}
+use Rattle.ast_types.specs.declared.script_fn.ScriptFuncDef.{ScriptFuncDef}
+use Rattle.theory_meaning.specs.Faults.{ReservedName, finding, is_reserved, unless, ◌then◌}
+use Rattle.theory_meaning.specs.Walk.{outermost, over_stmts}
+use Rattle.ast_types.specs.Reading.{stmts_of}
 use Rattle.rhai_walk.specs.Standing.{statements_standing}
 use Rattle.rhai_faults.specs.Refusals.{IsTheFirst, meant}
 use Rattle.rhai_faults.specs.Standing.{StandsAt, StandsInFunctions, defs_of}

@@ -1,6 +1,6 @@
 use Rattle.std.proofs.Common.{◌≡◌, drop}
-use Rattle.rhai_tokens.specs.declared.position.Position.{Position}
-use Rattle.rhai_meaning.specs.Faults.{TreeFault}
+use Rattle.base_tokens.specs.declared.position.Position.{Position}
+use Rattle.theory_meaning.specs.Faults.{TreeFault}
 use Rattle.rhai_faults.specs.Standing.{StandsInFunctions, defs_of}
 use Rattle.rhai_faults.proofs.FoundLists.{found_functions}
 use Rattle.rhai_faults.proofs.check.check_functions.Given as goal

@@ -1,7 +1,7 @@
 use Rattle.std.proofs.Common.{ap, subst, ◌∙◌}
-use Rattle.rhai_meaning.specs.Faults.{finding}
-use Rattle.rhai_meaning.specs.Walk.{over_stmts}
-use Rattle.rhai_tree.specs.Reading.{stmts_of}
+use Rattle.theory_meaning.specs.Faults.{finding}
+use Rattle.theory_meaning.specs.Walk.{over_stmts}
+use Rattle.ast_types.specs.Reading.{stmts_of}
 use Rattle.rhai_walk.specs.Children.{over_children}
 use Rattle.rhai_walk.specs.Standing.{statements_standing}
 use Rattle.rhai_faults.specs.Places.{around_of}

@@ -1,7 +1,7 @@
 use Rattle.std.proofs.Common.{◌&&◌, ◌==◌, length, refl, sym, ap, ◌∙◌, eq-eqb}
 use Rattle.std.proofs.lemmas.Bool.{ne_eqb}
-use Rattle.rhai_meaning.specs.Shape.{are_among}
-use Rattle.rhai_tree.specs.Reading.{keys_of}
+use Rattle.theory_meaning.specs.Shape.{are_among}
+use Rattle.ast_types.specs.Reading.{keys_of}
 use Rattle.rhai_faults.specs.MapKeys.{names_of}
 use Rattle.rhai_faults.proofs.KeyLists.{and_false, are_same-of_members}
 use Rattle.rhai_faults.proofs.map_keys.are_members.Goals as goal

@@ -1,6 +1,6 @@
 use Rattle.std.proofs.Common.{not, ◌&&◌, sym, ap, ◌∙◌}
-use Rattle.rhai_tokens.specs.Names.{is_among}
-use Rattle.rhai_meaning.specs.Shape.{are_distinct}
+use Rattle.base_tokens.specs.Names.{is_among}
+use Rattle.theory_meaning.specs.Shape.{are_distinct}
 use Rattle.rhai_faults.specs.MapKeys.{names_of}
 use Rattle.rhai_faults.proofs.map_keys.differ.Goals as goal
 

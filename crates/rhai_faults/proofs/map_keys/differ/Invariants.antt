@@ -1,5 +1,5 @@
 use Rattle.std.proofs.Common.{◌≡◌, length}
-use Rattle.rhai_meaning.specs.Shape.{are_distinct}
+use Rattle.theory_meaning.specs.Shape.{are_distinct}
 use Rattle.rhai_faults.specs.MapKeys.{names_of}
 use Rattle.rhai_faults.proofs.map_keys.differ.Given as goal
 

@@ -1,5 +1,5 @@
 use Rattle.std.proofs.Common.{sym, ap, ◌∙◌, arith}
-use Rattle.rhai_meaning.specs.Faults as faults
+use Rattle.theory_meaning.specs.Faults as faults
 use Rattle.rhai_faults.specs.MapKeys.{names_of}
 use Rattle.rhai_faults.proofs.KeyLists.{length-names_of, get_or-names_of, names_so_far-none, names_so_far-more, names_so_far-twice, names_so_far-all}
 use Rattle.rhai_faults.proofs.map_keys.distinct_names.Goals as goal

@@ -1,7 +1,7 @@
 use Rattle.std.proofs.Common.{◌&&◌, sym, ap, ◌∙◌}
-use Rattle.rhai_tokens.specs.Names.{is_among}
-use Rattle.rhai_meaning.specs.Shape.{are_among}
-use Rattle.rhai_tree.specs.Reading.{keys_of}
+use Rattle.base_tokens.specs.Names.{is_among}
+use Rattle.theory_meaning.specs.Shape.{are_among}
+use Rattle.ast_types.specs.Reading.{keys_of}
 use Rattle.rhai_faults.specs.MapKeys.{texts_of}
 use Rattle.rhai_faults.proofs.KeyLists.{is_among-texts}
 use Rattle.rhai_faults.proofs.map_keys.has_each.Goals as goal

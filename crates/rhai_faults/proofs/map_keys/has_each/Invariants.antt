@@ -1,6 +1,6 @@
 use Rattle.std.proofs.Common.{◌≡◌}
-use Rattle.rhai_meaning.specs.Shape.{are_among}
-use Rattle.rhai_tree.specs.Reading.{keys_of}
+use Rattle.theory_meaning.specs.Shape.{are_among}
+use Rattle.ast_types.specs.Reading.{keys_of}
 use Rattle.rhai_faults.specs.MapKeys.{texts_of}
 use Rattle.rhai_faults.proofs.map_keys.has_each.Given as goal
 

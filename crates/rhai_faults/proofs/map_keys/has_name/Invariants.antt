@@ -1,5 +1,5 @@
 use Rattle.std.proofs.Common.{◌≡◌, length}
-use Rattle.rhai_tokens.specs.Names.{is_among}
+use Rattle.base_tokens.specs.Names.{is_among}
 use Rattle.rhai_faults.specs.MapKeys.{names_of}
 use Rattle.rhai_faults.proofs.map_keys.has_name.Given as goal
 

@@ -1,7 +1,7 @@
 use Rattle.std.proofs.Common.{sym, ap, ◌∙◌}
-use Rattle.rhai_meaning.specs.Faults as faults
-use Rattle.rhai_meaning.specs.Faults.{◌then◌}
-use Rattle.rhai_tree.specs.Reading.{keys_of}
+use Rattle.theory_meaning.specs.Faults as faults
+use Rattle.theory_meaning.specs.Faults.{◌then◌}
+use Rattle.ast_types.specs.Reading.{keys_of}
 use Rattle.rhai_faults.specs.MapKeys.{names_of}
 use Rattle.rhai_faults.proofs.KeyLists.{are_same}
 use Rattle.rhai_faults.proofs.map_keys.test_few.Goals as goal

@@ -1,4 +1,4 @@
-use Rattle.rhai_tree.proofs.Cases.{stmt_cases}
+use Rattle.ast_types.proofs.Cases.{stmt_cases}
 use Rattle.rhai_faults.proofs.Others.{plain_alone}
 use Rattle.rhai_faults.proofs.plain.is_plain_stmt.Goals as goal
 

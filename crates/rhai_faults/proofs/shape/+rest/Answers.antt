@@ -1,5 +1,5 @@
 use Rattle.std.proofs.Common.{◌∙◌}
-use Rattle.rhai_tree.proofs.Cases.{expr_cases}
+use Rattle.ast_types.proofs.Cases.{expr_cases}
 use Rattle.rhai_walk.specs.Nodes.{is_dot}
 use Rattle.rhai_faults.proofs.Others.{no_chain}
 use Rattle.rhai_faults.proofs.shape.+rest.Goals as goal

@@ -1,7 +1,7 @@
 use Rattle.std.proofs.Common.{Some, sym, ap, ◌∙◌}
-use Rattle.rhai_meaning.specs.Shape.{has_token}
-use Rattle.rhai_meaning.specs.Tree.{count_exprs}
-use Rattle.rhai_tree.specs.Reading.{callee_of, exprs_of, mark_of}
+use Rattle.theory_meaning.specs.Shape.{has_token}
+use Rattle.theory_meaning.specs.Tree.{count_exprs}
+use Rattle.ast_types.specs.Reading.{callee_of, exprs_of, mark_of}
 use Rattle.rhai_faults.proofs.Operations.{count_exprs_of}
 use Rattle.rhai_faults.proofs.shape.is_formed.Goals as goal
 

@@ -1,7 +1,7 @@
 use Rattle.std.proofs.Common.{rules}
-use Rattle.rhai_tree.specs.Reading.{shapes}
+use Rattle.ast_types.specs.Reading.{shapes}
 use Rattle.rhai_base.specs.Reading.{kinds}
-use Rattle.rhai_tree.proofs.Cases.{expr_cases}
+use Rattle.ast_types.proofs.Cases.{expr_cases}
 use Rattle.rhai_faults.proofs.Others.{no_left_side}
 use Rattle.rhai_faults.proofs.shape.is_left_side.Goals as goal
 

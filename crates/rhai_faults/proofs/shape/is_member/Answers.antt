@@ -1,4 +1,4 @@
-use Rattle.rhai_tree.proofs.Cases.{expr_cases}
+use Rattle.ast_types.proofs.Cases.{expr_cases}
 use Rattle.rhai_faults.proofs.Others.{no_member}
 use Rattle.rhai_faults.proofs.shape.is_member.Goals as goal
 

@@ -1,5 +1,5 @@
 use Rattle.std.proofs.Common.{is_some, rules, ap, ◌∙◌}
-use Rattle.rhai_tree.specs.Reading.{shapes}
+use Rattle.ast_types.specs.Reading.{shapes}
 use Rattle.rhai_base.specs.Reading.{kinds}
 use Rattle.rhai_faults.proofs.Operations.{is_operator, is_symbol-of}
 use Rattle.rhai_faults.proofs.shape.is_symbol.Goals as goal

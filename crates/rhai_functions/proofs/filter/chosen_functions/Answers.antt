@@ -1,7 +1,7 @@
 use Rattle.std.proofs.Common.{◌≡◌, [], ◌∷◌, ◌++◌, true, false, map, subst, arith}
 use Rattle.std.proofs.lemmas.Grind.{common_steps}
 use Rattle.std.specs.Rc.{rc_value}
-use Rattle.rhai_tree.specs.declared.script_fn.ScriptFuncDef.{ScriptFuncDef}
+use Rattle.ast_types.specs.declared.script_fn.ScriptFuncDef.{ScriptFuncDef}
 use Rattle.rhai_functions.specs.Filter.{Answers}
 use Rattle.rhai_functions.proofs.Choices.{chooses-taken, chooses-passed, chooses-end, table-chosen}
 use Rattle.rhai_functions.proofs.filter.chosen_functions.Goals as goal

@@ -1,5 +1,5 @@
 use Rattle.std.proofs.Common.{◌≡◌, IfOk, subst}
-use Rattle.rhai_tree.specs.declared.block.StmtBlock.{StmtBlock}
+use Rattle.ast_types.specs.declared.block.StmtBlock.{StmtBlock}
 use Rattle.rhai_nodes.proofs.Blocks.{block_of_other}
 use Rattle.rhai_nodes.proofs.block.block_from.Goals as goal
 

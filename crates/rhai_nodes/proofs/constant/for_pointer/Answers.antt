@@ -2,8 +2,8 @@ use Rattle.std.proofs.Common.{◌≡◌, Some, map, ap, ◌∙◌}
 use Rattle.std.proofs.lemmas.Result.{IfOk-weaker}
 use Rattle.rhai_base.specs.Reading.{value_of}
 use Rattle.rhai_base.specs.Value.{PointerV, values}
-use Rattle.rhai_tree.specs.Reading.{expr_of}
-use Rattle.rhai_meaning.specs.Constants.{literal_value, pointer_call}
+use Rattle.ast_types.specs.Reading.{expr_of}
+use Rattle.theory_meaning.specs.Constants.{literal_value, pointer_call}
 use Rattle.rhai_nodes.proofs.Pointers.{none_curried, pointer_written}
 use Rattle.rhai_nodes.proofs.constant.for_pointer.Goals as goal
 

@@ -1,9 +1,9 @@
 use Rattle.std.proofs.Common.{◌≡◌, Some, sym, ap, ◌∙◌}
 use Rattle.std.proofs.lemmas.Result.{IfOk-weaker}
 use Rattle.rhai_base.specs.Reading.{value_of}
-use Rattle.rhai_tree.specs.Reading.{expr_of}
-use Rattle.rhai_meaning.specs.Constants.{constant_for, literal_value}
-use Rattle.rhai_meaning.specs.Tree.{DynamicConstant}
+use Rattle.ast_types.specs.Reading.{expr_of}
+use Rattle.theory_meaning.specs.Constants.{constant_for, literal_value}
+use Rattle.theory_meaning.specs.Tree.{DynamicConstant}
 use Rattle.rhai_nodes.proofs.Held.{held}
 use Rattle.rhai_nodes.proofs.constant.for_whole.Goals as goal
 

@@ -2,14 +2,14 @@ use Rattle.std.proofs.Common.{◌≡◌, List, [], ◌∷◌, ◌++◌, ◌+◌,
 use Rattle.std.specs.Cow.{cow_value}
 use Rattle.std.proofs.lemmas.List.{map-append}
 use Rattle.rhai_base.specs.declared.dynamic.Dynamic.{Dynamic}
-use Rattle.rhai_tokens.specs.declared.ident.Ident.{Ident}
-use Rattle.rhai_tree.specs.declared.expr.Expr.{Expr}
+use Rattle.base_tokens.specs.declared.ident.Ident.{Ident}
+use Rattle.ast_types.specs.declared.expr.Expr.{Expr}
 use Rattle.rhai_base.specs.Reading.{members_of, value_of, value_of-Array, value_of-Map, value_of-Str}
 use Rattle.rhai_base.specs.Value.{ArrayV, TextV, fields, values}
-use Rattle.rhai_meaning.specs.Constants.{array_value, value_and, entry_and, constant_value, constant_values, constant_entries}
+use Rattle.theory_meaning.specs.Constants.{array_value, value_and, entry_and, constant_value, constant_values, constant_entries}
 use Rattle.rhai_nodes.specs.Lent.{lent_value}
-use Rattle.rhai_tree.specs.Reading.{expr_of, exprs_of, pairs_of}
-use Rattle.rhai_tree.proofs.ItemLists.{exprs_of-drop, pairs_of-drop}
+use Rattle.ast_types.specs.Reading.{expr_of, exprs_of, pairs_of}
+use Rattle.ast_types.proofs.ItemLists.{exprs_of-drop, pairs_of-drop}
 use Rattle.rhai_nodes.proofs.LiteralLists.{values_before, values_before-more, values_before-all, joined_from-all, map_from, map_from-more, map_from-all}
 use Rattle.rhai_nodes.proofs.literals.+lend_value.Goals as goal
 

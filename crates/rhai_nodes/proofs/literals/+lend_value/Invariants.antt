@@ -2,8 +2,8 @@ use Rattle.std.proofs.Common.{◌≡◌, drop, map}
 use Rattle.rhai_base.specs.Reading.{members_of, value_of}
 use Rattle.rhai_base.specs.Value.{fields}
 use Rattle.std.specs.String.{string_bytes}
-use Rattle.rhai_meaning.specs.Constants.{constant_values, constant_entries, joined_value, map_value}
-use Rattle.rhai_tree.specs.Reading.{exprs_of, pairs_of}
+use Rattle.theory_meaning.specs.Constants.{constant_values, constant_entries, joined_value, map_value}
+use Rattle.ast_types.specs.Reading.{exprs_of, pairs_of}
 use Rattle.rhai_nodes.proofs.LiteralLists.{joined_from, map_from, values_before}
 use Rattle.rhai_nodes.proofs.literals.+lend_value.Given as goal
 

@@ -1,4 +1,4 @@
-use Rattle.rhai_tree.proofs.Cases.{expr_cases}
+use Rattle.ast_types.proofs.Cases.{expr_cases}
 use Rattle.rhai_nodes.proofs.Others.{no_call}
 use Rattle.rhai_nodes.proofs.literals.call_value.Goals as goal
 

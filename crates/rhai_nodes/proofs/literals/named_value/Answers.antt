@@ -1,6 +1,6 @@
 use Rattle.std.proofs.Common.{List, length, ap, arith}
 use borrow.Author.Tests.{ltb-true, ltb-false}
-use Rattle.rhai_tree.specs.declared.expr.Expr.{Expr}
+use Rattle.ast_types.specs.declared.expr.Expr.{Expr}
 use Rattle.rhai_nodes.proofs.LiteralLists.{named_value-few, named_value-many}
 use Rattle.rhai_nodes.proofs.literals.named_value.Goals as goal
 use Rattle.rhai_nodes.proofs.literals.named_value.Goals.{in_default-via-then-as_slice-lt1, in_default-via-else-as_slice-lt1+else-this-lt2+else-this-lt3}

@@ -3,8 +3,8 @@ use Rattle.std.specs.Option.{option_map}
 use Rattle.std.specs.Map.{lookup}
 use Rattle.rhai_base.proofs.Exact.{equal}
 use Rattle.rhai_base.specs.Reading.{value_of}
-use Rattle.rhai_tree.specs.Reading.{table_of}
-use Rattle.rhai_meaning.specs.Control.{case_for}
+use Rattle.ast_types.specs.Reading.{table_of}
+use Rattle.theory_meaning.specs.Control.{case_for}
 use Rattle.rhai_nodes.proofs.Listed.{listed_is}
 use Rattle.rhai_nodes.proofs.switch.case_list.Goals as goal
 

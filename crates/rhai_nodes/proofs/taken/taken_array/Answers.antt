@@ -2,11 +2,11 @@ use Rattle.std.proofs.Common.{◌≡◌, List, [], ◌∷◌, ◌++◌, Some, ma
 use Rattle.std.proofs.lemmas.List.{map-append}
 use Rattle.std.specs.Option.{option_map}
 use Rattle.rhai_base.specs.declared.dynamic.Dynamic.{Dynamic}
-use Rattle.rhai_tree.specs.declared.expr.Expr.{Expr}
+use Rattle.ast_types.specs.declared.expr.Expr.{Expr}
 use Rattle.rhai_base.specs.Reading.{value_of, value_of-Array}
 use Rattle.rhai_base.specs.Value.{ArrayV, values}
-use Rattle.rhai_meaning.specs.Constants.{array_value, value_and, constant_value, constant_values}
-use Rattle.rhai_tree.specs.Reading.{expr_of, exprs_of}
+use Rattle.theory_meaning.specs.Constants.{array_value, value_and, constant_value, constant_values}
+use Rattle.ast_types.specs.Reading.{expr_of, exprs_of}
 use Rattle.rhai_nodes.proofs.LiteralLists.{values_before, values_before-more, values_before-end}
 use Rattle.rhai_nodes.proofs.taken.taken_array.Goals as goal
 

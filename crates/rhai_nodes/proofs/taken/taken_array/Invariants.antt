@@ -1,7 +1,7 @@
 use Rattle.std.proofs.Common.{◌≡◌, length, map}
 use Rattle.rhai_base.specs.Reading.{value_of}
-use Rattle.rhai_meaning.specs.Constants.{constant_values}
-use Rattle.rhai_tree.specs.Reading.{exprs_of}
+use Rattle.theory_meaning.specs.Constants.{constant_values}
+use Rattle.ast_types.specs.Reading.{exprs_of}
 use Rattle.rhai_nodes.proofs.LiteralLists.{values_before}
 use Rattle.rhai_nodes.proofs.taken.taken_array.Given as goal
 

@@ -1,8 +1,8 @@
 use Rattle.std.proofs.Common.{◌≡◌, length}
 use Rattle.rhai_base.specs.Reading.{members_of}
 use Rattle.rhai_base.specs.Value.{fields}
-use Rattle.rhai_meaning.specs.Constants.{constant_entries, map_value}
-use Rattle.rhai_tree.specs.Reading.{pairs_of}
+use Rattle.theory_meaning.specs.Constants.{constant_entries, map_value}
+use Rattle.ast_types.specs.Reading.{pairs_of}
 use Rattle.rhai_nodes.proofs.LiteralLists.{map_from}
 use Rattle.rhai_nodes.proofs.taken.taken_map.Given as goal
 

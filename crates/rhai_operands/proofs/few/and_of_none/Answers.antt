@@ -1,5 +1,5 @@
 use Rattle.std.proofs.Common.{refl}
-use Rattle.rhai_tree.specs.Reading.{expr_of-BoolConstant}
+use Rattle.ast_types.specs.Reading.{expr_of-BoolConstant}
 use Rattle.rhai_steps.proofs.Stepping.{expr_rewrite_as}
 use Rattle.rhai_operands.proofs.Single.{and_none}
 use Rattle.rhai_operands.proofs.few.and_of_none.Goals as goal

@@ -1,5 +1,5 @@
 use Rattle.std.proofs.Common.{refl}
-use Rattle.rhai_tree.specs.Reading.{expr_of-Unit}
+use Rattle.ast_types.specs.Reading.{expr_of-Unit}
 use Rattle.rhai_steps.proofs.Stepping.{expr_rewrite_as}
 use Rattle.rhai_operands.proofs.Single.{coalesce_none}
 use Rattle.rhai_operands.proofs.few.coalesce_of_none.Goals as goal

@@ -1,4 +1,4 @@
-use Rattle.rhai_tree.specs.Reading.{expr_of}
+use Rattle.ast_types.specs.Reading.{expr_of}
 use Rattle.rhai_operands.proofs.Single.{or_alone}
 use Rattle.rhai_operands.proofs.few.or_of_one.Goals as goal
 

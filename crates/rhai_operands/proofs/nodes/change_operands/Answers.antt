@@ -1,5 +1,5 @@
 use Rattle.std.proofs.Common.{◌≡◌, true, false, ◌∙◌}
-use Rattle.rhai_tree.proofs.Cases.{expr_cases}
+use Rattle.ast_types.proofs.Cases.{expr_cases}
 use Rattle.rhai_operands.proofs.OperandKinds.{no_operation}
 use Rattle.rhai_operands.proofs.nodes.change_operands.Goals as goal
 

@@ -1,5 +1,5 @@
 use Rattle.std.proofs.Common.{◌≡◌, true, false, ◌∙◌}
-use Rattle.rhai_tree.proofs.Cases.{expr_cases}
+use Rattle.ast_types.proofs.Cases.{expr_cases}
 use Rattle.rhai_steps.specs.Places.{place_of}
 use Rattle.rhai_operands.proofs.OperandKinds.{stays_there}
 use Rattle.rhai_operands.proofs.nodes.rewritten.Goals as goal

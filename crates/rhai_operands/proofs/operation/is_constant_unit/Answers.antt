@@ -1,4 +1,4 @@
-use Rattle.rhai_tree.proofs.Cases.{expr_cases}
+use Rattle.ast_types.proofs.Cases.{expr_cases}
 use Rattle.rhai_operands.proofs.OperandKinds.{no_constant_unit}
 use Rattle.rhai_operands.proofs.operation.is_constant_unit.Goals as goal
 

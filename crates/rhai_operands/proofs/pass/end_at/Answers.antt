@@ -1,7 +1,7 @@
 use Rattle.std.proofs.Common.{get_or, subst}
 use Rattle.std.proofs.lemmas.List.{get_or_default}
-use Rattle.rhai_tree.specs.Defaults.{nowhere}
-use Rattle.rhai_tree.specs.declared.expr.Expr.TheVariants.{Unit as unit_at}
+use Rattle.ast_types.specs.Defaults.{nowhere}
+use Rattle.ast_types.specs.declared.expr.Expr.TheVariants.{Unit as unit_at}
 use Rattle.rhai_operands.specs.Operands.{Declared, GoBefore}
 use Rattle.rhai_operands.proofs.Moving.{ends_at}
 use Rattle.rhai_operands.proofs.pass.end_at.Goals as goal

@@ -1,5 +1,5 @@
 use Rattle.std.proofs.Common.{◌≡◌, ◌<◌, ◌+◌, ◌∷◌, ◌++◌, [], true, false, length, get_or, take, sym, ap, ◌∙◌, arith}
-use Rattle.rhai_tree.specs.Reading.{expr_of}
+use Rattle.ast_types.specs.Reading.{expr_of}
 use Rattle.rhai_operands.specs.Operands.{Declared, goes_on, decides}
 use Rattle.rhai_operands.proofs.Moving.{passing_start, passing_keep, passing_skip, passing_end, passing_decided}
 use Rattle.rhai_operands.proofs.pass.pass.Goals as goal

@@ -1,8 +1,8 @@
 use Rattle.std.proofs.Common.{◌-◌, drop, length, refl, ap, ◌∙◌}
-use Rattle.rhai_known.specs.State.{progress}
-use Rattle.rhai_rewriting.specs.Known.{shadow_all}
+use Rattle.opt_known.specs.State.{progress}
+use Rattle.theory_rewriting.specs.Known.{shadow_all}
 use Rattle.rhai_optimizer.proofs.Bodies.{body_run, unshadowed}
-use Rattle.rhai_reducer.proofs.Parts.{counted, forgotten}
+use Rattle.opt_reducer.proofs.Parts.{counted, forgotten}
 use Rattle.rhai_optimizer.proofs.functions.function_body.Goals as goal
 
 pub returns-clause-run : goal.returns-clause-run

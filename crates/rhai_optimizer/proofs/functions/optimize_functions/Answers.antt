@@ -1,10 +1,10 @@
 use Rattle.std.proofs.Common.{ap, ◌∙◌}
 use Rattle.std.specs.Map.Iter.{deref}
 use Rattle.std.specs.Option.{option_map}
-use Rattle.rhai_deep_queries.specs.Walks.{listing}
-use Rattle.rhai_known.specs.State.{known_of}
-use Rattle.rhai_rewriting.specs.Scripts.{known_inside}
-use Rattle.rhai_reducer.specs.Parts.{record_of}
+use Rattle.opt_queries.specs.Walks.{listing}
+use Rattle.opt_known.specs.State.{known_of}
+use Rattle.theory_rewriting.specs.Scripts.{known_inside}
+use Rattle.opt_reducer.specs.Parts.{record_of}
 use Rattle.rhai_optimizer.specs.Scopes.{start_of}
 use Rattle.rhai_optimizer.proofs.functions.optimize_functions.Goals as goal
 

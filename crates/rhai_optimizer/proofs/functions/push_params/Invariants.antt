@@ -1,6 +1,6 @@
 use Rattle.std.proofs.Common.{◌≡◌, drop}
-use Rattle.rhai_known.specs.State.{progress}
-use Rattle.rhai_rewriting.specs.Known.{shadow_all}
+use Rattle.opt_known.specs.State.{progress}
+use Rattle.theory_rewriting.specs.Known.{shadow_all}
 use Rattle.rhai_optimizer.proofs.functions.push_params.Given as goal
 
 -- with what is left on top it is what comes of all

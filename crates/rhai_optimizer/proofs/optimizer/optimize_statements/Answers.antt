@@ -1,8 +1,8 @@
 use Rattle.std.proofs.Common.{ap, ◌∙◌}
 use Rattle.std.specs.Map.Iter.{deref}
 use Rattle.std.specs.Option.{option_map}
-use Rattle.rhai_engine.specs.EngineInfo.{engine_of}
-use Rattle.rhai_known.specs.State.{known_of}
+use Rattle.base_engine.specs.EngineInfo.{engine_of}
+use Rattle.opt_known.specs.State.{known_of}
 use Rattle.rhai_optimizer.specs.Scopes.{constants_onto, given_onto}
 use Rattle.rhai_optimizer.proofs.Passing.{counts_knowing}
 use Rattle.rhai_optimizer.proofs.Scopes.{at_top}

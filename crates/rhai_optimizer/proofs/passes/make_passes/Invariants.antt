@@ -1,7 +1,7 @@
-use Rattle.rhai_known.specs.State.{progress}
-use Rattle.rhai_meaning.specs.Weight.{weight}
-use Rattle.rhai_tree.specs.Reading.{stmts_of}
-use Rattle.rhai_reducer.specs.Parts.{record_of}
+use Rattle.opt_known.specs.State.{progress}
+use Rattle.theory_meaning.specs.Weight.{weight}
+use Rattle.ast_types.specs.Reading.{stmts_of}
+use Rattle.opt_reducer.specs.Parts.{record_of}
 use Rattle.rhai_optimizer.specs.Passes.{SettingSoFar}
 use Rattle.rhai_optimizer.proofs.passes.make_passes.Given as goal
 

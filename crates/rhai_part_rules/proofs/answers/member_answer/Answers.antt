@@ -1,6 +1,6 @@
-use Rattle.rhai_tree.proofs.Cases.{expr_cases}
-use Rattle.rhai_engine.specs.EngineInfo.{engine_of}
-use Rattle.rhai_tree.specs.Reading.{is_negated}
+use Rattle.ast_types.proofs.Cases.{expr_cases}
+use Rattle.base_engine.specs.EngineInfo.{engine_of}
+use Rattle.ast_types.specs.Reading.{is_negated}
 use Rattle.rhai_base.specs.Reading.{value_of}
 use Rattle.rhai_part_rules.proofs.Others.{no_member}
 use Rattle.rhai_part_rules.proofs.answers.member_answer.Goals as goal

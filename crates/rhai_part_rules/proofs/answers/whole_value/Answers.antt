@@ -1,7 +1,7 @@
 use Rattle.std.proofs.Common.{◌≡◌, subst}
 use Rattle.std.specs.Prelude.{IfOk}
 use Rattle.rhai_nodes.specs.Lent.{lent_value}
-use Rattle.rhai_tree.proofs.Cases.{expr_cases}
+use Rattle.ast_types.proofs.Cases.{expr_cases}
 use Rattle.rhai_part_rules.proofs.Others.{no_literal}
 use Rattle.rhai_part_rules.proofs.answers.whole_value.Goals as goal
 

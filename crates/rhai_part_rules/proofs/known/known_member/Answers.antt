@@ -1,6 +1,6 @@
-use Rattle.rhai_tree.proofs.Cases.{expr_cases}
-use Rattle.rhai_tree.specs.Reading.{expr_of}
-use Rattle.rhai_known.specs.State.{progress}
+use Rattle.ast_types.proofs.Cases.{expr_cases}
+use Rattle.ast_types.specs.Reading.{expr_of}
+use Rattle.opt_known.specs.State.{progress}
 use Rattle.rhai_part_rules.proofs.Others.{no_known_property}
 use Rattle.rhai_part_rules.proofs.known.known_member.Goals as goal
 

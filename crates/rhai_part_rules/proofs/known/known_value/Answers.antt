@@ -1,4 +1,4 @@
-use Rattle.rhai_tree.proofs.Cases.{expr_cases}
+use Rattle.ast_types.proofs.Cases.{expr_cases}
 use Rattle.rhai_part_rules.proofs.Others.{no_known_value}
 use Rattle.rhai_part_rules.proofs.known.known_value.Goals as goal
 

@@ -1,5 +1,5 @@
 use Rattle.rhai_base.specs.Reading.{dynamic_cases}
-use Rattle.rhai_tree.specs.Reading.{pairs_of}
+use Rattle.ast_types.specs.Reading.{pairs_of}
 use Rattle.rhai_part_rules.proofs.Others.{no_key}
 use Rattle.rhai_part_rules.proofs.literals.entry_at.Goals as goal
 

@@ -1,6 +1,6 @@
 use Rattle.std.proofs.Common.{ap, sym, ◌∙◌}
-use Rattle.rhai_meaning.specs.Queries.{is_unit}
-use Rattle.rhai_tree.specs.Reading.{pairs_of}
+use Rattle.theory_meaning.specs.Queries.{is_unit}
+use Rattle.ast_types.specs.Reading.{pairs_of}
 use Rattle.rhai_part_rules.specs.declared.literals.Found.{Found}
 use Rattle.rhai_part_rules.specs.Literals.{found_member}
 use Rattle.rhai_part_rules.proofs.Members.{member_seen, no_member_seen}

@@ -1,6 +1,6 @@
 use Rattle.std.proofs.Common.{ap, sym}
-use Rattle.rhai_meaning.specs.Queries.{is_unit}
-use Rattle.rhai_tree.proofs.Cases.{expr_cases}
+use Rattle.theory_meaning.specs.Queries.{is_unit}
+use Rattle.ast_types.proofs.Cases.{expr_cases}
 use Rattle.rhai_part_rules.proofs.Others.{no_found}
 use Rattle.rhai_part_rules.proofs.literals.is_unit_part.Goals as goal
 

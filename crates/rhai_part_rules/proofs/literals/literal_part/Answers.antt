@@ -1,5 +1,5 @@
-use Rattle.rhai_tree.proofs.Cases.{expr_cases}
-use Rattle.rhai_tree.specs.Reading.{expr_of}
+use Rattle.ast_types.proofs.Cases.{expr_cases}
+use Rattle.ast_types.specs.Reading.{expr_of}
 use Rattle.rhai_walk.specs.Nodes.{is_dot}
 use Rattle.rhai_part_rules.proofs.Others.{no_literal_part}
 use Rattle.rhai_part_rules.proofs.literals.literal_part.Goals as goal

@@ -1,5 +1,5 @@
-use Rattle.rhai_tree.proofs.Cases.{expr_cases}
-use Rattle.rhai_tree.specs.Reading.{pairs_of}
+use Rattle.ast_types.proofs.Cases.{expr_cases}
+use Rattle.ast_types.specs.Reading.{pairs_of}
 use Rattle.rhai_part_rules.proofs.Others.{no_property_for}
 use Rattle.rhai_part_rules.proofs.literals.property_of_map.Goals as goal
 

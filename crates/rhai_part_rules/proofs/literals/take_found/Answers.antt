@@ -1,6 +1,6 @@
 use Rattle.std.proofs.Common.{sym, ◌∙◌}
-use Rattle.rhai_tree.specs.Reading.{expr_of-Unit}
-use Rattle.rhai_tree.proofs.Cases.{expr_cases}
+use Rattle.ast_types.specs.Reading.{expr_of-Unit}
+use Rattle.ast_types.proofs.Cases.{expr_cases}
 use Rattle.rhai_part_rules.proofs.Others.{no_found}
 use Rattle.rhai_part_rules.proofs.literals.take_found.Goals as goal
 

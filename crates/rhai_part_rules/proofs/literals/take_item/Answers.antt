@@ -1,5 +1,5 @@
 use Rattle.std.proofs.Common.{ap, sym, ◌∙◌}
-use Rattle.rhai_tree.specs.Reading.{exprs_of, expr_of, expr_of-Unit}
+use Rattle.ast_types.specs.Reading.{exprs_of, expr_of, expr_of-Unit}
 use Rattle.rhai_part_rules.specs.declared.literals.Found.{Found}
 use Rattle.rhai_part_rules.specs.Literals.{found_item}
 use Rattle.rhai_part_rules.proofs.Members.{item_taken, none_taken}

@@ -1,4 +1,4 @@
-use Rattle.rhai_tree.proofs.Cases.{expr_cases, stmt_cases}
+use Rattle.ast_types.proofs.Cases.{expr_cases, stmt_cases}
 use Rattle.rhai_queries.proofs.Others.{independent, no_dependence}
 use Rattle.rhai_queries.proofs.block_dependence.+dependent.Goals as goal
 

@@ -1,6 +1,6 @@
 use Rattle.std.proofs.Common.{◌≡◌, drop}
-use Rattle.rhai_meaning.specs.Queries.{are_all_dependent}
-use Rattle.rhai_tree.specs.Reading.{stmts_of}
+use Rattle.theory_meaning.specs.Queries.{are_all_dependent}
+use Rattle.ast_types.specs.Reading.{stmts_of}
 use Rattle.rhai_queries.proofs.block_dependence.+dependent.Given as goal
 
 abbrev pub invariant-are_all_dependent-loop-stmt : goal.invariant-are_all_dependent-loop-stmt

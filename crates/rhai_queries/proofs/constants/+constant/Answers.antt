@@ -1,8 +1,8 @@
 use Rattle.std.proofs.Common.{◌&&◌, ◌+◌, drop, sym, ap, ◌∙◌}
-use Rattle.rhai_tokens.specs.declared.ident.Ident.{Ident}
-use Rattle.rhai_tree.specs.declared.expr.Expr.{Expr}
-use Rattle.rhai_meaning.specs.Constants.{is_constant}
-use Rattle.rhai_tree.specs.Reading.{expr_of}
+use Rattle.base_tokens.specs.declared.ident.Ident.{Ident}
+use Rattle.ast_types.specs.declared.expr.Expr.{Expr}
+use Rattle.theory_meaning.specs.Constants.{is_constant}
+use Rattle.ast_types.specs.Reading.{expr_of}
 use Rattle.rhai_queries.proofs.ConstantLists.{members_constant, members-drop}
 use Rattle.rhai_queries.proofs.constants.+constant.Goals as goal
 

@@ -1,6 +1,6 @@
 use Rattle.std.proofs.Common.{◌≡◌, drop, is_some}
-use Rattle.rhai_meaning.specs.Constants.{are_constant, constant_entries}
-use Rattle.rhai_tree.specs.Reading.{exprs_of, pairs_of}
+use Rattle.theory_meaning.specs.Constants.{are_constant, constant_entries}
+use Rattle.ast_types.specs.Reading.{exprs_of, pairs_of}
 use Rattle.rhai_queries.proofs.constants.+constant.Given as goal
 
 abbrev pub invariant-are_constant-loop-expr : goal.invariant-are_constant-loop-expr

@@ -1,4 +1,4 @@
-use Rattle.rhai_tree.proofs.Cases.{expr_cases}
+use Rattle.ast_types.proofs.Cases.{expr_cases}
 use Rattle.rhai_queries.proofs.Others.{no_literal}
 use Rattle.rhai_queries.proofs.constants.is_literally.Goals as goal
 

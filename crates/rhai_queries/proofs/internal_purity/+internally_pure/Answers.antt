@@ -1,5 +1,5 @@
 use Rattle.std.proofs.Common.{◌∙◌}
-use Rattle.rhai_tree.proofs.Cases.{expr_cases, stmt_cases}
+use Rattle.ast_types.proofs.Cases.{expr_cases, stmt_cases}
 use Rattle.rhai_queries.proofs.Others.{pure_alone, pure_statement}
 use Rattle.rhai_queries.proofs.internal_purity.+internally_pure.Goals as goal
 

@@ -1,6 +1,6 @@
 use Rattle.std.proofs.Common.{◌≡◌, drop}
-use Rattle.rhai_meaning.specs.Queries.{are_internally_pure}
-use Rattle.rhai_tree.specs.Reading.{stmts_of}
+use Rattle.theory_meaning.specs.Queries.{are_internally_pure}
+use Rattle.ast_types.specs.Reading.{stmts_of}
 use Rattle.rhai_queries.proofs.internal_purity.+internally_pure.Given as goal
 
 abbrev pub invariant-are_internally_pure-loop-stmt : goal.invariant-are_internally_pure-loop-stmt

@@ -1,6 +1,6 @@
 use Rattle.std.proofs.Common.{ℕ, ◌&&◌, ◌+◌, drop, slice_get, sym, ap, ◌∙◌}
-use Rattle.rhai_meaning.specs.Queries.{arm_purities, listed_arms_are_pure}
-use Rattle.rhai_tree.specs.Reading.{arms_of}
+use Rattle.theory_meaning.specs.Queries.{arm_purities, listed_arms_are_pure}
+use Rattle.ast_types.specs.Reading.{arms_of}
 use Rattle.rhai_queries.specs.Arms.{is_pure_if_any}
 use Rattle.rhai_queries.proofs.Tables.{arm-get, listed-drop, listed_by_ranges, ranges-drop}
 use Rattle.rhai_queries.proofs.purity.+pure.Goals as goal

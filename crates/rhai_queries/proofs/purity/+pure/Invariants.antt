@@ -1,7 +1,7 @@
 use Rattle.std.proofs.Common.{◌≡◌, drop, map}
-use Rattle.rhai_meaning.specs.Queries.{are_pure, are_pure_exprs, are_pure_pairs, arm_purities, listed_arms_are_pure}
-use Rattle.rhai_meaning.specs.Walk.{arms_of_cases, arms_of_ranges}
-use Rattle.rhai_tree.specs.Reading.{arms_of, case_of, exprs_of, pairs_of, range_of, stmts_of}
+use Rattle.theory_meaning.specs.Queries.{are_pure, are_pure_exprs, are_pure_pairs, arm_purities, listed_arms_are_pure}
+use Rattle.theory_meaning.specs.Walk.{arms_of_cases, arms_of_ranges}
+use Rattle.ast_types.specs.Reading.{arms_of, case_of, exprs_of, pairs_of, range_of, stmts_of}
 use Rattle.rhai_queries.proofs.purity.+pure.Given as goal
 
 abbrev pub invariant-are_pure_exprs-loop-expr : goal.invariant-are_pure_exprs-loop-expr

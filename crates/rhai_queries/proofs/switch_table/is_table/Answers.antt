@@ -1,7 +1,7 @@
 use Rattle.std.proofs.Common.{List, ap, ◌∙◌}
 use Rattle.rhai_base.specs.declared.range_case.RangeCase.{RangeCase}
-use Rattle.rhai_tree.specs.declared.expr.BinaryExpr.{BinaryExpr}
-use Rattle.rhai_tree.specs.declared.expr.Expr.TheViews as views
+use Rattle.ast_types.specs.declared.expr.BinaryExpr.{BinaryExpr}
+use Rattle.ast_types.specs.declared.expr.Expr.TheViews as views
 use Rattle.rhai_queries.specs.SwitchTables.{refusal}
 use Rattle.rhai_queries.proofs.SwitchTables.{accepted, is_accepted, none_accepted}
 use Rattle.rhai_queries.proofs.switch_table.is_table.Goals as goal

@@ -1,9 +1,9 @@
 use Rattle.std.proofs.Common.{◌≡◌, List, ◌∷◌, ◌++◌, map, sym, ◌∙◌, subst}
 use Rattle.std.proofs.lemmas.List.{append-nil}
-use Rattle.rhai_meaning.specs.Run.{exports, names}
-use Rattle.rhai_host.specs.Entries.{export_meant, variable_meant}
-use Rattle.rhai_state.specs.Entries.{entry_meant}
-use Rattle.rhai_state.specs.declared.entries.Entry.{Entry}
+use Rattle.theory_meaning.specs.Run.{exports, names}
+use Rattle.run_host.specs.Entries.{export_meant, variable_meant}
+use Rattle.run_state.specs.Entries.{entry_meant}
+use Rattle.run_state.specs.declared.entries.Entry.{Entry}
 use Rattle.rhai_run.proofs.Parted.{names_next, exports_next}
 use Rattle.rhai_run.proofs.run.parted.Goals as goal
 

@@ -1,7 +1,7 @@
 use Rattle.std.proofs.Common.{◌≡◌, ◌++◌, map, length}
-use Rattle.rhai_meaning.specs.Run.{exports, names}
-use Rattle.rhai_host.specs.Entries.{export_meant, variable_meant}
-use Rattle.rhai_state.specs.Entries.{entry_meant}
+use Rattle.theory_meaning.specs.Run.{exports, names}
+use Rattle.run_host.specs.Entries.{export_meant, variable_meant}
+use Rattle.run_state.specs.Entries.{entry_meant}
 use Rattle.rhai_run.proofs.run.parted.Given as goal
 
 -- what is done, and then what is left

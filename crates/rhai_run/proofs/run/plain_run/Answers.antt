@@ -1,7 +1,7 @@
 use Rattle.rhai_script.specs.Script.{script_of}
-use Rattle.rhai_engine.specs.EngineInfo.{engine_of}
-use Rattle.rhai_host.specs.Entries.{start_scope}
-use Rattle.rhai_host.specs.Host.{host_of}
+use Rattle.base_engine.specs.EngineInfo.{engine_of}
+use Rattle.run_host.specs.Entries.{start_scope}
+use Rattle.run_host.specs.Host.{host_of}
 use Rattle.rhai_run.proofs.Whole.{script_report}
 use Rattle.rhai_run.proofs.run.plain_run.Goals as goal
 

@@ -1,4 +1,4 @@
-use Rattle.rhai_tree.proofs.Cases.{expr_cases}
+use Rattle.ast_types.proofs.Cases.{expr_cases}
 use Rattle.rhai_walk.specs.Nodes.{is_dot}
 use Rattle.rhai_run_nodes.proofs.LeftSides.{no_call_end}
 use Rattle.rhai_run_nodes.proofs.left_sides.+call_end.Goals as goal

@@ -1,7 +1,7 @@
 use Rattle.std.proofs.Common.{◌≡◌, true, sym, ◌∙◌, [], ◌∷◌}
 use Rattle.rhai_base.specs.Reading.{value_of}
-use Rattle.rhai_meaning.specs.Engine.{assigning, is_overridden}
-use Rattle.rhai_engine.specs.EngineInfo.{engine_of}
+use Rattle.theory_meaning.specs.Engine.{assigning, is_overridden}
+use Rattle.base_engine.specs.EngineInfo.{engine_of}
 use Rattle.rhai_run_nodes.proofs.Assigning.{asks_for_none, asks_where_none}
 use Rattle.rhai_run_nodes.proofs.Optional.{none_by}
 use Rattle.rhai_run_nodes.proofs.operators.asks_assigning.Goals as goal

@@ -2,8 +2,8 @@ use Rattle.std.proofs.Common.{arith, map}
 use Rattle.std.proofs.lemmas.List.{length-map}
 use borrow.Author.Tests.{ltb-true, ltb-false}
 use Rattle.rhai_base.specs.Reading.{value_of}
-use Rattle.rhai_engine.specs.EngineInfo.{engine_of}
-use Rattle.rhai_engine.proofs.Operands.{built_in-few, built_in-many}
+use Rattle.base_engine.specs.EngineInfo.{engine_of}
+use Rattle.base_engine.proofs.Operands.{built_in-few, built_in-many}
 use Rattle.rhai_run_nodes.proofs.operators.builtin.Goals as goal
 use Rattle.rhai_run_nodes.proofs.operators.builtin.Goals.{in_default-via-then-args-lt1, in_default-via-else-args-lt1+else-args-lt2+else-args-lt3}
 

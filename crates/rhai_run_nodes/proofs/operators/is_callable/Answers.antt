@@ -1,6 +1,6 @@
 use Rattle.std.proofs.Common.{◌≡◌, true, false, not, ◌&&◌, length, ap, sym, ◌∙◌}
-use Rattle.rhai_tree.specs.Reading.{callee_of}
-use Rattle.rhai_meaning.specs.Shape.{has_token, is_barred}
+use Rattle.ast_types.specs.Reading.{callee_of}
+use Rattle.theory_meaning.specs.Shape.{has_token, is_barred}
 use Rattle.rhai_run_nodes.proofs.Callees.{count_exprs_of}
 use Rattle.rhai_run_nodes.proofs.operators.is_callable.Goals as goal
 

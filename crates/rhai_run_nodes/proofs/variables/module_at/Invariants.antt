@@ -1,6 +1,6 @@
 use Rattle.std.proofs.Common.{◌≡◌, length}
-use Rattle.rhai_meaning.specs.Act.{resolved}
-use Rattle.rhai_state.specs.Entries.{scope_meant}
+use Rattle.theory_meaning.specs.Act.{resolved}
+use Rattle.run_state.specs.Entries.{scope_meant}
 use Rattle.rhai_run_nodes.proofs.variables.module_at.Given as goal
 
 -- what is left decides

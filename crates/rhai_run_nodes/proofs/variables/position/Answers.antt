@@ -1,5 +1,5 @@
 use Rattle.std.proofs.Common.{refl, sym, ◌∙◌}
-use Rattle.rhai_state.proofs.Variables.{searched_found}
+use Rattle.run_state.proofs.Variables.{searched_found}
 use Rattle.rhai_run_nodes.proofs.variables.position.Goals as goal
 
 pub returns-then-is_called : goal.returns-then-is_called

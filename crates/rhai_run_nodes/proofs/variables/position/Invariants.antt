@@ -1,5 +1,5 @@
 use Rattle.std.proofs.Common.{length}
-use Rattle.rhai_state.proofs.Variables.{SearchedTo}
+use Rattle.run_state.proofs.Variables.{SearchedTo}
 use Rattle.rhai_run_nodes.proofs.variables.position.Given as goal
 
 abbrev pub invariant-loop-last : goal.invariant-loop-last

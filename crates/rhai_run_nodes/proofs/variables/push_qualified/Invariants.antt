@@ -1,6 +1,6 @@
 use Rattle.std.proofs.Common.{◌≡◌, ◌++◌, drop, map}
 use Rattle.std.specs.String.{string_bytes}
-use Rattle.rhai_meaning.specs.Desugar.{qualified}
+use Rattle.theory_meaning.specs.Desugar.{qualified}
 use Rattle.rhai_run_nodes.proofs.variables.push_qualified.Given as goal
 
 abbrev pub invariant-loop-module : goal.invariant-loop-module

@@ -1,8 +1,8 @@
 use Rattle.std.proofs.Common.{◌≡◌, map}
-use Rattle.rhai_tokens.specs.declared.position.Position.{Position}
+use Rattle.base_tokens.specs.declared.position.Position.{Position}
 use Rattle.rhai_faults.specs.Standing.{StandsInFunctions}
-use Rattle.rhai_meaning.specs.Faults.{TreeFault, functions_fault}
-use Rattle.rhai_tree.specs.Reading.{function_of}
+use Rattle.theory_meaning.specs.Faults.{TreeFault, functions_fault}
+use Rattle.ast_types.specs.Reading.{function_of}
 use Rattle.rhai_script.proofs.check.check_table.Given as goal
 
 -- those that are left decide

@@ -1,7 +1,7 @@
 use Rattle.std.proofs.Common.{refl}
-use Rattle.rhai_rewriting.specs.Rules.{block_empty}
-use Rattle.rhai_tree.specs.Reading.{stmt_of-Noop}
-use Rattle.rhai_rewriting.proofs.Keeping.{keeps_noop}
+use Rattle.theory_rewriting.specs.Rules.{block_empty}
+use Rattle.ast_types.specs.Reading.{stmt_of-Noop}
+use Rattle.theory_rewriting.proofs.Keeping.{keeps_noop}
 use Rattle.rhai_steps.proofs.Stepping.{stmt_rewrite_as}
 use Rattle.rhai_statement_rules.proofs.block.block_empty.Goals as goal
 

@@ -1,5 +1,5 @@
-use Rattle.rhai_rewriting.specs.Rules.{block_of_statement}
-use Rattle.rhai_rewriting.proofs.Keeping.{keeps_only}
+use Rattle.theory_rewriting.specs.Rules.{block_of_statement}
+use Rattle.theory_rewriting.proofs.Keeping.{keeps_only}
 use Rattle.rhai_statement_rules.proofs.block.block_of_statement.Goals as goal
 
 pub returns : goal.returns

@@ -1,4 +1,4 @@
-use Rattle.rhai_tree.proofs.Cases.{stmt_cases}
+use Rattle.ast_types.proofs.Cases.{stmt_cases}
 use Rattle.rhai_statement_rules.proofs.Others.{no_block}
 use Rattle.rhai_statement_rules.proofs.block.is_settled_block.Goals as goal
 

@@ -1,7 +1,7 @@
 use Rattle.std.proofs.Common.{List, refl, ap}
-use Rattle.rhai_tree.specs.declared.stmt.Stmt.{Stmt}
-use Rattle.rhai_tree.specs.Reading.{stmts_of}
-use Rattle.rhai_meaning.specs.Tree.{Block}
+use Rattle.ast_types.specs.declared.stmt.Stmt.{Stmt}
+use Rattle.ast_types.specs.Reading.{stmts_of}
+use Rattle.theory_meaning.specs.Tree.{Block}
 use Rattle.rhai_statement_rules.specs.Settled.{are_settled}
 use Rattle.rhai_steps.proofs.Stepping.{stmt_rewrite_as}
 use Rattle.rhai_statement_rules.proofs.Shapes.{unsettled-none}

@@ -1,8 +1,8 @@
 use Rattle.std.proofs.Common.{◌≡◌, true, false, refl, sym, ap, ◌∙◌}
-use Rattle.rhai_tree.specs.declared.block.StmtBlock.{StmtBlock}
-use Rattle.rhai_meaning.specs.Tree.{Block}
-use Rattle.rhai_tree.specs.Reading.{stmt_of, stmts_of, stmt_of-Block}
-use Rattle.rhai_tree.proofs.Cases.{stmt_cases}
+use Rattle.ast_types.specs.declared.block.StmtBlock.{StmtBlock}
+use Rattle.theory_meaning.specs.Tree.{Block}
+use Rattle.ast_types.specs.Reading.{stmt_of, stmts_of, stmt_of-Block}
+use Rattle.ast_types.proofs.Cases.{stmt_cases}
 use Rattle.rhai_steps.proofs.Stepping.{stmt_rewrite_as}
 use Rattle.rhai_statement_rules.proofs.Others.{no_block}
 use Rattle.rhai_statement_rules.proofs.block.reduced_block.Goals as goal

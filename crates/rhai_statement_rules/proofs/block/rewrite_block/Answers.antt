@@ -1,5 +1,5 @@
 use Rattle.std.proofs.Common.{sym, ap, false}
-use Rattle.rhai_tree.specs.Reading.{stmt_of}
+use Rattle.ast_types.specs.Reading.{stmt_of}
 use Rattle.rhai_steps.proofs.Stepping.{stmt_rewrite_as}
 use Rattle.rhai_statement_rules.proofs.Fired.{fires_by}
 use Rattle.rhai_statement_rules.proofs.block.rewrite_block.Goals as goal

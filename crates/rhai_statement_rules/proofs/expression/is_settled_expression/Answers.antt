@@ -1,4 +1,4 @@
-use Rattle.rhai_tree.proofs.Cases.{stmt_cases}
+use Rattle.ast_types.proofs.Cases.{stmt_cases}
 use Rattle.rhai_statement_rules.proofs.Others.{no_expression}
 use Rattle.rhai_statement_rules.proofs.expression.is_settled_expression.Goals as goal
 

@@ -1,7 +1,7 @@
 use Rattle.std.proofs.Common.{◌≡◌, true, false, refl, ap, ◌∙◌}
-use Rattle.rhai_tree.specs.Reading.{expr_of, expr_of-Stmt, expr_of-FnCall}
-use Rattle.rhai_meaning.specs.Tree.{ExprStmt}
-use Rattle.rhai_tree.proofs.Cases.{expr_cases}
+use Rattle.ast_types.specs.Reading.{expr_of, expr_of-Stmt, expr_of-FnCall}
+use Rattle.theory_meaning.specs.Tree.{ExprStmt}
+use Rattle.ast_types.proofs.Cases.{expr_cases}
 use Rattle.rhai_statement_rules.proofs.Others.{stays_as_statement}
 use Rattle.rhai_steps.proofs.Stepping.{stmt_rewrite_as}
 use Rattle.rhai_statement_rules.proofs.expression.reduce_expression.Goals as goal

@@ -1,8 +1,8 @@
 use Rattle.std.proofs.Common.{◌≡◌, true, false, refl, sym, ap, ◌∙◌}
-use Rattle.rhai_tree.specs.declared.expr.Expr.{Expr}
-use Rattle.rhai_meaning.specs.Tree.{ExprStmt}
-use Rattle.rhai_tree.specs.Reading.{expr_of, stmt_of, stmt_of-Expr}
-use Rattle.rhai_tree.proofs.Cases.{stmt_cases}
+use Rattle.ast_types.specs.declared.expr.Expr.{Expr}
+use Rattle.theory_meaning.specs.Tree.{ExprStmt}
+use Rattle.ast_types.specs.Reading.{expr_of, stmt_of, stmt_of-Expr}
+use Rattle.ast_types.proofs.Cases.{stmt_cases}
 use Rattle.rhai_steps.proofs.Stepping.{stmt_rewrite_as}
 use Rattle.rhai_statement_rules.proofs.Others.{no_expression}
 use Rattle.rhai_statement_rules.proofs.expression.reduced_expression.Goals as goal

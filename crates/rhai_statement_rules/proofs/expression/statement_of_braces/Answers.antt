@@ -1,7 +1,7 @@
 use Rattle.std.proofs.Common.{refl, ◌∙◌}
-use Rattle.rhai_tree.specs.Reading.{stmts_of, stmt_of-Block, stmt_of-Noop}
-use Rattle.rhai_rewriting.specs.Rules.{statement_of_braces}
-use Rattle.rhai_rewriting.proofs.Keeping.{keeps_braces}
+use Rattle.ast_types.specs.Reading.{stmts_of, stmt_of-Block, stmt_of-Noop}
+use Rattle.theory_rewriting.specs.Rules.{statement_of_braces}
+use Rattle.theory_rewriting.proofs.Keeping.{keeps_braces}
 use Rattle.rhai_steps.proofs.Stepping.{stmt_rewrite_as}
 use Rattle.rhai_choice_rules.proofs.Choosing.{block_or_noop-none, block_or_noop-some}
 use Rattle.rhai_statement_rules.proofs.expression.statement_of_braces.Goals as goal

@@ -1,7 +1,7 @@
 use Rattle.std.proofs.Common.{refl}
-use Rattle.rhai_rewriting.specs.Rules.{statement_of_call}
-use Rattle.rhai_tree.specs.Reading.{stmt_of-FnCall}
-use Rattle.rhai_rewriting.proofs.Keeping.{keeps_call}
+use Rattle.theory_rewriting.specs.Rules.{statement_of_call}
+use Rattle.ast_types.specs.Reading.{stmt_of-FnCall}
+use Rattle.theory_rewriting.proofs.Keeping.{keeps_call}
 use Rattle.rhai_steps.proofs.Stepping.{stmt_rewrite_as}
 use Rattle.rhai_statement_rules.proofs.expression.statement_of_call.Goals as goal
 

@@ -1,6 +1,6 @@
 use Rattle.std.proofs.Common.{rules}
-use Rattle.rhai_tree.specs.Reading.{shapes}
-use Rattle.rhai_tree.proofs.Cases.{expr_cases}
+use Rattle.ast_types.specs.Reading.{shapes}
+use Rattle.ast_types.proofs.Cases.{expr_cases}
 use Rattle.rhai_statement_rules.proofs.Others.{stays_as_statement}
 use Rattle.rhai_statement_rules.proofs.expression.stays.Goals as goal
 

@@ -1,4 +1,4 @@
-use Rattle.rhai_tree.proofs.Cases.{stmt_cases}
+use Rattle.ast_types.proofs.Cases.{stmt_cases}
 use Rattle.rhai_statement_rules.proofs.Others.{decides_nothing}
 use Rattle.rhai_statement_rules.proofs.loops.decided_loop.Goals as goal
 

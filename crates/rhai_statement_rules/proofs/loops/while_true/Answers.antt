@@ -1,8 +1,8 @@
 use Rattle.std.proofs.Common.{◌≡◌, rules, true, Some, None, sym, ap, ◌∙◌}
-use Rattle.rhai_tree.specs.declared.stmt.FlowControl.{FlowControl}
-use Rattle.rhai_tree.specs.Reading.{shapes, expr_of, stmt_of, stmts_of, stmt_of-While}
-use Rattle.rhai_tree.proofs.Cases.{stmt_cases}
-use Rattle.rhai_meaning.specs.Tree.{Stmt, While}
+use Rattle.ast_types.specs.declared.stmt.FlowControl.{FlowControl}
+use Rattle.ast_types.specs.Reading.{shapes, expr_of, stmt_of, stmts_of, stmt_of-While}
+use Rattle.ast_types.proofs.Cases.{stmt_cases}
+use Rattle.theory_meaning.specs.Tree.{Stmt, While}
 use Rattle.rhai_statement_rules.proofs.Fired.{looped, loop_spelled}
 use Rattle.rhai_statement_rules.proofs.Others.{decides_nothing}
 use Rattle.rhai_statement_rules.proofs.loops.while_true.Goals as goal

@@ -1,6 +1,6 @@
 use Rattle.std.proofs.Common.{◌≡◌, drop}
-use Rattle.rhai_meaning.specs.Queries.{are_internally_pure}
-use Rattle.rhai_tree.specs.Reading.{stmts_of}
+use Rattle.theory_meaning.specs.Queries.{are_internally_pure}
+use Rattle.ast_types.specs.Reading.{stmts_of}
 use Rattle.rhai_statement_rules.proofs.try_catch.are_internally_pure.Given as goal
 
 abbrev pub invariant-loop-statement : goal.invariant-loop-statement

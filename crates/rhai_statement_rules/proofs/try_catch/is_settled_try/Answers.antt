@@ -1,4 +1,4 @@
-use Rattle.rhai_tree.proofs.Cases.{stmt_cases}
+use Rattle.ast_types.proofs.Cases.{stmt_cases}
 use Rattle.rhai_statement_rules.proofs.Others.{no_try}
 use Rattle.rhai_statement_rules.proofs.try_catch.is_settled_try.Goals as goal
 

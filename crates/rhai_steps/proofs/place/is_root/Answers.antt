@@ -1,4 +1,4 @@
-use Rattle.rhai_tree.proofs.Cases.{expr_cases}
+use Rattle.ast_types.proofs.Cases.{expr_cases}
 use Rattle.rhai_steps.proofs.NodeKinds.{no_root}
 use Rattle.rhai_steps.proofs.place.is_root.Goals as goal
 

@@ -1,6 +1,6 @@
 use Rattle.std.proofs.Common.{ap, ◌∙◌}
-use Rattle.rhai_meaning.specs.Constants.{literal_value}
-use Rattle.rhai_tree.specs.Reading.{expr_of}
+use Rattle.theory_meaning.specs.Constants.{literal_value}
+use Rattle.ast_types.specs.Reading.{expr_of}
 use Rattle.rhai_steps.proofs.putting.put_constant.Goals as goal
 
 pub returns : goal.returns

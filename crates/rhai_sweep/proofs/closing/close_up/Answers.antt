@@ -1,5 +1,5 @@
 use Rattle.std.proofs.Common.{◌≡◌, ◌<◌, Bool, true, false, length, sym, ◌∙◌, arith}
-use Rattle.rhai_tree.specs.declared.stmt.Stmt.{Stmt}
+use Rattle.ast_types.specs.declared.stmt.Stmt.{Stmt}
 use Rattle.rhai_sweep.proofs.Marked.{marks, closing_mark, closing_keep, closing_end}
 use Rattle.rhai_sweep.proofs.closing.close_up.Goals as goal
 use Rattle.rhai_sweep.proofs.closing.close_up.Goals.{then-not-is_mark, else-not-is_mark}

@@ -2,9 +2,9 @@ use Rattle.std.proofs.Common.{◌≡◌, ◌<◌, ◌≤◌, ℕ, ◌+◌, inl, 
 use Rattle.std.proofs.lemmas.Bool.Decides.{eqb_tells}
 use Rattle.std.proofs.lemmas.List.{drop_more, drop_all}
 use Rattle.std.proofs.Math.Dec.{eqb}
-use Rattle.rhai_tree.specs.declared.stmt.Stmt.{Stmt}
-use Rattle.rhai_tree.specs.Reading.{stmts_of}
-use Rattle.rhai_rewriting.specs.Context.{wanted_before}
+use Rattle.ast_types.specs.declared.stmt.Stmt.{Stmt}
+use Rattle.ast_types.specs.Reading.{stmts_of}
+use Rattle.theory_rewriting.specs.Context.{wanted_before}
 use Rattle.rhai_sweep.proofs.closing.is_wanted_at.Goals as goal
 
 some_left : (n : ℕ) (ss : List Stmt) → n < length ss → wanted_before true (stmts_of (drop n ss)) ≡ false

@@ -1,4 +1,4 @@
-use Rattle.rhai_tree.proofs.Cases.{stmt_cases}
+use Rattle.ast_types.proofs.Cases.{stmt_cases}
 use Rattle.rhai_sweep.proofs.Others.{no_lone}
 use Rattle.rhai_sweep.proofs.questions.is_lone.Goals as goal
 

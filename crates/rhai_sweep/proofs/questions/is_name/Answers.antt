@@ -1,4 +1,4 @@
-use Rattle.rhai_tree.proofs.Cases.{expr_cases}
+use Rattle.ast_types.proofs.Cases.{expr_cases}
 use Rattle.rhai_sweep.proofs.Others.{no_name}
 use Rattle.rhai_sweep.proofs.questions.is_name.Goals as goal
 

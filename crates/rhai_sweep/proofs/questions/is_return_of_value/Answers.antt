@@ -1,4 +1,4 @@
-use Rattle.rhai_tree.proofs.Cases.{stmt_cases}
+use Rattle.ast_types.proofs.Cases.{stmt_cases}
 use Rattle.rhai_sweep.proofs.Others.{no_return_of_value}
 use Rattle.rhai_sweep.proofs.questions.is_return_of_value.Goals as goal
 

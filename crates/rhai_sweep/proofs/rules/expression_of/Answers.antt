@@ -1,5 +1,5 @@
 use Rattle.std.proofs.Common.{◌∙◌}
-use Rattle.rhai_tree.proofs.Cases.{stmt_cases}
+use Rattle.ast_types.proofs.Cases.{stmt_cases}
 use Rattle.rhai_sweep.proofs.Others.{no_return_of_value}
 use Rattle.rhai_sweep.proofs.Sweeping.{no}
 use Rattle.rhai_sweep.proofs.rules.expression_of.Goals as goal

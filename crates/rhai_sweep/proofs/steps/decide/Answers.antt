@@ -1,6 +1,6 @@
 use Rattle.std.proofs.Common.{◌≡◌, get_or, sym, ap, ◌∙◌}
-use Rattle.rhai_tree.specs.declared.stmt.Stmt as declared_stmt
-use Rattle.rhai_tree.specs.Reading.{stmt_of}
+use Rattle.ast_types.specs.declared.stmt.Stmt as declared_stmt
+use Rattle.ast_types.specs.Reading.{stmt_of}
 use Rattle.rhai_sweep.specs.Marks.{mark_of}
 use Rattle.rhai_sweep.specs.Sweep.{goes_as}
 use Rattle.rhai_sweep.proofs.Deciding.{goes_so, impure, item-same, step_stays}

@@ -1,5 +1,5 @@
 use Rattle.std.proofs.Common.{◌≡◌, get_or}
-use Rattle.rhai_meaning.specs.Queries.{is_control_flow_break}
+use Rattle.theory_meaning.specs.Queries.{is_control_flow_break}
 use Rattle.rhai_sweep.proofs.Deciding.{there, step_last}
 use Rattle.rhai_sweep.proofs.steps.keep_last.Goals as goal
 

@@ -1,6 +1,6 @@
 use Rattle.std.proofs.Common.{◌≡◌, get_or, set, sym, ap, ◌∙◌}
-use Rattle.rhai_meaning.specs.Queries.{is_control_flow_break}
-use Rattle.rhai_tree.specs.Reading.{stmt_of}
+use Rattle.theory_meaning.specs.Queries.{is_control_flow_break}
+use Rattle.ast_types.specs.Reading.{stmt_of}
 use Rattle.rhai_sweep.specs.Steps.{Declared, BaredAt}
 use Rattle.rhai_sweep.specs.Sweep.{bared}
 use Rattle.rhai_sweep.proofs.Deciding.{there, cut-there, step_bares, step_leaves}

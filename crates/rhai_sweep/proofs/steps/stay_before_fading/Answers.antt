@@ -1,5 +1,5 @@
 use Rattle.std.proofs.Common.{◌≡◌, ◌-◌, length, get_or, refl, sym, ap, ◌∙◌}
-use Rattle.rhai_meaning.specs.Queries.{is_control_flow_break, is_pure}
+use Rattle.theory_meaning.specs.Queries.{is_control_flow_break, is_pure}
 use Rattle.rhai_sweep.proofs.Deciding.{there, step_stays, step_fades, step_noop}
 use Rattle.rhai_sweep.proofs.steps.stay_before_fading.Goals as goal
 

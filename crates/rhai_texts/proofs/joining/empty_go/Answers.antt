@@ -1,5 +1,5 @@
 use Rattle.std.proofs.Common.{◌≡◌, ◌<◌, ◌∷◌, ◌++◌, [], true, length, get_or, take, refl, sym, ap, ◌∙◌, arith}
-use Rattle.rhai_tree.specs.Reading.{expr_of}
+use Rattle.ast_types.specs.Reading.{expr_of}
 use Rattle.rhai_texts.specs.Parts.{is_empty_part}
 use Rattle.rhai_texts.proofs.TextJoins.{moving_start, moving_skip, moving_more, moving_end, alone_at}
 use Rattle.rhai_texts.proofs.joining.empty_go.Goals as goal

@@ -1,5 +1,5 @@
 use Rattle.std.proofs.Common.{ap, ◌∙◌, arith}
-use Rattle.rhai_tree.specs.Reading.{expr_of}
+use Rattle.ast_types.specs.Reading.{expr_of}
 use Rattle.rhai_texts.specs.Parts.{is_text}
 use Rattle.rhai_texts.proofs.TextJoins.{joined_more}
 use Rattle.rhai_texts.proofs.joining.joined.Goals as goal

@@ -1,7 +1,7 @@
 use Rattle.std.proofs.Common.{get_or, sym}
 use Rattle.std.proofs.lemmas.List.{get_or_default}
-use Rattle.rhai_tree.specs.Defaults.{nowhere}
-use Rattle.rhai_tree.specs.declared.expr.Expr.TheVariants.{Unit as unit_at}
+use Rattle.ast_types.specs.Defaults.{nowhere}
+use Rattle.ast_types.specs.declared.expr.Expr.TheVariants.{Unit as unit_at}
 use Rattle.rhai_texts.proofs.TextJoins.{alone_at}
 use Rattle.rhai_texts.proofs.joining.texts_join.Goals as goal
 

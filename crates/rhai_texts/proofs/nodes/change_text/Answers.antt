@@ -1,5 +1,5 @@
 use Rattle.std.proofs.Common.{◌≡◌, true, false, ◌∙◌}
-use Rattle.rhai_tree.proofs.Cases.{expr_cases}
+use Rattle.ast_types.proofs.Cases.{expr_cases}
 use Rattle.rhai_texts.proofs.PartKinds.{not_interpolated}
 use Rattle.rhai_texts.proofs.nodes.change_text.Goals as goal
 

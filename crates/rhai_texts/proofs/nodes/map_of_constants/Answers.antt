@@ -1,7 +1,7 @@
 use Rattle.std.proofs.Common.{Bool}
 use Rattle.std.proofs.lemmas.Result.{IfOk-weaker}
-use Rattle.rhai_known.specs.State.{progress}
-use Rattle.rhai_tree.specs.Reading.{expr_of}
+use Rattle.opt_known.specs.State.{progress}
+use Rattle.ast_types.specs.Reading.{expr_of}
 use Rattle.rhai_steps.specs.Folded.{FoldsConstant}
 use Rattle.rhai_texts.specs.Parts.{Folds}
 use Rattle.rhai_texts.proofs.Folding.{map_folded}

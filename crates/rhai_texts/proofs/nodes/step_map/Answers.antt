@@ -1,9 +1,9 @@
 use Rattle.std.proofs.Common.{Bool}
 use Rattle.std.proofs.lemmas.Result.{IfOk-weaker}
-use Rattle.rhai_known.specs.State.{progress}
-use Rattle.rhai_meaning.specs.Engine.{Engine}
-use Rattle.rhai_tree.specs.Reading.{expr_of}
-use Rattle.rhai_rewriting.specs.Steps.{Place}
+use Rattle.opt_known.specs.State.{progress}
+use Rattle.theory_meaning.specs.Engine.{Engine}
+use Rattle.ast_types.specs.Reading.{expr_of}
+use Rattle.theory_rewriting.specs.Steps.{Place}
 use Rattle.rhai_steps.specs.NodeSteps.{ExprStep}
 use Rattle.rhai_texts.specs.Parts.{Folds}
 use Rattle.rhai_texts.proofs.Folding.{map_step}

@@ -1,4 +1,4 @@
-use Rattle.rhai_tree.proofs.Cases.{expr_cases}
+use Rattle.ast_types.proofs.Cases.{expr_cases}
 use Rattle.rhai_texts.proofs.PartKinds.{no_empty_part}
 use Rattle.rhai_texts.proofs.parts.is_empty_part.Goals as goal
 

@@ -1,4 +1,4 @@
-use Rattle.rhai_tree.proofs.Cases.{expr_cases}
+use Rattle.ast_types.proofs.Cases.{expr_cases}
 use Rattle.rhai_texts.proofs.PartKinds.{no_text}
 use Rattle.rhai_texts.proofs.parts.is_text.Goals as goal
 

@@ -1,5 +1,5 @@
 use Rattle.std.proofs.Common.{ap, ◌∙◌}
-use Rattle.rhai_meaning.specs.Plain.{all_true}
+use Rattle.theory_meaning.specs.Plain.{all_true}
 use Rattle.rhai_walk.specs.Children.{over_children}
 use Rattle.rhai_walk.proofs.EveryNode.{true-statements}
 use Rattle.rhai_walk.proofs.every.every_statement.Goals as goal

@@ -1,4 +1,4 @@
-use Rattle.rhai_tree.proofs.Cases.{expr_cases}
+use Rattle.ast_types.proofs.Cases.{expr_cases}
 use Rattle.rhai_words.proofs.Pointers.{no_pointer}
 use Rattle.rhai_words.proofs.calls.constant_pointer.Goals as goal
 

@@ -3,8 +3,8 @@ use Rattle.std.proofs.lemmas.Result.{IfOk-weaker}
 use Rattle.std.specs.Option.{option_map}
 use Rattle.rhai_base.specs.declared.dynamic.Dynamic.{Dynamic}
 use Rattle.rhai_base.specs.Reading.{value_of}
-use Rattle.rhai_meaning.specs.Constants.{constant_value, constant_values}
-use Rattle.rhai_tree.specs.Reading.{expr_of, exprs_of}
+use Rattle.theory_meaning.specs.Constants.{constant_value, constant_values}
+use Rattle.ast_types.specs.Reading.{expr_of, exprs_of}
 use Rattle.rhai_words.specs.Words.{values_of, with_values}
 use Rattle.rhai_words.proofs.Pointers.{curried_by, curried_none}
 use Rattle.rhai_words.proofs.calls.curried.Goals as goal

@@ -3,10 +3,10 @@ use Rattle.std.specs.Cow.{cow_value}
 use Rattle.std.proofs.lemmas.List.{map-append}
 use Rattle.rhai_base.specs.declared.fn_ptr.FnPtr.{FnPtr}
 use Rattle.rhai_base.specs.Reading.{value_of, value_of-FnPtr}
-use Rattle.rhai_meaning.specs.Constants.{constant_value, constant_values, value_and}
+use Rattle.theory_meaning.specs.Constants.{constant_value, constant_values, value_and}
 use Rattle.rhai_nodes.specs.Lent.{lent_value}
-use Rattle.rhai_tree.specs.Reading.{expr_of, exprs_of}
-use Rattle.rhai_tree.proofs.ItemLists.{exprs_of-drop}
+use Rattle.ast_types.specs.Reading.{expr_of, exprs_of}
+use Rattle.ast_types.proofs.ItemLists.{exprs_of-drop}
 use Rattle.rhai_words.specs.Words.{values_of, with_values}
 use Rattle.rhai_words.proofs.Pointers.{with_none, with_more, with_all, with_same}
 use Rattle.rhai_words.proofs.calls.curried_with.Goals as goal

@@ -1,6 +1,6 @@
 use Rattle.std.proofs.Common.{◌≡◌, drop}
-use Rattle.rhai_meaning.specs.Constants.{constant_values}
-use Rattle.rhai_tree.specs.Reading.{exprs_of}
+use Rattle.theory_meaning.specs.Constants.{constant_values}
+use Rattle.ast_types.specs.Reading.{exprs_of}
 use Rattle.rhai_words.specs.Words.{values_of, with_values}
 use Rattle.rhai_words.proofs.calls.curried_with.Given as goal
 

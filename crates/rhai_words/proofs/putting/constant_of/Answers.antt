@@ -1,10 +1,10 @@
 use Rattle.std.proofs.Common.{◌≡◌, sym, ◌∙◌}
 use Rattle.std.proofs.lemmas.Result.{IfOk-weaker}
-use Rattle.rhai_tree.specs.declared.expr.Expr.{Expr}
+use Rattle.ast_types.specs.declared.expr.Expr.{Expr}
 use Rattle.rhai_base.specs.Reading.{value_of}
-use Rattle.rhai_meaning.specs.Constants.{constant_for}
-use Rattle.rhai_meaning.specs.Tree.{DynamicConstant}
-use Rattle.rhai_tree.specs.Reading.{expr_of}
+use Rattle.theory_meaning.specs.Constants.{constant_for}
+use Rattle.theory_meaning.specs.Tree.{DynamicConstant}
+use Rattle.ast_types.specs.Reading.{expr_of}
 use Rattle.rhai_words.proofs.Folds.{held_for, held_pointer}
 use Rattle.rhai_words.proofs.putting.constant_of.Goals as goal
 

@@ -1,5 +1,5 @@
 use Rattle.std.proofs.Common.{ap, ◌∙◌}
-use Rattle.rhai_tree.specs.Reading.{stmt_of}
+use Rattle.ast_types.specs.Reading.{stmt_of}
 use Rattle.rhai_words.proofs.putting.hold_value_statement.Goals as goal
 
 pub returns : goal.returns

@@ -3,9 +3,9 @@ use Rattle.std.proofs.lemmas.Result.{IfOk-weaker}
 use Rattle.std.specs.Option.{option_map}
 use Rattle.rhai_base.specs.declared.dynamic.Dynamic.{Dynamic}
 use Rattle.rhai_base.specs.Reading.{value_of}
-use Rattle.rhai_engine.specs.EngineInfo.{engine_of}
-use Rattle.rhai_meaning.specs.Constants.{constant_values}
-use Rattle.rhai_tree.specs.Reading.{callee_of, exprs_of}
+use Rattle.base_engine.specs.EngineInfo.{engine_of}
+use Rattle.theory_meaning.specs.Constants.{constant_values}
+use Rattle.ast_types.specs.Reading.{callee_of, exprs_of}
 use Rattle.rhai_words.specs.Words.{value_of_word}
 use Rattle.rhai_words.proofs.Called.{word_called_value, no_word_called}
 use Rattle.rhai_words.proofs.statements.unqualified_statement_value.Goals as goal

@@ -1,5 +1,5 @@
-use Rattle.rhai_engine.specs.EngineInfo.{engine_of}
-use Rattle.rhai_tree.proofs.Cases.{stmt_cases}
+use Rattle.base_engine.specs.EngineInfo.{engine_of}
+use Rattle.ast_types.proofs.Cases.{stmt_cases}
 use Rattle.rhai_words.proofs.Pointers.{no_statement_value}
 use Rattle.rhai_words.proofs.steps.statement_value.Goals as goal
 

@@ -1,5 +1,5 @@
 use Rattle.std.proofs.Common.{◌≡◌, drop}
-use Rattle.rhai_meaning.specs.Host.{module_in}
+use Rattle.theory_meaning.specs.Host.{module_in}
 use Rattle.tests_of_scripts.specs.HostRows.{paths_of}
 use Rattle.tests_of_scripts.proofs.given.known_module.Given as goal
 

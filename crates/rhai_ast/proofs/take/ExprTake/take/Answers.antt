@@ -1,5 +1,5 @@
 use Rattle.std.proofs.Common.{rules}
-use Rattle.rhai_tree.specs.Reading.{shapes}
+use Rattle.ast_types.specs.Reading.{shapes}
 use Rattle.rhai_ast.proofs.take.ExprTake.take.Goals as goal
 
 pub returns-clause-left : goal.returns-clause-left

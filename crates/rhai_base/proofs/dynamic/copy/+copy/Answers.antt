@@ -3,7 +3,7 @@ use Rattle.std.specs.Cmp.Lexicographic.{slice_cmp}
 use Rattle.std.specs.List.Sorted.{IsStrictlySortedBy}
 use Rattle.std.specs.Map.{keys_of}
 use Rattle.rhai_base.specs.declared.dynamic.Dynamic.{Dynamic}
-use Rattle.rhai_text.proofs.Sorted.{insert_last}
+use Rattle.base_text.proofs.Sorted.{insert_last}
 use Rattle.rhai_base.proofs.dynamic.copy.+copy.Goals as goal
 
 pub copy_members-loop-key-preserved : goal.copy_members-loop-key-preserved

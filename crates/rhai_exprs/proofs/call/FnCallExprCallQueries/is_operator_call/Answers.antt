@@ -1,5 +1,5 @@
 use Rattle.std.proofs.Common.{rules}
-use Rattle.rhai_tree.specs.Reading.{shapes}
+use Rattle.ast_types.specs.Reading.{shapes}
 use Rattle.rhai_exprs.proofs.call.FnCallExprCallQueries.is_operator_call.Goals as goal
 
 pub returns : goal.returns

@@ -1,6 +1,6 @@
 use Rattle.std.proofs.Common.{rules}
-use Rattle.rhai_tree.specs.Reading.{shapes}
-use Rattle.rhai_tree.specs.Positions.{places}
+use Rattle.ast_types.specs.Reading.{shapes}
+use Rattle.ast_types.specs.Positions.{places}
 use Rattle.rhai_exprs.proofs.expr.ExprExprQueries.is_constant.Goals as goal
 
 pub returns : goal.returns

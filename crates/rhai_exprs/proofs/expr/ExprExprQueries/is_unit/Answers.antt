@@ -1,4 +1,4 @@
-use Rattle.rhai_tree.proofs.Cases.{expr_cases}
+use Rattle.ast_types.proofs.Cases.{expr_cases}
 use Rattle.rhai_exprs.proofs.Others.{no_unit}
 use Rattle.rhai_exprs.proofs.expr.ExprExprQueries.is_unit.Goals as goal
 

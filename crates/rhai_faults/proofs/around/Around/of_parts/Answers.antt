@@ -1,5 +1,5 @@
 use Rattle.std.proofs.Common.{◌∙◌}
-use Rattle.rhai_tree.proofs.Cases.{expr_cases}
+use Rattle.ast_types.proofs.Cases.{expr_cases}
 use Rattle.rhai_faults.specs.Places.{around_of}
 use Rattle.rhai_faults.proofs.Others.{no_sides}
 use Rattle.rhai_faults.proofs.around.Around.of_parts.Goals as goal

@@ -1,6 +1,6 @@
 use Rattle.std.proofs.Common.{map, ap, ◌∙◌, []}
 use Rattle.std.specs.Rc.{rc_value}
-use Rattle.rhai_tree.specs.Reading.{function_of}
+use Rattle.ast_types.specs.Reading.{function_of}
 use Rattle.rhai_functions.specs.FnKey.{definition_key}
 use Rattle.rhai_functions.specs.Table.{key_of, put_all_by}
 use Rattle.rhai_functions.proofs.Tables.{map-put_all}

@@ -1,8 +1,8 @@
 use Rattle.std.proofs.Common.{◌≡◌, List, map, ap, sym, ◌∙◌, arith}
 use Rattle.std.proofs.lemmas.Grind.{common_steps}
 use Rattle.std.specs.Rc.{rc_value}
-use Rattle.rhai_tree.specs.Reading.{function_of}
-use Rattle.rhai_tree.specs.declared.script_fn.ScriptFuncDef.{ScriptFuncDef}
+use Rattle.ast_types.specs.Reading.{function_of}
+use Rattle.ast_types.specs.declared.script_fn.ScriptFuncDef.{ScriptFuncDef}
 use Rattle.rhai_functions.specs.FnKey.{definitions_table}
 use Rattle.rhai_functions.specs.Table.{are_distinct, key_of}
 use Rattle.rhai_functions.proofs.Choices.{whole_table}

@@ -1,5 +1,5 @@
 use Rattle.std.proofs.Common.{map, ap, sym, ◌∙◌}
-use Rattle.rhai_tree.specs.Reading.{function_of}
+use Rattle.ast_types.specs.Reading.{function_of}
 use Rattle.rhai_functions.specs.Table.{are_distinct, key_of}
 use Rattle.rhai_functions.proofs.fn_table.FnTable.iter.Goals as goal
 

@@ -7,9 +7,9 @@ use Rattle.rhai_faults.specs.Scripts.{found_stmts}
 use Rattle.rhai_faults.specs.Standing.{OnFault, Stands, StandsAt, StandsInFunctions, StandsInScript, fault_in, in_functions, in_statements}
 use Rattle.rhai_functions.specs.FnLib.{functions_of}
 use Rattle.rhai_functions.specs.declared.fn_lib.FnLib.{FnLib}
-use Rattle.rhai_meaning.specs.Faults.{functions_fault, ◌then◌}
-use Rattle.rhai_meaning.specs.Walk.{outermost}
-use Rattle.rhai_meaning.proofs.FaultLaws.{well_formed_law}
+use Rattle.theory_meaning.specs.Faults.{functions_fault, ◌then◌}
+use Rattle.theory_meaning.specs.Walk.{outermost}
+use Rattle.theory_meaning.proofs.FaultLaws.{well_formed_law}
 use Rattle.rhai_walk.specs.Standing.{statements_standing}
 use Rattle.rhai_script.specs.Script.{script_of}
 use Rattle.rhai_script.proofs.ast.AST.check.Goals as goal

@@ -1,4 +1,4 @@
-use Rattle.rhai_tree.proofs.Cases.{stmt_cases}
+use Rattle.ast_types.proofs.Cases.{stmt_cases}
 use Rattle.rhai_stmts.proofs.Others.{no_break}
 use Rattle.rhai_stmts.proofs.stmt.StmtStmtQueries.is_control_flow_break.Goals as goal
 

@@ -1,4 +1,4 @@
-use Rattle.rhai_tree.proofs.Cases.{stmt_cases}
+use Rattle.ast_types.proofs.Cases.{stmt_cases}
 use Rattle.rhai_stmts.proofs.Others.{needs_semicolon}
 use Rattle.rhai_stmts.proofs.stmt.StmtStmtQueries.is_self_terminated.Goals as goal
 

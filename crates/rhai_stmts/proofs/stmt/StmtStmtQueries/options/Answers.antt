@@ -1,6 +1,6 @@
 use Rattle.std.proofs.Common.{rules}
-use Rattle.rhai_tree.specs.Reading.{shapes}
-use Rattle.rhai_tree.specs.Positions.{places}
+use Rattle.ast_types.specs.Reading.{shapes}
+use Rattle.ast_types.specs.Positions.{places}
 use Rattle.rhai_stmts.proofs.stmt.StmtStmtQueries.options.Goals as goal
 
 pub returns-in-Do : goal.returns-in-Do

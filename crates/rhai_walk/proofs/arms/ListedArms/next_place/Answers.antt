@@ -1,7 +1,7 @@
 use Rattle.std.proofs.Common.{◌≤◌, ap, sym, subst, ◌∙◌}
 use Rattle.std.specs.Borrow.{Bor}
-use Rattle.rhai_tree.specs.declared.expr.Expr.TheViews as views
-use Rattle.rhai_tree.specs.declared.switch.SwitchCasesCollection.{SwitchCasesCollection}
+use Rattle.ast_types.specs.declared.expr.Expr.TheViews as views
+use Rattle.ast_types.specs.declared.switch.SwitchCasesCollection.{SwitchCasesCollection}
 use Rattle.rhai_walk.specs.Arms.{default_of}
 use Rattle.rhai_walk.proofs.Places.{by-ranges, case-past, case-some, cases-none}
 use Rattle.rhai_walk.proofs.arms.ListedArms.next_place.Goals as goal

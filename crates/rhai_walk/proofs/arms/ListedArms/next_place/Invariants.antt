@@ -1,5 +1,5 @@
 use Rattle.std.proofs.Common.{◌≡◌, ◌-◌, length}
-use Rattle.rhai_tree.specs.Reading.{table_of}
+use Rattle.ast_types.specs.Reading.{table_of}
 use Rattle.rhai_walk.specs.Arms.{places_left}
 use Rattle.rhai_walk.proofs.arms.ListedArms.next_place.Given as goal
 

@@ -1,5 +1,5 @@
 use Rattle.std.proofs.Common.{◌≡◌, drop}
-use Rattle.rhai_meaning.specs.Host.{module_value_of}
+use Rattle.theory_meaning.specs.Host.{module_value_of}
 use Rattle.tests_of_scripts.specs.HostRows.{modules_of}
 use Rattle.tests_of_scripts.proofs.given.RowsHostHost.module_value.Given as goal
 

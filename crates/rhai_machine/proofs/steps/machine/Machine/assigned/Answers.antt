@@ -1,8 +1,8 @@
 use Rattle.std.proofs.Common.{sym, subst}
 use Rattle.rhai_base.specs.Reading.{value_of}
 use Rattle.rhai_machine.specs.Setting.{setting}
-use Rattle.rhai_state.specs.Evaluating.{Runs}
-use Rattle.rhai_state.specs.Runs.{Acting}
+use Rattle.run_state.specs.Evaluating.{Runs}
+use Rattle.run_state.specs.Runs.{Acting}
 use Rattle.rhai_run_nodes.proofs.Assigning.{assigned_asks}
 use Rattle.rhai_machine.proofs.steps.machine.Machine.assigned.Goals as goal
 

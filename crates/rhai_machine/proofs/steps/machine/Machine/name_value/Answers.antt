@@ -1,6 +1,6 @@
 use Rattle.std.proofs.Common.{refl, sym, ◌∙◌}
 use Rattle.rhai_machine.specs.Setting.{setting}
-use Rattle.rhai_state.specs.Variables.{IsLatest, IsMissing}
+use Rattle.run_state.specs.Variables.{IsLatest, IsMissing}
 use Rattle.rhai_machine.proofs.Placing.{constant_value, latest_value}
 use Rattle.rhai_machine.proofs.steps.machine.Machine.name_value.Goals as goal
 

@@ -1,11 +1,11 @@
 use Rattle.std.proofs.Common.{◌≡◌, ◌∙◌, map, sym, subst}
 use Rattle.rhai_base.specs.Operators.{NoEntry}
 use Rattle.rhai_base.specs.Reading.{value_of}
-use Rattle.rhai_meaning.specs.ActForms.{ask_host}
+use Rattle.theory_meaning.specs.ActForms.{ask_host}
 use Rattle.rhai_machine.specs.Setting.{setting}
-use Rattle.rhai_state.specs.Evaluating.{Runs}
-use Rattle.rhai_state.specs.Runs.{Acting}
-use Rattle.rhai_engine.specs.EngineInfo.{built_in_at}
+use Rattle.run_state.specs.Evaluating.{Runs}
+use Rattle.run_state.specs.Runs.{Acting}
+use Rattle.base_engine.specs.EngineInfo.{built_in_at}
 use Rattle.rhai_run_nodes.proofs.Callees.{operates_by_host}
 use Rattle.rhai_machine.proofs.steps.machine.Machine.operate.Goals as goal
 

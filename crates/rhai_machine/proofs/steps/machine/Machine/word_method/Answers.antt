@@ -2,7 +2,7 @@ use Rattle.std.proofs.Common.{map}
 use Rattle.std.proofs.lemmas.Result.{err_from_is_err_and}
 use Rattle.rhai_base.specs.Reading.{value_of}
 use Rattle.rhai_machine.specs.Setting.{setting}
-use Rattle.rhai_state.proofs.WordAnswers.{curried_method, curried_method_stops, type_method}
+use Rattle.run_state.proofs.WordAnswers.{curried_method, curried_method_stops, type_method}
 use Rattle.rhai_machine.proofs.steps.machine.Machine.word_method.Goals as goal
 
 pub returns-in_err-curried-in-Curry : goal.returns-in_err-curried-in-Curry

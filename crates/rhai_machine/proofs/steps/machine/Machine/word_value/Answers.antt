@@ -1,7 +1,7 @@
 use Rattle.std.proofs.Common.{◌-◌, ◌∷◌, [], length, drop, take}
-use Rattle.rhai_meaning.specs.Calls as calls
+use Rattle.theory_meaning.specs.Calls as calls
 use Rattle.rhai_machine.specs.Setting.{setting}
-use Rattle.rhai_state.proofs.WordAnswers.{first_one, only_one, type_word, word_with}
+use Rattle.run_state.proofs.WordAnswers.{first_one, only_one, type_word, word_with}
 use Rattle.rhai_machine.proofs.steps.machine.Machine.word_value.Goals as goal
 
 pub returns-in_ok-type_of-in-len1 : goal.returns-in_ok-type_of-in-len1

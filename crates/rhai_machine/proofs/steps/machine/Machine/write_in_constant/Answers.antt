@@ -1,5 +1,5 @@
 use Rattle.std.proofs.Common.{map, refl, sym}
-use Rattle.rhai_places.specs.Reading.{key_meant}
+use Rattle.run_places.specs.Reading.{key_meant}
 use Rattle.rhai_base.specs.Reading.{value_of}
 use Rattle.rhai_machine.specs.Setting.{setting}
 use Rattle.rhai_machine.proofs.Writing.{record_constant, record_unbound}

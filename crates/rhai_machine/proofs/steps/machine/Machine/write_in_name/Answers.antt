@@ -1,9 +1,9 @@
 use Rattle.std.proofs.Common.{◌≡◌, Some, None, get_or, map, rules, refl, sym, ap, subst, ◌∙◌}
 use Rattle.std.specs.Prelude.{if◌then◌else◌}
 use Rattle.rhai_base.specs.Reading.{value_of}
-use Rattle.rhai_places.specs.Reading.{key_meant}
+use Rattle.run_places.specs.Reading.{key_meant}
 use Rattle.rhai_machine.specs.Setting.{setting}
-use Rattle.rhai_state.specs.Variables.{IsLatest, IsMissing}
+use Rattle.run_state.specs.Variables.{IsLatest, IsMissing}
 use Rattle.rhai_machine.proofs.Writing.{constant_at, nowhere_at, written_at}
 use Rattle.rhai_machine.proofs.steps.machine.Machine.write_in_name.Goals as goal
 

@@ -3,7 +3,7 @@ use Rattle.std.proofs.lemmas.Result.{err_from_is_err_and}
 use Rattle.rhai_base.specs.Reading.{value_of}
 use Rattle.rhai_machine.specs.Setting.{setting}
 use Rattle.rhai_run_nodes.specs.Variables.{root_meant}
-use Rattle.rhai_state.proofs.Goes.{goes_then, stops_then}
+use Rattle.run_state.proofs.Goes.{goes_then, stops_then}
 use Rattle.rhai_machine.proofs.Roots.{unit_value}
 use Rattle.rhai_machine.proofs.Writing.{to_place}
 use Rattle.rhai_machine.proofs.steps.machine.Machine.write_value.Goals as goal

@@ -1,0 +1,5 @@
+use Rattle.std.proofs.Common.{rules}
+use Rattle.base_engine.proofs.engine_info.EngineInfo.has_overrides.Goals as goal
+
+pub returns : goal.returns
+returns c = search rules

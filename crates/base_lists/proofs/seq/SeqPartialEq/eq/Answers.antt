@@ -1,0 +1,5 @@
+use Rattle.std.proofs.Common.{rules}
+use Rattle.base_lists.proofs.seq.SeqPartialEq.eq.Goals as goal
+
+pub returns : goal.returns
+returns g c = search rules

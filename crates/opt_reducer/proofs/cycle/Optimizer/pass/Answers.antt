@@ -1,0 +1,12 @@
+use Rattle.std.proofs.Common.{sym, ap, subst}
+use Rattle.opt_known.specs.State.{known_of, progress}
+use Rattle.ast_types.specs.Reading.{stmts_of}
+use Rattle.opt_reducer.specs.Parts.{record_of}
+use Rattle.opt_reducer.specs.Pass.{PassRun}
+use Rattle.opt_reducer.proofs.Passing.{pass_run}
+use Rattle.opt_reducer.proofs.cycle.Optimizer.pass.Goals as goal
+
+pub returns : goal.returns
+returns c =
+    subst (λ b. PassRun (record_of c.args.self.now) b (progress c.args.state.now) (progress c.stmt_block.new.state) (stmts_of c.args.statements.now) (stmts_of c.stmt_block.new.statements)) (sym c.is_dirty.ensures)
+    (pass_run {s = progress c.args.state.now} c.clear_dirty.ensures.flag (ap known_of c.clear_dirty.ensures.names) c.in_ok-stmt_block.ensures)

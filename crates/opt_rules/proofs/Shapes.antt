@@ -1,0 +1,121 @@
+-- Arrays, and braces by what they hold.
+use Rattle.std.proofs.Common.{◌≡◌, ◌≢◌, ◌≤◌, Bool, true, false, not, ◌&&◌, List, [], ◌∷◌, length, map, ◌↔◌, IsTrue, Option, Some, None, refl, sym, ap, ◌∙◌, subst, arith}
+use Rattle.std.specs.Prelude.{is_some}
+use Rattle.ast_types.specs.declared.stmt.Stmt as declared_stmt
+use Rattle.ast_types.specs.Reading.{stmts_of}
+use Rattle.base_tokens.specs.declared.ident.Ident.{Ident}
+use Rattle.theory_rewriting.specs.Known.{Known, look}
+use Rattle.rhai_base.specs.Value.{Text, Value, ArrayV, values, is_unit}
+use Rattle.theory_meaning.specs.Constants.{array_value, constant_values, constant_for, constant_value, is_constant, is_literal_unit}
+use Rattle.theory_meaning.specs.Engine.{Engine}
+use Rattle.theory_meaning.specs.Queries.{is_unit as is_unit_expr}
+use Rattle.theory_meaning.specs.Tree.{Expr, ArrayOf, UnitConstant, Variable, ThisPtr, BlockExpr, Exprs, Stmt, ExprStmt, Stmts, no_stmts, stmt}
+use Rattle.theory_rewriting.specs.Context.{Context}
+use Rattle.theory_rewriting.specs.Residue.{holds_constant}
+use Rattle.theory_rewriting.specs.Rules as rule
+use Rattle.theory_rewriting.specs.Rules.{ExprRule}
+use Rattle.theory_rewriting.specs.Steps.{Progress, Place, Anywhere, AsBase, AsGuard}
+use Rattle.theory_rewriting.proofs.Keeping.{keeps_constant, may_be_constant}
+use Rattle.rhai_steps.specs.Folded.{FoldsConstant}
+use Rattle.rhai_steps.specs.NodeSteps.{Puts, ExprStep}
+use Rattle.rhai_steps.specs.Standing.{is_root, may_stand}
+use Rattle.rhai_steps.proofs.Places.{not-false, not-true}
+use Rattle.rhai_steps.proofs.Stepping.{expr_stays}
+use Rattle.opt_rules.specs.Settled.{known_value, is_array, is_braces, value_of_array, is_settled_braces, is_settled}
+
+-- ---- arrays
+
+array_constant : (e : Expr) → is_array e ≡ true → constant_value e ≡ value_of_array e
+array_constant (ArrayOf es) h = refl
+array_constant _ h = absurd cc
+
+none_of : (o : Option Value) → is_some o ≡ false → None ≡ o
+none_of None h = refl
+none_of (Some v) h = absurd cc
+
+no_array : (o : Option (List Value)) → None ≡ array_value o → o ≡ None
+no_array None h = refl
+no_array (Some vs) h = absurd cc
+
+array_not_unit : (o : Option (List Value)) (v : Value) → Some v ≡ array_value o → is_unit v ≡ false
+array_not_unit None v h = absurd cc
+array_not_unit (Some vs) v h = let same : ArrayV (values vs) ≡ v = cc in ap is_unit (sym same)
+
+array_folds : {k : Context} {es : Exprs} {v : Value} (o : Option (List Value)) → constant_values es ≡ o → Some v ≡ array_value o → ExprRule k (ArrayOf es) (constant_for v)
+array_folds None i h = absurd cc
+array_folds {k = k} {es = es} {v = v} (Some vs) i h =
+    let same : ArrayV (values vs) ≡ v = cc in
+    subst (λ x. ExprRule k (ArrayOf es) (constant_for x)) same (rule.array_of_constants i)
+
+-- the value of an array of constants took its place
+array_put : {s s' : Progress} {e' : Expr} {v : Value} (e : Expr) → is_array e ≡ true → Some v ≡ value_of_array e → Puts s s' e' v → (r : Engine) (p : Place) → ExprStep true r p s s' e e'
+array_put {s = s} {s' = s'} {v = v} (ArrayOf es) i h q r p =
+    subst (λ a. ExprStep true r p s s' (ArrayOf es) a) (sym q.constant)
+    (record { rule = array_folds (constant_values es) refl h; stays = may_be_constant p (ArrayOf es) v refl refl (array_not_unit (constant_values es) v h); fired = q.fired; known = q.known }, keeps_constant (ArrayOf es) v)
+array_put _ i h q r p = absurd cc
+
+array_stays : {s : Progress} (e : Expr) → is_array e ≡ true → None ≡ value_of_array e → (r : Engine) (p : Place) → ExprStep false r p s s e e
+array_stays (ArrayOf es) i h r p = expr_stays (no_array (constant_values es) h) refl (λ q. refl)
+array_stays _ i h r p = absurd cc
+
+pub array_step : (b : Bool) (s s' : Progress) (e e' : Expr) → is_array e ≡ true → FoldsConstant b s s' e e' → (r : Engine) (p : Place) → ExprStep b r p s s' e e'
+array_step true s s' e e' i f r p = array_put e i (sym f.1 ∙ array_constant e i) f.2 r p
+array_step false s s' e e' i f r p =
+    subst (λ a. ExprStep false r p s s' e a) (sym f.2)
+    (subst (λ t. ExprStep false r p s t e e) (sym f.1) (array_stays e i (none_of (constant_value e) f.0 ∙ array_constant e i) r p))
+
+-- ---- lists of none, of one and of more
+
+-- a test that says yes of each list of two or more
+abbrev SettlesLong : (Stmts → Bool) → Type 0
+SettlesLong f = (s t : Stmt) (ss : Stmts) → true ≡ f (stmt s (stmt t ss))
+
+pub settled-long : (f : Stmts → Bool) → SettlesLong f → (l : List declared_stmt.Stmt) → 2 ≤ length l → true ≡ f (stmts_of l)
+settled-long f g [] h = absurd (omega arith)
+settled-long f g (x ∷ []) h = absurd (omega arith)
+settled-long f g (x ∷ y ∷ l) h = g _ _ _
+
+pub unsettled-none : (f : Stmts → Bool) → SettlesLong f → (l : List declared_stmt.Stmt) → length l ≢ 1 → f (stmts_of l) ≡ false → stmts_of l ≡ no_stmts
+unsettled-none f g [] n h = refl
+unsettled-none f g (x ∷ []) n h = absurd (n refl)
+unsettled-none f g (x ∷ y ∷ l) n h = absurd (let z : true ≡ false = g _ _ _ ∙ h in cc)
+
+-- ---- braces
+
+-- braces that stay hold no constant alone
+root_no_constant : (e : Expr) → is_root e ≡ true → is_constant e && not (is_literal_unit e) ≡ false
+root_no_constant (Variable ns x) h = refl
+root_no_constant ThisPtr h = refl
+root_no_constant _ h = absurd cc
+
+unit_no_constant : (e : Expr) → is_unit_expr e ≡ true → is_constant e && not (is_literal_unit e) ≡ false
+unit_no_constant UnitConstant h = refl
+unit_no_constant _ h = absurd cc
+
+barred_no_constant : (p : Place) (e : Expr) → not (may_stand p e) ≡ true → is_constant e && not (is_literal_unit e) ≡ false
+barred_no_constant Anywhere e h = absurd cc
+barred_no_constant AsBase e h = root_no_constant e (not-false (is_root e) (not-true _ h))
+barred_no_constant AsGuard e h = unit_no_constant e (not-false (is_unit_expr e) (not-true _ h))
+
+pub braces-settled : (p : Place) (ss : Stmts) → is_settled_braces p ss ≡ true → holds_constant ss ≡ false
+braces-settled p no_stmts h = refl
+braces-settled p (stmt (ExprStmt e) no_stmts) h = barred_no_constant p e h
+braces-settled p (stmt _ no_stmts) h = refl
+braces-settled p (stmt (ExprStmt e) (stmt t ss)) h = refl
+braces-settled p (stmt _ (stmt t ss)) h = refl
+
+pub braces_stay : {p : Place} {s : Progress} (e : Expr) → is_braces e ≡ true → is_settled p e ≡ true → (r : Engine) → ExprStep false r p s s e e
+braces_stay {p = p} (BlockExpr ss) i h r = expr_stays (braces-settled p ss h) refl (λ q. refl)
+braces_stay _ i h r = absurd cc
+
+-- ---- names without a namespace
+
+pub known-no_path : (ks : List Known) (ns : List Ident) (x : Text) (b : Bool) → (IsTrue b ↔ (ns ≡ [])) → b ≡ true → look ks x ≡ known_value ks (Variable (map (λ i. i.name) ns) x)
+known-no_path ks [] x b h i = refl
+known-no_path ks (n ∷ ns) x b h i = let k = h.0 i in absurd cc
+
+pub known-path : (ks : List Known) (ns : List Ident) (x : Text) (b : Bool) → (IsTrue b ↔ (ns ≡ [])) → b ≡ false → None ≡ known_value ks (Variable (map (λ i. i.name) ns) x)
+known-path ks [] x b h i = absurd (let k = h.1 refl in cc)
+known-path ks (n ∷ ns) x b h i = refl
+
+pub ruleset paths = (known-no_path, known-path)

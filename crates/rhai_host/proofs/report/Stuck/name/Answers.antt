@@ -1,5 +1,0 @@
-use Rattle.std.proofs.Common.{rules}
-use Rattle.rhai_host.proofs.report.Stuck.name.Goals as goal
-
-pub returns-in-NoPlace : goal.returns-in-NoPlace
-returns-in-NoPlace c = search rules

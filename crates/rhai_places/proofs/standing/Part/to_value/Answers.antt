@@ -1,7 +1,0 @@
-use Rattle.std.proofs.Common.{rules}
-use Rattle.rhai_base.specs.Reading.{kinds}
-use Rattle.rhai_places.proofs.Parts.{parts}
-use Rattle.rhai_places.proofs.standing.Part.to_value.Goals as goal
-
-pub returns-in-Missing : goal.returns-in-Missing
-returns-in-Missing c = search (rules, kinds, parts)

@@ -1,7 +1,0 @@
-use Rattle.std.proofs.Common.{rules}
-use Rattle.rhai_base.specs.Reading.{kinds}
-use Rattle.rhai_places.proofs.Indexes.{indexes}
-use Rattle.rhai_places.proofs.steps.index_members.Goals as goal
-
-pub returns-in-Ok : goal.returns-in-Ok
-returns-in-Ok c = search (rules, kinds, indexes)

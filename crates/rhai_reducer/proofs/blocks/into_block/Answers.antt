@@ -1,6 +1,0 @@
-use Rattle.std.proofs.Common.{sym, ◌∙◌}
-use Rattle.rhai_reducer.proofs.Flattening.{other_stays, differ}
-use Rattle.rhai_reducer.proofs.blocks.into_block.Goals as goal
-
-pub unreachable-requires : goal.unreachable-requires
-unreachable-requires c = differ (sym (other_stays _ c.in_default.not-Block) ∙ c.requires)

@@ -1,8 +1,0 @@
-use Rattle.std.proofs.Common.{refl}
-use Rattle.rhai_rewriting.specs.Rules.{braces_of_expression}
-use Rattle.rhai_rewriting.proofs.Keeping.{keeps_braced}
-use Rattle.rhai_steps.proofs.Places.{stands}
-use Rattle.rhai_rules.proofs.expressions.braces_of_expression.Goals as goal
-
-pub returns : goal.returns
-returns c = λ p h. record { rule = λ k. braces_of_expression; stays = stands p _ _ refl refl h; keeps = keeps_braced _ }

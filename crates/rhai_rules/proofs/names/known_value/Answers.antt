@@ -1,6 +1,0 @@
-use Rattle.rhai_tree.proofs.Cases.{expr_cases}
-use Rattle.rhai_rules.proofs.Kept.{no_known_value}
-use Rattle.rhai_rules.proofs.names.known_value.Goals as goal
-
-pub returns-in_default : goal.returns-in_default
-returns-in_default c = no_known_value _ (expr_cases c.args.expr.now) c.in_default.not-Variable

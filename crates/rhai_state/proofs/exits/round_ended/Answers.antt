@@ -1,6 +1,0 @@
-use Rattle.std.proofs.Common.{rules}
-use Rattle.rhai_base.specs.Reading.{kinds}
-use Rattle.rhai_state.proofs.exits.round_ended.Goals as goal
-
-pub returns-in-Err-Break : goal.returns-in-Err-Break
-returns-in-Err-Break c = search (rules, kinds)

@@ -1,6 +1,0 @@
-use Rattle.std.proofs.Common.{rules}
-use Rattle.rhai_base.specs.Reading.{kinds}
-use Rattle.rhai_state.proofs.exits.run_end.Goals as goal
-
-pub returns-in-Ok : goal.returns-in-Ok
-returns-in-Ok c = search (rules, kinds)

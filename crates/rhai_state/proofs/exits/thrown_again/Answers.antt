@@ -1,8 +1,0 @@
-use Rattle.std.proofs.Common.{rules}
-use Rattle.rhai_state.proofs.exits.thrown_again.Goals as goal
-
-pub returns-then-is_unit : goal.returns-then-is_unit
-returns-then-is_unit c = search rules
-
-pub returns-else-is_unit : goal.returns-else-is_unit
-returns-else-is_unit c = search rules

@@ -1,6 +1,0 @@
-use Rattle.std.proofs.Common.{sym}
-use Rattle.rhai_state.proofs.ValueAnswers.{truth-other}
-use Rattle.rhai_state.proofs.values.truth_of.Goals as goal
-
-pub returns-in_default : goal.returns-in_default
-returns-in_default c = sym (truth-other _ c.in_default.not-Bool)

@@ -1,7 +1,0 @@
-use Rattle.std.proofs.Common.{◌≡◌, length, take}
-use Rattle.rhai_tree.specs.Reading.{arms_of}
-use Rattle.rhai_switch_rules.specs.Forgetting.{forgets, loses_answers}
-use Rattle.rhai_switch_rules.proofs.forget.forget_answers.Given as goal
-
-abbrev pub invariant-loop-at : goal.invariant-loop-at
-invariant-loop-at l = (arms_of l.arms ≡ forgets (take l.at l.marks) (arms_of l.initial.arms)) × ((l.loses ≡ loses_answers (take l.at l.marks) (arms_of l.initial.arms)) × (length l.arms ≡ length l.initial.arms))

@@ -1,6 +1,0 @@
-use Rattle.std.proofs.Common.{◌≡◌, drop}
-use Rattle.rhai_switch_rules.specs.Forgetting.{marked}
-use Rattle.rhai_switch_rules.proofs.forget.mark_all.Given as goal
-
-abbrev pub invariant-loop-place : goal.invariant-loop-place
-invariant-loop-place l = marked l.initial.marks.items l.places ≡ marked l.marks.items (drop l.place-index l.places)

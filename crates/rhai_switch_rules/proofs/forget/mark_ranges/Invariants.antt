@@ -1,8 +1,0 @@
-use Rattle.std.proofs.Common.{◌≡◌, drop, map}
-use Rattle.rhai_meaning.specs.Walk.{arms_of_ranges}
-use Rattle.rhai_tree.specs.Reading.{range_of}
-use Rattle.rhai_switch_rules.specs.Forgetting.{marked}
-use Rattle.rhai_switch_rules.proofs.forget.mark_ranges.Given as goal
-
-abbrev pub invariant-loop-range : goal.invariant-loop-range
-invariant-loop-range l = marked l.initial.marks.items (arms_of_ranges (map range_of l.ranges)) ≡ marked l.marks.items (arms_of_ranges (map range_of (drop l.range-index l.ranges)))

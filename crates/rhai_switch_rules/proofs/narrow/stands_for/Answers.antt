@@ -1,6 +1,0 @@
-use Rattle.std.proofs.Common.{◌∙◌}
-use Rattle.rhai_switch_rules.proofs.Entries.{equal_tells}
-use Rattle.rhai_switch_rules.proofs.narrow.stands_for.Goals as goal
-
-pub returns : goal.returns
-returns c = c.eq.ensures ∙ equal_tells c.args.subject.now c.args.key.now

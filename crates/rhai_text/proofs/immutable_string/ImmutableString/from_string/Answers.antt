@@ -1,5 +1,0 @@
-use Rattle.std.proofs.Common.{rules}
-use Rattle.rhai_text.proofs.immutable_string.ImmutableString.from_string.Goals as goal
-
-pub returns : goal.returns
-returns c = search rules

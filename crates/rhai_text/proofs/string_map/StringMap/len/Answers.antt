@@ -1,5 +1,0 @@
-use Rattle.std.proofs.Common.{rules}
-use Rattle.rhai_text.proofs.string_map.StringMap.len.Goals as goal
-
-pub returns-clause-len : goal.returns-clause-len
-returns-clause-len g c = search rules

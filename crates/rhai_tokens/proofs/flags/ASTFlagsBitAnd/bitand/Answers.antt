@@ -1,5 +1,0 @@
-use Rattle.std.proofs.Common.{rules}
-use Rattle.rhai_tokens.proofs.flags.ASTFlagsBitAnd.bitand.Goals as goal
-
-pub returns : goal.returns
-returns c = search rules

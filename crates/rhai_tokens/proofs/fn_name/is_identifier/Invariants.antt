@@ -1,9 +1,0 @@
-use Rattle.std.proofs.Common.{◌≡◌, length}
-use Rattle.rhai_tokens.specs.Names.{is_identifier}
-use Rattle.rhai_tokens.proofs.fn_name.is_identifier.Given as goal
-
-abbrev pub invariant-loop-first : goal.invariant-loop-first
-invariant-loop-first l = is_identifier l.name ≡ is_identifier l.rest
-
-abbrev pub decreases-loop-first : goal.decreases-loop-first
-decreases-loop-first l = length l.rest

@@ -1,5 +1,0 @@
-use Rattle.std.proofs.Common.{rules}
-use Rattle.rhai_tokens.proofs.op_assignment.OpAssignment.position.Goals as goal
-
-pub returns : goal.returns
-returns c = search rules

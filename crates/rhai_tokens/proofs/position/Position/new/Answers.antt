@@ -1,5 +1,0 @@
-use Rattle.std.proofs.Common.{rules}
-use Rattle.rhai_tokens.proofs.position.Position.new.Goals as goal
-
-pub returns-clause-position : goal.returns-clause-position
-returns-clause-position c = search rules

@@ -1,8 +1,0 @@
-use Rattle.std.proofs.Common.{rules}
-use Rattle.rhai_tokens.proofs.position.Position.or_else.Goals as goal
-
-pub returns-then-is_none : goal.returns-then-is_none
-returns-then-is_none c = search rules
-
-pub returns-else-is_none : goal.returns-else-is_none
-returns-else-is_none c = search rules

@@ -1,5 +1,0 @@
--- What stands nowhere.
-use Rattle.rhai_tokens.specs.declared.position.Position.{Position}
-
-abbrev pub nowhere : Position
-nowhere = record { line = 0; pos = 0 }

@@ -1,2 +1,0 @@
-//! Worked runs: what the definitions of rhai_meaning compute, row by row.
-#![tactic(auto)]

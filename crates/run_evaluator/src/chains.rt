@@ -1,0 +1,185 @@
+//! Chains: their base, then step after step.
+
+#![tactic(auto, using(ast_types::specs::Reading::shapes, rhai_base::specs::Reading::kinds))]
+
+ghost use Rattle.std.specs.Prelude.{false};
+ghost use Rattle.ast_types.specs.Reading.{chain_flags, expr_of};
+ghost use Rattle.rhai_machine.specs.Chaining.{access_meant, StepsOn};
+ghost use Rattle.rhai_run_nodes.specs.Links.{rest_steps, step_core};
+ghost use Rattle.rhai_machine.specs.Setting.{setting};
+ghost use Rattle.run_state.specs.Evaluating.{Runs, RunsCore};
+ghost use Rattle.rhai_machine.specs.Placing.{current_in};
+ghost use Rattle.run_state.specs.Runs.{Acting};
+ghost use Rattle.run_state.specs.State.{store_of};
+ghost use Rattle.theory_meaning.specs.Chains as chains;
+ghost use Rattle.theory_meaning.specs.Desugar as desugar;
+ghost use Rattle.theory_meaning.specs.Meaning as meaning;
+ghost use Rattle.rhai_machine.specs.Chaining as spec;
+ghost use Rattle.rhai_walk.specs.Nodes.{is_dot};
+
+use crate::evaluator::Evaluator;
+use bitflags::Flags;
+use rhai_ast::{BinaryExpr, ChainType, Expr, FnCallExpr};
+use rhai_base::{ASTFlags, Dynamic};
+use rhai_chains::{direct_value, index_step, property_step};
+use rhai_machine::{Access, Current, PropertyNames};
+use rhai_run_nodes::{Rest, is_callable, is_chain, root_of};
+use run_host::{Host, Stuck};
+use run_state::{Interrupt, State};
+
+impl<'a, H: Host> Evaluator<'a, H> {
+    /// A chain by its outermost node: its base, then its steps.
+    #[cycle(evaluate)]
+    #[inline(never)]
+    pub fn chain(
+        &self,
+        state: &mut State,
+        sides: &BinaryExpr,
+        chain: ChainType,
+        options: ASTFlags,
+    ) -> Result<Dynamic, Interrupt>
+        ensures { RunsCore (setting H.answers H.modules self.now.machine)
+            (spec.chain_core self.now.in_loop (is_dot chain) (chain_flags options) (expr_of sides.now.lhs)
+            (expr_of sides.now.rhs))
+            state.old result state.new }
+    {
+        if !is_chain(chain, options, &sides.rhs) {
+            return Err(Interrupt::Stuck(Stuck::WrongKind));
+        }
+        let base = self.base(state, &sides.lhs)?;
+        let rest = Rest {
+            chain,
+            options,
+            right: &sides.rhs,
+        };
+        self.steps(state, rest, base)
+    }
+
+    /// The base of a chain: a place, or a value.
+    #[cycle(evaluate)]
+    fn base<'e>(&self, state: &mut State, expr: &'e Expr) -> Result<Current<'e>, Interrupt>
+        ensures { let here = setting H.answers H.modules self.now.machine in
+            StepsOn here
+            (λ next.
+            meaning.at_base here.world
+            (desugar.based (desugar.root_of (expr_of expr.now))
+            (desugar.core_expr self.now.in_loop (expr_of expr.now)))
+            next)
+            state.old result state.new }
+    {
+        match root_of(expr) {
+            Some(root) => self.machine.at_root(state, root),
+            None => Ok(Current::Loose(self.expr(state, expr)?)),
+        }
+    }
+
+    /// The value of what is left of a chain, from what it has come to.
+    #[cycle(evaluate)]
+    fn steps(&self, state: &mut State, rest: Rest, current: Current) -> Result<Dynamic, Interrupt>
+        ensures { let here = setting H.answers H.modules self.now.machine in
+            Runs here
+            (Acting
+            (meaning.steps here.world (rest_steps self.now.in_loop rest.entry)
+            (current_in here (store_of state.old) current.entry)))
+            state.old result state.new }
+    {
+        if let Some(value) = direct_value(&self.machine, state, rest, &current)? {
+            return Ok(value);
+        }
+        let link = rest.link();
+        let Some(access) = self.reach(state, rest, &current)? else {
+            return Ok(Dynamic::Unit);
+        };
+        let current = self.applied(state, access, current)?;
+        match link.rest {
+            Some(rest) => self.steps(state, rest, current),
+            None => Ok(self.machine.current_value(state, current)?),
+        }
+    }
+
+    /// The first step of what is left, its argument evaluated, at what still stands there then. `None` where the chain
+    /// ends before it with unit.
+    #[cycle(evaluate)]
+    pub fn reach<'e>(
+        &self,
+        state: &mut State,
+        rest: Rest<'e>,
+        current: &Current,
+    ) -> Result<Option<Access<'e>>, Interrupt>
+        ensures { let here = setting H.answers H.modules self.now.machine in
+            spec.Reaches here self.now.in_loop rest.entry current.now state.old result state.new }
+    {
+        if rest.options.contains(ASTFlags::NEGATED) && self.machine.is_unit_at(state, current) {
+            return Ok(None);
+        }
+        let link = rest.link();
+        let access = self.access(state, rest.chain, link.argument)?;
+        self.machine.refreshed(state, current)?;
+        Ok(Some(access))
+    }
+
+    /// A step by its argument: a member behind a `.`, or an index.
+    #[cycle(evaluate)]
+    fn access<'e>(
+        &self,
+        state: &mut State,
+        chain: ChainType,
+        argument: &'e Expr,
+    ) -> Result<Access<'e>, Interrupt>
+        ensures { let here = setting H.answers H.modules self.now.machine in
+            spec.HasAccess here (step_core self.now.in_loop (is_dot chain) (expr_of argument.now)) state.old result state.new }
+    {
+        if !chain.is_dot() {
+            return Ok(Access::Index(self.expr(state, argument)?));
+        }
+        match argument {
+            Expr::Property(names, _) => {
+                let (getter, setter, name) = names.get();
+                Ok(Access::Property(PropertyNames {
+                    getter,
+                    setter,
+                    name,
+                }))
+            }
+            Expr::MethodCall(call, _) => self.method_access(state, call.get()),
+            _ => Err(Interrupt::Stuck(Stuck::WrongKind)),
+        }
+    }
+
+    /// A method, its arguments evaluated. One that has no meaning is stuck before.
+    #[cycle(evaluate)]
+    fn method_access<'e>(
+        &self,
+        state: &mut State,
+        call: &'e FnCallExpr,
+    ) -> Result<Access<'e>, Interrupt>
+        ensures { let here = setting H.answers H.modules self.now.machine in
+            spec.HasAccess here (spec.method_core self.now.in_loop call.now) state.old result state.new }
+    {
+        if !is_callable(call) {
+            return Err(Interrupt::Stuck(Stuck::WrongKind));
+        }
+        let args = self.exprs(state, call.args.as_slice())?;
+        Ok(Access::Method(&call.name, args))
+    }
+
+    /// What a step comes to.
+    #[cycle(evaluate)]
+    pub fn applied<'c>(
+        &self,
+        state: &mut State,
+        access: Access,
+        current: Current<'c>,
+    ) -> Result<Current<'c>, Interrupt>
+        ensures { let here = setting H.answers H.modules self.now.machine in
+            let c = current_in here (store_of state.old) current.entry in
+            StepsOn here (λ next. chains.applied here.world (access_meant access.entry) c next) state.old result
+            state.new }
+    {
+        match access {
+            Access::Property(names) => property_step(&self.machine, state, names, current),
+            Access::Index(index) => index_step(&self.machine, state, current, index),
+            Access::Method(name, args) => self.method(state, name, args, current),
+        }
+    }
+}

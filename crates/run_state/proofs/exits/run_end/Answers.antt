@@ -1,0 +1,6 @@
+use Rattle.std.proofs.Common.{rules}
+use Rattle.rhai_base.specs.Reading.{kinds}
+use Rattle.run_state.proofs.exits.run_end.Goals as goal
+
+pub returns-in-Ok : goal.returns-in-Ok
+returns-in-Ok c = search (rules, kinds)

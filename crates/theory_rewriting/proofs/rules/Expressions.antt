@@ -1,0 +1,131 @@
+-- The rules of expressions: a lemma each, of the rule's name.
+use Rattle.std.proofs.Common.{◌≡◌, ◌≤◌, Bool, List, Some, true, refl, sym, ap, subst, arith}
+use Rattle.rhai_base.specs.Value.{Value, UnitV, ArrayV, PointerV, values}
+use Rattle.theory_meaning.specs.Act.{Gives, Ended, At}
+use Rattle.theory_meaning.specs.ActForms.{give}
+use Rattle.theory_meaning.specs.Constants.{array_value, constant_values, constant_for}
+use Rattle.theory_meaning.specs.Core as core
+use Rattle.theory_meaning.specs.Desugar.{core_expr}
+use Rattle.theory_meaning.specs.Shape.{is_callable}
+use Rattle.theory_meaning.specs.Meaning.{act}
+use Rattle.theory_meaning.specs.Relations.{here}
+use Rattle.theory_meaning.specs.Tree.{Callee, Expr, DynamicConstant, UnitConstant, ArrayOf, BlockExpr, FnCall, Exprs, count_exprs, ExprStmt, FnCallStmt, no_stmts, stmt}
+use Rattle.theory_meaning.proofs.Sequencing.{leave_same}
+use Rattle.theory_meaning.specs.Walk.{Node, Around, whole, throughout, over_expr}
+use Rattle.theory_rewriting.specs.Context.{Context}
+use Rattle.theory_rewriting.specs.Folding.{folded}
+use Rattle.theory_rewriting.specs.Rules as rule
+use Rattle.theory_rewriting.specs.Rules.{ExprRule}
+use Rattle.theory_meaning.specs.Weight.{expr_weight}
+use Rattle.theory_rewriting.proofs.Plain.{is_plain_value, folded_plain}
+use Rattle.theory_rewriting.proofs.simulation.Setting.{Setting, Start, world, run_from}
+use Rattle.theory_rewriting.proofs.simulation.Simulation.{Simulates, simulates_equal, simulates_or_stuck}
+use Rattle.theory_rewriting.proofs.rules.Blocks.{scoped_deed}
+use Rattle.theory_rewriting.proofs.rules.Constants.{OrWrong, or_stuck, constant_means, Given, expr_given, call_given}
+use Rattle.theory_rewriting.proofs.rules.Logic as logic
+use Rattle.theory_rewriting.proofs.rules.Texts as text
+use Rattle.theory_rewriting.proofs.rules.Words as word
+use Rattle.theory_rewriting.proofs.rules.Chains as chain
+use Rattle.theory_rewriting.proofs.rules.Names as names
+use Rattle.theory_rewriting.proofs.rules.Onward as onward
+use Rattle.theory_rewriting.proofs.rules.Lasting.{Lasting}
+use Rattle.theory_rewriting.proofs.rules.Obligation.{ExprObligation}
+
+pub array_of_constants : {k : Context} {es : Exprs} {vs : List Value} → constant_values es ≡ Some vs → ExprObligation k (ArrayOf es) (DynamicConstant (ArrayV (values vs)))
+array_of_constants {k = k} {es = es} {vs = vs} h = record {
+  lighter = omega arith;
+  keeps = λ P l lasts h. (lasts.constant (ArrayV (values vs)) refl, tt);
+  sound = λ c. simulates_or_stuck (λ m. or_stuck _ _ m.store m.turns (array_given c m) here);
+} where
+  array_given : (c : Setting k) (m : Start k) → OrWrong (run_from c m (act (world c) (core_expr c.in_loop (ArrayOf es)))) (At (Ended (Gives (ArrayV (values vs)))) m.store m.turns) m.store m.turns
+  array_given c m = subst (λ o. Given (world c) m.env c.in_loop o (run_from c m (act (world c) (core_expr c.in_loop (ArrayOf es)))) m.store m.turns) (ap array_value h) (expr_given (world c) m.env c.in_loop (ArrayOf es) m.store m.turns)
+
+pub braces_empty : {k : Context} → ExprObligation k (BlockExpr no_stmts) UnitConstant
+braces_empty = record {
+  lighter = omega arith;
+  keeps = λ P l lasts h. (lasts.value UnitV, tt);
+  sound = λ c. simulates_equal (λ m. leave_same m.store (Gives UnitV) m.turns);
+}
+
+pub braces_of_expression : {k : Context} {e : Expr} → ExprObligation k (BlockExpr (stmt (ExprStmt e) no_stmts)) e
+braces_of_expression {e = e} = record {
+  lighter = omega arith;
+  keeps = λ P l lasts h. h.1.0.1;
+  sound = λ c. simulates_equal (λ m. scoped_deed (world c) m.env c.in_loop m.adds (core.Evaluate (core_expr c.in_loop e)) m.store m.turns);
+}
+
+pub braces_of_call : {k : Context} {f : Callee} {es : Exprs} → ExprObligation k (BlockExpr (stmt (FnCallStmt f es) no_stmts)) (FnCall f es)
+braces_of_call {f = f} {es = es} = record {
+  lighter = omega arith;
+  keeps = λ P l lasts h. (lasts.call f es h.1.0.0, h.1.0.1);
+  sound = λ c. simulates_equal (λ m. scoped_deed (world c) m.env c.in_loop m.adds (core.Evaluate (core_expr c.in_loop (FnCall f es))) m.store m.turns);
+}
+
+-- ---- an operator that folds
+
+-- a pointer may be the call that makes it; an operator answers none
+pub constant_light : (v : Value) → is_plain_value v ≡ true → expr_weight (constant_for v) ≤ 2
+constant_light (PointerV f vs) p = absurd cc
+constant_light _ p = omega arith
+
+-- a constant has no parts
+pub constant_keeps : (P : Around → Node → Type 0) (l : Bool) → Lasting P l → (v : Value) → is_plain_value v ≡ true → over_expr (throughout P) (constant_for v) (whole l)
+constant_keeps P l lasts (PointerV f vs) p = absurd cc
+constant_keeps P l lasts v p = (lasts.constant v p, tt)
+
+pub call_folds : {k : Context} (c : Setting k) (f : Callee) (es : Exprs) (v : Value) → folded k.engine f es ≡ Some v → Simulates c (act (world c) (core_expr c.in_loop (FnCall f es))) (act (world c) (core_expr c.in_loop (constant_for v)))
+call_folds {k = k} c f es v h =
+    subst (λ x. Simulates c (act (world c) (core_expr c.in_loop (FnCall f es))) (act (world c) x)) (sym (constant_means c.in_loop v (folded_plain k.engine f es v h)))
+    (simulates_or_stuck {b = give v} (λ m. or_stuck _ _ m.store m.turns (call_given (world c) m.env c.in_loop (is_callable f (count_exprs es)) f f.token es v m.store m.turns h) here))
+
+pub operator_folds : {k : Context} {c : Callee} {es : Exprs} {v : Value} → folded k.engine c es ≡ Some v → ExprObligation k (FnCall c es) (constant_for v)
+operator_folds {k = k} {c = c} {es = es} {v = v} q = record {
+  lighter = omega (arith, constant_light v (folded_plain k.engine c es v q));
+  keeps = λ P l lasts h. constant_keeps P l lasts v (folded_plain k.engine c es v q);
+  sound = λ s. call_folds s c es v q;
+}
+
+-- ---- every rule
+
+pub expr_rule : {k : Context} {e e' : Expr} → ExprRule k e e' → ExprObligation k e e'
+expr_rule (rule.array_of_constants h) = array_of_constants h
+expr_rule rule.braces_empty = braces_empty
+expr_rule rule.braces_of_expression = braces_of_expression
+expr_rule (rule.braces_of_call h) = braces_of_call
+expr_rule (rule.operator_folds h) = operator_folds h
+expr_rule (rule.and_changes h j) = logic.and_changes h j
+expr_rule (rule.or_changes h j) = logic.or_changes h j
+expr_rule (rule.coalesce_changes h j) = logic.coalesce_changes h j
+expr_rule rule.and_of_one = logic.and_of_one
+expr_rule rule.or_of_one = logic.or_of_one
+expr_rule rule.coalesce_of_one = logic.coalesce_of_one
+expr_rule rule.and_of_none = logic.and_of_none
+expr_rule rule.or_of_none = logic.or_of_none
+expr_rule rule.coalesce_of_none = logic.coalesce_of_none
+expr_rule (rule.text_changes h) = text.text_changes h
+expr_rule (rule.text_folds vs h) = text.text_folds vs h
+expr_rule (rule.map_of_constants vs h) = text.map_of_constants vs h
+expr_rule (rule.type_of_folds v h) = word.type_of_folds v h
+expr_rule (rule.is_shared_folds v h) = word.is_shared_folds v h
+expr_rule (rule.fn_folds f h j) = word.fn_folds f h j
+expr_rule (rule.curry_folds f us vs h j) = word.curry_folds f us vs h j
+expr_rule (rule.unit_ends_dot h j) = chain.unit_ends_dot h j
+expr_rule (rule.unit_ends_index h j) = chain.unit_ends_index h j
+expr_rule (rule.property_of_constant fs h) = chain.property_of_constant fs h
+expr_rule (rule.index_of_constant v j u h q r) = chain.index_of_constant v j u h q r
+expr_rule (rule.element_of_array n j h q r x) = chain.element_of_array n j h q r x
+expr_rule (rule.property_of_map h) = chain.property_of_map h
+expr_rule (rule.entry_of_map x h q) = chain.entry_of_map x h q
+expr_rule (rule.type_of_method v h q) = chain.type_of_method v h q
+expr_rule (rule.is_shared_method v h q) = chain.is_shared_method v h q
+expr_rule (rule.known_name v h) = names.known_name v h
+expr_rule (rule.known_pointer f h q) = names.known_pointer f h q
+expr_rule (rule.known_property fs h) = names.known_property fs h
+expr_rule (rule.known_entry fs y h q) = names.known_entry fs y h q
+expr_rule (rule.property_of_constant_first dot m p r fs q h) = onward.property_of_constant_first dot m p r fs q h
+expr_rule (rule.index_of_constant_first dot m i r v j u b h q n) = onward.index_of_constant_first dot m i r v j u b h q n
+expr_rule (rule.type_of_method_first dot f m r v q h n) = onward.type_of_method_first dot f m r v q h n
+expr_rule (rule.is_shared_method_first dot f m r v q h n) = onward.is_shared_method_first dot f m r v q h n
+expr_rule (rule.element_of_array_first dot m i r n j b h q x y) = onward.element_of_array_first dot m i r n j b h q x y
+expr_rule (rule.property_of_map_first dot m p r b h) = onward.property_of_map_first dot m p r b h
+expr_rule (rule.entry_of_map_first dot m i r x b h q) = onward.entry_of_map_first dot m i r x b h q

@@ -1,0 +1,249 @@
+-- The rules of statements: a lemma each, of the rule's name.
+use Rattle.std.proofs.Common.{◌≡◌, ◌+◌, ◌≤◌, ℕ, Bool, true, false, [], Option, Some, None, if◌then◌else◌, refl, sym, ap, ◌∙◌, subst, arith, List, ◌++◌}
+use Rattle.std.specs.Prelude.{codes}
+use Rattle.rhai_base.specs.Value.{Text, Value, UnitV, BoolV, TextV, PointerV, Values, values, items}
+use Rattle.rhai_base.specs.Operators.{Operator, Computed, NoEntry, computed}
+use Rattle.base_tokens.specs.Names.{is_valid_name}
+use Rattle.theory_meaning.specs.Act.{World, Store, Gives, WrongKind, Act, Scoped, Only, Env, run}
+use Rattle.theory_meaning.specs.ActForms.{give, unit, ◌>>=◌, truth, branch, then_line}
+use Rattle.theory_meaning.specs.Constants.{computed_value, constant_value, constant_bool, constant_for, constant_values}
+use Rattle.theory_meaning.specs.Core as core
+use Rattle.theory_meaning.specs.Desugar.{core_expr, core_stmt, core_stmts}
+use Rattle.theory_meaning.specs.Engine.{Engine, is_open, mapped_type_name}
+use Rattle.theory_meaning.specs.Meaning.{act, deed, acts}
+use Rattle.theory_meaning.specs.Queries.{is_block_dependent}
+use Rattle.theory_meaning.specs.Relations.{here}
+use Rattle.theory_meaning.specs.Tree.{CallToken, NoToken, OfOperator, OfOther, Callee, Expr, UnitConstant, DynamicConstant, BoolConstant, StringConstant, ArrayOf, BlockExpr, FnCall, Exprs, no_exprs, expr, Stmt, Noop, If, Var, Block, ExprStmt, FnCallStmt, Stmts, no_stmts, stmt, Import, Export}
+use Rattle.theory_meaning.proofs.Preserves.{preserves}
+use Rattle.theory_meaning.proofs.Sequencing.{leave_same, SameRunAll, line_only, line_same, line_unit}
+use Rattle.theory_meaning.specs.Walk.{Node, Around, whole, throughout, over_expr, over_stmt, over_stmts}
+use Rattle.theory_rewriting.specs.Context.{Context}
+use Rattle.theory_rewriting.specs.Folding.{folded_values, folded}
+use Rattle.theory_rewriting.specs.Parts.{named, constant_of}
+use Rattle.theory_rewriting.specs.Rules as rule
+use Rattle.theory_rewriting.specs.Rules.{block_or_noop, chosen, condition_alone, StmtRule}
+use Rattle.theory_meaning.specs.Weight.{expr_weight, exprs_weight, stmt_weight, weight}
+use Rattle.theory_rewriting.proofs.Plain.{folded_plain}
+use Rattle.theory_rewriting.proofs.simulation.Setting.{Setting, world, run_from}
+use Rattle.theory_rewriting.proofs.simulation.Simulation.{OrStuck, equal, is_stuck, Simulates, simulates_trans, all_trans, simulates_equal, all_equal, all_refl, simulates_or_stuck, simulates_refl}
+use Rattle.theory_rewriting.proofs.simulation.Forms.{simulates_bind, all_line, SimulatesStmt, stmt_refl, stmt_trans, stmt_of_deed}
+use Rattle.theory_rewriting.proofs.rules.Blocks.{scoped_deed, scoped_list}
+use Rattle.theory_rewriting.proofs.simulation.Unwanted.{before_any}
+use Rattle.theory_rewriting.proofs.rules.Constants.{or_stuck, expr_given, branch_given}
+use Rattle.theory_rewriting.proofs.rules.Expressions.{constant_light, constant_keeps, call_folds}
+use Rattle.theory_rewriting.proofs.rules.Given.{constant_of_light, constant_of_keeps}
+use Rattle.theory_rewriting.proofs.rules.Words as word
+use Rattle.theory_rewriting.proofs.rules.Control as control
+use Rattle.theory_rewriting.proofs.rules.SelfAssign as assign
+use Rattle.theory_rewriting.proofs.rules.Forgetting as forgetting
+use Rattle.theory_rewriting.proofs.rules.Tables as tables
+use Rattle.theory_rewriting.proofs.rules.Switches as switches
+use Rattle.theory_rewriting.proofs.rules.Lasting.{Lasting}
+use Rattle.theory_rewriting.proofs.rules.Obligation.{StmtObligation}
+
+-- ---- an `if` whose blocks are empty: its condition, and then unit
+
+module _ (w : World) (env : Env) where
+  empty_blocks : (o : Option Bool) (s : Store) (t : ℕ) → OrStuck (run w env (branch o (Scoped (Only unit)) (Scoped (Only unit))) s t) (run w env unit s t)
+  empty_blocks None s t = is_stuck WrongKind t here
+  empty_blocks (Some true) s t = subst (λ r. OrStuck r (run w env unit s t)) (sym (leave_same s (Gives UnitV) t)) equal
+  empty_blocks (Some false) s t = subst (λ r. OrStuck r (run w env unit s t)) (sym (leave_same s (Gives UnitV) t)) equal
+
+  -- the condition, and then `Noop`
+  noop_list : (a : Act) → SameRunAll w env (Only (a >>= λ v. unit)) (then_line a (λ v. then_line unit (λ u. Only (give u))))
+  noop_list a s t = sym (line_only w env a (λ v. unit) s t) ∙ line_same w env a a (λ v. Only unit) _ (λ s1 t1. refl) (λ v s1 t1. sym (line_unit w env unit s1 t1)) s t
+
+condition_light : (w : Bool) (e : Expr) → stmt_weight (condition_alone w e) ≤ 5 + expr_weight e
+condition_light true e = omega arith
+condition_light false e = omega arith
+
+condition_keeps : (P : Around → Node → Type 0) (l : Bool) → Lasting P l → (b : Bool) (e : Expr) → over_expr (throughout P) e (whole l) → over_stmt (throughout P) (condition_alone b e) (whole l)
+condition_keeps P l lasts true e h = (lasts.block _, ((lasts.expression e, h), ((lasts.noop, tt), tt)))
+condition_keeps P l lasts false e h = (lasts.expression e, h)
+
+-- the condition, and then unit
+abbrev alone : {k : Context} → Setting k → Expr → Act
+alone c e = act (world c) (core_expr c.in_loop e) >>= λ v. unit
+
+if_to_alone : {k : Context} (c : Setting k) (e : Expr) → Simulates c (deed (world c) (core.If (core_expr c.in_loop e) core.no_stmts core.no_stmts)) (alone c e)
+if_to_alone c e = simulates_bind simulates_refl (λ v. simulates_or_stuck (λ m. empty_blocks (world c) m.env (truth v) m.store m.turns))
+
+if_alone : {k : Context} (c : Setting k) (w : Bool) (e : Expr) → SimulatesStmt c w (core_stmt c.in_loop (If e no_stmts no_stmts)) (core_stmt c.in_loop (condition_alone w e))
+if_alone c true e = stmt_of_deed (simulates_trans (if_to_alone c e)
+    (simulates_equal (λ m. noop_list (world c) m.env (act (world c) (core_expr c.in_loop e)) m.store m.turns ∙ sym (scoped_list (world c) m.env c.in_loop m.adds (core_stmts c.in_loop (stmt (ExprStmt e) (stmt Noop no_stmts))) refl true UnitV m.store m.turns))))
+if_alone c false e = record {
+  before = λ p. all_trans (all_line (if_to_alone c e) (λ v. all_refl {p = p})) (all_equal (λ m. before_any (world c) m.env (act (world c) (core_expr c.in_loop e)) p m.store m.turns));
+}
+
+pub if_without_blocks : {k : Context} {w : Bool} {e : Expr} → StmtObligation k w (If e no_stmts no_stmts) (condition_alone w e)
+if_without_blocks {w = w} {e = e} = record {
+  lighter = omega (arith, condition_light w e);
+  keeps = λ P l lasts h. condition_keeps P l lasts w e h.1.0;
+  sound = λ c. if_alone c w e;
+}
+
+-- ---- blocks
+
+pub block_empty : {k : Context} {w : Bool} → StmtObligation k w (Block no_stmts) Noop
+block_empty = record {
+  lighter = omega arith;
+  keeps = λ P l lasts h. (lasts.noop, tt);
+  sound = λ c. stmt_of_deed (simulates_equal (λ m. leave_same m.store (Gives UnitV) m.turns));
+}
+
+-- braces around one deed
+braces_of_deed : {k : Context} (c : Setting k) (w : Bool) (d : core.Deed) → SimulatesStmt c w (core.Does (core.Block (core.stmt (core.Does d) core.no_stmts))) (core.Does d)
+braces_of_deed c w d = stmt_of_deed (simulates_equal (λ m. scoped_deed (world c) m.env c.in_loop m.adds d m.store m.turns))
+
+lone_statement : {k : Context} (c : Setting k) (w : Bool) (s : Stmt) → is_block_dependent s ≡ false → SimulatesStmt c w (core_stmt c.in_loop (Block (stmt s no_stmts))) (core_stmt c.in_loop s)
+lone_statement c w (Var d n x e) q = absurd (let z : true ≡ false = q in cc)
+lone_statement c w (Import e x) q = absurd (let z : true ≡ false = q in cc)
+lone_statement c w (Export x y) q = absurd (let z : true ≡ false = q in cc)
+lone_statement c w _ q = braces_of_deed c w _
+
+pub block_of_statement : {k : Context} {w : Bool} {s : Stmt} → is_block_dependent s ≡ false → StmtObligation k w (Block (stmt s no_stmts)) s
+block_of_statement {w = w} {s = s} q = record {
+  lighter = omega arith;
+  keeps = λ P l lasts h. h.1.0;
+  sound = λ c. lone_statement c w s q;
+}
+
+-- an empty block is a `Noop`
+block_light : (ss : Stmts) → stmt_weight (block_or_noop ss) ≤ 3 + weight ss
+block_light no_stmts = omega arith
+block_light (stmt s ss) = omega arith
+
+block_keeps : (P : Around → Node → Type 0) (l : Bool) → Lasting P l → (ss : Stmts) → over_stmts (throughout P) ss (whole l) → over_stmt (throughout P) (block_or_noop ss) (whole l)
+block_keeps P l lasts no_stmts h = (lasts.noop, tt)
+block_keeps P l lasts (stmt s ss) h = (lasts.block (stmt s ss), h)
+
+or_noop : {k : Context} (c : Setting k) (w : Bool) (ss : Stmts) → SimulatesStmt c w (core_stmt c.in_loop (Block ss)) (core_stmt c.in_loop (block_or_noop ss))
+or_noop c w no_stmts = block_empty.sound c
+or_noop c w (stmt s ss) = stmt_refl
+
+-- ---- an `if` over a constant
+
+chosen_light : (t : Bool) (a b : Stmts) → weight (chosen t a b) ≤ weight a + weight b
+chosen_light true a b = omega arith
+chosen_light false a b = omega arith
+
+chosen_keeps : (P : Around → Node → Type 0) (l : Bool) (t : Bool) (a b : Stmts) → over_stmts (throughout P) a (whole l) → over_stmts (throughout P) b (whole l) → over_stmts (throughout P) (chosen t a b) (whole l)
+chosen_keeps P l true a b h k = h
+chosen_keeps P l false a b h k = k
+
+branch_chosen : (w : World) (l t : Bool) (x y : Stmts) → branch (Some t) (Scoped (acts w true (core_stmts l x) UnitV)) (Scoped (acts w true (core_stmts l y) UnitV)) ≡ Scoped (acts w true (core_stmts l (chosen t x y)) UnitV)
+branch_chosen w l true x y = refl
+branch_chosen w l false x y = refl
+
+if_to_block : {k : Context} (c : Setting k) (e : Expr) (t : Bool) (x y : Stmts) → constant_bool e ≡ Some t → Simulates c (deed (world c) (core.If (core_expr c.in_loop e) (core_stmts c.in_loop x) (core_stmts c.in_loop y))) (deed (world c) (core.Block (core_stmts c.in_loop (chosen t x y))))
+if_to_block c e t x y h =
+    let w = world c in
+    let xs = Scoped (acts w true (core_stmts c.in_loop x) UnitV) in
+    let ys = Scoped (acts w true (core_stmts c.in_loop y) UnitV) in
+    subst (λ z. Simulates c (deed w (core.If (core_expr c.in_loop e) (core_stmts c.in_loop x) (core_stmts c.in_loop y))) z) (branch_chosen w c.in_loop t x y)
+    (simulates_or_stuck {b = branch (Some t) xs ys} (λ m.
+    or_stuck _ _ m.store m.turns (branch_given w m.env c.in_loop (constant_value e) (run_from c m (act w (core_expr c.in_loop e))) t m.store m.turns xs ys (expr_given w m.env c.in_loop e m.store m.turns) h) (preserves w m.env m.adds (branch (Some t) xs ys) m.store m.turns).calls))
+
+pub if_decided : {k : Context} {w t : Bool} {e : Expr} {a b : Stmts} → constant_bool e ≡ Some t → StmtObligation k w (If e a b) (block_or_noop (chosen t a b))
+if_decided {w = w} {t = t} {e = e} {a = a} {b = b} q = record {
+  lighter = omega (arith, block_light (chosen t a b), chosen_light t a b);
+  keeps = λ P l lasts h. block_keeps P l lasts (chosen t a b) (chosen_keeps P l t a b h.1.1.0 h.1.1.1);
+  sound = λ c. stmt_trans (stmt_of_deed (if_to_block c e t a b q)) (or_noop c w (chosen t a b));
+}
+
+-- ---- expression statements
+
+pub statement_of_braces : {k : Context} {w : Bool} {ss : Stmts} → StmtObligation k w (ExprStmt (BlockExpr ss)) (block_or_noop ss)
+statement_of_braces {w = w} {ss = ss} = record {
+  lighter = omega (arith, block_light ss);
+  keeps = λ P l lasts h. block_keeps P l lasts ss h.1.1;
+  sound = λ c. record { before = λ rest. (or_noop c w ss).before rest };
+}
+
+pub statement_of_call : {k : Context} {w : Bool} {c : Callee} {es : Exprs} → StmtObligation k w (ExprStmt (FnCall c es)) (FnCallStmt c es)
+statement_of_call {c = c} {es = es} = record {
+  lighter = omega arith;
+  keeps = λ P l lasts h. (lasts.call_statement c es h.1.0, h.1.1);
+  sound = λ c. stmt_refl;
+}
+
+-- a call that folds has an operand
+entry_value : (b : Bool) (c : Computed) → c ≡ NoEntry → computed_value (if b then c else NoEntry) ≡ None
+entry_value true c h = ap computed_value h
+entry_value false c h = refl
+
+no_operands : (op : Operator) → computed op [] ≡ NoEntry
+unfolding computed
+no_operands op = refl
+
+folded-no_exprs : (engine : Engine) (m : CallToken) → folded_values engine m (Some []) ≡ None
+folded-no_exprs engine NoToken = refl
+folded-no_exprs engine (OfOperator op) = entry_value (is_open engine op []) (computed op []) (no_operands op)
+folded-no_exprs engine OfOther = refl
+
+expr_heavy : (e : Expr) → 1 ≤ expr_weight e
+expr_heavy UnitConstant = omega arith
+expr_heavy (ArrayOf es) = omega arith
+expr_heavy (BlockExpr ss) = omega arith
+expr_heavy (FnCall c es) = omega arith
+expr_heavy _ = omega arith
+
+folded_heavy : (engine : Engine) (c : Callee) (es : Exprs) (v : Value) → folded engine c es ≡ Some v → 1 ≤ exprs_weight es
+folded_heavy engine c no_exprs v h = let k = folded-no_exprs engine c.token in absurd cc
+folded_heavy engine c (expr e es) v h = omega (arith, expr_heavy e)
+
+pub call_statement_folds : {k : Context} {w : Bool} {c : Callee} {es : Exprs} {v : Value} → folded k.engine c es ≡ Some v → StmtObligation k w (FnCallStmt c es) (ExprStmt (constant_for v))
+call_statement_folds {k = k} {c = c} {es = es} {v = v} q = record {
+  lighter = omega (arith, constant_light v (folded_plain k.engine c es v q), folded_heavy k.engine c es v q);
+  keeps = λ P l lasts h. (lasts.expression (constant_for v), constant_keeps P l lasts v (folded_plain k.engine c es v q));
+  sound = λ s. stmt_of_deed (call_folds s c es v q);
+}
+
+-- a call statement by a name whose first argument is constant
+named_folds : {k : Context} {w : Bool} (f : Text) (captures : Bool) (e : Expr) (es : Exprs) (v : Value) → ((c : Setting k) → Simulates c (act (world c) (core_expr c.in_loop (FnCall (named f captures) (expr e es)))) (act (world c) (core_expr c.in_loop (constant_of v)))) → StmtObligation k w (FnCallStmt (named f captures) (expr e es)) (ExprStmt (constant_of v))
+named_folds f captures e es v h = record {
+  lighter = omega (arith, constant_of_light v, expr_heavy e);
+  keeps = λ P l lasts j. (lasts.expression (constant_of v), constant_of_keeps P l lasts v);
+  sound = λ s. stmt_of_deed (h s);
+}
+
+pub type_of_statement_folds : {k : Context} {w captures : Bool} {e : Expr} (v : Value) → constant_value e ≡ Some v → StmtObligation k w (FnCallStmt (named (codes "type_of") captures) (expr e no_exprs)) (ExprStmt (StringConstant (mapped_type_name k.engine v)))
+type_of_statement_folds {k = k} {captures = captures} {e = e} v h = named_folds (codes "type_of") captures e no_exprs (TextV (mapped_type_name k.engine v)) (word.type_of_folds {captures = captures} {e = e} v h).sound
+
+pub is_shared_statement_folds : {k : Context} {w captures : Bool} {e : Expr} (v : Value) → constant_value e ≡ Some v → StmtObligation k w (FnCallStmt (named (codes "is_shared") captures) (expr e no_exprs)) (ExprStmt (BoolConstant false))
+is_shared_statement_folds {captures = captures} {e = e} v h = named_folds (codes "is_shared") captures e no_exprs (BoolV false) (word.is_shared_folds {captures = captures} {e = e} v h).sound
+
+pub fn_statement_folds : {k : Context} {w captures : Bool} {e : Expr} (f : Text) → constant_value e ≡ Some (TextV f) → is_valid_name f ≡ true → StmtObligation k w (FnCallStmt (named (codes "Fn") captures) (expr e no_exprs)) (ExprStmt (DynamicConstant (PointerV f (values []))))
+fn_statement_folds {captures = captures} {e = e} f h q = named_folds (codes "Fn") captures e no_exprs (PointerV f (values [])) (word.fn_folds {captures = captures} {e = e} f h q).sound
+
+pub curry_statement_folds : {k : Context} {w captures : Bool} {e : Expr} {es : Exprs} (f : Text) (us : Values) (vs : List Value) → constant_value e ≡ Some (PointerV f us) → constant_values es ≡ Some vs → StmtObligation k w (FnCallStmt (named (codes "curry") captures) (expr e es)) (ExprStmt (DynamicConstant (PointerV f (values (items us ++ vs)))))
+curry_statement_folds {captures = captures} {e = e} {es = es} f us vs h q = named_folds (codes "curry") captures e es (PointerV f (values (items us ++ vs))) (word.curry_folds {captures = captures} {e = e} {es = es} f us vs h q).sound
+
+-- ---- every rule
+
+pub stmt_rule : {k : Context} {w : Bool} {s s' : Stmt} → StmtRule k w s s' → StmtObligation k w s s'
+stmt_rule rule.if_without_blocks = if_without_blocks
+stmt_rule (rule.if_decided h) = if_decided h
+stmt_rule rule.block_empty = block_empty
+stmt_rule (rule.block_of_statement h) = block_of_statement h
+stmt_rule rule.statement_of_braces = statement_of_braces
+stmt_rule rule.statement_of_call = statement_of_call
+stmt_rule (rule.call_statement_folds h) = call_statement_folds h
+stmt_rule (rule.type_of_statement_folds v h) = type_of_statement_folds v h
+stmt_rule (rule.is_shared_statement_folds v h) = is_shared_statement_folds v h
+stmt_rule (rule.fn_statement_folds f h q) = fn_statement_folds f h q
+stmt_rule (rule.curry_statement_folds f us vs h q) = curry_statement_folds f us vs h q
+stmt_rule (rule.while_false h) = control.while_false h
+stmt_rule (rule.while_true h) = control.while_true h
+stmt_rule (rule.pure_try h) = control.pure_try h
+stmt_rule (rule.switch_answers v j js h q r x) = switches.switch_answers v j js h q r x
+stmt_rule (rule.switch_is_if v j h q r x) = switches.switch_is_if v j h q r x
+stmt_rule (rule.switch_defaults v h q) = switches.switch_defaults v h q
+stmt_rule (rule.switch_forgets j h q x) = forgetting.switch_forgets j h q x
+stmt_rule (rule.switch_narrows v h q d o x y) = tables.switch_narrows v h q d o x y
+stmt_rule (rule.switch_shrinks h q x) = tables.switch_shrinks h q x
+stmt_rule rule.nested_if = control.nested_if
+stmt_rule (rule.nested_if_joins {es = es}) = control.nested_if_joins es
+stmt_rule (rule.share_known h) = control.share_known h
+stmt_rule rule.share_nothing = control.share_nothing
+stmt_rule (rule.self_assign q a h j) = assign.self_assign q a h j

@@ -1,0 +1,84 @@
+-- What is known goes on to hold, under names that are added and values that change.
+use Rattle.std.proofs.Common.{◌≡◌, true, false, cond, List, [], ◌∷◌, Option, Some, None, refl, sym, ap, ◌∙◌, subst}
+use Rattle.std.specs.Prelude.{◌&&◌}
+use Rattle.rhai_base.specs.Value.{Text, Value, same_text}
+use Rattle.theory_meaning.specs.Engine.{Binding}
+use Rattle.theory_meaning.specs.Act.{EntryKind, IsVariable, IsConstant, IsAlias, IsExport, is_constant, is_name, is_called, ScopeEntry, found}
+use Rattle.theory_meaning.specs.Run.{bind}
+use Rattle.theory_meaning.proofs.Relations.{Keeps, none, one, changed}
+use Rattle.theory_rewriting.specs.Known.{Known, look, KnowsLess, shadow, shadow_all, Fits, Agrees}
+
+-- with no names known
+pub agrees_nothing : (bs : List Binding) (es : List ScopeEntry) → Agrees bs [] es
+agrees_nothing bs es = record { is = λ x v h. absurd (let z : None ≡ Some v = h in cc) }
+
+keeps_fits : (bs : List Binding) {es fs : List ScopeEntry} (x : Text) (u : Value) → Keeps es fs → Fits u (found bs es x) → Fits u (found bs fs x)
+keeps_fits bs x u none = λ h. h
+keeps_fits bs x u (one {e = e} {es = es} {fs = fs} p) =
+    elim (is_called e x) as (λ b. Fits u (cond b (Some e) (found bs es x)) → Fits u (cond b (Some e) (found bs fs x))) [ true ↦ λ h. h | false ↦ keeps_fits bs x u p ]
+keeps_fits bs x u (changed {e = e} {v = v} {es = es} {fs = fs} c p) =
+    elim (is_called e x) as (λ b. Fits u (cond b (Some e) (found bs es x)) → Fits u (cond b (Some (record e { value = v })) (found bs fs x))) [
+      | true ↦ λ h. absurd (let w : true ≡ false = sym h.0 ∙ c in cc)
+      | false ↦ keeps_fits bs x u p
+    ]
+
+-- where constants keep their values
+pub agrees_keeps : {bs : List Binding} {ks : List Known} {es fs : List ScopeEntry} → Keeps es fs → Agrees bs ks es → Agrees bs ks fs
+agrees_keeps {bs} p a = record { is = λ x v h. keeps_fits bs x v p (a.is x v h) }
+
+-- where fewer names are known
+pub agrees_knowing_less : {bs : List Binding} {ks ls : List Known} {es : List ScopeEntry} → KnowsLess ks ls → Agrees bs ls es → Agrees bs ks es
+agrees_knowing_less i a = record { is = λ x v h. a.is x v (i.is x v h) }
+
+-- under a constant whose value is known, or an entry of which nothing is known
+pub agrees_noting : (bs : List Binding) (ks : List Known) (es : List ScopeEntry) (x : Text) (o : Option Value) (c : EntryKind) (v : Value) → ((w : Value) → o ≡ Some w → (c ≡ IsConstant) × (v ≡ w)) → Agrees bs ks es → Agrees bs (record { name = x; value = o } ∷ ks) (record { name = x; kind = c; value = v } ∷ es)
+agrees_noting bs ks es x o IsVariable v f a = record {
+  is = λ y w. elim (same_text x y) as (λ b. cond b o (look ks y) ≡ Some w → Fits w (cond b (Some (record { name = x; kind = IsVariable; value = v })) (found bs es y))) [
+    | true ↦ λ h. let z = f w h in (ap is_constant z.0, z.1)
+    | false ↦ λ h. a.is y w h
+  ];
+}
+agrees_noting bs ks es x o IsConstant v f a = record {
+  is = λ y w. elim (same_text x y) as (λ b. cond b o (look ks y) ≡ Some w → Fits w (cond b (Some (record { name = x; kind = IsConstant; value = v })) (found bs es y))) [
+    | true ↦ λ h. (refl, (f w h).1)
+    | false ↦ λ h. a.is y w h
+  ];
+}
+agrees_noting bs ks es x o IsAlias v f a = record {
+  is = λ y w. elim (same_text x y) as (λ b. cond b o (look ks y) ≡ Some w → Fits w (found bs es y)) [
+    | true ↦ λ h. absurd (let z : false ≡ true = ap is_name (f w h).0 in cc)
+    | false ↦ λ h. a.is y w h
+  ];
+}
+agrees_noting bs ks es x o IsExport v f a = record {
+  is = λ y w. elim (same_text x y) as (λ b. cond b o (look ks y) ≡ Some w → Fits w (found bs es y)) [
+    | true ↦ λ h. absurd (let z : false ≡ true = ap is_name (f w h).0 in cc)
+    | false ↦ λ h. a.is y w h
+  ];
+}
+
+-- under one more name
+pub agrees_shadow : (bs : List Binding) (ks : List Known) (es : List ScopeEntry) (x : Text) (c : EntryKind) (v : Value) → Agrees bs ks es → Agrees bs (shadow x ks) (record { name = x; kind = c; value = v } ∷ es)
+agrees_shadow bs ks es x c v a = agrees_noting bs ks es x None c v (λ w h. absurd (let z : None ≡ Some w = h in cc)) a
+
+-- beside an alias or an export
+pub agrees_beside : (bs : List Binding) (ks : List Known) (es : List ScopeEntry) (x : Text) (c : EntryKind) (v : Value) → is_name c ≡ false → Agrees bs ks es → Agrees bs ks (record { name = x; kind = c; value = v } ∷ es)
+agrees_beside bs ks es x c v q a = record {
+  is = λ y w h. subst (λ b. Fits w (cond (b && same_text x y) (Some (record { name = x; kind = c; value = v })) (found bs es y))) (sym q) (a.is y w h);
+}
+
+-- names of which nothing is known any more
+agrees_less : (bs : List Binding) (ks : List Known) (es : List ScopeEntry) (x : Text) → Agrees bs ks es → Agrees bs (shadow x ks) es
+agrees_less bs ks es x a = record {
+  is = λ y v. elim (same_text x y) as (λ b. cond b None (look ks y) ≡ Some v → Fits v (found bs es y)) [ true ↦ λ h. absurd cc | false ↦ λ h. a.is y v h ];
+}
+
+agrees_none : (bs : List Binding) (xs : List Text) (ks : List Known) (es : List ScopeEntry) → Agrees bs ks es → Agrees bs (shadow_all xs ks) es
+agrees_none bs [] ks es a = a
+agrees_none bs (x ∷ xs) ks es a = agrees_none bs xs (shadow x ks) es (agrees_less bs ks es x a)
+
+-- under parameters
+pub agrees_bind : (bs : List Binding) (xs : List Text) (vs : List Value) (ks : List Known) (es : List ScopeEntry) → Agrees bs ks es → Agrees bs (shadow_all xs ks) (bind xs vs es)
+agrees_bind bs [] vs ks es a = a
+agrees_bind bs (x ∷ xs) [] ks es a = agrees_none bs (x ∷ xs) ks es a
+agrees_bind bs (x ∷ xs) (v ∷ vs) ks es a = agrees_bind bs xs vs (shadow x ks) _ (agrees_shadow bs ks es x IsVariable v a)

@@ -1,0 +1,89 @@
+-- Scripts run as they do without what depends on how they are spelled.
+use Rattle.std.proofs.Common.{◌≡◌, ℕ, zero, suc, Bool, true, false, cond, List, [], ◌∷◌, map, Option, Some, None, refl, sym, ap, ◌∙◌}
+use Rattle.theory_meaning.specs.Act.{ScopeEntry, HostCall, Key, World, Env, ScriptCall, with_turn, run_all}
+use Rattle.theory_meaning.specs.Calls.{same_key}
+use Rattle.theory_meaning.specs.Core as core
+use Rattle.theory_meaning.specs.Desugar.{core_function, core_script, core_stmts}
+use Rattle.theory_meaning.specs.Relations.{OnlyAdds}
+use Rattle.theory_meaning.specs.Run.{key_of, function_of, entered, body_acts, call_body, invoke_at, env_at, EntryPoint, AtStatements, AtFunction, run_at, run_script}
+use Rattle.theory_meaning.specs.Tree.{Function, Script, Stmts}
+use Rattle.theory_meaning.proofs.Depths.{adds_at}
+use Rattle.theory_spelling.specs.Bare.{bare_stmts, bare_function, bare_script, SpelledAlike}
+use Rattle.theory_spelling.specs.Runs.{RunAlike}
+use Rattle.theory_spelling.proofs.Acts.{SameAll, all_finish}
+use Rattle.theory_spelling.proofs.Trees.{list_alike}
+use Rattle.rhai_base.specs.Value.{UnitV}
+
+body_alike : (w : World) (env : Env) → OnlyAdds env → (ss : Stmts) → SameAll w env (body_acts w (core_stmts false (bare_stmts ss))) (body_acts w (core_stmts false ss))
+body_alike w env adds ss = all_finish (list_alike w env adds false true ss UnitV)
+
+-- ---- functions
+
+abbrev old : List Function → List core.Function
+old fs = map core_function fs
+
+abbrev new : List Function → List core.Function
+new fs = map core_function (map bare_function fs)
+
+keys_alike : (fs : List Function) → map key_of (new fs) ≡ map key_of (old fs)
+keys_alike [] = refl
+keys_alike (f ∷ fs) = ap (λ ks. key_of (core_function f) ∷ ks) (keys_alike fs)
+
+-- the function of a key, in both tables
+data Found : Option core.Function → Option core.Function → Type 0 where
+  not_found : Found None None
+  found : (f : Function) → Found (Some (core_function (bare_function f))) (Some (core_function f))
+
+found_or : (b : Bool) (f : Function) (o o' : Option core.Function) → Found o o' → Found (cond b (Some (core_function (bare_function f))) o) (cond b (Some (core_function f)) o')
+found_or true f o o' h = found f
+found_or false f o o' h = h
+
+find : (fs : List Function) (k : Key) → Found (function_of (new fs) k) (function_of (old fs) k)
+find [] k = not_found
+find (f ∷ fs) k = found_or (same_key (key_of (core_function f)) k) f _ _ (find fs k)
+
+module _ (w : World) (fs : List Function) where
+  call_alike : (env : Env) → OnlyAdds env → {o o' : Option core.Function} → Found o o' → (a : ScriptCall) (scope : List ScopeEntry) (calls : List HostCall) (t : ℕ) → call_body true w env o a scope calls t ≡ call_body true w env o' a scope calls t
+  call_alike env adds not_found a scope calls t = refl
+  call_alike env adds (found f) a scope calls t = λ i. with_turn t (entered true (core_function f) a scope calls) (λ st t1. (body_alike w env adds f.body).at st t1 i)
+
+  -- calls at each depth
+  env_path : (d : ℕ) → ((a : ScriptCall) (scope : List ScopeEntry) (calls : List HostCall) (t : ℕ) → invoke_at true w (new fs) d a scope calls t ≡ invoke_at true w (old fs) d a scope calls t) → env_at true w (new fs) d ≡ env_at true w (old fs) d
+  env_path d h = λ i. record { rounds = d; invoke = λ a scope calls t. h a scope calls t i }
+
+  invoke_alike : (d : ℕ) (a : ScriptCall) (scope : List ScopeEntry) (calls : List HostCall) (t : ℕ) → invoke_at true w (new fs) d a scope calls t ≡ invoke_at true w (old fs) d a scope calls t
+  invoke_alike zero a scope calls t = refl
+  invoke_alike (suc d) a scope calls t =
+      ap (λ env. call_body true w env (function_of (new fs) a.function) a scope calls t) (env_path d (invoke_alike d))
+      ∙ call_alike (env_at true w (old fs) d) (adds_at true w (old fs) d) (find fs a.function) a scope calls t
+
+  env_alike : (d : ℕ) → env_at true w (new fs) d ≡ env_at true w (old fs) d
+  env_alike d = env_path d (invoke_alike d)
+
+-- ---- runs
+
+at_alike : (w : World) (p : Script) (e : EntryPoint) (scope : List ScopeEntry) (n : ℕ) → run_at true w (core_script (bare_script p)) e scope n ≡ run_at true w (core_script p) e scope n
+at_alike w p AtStatements scope n =
+    ap (λ env. run_all w env (body_acts w (core_stmts false (bare_stmts p.statements))) (record { scope = scope; this = None; calls = [] }) n) (env_alike w p.functions n)
+    ∙ (body_alike w _ (adds_at true w (old p.functions) n) p.statements).at _ n
+at_alike w p (AtFunction k this vs) scope n =
+    ap (λ env. call_body true w env (function_of (new p.functions) k) (record { function = k; captures = false; this = this; arguments = vs }) [] [] n) (env_alike w p.functions n)
+    ∙ call_alike w p.functions _ (adds_at true w (old p.functions) n) (find p.functions k) _ [] [] n
+
+-- A script without what depends on how it is spelled has the same runs.
+pub bare_runs : (p : Script) → RunAlike (bare_script p) p
+unfolding run_script
+bare_runs p = record {
+  runs = λ engine host e scope n.
+      ap (λ ks. run_at true (record { engine = engine; host = host; functions = ks }) (core_script (bare_script p)) e scope n) (keys_alike p.functions)
+      ∙ at_alike (record { engine = engine; host = host; functions = map key_of (old p.functions) }) p e scope n;
+}
+
+-- Scripts that are the same but for how they are spelled have the same runs.
+pub spelled_alike_runs : (p q : Script) → SpelledAlike p q → RunAlike p q
+spelled_alike_runs p q h = record {
+  runs = λ engine host e scope n.
+      sym ((bare_runs p).runs engine host e scope n)
+      ∙ ap (λ r. run_script engine host (core_script r) e scope n) h
+      ∙ (bare_runs q).runs engine host e scope n;
+}

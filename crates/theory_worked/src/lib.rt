@@ -1,0 +1,2 @@
+//! Worked runs: what the definitions of theory_meaning compute, row by row.
+#![tactic(auto)]
