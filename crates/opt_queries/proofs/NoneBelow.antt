@@ -3,10 +3,10 @@ use Rattle.std.proofs.Common.{◌≡◌, true, false, ◌&&◌, Bool, refl, sym,
 use Rattle.theory_meaning.specs.Walk.{Node}
 use Rattle.theory_meaning.proofs.Truth.{and_assoc}
 use Rattle.theory_rewriting.specs.Evals.{eval_walk}
-use Rattle.rhai_walk.specs.Children.{children, over_children, over_parts}
-use Rattle.rhai_walk.specs.Left.{left_of}
-use Rattle.rhai_walk.specs.declared.children.Children.{Children}
-use Rattle.rhai_walk.proofs.Folding.{Folds, over_parts-children}
+use Rattle.rhai_ast.specs.Children.{children, over_children, over_parts}
+use Rattle.rhai_ast.specs.Left.{left_of}
+use Rattle.rhai_ast.specs.declared.walker.children.Children.{Children}
+use Rattle.rhai_ast.proofs.Folding.{Folds, over_parts-children}
 
 and_true : (a : Bool) → (a && true) ≡ a
 and_true true = refl

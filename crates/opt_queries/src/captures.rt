@@ -9,7 +9,7 @@ ghost use Rattle.ast_types.specs.Reading.{expr_of, stmt_of};
 ghost use Rattle.theory_rewriting.specs.Scripts as spec;
 
 use ast_types::{Expr, ScriptFuncDef, Stmt};
-use rhai_walk::{ASTNode, NodeTest, every_body, every_statement};
+use rhai_ast::{ASTNode, NodeTest, every_body, every_statement};
 use std::rc::Rc;
 
 /// Does no call capture, at any depth of the statements and of the functions' bodies?

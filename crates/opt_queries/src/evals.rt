@@ -7,12 +7,12 @@ ghost use Rattle.theory_meaning.specs.Queries.{is_eval};
 ghost use Rattle.theory_meaning.specs.Walk.{OfExpr, OfStmt};
 ghost use Rattle.ast_types.specs.Reading.{callee_of, expr_of, stmt_of};
 ghost use Rattle.theory_rewriting.specs.Evals as spec;
-ghost use Rattle.rhai_walk.specs.Children.{over_children, over_node, over_parts};
-ghost use Rattle.rhai_walk.specs.Left.{left_of};
-ghost use Rattle.rhai_walk.specs.Nodes.{node_of};
+ghost use Rattle.rhai_ast.specs.Children.{over_children, over_node, over_parts};
+ghost use Rattle.rhai_ast.specs.Left.{left_of};
+ghost use Rattle.rhai_ast.specs.Nodes.{node_of};
 
 use ast_types::{Expr, FnCallExpr, Stmt};
-use rhai_walk::{ASTNode, Children};
+use rhai_ast::{ASTNode, Children};
 
 /// Does it call no `eval`, in its expressions at any depth? Lists inside are not looked at: what is declared there is
 /// forgotten at their end.

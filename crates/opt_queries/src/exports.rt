@@ -9,8 +9,8 @@ ghost use Rattle.opt_queries.specs.Walks.{stmt_is_no_export};
 
 use ast_types::Stmt;
 use bitflags::Flags;
+use rhai_ast::{ASTNode, NodeTest, every_below};
 use rhai_base::ASTFlags;
-use rhai_walk::{ASTNode, NodeTest, every_below};
 
 /// Does it export nothing, at any depth? An `export` does, and so does a declaration that is exported.
 pub fn exports_nothing(statement: &Stmt) -> bool

@@ -10,8 +10,8 @@ ghost use Rattle.opt_queries.specs.Walks.{stmt_carries_nothing, unit_walk};
 
 use ast_types::Stmt;
 use bitflags::Flags;
+use rhai_ast::{ASTNode, NodeTest, every_statement};
 use rhai_base::ASTFlags;
-use rhai_walk::{ASTNode, NodeTest, every_statement};
 
 /// Is its value unit, if it gives one? That of a `Noop`, a declaration, an assignment or a `try` is; that of a loop
 /// where no `break` in its body has an expression, at any depth.

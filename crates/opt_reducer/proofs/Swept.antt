@@ -12,9 +12,9 @@ use Rattle.theory_rewriting.specs.Residue.{AreReduced}
 use Rattle.theory_rewriting.specs.Rewriting.{StmtsTo}
 use Rattle.theory_rewriting.specs.Steps.{Progress, SweepRun}
 use Rattle.theory_rewriting.proofs.Weights.{stmts_fall}
-use Rattle.rhai_sweep.specs.declared.swept.Swept.{Swept}
-use Rattle.rhai_sweep.specs.Steps.{Sweeps}
-use Rattle.rhai_sweep.specs.Sweep.{returns_at_end, Keeps, keeps_none, keeps, skips, keeps_noop, keeps_bared}
+use Rattle.opt_lists.specs.declared.swept.Swept.{Swept}
+use Rattle.opt_lists.specs.Steps.{Sweeps}
+use Rattle.opt_lists.specs.Sweep.{returns_at_end, Keeps, keeps_none, keeps, skips, keeps_noop, keeps_bared}
 
 -- each statement that is kept was there, or does nothing
 kept_reduced : (r : Engine) {b : Bool} {ss rest : Stmts} → b ≡ false → Keeps b ss rest → AreReduced r ss → AreReduced r rest

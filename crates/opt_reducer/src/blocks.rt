@@ -9,14 +9,14 @@ ghost use Rattle.theory_meaning.specs.Queries as queries;
 ghost use Rattle.theory_meaning.specs.Tree.{Block, no_stmts, stmt};
 ghost use Rattle.opt_reducer.specs.Blocks as spec;
 ghost use Rattle.opt_reducer.specs.Blocks.{Flattens, FlatList};
-ghost use Rattle.rhai_sweep.specs.Marks.{mark_of};
+ghost use Rattle.opt_lists.specs.Marks.{mark_of};
 ghost use Rattle.theory_rewriting.specs.Context as rewriting;
 
+use ast_nodes::{StmtDrain, push_stmt};
+use opt_lists::ListMark;
 use opt_rules::OptimizerState;
 use rhai_ast::{Stmt, StmtBlock, StmtQueries};
 use rhai_base::{OutOfMemory, Seq};
-use rhai_nodes::{StmtDrain, push_stmt};
-use rhai_sweep::ListMark;
 
 fn is_any_dependent(statements: &[Stmt]) -> bool
     ensures { result ≡ queries.is_any_dependent (stmts_of statements.now) }

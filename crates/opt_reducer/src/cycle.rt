@@ -7,11 +7,11 @@ ghost use Rattle.opt_known.specs.State.{progress};
 ghost use Rattle.ast_types.specs.Reading.{arms_of, breaks, callee_of, cases_of, counter_of, expr_of, expressions_of, exprs_of, maybe_of, pairs_of, stmt_of, stmts_of, subject_of, table_of};
 ghost use Rattle.theory_meaning.specs.Shape.{catch_name};
 ghost use Rattle.theory_meaning.specs.Tree.{If};
-ghost use Rattle.rhai_sweep.specs.Marks.{mark_of};
+ghost use Rattle.opt_lists.specs.Marks.{mark_of};
 ghost use Rattle.opt_reducer.specs.Going.{ItemGoes, going};
 ghost use Rattle.opt_reducer.specs.Parts.{StmtOnce, record_of};
-ghost use Rattle.rhai_steps.specs.Places.{place_of};
-ghost use Rattle.rhai_walk.specs.Nodes.{is_dot};
+ghost use Rattle.opt_steps.specs.Places.{place_of};
+ghost use Rattle.rhai_ast.specs.Nodes.{is_dot};
 ghost use Rattle.theory_rewriting.specs.Context.{Inside};
 ghost use Rattle.theory_rewriting.specs.Steps.{Anywhere, ExprRun, ExprsRun, PairsRun, MaybeRun, SidesRun, LinkRun, StepsRun, ArgumentRun, TargetRun, LoopRun, ArmRun, ArmsRun, SubjectRun, HasReducedSubject, ForRun, AssignRun, TryRun, is_chain_node, ExprPartsRun, StmtRun, StmtPartsRun, EachRun, ListRun, StmtsRun};
 
@@ -21,6 +21,7 @@ use crate::lists::{is_wanted_at, note, sweep_before, sweep_list};
 use crate::names::{declare, keeps_names, push_catch_name, push_loop_names};
 use base_engine::EngineInfo;
 use bitflags::Flags;
+use opt_lists::ListMark;
 use opt_rules::{OptimizerState, Place, reduce_expr, reduce_stmt};
 use opt_switch::decide_switch;
 use rhai_ast::{
@@ -28,7 +29,6 @@ use rhai_ast::{
     SwitchCasesCollection,
 };
 use rhai_base::{ASTFlags, Boxed, Dynamic, Ident, OpAssignment, OutOfMemory, Seq, StringMap};
-use rhai_sweep::ListMark;
 use std::alloc::Global;
 use std::num::NonZeroUsize;
 

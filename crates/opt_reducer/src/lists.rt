@@ -8,12 +8,12 @@ ghost use Rattle.theory_meaning.specs.Engine.{Engine};
 ghost use Rattle.ast_types.specs.Reading.{stmts_of};
 ghost use Rattle.theory_rewriting.specs.Context as rewriting;
 ghost use Rattle.theory_rewriting.specs.Steps.{ListPassed, SweepRun};
-ghost use Rattle.rhai_sweep.specs.Marks.{mark_of};
+ghost use Rattle.opt_lists.specs.Marks.{mark_of};
 
+use opt_lists::{ListMark, sweep};
 use opt_rules::OptimizerState;
 use rhai_ast::Stmt;
 use rhai_base::Seq;
-use rhai_sweep::{ListMark, sweep};
 use std::alloc::Global;
 
 /// Whether the value of the statement at a place is wanted.

@@ -9,10 +9,10 @@ ghost use Rattle.opt_reducer.specs.Parts.{record_of};
 ghost use Rattle.opt_reducer.specs.Pass.{PassRun};
 
 use crate::cycle::Optimizer;
+use opt_lists::ListMark;
 use opt_rules::OptimizerState;
 use rhai_ast::Stmt;
 use rhai_base::{OutOfMemory, Seq};
-use rhai_sweep::ListMark;
 
 impl<'a> Optimizer<'a> {
     /// Goes over the statements of a script or of a body once, with the names that are known. Whether that changed them.

@@ -9,10 +9,10 @@ use Rattle.ast_types.proofs.Cases.{ExprCase, array_case, variable_case, braces_c
 use Rattle.theory_rewriting.specs.Known.{Known}
 use Rattle.theory_rewriting.specs.Residue.{IsReducedNode}
 use Rattle.theory_rewriting.specs.Steps.{Place, Anywhere, AsBase, AsGuard, Progress}
-use Rattle.rhai_steps.specs.NodeSteps.{ExprStep}
-use Rattle.rhai_steps.specs.Standing.{may_stand}
-use Rattle.rhai_steps.proofs.NodeKinds.{NoArray, NoBraces, NoCall, NoVariable, NoAnd, NoOr, NoCoalesce, NoDot, NoIndex, NoIf, NoExpression, NoCallStatement, NoSwitch, NoWhile}
-use Rattle.rhai_steps.proofs.Stepping.{expr_stays}
+use Rattle.opt_steps.specs.NodeSteps.{ExprStep}
+use Rattle.opt_steps.specs.Standing.{may_stand}
+use Rattle.opt_steps.proofs.NodeKinds.{NoArray, NoBraces, NoCall, NoVariable, NoAnd, NoOr, NoCoalesce, NoDot, NoIndex, NoIf, NoExpression, NoCallStatement, NoSwitch, NoWhile}
+use Rattle.opt_steps.proofs.Stepping.{expr_stays}
 use Rattle.opt_rules.specs.Settled.{is_braces, known_value, is_settled_in_braces}
 
 pub no_known_value : (ks : List Known) {x : declared_expr.Expr} {e : Expr} → ExprCase x e → NoVariable x → None ≡ known_value ks e

@@ -16,11 +16,11 @@ use Rattle.theory_rewriting.specs.Rules as rule
 use Rattle.theory_rewriting.specs.Rules.{ExprRule}
 use Rattle.theory_rewriting.specs.Steps.{Progress, Place, Anywhere, AsBase, AsGuard}
 use Rattle.theory_rewriting.proofs.Keeping.{keeps_constant, may_be_constant}
-use Rattle.rhai_steps.specs.Folded.{FoldsConstant}
-use Rattle.rhai_steps.specs.NodeSteps.{Puts, ExprStep}
-use Rattle.rhai_steps.specs.Standing.{is_root, may_stand}
-use Rattle.rhai_steps.proofs.Places.{not-false, not-true}
-use Rattle.rhai_steps.proofs.Stepping.{expr_stays}
+use Rattle.opt_steps.specs.Folded.{FoldsConstant}
+use Rattle.opt_steps.specs.NodeSteps.{Puts, ExprStep}
+use Rattle.opt_steps.specs.Standing.{is_root, may_stand}
+use Rattle.opt_steps.proofs.Places.{not-false, not-true}
+use Rattle.opt_steps.proofs.Stepping.{expr_stays}
 use Rattle.opt_rules.specs.Settled.{known_value, is_array, is_braces, value_of_array, is_settled_braces, is_settled}
 
 -- ---- arrays

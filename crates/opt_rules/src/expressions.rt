@@ -8,17 +8,17 @@ ghost use Rattle.ast_types.specs.Reading.{callee_of, expr_of, exprs_of, stmt_of,
 ghost use Rattle.theory_meaning.specs.Engine.{Engine};
 ghost use Rattle.theory_meaning.specs.Queries.{is_eval};
 ghost use Rattle.theory_meaning.specs.Tree.{BlockExpr, ExprStmt, FnCallStmt, UnitConstant, no_stmts, stmt};
-ghost use Rattle.rhai_steps.specs.NodeSteps.{ExprStep};
-ghost use Rattle.rhai_steps.specs.Places.{place_of};
-ghost use Rattle.rhai_steps.specs.Standing as standing;
+ghost use Rattle.opt_steps.specs.NodeSteps.{ExprStep};
+ghost use Rattle.opt_steps.specs.Places.{place_of};
+ghost use Rattle.opt_steps.specs.Standing as standing;
 ghost use Rattle.opt_rules.specs.Settled as settled;
 ghost use Rattle.theory_rewriting.specs.Steps as steps;
 ghost use Rattle.theory_rewriting.specs.Steps.{ExprRewrite};
 
+use ast_nodes::{only_statement, put_expr};
+use opt_steps::{OptimizerState, Place, fold_constant, may_be_unit, may_stand, note_fired};
 use rhai_ast::{Expr, FnCallExpr, Stmt, StmtBlock, StmtQueries, Take};
 use rhai_base::{Boxed, OutOfMemory, Position, Span};
-use rhai_nodes::{only_statement, put_expr};
-use rhai_steps::{OptimizerState, Place, fold_constant, may_be_unit, may_stand, note_fired};
 use std::alloc::Global;
 
 /// An array of constants is its value. It says whether it was one.

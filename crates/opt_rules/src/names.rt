@@ -9,13 +9,13 @@ ghost use Rattle.opt_known.specs.State.{progress};
 ghost use Rattle.ast_types.specs.Reading.{expr_of};
 ghost use Rattle.theory_meaning.specs.Engine.{Engine};
 ghost use Rattle.theory_rewriting.specs.Steps as promises;
-ghost use Rattle.rhai_steps.specs.NodeSteps.{ExprStep};
-ghost use Rattle.rhai_steps.specs.Places.{place_of};
+ghost use Rattle.opt_steps.specs.NodeSteps.{ExprStep};
+ghost use Rattle.opt_steps.specs.Places.{place_of};
 ghost use Rattle.opt_rules.specs.Settled as settled;
 
+use opt_steps::{OptimizerState, Place, put_constant};
 use rhai_ast::Expr;
 use rhai_base::{Dynamic, OutOfMemory};
-use rhai_steps::{OptimizerState, Place, put_constant};
 use std::alloc::Global;
 
 fn copied(value: Option<&Dynamic>) -> Result<Option<Dynamic>, OutOfMemory>

@@ -7,25 +7,23 @@ ghost use Rattle.std.specs.Prelude.{◌≡◌, OnOk, IfOk};
 ghost use Rattle.opt_known.specs.State.{progress};
 ghost use Rattle.ast_types.specs.Reading.{expr_of, stmt_of};
 ghost use Rattle.base_engine.specs.EngineInfo.{engine_of};
-ghost use Rattle.rhai_passes.specs.Passes.{PassStep};
-ghost use Rattle.rhai_steps.specs.NodeSteps.{StmtStep};
-ghost use Rattle.rhai_steps.specs.Places.{place_of};
+ghost use Rattle.opt_steps.specs.Passes.{PassStep};
+ghost use Rattle.opt_steps.specs.NodeSteps.{StmtStep};
+ghost use Rattle.opt_steps.specs.Places.{place_of};
 ghost use Rattle.theory_rewriting.specs.Steps.{ExprReduced, StmtReduced};
 
 use crate::expressions::{array_of_constants, step_braces};
 use crate::names::step_name;
 use base_engine::EngineInfo;
+use opt_chains::step_chain;
+use opt_exprs::{step_call, step_call_statement, step_map, step_operands, step_text};
+use opt_steps::{NodeStep, OptimizerState, Place};
+use opt_stmts::{
+    step_assignment, step_block, step_expression, step_if, step_share, step_try, step_while,
+};
 use opt_switch::step_switch;
 use rhai_ast::{Expr, Stmt};
 use rhai_base::OutOfMemory;
-use rhai_chain_rules::step_chain;
-use rhai_operands::step_operands;
-use rhai_statement_rules::{
-    step_assignment, step_block, step_expression, step_if, step_share, step_try, step_while,
-};
-use rhai_steps::{NodeStep, OptimizerState, Place};
-use rhai_texts::{step_map, step_text};
-use rhai_words::{step_call, step_call_statement};
 use std::alloc::Global;
 
 /// Rewrites an expression by the rule that fires at it, if one does, and says whether one did. A node at which none

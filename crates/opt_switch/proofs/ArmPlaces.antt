@@ -4,7 +4,7 @@ use Rattle.ast_types.specs.declared.expr.BinaryExpr.{BinaryExpr}
 use Rattle.ast_types.specs.declared.stmt.Stmt as declared_stmt
 use Rattle.theory_meaning.specs.Tree.{Expr, no_arms, arm, count_arms, Stmt}
 use Rattle.ast_types.proofs.Cases.{StmtCase, switch_case}
-use Rattle.rhai_steps.proofs.NodeKinds.{NoSwitch}
+use Rattle.opt_steps.proofs.NodeKinds.{NoSwitch}
 use Rattle.opt_switch.specs.Deciding.{arms_in, default_in, choice_at}
 use Rattle.opt_switch.specs.declared.choice.Choice.TheVariants.{Several}
 use Rattle.opt_switch.specs.Forgetting.{answer_left, forgets, loses_answer, loses_answers}

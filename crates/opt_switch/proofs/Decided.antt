@@ -5,7 +5,7 @@ use Rattle.rhai_base.specs.Value.{Value, is_hashable}
 use Rattle.theory_meaning.specs.Constants.{constant_value}
 use Rattle.theory_meaning.specs.Control.{chosen}
 use Rattle.theory_meaning.specs.Tree.{SwitchTable, Expr, Arms, Stmt, If, Switch, ExprStmt, no_stmts, stmt}
-use Rattle.rhai_nodes.specs.Blocks.{answered}
+use Rattle.ast_nodes.specs.Blocks.{answered}
 use Rattle.theory_rewriting.specs.Context.{Context}
 use Rattle.theory_rewriting.specs.Rules.{StmtRule, switch_answers, switch_is_if, switch_defaults}
 use Rattle.theory_rewriting.specs.Tables.{arm_of, arm_decides, left_with, left_arms, answer_of_arm, default_answer, default_stmt, default_branch}

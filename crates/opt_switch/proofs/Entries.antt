@@ -14,7 +14,7 @@ use Rattle.rhai_base.specs.declared.cases.CaseBlocksList.{CaseBlocksList}
 use Rattle.rhai_base.specs.declared.range_case.RangeCase.{RangeCase}
 use Rattle.theory_meaning.specs.Control.{case_for}
 use Rattle.theory_meaning.specs.Tree.{Arms}
-use Rattle.rhai_nodes.proofs.Listed.{listed_is}
+use Rattle.ast_nodes.proofs.Listed.{listed_is}
 use Rattle.ast_types.specs.Reading.{case_of, range_of}
 use Rattle.theory_meaning.specs.Walk.{arms_of_ranges}
 use Rattle.theory_rewriting.specs.Answering.{is_that}

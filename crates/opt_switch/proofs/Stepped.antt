@@ -24,8 +24,8 @@ use Rattle.theory_rewriting.specs.Rewriting.{StmtTo}
 use Rattle.theory_rewriting.specs.Rules.{StmtRule}
 use Rattle.theory_rewriting.specs.Steps.{Progress, here, StmtFired, KeepsStmtParts}
 use Rattle.theory_rewriting.proofs.Firing.{stmt_fired_by}
-use Rattle.rhai_steps.specs.declared.step.NodeStep.TheVariants as step
-use Rattle.rhai_steps.specs.NodeSteps.{StmtStep}
+use Rattle.opt_steps.specs.declared.step.NodeStep.TheVariants as step
+use Rattle.opt_steps.specs.NodeSteps.{StmtStep}
 use Rattle.opt_switch.specs.declared.choice.Choice.TheVariants.{Several}
 use Rattle.opt_switch.specs.Deciding.{choice_at}
 use Rattle.opt_switch.specs.Forgetting.{marked, forgets, loses_answers}

@@ -5,7 +5,7 @@ use Rattle.theory_meaning.specs.Constants.{constant_value}
 use Rattle.theory_meaning.specs.Control.{chosen}
 use Rattle.theory_meaning.specs.Engine.{Engine}
 use Rattle.theory_meaning.specs.Tree.{SwitchTable, Expr, Arms, no_arms, Stmt, If, Switch}
-use Rattle.rhai_nodes.specs.Blocks.{answered}
+use Rattle.ast_nodes.specs.Blocks.{answered}
 use Rattle.theory_rewriting.specs.Steps.{Progress, StmtFired}
 use Rattle.theory_rewriting.specs.Tables.{left_arms}
 use Rattle.opt_switch.specs.declared.choice.Choice.{Choice}

@@ -10,9 +10,9 @@ ghost use Rattle.theory_rewriting.specs.Tables.{left_arms};
 ghost use Rattle.opt_switch.specs.Choices as choices;
 
 use crate::arms::decided;
+use ast_nodes::case_list;
 use rhai_ast::{BinaryExpr, SwitchCasesCollection};
 use rhai_base::{Dynamic, RangeCase};
-use rhai_nodes::case_list;
 
 /// What is left to be tried.
 #[derive(Clone, Copy)]

@@ -17,10 +17,10 @@ ghost use Rattle.opt_switch.specs.declared.choice.Choice.TheVariants as kind;
 
 use crate::arms::{take_answer, take_arm, take_default};
 use crate::choice::{Choice, choice_for};
+use ast_nodes::{block_statement, expression_statement, if_answers, put_stmt};
+use opt_steps::{OptimizerState, note_fired};
 use rhai_ast::{Expr, Literals, Stmt, StmtBlock, StmtQueries, SwitchBlock, SwitchCasesCollection};
 use rhai_base::{Dynamic, OutOfMemory, Position};
-use rhai_nodes::{block_statement, expression_statement, if_answers, put_stmt};
-use rhai_steps::{OptimizerState, note_fired};
 use std::alloc::Global;
 
 fn is_default(default: Option<usize>, place: usize) -> bool

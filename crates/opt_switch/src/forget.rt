@@ -7,9 +7,9 @@ ghost use Rattle.theory_meaning.specs.Walk.{arms_of_cases, arms_of_ranges, arm_o
 ghost use Rattle.ast_types.specs.Reading.{arms_of, case_of, expr_of, expressions_of, range_of, table_of};
 ghost use Rattle.opt_switch.specs.Forgetting as forgetting;
 
+use ast_nodes::put_expr;
 use rhai_ast::{BinaryExpr, Expr, ExprQueries, SwitchCasesCollection};
 use rhai_base::{Cases, OutOfMemory, RangeCase, Seq};
-use rhai_nodes::put_expr;
 use std::alloc::Global;
 
 /// A mark for each of so many arms, none of which is set.

@@ -15,10 +15,10 @@ ghost use Rattle.opt_switch.specs.Shrinking as shrinking;
 
 use crate::arms::{decided, is_false};
 use crate::shrink::{has_ranges, keep_left, loses_arms};
+use ast_nodes::case_list;
 use indexmap::IndexMap;
 use rhai_ast::{BinaryExpr, CaseBlocksList, SwitchCasesCollection};
 use rhai_base::{Cases, Dynamic, RangeCase, Seq};
-use rhai_nodes::case_list;
 use std::alloc::Global;
 use std::mem::replace;
 

@@ -6,14 +6,14 @@ ghost use Rattle.std.specs.Prelude.{◌≡◌, Bool, IfOk, true};
 ghost use Rattle.opt_known.specs.State.{progress};
 ghost use Rattle.theory_meaning.specs.Engine.{Engine};
 ghost use Rattle.ast_types.specs.Reading.{stmt_of};
-ghost use Rattle.rhai_steps.specs.NodeSteps.{StmtStep};
+ghost use Rattle.opt_steps.specs.NodeSteps.{StmtStep};
 ghost use Rattle.opt_switch.specs.Steps as steps;
 
 use crate::decide::decide_switch;
 use crate::tables::step_table;
+use opt_steps::{NodeStep, OptimizerState};
 use rhai_ast::Stmt;
 use rhai_base::OutOfMemory;
-use rhai_steps::{NodeStep, OptimizerState};
 use std::alloc::Global;
 
 /// Rewrites a `switch` by the rules that fire at it, if some do. What its subject decides has parts that are to be

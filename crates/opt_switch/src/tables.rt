@@ -15,11 +15,11 @@ ghost use Rattle.opt_switch.specs.Steps as steps;
 use crate::forget::{forget_answers, listed_arms};
 use crate::narrow::{narrows, only_cases, only_ranges};
 use crate::shrink::{has_ranges, shrink_cases, shrink_ranges, shrinks};
+use ast_nodes::case_list;
 use indexmap::IndexMap;
+use opt_steps::{OptimizerState, note_fired};
 use rhai_ast::{Literals, Stmt, SwitchBlock, SwitchCasesCollection};
 use rhai_base::{Cases, Dynamic, OutOfMemory, Seq};
-use rhai_nodes::case_list;
-use rhai_steps::{OptimizerState, note_fired};
 use std::alloc::Global;
 
 fn shrink_table(alloc: Global, table: &mut SwitchCasesCollection)

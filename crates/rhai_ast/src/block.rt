@@ -3,11 +3,11 @@
 #![tactic(auto)]
 
 ghost use Rattle.std.specs.Prelude.{◌≡◌, IfOk};
-ghost use Rattle.rhai_nodes.specs.Blocks.{block_made_of};
+ghost use Rattle.ast_nodes.specs.Blocks.{block_made_of};
 
+use ast_nodes::block_from;
 use ast_types::{Stmt, StmtBlock};
 use rhai_base::OutOfMemory;
-use rhai_nodes::block_from;
 use std::alloc::Global;
 
 /// Blocks made of statements.

@@ -1,17 +1,17 @@
 //! The tests of a tree.
 
-#![tactic(auto, using(rhai_faults::proofs::FoundLists::found))]
+#![tactic(auto, using(crate::proofs::FoundLists::found))]
 
 ghost use Rattle.std.specs.Prelude.{◌≡◌};
-ghost use Rattle.rhai_faults.specs.Refusals.{Finds};
-ghost use Rattle.rhai_faults.specs.Scripts.{script_by};
-ghost use Rattle.rhai_faults.specs.Standing.{Stands, StandsInScript, defs_of, fault_in};
+ghost use Rattle.rhai_ast.specs.Refusals.{Finds};
+ghost use Rattle.rhai_ast.specs.Scripts.{script_by};
+ghost use Rattle.rhai_ast.specs.StandingFaults.{Stands, StandsInScript, defs_of, fault_in};
 ghost use Rattle.theory_meaning.specs.Faults as faults;
 ghost use Rattle.theory_meaning.specs.Laws.{WellFormedLaw};
 ghost use Rattle.theory_meaning.specs.Plain as plain;
 
+use crate::faults::{TreeError, are_plain, are_plain_functions, check_functions, check_stmts};
 use ast_types::{ScriptFuncDef, Stmt};
-use rhai_faults::{TreeError, are_plain, are_plain_functions, check_functions, check_stmts};
 use std::alloc::Global;
 use std::rc::Rc;
 

@@ -5,11 +5,15 @@
 
 mod block;
 mod check;
+mod exprs;
+mod faults;
 mod node;
 mod place;
+mod stmts;
 mod switch;
 mod take;
 mod walk;
+mod walker;
 
 pub use ast_types::{
     BinaryExpr, Expr, FlowControl, FnAccess, FnCallExpr, FnNamespace, ScriptFuncDef, Stmt,
@@ -17,13 +21,18 @@ pub use ast_types::{
 };
 pub use block::FromStmt;
 pub use check::{check_tree, is_plain};
+pub use exprs::{CallQueries, ExprQueries, IntoExpr, Literals};
+pub use faults::{
+    TreeError, check_functions, check_stmts, is_barred_call, is_formed, is_rest, test_keys,
+};
 pub use node::NodeQueries;
 pub use place::SetPosition;
 pub use rhai_base::{CaseBlocksList, Cases, TreeFault};
-pub use rhai_exprs::{CallQueries, ExprQueries, IntoExpr, Literals};
-pub use rhai_faults::TreeError;
-pub use rhai_stmts::StmtQueries;
-pub use rhai_walk::{ASTNode, ChainType, walk_statements};
+pub use stmts::StmtQueries;
 pub use switch::SwitchCases;
 pub use take::Take;
 pub use walk::Walk;
+pub use walker::{
+    ASTNode, ChainType, Children, NodeTest, every_below, every_body, every_statement,
+    walk_statements,
+};

@@ -3,11 +3,11 @@
 #![tactic(auto)]
 
 ghost use Rattle.std.specs.Prelude.{◌≡◌};
-ghost use Rattle.rhai_ast.specs.Nodes.{is_expr_node, is_stmt_node, place_of};
+ghost use Rattle.rhai_ast.specs.AskedNodes.{is_expr_node, is_stmt_node, place_of};
 
+use crate::walker::ASTNode;
+use ast_nodes::{position, stmt_position};
 use rhai_base::Position;
-use rhai_queries::{position, stmt_position};
-use rhai_walk::ASTNode;
 
 /// What may be asked of a node that is lent.
 pub trait NodeQueries {

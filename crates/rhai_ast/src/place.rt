@@ -1,15 +1,15 @@
 //! Where nodes stand, set anew.
 
-#![tactic(auto, using(rhai_nodes::proofs::Placing::placing))]
+#![tactic(auto, using(ast_nodes::proofs::Placing::placing))]
 
 ghost use Rattle.std.specs.Prelude.{◌≡◌};
-ghost use Rattle.rhai_nodes.specs.Placed.{placed, stmt_placed};
+ghost use Rattle.ast_nodes.specs.Placed.{placed, stmt_placed};
 ghost use Rattle.ast_types.specs.Positions.{position_of};
 ghost use Rattle.ast_types.specs.Reading.{expr_of, stmt_of};
 
+use ast_nodes::{place_expr, place_stmt};
 use ast_types::{Expr, Stmt};
 use rhai_base::Position;
-use rhai_nodes::{place_expr, place_stmt};
 
 /// Setting where a node stands.
 pub trait SetPosition {

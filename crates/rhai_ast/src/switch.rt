@@ -1,14 +1,14 @@
 //! The table of a `switch`.
 
-#![tactic(auto, using(rhai_queries::proofs::SwitchTables::refusal_law))]
+#![tactic(auto, using(ast_nodes::proofs::SwitchTables::refusal_law))]
 
-ghost use Rattle.rhai_nodes.specs.Tables.{IsTableOf};
-ghost use Rattle.rhai_queries.specs.SwitchTables.{RefusalLaw};
+ghost use Rattle.ast_nodes.specs.Tables.{IsTableOf};
+ghost use Rattle.ast_nodes.specs.SwitchTables.{RefusalLaw};
 
+use ast_nodes::switch_table;
 use ast_types::{BinaryExpr, SwitchCasesCollection};
 use indexmap::IndexMap;
 use rhai_base::{AstError, CaseBlocksList, Dynamic, RangeCase};
-use rhai_nodes::switch_table;
 
 /// How the table of a `switch` is made.
 pub trait SwitchCases: Sized {

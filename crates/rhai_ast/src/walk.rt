@@ -1,12 +1,12 @@
 //! Walks over trees.
 
 ghost use Rattle.std.specs.Prelude.{List, [], ◌∷◌};
-ghost use Rattle.rhai_walk.specs.Standing.{Standing, expr_standing, stmt_standing};
-ghost use Rattle.rhai_walk.specs.Walking.{WalksOver};
+ghost use Rattle.rhai_ast.specs.Standing.{Standing, expr_standing, stmt_standing};
+ghost use Rattle.rhai_ast.specs.Walking.{WalksOver};
 
+use crate::walker::{ASTNode, walk_expr, walk_stmt};
 use ast_types::{Expr, Stmt};
 use rhai_base::OutOfMemory;
-use rhai_walk::{ASTNode, walk_expr, walk_stmt};
 
 /// A tree over which one may walk.
 pub trait Walk {

@@ -18,8 +18,8 @@ use Rattle.theory_rewriting.specs.Steps.{Progress, IsReducedBody}
 use Rattle.theory_rewriting.proofs.Flags.{stmts_kept}
 use Rattle.theory_rewriting.proofs.Running.{drop_front}
 use Rattle.ast_types.specs.declared.script_fn.ScriptFuncDef.{ScriptFuncDef}
-use Rattle.rhai_functions.specs.FnKey.{definition_key, definitions_table}
-use Rattle.rhai_functions.specs.Table.{put_by, put_all_by}
+use Rattle.script_tables.specs.FnKey.{definition_key, definitions_table}
+use Rattle.script_tables.specs.Table.{put_by, put_all_by}
 use Rattle.rhai_optimizer.specs.Functions.{Header, header_of, FunctionRun, FunctionsRun, no_functions, one_more, BodyRun}
 use Rattle.rhai_optimizer.specs.Optimised.{AreReducedBodies}
 use Rattle.opt_reducer.specs.Pass.{PassRun}

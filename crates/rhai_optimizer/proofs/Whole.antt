@@ -24,9 +24,9 @@ use Rattle.theory_rewriting.proofs.soundness.Kept.{script_keeps, well_formed_sta
 use Rattle.theory_rewriting.proofs.soundness.Start.{agrees_inside}
 use Rattle.theory_rewriting.proofs.soundness.Whole.{functions_same, optimised_refines, script_refines}
 use Rattle.opt_queries.specs.Walks.{capture_walk, listing}
-use Rattle.rhai_functions.specs.FnKey.{definitions_table}
-use Rattle.rhai_functions.specs.Table.{key_of, put_by, put_all_by, table_of}
-use Rattle.rhai_functions.proofs.Tables.{map-put_all}
+use Rattle.script_tables.specs.FnKey.{definitions_table}
+use Rattle.script_tables.specs.Table.{key_of, put_by, put_all_by, table_of}
+use Rattle.script_tables.proofs.Tables.{map-put_all}
 use Rattle.opt_known.specs.declared.level.OptimizationLevel.{OptimizationLevel}
 use Rattle.opt_known.specs.declared.level.OptimizationLevel.TheVariants as level
 use Rattle.rhai_script.specs.Contents.{Contents, meant}

@@ -18,7 +18,7 @@ use Rattle.theory_rewriting.specs.Scripts.{known_at_top, known_inside}
 use Rattle.theory_rewriting.specs.Steps.{IsReducedBody}
 use Rattle.ast_types.specs.Reading.{stmts_of}
 use Rattle.opt_queries.specs.Walks.{listing}
-use Rattle.rhai_functions.specs.FnKey.{definitions_table}
+use Rattle.script_tables.specs.FnKey.{definitions_table}
 use Rattle.opt_known.specs.declared.level.OptimizationLevel.{OptimizationLevel}
 use Rattle.opt_known.specs.declared.level.OptimizationLevel.TheVariants as level
 use Rattle.rhai_script.specs.Contents.{Contents, meant}

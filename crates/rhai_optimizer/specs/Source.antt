@@ -7,7 +7,7 @@ use Rattle.ast_types.specs.declared.script_fn.ScriptFuncDef.{ScriptFuncDef}
 use Rattle.ast_types.specs.declared.stmt.Stmt.{Stmt}
 use Rattle.ast_types.specs.Reading.{stmts_of, function_of}
 use Rattle.theory_meaning.specs.Tree.{Script}
-use Rattle.rhai_functions.specs.Table.{table_of}
+use Rattle.script_tables.specs.Table.{table_of}
 
 -- its statements, and the table of its functions
 abbrev pub source_of : List Stmt → List (Rc ScriptFuncDef Global) → Script

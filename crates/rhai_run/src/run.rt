@@ -12,10 +12,10 @@ ghost use Rattle.run_state.specs.Entries.{entry_meant};
 
 use crate::{EngineInfo, Export, Host, RunReport, Variable};
 use rhai_base::{OutOfMemory, Scope, Seq};
-use rhai_machine::Machine;
 use rhai_script::AST;
 use run_evaluator::Evaluator;
 use run_state::{Entry, EntryKind, State, run_end};
+use run_steps::Machine;
 use std::alloc::Global;
 
 /// Runs a script's statements from a scope, with so many turns. It only borrows the script, and uses no rule and no

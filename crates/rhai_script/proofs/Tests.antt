@@ -5,7 +5,7 @@ use Rattle.ast_types.specs.declared.script_fn.ScriptFuncDef.{ScriptFuncDef}
 use Rattle.theory_meaning.specs.Faults.{ReservedName, TreeFault, finding, functions_fault, is_reserved, unless, ◌then◌}
 use Rattle.theory_meaning.specs.Walk.{outermost, over_stmts}
 use Rattle.ast_types.specs.Reading.{function_of, stmts_of}
-use Rattle.rhai_faults.specs.Standing.{StandsInFunctions, by_name, in_body, in_others}
+use Rattle.rhai_ast.specs.StandingFaults.{StandsInFunctions, by_name, in_body, in_others}
 
 -- a test that failed without functions fails with them
 pub fails_with : (a b r : Bool) → r ≡ (a && true) → r ≡ false → r ≡ (a && b)

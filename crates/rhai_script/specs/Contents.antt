@@ -7,11 +7,11 @@ use Rattle.theory_meaning.specs.Tree.{Script}
 use Rattle.ast_types.specs.Reading.{function_of, stmts_of}
 use Rattle.rhai_script.specs.declared.ast.AST.{AST}
 use Rattle.rhai_script.specs.declared.ast.AstParts.{AstParts}
-use Rattle.rhai_functions.specs.declared.fn_lib.FnLib.{FnLib}
-use Rattle.rhai_functions.specs.FnKey.{definition_key}
-use Rattle.rhai_functions.specs.Table.{put_all_by}
-use Rattle.rhai_functions.specs.Ids.{named, first_name}
-use Rattle.rhai_script_parts.specs.Text.{join_docs}
+use Rattle.script_tables.specs.declared.fn_lib.FnLib.{FnLib}
+use Rattle.script_tables.specs.FnKey.{definition_key}
+use Rattle.script_tables.specs.Table.{put_all_by}
+use Rattle.script_tables.specs.Ids.{named, first_name}
+use Rattle.script_tables.specs.Text.{join_docs}
 
 pub record Contents : Type 0 where
   pub source : Option Text

@@ -1,7 +1,7 @@
 -- The script that an `AST` stands for.
 use Rattle.theory_meaning.specs.Tree.{Script}
 use Rattle.ast_types.specs.Reading.{stmts_of}
-use Rattle.rhai_functions.specs.FnLib.{functions_of}
+use Rattle.script_tables.specs.FnLib.{functions_of}
 use Rattle.rhai_script.specs.declared.ast.AST.{AST}
 
 abbrev pub script_of : AST → Script

@@ -5,14 +5,13 @@ ghost use Rattle.std.specs.List.Retain.{IsFiltered};
 ghost use Rattle.ast_types.specs.Reading.{stmts_of};
 ghost use Rattle.ast_types.specs.declared.script_fn.ScriptFuncDef.{ScriptFuncDef as definition};
 ghost use Rattle.rhai_script.specs.Contents.{contents, parts_contents, with_source, without_source, with_doc, with_table, with_functions, without_statements, joined_over, merged, combined};
-ghost use Rattle.rhai_functions.specs.Filter.{Answers, AnswersShort};
+ghost use Rattle.script_tables.specs.Filter.{Answers, AnswersShort};
 
 use rhai_ast::{FnAccess, FnNamespace, Stmt, StmtBlock};
 use rhai_base::{ImmutableString, OutOfMemory, Position};
-use rhai_functions::{SharedLib, allocator_of, copy_of_id};
-use rhai_script_parts::{
-    Doc, append, joined, no_functions, only_chosen, own_copy, put_all, put_chosen, retained,
-    take_name,
+use script_tables::{
+    Doc, SharedLib, allocator_of, append, copy_of_id, joined, no_functions, only_chosen, own_copy,
+    put_all, put_chosen, retained, take_name,
 };
 use std::alloc::{AllocError, Global};
 
@@ -67,7 +66,7 @@ pub struct AstParts {
 }
 
 impl AST {
-    ghost use Rattle.rhai_functions.specs.FnLib.{functions_of};
+    ghost use Rattle.script_tables.specs.FnLib.{functions_of};
     ghost use Rattle.rhai_script.specs.Script.{script_of};
 
     /// A script of these statements and functions, without a source and a doc. It takes no memory.

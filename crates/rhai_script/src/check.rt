@@ -1,9 +1,9 @@
 //! Tests of a script.
 ghost use Rattle.std.specs.Prelude.{◌≡◌};
-ghost use Rattle.rhai_faults.specs.PlainWalk.{plain_walk};
-ghost use Rattle.rhai_faults.specs.Refusals.{Finds};
-ghost use Rattle.rhai_faults.specs.Standing.{Stands, StandsInFunctions, StandsInScript, fault_in};
-ghost use Rattle.rhai_functions.specs.FnLib.{functions_of};
+ghost use Rattle.rhai_ast.specs.PlainWalk.{plain_walk};
+ghost use Rattle.rhai_ast.specs.Refusals.{Finds};
+ghost use Rattle.rhai_ast.specs.StandingFaults.{Stands, StandsInFunctions, StandsInScript, fault_in};
+ghost use Rattle.script_tables.specs.FnLib.{functions_of};
 ghost use Rattle.theory_meaning.specs.Faults as faults;
 ghost use Rattle.theory_meaning.specs.Laws.{WellFormedLaw};
 ghost use Rattle.theory_meaning.specs.Plain as plain;
@@ -11,9 +11,8 @@ ghost use Rattle.theory_meaning.specs.Walk.{over_functions};
 ghost use Rattle.rhai_script.specs.Script.{script_of};
 
 use crate::ast::AST;
-use rhai_ast::{TreeError, is_plain};
-use rhai_faults::{check_functions, check_stmts};
-use rhai_functions::{FnLib, allocator_of};
+use rhai_ast::{TreeError, check_functions, check_stmts, is_plain};
+use script_tables::{FnLib, allocator_of};
 use std::alloc::Global;
 use std::slice;
 

@@ -5,5 +5,4 @@ mod ast;
 mod check;
 
 pub use ast::{AST, AstParts};
-pub use rhai_functions::{FnKey, FnLib, FnLibIter, SharedLib};
-pub use rhai_script_parts::Doc;
+pub use script_tables::{Doc, FnKey, FnLib, FnLibIter, SharedLib};

@@ -25,7 +25,7 @@ use Rattle.run_state.specs.declared.state.Interrupt.{Interrupt}
 use Rattle.run_state.specs.declared.state.Interrupt.TheVariants.{Stuck}
 use Rattle.run_host.specs.declared.report.Stuck.TheVariants as why
 use Rattle.run_state.specs.declared.state.State.{State}
-use Rattle.rhai_machine.specs.Chaining.{chain_core}
+use Rattle.run_steps.specs.Chaining.{chain_core}
 use Rattle.run_state.specs.Evaluating.{RunsBlock, RunsCall, RunsCore, RunsDeed, RunsExpr, RunsExprs, RunsLine, RunsStmt}
 use Rattle.run_state.specs.Runs.{Setting}
 use Rattle.run_evaluator.proofs.Nodes.{array_runs, block_line, call_line, for_line, if_line, method_ill, property_ill, string_runs}

@@ -6,9 +6,9 @@ use Rattle.rhai_base.specs.Value.{Text, Value}
 use Rattle.ast_types.specs.declared.script_fn.ScriptFuncDef.{ScriptFuncDef}
 use Rattle.ast_types.specs.Reading.{stmts_of}
 use Rattle.ast_types.specs.Reading as reading
-use Rattle.rhai_functions.specs.FnKey.{definition_key}
-use Rattle.rhai_functions.specs.Table.{find_by}
-use Rattle.rhai_functions.proofs.Keys.{same_key-true}
+use Rattle.script_tables.specs.FnKey.{definition_key}
+use Rattle.script_tables.specs.Table.{find_by}
+use Rattle.script_tables.proofs.Keys.{same_key-true}
 use Rattle.theory_meaning.specs.Act.{Key}
 use Rattle.theory_meaning.specs.Calls.{call_named, key, same_key}
 use Rattle.theory_meaning.specs.Core.{Function}

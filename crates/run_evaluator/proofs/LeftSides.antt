@@ -11,20 +11,20 @@ use Rattle.theory_meaning.specs.Meaning as meaning
 use Rattle.theory_meaning.specs.Places as places
 use Rattle.theory_meaning.specs.Shape.{is_chain}
 use Rattle.theory_meaning.specs.Tree as tree
-use Rattle.rhai_run_nodes.specs.declared.links.Rest.{Rest}
-use Rattle.rhai_machine.specs.declared.steps.placing.Current.{Current}
+use Rattle.run_steps.specs.declared.nodes.links.Rest.{Rest}
+use Rattle.run_steps.specs.declared.steps.placing.Current.{Current}
 use Rattle.run_state.specs.declared.state.Interrupt.{Interrupt}
 use Rattle.run_state.specs.declared.state.Interrupt.TheVariants.{Stuck}
 use Rattle.run_state.specs.declared.state.State.{State}
 use Rattle.run_host.specs.declared.report.Stuck.TheVariants as why
-use Rattle.rhai_machine.specs.Chaining.{StepsOn}
-use Rattle.rhai_run_nodes.specs.Links.{rest_steps}
-use Rattle.rhai_machine.specs.Placing.{current_in, read_base}
+use Rattle.run_steps.specs.Chaining.{StepsOn}
+use Rattle.run_steps.specs.Links.{rest_steps}
+use Rattle.run_steps.specs.Placing.{current_in, read_base}
 use Rattle.run_state.specs.Runs.{Setting, Acting, Leads, given}
 use Rattle.run_state.specs.State.{store_of}
-use Rattle.rhai_run_nodes.specs.LeftSides.{part_core}
+use Rattle.run_steps.specs.LeftSides.{part_core}
 use Rattle.run_state.proofs.Goes.{leads_then}
-use Rattle.rhai_walk.specs.Nodes.{is_dot}
+use Rattle.rhai_ast.specs.Nodes.{is_dot}
 
 module _ (here : Setting) (loop : Bool) (l : tree.Expr) (rest : Rest) (o : Option Operator) (v : Value) (s : State) where
   abbrev chained : Bool

@@ -7,8 +7,8 @@ use Rattle.rhai_base.specs.Value.{Text, Value, UnitV, type_name}
 use Rattle.ast_types.specs.declared.script_fn.ScriptFuncDef.{ScriptFuncDef}
 use Rattle.ast_types.specs.Reading.{stmts_of}
 use Rattle.ast_types.specs.Reading as reading
-use Rattle.rhai_functions.specs.FnKey.{definition_key}
-use Rattle.rhai_functions.specs.Table.{find_by}
+use Rattle.script_tables.specs.FnKey.{definition_key}
+use Rattle.script_tables.specs.Table.{find_by}
 use Rattle.theory_meaning.specs.Act as act
 use Rattle.theory_meaning.specs.Act.{Act, Ended, Gives, Leaves, Halted, At, Key, Store, World, call_then, run}
 use Rattle.theory_meaning.specs.ActForms.{ask_method, give, ◌>>=◌}
@@ -19,17 +19,17 @@ use Rattle.theory_meaning.specs.Places as places
 use Rattle.theory_meaning.specs.Places.{put_back, without_place}
 use Rattle.theory_meaning.specs.Run.{function_of, key_of}
 use Rattle.theory_meaning.specs.Weight.{weight}
-use Rattle.rhai_machine.specs.declared.steps.placing.Current.{Current}
-use Rattle.rhai_machine.specs.declared.steps.placing.Current.TheVariants as current
+use Rattle.run_steps.specs.declared.steps.placing.Current.{Current}
+use Rattle.run_steps.specs.declared.steps.placing.Current.TheVariants as current
 use Rattle.run_state.specs.declared.state.Interrupt.{Interrupt}
 use Rattle.run_state.specs.declared.state.State.{State}
-use Rattle.rhai_machine.specs.Chaining.{CallsMethod, StepsOn, by_key, method_in, or_else}
+use Rattle.run_steps.specs.Chaining.{CallsMethod, StepsOn, by_key, method_in, or_else}
 use Rattle.run_state.specs.Words.{calls_pointer, method_or, value_or}
 use Rattle.run_state.specs.Evaluating.{RunsInvoke, bodies_weight}
-use Rattle.rhai_machine.specs.Placing.{current_in}
+use Rattle.run_steps.specs.Placing.{current_in}
 use Rattle.run_state.specs.Runs.{Setting, env, Acting, Goes, Stops, Leads, given}
 use Rattle.run_state.specs.State.{store_of}
-use Rattle.rhai_machine.proofs.Chaining.{KeepsNames, Names, answer_keeps, kept_by, same_current}
+use Rattle.run_steps.proofs.Chaining.{KeepsNames, Names, answer_keeps, kept_by, same_current}
 use Rattle.run_state.proofs.Goes.{gives, goes_as, goes_then, leads_then, stops_then, value_goes, value_stops}
 use Rattle.run_evaluator.proofs.Known.{all_run, found_function, found_key, found_nothing, found_weight, run_of}
 use Rattle.run_evaluator.proofs.Words.{function_known, function_unknown}

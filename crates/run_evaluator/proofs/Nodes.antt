@@ -20,9 +20,9 @@ use Rattle.run_state.specs.declared.state.State.{State}
 use Rattle.run_host.specs.declared.report.Stuck.TheVariants as why
 use Rattle.run_state.specs.Evaluating.{call_core, IsConstant, RunsBlock, RunsCall, RunsCore, RunsDeed, RunsExpr, RunsExprs, RunsStmt}
 use Rattle.run_state.specs.Runs.{Setting, Acting, Runs, given}
-use Rattle.rhai_run_nodes.specs.Variables.{in_module, qualified_in}
-use Rattle.rhai_run_nodes.proofs.Callees.{count_exprs_of}
-use Rattle.rhai_run_nodes.proofs.Modules.{module_goes}
+use Rattle.run_steps.specs.Variables.{in_module, qualified_in}
+use Rattle.run_steps.proofs.Callees.{count_exprs_of}
+use Rattle.run_steps.proofs.NamedModules.{module_goes}
 use Rattle.run_state.specs.State.{store_of}
 use Rattle.run_state.proofs.Goes.{gives, goes_as, goes_then, leads_then}
 use Rattle.run_state.proofs.Statements.{deed_line}

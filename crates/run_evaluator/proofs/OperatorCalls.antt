@@ -21,8 +21,8 @@ use Rattle.run_state.specs.declared.state.State.{State}
 use Rattle.run_state.specs.Evaluating.{RunsCall, RunsCore, RunsExpr, RunsExprs}
 use Rattle.run_state.specs.Runs.{Setting, Acting, Runs, given}
 use Rattle.run_state.proofs.Goes.{goes_then, leads_then, stops_then, value_goes, value_stops}
-use Rattle.rhai_run_nodes.specs.Operators.{called_operator, operator_by}
-use Rattle.rhai_run_nodes.proofs.Callees.{operator_callee}
+use Rattle.run_steps.specs.Operators.{called_operator, operator_by}
+use Rattle.run_steps.proofs.Callees.{operator_callee}
 use Rattle.run_evaluator.proofs.Nodes.{call_as}
 
 -- an operator's call is callable

@@ -7,20 +7,19 @@ ghost use Rattle.rhai_base.specs.Reading.{value_of};
 ghost use Rattle.rhai_base.specs.Builtin.{operator_of};
 ghost use Rattle.ast_types.specs.Reading.{expr_of};
 ghost use Rattle.theory_meaning.specs.Desugar.{core_stmt};
-ghost use Rattle.rhai_machine.specs.Setting.{setting};
+ghost use Rattle.run_steps.specs.Setting.{setting};
 ghost use Rattle.run_state.specs.Evaluating.{Runs, RunsLine};
 ghost use Rattle.run_state.specs.Runs.{Acting};
-ghost use Rattle.rhai_run_nodes.specs.LeftSides.{side_core};
+ghost use Rattle.run_steps.specs.LeftSides.{side_core};
 ghost use Rattle.theory_meaning.specs.Meaning as meaning;
 ghost use Rattle.theory_meaning.specs.Tree as tree;
 
 use crate::evaluator::Evaluator;
 use rhai_ast::BinaryExpr;
 use rhai_base::{Dynamic, OpAssignment};
-use rhai_chain_receivers::left_side;
-use rhai_run_nodes::LeftSide;
 use run_host::{Host, Stuck};
 use run_state::{Interrupt, State};
+use run_steps::{LeftSide, left_side};
 
 impl<'a, H: Host> Evaluator<'a, H> {
     /// The right side first, then what stands at the left.

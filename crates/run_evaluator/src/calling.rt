@@ -6,9 +6,9 @@ ghost use Rattle.std.specs.Prelude.{◌≡◌, [], ◌∷◌, true, length, map,
 ghost use Rattle.rhai_base.specs.Reading.{value_of};
 ghost use Rattle.ast_types.specs.Reading.{callee_of, exprs_of};
 ghost use Rattle.rhai_base.specs.Builtin.{operator_of};
-ghost use Rattle.rhai_run_nodes.specs.Operators.{called_operator};
+ghost use Rattle.run_steps.specs.Operators.{called_operator};
 ghost use Rattle.theory_meaning.specs.Desugar.{callee_by, core_exprs};
-ghost use Rattle.rhai_machine.specs.Setting.{setting};
+ghost use Rattle.run_steps.specs.Setting.{setting};
 ghost use Rattle.run_state.specs.Evaluating.{Runs, RunsCall, RunsCore};
 ghost use Rattle.run_state.specs.Runs.{Acting};
 ghost use Rattle.theory_meaning.specs.Calls as calls;
@@ -18,9 +18,9 @@ ghost use Rattle.theory_meaning.specs.Shape as shape;
 use crate::evaluator::Evaluator;
 use rhai_ast::{Expr, FnCallExpr};
 use rhai_base::{Dynamic, ImmutableString, Seq, Token};
-use rhai_run_nodes::{is_callable, operator_called, qualified, two_operands};
 use run_host::{Host, Stuck};
 use run_state::{Interrupt, State, Word, pointed};
+use run_steps::{is_callable, operator_called, qualified, two_operands};
 
 impl<'a, H: Host> Evaluator<'a, H> {
     /// A call: its arguments first, then what its name stands for. One whose name or token no tree has is stuck before.

@@ -4,28 +4,29 @@
 
 ghost use Rattle.std.specs.Prelude.{false};
 ghost use Rattle.ast_types.specs.Reading.{chain_flags, expr_of};
-ghost use Rattle.rhai_machine.specs.Chaining.{access_meant, StepsOn};
-ghost use Rattle.rhai_run_nodes.specs.Links.{rest_steps, step_core};
-ghost use Rattle.rhai_machine.specs.Setting.{setting};
+ghost use Rattle.run_steps.specs.Chaining.{access_meant, StepsOn};
+ghost use Rattle.run_steps.specs.Links.{rest_steps, step_core};
+ghost use Rattle.run_steps.specs.Setting.{setting};
 ghost use Rattle.run_state.specs.Evaluating.{Runs, RunsCore};
-ghost use Rattle.rhai_machine.specs.Placing.{current_in};
+ghost use Rattle.run_steps.specs.Placing.{current_in};
 ghost use Rattle.run_state.specs.Runs.{Acting};
 ghost use Rattle.run_state.specs.State.{store_of};
 ghost use Rattle.theory_meaning.specs.Chains as chains;
 ghost use Rattle.theory_meaning.specs.Desugar as desugar;
 ghost use Rattle.theory_meaning.specs.Meaning as meaning;
-ghost use Rattle.rhai_machine.specs.Chaining as spec;
-ghost use Rattle.rhai_walk.specs.Nodes.{is_dot};
+ghost use Rattle.run_steps.specs.Chaining as spec;
+ghost use Rattle.rhai_ast.specs.Nodes.{is_dot};
 
 use crate::evaluator::Evaluator;
 use bitflags::Flags;
 use rhai_ast::{BinaryExpr, ChainType, Expr, FnCallExpr};
 use rhai_base::{ASTFlags, Dynamic};
-use rhai_chains::{direct_value, index_step, property_step};
-use rhai_machine::{Access, Current, PropertyNames};
-use rhai_run_nodes::{Rest, is_callable, is_chain, root_of};
 use run_host::{Host, Stuck};
 use run_state::{Interrupt, State};
+use run_steps::{
+    Access, Current, PropertyNames, Rest, direct_value, index_step, is_callable, is_chain,
+    property_step, root_of,
+};
 
 impl<'a, H: Host> Evaluator<'a, H> {
     /// A chain by its outermost node: its base, then its steps.

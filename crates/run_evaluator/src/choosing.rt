@@ -7,16 +7,15 @@ ghost use Rattle.ast_types.specs.Reading.{arms_of, cases_of, expr_of, expression
 ghost use Rattle.rhai_base.specs.Reading.{value_of};
 ghost use Rattle.theory_meaning.specs.Control.{chosen, default_of, ranges_with, switch_on};
 ghost use Rattle.theory_meaning.specs.Desugar.{core_stmt};
-ghost use Rattle.rhai_machine.specs.Setting.{setting};
+ghost use Rattle.run_steps.specs.Setting.{setting};
 ghost use Rattle.run_state.specs.Evaluating.{arms_here, Runs, RunsArm, RunsFirstArm, RunsLine};
 ghost use Rattle.run_state.specs.Runs.{Acting};
 ghost use Rattle.theory_meaning.specs.Tree as tree;
 
 use crate::evaluator::Evaluator;
+use ast_nodes::{case_list, is_table};
 use rhai_ast::{BinaryExpr, SwitchBlock, SwitchCasesCollection};
 use rhai_base::{Dynamic, RangeCase};
-use rhai_nodes::case_list;
-use rhai_queries::is_table;
 use run_host::{Host, Stuck};
 use run_state::{Interrupt, State, truth};
 

@@ -9,7 +9,7 @@ ghost use Rattle.theory_meaning.specs.Desugar.{core_expr, core_stmts};
 ghost use Rattle.theory_meaning.specs.Act.{IsVariable, Named};
 ghost use Rattle.theory_meaning.specs.Control.{counted, for_count, for_each};
 ghost use Rattle.theory_meaning.specs.Core.{For};
-ghost use Rattle.rhai_machine.specs.Setting.{setting};
+ghost use Rattle.run_steps.specs.Setting.{setting};
 ghost use Rattle.run_state.specs.Evaluating.{body_of, Runs, RunsDeed, RunsList, RunsRound};
 ghost use Rattle.run_state.specs.Exits.{count_of};
 ghost use Rattle.run_state.specs.Runs.{Acting};

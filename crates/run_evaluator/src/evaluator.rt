@@ -6,15 +6,14 @@ ghost use Rattle.std.specs.Prelude.{◌≡◌, ◌<◌, ◌≤◌, true, false, 
 ghost use Rattle.ast_types.specs.Reading.{expr_of, exprs_of, keys_of, maybe_of, pairs_of};
 ghost use Rattle.theory_meaning.specs.Desugar.{core_expr};
 ghost use Rattle.theory_meaning.specs.Tree.{MapOf};
-ghost use Rattle.rhai_machine.specs.Setting.{setting};
+ghost use Rattle.run_steps.specs.Setting.{setting};
 ghost use Rattle.run_state.specs.Evaluating.{RunsCore, RunsExpr, RunsExprs, RunsMaybe, RunsMembers};
 
 use rhai_ast::{ChainType, Expr};
 use rhai_base::{Boxed, Dynamic, Ident, Seq, StringMap};
-use rhai_machine::Machine;
-use rhai_run_nodes::{Root, insert, is_map};
 use run_host::{Host, Stuck};
 use run_state::{Interrupt, State, constant, joined_text};
+use run_steps::{Machine, Root, insert, is_map};
 
 /// What a run is in. Its functions do what the run meaning says of trees.
 #[derive(Drop)]

@@ -6,7 +6,7 @@ ghost use Rattle.std.specs.Option.{option_copied};
 ghost use Rattle.ast_types.specs.Reading.{breaks, expr_of, is_exported, maybe_of, stmts_of};
 ghost use Rattle.rhai_base.specs.Reading.{value_of};
 ghost use Rattle.theory_meaning.specs.Desugar.{core_stmt, core_stmts};
-ghost use Rattle.rhai_machine.specs.Setting.{setting};
+ghost use Rattle.run_steps.specs.Setting.{setting};
 ghost use Rattle.run_state.specs.Evaluating.{RunsCatch, RunsLine};
 ghost use Rattle.theory_meaning.specs.Tree as tree;
 
@@ -14,11 +14,11 @@ use crate::evaluator::Evaluator;
 use bitflags::Flags;
 use rhai_ast::{Expr, FlowControl, StmtBlock};
 use rhai_base::{ASTFlags, Boxed, Dynamic, ImmutableString};
-use rhai_run_nodes::catch_name;
 use run_host::{Host, Stuck};
 use run_state::{
     Interrupt, State, body_ended, branch_ended, declare_caught, function_exit, loop_exit,
 };
+use run_steps::catch_name;
 
 impl<'a, H: Host> Evaluator<'a, H> {
     /// `break` and `continue`, which are stuck before their value is run outside a loop of the function.

@@ -6,11 +6,11 @@ ghost use Rattle.std.specs.Prelude.{◌≡◌, ◌≤◌, Some, map};
 ghost use Rattle.std.specs.Option.{option_map};
 ghost use Rattle.rhai_base.specs.Reading.{value_of};
 ghost use Rattle.ast_types.specs.Reading.{function_of, stmts_of};
-ghost use Rattle.rhai_functions.specs.FnKey.{definition_key};
-ghost use Rattle.rhai_functions.specs.FnLib.{functions_of};
+ghost use Rattle.script_tables.specs.FnKey.{definition_key};
+ghost use Rattle.script_tables.specs.FnLib.{functions_of};
 ghost use Rattle.theory_meaning.specs.Desugar.{core_function};
 ghost use Rattle.theory_meaning.specs.Weight.{weight};
-ghost use Rattle.rhai_machine.specs.Setting.{setting};
+ghost use Rattle.run_steps.specs.Setting.{setting};
 ghost use Rattle.run_state.specs.Evaluating.{bodies_weight, Runs, RunsInvoke};
 ghost use Rattle.run_state.specs.Runs.{Acting};
 ghost use Rattle.theory_meaning.specs.Calls as calls;
@@ -19,9 +19,9 @@ ghost use Rattle.theory_meaning.specs.Run as run;
 use crate::evaluator::Evaluator;
 use rhai_ast::ScriptFuncDef;
 use rhai_base::{Dynamic, ImmutableString, Seq};
-use rhai_functions::FnKey;
 use run_host::Host;
 use run_state::{Interrupt, State, function_ended};
+use script_tables::FnKey;
 
 impl<'a, H: Host> Evaluator<'a, H> {
     /// A script's function of this name without receiver type, else the host.

@@ -1,4 +1,4 @@
-//! The evaluator: what the run meaning says of trees, done over them. Its single steps are those of `rhai_machine`.
+//! The evaluator: what the run meaning says of trees, done over them. Its single steps are those of `run_steps`.
 #![tactic(auto)]
 
 mod assigning;

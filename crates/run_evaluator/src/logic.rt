@@ -3,7 +3,7 @@
 #![tactic(auto, using(rhai_base::specs::Reading::kinds))]
 
 ghost use Rattle.ast_types.specs.Reading.{exprs_of};
-ghost use Rattle.rhai_machine.specs.Setting.{setting};
+ghost use Rattle.run_steps.specs.Setting.{setting};
 ghost use Rattle.run_state.specs.Evaluating.{RunsBoth, RunsEither, RunsFirstSome};
 
 use crate::evaluator::Evaluator;

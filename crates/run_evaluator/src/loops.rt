@@ -6,7 +6,7 @@ ghost use Rattle.std.specs.Prelude.{◌<◌, true, IfOk};
 ghost use Rattle.ast_types.specs.Reading.{expr_of, is_exported, is_negated, stmts_of};
 ghost use Rattle.theory_meaning.specs.Core.{Always, Do, When, While};
 ghost use Rattle.theory_meaning.specs.Desugar.{core_expr, core_stmt, core_stmts, guard_by};
-ghost use Rattle.rhai_machine.specs.Setting.{setting};
+ghost use Rattle.run_steps.specs.Setting.{setting};
 ghost use Rattle.run_state.specs.Evaluating.{body_of, RunsDeed, RunsLine, RunsRound};
 ghost use Rattle.theory_meaning.specs.Tree as tree;
 

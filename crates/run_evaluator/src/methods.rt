@@ -4,23 +4,22 @@
 
 ghost use Rattle.std.specs.Prelude.{◌≡◌, false, Ok, map};
 ghost use Rattle.rhai_base.specs.Reading.{value_of};
-ghost use Rattle.rhai_machine.specs.Chaining.{StepsOn};
+ghost use Rattle.run_steps.specs.Chaining.{StepsOn};
 ghost use Rattle.run_state.specs.declared.state.State.{State};
-ghost use Rattle.rhai_machine.specs.Setting.{setting};
+ghost use Rattle.run_steps.specs.Setting.{setting};
 ghost use Rattle.run_state.specs.Evaluating.{Runs};
-ghost use Rattle.rhai_machine.specs.Placing.{current_in};
+ghost use Rattle.run_steps.specs.Placing.{current_in};
 ghost use Rattle.run_state.specs.Runs.{Acting};
 ghost use Rattle.run_state.specs.State.{store_of};
 ghost use Rattle.theory_meaning.specs.Calls as calls;
 ghost use Rattle.theory_meaning.specs.Chains as chains;
-ghost use Rattle.rhai_machine.specs.Chaining as spec;
+ghost use Rattle.run_steps.specs.Chaining as spec;
 
 use crate::evaluator::Evaluator;
 use rhai_base::{Dynamic, ImmutableString, Seq};
-use rhai_chain_receivers::put_back;
-use rhai_machine::Current;
 use run_host::Host;
 use run_state::{Interrupt, State, Word, pointed_with};
+use run_steps::{Current, put_back};
 
 impl<'a, H: Host> Evaluator<'a, H> {
     /// A method's value: that of a word, or of a function whose new receiver is put back.

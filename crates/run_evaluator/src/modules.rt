@@ -8,15 +8,15 @@ ghost use Rattle.theory_meaning.specs.Core.{ModuleOf};
 ghost use Rattle.theory_meaning.specs.Desugar.{core_expr, core_stmt};
 ghost use Rattle.theory_meaning.specs.Desugar as desugar;
 ghost use Rattle.theory_meaning.specs.Tree as tree;
-ghost use Rattle.rhai_machine.specs.Setting.{setting};
+ghost use Rattle.run_steps.specs.Setting.{setting};
 ghost use Rattle.run_state.specs.Evaluating.{RunsCore, RunsLine};
 
 use crate::evaluator::Evaluator;
 use rhai_ast::Expr;
 use rhai_base::{Dynamic, Ident, ImmutableString};
-use rhai_run_nodes::Root;
 use run_host::Host;
 use run_state::{EntryKind, Interrupt, State};
+use run_steps::Root;
 
 impl<'a, H: Host> Evaluator<'a, H> {
     /// `import`: the path first, and then an alias of its module where one is named.

@@ -5,7 +5,7 @@
 ghost use Rattle.ast_types.specs.Reading.{expr_of, is_const, is_exported, stmt_of, stmts_of};
 ghost use Rattle.theory_meaning.specs.Core.{If};
 ghost use Rattle.theory_meaning.specs.Desugar.{core_expr, core_stmt, core_stmts};
-ghost use Rattle.rhai_machine.specs.Setting.{setting};
+ghost use Rattle.run_steps.specs.Setting.{setting};
 ghost use Rattle.run_state.specs.Evaluating.{RunsBlock, RunsDeed, RunsLine, RunsStmt, RunsStmts};
 ghost use Rattle.theory_meaning.specs.Tree as tree;
 

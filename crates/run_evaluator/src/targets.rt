@@ -7,14 +7,14 @@ ghost use Rattle.rhai_base.specs.Reading.{value_of};
 ghost use Rattle.rhai_base.specs.Value.{UnitV};
 ghost use Rattle.rhai_base.specs.Builtin.{operator_of};
 ghost use Rattle.ast_types.specs.Reading.{expr_of};
-ghost use Rattle.rhai_machine.specs.Chaining.{access_meant};
-ghost use Rattle.rhai_run_nodes.specs.Links.{rest_steps};
-ghost use Rattle.rhai_machine.specs.Setting.{setting};
-ghost use Rattle.rhai_machine.specs.Placing.{current_in};
+ghost use Rattle.run_steps.specs.Chaining.{access_meant};
+ghost use Rattle.run_steps.specs.Links.{rest_steps};
+ghost use Rattle.run_steps.specs.Setting.{setting};
+ghost use Rattle.run_steps.specs.Placing.{current_in};
 ghost use Rattle.run_state.specs.Runs.{Acting, Leads, given};
 ghost use Rattle.run_state.specs.State.{store_of};
-ghost use Rattle.rhai_run_nodes.specs.LeftSides.{part_core};
-ghost use Rattle.rhai_machine.specs.Targets.{Changes};
+ghost use Rattle.run_steps.specs.LeftSides.{part_core};
+ghost use Rattle.run_steps.specs.Targets.{Changes};
 ghost use Rattle.theory_meaning.specs.Calls as calls;
 ghost use Rattle.theory_meaning.specs.Chains as chains;
 ghost use Rattle.theory_meaning.specs.Meaning as meaning;
@@ -23,11 +23,12 @@ use crate::evaluator::Evaluator;
 use bitflags::Flags;
 use rhai_ast::Expr;
 use rhai_base::{ASTFlags, Dynamic, ImmutableString, OpAssignment, Seq, Token};
-use rhai_chains::{assign_index, assign_property, set_at};
-use rhai_machine::{Access, Current};
-use rhai_run_nodes::{Rest, assigning_operator, ends_in_call, is_chain, root_of};
 use run_host::{Host, Stuck};
 use run_state::{Interrupt, State};
+use run_steps::{
+    Access, Current, Rest, assign_index, assign_property, assigning_operator, ends_in_call,
+    is_chain, root_of, set_at,
+};
 
 impl<'a, H: Host> Evaluator<'a, H> {
     /// Assigns to the part that a chain leads to, by its base and what is left of it then. Only a name or `this` has

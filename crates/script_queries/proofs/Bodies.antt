@@ -1,9 +1,9 @@
 -- The paths of the bodies of functions, one after another, for a loop.
 use Rattle.std.proofs.Common.{◌≡◌, List, [], ◌∷◌, ◌++◌, ap, ◌∙◌}
 use Rattle.ast_types.specs.declared.script_fn.ScriptFuncDef.{ScriptFuncDef}
-use Rattle.rhai_walk.specs.Standing.{statements_standing}
-use Rattle.rhai_walk.specs.Walking.{Path}
-use Rattle.rhai_walk.proofs.Paths.{paths-append, paths-none, paths_of}
+use Rattle.rhai_ast.specs.Standing.{statements_standing}
+use Rattle.rhai_ast.specs.Walking.{Path}
+use Rattle.rhai_ast.proofs.Paths.{paths-append, paths-none, paths_of}
 use Rattle.script_queries.specs.Scripts.{bodies_standing}
 
 abbrev pub bodies_paths : List ScriptFuncDef → List Path

@@ -4,9 +4,9 @@ use Rattle.std.specs.Borrow.{Bor}
 use Rattle.std.specs.Fn.{Mut}
 use Rattle.rhai_script.specs.declared.ast.AST.{AST}
 use Rattle.ast_types.specs.declared.script_fn.ScriptFuncDef.{ScriptFuncDef}
-use Rattle.rhai_walk.specs.Standing.{Standing, statements_standing}
-use Rattle.rhai_walk.specs.declared.node.ASTNode.{ASTNode}
-use Rattle.rhai_walk.specs.Walking.{WalksOver}
+use Rattle.rhai_ast.specs.Standing.{Standing, statements_standing}
+use Rattle.rhai_ast.specs.declared.walker.node.ASTNode.{ASTNode}
+use Rattle.rhai_ast.specs.Walking.{WalksOver}
 
 -- the statements of bodies, one body after another
 abbrev pub bodies_standing : List ScriptFuncDef → List Standing

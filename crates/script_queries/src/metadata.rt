@@ -6,7 +6,7 @@ ghost use Rattle.script_queries.specs.Metadata.{described, description_of, descr
 
 use rhai_ast::{FnAccess, ScriptFuncDef};
 use rhai_base::ImmutableString;
-use rhai_functions::{FnLib, FnLibIter};
+use script_tables::{FnLib, FnLibIter};
 
 /// What a function of a script says of itself, lent.
 #[derive(Clone, Copy)]

@@ -5,13 +5,13 @@ ghost use Rattle.ast_types.specs.Reading.{stmts_of};
 ghost use Rattle.script_queries.specs.Literals.{left_to, sought_in};
 ghost use Rattle.script_queries.specs.Metadata.{description_of, descriptions};
 ghost use Rattle.script_queries.specs.Scripts.{WalksScript, bodies_standing};
-ghost use Rattle.rhai_walk.specs.Walking.{WalksOver};
+ghost use Rattle.rhai_ast.specs.Walking.{WalksOver};
 
 use crate::{FnMetadataIter, LiteralVariables};
+use rhai_ast::{ASTNode, walk_statements};
 use rhai_base::OutOfMemory;
-use rhai_functions::{FnLib, FnLibIter, allocator_of};
 use rhai_script::AST;
-use rhai_walk::{ASTNode, walk_statements};
+use script_tables::{FnLib, FnLibIter, allocator_of};
 
 /// What may be asked of a script.
 pub trait ScriptQueries {

@@ -21,7 +21,7 @@ use Rattle.theory_spelling.specs.Bare.{are_listed, entries_of, literal_of, membe
 use Rattle.theory_meaning.specs.Elements.{with_entries, with_entry}
 use Rattle.theory_meaning.specs.Shape.{are_distinct}
 use Rattle.theory_meaning.specs.Tree as abstract
-use Rattle.rhai_nodes.proofs.Entries.{insert_is}
+use Rattle.ast_nodes.proofs.Entries.{insert_is}
 use Rattle.ast_types.specs.declared.expr.Expr.{Expr}
 use Rattle.ast_types.specs.Reading.{keys_of, pairs_of}
 use Rattle.text_alike.proofs.Lists.{named_item, pairs_listed}

@@ -8,10 +8,10 @@ ghost use Rattle.theory_meaning.specs.Shape.{is_true};
 ghost use Rattle.theory_meaning.specs.Tree.{BlockExpr};
 ghost use Rattle.ast_types.specs.Reading.{breaks, chain_flags, expr_of, exprs_of, is_exported, is_negated, stmt_of, stmts_of};
 
+use ast_nodes::expression_statement;
 use ast_types::{Expr, Stmt, StmtBlock};
 use bitflags::Flags;
 use rhai_base::{ASTFlags, Boxed, ImmutableString, OutOfMemory, Position, Seq, Span};
-use rhai_nodes::expression_statement;
 use std::alloc::Global;
 
 /// What was made before beside what is made next, where that is not refused.

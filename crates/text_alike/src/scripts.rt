@@ -3,15 +3,15 @@
 
 ghost use Rattle.std.specs.Prelude.{◌≡◌, IfOk, IsTrue, map};
 ghost use Rattle.theory_spelling.specs.Bare.{SpelledAlike, bare_function, bare_stmts};
-ghost use Rattle.rhai_functions.specs.FnLib.{functions_of};
+ghost use Rattle.script_tables.specs.FnLib.{functions_of};
 ghost use Rattle.rhai_script.specs.Script.{script_of};
 ghost use Rattle.ast_types.specs.Reading.{function_of, stmts_of};
 
 use crate::nodes::bare_stmts;
 use ast_types::{ScriptFuncDef, Stmt, StmtBlock};
 use rhai_base::{OutOfMemory, Seq, Span};
-use rhai_functions::FnLib;
 use rhai_script::AST;
+use script_tables::FnLib;
 use std::alloc::Global;
 use text_same::{same_function, same_stmts};
 

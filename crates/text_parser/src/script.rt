@@ -10,8 +10,8 @@ use crate::options::ParseOptions;
 use crate::parser::{Parser, Whole};
 use rhai_ast::{Stmt, TreeError};
 use rhai_base::{OutOfMemory, Position, TreeFault};
-use rhai_functions::FnLib;
 use rhai_script::AST;
+use script_tables::FnLib;
 use std::alloc::Global;
 use std::rc::Rc;
 

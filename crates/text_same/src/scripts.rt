@@ -2,7 +2,7 @@
 #![tactic(auto, using(ast_types::specs::Reading::shapes))]
 
 ghost use Rattle.std.specs.Prelude.{◌≡◌, ◌↔◌, IsTrue};
-ghost use Rattle.rhai_functions.specs.FnLib.{functions_of};
+ghost use Rattle.script_tables.specs.FnLib.{functions_of};
 ghost use Rattle.ast_types.specs.Reading.{expr_of, function_of, stmt_of, stmts_of};
 ghost use Rattle.rhai_script.specs.Script.{script_of};
 ghost use Rattle.text_same.specs.Alike.{alike_function, alike_functions, alike_script};
@@ -10,8 +10,8 @@ ghost use Rattle.text_same.specs.Alike.{alike_function, alike_functions, alike_s
 use crate::names::{alike_names, alike_types};
 use crate::nodes::{alike_expr, alike_stmt, alike_stmts};
 use ast_types::{Expr, ScriptFuncDef, Stmt};
-use rhai_functions::FnLib;
 use rhai_script::AST;
+use script_tables::FnLib;
 
 /// Whether the scripts are the same: their statements, and their functions in the tables' order. Sources, doc texts and
 /// ids of tables are not compared.

@@ -7,7 +7,7 @@ use crate::inside::Inside;
 use crate::scopes::Scopes;
 use crate::words::is_name;
 use rhai_base::Position;
-use rhai_functions::{FnLib, allocator_of};
+use script_tables::{FnLib, allocator_of};
 use std::alloc::Global;
 use std::cell::{Cell, RefCell};
 

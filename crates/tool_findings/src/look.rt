@@ -3,10 +3,10 @@
 use crate::dead::{behind_leave, behind_literal, lists_of};
 use crate::finding::{Finding, FindingKind};
 use crate::names::Names;
-use rhai_ast::{ASTNode, Expr, FnCallExpr, NodeQueries, Stmt, StmtQueries};
+use rhai_ast::{
+    ASTNode, Children, Expr, FnCallExpr, NodeQueries, Stmt, StmtQueries, is_barred_call,
+};
 use rhai_base::{Ident, OutOfMemory, Position};
-use rhai_faults::is_barred_call;
-use rhai_walk::Children;
 use std::alloc::Global;
 
 /// What looks at nodes where names of the surroundings and of its own stand for something, and keeps what it finds.

@@ -1,8 +1,7 @@
 //! The names that statements declare.
 
-use rhai_ast::{ASTNode, Expr, Stmt};
+use rhai_ast::{ASTNode, Children, Expr, Stmt};
 use rhai_base::{Ident, OutOfMemory};
-use rhai_walk::Children;
 use std::alloc::Global;
 use std::collections::BTreeMap;
 

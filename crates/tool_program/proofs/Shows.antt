@@ -10,7 +10,7 @@ use Rattle.theory_meaning.specs.Tree.{Script}
 use Rattle.ast_types.specs.Reading.{stmts_of, function_of}
 use Rattle.ast_types.specs.declared.script_fn.ScriptFuncDef.{ScriptFuncDef}
 use Rattle.ast_types.specs.declared.stmt.Stmt.{Stmt}
-use Rattle.rhai_functions.specs.Table.{table_of}
+use Rattle.script_tables.specs.Table.{table_of}
 use Rattle.rhai_script.specs.Contents.{Contents, contents, meant}
 use Rattle.rhai_script.specs.Script.{script_of}
 use Rattle.rhai_script.specs.declared.ast.AST.{AST}

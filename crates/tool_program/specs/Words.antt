@@ -8,7 +8,7 @@ use Rattle.theory_meaning.specs.Tree.{Script}
 use Rattle.opt_known.specs.declared.level.OptimizationLevel.{OptimizationLevel}
 use Rattle.opt_known.specs.declared.level.OptimizationLevel.TheVariants as level
 use Rattle.base_engine.specs.EngineInfo.{nothing_set}
-use Rattle.rhai_functions.specs.Table.{table_of}
+use Rattle.script_tables.specs.Table.{table_of}
 use Rattle.rhai_optimizer.specs.Optimised.{IsReducedScript}
 use Rattle.theory_rewriting.specs.Kept.{Keeps}
 use Rattle.theory_rewriting.specs.Reducible.{IsIrreducibleScript}

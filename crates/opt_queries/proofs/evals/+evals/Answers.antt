@@ -1,6 +1,6 @@
 use Rattle.std.proofs.Common.{sym, ap, ◌∙◌, rules, arith}
-use Rattle.rhai_walk.specs.Nodes.{node_of}
-use Rattle.rhai_walk.proofs.Sizes.{below-start, measure-falls}
+use Rattle.rhai_ast.specs.Nodes.{node_of}
+use Rattle.rhai_ast.proofs.Sizes.{below-start, measure-falls}
 use Rattle.opt_queries.proofs.NoneBelow.{left_none, none-start}
 use Rattle.opt_queries.proofs.evals.+evals.Goals as goal
 

@@ -1,8 +1,8 @@
 use Rattle.std.proofs.Common.{◌≡◌, ◌+◌, ◌*◌, length}
-use Rattle.rhai_walk.specs.Children.{AreBelow, size_of}
-use Rattle.rhai_walk.specs.Left.{left_of}
-use Rattle.rhai_walk.specs.Nodes.{node_of}
-use Rattle.rhai_walk.proofs.Sizes.{above}
+use Rattle.rhai_ast.specs.Children.{AreBelow, size_of}
+use Rattle.rhai_ast.specs.Left.{left_of}
+use Rattle.rhai_ast.specs.Nodes.{node_of}
+use Rattle.rhai_ast.proofs.Sizes.{above}
 use Rattle.opt_queries.proofs.NoneBelow.{left_none}
 use Rattle.opt_queries.proofs.evals.+evals.Given as goal
 

@@ -4,8 +4,8 @@ use Rattle.opt_known.specs.State.{progress}
 use Rattle.theory_meaning.specs.Engine.{Engine}
 use Rattle.ast_types.specs.Reading.{expr_of}
 use Rattle.theory_rewriting.specs.Steps.{Place}
-use Rattle.rhai_steps.specs.Folded.{FoldsConstant}
-use Rattle.rhai_steps.specs.NodeSteps.{ExprStep}
+use Rattle.opt_steps.specs.Folded.{FoldsConstant}
+use Rattle.opt_steps.specs.NodeSteps.{ExprStep}
 use Rattle.opt_rules.proofs.Shapes.{array_step}
 use Rattle.opt_rules.proofs.expressions.array_of_constants.Goals as goal
 

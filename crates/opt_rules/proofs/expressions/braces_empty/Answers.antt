@@ -2,8 +2,8 @@ use Rattle.std.proofs.Common.{refl}
 use Rattle.theory_rewriting.specs.Rules.{braces_empty}
 use Rattle.ast_types.specs.Reading.{expr_of-Unit}
 use Rattle.theory_rewriting.proofs.Keeping.{keeps_unit}
-use Rattle.rhai_steps.proofs.Stepping.{expr_rewrite_as}
-use Rattle.rhai_steps.proofs.Places.{stands}
+use Rattle.opt_steps.proofs.Stepping.{expr_rewrite_as}
+use Rattle.opt_steps.proofs.Places.{stands}
 use Rattle.opt_rules.proofs.expressions.braces_empty.Goals as goal
 
 pub returns : goal.returns

@@ -3,9 +3,9 @@ use Rattle.ast_types.specs.declared.expr.Expr.{Expr}
 use Rattle.ast_types.specs.Reading.{stmt_of, expr_of, stmt_of-Expr, stmt_of-FnCall}
 use Rattle.ast_types.proofs.Cases.{stmt_cases}
 use Rattle.theory_meaning.specs.Tree.{BlockExpr, ExprStmt, no_stmts, stmt}
-use Rattle.rhai_steps.specs.Places.{place_of}
-use Rattle.rhai_steps.proofs.Stepping.{expr_rewrite_as}
-use Rattle.rhai_steps.proofs.Places.{not-false}
+use Rattle.opt_steps.specs.Places.{place_of}
+use Rattle.opt_steps.proofs.Stepping.{expr_rewrite_as}
+use Rattle.opt_steps.proofs.Places.{not-false}
 use Rattle.opt_rules.specs.Settled.{is_settled_in_braces}
 use Rattle.opt_rules.proofs.Kept.{settled_in_braces}
 use Rattle.opt_rules.proofs.expressions.braces_of_one.Goals as goal

@@ -1,5 +1,5 @@
 use Rattle.std.proofs.Common.{refl}
-use Rattle.rhai_steps.specs.Places.{place_of}
+use Rattle.opt_steps.specs.Places.{place_of}
 use Rattle.opt_rules.specs.Settled.{is_settled_braces}
 use Rattle.opt_rules.proofs.Shapes.{settled-long}
 use Rattle.opt_rules.proofs.expressions.is_settled_braces.Goals as goal

@@ -1,5 +1,5 @@
 use Rattle.ast_types.proofs.Cases.{stmt_cases}
-use Rattle.rhai_steps.specs.Places.{place_of}
+use Rattle.opt_steps.specs.Places.{place_of}
 use Rattle.opt_rules.proofs.Kept.{settled_in_braces}
 use Rattle.opt_rules.proofs.expressions.is_settled_in_braces.Goals as goal
 

@@ -2,10 +2,10 @@ use Rattle.std.proofs.Common.{List, refl, sym, ap, ◌∙◌}
 use Rattle.ast_types.specs.declared.stmt.Stmt.{Stmt}
 use Rattle.ast_types.specs.Reading.{stmts_of}
 use Rattle.theory_meaning.specs.Tree.{BlockExpr}
-use Rattle.rhai_steps.specs.Places.{place_of}
+use Rattle.opt_steps.specs.Places.{place_of}
 use Rattle.opt_rules.specs.Settled.{is_settled_braces}
-use Rattle.rhai_steps.proofs.Stepping.{expr_rewrite_as}
-use Rattle.rhai_steps.proofs.Places.{not-false}
+use Rattle.opt_steps.proofs.Stepping.{expr_rewrite_as}
+use Rattle.opt_steps.proofs.Places.{not-false}
 use Rattle.opt_rules.proofs.Shapes.{unsettled-none}
 use Rattle.opt_rules.proofs.expressions.reduce_braces.Goals as goal
 

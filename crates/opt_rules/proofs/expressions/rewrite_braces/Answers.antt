@@ -1,6 +1,6 @@
 use Rattle.std.proofs.Common.{sym, ap}
 use Rattle.ast_types.specs.Reading.{expr_of}
-use Rattle.rhai_steps.proofs.Stepping.{expr_rewrite_as}
+use Rattle.opt_steps.proofs.Stepping.{expr_rewrite_as}
 use Rattle.opt_rules.proofs.expressions.rewrite_braces.Goals as goal
 
 pub returns-clause-rewritten : goal.returns-clause-rewritten

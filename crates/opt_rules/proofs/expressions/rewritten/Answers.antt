@@ -3,7 +3,7 @@ use Rattle.ast_types.specs.declared.block.StmtBlock.{StmtBlock}
 use Rattle.ast_types.specs.Reading.{expr_of, stmts_of, expr_of-Stmt}
 use Rattle.ast_types.proofs.Cases.{expr_cases}
 use Rattle.theory_meaning.specs.Tree.{BlockExpr}
-use Rattle.rhai_steps.proofs.Stepping.{expr_rewrite_as}
+use Rattle.opt_steps.proofs.Stepping.{expr_rewrite_as}
 use Rattle.opt_rules.proofs.Kept.{not_braces}
 use Rattle.opt_rules.proofs.expressions.rewritten.Goals as goal
 

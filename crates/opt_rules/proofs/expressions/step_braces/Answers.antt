@@ -1,5 +1,5 @@
 use Rattle.std.proofs.Common.{sym}
-use Rattle.rhai_steps.proofs.Stepping.{expr_put}
+use Rattle.opt_steps.proofs.Stepping.{expr_put}
 use Rattle.opt_rules.proofs.Shapes.{braces_stay}
 use Rattle.opt_rules.proofs.expressions.step_braces.Goals as goal
 

@@ -2,7 +2,7 @@ use Rattle.std.proofs.lemmas.Result.{IfOk-weaker}
 use Rattle.rhai_base.specs.Reading.{value_of}
 use Rattle.opt_known.specs.State.{progress}
 use Rattle.ast_types.specs.Reading.{expr_of}
-use Rattle.rhai_steps.specs.NodeSteps.{Puts}
+use Rattle.opt_steps.specs.NodeSteps.{Puts}
 use Rattle.opt_rules.proofs.Naming.{name_put}
 use Rattle.opt_rules.proofs.names.known_pointer.Goals as goal
 

@@ -1,7 +1,7 @@
 use Rattle.std.proofs.Common.{sym, ap, ◌∙◌}
 use Rattle.std.specs.Option.{option_map}
 use Rattle.rhai_base.specs.Reading.{value_of}
-use Rattle.rhai_steps.specs.Places.{place_of}
+use Rattle.opt_steps.specs.Places.{place_of}
 use Rattle.opt_rules.proofs.Naming.{name_stays}
 use Rattle.opt_rules.proofs.names.step_name.Goals as goal
 

@@ -1,6 +1,6 @@
 use Rattle.base_engine.specs.EngineInfo.{engine_of}
 use Rattle.ast_types.proofs.Cases.{stmt_cases}
-use Rattle.rhai_steps.proofs.Stepping.{stmt_stays}
+use Rattle.opt_steps.proofs.Stepping.{stmt_stays}
 use Rattle.opt_rules.proofs.Kept.{no_rule}
 use Rattle.opt_rules.proofs.Passing.{stmt_anywhere, stmt_under, stmt_wanted}
 use Rattle.opt_rules.proofs.nodes.step_stmt.Goals as goal

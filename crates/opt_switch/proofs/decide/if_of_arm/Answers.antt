@@ -2,7 +2,7 @@ use Rattle.std.proofs.Common.{◌≡◌, Some, ap, ◌∙◌, subst}
 use Rattle.std.specs.Option.{option_map}
 use Rattle.std.proofs.lemmas.Result.{IfOk-weaker}
 use Rattle.ast_types.specs.declared.stmt.Stmt.{Stmt}
-use Rattle.rhai_nodes.specs.Blocks.{answered}
+use Rattle.ast_nodes.specs.Blocks.{answered}
 use Rattle.theory_meaning.specs.Tree.{If}
 use Rattle.ast_types.specs.Reading.{arms_of, expr_of, expressions_of, stmt_of, table_of}
 use Rattle.theory_rewriting.specs.Tables.{default_answer}

@@ -1,10 +1,10 @@
 use Rattle.std.proofs.Common.{refl, sym, ap, subst}
 use Rattle.theory_meaning.specs.Faults.{functions_fault, ◌then◌}
 use Rattle.theory_meaning.proofs.FaultLaws.{well_formed_law}
-use Rattle.rhai_faults.specs.Refusals.{Finds, meant}
-use Rattle.rhai_faults.specs.Scripts.{functions_of, script_by}
-use Rattle.rhai_faults.specs.Standing.{StandsInFunctions, StandsInScript, defs_of, fault_in, in_functions, in_statements}
-use Rattle.rhai_faults.proofs.Standing.{leaves_with, on_each, passes, stands_each}
+use Rattle.rhai_ast.specs.Refusals.{Finds, meant}
+use Rattle.rhai_ast.specs.Scripts.{functions_of, script_by}
+use Rattle.rhai_ast.specs.StandingFaults.{StandsInFunctions, StandsInScript, defs_of, fault_in, in_functions, in_statements}
+use Rattle.rhai_ast.proofs.Standing.{leaves_with, on_each, passes, stands_each}
 use Rattle.rhai_ast.proofs.check.check_tree.Goals as goal
 
 pub returns-in_err-check_stmts-clause-first : goal.returns-in_err-check_stmts-clause-first

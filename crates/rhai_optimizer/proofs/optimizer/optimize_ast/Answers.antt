@@ -1,5 +1,5 @@
 use Rattle.std.proofs.Common.{sym, ap, ◌∙◌}
-use Rattle.rhai_functions.specs.declared.fn_lib.FnLib.{FnLib}
+use Rattle.script_tables.specs.declared.fn_lib.FnLib.{FnLib}
 use Rattle.rhai_script.specs.Contents.{Contents, contents}
 use Rattle.rhai_optimizer.proofs.Whole.{parts_made, script_untouched, whole}
 use Rattle.rhai_optimizer.proofs.optimizer.optimize_ast.Goals as goal

@@ -1,5 +1,5 @@
 use Rattle.std.proofs.Common.{refl, ap, ◌∙◌}
-use Rattle.rhai_functions.specs.declared.fn_lib.FnLib.{FnLib}
+use Rattle.script_tables.specs.declared.fn_lib.FnLib.{FnLib}
 use Rattle.rhai_script.specs.Contents.{Contents, contents}
 use Rattle.rhai_optimizer.specs.Optimised.{given}
 use Rattle.rhai_optimizer.proofs.Whole.{whole, passes_counted}

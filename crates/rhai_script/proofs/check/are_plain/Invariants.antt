@@ -1,5 +1,5 @@
 use Rattle.std.proofs.Common.{◌≡◌, map}
-use Rattle.rhai_faults.specs.PlainWalk.{plain_walk}
+use Rattle.rhai_ast.specs.PlainWalk.{plain_walk}
 use Rattle.theory_meaning.specs.Walk.{over_functions}
 use Rattle.ast_types.specs.Reading.{function_of}
 use Rattle.rhai_script.proofs.check.are_plain.Given as goal

@@ -3,10 +3,10 @@ use Rattle.std.proofs.lemmas.Grind.{common_steps}
 use Rattle.std.specs.declared.alloc.Global.{Global}
 use Rattle.std.specs.declared.rc.Rc.{Rc}
 use Rattle.ast_types.specs.declared.script_fn.ScriptFuncDef.{ScriptFuncDef}
-use Rattle.rhai_faults.proofs.Standing.{leaves_with, on_each, passes}
-use Rattle.rhai_faults.specs.Refusals.{IsTheFirst, meant}
-use Rattle.rhai_faults.specs.Scripts as parts
-use Rattle.rhai_faults.specs.Standing.{OnFault, StandsInFunctions, defs_of, in_others}
+use Rattle.rhai_ast.proofs.Standing.{leaves_with, on_each, passes}
+use Rattle.rhai_ast.specs.Refusals.{IsTheFirst, meant}
+use Rattle.rhai_ast.specs.Scripts as parts
+use Rattle.rhai_ast.specs.StandingFaults.{OnFault, StandsInFunctions, defs_of, in_others}
 use Rattle.theory_meaning.specs.Faults.{functions_fault, ◌then◌}
 use Rattle.ast_types.specs.Reading.{function_of}
 use Rattle.rhai_script.proofs.Tests.{first_of, stands_alone}

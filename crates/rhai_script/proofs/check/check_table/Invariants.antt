@@ -1,6 +1,6 @@
 use Rattle.std.proofs.Common.{◌≡◌, map}
 use Rattle.base_tokens.specs.declared.position.Position.{Position}
-use Rattle.rhai_faults.specs.Standing.{StandsInFunctions}
+use Rattle.rhai_ast.specs.StandingFaults.{StandsInFunctions}
 use Rattle.theory_meaning.specs.Faults.{TreeFault, functions_fault}
 use Rattle.ast_types.specs.Reading.{function_of}
 use Rattle.rhai_script.proofs.check.check_table.Given as goal

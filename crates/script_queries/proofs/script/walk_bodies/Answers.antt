@@ -1,9 +1,9 @@
 use Rattle.std.proofs.Common.{◌≡◌, List, [], ◌∷◌, arith}
 use Rattle.std.proofs.lemmas.Grind.{common_steps}
-use Rattle.rhai_walk.specs.Standing.{statements_standing}
-use Rattle.rhai_walk.specs.Walking.{Path}
-use Rattle.rhai_walk.proofs.Paths.{over, paths_of, walked}
-use Rattle.rhai_walk.proofs.Walking.{next_agrees, next_refuses, next_short, partly-end}
+use Rattle.rhai_ast.specs.Standing.{statements_standing}
+use Rattle.rhai_ast.specs.Walking.{Path}
+use Rattle.rhai_ast.proofs.Paths.{over, paths_of, walked}
+use Rattle.rhai_ast.proofs.Walking.{next_agrees, next_refuses, next_short, partly-end}
 use Rattle.script_queries.proofs.Bodies.{bodies-end, bodies-next, bodies_paths}
 use Rattle.script_queries.proofs.script.walk_bodies.Goals as goal
 

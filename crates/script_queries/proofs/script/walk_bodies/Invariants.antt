@@ -1,4 +1,4 @@
-use Rattle.rhai_walk.proofs.Walking.{Partly}
+use Rattle.rhai_ast.proofs.Walking.{Partly}
 use Rattle.script_queries.proofs.Bodies.{bodies_paths}
 use Rattle.script_queries.proofs.script.walk_bodies.Given as goal
 

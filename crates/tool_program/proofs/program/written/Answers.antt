@@ -1,6 +1,6 @@
 use Rattle.std.proofs.Common.{◌∙◌, ap}
-use Rattle.rhai_functions.specs.FnLib.{functions_of}
-use Rattle.rhai_functions.specs.Table.{table_of}
+use Rattle.script_tables.specs.FnLib.{functions_of}
+use Rattle.script_tables.specs.Table.{table_of}
 use Rattle.tool_program.proofs.program.written.Goals as goal
 
 pub returns : goal.returns

@@ -3,7 +3,7 @@ use Rattle.opt_known.specs.State.{progress}
 use Rattle.ast_types.specs.Reading.{subject_of, cases_of, expressions_of, arms_of, expr_of, exprs_of, pairs_of, maybe_of, stmt_of, stmts_of}
 use Rattle.theory_rewriting.proofs.rules.Arms.{arms_weight}
 use Rattle.theory_meaning.specs.Walk.{total, over_pairs, over_maybe}
-use Rattle.rhai_sweep.specs.Marks.{mark_of}
+use Rattle.opt_lists.specs.Marks.{mark_of}
 use Rattle.opt_reducer.specs.Parts.{record_of}
 use Rattle.theory_rewriting.specs.Steps.{StmtPassed, ListPassed}
 use Rattle.theory_meaning.specs.Weight.{own_weight, expr_weight, exprs_weight, stmt_weight, weight}

@@ -1,5 +1,5 @@
 use Rattle.std.proofs.Common.{rules}
-use Rattle.rhai_nodes.proofs.Placing.{placing}
+use Rattle.ast_nodes.proofs.Placing.{placing}
 use Rattle.rhai_ast.proofs.place.StmtSetPosition.set_position.Goals as goal
 
 pub returns-clause-node : goal.returns-clause-node

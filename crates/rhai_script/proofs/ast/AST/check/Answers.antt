@@ -1,16 +1,16 @@
 use Rattle.std.proofs.Common.{◌≡◌, false, None, refl, sym, ap, subst, ◌∙◌}
 use Rattle.std.specs.declared.alloc.Global.{Global}
 use Rattle.std.specs.declared.rc.Rc.{Rc}
-use Rattle.rhai_faults.proofs.Standing.{leaves_with, on_each, passes, stands_each}
-use Rattle.rhai_faults.specs.Refusals.{Finds, IsTheFirst, meant}
-use Rattle.rhai_faults.specs.Scripts.{found_stmts}
-use Rattle.rhai_faults.specs.Standing.{OnFault, Stands, StandsAt, StandsInFunctions, StandsInScript, fault_in, in_functions, in_statements}
-use Rattle.rhai_functions.specs.FnLib.{functions_of}
-use Rattle.rhai_functions.specs.declared.fn_lib.FnLib.{FnLib}
+use Rattle.rhai_ast.proofs.Standing.{leaves_with, on_each, passes, stands_each}
+use Rattle.rhai_ast.specs.Refusals.{Finds, IsTheFirst, meant}
+use Rattle.rhai_ast.specs.Scripts.{found_stmts}
+use Rattle.rhai_ast.specs.StandingFaults.{OnFault, Stands, StandsAt, StandsInFunctions, StandsInScript, fault_in, in_functions, in_statements}
+use Rattle.script_tables.specs.FnLib.{functions_of}
+use Rattle.script_tables.specs.declared.fn_lib.FnLib.{FnLib}
 use Rattle.theory_meaning.specs.Faults.{functions_fault, ◌then◌}
 use Rattle.theory_meaning.specs.Walk.{outermost}
 use Rattle.theory_meaning.proofs.FaultLaws.{well_formed_law}
-use Rattle.rhai_walk.specs.Standing.{statements_standing}
+use Rattle.rhai_ast.specs.Standing.{statements_standing}
 use Rattle.rhai_script.specs.Script.{script_of}
 use Rattle.rhai_script.proofs.ast.AST.check.Goals as goal
 

@@ -1,9 +1,9 @@
 use Rattle.std.proofs.Common.{subst, ap, ◌∙◌}
 use Rattle.std.specs.List.Retain.{IsFiltered}
-use Rattle.rhai_functions.specs.declared.fn_lib.FnLib.{FnLib}
-use Rattle.rhai_functions.specs.Filter.{Answers}
+use Rattle.script_tables.specs.declared.fn_lib.FnLib.{FnLib}
+use Rattle.script_tables.specs.Filter.{Answers}
 use Rattle.rhai_script.specs.Contents.{contents, with_table, without_statements}
-use Rattle.rhai_functions.proofs.Choices.{ok_alike}
+use Rattle.script_tables.proofs.Choices.{ok_alike}
 use Rattle.rhai_script.proofs.ast.AST.clone_functions_only_filtered.Goals as goal
 
 pub returns : goal.returns

@@ -1,10 +1,10 @@
 use Rattle.std.proofs.Common.{◌≡◌, subst, ◌∙◌, arith}
 use Rattle.std.proofs.lemmas.Grind.{common_steps}
 use Rattle.std.specs.List.Retain.{IsFiltered}
-use Rattle.rhai_functions.specs.declared.fn_lib.FnLib.{FnLib}
-use Rattle.rhai_functions.specs.Filter.{Answers}
+use Rattle.script_tables.specs.declared.fn_lib.FnLib.{FnLib}
+use Rattle.script_tables.specs.Filter.{Answers}
 use Rattle.rhai_script.specs.Contents.{contents, joined_over, merged}
-use Rattle.rhai_functions.proofs.Choices.{ok_alike}
+use Rattle.script_tables.proofs.Choices.{ok_alike}
 use Rattle.rhai_script.proofs.ast.AST.merge_filtered.Goals as goal
 
 pub returns : goal.returns

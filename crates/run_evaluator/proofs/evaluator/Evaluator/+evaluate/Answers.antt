@@ -12,9 +12,9 @@ use Rattle.rhai_base.specs.Reading.{value_of, value_of-Int}
 use Rattle.theory_meaning.specs.Meaning.{module_at}
 use Rattle.rhai_base.specs.Builtin.{operator_of}
 use Rattle.ast_types.specs.Reading.{arms_of, callee_of, chain_flags, counter_of, expr_of, exprs_of, expressions_of, is_negated, keys_of, pairs_of, range_of, stmt_of, stmts_of, table_of}
-use Rattle.rhai_functions.specs.FnKey.{definition_key}
-use Rattle.rhai_functions.specs.FnLib.{functions_of}
-use Rattle.rhai_functions.specs.Table.{find_by}
+use Rattle.script_tables.specs.FnKey.{definition_key}
+use Rattle.script_tables.specs.FnLib.{functions_of}
+use Rattle.script_tables.specs.Table.{find_by}
 use Rattle.theory_meaning.specs.Act.{IsVariable, Invoke, Named, OutOfTurns, Store}
 use Rattle.theory_meaning.specs.ActForms.{ask_host}
 use Rattle.theory_meaning.specs.Calls as calls
@@ -27,34 +27,34 @@ use Rattle.theory_meaning.specs.Shape.{is_unit}
 use Rattle.theory_meaning.specs.Walk.{over_pairs, total}
 use Rattle.theory_meaning.specs.Weight.{expr_weight, exprs_weight, own_weight, stmt_weight, weight}
 use Rattle.run_state.specs.declared.state.State.{State}
-use Rattle.rhai_machine.specs.Chaining.{method_in}
-use Rattle.rhai_machine.specs.Setting.{setting}
-use Rattle.rhai_chains.specs.Direct.{Comes}
+use Rattle.run_steps.specs.Chaining.{method_in}
+use Rattle.run_steps.specs.Setting.{setting}
+use Rattle.run_steps.specs.Direct.{Comes}
 use Rattle.run_state.specs.Evaluating.{arms_here, bodies_weight, body_of}
 use Rattle.run_state.specs.Runs.{Acting, Halting, Runs, given, stop_of}
-use Rattle.rhai_machine.specs.Placing.{current_in}
+use Rattle.run_steps.specs.Placing.{current_in}
 use Rattle.run_state.specs.State.{store_of}
-use Rattle.rhai_run_nodes.specs.LeftSides.{side_core}
-use Rattle.rhai_run_nodes.specs.Variables.{qualified_in, root_meant}
+use Rattle.run_steps.specs.LeftSides.{side_core}
+use Rattle.run_steps.specs.Variables.{qualified_in, root_meant}
 use Rattle.run_state.specs.Entries.{scope_meant}
 use Rattle.run_state.specs.Words.{word_meant}
-use Rattle.rhai_machine.specs.declared.steps.parts.Access.TheVariants as reached
-use Rattle.rhai_machine.specs.Placing.{current_in}
+use Rattle.run_steps.specs.declared.steps.parts.Access.TheVariants as reached
+use Rattle.run_steps.specs.Placing.{current_in}
 use Rattle.run_state.specs.State.{store_of}
 use Rattle.run_evaluator.proofs.LeftSides.{part_called, part_ill, part_runs, part_stops, part_unplaced}
-use Rattle.rhai_chains.proofs.Targets.{last_nowhere, last_plain, last_stops, read_changes, read_ends, target_applied_stops, target_last, target_more, target_stops, target_unit}
+use Rattle.run_steps.proofs.Targets.{last_nowhere, last_plain, last_stops, read_changes, read_ends, target_applied_stops, target_last, target_more, target_stops, target_unit}
 use Rattle.run_evaluator.proofs.ByKind.{array_of_expr, block_of_stmt, braces_of_expr, call_of_expr, call_of_stmt, dot_of_expr, for_of_stmt, if_of_stmt, index_of_expr, map_of_expr, method_of_expr, property_of_expr, switch_of_stmt, text_of_expr}
 use Rattle.run_state.proofs.Counted.{each_ends, each_next, each_stops, for_array, for_body_runs, for_closed_range, for_other, for_range, for_round_runs, range_end, range_ends, range_next, range_start, range_stops}
 use Rattle.run_evaluator.proofs.Leaving.{catch_runs, try_catches, try_ends, try_stops}
 use Rattle.run_evaluator.proofs.Nodes.{call_stuck, call_stops, call_runs, called_as, called_in_module}
-use Rattle.rhai_run_nodes.proofs.Callees.{named_callee, qualified_callee}
+use Rattle.run_steps.proofs.Callees.{named_callee, qualified_callee}
 use Rattle.run_evaluator.proofs.OperatorCalls.{left_stops, operands_run, operands_stop, operator_runs, right_stops, two_run}
 use Rattle.run_state.proofs.Goes.{leads_then, stops_by, value_goes}
 use Rattle.run_evaluator.proofs.Invoked.{back_is, invoke_goes, invoke_late, invoke_stops}
 use Rattle.run_evaluator.proofs.Known.{call_runs_function, found_nothing, found_weight}
 use Rattle.run_evaluator.proofs.Words.{call_asks, word_asks, word_gives, word_names, word_points, word_stops}
 use Rattle.run_evaluator.proofs.Operands.{args_start, args_next, args_stop, args_end, operands_start, both_stops, both_stuck, both_false, both_next, both_end, either_stops, either_stuck, either_true, either_next, either_end, first_stops, first_value, first_next, first_end}
-use Rattle.rhai_machine.proofs.Roots.{assign_runs, assign_stops, assign_stuck, unit_value}
+use Rattle.run_steps.proofs.Roots.{assign_runs, assign_stops, assign_stuck, unit_value}
 use Rattle.run_state.proofs.Statements.{stmts_start, stmts_next, stmts_stop, stmts_end, block_runs, body_runs, branch_runs, condition_stops, condition_stuck}
 use Rattle.run_evaluator.proofs.Switches.{arm_false, arm_leaves, arm_missing, arm_past, arm_stops, arm_stuck, arm_there, arm_true, arms_default, arms_end, arms_stop, default_missing, default_runs, places_end, places_ends, no_range, places_next, places_stops, range_at, ranges_end, ranges_ends, ranges_next, ranges_stops}
 use Rattle.run_evaluator.proofs.Weights.{arm_weight, arms_weight, expr_item, level, level_falls, member_item, stmt_item}
@@ -62,9 +62,9 @@ use Rattle.run_state.proofs.Rounds.{loop_start}
 use Rattle.run_state.proofs.Loops.{round_runs, round_turns, endless_stops, endless_ends, endless_next, while_stops, while_stuck, guard_late, guard_over, guard_leaves, guard_ends, guard_falls, guard_next, loop_always, loop_when, do_stops, do_ends, do_guard_stops, do_guard_stuck, do_over, do_next}
 use Rattle.run_evaluator.proofs.Maps.{map_runs, map_stops, members_start, members_stop, members_next, members_end}
 use Rattle.run_evaluator.proofs.MethodSteps.{back_runs, back_stops, call_stops as method_call_stops, found_fits, found_runs, missing_asks, word_given, word_passed, word_stopped}
-use Rattle.rhai_chains.proofs.ChainSteps.{applied_stops, chain_runs, member_stuck, method_given, method_reached, method_stops, method_stuck, reach_gone, reach_runs, steps_end, steps_more, steps_stop, steps_unit}
+use Rattle.run_steps.proofs.ChainSteps.{applied_stops, chain_runs, member_stuck, method_given, method_reached, method_stops, method_stuck, reach_gone, reach_runs, steps_end, steps_more, steps_stop, steps_unit}
 use Rattle.run_evaluator.proofs.evaluator.Evaluator.+evaluate.Goals as goal
-use Rattle.rhai_walk.specs.Nodes.{is_dot}
+use Rattle.rhai_ast.specs.Nodes.{is_dot}
 use Rattle.run_evaluator.proofs.evaluator.Evaluator.+evaluate.Goals.{reach-else-contains-via-then-contains+else-is_unit_at, reach-else-contains-via-else-contains}
 
 -- arguments

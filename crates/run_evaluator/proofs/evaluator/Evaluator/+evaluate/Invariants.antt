@@ -1,5 +1,5 @@
 use Rattle.std.proofs.Common.{◌+◌, ◌*◌, drop, length, map}
-use Rattle.rhai_machine.specs.Setting.{setting}
+use Rattle.run_steps.specs.Setting.{setting}
 use Rattle.run_evaluator.proofs.Operands.{ArgsAt, OperandsAt, both_of, either_of, first_of}
 use Rattle.run_evaluator.proofs.Maps.{MembersAt}
 use Rattle.run_state.proofs.Statements.{StmtsAt}
@@ -8,10 +8,10 @@ use Rattle.ast_types.specs.Reading.{arms_of, cases_of, counter_of, expr_of, expr
 use Rattle.theory_meaning.specs.Walk.{over_maybe, over_pairs, total}
 use Rattle.theory_meaning.specs.Weight.{expr_weight, exprs_weight, own_weight, stmt_weight, weight}
 use Rattle.theory_meaning.specs.Control.{round}
-use Rattle.rhai_functions.specs.FnLib.{functions_of}
+use Rattle.script_tables.specs.FnLib.{functions_of}
 use Rattle.theory_meaning.specs.Desugar.{core_expr}
 use Rattle.run_state.specs.Evaluating.{bodies_weight, body_of}
-use Rattle.rhai_run_nodes.specs.LeftSides.{side_weight}
+use Rattle.run_steps.specs.LeftSides.{side_weight}
 use Rattle.run_state.proofs.Loops.{do_round, guarded_round}
 use Rattle.run_state.proofs.Rounds.{LoopAt}
 use Rattle.run_state.proofs.Counted.{CountAt, EachAt}

@@ -1,9 +1,9 @@
 use Rattle.std.proofs.Common.{List, ◌++◌, subst}
-use Rattle.rhai_walk.specs.Standing.{statements_standing}
-use Rattle.rhai_walk.specs.Walking.{Path, Refused, Walks}
-use Rattle.rhai_walk.specs.declared.node.ASTNode.{ASTNode}
-use Rattle.rhai_walk.proofs.Paths.{over_two, paths_of, walked}
-use Rattle.rhai_walk.proofs.Walking.{first_agrees, first_refuses, first_short}
+use Rattle.rhai_ast.specs.Standing.{statements_standing}
+use Rattle.rhai_ast.specs.Walking.{Path, Refused, Walks}
+use Rattle.rhai_ast.specs.declared.walker.node.ASTNode.{ASTNode}
+use Rattle.rhai_ast.proofs.Paths.{over_two, paths_of, walked}
+use Rattle.rhai_ast.proofs.Walking.{first_agrees, first_refuses, first_short}
 use Rattle.script_queries.specs.Scripts.{bodies_standing}
 use Rattle.script_queries.proofs.Bodies.{bodies_paths}
 use Rattle.script_queries.proofs.script.ASTScriptQueries.walk.Goals as goal

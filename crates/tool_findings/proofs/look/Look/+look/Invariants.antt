@@ -1,9 +1,9 @@
 -- A child is smaller than its node.
 use Rattle.std.proofs.Common.{length}
-use Rattle.rhai_walk.specs.Children.{AreBelow}
-use Rattle.rhai_walk.specs.Left.{left_of}
-use Rattle.rhai_walk.specs.Nodes.{node_of}
-use Rattle.rhai_walk.proofs.Sizes.{above, below_measure, over_measure}
+use Rattle.rhai_ast.specs.Children.{AreBelow}
+use Rattle.rhai_ast.specs.Left.{left_of}
+use Rattle.rhai_ast.specs.Nodes.{node_of}
+use Rattle.rhai_ast.proofs.Sizes.{above, below_measure, over_measure}
 use Rattle.tool_findings.proofs.look.Look.+look.Given as goal
 
 abbrev pub decreases-at_children : goal.decreases-at_children

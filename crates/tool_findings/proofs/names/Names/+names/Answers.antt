@@ -1,6 +1,6 @@
 use Rattle.std.proofs.Common.{rules}
-use Rattle.rhai_walk.specs.Nodes.{node_of}
-use Rattle.rhai_walk.proofs.Sizes.{below-next, below-start, measure-falls}
+use Rattle.rhai_ast.specs.Nodes.{node_of}
+use Rattle.rhai_ast.proofs.Sizes.{below-next, below-start, measure-falls}
 use Rattle.tool_findings.proofs.names.Names.+names.Goals as goal
 
 pub add_all-loop-child-init : goal.add_all-loop-child-init

@@ -1,9 +1,9 @@
 -- A child is smaller than its node.
 use Rattle.std.proofs.Common.{length}
-use Rattle.rhai_walk.specs.Children.{AreBelow}
-use Rattle.rhai_walk.specs.Left.{left_of}
-use Rattle.rhai_walk.specs.Nodes.{node_of}
-use Rattle.rhai_walk.proofs.Sizes.{above, below_measure, over_measure}
+use Rattle.rhai_ast.specs.Children.{AreBelow}
+use Rattle.rhai_ast.specs.Left.{left_of}
+use Rattle.rhai_ast.specs.Nodes.{node_of}
+use Rattle.rhai_ast.proofs.Sizes.{above, below_measure, over_measure}
 use Rattle.tool_findings.proofs.names.Names.+names.Given as goal
 
 abbrev pub decreases-add_all : goal.decreases-add_all

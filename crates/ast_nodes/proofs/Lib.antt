@@ -1,0 +1,13 @@
+pub mod Blocks
+pub mod Changes
+pub mod ConstantLists
+pub mod Entries
+pub mod Held
+pub mod Listed
+pub mod LiteralLists
+pub mod OtherNodes
+pub mod OtherQueries
+pub mod Placing
+pub mod Pointers
+pub mod SwitchTables
+pub mod Tables

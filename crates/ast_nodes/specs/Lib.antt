@@ -1,0 +1,9 @@
+pub mod Arms
+pub mod Blocks
+pub mod Lent
+pub mod Operators
+pub mod Placed
+pub mod Ranges
+pub mod Scalars
+pub mod SwitchTables
+pub mod Tables

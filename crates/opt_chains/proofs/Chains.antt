@@ -1,0 +1,135 @@
+-- What became of a chain, by what its first step answers.
+use Rattle.std.proofs.Common.{◌≡◌, Bool, true, false, List, Option, Some, None, refl, sym, ap, ◌∙◌, subst, inl, inr}
+use Rattle.std.specs.Prelude.{◌&&◌, ◌⊎◌, if◌then◌else◌}
+use Rattle.rhai_base.specs.Value.{Value, UnitV, is_unit}
+use Rattle.theory_meaning.specs.Constants.{constant_value}
+use Rattle.theory_meaning.specs.Engine.{Engine, or_else}
+use Rattle.theory_meaning.specs.Queries.{is_pure_expr}
+use Rattle.theory_meaning.specs.Queries.{is_unit as is_unit_expr}
+use Rattle.theory_meaning.specs.Tree.{ChainFlags, Expr, UnitConstant, Dot, Index}
+use Rattle.ast_types.specs.Reading.{expr_of}
+use Rattle.theory_rewriting.specs.Known.{Known}
+use Rattle.theory_rewriting.specs.Parts.{constant_of, link}
+use Rattle.theory_rewriting.specs.Rules as rule
+use Rattle.theory_rewriting.specs.Steps.{AnswersNone, Progress, Place, is_chain_node}
+use Rattle.theory_rewriting.proofs.Keeping.{keeps_unit}
+use Rattle.ast_types.specs.declared.expr.BinaryExpr.{BinaryExpr}
+use Rattle.ast_types.specs.declared.expr.Expr as declared
+use Rattle.opt_steps.specs.NodeSteps.{ExprStep}
+use Rattle.opt_steps.specs.Standing.{may_stand}
+use Rattle.opt_steps.proofs.Places.{stands}
+use Rattle.opt_steps.proofs.Stepping.{expr_stays}
+use Rattle.rhai_ast.specs.declared.walker.node.ChainType.{ChainType}
+use Rattle.rhai_ast.specs.declared.walker.node.ChainType.TheVariants as access_kind
+use Rattle.opt_chains.specs.Answers.{constant_answer, known_answer, allowed}
+use Rattle.opt_chains.specs.Chains.{ended_by, unit_ends_by, value_answer, chain_of, IsTaken, PartStep, ChainStep}
+use Rattle.opt_chains.specs.Literals.{allowed_part, literal_answer}
+use Rattle.opt_chains.specs.Onward.{argument, onward, Rewrites}
+use Rattle.opt_chains.proofs.Quiet.{chain_quiet}
+use Rattle.opt_chains.proofs.Rules.{constant_rewrites, known_rewrites, literal_rewrites}
+
+-- ---- a chain over unit, past a `?`
+
+both_true : (a b : Bool) → a && b ≡ true → (a ≡ true) × (b ≡ true)
+both_true true b h = (refl, h)
+both_true false b h = absurd cc
+
+unit_value : (e : Expr) → is_unit_expr e ≡ true → constant_value e ≡ Some UnitV
+unit_value UnitConstant h = refl
+unit_value _ h = absurd cc
+
+some_is : (a b : ChainType) → Some a ≡ Some b → a ≡ b
+some_is a b h = cc
+
+ended_so : (a b : ChainType) (c : Bool) → ended_by a c ≡ Some b → (a ≡ b) × (c ≡ true)
+ended_so a b true h = (some_is a b h, refl)
+ended_so a b false h = absurd (let z : None ≡ Some b = h in cc)
+
+module _ (r : Engine) (p : Place) (s s' : Progress) (e' : Expr) (d : s'.is_dirty ≡ true) (k : s'.known ≡ s.known) (i : e' ≡ UnitConstant) where
+  pub unit_ends_dot : (e : Expr) → unit_ends_by p e ≡ Some access_kind.Dotting → ExprStep true r p s s' e e'
+  unit_ends_dot (Dot f l m) h =
+      let a = both_true (may_stand p UnitConstant) _ (ended_so access_kind.Dotting access_kind.Dotting _ h).1 in
+      let b = both_true f.negated (is_unit_expr l) a.1 in
+      subst (λ x. ExprStep true r p s s' (Dot f l m) x) (sym i)
+      (record { rule = rule.unit_ends_dot b.0 (unit_value l b.1); stays = stands p _ _ refl refl a.0; fired = d; known = k }, keeps_unit _)
+  unit_ends_dot (Index f l m) h = absurd (let z = (ended_so access_kind.Indexing access_kind.Dotting _ h).0 in cc)
+  unit_ends_dot _ h = absurd (let z : None ≡ Some access_kind.Dotting = h in cc)
+
+  pub unit_ends_index : (e : Expr) → unit_ends_by p e ≡ Some access_kind.Indexing → ExprStep true r p s s' e e'
+  unit_ends_index (Index f l m) h =
+      let a = both_true (may_stand p UnitConstant) _ (ended_so access_kind.Indexing access_kind.Indexing _ h).1 in
+      let b = both_true f.negated (is_unit_expr l) a.1 in
+      subst (λ x. ExprStep true r p s s' (Index f l m) x) (sym i)
+      (record { rule = rule.unit_ends_index b.0 (unit_value l b.1); stays = stands p _ _ refl refl a.0; fired = d; known = k }, keeps_unit _)
+  unit_ends_index (Dot f l m) h = absurd (let z = (ended_so access_kind.Dotting access_kind.Indexing _ h).0 in cc)
+  unit_ends_index _ h = absurd (let z : None ≡ Some access_kind.Indexing = h in cc)
+
+-- ---- what may stand there
+
+-- unit, or another value
+allowed_some : (unit : Bool) (o : Option Value) (v : Value) → allowed unit o ≡ Some v → (o ≡ Some v) × ((unit ≡ true) ⊎ (is_unit v ≡ false))
+allowed_some true o v h = (h, inl refl)
+allowed_some false None v h = absurd (let z : None ≡ Some v = h in cc)
+allowed_some false (Some u) v h = by (is_unit u) refl h where
+  by : (b : Bool) → is_unit u ≡ b → (if b then None else Some u) ≡ Some v → (Some u ≡ Some v) × ((false ≡ true) ⊎ (is_unit v ≡ false))
+  by true q h = absurd (let z : None ≡ Some v = h in cc)
+  by false q h = (h, inr (ap is_unit (let y : v ≡ u = cc in y) ∙ q))
+
+part_some : (unit : Bool) (o : Option Expr) (e : Expr) → allowed_part unit o ≡ Some e → (o ≡ Some e) × ((unit ≡ true) ⊎ (is_unit_expr e ≡ false))
+part_some true o e h = (h, inl refl)
+part_some false None e h = absurd (let z : None ≡ Some e = h in cc)
+part_some false (Some d) e h = by (is_unit_expr d) refl h where
+  by : (b : Bool) → is_unit_expr d ≡ b → (if b then None else Some d) ≡ Some e → (Some d ≡ Some e) × ((false ≡ true) ⊎ (is_unit_expr e ≡ false))
+  by true q h = absurd (let z : None ≡ Some e = h in cc)
+  by false q h = (h, inr (ap is_unit_expr (let y : e ≡ d = cc in y) ∙ q))
+
+if_some : (b : Bool) (o : Option Expr) (e : Expr) → (if b then o else None) ≡ Some e → (b ≡ true) × (o ≡ Some e)
+if_some true o e h = (refl, h)
+if_some false o e h = absurd (let z : None ≡ Some e = h in cc)
+
+one_of : (o p : Option Value) (v : Value) → or_else o p ≡ Some v → (o ≡ Some v) ⊎ (p ≡ Some v)
+one_of (Some u) p v h = inl h
+one_of None p v h = inr h
+
+none_of : (o p : Option Value) → or_else o p ≡ None → o ≡ None
+none_of (Some u) p h = absurd (let z : Some u ≡ None = h in cc)
+none_of None p h = refl
+
+module _ (r : Engine) (ks : List Known) (p : Place) (dot : Bool) (f : ChainFlags) (e b : Expr) (unit : Bool) (there : unit ≡ may_stand p (onward f.breaks b UnitConstant)) where
+  stands_there : (x : Type 0) → (unit ≡ true) ⊎ x → (may_stand p (onward f.breaks b UnitConstant) ≡ true) ⊎ x
+  stands_there x (inl h) = inl (sym there ∙ h)
+  stands_there x (inr h) = inr h
+
+  pub value_rewrites : (v : Value) → value_answer r ks unit dot f e b ≡ Some v → Rewrites r ks p (link dot f e b) (onward f.breaks b (constant_of v))
+  value_rewrites v h = by (one_of _ _ v h) where
+    by : (allowed unit (constant_answer r dot f.negated e (argument f.breaks b)) ≡ Some v) ⊎ (allowed unit (known_answer ks dot e b) ≡ Some v) → Rewrites r ks p (link dot f e b) (onward f.breaks b (constant_of v))
+    by (inl q) = let z = allowed_some unit _ v q in constant_rewrites r ks p dot f e b v z.0 (stands_there _ z.1)
+    by (inr q) = let z = allowed_some unit _ v q in known_rewrites r ks p dot f e b v z.0 (stands_there _ z.1)
+
+  pub part_rewrites : (part : Expr) → literal_answer unit dot e (argument f.breaks b) ≡ Some part → Rewrites r ks p (link dot f e b) (onward f.breaks b part)
+  part_rewrites part h =
+      let z = if_some (is_pure_expr e) _ part h in
+      let y = part_some unit _ part z.1 in literal_rewrites r ks p dot f e b part z.0 y.0 (stands_there _ y.1)
+
+  pub none_answers : value_answer r ks unit dot f e b ≡ None → literal_answer unit dot e (argument f.breaks b) ≡ None → AnswersNone (link dot f e b)
+  none_answers h l = chain_quiet r unit dot f e b (none_of _ _ h) l
+
+-- ---- the part that was found
+
+pub value_step : (r : Engine) (ks : List Known) (p : Place) (dot : Bool) (f : ChainFlags) (old : BinaryExpr) (unit : Bool) (part : declared.Expr) (v : Value) → unit ≡ may_stand p (onward f.breaks (expr_of old.rhs) UnitConstant) → Some v ≡ value_answer r ks unit dot f (expr_of old.lhs) (expr_of old.rhs) → expr_of part ≡ constant_of v → PartStep r ks p dot f old old (Some part)
+value_step r ks p dot f old unit part v t h q =
+    (refl, subst (λ x. Rewrites r ks p (chain_of dot f old) (onward f.breaks (expr_of old.rhs) x)) (sym q) (value_rewrites r ks p dot f (expr_of old.lhs) (expr_of old.rhs) unit t v (sym h)))
+
+pub taken_step : (r : Engine) (ks : List Known) (p : Place) (dot : Bool) (f : ChainFlags) (old new : BinaryExpr) (unit : Bool) (part : Option declared.Expr) → unit ≡ may_stand p (onward f.breaks (expr_of old.rhs) UnitConstant) → None ≡ value_answer r ks unit dot f (expr_of old.lhs) (expr_of old.rhs) → IsTaken unit dot f.breaks old new part → PartStep r ks p dot f old new part
+taken_step r ks p dot f old new unit None t h i = (i.kept refl, none_answers r ks p dot f (expr_of old.lhs) (expr_of old.rhs) unit t (sym h) (sym i.answer))
+taken_step r ks p dot f old new unit (Some part) t h i = (i.right, part_rewrites r ks p dot f (expr_of old.lhs) (expr_of old.rhs) unit t (expr_of part) (sym i.answer))
+
+-- ---- the chain
+
+chain_stays : (r : Engine) (p : Place) (s : Progress) (e : Expr) → is_chain_node e ≡ true → AnswersNone e → ExprStep false r p s s e e
+chain_stays r p s (Dot f l m) h a = expr_stays tt a (λ q. refl)
+chain_stays r p s (Index f l m) h a = expr_stays tt a (λ q. refl)
+chain_stays r p s _ h a = absurd cc
+
+pub none_put : {r : Engine} {p : Place} {s : Progress} {e e' : Expr} → is_chain_node e ≡ true → ChainStep r s.known p e e' None → ExprStep false r p s s e e'
+none_put {r = r} {p = p} {s = s} {e = e} h q = subst (λ x. ExprStep false r p s s e x) (sym q.0) (chain_stays r p s e h q.1)

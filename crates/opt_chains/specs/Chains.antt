@@ -1,0 +1,57 @@
+-- What the functions at a chain answer: the part of the first step, what the chain becomes, or that no step answers.
+use Rattle.std.specs.Prelude.{◌≡◌, Bool, true, false, ◌&&◌, List, Option, Some, None}
+use Rattle.std.specs.Option.{option_map}
+use Rattle.rhai_base.specs.Value.{Value}
+use Rattle.theory_meaning.specs.Engine.{Engine, or_else}
+use Rattle.theory_meaning.specs.Queries.{is_unit}
+use Rattle.theory_meaning.specs.Tree.{ChainFlags, Expr, UnitConstant, Dot, Index}
+use Rattle.ast_types.specs.Reading.{expr_of}
+use Rattle.theory_rewriting.specs.Known.{Known}
+use Rattle.theory_rewriting.specs.Parts.{link}
+use Rattle.theory_rewriting.specs.Steps.{AnswersNone, Place}
+use Rattle.opt_steps.specs.Standing.{may_stand}
+use Rattle.ast_types.specs.declared.expr.BinaryExpr.{BinaryExpr}
+use Rattle.ast_types.specs.declared.expr.Expr as declared
+use Rattle.rhai_ast.specs.declared.walker.node.ChainType.{ChainType}
+use Rattle.rhai_ast.specs.declared.walker.node.ChainType.TheVariants as access_kind
+use Rattle.opt_chains.specs.Answers.{constant_answer, known_answer, allowed}
+use Rattle.opt_chains.specs.Literals.{literal_answer}
+use Rattle.opt_chains.specs.Onward.{argument, onward, Rewrites}
+
+-- a chain that ends with unit, past a `?` of unit, where it may become unit: by which node
+abbrev pub ended_by : ChainType → Bool → Option ChainType
+ended_by a true = Some a
+ended_by a false = None
+
+abbrev pub unit_ends_by : Place → Expr → Option ChainType
+unit_ends_by p (Dot f l r) = ended_by access_kind.Dotting (may_stand p UnitConstant && (f.negated && is_unit l))
+unit_ends_by p (Index f l r) = ended_by access_kind.Indexing (may_stand p UnitConstant && (f.negated && is_unit l))
+unit_ends_by p _ = None
+
+-- by value: at a constant, or at a known name
+abbrev pub value_answer : Engine → List Known → (unit dot : Bool) → ChainFlags → Expr → Expr → Option Value
+value_answer r ks unit dot f e b = or_else (allowed unit (constant_answer r dot f.negated e (argument f.breaks b))) (allowed unit (known_answer ks dot e b))
+
+-- a part was taken out of a base that is a literal; the right side stays, and where there is none the base too
+pub record IsTaken (unit dot breaks : Bool) (old new : BinaryExpr) (part : Option declared.Expr) : Type 0 where
+  pub answer : option_map expr_of part ≡ literal_answer unit dot (expr_of old.lhs) (argument breaks (expr_of old.rhs))
+  pub right : new.rhs ≡ old.rhs
+  pub kept : part ≡ None → new ≡ old
+
+-- the chain of two sides
+abbrev pub chain_of : Bool → ChainFlags → BinaryExpr → Expr
+chain_of dot f b = link dot f (expr_of b.lhs) (expr_of b.rhs)
+
+-- the first step answers a part, or none
+abbrev pub PartStep : Engine → List Known → Place → Bool → ChainFlags → BinaryExpr → BinaryExpr → Option declared.Expr → Type 0
+PartStep r ks p dot f old new (Some part) = (new.rhs ≡ old.rhs) × Rewrites r ks p (chain_of dot f old) (onward f.breaks (expr_of old.rhs) (expr_of part))
+PartStep r ks p dot f old new None = (new ≡ old) × AnswersNone (chain_of dot f old)
+
+-- the chain becomes another expression, or stays
+abbrev pub SidesStep : Engine → List Known → Place → Bool → ChainFlags → BinaryExpr → BinaryExpr → Option declared.Expr → Type 0
+SidesStep r ks p dot f old new (Some made) = Rewrites r ks p (chain_of dot f old) (expr_of made)
+SidesStep r ks p dot f old new None = (new ≡ old) × AnswersNone (chain_of dot f old)
+
+abbrev pub ChainStep : Engine → List Known → Place → Expr → Expr → Option declared.Expr → Type 0
+ChainStep r ks p old new (Some made) = Rewrites r ks p old (expr_of made)
+ChainStep r ks p old new None = (new ≡ old) × AnswersNone old

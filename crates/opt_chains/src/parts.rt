@@ -1,0 +1,12 @@
+//! What a step of a chain answers: by value at a constant or at a known name, or a part of a literal, found by
+//! reference and then taken out.
+
+mod answers;
+mod asking;
+mod known;
+mod literals;
+
+pub use answers::constant_answer;
+pub use asking::{Reach, reach_of};
+pub use known::known_answer;
+pub use literals::{Found, literal_answer, take_part};

@@ -1,0 +1,11 @@
+pub mod Arguments
+pub mod Called
+pub mod Changing
+pub mod Folding
+pub mod Folds
+pub mod Moving
+pub mod OperandKinds
+pub mod PartKinds
+pub mod Pointers
+pub mod Single
+pub mod TextJoins

@@ -1,0 +1,181 @@
+-- A pass over operands, in the list's own memory: what stays moves down.
+use Rattle.std.proofs.Common.{◌≡◌, ◌<◌, ◌≤◌, ℕ, zero, suc, ◌+◌, inl, inr, Bool, true, false, not, nat_eq, [], ◌∷◌, ◌++◌, length, get_or, take, drop, refl, sym, ap, ◌∙◌, subst, arith}
+use Rattle.std.specs.Prelude.{◌||◌}
+use Rattle.std.proofs.lemmas.Bool.Decides.{eqb_tells}
+use Rattle.std.proofs.lemmas.List.{append_assoc, append-nil, drop_more, drop_all, take_more, take_all, length-append, length-drop, length-take-le, length_push}
+use Rattle.ast_types.specs.declared.expr.Expr as declared_expr
+use Rattle.theory_meaning.specs.Tree.{Expr, Exprs, no_exprs, expr, count_exprs}
+use Rattle.ast_types.specs.Reading.{expr_of, exprs_of}
+use Rattle.opt_steps.specs.Passes.{InTurn, no_change, one_more}
+use Rattle.opt_steps.proofs.Passing.{turn_then, turns_pass}
+use Rattle.opt_exprs.specs.declared.operands.operation.Operation.{Operation}
+use Rattle.opt_exprs.specs.declared.operands.operation.Operation.TheVariants as operation
+use Rattle.opt_exprs.specs.Operands.{Declared, node_of, OneGoes, follows, goes_on, decides, goes_before, GoBefore, NoneDecides, Ends, OperandsPass, NodeChange}
+use Rattle.opt_exprs.proofs.Changing.{passing, ending, going_before, one_goes, changes, nothing_follows}
+
+-- ---- lists
+
+item : (xs : Declared) (n : ℕ) (x : declared_expr.Expr) → n < length xs → x ≡ get_or xs n x → drop n xs ≡ x ∷ drop (n + 1) xs
+item xs n x lt h = drop_more xs n x lt ∙ ap (λ y. y ∷ drop (n + 1) xs) (sym h)
+
+last-item : (xs : Declared) (n : ℕ) (x : declared_expr.Expr) → n < length xs → x ≡ get_or xs n x → take (n + 1) xs ≡ take n xs ++ x ∷ []
+last-item xs n x lt h = take_more xs n x lt ∙ ap (λ y. take n xs ++ y ∷ []) (sym h)
+
+turn_as : (o : Operation) {xs xs' ys ys' : Declared} → xs' ≡ xs → ys' ≡ ys → InTurn (OneGoes o) (exprs_of xs) (exprs_of ys) → InTurn (OneGoes o) (exprs_of xs') (exprs_of ys')
+turn_as o {xs = xs} {ys' = ys'} h i q = subst (λ (z : Declared). InTurn (OneGoes o) (exprs_of z) (exprs_of ys')) (sym h) (subst (λ (z : Declared). InTurn (OneGoes o) (exprs_of xs) (exprs_of z)) (sym i) q)
+
+count-of : (xs : Declared) → count_exprs (exprs_of xs) ≡ length xs
+count-of [] = refl
+count-of (x ∷ xs) = ap suc (count-of xs)
+
+-- ---- operands of which none decides
+
+undecided-push : (o : Operation) (xs : Declared) (x : declared_expr.Expr) → NoneDecides o xs → decides o (expr_of x) ≡ false → NoneDecides o (xs ++ x ∷ [])
+undecided-push o [] x h i = (i, tt)
+undecided-push o (y ∷ xs) x h i = (h.0, undecided-push o xs x h.1 i)
+
+undecided-take : (o : Operation) (n m : ℕ) (xs : Declared) → n ≤ m → NoneDecides o (take m xs) → NoneDecides o (take n xs)
+undecided-take o zero m xs le h = tt
+undecided-take o (suc n) zero xs le h = absurd (omega arith)
+undecided-take o (suc n) (suc m) [] le h = tt
+undecided-take o (suc n) (suc m) (x ∷ xs) le h = (h.0, undecided-take o n m xs (omega arith) h.1)
+
+or_false : (a b : Bool) → a ≡ false → b ≡ false → a || b ≡ false
+or_false true b h i = absurd cc
+or_false false b h i = i
+
+follows-more : (o : Operation) (e f : Expr) (es : Exprs) → decides o e ≡ false → follows o (expr f es) ≡ false → follows o (expr e (expr f es)) ≡ false
+follows-more operation.And e f es h i = or_false _ _ h i
+follows-more operation.Or e f es h i = or_false _ _ h i
+follows-more operation.Coalesce e f es h i = or_false _ _ h i
+
+follows-none : (o : Operation) → follows o no_exprs ≡ false
+follows-none operation.And = refl
+follows-none operation.Or = refl
+follows-none operation.Coalesce = refl
+
+follows-one : (o : Operation) (e : Expr) → follows o (expr e no_exprs) ≡ false
+follows-one operation.And e = refl
+follows-one operation.Or e = refl
+follows-one operation.Coalesce e = refl
+
+-- whatever the last one is
+settled-last : (o : Operation) (xs : Declared) (x : declared_expr.Expr) → NoneDecides o xs → follows o (exprs_of (xs ++ x ∷ [])) ≡ false
+settled-last o [] x h = follows-one o (expr_of x)
+settled-last o (y ∷ []) x h = follows-more o (expr_of y) (expr_of x) no_exprs h.0 (follows-one o (expr_of x))
+settled-last o (y ∷ z ∷ xs) x h = follows-more o (expr_of y) (expr_of z) (exprs_of (xs ++ x ∷ [])) h.0 (settled-last o (z ∷ xs) x h.1)
+
+settled-all : (o : Operation) (xs : Declared) → NoneDecides o xs → follows o (exprs_of xs) ≡ false
+settled-all o [] h = follows-none o
+settled-all o (y ∷ []) h = follows-one o (expr_of y)
+settled-all o (y ∷ z ∷ xs) h = follows-more o (expr_of y) (expr_of z) (exprs_of xs) h.0 (settled-all o (z ∷ xs) h.1)
+
+-- ---- what is pure goes before one that decides
+
+-- so far
+pub record Purging (o : Operation) (xs : Declared) (from kept : ℕ) : Type 0 where
+  pub low : from ≤ kept
+  pub go : GoBefore o xs from kept
+
+pub before_start : {o : Operation} {xs : Declared} {kept : ℕ} → Purging o xs kept kept
+before_start = record { low = omega arith; go = λ x d. no_change }
+
+pub before_more : {o : Operation} {xs : Declared} {n from kept : ℕ} (y : declared_expr.Expr) → Purging o xs from kept → n + 1 ≡ from → n < length xs → y ≡ get_or xs n y → goes_before o (expr_of y) ≡ true → Purging o xs n kept
+before_more {o = o} {xs = xs} {n = n} {from = from} y q e lt h g = record {
+  low = omega (arith, q.low);
+  go = λ x d.
+      let front = take n xs in
+      let here : take from xs ++ x ∷ [] ≡ front ++ y ∷ x ∷ [] = ap (λ z. take z xs ++ x ∷ []) (sym e) ∙ ap (λ (z : Declared). z ++ x ∷ []) (last-item xs n y lt h) ∙ append_assoc front (y ∷ []) (x ∷ []) in
+      let goes = one_goes o front (y ∷ x ∷ []) (x ∷ []) (going_before o (expr_of y) (expr_of x) g d) (omega (arith, length_push front x)) in
+      one_more (turn_as o refl (sym here) (q.go x d)) goes;
+}
+
+-- ---- operands end at one that decides
+
+cut : (o : Operation) (front : Declared) (x : declared_expr.Expr) (rest : Declared) → decides o (expr_of x) ≡ true → InTurn (OneGoes o) (exprs_of (front ++ x ∷ rest)) (exprs_of (front ++ x ∷ []))
+cut o front x [] d = no_change
+cut o front x (y ∷ rest) d = one_more no_change (one_goes o front (x ∷ y ∷ rest) (x ∷ []) (ending o (expr_of x) (expr_of y) (exprs_of rest) d) (omega (arith, length_push front x)))
+
+pub ends_at : {o : Operation} {at kept from : ℕ} {xs mid ys : Declared} (x : declared_expr.Expr) → kept ≤ at → at < length xs → x ≡ get_or xs at x → decides o (expr_of x) ≡ true → from ≤ kept → GoBefore o xs from kept → take (from + 1) mid ≡ take from xs ++ x ∷ [] → length mid ≡ length xs → (from ≡ at → mid ≡ xs) → ys ≡ take (from + 1) mid → Ends o at kept xs ys
+ends_at {o = o} {at = at} {kept = kept} {from = from} {xs = xs} {mid = mid} {ys = ys} x le lt h d low go put long stay e =
+    let is : ys ≡ take from xs ++ x ∷ [] = e ∙ put in
+    let count : length ys ≡ from + 1 = ap length e ∙ length-take-le (from + 1) mid (omega arith) in
+    record {
+      to = turn_as o (ap (λ (z : Declared). take kept xs ++ z) (item xs at x lt h)) is (turn_then (cut o (take kept xs) x (drop (at + 1) xs) d) (go x d));
+      settled = λ u. ap (λ (z : Declared). follows o (exprs_of z)) is ∙ settled-last o (take from xs) x (undecided-take o from kept xs low u);
+      short = omega arith;
+      same = λ n. e ∙ take_all (from + 1) mid (omega arith) ∙ stay (omega arith);
+    }
+
+-- ---- a pass
+
+-- of all, which are now `here`, those before a place stand before `kept`
+pub record Passing (o : Operation) (all here : Declared) (at kept : ℕ) : Type 0 where
+  pub to : InTurn (OneGoes o) (exprs_of all) (exprs_of (take kept here ++ drop at here))
+  pub low : kept ≤ at
+  pub len : length here ≡ length all
+  pub undecided : NoneDecides o (take kept here)
+  pub same : kept ≡ at → here ≡ all
+
+pub passing_start : {o : Operation} {all : Declared} → Passing o all all 0 0
+passing_start = record { to = no_change; low = omega arith; len = refl; undecided = tt; same = λ h. refl }
+
+pub passing_keep : {o : Operation} {all here new : Declared} {at kept : ℕ} (x : declared_expr.Expr) → Passing o all here at kept → at < length here → x ≡ get_or here at x → decides o (expr_of x) ≡ false → take (kept + 1) new ≡ take kept here ++ x ∷ [] → drop (at + 1) new ≡ drop (at + 1) here → length new ≡ length here → (kept ≡ at → new ≡ here) → Passing o all new (at + 1) (kept + 1)
+passing_keep {o = o} {all = all} {here = here} {new = new} {at = at} {kept = kept} x p lt h d front back long stay = record {
+  to =
+      let e : take (kept + 1) new ++ drop (at + 1) new ≡ take kept here ++ drop at here =
+      ap (λ (z : Declared). z ++ drop (at + 1) new) front ∙ ap (λ (z : Declared). (take kept here ++ x ∷ []) ++ z) back ∙ append_assoc (take kept here) (x ∷ []) (drop (at + 1) here) ∙ ap (λ (z : Declared). take kept here ++ z) (sym (item here at x lt h)) in
+      turn_as o refl e p.to;
+  low = omega (arith, p.low);
+  len = long ∙ p.len;
+  undecided = subst (NoneDecides o) (sym front) (undecided-push o (take kept here) x p.undecided d);
+  same = λ e. let k : kept ≡ at = omega arith in stay k ∙ p.same k;
+}
+
+pub passing_skip : {o : Operation} {all here : Declared} {at kept : ℕ} (x : declared_expr.Expr) → Passing o all here at kept → at < length here → x ≡ get_or here at x → goes_on o (expr_of x) ≡ true → at + 1 < kept + length here → Passing o all here (at + 1) kept
+passing_skip {o = o} {all = all} {here = here} {at = at} {kept = kept} x p lt h g more = record {
+  to =
+      let rest = drop (at + 1) here in
+      let e : take kept here ++ drop at here ≡ take kept here ++ x ∷ rest = ap (λ (z : Declared). take kept here ++ z) (item here at x lt h) in
+      let count : 0 < length (take kept here ++ rest) = omega (arith, length-append (take kept here) rest, length-take-le kept here (omega (arith, p.low)), length-drop (at + 1) here) in
+      one_more (turn_as o refl (sym e) p.to) (one_goes o (take kept here) (x ∷ rest) rest (passing o (expr_of x) (exprs_of rest) g) count);
+  low = omega (arith, p.low);
+  len = p.len;
+  undecided = p.undecided;
+  same = λ e. absurd (omega (arith, p.low));
+}
+
+pub passing_end : {o : Operation} {all here new : Declared} {at kept : ℕ} → Passing o all here at kept → at ≡ length all → new ≡ take kept here → OperandsPass o all new
+passing_end {o = o} {all = all} {here = here} {new = new} {at = at} {kept = kept} p h e = record {
+  to = turn_as o refl (e ∙ sym (append-nil (take kept here)) ∙ ap (λ (z : Declared). take kept here ++ z) (sym (drop_all at here (omega (arith, p.len))))) p.to;
+  settled = ap (λ (z : Declared). follows o (exprs_of z)) e ∙ settled-all o (take kept here) p.undecided;
+  same = λ n.
+      let long : length new ≡ kept = ap length e ∙ length-take-le kept here (omega (arith, p.low, p.len)) in
+      e ∙ take_all kept here (omega (arith, p.len)) ∙ p.same (omega arith);
+}
+
+pub passing_decided : {o : Operation} {all here new : Declared} {at kept : ℕ} → Passing o all here at kept → at < length here → Ends o at kept here new → OperandsPass o all new
+passing_decided {all = all} {here = here} {new = new} p lt q = record {
+  to = turn_then p.to q.to;
+  settled = q.settled p.undecided;
+  same = λ n. q.same (n ∙ sym p.len) ∙ p.same (omega (arith, p.low, p.len, q.short));
+}
+
+-- ---- at the node
+
+went : (xs ys : Declared) → (length ys ≡ length xs → ⊥) → exprs_of xs ≡ exprs_of ys → ⊥
+went xs ys n e = n (sym (sym (count-of xs) ∙ ap count_exprs e ∙ count-of ys))
+
+pub some_went : {o : Operation} {xs ys : Declared} → OperandsPass o xs ys → (length ys ≡ length xs → ⊥) → NodeChange true (node_of o (exprs_of xs)) (node_of o (exprs_of ys))
+some_went {o = o} {xs = xs} {ys = ys} p n = turns_pass (changes o) p.to (went xs ys n)
+
+pub none_went : {o : Operation} {xs ys : Declared} → OperandsPass o xs ys → length ys ≡ length xs → NodeChange false (node_of o (exprs_of xs)) (node_of o (exprs_of ys))
+none_went {o = o} {xs = xs} {ys = ys} p h =
+    let e = p.same h in
+    (ap (λ (z : Declared). node_of o (exprs_of z)) e, λ r. nothing_follows o (exprs_of xs) r (sym (ap (λ (z : Declared). follows o (exprs_of z)) e) ∙ p.settled))
+
+-- whether any went, by the number of those that are left
+pub went_by : (o : Operation) (xs ys : Declared) → OperandsPass o xs ys → (a b : ℕ) → a ≡ length ys → b ≡ length xs → NodeChange (not (nat_eq a b)) (node_of o (exprs_of xs)) (node_of o (exprs_of ys))
+went_by o xs ys p a b i j =
+    let P = λ (t : Bool). NodeChange (not t) (node_of o (exprs_of xs)) (node_of o (exprs_of ys)) in
+    elim (eqb_tells a b) [ inl h ↦ subst P (sym h.0) (none_went p (sym i ∙ h.1 ∙ j)) | inr h ↦ subst P (sym h.0) (some_went p (λ e. h.1 (i ∙ e ∙ sym j))) ]

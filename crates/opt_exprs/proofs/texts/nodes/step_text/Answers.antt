@@ -1,0 +1,20 @@
+use Rattle.opt_exprs.proofs.Folding.{text_folded, text_changed, text_same, text_stays}
+use Rattle.opt_exprs.proofs.texts.nodes.step_text.Goals as goal
+
+pub returns-then-branch : goal.returns-then-branch
+returns-then-branch c = text_folded (rw c.if-branch.true at c.in_ok-text_folds.ensures)
+
+pub change_text-requires : goal.change_text-requires
+change_text-requires c = let q = rw c.if-branch.false at c.in_ok-text_folds.ensures in text_stays c.requires q.1
+
+pub returns-then-branch-2 : goal.returns-then-branch-2
+returns-then-branch-2 c =
+    let q = rw c.if-branch.false at c.in_ok-text_folds.ensures in
+    let n = rw c.if-branch-2.true at c.in_ok-change_text.ensures in
+    text_changed q.0 q.1 c.note_fired.ensures.dirty c.note_fired.ensures.known n
+
+pub returns : goal.returns
+returns c =
+    let q = rw c.if-branch.false at c.in_ok-text_folds.ensures in
+    let n = rw c.if-branch-2.false at c.in_ok-change_text.ensures in
+    text_same c.requires q.0 q.1 n

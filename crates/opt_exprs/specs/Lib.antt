@@ -1,0 +1,4 @@
+pub mod Holding
+pub mod Operands
+pub mod Parts
+pub mod Words

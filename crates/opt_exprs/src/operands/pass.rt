@@ -1,0 +1,104 @@
+//! One pass over operands: which of them go, in the list's own memory.
+
+#![tactic(auto, using(ast_types::specs::Reading::shapes))]
+
+ghost use Rattle.std.specs.Prelude.{◌≡◌, ◌<◌, ◌≤◌, ◌+◌, true, length, slice_index_or};
+ghost use Rattle.theory_meaning.specs.Tree.{And, Or, Coalesce};
+ghost use Rattle.ast_types.specs.Reading.{expr_of, exprs_of};
+ghost use Rattle.ast_types.specs.declared.expr.Expr.{Expr};
+ghost use Rattle.opt_exprs.specs.Operands as spec;
+ghost use Rattle.opt_exprs.specs.Operands.{Ends, GoBefore, NodeChange, OperandsPass};
+
+use crate::operands::operation::{Operation, decides, goes_before, goes_on};
+use opt_steps::{move_down, shorten};
+use rhai_ast::Expr;
+use rhai_base::Seq;
+use std::alloc::Global;
+
+/// Does the operand at a place go, as a constant after which the operator goes on? One operand stays: those that are
+/// kept, or that follow.
+fn goes(operation: Operation, operands: &[Expr], at: usize, kept: usize) -> bool
+    requires { at < length operands.now }
+    ensures goes_on { result ≡ true → (d : Expr)
+        → spec.goes_on operation (expr_of (slice_index_or operands.now at d)) ≡ true }
+    ensures others { result ≡ true → at + 1 < kept + length operands.now }
+{
+    goes_on(operation, &operands[at]) && (kept > 0 || at + 1 < operands.len())
+}
+
+/// The place from which all up to another go before a constant that decides.
+fn pure_from(operation: Operation, operands: &[Expr], kept: usize) -> usize
+    requires { kept ≤ length operands.now }
+    ensures below { result ≤ kept }
+    ensures go { GoBefore operation operands.now result kept }
+{
+    let mut from = kept;
+    while from > 0 && goes_before(operation, &operands[from - 1]) {
+        from -= 1;
+    }
+    from
+}
+
+/// Ends operands at a constant that decides: those behind it go, and those directly before it that are pure. Those
+/// before it are kept up to a place.
+fn end_at(alloc: Global, operation: Operation, operands: &mut Seq<Expr>, at: usize, kept: usize)
+    requires below { kept ≤ at }
+    requires inside { at < length operands.old }
+    requires decides { (d : Expr) → spec.decides operation (expr_of (slice_index_or operands.old at d)) ≡ true }
+    ensures { Ends operation at kept operands.old operands.new }
+{
+    let from = pure_from(operation, operands.as_slice(), kept);
+    move_down(operands, at, from);
+    shorten(alloc, operands, from + 1);
+}
+
+/// One pass over operands. Where none goes, nothing is moved.
+fn pass(alloc: Global, operation: Operation, operands: &mut Seq<Expr>)
+    ensures { OperandsPass operation operands.old operands.new }
+{
+    let mut kept = 0;
+    for at in 0..operands.len() {
+        if decides(operation, &operands.as_slice()[at]) {
+            end_at(alloc, operation, operands, at, kept);
+            return;
+        }
+        if !goes(operation, operands.as_slice(), at, kept) {
+            move_down(operands, at, kept);
+            kept += 1;
+        }
+    }
+    shorten(alloc, operands, kept);
+}
+
+/// What goes of the operands of a node; the answer is whether any went.
+fn change(alloc: Global, operation: Operation, operands: &mut Seq<Expr>) -> bool
+    ensures { NodeChange result (spec.node_of operation (exprs_of operands.old))
+        (spec.node_of operation (exprs_of operands.new)) }
+{
+    let len = operands.len();
+    pass(alloc, operation, operands);
+    operands.len() != len
+}
+
+/// Of the operands of `&&` constants that are true go, those after one that is false, and what is pure directly before
+/// that one. One stays.
+pub(crate) fn and_changes(alloc: Global, operands: &mut Seq<Expr>) -> bool
+    ensures { NodeChange result (And (exprs_of operands.old)) (And (exprs_of operands.new)) }
+{
+    change(alloc, Operation::And, operands)
+}
+
+/// Of the operands of `||` constants that are false go, those after one that is true, and what is pure directly before
+/// that one. One stays.
+pub(crate) fn or_changes(alloc: Global, operands: &mut Seq<Expr>) -> bool
+    ensures { NodeChange result (Or (exprs_of operands.old)) (Or (exprs_of operands.new)) }
+{
+    change(alloc, Operation::Or, operands)
+}
+
+/// Of the operands of `??` constants that are unit go, and those after a constant that is not. One stays.
+pub(crate) fn coalesce_changes(alloc: Global, operands: &mut Seq<Expr>) -> bool
+    ensures { NodeChange result (Coalesce (exprs_of operands.old)) (Coalesce (exprs_of operands.new)) }
+{
+    change(alloc, Operation::Coalesce, operands)
+}

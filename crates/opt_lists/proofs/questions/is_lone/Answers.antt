@@ -1,0 +1,6 @@
+use Rattle.ast_types.proofs.Cases.{stmt_cases}
+use Rattle.opt_lists.proofs.Others.{no_lone}
+use Rattle.opt_lists.proofs.questions.is_lone.Goals as goal
+
+pub returns-in_default : goal.returns-in_default
+returns-in_default c = no_lone (stmt_cases c.args.statement.now) c.in_default.not-Expr

@@ -1,0 +1,6 @@
+use Rattle.opt_lists.specs.declared.behind.Fading.TheVariants.{LastUnit}
+use Rattle.opt_lists.proofs.Firing.{last_goes_fires}
+use Rattle.opt_lists.proofs.rules.last_unit_goes.Goals as goal
+
+pub returns-clause-rule : goal.returns-clause-rule
+returns-clause-rule c = λ m z. last_goes_fires c.args.list.now _ c.args.len LastUnit m c.shorten.ensures z

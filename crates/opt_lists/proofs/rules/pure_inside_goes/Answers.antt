@@ -1,0 +1,6 @@
+use Rattle.opt_lists.specs.declared.behind.Going.TheVariants.{PureInside}
+use Rattle.opt_lists.proofs.Deciding.{step_marked}
+use Rattle.opt_lists.proofs.rules.pure_inside_goes.Goals as goal
+
+pub returns : goal.returns
+returns c = rw c.changed.ensures (step_marked PureInside c.requires.inside c.mark_at.ensures c.requires.unwanted c.requires.goes)

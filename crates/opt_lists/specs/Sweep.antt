@@ -1,0 +1,133 @@
+-- A sweep over a list of statements, from its end.
+use Rattle.std.specs.Prelude.{◌≡◌, List, Bool, true, false, cond, ◌&&◌, ◌||◌, not, Option, Some, None, if◌then◌else◌}
+use Rattle.theory_meaning.specs.Queries.{is_pure, is_internally_pure, are_internally_pure, is_noop}
+use Rattle.theory_meaning.specs.Tree.{Expr, Variable, Stmt, Noop, ExprStmt, Return, no_expr, an_expr, Stmts, no_stmts, stmt}
+use Rattle.theory_rewriting.specs.Clear.{AreClear}
+use Rattle.theory_rewriting.specs.Exports.{exports_nothing, stmt_exports_nothing}
+use Rattle.theory_rewriting.specs.Known.{Known}
+use Rattle.theory_rewriting.specs.Context.{Context, ListKind, Whole, Inside, wanted, wanted_before}
+use Rattle.theory_rewriting.specs.Reducible.{goes_on_after_leaving, idles, ends_in_return}
+use Rattle.theory_rewriting.specs.Rewriting.{RestTo}
+use Rattle.theory_rewriting.specs.Rules.{is_pure_in}
+use Rattle.theory_rewriting.specs.SurelyUnit.{is_surely_unit}
+use Rattle.opt_lists.specs.declared.behind.Behind.{Behind}
+use Rattle.opt_lists.specs.declared.behind.Fading.{Fading}
+use Rattle.opt_lists.specs.declared.behind.Fading.TheVariants as fading_kind
+use Rattle.opt_lists.specs.declared.behind.Going.{Going}
+use Rattle.opt_lists.specs.declared.behind.Going.TheVariants as going_kind
+
+-- ---- what a statement is by itself
+
+abbrev pub is_name : Expr → Bool
+is_name (Variable ns x) = true
+is_name _ = false
+
+-- a name alone
+abbrev pub is_lone : Stmt → Bool
+is_lone (ExprStmt e) = is_name e
+is_lone _ = false
+
+-- pure inside a list, and it exports nothing
+abbrev pub is_quiet : Stmt → Bool
+is_quiet s = is_internally_pure s && stmt_exports_nothing s
+
+-- inside a list, before quiet ones (the first test)
+abbrev pub goes_inside : ListKind → Bool → Stmt → Bool
+goes_inside Whole b s = false
+goes_inside (Inside w) b s = b && is_internally_pure s
+
+-- by which rule it goes where its value is not wanted; the first test is whether all that follow are quiet
+abbrev pub goes_by : ListKind → Bool → Stmt → Option Going
+goes_by m b s =
+    if is_pure s then Some going_kind.Pure
+    else if is_lone s then Some going_kind.Lone
+    else if goes_inside m b s then Some going_kind.PureInside
+    else None
+
+abbrev pub goes_as : Going → ListKind → Bool → Stmt → Bool
+goes_as going_kind.Pure m b s = is_pure s
+goes_as going_kind.Lone m b s = is_lone s
+goes_as going_kind.PureInside m b s = goes_inside m b s
+
+-- `return e` and `return;` of a script or a function
+abbrev pub whole_returns_value : Stmt → Bool
+whole_returns_value (Return false exported (an_expr e)) = true
+whole_returns_value _ = false
+
+abbrev pub whole_returns_nothing : Stmt → Bool
+whole_returns_nothing (Return false exported no_expr) = true
+whole_returns_nothing _ = false
+
+abbrev pub returns_value : ListKind → Stmt → Bool
+returns_value Whole s = whole_returns_value s
+returns_value (Inside b) s = false
+
+abbrev pub returns_nothing : ListKind → Stmt → Bool
+returns_nothing Whole s = whole_returns_nothing s
+returns_nothing (Inside b) s = false
+
+-- the expression of a `return`
+abbrev pub bared : Stmt → Stmt
+bared (Return throws exported (an_expr e)) = ExprStmt e
+bared s = s
+
+-- as the last one it goes behind unit, and else does nothing: by which rules
+abbrev pub fades_as : Fading → ListKind → Stmt → Bool
+fades_as fading_kind.LastReturn m s = returns_nothing m s
+fades_as fading_kind.LastUnit m s = is_pure_in m s && is_surely_unit s
+
+abbrev pub return_fades : ListKind → Stmt → Option Fading
+return_fades m s = if returns_nothing m s then Some fading_kind.LastReturn else None
+
+abbrev pub unit_fades : ListKind → Stmt → Option Fading
+unit_fades m s = if is_pure_in m s && is_surely_unit s then Some fading_kind.LastUnit else None
+
+-- ---- what is kept of a list
+
+abbrev pub is_nothing : Stmts → Bool
+is_nothing no_stmts = true
+is_nothing (stmt s ss) = false
+
+-- of a script's or a function's list: the last statement returns an expression
+abbrev pub returns_at_end : ListKind → Stmts → Bool
+returns_at_end Whole ss = ends_in_return ss
+returns_at_end (Inside b) ss = false
+
+-- statements in their order; behind them the last one may do nothing, or be the expression of a `return` (the test)
+pub data Keeps : Bool → Stmts → Stmts → Type 0 where
+  keeps_none : {ss : Stmts} → Keeps false ss no_stmts
+  keeps : {b : Bool} {s : Stmt} {ss rest : Stmts} → Keeps b ss rest → Keeps b (stmt s ss) (stmt s rest)
+  skips : {b : Bool} {s : Stmt} {ss rest : Stmts} → Keeps b ss rest → Keeps b (stmt s ss) rest
+  keeps_noop : {ss : Stmts} → Keeps false ss (stmt Noop no_stmts)
+  keeps_bared : {exported : Bool} {e : Expr} {ss : Stmts} → Keeps true (stmt (Return false exported (an_expr e)) ss) (stmt (ExprStmt e) no_stmts)
+
+-- nothing of what the sweep decides is left to do
+pub record IsSwept (m : ListKind) (ss : Stmts) : Type 0 where
+  pub ends_where_left : goes_on_after_leaving ss ≡ false
+  pub never_idles : idles ss ≡ false
+  pub returns_nowhere : returns_at_end m ss ≡ false
+
+-- each is pure inside a list, and exports nothing
+abbrev pub AreQuiet : Stmts → Type 0
+AreQuiet ss = (are_internally_pure ss ≡ true) × (exports_nothing ss ≡ true)
+
+-- one statement alone, which fades
+abbrev pub FadesAlone : ListKind → Fading → Stmts → Type 0
+FadesAlone m x rest = (wanted m ≡ true) × ((t : Stmt) × (rest ≡ stmt t no_stmts) × (fades_as x m t ≡ true))
+
+-- these statements are decided, from their end: the rest of them is kept
+pub record DecidedTo (m : ListKind) (b : Behind) (ss rest : Stmts) : Type 0 where
+  pub to : (k : Context) (u d : Bool) → RestTo k m u d (b.has_changed || d) ss rest
+  pub kept : Keeps b.is_bared ss rest
+  pub clear : b.is_bared ≡ false → (ks : List Known) → AreClear ks ss → AreClear ks rest
+  pub bared : b.is_bared ≡ true → b.has_changed ≡ true
+  pub swept : IsSwept m rest
+  pub last : b.is_last ≡ is_nothing rest
+  pub fading : (x : Fading) → b.fading ≡ Some x → FadesAlone m x rest
+  pub quiet : b.is_quiet ≡ true → AreQuiet rest
+
+-- ---- a list in which what goes is marked by a `Noop` whose value is not wanted
+
+abbrev pub closed_up : Bool → Stmts → Stmts
+closed_up w no_stmts = no_stmts
+closed_up w (stmt s ss) = cond (is_noop s && not (wanted_before w ss)) (closed_up w ss) (stmt s (closed_up w ss))

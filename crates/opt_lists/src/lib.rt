@@ -1,0 +1,16 @@
+//! Lists of statements: those that go, since they do nothing or nothing comes to them.
+#![tactic(auto)]
+
+mod behind;
+mod closing;
+mod list;
+mod mark;
+mod passes;
+mod questions;
+mod rules;
+mod steps;
+mod swept;
+
+pub use mark::ListMark;
+pub use passes::sweep;
+pub use swept::Swept;

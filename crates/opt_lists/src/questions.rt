@@ -1,0 +1,141 @@
+//! What a sweep asks of a statement.
+
+#![tactic(auto, using(ast_types::specs::Reading::shapes))]
+
+ghost use Rattle.std.specs.Prelude.{◌≡◌};
+ghost use Rattle.theory_meaning.specs.Queries as queries;
+ghost use Rattle.ast_types.specs.Reading.{expr_of, stmt_of};
+ghost use Rattle.theory_rewriting.specs.Rules as rules;
+ghost use Rattle.opt_lists.specs.Marks.{mark_of};
+ghost use Rattle.opt_lists.specs.Sweep as spec;
+
+use crate::behind::{Fading, Going};
+use crate::mark::ListMark;
+use ast_types::{Expr, Stmt};
+use bitflags::Flags;
+use opt_queries::{exports_nothing, is_surely_unit};
+use rhai_ast::StmtQueries;
+use rhai_base::ASTFlags;
+
+/// Is it a name alone?
+fn is_lone(statement: &Stmt) -> bool
+    ensures { result ≡ spec.is_lone (stmt_of statement.now) }
+{
+    match statement {
+        Stmt::Expr(expr) => is_name(expr.get()),
+        _ => false,
+    }
+}
+
+fn is_name(expr: &Expr) -> bool
+    ensures { result ≡ spec.is_name (expr_of expr.now) }
+{
+    match expr {
+        Expr::Variable(_, _, _) => true,
+        _ => false,
+    }
+}
+
+/// Is it pure in such a list? A list inside takes away the names that it adds.
+fn is_pure_in(mark: ListMark, statement: &Stmt) -> bool
+    ensures { result ≡ rules.is_pure_in (mark_of mark) (stmt_of statement.now) }
+{
+    match mark {
+        ListMark::Whole => statement.is_pure(),
+        ListMark::Inside { is_wanted: _ } => statement.is_internally_pure(),
+    }
+}
+
+/// Is it pure inside a list, and does it export nothing?
+pub(crate) fn is_quiet(statement: &Stmt) -> bool
+    ensures { result ≡ spec.is_quiet (stmt_of statement.now) }
+{
+    statement.is_internally_pure() && exports_nothing(statement)
+}
+
+/// Does it go inside a list? The flag: all that follow are quiet.
+fn goes_inside(mark: ListMark, are_quiet: bool, statement: &Stmt) -> bool
+    ensures { result ≡ spec.goes_inside (mark_of mark) are_quiet (stmt_of statement.now) }
+{
+    match mark {
+        ListMark::Whole => false,
+        ListMark::Inside { is_wanted: _ } => are_quiet && statement.is_internally_pure(),
+    }
+}
+
+/// By which rule does it go where its value is not wanted, if by one? The flag: all that follow are quiet.
+pub(crate) fn goes_by(mark: ListMark, are_quiet: bool, statement: &Stmt) -> Option<Going>
+    ensures { result ≡ spec.goes_by (mark_of mark) are_quiet (stmt_of statement.now) }
+{
+    if statement.is_pure() {
+        return Some(Going::Pure);
+    }
+    if is_lone(statement) {
+        return Some(Going::Lone);
+    }
+    if goes_inside(mark, are_quiet, statement) {
+        Some(Going::PureInside)
+    } else {
+        None
+    }
+}
+
+/// Is it a `return e` of a script or a function?
+pub(crate) fn returns_value(mark: ListMark, statement: &Stmt) -> bool
+    ensures { result ≡ spec.returns_value (mark_of mark) (stmt_of statement.now) }
+{
+    match mark {
+        ListMark::Whole => is_return_of_value(statement),
+        ListMark::Inside { is_wanted: _ } => false,
+    }
+}
+
+fn is_return_of_value(statement: &Stmt) -> bool
+    ensures { result ≡ spec.whole_returns_value (stmt_of statement.now) }
+{
+    match statement {
+        Stmt::Return(expr, options, _) => !options.contains(ASTFlags::BREAK) && expr.is_some(),
+        _ => false,
+    }
+}
+
+/// Is it a `return;` of a script or a function?
+fn returns_nothing(mark: ListMark, statement: &Stmt) -> bool
+    ensures { result ≡ spec.returns_nothing (mark_of mark) (stmt_of statement.now) }
+{
+    match mark {
+        ListMark::Whole => is_return_of_nothing(statement),
+        ListMark::Inside { is_wanted: _ } => false,
+    }
+}
+
+fn is_return_of_nothing(statement: &Stmt) -> bool
+    ensures { result ≡ spec.whole_returns_nothing (stmt_of statement.now) }
+{
+    match statement {
+        Stmt::Return(expr, options, _) => !options.contains(ASTFlags::BREAK) && expr.is_none(),
+        _ => false,
+    }
+}
+
+/// Does a `return;` go behind unit as the last one, and else do nothing?
+pub(crate) fn return_fades(mark: ListMark, statement: &Stmt) -> Option<Fading>
+    ensures { result ≡ spec.return_fades (mark_of mark) (stmt_of statement.now) }
+{
+    if returns_nothing(mark, statement) {
+        Some(Fading::LastReturn)
+    } else {
+        None
+    }
+}
+
+/// Does one go behind unit as the last one, and else do nothing, since it is pure and surely unit?
+pub(crate) fn unit_fades(mark: ListMark, statement: &Stmt) -> Option<Fading>
+    ensures { result ≡ spec.unit_fades (mark_of mark) (stmt_of statement.now) }
+{
+    if is_pure_in(mark, statement) && is_surely_unit(statement) {
+        Some(Fading::LastUnit)
+    } else {
+        None
+    }
+}

@@ -1,0 +1,12 @@
+-- Constants that become their values.
+use Rattle.std.specs.Prelude.{◌≡◌, Bool, true, false, Some}
+use Rattle.rhai_base.specs.Value.{Value}
+use Rattle.theory_meaning.specs.Constants.{constant_value, is_constant}
+use Rattle.theory_meaning.specs.Tree.{Expr}
+use Rattle.theory_rewriting.specs.Steps.{Progress}
+use Rattle.opt_steps.specs.NodeSteps.{Puts}
+
+-- whether a constant was put for its value; what is none stays
+abbrev pub FoldsConstant : Bool → Progress → Progress → Expr → Expr → Type 0
+FoldsConstant true s s' e e' = (v : Value) × (constant_value e ≡ Some v) × Puts s s' e' v
+FoldsConstant false s s' e e' = (is_constant e ≡ false) × (s' ≡ s) × (e' ≡ e)

@@ -1,0 +1,5 @@
+pub mod Folded
+pub mod NodeSteps
+pub mod Passes
+pub mod Places
+pub mod Standing

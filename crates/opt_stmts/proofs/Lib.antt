@@ -1,0 +1,13 @@
+pub mod Assigning
+pub mod AssignmentParts
+pub mod ChoiceParts
+pub mod Choosing
+pub mod Ends
+pub mod FiredAssignments
+pub mod FiredStatements
+pub mod Names
+pub mod Nesting
+pub mod OtherAssignments
+pub mod OtherChoices
+pub mod OtherStatements
+pub mod Shapes

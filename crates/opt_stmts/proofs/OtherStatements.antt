@@ -1,0 +1,29 @@
+-- All other nodes, where a match names some.
+use Rattle.std.proofs.Common.{◌≡◌, true, false, None, refl}
+use Rattle.ast_types.specs.declared.expr.Expr as declared_expr
+use Rattle.ast_types.specs.declared.stmt.Stmt as declared_stmt
+use Rattle.theory_meaning.specs.Tree.{Expr, Stmt}
+use Rattle.ast_types.proofs.Cases.{ExprCase, braces_case, call_case, StmtCase, while_case, block_case, try_catch_case, expression_case}
+use Rattle.opt_steps.proofs.NodeKinds.{NoBraces, NoCall, NoWhile, NoBlock, NoTry, NoExpression}
+use Rattle.opt_stmts.specs.SettledStatements.{is_settled_block, stays, is_settled_expression, decided_loop, is_settled_try}
+
+pub no_block : {x : declared_stmt.Stmt} {s : Stmt} → StmtCase x s → NoBlock x → true ≡ is_settled_block s
+no_block (block_case b) h = absurd (h b refl)
+no_block _ h = refl
+
+pub stays_as_statement : {x : declared_expr.Expr} {e : Expr} → ExprCase x e → NoBraces x → NoCall x → true ≡ stays e
+stays_as_statement (braces_case b) h c = absurd (h b refl)
+stays_as_statement (call_case c p) h k = absurd (k c p refl)
+stays_as_statement _ h c = refl
+
+pub no_expression : {x : declared_stmt.Stmt} {s : Stmt} → StmtCase x s → NoExpression x → true ≡ is_settled_expression s
+no_expression (expression_case e) h = absurd (h e refl)
+no_expression _ h = refl
+
+pub decides_nothing : {x : declared_stmt.Stmt} {s : Stmt} → StmtCase x s → NoWhile x → None ≡ decided_loop s
+decides_nothing (while_case f p) h = absurd (h f p refl)
+decides_nothing _ h = refl
+
+pub no_try : {x : declared_stmt.Stmt} {s : Stmt} → StmtCase x s → NoTry x → true ≡ is_settled_try s
+no_try (try_catch_case f p) h = absurd (h f p refl)
+no_try _ h = refl

@@ -1,0 +1,6 @@
+use Rattle.opt_steps.proofs.Stepping.{stmt_stays}
+use Rattle.opt_stmts.proofs.Shapes.{block_reduced}
+use Rattle.opt_stmts.proofs.block.step_block.Goals as goal
+
+pub returns-then-is_settled_block-clause-step : goal.returns-then-is_settled_block-clause-step
+returns-then-is_settled_block-clause-step c = λ r w. stmt_stays (block_reduced r _ c.requires)

@@ -1,0 +1,6 @@
+use Rattle.opt_steps.proofs.Stepping.{stmt_stays}
+use Rattle.opt_stmts.proofs.Shapes.{try_reduced}
+use Rattle.opt_stmts.proofs.try_catch.step_try.Goals as goal
+
+pub returns-then-is_settled_try-clause-step : goal.returns-then-is_settled_try-clause-step
+returns-then-is_settled_try-clause-step c = λ r w. stmt_stays (try_reduced r _ c.requires)

@@ -1,0 +1,16 @@
+-- A rule that fired at a statement.
+use Rattle.std.specs.Prelude.{Bool, true, false}
+use Rattle.theory_meaning.specs.Engine.{Engine}
+use Rattle.theory_meaning.specs.Tree.{Stmt}
+use Rattle.opt_steps.specs.declared.step.NodeStep.{NodeStep}
+use Rattle.opt_steps.specs.declared.step.NodeStep.TheVariants as step
+use Rattle.theory_rewriting.specs.Steps.{Progress, StmtFired, KeepsStmtParts}
+
+-- what it made has parts that are reduced
+abbrev pub Fires : Engine → Bool → Progress → Progress → Stmt → Stmt → Type 0
+Fires r w s s' x x' = StmtFired r w s s' x x' × KeepsStmtParts x x'
+
+-- what comes of a statement, by whether it stays
+abbrev pub answer : Bool → NodeStep
+answer true = step.Kept
+answer false = step.Rewritten

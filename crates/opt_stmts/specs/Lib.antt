@@ -1,0 +1,7 @@
+pub mod ChoiceSteps
+pub mod Firing
+pub mod Nested
+pub mod SettledAssignments
+pub mod SettledChoices
+pub mod SettledStatements
+pub mod WritingWalk

@@ -1,0 +1,117 @@
+//! The rules at shared names.
+
+#![tactic(auto, using(ast_types::specs::Reading::shapes, crate::proofs::Names::steps))]
+
+ghost use Rattle.std.specs.Prelude.{◌≡◌, ◌&&◌, not, true, false, Bool, is_some};
+ghost use Rattle.opt_known.specs.State.{known_of, progress};
+ghost use Rattle.theory_meaning.specs.Engine.{Engine};
+ghost use Rattle.ast_types.specs.Reading.{shared_names, stmt_of};
+ghost use Rattle.theory_rewriting.specs.Known.{look, unknown};
+ghost use Rattle.opt_stmts.specs.Firing.{Fires, answer};
+ghost use Rattle.opt_stmts.specs.SettledAssignments as settled;
+ghost use Rattle.opt_steps.specs.NodeSteps.{StmtStep};
+
+use opt_steps::{NodeStep, OptimizerState, note_fired, put_nothing};
+use rhai_ast::Stmt;
+use rhai_base::{Ident, Seq};
+use std::alloc::Global;
+use std::mem::replace;
+use std::num::NonZeroUsize;
+
+/// A shared name, and an index of which nothing is claimed.
+type SharedName = (Ident, Option<NonZeroUsize>);
+
+/// Whether a shared name is known as a constant.
+fn is_known(state: &OptimizerState<'_>, name: &SharedName) -> bool
+    ensures { result ≡ is_some (look (known_of state.now.entries) name.now.0.name) }
+{
+    state.find_literal_constant(name.0.as_str()).is_some()
+}
+
+/// Whether one of these names is.
+fn knows_some(state: &OptimizerState<'_>, names: &[SharedName]) -> bool
+    ensures { result ≡ settled.knows_some (known_of state.now.entries) (shared_names names.now) }
+{
+    for name in names {
+        if is_known(state, name) {
+            return true;
+        }
+    }
+    false
+}
+
+/// Whether shared names stay, where there are some.
+fn is_settled_share(state: &OptimizerState<'_>, statement: &Stmt) -> bool
+    ensures { result ≡ settled.is_settled_share (known_of state.now.entries) (stmt_of statement.now) }
+{
+    match statement {
+        Stmt::Share(names) => !knows_some(state, names.get().as_slice()),
+        _ => true,
+    }
+}
+
+/// Whether nothing is shared.
+fn shares_nothing(statement: &Stmt) -> bool
+    ensures { result ≡ settled.shares_nothing (stmt_of statement.now) }
+{
+    match statement {
+        Stmt::Share(names) => names.get().is_empty(),
+        _ => false,
+    }
+}
+
+/// Names that are known as constants go, in the memory of their list.
+fn keep_unknown(alloc: Global, state: &OptimizerState<'_>, names: &mut Seq<SharedName>)
+    ensures { shared_names names.new ≡ unknown (known_of state.now.entries) (shared_names names.old) }
+{
+    let mut left = replace(names, Seq::new(alloc)).into_vec();
+    left.retain(|name| !is_known(state, name));
+    *names = Seq::from_vec(left);
+}
+
+/// Of shared names those that are known go.
+fn share_known(state: &mut OptimizerState<'_>, statement: &mut Stmt)
+    requires { settled.is_settled_share (known_of state.now.entries) (stmt_of statement.now) ≡ false }
+    ensures { (r : Engine) (w : Bool)
+        → Fires r w (progress state.old) (progress state.new) (stmt_of statement.old) (stmt_of statement.new) }
+{
+    note_fired(state);
+    match statement {
+        Stmt::Share(names) => {
+            let alloc = names.allocator();
+            keep_unknown(alloc, state, names.get_mut());
+        }
+        _ => unreachable!(),
+    }
+}
+
+/// Where nothing is shared nothing is left.
+fn share_nothing(state: &mut OptimizerState<'_>, statement: &mut Stmt)
+    requires { settled.shares_nothing (stmt_of statement.now) ≡ true }
+    ensures { (r : Engine) (w : Bool)
+        → Fires r w (progress state.old) (progress state.new) (stmt_of statement.old) (stmt_of statement.new) }
+{
+    put_nothing(state, statement);
+}
+
+/// Rewrites shared names by the rule that fires at them, if one does.
+pub fn step_share(state: &mut OptimizerState<'_>, statement: &mut Stmt) -> NodeStep
+    requires { settled.is_share (stmt_of statement.now) ≡ true }
+    ensures answer { result
+        ≡ answer
+        (not (settled.shares_nothing (stmt_of statement.old))
+        && settled.is_settled_share (known_of state.old.entries) (stmt_of statement.old)) }
+    ensures step { (r : Engine) (w : Bool)
+        → StmtStep result r w (progress state.old) (progress state.new) (stmt_of statement.old)
+        (stmt_of statement.new) }
+{
+    if shares_nothing(statement) {
+        share_nothing(state, statement);
+        return NodeStep::Rewritten;
+    }
+    if is_settled_share(state, statement) {
+        return NodeStep::Kept;
+    }
+    share_known(state, statement);
+    NodeStep::Rewritten
+}

@@ -1,0 +1,106 @@
+//! The rules at an expression statement.
+
+#![tactic(auto, using(ast_types::specs::Reading::shapes))]
+
+ghost use Rattle.std.specs.Prelude.{◌≡◌, true, false, Bool};
+ghost use Rattle.opt_stmts.specs.Firing.{Fires, answer};
+ghost use Rattle.opt_known.specs.State.{progress};
+ghost use Rattle.theory_meaning.specs.Engine.{Engine};
+ghost use Rattle.theory_meaning.specs.Tree.{BlockExpr, ExprStmt, FnCall};
+ghost use Rattle.ast_types.specs.Reading.{callee_of, expr_of, exprs_of, stmt_of, stmts_of};
+ghost use Rattle.theory_rewriting.specs.Steps.{StmtRewrite};
+ghost use Rattle.opt_stmts.specs.SettledStatements as settled;
+ghost use Rattle.opt_steps.specs.NodeSteps.{StmtStep};
+
+use crate::choice::is_empty;
+use ast_nodes::put_stmt;
+use opt_steps::{NodeStep, OptimizerState, note_fired};
+use rhai_ast::{Expr, FnCallExpr, Stmt, StmtBlock, Take};
+use rhai_base::{Boxed, Position};
+
+/// An expression statement over braces is a block.
+fn statement_of_braces(block: Boxed<StmtBlock>) -> Stmt
+    ensures { (o w : Bool) → StmtRewrite o w (ExprStmt (BlockExpr (stmts_of block.block))) (stmt_of result) }
+{
+    if is_empty(block.get()) {
+        return Stmt::Noop(block.get().position());
+    }
+    Stmt::Block(block)
+}
+
+/// An expression statement over a call is a call statement.
+fn statement_of_call(call: Boxed<FnCallExpr>, pos: Position) -> Stmt
+    ensures { (o w : Bool)
+        → StmtRewrite o w (ExprStmt (FnCall (callee_of call) (exprs_of call.args))) (stmt_of result) }
+{
+    Stmt::FnCall(call, pos)
+}
+
+/// Whether an expression stays as a statement.
+fn stays(expr: &Expr) -> bool
+    ensures { result ≡ settled.stays (expr_of expr.now) }
+{
+    match expr {
+        Expr::Stmt(_) | Expr::FnCall(_, _) => false,
+        _ => true,
+    }
+}
+
+/// Whether an expression statement stays.
+fn is_settled_expression(statement: &Stmt) -> bool
+    ensures { result ≡ settled.is_settled_expression (stmt_of statement.now) }
+{
+    match statement {
+        Stmt::Expr(expr) => stays(expr.get()),
+        _ => true,
+    }
+}
+
+/// What the statement of an expression that does not stay is rewritten to.
+fn reduce_expression(expr: Expr) -> Stmt
+    requires { settled.stays (expr_of expr) ≡ false }
+    ensures { (o w : Bool) → StmtRewrite o w (ExprStmt (expr_of expr)) (stmt_of result) }
+{
+    match expr {
+        Expr::Stmt(block) => statement_of_braces(block),
+        Expr::FnCall(call, pos) => statement_of_call(call, pos),
+        _ => unreachable!(),
+    }
+}
+
+fn reduced_expression(statement: Stmt) -> Stmt
+    requires { settled.is_settled_expression (stmt_of statement) ≡ false }
+    ensures { (o w : Bool) → StmtRewrite o w (stmt_of statement) (stmt_of result) }
+{
+    match statement {
+        Stmt::Expr(expr) => reduce_expression(expr.into_inner()),
+        _ => unreachable!(),
+    }
+}
+
+/// Takes out an expression statement that does not stay, and puts in its place what it is rewritten to.
+#[inline(never)]
+fn rewrite_expression(state: &mut OptimizerState<'_>, statement: &mut Stmt)
+    requires { settled.is_settled_expression (stmt_of statement.now) ≡ false }
+    ensures { (r : Engine) (w : Bool)
+        → Fires r w (progress state.old) (progress state.new) (stmt_of statement.old) (stmt_of statement.new) }
+{
+    note_fired(state);
+    let made = reduced_expression(statement.take());
+    put_stmt(statement, made);
+}
+
+/// Rewrites an expression statement by the rule that fires at it, if one does.
+pub fn step_expression(state: &mut OptimizerState<'_>, statement: &mut Stmt) -> NodeStep
+    requires { settled.is_expression (stmt_of statement.now) ≡ true }
+    ensures answer { result ≡ answer (settled.is_settled_expression (stmt_of statement.old)) }
+    ensures step { (r : Engine) (w : Bool)
+        → StmtStep result r w (progress state.old) (progress state.new) (stmt_of statement.old)
+        (stmt_of statement.new) }
+{
+    if is_settled_expression(statement) {
+        return NodeStep::Kept;
+    }
+    rewrite_expression(state, statement);
+    NodeStep::Rewritten
+}

@@ -1,0 +1,16 @@
+//! Rules at statements: blocks, loops, `try`, `if`, assignments, shares.
+#![tactic(auto)]
+
+mod assign;
+mod block;
+mod choice;
+mod expression;
+mod loops;
+mod try_catch;
+
+pub use assign::{step_assignment, step_share};
+pub use block::step_block;
+pub use choice::step_if;
+pub use expression::step_expression;
+pub use loops::step_while;
+pub use try_catch::step_try;

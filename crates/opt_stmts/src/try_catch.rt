@@ -1,0 +1,61 @@
+//! The rule at a `try`.
+
+#![tactic(auto, using(ast_types::specs::Reading::shapes, ast_types::proofs::ItemLists::steps))]
+
+ghost use Rattle.std.specs.Prelude.{◌≡◌, true, false, Bool};
+ghost use Rattle.opt_known.specs.State.{progress};
+ghost use Rattle.theory_meaning.specs.Engine.{Engine};
+ghost use Rattle.theory_meaning.specs.Queries as queries;
+ghost use Rattle.ast_types.specs.Reading.{stmt_of, stmts_of};
+ghost use Rattle.opt_stmts.specs.Firing.{Fires, answer};
+ghost use Rattle.opt_stmts.specs.SettledStatements as settled;
+ghost use Rattle.opt_steps.specs.NodeSteps.{StmtStep};
+
+use opt_steps::{NodeStep, OptimizerState, put_nothing};
+use rhai_ast::{Stmt, StmtQueries};
+
+/// Whether statements are all pure, but for names that their list takes away.
+fn are_internally_pure(statements: &[Stmt]) -> bool
+    ensures { result ≡ queries.are_internally_pure (stmts_of statements.now) }
+{
+    for statement in statements {
+        if !statement.is_internally_pure() {
+            return false;
+        }
+    }
+    true
+}
+
+/// Whether a `try` stays.
+fn is_settled_try(statement: &Stmt) -> bool
+    ensures { result ≡ settled.is_settled_try (stmt_of statement.now) }
+{
+    match statement {
+        Stmt::TryCatch(flow, _) => !are_internally_pure(flow.get().body.statements()),
+        _ => true,
+    }
+}
+
+/// A `try` over a body that is pure inside does nothing.
+fn pure_try(state: &mut OptimizerState<'_>, statement: &mut Stmt)
+    requires { settled.is_settled_try (stmt_of statement.now) ≡ false }
+    ensures { (r : Engine) (w : Bool)
+        → Fires r w (progress state.old) (progress state.new) (stmt_of statement.old) (stmt_of statement.new) }
+{
+    put_nothing(state, statement);
+}
+
+/// Rewrites a `try` by the rule that fires at it, if it does.
+pub fn step_try(state: &mut OptimizerState<'_>, statement: &mut Stmt) -> NodeStep
+    requires { settled.is_try (stmt_of statement.now) ≡ true }
+    ensures answer { result ≡ answer (settled.is_settled_try (stmt_of statement.old)) }
+    ensures step { (r : Engine) (w : Bool)
+        → StmtStep result r w (progress state.old) (progress state.new) (stmt_of statement.old)
+        (stmt_of statement.new) }
+{
+    if is_settled_try(statement) {
+        return NodeStep::Kept;
+    }
+    pure_try(state, statement);
+    NodeStep::Rewritten
+}

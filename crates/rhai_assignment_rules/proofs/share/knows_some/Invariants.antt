@@ -1,8 +1,0 @@
-use Rattle.std.proofs.Common.{◌≡◌, drop}
-use Rattle.opt_known.specs.State.{known_of}
-use Rattle.ast_types.specs.Reading.{shared_names}
-use Rattle.rhai_assignment_rules.specs.Settled.{knows_some}
-use Rattle.rhai_assignment_rules.proofs.share.knows_some.Given as goal
-
-abbrev pub invariant-loop-name : goal.invariant-loop-name
-invariant-loop-name l = knows_some (known_of l.state.entries) (shared_names l.names) ≡ knows_some (known_of l.state.entries) (shared_names (drop l.name-index l.names))

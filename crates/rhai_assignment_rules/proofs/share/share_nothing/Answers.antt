@@ -1,5 +1,0 @@
-use Rattle.rhai_assignment_rules.proofs.Fired.{shared-none}
-use Rattle.rhai_assignment_rules.proofs.share.share_nothing.Goals as goal
-
-pub returns : goal.returns
-returns c = λ r w. shared-none _ c.requires c.put_nothing.ensures.dirty c.put_nothing.ensures.known c.put_nothing.ensures.nothing

@@ -1,3 +1,0 @@
-pub mod Firing
-pub mod Settled
-pub mod WritingWalk

@@ -1,5 +1,0 @@
-use Rattle.theory_meaning.specs.Places.{without_place}
-use Rattle.rhai_chain_receivers.proofs.asking.ask_for.Goals as goal
-
-pub returns : goal.returns
-returns g c next = rw c.in_ok-receiver.ensures at (c.in_ok-value.ensures (λ v u. next (without_place v)))

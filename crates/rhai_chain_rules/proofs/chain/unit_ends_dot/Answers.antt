@@ -1,5 +1,0 @@
-use Rattle.rhai_chain_rules.proofs.Chains as chains
-use Rattle.rhai_chain_rules.proofs.chain.unit_ends_dot.Goals as goal
-
-pub returns : goal.returns
-returns c = λ p r h. chains.unit_ends_dot r p _ _ _ c.put_unit.ensures.dirty c.put_unit.ensures.known c.put_unit.ensures.unit _ h

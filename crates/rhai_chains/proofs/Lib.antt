@@ -1,4 +1,0 @@
-pub mod Quiet
-pub mod ChainSteps
-pub mod Targets
-pub mod Following

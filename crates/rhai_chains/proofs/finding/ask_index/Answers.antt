@@ -1,4 +1,0 @@
-use Rattle.rhai_chains.proofs.finding.ask_index.Goals as goal
-
-pub returns : goal.returns
-returns g c next = rw (c.in_ok-name.ensures, c.in_ok-args.ensures) at (c.ask_for.ensures next)

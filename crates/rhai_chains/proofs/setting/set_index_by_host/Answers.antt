@@ -1,4 +1,0 @@
-use Rattle.rhai_chains.proofs.setting.set_index_by_host.Goals as goal
-
-pub returns : goal.returns
-returns g c = rw (c.in_ok-args.ensures, c.in_ok-name.ensures) at c.set_by_host.ensures

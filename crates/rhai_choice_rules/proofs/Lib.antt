@@ -1,5 +1,0 @@
-pub mod Choosing
-pub mod Ends
-pub mod Nesting
-pub mod Others
-pub mod Parts

@@ -1,5 +1,0 @@
-use Rattle.rhai_choice_rules.proofs.Nesting.{alone-one}
-use Rattle.rhai_choice_rules.proofs.nested.parts_of_only_if.Goals as goal
-
-pub unreachable-requires : goal.unreachable-requires
-unreachable-requires c = c.in-None.ensures (alone-one _ c.requires)

@@ -1,3 +1,0 @@
-pub mod Nested
-pub mod Settled
-pub mod Steps

@@ -1,5 +1,0 @@
-use Rattle.std.proofs.Common.{rules}
-use Rattle.rhai_exprs.proofs.literals.ExprLiterals.constant_value.Goals as goal
-
-pub returns : goal.returns
-returns c = search rules

@@ -1,6 +1,0 @@
-use Rattle.rhai_faults.specs.MapKeys.{names_of}
-use Rattle.rhai_faults.proofs.KeyLists.{NamesSoFar}
-use Rattle.rhai_faults.proofs.map_keys.distinct_names.Given as goal
-
-abbrev pub invariant-loop-member : goal.invariant-loop-member
-invariant-loop-member l = NamesSoFar (names_of l.members) l.member-index l.names

@@ -1,5 +1,0 @@
-use Rattle.std.proofs.Common.{rules}
-use Rattle.rhai_functions.proofs.fn_lib.with_all.Goals as goal
-
-pub returns-clause-id : goal.returns-clause-id
-returns-clause-id c = search rules

@@ -1,7 +1,0 @@
-use Rattle.std.proofs.Common.{map, ap, sym, ◌∙◌}
-use Rattle.ast_types.specs.Reading.{function_of}
-use Rattle.rhai_functions.specs.Table.{are_distinct, key_of}
-use Rattle.rhai_functions.proofs.fn_table.FnTable.iter.Goals as goal
-
-pub returns-clause-distinct : goal.returns-clause-distinct
-returns-clause-distinct c = ap (λ fs. are_distinct (map key_of (map function_of fs))) (sym c.self.view_is) ∙ c.self.invariant.distinct

@@ -1,5 +1,0 @@
-pub mod Filter
-pub mod FnKey
-pub mod FnLib
-pub mod Ids
-pub mod Table

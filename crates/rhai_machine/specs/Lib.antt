@@ -1,4 +1,0 @@
-pub mod Setting
-pub mod Placing
-pub mod Chaining
-pub mod Targets

@@ -1,9 +1,0 @@
-pub mod Blocks
-pub mod Changes
-pub mod Entries
-pub mod Held
-pub mod Listed
-pub mod LiteralLists
-pub mod Others
-pub mod Placing
-pub mod Pointers

@@ -1,4 +1,0 @@
-pub mod Changing
-pub mod Moving
-pub mod OperandKinds
-pub mod Single

@@ -1,5 +1,0 @@
-use Rattle.rhai_operands.proofs.Moving.{went_by}
-use Rattle.rhai_operands.proofs.pass.change.Goals as goal
-
-pub returns : goal.returns
-returns c = went_by c.args.operation _ _ c.pass.ensures _ _ c.len.ensures c.len-len.ensures

@@ -1,5 +1,0 @@
-use Rattle.rhai_operands.proofs.Moving.{Passing}
-use Rattle.rhai_operands.proofs.pass.pass.Given as goal
-
-abbrev pub invariant-loop-at : goal.invariant-loop-at
-invariant-loop-at l = Passing l.operation l.initial.operands l.operands l.at l.kept

@@ -1,8 +1,0 @@
-use Rattle.rhai_operands.proofs.Moving.{Purging}
-use Rattle.rhai_operands.proofs.pass.pure_from.Given as goal
-
-abbrev pub invariant-loop-from : goal.invariant-loop-from
-invariant-loop-from l = Purging l.operation l.operands l.from l.kept
-
-abbrev pub decreases-loop-from : goal.decreases-loop-from
-decreases-loop-from l = l.from

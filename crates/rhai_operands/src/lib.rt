@@ -1,9 +1,0 @@
-//! The rules over the operands of `&&`, `||` and `??`, in their own memory.
-#![tactic(auto)]
-
-mod few;
-mod nodes;
-mod operation;
-mod pass;
-
-pub use nodes::step_operands;

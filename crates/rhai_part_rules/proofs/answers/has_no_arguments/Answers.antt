@@ -1,5 +1,0 @@
-use Rattle.rhai_part_rules.proofs.Others.{no_arguments}
-use Rattle.rhai_part_rules.proofs.answers.has_no_arguments.Goals as goal
-
-pub returns : goal.returns
-returns c = no_arguments c.args.call.now.args c.is_empty.result c.is_empty.ensures

@@ -1,9 +1,0 @@
-use Rattle.std.proofs.Common.{◌≡◌, subst}
-use Rattle.std.specs.Prelude.{IfOk}
-use Rattle.rhai_nodes.specs.Lent.{lent_value}
-use Rattle.ast_types.proofs.Cases.{expr_cases}
-use Rattle.rhai_part_rules.proofs.Others.{no_literal}
-use Rattle.rhai_part_rules.proofs.answers.whole_value.Goals as goal
-
-pub returns-in_default : goal.returns-in_default
-returns-in_default c = subst (λ o. IfOk c.constant_value.result (λ v. lent_value v ≡ o)) (no_literal (expr_cases c.args.expr.now) c.in_default.not-Array c.in_default.not-Map) c.constant_value.ensures

@@ -1,7 +1,0 @@
-use Rattle.rhai_base.specs.Reading.{dynamic_cases}
-use Rattle.rhai_base.specs.Reading.{value_of}
-use Rattle.rhai_part_rules.proofs.Others.{no_entry}
-use Rattle.rhai_part_rules.proofs.known.entry_at.Goals as goal
-
-pub returns-in_default : goal.returns-in_default
-returns-in_default c = no_entry (value_of c.args.value.now) (dynamic_cases c.args.index.now) c.in_default.not-Str

@@ -1,4 +1,0 @@
-pub mod ConstantLists
-pub mod Others
-pub mod SwitchTables
-pub mod Tables

@@ -1,6 +1,0 @@
-use Rattle.std.proofs.Common.{sym}
-use Rattle.rhai_run_nodes.proofs.Forms.{root_of-other}
-use Rattle.rhai_run_nodes.proofs.variables.root_of.Goals as goal
-
-pub returns-in_default : goal.returns-in_default
-returns-in_default c = sym (root_of-other _ c.in_default.not-Variable c.in_default.not-ThisPtr)

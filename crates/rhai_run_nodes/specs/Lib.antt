@@ -1,4 +1,0 @@
-pub mod Variables
-pub mod Operators
-pub mod Links
-pub mod LeftSides

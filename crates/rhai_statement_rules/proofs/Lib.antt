@@ -1,3 +1,0 @@
-pub mod Fired
-pub mod Others
-pub mod Shapes

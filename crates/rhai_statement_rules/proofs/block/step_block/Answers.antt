@@ -1,6 +1,0 @@
-use Rattle.rhai_steps.proofs.Stepping.{stmt_stays}
-use Rattle.rhai_statement_rules.proofs.Shapes.{block_reduced}
-use Rattle.rhai_statement_rules.proofs.block.step_block.Goals as goal
-
-pub returns-then-is_settled_block-clause-step : goal.returns-then-is_settled_block-clause-step
-returns-then-is_settled_block-clause-step c = λ r w. stmt_stays (block_reduced r _ c.requires)

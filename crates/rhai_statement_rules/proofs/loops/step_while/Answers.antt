@@ -1,7 +1,0 @@
-use Rattle.std.proofs.Common.{sym, ◌∙◌}
-use Rattle.rhai_steps.proofs.Stepping.{stmt_stays}
-use Rattle.rhai_statement_rules.proofs.Shapes.{while_reduced}
-use Rattle.rhai_statement_rules.proofs.loops.step_while.Goals as goal
-
-pub returns-in-None-clause-step : goal.returns-in-None-clause-step
-returns-in-None-clause-step c = λ r w. stmt_stays (while_reduced r _ c.requires (sym c.decided_loop.ensures ∙ c.in-None.is))

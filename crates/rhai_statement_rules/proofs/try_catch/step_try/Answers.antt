@@ -1,6 +1,0 @@
-use Rattle.rhai_steps.proofs.Stepping.{stmt_stays}
-use Rattle.rhai_statement_rules.proofs.Shapes.{try_reduced}
-use Rattle.rhai_statement_rules.proofs.try_catch.step_try.Goals as goal
-
-pub returns-then-is_settled_try-clause-step : goal.returns-then-is_settled_try-clause-step
-returns-then-is_settled_try-clause-step c = λ r w. stmt_stays (try_reduced r _ c.requires)

@@ -1,3 +1,0 @@
-pub mod NodeKinds
-pub mod Places
-pub mod Stepping

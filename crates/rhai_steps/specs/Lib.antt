@@ -1,4 +1,0 @@
-pub mod NodeSteps
-pub mod Places
-pub mod Standing
-pub mod Folded

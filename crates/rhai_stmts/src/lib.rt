@@ -1,8 +1,0 @@
-//! What may be asked of statements.
-//!
-//! The calls stand here with their contracts; the recursions over a tree that they are made of stand in crates below.
-#![tactic(auto)]
-
-mod stmt;
-
-pub use stmt::StmtQueries;

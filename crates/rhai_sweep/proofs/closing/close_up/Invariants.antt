@@ -1,5 +1,0 @@
-use Rattle.rhai_sweep.proofs.Marked.{Closing}
-use Rattle.rhai_sweep.proofs.closing.close_up.Given as goal
-
-abbrev pub invariant-loop-at : goal.invariant-loop-at
-invariant-loop-at l = Closing l.is_wanted l.initial.list l.list l.at l.kept

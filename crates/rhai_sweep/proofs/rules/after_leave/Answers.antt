@@ -1,5 +1,0 @@
-use Rattle.rhai_sweep.proofs.Firing.{after_leave_fires}
-use Rattle.rhai_sweep.proofs.rules.after_leave.Goals as goal
-
-pub returns-clause-rule : goal.returns-clause-rule
-returns-clause-rule c = λ m some. after_leave_fires c.args.list.now _ c.args.at m c.requires.inside c.requires.leaves c.cut_behind.ensures some

@@ -1,5 +1,0 @@
-use Rattle.rhai_sweep.proofs.Firing.{last_return_fires}
-use Rattle.rhai_sweep.proofs.rules.last_return.Goals as goal
-
-pub returns-clause-rule : goal.returns-clause-rule
-returns-clause-rule c = λ none. last_return_fires c.args.list.now _ c.args.at c.requires.inside c.requires.returns c.bare.ensures none

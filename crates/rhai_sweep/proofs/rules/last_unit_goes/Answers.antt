@@ -1,6 +1,0 @@
-use Rattle.rhai_sweep.specs.declared.behind.Fading.TheVariants.{LastUnit}
-use Rattle.rhai_sweep.proofs.Firing.{last_goes_fires}
-use Rattle.rhai_sweep.proofs.rules.last_unit_goes.Goals as goal
-
-pub returns-clause-rule : goal.returns-clause-rule
-returns-clause-rule c = λ m z. last_goes_fires c.args.list.now _ c.args.len LastUnit m c.shorten.ensures z

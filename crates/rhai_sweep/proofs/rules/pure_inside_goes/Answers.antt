@@ -1,6 +1,0 @@
-use Rattle.rhai_sweep.specs.declared.behind.Going.TheVariants.{PureInside}
-use Rattle.rhai_sweep.proofs.Deciding.{step_marked}
-use Rattle.rhai_sweep.proofs.rules.pure_inside_goes.Goals as goal
-
-pub returns : goal.returns
-returns c = rw c.changed.ensures (step_marked PureInside c.requires.inside c.mark_at.ensures c.requires.unwanted c.requires.goes)

@@ -1,3 +1,0 @@
-pub mod Folding
-pub mod PartKinds
-pub mod TextJoins

@@ -1,5 +1,0 @@
-use Rattle.rhai_texts.proofs.TextJoins.{Moving}
-use Rattle.rhai_texts.proofs.joining.empty_go.Given as goal
-
-abbrev pub invariant-loop-at : goal.invariant-loop-at
-invariant-loop-at l = Moving l.initial.parts l.parts l.at l.kept

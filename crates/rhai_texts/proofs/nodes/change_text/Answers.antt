@@ -1,7 +1,0 @@
-use Rattle.std.proofs.Common.{◌≡◌, true, false, ◌∙◌}
-use Rattle.ast_types.proofs.Cases.{expr_cases}
-use Rattle.rhai_texts.proofs.PartKinds.{not_interpolated}
-use Rattle.rhai_texts.proofs.nodes.change_text.Goals as goal
-
-pub unreachable-requires : goal.unreachable-requires
-unreachable-requires c = let h : false ≡ true = not_interpolated (expr_cases c.args.expr.now) c.in_default.not-InterpolatedString ∙ c.requires in cc

@@ -1,8 +1,0 @@
-use Rattle.std.proofs.Common.{sym, ap, ◌∙◌}
-use Rattle.std.specs.Option.{option_map}
-use Rattle.rhai_base.specs.Reading.{value_of}
-use Rattle.rhai_texts.proofs.Folding.{text_put}
-use Rattle.rhai_texts.proofs.nodes.text_folds.Goals as goal
-
-pub returns-in-Some : goal.returns-in-Some
-returns-in-Some c = text_put c.requires (sym (ap (option_map value_of) c.in-Some.is) ∙ c.in_ok-value.ensures.value) c.in_ok-put_constant.ensures

@@ -1,8 +1,0 @@
-//! The rules of interpolated texts and of map literals.
-#![tactic(auto)]
-
-mod joining;
-mod nodes;
-mod parts;
-
-pub use nodes::{step_map, step_text};

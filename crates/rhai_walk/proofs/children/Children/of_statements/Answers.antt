@@ -1,6 +1,0 @@
-use Rattle.std.proofs.Common.{sym}
-use Rattle.rhai_walk.proofs.Below.{statements_meant}
-use Rattle.rhai_walk.proofs.children.Children.of_statements.Goals as goal
-
-pub returns-clause-children : goal.returns-clause-children
-returns-clause-children c = sym (statements_meant c.args.statements.now)

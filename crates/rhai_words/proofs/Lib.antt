@@ -1,4 +1,0 @@
-pub mod Arguments
-pub mod Called
-pub mod Folds
-pub mod Pointers

@@ -1,0 +1,16 @@
+pub mod Assigning
+pub mod Callees
+pub mod ChainLinks
+pub mod ChainSteps
+pub mod Chaining
+pub mod Following
+pub mod Forms
+pub mod LeftSides
+pub mod Modules
+pub mod NamedModules
+pub mod Optional
+pub mod Placing
+pub mod Quiet
+pub mod Roots
+pub mod Targets
+pub mod Writing

@@ -1,0 +1,9 @@
+pub mod Chaining
+pub mod Direct
+pub mod LeftSides
+pub mod Links
+pub mod Operators
+pub mod Placing
+pub mod Setting
+pub mod Targets
+pub mod Variables

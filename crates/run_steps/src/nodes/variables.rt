@@ -1,0 +1,125 @@
+//! What names stand for: a name or `this`, where a name stands, and a name in a module.
+
+#![tactic(auto, using(ast_types::specs::Reading::shapes, rhai_base::specs::Reading::kinds, run_state::proofs::Variables::resolving))]
+
+ghost use Rattle.std.specs.Prelude.{◌≡◌, ◌++◌, codes, map, MatchOption, IfOk, OnOk, option_map};
+ghost use Rattle.std.specs.String.{string_bytes};
+ghost use Rattle.ast_types.specs.Reading.{expr_of, path_of};
+ghost use Rattle.rhai_base.specs.Reading.{value_of};
+ghost use Rattle.theory_meaning.specs.Act as act;
+ghost use Rattle.theory_meaning.specs.Act.{resolved};
+ghost use Rattle.run_state.specs.Entries.{scope_meant};
+ghost use Rattle.run_state.specs.Variables.{IsLatest, IsMissing};
+ghost use Rattle.run_steps.specs.Variables.{root_meant, qualified_in};
+ghost use Rattle.theory_meaning.specs.Desugar as desugar;
+
+use rhai_ast::Expr;
+use rhai_base::{Dynamic, Ident, ImmutableString, Namespace};
+use run_state::Entry;
+use std::alloc::{AllocError, Global};
+
+/// What has a value that can be replaced.
+#[derive(Clone, Copy)]
+pub enum Root<'a> {
+    /// A name.
+    Name(&'a ImmutableString),
+    /// `this`
+    This,
+}
+
+/// Where the latest entry of a name stands, past aliases and exports.
+pub fn position(scope: &[Entry], name: &str) -> Option<usize>
+    ensures { MatchOption result (IsMissing name.now scope.now) (IsLatest name.now scope.now) }
+{
+    let mut rest = scope;
+    while let Some((last, others)) = rest.split_last() {
+        if last.is_called(name) {
+            return Some(others.len());
+        }
+        rest = others;
+    }
+    None
+}
+
+/// The module's name by the latest alias of this name, else the name itself.
+pub fn module_at<'s>(scope: &'s [Entry], name: &'s str) -> &'s str
+    ensures { result.now ≡ resolved (scope_meant scope.now) name.now }
+{
+    let mut rest = scope;
+    while let Some((last, others)) = rest.split_last() {
+        if last.is_alias_of(name) {
+            return module_name(&last.value);
+        }
+        rest = others;
+    }
+    name
+}
+
+/// The text that an alias holds.
+fn module_name(value: &Dynamic) -> &str
+    ensures { result.now ≡ act.module_name (value_of value.now) }
+{
+    let Ok(name) = value.as_immutable_string_ref() else {
+        return "";
+    };
+    name.as_str()
+}
+
+/// A name with its modules', joined by `::`; a first one that is an alias is its module's.
+#[inline(never)]
+pub fn qualified(
+    alloc: Global,
+    scope: &[Entry],
+    namespace: &Namespace,
+    name: &str,
+) -> Result<String, AllocError>
+    ensures { IfOk result (λ t.
+        string_bytes t ≡ qualified_in (scope_meant scope.now) (path_of namespace.now) name.now) }
+{
+    let mut text = String::new(alloc);
+    let Some((first, others)) = namespace.path.as_slice().split_first() else {
+        text.push_str(name)?;
+        return Ok(text);
+    };
+    push_module(&mut text, module_at(scope, first.as_str()))?;
+    push_qualified(&mut text, others, name)?;
+    Ok(text)
+}
+
+/// Appends a name with its modules'.
+fn push_qualified(text: &mut String, modules: &[Ident], name: &str) -> Result<(), AllocError>
+    ensures { OnOk result
+        (string_bytes text.new ≡ string_bytes text.old ++ desugar.qualified (map (λ i. i.name) modules.now) name.now) }
+{
+    for module in modules {
+        push_module(text, module.as_str())?;
+    }
+    text.push_str(name)?;
+    Ok(())
+}
+
+fn push_module(text: &mut String, name: &str) -> Result<(), AllocError>
+    ensures { OnOk result (string_bytes text.new ≡ string_bytes text.old ++ name.now ++ codes "::") }
+{
+    text.push_str(name)?;
+    text.push_str("::")?;
+    Ok(())
+}
+
+/// What an expression names that has a value of its own.
+pub fn root_of(expr: &Expr) -> Option<Root<'_>>
+    ensures { option_map root_meant result ≡ desugar.root_of (expr_of expr.now) }
+{
+    match expr {
+        Expr::Variable(variable, _, _) => {
+            let (_, name, namespace) = variable.get();
+            if namespace.is_empty() {
+                Some(Root::Name(name))
+            } else {
+                None
+            }
+        }
+        Expr::ThisPtr(_) => Some(Root::This),
+        _ => None,
+    }
+}

@@ -1,0 +1,6 @@
+use Rattle.std.proofs.Common.{◌≡◌, ◌++◌, map}
+use Rattle.std.specs.Rc.{rc_value}
+use Rattle.script_tables.proofs.filter.shared_functions.Given as goal
+
+abbrev pub invariant-loop-function : goal.invariant-loop-function
+invariant-loop-function l = map rc_value l.all.items ++ l.function-iterator ≡ l.lib.functions

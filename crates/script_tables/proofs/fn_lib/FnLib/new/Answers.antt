@@ -1,0 +1,5 @@
+use Rattle.std.proofs.Common.{rules}
+use Rattle.script_tables.proofs.fn_lib.FnLib.new.Goals as goal
+
+pub returns-clause-id : goal.returns-clause-id
+returns-clause-id c = search rules
