@@ -2,10 +2,9 @@ use Rattle.std.proofs.Common.{◌≡◌, ◌+◌, ◌*◌, ◌≤◌, ◌&&◌, 
 use Rattle.std.specs.Prelude.{IfSome}
 use Rattle.std.specs.Int.{w64}
 use Rattle.std.proofs.lemmas.Int.{to_z-of_z}
-use Rattle.std.proofs.lemmas.List.{drop_all, drop_more}
+use Rattle.std.proofs.lemmas.List.{drop_all, drop_more, length-map}
 use mir.Val.{SFits}
 use Rattle.std.proofs.lemmas.Result.{err_from_is_err_and}
-use Rattle.std.proofs.lemmas.List.{length-map}
 use Rattle.std.specs.Option.{option_copied, option_map}
 use Rattle.rhai_base.specs.declared.dynamic.Dynamic.{Dynamic}
 use Rattle.rhai_base.specs.Reading.{value_of, value_of-Int}
@@ -39,8 +38,6 @@ use Rattle.run_steps.specs.Variables.{qualified_in, root_meant}
 use Rattle.run_state.specs.Entries.{scope_meant}
 use Rattle.run_state.specs.Words.{word_meant}
 use Rattle.run_steps.specs.declared.steps.parts.Access.TheVariants as reached
-use Rattle.run_steps.specs.Placing.{current_in}
-use Rattle.run_state.specs.State.{store_of}
 use Rattle.run_evaluator.proofs.LeftSides.{part_called, part_ill, part_runs, part_stops, part_unplaced}
 use Rattle.run_steps.proofs.Targets.{last_nowhere, last_plain, last_stops, read_changes, read_ends, target_applied_stops, target_last, target_more, target_stops, target_unit}
 use Rattle.run_evaluator.proofs.ByKind.{array_of_expr, block_of_stmt, braces_of_expr, call_of_expr, call_of_stmt, dot_of_expr, for_of_stmt, if_of_stmt, index_of_expr, map_of_expr, method_of_expr, property_of_expr, switch_of_stmt, text_of_expr}
