@@ -264,33 +264,27 @@ round-returns-clause-turns g t c = round_turns (setting g.H.Host.answers g.H.Hos
 
 pub both-expr-requires : goal.both-expr-requires
 both-expr-requires g t c =
-    let lighter : expr_weight (expr_of c.operand-item.result) ≤ exprs_weight (exprs_of c.args.operands.now) = expr_item c.args.operands.now c.loop-operand.operand-index c.operand-item.result c.loop-operand-test.true c.operand-item.is in
-    search rules
+    let lighter : expr_weight (expr_of c.operand-item.result) ≤ exprs_weight (exprs_of c.args.operands.now) = expr_item c.args.operands.now c.loop-operand.operand-index c.operand-item.result c.loop-operand-test.true c.operand-item.is in search rules
 
 pub either-expr-requires : goal.either-expr-requires
 either-expr-requires g t c =
-    let lighter : expr_weight (expr_of c.operand-item.result) ≤ exprs_weight (exprs_of c.args.operands.now) = expr_item c.args.operands.now c.loop-operand.operand-index c.operand-item.result c.loop-operand-test.true c.operand-item.is in
-    search rules
+    let lighter : expr_weight (expr_of c.operand-item.result) ≤ exprs_weight (exprs_of c.args.operands.now) = expr_item c.args.operands.now c.loop-operand.operand-index c.operand-item.result c.loop-operand-test.true c.operand-item.is in search rules
 
 pub first_some-expr-requires : goal.first_some-expr-requires
 first_some-expr-requires g t c =
-    let lighter : expr_weight (expr_of c.operand-item.result) ≤ exprs_weight (exprs_of c.args.operands.now) = expr_item c.args.operands.now c.loop-operand.operand-index c.operand-item.result c.loop-operand-test.true c.operand-item.is in
-    search rules
+    let lighter : expr_weight (expr_of c.operand-item.result) ≤ exprs_weight (exprs_of c.args.operands.now) = expr_item c.args.operands.now c.loop-operand.operand-index c.operand-item.result c.loop-operand-test.true c.operand-item.is in search rules
 
 pub exprs-expr-requires : goal.exprs-expr-requires
 exprs-expr-requires g t c =
-    let lighter : expr_weight (expr_of c.expr-item.result) ≤ exprs_weight (exprs_of c.args.exprs.now) = expr_item c.args.exprs.now c.loop-expr.expr-index c.expr-item.result c.loop-expr-test.true c.expr-item.is in
-    search rules
+    let lighter : expr_weight (expr_of c.expr-item.result) ≤ exprs_weight (exprs_of c.args.exprs.now) = expr_item c.args.exprs.now c.loop-expr.expr-index c.expr-item.result c.loop-expr-test.true c.expr-item.is in search rules
 
 pub members-expr-requires : goal.members-expr-requires
 members-expr-requires g t c =
-    let lighter : expr_weight (expr_of c.member-item.result.1) ≤ over_pairs (total own_weight) (pairs_of c.args.members.now) = member_item c.args.members.now c.loop-member.member-index c.member-item.result c.loop-member-test.true c.member-item.is in
-    search rules
+    let lighter : expr_weight (expr_of c.member-item.result.1) ≤ over_pairs (total own_weight) (pairs_of c.args.members.now) = member_item c.args.members.now c.loop-member.member-index c.member-item.result c.loop-member-test.true c.member-item.is in search rules
 
 pub statements-statement-requires : goal.statements-statement-requires
 statements-statement-requires g t c =
-    let lighter : stmt_weight (stmt_of c.statement-item.result) ≤ weight (stmts_of c.args.statements.now) = stmt_item c.args.statements.now c.loop-statement.statement-index c.statement-item.result c.loop-statement-test.true c.statement-item.is in
-    search rules
+    let lighter : stmt_weight (stmt_of c.statement-item.result) ≤ weight (stmts_of c.args.statements.now) = stmt_item c.args.statements.now c.loop-statement.statement-index c.statement-item.result c.loop-statement-test.true c.statement-item.is in search rules
 
 pub arm-expr-requires : goal.arm-expr-requires
 arm-expr-requires g t c =
