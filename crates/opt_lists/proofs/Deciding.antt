@@ -21,10 +21,10 @@ use Rattle.opt_lists.specs.declared.behind.Fading.TheVariants as fading_kind
 use Rattle.opt_lists.specs.declared.behind.Going.{Going}
 use Rattle.opt_lists.specs.declared.behind.Going.TheVariants as going_kind
 use Rattle.opt_lists.specs.Steps.{Declared, kept, headed, cut, MarkedAt, Step}
-use Rattle.opt_lists.specs.Sweep.{is_lone, is_quiet, AreQuiet, goes_as, goes_by, goes_inside, returns_value, whole_returns_value, returns_nothing, bared, fades_as, return_fades, unit_fades, FadesAlone, is_nothing, DecidedTo, closed_up}
+use Rattle.opt_lists.specs.Sweep.{is_lone, is_quiet, AreQuiet, goes_as, goes_by, goes_inside, returns_value, whole_returns_value, returns_nothing, bared, fades_as, return_fades, unit_fades, fades_aloud, FadesAlone, is_nothing, DecidedTo, closed_up}
 use Rattle.opt_lists.proofs.Closed.{and_true, unmarked, leaving-unmarked, closed-stays, closed-alone, closed-goes, nothing-is, nothing-behind, unwanted-before, unwanted-at, tail-is, tail-put}
 use Rattle.opt_lists.proofs.Idle.{not_idle}
-use Rattle.opt_lists.proofs.Sweeping.{no, none_some, all_of, decided_goes, decided_stays, decided_leaves, decided_bares, decided_fades, decided_noop}
+use Rattle.opt_lists.proofs.Sweeping.{no, none_some, all_of, decided_goes, decided_stays, decided_leaves, decided_bares, decided_fades, decided_noop, decided_quiets}
 
 -- ---- items of lists
 
@@ -164,6 +164,38 @@ step_last {m = m} {n = n} {xs = xs} {b = b} s lt h q l w = record {
       (λ x z. (w, (stmt_of s, alone, unit-fades m (stmt_of s) x z)))
       (λ z. subst AreQuiet (sym alone) (quiet-alone (stmt_of s) z)));
 }
+
+loud-acts : (s : Stmt) → is_quiet s ≡ false → is_noop s ≡ false
+loud-acts Noop h = no (sym h)
+loud-acts _ h = refl
+
+loud : (m : ListKind) (s : Stmt) → fades_aloud m s ≡ true → (fades_as fading_kind.LastUnit m s ≡ true) × (is_noop s ≡ false)
+loud m s h = all_of (is_pure_in m s && is_surely_unit s) (not (is_quiet s)) h (λ p q. (p, loud-acts s (not-true-is (is_quiet s) q))) where
+  not-true-is : (b : Bool) → not b ≡ true → b ≡ false
+  not-true-is true h = no h
+  not-true-is false h = refl
+
+pub loud_acts : (m : ListKind) (s : Stmt) → fades_aloud m s ≡ true → is_noop s ≡ false
+loud_acts m s h = (loud m s h).1
+
+pub step_quiets : {m : ListKind} {n : ℕ} {xs new : Declared} {b : Behind} (s : declared_stmt.Stmt) → n < length xs → s ≡ get_or xs n s → MarkedAt n xs new → b.is_last ≡ true → wanted m ≡ true → fades_aloud m (stmt_of s) ≡ true → Step m n xs new b (record { is_last = false; fading = Some fading_kind.LastUnit; is_quiet = true; has_changed = true; is_bared = false })
+step_quiets {m = m} {n = n} {xs = xs} {new = new} {b = b} s lt h p l w q =
+    let d = noop_at p.position in
+    let after : Behind = record { is_last = false; fading = Some fading_kind.LastUnit; is_quiet = true; has_changed = true; is_bared = false } in
+    subst (λ z. Step m n xs z b after) (sym p.put) (record {
+      front = take-set xs n d;
+      long = omega (arith, length-set xs n d);
+      same = λ e. no (sym e);
+      to = λ ss f.
+          let rest = drop (n + 1) xs in
+          let none : stmts_of rest ≡ no_stmts = none-after m rest w (sym l ∙ f.last) in
+          let nothing : kept m rest ≡ no_stmts = ap (closed_up (wanted m)) none in
+          let marked : kept m (drop n (set xs n d)) ≡ stmt Noop no_stmts =
+          ap (kept m) (drop-set xs n d lt)
+          ∙ ap (λ z. closed_up (wanted m) (stmt z (stmts_of rest))) (stmt_of-Noop p.position)
+          ∙ last-kept m Noop rest w none in
+          decided_as (headed-item xs n s ss lt h) marked (decided_quiets (subst (λ z. DecidedTo m b ss z) nothing f) w (loud m (stmt_of s) q).0 (loud m (stmt_of s) q).1);
+    })
 
 -- ---- one that leaves the list
 

@@ -265,6 +265,24 @@ decided_noop {m = m} {s = s} {t = t} x f h e n q i =
       quiet = λ h. no h;
     }
 
+-- the last one does nothing at once
+noop-fades : (m : ListKind) (y : Fading) → Some fading_kind.LastUnit ≡ Some y → fades_as y m Noop ≡ true
+noop-fades Whole fading_kind.LastUnit h = refl
+noop-fades (Inside b) fading_kind.LastUnit h = refl
+noop-fades m fading_kind.LastReturn h = absurd cc
+
+pub decided_quiets : {m : ListKind} {b : Behind} {s : Stmt} {ss : Stmts} → DecidedTo m b ss no_stmts → wanted m ≡ true → fades_as fading_kind.LastUnit m s ≡ true → is_noop s ≡ false → DecidedTo m (record { is_last = false; fading = Some fading_kind.LastUnit; is_quiet = true; has_changed = true; is_bared = false }) (stmt s ss) (stmt Noop no_stmts)
+decided_quiets {m = m} {s = s} f w h n = record {
+  to = then_rule f (λ k u. noop_rule fading_kind.LastUnit m s h n);
+  kept = keeps_noop;
+  clear = λ z ks c. (tt, tt);
+  bared = λ z. no z;
+  swept = swept_alone m Noop (stays_no_return m Noop refl);
+  last = refl;
+  fading = λ y e. (w, (Noop, refl, noop-fades m y e));
+  quiet = λ z. (refl, refl);
+}
+
 -- at the start of a list it goes
 pub decided_ends : {m : ListKind} {b : Behind} {ss rest : Stmts} (x : Fading) → DecidedTo m b ss rest → b.fading ≡ Some x → (k : Context) (d : Bool) → RestTo k m true d true ss no_stmts
 decided_ends {m = m} x f h k d = then_stmts (f.to k true d) (by_list_rule (fades_at x m refl (f.fading x h)))

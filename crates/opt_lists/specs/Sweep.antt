@@ -82,6 +82,10 @@ return_fades m s = if returns_nothing m s then Some fading_kind.LastReturn else 
 abbrev pub unit_fades : ListKind → Stmt → Option Fading
 unit_fades m s = if is_pure_in m s && is_surely_unit s then Some fading_kind.LastUnit else None
 
+-- it fades by the second of these, and it exports or reads what is before it
+abbrev pub fades_aloud : ListKind → Stmt → Bool
+fades_aloud m s = is_pure_in m s && is_surely_unit s && not (is_quiet s)
+
 -- ---- what is kept of a list
 
 abbrev pub is_nothing : Stmts → Bool

@@ -139,3 +139,10 @@ pub(crate) fn unit_fades(mark: ListMark, statement: &Stmt) -> Option<Fading>
         None
     }
 }
+
+/// Does one fade so, though it keeps what is before it from going, since it exports?
+pub(crate) fn fades_aloud(mark: ListMark, statement: &Stmt) -> bool
+    ensures { result ≡ spec.fades_aloud (mark_of mark) (stmt_of statement.now) }
+{
+    is_pure_in(mark, statement) && is_surely_unit(statement) && !is_quiet(statement)
+}

@@ -166,13 +166,12 @@ pub(crate) fn last_return_noop(list: &mut Seq<Stmt>)
 }
 
 /// Behind anything else a last statement that is pure and surely unit does nothing.
-pub(crate) fn last_unit_noop(list: &mut Seq<Stmt>)
-    requires some { 0 < length list.old }
-    requires acts { (d : Stmt) → queries.is_noop (stmt_of (slice_index_or list.old (length list.old - 1) d)) ≡ false }
-    ensures nothing { MarkedAt (length list.old - 1) list.old list.new }
-    ensures rule { (m : ListKind) (n : ℕ) → spec.FadesAlone m fading_kind.LastUnit (kept m (drop n list.old))
-        → Fires m n list.old list.new }
+pub(crate) fn last_unit_noop(list: &mut Seq<Stmt>, at: usize)
+    requires inside { at < length list.old }
+    requires acts { (d : Stmt) → queries.is_noop (stmt_of (slice_index_or list.old at d)) ≡ false }
+    ensures nothing { MarkedAt at list.old list.new }
+    ensures rule { (m : ListKind) (n : ℕ) → at ≡ length list.old - 1
+        → spec.FadesAlone m fading_kind.LastUnit (kept m (drop n list.old)) → Fires m n list.old list.new }
 {
-    let last = list.len() - 1;
-    mark_at(list, last);
+    mark_at(list, at);
 }

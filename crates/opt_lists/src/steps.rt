@@ -14,7 +14,7 @@ ghost use Rattle.opt_lists.specs.Sweep as spec;
 
 use crate::behind::{Behind, Fading, Going};
 use crate::mark::ListMark;
-use crate::questions::{goes_by, is_quiet, return_fades, returns_value, unit_fades};
+use crate::questions::{fades_aloud, goes_by, is_quiet, return_fades, returns_value, unit_fades};
 use crate::rules::{
     after_leave, last_return, last_return_goes, last_return_noop, last_unit_goes, last_unit_noop,
     lone_goes, pure_goes, pure_inside_goes,
@@ -40,7 +40,8 @@ fn go(mark: ListMark, going: Going, list: &mut Seq<Stmt>, at: usize, behind: Beh
     }
 }
 
-/// A statement stays, as the last one of a list whose value is wanted.
+/// A statement stays, as the last one of a list whose value is wanted. One that exports and is unit does nothing at once,
+/// so that what is before it may go.
 fn keep_last(mark: ListMark, list: &mut Seq<Stmt>, at: usize, behind: Behind) -> Behind
     requires inside { at < length list.old }
     requires last { behind.is_last ≡ true }
@@ -49,6 +50,16 @@ fn keep_last(mark: ListMark, list: &mut Seq<Stmt>, at: usize, behind: Behind) ->
     ensures { Step (mark_of mark) at list.old list.new behind result }
 {
     let statement = &list.as_slice()[at];
+    if fades_aloud(mark, statement) {
+        last_unit_noop(list, at);
+        return Behind {
+            is_last: false,
+            fading: Some(Fading::LastUnit),
+            is_quiet: true,
+            has_changed: true,
+            is_bared: false,
+        };
+    }
     Behind {
         is_last: false,
         fading: unit_fades(mark, statement),
@@ -130,7 +141,10 @@ fn end_in_noop(fading: Fading, list: &mut Seq<Stmt>)
 {
     match fading {
         Fading::LastReturn => last_return_noop(list),
-        Fading::LastUnit => last_unit_noop(list),
+        Fading::LastUnit => {
+            let last = list.len() - 1;
+            last_unit_noop(list, last);
+        }
     }
 }
 

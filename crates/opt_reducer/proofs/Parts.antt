@@ -34,7 +34,7 @@ use Rattle.theory_rewriting.specs.Steps.{Anywhere, ExprRun, ArmsRun, Progress, i
 use Rattle.theory_rewriting.specs.Residue.{ExprParts, StmtParts}
 use Rattle.opt_known.specs.State.{known_entry, known_of}
 use Rattle.opt_rules.proofs.Kept.{nothing_left}
-use Rattle.opt_switch.specs.Deciding.{Decided}
+use Rattle.opt_steps.specs.NodeSteps.{StmtDecided}
 use Rattle.std.proofs.lemmas.List.{length-map, drop-map}
 use Rattle.opt_reducer.specs.Parts.{StaysAnywhere, declared_value, StmtOnce}
 use Rattle.theory_rewriting.proofs.Firing.{expr_done, expr_kept, expr_start, stmt_then, stmt_pass, stmt_again_falls, stmt_done}
@@ -243,9 +243,9 @@ arms_kept {r = r} {w = w} {s = s} {s' = s'} {x = x} {x' = x'} {e = e} {as' = as'
     let made = j ∙ ap (λ y. Switch y bs t') u ∙ ap (λ y. Switch e bs y) v in
     subst (λ a. StmtPartsRun r w s s' a x') (sym i) (subst (λ a. StmtPartsRun r w s s' (Switch e as' t) a) (sym made) (arms_run (subst (HasReducedSubject r) i h) q))
 
--- where its subject decides nothing it stays
-pub undecided : {r : Engine} {w : Bool} {s s1 s2 : Progress} {x x1 x2 : Stmt} → SubjectRun r w s s1 x x1 → Decided false r w s1 s2 x1 x2 → SubjectRun r w s s2 x x2
-undecided {r = r} {w = w} {s = s} {s2 = s2} {x = x} {x1 = x1} f q = subst (λ y. SubjectRun r w s s2 x y) (sym q.0) (subst (λ z. SubjectRun r w s z x x1) (sym q.1.0) f)
+-- where nothing is decided it stays
+pub undecided : {r : Engine} {w : Bool} {s s1 s2 : Progress} {x x1 x2 : Stmt} → SubjectRun r w s s1 x x1 → StmtDecided false r w s1 s2 x1 x2 → SubjectRun r w s s2 x x2
+undecided {r = r} {w = w} {s = s} {s2 = s2} {x = x} {x1 = x1} f q = subst (λ y. SubjectRun r w s s2 x y) (sym q.0) (subst (λ z. SubjectRun r w s z x x1) (sym q.1) f)
 
 -- ---- a statement that was gone over once
 

@@ -22,8 +22,7 @@ use crate::names::{declare, keeps_names, push_catch_name, push_loop_names};
 use base_engine::EngineInfo;
 use bitflags::Flags;
 use opt_lists::ListMark;
-use opt_rules::{OptimizerState, Place, reduce_expr, reduce_stmt};
-use opt_switch::decide_switch;
+use opt_rules::{OptimizerState, Place, decide_stmt, reduce_expr, reduce_stmt};
 use rhai_ast::{
     BinaryExpr, ChainType, Expr, FlowControl, FnCallExpr, Stmt, StmtBlock, SwitchBlock,
     SwitchCasesCollection,
@@ -351,7 +350,8 @@ impl<'a> Optimizer<'a> {
     }
 
     /// The parts of a statement and then the rules at it. Whether one made parts that were not gone over. Of a
-    /// `switch` that its subject decides no arm is opened, as most of them go.
+    /// `switch` that its subject decides no arm is opened, as most of them go, and braces are opened as the block that
+    /// they become.
     #[cycle(optimize)]
     fn stmt_once(
         &self,
@@ -364,7 +364,7 @@ impl<'a> Optimizer<'a> {
             (stmt_of statement.old) (stmt_of statement.new)) }
     {
         self.subject(state, statement)?;
-        if decide_switch(self.alloc, state, statement)? {
+        if decide_stmt(self.alloc, state, statement)? {
             return Ok(true);
         }
         self.stmt_parts(state, statement, is_wanted)?;

@@ -5,5 +5,5 @@ mod expressions;
 mod names;
 mod nodes;
 
-pub use nodes::{reduce_expr, reduce_stmt};
+pub use nodes::{decide_stmt, reduce_expr, reduce_stmt};
 pub use opt_steps::{OptimizerState, Place};

@@ -3,12 +3,13 @@
 
 #![tactic(auto, using(ast_types::specs::Reading::shapes))]
 
-ghost use Rattle.std.specs.Prelude.{◌≡◌, OnOk, IfOk};
+ghost use Rattle.std.specs.Prelude.{◌≡◌, Bool, OnOk, IfOk};
 ghost use Rattle.opt_known.specs.State.{progress};
+ghost use Rattle.theory_meaning.specs.Engine.{Engine};
 ghost use Rattle.ast_types.specs.Reading.{expr_of, stmt_of};
 ghost use Rattle.base_engine.specs.EngineInfo.{engine_of};
 ghost use Rattle.opt_steps.specs.Passes.{PassStep};
-ghost use Rattle.opt_steps.specs.NodeSteps.{StmtStep};
+ghost use Rattle.opt_steps.specs.NodeSteps.{StmtDecided, StmtStep};
 ghost use Rattle.opt_steps.specs.Places.{place_of};
 ghost use Rattle.theory_rewriting.specs.Steps.{ExprReduced, StmtReduced};
 
@@ -19,9 +20,10 @@ use opt_chains::step_chain;
 use opt_exprs::{step_call, step_call_statement, step_map, step_operands, step_text};
 use opt_steps::{NodeStep, OptimizerState, Place};
 use opt_stmts::{
-    step_assignment, step_block, step_expression, step_if, step_share, step_try, step_while,
+    open_braces, step_assignment, step_block, step_expression, step_if, step_share, step_try,
+    step_while,
 };
-use opt_switch::step_switch;
+use opt_switch::{decide_switch, step_switch};
 use rhai_ast::{Expr, Stmt};
 use rhai_base::OutOfMemory;
 use std::alloc::Global;
@@ -76,6 +78,25 @@ pub fn reduce_expr(
     }
 }
 
+/// Rewrites a statement whose parts were not gone over by the rules that need none of them: braces are opened as the
+/// block that they become, and a `switch` that its subject decides opens no arm that goes. Whether one fired.
+pub fn decide_stmt(
+    alloc: Global,
+    state: &mut OptimizerState<'_>,
+    statement: &mut Stmt,
+) -> Result<bool, OutOfMemory>
+    ensures { IfOk result (λ fired.
+        (r : Engine) (w : Bool)
+        → StmtDecided fired r w (progress state.old) (progress state.new) (stmt_of statement.old)
+        (stmt_of statement.new)) }
+{
+    match statement {
+        Stmt::Expr(_) => Ok(open_braces(state, statement)),
+        Stmt::Switch(_, _) => decide_switch(alloc, state, statement),
+        _ => Ok(false),
+    }
+}
+
 /// Rewrites a statement by the rule that fires at it, if one does.
 fn step_stmt(
     alloc: Global,
@@ -89,7 +110,7 @@ fn step_stmt(
         (stmt_of statement.new)) }
 {
     match statement {
-        Stmt::Expr(_) => Ok(step_expression(state, statement)),
+        Stmt::Expr(_) => Ok(step_expression(state, statement, is_wanted)),
         Stmt::FnCall(_, _) => step_call_statement(alloc, info, state, statement),
         Stmt::If(_, _) => step_if(alloc, state, statement, is_wanted),
         Stmt::Block(_) => Ok(step_block(state, statement)),

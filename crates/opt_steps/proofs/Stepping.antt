@@ -5,7 +5,7 @@ use Rattle.theory_meaning.specs.Tree.{Expr, Stmt}
 use Rattle.theory_meaning.specs.Walk.{OfExpr, OfStmt}
 use Rattle.theory_rewriting.specs.Clear.{known_value}
 use Rattle.theory_rewriting.specs.Residue.{IsReducedNode}
-use Rattle.theory_rewriting.specs.Steps.{AnswersNone, Progress, here, Place, Anywhere, ExprRewrite, StmtKept, StmtRewrite}
+use Rattle.theory_rewriting.specs.Steps.{AnswersNone, Progress, here, Place, Anywhere, ExprRewrite, StmtFired, KeepsStmtParts, StmtKept, StmtRewrite}
 use Rattle.theory_rewriting.proofs.Firing.{stmt_fired_by}
 use Rattle.opt_steps.specs.declared.step.NodeStep.{NodeStep}
 use Rattle.opt_steps.specs.NodeSteps.{ExprStep, StmtStep, step_by}
@@ -36,3 +36,10 @@ stmt_put r o w s s' x x' n h d k q = subst (λ n. StmtStep n r w s s' x x') (sym
   by : (o : Bool) → StmtRewrite o w x x' → StmtStep (step_by o) r w s s' x x'
   by true q = stmt_fired_by d k (q.rule (here r s))
   by false q = (stmt_fired_by d k (q.rule (here r s)), q.keeps refl)
+
+-- what fired may be gone over again, or not
+pub fired_step : {r : Engine} {w o : Bool} {s s' : Progress} {x x' : Stmt} {n : NodeStep} → n ≡ step_by o → StmtFired r w s s' x x' × KeepsStmtParts x x' → StmtStep n r w s s' x x'
+fired_step {r = r} {w = w} {o = o} {s = s} {s' = s'} {x = x} {x' = x'} h q = subst (λ n. StmtStep n r w s s' x x') (sym h) (by o) where
+  by : (o : Bool) → StmtStep (step_by o) r w s s' x x'
+  by true = q.0
+  by false = q

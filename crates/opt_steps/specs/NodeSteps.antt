@@ -18,6 +18,11 @@ StmtStep step.Kept r w s s' x x' = StmtKept r s s' x x'
 StmtStep step.Rewritten r w s s' x x' = StmtFired r w s s' x x' × KeepsStmtParts x x'
 StmtStep step.Reopened r w s s' x x' = StmtFired r w s s' x x'
 
+-- at a statement whose parts were not gone over: whether rules fired
+abbrev pub StmtDecided : Bool → Engine → Bool → Progress → Progress → Stmt → Stmt → Type 0
+StmtDecided true r w s s' x x' = StmtFired r w s s' x x'
+StmtDecided false r w s s' x x' = (x' ≡ x) × (s' ≡ s)
+
 abbrev pub step_by : Bool → NodeStep
 step_by true = step.Reopened
 step_by false = step.Rewritten

@@ -2,10 +2,10 @@
 use Rattle.std.proofs.Common.{◌≡◌, true, false, None, refl}
 use Rattle.ast_types.specs.declared.expr.Expr as declared_expr
 use Rattle.ast_types.specs.declared.stmt.Stmt as declared_stmt
-use Rattle.theory_meaning.specs.Tree.{Expr, Stmt}
+use Rattle.theory_meaning.specs.Tree.{Expr, BlockExpr, Stmt, ExprStmt}
 use Rattle.ast_types.proofs.Cases.{ExprCase, braces_case, call_case, StmtCase, while_case, block_case, try_catch_case, expression_case}
 use Rattle.opt_steps.proofs.NodeKinds.{NoBraces, NoCall, NoWhile, NoBlock, NoTry, NoExpression}
-use Rattle.opt_stmts.specs.SettledStatements.{is_settled_block, stays, is_settled_expression, decided_loop, is_settled_try}
+use Rattle.opt_stmts.specs.SettledStatements.{is_settled_block, stays, is_braces, is_over_braces, is_settled_expression, decided_loop, is_settled_try}
 
 pub no_block : {x : declared_stmt.Stmt} {s : Stmt} → StmtCase x s → NoBlock x → true ≡ is_settled_block s
 no_block (block_case b) h = absurd (h b refl)
@@ -15,6 +15,20 @@ pub stays_as_statement : {x : declared_expr.Expr} {e : Expr} → ExprCase x e �
 stays_as_statement (braces_case b) h c = absurd (h b refl)
 stays_as_statement (call_case c p) h k = absurd (k c p refl)
 stays_as_statement _ h c = refl
+
+pub no_braces : {x : declared_expr.Expr} {e : Expr} → ExprCase x e → NoBraces x → false ≡ is_braces e
+no_braces (braces_case b) h = absurd (h b refl)
+no_braces _ h = refl
+
+pub not_over_braces : {x : declared_stmt.Stmt} {s : Stmt} → StmtCase x s → NoExpression x → false ≡ is_over_braces s
+not_over_braces (expression_case e) h = absurd (h e refl)
+not_over_braces _ h = refl
+
+-- what is over braces does not stay
+pub braces_go : (s : Stmt) → is_over_braces s ≡ true → is_settled_expression s ≡ false
+braces_go (ExprStmt (BlockExpr ss)) h = refl
+braces_go (ExprStmt _) h = absurd (let z : false ≡ true = h in cc)
+braces_go _ h = absurd (let z : false ≡ true = h in cc)
 
 pub no_expression : {x : declared_stmt.Stmt} {s : Stmt} → StmtCase x s → NoExpression x → true ≡ is_settled_expression s
 no_expression (expression_case e) h = absurd (h e refl)

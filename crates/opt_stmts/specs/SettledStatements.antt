@@ -1,7 +1,10 @@
 -- Statements at which no rule fires, their parts being reduced.
-use Rattle.std.specs.Prelude.{Bool, true, false, not, Option, None}
+use Rattle.std.specs.Prelude.{Bool, true, false, not, ◌&&◌, cond, Option, None}
 use Rattle.theory_meaning.specs.Constants.{constant_bool}
 use Rattle.theory_meaning.specs.Queries.{are_internally_pure, is_block_dependent}
+use Rattle.opt_steps.specs.declared.step.NodeStep.{NodeStep}
+use Rattle.opt_steps.specs.declared.step.NodeStep.TheVariants as step
+use Rattle.opt_steps.specs.NodeSteps.{step_by}
 use Rattle.theory_meaning.specs.Tree.{Expr, BlockExpr, FnCall, Stmt, While, Block, TryCatch, ExprStmt, Stmts, no_stmts, stmt}
 
 -- ---- blocks
@@ -35,6 +38,18 @@ stays _ = true
 abbrev pub is_settled_expression : Stmt → Bool
 is_settled_expression (ExprStmt e) = stays e
 is_settled_expression _ = true
+
+abbrev pub is_braces : Expr → Bool
+is_braces (BlockExpr ss) = true
+is_braces _ = false
+
+abbrev pub is_over_braces : Stmt → Bool
+is_over_braces (ExprStmt e) = is_braces e
+is_over_braces _ = false
+
+-- what came of one: a block whose value nothing wants is to be gone over, as its list was one whose value is wanted
+abbrev pub expression_step : Bool → Stmt → NodeStep
+expression_step w x = cond (is_settled_expression x) step.Kept (step_by (is_over_braces x && not w))
 
 -- ---- loops
 

@@ -3,18 +3,18 @@
 #![tactic(auto, using(ast_types::specs::Reading::shapes))]
 
 ghost use Rattle.std.specs.Prelude.{◌≡◌, true, false, Bool};
-ghost use Rattle.opt_stmts.specs.Firing.{Fires, answer};
+ghost use Rattle.opt_stmts.specs.Firing.{Fires};
 ghost use Rattle.opt_known.specs.State.{progress};
 ghost use Rattle.theory_meaning.specs.Engine.{Engine};
 ghost use Rattle.theory_meaning.specs.Tree.{BlockExpr, ExprStmt, FnCall};
 ghost use Rattle.ast_types.specs.Reading.{callee_of, expr_of, exprs_of, stmt_of, stmts_of};
 ghost use Rattle.theory_rewriting.specs.Steps.{StmtRewrite};
 ghost use Rattle.opt_stmts.specs.SettledStatements as settled;
-ghost use Rattle.opt_steps.specs.NodeSteps.{StmtStep};
+ghost use Rattle.opt_steps.specs.NodeSteps.{StmtDecided, StmtStep};
 
 use crate::choice::is_empty;
 use ast_nodes::put_stmt;
-use opt_steps::{NodeStep, OptimizerState, note_fired};
+use opt_steps::{NodeStep, OptimizerState, note_fired, step_of};
 use rhai_ast::{Expr, FnCallExpr, Stmt, StmtBlock, Take};
 use rhai_base::{Boxed, Position};
 
@@ -90,17 +90,57 @@ fn rewrite_expression(state: &mut OptimizerState<'_>, statement: &mut Stmt)
     put_stmt(statement, made);
 }
 
-/// Rewrites an expression statement by the rule that fires at it, if one does.
-pub fn step_expression(state: &mut OptimizerState<'_>, statement: &mut Stmt) -> NodeStep
+fn is_braces(expr: &Expr) -> bool
+    ensures { result ≡ settled.is_braces (expr_of expr.now) }
+{
+    match expr {
+        Expr::Stmt(_) => true,
+        _ => false,
+    }
+}
+
+/// Whether it is an expression statement over braces.
+fn is_over_braces(statement: &Stmt) -> bool
+    ensures { result ≡ settled.is_over_braces (stmt_of statement.now) }
+{
+    match statement {
+        Stmt::Expr(expr) => is_braces(expr.get()),
+        _ => false,
+    }
+}
+
+/// Rewrites an expression statement by the rule that fires at it, if one does. What was in braces and is a block now, of
+/// which nothing is wanted, is to be gone over again: it was a list whose value is wanted.
+pub fn step_expression(
+    state: &mut OptimizerState<'_>,
+    statement: &mut Stmt,
+    is_wanted: bool,
+) -> NodeStep
     requires { settled.is_expression (stmt_of statement.now) ≡ true }
-    ensures answer { result ≡ answer (settled.is_settled_expression (stmt_of statement.old)) }
-    ensures step { (r : Engine) (w : Bool)
-        → StmtStep result r w (progress state.old) (progress state.new) (stmt_of statement.old)
+    ensures answer { result ≡ settled.expression_step is_wanted (stmt_of statement.old) }
+    ensures step { (r : Engine)
+        → StmtStep result r is_wanted (progress state.old) (progress state.new) (stmt_of statement.old)
         (stmt_of statement.new) }
 {
     if is_settled_expression(statement) {
         return NodeStep::Kept;
     }
+    let reopens = is_over_braces(statement) && !is_wanted;
     rewrite_expression(state, statement);
-    NodeStep::Rewritten
+    step_of(reopens)
+}
+
+/// Opens an expression statement over braces, whose parts were not gone over: it becomes a block, and is then gone over
+/// as one of which a value is wanted or not. Whether it was one.
+pub fn open_braces(state: &mut OptimizerState<'_>, statement: &mut Stmt) -> bool
+    ensures answer { result ≡ settled.is_over_braces (stmt_of statement.old) }
+    ensures step { (r : Engine) (w : Bool)
+        → StmtDecided result r w (progress state.old) (progress state.new) (stmt_of statement.old)
+        (stmt_of statement.new) }
+{
+    if !is_over_braces(statement) {
+        return false;
+    }
+    rewrite_expression(state, statement);
+    true
 }

@@ -6,7 +6,7 @@ use Rattle.opt_rules.proofs.Passing.{stmt_anywhere, stmt_under, stmt_wanted}
 use Rattle.opt_rules.proofs.nodes.step_stmt.Goals as goal
 
 pub returns-in-Expr : goal.returns-in-Expr
-returns-in-Expr c = c.step_expression.ensures.step _ _
+returns-in-Expr c = c.step_expression.ensures.step _
 
 pub returns-in-FnCall : goal.returns-in-FnCall
 returns-in-FnCall c = stmt_wanted _ _ _ _ _ _ _ c.step_call_statement.ensures

@@ -1,6 +1,9 @@
-use Rattle.opt_steps.proofs.Stepping.{stmt_stays}
+use Rattle.opt_steps.proofs.Stepping.{fired_step, stmt_stays}
 use Rattle.opt_stmts.proofs.Shapes.{expression_reduced}
 use Rattle.opt_stmts.proofs.expression.step_expression.Goals as goal
 
 pub returns-then-is_settled_expression-clause-step : goal.returns-then-is_settled_expression-clause-step
-returns-then-is_settled_expression-clause-step c = λ r w. stmt_stays (expression_reduced r _ c.requires)
+returns-then-is_settled_expression-clause-step c = λ r. stmt_stays (expression_reduced r _ c.requires)
+
+pub returns-clause-step : goal.returns-clause-step
+returns-clause-step c = λ r. fired_step c.step_of.ensures (c.rewrite_expression.ensures r c.args.is_wanted)

@@ -163,15 +163,15 @@ stmt-returns-then-not-branch t c = once_done c.loop.invariant (rw c.if-not-branc
 
 pub stmt_once-stmt_parts-requires : goal.stmt_once-stmt_parts-requires
 stmt_once-stmt_parts-requires t c =
-    let f = undecided (c.in_ok-subject.ensures c.args.is_wanted) (rw c.if-branch.false at c.in_ok-decide_switch.ensures (record_of c.args.self.now) c.args.is_wanted) in
+    let f = undecided (c.in_ok-subject.ensures c.args.is_wanted) (rw c.if-branch.false at c.in_ok-decide_stmt.ensures (record_of c.args.self.now) c.args.is_wanted) in
     (omega (arith, subject_fits f), f.subject)
 
 pub stmt_once-returns-then-branch : goal.stmt_once-returns-then-branch
-stmt_once-returns-then-branch t c = subject_fired (c.in_ok-subject.ensures c.args.is_wanted) (rw c.if-branch.true at c.in_ok-decide_switch.ensures (record_of c.args.self.now) c.args.is_wanted)
+stmt_once-returns-then-branch t c = subject_fired (c.in_ok-subject.ensures c.args.is_wanted) (rw c.if-branch.true at c.in_ok-decide_stmt.ensures (record_of c.args.self.now) c.args.is_wanted)
 
 pub stmt_once-returns : goal.stmt_once-returns
 stmt_once-returns t c =
-    let f = undecided (c.in_ok-subject.ensures c.args.is_wanted) (rw c.if-branch.false at c.in_ok-decide_switch.ensures (record_of c.args.self.now) c.args.is_wanted) in
+    let f = undecided (c.in_ok-subject.ensures c.args.is_wanted) (rw c.if-branch.false at c.in_ok-decide_stmt.ensures (record_of c.args.self.now) c.args.is_wanted) in
     once_by _ _ c.reduce_stmt.result (subject_then f c.in_ok-stmt_parts.ensures) c.reduce_stmt.ensures
 
 pub stmt_parts-returns-in-If : goal.stmt_parts-returns-in-If
