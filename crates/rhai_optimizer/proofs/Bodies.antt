@@ -104,6 +104,14 @@ module _ {r : Engine} {ks : List Known} where
   bodies_reduced no_functions = tt
   bodies_reduced (one_more p ps) = (p.reduced, bodies_reduced ps)
 
+-- what was reduced may stay, whatever is known
+stays : {r : Engine} {ks ls : List Known} {f f' : ScriptFuncDef} → FunctionRun r ks f f' → FunctionRun r ls f' f'
+stays p = record { header = refl; to = record { name = refl; this_type = refl; params = refl; body = same_stmts }; reduced = p.reduced }
+
+pub all_stay : {r : Engine} {ks ls : List Known} {fs fs' : List ScriptFuncDef} → FunctionsRun r ks fs fs' → FunctionsRun r ls fs' fs'
+all_stay no_functions = no_functions
+all_stay (one_more p ps) = one_more (stays p) (all_stay ps)
+
 -- ---- one after another
 
 -- with what becomes of the rest behind those that are done it is what becomes of all

@@ -20,7 +20,10 @@ use Rattle.theory_rewriting.specs.Reducible.{AreIrreducibleBodies, IsIrreducible
 use Rattle.theory_rewriting.specs.Rewriting.{StmtsTo, same_stmts}
 use Rattle.theory_rewriting.specs.Scripts.{captures_nothing, known_at_top, known_in_bodies, known_inside, MayKnow, nothing_known, none_capture, FunctionsTo, OptimisedTo, ScriptTo}
 use Rattle.theory_rewriting.proofs.Irreducible.{body_irreducible}
-use Rattle.theory_rewriting.proofs.soundness.Kept.{script_keeps, well_formed_stays}
+use Rattle.theory_rewriting.specs.Kept.{Keeps}
+use Rattle.theory_rewriting.specs.Refines.{RefinesWhere}
+use Rattle.theory_rewriting.proofs.soundness.Following.{keeps_then, refines_then}
+use Rattle.theory_rewriting.proofs.soundness.Kept.{script_keeps}
 use Rattle.theory_rewriting.proofs.soundness.Start.{agrees_inside}
 use Rattle.theory_rewriting.proofs.soundness.Whole.{functions_same, optimised_refines, script_refines}
 use Rattle.opt_queries.specs.Walks.{capture_walk, listing}
@@ -102,38 +105,53 @@ made_of : (ss : List Stmt) (fs : List (Rc ScriptFuncDef Global)) (s : Contents) 
 made_of ss fs s body table = λ i. record { statements = stmts_of (sym body i); functions = sym (ap (map function_of) table ∙ table_meant (map rc_value fs)) i }
 
 module _ {r : Engine} {start : List ScopeEntry} {ss : List Stmt} {fs : List (Rc ScriptFuncDef Global)} {ss' : List Stmt} {fs' : List (Rc ScriptFuncDef Global)} {number : ℕ} where
-  module _ {l : OptimizationLevel} (p : PartsOptimised r start l ss fs ss' fs' number) where
-    optimised_to : l ≢ level.None → ScriptTo r (known_at_top r start) (Inside r start ss fs) (source_of ss fs) (source_of ss' fs')
-    optimised_to h = record { statements = counts_to (p.some h).counts; functions = of_tables (knowing r (Inside r start ss fs)) fs fs' (functions_to (table_run (p.some h).functions)) }
+  module _ (p : PartsReduced r start ss fs ss' fs' number) where
+    first_to : ScriptTo r (known_at_top r start) (Inside r start ss fs) (source_of ss fs) (source_of ss' p.between)
+    first_to = record { statements = counts_to p.counts; functions = of_tables (knowing r (Inside r start ss fs)) fs p.between (functions_to (table_run p.first)) }
 
+    second_to : ScriptTo r (known_at_top r start) (Inside r start ss' p.between) (source_of ss' p.between) (source_of ss' fs')
+    second_to = record { statements = same_stmts; functions = of_tables (knowing r (Inside r start ss' p.between)) p.between fs' (functions_to (table_run p.second)) }
+
+    both_refine : RefinesWhere r (known_at_top r start) (source_of ss fs) (source_of ss' fs')
+    both_refine = refines_then (script_refines first_to (may_know r start ss fs) (agrees_inside r start (listing ss fs))) (script_refines second_to (may_know r start ss' p.between) (agrees_inside r start (listing ss' p.between)))
+
+    both_keep : Keeps (source_of ss fs) (source_of ss' fs')
+    both_keep = keeps_then (script_keeps first_to) (script_keeps second_to)
+
+    both_headers : map header_of (definitions_table (map rc_value fs')) ≡ map header_of (definitions_table (map rc_value fs))
+    both_headers = same_headers (table_run p.second) ∙ same_headers (table_run p.first)
+
+    both_reduced : IsReducedScript r (source_of ss' fs')
+    both_reduced = record { statements = p.reduced; functions = subst (λ gs. AreReducedBodies r gs) (table_meant (map rc_value fs')) (bodies_reduced (table_run p.second)) }
+
+  module _ {l : OptimizationLevel} (p : PartsOptimised r start l ss fs ss' fs' number) where
     untouched_to : l ≡ level.None → ScriptTo r (known_at_top r start) (Inside r start ss fs) (source_of ss fs) (source_of ss' fs')
     untouched_to h = record {
       statements = subst (λ z. StmtsTo (knowing r (known_at_top r start)) Whole true true (stmts_of ss) (stmts_of z)) (sym (p.none h).0) same_stmts;
       functions = subst (λ z. FunctionsTo (knowing r (Inside r start ss fs)) (source_of ss fs).functions (table_of (map function_of z))) (sym (p.none h).1.0) (functions_same (knowing r (Inside r start ss fs)) (source_of ss fs).functions);
     }
 
-    table_headers : l ≢ level.None → map header_of (definitions_table (map rc_value fs')) ≡ map header_of (definitions_table (map rc_value fs))
-    table_headers h = same_headers (table_run (p.some h).functions)
+  refined : (l : OptimizationLevel) → PartsOptimised r start l ss fs ss' fs' number → RefinesWhere r (known_at_top r start) (source_of ss fs) (source_of ss' fs')
+  refined level.None p = script_refines (untouched_to p refl) (may_know r start ss fs) (agrees_inside r start (listing ss fs))
+  refined level.Simple p = both_refine (p.some simple_optimises)
+  refined level.Full p = both_refine (p.some full_optimises)
 
-    source_reduced : l ≢ level.None → IsReducedScript r (source_of ss' fs')
-    source_reduced h = record { statements = (p.some h).reduced; functions = subst (λ gs. AreReducedBodies r gs) (table_meant (map rc_value fs')) (bodies_reduced (table_run (p.some h).functions)) }
-
-  script_to : (l : OptimizationLevel) → PartsOptimised r start l ss fs ss' fs' number → ScriptTo r (known_at_top r start) (Inside r start ss fs) (source_of ss fs) (source_of ss' fs')
-  script_to level.None p = untouched_to p refl
-  script_to level.Simple p = optimised_to p simple_optimises
-  script_to level.Full p = optimised_to p full_optimises
+  kept : (l : OptimizationLevel) → PartsOptimised r start l ss fs ss' fs' number → Keeps (source_of ss fs) (source_of ss' fs')
+  kept level.None p = script_keeps (untouched_to p refl)
+  kept level.Simple p = both_keep (p.some simple_optimises)
+  kept level.Full p = both_keep (p.some full_optimises)
 
   headers_to : (l : OptimizationLevel) → PartsOptimised r start l ss fs ss' fs' number → map header_of (definitions_table (map rc_value fs')) ≡ map header_of (definitions_table (map rc_value fs))
   headers_to level.None p = ap (λ gs. map header_of (definitions_table gs)) (p.none refl).1.0
-  headers_to level.Simple p = table_headers p simple_optimises
-  headers_to level.Full p = table_headers p full_optimises
+  headers_to level.Simple p = both_headers (p.some simple_optimises)
+  headers_to level.Full p = both_headers (p.some full_optimises)
 
   becomes : (l : OptimizationLevel) → PartsOptimised r start l ss fs ss' fs' number → Becomes r start l (source_of ss fs) (source_of ss' fs')
   becomes l p = record {
-    refines = script_refines (script_to l p) (may_know r start ss fs) (agrees_inside r start (listing ss fs));
-    keeps = script_keeps (script_to l p);
-    irreducible = λ h w. script_irreducible r (source_of ss' fs') (source_reduced p h) (well_formed_stays (script_to l p) w);
-    reduced = source_reduced p;
+    refines = refined l p;
+    keeps = kept l p;
+    irreducible = λ h w. script_irreducible r (source_of ss' fs') (both_reduced (p.some h)) ((kept l p).well_formed w);
+    reduced = λ h. both_reduced (p.some h);
   }
 
   module _ (before after : Contents) (from : before.statements ≡ ss) (table : before.functions ≡ definitions_table (map rc_value fs)) (to : after.statements ≡ ss') (table' : after.functions ≡ definitions_table (map rc_value fs')) where

@@ -62,11 +62,18 @@ pub record Optimised (r : Engine) (start : List ScopeEntry) (l : OptimizationLev
 abbrev pub given : List Stmt → List (Rc ScriptFuncDef Global) → Contents
 given ss fs = record { source = None; doc = []; statements = ss; id = None; functions = definitions_table (map rc_value fs) }
 
--- the statements and the functions, optimised, before they are made a script of
+-- bodies under what these statements and functions let them know
+abbrev pub BodiesRun : Engine → List ScopeEntry → List Stmt → List (Rc ScriptFuncDef Global) → List (Rc ScriptFuncDef Global) → Type 0
+BodiesRun r start ss fs fs' = FunctionsRun r (known_inside r start (listing ss fs)) (map rc_value fs) (map rc_value fs')
+
+-- the statements and the functions, optimised, before they are made a script of: bodies first under what the source lets
+-- them know, and then under what was made of it does
 pub record PartsReduced (r : Engine) (start : List ScopeEntry) (ss : List Stmt) (fs : List (Rc ScriptFuncDef Global)) (ss' : List Stmt) (fs' : List (Rc ScriptFuncDef Global)) (number : ℕ) : Type 0 where
   pub counts : Counts (knowing r (known_at_top r start)) number (stmts_of ss) (stmts_of ss')
   pub reduced : IsReducedBody r (stmts_of ss')
-  pub functions : FunctionsRun r (known_inside r start (listing ss fs)) (map rc_value fs) (map rc_value fs')
+  pub between : List (Rc ScriptFuncDef Global)
+  pub first : BodiesRun r start ss fs between
+  pub second : BodiesRun r start ss' between fs'
 
 -- at a level
 pub record PartsOptimised (r : Engine) (start : List ScopeEntry) (l : OptimizationLevel) (ss : List Stmt) (fs : List (Rc ScriptFuncDef Global)) (ss' : List Stmt) (fs' : List (Rc ScriptFuncDef Global)) (number : ℕ) : Type 0 where

@@ -2,7 +2,7 @@
 
 #![tactic(auto, using(ast_types::specs::Reading::shapes, crate::proofs::Bodies::params))]
 
-ghost use Rattle.std.specs.Prelude.{◌≡◌, [], IfOk, OnOk, map};
+ghost use Rattle.std.specs.Prelude.{◌≡◌, List, [], IfOk, OnOk, map};
 ghost use Rattle.std.specs.Map.Iter.{deref};
 ghost use Rattle.std.specs.Option.{option_map};
 ghost use Rattle.std.specs.Rc.{rc_value};
@@ -11,7 +11,9 @@ ghost use Rattle.opt_known.specs.State.{progress};
 ghost use Rattle.rhai_optimizer.specs.Functions.{BodyRun, FunctionRun, FunctionsRun};
 ghost use Rattle.rhai_optimizer.specs.Scopes.{start_of};
 ghost use Rattle.opt_reducer.specs.Parts.{record_of};
-ghost use Rattle.theory_rewriting.specs.Known.{shadow_all};
+ghost use Rattle.ast_types.specs.declared.script_fn.ScriptFuncDef.{ScriptFuncDef as Declared};
+ghost use Rattle.rhai_optimizer.specs.Optimised.{BodiesRun};
+ghost use Rattle.theory_rewriting.specs.Known.{Known, shadow_all};
 ghost use Rattle.theory_rewriting.specs.Scripts.{known_inside};
 
 use crate::start::push_in_bodies;
@@ -140,7 +142,7 @@ fn push_inside<'a>(
     Ok(())
 }
 
-/// The functions of a script, their bodies optimised.
+/// The functions of a script, their bodies optimised. They know nothing from outside where a call captures.
 pub(crate) fn optimize_functions<'a>(
     optimizer: &Optimizer<'a>,
     scope: Option<&'a Scope>,
@@ -167,4 +169,25 @@ pub(crate) fn optimize_functions<'a>(
         functions.as_slice(),
     )?;
     each_function(optimizer, &mut state, functions)
+}
+
+/// The functions once more, where a call of the source captured and none of what was made of it does: bodies may know
+/// more then. Nothing that they come to know captures, so twice is enough.
+pub(crate) fn optimize_functions_again<'a>(
+    optimizer: &Optimizer<'a>,
+    scope: Option<&'a Scope>,
+    captured: bool,
+    statements: &[Stmt],
+    functions: Vec<Rc<ScriptFuncDef>>,
+) -> Result<Vec<Rc<ScriptFuncDef>>, OutOfMemory>
+    ensures { IfOk result (λ made.
+        (ks : List Known) (fs : List Declared)
+        → FunctionsRun (record_of optimizer.now) ks fs (map rc_value functions.items)
+        → BodiesRun (record_of optimizer.now) (start_of (option_map deref scope.entry)) statements.now functions.items
+        made.items) }
+{
+    if captured && captures_nothing(statements, functions.as_slice()) {
+        return optimize_functions(optimizer, scope, statements, functions);
+    }
+    Ok(functions)
 }

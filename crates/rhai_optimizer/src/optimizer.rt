@@ -15,12 +15,13 @@ ghost use Rattle.theory_rewriting.specs.Scripts.{known_at_top};
 ghost use Rattle.theory_rewriting.specs.Steps.{IsReducedBody};
 ghost use Rattle.rhai_script.specs.Contents.{contents};
 
-use crate::functions::optimize_functions;
+use crate::functions::{optimize_functions, optimize_functions_again};
 use crate::passes::make_passes;
 use crate::start::push_at_top;
 use ast_nodes::statements_of;
 use base_engine::EngineInfo;
 use opt_known::{OptimizationLevel, OptimizerState};
+use opt_queries::captures_nothing;
 use opt_reducer::Optimizer;
 use rhai_ast::{ScriptFuncDef, Stmt, StmtBlock};
 use rhai_base::{ImmutableString, OutOfMemory, Position, Scope};
@@ -76,8 +77,16 @@ fn optimize_parts<'a>(
         r.0.block r.1.items r.2) }
 {
     let optimizer = Optimizer { alloc, info };
+    let captured = !captures_nothing(statements.statements(), functions.as_slice());
     let functions = optimize_functions(&optimizer, scope, statements.statements(), functions)?;
     let (statements, passes) = optimize_statements(alloc, info, scope, statements)?;
+    let functions = optimize_functions_again(
+        &optimizer,
+        scope,
+        captured,
+        statements.statements(),
+        functions,
+    )?;
     Ok((statements, functions, passes))
 }
 
@@ -119,6 +128,7 @@ pub fn optimize_counted(
         (stmts_of (contents r.0).statements) r.1) }
 {
     let block = StmtBlock::new(statements, Position::NONE, Position::NONE);
+    let (_, functions) = FnLib::from_functions(alloc, functions)?.into_parts()?;
     let (block, functions, passes) = optimize_parts_at(
         alloc, info, scope, block, functions, level,
     )?;

@@ -12,4 +12,5 @@ pub mod Capturing
 pub mod Kept
 pub mod Start
 pub mod Whole
+pub mod Following
 pub mod Reports

@@ -1,4 +1,4 @@
-use Rattle.std.proofs.Common.{refl, ap, ◌∙◌}
+use Rattle.std.proofs.Common.{refl, sym, ap, ◌∙◌}
 use Rattle.script_tables.specs.declared.fn_lib.FnLib.{FnLib}
 use Rattle.rhai_script.specs.Contents.{Contents, contents}
 use Rattle.rhai_optimizer.specs.Optimised.{given}
@@ -9,11 +9,11 @@ pub returns-clause-promise : goal.returns-clause-promise
 returns-clause-promise c =
     let parts = rw (c.new-block.ensures.block) at c.in_ok-block.ensures in
     let e = c.new-2.ensures.contents in
-    whole (given c.args.statements.items c.args.functions.items) (contents c.new-2.result) refl refl
+    whole (given c.args.statements.items c.args.functions.items) (contents c.new-2.result) refl (sym c.in_ok-from_functions.ensures.definitions ∙ sym c.in_ok-into_parts.ensures.table)
     (ap (λ (x : Contents). x.statements) e ∙ c.statements_of.ensures)
-    (ap (λ (x : Contents). x.functions) e ∙ ap (λ (l : FnLib). l.functions) c.in_ok-lib.ensures.ok ∙ c.in_ok-from_functions.ensures.definitions)
+    (ap (λ (x : Contents). x.functions) e ∙ ap (λ (l : FnLib). l.functions) c.in_ok-lib.ensures.ok ∙ c.in_ok-from_functions-2.ensures.definitions)
     _ parts
-    (ap (λ (x : Contents). x.source) e, (ap (λ (x : Contents). x.doc) e, ap (λ (x : Contents). x.id) e ∙ ap (λ (l : FnLib). l.id) c.in_ok-lib.ensures.ok ∙ c.in_ok-from_functions.ensures.id))
+    (ap (λ (x : Contents). x.source) e, (ap (λ (x : Contents). x.doc) e, ap (λ (x : Contents). x.id) e ∙ ap (λ (l : FnLib). l.id) c.in_ok-lib.ensures.ok ∙ c.in_ok-from_functions-2.ensures.id))
 
 pub returns-clause-passes : goal.returns-clause-passes
 returns-clause-passes c =
