@@ -23,7 +23,7 @@ use Rattle.ast_types.specs.declared.stmt.Stmt.TheVariants as stmt_kind
 use Rattle.ast_types.specs.Reading.{table_by, table_of, subject_of, cases_of, expressions_of, arms_of, expr_of, stmt_of, stmts_of, stmt_of-Var, is_const, is_exported, breaks, chain_flags}
 use Rattle.ast_types.proofs.Cases.{ExprCase, interpolated_string_case, array_case, map_case, unit_case, variable_case, method_call_case, braces_case, call_case, dot_case, index_case, and_case, or_case, coalesce_case, expr_cases, StmtCase, if_case, switch_case, while_case, do_case, for_case, var_case, assignment_case, call_statement_case, block_case, try_catch_case, expression_case, break_loop_case, return_case, import_case, stmt_cases}
 use Rattle.theory_meaning.specs.Engine.{Engine}
-use Rattle.theory_meaning.specs.Tree.{Expr, Variable, Dot, Index, Arms, MaybeExpr, no_expr, Stmt, Var, Stmts, Switch, SwitchTable}
+use Rattle.theory_meaning.specs.Tree.{Expr, Variable, Dot, Index, Arms, MaybeExpr, no_expr, Stmt, If, Var, Stmts, Switch, SwitchTable}
 use Rattle.theory_meaning.specs.Shape.{catch_name}
 use Rattle.theory_rewriting.specs.Clear.{HasClearParts, IsClear}
 use Rattle.opt_steps.proofs.NodeKinds.{NoText, NoArray, NoMap, NoBraces, NoCall, NoDot, NoIndex, NoAnd, NoOr, NoCoalesce, NoMethod, NoVariable, NoIf, NoWhile, NoDo, NoFor, NoVar, NoAssignment, NoCallStatement, NoBlock, NoTry, NoExpression, NoBreak, NoReturn, NoImport, NoSwitch}
@@ -38,7 +38,7 @@ use Rattle.opt_steps.specs.NodeSteps.{StmtDecided}
 use Rattle.std.proofs.lemmas.List.{length-map, drop-map}
 use Rattle.opt_reducer.specs.Parts.{StaysAnywhere, declared_value, StmtOnce}
 use Rattle.theory_rewriting.proofs.Firing.{expr_done, expr_kept, expr_start, stmt_then, stmt_pass, stmt_again_falls, stmt_done}
-use Rattle.theory_rewriting.proofs.Running.{sides_dot, sides_index, link_dot, link_index, maybe_none_run, subject_run, arms_run}
+use Rattle.theory_rewriting.proofs.Running.{sides_dot, sides_index, link_dot, link_index, maybe_none_run, condition_run, subject_run, arms_run}
 
 -- ---- trees that are spelled so
 
@@ -231,17 +231,29 @@ subject_kept {r = r} {s = s} {s' = s'} {x = x} {x' = x'} b b' i j h p w =
     let made = j ∙ ap (λ (y : SwitchCasesCollection). Switch (expr_of (subject_of b')) (arms_of (expressions_of y)) (table_of y)) h in
     subst (λ a. SubjectRun r w s s' a x') (sym i) (subst (λ a. SubjectRun r w s s' (Switch (expr_of (subject_of b)) (arms_of (expressions_of (cases_of b))) (table_of (cases_of b))) a) (sym made) (subject_run p))
 
-no_subject : (r : Engine) {x : declared_stmt.Stmt} {s : Stmt} → StmtCase x s → NoSwitch x → HasReducedSubject r s
-no_subject r (switch_case b p) h = absurd (h b p refl)
-no_subject r _ h = tt
+no_subject : (r : Engine) (ks : List Known) {x : declared_stmt.Stmt} {s : Stmt} → StmtCase x s → NoSwitch x → NoIf x → HasReducedSubject r ks s
+no_subject r ks (switch_case b p) h i = absurd (h b p refl)
+no_subject r ks (if_case f p) h i = absurd (i f p refl)
+no_subject r ks _ h i = tt
 
-pub subject_none : {r : Engine} {s : Progress} (x : declared_stmt.Stmt) → NoSwitch x → (w : Bool) → SubjectRun r w s s (stmt_of x) (stmt_of x)
-subject_none {r = r} x h w = record { to = same_stmt; subject = no_subject r (stmt_cases x) h; known = refl }
+pub subject_none : {r : Engine} {s : Progress} (x : declared_stmt.Stmt) → NoSwitch x → NoIf x → (w : Bool) → SubjectRun r w s s (stmt_of x) (stmt_of x)
+subject_none {r = r} {s = s} x h i w = record { to = same_stmt; subject = no_subject r s.known (stmt_cases x) h i; known = refl }
 
-pub arms_kept : {r : Engine} {w : Bool} {s s' : Progress} {x x' : Stmt} {e e' : Expr} {as' bs : Arms} {t t' : SwitchTable} → x ≡ Switch e as' t → x' ≡ Switch e' bs t' → HasReducedSubject r x → e' ≡ e → t' ≡ t → ArmsRun r s s' as' bs → StmtPartsRun r w s s' x x'
+-- ---- an `if` by its declared parts
+
+pub condition_kept : {r : Engine} {s s' : Progress} {x x' : Stmt} (f f' : FlowControl) → x ≡ If (expr_of f.expr) (stmts_of f.body.block) (stmts_of f.branch.block) → x' ≡ If (expr_of f'.expr) (stmts_of f'.body.block) (stmts_of f'.branch.block) → f'.body ≡ f.body → f'.branch ≡ f.branch → ExprRun r Anywhere s s' (expr_of f.expr) (expr_of f'.expr) → (w : Bool) → SubjectRun r w s s' x x'
+condition_kept {r = r} {s = s} {s' = s'} {x = x} {x' = x'} f f' i j h k p w =
+    let made = j ∙ ap (λ (b : StmtBlock). If (expr_of f'.expr) (stmts_of b.block) (stmts_of f'.branch.block)) h ∙ ap (λ (b : StmtBlock). If (expr_of f'.expr) (stmts_of f.body.block) (stmts_of b.block)) k in
+    subst (λ a. SubjectRun r w s s' a x') (sym i) (subst (λ a. SubjectRun r w s s' (If (expr_of f.expr) (stmts_of f.body.block) (stmts_of f.branch.block)) a) (sym made) (condition_run p))
+
+pub arms_kept : {r : Engine} {w : Bool} {s s' : Progress} {x x' : Stmt} {e e' : Expr} {as' bs : Arms} {t t' : SwitchTable} → x ≡ Switch e as' t → x' ≡ Switch e' bs t' → HasReducedSubject r s.known x → e' ≡ e → t' ≡ t → ArmsRun r s s' as' bs → StmtPartsRun r w s s' x x'
 arms_kept {r = r} {w = w} {s = s} {s' = s'} {x = x} {x' = x'} {e = e} {as' = as'} {bs = bs} {t = t} {t' = t'} i j h u v q =
     let made = j ∙ ap (λ y. Switch y bs t') u ∙ ap (λ y. Switch e bs y) v in
-    subst (λ a. StmtPartsRun r w s s' a x') (sym i) (subst (λ a. StmtPartsRun r w s s' (Switch e as' t) a) (sym made) (arms_run (subst (HasReducedSubject r) i h) q))
+    subst (λ a. StmtPartsRun r w s s' a x') (sym i) (subst (λ a. StmtPartsRun r w s s' (Switch e as' t) a) (sym made) (arms_run (subst (HasReducedSubject r s.known) i h) q))
+
+-- what is not decided before that is as it was
+pub open_still : {r : Engine} {w : Bool} {s s1 s2 : Progress} {x x1 x2 : Stmt} → StmtDecided false r w s s1 x x1 → SubjectRun r w s1 s2 x1 x2 → SubjectRun r w s s2 x x2
+open_still {r = r} {w = w} {s2 = s2} {x1 = x1} {x2 = x2} q f = subst (λ y. SubjectRun r w _ s2 y x2) q.0 (subst (λ z. SubjectRun r w z s2 x1 x2) q.1 f)
 
 -- where nothing is decided it stays
 pub undecided : {r : Engine} {w : Bool} {s s1 s2 : Progress} {x x1 x2 : Stmt} → SubjectRun r w s s1 x x1 → StmtDecided false r w s1 s2 x1 x2 → SubjectRun r w s s2 x x2

@@ -349,9 +349,8 @@ impl<'a> Optimizer<'a> {
         }
     }
 
-    /// The parts of a statement and then the rules at it. Whether one made parts that were not gone over. Of a
-    /// `switch` that its subject decides no arm is opened, as most of them go, and braces are opened as the block that
-    /// they become.
+    /// The parts of a statement and then the rules at it. Whether one made parts that were not gone over. What decides
+    /// it is first: then no part is opened that goes, and braces are opened as the block that they become.
     #[cycle(optimize)]
     fn stmt_once(
         &self,
@@ -363,15 +362,18 @@ impl<'a> Optimizer<'a> {
             StmtOnce again (record_of self.now) is_wanted (progress state.old) (progress state.new)
             (stmt_of statement.old) (stmt_of statement.new)) }
     {
+        if decide_stmt(self.alloc, state, statement, is_wanted)? {
+            return Ok(true);
+        }
         self.subject(state, statement)?;
-        if decide_stmt(self.alloc, state, statement)? {
+        if decide_stmt(self.alloc, state, statement, is_wanted)? {
             return Ok(true);
         }
         self.stmt_parts(state, statement, is_wanted)?;
         reduce_stmt(self.alloc, self.info, state, statement, is_wanted)
     }
 
-    /// The subject of a `switch`.
+    /// What decides a statement: the subject of a `switch`, the condition of an `if`.
     #[cycle(optimize)]
     fn subject(
         &self,
@@ -385,6 +387,7 @@ impl<'a> Optimizer<'a> {
     {
         match statement {
             Stmt::Switch(switch, _) => self.switch_subject(state, switch.get_mut()),
+            Stmt::If(flow, _) => self.condition(state, flow.get_mut()),
             _ => Ok(()),
         }
     }
@@ -403,7 +406,7 @@ impl<'a> Optimizer<'a> {
         self.expr(state, &mut switch.expr, Place::Anywhere)
     }
 
-    /// The parts of a statement; of a `switch` its arms, as its subject is reduced.
+    /// The parts of a statement, but for what decides it, which is reduced.
     #[cycle(optimize)]
     fn stmt_parts(
         &self,
@@ -411,7 +414,7 @@ impl<'a> Optimizer<'a> {
         statement: &mut Stmt,
         is_wanted: bool,
     ) -> Result<(), OutOfMemory>
-        requires { HasReducedSubject (record_of self.now) (stmt_of statement.now) }
+        requires { HasReducedSubject (record_of self.now) (progress state.now).known (stmt_of statement.now) }
         ensures { OnOk result
             (StmtPartsRun (record_of self.now) is_wanted (progress state.old) (progress state.new)
             (stmt_of statement.old) (stmt_of statement.new)) }
@@ -534,6 +537,7 @@ impl<'a> Optimizer<'a> {
         Ok(())
     }
 
+    /// What an `if` tests, or a `for` goes over.
     #[cycle(optimize)]
     fn condition(
         &self,
@@ -542,8 +546,9 @@ impl<'a> Optimizer<'a> {
     ) -> Result<(), OutOfMemory>
         ensures { OnOk result
             ((flow.new.body ≡ flow.old.body)
+            × ((flow.new.branch ≡ flow.old.branch)
             × ExprRun (record_of self.now) Anywhere (progress state.old) (progress state.new)
-            (expr_of flow.old.expr) (expr_of flow.new.expr)) }
+            (expr_of flow.old.expr) (expr_of flow.new.expr))) }
     {
         self.expr(state, &mut flow.expr, Place::Anywhere)
     }
@@ -656,7 +661,7 @@ impl<'a> Optimizer<'a> {
         self.expr(state, &mut parts.0, Place::Anywhere)
     }
 
-    /// A condition with two blocks.
+    /// The two blocks of an `if`.
     #[cycle(optimize)]
     fn choice(
         &self,
@@ -664,12 +669,13 @@ impl<'a> Optimizer<'a> {
         flow: &mut FlowControl,
         is_wanted: bool,
     ) -> Result<(), OutOfMemory>
+        requires { HasReducedSubject (record_of self.now) (progress state.now).known
+            (If (expr_of flow.now.expr) (stmts_of flow.now.body.block) (stmts_of flow.now.branch.block)) }
         ensures { OnOk result
             (StmtPartsRun (record_of self.now) is_wanted (progress state.old) (progress state.new)
             (If (expr_of flow.old.expr) (stmts_of flow.old.body.block) (stmts_of flow.old.branch.block))
             (If (expr_of flow.new.expr) (stmts_of flow.new.body.block) (stmts_of flow.new.branch.block))) }
     {
-        self.expr(state, &mut flow.expr, Place::Anywhere)?;
         self.block(state, &mut flow.body, is_wanted)?;
         self.block(state, &mut flow.branch, is_wanted)
     }

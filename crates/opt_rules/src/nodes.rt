@@ -3,7 +3,7 @@
 
 #![tactic(auto, using(ast_types::specs::Reading::shapes))]
 
-ghost use Rattle.std.specs.Prelude.{◌≡◌, Bool, OnOk, IfOk};
+ghost use Rattle.std.specs.Prelude.{◌≡◌, OnOk, IfOk};
 ghost use Rattle.opt_known.specs.State.{progress};
 ghost use Rattle.theory_meaning.specs.Engine.{Engine};
 ghost use Rattle.ast_types.specs.Reading.{expr_of, stmt_of};
@@ -20,8 +20,8 @@ use opt_chains::step_chain;
 use opt_exprs::{step_call, step_call_statement, step_map, step_operands, step_text};
 use opt_steps::{NodeStep, OptimizerState, Place};
 use opt_stmts::{
-    open_braces, step_assignment, step_block, step_expression, step_if, step_share, step_try,
-    step_while,
+    decide_if, open_braces, step_assignment, step_block, step_expression, step_if, step_share,
+    step_try, step_while,
 };
 use opt_switch::{decide_switch, step_switch};
 use rhai_ast::{Expr, Stmt};
@@ -78,20 +78,23 @@ pub fn reduce_expr(
     }
 }
 
-/// Rewrites a statement whose parts were not gone over by the rules that need none of them: braces are opened as the
-/// block that they become, and a `switch` that its subject decides opens no arm that goes. Whether one fired.
+/// Rewrites a statement whose parts were not gone over by the rules that need none of them but the one that decides:
+/// braces are opened as the block that they become, an `if` that is decided opens one of its blocks, a `switch` no arm
+/// that goes. Whether one fired.
 pub fn decide_stmt(
     alloc: Global,
     state: &mut OptimizerState<'_>,
     statement: &mut Stmt,
+    is_wanted: bool,
 ) -> Result<bool, OutOfMemory>
     ensures { IfOk result (λ fired.
-        (r : Engine) (w : Bool)
-        → StmtDecided fired r w (progress state.old) (progress state.new) (stmt_of statement.old)
+        (r : Engine)
+        → StmtDecided fired r is_wanted (progress state.old) (progress state.new) (stmt_of statement.old)
         (stmt_of statement.new)) }
 {
     match statement {
         Stmt::Expr(_) => Ok(open_braces(state, statement)),
+        Stmt::If(_, _) => decide_if(alloc, state, statement, is_wanted),
         Stmt::Switch(_, _) => decide_switch(alloc, state, statement),
         _ => Ok(false),
     }

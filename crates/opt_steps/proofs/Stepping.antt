@@ -43,3 +43,7 @@ fired_step {r = r} {w = w} {o = o} {s = s} {s' = s'} {x = x} {x' = x'} h q = sub
   by : (o : Bool) → StmtStep (step_by o) r w s s' x x'
   by true = q.0
   by false = q
+
+-- at a statement whose parts were not gone over
+pub rewrite_decided : {r : Engine} {o w : Bool} {s s' : Progress} {x x' : Stmt} → s'.is_dirty ≡ true → s'.known ≡ s.known → StmtRewrite o w x x' → StmtFired r w s s' x x'
+rewrite_decided {r = r} {s = s} d k q = stmt_fired_by d k (q.rule (here r s))

@@ -6,4 +6,4 @@ mod nested;
 mod step;
 
 pub use choice::is_empty;
-pub use step::step_if;
+pub use step::{decide_if, step_if};

@@ -10,7 +10,7 @@ mod try_catch;
 
 pub use assign::{step_assignment, step_share};
 pub use block::step_block;
-pub use choice::step_if;
+pub use choice::{decide_if, step_if};
 pub use expression::{open_braces, step_expression};
 pub use loops::step_while;
 pub use try_catch::step_try;

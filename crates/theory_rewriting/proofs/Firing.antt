@@ -10,7 +10,7 @@ use Rattle.theory_rewriting.specs.Context.{Context, knowing, behind, ListKind}
 use Rattle.theory_rewriting.specs.Known.{Known}
 use Rattle.theory_rewriting.specs.Rewriting.{ExprTo, same_expr, then_expr, by_expr_rule, StmtTo, same_stmt, then_stmt, by_stmt_rule, RestTo, in_tail, ArmsTo, arms_none, arms_more}
 use Rattle.theory_rewriting.specs.Rules.{ExprRule, StmtRule}
-use Rattle.theory_rewriting.specs.Steps.{Progress, here, Place, Anywhere, AsBase, AsGuard, MayBecome, ExprRun, ExprPartsRun, ExprSoFar, ExprReduced, ExprFired, KeepsExprParts, ExprKept, StmtRun, StmtPartsRun, StmtSoFar, StmtReduced, StmtPassed, SubjectRun, StmtFired, KeepsStmtParts, StmtKept}
+use Rattle.theory_rewriting.specs.Steps.{Progress, here, Place, Anywhere, AsBase, AsGuard, MayBecome, ExprRun, ExprPartsRun, ExprSoFar, ExprReduced, ExprFired, KeepsExprParts, ExprKept, StmtRun, StmtPartsRun, StmtSoFar, StmtReduced, StmtPassed, HasReducedSubject, SubjectRun, StmtFired, KeepsStmtParts, StmtKept}
 use Rattle.theory_rewriting.specs.SurelyUnit.{is_surely_unit}
 use Rattle.theory_rewriting.proofs.Weights.{expr_falls, stmt_falls}
 use Rattle.theory_rewriting.proofs.rules.Expressions.{expr_rule}
@@ -170,6 +170,10 @@ subject_then {x2 = x2} f q = record { to = stmt_then f.known f.to q.to; parts = 
 
 pub subject_fired : {r : Engine} {w : Bool} {s s1 s2 : Progress} {x x1 x2 : Stmt} → SubjectRun r w s s1 x x1 → StmtFired r w s1 s2 x1 x2 → StmtFired r w s s2 x x2
 subject_fired f q = record { to = stmt_then f.known f.to q.to; lighter = omega (arith, stmt_falls f.to, q.lighter); known = q.known ∙ f.known }
+
+-- it is reduced under the names known behind it too
+pub subject_here : {r : Engine} {w : Bool} {s s' : Progress} {x x' : Stmt} → SubjectRun r w s s' x x' → HasReducedSubject r s'.known x'
+subject_here {r = r} {x' = x'} f = subst (λ ks. HasReducedSubject r ks x') (sym f.known) f.subject
 
 pub subject_fits : {r : Engine} {w : Bool} {s s' : Progress} {x x' : Stmt} → SubjectRun r w s s' x x' → stmt_weight x' ≤ stmt_weight x
 subject_fits f = omega (arith, stmt_falls f.to)

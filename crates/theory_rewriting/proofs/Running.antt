@@ -9,7 +9,7 @@ use Rattle.theory_meaning.specs.Shape.{is_rest, is_argument, is_member, is_left_
 use Rattle.theory_meaning.specs.Walk.{over_arms, arm_at, arms_at, listed}
 use Rattle.theory_meaning.specs.Tree.{ChainFlags, SwitchTable, Callee, Expr, InterpolatedString, ArrayOf, MapOf, Variable, ThisPtr, Property, MethodCall, BlockExpr, FnCall, Dot, Index, And, Or, Coalesce, Exprs, no_exprs, expr, Pairs, no_pairs, pair, MaybeExpr, no_expr, an_expr, Arms, no_arms, arm, Stmt, If, Switch, While, Do, For, Var, Assignment, Block, TryCatch, ExprStmt, FnCallStmt, BreakLoop, Return, Import, Stmts, no_stmts, stmt}
 use Rattle.theory_rewriting.specs.Answering.{AnswersNothing, of_first}
-use Rattle.theory_rewriting.specs.Clear.{AreClearExprs, AreClear}
+use Rattle.theory_rewriting.specs.Clear.{IsClearExpr, AreClearExprs, AreClear}
 use Rattle.theory_rewriting.specs.Context.{Context, knowing, naming, naming_some, naming_catch, known_behind, ListKind, Inside, wanted, wanted_before}
 use Rattle.theory_rewriting.specs.Evals.{keeps_names}
 use Rattle.theory_rewriting.specs.Known.{Known, KnowsLess, look}
@@ -463,6 +463,10 @@ assignment_run {s1 = s1} {s2 = s2} {l' = l'} {e = e} {e' = e'} p q = record {
 pub subject_run : {r : Engine} {w : Bool} {as' : Arms} {t : SwitchTable} {s s' : Progress} {e e' : Expr} → ExprRun r Anywhere s s' e e' → SubjectRun r w s s' (Switch e as' t) (Switch e' as' t)
 subject_run {as' = as'} p = record { to = in_switch p.to (same_arms as'); subject = (p.answers, p.reduced); known = p.known }
 
+-- the condition of an `if`
+pub condition_run : {r : Engine} {w : Bool} {a b : Stmts} {s s' : Progress} {e e' : Expr} → ExprRun r Anywhere s s' e e' → SubjectRun r w s s' (If e a b) (If e' a b)
+condition_run p = record { to = in_if p.to same_stmts same_stmts; subject = ((p.answers, p.reduced), p.clear refl); known = p.known }
+
 pub arms_run : {r : Engine} {w : Bool} {t : SwitchTable} {s s' : Progress} {e : Expr} {as' bs : Arms} → AnswersNone e × IsReducedExpr r e → ArmsRun r s s' as' bs → StmtPartsRun r w s s' (Switch e as' t) (Switch e bs t)
 arms_run {r = r} {t = t} {bs = bs} h q = record {
   to = in_switch same_expr q.to;
@@ -487,17 +491,14 @@ call_statement_run {r = r} {w = w} {s = s} {s' = s'} {c = c} {es = es} {es' = es
     subst (λ x. StmtPartsRun r w s s' (FnCallStmt c es) (FnCallStmt x es')) (sym h)
     (record { to = in_call_statement p.to; parts = (tt, (p.answers, p.reduced)); clear = tt; known = p.known })
 
-pub if_run : {r : Engine} {w : Bool} {s s1 s2 s3 : Progress} {e e' : Expr} {a a' b b' : Stmts} → ExprRun r Anywhere s s1 e e' → StmtsRun r (Inside w) s1 s2 a a' → StmtsRun r (Inside w) s2 s3 b b' → StmtPartsRun r w s s3 (If e a b) (If e' a' b')
-if_run {w = w} {s = s} {s1 = s1} {s2 = s2} {s3 = s3} {a = a} {a' = a'} {b = b} {b' = b'} p q o =
-    let h = o.known ∙ q.known ∙ p.known in
-    record {
-      to = in_if p.to
-          (knows (λ k. RestTo k (Inside w) true s1.is_dirty s2.is_dirty a a') p.known q.to)
-          (knows (λ k. RestTo k (Inside w) true s2.is_dirty s3.is_dirty b b') (q.known ∙ p.known) o.to);
-      parts = ((q.list, o.list), ((p.answers, (no_first a', no_first b')), (p.reduced, (q.reduced, o.reduced))));
-      clear = (p.clear refl, (subst (λ ks. AreClear ks a') p.known q.clear, subst (λ ks. AreClear ks b') (q.known ∙ p.known) o.clear));
-      known = h;
-    }
+-- its blocks
+pub if_run : {r : Engine} {w : Bool} {s s1 s2 : Progress} {e : Expr} {a a' b b' : Stmts} → (AnswersNone e × IsReducedExpr r e) × IsClearExpr s.known e → StmtsRun r (Inside w) s s1 a a' → StmtsRun r (Inside w) s1 s2 b b' → StmtPartsRun r w s s2 (If e a b) (If e a' b')
+if_run {w = w} {s1 = s1} {s2 = s2} {a' = a'} {b = b} {b' = b'} h q o = record {
+  to = in_if same_expr q.to (knows (λ k. RestTo k (Inside w) true s1.is_dirty s2.is_dirty b b') q.known o.to);
+  parts = ((q.list, o.list), ((h.0.0, (no_first a', no_first b')), (h.0.1, (q.reduced, o.reduced))));
+  clear = (h.1, (q.clear, subst (λ ks. AreClear ks b') q.known o.clear));
+  known = o.known ∙ q.known;
+}
 
 pub block_run : {r : Engine} {w : Bool} {s s' : Progress} {ss ss' : Stmts} → StmtsRun r (Inside w) s s' ss ss' → StmtPartsRun r w s s' (Block ss) (Block ss')
 block_run {ss' = ss'} p = record { to = in_block p.to; parts = (p.list, (no_first ss', p.reduced)); clear = p.clear; known = p.known }

@@ -5,7 +5,7 @@ use Rattle.theory_meaning.specs.Engine.{Engine}
 use Rattle.theory_meaning.specs.Queries.{is_unit}
 use Rattle.theory_meaning.specs.Shape.{is_rest, is_argument, is_left_side}
 use Rattle.rhai_base.specs.Value.{Text}
-use Rattle.theory_meaning.specs.Tree.{Expr, MethodCall, Dot, Index, Exprs, Pairs, MaybeExpr, Arms, no_arms, arm, Stmt, Switch, Stmts, no_stmts, stmt, joined}
+use Rattle.theory_meaning.specs.Tree.{Expr, MethodCall, Dot, Index, Exprs, Pairs, MaybeExpr, Arms, no_arms, arm, Stmt, If, Switch, Stmts, no_stmts, stmt, joined}
 use Rattle.theory_meaning.specs.Walk.{OfExpr, OfStmt, over_exprs, over_pairs, over_maybe}
 use Rattle.theory_meaning.specs.Weight.{stmt_weight, weight}
 use Rattle.theory_rewriting.specs.Answering.{AnswersNothing, of_first}
@@ -266,15 +266,16 @@ pub record StmtPartsRun (r : Engine) (w : Bool) (s s' : Progress) (x x' : Stmt) 
   pub clear : IsClear s.known x'
   pub known : s'.known ≡ s.known
 
--- the subject of a `switch` is reduced
-abbrev pub HasReducedSubject : Engine → Stmt → Type 0
-HasReducedSubject r (Switch e as' t) = AnswersNone e × IsReducedExpr r e
-HasReducedSubject r _ = Unit {0}
+-- what decides a statement is reduced: the subject of a `switch`, the condition of an `if`
+abbrev pub HasReducedSubject : Engine → List Known → Stmt → Type 0
+HasReducedSubject r ks (Switch e as' t) = AnswersNone e × IsReducedExpr r e
+HasReducedSubject r ks (If e a b) = (AnswersNone e × IsReducedExpr r e) × IsClearExpr ks e
+HasReducedSubject r ks _ = Unit {0}
 
--- the subject alone
+-- that alone
 pub record SubjectRun (r : Engine) (w : Bool) (s s' : Progress) (x x' : Stmt) : Type 0 where
   pub to : StmtTo (here r s) w s.is_dirty s'.is_dirty x x'
-  pub subject : HasReducedSubject r x'
+  pub subject : HasReducedSubject r s.known x'
   pub known : s'.known ≡ s.known
 
 -- ---- rules at a node whose parts are reduced, until none fires

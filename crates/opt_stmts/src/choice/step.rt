@@ -2,14 +2,14 @@
 
 #![tactic(auto, using(ast_types::specs::Reading::shapes))]
 
-ghost use Rattle.std.specs.Prelude.{◌≡◌, IfOk, OnOk, true, false, Bool};
+ghost use Rattle.std.specs.Prelude.{◌≡◌, IfOk, OnOk, not, true, false, Bool};
 ghost use Rattle.opt_known.specs.State.{progress};
 ghost use Rattle.theory_meaning.specs.Engine.{Engine};
 ghost use Rattle.ast_types.specs.Reading.{stmt_of};
 ghost use Rattle.theory_rewriting.specs.Steps.{StmtRewrite};
 ghost use Rattle.opt_stmts.specs.SettledChoices as settled;
 ghost use Rattle.opt_stmts.specs.ChoiceSteps.{answer};
-ghost use Rattle.opt_steps.specs.NodeSteps.{StmtStep};
+ghost use Rattle.opt_steps.specs.NodeSteps.{StmtDecided, StmtStep};
 
 use crate::choice::choice::{has_no_statements, is_settled_if, reduce_if};
 use crate::choice::nested::{join_ifs, nests};
@@ -126,4 +126,24 @@ pub fn step_if(
         return Ok(NodeStep::Rewritten);
     }
     Ok(NodeStep::Kept)
+}
+
+/// Rewrites an `if` whose blocks were not gone over, where its condition decides it or both are empty. Whether it did.
+pub fn decide_if(
+    alloc: Global,
+    state: &mut OptimizerState<'_>,
+    statement: &mut Stmt,
+    is_wanted: bool,
+) -> Result<bool, OutOfMemory>
+    ensures answer { IfOk result (λ fired. not fired ≡ settled.is_settled (stmt_of statement.old)) }
+    ensures step { IfOk result (λ fired.
+        (r : Engine)
+        → StmtDecided fired r is_wanted (progress state.old) (progress state.new) (stmt_of statement.old)
+        (stmt_of statement.new)) }
+{
+    if is_settled(statement) {
+        return Ok(false);
+    }
+    rewrite(alloc, state, statement, is_wanted)?;
+    Ok(true)
 }

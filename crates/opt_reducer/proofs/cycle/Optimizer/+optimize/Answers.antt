@@ -1,4 +1,4 @@
-use Rattle.std.proofs.Common.{rules, ◌||◌, List, Option, refl, sym, ap, ◌∙◌, arith}
+use Rattle.std.proofs.Common.{rules, ◌||◌, List, Option, refl, sym, ap, ◌∙◌, subst, arith}
 use Rattle.std.proofs.lemmas.Result.{on_ok_weaker}
 use Rattle.std.specs.declared.num.NonZeroUsize.{NonZeroUsize}
 use Rattle.opt_known.specs.State.{progress}
@@ -15,10 +15,11 @@ use Rattle.ast_types.specs.declared.stmt.FlowControl.{FlowControl}
 use Rattle.ast_types.specs.declared.switch.SwitchBlock.{SwitchBlock}
 use Rattle.ast_types.specs.Reading.{shapes, subject_of, cases_of, expressions_of, arms_of, table_of, breaks, is_negated, is_const, is_exported, chain_flags, keys_of, counter_of, callee_of, expr_of, exprs_of, pairs_of, maybe_of, stmt_of, stmts_of, expr_of-InterpolatedString, expr_of-Array, expr_of-Map, expr_of-MethodCall, expr_of-Stmt, expr_of-FnCall, expr_of-Dot, expr_of-Index, expr_of-And, expr_of-Or, expr_of-Coalesce, stmt_of-If, stmt_of-Switch, stmt_of-While, stmt_of-Do, stmt_of-For, stmt_of-Var, stmt_of-Assignment, stmt_of-Block, stmt_of-TryCatch, stmt_of-Expr, stmt_of-FnCall, stmt_of-BreakLoop, stmt_of-Return, stmt_of-Import}
 use Rattle.theory_meaning.specs.Tree.{InterpolatedString, ArrayOf, MapOf, MethodCall, BlockExpr, FnCall, Dot, Index, And, Or, Coalesce, If, Switch, While, Do, For, Var, Assignment, Block, TryCatch, ExprStmt, FnCallStmt, an_expr, BreakLoop, Return, Import}
-use Rattle.theory_meaning.specs.Weight.{weight}
-use Rattle.theory_rewriting.proofs.Firing.{expr_done, stmt_pass, stmt_fits, stmt_early, stmt_fired_falls, subject_then, subject_fired, subject_fits}
+use Rattle.theory_meaning.specs.Weight.{stmt_weight, weight}
+use Rattle.theory_rewriting.proofs.Firing.{expr_done, stmt_pass, stmt_fits, stmt_early, stmt_fired_falls, subject_then, subject_fired, subject_here, subject_fits}
 use Rattle.theory_rewriting.proofs.Running.{text_run, array_run, map_run, braces_run, call_run, method_run, and_run, or_run, coalesce_run, chain_dot_run, chain_index_run, both_sides, both_links, both_rounds, both_assigned, steps_end, steps_on, steps_member, steps_none, argument_as, brackets_run, member_run, member_stays, target_run, target_stays, arm_run, loop_while, loop_do, for_kept, var_kept, assign_kept, try_kept, import_kept, break_run, return_run, maybe_some_run, call_statement_run, if_run, block_run, expression_run, item_run, each_noted, list_run, list_then, list_fits, list_again, list_again_falls, list_done, counts, tries}
-use Rattle.opt_reducer.proofs.Parts.{expr_as, stmt_as, table_written, for_as, maybe_from, maybe_same, sides_dot_at, sides_index_at, link_dot_at, link_index_at, steps_as, argument_spelled, target_as, no_chain, no_method, expr_stays, stmt_stays, counted, forgotten, subject_written, arms_written, subject_kept, subject_none, arms_kept, undecided, once_by, once_done}
+use Rattle.opt_reducer.proofs.Parts.{expr_as, stmt_as, table_written, for_as, maybe_from, maybe_same, sides_dot_at, sides_index_at, link_dot_at, link_index_at, steps_as, argument_spelled, target_as, no_chain, no_method, expr_stays, stmt_stays, counted, forgotten, subject_written, arms_written, subject_kept, subject_none, arms_kept, condition_kept, open_still, undecided, once_by, once_done}
+use Rattle.theory_rewriting.specs.Steps.{HasReducedSubject}
 use Rattle.opt_reducer.specs.Parts.{record_of}
 use Rattle.opt_reducer.proofs.UpTo.{up_next, up_end, exprs_by, pairs_by, arms_by, stmts_by, stmt_item}
 use Rattle.opt_reducer.proofs.cycle.Optimizer.+optimize.Goals as goal
@@ -161,18 +162,35 @@ stmt-loop-smaller t c = stmt_fired_falls (rw c.if-not-branch.false at c.in_ok-st
 pub stmt-returns-then-not-branch : goal.stmt-returns-then-not-branch
 stmt-returns-then-not-branch t c = once_done c.loop.invariant (rw c.if-not-branch.true at c.in_ok-stmt_once.ensures)
 
+pub stmt_once-returns-then-branch : goal.stmt_once-returns-then-branch
+stmt_once-returns-then-branch t c = rw c.if-branch.true at c.in_ok-decide_stmt.ensures (record_of c.args.self.now)
+
+pub stmt_once-subject-requires : goal.stmt_once-subject-requires
+stmt_once-subject-requires t c =
+    let q = rw c.if-branch.false at c.in_ok-decide_stmt.ensures (record_of c.args.self.now) in
+    (omega (arith, ap stmt_weight q.0), tt)
+
+pub stmt_once-returns-then-branch-2 : goal.stmt_once-returns-then-branch-2
+stmt_once-returns-then-branch-2 t c =
+    let q = rw c.if-branch.false at c.in_ok-decide_stmt.ensures (record_of c.args.self.now) in
+    subject_fired (open_still q (c.in_ok-subject.ensures c.args.is_wanted)) (rw c.if-branch-2.true at c.in_ok-decide_stmt-2.ensures (record_of c.args.self.now))
+
 pub stmt_once-stmt_parts-requires : goal.stmt_once-stmt_parts-requires
 stmt_once-stmt_parts-requires t c =
-    let f = undecided (c.in_ok-subject.ensures c.args.is_wanted) (rw c.if-branch.false at c.in_ok-decide_stmt.ensures (record_of c.args.self.now) c.args.is_wanted) in
-    (omega (arith, subject_fits f), f.subject)
-
-pub stmt_once-returns-then-branch : goal.stmt_once-returns-then-branch
-stmt_once-returns-then-branch t c = subject_fired (c.in_ok-subject.ensures c.args.is_wanted) (rw c.if-branch.true at c.in_ok-decide_stmt.ensures (record_of c.args.self.now) c.args.is_wanted)
+    let q = rw c.if-branch.false at c.in_ok-decide_stmt.ensures (record_of c.args.self.now) in
+    let f = undecided (open_still q (c.in_ok-subject.ensures c.args.is_wanted)) (rw c.if-branch-2.false at c.in_ok-decide_stmt-2.ensures (record_of c.args.self.now)) in
+    (omega (arith, subject_fits f), subject_here f)
 
 pub stmt_once-returns : goal.stmt_once-returns
 stmt_once-returns t c =
-    let f = undecided (c.in_ok-subject.ensures c.args.is_wanted) (rw c.if-branch.false at c.in_ok-decide_stmt.ensures (record_of c.args.self.now) c.args.is_wanted) in
+    let q = rw c.if-branch.false at c.in_ok-decide_stmt.ensures (record_of c.args.self.now) in
+    let f = undecided (open_still q (c.in_ok-subject.ensures c.args.is_wanted)) (rw c.if-branch-2.false at c.in_ok-decide_stmt-2.ensures (record_of c.args.self.now)) in
     once_by _ _ c.reduce_stmt.result (subject_then f c.in_ok-stmt_parts.ensures) c.reduce_stmt.ensures
+
+pub stmt_parts-choice-requires : goal.stmt_parts-choice-requires
+stmt_parts-choice-requires t c =
+    let spelled = ap stmt_of c.in-If.is ∙ stmt_of-If _ _ ∙ ap (λ (y : FlowControl). If (expr_of y.expr) (stmts_of y.body.block) (stmts_of y.branch.block)) (sym (c.get_mut.ensures.value ∙ c.in-If.flow-is)) in
+    (omega (arith, ap stmt_weight spelled), subst (HasReducedSubject (record_of c.args.self.now) (progress c.args.state.now).known) spelled c.requires)
 
 pub stmt_parts-returns-in-If : goal.stmt_parts-returns-in-If
 stmt_parts-returns-in-If t c =
@@ -247,8 +265,12 @@ pub subject-returns-in-Switch : goal.subject-returns-in-Switch
 subject-returns-in-Switch t c =
     on_ok_weaker _ (λ r. subject_kept c.get_mut.result.now c.switch_subject.new.switch (ap stmt_of c.in-Switch.is ∙ stmt_of-Switch _ _ ∙ ap (λ (y : SwitchBlock). Switch (expr_of (subject_of y)) (arms_of (expressions_of (cases_of y))) (table_of (cases_of y))) (sym (c.get_mut.ensures.value ∙ c.in-Switch.switch-is))) (search (rules, shapes)) r.0 r.1) c.switch_subject.ensures
 
+pub subject-returns-in-If : goal.subject-returns-in-If
+subject-returns-in-If t c =
+    on_ok_weaker _ (λ r. condition_kept c.get_mut-in-If.result.now c.condition.new.flow (ap stmt_of c.in-If.is ∙ stmt_of-If _ _ ∙ ap (λ (y : FlowControl). If (expr_of y.expr) (stmts_of y.body.block) (stmts_of y.branch.block)) (sym (c.get_mut-in-If.ensures.value ∙ c.in-If.flow-is))) (search (rules, shapes)) r.0 r.1.0 r.1.1) c.condition.ensures
+
 pub subject-returns-in_default : goal.subject-returns-in_default
-subject-returns-in_default t c = subject_none _ c.in_default.not-Switch
+subject-returns-in_default t c = subject_none _ c.in_default.not-Switch c.in_default.not-If
 
 pub switch_subject-returns : goal.switch_subject-returns
 switch_subject-returns t c = on_ok_weaker _ (subject_written c.args.switch.now c.expr.new.expr) c.expr.ensures
@@ -267,7 +289,7 @@ pub counted-body-requires : goal.counted-body-requires
 counted-body-requires t c = (omega (arith, ap (λ (b : StmtBlock). weight (stmts_of b.block)) c.in_ok-condition.ensures.0), tt)
 
 pub counted-returns : goal.counted-returns
-counted-returns t c = (refl, (refl, for_as c.in_ok-condition.ensures.0 c.in_ok-body.ensures.0 (counts _ _ _ c.in_ok-condition.ensures.1 (counted c.len-len.result _ c.len-len.ensures) c.in_ok-push_loop_names.ensures c.in_ok-body.ensures.1 c.rewind_var.ensures.flag (forgotten c.len-len.result c.body.new.state.entries c.rewind_var.new.self.entries c.rewind_var.ensures.names))))
+counted-returns t c = (refl, (refl, for_as c.in_ok-condition.ensures.0 c.in_ok-body.ensures.0 (counts _ _ _ c.in_ok-condition.ensures.1.1 (counted c.len-len.result _ c.len-len.ensures) c.in_ok-push_loop_names.ensures c.in_ok-body.ensures.1 c.rewind_var.ensures.flag (forgotten c.len-len.result c.body.new.state.entries c.rewind_var.new.self.entries c.rewind_var.ensures.names))))
 
 pub assigned-returns : goal.assigned-returns
 assigned-returns t c = on_ok_weaker _ (both_assigned c.in_ok-target.ensures) c.expr.ensures
@@ -282,7 +304,7 @@ pub maybe-returns-in-None : goal.maybe-returns-in-None
 maybe-returns-in-None t c = maybe_same (ap maybe_of c.in-None.is)
 
 pub choice-returns : goal.choice-returns
-choice-returns t c = on_ok_weaker _ (if_run c.in_ok-expr.ensures c.in_ok-block.ensures) c.block-2.ensures
+choice-returns t c = on_ok_weaker _ (if_run c.requires c.in_ok-block.ensures) c.block-2.ensures
 
 -- the list of statements
 pub item-returns-then-not-are_known : goal.item-returns-then-not-are_known
