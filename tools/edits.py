@@ -23,7 +23,7 @@ TOP = pathlib.Path(__file__).resolve().parent.parent
 KEPT = TOP / "tools" / "edits.txt"
 GATE = TOP / "docs" / "GATE.md"
 HEADING = "## Edits today\n"
-GROUPS = 5
+GROUPS = 3
 # What `rt must-fail` says of an edit; the first that fits is the outcome.
 SAID = [
     ("refused, as it must be (only by a limit", "limit"),
@@ -132,15 +132,16 @@ def section(kept):
     cells, gate, states = [], 0, []
     for crate, count, hand in rows(kept):
         tries = f"{hand.count('now')}/{len(hand)}" if hand else ""
-        cells.append(f"| {crate.replace('rhai_', '', 1)} | {count or ''} | {tries} ")
+        cells.append(f"| {crate:18} | {count or '':4} | {tries:5} ")
         gate, states = gate + count, states + hand
     height = -(-len(cells) // GROUPS)
-    cells += ["|  |  |  "] * (height * GROUPS - len(cells))
-    lines = ["| crate | gate | hand " * GROUPS, "|---|---|---" * GROUPS, *("".join(cells[row::height]) for row in range(height))]
+    cells += [f"| {'':18} | {'':4} | {'':5} "] * (height * GROUPS - len(cells))
+    head = [f"| {'crate':18} | gate | hand  " * GROUPS, f"|{'-' * 20}|{'-' * 6}|{'-' * 7}" * GROUPS]
+    lines = [*head, *("".join(cells[row::height]) for row in range(height))]
     table = "".join(line + "|\n" for line in lines)
     return f"""{HEADING}
-Of each crate that has any, named without `rhai_`: those in the gate; and by hand, of how many, those that were refused
-at the sources as they stand. `tools/edits.py` writes this, and tries those of a crate, or the next N in turn.
+Of each crate that has any: those in the gate; and by hand, of how many, those that were refused at the sources as they
+stand. `tools/edits.py` writes this, and tries those of a crate, or the next N in turn.
 
 {table}
 In all {gate} in the gate and {len(states)} by hand; of these {states.count("now")} were refused at these sources, and

@@ -2,7 +2,7 @@
 """Lets each request for memory of the program tests_of_refusals fail, once each, and looks whether what it says stays the same.
 
 Runs the program once to count its requests, and then once for each of them. With the word `built` it is the program that
-`rt ci` left; else it is proved and built first. docs/REFUSALS.md says more. The last line counts calls, and the status is 1
+`rt ci` left; else it is proved and built first. docs/GATE.md says more. The last line counts calls, and the status is 1
 where one failed.
 """
 
