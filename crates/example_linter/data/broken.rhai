@@ -1,0 +1,2 @@
+let sizes = [1, 2, 3;
+print(sizes);

@@ -1,0 +1,2 @@
+let done = true;
+if done { break; }
