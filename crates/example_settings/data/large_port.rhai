@@ -1,0 +1,2 @@
+const BASE = 8000;
+const port = BASE * 10;

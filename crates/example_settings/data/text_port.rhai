@@ -1,0 +1,2 @@
+const host = "localhost";
+const port = "80" + "80";

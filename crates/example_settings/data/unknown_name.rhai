@@ -1,0 +1,2 @@
+const host = "localhost";
+const port = bsae + 80;
