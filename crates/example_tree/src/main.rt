@@ -1,4 +1,4 @@
-//! Makes a tree by hand, with a `switch` in a `for`, looks for its faults, and prints it before and after it is optimised.
+//! Makes a tree by hand with a `switch` in a `for`, looks for faults, and prints it before and after it is optimised.
 #![tactic(auto)]
 
 use rhai_lang::{
