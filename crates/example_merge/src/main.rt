@@ -1,4 +1,4 @@
-//! Merges two scripts, takes away the private functions that nothing names, and prints the script as text and as a tree.
+//! Merges two scripts, takes away private functions that nothing names, and prints the script as text and as a tree.
 #![tactic(auto)]
 
 use rhai_lang::prelude::*;
