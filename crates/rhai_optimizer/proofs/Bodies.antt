@@ -1,5 +1,6 @@
 -- Functions whose bodies are optimised, and their table.
 use Rattle.std.proofs.Common.{◌≡◌, ℕ, ◌+◌, ◌-◌, ◌<◌, Bool, true, false, None, List, [], ◌∷◌, ◌++◌, map, length, drop, get_or, add-one, append-nil, if◌then◌else◌, refl, sym, ap, ◌∙◌, subst}
+use Rattle.std.specs.Prelude.{◌==◌}
 use Rattle.std.proofs.Math.Seq.{drop-cons, drop-length}
 use Rattle.std.proofs.lemmas.List.{append_assoc, map-append}
 use Rattle.std.specs.Rc.{rc_value}
@@ -103,6 +104,11 @@ module _ {r : Engine} {ks : List Known} where
   pub bodies_reduced : {fs fs' : List ScriptFuncDef} → FunctionsRun r ks fs fs' → AreReducedBodies r (map function_of fs')
   bodies_reduced no_functions = tt
   bodies_reduced (one_more p ps) = (p.reduced, bodies_reduced ps)
+
+-- of none
+pub none_run : {r : Engine} {ks : List Known} (fs : List (Rc ScriptFuncDef Global)) → (length fs == 0) ≡ true → FunctionsRun r ks (map rc_value fs) (map rc_value fs)
+none_run [] h = no_functions
+none_run (f ∷ fs) h = absurd (let z : false ≡ true = h in cc)
 
 -- what was reduced may stay, whatever is known
 stays : {r : Engine} {ks ls : List Known} {f f' : ScriptFuncDef} → FunctionRun r ks f f' → FunctionRun r ls f' f'

@@ -155,6 +155,9 @@ pub(crate) fn optimize_functions<'a>(
         (listing statements.now functions.items))
         (map rc_value functions.items) (map rc_value made.items)) }
 {
+    if functions.as_slice().is_empty() {
+        return Ok(functions);
+    }
     let mut state = OptimizerState::new(
         optimizer.alloc,
         optimizer.info,

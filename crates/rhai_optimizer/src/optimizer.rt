@@ -77,7 +77,8 @@ fn optimize_parts<'a>(
         r.0.block r.1.items r.2) }
 {
     let optimizer = Optimizer { alloc, info };
-    let captured = !captures_nothing(statements.statements(), functions.as_slice());
+    let captured = !functions.as_slice().is_empty()
+        && !captures_nothing(statements.statements(), functions.as_slice());
     let functions = optimize_functions(&optimizer, scope, statements.statements(), functions)?;
     let (statements, passes) = optimize_statements(alloc, info, scope, statements)?;
     let functions = optimize_functions_again(

@@ -2,7 +2,7 @@ use Rattle.rhai_optimizer.proofs.optimizer.optimize_parts.Goals as goal
 
 pub returns : goal.returns
 returns c =
-    let first = rw (c.statements.ensures) at c.in_ok-functions.ensures in
+    let first = rw (c.statements-2.ensures) at c.in_ok-functions.ensures in
     record {
       counts = c.in_ok-statements.ensures.counts;
       reduced = c.in_ok-statements.ensures.reduced;
