@@ -1,15 +1,16 @@
 //! Questions about functions that are optimised, about the literals of what is optimised, and about how many passes
 //! are made.
 
+use crate::again;
 use crate::given::Given;
 use crate::scripts::{made, printed, push_run};
 use rhai_ast::ScriptFuncDef;
 use rhai_base::{OutOfMemory, Scope};
-use rhai_optimizer::{OptimizationLevel, optimize_ast, optimize_counted};
+use rhai_optimizer::{OptimizationLevel, optimize_ast};
 use rhai_script::AST;
 use script_queries::ScriptQueries;
 use std::rc::Rc;
-use tests_reader::{Said, Script, split};
+use tests_reader::{Said, split};
 
 /// Says how many passes are made over the statements of a script at a level.
 pub fn say_passes(given: &Given, text: &str, level: OptimizationLevel, said: &Said) {
@@ -31,23 +32,11 @@ pub fn say_passes_within(given: &Given, text: &str, said: &Said) {
 }
 
 fn passes(given: &Given, text: &str, level: OptimizationLevel, said: &Said) -> Option<u64> {
-    let script = said.script(text)?;
-    let (_, passes) = said.made(counted(given, script, level, said))?;
-    Some(passes)
-}
-
-fn counted(
-    given: &Given,
-    script: Script,
-    level: OptimizationLevel,
-    said: &Said,
-) -> Result<(AST, u64), OutOfMemory> {
-    let Script {
-        statements,
-        functions,
-    } = script;
     let (info, scope) = (&given.info, Some(&given.scope));
-    optimize_counted(said.alloc, info, scope, statements, functions, level)
+    let script = said.script(text)?;
+    let (script, passes) = again::counted(info, scope, script, level, said)?;
+    again::say_if_other(info, scope, script.get(), level, said);
+    Some(passes)
 }
 
 /// Says of each function that its reader still holds whether it is the same after the optimiser, or another one.
@@ -113,7 +102,10 @@ fn optimized_as_it_is(given: &Given, script: &AST, said: &Said) -> Result<AST, O
     script.set_source("file")?;
     script.set_doc("doc")?;
     let (info, scope) = (&given.info, Some(&given.scope));
-    optimize_ast(said.alloc, info, scope, script, OptimizationLevel::Simple)
+    let level = OptimizationLevel::Simple;
+    let script = optimize_ast(said.alloc, info, scope, script, level)?;
+    again::say_if_other(info, scope, &script, level, said);
+    Ok(script)
 }
 
 /// What stands in a scope into which the literals of an optimised script's constants are pushed, and how many they are.

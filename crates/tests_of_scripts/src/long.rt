@@ -1,5 +1,6 @@
 //! Deep scripts and long ones, which are made here.
 
+use crate::again;
 use crate::given::Given;
 use crate::scripts::{level_named, made, printed, push_run, say_runs};
 use rhai_ast::{Expr, FlowControl, Stmt, StmtBlock};
@@ -10,7 +11,7 @@ use rhai_script::AST;
 use tests_reader::{Said, Script, split};
 
 /// A number before a text.
-fn counted<'a>(text: &'a str, said: &Said) -> (usize, &'a str) {
+pub fn numbered_text<'a>(text: &'a str, said: &Said) -> (usize, &'a str) {
     let (count, text) = split(text.trim_end(), " ");
     match count.parse::<usize>() {
         Ok(count) => (count, text),
@@ -25,7 +26,9 @@ fn optimized(statements: Vec<Stmt>, level: OptimizationLevel, said: &Said) -> Op
     let info = EngineInfo::new(said.alloc);
     let functions = Vec::new(said.alloc);
     let script = optimize_into_ast(said.alloc, &info, None, statements, functions, level);
-    said.boxed(said.made(script))
+    let script = said.boxed(said.made(script))?;
+    again::say_if_other(&info, None, script.get(), level, said);
+    Some(script)
 }
 
 /// The optimised script in print.
@@ -40,7 +43,7 @@ fn printed_optimized(statements: Vec<Stmt>, said: &Said) -> String {
 
 /// What becomes of a statement within so many `if true { .. }`.
 pub fn deep(text: &str, said: &Said) {
-    let (depth, text) = counted(text, said);
+    let (depth, text) = numbered_text(text, said);
     said.put(printed_optimized(nested(text, depth, said), said).as_str());
 }
 
@@ -66,7 +69,7 @@ fn certain(inner: Vec<Stmt>, said: &Said) -> Option<Stmt> {
 
 /// What becomes of so many statements of one text.
 pub fn long(text: &str, said: &Said) {
-    let (count, text) = counted(text, said);
+    let (count, text) = numbered_text(text, said);
     say_alike(
         printed_optimized(numbered(text, count, said), said).as_str(),
         said,
@@ -106,7 +109,7 @@ fn repeated_at(
 ) -> Option<Boxed<AST>> {
     let mut statements = Vec::new(said.alloc);
     for line in text.lines() {
-        let (count, text) = counted(line, said);
+        let (count, text) = numbered_text(line, said);
         let mut alike = numbered(text, count, said);
         said.made(statements.append(&mut alike));
     }
@@ -140,7 +143,7 @@ pub fn asked(given: &Given, text: &str, said: &Said) {
     let Some(level) = level_named(level) else {
         return said.want("a level");
     };
-    let (count, text) = counted(text, said);
+    let (count, text) = numbered_text(text, said);
     if let Some(script) = optimized(numbered(text, count, said), level, said) {
         say_calls(given, script.get(), said);
     }

@@ -1,6 +1,7 @@
 //! Asks the optimiser, the evaluator, the notation and the program the questions of rows, in files that the words name.
 #![tactic(auto)]
 
+mod again;
 mod answers;
 mod following;
 mod functions;

@@ -1,5 +1,6 @@
 //! The calls below the optimiser's entry, and where nodes stand.
 
+use crate::again;
 use crate::record::say_value;
 use opt_folding::{constant_bool, folded};
 use opt_rules::{Place, reduce_expr, reduce_stmt};
@@ -64,6 +65,7 @@ fn top_level(info: &EngineInfo, statements: Vec<Stmt>, said: &Said) -> Option<Ve
     let script = AST::new(statements, lib);
     let level = OptimizationLevel::Simple;
     let script = said.made(optimize_ast(said.alloc, info, None, script, level))?;
+    again::say_if_other(info, None, &script, level, said);
     Some(script.into_statements())
 }
 

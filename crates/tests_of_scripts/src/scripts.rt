@@ -4,7 +4,7 @@
 use crate::following::parting;
 use crate::given::{Given, read_given};
 use crate::nodes::{places, places_read};
-use crate::{functions, long, names, nodes, reads, shown};
+use crate::{again, functions, long, names, nodes, reads, shown};
 use rhai_ast::{FnAccess, FnNamespace, Stmt, StmtQueries};
 use rhai_base::{Boxed, OutOfMemory};
 use rhai_optimizer::{OptimizationLevel, optimize_into_ast};
@@ -55,6 +55,9 @@ fn asked(question: &str, given: &Given, script: &str, said: &Said) {
         "run" => run(given, script, said),
         "rewrite" => rewrite(given, script, said),
         "names" => names::answer(given, script, said),
+        "again" => again::answer(given, script, said),
+        "again_nested" => again::say_nested(given, script, said),
+        "builtins_again" => again::say_builtins(said),
         "passes" => functions::say_passes(given, script, OptimizationLevel::Simple, said),
         "passes_none" => functions::say_passes(given, script, OptimizationLevel::None, said),
         "passes_within" => functions::say_passes_within(given, script, said),
@@ -90,7 +93,8 @@ fn optimized(
     made(given, said.script(text)?, level, said)
 }
 
-/// What a script is made into at a level, for runs that are given this.
+/// What a script is made into at a level, for runs that are given this. Where that does not come back when it is
+/// optimised again, it is said.
 pub fn made(
     given: &Given,
     script: Script,
@@ -103,7 +107,9 @@ pub fn made(
     } = script;
     let (info, scope) = (&given.info, Some(&given.scope));
     let script = optimize_into_ast(said.alloc, info, scope, statements, functions, level);
-    said.boxed(said.made(script))
+    let script = said.boxed(said.made(script))?;
+    again::say_if_other(info, scope, script.get(), level, said);
+    Some(script)
 }
 
 // ---- what a script becomes
