@@ -5,7 +5,7 @@ use Rattle.ast_types.specs.declared.stmt.Stmt as declared_stmt
 use Rattle.theory_meaning.specs.Tree.{Expr, BlockExpr, Stmt, ExprStmt}
 use Rattle.ast_types.proofs.Cases.{ExprCase, braces_case, call_case, StmtCase, while_case, block_case, try_catch_case, expression_case}
 use Rattle.opt_steps.proofs.NodeKinds.{NoBraces, NoCall, NoWhile, NoBlock, NoTry, NoExpression}
-use Rattle.opt_stmts.specs.SettledStatements.{is_settled_block, stays, is_braces, is_over_braces, is_settled_expression, decided_loop, is_settled_try}
+use Rattle.opt_stmts.specs.SettledStatements.{is_settled_block, stays, holds_some, is_over_braces, is_settled_expression, decided_loop, is_settled_try}
 
 pub no_block : {x : declared_stmt.Stmt} {s : Stmt} → StmtCase x s → NoBlock x → true ≡ is_settled_block s
 no_block (block_case b) h = absurd (h b refl)
@@ -16,7 +16,7 @@ stays_as_statement (braces_case b) h c = absurd (h b refl)
 stays_as_statement (call_case c p) h k = absurd (k c p refl)
 stays_as_statement _ h c = refl
 
-pub no_braces : {x : declared_expr.Expr} {e : Expr} → ExprCase x e → NoBraces x → false ≡ is_braces e
+pub no_braces : {x : declared_expr.Expr} {e : Expr} → ExprCase x e → NoBraces x → false ≡ holds_some e
 no_braces (braces_case b) h = absurd (h b refl)
 no_braces _ h = refl
 

@@ -2,6 +2,7 @@
 use Rattle.std.specs.Prelude.{Bool, true, false, not, ◌&&◌, cond, Option, None}
 use Rattle.theory_meaning.specs.Constants.{constant_bool}
 use Rattle.theory_meaning.specs.Queries.{are_internally_pure, is_block_dependent}
+use Rattle.opt_stmts.specs.SettledChoices.{is_empty}
 use Rattle.opt_steps.specs.declared.step.NodeStep.{NodeStep}
 use Rattle.opt_steps.specs.declared.step.NodeStep.TheVariants as step
 use Rattle.opt_steps.specs.NodeSteps.{step_by}
@@ -39,12 +40,13 @@ abbrev pub is_settled_expression : Stmt → Bool
 is_settled_expression (ExprStmt e) = stays e
 is_settled_expression _ = true
 
-abbrev pub is_braces : Expr → Bool
-is_braces (BlockExpr ss) = true
-is_braces _ = false
+-- over braces that hold something
+abbrev pub holds_some : Expr → Bool
+holds_some (BlockExpr ss) = not (is_empty ss)
+holds_some _ = false
 
 abbrev pub is_over_braces : Stmt → Bool
-is_over_braces (ExprStmt e) = is_braces e
+is_over_braces (ExprStmt e) = holds_some e
 is_over_braces _ = false
 
 -- what came of one: a block whose value nothing wants is to be gone over, as its list was one whose value is wanted

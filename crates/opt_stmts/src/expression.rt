@@ -90,21 +90,22 @@ fn rewrite_expression(state: &mut OptimizerState<'_>, statement: &mut Stmt)
     put_stmt(statement, made);
 }
 
-fn is_braces(expr: &Expr) -> bool
-    ensures { result ≡ settled.is_braces (expr_of expr.now) }
+/// Whether it is braces that hold something.
+fn holds_some(expr: &Expr) -> bool
+    ensures { result ≡ settled.holds_some (expr_of expr.now) }
 {
     match expr {
-        Expr::Stmt(_) => true,
+        Expr::Stmt(block) => !is_empty(block.get()),
         _ => false,
     }
 }
 
-/// Whether it is an expression statement over braces.
+/// Whether it is an expression statement over braces that hold something.
 fn is_over_braces(statement: &Stmt) -> bool
     ensures { result ≡ settled.is_over_braces (stmt_of statement.now) }
 {
     match statement {
-        Stmt::Expr(expr) => is_braces(expr.get()),
+        Stmt::Expr(expr) => holds_some(expr.get()),
         _ => false,
     }
 }
@@ -130,8 +131,8 @@ pub fn step_expression(
     step_of(reopens)
 }
 
-/// Opens an expression statement over braces, whose parts were not gone over: it becomes a block, and is then gone over
-/// as one of which a value is wanted or not. Whether it was one.
+/// Opens an expression statement over braces that hold something, whose parts were not gone over: it becomes a block, and
+/// is then gone over as one of which a value is wanted or not. Whether it was one.
 pub fn open_braces(state: &mut OptimizerState<'_>, statement: &mut Stmt) -> bool
     ensures answer { result ≡ settled.is_over_braces (stmt_of statement.old) }
     ensures step { (r : Engine) (w : Bool)

@@ -1,6 +1,6 @@
 use Rattle.ast_types.proofs.Cases.{expr_cases}
 use Rattle.opt_stmts.proofs.OtherStatements.{no_braces}
-use Rattle.opt_stmts.proofs.expression.is_braces.Goals as goal
+use Rattle.opt_stmts.proofs.expression.holds_some.Goals as goal
 
 pub returns-in_default : goal.returns-in_default
 returns-in_default c = no_braces (expr_cases c.args.expr.now) c.in_default.not-Stmt
