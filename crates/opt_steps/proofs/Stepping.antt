@@ -38,8 +38,8 @@ stmt_put r o w s s' x x' n h d k q = subst (λ n. StmtStep n r w s s' x x') (sym
   by false q = (stmt_fired_by d k (q.rule (here r s)), q.keeps refl)
 
 -- what fired may be gone over again, or not
-pub fired_step : {r : Engine} {w o : Bool} {s s' : Progress} {x x' : Stmt} {n : NodeStep} → n ≡ step_by o → StmtFired r w s s' x x' × KeepsStmtParts x x' → StmtStep n r w s s' x x'
-fired_step {r = r} {w = w} {o = o} {s = s} {s' = s'} {x = x} {x' = x'} h q = subst (λ n. StmtStep n r w s s' x x') (sym h) (by o) where
+pub fired_step : {r : Engine} {w : Bool} {s s' : Progress} {x x' : Stmt} {n : NodeStep} (o : Bool) → n ≡ step_by o → StmtFired r w s s' x x' × KeepsStmtParts x x' → StmtStep n r w s s' x x'
+fired_step {r = r} {w = w} {s = s} {s' = s'} {x = x} {x' = x'} o h q = subst (λ n. StmtStep n r w s s' x x') (sym h) (by o) where
   by : (o : Bool) → StmtStep (step_by o) r w s s' x x'
   by true = q.0
   by false = q

@@ -11,4 +11,4 @@ pub returns-clause-rule : goal.returns-clause-rule
 returns-clause-rule c = λ m n e z.
     let xs = c.args.list.now in
     let acts = subst (λ k. (d : Stmt) → is_noop (stmt_of (get_or xs k d)) ≡ false) e c.requires.acts in
-    last_noop_fires xs _ LastUnit m n (subst (λ k. MarkedAt k xs _) e c.mark_at.ensures) z (last-acts xs LastUnit m n z acts)
+    last_noop_fires xs _ LastUnit m n (subst (λ k. MarkedAt k xs c.mark_at.new.list) e c.mark_at.ensures) z (last-acts xs LastUnit m n z acts)

@@ -6,4 +6,4 @@ pub returns-then-is_settled_expression-clause-step : goal.returns-then-is_settle
 returns-then-is_settled_expression-clause-step c = λ r. stmt_stays (expression_reduced r _ c.requires)
 
 pub returns-clause-step : goal.returns-clause-step
-returns-clause-step c = λ r. fired_step c.step_of.ensures (c.rewrite_expression.ensures r c.args.is_wanted)
+returns-clause-step c = λ r. fired_step _ c.step_of.ensures (c.rewrite_expression.ensures r c.args.is_wanted)
