@@ -40,8 +40,8 @@ pub stmt_anywhere : (r : Engine) (w : Bool) (s s' : Progress) (x x' : Stmt) (o :
 stmt_anywhere r w s s' x x' o h = IfOk-weaker o (λ step. (r : Engine) (w : Bool) → StmtStep step r w s s' x x') (λ step. StmtStep step r w s s' x x') (λ step q. q r w) h
 
 -- a `switch` before its arms are gone over
-pub switch_decided : (w : Bool) (s s' : Progress) (x x' : Stmt) {o : Result Bool OutOfMemory} → IfOk o (λ fired. (r : Engine) (w : Bool) → Decided fired r w s s' x x') → IfOk o (λ fired. (r : Engine) → StmtDecided fired r w s s' x x')
-switch_decided w s s' x x' {o} h = IfOk-weaker o (λ fired. (r : Engine) (w : Bool) → Decided fired r w s s' x x') (λ fired. (r : Engine) → StmtDecided fired r w s s' x x') (λ fired q r. by fired r (q r w)) h where
+pub switch_decided : (w : Bool) (s s' : Progress) (x x' : Stmt) (o : Result Bool OutOfMemory) → IfOk o (λ fired. (r : Engine) (w : Bool) → Decided fired r w s s' x x') → IfOk o (λ fired. (r : Engine) → StmtDecided fired r w s s' x x')
+switch_decided w s s' x x' o h = IfOk-weaker o (λ fired. (r : Engine) (w : Bool) → Decided fired r w s s' x x') (λ fired. (r : Engine) → StmtDecided fired r w s s' x x') (λ fired q r. by fired r (q r w)) h where
   by : (fired : Bool) (r : Engine) → Decided fired r w s s' x x' → StmtDecided fired r w s s' x x'
   by true r q = q
   by false r q = (q.0, q.1.0)

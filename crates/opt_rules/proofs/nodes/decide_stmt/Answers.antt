@@ -9,7 +9,7 @@ pub returns-in-If : goal.returns-in-If
 returns-in-If c = c.decide_if.ensures.step
 
 pub returns-in-Switch : goal.returns-in-Switch
-returns-in-Switch c = switch_decided _ _ _ _ _ c.decide_switch.ensures
+returns-in-Switch c = switch_decided _ _ _ _ _ _ c.decide_switch.ensures
 
 pub returns-in_default : goal.returns-in_default
 returns-in_default c = λ r. (refl, refl)
