@@ -253,7 +253,7 @@ arms_kept {r = r} {w = w} {s = s} {s' = s'} {x = x} {x' = x'} {e = e} {as' = as'
 
 -- what is not decided before that is as it was
 pub open_still : {r : Engine} {w : Bool} {s s1 s2 : Progress} {x x1 x2 : Stmt} → StmtDecided false r w s s1 x x1 → SubjectRun r w s1 s2 x1 x2 → SubjectRun r w s s2 x x2
-open_still {r = r} {w = w} {s2 = s2} {x1 = x1} {x2 = x2} q f = subst (λ y. SubjectRun r w _ s2 y x2) q.0 (subst (λ z. SubjectRun r w z s2 x1 x2) q.1 f)
+open_still {r = r} {w = w} {s = s} {s2 = s2} {x1 = x1} {x2 = x2} q f = subst (λ y. SubjectRun r w s s2 y x2) q.0 (subst (λ z. SubjectRun r w z s2 x1 x2) q.1 f)
 
 -- where nothing is decided it stays
 pub undecided : {r : Engine} {w : Bool} {s s1 s2 : Progress} {x x1 x2 : Stmt} → SubjectRun r w s s1 x x1 → StmtDecided false r w s1 s2 x1 x2 → SubjectRun r w s s2 x x2
