@@ -1,5 +1,5 @@
 -- Functions whose bodies are optimised, and their table.
-use Rattle.std.proofs.Common.{◌≡◌, ℕ, ◌+◌, ◌-◌, ◌<◌, Bool, true, false, None, List, [], ◌∷◌, ◌++◌, map, length, drop, get_or, add-one, append-nil, if◌then◌else◌, refl, sym, ap, ◌∙◌, subst}
+use Rattle.std.proofs.Common.{◌≡◌, ℕ, suc, arith, ◌+◌, ◌-◌, ◌<◌, Bool, true, false, None, List, [], ◌∷◌, ◌++◌, map, length, drop, get_or, add-one, append-nil, if◌then◌else◌, refl, sym, ap, ◌∙◌, subst}
 use Rattle.std.specs.Prelude.{◌==◌}
 use Rattle.std.proofs.Math.Seq.{drop-cons, drop-length}
 use Rattle.std.proofs.lemmas.List.{append_assoc, map-append}
@@ -108,7 +108,7 @@ module _ {r : Engine} {ks : List Known} where
 -- of none
 pub none_run : {r : Engine} {ks : List Known} (fs : List (Rc ScriptFuncDef Global)) → (length fs == 0) ≡ true → FunctionsRun r ks (map rc_value fs) (map rc_value fs)
 none_run [] h = no_functions
-none_run (f ∷ fs) h = absurd (let z : false ≡ true = h in cc)
+none_run (f ∷ fs) h = absurd (let e : (suc (length fs) == 0) ≡ false = grind arith in let z : true ≡ false = sym h ∙ e in cc)
 
 -- what was reduced may stay, whatever is known
 stays : {r : Engine} {ks ls : List Known} {f f' : ScriptFuncDef} → FunctionRun r ks f f' → FunctionRun r ls f' f'
