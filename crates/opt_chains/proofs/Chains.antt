@@ -1,8 +1,7 @@
 -- What became of a chain, by what its first step answers.
 use Rattle.std.proofs.Common.{◌≡◌, Bool, true, false, List, Option, Some, None, refl, sym, ap, ◌∙◌, subst, inl, inr}
 use Rattle.std.specs.Prelude.{◌&&◌, ◌⊎◌, if◌then◌else◌}
-use Rattle.rhai_base.specs.Value.{Value, UnitV, is_unit}
-use Rattle.theory_meaning.specs.Constants.{constant_value}
+use Rattle.rhai_base.specs.Value.{Value, is_unit}
 use Rattle.theory_meaning.specs.Engine.{Engine, or_else}
 use Rattle.theory_meaning.specs.Queries.{is_pure_expr}
 use Rattle.theory_meaning.specs.Queries.{is_unit as is_unit_expr}
@@ -11,7 +10,8 @@ use Rattle.ast_types.specs.Reading.{expr_of}
 use Rattle.theory_rewriting.specs.Known.{Known}
 use Rattle.theory_rewriting.specs.Parts.{constant_of, link}
 use Rattle.theory_rewriting.specs.Rules as rule
-use Rattle.theory_rewriting.specs.Steps.{AnswersNone, Progress, Place, is_chain_node}
+use Rattle.theory_rewriting.specs.Rules.{ExprRule}
+use Rattle.theory_rewriting.specs.Steps.{Progress, here, Place, is_chain_node}
 use Rattle.theory_rewriting.proofs.Keeping.{keeps_unit}
 use Rattle.ast_types.specs.declared.expr.BinaryExpr.{BinaryExpr}
 use Rattle.ast_types.specs.declared.expr.Expr as declared
@@ -22,11 +22,12 @@ use Rattle.opt_steps.proofs.Stepping.{expr_stays}
 use Rattle.rhai_ast.specs.declared.walker.node.ChainType.{ChainType}
 use Rattle.rhai_ast.specs.declared.walker.node.ChainType.TheVariants as access_kind
 use Rattle.opt_chains.specs.Answers.{constant_answer, known_answer, allowed}
-use Rattle.opt_chains.specs.Chains.{ended_by, unit_ends_by, value_answer, chain_of, IsTaken, PartStep, ChainStep}
+use Rattle.opt_chains.specs.Chains.{ended_by, unit_ends_by, value_answer, chain_of, IsTaken, IsQuiet, PartStep, ChainStep}
 use Rattle.opt_chains.specs.Literals.{allowed_part, literal_answer}
 use Rattle.opt_chains.specs.Onward.{argument, onward, Rewrites}
 use Rattle.opt_chains.proofs.Quiet.{chain_quiet}
 use Rattle.opt_chains.proofs.Rules.{constant_rewrites, known_rewrites, literal_rewrites}
+use Rattle.opt_chains.proofs.Settled.{no_rule}
 
 -- ---- a chain over unit, past a `?`
 
@@ -34,9 +35,9 @@ both_true : (a b : Bool) → a && b ≡ true → (a ≡ true) × (b ≡ true)
 both_true true b h = (refl, h)
 both_true false b h = absurd cc
 
-unit_value : (e : Expr) → is_unit_expr e ≡ true → constant_value e ≡ Some UnitV
-unit_value UnitConstant h = refl
-unit_value _ h = absurd cc
+unit_is : (e : Expr) → is_unit_expr e ≡ true → UnitConstant ≡ e
+unit_is UnitConstant h = refl
+unit_is _ h = absurd cc
 
 some_is : (a b : ChainType) → Some a ≡ Some b → a ≡ b
 some_is a b h = cc
@@ -51,7 +52,7 @@ module _ (r : Engine) (p : Place) (s s' : Progress) (e' : Expr) (d : s'.is_dirty
       let a = both_true (may_stand p UnitConstant) _ (ended_so access_kind.Dotting access_kind.Dotting _ h).1 in
       let b = both_true f.negated (is_unit_expr l) a.1 in
       subst (λ x. ExprStep true r p s s' (Dot f l m) x) (sym i)
-      (record { rule = rule.unit_ends_dot b.0 (unit_value l b.1); stays = stands p _ _ refl refl a.0; fired = d; known = k }, keeps_unit _)
+      (record { rule = subst (λ y. ExprRule (here r s) (Dot f y m) UnitConstant) (unit_is l b.1) (rule.unit_ends_dot b.0); stays = stands p _ _ refl refl a.0; fired = d; known = k }, keeps_unit _)
   unit_ends_dot (Index f l m) h = absurd (let z = (ended_so access_kind.Indexing access_kind.Dotting _ h).0 in cc)
   unit_ends_dot _ h = absurd (let z : None ≡ Some access_kind.Dotting = h in cc)
 
@@ -60,7 +61,7 @@ module _ (r : Engine) (p : Place) (s s' : Progress) (e' : Expr) (d : s'.is_dirty
       let a = both_true (may_stand p UnitConstant) _ (ended_so access_kind.Indexing access_kind.Indexing _ h).1 in
       let b = both_true f.negated (is_unit_expr l) a.1 in
       subst (λ x. ExprStep true r p s s' (Index f l m) x) (sym i)
-      (record { rule = rule.unit_ends_index b.0 (unit_value l b.1); stays = stands p _ _ refl refl a.0; fired = d; known = k }, keeps_unit _)
+      (record { rule = subst (λ y. ExprRule (here r s) (Index f y m) UnitConstant) (unit_is l b.1) (rule.unit_ends_index b.0); stays = stands p _ _ refl refl a.0; fired = d; known = k }, keeps_unit _)
   unit_ends_index (Dot f l m) h = absurd (let z = (ended_so access_kind.Dotting access_kind.Indexing _ h).0 in cc)
   unit_ends_index _ h = absurd (let z : None ≡ Some access_kind.Indexing = h in cc)
 
@@ -91,9 +92,9 @@ one_of : (o p : Option Value) (v : Value) → or_else o p ≡ Some v → (o ≡ 
 one_of (Some u) p v h = inl h
 one_of None p v h = inr h
 
-none_of : (o p : Option Value) → or_else o p ≡ None → o ≡ None
+none_of : (o p : Option Value) → or_else o p ≡ None → (o ≡ None) × (p ≡ None)
 none_of (Some u) p h = absurd (let z : Some u ≡ None = h in cc)
-none_of None p h = refl
+none_of None p h = (refl, h)
 
 module _ (r : Engine) (ks : List Known) (p : Place) (dot : Bool) (f : ChainFlags) (e b : Expr) (unit : Bool) (there : unit ≡ may_stand p (onward f.breaks b UnitConstant)) where
   stands_there : (x : Type 0) → (unit ≡ true) ⊎ x → (may_stand p (onward f.breaks b UnitConstant) ≡ true) ⊎ x
@@ -111,8 +112,13 @@ module _ (r : Engine) (ks : List Known) (p : Place) (dot : Bool) (f : ChainFlags
       let z = if_some (is_pure_expr e) _ part h in
       let y = part_some unit _ part z.1 in literal_rewrites r ks p dot f e b part z.0 y.0 (stands_there _ y.1)
 
-  pub none_answers : value_answer r ks unit dot f e b ≡ None → literal_answer unit dot e (argument f.breaks b) ≡ None → AnswersNone (link dot f e b)
-  none_answers h l = chain_quiet r unit dot f e b (none_of _ _ h) l
+  pub none_answers : value_answer r ks unit dot f e b ≡ None → literal_answer unit dot e (argument f.breaks b) ≡ None → IsQuiet r ks p (link dot f e b)
+  none_answers h l =
+      let z = none_of _ _ h in
+      record {
+        answers = chain_quiet r unit dot f e b z.0 l;
+        settled = no_rule r ks p dot f e b (sym (ap (λ u. allowed u (constant_answer r dot f.negated e (argument f.breaks b))) there) ∙ z.0) (sym (ap (λ u. allowed u (known_answer ks dot e b)) there) ∙ z.1) (sym (ap (λ u. literal_answer u dot e (argument f.breaks b)) there) ∙ l);
+      }
 
 -- ---- the part that was found
 
@@ -126,10 +132,10 @@ taken_step r ks p dot f old new unit (Some part) t h i = (i.right, part_rewrites
 
 -- ---- the chain
 
-chain_stays : (r : Engine) (p : Place) (s : Progress) (e : Expr) → is_chain_node e ≡ true → AnswersNone e → ExprStep false r p s s e e
-chain_stays r p s (Dot f l m) h a = expr_stays tt a (λ q. refl)
-chain_stays r p s (Index f l m) h a = expr_stays tt a (λ q. refl)
-chain_stays r p s _ h a = absurd cc
+chain_stays : (r : Engine) (p : Place) (s : Progress) (e : Expr) → is_chain_node e ≡ true → unit_ends_by p e ≡ None → IsQuiet r s.known p e → ExprStep false r p s s e e
+chain_stays r p s (Dot f l m) h u a = expr_stays tt a.answers (λ q. refl) (a.settled u)
+chain_stays r p s (Index f l m) h u a = expr_stays tt a.answers (λ q. refl) (a.settled u)
+chain_stays r p s _ h u a = absurd cc
 
-pub none_put : {r : Engine} {p : Place} {s : Progress} {e e' : Expr} → is_chain_node e ≡ true → ChainStep r s.known p e e' None → ExprStep false r p s s e e'
-none_put {r = r} {p = p} {s = s} {e = e} h q = subst (λ x. ExprStep false r p s s e x) (sym q.0) (chain_stays r p s e h q.1)
+pub none_put : {r : Engine} {p : Place} {s : Progress} {e e' : Expr} → is_chain_node e ≡ true → unit_ends_by p e ≡ None → ChainStep r s.known p e e' None → ExprStep false r p s s e e'
+none_put {r = r} {p = p} {s = s} {e = e} h u q = subst (λ x. ExprStep false r p s s e x) (sym q.0) (chain_stays r p s e h u q.1)

@@ -5,4 +5,5 @@ pub mod OtherChains
 pub mod OtherParts
 pub mod Quiet
 pub mod Rules
+pub mod Settled
 pub mod Steps

@@ -60,11 +60,11 @@ module _ {k : Context} {f : ChainFlags} {e : Expr} where
 
   type_of_method : (v : Value) → constant_value e ≡ Some v → (f.negated && is_unit v) ≡ false → {b : Expr} {g : Expr → Expr} → StepCase f.breaks b (MethodCall (named (codes "type_of") false) no_exprs) g → ExprRule k (Dot f e b) (g (constant_of (TextV (mapped_type_name k.engine v))))
   type_of_method v h n alone = rule.type_of_method v h n
-  type_of_method v h n (first dot m a r q) = rule.type_of_method_first dot false m r v q h n
+  type_of_method v h n (first dot m a r q) = rule.type_of_method_first dot m r v q h n
 
   is_shared_method : (v : Value) → constant_value e ≡ Some v → (f.negated && is_unit v) ≡ false → {b : Expr} {g : Expr → Expr} → StepCase f.breaks b (MethodCall (named (codes "is_shared") false) no_exprs) g → ExprRule k (Dot f e b) (g (constant_of (BoolV false)))
   is_shared_method v h n alone = rule.is_shared_method v h n
-  is_shared_method v h n (first dot m a r q) = rule.is_shared_method_first dot false m r v q h n
+  is_shared_method v h n (first dot m a r q) = rule.is_shared_method_first dot m r v q h n
 
 -- ---- a part of a literal
 

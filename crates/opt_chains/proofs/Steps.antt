@@ -58,6 +58,11 @@ part_may_stand AsGuard part alone n (inr h) = ap not h
 pub stands_there : (p : Place) (dot : Bool) (f : ChainFlags) (e r e' : Expr) → may_stand p e' ≡ true → MayBecome p (link dot f e r) e'
 stands_there p dot f e r e' h = stands p _ _ (link_no_root dot f e r) (link_no_unit dot f e r) h
 
+pub stood : (p : Place) (dot : Bool) (f : ChainFlags) (e r e' : Expr) → MayBecome p (link dot f e r) e' → may_stand p e' ≡ true
+stood Anywhere dot f e r e' h = refl
+stood AsBase dot f e r e' h = ap (λ o. not (is_some o)) (h ∙ link_no_root dot f e r)
+stood AsGuard dot f e r e' h = ap not (h ∙ link_no_unit dot f e r)
+
 -- ---- what is claimed of its parts
 
 -- of a chain: nothing of what is no rest of one

@@ -6,9 +6,11 @@ use Rattle.theory_meaning.specs.Engine.{Engine, or_else}
 use Rattle.theory_meaning.specs.Queries.{is_unit}
 use Rattle.theory_meaning.specs.Tree.{ChainFlags, Expr, UnitConstant, Dot, Index}
 use Rattle.ast_types.specs.Reading.{expr_of}
+use Rattle.theory_rewriting.specs.Context.{knowing}
 use Rattle.theory_rewriting.specs.Known.{Known}
+use Rattle.theory_rewriting.specs.Normal.{HasNormalParts}
 use Rattle.theory_rewriting.specs.Parts.{link}
-use Rattle.theory_rewriting.specs.Steps.{AnswersNone, Place}
+use Rattle.theory_rewriting.specs.Steps.{AnswersNone, NoExprRule, Place}
 use Rattle.opt_steps.specs.Standing.{may_stand}
 use Rattle.ast_types.specs.declared.expr.BinaryExpr.{BinaryExpr}
 use Rattle.ast_types.specs.declared.expr.Expr as declared
@@ -38,6 +40,11 @@ pub record IsTaken (unit dot breaks : Bool) (old new : BinaryExpr) (part : Optio
   pub right : new.rhs ≡ old.rhs
   pub kept : part ≡ None → new ≡ old
 
+-- no step answers at a chain: where unit doesn't end it either, no rule applies
+pub record IsQuiet (r : Engine) (ks : List Known) (p : Place) (e : Expr) : Type 0 where
+  pub answers : AnswersNone e
+  pub settled : unit_ends_by p e ≡ None → HasNormalParts (knowing r ks) e → NoExprRule (knowing r ks) p e
+
 -- the chain of two sides
 abbrev pub chain_of : Bool → ChainFlags → BinaryExpr → Expr
 chain_of dot f b = link dot f (expr_of b.lhs) (expr_of b.rhs)
@@ -45,13 +52,13 @@ chain_of dot f b = link dot f (expr_of b.lhs) (expr_of b.rhs)
 -- the first step answers a part, or none
 abbrev pub PartStep : Engine → List Known → Place → Bool → ChainFlags → BinaryExpr → BinaryExpr → Option declared.Expr → Type 0
 PartStep r ks p dot f old new (Some part) = (new.rhs ≡ old.rhs) × Rewrites r ks p (chain_of dot f old) (onward f.breaks (expr_of old.rhs) (expr_of part))
-PartStep r ks p dot f old new None = (new ≡ old) × AnswersNone (chain_of dot f old)
+PartStep r ks p dot f old new None = (new ≡ old) × IsQuiet r ks p (chain_of dot f old)
 
 -- the chain becomes another expression, or stays
 abbrev pub SidesStep : Engine → List Known → Place → Bool → ChainFlags → BinaryExpr → BinaryExpr → Option declared.Expr → Type 0
 SidesStep r ks p dot f old new (Some made) = Rewrites r ks p (chain_of dot f old) (expr_of made)
-SidesStep r ks p dot f old new None = (new ≡ old) × AnswersNone (chain_of dot f old)
+SidesStep r ks p dot f old new None = (new ≡ old) × IsQuiet r ks p (chain_of dot f old)
 
 abbrev pub ChainStep : Engine → List Known → Place → Expr → Expr → Option declared.Expr → Type 0
 ChainStep r ks p old new (Some made) = Rewrites r ks p old (expr_of made)
-ChainStep r ks p old new None = (new ≡ old) × AnswersNone old
+ChainStep r ks p old new None = (new ≡ old) × IsQuiet r ks p old

@@ -1,23 +1,28 @@
 -- Literals of constants that fold to their value.
-use Rattle.std.proofs.Common.{◌≡◌, Bool, true, false, List, Option, Some, None, refl, sym, ap, ◌∙◌, subst}
+use Rattle.std.proofs.Common.{◌≡◌, Bool, true, false, List, Option, Some, None, is_some, refl, sym, ap, ◌∙◌, subst}
 use Rattle.rhai_base.specs.Value.{Text, Value, TextV, MapV}
-use Rattle.theory_meaning.specs.Constants.{constant_for, constant_value, constant_values, constant_entries, joined_value, map_value, literal_value}
+use Rattle.theory_meaning.specs.Constants.{constant_for, constant_value, constant_values, constant_entries, joined_value, map_value, call_value, literal_value}
 use Rattle.theory_meaning.specs.Control.{texts_joined}
 use Rattle.theory_meaning.specs.Elements.{fields_of}
 use Rattle.theory_meaning.specs.Engine.{Engine, or_else}
-use Rattle.theory_meaning.specs.Tree.{Expr, InterpolatedString, MapOf}
+use Rattle.theory_meaning.specs.Tree.{Expr, InterpolatedString, MapOf, Exprs, Pairs}
 use Rattle.theory_meaning.specs.Walk.{OfExpr}
 use Rattle.theory_rewriting.specs.Rules as rule
+use Rattle.theory_rewriting.specs.Rules.{ExprRule}
 use Rattle.theory_rewriting.specs.Clear.{known_value}
+use Rattle.theory_rewriting.specs.Context.{Context}
+use Rattle.theory_rewriting.specs.Normal.{IsNormal, HasNormalParts}
+use Rattle.theory_rewriting.specs.Rewriting.{ExprsTo}
 use Rattle.theory_rewriting.specs.Residue.{IsReducedNode}
-use Rattle.theory_rewriting.specs.Steps.{Progress, Place, AnswersNone, ExprKept, ExprRewrite}
+use Rattle.theory_rewriting.specs.Steps.{Progress, here, Place, NoExprRule, AnswersNone, ExprKept, ExprRewrite}
 use Rattle.theory_rewriting.proofs.Keeping.{keeps_constant, may_be_constant}
 use Rattle.opt_steps.specs.Folded.{FoldsConstant}
 use Rattle.opt_steps.specs.NodeSteps.{ExprStep, Puts}
 use Rattle.opt_steps.proofs.Stepping.{expr_put}
 use Rattle.opt_steps.specs.Passes.{NodePass, ExprPass}
 use Rattle.opt_steps.proofs.Passing.{rule_passes, pass_put}
-use Rattle.opt_exprs.specs.Parts.{is_interpolated, is_map, Folds}
+use Rattle.opt_exprs.specs.Parts.{is_interpolated, is_map, any_changes, parts_change, NodeChange, Folds}
+use Rattle.opt_exprs.proofs.EmptyParts.{no_part_changes}
 
 -- ---- the rules
 
@@ -47,33 +52,50 @@ put-as {s = s} {s' = s'} {e = e} f q r p = subst (λ a. ExprStep true r p s s' e
 pub text_put : {s s' : Progress} {e e' : Expr} {v : Value} → is_interpolated e ≡ true → Some v ≡ literal_value e → Puts s s' e' v → (r : Engine) (p : Place) → ExprStep true r p s s' e e'
 text_put {e = e} {v = v} i h q = put-as (text-folds e v i h) q
 
+none-is : (o : Option Value) → is_some o ≡ false → o ≡ None
+none-is None h = refl
+none-is (Some v) h = absurd cc
+
 pub map_folded : (b : Bool) (s s' : Progress) (e e' : Expr) → is_map e ≡ true → FoldsConstant b s s' e e' → Folds b s s' e e'
 map_folded true s s' e e' i f = put-as (map-folds e f.0 i (sym f.1)) f.2
-map_folded false s s' e e' i f = (f.1, f.2)
+map_folded false s s' e e' i f = (none-is (constant_value e) f.0, f.1, f.2)
 
-kept : (r : Engine) (p : Place) (s s' : Progress) (e e' : Expr) → IsReducedNode r (OfExpr e) → AnswersNone e → known_value s.known e ≡ None → s' ≡ s → e' ≡ e → ExprKept r p s s' e e'
-kept r p s s' e e' h a u i j = record { same = j; state = i; answers = a; reduced = h; unknown = λ _. u }
+pub none_literal : (e : Expr) → None ≡ literal_value e → constant_value e ≡ None
+none_literal e h = by (constant_value e) (call_value e) h where
+  by : (o p : Option Value) → None ≡ or_else o p → o ≡ None
+  by None p h = refl
+  by (Some v) p h = absurd cc
 
-text-kept : (s s' : Progress) (e e' : Expr) → is_interpolated e ≡ true → s' ≡ s → e' ≡ e → (r : Engine) (p : Place) → ExprKept r p s s' e e'
-text-kept s s' (InterpolatedString es) e' h i j r p = kept r p s s' (InterpolatedString es) e' tt refl refl i j
-text-kept s s' _ e' h i j r p = absurd cc
+kept : (r : Engine) (p : Place) (s s' : Progress) (e e' : Expr) → IsReducedNode r (OfExpr e) → AnswersNone e → known_value s.known e ≡ None → (HasNormalParts (here r s) e → NoExprRule (here r s) p e) → s' ≡ s → e' ≡ e → ExprKept r p s s' e e'
+kept r p s s' e e' h a u n i j = record { same = j; state = i; answers = a; reduced = h; unknown = λ _. u; settled = n }
 
-map-kept : (s s' : Progress) (e e' : Expr) → is_map e ≡ true → s' ≡ s → e' ≡ e → (r : Engine) (p : Place) → ExprKept r p s s' e e'
-map-kept s s' (MapOf ps template) e' h i j r p = kept r p s s' (MapOf ps template) e' tt refl refl i j
-map-kept s s' _ e' h i j r p = absurd cc
+text-settled : {k : Context} {es : Exprs} {e' : Expr} → IsNormal (ExprsTo k) es → any_changes es ≡ false → joined_value (constant_values es) ≡ None → ExprRule k (InterpolatedString es) e' → ⊥
+text-settled n c h (rule.text_changes q) = no_part_changes n c q
+text-settled n c h (rule.text_folds vs q) = let folds = ap joined_value q in absurd cc
+
+text-kept : (s s' : Progress) (e e' : Expr) → is_interpolated e ≡ true → constant_value e ≡ None → parts_change e ≡ false → s' ≡ s → e' ≡ e → (r : Engine) (p : Place) → ExprKept r p s s' e e'
+text-kept s s' (InterpolatedString es) e' h c g i j r p = kept r p s s' (InterpolatedString es) e' tt refl refl (λ n e' q m. text-settled n g c q) i j
+text-kept s s' _ e' h c g i j r p = absurd cc
+
+map-settled : {k : Context} {ps : Pairs} {template : List Text} {e' : Expr} → map_value (constant_entries ps) ≡ None → ExprRule k (MapOf ps template) e' → ⊥
+map-settled h (rule.map_of_constants vs q) = let folds = ap map_value q in absurd cc
+
+map-kept : (s s' : Progress) (e e' : Expr) → is_map e ≡ true → constant_value e ≡ None → s' ≡ s → e' ≡ e → (r : Engine) (p : Place) → ExprKept r p s s' e e'
+map-kept s s' (MapOf ps template) e' h c i j r p = kept r p s s' (MapOf ps template) e' tt refl refl (λ _ e' q m. map-settled c q) i j
+map-kept s s' _ e' h c i j r p = absurd cc
 
 pub map_step : (b : Bool) (s s' : Progress) (e e' : Expr) → is_map e ≡ true → Folds b s s' e e' → (r : Engine) (p : Place) → ExprStep b r p s s' e e'
 map_step true s s' e e' h f = f
-map_step false s s' e e' h f = map-kept s s' e e' h f.0 f.1
+map_step false s s' e e' h f = map-kept s s' e e' h f.0 f.1 f.2
 
 pub text_folded : {s s' : Progress} {e e' : Expr} → ((r : Engine) (p : Place) → ExprStep true r p s s' e e') → (r : Engine) (p : Place) → ExprPass r p s s' e e'
 text_folded f r p = let z = f r p in rule_passes z.0 z.1
 
-pub text_changed : {s s1 s2 : Progress} {e e1 e2 : Expr} → s1 ≡ s → e1 ≡ e → s2.is_dirty ≡ true → s2.known ≡ s1.known → NodePass e1 e2 → (r : Engine) (p : Place) → ExprPass r p s s2 e e2
-text_changed {e2 = e2} i j d k q r p = pass_put d (k ∙ ap (λ (z : Progress). z.known) i) (subst (λ z. NodePass z e2) j q)
+pub text_changed : {s s1 s2 : Progress} {e e1 e2 : Expr} → Folds false s s1 e e1 → s2.is_dirty ≡ true → s2.known ≡ s1.known → NodePass e1 e2 → (r : Engine) (p : Place) → ExprPass r p s s2 e e2
+text_changed {e2 = e2} f d k q r p = pass_put d (k ∙ ap (λ (z : Progress). z.known) f.1) (subst (λ z. NodePass z e2) f.2 q)
 
-pub text_same : {s s1 : Progress} {e e1 e2 : Expr} → is_interpolated e ≡ true → s1 ≡ s → e1 ≡ e → e2 ≡ e1 → (r : Engine) (p : Place) → ExprKept r p s s1 e e2
-text_same {s = s} {s1 = s1} {e = e} {e2 = e2} h i j k r p = text-kept s s1 e e2 h i (k ∙ j) r p
+pub text_same : {s s1 : Progress} {e e1 e2 : Expr} → is_interpolated e ≡ true → Folds false s s1 e e1 → NodeChange false e1 e2 → (r : Engine) (p : Place) → ExprKept r p s s1 e e2
+text_same {s = s} {s1 = s1} {e = e} {e2 = e2} h f c r p = text-kept s s1 e e2 h f.0 (sym (ap parts_change f.2) ∙ c.1) f.1 (c.0 ∙ f.2) r p
 
 pub text_stays : {e e1 : Expr} → is_interpolated e ≡ true → e1 ≡ e → is_interpolated e1 ≡ true
 text_stays h j = ap is_interpolated j ∙ h

@@ -1,11 +1,11 @@
 -- A call that has a value over constants folds to it, by the rule of its operator or of its name.
-use Rattle.std.proofs.Common.{◌≡◌, Bool, true, false, List, [], ◌∷◌, ◌++◌, Option, Some, None, refl, sym, subst, if◌then◌else◌}
+use Rattle.std.proofs.Common.{◌≡◌, Bool, true, false, List, [], ◌∷◌, ◌++◌, Option, Some, None, refl, sym, ap, ◌∙◌, subst, if◌then◌else◌}
 use Rattle.std.specs.Prelude.{codes}
 use Rattle.std.specs.Option.{option_map}
 use Rattle.std.proofs.lemmas.Slice.Eq.{bytes_eq-Decides}
 use Rattle.rhai_base.specs.Value.{Text, Value, UnitV, TextV, PointerV, Values, no_values, items, values, same_text, is_unit}
 use Rattle.base_tokens.specs.Names.{is_valid_name}
-use Rattle.theory_meaning.specs.Constants.{constant_value, constant_values, constant_for}
+use Rattle.theory_meaning.specs.Constants.{constant_value, constant_values, value_and, constant_for}
 use Rattle.theory_meaning.specs.Engine.{Engine}
 use Rattle.theory_meaning.specs.Tree.{CallToken, NoToken, OfOperator, OfOther, Callee, Expr, DynamicConstant, FnCall, Exprs, no_exprs, expr, Stmt, ExprStmt, FnCallStmt}
 use Rattle.theory_meaning.specs.Walk.{OfExpr}
@@ -190,10 +190,42 @@ unfolded r c es h = by c.namespace c.name c.captures c.token h where
   by ns f captures (OfOperator op) h = sym h
   by ns f captures OfOther h = sym h
 
+-- nor does it fold by any rule
+by_its_operator : (r : Engine) (c : Callee) (es : Exprs) (v : Value) → folded r c es ≡ Some v → call_value r c es ≡ Some v
+by_its_operator r c es v h = by c.namespace c.name c.captures c.token h where
+  by : (ns : List Text) (f : Text) (captures : Bool) (t : CallToken) → folded r (record { namespace = ns; name = f; captures = captures; token = t }) es ≡ Some v → value_by r t (record { namespace = ns; name = f; captures = captures; token = t }) es ≡ Some v
+  by ns f captures NoToken h = absurd cc
+  by ns f captures (OfOperator op) h = h
+  by ns f captures OfOther h = h
+
+has_value : {r : Engine} {c : Callee} {es : Exprs} {v : Value} → Folds r c es v → call_value r c es ≡ Some v
+has_value {r = r} {c = c} {es = es} {v = v} (by_operator h) = by_its_operator r c es v h
+has_value {r = r} (by_type_of v h) = ap (λ o. option_map (type_of r) (only (value_and o (Some [])))) h
+has_value (by_is_shared v h) = ap (λ o. option_map is_shared (only (value_and o (Some [])))) h
+has_value (by_fn f h valid) = ap (λ o. pointer_named (only (value_and o (Some [])))) h ∙ ap (λ b. if b then Some (PointerV f no_values) else None) valid
+has_value {es = expr e es} (by_curry f us vs h q) = ap (λ o. curried (value_and o (constant_values es))) h ∙ ap (λ o. curried (value_and (Some (PointerV f us)) o)) q
+
+expr_rule_folds : {k : Context} {c : Callee} {es : Exprs} {e' : Expr} → ExprRule k (FnCall c es) e' → (v : Value) × Folds k.engine c es v
+expr_rule_folds (rule.operator_folds {v = v} h) = (v, by_operator h)
+expr_rule_folds (rule.type_of_folds v h) = (_, by_type_of v h)
+expr_rule_folds (rule.is_shared_folds v h) = (_, by_is_shared v h)
+expr_rule_folds (rule.fn_folds f h valid) = (_, by_fn f h valid)
+expr_rule_folds (rule.curry_folds f us vs h q) = (_, by_curry f us vs h q)
+
+stmt_rule_folds : {k : Context} {w : Bool} {c : Callee} {es : Exprs} {x' : Stmt} → StmtRule k w (FnCallStmt c es) x' → (v : Value) × Folds k.engine c es v
+stmt_rule_folds (rule.call_statement_folds {v = v} h) = (v, by_operator h)
+stmt_rule_folds (rule.type_of_statement_folds v h) = (_, by_type_of v h)
+stmt_rule_folds (rule.is_shared_statement_folds v h) = (_, by_is_shared v h)
+stmt_rule_folds (rule.fn_statement_folds f h valid) = (_, by_fn f h valid)
+stmt_rule_folds (rule.curry_statement_folds f us vs h q) = (_, by_curry f us vs h q)
+
+none_folds : {r : Engine} {c : Callee} {es : Exprs} → None ≡ call_value r c es → (v : Value) × Folds r c es v → ⊥
+none_folds h f = let value = has_value f.1 in absurd cc
+
 pub call_stays : {r : Engine} {p : Place} {s : Progress} (e : Expr) → is_call e ≡ true → None ≡ expr_value r e → ExprStep false r p s s e e
-call_stays {r = r} (FnCall c es) i h = expr_stays (unfolded r c es h) refl (λ q. refl)
+call_stays {r = r} (FnCall c es) i h = expr_stays (unfolded r c es h) refl (λ q. refl) (λ _ e' q m. none_folds h (expr_rule_folds q))
 call_stays _ i h = absurd cc
 
 pub call_stays_as_statement : {r : Engine} {s : Progress} (x : Stmt) → is_call_statement x ≡ true → None ≡ statement_value r x → StmtKept r s s x x
-call_stays_as_statement {r = r} (FnCallStmt c es) i h = stmt_stays (unfolded r c es h)
+call_stays_as_statement {r = r} (FnCallStmt c es) i h = stmt_stays (unfolded r c es h) (λ w x' q. none_folds h (stmt_rule_folds q))
 call_stays_as_statement _ i h = absurd cc

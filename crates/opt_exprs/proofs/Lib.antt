@@ -1,11 +1,13 @@
 pub mod Arguments
 pub mod Called
 pub mod Changing
+pub mod EmptyParts
 pub mod Folding
 pub mod Folds
 pub mod Moving
 pub mod OperandKinds
 pub mod PartKinds
 pub mod Pointers
+pub mod Remaining
 pub mod Single
 pub mod TextJoins

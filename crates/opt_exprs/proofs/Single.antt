@@ -1,15 +1,17 @@
 -- One operand, and none.
-use Rattle.std.proofs.Common.{◌≡◌, ◌≢◌, ◌≤◌, Bool, true, false, not, List, [], ◌∷◌, length, None, refl, sym, ap, ◌∙◌, subst, arith}
+use Rattle.std.proofs.Common.{◌≡◌, ◌≢◌, ◌≤◌, Bool, true, false, not, List, [], ◌∷◌, length, None, is_some, refl, sym, ap, ◌∙◌, subst, arith}
 use Rattle.ast_types.specs.declared.expr.Expr as declared_expr
-use Rattle.theory_meaning.specs.Tree.{Expr, BoolConstant, UnitConstant, And, Or, Coalesce, no_exprs, expr}
+use Rattle.theory_meaning.specs.Desugar.{root_of}
 use Rattle.theory_meaning.specs.Engine.{Engine}
-use Rattle.theory_meaning.specs.Walk.{OfExpr}
+use Rattle.theory_meaning.specs.Queries.{is_unit}
+use Rattle.theory_meaning.specs.Tree.{Expr, BoolConstant, UnitConstant, And, Or, Coalesce, Exprs, no_exprs, expr}
 use Rattle.ast_types.specs.Reading.{expr_of, exprs_of}
 use Rattle.theory_rewriting.specs.Clear.{known_value}
+use Rattle.theory_rewriting.specs.Context.{Context}
 use Rattle.theory_rewriting.specs.Known.{Known}
-use Rattle.theory_rewriting.specs.Residue.{IsReducedNode}
 use Rattle.theory_rewriting.specs.Rules as rule
-use Rattle.theory_rewriting.specs.Steps.{Progress, Place, Anywhere, AsBase, AsGuard, AnswersNone, ExprRewrite, KeepsExprParts}
+use Rattle.theory_rewriting.specs.Rules.{ExprRule}
+use Rattle.theory_rewriting.specs.Steps.{Progress, here, Place, Anywhere, AsBase, AsGuard, MayBecome, NoExprRule, AnswersNone, ExprRewrite, KeepsExprParts}
 use Rattle.theory_rewriting.proofs.Keeping.{keeps_unit, keeps_and, keeps_or, keeps_coalesce}
 use Rattle.opt_steps.specs.Standing.{may_stand}
 use Rattle.opt_steps.proofs.Places.{not-false, stands}
@@ -17,7 +19,8 @@ use Rattle.opt_steps.proofs.Stepping.{expr_rewrite_as, expr_stays}
 use Rattle.opt_steps.specs.Passes.{PassStep}
 use Rattle.opt_steps.proofs.Passing.{rewrite_passes}
 use Rattle.opt_exprs.specs.declared.operands.operation.Operation.{Operation}
-use Rattle.opt_exprs.specs.Operands.{Declared, node_of, has_operation, none_of, is_settled}
+use Rattle.opt_exprs.specs.declared.operands.operation.Operation.TheVariants as operation
+use Rattle.opt_exprs.specs.Operands.{Declared, node_of, has_operation, NoneGoes, NoOperandGoes, NodeChange, none_of, is_settled, is_settled_node}
 
 -- ---- the rules
 
@@ -78,8 +81,41 @@ no_answer (Or es) h = refl
 no_answer (Coalesce es) h = refl
 no_answer _ h = absurd cc
 
-pub operands_stay : {r : Engine} {p : Place} {s : Progress} {e e' : Expr} → has_operation e ≡ true → e' ≡ e → IsReducedNode r (OfExpr e) → PassStep false r p s s e e'
-operands_stay {r = r} {p = p} {s = s} {e = e} h i q = subst (λ a. PassStep false r p s s e a) (sym i) (expr_stays {r = r} {p = p} q (no_answer e h) (λ _. no_name e s.known h))
+-- what may be made of a node that is neither a place nor a literal unit may stand there
+may_stand_there : (p : Place) (e e' : Expr) → root_of e ≡ None → is_unit e ≡ false → MayBecome p e e' → may_stand p e' ≡ true
+may_stand_there Anywhere e e' r u m = refl
+may_stand_there AsBase e e' r u m = ap (λ o. not (is_some o)) (m ∙ r)
+may_stand_there AsGuard e e' r u m = ap not (m ∙ u)
+
+-- so few operands that stay may not
+few_stay : (p : Place) (e e' : Expr) → root_of e ≡ None → is_unit e ≡ false → not (may_stand p e') ≡ true → MayBecome p e e' → ⊥
+few_stay p e e' r u h m = let stands = may_stand_there p e e' r u m in absurd cc
+
+and_stays : {k : Context} (p : Place) {es : Exprs} {e' : Expr} → NoneGoes operation.And es → is_settled p operation.And es ≡ true → ExprRule k (And es) e' → MayBecome p (And es) e' → ⊥
+and_stays p n s (rule.and_changes q h) m = n _ (q, h)
+and_stays p n s rule.and_of_one m = few_stay p _ _ refl refl s m
+and_stays p n s rule.and_of_none m = few_stay p _ _ refl refl s m
+
+or_stays : {k : Context} (p : Place) {es : Exprs} {e' : Expr} → NoneGoes operation.Or es → is_settled p operation.Or es ≡ true → ExprRule k (Or es) e' → MayBecome p (Or es) e' → ⊥
+or_stays p n s (rule.or_changes q h) m = n _ (q, h)
+or_stays p n s rule.or_of_one m = few_stay p _ _ refl refl s m
+or_stays p n s rule.or_of_none m = few_stay p _ _ refl refl s m
+
+coalesce_stays : {k : Context} (p : Place) {es : Exprs} {e' : Expr} → NoneGoes operation.Coalesce es → is_settled p operation.Coalesce es ≡ true → ExprRule k (Coalesce es) e' → MayBecome p (Coalesce es) e' → ⊥
+coalesce_stays p n s (rule.coalesce_changes q h) m = n _ (q, h)
+coalesce_stays p n s rule.coalesce_of_one m = few_stay p _ _ refl refl s m
+coalesce_stays p n s rule.coalesce_of_none m = few_stay p _ _ refl refl s m
+
+no_rule : (k : Context) (p : Place) (e : Expr) → has_operation e ≡ true → NoOperandGoes e → is_settled_node p e ≡ true → NoExprRule k p e
+no_rule k p (And es) h n s = λ e' q m. and_stays p n s q m
+no_rule k p (Or es) h n s = λ e' q m. or_stays p n s q m
+no_rule k p (Coalesce es) h n s = λ e' q m. coalesce_stays p n s q m
+no_rule k p _ h n s = absurd cc
+
+pub operands_stay : {r : Engine} {p : Place} {s : Progress} {e e' : Expr} → has_operation e ≡ true → NodeChange false e e' → is_settled_node p e' ≡ true → PassStep false r p s s e e'
+operands_stay {r = r} {p = p} {s = s} {e = e} h q i =
+    subst (λ a. PassStep false r p s s e a) (sym q.0)
+    (expr_stays {r = r} {p = p} (q.1 r) (no_answer e h) (λ _. no_name e s.known h) (λ _. no_rule (here r s) p e h q.2 (sym (ap (is_settled_node p) q.0) ∙ i)))
 
 pub operands_put : {r : Engine} {p : Place} {s s' : Progress} {e e1 e' : Expr} → e1 ≡ e → s'.is_dirty ≡ true → s'.known ≡ s.known → ExprRewrite p e1 e' → PassStep true r p s s' e e'
 operands_put h d k q = rewrite_passes d k (expr_rewrite_as (sym h) refl q)

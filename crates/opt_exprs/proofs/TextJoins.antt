@@ -1,5 +1,5 @@
 -- Parts of an interpolated text that go or are joined, in the list's own memory.
-use Rattle.std.proofs.Common.{◌≡◌, ◌<◌, ◌≤◌, ℕ, ◌+◌, ◌-◌, suc, inl, inr, Bool, true, not, nat_eq, [], ◌∷◌, ◌++◌, length, get_or, set, take, drop, refl, sym, ap, ◌∙◌, subst, arith}
+use Rattle.std.proofs.Common.{◌≡◌, ◌<◌, ◌≤◌, ℕ, ◌+◌, ◌-◌, suc, inl, inr, Bool, true, false, not, ◌||◌, nat_eq, [], ◌∷◌, ◌++◌, length, get_or, set, take, drop, refl, sym, ap, ◌∙◌, subst, arith}
 use Rattle.std.proofs.Math.Dec.{eqb}
 use Rattle.std.proofs.lemmas.Bool.Decides.{eqb_tells}
 use Rattle.std.proofs.lemmas.List.{append_assoc, append-nil, drop_more, drop_all, drop-drop, drop-set-lt, take_all, take-set-le, length-set, length-take-le, get_or-set_same, get_or_read, set-get_or}
@@ -13,7 +13,7 @@ use Rattle.theory_rewriting.specs.Steps.{Place, Anywhere, AsBase, AsGuard, MayBe
 use Rattle.opt_steps.specs.Passes.{InTurn, no_change, one_more}
 use Rattle.opt_steps.proofs.Listed.{Listed, answers, reduced}
 use Rattle.opt_steps.proofs.Passing.{Changes, turn_then, turns_pass}
-use Rattle.opt_exprs.specs.Parts.{Declared, is_text, written, is_empty_text, is_empty_value, is_empty_part, AreTexts, Joins, PutText, JoinedAt, PartsChange, NodeChange}
+use Rattle.opt_exprs.specs.Parts.{Declared, is_text, written, is_empty_text, is_empty_value, is_empty_part, first_goes, first_joins, any_changes, AreTexts, Joins, PutText, JoinedAt, Nowhere, PartsChange, NodeChange}
 
 -- ---- lists
 
@@ -70,35 +70,41 @@ part_goes _ es h = absurd cc
 
 -- ---- those that stay move down
 
-pub record Moving (all here : Declared) (at kept : ℕ) : Type 0 where
+-- where nothing went, p holds nowhere
+pub record Moving (p : Exprs → Bool) (all here : Declared) (at kept : ℕ) : Type 0 where
   pub to : InTurn TextTo (exprs_of all) (exprs_of (take kept here ++ drop at here))
   pub low : kept ≤ at
   pub len : length here ≡ length all
   pub inside : at ≤ length here
   pub same : kept ≡ at → here ≡ all
+  pub settled : kept ≡ at → Nowhere p all at
 
-pub moving_start : {all : Declared} → Moving all all 0 0
-moving_start = record { to = no_change; low = omega arith; len = refl; inside = omega arith; same = λ h. refl }
+pub moving_start : {p : Exprs → Bool} {all : Declared} → Moving p all all 0 0
+moving_start = record { to = no_change; low = omega arith; len = refl; inside = omega arith; same = λ h. refl; settled = λ h i lt. absurd (omega arith) }
 
-pub moving_skip : {all here : Declared} {at kept : ℕ} (x : declared_expr.Expr) → Moving all here at kept → at < length here → x ≡ get_or here at x → is_empty_part (expr_of x) ≡ true → Moving all here (at + 1) kept
-moving_skip {all = all} {here = here} {at = at} {kept = kept} x p lt h g = record {
+pub moving_skip : {p : Exprs → Bool} {all here : Declared} {at kept : ℕ} (x : declared_expr.Expr) → Moving p all here at kept → at < length here → x ≡ get_or here at x → is_empty_part (expr_of x) ≡ true → Moving p all here (at + 1) kept
+moving_skip {all = all} {here = here} {at = at} {kept = kept} x q lt h g = record {
   to =
       let rest = drop (at + 1) here in
       let e : take kept here ++ drop at here ≡ take kept here ++ x ∷ rest = ap (λ (z : Declared). take kept here ++ z) (item here at x lt h) in
-      one_more (turn_as refl (sym e) p.to) (in_front (take kept here) (x ∷ rest) rest (part_goes (expr_of x) (exprs_of rest) g));
-  low = omega (arith, p.low);
-  len = p.len;
+      one_more (turn_as refl (sym e) q.to) (in_front (take kept here) (x ∷ rest) rest (part_goes (expr_of x) (exprs_of rest) g));
+  low = omega (arith, q.low);
+  len = q.len;
   inside = omega arith;
-  same = λ e. absurd (omega (arith, p.low));
+  same = λ e. absurd (omega (arith, q.low));
+  settled = λ e. absurd (omega (arith, q.low));
 }
 
+nowhere_more : (p : Exprs → Bool) {xs : Declared} {n : ℕ} → Nowhere p xs n → p (exprs_of (drop n xs)) ≡ false → Nowhere p xs (n + 1)
+nowhere_more p {xs = xs} {n = n} h g = λ i lt. elim (eqb_tells i n) [ inl e ↦ ap (λ m. p (exprs_of (drop m xs))) e.1 ∙ g | inr e ↦ h i (omega (arith, e.1)) ]
+
 -- what stands from one place up to another is the part that moves down
-pub moving_more : {all here mid new : Declared} {at kept end : ℕ} (x : declared_expr.Expr) → Moving all here at kept → JoinedAt at end here mid → x ≡ get_or mid at x → take (kept + 1) new ≡ take kept mid ++ x ∷ [] → drop (at + 1) new ≡ drop (at + 1) mid → length new ≡ length mid → (kept ≡ at → new ≡ mid) → Moving all new end (kept + 1)
-moving_more {all = all} {here = here} {mid = mid} {new = new} {at = at} {kept = kept} {end = end} x p j h front back long stay =
+pub moving_more : {p : Exprs → Bool} {all here mid new : Declared} {at kept end : ℕ} (x : declared_expr.Expr) → Moving p all here at kept → JoinedAt p at end here mid → x ≡ get_or mid at x → take (kept + 1) new ≡ take kept mid ++ x ∷ [] → drop (at + 1) new ≡ drop (at + 1) mid → length new ≡ length mid → (kept ≡ at → new ≡ mid) → Moving p all new end (kept + 1)
+moving_more {p = p} {all = all} {here = here} {mid = mid} {new = new} {at = at} {kept = kept} {end = end} x q j h front back long stay =
     let part = j.part in
     let above : at < end = j.above in
     let inside : end ≤ length here = j.inside in
-    let low : kept ≤ at = p.low in
+    let low : kept ≤ at = q.low in
     let len : length mid ≡ length here = ap length j.put ∙ length-set here at part in
     let is : x ≡ part = h ∙ ap (λ (z : Declared). get_or z at x) j.put ∙ get_or-set_same here at part x (omega arith) in
     let before : take kept mid ≡ take kept here = ap (take kept) j.put ∙ take-set-le kept here at part low in
@@ -107,23 +113,32 @@ moving_more {all = all} {here = here} {mid = mid} {new = new} {at = at} {kept = 
     let e : take (kept + 1) new ++ drop end new ≡ take kept here ++ part ∷ drop end here =
     ap (λ (z : Declared). z ++ drop end new) front ∙ ap (λ (z : Declared). (z ++ x ∷ []) ++ drop end new) before ∙ ap (λ y. (take kept here ++ y ∷ []) ++ drop end new) is ∙ ap (λ (z : Declared). (take kept here ++ part ∷ []) ++ z) beyond ∙ append_assoc (take kept here) (part ∷ []) (drop end here) in
     record {
-      to = turn_as refl e (turn_then p.to (turn_in_front (take kept here) (drop at here) (part ∷ drop end here) j.joins));
+      to = turn_as refl e (turn_then q.to (turn_in_front (take kept here) (drop at here) (part ∷ drop end here) j.joins));
       low = omega arith;
-      len = long ∙ len ∙ p.len;
+      len = long ∙ len ∙ q.len;
       inside = omega arith;
-      same = λ q. let k : kept ≡ at = omega arith in let l : end ≡ at + 1 = omega arith in stay k ∙ j.same l ∙ p.same k;
+      same = λ z. let k : kept ≡ at = omega arith in let l : end ≡ at + 1 = omega arith in stay k ∙ j.same l ∙ q.same k;
+      settled = λ z.
+          let k : kept ≡ at = omega arith in
+          let l : end ≡ at + 1 = omega arith in
+          subst (Nowhere p all) (sym l) (nowhere_more p (q.settled k) (ap (λ (z : Declared). p (exprs_of (drop at z))) (sym (q.same k)) ∙ j.settled l));
     }
 
-pub moving_end : {all here new : Declared} {at kept : ℕ} → Moving all here at kept → at ≡ length all → new ≡ take kept here → PartsChange all new
-moving_end {all = all} {here = here} {new = new} {at = at} {kept = kept} p h e =
-    let low : kept ≤ at = p.low in
-    let len : length here ≡ length all = p.len in
+pub moving_end : {p : Exprs → Bool} {all here new : Declared} {at kept : ℕ} → Moving p all here at kept → at ≡ length all → new ≡ take kept here → PartsChange p all new
+moving_end {p = p} {all = all} {here = here} {new = new} {at = at} {kept = kept} q h e =
+    let low : kept ≤ at = q.low in
+    let len : length here ≡ length all = q.len in
     let long : length new ≡ kept = ap length e ∙ length-take-le kept here (omega arith) in
     record {
-      to = turn_as refl (e ∙ sym (append-nil (take kept here)) ∙ ap (λ (z : Declared). take kept here ++ z) (sym (drop_all at here (omega arith)))) p.to;
+      to = turn_as refl (e ∙ sym (append-nil (take kept here)) ∙ ap (λ (z : Declared). take kept here ++ z) (sym (drop_all at here (omega arith)))) q.to;
       short = omega arith;
-      same = λ n. e ∙ take_all kept here (omega arith) ∙ p.same (omega arith);
+      same = λ n. e ∙ take_all kept here (omega arith) ∙ q.same (omega arith);
+      settled = λ n. subst (Nowhere p all) h (q.settled (omega arith));
     }
+
+-- a part that is not empty stays
+pub first_stays : (xs : Declared) (n : ℕ) (x : declared_expr.Expr) → n < length xs → x ≡ get_or xs n x → is_empty_part (expr_of x) ≡ false → first_goes (exprs_of (drop n xs)) ≡ false
+first_stays xs n x lt h g = ap (λ (z : Declared). first_goes (exprs_of z)) (item xs n x lt h) ∙ g
 
 -- ---- texts that are joined
 
@@ -179,7 +194,7 @@ joined_more {xs = xs} {at = at} {i = i} {s = s} {t = t} x p le lt h g e = record
 
 -- ---- a text at the place of the first
 
-pub joined_at : {xs ys : Declared} {at end : ℕ} {t : Text} → PutText at t xs ys → Joins xs at end (StringConstant t) → at + 1 < end → end ≤ length xs → JoinedAt at end xs ys
+pub joined_at : {p : Exprs → Bool} {xs ys : Declared} {at end : ℕ} {t : Text} → PutText at t xs ys → Joins xs at end (StringConstant t) → at + 1 < end → end ≤ length xs → JoinedAt p at end xs ys
 joined_at {xs = xs} {at = at} {end = end} p q lt le = record {
   part = p.part;
   above = omega arith;
@@ -187,20 +202,22 @@ joined_at {xs = xs} {at = at} {end = end} p q lt le = record {
   put = p.put;
   joins = subst (Joins xs at end) (sym p.reads) q;
   same = λ e. absurd (omega arith);
+  settled = λ e. absurd (omega arith);
 }
 
-pub joined_long : {xs ys : Declared} {at end : ℕ} → JoinedAt at end xs ys → at < length ys
+pub joined_long : {p : Exprs → Bool} {xs ys : Declared} {at end : ℕ} → JoinedAt p at end xs ys → at < length ys
 joined_long {xs = xs} {at = at} p = omega (arith, ap length p.put ∙ length-set xs at p.part, p.above, p.inside)
 
 -- a part alone
-pub alone_at : {xs : Declared} {at end : ℕ} (x : declared_expr.Expr) → at < length xs → end ≡ at + 1 → x ≡ get_or xs at x → JoinedAt at end xs xs
-alone_at {xs = xs} {at = at} {end = end} x lt e h = record {
+pub alone_at : {p : Exprs → Bool} {xs : Declared} {at end : ℕ} (x : declared_expr.Expr) → at < length xs → end ≡ at + 1 → x ≡ get_or xs at x → p (exprs_of (drop at xs)) ≡ false → JoinedAt p at end xs xs
+alone_at {xs = xs} {at = at} {end = end} x lt e h g = record {
   part = x;
   above = omega arith;
   inside = omega arith;
   put = sym (ap (set xs at) h ∙ set-get_or xs at x);
   joins = subst (λ n. Joins xs at n (expr_of x)) (sym e) (join-one xs at x lt h);
   same = λ _. refl;
+  settled = λ _. g;
 }
 
 -- ---- at the node
@@ -221,21 +238,38 @@ text_stays AsGuard es es' = refl
 changes : Changes TextTo InterpolatedString
 changes = record { rule = λ k es es' q. rule.text_changes q; stays = text_stays; keeps = keeps_text }
 
-pub change_then : {xs ys zs : Declared} → PartsChange xs ys → PartsChange ys zs → PartsChange xs zs
-change_then p q = record {
+-- one pass after the other
+pub record PartsPass (xs ys : Declared) : Type 0 where
+  pub to : InTurn TextTo (exprs_of xs) (exprs_of ys)
+  pub same : length ys ≡ length xs → ys ≡ xs
+  pub settled : length ys ≡ length xs → any_changes (exprs_of xs) ≡ false
+
+or_false : (a b : Bool) → a ≡ false → b ≡ false → a || b ≡ false
+or_false true b h i = absurd cc
+or_false false b h i = i
+
+none_changes : (xs : Declared) → Nowhere first_goes xs (length xs) → Nowhere first_joins xs (length xs) → any_changes (exprs_of xs) ≡ false
+none_changes [] g j = refl
+none_changes (x ∷ xs) g j =
+    or_false _ _ (g 0 (omega arith)) (or_false _ _ (j 0 (omega arith)) (none_changes xs (λ i lt. g (suc i) (omega arith)) (λ i lt. j (suc i) (omega arith))))
+
+pub change_then : {xs ys zs : Declared} → PartsChange first_goes xs ys → PartsChange first_joins ys zs → PartsPass xs zs
+change_then {xs = xs} {ys = ys} {zs = zs} p q = record {
   to = turn_then p.to q.to;
-  short = omega (arith, p.short, q.short);
   same = λ e. q.same (omega (arith, p.short, q.short)) ∙ p.same (omega (arith, p.short, q.short));
+  settled = λ e.
+      let long : length ys ≡ length xs = omega (arith, p.short, q.short) in
+      none_changes xs (p.settled long) (subst (λ (z : Declared). Nowhere first_joins z (length z)) (p.same long) (q.settled (omega arith)));
 }
 
 went : (xs ys : Declared) → (length ys ≡ length xs → ⊥) → exprs_of xs ≡ exprs_of ys → ⊥
 went xs ys n e = n (sym (sym (count-of xs) ∙ ap count_exprs e ∙ count-of ys))
 
 -- whether any went, by the number of those that are left
-pub went_by : (xs ys : Declared) → PartsChange xs ys → (a b : ℕ) → a ≡ length ys → b ≡ length xs → NodeChange (not (nat_eq a b)) (InterpolatedString (exprs_of xs)) (InterpolatedString (exprs_of ys))
+pub went_by : (xs ys : Declared) → PartsPass xs ys → (a b : ℕ) → a ≡ length ys → b ≡ length xs → NodeChange (not (nat_eq a b)) (InterpolatedString (exprs_of xs)) (InterpolatedString (exprs_of ys))
 went_by xs ys p a b i j =
     let P = λ (t : Bool). NodeChange (not t) (InterpolatedString (exprs_of xs)) (InterpolatedString (exprs_of ys)) in
     elim (eqb_tells a b) [
-      | inl h ↦ subst P (sym h.0) (ap (λ (z : Declared). InterpolatedString (exprs_of z)) (p.same (sym i ∙ h.1 ∙ j)))
+      | inl h ↦ let e = sym i ∙ h.1 ∙ j in subst P (sym h.0) (ap (λ (z : Declared). InterpolatedString (exprs_of z)) (p.same e), p.settled e)
       | inr h ↦ subst P (sym h.0) (turns_pass changes p.to (went xs ys (λ e. h.1 (i ∙ e ∙ sym j))))
     ]

@@ -1,5 +1,5 @@
 -- The operands of `&&`, `||` and `??`, by their operator: which of them go, and what is left to reduce.
-use Rattle.std.specs.Prelude.{◌≡◌, ◌≤◌, ◌+◌, ℕ, Bool, true, false, not, List, [], ◌∷◌, ◌++◌, length, take, drop, Option, Some, None}
+use Rattle.std.specs.Prelude.{◌≡◌, ◌<◌, ◌≤◌, ◌+◌, ℕ, Bool, true, false, not, List, [], ◌∷◌, ◌++◌, length, take, drop, Option, Some, None}
 use Rattle.ast_types.specs.declared.expr.Expr as declared_expr
 use Rattle.rhai_base.specs.Value.{Value}
 use Rattle.theory_meaning.specs.Constants.{constant_value}
@@ -45,6 +45,9 @@ Change operation.Coalesce es es' = CoalesceTo es es'
 abbrev pub OneGoes : Operation → Exprs → Exprs → Type 0
 OneGoes o es es' = Change o es es' × (has_operands es' ≡ true)
 
+abbrev pub NoneGoes : Operation → Exprs → Type 0
+NoneGoes o es = (es' : Exprs) → OneGoes o es es' → ⊥
+
 -- one follows a constant that decides
 abbrev pub follows : Operation → Exprs → Bool
 follows operation.And es = follows_deciding false es
@@ -80,27 +83,35 @@ goes_before operation.Coalesce e = false
 abbrev pub GoBefore : Operation → Declared → ℕ → ℕ → Type 0
 GoBefore o xs from kept = (x : declared_expr.Expr) → decides o (expr_of x) ≡ true → InTurn (OneGoes o) (exprs_of (take kept xs ++ x ∷ [])) (exprs_of (take from xs ++ x ∷ []))
 
-abbrev pub NoneDecides : Operation → Declared → Type 0
-NoneDecides o [] = Unit {0}
-NoneDecides o (x ∷ xs) = (decides o (expr_of x) ≡ false) × NoneDecides o xs
+abbrev pub NoneIs : (Expr → Bool) → Declared → Type 0
+NoneIs p [] = Unit {0}
+NoneIs p (x ∷ xs) = (p (expr_of x) ≡ false) × NoneIs p xs
 
--- operands that are kept up to a place end at one that decides
+-- operands that are kept up to a place end at one that decides; where they are as many, all stay if those before it do
 pub record Ends (o : Operation) (at kept : ℕ) (xs ys : Declared) : Type 0 where
   pub to : InTurn (OneGoes o) (exprs_of (take kept xs ++ drop at xs)) (exprs_of ys)
-  pub settled : NoneDecides o (take kept xs) → follows o (exprs_of ys) ≡ false
+  pub settled : NoneIs (decides o) (take kept xs) → follows o (exprs_of ys) ≡ false
   pub short : length ys ≤ kept + 1
   pub same : length ys ≡ length xs → ys ≡ xs
+  pub stay : length ys ≡ length xs → NoneIs (decides o) (take kept xs) → (1 < length xs → NoneIs (goes_on o) (take kept xs)) → NoneGoes o (exprs_of xs)
 
--- some operands went, or none
+-- some operands went, or none, as none can
 pub record OperandsPass (o : Operation) (xs ys : Declared) : Type 0 where
   pub to : InTurn (OneGoes o) (exprs_of xs) (exprs_of ys)
   pub settled : follows o (exprs_of ys) ≡ false
   pub same : length ys ≡ length xs → ys ≡ xs
+  pub stay : length ys ≡ length xs → NoneGoes o (exprs_of xs)
 
--- of a node: whether any went; if none did, nothing is left to reduce there
+abbrev pub NoOperandGoes : Expr → Type 0
+NoOperandGoes (And es) = NoneGoes operation.And es
+NoOperandGoes (Or es) = NoneGoes operation.Or es
+NoOperandGoes (Coalesce es) = NoneGoes operation.Coalesce es
+NoOperandGoes _ = Unit {0}
+
+-- of a node: whether any went; if none did, nothing is left to reduce there, and none can
 abbrev pub NodeChange : Bool → Expr → Expr → Type 0
 NodeChange true e e' = NodePass e e'
-NodeChange false e e' = (e' ≡ e) × ((r : Engine) → IsReducedNode r (OfExpr e))
+NodeChange false e e' = (e' ≡ e) × ((r : Engine) → IsReducedNode r (OfExpr e)) × NoOperandGoes e
 
 -- ---- one operand, and none
 

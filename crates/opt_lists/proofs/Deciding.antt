@@ -1,6 +1,6 @@
 -- The steps of a sweep, on the list itself.
 use Rattle.std.proofs.Common.{◌≡◌, ◌<◌, ℕ, ◌+◌, ◌-◌, suc, Bool, true, false, [], ◌∷◌, Some, None, length, get_or, set, take, drop, refl, sym, ap, ◌∙◌, subst, arith}
-use Rattle.std.specs.Prelude.{◌&&◌, ◌||◌, not, Option, if◌then◌else◌}
+use Rattle.std.specs.Prelude.{◌&&◌, ◌||◌, not, if◌then◌else◌}
 use Rattle.std.proofs.lemmas.List.{drop_more, drop_all, drop-set, drop-set-add, drop-take, take-set, take-set-le, take-take, get_or-drop, get_or-set_other, get_or-take, length-drop, length-set, length-take-le}
 use Rattle.base_tokens.specs.declared.position.Position.{Position}
 use Rattle.ast_types.specs.declared.stmt.Stmt as declared_stmt
@@ -13,6 +13,7 @@ use Rattle.theory_meaning.specs.Tree.{Stmt, Noop, Return, no_expr, an_expr, Stmt
 use Rattle.ast_types.specs.Reading.{stmt_of, stmts_of, breaks, is_exported, stmt_of-Noop, stmt_of-Expr, stmt_of-Return}
 use Rattle.theory_rewriting.specs.Context.{ListKind, Whole, Inside, wanted}
 use Rattle.theory_rewriting.specs.Exports.{stmt_exports_nothing}
+use Rattle.theory_rewriting.specs.Normal.{AreSwept}
 use Rattle.theory_rewriting.specs.Rules.{is_pure_in}
 use Rattle.theory_rewriting.specs.SurelyUnit.{is_surely_unit}
 use Rattle.opt_lists.specs.declared.behind.Behind.{Behind}
@@ -25,6 +26,7 @@ use Rattle.opt_lists.specs.Sweep.{is_lone, is_quiet, AreQuiet, goes_as, goes_by,
 use Rattle.opt_lists.proofs.Closed.{and_true, unmarked, leaving-unmarked, closed-stays, closed-alone, closed-goes, nothing-is, nothing-behind, unwanted-before, unwanted-at, tail-is, tail-put}
 use Rattle.opt_lists.proofs.Idle.{not_idle}
 use Rattle.opt_lists.proofs.Sweeping.{no, none_some, all_of, decided_goes, decided_stays, decided_leaves, decided_bares, decided_fades, decided_noop, decided_quiets}
+use Rattle.opt_lists.proofs.Settling.{StaysBy, stays_by, none_before, loud_before, none_last, quiet_last, noop_settled, none_leaving, loud_leaving}
 
 -- ---- items of lists
 
@@ -48,7 +50,7 @@ pub item-same : (xs : Declared) (n : ℕ) (s d : declared_stmt.Stmt) → n < len
 item-same xs n s d lt h = same-head _ _ _ _ (sym (drop_more xs n d lt) ∙ drop_more xs n s lt) ∙ sym h
 
 -- what holds of the item at a place, whatever a look-up past the end gives
-pub there : (f : Stmt → Bool) (v : Bool) (xs : Declared) (n : ℕ) (s : declared_stmt.Stmt) → s ≡ get_or xs n s → ((d : declared_stmt.Stmt) → f (stmt_of (get_or xs n d)) ≡ v) → f (stmt_of s) ≡ v
+pub there : {A : Type 0} (f : Stmt → A) (v : A) (xs : Declared) (n : ℕ) (s : declared_stmt.Stmt) → s ≡ get_or xs n s → ((d : declared_stmt.Stmt) → f (stmt_of (get_or xs n d)) ≡ v) → f (stmt_of s) ≡ v
 there f v xs n s h q = ap (λ z. f (stmt_of z)) h ∙ q s
 
 -- by which rule it goes, if by one
@@ -76,12 +78,6 @@ by_its_rule going_kind.PureInside m b s = refl
 
 pub goes_so : (g : Going) (m : ListKind) (b : Bool) (s : Stmt) → goes_by m b s ≡ Some g → goes_as g m b s ≡ true
 goes_so g m b s h = sym (by_its_rule g m b s) ∙ taken (is_pure s) (is_lone s) (goes_inside m b s) g h
-
-pub impure : (m : ListKind) (b : Bool) (s : Stmt) → goes_by m b s ≡ None → is_pure s ≡ false
-impure m b s h = first (is_pure s) _ h where
-  first : (a : Bool) (o : Option Going) → (if a then Some going_kind.Pure else o) ≡ None → a ≡ false
-  first true o h = none_some (sym h)
-  first false o h = refl
 
 -- spelled otherwise
 pub decided_as : {m : ListKind} {b : Behind} {ss ss' rest rest' : Stmts} → ss' ≡ ss → rest' ≡ rest → DecidedTo m b ss rest → DecidedTo m b ss' rest'
@@ -121,13 +117,31 @@ step_marked {m = m} {n = n} {xs = xs} {new = new} {b = b} g lt p w q =
 
 -- ---- a statement that stays, whose value is not wanted
 
-pub step_stays : {m : ListKind} {n : ℕ} {xs : Declared} {b : Behind} (s : declared_stmt.Stmt) → n < length xs → s ≡ get_or xs n s → is_control_flow_break (stmt_of s) ≡ false → is_pure (stmt_of s) ≡ false → Step m n xs xs b (record { is_last = false; fading = None; is_quiet = false; has_changed = b.has_changed; is_bared = b.is_bared })
-step_stays {m = m} {n = n} {xs = xs} s lt h q e = record {
+-- what is kept behind it is settled where it stands
+abbrev SettlesBehind : ListKind → ℕ → Declared → Behind → declared_stmt.Stmt → Type 0
+SettlesBehind m n xs b s =
+    let rest = kept m (drop (n + 1) xs) in
+    (ss : Stmts) → DecidedTo m b ss rest → b.has_changed ≡ false → (rest ≡ no_stmts → wanted m ≡ false) × AreSwept m (is_surely_unit (stmt_of s)) rest
+
+step_kept : {m : ListKind} {n : ℕ} {xs : Declared} {b : Behind} (s : declared_stmt.Stmt) → n < length xs → s ≡ get_or xs n s → is_control_flow_break (stmt_of s) ≡ false → goes_by m b.is_quiet (stmt_of s) ≡ None → SettlesBehind m n xs b s → Step m n xs xs b (record { is_last = false; fading = None; is_quiet = false; has_changed = b.has_changed; is_bared = b.is_bared })
+step_kept {m = m} {n = n} {xs = xs} {b = b} s lt h q g behind = record {
   front = refl;
   long = lt;
   same = λ z. (z, refl);
-  to = λ ss f. decided_as (headed-item xs n s ss lt h) (kept-item m xs n s lt h (unmarked (stmt_of s) e)) (decided_stays None false f q (λ _. not_idle (stmt_of s) e) (λ x z. none_some z) (λ z. no z));
+  to = λ ss f.
+      let y : StaysBy m b.is_quiet (stmt_of s) = stays_by m b.is_quiet (stmt_of s) g in
+      decided_as (headed-item xs n s ss lt h) (kept-item m xs n s lt h (unmarked (stmt_of s) y.acts)) (decided_stays None false f q
+      (λ _. not_idle (stmt_of s) y.acts)
+      (λ x z. none_some z)
+      (λ z. no z)
+      (λ z. loud_before (stmt_of s) (kept m (drop (n + 1) xs)) y.inside (f.hears z))
+      (λ z _ u. let a = behind ss f z in (λ k ss' r. none_before q y (f.hears z) a.0 r, a.1)));
 }
+
+-- none behind it fades
+pub step_stays : {m : ListKind} {n : ℕ} {xs : Declared} {b : Behind} (s : declared_stmt.Stmt) → n < length xs → s ≡ get_or xs n s → is_control_flow_break (stmt_of s) ≡ false → goes_by m b.is_quiet (stmt_of s) ≡ None → b.is_last && wanted m ≡ false → b.fading ≡ None → Step m n xs xs b (record { is_last = false; fading = None; is_quiet = false; has_changed = b.has_changed; is_bared = b.is_bared })
+step_stays {m = m} {n = n} {xs = xs} {b = b} s lt h q g w e =
+    step_kept s lt h q g (λ ss f z. (λ none. sym (ap (λ l. l && wanted m) (f.last ∙ ap is_nothing none)) ∙ w, f.settled z e (is_surely_unit (stmt_of s))))
 
 -- ---- the last one of a wanted list, which stays
 
@@ -162,7 +176,9 @@ step_last {m = m} {n = n} {xs = xs} {b = b} s lt h q l w = record {
       decided_as (headed-item xs n s ss lt h) here (decided_stays (unit_fades m (stmt_of s)) (is_quiet (stmt_of s)) f q
       (λ z. no (sym z ∙ l))
       (λ x z. (w, (stmt_of s, alone, unit-fades m (stmt_of s) x z)))
-      (λ z. subst AreQuiet (sym alone) (quiet-alone (stmt_of s) z)));
+      (λ z. subst AreQuiet (sym alone) (quiet-alone (stmt_of s) z))
+      (λ z. quiet_last (stmt_of s) (kept m rest))
+      (λ z e u. subst (AreSwept m u) (sym alone) (λ k ss' r. none_last q w e r, tt)));
 }
 
 loud-acts : (s : Stmt) → is_quiet s ≡ false → is_noop s ≡ false
@@ -236,7 +252,7 @@ step_leaves {m = m} {n = n} {xs = xs} {new = new} {b = b} s lt h e q r =
       same = λ z. leaves-same b.has_changed b.is_last xs n z;
       to = λ ss f.
           decided_as (headed-item xs n s ss lt h) (leaves-kept m b.is_last xs n s lt h (leaving-unmarked (stmt_of s) q) f.last)
-          (decided_leaves (return_fades m (stmt_of s)) f q r (λ x z. return-fades m (stmt_of s) x z));
+          (decided_leaves (return_fades m (stmt_of s)) f q r (λ x z. return-fades m (stmt_of s) x z) (loud_leaving (stmt_of s) no_stmts q) (λ e u. (λ k ss' y. none_leaving q r e y, tt)));
     })
 
 -- ---- a last `return e`
@@ -300,6 +316,21 @@ last-kept-is m xs n t d w e =
     let count : suc k ≡ length (drop n xs) = omega arith in
     let there : n + k ≡ length xs - 1 = omega (arith, length-drop n xs) in
     sym (ap stmt_of (get_or-drop n xs k d ∙ ap (λ v. get_or xs v d) there)) ∙ tail-is (drop n xs) k t d count only
+
+noop-is : (s : Stmt) → is_noop s ≡ true → s ≡ Noop
+noop-is Noop h = refl
+noop-is _ h = no h
+
+-- a statement that may be something else than unit stays before a last `Noop`
+pub step_before_noop : {m : ListKind} {n : ℕ} {xs : Declared} {b : Behind} (x : Fading) (s t : declared_stmt.Stmt) → n < length xs → s ≡ get_or xs n s → t ≡ get_or xs (length xs - 1) t → b.fading ≡ Some x → is_noop (stmt_of t) ≡ true → is_surely_unit (stmt_of s) ≡ false → is_control_flow_break (stmt_of s) ≡ false → goes_by m b.is_quiet (stmt_of s) ≡ None → Step m n xs xs b (record { is_last = false; fading = None; is_quiet = false; has_changed = b.has_changed; is_bared = b.is_bared })
+step_before_noop {m = m} {n = n} {xs = xs} {b = b} x s t lt h i z y u q g =
+    step_kept s lt h q g (λ ss f _.
+    let w = (f.fading x z).0 in
+    let t' = (f.fading x z).1.0 in
+    let only : kept m (drop (n + 1) xs) ≡ stmt t' no_stmts = (f.fading x z).1.1 in
+    let is_t : t' ≡ stmt_of t = sym (last-kept-is m xs (n + 1) t' t w only) ∙ ap stmt_of (sym i) in
+    let noop : kept m (drop (n + 1) xs) ≡ stmt Noop no_stmts = only ∙ ap (λ v. stmt v no_stmts) (is_t ∙ noop-is (stmt_of t) y) in
+    (λ none. no (ap is_nothing (sym only ∙ none)), subst (AreSwept m (is_surely_unit (stmt_of s))) (sym noop) (subst (λ v. AreSwept m v (stmt Noop no_stmts)) (sym u) (noop_settled w))))
 
 pub noop-kept : (m : ListKind) (xs : Declared) (n : ℕ) (t : Stmt) (p : Position) → wanted m ≡ true → kept m (drop n xs) ≡ stmt t no_stmts → kept m (drop n (set xs (length xs - 1) (noop_at p))) ≡ stmt Noop no_stmts
 noop-kept m xs n t p w e =

@@ -1,5 +1,5 @@
 -- The rules of lists at what is kept from a place on.
-use Rattle.std.proofs.Common.{◌≡◌, ◌<◌, ℕ, ◌+◌, ◌-◌, Bool, true, false, [], length, get_or, set, take, drop, refl, sym, ap, ◌∙◌, subst, arith}
+use Rattle.std.proofs.Common.{◌≡◌, ◌<◌, ℕ, ◌+◌, ◌-◌, Bool, true, false, length, get_or, take, drop, refl, sym, ap, ◌∙◌, subst, arith}
 use Rattle.std.proofs.lemmas.List.{drop_all, drop-set, length-take}
 use Rattle.ast_types.specs.Defaults.{nowhere}
 use Rattle.ast_types.specs.declared.stmt.Stmt as declared_stmt
@@ -11,9 +11,8 @@ use Rattle.theory_rewriting.specs.Context.{Context, ListKind, Whole, Inside, wan
 use Rattle.theory_rewriting.specs.Rules as rule
 use Rattle.theory_rewriting.specs.Rules.{ListRule}
 use Rattle.opt_lists.specs.declared.behind.Fading.{Fading}
-use Rattle.opt_lists.specs.declared.behind.Fading.TheVariants as fading_kind
 use Rattle.opt_lists.specs.Steps.{Declared, BaredAt, Fires, FiresBehindUnit, MarkedAt, kept}
-use Rattle.opt_lists.specs.Sweep.{FadesAlone, bared, is_nothing, returns_nothing, whole_returns_value, closed_up}
+use Rattle.opt_lists.specs.Sweep.{FadesAlone, bared, is_nothing, returns_nothing, whole_returns_value}
 use Rattle.opt_lists.proofs.Closed.{closed-stays, leaving-unmarked, nothing-is}
 use Rattle.opt_lists.proofs.Deciding.{cut-item, item-is, kept-item, last-kept, last-kept-is, none-after, noop-kept}
 use Rattle.opt_lists.proofs.Sweeping.{fades_at, no, noop_at}

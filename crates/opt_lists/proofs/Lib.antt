@@ -5,5 +5,6 @@ pub mod Idle
 pub mod Kept
 pub mod Marked
 pub mod Others
+pub mod Settling
 pub mod Sweeping
 pub mod Whole

@@ -9,8 +9,9 @@ use Rattle.theory_rewriting.proofs.Clearing.{claimed, unclaimed, within, pure_cl
 use Rattle.theory_rewriting.proofs.Evals.{pure_keeps}
 use Rattle.theory_rewriting.specs.Evals.{keeps_names}
 use Rattle.theory_rewriting.specs.Residue.{when}
-use Rattle.theory_rewriting.specs.Context.{Context, behind, known_behind, ListKind, Whole, Inside, wanted, wanted_before}
+use Rattle.theory_rewriting.specs.Context.{Context, ListContext, behind, known_behind, ListKind, Whole, Inside, wanted, wanted_before}
 use Rattle.theory_rewriting.specs.Reducible.{is_idle, ends_in_return}
+use Rattle.theory_rewriting.specs.Normal.{AreSwept}
 use Rattle.theory_rewriting.specs.Rewriting.{RestTo, same_stmts, then_stmts, by_list_rule, in_tail}
 use Rattle.theory_rewriting.specs.Rules as rule
 use Rattle.theory_rewriting.specs.Rules.{is_pure_in, ListRule}
@@ -20,7 +21,7 @@ use Rattle.opt_lists.specs.declared.behind.Fading.{Fading}
 use Rattle.opt_lists.specs.declared.behind.Fading.TheVariants as fading_kind
 use Rattle.opt_lists.specs.declared.behind.Going.{Going}
 use Rattle.opt_lists.specs.declared.behind.Going.TheVariants as going_kind
-use Rattle.opt_lists.specs.Sweep.{is_lone, goes_as, returns_value, returns_nothing, fades_as, is_nothing, returns_at_end, keeps_none, keeps, skips, keeps_noop, keeps_bared, IsSwept, AreQuiet, FadesAlone, DecidedTo}
+use Rattle.opt_lists.specs.Sweep.{is_lone, goes_as, returns_value, returns_nothing, fades_as, is_nothing, returns_at_end, keeps_none, keeps, skips, keeps_noop, keeps_bared, IsSwept, AreQuiet, HearsQuiet, FadesAlone, DecidedTo}
 
 pub no : {A : Type 0} → false ≡ true → A
 no h = absurd (let z : false ≡ true = h in cc)
@@ -70,10 +71,10 @@ noop_rule fading_kind.LastUnit m t h n = all_of (is_pure_in m t) _ h (λ p q. ru
 -- ---- derivations
 
 -- one more rule after a rewriting of those behind
-then_rule : {m : ListKind} {b : Behind} {s : Stmt} {ss rest new : Stmts} → DecidedTo m b ss rest → ((k : Context) (u : Bool) → ListRule k m u (stmt s rest) new) → (k : Context) (u d : Bool) → RestTo k m u d true (stmt s ss) new
-then_rule {s = s} f r k u d = then_stmts (in_tail (f.to (behind s k) (is_surely_unit s) d)) (by_list_rule (r k u))
+then_rule : {m : ListKind} {b : Behind} {s : Stmt} {ss rest new : Stmts} → DecidedTo m b ss rest → ((k : Context) (u : Bool) → ListRule k m u (stmt s rest) new) → (k : ListContext) (u d : Bool) → RestTo k m u d true (stmt s ss) new
+then_rule {s = s} f r k u d = then_stmts (in_tail (f.to (behind s k) (is_surely_unit s) d)) (by_list_rule (r k.context u))
 
-behind_it : {m : ListKind} {b : Behind} {ss rest : Stmts} (s : Stmt) → DecidedTo m b ss rest → (k : Context) (u d : Bool) → RestTo k m u d (b.has_changed || d) (stmt s ss) (stmt s rest)
+behind_it : {m : ListKind} {b : Behind} {ss rest : Stmts} (s : Stmt) → DecidedTo m b ss rest → (k : ListContext) (u d : Bool) → RestTo k m u d (b.has_changed || d) (stmt s ss) (stmt s rest)
 behind_it s f k u d = in_tail (f.to (behind s k) (is_surely_unit s) d)
 
 -- ---- what is left to decide in what is kept
@@ -104,7 +105,7 @@ stays_no_return Whole (Return throws exported e) h = no (sym h)
 stays_no_return Whole _ h = refl
 stays_no_return (Inside b) s h = refl
 
-unit_stays : (s : Stmt) → is_surely_unit s ≡ true → is_control_flow_break s ≡ false
+pub unit_stays : (s : Stmt) → is_surely_unit s ≡ true → is_control_flow_break s ≡ false
 unit_stays (Return throws exported e) h = no h
 unit_stays (BreakLoop breaks exported e) h = no h
 unit_stays _ h = refl
@@ -138,6 +139,8 @@ decided_start {m = m} = record {
   last = refl;
   fading = λ x h. none_some h;
   quiet = λ h. (refl, refl);
+  hears = λ z w e h. refl;
+  settled = λ z e u. tt;
 }
 
 -- ---- a statement that goes, since its value is not wanted
@@ -172,12 +175,14 @@ decided_goes {m = m} {b = b} {s = s} {rest = rest} g f w h = record {
   last = f.last;
   fading = f.fading;
   quiet = f.quiet;
+  hears = λ z. no (sym z);
+  settled = λ z. no (sym z);
 }
 
 -- ---- a statement that stays, and does not leave the list
 
-pub decided_stays : {m : ListKind} {b : Behind} {s : Stmt} {ss rest : Stmts} (fades : Option Fading) (quiet : Bool) → DecidedTo m b ss rest → is_control_flow_break s ≡ false → (b.is_last ≡ false → is_idle s ≡ false) → ((x : Fading) → fades ≡ Some x → FadesAlone m x (stmt s rest)) → (quiet ≡ true → AreQuiet (stmt s rest)) → DecidedTo m (record { is_last = false; fading = fades; is_quiet = quiet; has_changed = b.has_changed; is_bared = b.is_bared }) (stmt s ss) (stmt s rest)
-decided_stays {m = m} {b = b} {s = s} {rest = rest} fades quiet f h i g p = record {
+pub decided_stays : {m : ListKind} {b : Behind} {s : Stmt} {ss rest : Stmts} (fades : Option Fading) (quiet : Bool) → DecidedTo m b ss rest → is_control_flow_break s ≡ false → (b.is_last ≡ false → is_idle s ≡ false) → ((x : Fading) → fades ≡ Some x → FadesAlone m x (stmt s rest)) → (quiet ≡ true → AreQuiet (stmt s rest)) → (b.has_changed ≡ false → HearsQuiet m quiet (stmt s rest)) → (b.has_changed ≡ false → fades ≡ None → (u : Bool) → AreSwept m u (stmt s rest)) → DecidedTo m (record { is_last = false; fading = fades; is_quiet = quiet; has_changed = b.has_changed; is_bared = b.is_bared }) (stmt s ss) (stmt s rest)
+decided_stays {m = m} {b = b} {s = s} {rest = rest} fades quiet f h i g p o a = record {
   to = behind_it s f;
   kept = keeps f.kept;
   clear = λ z ks c. (c.0, within (keeps_names s) (f.clear z _) c.1);
@@ -186,11 +191,13 @@ decided_stays {m = m} {b = b} {s = s} {rest = rest} fades quiet f h i g p = reco
   last = refl;
   fading = g;
   quiet = p;
+  hears = o;
+  settled = a;
 }
 
 -- ---- one that leaves the list: those behind it go
 
-leaves_to : {k : Context} {m : ListKind} {u d : Bool} (c l : Bool) {s : Stmt} {ss : Stmts} (rest : Stmts) → l ≡ is_nothing rest → is_control_flow_break s ≡ true → RestTo k m u d (c || d) (stmt s ss) (stmt s rest) → RestTo k m u d ((c || not l) || d) (stmt s ss) (stmt s no_stmts)
+leaves_to : {k : ListContext} {m : ListKind} {u d : Bool} (c l : Bool) {s : Stmt} {ss : Stmts} (rest : Stmts) → l ≡ is_nothing rest → is_control_flow_break s ≡ true → RestTo k m u d (c || d) (stmt s ss) (stmt s rest) → RestTo k m u d ((c || not l) || d) (stmt s ss) (stmt s no_stmts)
 leaves_to true l no_stmts e h p = p
 leaves_to false true no_stmts e h p = p
 leaves_to false false no_stmts e h p = no e
@@ -198,8 +205,8 @@ leaves_to true l (stmt t rest) e h p = then_stmts p (by_list_rule (rule.after_le
 leaves_to false false (stmt t rest) e h p = then_stmts p (by_list_rule (rule.after_leave h))
 leaves_to false true (stmt t rest) e h p = no (sym e)
 
-pub decided_leaves : {m : ListKind} {b : Behind} {s : Stmt} {ss rest : Stmts} (fades : Option Fading) → DecidedTo m b ss rest → is_control_flow_break s ≡ true → returns_value m s ≡ false → ((x : Fading) → fades ≡ Some x → FadesAlone m x (stmt s no_stmts)) → DecidedTo m (record { is_last = false; fading = fades; is_quiet = false; has_changed = b.has_changed || not b.is_last; is_bared = false }) (stmt s ss) (stmt s no_stmts)
-decided_leaves {m = m} {b = b} {s = s} {rest = rest} fades f h r g = record {
+pub decided_leaves : {m : ListKind} {b : Behind} {s : Stmt} {ss rest : Stmts} (fades : Option Fading) → DecidedTo m b ss rest → is_control_flow_break s ≡ true → returns_value m s ≡ false → ((x : Fading) → fades ≡ Some x → FadesAlone m x (stmt s no_stmts)) → HearsQuiet m false (stmt s no_stmts) → (fades ≡ None → (u : Bool) → AreSwept m u (stmt s no_stmts)) → DecidedTo m (record { is_last = false; fading = fades; is_quiet = false; has_changed = b.has_changed || not b.is_last; is_bared = false }) (stmt s ss) (stmt s no_stmts)
+decided_leaves {m = m} {b = b} {s = s} {rest = rest} fades f h r g o a = record {
   to = λ k u d. leaves_to b.has_changed b.is_last rest f.last h (behind_it s f k u d);
   kept = keeps keeps_none;
   clear = λ z ks c. (c.0, unclaimed (keeps_names s) tt);
@@ -208,11 +215,13 @@ decided_leaves {m = m} {b = b} {s = s} {rest = rest} fades f h r g = record {
   last = refl;
   fading = g;
   quiet = λ x. no x;
+  hears = λ z. o;
+  settled = λ z. a;
 }
 
 -- a last `return e` becomes `e`
 
-bares_to : {k : Context} {u d d1 exported : Bool} {e : Expr} {ss : Stmts} (rest : Stmts) → RestTo k Whole u d d1 (stmt (Return false exported (an_expr e)) ss) (stmt (Return false exported (an_expr e)) rest) → RestTo k Whole u d true (stmt (Return false exported (an_expr e)) ss) (stmt (ExprStmt e) no_stmts)
+bares_to : {k : ListContext} {u d d1 exported : Bool} {e : Expr} {ss : Stmts} (rest : Stmts) → RestTo k Whole u d d1 (stmt (Return false exported (an_expr e)) ss) (stmt (Return false exported (an_expr e)) rest) → RestTo k Whole u d true (stmt (Return false exported (an_expr e)) ss) (stmt (ExprStmt e) no_stmts)
 bares_to no_stmts p = then_stmts p (by_list_rule rule.last_return)
 bares_to (stmt t rest) p = then_stmts p (then_stmts (by_list_rule (rule.after_leave refl)) (by_list_rule rule.last_return))
 
@@ -226,6 +235,8 @@ decided_bares {b = b} {exported = exported} {e = e} {rest = rest} f = record {
   last = refl;
   fading = λ x h. none_some h;
   quiet = λ h. no h;
+  hears = λ z. no (sym z);
+  settled = λ z. no (sym z);
 }
 
 -- ---- the one behind fades
@@ -247,6 +258,8 @@ decided_fades {m = m} {s = s} x f h q = record {
   last = refl;
   fading = λ x h. none_some h;
   quiet = λ h. no h;
+  hears = λ z. no (sym z);
+  settled = λ z. no (sym z);
 }
 
 -- behind another one it does nothing
@@ -263,6 +276,8 @@ decided_noop {m = m} {s = s} {t = t} x f h e n q i =
       last = refl;
       fading = λ x h. none_some h;
       quiet = λ h. no h;
+      hears = λ z. no (sym z);
+      settled = λ z. no (sym z);
     }
 
 -- the last one does nothing at once
@@ -281,10 +296,12 @@ decided_quiets {m = m} {s = s} f w h n = record {
   last = refl;
   fading = λ y e. (w, (Noop, refl, noop-fades m y e));
   quiet = λ z. (refl, refl);
+  hears = λ z. no (sym z);
+  settled = λ z. no (sym z);
 }
 
 -- at the start of a list it goes
-pub decided_ends : {m : ListKind} {b : Behind} {ss rest : Stmts} (x : Fading) → DecidedTo m b ss rest → b.fading ≡ Some x → (k : Context) (d : Bool) → RestTo k m true d true ss no_stmts
+pub decided_ends : {m : ListKind} {b : Behind} {ss rest : Stmts} (x : Fading) → DecidedTo m b ss rest → b.fading ≡ Some x → (k : ListContext) (d : Bool) → RestTo k m true d true ss no_stmts
 decided_ends {m = m} x f h k d = then_stmts (f.to k true d) (by_list_rule (fades_at x m refl (f.fading x h)))
 
 pub swept_empty : (m : ListKind) → IsSwept m no_stmts

@@ -10,7 +10,8 @@ use Rattle.theory_meaning.specs.Engine.{Engine}
 use Rattle.theory_meaning.specs.Tree.{Stmts}
 use Rattle.ast_types.specs.Reading.{stmts_of}
 use Rattle.theory_rewriting.specs.Clear.{AreClear}
-use Rattle.theory_rewriting.specs.Context.{under, ListKind}
+use Rattle.theory_rewriting.specs.Context.{open_list, under, ListKind}
+use Rattle.theory_rewriting.specs.Normal.{AreSwept}
 use Rattle.theory_rewriting.specs.Rewriting.{RestTo, same_stmts}
 use Rattle.theory_rewriting.proofs.Flags.{stmts_kept}
 use Rattle.opt_lists.specs.declared.behind.Behind.{Behind}
@@ -85,13 +86,14 @@ sweeps_faded {m = m} {old = old} {now = now} {new = new} {b = b} x p h e =
       bared = λ z. refl;
       same = λ z. no (sym z);
       moved = λ z. refl;
+      settled = λ z. no (sym z);
     })
 
-pub sweeps_same : {m : ListKind} {old now : Declared} {b : Behind} → Decided m old now b → b.has_changed ≡ false → Sweeps m old now (record { has_changed = false; is_bared = b.is_bared; moved = 0 })
-sweeps_same {m = m} {old = old} {now = now} {b = b} p h =
+pub sweeps_same : {m : ListKind} {old now : Declared} {b : Behind} → Decided m old now b → b.fading ≡ None → b.has_changed ≡ false → Sweeps m old now (record { has_changed = false; is_bared = b.is_bared; moved = 0 })
+sweeps_same {m = m} {old = old} {now = now} {b = b} p f h =
     let after : Swept = record { has_changed = false; is_bared = b.is_bared; moved = 0 } in
     let e = p.same h in
-    let q : stmts_of old ≡ kept m now = (stmts_kept (p.decided.to (under some_engine) true false) (ap (λ c. c || false) h)).1 in
+    let q : stmts_of old ≡ kept m now = (stmts_kept (p.decided.to (open_list (under some_engine)) true false) (ap (λ c. c || false) h)).1 in
     let back : kept m now ≡ stmts_of now = sym q ∙ sym (ap stmts_of e) in
     record {
       to = λ k d. subst (λ z. RestTo k m true d d (stmts_of old) (stmts_of z)) (sym e) same_stmts;
@@ -101,6 +103,7 @@ sweeps_same {m = m} {old = old} {now = now} {b = b} p h =
       bared = λ z. no (sym h ∙ p.decided.bared z);
       same = λ z. (e, refl);
       moved = λ z. no z;
+      settled = λ z. subst (AreSwept m true) back (p.decided.settled h f true);
     }
 
 pub sweeps_closed : {m : ListKind} {old now new : Declared} {b : Behind} (n : ℕ) → Decided m old now b → b.has_changed ≡ true → stmts_of new ≡ kept m now → n ≡ length new → Sweeps m old new (record { has_changed = true; is_bared = b.is_bared; moved = n })
@@ -112,4 +115,5 @@ sweeps_closed {m = m} {old = old} {now = now} {new = new} {b = b} n p h e c = re
   bared = λ z. refl;
   same = λ z. no (sym z);
   moved = λ z. c;
+  settled = λ z. no (sym z);
 }

@@ -7,7 +7,8 @@ use Rattle.theory_meaning.specs.Tree.{Stmts, stmt}
 use Rattle.ast_types.specs.Reading.{stmt_of, stmts_of}
 use Rattle.theory_rewriting.specs.Clear.{AreClear}
 use Rattle.theory_rewriting.specs.Known.{Known}
-use Rattle.theory_rewriting.specs.Context.{Context, ListKind, wanted}
+use Rattle.theory_rewriting.specs.Normal.{AreSwept}
+use Rattle.theory_rewriting.specs.Context.{Context, ListContext, ListKind, wanted}
 use Rattle.theory_rewriting.specs.Rewriting.{RestTo}
 use Rattle.theory_rewriting.specs.Rules.{ListRule}
 use Rattle.opt_lists.specs.Sweep.{DecidedTo, IsSwept, Keeps, bared, closed_up}
@@ -69,12 +70,14 @@ pub record Decided (m : ListKind) (old new : Declared) (b : Behind) : Type 0 whe
   pub decided : DecidedTo m b (stmts_of old) (kept m new)
 
 -- what a sweep promises: a derivation in every context, that nothing is left of what it decides, which statements are kept, that no `if`
--- tests a known name where none did, and how many it moved
+-- tests a known name where none did, and how many it moved; where it changes nothing, that no rule of lists applies but that by which a
+-- block gives way
 pub record Sweeps (m : ListKind) (old new : Declared) (s : Swept) : Type 0 where
-  pub to : (k : Context) (d : Bool) → RestTo k m true d (s.has_changed || d) (stmts_of old) (stmts_of new)
+  pub to : (k : ListContext) (d : Bool) → RestTo k m true d (s.has_changed || d) (stmts_of old) (stmts_of new)
   pub swept : IsSwept m (stmts_of new)
   pub kept : Keeps s.is_bared (stmts_of old) (stmts_of new)
   pub clear : s.is_bared ≡ false → (ks : List Known) → AreClear ks (stmts_of old) → AreClear ks (stmts_of new)
   pub bared : s.is_bared ≡ true → s.has_changed ≡ true
   pub same : s.has_changed ≡ false → (new ≡ old) × (s.moved ≡ 0)
   pub moved : s.has_changed ≡ true → s.moved ≡ length new
+  pub settled : s.has_changed ≡ false → AreSwept m true (stmts_of new)

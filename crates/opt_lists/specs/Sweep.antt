@@ -5,7 +5,8 @@ use Rattle.theory_meaning.specs.Tree.{Expr, Variable, Stmt, Noop, ExprStmt, Retu
 use Rattle.theory_rewriting.specs.Clear.{AreClear}
 use Rattle.theory_rewriting.specs.Exports.{exports_nothing, stmt_exports_nothing}
 use Rattle.theory_rewriting.specs.Known.{Known}
-use Rattle.theory_rewriting.specs.Context.{Context, ListKind, Whole, Inside, wanted, wanted_before}
+use Rattle.theory_rewriting.specs.Normal.{AreSwept}
+use Rattle.theory_rewriting.specs.Context.{ListContext, ListKind, Whole, Inside, wanted, wanted_before}
 use Rattle.theory_rewriting.specs.Reducible.{goes_on_after_leaving, idles, ends_in_return}
 use Rattle.theory_rewriting.specs.Rewriting.{RestTo}
 use Rattle.theory_rewriting.specs.Rules.{is_pure_in}
@@ -119,9 +120,14 @@ AreQuiet ss = (are_internally_pure ss ≡ true) × (exports_nothing ss ≡ true)
 abbrev pub FadesAlone : ListKind → Fading → Stmts → Type 0
 FadesAlone m x rest = (wanted m ≡ true) × ((t : Stmt) × (rest ≡ stmt t no_stmts) × (fades_as x m t ≡ true))
 
--- these statements are decided, from their end: the rest of them is kept
+-- the test says so where these statements are quiet, inside a list
+abbrev pub HearsQuiet : ListKind → Bool → Stmts → Type 0
+HearsQuiet m quiet rest = (w : Bool) → m ≡ Inside w → AreQuiet rest → quiet ≡ true
+
+-- these statements are decided, from their end: the rest of them is kept. Where nothing has changed, no rule of lists applies at one that is
+-- kept but that by which a block gives way; one that fades is to be decided where it is known what stands before it
 pub record DecidedTo (m : ListKind) (b : Behind) (ss rest : Stmts) : Type 0 where
-  pub to : (k : Context) (u d : Bool) → RestTo k m u d (b.has_changed || d) ss rest
+  pub to : (k : ListContext) (u d : Bool) → RestTo k m u d (b.has_changed || d) ss rest
   pub kept : Keeps b.is_bared ss rest
   pub clear : b.is_bared ≡ false → (ks : List Known) → AreClear ks ss → AreClear ks rest
   pub bared : b.is_bared ≡ true → b.has_changed ≡ true
@@ -129,6 +135,8 @@ pub record DecidedTo (m : ListKind) (b : Behind) (ss rest : Stmts) : Type 0 wher
   pub last : b.is_last ≡ is_nothing rest
   pub fading : (x : Fading) → b.fading ≡ Some x → FadesAlone m x rest
   pub quiet : b.is_quiet ≡ true → AreQuiet rest
+  pub hears : b.has_changed ≡ false → HearsQuiet m b.is_quiet rest
+  pub settled : b.has_changed ≡ false → b.fading ≡ None → (u : Bool) → AreSwept m u rest
 
 -- ---- a list in which what goes is marked by a `Noop` whose value is not wanted
 

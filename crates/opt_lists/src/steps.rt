@@ -159,8 +159,9 @@ fn stay_before_fading(
     requires inside { at < length list.old }
     requires fades { behind.fading ≡ Some fading }
     requires stays { (d : Stmt) → queries.is_control_flow_break (stmt_of (slice_index_or list.old at d)) ≡ false }
-    requires impure { (d : Stmt) → queries.is_pure (stmt_of (slice_index_or list.old at d)) ≡ false }
-    ensures { (mark : ListMark) → Step (mark_of mark) at list.old list.new behind result }
+    ensures { (mark : ListMark)
+        → ((d : Stmt) → spec.goes_by (mark_of mark) behind.is_quiet (stmt_of (slice_index_or list.old at d)) ≡ None)
+        → Step (mark_of mark) at list.old list.new behind result }
 {
     let last = list.len() - 1;
     if is_surely_unit(&list.as_slice()[at]) {

@@ -10,9 +10,10 @@ use Rattle.ast_types.specs.Reading.{stmt_of, stmts_of, stmt_of-Noop}
 use Rattle.ast_types.proofs.Cases.{StmtCase, block_case, stmt_cases}
 use Rattle.theory_meaning.specs.Tree.{Stmt, Noop, Var, Block, Stmts, no_stmts, stmt, joined}
 use Rattle.theory_rewriting.specs.Clear.{AreClear}
-use Rattle.theory_rewriting.specs.Context.{Context, known_behind, ListKind, wanted, wanted_before}
+use Rattle.theory_rewriting.specs.Context.{Context, ListContext, open_list, known_behind, ListKind, wanted, wanted_before}
 use Rattle.theory_rewriting.specs.Evals.{keeps_names}
 use Rattle.theory_rewriting.specs.Known.{Known}
+use Rattle.theory_rewriting.specs.Normal.{gives_way, any_gives_way}
 use Rattle.theory_rewriting.specs.Residue.{AreReduced}
 use Rattle.theory_rewriting.specs.Rewriting.{RestTo, StmtsTo, same_stmts, then_stmts, by_list_rule}
 use Rattle.theory_rewriting.specs.Rules.{spliced, block_gives_way}
@@ -21,7 +22,7 @@ use Rattle.theory_rewriting.proofs.Evals.{block_keeps}
 use Rattle.theory_rewriting.proofs.Firing.{in_back}
 use Rattle.theory_rewriting.specs.Steps.{Progress, Moves}
 use Rattle.theory_meaning.specs.Weight.{weight}
-use Rattle.opt_reducer.specs.Blocks.{gives_way, any_gives_way, Flattens, FlatList}
+use Rattle.opt_reducer.specs.Blocks.{Flattens, FlatList}
 
 joined-push : (done : List declared_stmt.Stmt) (s : declared_stmt.Stmt) (new : Stmts) → joined (stmts_of (done ++ s ∷ [])) new ≡ joined (stmts_of done) (stmt (stmt_of s) new)
 joined-push [] s new = refl
@@ -179,7 +180,7 @@ flattens_as {w = w} {g = g} {g' = g'} {done = done} {new = new} e p = subst (λ 
 -- of all, the rest is to come
 pub record MovesSoFar (w : Bool) (g g1 : Progress) (all rest : List declared_stmt.Stmt) (done now : Stmts) : Type 0 where
   pub fits : weight (stmts_of rest) ≤ weight (stmts_of all)
-  pub to : (k : Context) (m : ListKind) (u : Bool) (back : Stmts) → w ≡ wanted_before (wanted m) back → RestTo k m u g.is_dirty g1.is_dirty (joined done (joined (stmts_of all) back)) (joined now (joined (stmts_of rest) back))
+  pub to : (k : ListContext) (m : ListKind) (u : Bool) (back : Stmts) → w ≡ wanted_before (wanted m) back → RestTo k m u g.is_dirty g1.is_dirty (joined done (joined (stmts_of all) back)) (joined now (joined (stmts_of rest) back))
   pub reduced : (r : Engine) (back : Stmts) → AreReduced r (joined done (joined (stmts_of all) back)) → AreReduced r (joined now (joined (stmts_of rest) back))
   pub clear : (ks : List Known) (back : Stmts) → AreClear ks (joined done (joined (stmts_of all) back)) → AreClear ks (joined now (joined (stmts_of rest) back))
   pub flat : any_gives_way done ≡ false → any_gives_way now ≡ false
@@ -210,7 +211,7 @@ moves_end {w = w} {g = g} {g1 = g1} {all = all} {done = done} {now = now} far i 
 -- a whole list
 flattened_to : {d d1 : Bool} (k : Context) (m : ListKind) {w : Bool} {ss new : Stmts} → w ≡ wanted m → Moves w d d1 no_stmts ss new → StmtsTo k m d d1 ss new
 flattened_to {d = d} {d1 = d1} k m {ss = ss} {new = new} h p =
-    subst (λ x. StmtsTo k m d d1 x new) (joined-no_stmts ss) (subst (λ x. StmtsTo k m d d1 (joined ss no_stmts) x) (joined-no_stmts new) (p.to k m true no_stmts h))
+    subst (λ x. StmtsTo k m d d1 x new) (joined-no_stmts ss) (subst (λ x. StmtsTo k m d d1 (joined ss no_stmts) x) (joined-no_stmts new) (p.to (open_list k) m true no_stmts h))
 
 flattened_keeps : (F : Stmts → Type 0) (ss new : Stmts) → (F (joined ss no_stmts) → F (joined new no_stmts)) → F ss → F new
 flattened_keeps F ss new f h = subst F (joined-no_stmts new) (f (subst F (sym (joined-no_stmts ss)) h))

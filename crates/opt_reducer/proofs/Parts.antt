@@ -27,10 +27,11 @@ use Rattle.theory_meaning.specs.Tree.{Expr, Variable, Dot, Index, Arms, MaybeExp
 use Rattle.theory_meaning.specs.Shape.{catch_name}
 use Rattle.theory_rewriting.specs.Clear.{HasClearParts, IsClear}
 use Rattle.opt_steps.proofs.NodeKinds.{NoText, NoArray, NoMap, NoBraces, NoCall, NoDot, NoIndex, NoAnd, NoOr, NoCoalesce, NoMethod, NoVariable, NoIf, NoWhile, NoDo, NoFor, NoVar, NoAssignment, NoCallStatement, NoBlock, NoTry, NoExpression, NoBreak, NoReturn, NoImport, NoSwitch}
-use Rattle.theory_rewriting.specs.Context.{known_behind}
+use Rattle.theory_rewriting.specs.Context.{knowing, known_behind}
 use Rattle.theory_rewriting.specs.Known.{Known}
-use Rattle.theory_rewriting.specs.Rewriting.{same_expr, same_stmt}
+use Rattle.theory_rewriting.specs.Rewriting.{StmtTo, same_expr, same_stmt}
 use Rattle.theory_rewriting.specs.Steps.{Anywhere, ExprRun, ArmsRun, Progress, is_chain_node, is_method, variable, catch_front, StepsRun, ArgumentRun, ChainRun, TargetRun, MaybeRun, SidesRun, LinkRun, ForRun, ExprPartsRun, StmtPartsRun, StmtReduced, StmtPassed, StmtRun, SubjectRun, HasReducedSubject}
+use Rattle.theory_rewriting.specs.Normal.{IsNormal, HasNormalParts, StmtHasNormalParts}
 use Rattle.theory_rewriting.specs.Residue.{ExprParts, StmtParts}
 use Rattle.opt_known.specs.State.{known_entry, known_of}
 use Rattle.opt_rules.proofs.Kept.{nothing_left}
@@ -84,7 +85,7 @@ link_index_at {r = r} {outer = outer} {s = s} {s' = s'} {l = l} {l' = l'} {e = e
 -- ---- a node that is not opened is kept as it is
 
 -- a whole expression that is none of these has no parts
-not_opened : (r : Engine) (ks : List Known) {x : declared_expr.Expr} {e : Expr} → ExprCase x e → NoText x → NoArray x → NoMap x → NoBraces x → NoCall x → NoDot x → NoIndex x → NoAnd x → NoOr x → NoCoalesce x → NoMethod x → ExprParts r e × HasClearParts ks e
+not_opened : (r : Engine) (ks : List Known) {x : declared_expr.Expr} {e : Expr} → ExprCase x e → NoText x → NoArray x → NoMap x → NoBraces x → NoCall x → NoDot x → NoIndex x → NoAnd x → NoOr x → NoCoalesce x → NoMethod x → (ExprParts r e × HasClearParts ks e) × HasNormalParts (knowing r ks) e
 not_opened r ks (interpolated_string_case xs p) a b c d e f g h i j k = absurd (a xs p refl)
 not_opened r ks (array_case xs p) a b c d e f g h i j k = absurd (b xs p refl)
 not_opened r ks (map_case y p) a b c d e f g h i j k = absurd (c y p refl)
@@ -96,17 +97,17 @@ not_opened r ks (and_case xs p) a b c d e f g h i j k = absurd (h xs p refl)
 not_opened r ks (or_case xs p) a b c d e f g h i j k = absurd (i xs p refl)
 not_opened r ks (coalesce_case xs p) a b c d e f g h i j k = absurd (j xs p refl)
 not_opened r ks (method_call_case y p) a b c d e f g h i j k = absurd (k y p refl)
-not_opened r ks _ a b c d e f g h i j k = ((tt, (tt, tt)), tt)
+not_opened r ks _ a b c d e f g h i j k = (((tt, (tt, tt)), tt), tt)
 
 pub expr_stays : {r : Engine} {s : Progress} (x : declared_expr.Expr) → NoText x → NoArray x → NoMap x → NoBraces x → NoCall x → NoDot x → NoIndex x → NoAnd x → NoOr x → NoCoalesce x → NoMethod x → ExprPartsRun r s s (expr_of x) (expr_of x)
 expr_stays {r = r} {s = s} x a b c d e f g h i j k =
     let z = not_opened r s.known (expr_cases x) a b c d e f g h i j k in
-    record { to = same_expr; place = refl; unit = refl; parts = z.0; clear = z.1; known = refl }
+    record { to = same_expr; place = refl; unit = refl; parts = z.0.0; clear = z.0.1; known = refl; normal = λ i. z.1 }
 
 -- and where no rule fires at it either, at each place
 pub leaf_stays : (x : declared_expr.Expr) → NoText x → NoArray x → NoMap x → NoVariable x → NoMethod x → NoBraces x → NoCall x → NoDot x → NoIndex x → NoAnd x → NoOr x → NoCoalesce x → StaysAnywhere (expr_of x)
 leaf_stays x text array map variable method braces call dot index and or coalesce r p s =
-    expr_done (expr_stays x text array map braces call dot index and or coalesce method) (expr_kept expr_start (nothing_left (expr_cases x) call variable dot index and or coalesce braces array))
+    expr_done (expr_stays x text array map braces call dot index and or coalesce method) (expr_kept expr_start (nothing_left (expr_cases x) call variable dot index and or coalesce braces array map text))
 
 chain_by : {x : declared_expr.Expr} {e : Expr} → ExprCase x e → NoDot x → NoIndex x → is_chain_node e ≡ false
 chain_by (dot_case y k p) f g = absurd (f y k p refl)
@@ -139,27 +140,27 @@ pub catch_none : (ks : List Known) (ns : List Ident) (x : Text) (b : Bool) → (
 catch_none ks [] x b h i = refl
 catch_none ks (n ∷ ns) x b h i = let k = h.0 i in absurd cc
 
-stmt_not_opened : (r : Engine) (ks : List Known) {x : declared_stmt.Stmt} {s : Stmt} → StmtCase x s → NoIf x → NoWhile x → NoDo x → NoFor x → NoVar x → NoAssignment x → NoCallStatement x → NoBlock x → NoTry x → NoExpression x → NoBreak x → NoReturn x → NoImport x → NoSwitch x → StmtParts r s × IsClear ks s
-stmt_not_opened r ks (if_case f p) na nb nc nd ne nf ng nh ni nj nk nl nm nn = absurd (na f p refl)
-stmt_not_opened r ks (while_case f p) na nb nc nd ne nf ng nh ni nj nk nl nm nn = absurd (nb f p refl)
-stmt_not_opened r ks (do_case f k p) na nb nc nd ne nf ng nh ni nj nk nl nm nn = absurd (nc f k p refl)
-stmt_not_opened r ks (for_case v p) na nb nc nd ne nf ng nh ni nj nk nl nm nn = absurd (nd v p refl)
-stmt_not_opened r ks (var_case v k p) na nb nc nd ne nf ng nh ni nj nk nl nm nn = absurd (ne v k p refl)
-stmt_not_opened r ks (assignment_case v) na nb nc nd ne nf ng nh ni nj nk nl nm nn = absurd (nf v refl)
-stmt_not_opened r ks (call_statement_case y p) na nb nc nd ne nf ng nh ni nj nk nl nm nn = absurd (ng y p refl)
-stmt_not_opened r ks (block_case y) na nb nc nd ne nf ng nh ni nj nk nl nm nn = absurd (nh y refl)
-stmt_not_opened r ks (try_catch_case f p) na nb nc nd ne nf ng nh ni nj nk nl nm nn = absurd (ni f p refl)
-stmt_not_opened r ks (expression_case y) na nb nc nd ne nf ng nh ni nj nk nl nm nn = absurd (nj y refl)
-stmt_not_opened r ks (break_loop_case y k p) na nb nc nd ne nf ng nh ni nj nk nl nm nn = absurd (nk y k p refl)
-stmt_not_opened r ks (return_case y k p) na nb nc nd ne nf ng nh ni nj nk nl nm nn = absurd (nl y k p refl)
-stmt_not_opened r ks (import_case v p) na nb nc nd ne nf ng nh ni nj nk nl nm nn = absurd (nm v p refl)
-stmt_not_opened r ks (switch_case y p) na nb nc nd ne nf ng nh ni nj nk nl nm nn = absurd (nn y p refl)
-stmt_not_opened r ks _ na nb nc nd ne nf ng nh ni nj nk nl nm nn = ((tt, (tt, tt)), tt)
+stmt_not_opened : (r : Engine) (w : Bool) (ks : List Known) {x : declared_stmt.Stmt} {s : Stmt} → StmtCase x s → NoIf x → NoWhile x → NoDo x → NoFor x → NoVar x → NoAssignment x → NoCallStatement x → NoBlock x → NoTry x → NoExpression x → NoBreak x → NoReturn x → NoImport x → NoSwitch x → (StmtParts r s × IsClear ks s) × StmtHasNormalParts (knowing r ks) w s
+stmt_not_opened r w ks (if_case f p) na nb nc nd ne nf ng nh ni nj nk nl nm nn = absurd (na f p refl)
+stmt_not_opened r w ks (while_case f p) na nb nc nd ne nf ng nh ni nj nk nl nm nn = absurd (nb f p refl)
+stmt_not_opened r w ks (do_case f k p) na nb nc nd ne nf ng nh ni nj nk nl nm nn = absurd (nc f k p refl)
+stmt_not_opened r w ks (for_case v p) na nb nc nd ne nf ng nh ni nj nk nl nm nn = absurd (nd v p refl)
+stmt_not_opened r w ks (var_case v k p) na nb nc nd ne nf ng nh ni nj nk nl nm nn = absurd (ne v k p refl)
+stmt_not_opened r w ks (assignment_case v) na nb nc nd ne nf ng nh ni nj nk nl nm nn = absurd (nf v refl)
+stmt_not_opened r w ks (call_statement_case y p) na nb nc nd ne nf ng nh ni nj nk nl nm nn = absurd (ng y p refl)
+stmt_not_opened r w ks (block_case y) na nb nc nd ne nf ng nh ni nj nk nl nm nn = absurd (nh y refl)
+stmt_not_opened r w ks (try_catch_case f p) na nb nc nd ne nf ng nh ni nj nk nl nm nn = absurd (ni f p refl)
+stmt_not_opened r w ks (expression_case y) na nb nc nd ne nf ng nh ni nj nk nl nm nn = absurd (nj y refl)
+stmt_not_opened r w ks (break_loop_case y k p) na nb nc nd ne nf ng nh ni nj nk nl nm nn = absurd (nk y k p refl)
+stmt_not_opened r w ks (return_case y k p) na nb nc nd ne nf ng nh ni nj nk nl nm nn = absurd (nl y k p refl)
+stmt_not_opened r w ks (import_case v p) na nb nc nd ne nf ng nh ni nj nk nl nm nn = absurd (nm v p refl)
+stmt_not_opened r w ks (switch_case y p) na nb nc nd ne nf ng nh ni nj nk nl nm nn = absurd (nn y p refl)
+stmt_not_opened r w ks _ na nb nc nd ne nf ng nh ni nj nk nl nm nn = (((tt, (tt, tt)), tt), tt)
 
 pub stmt_stays : {r : Engine} {w : Bool} {s : Progress} (x : declared_stmt.Stmt) → NoIf x → NoWhile x → NoDo x → NoFor x → NoVar x → NoAssignment x → NoCallStatement x → NoBlock x → NoTry x → NoExpression x → NoBreak x → NoReturn x → NoImport x → NoSwitch x → StmtPartsRun r w s s (stmt_of x) (stmt_of x)
-stmt_stays {r = r} {s = s} x na nb nc nd ne nf ng nh ni nj nk nl nm nn =
-    let h = stmt_not_opened r s.known (stmt_cases x) na nb nc nd ne nf ng nh ni nj nk nl nm nn in
-    record { to = same_stmt; parts = h.0; clear = h.1; known = refl }
+stmt_stays {r = r} {w = w} {s = s} x na nb nc nd ne nf ng nh ni nj nk nl nm nn =
+    let h = stmt_not_opened r w s.known (stmt_cases x) na nb nc nd ne nf ng nh ni nj nk nl nm nn in
+    record { to = same_stmt; parts = h.0.0; clear = h.0.1; known = refl; normal = λ i. h.1 }
 
 -- ---- what a statement declares
 
@@ -231,13 +232,13 @@ subject_kept {r = r} {s = s} {s' = s'} {x = x} {x' = x'} b b' i j h p w =
     let made = j ∙ ap (λ (y : SwitchCasesCollection). Switch (expr_of (subject_of b')) (arms_of (expressions_of y)) (table_of y)) h in
     subst (λ a. SubjectRun r w s s' a x') (sym i) (subst (λ a. SubjectRun r w s s' (Switch (expr_of (subject_of b)) (arms_of (expressions_of (cases_of b))) (table_of (cases_of b))) a) (sym made) (subject_run p))
 
-no_subject : (r : Engine) (ks : List Known) {x : declared_stmt.Stmt} {s : Stmt} → StmtCase x s → NoSwitch x → NoIf x → HasReducedSubject r ks s
-no_subject r ks (switch_case b p) h i = absurd (h b p refl)
-no_subject r ks (if_case f p) h i = absurd (i f p refl)
-no_subject r ks _ h i = tt
+no_subject : (r : Engine) (t : Progress) {x : declared_stmt.Stmt} {s : Stmt} → StmtCase x s → NoSwitch x → NoIf x → HasReducedSubject r t s
+no_subject r t (switch_case b p) h i = absurd (h b p refl)
+no_subject r t (if_case f p) h i = absurd (i f p refl)
+no_subject r t _ h i = tt
 
 pub subject_none : {r : Engine} {s : Progress} (x : declared_stmt.Stmt) → NoSwitch x → NoIf x → (w : Bool) → SubjectRun r w s s (stmt_of x) (stmt_of x)
-subject_none {r = r} {s = s} x h i w = record { to = same_stmt; subject = no_subject r s.known (stmt_cases x) h i; known = refl }
+subject_none {r = r} {s = s} x h i w = record { to = same_stmt; subject = no_subject r s (stmt_cases x) h i; known = refl }
 
 -- ---- an `if` by its declared parts
 
@@ -246,10 +247,10 @@ condition_kept {r = r} {s = s} {s' = s'} {x = x} {x' = x'} f f' i j h k p w =
     let made = j ∙ ap (λ (b : StmtBlock). If (expr_of f'.expr) (stmts_of b.block) (stmts_of f'.branch.block)) h ∙ ap (λ (b : StmtBlock). If (expr_of f'.expr) (stmts_of f.body.block) (stmts_of b.block)) k in
     subst (λ a. SubjectRun r w s s' a x') (sym i) (subst (λ a. SubjectRun r w s s' (If (expr_of f.expr) (stmts_of f.body.block) (stmts_of f.branch.block)) a) (sym made) (condition_run p))
 
-pub arms_kept : {r : Engine} {w : Bool} {s s' : Progress} {x x' : Stmt} {e e' : Expr} {as' bs : Arms} {t t' : SwitchTable} → x ≡ Switch e as' t → x' ≡ Switch e' bs t' → HasReducedSubject r s.known x → e' ≡ e → t' ≡ t → ArmsRun r s s' as' bs → StmtPartsRun r w s s' x x'
+pub arms_kept : {r : Engine} {w : Bool} {s s' : Progress} {x x' : Stmt} {e e' : Expr} {as' bs : Arms} {t t' : SwitchTable} → x ≡ Switch e as' t → x' ≡ Switch e' bs t' → HasReducedSubject r s x → e' ≡ e → t' ≡ t → ArmsRun r s s' as' bs → StmtPartsRun r w s s' x x'
 arms_kept {r = r} {w = w} {s = s} {s' = s'} {x = x} {x' = x'} {e = e} {as' = as'} {bs = bs} {t = t} {t' = t'} i j h u v q =
     let made = j ∙ ap (λ y. Switch y bs t') u ∙ ap (λ y. Switch e bs y) v in
-    subst (λ a. StmtPartsRun r w s s' a x') (sym i) (subst (λ a. StmtPartsRun r w s s' (Switch e as' t) a) (sym made) (arms_run (subst (HasReducedSubject r s.known) i h) q))
+    subst (λ a. StmtPartsRun r w s s' a x') (sym i) (subst (λ a. StmtPartsRun r w s s' (Switch e as' t) a) (sym made) (arms_run (subst (HasReducedSubject r s) i h) q))
 
 -- what is not decided before that is as it was
 pub open_still : {r : Engine} {w : Bool} {s s1 s2 : Progress} {x x1 x2 : Stmt} → StmtDecided false r w s s1 x x1 → SubjectRun r w s1 s2 x1 x2 → SubjectRun r w s s2 x x2
@@ -269,4 +270,10 @@ pub once_by : {r : Engine} {w : Bool} {s s1 : Progress} {x x1 : Stmt} (s2 : Prog
 once_by {r = r} {w = w} {s = s} {s1 = s1} {x = x} {x1 = x1} s2 x2 o q h = IfOk-weaker o (λ b. StmtReduced r w b s1 s2 x1 x2) (λ b. StmtOnce b r w s s2 x x2) (λ b z. once b q z) h
 
 pub once_done : {r : Engine} {w : Bool} {s s1 s2 : Progress} {x x1 x2 : Stmt} → StmtPassed r w s s1 x x1 → StmtRun r w s1 s2 x1 x2 → StmtRun r w s s2 x x2
-once_done {x2 = x2} f q = record { to = stmt_then f.known f.to q.to; reduced = q.reduced; clear = subst (λ ks. IsClear ks x2) f.known q.clear; known = q.known ∙ f.known }
+once_done {r = r} {w = w} {x2 = x2} f q = record {
+  to = stmt_then f.known f.to q.to;
+  reduced = q.reduced;
+  clear = subst (λ ks. IsClear ks x2) f.known q.clear;
+  known = q.known ∙ f.known;
+  normal = λ h. subst (λ ks. IsNormal (StmtTo (knowing r ks) w) x2) f.known (q.normal h);
+}

@@ -11,7 +11,7 @@ use Rattle.base_tokens.specs.declared.ident.Ident.{Ident}
 use Rattle.rhai_base.specs.Value.{Text}
 use Rattle.theory_meaning.specs.Tree.{Expr, Pairs, pair, Stmt, Stmts, no_stmts, stmt}
 use Rattle.theory_meaning.specs.Walk.{total, over_pairs}
-use Rattle.theory_rewriting.specs.Context.{Context, ListKind, wanted, wanted_before}
+use Rattle.theory_rewriting.specs.Context.{ListContext, ListKind, wanted, wanted_before}
 use Rattle.theory_rewriting.specs.Rewriting.{RestTo, same_stmts}
 use Rattle.theory_rewriting.specs.Steps.{Progress, Anywhere, ExprRun, ExprsRun, PairsRun, ArmRun, ArmsRun, EachRun, UnknownRun}
 use Rattle.opt_reducer.specs.Going.{Going, going, item_goes, ItemGoes}
@@ -145,16 +145,16 @@ abbrev list_goes : Bool → Engine → ListKind → Going → Going → Stmts �
 list_goes true r m g g' ss ss' = IsFresh g.unknown → EachRun r m g.state (beside g'.state g'.unknown) ss ss'
 list_goes false r m g g' ss ss' = g.unknown.known ≡ [] → (g'.state ≡ g.state) × UnknownRun r m g.unknown g'.unknown ss ss'
 
-fresh_none : {k : Context} {m : ListKind} {u d : Bool} (b : Bool) → b ≡ false → RestTo k m u d (b || d) no_stmts no_stmts
+fresh_none : {k : ListContext} {m : ListKind} {u d : Bool} (b : Bool) → b ≡ false → RestTo k m u d (b || d) no_stmts no_stmts
 fresh_none true h = absurd (let z : true ≡ false = h in cc)
 fresh_none false h = same_stmts
 
 goes_none : (b : Bool) (r : Engine) (m : ListKind) (g : Going) → list_goes b r m g g no_stmts no_stmts
-goes_none true r m g = λ f. record { to = λ u. fresh_none g.unknown.is_dirty f.clear; reduced = tt; clear = tt; front = []; known = refl }
+goes_none true r m g = λ f. record { to = λ u. fresh_none g.unknown.is_dirty f.clear; reduced = tt; clear = tt; front = []; known = refl; normal = λ h. tt }
 goes_none false r m g = λ f. (refl, unknown_none_run)
 
 goes_more : (b b1 : Bool) (r : Engine) (m : ListKind) (g g1 g2 : Going) (x x' : Stmt) (ss ss' : Stmts) → g1.are_known ≡ b1 → item_goes b r (wanted_before (wanted m) ss) g g1 x x' → list_goes b1 r m g1 g2 ss ss' → list_goes b r m g g2 (stmt x ss) (stmt x' ss')
-goes_more true true r m g g1 g2 x x' ss ss' h p q = λ f. each_more_run p.1 (q (subst IsFresh (sym p.0.1) f))
+goes_more true true r m g g1 g2 x x' ss ss' h p q = λ f. each_more_run p.1 (sym p.0.0 ∙ h) (q (subst IsFresh (sym p.0.1) f))
 goes_more true false r m g g1 g2 x x' ss ss' h p q = λ f.
     let fresh = subst IsFresh (sym p.0.1) f in
     let z = q fresh.nothing in

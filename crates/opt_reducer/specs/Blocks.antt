@@ -1,22 +1,14 @@
 -- Blocks in a list that give way to their statements.
-use Rattle.std.specs.Prelude.{◌≡◌, Bool, false, not, ◌||◌, List}
-use Rattle.theory_meaning.specs.Queries.{is_any_dependent}
-use Rattle.theory_meaning.specs.Tree.{Stmt, Block, Stmts, no_stmts, stmt}
+use Rattle.std.specs.Prelude.{◌≡◌, Bool, false, List}
+use Rattle.theory_meaning.specs.Tree.{Stmts}
 use Rattle.theory_meaning.specs.Engine.{Engine}
 use Rattle.theory_rewriting.specs.Clear.{AreClear}
 use Rattle.theory_rewriting.specs.Context.{Context, ListKind}
 use Rattle.theory_rewriting.specs.Known.{Known}
+use Rattle.theory_rewriting.specs.Normal.{any_gives_way}
 use Rattle.theory_rewriting.specs.Residue.{AreReduced}
 use Rattle.theory_rewriting.specs.Rewriting.{StmtsTo}
 use Rattle.theory_rewriting.specs.Steps.{Progress, Moves}
-
-abbrev pub gives_way : Stmt → Bool
-gives_way (Block ss) = not (is_any_dependent ss)
-gives_way _ = false
-
-abbrev pub any_gives_way : Stmts → Bool
-any_gives_way no_stmts = false
-any_gives_way (stmt s ss) = gives_way s || any_gives_way ss
 
 -- statements moved behind those that are done; no block that gives way came to these, and the same names are known
 pub record Flattens (w : Bool) (s s' : Progress) (done moved done' : Stmts) : Type 0 where

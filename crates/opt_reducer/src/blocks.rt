@@ -7,10 +7,10 @@ ghost use Rattle.opt_known.specs.State.{progress};
 ghost use Rattle.ast_types.specs.Reading.{stmt_of, stmts_of};
 ghost use Rattle.theory_meaning.specs.Queries as queries;
 ghost use Rattle.theory_meaning.specs.Tree.{Block, no_stmts, stmt};
-ghost use Rattle.opt_reducer.specs.Blocks as spec;
 ghost use Rattle.opt_reducer.specs.Blocks.{Flattens, FlatList};
 ghost use Rattle.opt_lists.specs.Marks.{mark_of};
 ghost use Rattle.theory_rewriting.specs.Context as rewriting;
+ghost use Rattle.theory_rewriting.specs.Normal as normal;
 
 use ast_nodes::{StmtDrain, push_stmt};
 use opt_lists::ListMark;
@@ -31,7 +31,7 @@ fn is_any_dependent(statements: &[Stmt]) -> bool
 
 /// Whether a statement is a block that gives way to its statements: none of them belongs to it.
 fn gives_way(statement: &Stmt) -> bool
-    ensures { result ≡ spec.gives_way (stmt_of statement.now) }
+    ensures { result ≡ normal.gives_way (stmt_of statement.now) }
 {
     match statement {
         Stmt::Block(block) => !is_any_dependent(block.get().statements()),
@@ -40,7 +40,7 @@ fn gives_way(statement: &Stmt) -> bool
 }
 
 fn into_block(statement: Stmt) -> StmtBlock
-    requires { spec.gives_way (stmt_of statement) ≡ true }
+    requires { normal.gives_way (stmt_of statement) ≡ true }
     ensures { stmt_of statement ≡ Block (stmts_of result.block) }
 {
     match statement {
@@ -50,7 +50,7 @@ fn into_block(statement: Stmt) -> StmtBlock
 }
 
 fn any_gives_way(statements: &[Stmt]) -> bool
-    ensures { result ≡ spec.any_gives_way (stmts_of statements.now) }
+    ensures { result ≡ normal.any_gives_way (stmts_of statements.now) }
 {
     for statement in statements {
         if gives_way(statement) {

@@ -414,7 +414,7 @@ impl<'a> Optimizer<'a> {
         statement: &mut Stmt,
         is_wanted: bool,
     ) -> Result<(), OutOfMemory>
-        requires { HasReducedSubject (record_of self.now) (progress state.now).known (stmt_of statement.now) }
+        requires { HasReducedSubject (record_of self.now) (progress state.now) (stmt_of statement.now) }
         ensures { OnOk result
             (StmtPartsRun (record_of self.now) is_wanted (progress state.old) (progress state.new)
             (stmt_of statement.old) (stmt_of statement.new)) }
@@ -669,7 +669,7 @@ impl<'a> Optimizer<'a> {
         flow: &mut FlowControl,
         is_wanted: bool,
     ) -> Result<(), OutOfMemory>
-        requires { HasReducedSubject (record_of self.now) (progress state.now).known
+        requires { HasReducedSubject (record_of self.now) (progress state.now)
             (If (expr_of flow.now.expr) (stmts_of flow.now.body.block) (stmts_of flow.now.branch.block)) }
         ensures { OnOk result
             (StmtPartsRun (record_of self.now) is_wanted (progress state.old) (progress state.new)

@@ -3,16 +3,20 @@ use Rattle.std.proofs.Common.{◌≡◌, Bool, true, false, List, [], ◌∷◌,
 use Rattle.std.specs.Prelude.{if◌then◌else◌}
 use Rattle.rhai_base.specs.Value.{Text, Value, UnitV, BoolV, IntV, CharV, TextV, PointerV, no_values, is_unit}
 use Rattle.base_tokens.specs.Names.{is_valid_name}
-use Rattle.theory_meaning.specs.Constants.{constant_for, literal_value}
+use Rattle.theory_meaning.specs.Act.{OfName}
+use Rattle.theory_meaning.specs.Constants.{constant_for, literal_value, pointer_call}
+use Rattle.theory_meaning.specs.Desugar.{root_of}
 use Rattle.theory_meaning.specs.Engine.{Engine}
+use Rattle.theory_meaning.specs.Queries.{is_unit as is_unit_expr}
 use Rattle.theory_meaning.specs.Tree.{Expr, Variable}
 use Rattle.theory_rewriting.specs.Context.{Context}
 use Rattle.theory_rewriting.specs.Known.{Known, look}
+use Rattle.theory_rewriting.specs.Parts.{constant_of}
 use Rattle.theory_rewriting.specs.Rules as rule
 use Rattle.theory_rewriting.specs.Rules.{ExprRule}
 use Rattle.theory_rewriting.specs.Steps.{Progress, here, Place, Anywhere, AsBase, AsGuard, MayBecome}
 use Rattle.theory_rewriting.proofs.Keeping.{keeps_constant}
-use Rattle.theory_rewriting.proofs.Reducing.{unit_for_value}
+use Rattle.theory_rewriting.proofs.Reducing.{root_of_value, unit_of_value, unit_for_value}
 use Rattle.opt_steps.specs.NodeSteps.{Puts, ExprStep}
 use Rattle.opt_steps.proofs.Stepping.{expr_stays}
 use Rattle.opt_rules.specs.Settled.{is_variable, unless_unit, known_there, known_value}
@@ -54,6 +58,21 @@ name_put {p = p} {s = s} {s' = s'} {v = v} (Variable ns x) i h q r =
     (record { rule = known_rule (here r s) ns x v z.0 (ap literal_value (sym q.constant) ∙ q.literal); stays = z.1; fired = q.fired; known = q.known }, keeps_constant (Variable ns x) v)
 name_put _ i h q r = absurd cc
 
+-- what a known name may become it does not stay
+unless_unit_of : (o : Option Value) (v : Value) → o ≡ Some v → is_unit v ≡ false → unless_unit o ≡ Some v
+unless_unit_of o v h u = ap unless_unit h ∙ ap (λ b. if b then None else Some v) u
+
+known_becomes : (p : Place) (ks : List Known) (x : Text) (v : Value) (e' : Expr) → look ks x ≡ Some v → root_of e' ≡ None → is_unit_expr e' ≡ is_unit v → MayBecome p (Variable [] x) e' → known_there p ks (Variable [] x) ≡ Some v
+known_becomes Anywhere ks x v e' h r u m = h
+known_becomes AsBase ks x v e' h r u m = let z : None ≡ Some (OfName x) = sym r ∙ m in absurd cc
+known_becomes AsGuard ks x v e' h r u m = unless_unit_of (look ks x) v h (sym u ∙ m)
+
+name_rules : {k : Context} {e' : Expr} (p : Place) (ns : List Text) (x : Text) → None ≡ known_there p k.known (Variable ns x) → ExprRule k (Variable ns x) e' → MayBecome p (Variable ns x) e' → ⊥
+name_rules {k = k} p _ x h (rule.known_name v i) m =
+    let z : None ≡ Some v = h ∙ known_becomes p k.known x v (constant_of v) i (root_of_value v) (unit_of_value v) m in cc
+name_rules {k = k} p _ x h (rule.known_pointer f i q) m =
+    let z : None ≡ Some (PointerV f no_values) = h ∙ known_becomes p k.known x (PointerV f no_values) (pointer_call f) i refl refl m in cc
+
 pub name_stays : {p : Place} {s : Progress} (e : Expr) → is_variable e ≡ true → None ≡ known_there p s.known e → (r : Engine) → ExprStep false r p s s e e
-name_stays {p = p} {s = s} (Variable ns x) i h r = expr_stays tt refl (λ q. sym (h ∙ ap (λ y. known_there y s.known (Variable ns x)) q))
+name_stays {p = p} {s = s} (Variable ns x) i h r = expr_stays tt refl (λ q. sym (h ∙ ap (λ y. known_there y s.known (Variable ns x)) q)) (λ n e' q m. name_rules p ns x h q m)
 name_stays _ i h r = absurd cc

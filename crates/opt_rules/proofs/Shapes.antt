@@ -14,7 +14,7 @@ use Rattle.theory_rewriting.specs.Context.{Context}
 use Rattle.theory_rewriting.specs.Residue.{holds_constant}
 use Rattle.theory_rewriting.specs.Rules as rule
 use Rattle.theory_rewriting.specs.Rules.{ExprRule}
-use Rattle.theory_rewriting.specs.Steps.{Progress, Place, Anywhere, AsBase, AsGuard}
+use Rattle.theory_rewriting.specs.Steps.{Progress, Place, Anywhere, AsBase, AsGuard, MayBecome}
 use Rattle.theory_rewriting.proofs.Keeping.{keeps_constant, may_be_constant}
 use Rattle.opt_steps.specs.Folded.{FoldsConstant}
 use Rattle.opt_steps.specs.NodeSteps.{Puts, ExprStep}
@@ -54,8 +54,11 @@ array_put {s = s} {s' = s'} {v = v} (ArrayOf es) i h q r p =
     (record { rule = array_folds (constant_values es) refl h; stays = may_be_constant p (ArrayOf es) v refl refl (array_not_unit (constant_values es) v h); fired = q.fired; known = q.known }, keeps_constant (ArrayOf es) v)
 array_put _ i h q r p = absurd cc
 
+array_rules : {k : Context} {e' : Expr} (es : Exprs) → constant_values es ≡ None → ExprRule k (ArrayOf es) e' → ⊥
+array_rules es h (rule.array_of_constants {vs = vs} i) = let z : None ≡ Some vs = sym h ∙ i in cc
+
 array_stays : {s : Progress} (e : Expr) → is_array e ≡ true → None ≡ value_of_array e → (r : Engine) (p : Place) → ExprStep false r p s s e e
-array_stays (ArrayOf es) i h r p = expr_stays (no_array (constant_values es) h) refl (λ q. refl)
+array_stays (ArrayOf es) i h r p = let none = no_array (constant_values es) h in expr_stays none refl (λ q. refl) (λ n e' q m. array_rules es none q)
 array_stays _ i h r p = absurd cc
 
 pub array_step : (b : Bool) (s s' : Progress) (e e' : Expr) → is_array e ≡ true → FoldsConstant b s s' e e' → (r : Engine) (p : Place) → ExprStep b r p s s' e e'
@@ -104,8 +107,19 @@ braces-settled p (stmt _ no_stmts) h = refl
 braces-settled p (stmt (ExprStmt e) (stmt t ss)) h = refl
 braces-settled p (stmt _ (stmt t ss)) h = refl
 
+-- what braces may become may stand where they are
+may_become : (p : Place) (ss : Stmts) (e : Expr) → MayBecome p (BlockExpr ss) e → may_stand p e ≡ true
+may_become Anywhere ss e m = refl
+may_become AsBase ss e m = ap (λ o. not (is_some o)) m
+may_become AsGuard ss e m = ap not m
+
+braces_rules : {k : Context} {e' : Expr} (p : Place) (ss : Stmts) → is_settled_braces p ss ≡ true → ExprRule k (BlockExpr ss) e' → MayBecome p (BlockExpr ss) e' → ⊥
+braces_rules p _ h rule.braces_empty m = let z : false ≡ true = ap not (sym (may_become p no_stmts UnitConstant m)) ∙ h in cc
+braces_rules p _ h (rule.braces_of_expression {e}) m = let z : false ≡ true = ap not (sym (may_become p (stmt (ExprStmt e) no_stmts) e m)) ∙ h in cc
+braces_rules p _ h (rule.braces_of_call i) m = let z : false ≡ true = sym i ∙ h in cc
+
 pub braces_stay : {p : Place} {s : Progress} (e : Expr) → is_braces e ≡ true → is_settled p e ≡ true → (r : Engine) → ExprStep false r p s s e e
-braces_stay {p = p} (BlockExpr ss) i h r = expr_stays (braces-settled p ss h) refl (λ q. refl)
+braces_stay {p = p} (BlockExpr ss) i h r = expr_stays (braces-settled p ss h) refl (λ q. refl) (λ n e' q m. braces_rules p ss h q m)
 braces_stay _ i h r = absurd cc
 
 -- ---- names without a namespace

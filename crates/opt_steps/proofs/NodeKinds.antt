@@ -1,5 +1,5 @@
 -- Declared nodes that are none of a kind.
-use Rattle.std.proofs.Common.{◌≡◌, List, Option, true, false, refl}
+use Rattle.std.proofs.Common.{◌≡◌, List, Option, false, refl}
 use Rattle.std.specs.declared.num.NonZeroU8.{NonZeroU8}
 use Rattle.std.specs.declared.num.NonZeroUsize.{NonZeroUsize}
 use Rattle.base_tokens.specs.declared.position.Position.{Position}

@@ -4,8 +4,9 @@ use Rattle.theory_meaning.specs.Engine.{Engine}
 use Rattle.theory_meaning.specs.Tree.{Expr, Stmt}
 use Rattle.theory_meaning.specs.Walk.{OfExpr, OfStmt}
 use Rattle.theory_rewriting.specs.Clear.{known_value}
+use Rattle.theory_rewriting.specs.Normal.{HasNormalParts}
 use Rattle.theory_rewriting.specs.Residue.{IsReducedNode}
-use Rattle.theory_rewriting.specs.Steps.{AnswersNone, Progress, here, Place, Anywhere, ExprRewrite, StmtFired, KeepsStmtParts, StmtKept, StmtRewrite}
+use Rattle.theory_rewriting.specs.Steps.{AnswersNone, Progress, here, Place, Anywhere, NoExprRule, NoStmtRule, ExprRewrite, StmtFired, KeepsStmtParts, StmtKept, StmtRewrite}
 use Rattle.theory_rewriting.proofs.Firing.{stmt_fired_by}
 use Rattle.opt_steps.specs.declared.step.NodeStep.{NodeStep}
 use Rattle.opt_steps.specs.NodeSteps.{ExprStep, StmtStep, step_by}
@@ -20,11 +21,11 @@ stmt_rewrite_as {o = o} {w = w} {s1 = s1} {s' = s'} x y r = subst (λ a. StmtRew
 
 -- ---- what came of a node
 
-pub expr_stays : {r : Engine} {p : Place} {s : Progress} {e : Expr} → IsReducedNode r (OfExpr e) → AnswersNone e → (p ≡ Anywhere → known_value s.known e ≡ None) → ExprStep false r p s s e e
-expr_stays h a u = record { same = refl; state = refl; answers = a; reduced = h; unknown = u }
+pub expr_stays : {r : Engine} {p : Place} {s : Progress} {e : Expr} → IsReducedNode r (OfExpr e) → AnswersNone e → (p ≡ Anywhere → known_value s.known e ≡ None) → (HasNormalParts (here r s) e → NoExprRule (here r s) p e) → ExprStep false r p s s e e
+expr_stays h a u n = record { same = refl; state = refl; answers = a; reduced = h; unknown = u; settled = n }
 
-pub stmt_stays : {r : Engine} {s : Progress} {x : Stmt} → IsReducedNode r (OfStmt x) → StmtKept r s s x x
-stmt_stays h = record { same = refl; state = refl; reduced = h }
+pub stmt_stays : {r : Engine} {s : Progress} {x : Stmt} → IsReducedNode r (OfStmt x) → NoStmtRule (here r s) x → StmtKept r s s x x
+stmt_stays h n = record { same = refl; state = refl; reduced = h; settled = n }
 
 -- ---- what a rule made took a node's place
 

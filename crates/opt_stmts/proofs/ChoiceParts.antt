@@ -1,16 +1,15 @@
 -- What the rules make of statements whose parts are reduced has parts that are.
-use Rattle.std.proofs.Common.{◌≡◌, Bool, true, false, ◌||◌, List, Option, None, refl, ap, ◌∙◌}
+use Rattle.std.proofs.Common.{◌≡◌, Bool, true, false, ◌||◌, List, None, refl, ap, ◌∙◌}
 use Rattle.theory_meaning.specs.Constants.{constant_bool}
 use Rattle.theory_meaning.specs.Engine.{Engine}
 use Rattle.theory_meaning.specs.Tree.{Expr, And, Exprs, no_exprs, expr, If, Stmts, no_stmts, stmt}
 use Rattle.theory_rewriting.specs.Answering.{is_that, is_always, follows_deciding}
 use Rattle.theory_rewriting.specs.Clear.{IsClearExpr, AreClearExprs}
 use Rattle.theory_rewriting.specs.Known.{Known}
-use Rattle.theory_rewriting.specs.Operands.{with_last}
+use Rattle.theory_rewriting.specs.Operands.{with_last, ends_false}
 use Rattle.theory_rewriting.specs.Residue.{IsReducedExpr, AreReducedExprs}
 use Rattle.theory_rewriting.specs.Steps.{KeepsStmtParts, AnswersNone, AnswerNone}
 use Rattle.theory_rewriting.proofs.Keeping.{no_first}
-use Rattle.opt_stmts.specs.SettledChoices.{ends_false}
 
 -- ---- an `if` alone in an `if`
 

@@ -1,5 +1,5 @@
 -- An `if` that is decided, has no statements, or stays.
-use Rattle.std.proofs.Common.{◌≡◌, Bool, true, false, not, ◌&&◌, ◌↔◌, IsTrue, List, [], ◌∷◌, Option, Some, None, is_some, refl, sym, ap, ◌∙◌, subst}
+use Rattle.std.proofs.Common.{◌≡◌, Bool, true, false, not, ◌&&◌, ◌↔◌, IsTrue, List, [], ◌∷◌, Option, Some, None, is_some, refl, sym, ap, subst}
 use Rattle.ast_types.specs.declared.stmt.Stmt as declared_stmt
 use Rattle.theory_meaning.specs.Constants.{constant_bool}
 use Rattle.theory_meaning.specs.Tree.{Expr, Stmt, Noop, If, Block, Stmts, no_stmts, stmt}

@@ -1,11 +1,10 @@
 -- The last of some operands.
-use Rattle.std.proofs.Common.{◌≡◌, Bool, true, false, List, [], ◌∷◌, ◌++◌, refl, sym, ap, ◌∙◌}
+use Rattle.std.proofs.Common.{◌≡◌, Bool, false, List, [], ◌∷◌, ◌++◌, refl, sym, ap, ◌∙◌}
 use Rattle.ast_types.specs.declared.expr.Expr as declared_expr
 use Rattle.theory_meaning.specs.Tree.{expr}
 use Rattle.ast_types.specs.Reading.{expr_of, exprs_of}
 use Rattle.theory_rewriting.specs.Answering.{is_always}
-use Rattle.theory_rewriting.specs.Operands.{with_last}
-use Rattle.opt_stmts.specs.SettledChoices.{ends_false}
+use Rattle.theory_rewriting.specs.Operands.{with_last, ends_false}
 
 ends-last : (front : List declared_expr.Expr) (x : declared_expr.Expr) → is_always false (expr_of x) ≡ ends_false (exprs_of (front ++ x ∷ []))
 ends-last [] x = refl

@@ -1,5 +1,5 @@
 -- Rules that fired.
-use Rattle.std.proofs.Common.{◌≡◌, Bool, true, false, Option, Some, None, refl, sym, ap, ◌∙◌, subst}
+use Rattle.std.proofs.Common.{◌≡◌, Bool, true, false, Some, refl, sym, ap, ◌∙◌, subst}
 use Rattle.ast_types.specs.declared.block.StmtBlock.{StmtBlock}
 use Rattle.theory_meaning.specs.Engine.{Engine}
 use Rattle.theory_meaning.specs.Tree.{Expr, UnitConstant, Stmt, Noop, While, TryCatch, Stmts}

@@ -10,4 +10,5 @@ pub mod Nesting
 pub mod OtherAssignments
 pub mod OtherChoices
 pub mod OtherStatements
+pub mod Settled
 pub mod Shapes

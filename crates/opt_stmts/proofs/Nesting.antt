@@ -1,16 +1,16 @@
 -- An `if` alone in an `if`.
-use Rattle.std.proofs.Common.{◌≡◌, ◌≤◌, Bool, true, false, not, ◌&&◌, List, [], ◌∷◌, length, arith, Option, None, refl, sym, ap, ◌∙◌, subst}
+use Rattle.std.proofs.Common.{◌≡◌, ◌≤◌, Bool, true, false, ◌&&◌, List, [], ◌∷◌, length, arith, None, refl, sym, ap, ◌∙◌, subst}
 use Rattle.ast_types.specs.declared.stmt.Stmt as declared_stmt
 use Rattle.theory_meaning.specs.Constants.{constant_bool}
-use Rattle.theory_meaning.specs.Tree.{Expr, And, Exprs, no_exprs, expr, Stmt, If, Stmts, no_stmts, stmt}
+use Rattle.theory_meaning.specs.Tree.{Expr, And, Exprs, no_exprs, expr, If, Stmts, no_stmts, stmt}
 use Rattle.ast_types.specs.Reading.{stmts_of}
-use Rattle.theory_rewriting.specs.Operands.{with_last}
+use Rattle.theory_rewriting.specs.Operands.{with_last, is_and, ends_false}
 use Rattle.theory_rewriting.specs.Rules as rule
 use Rattle.theory_rewriting.specs.Steps.{StmtRewrite}
 use Rattle.opt_steps.proofs.Places.{not-true}
 use Rattle.opt_steps.proofs.Stepping.{stmt_rewrite_as}
 use Rattle.opt_stmts.specs.Nested.{Joins, joins}
-use Rattle.opt_stmts.specs.SettledChoices.{is_empty, ends_false, goes_on, is_bare_if_alone, nests}
+use Rattle.opt_stmts.specs.SettledChoices.{is_empty, goes_on, is_bare_if_alone, nests}
 use Rattle.opt_stmts.proofs.ChoiceParts.{keeps_nested, keeps_joined}
 
 both_true : (a b : Bool) → a && b ≡ true → (a ≡ true) × (b ≡ true)
@@ -31,17 +31,17 @@ pub nests_alone : (c : Expr) (a b : Stmts) → nests c a b ≡ true → is_bare_
 nests_alone c a b h = (both_true (goes_on c) _ (both_true (is_empty b) _ h).1).1
 
 -- the inner condition stands beside the outer one
-pub nested_made : (w : Bool) (c b : Expr) (body ss br : Stmts) {c' : Expr} {br' : Stmts} → nests c body br ≡ true → constant_bool c ≡ None → body ≡ stmt (If b ss no_stmts) no_stmts → c' ≡ And (expr c (expr b no_exprs)) → br' ≡ br → StmtRewrite false w (If c body br) (If c' ss br')
-nested_made w c b body ss br n u i j k =
+pub nested_made : (w : Bool) (c b : Expr) (body ss br : Stmts) {c' : Expr} {br' : Stmts} → nests c body br ≡ true → constant_bool c ≡ None → is_and c ≡ false → body ≡ stmt (If b ss no_stmts) no_stmts → c' ≡ And (expr c (expr b no_exprs)) → br' ≡ br → StmtRewrite false w (If c body br) (If c' ss br')
+nested_made w c b body ss br n u a i j k =
     let e = no_statements br (both_true (is_empty br) _ n).0 in
-    stmt_rewrite_as (before c b ss i e) (after (And (expr c (expr b no_exprs))) ss j k e) (record { rule = λ k. rule.nested_if; keeps = λ h. keeps_nested c b ss u })
+    stmt_rewrite_as (before c b ss i e) (after (And (expr c (expr b no_exprs))) ss j k e) (record { rule = λ k. rule.nested_if a; keeps = λ h. keeps_nested c b ss u })
 
 -- or behind its operands
 pub joins_as : {c c' : Expr} (es es' : Exprs) (b : Expr) → c ≡ And es → c' ≡ And es' → es' ≡ with_last es b → Joins c b c'
 joins_as {c' = c'} es es' b i j k = subst (λ a. Joins a b c') (sym i) (subst (λ a. Joins (And es) b a) (sym (j ∙ ap And k)) joins)
 
 joined_made : (w : Bool) (c b c' : Expr) (ss : Stmts) → goes_on c ≡ true → Joins c b c' → StmtRewrite false w (If c (stmt (If b ss no_stmts) no_stmts) no_stmts) (If c' ss no_stmts)
-joined_made w _ _ _ ss h (joins {es} {b}) = record { rule = λ k. rule.nested_if_joins; keeps = λ i. keeps_joined es b ss (not-true (ends_false es) h) }
+joined_made w _ _ _ ss h (joins {es} {b}) = let f = not-true (ends_false es) h in record { rule = λ k. rule.nested_if_joins f; keeps = λ i. keeps_joined es b ss f }
 
 pub joins_made : (w : Bool) (c b c' : Expr) (body ss br : Stmts) {c1 : Expr} {br' : Stmts} → nests c body br ≡ true → c1 ≡ c → Joins c1 b c' → body ≡ stmt (If b ss no_stmts) no_stmts → br' ≡ br → StmtRewrite false w (If c body br) (If c' ss br')
 joins_made w c b c' body ss br n o q i k =

@@ -1,13 +1,16 @@
 -- Lists of none, of one and of more, and statements of a kind at which nothing is left to reduce.
-use Rattle.std.proofs.Common.{◌≡◌, ◌≢◌, ◌≤◌, Bool, true, false, List, [], ◌∷◌, length, Option, None, refl, sym, ap, ◌∙◌, arith}
+use Rattle.std.proofs.Common.{◌≡◌, ◌≢◌, ◌≤◌, Bool, true, false, List, [], ◌∷◌, length, None, refl, ap, ◌∙◌, arith}
 use Rattle.ast_types.specs.declared.stmt.Stmt as declared_stmt
 use Rattle.theory_meaning.specs.Engine.{Engine}
-use Rattle.theory_meaning.specs.Tree.{Stmt, While, Block, TryCatch, ExprStmt, Stmts, no_stmts, stmt}
+use Rattle.theory_meaning.specs.Tree.{Stmt, If, While, Assignment, Block, TryCatch, ExprStmt, Share, Stmts, no_stmts, stmt}
 use Rattle.theory_meaning.specs.Walk.{OfStmt}
 use Rattle.ast_types.specs.Reading.{stmts_of}
 use Rattle.theory_rewriting.specs.Answering.{is_that}
 use Rattle.theory_rewriting.specs.Residue.{IsReducedNode}
+use Rattle.opt_stmts.specs.SettledAssignments.{is_share, is_assignment}
+use Rattle.opt_stmts.specs.SettledChoices.{is_if, is_settled}
 use Rattle.opt_stmts.specs.SettledStatements.{is_block, is_expression, is_while, is_try, decided_loop}
+use Rattle.opt_stmts.proofs.Choosing.{settled_if}
 
 -- a test that says yes of each list of two or more
 abbrev SettlesLong : (Stmts → Bool) → Type 0
@@ -40,3 +43,15 @@ while_reduced r _ h d = absurd cc
 pub try_reduced : (r : Engine) (x : Stmt) → is_try x ≡ true → IsReducedNode r (OfStmt x)
 try_reduced r (TryCatch x a b) h = tt
 try_reduced r _ h = absurd cc
+
+pub if_reduced : (r : Engine) (x : Stmt) → is_if x ≡ true → is_settled x ≡ true → IsReducedNode r (OfStmt x)
+if_reduced r (If c a b) h i = settled_if c a b i
+if_reduced r _ h i = absurd cc
+
+pub assignment_reduced : (r : Engine) (x : Stmt) → is_assignment x ≡ true → IsReducedNode r (OfStmt x)
+assignment_reduced r (Assignment op l e) h = tt
+assignment_reduced r _ h = absurd cc
+
+pub share_reduced : (r : Engine) (x : Stmt) → is_share x ≡ true → IsReducedNode r (OfStmt x)
+share_reduced r (Share xs) h = tt
+share_reduced r _ h = absurd cc

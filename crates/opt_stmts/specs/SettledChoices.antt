@@ -1,8 +1,8 @@
 -- An `if` at which no rule fires, its parts being reduced.
-use Rattle.std.specs.Prelude.{Bool, true, false, ◌&&◌, not, Option, Some, None, is_some}
+use Rattle.std.specs.Prelude.{Bool, true, false, ◌&&◌, not, is_some}
 use Rattle.theory_meaning.specs.Constants.{constant_bool}
-use Rattle.theory_meaning.specs.Tree.{Expr, And, Exprs, no_exprs, expr, Stmt, If, Stmts, no_stmts, stmt}
-use Rattle.theory_rewriting.specs.Answering.{is_always}
+use Rattle.theory_meaning.specs.Tree.{Expr, And, Stmt, If, Stmts, no_stmts, stmt}
+pub use Rattle.theory_rewriting.specs.Operands.{is_and, ends_false}
 
 abbrev pub is_empty : Stmts → Bool
 is_empty no_stmts = true
@@ -30,20 +30,10 @@ reopens w _ = false
 
 -- ---- an `if` alone in an `if`
 
--- the last of some operands is the constant false
-abbrev pub ends_false : Exprs → Bool
-ends_false no_exprs = false
-ends_false (expr e no_exprs) = is_always false e
-ends_false (expr e (expr f es)) = ends_false (expr f es)
-
 -- another condition may follow
 abbrev pub goes_on : Expr → Bool
 goes_on (And es) = not (ends_false es)
 goes_on _ = true
-
-abbrev pub is_and : Expr → Bool
-is_and (And es) = true
-is_and _ = false
 
 -- an `if` without an `else`, and one alone
 abbrev pub is_bare_if : Stmt → Bool

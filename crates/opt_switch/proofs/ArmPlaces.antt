@@ -1,5 +1,5 @@
 -- Arms by their places.
-use Rattle.std.proofs.Common.{◌≡◌, ℕ, zero, suc, ◌<◌, ◌≤◌, ◌∙◌, Bool, take, List, [], ◌∷◌, Some, None, get_or, set, length, refl, sym, ap, arith}
+use Rattle.std.proofs.Common.{◌≡◌, ℕ, zero, suc, ◌<◌, ◌≤◌, ◌∙◌, Bool, false, take, List, [], ◌∷◌, Some, None, get_or, set, length, refl, sym, ap, arith}
 use Rattle.ast_types.specs.declared.expr.BinaryExpr.{BinaryExpr}
 use Rattle.ast_types.specs.declared.stmt.Stmt as declared_stmt
 use Rattle.theory_meaning.specs.Tree.{Expr, no_arms, arm, count_arms, Stmt}
@@ -9,9 +9,13 @@ use Rattle.opt_switch.specs.Deciding.{arms_in, default_in, choice_at}
 use Rattle.opt_switch.specs.declared.choice.Choice.TheVariants.{Several}
 use Rattle.opt_switch.specs.Forgetting.{answer_left, forgets, loses_answer, loses_answers}
 use Rattle.opt_switch.proofs.Forgotten.{put, answer_in}
-use Rattle.std.specs.Prelude.{◌||◌, slice_get}
+use Rattle.std.specs.Prelude.{◌||◌, nat_lt, slice_get}
+use Rattle.std.proofs.lemmas.Bool.Decides.{nat_tests}
 use Rattle.ast_types.specs.Reading.{arms_of, expr_of}
 use Rattle.theory_rewriting.specs.Tables.{arm_of}
+
+pub not_below : (m n : ℕ) → nat_lt m n ≡ false → n ≤ m
+not_below m n h = grind (arith, nat_tests)
 
 abbrev pub both_of : BinaryExpr → Expr × Expr
 both_of b = (expr_of b.lhs, expr_of b.rhs)

@@ -16,12 +16,12 @@ use Rattle.opt_switch.specs.Deciding.{hashable, is_default, but_default, choice_
 
 -- ---- of a constant subject
 
-pub over_constant : {R : Type 0} (o : Option Value) (as' : Arms) (t : SwitchTable) (c : Choice) → (Several ≡ c → ⊥) → choice_over as' t (hashable o) ≡ c → ((v : Value) → o ≡ Some v → but_default t.default (choice_of as' (left_arms as' (chosen t v))) ≡ c → R) → R
+pub over_constant : {R : Type 0} (o : Option Value) (as' : Arms) (t : SwitchTable) (c : Choice) → (Several ≡ c → ⊥) → choice_over as' t (hashable o) ≡ c → ((v : Value) → o ≡ Some v → is_hashable v ≡ true → but_default t.default (choice_of as' (left_arms as' (chosen t v))) ≡ c → R) → R
 over_constant None as' t c n h f = absurd (n h)
-over_constant {R = R} (Some v) as' t c n h f = by (is_hashable v) h where
-  by : (b : Bool) → choice_over as' t (cond b (Some v) None) ≡ c → R
-  by true q = f v refl q
-  by false q = absurd (n q)
+over_constant {R = R} (Some v) as' t c n h f = by (is_hashable v) refl h where
+  by : (b : Bool) → is_hashable v ≡ b → choice_over as' t (cond b (Some v) None) ≡ c → R
+  by true i q = f v refl i q
+  by false i q = absurd (n q)
 
 -- ---- the default aside
 
@@ -122,9 +122,9 @@ arm_there (Some p) a h f = f p.0 (ap (λ x. Some (p.0, x)) (sym (ap (given_or a)
 
 pub answers : (x : Stmt) (j : ℕ) (a : Expr) → choice_at x ≡ Answer j → Some a ≡ answer_of_arm (arm_of (arms_in x) j) → (k : Context) (w : Bool) → StmtRule k w x (ExprStmt a)
 answers (Switch e as' t) j a h q k w =
-    over_constant (constant_value e) as' t (Answer j) (λ z. cc) h (λ v c b.
+    over_constant (constant_value e) as' t (Answer j) (λ z. cc) h (λ v c i b.
     let l = of_answer as' _ j (answer_left t.default _ j b) in
-    arm_there (arm_of as' j) a q (λ d r. switch_answers v j [] c l.0 r (ap arm_decides (sym r) ∙ l.1)))
+    arm_there (arm_of as' j) a q (λ d r. switch_answers v j [] c i l.0 r (ap arm_decides (sym r) ∙ l.1)))
 answers _ j a h q k w = absurd (let z : Several ≡ Answer j = h in cc)
 
 -- an `if` with the default as its branch
@@ -134,24 +134,24 @@ branch_is (Some e) = refl
 
 pub is_if : (x : Stmt) (j : ℕ) (c a : Expr) (o : Option Expr) → choice_at x ≡ Only j → Some (c, a) ≡ arm_of (arms_in x) j → o ≡ default_answer (arms_in x) (default_in x) → (k : Context) (w : Bool) → StmtRule k w x (If c (answered (Some a)) (answered o))
 is_if (Switch e as' t) j c a o h q r k w =
-    over_constant (constant_value e) as' t (Only j) (λ z. cc) h (λ v i b.
+    over_constant (constant_value e) as' t (Only j) (λ z. cc) h (λ v d i b.
     let l = only_left t.default _ j b in
     subst (λ ss. StmtRule k w (Switch e as' t) (If c (stmt (ExprStmt a) no_stmts) ss)) (sym (branch_is o ∙ ap default_branch r))
-    (switch_is_if v j i (of_only as' _ j l.0) (sym q) l.1))
+    (switch_is_if v j d i (of_only as' _ j l.0) (sym q) l.1))
 is_if _ j c a o h q r k w = absurd (let z : Several ≡ Only j = h in cc)
 
 pub defaults : (x : Stmt) (o : Option Expr) → choice_at x ≡ Nothing → o ≡ default_answer (arms_in x) (default_in x) → (k : Context) (w : Bool) → StmtRule k w x (default_stmt o)
 defaults (Switch e as' t) o h r k w =
-    over_constant (constant_value e) as' t Nothing (λ z. cc) h (λ v i b.
+    over_constant (constant_value e) as' t Nothing (λ z. cc) h (λ v d i b.
     subst (λ p. StmtRule k w (Switch e as' t) (default_stmt p)) (sym r)
-    (switch_defaults v i (of_nothing as' (chosen t v) _ refl (nothing_left t.default _ b))))
+    (switch_defaults v d i (of_nothing as' (chosen t v) _ refl (nothing_left t.default _ b))))
 defaults _ o h r k w = absurd (let z : Several ≡ Nothing = h in cc)
 
 -- ---- what is asked is there
 
 pub no_answer : (x : Stmt) (j : ℕ) → choice_at x ≡ Answer j → None ≡ answer_of_arm (arm_of (arms_in x) j) → ⊥
 no_answer (Switch e as' t) j h q =
-    over_constant (constant_value e) as' t (Answer j) (λ z. cc) h (λ v c b. by (arm_of as' j) (of_answer as' _ j (answer_left t.default _ j b)).1 q)
+    over_constant (constant_value e) as' t (Answer j) (λ z. cc) h (λ v c i b. by (arm_of as' j) (of_answer as' _ j (answer_left t.default _ j b)).1 q)
   where
     by : (o : Option (Expr × Expr)) → arm_decides o ≡ Some true → None ≡ answer_of_arm o → ⊥
     by None d r = let z : Some false ≡ Some true = d in cc
@@ -163,11 +163,11 @@ left_there : (as' : Arms) (is : List ℕ) (j : ℕ) (l : List ℕ) → left_arms
 left_there as' is j l h q = head_open as' is j l h (ap arm_decides (sym q))
 
 pub no_only : (x : Stmt) (j : ℕ) → choice_at x ≡ Only j → None ≡ arm_of (arms_in x) j → ⊥
-no_only (Switch e as' t) j h q = over_constant (constant_value e) as' t (Only j) (λ z. cc) h (λ v c b. left_there as' (chosen t v) j [] (of_only as' _ j (only_left t.default _ j b).0) q)
+no_only (Switch e as' t) j h q = over_constant (constant_value e) as' t (Only j) (λ z. cc) h (λ v c i b. left_there as' (chosen t v) j [] (of_only as' _ j (only_left t.default _ j b).0) q)
 no_only _ j h q = let z : Several ≡ Only j = h in cc
 
 pub not_default_too : (x : Stmt) (j : ℕ) → choice_at x ≡ Only j → default_in x ≡ Some j → ⊥
-not_default_too (Switch e as' t) j h q = over_constant (constant_value e) as' t (Only j) (λ z. cc) h (λ v c b. (only_left t.default _ j b).1 q)
+not_default_too (Switch e as' t) j h q = over_constant (constant_value e) as' t (Only j) (λ z. cc) h (λ v c i b. (only_left t.default _ j b).1 q)
 not_default_too _ j h q = let z : Several ≡ Only j = h in cc
 
 -- ---- a statement that is spelled so

@@ -22,9 +22,9 @@ use Rattle.theory_rewriting.specs.Tables.{arm_of, arm_decides, left_with, left_a
 use Rattle.opt_switch.proofs.Choosing.{held_is}
 use Rattle.opt_switch.proofs.Forgotten.{unequal}
 use Rattle.opt_switch.proofs.Places.{place_is}
-use Rattle.opt_switch.specs.Cases.{AreDistinct}
-use Rattle.opt_switch.specs.Narrowing.{has_other, only_cases, range_with, only_ranges, has_case}
-use Rattle.opt_switch.specs.Shrinking.{is_false_arm, left_ranges, has_some, ends_with, end_of, list_shrinks, lists_shrink, stays, left_cases}
+use Rattle.theory_rewriting.specs.Narrowing.{has_other, only_cases, range_with, only_ranges, has_case}
+use Rattle.theory_rewriting.specs.Shrinking.{AreDistinct, is_false_arm, left_ranges, has_some, list_shrinks, lists_shrink, stays, left_cases}
+use Rattle.opt_switch.specs.Ends.{ends_with, end_of}
 
 -- ---- keys
 

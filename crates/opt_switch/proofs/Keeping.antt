@@ -1,6 +1,7 @@
 -- The parts of a `switch` stay reduced where its table gets smaller, and where it loses answers that no list asks for.
-use Rattle.std.proofs.Common.{◌≡◌, ℕ, zero, suc, Bool, true, false, List, [], ◌∷◌, Some, refl, sym, ◌∙◌}
-use Rattle.std.specs.Prelude.{slice_get}
+use Rattle.std.proofs.Common.{◌≡◌, ℕ, zero, suc, Bool, true, false, List, [], ◌∷◌, Some, refl, sym, ap, ◌∙◌}
+use Rattle.std.specs.Prelude.{◌==◌, ◌||◌, slice_get}
+use Rattle.std.proofs.lemmas.Bool.Decides.{Decides-eqb}
 use Rattle.theory_meaning.specs.Shape.{names_arm}
 use Rattle.theory_meaning.specs.Tree.{SwitchTable, Expr, Arms, no_arms, arm, Switch}
 use Rattle.theory_meaning.specs.Walk.{Walk, over_arms, arm_at, arms_at, listed}
@@ -9,7 +10,6 @@ use Rattle.theory_rewriting.specs.Residue.{IsReducedNode, every_reached}
 use Rattle.theory_rewriting.specs.Steps.{KeepsStmtParts}
 use Rattle.theory_rewriting.proofs.rules.Arms.{AllArms}
 use Rattle.opt_switch.specs.Forgetting.{forgets}
-use Rattle.opt_switch.proofs.Narrowed.{named_all}
 
 -- ---- what holds of arms by their places
 
@@ -48,6 +48,17 @@ module _ (W : Walk (Type 0)) where
   arms_untouched ms as' [] h p = tt
   arms_untouched ms as' (i ∷ is) h p = (arm_untouched ms as' i h.0 p.0, arms_untouched ms as' is h.1 p.1)
 
+-- each of a list is named by a list that names whatever it does
+all_named : (is js : List ℕ) → ((i : ℕ) → names_arm i is ≡ true → names_arm i js ≡ true) → AllArms (λ i. names_arm i js ≡ true) is
+all_named [] js f = tt
+all_named (i ∷ is) js f = (
+  f i (ap (λ b. b || names_arm i is) ((Decides-eqb i i).1 refl)),
+  all_named is js (λ j h. f j (later (j == i) (names_arm j is) h)),
+) where
+  later : (a b : Bool) → b ≡ true → a || b ≡ true
+  later true b h = refl
+  later false b h = h
+
 -- what is not marked is not listed
 unlisted : (ms : List Bool) (is js : List ℕ) → ((i : ℕ) → slice_get ms i ≡ Some false → names_arm i js ≡ false) → AllArms (λ i. names_arm i js ≡ true) is → AllArms (λ i. slice_get ms i ≡ Some false → ⊥) is
 unlisted ms [] js h p = tt
@@ -55,12 +66,9 @@ unlisted ms (i ∷ is) js h p = (λ q. let z : true ≡ false = sym p.0 ∙ h i 
 
 pub keeps_forgotten : (e : Expr) (t : SwitchTable) (as' : Arms) (ms : List Bool) → ((i : ℕ) → slice_get ms i ≡ Some false → names_arm i (listed t) ≡ false) → KeepsStmtParts (Switch e as' t) (Switch e (forgets ms as') t)
 keeps_forgotten e t as' ms u =
-    let asked = unlisted ms (listed t) (listed t) u (named_all' (listed t)) in
+    let asked = unlisted ms (listed t) (listed t) u (all_named (listed t) (listed t) (λ i h. h)) in
     let arms : (W : Walk (Type 0)) → arms_at (Unit {0}) (λ p q. p × q) (over_arms W as') (listed t) → arms_at (Unit {0}) (λ p q. p × q) (over_arms W (forgets ms as')) (listed t) = λ W h. untold _ _ (arms_untouched W ms as' (listed t) asked (told _ _ h)) in
     record {
       parts = λ r h. (tt, ((h.1.0.0, arms (of_first AnswersNothing) h.1.0.1), (h.1.1.0, arms (every_reached (IsReducedNode r)) h.1.1.1)));
       clear = λ ks h. tt;
     }
-  where
-    named_all' : (is : List ℕ) → AllArms (λ i. names_arm i is ≡ true) is
-    named_all' is = named_all (λ i. names_arm i is) is (λ i h. h)

@@ -1,11 +1,10 @@
 pub mod Choosing
 pub mod Decided
 pub mod ArmPlaces
-pub mod Shrunk
-pub mod Narrowed
 pub mod Forgotten
 pub mod Kept
 pub mod Keeping
+pub mod Settled
 pub mod Stepped
 pub mod Entries
 pub mod Places

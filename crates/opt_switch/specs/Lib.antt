@@ -1,7 +1,5 @@
-pub mod Cases
+pub mod Ends
 pub mod Choices
 pub mod Deciding
-pub mod Shrinking
-pub mod Narrowing
 pub mod Forgetting
 pub mod Steps

@@ -6,7 +6,7 @@ ghost use Rattle.std.specs.Prelude.{◌≡◌, ℕ, Some};
 ghost use Rattle.std.specs.Option.{option_map};
 ghost use Rattle.ast_types.specs.Reading.{arms_of, expr_of, expressions_of, table_of};
 ghost use Rattle.theory_rewriting.specs.Tables as tables;
-ghost use Rattle.opt_switch.specs.Shrinking as shrinking;
+ghost use Rattle.theory_rewriting.specs.Shrinking as shrinking;
 
 use opt_folding::constant_bool;
 use rhai_ast::{BinaryExpr, Expr, SwitchCasesCollection, Take};

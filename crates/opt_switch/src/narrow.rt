@@ -10,8 +10,8 @@ ghost use Rattle.theory_meaning.specs.Control.{case_for};
 ghost use Rattle.ast_types.specs.Reading.{arms_of, case_of, expressions_of, range_of, table_of};
 ghost use Rattle.theory_rewriting.specs.Tables.{left_arms};
 ghost use Rattle.theory_meaning.specs.Walk.{arms_of_ranges};
-ghost use Rattle.opt_switch.specs.Narrowing as narrowing;
-ghost use Rattle.opt_switch.specs.Shrinking as shrinking;
+ghost use Rattle.theory_rewriting.specs.Narrowing as narrowing;
+ghost use Rattle.opt_switch.specs.Ends.{end_of};
 
 use crate::arms::{decided, is_false};
 use crate::shrink::{has_ranges, keep_left, loses_arms};
@@ -132,7 +132,7 @@ pub(crate) fn only_cases(alloc: Global, arms: &[BinaryExpr], cases: &mut Cases, 
 
 /// The place behind the first true range.
 fn end_of(arms: &[BinaryExpr], ranges: &[RangeCase]) -> usize
-    ensures { result ≡ shrinking.end_of (arms_of arms.now) (arms_of_ranges (map range_of ranges.now)) }
+    ensures { result ≡ end_of (arms_of arms.now) (arms_of_ranges (map range_of ranges.now)) }
 {
     let mut end: usize = 0;
     for range in ranges {

@@ -7,8 +7,9 @@ ghost use Rattle.std.specs.Prelude.{◌≡◌, length, map};
 ghost use Rattle.std.specs.List.{list_any};
 ghost use Rattle.ast_types.specs.Reading.{arms_of, case_of, expressions_of, range_of, table_of};
 ghost use Rattle.theory_rewriting.specs.Tables.{left_arms};
-ghost use Rattle.opt_switch.specs.Cases.{AreDistinct};
-ghost use Rattle.opt_switch.specs.Shrinking as shrinking;
+ghost use Rattle.theory_rewriting.specs.Shrinking as shrinking;
+ghost use Rattle.theory_rewriting.specs.Shrinking.{AreDistinct};
+ghost use Rattle.opt_switch.specs.Ends.{end_of};
 
 use crate::arms::{decided, is_false};
 use indexmap::IndexMap;
@@ -92,7 +93,7 @@ pub(crate) fn shrinks(table: &SwitchCasesCollection) -> bool
 
 /// The place behind the first true arm of a list.
 fn end_of(arms: &[BinaryExpr], places: &[usize]) -> usize
-    ensures { result ≡ shrinking.end_of (arms_of arms.now) places.now }
+    ensures { result ≡ end_of (arms_of arms.now) places.now }
 {
     let mut end: usize = 0;
     for place in places {

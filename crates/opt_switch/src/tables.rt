@@ -8,8 +8,8 @@ ghost use Rattle.rhai_base.specs.Value.{is_hashable};
 ghost use Rattle.opt_known.specs.State.{progress};
 ghost use Rattle.theory_meaning.specs.Control.{case_for};
 ghost use Rattle.ast_types.specs.Reading.{arms_of, expressions_of, stmt_of, table_of};
-ghost use Rattle.opt_switch.specs.Narrowing as narrowing;
-ghost use Rattle.opt_switch.specs.Shrinking as shrinking;
+ghost use Rattle.theory_rewriting.specs.Narrowing as narrowing;
+ghost use Rattle.theory_rewriting.specs.Shrinking as shrinking;
 ghost use Rattle.opt_switch.specs.Steps as steps;
 
 use crate::forget::{forget_answers, listed_arms};
@@ -107,7 +107,7 @@ fn narrow_block(
     switch: &mut SwitchBlock,
 ) -> Result<bool, OutOfMemory>
     ensures { IfOk result (λ fired.
-        steps.TableStep fired (progress state.old) (progress state.new) (steps.switch_of switch.old)
+        steps.TableStep steps.IsNarrow fired (progress state.old) (progress state.new) (steps.switch_of switch.old)
         (steps.switch_of switch.new)) }
 {
     match switch.expr.constant_value(alloc)? {
@@ -141,7 +141,7 @@ fn step_block(
     switch: &mut SwitchBlock,
 ) -> Result<bool, OutOfMemory>
     ensures { IfOk result (λ fired.
-        steps.TableStep fired (progress state.old) (progress state.new) (steps.switch_of switch.old)
+        steps.TableStep steps.IsSmall fired (progress state.old) (progress state.new) (steps.switch_of switch.old)
         (steps.switch_of switch.new)) }
 {
     if narrow_block(alloc, state, switch)? {
@@ -160,7 +160,7 @@ pub(crate) fn step_table(
     statement: &mut Stmt,
 ) -> Result<bool, OutOfMemory>
     ensures { IfOk result (λ fired.
-        steps.TableStep fired (progress state.old) (progress state.new) (stmt_of statement.old)
+        steps.TableStep steps.IsSmall fired (progress state.old) (progress state.new) (stmt_of statement.old)
         (stmt_of statement.new)) }
 {
     match statement {

@@ -1,7 +1,9 @@
 -- Functions whose bodies are optimised, and their table.
 use Rattle.std.proofs.Common.{◌≡◌, ℕ, suc, arith, ◌+◌, ◌-◌, ◌<◌, Bool, true, false, None, List, [], ◌∷◌, ◌++◌, map, length, drop, get_or, add-one, append-nil, if◌then◌else◌, refl, sym, ap, ◌∙◌, subst}
-use Rattle.std.specs.Prelude.{◌==◌}
+use Rattle.std.specs.Prelude.{◌==◌, ◌≤◌}
+use Rattle.std.proofs.Math.Dec.{ltb}
 use Rattle.std.proofs.Math.Seq.{drop-cons, drop-length}
+use Rattle.std.proofs.lemmas.Bool.{ltb-false}
 use Rattle.std.proofs.lemmas.List.{append_assoc, map-append}
 use Rattle.std.specs.Rc.{rc_value}
 use Rattle.std.specs.declared.alloc.Global.{Global}
@@ -9,21 +11,21 @@ use Rattle.std.specs.declared.rc.Rc.{Rc}
 use Rattle.rhai_base.specs.Value.{Text}
 use Rattle.theory_meaning.specs.Calls.{key, same_key}
 use Rattle.theory_meaning.specs.Engine.{Engine}
-use Rattle.theory_meaning.specs.Tree.{Stmts}
 use Rattle.ast_types.specs.Reading.{function_of, stmts_of}
-use Rattle.theory_rewriting.specs.Context.{Context, Whole, knowing}
+use Rattle.theory_rewriting.specs.Context.{Whole, knowing, open_list}
 use Rattle.theory_rewriting.specs.Known.{Known, shadow_all}
-use Rattle.theory_rewriting.specs.Rewriting.{RestTo, same_stmts, flag_forgotten}
-use Rattle.theory_rewriting.specs.Scripts.{FunctionTo, FunctionsTo, no_functions as none_to, functions as more_to}
+use Rattle.theory_rewriting.specs.Finished.{IsFinished, AreFinished}
+use Rattle.theory_rewriting.specs.Rewriting.{RestTo, same_stmts}
+use Rattle.theory_rewriting.specs.Scripts.{naming_all, FunctionTo, FunctionsTo, no_functions as none_to, functions as more_to}
 use Rattle.theory_rewriting.specs.Steps.{Progress, IsReducedBody}
-use Rattle.theory_rewriting.proofs.Flags.{stmts_kept}
 use Rattle.theory_rewriting.proofs.Running.{drop_front}
 use Rattle.ast_types.specs.declared.script_fn.ScriptFuncDef.{ScriptFuncDef}
 use Rattle.script_tables.specs.FnKey.{definition_key, definitions_table}
 use Rattle.script_tables.specs.Table.{put_by, put_all_by}
 use Rattle.rhai_optimizer.specs.Functions.{Header, header_of, FunctionRun, FunctionsRun, no_functions, one_more, BodyRun}
 use Rattle.rhai_optimizer.specs.Optimised.{AreReducedBodies}
-use Rattle.opt_reducer.specs.Pass.{PassRun}
+use Rattle.rhai_optimizer.specs.Passes.{PassesRun}
+use Rattle.rhai_optimizer.proofs.Passing.{counts_to}
 
 -- ---- names
 
@@ -48,26 +50,30 @@ pub ruleset params = (params-drop, params-end)
 
 -- ---- one body
 
-kept_reduced : {r : Engine} {k : Context} {ss ss' : Stmts} → RestTo k Whole true false false ss ss' → IsReducedBody r ss' → IsReducedBody r ss
-kept_reduced {r = r} to h = subst (λ ss. IsReducedBody r ss) (sym (stmts_kept to refl).1) h
-
-module _ {r : Engine} {ks : List Known} (f f' : ScriptFuncDef) (same : header_of f' ≡ header_of f) where
-  body_to : {set : Bool} {s s' : Progress} → s.known ≡ shadow_all f.params ks → PassRun r set s s' (stmts_of f.body.block) (stmts_of f'.body.block) → FunctionTo (knowing r ks) (function_of f) (function_of f')
-  body_to {set = set} {s = s} e run = record {
+module _ {r : Engine} (ks : List Known) (f f' : ScriptFuncDef) (same : header_of f' ≡ header_of f) where
+  body_to : {n : ℕ} {s s' : Progress} → s.known ≡ shadow_all f.params ks → PassesRun r n s s' (stmts_of f.body.block) (stmts_of f'.body.block) → FunctionTo (knowing r ks) (function_of f) (function_of f')
+  body_to e run = record {
     name = ap (λ (h : Header). h.name) same;
     this_type = ap (λ (h : Header). h.this_type) same;
     params = ap (λ (h : Header). h.params) same;
-    body = flag_forgotten (subst (λ ls. RestTo (knowing r ls) Whole true false set (stmts_of f.body.block) (stmts_of f'.body.block)) e run.to);
+    body = subst (λ ls. RestTo (open_list (knowing r ls)) Whole true true true (stmts_of f.body.block) (stmts_of f'.body.block)) e (counts_to run.counts);
   }
 
-  body_kept : (set : Bool) {s s' : Progress} → PassRun r set s s' (stmts_of f.body.block) (stmts_of f'.body.block) → set ≡ false → FunctionRun r ks f f
-  body_kept true run h = absurd (let z : true ≡ false = h in cc)
-  body_kept false run h = record { header = refl; to = record { name = refl; this_type = refl; params = refl; body = same_stmts }; reduced = kept_reduced run.to run.reduced }
+  body_finished : {n : ℕ} {s s' : Progress} → s.known ≡ shadow_all f.params ks → PassesRun r n s s' (stmts_of f.body.block) (stmts_of f'.body.block) → IsFinished (naming_all f.params (knowing r ks)) (stmts_of f'.body.block)
+  body_finished e run = subst (λ ls. IsFinished (knowing r ls) (stmts_of f'.body.block)) e run.finished
 
-  pub body_run : (set : Bool) {s s' : Progress} → s.known ≡ shadow_all f.params ks → PassRun r set s s' (stmts_of f.body.block) (stmts_of f'.body.block) → BodyRun r ks set f f'
-  body_run set e run = record {
-    run = record { header = same; to = body_to e run; reduced = run.reduced };
-    kept = body_kept set run;
+  body_kept : (n : ℕ) {s s' : Progress} → s.known ≡ shadow_all f.params ks → PassesRun r n s s' (stmts_of f.body.block) (stmts_of f'.body.block) → n ≤ 1 → FunctionRun r ks f f
+  body_kept n e run h = let z = run.kept h in record {
+    header = refl;
+    to = record { name = refl; this_type = refl; params = refl; body = same_stmts };
+    reduced = subst (λ ss. IsReducedBody r ss) z run.reduced;
+    finished = subst (λ ss. IsFinished (naming_all f.params (knowing r ks)) ss) z (body_finished e run);
+  }
+
+  pub body_run : (n : ℕ) {s s' : Progress} → s.known ≡ shadow_all f.params ks → PassesRun r n s s' (stmts_of f.body.block) (stmts_of f'.body.block) → BodyRun r ks (ltb 1 n) f f'
+  body_run n e run = record {
+    run = record { header = same; to = body_to e run; reduced = run.reduced; finished = body_finished e run };
+    kept = λ h. body_kept n e run (ltb-false 1 n h);
   }
 
 -- ---- a table of them
@@ -101,6 +107,10 @@ module _ {r : Engine} {ks : List Known} where
   same_headers no_functions = refl
   same_headers (one_more p ps) = λ i. p.header i ∷ same_headers ps i
 
+  pub bodies_finished : {fs fs' : List ScriptFuncDef} → FunctionsRun r ks fs fs' → AreFinished (knowing r ks) (map function_of fs')
+  bodies_finished no_functions = tt
+  bodies_finished (one_more {f' = f'} p ps) = (subst (λ xs. IsFinished (naming_all xs (knowing r ks)) (stmts_of f'.body.block)) (sym (ap (λ (h : Header). h.params) p.header)) p.finished, bodies_finished ps)
+
   pub bodies_reduced : {fs fs' : List ScriptFuncDef} → FunctionsRun r ks fs fs' → AreReducedBodies r (map function_of fs')
   bodies_reduced no_functions = tt
   bodies_reduced (one_more p ps) = (p.reduced, bodies_reduced ps)
@@ -110,13 +120,23 @@ pub none_run : {r : Engine} {ks : List Known} (fs : List (Rc ScriptFuncDef Globa
 none_run [] h = no_functions
 none_run (f ∷ fs) h = absurd (let e : (suc (length fs) == 0) ≡ false = grind arith in let z : true ≡ false = sym h ∙ e in cc)
 
--- what was reduced may stay, whatever is known
-stays : {r : Engine} {ks ls : List Known} {f f' : ScriptFuncDef} → FunctionRun r ks f f' → FunctionRun r ls f' f'
-stays p = record { header = refl; to = record { name = refl; this_type = refl; params = refl; body = same_stmts }; reduced = p.reduced }
+-- what is reduced and finished may stay
+stays : {r : Engine} {ks : List Known} {f f' : ScriptFuncDef} → FunctionRun r ks f f' → FunctionRun r ks f' f'
+stays {r = r} {ks = ks} {f' = f'} p = record {
+  header = refl;
+  to = record { name = refl; this_type = refl; params = refl; body = same_stmts };
+  reduced = p.reduced;
+  finished = subst (λ xs. IsFinished (naming_all xs (knowing r ks)) (stmts_of f'.body.block)) (sym (ap (λ (h : Header). h.params) p.header)) p.finished;
+}
 
-pub all_stay : {r : Engine} {ks ls : List Known} {fs fs' : List ScriptFuncDef} → FunctionsRun r ks fs fs' → FunctionsRun r ls fs' fs'
+pub all_stay : {r : Engine} {ks : List Known} {fs fs' : List ScriptFuncDef} → FunctionsRun r ks fs fs' → FunctionsRun r ks fs' fs'
 all_stay no_functions = no_functions
 all_stay (one_more p ps) = one_more (stays p) (all_stay ps)
+
+-- the keys stay
+pub same_keys : {r : Engine} {ks : List Known} {fs fs' : List ScriptFuncDef} → FunctionsRun r ks fs fs' → map definition_key fs' ≡ map definition_key fs
+same_keys no_functions = refl
+same_keys (one_more {fs = fs} {fs' = fs'} p ps) = λ i. same_definition p i ∷ same_keys ps i
 
 -- ---- one after another
 

@@ -1,17 +1,20 @@
 -- Passes over a script's statements.
 use Rattle.std.specs.Prelude.{◌↔◌, IsTrue}
-use Rattle.std.proofs.Common.{◌≡◌, ◌<◌, ◌+◌, ◌-◌, ◌^◌, ℕ, suc, min, Bool, true, false, List, [], ◌∷◌, refl, sym, ap, ◌∙◌, subst, arith}
+use Rattle.std.proofs.Common.{◌≡◌, ◌<◌, ◌≤◌, ◌+◌, ◌-◌, ◌^◌, ℕ, suc, min, Bool, true, false, List, [], ◌∷◌, refl, sym, ap, ◌∙◌, subst, arith}
 use Rattle.theory_meaning.specs.Engine.{Engine}
 use Rattle.theory_meaning.specs.Tree.{Stmts, no_stmts, stmt}
 use Rattle.theory_meaning.specs.Weight.{weight}
 use Rattle.ast_types.specs.Reading.{stmts_of}
 use Rattle.ast_types.specs.declared.stmt.Stmt.{Stmt}
-use Rattle.theory_rewriting.specs.Context.{Context, Whole, knowing}
+use Rattle.theory_rewriting.specs.Context.{Context, Whole, knowing, open_list}
 use Rattle.theory_rewriting.specs.Known.{Known}
-use Rattle.theory_rewriting.specs.Passes.{no_pass, one_more, Passes, last_pass, ScriptPasses, PassesWithin}
+use Rattle.theory_rewriting.specs.Finished.{IsFinished}
+use Rattle.theory_rewriting.specs.Passes.{Setting, no_pass, one_more, Passes, last_pass, ScriptPasses, PassesWithin}
 use Rattle.theory_rewriting.specs.Rewriting.{StmtsTo, RestTo}
 use Rattle.theory_rewriting.specs.Steps.{Progress, IsReducedBody}
 use Rattle.theory_rewriting.proofs.Passing.{passes_are_bounded, script_passes_to}
+use Rattle.theory_rewriting.proofs.Flags.{stmts_kept}
+use Rattle.theory_rewriting.proofs.Normal.{list_normal}
 use Rattle.theory_rewriting.proofs.Weights.{stmts_fall}
 use Rattle.rhai_optimizer.specs.Passes.{Counts, SettingSoFar, PassesRun}
 use Rattle.opt_reducer.specs.Pass.{PassRun}
@@ -22,7 +25,7 @@ pub no_pass_yet : {r : Engine} {s : Progress} {ss : Stmts} → SettingSoFar r 0 
 no_pass_yet = record { made = 0; passes = no_pass; saturated = refl; known = refl }
 
 to_known : {r : Engine} {d : Bool} {ks ls : List Known} {ss ss' : Stmts} → ks ≡ ls → StmtsTo (knowing r ks) Whole false d ss ss' → StmtsTo (knowing r ls) Whole false d ss ss'
-to_known {r = r} {d = d} {ss = ss} {ss' = ss'} e to = subst (λ ks. RestTo (knowing r ks) Whole true false d ss ss') e to
+to_known {r = r} {d = d} {ss = ss} {ss' = ss'} e to = subst (λ ks. RestTo (open_list (knowing r ks)) Whole true false d ss ss') e to
 
 one_counted : (n m k : ℕ) → n ≡ min m (2 ^ 64 - 1) → k ≡ min (n + 1) (2 ^ 64 - 1) → k ≡ min (suc m) (2 ^ 64 - 1)
 one_counted n m k h j = omega (arith, h, j)
@@ -43,14 +46,24 @@ over_some : {k : Context} {n : ℕ} (ss : Stmts) {ss' : Stmts} → (ss ≡ no_st
 over_some no_stmts h p = absurd (h refl)
 over_some (stmt s ss) h p = p
 
+-- no pass but the last one: nothing has changed
+setting_none : {k : Context} {m : ℕ} {ss ss1 : Stmts} → m ≡ 0 → Setting k m ss ss1 → ss1 ≡ ss
+setting_none h no_pass = refl
+setting_none h (one_more {n = n} p q) = absurd (let e : suc n ≡ 0 = h in omega (arith, e))
+
+no_more : (n m k : ℕ) → n ≡ min m (2 ^ 64 - 1) → k ≡ min (n + 1) (2 ^ 64 - 1) → k ≤ 1 → m ≡ 0
+no_more n m k h j l = omega (arith, h, j, l)
+
 pub passes_done : {r : Engine} {n k : ℕ} {s s1 s' : Progress} {ss ss1 ss' : Stmts} → (ss ≡ no_stmts → ⊥) → k ≡ min (n + 1) (2 ^ 64 - 1) → SettingSoFar r n s s1 ss ss1 → PassRun r false s1 s' ss1 ss' → PassesRun r k s s' ss ss'
-passes_done {n = n} {k = k} {ss = ss} some h so_far run = record {
+passes_done {r = r} {n = n} {k = k} {ss = ss} {ss' = ss'} some h so_far run = record {
   counts = record {
     made = suc so_far.made;
     passes = over_some ss some (last_pass so_far.passes (to_known so_far.known run.to));
     saturated = one_counted n so_far.made k so_far.saturated h;
   };
   reduced = run.reduced;
+  finished = subst (λ ks. IsFinished (knowing r ks) ss') so_far.known (run.finished refl);
+  kept = λ l. sym (stmts_kept run.to refl).1 ∙ setting_none (no_more n so_far.made k so_far.saturated h l) so_far.passes;
   known = run.known ∙ so_far.known;
 }
 
@@ -61,6 +74,8 @@ pub passes_none : {r : Engine} {s : Progress} (ss : Stmts) → ss ≡ no_stmts �
 passes_none {r = r} {s = s} ss e = subst (λ z. PassesRun r 0 s s z z) (sym e) (record {
   counts = record { made = 0; passes = (refl, refl); saturated = refl };
   reduced = reduced_none r;
+  finished = list_normal no_stmts tt tt refl;
+  kept = λ l. refl;
   known = refl;
 })
 
@@ -79,6 +94,9 @@ none_read b ss h e = ap stmts_of (h.0 e)
 
 pub counts_knowing : {r : Engine} {ks ls : List Known} {n : ℕ} {ss ss' : Stmts} → ks ≡ ls → Counts (knowing r ks) n ss ss' → Counts (knowing r ls) n ss ss'
 counts_knowing {r = r} {n = n} {ss = ss} {ss' = ss'} e c = subst (λ ks. Counts (knowing r ks) n ss ss') e c
+
+pub finished_knowing : {r : Engine} {ks ls : List Known} {ss : Stmts} → ks ≡ ls → IsFinished (knowing r ks) ss → IsFinished (knowing r ls) ss
+finished_knowing {r = r} {ss = ss} e f = subst (λ ks. IsFinished (knowing r ks) ss) e f
 
 pub counts_to : {k : Context} {n : ℕ} {ss ss' : Stmts} → Counts k n ss ss' → StmtsTo k Whole true true ss ss'
 counts_to {ss = ss} {ss' = ss'} c = script_passes_to c.made ss ss' c.passes

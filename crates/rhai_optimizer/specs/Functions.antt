@@ -4,8 +4,9 @@ use Rattle.rhai_base.specs.Value.{Text}
 use Rattle.theory_meaning.specs.Engine.{Engine}
 use Rattle.ast_types.specs.Reading.{function_of, stmts_of}
 use Rattle.theory_rewriting.specs.Context.{knowing}
+use Rattle.theory_rewriting.specs.Finished.{IsFinished}
 use Rattle.theory_rewriting.specs.Known.{Known}
-use Rattle.theory_rewriting.specs.Scripts.{FunctionTo}
+use Rattle.theory_rewriting.specs.Scripts.{naming_all, FunctionTo}
 use Rattle.theory_rewriting.specs.Steps.{IsReducedBody}
 use Rattle.ast_types.specs.declared.script_fn.FnAccess.{FnAccess}
 use Rattle.ast_types.specs.declared.script_fn.ScriptFuncDef.{ScriptFuncDef}
@@ -21,11 +22,12 @@ pub record Header : Type 0 where
 abbrev pub header_of : ScriptFuncDef → Header
 header_of f = record { name = f.name; this_type = f.this_type; access = f.access; params = f.params; comments = f.comments }
 
--- its body is rewritten, under its parameters
+-- its body is rewritten, under its parameters, until nothing is left to do
 pub record FunctionRun (r : Engine) (ks : List Known) (f f' : ScriptFuncDef) : Type 0 where
   pub header : header_of f' ≡ header_of f
   pub to : FunctionTo (knowing r ks) (function_of f) (function_of f')
   pub reduced : IsReducedBody r (stmts_of f'.body.block)
+  pub finished : IsFinished (naming_all f.params (knowing r ks)) (stmts_of f'.body.block)
 
 -- in order
 pub data FunctionsRun (r : Engine) (ks : List Known) : List ScriptFuncDef → List ScriptFuncDef → Type 0 where

@@ -1,5 +1,5 @@
 -- The promise of the optimiser.
-use Rattle.std.specs.Prelude.{◌≡◌, ◌≢◌, ℕ, Bool, true, false, List, [], ◌∷◌, map, None}
+use Rattle.std.specs.Prelude.{◌≡◌, ◌≢◌, ◌⊎◌, ℕ, Bool, true, false, List, [], ◌∷◌, map, None}
 use Rattle.std.specs.Rc.{rc_value}
 use Rattle.std.specs.declared.alloc.Global.{Global}
 use Rattle.std.specs.declared.rc.Rc.{Rc}
@@ -9,12 +9,14 @@ use Rattle.theory_meaning.specs.Act.{ScopeEntry}
 use Rattle.theory_meaning.specs.Engine.{Engine}
 use Rattle.theory_meaning.specs.Faults.{IsWellFormedScript}
 use Rattle.theory_meaning.specs.Tree.{Function, Script, Stmts}
-use Rattle.theory_rewriting.specs.Context.{knowing}
+use Rattle.theory_rewriting.specs.Context.{Whole, knowing}
+use Rattle.theory_rewriting.specs.Finished.{IsFinished, IsFinishedScript}
 use Rattle.theory_rewriting.specs.Kept.{Keeps}
 use Rattle.theory_rewriting.specs.Passes.{PassesWithin}
 use Rattle.theory_rewriting.specs.Reducible.{IsIrreducibleScript}
 use Rattle.theory_rewriting.specs.Refines.{RefinesWhere}
-use Rattle.theory_rewriting.specs.Scripts.{known_at_top, known_inside}
+use Rattle.theory_rewriting.specs.Rewriting.{StmtsTo}
+use Rattle.theory_rewriting.specs.Scripts.{captures_nothing, known_at_top, known_inside}
 use Rattle.theory_rewriting.specs.Steps.{IsReducedBody}
 use Rattle.ast_types.specs.Reading.{stmts_of}
 use Rattle.opt_queries.specs.Walks.{listing}
@@ -48,6 +50,10 @@ pub record Becomes (r : Engine) (start : List ScopeEntry) (l : OptimizationLevel
   -- where the optimiser opens them.
   pub irreducible : l ≢ level.None → IsWellFormedScript p → IsIrreducibleScript r p'
   pub reduced : l ≢ level.None → IsReducedScript r p'
+  -- More than that: no rule applies anywhere in it, with what is known of it then. And what is so already comes out as it is: so what was
+  -- optimised comes back when it is optimised again.
+  pub finished : l ≢ level.None → IsFinishedScript r (known_at_top r start) (known_inside r start p') p'
+  pub stays : IsFinishedScript r (known_at_top r start) (known_inside r start p) p → p' ≡ p
 
 -- And of the script as it is declared:
 pub record Optimised (r : Engine) (start : List ScopeEntry) (l : OptimizationLevel) (before after : Contents) : Type 0 where
@@ -66,14 +72,26 @@ given ss fs = record { source = None; doc = []; statements = ss; id = None; func
 abbrev pub BodiesRun : Engine → List ScopeEntry → List Stmt → List (Rc ScriptFuncDef Global) → List (Rc ScriptFuncDef Global) → Type 0
 BodiesRun r start ss fs fs' = FunctionsRun r (known_inside r start (listing ss fs)) (map rc_value fs) (map rc_value fs')
 
+-- a script's parts, optimised once; whether a call of the source captures, if it has functions
+pub record PartsOnce (r : Engine) (start : List ScopeEntry) (captured : Bool) (ss : List Stmt) (fs : List (Rc ScriptFuncDef Global)) (ss' : List Stmt) (fs' : List (Rc ScriptFuncDef Global)) : Type 0 where
+  pub asked : captured ≡ false → (fs ≡ []) ⊎ (captures_nothing (listing ss fs) ≡ true)
+  pub statements : StmtsTo (knowing r (known_at_top r start)) Whole true true (stmts_of ss) (stmts_of ss')
+  pub bodies : BodiesRun r start ss fs fs'
+
+-- its bodies, optimised again; where a call of it captures still, they are as they were
+pub record BodiesAgain (r : Engine) (start : List ScopeEntry) (ss : List Stmt) (fs fs' : List (Rc ScriptFuncDef Global)) : Type 0 where
+  pub run : BodiesRun r start ss fs fs'
+  pub kept : captures_nothing (listing ss fs) ≡ false → fs' ≡ fs
+
 -- the statements and the functions, optimised, before they are made a script of: bodies first under what the source lets
 -- them know, and then under what was made of it does
 pub record PartsReduced (r : Engine) (start : List ScopeEntry) (ss : List Stmt) (fs : List (Rc ScriptFuncDef Global)) (ss' : List Stmt) (fs' : List (Rc ScriptFuncDef Global)) (number : ℕ) : Type 0 where
   pub counts : Counts (knowing r (known_at_top r start)) number (stmts_of ss) (stmts_of ss')
   pub reduced : IsReducedBody r (stmts_of ss')
+  pub finished : IsFinished (knowing r (known_at_top r start)) (stmts_of ss')
   pub between : List (Rc ScriptFuncDef Global)
   pub first : BodiesRun r start ss fs between
-  pub second : BodiesRun r start ss' between fs'
+  pub second : BodiesAgain r start ss' between fs'
 
 -- at a level
 pub record PartsOptimised (r : Engine) (start : List ScopeEntry) (l : OptimizationLevel) (ss : List Stmt) (fs : List (Rc ScriptFuncDef Global)) (ss' : List Stmt) (fs' : List (Rc ScriptFuncDef Global)) (number : ℕ) : Type 0 where

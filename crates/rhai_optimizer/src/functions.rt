@@ -12,10 +12,14 @@ ghost use Rattle.rhai_optimizer.specs.Functions.{BodyRun, FunctionRun, Functions
 ghost use Rattle.rhai_optimizer.specs.Scopes.{start_of};
 ghost use Rattle.opt_reducer.specs.Parts.{record_of};
 ghost use Rattle.ast_types.specs.declared.script_fn.ScriptFuncDef.{ScriptFuncDef as Declared};
-ghost use Rattle.rhai_optimizer.specs.Optimised.{BodiesRun};
-ghost use Rattle.theory_rewriting.specs.Known.{Known, shadow_all};
+ghost use Rattle.ast_types.specs.declared.stmt.Stmt.{Stmt as Statement};
+ghost use Rattle.std.specs.declared.alloc.Global.{Global};
+ghost use Rattle.std.specs.declared.rc.Rc.{Rc as Shared};
+ghost use Rattle.rhai_optimizer.specs.Optimised.{BodiesAgain, PartsOnce};
+ghost use Rattle.theory_rewriting.specs.Known.{shadow_all};
 ghost use Rattle.theory_rewriting.specs.Scripts.{known_inside};
 
+use crate::passes::make_passes;
 use crate::start::push_in_bodies;
 use opt_known::{OptimizationLevel, OptimizerState};
 use opt_queries::captures_nothing;
@@ -39,7 +43,7 @@ fn push_params(
     Ok(())
 }
 
-/// Optimises the body of a function in its place. Whether that changed it.
+/// Optimises the body of a function in its place, until a pass changes nothing. Whether that changed it.
 fn function_body(
     optimizer: &Optimizer<'_>,
     state: &mut OptimizerState<'_>,
@@ -51,9 +55,9 @@ fn function_body(
 {
     let len = state.len();
     push_params(state, function.params.as_slice())?;
-    let has_changed = optimizer.pass(state, function.body.statements_mut())?;
+    let passes = make_passes(optimizer, state, function.body.statements_mut())?;
     state.rewind_var(len);
-    Ok(has_changed)
+    Ok(passes > 1)
 }
 
 /// A function that nothing else holds is optimised in its place.
@@ -184,10 +188,11 @@ pub(crate) fn optimize_functions_again<'a>(
     functions: Vec<Rc<ScriptFuncDef>>,
 ) -> Result<Vec<Rc<ScriptFuncDef>>, OutOfMemory>
     ensures { IfOk result (λ made.
-        (ks : List Known) (fs : List Declared)
-        → FunctionsRun (record_of optimizer.now) ks fs (map rc_value functions.items)
-        → BodiesRun (record_of optimizer.now) (start_of (option_map deref scope.entry)) statements.now functions.items
-        made.items) }
+        (ss : List Statement) (fs : List (Shared Declared Global))
+        → PartsOnce (record_of optimizer.now) (start_of (option_map deref scope.entry)) captured ss fs statements.now
+        functions.items
+        → BodiesAgain (record_of optimizer.now) (start_of (option_map deref scope.entry)) statements.now
+        functions.items made.items) }
 {
     if captured && captures_nothing(statements, functions.as_slice()) {
         return optimize_functions(optimizer, scope, statements, functions);

@@ -11,6 +11,7 @@ ghost use Rattle.rhai_optimizer.specs.Passes.{Counts};
 ghost use Rattle.rhai_optimizer.specs.Scopes.{start_of};
 ghost use Rattle.ast_types.specs.Reading.{stmts_of};
 ghost use Rattle.theory_rewriting.specs.Context.{knowing};
+ghost use Rattle.theory_rewriting.specs.Finished.{IsFinished};
 ghost use Rattle.theory_rewriting.specs.Scripts.{known_at_top};
 ghost use Rattle.theory_rewriting.specs.Steps.{IsReducedBody};
 ghost use Rattle.rhai_script.specs.Contents.{contents};
@@ -45,6 +46,11 @@ fn optimize_statements<'a>(
         (known_at_top (engine_of info.now) (start_of (option_map deref scope.entry))))
         r.1 (stmts_of statements.block) (stmts_of r.0.block)) }
     ensures reduced { IfOk result (λ r. IsReducedBody (engine_of info.now) (stmts_of r.0.block)) }
+    ensures finished { IfOk result (λ r.
+        IsFinished
+        (knowing (engine_of info.now)
+        (known_at_top (engine_of info.now) (start_of (option_map deref scope.entry))))
+        (stmts_of r.0.block)) }
     ensures span { IfOk result (λ r. r.0.span ≡ statements.span) }
 {
     let mut state = OptimizerState::new(alloc, info, scope, OptimizationLevel::Simple);

@@ -1,5 +1,5 @@
 -- Of a well-formed tree either nothing is left to reduce, at any depth, or a step of the relation applies.
-use Rattle.std.proofs.Common.{◌≡◌, ℕ, zero, suc, Bool, true, false, ◌⊎◌, inl, inr, List, [], ◌∷◌, Option, Some, None, refl, sym, ap, ◌∙◌, subst}
+use Rattle.std.proofs.Common.{◌≡◌, ℕ, zero, suc, ◌+◌, ◌≤◌, Bool, true, false, ◌⊎◌, inl, inr, List, [], ◌∷◌, Option, Some, None, refl, sym, ap, ◌∙◌, subst, arith}
 use Rattle.std.specs.Prelude.{not, if◌then◌else◌}
 use Rattle.rhai_base.specs.Value.{Text, Value, UnitV}
 use Rattle.theory_meaning.specs.Constants.{constant_values, constant_bool}
@@ -10,16 +10,18 @@ use Rattle.theory_meaning.specs.Queries.{is_unit as is_unit_expr}
 use Rattle.theory_meaning.specs.Shape.{is_unit, is_member, is_argument, is_rest, is_table, is_left_side, catch_name}
 use Rattle.theory_meaning.specs.Tree.{ChainFlags, SwitchTable, Callee, Expr, InterpolatedString, ArrayOf, MapOf, Variable, ThisPtr, Property, MethodCall, BlockExpr, FnCall, Dot, Index, And, Or, Coalesce, Exprs, no_exprs, expr, Pairs, no_pairs, pair, MaybeExpr, no_expr, an_expr, Arms, no_arms, arm, Stmt, If, Switch, While, Do, For, Var, Assignment, FnCallStmt, Block, TryCatch, ExprStmt, BreakLoop, Return, Import, Stmts, no_stmts, stmt, Function}
 use Rattle.theory_meaning.specs.Walk.{OfExpr, Member, Rest, left_role, right_role, whole, outermost, every, over_expr, over_exprs, over_pairs, over_maybe, over_arms, over_stmt, over_stmts, arm_at, arms_at, listed}
+use Rattle.theory_meaning.specs.Weight.{weight}
 use Rattle.theory_meaning.proofs.PureTrees.{split}
-use Rattle.theory_rewriting.specs.Context.{Context, behind, naming, naming_some, naming_catch, ListKind, Inside, wanted, wanted_before}
+use Rattle.theory_rewriting.specs.Context.{Context, behind, naming, naming_some, naming_catch, ListKind, Inside, wanted, wanted_before, ListContext, open_list}
 use Rattle.theory_rewriting.specs.Context as context
-use Rattle.theory_rewriting.specs.Finished.{IsFinished, AreFinished, FinishedIsIrreducible}
+use Rattle.theory_rewriting.specs.Finished.{IsFinished, AreFinished, FinishedIsIrreducible, FinishedStays}
 use Rattle.theory_rewriting.specs.Folding.{folded}
 use Rattle.theory_rewriting.specs.Reducible.{is_always, follows_deciding, is_some_value, follows_some, chain_answer, AnswersNothing, of_first, is_chosen, goes_on_after_leaving, tests_constant, idles, ends_in_return, IsIrreducibleList, IsIrreducibleNode, IsIrreducibleBody, AreIrreducibleBodies}
 use Rattle.theory_rewriting.specs.Residue.{holds_constant}
 use Rattle.theory_rewriting.specs.Rewriting.{ExprTo, same_expr, by_expr_rule, in_text, in_array, in_map, in_braces, in_call, in_chain, in_and, in_or, in_coalesce, ExprsTo, exprs_none, exprs_more, PairsTo, pairs_none, pairs_more, ChainTo, in_dot, in_index, base, ArgumentTo, in_method, in_brackets, same_argument, StepsTo, same_steps, last_method, last_index, more_dot, more_index, TargetTo, same_target, in_target, guard, MaybeTo, maybe_some, ArmsTo, arms_more, StmtTo, by_stmt_rule, in_if, in_switch, in_while, in_do, in_for, in_var, in_assignment, in_block, in_try, in_expression, in_call_statement, in_break, in_return, in_import, RestTo, same_stmts, in_head, in_tail}
-use Rattle.theory_rewriting.specs.Scripts.{naming_all}
+use Rattle.theory_rewriting.specs.Scripts.{naming_all, FunctionsTo, no_functions, functions}
 use Rattle.theory_rewriting.specs.SurelyUnit.{is_surely_unit}
+use Rattle.theory_rewriting.proofs.Weights.{stmts_fall}
 use Rattle.theory_rewriting.proofs.Plain.{is_plain_value, folded_plain}
 use Rattle.theory_rewriting.proofs.Firing.{same_arms}
 use Rattle.theory_rewriting.proofs.Reducing.{ExprGoes, StmtGoes, operator_goes, operator_statement_goes, constant_array_goes, braced_constant_goes, decided_if_goes, false_loop_goes, operand_after_false_goes, operand_after_true_goes, operand_after_some_goes, constant_chain_goes, chosen_switch_goes, after_leaving_goes, idle_goes, return_goes, known_condition_goes}
@@ -109,7 +111,7 @@ ArmsChange k as' = (bs : Arms) × ArmsTo k false true as' bs
 abbrev StmtChanges : Context → Bool → Stmt → Type 0
 StmtChanges k w s = (s' : Stmt) × StmtTo k w false true s s'
 
-abbrev ListChanges : Context → ListKind → Bool → Stmts → Type 0
+abbrev ListChanges : ListContext → ListKind → Bool → Stmts → Type 0
 ListChanges k m u ss = (ss' : Stmts) × RestTo k m u false true ss ss'
 
 by_rule : {k : Context} {u : Bool} {e : Expr} → u ≡ false → ExprGoes k u e → ExprChanges k e
@@ -163,14 +165,14 @@ module _ (k : Context) where
   no_answers no_stmts = tt
   no_answers (stmt s ss) = (tt, no_answers ss)
 
-  list_by : (m : ListKind) (u : Bool) (ss : Stmts) → StmtsStay k.engine ss ⊎ ListChanges k m u ss → ListStays k.engine ss ⊎ ListChanges k m u ss
+  list_by : (m : ListKind) (u : Bool) (ss : Stmts) → StmtsStay k.engine ss ⊎ ListChanges (open_list k) m u ss → ListStays k.engine ss ⊎ ListChanges (open_list k) m u ss
   list_by m u ss d =
       unless_other d (λ x.
       unless_other (unless_true (goes_on_after_leaving ss) (λ q. after_leaving_goes ss q false)) (λ a.
-      unless_other (unless_true (tests_constant ss) (λ q. known_condition_goes ss q false)) (λ b.
+      unless_other (unless_true (tests_constant ss) (λ q. known_condition_goes ss refl q false)) (λ b.
       first (λ c. (record { ends_where_left = a; tests_no_constant = b; never_idles = c }, x)) (unless_true (idles ss) (λ q. idle_goes ss q false)))))
 
-  braces_by : (ss : Stmts) → StmtsStay k.engine ss ⊎ ListChanges k (Inside true) true ss → ExprStays k.engine (BlockExpr ss) ⊎ ExprChanges k (BlockExpr ss)
+  braces_by : (ss : Stmts) → StmtsStay k.engine ss ⊎ ListChanges (open_list k) (Inside true) true ss → ExprStays k.engine (BlockExpr ss) ⊎ ExprChanges k (BlockExpr ss)
   braces_by ss d =
       unless_other (other (λ z. (BlockExpr z.0, in_braces z.1, refl, refl)) (list_by (Inside true) true ss d)) (λ x.
       first (λ q. (refl, (record { alone = q; lists = x.0; expressions = no_answers ss }, x.1))) (unless_true (holds_constant ss) (λ q. by_rule refl (braced_constant_goes ss q))))
@@ -273,7 +275,7 @@ each_listed r l as' [] h f = inl (tt, tt)
 each_listed r l as' (i ∷ is) h f = unless_other (f i h.0) (λ x. first (λ y. ((x.0, y.0), (x.1, y.1))) (each_listed r l as' is h.1 f))
 
 module _ (k : Context) (w : Bool) where
-  if_by : (c : Expr) (a b : Stmts) → ExprStays k.engine c ⊎ ExprChanges k c → ListStays k.engine a ⊎ ListChanges k (Inside w) true a → ListStays k.engine b ⊎ ListChanges k (Inside w) true b → StmtStays k.engine (If c a b) ⊎ StmtChanges k w (If c a b)
+  if_by : (c : Expr) (a b : Stmts) → ExprStays k.engine c ⊎ ExprChanges k c → ListStays k.engine a ⊎ ListChanges (open_list k) (Inside w) true a → ListStays k.engine b ⊎ ListChanges (open_list k) (Inside w) true b → StmtStays k.engine (If c a b) ⊎ StmtChanges k w (If c a b)
   if_by c a b dc da db =
       unless_other (other (λ z. (If z.0 a b, in_if z.1 same_stmts same_stmts)) dc) (λ x.
       unless_other (other (λ z. (If c z.0 b, in_if same_expr z.1 same_stmts)) da) (λ y.
@@ -286,7 +288,7 @@ module _ (k : Context) (w : Bool) where
       unless_other (other (λ z. (Switch e z.0 t, in_switch same_expr z.1)) da) (λ y.
       first (λ q. (record { alone = q; lists = tt; expressions = (x.0, y.0) }, (x.1, y.1))) (unless_true (is_chosen e t) (λ q. by_statement_rule (chosen_switch_goes e as' t h q)))))
 
-  while_by : (e : Expr) (b : Stmts) → ExprStays k.engine e ⊎ ExprChanges k e → ListStays k.engine b ⊎ ListChanges k (Inside false) true b → StmtStays k.engine (While e b) ⊎ StmtChanges k w (While e b)
+  while_by : (e : Expr) (b : Stmts) → ExprStays k.engine e ⊎ ExprChanges k e → ListStays k.engine b ⊎ ListChanges (open_list k) (Inside false) true b → StmtStays k.engine (While e b) ⊎ StmtChanges k w (While e b)
   while_by e b de db =
       unless_other (other (λ z. (While z.0 b, in_while (guard z.1 z.3) same_stmts)) de) (λ x.
       unless_other (other (λ z. (While e z.0, in_while (guard same_expr refl) z.1)) db) (λ y.
@@ -306,7 +308,7 @@ mutual
   expr_decided k l (MapOf ps template) h = first (λ x. (refl, (record { alone = tt; lists = tt; expressions = x.0 }, x.1))) (other (λ z. (MapOf z.0 template, in_map z.1, refl, refl)) (pairs_decided k l ps h.1))
   expr_decided k l (Property p) h = absurd (let z : Some ChainShape ≡ None = h.0 in cc)
   expr_decided k l (MethodCall c es) h = absurd (let z : Some ChainShape ≡ None = h.0 in cc)
-  expr_decided k l (BlockExpr ss) h = braces_by k ss (items_decided k (Inside true) true l ss h.1)
+  expr_decided k l (BlockExpr ss) h = braces_by k ss (items_decided (open_list k) (Inside true) true l ss h.1)
   expr_decided k l (FnCall c es) h = call_by k c es (exprs_decided k l es h.1)
   expr_decided k l (Dot f e r) h =
       chain_by k (Dot f e r) refl refl
@@ -380,19 +382,19 @@ mutual
   stmt_decided : (k : Context) (w l : Bool) (s : Stmt) → over_stmt faultless s (whole l) → StmtStays k.engine s ⊎ StmtChanges k w s
   stmt_decided k w l (If c a b) h =
       if_by k w c a b (expr_decided k l c h.1.0)
-      (list_by k (Inside w) true a (items_decided k (Inside w) true l a h.1.1.0))
-      (list_by k (Inside w) true b (items_decided k (Inside w) true l b h.1.1.1))
+      (list_by k (Inside w) true a (items_decided (open_list k) (Inside w) true l a h.1.1.0))
+      (list_by k (Inside w) true b (items_decided (open_list k) (Inside w) true l b h.1.1.1))
   stmt_decided k w l (Switch e as' t) h = switch_by k w e as' t (meets SwitchFault (is_table as' t) h.0) (expr_decided k l e h.1.0) (each_listed k.engine l as' (listed t) h.1.1 (λ i x. arms_decided k l as' i x))
-  stmt_decided k w l (While e b) h = while_by k w e b (expr_decided k l e h.1.0) (list_by k (Inside false) true b (items_decided k (Inside false) true true b h.1.1))
+  stmt_decided k w l (While e b) h = while_by k w e b (expr_decided k l e h.1.0) (list_by k (Inside false) true b (items_decided (open_list k) (Inside false) true true b h.1.1))
   stmt_decided k w l (Do negated exported e b) h =
       unless_other (other (λ z. (Do negated exported z.0 b, in_do z.1 same_stmts)) (expr_decided k l e h.1.0)) (λ x.
       first (λ y. (record { alone = tt; lists = y.0; expressions = (x.0, no_answers k b) }, (x.1, y.1)))
-      (other (λ z. (Do negated exported e z.0, in_do same_expr z.1)) (list_by k (Inside false) true b (items_decided k (Inside false) true true b h.1.1))))
+      (other (λ z. (Do negated exported e z.0, in_do same_expr z.1)) (list_by k (Inside false) true b (items_decided (open_list k) (Inside false) true true b h.1.1))))
   stmt_decided k w l (For x i e b) h =
       let inside = naming x (naming_some i k) in
       unless_other (other (λ z. (For x i z.0 b, in_for z.1 same_stmts)) (expr_decided k l e h.1.0)) (λ y.
       first (λ v. (record { alone = tt; lists = v.0; expressions = (y.0, no_answers k b) }, (y.1, v.1)))
-      (other (λ z. (For x i e z.0, in_for same_expr z.1)) (of_engine b (engine_some i k) (list_by inside (Inside false) true b (items_decided inside (Inside false) true true b h.1.1)))))
+      (other (λ z. (For x i e z.0, in_for same_expr z.1)) (of_engine b (engine_some i k) (list_by inside (Inside false) true b (items_decided (open_list inside) (Inside false) true true b h.1.1)))))
   stmt_decided k w l (Var constant exported x e) h = first (λ y. (record { alone = tt; lists = tt; expressions = y.0 }, y.1)) (other (λ z. (Var constant exported x z.0, in_var z.1)) (expr_decided k l e h.1))
   stmt_decided k w l (Assignment op t e) h =
       unless_other (other (λ z. (Assignment op z.0 e, in_assignment z.1 same_expr)) (target_decided k l t (meets AssignTarget (is_left_side t) h.0) h.1.0)) (λ x.
@@ -400,12 +402,12 @@ mutual
   stmt_decided k w l (FnCallStmt c es) h = call_statement_by k w c es (exprs_decided k l es h.1)
   stmt_decided k w l (Block ss) h =
       first (λ x. (record { alone = tt; lists = x.0; expressions = no_answers k ss }, x.1))
-      (other (λ z. (Block z.0, in_block z.1)) (list_by k (Inside w) true ss (items_decided k (Inside w) true l ss h.1)))
+      (other (λ z. (Block z.0, in_block z.1)) (list_by k (Inside w) true ss (items_decided (open_list k) (Inside w) true l ss h.1)))
   stmt_decided k w l (TryCatch x a b) h =
       let inside = naming_catch (catch_name x) k in
-      unless_other (other (λ z. (TryCatch x z.0 b, in_try z.1 same_stmts)) (list_by k (Inside false) true a (items_decided k (Inside false) true l a h.1.0))) (λ y.
+      unless_other (other (λ z. (TryCatch x z.0 b, in_try z.1 same_stmts)) (list_by k (Inside false) true a (items_decided (open_list k) (Inside false) true l a h.1.0))) (λ y.
       first (λ v. (record { alone = tt; lists = (y.0, v.0); expressions = (no_answers k a, no_answers k b) }, (y.1, v.1)))
-      (other (λ z. (TryCatch x a z.0, in_try same_stmts z.1)) (of_engine b (engine_catch (catch_name x) k) (list_by inside (Inside false) true b (items_decided inside (Inside false) true l b h.1.1)))))
+      (other (λ z. (TryCatch x a z.0, in_try same_stmts z.1)) (of_engine b (engine_catch (catch_name x) k) (list_by inside (Inside false) true b (items_decided (open_list inside) (Inside false) true l b h.1.1)))))
   stmt_decided k w l (ExprStmt e) h = first (λ x. (record { alone = tt; lists = tt; expressions = x.0 }, x.1)) (other (λ z. (ExprStmt z.0, in_expression z.1)) (expr_decided k l e h.1))
   stmt_decided k w l (BreakLoop breaks exported m) h = first (λ x. (record { alone = tt; lists = tt; expressions = x.0 }, x.1)) (other (λ z. (BreakLoop breaks exported z.0, in_break z.1)) (maybe_decided k l m h.1))
   stmt_decided k w l (Return throws exported m) h = first (λ x. (record { alone = tt; lists = tt; expressions = x.0 }, x.1)) (other (λ z. (Return throws exported z.0, in_return z.1)) (maybe_decided k l m h.1))
@@ -413,29 +415,39 @@ mutual
   stmt_decided k w l _ h = inl (record { alone = tt; lists = tt; expressions = tt }, tt)
 
   -- the statements of a list
-  items_decided : (k : Context) (m : ListKind) (u l : Bool) (ss : Stmts) → over_stmts faultless ss (whole l) → StmtsStay k.engine ss ⊎ ListChanges k m u ss
+  items_decided : (k : ListContext) (m : ListKind) (u l : Bool) (ss : Stmts) → over_stmts faultless ss (whole l) → StmtsStay k.context.engine ss ⊎ ListChanges k m u ss
   items_decided k m u l no_stmts h = inl tt
   items_decided k m u l (stmt s ss) h =
-      unless_other (other (λ z. (stmt z.0 ss, in_head z.1)) (stmt_decided k (wanted_before (wanted m) ss) l s h.0)) (λ x.
+      unless_other (other (λ z. (stmt z.0 ss, in_head z.1)) (stmt_decided k.context (wanted_before (wanted m) ss) l s h.0)) (λ x.
       first (λ y. (x, y)) (other (λ z. (stmt s z.0, in_tail z.1)) (items_decided (behind s k) m (is_surely_unit s) l ss h.1)))
 
 -- ---- bodies and scripts
 
 -- a body is irreducible, or a step sets the flag
-pub body_decided : (k : Context) (ss : Stmts) → over_stmts faultless ss outermost → IsIrreducibleBody k.engine ss ⊎ ListChanges k context.Whole true ss
+pub body_decided : (k : Context) (ss : Stmts) → over_stmts faultless ss outermost → IsIrreducibleBody k.engine ss ⊎ ListChanges (open_list k) context.Whole true ss
 body_decided k ss h =
-    unless_other (list_by k context.Whole true ss (items_decided k context.Whole true false ss h)) (λ x.
+    unless_other (list_by k context.Whole true ss (items_decided (open_list k) context.Whole true false ss h)) (λ x.
     first (λ q. record { list = x.0; returns_nothing = q; nodes = x.1 }) (unless_true (ends_in_return ss) (λ q. return_goes ss q false)))
 
 pub finished_body : (k : Context) (ss : Stmts) → over_stmts faultless ss outermost → IsFinished k ss → IsIrreducibleBody k.engine ss
 finished_body k ss h f = by (body_decided k ss h) where
-  by : IsIrreducibleBody k.engine ss ⊎ ListChanges k context.Whole true ss → IsIrreducibleBody k.engine ss
+  by : IsIrreducibleBody k.engine ss ⊎ ListChanges (open_list k) context.Whole true ss → IsIrreducibleBody k.engine ss
   by (inl x) = x
-  by (inr z) = absurd (f z.0 z.1)
+  by (inr z) = absurd (let e : weight z.0 ≡ weight ss = ap weight (f false true z.0 z.1) in let l : weight z.0 + 1 ≤ weight ss = stmts_fall z.1 in omega (arith, e, l))
 
 finished_bodies : (k : Context) (fs : List Function) → AreWellFormedFunctions fs → AreFinished k fs → AreIrreducibleBodies k.engine fs
 finished_bodies k [] h f = tt
 finished_bodies k (g ∷ gs) h f = (finished_body (naming_all g.params k) g.body h.1 f.0, finished_bodies k gs h.2 f.1)
+
+-- what is made of finished statements, and of finished bodies, is these again
+bodies_stay : {k : Context} {fs gs : List Function} → AreFinished k fs → FunctionsTo k fs gs → gs ≡ fs
+bodies_stay h no_functions = refl
+bodies_stay h (functions {f = f} {f' = g} {fs = fs} {fs' = gs} p ps) =
+    let same : g ≡ f = λ i. record { name = p.name i; this_type = p.this_type i; params = p.params i; body = h.0 true true g.body p.body i } in
+    ap (λ x. x ∷ gs) same ∙ ap (λ l. f ∷ l) (bodies_stay h.1 ps)
+
+pub finished_stays : FinishedStays
+finished_stays engine top inner p p' h to = λ i. record { statements = h.statements true true p'.statements to.statements i; functions = bodies_stay h.functions to.functions i }
 
 pub finished_is_irreducible : FinishedIsIrreducible
 finished_is_irreducible engine top inner p h f = record {

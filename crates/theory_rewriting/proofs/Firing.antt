@@ -1,17 +1,20 @@
 -- Rules at a node until none fires, and lists that were rewritten behind their front.
-use Rattle.std.proofs.Common.{◌≡◌, ◌<◌, ◌≤◌, Bool, true, false, List, None, refl, sym, ◌∙◌, subst, arith}
+use Rattle.std.proofs.Common.{◌≡◌, ◌<◌, ◌≤◌, Bool, true, false, List, None, refl, sym, ap, ◌∙◌, subst, arith}
 use Rattle.theory_meaning.specs.Desugar.{root_of}
 use Rattle.theory_meaning.specs.Engine.{Engine}
 use Rattle.theory_meaning.specs.Queries.{is_unit}
 use Rattle.theory_meaning.specs.Tree.{Expr, Variable, BlockExpr, And, Or, Coalesce, Stmt, Stmts, no_stmts, stmt, joined, Arms, no_arms, arm}
 use Rattle.theory_meaning.specs.Weight.{expr_weight, stmt_weight}
 use Rattle.theory_rewriting.specs.Clear.{known_value, IsClearExpr, HasClearParts, IsClear}
-use Rattle.theory_rewriting.specs.Context.{Context, knowing, behind, ListKind}
+use Rattle.theory_rewriting.specs.Context.{Context, knowing, behind, ListKind, ListContext}
 use Rattle.theory_rewriting.specs.Known.{Known}
 use Rattle.theory_rewriting.specs.Rewriting.{ExprTo, same_expr, then_expr, by_expr_rule, StmtTo, same_stmt, then_stmt, by_stmt_rule, RestTo, in_tail, ArmsTo, arms_none, arms_more}
 use Rattle.theory_rewriting.specs.Rules.{ExprRule, StmtRule}
-use Rattle.theory_rewriting.specs.Steps.{Progress, here, Place, Anywhere, AsBase, AsGuard, MayBecome, ExprRun, ExprPartsRun, ExprSoFar, ExprReduced, ExprFired, KeepsExprParts, ExprKept, StmtRun, StmtPartsRun, StmtSoFar, StmtReduced, StmtPassed, HasReducedSubject, SubjectRun, StmtFired, KeepsStmtParts, StmtKept}
+use Rattle.theory_rewriting.specs.Steps.{Progress, here, Place, Anywhere, AsBase, AsGuard, MayBecome, NoExprRule, NoStmtRule, IsNormalAt, ExprRun, ExprPartsRun, ExprSoFar, ExprReduced, ExprFired, KeepsExprParts, ExprKept, StmtRun, StmtPartsRun, StmtSoFar, StmtReduced, StmtPassed, SubjectRun, StmtFired, KeepsStmtParts, StmtKept}
 use Rattle.theory_rewriting.specs.SurelyUnit.{is_surely_unit}
+use Rattle.theory_rewriting.specs.Normal.{IsNormal, HasNormalParts, StmtHasNormalParts}
+use Rattle.theory_rewriting.proofs.Flags as flag
+use Rattle.theory_rewriting.proofs.Normal.{normal_at, stmt_normal}
 use Rattle.theory_rewriting.proofs.Weights.{expr_falls, stmt_falls}
 use Rattle.theory_rewriting.proofs.rules.Expressions.{expr_rule}
 use Rattle.theory_rewriting.proofs.rules.Statements.{stmt_rule}
@@ -84,6 +87,9 @@ expr_kept {r = r} {p = p} {s = s} {s1 = s1} {e = e} {e1 = e1} {e2 = e2} f q =
       reduced = λ h. (q.reduced, f.keeps.parts r h);
       clear = λ i h. clear_node s.known e1 (subst (λ ks. known_value ks e1 ≡ None) f.known (q.unknown i)) (f.keeps.clear s.known h);
       known = f.known;
+      normal = λ i h.
+          let k = subst (HasNormalParts (here r s)) (flag.expr_kept f.to i).1 h in
+          normal_at p e1 k (subst (λ ks. HasNormalParts (knowing r ks) e1 → NoExprRule (knowing r ks) p e1) f.known q.settled k);
     } in
     subst (λ t. ExprReduced r p s t e e2) (sym q.state) (subst (λ a. ExprReduced r p s s1 e a) (sym q.same) z)
 
@@ -93,13 +99,14 @@ expr_fired_falls f = (expr_rule f.rule).lighter
 
 -- its parts, then these rules
 pub expr_done : {r : Engine} {p : Place} {s s1 s2 : Progress} {e e1 e2 : Expr} → ExprPartsRun r s s1 e e1 → ExprReduced r p s1 s2 e1 e2 → ExprRun r p s s2 e e2
-expr_done {p = p} {e1 = e1} {e2 = e2} f q = record {
+expr_done {r = r} {p = p} {e1 = e1} {e2 = e2} f q = record {
   to = expr_then f.known f.to q.to;
   stays = may_then p _ _ _ (may_keep p _ _ f.place f.unit) q.stays;
   answers = q.answers;
   reduced = q.reduced f.parts;
   clear = λ h. subst (λ ks. IsClearExpr ks e2) f.known (q.clear h (subst (λ ks. HasClearParts ks e1) (sym f.known) f.clear));
   known = q.known ∙ f.known;
+  normal = λ h. subst (λ ks. HasNormalParts (knowing r ks) e1 → IsNormalAt p (knowing r ks) e2) f.known (q.normal h) (f.normal (flag.expr_kept q.to h).0);
 }
 
 pub expr_parts_fit : {r : Engine} {s s' : Progress} {e e' : Expr} → ExprPartsRun r s s' e e' → expr_weight e' ≤ expr_weight e
@@ -136,11 +143,16 @@ stmt_kept {r = r} {w = w} {s = s} {s1 = s1} {x = x} {x1 = x1} {x2 = x2} f q =
       clear = λ i h. f.keeps.clear s.known h;
       lighter = λ i. absurd cc;
       known = f.known;
+      normal = λ i h. stmt_normal x1 (subst (StmtHasNormalParts (here r s) w) (flag.stmt_kept f.to i).1 h) (subst (λ ks. NoStmtRule (knowing r ks) x1) f.known q.settled);
     } in
     subst (λ t. StmtReduced r w false s t x x2) (sym q.state) (subst (λ a. StmtReduced r w false s s1 x a) (sym q.same) z)
 
 pub stmt_fired_falls : {r : Engine} {w : Bool} {s s' : Progress} {x x' : Stmt} → StmtFired r w s s' x x' → stmt_weight x' < stmt_weight x
 stmt_fired_falls f = f.lighter
+
+-- where a rule fired the flag is set
+pub fired_sets : {r : Engine} {w : Bool} {s s' : Progress} {x x' : Stmt} → StmtFired r w s s' x x' → s'.is_dirty ≡ false → ⊥
+fired_sets f h = let e : stmt_weight _ ≡ stmt_weight _ = ap stmt_weight (flag.stmt_kept f.to h).1 in omega (arith, e, stmt_fired_falls f)
 
 pub stmt_reopened : {r : Engine} {w : Bool} {s s1 s2 : Progress} {x x1 x2 : Stmt} → StmtSoFar r w s s1 x x1 → StmtFired r w s1 s2 x1 x2 → StmtReduced r w true s s2 x x2
 stmt_reopened f q = record {
@@ -149,6 +161,7 @@ stmt_reopened f q = record {
   clear = λ i. absurd cc;
   lighter = λ i. omega (arith, stmt_falls f.to, stmt_fired_falls q);
   known = q.known ∙ f.known;
+  normal = λ h. absurd (fired_sets q h);
 }
 
 -- its parts are gone over, again where a rule made new ones
@@ -166,14 +179,16 @@ pub stmt_early : {r : Engine} {w : Bool} {s s1 s2 : Progress} {x x1 x2 : Stmt} �
 stmt_early f q = record { to = stmt_then f.known f.to q.to; known = q.known ∙ f.known }
 
 pub subject_then : {r : Engine} {w : Bool} {s s1 s2 : Progress} {x x1 x2 : Stmt} → SubjectRun r w s s1 x x1 → StmtPartsRun r w s1 s2 x1 x2 → StmtPartsRun r w s s2 x x2
-subject_then {x2 = x2} f q = record { to = stmt_then f.known f.to q.to; parts = q.parts; clear = subst (λ ks. IsClear ks x2) f.known q.clear; known = q.known ∙ f.known }
+subject_then {r = r} {w = w} {x2 = x2} f q = record {
+  to = stmt_then f.known f.to q.to;
+  parts = q.parts;
+  clear = subst (λ ks. IsClear ks x2) f.known q.clear;
+  known = q.known ∙ f.known;
+  normal = λ h. subst (λ ks. StmtHasNormalParts (knowing r ks) w x2) f.known (q.normal h);
+}
 
 pub subject_fired : {r : Engine} {w : Bool} {s s1 s2 : Progress} {x x1 x2 : Stmt} → SubjectRun r w s s1 x x1 → StmtFired r w s1 s2 x1 x2 → StmtFired r w s s2 x x2
 subject_fired f q = record { to = stmt_then f.known f.to q.to; lighter = omega (arith, stmt_falls f.to, q.lighter); known = q.known ∙ f.known }
-
--- it is reduced under the names known behind it too
-pub subject_here : {r : Engine} {w : Bool} {s s' : Progress} {x x' : Stmt} → SubjectRun r w s s' x x' → HasReducedSubject r s'.known x'
-subject_here {r = r} {x' = x'} f = subst (λ ks. HasReducedSubject r ks x') (sym f.known) f.subject
 
 pub subject_fits : {r : Engine} {w : Bool} {s s' : Progress} {x x' : Stmt} → SubjectRun r w s s' x x' → stmt_weight x' ≤ stmt_weight x
 subject_fits f = omega (arith, stmt_falls f.to)
@@ -182,17 +197,18 @@ pub stmt_fits : {r : Engine} {w : Bool} {s s' : Progress} {x x' : Stmt} → Stmt
 stmt_fits f = omega (arith, stmt_falls f.to)
 
 pub stmt_done : {r : Engine} {w : Bool} {s s1 s2 s3 : Progress} {x x1 x2 x3 : Stmt} → StmtPassed r w s s1 x x1 → StmtPartsRun r w s1 s2 x1 x2 → StmtReduced r w false s2 s3 x2 x3 → StmtRun r w s s3 x x3
-stmt_done {x2 = x2} {x3 = x3} f q z = record {
+stmt_done {r = r} {w = w} {x2 = x2} {x3 = x3} f q z = record {
   to = stmt_then f.known f.to (stmt_then q.known q.to z.to);
   reduced = z.reduced refl q.parts;
   clear = subst (λ ks. IsClear ks x3) (q.known ∙ f.known) (z.clear refl (subst (λ ks. IsClear ks x2) (sym q.known) q.clear));
   known = z.known ∙ q.known ∙ f.known;
+  normal = λ h. subst (λ ks. IsNormal (StmtTo (knowing r ks) w) x3) (q.known ∙ f.known) (z.normal h (subst (λ ks. StmtHasNormalParts (knowing r ks) w x2) (sym q.known) (q.normal (flag.stmt_kept z.to h).0)));
 }
 
 -- ---- behind statements that stay
 
 -- what is known there, and whether what stands before is surely unit
-abbrev pub behind_all : Stmts → Context → Context
+abbrev pub behind_all : Stmts → ListContext → ListContext
 behind_all no_stmts k = k
 behind_all (stmt s front) k = behind_all front (behind s k)
 
@@ -200,6 +216,6 @@ abbrev pub unit_behind : Stmts → Bool → Bool
 unit_behind no_stmts u = u
 unit_behind (stmt s front) u = unit_behind front (is_surely_unit s)
 
-pub in_back : (front : Stmts) {k : Context} {m : ListKind} {u d d' : Bool} {ss ss' : Stmts} → RestTo (behind_all front k) m (unit_behind front u) d d' ss ss' → RestTo k m u d d' (joined front ss) (joined front ss')
+pub in_back : (front : Stmts) {k : ListContext} {m : ListKind} {u d d' : Bool} {ss ss' : Stmts} → RestTo (behind_all front k) m (unit_behind front u) d d' ss ss' → RestTo k m u d d' (joined front ss) (joined front ss')
 in_back no_stmts p = p
 in_back (stmt s front) p = in_tail (in_back front p)

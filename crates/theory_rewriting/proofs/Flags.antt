@@ -1,8 +1,8 @@
 -- A rewriting that leaves the flag clear changed nothing.
 use Rattle.std.proofs.Common.{◌≡◌, Bool, false, refl, ap, ◌∙◌}
 use Rattle.theory_meaning.specs.Tree.{Expr, InterpolatedString, ArrayOf, MapOf, MethodCall, BlockExpr, FnCall, And, Or, Coalesce, Exprs, Pairs, MaybeExpr, an_expr, Arms, Stmt, Var, Block, ExprStmt, FnCallStmt, BreakLoop, Return, Import, Stmts, stmt}
-use Rattle.theory_rewriting.specs.Context.{Context, ListKind}
-use Rattle.theory_rewriting.specs.Rewriting.{ExprTo, same_expr, then_expr, by_expr_rule, in_text, in_array, in_map, in_braces, in_call, in_stray_method, in_chain, in_and, in_or, in_coalesce, ExprsTo, exprs_none, exprs_more, PairsTo, pairs_none, pairs_more, ChainTo, in_dot, in_index, BaseTo, base, ArgumentTo, same_argument, in_method, in_brackets, StepsTo, same_steps, last_method, last_index, more_dot, more_index, TargetTo, same_target, in_target, GuardTo, guard, MaybeTo, maybe_none, maybe_some, ArmsTo, arms_none, arms_more, StmtTo, same_stmt, then_stmt, by_stmt_rule, in_if, in_switch, in_while, in_do, in_for, in_var, in_assignment, in_block, in_try, in_expression, in_call_statement, in_break, in_return, in_import, RestTo, same_stmts, then_stmts, by_list_rule, in_head, in_tail, flag_forgotten, knowing_less}
+use Rattle.theory_rewriting.specs.Context.{Context, ListKind, ListContext}
+use Rattle.theory_rewriting.specs.Rewriting.{ExprTo, same_expr, then_expr, by_expr_rule, in_text, in_array, in_map, in_braces, in_call, in_stray_method, in_chain, in_and, in_or, in_coalesce, ExprsTo, exprs_none, exprs_more, PairsTo, pairs_none, pairs_more, ChainTo, in_dot, in_index, BaseTo, base, ArgumentTo, same_argument, in_method, in_brackets, StepsTo, same_steps, last_method, last_index, more_dot, more_index, TargetTo, same_target, in_target, GuardTo, guard, MaybeTo, maybe_none, maybe_some, ArmsTo, arms_none, arms_more, StmtTo, same_stmt, then_stmt, by_stmt_rule, in_if, in_switch, in_while, in_do, in_for, in_var, in_assignment, in_block, in_try, in_expression, in_call_statement, in_break, in_return, in_import, RestTo, same_stmts, then_stmts, by_list_rule, in_head, in_tail, flag_forgotten}
 
 -- the flag was clear before, and the two are one
 abbrev pub Kept : {A : Type 0} → Bool → A → A → Type 0
@@ -31,41 +31,41 @@ mutual
   exprs_kept exprs_none h = (h, refl)
   exprs_kept (exprs_more p q) h = let k = exprs_kept q h in let j = expr_kept p k.0 in (j.0, cc)
 
-  pairs_kept : {k : Context} {d d' : Bool} {e e' : Pairs} → PairsTo k d d' e e' → d' ≡ false → Kept d e e'
+  pub pairs_kept : {k : Context} {d d' : Bool} {e e' : Pairs} → PairsTo k d d' e e' → d' ≡ false → Kept d e e'
   pairs_kept pairs_none h = (h, refl)
   pairs_kept (pairs_more p q) h = let k = pairs_kept q h in let j = expr_kept p k.0 in (j.0, cc)
 
-  chain_kept : {k : Context} {d d' : Bool} {e e' : Expr} → ChainTo k d d' e e' → d' ≡ false → Kept d e e'
+  pub chain_kept : {k : Context} {d d' : Bool} {e e' : Expr} → ChainTo k d d' e e' → d' ≡ false → Kept d e e'
   chain_kept (in_dot p q) h = let k = rest_kept q h in let j = base_kept p k.0 in (j.0, cc)
   chain_kept (in_index p q) h = let k = rest_kept q h in let j = base_kept p k.0 in (j.0, cc)
 
-  base_kept : {k : Context} {d d' : Bool} {e e' : Expr} → BaseTo k d d' e e' → d' ≡ false → Kept d e e'
+  pub base_kept : {k : Context} {d d' : Bool} {e e' : Expr} → BaseTo k d d' e e' → d' ≡ false → Kept d e e'
   base_kept (base p r) h = expr_kept p h
 
-  argument_kept : {k : Context} {dot d d' : Bool} {e e' : Expr} → ArgumentTo k dot d d' e e' → d' ≡ false → Kept d e e'
+  pub argument_kept : {k : Context} {dot d d' : Bool} {e e' : Expr} → ArgumentTo k dot d d' e e' → d' ≡ false → Kept d e e'
   argument_kept same_argument h = (h, refl)
   argument_kept (in_method {c = c} p) h = let k = exprs_kept p h in (k.0, ap (MethodCall c) k.1)
   argument_kept (in_brackets p) h = expr_kept p h
 
-  rest_kept : {k : Context} {dot breaks d d' : Bool} {e e' : Expr} → StepsTo k dot breaks d d' e e' → d' ≡ false → Kept d e e'
+  pub rest_kept : {k : Context} {dot breaks d d' : Bool} {e e' : Expr} → StepsTo k dot breaks d d' e e' → d' ≡ false → Kept d e e'
   rest_kept same_steps h = (h, refl)
   rest_kept (last_method {c = c} p) h = let k = exprs_kept p h in (k.0, ap (MethodCall c) k.1)
   rest_kept (last_index p) h = expr_kept p h
   rest_kept (more_dot p q) h = let k = rest_kept q h in let j = argument_kept p k.0 in (j.0, cc)
   rest_kept (more_index p q) h = let k = rest_kept q h in let j = argument_kept p k.0 in (j.0, cc)
 
-  target_kept : {k : Context} {d d' : Bool} {e e' : Expr} → TargetTo k d d' e e' → d' ≡ false → Kept d e e'
+  pub target_kept : {k : Context} {d d' : Bool} {e e' : Expr} → TargetTo k d d' e e' → d' ≡ false → Kept d e e'
   target_kept same_target h = (h, refl)
   target_kept (in_target p) h = chain_kept p h
 
-  guard_kept : {k : Context} {d d' : Bool} {e e' : Expr} → GuardTo k d d' e e' → d' ≡ false → Kept d e e'
+  pub guard_kept : {k : Context} {d d' : Bool} {e e' : Expr} → GuardTo k d d' e e' → d' ≡ false → Kept d e e'
   guard_kept (guard p u) h = expr_kept p h
 
-  maybe_kept : {k : Context} {d d' : Bool} {e e' : MaybeExpr} → MaybeTo k d d' e e' → d' ≡ false → Kept d e e'
+  pub maybe_kept : {k : Context} {d d' : Bool} {e e' : MaybeExpr} → MaybeTo k d d' e e' → d' ≡ false → Kept d e e'
   maybe_kept maybe_none h = (h, refl)
   maybe_kept (maybe_some p) h = let k = expr_kept p h in (k.0, ap an_expr k.1)
 
-  arms_kept : {k : Context} {d d' : Bool} {e e' : Arms} → ArmsTo k d d' e e' → d' ≡ false → Kept d e e'
+  pub arms_kept : {k : Context} {d d' : Bool} {e e' : Arms} → ArmsTo k d d' e e' → d' ≡ false → Kept d e e'
   arms_kept arms_none h = (h, refl)
   arms_kept (arms_more p q r) h = let k = arms_kept r h in let j = expr_kept q k.0 in let i = expr_kept p j.0 in (i.0, cc)
 
@@ -88,11 +88,10 @@ mutual
   stmt_kept (in_return {throws = b} {exported = o} p) h = let k = maybe_kept p h in (k.0, ap (Return b o) k.1)
   stmt_kept (in_import {x = x} p) h = let k = expr_kept p h in (k.0, ap (λ e. Import e x) k.1)
 
-  pub stmts_kept : {k : Context} {m : ListKind} {u d d' : Bool} {e e' : Stmts} → RestTo k m u d d' e e' → d' ≡ false → Kept d e e'
+  pub stmts_kept : {k : ListContext} {m : ListKind} {u d d' : Bool} {e e' : Stmts} → RestTo k m u d d' e e' → d' ≡ false → Kept d e e'
   stmts_kept same_stmts h = (h, refl)
   stmts_kept (then_stmts p q) h = let k = stmts_kept q h in kept_then (stmts_kept p k.0) k.1
   stmts_kept (by_list_rule r) h = cc
   stmts_kept (in_head {ss = ss} p) h = let k = stmt_kept p h in (k.0, ap (λ s. stmt s ss) k.1)
   stmts_kept (in_tail {s = s} p) h = let k = stmts_kept p h in (k.0, ap (stmt s) k.1)
   stmts_kept (flag_forgotten p) h = cc
-  stmts_kept (knowing_less i p) h = stmts_kept p h

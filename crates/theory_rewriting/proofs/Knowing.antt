@@ -1,34 +1,27 @@
--- Lists of names that know less than others, and one statement that is rewritten where fewer names are known.
-use Rattle.std.proofs.Common.{◌≡◌, Bool, true, false, cond, List, ◌∷◌, Option, Some, None}
-use Rattle.rhai_base.specs.Value.{Text, Value, same_text}
-use Rattle.theory_meaning.specs.Constants.{constant_value}
-use Rattle.theory_meaning.specs.Tree.{Stmt, Var, Stmts, stmt}
-use Rattle.theory_rewriting.specs.Context.{Context, knowing, known_behind, ListKind, wanted, wanted_before}
-use Rattle.theory_rewriting.specs.Known.{Known, look, KnowsLess}
-use Rattle.theory_rewriting.specs.Rewriting.{StmtTo, RestTo, in_head, knowing_less}
+-- Lists of names that know less than others.
+use Rattle.std.proofs.Common.{◌≡◌, Bool, true, false, cond, List, [], Some, None, sym, ap}
+use Rattle.rhai_base.specs.Value.{Text, Value}
+use Rattle.theory_meaning.specs.Engine.{Engine}
+use Rattle.theory_meaning.specs.Tree.{Stmt}
+use Rattle.theory_rewriting.specs.Context.{knowing, open_list, closed_list, known_behind, known_after, behind_by, behind}
+use Rattle.theory_rewriting.specs.Evals.{keeps_names}
+use Rattle.theory_rewriting.specs.Known.{Known, look}
 
-pub knows_itself : {ks : List Known} → KnowsLess ks ks
-knows_itself = record { is = λ x v h. h }
+-- a list knows no more names than another, and the same of them
+pub record KnowsLess (ks ls : List Known) : Type 0 where
+  pub is : (x : Text) (v : Value) → look ks x ≡ Some v → look ls x ≡ Some v
 
-pub knows_less_trans : {ks ls ms : List Known} → KnowsLess ks ls → KnowsLess ls ms → KnowsLess ks ms
-knows_less_trans i j = record { is = λ x v h. j.is x v (i.is x v h) }
+known_or_none : (b : Bool) (ks : List Known) → KnowsLess (cond b ks []) ks
+known_or_none true ks = record { is = λ x v h. h }
+known_or_none false ks = record { is = λ x v h. absurd (let z : None ≡ Some v = h in cc) }
 
--- under one more name, of which at most the same is known
-pub knows_less_noting : {ks ls : List Known} (x : Text) (o p : Option Value) → ((v : Value) → o ≡ Some v → p ≡ Some v) → KnowsLess ks ls → KnowsLess (record { name = x; value = o } ∷ ks) (record { name = x; value = p } ∷ ls)
-knows_less_noting {ks = ks} {ls = ls} x o p f i = record {
-  is = λ y v. elim (same_text x y) as (λ b. cond b o (look ks y) ≡ Some v → cond b p (look ls y) ≡ Some v) [ true ↦ λ h. f v h | false ↦ λ h. i.is y v h ];
-}
+-- behind a statement no more is known than it adds
+pub after_knows_less : (b : Bool) (s : Stmt) (ks : List Known) → KnowsLess (known_after b s ks) (known_behind s ks)
+after_knows_less b s ks = known_or_none b (known_behind s ks)
 
--- of a name nothing is known
-pub knows_less_shadowed : {ks ls : List Known} (x : Text) (p : Option Value) → KnowsLess ks ls → KnowsLess (record { name = x; value = None } ∷ ks) (record { name = x; value = p } ∷ ls)
-knows_less_shadowed x p i = knows_less_noting x None p (λ v h. absurd (let z : None ≡ Some v = h in cc)) i
+-- where it keeps names as much, else nothing
+pub behind_open : {r : Engine} (s : Stmt) (ks : List Known) → keeps_names s ≡ true → open_list (knowing r (known_behind s ks)) ≡ behind s (open_list (knowing r ks))
+behind_open {r = r} s ks h = ap (λ b. behind_by b s (knowing r ks)) (sym h)
 
--- behind a statement
-pub knows_less_behind : {ks ls : List Known} (s : Stmt) → KnowsLess ks ls → KnowsLess (known_behind s ks) (known_behind s ls)
-knows_less_behind (Var true exported x e) i = knows_less_noting x (constant_value e) (constant_value e) (λ v h. h) i
-knows_less_behind (Var false exported x e) i = knows_less_shadowed x None i
-knows_less_behind _ i = i
-
--- one statement, in its list
-pub head_knowing_less : {k : Context} {ks : List Known} {m : ListKind} {u d d' : Bool} {s s' : Stmt} {ss : Stmts} → KnowsLess ks k.known → StmtTo (knowing k.engine ks) (wanted_before (wanted m) ss) d d' s s' → RestTo k m u d d' (stmt s ss) (stmt s' ss)
-head_knowing_less i p = knowing_less i (in_head p)
+pub behind_closed : {r : Engine} (s : Stmt) (ks : List Known) → keeps_names s ≡ false → closed_list r ≡ behind s (open_list (knowing r ks))
+behind_closed {r = r} s ks h = ap (λ b. behind_by b s (knowing r ks)) (sym h)

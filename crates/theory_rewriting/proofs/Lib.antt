@@ -1,3 +1,4 @@
+pub mod Normal
 pub mod Firing
 pub mod Flags
 pub mod Knowing

@@ -12,11 +12,11 @@ use Rattle.theory_meaning.specs.Faults.{has_operands}
 use Rattle.theory_meaning.specs.Queries.{is_control_flow_break, is_pure_expr, are_pure_exprs, are_pure_pairs, is_pure}
 use Rattle.theory_meaning.specs.Queries.{is_unit as is_unit_expr}
 use Rattle.theory_meaning.specs.Shape.{is_unit, is_rest, is_left_side, condition_at, case_fits, spares, default_fits, is_table}
-use Rattle.theory_meaning.specs.Tree.{ChainFlags, SwitchTable, Callee, Expr, DynamicConstant, BoolConstant, UnitConstant, InterpolatedString, ArrayOf, MapOf, Variable, ThisPtr, Property, BlockExpr, FnCall, Dot, Index, And, Or, Coalesce, Exprs, no_exprs, expr, Pairs, no_pairs, pair, Arms, no_arms, arm, count_arms, Stmt, Noop, If, Switch, While, Assignment, Var, FnCallStmt, ExprStmt, Return, an_expr, Stmts, no_stmts, stmt, IntegerConstant, CharConstant, StringConstant, Block}
+use Rattle.theory_meaning.specs.Tree.{ChainFlags, SwitchTable, Callee, Expr, DynamicConstant, BoolConstant, UnitConstant, InterpolatedString, ArrayOf, MapOf, Variable, ThisPtr, Property, BlockExpr, FnCall, Dot, Index, And, Or, Coalesce, Exprs, no_exprs, expr, Pairs, no_pairs, pair, Arms, no_arms, arm, count_arms, Stmt, Noop, If, Switch, While, Assignment, Var, FnCallStmt, ExprStmt, Return, an_expr, Stmts, no_stmts, stmt, IntegerConstant, CharConstant, StringConstant}
 use Rattle.theory_meaning.specs.Walk.{Node, OfExpr, OfStmt, Spot, RightSide, every, over_stmts, arms_at, arm_at, listed}
 use Rattle.theory_meaning.proofs.Walk.{Alongside, stmts_alongside}
 use Rattle.base_tokens.specs.Names.{are_all}
-use Rattle.theory_rewriting.specs.Context.{Context, known_behind, ListKind, Whole}
+use Rattle.theory_rewriting.specs.Context.{Context, known_behind, known_after, ListKind, Whole, ListContext, behind}
 use Rattle.theory_rewriting.specs.Folding.{folded}
 use Rattle.theory_rewriting.specs.Evals.{keeps_names}
 use Rattle.theory_rewriting.specs.Known.{Known, look}
@@ -217,32 +217,32 @@ default_decides as' t i h q =
     all_of (nat_lt i (count_arms as') && condition_at as' i) (spares i t) z (λ m n.
     all_of (nat_lt i (count_arms as')) (condition_at as' i) m (λ a b. true_decides as' i b)))
 
-switch_by : {k : Context} (e : Expr) (as' : Arms) (t : SwitchTable) (v : Value) → constant_value e ≡ Some v → is_table as' t ≡ true → (i : ℕ) → chosen t v ≡ i ∷ [] → (o : Option Bool) (p : Option (Expr × Expr)) → arm_of as' i ≡ p → arm_decides p ≡ o → StmtGoes k (Switch e as' t)
-switch_by e as' t v q h i r (Some false) p x y w = (_, rule.switch_defaults v q (ap (left_arms as') r ∙ ap (λ z. left_with (arm_decides z) i []) x ∙ ap (λ z. left_with z i []) y))
-switch_by e as' t v q h i r (Some true) None x y w = absurd (let z : Some false ≡ Some true = y in cc)
-switch_by e as' t v q h i r (Some true) (Some (c, a)) x y w = (ExprStmt a, rule.switch_answers v i [] q (ap (left_arms as') r ∙ ap (λ z. left_with (arm_decides z) i []) x ∙ ap (λ z. left_with z i []) y) x y)
-switch_by e as' t v q h i r None None x y w = absurd (let z : Some false ≡ None = y in cc)
-switch_by e as' t v q h i r None (Some (c, a)) x y w = (
+switch_by : {k : Context} (e : Expr) (as' : Arms) (t : SwitchTable) (v : Value) → constant_value e ≡ Some v → is_hashable v ≡ true → is_table as' t ≡ true → (i : ℕ) → chosen t v ≡ i ∷ [] → (o : Option Bool) (p : Option (Expr × Expr)) → arm_of as' i ≡ p → arm_decides p ≡ o → StmtGoes k (Switch e as' t)
+switch_by e as' t v q b h i r (Some false) p x y w = (_, rule.switch_defaults v q b (ap (left_arms as') r ∙ ap (λ z. left_with (arm_decides z) i []) x ∙ ap (λ z. left_with z i []) y))
+switch_by e as' t v q b h i r (Some true) None x y w = absurd (let z : Some false ≡ Some true = y in cc)
+switch_by e as' t v q b h i r (Some true) (Some (c, a)) x y w = (ExprStmt a, rule.switch_answers v i [] q b (ap (left_arms as') r ∙ ap (λ z. left_with (arm_decides z) i []) x ∙ ap (λ z. left_with z i []) y) x y)
+switch_by e as' t v q b h i r None None x y w = absurd (let z : Some false ≡ None = y in cc)
+switch_by e as' t v q b h i r None (Some (c, a)) x y w = (
   _,
-  rule.switch_is_if v i q (ap (left_arms as') r ∙ ap (λ z. left_with (arm_decides z) i []) x ∙ ap (λ z. left_with z i []) y) x
+  rule.switch_is_if v i q b (ap (left_arms as') r ∙ ap (λ z. left_with (arm_decides z) i []) x ∙ ap (λ z. left_with z i []) y) x
       (λ d. let z : None ≡ Some true = sym y ∙ sym (ap arm_decides x) ∙ default_decides as' t i h d in cc),
 )
 
-switch_none : {k : Context} (e : Expr) (as' : Arms) (t : SwitchTable) (v : Value) → constant_value e ≡ Some v → chosen t v ≡ [] → StmtGoes k (Switch e as' t)
-switch_none e as' t v q r w = (_, rule.switch_defaults v q (ap (left_arms as') r))
+switch_none : {k : Context} (e : Expr) (as' : Arms) (t : SwitchTable) (v : Value) → constant_value e ≡ Some v → is_hashable v ≡ true → chosen t v ≡ [] → StmtGoes k (Switch e as' t)
+switch_none e as' t v q b r w = (_, rule.switch_defaults v q b (ap (left_arms as') r))
 
-short_goes : {k : Context} (e : Expr) (as' : Arms) (t : SwitchTable) (v : Value) → constant_value e ≡ Some v → is_table as' t ≡ true → (o : Option (List ℕ)) (rs : List ℕ) → chosen t v ≡ or_ranges t v o → ranges_with t.ranges v ≡ rs → is_short o rs ≡ true → StmtGoes k (Switch e as' t)
-short_goes e as' t v q h (Some []) rs x y z w = switch_none e as' t v q x w
-short_goes e as' t v q h (Some (i ∷ [])) rs x y z w = switch_by e as' t v q h i x (arm_decides (arm_of as' i)) (arm_of as' i) refl refl w
-short_goes e as' t v q h (Some (i ∷ j ∷ is)) rs x y z w = no z
-short_goes e as' t v q h None [] x y z w = switch_none e as' t v q (x ∙ y) w
-short_goes e as' t v q h None (r ∷ rs) x y z w = no z
+short_goes : {k : Context} (e : Expr) (as' : Arms) (t : SwitchTable) (v : Value) → constant_value e ≡ Some v → is_hashable v ≡ true → is_table as' t ≡ true → (o : Option (List ℕ)) (rs : List ℕ) → chosen t v ≡ or_ranges t v o → ranges_with t.ranges v ≡ rs → is_short o rs ≡ true → StmtGoes k (Switch e as' t)
+short_goes e as' t v q b h (Some []) rs x y z w = switch_none e as' t v q b x w
+short_goes e as' t v q b h (Some (i ∷ [])) rs x y z w = switch_by e as' t v q b h i x (arm_decides (arm_of as' i)) (arm_of as' i) refl refl w
+short_goes e as' t v q b h (Some (i ∷ j ∷ is)) rs x y z w = no z
+short_goes e as' t v q b h None [] x y z w = switch_none e as' t v q b (x ∙ y) w
+short_goes e as' t v q b h None (r ∷ rs) x y z w = no z
 
 -- a `switch` over a constant for whose value at most one arm is listed: `switch_answers`, `switch_is_if`, `switch_defaults`
 short_switch_goes : {k : Context} (e : Expr) (as' : Arms) (t : SwitchTable) (v : Value) → constant_value e ≡ Some v → is_table as' t ≡ true → is_short_for t v ≡ true → StmtGoes k (Switch e as' t)
 short_switch_goes e as' t v c h q =
     all_of (is_hashable v) (is_short (case_for t.cases v) (ranges_with t.ranges v)) q (λ x y.
-    short_goes e as' t v c h (case_for t.cases v) (ranges_with t.ranges v) (ap (λ b. or_ranges t v (cond b (case_for t.cases v) None)) x) refl y)
+    short_goes e as' t v c x h (case_for t.cases v) (ranges_with t.ranges v) (ap (λ b. or_ranges t v (cond b (case_for t.cases v) None)) x) refl y)
 
 pub chosen_switch_goes : {k : Context} (e : Expr) (as' : Arms) (t : SwitchTable) → is_table as' t ≡ true → is_chosen e t ≡ true → StmtGoes k (Switch e as' t)
 chosen_switch_goes (DynamicConstant v) as' t h q = short_switch_goes (DynamicConstant v) as' t v refl h q
@@ -255,11 +255,11 @@ chosen_switch_goes _ as' t h q = no q
 
 -- ---- lists
 
-abbrev pub ListGoes : Context → ListKind → Bool → Stmts → Type 0
+abbrev pub ListGoes : ListContext → ListKind → Bool → Stmts → Type 0
 ListGoes k m u ss = (d : Bool) → (ss' : Stmts) × RestTo k m u d true ss ss'
 
 -- a statement after one that leaves the list: `after_leave`
-pub after_leaving_goes : (ss : Stmts) {k : Context} {m : ListKind} {u : Bool} → goes_on_after_leaving ss ≡ true → ListGoes k m u ss
+pub after_leaving_goes : (ss : Stmts) {k : ListContext} {m : ListKind} {u : Bool} → goes_on_after_leaving ss ≡ true → ListGoes k m u ss
 after_leaving_goes no_stmts h d = no h
 after_leaving_goes (stmt s no_stmts) h d = no h
 after_leaving_goes (stmt s (stmt t ss)) h d =
@@ -312,7 +312,7 @@ idle_pure (ExprStmt e) h = constant_pure e h
 idle_pure _ h = no h
 
 -- a `Noop` or a constant before the last statement: `pure_goes`
-pub idle_goes : (ss : Stmts) {k : Context} {m : ListKind} {u : Bool} → idles ss ≡ true → ListGoes k m u ss
+pub idle_goes : (ss : Stmts) {k : ListContext} {m : ListKind} {u : Bool} → idles ss ≡ true → ListGoes k m u ss
 idle_goes no_stmts h d = no h
 idle_goes (stmt s no_stmts) h d = no h
 idle_goes (stmt s (stmt t ss)) h d =
@@ -321,7 +321,7 @@ idle_goes (stmt s (stmt t ss)) h d =
     (λ x. let z = idle_goes (stmt t ss) x d in (stmt s z.0, in_tail z.1))
 
 -- a last `return e`: `last_return`
-pub return_goes : (ss : Stmts) {k : Context} {u : Bool} → ends_in_return ss ≡ true → ListGoes k Whole u ss
+pub return_goes : (ss : Stmts) {k : ListContext} {u : Bool} → ends_in_return ss ≡ true → ListGoes k Whole u ss
 return_goes no_stmts h d = no h
 return_goes (stmt (Return false exported (an_expr e)) no_stmts) h d = (stmt (ExprStmt e) no_stmts, by_list_rule rule.last_return)
 return_goes (stmt s no_stmts) h d = no h
@@ -337,18 +337,25 @@ pub still_known : (constant exported : Bool) (y x : Text) (e : Expr) (ks : List 
 still_known true exported y x e ks v h q = ap (λ b. cond b (constant_value e) (look ks x)) h ∙ q
 still_known false exported y x e ks v h q = ap (λ b. cond b None (look ks x)) h ∙ q
 
-known_test_goes : (x : Text) (v : Value) (ss : Stmts) {k : Context} {m : ListKind} {u : Bool} → tests_name x ss ≡ true → look k.known x ≡ Some v → ListGoes k m u ss
-known_test_goes x v no_stmts h q d = no h
-known_test_goes x v (stmt (Var c o y e) ss) {k = k} h q d =
-    all_of (keeps_names (Var c o y e)) _ h (λ f g.
+-- behind a statement that keeps names, in a list that is open
+open_still : (k : ListContext) (s : Stmt) → k.is_open ≡ true → keeps_names s ≡ true → (behind s k).is_open ≡ true
+open_still k s o f = ap (λ b. b && keeps_names s) o ∙ f
+
+still_there : (k : ListContext) (s : Stmt) (x : Text) (v : Value) → k.is_open ≡ true → keeps_names s ≡ true → look (known_behind s k.context.known) x ≡ Some v → look (behind s k).context.known x ≡ Some v
+still_there k s x v o f q = ap (λ b. look (known_after b s k.context.known) x) (open_still k s o f) ∙ q
+
+known_test_goes : (x : Text) (v : Value) (ss : Stmts) {k : ListContext} {m : ListKind} {u : Bool} → k.is_open ≡ true → tests_name x ss ≡ true → look k.context.known x ≡ Some v → ListGoes k m u ss
+known_test_goes x v no_stmts o h q d = no h
+known_test_goes x v (stmt (Var c w y e) ss) {k = k} o h q d =
+    all_of (keeps_names (Var c w y e)) _ h (λ f g.
     all_of (not (same_text y x)) (tests_name x ss) g (λ a b.
-    let z = known_test_goes x v ss b (still_known c o y x e k.known v (unlike (same_text y x) a) q) d in (stmt (Var c o y e) z.0, in_tail z.1)))
-known_test_goes x v (stmt (If (Variable [] y) a b) ss) {k = k} h q d =
+    let z = known_test_goes x v ss {k = behind (Var c w y e) k} (open_still k (Var c w y e) o f) b (still_there k (Var c w y e) x v o f (still_known c w y x e k.context.known v (unlike (same_text y x) a) q)) d in (stmt (Var c w y e) z.0, in_tail z.1)))
+known_test_goes x v (stmt (If (Variable [] y) a b) ss) {k = k} o h q d =
     one_of (same_text x y) _ h
-    (λ z. (stmt (If (constant_of v) a b) ss, in_head (in_if (by_expr_rule (rule.known_name v (ap (look k.known) (sym (text_is x y z)) ∙ q))) same_stmts same_stmts)))
+    (λ z. (stmt (If (constant_of v) a b) ss, in_head (in_if (by_expr_rule (rule.known_name v (ap (look k.context.known) (sym (text_is x y z)) ∙ q))) same_stmts same_stmts)))
     (λ z. all_of (keeps_names (If (Variable [] y) a b)) _ z (λ f g.
-    let r = known_test_goes x v ss g q d in (stmt (If (Variable [] y) a b) r.0, in_tail r.1)))
-known_test_goes x v (stmt s ss) h q d = all_of (keeps_names s) _ h (λ f g. let z = known_test_goes x v ss g q d in (stmt s z.0, in_tail z.1))
+    let r = known_test_goes x v ss {k = behind (If (Variable [] y) a b) k} (open_still k (If (Variable [] y) a b) o f) g (still_there k (If (Variable [] y) a b) x v o f q) d in (stmt (If (Variable [] y) a b) r.0, in_tail r.1)))
+known_test_goes x v (stmt s ss) {k = k} o h q d = all_of (keeps_names s) _ h (λ f g. let z = known_test_goes x v ss {k = behind s k} (open_still k s o f) g (still_there k s x v o f q) d in (stmt s z.0, in_tail z.1))
 
 pub declared : (o : Option Value) → is_some o ≡ true → (v : Value) × (o ≡ Some v)
 declared None h = no h
@@ -361,16 +368,17 @@ pub noted_there : (x : Text) (o : Option Value) (v : Value) (ks : List Known) �
 noted_there x o v ks q = ap (λ b. cond b o (look ks x)) (same_self x) ∙ q
 
 -- an `if` whose condition is a constant's name: `known_name`
-pub known_condition_goes : (ss : Stmts) {k : Context} {m : ListKind} {u : Bool} → tests_constant ss ≡ true → ListGoes k m u ss
-known_condition_goes no_stmts h d = no h
-known_condition_goes (stmt (Var true o x e) ss) {k = k} h d =
+pub known_condition_goes : (ss : Stmts) {k : ListContext} {m : ListKind} {u : Bool} → k.is_open ≡ true → tests_constant ss ≡ true → ListGoes k m u ss
+known_condition_goes no_stmts w h d = no h
+known_condition_goes (stmt (Var true o x e) ss) {k = k} w h d =
     all_of (keeps_names (Var true o x e)) _ h (λ f g.
+    let still = open_still k (Var true o x e) w f in
     one_of (is_constant e && tests_name x ss) (tests_constant ss) g
     (λ z. all_of (is_constant e) (tests_name x ss) z (λ a b.
     let y = declared (constant_value e) a in
-    let r = known_test_goes x y.0 ss b (noted_there x (constant_value e) y.0 k.known y.1) d in (stmt (Var true o x e) r.0, in_tail r.1)))
-    (λ z. let r = known_condition_goes ss z d in (stmt (Var true o x e) r.0, in_tail r.1)))
-known_condition_goes (stmt s ss) h d = all_of (keeps_names s) _ h (λ f g. let z = known_condition_goes ss g d in (stmt s z.0, in_tail z.1))
+    let r = known_test_goes x y.0 ss {k = behind (Var true o x e) k} still b (still_there k (Var true o x e) x y.0 w f (noted_there x (constant_value e) y.0 k.context.known y.1)) d in (stmt (Var true o x e) r.0, in_tail r.1)))
+    (λ z. let r = known_condition_goes ss {k = behind (Var true o x e) k} still z d in (stmt (Var true o x e) r.0, in_tail r.1)))
+known_condition_goes (stmt s ss) {k = k} w h d = all_of (keeps_names s) _ h (λ f g. let z = known_condition_goes ss {k = behind s k} (open_still k s w f) g d in (stmt s z.0, in_tail z.1))
 
 -- ---- what is irreducible is reduced in the small language's sense
 

@@ -1,8 +1,8 @@
 -- Each rewrite that sets the dirty flag lowers the weight, and none raises it.
 use Rattle.std.proofs.Common.{◌≡◌, ℕ, ◌+◌, ◌≤◌, Bool, true, false, refl, arith}
 use Rattle.theory_meaning.specs.Tree.{Expr, Exprs, Pairs, MaybeExpr, Arms, Stmt, Stmts}
-use Rattle.theory_rewriting.specs.Context.{Context, ListKind}
-use Rattle.theory_rewriting.specs.Rewriting.{ExprTo, same_expr, then_expr, by_expr_rule, in_text, in_array, in_map, in_braces, in_call, in_stray_method, in_chain, in_and, in_or, in_coalesce, ExprsTo, exprs_none, exprs_more, PairsTo, pairs_none, pairs_more, ChainTo, in_dot, in_index, BaseTo, base, ArgumentTo, same_argument, in_method, in_brackets, StepsTo, same_steps, last_method, last_index, more_dot, more_index, TargetTo, same_target, in_target, GuardTo, guard, MaybeTo, maybe_none, maybe_some, ArmsTo, arms_none, arms_more, StmtTo, same_stmt, then_stmt, by_stmt_rule, in_if, in_switch, in_while, in_do, in_for, in_var, in_assignment, in_block, in_try, in_expression, in_call_statement, in_break, in_return, in_import, RestTo, same_stmts, then_stmts, by_list_rule, in_head, in_tail, flag_forgotten, knowing_less}
+use Rattle.theory_rewriting.specs.Context.{Context, ListKind, ListContext}
+use Rattle.theory_rewriting.specs.Rewriting.{ExprTo, same_expr, then_expr, by_expr_rule, in_text, in_array, in_map, in_braces, in_call, in_stray_method, in_chain, in_and, in_or, in_coalesce, ExprsTo, exprs_none, exprs_more, PairsTo, pairs_none, pairs_more, ChainTo, in_dot, in_index, BaseTo, base, ArgumentTo, same_argument, in_method, in_brackets, StepsTo, same_steps, last_method, last_index, more_dot, more_index, TargetTo, same_target, in_target, GuardTo, guard, MaybeTo, maybe_none, maybe_some, ArmsTo, arms_none, arms_more, StmtTo, same_stmt, then_stmt, by_stmt_rule, in_if, in_switch, in_while, in_do, in_for, in_var, in_assignment, in_block, in_try, in_expression, in_call_statement, in_break, in_return, in_import, RestTo, same_stmts, then_stmts, by_list_rule, in_head, in_tail, flag_forgotten}
 use Rattle.theory_meaning.specs.Walk.{over_pairs, over_maybe, total}
 use Rattle.theory_meaning.specs.Weight.{own_weight, expr_weight, exprs_weight, stmt_weight, weight}
 use Rattle.theory_rewriting.proofs.rules.Arms.{arms_weight}
@@ -112,11 +112,10 @@ mutual
   stmt_falls (in_return p) = omega (arith, maybe_falls p)
   stmt_falls (in_import p) = omega (arith, expr_falls p)
 
-  pub stmts_fall : {k : Context} {m : ListKind} {u d d' : Bool} {ss ss' : Stmts} → RestTo k m u d d' ss ss' → weight ss' + gap d d' ≤ weight ss
+  pub stmts_fall : {k : ListContext} {m : ListKind} {u d d' : Bool} {ss ss' : Stmts} → RestTo k m u d d' ss ss' → weight ss' + gap d d' ≤ weight ss
   stmts_fall (same_stmts {d = d}) = omega (arith, gap_same d)
   stmts_fall (then_stmts {d = d} {d1 = d1} {d2 = d2} p q) = omega (arith, stmts_fall p, stmts_fall q, gap_then d d1 d2)
   stmts_fall (by_list_rule {d = d} r) = omega (arith, gap_most d true, (list_rule r).lighter)
   stmts_fall (in_head p) = omega (arith, stmt_falls p)
   stmts_fall (in_tail p) = omega (arith, stmts_fall p)
   stmts_fall (flag_forgotten p) = omega (arith, stmts_fall p)
-  stmts_fall (knowing_less i p) = stmts_fall p

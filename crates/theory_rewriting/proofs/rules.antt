@@ -16,7 +16,9 @@ pub mod SelfAssign
 pub mod Arms
 pub mod Equality
 pub mod Switches
+pub mod Shrunk
 pub mod Fitting
+pub mod Narrowed
 pub mod Tables
 pub mod Forgetting
 pub mod Expressions

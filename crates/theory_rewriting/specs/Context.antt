@@ -1,9 +1,10 @@
 -- Where a tree stands: what its rewriting may rely on, and what the list is in which a statement stands.
-use Rattle.std.specs.Prelude.{Bool, true, false, List, [], ◌∷◌, Option, Some, None}
+use Rattle.std.specs.Prelude.{Bool, true, false, ◌&&◌, cond, List, [], ◌∷◌, Option, Some, None}
 use Rattle.rhai_base.specs.Value.{Text, Value}
 use Rattle.theory_meaning.specs.Constants.{constant_value}
 use Rattle.theory_meaning.specs.Engine.{Engine}
 use Rattle.theory_meaning.specs.Tree.{Stmt, Var, Stmts, no_stmts, stmt}
+use Rattle.theory_rewriting.specs.Evals.{keeps_names}
 use Rattle.theory_rewriting.specs.Known.{Known, shadow}
 
 -- the engine's record, and the names known
@@ -35,14 +36,33 @@ abbrev pub naming_catch : Option (Option Text) → Context → Context
 naming_catch None k = k
 naming_catch (Some x) k = naming_some x k
 
--- what is known behind a statement of a list: a constant with a constant expression has its value
+-- what a statement of a list adds: a constant with a constant expression has its value
 abbrev pub known_behind : Stmt → List Known → List Known
 known_behind (Var true exported x e) ks = record { name = x; value = constant_value e } ∷ ks
 known_behind (Var false exported x e) ks = shadow x ks
 known_behind s ks = ks
 
-abbrev pub behind : Stmt → Context → Context
-behind s k = record { engine = k.engine; known = known_behind s k.known }
+-- where a list goes on: the context, and whether what the list declares becomes known: not behind a call of `eval`
+pub record ListContext : Type 0 where
+  pub context : Context
+  pub is_open : Bool
+
+-- where it starts, and where `eval` was called
+abbrev pub open_list : Context → ListContext
+open_list k = record { context = k; is_open = true }
+
+abbrev pub closed_list : Engine → ListContext
+closed_list engine = record { context = under engine; is_open = false }
+
+-- behind a statement, where names are kept (the test) or not
+abbrev pub known_after : Bool → Stmt → List Known → List Known
+known_after b s ks = cond b (known_behind s ks) []
+
+abbrev pub behind_by : Bool → Stmt → Context → ListContext
+behind_by b s k = record { context = knowing k.engine (known_after b s k.known); is_open = b }
+
+abbrev pub behind : Stmt → ListContext → ListContext
+behind s l = behind_by (l.is_open && keeps_names s) s l.context
 
 -- what a list is: a script's or a function's, or one inside, whose value is wanted or not
 pub data ListKind : Type 0 where

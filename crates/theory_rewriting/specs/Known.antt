@@ -13,10 +13,6 @@ abbrev pub look : List Known → Text → Option Value
 look [] x = None
 look (k ∷ ks) x = cond (same_text k.name x) k.value (look ks x)
 
--- a list knows no more names than another, and the same of them
-pub record KnowsLess (ks ls : List Known) : Type 0 where
-  pub is : (x : Text) (v : Value) → look ks x ≡ Some v → look ls x ≡ Some v
-
 abbrev pub unless_known : Option Value → Text → List Text → List Text
 unless_known None x xs = x ∷ xs
 unless_known (Some v) x xs = xs

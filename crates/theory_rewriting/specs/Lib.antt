@@ -9,6 +9,8 @@ pub mod Parts
 pub mod Operands
 pub mod Indexing
 pub mod Tables
+pub mod Shrinking
+pub mod Narrowing
 pub mod SelfAssign
 pub mod Rules
 pub mod Rewriting
@@ -18,6 +20,7 @@ pub mod Clear
 pub mod Residue
 pub mod Reducible
 pub mod Scripts
+pub mod Normal
 pub mod Finished
 pub mod Steps
 pub mod Refines

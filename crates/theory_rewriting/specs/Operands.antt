@@ -4,12 +4,23 @@ use Rattle.rhai_base.specs.Value.{Text, Value, UnitV, text_of}
 use Rattle.theory_meaning.specs.Constants.{constant_value, constant_bool}
 use Rattle.theory_meaning.specs.Queries.{is_pure_expr}
 use Rattle.theory_meaning.specs.Shape.{is_unit}
-use Rattle.theory_meaning.specs.Tree.{Expr, StringConstant, Exprs, no_exprs, expr}
+use Rattle.theory_rewriting.specs.Answering.{is_always}
+use Rattle.theory_meaning.specs.Tree.{Expr, StringConstant, And, Exprs, no_exprs, expr}
 
 -- one operand more, behind the others
 abbrev pub with_last : Exprs → Expr → Exprs
 with_last no_exprs b = expr b no_exprs
 with_last (expr e es) b = expr e (with_last es b)
+
+abbrev pub is_and : Expr → Bool
+is_and (And es) = true
+is_and _ = false
+
+-- the last of some operands is the constant false
+abbrev pub ends_false : Exprs → Bool
+ends_false no_exprs = false
+ends_false (expr e no_exprs) = is_always false e
+ends_false (expr e (expr f es)) = ends_false (expr f es)
 
 -- of `&&`, which goes on where an operand is true (b: true), and of `||`, which goes on where it is false
 pub data OperandsTo (b : Bool) : Exprs → Exprs → Type 0 where

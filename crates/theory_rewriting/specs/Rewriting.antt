@@ -6,8 +6,7 @@ use Rattle.theory_meaning.specs.Desugar.{root_of}
 use Rattle.theory_meaning.specs.Queries.{is_unit}
 use Rattle.theory_meaning.specs.Shape.{catch_name}
 use Rattle.theory_meaning.specs.Tree.{ChainFlags, SwitchTable, Callee, Expr, InterpolatedString, ArrayOf, MapOf, MethodCall, BlockExpr, FnCall, Dot, Index, And, Or, Coalesce, Exprs, no_exprs, expr, Pairs, no_pairs, pair, MaybeExpr, no_expr, an_expr, Arms, no_arms, arm, Stmt, If, Switch, While, Do, For, Var, Assignment, Block, TryCatch, ExprStmt, FnCallStmt, BreakLoop, Return, Import, Stmts, stmt}
-use Rattle.theory_rewriting.specs.Context.{Context, knowing, behind, ListKind, Inside, wanted, wanted_before, naming, naming_some, naming_catch}
-use Rattle.theory_rewriting.specs.Known.{Known, KnowsLess}
+use Rattle.theory_rewriting.specs.Context.{Context, behind, ListKind, Inside, wanted, wanted_before, naming, naming_some, naming_catch, open_list, ListContext}
 use Rattle.theory_rewriting.specs.Rules.{ExprRule, StmtRule, ListRule}
 use Rattle.theory_rewriting.specs.SurelyUnit.{is_surely_unit}
 
@@ -20,7 +19,7 @@ mutual
     in_text : {k : Context} {d d' : Bool} {es es' : Exprs} → ExprsTo k d d' es es' → ExprTo k d d' (InterpolatedString es) (InterpolatedString es')
     in_array : {k : Context} {d d' : Bool} {es es' : Exprs} → ExprsTo k d d' es es' → ExprTo k d d' (ArrayOf es) (ArrayOf es')
     in_map : {k : Context} {d d' : Bool} {ps ps' : Pairs} {template : List Text} → PairsTo k d d' ps ps' → ExprTo k d d' (MapOf ps template) (MapOf ps' template)
-    in_braces : {k : Context} {d d' : Bool} {ss ss' : Stmts} → RestTo k (Inside true) true d d' ss ss' → ExprTo k d d' (BlockExpr ss) (BlockExpr ss')
+    in_braces : {k : Context} {d d' : Bool} {ss ss' : Stmts} → RestTo (open_list k) (Inside true) true d d' ss ss' → ExprTo k d d' (BlockExpr ss) (BlockExpr ss')
     in_call : {k : Context} {d d' : Bool} {c : Callee} {es es' : Exprs} → ExprsTo k d d' es es' → ExprTo k d d' (FnCall c es) (FnCall c es')
     -- a method call that is no step of a chain has no meaning
     in_stray_method : {k : Context} {d d' : Bool} {c : Callee} {es es' : Exprs} → ExprsTo k d d' es es' → ExprTo k d d' (MethodCall c es) (MethodCall c es')
@@ -83,17 +82,17 @@ mutual
     same_stmt : {k : Context} {w d : Bool} {s : Stmt} → StmtTo k w d d s s
     then_stmt : {k : Context} {w d d1 d2 : Bool} {s s1 s2 : Stmt} → StmtTo k w d d1 s s1 → StmtTo k w d1 d2 s1 s2 → StmtTo k w d d2 s s2
     by_stmt_rule : {k : Context} {w d : Bool} {s s' : Stmt} → StmtRule k w s s' → StmtTo k w d true s s'
-    in_if : {k : Context} {w d d1 d2 d3 : Bool} {e e' : Expr} {a a' b b' : Stmts} → ExprTo k d d1 e e' → RestTo k (Inside w) true d1 d2 a a' → RestTo k (Inside w) true d2 d3 b b' → StmtTo k w d d3 (If e a b) (If e' a' b')
+    in_if : {k : Context} {w d d1 d2 d3 : Bool} {e e' : Expr} {a a' b b' : Stmts} → ExprTo k d d1 e e' → RestTo (open_list k) (Inside w) true d1 d2 a a' → RestTo (open_list k) (Inside w) true d2 d3 b b' → StmtTo k w d d3 (If e a b) (If e' a' b')
     in_switch : {k : Context} {w d d1 d2 : Bool} {e e' : Expr} {as' bs : Arms} {t : SwitchTable} → ExprTo k d d1 e e' → ArmsTo k d1 d2 as' bs → StmtTo k w d d2 (Switch e as' t) (Switch e' bs t)
-    in_while : {k : Context} {w d d1 d2 : Bool} {e e' : Expr} {b b' : Stmts} → GuardTo k d d1 e e' → RestTo k (Inside false) true d1 d2 b b' → StmtTo k w d d2 (While e b) (While e' b')
-    in_do : {k : Context} {w d d1 d2 negated exported : Bool} {e e' : Expr} {b b' : Stmts} → ExprTo k d d1 e e' → RestTo k (Inside false) true d1 d2 b b' → StmtTo k w d d2 (Do negated exported e b) (Do negated exported e' b')
+    in_while : {k : Context} {w d d1 d2 : Bool} {e e' : Expr} {b b' : Stmts} → GuardTo k d d1 e e' → RestTo (open_list k) (Inside false) true d1 d2 b b' → StmtTo k w d d2 (While e b) (While e' b')
+    in_do : {k : Context} {w d d1 d2 negated exported : Bool} {e e' : Expr} {b b' : Stmts} → ExprTo k d d1 e e' → RestTo (open_list k) (Inside false) true d1 d2 b b' → StmtTo k w d d2 (Do negated exported e b) (Do negated exported e' b')
     -- in its body the loop name and the counter's are variables
-    in_for : {k : Context} {w d d1 d2 : Bool} {x : Text} {i : Option Text} {e e' : Expr} {b b' : Stmts} → ExprTo k d d1 e e' → RestTo (naming x (naming_some i k)) (Inside false) true d1 d2 b b' → StmtTo k w d d2 (For x i e b) (For x i e' b')
+    in_for : {k : Context} {w d d1 d2 : Bool} {x : Text} {i : Option Text} {e e' : Expr} {b b' : Stmts} → ExprTo k d d1 e e' → RestTo (open_list (naming x (naming_some i k))) (Inside false) true d1 d2 b b' → StmtTo k w d d2 (For x i e b) (For x i e' b')
     in_var : {k : Context} {w d d' constant exported : Bool} {x : Text} {e e' : Expr} → ExprTo k d d' e e' → StmtTo k w d d' (Var constant exported x e) (Var constant exported x e')
     in_assignment : {k : Context} {w d d1 d2 : Bool} {op : Option Operator} {l l' e e' : Expr} → TargetTo k d d1 l l' → ExprTo k d1 d2 e e' → StmtTo k w d d2 (Assignment op l e) (Assignment op l' e')
-    in_block : {k : Context} {w d d' : Bool} {ss ss' : Stmts} → RestTo k (Inside w) true d d' ss ss' → StmtTo k w d d' (Block ss) (Block ss')
+    in_block : {k : Context} {w d d' : Bool} {ss ss' : Stmts} → RestTo (open_list k) (Inside w) true d d' ss ss' → StmtTo k w d d' (Block ss) (Block ss')
     -- in its branch the catch name is a variable
-    in_try : {k : Context} {w d d1 d2 : Bool} {x : Expr} {a a' b b' : Stmts} → RestTo k (Inside false) true d d1 a a' → RestTo (naming_catch (catch_name x) k) (Inside false) true d1 d2 b b' → StmtTo k w d d2 (TryCatch x a b) (TryCatch x a' b')
+    in_try : {k : Context} {w d d1 d2 : Bool} {x : Expr} {a a' b b' : Stmts} → RestTo (open_list k) (Inside false) true d d1 a a' → RestTo (open_list (naming_catch (catch_name x) k)) (Inside false) true d1 d2 b b' → StmtTo k w d d2 (TryCatch x a b) (TryCatch x a' b')
     in_expression : {k : Context} {w d d' : Bool} {e e' : Expr} → ExprTo k d d' e e' → StmtTo k w d d' (ExprStmt e) (ExprStmt e')
     in_call_statement : {k : Context} {w d d' : Bool} {c : Callee} {es es' : Exprs} → ExprsTo k d d' es es' → StmtTo k w d d' (FnCallStmt c es) (FnCallStmt c es')
     in_break : {k : Context} {w d d' breaks exported : Bool} {m m' : MaybeExpr} → MaybeTo k d d' m m' → StmtTo k w d d' (BreakLoop breaks exported m) (BreakLoop breaks exported m')
@@ -101,18 +100,16 @@ mutual
     in_import : {k : Context} {w d d' : Bool} {x : Text} {e e' : Expr} → ExprTo k d d' e e' → StmtTo k w d d' (Import e x) (Import e' x)
 
   -- a list; the first test is whether what stands before it is surely unit, or nothing
-  pub data RestTo : Context → ListKind → Bool → Bool → Bool → Stmts → Stmts → Type 0 where
-    same_stmts : {k : Context} {m : ListKind} {u d : Bool} {ss : Stmts} → RestTo k m u d d ss ss
-    then_stmts : {k : Context} {m : ListKind} {u d d1 d2 : Bool} {ss ss1 ss2 : Stmts} → RestTo k m u d d1 ss ss1 → RestTo k m u d1 d2 ss1 ss2 → RestTo k m u d d2 ss ss2
-    by_list_rule : {k : Context} {m : ListKind} {u d : Bool} {ss ss' : Stmts} → ListRule k m u ss ss' → RestTo k m u d true ss ss'
-    -- the first statement, and those after it, which know what it pushes
-    in_head : {k : Context} {m : ListKind} {u d d' : Bool} {s s' : Stmt} {ss : Stmts} → StmtTo k (wanted_before (wanted m) ss) d d' s s' → RestTo k m u d d' (stmt s ss) (stmt s' ss)
-    in_tail : {k : Context} {m : ListKind} {u d d' : Bool} {s : Stmt} {ss ss' : Stmts} → RestTo (behind s k) m (is_surely_unit s) d d' ss ss' → RestTo k m u d d' (stmt s ss) (stmt s ss')
+  pub data RestTo : ListContext → ListKind → Bool → Bool → Bool → Stmts → Stmts → Type 0 where
+    same_stmts : {k : ListContext} {m : ListKind} {u d : Bool} {ss : Stmts} → RestTo k m u d d ss ss
+    then_stmts : {k : ListContext} {m : ListKind} {u d d1 d2 : Bool} {ss ss1 ss2 : Stmts} → RestTo k m u d d1 ss ss1 → RestTo k m u d1 d2 ss1 ss2 → RestTo k m u d d2 ss ss2
+    by_list_rule : {k : ListContext} {m : ListKind} {u d : Bool} {ss ss' : Stmts} → ListRule k.context m u ss ss' → RestTo k m u d true ss ss'
+    -- the first statement, and those after it, which know what it pushes, or behind a call of `eval` nothing
+    in_head : {k : ListContext} {m : ListKind} {u d d' : Bool} {s s' : Stmt} {ss : Stmts} → StmtTo k.context (wanted_before (wanted m) ss) d d' s s' → RestTo k m u d d' (stmt s ss) (stmt s' ss)
+    in_tail : {k : ListContext} {m : ListKind} {u d d' : Bool} {s : Stmt} {ss ss' : Stmts} → RestTo (behind s k) m (is_surely_unit s) d d' ss ss' → RestTo k m u d d' (stmt s ss) (stmt s ss')
     -- passes that began with a clear flag, where it was set before
-    flag_forgotten : {k : Context} {m : ListKind} {u d d' : Bool} {ss ss' : Stmts} → RestTo k m u d d' ss ss' → RestTo k m u true true ss ss'
-    -- what may be done where fewer names are known
-    knowing_less : {k : Context} {ks : List Known} {m : ListKind} {u d d' : Bool} {ss ss' : Stmts} → KnowsLess ks k.known → RestTo (knowing k.engine ks) m u d d' ss ss' → RestTo k m u d d' ss ss'
+    flag_forgotten : {k : ListContext} {m : ListKind} {u d d' : Bool} {ss ss' : Stmts} → RestTo k m u d d' ss ss' → RestTo k m u true true ss ss'
 
 -- a list from its start
 abbrev pub StmtsTo : Context → ListKind → Bool → Bool → Stmts → Stmts → Type 0
-StmtsTo k m d d' ss ss' = RestTo k m true d d' ss ss'
+StmtsTo k m d d' ss ss' = RestTo (open_list k) m true d d' ss ss'

@@ -1,29 +1,30 @@
 -- The rewrite rules, one constructor each: what may stand for what. Each family is flat; `Rewriting` closes over them.
 use Rattle.std.specs.Prelude.{◌≡◌, ◌<◌, ℕ, ℤ, Bool, true, false, ◌&&◌, List, [], ◌∷◌, ◌++◌, length, Some, None, codes}
-use Rattle.rhai_base.specs.Value.{Text, Value, UnitV, IntV, TextV, ArrayV, MapV, PointerV, Values, Fields, values, items}
+use Rattle.rhai_base.specs.Value.{Text, Value, IntV, TextV, ArrayV, MapV, PointerV, Values, Fields, values, items, is_hashable}
 use Rattle.rhai_base.specs.Operators.{Operator}
 use Rattle.base_tokens.specs.Names.{is_valid_name}
 use Rattle.theory_meaning.specs.Constants.{constant_value, constant_values, constant_entries, constant_bool, constant_for, is_literal_unit, pointer_call}
-use Rattle.theory_meaning.specs.Control.{texts_joined}
+use Rattle.theory_meaning.specs.Control.{case_for, texts_joined}
 use Rattle.theory_meaning.specs.Control.{chosen as cases_for}
 use Rattle.theory_meaning.specs.Elements.{index_in, entry, fields_of}
 use Rattle.theory_meaning.specs.Engine.{overrides_any, mapped_type_name, assigning}
 use Rattle.theory_meaning.specs.Faults.{has_operands}
 use Rattle.theory_meaning.specs.Queries.{is_eval, is_block_dependent, is_any_dependent, are_pure_exprs, are_pure_pairs, is_pure, is_internally_pure, are_internally_pure, is_control_flow_break, is_noop}
-use Rattle.theory_meaning.specs.Shape.{is_unit, is_table, names_arm}
+use Rattle.theory_meaning.specs.Shape.{is_unit, names_arm}
 use Rattle.theory_meaning.specs.Walk.{listed}
-use Rattle.theory_meaning.specs.Weight.{table_weight}
-use Rattle.theory_meaning.specs.Tree.{SwitchCase, SwitchRange, SwitchTable, Arms, OfOperator, ChainFlags, PropertyNames, Callee, Expr, DynamicConstant, BoolConstant, StringConstant, UnitConstant, InterpolatedString, ArrayOf, MapOf, Variable, Property, MethodCall, BlockExpr, FnCall, Dot, Index, And, Or, Coalesce, Exprs, no_exprs, expr, count_exprs, Pairs, Stmt, Noop, If, Switch, While, Assignment, Block, TryCatch, ExprStmt, FnCallStmt, Share, Return, no_expr, an_expr, Stmts, no_stmts, stmt, joined}
+use Rattle.theory_meaning.specs.Tree.{SwitchTable, Arms, OfOperator, ChainFlags, PropertyNames, Callee, Expr, DynamicConstant, BoolConstant, StringConstant, UnitConstant, InterpolatedString, ArrayOf, MapOf, Variable, Property, MethodCall, BlockExpr, FnCall, Dot, Index, And, Or, Coalesce, Exprs, no_exprs, expr, count_exprs, Pairs, Stmt, Noop, If, Switch, While, Assignment, Block, TryCatch, ExprStmt, FnCallStmt, Share, Return, no_expr, an_expr, Stmts, no_stmts, stmt, joined}
 use Rattle.theory_rewriting.specs.Context.{Context, ListKind, Whole, Inside, wanted, wanted_before}
 use Rattle.theory_rewriting.specs.Known.{look, unknown}
 use Rattle.theory_rewriting.specs.Exports.{exports_nothing}
 use Rattle.theory_rewriting.specs.Folding.{folded}
-use Rattle.theory_rewriting.specs.Operands.{with_last, OperandsTo, CoalesceTo, TextTo}
+use Rattle.theory_rewriting.specs.Operands.{with_last, is_and, ends_false, OperandsTo, CoalesceTo, TextTo}
 use Rattle.theory_rewriting.specs.Indexing.{indexed, expr_at, pair_for, or_unit}
 use Rattle.theory_rewriting.specs.Parts.{constant_of, named, link}
 use Rattle.theory_rewriting.specs.SelfAssign.{has_op_assignment, leaves_names}
 use Rattle.theory_rewriting.specs.SurelyUnit.{is_surely_unit}
-use Rattle.theory_rewriting.specs.Tables.{forgotten, CasesTo, RangesTo, are_of, arm_of, left_arms, default_answer, default_stmt, default_branch}
+use Rattle.theory_rewriting.specs.Shrinking.{AreDistinct, shrinks, shrunk}
+use Rattle.theory_rewriting.specs.Narrowing.{narrows_by, narrowed_by}
+use Rattle.theory_rewriting.specs.Tables.{forgotten, arm_of, left_arms, default_answer, default_stmt, default_branch}
 
 -- ---- what stands for what
 
@@ -88,8 +89,8 @@ pub data ExprRule (k : Context) : Expr → Expr → Type 0 where
   fn_folds : {captures : Bool} {e : Expr} (f : Text) → constant_value e ≡ Some (TextV f) → is_valid_name f ≡ true → ExprRule k (FnCall (named (codes "Fn") captures) (expr e no_exprs)) (DynamicConstant (PointerV f (values [])))
   curry_folds : {captures : Bool} {e : Expr} {es : Exprs} (f : Text) (us : Values) (vs : List Value) → constant_value e ≡ Some (PointerV f us) → constant_values es ≡ Some vs → ExprRule k (FnCall (named (codes "curry") captures) (expr e es)) (DynamicConstant (PointerV f (values (items us ++ vs))))
   -- past a `?` a unit ends the chain with unit
-  unit_ends_dot : {f : ChainFlags} {e r : Expr} → f.negated ≡ true → constant_value e ≡ Some UnitV → ExprRule k (Dot f e r) UnitConstant
-  unit_ends_index : {f : ChainFlags} {e r : Expr} → f.negated ≡ true → constant_value e ≡ Some UnitV → ExprRule k (Index f e r) UnitConstant
+  unit_ends_dot : {f : ChainFlags} {r : Expr} → f.negated ≡ true → ExprRule k (Dot f UnitConstant r) UnitConstant
+  unit_ends_index : {f : ChainFlags} {r : Expr} → f.negated ≡ true → ExprRule k (Index f UnitConstant r) UnitConstant
   -- a part of a constant
   property_of_constant : {f : ChainFlags} {e : Expr} {p : PropertyNames} (fs : Fields) → constant_value e ≡ Some (MapV fs) → ExprRule k (Dot f e (Property p)) (constant_of (entry fs p.name))
   index_of_constant : {f : ChainFlags} {e i : Expr} (v j u : Value) → constant_value e ≡ Some v → constant_value i ≡ Some j → indexed v j ≡ Some u → ExprRule k (Index f e i) (constant_of u)
@@ -97,14 +98,14 @@ pub data ExprRule (k : Context) : Expr → Expr → Type 0 where
   element_of_array : {f : ChainFlags} {es : Exprs} {i e : Expr} (n : ℤ) (j : ℕ) → are_pure_exprs es ≡ true → constant_value i ≡ Some (IntV n) → index_in (count_exprs es) n ≡ Some j → expr_at es j ≡ Some e → ExprRule k (Index f (ArrayOf es) i) e
   property_of_map : {f : ChainFlags} {ps : Pairs} {template : List Text} {p : PropertyNames} → are_pure_pairs ps ≡ true → ExprRule k (Dot f (MapOf ps template) (Property p)) (or_unit (pair_for ps p.name))
   entry_of_map : {f : ChainFlags} {ps : Pairs} {template : List Text} {i : Expr} (x : Text) → are_pure_pairs ps ≡ true → constant_value i ≡ Some (TextV x) → ExprRule k (Index f (MapOf ps template) i) (or_unit (pair_for ps x))
-  -- `type_of` and `is_shared` of a constant as methods; past a `?` a unit is left
-  type_of_method : {f : ChainFlags} {captures : Bool} {e : Expr} (v : Value) → constant_value e ≡ Some v → (f.negated && is_unit v) ≡ false → ExprRule k (Dot f e (MethodCall (named (codes "type_of") captures) no_exprs)) (StringConstant (mapped_type_name k.engine v))
-  is_shared_method : {f : ChainFlags} {captures : Bool} {e : Expr} (v : Value) → constant_value e ≡ Some v → (f.negated && is_unit v) ≡ false → ExprRule k (Dot f e (MethodCall (named (codes "is_shared") captures) no_exprs)) (BoolConstant false)
+  -- `type_of` and `is_shared` of a constant as methods that capture nothing; past a `?` a unit is left
+  type_of_method : {f : ChainFlags} {e : Expr} (v : Value) → constant_value e ≡ Some v → (f.negated && is_unit v) ≡ false → ExprRule k (Dot f e (MethodCall (named (codes "type_of") false) no_exprs)) (StringConstant (mapped_type_name k.engine v))
+  is_shared_method : {f : ChainFlags} {e : Expr} (v : Value) → constant_value e ≡ Some v → (f.negated && is_unit v) ≡ false → ExprRule k (Dot f e (MethodCall (named (codes "is_shared") false) no_exprs)) (BoolConstant false)
   -- the first step of a longer chain, over a constant: the chain goes on from its answer
   property_of_constant_first : {f : ChainFlags} {e : Expr} (dot : Bool) (m : ChainFlags) (p : PropertyNames) (r : Expr) (fs : Fields) → f.breaks ≡ false → constant_value e ≡ Some (MapV fs) → ExprRule k (Dot f e (link dot m (Property p) r)) (link dot m (constant_of (entry fs p.name)) r)
   index_of_constant_first : {f : ChainFlags} {e : Expr} (dot : Bool) (m : ChainFlags) (i r : Expr) (v j u : Value) → f.breaks ≡ false → constant_value e ≡ Some v → constant_value i ≡ Some j → indexed v j ≡ Some u → ExprRule k (Index f e (link dot m i r)) (link dot m (constant_of u) r)
-  type_of_method_first : {f : ChainFlags} {e : Expr} (dot captures : Bool) (m : ChainFlags) (r : Expr) (v : Value) → f.breaks ≡ false → constant_value e ≡ Some v → (f.negated && is_unit v) ≡ false → ExprRule k (Dot f e (link dot m (MethodCall (named (codes "type_of") captures) no_exprs) r)) (link dot m (StringConstant (mapped_type_name k.engine v)) r)
-  is_shared_method_first : {f : ChainFlags} {e : Expr} (dot captures : Bool) (m : ChainFlags) (r : Expr) (v : Value) → f.breaks ≡ false → constant_value e ≡ Some v → (f.negated && is_unit v) ≡ false → ExprRule k (Dot f e (link dot m (MethodCall (named (codes "is_shared") captures) no_exprs) r)) (link dot m (BoolConstant false) r)
+  type_of_method_first : {f : ChainFlags} {e : Expr} (dot : Bool) (m : ChainFlags) (r : Expr) (v : Value) → f.breaks ≡ false → constant_value e ≡ Some v → (f.negated && is_unit v) ≡ false → ExprRule k (Dot f e (link dot m (MethodCall (named (codes "type_of") false) no_exprs) r)) (link dot m (StringConstant (mapped_type_name k.engine v)) r)
+  is_shared_method_first : {f : ChainFlags} {e : Expr} (dot : Bool) (m : ChainFlags) (r : Expr) (v : Value) → f.breaks ≡ false → constant_value e ≡ Some v → (f.negated && is_unit v) ≡ false → ExprRule k (Dot f e (link dot m (MethodCall (named (codes "is_shared") false) no_exprs) r)) (link dot m (BoolConstant false) r)
   -- so does one over a literal whose parts are pure
   element_of_array_first : {f : ChainFlags} {es : Exprs} {e : Expr} (dot : Bool) (m : ChainFlags) (i r : Expr) (n : ℤ) (j : ℕ) → f.breaks ≡ false → are_pure_exprs es ≡ true → constant_value i ≡ Some (IntV n) → index_in (count_exprs es) n ≡ Some j → expr_at es j ≡ Some e → ExprRule k (Index f (ArrayOf es) (link dot m i r)) (link dot m e r)
   property_of_map_first : {f : ChainFlags} {ps : Pairs} {template : List Text} (dot : Bool) (m : ChainFlags) (p : PropertyNames) (r : Expr) → f.breaks ≡ false → are_pure_pairs ps ≡ true → ExprRule k (Dot f (MapOf ps template) (link dot m (Property p) r)) (link dot m (or_unit (pair_for ps p.name)) r)
@@ -140,22 +141,22 @@ pub data StmtRule (k : Context) (w : Bool) : Stmt → Stmt → Type 0 where
   -- a `while` over false does nothing, and one over true is a `loop`
   while_false : {e : Expr} {body : Stmts} → constant_bool e ≡ Some false → StmtRule k w (While e body) Noop
   while_true : {e : Expr} {body : Stmts} → constant_bool e ≡ Some true → StmtRule k w (While e body) (While UnitConstant body)
-  -- a `switch` over a constant: of the arms that are left the first is true, or there is one, or none
-  switch_answers : {e : Expr} {as' : Arms} {t : SwitchTable} {c a : Expr} (v : Value) (j : ℕ) (js : List ℕ) → constant_value e ≡ Some v → left_arms as' (cases_for t v) ≡ j ∷ js → arm_of as' j ≡ Some (c, a) → constant_bool c ≡ Some true → StmtRule k w (Switch e as' t) (ExprStmt a)
-  switch_is_if : {e : Expr} {as' : Arms} {t : SwitchTable} {c a : Expr} (v : Value) (j : ℕ) → constant_value e ≡ Some v → left_arms as' (cases_for t v) ≡ j ∷ [] → arm_of as' j ≡ Some (c, a) → (t.default ≡ Some j → ⊥) → StmtRule k w (Switch e as' t) (If c (stmt (ExprStmt a) no_stmts) (default_branch (default_answer as' t.default)))
-  switch_defaults : {e : Expr} {as' : Arms} {t : SwitchTable} (v : Value) → constant_value e ≡ Some v → left_arms as' (cases_for t v) ≡ [] → StmtRule k w (Switch e as' t) (default_stmt (default_answer as' t.default))
-  -- of a table over a constant the arms that are left alone
-  switch_narrows : {e : Expr} {as' : Arms} {t t' : SwitchTable} (v : Value) → constant_value e ≡ Some v → cases_for t' v ≡ left_arms as' (cases_for t v) → t'.default ≡ t.default → are_of (listed t') (listed t) ≡ true → (is_table as' t ≡ true → is_table as' t' ≡ true) → table_weight t' < table_weight t → StmtRule k w (Switch e as' t) (Switch e as' t')
+  -- a `switch` over a constant that holds no pointer: of the arms that are left the first is true, or there is one, or none
+  switch_answers : {e : Expr} {as' : Arms} {t : SwitchTable} {c a : Expr} (v : Value) (j : ℕ) (js : List ℕ) → constant_value e ≡ Some v → is_hashable v ≡ true → left_arms as' (cases_for t v) ≡ j ∷ js → arm_of as' j ≡ Some (c, a) → constant_bool c ≡ Some true → StmtRule k w (Switch e as' t) (ExprStmt a)
+  switch_is_if : {e : Expr} {as' : Arms} {t : SwitchTable} {c a : Expr} (v : Value) (j : ℕ) → constant_value e ≡ Some v → is_hashable v ≡ true → left_arms as' (cases_for t v) ≡ j ∷ [] → arm_of as' j ≡ Some (c, a) → (t.default ≡ Some j → ⊥) → StmtRule k w (Switch e as' t) (If c (stmt (ExprStmt a) no_stmts) (default_branch (default_answer as' t.default)))
+  switch_defaults : {e : Expr} {as' : Arms} {t : SwitchTable} (v : Value) → constant_value e ≡ Some v → is_hashable v ≡ true → left_arms as' (cases_for t v) ≡ [] → StmtRule k w (Switch e as' t) (default_stmt (default_answer as' t.default))
+  -- of a table over a constant what stands for it alone, and of that the arms that are left
+  switch_narrows : {e : Expr} {as' : Arms} {t : SwitchTable} (v : Value) → constant_value e ≡ Some v → is_hashable v ≡ true → narrows_by as' t v (case_for t.cases v) ≡ true → StmtRule k w (Switch e as' t) (Switch e as' (narrowed_by as' t v (case_for t.cases v)))
   -- over any subject: false arms and ranges go, arms after a true one in a list go, empty lists go
-  switch_shrinks : {e : Expr} {as' : Arms} {t : SwitchTable} {cs : List SwitchCase} {qs : List SwitchRange} → CasesTo as' qs t.cases cs → RangesTo as' t.ranges qs → table_weight (record { cases = cs; ranges = qs; default = t.default }) < table_weight t → StmtRule k w (Switch e as' t) (Switch e as' (record { cases = cs; ranges = qs; default = t.default }))
+  switch_shrinks : {e : Expr} {as' : Arms} {t : SwitchTable} → AreDistinct t.cases → shrinks as' t ≡ true → StmtRule k w (Switch e as' t) (Switch e as' (shrunk as' t))
   -- the answer of an arm that no list names is unit
   switch_forgets : {e : Expr} {as' : Arms} {t : SwitchTable} {c a : Expr} (j : ℕ) → arm_of as' j ≡ Some (c, a) → is_literal_unit a ≡ false → names_arm j (listed t) ≡ false → StmtRule k w (Switch e as' t) (Switch e (forgotten as' j) t)
   -- a `try` over a body that is pure inside does nothing
   pure_try : {x : Expr} {body branch : Stmts} → are_internally_pure body ≡ true → StmtRule k w (TryCatch x body branch) Noop
   -- an `if` alone in an `if`, both without an `else`
-  nested_if : {a b : Expr} {ss : Stmts} → StmtRule k w (If a (stmt (If b ss no_stmts) no_stmts) no_stmts) (If (And (expr a (expr b no_exprs))) ss no_stmts)
-  -- over an `&&` the inner condition is its last operand
-  nested_if_joins : {es : Exprs} {b : Expr} {ss : Stmts} → StmtRule k w (If (And es) (stmt (If b ss no_stmts) no_stmts) no_stmts) (If (And (with_last es b)) ss no_stmts)
+  nested_if : {a b : Expr} {ss : Stmts} → is_and a ≡ false → StmtRule k w (If a (stmt (If b ss no_stmts) no_stmts) no_stmts) (If (And (expr a (expr b no_exprs))) ss no_stmts)
+  -- over an `&&` the inner condition is its last operand, unless that would follow the constant false
+  nested_if_joins : {es : Exprs} {b : Expr} {ss : Stmts} → ends_false es ≡ false → StmtRule k w (If (And es) (stmt (If b ss no_stmts) no_stmts) no_stmts) (If (And (with_last es b)) ss no_stmts)
   -- `x = x op e` is `x op= e` where there is such an operator, e writes nothing and no `op=` is overridden
   self_assign : {op : Operator} {f : Callee} {x : Text} {e : Expr} → f.token ≡ OfOperator op → has_op_assignment op ≡ true → leaves_names e ≡ true → overrides_any k.engine.overrides (assigning op) ≡ false → StmtRule k w (Assignment None (Variable [] x) (FnCall f (expr (Variable [] x) (expr e no_exprs)))) (Assignment (Some op) (Variable [] x) e)
   -- of shared names those that are known go; of none nothing is left

@@ -1,11 +1,7 @@
 -- The arms of a `switch` that are left to be tried, and its default.
-use Rattle.std.specs.Prelude.{◌≡◌, ℕ, zero, suc, Bool, true, false, List, [], ◌∷◌, Option, Some, None}
-use Rattle.rhai_base.specs.Value.{Value}
-use Rattle.base_tokens.specs.Names.{are_all}
+use Rattle.std.specs.Prelude.{ℕ, zero, suc, Bool, true, false, List, [], ◌∷◌, Option, Some, None}
 use Rattle.theory_meaning.specs.Constants.{constant_bool}
-use Rattle.theory_meaning.specs.Control.{case_for}
-use Rattle.theory_meaning.specs.Shape.{names_arm}
-use Rattle.theory_meaning.specs.Tree.{SwitchCase, SwitchRange, Expr, UnitConstant, Arms, no_arms, arm, Stmt, Block, ExprStmt, Stmts, no_stmts, stmt}
+use Rattle.theory_meaning.specs.Tree.{Expr, UnitConstant, Arms, no_arms, arm, Stmt, Block, ExprStmt, Stmts, no_stmts, stmt}
 
 -- its condition and its answer
 abbrev pub arm_of : Arms → ℕ → Option (Expr × Expr)
@@ -46,25 +42,6 @@ default_stmt (Some e) = ExprStmt e
 abbrev pub default_branch : Option Expr → Stmts
 default_branch None = no_stmts
 default_branch (Some e) = stmt (ExprStmt e) no_stmts
-
--- ---- what becomes of a table, for any subject
-
--- ranges one by one
-pub data RangesTo (as' : Arms) : List SwitchRange → List SwitchRange → Type 0 where
-  no_ranges : RangesTo as' [] []
-  range_stays : {r : SwitchRange} {rs qs : List SwitchRange} → RangesTo as' rs qs → RangesTo as' (r ∷ rs) (r ∷ qs)
-  false_range_goes : {r : SwitchRange} {rs qs : List SwitchRange} → arm_decides (arm_of as' r.arm) ≡ Some false → RangesTo as' rs qs → RangesTo as' (r ∷ rs) qs
-
--- Case lists one by one; qs: the ranges afterwards. An empty list goes only where no range and no later list of its value stands.
-pub data CasesTo (as' : Arms) (qs : List SwitchRange) : List SwitchCase → List SwitchCase → Type 0 where
-  no_cases : CasesTo as' qs [] []
-  case_stays : {c : SwitchCase} {cs ds : List SwitchCase} → CasesTo as' qs cs ds → CasesTo as' qs (c ∷ cs) (c ∷ ds)
-  case_shrinks : {v : Value} {is : List ℕ} {cs ds : List SwitchCase} → CasesTo as' qs cs ds → CasesTo as' qs (record { value = v; arms = is } ∷ cs) (record { value = v; arms = left_arms as' is } ∷ ds)
-  empty_case_goes : {v : Value} {is : List ℕ} {cs ds : List SwitchCase} → qs ≡ [] → left_arms as' is ≡ [] → case_for ds v ≡ None → CasesTo as' qs cs ds → CasesTo as' qs (record { value = v; arms = is } ∷ cs) ds
-
--- every arm of the one list is of the other
-abbrev pub are_of : List ℕ → List ℕ → Bool
-are_of js is = are_all (λ j. names_arm j is) js
 
 -- ---- an arm that no list names
 

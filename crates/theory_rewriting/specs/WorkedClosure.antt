@@ -1,15 +1,13 @@
 -- For places in which a rule may apply a derivation, most of them `{ 3 }` that becomes 3 there; what stays that place and what
 -- becomes none; rules one after another; names; scripts. Arrays stand in `WorkedRewrites`, blocks in `WorkedLists`.
-use Rattle.std.specs.Prelude.{◌≡◌, Bool, true, false, [], ◌∷◌, Option, Some, None, codes, refl}
-use Rattle.std.proofs.Common.{subst}
-use Rattle.rhai_base.specs.Value.{Text, Value, BoolV}
+use Rattle.std.specs.Prelude.{◌≡◌, Bool, true, false, [], ◌∷◌, Some, None, codes, refl}
+use Rattle.rhai_base.specs.Value.{Text, BoolV}
 use Rattle.theory_meaning.specs.Act.{ScopeEntry, IsConstant}
 use Rattle.theory_meaning.specs.Tree.{ChainFlags, Callee, NoToken, SwitchTable, Expr, BoolConstant, InterpolatedString, MapOf, Variable, MethodCall, BlockExpr, Dot, Index, And, Or, Coalesce, no_exprs, expr, exprs, no_pairs, pair, an_expr, no_arms, arm, If, Switch, While, Do, For, Var, Assignment, FnCallStmt, TryCatch, ExprStmt, BreakLoop, Return, no_stmts, stmts, Function, Script, FnCall, Import}
 use Rattle.theory_meaning.specs.WorkedForms.{int, nothing_set, i}
 use Rattle.theory_rewriting.specs.Context.{Context, under, noting, Whole}
-use Rattle.theory_rewriting.specs.Known.{KnowsLess}
 use Rattle.theory_rewriting.specs.Rules.{braces_of_expression, known_name, statement_of_braces, block_of_statement}
-use Rattle.theory_rewriting.specs.Rewriting.{ExprTo, same_expr, by_expr_rule, in_text, in_map, in_chain, in_and, in_or, in_coalesce, ExprsTo, exprs_none, exprs_more, pairs_none, pairs_more, in_dot, in_index, BaseTo, base, last_method, last_index, more_index, same_argument, in_target, GuardTo, guard, maybe_some, arms_none, arms_more, StmtTo, in_if, in_switch, in_while, in_do, in_for, in_var, in_assignment, in_try, in_expression, in_break, in_return, same_stmts, in_head, then_expr, in_braces, in_call, in_method, in_brackets, more_dot, then_stmt, by_stmt_rule, in_call_statement, in_import, StmtsTo, flag_forgotten, knowing_less}
+use Rattle.theory_rewriting.specs.Rewriting.{ExprTo, same_expr, by_expr_rule, in_text, in_map, in_chain, in_and, in_or, in_coalesce, ExprsTo, exprs_none, exprs_more, pairs_none, pairs_more, in_dot, in_index, BaseTo, base, last_method, last_index, more_index, same_argument, in_target, GuardTo, guard, maybe_some, arms_none, arms_more, StmtTo, in_if, in_switch, in_while, in_do, in_for, in_var, in_assignment, in_try, in_expression, in_break, in_return, same_stmts, in_head, then_expr, in_braces, in_call, in_method, in_brackets, more_dot, then_stmt, by_stmt_rule, in_call_statement, in_import, StmtsTo, flag_forgotten}
 use Rattle.theory_rewriting.specs.Scripts.{known_inside, is_place, no_functions, functions, MayKnow, none_capture, OptimisedTo}
 use Rattle.theory_meaning.specs.Engine.{Engine}
 
@@ -160,17 +158,6 @@ known = noting (codes "x") (Some (BoolV true)) k
 -- under `const x = true`: if x {}, and in a loop over y
 known_row : StmtTo known true false true (If x no_stmts no_stmts) (If (BoolConstant true) no_stmts no_stmts)
 known_row = in_if (by_expr_rule (known_name (BoolV true) refl)) same_stmts same_stmts
-
--- under it also what may be done where nothing is known
-abbrev IsNothing : Option Value → Type 0
-IsNothing None = Unit {0}
-IsNothing (Some v) = ⊥
-
-abbrev nothing_known : KnowsLess [] known.known
-nothing_known = record { is = λ y v h. absurd (subst IsNothing h tt) }
-
-fewer_known_row : StmtsTo known Whole false true (stmts (ExprStmt braced ∷ [])) (stmts (ExprStmt (int 3) ∷ []))
-fewer_known_row = knowing_less nothing_known clear_flag_row
 
 loop_row : StmtTo known true false true (For (codes "y") None x (stmts (ExprStmt x ∷ []))) (For (codes "y") None (BoolConstant true) (stmts (ExprStmt (BoolConstant true) ∷ [])))
 loop_row = in_for (by_expr_rule (known_name (BoolV true) refl)) (in_head (in_expression (by_expr_rule (known_name (BoolV true) refl))))

@@ -8,7 +8,7 @@ use Rattle.theory_meaning.specs.Act.{IsVariable, IsConstant, HostCall, ScopeEntr
 use Rattle.theory_meaning.specs.Run.{End, Report, WithValue, WithStuck}
 use Rattle.theory_meaning.specs.Tree.{Expr, DynamicConstant, StringConstant, BoolConstant, UnitConstant, Variable, Dot, Index, And, no_expr, an_expr, Stmt, Noop, If, While, For, Var, Block, TryCatch, ExprStmt, Return, Share, exprs, stmts, Assignment, BlockExpr}
 use Rattle.theory_meaning.specs.WorkedForms.{int, nothing_set, joining, ran, ends, i, op, call}
-use Rattle.theory_rewriting.specs.Context.{Inside, noting, under}
+use Rattle.theory_rewriting.specs.Context.{Inside, noting, under, open_list}
 use Rattle.theory_rewriting.specs.Rewriting.{RestTo, then_stmts, by_expr_rule, by_stmt_rule, by_list_rule, in_expression, in_block, in_head, in_tail}
 use Rattle.theory_rewriting.specs.Rules.{StmtRule, known_name, known_property, known_entry, nested_if, nested_if_joins, share_known, share_nothing, after_leave, pure_goes, lone_goes, pure_inside_goes, last_return, last_return_goes, last_return_noop, last_unit_goes, last_unit_noop, self_assign, known_pointer}
 use Rattle.theory_rewriting.specs.WorkedNodes.{dot, index, property}
@@ -78,17 +78,17 @@ known_entry_row = (in_tail (in_head (in_expression (by_expr_rule (known_entry (f
 -- if true { if true { f() } }
 nested_if_row : Row (If t (stmts (If t (stmts (f ∷ [])) (stmts []) ∷ [])) (stmts []) ∷ []) (If (And (exprs (t ∷ t ∷ []))) (stmts (f ∷ [])) (stmts []) ∷ []) (ends (WithValue UnitV) asks_f)
 unfolding ran
-nested_if_row = (in_head (by_stmt_rule nested_if), refl, refl)
+nested_if_row = (in_head (by_stmt_rule (nested_if refl)), refl, refl)
 
 -- if true && true { if true { f() } }: one `&&` of three
 nested_if_joins_row : Row (If (And (exprs (t ∷ t ∷ []))) (stmts (If t (stmts (f ∷ [])) (stmts []) ∷ [])) (stmts []) ∷ []) (If (And (exprs (t ∷ t ∷ t ∷ []))) (stmts (f ∷ [])) (stmts []) ∷ []) (ends (WithValue UnitV) asks_f)
 unfolding ran
-nested_if_joins_row = (in_head (by_stmt_rule nested_if_joins), refl, refl)
+nested_if_joins_row = (in_head (by_stmt_rule (nested_if_joins refl)), refl, refl)
 
 -- if true { if true && true { f() } }: an inner `&&` is one operand
 nested_if_inner_row : Row (If t (stmts (If (And (exprs (t ∷ t ∷ []))) (stmts (f ∷ [])) (stmts []) ∷ [])) (stmts []) ∷ []) (If (And (exprs (t ∷ And (exprs (t ∷ t ∷ [])) ∷ []))) (stmts (f ∷ [])) (stmts []) ∷ []) (ends (WithValue UnitV) asks_f)
 unfolding ran
-nested_if_inner_row = (in_head (by_stmt_rule nested_if), refl, refl)
+nested_if_inner_row = (in_head (by_stmt_rule (nested_if refl)), refl, refl)
 
 -- let x = 1; x = x + 2; x
 self_assign_row : Row (let' "x" (int 1) ∷ Assignment None (var "x") (op Plus (var "x" ∷ int 2 ∷ [])) ∷ show (var "x") ∷ []) (let' "x" (int 1) ∷ Assignment (Some Plus) (var "x") (int 2) ∷ show (var "x") ∷ []) (ends_with (WithValue (i 3)) (variable "x" (i 3) ∷ []) [])
@@ -144,7 +144,7 @@ unfolding ran
 pure_inside_goes_row = (in_head (in_block (in_tail (then_stmts (by_list_rule (pure_inside_goes refl refl refl refl)) (by_list_rule (pure_inside_goes refl refl refl refl))))), refl, refl)
 
 -- a body whose value nobody asks for: its last pure statement goes
-unwanted_tail_row : RestTo (under nothing_set) (Inside false) true false true (stmts (f ∷ show (int 3) ∷ [])) (stmts (f ∷ []))
+unwanted_tail_row : RestTo (open_list (under nothing_set)) (Inside false) true false true (stmts (f ∷ show (int 3) ∷ [])) (stmts (f ∷ []))
 unwanted_tail_row = in_tail (by_list_rule (pure_goes refl refl))
 
 -- try { f(); 3 }, and try { f() }

@@ -2,7 +2,6 @@
 -- may be rewritten to, and what both do.
 use Rattle.std.specs.Prelude.{◌≡◌, true, false, ℕ, List, [], ◌∷◌, Option, Some, None, pos, codes, refl}
 use Prim.Native.String.{String}
-use native.Mathlib.Bridge.{le_by_compare, IsLe}
 use Rattle.rhai_base.specs.Value.{Value, UnitV, BoolV, TextV, ArrayV, MapV, PointerV, values, field, no_fields, text_of, CharV}
 use Rattle.theory_meaning.specs.Elements.{character}
 use Rattle.theory_meaning.specs.Act.{HostCall, WrongKind}
@@ -15,7 +14,6 @@ use Rattle.theory_rewriting.specs.Operands.{passing_goes, after_deciding_go, pur
 use Rattle.theory_rewriting.specs.Parts.{named}
 use Rattle.theory_rewriting.specs.Rewriting.{by_expr_rule, by_stmt_rule, in_expression, in_head}
 use Rattle.theory_rewriting.specs.Rules.{StmtRule, type_of_statement_folds, is_shared_statement_folds, fn_statement_folds, curry_statement_folds, and_changes, or_changes, coalesce_changes, and_of_one, or_of_one, coalesce_of_one, text_changes, text_folds, map_of_constants, type_of_folds, is_shared_folds, fn_folds, curry_folds, unit_ends_dot, unit_ends_index, property_of_constant, index_of_constant, element_of_array, property_of_map, entry_of_map, type_of_method, is_shared_method, while_false, while_true, pure_try, switch_answers, switch_is_if, switch_defaults, switch_narrows, switch_shrinks, switch_forgets, and_of_none, or_of_none, coalesce_of_none, property_of_constant_first, index_of_constant_first, type_of_method_first, is_shared_method_first, element_of_array_first, property_of_map_first, entry_of_map_first}
-use Rattle.theory_rewriting.specs.Tables.{no_ranges, no_cases, case_shrinks, empty_case_goes, range_stays, false_range_goes}
 use Rattle.theory_rewriting.specs.WorkedRewrites.{Row, f, asks_f}
 
 -- one expression as a statement
@@ -174,11 +172,11 @@ curry_statement_row = (in_head (by_stmt_rule (curry_statement_folds (codes "f") 
 -- ()?.a, ()?[f()]
 unit_dot_row : ExprRow (Dot safe UnitConstant (property "a")) UnitConstant UnitV []
 unfolding ran
-unit_dot_row = (in_head (in_expression (by_expr_rule (unit_ends_dot refl refl))), refl, refl)
+unit_dot_row = (in_head (in_expression (by_expr_rule (unit_ends_dot refl))), refl, refl)
 
 unit_index_row : ExprRow (Index safe_index UnitConstant ask) UnitConstant UnitV []
 unfolding ran
-unit_index_row = (in_head (in_expression (by_expr_rule (unit_ends_index refl refl))), refl, refl)
+unit_index_row = (in_head (in_expression (by_expr_rule (unit_ends_index refl))), refl, refl)
 
 -- a constant map's entry, and one that is missing
 property_row : ExprRow (Dot dot (DynamicConstant (MapV (field (codes "a") (i 1) no_fields))) (property "a")) (int 1) (i 1) []
@@ -234,11 +232,11 @@ index_first_row = (in_head (in_expression (by_expr_rule (index_of_constant_first
 -- 1.type_of().is_shared(), 1.is_shared().type_of()
 type_of_first_row : ExprRow (Dot dot (int 1) (Dot dot (MethodCall (named (codes "type_of") false) (exprs [])) (MethodCall (named (codes "is_shared") false) (exprs [])))) (Dot dot (text "i64") (MethodCall (named (codes "is_shared") false) (exprs []))) (BoolV false) []
 unfolding ran
-type_of_first_row = (in_head (in_expression (by_expr_rule (type_of_method_first true false dot (MethodCall (named (codes "is_shared") false) (exprs [])) (i 1) refl refl refl))), refl, refl)
+type_of_first_row = (in_head (in_expression (by_expr_rule (type_of_method_first true dot (MethodCall (named (codes "is_shared") false) (exprs [])) (i 1) refl refl refl))), refl, refl)
 
 is_shared_first_row : ExprRow (Dot dot (int 1) (Dot dot (MethodCall (named (codes "is_shared") false) (exprs [])) (MethodCall (named (codes "type_of") false) (exprs [])))) (Dot dot n (MethodCall (named (codes "type_of") false) (exprs []))) (TextV (codes "bool")) []
 unfolding ran
-is_shared_first_row = (in_head (in_expression (by_expr_rule (is_shared_method_first true false dot (MethodCall (named (codes "type_of") false) (exprs [])) (i 1) refl refl refl))), refl, refl)
+is_shared_first_row = (in_head (in_expression (by_expr_rule (is_shared_method_first true dot (MethodCall (named (codes "type_of") false) (exprs [])) (i 1) refl refl refl))), refl, refl)
 
 -- [#{a: true && false}, 2][0].a: from a literal whose parts are pure the chain goes on too
 abbrev both : Expr
@@ -298,31 +296,31 @@ on v is = record { value = i v; arms = is }
 -- switch 1 { 1 => f(), _ => 2 }
 switch_answers_row : Row (Switch (int 1) (arms ((t, ask) ∷ (t, int 2) ∷ [])) (cases (on 1 (0 ∷ []) ∷ []) (Some 1)) ∷ []) (ExprStmt ask ∷ []) (ends (WithValue UnitV) asks_f)
 unfolding ran
-switch_answers_row = (in_head (by_stmt_rule (switch_answers (i 1) 0 [] refl refl refl refl)), refl, refl)
+switch_answers_row = (in_head (by_stmt_rule (switch_answers (i 1) 0 [] refl refl refl refl refl)), refl, refl)
 
 -- switch 1 { 1 if false => 3, 1 if {true} => f(), _ => 2 }
 switch_is_if_row : Row (Switch (int 1) (arms ((n, int 3) ∷ (BlockExpr (stmts (ExprStmt t ∷ [])), ask) ∷ (t, int 2) ∷ [])) (cases (on 1 (0 ∷ 1 ∷ []) ∷ []) (Some 2)) ∷ []) (If (BlockExpr (stmts (ExprStmt t ∷ []))) (stmts (ExprStmt ask ∷ [])) (stmts (ExprStmt (int 2) ∷ [])) ∷ []) (ends (WithValue UnitV) asks_f)
 unfolding ran
-switch_is_if_row = (in_head (by_stmt_rule (switch_is_if (i 1) 1 refl refl refl (λ h. absurd cc))), refl, refl)
+switch_is_if_row = (in_head (by_stmt_rule (switch_is_if (i 1) 1 refl refl refl refl (λ h. absurd cc))), refl, refl)
 
 -- switch 3 { 1 => f(), _ => 2 }, and without a default
 switch_defaults_row : Row (Switch (int 3) (arms ((t, ask) ∷ (t, int 2) ∷ [])) (cases (on 1 (0 ∷ []) ∷ []) (Some 1)) ∷ []) (ExprStmt (int 2) ∷ []) (ends (WithValue (i 2)) [])
 unfolding ran
-switch_defaults_row = (in_head (by_stmt_rule (switch_defaults (i 3) refl refl)), refl, refl)
+switch_defaults_row = (in_head (by_stmt_rule (switch_defaults (i 3) refl refl refl)), refl, refl)
 
 switch_nothing_row : Row (Switch (int 3) (arms ((t, ask) ∷ [])) (cases (on 1 (0 ∷ []) ∷ []) None) ∷ []) (Block (stmts []) ∷ []) (ends (WithValue UnitV) [])
 unfolding ran
-switch_nothing_row = (in_head (by_stmt_rule (switch_defaults (i 3) refl refl)), refl, refl)
+switch_nothing_row = (in_head (by_stmt_rule (switch_defaults (i 3) refl refl refl)), refl, refl)
 
 -- switch 1 { 1 if false => 3, 1 if f() => 4, 1 => 5, 1 => 6 }: the false arm and the last go
 switch_narrows_row : Row (Switch (int 1) (arms ((n, int 3) ∷ (ask, int 4) ∷ (t, int 5) ∷ (t, int 6) ∷ [])) (cases (on 1 (0 ∷ 1 ∷ 2 ∷ 3 ∷ []) ∷ on 2 (3 ∷ []) ∷ []) None) ∷ []) (Switch (int 1) (arms ((n, int 3) ∷ (ask, int 4) ∷ (t, int 5) ∷ (t, int 6) ∷ [])) (cases (on 1 (1 ∷ 2 ∷ []) ∷ []) None) ∷ []) (ends (WithStuck WrongKind) asks_f)
-unfolding ran IsLe
-switch_narrows_row = (in_head (by_stmt_rule (switch_narrows (i 1) refl refl refl refl (λ h. refl) (le_by_compare 4 7 tt))), refl, refl)
+unfolding ran
+switch_narrows_row = (in_head (by_stmt_rule (switch_narrows (i 1) refl refl refl)), refl, refl)
 
 -- switch {1} { 1 if false => 3, 1 => 5, 1 => 6, 2 if false => 7 }: a false arm, one after a true one, and an empty list go
 switch_shrinks_row : Row (Switch (BlockExpr (stmts (ExprStmt (int 1) ∷ []))) (arms ((n, int 3) ∷ (t, int 5) ∷ (t, int 6) ∷ (n, int 7) ∷ [])) (cases (on 1 (0 ∷ 1 ∷ 2 ∷ []) ∷ on 2 (3 ∷ []) ∷ []) None) ∷ []) (Switch (BlockExpr (stmts (ExprStmt (int 1) ∷ []))) (arms ((n, int 3) ∷ (t, int 5) ∷ (t, int 6) ∷ (n, int 7) ∷ [])) (cases (on 1 (1 ∷ []) ∷ []) None) ∷ []) (ends (WithValue (i 5)) [])
-unfolding ran IsLe
-switch_shrinks_row = (in_head (by_stmt_rule (switch_shrinks (case_shrinks (empty_case_goes refl refl refl no_cases)) no_ranges (le_by_compare 3 6 tt))), refl, refl)
+unfolding ran
+switch_shrinks_row = (in_head (by_stmt_rule (switch_shrinks (refl, (refl, tt)) refl)), refl, refl)
 
 -- switch {1} { 1 => 5 } with an arm that no list names
 switch_forgets_row : Row (Switch (BlockExpr (stmts (ExprStmt (int 1) ∷ []))) (arms ((t, int 5) ∷ (n, ask) ∷ [])) (cases (on 1 (0 ∷ []) ∷ []) None) ∷ []) (Switch (BlockExpr (stmts (ExprStmt (int 1) ∷ []))) (arms ((t, int 5) ∷ (n, UnitConstant) ∷ [])) (cases (on 1 (0 ∷ []) ∷ []) None) ∷ []) (ends (WithValue (i 5)) [])
@@ -341,23 +339,23 @@ ranges rs d = record { cases = []; ranges = rs; default = d }
 -- switch 6 { 5..8 if f() => 1, _ => 2 }
 range_is_if : Row (Switch (int 6) (arms ((ask, int 1) ∷ (t, int 2) ∷ [])) (ranges (between 5 8 0 ∷ []) (Some 1)) ∷ []) (If ask (stmts (ExprStmt (int 1) ∷ [])) (stmts (ExprStmt (int 2) ∷ [])) ∷ []) (ends (WithStuck WrongKind) asks_f)
 unfolding ran
-range_is_if = (in_head (by_stmt_rule (switch_is_if (i 6) 0 refl refl refl (λ h. absurd cc))), refl, refl)
+range_is_if = (in_head (by_stmt_rule (switch_is_if (i 6) 0 refl refl refl refl (λ h. absurd cc))), refl, refl)
 
 -- switch 6 { 5..8 if f() => 1, 1..2 => 2, 6..7 => 3 }: the second doesn't hold 6
 abbrev three_arms : Arms
 three_arms = arms ((ask, int 1) ∷ (t, int 2) ∷ (t, int 3) ∷ [])
 
 ranges_narrow : Row (Switch (int 6) three_arms (ranges (between 5 8 0 ∷ between 1 2 1 ∷ between 6 7 2 ∷ []) None) ∷ []) (Switch (int 6) three_arms (ranges (between 5 8 0 ∷ between 6 7 2 ∷ []) None) ∷ []) (ends (WithStuck WrongKind) asks_f)
-unfolding ran IsLe
-ranges_narrow = (in_head (by_stmt_rule (switch_narrows (i 6) refl refl refl refl (λ h. refl) (le_by_compare 3 3 tt))), refl, refl)
+unfolding ran
+ranges_narrow = (in_head (by_stmt_rule (switch_narrows (i 6) refl refl refl)), refl, refl)
 
 -- switch {6} { 5..8 if false => 1, 1..9 => 2 }: a false range goes, and the other stays
 abbrev six : Expr
 six = BlockExpr (stmts (ExprStmt (int 6) ∷ []))
 
 false_range : Row (Switch six (arms ((n, int 1) ∷ (t, int 2) ∷ [])) (ranges (between 5 8 0 ∷ between 1 9 1 ∷ []) None) ∷ []) (Switch six (arms ((n, int 1) ∷ (t, int 2) ∷ [])) (ranges (between 1 9 1 ∷ []) None) ∷ []) (ends (WithValue (i 2)) [])
-unfolding ran IsLe
-false_range = (in_head (by_stmt_rule (switch_shrinks no_cases (false_range_goes refl (range_stays no_ranges)) (le_by_compare 2 2 tt))), refl, refl)
+unfolding ran
+false_range = (in_head (by_stmt_rule (switch_shrinks tt refl)), refl, refl)
 
 -- ---- operands without any: no well-formed tree has them
 

@@ -3,9 +3,9 @@
 use Rattle.std.specs.Prelude.{◌≡◌, true, false, [], ◌∷◌, Some, None, codes, refl}
 use Rattle.rhai_base.specs.Operators.{Plus, BitXor, EqualTo, UpTo, Not}
 use Rattle.theory_meaning.specs.Engine.{overrides_any}
-use Rattle.theory_meaning.specs.Tree.{UnitConstant, BoolConstant, ArrayOf, BlockExpr, Dot, MethodCall, no_expr, an_expr, Stmt, If, While, Do, For, Var, Assignment, TryCatch, ExprStmt, BreakLoop, Import, Export, exprs, stmts}
-use Rattle.theory_meaning.specs.WorkedForms.{int, op, call, overriding, i}
-use Rattle.theory_rewriting.specs.Context.{Whole, Inside, known_behind}
+use Rattle.theory_meaning.specs.Tree.{UnitConstant, BoolConstant, ArrayOf, BlockExpr, Dot, MethodCall, no_expr, an_expr, Stmt, If, While, Do, For, Var, Assignment, Block, TryCatch, ExprStmt, BreakLoop, Import, Export, exprs, stmts, Stmts, no_stmts, stmt}
+use Rattle.theory_meaning.specs.WorkedForms.{int, op, call, overriding, i, nothing_set}
+use Rattle.theory_rewriting.specs.Context.{Whole, Inside, known_behind, open_list, ListContext, closed_list, under, behind}
 use Rattle.theory_rewriting.specs.Exports.{exports_nothing}
 use Rattle.theory_rewriting.specs.Known.{look, unknown}
 use Rattle.theory_rewriting.specs.Parts.{named}
@@ -29,6 +29,21 @@ variable_is_unknown = refl
 
 others_stay_known : look (known_behind f (known_behind (let' "y" (int 2)) (known_behind (const "x" (int 1)) []))) (codes "x") ≡ Some (i 1)
 others_stay_known = refl
+
+-- in a list behind a call of `eval` no name is, nor one that is declared there: const x = 1; eval(); const x = 2;
+abbrev calling : Stmts → ListContext → ListContext
+calling no_stmts l = l
+calling (stmt s ss) l = calling ss (behind s l)
+
+nothing_stays_known : calling (stmts (const "x" (int 1) ∷ ExprStmt (call "eval" []) ∷ const "x" (int 2) ∷ [])) (open_list (under nothing_set)) ≡ closed_list nothing_set
+nothing_stays_known = refl
+
+-- a constant whose own value calls it, and a call in a list inside: const x = eval(); and { eval() }
+own_call_hides : behind (const "x" (call "eval" [])) (open_list (under nothing_set)) ≡ closed_list nothing_set
+own_call_hides = refl
+
+inner_call_hides_inside : look (calling (stmts (const "x" (int 1) ∷ Block (stmts (ExprStmt (call "eval" []) ∷ [])) ∷ [])) (open_list (under nothing_set))).context.known (codes "x") ≡ Some (i 1)
+inner_call_hides_inside = refl
 
 unknown_names : unknown (known_behind (const "x" (int 1)) []) (codes "x" ∷ codes "y" ∷ codes "x" ∷ []) ≡ codes "y" ∷ []
 unknown_names = refl

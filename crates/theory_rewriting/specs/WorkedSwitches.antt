@@ -62,29 +62,29 @@ others = refl
 -- switch 2 { 1 => f(), 2 => g() }
 over_an_integer : Row (on (int 2) ((t, call "f" []) ∷ (t, call "g" []) ∷ []) (table (case (i 1) (0 ∷ []) ∷ case (i 2) (1 ∷ []) ∷ []) [] None)) (g ∷ []) (ends (WithValue UnitV) (asked "g" [] ∷ []))
 unfolding ran
-over_an_integer = (then_stmts (in_head (by_stmt_rule (switch_answers (i 2) 1 [] refl refl refl refl))) (in_head (by_stmt_rule statement_of_call)), refl, refl)
+over_an_integer = (then_stmts (in_head (by_stmt_rule (switch_answers (i 2) 1 [] refl refl refl refl refl))) (in_head (by_stmt_rule statement_of_call)), refl, refl)
 
 -- switch "a" { "a" if f() => 1, _ => 2 }, where f() is no bool
 over_a_text : Row (on (StringConstant (codes "a")) ((call "f" [], int 1) ∷ (t, int 2) ∷ []) (table (case (TextV (codes "a")) (0 ∷ []) ∷ []) [] (Some 1))) (If (call "f" []) (stmts (ExprStmt (int 1) ∷ [])) (stmts (ExprStmt (int 2) ∷ [])) ∷ []) (ends (WithStuck WrongKind) asks_f)
 unfolding ran
-over_a_text = (in_head (by_stmt_rule (switch_is_if (TextV (codes "a")) 0 refl refl refl (λ h. absurd cc))), refl, refl)
+over_a_text = (in_head (by_stmt_rule (switch_is_if (TextV (codes "a")) 0 refl refl refl refl (λ h. absurd cc))), refl, refl)
 
 -- switch true { _ => 3 }
 over_a_bool : Row (on t ((t, int 3) ∷ []) (table [] [] (Some 0))) (ExprStmt (int 3) ∷ []) (ends (WithValue (i 3)) [])
 unfolding ran
-over_a_bool = (in_head (by_stmt_rule (switch_defaults (BoolV true) refl refl)), refl, refl)
+over_a_bool = (in_head (by_stmt_rule (switch_defaults (BoolV true) refl refl refl)), refl, refl)
 
 -- switch () { () => 1 }
 over_unit : Row (on UnitConstant ((t, int 1) ∷ []) (table (case UnitV (0 ∷ []) ∷ []) [] None)) (ExprStmt (int 1) ∷ []) (ends (WithValue (i 1)) [])
 unfolding ran
-over_unit = (in_head (by_stmt_rule (switch_answers UnitV 0 [] refl refl refl refl)), refl, refl)
+over_unit = (in_head (by_stmt_rule (switch_answers UnitV 0 [] refl refl refl refl refl)), refl, refl)
 
 -- switch 7 { 5..8 => 1, _ => 2 }
 in_a_range : Row (on (int 7) ((t, int 1) ∷ (t, int 2) ∷ []) (table [] (range 5 8 0 ∷ []) (Some 1))) (ExprStmt (int 1) ∷ []) (ends (WithValue (i 1)) [])
 unfolding ran
-in_a_range = (in_head (by_stmt_rule (switch_answers (i 7) 0 [] refl refl refl refl)), refl, refl)
+in_a_range = (in_head (by_stmt_rule (switch_answers (i 7) 0 [] refl refl refl refl refl)), refl, refl)
 
 -- switch 6 { 6 if false => 1, 5..8 => 2, _ => 3 }: the list of 6 hides the range
 past_a_hidden_range : Row (on (int 6) ((n, int 1) ∷ (t, int 2) ∷ (t, int 3) ∷ []) (table (case (i 6) (0 ∷ []) ∷ []) (range 5 8 1 ∷ []) (Some 2))) (ExprStmt (int 3) ∷ []) (ends (WithValue (i 3)) [])
 unfolding ran
-past_a_hidden_range = (in_head (by_stmt_rule (switch_defaults (i 6) refl refl)), refl, refl)
+past_a_hidden_range = (in_head (by_stmt_rule (switch_defaults (i 6) refl refl refl)), refl, refl)

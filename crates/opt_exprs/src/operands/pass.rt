@@ -2,7 +2,7 @@
 
 #![tactic(auto, using(ast_types::specs::Reading::shapes))]
 
-ghost use Rattle.std.specs.Prelude.{◌≡◌, ◌<◌, ◌≤◌, ◌+◌, true, length, slice_index_or};
+ghost use Rattle.std.specs.Prelude.{◌≡◌, ◌<◌, ◌≤◌, ◌+◌, ◌-◌, true, false, length, slice_index_or};
 ghost use Rattle.theory_meaning.specs.Tree.{And, Or, Coalesce};
 ghost use Rattle.ast_types.specs.Reading.{expr_of, exprs_of};
 ghost use Rattle.ast_types.specs.declared.expr.Expr.{Expr};
@@ -22,6 +22,8 @@ fn goes(operation: Operation, operands: &[Expr], at: usize, kept: usize) -> bool
     ensures goes_on { result ≡ true → (d : Expr)
         → spec.goes_on operation (expr_of (slice_index_or operands.now at d)) ≡ true }
     ensures others { result ≡ true → at + 1 < kept + length operands.now }
+    ensures stays { result ≡ false → at + 1 < kept + length operands.now → (d : Expr)
+        → spec.goes_on operation (expr_of (slice_index_or operands.now at d)) ≡ false }
 {
     goes_on(operation, &operands[at]) && (kept > 0 || at + 1 < operands.len())
 }
@@ -31,6 +33,8 @@ fn pure_from(operation: Operation, operands: &[Expr], kept: usize) -> usize
     requires { kept ≤ length operands.now }
     ensures below { result ≤ kept }
     ensures go { GoBefore operation operands.now result kept }
+    ensures stays { 0 < result → (d : Expr)
+        → spec.goes_before operation (expr_of (slice_index_or operands.now (result - 1) d)) ≡ false }
 {
     let mut from = kept;
     while from > 0 && goes_before(operation, &operands[from - 1]) {

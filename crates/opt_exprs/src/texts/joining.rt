@@ -3,9 +3,10 @@
 
 #![tactic(auto, using(ast_types::specs::Reading::shapes))]
 
-ghost use Rattle.std.specs.Prelude.{◌≡◌, ◌<◌, ◌≤◌, ◌+◌, IfOk, OnOk, length};
+ghost use Rattle.std.specs.Prelude.{◌≡◌, ◌<◌, ◌≤◌, ◌+◌, IfOk, OnOk, false, length, drop};
 ghost use Rattle.theory_meaning.specs.Tree.{InterpolatedString, StringConstant};
 ghost use Rattle.ast_types.specs.Reading.{exprs_of};
+ghost use Rattle.opt_exprs.specs.Parts as spec;
 ghost use Rattle.opt_exprs.specs.Parts.{AreTexts, Joins, JoinedAt, NodeChange, PartsChange, PutText};
 
 use crate::texts::parts::{is_empty_part, is_text, push_written};
@@ -17,7 +18,7 @@ use std::alloc::Global;
 
 /// Units and empty texts go.
 fn empty_go(alloc: Global, parts: &mut Seq<Expr>)
-    ensures { PartsChange parts.old parts.new }
+    ensures { PartsChange spec.first_goes parts.old parts.new }
 {
     let mut kept = 0;
     for at in 0..parts.len() {
@@ -35,6 +36,7 @@ fn run_end(parts: &[Expr], at: usize) -> usize
     ensures above { at < result }
     ensures inside { result ≤ length parts.now }
     ensures texts { at + 1 < result → AreTexts parts.now at result }
+    ensures alone { result ≡ at + 1 → spec.first_joins (exprs_of (drop at parts.now)) ≡ false }
 {
     let mut end = at + 1;
     if !is_text(&parts[at]) {
@@ -68,7 +70,7 @@ fn joined(
 /// Neighbouring texts are joined, at the place of the first. The answer is the place behind them.
 fn texts_join(alloc: Global, parts: &mut Seq<Expr>, at: usize) -> Result<usize, OutOfMemory>
     requires { at < length parts.old }
-    ensures { IfOk result (λ end. JoinedAt at end parts.old parts.new) }
+    ensures { IfOk result (λ end. JoinedAt spec.first_joins at end parts.old parts.new) }
 {
     let end = run_end(parts.as_slice(), at);
     if at + 1 == end {
@@ -93,7 +95,7 @@ fn put_text(parts: &mut Seq<Expr>, at: usize, text: ImmutableString)
 
 /// Texts that stand side by side are joined.
 fn join_all(alloc: Global, parts: &mut Seq<Expr>) -> Result<(), OutOfMemory>
-    ensures { OnOk result (PartsChange parts.old parts.new) }
+    ensures { OnOk result (PartsChange spec.first_joins parts.old parts.new) }
 {
     let mut at = 0;
     let mut kept = 0;

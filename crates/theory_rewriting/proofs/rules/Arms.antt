@@ -1,15 +1,11 @@
 -- The arms of a `switch`: those that are tried are listed, and what holds of all that are listed holds of them.
-use Rattle.std.proofs.Common.{◌≡◌, ℕ, zero, suc, ◌+◌, ◌≤◌, Bool, true, false, cond, List, [], ◌∷◌, ◌++◌, Option, Some, None, refl, sym, ap, subst, arith}
-use Rattle.std.specs.Prelude.{◌==◌, ◌||◌}
+use Rattle.std.proofs.Common.{◌≡◌, ℕ, zero, suc, ◌+◌, ◌≤◌, Bool, true, false, cond, List, [], ◌∷◌, ◌++◌, Option, Some, None, refl, ap, arith}
 use Rattle.rhai_base.specs.Value.{Value, same, is_hashable}
 use Rattle.theory_meaning.specs.Control.{holds, ranges_with, case_for, or_ranges, chosen}
-use Rattle.theory_meaning.specs.Shape.{names_arm}
 use Rattle.theory_meaning.specs.Tree.{SwitchCase, SwitchRange, SwitchTable, Expr, Arms, no_arms, arm}
 use Rattle.theory_meaning.specs.Walk.{Node, Around, whole, throughout, total, sum_of, over_expr, over_arms, arm_at, arms_at, arms_of_cases, arms_of_ranges, arm_of_default, listed}
 use Rattle.theory_meaning.specs.Weight.{own_weight, expr_weight}
-use Rattle.theory_meaning.proofs.PureTrees.{split}
-use Rattle.theory_rewriting.specs.Tables.{are_of, arm_of, arm_decides, left_with, left_arms}
-use Rattle.theory_rewriting.proofs.rules.Equality.{nat_is}
+use Rattle.theory_rewriting.specs.Tables.{arm_of, arm_decides, left_with, left_arms}
 
 module _ (Q : ℕ → Type 0) where
   abbrev pub AllArms : List ℕ → Type 0
@@ -65,18 +61,6 @@ module _ (Q : ℕ → Type 0) where
   pub all_left : (as' : Arms) (is : List ℕ) → AllArms is → AllArms (left_arms as' is)
   all_left as' [] h = tt
   all_left as' (i ∷ is) h = all_with (arm_decides (arm_of as' i)) i (left_arms as' is) h.0 (all_left as' is h.1)
-
-  -- of arms that are among them
-  pub named_holds : (i : ℕ) (js : List ℕ) → names_arm i js ≡ true → AllArms js → Q i
-  named_holds i [] e h = absurd (let z : false ≡ true = e in cc)
-  named_holds i (j ∷ js) e h = by (i == j) refl e (λ r. named_holds i js r h.1) where
-    by : (b : Bool) → i == j ≡ b → b || names_arm i js ≡ true → (names_arm i js ≡ true → Q i) → Q i
-    by true q r k = subst Q (sym (nat_is i j q)) h.0
-    by false q r k = k r
-
-  pub all_of : (js is : List ℕ) → are_of js is ≡ true → AllArms is → AllArms js
-  all_of [] is e h = tt
-  all_of (j ∷ js) is e h = let z = split (names_arm j is) (are_of js is) e in (named_holds j is z.0 h, all_of js is z.1 h)
 
 -- ---- what holds of every node of the arms that are listed
 

@@ -101,18 +101,18 @@ module _ {k : Context} (c : Setting k) where
 
 -- ---- the rules
 
-pub unit_ends_dot : {k : Context} {f : ChainFlags} {e r : Expr} → f.negated ≡ true → constant_value e ≡ Some UnitV → ExprObligation k (Dot f e r) UnitConstant
-unit_ends_dot {f = f} {e = e} {r = r} n h = record {
-  lighter = omega (arith, heavy e);
+pub unit_ends_dot : {k : Context} {f : ChainFlags} {r : Expr} → f.negated ≡ true → ExprObligation k (Dot f UnitConstant r) UnitConstant
+unit_ends_dot {f = f} {r = r} n = record {
+  lighter = omega (arith, heavy UnitConstant);
   keeps = λ P l lasts j. (lasts.value UnitV, tt);
-  sound = λ c. expr_meant (is_chain true f r) (core.Chain (based (root_of e) (core_expr c.in_loop e)) (steps_of c.in_loop true f (member_of c.in_loop r) r)) (chain_over c e UnitV _ unit h (unit_stops c (steps_of c.in_loop true f (member_of c.in_loop r) r) (optional_of c.in_loop true f (member_of c.in_loop r) r ∙ n)));
+  sound = λ c. expr_meant (is_chain true f r) (core.Chain (based None (core_expr c.in_loop UnitConstant)) (steps_of c.in_loop true f (member_of c.in_loop r) r)) (chain_over c UnitConstant UnitV (steps_of c.in_loop true f (member_of c.in_loop r) r) unit refl (unit_stops c (steps_of c.in_loop true f (member_of c.in_loop r) r) (optional_of c.in_loop true f (member_of c.in_loop r) r ∙ n)));
 }
 
-pub unit_ends_index : {k : Context} {f : ChainFlags} {e r : Expr} → f.negated ≡ true → constant_value e ≡ Some UnitV → ExprObligation k (Index f e r) UnitConstant
-unit_ends_index {f = f} {e = e} {r = r} n h = record {
-  lighter = omega (arith, heavy e);
+pub unit_ends_index : {k : Context} {f : ChainFlags} {r : Expr} → f.negated ≡ true → ExprObligation k (Index f UnitConstant r) UnitConstant
+unit_ends_index {f = f} {r = r} n = record {
+  lighter = omega (arith, heavy UnitConstant);
   keeps = λ P l lasts j. (lasts.value UnitV, tt);
-  sound = λ c. expr_meant (is_chain false f r) (core.Chain (based (root_of e) (core_expr c.in_loop e)) (steps_of c.in_loop false f (core.Index (core_expr c.in_loop r)) r)) (chain_over c e UnitV _ unit h (unit_stops c (steps_of c.in_loop false f (core.Index (core_expr c.in_loop r)) r) (optional_of c.in_loop false f (core.Index (core_expr c.in_loop r)) r ∙ n)));
+  sound = λ c. expr_meant (is_chain false f r) (core.Chain (based None (core_expr c.in_loop UnitConstant)) (steps_of c.in_loop false f (core.Index (core_expr c.in_loop r)) r)) (chain_over c UnitConstant UnitV (steps_of c.in_loop false f (core.Index (core_expr c.in_loop r)) r) unit refl (unit_stops c (steps_of c.in_loop false f (core.Index (core_expr c.in_loop r)) r) (optional_of c.in_loop false f (core.Index (core_expr c.in_loop r)) r ∙ n)));
 }
 
 pub property_of_constant : {k : Context} {f : ChainFlags} {e : Expr} {p : PropertyNames} (fs : Fields) → constant_value e ≡ Some (MapV fs) → ExprObligation k (Dot f e (Property p)) (constant_of (entry fs p.name))
@@ -164,16 +164,16 @@ method_answers c f captures e m v u h n j =
       by true = chain_over c e v (core.last f.negated (core.Method m core.no_exprs)) (give u) h (not_unit c (f.negated && is_unit v) _ _ _ n j)
       by false = chain_over c e v (core.last f.negated core.IllStep) (give u) h (not_unit c (f.negated && is_unit v) _ _ _ n (simulates_stuck WrongKind (give u)))
 
-pub type_of_method : {k : Context} {f : ChainFlags} {captures : Bool} {e : Expr} (v : Value) → constant_value e ≡ Some v → (f.negated && is_unit v) ≡ false → ExprObligation k (Dot f e (MethodCall (named (codes "type_of") captures) no_exprs)) (StringConstant (mapped_type_name k.engine v))
-type_of_method {k = k} {f = f} {captures = captures} {e = e} v h n = record {
+pub type_of_method : {k : Context} {f : ChainFlags} {e : Expr} (v : Value) → constant_value e ≡ Some v → (f.negated && is_unit v) ≡ false → ExprObligation k (Dot f e (MethodCall (named (codes "type_of") false) no_exprs)) (StringConstant (mapped_type_name k.engine v))
+type_of_method {k = k} {f = f} {e = e} v h n = record {
   lighter = omega arith;
   keeps = λ P l lasts j. (lasts.value (TextV (mapped_type_name k.engine v)), tt);
-  sound = λ c. method_answers c f captures e (codes "type_of") v (TextV (mapped_type_name k.engine v)) h n simulates_refl;
+  sound = λ c. method_answers c f false e (codes "type_of") v (TextV (mapped_type_name k.engine v)) h n simulates_refl;
 }
 
-pub is_shared_method : {k : Context} {f : ChainFlags} {captures : Bool} {e : Expr} (v : Value) → constant_value e ≡ Some v → (f.negated && is_unit v) ≡ false → ExprObligation k (Dot f e (MethodCall (named (codes "is_shared") captures) no_exprs)) (BoolConstant false)
-is_shared_method {f = f} {captures = captures} {e = e} v h n = record {
+pub is_shared_method : {k : Context} {f : ChainFlags} {e : Expr} (v : Value) → constant_value e ≡ Some v → (f.negated && is_unit v) ≡ false → ExprObligation k (Dot f e (MethodCall (named (codes "is_shared") false) no_exprs)) (BoolConstant false)
+is_shared_method {f = f} {e = e} v h n = record {
   lighter = omega arith;
   keeps = λ P l lasts j. (lasts.value (BoolV false), tt);
-  sound = λ c. method_answers c f captures e (codes "is_shared") v (BoolV false) h n simulates_refl;
+  sound = λ c. method_answers c f false e (codes "is_shared") v (BoolV false) h n simulates_refl;
 }

@@ -6,7 +6,8 @@ use Rattle.rhai_base.specs.Value.{is_hashable}
 use Rattle.theory_meaning.specs.Shape.{condition_at, names_arm, case_fits, spares, default_fits, is_table}
 use Rattle.theory_meaning.specs.Tree.{SwitchCase, SwitchRange, SwitchTable, Arms, count_arms}
 use Rattle.theory_meaning.proofs.PureTrees.{split}
-use Rattle.theory_rewriting.specs.Tables.{arm_of, arm_decides, left_with, left_arms, RangesTo, no_ranges, range_stays, false_range_goes, CasesTo, no_cases, case_stays, case_shrinks, empty_case_goes}
+use Rattle.theory_rewriting.specs.Tables.{arm_of, arm_decides, left_with, left_arms}
+use Rattle.theory_rewriting.proofs.rules.Shrunk.{RangesTo, no_ranges, range_stays, false_range_goes, CasesTo, no_cases, case_shrinks, empty_case_goes}
 
 pub join : (a b : Bool) → a ≡ true → b ≡ true → a && b ≡ true
 join a b h k = ap (λ x. x && b) h ∙ k
@@ -54,7 +55,6 @@ module _ (as' : Arms) where
 
   cases_all : (p : SwitchCase → Bool) → Shrinks p → {qs : List SwitchRange} {cs ds : List SwitchCase} → CasesTo as' qs cs ds → are_all p cs ≡ true → are_all p ds ≡ true
   cases_all p s no_cases h = h
-  cases_all p s (case_stays {c = c} {cs = cs} {ds = ds} q) h = let z = split (p c) (are_all p cs) h in join (p c) (are_all p ds) z.0 (cases_all p s q z.1)
   cases_all p s (case_shrinks {v = v} {is = is} {cs = cs} {ds = ds} q) h =
       let c : SwitchCase = record { value = v; arms = is } in
       let z = split (p c) (are_all p cs) h in join (p (record { value = v; arms = left_arms as' is })) (are_all p ds) (s c z.0) (cases_all p s q z.1)

@@ -138,18 +138,18 @@ index_of_constant_first {f = f} {e = e} dot m i r v j u b h q n = record {
   sound = λ c. onward c false dot f m e i r v u b h (no_unit c f.negated (is_unit v) (indexed_is c v j u n)) (index_next c f.negated i v j u q n);
 }
 
-pub type_of_method_first : {k : Context} {f : ChainFlags} {e : Expr} (dot captures : Bool) (m : ChainFlags) (r : Expr) (v : Value) → f.breaks ≡ false → constant_value e ≡ Some v → (f.negated && is_unit v) ≡ false → ExprObligation k (Dot f e (link dot m (MethodCall (named (codes "type_of") captures) no_exprs) r)) (link dot m (StringConstant (mapped_type_name k.engine v)) r)
-type_of_method_first {k = k} {f = f} {e = e} dot captures m r v q h n = record {
-  lighter = omega (arith, link_weight dot m (MethodCall (named (codes "type_of") captures) no_exprs) r, link_weight dot m (StringConstant (mapped_type_name k.engine v)) r);
-  keeps = λ P l lasts j. onward_keeps P l lasts true dot f m e (MethodCall (named (codes "type_of") captures) no_exprs) r (TextV (mapped_type_name k.engine v)) q j;
-  sound = λ c. onward c true dot f m e (MethodCall (named (codes "type_of") captures) no_exprs) r v (TextV (mapped_type_name k.engine v)) q h n (method_next c (is_callable (named (codes "type_of") captures) 0) f.negated (codes "type_of") v (TextV (mapped_type_name k.engine v)) n (λ next. simulates_refl));
+pub type_of_method_first : {k : Context} {f : ChainFlags} {e : Expr} (dot : Bool) (m : ChainFlags) (r : Expr) (v : Value) → f.breaks ≡ false → constant_value e ≡ Some v → (f.negated && is_unit v) ≡ false → ExprObligation k (Dot f e (link dot m (MethodCall (named (codes "type_of") false) no_exprs) r)) (link dot m (StringConstant (mapped_type_name k.engine v)) r)
+type_of_method_first {k = k} {f = f} {e = e} dot m r v q h n = record {
+  lighter = omega (arith, link_weight dot m (MethodCall (named (codes "type_of") false) no_exprs) r, link_weight dot m (StringConstant (mapped_type_name k.engine v)) r);
+  keeps = λ P l lasts j. onward_keeps P l lasts true dot f m e (MethodCall (named (codes "type_of") false) no_exprs) r (TextV (mapped_type_name k.engine v)) q j;
+  sound = λ c. onward c true dot f m e (MethodCall (named (codes "type_of") false) no_exprs) r v (TextV (mapped_type_name k.engine v)) q h n (method_next c (is_callable (named (codes "type_of") false) 0) f.negated (codes "type_of") v (TextV (mapped_type_name k.engine v)) n (λ next. simulates_refl));
 }
 
-pub is_shared_method_first : {k : Context} {f : ChainFlags} {e : Expr} (dot captures : Bool) (m : ChainFlags) (r : Expr) (v : Value) → f.breaks ≡ false → constant_value e ≡ Some v → (f.negated && is_unit v) ≡ false → ExprObligation k (Dot f e (link dot m (MethodCall (named (codes "is_shared") captures) no_exprs) r)) (link dot m (BoolConstant false) r)
-is_shared_method_first {f = f} {e = e} dot captures m r v q h n = record {
-  lighter = omega (arith, link_weight dot m (MethodCall (named (codes "is_shared") captures) no_exprs) r, link_weight dot m (BoolConstant false) r);
-  keeps = λ P l lasts j. onward_keeps P l lasts true dot f m e (MethodCall (named (codes "is_shared") captures) no_exprs) r (BoolV false) q j;
-  sound = λ c. onward c true dot f m e (MethodCall (named (codes "is_shared") captures) no_exprs) r v (BoolV false) q h n (method_next c (is_callable (named (codes "is_shared") captures) 0) f.negated (codes "is_shared") v (BoolV false) n (λ next. simulates_refl));
+pub is_shared_method_first : {k : Context} {f : ChainFlags} {e : Expr} (dot : Bool) (m : ChainFlags) (r : Expr) (v : Value) → f.breaks ≡ false → constant_value e ≡ Some v → (f.negated && is_unit v) ≡ false → ExprObligation k (Dot f e (link dot m (MethodCall (named (codes "is_shared") false) no_exprs) r)) (link dot m (BoolConstant false) r)
+is_shared_method_first {f = f} {e = e} dot m r v q h n = record {
+  lighter = omega (arith, link_weight dot m (MethodCall (named (codes "is_shared") false) no_exprs) r, link_weight dot m (BoolConstant false) r);
+  keeps = λ P l lasts j. onward_keeps P l lasts true dot f m e (MethodCall (named (codes "is_shared") false) no_exprs) r (BoolV false) q j;
+  sound = λ c. onward c true dot f m e (MethodCall (named (codes "is_shared") false) no_exprs) r v (BoolV false) q h n (method_next c (is_callable (named (codes "is_shared") false) 0) f.negated (codes "is_shared") v (BoolV false) n (λ next. simulates_refl));
 }
 
 -- over a literal: its parts are pure, so the one that is left is no place

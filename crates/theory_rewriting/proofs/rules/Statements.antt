@@ -236,14 +236,14 @@ stmt_rule (rule.curry_statement_folds f us vs h q) = curry_statement_folds f us 
 stmt_rule (rule.while_false h) = control.while_false h
 stmt_rule (rule.while_true h) = control.while_true h
 stmt_rule (rule.pure_try h) = control.pure_try h
-stmt_rule (rule.switch_answers v j js h q r x) = switches.switch_answers v j js h q r x
-stmt_rule (rule.switch_is_if v j h q r x) = switches.switch_is_if v j h q r x
-stmt_rule (rule.switch_defaults v h q) = switches.switch_defaults v h q
+stmt_rule (rule.switch_answers v j js h i q r x) = switches.switch_answers v j js h q r x
+stmt_rule (rule.switch_is_if v j h i q r x) = switches.switch_is_if v j h q r x
+stmt_rule (rule.switch_defaults v h i q) = switches.switch_defaults v h q
 stmt_rule (rule.switch_forgets j h q x) = forgetting.switch_forgets j h q x
-stmt_rule (rule.switch_narrows v h q d o x y) = tables.switch_narrows v h q d o x y
-stmt_rule (rule.switch_shrinks h q x) = tables.switch_shrinks h q x
-stmt_rule rule.nested_if = control.nested_if
-stmt_rule (rule.nested_if_joins {es = es}) = control.nested_if_joins es
+stmt_rule (rule.switch_narrows v h i n) = tables.switch_narrows v h i n
+stmt_rule (rule.switch_shrinks d h) = tables.switch_shrinks d h
+stmt_rule (rule.nested_if h) = control.nested_if
+stmt_rule (rule.nested_if_joins {es = es} h) = control.nested_if_joins es
 stmt_rule (rule.share_known h) = control.share_known h
 stmt_rule rule.share_nothing = control.share_nothing
 stmt_rule (rule.self_assign q a h j) = assign.self_assign q a h j

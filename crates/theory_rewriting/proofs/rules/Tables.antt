@@ -1,5 +1,5 @@
 -- The rules by which the table of a `switch` gets smaller: a lemma each, of the rule's name.
-use Rattle.std.proofs.Common.{◌≡◌, ℕ, ◌<◌, Bool, true, false, cond, List, [], ◌∷◌, ◌++◌, Option, Some, None, refl, sym, ap, ◌∙◌, subst, arith}
+use Rattle.std.proofs.Common.{◌≡◌, ℕ, Bool, true, false, cond, List, [], ◌∷◌, Option, Some, None, refl, sym, ap, ◌∙◌, subst, arith}
 use Rattle.rhai_base.specs.Value.{Value, same, is_hashable}
 use Rattle.theory_meaning.specs.Act.{WrongKind, Act}
 use Rattle.theory_meaning.specs.Constants.{constant_value}
@@ -9,20 +9,23 @@ use Rattle.theory_meaning.specs.Desugar.{core_expr, core_arms}
 use Rattle.theory_meaning.specs.Meaning.{deed}
 use Rattle.theory_meaning.specs.Shape.{is_table}
 use Rattle.theory_meaning.specs.Tree.{SwitchCase, SwitchRange, SwitchTable, Expr, Arms, Switch}
-use Rattle.theory_meaning.specs.Walk.{Node, Around, whole, throughout, over_arms, arms_at, arms_of_cases, arms_of_ranges, arm_of_default, listed}
-use Rattle.theory_meaning.specs.Weight.{table_weight}
+use Rattle.theory_meaning.specs.Walk.{Node, Around, whole, throughout, over_arms, arms_at, listed}
 use Rattle.theory_rewriting.specs.Context.{Context}
-use Rattle.theory_rewriting.specs.Tables.{arm_of, arm_decides, left_arms, RangesTo, no_ranges, range_stays, false_range_goes, CasesTo, no_cases, case_stays, case_shrinks, empty_case_goes, are_of}
+use Rattle.theory_rewriting.specs.Tables.{arm_of, arm_decides, left_arms}
+use Rattle.theory_rewriting.specs.Shrinking.{AreDistinct, left_ranges, has_some, left_cases, shrinks, shrunk}
+use Rattle.theory_rewriting.specs.Narrowing.{narrows_by, narrowed_by}
 use Rattle.theory_rewriting.proofs.simulation.Laws.{simulates_stuck}
 use Rattle.theory_rewriting.proofs.simulation.Setting.{Setting, world}
 use Rattle.theory_rewriting.proofs.simulation.Simulation.{Simulates, simulates_trans, simulates_refl}
 use Rattle.theory_rewriting.proofs.simulation.Forms.{simulates_bind, stmt_of_deed}
-use Rattle.theory_rewriting.proofs.rules.Arms.{AllArms, all_split, all_left, all_of, ArmHolds, all_hold}
+use Rattle.theory_rewriting.proofs.rules.Arms.{AllArms, ArmHolds, all_hold}
 use Rattle.theory_rewriting.proofs.rules.Equality.{same_is}
 use Rattle.theory_rewriting.proofs.rules.Fitting.{fits_still}
 use Rattle.theory_rewriting.proofs.rules.Given.{constant_alike}
 use Rattle.theory_rewriting.proofs.rules.Lasting.{same_switch}
 use Rattle.theory_rewriting.proofs.rules.Obligation.{StmtObligation}
+use Rattle.theory_rewriting.proofs.rules.Narrowed.{listed_kept, fits_narrowed, narrowed_lighter, chosen_narrowed, default_same}
+use Rattle.theory_rewriting.proofs.rules.Shrunk.{RangesTo, no_ranges, range_stays, false_range_goes, CasesTo, no_cases, case_shrinks, empty_case_goes, ranges_to, cases_to, listed_still, table_lighter}
 use Rattle.theory_rewriting.proofs.rules.Switches.{acts_of, arm_found, same_arm, false_goes, arms_left}
 
 module _ {k : Context} (c : Setting k) (as' : Arms) where
@@ -64,7 +67,6 @@ module _ {k : Context} (c : Setting k) (as' : Arms) where
 
   cases_tried : {rs qs : List SwitchRange} {cs ds : List SwitchCase} → CasesTo as' qs cs ds → RangesTo as' rs qs → (v : Value) → Tried (by_list rs v (case_for cs v)) (by_list qs v (case_for ds v))
   cases_tried no_cases p v = ranges_tried p v
-  cases_tried {rs} {qs} (case_stays {c = l} {cs = cs} {ds = ds} q) p v = pick (same l.value v) rs qs v l.arms l.arms (case_for cs v) (case_for ds v) (λ n. simulates_refl) (cases_tried q p v)
   cases_tried {rs} {qs} (case_shrinks {v = u} {is = is} {cs = cs} {ds = ds} q) p v = pick (same u v) rs qs v is (left_arms as' is) (case_for cs v) (case_for ds v) (arms_left c as' is) (cases_tried q p v)
   cases_tried {rs} {qs} (empty_case_goes {v = u} {is = is} {cs = cs} {ds = ds} h q r i) p v = gone (same u v) u rs qs v is ds (case_for cs v) refl h q r (cases_tried i p v)
 
@@ -88,41 +90,26 @@ pub meant_again : {k : Context} (c : Setting k) (b b' : Bool) (x y : core.Deed) 
 meant_again c true b' x y h j = subst (λ z. Simulates c (deed (world c) x) (deed (world c) (cond z y core.IllDeed))) (sym (h refl)) j
 meant_again c false b' x y h j = simulates_stuck WrongKind (deed (world c) (cond b' y core.IllDeed))
 
-module _ (Q : ℕ → Type 0) (as' : Arms) where
-  all_join : (is js : List ℕ) → AllArms Q is → AllArms Q js → AllArms Q (is ++ js)
-  all_join [] js h k = k
-  all_join (i ∷ is) js h k = (h.0, all_join is js h.1 k)
-
-  ranges_hold : {rs qs : List SwitchRange} → RangesTo as' rs qs → AllArms Q (arms_of_ranges rs) → AllArms Q (arms_of_ranges qs)
-  ranges_hold no_ranges h = tt
-  ranges_hold (range_stays p) h = (h.0, ranges_hold p h.1)
-  ranges_hold (false_range_goes q p) h = ranges_hold p h.1
-
-  cases_hold : {qs : List SwitchRange} {cs ds : List SwitchCase} → CasesTo as' qs cs ds → AllArms Q (arms_of_cases cs) → AllArms Q (arms_of_cases ds)
-  cases_hold no_cases h = tt
-  cases_hold (case_stays {c = l} {cs = cs} {ds = ds} p) h = let z = all_split Q l.arms (arms_of_cases cs) h in all_join l.arms (arms_of_cases ds) z.0 (cases_hold p z.1)
-  cases_hold (case_shrinks {is = is} {cs = cs} {ds = ds} p) h = let z = all_split Q is (arms_of_cases cs) h in all_join (left_arms as' is) (arms_of_cases ds) (all_left Q as' is z.0) (cases_hold p z.1)
-  cases_hold (empty_case_goes {is = is} {cs = cs} x y r p) h = let z = all_split Q is (arms_of_cases cs) h in cases_hold p z.1
-
-  table_holds : (t : SwitchTable) {cs : List SwitchCase} {qs : List SwitchRange} → CasesTo as' qs t.cases cs → RangesTo as' t.ranges qs → AllArms Q (listed t) → AllArms Q (listed (record { cases = cs; ranges = qs; default = t.default }))
-  table_holds t {cs} {qs} p q h =
-      let y = all_split Q (arms_of_cases t.cases ++ arms_of_ranges t.ranges) (arm_of_default t.default) h in
-      let z = all_split Q (arms_of_cases t.cases) (arms_of_ranges t.ranges) y.0 in
-      all_join (arms_of_cases cs ++ arms_of_ranges qs) (arm_of_default t.default) (all_join (arms_of_cases cs) (arms_of_ranges qs) (cases_hold p z.0) (ranges_hold q z.1)) y.1
-
 pub held_again : (P : Around → Node → Type 0) (l : Bool) (as' : Arms) (is : List ℕ) → AllArms (ArmHolds P l as') is → arms_at (λ a. Unit {0}) (λ p q a. p a × q a) (over_arms (throughout P) as') is (whole l)
 held_again P l as' [] h = tt
 held_again P l as' (i ∷ is) h = (h.0, held_again P l as' is h.1)
 
 -- ---- the rules
 
-pub switch_shrinks : {k : Context} {w : Bool} {e : Expr} {as' : Arms} {t : SwitchTable} {cs : List SwitchCase} {qs : List SwitchRange} → CasesTo as' qs t.cases cs → RangesTo as' t.ranges qs → table_weight (record { cases = cs; ranges = qs; default = t.default }) < table_weight t → StmtObligation k w (Switch e as' t) (Switch e as' (record { cases = cs; ranges = qs; default = t.default }))
-switch_shrinks {e = e} {as' = as'} {t = t} {cs = cs} {qs = qs} p q y = record {
-  lighter = omega (arith, y);
-  keeps = λ P l lasts h. (lasts.again (same_switch (fits_still as' t cs qs p q)) h.0, (h.1.0, held_again P l as' (listed (record { cases = cs; ranges = qs; default = t.default })) (table_holds (ArmHolds P l as') as' t p q (all_hold P l as' (listed t) h.1.1))));
-  sound = λ c. stmt_of_deed (meant_again c (is_table as' t) (is_table as' (record { cases = cs; ranges = qs; default = t.default })) (core.Switch (core_expr c.in_loop e) (core_arms c.in_loop as') t) (core.Switch (core_expr c.in_loop e) (core_arms c.in_loop as') (record { cases = cs; ranges = qs; default = t.default })) (fits_still as' t cs qs p q)
-      (simulates_bind simulates_refl (λ v. table_tried c as' t p q v (default_of (acts_of c as') t.default))));
-}
+pub switch_shrinks : {k : Context} {w : Bool} {e : Expr} {as' : Arms} {t : SwitchTable} → AreDistinct t.cases → shrinks as' t ≡ true → StmtObligation k w (Switch e as' t) (Switch e as' (shrunk as' t))
+switch_shrinks {e = e} {as' = as'} {t = t} d h =
+    let qs = left_ranges as' t.ranges in
+    let cs = left_cases as' (has_some qs) t.cases in
+    let t' : SwitchTable = shrunk as' t in
+    let p = cases_to as' qs (has_some qs) t.cases refl d in
+    let q = ranges_to as' t.ranges in
+    let x = fits_still as' t cs qs p q in
+    record {
+      lighter = omega (arith, table_lighter as' t h);
+      keeps = λ P l lasts z. (lasts.again (same_switch x) z.0, (z.1.0, held_again P l as' (listed t') (listed_still as' (ArmHolds P l as') t (all_hold P l as' (listed t) z.1.1))));
+      sound = λ c. stmt_of_deed (meant_again c (is_table as' t) (is_table as' t') (core.Switch (core_expr c.in_loop e) (core_arms c.in_loop as') t) (core.Switch (core_expr c.in_loop e) (core_arms c.in_loop as') t') x
+          (simulates_bind simulates_refl (λ v. table_tried c as' t p q v (default_of (acts_of c as') t.default))));
+    }
 
 -- over a constant
 narrowed : {k : Context} (c : Setting k) (e : Expr) (as' : Arms) (t t' : SwitchTable) (v : Value) → constant_value e ≡ Some v → chosen t' v ≡ left_arms as' (chosen t v) → t'.default ≡ t.default → Simulates c (switch_on (acts_of c as') t v) (switch_on (acts_of c as') t' v)
@@ -131,10 +118,14 @@ narrowed c e as' t t' v h q d =
     (subst (λ o. Simulates c (switch_on (acts_of c as') t v) (first_arm (acts_of c as') (left_arms as' (chosen t v)) (default_of (acts_of c as') o))) (sym d)
     (arms_left c as' (chosen t v) (default_of (acts_of c as') t.default)))
 
-pub switch_narrows : {k : Context} {w : Bool} {e : Expr} {as' : Arms} {t t' : SwitchTable} (v : Value) → constant_value e ≡ Some v → chosen t' v ≡ left_arms as' (chosen t v) → t'.default ≡ t.default → are_of (listed t') (listed t) ≡ true → (is_table as' t ≡ true → is_table as' t' ≡ true) → table_weight t' < table_weight t → StmtObligation k w (Switch e as' t) (Switch e as' t')
-switch_narrows {e = e} {as' = as'} {t = t} {t' = t'} v h q d o x y = record {
-  lighter = omega (arith, y);
-  keeps = λ P l lasts z. (lasts.again (same_switch x) z.0, (z.1.0, held_again P l as' (listed t') (all_of (ArmHolds P l as') (listed t') (listed t) o (all_hold P l as' (listed t) z.1.1))));
-  sound = λ c. stmt_of_deed (meant_again c (is_table as' t) (is_table as' t') (core.Switch (core_expr c.in_loop e) (core_arms c.in_loop as') t) (core.Switch (core_expr c.in_loop e) (core_arms c.in_loop as') t') x
-      (constant_alike c e v (λ u. switch_on (acts_of c as') t u) (λ u. switch_on (acts_of c as') t' u) h (narrowed c e as' t t' v h q d)));
-}
+pub switch_narrows : {k : Context} {w : Bool} {e : Expr} {as' : Arms} {t : SwitchTable} (v : Value) → constant_value e ≡ Some v → is_hashable v ≡ true → narrows_by as' t v (case_for t.cases v) ≡ true → StmtObligation k w (Switch e as' t) (Switch e as' (narrowed_by as' t v (case_for t.cases v)))
+switch_narrows {e = e} {as' = as'} {t = t} v h i n =
+    let o = case_for t.cases v in
+    let t' = narrowed_by as' t v o in
+    let x = fits_narrowed as' v t o in
+    record {
+      lighter = omega (arith, narrowed_lighter as' v t o refl n);
+      keeps = λ P l lasts z. (lasts.again (same_switch x) z.0, (z.1.0, held_again P l as' (listed t') (listed_kept as' v (ArmHolds P l as') t o (all_hold P l as' (listed t) z.1.1))));
+      sound = λ c. stmt_of_deed (meant_again c (is_table as' t) (is_table as' t') (core.Switch (core_expr c.in_loop e) (core_arms c.in_loop as') t) (core.Switch (core_expr c.in_loop e) (core_arms c.in_loop as') t') x
+          (constant_alike c e v (λ u. switch_on (acts_of c as') t u) (λ u. switch_on (acts_of c as') t' u) h (narrowed c e as' t t' v h (chosen_narrowed as' v t o i refl) (default_same as' v t o))));
+    }

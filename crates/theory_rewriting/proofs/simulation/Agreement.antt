@@ -6,7 +6,8 @@ use Rattle.theory_meaning.specs.Engine.{Binding}
 use Rattle.theory_meaning.specs.Act.{EntryKind, IsVariable, IsConstant, IsAlias, IsExport, is_constant, is_name, is_called, ScopeEntry, found}
 use Rattle.theory_meaning.specs.Run.{bind}
 use Rattle.theory_meaning.proofs.Relations.{Keeps, none, one, changed}
-use Rattle.theory_rewriting.specs.Known.{Known, look, KnowsLess, shadow, shadow_all, Fits, Agrees}
+use Rattle.theory_rewriting.specs.Known.{Known, look, shadow, shadow_all, Fits, Agrees}
+use Rattle.theory_rewriting.proofs.Knowing.{KnowsLess}
 
 -- with no names known
 pub agrees_nothing : (bs : List Binding) (es : List ScopeEntry) → Agrees bs [] es

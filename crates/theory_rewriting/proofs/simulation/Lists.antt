@@ -6,7 +6,8 @@ use Rattle.theory_meaning.specs.ActForms.{each_value, then_line}
 use Rattle.theory_meaning.specs.Meaning.{exporting}
 use Rattle.theory_meaning.proofs.Sequencing.{scoped_do, scoped_named, finish_do}
 use Rattle.theory_rewriting.specs.Context.{Context, ListKind, Whole, Inside}
-use Rattle.theory_rewriting.specs.Known.{Known, KnowsLess}
+use Rattle.theory_rewriting.specs.Known.{Known}
+use Rattle.theory_rewriting.proofs.Knowing.{KnowsLess}
 use Rattle.theory_rewriting.proofs.simulation.Setting.{Setting, noted, beneath, knowing_fewer, world}
 use Rattle.theory_rewriting.proofs.simulation.Simulation.{Simulates, SimulatesAll, simulates_trans, all_trans, simulates_knowing_less, all_knowing_less, simulates_equal, all_equal, simulates_refl, all_refl, simulates_then, all_do, all_finish, all_only, all_noted, simulates_scoped, all_beside}
 

@@ -7,7 +7,7 @@ use Rattle.theory_meaning.proofs.Relations.{AnyHalt, IsOut}
 use Rattle.theory_meaning.proofs.Monotone.{Deeper, follows_weak, monotone, monotone_all}
 use Rattle.theory_meaning.proofs.Ends.{Run, Rises}
 use Rattle.theory_meaning.specs.Tree.{Stmt}
-use Rattle.theory_rewriting.specs.Context.{Context, knowing, noting, naming, behind}
+use Rattle.theory_rewriting.specs.Context.{Context, ListContext, knowing, noting, naming, behind}
 use Rattle.theory_rewriting.specs.Known.{Known, Agrees}
 use Rattle.theory_rewriting.proofs.acts.Within.{Valueless, CallsIn}
 
@@ -41,8 +41,8 @@ abbrev pub beneath : {k : Context} (x : Text) → Setting k → Setting (naming 
 beneath x c = noted x None c
 
 -- behind a statement
-abbrev pub past : {k : Context} (s : Stmt) → Setting k → Setting (behind s k)
-past s c = record { host = c.host; functions = c.functions; environments = c.environments; in_loop = c.in_loop }
+abbrev pub past : (k : ListContext) (s : Stmt) → Setting k.context → Setting (behind s k).context
+past k s c = record { host = c.host; functions = c.functions; environments = c.environments; in_loop = c.in_loop }
 
 -- where these names alone are known
 abbrev pub knowing_fewer : {k : Context} (ks : List Known) → Setting k → Setting (knowing k.engine ks)

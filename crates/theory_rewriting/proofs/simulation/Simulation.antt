@@ -1,5 +1,5 @@
 -- An act that does what another does, at every depth.
-use Rattle.std.proofs.Common.{◌≡◌, ℕ, Bool, true, List, Option, Some, refl, subst, arith, false}
+use Rattle.std.proofs.Common.{◌≡◌, ℕ, List, Option, Some, refl, subst, arith, false}
 use Rattle.rhai_base.specs.Value.{Text, Value}
 use Rattle.theory_meaning.specs.Act.{EntryKind, IsConstant, is_name, HostCall, Answer, Store, Ending, Stuck, IsStuck, Halted, Result, At, ScriptCall, Act, Then, Turn, Resolve, AskHost, Invoke, Loop, Scoped, Acts, Only, Do, Named, Finish}
 use Rattle.theory_meaning.specs.Relations.{Begins, calls_of}
@@ -7,7 +7,8 @@ use Rattle.theory_meaning.proofs.Relations.{Follows, short, AnyHalt}
 use Rattle.theory_meaning.proofs.Monotone.{follows_refl, follows_trans}
 use Rattle.theory_meaning.proofs.Ends.{Run, Met, stuck, Rises, ends_of, met_self, met_trans}
 use Rattle.theory_rewriting.specs.Context.{Context}
-use Rattle.theory_rewriting.specs.Known.{Known, KnowsLess}
+use Rattle.theory_rewriting.specs.Known.{Known}
+use Rattle.theory_rewriting.proofs.Knowing.{KnowsLess}
 use Rattle.theory_rewriting.proofs.simulation.Agreement.{agrees_knowing_less}
 use Rattle.theory_rewriting.proofs.simulation.Setting.{Setting, noted, knowing_fewer, environment, Agreed, Start, run_from, run_all_from, run_by_depth, run_all_by_depth, steady_at, rises}
 use Rattle.theory_rewriting.proofs.simulation.Matching.{Stage, SimulatesAt, SimulatesAllAt, CallsMatch, calling, at_equal, all_at_equal, at_then, at_turn, at_ask, at_invoke, at_loop, at_do, at_scoped, at_finish, at_only, at_noted, at_refl, all_at_refl, at_resolve, at_beside}

@@ -1,5 +1,5 @@
--- Behind a statement that stays: what it pushes is known, and its value is unit where it surely is.
-use Rattle.std.proofs.Common.{◌≡◌, ℕ, Bool, true, false, [], ◌∷◌, Option, Some, None, refl, sym, ap, ◌∙◌, subst}
+-- Behind a statement that stays: what it pushes is known, or nothing is, and its value is unit where it surely is.
+use Rattle.std.proofs.Common.{◌≡◌, ℕ, Bool, true, false, ◌&&◌, [], ◌∷◌, Option, Some, None, refl, sym, ap, ◌∙◌, subst}
 use Rattle.rhai_base.specs.Value.{Text, Value, UnitV}
 use Rattle.theory_meaning.specs.Act.{IsVariable, IsConstant, IsAlias, IsExport, Store, Gives, Ended, Result, At, Act, Acts, Named, Env, and_then, run, run_all}
 use Rattle.theory_meaning.specs.ActForms.{each_value, then_line}
@@ -7,11 +7,13 @@ use Rattle.theory_meaning.specs.Constants.{constant_value}
 use Rattle.theory_meaning.specs.Desugar.{core_expr, core_stmt}
 use Rattle.theory_meaning.specs.Meaning.{exporting, act, line}
 use Rattle.theory_meaning.specs.Tree.{Expr, Stmt, Var, Import, Export}
-use Rattle.theory_rewriting.specs.Context.{Context, ListKind}
+use Rattle.theory_rewriting.specs.Context.{Context, ListContext, ListKind, known_behind}
+use Rattle.theory_rewriting.specs.Evals.{keeps_names}
 use Rattle.theory_rewriting.specs.SurelyUnit.{is_surely_unit}
-use Rattle.theory_rewriting.proofs.simulation.Setting.{Setting, Start, noted, past, world}
+use Rattle.theory_rewriting.proofs.Knowing.{after_knows_less}
+use Rattle.theory_rewriting.proofs.simulation.Setting.{Setting, Start, noted, past, knowing_fewer, world}
 use Rattle.theory_rewriting.proofs.simulation.Simulation.{all_equal}
-use Rattle.theory_rewriting.proofs.simulation.Lists.{SimulatesList, list_of_all, list_trans, list_line, list_noted, list_beside, list_exporting}
+use Rattle.theory_rewriting.proofs.simulation.Lists.{SimulatesList, list_of_all, list_trans, list_knowing_less, list_line, list_noted, list_beside, list_exporting}
 use Rattle.theory_rewriting.proofs.acts.Within.{unit_first}
 use Rattle.theory_rewriting.proofs.acts.SurelyUnit.{no, UnitOnly, unit_of, surely_unit}
 use Rattle.theory_rewriting.proofs.rules.Constants.{OrWrong, is, wrong, Given, expr_given}
@@ -41,10 +43,14 @@ act_tail c m a true {f = f} {f' = f'} u h =
     (list_trans m {q = then_line a (λ v. f' UnitV)} (list_line m a (λ v. h UnitV (λ z. refl)))
     (list_of_all m (all_equal (λ n. sym (unit_first (world c) n.env f' (u n refl) n.store n.turns)))))
 
-pub tail_sound : {k : Context} (c : Setting k) (m : ListKind) (s : Stmt) {f f' : Value → Acts} → ((v : Value) → (is_surely_unit s ≡ true → v ≡ UnitV) → SimulatesList (past s c) m (f v) (f' v)) → SimulatesList c m (line (world c) (core_stmt c.in_loop s) f) (line (world c) (core_stmt c.in_loop s) f')
-tail_sound c m (Var false b x e) h = list_line m _ (λ v. list_noted m x None IsVariable v (λ w y. absurd (let z : None ≡ Some w = y in cc)) (list_exporting m b x v (h UnitV (λ z. refl))))
-tail_sound c m (Var true b x e) h = constant_line c m x b e (constant_value e) _ _ refl (h UnitV (λ z. refl))
-tail_sound c m (Import e []) h = list_line m _ (λ v. h v (λ z. no z))
-tail_sound c m (Import e (x ∷ xs)) h = list_line m _ (λ v. list_beside m (x ∷ xs) IsAlias v refl (h UnitV (λ z. refl)))
-tail_sound c m (Export x y) h = list_line m _ (λ v. list_beside m _ IsExport v refl (h UnitV (λ z. refl)))
-tail_sound c m s h = act_tail c m _ (is_surely_unit s) (λ n z. unit_of (world c) n.env (surely_unit (world c) n.env n.unbroken c.in_loop s z)) h
+-- under all that it adds
+tail_knowing : {k : Context} (c : Setting k) (m : ListKind) (s : Stmt) {f f' : Value → Acts} → ((v : Value) → (is_surely_unit s ≡ true → v ≡ UnitV) → SimulatesList (knowing_fewer (known_behind s k.known) c) m (f v) (f' v)) → SimulatesList c m (line (world c) (core_stmt c.in_loop s) f) (line (world c) (core_stmt c.in_loop s) f')
+tail_knowing c m (Var false b x e) h = list_line m _ (λ v. list_noted m x None IsVariable v (λ w y. absurd (let z : None ≡ Some w = y in cc)) (list_exporting m b x v (h UnitV (λ z. refl))))
+tail_knowing c m (Var true b x e) h = constant_line c m x b e (constant_value e) _ _ refl (h UnitV (λ z. refl))
+tail_knowing c m (Import e []) h = list_line m _ (λ v. h v (λ z. no z))
+tail_knowing c m (Import e (x ∷ xs)) h = list_line m _ (λ v. list_beside m (x ∷ xs) IsAlias v refl (h UnitV (λ z. refl)))
+tail_knowing c m (Export x y) h = list_line m _ (λ v. list_beside m _ IsExport v refl (h UnitV (λ z. refl)))
+tail_knowing c m s h = act_tail c m _ (is_surely_unit s) (λ n z. unit_of (world c) n.env (surely_unit (world c) n.env n.unbroken c.in_loop s z)) h
+
+pub tail_sound : (k : ListContext) (c : Setting k.context) (m : ListKind) (s : Stmt) {f f' : Value → Acts} → ((v : Value) → (is_surely_unit s ≡ true → v ≡ UnitV) → SimulatesList (past k s c) m (f v) (f' v)) → SimulatesList c m (line (world c) (core_stmt c.in_loop s) f) (line (world c) (core_stmt c.in_loop s) f')
+tail_sound k c m s h = tail_knowing c m s (λ v z. list_knowing_less {c = knowing_fewer (known_behind s k.context.known) c} m (after_knows_less (k.is_open && keeps_names s) s k.context.known) (h v z))

@@ -13,13 +13,13 @@ use Rattle.theory_meaning.specs.Shape.{is_unit as is_unit_value}
 use Rattle.theory_meaning.specs.Shape.{is_chain, is_callable, is_table, is_left_side, keys, are_distinct, are_among, catch_name}
 use Rattle.theory_meaning.specs.Meaning.{wanted_value, act, with_args, with_pairs, both, either, first_some, arm_acts, loop, assign, deed, line, acts}
 use Rattle.theory_meaning.specs.Tree.{ChainFlags, Callee, Expr, UnitConstant, MethodCall, Dot, Index, Exprs, count_exprs, Pairs, MaybeExpr, Arms, Stmt, Stmts, no_stmts, stmt}
-use Rattle.theory_rewriting.specs.Context.{Context, ListKind, Inside, wanted, wanted_before}
-use Rattle.theory_rewriting.specs.Rewriting.{ExprTo, same_expr, then_expr, by_expr_rule, in_text, in_array, in_map, in_braces, in_call, in_stray_method, in_chain, in_and, in_or, in_coalesce, ExprsTo, exprs_none, exprs_more, PairsTo, pairs_none, pairs_more, ChainTo, in_dot, in_index, base, ArgumentTo, same_argument, in_method, in_brackets, StepsTo, same_steps, last_method, last_index, more_dot, more_index, TargetTo, same_target, in_target, guard, MaybeTo, maybe_none, maybe_some, ArmsTo, arms_none, arms_more, StmtTo, same_stmt, then_stmt, by_stmt_rule, in_if, in_switch, in_while, in_do, in_for, in_var, in_assignment, in_block, in_try, in_expression, in_call_statement, in_break, in_return, in_import, RestTo, same_stmts, then_stmts, by_list_rule, in_head, in_tail, flag_forgotten, knowing_less}
+use Rattle.theory_rewriting.specs.Context.{Context, ListKind, Inside, wanted, wanted_before, ListContext}
+use Rattle.theory_rewriting.specs.Rewriting.{ExprTo, same_expr, then_expr, by_expr_rule, in_text, in_array, in_map, in_braces, in_call, in_stray_method, in_chain, in_and, in_or, in_coalesce, ExprsTo, exprs_none, exprs_more, PairsTo, pairs_none, pairs_more, ChainTo, in_dot, in_index, base, ArgumentTo, same_argument, in_method, in_brackets, StepsTo, same_steps, last_method, last_index, more_dot, more_index, TargetTo, same_target, in_target, guard, MaybeTo, maybe_none, maybe_some, ArmsTo, arms_none, arms_more, StmtTo, same_stmt, then_stmt, by_stmt_rule, in_if, in_switch, in_while, in_do, in_for, in_var, in_assignment, in_block, in_try, in_expression, in_call_statement, in_break, in_return, in_import, RestTo, same_stmts, then_stmts, by_list_rule, in_head, in_tail, flag_forgotten}
 use Rattle.theory_rewriting.proofs.simulation.Congruent.{c_choose, c_while, c_do, c_round, c_for_all, MaybeAlike, no_arm_alike, arm_alike}
-use Rattle.theory_rewriting.proofs.simulation.Setting.{Setting, past, knowing_fewer, world}
+use Rattle.theory_rewriting.proofs.simulation.Setting.{Setting, past, world}
 use Rattle.theory_rewriting.proofs.simulation.Simulation.{Simulates, SimulatesAll, all_refl, simulates_trans, simulates_refl, simulates_loop}
 use Rattle.theory_rewriting.proofs.simulation.Forms.{simulates_bind, simulates_if, all_line, Rest, after, SimulatesStmt, stmt_refl, stmt_trans, stmt_of_deed}
-use Rattle.theory_rewriting.proofs.simulation.Lists.{SimulatesList, list_of_all, list_refl, list_trans, list_knowing_less}
+use Rattle.theory_rewriting.proofs.simulation.Lists.{SimulatesList, list_of_all, list_refl, list_trans}
 use Rattle.theory_rewriting.proofs.simulation.Unwanted.{unwanted_if, unwanted_block}
 use Rattle.theory_rewriting.proofs.rules.Expressions.{expr_rule}
 use Rattle.theory_rewriting.proofs.rules.Statements.{stmt_rule}
@@ -246,11 +246,10 @@ mutual
   stmt_sound (in_return h) c = stmt_of_deed (simulates_bind (maybe_sound h c) (λ v. simulates_refl))
   stmt_sound {w = w} (in_import {x = x} {e = e} {e' = e'} h) c = alias_sound c w x (core_expr c.in_loop e) (core_expr c.in_loop e') (expr_sound h c)
 
-  pub stmts_sound : {k : Context} {m : ListKind} {u d d' : Bool} {ss ss' : Stmts} → RestTo k m u d d' ss ss' → (c : Setting k) (v : Value) → (u ≡ true → v ≡ UnitV) → SimulatesList c m (acts (world c) (wanted m) (core_stmts c.in_loop ss) v) (acts (world c) (wanted m) (core_stmts c.in_loop ss') v)
+  pub stmts_sound : {k : ListContext} {m : ListKind} {u d d' : Bool} {ss ss' : Stmts} → RestTo k m u d d' ss ss' → (c : Setting k.context) (v : Value) → (u ≡ true → v ≡ UnitV) → SimulatesList c m (acts (world c) (wanted m) (core_stmts c.in_loop ss) v) (acts (world c) (wanted m) (core_stmts c.in_loop ss') v)
   stmts_sound same_stmts c v z = list_refl
   stmts_sound {m = m} (then_stmts h j) c v z = list_trans m (stmts_sound h c v z) (stmts_sound j c v z)
   stmts_sound (by_list_rule r) c v z = (list_rule r).sound c v z
   stmts_sound {m = m} (in_head {s = s} {s' = s'} {ss = ss} h) c v z = head_sound c m (core_stmt c.in_loop s) (core_stmt c.in_loop s') ss v (stmt_sound h c)
-  stmts_sound {m = m} (in_tail {s = s} h) c v z = tail_sound c m s (λ u y. stmts_sound h (past s c) u y)
+  stmts_sound {k = k} {m = m} (in_tail {s = s} h) c v z = tail_sound k c m s (λ u y. stmts_sound h (past k s c) u y)
   stmts_sound (flag_forgotten h) c v z = stmts_sound h c v z
-  stmts_sound {m = m} (knowing_less {ks = ks} i h) c v z = list_knowing_less m i (stmts_sound h (knowing_fewer ks c) v z)

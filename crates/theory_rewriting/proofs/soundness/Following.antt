@@ -1,5 +1,5 @@
 -- One script after another: what each one does as the one before it, the last one does as the first.
-use Rattle.std.proofs.Common.{◌≡◌, ◌≤◌, ℕ, ◌⊎◌, inl, inr, List, [], ◌∷◌, arith}
+use Rattle.std.proofs.Common.{ℕ, ◌⊎◌, inl, inr, List, [], ◌∷◌, arith}
 use Rattle.theory_meaning.specs.Act.{Store, Ending, Stuck, IsStuck, Ended, Halted, Result}
 use Rattle.theory_meaning.specs.Engine.{Engine}
 use Rattle.theory_meaning.specs.Tree.{Function, Script}

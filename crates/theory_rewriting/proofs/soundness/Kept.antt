@@ -12,7 +12,7 @@ use Rattle.theory_meaning.specs.Walk.{Node, OfExpr, Around, around_spot, around_
 use Rattle.theory_meaning.specs.Weight.{weight}
 use Rattle.theory_meaning.proofs.PureTrees.{split}
 use Rattle.theory_meaning.proofs.Walk.{Alongside, stmts_alongside, every_throughout}
-use Rattle.theory_rewriting.specs.Context.{Context, ListKind}
+use Rattle.theory_rewriting.specs.Context.{Context, ListKind, ListContext}
 use Rattle.theory_rewriting.specs.Kept.{AreNoHeavier, Keeps}
 use Rattle.theory_rewriting.specs.Known.{Known}
 use Rattle.theory_rewriting.specs.Parts.{constant_of, link}
@@ -51,7 +51,7 @@ true_throughout P = record {
 -- ---- scripts
 
 module _ (P : Node → Bool) (lasts : (l : Bool) → Lasting (λ a n. P n ≡ true) l) where
-  list_true : {k : Context} {m : ListKind} {u d d' : Bool} {ss ss' : Stmts} → RestTo k m u d d' ss ss' → over_stmts (all_true P) ss ≡ true → over_stmts (all_true P) ss' ≡ true
+  list_true : {k : ListContext} {m : ListKind} {u d d' : Bool} {ss ss' : Stmts} → RestTo k m u d d' ss ss' → over_stmts (all_true P) ss ≡ true → over_stmts (all_true P) ss' ≡ true
   list_true {ss = ss} {ss' = ss'} to h =
       let before = stmts_alongside Agree (all_true P) (throughout (λ a n. P n ≡ true)) (true_throughout P) ss outermost in
       let after = stmts_alongside Agree (all_true P) (throughout (λ a n. P n ≡ true)) (true_throughout P) ss' outermost in
@@ -204,7 +204,7 @@ module _ (Q : Callee → Type 0) where
   }
 
   -- so none is made anew: Q may say which there were
-  pub none_captures_anew : {k : Context} {m : ListKind} {u d d' : Bool} {ss ss' : Stmts} → RestTo k m u d d' ss ss' → over_stmts (every (Captures Q)) ss → over_stmts (every (Captures Q)) ss'
+  pub none_captures_anew : {k : ListContext} {m : ListKind} {u d d' : Bool} {ss ss' : Stmts} → RestTo k m u d d' ss ss' → over_stmts (every (Captures Q)) ss → over_stmts (every (Captures Q)) ss'
   none_captures_anew {ss = ss} {ss' = ss'} to h =
       let before = stmts_alongside (λ p q. (a : Around) → (p → q a) × (q a → p)) (every (Captures Q)) (throughout (λ a n. Captures Q n)) (every_throughout (Captures Q)) ss outermost in
       let after = stmts_alongside (λ p q. (a : Around) → (p → q a) × (q a → p)) (every (Captures Q)) (throughout (λ a n. Captures Q n)) (every_throughout (Captures Q)) ss' outermost in

@@ -6,8 +6,8 @@ use Rattle.theory_rewriting.specs.Scripts.{has_root, is_place}
 use Rattle.theory_meaning.specs.Shape.{keys, is_argument, is_rest, is_left_side}
 use Rattle.theory_meaning.specs.Tree.{Expr, MethodCall, Dot, Index, And, Or, Coalesce, Exprs, count_exprs, Pairs, MaybeExpr, Arms, Stmt, Stmts}
 use Rattle.theory_meaning.specs.Walk.{Node, OfExpr, Role, Rest, Around, left_role, right_role, whole, throughout, over_expr, over_exprs, over_pairs, over_maybe, over_arms, arm_at, arms_at, listed, over_stmt, over_stmts}
-use Rattle.theory_rewriting.specs.Context.{Context, ListKind}
-use Rattle.theory_rewriting.specs.Rewriting.{ExprTo, same_expr, then_expr, by_expr_rule, in_text, in_array, in_map, in_braces, in_call, in_stray_method, in_chain, in_and, in_or, in_coalesce, ExprsTo, exprs_none, exprs_more, PairsTo, pairs_none, pairs_more, ChainTo, in_dot, in_index, BaseTo, base, ArgumentTo, same_argument, in_method, in_brackets, StepsTo, same_steps, last_method, last_index, more_dot, more_index, TargetTo, same_target, in_target, GuardTo, guard, MaybeTo, maybe_none, maybe_some, ArmsTo, arms_none, arms_more, StmtTo, same_stmt, then_stmt, by_stmt_rule, in_if, in_switch, in_while, in_do, in_for, in_var, in_assignment, in_block, in_try, in_expression, in_call_statement, in_break, in_return, in_import, RestTo, same_stmts, then_stmts, by_list_rule, in_head, in_tail, flag_forgotten, knowing_less}
+use Rattle.theory_rewriting.specs.Context.{Context, ListKind, ListContext}
+use Rattle.theory_rewriting.specs.Rewriting.{ExprTo, same_expr, then_expr, by_expr_rule, in_text, in_array, in_map, in_braces, in_call, in_stray_method, in_chain, in_and, in_or, in_coalesce, ExprsTo, exprs_none, exprs_more, PairsTo, pairs_none, pairs_more, ChainTo, in_dot, in_index, BaseTo, base, ArgumentTo, same_argument, in_method, in_brackets, StepsTo, same_steps, last_method, last_index, more_dot, more_index, TargetTo, same_target, in_target, GuardTo, guard, MaybeTo, maybe_none, maybe_some, ArmsTo, arms_none, arms_more, StmtTo, same_stmt, then_stmt, by_stmt_rule, in_if, in_switch, in_while, in_do, in_for, in_var, in_assignment, in_block, in_try, in_expression, in_call_statement, in_break, in_return, in_import, RestTo, same_stmts, then_stmts, by_list_rule, in_head, in_tail, flag_forgotten}
 use Rattle.theory_rewriting.proofs.rules.Lasting.{same_array, same_braces, same_call, same_if, same_block, same_expression, same_call_statement, same_and, same_or, same_coalesce, same_text, same_while, same_switch, same_map, same_method, same_dot, same_index, same_do, same_for, same_var, same_assignment, same_try, same_break, same_return, same_import, Lasting}
 use Rattle.theory_rewriting.proofs.soundness.Standing.{table_stays}
 use Rattle.theory_rewriting.proofs.rules.Expressions.{expr_rule}
@@ -167,11 +167,10 @@ module _ (P : Around → Node → Type 0) (lasts : (l : Bool) → Lasting P l) w
     stmt_keeps l (in_return p) h = ((lasts l).again same_return h.0, maybe_keeps l p h.1)
     stmt_keeps l (in_import p) h = ((lasts l).again same_import h.0, expr_keeps l p h.1)
 
-    pub stmts_keep : {k : Context} {m : ListKind} {u d d' : Bool} {ss ss' : Stmts} (l : Bool) → RestTo k m u d d' ss ss' → over_stmts (throughout P) ss (whole l) → over_stmts (throughout P) ss' (whole l)
+    pub stmts_keep : {k : ListContext} {m : ListKind} {u d d' : Bool} {ss ss' : Stmts} (l : Bool) → RestTo k m u d d' ss ss' → over_stmts (throughout P) ss (whole l) → over_stmts (throughout P) ss' (whole l)
     stmts_keep l same_stmts h = h
     stmts_keep l (then_stmts p q) h = stmts_keep l q (stmts_keep l p h)
     stmts_keep l (by_list_rule r) h = (list_rule r).keeps P l (lasts l) h
     stmts_keep l (in_head p) h = (stmt_keeps l p h.0, h.1)
     stmts_keep l (in_tail p) h = (h.0, stmts_keep l p h.1)
     stmts_keep l (flag_forgotten p) h = stmts_keep l p h
-    stmts_keep l (knowing_less i p) h = stmts_keep l p h

@@ -8,4 +8,4 @@ pub returns-then-behind : goal.returns-then-behind
 returns-then-behind c = sweeps_closed c.close_up-moved.result c.decide_all-behind.ensures c.if-behind.true (rw c.is_wanted.ensures at c.close_up-moved.ensures.closed) c.close_up-moved.ensures.moved
 
 pub returns : goal.returns
-returns c = sweeps_same c.decide_all-behind.ensures c.if-behind.false
+returns c = sweeps_same c.decide_all-behind.ensures c.in_default.is c.if-behind.false

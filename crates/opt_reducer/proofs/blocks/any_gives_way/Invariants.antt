@@ -1,6 +1,6 @@
 use Rattle.std.proofs.Common.{◌≡◌, drop}
 use Rattle.ast_types.specs.Reading.{stmts_of}
-use Rattle.opt_reducer.specs.Blocks.{any_gives_way}
+use Rattle.theory_rewriting.specs.Normal.{any_gives_way}
 use Rattle.opt_reducer.proofs.blocks.any_gives_way.Given as goal
 
 abbrev pub invariant-loop-statement : goal.invariant-loop-statement

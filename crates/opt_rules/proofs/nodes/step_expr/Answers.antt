@@ -39,4 +39,4 @@ pub returns-in-InterpolatedString : goal.returns-in-InterpolatedString
 returns-in-InterpolatedString c = pass_anywhere _ _ _ _ _ _ _ c.step_text.ensures
 
 pub returns-in_default : goal.returns-in_default
-returns-in_default c = nothing_left (expr_cases c.args.expr.now) c.in_default.not-FnCall c.in_default.not-Variable c.in_default.not-Dot c.in_default.not-Index c.in_default.not-And c.in_default.not-Or c.in_default.not-Coalesce c.in_default.not-Stmt c.in_default.not-Array
+returns-in_default c = nothing_left (expr_cases c.args.expr.now) c.in_default.not-FnCall c.in_default.not-Variable c.in_default.not-Dot c.in_default.not-Index c.in_default.not-And c.in_default.not-Or c.in_default.not-Coalesce c.in_default.not-Stmt c.in_default.not-Array c.in_default.not-Map c.in_default.not-InterpolatedString

@@ -1,6 +1,4 @@
-use Rattle.base_engine.specs.EngineInfo.{engine_of}
 use Rattle.ast_types.proofs.Cases.{stmt_cases}
-use Rattle.opt_steps.proofs.Stepping.{stmt_stays}
 use Rattle.opt_rules.proofs.Kept.{no_rule}
 use Rattle.opt_rules.proofs.Passing.{stmt_anywhere, stmt_under, stmt_wanted}
 use Rattle.opt_rules.proofs.nodes.step_stmt.Goals as goal
@@ -33,4 +31,4 @@ pub returns-in-Switch : goal.returns-in-Switch
 returns-in-Switch c = stmt_anywhere _ _ _ _ _ _ _ c.step_switch.ensures
 
 pub returns-in_default : goal.returns-in_default
-returns-in_default c = stmt_stays (no_rule (engine_of c.args.info.now) (stmt_cases c.args.statement.now) c.in_default.not-FnCall c.in_default.not-If c.in_default.not-While c.in_default.not-Switch)
+returns-in_default c = no_rule (stmt_cases c.args.statement.now) c.in_default.not-FnCall c.in_default.not-If c.in_default.not-While c.in_default.not-Switch c.in_default.not-Expr c.in_default.not-Block c.in_default.not-TryCatch c.in_default.not-Assignment c.in_default.not-Share

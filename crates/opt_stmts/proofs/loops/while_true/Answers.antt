@@ -2,7 +2,7 @@ use Rattle.std.proofs.Common.{◌≡◌, rules, true, Some, None, sym, ap, ◌�
 use Rattle.ast_types.specs.declared.stmt.FlowControl.{FlowControl}
 use Rattle.ast_types.specs.Reading.{shapes, expr_of, stmt_of, stmts_of, stmt_of-While}
 use Rattle.ast_types.proofs.Cases.{stmt_cases}
-use Rattle.theory_meaning.specs.Tree.{Stmt, While}
+use Rattle.theory_meaning.specs.Tree.{While}
 use Rattle.opt_stmts.proofs.FiredStatements.{looped, loop_spelled}
 use Rattle.opt_stmts.proofs.OtherStatements.{decides_nothing}
 use Rattle.opt_stmts.proofs.loops.while_true.Goals as goal

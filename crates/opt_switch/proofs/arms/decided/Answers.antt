@@ -1,7 +1,7 @@
 use Rattle.std.proofs.Common.{sym, ap, ◌∙◌}
 use Rattle.theory_rewriting.specs.Tables.{arm_decides}
-use Rattle.opt_switch.proofs.Shrunk.{is_below, not_below}
-use Rattle.opt_switch.proofs.ArmPlaces.{arm_there, arm_missing}
+use Rattle.theory_rewriting.proofs.rules.Shrunk.{is_below}
+use Rattle.opt_switch.proofs.ArmPlaces.{not_below, arm_there, arm_missing}
 use Rattle.opt_switch.proofs.arms.decided.Goals as goal
 
 pub returns-in-Some : goal.returns-in-Some

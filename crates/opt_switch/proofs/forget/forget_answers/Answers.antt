@@ -2,10 +2,10 @@ use Rattle.std.proofs.Common.{◌≡◌, take, refl, sym, ap, rules, ◌∙◌, 
 use Rattle.std.specs.Prelude.{◌||◌}
 use Rattle.std.proofs.lemmas.List.{length-set}
 use Rattle.ast_types.specs.Reading.{arms_of, expr_of}
+use Rattle.theory_rewriting.proofs.rules.Shrunk.{is_below}
 use Rattle.opt_switch.specs.Forgetting.{loses_answer, loses_answers}
 use Rattle.opt_switch.proofs.ArmPlaces.{arm_written, answer_there, forgets_all, loses_all, mark_there}
 use Rattle.opt_switch.proofs.Forgotten.{untouched, no_marks_lose, put, put_next, loses_next, answer_in}
-use Rattle.opt_switch.proofs.Shrunk.{is_below}
 use Rattle.opt_switch.proofs.forget.forget_answers.Goals as goal
 use Rattle.opt_switch.proofs.forget.forget_answers.Goals.{then-loses, else-loses}
 

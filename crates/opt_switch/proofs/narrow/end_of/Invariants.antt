@@ -1,7 +1,7 @@
 use Rattle.std.proofs.Common.{◌≡◌, ◌+◌, drop, map}
 use Rattle.theory_meaning.specs.Walk.{arms_of_ranges}
 use Rattle.ast_types.specs.Reading.{arms_of, range_of}
-use Rattle.opt_switch.specs.Shrinking.{end_of}
+use Rattle.opt_switch.specs.Ends.{end_of}
 use Rattle.opt_switch.proofs.narrow.end_of.Given as goal
 
 abbrev pub invariant-loop-range : goal.invariant-loop-range

@@ -1,7 +1,7 @@
 use Rattle.std.proofs.Common.{rules, map, ap, ◌∙◌}
 use Rattle.rhai_base.specs.Reading.{value_of}
 use Rattle.ast_types.specs.Reading.{arms_of, case_of}
-use Rattle.opt_switch.specs.Narrowing.{only_cases}
+use Rattle.theory_rewriting.specs.Narrowing.{only_cases}
 use Rattle.opt_switch.proofs.Entries.{only_kept}
 use Rattle.opt_switch.proofs.narrow.only_cases.Goals as goal
 

@@ -1,7 +1,7 @@
 use Rattle.std.proofs.Common.{◌≡◌, ◌+◌, ◌≤◌, drop, length, map}
 use Rattle.rhai_base.specs.Reading.{value_of}
 use Rattle.ast_types.specs.Reading.{arms_of, range_of}
-use Rattle.opt_switch.specs.Narrowing.{only_ranges}
+use Rattle.theory_rewriting.specs.Narrowing.{only_ranges}
 use Rattle.opt_switch.proofs.narrow.only_len.Given as goal
 
 abbrev pub invariant-loop-range : goal.invariant-loop-range

@@ -4,8 +4,8 @@ use Rattle.rhai_base.specs.declared.range_case.RangeCase.{RangeCase}
 use Rattle.rhai_base.specs.Reading.{value_of}
 use Rattle.theory_meaning.specs.Walk.{arms_of_ranges}
 use Rattle.ast_types.specs.Reading.{arms_of, range_of}
-use Rattle.opt_switch.specs.Narrowing.{only_ranges}
-use Rattle.opt_switch.specs.Shrinking.{end_of}
+use Rattle.theory_rewriting.specs.Narrowing.{only_ranges}
+use Rattle.opt_switch.specs.Ends.{end_of}
 use Rattle.opt_switch.proofs.Entries.{is_held, up_to, held_ranges}
 use Rattle.opt_switch.proofs.narrow.only_ranges.Goals as goal
 

@@ -1,6 +1,6 @@
 use Rattle.std.proofs.Common.{◌≡◌, ◌+◌, drop}
 use Rattle.ast_types.specs.Reading.{arms_of}
-use Rattle.opt_switch.specs.Shrinking.{end_of}
+use Rattle.opt_switch.specs.Ends.{end_of}
 use Rattle.opt_switch.proofs.shrink.end_of.Given as goal
 
 abbrev pub invariant-loop-place : goal.invariant-loop-place

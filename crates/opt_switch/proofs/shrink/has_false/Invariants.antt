@@ -1,6 +1,6 @@
 use Rattle.std.proofs.Common.{◌≡◌, drop, map}
 use Rattle.ast_types.specs.Reading.{arms_of, range_of}
-use Rattle.opt_switch.specs.Shrinking.{has_false}
+use Rattle.theory_rewriting.specs.Shrinking.{has_false}
 use Rattle.opt_switch.proofs.shrink.has_false.Given as goal
 
 abbrev pub invariant-loop-range : goal.invariant-loop-range

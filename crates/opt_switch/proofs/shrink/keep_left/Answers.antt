@@ -2,7 +2,7 @@ use Rattle.std.proofs.Common.{rules, filter, take, ap, ◌∙◌}
 use Rattle.std.proofs.lemmas.Fn.{filter_same}
 use Rattle.ast_types.specs.Reading.{arms_of}
 use Rattle.theory_rewriting.specs.Tables.{left_arms}
-use Rattle.opt_switch.specs.Shrinking.{end_of}
+use Rattle.opt_switch.specs.Ends.{end_of}
 use Rattle.opt_switch.proofs.Entries.{is_open_arm, left_of}
 use Rattle.opt_switch.proofs.shrink.keep_left.Goals as goal
 

@@ -1,6 +1,6 @@
 use Rattle.std.proofs.Common.{rules, map, ap, ◌∙◌}
 use Rattle.ast_types.specs.Reading.{arms_of, case_of}
-use Rattle.opt_switch.specs.Shrinking.{left_cases}
+use Rattle.theory_rewriting.specs.Shrinking.{left_cases}
 use Rattle.opt_switch.proofs.Entries.{left_kept}
 use Rattle.opt_switch.proofs.shrink.shrink_cases.Goals as goal
 

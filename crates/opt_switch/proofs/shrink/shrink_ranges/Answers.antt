@@ -1,7 +1,7 @@
 use Rattle.std.proofs.Common.{rules, map, ap, ◌∙◌}
 use Rattle.std.proofs.lemmas.Fn.{filter_same}
 use Rattle.ast_types.specs.Reading.{arms_of, range_of}
-use Rattle.opt_switch.specs.Shrinking.{left_ranges}
+use Rattle.theory_rewriting.specs.Shrinking.{left_ranges}
 use Rattle.opt_switch.proofs.Entries.{is_open_range, open_ranges}
 use Rattle.opt_switch.proofs.shrink.shrink_ranges.Goals as goal
 

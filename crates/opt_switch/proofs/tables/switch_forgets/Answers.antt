@@ -15,7 +15,9 @@ forget_answers-requires c =
 pub returns-then-not-forget_answers : goal.returns-then-not-forget_answers
 returns-then-not-forget_answers c =
     let as' = arms_of (expressions_of c.args.table.now) in
-    (table_kept c.args.table.now c.forget_answers.new.arms, (refl, arms_put c.args.table.now c.forget_answers.new.arms ∙ c.forget_answers.ensures.arms ∙ forgets_none c.as_slice.result.now as' (sym c.forget_answers.ensures.loses ∙ c.if-not-forget_answers.true)))
+    let marks = c.as_slice.ensures.value ∙ c.in_ok-marks.ensures ∙ marks_are c.args.table.now in
+    let stay = sym c.forget_answers.ensures.loses ∙ c.if-not-forget_answers.true in
+    (table_kept c.args.table.now c.forget_answers.new.arms, (refl, (ap (λ m. loses_answers m as') (sym marks) ∙ stay, arms_put c.args.table.now c.forget_answers.new.arms ∙ c.forget_answers.ensures.arms ∙ forgets_none c.as_slice.result.now as' stay)))
 
 pub returns : goal.returns
 returns c =

@@ -12,6 +12,7 @@ returns c =
     let taken = c.into_parts-source.ensures.contents in
     let made = c.from_parts.ensures.contents in
     whole (contents c.args.ast) (contents c.from_parts.result)
+    (c.in_ok-id.ensures.table ∙ sym c.in_ok-id.ensures.functions)
     (ap (λ (x : Contents). x.statements) (sym taken))
     (ap (λ (x : Contents). x.functions) (sym taken) ∙ sym (ap (λ (l : FnLib). l.functions) c.in_ok-unshared.ensures) ∙ sym c.in_ok-id.ensures.table)
     (ap (λ (x : Contents). x.statements) made)

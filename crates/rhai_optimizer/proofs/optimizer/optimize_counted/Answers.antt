@@ -9,7 +9,7 @@ pub returns-clause-promise : goal.returns-clause-promise
 returns-clause-promise c =
     let parts = rw (c.new-block.ensures.block) at c.in_ok-block.ensures in
     let e = c.new-2.ensures.contents in
-    whole (given c.args.statements.items c.args.functions.items) (contents c.new-2.result) refl (sym c.in_ok-from_functions.ensures.definitions ∙ sym c.in_ok-functions.ensures.table)
+    whole (given c.args.statements.items c.args.functions.items) (contents c.new-2.result) (c.in_ok-functions.ensures.table ∙ sym c.in_ok-functions.ensures.functions) refl (sym c.in_ok-from_functions.ensures.definitions ∙ sym c.in_ok-functions.ensures.table)
     (ap (λ (x : Contents). x.statements) e ∙ c.statements_of.ensures)
     (ap (λ (x : Contents). x.functions) e ∙ ap (λ (l : FnLib). l.functions) c.in_ok-lib.ensures.ok ∙ c.in_ok-from_functions-2.ensures.definitions)
     _ parts

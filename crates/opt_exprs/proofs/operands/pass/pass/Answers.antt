@@ -20,10 +20,13 @@ loop-at-preserved c =
     let h : x ≡ get_or here at x = rw c.as_slice.ensures at c.index-as_slice-at.is in
     let d : decides c.args.operation (expr_of x) ≡ false = sym c.if-decides.ensures in
     let lent = c.as_slice-in-loop-at in
+    let here-is : goes_on c.args.operation (expr_of x) ≡ goes_on c.args.operation (expr_of (get_or lent.result.now at x)) = ap (λ y. goes_on c.args.operation (expr_of y)) (h ∙ ap (λ (z : Declared). get_or z at x) (sym lent.ensures)) in
     elim c.if-not-goes.branch [
-      | then-not-goes w ↦ rw (w.operands-is, w.kept-is) (passing_keep x c.loop-at.invariant lt h d (w.move_down.ensures.front x ∙ ap (λ y. take c.loop-at.kept here ++ y ∷ []) (sym h)) w.move_down.ensures.back w.move_down.ensures.len w.move_down.ensures.same)
+      | then-not-goes w ↦
+          let stays = λ (m : at + 1 < c.loop-at.kept + length here). here-is ∙ c.goes.ensures.stays w.if-not-goes.true (rw lent.ensures m) x in
+          rw (w.operands-is, w.kept-is) (passing_keep x c.loop-at.invariant lt h d stays (w.move_down.ensures.front x ∙ ap (λ y. take c.loop-at.kept here ++ y ∷ []) (sym h)) w.move_down.ensures.back w.move_down.ensures.len w.move_down.ensures.same)
       | else-not-goes w ↦
-          let g : goes_on c.args.operation (expr_of x) ≡ true = ap (λ y. goes_on c.args.operation (expr_of y)) (h ∙ ap (λ (z : Declared). get_or z at x) (sym lent.ensures)) ∙ c.goes.ensures.goes_on w.if-not-goes.false x in
+          let g : goes_on c.args.operation (expr_of x) ≡ true = here-is ∙ c.goes.ensures.goes_on w.if-not-goes.false x in
           let more : at + 1 < c.loop-at.kept + length here = rw lent.ensures at (c.goes.ensures.others w.if-not-goes.false) in
           rw (w.operands-is, w.kept-is) (passing_skip x c.loop-at.invariant lt h g more)
     ]

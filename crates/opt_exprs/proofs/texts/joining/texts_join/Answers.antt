@@ -10,4 +10,4 @@ returns-then-at-end c =
     let xs = c.args.parts.now in
     let unit = unit_at nowhere in
     let x = get_or xs c.args.at unit in
-    alone_at x c.requires (sym c.if-at-end.true) (get_or_default xs c.args.at unit x c.requires)
+    alone_at x c.requires (sym c.if-at-end.true) (get_or_default xs c.args.at unit x c.requires) (rw c.as_slice.ensures at (c.run_end-end.ensures.alone (sym c.if-at-end.true)))

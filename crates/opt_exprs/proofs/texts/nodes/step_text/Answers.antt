@@ -5,16 +5,16 @@ pub returns-then-branch : goal.returns-then-branch
 returns-then-branch c = text_folded (rw c.if-branch.true at c.in_ok-text_folds.ensures)
 
 pub change_text-requires : goal.change_text-requires
-change_text-requires c = let q = rw c.if-branch.false at c.in_ok-text_folds.ensures in text_stays c.requires q.1
+change_text-requires c = let q = rw c.if-branch.false at c.in_ok-text_folds.ensures in text_stays c.requires q.2
 
 pub returns-then-branch-2 : goal.returns-then-branch-2
 returns-then-branch-2 c =
     let q = rw c.if-branch.false at c.in_ok-text_folds.ensures in
     let n = rw c.if-branch-2.true at c.in_ok-change_text.ensures in
-    text_changed q.0 q.1 c.note_fired.ensures.dirty c.note_fired.ensures.known n
+    text_changed q c.note_fired.ensures.dirty c.note_fired.ensures.known n
 
 pub returns : goal.returns
 returns c =
     let q = rw c.if-branch.false at c.in_ok-text_folds.ensures in
     let n = rw c.if-branch-2.false at c.in_ok-change_text.ensures in
-    text_same c.requires q.0 q.1 n
+    text_same c.requires q n

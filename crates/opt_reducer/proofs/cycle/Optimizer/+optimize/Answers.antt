@@ -16,8 +16,8 @@ use Rattle.ast_types.specs.declared.switch.SwitchBlock.{SwitchBlock}
 use Rattle.ast_types.specs.Reading.{shapes, subject_of, cases_of, expressions_of, arms_of, table_of, breaks, is_negated, is_const, is_exported, chain_flags, keys_of, counter_of, callee_of, expr_of, exprs_of, pairs_of, maybe_of, stmt_of, stmts_of, expr_of-InterpolatedString, expr_of-Array, expr_of-Map, expr_of-MethodCall, expr_of-Stmt, expr_of-FnCall, expr_of-Dot, expr_of-Index, expr_of-And, expr_of-Or, expr_of-Coalesce, stmt_of-If, stmt_of-Switch, stmt_of-While, stmt_of-Do, stmt_of-For, stmt_of-Var, stmt_of-Assignment, stmt_of-Block, stmt_of-TryCatch, stmt_of-Expr, stmt_of-FnCall, stmt_of-BreakLoop, stmt_of-Return, stmt_of-Import}
 use Rattle.theory_meaning.specs.Tree.{InterpolatedString, ArrayOf, MapOf, MethodCall, BlockExpr, FnCall, Dot, Index, And, Or, Coalesce, If, Switch, While, Do, For, Var, Assignment, Block, TryCatch, ExprStmt, FnCallStmt, an_expr, BreakLoop, Return, Import}
 use Rattle.theory_meaning.specs.Weight.{stmt_weight, weight}
-use Rattle.theory_rewriting.proofs.Firing.{expr_done, stmt_pass, stmt_fits, stmt_early, stmt_fired_falls, subject_then, subject_fired, subject_here, subject_fits}
-use Rattle.theory_rewriting.proofs.Running.{text_run, array_run, map_run, braces_run, call_run, method_run, and_run, or_run, coalesce_run, chain_dot_run, chain_index_run, both_sides, both_links, both_rounds, both_assigned, steps_end, steps_on, steps_member, steps_none, argument_as, brackets_run, member_run, member_stays, target_run, target_stays, arm_run, loop_while, loop_do, for_kept, var_kept, assign_kept, try_kept, import_kept, break_run, return_run, maybe_some_run, call_statement_run, if_run, block_run, expression_run, item_run, each_noted, list_run, list_then, list_fits, list_again, list_again_falls, list_done, counts, tries}
+use Rattle.theory_rewriting.proofs.Firing.{expr_done, stmt_pass, stmt_fits, stmt_early, stmt_fired_falls, subject_then, subject_fired, subject_fits}
+use Rattle.theory_rewriting.proofs.Running.{text_run, array_run, map_run, braces_run, call_run, method_run, and_run, or_run, coalesce_run, chain_dot_run, chain_index_run, both_sides, both_links, both_rounds, both_assigned, steps_end, steps_on, steps_member, steps_none, argument_as, brackets_run, member_run, member_stays, target_run, target_stays, arm_run, loop_while, loop_do, for_kept, var_kept, assign_kept, try_kept, import_kept, break_run, return_run, maybe_some_run, call_statement_run, if_run, block_run, expression_run, item_run, each_noted, list_run, list_fits, list_again, list_again_falls, list_done, counts, tries}
 use Rattle.opt_reducer.proofs.Parts.{expr_as, stmt_as, table_written, for_as, maybe_from, maybe_same, sides_dot_at, sides_index_at, link_dot_at, link_index_at, steps_as, argument_spelled, target_as, no_chain, no_method, expr_stays, stmt_stays, counted, forgotten, subject_written, arms_written, subject_kept, subject_none, arms_kept, condition_kept, open_still, undecided, once_by, once_done}
 use Rattle.theory_rewriting.specs.Steps.{HasReducedSubject}
 use Rattle.opt_reducer.specs.Parts.{record_of}
@@ -179,7 +179,7 @@ pub stmt_once-stmt_parts-requires : goal.stmt_once-stmt_parts-requires
 stmt_once-stmt_parts-requires t c =
     let q = rw c.if-branch.false at c.in_ok-decide_stmt.ensures (record_of c.args.self.now) in
     let f = undecided (open_still q (c.in_ok-subject.ensures c.args.is_wanted)) (rw c.if-branch-2.false at c.in_ok-decide_stmt-2.ensures (record_of c.args.self.now)) in
-    (omega (arith, subject_fits f), subject_here f)
+    (omega (arith, subject_fits f), f.subject)
 
 pub stmt_once-returns : goal.stmt_once-returns
 stmt_once-returns t c =
@@ -190,7 +190,7 @@ stmt_once-returns t c =
 pub stmt_parts-choice-requires : goal.stmt_parts-choice-requires
 stmt_parts-choice-requires t c =
     let spelled = ap stmt_of c.in-If.is ∙ stmt_of-If _ _ ∙ ap (λ (y : FlowControl). If (expr_of y.expr) (stmts_of y.body.block) (stmts_of y.branch.block)) (sym (c.get_mut.ensures.value ∙ c.in-If.flow-is)) in
-    (omega (arith, ap stmt_weight spelled), subst (HasReducedSubject (record_of c.args.self.now) (progress c.args.state.now).known) spelled c.requires)
+    (omega (arith, ap stmt_weight spelled), subst (HasReducedSubject (record_of c.args.self.now) (progress c.args.state.now)) spelled c.requires)
 
 pub stmt_parts-returns-in-If : goal.stmt_parts-returns-in-If
 stmt_parts-returns-in-If t c =
@@ -327,7 +327,7 @@ each-returns t c =
 -- each gone over, and then flattened
 pub list-returns : goal.list-returns
 list-returns t c =
-    on_ok_weaker _ (λ f. list_then (list_run c.len-before.result (counted c.len-before.result _ c.len-before.ensures) c.in_ok-each.ensures c.rewind_var.ensures.flag (forgotten c.len-before.result c.each.new.state.entries c.rewind_var.new.self.entries c.rewind_var.ensures.names)) f.to f.reduced f.clear f.known) c.flatten.ensures
+    on_ok_weaker _ (λ f. list_run c.len-before.result (counted c.len-before.result _ c.len-before.ensures) c.in_ok-each.ensures c.rewind_var.ensures.flag (forgotten c.len-before.result c.each.new.state.entries c.rewind_var.new.self.entries c.rewind_var.ensures.names) f.to f.reduced f.clear f.flat f.known) c.flatten.ensures
 
 -- swept, until no last `return` is bared
 pub stmt_block-loop-state-init : goal.stmt_block-loop-state-init

@@ -1,11 +1,11 @@
-use Rattle.std.proofs.Common.{◌≡◌, Bool, true, refl, sym, ap, ◌∙◌}
+use Rattle.std.proofs.Common.{refl, sym, ap, ◌∙◌}
 use Rattle.std.proofs.lemmas.Result.{IfOk-weaker}
 use Rattle.ast_types.specs.declared.block.StmtBlock.{StmtBlock}
 use Rattle.ast_types.specs.Reading.{expr_of, stmts_of}
 use Rattle.theory_meaning.specs.Tree.{If}
 use Rattle.opt_steps.proofs.Stepping.{stmt_rewrite_as}
 use Rattle.opt_stmts.proofs.Choosing.{bare_opens}
-use Rattle.opt_stmts.proofs.Choosing.{bare-if, undecided}
+use Rattle.opt_stmts.proofs.Choosing.{undecided}
 use Rattle.opt_stmts.proofs.choice.choice.reduce_if.Goals as goal
 
 pub returns-then-has_no_statements : goal.returns-then-has_no_statements

@@ -13,4 +13,4 @@ pub returns : goal.returns
 returns c =
     let inner = expr_of c.take_inner-inner.result in
     let condition = ap expr_of c.put_expr.ensures ∙ c.in_ok-condition.ensures ∙ ap (λ (e : Expr). And (expr (expr_of e) (expr inner no_exprs))) (c.take.ensures.taken ∙ c.take_inner-inner.ensures.condition) in
-    λ w. nested_made w (expr_of c.args.flow.now.expr) inner _ _ _ c.requires.nests c.requires.undecided c.take_inner-inner.ensures.inner condition (ap (λ (b : StmtBlock). stmts_of b.block) c.take_inner-inner.ensures.branch)
+    λ w. nested_made w (expr_of c.args.flow.now.expr) inner _ _ _ c.requires.nests c.requires.undecided c.requires.alone c.take_inner-inner.ensures.inner condition (ap (λ (b : StmtBlock). stmts_of b.block) c.take_inner-inner.ensures.branch)

@@ -1,5 +1,4 @@
 use Rattle.std.proofs.Common.{ap, ◌∙◌}
-use Rattle.ast_types.specs.declared.expr.Expr.{Expr}
 use Rattle.ast_types.specs.Reading.{exprs_of}
 use Rattle.opt_stmts.proofs.Ends.{pushed}
 use Rattle.opt_stmts.proofs.choice.nested.push_last.Goals as goal

@@ -4,7 +4,7 @@ use Rattle.rhai_base.specs.Value.{Value, same}
 use Rattle.theory_meaning.specs.Control.{holds}
 use Rattle.theory_meaning.specs.Tree.{Arms, SwitchCase, SwitchRange, SwitchTable}
 use Rattle.theory_rewriting.specs.Tables.{arm_of, arm_decides, left_arms}
-use Rattle.opt_switch.specs.Shrinking.{loses_arms, has_some}
+use Rattle.theory_rewriting.specs.Shrinking.{loses_arms, has_some}
 
 -- ---- the list of a value
 

@@ -1,19 +1,30 @@
--- A table of which something goes whatever the subject is, by the rule `switch_shrinks`.
+-- A table of which something goes whatever the subject is: what goes of it one by one, and its weight.
 use Rattle.std.proofs.Common.{◌≡◌, ℕ, suc, ◌+◌, ◌<◌, ◌≤◌, Bool, true, false, cond, not, List, [], ◌∷◌, ◌++◌, Option, Some, None, length, refl, sym, ap, ◌∙◌, subst, arith}
 use Rattle.std.specs.Prelude.{◌||◌, ◌&&◌, nat_lt}
 use Rattle.std.proofs.lemmas.Bool.Decides.{nat_tests}
 use Rattle.rhai_base.specs.Value.{Value, same}
 use Rattle.theory_meaning.specs.Control.{case_for}
-use Rattle.theory_meaning.specs.Tree.{Expr, Arms, SwitchCase, SwitchRange, SwitchTable, Switch}
+use Rattle.theory_meaning.specs.Tree.{Arms, SwitchCase, SwitchRange, SwitchTable}
 use Rattle.theory_meaning.specs.Walk.{arms_of_cases, arms_of_ranges, arm_of_default, listed}
 use Rattle.theory_meaning.specs.Weight.{cases_weight, table_weight}
 use Rattle.theory_rewriting.specs.Answering.{is_that}
-use Rattle.theory_rewriting.specs.Context.{Context}
-use Rattle.theory_rewriting.specs.Rules.{StmtRule, switch_shrinks}
-use Rattle.theory_rewriting.specs.Tables.{arm_of, arm_decides, left_with, left_arms, RangesTo, no_ranges, range_stays, false_range_goes, CasesTo, no_cases, case_shrinks, empty_case_goes}
+use Rattle.theory_rewriting.specs.Tables.{arm_of, arm_decides, left_with, left_arms}
+use Rattle.theory_rewriting.specs.Shrinking.{AreDistinct, is_false_arm, has_false, left_ranges, has_some, loses_arms, is_none, list_shrinks, lists_shrink, stays, left_cases, shrinks, shrunk}
 use Rattle.theory_rewriting.proofs.rules.Arms.{AllArms, all_split, all_left}
-use Rattle.opt_switch.specs.Cases.{AreDistinct}
-use Rattle.opt_switch.specs.Shrinking.{is_false_arm, has_false, left_ranges, has_some, loses_arms, is_none, list_shrinks, lists_shrink, stays, left_cases, shrinks, shrunk}
+
+-- ---- what goes
+
+-- ranges one by one
+pub data RangesTo (as' : Arms) : List SwitchRange → List SwitchRange → Type 0 where
+  no_ranges : RangesTo as' [] []
+  range_stays : {r : SwitchRange} {rs qs : List SwitchRange} → RangesTo as' rs qs → RangesTo as' (r ∷ rs) (r ∷ qs)
+  false_range_goes : {r : SwitchRange} {rs qs : List SwitchRange} → arm_decides (arm_of as' r.arm) ≡ Some false → RangesTo as' rs qs → RangesTo as' (r ∷ rs) qs
+
+-- Case lists one by one; qs: the ranges afterwards. An empty list goes only where no range and no later list of its value stands.
+pub data CasesTo (as' : Arms) (qs : List SwitchRange) : List SwitchCase → List SwitchCase → Type 0 where
+  no_cases : CasesTo as' qs [] []
+  case_shrinks : {v : Value} {is : List ℕ} {cs ds : List SwitchCase} → CasesTo as' qs cs ds → CasesTo as' qs (record { value = v; arms = is } ∷ cs) (record { value = v; arms = left_arms as' is } ∷ ds)
+  empty_case_goes : {v : Value} {is : List ℕ} {cs ds : List SwitchCase} → qs ≡ [] → left_arms as' is ≡ [] → case_for ds v ≡ None → CasesTo as' qs cs ds → CasesTo as' qs (record { value = v; arms = is } ∷ cs) ds
 
 -- ---- tests
 
@@ -21,15 +32,8 @@ pub either : {R : Type 0} (a b : Bool) → a || b ≡ true → (a ≡ true → R
 either true b h f g = f refl
 either false b h f g = g h
 
-pub neither : (a b : Bool) → a || b ≡ false → (a ≡ false) × (b ≡ false)
-neither true b h = absurd (let z : true ≡ false = h in cc)
-neither false b h = (refl, h)
-
 pub is_below : (m n : ℕ) → nat_lt m n ≡ true → m < n
 is_below m n h = grind (arith, nat_tests)
-
-pub not_below : (m n : ℕ) → nat_lt m n ≡ false → n ≤ m
-not_below m n h = grind (arith, nat_tests)
 
 decides_false : (o : Option Bool) → is_that false o ≡ true → o ≡ Some false
 decides_false (Some false) h = refl
@@ -39,7 +43,7 @@ decides_false None h = absurd (let z : false ≡ true = h in cc)
 -- ---- ranges
 
 module _ (as' : Arms) where
-  ranges_to : (rs : List SwitchRange) → RangesTo as' rs (left_ranges as' rs)
+  pub ranges_to : (rs : List SwitchRange) → RangesTo as' rs (left_ranges as' rs)
   ranges_to [] = no_ranges
   ranges_to (r ∷ rs) = by (is_false_arm as' r.arm) refl (ranges_to rs) where
     by : (b : Bool) → is_false_arm as' r.arm ≡ b → RangesTo as' rs (left_ranges as' rs) → RangesTo as' (r ∷ rs) (cond b (left_ranges as' rs) (r ∷ left_ranges as' rs))
@@ -122,7 +126,7 @@ module _ (as' : Arms) where
   no_range [] h = refl
   no_range (q ∷ qs) h = absurd (let z : true ≡ false = h in cc)
 
-  cases_to : (qs : List SwitchRange) (keep : Bool) (cs : List SwitchCase) → keep ≡ has_some qs → AreDistinct cs → CasesTo as' qs cs (left_cases as' keep cs)
+  pub cases_to : (qs : List SwitchRange) (keep : Bool) (cs : List SwitchCase) → keep ≡ has_some qs → AreDistinct cs → CasesTo as' qs cs (left_cases as' keep cs)
   cases_to qs keep [] k d = no_cases
   cases_to qs keep (c ∷ cs) k d = by keep (left_arms as' c.arms) refl refl (cases_to qs keep cs k d.1) where
     by : (b : Bool) (l : List ℕ) → keep ≡ b → left_arms as' c.arms ≡ l → CasesTo as' qs cs (left_cases as' keep cs) → CasesTo as' qs (c ∷ cs) (cond (stays b l) (record { value = c.value; arms = left_arms as' c.arms } ∷ left_cases as' keep cs) (left_cases as' keep cs))
@@ -161,7 +165,7 @@ module _ (as' : Arms) (Q : ℕ → Type 0) where
 
 -- ---- tables
 
-table_lighter : (as' : Arms) (t : SwitchTable) → shrinks as' t ≡ true → table_weight (shrunk as' t) < table_weight t
+pub table_lighter : (as' : Arms) (t : SwitchTable) → shrinks as' t ≡ true → table_weight (shrunk as' t) < table_weight t
 table_lighter as' t h = by (has_false as' t.ranges) refl where
   by : (b : Bool) → has_false as' t.ranges ≡ b → table_weight (shrunk as' t) < table_weight t
   by true e = omega (arith, ranges_lighter as' t.ranges e, cases_light as' (has_some (left_ranges as' t.ranges)) t.cases)
@@ -171,8 +175,3 @@ table_lighter as' t h = by (has_false as' t.ranges) refl where
       let lists = subst (λ rs. lists_shrink as' (has_some rs) t.cases ≡ true) (sym (ranges_same as' t.ranges e)) q in
       omega (arith, ranges_light as' t.ranges, cases_lighter as' (has_some (left_ranges as' t.ranges)) t.cases lists))
       (λ q. absurd (let z : true ≡ false = sym q ∙ e in cc))
-
-pub table_shrinks : (as' : Arms) (t : SwitchTable) → AreDistinct t.cases → shrinks as' t ≡ true → (k : Context) (w : Bool) (e : Expr) → StmtRule k w (Switch e as' t) (Switch e as' (shrunk as' t))
-table_shrinks as' t d h k w e =
-    let qs = left_ranges as' t.ranges in
-    switch_shrinks (cases_to as' qs (has_some qs) t.cases refl d) (ranges_to as' t.ranges) (table_lighter as' t h)

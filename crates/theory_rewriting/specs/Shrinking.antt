@@ -1,5 +1,6 @@
 -- Tables of which something goes whatever the subject is.
-use Rattle.std.specs.Prelude.{ℕ, suc, Bool, true, false, not, ◌||◌, ◌&&◌, cond, List, [], ◌∷◌, length, nat_lt, Option, Some, None}
+use Rattle.std.specs.Prelude.{◌≡◌, ℕ, Bool, true, false, not, ◌||◌, ◌&&◌, cond, List, [], ◌∷◌, length, nat_lt, None}
+use Rattle.theory_meaning.specs.Control.{case_for}
 use Rattle.theory_meaning.specs.Tree.{Arms, SwitchCase, SwitchRange, SwitchTable}
 use Rattle.theory_rewriting.specs.Answering.{is_that}
 use Rattle.theory_rewriting.specs.Tables.{arm_of, arm_decides, left_arms}
@@ -26,16 +27,6 @@ has_some (r ∷ rs) = true
 abbrev pub loses_arms : Arms → List ℕ → Bool
 loses_arms as' is = nat_lt (length (left_arms as' is)) (length is)
 
--- how many come up to the first true one
-abbrev pub ends_with : Option Bool → ℕ → ℕ
-ends_with (Some true) n = 1
-ends_with (Some false) n = suc n
-ends_with None n = suc n
-
-abbrev pub end_of : Arms → List ℕ → ℕ
-end_of as' [] = 0
-end_of as' (i ∷ is) = ends_with (arm_decides (arm_of as' i)) (end_of as' is)
-
 abbrev pub is_none : List ℕ → Bool
 is_none [] = true
 is_none (i ∷ is) = false
@@ -53,6 +44,11 @@ stays keep is = keep || not (is_none is)
 abbrev pub left_cases : Arms → Bool → List SwitchCase → List SwitchCase
 left_cases as' keep [] = []
 left_cases as' keep (c ∷ cs) = cond (stays keep (left_arms as' c.arms)) (record { value = c.value; arms = left_arms as' c.arms } ∷ left_cases as' keep cs) (left_cases as' keep cs)
+
+-- no two stand for one value
+abbrev pub AreDistinct : List SwitchCase → Type 0
+AreDistinct [] = Unit {0}
+AreDistinct (c ∷ cs) = (case_for cs c.value ≡ None) × AreDistinct cs
 
 -- ---- tables
 

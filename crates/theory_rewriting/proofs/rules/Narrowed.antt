@@ -1,25 +1,21 @@
--- A table of which something goes over a constant subject, by the rule `switch_narrows`.
+-- A table of which something goes over a constant subject: what is chosen stays, and it is lighter.
 use Rattle.std.proofs.Common.{◌≡◌, ℕ, suc, ◌+◌, ◌<◌, ◌≤◌, Bool, true, false, cond, not, List, [], ◌∷◌, ◌++◌, Option, Some, None, length, refl, sym, ap, ◌∙◌, subst, arith}
-use Rattle.std.specs.Prelude.{◌||◌, ◌==◌}
+use Rattle.std.specs.Prelude.{◌||◌}
 use Rattle.std.specs.Option.{option_map}
-use Rattle.std.proofs.lemmas.Bool.Decides.{Decides-eqb}
 use Rattle.base_tokens.specs.Names.{are_all}
 use Rattle.rhai_base.specs.Value.{Value, same, is_hashable}
-use Rattle.theory_meaning.specs.Constants.{constant_value}
 use Rattle.theory_meaning.specs.Control.{holds, ranges_with, case_for, or_ranges, chosen}
-use Rattle.theory_meaning.specs.Shape.{names_arm, is_table}
-use Rattle.theory_meaning.specs.Tree.{Expr, Arms, SwitchCase, SwitchRange, SwitchTable, Switch}
+use Rattle.theory_meaning.specs.Shape.{is_table}
+use Rattle.theory_meaning.specs.Tree.{Arms, SwitchCase, SwitchRange, SwitchTable}
 use Rattle.theory_meaning.specs.Walk.{arms_of_cases, arms_of_ranges, arm_of_default, listed}
 use Rattle.theory_meaning.specs.Weight.{cases_weight, table_weight}
 use Rattle.theory_meaning.proofs.PureTrees.{split}
-use Rattle.theory_rewriting.specs.Context.{Context}
-use Rattle.theory_rewriting.specs.Rules.{StmtRule, switch_narrows}
 use Rattle.theory_rewriting.specs.Tables.{arm_of, arm_decides, left_with, left_arms}
+use Rattle.theory_rewriting.specs.Shrinking.{loses_arms, has_some}
+use Rattle.theory_rewriting.specs.Narrowing.{has_other, only_cases, range_with, only_ranges, loses_ranges, has_case, narrows_by, narrowed_by}
 use Rattle.theory_rewriting.proofs.rules.Arms.{AllArms, all_split, all_left}
 use Rattle.theory_rewriting.proofs.rules.Fitting.{Shrinks, join, fits_smaller}
-use Rattle.opt_switch.specs.Shrinking.{loses_arms, has_some}
-use Rattle.opt_switch.specs.Narrowing.{has_other, only_cases, range_with, only_ranges, loses_ranges, has_case, narrows_by, narrowed_by}
-use Rattle.opt_switch.proofs.Shrunk.{either, is_below, arms_light, join_arms}
+use Rattle.theory_rewriting.proofs.rules.Shrunk.{either, is_below, arms_light, join_arms}
 
 module _ (as' : Arms) (v : Value) where
   -- ---- what is chosen
@@ -96,7 +92,7 @@ module _ (as' : Arms) (v : Value) where
     by true k = within (arm_decides (arm_of as' r.arm)) k
     by false k = k
 
-  fits_narrowed : (t : SwitchTable) (o : Option (List ℕ)) → is_table as' t ≡ true → is_table as' (narrowed_by as' t v o) ≡ true
+  pub fits_narrowed : (t : SwitchTable) (o : Option (List ℕ)) → is_table as' t ≡ true → is_table as' (narrowed_by as' t v o) ≡ true
   fits_narrowed t (Some is) h = fits_smaller as' t (only_cases as' v t.cases) [] (λ p s. cases_kept p s t.cases) (λ p i. refl) h
   fits_narrowed t None h = fits_smaller as' t [] (only_ranges as' v t.ranges) (λ p s i. refl) (λ p. ranges_kept p t.ranges) h
 
@@ -150,7 +146,7 @@ module _ (as' : Arms) (v : Value) where
     by true k = within (arm_decides (arm_of as' r.arm)) k
     by false k = omega (arith, k)
 
-  narrowed_lighter : (t : SwitchTable) (o : Option (List ℕ)) → case_for t.cases v ≡ o → narrows_by as' t v o ≡ true → table_weight (narrowed_by as' t v o) < table_weight t
+  pub narrowed_lighter : (t : SwitchTable) (o : Option (List ℕ)) → case_for t.cases v ≡ o → narrows_by as' t v o ≡ true → table_weight (narrowed_by as' t v o) < table_weight t
   narrowed_lighter t (Some is) e h =
       either (loses_arms as' is) (has_some t.ranges || has_other v t.cases) h
       (λ q. omega (arith, list_goes t.cases is e q))
@@ -176,31 +172,9 @@ module _ (as' : Arms) (v : Value) where
   chosen_for : (t : SwitchTable) (o : Option (List ℕ)) → is_hashable v ≡ true → case_for t.cases v ≡ o → chosen t v ≡ or_ranges t v o
   chosen_for t o h e = ap (λ b. or_ranges t v (cond b (case_for t.cases v) None)) h ∙ ap (or_ranges t v) e
 
-  default_same : (t : SwitchTable) (o : Option (List ℕ)) → (narrowed_by as' t v o).default ≡ t.default
+  pub chosen_narrowed : (t : SwitchTable) (o : Option (List ℕ)) → is_hashable v ≡ true → case_for t.cases v ≡ o → chosen (narrowed_by as' t v o) v ≡ left_arms as' (chosen t v)
+  chosen_narrowed t o h e = chosen_same t o h e ∙ sym (ap (left_arms as') (chosen_for t o h e))
+
+  pub default_same : (t : SwitchTable) (o : Option (List ℕ)) → (narrowed_by as' t v o).default ≡ t.default
   default_same t (Some is) = refl
   default_same t None = refl
-
--- every arm of a list is of it
-pub named_all : (p : ℕ → Bool) (is : List ℕ) → ((i : ℕ) → names_arm i is ≡ true → p i ≡ true) → AllArms (λ i. p i ≡ true) is
-named_all p [] f = tt
-named_all p (i ∷ is) f = (
-  f i (ap (λ b. b || names_arm i is) ((Decides-eqb i i).1 refl)),
-  named_all p is (λ j h. f j (later (j == i) (names_arm j is) h)),
-) where
-  later : (a b : Bool) → b ≡ true → a || b ≡ true
-  later true b h = refl
-  later false b h = h
-
-all_told : (p : ℕ → Bool) (is : List ℕ) → AllArms (λ i. p i ≡ true) is → are_all p is ≡ true
-all_told p [] h = refl
-all_told p (i ∷ is) h = join (p i) (are_all p is) h.0 (all_told p is h.1)
-
-pub table_narrows : (as' : Arms) (t : SwitchTable) (v : Value) (o : Option (List ℕ)) → case_for t.cases v ≡ o → is_hashable v ≡ true → narrows_by as' t v o ≡ true → (k : Context) (w : Bool) (e : Expr) → constant_value e ≡ Some v → StmtRule k w (Switch e as' t) (Switch e as' (narrowed_by as' t v o))
-table_narrows as' t v o i h n k w e c =
-    let p : ℕ → Bool = λ j. names_arm j (listed t) in
-    switch_narrows v c
-    (chosen_same as' v t o h i ∙ sym (ap (left_arms as') (chosen_for as' v t o h i)))
-    (default_same as' v t o)
-    (all_told p (listed (narrowed_by as' t v o)) (listed_kept as' v (λ j. p j ≡ true) t o (named_all p (listed t) (λ j q. q))))
-    (fits_narrowed as' v t o)
-    (narrowed_lighter as' v t o i n)

@@ -1,0 +1,119 @@
+-- No rule applies at a statement that stays.
+use Rattle.std.proofs.Common.{◌≡◌, ◌<◌, Bool, true, false, not, ◌&&◌, ◌||◌, List, [], ◌∷◌, length, Option, Some, None, is_some, arith, refl, sym, ap, ◌∙◌}
+use Rattle.std.proofs.lemmas.Slice.Eq.{bytes_eq-Decides}
+use Rattle.rhai_base.specs.Operators.{Operator}
+use Rattle.rhai_base.specs.Value.{Text, Value, same_text}
+use Rattle.theory_meaning.specs.Constants.{constant_bool}
+use Rattle.theory_meaning.specs.Engine.{Engine, overrides_any, assigning}
+use Rattle.theory_meaning.specs.Queries.{are_internally_pure}
+use Rattle.theory_meaning.specs.Tree.{Callee, OfOperator, Expr, And, Stmt, If, While, Assignment, Block, TryCatch, ExprStmt, Share, Stmts}
+use Rattle.theory_rewriting.specs.Context.{Context, knowing}
+use Rattle.theory_rewriting.specs.Known.{Known, look, unless_known, unknown}
+use Rattle.theory_rewriting.specs.Operands.{is_and, ends_false}
+use Rattle.theory_rewriting.specs.Rules as rule
+use Rattle.theory_rewriting.specs.Rules.{StmtRule}
+use Rattle.theory_rewriting.specs.SelfAssign.{has_op_assignment, leaves_names}
+use Rattle.theory_rewriting.specs.Steps.{NoStmtRule}
+use Rattle.opt_steps.proofs.Places.{not-true}
+use Rattle.opt_stmts.specs.SettledAssignments.{knows_some, is_share, shares_nothing, is_settled_share, has_form, is_open, is_assignment, is_settled_assignment}
+use Rattle.opt_stmts.specs.SettledChoices.{is_if, is_settled_if, is_settled, goes_on, nests, is_nest}
+use Rattle.opt_stmts.specs.SettledStatements.{is_block, are_settled, is_settled_block, is_expression, stays, is_settled_expression, is_while, decided_loop, is_try, is_settled_try}
+use Rattle.opt_stmts.proofs.Choosing.{settled_if}
+
+both : (a b : Bool) → a ≡ true → b ≡ true → a && b ≡ true
+both true b h i = i
+both false b h i = absurd cc
+
+-- ---- blocks
+
+block_rules : {k : Context} {w : Bool} {x' : Stmt} (ss : Stmts) → are_settled ss ≡ true → StmtRule k w (Block ss) x' → ⊥
+block_rules _ h rule.block_empty = let z : false ≡ true = h in cc
+block_rules _ h (rule.block_of_statement d) = let z : false ≡ true = sym d ∙ h in cc
+
+pub block_settled : (k : Context) (x : Stmt) → is_block x ≡ true → is_settled_block x ≡ true → NoStmtRule k x
+block_settled k (Block ss) i h = λ w x' q. block_rules ss h q
+block_settled k _ i h = absurd cc
+
+-- ---- expression statements
+
+expression_rules : {k : Context} {w : Bool} {x' : Stmt} (e : Expr) → stays e ≡ true → StmtRule k w (ExprStmt e) x' → ⊥
+expression_rules _ h rule.statement_of_braces = let z : false ≡ true = h in cc
+expression_rules _ h rule.statement_of_call = let z : false ≡ true = h in cc
+
+pub expression_settled : (k : Context) (x : Stmt) → is_expression x ≡ true → is_settled_expression x ≡ true → NoStmtRule k x
+expression_settled k (ExprStmt e) i h = λ w x' q. expression_rules e h q
+expression_settled k _ i h = absurd cc
+
+-- ---- loops
+
+while_rules : {k : Context} {w : Bool} {x' : Stmt} (e : Expr) (b : Stmts) → constant_bool e ≡ None → StmtRule k w (While e b) x' → ⊥
+while_rules e b h (rule.while_false d) = let z : None ≡ Some false = sym h ∙ d in cc
+while_rules e b h (rule.while_true d) = let z : None ≡ Some true = sym h ∙ d in cc
+
+pub while_settled : (k : Context) (x : Stmt) → is_while x ≡ true → decided_loop x ≡ None → NoStmtRule k x
+while_settled k (While e b) i h = λ w x' q. while_rules e b h q
+while_settled k _ i h = absurd cc
+
+-- ---- `try`
+
+try_rules : {k : Context} {w : Bool} {x' : Stmt} (x : Expr) (a b : Stmts) → not (are_internally_pure a) ≡ true → StmtRule k w (TryCatch x a b) x' → ⊥
+try_rules x a b h (rule.pure_try p) = let z : false ≡ true = ap not (sym p) ∙ h in cc
+
+pub try_settled : (k : Context) (x : Stmt) → is_try x ≡ true → is_settled_try x ≡ true → NoStmtRule k x
+try_settled k (TryCatch x a b) i h = λ w x' q. try_rules x a b h q
+try_settled k _ i h = absurd cc
+
+-- ---- an `if`
+
+alone_goes_on : (c : Expr) → is_and c ≡ false → goes_on c ≡ true
+alone_goes_on (And es) h = absurd cc
+alone_goes_on _ h = refl
+
+if_rules : {k : Context} {w : Bool} {x' : Stmt} (c : Expr) (a b : Stmts) → is_settled_if c a b ≡ true → nests c a b ≡ false → StmtRule k w (If c a b) x' → ⊥
+if_rules _ _ _ h n rule.if_without_blocks = let z : false ≡ true = h in cc
+if_rules c a b h n (rule.if_decided {t} d) = let z : None ≡ Some t = sym (settled_if c a b h) ∙ d in cc
+if_rules c _ _ h n (rule.nested_if i) = let z : true ≡ false = sym (both (goes_on c) true (alone_goes_on c i) refl) ∙ n in cc
+if_rules _ _ _ h n (rule.nested_if_joins {es} i) = let z : true ≡ false = sym (both (not (ends_false es)) true (ap not i) refl) ∙ n in cc
+
+pub if_settled : (k : Context) (x : Stmt) → is_if x ≡ true → is_settled x ≡ true → is_nest x ≡ false → NoStmtRule k x
+if_settled k (If c a b) i h n = λ w x' q. if_rules c a b h n q
+if_settled k _ i h n = absurd cc
+
+-- ---- assignments
+
+same_self : (x : Text) → same_text x x ≡ true
+same_self x = (bytes_eq-Decides x x).1 refl
+
+-- `x = x op e`, where op has an `op=` that is open, doesn't stay
+assigns_so : (r : Engine) (op : Operator) (f : Callee) (x : Text) (e : Expr) → f.token ≡ OfOperator op → has_op_assignment op ≡ true → leaves_names e ≡ true → overrides_any r.overrides (assigning op) ≡ false → (same_text x x && leaves_names e) && (has_form f.token && is_open r f.token) ≡ true
+assigns_so r op f x e t a l o =
+    both _ _ (both _ _ (same_self x) l) (both _ _ (ap has_form t ∙ a) (ap (is_open r) t ∙ ap not o))
+
+assignment_rules : {w : Bool} {x' : Stmt} (r : Engine) (ks : List Known) (op : Option Operator) (l e : Expr) → is_settled_assignment r (Assignment op l e) ≡ true → StmtRule (knowing r ks) w (Assignment op l e) x' → ⊥
+assignment_rules r ks _ _ _ h (rule.self_assign {op} {f} {x} {e} t a l o) = let z : false ≡ true = ap not (sym (assigns_so r op f x e t a l o)) ∙ h in cc
+
+pub assignment_settled : (r : Engine) (ks : List Known) (x : Stmt) → is_assignment x ≡ true → is_settled_assignment r x ≡ true → NoStmtRule (knowing r ks) x
+assignment_settled r ks (Assignment op l e) i h = λ w x' q. assignment_rules r ks op l e h q
+assignment_settled r ks _ i h = absurd cc
+
+-- ---- shared names
+
+left_by : (o : Option Value) (b : Bool) (x : Text) (ys xs : List Text) → is_some o || b ≡ false → (b ≡ false → ys ≡ xs) → unless_known o x ys ≡ x ∷ xs
+left_by None b x ys xs h f = ap (λ (zs : List Text). x ∷ zs) (f h)
+left_by (Some v) b x ys xs h f = absurd cc
+
+-- where none is known all are left
+all_left : (ks : List Known) (xs : List Text) → knows_some ks xs ≡ false → unknown ks xs ≡ xs
+all_left ks [] h = refl
+all_left ks (x ∷ xs) h = left_by (look ks x) (knows_some ks xs) x (unknown ks xs) xs h (all_left ks xs)
+
+no_fewer : (ks : List Known) (xs : List Text) → not (knows_some ks xs) ≡ true → length (unknown ks xs) < length xs → ⊥
+no_fewer ks xs h l = let e = ap length (all_left ks xs (not-true (knows_some ks xs) h)) in omega arith
+
+share_rules : {w : Bool} {x' : Stmt} (k : Context) (xs : List Text) → shares_nothing (Share xs) ≡ false → not (knows_some k.known xs) ≡ true → StmtRule k w (Share xs) x' → ⊥
+share_rules k xs n h (rule.share_known l) = no_fewer k.known xs h l
+share_rules k _ n h rule.share_nothing = let z : true ≡ false = n in cc
+
+pub share_settled : (k : Context) (x : Stmt) → is_share x ≡ true → shares_nothing x ≡ false → is_settled_share k.known x ≡ true → NoStmtRule k x
+share_settled k (Share xs) i n h = λ w x' q. share_rules k xs n h q
+share_settled k _ i n h = absurd cc
