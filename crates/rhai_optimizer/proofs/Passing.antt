@@ -51,6 +51,20 @@ setting_none : {k : Context} {m : ℕ} {ss ss1 : Stmts} → m ≡ 0 → Setting 
 setting_none h no_pass = refl
 setting_none h (one_more {n = n} p q) = absurd (let e : suc n ≡ 0 = h in omega (arith, e))
 
+-- over what is finished no pass sets the flag
+falls_not : {k : Context} {ss ss1 ss' : Stmts} → IsFinished k ss → ss1 ≡ ss → StmtsTo k Whole false true ss1 ss' → ⊥
+falls_not {k = k} {ss' = ss'} f e q =
+    let z = f false true ss' (subst (λ z. StmtsTo k Whole false true z ss') e q) in
+    omega (arith, stmts_fall q, ap weight (z ∙ sym e))
+
+none_set : {k : Context} {n : ℕ} {ss ss1 : Stmts} → IsFinished k ss → Setting k n ss ss1 → n ≡ 0
+none_set f no_pass = refl
+none_set f (one_more p q) = absurd (falls_not f (setting_none (none_set f p) p) q)
+
+made_once : {k : Context} {n : ℕ} (ss ss' : Stmts) → IsFinished k ss → ScriptPasses k n ss ss' → n ≤ 1
+made_once no_stmts ss' f p = omega (arith, p.0)
+made_once (stmt s ss) ss' f (last_pass p q) = omega (arith, none_set f p)
+
 no_more : (n m k : ℕ) → n ≡ min m (2 ^ 64 - 1) → k ≡ min (n + 1) (2 ^ 64 - 1) → k ≤ 1 → m ≡ 0
 no_more n m k h j l = omega (arith, h, j, l)
 
@@ -100,6 +114,9 @@ finished_knowing {r = r} {ss = ss} e f = subst (λ ks. IsFinished (knowing r ks)
 
 pub counts_to : {k : Context} {n : ℕ} {ss ss' : Stmts} → Counts k n ss ss' → StmtsTo k Whole true true ss ss'
 counts_to {ss = ss} {ss' = ss'} c = script_passes_to c.made ss ss' c.passes
+
+pub counts_once : {k : Context} {n : ℕ} {ss ss' : Stmts} → IsFinished k ss → Counts k n ss ss' → n ≤ 1
+counts_once {ss = ss} {ss' = ss'} f c = omega (arith, c.saturated, made_once ss ss' f c.passes)
 
 pub counts_within : {k : Context} {n : ℕ} {ss ss' : Stmts} → Counts k n ss ss' → PassesWithin n ss ss'
 counts_within {k = k} {n = n} {ss = ss} {ss' = ss'} c =

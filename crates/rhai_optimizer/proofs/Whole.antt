@@ -1,5 +1,5 @@
 -- The promise over a whole script, from what was made of its parts.
-use Rattle.std.proofs.Common.{◌≡◌, ◌≢◌, ◌⊎◌, inl, inr, ℕ, suc, arith, length, not, Bool, true, false, List, [], ◌∷◌, map, cond, if◌then◌else◌, None, refl, sym, ap, ◌∙◌, subst}
+use Rattle.std.proofs.Common.{◌≡◌, ◌≢◌, ◌⊎◌, inl, inr, ℕ, suc, arith, length, not, Bool, true, false, List, [], ◌∷◌, map, cond, if◌then◌else◌, refl, sym, ap, ◌∙◌, subst}
 use Rattle.std.specs.Prelude.{◌&&◌, ◌==◌}
 use Rattle.std.specs.Rc.{rc_value}
 use Rattle.std.specs.declared.alloc.Global.{Global}
@@ -40,7 +40,7 @@ use Rattle.rhai_optimizer.specs.Functions.{header_of, FunctionsRun, no_functions
 use Rattle.rhai_optimizer.specs.Optimised.{optimises_nothing, AreReducedBodies, Becomes, BodiesAgain, BodiesRun, IsReducedScript, Optimised, PartsOnce, PartsOptimised, PartsReduced, PassesCounted}
 use Rattle.rhai_optimizer.specs.Source.{source_of}
 use Rattle.rhai_optimizer.proofs.Bodies.{table_run, functions_to, same_headers, bodies_reduced, bodies_finished, all_stay, same_keys}
-use Rattle.rhai_optimizer.proofs.Passing.{counts_to, counts_within}
+use Rattle.rhai_optimizer.proofs.Passing.{counts_to, counts_once, counts_within}
 
 -- ---- where no function captures, none of a table does
 
@@ -288,7 +288,7 @@ module _ {r : Engine} {start : List ScopeEntry} {ss : List Stmt} {fs : List (Rc 
     }
 
   pub passes_counted : (l : OptimizationLevel) → PartsOptimised r start l ss fs ss' fs' number → PassesCounted r start l (stmts_of ss) (stmts_of ss') number
-  passes_counted l p = record { made = λ h. (p.some h).counts; within = λ h. counts_within (p.some h).counts; none = λ h. (p.none h).1.1 }
+  passes_counted l p = record { made = λ h. (p.some h).counts; within = λ h. counts_within (p.some h).counts; once = λ h f. counts_once f (p.some h).counts; none = λ h. (p.none h).1.1 }
 
 -- ---- at a level
 

@@ -1,5 +1,5 @@
 -- The promise of the optimiser.
-use Rattle.std.specs.Prelude.{◌≡◌, ◌≢◌, ◌⊎◌, ℕ, Bool, true, false, List, [], ◌∷◌, map, None}
+use Rattle.std.specs.Prelude.{◌≡◌, ◌≢◌, ◌≤◌, ◌⊎◌, ℕ, Bool, true, false, List, [], ◌∷◌, map, None}
 use Rattle.std.specs.Rc.{rc_value}
 use Rattle.std.specs.declared.alloc.Global.{Global}
 use Rattle.std.specs.declared.rc.Rc.{Rc}
@@ -98,8 +98,9 @@ pub record PartsOptimised (r : Engine) (start : List ScopeEntry) (l : Optimizati
   pub some : l ≢ level.None → PartsReduced r start ss fs ss' fs' number
   pub none : l ≡ level.None → (ss' ≡ ss) × ((map rc_value fs' ≡ map rc_value fs) × (number ≡ 0))
 
--- the number of passes over the statements
+-- the number of passes over the statements: over what is finished one, which changes nothing
 pub record PassesCounted (r : Engine) (start : List ScopeEntry) (l : OptimizationLevel) (ss ss' : Stmts) (number : ℕ) : Type 0 where
   pub made : l ≢ level.None → Counts (knowing r (known_at_top r start)) number ss ss'
   pub within : l ≢ level.None → PassesWithin number ss ss'
+  pub once : l ≢ level.None → IsFinished (knowing r (known_at_top r start)) ss → number ≤ 1
   pub none : l ≡ level.None → number ≡ 0

@@ -118,7 +118,7 @@ fn optimize_parts_at<'a>(
 
 /// The script of `optimize_into_ast`, which hands it on, with the number of passes that were made over the statements:
 /// the last one changed nothing, each one before it made them lighter. It is 0 for no statements and at level `None`,
-/// and stays at the greatest that fits.
+/// 1 for statements in normal form, and stays at the greatest that fits.
 pub fn optimize_counted(
     alloc: Global,
     info: &EngineInfo,
@@ -146,8 +146,10 @@ pub fn optimize_counted(
 /// The script of these statements and functions, optimised at a level: it does what they do, entered at its statements
 /// or at any of its functions, where a run starts with a scope that agrees with the one given and with the record, as
 /// that one does. Statements and bodies are optimised; at level `None` they come out as they went in. Functions keep
-/// all else. The script has no source and no doc, and its table no id. Where a key comes twice among the functions the
-/// later one takes the earlier one's place. Refused for want of memory alone; then no script is handed out.
+/// all else. Above `None` no rule applies anywhere in the script, so that optimised again, with the same record and
+/// scope, it comes back as it is. It has no source and no doc, and its table no id. Where a key comes twice among the
+/// functions the later one takes the earlier one's place. Refused for want of memory alone; then no script is handed
+/// out.
 ///
 /// A method of `Engine` in rhai. There an overridden `!` is folded too, and the level `Full` asks the host.
 pub fn optimize_into_ast(
