@@ -10,6 +10,7 @@ use Rattle.theory_meaning.specs.Tree.{Block, Noop, no_stmts, stmt}
 use Rattle.ast_types.specs.Positions.{StmtLayer}
 use Rattle.ast_types.specs.Reading.{stmt_of, stmt_of-Block, stmt_of-Noop}
 use Rattle.ast_nodes.specs.Blocks.{block_in, block_made_of, block_of_one, followed_at}
+use Rattle.ast_types.proofs.OtherKinds.{NoNoop, NoBlock}
 
 other_in : (s : Stmt) (x : StmtLayer) → ((p : Position) → views.roll-Stmt x ≡ stmt_kind.Noop p → ⊥) → ((b : StmtBlock) → views.roll-Stmt x ≡ stmt_kind.Block b → ⊥)
     → block_of_one s ≡ block_in s x
@@ -17,7 +18,7 @@ other_in s (open_one.Noop p) nothing block = absurd (nothing p (stmt_kind.rolls-
 other_in s (open_one.Block b) nothing block = absurd (block b (stmt_kind.rolls-Block b))
 other_in s _ nothing block = refl
 
-pub block_of_other : (s : Stmt) → ((p : Position) → s ≡ stmt_kind.Noop p → ⊥) → ((b : StmtBlock) → s ≡ stmt_kind.Block b → ⊥) → block_of_one s ≡ block_made_of s
+pub block_of_other : (s : Stmt) → NoNoop s → NoBlock s → block_of_one s ≡ block_made_of s
 unfolding block_made_of
 block_of_other s nothing block = other_in s (views.out-Stmt s) (λ p e. nothing p (sym (views.roll-out-Stmt s) ∙ e)) (λ b e. block b (sym (views.roll-out-Stmt s) ∙ e))
 

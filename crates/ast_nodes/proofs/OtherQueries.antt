@@ -1,27 +1,14 @@
 -- All other nodes, where a match names some.
-use Rattle.std.proofs.Common.{◌≡◌, Bool, false, Option, refl}
-use Rattle.std.specs.declared.num.NonZeroUsize.{NonZeroUsize}
-use Rattle.base_tokens.specs.declared.flags.ASTFlags.{ASTFlags}
-use Rattle.base_tokens.specs.declared.ident.Ident.{Ident}
-use Rattle.base_tokens.specs.declared.position.Position.{Position}
-use Rattle.ast_types.specs.declared.block.StmtBlock.{StmtBlock}
+use Rattle.std.proofs.Common.{◌≡◌, Bool, false, refl}
 use Rattle.ast_types.specs.declared.expr.Expr as declared_expr
-use Rattle.ast_types.specs.declared.expr.Expr.TheVariants as expr_kind
-use Rattle.ast_types.specs.declared.expr.FnCallExpr.{FnCallExpr}
 use Rattle.ast_types.specs.declared.stmt.Stmt as declared_stmt
-use Rattle.ast_types.specs.declared.stmt.Stmt.TheVariants as stmt_kind
 use Rattle.theory_meaning.specs.Queries.{is_block_dependent, is_dependent_expr, is_internally_pure, is_internally_pure_expr, is_literally, is_pure, is_pure_expr}
 use Rattle.theory_meaning.specs.Tree.{Expr, Stmt}
 use Rattle.ast_types.proofs.Cases.{ExprCase, bool_constant_case, braces_case, call_case, StmtCase, call_statement_case, export_case, expression_case, import_case, var_case}
+use Rattle.ast_types.proofs.OtherKinds.{NoBraces, NoCall, NoVar, NoImport, NoExport, NoExpression, NoBool, NoCallStatement}
 
 -- it is none of these
-abbrev NoBraces : declared_expr.Expr → Type 0
-NoBraces x = (b : StmtBlock) → x ≡ expr_kind.Stmt b → ⊥
-
-abbrev NoCall : declared_expr.Expr → Type 0
-NoCall x = (c : FnCallExpr) (p : Position) → x ≡ expr_kind.FnCall c p → ⊥
-
-pub no_literal : {x : declared_expr.Expr} {e : Expr} (b : Bool) → ExprCase x e → ((c : Bool) (p : Position) → x ≡ expr_kind.BoolConstant c p → ⊥) → false ≡ is_literally b e
+pub no_literal : {x : declared_expr.Expr} {e : Expr} (b : Bool) → ExprCase x e → NoBool x → false ≡ is_literally b e
 no_literal b (bool_constant_case c p) l = absurd (l c p refl)
 no_literal b _ l = refl
 
@@ -36,19 +23,7 @@ pure_alone _ l = refl
 
 -- ---- statements
 
-abbrev NoVar : declared_stmt.Stmt → Type 0
-NoVar x = (v : Ident × declared_expr.Expr × Option NonZeroUsize) (k : ASTFlags) (p : Position) → x ≡ stmt_kind.Var v k p → ⊥
-
-abbrev NoImport : declared_stmt.Stmt → Type 0
-NoImport x = (m : declared_expr.Expr × Ident) (p : Position) → x ≡ stmt_kind.Import m p → ⊥
-
-abbrev NoExport : declared_stmt.Stmt → Type 0
-NoExport x = (n : Ident × Ident) (p : Position) → x ≡ stmt_kind.Export n p → ⊥
-
-abbrev NoExpr : declared_stmt.Stmt → Type 0
-NoExpr x = (e : declared_expr.Expr) → x ≡ stmt_kind.Expr e → ⊥
-
-pub independent : {x : declared_stmt.Stmt} {s : Stmt} → StmtCase x s → NoVar x → NoImport x → NoExport x → ((c : FnCallExpr) (p : Position) → x ≡ stmt_kind.FnCall c p → ⊥) → NoExpr x → false ≡ is_block_dependent s
+pub independent : {x : declared_stmt.Stmt} {s : Stmt} → StmtCase x s → NoVar x → NoImport x → NoExport x → NoCallStatement x → NoExpression x → false ≡ is_block_dependent s
 independent (var_case v k p) a b c d e = absurd (a v k p refl)
 independent (import_case m p) a b c d e = absurd (b m p refl)
 independent (export_case n p) a b c d e = absurd (c n p refl)
@@ -56,7 +31,7 @@ independent (call_statement_case f p) a b c d e = absurd (d f p refl)
 independent (expression_case x) a b c d e = absurd (e x refl)
 independent _ a b c d e = refl
 
-pub pure_statement : {x : declared_stmt.Stmt} {s : Stmt} → StmtCase x s → NoVar x → NoExpr x → NoImport x → NoExport x → is_pure s ≡ is_internally_pure s
+pub pure_statement : {x : declared_stmt.Stmt} {s : Stmt} → StmtCase x s → NoVar x → NoExpression x → NoImport x → NoExport x → is_pure s ≡ is_internally_pure s
 pure_statement (var_case v k p) a b c d = absurd (a v k p refl)
 pure_statement (expression_case x) a b c d = absurd (b x refl)
 pure_statement (import_case m p) a b c d = absurd (c m p refl)

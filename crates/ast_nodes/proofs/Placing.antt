@@ -74,27 +74,30 @@ same_stmt p s = same_stmt_in p (views.out-Stmt s) ∙ ap stmt_of (views.roll-out
 
 -- ---- it stands there
 
+stands : (e : declared_expr.Expr) {x : ExprLayer} → views.out-Expr e ≡ x → position_of e ≡ positions.position_in x
+stands e h = positions.position_of-is e ∙ ap positions.position_in h
+
 there_in : (p : Position) (x : ExprLayer) → position_of (placed_in p x) ≡ p
-there_in p (open_one.DynamicConstant v q) = positions.position_of-DynamicConstant v p
-there_in p (open_one.BoolConstant b q) = positions.position_of-BoolConstant b p
-there_in p (open_one.IntegerConstant n q) = positions.position_of-IntegerConstant n p
-there_in p (open_one.CharConstant c q) = positions.position_of-CharConstant c p
-there_in p (open_one.StringConstant t q) = positions.position_of-StringConstant t p
-there_in p (open_one.InterpolatedString xs q) = positions.position_of-InterpolatedString xs p
-there_in p (open_one.Array xs q) = positions.position_of-Array xs p
-there_in p (open_one.Map m q) = positions.position_of-Map m p
-there_in p (open_one.Unit q) = positions.position_of-Unit p
-there_in p (open_one.Variable x short q) = positions.position_of-Variable x short p
-there_in p (open_one.ThisPtr q) = positions.position_of-ThisPtr p
-there_in p (open_one.Property x q) = positions.position_of-Property x p
-there_in p (open_one.MethodCall c q) = positions.position_of-MethodCall c p
-there_in p (open_one.Stmt b) = positions.position_of-Stmt (with_span (record { start = p; end = nowhere }) b)
-there_in p (open_one.Expr::FnCall c q) = positions.position_of-FnCall c p
-there_in p (open_one.Dot x k q) = positions.position_of-Dot x k p
-there_in p (open_one.Index x k q) = positions.position_of-Index x k p
-there_in p (open_one.And xs q) = positions.position_of-And xs p
-there_in p (open_one.Or xs q) = positions.position_of-Or xs p
-there_in p (open_one.Coalesce xs q) = positions.position_of-Coalesce xs p
+there_in p (open_one.DynamicConstant v q) = stands _ (positions.opens-Expr-DynamicConstant v p)
+there_in p (open_one.BoolConstant b q) = stands _ (positions.opens-Expr-BoolConstant b p)
+there_in p (open_one.IntegerConstant n q) = stands _ (positions.opens-Expr-IntegerConstant n p)
+there_in p (open_one.CharConstant c q) = stands _ (positions.opens-Expr-CharConstant c p)
+there_in p (open_one.StringConstant t q) = stands _ (positions.opens-Expr-StringConstant t p)
+there_in p (open_one.InterpolatedString xs q) = stands _ (positions.opens-Expr-InterpolatedString xs p)
+there_in p (open_one.Array xs q) = stands _ (positions.opens-Expr-Array xs p)
+there_in p (open_one.Map m q) = stands _ (positions.opens-Expr-Map m p)
+there_in p (open_one.Unit q) = stands _ (positions.opens-Expr-Unit p)
+there_in p (open_one.Variable x short q) = stands _ (positions.opens-Expr-Variable x short p)
+there_in p (open_one.ThisPtr q) = stands _ (positions.opens-Expr-ThisPtr p)
+there_in p (open_one.Property x q) = stands _ (positions.opens-Expr-Property x p)
+there_in p (open_one.MethodCall c q) = stands _ (positions.opens-Expr-MethodCall c p)
+there_in p (open_one.Stmt b) = stands _ (positions.opens-Expr-Stmt (with_span (record { start = p; end = nowhere }) b))
+there_in p (open_one.Expr::FnCall c q) = stands _ (positions.opens-Expr-FnCall c p)
+there_in p (open_one.Dot x k q) = stands _ (positions.opens-Expr-Dot x k p)
+there_in p (open_one.Index x k q) = stands _ (positions.opens-Expr-Index x k p)
+there_in p (open_one.And xs q) = stands _ (positions.opens-Expr-And xs p)
+there_in p (open_one.Or xs q) = stands _ (positions.opens-Expr-Or xs p)
+there_in p (open_one.Coalesce xs q) = stands _ (positions.opens-Expr-Coalesce xs p)
 
 pub placed_there : (p : Position) (e : declared_expr.Expr) → position_of (placed p e) ≡ p
 unfolding placed

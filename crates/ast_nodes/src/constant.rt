@@ -48,7 +48,7 @@ fn for_whole(alloc: Global, value: Dynamic, pos: Position) -> Result<Expr, OutOf
         Ok(text) => Ok(Expr::StringConstant(text, pos)),
         Err(value) => match value.into_fn_ptr() {
             Ok(pointer) => for_pointer(alloc, pointer, pos),
-            Err(value) => hold(alloc, value, pos),
+            Err(value) => dynamic_constant(alloc, value, pos),
         },
     }
 }
@@ -63,13 +63,13 @@ fn for_pointer(alloc: Global, pointer: FnPtr, pos: Position) -> Result<Expr, Out
     ensures arguments { IfOk result (λ e. AreAt pos (arguments_of e)) }
 {
     if pointer.is_curried() {
-        return hold(alloc, Dynamic::FnPtr(pointer), pos);
+        return dynamic_constant(alloc, Dynamic::FnPtr(pointer), pos);
     }
     pointer_call(alloc, pointer.into_name(), pos)
 }
 
-/// A value as a constant that no other constant stands for.
-fn hold(alloc: Global, value: Dynamic, pos: Position) -> Result<Expr, OutOfMemory>
+/// The constant that holds a value as it is.
+pub fn dynamic_constant(alloc: Global, value: Dynamic, pos: Position) -> Result<Expr, OutOfMemory>
     ensures value { IfOk result (λ e. expr_of e ≡ DynamicConstant (value_of value)) }
     ensures position { IfOk result (λ e. position_of e ≡ pos) }
     ensures arguments { IfOk result (λ e. arguments_of e ≡ []) }

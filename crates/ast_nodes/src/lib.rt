@@ -14,9 +14,9 @@ mod taken;
 
 pub use block::{block_from, if_answers};
 pub use call::call_expression;
-pub use constant::constant_for;
+pub use constant::{constant_for, dynamic_constant};
 pub use drain::{StmtDrain, push_stmt};
-pub use literals::{constant_value, literal_value};
+pub use literals::{constant_value, literal_value, owned};
 pub use making::{
     block_statement, blocks_of, expression_statement, followed_by_nothing, only_statement,
     put_expr, put_stmt, statements_of,

@@ -96,7 +96,8 @@ fn lend_value(alloc: Global, expr: &Expr) -> Result<Option<Cow<'_, Dynamic>>, Ou
     }
 }
 
-fn owned(value: Cow<'_, Dynamic>) -> Result<Dynamic, OutOfMemory>
+/// A value that was lent or is held, as one that is held.
+pub fn owned(value: Cow<'_, Dynamic>) -> Result<Dynamic, OutOfMemory>
     ensures { IfOk result (λ v. v ≡ cow_value value.entry) }
 {
     Ok(value.into_owned()?)

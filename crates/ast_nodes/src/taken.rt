@@ -23,6 +23,7 @@ pub fn value_of_constant(alloc: Global, expr: Expr) -> Result<Dynamic, OutOfMemo
 {
     match taken_value(alloc, expr)? {
         Some(value) => Ok(value),
+        // It is a constant, as is asked by reference before it is taken out.
         None => unreachable!(),
     }
 }

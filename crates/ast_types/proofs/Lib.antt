@@ -1,3 +1,4 @@
 pub mod Cases
+pub mod OtherKinds
 pub mod ItemLists
 pub mod Ranges

@@ -1,5 +1,5 @@
 //! A list that contracts see as its items.
-ghost use Rattle.std.specs.Prelude.{◌≡◌, ◌≢◌, [], ◌∷◌, ◌++◌, ◌<◌, ◌≤◌, ◌^◌, length, slice_index_or, ◌↔◌, IsTrue, IfOk, MatchOption, OnOk, OnErr};
+ghost use Rattle.std.specs.Prelude.{◌≡◌, ◌≢◌, [], ◌∷◌, ◌++◌, ◌<◌, ◌≤◌, ◌^◌, ◌+◌, length, take, drop, slice_index_or, ◌↔◌, IsTrue, IfOk, MatchOption, OnOk, OnErr};
 ghost use Rattle.std.specs.List.{AllZip};
 ghost use Rattle.std.specs.Borrow.{sem};
 ghost use Rattle.std.specs.Iterator.Runs.{EveryRun, ItemsMapTo};
@@ -129,6 +129,20 @@ impl<T> Seq<T> {
         self.items.get_mut(index)
     }
 
+    /// Moves an item down to a place, in exchange for the one there.
+    pub fn move_down(&mut self, from: usize, to: usize)
+        requires below { to ≤ from }
+        requires inside { from < length self.old }
+        ensures front { (d : T) → take (to + 1) self.new ≡ take to self.old ++ slice_index_or self.old from d ∷ [] }
+        ensures back { drop (from + 1) self.new ≡ drop (from + 1) self.old }
+        ensures len { length self.new ≡ length self.old }
+        ensures same { to ≡ from → self.new ≡ self.old }
+    {
+        if to < from {
+            self.as_mut_slice().swap(to, from);
+        }
+    }
+
     /// How many items it has.
     pub fn len(&self) -> usize
         ensures { result ≡ length self.now }
@@ -169,6 +183,13 @@ impl<T: Drop> Seq<T> {
     {
         self.items.append(&mut items)?;
         Ok(())
+    }
+
+    /// Keeps the first items, so many.
+    pub fn truncate(&mut self, len: usize)
+        ensures { self.new ≡ take len self.old }
+    {
+        self.items.truncate(len);
     }
 
     /// The item of a list of one.

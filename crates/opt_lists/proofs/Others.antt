@@ -1,29 +1,19 @@
 -- All other nodes, where a match names some.
-use Rattle.std.proofs.Common.{◌≡◌, false, Option, refl}
-use Rattle.std.specs.declared.num.NonZeroU8.{NonZeroU8}
-use Rattle.std.specs.declared.num.NonZeroUsize.{NonZeroUsize}
-use Rattle.base_tokens.specs.declared.flags.ASTFlags.{ASTFlags}
-use Rattle.base_tokens.specs.declared.namespace.Namespace.{Namespace}
-use Rattle.base_tokens.specs.declared.position.Position.{Position}
-use Rattle.rhai_base.specs.Value.{Text}
+use Rattle.std.proofs.Common.{◌≡◌, false, refl}
 use Rattle.ast_types.specs.declared.expr.Expr as declared_expr
-use Rattle.ast_types.specs.declared.expr.Expr.TheVariants as expr_kind
 use Rattle.ast_types.specs.declared.stmt.Stmt as declared_stmt
-use Rattle.ast_types.specs.declared.stmt.Stmt.TheVariants as stmt_kind
 use Rattle.theory_meaning.specs.Tree.{Expr, Stmt}
 use Rattle.ast_types.proofs.Cases.{ExprCase, StmtCase, variable_case, expression_case, return_case}
 use Rattle.opt_lists.specs.Sweep.{is_name, is_lone, whole_returns_value, whole_returns_nothing}
+use Rattle.ast_types.proofs.OtherKinds.{NoReturn, NoVariable, NoExpression}
 
-pub no_name : {x : declared_expr.Expr} {e : Expr} → ExprCase x e → ((v : Option NonZeroUsize × Text × Namespace) (short : Option NonZeroU8) (p : Position) → x ≡ expr_kind.Variable v short p → ⊥) → false ≡ is_name e
+pub no_name : {x : declared_expr.Expr} {e : Expr} → ExprCase x e → NoVariable x → false ≡ is_name e
 no_name (variable_case v short p) a = absurd (a v short p refl)
 no_name _ a = refl
 
-pub no_lone : {x : declared_stmt.Stmt} {s : Stmt} → StmtCase x s → ((e : declared_expr.Expr) → x ≡ stmt_kind.Expr e → ⊥) → false ≡ is_lone s
+pub no_lone : {x : declared_stmt.Stmt} {s : Stmt} → StmtCase x s → NoExpression x → false ≡ is_lone s
 no_lone (expression_case e) a = absurd (a e refl)
 no_lone _ a = refl
-
-abbrev NoReturn : declared_stmt.Stmt → Type 0
-NoReturn x = (e : Option declared_expr.Expr) (k : ASTFlags) (p : Position) → x ≡ stmt_kind.Return e k p → ⊥
 
 pub no_return_of_value : {x : declared_stmt.Stmt} {s : Stmt} → StmtCase x s → NoReturn x → false ≡ whole_returns_value s
 no_return_of_value (return_case e k p) a = absurd (a e k p refl)

@@ -108,6 +108,7 @@ fn expression_of(statement: Stmt) -> Stmt
     match statement {
         Stmt::Return(expr, _, _) => match expr {
             Some(expr) => Stmt::Expr(expr),
+            // a `return` of a value, as was asked by reference before it was taken out
             None => unreachable!(),
         },
         _ => unreachable!(),
@@ -120,6 +121,7 @@ fn bare(list: &mut Seq<Stmt>, at: usize)
     ensures { (d : Stmt) → BaredAt at list.old list.new (slice_index_or list.old at d) }
 {
     let Some(place) = list.get_mut(at) else {
+        // it is below the length
         unreachable!()
     };
     let statement = replace(place, Stmt::Noop(Position::NONE));

@@ -1,17 +1,7 @@
 -- All other nodes, where a match names some.
-use Rattle.std.proofs.Common.{◌≡◌, true, false, Option, refl}
-use Rattle.std.specs.declared.num.NonZeroUsize.{NonZeroUsize}
-use Rattle.base_tokens.specs.declared.flags.ASTFlags.{ASTFlags}
-use Rattle.base_tokens.specs.declared.ident.Ident.{Ident}
-use Rattle.base_tokens.specs.declared.op_assignment.OpAssignment.{OpAssignment}
-use Rattle.base_tokens.specs.declared.position.Position.{Position}
-use Rattle.ast_types.specs.declared.expr.BinaryExpr.{BinaryExpr}
+use Rattle.std.proofs.Common.{◌≡◌, true, false, refl}
 use Rattle.ast_types.specs.declared.expr.Expr as declared_expr
-use Rattle.ast_types.specs.declared.expr.Expr.TheVariants as expr_kind
-use Rattle.ast_types.specs.declared.expr.FnCallExpr.{FnCallExpr}
-use Rattle.ast_types.specs.declared.stmt.FlowControl.{FlowControl}
 use Rattle.ast_types.specs.declared.stmt.Stmt as declared_stmt
-use Rattle.ast_types.specs.declared.stmt.Stmt.TheVariants as stmt_kind
 use Rattle.theory_meaning.specs.Tree.{Expr, Stmt}
 use Rattle.theory_meaning.specs.Walk.{OfExpr, OfStmt}
 use Rattle.ast_types.proofs.Cases.{ExprCase, StmtCase, call_case, call_statement_case, noop_case, while_case, do_case, for_case, var_case, assignment_case, try_catch_case, break_loop_case, export_case}
@@ -19,29 +9,30 @@ use Rattle.theory_rewriting.specs.Evals.{is_no_eval}
 use Rattle.theory_rewriting.specs.Scripts.{is_capturing}
 use Rattle.theory_rewriting.specs.SurelyUnit.{is_surely_unit}
 use Rattle.opt_queries.specs.Walks.{stmt_carries_nothing, stmt_is_no_export}
+use Rattle.ast_types.proofs.OtherKinds.{NoBreak, NoVar, NoExport, NoNoop, NoWhile, NoDo, NoFor, NoAssignment, NoTry, NoCall, NoCallStatement}
 
 pub no_break : {x : declared_stmt.Stmt} {s : Stmt} → StmtCase x s
-    → ((e : Option declared_expr.Expr) (k : ASTFlags) (p : Position) → x ≡ stmt_kind.BreakLoop e k p → ⊥)
+    → NoBreak x
     → true ≡ stmt_carries_nothing s
 no_break (break_loop_case e k p) a = absurd (a e k p refl)
 no_break _ a = refl
 
 pub no_export : {x : declared_stmt.Stmt} {s : Stmt} → StmtCase x s
-    → ((v : Ident × declared_expr.Expr × Option NonZeroUsize) (k : ASTFlags) (p : Position) → x ≡ stmt_kind.Var v k p → ⊥)
-    → ((v : Ident × Ident) (p : Position) → x ≡ stmt_kind.Export v p → ⊥)
+    → NoVar x
+    → NoExport x
     → true ≡ stmt_is_no_export s
 no_export (var_case v k p) a b = absurd (a v k p refl)
 no_export (export_case v p) a b = absurd (b v p refl)
 no_export _ a b = refl
 
 pub no_unit : {x : declared_stmt.Stmt} {s : Stmt} → StmtCase x s
-    → ((p : Position) → x ≡ stmt_kind.Noop p → ⊥)
-    → ((f : FlowControl) (p : Position) → x ≡ stmt_kind.While f p → ⊥)
-    → ((f : FlowControl) (k : ASTFlags) (p : Position) → x ≡ stmt_kind.Do f k p → ⊥)
-    → ((f : Ident × Option Ident × FlowControl) (p : Position) → x ≡ stmt_kind.For f p → ⊥)
-    → ((v : Ident × declared_expr.Expr × Option NonZeroUsize) (k : ASTFlags) (p : Position) → x ≡ stmt_kind.Var v k p → ⊥)
-    → ((a : OpAssignment × BinaryExpr) → x ≡ stmt_kind.Assignment a → ⊥)
-    → ((f : FlowControl) (p : Position) → x ≡ stmt_kind.TryCatch f p → ⊥)
+    → NoNoop x
+    → NoWhile x
+    → NoDo x
+    → NoFor x
+    → NoVar x
+    → NoAssignment x
+    → NoTry x
     → false ≡ is_surely_unit s
 no_unit (noop_case p) a b c d e f g = absurd (a p refl)
 no_unit (while_case x p) a b c d e f g = absurd (b x p refl)
@@ -52,18 +43,18 @@ no_unit (assignment_case x) a b c d e f g = absurd (f x refl)
 no_unit (try_catch_case x p) a b c d e f g = absurd (g x p refl)
 no_unit _ a b c d e f g = refl
 
-pub no_call : {x : declared_expr.Expr} {e : Expr} → ExprCase x e → ((c : FnCallExpr) (p : Position) → x ≡ expr_kind.FnCall c p → ⊥) → false ≡ is_capturing (OfExpr e)
+pub no_call : {x : declared_expr.Expr} {e : Expr} → ExprCase x e → NoCall x → false ≡ is_capturing (OfExpr e)
 no_call (call_case f p) a = absurd (a f p refl)
 no_call _ a = refl
 
-pub no_call_statement : {x : declared_stmt.Stmt} {s : Stmt} → StmtCase x s → ((c : FnCallExpr) (p : Position) → x ≡ stmt_kind.FnCall c p → ⊥) → false ≡ is_capturing (OfStmt s)
+pub no_call_statement : {x : declared_stmt.Stmt} {s : Stmt} → StmtCase x s → NoCallStatement x → false ≡ is_capturing (OfStmt s)
 no_call_statement (call_statement_case f p) a = absurd (a f p refl)
 no_call_statement _ a = refl
 
-pub no_eval_call : {x : declared_expr.Expr} {e : Expr} → ExprCase x e → ((c : FnCallExpr) (p : Position) → x ≡ expr_kind.FnCall c p → ⊥) → true ≡ is_no_eval (OfExpr e)
+pub no_eval_call : {x : declared_expr.Expr} {e : Expr} → ExprCase x e → NoCall x → true ≡ is_no_eval (OfExpr e)
 no_eval_call (call_case f p) a = absurd (a f p refl)
 no_eval_call _ a = refl
 
-pub no_eval_statement : {x : declared_stmt.Stmt} {s : Stmt} → StmtCase x s → ((c : FnCallExpr) (p : Position) → x ≡ stmt_kind.FnCall c p → ⊥) → true ≡ is_no_eval (OfStmt s)
+pub no_eval_statement : {x : declared_stmt.Stmt} {s : Stmt} → StmtCase x s → NoCallStatement x → true ≡ is_no_eval (OfStmt s)
 no_eval_statement (call_statement_case f p) a = absurd (a f p refl)
 no_eval_statement _ a = refl

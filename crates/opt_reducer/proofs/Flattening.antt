@@ -1,7 +1,6 @@
 -- Blocks in a list: what is done, the statements of the list in hand, and what comes after it.
 use Rattle.std.proofs.Common.{◌≡◌, ◌≤◌, Bool, true, false, List, [], ◌∷◌, ◌++◌, IsTrue, ◌↔◌, ◌||◌, not, refl, sym, ap, ◌∙◌, subst, arith}
 use Rattle.base_tokens.specs.declared.position.Position.{Position}
-use Rattle.ast_types.specs.declared.block.StmtBlock.{StmtBlock}
 use Rattle.ast_types.specs.declared.stmt.Stmt as declared_stmt
 use Rattle.ast_types.specs.declared.stmt.Stmt.TheVariants as stmt_kind
 use Rattle.theory_meaning.specs.Engine.{Engine}
@@ -23,6 +22,7 @@ use Rattle.theory_rewriting.proofs.Firing.{in_back}
 use Rattle.theory_rewriting.specs.Steps.{Progress, Moves}
 use Rattle.theory_meaning.specs.Weight.{weight}
 use Rattle.opt_reducer.specs.Blocks.{Flattens, FlatList}
+use Rattle.ast_types.proofs.OtherKinds.{NoBlock}
 
 joined-push : (done : List declared_stmt.Stmt) (s : declared_stmt.Stmt) (new : Stmts) → joined (stmts_of (done ++ s ∷ [])) new ≡ joined (stmts_of done) (stmt (stmt_of s) new)
 joined-push [] s new = refl
@@ -139,11 +139,11 @@ moves_noop {w = w} {d = d} {d1 = d1} done new block p e ew eb en =
 -- ---- and leave no block that gives way
 
 -- a statement other than a block stays
-stays_put : {x : declared_stmt.Stmt} {s : Stmt} → StmtCase x s → ((b : StmtBlock) → x ≡ stmt_kind.Block b → ⊥) → gives_way s ≡ false
+stays_put : {x : declared_stmt.Stmt} {s : Stmt} → StmtCase x s → NoBlock x → gives_way s ≡ false
 stays_put (block_case b) n = absurd (n b refl)
 stays_put _ n = refl
 
-pub other_stays : (x : declared_stmt.Stmt) → ((b : StmtBlock) → x ≡ stmt_kind.Block b → ⊥) → gives_way (stmt_of x) ≡ false
+pub other_stays : (x : declared_stmt.Stmt) → NoBlock x → gives_way (stmt_of x) ≡ false
 other_stays x n = stays_put (stmt_cases x) n
 
 clear-of : (b : Bool) → true ≡ not b → b ≡ false

@@ -26,7 +26,7 @@ use Rattle.theory_meaning.specs.Engine.{Engine}
 use Rattle.theory_meaning.specs.Tree.{Expr, Variable, Dot, Index, Arms, MaybeExpr, no_expr, Stmt, If, Var, Stmts, Switch, SwitchTable}
 use Rattle.theory_meaning.specs.Shape.{catch_name}
 use Rattle.theory_rewriting.specs.Clear.{HasClearParts, IsClear}
-use Rattle.opt_steps.proofs.NodeKinds.{NoText, NoArray, NoMap, NoBraces, NoCall, NoDot, NoIndex, NoAnd, NoOr, NoCoalesce, NoMethod, NoVariable, NoIf, NoWhile, NoDo, NoFor, NoVar, NoAssignment, NoCallStatement, NoBlock, NoTry, NoExpression, NoBreak, NoReturn, NoImport, NoSwitch}
+use Rattle.ast_types.proofs.OtherKinds.{NoText, NoArray, NoMap, NoBraces, NoCall, NoDot, NoIndex, NoAnd, NoOr, NoCoalesce, NoMethod, NoVariable, NoIf, NoWhile, NoDo, NoFor, NoVar, NoAssignment, NoCallStatement, NoBlock, NoTry, NoExpression, NoBreak, NoReturn, NoImport, NoSwitch}
 use Rattle.theory_rewriting.specs.Context.{knowing, known_behind}
 use Rattle.theory_rewriting.specs.Known.{Known}
 use Rattle.theory_rewriting.specs.Rewriting.{StmtTo, same_expr, same_stmt}

@@ -45,6 +45,7 @@ fn into_block(statement: Stmt) -> StmtBlock
 {
     match statement {
         Stmt::Block(block) => block.into_inner(),
+        // it is a block, as was asked before it was moved
         _ => unreachable!(),
     }
 }

@@ -121,6 +121,7 @@ impl<'a> Optimizer<'a> {
     {
         for at in 0..pairs.len() {
             let Some(pair) = pairs.get_mut(at) else {
+                // it is below the length, which does not change
                 unreachable!()
             };
             self.pair(state, pair)?;
@@ -312,6 +313,7 @@ impl<'a> Optimizer<'a> {
     {
         for at in 0..items.len() {
             let Some(item) = items.get_mut(at) else {
+                // it is below the length, which does not change
                 unreachable!()
             };
             self.expr(state, item, Place::Anywhere)?;
@@ -480,6 +482,7 @@ impl<'a> Optimizer<'a> {
     {
         for at in 0..arms.len() {
             let Some(arm) = arms.get_mut(at) else {
+                // it is below the length, which does not change
                 unreachable!()
             };
             self.arm(state, arm)?;
@@ -722,6 +725,7 @@ impl<'a> Optimizer<'a> {
         for at in 0..statements.len() {
             let is_wanted = is_wanted_at(mark.is_wanted(), statements.as_slice(), at);
             let Some(statement) = statements.get_mut(at) else {
+                // it is below the length, which does not change
                 unreachable!()
             };
             are_known = self.item(state, &mut unknown, are_known, statement, is_wanted)?;

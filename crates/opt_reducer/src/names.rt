@@ -15,6 +15,7 @@ ghost use Rattle.opt_reducer.specs.Parts.{declared_value};
 ghost use Rattle.theory_rewriting.specs.Context.{known_behind};
 ghost use Rattle.theory_rewriting.specs.Evals as evals;
 
+use ast_nodes::owned;
 use bitflags::Flags;
 use opt_queries::calls_no_eval;
 use opt_rules::OptimizerState;
@@ -22,12 +23,6 @@ use rhai_ast::{Expr, Literals, Stmt, StmtQueries};
 use rhai_base::{ASTFlags, Dynamic, Ident, ImmutableString, OutOfMemory};
 use std::alloc::Global;
 use std::borrow::Cow;
-
-fn owned(value: Cow<'_, Dynamic>) -> Result<Dynamic, OutOfMemory>
-    ensures { IfOk result (λ v. v ≡ cow_value value.entry) }
-{
-    Ok(value.into_owned()?)
-}
 
 /// The value of a declared name, where it is a constant.
 fn declared(alloc: Global, flags: ASTFlags, expr: &Expr) -> Result<Option<Dynamic>, OutOfMemory>

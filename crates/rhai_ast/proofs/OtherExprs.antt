@@ -1,24 +1,19 @@
 -- All other expressions, where a match names some.
-use Rattle.std.proofs.Common.{◌≡◌, false, Option, refl}
-use Rattle.std.specs.declared.num.NonZeroU8.{NonZeroU8}
-use Rattle.std.specs.declared.num.NonZeroUsize.{NonZeroUsize}
-use Rattle.base_tokens.specs.declared.namespace.Namespace.{Namespace}
-use Rattle.base_tokens.specs.declared.position.Position.{Position}
+use Rattle.std.proofs.Common.{◌≡◌, false, refl}
 use Rattle.base_tokens.specs.declared.token.Token.{Token}
-use Rattle.rhai_base.specs.Value.{Text}
 use Rattle.ast_types.specs.declared.expr.Expr as declared_expr
-use Rattle.ast_types.specs.declared.expr.Expr.TheVariants as expr_kind
 use Rattle.theory_meaning.specs.Queries.{is_unit, may_follow}
 use Rattle.theory_meaning.specs.Tree.{Expr}
 use Rattle.ast_types.proofs.Cases.{ExprCase, property_case, unit_case, variable_case}
+use Rattle.ast_types.proofs.OtherKinds.{NoUnit, NoVariable, NoProperty}
 
-pub no_unit : {x : declared_expr.Expr} {e : Expr} → ExprCase x e → ((p : Position) → x ≡ expr_kind.Unit p → ⊥) → false ≡ is_unit e
+pub no_unit : {x : declared_expr.Expr} {e : Expr} → ExprCase x e → NoUnit x → false ≡ is_unit e
 no_unit (unit_case p) u = absurd (u p refl)
 no_unit _ u = refl
 
 pub none_follows : {x : declared_expr.Expr} {e : Expr} (t : Token) → ExprCase x e
-    → ((v : Option NonZeroUsize × Text × Namespace) (short : Option NonZeroU8) (p : Position) → x ≡ expr_kind.Variable v short p → ⊥)
-    → ((n : Text × Text × Text) (p : Position) → x ≡ expr_kind.Property n p → ⊥)
+    → NoVariable x
+    → NoProperty x
     → false ≡ may_follow t e
 none_follows t (variable_case v short p) a b = absurd (a v short p refl)
 none_follows t (property_case n p) a b = absurd (b n p refl)

@@ -7,6 +7,7 @@ use Rattle.rhai_base.specs.Value.{Text, Value, Values, UnitV, BoolV, IntV, CharV
 use Rattle.rhai_base.specs.Operators.{Operator, Computed, on_ints}
 use Rattle.rhai_base.specs.Builtin.{row, equality_of, unjoined}
 use Rattle.rhai_base.specs.Reading.{value_of, value_of-Unit, value_of-Bool, value_of-Int, value_of-Char, value_of-Str, value_of-Array, value_of-Map, value_of-FnPtr, value_of-Range, value_of-RangeInclusive, members_of, DynamicCase, dynamic_cases, unit_case, bool_case, int_case, char_case, str_case, array_case, map_case, fn_ptr_case, range_case, range_inclusive_case}
+use Rattle.rhai_base.proofs.OtherKinds.{NoInt, NoStr, NoItems, NoMembers, NoPointer}
 
 -- a value and one of another kind, by what they stand for
 abbrev Differs : Value → Value → Type 0
@@ -20,7 +21,7 @@ bool_differs : {y : Dynamic} {w : Value} → DynamicCase y w → ((b : Bool) →
 bool_differs (bool_case b) h a op = absurd (h b refl)
 bool_differs _ h a op = refl
 
-int_differs : {y : Dynamic} {w : Value} → DynamicCase y w → ((n : ℤ) → y ≡ dynamic.Int n → ⊥) → (a : ℤ) → Differs (IntV a) w
+int_differs : {y : Dynamic} {w : Value} → DynamicCase y w → NoInt y → (a : ℤ) → Differs (IntV a) w
 int_differs (int_case n) h a op = absurd (h n refl)
 int_differs _ h a op = refl
 
@@ -28,19 +29,19 @@ char_differs : {y : Dynamic} {w : Value} → DynamicCase y w → ((c : ℕ) → 
 char_differs (char_case c) h a op = absurd (h c refl)
 char_differs _ h a op = refl
 
-str_differs : {y : Dynamic} {w : Value} → DynamicCase y w → ((t : Text) → y ≡ dynamic.Str t → ⊥) → (a : Text) → Differs (TextV a) w
+str_differs : {y : Dynamic} {w : Value} → DynamicCase y w → NoStr y → (a : Text) → Differs (TextV a) w
 str_differs (str_case t) h a op = absurd (h t refl)
 str_differs _ h a op = refl
 
-array_differs : {y : Dynamic} {w : Value} → DynamicCase y w → ((vs : List Dynamic) → y ≡ dynamic.Array vs → ⊥) → (a : Values) → Differs (ArrayV a) w
+array_differs : {y : Dynamic} {w : Value} → DynamicCase y w → NoItems y → (a : Values) → Differs (ArrayV a) w
 array_differs (array_case vs) h a op = absurd (h vs refl)
 array_differs _ h a op = refl
 
-map_differs : {y : Dynamic} {w : Value} → DynamicCase y w → ((es : List (Text × Dynamic)) → y ≡ dynamic.Map es → ⊥) → (a : Fields) → Differs (MapV a) w
+map_differs : {y : Dynamic} {w : Value} → DynamicCase y w → NoMembers y → (a : Fields) → Differs (MapV a) w
 map_differs (map_case es) h a op = absurd (h es refl)
 map_differs _ h a op = refl
 
-fn_ptr_differs : {y : Dynamic} {w : Value} → DynamicCase y w → ((p : FnPtr) → y ≡ dynamic.FnPtr p → ⊥) → (f : Text) (vs : Values) → Differs (PointerV f vs) w
+fn_ptr_differs : {y : Dynamic} {w : Value} → DynamicCase y w → NoPointer y → (f : Text) (vs : Values) → Differs (PointerV f vs) w
 fn_ptr_differs (fn_ptr_case p) h f vs op = absurd (h p refl)
 fn_ptr_differs _ h f vs op = refl
 
@@ -76,22 +77,22 @@ unit_row op x y r e h = differing op x y UnitV r (ap value_of e ∙ value_of-Uni
 pub bool_row : (op : Option Operator) (x y : Dynamic) (b : Bool) (r : Computed) → x ≡ dynamic.Bool b → ((b' : Bool) → y ≡ dynamic.Bool b' → ⊥) → Unequal op r → Row op x y r
 bool_row op x y b r e h = differing op x y (BoolV b) r (ap value_of e ∙ value_of-Bool b) (bool_differs (dynamic_cases y) h b)
 
-pub int_row : (op : Option Operator) (x y : Dynamic) (n : ℤ) (r : Computed) → x ≡ dynamic.Int n → ((n' : ℤ) → y ≡ dynamic.Int n' → ⊥) → Unequal op r → Row op x y r
+pub int_row : (op : Option Operator) (x y : Dynamic) (n : ℤ) (r : Computed) → x ≡ dynamic.Int n → NoInt y → Unequal op r → Row op x y r
 int_row op x y n r e h = differing op x y (IntV n) r (ap value_of e ∙ value_of-Int n) (int_differs (dynamic_cases y) h n)
 
 pub char_row : (op : Option Operator) (x y : Dynamic) (c : ℕ) (r : Computed) → x ≡ dynamic.Char c → ((c' : ℕ) → y ≡ dynamic.Char c' → ⊥) → Unequal op r → Row op x y r
 char_row op x y c r e h = differing op x y (CharV c) r (ap value_of e ∙ value_of-Char c) (char_differs (dynamic_cases y) h c)
 
-pub str_row : (op : Option Operator) (x y : Dynamic) (t : Text) (r : Computed) → x ≡ dynamic.Str t → ((t' : Text) → y ≡ dynamic.Str t' → ⊥) → Unequal op r → Row op x y r
+pub str_row : (op : Option Operator) (x y : Dynamic) (t : Text) (r : Computed) → x ≡ dynamic.Str t → NoStr y → Unequal op r → Row op x y r
 str_row op x y t r e h = differing op x y (TextV t) r (ap value_of e ∙ value_of-Str t) (str_differs (dynamic_cases y) h t)
 
-pub array_row : (op : Option Operator) (x y : Dynamic) (vs : List Dynamic) (r : Computed) → x ≡ dynamic.Array vs → ((vs' : List Dynamic) → y ≡ dynamic.Array vs' → ⊥) → Unequal op r → Row op x y r
+pub array_row : (op : Option Operator) (x y : Dynamic) (vs : List Dynamic) (r : Computed) → x ≡ dynamic.Array vs → NoItems y → Unequal op r → Row op x y r
 array_row op x y vs r e h = differing op x y (ArrayV (values (map value_of vs))) r (ap value_of e ∙ value_of-Array vs) (array_differs (dynamic_cases y) h (values (map value_of vs)))
 
-pub map_row : (op : Option Operator) (x y : Dynamic) (es : List (Text × Dynamic)) (r : Computed) → x ≡ dynamic.Map es → ((es' : List (Text × Dynamic)) → y ≡ dynamic.Map es' → ⊥) → Unequal op r → Row op x y r
+pub map_row : (op : Option Operator) (x y : Dynamic) (es : List (Text × Dynamic)) (r : Computed) → x ≡ dynamic.Map es → NoMembers y → Unequal op r → Row op x y r
 map_row op x y es r e h = differing op x y (MapV (fields (members_of es))) r (ap value_of e ∙ value_of-Map es) (map_differs (dynamic_cases y) h (fields (members_of es)))
 
-pub fn_ptr_row : (op : Option Operator) (x y : Dynamic) (p : FnPtr) (r : Computed) → x ≡ dynamic.FnPtr p → ((p' : FnPtr) → y ≡ dynamic.FnPtr p' → ⊥) → Unequal op r → Row op x y r
+pub fn_ptr_row : (op : Option Operator) (x y : Dynamic) (p : FnPtr) (r : Computed) → x ≡ dynamic.FnPtr p → NoPointer y → Unequal op r → Row op x y r
 fn_ptr_row op x y p r e h = differing op x y (PointerV p.name (values (map value_of p.curried))) r (ap value_of e ∙ value_of-FnPtr p) (fn_ptr_differs (dynamic_cases y) h p.name (values (map value_of p.curried)))
 
 pub range_row : (op : Option Operator) (x y : Dynamic) (a b : ℤ) (r : Computed) → x ≡ dynamic.Range a b → ((a' b' : ℤ) → y ≡ dynamic.Range a' b' → ⊥) → Unequal op r → Row op x y r

@@ -10,3 +10,4 @@ pub mod Upward
 pub mod RangeCases
 pub mod Ranges
 pub mod Texts
+pub mod OtherKinds

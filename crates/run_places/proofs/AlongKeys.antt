@@ -14,28 +14,28 @@ use Rattle.std.proofs.lemmas.Map.Steps.{set_value_same}
 use Rattle.std.proofs.lemmas.Map.Text.{is_eq-slice_cmp}
 use Rattle.std.proofs.lemmas.Slice.Eq.{bytes_eq-Decides}
 use Rattle.rhai_base.specs.declared.dynamic.Dynamic.{Dynamic}
-use Rattle.rhai_base.specs.declared.dynamic.Dynamic.TheVariants as dynamic
 use Rattle.rhai_base.specs.Reading.{value_of, members_of, DynamicCase, array_case, map_case, dynamic_cases}
 use Rattle.rhai_base.specs.Value.{Text, Value, UnitV, ArrayV, MapV, item, Fields, values, fields, field, same_text}
 use Rattle.rhai_base.specs.Operators.{text_lt}
 use Rattle.theory_meaning.specs.Elements.{at_index, index_in, entry, with_value_at, with_element, with_entry}
 use Rattle.theory_meaning.specs.Places.{PlaceKey, AtIndex, AtEntry, inside, along, with_inside, with_along}
 use Rattle.run_places.proofs.Parts.{index_in-values, is_at-same, element_at, entry_some, entry_none, element_none}
+use Rattle.rhai_base.proofs.OtherKinds.{NoItems, NoMembers}
 
 -- ---- one step
 
-no_element : {v : Dynamic} {w : Value} → DynamicCase v w → ((vs : List Dynamic) → v ≡ dynamic.Array vs → ⊥) → (i : ℤ) → inside w (AtIndex i) ≡ None
+no_element : {v : Dynamic} {w : Value} → DynamicCase v w → NoItems v → (i : ℤ) → inside w (AtIndex i) ≡ None
 no_element (array_case vs) h i = absurd (h vs refl)
 no_element _ h i = refl
 
-pub inside-no_array : (v : Dynamic) (i : ℤ) → ((vs : List Dynamic) → v ≡ dynamic.Array vs → ⊥) → inside (value_of v) (AtIndex i) ≡ None
+pub inside-no_array : (v : Dynamic) (i : ℤ) → NoItems v → inside (value_of v) (AtIndex i) ≡ None
 inside-no_array v i h = no_element (dynamic_cases v) h i
 
-no_entry : {v : Dynamic} {w : Value} → DynamicCase v w → ((es : List (Text × Dynamic)) → v ≡ dynamic.Map es → ⊥) → (k : Text) → inside w (AtEntry k) ≡ None
+no_entry : {v : Dynamic} {w : Value} → DynamicCase v w → NoMembers v → (k : Text) → inside w (AtEntry k) ≡ None
 no_entry (map_case es) h k = absurd (h es refl)
 no_entry _ h k = refl
 
-pub inside-no_map : (v : Dynamic) (k : Text) → ((es : List (Text × Dynamic)) → v ≡ dynamic.Map es → ⊥) → inside (value_of v) (AtEntry k) ≡ None
+pub inside-no_map : (v : Dynamic) (k : Text) → NoMembers v → inside (value_of v) (AtEntry k) ≡ None
 inside-no_map v k h = no_entry (dynamic_cases v) h k
 
 pub unit_is_whole : (j : PlaceKey) → inside UnitV j ≡ None

@@ -17,27 +17,16 @@ use Rattle.run_places.specs.declared.steps.Indexed.TheVariants as indexed
 use Rattle.run_places.specs.declared.steps.IndexTarget.TheVariants as target
 use Rattle.run_places.specs.Reading.{or_unit}
 use Rattle.run_places.specs.Indexing.{IsIndexed, IsIndexTarget}
+use Rattle.rhai_base.proofs.OtherKinds.{NoInt, NoStr, NoItems, NoMembers}
 
 -- ---- what a value is not
-
-abbrev NoInt : Dynamic → Type 0
-NoInt v = (n : ℤ) → v ≡ dynamic.Int n → ⊥
-
-abbrev NoText : Dynamic → Type 0
-NoText v = (t : Text) → v ≡ dynamic.Str t → ⊥
-
-abbrev NoArray : Dynamic → Type 0
-NoArray v = (vs : List Dynamic) → v ≡ dynamic.Array vs → ⊥
-
-abbrev NoMap : Dynamic → Type 0
-NoMap v = (es : List (Text × Dynamic)) → v ≡ dynamic.Map es → ⊥
 
 -- ---- where the host is asked
 
 abbrev asks : Current → Value → Value → (Current → Act) → Act
 asks c v i next = ask_for (codes "index$get$") v (i ∷ []) next
 
-plain_asks : {v : Dynamic} {w : Value} → DynamicCase v w → NoArray v → NoText v → NoInt v → NoMap v → (i : Value) (c : Current) (next : Current → Act) → index c w i next ≡ asks c w i next
+plain_asks : {v : Dynamic} {w : Value} → DynamicCase v w → NoItems v → NoStr v → NoInt v → NoMembers v → (i : Value) (c : Current) (next : Current → Act) → index c w i next ≡ asks c w i next
 plain_asks (array_case vs) a t n m i c next = absurd (a vs refl)
 plain_asks (str_case s) a t n m i c next = absurd (t s refl)
 plain_asks (int_case k) a t n m i c next = absurd (n k refl)
@@ -56,11 +45,11 @@ int_asks : (m : ℤ) {i : Dynamic} {w : Value} → DynamicCase i w → NoInt i �
 int_asks m (int_case n) h c next = absurd (h n refl)
 int_asks m _ h c next = refl
 
-map_asks : (fs : Fields) {i : Dynamic} {w : Value} → DynamicCase i w → NoText i → (c : Current) (next : Current → Act) → index c (MapV fs) w next ≡ asks c (MapV fs) w next
+map_asks : (fs : Fields) {i : Dynamic} {w : Value} → DynamicCase i w → NoStr i → (c : Current) (next : Current → Act) → index c (MapV fs) w next ≡ asks c (MapV fs) w next
 map_asks fs (str_case t) h c next = absurd (h t refl)
 map_asks fs _ h c next = refl
 
-pub asks_plain : (v i : Dynamic) → NoArray v → NoText v → NoInt v → NoMap v → IsIndexed (value_of v) (value_of i) (indexed.AsksHost i)
+pub asks_plain : (v i : Dynamic) → NoItems v → NoStr v → NoInt v → NoMembers v → IsIndexed (value_of v) (value_of i) (indexed.AsksHost i)
 asks_plain v i a t n m c next = plain_asks (dynamic_cases v) a t n m (value_of i) c next
 
 pub asks_array : (vs : List Dynamic) (i : Dynamic) → NoInt i → IsIndexed (value_of (dynamic.Array vs)) (value_of i) (indexed.AsksHost i)
@@ -72,7 +61,7 @@ asks_text t i h c next = ap (λ v. index c v (value_of i) next) (value_of-Str t)
 pub asks_int : (n : ℤ) (i : Dynamic) → NoInt i → IsIndexed (value_of (dynamic.Int n)) (value_of i) (indexed.AsksHost i)
 asks_int n i h c next = ap (λ v. index c v (value_of i) next) (value_of-Int n) ∙ int_asks n (dynamic_cases i) h c next ∙ ap (λ v. asks c v (value_of i) next) (sym (value_of-Int n))
 
-pub asks_map : (es : List (Text × Dynamic)) (i : Dynamic) → NoText i → IsIndexed (value_of (dynamic.Map es)) (value_of i) (indexed.AsksHost i)
+pub asks_map : (es : List (Text × Dynamic)) (i : Dynamic) → NoStr i → IsIndexed (value_of (dynamic.Map es)) (value_of i) (indexed.AsksHost i)
 asks_map es i h c next = ap (λ v. index c v (value_of i) next) (value_of-Map es) ∙ map_asks (fields (members_of es)) (dynamic_cases i) h c next ∙ ap (λ v. asks c v (value_of i) next) (sym (value_of-Map es))
 
 pub asks_missing : (i : Dynamic) → IsIndexed UnitV (value_of i) (indexed.AsksHost i)
@@ -106,7 +95,7 @@ entry_of_map es k c next = (λ j. index c (value_of-Map es j) (value_of-Str k j)
 abbrev sets : Value → Current → Value → Act
 sets w c i = set_by_host (codes "index$set$") (i ∷ w ∷ []) c
 
-plain_sets : {v : Dynamic} {u : Value} → DynamicCase v u → NoArray v → NoMap v → (i w : Value) (at : Place) (c : Current) → set_index w at c u i ≡ sets w c i
+plain_sets : {v : Dynamic} {u : Value} → DynamicCase v u → NoItems v → NoMembers v → (i w : Value) (at : Place) (c : Current) → set_index w at c u i ≡ sets w c i
 plain_sets (array_case vs) a m i w at c = absurd (a vs refl)
 plain_sets (map_case es) a m i w at c = absurd (m es refl)
 plain_sets _ a m i w at c = refl
@@ -115,17 +104,17 @@ array_sets : (vs : Values) {i : Dynamic} {u : Value} → DynamicCase i u → NoI
 array_sets vs (int_case n) h w at c = absurd (h n refl)
 array_sets vs _ h w at c = refl
 
-map_sets : (fs : Fields) {i : Dynamic} {u : Value} → DynamicCase i u → NoText i → (w : Value) (at : Place) (c : Current) → set_index w at c (MapV fs) u ≡ sets w c u
+map_sets : (fs : Fields) {i : Dynamic} {u : Value} → DynamicCase i u → NoStr i → (w : Value) (at : Place) (c : Current) → set_index w at c (MapV fs) u ≡ sets w c u
 map_sets fs (str_case t) h w at c = absurd (h t refl)
 map_sets fs _ h w at c = refl
 
-pub sets_plain : (v i : Dynamic) → NoArray v → NoMap v → IsIndexTarget (value_of v) (value_of i) (target.AsksHost i)
+pub sets_plain : (v i : Dynamic) → NoItems v → NoMembers v → IsIndexTarget (value_of v) (value_of i) (target.AsksHost i)
 sets_plain v i a m w at c = plain_sets (dynamic_cases v) a m (value_of i) w at c
 
 pub sets_array : (vs : List Dynamic) (i : Dynamic) → NoInt i → IsIndexTarget (value_of (dynamic.Array vs)) (value_of i) (target.AsksHost i)
 sets_array vs i h w at c = ap (λ v. set_index w at c v (value_of i)) (value_of-Array vs) ∙ array_sets (values (map value_of vs)) (dynamic_cases i) h w at c
 
-pub sets_map : (es : List (Text × Dynamic)) (i : Dynamic) → NoText i → IsIndexTarget (value_of (dynamic.Map es)) (value_of i) (target.AsksHost i)
+pub sets_map : (es : List (Text × Dynamic)) (i : Dynamic) → NoStr i → IsIndexTarget (value_of (dynamic.Map es)) (value_of i) (target.AsksHost i)
 sets_map es i h w at c = ap (λ v. set_index w at c v (value_of i)) (value_of-Map es) ∙ map_sets (fields (members_of es)) (dynamic_cases i) h w at c
 
 pub sets_missing : (i : Dynamic) → IsIndexTarget UnitV (value_of i) (target.AsksHost i)

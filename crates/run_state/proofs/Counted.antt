@@ -1,5 +1,5 @@
 -- Rounds of a `for`, over the elements of an array or over a range.
-use Rattle.std.proofs.Common.{◌≡◌, ℕ, suc, ◌≤◌, ◌<◌, ℤ, pos, ◌+ℤ◌, ◌-ℤ◌, ◌-◌, ◌+◌, Bool, false, List, [], ◌∷◌, map, length, Option, Some, None, Result, Ok, Err, refl, sym, ap, ◌∙◌, arith}
+use Rattle.std.proofs.Common.{◌≡◌, ℕ, suc, ◌≤◌, ◌<◌, ℤ, pos, ◌+ℤ◌, ◌-ℤ◌, ◌-◌, ◌+◌, Bool, List, [], ◌∷◌, map, length, Option, Some, None, Result, Ok, Err, refl, sym, ap, ◌∙◌, arith}
 use Rattle.std.proofs.lemmas.Int.{ints}
 use Rattle.rhai_base.specs.declared.dynamic.Dynamic.{Dynamic}
 use Rattle.rhai_base.specs.declared.dynamic.Dynamic.TheVariants as value
@@ -22,6 +22,7 @@ use Rattle.run_state.specs.State.{named_in, store_of, TakesTurn}
 use Rattle.run_state.proofs.Goes.{gives, goes_as, goes_then, leads_then, stops_then, named_goes, scoped_leads, stuck_here, value_goes, Cut}
 use Rattle.run_state.proofs.Loops.{round_runs}
 use Rattle.run_state.proofs.Rounds.{again_stops, again_goes, again_ends}
+use Rattle.rhai_base.proofs.OtherKinds.{NoItems}
 
 pub items_values : (vs : List Value) → items (values vs) ≡ vs
 items_values [] = refl
@@ -118,13 +119,13 @@ module _ (here : Setting) where
       over : (w : Value) → value_of v ≡ w → Goes here (Acting for_act) s (Acting (for_all x c p w)) s1
       over w h = goes_then here (value_goes here (λ u. for_all x c p u) q) (goes_as here _ _ s1 (ap (λ u. Acting (for_all x c p u)) h))
 
-      other_kind : {u : Dynamic} {w : Value} → DynamicCase u w → ((vs : List Dynamic) → u ≡ value.Array vs → ⊥) → ((a b : ℤ) → u ≡ value.Range a b → ⊥) → ((a b : ℤ) → u ≡ value.RangeInclusive a b → ⊥) → for_all x c p w ≡ Fail WrongKind
+      other_kind : {u : Dynamic} {w : Value} → DynamicCase u w → NoItems u → ((a b : ℤ) → u ≡ value.Range a b → ⊥) → ((a b : ℤ) → u ≡ value.RangeInclusive a b → ⊥) → for_all x c p w ≡ Fail WrongKind
       other_kind (array_case vs) h f g = absurd (h vs refl)
       other_kind (range_case a b) h f g = absurd (f a b refl)
       other_kind (range_inclusive_case a b) h f g = absurd (g a b refl)
       other_kind _ h f g = refl
 
-      pub for_other : ((vs : List Dynamic) → v ≡ value.Array vs → ⊥) → ((a b : ℤ) → v ≡ value.Range a b → ⊥) → ((a b : ℤ) → v ≡ value.RangeInclusive a b → ⊥) → Runs here (Acting for_act) s (Err (Stuck why.WrongKind)) s1
+      pub for_other : NoItems v → ((a b : ℤ) → v ≡ value.Range a b → ⊥) → ((a b : ℤ) → v ≡ value.RangeInclusive a b → ⊥) → Runs here (Acting for_act) s (Err (Stuck why.WrongKind)) s1
       for_other h f g = stops_then here s1 (Stuck why.WrongKind) (over (value_of v) refl) (stuck_here here _ s1 (other_kind (dynamic_cases v) h f g))
 
       pub for_array : (items : List Dynamic) → v ≡ value.Array items → Runs here (Acting (each_of 0 items)) s1 r s2 → Runs here (Acting for_act) s r s2

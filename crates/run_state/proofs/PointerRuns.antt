@@ -15,22 +15,17 @@ use Rattle.run_host.specs.declared.report.Stuck.TheVariants as why
 use Rattle.run_state.specs.Runs.{Setting, Acting, Goes, Stops, Runs}
 use Rattle.run_state.proofs.Counted.{items_values}
 use Rattle.run_state.proofs.Goes.{gives, goes_as, goes_then, stuck_here}
+use Rattle.rhai_base.proofs.OtherKinds.{NoStr, NoPointer}
 
-abbrev pub IsNoText : Dynamic → Type 0
-IsNoText v = (t : Text) → v ≡ kind.Str t → ⊥
-
-unnamed_other : {v : Dynamic} {w : Value} → DynamicCase v w → IsNoText v → calls.pointer_to w ≡ Fail WrongKind
+unnamed_other : {v : Dynamic} {w : Value} → DynamicCase v w → NoStr v → calls.pointer_to w ≡ Fail WrongKind
 unnamed_other (str_case t) h = absurd (h t refl)
 unnamed_other _ h = refl
 
-abbrev pub IsNoPointer : Dynamic → Type 0
-IsNoPointer v = (p : FnPtr) → v ≡ kind.FnPtr p → ⊥
-
-curried_other : {v : Dynamic} {w : Value} → DynamicCase v w → IsNoPointer v → (us : List Value) → calls.curried w us ≡ Fail WrongKind
+curried_other : {v : Dynamic} {w : Value} → DynamicCase v w → NoPointer v → (us : List Value) → calls.curried w us ≡ Fail WrongKind
 curried_other (fn_ptr_case p) h us = absurd (h p refl)
 curried_other _ h us = refl
 
-called_other : (w : World) (captures : Bool) {v : Dynamic} {u : Value} → DynamicCase v u → IsNoPointer v → (us : List Value) → call_pointer w captures u us ≡ Fail WrongKind
+called_other : (w : World) (captures : Bool) {v : Dynamic} {u : Value} → DynamicCase v u → NoPointer v → (us : List Value) → call_pointer w captures u us ≡ Fail WrongKind
 called_other w captures (fn_ptr_case p) h us = absurd (h p refl)
 called_other w captures _ h us = refl
 
@@ -42,10 +37,10 @@ joined p vs all e =
     ∙ ap (map value_of) (sym e)
 
 module _ (here : Setting) (s : State) where
-  pub unnamed_stuck : (v : Dynamic) → IsNoText v → Runs here (Acting (calls.pointer_to (value_of v))) s (Err (Stuck why.WrongKind)) s
+  pub unnamed_stuck : (v : Dynamic) → NoStr v → Runs here (Acting (calls.pointer_to (value_of v))) s (Err (Stuck why.WrongKind)) s
   unnamed_stuck v h = stuck_here here _ s (unnamed_other (dynamic_cases v) h)
 
-  pub curried_stuck : (v : Dynamic) (us : List Value) → IsNoPointer v → Runs here (Acting (calls.curried (value_of v) us)) s (Err (Stuck why.WrongKind)) s
+  pub curried_stuck : (v : Dynamic) (us : List Value) → NoPointer v → Runs here (Acting (calls.curried (value_of v) us)) s (Err (Stuck why.WrongKind)) s
   curried_stuck v us h = stuck_here here _ s (curried_other (dynamic_cases v) h us)
 
   pub curried_runs : (p q : FnPtr) (vs : List Dynamic) → q.name ≡ p.name → q.curried ≡ p.curried ++ vs → Runs here (Acting (calls.curried (value_of (kind.FnPtr p)) (map value_of vs))) s (Ok (kind.FnPtr q)) s
@@ -58,7 +53,7 @@ module _ (here : Setting) (s : State) where
     pub pointed_first : (v : Dynamic) → args ≡ v ∷ vs → Goes here (Acting (calls.call_word here.world captures f calls.CallFn (map value_of args))) s (Acting (call_pointer here.world captures (value_of v) (map value_of vs))) s
     pointed_first v e = goes_as here _ _ s (ap (λ us. Acting (calls.call_word here.world captures f calls.CallFn (map value_of us))) e)
 
-    pub pointed_stuck : (v : Dynamic) → args ≡ v ∷ vs → IsNoPointer v → Stops here (Acting (calls.call_word here.world captures f calls.CallFn (map value_of args))) s (Stuck why.WrongKind) s
+    pub pointed_stuck : (v : Dynamic) → args ≡ v ∷ vs → NoPointer v → Stops here (Acting (calls.call_word here.world captures f calls.CallFn (map value_of args))) s (Stuck why.WrongKind) s
     pointed_stuck v e h = stuck_here here _ s (ap (λ us. calls.call_word here.world captures f calls.CallFn (map value_of us)) e ∙ called_other here.world captures (dynamic_cases v) h (map value_of vs))
 
     pub pointed_goes : (p : FnPtr) (name : Text) (all : List Dynamic) → args ≡ kind.FnPtr p ∷ vs → name ≡ p.name → all ≡ p.curried ++ vs → Goes here (Acting (calls.call_word here.world captures f calls.CallFn (map value_of args))) s (Acting (call_named here.world captures name (map value_of all))) s

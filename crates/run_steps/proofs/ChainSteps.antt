@@ -3,7 +3,7 @@ use Rattle.std.proofs.Common.{◌≡◌, Bool, true, false, cond, ◌&&◌, List
 use Rattle.rhai_base.specs.declared.dynamic.Dynamic.{Dynamic}
 use Rattle.rhai_base.specs.declared.dynamic.Dynamic.TheVariants as value
 use Rattle.rhai_base.specs.Reading.{value_of, value_of-Unit}
-use Rattle.rhai_base.specs.Value.{Text, Value}
+use Rattle.rhai_base.specs.Value.{Value}
 use Rattle.base_tokens.specs.declared.position.Position.{Position}
 use Rattle.ast_types.specs.declared.expr.Expr.{Expr}
 use Rattle.ast_types.specs.declared.expr.Expr.TheVariants as kind
@@ -42,6 +42,7 @@ use Rattle.run_state.specs.State.{store_of}
 use Rattle.run_steps.proofs.Callees.{count_exprs_of}
 use Rattle.run_state.proofs.Goes.{goes_as, goes_then, leads_then, stops_then}
 use Rattle.rhai_ast.specs.Nodes.{is_dot}
+use Rattle.ast_types.proofs.OtherKinds.{NoProperty, NoMethod}
 
 -- ---- chains by their outermost node
 
@@ -164,7 +165,7 @@ module _ (here : Setting) (loop : Bool) (s s1 : State) where
     pub method_reached : (f got : FnCallExpr) (p : Position) (x : Result Access Interrupt) → e ≡ kind.MethodCall f p → got ≡ f → HasAccess here (method_core loop got) s x s1 → HasAccess here (step_core loop dot (expr_of e)) s x s1
     method_reached f got p x k g q = member_as (tree.MethodCall (callee_of f) (exprs_of f.args)) x (ap expr_of k ∙ expr_of-MethodCall f p) (subst (λ d. HasAccess here (method_core loop d) s x s1) g q)
 
-no_member : (loop : Bool) {x : Expr} {t : tree.Expr} → ExprCase x t → ((n : Text × Text × Text) (p : Position) → x ≡ kind.Property n p → ⊥) → ((f : FnCallExpr) (p : Position) → x ≡ kind.MethodCall f p → ⊥) → member_of loop t ≡ core.IllStep
+no_member : (loop : Bool) {x : Expr} {t : tree.Expr} → ExprCase x t → NoProperty x → NoMethod x → member_of loop t ≡ core.IllStep
 no_member loop (property_case n p) h k = absurd (h n p refl)
 no_member loop (method_call_case f p) h k = absurd (k f p refl)
 no_member loop (dynamic_constant_case v p) h k = refl
@@ -186,7 +187,7 @@ no_member loop (and_case xs p) h k = refl
 no_member loop (or_case xs p) h k = refl
 no_member loop (coalesce_case xs p) h k = refl
 
-pub member_stuck : (here : Setting) (loop : Bool) (s : State) (dot : Bool) → dot ≡ true → (e : Expr) → ((n : Text × Text × Text) (p : Position) → e ≡ kind.Property n p → ⊥) → ((f : FnCallExpr) (p : Position) → e ≡ kind.MethodCall f p → ⊥) → HasAccess here (step_core loop dot (expr_of e)) s (Err (Stuck why.WrongKind)) s
+pub member_stuck : (here : Setting) (loop : Bool) (s : State) (dot : Bool) → dot ≡ true → (e : Expr) → NoProperty e → NoMethod e → HasAccess here (step_core loop dot (expr_of e)) s (Err (Stuck why.WrongKind)) s
 member_stuck here loop s dot h e n m = access_as here loop s s dot true (expr_of e) (Err (Stuck why.WrongKind)) h (subst (λ p. HasAccess here p s (Err (Stuck why.WrongKind)) s) (sym (no_member loop (expr_cases e) n m)) (λ next. record { turns = omega arith; runs = λ d le. refl }))
 
 -- methods

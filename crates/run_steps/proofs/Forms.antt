@@ -1,16 +1,11 @@
 -- Expressions and tokens by their kind.
 use Rattle.std.proofs.Common.{◌≡◌, true, false, Option, Some, None, refl, sym, ap, subst, ◌∙◌}
-use Rattle.std.specs.declared.num.NonZeroU8.{NonZeroU8}
-use Rattle.std.specs.declared.num.NonZeroUsize.{NonZeroUsize}
-use Rattle.base_tokens.specs.declared.position.Position.{Position}
 use Rattle.base_tokens.specs.declared.token.Token.{Token}
 use Rattle.base_tokens.specs.declared.token.Token.TheVariants as token
 use Rattle.base_tokens.specs.Assignments.{is_no_equals}
 use Rattle.base_tokens.specs.Tokens.{base_of}
 use Rattle.rhai_base.specs.Builtin.{operator_of}
 use Rattle.rhai_base.specs.Operators.{Operator, Plus, Minus, Multiply, Divide, Modulo, Power, ShiftLeft, ShiftRight, BitAnd, BitOr, BitXor}
-use Rattle.base_tokens.specs.declared.namespace.Namespace.{Namespace}
-use Rattle.rhai_base.specs.Value.{Text}
 use Rattle.ast_types.specs.declared.expr.Expr.{Expr}
 use Rattle.ast_types.specs.declared.expr.Expr.TheVariants as kind
 use Rattle.ast_types.specs.Reading.{expr_of}
@@ -19,19 +14,11 @@ use Rattle.theory_meaning.specs.Desugar.{root_of}
 use Rattle.theory_meaning.specs.Shape.{catch_name}
 use Rattle.theory_meaning.specs.Tree as tree
 use Rattle.run_steps.specs.Operators.{StandsFor}
+use Rattle.ast_types.proofs.OtherKinds.{NoUnit, NoVariable, NoThis}
 
 -- ---- catch names and roots
 
-abbrev IsNoUnit : Expr → Type 0
-IsNoUnit x = (p : Position) → x ≡ kind.Unit p → ⊥
-
-abbrev IsNoVariable : Expr → Type 0
-IsNoVariable x = (v : Option NonZeroUsize × Text × Namespace) (short : Option NonZeroU8) (p : Position) → x ≡ kind.Variable v short p → ⊥
-
-abbrev IsNoThis : Expr → Type 0
-IsNoThis x = (p : Position) → x ≡ kind.ThisPtr p → ⊥
-
-no_catch : {x : Expr} {t : tree.Expr} → ExprCase x t → IsNoUnit x → IsNoVariable x → catch_name t ≡ None
+no_catch : {x : Expr} {t : tree.Expr} → ExprCase x t → NoUnit x → NoVariable x → catch_name t ≡ None
 no_catch (unit_case p) h k = absurd (h p refl)
 no_catch (variable_case v short p) h k = absurd (k v short p refl)
 no_catch (dynamic_constant_case v p) h k = refl
@@ -53,10 +40,10 @@ no_catch (and_case xs p) h k = refl
 no_catch (or_case xs p) h k = refl
 no_catch (coalesce_case xs p) h k = refl
 
-pub catch_name-other : (x : Expr) → IsNoUnit x → IsNoVariable x → catch_name (expr_of x) ≡ None
+pub catch_name-other : (x : Expr) → NoUnit x → NoVariable x → catch_name (expr_of x) ≡ None
 catch_name-other x h k = no_catch (expr_cases x) h k
 
-no_root : {x : Expr} {t : tree.Expr} → ExprCase x t → IsNoVariable x → IsNoThis x → root_of t ≡ None
+no_root : {x : Expr} {t : tree.Expr} → ExprCase x t → NoVariable x → NoThis x → root_of t ≡ None
 no_root (this_ptr_case p) k h = absurd (h p refl)
 no_root (variable_case v short p) k h = absurd (k v short p refl)
 no_root (unit_case p) k h = refl
@@ -78,7 +65,7 @@ no_root (and_case xs p) k h = refl
 no_root (or_case xs p) k h = refl
 no_root (coalesce_case xs p) k h = refl
 
-pub root_of-other : (x : Expr) → IsNoVariable x → IsNoThis x → root_of (expr_of x) ≡ None
+pub root_of-other : (x : Expr) → NoVariable x → NoThis x → root_of (expr_of x) ≡ None
 root_of-other x k h = no_root (expr_cases x) k h
 
 -- ---- operators of assignments

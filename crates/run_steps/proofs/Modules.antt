@@ -14,12 +14,12 @@ use Rattle.run_state.specs.declared.state.State.{State}
 use Rattle.run_state.specs.Runs.{Setting, Acting, Goes, Stops, given}
 use Rattle.run_state.specs.State.{store_of}
 use Rattle.run_state.proofs.Goes.{gives, goes_as, goes_then, stuck_here}
-use Rattle.run_state.proofs.PointerRuns.{IsNoText}
+use Rattle.rhai_base.proofs.OtherKinds.{NoStr}
 use Rattle.run_steps.specs.Variables.{in_module, qualified_in}
 use Rattle.run_steps.proofs.NamedModules.{module_goes}
 use Rattle.run_steps.proofs.Placing.{fails}
 
-no_path : (w : World) {v : Dynamic} {u : Value} → DynamicCase v u → IsNoText v → module_at w u ≡ Fail WrongKind
+no_path : (w : World) {v : Dynamic} {u : Value} → DynamicCase v u → NoStr v → module_at w u ≡ Fail WrongKind
 no_path w (str_case t) h = absurd (h t refl)
 no_path w _ h = refl
 
@@ -41,7 +41,7 @@ module _ (here : Setting) (s : State) where
     pub module_value_stops : here.world.host.module_value whole_name ≡ None → Stops here (Acting (act here.world (variable ns x))) s (Stuck why.Unbound) s
     module_value_stops e = goes_then here to_module (goes_then here (goes_as here _ _ s (ap (λ o. Acting (of_constant o)) e)) (fails here s Unbound))
 
-  pub path_stops : (v : Dynamic) → IsNoText v → Stops here (Acting (module_at here.world (value_of v))) s (Stuck why.WrongKind) s
+  pub path_stops : (v : Dynamic) → NoStr v → Stops here (Acting (module_at here.world (value_of v))) s (Stuck why.WrongKind) s
   path_stops v h = stuck_here here _ s (no_path here.world (dynamic_cases v) h)
 
   module _ (p : Text) where

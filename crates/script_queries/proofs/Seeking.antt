@@ -1,13 +1,7 @@
 -- Declarations that were sought and have no literal values, and the next one that has.
 use Rattle.std.proofs.Common.{◌≡◌, Bool, true, false, if◌then◌else◌, List, [], ◌∷◌, ◌++◌, Option, Some, None, Result, Ok, Err, IsErr, ◌<◌, length, refl, sym, ap, ◌∙◌, append_assoc, arith}
 use Rattle.std.proofs.lemmas.List.{append-nil, length-append}
-use Rattle.std.specs.declared.num.NonZeroUsize.{NonZeroUsize}
-use Rattle.base_tokens.specs.declared.flags.ASTFlags.{ASTFlags}
-use Rattle.base_tokens.specs.declared.ident.Ident.{Ident}
-use Rattle.base_tokens.specs.declared.position.Position.{Position}
-use Rattle.ast_types.specs.declared.expr.Expr as declared_expr
 use Rattle.ast_types.specs.declared.stmt.Stmt.{Stmt}
-use Rattle.ast_types.specs.declared.stmt.Stmt.TheVariants as stmt_kind
 use Rattle.ast_types.proofs.Cases.{StmtCase, var_case}
 use Rattle.ast_types.specs.Reading.{stmt_of, stmts_of}
 use Rattle.rhai_base.specs.Reading.{value_of}
@@ -16,6 +10,7 @@ use Rattle.theory_meaning.specs.Constants.{literal_value}
 use Rattle.theory_meaning.specs.Tree.{Expr, Var}
 use Rattle.theory_meaning.specs.Tree as tree
 use Rattle.script_queries.specs.Literals.{Comes, Item, Sought, found, literals_of, Tries, sought_as, sought_at, sought_in}
+use Rattle.ast_types.proofs.OtherKinds.{NoVar}
 
 found-append : (x : Text) (constant : Bool) (v : Option Value) (ss ts : List Sought) → found x constant v ++ literals_of ss ++ literals_of ts ≡ found x constant v ++ (literals_of ss ++ literals_of ts)
 found-append x constant v ss ts = append_assoc (found x constant v) (literals_of ss) (literals_of ts)
@@ -50,7 +45,7 @@ module _ (constants variables constant exported : Bool) (x : Text) (e : Expr) (w
 
 -- no other statement declares
 pub none_sought : {x : Stmt} {s : tree.Stmt} (constants variables : Bool) → StmtCase x s
-    → ((v : Ident × declared_expr.Expr × Option NonZeroUsize) (k : ASTFlags) (p : Position) → x ≡ stmt_kind.Var v k p → ⊥)
+    → NoVar x
     → literals_of (sought_at constants variables s) ≡ []
 none_sought constants variables (var_case v k p) n = absurd (n v k p refl)
 none_sought constants variables _ n = refl

@@ -2,9 +2,7 @@
 use Rattle.std.proofs.Common.{◌≡◌, ◌≢◌, ℕ, suc, List, [], ◌∷◌, ◌++◌, Result, Ok, Err, length, codes, refl, sym, ap, ◌∙◌, subst, arith}
 use Rattle.std.specs.Prelude.{IfOk, MatchResult, None}
 use Rattle.rhai_base.specs.Value.{Text}
-use Rattle.ast_types.specs.declared.block.StmtBlock.{StmtBlock}
 use Rattle.ast_types.specs.declared.expr.Expr as declared_expr
-use Rattle.ast_types.specs.declared.expr.Expr.TheVariants as expr_kind
 use Rattle.ast_types.specs.declared.stmt.Stmt as declared_stmt
 use Rattle.ast_types.specs.declared.stmt.Stmt.TheVariants as stmt_kind
 use Rattle.ast_types.specs.Reading.{expr_of, exprs_of, mark_of, stmt_of, stmts_of, stmt_of-Expr}
@@ -13,6 +11,7 @@ use Rattle.theory_meaning.specs.Constants.{pointer_call}
 use Rattle.theory_meaning.specs.Tree.{Expr, InterpolatedString, BlockExpr, FnCall, expr, Stmt, ExprStmt, Block, Stmts, no_stmts, stmt}
 use Rattle.ast_make.specs.Trees.{called}
 use Rattle.theory_spelling.specs.Bare.{bare_text, curried_call, evaluated, unbraced, with_other}
+use Rattle.ast_types.proofs.OtherKinds.{NoBraces, NoBlock, NoExpression}
 
 -- what an answer is known for
 pub ok_gives : {A E : Type 0} (P : A → Type 0) {r : Result A E} {a : A} → r ≡ Ok a → IfOk r P → P a
@@ -23,24 +22,24 @@ ok_matches P Q is h = subst (λ x. MatchResult x P Q) is h
 
 -- ---- an expression that is no braces, as a statement
 
-evaluated_other : {d : declared_expr.Expr} {e : Expr} → ExprCase d e → ((b : StmtBlock) → d ≡ expr_kind.Stmt b → ⊥) → ExprStmt e ≡ evaluated e
+evaluated_other : {d : declared_expr.Expr} {e : Expr} → ExprCase d e → NoBraces d → ExprStmt e ≡ evaluated e
 evaluated_other (braces_case b) h = absurd (h b refl)
 evaluated_other _ h = refl
 
-pub evaluated_default : {E : Type 0} (r : Result declared_stmt.Stmt E) (d : declared_expr.Expr) → ((b : StmtBlock) → d ≡ expr_kind.Stmt b → ⊥)
+pub evaluated_default : {E : Type 0} (r : Result declared_stmt.Stmt E) (d : declared_expr.Expr) → NoBraces d
     → IfOk r (λ s. s ≡ stmt_kind.Expr d) → IfOk r (λ s. stmt_of s ≡ evaluated (expr_of d))
 evaluated_default (Ok s) d h made = ap stmt_of made ∙ stmt_of-Expr d ∙ evaluated_other (expr_cases d) h
 evaluated_default (Err e) d h made = tt
 
 -- ---- statements in braces
 
-braced_other : {d : declared_stmt.Stmt} {s : Stmt} → StmtCase d s → ((b : StmtBlock) → d ≡ stmt_kind.Block b → ⊥) → ((x : declared_expr.Expr) → d ≡ stmt_kind.Expr x → ⊥) → BlockExpr (stmt s no_stmts) ≡ unbraced (stmt s no_stmts)
+braced_other : {d : declared_stmt.Stmt} {s : Stmt} → StmtCase d s → NoBlock d → NoExpression d → BlockExpr (stmt s no_stmts) ≡ unbraced (stmt s no_stmts)
 braced_other (block_case b) h k = absurd (h b refl)
 braced_other (expression_case x) h k = absurd (k x refl)
 braced_other _ h k = refl
 
 pub braced_default : {E : Type 0} (r : Result declared_expr.Expr E) (d : declared_stmt.Stmt) (ss : List declared_stmt.Stmt) → ss ≡ d ∷ []
-    → ((b : StmtBlock) → d ≡ stmt_kind.Block b → ⊥) → ((x : declared_expr.Expr) → d ≡ stmt_kind.Expr x → ⊥)
+    → NoBlock d → NoExpression d
     → IfOk r (λ e. expr_of e ≡ BlockExpr (stmts_of ss)) → IfOk r (λ e. expr_of e ≡ unbraced (stmts_of (d ∷ [])))
 braced_default (Ok e) d ss all h k made = made ∙ ap (λ l. BlockExpr (stmts_of l)) all ∙ braced_other (stmt_cases d) h k
 braced_default (Err e) d ss all h k made = tt
