@@ -17,17 +17,15 @@ use Rattle.ast_types.specs.declared.expr.BinaryExpr.{BinaryExpr}
 use Rattle.ast_types.specs.declared.expr.Expr as declared
 use Rattle.opt_steps.specs.NodeSteps.{ExprStep}
 use Rattle.opt_steps.specs.Standing.{may_stand}
-use Rattle.opt_steps.proofs.Places.{stands}
 use Rattle.opt_steps.proofs.Stepping.{expr_stays}
-use Rattle.rhai_ast.specs.declared.walker.node.ChainType.{ChainType}
-use Rattle.rhai_ast.specs.declared.walker.node.ChainType.TheVariants as access_kind
 use Rattle.opt_chains.specs.Answers.{constant_answer, known_answer, allowed}
-use Rattle.opt_chains.specs.Chains.{ended_by, unit_ends_by, value_answer, chain_of, IsTaken, IsQuiet, PartStep, ChainStep}
+use Rattle.opt_chains.specs.Chains.{ends_in_unit, value_answer, chain_of, IsTaken, IsQuiet, PartStep, IsQuietChain, ChainStep}
 use Rattle.opt_chains.specs.Literals.{allowed_part, literal_answer}
 use Rattle.opt_chains.specs.Onward.{argument, onward, Rewrites}
 use Rattle.opt_chains.proofs.Quiet.{chain_quiet}
 use Rattle.opt_chains.proofs.Rules.{constant_rewrites, known_rewrites, literal_rewrites}
 use Rattle.opt_chains.proofs.Settled.{no_rule}
+use Rattle.opt_chains.proofs.Steps.{stands_there as in_place}
 
 -- ---- a chain over unit, past a `?`
 
@@ -39,31 +37,18 @@ unit_is : (e : Expr) → is_unit_expr e ≡ true → UnitConstant ≡ e
 unit_is UnitConstant h = refl
 unit_is _ h = absurd cc
 
-some_is : (a b : ChainType) → Some a ≡ Some b → a ≡ b
-some_is a b h = cc
-
-ended_so : (a b : ChainType) (c : Bool) → ended_by a c ≡ Some b → (a ≡ b) × (c ≡ true)
-ended_so a b true h = (some_is a b h, refl)
-ended_so a b false h = absurd (let z : None ≡ Some b = h in cc)
-
 module _ (r : Engine) (p : Place) (s s' : Progress) (e' : Expr) (d : s'.is_dirty ≡ true) (k : s'.known ≡ s.known) (i : e' ≡ UnitConstant) where
-  pub unit_ends_dot : (e : Expr) → unit_ends_by p e ≡ Some access_kind.Dotting → ExprStep true r p s s' e e'
-  unit_ends_dot (Dot f l m) h =
-      let a = both_true (may_stand p UnitConstant) _ (ended_so access_kind.Dotting access_kind.Dotting _ h).1 in
+  chain_ends : (dot : Bool) (f : ChainFlags) (l m : Expr) → may_stand p UnitConstant && (f.negated && is_unit_expr l) ≡ true → ExprStep true r p s s' (link dot f l m) e'
+  chain_ends dot f l m h =
+      let a = both_true (may_stand p UnitConstant) _ h in
       let b = both_true f.negated (is_unit_expr l) a.1 in
-      subst (λ x. ExprStep true r p s s' (Dot f l m) x) (sym i)
-      (record { rule = subst (λ y. ExprRule (here r s) (Dot f y m) UnitConstant) (unit_is l b.1) (rule.unit_ends_dot b.0); stays = stands p _ _ refl refl a.0; fired = d; known = k }, keeps_unit _)
-  unit_ends_dot (Index f l m) h = absurd (let z = (ended_so access_kind.Indexing access_kind.Dotting _ h).0 in cc)
-  unit_ends_dot _ h = absurd (let z : None ≡ Some access_kind.Dotting = h in cc)
+      subst (λ x. ExprStep true r p s s' (link dot f l m) x) (sym i)
+      (record { rule = subst (λ y. ExprRule (here r s) (link dot f y m) UnitConstant) (unit_is l b.1) (rule.unit_ends dot f m b.0); stays = in_place p dot f l m UnitConstant a.0; fired = d; known = k }, keeps_unit _)
 
-  pub unit_ends_index : (e : Expr) → unit_ends_by p e ≡ Some access_kind.Indexing → ExprStep true r p s s' e e'
-  unit_ends_index (Index f l m) h =
-      let a = both_true (may_stand p UnitConstant) _ (ended_so access_kind.Indexing access_kind.Indexing _ h).1 in
-      let b = both_true f.negated (is_unit_expr l) a.1 in
-      subst (λ x. ExprStep true r p s s' (Index f l m) x) (sym i)
-      (record { rule = subst (λ y. ExprRule (here r s) (Index f y m) UnitConstant) (unit_is l b.1) (rule.unit_ends_index b.0); stays = stands p _ _ refl refl a.0; fired = d; known = k }, keeps_unit _)
-  unit_ends_index (Dot f l m) h = absurd (let z = (ended_so access_kind.Dotting access_kind.Indexing _ h).0 in cc)
-  unit_ends_index _ h = absurd (let z : None ≡ Some access_kind.Indexing = h in cc)
+  pub unit_ends : (e : Expr) → ends_in_unit p e ≡ true → ExprStep true r p s s' e e'
+  unit_ends (Dot f l m) h = chain_ends true f l m h
+  unit_ends (Index f l m) h = chain_ends false f l m h
+  unit_ends _ h = absurd cc
 
 -- ---- what may stand there
 
@@ -132,10 +117,9 @@ taken_step r ks p dot f old new unit (Some part) t h i = (i.right, part_rewrites
 
 -- ---- the chain
 
-chain_stays : (r : Engine) (p : Place) (s : Progress) (e : Expr) → is_chain_node e ≡ true → unit_ends_by p e ≡ None → IsQuiet r s.known p e → ExprStep false r p s s e e
-chain_stays r p s (Dot f l m) h u a = expr_stays tt a.answers (λ q. refl) (a.settled u)
-chain_stays r p s (Index f l m) h u a = expr_stays tt a.answers (λ q. refl) (a.settled u)
-chain_stays r p s _ h u a = absurd cc
-
-pub none_put : {r : Engine} {p : Place} {s : Progress} {e e' : Expr} → is_chain_node e ≡ true → unit_ends_by p e ≡ None → ChainStep r s.known p e e' None → ExprStep false r p s s e e'
-none_put {r = r} {p = p} {s = s} {e = e} h u q = subst (λ x. ExprStep false r p s s e x) (sym q.0) (chain_stays r p s e h u q.1)
+pub none_put : {r : Engine} {p : Place} {s : Progress} {e e' : Expr} → is_chain_node e ≡ true → ends_in_unit p e ≡ false → ChainStep r s.known p e e' None → ExprStep false r p s s e e'
+none_put {r = r} {p = p} {s = s} {e = e} h u q = subst (λ x. ExprStep false r p s s e x) (sym q.0) (chain_stays e h u q.1) where
+  chain_stays : (e : Expr) → is_chain_node e ≡ true → ends_in_unit p e ≡ false → IsQuietChain r s.known p e → ExprStep false r p s s e e
+  chain_stays (Dot f l m) h u a = expr_stays tt a.answers (λ q. refl) (a.settled u)
+  chain_stays (Index f l m) h u a = expr_stays tt a.answers (λ q. refl) (a.settled u)
+  chain_stays _ h u a = absurd cc

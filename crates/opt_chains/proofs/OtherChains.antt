@@ -1,22 +1,20 @@
 -- Values and nodes by their kinds.
-use Rattle.std.proofs.Common.{◌≡◌, false, None, refl}
+use Rattle.std.proofs.Common.{◌≡◌, List, false, refl}
 use Rattle.rhai_base.specs.declared.dynamic.Dynamic.{Dynamic}
-use Rattle.rhai_base.specs.declared.dynamic.Dynamic.TheVariants as dynamic
-use Rattle.rhai_base.specs.declared.fn_ptr.FnPtr.{FnPtr}
 use Rattle.rhai_base.specs.Reading.{value_of, DynamicCase, fn_ptr_case, dynamic_cases}
 use Rattle.rhai_base.specs.Value.{Value}
 use Rattle.theory_meaning.specs.Constants.{constant_for}
 use Rattle.theory_meaning.specs.Tree.{Expr}
 use Rattle.ast_types.proofs.Cases.{ExprCase, dot_case, index_case}
 use Rattle.theory_rewriting.specs.Parts.{constant_of}
-use Rattle.theory_rewriting.specs.Steps.{Place, is_chain_node}
+use Rattle.theory_rewriting.specs.Steps.{Place}
+use Rattle.theory_meaning.specs.Engine.{Engine}
+use Rattle.theory_rewriting.specs.Known.{Known}
 use Rattle.ast_types.specs.declared.expr.Expr as declared_expr
-use Rattle.opt_steps.proofs.NodeKinds.{NoDot, NoIndex}
-use Rattle.opt_chains.specs.Chains.{unit_ends_by}
-use Rattle.opt_chains.specs.Onward.{argument, goes_on}
-
-abbrev pub NoPointer : Dynamic → Type 0
-NoPointer v = (p : FnPtr) → v ≡ dynamic.FnPtr p → ⊥
+use Rattle.ast_types.proofs.OtherKinds.{NoDot, NoIndex}
+use Rattle.opt_chains.specs.Chains.{ends_in_unit, IsQuietChain}
+use Rattle.opt_chains.specs.Onward.{argument, goes_on, onward}
+use Rattle.rhai_base.proofs.OtherKinds.{NoPointer}
 
 -- the constant of what is no pointer
 no_pointer : {v : Dynamic} {w : Value} → DynamicCase v w → NoPointer v → constant_for w ≡ constant_of w
@@ -36,12 +34,17 @@ ends (dot_case b k p) d i = absurd (d b k p refl)
 ends (index_case b k p) d i = absurd (i b k p refl)
 ends _ d i = refl
 
-pub ends_nowhere : (p : Place) {x : declared_expr.Expr} {e : Expr} → ExprCase x e → NoDot x → NoIndex x → None ≡ unit_ends_by p e
+pub ends_nowhere : (p : Place) {x : declared_expr.Expr} {e : Expr} → ExprCase x e → NoDot x → NoIndex x → false ≡ ends_in_unit p e
 ends_nowhere p (dot_case b k q) d i = absurd (d b k q refl)
 ends_nowhere p (index_case b k q) d i = absurd (i b k q refl)
 ends_nowhere p _ d i = refl
 
-pub no_chain : {x : declared_expr.Expr} {e : Expr} → ExprCase x e → NoDot x → NoIndex x → false ≡ is_chain_node e
-no_chain (dot_case b k p) d i = absurd (d b k p refl)
-no_chain (index_case b k p) d i = absurd (i b k p refl)
-no_chain _ d i = refl
+pub quiet_otherwise : (r : Engine) (ks : List Known) (p : Place) {x : declared_expr.Expr} {e : Expr} → ExprCase x e → NoDot x → NoIndex x → IsQuietChain r ks p e
+quiet_otherwise r ks p (dot_case b k q) d i = absurd (d b k q refl)
+quiet_otherwise r ks p (index_case b k q) d i = absurd (i b k q refl)
+quiet_otherwise r ks p _ d i = tt
+
+pub nothing_left : {x : declared_expr.Expr} {e : Expr} → ExprCase x e → NoDot x → NoIndex x → (part : Expr) → part ≡ onward false e part
+nothing_left (dot_case b k q) d i part = absurd (d b k q refl)
+nothing_left (index_case b k q) d i part = absurd (i b k q refl)
+nothing_left _ d i part = refl

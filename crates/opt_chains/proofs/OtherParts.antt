@@ -2,42 +2,28 @@
 use Rattle.std.proofs.Common.{◌≡◌, Bool, true, false, not, List, [], ◌∷◌, Option, Some, None, is_some, ◌↔◌, IsTrue, refl}
 use Rattle.std.specs.Prelude.{ℤ}
 use Rattle.rhai_base.specs.declared.dynamic.Dynamic.{Dynamic}
-use Rattle.rhai_base.specs.declared.dynamic.Dynamic.TheVariants as dynamic
 use Rattle.rhai_base.specs.Reading.{DynamicCase, int_case, str_case, array_case, map_case}
 use Rattle.rhai_base.specs.Value.{Text, Value, Values, Fields, IntV, TextV, ArrayV, MapV}
 use Rattle.base_tokens.specs.declared.token.Token.{Token}
 use Rattle.rhai_base.specs.Operators.{Operator}
 use Rattle.rhai_base.specs.Builtin.{operator_of}
 use Rattle.ast_types.specs.declared.expr.Expr as declared_expr
-use Rattle.ast_types.specs.declared.expr.Expr.TheVariants as expr_kind
 use Rattle.ast_types.specs.Reading.{exprs_of, pairs_of, mark_by, mark_of}
 use Rattle.ast_types.proofs.Cases.{ExprCase, integer_constant_case, dynamic_constant_case, interpolated_string_case, array_case as array_expr, map_case as map_expr, variable_case, property_case, method_call_case}
 use Rattle.theory_meaning.specs.Constants.{constant_value, constant_values, constant_entries, array_value, map_value, joined_value}
 use Rattle.theory_meaning.specs.Engine.{Engine}
 use Rattle.theory_meaning.specs.Tree.{Expr, UnitConstant, Pairs}
-use Rattle.base_tokens.specs.declared.position.Position.{Position}
 use Rattle.theory_rewriting.specs.Answering.{property_of}
 use Rattle.theory_rewriting.specs.Clear.{known_value}
 use Rattle.theory_rewriting.specs.Indexing.{indexed}
 use Rattle.theory_rewriting.specs.Known.{Known}
-use Rattle.opt_steps.proofs.NodeKinds.{NoArray, NoMap, NoVariable, NoMethod}
+use Rattle.ast_types.proofs.OtherKinds.{NoArray, NoMap, NoVariable, NoMethod, NoProperty, NoInteger, NoDynamic}
 use Rattle.opt_chains.specs.Answers.{whole_value, has_no_token, is_empty, member_answer, entry_of, known_answer}
 use Rattle.opt_chains.specs.Literals.{integer_of, property_for, entry_for, literal_part, found_part}
 use Rattle.opt_chains.specs.declared.parts.literals.Found.{Found}
+use Rattle.rhai_base.proofs.OtherKinds.{NoInt, NoStr, NoItems, NoMembers}
 
 -- ---- values
-
-abbrev pub NoInt : Dynamic → Type 0
-NoInt v = (n : ℤ) → v ≡ dynamic.Int n → ⊥
-
-abbrev pub NoStr : Dynamic → Type 0
-NoStr v = (t : Text) → v ≡ dynamic.Str t → ⊥
-
-abbrev pub NoItems : Dynamic → Type 0
-NoItems v = (vs : List Dynamic) → v ≡ dynamic.Array vs → ⊥
-
-abbrev pub NoMembers : Dynamic → Type 0
-NoMembers v = (es : List (Text × Dynamic)) → v ≡ dynamic.Map es → ⊥
 
 pub no_property : {v : Dynamic} {w : Value} → DynamicCase v w → NoMembers v → (x : Text) → None ≡ property_of (Some w) x
 no_property (map_case es) h x = absurd (h es refl)
@@ -104,15 +90,6 @@ pub no_literal : {x : declared_expr.Expr} {e : Expr} → ExprCase x e → NoArra
 no_literal (array_expr xs p) a m = absurd (a xs p refl)
 no_literal (map_expr y p) a m = absurd (m y p refl)
 no_literal _ a m = refl
-
-abbrev pub NoProperty : declared_expr.Expr → Type 0
-NoProperty x = (y : Text × Text × Text) (p : Position) → x ≡ expr_kind.Property y p → ⊥
-
-abbrev pub NoInteger : declared_expr.Expr → Type 0
-NoInteger x = (n : ℤ) (p : Position) → x ≡ expr_kind.IntegerConstant n p → ⊥
-
-abbrev pub NoDynamic : declared_expr.Expr → Type 0
-NoDynamic x = (v : Dynamic) (p : Position) → x ≡ expr_kind.DynamicConstant v p → ⊥
 
 pub no_member : (r : Engine) (optional : Bool) (v : Value) {x : declared_expr.Expr} {e : Expr} → ExprCase x e → NoProperty x → NoMethod x → None ≡ member_answer r optional v e
 no_member r optional v (property_case y p) h m = absurd (h y p refl)

@@ -1,7 +1,7 @@
 -- The rules at a chain: a lemma for each, whether the chain ends with its first step or goes on.
 use Rattle.std.proofs.Common.{◌≡◌, ℕ, Bool, true, false, not, List, [], ◌∷◌, Option, Some, None, refl, sym, ap, ◌∙◌, subst, inl, inr}
 use Rattle.std.specs.Prelude.{ℤ, ◌&&◌, ◌⊎◌, codes, if◌then◌else◌}
-use Rattle.rhai_base.specs.Value.{Text, Value, BoolV, IntV, TextV, MapV, Fields, same_text, is_unit}
+use Rattle.rhai_base.specs.Value.{Text, Value, BoolV, IntV, TextV, MapV, same_text, is_unit}
 use Rattle.theory_meaning.specs.Constants.{constant_value}
 use Rattle.theory_meaning.specs.Elements.{at_index, index_in, entry}
 use Rattle.theory_meaning.specs.Engine.{Engine, mapped_type_name}
@@ -12,11 +12,11 @@ use Rattle.theory_meaning.specs.Tree.{CallToken, NoToken, Callee, ChainFlags, Pr
 use Rattle.theory_rewriting.specs.Answering.{property_of, index_of}
 use Rattle.theory_rewriting.specs.Clear.{known_value}
 use Rattle.theory_rewriting.specs.Context.{Context, knowing}
-use Rattle.theory_rewriting.specs.Indexing.{indexed, expr_at, pair_for, or_unit}
+use Rattle.theory_rewriting.specs.Indexing.{expr_at, pair_for, or_unit}
 use Rattle.theory_rewriting.specs.Known.{Known}
 use Rattle.theory_rewriting.specs.Parts.{constant_of, named, link}
 use Rattle.theory_rewriting.specs.Rules as rule
-use Rattle.theory_rewriting.specs.Rules.{ExprRule}
+use Rattle.theory_rewriting.specs.Rules.{StepRule, ExprRule}
 use Rattle.theory_rewriting.specs.Steps.{Place}
 use Rattle.theory_rewriting.proofs.Keeping.{keeps_constant_of}
 use Rattle.theory_rewriting.proofs.Reducing.{root_of_value, unit_of_value}
@@ -33,53 +33,24 @@ use Rattle.opt_chains.proofs.Steps.{StepCase, alone, first, step_cases, part_may
 pub record Answers (k : Context) (dot : Bool) (f : ChainFlags) (e a part : Expr) : Type 0 where
   pub fits : is_argument dot a ≡ true
   pub is_part : IsPart e part
-  pub rule : {b : Expr} {g : Expr → Expr} → StepCase f.breaks b a g → ExprRule k (link dot f e b) (g part)
+  pub rule : StepRule k dot f e a part
+
+-- the chain becomes that, or goes on from it
+chain_rule : {k : Context} {dot : Bool} {f : ChainFlags} {e a part b : Expr} {g : Expr → Expr} → StepRule k dot f e a part → StepCase f.breaks b a g → ExprRule k (link dot f e b) (g part)
+chain_rule {dot = dot} h alone = rule.step_answers dot h
+chain_rule {dot = dot} h (first next m a r q) = rule.chain_goes_on dot next m r q h
 
 -- it takes the place of the base and of that step
 pub rewrites : {r : Engine} {ks : List Known} (p : Place) (dot : Bool) (f : ChainFlags) (e b part : Expr) → Answers (knowing r ks) dot f e (argument f.breaks b) part → may_stand p (onward f.breaks b part) ≡ true → Rewrites r ks p (link dot f e b) (onward f.breaks b part)
 rewrites p dot f e b part h s =
     let c = step_cases f.breaks b in
-    record { rule = h.rule c; stays = stands_there p dot f e b (onward f.breaks b part) s; keeps = keeps_step dot f e part c h.fits h.is_part }
+    record { rule = chain_rule h.rule c; stays = stands_there p dot f e b (onward f.breaks b part) s; keeps = keeps_step dot f e part c h.fits h.is_part }
 
 none_is : {A B : Type 0} {v : B} → None ≡ Some v → A
 none_is {v = v} h = absurd (let z : None ≡ Some v = h in cc)
 
 some_is : {A : Type 0} (d e : A) → Some d ≡ Some e → d ≡ e
 some_is d e h = cc
-
--- ---- a part of a constant
-
-module _ {k : Context} {f : ChainFlags} {e : Expr} where
-  property_of_constant : (p : PropertyNames) (fs : Fields) → constant_value e ≡ Some (MapV fs) → {b : Expr} {g : Expr → Expr} → StepCase f.breaks b (Property p) g → ExprRule k (Dot f e b) (g (constant_of (entry fs p.name)))
-  property_of_constant p fs h alone = rule.property_of_constant fs h
-  property_of_constant p fs h (first dot m a r q) = rule.property_of_constant_first dot m p r fs q h
-
-  index_of_constant : (i : Expr) (v j u : Value) → constant_value e ≡ Some v → constant_value i ≡ Some j → indexed v j ≡ Some u → {b : Expr} {g : Expr → Expr} → StepCase f.breaks b i g → ExprRule k (Index f e b) (g (constant_of u))
-  index_of_constant i v j u h x y alone = rule.index_of_constant v j u h x y
-  index_of_constant i v j u h x y (first dot m a r q) = rule.index_of_constant_first dot m i r v j u q h x y
-
-  type_of_method : (v : Value) → constant_value e ≡ Some v → (f.negated && is_unit v) ≡ false → {b : Expr} {g : Expr → Expr} → StepCase f.breaks b (MethodCall (named (codes "type_of") false) no_exprs) g → ExprRule k (Dot f e b) (g (constant_of (TextV (mapped_type_name k.engine v))))
-  type_of_method v h n alone = rule.type_of_method v h n
-  type_of_method v h n (first dot m a r q) = rule.type_of_method_first dot m r v q h n
-
-  is_shared_method : (v : Value) → constant_value e ≡ Some v → (f.negated && is_unit v) ≡ false → {b : Expr} {g : Expr → Expr} → StepCase f.breaks b (MethodCall (named (codes "is_shared") false) no_exprs) g → ExprRule k (Dot f e b) (g (constant_of (BoolV false)))
-  is_shared_method v h n alone = rule.is_shared_method v h n
-  is_shared_method v h n (first dot m a r q) = rule.is_shared_method_first dot m r v q h n
-
--- ---- a part of a literal
-
-module _ {k : Context} {f : ChainFlags} where
-  element_of_array : (es : Exprs) (i e : Expr) (n : ℤ) (j : ℕ) → are_pure_exprs es ≡ true → constant_value i ≡ Some (IntV n) → index_in (count_exprs es) n ≡ Some j → expr_at es j ≡ Some e → {b : Expr} {g : Expr → Expr} → StepCase f.breaks b i g → ExprRule k (Index f (ArrayOf es) b) (g e)
-  element_of_array es i e n j h x y z alone = rule.element_of_array n j h x y z
-  element_of_array es i e n j h x y z (first dot m a r q) = rule.element_of_array_first dot m i r n j q h x y z
-
-  property_of_map : (ps : Pairs) (template : List Text) (p : PropertyNames) → are_pure_pairs ps ≡ true → {b : Expr} {g : Expr → Expr} → StepCase f.breaks b (Property p) g → ExprRule k (Dot f (MapOf ps template) b) (g (or_unit (pair_for ps p.name)))
-  property_of_map ps template p h alone = rule.property_of_map h
-  property_of_map ps template p h (first dot m a r q) = rule.property_of_map_first dot m p r q h
-
-  entry_of_map : (ps : Pairs) (template : List Text) (i : Expr) (x : Text) → are_pure_pairs ps ≡ true → constant_value i ≡ Some (TextV x) → {b : Expr} {g : Expr → Expr} → StepCase f.breaks b i g → ExprRule k (Index f (MapOf ps template) b) (g (or_unit (pair_for ps x)))
-  entry_of_map ps template i x h q alone = rule.entry_of_map x h q
-  entry_of_map ps template i x h q (first dot m a r z) = rule.entry_of_map_first dot m i r x z h q
 
 -- ---- what answers at a constant
 
@@ -129,16 +100,16 @@ module _ (k : Context) (f : ChainFlags) (e : Expr) where
 
   property_gives : (p : PropertyNames) (u v : Value) → constant_value e ≡ Some u → property_of (Some u) p.name ≡ Some v → Gives true (Property p) v
   property_gives p (MapV fs) v h q =
-      subst (Gives true (Property p)) (some_is (entry fs p.name) v q) (record { fits = refl; is_part = constant_is_part e (entry fs p.name); rule = λ c. property_of_constant p fs h c })
+      subst (Gives true (Property p)) (some_is (entry fs p.name) v q) (record { fits = refl; is_part = constant_is_part e (entry fs p.name); rule = rule.property_of_constant fs h })
   property_gives p _ v h q = none_is q
 
   word_gives : (u v : Value) (c : Callee) (es : Exprs) (a b : Bool) → constant_value e ≡ Some u → is_bare c es ≡ true → (f.negated && is_unit u) ≡ false → same_text c.name (codes "type_of") ≡ a → same_text c.name (codes "is_shared") ≡ b → (if a then Some (TextV (mapped_type_name k.engine u)) else if b then Some (BoolV false) else None) ≡ Some v → Gives true (MethodCall c es) v
   word_gives u v c es true b h i n x y q =
       subst (Gives true (MethodCall c es)) (some_is (TextV (mapped_type_name k.engine u)) v q)
-      (subst (λ m. Gives true m (TextV (mapped_type_name k.engine u))) (bare_call c es (codes "type_of") i (text_is c.name (codes "type_of") x)) (record { fits = refl; is_part = constant_is_part e (TextV (mapped_type_name k.engine u)); rule = λ s. type_of_method u h n s }))
+      (subst (λ m. Gives true m (TextV (mapped_type_name k.engine u))) (bare_call c es (codes "type_of") i (text_is c.name (codes "type_of") x)) (record { fits = refl; is_part = constant_is_part e (TextV (mapped_type_name k.engine u)); rule = rule.type_of_method u h n }))
   word_gives u v c es false true h i n x y q =
       subst (Gives true (MethodCall c es)) (some_is (BoolV false) v q)
-      (subst (λ m. Gives true m (BoolV false)) (bare_call c es (codes "is_shared") i (text_is c.name (codes "is_shared") y)) (record { fits = refl; is_part = constant_is_part e (BoolV false); rule = λ s. is_shared_method u h n s }))
+      (subst (λ m. Gives true m (BoolV false)) (bare_call c es (codes "is_shared") i (text_is c.name (codes "is_shared") y)) (record { fits = refl; is_part = constant_is_part e (BoolV false); rule = rule.is_shared_method u h n }))
   word_gives u v c es false false h i n x y q = none_is q
 
   method_gives : (u v : Value) (c : Callee) (es : Exprs) → constant_value e ≡ Some u → method_answer k.engine f.negated u c es ≡ Some v → Gives true (MethodCall c es) v
@@ -154,7 +125,7 @@ module _ (k : Context) (f : ChainFlags) (e : Expr) where
 
   index_gives : (a : Expr) (u v : Value) (o : Option Value) → constant_value e ≡ Some u → constant_value a ≡ o → index_of (Some u) o ≡ Some v → Gives false a v
   index_gives a u v None h x q = none_is q
-  index_gives a u v (Some j) h x q = record { fits = refl; is_part = constant_is_part e v; rule = λ c. index_of_constant a u j v h x q c }
+  index_gives a u v (Some j) h x q = record { fits = refl; is_part = constant_is_part e v; rule = rule.index_of_constant u j v h x q }
 
   answer_gives : (dot : Bool) (a : Expr) (o : Option Value) (v : Value) → whole_value e ≡ o → at_index o (λ u. answer_at k.engine dot f.negated u a) ≡ Some v → Gives dot a v
   answer_gives dot a None v h q = none_is q
@@ -178,7 +149,7 @@ module _ (k : Context) (f : ChainFlags) where
 
   element_at : (es : Exprs) (a part : Expr) (n : ℤ) (o : Option ℕ) → are_pure_exprs es ≡ true → constant_value a ≡ Some (IntV n) → index_in (count_exprs es) n ≡ o → at_index o (expr_at es) ≡ Some part → Answers k false f (ArrayOf es) a part
   element_at es a part n None h x y q = none_is q
-  element_at es a part n (Some j) h x y q = record { fits = refl; is_part = element_is_part es j part h q; rule = λ c. element_of_array es a part n j h x y q c }
+  element_at es a part n (Some j) h x y q = record { fits = refl; is_part = element_is_part es j part h q; rule = rule.element_of_array n j h x y q }
 
   element_answers : (es : Exprs) (a part : Expr) (o : Option ℤ) → are_pure_exprs es ≡ true → integer_of (constant_value a) ≡ o → element_for es o ≡ Some part → Answers k false f (ArrayOf es) a part
   element_answers es a part None h x q = none_is q
@@ -186,12 +157,12 @@ module _ (k : Context) (f : ChainFlags) where
 
   entry_answers : (ps : Pairs) (template : List Text) (a part : Expr) (o : Option Value) → are_pure_pairs ps ≡ true → constant_value a ≡ o → entry_for ps o ≡ Some part → Answers k false f (MapOf ps template) a part
   entry_answers ps template a part (Some (TextV x)) h y q =
-      subst (Answers k false f (MapOf ps template) a) (some_is (or_unit (pair_for ps x)) part q) (record { fits = refl; is_part = entry_is_part ps template x h; rule = λ c. entry_of_map ps template a x h y c })
+      subst (Answers k false f (MapOf ps template) a) (some_is (or_unit (pair_for ps x)) part q) (record { fits = refl; is_part = entry_is_part ps template x h; rule = rule.entry_of_map x h y })
   entry_answers ps template a part _ h y q = none_is q
 
   property_answers : (ps : Pairs) (template : List Text) (a part : Expr) → are_pure_pairs ps ≡ true → property_for ps a ≡ Some part → Answers k true f (MapOf ps template) a part
   property_answers ps template (Property p) part h q =
-      subst (Answers k true f (MapOf ps template) (Property p)) (some_is (or_unit (pair_for ps p.name)) part q) (record { fits = refl; is_part = entry_is_part ps template p.name h; rule = λ c. property_of_map ps template p h c })
+      subst (Answers k true f (MapOf ps template) (Property p)) (some_is (or_unit (pair_for ps p.name)) part q) (record { fits = refl; is_part = entry_is_part ps template p.name h; rule = rule.property_of_map h })
   property_answers ps template _ part h q = none_is q
 
   literal_answers : (dot : Bool) (e a part : Expr) → is_pure_expr e ≡ true → literal_part dot e a ≡ Some part → Answers k dot f e a part

@@ -16,14 +16,12 @@ use Rattle.theory_rewriting.specs.Normal.{IsNormal, HasNormalParts}
 use Rattle.theory_rewriting.specs.Parts.{constant_of, named, link}
 use Rattle.theory_rewriting.specs.Rewriting.{BaseTo, base, by_expr_rule}
 use Rattle.theory_rewriting.specs.Rules as rule
-use Rattle.theory_rewriting.specs.Rules.{ExprRule}
+use Rattle.theory_rewriting.specs.Rules.{StepRule, ExprRule}
 use Rattle.theory_rewriting.specs.Steps.{Place, MayBecome, NoExprRule}
 use Rattle.opt_steps.specs.Standing.{may_stand}
-use Rattle.rhai_ast.specs.declared.walker.node.ChainType.{ChainType}
-use Rattle.rhai_ast.specs.declared.walker.node.ChainType.TheVariants as access_kind
 use Rattle.opt_chains.specs.Answers.{whole_value, method_answer, word_answer, answer_at, constant_answer, entry_of, known_answer, allowed}
 use Rattle.opt_chains.specs.Literals.{integer_of, element_for, entry_for, allowed_part, literal_part, literal_answer}
-use Rattle.opt_chains.specs.Chains.{ended_by, unit_ends_by}
+use Rattle.opt_chains.specs.Chains.{ends_in_unit}
 use Rattle.opt_chains.specs.Onward.{argument, onward}
 use Rattle.opt_chains.proofs.Steps.{stood}
 
@@ -125,33 +123,43 @@ module _ {r : Engine} {ks : List Known} {p : Place} {dot : Bool} {f : ChainFlags
 word_is : (r : Engine) (optional : Bool) (v w : Value) (c : Text) → word_answer r v c ≡ Some w → (optional && is_unit v) ≡ false → method_answer r optional v (named c false) no_exprs ≡ Some w
 word_is r optional v w c h n = ap (λ x. if not x then word_answer r v c else None) n ∙ h
 
-no_dot_rule : {r : Engine} {ks : List Known} {p : Place} {f : ChainFlags} {e b e' : Expr} → ExprRule (knowing r ks) (Dot f e b) e' → Still r ks p true f e b → MayBecome p (Dot f e b) e' → ⊥
-no_dot_rule (rule.unit_ends_dot n) s m = not_ended s n refl m
-no_dot_rule {f = f} (rule.property_of_constant {p = q} fs h) s m = by_constant s (reads_property f.breaks q) (MapV fs) (entry fs q.name) h refl m
-no_dot_rule {f = f} (rule.property_of_map {p = q} h) s m = by_literal s (reads_property f.breaks q) _ h refl m
-no_dot_rule {r = r} {f = f} (rule.type_of_method v h n) s m = by_constant s (reads_method f.breaks _ _) v _ h (word_is r f.negated v (TextV (mapped_type_name r v)) (codes "type_of") refl n) m
-no_dot_rule {r = r} {f = f} (rule.is_shared_method v h n) s m = by_constant s (reads_method f.breaks _ _) v _ h (word_is r f.negated v (BoolV false) (codes "is_shared") refl n) m
-no_dot_rule {f = f} (rule.property_of_constant_first dot n q r fs x h) s m = by_constant s (reads_first f.breaks dot n (Property q) r x) (MapV fs) (entry fs q.name) h refl m
-no_dot_rule {r = r} {f = f} (rule.type_of_method_first dot n t v x h u) s m = by_constant s (reads_first f.breaks dot n _ t x) v _ h (word_is r f.negated v (TextV (mapped_type_name r v)) (codes "type_of") refl u) m
-no_dot_rule {r = r} {f = f} (rule.is_shared_method_first dot n t v x h u) s m = by_constant s (reads_first f.breaks dot n _ t x) v _ h (word_is r f.negated v (BoolV false) (codes "is_shared") refl u) m
-no_dot_rule {f = f} (rule.property_of_map_first dot n q r x h) s m = by_literal s (reads_first f.breaks dot n (Property q) r x) _ h refl m
-no_dot_rule {f = f} (rule.known_property {p = q} fs h) s m = by_known s (reads_property f.breaks q) (entry fs q.name) (ap (λ o. property_of o q.name) h) m
+-- a chain at which this is refused
+abbrev Refuses : Engine → List Known → Place → Expr → Expr → Type 0
+Refuses r ks p (Dot f e b) e' = Still r ks p true f e b → MayBecome p (Dot f e b) e' → ⊥
+Refuses r ks p (Index f e b) e' = Still r ks p false f e b → MayBecome p (Index f e b) e' → ⊥
+Refuses r ks p _ e' = Unit {0}
 
-no_index_rule : {r : Engine} {ks : List Known} {p : Place} {f : ChainFlags} {e b e' : Expr} → ExprRule (knowing r ks) (Index f e b) e' → Still r ks p false f e b → MayBecome p (Index f e b) e' → ⊥
-no_index_rule (rule.unit_ends_index n) s m = not_ended s n refl m
-no_index_rule {f = f} (rule.index_of_constant {i = i} v j u h q x) s m = by_constant s (reads_constant f.breaks i j q) v u h (ap (index_of (Some v)) q ∙ x) m
-no_index_rule {f = f} (rule.element_of_array {es = es} {i = i} n j h q x y) s m = by_literal s (reads_constant f.breaks i _ q) _ h (ap (λ o. element_for es (integer_of o)) q ∙ ap (λ o. at_index o (expr_at es)) x ∙ y) m
-no_index_rule {f = f} (rule.entry_of_map {ps = ps} {i = i} x h q) s m = by_literal s (reads_constant f.breaks i _ q) _ h (ap (entry_for ps) q) m
-no_index_rule {f = f} (rule.index_of_constant_first dot n i t v j u z h q x) s m = by_constant s (reads_first f.breaks dot n i t z) v u h (ap (index_of (Some v)) q ∙ x) m
-no_index_rule {f = f} (rule.element_of_array_first {es = es} dot n i t w j z h q x y) s m = by_literal s (reads_first f.breaks dot n i t z) _ h (ap (λ o. element_for es (integer_of o)) q ∙ ap (λ o. at_index o (expr_at es)) x ∙ y) m
-no_index_rule {f = f} (rule.entry_of_map_first {ps = ps} dot n i t x z h q) s m = by_literal s (reads_first f.breaks dot n i t z) _ h (ap (entry_for ps) q) m
-no_index_rule {f = f} (rule.known_entry {i = i} fs y h q) s m = by_known s (reads_constant f.breaks i _ q) (entry fs y) (ap (λ o. entry_of o (constant_value i)) h ∙ ap (entry_of (Some (MapV fs))) q) m
+reads_alone : {r : Engine} {ks : List Known} {dot : Bool} {f : ChainFlags} {e a e' : Expr} → StepRule (knowing r ks) dot f e a e' → Reads f.breaks a a (λ x. x)
+reads_alone {f = f} (rule.property_of_constant {p = q} fs h) = reads_property f.breaks q
+reads_alone {f = f} (rule.index_of_constant {i = i} v j u h q x) = reads_constant f.breaks i j q
+reads_alone {f = f} (rule.element_of_array {i = i} n j h q x y) = reads_constant f.breaks i _ q
+reads_alone {f = f} (rule.property_of_map {p = q} h) = reads_property f.breaks q
+reads_alone {f = f} (rule.entry_of_map {i = i} x h q) = reads_constant f.breaks i _ q
+reads_alone {f = f} (rule.type_of_method v h n) = reads_method f.breaks _ _
+reads_alone {f = f} (rule.is_shared_method v h n) = reads_method f.breaks _ _
 
-not_ended_by : (a : ChainType) (c : Bool) → ended_by a c ≡ None → c ≡ false
-not_ended_by a true h = absurd (let z : Some a ≡ None = h in cc)
-not_ended_by a false h = refl
+module _ {r : Engine} {ks : List Known} {p : Place} where
+  step_refused : {dot : Bool} {f : ChainFlags} {e a e' b : Expr} {g : Expr → Expr} → StepRule (knowing r ks) dot f e a e' → Still r ks p dot f e b → Reads f.breaks b a g → MayBecome p (link dot f e b) (g e') → ⊥
+  step_refused (rule.property_of_constant {p = q} fs h) s i m = by_constant s i (MapV fs) (entry fs q.name) h refl m
+  step_refused (rule.index_of_constant v j u h q x) s i m = by_constant s i v u h (ap (index_of (Some v)) q ∙ x) m
+  step_refused (rule.element_of_array {es = es} n j h q x y) s i m = by_literal s i _ h (ap (λ o. element_for es (integer_of o)) q ∙ ap (λ o. at_index o (expr_at es)) x ∙ y) m
+  step_refused (rule.property_of_map h) s i m = by_literal s i _ h refl m
+  step_refused (rule.entry_of_map {ps = ps} x h q) s i m = by_literal s i _ h (ap (entry_for ps) q) m
+  step_refused {f = f} (rule.type_of_method v h n) s i m = by_constant s i v _ h (word_is r f.negated v (TextV (mapped_type_name r v)) (codes "type_of") refl n) m
+  step_refused {f = f} (rule.is_shared_method v h n) s i m = by_constant s i v _ h (word_is r f.negated v (BoolV false) (codes "is_shared") refl n) m
+
+refuses : {r : Engine} {ks : List Known} (p : Place) {x e' : Expr} → ExprRule (knowing r ks) x e' → Refuses r ks p x e'
+refuses p (rule.unit_ends true f b n) = λ s m. not_ended s n refl m
+refuses p (rule.unit_ends false f b n) = λ s m. not_ended s n refl m
+refuses p (rule.step_answers true h) = λ s m. step_refused h s (reads_alone h) m
+refuses p (rule.step_answers false h) = λ s m. step_refused h s (reads_alone h) m
+refuses p (rule.chain_goes_on true next {f = f} {a = a} n t q h) = λ s m. step_refused h s (reads_first f.breaks next n a t q) m
+refuses p (rule.chain_goes_on false next {f = f} {a = a} n t q h) = λ s m. step_refused h s (reads_first f.breaks next n a t q) m
+refuses p (rule.known_property {f = f} {p = q} fs h) = λ s m. by_known s (reads_property f.breaks q) (entry fs q.name) (ap (λ o. property_of o q.name) h) m
+refuses p (rule.known_entry {f = f} {i = i} fs y h q) = λ s m. by_known s (reads_constant f.breaks i _ q) (entry fs y) (ap (λ o. entry_of o (constant_value i)) h ∙ ap (entry_of (Some (MapV fs))) q) m
+refuses p _ = tt
 
 module _ (r : Engine) (ks : List Known) (p : Place) where
-  pub no_rule : (dot : Bool) (f : ChainFlags) (e b : Expr) → allowed (may_stand p (onward f.breaks b UnitConstant)) (constant_answer r dot f.negated e (argument f.breaks b)) ≡ None → allowed (may_stand p (onward f.breaks b UnitConstant)) (known_answer ks dot e b) ≡ None → literal_answer (may_stand p (onward f.breaks b UnitConstant)) dot e (argument f.breaks b) ≡ None → unit_ends_by p (link dot f e b) ≡ None → HasNormalParts (knowing r ks) (link dot f e b) → NoExprRule (knowing r ks) p (link dot f e b)
-  no_rule true f e b c n l u h e' q m = no_dot_rule q (record { constants = c; names = n; literals = l; ends = not_ended_by access_kind.Dotting _ u; normal = h.0 }) m
-  no_rule false f e b c n l u h e' q m = no_index_rule q (record { constants = c; names = n; literals = l; ends = not_ended_by access_kind.Indexing _ u; normal = h.0 }) m
+  pub no_rule : (dot : Bool) (f : ChainFlags) (e b : Expr) → allowed (may_stand p (onward f.breaks b UnitConstant)) (constant_answer r dot f.negated e (argument f.breaks b)) ≡ None → allowed (may_stand p (onward f.breaks b UnitConstant)) (known_answer ks dot e b) ≡ None → literal_answer (may_stand p (onward f.breaks b UnitConstant)) dot e (argument f.breaks b) ≡ None → ends_in_unit p (link dot f e b) ≡ false → HasNormalParts (knowing r ks) (link dot f e b) → NoExprRule (knowing r ks) p (link dot f e b)
+  no_rule true f e b c n l u h e' q m = refuses p q (record { constants = c; names = n; literals = l; ends = u; normal = h.0 }) m
+  no_rule false f e b c n l u h e' q m = refuses p q (record { constants = c; names = n; literals = l; ends = u; normal = h.0 }) m

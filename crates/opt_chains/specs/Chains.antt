@@ -1,5 +1,5 @@
 -- What the functions at a chain answer: the part of the first step, what the chain becomes, or that no step answers.
-use Rattle.std.specs.Prelude.{◌≡◌, Bool, true, false, ◌&&◌, List, Option, Some, None}
+use Rattle.std.specs.Prelude.{◌≡◌, Bool, false, ◌&&◌, List, Option, Some, None}
 use Rattle.std.specs.Option.{option_map}
 use Rattle.rhai_base.specs.Value.{Value}
 use Rattle.theory_meaning.specs.Engine.{Engine, or_else}
@@ -14,21 +14,15 @@ use Rattle.theory_rewriting.specs.Steps.{AnswersNone, NoExprRule, Place}
 use Rattle.opt_steps.specs.Standing.{may_stand}
 use Rattle.ast_types.specs.declared.expr.BinaryExpr.{BinaryExpr}
 use Rattle.ast_types.specs.declared.expr.Expr as declared
-use Rattle.rhai_ast.specs.declared.walker.node.ChainType.{ChainType}
-use Rattle.rhai_ast.specs.declared.walker.node.ChainType.TheVariants as access_kind
 use Rattle.opt_chains.specs.Answers.{constant_answer, known_answer, allowed}
 use Rattle.opt_chains.specs.Literals.{literal_answer}
 use Rattle.opt_chains.specs.Onward.{argument, onward, Rewrites}
 
--- a chain that ends with unit, past a `?` of unit, where it may become unit: by which node
-abbrev pub ended_by : ChainType → Bool → Option ChainType
-ended_by a true = Some a
-ended_by a false = None
-
-abbrev pub unit_ends_by : Place → Expr → Option ChainType
-unit_ends_by p (Dot f l r) = ended_by access_kind.Dotting (may_stand p UnitConstant && (f.negated && is_unit l))
-unit_ends_by p (Index f l r) = ended_by access_kind.Indexing (may_stand p UnitConstant && (f.negated && is_unit l))
-unit_ends_by p _ = None
+-- a chain over unit, past a `?`, where it may become unit
+abbrev pub ends_in_unit : Place → Expr → Bool
+ends_in_unit p (Dot f l r) = may_stand p UnitConstant && (f.negated && is_unit l)
+ends_in_unit p (Index f l r) = may_stand p UnitConstant && (f.negated && is_unit l)
+ends_in_unit p _ = false
 
 -- by value: at a constant, or at a known name
 abbrev pub value_answer : Engine → List Known → (unit dot : Bool) → ChainFlags → Expr → Expr → Option Value
@@ -43,7 +37,7 @@ pub record IsTaken (unit dot breaks : Bool) (old new : BinaryExpr) (part : Optio
 -- no step answers at a chain: where unit doesn't end it either, no rule applies
 pub record IsQuiet (r : Engine) (ks : List Known) (p : Place) (e : Expr) : Type 0 where
   pub answers : AnswersNone e
-  pub settled : unit_ends_by p e ≡ None → HasNormalParts (knowing r ks) e → NoExprRule (knowing r ks) p e
+  pub settled : ends_in_unit p e ≡ false → HasNormalParts (knowing r ks) e → NoExprRule (knowing r ks) p e
 
 -- the chain of two sides
 abbrev pub chain_of : Bool → ChainFlags → BinaryExpr → Expr
@@ -59,6 +53,12 @@ abbrev pub SidesStep : Engine → List Known → Place → Bool → ChainFlags �
 SidesStep r ks p dot f old new (Some made) = Rewrites r ks p (chain_of dot f old) (expr_of made)
 SidesStep r ks p dot f old new None = (new ≡ old) × IsQuiet r ks p (chain_of dot f old)
 
+abbrev pub IsQuietChain : Engine → List Known → Place → Expr → Type 0
+IsQuietChain r ks p (Dot f l b) = IsQuiet r ks p (Dot f l b)
+IsQuietChain r ks p (Index f l b) = IsQuiet r ks p (Index f l b)
+IsQuietChain r ks p _ = Unit {0}
+
+-- what is no chain stays
 abbrev pub ChainStep : Engine → List Known → Place → Expr → Expr → Option declared.Expr → Type 0
 ChainStep r ks p old new (Some made) = Rewrites r ks p old (expr_of made)
-ChainStep r ks p old new None = (new ≡ old) × IsQuiet r ks p old
+ChainStep r ks p old new None = (new ≡ old) × IsQuietChain r ks p old

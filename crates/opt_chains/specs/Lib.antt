@@ -1,5 +1,4 @@
 pub mod Answers
-pub mod Asking
 pub mod Chains
 pub mod Literals
 pub mod Onward

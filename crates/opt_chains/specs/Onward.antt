@@ -1,5 +1,5 @@
 -- A chain by its first step: the argument of that step, and what is left of the chain behind it.
-use Rattle.std.specs.Prelude.{Bool, true, false, List}
+use Rattle.std.specs.Prelude.{◌≡◌, Bool, true, false, List, Option, Some, None}
 use Rattle.theory_meaning.specs.Tree.{Expr, Dot, Index}
 use Rattle.theory_meaning.specs.Engine.{Engine}
 use Rattle.theory_rewriting.specs.Context.{knowing}
@@ -24,6 +24,11 @@ abbrev pub goes_on : (breaks : Bool) → Expr → Bool
 goes_on false (Dot m a r) = true
 goes_on false (Index m a r) = true
 goes_on breaks e = false
+
+-- the rest of a chain took a part as its base, or nothing is left, and the part is given back
+abbrev pub GoesOn : (old new part : Expr) → (back : Option Expr) → Type 0
+GoesOn old new part None = new ≡ onward false old part
+GoesOn old new part (Some back) = (back ≡ part) × (part ≡ onward false old part)
 
 -- a rule takes a node to another, that may stand there, and whose parts are as reduced
 pub record Rewrites (r : Engine) (ks : List Known) (p : Place) (e e' : Expr) : Type 0 where

@@ -2,11 +2,9 @@
 //! reference and then taken out.
 
 mod answers;
-mod asking;
 mod known;
 mod literals;
 
 pub use answers::constant_answer;
-pub use asking::{Reach, reach_of};
 pub use known::known_answer;
 pub use literals::{Found, literal_answer, take_part};

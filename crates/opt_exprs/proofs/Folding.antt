@@ -5,7 +5,7 @@ use Rattle.theory_meaning.specs.Constants.{constant_for, constant_value, constan
 use Rattle.theory_meaning.specs.Control.{texts_joined}
 use Rattle.theory_meaning.specs.Elements.{fields_of}
 use Rattle.theory_meaning.specs.Engine.{Engine, or_else}
-use Rattle.theory_meaning.specs.Tree.{Expr, InterpolatedString, MapOf, Exprs, Pairs}
+use Rattle.theory_meaning.specs.Tree.{Expr, InterpolatedString, MapOf}
 use Rattle.theory_meaning.specs.Walk.{OfExpr}
 use Rattle.theory_rewriting.specs.Rules as rule
 use Rattle.theory_rewriting.specs.Rules.{ExprRule}
@@ -69,19 +69,30 @@ none_literal e h = by (constant_value e) (call_value e) h where
 kept : (r : Engine) (p : Place) (s s' : Progress) (e e' : Expr) → IsReducedNode r (OfExpr e) → AnswersNone e → known_value s.known e ≡ None → (HasNormalParts (here r s) e → NoExprRule (here r s) p e) → s' ≡ s → e' ≡ e → ExprKept r p s s' e e'
 kept r p s s' e e' h a u n i j = record { same = j; state = i; answers = a; reduced = h; unknown = λ _. u; settled = n }
 
-text-settled : {k : Context} {es : Exprs} {e' : Expr} → IsNormal (ExprsTo k) es → any_changes es ≡ false → joined_value (constant_values es) ≡ None → ExprRule k (InterpolatedString es) e' → ⊥
-text-settled n c h (rule.text_changes q) = no_part_changes n c q
-text-settled n c h (rule.text_folds vs q) = let folds = ap joined_value q in absurd cc
+-- no rule fires at such a text or map
+abbrev Unfolded : Context → Expr → Type 0
+Unfolded k (InterpolatedString es) = IsNormal (ExprsTo k) es × (any_changes es ≡ false) × (joined_value (constant_values es) ≡ None)
+Unfolded k (MapOf ps template) = map_value (constant_entries ps) ≡ None
+Unfolded k _ = ⊥
+
+no_rule : {k : Context} {e e' : Expr} → ExprRule k e e' → Unfolded k e → ⊥
+no_rule (rule.text_changes q) u = no_part_changes u.0 u.1 q
+no_rule (rule.text_folds vs q) u = let folds = ap joined_value q in let none = u.2 in absurd cc
+no_rule (rule.map_of_constants vs q) u = let folds = ap map_value q in absurd cc
+no_rule (rule.unit_ends true g r n) u = u
+no_rule (rule.unit_ends false g r n) u = u
+no_rule (rule.step_answers true q) u = u
+no_rule (rule.step_answers false q) u = u
+no_rule (rule.chain_goes_on true next g r n q) u = u
+no_rule (rule.chain_goes_on false next g r n q) u = u
+no_rule _ u = u
 
 text-kept : (s s' : Progress) (e e' : Expr) → is_interpolated e ≡ true → constant_value e ≡ None → parts_change e ≡ false → s' ≡ s → e' ≡ e → (r : Engine) (p : Place) → ExprKept r p s s' e e'
-text-kept s s' (InterpolatedString es) e' h c g i j r p = kept r p s s' (InterpolatedString es) e' tt refl refl (λ n e' q m. text-settled n g c q) i j
+text-kept s s' (InterpolatedString es) e' h c g i j r p = kept r p s s' (InterpolatedString es) e' tt refl refl (λ n e' q m. no_rule q (n, g, c)) i j
 text-kept s s' _ e' h c g i j r p = absurd cc
 
-map-settled : {k : Context} {ps : Pairs} {template : List Text} {e' : Expr} → map_value (constant_entries ps) ≡ None → ExprRule k (MapOf ps template) e' → ⊥
-map-settled h (rule.map_of_constants vs q) = let folds = ap map_value q in absurd cc
-
 map-kept : (s s' : Progress) (e e' : Expr) → is_map e ≡ true → constant_value e ≡ None → s' ≡ s → e' ≡ e → (r : Engine) (p : Place) → ExprKept r p s s' e e'
-map-kept s s' (MapOf ps template) e' h c i j r p = kept r p s s' (MapOf ps template) e' tt refl refl (λ _ e' q m. map-settled c q) i j
+map-kept s s' (MapOf ps template) e' h c i j r p = kept r p s s' (MapOf ps template) e' tt refl refl (λ _ e' q m. no_rule q c) i j
 map-kept s s' _ e' h c i j r p = absurd cc
 
 pub map_step : (b : Bool) (s s' : Progress) (e e' : Expr) → is_map e ≡ true → Folds b s s' e e' → (r : Engine) (p : Place) → ExprStep b r p s s' e e'
@@ -96,6 +107,3 @@ text_changed {e2 = e2} f d k q r p = pass_put d (k ∙ ap (λ (z : Progress). z.
 
 pub text_same : {s s1 : Progress} {e e1 e2 : Expr} → is_interpolated e ≡ true → Folds false s s1 e e1 → NodeChange false e1 e2 → (r : Engine) (p : Place) → ExprKept r p s s1 e e2
 text_same {s = s} {s1 = s1} {e = e} {e2 = e2} h f c r p = text-kept s s1 e e2 h f.0 (sym (ap parts_change f.2) ∙ c.1) f.1 (c.0 ∙ f.2) r p
-
-pub text_stays : {e e1 : Expr} → is_interpolated e ≡ true → e1 ≡ e → is_interpolated e1 ≡ true
-text_stays h j = ap is_interpolated j ∙ h

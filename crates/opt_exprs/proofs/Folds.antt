@@ -143,11 +143,7 @@ expr_folds k (by_fn f h valid) = rule.fn_folds f h valid
 expr_folds k (by_curry f us vs h q) = rule.curry_folds f us vs h q
 
 stmt_folds : (k : Context) (w : Bool) {c : Callee} {es : Exprs} {v : Value} → Folds k.engine c es v → StmtRule k w (FnCallStmt c es) (ExprStmt (constant_of v))
-stmt_folds k w {c = c} {es = es} {v = v} (by_operator h) = subst (λ e. StmtRule k w (FnCallStmt c es) (ExprStmt e)) (plain_held v (folded_plain k.engine c es v h)) (rule.call_statement_folds h)
-stmt_folds k w (by_type_of v h) = rule.type_of_statement_folds v h
-stmt_folds k w (by_is_shared v h) = rule.is_shared_statement_folds v h
-stmt_folds k w (by_fn f h valid) = rule.fn_statement_folds f h valid
-stmt_folds k w (by_curry f us vs h q) = rule.curry_statement_folds f us vs h q
+stmt_folds k w f = rule.call_statement_folds (expr_folds k f)
 
 -- ---- the statement of a constant has parts that are reduced and clear
 
@@ -205,19 +201,26 @@ has_value (by_is_shared v h) = ap (λ o. option_map is_shared (only (value_and o
 has_value (by_fn f h valid) = ap (λ o. pointer_named (only (value_and o (Some [])))) h ∙ ap (λ b. if b then Some (PointerV f no_values) else None) valid
 has_value {es = expr e es} (by_curry f us vs h q) = ap (λ o. curried (value_and o (constant_values es))) h ∙ ap (λ o. curried (value_and (Some (PointerV f us)) o)) q
 
-expr_rule_folds : {k : Context} {c : Callee} {es : Exprs} {e' : Expr} → ExprRule k (FnCall c es) e' → (v : Value) × Folds k.engine c es v
+abbrev FoldsAt : Engine → Expr → Type 0
+FoldsAt r (FnCall c es) = (v : Value) × Folds r c es v
+FoldsAt r _ = Unit {0}
+
+expr_rule_folds : {k : Context} {e e' : Expr} → ExprRule k e e' → FoldsAt k.engine e
 expr_rule_folds (rule.operator_folds {v = v} h) = (v, by_operator h)
 expr_rule_folds (rule.type_of_folds v h) = (_, by_type_of v h)
 expr_rule_folds (rule.is_shared_folds v h) = (_, by_is_shared v h)
 expr_rule_folds (rule.fn_folds f h valid) = (_, by_fn f h valid)
 expr_rule_folds (rule.curry_folds f us vs h q) = (_, by_curry f us vs h q)
+expr_rule_folds (rule.unit_ends true g r n) = tt
+expr_rule_folds (rule.unit_ends false g r n) = tt
+expr_rule_folds (rule.step_answers true q) = tt
+expr_rule_folds (rule.step_answers false q) = tt
+expr_rule_folds (rule.chain_goes_on true next g r n q) = tt
+expr_rule_folds (rule.chain_goes_on false next g r n q) = tt
+expr_rule_folds _ = tt
 
 stmt_rule_folds : {k : Context} {w : Bool} {c : Callee} {es : Exprs} {x' : Stmt} → StmtRule k w (FnCallStmt c es) x' → (v : Value) × Folds k.engine c es v
-stmt_rule_folds (rule.call_statement_folds {v = v} h) = (v, by_operator h)
-stmt_rule_folds (rule.type_of_statement_folds v h) = (_, by_type_of v h)
-stmt_rule_folds (rule.is_shared_statement_folds v h) = (_, by_is_shared v h)
-stmt_rule_folds (rule.fn_statement_folds f h valid) = (_, by_fn f h valid)
-stmt_rule_folds (rule.curry_statement_folds f us vs h q) = (_, by_curry f us vs h q)
+stmt_rule_folds (rule.call_statement_folds q) = expr_rule_folds q
 
 none_folds : {r : Engine} {c : Callee} {es : Exprs} → None ≡ call_value r c es → (v : Value) × Folds r c es v → ⊥
 none_folds h f = let value = has_value f.1 in absurd cc

@@ -4,6 +4,7 @@ pub mod Changing
 pub mod EmptyParts
 pub mod Folding
 pub mod Folds
+pub mod Lists
 pub mod Moving
 pub mod OperandKinds
 pub mod PartKinds

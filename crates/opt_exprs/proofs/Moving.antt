@@ -1,10 +1,9 @@
 -- A pass over operands, in the list's own memory: what stays moves down.
-use Rattle.std.proofs.Common.{◌≡◌, ◌<◌, ◌≤◌, ℕ, zero, suc, ◌+◌, ◌-◌, inl, inr, Bool, true, false, not, nat_eq, [], ◌∷◌, ◌++◌, length, get_or, take, drop, refl, sym, ap, ◌∙◌, subst, arith}
+use Rattle.std.proofs.Common.{◌≡◌, ◌<◌, ◌≤◌, ℕ, zero, suc, ◌+◌, ◌-◌, Bool, true, false, not, nat_eq, [], ◌∷◌, ◌++◌, length, get_or, take, drop, refl, sym, ap, ◌∙◌, subst, arith}
 use Rattle.std.specs.Prelude.{◌||◌}
-use Rattle.std.proofs.lemmas.Bool.Decides.{eqb_tells}
-use Rattle.std.proofs.lemmas.List.{append_assoc, append-nil, drop_more, drop_all, take_more, take_all, get_or-take, length-append, length-drop, length-take-le, length_push}
+use Rattle.std.proofs.lemmas.List.{append_assoc, append-nil, drop_all, take_more, take_all, get_or-take, length-append, length-drop, length-take-le, length_push}
 use Rattle.ast_types.specs.declared.expr.Expr as declared_expr
-use Rattle.theory_meaning.specs.Tree.{Expr, Exprs, no_exprs, expr, count_exprs}
+use Rattle.theory_meaning.specs.Tree.{Expr, Exprs, no_exprs, expr}
 use Rattle.ast_types.specs.Reading.{expr_of, exprs_of}
 use Rattle.opt_steps.specs.Passes.{InTurn, no_change, one_more}
 use Rattle.opt_steps.proofs.Passing.{turn_then, turns_pass}
@@ -12,22 +11,13 @@ use Rattle.opt_exprs.specs.declared.operands.operation.Operation.{Operation}
 use Rattle.opt_exprs.specs.declared.operands.operation.Operation.TheVariants as operation
 use Rattle.opt_exprs.specs.Operands.{Declared, node_of, OneGoes, NoneGoes, follows, goes_on, decides, goes_before, GoBefore, NoneIs, Ends, OperandsPass, NoOperandGoes, NodeChange}
 use Rattle.opt_exprs.proofs.Changing.{passing, ending, going_before, one_goes, changes, nothing_follows}
+use Rattle.opt_exprs.proofs.Lists.{or_false, item, turn_as, went, by_length}
 use Rattle.opt_exprs.proofs.Remaining.{Goes, none_go, undecided_stay, decided_stay}
 
 -- ---- lists
 
-item : (xs : Declared) (n : ℕ) (x : declared_expr.Expr) → n < length xs → x ≡ get_or xs n x → drop n xs ≡ x ∷ drop (n + 1) xs
-item xs n x lt h = drop_more xs n x lt ∙ ap (λ y. y ∷ drop (n + 1) xs) (sym h)
-
 last-item : (xs : Declared) (n : ℕ) (x : declared_expr.Expr) → n < length xs → x ≡ get_or xs n x → take (n + 1) xs ≡ take n xs ++ x ∷ []
 last-item xs n x lt h = take_more xs n x lt ∙ ap (λ y. take n xs ++ y ∷ []) (sym h)
-
-turn_as : (o : Operation) {xs xs' ys ys' : Declared} → xs' ≡ xs → ys' ≡ ys → InTurn (OneGoes o) (exprs_of xs) (exprs_of ys) → InTurn (OneGoes o) (exprs_of xs') (exprs_of ys')
-turn_as o {xs = xs} {ys' = ys'} h i q = subst (λ (z : Declared). InTurn (OneGoes o) (exprs_of z) (exprs_of ys')) (sym h) (subst (λ (z : Declared). InTurn (OneGoes o) (exprs_of xs) (exprs_of z)) (sym i) q)
-
-count-of : (xs : Declared) → count_exprs (exprs_of xs) ≡ length xs
-count-of [] = refl
-count-of (x ∷ xs) = ap suc (count-of xs)
 
 -- ---- operands of which none is so, and none decides
 
@@ -40,10 +30,6 @@ none-take p zero m xs le h = tt
 none-take p (suc n) zero xs le h = absurd (omega arith)
 none-take p (suc n) (suc m) [] le h = tt
 none-take p (suc n) (suc m) (x ∷ xs) le h = (h.0, none-take p n m xs (omega arith) h.1)
-
-or_false : (a b : Bool) → a ≡ false → b ≡ false → a || b ≡ false
-or_false true b h i = absurd cc
-or_false false b h i = i
 
 follows-more : (o : Operation) (e f : Expr) (es : Exprs) → decides o e ≡ false → follows o (expr f es) ≡ false → follows o (expr e (expr f es)) ≡ false
 follows-more operation.And e f es h i = or_false _ _ h i
@@ -88,7 +74,7 @@ before_more {o = o} {xs = xs} {n = n} {from = from} y q e lt h g = record {
       let front = take n xs in
       let here : take from xs ++ x ∷ [] ≡ front ++ y ∷ x ∷ [] = ap (λ z. take z xs ++ x ∷ []) (sym e) ∙ ap (λ (z : Declared). z ++ x ∷ []) (last-item xs n y lt h) ∙ append_assoc front (y ∷ []) (x ∷ []) in
       let goes = one_goes o front (y ∷ x ∷ []) (x ∷ []) (going_before o (expr_of y) (expr_of x) g d) (omega (arith, length_push front x)) in
-      one_more (turn_as o refl (sym here) (q.go x d)) goes;
+      one_more (turn_as refl (sym here) (q.go x d)) goes;
 }
 
 -- ---- operands end at one that decides
@@ -111,7 +97,7 @@ ends_at {o = o} {at = at} {kept = kept} {from = from} {xs = xs} {mid = mid} {ys 
     let is : ys ≡ take from xs ++ x ∷ [] = e ∙ put in
     let count : length ys ≡ from + 1 = ap length e ∙ length-take-le (from + 1) mid (omega arith) in
     record {
-      to = turn_as o (ap (λ (z : Declared). take kept xs ++ z) (item xs at x lt h)) is (turn_then (cut o (take kept xs) x (drop (at + 1) xs) d) (go x d));
+      to = turn_as (ap (λ (z : Declared). take kept xs ++ z) (item xs at x lt h)) is (turn_then (cut o (take kept xs) x (drop (at + 1) xs) d) (go x d));
       settled = λ u. ap (λ (z : Declared). follows o (exprs_of z)) is ∙ settled-last o (take from xs) x (none-take (decides o) from kept xs low u);
       short = omega arith;
       same = λ n. e ∙ take_all (from + 1) mid (omega arith) ∙ stay (omega arith);
@@ -137,7 +123,7 @@ passing_keep {o = o} {all = all} {here = here} {new = new} {at = at} {kept = kep
   to =
       let e : take (kept + 1) new ++ drop (at + 1) new ≡ take kept here ++ drop at here =
       ap (λ (z : Declared). z ++ drop (at + 1) new) front ∙ ap (λ (z : Declared). (take kept here ++ x ∷ []) ++ z) back ∙ append_assoc (take kept here) (x ∷ []) (drop (at + 1) here) ∙ ap (λ (z : Declared). take kept here ++ z) (sym (item here at x lt h)) in
-      turn_as o refl e p.to;
+      turn_as refl e p.to;
   low = omega (arith, p.low);
   len = long ∙ p.len;
   undecided = subst (NoneIs (decides o)) (sym front) (none-push (decides o) (take kept here) x p.undecided d);
@@ -151,7 +137,7 @@ passing_skip {o = o} {all = all} {here = here} {at = at} {kept = kept} x p lt h 
       let rest = drop (at + 1) here in
       let e : take kept here ++ drop at here ≡ take kept here ++ x ∷ rest = ap (λ (z : Declared). take kept here ++ z) (item here at x lt h) in
       let count : 0 < length (take kept here ++ rest) = omega (arith, length-append (take kept here) rest, length-take-le kept here (omega (arith, p.low)), length-drop (at + 1) here) in
-      one_more (turn_as o refl (sym e) p.to) (one_goes o (take kept here) (x ∷ rest) rest (passing o (expr_of x) (exprs_of rest) g) count);
+      one_more (turn_as refl (sym e) p.to) (one_goes o (take kept here) (x ∷ rest) rest (passing o (expr_of x) (exprs_of rest) g) count);
   low = omega (arith, p.low);
   len = p.len;
   undecided = p.undecided;
@@ -161,7 +147,7 @@ passing_skip {o = o} {all = all} {here = here} {at = at} {kept = kept} x p lt h 
 
 pub passing_end : {o : Operation} {all here new : Declared} {at kept : ℕ} → Passing o all here at kept → at ≡ length all → new ≡ take kept here → OperandsPass o all new
 passing_end {o = o} {all = all} {here = here} {new = new} {at = at} {kept = kept} p h e = record {
-  to = turn_as o refl (e ∙ sym (append-nil (take kept here)) ∙ ap (λ (z : Declared). take kept here ++ z) (sym (drop_all at here (omega (arith, p.len))))) p.to;
+  to = turn_as refl (e ∙ sym (append-nil (take kept here)) ∙ ap (λ (z : Declared). take kept here ++ z) (sym (drop_all at here (omega (arith, p.len))))) p.to;
   settled = ap (λ (z : Declared). follows o (exprs_of z)) e ∙ settled-all o (take kept here) p.undecided;
   same = λ n.
       let long : length new ≡ kept = ap length e ∙ length-take-le kept here (omega (arith, p.low, p.len)) in
@@ -184,10 +170,7 @@ passing_decided {o = o} {all = all} {here = here} {new = new} {at = at} {kept = 
 
 -- ---- at the node
 
-went : (xs ys : Declared) → (length ys ≡ length xs → ⊥) → exprs_of xs ≡ exprs_of ys → ⊥
-went xs ys n e = n (sym (sym (count-of xs) ∙ ap count_exprs e ∙ count-of ys))
-
-pub some_went : {o : Operation} {xs ys : Declared} → OperandsPass o xs ys → (length ys ≡ length xs → ⊥) → NodeChange true (node_of o (exprs_of xs)) (node_of o (exprs_of ys))
+some_went : {o : Operation} {xs ys : Declared} → OperandsPass o xs ys → (length ys ≡ length xs → ⊥) → NodeChange true (node_of o (exprs_of xs)) (node_of o (exprs_of ys))
 some_went {o = o} {xs = xs} {ys = ys} p n = turns_pass (changes o) p.to (went xs ys n)
 
 no_operand_goes : (o : Operation) (es : Exprs) → NoneGoes o es → NoOperandGoes (node_of o es)
@@ -195,13 +178,10 @@ no_operand_goes operation.And es h = h
 no_operand_goes operation.Or es h = h
 no_operand_goes operation.Coalesce es h = h
 
-pub none_went : {o : Operation} {xs ys : Declared} → OperandsPass o xs ys → length ys ≡ length xs → NodeChange false (node_of o (exprs_of xs)) (node_of o (exprs_of ys))
+none_went : {o : Operation} {xs ys : Declared} → OperandsPass o xs ys → length ys ≡ length xs → NodeChange false (node_of o (exprs_of xs)) (node_of o (exprs_of ys))
 none_went {o = o} {xs = xs} {ys = ys} p h =
     let e = p.same h in
     (ap (λ (z : Declared). node_of o (exprs_of z)) e, λ r. nothing_follows o (exprs_of xs) r (sym (ap (λ (z : Declared). follows o (exprs_of z)) e) ∙ p.settled), no_operand_goes o (exprs_of xs) (p.stay h))
 
--- whether any went, by the number of those that are left
 pub went_by : (o : Operation) (xs ys : Declared) → OperandsPass o xs ys → (a b : ℕ) → a ≡ length ys → b ≡ length xs → NodeChange (not (nat_eq a b)) (node_of o (exprs_of xs)) (node_of o (exprs_of ys))
-went_by o xs ys p a b i j =
-    let P = λ (t : Bool). NodeChange (not t) (node_of o (exprs_of xs)) (node_of o (exprs_of ys)) in
-    elim (eqb_tells a b) [ inl h ↦ subst P (sym h.0) (none_went p (sym i ∙ h.1 ∙ j)) | inr h ↦ subst P (sym h.0) (some_went p (λ e. h.1 (i ∙ e ∙ sym j))) ]
+went_by o xs ys p a b i j = by_length (λ t. NodeChange t (node_of o (exprs_of xs)) (node_of o (exprs_of ys))) (length ys) (length xs) a b i j (none_went p) (some_went p)

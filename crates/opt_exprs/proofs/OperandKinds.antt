@@ -1,24 +1,14 @@
 -- Declared nodes that are none of a kind, and what is asked of values.
-use Rattle.std.proofs.Common.{◌≡◌, true, false, not, ◌&&◌, List, Option, Some, None, is_some, refl}
-use Rattle.base_tokens.specs.declared.position.Position.{Position}
+use Rattle.std.proofs.Common.{◌≡◌, false, not, ◌&&◌, List, Option, Some, None, is_some, refl}
 use Rattle.rhai_base.specs.Value.{Text, Value}
-use Rattle.rhai_base.specs.declared.dynamic.Dynamic.{Dynamic}
 use Rattle.ast_types.specs.declared.expr.Expr as declared_expr
-use Rattle.ast_types.specs.declared.expr.Expr.TheVariants as expr_kind
 use Rattle.theory_meaning.specs.Constants.{constant_value, constant_values, constant_entries, array_value, map_value, joined_value}
 use Rattle.theory_meaning.specs.Tree.{Expr}
 use Rattle.ast_types.specs.Reading.{exprs_of, pairs_of}
 use Rattle.ast_types.proofs.Cases.{ExprCase, dynamic_constant_case, interpolated_string_case, array_case, map_case, unit_case, and_case, or_case, coalesce_case}
 use Rattle.theory_rewriting.specs.Answering.{is_some_value}
-use Rattle.theory_rewriting.specs.Steps.{Place}
-use Rattle.opt_steps.proofs.NodeKinds.{NoAnd, NoOr, NoCoalesce}
-use Rattle.opt_exprs.specs.Operands.{has_operation, is_unit_value, is_settled_node}
-
-abbrev pub NoDynamic : declared_expr.Expr → Type 0
-NoDynamic x = (v : Dynamic) (p : Position) → x ≡ expr_kind.DynamicConstant v p → ⊥
-
-abbrev pub NoUnit : declared_expr.Expr → Type 0
-NoUnit x = (p : Position) → x ≡ expr_kind.Unit p → ⊥
+use Rattle.ast_types.proofs.OtherKinds.{NoAnd, NoOr, NoCoalesce, NoDynamic, NoUnit}
+use Rattle.opt_exprs.specs.Operands.{has_operation, is_unit_value}
 
 array_no_unit : (o : Option (List Value)) → false ≡ is_unit_value (array_value o)
 array_no_unit None = refl
@@ -49,9 +39,3 @@ no_operation (and_case xs p) h i j = absurd (h xs p refl)
 no_operation (or_case xs p) h i j = absurd (i xs p refl)
 no_operation (coalesce_case xs p) h i j = absurd (j xs p refl)
 no_operation _ h i j = refl
-
-pub stays_there : (p : Place) {x : declared_expr.Expr} {e : Expr} → ExprCase x e → NoAnd x → NoOr x → NoCoalesce x → true ≡ is_settled_node p e
-stays_there p (and_case xs q) h i j = absurd (h xs q refl)
-stays_there p (or_case xs q) h i j = absurd (i xs q refl)
-stays_there p (coalesce_case xs q) h i j = absurd (j xs q refl)
-stays_there p _ h i j = refl

@@ -1,8 +1,6 @@
 -- Constant pointers, and the values that stand behind their own.
 use Rattle.std.proofs.Common.{◌≡◌, ℕ, false, List, [], ◌∷◌, ◌++◌, length, drop, Option, Some, None, is_some, refl, sym, ap, ◌∙◌, append_assoc}
 use Rattle.std.proofs.lemmas.List.{append-nil}
-use Rattle.base_tokens.specs.declared.position.Position.{Position}
-use Rattle.rhai_base.specs.declared.dynamic.Dynamic.{Dynamic}
 use Rattle.rhai_base.specs.Value.{Text, Value, PointerV, Values, items, values}
 use Rattle.rhai_base.specs.Builtin.{operator_of}
 use Rattle.rhai_base.specs.Operators.{Operator}
@@ -11,13 +9,12 @@ use Rattle.theory_meaning.specs.Constants.{array_value, joined_value, map_value,
 use Rattle.theory_meaning.specs.Engine.{Engine}
 use Rattle.theory_meaning.specs.Tree.{Callee, Expr, Exprs, Stmt}
 use Rattle.ast_types.specs.declared.expr.Expr as declared_expr
-use Rattle.ast_types.specs.declared.expr.Expr.TheVariants as expr_kind
 use Rattle.ast_types.specs.declared.stmt.Stmt as declared_stmt
 use Rattle.ast_types.specs.Reading.{exprs_of, mark_by, mark_of}
 use Rattle.ast_types.proofs.Cases.{ExprCase, dynamic_constant_case, interpolated_string_case, array_case, map_case, call_case, StmtCase, call_statement_case}
 use Rattle.ast_types.proofs.ItemLists.{exprs_of-end}
 use Rattle.theory_rewriting.specs.Folding.{folded}
-use Rattle.opt_steps.proofs.NodeKinds.{NoCall, NoCallStatement}
+use Rattle.ast_types.proofs.OtherKinds.{NoCall, NoCallStatement, NoDynamic}
 use Rattle.opt_exprs.specs.Words.{curried, with_values, pointer_alone, value_by, expr_value, statement_value}
 
 -- ---- what is no pointer
@@ -34,7 +31,7 @@ map_alone : (vs : Option (List (Text × Value))) → None ≡ pointer_alone (map
 map_alone None = refl
 map_alone (Some vs) = refl
 
-pub no_pointer : {x : declared_expr.Expr} {e : Expr} → ExprCase x e → ((v : Dynamic) (p : Position) → x ≡ expr_kind.DynamicConstant v p → ⊥) → None ≡ pointer_alone (constant_value e)
+pub no_pointer : {x : declared_expr.Expr} {e : Expr} → ExprCase x e → NoDynamic x → None ≡ pointer_alone (constant_value e)
 no_pointer (dynamic_constant_case v p) h = absurd (h v p refl)
 no_pointer (interpolated_string_case xs p) h = text_alone _
 no_pointer (array_case xs p) h = array_alone _

@@ -1,37 +1,33 @@
 -- One operand, and none.
-use Rattle.std.proofs.Common.{◌≡◌, ◌≢◌, ◌≤◌, Bool, true, false, not, List, [], ◌∷◌, length, None, is_some, refl, sym, ap, ◌∙◌, subst, arith}
+use Rattle.std.proofs.Common.{◌≡◌, ◌≢◌, ◌≤◌, ◌<◌, Bool, true, false, not, List, [], ◌∷◌, length, get_or, set, Option, Some, None, MatchOption, is_some, refl, sym, ap, ◌∙◌, subst, arith}
 use Rattle.ast_types.specs.declared.expr.Expr as declared_expr
 use Rattle.theory_meaning.specs.Desugar.{root_of}
 use Rattle.theory_meaning.specs.Engine.{Engine}
 use Rattle.theory_meaning.specs.Queries.{is_unit}
-use Rattle.theory_meaning.specs.Tree.{Expr, BoolConstant, UnitConstant, And, Or, Coalesce, Exprs, no_exprs, expr}
+use Rattle.theory_meaning.specs.Tree.{Expr, BoolConstant, And, Or, Coalesce, no_exprs, expr}
 use Rattle.ast_types.specs.Reading.{expr_of, exprs_of}
 use Rattle.theory_rewriting.specs.Clear.{known_value}
 use Rattle.theory_rewriting.specs.Context.{Context}
 use Rattle.theory_rewriting.specs.Known.{Known}
 use Rattle.theory_rewriting.specs.Rules as rule
 use Rattle.theory_rewriting.specs.Rules.{ExprRule}
-use Rattle.theory_rewriting.specs.Steps.{Progress, here, Place, Anywhere, AsBase, AsGuard, MayBecome, NoExprRule, AnswersNone, ExprRewrite, KeepsExprParts}
+use Rattle.theory_rewriting.specs.Steps.{Progress, Place, Anywhere, AsBase, AsGuard, MayBecome, AnswersNone, ExprRewrite, KeepsExprParts}
 use Rattle.theory_rewriting.proofs.Keeping.{keeps_unit, keeps_and, keeps_or, keeps_coalesce}
 use Rattle.opt_steps.specs.Standing.{may_stand}
-use Rattle.opt_steps.proofs.Places.{not-false, stands}
+use Rattle.opt_steps.proofs.Places.{stands}
 use Rattle.opt_steps.proofs.Stepping.{expr_rewrite_as, expr_stays}
 use Rattle.opt_steps.specs.Passes.{PassStep}
-use Rattle.opt_steps.proofs.Passing.{rewrite_passes}
+use Rattle.opt_exprs.specs.declared.operands.nodes.Outcome.TheVariants as outcome
 use Rattle.opt_exprs.specs.declared.operands.operation.Operation.{Operation}
 use Rattle.opt_exprs.specs.declared.operands.operation.Operation.TheVariants as operation
-use Rattle.opt_exprs.specs.Operands.{Declared, node_of, has_operation, NoneGoes, NoOperandGoes, NodeChange, none_of, is_settled, is_settled_node}
+use Rattle.opt_exprs.specs.Operands.{Declared, Becomes, ComesOf, node_of, has_operation, NoneGoes, NoOperandGoes, none_of, is_settled, is_settled_node}
 
 -- ---- the rules
 
-pub and_alone : (p : Place) (e : Expr) → may_stand p e ≡ true → ExprRewrite p (And (expr e no_exprs)) e
-and_alone p e h = record { rule = λ k. rule.and_of_one; stays = stands p _ _ refl refl h; keeps = keeps_and e }
-
-pub or_alone : (p : Place) (e : Expr) → may_stand p e ≡ true → ExprRewrite p (Or (expr e no_exprs)) e
-or_alone p e h = record { rule = λ k. rule.or_of_one; stays = stands p _ _ refl refl h; keeps = keeps_or e }
-
-pub coalesce_alone : (p : Place) (e : Expr) → may_stand p e ≡ true → ExprRewrite p (Coalesce (expr e no_exprs)) e
-coalesce_alone p e h = record { rule = λ k. rule.coalesce_of_one; stays = stands p _ _ refl refl h; keeps = keeps_coalesce e }
+alone : (p : Place) (o : Operation) (e : Expr) → may_stand p e ≡ true → ExprRewrite p (node_of o (expr e no_exprs)) e
+alone p operation.And e h = record { rule = λ k. rule.and_of_one; stays = stands p _ _ refl refl h; keeps = keeps_and e }
+alone p operation.Or e h = record { rule = λ k. rule.or_of_one; stays = stands p _ _ refl refl h; keeps = keeps_or e }
+alone p operation.Coalesce e h = record { rule = λ k. rule.coalesce_of_one; stays = stands p _ _ refl refl h; keeps = keeps_coalesce e }
 
 keeps_bool : (e : Expr) (b : Bool) → KeepsExprParts e (BoolConstant b)
 keeps_bool e b = record { parts = λ r h. (tt, (tt, tt)); clear = λ ks h. tt }
@@ -41,31 +37,32 @@ bool_stands Anywhere b = refl
 bool_stands AsBase b = refl
 bool_stands AsGuard b = refl
 
-pub and_none : (p : Place) → ExprRewrite p (And no_exprs) (BoolConstant true)
-and_none p = record { rule = λ k. rule.and_of_none; stays = stands p _ _ refl refl (sym (bool_stands p true)); keeps = keeps_bool _ true }
+pub none : (p : Place) (o : Operation) → may_stand p (none_of o) ≡ true → ExprRewrite p (node_of o no_exprs) (none_of o)
+none p operation.And h = record { rule = λ k. rule.and_of_none; stays = stands p _ _ refl refl h; keeps = keeps_bool _ true }
+none p operation.Or h = record { rule = λ k. rule.or_of_none; stays = stands p _ _ refl refl h; keeps = keeps_bool _ false }
+none p operation.Coalesce h = record { rule = λ k. rule.coalesce_of_none; stays = stands p _ _ refl refl h; keeps = keeps_unit _ }
 
-pub or_none : (p : Place) → ExprRewrite p (Or no_exprs) (BoolConstant false)
-or_none p = record { rule = λ k. rule.or_of_none; stays = stands p _ _ refl refl (sym (bool_stands p false)); keeps = keeps_bool _ false }
+-- ---- so few operands
 
-pub coalesce_none : (p : Place) → may_stand p UnitConstant ≡ true → ExprRewrite p (Coalesce no_exprs) UnitConstant
-coalesce_none p h = record { rule = λ k. rule.coalesce_of_none; stays = stands p _ _ refl refl h; keeps = keeps_unit _ }
+abbrev pub Taken : Place → declared_expr.Expr → declared_expr.Expr → Option declared_expr.Expr → Type 0
+Taken p x y m = MatchOption m ((may_stand p (expr_of x) ≡ false) × (y ≡ x)) (λ e. (may_stand p (expr_of x) ≡ true) × (e ≡ x))
 
--- ---- operands that do not stay
+pub one_becomes : (p : Place) (o : Operation) (xs ys : Declared) (x y : declared_expr.Expr) (m : Option declared_expr.Expr) → length xs ≤ 1 → 0 < length xs → x ≡ get_or xs 0 x → ys ≡ set xs 0 y → Taken p x y m → Becomes m p o xs ys
+one_becomes p o [] ys x y m le lt h k t = absurd (omega arith)
+one_becomes p o (z ∷ []) ys x y None le lt h k t = (k ∙ ap (λ w. w ∷ []) (t.1 ∙ h), ap not (ap (λ w. may_stand p (expr_of w)) (sym h) ∙ t.0))
+one_becomes p o (z ∷ []) ys x y (Some e) le lt h k t =
+    let is : e ≡ z = t.1 ∙ h in
+    expr_rewrite_as refl (ap expr_of is) (alone p o (expr_of z) (ap (λ w. may_stand p (expr_of w)) (sym h) ∙ t.0))
+one_becomes p o (z ∷ w ∷ xs) ys x y m le lt h k t = absurd (omega arith)
 
-pub settled-many : (p : Place) (o : Operation) (xs : Declared) → 2 ≤ length xs → true ≡ is_settled p o (exprs_of xs)
-settled-many p o [] h = absurd (omega arith)
-settled-many p o (x ∷ []) h = absurd (omega arith)
-settled-many p o (x ∷ y ∷ xs) h = refl
+pub none_becomes : (p : Place) (o : Operation) (xs : Declared) (m : Option declared_expr.Expr) → length xs ≤ 0 → Becomes m p o [] [] → Becomes m p o xs xs
+none_becomes p o [] m h q = q
+none_becomes p o (x ∷ xs) m h q = absurd (omega arith)
 
-pub one_of : (p : Place) (o : Operation) (xs : Declared) (x : declared_expr.Expr) {e : Expr} → xs ≡ x ∷ [] → is_settled p o (exprs_of xs) ≡ false → ((p : Place) → may_stand p (expr_of x) ≡ true → ExprRewrite p (node_of o (expr (expr_of x) no_exprs)) e) → ExprRewrite p (node_of o (exprs_of xs)) e
-one_of p o xs x h s q =
-    let z : not (may_stand p (expr_of x)) ≡ false = sym (ap (λ (l : Declared). is_settled p o (exprs_of l)) h) ∙ s in
-    expr_rewrite_as (ap (λ (l : Declared). node_of o (exprs_of l)) h) refl (q p (not-false _ z))
-
-pub none_of_them : (p : Place) (o : Operation) (xs : Declared) {e : Expr} → length xs ≢ 1 → is_settled p o (exprs_of xs) ≡ false → ((p : Place) → may_stand p (none_of o) ≡ true → ExprRewrite p (node_of o no_exprs) e) → ExprRewrite p (node_of o (exprs_of xs)) e
-none_of_them p o [] n s q = q p (not-false _ s)
-none_of_them p o (x ∷ []) n s q = absurd (n refl)
-none_of_them p o (x ∷ y ∷ xs) n s q = absurd cc
+pub many_stay : (p : Place) (o : Operation) (xs : Declared) → 1 < length xs → is_settled p o (exprs_of xs) ≡ true
+many_stay p o [] h = absurd (omega arith)
+many_stay p o (x ∷ []) h = absurd (omega arith)
+many_stay p o (x ∷ y ∷ xs) h = refl
 
 -- ---- at the node
 
@@ -91,31 +88,38 @@ may_stand_there AsGuard e e' r u m = ap not (m ∙ u)
 few_stay : (p : Place) (e e' : Expr) → root_of e ≡ None → is_unit e ≡ false → not (may_stand p e') ≡ true → MayBecome p e e' → ⊥
 few_stay p e e' r u h m = let stands = may_stand_there p e e' r u m in absurd cc
 
-and_stays : {k : Context} (p : Place) {es : Exprs} {e' : Expr} → NoneGoes operation.And es → is_settled p operation.And es ≡ true → ExprRule k (And es) e' → MayBecome p (And es) e' → ⊥
-and_stays p n s (rule.and_changes q h) m = n _ (q, h)
-and_stays p n s rule.and_of_one m = few_stay p _ _ refl refl s m
-and_stays p n s rule.and_of_none m = few_stay p _ _ refl refl s m
+-- no rule fires at such a node
+abbrev Stays : Place → Expr → Type 0
+Stays p (And es) = NoneGoes operation.And es × (is_settled p operation.And es ≡ true)
+Stays p (Or es) = NoneGoes operation.Or es × (is_settled p operation.Or es ≡ true)
+Stays p (Coalesce es) = NoneGoes operation.Coalesce es × (is_settled p operation.Coalesce es ≡ true)
+Stays p _ = ⊥
 
-or_stays : {k : Context} (p : Place) {es : Exprs} {e' : Expr} → NoneGoes operation.Or es → is_settled p operation.Or es ≡ true → ExprRule k (Or es) e' → MayBecome p (Or es) e' → ⊥
-or_stays p n s (rule.or_changes q h) m = n _ (q, h)
-or_stays p n s rule.or_of_one m = few_stay p _ _ refl refl s m
-or_stays p n s rule.or_of_none m = few_stay p _ _ refl refl s m
+stays_by : (p : Place) (e : Expr) → has_operation e ≡ true → NoOperandGoes e → is_settled_node p e ≡ true → Stays p e
+stays_by p (And es) h n s = (n, s)
+stays_by p (Or es) h n s = (n, s)
+stays_by p (Coalesce es) h n s = (n, s)
+stays_by p _ h n s = absurd cc
 
-coalesce_stays : {k : Context} (p : Place) {es : Exprs} {e' : Expr} → NoneGoes operation.Coalesce es → is_settled p operation.Coalesce es ≡ true → ExprRule k (Coalesce es) e' → MayBecome p (Coalesce es) e' → ⊥
-coalesce_stays p n s (rule.coalesce_changes q h) m = n _ (q, h)
-coalesce_stays p n s rule.coalesce_of_one m = few_stay p _ _ refl refl s m
-coalesce_stays p n s rule.coalesce_of_none m = few_stay p _ _ refl refl s m
+no_rule : (p : Place) {k : Context} {e e' : Expr} → ExprRule k e e' → Stays p e → MayBecome p e e' → ⊥
+no_rule p (rule.and_changes q h) s m = s.0 _ (q, h)
+no_rule p rule.and_of_one s m = few_stay p _ _ refl refl s.1 m
+no_rule p rule.and_of_none s m = few_stay p _ _ refl refl s.1 m
+no_rule p (rule.or_changes q h) s m = s.0 _ (q, h)
+no_rule p rule.or_of_one s m = few_stay p _ _ refl refl s.1 m
+no_rule p rule.or_of_none s m = few_stay p _ _ refl refl s.1 m
+no_rule p (rule.coalesce_changes q h) s m = s.0 _ (q, h)
+no_rule p rule.coalesce_of_one s m = few_stay p _ _ refl refl s.1 m
+no_rule p rule.coalesce_of_none s m = few_stay p _ _ refl refl s.1 m
+no_rule p (rule.unit_ends true g r n) s m = s
+no_rule p (rule.unit_ends false g r n) s m = s
+no_rule p (rule.step_answers true q) s m = s
+no_rule p (rule.step_answers false q) s m = s
+no_rule p (rule.chain_goes_on true next g r n q) s m = s
+no_rule p (rule.chain_goes_on false next g r n q) s m = s
+no_rule p _ s m = s
 
-no_rule : (k : Context) (p : Place) (e : Expr) → has_operation e ≡ true → NoOperandGoes e → is_settled_node p e ≡ true → NoExprRule k p e
-no_rule k p (And es) h n s = λ e' q m. and_stays p n s q m
-no_rule k p (Or es) h n s = λ e' q m. or_stays p n s q m
-no_rule k p (Coalesce es) h n s = λ e' q m. coalesce_stays p n s q m
-no_rule k p _ h n s = absurd cc
-
-pub operands_stay : {r : Engine} {p : Place} {s : Progress} {e e' : Expr} → has_operation e ≡ true → NodeChange false e e' → is_settled_node p e' ≡ true → PassStep false r p s s e e'
-operands_stay {r = r} {p = p} {s = s} {e = e} h q i =
-    subst (λ a. PassStep false r p s s e a) (sym q.0)
-    (expr_stays {r = r} {p = p} (q.1 r) (no_answer e h) (λ _. no_name e s.known h) (λ _. no_rule (here r s) p e h q.2 (sym (ap (is_settled_node p) q.0) ∙ i)))
-
-pub operands_put : {r : Engine} {p : Place} {s s' : Progress} {e e1 e' : Expr} → e1 ≡ e → s'.is_dirty ≡ true → s'.known ≡ s.known → ExprRewrite p e1 e' → PassStep true r p s s' e e'
-operands_put h d k q = rewrite_passes d k (expr_rewrite_as (sym h) refl q)
+pub operands_stay : {r : Engine} {p : Place} {s : Progress} {e e' : Expr} → has_operation e ≡ true → ComesOf outcome.Kept p e e' → PassStep false r p s s e e'
+operands_stay {r = r} {p = p} {s = s} {e = e} h q =
+    subst (λ a. PassStep false r p s s e a) (sym q.0.0)
+    (expr_stays {r = r} {p = p} (q.0.1 r) (no_answer e h) (λ _. no_name e s.known h) (λ _ e' z m. no_rule p z (stays_by p e h q.0.2 q.1) m))

@@ -1,11 +1,10 @@
 -- Parts of an interpolated text that go or are joined, in the list's own memory.
 use Rattle.std.proofs.Common.{◌≡◌, ◌<◌, ◌≤◌, ℕ, ◌+◌, ◌-◌, suc, inl, inr, Bool, true, false, not, ◌||◌, nat_eq, [], ◌∷◌, ◌++◌, length, get_or, set, take, drop, refl, sym, ap, ◌∙◌, subst, arith}
-use Rattle.std.proofs.Math.Dec.{eqb}
 use Rattle.std.proofs.lemmas.Bool.Decides.{eqb_tells}
-use Rattle.std.proofs.lemmas.List.{append_assoc, append-nil, drop_more, drop_all, drop-drop, drop-set-lt, take_all, take-set-le, length-set, length-take-le, get_or-set_same, get_or_read, set-get_or}
+use Rattle.std.proofs.lemmas.List.{append_assoc, append-nil, drop_all, drop-drop, drop-set-lt, take_all, take-set-le, length-set, length-take-le, get_or-set_same, get_or_read, set-get_or}
 use Rattle.ast_types.specs.declared.expr.Expr as declared_expr
 use Rattle.rhai_base.specs.Value.{Text, Value, UnitV, TextV, text_of}
-use Rattle.theory_meaning.specs.Tree.{Expr, DynamicConstant, StringConstant, UnitConstant, InterpolatedString, Exprs, expr, count_exprs}
+use Rattle.theory_meaning.specs.Tree.{Expr, DynamicConstant, StringConstant, UnitConstant, InterpolatedString, Exprs, expr}
 use Rattle.ast_types.specs.Reading.{expr_of, exprs_of}
 use Rattle.theory_rewriting.specs.Operands.{TextTo, in_other_parts, texts_join, empty_goes}
 use Rattle.theory_rewriting.specs.Rules as rule
@@ -14,21 +13,12 @@ use Rattle.opt_steps.specs.Passes.{InTurn, no_change, one_more}
 use Rattle.opt_steps.proofs.Listed.{Listed, answers, reduced}
 use Rattle.opt_steps.proofs.Passing.{Changes, turn_then, turns_pass}
 use Rattle.opt_exprs.specs.Parts.{Declared, is_text, written, is_empty_text, is_empty_value, is_empty_part, first_goes, first_joins, any_changes, AreTexts, Joins, PutText, JoinedAt, Nowhere, PartsChange, NodeChange}
+use Rattle.opt_exprs.proofs.Lists.{or_false, item, turn_as, went, by_length}
 
 -- ---- lists
 
-item : (xs : Declared) (n : ℕ) (x : declared_expr.Expr) → n < length xs → x ≡ get_or xs n x → drop n xs ≡ x ∷ drop (n + 1) xs
-item xs n x lt h = drop_more xs n x lt ∙ ap (λ y. y ∷ drop (n + 1) xs) (sym h)
-
 drop-on : (n m : ℕ) (xs : Declared) → n ≤ m → drop m xs ≡ drop (m - n) (drop n xs)
 drop-on n m xs le = ap (λ z. drop z xs) (let e : m ≡ n + (m - n) = omega arith in e) ∙ sym (drop-drop (m - n) n xs)
-
-turn_as : {xs xs' ys ys' : Declared} → xs' ≡ xs → ys' ≡ ys → InTurn TextTo (exprs_of xs) (exprs_of ys) → InTurn TextTo (exprs_of xs') (exprs_of ys')
-turn_as {xs = xs} {ys' = ys'} h i q = subst (λ (z : Declared). InTurn TextTo (exprs_of z) (exprs_of ys')) (sym h) (subst (λ (z : Declared). InTurn TextTo (exprs_of xs) (exprs_of z)) (sym i) q)
-
-count-of : (xs : Declared) → count_exprs (exprs_of xs) ≡ length xs
-count-of [] = refl
-count-of (x ∷ xs) = ap suc (count-of xs)
 
 in_front : (front xs ys : Declared) → TextTo (exprs_of xs) (exprs_of ys) → TextTo (exprs_of (front ++ xs)) (exprs_of (front ++ ys))
 in_front [] xs ys h = h
@@ -244,10 +234,6 @@ pub record PartsPass (xs ys : Declared) : Type 0 where
   pub same : length ys ≡ length xs → ys ≡ xs
   pub settled : length ys ≡ length xs → any_changes (exprs_of xs) ≡ false
 
-or_false : (a b : Bool) → a ≡ false → b ≡ false → a || b ≡ false
-or_false true b h i = absurd cc
-or_false false b h i = i
-
 none_changes : (xs : Declared) → Nowhere first_goes xs (length xs) → Nowhere first_joins xs (length xs) → any_changes (exprs_of xs) ≡ false
 none_changes [] g j = refl
 none_changes (x ∷ xs) g j =
@@ -262,14 +248,7 @@ change_then {xs = xs} {ys = ys} {zs = zs} p q = record {
       none_changes xs (p.settled long) (subst (λ (z : Declared). Nowhere first_joins z (length z)) (p.same long) (q.settled (omega arith)));
 }
 
-went : (xs ys : Declared) → (length ys ≡ length xs → ⊥) → exprs_of xs ≡ exprs_of ys → ⊥
-went xs ys n e = n (sym (sym (count-of xs) ∙ ap count_exprs e ∙ count-of ys))
-
--- whether any went, by the number of those that are left
 pub went_by : (xs ys : Declared) → PartsPass xs ys → (a b : ℕ) → a ≡ length ys → b ≡ length xs → NodeChange (not (nat_eq a b)) (InterpolatedString (exprs_of xs)) (InterpolatedString (exprs_of ys))
 went_by xs ys p a b i j =
-    let P = λ (t : Bool). NodeChange (not t) (InterpolatedString (exprs_of xs)) (InterpolatedString (exprs_of ys)) in
-    elim (eqb_tells a b) [
-      | inl h ↦ let e = sym i ∙ h.1 ∙ j in subst P (sym h.0) (ap (λ (z : Declared). InterpolatedString (exprs_of z)) (p.same e), p.settled e)
-      | inr h ↦ subst P (sym h.0) (turns_pass changes p.to (went xs ys (λ e. h.1 (i ∙ e ∙ sym j))))
-    ]
+    let went_or_not = λ (t : Bool). NodeChange t (InterpolatedString (exprs_of xs)) (InterpolatedString (exprs_of ys)) in
+    by_length went_or_not (length ys) (length xs) a b i j (λ e. (ap (λ (z : Declared). InterpolatedString (exprs_of z)) (p.same e), p.settled e)) (λ n. turns_pass changes p.to (went xs ys n))

@@ -13,9 +13,11 @@ use Rattle.ast_types.specs.Reading.{expr_of, exprs_of}
 use Rattle.theory_rewriting.specs.Answering.{is_always, is_some_value, follows_deciding, follows_some}
 use Rattle.theory_rewriting.specs.Operands.{OperandsTo, CoalesceTo}
 use Rattle.theory_rewriting.specs.Residue.{IsReducedNode}
-use Rattle.theory_rewriting.specs.Steps.{Place}
+use Rattle.theory_rewriting.specs.Steps.{Place, ExprRewrite}
 use Rattle.opt_steps.specs.Standing.{may_stand}
 use Rattle.opt_steps.specs.Passes.{InTurn, NodePass}
+use Rattle.opt_exprs.specs.declared.operands.nodes.Outcome.{Outcome}
+use Rattle.opt_exprs.specs.declared.operands.nodes.Outcome.TheVariants as outcome
 use Rattle.opt_exprs.specs.declared.operands.operation.Operation.{Operation}
 use Rattle.opt_exprs.specs.declared.operands.operation.Operation.TheVariants as operation
 
@@ -131,3 +133,14 @@ is_settled_node p (And es) = is_settled p operation.And es
 is_settled_node p (Or es) = is_settled p operation.Or es
 is_settled_node p (Coalesce es) = is_settled p operation.Coalesce es
 is_settled_node p _ = true
+
+-- what an operator of few operands is to become, or that they stay
+abbrev pub Becomes : Option declared_expr.Expr → Place → Operation → Declared → Declared → Type 0
+Becomes None p o xs ys = (ys ≡ xs) × (is_settled p o (exprs_of xs) ≡ true)
+Becomes (Some x) p o xs ys = ExprRewrite p (node_of o (exprs_of xs)) (expr_of x)
+
+-- of a node: no rule fires, some operands went, or it is to become another
+abbrev pub ComesOf : Outcome → Place → Expr → Expr → Type 0
+ComesOf outcome.Kept p e e' = NodeChange false e e' × (is_settled_node p e ≡ true)
+ComesOf outcome.Fewer p e e' = NodePass e e'
+ComesOf (outcome.Becomes x) p e e' = ExprRewrite p e (expr_of x)

@@ -4,7 +4,6 @@
 mod answers;
 mod calls;
 mod putting;
-mod statements;
 mod steps;
 
 pub use steps::{step_call, step_call_statement};

@@ -12,9 +12,8 @@ use Rattle.theory_rewriting.specs.Rules.{ExprRule, StmtRule}
 use Rattle.theory_rewriting.specs.Steps.{Place, Anywhere, AsBase, AsGuard, Progress, NoExprRule, NoStmtRule, StmtKept}
 use Rattle.opt_steps.specs.NodeSteps.{ExprStep}
 use Rattle.opt_steps.specs.Standing.{may_stand}
-use Rattle.opt_steps.proofs.NodeKinds.{NoArray, NoBraces, NoCall, NoVariable, NoAnd, NoOr, NoCoalesce, NoDot, NoIndex, NoText, NoMap, NoIf, NoBlock, NoExpression, NoCallStatement, NoWhile, NoAssignment, NoTry, NoSwitch}
+use Rattle.ast_types.proofs.OtherKinds.{NoArray, NoBraces, NoCall, NoVariable, NoAnd, NoOr, NoCoalesce, NoDot, NoIndex, NoText, NoMap, NoIf, NoBlock, NoExpression, NoCallStatement, NoWhile, NoAssignment, NoTry, NoSwitch, NoShare}
 use Rattle.opt_steps.proofs.Stepping.{expr_stays, stmt_stays}
-use Rattle.opt_stmts.proofs.OtherAssignments.{NoShare}
 use Rattle.opt_rules.specs.Settled.{is_braces, known_value, is_settled_in_braces}
 
 pub no_known_value : (ks : List Known) {x : declared_expr.Expr} {e : Expr} → ExprCase x e → NoVariable x → None ≡ known_value ks e
@@ -53,6 +52,12 @@ has_expr_rules _ = false
 
 expr_ruled : {k : Context} {e e' : Expr} → ExprRule k e e' → has_expr_rules e ≡ true
 expr_ruled (rule.array_of_constants h) = refl
+expr_ruled (rule.unit_ends true g r n) = refl
+expr_ruled (rule.unit_ends false g r n) = refl
+expr_ruled (rule.step_answers true q) = refl
+expr_ruled (rule.step_answers false q) = refl
+expr_ruled (rule.chain_goes_on true next g r n q) = refl
+expr_ruled (rule.chain_goes_on false next g r n q) = refl
 expr_ruled _ = refl
 
 abbrev has_stmt_rules : Stmt → Bool

@@ -67,12 +67,23 @@ known_becomes Anywhere ks x v e' h r u m = h
 known_becomes AsBase ks x v e' h r u m = let z : None ≡ Some (OfName x) = sym r ∙ m in absurd cc
 known_becomes AsGuard ks x v e' h r u m = unless_unit_of (look ks x) v h (sym u ∙ m)
 
-name_rules : {k : Context} {e' : Expr} (p : Place) (ns : List Text) (x : Text) → None ≡ known_there p k.known (Variable ns x) → ExprRule k (Variable ns x) e' → MayBecome p (Variable ns x) e' → ⊥
-name_rules {k = k} p _ x h (rule.known_name v i) m =
+abbrev Unknown : Place → List Known → Expr → Type 0
+Unknown p ks (Variable ns x) = None ≡ known_there p ks (Variable ns x)
+Unknown p ks _ = ⊥
+
+name_rules : (p : Place) {k : Context} {e e' : Expr} → ExprRule k e e' → Unknown p k.known e → MayBecome p e e' → ⊥
+name_rules p {k = k} (rule.known_name {x = x} v i) h m =
     let z : None ≡ Some v = h ∙ known_becomes p k.known x v (constant_of v) i (root_of_value v) (unit_of_value v) m in cc
-name_rules {k = k} p _ x h (rule.known_pointer f i q) m =
+name_rules p {k = k} (rule.known_pointer {x = x} f i q) h m =
     let z : None ≡ Some (PointerV f no_values) = h ∙ known_becomes p k.known x (PointerV f no_values) (pointer_call f) i refl refl m in cc
+name_rules p (rule.unit_ends true g r n) h m = h
+name_rules p (rule.unit_ends false g r n) h m = h
+name_rules p (rule.step_answers true q) h m = h
+name_rules p (rule.step_answers false q) h m = h
+name_rules p (rule.chain_goes_on true next g r n q) h m = h
+name_rules p (rule.chain_goes_on false next g r n q) h m = h
+name_rules p _ h m = h
 
 pub name_stays : {p : Place} {s : Progress} (e : Expr) → is_variable e ≡ true → None ≡ known_there p s.known e → (r : Engine) → ExprStep false r p s s e e
-name_stays {p = p} {s = s} (Variable ns x) i h r = expr_stays tt refl (λ q. sym (h ∙ ap (λ y. known_there y s.known (Variable ns x)) q)) (λ n e' q m. name_rules p ns x h q m)
+name_stays {p = p} {s = s} (Variable ns x) i h r = expr_stays tt refl (λ q. sym (h ∙ ap (λ y. known_there y s.known (Variable ns x)) q)) (λ n e' q m. name_rules p q h m)
 name_stays _ i h r = absurd cc

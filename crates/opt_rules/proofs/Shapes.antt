@@ -54,11 +54,22 @@ array_put {s = s} {s' = s'} {v = v} (ArrayOf es) i h q r p =
     (record { rule = array_folds (constant_values es) refl h; stays = may_be_constant p (ArrayOf es) v refl refl (array_not_unit (constant_values es) v h); fired = q.fired; known = q.known }, keeps_constant (ArrayOf es) v)
 array_put _ i h q r p = absurd cc
 
-array_rules : {k : Context} {e' : Expr} (es : Exprs) → constant_values es ≡ None → ExprRule k (ArrayOf es) e' → ⊥
-array_rules es h (rule.array_of_constants {vs = vs} i) = let z : None ≡ Some vs = sym h ∙ i in cc
+abbrev Unfolded : Expr → Type 0
+Unfolded (ArrayOf es) = constant_values es ≡ None
+Unfolded _ = ⊥
+
+array_rules : {k : Context} {e e' : Expr} → ExprRule k e e' → Unfolded e → ⊥
+array_rules (rule.array_of_constants {vs = vs} i) h = let z : None ≡ Some vs = sym h ∙ i in cc
+array_rules (rule.unit_ends true g r n) h = h
+array_rules (rule.unit_ends false g r n) h = h
+array_rules (rule.step_answers true q) h = h
+array_rules (rule.step_answers false q) h = h
+array_rules (rule.chain_goes_on true next g r n q) h = h
+array_rules (rule.chain_goes_on false next g r n q) h = h
+array_rules _ h = h
 
 array_stays : {s : Progress} (e : Expr) → is_array e ≡ true → None ≡ value_of_array e → (r : Engine) (p : Place) → ExprStep false r p s s e e
-array_stays (ArrayOf es) i h r p = let none = no_array (constant_values es) h in expr_stays none refl (λ q. refl) (λ n e' q m. array_rules es none q)
+array_stays (ArrayOf es) i h r p = let none = no_array (constant_values es) h in expr_stays none refl (λ q. refl) (λ n e' q m. array_rules q none)
 array_stays _ i h r p = absurd cc
 
 pub array_step : (b : Bool) (s s' : Progress) (e e' : Expr) → is_array e ≡ true → FoldsConstant b s s' e e' → (r : Engine) (p : Place) → ExprStep b r p s s' e e'
@@ -113,13 +124,24 @@ may_become Anywhere ss e m = refl
 may_become AsBase ss e m = ap (λ o. not (is_some o)) m
 may_become AsGuard ss e m = ap not m
 
-braces_rules : {k : Context} {e' : Expr} (p : Place) (ss : Stmts) → is_settled_braces p ss ≡ true → ExprRule k (BlockExpr ss) e' → MayBecome p (BlockExpr ss) e' → ⊥
-braces_rules p _ h rule.braces_empty m = let z : false ≡ true = ap not (sym (may_become p no_stmts UnitConstant m)) ∙ h in cc
-braces_rules p _ h (rule.braces_of_expression {e}) m = let z : false ≡ true = ap not (sym (may_become p (stmt (ExprStmt e) no_stmts) e m)) ∙ h in cc
-braces_rules p _ h (rule.braces_of_call i) m = let z : false ≡ true = sym i ∙ h in cc
+abbrev Stays : Place → Expr → Type 0
+Stays p (BlockExpr ss) = is_settled_braces p ss ≡ true
+Stays p _ = ⊥
+
+braces_rules : (p : Place) {k : Context} {e e' : Expr} → ExprRule k e e' → Stays p e → MayBecome p e e' → ⊥
+braces_rules p rule.braces_empty h m = let z : false ≡ true = ap not (sym (may_become p no_stmts UnitConstant m)) ∙ h in cc
+braces_rules p (rule.braces_of_expression {e}) h m = let z : false ≡ true = ap not (sym (may_become p (stmt (ExprStmt e) no_stmts) e m)) ∙ h in cc
+braces_rules p (rule.braces_of_call i) h m = let z : false ≡ true = sym i ∙ h in cc
+braces_rules p (rule.unit_ends true g r n) h m = h
+braces_rules p (rule.unit_ends false g r n) h m = h
+braces_rules p (rule.step_answers true q) h m = h
+braces_rules p (rule.step_answers false q) h m = h
+braces_rules p (rule.chain_goes_on true next g r n q) h m = h
+braces_rules p (rule.chain_goes_on false next g r n q) h m = h
+braces_rules p _ h m = h
 
 pub braces_stay : {p : Place} {s : Progress} (e : Expr) → is_braces e ≡ true → is_settled p e ≡ true → (r : Engine) → ExprStep false r p s s e e
-braces_stay {p = p} (BlockExpr ss) i h r = expr_stays (braces-settled p ss h) refl (λ q. refl) (λ n e' q m. braces_rules p ss h q m)
+braces_stay {p = p} (BlockExpr ss) i h r = expr_stays (braces-settled p ss h) refl (λ q. refl) (λ n e' q m. braces_rules p q h m)
 braces_stay _ i h r = absurd cc
 
 -- ---- names without a namespace

@@ -69,6 +69,7 @@ fn braces_of_one(place: Place, only: Stmt) -> Expr
     match only {
         Stmt::Expr(expr) => braces_of_expression(expr.into_inner()),
         Stmt::FnCall(call, pos) => braces_of_call(call, pos),
+        // an expression or a call, as was asked by reference before it was taken out
         _ => unreachable!(),
     }
 }
@@ -114,6 +115,7 @@ fn is_settled(place: Place, expr: &Expr) -> bool
 {
     match expr {
         Expr::Stmt(block) => is_settled_braces(place, block.get().statements()),
+        // braces, as the caller knows
         _ => unreachable!(),
     }
 }
@@ -126,6 +128,7 @@ fn rewritten(place: Place, expr: Expr) -> Expr
 {
     match expr {
         Expr::Stmt(block) => reduce_braces(place, block.into_inner()),
+        // braces, as was asked by reference before they were taken out
         _ => unreachable!(),
     }
 }

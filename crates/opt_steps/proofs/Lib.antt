@@ -1,5 +1,5 @@
 pub mod Listed
-pub mod NodeKinds
+pub mod Roots
 pub mod Passing
 pub mod Places
 pub mod Stepping

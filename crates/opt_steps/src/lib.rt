@@ -1,14 +1,11 @@
-//! One step at a node: where the node stands, what came of the rules there, and constants that take its place. Rules at
-//! several parts in one pass, and lists of expressions that lose some of them.
+//! One step at a node: where the node stands, what came of the rules there, and constants that take its place.
 #![tactic(auto)]
 
-mod pass;
 mod place;
 mod putting;
 mod step;
 
 pub use opt_known::OptimizerState;
-pub use pass::{move_down, only_expr, shorten};
 pub use place::{Place, may_be_unit, may_stand};
 pub use putting::{fold_constant, note_fired, put_constant, put_nothing, put_unit};
 pub use step::{NodeStep, step_of};

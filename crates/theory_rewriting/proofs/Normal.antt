@@ -5,7 +5,7 @@ use Rattle.theory_meaning.specs.Elements.{entry}
 use Rattle.theory_meaning.specs.Act.{Root, OfName, OfThis}
 use Rattle.theory_meaning.specs.Desugar.{root_of}
 use Rattle.theory_meaning.specs.Queries.{is_unit}
-use Rattle.theory_meaning.specs.Tree.{ChainFlags, Callee, Expr, UnitConstant, InterpolatedString, ArrayOf, MapOf, Variable, ThisPtr, MethodCall, BlockExpr, FnCall, Dot, Index, And, Or, Coalesce, Exprs, no_exprs, expr, Pairs, no_pairs, pair, no_expr, an_expr, Arms, no_arms, arm, Stmt, If, Switch, While, Do, For, Var, Assignment, Block, TryCatch, ExprStmt, FnCallStmt, BreakLoop, Return, Import, Stmts, no_stmts, stmt}
+use Rattle.theory_meaning.specs.Tree.{ChainFlags, Callee, Expr, BoolConstant, UnitConstant, InterpolatedString, ArrayOf, MapOf, Variable, ThisPtr, MethodCall, BlockExpr, FnCall, Dot, Index, And, Or, Coalesce, Exprs, no_exprs, expr, Pairs, no_pairs, pair, no_expr, an_expr, Arms, no_arms, arm, Stmt, If, Switch, While, Do, For, Var, Assignment, Block, TryCatch, ExprStmt, FnCallStmt, BreakLoop, Return, Import, Stmts, no_stmts, stmt}
 use Rattle.theory_rewriting.specs.Context.{Context, behind, ListKind, Inside, wanted, wanted_before, open_list, ListContext}
 use Rattle.theory_rewriting.specs.Normal.{IsNormal, HasNormalParts, StmtHasNormalParts, AreNormalEach, AreSwept, gives_way, any_gives_way}
 use Rattle.theory_rewriting.specs.Parts.{link}
@@ -15,7 +15,7 @@ use Rattle.theory_rewriting.specs.Rules.{ExprRule, StmtRule, ListRule}
 use Rattle.theory_rewriting.specs.Steps.{Place, Anywhere, AsBase, AsGuard, NoExprRule, NoStmtRule, IsNormalAt, is_chain_node, is_method}
 use Rattle.theory_rewriting.specs.SurelyUnit.{is_surely_unit}
 use Rattle.theory_rewriting.proofs.Reducing.{root_for_value, root_of_value}
-use Rattle.theory_rewriting.proofs.rules.Literals.{element_root, entry_root}
+use Rattle.theory_rewriting.proofs.rules.Steps.{step_rule}
 
 -- ---- lists of parts
 
@@ -145,56 +145,38 @@ or_never (inr n) = absurd n
 pub expr_normal : {k : Context} (e : Expr) → HasNormalParts k e → ((e' : Expr) → ExprRule k e e' → ⊥) → IsNormal (ExprTo k) e
 expr_normal e h n d d' x p = or_never (stays_or e (λ y. ⊥) h n (λ c c' y z b q. b) p refl)
 
--- no rule applies to a literal unit, nor to `this`
-unit_has_no_rule : {k : Context} {e e' : Expr} → ExprRule k e e' → is_unit e ≡ false
-unit_has_no_rule (rule.array_of_constants h) = refl
-unit_has_no_rule rule.braces_empty = refl
-unit_has_no_rule rule.braces_of_expression = refl
-unit_has_no_rule (rule.braces_of_call h) = refl
-unit_has_no_rule (rule.operator_folds h) = refl
-unit_has_no_rule (rule.and_changes h j) = refl
-unit_has_no_rule (rule.or_changes h j) = refl
-unit_has_no_rule (rule.coalesce_changes h j) = refl
-unit_has_no_rule rule.and_of_one = refl
-unit_has_no_rule rule.or_of_one = refl
-unit_has_no_rule rule.coalesce_of_one = refl
-unit_has_no_rule rule.and_of_none = refl
-unit_has_no_rule rule.or_of_none = refl
-unit_has_no_rule rule.coalesce_of_none = refl
-unit_has_no_rule (rule.text_changes h) = refl
-unit_has_no_rule (rule.text_folds vs h) = refl
-unit_has_no_rule (rule.map_of_constants vs h) = refl
-unit_has_no_rule (rule.type_of_folds v h) = refl
-unit_has_no_rule (rule.is_shared_folds v h) = refl
-unit_has_no_rule (rule.fn_folds f h j) = refl
-unit_has_no_rule (rule.curry_folds f us vs h j) = refl
-unit_has_no_rule (rule.unit_ends_dot h) = refl
-unit_has_no_rule (rule.unit_ends_index h) = refl
-unit_has_no_rule (rule.property_of_constant fs h) = refl
-unit_has_no_rule (rule.index_of_constant v j u h q r) = refl
-unit_has_no_rule (rule.element_of_array n j h q r x) = refl
-unit_has_no_rule (rule.property_of_map h) = refl
-unit_has_no_rule (rule.entry_of_map x h q) = refl
-unit_has_no_rule (rule.type_of_method v h q) = refl
-unit_has_no_rule (rule.is_shared_method v h q) = refl
-unit_has_no_rule (rule.property_of_constant_first dot m p r fs h q) = refl
-unit_has_no_rule (rule.index_of_constant_first dot m i r v j u h q x y) = refl
-unit_has_no_rule (rule.type_of_method_first dot m r v h q x) = refl
-unit_has_no_rule (rule.is_shared_method_first dot m r v h q x) = refl
-unit_has_no_rule (rule.element_of_array_first dot m i r n j b h q x y) = refl
-unit_has_no_rule (rule.property_of_map_first dot m p r b h) = refl
-unit_has_no_rule (rule.entry_of_map_first dot m i r x b h q) = refl
-unit_has_no_rule (rule.known_name v h) = refl
-unit_has_no_rule (rule.known_pointer f h q) = refl
-unit_has_no_rule (rule.known_property fs h) = refl
-unit_has_no_rule (rule.known_entry fs y h q) = refl
+-- no rule applies to a literal unit or bool
+abbrev pub is_literal : Expr → Bool
+is_literal UnitConstant = true
+is_literal (BoolConstant b) = true
+is_literal _ = false
+
+literal_has_no_rule : {k : Context} {e e' : Expr} → ExprRule k e e' → is_literal e ≡ false
+literal_has_no_rule (rule.unit_ends true f r h) = refl
+literal_has_no_rule (rule.unit_ends false f r h) = refl
+literal_has_no_rule (rule.step_answers true s) = refl
+literal_has_no_rule (rule.step_answers false s) = refl
+literal_has_no_rule (rule.chain_goes_on true next m r h s) = refl
+literal_has_no_rule (rule.chain_goes_on false next m r h s) = refl
+literal_has_no_rule _ = refl
 
 no : {A : Type 0} → true ≡ false → A
 no h = absurd (let z : true ≡ false = h in cc)
 
-unit_normal : {k : Context} (e : Expr) → is_unit e ≡ true → IsNormal (ExprTo k) e
-unit_normal UnitConstant h = expr_normal UnitConstant tt (λ y r. no (unit_has_no_rule r))
-unit_normal _ h = no (sym h)
+pub literal_normal : {k : Context} (e : Expr) → is_literal e ≡ true → IsNormal (ExprTo k) e
+literal_normal UnitConstant h = expr_normal UnitConstant tt (λ y r. no (literal_has_no_rule r))
+literal_normal (BoolConstant b) h = expr_normal (BoolConstant b) tt (λ y r. no (literal_has_no_rule r))
+literal_normal _ h = no (sym h)
+
+unit_is_literal : (e : Expr) → is_unit e ≡ true → is_literal e ≡ true
+unit_is_literal UnitConstant h = refl
+unit_is_literal _ h = no (sym h)
+
+unit_has_no_rule : {k : Context} {e e' : Expr} → ExprRule k e e' → is_unit e ≡ false
+unit_has_no_rule {e = e} r = by (is_unit e) refl where
+  by : (b : Bool) → is_unit e ≡ b → b ≡ false
+  by false h = refl
+  by true h = no (sym (unit_is_literal e h) ∙ literal_has_no_rule r)
 
 -- ---- a guard, which no literal unit became or was; and a base, which is no place or a place that stays
 
@@ -213,7 +195,7 @@ guard_rule : {k : Context} (o x : Expr) → NoExprRule k AsGuard o → ExprRule 
 guard_rule {k = k} o x n r = by (is_unit x) refl where
   by : (b : Bool) → is_unit x ≡ b → Apart k is_unit o x
   by false h = absurd (n x r (h ∙ sym (unit_has_no_rule r)))
-  by true h = (λ i. no (sym h ∙ i ∙ unit_has_no_rule r), unit_normal x h)
+  by true h = (λ i. no (sym h ∙ i ∙ unit_has_no_rule r), literal_normal x (unit_is_literal x h))
 
 guard_stays : {k : Context} (o : Expr) → HasNormalParts k o → NoExprRule k AsGuard o → {d d' : Bool} {e x : Expr} → GuardTo k d d' e x → e ≡ o → x ≡ o
 guard_stays {k = k} o h n {x = x} (guard p i) j = not_apart is_unit o x (stays_or o (Apart k is_unit o) h (λ y r. guard_rule o y n r) (apart_stays is_unit o) p j) (i ∙ ap is_unit j)
@@ -245,47 +227,19 @@ link_root false m l r = refl
 
 -- a rule makes a place of a node by taking it out of a part, in which nothing is left to do
 place_made : {k : Context} {o x : Expr} (r : Root) → HasNormalParts k o → root_of o ≡ None → ExprRule k o x → root_of x ≡ Some r → IsNormal (ExprTo k) x
-place_made r h i (rule.array_of_constants q) j = no_place refl j
-place_made r h i rule.braces_empty j = no_place refl j
 place_made {x = x} r h i rule.braces_of_expression j = braced_normal x h
-place_made r h i (rule.braces_of_call q) j = no_place refl j
 place_made r h i (rule.operator_folds {v = v} q) j = no_place (root_for_value v) j
-place_made r h i (rule.and_changes q t) j = no_place refl j
-place_made r h i (rule.or_changes q t) j = no_place refl j
-place_made r h i (rule.coalesce_changes q t) j = no_place refl j
 place_made r h i rule.and_of_one j = first_normal h
 place_made r h i rule.or_of_one j = first_normal h
 place_made r h i rule.coalesce_of_one j = first_normal h
-place_made r h i rule.and_of_none j = no_place refl j
-place_made r h i rule.or_of_none j = no_place refl j
-place_made r h i rule.coalesce_of_none j = no_place refl j
-place_made r h i (rule.text_changes q) j = no_place refl j
-place_made r h i (rule.text_folds vs q) j = no_place refl j
-place_made r h i (rule.map_of_constants vs q) j = no_place refl j
-place_made r h i (rule.type_of_folds v q) j = no_place refl j
-place_made r h i (rule.is_shared_folds v q) j = no_place refl j
-place_made r h i (rule.fn_folds f q t) j = no_place refl j
-place_made r h i (rule.curry_folds f us vs q t) j = no_place refl j
-place_made r h i (rule.unit_ends_dot q) j = no_place refl j
-place_made r h i (rule.unit_ends_index q) j = no_place refl j
-place_made r h i (rule.property_of_constant {p = p} fs q) j = no_place (root_of_value (entry fs p.name)) j
-place_made r h i (rule.index_of_constant v w u q t y) j = no_place (root_of_value u) j
-place_made r h i (rule.element_of_array {es = es} {e = e} n m q t y z) j = no_place (element_root es m e q z) j
-place_made r h i (rule.property_of_map {ps = ps} {p = p} q) j = no_place (entry_root ps p.name q) j
-place_made r h i (rule.entry_of_map {ps = ps} y q t) j = no_place (entry_root ps y q) j
-place_made r h i (rule.type_of_method v q t) j = no_place refl j
-place_made r h i (rule.is_shared_method v q t) j = no_place refl j
-place_made r h i (rule.property_of_constant_first dot m p b fs q t) j = no_place (link_root dot m _ b) j
-place_made r h i (rule.index_of_constant_first dot m a b v w u q t y z) j = no_place (link_root dot m _ b) j
-place_made r h i (rule.type_of_method_first dot m b v q t y) j = no_place (link_root dot m _ b) j
-place_made r h i (rule.is_shared_method_first dot m b v q t y) j = no_place (link_root dot m _ b) j
-place_made r h i (rule.element_of_array_first dot m a b n w q t y z u) j = no_place (link_root dot m _ b) j
-place_made r h i (rule.property_of_map_first dot m p b q t) j = no_place (link_root dot m _ b) j
-place_made r h i (rule.entry_of_map_first dot m a b y q t z) j = no_place (link_root dot m _ b) j
+place_made r h i (rule.unit_ends dot f x q) j = no_place refl j
+place_made r h i (rule.step_answers dot s) j = no_place (step_rule s).answer j
+place_made r h i (rule.chain_goes_on dot next m b q s) j = no_place (link_root next m _ b) j
 place_made r h i (rule.known_name v q) j = no_place i refl
 place_made r h i (rule.known_pointer f q t) j = no_place i refl
 place_made r h i (rule.known_property {p = p} fs q) j = no_place (root_of_value (entry fs p.name)) j
 place_made r h i (rule.known_entry fs y q t) j = no_place (root_of_value (entry fs y)) j
+place_made r h i _ j = no_place refl j
 
 base_rule : {k : Context} (o x : Expr) → HasNormalParts k o → NoExprRule k AsBase o → root_of o ≡ None → ExprRule k o x → Apart k root_of o x
 base_rule {k = k} o x h n i r = by (root_of x) refl where
@@ -378,27 +332,20 @@ list_stays {k = k} {m = m} {u = u} o h n (in_tail {s = s} p) i = ap (stmt s) ((s
 list_stays o h n (flag_forgotten p) i = list_stays o h n p i
 
 -- no rule begins at nothing
-some_is_none : {A : Type 0} {s : Stmt} {ss : Stmts} → stmt s ss ≡ no_stmts → A
-some_is_none h = absurd cc
+abbrev begins : Stmts → Bool
+begins no_stmts = false
+begins (stmt s ss) = true
 
-rule_at_some : {k : Context} {m : ListKind} {u : Bool} {ss xs : Stmts} → ListRule k m u ss xs → ss ≡ no_stmts → ⊥
-rule_at_some (rule.block_gives_way h) i = some_is_none i
-rule_at_some (rule.after_leave h) i = some_is_none i
-rule_at_some (rule.pure_goes h j) i = some_is_none i
-rule_at_some (rule.lone_goes h) i = some_is_none i
-rule_at_some (rule.pure_inside_goes h j q r) i = some_is_none i
-rule_at_some rule.last_return i = some_is_none i
-rule_at_some rule.last_return_goes i = some_is_none i
-rule_at_some rule.last_return_noop i = some_is_none i
-rule_at_some (rule.last_unit_goes h j) i = some_is_none i
-rule_at_some (rule.last_unit_noop h j q) i = some_is_none i
+rule_begins : {k : Context} {m : ListKind} {u : Bool} {ss xs : Stmts} → ListRule k m u ss xs → begins ss ≡ true
+rule_begins (rule.block_gives_way h) = refl
+rule_begins _ = refl
 
 both_false : (a b : Bool) → a || b ≡ false → (a ≡ false) × (b ≡ false)
 both_false true b h = no h
 both_false false b h = (refl, h)
 
 pub list_normal : (ss : Stmts) {k : ListContext} {m : ListKind} {u : Bool} → AreNormalEach k m ss → AreSwept m u ss → any_gives_way ss ≡ false → IsNormal (RestTo k m u) ss
-list_normal no_stmts h n g d d' x p = list_stays no_stmts tt (λ y r. rule_at_some r refl) p refl
+list_normal no_stmts h n g d d' x p = list_stays no_stmts tt (λ y r. no (sym (rule_begins r))) p refl
 list_normal (stmt s ss) {k = k} {m = m} h n g d d' x p =
     let z = both_false (gives_way s) (any_gives_way ss) g in
     list_stays (stmt s ss) (h.0, list_normal ss h.1 n.1 z.1) (λ y r. no (sym (n.0 k.context y r) ∙ z.0)) p refl

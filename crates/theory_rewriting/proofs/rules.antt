@@ -10,7 +10,7 @@ pub mod Entries
 pub mod Literals
 pub mod Chains
 pub mod Names
-pub mod Onward
+pub mod Steps
 pub mod Control
 pub mod SelfAssign
 pub mod Arms

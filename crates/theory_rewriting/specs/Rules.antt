@@ -56,6 +56,19 @@ is_pure_in (Inside b) s = is_internally_pure s
 
 -- ---- the rules
 
+-- of a step of a chain: what it answers at a base, by its argument
+pub data StepRule (k : Context) : (dot : Bool) → ChainFlags → Expr → Expr → Expr → Type 0 where
+  -- a part of a constant
+  property_of_constant : {f : ChainFlags} {e : Expr} {p : PropertyNames} (fs : Fields) → constant_value e ≡ Some (MapV fs) → StepRule k true f e (Property p) (constant_of (entry fs p.name))
+  index_of_constant : {f : ChainFlags} {e i : Expr} (v j u : Value) → constant_value e ≡ Some v → constant_value i ≡ Some j → indexed v j ≡ Some u → StepRule k false f e i (constant_of u)
+  -- a part of a literal whose parts are pure
+  element_of_array : {f : ChainFlags} {es : Exprs} {i e : Expr} (n : ℤ) (j : ℕ) → are_pure_exprs es ≡ true → constant_value i ≡ Some (IntV n) → index_in (count_exprs es) n ≡ Some j → expr_at es j ≡ Some e → StepRule k false f (ArrayOf es) i e
+  property_of_map : {f : ChainFlags} {ps : Pairs} {template : List Text} {p : PropertyNames} → are_pure_pairs ps ≡ true → StepRule k true f (MapOf ps template) (Property p) (or_unit (pair_for ps p.name))
+  entry_of_map : {f : ChainFlags} {ps : Pairs} {template : List Text} {i : Expr} (x : Text) → are_pure_pairs ps ≡ true → constant_value i ≡ Some (TextV x) → StepRule k false f (MapOf ps template) i (or_unit (pair_for ps x))
+  -- `type_of` and `is_shared` of a constant as methods that capture nothing; past a `?` a unit is left
+  type_of_method : {f : ChainFlags} {e : Expr} (v : Value) → constant_value e ≡ Some v → (f.negated && is_unit v) ≡ false → StepRule k true f e (MethodCall (named (codes "type_of") false) no_exprs) (StringConstant (mapped_type_name k.engine v))
+  is_shared_method : {f : ChainFlags} {e : Expr} (v : Value) → constant_value e ≡ Some v → (f.negated && is_unit v) ≡ false → StepRule k true f e (MethodCall (named (codes "is_shared") false) no_exprs) (BoolConstant false)
+
 -- of expressions
 pub data ExprRule (k : Context) : Expr → Expr → Type 0 where
   -- an array of constants is its value
@@ -89,27 +102,10 @@ pub data ExprRule (k : Context) : Expr → Expr → Type 0 where
   fn_folds : {captures : Bool} {e : Expr} (f : Text) → constant_value e ≡ Some (TextV f) → is_valid_name f ≡ true → ExprRule k (FnCall (named (codes "Fn") captures) (expr e no_exprs)) (DynamicConstant (PointerV f (values [])))
   curry_folds : {captures : Bool} {e : Expr} {es : Exprs} (f : Text) (us : Values) (vs : List Value) → constant_value e ≡ Some (PointerV f us) → constant_values es ≡ Some vs → ExprRule k (FnCall (named (codes "curry") captures) (expr e es)) (DynamicConstant (PointerV f (values (items us ++ vs))))
   -- past a `?` a unit ends the chain with unit
-  unit_ends_dot : {f : ChainFlags} {r : Expr} → f.negated ≡ true → ExprRule k (Dot f UnitConstant r) UnitConstant
-  unit_ends_index : {f : ChainFlags} {r : Expr} → f.negated ≡ true → ExprRule k (Index f UnitConstant r) UnitConstant
-  -- a part of a constant
-  property_of_constant : {f : ChainFlags} {e : Expr} {p : PropertyNames} (fs : Fields) → constant_value e ≡ Some (MapV fs) → ExprRule k (Dot f e (Property p)) (constant_of (entry fs p.name))
-  index_of_constant : {f : ChainFlags} {e i : Expr} (v j u : Value) → constant_value e ≡ Some v → constant_value i ≡ Some j → indexed v j ≡ Some u → ExprRule k (Index f e i) (constant_of u)
-  -- a part of a literal whose parts are pure
-  element_of_array : {f : ChainFlags} {es : Exprs} {i e : Expr} (n : ℤ) (j : ℕ) → are_pure_exprs es ≡ true → constant_value i ≡ Some (IntV n) → index_in (count_exprs es) n ≡ Some j → expr_at es j ≡ Some e → ExprRule k (Index f (ArrayOf es) i) e
-  property_of_map : {f : ChainFlags} {ps : Pairs} {template : List Text} {p : PropertyNames} → are_pure_pairs ps ≡ true → ExprRule k (Dot f (MapOf ps template) (Property p)) (or_unit (pair_for ps p.name))
-  entry_of_map : {f : ChainFlags} {ps : Pairs} {template : List Text} {i : Expr} (x : Text) → are_pure_pairs ps ≡ true → constant_value i ≡ Some (TextV x) → ExprRule k (Index f (MapOf ps template) i) (or_unit (pair_for ps x))
-  -- `type_of` and `is_shared` of a constant as methods that capture nothing; past a `?` a unit is left
-  type_of_method : {f : ChainFlags} {e : Expr} (v : Value) → constant_value e ≡ Some v → (f.negated && is_unit v) ≡ false → ExprRule k (Dot f e (MethodCall (named (codes "type_of") false) no_exprs)) (StringConstant (mapped_type_name k.engine v))
-  is_shared_method : {f : ChainFlags} {e : Expr} (v : Value) → constant_value e ≡ Some v → (f.negated && is_unit v) ≡ false → ExprRule k (Dot f e (MethodCall (named (codes "is_shared") false) no_exprs)) (BoolConstant false)
-  -- the first step of a longer chain, over a constant: the chain goes on from its answer
-  property_of_constant_first : {f : ChainFlags} {e : Expr} (dot : Bool) (m : ChainFlags) (p : PropertyNames) (r : Expr) (fs : Fields) → f.breaks ≡ false → constant_value e ≡ Some (MapV fs) → ExprRule k (Dot f e (link dot m (Property p) r)) (link dot m (constant_of (entry fs p.name)) r)
-  index_of_constant_first : {f : ChainFlags} {e : Expr} (dot : Bool) (m : ChainFlags) (i r : Expr) (v j u : Value) → f.breaks ≡ false → constant_value e ≡ Some v → constant_value i ≡ Some j → indexed v j ≡ Some u → ExprRule k (Index f e (link dot m i r)) (link dot m (constant_of u) r)
-  type_of_method_first : {f : ChainFlags} {e : Expr} (dot : Bool) (m : ChainFlags) (r : Expr) (v : Value) → f.breaks ≡ false → constant_value e ≡ Some v → (f.negated && is_unit v) ≡ false → ExprRule k (Dot f e (link dot m (MethodCall (named (codes "type_of") false) no_exprs) r)) (link dot m (StringConstant (mapped_type_name k.engine v)) r)
-  is_shared_method_first : {f : ChainFlags} {e : Expr} (dot : Bool) (m : ChainFlags) (r : Expr) (v : Value) → f.breaks ≡ false → constant_value e ≡ Some v → (f.negated && is_unit v) ≡ false → ExprRule k (Dot f e (link dot m (MethodCall (named (codes "is_shared") false) no_exprs) r)) (link dot m (BoolConstant false) r)
-  -- so does one over a literal whose parts are pure
-  element_of_array_first : {f : ChainFlags} {es : Exprs} {e : Expr} (dot : Bool) (m : ChainFlags) (i r : Expr) (n : ℤ) (j : ℕ) → f.breaks ≡ false → are_pure_exprs es ≡ true → constant_value i ≡ Some (IntV n) → index_in (count_exprs es) n ≡ Some j → expr_at es j ≡ Some e → ExprRule k (Index f (ArrayOf es) (link dot m i r)) (link dot m e r)
-  property_of_map_first : {f : ChainFlags} {ps : Pairs} {template : List Text} (dot : Bool) (m : ChainFlags) (p : PropertyNames) (r : Expr) → f.breaks ≡ false → are_pure_pairs ps ≡ true → ExprRule k (Dot f (MapOf ps template) (link dot m (Property p) r)) (link dot m (or_unit (pair_for ps p.name)) r)
-  entry_of_map_first : {f : ChainFlags} {ps : Pairs} {template : List Text} (dot : Bool) (m : ChainFlags) (i r : Expr) (x : Text) → f.breaks ≡ false → are_pure_pairs ps ≡ true → constant_value i ≡ Some (TextV x) → ExprRule k (Index f (MapOf ps template) (link dot m i r)) (link dot m (or_unit (pair_for ps x)) r)
+  unit_ends : (dot : Bool) (f : ChainFlags) (r : Expr) → f.negated ≡ true → ExprRule k (link dot f UnitConstant r) UnitConstant
+  -- a chain of one step is what the step answers; a longer one goes on from that
+  step_answers : (dot : Bool) {f : ChainFlags} {e a e' : Expr} → StepRule k dot f e a e' → ExprRule k (link dot f e a) e'
+  chain_goes_on : (dot next : Bool) {f : ChainFlags} {e a e' : Expr} (m : ChainFlags) (r : Expr) → f.breaks ≡ false → StepRule k dot f e a e' → ExprRule k (link dot f e (link next m a r)) (link next m e' r)
   -- a name that is known as a constant is its value; of a constant map a part
   known_name : {x : Text} (v : Value) → look k.known x ≡ Some v → ExprRule k (Variable [] x) (constant_of v)
   -- a pointer without values may be the call that makes it
@@ -131,13 +127,8 @@ pub data StmtRule (k : Context) (w : Bool) : Stmt → Stmt → Type 0 where
   statement_of_braces : {ss : Stmts} → StmtRule k w (ExprStmt (BlockExpr ss)) (block_or_noop ss)
   -- an expression statement over a call is a call statement
   statement_of_call : {c : Callee} {es : Exprs} → StmtRule k w (ExprStmt (FnCall c es)) (FnCallStmt c es)
-  -- a call statement of an operator over constants that is built in is its value
-  call_statement_folds : {c : Callee} {es : Exprs} {v : Value} → folded k.engine c es ≡ Some v → StmtRule k w (FnCallStmt c es) (ExprStmt (constant_for v))
-  -- so is one of the language's own functions over constants
-  type_of_statement_folds : {captures : Bool} {e : Expr} (v : Value) → constant_value e ≡ Some v → StmtRule k w (FnCallStmt (named (codes "type_of") captures) (expr e no_exprs)) (ExprStmt (StringConstant (mapped_type_name k.engine v)))
-  is_shared_statement_folds : {captures : Bool} {e : Expr} (v : Value) → constant_value e ≡ Some v → StmtRule k w (FnCallStmt (named (codes "is_shared") captures) (expr e no_exprs)) (ExprStmt (BoolConstant false))
-  fn_statement_folds : {captures : Bool} {e : Expr} (f : Text) → constant_value e ≡ Some (TextV f) → is_valid_name f ≡ true → StmtRule k w (FnCallStmt (named (codes "Fn") captures) (expr e no_exprs)) (ExprStmt (DynamicConstant (PointerV f (values []))))
-  curry_statement_folds : {captures : Bool} {e : Expr} {es : Exprs} (f : Text) (us : Values) (vs : List Value) → constant_value e ≡ Some (PointerV f us) → constant_values es ≡ Some vs → StmtRule k w (FnCallStmt (named (codes "curry") captures) (expr e es)) (ExprStmt (DynamicConstant (PointerV f (values (items us ++ vs)))))
+  -- a call statement of a call that folds is what that call is
+  call_statement_folds : {c : Callee} {es : Exprs} {e : Expr} → ExprRule k (FnCall c es) e → StmtRule k w (FnCallStmt c es) (ExprStmt e)
   -- a `while` over false does nothing, and one over true is a `loop`
   while_false : {e : Expr} {body : Stmts} → constant_bool e ≡ Some false → StmtRule k w (While e body) Noop
   while_true : {e : Expr} {body : Stmts} → constant_bool e ≡ Some true → StmtRule k w (While e body) (While UnitConstant body)

@@ -100,7 +100,7 @@ statement_of_call_row = (in_head (by_stmt_rule statement_of_call), refl, refl)
 -- 40 + 2 as a call statement
 call_statement_folds_row : Row (FnCallStmt plus (exprs (int 40 ∷ int 2 ∷ [])) ∷ []) (ExprStmt (int 42) ∷ []) (ends (WithValue (i 42)) [])
 unfolding ran computed
-call_statement_folds_row = (in_head (by_stmt_rule (call_statement_folds refl)), refl, refl)
+call_statement_folds_row = (in_head (by_stmt_rule (call_statement_folds (operator_folds refl))), refl, refl)
 
 -- ---- lists
 

@@ -3,13 +3,13 @@
 
 #![tactic(auto, using(ast_types::specs::Reading::shapes, rhai_base::specs::Reading::kinds))]
 
-ghost use Rattle.std.specs.Prelude.{◌≡◌, ◌&&◌, IfOk, Some, true};
+ghost use Rattle.std.specs.Prelude.{◌≡◌, ◌&&◌, IfOk, true};
 ghost use Rattle.std.specs.Option.{option_map};
 ghost use Rattle.rhai_base.specs.Reading.{value_of};
 ghost use Rattle.ast_types.specs.Reading.{breaks, chain_flags, expr_of, is_negated};
 ghost use Rattle.theory_meaning.specs.Engine.{Engine};
 ghost use Rattle.theory_meaning.specs.Queries as queries;
-ghost use Rattle.theory_meaning.specs.Tree.{DynamicConstant, UnitConstant};
+ghost use Rattle.theory_meaning.specs.Tree.{UnitConstant};
 ghost use Rattle.base_engine.specs.EngineInfo.{engine_of};
 ghost use Rattle.opt_known.specs.State.{progress};
 ghost use Rattle.theory_rewriting.specs.Parts as parts;
@@ -20,19 +20,18 @@ ghost use Rattle.opt_steps.specs.Places.{place_of};
 ghost use Rattle.opt_steps.specs.Standing as standing;
 ghost use Rattle.opt_chains.specs.Answers as answers;
 ghost use Rattle.rhai_ast.specs.Nodes.{is_dot};
-ghost use Rattle.rhai_ast.specs.declared.walker.node.ChainType.TheVariants as access_kind;
 ghost use Rattle.opt_chains.specs.Chains.{IsTaken, PartStep, SidesStep, ChainStep};
-ghost use Rattle.opt_chains.specs.Chains.{ended_by, unit_ends_by, value_answer};
+ghost use Rattle.opt_chains.specs.Chains.{ends_in_unit, value_answer};
 ghost use Rattle.opt_chains.specs.Onward as onward;
 
-use crate::chain::onward::{argument, onward, reach, unit_may_stand};
+use crate::chain::onward::{argument, onward, unit_may_stand};
 use crate::parts::{constant_answer, known_answer, literal_answer, take_part};
-use ast_nodes::put_expr;
+use ast_nodes::{dynamic_constant, put_expr};
 use base_engine::EngineInfo;
 use bitflags::Flags;
 use opt_steps::{OptimizerState, Place, may_be_unit, note_fired, put_unit};
 use rhai_ast::{BinaryExpr, ChainType, Expr, ExprQueries, Literals};
-use rhai_base::{ASTFlags, Boxed, Dynamic, OutOfMemory, Position};
+use rhai_base::{ASTFlags, Dynamic, OutOfMemory, Position};
 use std::alloc::Global;
 
 fn is_ended(place: Place, flags: ASTFlags, base: &Expr) -> bool
@@ -43,61 +42,24 @@ fn is_ended(place: Place, flags: ASTFlags, base: &Expr) -> bool
     may_be_unit(place) && flags.contains(ASTFlags::NEGATED) && base.is_unit()
 }
 
-fn ended(place: Place, flags: ASTFlags, base: &Expr, access: ChainType) -> Option<ChainType>
-    ensures { result
-        ≡ ended_by access
-        (standing.may_stand (place_of place) UnitConstant
-        && (is_negated flags && queries.is_unit (expr_of base.now))) }
-{
-    if is_ended(place, flags, base) {
-        Some(access)
-    } else {
-        None
-    }
-}
-
-/// By which node a chain over unit, past a `?`, is unit, if by one.
-fn unit_ends(place: Place, expr: &Expr) -> Option<ChainType>
-    ensures { result ≡ unit_ends_by (place_of place) (expr_of expr.now) }
+/// Whether a chain is one over unit, past a `?`, and may be unit where it stands.
+fn ends_in_unit(place: Place, expr: &Expr) -> bool
+    ensures { result ≡ ends_in_unit (place_of place) (expr_of expr.now) }
 {
     match expr {
-        Expr::Dot(sides, flags, _) => ended(place, *flags, &sides.get().lhs, ChainType::Dotting),
-        Expr::Index(sides, flags, _) => ended(place, *flags, &sides.get().lhs, ChainType::Indexing),
-        _ => None,
+        Expr::Dot(sides, flags, _) | Expr::Index(sides, flags, _) => {
+            is_ended(place, *flags, &sides.get().lhs)
+        }
+        _ => false,
     }
 }
 
-/// `()?.r` is `()`.
-fn unit_ends_dot(state: &mut OptimizerState<'_>, expr: &mut Expr)
-    ensures { (p : steps.Place) (r : Engine) → unit_ends_by p (expr_of expr.old) ≡ Some access_kind.Dotting
+/// `()?.r` is `()`, and so is `()?[r]`.
+fn unit_ends(state: &mut OptimizerState<'_>, expr: &mut Expr)
+    ensures { (p : steps.Place) (r : Engine) → ends_in_unit p (expr_of expr.old) ≡ true
         → ExprStep true r p (progress state.old) (progress state.new) (expr_of expr.old) (expr_of expr.new) }
 {
     put_unit(state, expr);
-}
-
-/// `()?[r]` is `()`.
-fn unit_ends_index(state: &mut OptimizerState<'_>, expr: &mut Expr)
-    ensures { (p : steps.Place) (r : Engine) → unit_ends_by p (expr_of expr.old) ≡ Some access_kind.Indexing
-        → ExprStep true r p (progress state.old) (progress state.new) (expr_of expr.old) (expr_of expr.new) }
-{
-    put_unit(state, expr);
-}
-
-fn end_in_unit(state: &mut OptimizerState<'_>, expr: &mut Expr, access: ChainType)
-    ensures { (p : steps.Place) (r : Engine) → unit_ends_by p (expr_of expr.old) ≡ Some access
-        → ExprStep true r p (progress state.old) (progress state.new) (expr_of expr.old) (expr_of expr.new) }
-{
-    match access {
-        ChainType::Dotting => unit_ends_dot(state, expr),
-        ChainType::Indexing => unit_ends_index(state, expr),
-    }
-}
-
-fn hold(alloc: Global, value: Dynamic, pos: Position) -> Result<Expr, OutOfMemory>
-    ensures { IfOk result (λ e. expr_of e ≡ DynamicConstant (value_of value)) }
-{
-    let value = Boxed::new(alloc, value)?;
-    Ok(Expr::DynamicConstant(value, pos))
 }
 
 /// The constant of a value; of a pointer too.
@@ -105,7 +67,7 @@ fn constant_of(alloc: Global, value: Dynamic, pos: Position) -> Result<Expr, Out
     ensures { IfOk result (λ e. expr_of e ≡ parts.constant_of (value_of value)) }
 {
     match &value {
-        Dynamic::FnPtr(_) => hold(alloc, value, pos),
+        Dynamic::FnPtr(_) => dynamic_constant(alloc, value, pos),
         _ => Expr::from_dynamic(alloc, value, pos),
     }
 }
@@ -138,8 +100,8 @@ fn value_answer(
         ≡ value_answer (engine_of info.now) (progress state.now).known unit (is_dot access) (chain_flags flags)
         (expr_of sides.now.lhs) (expr_of sides.now.rhs)) }
 {
-    let (first, reach) = (argument(flags, &sides.rhs), reach(flags, &sides.rhs));
-    let answer = constant_answer(alloc, info, access, reach, flags, &sides.lhs, first)?;
+    let first = argument(flags, &sides.rhs);
+    let answer = constant_answer(alloc, info, access, flags, &sides.lhs, first)?;
     match allowed(unit, answer) {
         Some(value) => Ok(Some(value)),
         None => Ok(allowed(
@@ -159,8 +121,8 @@ fn literal_taken(
 ) -> Result<Option<Expr>, OutOfMemory>
     ensures { IfOk result (λ part. IsTaken unit (is_dot access) (breaks flags) sides.old sides.new part) }
 {
-    let (first, reach) = (argument(flags, &sides.rhs), reach(flags, &sides.rhs));
-    match literal_answer(alloc, unit, access, reach, &sides.lhs, first)? {
+    let first = argument(flags, &sides.rhs);
+    match literal_answer(alloc, unit, access, &sides.lhs, first)? {
         Some(found) => Ok(Some(take_part(&mut sides.lhs, found))),
         None => Ok(None),
     }
@@ -187,8 +149,8 @@ fn first_answer(
     }
 }
 
-/// What a chain becomes whose first step answers.
-fn sides_answer(
+/// What a chain becomes whose first step answers: what that answers, or the chain that goes on from it.
+fn step_answers(
     alloc: Global,
     info: &EngineInfo,
     state: &OptimizerState<'_>,
@@ -214,14 +176,13 @@ fn chain_answer(
     expr: &mut Expr,
     place: Place,
 ) -> Result<Option<Expr>, OutOfMemory>
-    requires { is_chain_node (expr_of expr.now) ≡ true }
     ensures { IfOk result (λ made.
         ChainStep (engine_of info.now) (progress state.now).known (place_of place) (expr_of expr.old)
         (expr_of expr.new) made) }
 {
     match expr {
         Expr::Dot(sides, flags, _) => {
-            sides_answer(
+            step_answers(
                 alloc,
                 info,
                 state,
@@ -232,7 +193,7 @@ fn chain_answer(
             )
         }
         Expr::Index(sides, flags, _) => {
-            sides_answer(
+            step_answers(
                 alloc,
                 info,
                 state,
@@ -242,7 +203,7 @@ fn chain_answer(
                 place,
             )
         }
-        _ => unreachable!(),
+        _ => Ok(None),
     }
 }
 
@@ -260,8 +221,8 @@ pub fn step_chain(
         ExprStep fired (engine_of info.now) (place_of place) (progress state.old) (progress state.new)
         (expr_of expr.old) (expr_of expr.new)) }
 {
-    if let Some(access) = unit_ends(place, expr) {
-        end_in_unit(state, expr, access);
+    if ends_in_unit(place, expr) {
+        unit_ends(state, expr);
         return Ok(true);
     }
     match chain_answer(alloc, info, state, expr, place)? {

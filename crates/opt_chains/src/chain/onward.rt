@@ -2,15 +2,15 @@
 
 #![tactic(auto, using(ast_types::specs::Reading::shapes))]
 
-ghost use Rattle.std.specs.Prelude.{◌≡◌, true, false};
+ghost use Rattle.std.specs.Prelude.{◌≡◌};
+ghost use Rattle.std.specs.Option.{option_map};
 ghost use Rattle.ast_types.specs.Reading.{breaks, expr_of};
 ghost use Rattle.theory_meaning.specs.Tree.{UnitConstant};
 ghost use Rattle.opt_steps.specs.Places.{place_of};
 ghost use Rattle.opt_steps.specs.Standing as standing;
-ghost use Rattle.opt_chains.specs.Asking as asking;
 ghost use Rattle.opt_chains.specs.Onward as onward;
+ghost use Rattle.opt_chains.specs.Onward.{GoesOn};
 
-use crate::parts::{Reach, reach_of};
 use ast_nodes::put_expr;
 use bitflags::Flags;
 use opt_steps::{Place, may_be_unit};
@@ -44,13 +44,6 @@ fn goes_on(flags: ASTFlags, right: &Expr) -> bool
     }
 }
 
-/// How far the first step reaches.
-pub(crate) fn reach(flags: ASTFlags, right: &Expr) -> Reach
-    ensures { result ≡ asking.reach_by (onward.goes_on (breaks flags) (expr_of right.now)) }
-{
-    reach_of(goes_on(flags, right))
-}
-
 /// Whether the first step may answer unit.
 pub(crate) fn unit_may_stand(place: Place, flags: ASTFlags, right: &Expr) -> bool
     ensures { result
@@ -59,15 +52,20 @@ pub(crate) fn unit_may_stand(place: Place, flags: ASTFlags, right: &Expr) -> boo
     goes_on(flags, right) || may_be_unit(place)
 }
 
-/// Puts an expression in the place of a base.
-fn put_base(chain: &mut Expr, base: Expr)
-    requires { onward.goes_on false (expr_of chain.now) ≡ true }
-    ensures { expr_of chain.new ≡ onward.onward false (expr_of chain.old) (expr_of base) }
+/// The rest of a chain goes on from what its first step answers, which is given back where nothing is left.
+fn chain_goes_on(right: &mut Expr, part: Expr) -> Option<Expr>
+    ensures { GoesOn (expr_of right.old) (expr_of right.new) (expr_of part) (option_map expr_of result) }
 {
-    match chain {
-        Expr::Dot(sides, _flags, _) => put_expr(&mut sides.get_mut().lhs, base),
-        Expr::Index(sides, _flags, _) => put_expr(&mut sides.get_mut().lhs, base),
-        _ => unreachable!(),
+    match right {
+        Expr::Dot(sides, _flags, _) => {
+            put_expr(&mut sides.get_mut().lhs, part);
+            None
+        }
+        Expr::Index(sides, _flags, _) => {
+            put_expr(&mut sides.get_mut().lhs, part);
+            None
+        }
+        _ => Some(part),
     }
 }
 
@@ -75,9 +73,11 @@ fn put_base(chain: &mut Expr, base: Expr)
 pub(crate) fn onward(flags: ASTFlags, right: &mut Expr, part: Expr) -> Expr
     ensures { expr_of result ≡ onward.onward (breaks flags) (expr_of right.old) (expr_of part) }
 {
-    if !goes_on(flags, right) {
+    if flags.contains(ASTFlags::BREAK) {
         return part;
     }
-    put_base(right, part);
-    right.take()
+    match chain_goes_on(right, part) {
+        Some(part) => part,
+        None => right.take(),
+    }
 }

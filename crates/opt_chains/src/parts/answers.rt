@@ -18,7 +18,6 @@ ghost use Rattle.theory_rewriting.specs.Indexing as indexing;
 ghost use Rattle.opt_chains.specs.Answers as answers;
 ghost use Rattle.rhai_ast.specs.Nodes.{is_dot};
 
-use crate::parts::asking::Reach;
 use base_engine::EngineInfo;
 use bitflags::Flags;
 use rhai_ast::{ChainType, Expr, FnCallExpr, Literals};
@@ -47,30 +46,6 @@ pub(crate) fn property_of_constant(
     match value {
         Dynamic::Map(members) => Ok(Some(entry(members, name).to_value()?)),
         _ => Ok(None),
-    }
-}
-
-/// So it is where the chain goes on from that entry.
-fn property_of_constant_first(
-    value: &Dynamic,
-    name: &ImmutableString,
-) -> Result<Option<Dynamic>, OutOfMemory>
-    ensures { IfOk result (λ v. option_map value_of v ≡ answering.property_of (Some (value_of value.now)) name.now) }
-{
-    property_of_constant(value, name)
-}
-
-#[inline]
-fn property_answer(
-    reach: Reach,
-    value: &Dynamic,
-    name: &ImmutableString,
-) -> Result<Option<Dynamic>, OutOfMemory>
-    ensures { IfOk result (λ v. option_map value_of v ≡ answering.property_of (Some (value_of value.now)) name.now) }
-{
-    match reach {
-        Reach::Whole => property_of_constant(value, name),
-        Reach::First => property_of_constant_first(value, name),
     }
 }
 
@@ -112,55 +87,12 @@ fn index_of_constant(value: &Dynamic, index: &Dynamic) -> Result<Option<Dynamic>
     }
 }
 
-/// So it is where the chain goes on from that part.
-fn index_of_constant_first(value: &Dynamic, index: &Dynamic) -> Result<Option<Dynamic>, OutOfMemory>
-    ensures { IfOk result (λ v. option_map value_of v ≡ indexing.indexed (value_of value.now) (value_of index.now)) }
-{
-    index_of_constant(value, index)
-}
-
-#[inline]
-fn part_at(reach: Reach, value: &Dynamic, index: &Dynamic) -> Result<Option<Dynamic>, OutOfMemory>
-    ensures { IfOk result (λ v. option_map value_of v ≡ indexing.indexed (value_of value.now) (value_of index.now)) }
-{
-    match reach {
-        Reach::Whole => index_of_constant(value, index),
-        Reach::First => index_of_constant_first(value, index),
-    }
-}
-
 /// The method `type_of` of a constant is the name of its type, as the record has it.
 fn type_of_method(alloc: Global, info: &EngineInfo, value: &Dynamic) -> Result<Dynamic, OutOfMemory>
     ensures { IfOk result (λ v. value_of v ≡ TextV (mapped_type_name (engine_of info.now) (value_of value.now))) }
 {
     let name = info.map_type_name(value.type_name());
     Ok(Dynamic::Str(ImmutableString::new(alloc, name)?))
-}
-
-/// So it is where the chain goes on from that name.
-fn type_of_method_first(
-    alloc: Global,
-    info: &EngineInfo,
-    value: &Dynamic,
-) -> Result<Dynamic, OutOfMemory>
-    ensures { IfOk result (λ v. value_of v ≡ TextV (mapped_type_name (engine_of info.now) (value_of value.now))) }
-{
-    type_of_method(alloc, info, value)
-}
-
-#[inline]
-fn type_answer(
-    alloc: Global,
-    info: &EngineInfo,
-    reach: Reach,
-    value: &Dynamic,
-) -> Result<Dynamic, OutOfMemory>
-    ensures { IfOk result (λ v. value_of v ≡ TextV (mapped_type_name (engine_of info.now) (value_of value.now))) }
-{
-    match reach {
-        Reach::Whole => type_of_method(alloc, info, value),
-        Reach::First => type_of_method_first(alloc, info, value),
-    }
 }
 
 /// The method `is_shared` of a constant is false.
@@ -170,28 +102,10 @@ fn is_shared_method() -> Dynamic
     Dynamic::Bool(false)
 }
 
-/// So it is where the chain goes on from that.
-fn is_shared_method_first() -> Dynamic
-    ensures { value_of result ≡ BoolV false }
-{
-    is_shared_method()
-}
-
-#[inline]
-fn shared_answer(reach: Reach) -> Dynamic
-    ensures { value_of result ≡ BoolV false }
-{
-    match reach {
-        Reach::Whole => is_shared_method(),
-        Reach::First => is_shared_method_first(),
-    }
-}
-
 /// What a method of the language's own answers at a value.
 fn word_answer(
     alloc: Global,
     info: &EngineInfo,
-    reach: Reach,
     value: &Dynamic,
     name: &str,
 ) -> Result<Option<Dynamic>, OutOfMemory>
@@ -199,9 +113,9 @@ fn word_answer(
         option_map value_of v ≡ answers.word_answer (engine_of info.now) (value_of value.now) name.now) }
 {
     if name == "type_of" {
-        Ok(Some(type_answer(alloc, info, reach, value)?))
+        Ok(Some(type_of_method(alloc, info, value)?))
     } else if name == "is_shared" {
-        Ok(Some(shared_answer(reach)))
+        Ok(Some(is_shared_method()))
     } else {
         Ok(None)
     }
@@ -233,7 +147,6 @@ fn is_bare(call: &FnCallExpr) -> bool
 fn method_answer(
     alloc: Global,
     info: &EngineInfo,
-    reach: Reach,
     flags: ASTFlags,
     value: &Dynamic,
     call: &FnCallExpr,
@@ -244,7 +157,7 @@ fn method_answer(
         (exprs_of call.now.args)) }
 {
     if is_bare(call) && !(flags.contains(ASTFlags::NEGATED) && value.is_unit()) {
-        word_answer(alloc, info, reach, value, call.name.as_str())
+        word_answer(alloc, info, value, call.name.as_str())
     } else {
         Ok(None)
     }
@@ -253,7 +166,6 @@ fn method_answer(
 fn member_answer(
     alloc: Global,
     info: &EngineInfo,
-    reach: Reach,
     flags: ASTFlags,
     value: &Dynamic,
     member: &Expr,
@@ -264,15 +176,14 @@ fn member_answer(
         (expr_of member.now)) }
 {
     match member {
-        Expr::Property(names, _) => property_answer(reach, value, &names.get().2),
-        Expr::MethodCall(call, _) => method_answer(alloc, info, reach, flags, value, call.get()),
+        Expr::Property(names, _) => property_of_constant(value, &names.get().2),
+        Expr::MethodCall(call, _) => method_answer(alloc, info, flags, value, call.get()),
         _ => Ok(None),
     }
 }
 
 fn index_answer(
     alloc: Global,
-    reach: Reach,
     value: &Dynamic,
     index: &Expr,
 ) -> Result<Option<Dynamic>, OutOfMemory>
@@ -281,7 +192,7 @@ fn index_answer(
         ≡ answering.index_of (Some (value_of value.now)) (constants.constant_value (expr_of index.now))) }
 {
     match index.constant_value(alloc)? {
-        Some(index) => part_at(reach, value, &index),
+        Some(index) => index_of_constant(value, &index),
         None => Ok(None),
     }
 }
@@ -290,7 +201,6 @@ fn answer_at(
     alloc: Global,
     info: &EngineInfo,
     access: ChainType,
-    reach: Reach,
     flags: ASTFlags,
     value: &Dynamic,
     argument: &Expr,
@@ -301,8 +211,8 @@ fn answer_at(
         (expr_of argument.now)) }
 {
     match access {
-        ChainType::Dotting => member_answer(alloc, info, reach, flags, value, argument),
-        ChainType::Indexing => index_answer(alloc, reach, value, argument),
+        ChainType::Dotting => member_answer(alloc, info, flags, value, argument),
+        ChainType::Indexing => index_answer(alloc, value, argument),
     }
 }
 
@@ -311,7 +221,6 @@ pub fn constant_answer(
     alloc: Global,
     info: &EngineInfo,
     access: ChainType,
-    reach: Reach,
     flags: ASTFlags,
     base: &Expr,
     argument: &Expr,
@@ -322,7 +231,7 @@ pub fn constant_answer(
         (expr_of argument.now)) }
 {
     match whole_value(alloc, base)? {
-        Some(value) => answer_at(alloc, info, access, reach, flags, &value, argument),
+        Some(value) => answer_at(alloc, info, access, flags, &value, argument),
         None => Ok(None),
     }
 }

@@ -14,7 +14,6 @@ ghost use Rattle.theory_rewriting.specs.Indexing as indexing;
 ghost use Rattle.rhai_ast.specs.Nodes.{is_dot};
 ghost use Rattle.opt_chains.specs.Literals as literals;
 
-use crate::parts::asking::Reach;
 use ast_nodes::place_expr;
 use rhai_ast::{ChainType, Expr, ExprQueries, Literals, Take};
 use rhai_base::{Dynamic, INT, Ident, OutOfMemory, Position, Seq};
@@ -83,15 +82,6 @@ fn element_of_array(items: &[Expr], index: &Expr) -> Option<Found>
     }
 }
 
-/// So it is where the chain goes on from that element.
-fn element_of_array_first(items: &[Expr], index: &Expr) -> Option<Found>
-    ensures { option_map (literals.found_item (exprs_of items.now)) result
-        ≡ literals.element_for (exprs_of items.now)
-        (literals.integer_of (constants.constant_value (expr_of index.now))) }
-{
-    element_of_array(items, index)
-}
-
 /// The last member of a key.
 fn member_for(members: &[(Ident, Expr)], key: &str) -> Found
     ensures { literals.found_member (pairs_of members.now) result
@@ -116,14 +106,6 @@ fn property_of_map(members: &[(Ident, Expr)], member: &Expr) -> Option<Found>
         Expr::Property(names, _) => Some(member_for(members, names.get().2.as_str())),
         _ => None,
     }
-}
-
-/// So it is where the chain goes on from that member.
-fn property_of_map_first(members: &[(Ident, Expr)], member: &Expr) -> Option<Found>
-    ensures { option_map (literals.found_member (pairs_of members.now)) result
-        ≡ literals.property_for (pairs_of members.now) (expr_of member.now) }
-{
-    property_of_map(members, member)
 }
 
 fn entry_at(members: &[(Ident, Expr)], index: &Dynamic) -> Option<Found>
@@ -152,73 +134,19 @@ fn entry_of_map(
     }
 }
 
-/// So it is where the chain goes on from that member.
-fn entry_of_map_first(
-    alloc: Global,
-    members: &[(Ident, Expr)],
-    index: &Expr,
-) -> Result<Option<Found>, OutOfMemory>
-    ensures { IfOk result (λ found.
-        option_map (literals.found_member (pairs_of members.now)) found
-        ≡ literals.entry_for (pairs_of members.now) (constants.constant_value (expr_of index.now))) }
-{
-    entry_of_map(alloc, members, index)
-}
-
-#[inline]
-fn element_part(reach: Reach, items: &[Expr], index: &Expr) -> Option<Found>
-    ensures { option_map (literals.found_item (exprs_of items.now)) result
-        ≡ literals.element_for (exprs_of items.now)
-        (literals.integer_of (constants.constant_value (expr_of index.now))) }
-{
-    match reach {
-        Reach::Whole => element_of_array(items, index),
-        Reach::First => element_of_array_first(items, index),
-    }
-}
-
-#[inline]
-fn property_part(reach: Reach, members: &[(Ident, Expr)], member: &Expr) -> Option<Found>
-    ensures { option_map (literals.found_member (pairs_of members.now)) result
-        ≡ literals.property_for (pairs_of members.now) (expr_of member.now) }
-{
-    match reach {
-        Reach::Whole => property_of_map(members, member),
-        Reach::First => property_of_map_first(members, member),
-    }
-}
-
-#[inline]
-fn entry_part(
-    alloc: Global,
-    reach: Reach,
-    members: &[(Ident, Expr)],
-    index: &Expr,
-) -> Result<Option<Found>, OutOfMemory>
-    ensures { IfOk result (λ found.
-        option_map (literals.found_member (pairs_of members.now)) found
-        ≡ literals.entry_for (pairs_of members.now) (constants.constant_value (expr_of index.now))) }
-{
-    match reach {
-        Reach::Whole => entry_of_map(alloc, members, index),
-        Reach::First => entry_of_map_first(alloc, members, index),
-    }
-}
-
-fn array_part(access: ChainType, reach: Reach, items: &[Expr], argument: &Expr) -> Option<Found>
+fn array_part(access: ChainType, items: &[Expr], argument: &Expr) -> Option<Found>
     ensures { option_map (literals.found_item (exprs_of items.now)) result
         ≡ literals.array_part (is_dot access) (exprs_of items.now) (expr_of argument.now) }
 {
     match access {
         ChainType::Dotting => None,
-        ChainType::Indexing => element_part(reach, items, argument),
+        ChainType::Indexing => element_of_array(items, argument),
     }
 }
 
 fn map_part(
     alloc: Global,
     access: ChainType,
-    reach: Reach,
     members: &[(Ident, Expr)],
     argument: &Expr,
 ) -> Result<Option<Found>, OutOfMemory>
@@ -227,8 +155,8 @@ fn map_part(
         ≡ literals.map_part (is_dot access) (pairs_of members.now) (expr_of argument.now)) }
 {
     match access {
-        ChainType::Dotting => Ok(property_part(reach, members, argument)),
-        ChainType::Indexing => entry_part(alloc, reach, members, argument),
+        ChainType::Dotting => Ok(property_of_map(members, argument)),
+        ChainType::Indexing => entry_of_map(alloc, members, argument),
     }
 }
 
@@ -236,7 +164,6 @@ fn map_part(
 fn literal_part(
     alloc: Global,
     access: ChainType,
-    reach: Reach,
     base: &Expr,
     argument: &Expr,
 ) -> Result<Option<Found>, OutOfMemory>
@@ -245,8 +172,8 @@ fn literal_part(
         ≡ literals.literal_part (is_dot access) (expr_of base.now) (expr_of argument.now)) }
 {
     match base {
-        Expr::Array(items, _) => Ok(array_part(access, reach, items.get().as_slice(), argument)),
-        Expr::Map(map, _) => map_part(alloc, access, reach, map.get().0.as_slice(), argument),
+        Expr::Array(items, _) => Ok(array_part(access, items.get().as_slice(), argument)),
+        Expr::Map(map, _) => map_part(alloc, access, map.get().0.as_slice(), argument),
         _ => Ok(None),
     }
 }
@@ -291,7 +218,6 @@ pub fn literal_answer(
     alloc: Global,
     unit: bool,
     access: ChainType,
-    reach: Reach,
     base: &Expr,
     argument: &Expr,
 ) -> Result<Option<Found>, OutOfMemory>
@@ -299,7 +225,7 @@ pub fn literal_answer(
         option_map (literals.found_part (expr_of base.now)) found
         ≡ literals.literal_answer unit (is_dot access) (expr_of base.now) (expr_of argument.now)) }
 {
-    match literal_part(alloc, access, reach, base, argument)? {
+    match literal_part(alloc, access, base, argument)? {
         Some(found) if (unit || !is_unit_part(base, found)) && base.is_pure() => Ok(Some(found)),
         _ => Ok(None),
     }

@@ -15,7 +15,7 @@ ghost use Rattle.theory_rewriting.specs.Folding as folding;
 ghost use Rattle.opt_exprs.specs.Words as words;
 
 use crate::calls::answers::{is_shared_value, pointer_to_value, type_of_value};
-use ast_nodes::are_constant;
+use ast_nodes::{are_constant, owned};
 use base_engine::EngineInfo;
 use opt_folding::folded;
 use rhai_ast::{Expr, FnCallExpr, Literals};
@@ -25,7 +25,7 @@ use std::borrow::Cow;
 
 /// A function of the language's own.
 #[derive(Clone, Copy)]
-pub(crate) enum Word {
+enum Word {
     TypeOf,
     IsShared,
     Fn,
@@ -51,7 +51,7 @@ pub(crate) fn call_value(
 
 /// An operator over constants that is built in is its value.
 #[inline]
-pub(crate) fn operator_folds(
+fn operator_folds(
     alloc: Global,
     info: &EngineInfo,
     call: &FnCallExpr,
@@ -78,7 +78,7 @@ fn word_named(name: &str) -> Option<Word>
 
 /// Which of them a call by a name is of, if it is of one: by its name alone.
 #[inline]
-pub(crate) fn word_called(call: &FnCallExpr) -> Option<Word>
+fn word_called(call: &FnCallExpr) -> Option<Word>
     ensures { result ≡ words.word_called (callee_of call.now) }
 {
     if !call.namespace.is_empty() {
@@ -135,7 +135,7 @@ fn only_constant(alloc: Global, args: &[Expr]) -> Result<Option<Cow<'_, Dynamic>
 
 /// `type_of` of a constant is the name that scripts see for its type.
 #[inline(never)]
-pub(crate) fn type_of_folds(
+fn type_of_folds(
     alloc: Global,
     info: &EngineInfo,
     args: &[Expr],
@@ -153,7 +153,7 @@ pub(crate) fn type_of_folds(
 
 /// `is_shared` of a constant is false.
 #[inline(never)]
-pub(crate) fn is_shared_folds(alloc: Global, args: &[Expr]) -> Result<Option<Dynamic>, OutOfMemory>
+fn is_shared_folds(alloc: Global, args: &[Expr]) -> Result<Option<Dynamic>, OutOfMemory>
     ensures { IfOk result (λ v.
         option_map value_of v
         ≡ option_map words.is_shared (words.only (constants.constant_values (exprs_of args.now)))) }
@@ -166,7 +166,7 @@ pub(crate) fn is_shared_folds(alloc: Global, args: &[Expr]) -> Result<Option<Dyn
 
 /// `Fn` of a text that a function may have as its name is the pointer.
 #[inline(never)]
-pub(crate) fn fn_folds(alloc: Global, args: &[Expr]) -> Result<Option<Dynamic>, OutOfMemory>
+fn fn_folds(alloc: Global, args: &[Expr]) -> Result<Option<Dynamic>, OutOfMemory>
     ensures { IfOk result (λ v.
         option_map value_of v ≡ words.pointer_named (words.only (constants.constant_values (exprs_of args.now)))) }
 {
@@ -178,7 +178,7 @@ pub(crate) fn fn_folds(alloc: Global, args: &[Expr]) -> Result<Option<Dynamic>, 
 
 /// `curry` of a constant pointer with constants is the pointer with these values behind its own.
 #[inline(never)]
-pub(crate) fn curry_folds(alloc: Global, args: &[Expr]) -> Result<Option<Dynamic>, OutOfMemory>
+fn curry_folds(alloc: Global, args: &[Expr]) -> Result<Option<Dynamic>, OutOfMemory>
     ensures { IfOk result (λ v. option_map value_of v ≡ words.curried (constants.constant_values (exprs_of args.now))) }
 {
     match args.split_first() {
@@ -226,12 +226,6 @@ fn as_pointer(value: &Dynamic) -> Option<&FnPtr>
         | Dynamic::Range(_, _)
         | Dynamic::RangeInclusive(_, _) => None,
     }
-}
-
-fn owned(value: Cow<'_, Dynamic>) -> Result<Dynamic, OutOfMemory>
-    ensures { IfOk result (λ v. v ≡ cow_value value.entry) }
-{
-    Ok(value.into_owned()?)
 }
 
 /// A pointer with the values of constants behind its own. It is copied only where all of them are constants.

@@ -73,9 +73,9 @@ fn constant_statement(alloc: Global, value: Dynamic, pos: Position) -> Result<St
     expression_statement(alloc, constant)
 }
 
-/// Puts the statement of the constant that holds a value in the place of a statement that stands for it.
+/// A call statement of a call that folds is what that call is: the constant that holds its value.
 #[inline(never)]
-pub(crate) fn hold_value_statement(
+pub(crate) fn call_statement_folds(
     alloc: Global,
     state: &mut OptimizerState<'_>,
     statement: &mut Stmt,

@@ -14,8 +14,7 @@ ghost use Rattle.opt_steps.specs.NodeSteps.{ExprStep, StmtStep};
 ghost use Rattle.opt_exprs.specs.Words as words;
 
 use crate::calls::calls::call_value;
-use crate::calls::putting::{hold_value, hold_value_statement};
-use crate::calls::statements::call_statement_value;
+use crate::calls::putting::{call_statement_folds, hold_value};
 use base_engine::EngineInfo;
 use opt_steps::{NodeStep, OptimizerState};
 use rhai_ast::{Expr, Stmt};
@@ -63,7 +62,7 @@ fn statement_value(
         option_map value_of v ≡ words.statement_value (engine_of info.now) (stmt_of statement.now)) }
 {
     match statement {
-        Stmt::FnCall(call, _) => call_statement_value(alloc, info, call.get()),
+        Stmt::FnCall(call, _) => call_value(alloc, info, call.get()),
         _ => Ok(None),
     }
 }
@@ -83,7 +82,7 @@ pub fn step_call_statement(
         (stmt_of statement.new)) }
 {
     if let Some(value) = statement_value(alloc, info, statement)? {
-        hold_value_statement(alloc, state, statement, value)?;
+        call_statement_folds(alloc, state, statement, value)?;
         return Ok(NodeStep::Rewritten);
     }
     Ok(NodeStep::Kept)

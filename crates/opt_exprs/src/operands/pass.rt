@@ -3,17 +3,14 @@
 #![tactic(auto, using(ast_types::specs::Reading::shapes))]
 
 ghost use Rattle.std.specs.Prelude.{◌≡◌, ◌<◌, ◌≤◌, ◌+◌, ◌-◌, true, false, length, slice_index_or};
-ghost use Rattle.theory_meaning.specs.Tree.{And, Or, Coalesce};
 ghost use Rattle.ast_types.specs.Reading.{expr_of, exprs_of};
 ghost use Rattle.ast_types.specs.declared.expr.Expr.{Expr};
 ghost use Rattle.opt_exprs.specs.Operands as spec;
 ghost use Rattle.opt_exprs.specs.Operands.{Ends, GoBefore, NodeChange, OperandsPass};
 
 use crate::operands::operation::{Operation, decides, goes_before, goes_on};
-use opt_steps::{move_down, shorten};
 use rhai_ast::Expr;
 use rhai_base::Seq;
-use std::alloc::Global;
 
 /// Does the operand at a place go, as a constant after which the operator goes on? One operand stays: those that are
 /// kept, or that follow.
@@ -45,64 +42,43 @@ fn pure_from(operation: Operation, operands: &[Expr], kept: usize) -> usize
 
 /// Ends operands at a constant that decides: those behind it go, and those directly before it that are pure. Those
 /// before it are kept up to a place.
-fn end_at(alloc: Global, operation: Operation, operands: &mut Seq<Expr>, at: usize, kept: usize)
+fn end_at(operation: Operation, operands: &mut Seq<Expr>, at: usize, kept: usize)
     requires below { kept ≤ at }
     requires inside { at < length operands.old }
     requires decides { (d : Expr) → spec.decides operation (expr_of (slice_index_or operands.old at d)) ≡ true }
     ensures { Ends operation at kept operands.old operands.new }
 {
     let from = pure_from(operation, operands.as_slice(), kept);
-    move_down(operands, at, from);
-    shorten(alloc, operands, from + 1);
+    operands.move_down(at, from);
+    operands.truncate(from + 1);
 }
 
 /// One pass over operands. Where none goes, nothing is moved.
-fn pass(alloc: Global, operation: Operation, operands: &mut Seq<Expr>)
+fn pass(operation: Operation, operands: &mut Seq<Expr>)
     ensures { OperandsPass operation operands.old operands.new }
 {
     let mut kept = 0;
     for at in 0..operands.len() {
         if decides(operation, &operands.as_slice()[at]) {
-            end_at(alloc, operation, operands, at, kept);
+            end_at(operation, operands, at, kept);
             return;
         }
         if !goes(operation, operands.as_slice(), at, kept) {
-            move_down(operands, at, kept);
+            operands.move_down(at, kept);
             kept += 1;
         }
     }
-    shorten(alloc, operands, kept);
+    operands.truncate(kept);
 }
 
-/// What goes of the operands of a node; the answer is whether any went.
-fn change(alloc: Global, operation: Operation, operands: &mut Seq<Expr>) -> bool
+/// Of operands constants after which the operator goes on go, those after a constant that decides, and what is pure
+/// directly before that one, which `??` keeps. One stays. These are `and_changes`, `or_changes` and `coalesce_changes`;
+/// the answer is whether any went.
+pub(crate) fn operands_change(operation: Operation, operands: &mut Seq<Expr>) -> bool
     ensures { NodeChange result (spec.node_of operation (exprs_of operands.old))
         (spec.node_of operation (exprs_of operands.new)) }
 {
     let len = operands.len();
-    pass(alloc, operation, operands);
+    pass(operation, operands);
     operands.len() != len
-}
-
-/// Of the operands of `&&` constants that are true go, those after one that is false, and what is pure directly before
-/// that one. One stays.
-pub(crate) fn and_changes(alloc: Global, operands: &mut Seq<Expr>) -> bool
-    ensures { NodeChange result (And (exprs_of operands.old)) (And (exprs_of operands.new)) }
-{
-    change(alloc, Operation::And, operands)
-}
-
-/// Of the operands of `||` constants that are false go, those after one that is true, and what is pure directly before
-/// that one. One stays.
-pub(crate) fn or_changes(alloc: Global, operands: &mut Seq<Expr>) -> bool
-    ensures { NodeChange result (Or (exprs_of operands.old)) (Or (exprs_of operands.new)) }
-{
-    change(alloc, Operation::Or, operands)
-}
-
-/// Of the operands of `??` constants that are unit go, and those after a constant that is not. One stays.
-pub(crate) fn coalesce_changes(alloc: Global, operands: &mut Seq<Expr>) -> bool
-    ensures { NodeChange result (Coalesce (exprs_of operands.old)) (Coalesce (exprs_of operands.new)) }
-{
-    change(alloc, Operation::Coalesce, operands)
 }

@@ -11,23 +11,22 @@ ghost use Rattle.opt_exprs.specs.Parts.{AreTexts, Joins, JoinedAt, NodeChange, P
 
 use crate::texts::parts::{is_empty_part, is_text, push_written};
 use ast_nodes::put_expr;
-use opt_steps::{move_down, shorten};
 use rhai_ast::{Expr, ExprQueries};
 use rhai_base::{ImmutableString, OutOfMemory, Seq};
 use std::alloc::Global;
 
 /// Units and empty texts go.
-fn empty_go(alloc: Global, parts: &mut Seq<Expr>)
+fn empty_go(parts: &mut Seq<Expr>)
     ensures { PartsChange spec.first_goes parts.old parts.new }
 {
     let mut kept = 0;
     for at in 0..parts.len() {
         if !is_empty_part(&parts.as_slice()[at]) {
-            move_down(parts, at, kept);
+            parts.move_down(at, kept);
             kept += 1;
         }
     }
-    shorten(alloc, parts, kept);
+    parts.truncate(kept);
 }
 
 /// The place behind the texts that stand side by side from a place on, or behind what else stands there.
@@ -86,11 +85,10 @@ fn put_text(parts: &mut Seq<Expr>, at: usize, text: ImmutableString)
     requires { at < length parts.old }
     ensures { PutText at text parts.old parts.new }
 {
-    let pos = parts.as_slice()[at].position();
-    let Some(place) = parts.get_mut(at) else {
-        unreachable!()
-    };
-    put_expr(place, Expr::StringConstant(text, pos));
+    if let Some(part) = parts.get_mut(at) {
+        let pos = part.position();
+        put_expr(part, Expr::StringConstant(text, pos));
+    }
 }
 
 /// Texts that stand side by side are joined.
@@ -101,11 +99,11 @@ fn join_all(alloc: Global, parts: &mut Seq<Expr>) -> Result<(), OutOfMemory>
     let mut kept = 0;
     while at < parts.len() {
         let end = texts_join(alloc, parts, at)?;
-        move_down(parts, at, kept);
+        parts.move_down(at, kept);
         kept += 1;
         at = end;
     }
-    shorten(alloc, parts, kept);
+    parts.truncate(kept);
     Ok(())
 }
 
@@ -116,7 +114,7 @@ pub(crate) fn text_changes(alloc: Global, parts: &mut Seq<Expr>) -> Result<bool,
         NodeChange b (InterpolatedString (exprs_of parts.old)) (InterpolatedString (exprs_of parts.new))) }
 {
     let len = parts.len();
-    empty_go(alloc, parts);
+    empty_go(parts);
     join_all(alloc, parts)?;
     Ok(parts.len() != len)
 }

@@ -18,14 +18,13 @@ use rhai_ast::{Expr, Literals};
 use rhai_base::OutOfMemory;
 use std::alloc::Global;
 
-/// What goes of the parts of an interpolated text; the answer is whether any went.
+/// What goes of the parts of an interpolated text; the answer is whether any went. Of any other node none does.
 fn change_text(alloc: Global, expr: &mut Expr) -> Result<bool, OutOfMemory>
-    requires { spec.is_interpolated (expr_of expr.now) ≡ true }
     ensures { IfOk result (λ b. NodeChange b (expr_of expr.old) (expr_of expr.new)) }
 {
     match expr {
         Expr::InterpolatedString(parts, _) => text_changes(alloc, parts.get_mut()),
-        _ => unreachable!(),
+        _ => Ok(false),
     }
 }
 

@@ -27,7 +27,7 @@ use Rattle.theory_rewriting.proofs.rules.Texts as text
 use Rattle.theory_rewriting.proofs.rules.Words as word
 use Rattle.theory_rewriting.proofs.rules.Chains as chain
 use Rattle.theory_rewriting.proofs.rules.Names as names
-use Rattle.theory_rewriting.proofs.rules.Onward as onward
+use Rattle.theory_rewriting.proofs.rules.Steps.{step_rule}
 use Rattle.theory_rewriting.proofs.rules.Lasting.{Lasting}
 use Rattle.theory_rewriting.proofs.rules.Obligation.{ExprObligation}
 
@@ -109,23 +109,10 @@ expr_rule (rule.type_of_folds v h) = word.type_of_folds v h
 expr_rule (rule.is_shared_folds v h) = word.is_shared_folds v h
 expr_rule (rule.fn_folds f h j) = word.fn_folds f h j
 expr_rule (rule.curry_folds f us vs h j) = word.curry_folds f us vs h j
-expr_rule (rule.unit_ends_dot h) = chain.unit_ends_dot h
-expr_rule (rule.unit_ends_index h) = chain.unit_ends_index h
-expr_rule (rule.property_of_constant fs h) = chain.property_of_constant fs h
-expr_rule (rule.index_of_constant v j u h q r) = chain.index_of_constant v j u h q r
-expr_rule (rule.element_of_array n j h q r x) = chain.element_of_array n j h q r x
-expr_rule (rule.property_of_map h) = chain.property_of_map h
-expr_rule (rule.entry_of_map x h q) = chain.entry_of_map x h q
-expr_rule (rule.type_of_method v h q) = chain.type_of_method v h q
-expr_rule (rule.is_shared_method v h q) = chain.is_shared_method v h q
+expr_rule (rule.unit_ends dot f r h) = chain.unit_ends dot f r h
+expr_rule (rule.step_answers dot s) = chain.step_answers dot (step_rule s)
+expr_rule (rule.chain_goes_on dot next m r q s) = chain.chain_goes_on dot next m r q (step_rule s)
 expr_rule (rule.known_name v h) = names.known_name v h
 expr_rule (rule.known_pointer f h q) = names.known_pointer f h q
 expr_rule (rule.known_property fs h) = names.known_property fs h
 expr_rule (rule.known_entry fs y h q) = names.known_entry fs y h q
-expr_rule (rule.property_of_constant_first dot m p r fs q h) = onward.property_of_constant_first dot m p r fs q h
-expr_rule (rule.index_of_constant_first dot m i r v j u b h q n) = onward.index_of_constant_first dot m i r v j u b h q n
-expr_rule (rule.type_of_method_first dot m r v q h n) = onward.type_of_method_first dot m r v q h n
-expr_rule (rule.is_shared_method_first dot m r v q h n) = onward.is_shared_method_first dot m r v q h n
-expr_rule (rule.element_of_array_first dot m i r n j b h q x y) = onward.element_of_array_first dot m i r n j b h q x y
-expr_rule (rule.property_of_map_first dot m p r b h) = onward.property_of_map_first dot m p r b h
-expr_rule (rule.entry_of_map_first dot m i r x b h q) = onward.entry_of_map_first dot m i r x b h q

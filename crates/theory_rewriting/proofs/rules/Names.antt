@@ -21,7 +21,7 @@ use Rattle.theory_rewriting.specs.Parts.{constant_of}
 use Rattle.theory_rewriting.proofs.simulation.Setting.{Setting, world, run_from}
 use Rattle.theory_rewriting.proofs.simulation.Simulation.{OrStuck, equal, is_stuck, Simulates, simulates_trans, simulates_refl, simulates_equal, simulates_or_stuck}
 use Rattle.theory_rewriting.proofs.simulation.Forms.{simulates_bind}
-use Rattle.theory_rewriting.proofs.rules.Chains.{not_unit, no_unit, to_constant, index_last}
+use Rattle.theory_rewriting.proofs.rules.Steps.{not_unit, no_unit, to_constant, index_last}
 use Rattle.theory_rewriting.proofs.rules.Given.{constant_of_light, constant_of_keeps, constant_then, expr_meant}
 use Rattle.theory_rewriting.proofs.rules.Obligation.{ExprObligation}
 

@@ -1,27 +1,24 @@
 -- The rules of statements: a lemma each, of the rule's name.
-use Rattle.std.proofs.Common.{◌≡◌, ◌+◌, ◌≤◌, ℕ, Bool, true, false, [], Option, Some, None, if◌then◌else◌, refl, sym, ap, ◌∙◌, subst, arith, List, ◌++◌}
-use Rattle.std.specs.Prelude.{codes}
-use Rattle.rhai_base.specs.Value.{Text, Value, UnitV, BoolV, TextV, PointerV, Values, values, items}
+use Rattle.std.proofs.Common.{◌<◌, ◌≡◌, ◌+◌, ◌≤◌, ℕ, Bool, true, false, [], Option, Some, None, if◌then◌else◌, refl, sym, ap, ◌∙◌, subst, arith, ◌++◌}
+use Rattle.rhai_base.specs.Value.{Value, UnitV}
 use Rattle.rhai_base.specs.Operators.{Operator, Computed, NoEntry, computed}
-use Rattle.base_tokens.specs.Names.{is_valid_name}
 use Rattle.theory_meaning.specs.Act.{World, Store, Gives, WrongKind, Act, Scoped, Only, Env, run}
 use Rattle.theory_meaning.specs.ActForms.{give, unit, ◌>>=◌, truth, branch, then_line}
-use Rattle.theory_meaning.specs.Constants.{computed_value, constant_value, constant_bool, constant_for, constant_values}
+use Rattle.theory_meaning.specs.Constants.{computed_value, constant_value, constant_bool}
 use Rattle.theory_meaning.specs.Core as core
 use Rattle.theory_meaning.specs.Desugar.{core_expr, core_stmt, core_stmts}
-use Rattle.theory_meaning.specs.Engine.{Engine, is_open, mapped_type_name}
+use Rattle.theory_meaning.specs.Engine.{Engine, is_open}
 use Rattle.theory_meaning.specs.Meaning.{act, deed, acts}
 use Rattle.theory_meaning.specs.Queries.{is_block_dependent}
 use Rattle.theory_meaning.specs.Relations.{here}
-use Rattle.theory_meaning.specs.Tree.{CallToken, NoToken, OfOperator, OfOther, Callee, Expr, UnitConstant, DynamicConstant, BoolConstant, StringConstant, ArrayOf, BlockExpr, FnCall, Exprs, no_exprs, expr, Stmt, Noop, If, Var, Block, ExprStmt, FnCallStmt, Stmts, no_stmts, stmt, Import, Export}
+use Rattle.theory_meaning.specs.Tree.{CallToken, NoToken, OfOperator, OfOther, Callee, Expr, UnitConstant, ArrayOf, BlockExpr, FnCall, Exprs, no_exprs, expr, Stmt, Noop, If, Var, Block, ExprStmt, FnCallStmt, Stmts, no_stmts, stmt, Import, Export}
 use Rattle.theory_meaning.proofs.Preserves.{preserves}
 use Rattle.theory_meaning.proofs.Sequencing.{leave_same, SameRunAll, line_only, line_same, line_unit}
 use Rattle.theory_meaning.specs.Walk.{Node, Around, whole, throughout, over_expr, over_stmt, over_stmts}
 use Rattle.theory_rewriting.specs.Context.{Context}
 use Rattle.theory_rewriting.specs.Folding.{folded_values, folded}
-use Rattle.theory_rewriting.specs.Parts.{named, constant_of}
 use Rattle.theory_rewriting.specs.Rules as rule
-use Rattle.theory_rewriting.specs.Rules.{block_or_noop, chosen, condition_alone, StmtRule}
+use Rattle.theory_rewriting.specs.Rules.{block_or_noop, chosen, condition_alone, ExprRule, StmtRule}
 use Rattle.theory_meaning.specs.Weight.{expr_weight, exprs_weight, stmt_weight, weight}
 use Rattle.theory_rewriting.proofs.Plain.{folded_plain}
 use Rattle.theory_rewriting.proofs.simulation.Setting.{Setting, world, run_from}
@@ -30,9 +27,7 @@ use Rattle.theory_rewriting.proofs.simulation.Forms.{simulates_bind, all_line, S
 use Rattle.theory_rewriting.proofs.rules.Blocks.{scoped_deed, scoped_list}
 use Rattle.theory_rewriting.proofs.simulation.Unwanted.{before_any}
 use Rattle.theory_rewriting.proofs.rules.Constants.{or_stuck, expr_given, branch_given}
-use Rattle.theory_rewriting.proofs.rules.Expressions.{constant_light, constant_keeps, call_folds}
-use Rattle.theory_rewriting.proofs.rules.Given.{constant_of_light, constant_of_keeps}
-use Rattle.theory_rewriting.proofs.rules.Words as word
+use Rattle.theory_rewriting.proofs.rules.Expressions.{constant_light, expr_rule}
 use Rattle.theory_rewriting.proofs.rules.Control as control
 use Rattle.theory_rewriting.proofs.rules.SelfAssign as assign
 use Rattle.theory_rewriting.proofs.rules.Forgetting as forgetting
@@ -192,32 +187,34 @@ folded_heavy : (engine : Engine) (c : Callee) (es : Exprs) (v : Value) → folde
 folded_heavy engine c no_exprs v h = let k = folded-no_exprs engine c.token in absurd cc
 folded_heavy engine c (expr e es) v h = omega (arith, expr_heavy e)
 
-pub call_statement_folds : {k : Context} {w : Bool} {c : Callee} {es : Exprs} {v : Value} → folded k.engine c es ≡ Some v → StmtObligation k w (FnCallStmt c es) (ExprStmt (constant_for v))
-call_statement_folds {k = k} {c = c} {es = es} {v = v} q = record {
-  lighter = omega (arith, constant_light v (folded_plain k.engine c es v q), folded_heavy k.engine c es v q);
-  keeps = λ P l lasts h. (lasts.expression (constant_for v), constant_keeps P l lasts v (folded_plain k.engine c es v q));
-  sound = λ s. stmt_of_deed (call_folds s c es v q);
+abbrev is_call : Expr → Bool
+is_call (FnCall c es) = true
+is_call _ = false
+
+abbrev args_weight : Expr → ℕ
+args_weight (FnCall c es) = exprs_weight es
+args_weight _ = 0
+
+call_light : {k : Context} {x e : Expr} → ExprRule k x e → is_call x ≡ true → expr_weight e < 2 + args_weight x
+call_light {k = k} (rule.operator_folds {c = c} {es = es} {v = v} q) h = omega (arith, constant_light v (folded_plain k.engine c es v q), folded_heavy k.engine c es v q)
+call_light (rule.type_of_folds {e = e} v q) h = omega (arith, expr_heavy e)
+call_light (rule.is_shared_folds {e = e} v q) h = omega (arith, expr_heavy e)
+call_light (rule.fn_folds {e = e} f q n) h = omega (arith, expr_heavy e)
+call_light (rule.curry_folds {e = e} f us vs q n) h = omega (arith, expr_heavy e)
+call_light (rule.unit_ends true f r n) h = absurd cc
+call_light (rule.unit_ends false f r n) h = absurd cc
+call_light (rule.step_answers true s) h = absurd cc
+call_light (rule.step_answers false s) h = absurd cc
+call_light (rule.chain_goes_on true next m r n s) h = absurd cc
+call_light (rule.chain_goes_on false next m r n s) h = absurd cc
+call_light _ h = absurd cc
+
+pub call_statement_folds : {k : Context} {w : Bool} {c : Callee} {es : Exprs} {e : Expr} → ExprRule k (FnCall c es) e → StmtObligation k w (FnCallStmt c es) (ExprStmt e)
+call_statement_folds {c = c} {es = es} {e = e} r = record {
+  lighter = omega (arith, call_light r refl);
+  keeps = λ P l lasts h. (lasts.expression e, (expr_rule r).keeps P l lasts (lasts.call c es h.0, h.1));
+  sound = λ s. stmt_of_deed ((expr_rule r).sound s);
 }
-
--- a call statement by a name whose first argument is constant
-named_folds : {k : Context} {w : Bool} (f : Text) (captures : Bool) (e : Expr) (es : Exprs) (v : Value) → ((c : Setting k) → Simulates c (act (world c) (core_expr c.in_loop (FnCall (named f captures) (expr e es)))) (act (world c) (core_expr c.in_loop (constant_of v)))) → StmtObligation k w (FnCallStmt (named f captures) (expr e es)) (ExprStmt (constant_of v))
-named_folds f captures e es v h = record {
-  lighter = omega (arith, constant_of_light v, expr_heavy e);
-  keeps = λ P l lasts j. (lasts.expression (constant_of v), constant_of_keeps P l lasts v);
-  sound = λ s. stmt_of_deed (h s);
-}
-
-pub type_of_statement_folds : {k : Context} {w captures : Bool} {e : Expr} (v : Value) → constant_value e ≡ Some v → StmtObligation k w (FnCallStmt (named (codes "type_of") captures) (expr e no_exprs)) (ExprStmt (StringConstant (mapped_type_name k.engine v)))
-type_of_statement_folds {k = k} {captures = captures} {e = e} v h = named_folds (codes "type_of") captures e no_exprs (TextV (mapped_type_name k.engine v)) (word.type_of_folds {captures = captures} {e = e} v h).sound
-
-pub is_shared_statement_folds : {k : Context} {w captures : Bool} {e : Expr} (v : Value) → constant_value e ≡ Some v → StmtObligation k w (FnCallStmt (named (codes "is_shared") captures) (expr e no_exprs)) (ExprStmt (BoolConstant false))
-is_shared_statement_folds {captures = captures} {e = e} v h = named_folds (codes "is_shared") captures e no_exprs (BoolV false) (word.is_shared_folds {captures = captures} {e = e} v h).sound
-
-pub fn_statement_folds : {k : Context} {w captures : Bool} {e : Expr} (f : Text) → constant_value e ≡ Some (TextV f) → is_valid_name f ≡ true → StmtObligation k w (FnCallStmt (named (codes "Fn") captures) (expr e no_exprs)) (ExprStmt (DynamicConstant (PointerV f (values []))))
-fn_statement_folds {captures = captures} {e = e} f h q = named_folds (codes "Fn") captures e no_exprs (PointerV f (values [])) (word.fn_folds {captures = captures} {e = e} f h q).sound
-
-pub curry_statement_folds : {k : Context} {w captures : Bool} {e : Expr} {es : Exprs} (f : Text) (us : Values) (vs : List Value) → constant_value e ≡ Some (PointerV f us) → constant_values es ≡ Some vs → StmtObligation k w (FnCallStmt (named (codes "curry") captures) (expr e es)) (ExprStmt (DynamicConstant (PointerV f (values (items us ++ vs)))))
-curry_statement_folds {captures = captures} {e = e} {es = es} f us vs h q = named_folds (codes "curry") captures e es (PointerV f (values (items us ++ vs))) (word.curry_folds {captures = captures} {e = e} {es = es} f us vs h q).sound
 
 -- ---- every rule
 
@@ -229,10 +226,6 @@ stmt_rule (rule.block_of_statement h) = block_of_statement h
 stmt_rule rule.statement_of_braces = statement_of_braces
 stmt_rule rule.statement_of_call = statement_of_call
 stmt_rule (rule.call_statement_folds h) = call_statement_folds h
-stmt_rule (rule.type_of_statement_folds v h) = type_of_statement_folds v h
-stmt_rule (rule.is_shared_statement_folds v h) = is_shared_statement_folds v h
-stmt_rule (rule.fn_statement_folds f h q) = fn_statement_folds f h q
-stmt_rule (rule.curry_statement_folds f us vs h q) = curry_statement_folds f us vs h q
 stmt_rule (rule.while_false h) = control.while_false h
 stmt_rule (rule.while_true h) = control.while_true h
 stmt_rule (rule.pure_try h) = control.pure_try h

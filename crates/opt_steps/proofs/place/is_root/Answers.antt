@@ -1,5 +1,5 @@
 use Rattle.ast_types.proofs.Cases.{expr_cases}
-use Rattle.opt_steps.proofs.NodeKinds.{no_root}
+use Rattle.opt_steps.proofs.Roots.{no_root}
 use Rattle.opt_steps.proofs.place.is_root.Goals as goal
 
 pub returns-in_default : goal.returns-in_default

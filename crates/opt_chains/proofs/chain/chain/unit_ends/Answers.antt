@@ -1,7 +1,5 @@
-use Rattle.ast_types.proofs.Cases.{expr_cases}
-use Rattle.opt_steps.specs.Places.{place_of}
-use Rattle.opt_chains.proofs.OtherChains.{ends_nowhere}
+use Rattle.opt_chains.proofs.Chains as chains
 use Rattle.opt_chains.proofs.chain.chain.unit_ends.Goals as goal
 
-pub returns-in_default : goal.returns-in_default
-returns-in_default c = ends_nowhere (place_of c.args.place) (expr_cases c.args.expr.now) c.in_default.not-Dot c.in_default.not-Index
+pub returns : goal.returns
+returns c = λ p r h. chains.unit_ends r p _ _ _ c.put_unit.ensures.dirty c.put_unit.ensures.known c.put_unit.ensures.unit _ h

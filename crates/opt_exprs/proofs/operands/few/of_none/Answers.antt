@@ -1,7 +1,16 @@
+use Rattle.std.proofs.Common.{true, false, refl, sym, ◌∙◌}
+use Rattle.ast_types.specs.Reading.{expr_of-BoolConstant, expr_of-Unit}
+use Rattle.opt_steps.specs.Places.{place_of}
+use Rattle.opt_steps.proofs.Stepping.{expr_rewrite_as}
+use Rattle.opt_exprs.specs.declared.operands.operation.Operation.TheVariants as operation
+use Rattle.opt_exprs.proofs.Single.{bool_stands, none}
 use Rattle.opt_exprs.proofs.operands.few.of_none.Goals as goal
 
 pub returns-in-And : goal.returns-in-And
-returns-in-And c = rw c.in-And.is (λ p h. c.and_of_none.ensures p)
+returns-in-And c = let p = place_of c.args.place in rw c.in-And.is (expr_rewrite_as refl (expr_of-BoolConstant _ _) (none p operation.And (sym (bool_stands p true))))
 
 pub returns-in-Or : goal.returns-in-Or
-returns-in-Or c = rw c.in-Or.is (λ p h. c.or_of_none.ensures p)
+returns-in-Or c = let p = place_of c.args.place in rw c.in-Or.is (expr_rewrite_as refl (expr_of-BoolConstant _ _) (none p operation.Or (sym (bool_stands p false))))
+
+pub returns-in-Coalesce : goal.returns-in-Coalesce
+returns-in-Coalesce c = let p = place_of c.args.place in rw c.in-Coalesce.is (expr_rewrite_as refl (expr_of-Unit _) (none p operation.Coalesce (sym c.may_be_unit.ensures ∙ c.if-may_be_unit.true)))

@@ -1,15 +1,17 @@
-use Rattle.std.proofs.Common.{sym}
-use Rattle.opt_steps.proofs.Passing.{pass_put}
-use Rattle.opt_exprs.proofs.Single.{operands_stay, operands_put}
+use Rattle.std.proofs.Common.{refl, ap}
+use Rattle.ast_types.specs.Reading.{expr_of}
+use Rattle.opt_steps.proofs.Passing.{pass_put, rewrite_passes}
+use Rattle.opt_steps.proofs.Stepping.{expr_rewrite_as}
+use Rattle.opt_exprs.proofs.Single.{operands_stay}
 use Rattle.opt_exprs.proofs.operands.nodes.step_operands.Goals as goal
+use Rattle.opt_exprs.proofs.operands.nodes.step_operands.Goals.{in-Fewer, in-Becomes}
 
-pub returns-then-change_operands : goal.returns-then-change_operands
-returns-then-change_operands c = λ r. pass_put c.note_fired.ensures.dirty c.note_fired.ensures.known (rw c.if-change_operands.true at c.change_operands.ensures)
-
-pub returns-then-is_settled_node : goal.returns-then-is_settled_node
-returns-then-is_settled_node c =
-    let q = rw c.if-change_operands.false at c.change_operands.ensures in
-    λ r. operands_stay c.requires q (sym c.if-is_settled_node.ensures)
+pub returns-in-Kept : goal.returns-in-Kept
+returns-in-Kept c = λ r. operands_stay c.requires (rw c.in-Kept.is at c.node_outcome.ensures)
 
 pub returns : goal.returns
-returns c = let q = rw c.if-change_operands.false at c.change_operands.ensures in λ r. operands_put q.0 c.put_rewritten.ensures.dirty c.put_rewritten.ensures.known c.put_rewritten.ensures.rewritten
+returns c = λ r.
+    elim c.match-node_outcome.branch [
+      | in-Fewer w ↦ rw w.expr-is (pass_put c.note_fired.ensures.dirty c.note_fired.ensures.known (rw w.in-Fewer.is at c.node_outcome.ensures))
+      | in-Becomes w ↦ rw w.expr-is (rewrite_passes c.note_fired.ensures.dirty c.note_fired.ensures.known (expr_rewrite_as refl (ap expr_of w.put_expr.ensures) (rw w.in-Becomes.is at c.node_outcome.ensures)))
+    ]

@@ -17,4 +17,4 @@ returns c =
     let go = subst (λ (z : Declared). GoBefore c.args.operation z from c.args.kept) c.as_slice.ensures c.pure_from-from.ensures.go in
     let last = subst (λ (z : Declared). 0 < from → (d : declared_expr.Expr) → goes_before c.args.operation (expr_of (get_or z (from - 1) d)) ≡ false) c.as_slice.ensures c.pure_from-from.ensures.stays in
     ends_at x c.requires.below c.requires.inside (get_or_default xs c.args.at unit x c.requires.inside) (c.requires.decides unit) c.pure_from-from.ensures.below go last
-    (c.move_down.ensures.front unit) c.move_down.ensures.len c.move_down.ensures.same c.shorten.ensures
+    (c.move_down.ensures.front unit) c.move_down.ensures.len c.move_down.ensures.same c.truncate.ensures

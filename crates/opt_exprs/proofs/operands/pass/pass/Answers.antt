@@ -32,4 +32,4 @@ loop-at-preserved c =
     ]
 
 pub returns : goal.returns
-returns c = passing_end c.loop-at.invariant (omega (arith, c.len-at-end.ensures)) c.shorten.ensures
+returns c = passing_end c.loop-at.invariant (omega (arith, c.len-at-end.ensures)) c.truncate.ensures

@@ -23,4 +23,4 @@ loop-at-preserved c =
     ]
 
 pub returns : goal.returns
-returns c = moving_end c.loop-at.invariant (omega (arith, c.len-at-end.ensures)) c.shorten.ensures
+returns c = moving_end c.loop-at.invariant (omega (arith, c.len-at-end.ensures)) c.truncate.ensures

@@ -1,11 +1,8 @@
-use Rattle.opt_exprs.proofs.Folding.{text_folded, text_changed, text_same, text_stays}
+use Rattle.opt_exprs.proofs.Folding.{text_folded, text_changed, text_same}
 use Rattle.opt_exprs.proofs.texts.nodes.step_text.Goals as goal
 
 pub returns-then-branch : goal.returns-then-branch
 returns-then-branch c = text_folded (rw c.if-branch.true at c.in_ok-text_folds.ensures)
-
-pub change_text-requires : goal.change_text-requires
-change_text-requires c = let q = rw c.if-branch.false at c.in_ok-text_folds.ensures in text_stays c.requires q.2
 
 pub returns-then-branch-2 : goal.returns-then-branch-2
 returns-then-branch-2 c =
