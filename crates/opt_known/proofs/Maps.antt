@@ -1,6 +1,6 @@
 -- What is bound to names after a map from texts has changed at one.
 use Rattle.std.proofs.Common.{◌≡◌, Bool, true, false, cond, ◌-◌, List, [], ◌∷◌, ◌++◌, length, take, map, append-nil, arith, Option, Some, None, refl, sym, ap, ◌∙◌}
-use Rattle.std.specs.Prelude.{String, reverse, bytes_eq, option_to_list, is_some}
+use Rattle.std.specs.Prelude.{String, reverse, bytes_eq, option_to_list}
 use Rattle.std.specs.BTreeMap.{BTreeMap, UpdatesBy, get_by_text}
 use Rattle.std.specs.Cmp.Lexicographic.{slice_cmp}
 use Rattle.std.specs.Ordering.{nat_cmp}
@@ -54,14 +54,10 @@ same-cond false a = refl
 same-by : (x : Text) (f : Held) → by x (λ l. l) f ≡ f
 same-by x f = fun_ext (λ y. same-cond (bytes_eq x y) (f y))
 
-pub none-from : {A : Type 0} (b : Bool) (o : Option A) → b ≡ false → b ≡ is_some o → o ≡ None
-none-from b None h e = refl
-none-from b (Some v) h e = absurd cc
-
 -- a list of a name that had none
-pub held-room : (m n : Map) (x : Text) (v : Bound) → v.items ≡ [] → get_by_text m x ≡ None → Written m n x (Some v) → held_in n ≡ held_in m
-held-room m n x v e o u =
-    held-written m n x (Some v) u ∙ changed x (held_in m) (λ l. l) (held (Some v)) (ap newest_first e ∙ sym (ap held o)) ∙ same-by x (held_in m)
+pub held-made : (m n : Map) (x : Text) (v : Bound) (b : Option (Cow Dynamic)) → v.items ≡ b ∷ [] → get_by_text m x ≡ None → Written m n x (Some v) → held_in n ≡ with_newest x (read b) (held_in m)
+held-made m n x v b e o u =
+    held-written m n x (Some v) u ∙ changed x (held_in m) (λ l. read b ∷ l) (held (Some v)) (ap newest_first e ∙ ap (λ l. read b ∷ l) (sym (ap held o)))
 
 newest_first-push : (xs : List (Option (Cow Dynamic))) (b : Option (Cow Dynamic)) → newest_first (xs ++ b ∷ []) ≡ read b ∷ newest_first xs
 newest_first-push xs b = ap reverse (map-append read xs (b ∷ [])) ∙ reverse-append (map read xs) (read b ∷ [])

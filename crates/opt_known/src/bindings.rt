@@ -1,7 +1,6 @@
 //! The bindings of names: for each name a list, the newest last. A name whose list is empty counts as absent.
 
-ghost use Rattle.std.specs.Prelude.{◌≡◌, Some, IsSome, OnErr, OnOk};
-ghost use Rattle.std.specs.BTreeMap.{get_by_text};
+ghost use Rattle.std.specs.Prelude.{◌≡◌, Some, OnErr, OnOk};
 ghost use Rattle.std.specs.Option.{option_copied};
 ghost use Rattle.opt_known.specs.Bindings.{read, newest, newest_first, held_in, with_newest, without_newest};
 
@@ -41,41 +40,25 @@ fn value_of<'b>(value: &'b Cow<'_, Dynamic>) -> &'b Dynamic
     }
 }
 
-/// A name has a list, which may be empty. It holds what was held before, whether refused or not.
-pub(crate) fn make_room(
-    alloc: Global,
-    bindings: &mut Bindings<'_>,
-    name: &str,
-) -> Result<(), OutOfMemory>
-    ensures same { held_in bindings.new ≡ held_in bindings.old }
-    ensures room { OnOk result (IsSome (get_by_text bindings.new name.now)) }
-{
-    if bindings.contains_key(name) {
-        return Ok(());
-    }
-    let key = String::from_str(alloc, name)?;
-    match bindings.insert(key, Vec::new(alloc)) {
-        Ok(_) => Ok(()),
-        Err(_) => Err(OutOfMemory),
-    }
-}
-
 /// Adds a binding of a name. A refused call adds nothing.
 pub(crate) fn add<'a>(
+    alloc: Global,
     bindings: &mut Bindings<'a>,
     name: &str,
     binding: Binding<'a>,
 ) -> Result<(), OutOfMemory>
-    requires { IsSome (get_by_text bindings.old name.now) }
     ensures ok { OnOk result (held_in bindings.new ≡ with_newest name.now (read binding.entry) (held_in bindings.old)) }
     ensures err { OnErr result (held_in bindings.new ≡ held_in bindings.old) }
 {
-    match bindings.get_mut(name) {
-        Some(list) => {
-            list.push(binding)?;
-            Ok(())
-        }
-        None => unreachable!(),
+    if let Some(list) = bindings.get_mut(name) {
+        list.push(binding)?;
+        return Ok(());
+    }
+    let key = String::from_str(alloc, name)?;
+    let list = vec![in alloc; binding]?;
+    match bindings.insert(key, list) {
+        Ok(_) => Ok(()),
+        Err(_) => Err(OutOfMemory),
     }
 }
 

@@ -7,7 +7,7 @@ ghost use Rattle.theory_rewriting.specs.Known.{look};
 ghost use Rattle.opt_known.specs.Bindings.{read};
 ghost use Rattle.opt_known.specs.State.{known_of};
 
-use crate::bindings::{Bindings, add, latest, make_room, take_newest};
+use crate::bindings::{Bindings, add, latest, take_newest};
 use crate::level::OptimizationLevel;
 use base_engine::EngineInfo;
 use rhai_base::{Dynamic, ImmutableString, OutOfMemory, Scope};
@@ -142,12 +142,9 @@ impl<'a> OptimizerState<'a> {
     {
         self.names.reserve(1)?;
         let alloc = *self.names.allocator();
-        make_room(alloc, &mut self.bindings, name.as_str())?;
-        add(&mut self.bindings, name.as_str(), binding)?;
-        match self.names.push(name) {
-            Ok(()) => Ok(()),
-            Err(_) => unreachable!(),
-        }
+        add(alloc, &mut self.bindings, name.as_str(), binding)?;
+        self.names.push(name)?;
+        Ok(())
     }
 
     /// Forgets the newest name.

@@ -1,9 +1,8 @@
 -- Rules that fired.
-use Rattle.std.proofs.Common.{◌≡◌, Bool, true, false, Some, refl, sym, ap, ◌∙◌, subst}
-use Rattle.ast_types.specs.declared.block.StmtBlock.{StmtBlock}
+use Rattle.std.proofs.Common.{◌≡◌, Bool, true, false, Some, refl, sym, subst}
+use Rattle.theory_meaning.specs.Constants.{constant_bool}
 use Rattle.theory_meaning.specs.Engine.{Engine}
 use Rattle.theory_meaning.specs.Tree.{Expr, UnitConstant, Stmt, Noop, While, TryCatch, Stmts}
-use Rattle.ast_types.specs.Reading.{stmts_of}
 use Rattle.theory_rewriting.specs.Rules as rule
 use Rattle.theory_rewriting.specs.Steps.{Progress, here, StmtRewrite}
 use Rattle.theory_rewriting.proofs.Keeping.{keeps_loop}
@@ -28,9 +27,10 @@ pub unlooped : {r : Engine} {w : Bool} {s s' : Progress} {x' : Stmt} (x : Stmt) 
 unlooped (While e b) h d k i = gone d k i (rule.while_false h)
 unlooped _ h d k i = absurd cc
 
-pub looped : {r : Engine} {w : Bool} {s s' : Progress} {x x' : Stmt} (e : Expr) (b : Stmts) → x ≡ While e b → x' ≡ While UnitConstant b → decided_loop x ≡ Some true → s'.is_dirty ≡ true → s'.known ≡ s.known → Fires r w s s' x x'
-looped {r = r} {w = w} {s = s} {s' = s'} {x' = x'} e b i j h d k =
-    subst (λ a. Fires r w s s' a x') (sym i) (subst (λ a. Fires r w s s' (While e b) a) (sym j) (fires d k (rule.while_true (ap decided_loop (sym i) ∙ h)) (keeps_loop e b)))
+pub looped : {r : Engine} {w : Bool} {s s' : Progress} {x' : Stmt} (e : Expr) (b : Stmts) → x' ≡ While UnitConstant b → constant_bool e ≡ Some true → s'.is_dirty ≡ true → s'.known ≡ s.known → Fires r w s s' (While e b) x'
+looped {r = r} {w = w} {s = s} {s' = s'} e b j h d k = subst (λ a. Fires r w s s' (While e b) a) (sym j) (fires d k (rule.while_true h) (keeps_loop e b))
 
-pub loop_spelled : {x : Stmt} {e : Expr} {b b' : StmtBlock} → x ≡ While e (stmts_of b'.block) → e ≡ UnitConstant → b' ≡ b → x ≡ While UnitConstant (stmts_of b.block)
-loop_spelled {e = e} {b' = b'} h i j = h ∙ ap (λ z. While z (stmts_of b'.block)) i ∙ ap (λ (z : StmtBlock). While UnitConstant (stmts_of z.block)) j
+-- ---- trees that are spelled so
+
+pub fires_as : {r : Engine} {w : Bool} {s s' : Progress} {x x1 x' x1' : Stmt} → x ≡ x1 → x' ≡ x1' → Fires r w s s' x1 x1' → Fires r w s s' x x'
+fires_as {r = r} {w = w} {s = s} {s' = s'} {x1 = x1} {x' = x'} i j q = subst (λ a. Fires r w s s' a x') (sym i) (subst (λ a. Fires r w s s' x1 a) (sym j) q)

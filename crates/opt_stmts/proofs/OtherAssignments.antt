@@ -1,21 +1,15 @@
 -- All other nodes, where a match names some.
-use Rattle.std.proofs.Common.{◌≡◌, true, false, List, Option, refl}
-use Rattle.std.specs.declared.num.NonZeroUsize.{NonZeroUsize}
-use Rattle.base_tokens.specs.declared.ident.Ident.{Ident}
+use Rattle.std.proofs.Common.{◌≡◌, true, false, List, refl}
 use Rattle.rhai_base.specs.Value.{Text}
 use Rattle.ast_types.specs.declared.expr.Expr as declared_expr
 use Rattle.ast_types.specs.declared.stmt.Stmt as declared_stmt
-use Rattle.ast_types.specs.declared.stmt.Stmt.TheVariants as stmt_kind
 use Rattle.theory_meaning.specs.Engine.{Engine}
 use Rattle.theory_meaning.specs.Tree.{Expr, Stmt, NoToken}
 use Rattle.ast_types.proofs.Cases.{ExprCase, variable_case, method_call_case, call_case, StmtCase, assignment_case, call_statement_case, share_case}
 use Rattle.theory_rewriting.specs.Known.{Known}
-use Rattle.opt_steps.proofs.NodeKinds.{NoVariable, NoCall, NoMethod, NoAssignment, NoCallStatement}
+use Rattle.ast_types.proofs.OtherKinds.{NoVariable, NoCall, NoMethod, NoAssignment, NoCallStatement, NoShare}
 use Rattle.opt_stmts.specs.SettledAssignments.{is_name, operates_on, assigns_itself, token_called, has_operation, holds_operation, is_settled_assignment, is_settled_share, shares_nothing}
 use Rattle.opt_stmts.specs.WritingWalk.{expr_writes_nothing, stmt_writes_nothing}
-
-abbrev pub NoShare : declared_stmt.Stmt → Type 0
-NoShare x = (xs : List (Ident × Option NonZeroUsize)) → x ≡ stmt_kind.Share xs → ⊥
 
 -- ---- shared names
 

@@ -5,7 +5,7 @@ use Rattle.ast_types.specs.declared.stmt.Stmt as declared_stmt
 use Rattle.theory_meaning.specs.Tree.{Expr, Stmt}
 use Rattle.ast_types.proofs.Cases.{ExprCase, and_case, StmtCase, if_case}
 use Rattle.theory_rewriting.specs.Operands.{is_and}
-use Rattle.opt_steps.proofs.NodeKinds.{NoAnd, NoIf}
+use Rattle.ast_types.proofs.OtherKinds.{NoAnd, NoIf}
 use Rattle.opt_stmts.specs.SettledChoices.{is_settled, reopens, goes_on, is_bare_if, is_nest}
 
 -- ---- an `if`

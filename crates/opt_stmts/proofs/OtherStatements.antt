@@ -1,11 +1,11 @@
 -- All other nodes, where a match names some.
-use Rattle.std.proofs.Common.{◌≡◌, true, false, None, refl}
+use Rattle.std.proofs.Common.{◌≡◌, true, false, refl}
 use Rattle.ast_types.specs.declared.expr.Expr as declared_expr
 use Rattle.ast_types.specs.declared.stmt.Stmt as declared_stmt
 use Rattle.theory_meaning.specs.Tree.{Expr, BlockExpr, Stmt, ExprStmt}
 use Rattle.ast_types.proofs.Cases.{ExprCase, braces_case, call_case, StmtCase, while_case, block_case, try_catch_case, expression_case}
-use Rattle.opt_steps.proofs.NodeKinds.{NoBraces, NoCall, NoWhile, NoBlock, NoTry, NoExpression}
-use Rattle.opt_stmts.specs.SettledStatements.{is_settled_block, stays, holds_some, is_over_braces, is_settled_expression, decided_loop, is_settled_try}
+use Rattle.ast_types.proofs.OtherKinds.{NoBraces, NoCall, NoWhile, NoBlock, NoTry, NoExpression}
+use Rattle.opt_stmts.specs.SettledStatements.{is_settled_block, stays, holds_some, is_over_braces, is_settled_expression, is_while, is_settled_try}
 
 pub no_block : {x : declared_stmt.Stmt} {s : Stmt} → StmtCase x s → NoBlock x → true ≡ is_settled_block s
 no_block (block_case b) h = absurd (h b refl)
@@ -34,9 +34,9 @@ pub no_expression : {x : declared_stmt.Stmt} {s : Stmt} → StmtCase x s → NoE
 no_expression (expression_case e) h = absurd (h e refl)
 no_expression _ h = refl
 
-pub decides_nothing : {x : declared_stmt.Stmt} {s : Stmt} → StmtCase x s → NoWhile x → None ≡ decided_loop s
-decides_nothing (while_case f p) h = absurd (h f p refl)
-decides_nothing _ h = refl
+pub no_while : {x : declared_stmt.Stmt} {s : Stmt} → StmtCase x s → NoWhile x → false ≡ is_while s
+no_while (while_case f p) h = absurd (h f p refl)
+no_while _ h = refl
 
 pub no_try : {x : declared_stmt.Stmt} {s : Stmt} → StmtCase x s → NoTry x → true ≡ is_settled_try s
 no_try (try_catch_case f p) h = absurd (h f p refl)

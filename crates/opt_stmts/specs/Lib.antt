@@ -1,5 +1,6 @@
 pub mod ChoiceSteps
 pub mod Firing
+pub mod Flows
 pub mod Nested
 pub mod SettledAssignments
 pub mod SettledChoices

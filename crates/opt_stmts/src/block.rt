@@ -72,6 +72,7 @@ fn reduced_block(statement: Stmt) -> Stmt
 {
     match statement {
         Stmt::Block(block) => reduce_block(block.into_inner()),
+        // a block, as was asked by reference before it was taken out
         _ => unreachable!(),
     }
 }

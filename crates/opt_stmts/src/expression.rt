@@ -64,6 +64,7 @@ fn reduce_expression(expr: Expr) -> Stmt
     match expr {
         Expr::Stmt(block) => statement_of_braces(block),
         Expr::FnCall(call, pos) => statement_of_call(call, pos),
+        // braces or a call, as was asked by reference before it was taken out
         _ => unreachable!(),
     }
 }
@@ -74,6 +75,7 @@ fn reduced_expression(statement: Stmt) -> Stmt
 {
     match statement {
         Stmt::Expr(expr) => reduce_expression(expr.into_inner()),
+        // an expression statement, as was asked by reference before it was taken out
         _ => unreachable!(),
     }
 }

@@ -2,10 +2,10 @@
 use Rattle.std.proofs.Common.{◌≡◌, ℕ, zero, suc, ◌<◌, ◌≤◌, ◌∙◌, Bool, false, take, List, [], ◌∷◌, Some, None, get_or, set, length, refl, sym, ap, arith}
 use Rattle.ast_types.specs.declared.expr.BinaryExpr.{BinaryExpr}
 use Rattle.ast_types.specs.declared.stmt.Stmt as declared_stmt
-use Rattle.theory_meaning.specs.Tree.{Expr, no_arms, arm, count_arms, Stmt}
+use Rattle.theory_meaning.specs.Tree.{Expr, arm, count_arms, Stmt}
 use Rattle.ast_types.proofs.Cases.{StmtCase, switch_case}
-use Rattle.opt_steps.proofs.NodeKinds.{NoSwitch}
-use Rattle.opt_switch.specs.Deciding.{arms_in, default_in, choice_at}
+use Rattle.ast_types.proofs.OtherKinds.{NoSwitch}
+use Rattle.opt_switch.specs.Deciding.{choice_at}
 use Rattle.opt_switch.specs.declared.choice.Choice.TheVariants.{Several}
 use Rattle.opt_switch.specs.Forgetting.{answer_left, forgets, loses_answer, loses_answers}
 use Rattle.opt_switch.proofs.Forgotten.{put, answer_in}
@@ -39,15 +39,7 @@ arm_stays (c ∷ bs) zero (suc i) b h = refl
 arm_stays (c ∷ bs) (suc j) zero b h = refl
 arm_stays (c ∷ bs) (suc j) (suc i) b h = arm_stays bs j i b (λ e. h (ap suc e))
 
--- statements that are no `switch` have none
-pub no_arms_in : {x : declared_stmt.Stmt} {s : Stmt} → StmtCase x s → NoSwitch x → arms_in s ≡ no_arms
-no_arms_in (switch_case b p) h = absurd (h b p refl)
-no_arms_in _ h = refl
-
-pub no_default_in : {x : declared_stmt.Stmt} {s : Stmt} → StmtCase x s → NoSwitch x → default_in s ≡ None
-no_default_in (switch_case b p) h = absurd (h b p refl)
-no_default_in _ h = refl
-
+-- of statements that are no `switch` nothing is decided
 pub no_choice : {x : declared_stmt.Stmt} {s : Stmt} → StmtCase x s → NoSwitch x → Several ≡ choice_at s
 no_choice (switch_case b p) h = absurd (h b p refl)
 no_choice _ h = refl

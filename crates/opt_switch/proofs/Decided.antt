@@ -1,5 +1,6 @@
 -- What a `switch` is decided to, by what is left of its arms.
 use Rattle.std.proofs.Common.{◌≡◌, ℕ, Bool, true, false, cond, List, [], ◌∷◌, Option, Some, None, refl, sym, ap, ◌∙◌, subst}
+use Rattle.std.specs.Option.{option_map}
 use Rattle.std.proofs.lemmas.Bool.Decides.{Decides-eqb}
 use Rattle.rhai_base.specs.Value.{Value, is_hashable}
 use Rattle.theory_meaning.specs.Constants.{constant_value}
@@ -12,7 +13,7 @@ use Rattle.theory_rewriting.specs.Tables.{arm_of, arm_decides, left_with, left_a
 use Rattle.opt_switch.specs.declared.choice.Choice.{Choice}
 use Rattle.opt_switch.specs.declared.choice.Choice.TheVariants.{Nothing, Answer, Only, Several}
 use Rattle.opt_switch.specs.Choices.{first_of, choice_of}
-use Rattle.opt_switch.specs.Deciding.{hashable, is_default, but_default, choice_over, choice_at, arms_in, default_in, is_open, IsIfOf}
+use Rattle.opt_switch.specs.Deciding.{hashable, is_default, but_default, choice_over, choice_at, if_of, Becomes}
 
 -- ---- of a constant subject
 
@@ -112,84 +113,36 @@ of_nothing as' is (i ∷ k ∷ l) e h = absurd (let z : Several ≡ Nothing = h 
 
 -- ---- the rules
 
-abbrev given_or : Expr → Option Expr → Expr
-given_or a None = a
-given_or a (Some x) = x
+pub as_made : (o p : Option Stmt) (x x' : Stmt) → o ≡ p → Becomes p x x' → Becomes o x x'
+as_made o p x x' e h = subst (λ y. Becomes y x x') (sym e) h
 
-arm_there : {R : Type 0} (o : Option (Expr × Expr)) (a : Expr) → Some a ≡ answer_of_arm o → ((c : Expr) → o ≡ Some (c, a) → R) → R
-arm_there None a h f = absurd (let z : Some a ≡ None = h in cc)
-arm_there (Some p) a h f = f p.0 (ap (λ x. Some (p.0, x)) (sym (ap (given_or a) h)))
-
-pub answers : (x : Stmt) (j : ℕ) (a : Expr) → choice_at x ≡ Answer j → Some a ≡ answer_of_arm (arm_of (arms_in x) j) → (k : Context) (w : Bool) → StmtRule k w x (ExprStmt a)
-answers (Switch e as' t) j a h q k w =
-    over_constant (constant_value e) as' t (Answer j) (λ z. cc) h (λ v c i b.
-    let l = of_answer as' _ j (answer_left t.default _ j b) in
-    arm_there (arm_of as' j) a q (λ d r. switch_answers v j [] c i l.0 r (ap arm_decides (sym r) ∙ l.1)))
-answers _ j a h q k w = absurd (let z : Several ≡ Answer j = h in cc)
+pub answers : (e : Expr) (as' : Arms) (t : SwitchTable) (j : ℕ) (x' : Stmt) → choice_at (Switch e as' t) ≡ Answer j → Becomes (option_map ExprStmt (answer_of_arm (arm_of as' j))) (Switch e as' t) x'
+answers e as' t j x' h = by (arm_of as' j) refl where
+  by : (o : Option (Expr × Expr)) → arm_of as' j ≡ o → Becomes (option_map ExprStmt (answer_of_arm o)) (Switch e as' t) x'
+  by None q = absurd (over_constant (constant_value e) as' t (Answer j) (λ z. cc) h (λ v c i b. let z : Some false ≡ Some true = sym (ap arm_decides q) ∙ (of_answer as' _ j (answer_left t.default _ j b)).1 in cc))
+  by (Some p) q =
+      λ k w. over_constant (constant_value e) as' t (Answer j) (λ z. cc) h (λ v c i b.
+      let l = of_answer as' _ j (answer_left t.default _ j b) in
+      switch_answers v j [] c i l.0 q (sym (ap arm_decides q) ∙ l.1))
 
 -- an `if` with the default as its branch
 branch_is : (o : Option Expr) → answered o ≡ default_branch o
 branch_is None = refl
 branch_is (Some e) = refl
 
-pub is_if : (x : Stmt) (j : ℕ) (c a : Expr) (o : Option Expr) → choice_at x ≡ Only j → Some (c, a) ≡ arm_of (arms_in x) j → o ≡ default_answer (arms_in x) (default_in x) → (k : Context) (w : Bool) → StmtRule k w x (If c (answered (Some a)) (answered o))
-is_if (Switch e as' t) j c a o h q r k w =
-    over_constant (constant_value e) as' t (Only j) (λ z. cc) h (λ v d i b.
-    let l = only_left t.default _ j b in
-    subst (λ ss. StmtRule k w (Switch e as' t) (If c (stmt (ExprStmt a) no_stmts) ss)) (sym (branch_is o ∙ ap default_branch r))
-    (switch_is_if v j d i (of_only as' _ j l.0) (sym q) l.1))
-is_if _ j c a o h q r k w = absurd (let z : Several ≡ Only j = h in cc)
+pub is_if : (e : Expr) (as' : Arms) (t : SwitchTable) (j : ℕ) (x' : Stmt) → choice_at (Switch e as' t) ≡ Only j → Becomes (option_map (if_of (default_answer as' t.default)) (arm_of as' j)) (Switch e as' t) x'
+is_if e as' t j x' h = by (arm_of as' j) refl where
+  by : (o : Option (Expr × Expr)) → arm_of as' j ≡ o → Becomes (option_map (if_of (default_answer as' t.default)) o) (Switch e as' t) x'
+  by None q = absurd (over_constant (constant_value e) as' t (Only j) (λ z. cc) h (λ v d i b. head_open as' (chosen t v) j [] (of_only as' _ j (only_left t.default _ j b).0) (ap arm_decides q)))
+  by (Some p) q =
+      λ k w. over_constant (constant_value e) as' t (Only j) (λ z. cc) h (λ v d i b.
+      let l = only_left t.default _ j b in
+      subst (λ ss. StmtRule k w (Switch e as' t) (If p.0 (stmt (ExprStmt p.1) no_stmts) ss)) (sym (branch_is (default_answer as' t.default)))
+      (switch_is_if v j d i (of_only as' _ j l.0) q l.1))
 
-pub defaults : (x : Stmt) (o : Option Expr) → choice_at x ≡ Nothing → o ≡ default_answer (arms_in x) (default_in x) → (k : Context) (w : Bool) → StmtRule k w x (default_stmt o)
-defaults (Switch e as' t) o h r k w =
-    over_constant (constant_value e) as' t Nothing (λ z. cc) h (λ v d i b.
-    subst (λ p. StmtRule k w (Switch e as' t) (default_stmt p)) (sym r)
-    (switch_defaults v d i (of_nothing as' (chosen t v) _ refl (nothing_left t.default _ b))))
-defaults _ o h r k w = absurd (let z : Several ≡ Nothing = h in cc)
+pub defaults : (e : Expr) (as' : Arms) (t : SwitchTable) → choice_at (Switch e as' t) ≡ Nothing → (k : Context) (w : Bool) → StmtRule k w (Switch e as' t) (default_stmt (default_answer as' t.default))
+defaults e as' t h k w = over_constant (constant_value e) as' t Nothing (λ z. cc) h (λ v d i b. switch_defaults v d i (of_nothing as' (chosen t v) _ refl (nothing_left t.default _ b)))
 
--- ---- what is asked is there
-
-pub no_answer : (x : Stmt) (j : ℕ) → choice_at x ≡ Answer j → None ≡ answer_of_arm (arm_of (arms_in x) j) → ⊥
-no_answer (Switch e as' t) j h q =
-    over_constant (constant_value e) as' t (Answer j) (λ z. cc) h (λ v c i b. by (arm_of as' j) (of_answer as' _ j (answer_left t.default _ j b)).1 q)
-  where
-    by : (o : Option (Expr × Expr)) → arm_decides o ≡ Some true → None ≡ answer_of_arm o → ⊥
-    by None d r = let z : Some false ≡ Some true = d in cc
-    by (Some p) d r = let z : None ≡ Some p.1 = r in cc
-no_answer _ j h q = let z : Several ≡ Answer j = h in cc
-
--- an arm that is not there is not left
-left_there : (as' : Arms) (is : List ℕ) (j : ℕ) (l : List ℕ) → left_arms as' is ≡ j ∷ l → None ≡ arm_of as' j → ⊥
-left_there as' is j l h q = head_open as' is j l h (ap arm_decides (sym q))
-
-pub no_only : (x : Stmt) (j : ℕ) → choice_at x ≡ Only j → None ≡ arm_of (arms_in x) j → ⊥
-no_only (Switch e as' t) j h q = over_constant (constant_value e) as' t (Only j) (λ z. cc) h (λ v c i b. left_there as' (chosen t v) j [] (of_only as' _ j (only_left t.default _ j b).0) q)
-no_only _ j h q = let z : Several ≡ Only j = h in cc
-
-pub not_default_too : (x : Stmt) (j : ℕ) → choice_at x ≡ Only j → default_in x ≡ Some j → ⊥
-not_default_too (Switch e as' t) j h q = over_constant (constant_value e) as' t (Only j) (λ z. cc) h (λ v c i b. (only_left t.default _ j b).1 q)
-not_default_too _ j h q = let z : Several ≡ Only j = h in cc
-
--- ---- a statement that is spelled so
-
-pub arm_asked : (x : Stmt) (e : Expr) (as' : Arms) (t : SwitchTable) (j : ℕ) → x ≡ Switch e as' t → choice_at x ≡ Only j → None ≡ arm_of as' j → ⊥
-arm_asked x e as' t j i h = no_only (Switch e as' t) j (sym (ap choice_at i) ∙ h)
-
-pub default_aside : (x : Stmt) (e : Expr) (as' : Arms) (t : SwitchTable) (j : ℕ) → x ≡ Switch e as' t → choice_at x ≡ Only j → t.default ≡ Some j → ⊥
-default_aside x e as' t j i h = not_default_too (Switch e as' t) j (sym (ap choice_at i) ∙ h)
-
-if_at : (e : Expr) (as' : Arms) (t : SwitchTable) (j : ℕ) (s : Stmt) (o : Option (Expr × Expr)) → arm_of as' j ≡ o → choice_at (Switch e as' t) ≡ Only j → IsIfOf o (default_answer as' t.default) s → (k : Context) (w : Bool) → StmtRule k w (Switch e as' t) s
-if_at e as' t j s None q h i k w = absurd i
-if_at e as' t j s (Some p) q h i k w = subst (λ y. StmtRule k w (Switch e as' t) y) (sym i) (is_if (Switch e as' t) j p.0 p.1 (default_answer as' t.default) h (sym q) refl k w)
-
-pub if_of : (x : Stmt) (e : Expr) (as' : Arms) (t : SwitchTable) (j : ℕ) (s : Stmt) → x ≡ Switch e as' t → choice_at x ≡ Only j → IsIfOf (arm_of as' j) (default_answer as' t.default) s → (k : Context) (w : Bool) → StmtRule k w x s
-if_of x e as' t j s i h q k w = subst (λ y. StmtRule k w y s) (sym i) (if_at e as' t j s (arm_of as' j) refl (sym (ap choice_at i) ∙ h) q k w)
-
-pub open_is : (c : Choice) → is_open c ≡ true → c ≡ Several
-open_is Nothing h = absurd (let z : false ≡ true = h in cc)
-open_is (Answer i) h = absurd (let z : false ≡ true = h in cc)
-open_is (Only i) h = absurd (let z : false ≡ true = h in cc)
-open_is Several h = refl
-
-pub not_open : (c : Choice) → is_open c ≡ false → c ≡ Several → ⊥
-not_open c h q = let z : true ≡ false = sym (ap is_open q) ∙ h in cc
+-- an open arm that is left alone is not the default too
+pub not_default_too : (e : Expr) (as' : Arms) (t : SwitchTable) (j : ℕ) → choice_at (Switch e as' t) ≡ Only j → t.default ≡ Some j → ⊥
+not_default_too e as' t j h q = over_constant (constant_value e) as' t (Only j) (λ z. cc) h (λ v c i b. (only_left t.default _ j b).1 q)

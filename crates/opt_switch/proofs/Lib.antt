@@ -8,3 +8,4 @@ pub mod Settled
 pub mod Stepped
 pub mod Entries
 pub mod Places
+pub mod Trying

@@ -12,10 +12,9 @@ use Rattle.theory_meaning.specs.Tree.{SwitchTable, Expr, UnitConstant, Arms, no_
 use Rattle.theory_meaning.specs.Walk.{listed}
 use Rattle.ast_types.specs.declared.stmt.Stmt as declared_stmt
 use Rattle.ast_types.proofs.Cases.{StmtCase, switch_case}
-use Rattle.opt_steps.proofs.NodeKinds.{NoSwitch}
+use Rattle.ast_types.proofs.OtherKinds.{NoSwitch}
 use Rattle.theory_rewriting.specs.Context.{Context}
 use Rattle.theory_rewriting.specs.Rules as rule
-use Rattle.theory_rewriting.specs.Rules.{StmtRule}
 use Rattle.theory_rewriting.specs.Steps.{NoStmtRule}
 use Rattle.theory_rewriting.specs.Tables.{arm_of, arm_decides, left_with, left_arms}
 use Rattle.opt_switch.specs.declared.choice.Choice.TheVariants.{Nothing, Answer, Only, Several}

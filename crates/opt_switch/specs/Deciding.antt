@@ -4,8 +4,10 @@ use Rattle.rhai_base.specs.Value.{Value, is_hashable}
 use Rattle.theory_meaning.specs.Constants.{constant_value}
 use Rattle.theory_meaning.specs.Control.{chosen}
 use Rattle.theory_meaning.specs.Engine.{Engine}
-use Rattle.theory_meaning.specs.Tree.{SwitchTable, Expr, Arms, no_arms, Stmt, If, Switch}
+use Rattle.theory_meaning.specs.Tree.{SwitchTable, Expr, Arms, Stmt, If, Switch}
 use Rattle.ast_nodes.specs.Blocks.{answered}
+use Rattle.theory_rewriting.specs.Context.{Context}
+use Rattle.theory_rewriting.specs.Rules.{StmtRule}
 use Rattle.theory_rewriting.specs.Steps.{Progress, StmtFired}
 use Rattle.theory_rewriting.specs.Tables.{left_arms}
 use Rattle.opt_switch.specs.declared.choice.Choice.{Choice}
@@ -37,22 +39,14 @@ abbrev pub choice_at : Stmt → Choice
 choice_at (Switch e as' t) = choice_over as' t (hashable (constant_value e))
 choice_at _ = Several
 
-abbrev pub arms_in : Stmt → Arms
-arms_in (Switch e as' t) = as'
-arms_in _ = no_arms
-
-abbrev pub default_in : Stmt → Option ℕ
-default_in (Switch e as' t) = t.default
-default_in _ = None
-
-abbrev pub is_open : Choice → Bool
-is_open Several = true
-is_open _ = false
-
 -- the `if` of an arm, with the default as its branch
-abbrev pub IsIfOf : Option (Expr × Expr) → Option Expr → Stmt → Type 0
-IsIfOf None o s = ⊥
-IsIfOf (Some p) o s = s ≡ If p.0 (answered (Some p.1)) (answered o)
+abbrev pub if_of : Option Expr → Expr × Expr → Stmt
+if_of o p = If p.0 (answered (Some p.1)) (answered o)
+
+-- what it becomes, or it is not decided, and stays
+abbrev pub Becomes : Option Stmt → Stmt → Stmt → Type 0
+Becomes None x x' = (x' ≡ x) × (choice_at x ≡ Several)
+Becomes (Some y) x x' = (k : Context) (w : Bool) → StmtRule k w x y
 
 -- rules fired, or it is not decided, and stays
 abbrev pub Decided : Bool → Engine → Bool → Progress → Progress → Stmt → Stmt → Type 0

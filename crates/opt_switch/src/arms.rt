@@ -61,8 +61,5 @@ pub(crate) fn take_arm(arms: &mut Seq<BinaryExpr>, place: usize) -> Option<(Expr
 pub(crate) fn is_false(arms: &[BinaryExpr], place: usize) -> bool
     ensures { result ≡ shrinking.is_false_arm (arms_of arms.now) place }
 {
-    match decided(arms, place) {
-        Some(decided) => !decided,
-        None => false,
-    }
+    decided(arms, place) == Some(false)
 }

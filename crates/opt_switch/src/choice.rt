@@ -2,17 +2,20 @@
 
 #![tactic(auto, using(ast_types::specs::Reading::shapes))]
 
-ghost use Rattle.std.specs.Prelude.{◌≡◌, map};
+ghost use Rattle.std.specs.Prelude.{◌≡◌, ℕ, Option};
+ghost use Rattle.std.specs.List.{filter_map};
 ghost use Rattle.rhai_base.specs.Reading.{value_of};
-ghost use Rattle.theory_meaning.specs.Control.{chosen, ranges_with};
-ghost use Rattle.ast_types.specs.Reading.{arms_of, expressions_of, range_of, table_of};
+ghost use Rattle.theory_meaning.specs.Control.{chosen};
+ghost use Rattle.ast_types.specs.Reading.{arms_of, expressions_of, table_of};
 ghost use Rattle.theory_rewriting.specs.Tables.{left_arms};
 ghost use Rattle.opt_switch.specs.Choices as choices;
+ghost use Rattle.opt_switch.specs.Places.{Tells};
 
 use crate::arms::decided;
+use crate::tried::held_place;
 use ast_nodes::case_list;
 use rhai_ast::{BinaryExpr, SwitchCasesCollection};
-use rhai_base::{Dynamic, RangeCase};
+use rhai_base::Dynamic;
 
 /// What is left to be tried.
 #[derive(Clone, Copy)]
@@ -58,25 +61,20 @@ fn behind(choice: Choice, place: usize, decided: Option<bool>) -> Choice
     }
 }
 
-fn choice_of_list(arms: &[BinaryExpr], places: &[usize]) -> Choice
-    ensures { result ≡ choices.choice_of (arms_of arms.now) (left_arms (arms_of arms.now) places.now) }
+/// What is left of arms in their order. An entry with no place names none.
+fn choice_of<T, F: Fn(&T) -> Option<usize>>(
+    arms: &[BinaryExpr],
+    entries: &[T],
+    place_of: F,
+) -> Choice
+    requires { F.IsAlwaysCallable place_of }
+    ensures { (g : T → Option ℕ)
+        → Tells F.Fn place_of g
+        → result ≡ choices.choice_of (arms_of arms.now) (left_arms (arms_of arms.now) (filter_map g entries.now)) }
 {
     let mut choice = Choice::Nothing;
-    for place in places {
-        choice = behind(choice, *place, decided(arms, *place));
-    }
-    choice
-}
-
-fn choice_of_ranges(arms: &[BinaryExpr], ranges: &[RangeCase], subject: &Dynamic) -> Choice
-    ensures { result
-        ≡ choices.choice_of (arms_of arms.now)
-        (left_arms (arms_of arms.now) (ranges_with (map range_of ranges.now) (value_of subject.now))) }
-{
-    let mut choice = Choice::Nothing;
-    for range in ranges {
-        if range.contains(subject) {
-            let place = range.index();
+    for entry in entries {
+        if let Some(place) = place_of(entry) {
             choice = behind(choice, place, decided(arms, place));
         }
     }
@@ -90,7 +88,11 @@ pub(crate) fn choice_for(table: &SwitchCasesCollection, subject: &Dynamic) -> Ch
 {
     let arms = table.expressions.as_slice();
     match case_list(table, subject) {
-        Some(list) => choice_of_list(arms, list.blocks.as_slice()),
-        None => choice_of_ranges(arms, table.ranges.as_slice(), subject),
+        Some(list) => choice_of(arms, list.blocks.as_slice(), |place| Some(*place)),
+        None => choice_of(
+            arms,
+            table.ranges.as_slice(),
+            |range| held_place(range, subject),
+        ),
     }
 }

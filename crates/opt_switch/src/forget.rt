@@ -2,7 +2,7 @@
 
 #![tactic(auto, using(ast_types::specs::Reading::shapes))]
 
-ghost use Rattle.std.specs.Prelude.{◌≡◌, ◌≤◌, [], ◌∷◌, IfOk, length, map, replicate, false};
+ghost use Rattle.std.specs.Prelude.{◌≡◌, [], ◌∷◌, IfOk, length, map, replicate, false};
 ghost use Rattle.theory_meaning.specs.Walk.{arms_of_cases, arms_of_ranges, arm_of_default, listed};
 ghost use Rattle.ast_types.specs.Reading.{arms_of, case_of, expr_of, expressions_of, range_of, table_of};
 ghost use Rattle.opt_switch.specs.Forgetting as forgetting;
@@ -95,17 +95,14 @@ fn forget(arm: &mut BinaryExpr, is_listed: bool) -> bool
 
 /// Forgets the answers of arms that are not marked, and says whether there was one.
 pub(crate) fn forget_answers(arms: &mut Seq<BinaryExpr>, marks: &[bool]) -> bool
-    requires { length arms.now ≤ length marks.now }
     ensures arms { arms_of arms.new ≡ forgetting.forgets marks.now (arms_of arms.old) }
     ensures loses { result ≡ forgetting.loses_answers marks.now (arms_of arms.old) }
 {
     let mut loses = false;
-    for at in 0..arms.len() {
-        let (Some(arm), Some(is_listed)) = (arms.get_mut(at), marks.get(at)) else {
-            unreachable!()
-        };
-        let loses_this = forget(arm, *is_listed);
-        loses = loses || loses_this;
+    for (place, is_listed) in marks.iter().enumerate() {
+        if let Some(arm) = arms.get_mut(place) {
+            loses |= forget(arm, *is_listed);
+        }
     }
     loses
 }

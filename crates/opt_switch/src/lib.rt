@@ -9,6 +9,7 @@ mod narrow;
 mod shrink;
 mod step;
 mod tables;
+mod tried;
 
 pub use decide::decide_switch;
 pub use step::step_switch;

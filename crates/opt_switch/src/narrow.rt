@@ -2,19 +2,18 @@
 
 #![tactic(auto, using(ast_types::specs::Reading::shapes))]
 
-ghost use Rattle.std.specs.Prelude.{◌≡◌, None, Some, length, map, not, true};
+ghost use Rattle.std.specs.Prelude.{◌≡◌, None, Some, map, not, true};
 ghost use Rattle.std.specs.List.{list_any};
 ghost use Rattle.rhai_base.specs.Reading.{value_of};
 ghost use Rattle.rhai_base.specs.Value.{is_hashable, same};
 ghost use Rattle.theory_meaning.specs.Control.{case_for};
 ghost use Rattle.ast_types.specs.Reading.{arms_of, case_of, expressions_of, range_of, table_of};
 ghost use Rattle.theory_rewriting.specs.Tables.{left_arms};
-ghost use Rattle.theory_meaning.specs.Walk.{arms_of_ranges};
 ghost use Rattle.theory_rewriting.specs.Narrowing as narrowing;
-ghost use Rattle.opt_switch.specs.Ends.{end_of};
 
-use crate::arms::{decided, is_false};
+use crate::arms::is_false;
 use crate::shrink::{has_ranges, keep_left, loses_arms};
+use crate::tried::{end_of, held_place, left_len};
 use ast_nodes::case_list;
 use indexmap::IndexMap;
 use rhai_ast::{BinaryExpr, CaseBlocksList, SwitchCasesCollection};
@@ -44,29 +43,11 @@ fn has_other(cases: &Cases, subject: &Dynamic) -> bool
     any_other(cases, subject)
 }
 
-/// How many ranges hold the subject: those that are not false, up to one that is true.
-fn only_len(arms: &[BinaryExpr], ranges: &[RangeCase], subject: &Dynamic) -> usize
-    ensures { result
-        ≡ length (narrowing.only_ranges (arms_of arms.now) (value_of subject.now) (map range_of ranges.now)) }
-{
-    let mut len: usize = 0;
-    for range in ranges {
-        if range.contains(subject) {
-            match decided(arms, range.index()) {
-                Some(false) => {}
-                Some(true) => return len + 1,
-                None => len += 1,
-            }
-        }
-    }
-    len
-}
-
 /// Whether a range goes.
 fn loses_ranges(arms: &[BinaryExpr], ranges: &[RangeCase], subject: &Dynamic) -> bool
     ensures { result ≡ narrowing.loses_ranges (arms_of arms.now) (value_of subject.now) (map range_of ranges.now) }
 {
-    only_len(arms, ranges, subject) < ranges.len()
+    left_len(arms, ranges, |range| held_place(range, subject)) < ranges.len()
 }
 
 /// Whether something goes where a list stands for the subject.
@@ -130,20 +111,6 @@ pub(crate) fn only_cases(alloc: Global, arms: &[BinaryExpr], cases: &mut Cases, 
     cases.replace_map(map);
 }
 
-/// The place behind the first true range.
-fn end_of(arms: &[BinaryExpr], ranges: &[RangeCase]) -> usize
-    ensures { result ≡ end_of (arms_of arms.now) (arms_of_ranges (map range_of ranges.now)) }
-{
-    let mut end: usize = 0;
-    for range in ranges {
-        end += 1;
-        if decided(arms, range.index()) == Some(true) {
-            return end;
-        }
-    }
-    end
-}
-
 /// Keeps the ranges that hold the subject, as far as they are tried.
 pub(crate) fn only_ranges(
     alloc: Global,
@@ -156,6 +123,6 @@ pub(crate) fn only_ranges(
 {
     let mut left = replace(ranges, Seq::new(alloc)).into_vec();
     left.retain(|range| range.contains(subject) && !is_false(arms, range.index()));
-    left.truncate(end_of(arms, left.as_slice()));
+    left.truncate(end_of(arms, left.as_slice(), |range| range.index()));
     *ranges = Seq::from_vec(left);
 }

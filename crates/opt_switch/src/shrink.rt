@@ -3,41 +3,26 @@
 
 #![tactic(auto, using(ast_types::specs::Reading::shapes))]
 
-ghost use Rattle.std.specs.Prelude.{◌≡◌, length, map};
+ghost use Rattle.std.specs.Prelude.{◌≡◌, map};
 ghost use Rattle.std.specs.List.{list_any};
 ghost use Rattle.ast_types.specs.Reading.{arms_of, case_of, expressions_of, range_of, table_of};
 ghost use Rattle.theory_rewriting.specs.Tables.{left_arms};
 ghost use Rattle.theory_rewriting.specs.Shrinking as shrinking;
 ghost use Rattle.theory_rewriting.specs.Shrinking.{AreDistinct};
-ghost use Rattle.opt_switch.specs.Ends.{end_of};
 
-use crate::arms::{decided, is_false};
+use crate::arms::is_false;
+use crate::tried::{end_of, left_len};
 use indexmap::IndexMap;
 use rhai_ast::{BinaryExpr, CaseBlocksList, SwitchCasesCollection};
 use rhai_base::{Cases, Dynamic, RangeCase, Seq};
 use std::alloc::Global;
 use std::mem::replace;
 
-/// How many arms of a list are left: those that are not false, up to one that is true.
-fn left_len(arms: &[BinaryExpr], places: &[usize]) -> usize
-    ensures { result ≡ length (left_arms (arms_of arms.now) places.now) }
-{
-    let mut left: usize = 0;
-    for place in places {
-        match decided(arms, *place) {
-            Some(false) => {}
-            Some(true) => return left + 1,
-            None => left += 1,
-        }
-    }
-    left
-}
-
 /// Whether an arm of a list goes.
 pub(crate) fn loses_arms(arms: &[BinaryExpr], places: &[usize]) -> bool
     ensures { result ≡ shrinking.loses_arms (arms_of arms.now) places.now }
 {
-    left_len(arms, places) < places.len()
+    left_len(arms, places, |place| Some(*place)) < places.len()
 }
 
 /// Whether an arm of a list goes, or the list.
@@ -91,26 +76,12 @@ pub(crate) fn shrinks(table: &SwitchCasesCollection) -> bool
     lists_shrink || has_false
 }
 
-/// The place behind the first true arm of a list.
-fn end_of(arms: &[BinaryExpr], places: &[usize]) -> usize
-    ensures { result ≡ end_of (arms_of arms.now) places.now }
-{
-    let mut end: usize = 0;
-    for place in places {
-        end += 1;
-        if decided(arms, *place) == Some(true) {
-            return end;
-        }
-    }
-    end
-}
-
 /// Keeps of a list the arms that are left.
 pub(crate) fn keep_left(alloc: Global, arms: &[BinaryExpr], list: &mut CaseBlocksList)
     ensures { list.new.blocks ≡ left_arms (arms_of arms.now) list.old.blocks }
 {
     let mut places = replace(&mut list.blocks, Seq::new(alloc)).into_vec();
-    places.truncate(end_of(arms, places.as_slice()));
+    places.truncate(end_of(arms, places.as_slice(), |place| *place));
     places.retain(|place| !is_false(arms, *place));
     list.blocks = Seq::from_vec(places);
 }

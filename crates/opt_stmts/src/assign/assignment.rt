@@ -125,6 +125,7 @@ fn take_second(expr: &mut Expr) -> Expr
 {
     match expr {
         Expr::FnCall(call, _) => take_item(&mut call.get_mut().args),
+        // a call of an operator, as was asked by reference
         _ => unreachable!(),
     }
 }
@@ -135,6 +136,7 @@ fn take_item(operands: &mut Seq<Expr>) -> Expr
 {
     match operands.get_mut(1) {
         Some(operand) => operand.take(),
+        // it has two operands, as was asked by reference
         None => unreachable!(),
     }
 }
@@ -151,6 +153,7 @@ fn assign_by_operator(operation: &mut OpAssignment, value: &mut Expr)
             let operand = take_second(value);
             put_expr(value, operand);
         }
+        // a call of an operator, as was asked by reference
         None => unreachable!(),
     }
 }
@@ -167,6 +170,7 @@ fn self_assign(state: &mut OptimizerState<'_>, statement: &mut Stmt)
             let (operation, sides) = parts.get_mut();
             assign_by_operator(operation, &mut sides.rhs);
         }
+        // an assignment, as was asked by reference
         _ => unreachable!(),
     }
 }

@@ -81,6 +81,7 @@ fn share_known(state: &mut OptimizerState<'_>, statement: &mut Stmt)
             let alloc = names.allocator();
             keep_unknown(alloc, state, names.get_mut());
         }
+        // shared names, as was asked by reference
         _ => unreachable!(),
     }
 }

@@ -125,6 +125,7 @@ pub(crate) fn reduce_if(
             let (body, branch) = blocks_of(flow);
             if_decided(alloc, decided, body, branch)
         }
+        // it is decided, as was asked before it was taken out: what decides it is taken apart with it
         None => unreachable!(),
     }
 }

@@ -91,6 +91,7 @@ fn parts_of_if(statement: Stmt) -> (Expr, StmtBlock)
             } = flow.into_inner();
             (expr, body)
         }
+        // an `if`, as was asked by reference before it was taken out
         _ => unreachable!(),
     }
 }
@@ -101,6 +102,7 @@ fn parts_of_only_if(body: StmtBlock) -> (Expr, StmtBlock)
 {
     match only_statement(body) {
         Some(statement) => parts_of_if(statement),
+        // it stands alone, as was asked by reference before its block was taken out
         None => unreachable!(),
     }
 }
@@ -163,6 +165,7 @@ fn push_operand(condition: &mut Expr, operand: Expr) -> Result<(), OutOfMemory>
 {
     match condition {
         Expr::And(operands, _) => push_last(operands.get_mut(), operand),
+        // an `&&`, as was asked by reference
         _ => unreachable!(),
     }
 }

@@ -47,6 +47,7 @@ fn rewritten(alloc: Global, statement: Stmt, is_wanted: bool) -> Result<Stmt, Ou
 {
     match statement {
         Stmt::If(flow, pos) => reduce_if(alloc, flow.into_inner(), pos, is_wanted),
+        // an `if`, as was asked by reference before it was taken out
         _ => unreachable!(),
     }
 }
@@ -98,6 +99,7 @@ fn join_nest(
     note_fired(state);
     match statement {
         Stmt::If(flow, _) => join_ifs(alloc, flow.get_mut()),
+        // an `if`, as was asked by reference
         _ => unreachable!(),
     }
 }

@@ -9,5 +9,6 @@ use Rattle.opt_switch.proofs.decide.decide_switch.Goals as goal
 pub returns : goal.returns
 returns c = λ r w.
     let k = here r (progress c.args.state.now) in
+    let rule = rw c.in-Some.is at c.in_ok-made.ensures in
     stmt_fired_by c.note_fired.ensures.dirty c.note_fired.ensures.known
-    (subst (λ y. StmtRule k w (stmt_of c.args.statement.now) y) (sym (ap stmt_of c.put_stmt.ensures)) (c.in_ok-made.ensures k w))
+    (subst (λ y. StmtRule k w (stmt_of c.args.statement.now) y) (sym (ap stmt_of c.put_stmt.ensures)) (rule k w))

@@ -1,16 +1,9 @@
-use Rattle.std.proofs.Common.{false, length, replicate, refl, sym, ap, ◌∙◌, arith}
-use Rattle.std.proofs.lemmas.List.{length-replicate}
-use Rattle.ast_types.specs.Reading.{arms_of, expressions_of, table_of}
-use Rattle.theory_meaning.specs.Walk.{listed}
+use Rattle.std.proofs.Common.{false, refl, sym, ap, ◌∙◌}
+use Rattle.ast_types.specs.Reading.{arms_of, expressions_of}
 use Rattle.opt_switch.specs.Forgetting.{forgets, loses_answers}
-use Rattle.opt_switch.proofs.Forgotten.{marks_length, forgets_none}
+use Rattle.opt_switch.proofs.Forgotten.{forgets_none}
 use Rattle.opt_switch.proofs.Stepped.{arms_put, marks_are, table_kept}
 use Rattle.opt_switch.proofs.tables.switch_forgets.Goals as goal
-
-pub forget_answers-requires : goal.forget_answers-requires
-forget_answers-requires c =
-    let n = length (expressions_of c.args.table.now) in
-    omega (arith, ap length (c.as_slice.ensures.value ∙ c.in_ok-marks.ensures), marks_length (replicate n false) (listed (table_of c.args.table.now)), length-replicate n false)
 
 pub returns-then-not-forget_answers : goal.returns-then-not-forget_answers
 returns-then-not-forget_answers c =

@@ -1,6 +1,0 @@
-use Rattle.ast_types.proofs.Cases.{stmt_cases}
-use Rattle.opt_switch.proofs.ArmPlaces.{no_choice}
-use Rattle.opt_switch.proofs.decide.choice_at.Goals as goal
-
-pub returns-in_default : goal.returns-in_default
-returns-in_default c = no_choice (stmt_cases c.args.statement.now) c.in_default.not-Switch
