@@ -1,10 +1,8 @@
 //! Asks what the command answers, and how it ends where a file cannot be read or a write is refused.
 #![tactic(auto)]
 
-mod blocks;
 mod rows;
 mod shelf;
-mod stops;
 
 use std::{env, fs, io};
 

@@ -1,28 +1,18 @@
 //! Blocks headed by the words that are asked, with a file's text and what is answered.
 
-use crate::blocks::{Block, HEAD, block_of};
 use crate::shelf::Shelf;
-use crate::stops::Stops;
 use std::alloc::{AllocError, Global};
 use std::fmt::Write;
 use std::str;
+use tests_reader::{Block, Stops, Told, blocks_of};
 use tool_command::run_words;
-
-/// What was told.
-#[derive(Drop)]
-struct Told {
-    status: u8,
-    out: Stops,
-    err: Stops,
-}
 
 /// Says of each block what is answered, where that is not what is wanted, or where with less room something else than a
 /// beginning is written; and then how many blocks are met, and in how many cases there was less room.
 pub(crate) fn ask(alloc: Global, rows: &str) -> Result<String, AllocError> {
     let mut said = String::new(alloc);
     let (mut met, mut cuts): (usize, usize) = (0, 0);
-    for written in rows.split(HEAD).skip(1) {
-        let block = block_of(written);
+    for block in blocks_of(alloc, rows)? {
         let whole = tell(alloc, block, usize::MAX)?;
         let cut = cuts_of(alloc, block, &whole)?;
         let told = text_of(alloc, &whole)?;
@@ -47,7 +37,8 @@ fn tell(alloc: Global, block: Block<'_>, room: usize) -> Result<Told, AllocError
         alloc,
         text: block.text,
     };
-    let (mut out, mut err) = (Stops::new(alloc, room), Stops::new(alloc, room));
+    let mut out = Stops::new(alloc, room, true);
+    let mut err = Stops::new(alloc, room, true);
     let status = run_words(alloc, words.as_slice(), &mut shelf, &mut out, &mut err);
     Ok(Told { status, out, err })
 }
@@ -55,13 +46,12 @@ fn tell(alloc: Global, block: Block<'_>, room: usize) -> Result<Told, AllocError
 /// In how many cases there was less room, some forty of a long answer, if each of them ended with status 2 and wrote a
 /// beginning.
 fn cuts_of(alloc: Global, block: Block<'_>, whole: &Told) -> Result<Option<usize>, AllocError> {
-    let most = whole.out.taken.len().max(whole.err.taken.len());
+    let most = whole.most();
     let mut cuts: usize = 0;
     for room in (0..most).step_by(most / 40 + 1) {
         cuts = cuts.saturating_add(1);
         let cut = tell(alloc, block, room)?;
-        let is_beginning = cut.out.begins(&whole.out) && cut.err.begins(&whole.err);
-        if cut.status != 2 || !is_beginning {
+        if cut.status != 2 || !cut.begins(whole) {
             return Ok(None);
         }
     }

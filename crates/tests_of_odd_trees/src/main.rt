@@ -7,7 +7,6 @@ mod case;
 mod copies;
 mod deep;
 mod fills;
-mod following;
 mod names;
 mod nodes;
 mod rows;

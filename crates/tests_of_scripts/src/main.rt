@@ -3,7 +3,6 @@
 
 mod again;
 mod answers;
-mod following;
 mod functions;
 mod given;
 mod guide_reads;

@@ -2,8 +2,8 @@
 
 use crate::scripts::level_named;
 use std::alloc::Global;
-use std::{io, str};
-use tests_reader::Said;
+use std::str;
+use tests_reader::{Said, Stops, Told};
 use tool_program::{Request, both_reports, run_words};
 use tool_samples::BuiltinScript;
 
@@ -70,56 +70,12 @@ fn say_builtin(script: &BuiltinScript, said: &Said) {
 
 // ---- what it writes
 
-/// A writer that takes so many bytes and then fails; a flush fails too where it is to.
-#[derive(Drop)]
-struct Stops {
-    taken: Vec<u8>,
-    room: usize,
-    flushes: bool,
-}
-
-impl io::Write for Stops {
-    fn write(&mut self, buf: &[u8]) -> io::Result<usize> {
-        let count = buf.len().min(self.room);
-        if count == 0 {
-            return Err(io::Error::from(io::ErrorKind::StorageFull));
-        }
-        self.taken.extend_from_slice(&buf[..count])?;
-        self.room -= count;
-        Ok(count)
-    }
-
-    fn flush(&mut self) -> io::Result<()> {
-        if self.flushes {
-            Ok(())
-        } else {
-            Err(io::Error::from(io::ErrorKind::StorageFull))
-        }
-    }
-}
-
-/// A status, and what was written to either side.
-#[derive(Drop)]
-struct Told {
-    status: u8,
-    out: Stops,
-    err: Stops,
-}
-
 /// What the program tells where either side has room for so many bytes.
 fn tell(alloc: Global, words: &[String], room: usize, flushes: bool) -> Told {
-    let mut out = stopping(alloc, room, flushes);
-    let mut err = stopping(alloc, room, flushes);
+    let mut out = Stops::new(alloc, room, flushes);
+    let mut err = Stops::new(alloc, room, flushes);
     let status = run_words(alloc, words, &mut out, &mut err);
     Told { status, out, err }
-}
-
-fn stopping(alloc: Global, room: usize, flushes: bool) -> Stops {
-    Stops {
-        taken: Vec::new(alloc),
-        room,
-        flushes,
-    }
 }
 
 fn say_told(told: &Told, said: &Said) {
@@ -143,7 +99,7 @@ fn say_side(head: &str, side: &Stops, said: &Said) {
 /// for which there is room, and ends with status 1 where that is not all.
 fn cut(words: &[String], said: &Said) {
     let whole = tell(said.alloc, words, usize::MAX, true);
-    let most = whole.out.taken.len().max(whole.err.taken.len());
+    let most = whole.most();
     let mut cuts: usize = 0;
     for room in 0..=most {
         let status = if room < most { 1 } else { whole.status };

@@ -1,7 +1,6 @@
 //! Questions about scripts: how they are printed, what the optimiser makes of them, and how they run. A script may
 //! stand behind a line `----` and what its run is given.
 
-use crate::following::parting;
 use crate::given::{Given, read_given};
 use crate::nodes::{places, places_read};
 use crate::{again, functions, long, names, nodes, reads, shown};
@@ -11,7 +10,7 @@ use rhai_optimizer::{OptimizationLevel, optimize_into_ast};
 use rhai_run::{RunReport, plain_run};
 use rhai_script::AST;
 use run_host::push_report;
-use tests_reader::{Said, Script, split};
+use tests_reader::{Said, Script, parting, split};
 use text_notation::push_script;
 use tool_samples::ProgramHost;
 

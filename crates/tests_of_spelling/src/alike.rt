@@ -1,15 +1,14 @@
 //! Scripts of the notation, printed in rhai's own syntax and read again: they run as they did, and so does what both are
 //! optimised to.
 
-use crate::blocks::{Block, HEAD, block_of};
-use crate::spelled::read_again;
+use crate::spelled::{optimized, read_again};
 use rhai_base::{OutOfMemory, Scope};
-use rhai_optimizer::{OptimizationLevel, optimize_ast};
 use rhai_run::{EngineInfo, plain_run};
 use rhai_script::AST;
 use run_host::push_report;
 use std::alloc::{AllocError, Global};
 use std::fmt::Write;
+use tests_reader::{Block, blocks_of};
 use text_reader::read_script;
 use text_source::{SourceError, Written, push_source, source};
 use tool_samples::ProgramHost;
@@ -50,8 +49,7 @@ pub(crate) fn ask(alloc: Global, rows: &str) -> Result<String, AllocError> {
         refused: 0,
         unread: 0,
     };
-    for written in rows.split(HEAD).skip(1) {
-        let block = block_of(written);
+    for block in blocks_of(alloc, rows)? {
         match end_of(alloc, block)? {
             Ended::Alike => counts.alike = counts.alike.saturating_add(1),
             Ended::Reordered => counts.reordered = counts.reordered.saturating_add(1),
@@ -129,11 +127,6 @@ fn compared(alloc: Global, first: AST, second: AST, end: Ended) -> Result<Ended,
         return Ok(end);
     }
     Ok(Ended::Other)
-}
-
-fn optimized(alloc: Global, script: AST) -> Result<AST, AllocError> {
-    let info = EngineInfo::new(alloc);
-    kept(optimize_ast(alloc, &info, None, script, OptimizationLevel::Simple))
 }
 
 fn report(alloc: Global, script: &AST) -> Result<String, AllocError> {

@@ -2,13 +2,13 @@
 #![tactic(auto)]
 
 mod alike;
-mod blocks;
 mod rows;
 mod spelled;
 
 use rows::Question;
 use std::alloc::AllocError;
 use std::{env, fs, io};
+use tests_reader::ask_blocks;
 
 /// The words are questions, each with a file.
 fn main(rt: HostRuntime) -> io::Result<()> {
@@ -28,9 +28,9 @@ fn ask(rt: &HostRuntime, question: &str, name: &str) -> io::Result<()> {
     let rows = fs::read_to_string(rt, name)?;
     let rows = rows.as_str();
     match question {
-        "spelled" => say(rt, rows::ask(rt.alloc(), Question::Spelled, rows)),
+        "spelled" => say(rt, ask_blocks(rt.alloc(), &Question::Spelled, rows)),
         "alike" => say(rt, alike::ask(rt.alloc(), rows)),
-        "printed" => say(rt, rows::ask(rt.alloc(), Question::Printed, rows)),
+        "printed" => say(rt, ask_blocks(rt.alloc(), &Question::Printed, rows)),
         _ => Ok(()),
     }
 }

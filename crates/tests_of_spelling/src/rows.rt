@@ -1,9 +1,8 @@
-//! Blocks that say what is wanted of their text.
+//! What is asked of the texts of blocks.
 
-use crate::blocks::{Block, HEAD, block_of};
 use crate::spelled;
 use std::alloc::{AllocError, Global};
-use std::fmt::Write;
+use tests_reader::{Block, BlockQuestion};
 
 /// What is asked of a text.
 #[derive(Clone, Copy)]
@@ -14,57 +13,25 @@ pub(crate) enum Question {
     Printed,
 }
 
-/// Says of each block whose text is not what is wanted what it is, and then how many are.
-pub(crate) fn ask(alloc: Global, question: Question, rows: &str) -> Result<String, AllocError> {
-    let mut said = String::new(alloc);
-    let mut met: usize = 0;
-    for written in rows.split(HEAD).skip(1) {
-        if is_met(alloc, question, block_of(written), &mut said)? {
-            met = met.saturating_add(1);
+impl BlockQuestion for Question {
+    fn name(&self) -> &'static str {
+        match self {
+            Question::Spelled => "spelled",
+            Question::Printed => "printed",
         }
     }
-    let asked = match question {
-        Question::Spelled => "spelled",
-        Question::Printed => "printed",
-    };
-    writeln!(said, "{asked}: {met} met")?;
-    Ok(said)
-}
 
-fn is_met(
-    alloc: Global,
-    question: Question,
-    block: Block<'_>,
-    said: &mut String,
-) -> Result<bool, AllocError> {
-    let told = told(alloc, question, block.text)?;
-    let is_met = told.as_str().trim() == wanted(question, block).trim();
-    if !is_met {
-        for part in [
-            "==== ",
-            block.head,
-            "\n",
-            block.text,
-            "\n---- is\n",
-            told.as_str(),
-            "\n",
-        ] {
-            said.push_str(part)?;
+    fn told(&self, alloc: Global, text: &str) -> Result<String, AllocError> {
+        match self {
+            Question::Spelled => spelled::told(alloc, text),
+            Question::Printed => spelled::told_again(alloc, text),
         }
     }
-    Ok(is_met)
-}
 
-fn told(alloc: Global, question: Question, text: &str) -> Result<String, AllocError> {
-    match question {
-        Question::Spelled => spelled::told(alloc, text),
-        Question::Printed => spelled::told_again(alloc, text),
-    }
-}
-
-fn wanted<'a>(question: Question, block: Block<'a>) -> &'a str {
-    match question {
-        Question::Spelled => block.wanted,
-        Question::Printed => "the same",
+    fn wanted<'a>(&self, block: Block<'a>) -> &'a str {
+        match self {
+            Question::Spelled => block.wanted,
+            Question::Printed => "the same",
+        }
     }
 }

@@ -1,6 +1,5 @@
 //! Scripts in print, read again.
 
-use rhai_base::OutOfMemory;
 use rhai_optimizer::{OptimizationLevel, optimize_ast};
 use rhai_run::EngineInfo;
 use rhai_script::AST;
@@ -66,16 +65,10 @@ pub(crate) fn read_again(alloc: Global, script: &AST) -> Result<Result<AST, Stri
     }
 }
 
-fn optimized(alloc: Global, script: AST) -> Result<AST, AllocError> {
+/// What the optimiser makes of a script.
+pub(crate) fn optimized(alloc: Global, script: AST) -> Result<AST, AllocError> {
     let info = EngineInfo::new(alloc);
-    let made: Result<AST, OutOfMemory> = optimize_ast(
-        alloc,
-        &info,
-        None,
-        script,
-        OptimizationLevel::Simple,
-    );
-    made.map_err(|_| AllocError)
+    optimize_ast(alloc, &info, None, script, OptimizationLevel::Simple).map_err(|_| AllocError)
 }
 
 /// No bounds but the parser's own.

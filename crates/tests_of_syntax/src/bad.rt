@@ -1,5 +1,6 @@
 //! Where and why texts are no scripts.
 
+use crate::places::line_and_column;
 use std::alloc::{AllocError, Global};
 use text_parser::{ParseError, ParseErrorType, compile};
 
@@ -12,8 +13,7 @@ pub(crate) fn told(alloc: Global, text: &str) -> Result<String, AllocError> {
 }
 
 fn reason_of(alloc: Global, error: &ParseError) -> Result<String, AllocError> {
-    let line = error.position().line().unwrap_or(0);
-    let column = error.position().position().unwrap_or(0);
+    let (line, column) = line_and_column(error.position());
     let reason = match error.err_type() {
         ParseErrorType::BadInput(input) => format!(in alloc; "{input:?}")?,
         reason => format!(in alloc; "{reason:?}")?,

@@ -1,9 +1,9 @@
 //! Texts of scripts that are cut short or changed: whatever they are, there is an answer, and a refusal stands in the
 //! text.
 
-use crate::blocks::{HEAD, block_of};
 use rhai_base::Position;
 use std::alloc::{AllocError, Global};
+use tests_reader::blocks_of;
 use text_parser::compile;
 
 /// How many texts were asked, and how many of them were refused where they have no place.
@@ -125,8 +125,8 @@ impl Counts {
 /// Says what became of the texts of these blocks, each cut short at each place.
 pub(crate) fn cut_all(alloc: Global, rows: &str) -> Result<String, AllocError> {
     let mut counts = Counts::none();
-    for written in rows.split(HEAD).skip(1) {
-        counts = cut(alloc, counts, block_of(written).text);
+    for block in blocks_of(alloc, rows)? {
+        counts = cut(alloc, counts, block.text);
     }
     counts.told(alloc, "cut")
 }
@@ -161,7 +161,7 @@ fn changed(
     count: u64,
     seed: u64,
 ) -> Result<Counts, AllocError> {
-    let blocks: Vec<&str> = rows.split(HEAD).skip(1).collect(alloc)?;
+    let blocks = blocks_of(alloc, rows)?;
     let mut numbers = Numbers {
         state: seed.wrapping_mul(2).wrapping_add(1),
     };
@@ -169,7 +169,7 @@ fn changed(
     for _ in 0..count {
         let index = numbers.below(blocks.len());
         let text = match blocks.get(index) {
-            Some(written) => block_of(written).text,
+            Some(block) => block.text,
             None => "",
         };
         let changed = with_changes(alloc, text, &mut numbers)?;

@@ -3,7 +3,6 @@
 #![tactic(auto)]
 
 mod bad;
-mod blocks;
 mod changed;
 mod places;
 mod rows;
@@ -14,6 +13,7 @@ mod usual_host;
 use rows::Question;
 use std::alloc::AllocError;
 use std::{env, fs, io};
+use tests_reader::ask_blocks;
 
 /// The words are questions, each with a file; or `change`, a file, how many texts of it are changed, and where the
 /// changes begin.
@@ -50,10 +50,10 @@ fn ask(rt: &HostRuntime, question: &str, name: &str) -> io::Result<()> {
     let rows = fs::read_to_string(rt, name)?;
     let rows = rows.as_str();
     match question {
-        "trees" => say(rt, rows::ask(rt.alloc(), Question::Tree, rows)),
-        "expressions" => say(rt, rows::ask(rt.alloc(), Question::Expression, rows)),
-        "bad" => say(rt, rows::ask(rt.alloc(), Question::Refusal, rows)),
-        "places" => say(rt, rows::ask(rt.alloc(), Question::Places, rows)),
+        "trees" => say(rt, ask_blocks(rt.alloc(), &Question::Tree, rows)),
+        "expressions" => say(rt, ask_blocks(rt.alloc(), &Question::Expression, rows)),
+        "bad" => say(rt, ask_blocks(rt.alloc(), &Question::Refusal, rows)),
+        "places" => say(rt, ask_blocks(rt.alloc(), &Question::Places, rows)),
         "runs" => say(rt, runs::ask(rt.alloc(), rows)),
         "cut" => say(rt, changed::cut_all(rt.alloc(), rows)),
         "changed" => say(rt, changed::change(rt.alloc(), rows, 5_000, 1)),

@@ -37,7 +37,13 @@ fn note(alloc: Global, places: &Cell<String>, nodes: &[ASTNode]) {
 }
 
 fn push_place(text: &mut String, position: Position) -> Result<(), AllocError> {
+    let (line, column) = line_and_column(position);
+    write!(text, " {line}:{column}")
+}
+
+/// The line and the column, 0 of what stands nowhere.
+pub(crate) fn line_and_column(position: Position) -> (usize, usize) {
     let line = position.line().unwrap_or(0);
     let column = position.position().unwrap_or(0);
-    write!(text, " {line}:{column}")
+    (line, column)
 }

@@ -1,9 +1,8 @@
-//! Blocks that say what is wanted of their text.
+//! What is asked of the texts of blocks.
 
-use crate::blocks::{Block, HEAD, block_of};
 use crate::{bad, places, trees};
 use std::alloc::{AllocError, Global};
-use std::fmt::Write;
+use tests_reader::{Block, BlockQuestion};
 
 /// What is asked of a text.
 #[derive(Clone, Copy)]
@@ -18,66 +17,30 @@ pub(crate) enum Question {
     Refusal,
 }
 
-/// Says of each block whose text is not what is wanted what it is, and then how many are.
-pub(crate) fn ask(alloc: Global, question: Question, rows: &str) -> Result<String, AllocError> {
-    let mut said = String::new(alloc);
-    let mut met: usize = 0;
-    for written in rows.split(HEAD).skip(1) {
-        if is_met(alloc, question, block_of(written), &mut said)? {
-            met = met.saturating_add(1);
+impl BlockQuestion for Question {
+    fn name(&self) -> &'static str {
+        match self {
+            Question::Tree => "trees",
+            Question::Expression => "expressions",
+            Question::Places => "places",
+            Question::Refusal => "bad texts",
         }
     }
-    let asked = asked(question);
-    writeln!(said, "{asked}: {met} met")?;
-    Ok(said)
-}
 
-fn asked(question: Question) -> &'static str {
-    match question {
-        Question::Tree => "trees",
-        Question::Expression => "expressions",
-        Question::Places => "places",
-        Question::Refusal => "bad texts",
-    }
-}
-
-fn is_met(
-    alloc: Global,
-    question: Question,
-    block: Block<'_>,
-    said: &mut String,
-) -> Result<bool, AllocError> {
-    let told = told(alloc, question, block.text)?;
-    let is_met = told.as_str().trim() == wanted(question, block).trim();
-    if !is_met {
-        for part in [
-            "==== ",
-            block.head,
-            "\n",
-            block.text,
-            "\n---- is\n",
-            told.as_str(),
-            "\n",
-        ] {
-            said.push_str(part)?;
+    fn told(&self, alloc: Global, text: &str) -> Result<String, AllocError> {
+        match self {
+            Question::Tree => trees::told(alloc, text),
+            Question::Expression => trees::told_expression(alloc, text),
+            Question::Places => places::told(alloc, text),
+            Question::Refusal => bad::told(alloc, text),
         }
     }
-    Ok(is_met)
-}
 
-fn told(alloc: Global, question: Question, text: &str) -> Result<String, AllocError> {
-    match question {
-        Question::Tree => trees::told(alloc, text),
-        Question::Expression => trees::told_expression(alloc, text),
-        Question::Places => places::told(alloc, text),
-        Question::Refusal => bad::told(alloc, text),
-    }
-}
-
-/// What a block wants; of a refused text its head says it.
-fn wanted<'a>(question: Question, block: Block<'a>) -> &'a str {
-    match question {
-        Question::Tree | Question::Expression | Question::Places => block.wanted,
-        Question::Refusal => block.head,
+    /// Of a refused text the head says it.
+    fn wanted<'a>(&self, block: Block<'a>) -> &'a str {
+        match self {
+            Question::Tree | Question::Expression | Question::Places => block.wanted,
+            Question::Refusal => block.head,
+        }
     }
 }

@@ -1,6 +1,5 @@
 //! Runs of scripts before and after they are optimised.
 
-use crate::blocks::{Block, HEAD, block_of};
 use crate::usual_host::UsualHost;
 use rhai_base::Scope;
 use rhai_optimizer::{OptimizationLevel, optimize_ast};
@@ -9,6 +8,7 @@ use rhai_script::AST;
 use run_host::push_report;
 use std::alloc::{AllocError, Global};
 use std::fmt::Write;
+use tests_reader::{Block, blocks_of};
 use text_parser::compile;
 
 /// How many turns a run has.
@@ -25,8 +25,8 @@ struct Counts {
 pub(crate) fn ask(alloc: Global, rows: &str) -> Result<String, AllocError> {
     let mut said = String::new(alloc);
     let mut counts = Counts { alike: 0, stuck: 0 };
-    for written in rows.split(HEAD).skip(1) {
-        counts = with(alloc, counts, block_of(written), &mut said)?;
+    for block in blocks_of(alloc, rows)? {
+        counts = with(alloc, counts, block, &mut said)?;
     }
     let Counts { alike, stuck } = counts;
     writeln!(said, "runs: {alike} alike, {stuck} of them stuck")?;

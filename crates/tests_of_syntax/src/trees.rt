@@ -1,5 +1,6 @@
 //! The trees of scripts.
 
+use crate::places::line_and_column;
 use rhai_ast::{FnAccess, ScriptFuncDef};
 use rhai_script::AST;
 use std::alloc::{AllocError, Global};
@@ -10,24 +11,24 @@ use text_parser::{ParseError, compile, compile_expression};
 
 /// What a text becomes.
 pub(crate) fn told(alloc: Global, text: &str) -> Result<String, AllocError> {
-    match compile(alloc, text) {
+    told_of(alloc, compile(alloc, text))
+}
+
+fn told_of(alloc: Global, read: Result<AST, ParseError>) -> Result<String, AllocError> {
+    match read {
         Ok(script) => told_script(alloc, &script),
         Err(error) => told_refusal(alloc, &error),
     }
 }
 
 fn told_refusal(alloc: Global, error: &ParseError) -> Result<String, AllocError> {
-    let line = error.position().line().unwrap_or(0);
-    let column = error.position().position().unwrap_or(0);
+    let (line, column) = line_and_column(error.position());
     format!(in alloc; "refused: line {line}, column {column}\n")
 }
 
 /// What a text of one expression becomes.
 pub(crate) fn told_expression(alloc: Global, text: &str) -> Result<String, AllocError> {
-    match compile_expression(alloc, text) {
-        Ok(script) => told_script(alloc, &script),
-        Err(error) => told_refusal(alloc, &error),
-    }
+    told_of(alloc, compile_expression(alloc, text))
 }
 
 /// The tree in the notation, whether it is plain, and what the notation does not show.

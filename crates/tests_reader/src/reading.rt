@@ -1,11 +1,10 @@
 //! Reads what a question is about. Nodes come in boxes, which let go of them in one place.
 
+use crate::odd::{Odd, link_of};
 use crate::said::Said;
 use rhai_ast::{Expr, Stmt};
 use rhai_base::{Boxed, Dynamic, FnPtr};
-use text_node_reader::{
-    ReadError, Script, Words, read_expr, read_lines, read_link, read_parts, read_stmt, read_value,
-};
+use text_node_reader::{ReadError, Script, read_lines, read_parts, read_value};
 
 impl Said {
     /// What was read, or a copy of it.
@@ -18,11 +17,25 @@ impl Said {
 
     /// An expression, or with a `.` before it what stands at the right of one.
     pub fn expr(&self, text: &str) -> Option<Boxed<Expr>> {
-        let read = match text.strip_prefix(".") {
-            Some(link) if !link.starts_with(".") => read_link(self.alloc, link, Words::Odd),
-            _ => read_expr(self.alloc, text, Words::Odd),
+        let expr = match text.strip_prefix(".") {
+            Some(link) if !link.starts_with(".") => self.link(link),
+            _ => self.original_expr(text),
         };
-        self.perhaps_copied(self.boxed(self.read(read)))
+        self.perhaps_copied(self.boxed(expr))
+    }
+
+    fn link(&self, text: &str) -> Option<Expr> {
+        self.made(link_of(self.alloc, self.original_expr(text)?))
+    }
+
+    fn original_expr(&self, text: &str) -> Option<Expr> {
+        match self.original_stmt(text)? {
+            Stmt::Expr(expr) => Some(expr.into_inner()),
+            _ => {
+                self.want("an expression");
+                None
+            }
+        }
     }
 
     pub fn stmt(&self, text: &str) -> Option<Boxed<Stmt>> {
@@ -31,7 +44,11 @@ impl Said {
 
     /// A statement as it was read.
     pub fn original_stmt(&self, text: &str) -> Option<Stmt> {
-        self.read(read_stmt(self.alloc, text, Words::Odd))
+        let mut statements = self.read(read_lines(self.alloc, text, Odd))?;
+        if statements.len() != 1 {
+            self.want("one statement");
+        }
+        statements.pop()
     }
 
     /// A value, or a copy that is equal; a pointer, or the first of an array, may have 1 for its first parameter, as in
@@ -91,11 +108,11 @@ impl Said {
 
     fn read_ended(&self, text: &str) -> Result<Vec<Stmt>, ReadError> {
         let lines = format!(in self.alloc; "{text}\n")?;
-        read_lines(self.alloc, lines.as_str(), Words::Odd)
+        read_lines(self.alloc, lines.as_str(), Odd)
     }
 
     /// A script: statements, each on a line, and then functions, each on a line.
     pub fn script(&self, text: &str) -> Option<Script> {
-        self.read(read_parts(self.alloc, text, Words::Odd))
+        self.read(read_parts(self.alloc, text, Odd))
     }
 }

@@ -80,8 +80,6 @@ pub(crate) enum ExprKind {
     Variable,
     Property,
     Method,
-    Alone,
-    Spoiled,
 }
 
 /// What a statement is.
@@ -103,7 +101,6 @@ pub(crate) enum StmtKind {
     Import,
     Export,
     Share,
-    Spoiled,
 }
 
 /// An expression's kind with its parts.
@@ -167,27 +164,6 @@ pub(crate) static LINKS: [(&str, ExprKind, &[Part]); 2] = [
         &[ENDING, OPEN, Part::Link, COMMA, Part::Expr, CLOSE],
     ),
 ];
-
-/// Behind `alone` stands what else stands at the right of a `.`, behind `spoiled` a node in which something is wrong
-/// that no printed text shows.
-pub(crate) static ODD_EXPRS: [(&str, ExprKind, &[Part]); 2] = [
-    ("alone", ExprKind::Alone, &[BLANK, Part::Link]),
-    ("spoiled", ExprKind::Spoiled, &[BLANK, Part::Expr]),
-];
-
-/// The same at the right of a `.`
-pub(crate) static ODD_LINKS: [(&str, ExprKind, &[Part]); 1] = [(
-    "spoiled",
-    ExprKind::Spoiled,
-    &[BLANK, Part::Link],
-)];
-
-/// The same as a statement.
-pub(crate) static ODD_STMTS: [(&str, StmtKind, &[Part]); 1] = [(
-    "spoiled",
-    StmtKind::Spoiled,
-    &[BLANK, Part::Statement],
-)];
 
 /// Words of statements that may be names of variables too.
 pub(crate) static NAMES: [&str; 4] = ["noop", "call", "block", "share"];

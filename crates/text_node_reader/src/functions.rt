@@ -2,7 +2,8 @@
 
 use crate::error::ReadError;
 use crate::joined::both;
-use crate::letters::{Letters, Words};
+use crate::letters::Letters;
+use crate::marks::Marks;
 use rhai_ast::{FnAccess, ScriptFuncDef, Stmt};
 use rhai_base::{Ident, ImmutableString, Seq};
 use std::alloc::Global;
@@ -18,8 +19,8 @@ pub struct Script {
 }
 
 /// The script of a text.
-pub fn read_parts(alloc: Global, text: &str, words: Words) -> Result<Script, ReadError> {
-    let letters = Letters::new(alloc, text, words);
+pub fn read_parts<M: Marks>(alloc: Global, text: &str, marks: M) -> Result<Script, ReadError> {
+    let letters = Letters::new(alloc, text, marks);
     let statements = letters.lines();
     let functions = letters.functions();
     letters.whole(Some(Script {
@@ -28,7 +29,7 @@ pub fn read_parts(alloc: Global, text: &str, words: Words) -> Result<Script, Rea
     }))
 }
 
-impl<'a> Letters<'a> {
+impl<'a, M: Marks> Letters<'a, M> {
     fn functions(&self) -> Vec<Rc<ScriptFuncDef>> {
         let mut functions = Vec::new(self.alloc);
         for _ in 0..self.most() {
@@ -93,7 +94,7 @@ impl<'a> Letters<'a> {
 
     /// Adds a parameter, whose name should be a new one.
     fn push_param(&self, params: &mut Vec<ImmutableString>, param: Ident) {
-        if self.words == Words::Printed && params.contains(&param.name) {
+        if params.contains(&param.name) {
             let position = param.pos;
             self.refuse(ReadError::ParameterTwice { position });
         }

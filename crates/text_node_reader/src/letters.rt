@@ -3,20 +3,12 @@
 ghost use Rattle.std.specs.Prelude.{◌<◌, IfSome};
 
 use crate::error::ReadError;
+use crate::marks::Marks;
 use crate::place::Place;
 use rhai_base::{Boxed, INT, Ident, ImmutableString, Position};
 use std::alloc::Global;
 use std::cell::Cell;
 use std::str;
-
-/// Which words a text may have.
-#[derive(Clone, Copy, Debug, PartialEq, Eq)]
-pub enum Words {
-    /// Those of the notation, and names as in rhai.
-    Printed,
-    /// Also `spoiled` and `alone`, for nodes that no printed text shows, and names that rhai refuses.
-    Odd,
-}
 
 /// The words of the language, which are no names.
 static KEYWORDS: [&str; 25] = [
@@ -52,18 +44,18 @@ impl Kind {
 /// `&mut` to what borrows costs, and what a `?` does. What is read behind a fault means nothing, and `whole` refuses
 /// it.
 #[derive(Drop)]
-pub(crate) struct Letters<'a> {
+pub(crate) struct Letters<'a, M: Marks> {
     pub(crate) alloc: Global,
-    pub(crate) words: Words,
+    pub(crate) marks: M,
     place: Cell<Place<'a>>,
     fault: Cell<Option<ReadError>>,
 }
 
-impl<'a> Letters<'a> {
-    pub(crate) fn new(alloc: Global, text: &'a str, words: Words) -> Letters<'a> {
+impl<'a, M: Marks> Letters<'a, M> {
+    pub(crate) fn new(alloc: Global, text: &'a str, marks: M) -> Letters<'a, M> {
         Letters {
             alloc,
-            words,
+            marks,
             place: Cell::new(Place::first(text)),
             fault: Cell::new(None),
         }
@@ -160,7 +152,7 @@ impl<'a> Letters<'a> {
         self.place.set(place);
     }
 
-    fn rest(&self) -> &'a [u8] {
+    pub(crate) fn rest(&self) -> &'a [u8] {
         self.place().rest
     }
 
@@ -297,7 +289,7 @@ impl<'a> Letters<'a> {
 
     /// A name of these letters, which should be no word of the language.
     pub(crate) fn name_of(&self, word: &str, pos: Position) -> Option<Ident> {
-        if self.words == Words::Printed && KEYWORDS.contains(&word) {
+        if KEYWORDS.contains(&word) {
             self.refuse(ReadError::Keyword { position: pos });
         }
         self.ident_of(word, pos)

@@ -2,6 +2,7 @@
 
 use crate::forms::Flat;
 use crate::letters::Letters;
+use crate::marks::Marks;
 use crate::parts::Parts;
 use rhai_base::{ASTFlags, Ident, Namespace, OpAssignment, Position};
 use std::mem;
@@ -14,7 +15,7 @@ pub(crate) struct Called {
     pub(crate) captures: bool,
 }
 
-impl<'a> Letters<'a> {
+impl<'a, M: Marks> Letters<'a, M> {
     /// Reads a part that no other node stands in.
     pub(crate) fn flat(&self, part: Flat, parts: &mut Parts) {
         match part {

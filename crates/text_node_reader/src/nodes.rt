@@ -3,8 +3,8 @@
 use crate::forms::{ExprKind, StmtKind};
 use crate::joined::both;
 use crate::letters::Letters;
+use crate::marks::Marks;
 use crate::names::Called;
-use crate::odd;
 use crate::parts::Parts;
 use rhai_ast::{BinaryExpr, Expr, FnCallExpr, Literals, Stmt, StmtBlock, SwitchBlock};
 use rhai_base::{
@@ -13,7 +13,7 @@ use rhai_base::{
 use std::alloc::Global;
 use std::mem;
 
-impl<'a> Letters<'a> {
+impl<'a, M: Marks> Letters<'a, M> {
     /// The expression of this kind.
     pub(crate) fn node(&self, kind: ExprKind, parts: &mut Parts, pos: Position) -> Option<Expr> {
         match kind {
@@ -28,8 +28,6 @@ impl<'a> Letters<'a> {
             ExprKind::Call | ExprKind::Variable | ExprKind::Property | ExprKind::Method => {
                 self.of_name(kind, parts)
             }
-            ExprKind::Alone => Some(parts.expr()),
-            ExprKind::Spoiled => Some(odd::spoiled_expr(self.alloc, parts.expr())),
         }
     }
 
@@ -143,7 +141,6 @@ impl<'a> Letters<'a> {
             StmtKind::Import => self.import(parts, pos),
             StmtKind::Export => self.export(parts, pos),
             StmtKind::Share => self.share(parts),
-            StmtKind::Spoiled => Some(odd::spoiled_stmt(self.alloc, parts.statements.pop()?)),
         }
     }
 

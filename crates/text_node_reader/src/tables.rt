@@ -2,11 +2,12 @@
 
 use crate::error::ReadError;
 use crate::letters::Letters;
+use crate::marks::Marks;
 use indexmap::IndexMap;
 use rhai_ast::{CaseBlocksList, Cases, SwitchCasesCollection};
 use rhai_base::{Dynamic, INT, Position, RangeCase, Seq};
 
-impl<'a> Letters<'a> {
+impl<'a, M: Marks> Letters<'a, M> {
     /// Cases, ranges and default, with `|` between them; the table has no arms yet.
     pub(crate) fn table(&self) -> SwitchCasesCollection {
         let cases = self.cases();

@@ -3,7 +3,8 @@
 use crate::error::ReadError;
 use crate::forms::{self, ExprForm, ExprKind, Part, StmtForm, StmtKind, form_of};
 use crate::joined::both;
-use crate::letters::{Letters, Words};
+use crate::letters::Letters;
+use crate::marks::Marks;
 use crate::nodes;
 use crate::parts::Parts;
 use rhai_ast::{BinaryExpr, Expr, Stmt, StmtBlock};
@@ -14,30 +15,12 @@ use std::alloc::Global;
 const DEPTH: u32 = 1000;
 
 /// The statements of a text, each on a line.
-pub fn read_lines(alloc: Global, text: &str, words: Words) -> Result<Vec<Stmt>, ReadError> {
-    let letters = Letters::new(alloc, text, words);
+pub fn read_lines<M: Marks>(alloc: Global, text: &str, marks: M) -> Result<Vec<Stmt>, ReadError> {
+    let letters = Letters::new(alloc, text, marks);
     letters.whole(Some(letters.lines()))
 }
 
-/// The one expression of a text.
-pub fn read_expr(alloc: Global, text: &str, words: Words) -> Result<Expr, ReadError> {
-    let letters = Letters::new(alloc, text, words);
-    letters.whole(letters.expr(DEPTH))
-}
-
-/// The property or method of a text, as at the right of a `.`
-pub fn read_link(alloc: Global, text: &str, words: Words) -> Result<Expr, ReadError> {
-    let letters = Letters::new(alloc, text, words);
-    letters.whole(letters.link(DEPTH))
-}
-
-/// The one statement of a text.
-pub fn read_stmt(alloc: Global, text: &str, words: Words) -> Result<Stmt, ReadError> {
-    let letters = Letters::new(alloc, text, words);
-    letters.whole(letters.statement(DEPTH))
-}
-
-impl<'a> Letters<'a> {
+impl<'a, M: Marks> Letters<'a, M> {
     /// Statements, each on a line, up to a function or the end.
     pub(crate) fn lines(&self) -> Vec<Stmt> {
         let mut statements = Vec::new(self.alloc);
@@ -61,6 +44,9 @@ impl<'a> Letters<'a> {
     #[cycle(read)]
     fn expr(&self, depth: u32) -> Option<Expr> {
         let depth = self.below(depth)?;
+        if let Some(mark) = self.mark() {
+            return self.marked_expr(mark, self.expr(depth));
+        }
         let pos = self.here();
         if let Some(constant) = self.constant(pos) {
             return Some(constant);
@@ -78,6 +64,9 @@ impl<'a> Letters<'a> {
     #[cycle(read)]
     fn link(&self, depth: u32) -> Option<Expr> {
         let depth = self.below(depth)?;
+        if let Some(mark) = self.mark() {
+            return self.marked_expr(mark, self.link(depth));
+        }
         let pos = self.here();
         let mut parts = Parts::new(self.alloc);
         match self.link_form(&mut parts) {
@@ -92,6 +81,9 @@ impl<'a> Letters<'a> {
     #[cycle(read)]
     fn statement(&self, depth: u32) -> Option<Stmt> {
         let depth = self.below(depth)?;
+        if let Some(mark) = self.mark() {
+            return self.marked_stmt(mark, self.statement(depth));
+        }
         let pos = self.here();
         let mut parts = Parts::new(self.alloc);
         let (kind, form) = self.stmt_form();
@@ -252,11 +244,7 @@ impl<'a> Letters<'a> {
         if word == "this" {
             return Some((ExprKind::This, &[]));
         }
-        let form = self.step_form(&forms::EXPRS, word);
-        if form.is_none() && self.words == Words::Odd {
-            return form_of(&forms::ODD_EXPRS, word);
-        }
-        form
+        self.step_form(&forms::EXPRS, word)
     }
 
     /// The form of a word that has its parts in parentheses.
@@ -278,20 +266,12 @@ impl<'a> Letters<'a> {
         if word.is_empty() {
             return None;
         }
-        let form = self.link_word(word);
+        let form = self.step_form(&forms::LINKS, word);
         if form.is_some() {
             return form;
         }
         parts.called = self.called(word, pos);
         Some(self.named(ExprKind::Method, ExprKind::Property))
-    }
-
-    fn link_word(&self, word: &str) -> Option<ExprForm> {
-        let form = self.step_form(&forms::LINKS, word);
-        if form.is_none() && self.words == Words::Odd {
-            return form_of(&forms::ODD_LINKS, word);
-        }
-        form
     }
 
     /// One kind before a `(`, which is gone past, and another kind elsewhere.
@@ -314,21 +294,13 @@ impl<'a> Letters<'a> {
                 }
             }
         }
-        match self.stmt_word(word) {
+        match form_of(&forms::STMTS, word) {
             Some(form) if !self.is_name(word) => form,
             _ => {
                 self.come_back(before);
                 (StmtKind::Expr, &forms::ALONE)
             }
         }
-    }
-
-    fn stmt_word(&self, word: &str) -> Option<StmtForm> {
-        let form = form_of(&forms::STMTS, word);
-        if form.is_none() && self.words == Words::Odd {
-            return form_of(&forms::ODD_STMTS, word);
-        }
-        form
     }
 
     /// Whether a word before this is a name: what is called, or a variable that is assigned to or stands alone.

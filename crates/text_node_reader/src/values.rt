@@ -2,7 +2,8 @@
 
 use crate::error::ReadError;
 use crate::joined::both;
-use crate::letters::{Letters, Words};
+use crate::letters::Letters;
+use crate::marks::{Marks, NoMarks};
 use rhai_base::{Dynamic, FnPtr, INT, ImmutableString, Seq, StringMap};
 use std::alloc::Global;
 
@@ -11,12 +12,12 @@ const DEPTH: u32 = 400;
 
 /// The value of a text. A pointer has no values of its own.
 pub fn read_value(alloc: Global, text: &str) -> Result<Dynamic, ReadError> {
-    let letters = Letters::new(alloc, text, Words::Printed);
+    let letters = Letters::new(alloc, text, NoMarks);
     let value = letters.value();
     letters.whole(letters.wanted(value, "a value"))
 }
 
-impl<'a> Letters<'a> {
+impl<'a, M: Marks> Letters<'a, M> {
     /// A value, where one stands next.
     pub(crate) fn value(&self) -> Option<Dynamic> {
         self.value_within(DEPTH)

@@ -17,7 +17,7 @@ use rhai_script::{AST, FnKey, FnLib};
 use std::alloc::Global;
 use std::rc::Rc;
 pub use text_node_reader::ReadError;
-use text_node_reader::{Script, Words, position_behind, read_lines, read_parts};
+use text_node_reader::{NoMarks, Script, position_behind, read_lines, read_parts};
 use text_notation::{push_lines, push_script};
 
 /// The script of a text: each statement on a line, then each function on a line, as `push_script` prints them.
@@ -25,7 +25,7 @@ use text_notation::{push_lines, push_script};
 pub fn read_script(alloc: Global, text: &str) -> Result<AST, ReadError>
     ensures { IfOk result (λ script. AreLinesOf text.now (script_text (script_of script))) }
 {
-    let script = made(alloc, read_parts(alloc, text, Words::Printed)?)?;
+    let script = made(alloc, read_parts(alloc, text, NoMarks)?)?;
     let mut printed = String::new(alloc);
     push_script(&script, &mut printed)?;
     lines_compared(text, printed.as_str())?;
@@ -36,7 +36,7 @@ pub fn read_script(alloc: Global, text: &str) -> Result<AST, ReadError>
 pub fn read_statements(alloc: Global, text: &str) -> Result<Vec<Stmt>, ReadError>
     ensures { IfOk result (λ statements. AreLinesOf text.now (lines_text (stmts_of statements.items))) }
 {
-    let statements = read_lines(alloc, text, Words::Printed)?;
+    let statements = read_lines(alloc, text, NoMarks)?;
     let mut printed = String::new(alloc);
     push_lines(statements.as_slice(), &mut printed)?;
     lines_compared(text, printed.as_str())?;

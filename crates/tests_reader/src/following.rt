@@ -1,6 +1,6 @@
 //! Whether the run of what a script is optimised to follows that of the script.
 
-use rhai_run::{HostCall, RunEnd, RunReport};
+use run_host::{HostCall, RunEnd, RunReport};
 
 /// What keeps a run from following the one before; none where it follows. A run that ended is followed by one that
 /// ends so, with the same variables, exports and calls and at least as many turns left; one that did not end by one
