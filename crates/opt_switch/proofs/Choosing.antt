@@ -33,6 +33,12 @@ choice-step c as' i is = by c (arm_decides (arm_of as' i)) refl where
   by (Only j) None h = refl
   by Several d h = refl
 
+pub choice-end : (c : Choice) (as' : Arms) → choice_behind c as' [] ≡ c
+choice-end Nothing as' = refl
+choice-end (Answer j) as' = refl
+choice-end (Only j) as' = refl
+choice-end Several as' = refl
+
 -- ---- ranges
 
 no_int : (e n : ℤ) → false ≡ int_le e n && int_lt n e
