@@ -14,20 +14,24 @@ use Rattle.opt_steps.specs.NodeSteps.{ExprStep}
 use Rattle.opt_steps.specs.Standing.{may_stand}
 use Rattle.ast_types.proofs.OtherKinds.{NoArray, NoBraces, NoCall, NoVariable, NoAnd, NoOr, NoCoalesce, NoDot, NoIndex, NoText, NoMap, NoIf, NoBlock, NoExpression, NoCallStatement, NoWhile, NoAssignment, NoTry, NoSwitch, NoShare}
 use Rattle.opt_steps.proofs.Stepping.{expr_stays, stmt_stays}
-use Rattle.opt_rules.specs.Settled.{is_braces, known_value, is_settled_in_braces}
+use Rattle.opt_rules.specs.Settled.{known_value, is_call_statement, is_settled, is_settled_in_braces}
 
 pub no_known_value : (ks : List Known) {x : declared_expr.Expr} {e : Expr} → ExprCase x e → NoVariable x → None ≡ known_value ks e
 no_known_value ks (variable_case v i p) f = absurd (f v i p refl)
 no_known_value ks _ f = refl
 
-pub not_braces : {x : declared_expr.Expr} {e : Expr} → ExprCase x e → NoBraces x → false ≡ is_braces e
-not_braces (braces_case b) h = absurd (h b refl)
-not_braces _ h = refl
+pub others_stay : (p : Place) {x : declared_expr.Expr} {e : Expr} → ExprCase x e → NoBraces x → is_settled p e ≡ true
+others_stay p (braces_case b) h = absurd (h b refl)
+others_stay p _ h = refl
 
-pub settled_in_braces : (p : Place) {x : declared_stmt.Stmt} {s : Stmt} → StmtCase x s → NoExpression x → NoCallStatement x → true ≡ is_settled_in_braces p s
+pub settled_in_braces : (p : Place) {x : declared_stmt.Stmt} {s : Stmt} → StmtCase x s → NoExpression x → NoCallStatement x → is_settled_in_braces p s ≡ true
 settled_in_braces p (expression_case e) h i = absurd (h e refl)
 settled_in_braces p (call_statement_case c q) h i = absurd (i c q refl)
 settled_in_braces p _ h i = refl
+
+pub no_call_statement : {x : declared_stmt.Stmt} {s : Stmt} → StmtCase x s → NoCallStatement x → is_call_statement s ≡ false
+no_call_statement (call_statement_case c q) h = absurd (h c q refl)
+no_call_statement _ h = refl
 
 -- a call is neither a place nor a literal unit
 pub call_stands : (p : Place) (c : Callee) (es : Exprs) → may_stand p (FnCall c es) ≡ true

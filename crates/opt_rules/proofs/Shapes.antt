@@ -1,27 +1,29 @@
 -- Arrays, and braces by what they hold.
-use Rattle.std.proofs.Common.{◌≡◌, ◌≢◌, ◌≤◌, Bool, true, false, not, ◌&&◌, List, [], ◌∷◌, length, map, ◌↔◌, IsTrue, Option, Some, None, refl, sym, ap, ◌∙◌, subst, arith}
+use Rattle.std.proofs.Common.{◌≡◌, ◌<◌, ◌≤◌, Bool, true, false, not, ◌&&◌, List, [], ◌∷◌, length, get_or, set, map, ◌↔◌, IsTrue, Option, Some, None, refl, sym, ap, ◌∙◌, subst, arith}
 use Rattle.std.specs.Prelude.{is_some}
 use Rattle.ast_types.specs.declared.stmt.Stmt as declared_stmt
-use Rattle.ast_types.specs.Reading.{stmts_of}
+use Rattle.ast_types.specs.declared.expr.Expr as declared_expr
+use Rattle.ast_types.specs.Reading.{stmt_of, stmts_of}
 use Rattle.base_tokens.specs.declared.ident.Ident.{Ident}
 use Rattle.theory_rewriting.specs.Known.{Known, look}
 use Rattle.rhai_base.specs.Value.{Text, Value, ArrayV, values, is_unit}
 use Rattle.theory_meaning.specs.Constants.{array_value, constant_values, constant_for, constant_value, is_constant, is_literal_unit}
 use Rattle.theory_meaning.specs.Engine.{Engine}
-use Rattle.theory_meaning.specs.Queries.{is_unit as is_unit_expr}
-use Rattle.theory_meaning.specs.Tree.{Expr, ArrayOf, UnitConstant, Variable, ThisPtr, BlockExpr, Exprs, Stmt, ExprStmt, Stmts, no_stmts, stmt}
+use Rattle.theory_meaning.specs.Queries.{is_eval, is_unit as is_unit_expr}
+use Rattle.theory_meaning.specs.Tree.{Callee, Expr, ArrayOf, UnitConstant, Variable, ThisPtr, BlockExpr, FnCall, Exprs, ExprStmt, FnCallStmt, Stmts, no_stmts, stmt}
 use Rattle.theory_rewriting.specs.Context.{Context}
 use Rattle.theory_rewriting.specs.Residue.{holds_constant}
 use Rattle.theory_rewriting.specs.Rules as rule
 use Rattle.theory_rewriting.specs.Rules.{ExprRule}
-use Rattle.theory_rewriting.specs.Steps.{Progress, Place, Anywhere, AsBase, AsGuard, MayBecome}
-use Rattle.theory_rewriting.proofs.Keeping.{keeps_constant, may_be_constant}
+use Rattle.theory_rewriting.specs.Steps.{Progress, Place, Anywhere, AsBase, AsGuard, MayBecome, ExprRewrite}
+use Rattle.theory_rewriting.proofs.Keeping.{keeps_constant, keeps_unit, keeps_braced, keeps_braced_call, may_be_constant}
 use Rattle.opt_steps.specs.Folded.{FoldsConstant}
 use Rattle.opt_steps.specs.NodeSteps.{Puts, ExprStep}
 use Rattle.opt_steps.specs.Standing.{is_root, may_stand}
-use Rattle.opt_steps.proofs.Places.{not-false, not-true}
+use Rattle.opt_steps.proofs.Places.{not-false, not-true, stands}
 use Rattle.opt_steps.proofs.Stepping.{expr_stays}
-use Rattle.opt_rules.specs.Settled.{known_value, is_array, is_braces, value_of_array, is_settled_braces, is_settled}
+use Rattle.opt_rules.specs.Settled.{known_value, is_array, is_braces, value_of_array, is_settled_braces, is_settled, Becomes}
+use Rattle.opt_rules.proofs.Kept.{call_stands}
 
 -- ---- arrays
 
@@ -78,23 +80,33 @@ array_step false s s' e e' i f r p =
     subst (λ a. ExprStep false r p s s' e a) (sym f.2)
     (subst (λ t. ExprStep false r p s t e e) (sym f.1) (array_stays e i (none_of (constant_value e) f.0 ∙ array_constant e i) r p))
 
--- ---- lists of none, of one and of more
-
--- a test that says yes of each list of two or more
-abbrev SettlesLong : (Stmts → Bool) → Type 0
-SettlesLong f = (s t : Stmt) (ss : Stmts) → true ≡ f (stmt s (stmt t ss))
-
-pub settled-long : (f : Stmts → Bool) → SettlesLong f → (l : List declared_stmt.Stmt) → 2 ≤ length l → true ≡ f (stmts_of l)
-settled-long f g [] h = absurd (omega arith)
-settled-long f g (x ∷ []) h = absurd (omega arith)
-settled-long f g (x ∷ y ∷ l) h = g _ _ _
-
-pub unsettled-none : (f : Stmts → Bool) → SettlesLong f → (l : List declared_stmt.Stmt) → length l ≢ 1 → f (stmts_of l) ≡ false → stmts_of l ≡ no_stmts
-unsettled-none f g [] n h = refl
-unsettled-none f g (x ∷ []) n h = absurd (n refl)
-unsettled-none f g (x ∷ y ∷ l) n h = absurd (let z : true ≡ false = g _ _ _ ∙ h in cc)
-
 -- ---- braces
+
+pub empty_becomes : (p : Place) → may_stand p UnitConstant ≡ true → ExprRewrite p (BlockExpr no_stmts) UnitConstant
+empty_becomes p h = record { rule = λ k. rule.braces_empty; stays = stands p _ _ refl refl h; keeps = keeps_unit _ }
+
+pub expression_becomes : (p : Place) (e : Expr) → may_stand p e ≡ true → ExprRewrite p (BlockExpr (stmt (ExprStmt e) no_stmts)) e
+expression_becomes p e h = record { rule = λ k. rule.braces_of_expression; stays = stands p _ _ refl refl h; keeps = keeps_braced e }
+
+pub call_becomes : (p : Place) (c : Callee) (es : Exprs) → is_eval c ≡ false → ExprRewrite p (BlockExpr (stmt (FnCallStmt c es) no_stmts)) (FnCall c es)
+call_becomes p c es h = record { rule = λ k. rule.braces_of_call h; stays = stands p _ _ refl refl (call_stands p c es); keeps = keeps_braced_call c es }
+
+-- by how many statements they hold
+pub many_stay : (p : Place) (l : List declared_stmt.Stmt) → 1 < length l → is_settled_braces p (stmts_of l) ≡ true
+many_stay p [] h = absurd (omega arith)
+many_stay p (x ∷ []) h = absurd (omega arith)
+many_stay p (x ∷ y ∷ l) h = refl
+
+pub one_becomes : (p : Place) (xs ys : List declared_stmt.Stmt) (x y : declared_stmt.Stmt) (m : Option declared_expr.Expr) → length xs ≤ 1 → 0 < length xs → x ≡ get_or xs 0 x → ys ≡ set xs 0 y → Becomes m p (BlockExpr (stmt (stmt_of x) no_stmts)) (BlockExpr (stmt (stmt_of y) no_stmts)) → Becomes m p (BlockExpr (stmts_of xs)) (BlockExpr (stmts_of ys))
+one_becomes p [] ys x y m le lt h k q = absurd (omega arith)
+one_becomes p (z ∷ []) ys x y m le lt h k q =
+    subst (λ (l : List declared_stmt.Stmt). Becomes m p (BlockExpr (stmt (stmt_of z) no_stmts)) (BlockExpr (stmts_of l))) (sym k)
+    (subst (λ w. Becomes m p (BlockExpr (stmt (stmt_of w) no_stmts)) (BlockExpr (stmt (stmt_of y) no_stmts))) h q)
+one_becomes p (z ∷ w ∷ xs) ys x y m le lt h k q = absurd (omega arith)
+
+pub none_becomes : (p : Place) (xs : List declared_stmt.Stmt) (m : Option declared_expr.Expr) → length xs ≤ 0 → Becomes m p (BlockExpr no_stmts) (BlockExpr no_stmts) → Becomes m p (BlockExpr (stmts_of xs)) (BlockExpr (stmts_of xs))
+none_becomes p [] m h q = q
+none_becomes p (x ∷ xs) m h q = absurd (omega arith)
 
 -- braces that stay hold no constant alone
 root_no_constant : (e : Expr) → is_root e ≡ true → is_constant e && not (is_literal_unit e) ≡ false
@@ -111,7 +123,7 @@ barred_no_constant Anywhere e h = absurd cc
 barred_no_constant AsBase e h = root_no_constant e (not-false (is_root e) (not-true _ h))
 barred_no_constant AsGuard e h = unit_no_constant e (not-false (is_unit_expr e) (not-true _ h))
 
-pub braces-settled : (p : Place) (ss : Stmts) → is_settled_braces p ss ≡ true → holds_constant ss ≡ false
+braces-settled : (p : Place) (ss : Stmts) → is_settled_braces p ss ≡ true → holds_constant ss ≡ false
 braces-settled p no_stmts h = refl
 braces-settled p (stmt (ExprStmt e) no_stmts) h = barred_no_constant p e h
 braces-settled p (stmt _ no_stmts) h = refl
@@ -140,9 +152,12 @@ braces_rules p (rule.chain_goes_on true next g r n q) h m = h
 braces_rules p (rule.chain_goes_on false next g r n q) h m = h
 braces_rules p _ h m = h
 
-pub braces_stay : {p : Place} {s : Progress} (e : Expr) → is_braces e ≡ true → is_settled p e ≡ true → (r : Engine) → ExprStep false r p s s e e
-braces_stay {p = p} (BlockExpr ss) i h r = expr_stays (braces-settled p ss h) refl (λ q. refl) (λ n e' q m. braces_rules p q h m)
-braces_stay _ i h r = absurd cc
+kept : {p : Place} {s : Progress} (e : Expr) → is_braces e ≡ true → is_settled p e ≡ true → (r : Engine) → ExprStep false r p s s e e
+kept {p = p} (BlockExpr ss) i h r = expr_stays (braces-settled p ss h) refl (λ q. refl) (λ n e' q m. braces_rules p q h m)
+kept _ i h r = absurd cc
+
+pub braces_stay : {p : Place} {s : Progress} {e e' : Expr} → is_braces e ≡ true → Becomes None p e e' → (r : Engine) → ExprStep false r p s s e e'
+braces_stay {p = p} {s = s} {e = e} i q r = subst (λ a. ExprStep false r p s s e a) (sym q.0) (kept e i q.1 r)
 
 -- ---- names without a namespace
 

@@ -2,23 +2,21 @@
 
 #![tactic(auto, using(ast_types::specs::Reading::shapes))]
 
-ghost use Rattle.std.specs.Prelude.{◌≡◌, IfOk, true, false};
+ghost use Rattle.std.specs.Prelude.{◌≡◌, IfOk, true};
 ghost use Rattle.opt_known.specs.State.{progress};
-ghost use Rattle.ast_types.specs.Reading.{callee_of, expr_of, exprs_of, stmt_of, stmts_of};
+ghost use Rattle.ast_types.specs.Reading.{expr_of, stmt_of, stmts_of};
 ghost use Rattle.theory_meaning.specs.Engine.{Engine};
-ghost use Rattle.theory_meaning.specs.Queries.{is_eval};
-ghost use Rattle.theory_meaning.specs.Tree.{BlockExpr, ExprStmt, FnCallStmt, UnitConstant, no_stmts, stmt};
+ghost use Rattle.theory_meaning.specs.Tree.{BlockExpr, ExprStmt, no_stmts, stmt};
 ghost use Rattle.opt_steps.specs.NodeSteps.{ExprStep};
 ghost use Rattle.opt_steps.specs.Places.{place_of};
-ghost use Rattle.opt_steps.specs.Standing as standing;
 ghost use Rattle.opt_rules.specs.Settled as settled;
+ghost use Rattle.opt_rules.specs.Settled.{Becomes};
 ghost use Rattle.theory_rewriting.specs.Steps as steps;
-ghost use Rattle.theory_rewriting.specs.Steps.{ExprRewrite};
 
-use ast_nodes::{only_statement, put_expr};
+use ast_nodes::put_expr;
 use opt_steps::{OptimizerState, Place, fold_constant, may_be_unit, may_stand, note_fired};
-use rhai_ast::{Expr, FnCallExpr, Stmt, StmtBlock, StmtQueries, Take};
-use rhai_base::{Boxed, OutOfMemory, Position, Span};
+use rhai_ast::{Expr, Stmt, StmtBlock, StmtQueries, Take};
+use rhai_base::{OutOfMemory, Span};
 use std::alloc::Global;
 
 /// An array of constants is its value. It says whether it was one.
@@ -36,115 +34,81 @@ pub(crate) fn array_of_constants(
     fold_constant(alloc, state, expr)
 }
 
-/// Braces around nothing are unit.
-fn braces_empty(span: Span) -> Expr
-    ensures { (p : steps.Place) → standing.may_stand p UnitConstant ≡ true
-        → ExprRewrite p (BlockExpr no_stmts) (expr_of result) }
+/// Braces around nothing are unit, where that may stand.
+fn braces_empty(place: Place, span: Span) -> Option<Expr>
+    ensures { Becomes result (place_of place) (BlockExpr no_stmts) (BlockExpr no_stmts) }
 {
-    Expr::Unit(span.start())
+    if may_be_unit(place) {
+        Some(Expr::Unit(span.start()))
+    } else {
+        None
+    }
 }
 
-/// Braces around one expression are that expression.
-fn braces_of_expression(expr: Expr) -> Expr
-    ensures { (p : steps.Place) → standing.may_stand p (expr_of expr) ≡ true
-        → ExprRewrite p (BlockExpr (stmt (ExprStmt (expr_of expr)) no_stmts)) (expr_of result) }
+/// Braces around one expression are that expression, where it may stand.
+fn braces_of_expression(place: Place, expr: &mut Expr) -> Option<Expr>
+    ensures { Becomes result (place_of place) (BlockExpr (stmt (ExprStmt (expr_of expr.old)) no_stmts))
+        (BlockExpr (stmt (ExprStmt (expr_of expr.new)) no_stmts)) }
 {
-    expr
+    if may_stand(place, expr) {
+        Some(expr.take())
+    } else {
+        None
+    }
 }
 
 /// Braces around one call are that call, unless it belongs to its block.
-fn braces_of_call(call: Boxed<FnCallExpr>, pos: Position) -> Expr
-    requires { is_eval (callee_of call) ≡ false }
+fn braces_of_call(statement: &mut Stmt) -> Option<Expr>
+    requires { settled.is_call_statement (stmt_of statement.now) ≡ true }
     ensures { (p : steps.Place)
-        → ExprRewrite p (BlockExpr (stmt (FnCallStmt (callee_of call) (exprs_of call.args)) no_stmts)) (expr_of result) }
+        → Becomes result p (BlockExpr (stmt (stmt_of statement.old) no_stmts))
+        (BlockExpr (stmt (stmt_of statement.new) no_stmts)) }
 {
-    Expr::FnCall(call, pos)
-}
-
-/// Braces around one statement that do not stay.
-fn braces_of_one(place: Place, only: Stmt) -> Expr
-    requires { settled.is_settled_in_braces (place_of place) (stmt_of only) ≡ false }
-    ensures { ExprRewrite (place_of place) (BlockExpr (stmt (stmt_of only) no_stmts)) (expr_of result) }
-{
-    match only {
-        Stmt::Expr(expr) => braces_of_expression(expr.into_inner()),
-        Stmt::FnCall(call, pos) => braces_of_call(call, pos),
-        // an expression or a call, as was asked by reference before it was taken out
+    if statement.is_block_dependent() {
+        return None;
+    }
+    match statement.take() {
+        Stmt::FnCall(call, pos) => Some(Expr::FnCall(call, pos)),
+        // a call can be moved out of its statement only once that is taken, and the type forgets which it was
         _ => unreachable!(),
     }
 }
 
-/// Whether braces around a statement alone stay.
-fn is_settled_in_braces(place: Place, stmt: &Stmt) -> bool
-    ensures { result ≡ settled.is_settled_in_braces (place_of place) (stmt_of stmt.now) }
+/// What braces around one statement are, where that may stand.
+fn braces_of_one(place: Place, statement: &mut Stmt) -> Option<Expr>
+    ensures { Becomes result (place_of place) (BlockExpr (stmt (stmt_of statement.old) no_stmts))
+        (BlockExpr (stmt (stmt_of statement.new) no_stmts)) }
 {
-    match stmt {
-        Stmt::Expr(expr) => !may_stand(place, expr.get()),
-        Stmt::FnCall(_, _) => stmt.is_block_dependent(),
-        _ => true,
+    match statement {
+        Stmt::Expr(expr) => braces_of_expression(place, expr.get_mut()),
+        Stmt::FnCall(_, _) => braces_of_call(statement),
+        _ => None,
     }
 }
 
-/// Whether braces around these statements stay.
-fn is_settled_braces(place: Place, statements: &[Stmt]) -> bool
-    ensures { result ≡ settled.is_settled_braces (place_of place) (stmts_of statements.now) }
+/// What braces around these statements are, where that may stand.
+fn braces_of_block(place: Place, block: &mut StmtBlock) -> Option<Expr>
+    ensures { Becomes result (place_of place) (BlockExpr (stmts_of block.old.block))
+        (BlockExpr (stmts_of block.new.block)) }
 {
-    match statements {
-        [] => !may_be_unit(place),
-        [stmt] => is_settled_in_braces(place, stmt),
-        _ => true,
+    if block.len() > 1 {
+        return None;
     }
-}
-
-/// Braces that do not stay.
-fn reduce_braces(place: Place, block: StmtBlock) -> Expr
-    requires { settled.is_settled_braces (place_of place) (stmts_of block.block) ≡ false }
-    ensures { ExprRewrite (place_of place) (BlockExpr (stmts_of block.block)) (expr_of result) }
-{
     let span = block.span();
-    match only_statement(block) {
-        Some(stmt) => braces_of_one(place, stmt),
-        None => braces_empty(span),
+    match block.statements_mut().get_mut(0) {
+        Some(statement) => braces_of_one(place, statement),
+        None => braces_empty(place, span),
     }
 }
 
-/// Whether an expression in braces stays.
-fn is_settled(place: Place, expr: &Expr) -> bool
-    requires { settled.is_braces (expr_of expr.now) ≡ true }
-    ensures { result ≡ settled.is_settled (place_of place) (expr_of expr.now) }
+/// What braces are, where that may stand; nothing else becomes anything.
+fn braces_become(place: Place, expr: &mut Expr) -> Option<Expr>
+    ensures { Becomes result (place_of place) (expr_of expr.old) (expr_of expr.new) }
 {
     match expr {
-        Expr::Stmt(block) => is_settled_braces(place, block.get().statements()),
-        // braces, as the caller knows
-        _ => unreachable!(),
+        Expr::Stmt(block) => braces_of_block(place, block.get_mut()),
+        _ => None,
     }
-}
-
-/// What braces that do not stay are rewritten to.
-fn rewritten(place: Place, expr: Expr) -> Expr
-    requires braces { settled.is_braces (expr_of expr) ≡ true }
-    requires goes { settled.is_settled (place_of place) (expr_of expr) ≡ false }
-    ensures { ExprRewrite (place_of place) (expr_of expr) (expr_of result) }
-{
-    match expr {
-        Expr::Stmt(block) => reduce_braces(place, block.into_inner()),
-        // braces, as was asked by reference before they were taken out
-        _ => unreachable!(),
-    }
-}
-
-/// Takes out braces that do not stay, and puts in their place what they are rewritten to.
-#[inline(never)]
-fn rewrite_braces(state: &mut OptimizerState<'_>, expr: &mut Expr, place: Place)
-    requires braces { settled.is_braces (expr_of expr.now) ≡ true }
-    requires goes { settled.is_settled (place_of place) (expr_of expr.now) ≡ false }
-    ensures dirty { (progress state.new).is_dirty ≡ true }
-    ensures known { (progress state.new).known ≡ (progress state.old).known }
-    ensures rewritten { ExprRewrite (place_of place) (expr_of expr.old) (expr_of expr.new) }
-{
-    note_fired(state);
-    let rewritten = rewritten(place, expr.take());
-    put_expr(expr, rewritten);
 }
 
 /// Braces around nothing, around one call, or around one expression that may stand there.
@@ -154,9 +118,12 @@ pub(crate) fn step_braces(state: &mut OptimizerState<'_>, expr: &mut Expr, place
         → ExprStep result r (place_of place) (progress state.old) (progress state.new) (expr_of expr.old)
         (expr_of expr.new) }
 {
-    if is_settled(place, expr) {
-        return false;
+    match braces_become(place, expr) {
+        Some(made) => {
+            note_fired(state);
+            put_expr(expr, made);
+            true
+        }
+        None => false,
     }
-    rewrite_braces(state, expr, place);
-    true
 }

@@ -1,8 +1,9 @@
-use Rattle.std.proofs.Common.{refl}
-use Rattle.theory_rewriting.specs.Rules.{braces_of_expression}
-use Rattle.theory_rewriting.proofs.Keeping.{keeps_braced}
-use Rattle.opt_steps.proofs.Places.{stands}
+use Rattle.std.proofs.Common.{refl, sym, ap, ◌∙◌}
+use Rattle.ast_types.specs.Reading.{expr_of}
+use Rattle.opt_steps.specs.Places.{place_of}
+use Rattle.opt_steps.proofs.Stepping.{expr_rewrite_as}
+use Rattle.opt_rules.proofs.Shapes.{expression_becomes}
 use Rattle.opt_rules.proofs.expressions.braces_of_expression.Goals as goal
 
-pub returns : goal.returns
-returns c = λ p h. record { rule = λ k. braces_of_expression; stays = stands p _ _ refl refl h; keeps = keeps_braced _ }
+pub returns-then-may_stand : goal.returns-then-may_stand
+returns-then-may_stand c = expr_rewrite_as refl (ap expr_of c.take.ensures.taken) (expression_becomes (place_of c.args.place) (expr_of c.args.expr.now) (sym c.may_stand.ensures ∙ c.if-may_stand.true))

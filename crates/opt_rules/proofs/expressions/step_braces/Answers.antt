@@ -1,10 +1,11 @@
-use Rattle.std.proofs.Common.{sym}
-use Rattle.opt_steps.proofs.Stepping.{expr_put}
+use Rattle.std.proofs.Common.{refl, ap}
+use Rattle.ast_types.specs.Reading.{expr_of}
+use Rattle.opt_steps.proofs.Stepping.{expr_put, expr_rewrite_as}
 use Rattle.opt_rules.proofs.Shapes.{braces_stay}
 use Rattle.opt_rules.proofs.expressions.step_braces.Goals as goal
 
-pub returns-then-is_settled : goal.returns-then-is_settled
-returns-then-is_settled c = braces_stay _ c.requires (sym c.if-is_settled.ensures)
+pub returns-in-Some : goal.returns-in-Some
+returns-in-Some c = λ r. expr_put c.note_fired.ensures.dirty c.note_fired.ensures.known (expr_rewrite_as refl (ap expr_of c.put_expr.ensures) (rw c.in-Some.is at c.braces_become.ensures))
 
-pub returns : goal.returns
-returns c = λ r. expr_put c.rewrite_braces.ensures.dirty c.rewrite_braces.ensures.known c.rewrite_braces.ensures.rewritten
+pub returns-in-None : goal.returns-in-None
+returns-in-None c = braces_stay c.requires (rw c.in-None.is at c.braces_become.ensures)

@@ -1,7 +1,0 @@
-use Rattle.ast_types.proofs.Cases.{stmt_cases}
-use Rattle.opt_steps.specs.Places.{place_of}
-use Rattle.opt_rules.proofs.Kept.{settled_in_braces}
-use Rattle.opt_rules.proofs.expressions.is_settled_in_braces.Goals as goal
-
-pub returns-in_default : goal.returns-in_default
-returns-in_default c = settled_in_braces (place_of c.args.place) (stmt_cases c.args.stmt.now) c.in_default.not-Expr c.in_default.not-FnCall
