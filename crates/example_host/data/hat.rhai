@@ -1,0 +1,3 @@
+let said = "";
+try { price("hat"); } catch (why) { said = why; } // the shop throws
+said

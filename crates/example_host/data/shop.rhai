@@ -1,0 +1,4 @@
+import "shop" as shop;
+let tea = price("tea");
+let cup = price("cup");
+(tea + cup) * shop::rate
