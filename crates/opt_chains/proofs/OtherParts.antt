@@ -96,10 +96,6 @@ no_member r optional v (property_case y p) h m = absurd (h y p refl)
 no_member r optional v (method_call_case c p) h m = absurd (m c p refl)
 no_member r optional v _ h m = refl
 
-pub no_known_value : (ks : List Known) {x : declared_expr.Expr} {e : Expr} → ExprCase x e → NoVariable x → None ≡ known_value ks e
-no_known_value ks (variable_case v i p) f = absurd (f v i p refl)
-no_known_value ks _ f = refl
-
 pub no_known_property : (ks : List Known) (b : Expr) {x : declared_expr.Expr} {e : Expr} → ExprCase x e → NoProperty x → None ≡ known_answer ks true b e
 no_known_property ks b (property_case y p) h = absurd (h y p refl)
 no_known_property ks b _ h = refl

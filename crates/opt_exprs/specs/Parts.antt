@@ -7,6 +7,7 @@ use Rattle.theory_meaning.specs.Engine.{Engine}
 use Rattle.theory_meaning.specs.Tree.{Expr, DynamicConstant, StringConstant, UnitConstant, InterpolatedString, MapOf, Exprs, no_exprs, expr}
 use Rattle.ast_types.specs.Reading.{expr_of, exprs_of}
 use Rattle.theory_rewriting.specs.Operands.{TextTo}
+use Rattle.theory_rewriting.specs.Residue.{ExprParts}
 use Rattle.theory_rewriting.specs.Steps.{Progress, Place}
 use Rattle.opt_steps.specs.NodeSteps.{ExprStep}
 use Rattle.opt_steps.specs.Passes.{InTurn, NodePass}
@@ -111,7 +112,7 @@ NodeChange false e e' = (e' ≡ e) × (parts_change e ≡ false)
 
 -- ---- literals
 
--- whether a constant was put for its value, wherever it stands; if not, it is none, and nothing changed
+-- whether a constant was put for its value, wherever it stands; if not, it is none, its parts being reduced, and nothing changed
 abbrev pub Folds : Bool → Progress → Progress → Expr → Expr → Type 0
 Folds true s s' e e' = (r : Engine) (p : Place) → ExprStep true r p s s' e e'
-Folds false s s' e e' = (constant_value e ≡ None) × (s' ≡ s) × (e' ≡ e)
+Folds false s s' e e' = ((r : Engine) → ExprParts r e → constant_value e ≡ None) × (s' ≡ s) × (e' ≡ e)

@@ -1,6 +1,6 @@
 -- What is bound to names after a map from texts has changed at one.
 use Rattle.std.proofs.Common.{◌≡◌, Bool, true, false, cond, ◌-◌, List, [], ◌∷◌, ◌++◌, length, take, map, append-nil, arith, Option, Some, None, refl, sym, ap, ◌∙◌}
-use Rattle.std.specs.Prelude.{String, reverse, bytes_eq, option_to_list}
+use Rattle.std.specs.Prelude.{String, is_some, reverse, bytes_eq, option_to_list}
 use Rattle.std.specs.BTreeMap.{BTreeMap, UpdatesBy, get_by_text}
 use Rattle.std.specs.Cmp.Lexicographic.{slice_cmp}
 use Rattle.std.specs.Ordering.{nat_cmp}
@@ -14,7 +14,7 @@ use Rattle.std.proofs.lemmas.Map.Text.{btree_map_updates_text}
 use Rattle.std.proofs.lemmas.Slice.Eq.{bytes_eq-Decides}
 use Rattle.base_text.specs.Text.{Text}
 use Rattle.rhai_base.specs.declared.dynamic.Dynamic.{Dynamic}
-use Rattle.opt_known.specs.Bindings.{Held, read, older, with_newest, without_newest, newest_first, held, held_in}
+use Rattle.opt_known.specs.Bindings.{Held, read, laid, older, with_newest, without_newest, newest_first, held, held_in}
 
 abbrev pub Bound : Type 0
 Bound = Vec (Option (Cow Dynamic)) Global
@@ -55,17 +55,27 @@ same-by : (x : Text) (f : Held) → by x (λ l. l) f ≡ f
 same-by x f = fun_ext (λ y. same-cond (bytes_eq x y) (f y))
 
 -- a list of a name that had none
-pub held-made : (m n : Map) (x : Text) (v : Bound) (b : Option (Cow Dynamic)) → v.items ≡ b ∷ [] → get_by_text m x ≡ None → Written m n x (Some v) → held_in n ≡ with_newest x (read b) (held_in m)
-held-made m n x v b e o u =
-    held-written m n x (Some v) u ∙ changed x (held_in m) (λ l. read b ∷ l) (held (Some v)) (ap newest_first e ∙ ap (λ l. read b ∷ l) (sym (ap held o)))
+pub held-made : (m n : Map) (x : Text) (v : Bound) (b : Option (Cow Dynamic)) → v.items ≡ b ∷ [] → is_some b ≡ true → get_by_text m x ≡ None → Written m n x (Some v) → held_in n ≡ with_newest x (read b) (held_in m)
+held-made m n x v None e h o u = absurd cc
+held-made m n x v (Some b) e h o u =
+    held-written m n x (Some v) u ∙ changed x (held_in m) (laid (read (Some b))) (held (Some v)) (ap newest_first e ∙ ap (laid (read (Some b))) (sym (ap held o)))
+
+-- a variable of a name that has none
+left-at : (b : Bool) (x y : Text) (f : Held) → (b ≡ true → x ≡ y) → f x ≡ [] → f y ≡ cond b (laid None (f y)) (f y)
+left-at true x y f h e = let q : f y ≡ [] = sym (ap f (h refl)) ∙ e in q ∙ sym (ap (laid None) q)
+left-at false x y f h e = refl
+
+pub held-left : (m : Map) (x : Text) (b : Option (Cow Dynamic)) → is_some b ≡ false → get_by_text m x ≡ None → held_in m ≡ with_newest x (read b) (held_in m)
+held-left m x None h o = fun_ext (λ y. left-at (bytes_eq x y) x y (held_in m) (λ q. (bytes_eq-Decides x y).0 q) (ap held o))
+held-left m x (Some b) h o = absurd cc
 
 newest_first-push : (xs : List (Option (Cow Dynamic))) (b : Option (Cow Dynamic)) → newest_first (xs ++ b ∷ []) ≡ read b ∷ newest_first xs
 newest_first-push xs b = ap reverse (map-append read xs (b ∷ [])) ∙ reverse-append (map read xs) (read b ∷ [])
 
 -- one more
-pub held-pushed : (m n : Map) (x : Text) (v w : Bound) (b : Option (Cow Dynamic)) → get_by_text m x ≡ Some v → w.items ≡ v.items ++ b ∷ [] → Written m n x (Some w) → held_in n ≡ with_newest x (read b) (held_in m)
-held-pushed m n x v w b o e u =
-    held-written m n x (Some w) u ∙ changed x (held_in m) (λ l. read b ∷ l) (held (Some w)) (ap newest_first e ∙ newest_first-push v.items b ∙ ap (λ l. read b ∷ l) (sym (ap held o)))
+pub held-laid : (m n : Map) (x : Text) (v w : Bound) (b : Option (Cow Dynamic)) → get_by_text m x ≡ Some v → newest_first w.items ≡ laid (read b) (newest_first v.items) → Written m n x (Some w) → held_in n ≡ with_newest x (read b) (held_in m)
+held-laid m n x v w b o e u =
+    held-written m n x (Some w) u ∙ changed x (held_in m) (laid (read b)) (held (Some w)) (e ∙ ap (laid (read b)) (sym (ap held o)))
 
 -- the same ones
 pub held-kept : (m n : Map) (x : Text) (v w : Bound) → get_by_text m x ≡ Some v → w.items ≡ v.items → Written m n x (Some w) → held_in n ≡ held_in m

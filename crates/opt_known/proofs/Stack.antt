@@ -1,5 +1,5 @@
 -- The stack of names over their bindings.
-use Rattle.std.proofs.Common.{◌≡◌, ℕ, suc, ◌-◌, ◌<◌, Bool, true, false, cond, List, [], ◌∷◌, ◌++◌, length, drop, Option, None, refl, sym, ap, ◌∙◌, subst, arith}
+use Rattle.std.proofs.Common.{◌≡◌, ℕ, suc, ◌-◌, ◌<◌, Bool, true, false, cond, List, [], ◌∷◌, ◌++◌, length, drop, Option, Some, None, refl, sym, ap, ◌∙◌, subst, arith}
 use Rattle.std.specs.Prelude.{bytes_eq, reverse}
 use Rattle.std.specs.Option.{option_map}
 use Rattle.std.proofs.Math.Path.{fun_ext}
@@ -9,18 +9,28 @@ use Rattle.base_text.specs.Text.{Text}
 use Rattle.rhai_base.specs.declared.dynamic.Dynamic.{Dynamic}
 use Rattle.rhai_base.specs.Reading.{value_of}
 use Rattle.theory_rewriting.specs.Known.{look}
-use Rattle.opt_known.specs.Bindings.{Held, newest, older, with_newest, without_newest}
+use Rattle.opt_known.specs.Bindings.{Held, laid, newest, older, with_newest, without_newest}
 use Rattle.opt_known.specs.State.{entries_of, Settled, known_of}
 
 same_self : (x : Text) → bytes_eq x x ≡ true
 same_self x = (bytes_eq-Decides x x).1 refl
 
-newest-cond : (b : Bool) (v : Option Dynamic) (l : List (Option Dynamic)) → b ≡ true → newest (cond b (v ∷ l) l) ≡ v
-newest-cond true v l h = refl
+newest-laid : (v : Option Dynamic) (l : List (Option Dynamic)) → newest (laid v l) ≡ v
+newest-laid None [] = refl
+newest-laid None (w ∷ l) = refl
+newest-laid (Some v) l = refl
+
+older-laid : (v : Option Dynamic) (l : List (Option Dynamic)) → older (laid v l) ≡ l
+older-laid None [] = refl
+older-laid None (w ∷ l) = refl
+older-laid (Some v) l = refl
+
+newest-cond : (b : Bool) (v : Option Dynamic) (l : List (Option Dynamic)) → b ≡ true → newest (cond b (laid v l) l) ≡ v
+newest-cond true v l h = newest-laid v l
 newest-cond false v l h = absurd cc
 
-undone : (b : Bool) (v : Option Dynamic) (l : List (Option Dynamic)) → cond b (older (cond b (v ∷ l) l)) (cond b (v ∷ l) l) ≡ l
-undone true v l = refl
+undone : (b : Bool) (v : Option Dynamic) (l : List (Option Dynamic)) → cond b (older (cond b (laid v l) l)) (cond b (laid v l) l) ≡ l
+undone true v l = older-laid v l
 undone false v l = refl
 
 without-with : (x : Text) (v : Option Dynamic) (f : Held) → without_newest x (with_newest x v f) ≡ f

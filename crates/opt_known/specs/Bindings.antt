@@ -26,9 +26,15 @@ abbrev pub older : List (Option Dynamic) → List (Option Dynamic)
 older [] = []
 older (v ∷ vs) = vs
 
+-- one more over those of a name: a variable over nothing hides nothing
+abbrev pub laid : Option Dynamic → List (Option Dynamic) → List (Option Dynamic)
+laid None [] = []
+laid None (v ∷ vs) = None ∷ v ∷ vs
+laid (Some v) vs = Some v ∷ vs
+
 -- one more of a name, and one less
 abbrev pub with_newest : Text → Option Dynamic → Held → Held
-with_newest x v f = λ y. cond (bytes_eq x y) (v ∷ f y) (f y)
+with_newest x v f = λ y. cond (bytes_eq x y) (laid v (f y)) (f y)
 
 abbrev pub without_newest : Text → Held → Held
 without_newest x f = λ y. cond (bytes_eq x y) (older (f y)) (f y)

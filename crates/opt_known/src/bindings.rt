@@ -1,8 +1,9 @@
-//! The bindings of names: for each name a list, the newest last. A name whose list is empty counts as absent.
+//! The bindings of names: for each name a list, the newest last. A name whose list is empty counts as absent; a variable
+//! stands in one only where it hides something.
 
 ghost use Rattle.std.specs.Prelude.{◌≡◌, Some, OnErr, OnOk};
 ghost use Rattle.std.specs.Option.{option_copied};
-ghost use Rattle.opt_known.specs.Bindings.{read, newest, newest_first, held_in, with_newest, without_newest};
+ghost use Rattle.opt_known.specs.Bindings.{read, laid, newest, newest_first, held_in, with_newest, without_newest};
 
 use rhai_base::{Dynamic, ImmutableString, OutOfMemory};
 use std::alloc::Global;
@@ -40,6 +41,18 @@ fn value_of<'b>(value: &'b Cow<'_, Dynamic>) -> &'b Dynamic
     }
 }
 
+/// Lays a binding over those of a name. A variable over nothing hides nothing, and is not noted.
+fn lay<'a>(list: &mut Vec<Binding<'a>>, binding: Binding<'a>) -> Result<(), OutOfMemory>
+    ensures ok { OnOk result (newest_first list.new.items ≡ laid (read binding.entry) (newest_first list.old.items)) }
+    ensures err { OnErr result (list.new.items ≡ list.old.items) }
+{
+    if binding.is_none() && list.is_empty() {
+        return Ok(());
+    }
+    list.push(binding)?;
+    Ok(())
+}
+
 /// Adds a binding of a name. A refused call adds nothing.
 pub(crate) fn add<'a>(
     alloc: Global,
@@ -51,7 +64,9 @@ pub(crate) fn add<'a>(
     ensures err { OnErr result (held_in bindings.new ≡ held_in bindings.old) }
 {
     if let Some(list) = bindings.get_mut(name) {
-        list.push(binding)?;
+        return lay(list, binding);
+    }
+    if binding.is_none() {
         return Ok(());
     }
     let key = String::from_str(alloc, name)?;

@@ -16,10 +16,6 @@ use Rattle.ast_types.proofs.OtherKinds.{NoArray, NoBraces, NoCall, NoVariable, N
 use Rattle.opt_steps.proofs.Stepping.{expr_stays, stmt_stays}
 use Rattle.opt_rules.specs.Settled.{known_value, is_call_statement, is_settled, is_settled_in_braces}
 
-pub no_known_value : (ks : List Known) {x : declared_expr.Expr} {e : Expr} → ExprCase x e → NoVariable x → None ≡ known_value ks e
-no_known_value ks (variable_case v i p) f = absurd (f v i p refl)
-no_known_value ks _ f = refl
-
 pub others_stay : (p : Place) {x : declared_expr.Expr} {e : Expr} → ExprCase x e → NoBraces x → is_settled p e ≡ true
 others_stay p (braces_case b) h = absurd (h b refl)
 others_stay p _ h = refl

@@ -12,7 +12,7 @@ use Rattle.theory_meaning.specs.Engine.{Engine}
 use Rattle.theory_meaning.specs.Queries.{is_eval, is_unit as is_unit_expr}
 use Rattle.theory_meaning.specs.Tree.{Callee, Expr, ArrayOf, UnitConstant, Variable, ThisPtr, BlockExpr, FnCall, Exprs, ExprStmt, FnCallStmt, Stmts, no_stmts, stmt}
 use Rattle.theory_rewriting.specs.Context.{Context}
-use Rattle.theory_rewriting.specs.Residue.{holds_constant}
+use Rattle.theory_rewriting.specs.Residue.{ExprParts, holds_constant}
 use Rattle.theory_rewriting.specs.Rules as rule
 use Rattle.theory_rewriting.specs.Rules.{ExprRule}
 use Rattle.theory_rewriting.specs.Steps.{Progress, Place, Anywhere, AsBase, AsGuard, MayBecome, ExprRewrite}
@@ -70,15 +70,17 @@ array_rules (rule.chain_goes_on true next g r n q) h = h
 array_rules (rule.chain_goes_on false next g r n q) h = h
 array_rules _ h = h
 
-array_stays : {s : Progress} (e : Expr) → is_array e ≡ true → None ≡ value_of_array e → (r : Engine) (p : Place) → ExprStep false r p s s e e
-array_stays (ArrayOf es) i h r p = let none = no_array (constant_values es) h in expr_stays none refl (λ q. refl) (λ n e' q m. array_rules q none)
+array_stays : {s : Progress} (e : Expr) → is_array e ≡ true → ((r : Engine) → ExprParts r e → is_constant e ≡ false) → (r : Engine) (p : Place) → ExprStep false r p s s e e
+array_stays (ArrayOf es) i h r p = record { same = refl; state = refl; answers = refl; reduced = none; unknown = λ q. refl; settled = λ g n e' q m. array_rules q (none g) } where
+  none : ExprParts r (ArrayOf es) → constant_values es ≡ None
+  none g = no_array (constant_values es) (none_of (constant_value (ArrayOf es)) (h r g))
 array_stays _ i h r p = absurd cc
 
 pub array_step : (b : Bool) (s s' : Progress) (e e' : Expr) → is_array e ≡ true → FoldsConstant b s s' e e' → (r : Engine) (p : Place) → ExprStep b r p s s' e e'
 array_step true s s' e e' i f r p = array_put e i (sym f.1 ∙ array_constant e i) f.2 r p
 array_step false s s' e e' i f r p =
     subst (λ a. ExprStep false r p s s' e a) (sym f.2)
-    (subst (λ t. ExprStep false r p s t e e) (sym f.1) (array_stays e i (none_of (constant_value e) f.0 ∙ array_constant e i) r p))
+    (subst (λ t. ExprStep false r p s t e e) (sym f.1) (array_stays e i f.0 r p))
 
 -- ---- braces
 
@@ -158,15 +160,3 @@ kept _ i h r = absurd cc
 
 pub braces_stay : {p : Place} {s : Progress} {e e' : Expr} → is_braces e ≡ true → Becomes None p e e' → (r : Engine) → ExprStep false r p s s e e'
 braces_stay {p = p} {s = s} {e = e} i q r = subst (λ a. ExprStep false r p s s e a) (sym q.0) (kept e i q.1 r)
-
--- ---- names without a namespace
-
-pub known-no_path : (ks : List Known) (ns : List Ident) (x : Text) (b : Bool) → (IsTrue b ↔ (ns ≡ [])) → b ≡ true → look ks x ≡ known_value ks (Variable (map (λ i. i.name) ns) x)
-known-no_path ks [] x b h i = refl
-known-no_path ks (n ∷ ns) x b h i = let k = h.0 i in absurd cc
-
-pub known-path : (ks : List Known) (ns : List Ident) (x : Text) (b : Bool) → (IsTrue b ↔ (ns ≡ [])) → b ≡ false → None ≡ known_value ks (Variable (map (λ i. i.name) ns) x)
-known-path ks [] x b h i = absurd (let k = h.1 refl in cc)
-known-path ks (n ∷ ns) x b h i = refl
-
-pub ruleset paths = (known-no_path, known-path)

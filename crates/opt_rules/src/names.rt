@@ -3,7 +3,7 @@
 #![tactic(auto, using(ast_types::specs::Reading::shapes, rhai_base::specs::Reading::kinds))]
 
 ghost use Rattle.std.specs.Prelude.{◌≡◌, IfOk, true};
-ghost use Rattle.std.specs.Option.{option_map};
+ghost use Rattle.std.specs.Option.{option_copied, option_map};
 ghost use Rattle.rhai_base.specs.Reading.{value_of};
 ghost use Rattle.opt_known.specs.State.{progress};
 ghost use Rattle.ast_types.specs.Reading.{expr_of};
@@ -12,30 +12,14 @@ ghost use Rattle.opt_steps.specs.NodeSteps.{ExprStep};
 ghost use Rattle.opt_steps.specs.Places.{place_of};
 ghost use Rattle.opt_rules.specs.Settled as settled;
 
-use opt_steps::{OptimizerState, Place, put_constant};
+use opt_steps::{OptimizerState, Place, known_value, put_constant};
 use rhai_ast::Expr;
 use rhai_base::{Dynamic, OutOfMemory};
 use std::alloc::Global;
 
-/// The value of a name that is known as a constant.
-fn known_value(state: &OptimizerState<'_>, expr: &Expr) -> Result<Option<Dynamic>, OutOfMemory>
-    ensures { IfOk result (λ v.
-        option_map value_of v ≡ settled.known_value (progress state.now).known (expr_of expr.now)) }
-{
-    match expr {
-        Expr::Variable(parts, _, _) => {
-            let (_, name, namespace) = parts.get();
-            if !namespace.is_empty() {
-                return Ok(None);
-            }
-            Ok(state.find_literal_constant(name.as_str()).cloned()?)
-        }
-        _ => Ok(None),
-    }
-}
-
-fn unless_unit(value: Option<Dynamic>) -> Option<Dynamic>
-    ensures { option_map value_of result ≡ settled.unless_unit (option_map value_of value) }
+fn unless_unit(value: Option<&Dynamic>) -> Option<&Dynamic>
+    ensures { option_map value_of (option_copied result)
+        ≡ settled.unless_unit (option_map value_of (option_copied value.entry)) }
 {
     match value {
         Some(value) => { if value.is_unit() { None } else { Some(value) } }
@@ -43,19 +27,19 @@ fn unless_unit(value: Option<Dynamic>) -> Option<Dynamic>
     }
 }
 
-/// The value that a name may become where it stands: a base stays a place, and no guard becomes a literal unit.
-fn known_there(
-    state: &OptimizerState<'_>,
+/// The value that a name may become where it stands, lent: a base stays a place, and no guard becomes a literal unit.
+fn known_there<'s>(
+    state: &'s OptimizerState<'_>,
     expr: &Expr,
     place: Place,
-) -> Result<Option<Dynamic>, OutOfMemory>
-    ensures { IfOk result (λ v.
-        option_map value_of v ≡ settled.known_there (place_of place) (progress state.now).known (expr_of expr.now)) }
+) -> Option<&'s Dynamic>
+    ensures { option_map value_of (option_copied result)
+        ≡ settled.known_there (place_of place) (progress state.now).known (expr_of expr.now) }
 {
     match place {
         Place::Anywhere => known_value(state, expr),
-        Place::Base => Ok(None),
-        Place::Guard => Ok(unless_unit(known_value(state, expr)?)),
+        Place::Base => None,
+        Place::Guard => unless_unit(known_value(state, expr)),
     }
 }
 
@@ -74,7 +58,8 @@ pub(crate) fn step_name(
         → ExprStep fired r (place_of place) (progress state.old) (progress state.new) (expr_of expr.old)
         (expr_of expr.new)) }
 {
-    if let Some(value) = known_there(state, expr, place)? {
+    if let Some(value) = known_there(state, expr, place) {
+        let value = value.clone()?;
         put_constant(alloc, state, expr, value)?;
         return Ok(true);
     }

@@ -3,3 +3,5 @@ pub mod Roots
 pub mod Passing
 pub mod Places
 pub mod Stepping
+pub mod Unknown
+pub mod Whole

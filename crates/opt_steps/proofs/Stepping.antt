@@ -22,7 +22,7 @@ stmt_rewrite_as {o = o} {w = w} {s1 = s1} {s' = s'} x y r = subst (λ a. StmtRew
 -- ---- what came of a node
 
 pub expr_stays : {r : Engine} {p : Place} {s : Progress} {e : Expr} → IsReducedNode r (OfExpr e) → AnswersNone e → (p ≡ Anywhere → known_value s.known e ≡ None) → (HasNormalParts (here r s) e → NoExprRule (here r s) p e) → ExprStep false r p s s e e
-expr_stays h a u n = record { same = refl; state = refl; answers = a; reduced = h; unknown = u; settled = n }
+expr_stays h a u n = record { same = refl; state = refl; answers = a; reduced = λ g. h; unknown = u; settled = λ g. n }
 
 pub stmt_stays : {r : Engine} {s : Progress} {x : Stmt} → IsReducedNode r (OfStmt x) → NoStmtRule (here r s) x → StmtKept r s s x x
 stmt_stays h n = record { same = refl; state = refl; reduced = h; settled = n }

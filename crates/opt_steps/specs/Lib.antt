@@ -3,3 +3,4 @@ pub mod NodeSteps
 pub mod Passes
 pub mod Places
 pub mod Standing
+pub mod Whole

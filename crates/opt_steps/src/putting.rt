@@ -11,6 +11,7 @@ ghost use Rattle.ast_types.specs.Reading.{expr_of, stmt_of};
 ghost use Rattle.opt_steps.specs.Folded.{FoldsConstant};
 ghost use Rattle.opt_steps.specs.NodeSteps.{Puts};
 
+use crate::whole::has_whole_parts;
 use ast_nodes::{put_expr, put_stmt, value_of_constant};
 use opt_known::OptimizerState;
 use rhai_ast::{Expr, ExprQueries, Literals, Stmt, StmtQueries};
@@ -51,8 +52,8 @@ fn take_constant(alloc: Global, expr: &mut Expr) -> Result<Dynamic, OutOfMemory>
     value_of_constant(alloc, constant)
 }
 
-/// A constant becomes its value, into which what its parts hold is moved. It says whether it is one; what is none
-/// stays.
+/// A constant whose parts are reduced becomes its value, into which what they hold is moved. It says whether it is one;
+/// what is none stays.
 #[inline(never)]
 pub fn fold_constant(
     alloc: Global,
@@ -62,7 +63,7 @@ pub fn fold_constant(
     ensures { IfOk result (λ b.
         FoldsConstant b (progress state.old) (progress state.new) (expr_of expr.old) (expr_of expr.new)) }
 {
-    if !expr.is_constant() {
+    if !has_whole_parts(expr) {
         return Ok(false);
     }
     let value = take_constant(alloc, expr)?;

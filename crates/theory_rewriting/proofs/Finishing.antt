@@ -2,7 +2,7 @@
 use Rattle.std.proofs.Common.{◌≡◌, ℕ, zero, suc, ◌+◌, ◌≤◌, Bool, true, false, ◌⊎◌, inl, inr, List, [], ◌∷◌, Option, Some, None, refl, sym, ap, ◌∙◌, subst, arith}
 use Rattle.std.specs.Prelude.{not, if◌then◌else◌}
 use Rattle.rhai_base.specs.Value.{Text, Value, UnitV}
-use Rattle.theory_meaning.specs.Constants.{constant_values, constant_bool}
+use Rattle.theory_meaning.specs.Constants.{constant_values, constant_entries, constant_bool}
 use Rattle.theory_meaning.specs.Desugar.{root_of}
 use Rattle.theory_meaning.specs.Engine.{Engine}
 use Rattle.theory_meaning.specs.Faults.{TreeFault, ChainShape, AssignTarget, SwitchFault, unless, faultless, AreWellFormedFunctions}
@@ -24,7 +24,7 @@ use Rattle.theory_rewriting.specs.SurelyUnit.{is_surely_unit}
 use Rattle.theory_rewriting.proofs.Weights.{stmts_fall}
 use Rattle.theory_rewriting.proofs.Plain.{is_plain_value, folded_plain}
 use Rattle.theory_rewriting.proofs.Firing.{same_arms}
-use Rattle.theory_rewriting.proofs.Reducing.{ExprGoes, StmtGoes, operator_goes, operator_statement_goes, constant_array_goes, braced_constant_goes, decided_if_goes, false_loop_goes, operand_after_false_goes, operand_after_true_goes, operand_after_some_goes, constant_chain_goes, chosen_switch_goes, after_leaving_goes, idle_goes, return_goes, known_condition_goes}
+use Rattle.theory_rewriting.proofs.Reducing.{ExprGoes, StmtGoes, operator_goes, operator_statement_goes, constant_array_goes, constant_map_goes, constant_text_goes, braced_constant_goes, decided_if_goes, false_loop_goes, operand_after_false_goes, operand_after_true_goes, operand_after_some_goes, constant_chain_goes, chosen_switch_goes, after_leaving_goes, idle_goes, return_goes, known_condition_goes}
 
 -- ---- one or the other
 
@@ -139,6 +139,16 @@ module _ (k : Context) where
   array_by es d =
       unless_other (other (λ z. (ArrayOf z.0, in_array z.1, refl, refl)) d) (λ x.
       first (λ q. (refl, (record { alone = q; lists = tt; expressions = x.0 }, x.1))) (unless_some (constant_values es) (λ vs q. by_rule refl (constant_array_goes vs q))))
+
+  map_by : (ps : Pairs) (template : List Text) → PairsStay k.engine ps ⊎ PairsChange k ps → ExprStays k.engine (MapOf ps template) ⊎ ExprChanges k (MapOf ps template)
+  map_by ps template d =
+      unless_other (other (λ z. (MapOf z.0 template, in_map z.1, refl, refl)) d) (λ x.
+      first (λ q. (refl, (record { alone = q; lists = tt; expressions = x.0 }, x.1))) (unless_some (constant_entries ps) (λ vs q. by_rule refl (constant_map_goes vs q))))
+
+  text_by : (es : Exprs) → ExprsStay k.engine es ⊎ ExprsChange k es → ExprStays k.engine (InterpolatedString es) ⊎ ExprChanges k (InterpolatedString es)
+  text_by es d =
+      unless_other (other (λ z. (InterpolatedString z.0, in_text z.1, refl, refl)) d) (λ x.
+      first (λ q. (refl, (record { alone = q; lists = tt; expressions = x.0 }, x.1))) (unless_some (constant_values es) (λ vs q. by_rule refl (constant_text_goes vs q))))
 
   call_by : (c : Callee) (es : Exprs) → ExprsStay k.engine es ⊎ ExprsChange k es → ExprStays k.engine (FnCall c es) ⊎ ExprChanges k (FnCall c es)
   call_by c es d =
@@ -303,9 +313,9 @@ module _ (k : Context) (w : Bool) where
 
 mutual
   expr_decided : (k : Context) (l : Bool) (e : Expr) → over_expr faultless e (whole l) → ExprStays k.engine e ⊎ ExprChanges k e
-  expr_decided k l (InterpolatedString es) h = first (λ x. (refl, (record { alone = tt; lists = tt; expressions = x.0 }, x.1))) (other (λ z. (InterpolatedString z.0, in_text z.1, refl, refl)) (exprs_decided k l es h.1))
+  expr_decided k l (InterpolatedString es) h = text_by k es (exprs_decided k l es h.1)
   expr_decided k l (ArrayOf es) h = array_by k es (exprs_decided k l es h.1)
-  expr_decided k l (MapOf ps template) h = first (λ x. (refl, (record { alone = tt; lists = tt; expressions = x.0 }, x.1))) (other (λ z. (MapOf z.0 template, in_map z.1, refl, refl)) (pairs_decided k l ps h.1))
+  expr_decided k l (MapOf ps template) h = map_by k ps template (pairs_decided k l ps h.1)
   expr_decided k l (Property p) h = absurd (let z : Some ChainShape ≡ None = h.0 in cc)
   expr_decided k l (MethodCall c es) h = absurd (let z : Some ChainShape ≡ None = h.0 in cc)
   expr_decided k l (BlockExpr ss) h = braces_by k ss (items_decided (open_list k) (Inside true) true l ss h.1)

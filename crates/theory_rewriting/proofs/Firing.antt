@@ -84,12 +84,12 @@ expr_kept {r = r} {p = p} {s = s} {s1 = s1} {e = e} {e1 = e1} {e2 = e2} f q =
       to = f.to;
       stays = f.stays;
       answers = q.answers;
-      reduced = λ h. (q.reduced, f.keeps.parts r h);
+      reduced = λ h. let g = f.keeps.parts r h in (q.reduced g, g);
       clear = λ i h. clear_node s.known e1 (subst (λ ks. known_value ks e1 ≡ None) f.known (q.unknown i)) (f.keeps.clear s.known h);
       known = f.known;
-      normal = λ i h.
+      normal = λ i g h.
           let k = subst (HasNormalParts (here r s)) (flag.expr_kept f.to i).1 h in
-          normal_at p e1 k (subst (λ ks. HasNormalParts (knowing r ks) e1 → NoExprRule (knowing r ks) p e1) f.known q.settled k);
+          normal_at p e1 k (subst (λ ks. HasNormalParts (knowing r ks) e1 → NoExprRule (knowing r ks) p e1) f.known (q.settled (f.keeps.parts r g)) k);
     } in
     subst (λ t. ExprReduced r p s t e e2) (sym q.state) (subst (λ a. ExprReduced r p s s1 e a) (sym q.same) z)
 
@@ -106,7 +106,7 @@ expr_done {r = r} {p = p} {e1 = e1} {e2 = e2} f q = record {
   reduced = q.reduced f.parts;
   clear = λ h. subst (λ ks. IsClearExpr ks e2) f.known (q.clear h (subst (λ ks. HasClearParts ks e1) (sym f.known) f.clear));
   known = q.known ∙ f.known;
-  normal = λ h. subst (λ ks. HasNormalParts (knowing r ks) e1 → IsNormalAt p (knowing r ks) e2) f.known (q.normal h) (f.normal (flag.expr_kept q.to h).0);
+  normal = λ h. subst (λ ks. HasNormalParts (knowing r ks) e1 → IsNormalAt p (knowing r ks) e2) f.known (q.normal h f.parts) (f.normal (flag.expr_kept q.to h).0);
 }
 
 pub expr_parts_fit : {r : Engine} {s s' : Progress} {e e' : Expr} → ExprPartsRun r s s' e e' → expr_weight e' ≤ expr_weight e

@@ -47,9 +47,9 @@ module _ (r : Engine) where
 
   mutual
     expr_irreducible : (l : Bool) (e : Expr) → IsReducedExpr r e → IsWellFormedExpr (whole l) e → Irreducible e
-    expr_irreducible l (InterpolatedString es) h w = (record { alone = tt; lists = tt; expressions = h.1.1.0 }, exprs_irreducible l es h.1.1.1 w.1)
+    expr_irreducible l (InterpolatedString es) h w = (record { alone = h.0; lists = tt; expressions = h.1.1.0 }, exprs_irreducible l es h.1.1.1 w.1)
     expr_irreducible l (ArrayOf es) h w = (record { alone = h.0; lists = tt; expressions = h.1.1.0 }, exprs_irreducible l es h.1.1.1 w.1)
-    expr_irreducible l (MapOf ps template) h w = (record { alone = tt; lists = tt; expressions = h.1.1.0 }, pairs_irreducible l ps h.1.1.1 w.1)
+    expr_irreducible l (MapOf ps template) h w = (record { alone = h.0; lists = tt; expressions = h.1.1.0 }, pairs_irreducible l ps h.1.1.1 w.1)
     expr_irreducible l (Property p) h w = absurd (let z : Some ChainShape ≡ None = w.0 in cc)
     expr_irreducible l (MethodCall c es) h w = absurd (let z : Some ChainShape ≡ None = w.0 in cc)
     expr_irreducible l (BlockExpr ss) h w = (record { alone = h.0; lists = h.1.0; expressions = h.1.1.0 }, stmts_irreducible l ss h.1.1.1 w.1)

@@ -106,6 +106,13 @@ operator_statement_goes v h w = (_, rule.call_statement_folds (rule.operator_fol
 pub constant_array_goes : {k : Context} {es : Exprs} (vs : List Value) → constant_values es ≡ Some vs → ExprGoes k false (ArrayOf es)
 constant_array_goes vs h = (_, rule.array_of_constants h, refl, λ u. refl)
 
+-- a map and an interpolated text of constants: `map_of_constants`, `text_folds`
+pub constant_map_goes : {k : Context} {ps : Pairs} {template : List Text} (vs : List (Text × Value)) → constant_entries ps ≡ Some vs → ExprGoes k false (MapOf ps template)
+constant_map_goes vs h = (_, rule.map_of_constants vs h, refl, λ u. refl)
+
+pub constant_text_goes : {k : Context} {es : Exprs} (vs : List Value) → constant_values es ≡ Some vs → ExprGoes k false (InterpolatedString es)
+constant_text_goes vs h = (_, rule.text_folds vs h, refl, λ u. refl)
+
 -- braces around one constant: `braces_of_expression`
 pub braced_constant_goes : {k : Context} (ss : Stmts) → holds_constant ss ≡ true → ExprGoes k false (BlockExpr ss)
 braced_constant_goes (stmt (ExprStmt e) no_stmts) h =
@@ -384,6 +391,8 @@ known_condition_goes (stmt s ss) {k = k} w h d = all_of (keeps_names s) _ h (λ 
 
 alone_reduced : (r : Engine) (n : Node) → IsIrreducibleAlone r n → IsReducedNode r n
 alone_reduced r (OfExpr (ArrayOf es)) h = h
+alone_reduced r (OfExpr (MapOf ps template)) h = h
+alone_reduced r (OfExpr (InterpolatedString es)) h = h
 alone_reduced r (OfExpr (BlockExpr ss)) h = h
 alone_reduced r (OfExpr (FnCall c es)) h = h
 alone_reduced r (OfExpr (And es)) h = h

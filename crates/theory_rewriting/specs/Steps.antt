@@ -347,7 +347,7 @@ pub record ExprReduced (r : Engine) (p : Place) (s s' : Progress) (e e' : Expr) 
   pub reduced : ExprParts r e → IsReducedExpr r e'
   pub clear : p ≡ Anywhere → HasClearParts s.known e → IsClearExpr s.known e'
   pub known : s'.known ≡ s.known
-  pub normal : s'.is_dirty ≡ false → HasNormalParts (here r s) e → IsNormalAt p (here r s) e'
+  pub normal : s'.is_dirty ≡ false → ExprParts r e → HasNormalParts (here r s) e → IsNormalAt p (here r s) e'
 
 -- in the end none fires, or (opened) the last one made parts that are to be gone over again
 pub record StmtReduced (r : Engine) (w opened : Bool) (s s' : Progress) (x x' : Stmt) : Type 0 where
@@ -377,14 +377,14 @@ pub record StmtFired (r : Engine) (w : Bool) (s s' : Progress) (x x' : Stmt) : T
   pub lighter : stmt_weight x' < stmt_weight x
   pub known : s'.known ≡ s.known
 
--- nothing is left to reduce at the node: it is kept, and the state
+-- nothing is left to reduce at the node, where nothing is in its parts: it is kept, and the state
 pub record ExprKept (r : Engine) (p : Place) (s s' : Progress) (e e' : Expr) : Type 0 where
   pub same : e' ≡ e
   pub state : s' ≡ s
   pub answers : AnswersNone e
-  pub reduced : IsReducedNode r (OfExpr e)
+  pub reduced : ExprParts r e → IsReducedNode r (OfExpr e)
   pub unknown : p ≡ Anywhere → known_value s.known e ≡ None
-  pub settled : HasNormalParts (here r s) e → NoExprRule (here r s) p e
+  pub settled : ExprParts r e → HasNormalParts (here r s) e → NoExprRule (here r s) p e
 
 pub record StmtKept (r : Engine) (s s' : Progress) (x x' : Stmt) : Type 0 where
   pub same : x' ≡ x

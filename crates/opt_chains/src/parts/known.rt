@@ -3,7 +3,7 @@
 #![tactic(auto, using(ast_types::specs::Reading::shapes, rhai_base::specs::Reading::kinds, crate::proofs::OtherParts::kinds_of_values))]
 
 ghost use Rattle.std.specs.Prelude.{◌≡◌, IfOk, Some, true};
-ghost use Rattle.std.specs.Option.{option_copied, option_map};
+ghost use Rattle.std.specs.Option.{option_map};
 ghost use Rattle.rhai_base.specs.Reading.{value_of};
 ghost use Rattle.ast_types.specs.Reading.{expr_of};
 ghost use Rattle.theory_meaning.specs.Constants as constants;
@@ -14,27 +14,10 @@ ghost use Rattle.opt_chains.specs.Answers as answers;
 ghost use Rattle.rhai_ast.specs.Nodes.{is_dot};
 
 use crate::parts::answers::property_of_constant;
-use opt_steps::OptimizerState;
+use opt_steps::{OptimizerState, known_value};
 use rhai_ast::{ChainType, Expr, Literals};
 use rhai_base::{Dynamic, ImmutableString, OutOfMemory};
 use std::alloc::Global;
-
-/// The value of a name that is known as a constant, lent.
-fn known_value<'s>(state: &'s OptimizerState<'_>, expr: &Expr) -> Option<&'s Dynamic>
-    ensures { option_map value_of (option_copied result)
-        ≡ clear.known_value (progress state.now).known (expr_of expr.now) }
-{
-    match expr {
-        Expr::Variable(parts, _, _) => {
-            let (_, name, namespace) = parts.get();
-            if !namespace.is_empty() {
-                return None;
-            }
-            state.find_literal_constant(name.as_str())
-        }
-        _ => None,
-    }
-}
 
 /// A property of a name that is known as a constant map is that entry.
 fn known_property(

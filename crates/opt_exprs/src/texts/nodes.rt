@@ -13,8 +13,8 @@ ghost use Rattle.opt_exprs.specs.Parts as spec;
 ghost use Rattle.opt_exprs.specs.Parts.{Folds, NodeChange};
 
 use crate::texts::joining::text_changes;
-use opt_steps::{OptimizerState, fold_constant, note_fired, put_constant};
-use rhai_ast::{Expr, Literals};
+use opt_steps::{OptimizerState, fold_constant, note_fired};
+use rhai_ast::Expr;
 use rhai_base::OutOfMemory;
 use std::alloc::Global;
 
@@ -38,11 +38,7 @@ fn text_folds(
     ensures { IfOk result (λ b.
         Folds b (progress state.old) (progress state.new) (expr_of expr.old) (expr_of expr.new)) }
 {
-    if let Some(value) = expr.get_literal_value(alloc)? {
-        put_constant(alloc, state, expr, value)?;
-        return Ok(true);
-    }
-    Ok(false)
+    fold_constant(alloc, state, expr)
 }
 
 /// One step at an interpolated text: its text, or a pass over its parts. It says whether a rule fired.

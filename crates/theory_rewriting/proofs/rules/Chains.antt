@@ -1,5 +1,5 @@
 -- The rules of chains: a lemma each, of the rule's name.
-use Rattle.std.proofs.Common.{◌≡◌, Bool, true, false, cond, [], Some, None, refl, sym, ◌∙◌, subst, arith, ◌+◌, ap}
+use Rattle.std.proofs.Common.{◌≡◌, Bool, true, false, cond, Some, None, refl, sym, ◌∙◌, subst, arith, ◌+◌, ap}
 use Rattle.std.specs.Prelude.{◌&&◌, not, if◌then◌else◌}
 use Rattle.rhai_base.specs.Value.{Value, UnitV}
 use Rattle.theory_meaning.specs.Act.{Act, WrongKind}

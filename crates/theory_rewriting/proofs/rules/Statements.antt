@@ -1,5 +1,5 @@
 -- The rules of statements: a lemma each, of the rule's name.
-use Rattle.std.proofs.Common.{◌<◌, ◌≡◌, ◌+◌, ◌≤◌, ℕ, Bool, true, false, [], Option, Some, None, if◌then◌else◌, refl, sym, ap, ◌∙◌, subst, arith, ◌++◌}
+use Rattle.std.proofs.Common.{◌<◌, ◌≡◌, ◌+◌, ◌≤◌, ℕ, Bool, true, false, [], Option, Some, None, if◌then◌else◌, refl, sym, ap, ◌∙◌, subst, arith}
 use Rattle.rhai_base.specs.Value.{Value, UnitV}
 use Rattle.rhai_base.specs.Operators.{Operator, Computed, NoEntry, computed}
 use Rattle.theory_meaning.specs.Act.{World, Store, Gives, WrongKind, Act, Scoped, Only, Env, run}

@@ -1,6 +1,6 @@
 -- The steps of chains over constants and literals: a lemma each, of the rule's name.
-use Rattle.std.proofs.Common.{◌<◌, ◌≡◌, ℕ, Bool, true, false, cond, List, [], Some, None, refl, sym, ◌∙◌, subst, arith, ◌+◌}
-use Rattle.std.specs.Prelude.{ℤ, codes, ◌&&◌, if◌then◌else◌}
+use Rattle.std.proofs.Common.{◌<◌, ◌≡◌, ℕ, Bool, true, false, cond, List, [], Some, None, refl, sym, subst, arith, ◌+◌}
+use Rattle.std.specs.Prelude.{ℤ, codes, ◌&&◌}
 use Rattle.rhai_base.specs.Value.{Text, Value, Fields, UnitV, BoolV, IntV, TextV, ArrayV, MapV, values}
 use Rattle.theory_meaning.specs.Act.{Act, WrongKind}
 use Rattle.theory_meaning.specs.ActForms.{give, choose, ◌>>=◌}
@@ -10,7 +10,7 @@ use Rattle.theory_meaning.specs.Core as core
 use Rattle.theory_meaning.specs.Desugar.{root_of, core_expr, member_of, steps_of}
 use Rattle.theory_meaning.specs.Elements.{index_in, entry}
 use Rattle.theory_meaning.specs.Engine.{mapped_type_name}
-use Rattle.theory_meaning.specs.Meaning.{act, steps, access}
+use Rattle.theory_meaning.specs.Meaning.{act, access}
 use Rattle.theory_meaning.specs.Places.{without_place, Current, refreshed}
 use Rattle.theory_meaning.specs.Queries.{are_pure_exprs, are_pure_pairs}
 use Rattle.theory_meaning.specs.Shape.{is_unit, is_callable}

@@ -1,8 +1,8 @@
-use Rattle.opt_exprs.proofs.Folding.{text_folded, text_changed, text_same}
+use Rattle.opt_exprs.proofs.Folding.{text_passed, text_changed, text_same}
 use Rattle.opt_exprs.proofs.texts.nodes.step_text.Goals as goal
 
 pub returns-then-branch : goal.returns-then-branch
-returns-then-branch c = text_folded (rw c.if-branch.true at c.in_ok-text_folds.ensures)
+returns-then-branch c = text_passed (rw c.if-branch.true at c.in_ok-text_folds.ensures)
 
 pub returns-then-branch-2 : goal.returns-then-branch-2
 returns-then-branch-2 c =

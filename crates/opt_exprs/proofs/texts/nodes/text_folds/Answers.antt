@@ -1,12 +1,18 @@
-use Rattle.std.proofs.Common.{refl, sym, ap, ◌∙◌}
-use Rattle.std.specs.Option.{option_map}
-use Rattle.rhai_base.specs.Reading.{value_of}
+use Rattle.std.proofs.Common.{Bool}
+use Rattle.std.proofs.lemmas.Result.{IfOk-weaker}
+use Rattle.opt_known.specs.State.{progress}
 use Rattle.ast_types.specs.Reading.{expr_of}
-use Rattle.opt_exprs.proofs.Folding.{none_literal, text_put}
+use Rattle.opt_steps.specs.Folded.{FoldsConstant}
+use Rattle.opt_exprs.specs.Parts.{Folds}
+use Rattle.opt_exprs.proofs.Folding.{text_folded}
 use Rattle.opt_exprs.proofs.texts.nodes.text_folds.Goals as goal
 
-pub returns-in-Some : goal.returns-in-Some
-returns-in-Some c = text_put c.requires (sym (ap (option_map value_of) c.in-Some.is) ∙ c.in_ok-value.ensures.value) c.in_ok-put_constant.ensures
-
 pub returns : goal.returns
-returns c = (none_literal (expr_of c.args.expr.now) (sym (ap (option_map value_of) c.in_default.is) ∙ c.in_ok-value.ensures.value), refl, refl)
+returns c =
+    let s = progress c.args.state.now in
+    let s' = progress c.fold_constant.new.state in
+    let e = expr_of c.args.expr.now in
+    let e' = expr_of c.fold_constant.new.expr in
+    let P : Bool → Type 0 = λ b. FoldsConstant b s s' e e' in
+    let Q : Bool → Type 0 = λ b. Folds b s s' e e' in
+    IfOk-weaker c.fold_constant.result P Q (λ b h. text_folded b s s' e e' c.requires h) c.fold_constant.ensures
