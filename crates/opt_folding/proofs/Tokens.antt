@@ -25,6 +25,15 @@ folded-no_values engine NoToken = refl
 folded-no_values engine (OfOperator op) = refl
 folded-no_values engine OfOther = refl
 
+-- ---- what is no constant
+
+pub first-unfolded : (engine : Engine) (m : CallToken) {v : Option Value} (vs : Option (List Value)) → v ≡ None → None ≡ folded_values engine m (value_and v vs)
+first-unfolded engine m vs h = sym (ap (λ o. folded_values engine m (value_and o vs)) h ∙ folded-no_values engine m)
+
+pub second-unfolded : (engine : Engine) (m : CallToken) (u : Option Value) {v : Option Value} (vs : Option (List Value)) → v ≡ None → None ≡ folded_values engine m (value_and u (value_and v vs))
+second-unfolded engine m None vs h = sym (folded-no_values engine m)
+second-unfolded engine m (Some x) vs h = sym (ap (λ o. folded_values engine m (value_and (Some x) (value_and o vs))) h ∙ folded-no_values engine m)
+
 -- ---- no operands, or more than two
 
 folded-three : (engine : Engine) (t : Token) (a b c : Option Value) (vs : Option (List Value)) → None ≡ folded_values engine (mark_of (Some t)) (value_and a (value_and b (value_and c vs)))

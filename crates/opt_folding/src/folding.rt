@@ -13,6 +13,7 @@ ghost use Rattle.theory_meaning.specs.Tree.{expr, no_exprs};
 ghost use Rattle.base_engine.specs.EngineInfo.{engine_of};
 ghost use Rattle.theory_rewriting.specs.Folding as spec;
 
+use crate::constants::may_be_constant;
 use base_engine::EngineInfo;
 use rhai_ast::{Expr, FnCallExpr, Literals};
 use rhai_base::{Dynamic, Fault, INT, OutOfMemory, Token};
@@ -78,6 +79,24 @@ fn folded_one(
         ≡ spec.folded_values (engine_of info.now) (mark_of (Some op))
         (constants.constant_values (expr (expr_of x.now) no_exprs))) }
 {
+    if !may_be_constant(x) {
+        return Ok(None);
+    }
+    folded_constant(alloc, info, op, x)
+}
+
+#[inline(never)]
+fn folded_constant(
+    alloc: Global,
+    info: &EngineInfo,
+    op: Token,
+    x: &Expr,
+) -> Result<Option<Dynamic>, OutOfMemory>
+    ensures { IfOk result (λ v.
+        option_map value_of v
+        ≡ spec.folded_values (engine_of info.now) (mark_of (Some op))
+        (constants.constant_values (expr (expr_of x.now) no_exprs))) }
+{
     match x.constant_value(alloc)? {
         Some(x) => Ok(info.builtin_unary(op, &x)),
         None => Ok(None),
@@ -109,6 +128,7 @@ fn integer(n: INT) -> Dynamic
 }
 
 /// Most operands are integers, which are taken as they stand.
+#[inline(never)]
 fn folded_integers(
     alloc: Global,
     info: &EngineInfo,
@@ -139,10 +159,33 @@ fn folded_two(
         (Expr::IntegerConstant(x, _), Expr::IntegerConstant(y, _)) => {
             folded_integers(alloc, info, op, *x, *y)
         }
-        _ => folded_constants(alloc, info, op, x, y),
+        _ => folded_others(alloc, info, op, x, y),
     }
 }
 
+/// What is no constant is left before room is set aside for values.
+fn folded_others(
+    alloc: Global,
+    info: &EngineInfo,
+    op: Token,
+    x: &Expr,
+    y: &Expr,
+) -> Result<Option<Dynamic>, OutOfMemory>
+    ensures { IfOk result (λ v.
+        option_map value_of v
+        ≡ spec.folded_values (engine_of info.now) (mark_of (Some op))
+        (constants.constant_values (expr (expr_of x.now) (expr (expr_of y.now) no_exprs)))) }
+{
+    if !may_be_constant(x) {
+        return Ok(None);
+    }
+    if !may_be_constant(y) {
+        return Ok(None);
+    }
+    folded_constants(alloc, info, op, x, y)
+}
+
+#[inline(never)]
 fn folded_constants(
     alloc: Global,
     info: &EngineInfo,

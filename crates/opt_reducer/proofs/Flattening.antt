@@ -19,7 +19,7 @@ use Rattle.theory_rewriting.specs.Rules.{spliced, block_gives_way}
 use Rattle.theory_rewriting.proofs.Clearing.{claimed, within}
 use Rattle.theory_rewriting.proofs.Evals.{block_keeps}
 use Rattle.theory_rewriting.proofs.Firing.{in_back}
-use Rattle.theory_rewriting.specs.Steps.{Progress, Moves}
+use Rattle.theory_rewriting.specs.Steps.{Progress, here, Moves, ListPassed}
 use Rattle.theory_meaning.specs.Weight.{weight}
 use Rattle.opt_reducer.specs.Blocks.{Flattens, FlatList}
 use Rattle.ast_types.proofs.OtherKinds.{NoBlock}
@@ -224,6 +224,10 @@ flattened m {ss = ss} {new = new} h p = record {
   flat = p.flat refl;
   known = p.known;
 }
+
+-- before its statements are gone over
+pub flat_pass : {r : Engine} {m : ListKind} {s s' : Progress} {ss ss' : Stmts} → FlatList m s s' ss ss' → ListPassed r m s s' ss ss'
+flat_pass {r = r} {s = s} f = record { to = f.to (here r s); known = f.known }
 
 pub flat_kept : {m : ListKind} {g : Progress} (ss : Stmts) → any_gives_way ss ≡ false → FlatList m g g ss ss
 flat_kept ss h = record { to = λ k. same_stmts; reduced = λ r x. x; clear = λ ks x. x; flat = h; known = refl }

@@ -753,8 +753,9 @@ impl<'a> Optimizer<'a> {
         flatten(state, statements, mark)
     }
 
-    /// A list: its statements, and then a sweep from its end. Where that made an expression of a last `return`, which
-    /// its statements had hidden, the list is gone over again.
+    /// A list: blocks in it give way, so that what is in them is gone over once, where it comes to stand; then its
+    /// statements, and a sweep from its end. Where that made an expression of a last `return`, which its statements had
+    /// hidden, the list is gone over again.
     #[cycle(optimize)]
     pub(crate) fn stmt_block(
         &self,
@@ -766,6 +767,7 @@ impl<'a> Optimizer<'a> {
             (StmtsRun (record_of self.now) (mark_of mark) (progress state.old) (progress state.new)
             (stmts_of statements.old) (stmts_of statements.new)) }
     {
+        flatten(state, statements, mark)?;
         sweep_before(self.alloc, state, statements, mark);
         loop {
             self.list(state, statements, mark)?;

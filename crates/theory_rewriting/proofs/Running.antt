@@ -376,6 +376,10 @@ list_pass = record { to = same_stmts; known = refl }
 pub list_swept : {r : Engine} {m : ListKind} {bared : Bool} {s s' : Progress} {ss ss' : Stmts} → SweepRun m bared s s' ss ss' → ListPassed r m s s' ss ss'
 list_swept {r = r} {s = s} z = record { to = z.to (here r s); known = z.known }
 
+-- one after another
+pub list_then : {r : Engine} {m : ListKind} {s s1 s2 : Progress} {ss ss1 ss2 : Stmts} → ListPassed r m s s1 ss ss1 → ListPassed r m s1 s2 ss1 ss2 → ListPassed r m s s2 ss ss2
+list_then {m = m} {s1 = s1} {s2 = s2} {ss1 = ss1} {ss2 = ss2} f g = record { to = then_stmts f.to (knows (λ k. StmtsTo k m s1.is_dirty s2.is_dirty ss1 ss2) f.known g.to); known = g.known ∙ f.known }
+
 pub list_fits : {r : Engine} {m : ListKind} {s s' : Progress} {ss ss' : Stmts} → ListPassed r m s s' ss ss' → weight ss' ≤ weight ss
 list_fits f = omega (arith, stmts_fall f.to)
 

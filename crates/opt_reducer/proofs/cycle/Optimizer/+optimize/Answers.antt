@@ -17,7 +17,8 @@ use Rattle.ast_types.specs.Reading.{shapes, subject_of, cases_of, expressions_of
 use Rattle.theory_meaning.specs.Tree.{InterpolatedString, ArrayOf, MapOf, MethodCall, BlockExpr, FnCall, Dot, Index, And, Or, Coalesce, If, Switch, While, Do, For, Var, Assignment, Block, TryCatch, ExprStmt, FnCallStmt, an_expr, BreakLoop, Return, Import}
 use Rattle.theory_meaning.specs.Weight.{stmt_weight, weight}
 use Rattle.theory_rewriting.proofs.Firing.{expr_done, stmt_pass, stmt_fits, stmt_early, stmt_fired_falls, subject_then, subject_fired, subject_fits}
-use Rattle.theory_rewriting.proofs.Running.{text_run, array_run, map_run, braces_run, call_run, method_run, and_run, or_run, coalesce_run, chain_dot_run, chain_index_run, both_sides, both_links, both_rounds, both_assigned, steps_end, steps_on, steps_member, steps_none, argument_as, brackets_run, member_run, member_stays, target_run, target_stays, arm_run, loop_while, loop_do, for_kept, var_kept, assign_kept, try_kept, import_kept, break_run, return_run, maybe_some_run, call_statement_run, if_run, block_run, expression_run, item_run, each_noted, list_run, list_fits, list_again, list_again_falls, list_done, counts, tries}
+use Rattle.theory_rewriting.proofs.Running.{text_run, array_run, map_run, braces_run, call_run, method_run, and_run, or_run, coalesce_run, chain_dot_run, chain_index_run, both_sides, both_links, both_rounds, both_assigned, steps_end, steps_on, steps_member, steps_none, argument_as, brackets_run, member_run, member_stays, target_run, target_stays, arm_run, loop_while, loop_do, for_kept, var_kept, assign_kept, try_kept, import_kept, break_run, return_run, maybe_some_run, call_statement_run, if_run, block_run, expression_run, item_run, each_noted, list_run, list_then, list_fits, list_again, list_again_falls, list_done, counts, tries}
+use Rattle.opt_reducer.proofs.Flattening.{flat_pass}
 use Rattle.opt_reducer.proofs.Parts.{expr_as, stmt_as, table_written, for_as, maybe_from, maybe_same, sides_dot_at, sides_index_at, link_dot_at, link_index_at, steps_as, argument_spelled, target_as, no_chain, no_method, expr_stays, stmt_stays, counted, forgotten, subject_written, arms_written, subject_kept, subject_none, arms_kept, condition_kept, open_still, undecided, once_by, once_done}
 use Rattle.theory_rewriting.specs.Steps.{HasReducedSubject}
 use Rattle.opt_reducer.specs.Parts.{record_of}
@@ -331,7 +332,7 @@ list-returns t c =
 
 -- swept, until no last `return` is bared
 pub stmt_block-loop-state-init : goal.stmt_block-loop-state-init
-stmt_block-loop-state-init t c = c.sweep_before.ensures _
+stmt_block-loop-state-init t c = list_then (flat_pass c.in_ok-flatten.ensures) (c.sweep_before.ensures _)
 
 pub stmt_block-list-requires : goal.stmt_block-list-requires
 stmt_block-list-requires t c = (omega (arith, list_fits c.loop-state.invariant), tt)
