@@ -19,7 +19,7 @@ use Rattle.opt_steps.specs.NodeSteps.{ExprStep}
 use Rattle.opt_steps.specs.Standing.{may_stand}
 use Rattle.opt_steps.proofs.Stepping.{expr_stays}
 use Rattle.opt_chains.specs.Answers.{constant_answer, known_answer, allowed}
-use Rattle.opt_chains.specs.Chains.{ends_in_unit, value_answer, chain_of, IsTaken, IsQuiet, PartStep, IsQuietChain, ChainStep}
+use Rattle.opt_chains.specs.Chains.{ends_in_unit, value_answer, chain_of, IsMoved, IsTaken, IsQuiet, PartStep, IsQuietChain, ChainStep}
 use Rattle.opt_chains.specs.Literals.{allowed_part, literal_answer}
 use Rattle.opt_chains.specs.Onward.{argument, onward, Rewrites}
 use Rattle.opt_chains.proofs.Quiet.{chain_quiet}
@@ -110,6 +110,12 @@ module _ (r : Engine) (ks : List Known) (p : Place) (dot : Bool) (f : ChainFlags
 pub value_step : (r : Engine) (ks : List Known) (p : Place) (dot : Bool) (f : ChainFlags) (old : BinaryExpr) (unit : Bool) (part : declared.Expr) (v : Value) → unit ≡ may_stand p (onward f.breaks (expr_of old.rhs) UnitConstant) → Some v ≡ value_answer r ks unit dot f (expr_of old.lhs) (expr_of old.rhs) → expr_of part ≡ constant_of v → PartStep r ks p dot f old old (Some part)
 value_step r ks p dot f old unit part v t h q =
     (refl, subst (λ x. Rewrites r ks p (chain_of dot f old) (onward f.breaks (expr_of old.rhs) x)) (sym q) (value_rewrites r ks p dot f (expr_of old.lhs) (expr_of old.rhs) unit t v (sym h)))
+
+pub moved_step : (r : Engine) (ks : List Known) (p : Place) (dot : Bool) (f : ChainFlags) (old new : BinaryExpr) (unit : Bool) (part : declared.Expr) → unit ≡ may_stand p (onward f.breaks (expr_of old.rhs) UnitConstant) → IsMoved unit dot f.breaks old new (Some part) → PartStep r ks p dot f old new (Some part)
+moved_step r ks p dot f old new unit part t m =
+    let v = m.1.0 in
+    let answers : value_answer r ks unit dot f (expr_of old.lhs) (expr_of old.rhs) ≡ Some v = ap (λ o. or_else o (allowed unit (known_answer ks dot (expr_of old.lhs) (expr_of old.rhs)))) (m.1.1.1 r f.negated) in
+    (m.0, subst (λ x. Rewrites r ks p (chain_of dot f old) (onward f.breaks (expr_of old.rhs) x)) (sym m.1.1.0) (value_rewrites r ks p dot f (expr_of old.lhs) (expr_of old.rhs) unit t v answers))
 
 pub taken_step : (r : Engine) (ks : List Known) (p : Place) (dot : Bool) (f : ChainFlags) (old new : BinaryExpr) (unit : Bool) (part : Option declared.Expr) → unit ≡ may_stand p (onward f.breaks (expr_of old.rhs) UnitConstant) → None ≡ value_answer r ks unit dot f (expr_of old.lhs) (expr_of old.rhs) → IsTaken unit dot f.breaks old new part → PartStep r ks p dot f old new part
 taken_step r ks p dot f old new unit None t h i = (i.kept refl, none_answers r ks p dot f (expr_of old.lhs) (expr_of old.rhs) unit t (sym h) (sym i.answer))

@@ -9,7 +9,7 @@ use Rattle.ast_types.specs.Reading.{expr_of}
 use Rattle.theory_rewriting.specs.Context.{knowing}
 use Rattle.theory_rewriting.specs.Known.{Known}
 use Rattle.theory_rewriting.specs.Normal.{HasNormalParts}
-use Rattle.theory_rewriting.specs.Parts.{link}
+use Rattle.theory_rewriting.specs.Parts.{constant_of, link}
 use Rattle.theory_rewriting.specs.Steps.{AnswersNone, NoExprRule, Place}
 use Rattle.opt_steps.specs.Standing.{may_stand}
 use Rattle.ast_types.specs.declared.expr.BinaryExpr.{BinaryExpr}
@@ -27,6 +27,11 @@ ends_in_unit p _ = false
 -- by value: at a constant, or at a known name
 abbrev pub value_answer : Engine → List Known → (unit dot : Bool) → ChainFlags → Expr → Expr → Option Value
 value_answer r ks unit dot f e b = or_else (allowed unit (constant_answer r dot f.negated e (argument f.breaks b))) (allowed unit (known_answer ks dot e b))
+
+-- a part was moved out of a base that is a constant; the right side stays, and where there is none the base too
+abbrev pub IsMoved : (unit dot breaks : Bool) → BinaryExpr → BinaryExpr → Option declared.Expr → Type 0
+IsMoved unit dot breaks old new (Some part) = (new.rhs ≡ old.rhs) × ((v : Value) × (expr_of part ≡ constant_of v) × ((r : Engine) (optional : Bool) → allowed unit (constant_answer r dot optional (expr_of old.lhs) (argument breaks (expr_of old.rhs))) ≡ Some v))
+IsMoved unit dot breaks old new None = new ≡ old
 
 -- a part was taken out of a base that is a literal; the right side stays, and where there is none the base too
 pub record IsTaken (unit dot breaks : Bool) (old new : BinaryExpr) (part : Option declared.Expr) : Type 0 where

@@ -20,12 +20,12 @@ ghost use Rattle.opt_steps.specs.Places.{place_of};
 ghost use Rattle.opt_steps.specs.Standing as standing;
 ghost use Rattle.opt_chains.specs.Answers as answers;
 ghost use Rattle.rhai_ast.specs.Nodes.{is_dot};
-ghost use Rattle.opt_chains.specs.Chains.{IsTaken, PartStep, SidesStep, ChainStep};
+ghost use Rattle.opt_chains.specs.Chains.{IsMoved, IsTaken, PartStep, SidesStep, ChainStep};
 ghost use Rattle.opt_chains.specs.Chains.{ends_in_unit, value_answer};
 ghost use Rattle.opt_chains.specs.Onward as onward;
 
 use crate::chain::onward::{argument, onward, unit_may_stand};
-use crate::parts::{constant_answer, known_answer, literal_answer, take_part};
+use crate::parts::{constant_answer, known_answer, literal_answer, move_part, take_part};
 use ast_nodes::{dynamic_constant, put_expr};
 use base_engine::EngineInfo;
 use bitflags::Flags;
@@ -128,8 +128,26 @@ fn literal_taken(
     }
 }
 
-/// What the first step answers.
-fn first_answer(
+/// The part of a constant that the first step answers, moved out of its place.
+fn part_moved(
+    alloc: Global,
+    access: ChainType,
+    flags: ASTFlags,
+    sides: &mut BinaryExpr,
+    unit: bool,
+) -> Result<Option<Expr>, OutOfMemory>
+    ensures { IfOk result (λ part. IsMoved unit (is_dot access) (breaks flags) sides.old sides.new part) }
+{
+    let pos = sides.lhs.position();
+    let first = argument(flags, &sides.rhs);
+    match move_part(access, &mut sides.lhs, first, unit) {
+        Some(value) => Ok(Some(constant_of(alloc, value, pos)?)),
+        None => Ok(None),
+    }
+}
+
+/// What the first step answers where it moves nothing: by value, or a part of a literal.
+fn other_answer(
     alloc: Global,
     info: &EngineInfo,
     state: &OptimizerState<'_>,
@@ -146,6 +164,27 @@ fn first_answer(
     match value_answer(alloc, info, state, access, flags, sides, unit)? {
         Some(value) => Ok(Some(constant_of(alloc, value, sides.lhs.position())?)),
         None => literal_taken(alloc, access, flags, sides, unit),
+    }
+}
+
+/// What the first step answers.
+fn first_answer(
+    alloc: Global,
+    info: &EngineInfo,
+    state: &OptimizerState<'_>,
+    access: ChainType,
+    flags: ASTFlags,
+    sides: &mut BinaryExpr,
+    place: Place,
+) -> Result<Option<Expr>, OutOfMemory>
+    ensures { IfOk result (λ part.
+        PartStep (engine_of info.now) (progress state.now).known (place_of place) (is_dot access) (chain_flags flags)
+        sides.old sides.new part) }
+{
+    let unit = unit_may_stand(place, flags, &sides.rhs);
+    match part_moved(alloc, access, flags, sides, unit)? {
+        Some(part) => Ok(Some(part)),
+        None => other_answer(alloc, info, state, access, flags, sides, place),
     }
 }
 

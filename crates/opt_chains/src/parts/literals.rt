@@ -29,7 +29,7 @@ pub enum Found {
 }
 
 /// Of so many things the place of the one at an index, from the end where it is negative.
-fn place_in(count: usize, index: INT) -> Option<usize>
+pub(crate) fn place_in(count: usize, index: INT) -> Option<usize>
     ensures place { result ≡ elements.index_in count index }
     ensures below { IfSome result (λ place. place < count) }
 {
@@ -50,7 +50,7 @@ fn integer_in(value: &Dynamic) -> Option<INT>
 }
 
 /// The integer that a constant is.
-fn integer_of(expr: &Expr) -> Option<INT>
+pub(crate) fn integer_of(expr: &Expr) -> Option<INT>
     ensures { result ≡ literals.integer_of (constants.constant_value (expr_of expr.now)) }
 {
     match expr {
