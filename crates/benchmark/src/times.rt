@@ -1,9 +1,10 @@
 //! What is counted and timed of a script.
 
+use crate::shapes::unbounded;
 use rhai_lang::prelude::*;
 use rhai_lang::{
-    AST, ASTNode, EngineInfo, ImmutableString, OptimizationLevel, ReadError, RunEnd, Scope,
-    UnitHost, optimize_ast, plain_run, read_value,
+    AST, ASTNode, EngineInfo, ImmutableString, OptimizationLevel, ReadError, RunEnd, Scope, Syntax,
+    UnitHost, optimize_ast, optimize_text, plain_run, read_value,
 };
 use std::alloc::{AllocError, Global};
 use std::io;
@@ -20,6 +21,8 @@ pub(crate) struct Times {
     pub(crate) run: Duration,
     pub(crate) walk: Duration,
     pub(crate) copy: Duration,
+    /// From text to text: read, optimised, printed, read again and compared.
+    pub(crate) text: Duration,
 }
 
 impl Times {
@@ -28,6 +31,7 @@ impl Times {
         run: Duration::MAX,
         walk: Duration::MAX,
         copy: Duration::MAX,
+        text: Duration::MAX,
     };
 }
 
@@ -54,17 +58,20 @@ impl Bench {
         Ok(Bench { alloc, info, scope })
     }
 
-    /// How long each takes at a script: the shortest of all rounds.
-    pub(crate) fn times(&self, clock: &impl Clock, script: &AST) -> io::Result<Times> {
+    /// How long each takes at a script and its text: the shortest of all rounds.
+    pub(crate) fn times(&self, clock: &impl Clock, text: &str, script: &AST) -> io::Result<Times> {
         let mut times = Times::LONGEST;
         for _ in 0..ROUNDS {
-            self.shorten(clock, script, &mut times)?;
+            self.lessen(clock, script, &mut times)?;
+            let start = Instant::now(clock)?;
+            self.optimised_text(text);
+            times.text = times.text.min(start.elapsed(clock)?);
         }
         Ok(times)
     }
 
-    /// Times each once.
-    fn shorten(&self, clock: &impl Clock, script: &AST, times: &mut Times) -> io::Result<()> {
+    /// Times once what is done to a script.
+    fn lessen(&self, clock: &impl Clock, script: &AST, times: &mut Times) -> io::Result<()> {
         let start = Instant::now(clock)?;
         nodes_of(script)?;
         let walked = Instant::now(clock)?;
@@ -84,6 +91,12 @@ impl Bench {
         let level = OptimizationLevel::Simple;
         let optimised = optimize_ast(self.alloc, &self.info, None, script, level);
         Ok(optimised.map_err(|_| AllocError)?)
+    }
+
+    /// A text whose script no text spells, or too deep a one, counts as long as it takes to say so.
+    fn optimised_text(&self, text: &str) {
+        let (syntax, level) = (Syntax::Rhai(unbounded()), OptimizationLevel::Simple);
+        let _made = optimize_text(self.alloc, syntax, text, &self.info, level);
     }
 
     /// How many turns a run takes: all, where it ends without a value.
