@@ -4,4 +4,4 @@ pub mod Passing
 pub mod Places
 pub mod Stepping
 pub mod Unknown
-pub mod Whole
+pub mod WholeParts

@@ -1,9 +1,9 @@
 -- Of reduced parts one level tells whether a literal is a constant.
-use Rattle.std.proofs.Common.{◌≡◌, Bool, true, false, ◌&&◌, List, Option, Some, None, is_some, refl, sym, ap, ◌∙◌}
-use Rattle.rhai_base.specs.Value.{Text, Value}
-use Rattle.theory_meaning.specs.Constants.{array_value, constant_value, constant_values, constant_entries, is_constant, joined_value, map_value}
+use Rattle.std.proofs.Common.{◌≡◌, Bool, true, false, ◌&&◌, Option, None, is_some, refl, sym, ap, ◌∙◌}
+use Rattle.theory_meaning.specs.Constants.{constant_value, constant_values, constant_entries, is_constant}
 use Rattle.theory_meaning.specs.Engine.{Engine}
 use Rattle.theory_meaning.specs.Tree.{Expr, DynamicConstant, BoolConstant, IntegerConstant, CharConstant, StringConstant, UnitConstant, InterpolatedString, ArrayOf, MapOf, Exprs, no_exprs, expr, Pairs, no_pairs, pair}
+use Rattle.theory_meaning.proofs.PureTrees.{split}
 use Rattle.theory_rewriting.specs.Residue.{IsReducedExpr, AreReducedExprs, AreReducedPairs, ExprParts}
 use Rattle.ast_types.specs.declared.expr.Expr as declared_expr
 use Rattle.ast_types.proofs.Cases.{ExprCase, interpolated_string_case, array_case, map_case}
@@ -77,19 +77,13 @@ other_whole _ t a m = refl
 
 -- ---- whatever the parts are, it is a constant then
 
-pub are_whole-values : (es : Exprs) → are_whole es ≡ true → is_some (constant_values es) ≡ true
+are_whole-values : (es : Exprs) → are_whole es ≡ true → is_some (constant_values es) ≡ true
 are_whole-values no_exprs h = refl
-are_whole-values (expr e es) h = by (is_whole e) refl h where
-  by : (b : Bool) → is_whole e ≡ b → b && are_whole es ≡ true → is_some (constant_values (expr e es)) ≡ true
-  by true w h = is_some-value_and (constant_value e) (constant_values es) ∙ both (whole_constant e w) (are_whole-values es h)
-  by false w h = absurd cc
+are_whole-values (expr e es) h = let z = split (is_whole e) (are_whole es) h in is_some-value_and (constant_value e) (constant_values es) ∙ both (whole_constant e z.0) (are_whole-values es z.1)
 
 members-values : (ps : Pairs) → are_whole_members ps ≡ true → is_some (constant_entries ps) ≡ true
 members-values no_pairs h = refl
-members-values (pair k e ps) h = by (is_whole e) refl h where
-  by : (b : Bool) → is_whole e ≡ b → b && are_whole_members ps ≡ true → is_some (constant_entries (pair k e ps)) ≡ true
-  by true w h = is_some-entry_and k (constant_value e) (constant_entries ps) ∙ both (whole_constant e w) (members-values ps h)
-  by false w h = absurd cc
+members-values (pair k e ps) h = let z = split (is_whole e) (are_whole_members ps) h in is_some-entry_and k (constant_value e) (constant_entries ps) ∙ both (whole_constant e z.0) (members-values ps z.1)
 
 pub has_whole-constant : (e : Expr) → has_whole_parts e ≡ true → is_constant e ≡ true
 has_whole-constant (InterpolatedString es) h = is_some-joined_value (constant_values es) ∙ are_whole-values es h
