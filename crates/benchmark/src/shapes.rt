@@ -126,13 +126,13 @@ fn push_often(text: &mut String, piece: &str, times: u16) -> Result<(), AllocErr
 
 /// Appends a piece with a number in the place of each `@`.
 fn push_piece(text: &mut String, piece: &str, number: u16) -> Result<(), AllocError> {
-    let mut rest = piece;
-    while let Some((front, back)) = rest.split_once("@") {
-        text.push_str(front)?;
-        write!(text, "{number}").map_err(|_| AllocError)?;
-        rest = back;
+    for (at, part) in piece.split("@").enumerate() {
+        if at > 0 {
+            write!(text, "{number}").map_err(|_| AllocError)?;
+        }
+        text.push_str(part)?;
     }
-    text.push_str(rest)
+    Ok(())
 }
 
 /// Bounds that bar no nest.
