@@ -1,6 +1,5 @@
 -- A pass over operands, in the list's own memory: what stays moves down.
 use Rattle.std.proofs.Common.{◌≡◌, ◌<◌, ◌≤◌, ℕ, zero, suc, ◌+◌, ◌-◌, Bool, true, false, not, nat_eq, [], ◌∷◌, ◌++◌, length, get_or, take, drop, refl, sym, ap, ◌∙◌, subst, arith}
-use Rattle.std.specs.Prelude.{◌||◌}
 use Rattle.std.proofs.lemmas.List.{append_assoc, append-nil, drop_all, take_more, take_all, get_or-take, length-append, length-drop, length-take-le, length_push}
 use Rattle.ast_types.specs.declared.expr.Expr as declared_expr
 use Rattle.theory_meaning.specs.Tree.{Expr, Exprs, no_exprs, expr}

@@ -1,5 +1,5 @@
 -- Parts of an interpolated text that go or are joined, in the list's own memory.
-use Rattle.std.proofs.Common.{◌≡◌, ◌<◌, ◌≤◌, ℕ, ◌+◌, ◌-◌, suc, inl, inr, Bool, true, false, not, ◌||◌, nat_eq, [], ◌∷◌, ◌++◌, length, get_or, set, take, drop, refl, sym, ap, ◌∙◌, subst, arith}
+use Rattle.std.proofs.Common.{◌≡◌, ◌<◌, ◌≤◌, ℕ, ◌+◌, ◌-◌, suc, inl, inr, Bool, true, false, not, nat_eq, [], ◌∷◌, ◌++◌, length, get_or, set, take, drop, refl, sym, ap, ◌∙◌, subst, arith}
 use Rattle.std.proofs.lemmas.Bool.Decides.{eqb_tells}
 use Rattle.std.proofs.lemmas.List.{append_assoc, append-nil, drop_all, drop-drop, drop-set-lt, take_all, take-set-le, length-set, length-take-le, get_or-set_same, get_or_read, set-get_or}
 use Rattle.ast_types.specs.declared.expr.Expr as declared_expr
