@@ -114,8 +114,8 @@ value_step r ks p dot f old unit part v t h q =
 pub moved_step : (r : Engine) (ks : List Known) (p : Place) (dot : Bool) (f : ChainFlags) (old new : BinaryExpr) (unit : Bool) (part : declared.Expr) → unit ≡ may_stand p (onward f.breaks (expr_of old.rhs) UnitConstant) → IsMoved unit dot f.breaks old new (Some part) → PartStep r ks p dot f old new (Some part)
 moved_step r ks p dot f old new unit part t m =
     let v = m.1.0 in
-    let answers : value_answer r ks unit dot f (expr_of old.lhs) (expr_of old.rhs) ≡ Some v = ap (λ o. or_else o (allowed unit (known_answer ks dot (expr_of old.lhs) (expr_of old.rhs)))) (m.1.1.1 r f.negated) in
-    (m.0, subst (λ x. Rewrites r ks p (chain_of dot f old) (onward f.breaks (expr_of old.rhs) x)) (sym m.1.1.0) (value_rewrites r ks p dot f (expr_of old.lhs) (expr_of old.rhs) unit t v answers))
+    let answers : value_answer r ks unit dot f (expr_of old.lhs) (expr_of old.rhs) ≡ Some v = ap (λ o. or_else o (allowed unit (known_answer ks dot (expr_of old.lhs) (expr_of old.rhs)))) (m.1.2 r f.negated) in
+    (m.0, subst (λ x. Rewrites r ks p (chain_of dot f old) (onward f.breaks (expr_of old.rhs) x)) (sym m.1.1) (value_rewrites r ks p dot f (expr_of old.lhs) (expr_of old.rhs) unit t v answers))
 
 pub taken_step : (r : Engine) (ks : List Known) (p : Place) (dot : Bool) (f : ChainFlags) (old new : BinaryExpr) (unit : Bool) (part : Option declared.Expr) → unit ≡ may_stand p (onward f.breaks (expr_of old.rhs) UnitConstant) → None ≡ value_answer r ks unit dot f (expr_of old.lhs) (expr_of old.rhs) → IsTaken unit dot f.breaks old new part → PartStep r ks p dot f old new part
 taken_step r ks p dot f old new unit None t h i = (i.kept refl, none_answers r ks p dot f (expr_of old.lhs) (expr_of old.rhs) unit t (sym h) (sym i.answer))

@@ -9,15 +9,14 @@ use Rattle.rhai_base.specs.Operators.{Operator}
 use Rattle.rhai_base.specs.Builtin.{operator_of}
 use Rattle.ast_types.specs.declared.expr.Expr as declared_expr
 use Rattle.ast_types.specs.Reading.{exprs_of, pairs_of, mark_by, mark_of}
-use Rattle.ast_types.proofs.Cases.{ExprCase, integer_constant_case, dynamic_constant_case, interpolated_string_case, array_case as array_expr, map_case as map_expr, variable_case, property_case, method_call_case}
+use Rattle.ast_types.proofs.Cases.{ExprCase, integer_constant_case, dynamic_constant_case, interpolated_string_case, array_case as array_expr, map_case as map_expr, property_case, method_call_case}
 use Rattle.theory_meaning.specs.Constants.{constant_value, constant_values, constant_entries, array_value, map_value, joined_value}
 use Rattle.theory_meaning.specs.Engine.{Engine}
 use Rattle.theory_meaning.specs.Tree.{Expr, UnitConstant, Pairs}
 use Rattle.theory_rewriting.specs.Answering.{property_of}
-use Rattle.theory_rewriting.specs.Clear.{known_value}
 use Rattle.theory_rewriting.specs.Indexing.{indexed}
 use Rattle.theory_rewriting.specs.Known.{Known}
-use Rattle.ast_types.proofs.OtherKinds.{NoArray, NoMap, NoVariable, NoMethod, NoProperty, NoInteger, NoDynamic}
+use Rattle.ast_types.proofs.OtherKinds.{NoArray, NoMap, NoMethod, NoProperty, NoInteger, NoDynamic}
 use Rattle.opt_chains.specs.Answers.{whole_value, has_no_token, is_empty, member_answer, entry_of, known_answer}
 use Rattle.opt_chains.specs.Literals.{integer_of, property_for, entry_for, literal_part, found_part}
 use Rattle.opt_chains.specs.declared.parts.literals.Found.{Found}

@@ -4,7 +4,7 @@
 #![tactic(auto, using(ast_types::specs::Reading::shapes, rhai_base::specs::Reading::kinds, crate::proofs::OtherParts::kinds_of_values))]
 
 ghost use Rattle.std.specs.Prelude.{◌≡◌, IfOk, Some, false};
-ghost use Rattle.std.specs.Option.{option_copied, option_map};
+ghost use Rattle.std.specs.Option.{option_map};
 ghost use Rattle.rhai_base.specs.Reading.{value_of};
 ghost use Rattle.rhai_base.specs.Value.{BoolV, IntV, TextV};
 ghost use Rattle.ast_types.specs.Reading.{callee_of, expr_of, exprs_of, is_negated, mark_of};
@@ -49,15 +49,6 @@ pub(crate) fn property_of_constant(
     }
 }
 
-fn copied(value: Option<&Dynamic>) -> Result<Option<Dynamic>, OutOfMemory>
-    ensures { IfOk result (λ v. option_map value_of v ≡ option_map value_of (option_copied value.entry)) }
-{
-    match value {
-        Some(value) => Ok(Some(value.clone()?)),
-        None => Ok(None),
-    }
-}
-
 fn bit_at(number: INT, place: INT) -> Option<Dynamic>
     ensures { option_map value_of result ≡ elements.bit number place }
 {
@@ -69,7 +60,7 @@ fn at_place(value: &Dynamic, place: INT) -> Result<Option<Dynamic>, OutOfMemory>
     ensures { IfOk result (λ v. option_map value_of v ≡ indexing.indexed (value_of value.now) (IntV place)) }
 {
     match value {
-        Dynamic::Array(items) => copied(element(items.as_slice(), place)),
+        Dynamic::Array(items) => Ok(element(items.as_slice(), place).cloned()?),
         Dynamic::Str(text) => Ok(character(text.as_str(), place).map(Dynamic::Char)),
         Dynamic::Int(number) => Ok(bit_at(*number, place)),
         _ => Ok(None),
