@@ -1,5 +1,5 @@
 -- An `if` that is decided, has no statements, or stays.
-use Rattle.std.proofs.Common.{◌≡◌, Bool, true, false, not, ◌&&◌, ◌↔◌, IsTrue, List, [], ◌∷◌, Option, Some, None, is_some, refl, sym, ap, subst}
+use Rattle.std.proofs.Common.{◌≡◌, Bool, true, false, not, ◌&&◌, ◌↔◌, IsTrue, List, [], ◌∷◌, Option, Some, None, is_some, refl, sym, ap, ◌∙◌, subst}
 use Rattle.ast_types.specs.declared.stmt.Stmt as declared_stmt
 use Rattle.theory_meaning.specs.Constants.{constant_bool}
 use Rattle.theory_meaning.specs.Tree.{Expr, Stmt, Noop, If, Block, Stmts, no_stmts, stmt}
@@ -9,7 +9,10 @@ use Rattle.theory_rewriting.specs.Rules.{block_or_noop, condition_alone}
 use Rattle.theory_rewriting.specs.Steps.{StmtRewrite}
 use Rattle.theory_rewriting.proofs.Keeping.{keeps_condition}
 use Rattle.opt_steps.proofs.Places.{not-true}
-use Rattle.opt_stmts.specs.SettledChoices.{is_empty, is_settled_if, opens_if, reopens}
+use Rattle.opt_steps.specs.declared.step.NodeStep.{NodeStep}
+use Rattle.opt_steps.specs.NodeSteps.{step_by}
+use Rattle.opt_stmts.specs.ChoiceSteps.{answer, answer_by}
+use Rattle.opt_stmts.specs.SettledChoices.{is_empty, is_settled_if, is_settled, is_nest, opens_if, reopens}
 
 -- ---- blocks
 
@@ -36,22 +39,19 @@ settled_if-none e no_stmts no_stmts h = refl
 settled_if-none e no_stmts (stmt s b) h = absurd cc
 settled_if-none e (stmt s a) b h = absurd cc
 
-tests-agree : (empty : Bool) (o : Option Bool) (r : Bool) → false ≡ empty → is_some o ≡ not r → r ≡ not empty && not (is_some o)
-tests-agree true o r h i = absurd cc
-tests-agree false o true h i = sym (ap not i)
-tests-agree false o false h i = sym (ap not i)
+undecided-if : (empty : Bool) (o : Option Bool) → false ≡ empty → o ≡ None → not empty && not (is_some o) ≡ true
+undecided-if true o h i = absurd cc
+undecided-if false None h i = refl
+undecided-if false (Some x) h i = absurd cc
 
-pub settled_if-some : (e : Expr) (a b : Stmts) (r : Bool) → false ≡ is_empty a && is_empty b → is_some (constant_bool e) ≡ not r → r ≡ is_settled_if e a b
-settled_if-some e a b r h i = tests-agree (is_empty a && is_empty b) (constant_bool e) r h i
+-- an `if` with statements that is not decided stays
+pub settled_if-some : (e : Expr) (a b : Stmts) → false ≡ is_empty a && is_empty b → constant_bool e ≡ None → is_settled_if e a b ≡ true
+settled_if-some e a b h i = undecided-if (is_empty a && is_empty b) (constant_bool e) h i
 
-decided-if : (empty : Bool) (o : Option Bool) → false ≡ empty → o ≡ None → not empty && not (is_some o) ≡ false → ⊥
-decided-if true o h i j = cc
-decided-if false None h i j = cc
-decided-if false (Some x) h i j = cc
-
--- an `if` with statements that does not stay is decided
-pub undecided : (e : Expr) (a b : Stmts) → false ≡ is_empty a && is_empty b → constant_bool e ≡ None → is_settled_if e a b ≡ false → ⊥
-undecided e a b h i j = decided-if (is_empty a && is_empty b) (constant_bool e) h i j
+decided-if : (empty : Bool) (o : Option Bool) (d : Bool) → o ≡ Some d → not empty && not (is_some o) ≡ false
+decided-if true o d i = refl
+decided-if false None d i = absurd cc
+decided-if false (Some x) d i = refl
 
 none-of : {A : Type 0} (o : Option A) → is_some o ≡ false → o ≡ None
 none-of None h = refl
@@ -64,23 +64,30 @@ right-true false b h = absurd cc
 pub settled_if : (e : Expr) (a b : Stmts) → is_settled_if e a b ≡ true → constant_bool e ≡ None
 settled_if e a b h = none-of (constant_bool e) (not-true (is_some (constant_bool e)) (right-true (not (is_empty a && is_empty b)) _ h))
 
--- a statement that is spelled so: what is to be gone over again is that of its spelling
-pub stmt_spelled : {w : Bool} {s s1 s' : Stmt} → s ≡ s1 → StmtRewrite (reopens w s1) w s1 s' → StmtRewrite (reopens w s) w s s'
-stmt_spelled {w = w} {s' = s'} x r = subst (λ a. StmtRewrite (reopens w a) w a s') (sym x) r
-
-pub stmt_replaced : {w : Bool} {s s1 s2 s' : Stmt} → s1 ≡ s → s' ≡ s2 → StmtRewrite (reopens w s1) w s1 s2 → StmtRewrite (reopens w s) w s s'
-stmt_replaced {w = w} {s1 = s1} {s' = s'} x y r = subst (λ a. StmtRewrite (reopens w a) w a s') x (subst (λ b. StmtRewrite (reopens w s1) w s1 b) (sym y) r)
-
 -- an `if` with two empty blocks
 pub bare_if : (w : Bool) (e : Expr) → StmtRewrite w w (If e no_stmts no_stmts) (condition_alone w e)
 bare_if true e = record { rule = λ k. rule.if_without_blocks; keeps = λ h. absurd cc }
 bare_if false e = record { rule = λ k. rule.if_without_blocks; keeps = λ h. keeps_condition e }
 
-no_more : (w : Bool) → w && true ≡ w
-no_more true = refl
-no_more false = refl
+opens-all : (w empty : Bool) → true ≡ empty → w && empty ≡ w
+opens-all true empty h = sym h
+opens-all false empty h = refl
 
-pub bare_opens : (w : Bool) (e : Expr) (a b : Stmts) {s' : Stmt} → true ≡ is_empty a && is_empty b → StmtRewrite w w (If e no_stmts no_stmts) s' → StmtRewrite (opens_if w a b) w (If e a b) s'
-bare_opens w e no_stmts no_stmts {s' = s'} h r = subst (λ o. StmtRewrite o w (If e no_stmts no_stmts) s') (sym (no_more w)) r
-bare_opens w e no_stmts (stmt s b) h r = absurd cc
-bare_opens w e (stmt s a) b h r = absurd cc
+opens-none : (w empty : Bool) → false ≡ empty → w && empty ≡ false
+opens-none true empty h = sym h
+opens-none false empty h = refl
+
+-- what came of an `if` that does not stay
+pub reduces_bare : (w : Bool) (e : Expr) (a b : Stmts) {s' : Stmt} {n : NodeStep} → true ≡ is_empty a && is_empty b → n ≡ step_by w → StmtRewrite w w (If e no_stmts no_stmts) s' → (is_settled_if e a b ≡ false) × (n ≡ step_by (opens_if w a b)) × StmtRewrite (opens_if w a b) w (If e a b) s'
+reduces_bare w e a b {s' = s'} h n r =
+    let o = sym (opens-all w (is_empty a && is_empty b) h) in
+    (sym (settled_if-none e a b h), n ∙ ap step_by o, subst (λ o. StmtRewrite o w (If e a b) s') o (subst (λ x. StmtRewrite w w x s') (sym (bare-if e a b h)) r))
+
+pub reduces_decided : (w : Bool) (e : Expr) (a b : Stmts) {s' : Stmt} (d : Bool) → false ≡ is_empty a && is_empty b → constant_bool e ≡ Some d → StmtRewrite false w (If e a b) s' → (is_settled_if e a b ≡ false) × (step_by false ≡ step_by (opens_if w a b)) × StmtRewrite (opens_if w a b) w (If e a b) s'
+reduces_decided w e a b {s' = s'} d h i r =
+    let o = sym (opens-none w (is_empty a && is_empty b) h) in
+    (decided-if (is_empty a && is_empty b) (constant_bool e) d i, ap step_by o, subst (λ o. StmtRewrite o w (If e a b) s') o r)
+
+-- what comes of an `if`, by its tests
+pub answer_of : (w : Bool) (x : Stmt) {a b : Bool} → is_settled x ≡ a → is_nest x ≡ b → answer_by a b (reopens w x) ≡ answer w x
+answer_of w x {a = a} {b = b} h i = sym (ap (λ z. answer_by z (is_nest x) (reopens w x)) h ∙ ap (λ z. answer_by a z (reopens w x)) i)

@@ -1,5 +1,5 @@
 -- Rules that fired.
-use Rattle.std.proofs.Common.{◌≡◌, Bool, true, false, ◌||◌, ◌+◌, ◌<◌, ◌≤◌, ℕ, List, [], ◌∷◌, length, Option, Some, None, is_some, sym, ap, ◌∙◌, subst, arith}
+use Rattle.std.proofs.Common.{◌≡◌, Bool, true, ◌||◌, ◌+◌, ◌<◌, ◌≤◌, ℕ, List, [], ◌∷◌, length, Option, Some, None, is_some, sym, subst, arith}
 use Rattle.rhai_base.specs.Value.{Text, Value}
 use Rattle.theory_meaning.specs.Engine.{Engine}
 use Rattle.theory_meaning.specs.Tree.{Stmt, Noop, Share}
@@ -9,9 +9,8 @@ use Rattle.theory_rewriting.specs.Rules.{StmtRule}
 use Rattle.theory_rewriting.specs.Steps.{Progress, here, KeepsStmtParts}
 use Rattle.theory_rewriting.proofs.Firing.{stmt_fired_by}
 use Rattle.theory_rewriting.proofs.Keeping.{keeps_noop}
-use Rattle.opt_steps.proofs.Places.{not-false}
 use Rattle.opt_stmts.specs.Firing.{Fires}
-use Rattle.opt_stmts.specs.SettledAssignments.{is_settled_share, shares_nothing, knows_some}
+use Rattle.opt_stmts.specs.SettledAssignments.{shares_nothing, knows_some}
 use Rattle.opt_stmts.proofs.AssignmentParts.{keeps_share}
 
 pub fires : {r : Engine} {w : Bool} {s s' : Progress} {x x' : Stmt} → s'.is_dirty ≡ true → s'.known ≡ s.known → StmtRule (here r s) w x x' → KeepsStmtParts x x' → Fires r w s s' x x'
@@ -45,9 +44,6 @@ fewer : (ks : List Known) (xs : List Text) → knows_some ks xs ≡ true → len
 fewer ks [] h = absurd cc
 fewer ks (x ∷ xs) h = omega (arith, fewer-by (look ks x) x (knows_some ks xs) (length xs) (unknown ks xs) h (no_more ks xs) (fewer ks xs))
 
-pub shared : {r : Engine} {w : Bool} {s s' : Progress} {x x' : Stmt} (xs ys : List Text) → x ≡ Share xs → x' ≡ Share ys → ys ≡ unknown s.known xs → is_settled_share s.known x ≡ false → s'.is_dirty ≡ true → s'.known ≡ s.known → Fires r w s s' x x'
-shared {r = r} {w = w} {s = s} {s' = s'} {x = x} xs ys i j e h d k =
-    let n = ap (is_settled_share s.known) (sym i) ∙ h in
-    subst (λ a. Fires r w s s' x a) (sym (j ∙ ap Share e))
-    (subst (λ a. Fires r w s s' a (Share (unknown s.known xs))) (sym i)
-    (fires d k (rule.share_known (fewer s.known xs (not-false _ n))) (keeps_share xs _)))
+pub shared : {r : Engine} {w : Bool} {s s' : Progress} (xs ys : List Text) → ys ≡ unknown s.known xs → knows_some s.known xs ≡ true → s'.is_dirty ≡ true → s'.known ≡ s.known → Fires r w s s' (Share xs) (Share ys)
+shared {r = r} {w = w} {s = s} {s' = s'} xs ys e h d k =
+    subst (λ a. Fires r w s s' (Share xs) (Share a)) (sym e) (fires d k (rule.share_known (fewer s.known xs h)) (keeps_share xs _))

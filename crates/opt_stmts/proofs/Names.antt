@@ -1,15 +1,17 @@
 -- Shared names, one by one.
-use Rattle.std.proofs.Common.{◌≡◌, ℕ, ◌+◌, ◌<◌, Bool, true, false, ◌||◌, not, List, [], ◌∷◌, Option, Some, None, is_some, length, get_or, drop, ◌↔◌, IsTrue, refl, ap, ◌∙◌, add-one}
+use Rattle.std.proofs.Common.{◌≡◌, ℕ, ◌+◌, ◌<◌, Bool, true, false, ◌&&◌, ◌||◌, not, List, [], ◌∷◌, Option, Some, None, is_some, length, get_or, drop, ◌↔◌, IsTrue, refl, ap, ◌∙◌, add-one}
 use Rattle.std.proofs.Math.Seq.{drop-cons, drop-length}
 use Rattle.std.specs.List.{filter}
 use Rattle.std.specs.Prelude.{if◌then◌else◌}
 use Rattle.std.specs.declared.num.NonZeroUsize.{NonZeroUsize}
 use Rattle.base_tokens.specs.declared.ident.Ident.{Ident}
-use Rattle.rhai_base.specs.Value.{Value}
+use Rattle.rhai_base.specs.Value.{Text, Value}
 use Rattle.theory_meaning.specs.Tree.{Share}
 use Rattle.ast_types.specs.Reading.{shared_names}
 use Rattle.theory_rewriting.specs.Known.{Known, look, unless_known, unknown}
-use Rattle.opt_stmts.specs.SettledAssignments.{knows_some, shares_nothing}
+use Rattle.opt_steps.specs.declared.step.NodeStep.TheVariants as step
+use Rattle.opt_stmts.specs.Firing.{answer}
+use Rattle.opt_stmts.specs.SettledAssignments.{knows_some, shares_nothing, is_settled_share}
 
 pub knows-drop : (ks : List Known) (xs : List (Ident × Option NonZeroUsize)) (i : ℕ) (d : Ident × Option NonZeroUsize) → i < length xs → knows_some ks (shared_names (drop i xs)) ≡ (is_some (look ks (get_or xs i d).0.name) || knows_some ks (shared_names (drop (i + 1) xs)))
 knows-drop ks xs i d h = rw (add-one, drop-cons xs i d) refl
@@ -35,3 +37,7 @@ pub nothing-of : (xs : List (Ident × Option NonZeroUsize)) (b : Bool) → (IsTr
 nothing-of [] b h = h.1 refl
 nothing-of (x ∷ xs) true h = let k = h.0 refl in absurd cc
 nothing-of (x ∷ xs) false h = refl
+
+-- where there are some and none is known they stay
+pub stays_shared : (ks : List Known) (xs : List Text) → false ≡ shares_nothing (Share xs) → false ≡ knows_some ks xs → step.Kept ≡ answer (not (shares_nothing (Share xs)) && is_settled_share ks (Share xs))
+stays_shared ks xs n h = ap (λ b. answer (not b)) h ∙ ap (λ b. answer (not b && not (knows_some ks xs))) n

@@ -2,12 +2,12 @@
 use Rattle.std.proofs.Common.{◌≡◌, true, false, refl}
 use Rattle.ast_types.specs.declared.expr.Expr as declared_expr
 use Rattle.ast_types.specs.declared.stmt.Stmt as declared_stmt
-use Rattle.theory_meaning.specs.Tree.{Expr, BlockExpr, Stmt, ExprStmt}
+use Rattle.theory_meaning.specs.Tree.{Expr, Stmt}
 use Rattle.ast_types.proofs.Cases.{ExprCase, braces_case, call_case, StmtCase, while_case, block_case, try_catch_case, expression_case}
 use Rattle.ast_types.proofs.OtherKinds.{NoBraces, NoCall, NoWhile, NoBlock, NoTry, NoExpression}
-use Rattle.opt_stmts.specs.SettledStatements.{is_settled_block, stays, holds_some, is_over_braces, is_settled_expression, is_while, is_settled_try}
+use Rattle.opt_stmts.specs.SettledStatements.{is_block, stays, holds_some, is_over_braces, is_expression, is_while, is_try}
 
-pub no_block : {x : declared_stmt.Stmt} {s : Stmt} → StmtCase x s → NoBlock x → true ≡ is_settled_block s
+pub no_block : {x : declared_stmt.Stmt} {s : Stmt} → StmtCase x s → NoBlock x → false ≡ is_block s
 no_block (block_case b) h = absurd (h b refl)
 no_block _ h = refl
 
@@ -24,13 +24,7 @@ pub not_over_braces : {x : declared_stmt.Stmt} {s : Stmt} → StmtCase x s → N
 not_over_braces (expression_case e) h = absurd (h e refl)
 not_over_braces _ h = refl
 
--- what is over braces does not stay
-pub braces_go : (s : Stmt) → is_over_braces s ≡ true → is_settled_expression s ≡ false
-braces_go (ExprStmt (BlockExpr ss)) h = refl
-braces_go (ExprStmt _) h = absurd (let z : false ≡ true = h in cc)
-braces_go _ h = absurd (let z : false ≡ true = h in cc)
-
-pub no_expression : {x : declared_stmt.Stmt} {s : Stmt} → StmtCase x s → NoExpression x → true ≡ is_settled_expression s
+pub no_expression : {x : declared_stmt.Stmt} {s : Stmt} → StmtCase x s → NoExpression x → false ≡ is_expression s
 no_expression (expression_case e) h = absurd (h e refl)
 no_expression _ h = refl
 
@@ -38,6 +32,6 @@ pub no_while : {x : declared_stmt.Stmt} {s : Stmt} → StmtCase x s → NoWhile 
 no_while (while_case f p) h = absurd (h f p refl)
 no_while _ h = refl
 
-pub no_try : {x : declared_stmt.Stmt} {s : Stmt} → StmtCase x s → NoTry x → true ≡ is_settled_try s
+pub no_try : {x : declared_stmt.Stmt} {s : Stmt} → StmtCase x s → NoTry x → false ≡ is_try s
 no_try (try_catch_case f p) h = absurd (h f p refl)
 no_try _ h = refl

@@ -1,5 +1,5 @@
 -- No rule applies at a statement that stays.
-use Rattle.std.proofs.Common.{◌≡◌, ◌<◌, Bool, true, false, not, ◌&&◌, ◌||◌, List, [], ◌∷◌, length, Option, Some, None, is_some, arith, refl, sym, ap, ◌∙◌}
+use Rattle.std.proofs.Common.{◌≡◌, ◌<◌, Bool, true, false, not, ◌&&◌, ◌||◌, List, [], ◌∷◌, length, Option, Some, None, is_some, arith, refl, sym, ap, ◌∙◌, subst}
 use Rattle.std.proofs.lemmas.Slice.Eq.{bytes_eq-Decides}
 use Rattle.rhai_base.specs.Operators.{Operator}
 use Rattle.rhai_base.specs.Value.{Text, Value, same_text}
@@ -13,16 +13,29 @@ use Rattle.theory_rewriting.specs.Operands.{is_and, ends_false}
 use Rattle.theory_rewriting.specs.Rules as rule
 use Rattle.theory_rewriting.specs.Rules.{StmtRule}
 use Rattle.theory_rewriting.specs.SelfAssign.{has_op_assignment, leaves_names}
-use Rattle.theory_rewriting.specs.Steps.{NoStmtRule}
+use Rattle.theory_rewriting.specs.Answering.{is_that}
+use Rattle.theory_rewriting.specs.Residue.{IsReducedNode}
+use Rattle.theory_rewriting.specs.Steps.{Progress, here, NoStmtRule, StmtKept}
+use Rattle.theory_meaning.specs.Walk.{OfStmt}
+use Rattle.opt_steps.proofs.Stepping.{stmt_stays}
 use Rattle.opt_steps.proofs.Places.{not-true}
-use Rattle.opt_stmts.specs.SettledAssignments.{knows_some, is_share, shares_nothing, is_settled_share, has_form, is_open, is_assignment, is_settled_assignment}
-use Rattle.opt_stmts.specs.SettledChoices.{is_if, is_settled_if, is_settled, goes_on, nests, is_nest}
-use Rattle.opt_stmts.specs.SettledStatements.{is_block, are_settled, is_settled_block, is_expression, stays, is_settled_expression, is_while, decided_loop, is_try, is_settled_try}
+use Rattle.opt_stmts.specs.SettledAssignments.{knows_some, shares_nothing, has_form, is_open, is_settled_assignment}
+use Rattle.opt_stmts.specs.SettledChoices.{is_settled_if, goes_on, nests}
+use Rattle.opt_stmts.specs.SettledStatements.{are_settled, stays}
 use Rattle.opt_stmts.proofs.Choosing.{settled_if}
 
 both : (a b : Bool) → a ≡ true → b ≡ true → a && b ≡ true
 both true b h i = i
 both false b h i = absurd cc
+
+-- a statement that is spelled so stays
+kept_as : {r : Engine} {s : Progress} {x x' : Stmt} (y : Stmt) → x ≡ y → x' ≡ x → IsReducedNode r (OfStmt y) → NoStmtRule (here r s) y → StmtKept r s s x x'
+kept_as {r = r} {s = s} {x = x} {x' = x'} y e i h n =
+    subst (λ a. StmtKept r s s x a) (sym i) (subst (λ a. StmtKept r s s a a) (sym e) (stmt_stays h n))
+
+-- and so does what is known
+pub kept_when : {r : Engine} {s s' : Progress} {x x' : Stmt} → s' ≡ s → StmtKept r s s x x' → StmtKept r s s' x x'
+kept_when {r = r} {s = s} {x = x} {x' = x'} e k = subst (λ z. StmtKept r s z x x') (sym e) k
 
 -- ---- blocks
 
@@ -30,9 +43,8 @@ block_rules : {k : Context} {w : Bool} {x' : Stmt} (ss : Stmts) → are_settled 
 block_rules _ h rule.block_empty = let z : false ≡ true = h in cc
 block_rules _ h (rule.block_of_statement d) = let z : false ≡ true = sym d ∙ h in cc
 
-pub block_settled : (k : Context) (x : Stmt) → is_block x ≡ true → is_settled_block x ≡ true → NoStmtRule k x
-block_settled k (Block ss) i h = λ w x' q. block_rules ss h q
-block_settled k _ i h = absurd cc
+pub block_kept : {r : Engine} {s : Progress} {x x' : Stmt} (ss : Stmts) → x ≡ Block ss → x' ≡ x → are_settled ss ≡ true → StmtKept r s s x x'
+block_kept ss e i h = kept_as (Block ss) e i tt (λ w x' q. block_rules ss h q)
 
 -- ---- expression statements
 
@@ -40,9 +52,8 @@ expression_rules : {k : Context} {w : Bool} {x' : Stmt} (e : Expr) → stays e �
 expression_rules _ h rule.statement_of_braces = let z : false ≡ true = h in cc
 expression_rules _ h rule.statement_of_call = let z : false ≡ true = h in cc
 
-pub expression_settled : (k : Context) (x : Stmt) → is_expression x ≡ true → is_settled_expression x ≡ true → NoStmtRule k x
-expression_settled k (ExprStmt e) i h = λ w x' q. expression_rules e h q
-expression_settled k _ i h = absurd cc
+pub expression_kept : {r : Engine} {s : Progress} {x x' : Stmt} (e : Expr) → x ≡ ExprStmt e → x' ≡ x → stays e ≡ true → StmtKept r s s x x'
+expression_kept e y i h = kept_as (ExprStmt e) y i tt (λ w x' q. expression_rules e h q)
 
 -- ---- loops
 
@@ -50,18 +61,16 @@ while_rules : {k : Context} {w : Bool} {x' : Stmt} (e : Expr) (b : Stmts) → co
 while_rules e b h (rule.while_false d) = let z : None ≡ Some false = sym h ∙ d in cc
 while_rules e b h (rule.while_true d) = let z : None ≡ Some true = sym h ∙ d in cc
 
-pub while_settled : (k : Context) (x : Stmt) → is_while x ≡ true → decided_loop x ≡ None → NoStmtRule k x
-while_settled k (While e b) i h = λ w x' q. while_rules e b h q
-while_settled k _ i h = absurd cc
+pub while_kept : {r : Engine} {s : Progress} {x x' : Stmt} (e : Expr) (b : Stmts) → x ≡ While e b → x' ≡ x → constant_bool e ≡ None → StmtKept r s s x x'
+while_kept e b y i h = kept_as (While e b) y i (ap (is_that false) h) (λ w x' q. while_rules e b h q)
 
 -- ---- `try`
 
 try_rules : {k : Context} {w : Bool} {x' : Stmt} (x : Expr) (a b : Stmts) → not (are_internally_pure a) ≡ true → StmtRule k w (TryCatch x a b) x' → ⊥
 try_rules x a b h (rule.pure_try p) = let z : false ≡ true = ap not (sym p) ∙ h in cc
 
-pub try_settled : (k : Context) (x : Stmt) → is_try x ≡ true → is_settled_try x ≡ true → NoStmtRule k x
-try_settled k (TryCatch x a b) i h = λ w x' q. try_rules x a b h q
-try_settled k _ i h = absurd cc
+pub try_kept : {r : Engine} {s : Progress} {x x' : Stmt} (t : Expr) (a b : Stmts) → x ≡ TryCatch t a b → x' ≡ x → not (are_internally_pure a) ≡ true → StmtKept r s s x x'
+try_kept t a b y i h = kept_as (TryCatch t a b) y i tt (λ w x' q. try_rules t a b h q)
 
 -- ---- an `if`
 
@@ -75,9 +84,8 @@ if_rules c a b h n (rule.if_decided {t} d) = let z : None ≡ Some t = sym (sett
 if_rules c _ _ h n (rule.nested_if i) = let z : true ≡ false = sym (both (goes_on c) true (alone_goes_on c i) refl) ∙ n in cc
 if_rules _ _ _ h n (rule.nested_if_joins {es} i) = let z : true ≡ false = sym (both (not (ends_false es)) true (ap not i) refl) ∙ n in cc
 
-pub if_settled : (k : Context) (x : Stmt) → is_if x ≡ true → is_settled x ≡ true → is_nest x ≡ false → NoStmtRule k x
-if_settled k (If c a b) i h n = λ w x' q. if_rules c a b h n q
-if_settled k _ i h n = absurd cc
+pub if_kept : {r : Engine} {s : Progress} {x x' : Stmt} (c : Expr) (a b : Stmts) → x ≡ If c a b → x' ≡ x → is_settled_if c a b ≡ true → nests c a b ≡ false → StmtKept r s s x x'
+if_kept c a b y i h n = kept_as (If c a b) y i (settled_if c a b h) (λ w x' q. if_rules c a b h n q)
 
 -- ---- assignments
 
@@ -85,16 +93,15 @@ same_self : (x : Text) → same_text x x ≡ true
 same_self x = (bytes_eq-Decides x x).1 refl
 
 -- `x = x op e`, where op has an `op=` that is open, doesn't stay
-assigns_so : (r : Engine) (op : Operator) (f : Callee) (x : Text) (e : Expr) → f.token ≡ OfOperator op → has_op_assignment op ≡ true → leaves_names e ≡ true → overrides_any r.overrides (assigning op) ≡ false → (same_text x x && leaves_names e) && (has_form f.token && is_open r f.token) ≡ true
+pub assigns_so : (r : Engine) (op : Operator) (f : Callee) (x : Text) (e : Expr) → f.token ≡ OfOperator op → has_op_assignment op ≡ true → leaves_names e ≡ true → overrides_any r.overrides (assigning op) ≡ false → (same_text x x && leaves_names e) && (has_form f.token && is_open r f.token) ≡ true
 assigns_so r op f x e t a l o =
     both _ _ (both _ _ (same_self x) l) (both _ _ (ap has_form t ∙ a) (ap (is_open r) t ∙ ap not o))
 
 assignment_rules : {w : Bool} {x' : Stmt} (r : Engine) (ks : List Known) (op : Option Operator) (l e : Expr) → is_settled_assignment r (Assignment op l e) ≡ true → StmtRule (knowing r ks) w (Assignment op l e) x' → ⊥
 assignment_rules r ks _ _ _ h (rule.self_assign {op} {f} {x} {e} t a l o) = let z : false ≡ true = ap not (sym (assigns_so r op f x e t a l o)) ∙ h in cc
 
-pub assignment_settled : (r : Engine) (ks : List Known) (x : Stmt) → is_assignment x ≡ true → is_settled_assignment r x ≡ true → NoStmtRule (knowing r ks) x
-assignment_settled r ks (Assignment op l e) i h = λ w x' q. assignment_rules r ks op l e h q
-assignment_settled r ks _ i h = absurd cc
+pub assignment_kept : {r : Engine} {s : Progress} {x x' : Stmt} (op : Option Operator) (l e : Expr) → x ≡ Assignment op l e → x' ≡ x → is_settled_assignment r (Assignment op l e) ≡ true → StmtKept r s s x x'
+assignment_kept {r = r} {s = s} op l e y i h = kept_as (Assignment op l e) y i tt (λ w x' q. assignment_rules r s.known op l e h q)
 
 -- ---- shared names
 
@@ -114,6 +121,5 @@ share_rules : {w : Bool} {x' : Stmt} (k : Context) (xs : List Text) → shares_n
 share_rules k xs n h (rule.share_known l) = no_fewer k.known xs h l
 share_rules k _ n h rule.share_nothing = let z : true ≡ false = n in cc
 
-pub share_settled : (k : Context) (x : Stmt) → is_share x ≡ true → shares_nothing x ≡ false → is_settled_share k.known x ≡ true → NoStmtRule k x
-share_settled k (Share xs) i n h = λ w x' q. share_rules k xs n h q
-share_settled k _ i n h = absurd cc
+pub share_kept : {r : Engine} {s : Progress} {x x' : Stmt} (xs : List Text) → x ≡ Share xs → x' ≡ x → shares_nothing (Share xs) ≡ false → knows_some s.known xs ≡ false → StmtKept r s s x x'
+share_kept {r = r} {s = s} xs y i n h = kept_as (Share xs) y i tt (λ w x' q. share_rules (here r s) xs n (ap not h) q)

@@ -1,8 +1,8 @@
 -- Assignments and shared names at which no rule fires, their parts being reduced.
-use Rattle.std.specs.Prelude.{Bool, true, false, ◌&&◌, ◌||◌, not, List, [], ◌∷◌, Option, Some, None, is_some}
+use Rattle.std.specs.Prelude.{Bool, true, false, ◌&&◌, ◌||◌, not, List, [], ◌∷◌, None, is_some}
 use Rattle.rhai_base.specs.Value.{Text, same_text}
 use Rattle.theory_meaning.specs.Engine.{Engine, overrides_any, assigning}
-use Rattle.theory_meaning.specs.Tree.{CallToken, NoToken, OfOperator, Expr, Variable, FnCall, Exprs, no_exprs, expr, Stmt, Assignment, Share}
+use Rattle.theory_meaning.specs.Tree.{CallToken, OfOperator, Expr, Variable, FnCall, Exprs, no_exprs, expr, Stmt, Assignment, Share}
 use Rattle.theory_rewriting.specs.Known.{Known, look}
 use Rattle.theory_rewriting.specs.SelfAssign.{has_op_assignment, leaves_names}
 
@@ -65,25 +65,3 @@ assigns_itself r _ e = false
 abbrev pub is_settled_assignment : Engine → Stmt → Bool
 is_settled_assignment r (Assignment None l e) = not (assigns_itself r l e)
 is_settled_assignment r _ = true
-
--- the token of a call, and its second operand of two
-abbrev pub token_called : Expr → CallToken
-token_called (FnCall f es) = f.token
-token_called _ = NoToken
-
-abbrev pub second : Exprs → Option Expr
-second (expr a (expr e no_exprs)) = Some e
-second _ = None
-
-abbrev pub second_operand : Expr → Option Expr
-second_operand (FnCall f es) = second es
-second_operand _ = None
-
--- an operation over two operands whose operator has an `op=`
-abbrev pub has_operation : Expr → Bool
-has_operation (FnCall f es) = is_some (second es) && has_form f.token
-has_operation _ = false
-
-abbrev pub holds_operation : Stmt → Bool
-holds_operation (Assignment op l e) = has_operation e
-holds_operation _ = false

@@ -2,8 +2,8 @@
 
 #![tactic(auto, using(ast_types::specs::Reading::shapes))]
 
-ghost use Rattle.std.specs.Prelude.{◌≡◌, true, false, Bool};
-ghost use Rattle.opt_stmts.specs.Firing.{Fires, answer};
+ghost use Rattle.std.specs.Prelude.{◌≡◌, true, false, Bool, MatchOption, is_none};
+ghost use Rattle.opt_stmts.specs.Firing.{answer};
 ghost use Rattle.opt_known.specs.State.{progress};
 ghost use Rattle.theory_meaning.specs.Engine.{Engine};
 ghost use Rattle.theory_meaning.specs.Queries as queries;
@@ -13,16 +13,16 @@ ghost use Rattle.theory_rewriting.specs.Steps.{StmtRewrite};
 ghost use Rattle.opt_stmts.specs.SettledStatements as settled;
 ghost use Rattle.opt_steps.specs.NodeSteps.{StmtStep};
 
-use ast_nodes::{only_statement, put_stmt};
-use opt_steps::{NodeStep, OptimizerState, note_fired};
+use crate::made::put_made;
+use opt_steps::{NodeStep, OptimizerState};
 use rhai_ast::{Stmt, StmtBlock, StmtQueries, Take};
-use rhai_base::Span;
+use rhai_base::Position;
 
 /// A block of nothing does nothing.
-fn block_empty(span: Span) -> Stmt
+fn block_empty(pos: Position) -> Stmt
     ensures { (o w : Bool) → StmtRewrite o w (Block no_stmts) (stmt_of result) }
 {
-    Stmt::Noop(span.start())
+    Stmt::Noop(pos)
 }
 
 /// A block of one statement is that statement, unless it belongs to its block.
@@ -44,49 +44,20 @@ fn are_settled(statements: &[Stmt]) -> bool
     }
 }
 
-/// Whether a block stays.
-fn is_settled_block(statement: &Stmt) -> bool
-    ensures { result ≡ settled.is_settled_block (stmt_of statement.now) }
+/// What a block is rewritten to, if a rule fires at it: its statement is taken out then.
+fn reduced_block(block: &mut StmtBlock) -> Option<Stmt>
+    ensures answer { is_none result ≡ settled.are_settled (stmts_of block.old.block) }
+    ensures made { MatchOption result (block.new ≡ block.old) (λ s.
+        (o w : Bool) → StmtRewrite o w (Block (stmts_of block.old.block)) (stmt_of s)) }
 {
-    match statement {
-        Stmt::Block(block) => are_settled(block.get().statements()),
-        _ => true,
+    if are_settled(block.statements()) {
+        return None;
     }
-}
-
-/// What the block that does not stay is rewritten to.
-fn reduce_block(block: StmtBlock) -> Stmt
-    requires { settled.are_settled (stmts_of block.block) ≡ false }
-    ensures { (o w : Bool) → StmtRewrite o w (Block (stmts_of block.block)) (stmt_of result) }
-{
-    let span = block.span();
-    match only_statement(block) {
-        Some(statement) => block_of_statement(statement),
-        None => block_empty(span),
+    let pos = block.position();
+    match block.statements_mut().get_mut(0) {
+        Some(statement) => Some(block_of_statement(statement.take())),
+        None => Some(block_empty(pos)),
     }
-}
-
-fn reduced_block(statement: Stmt) -> Stmt
-    requires { settled.is_settled_block (stmt_of statement) ≡ false }
-    ensures { (o w : Bool) → StmtRewrite o w (stmt_of statement) (stmt_of result) }
-{
-    match statement {
-        Stmt::Block(block) => reduce_block(block.into_inner()),
-        // a block, as was asked by reference before it was taken out
-        _ => unreachable!(),
-    }
-}
-
-/// Takes out a block that does not stay, and puts in its place what it is rewritten to.
-#[inline(never)]
-fn rewrite_block(state: &mut OptimizerState<'_>, statement: &mut Stmt)
-    requires { settled.is_settled_block (stmt_of statement.now) ≡ false }
-    ensures { (r : Engine) (w : Bool)
-        → Fires r w (progress state.old) (progress state.new) (stmt_of statement.old) (stmt_of statement.new) }
-{
-    note_fired(state);
-    let made = reduced_block(statement.take());
-    put_stmt(statement, made);
 }
 
 /// Rewrites a block by the rule that fires at it, if one does.
@@ -97,9 +68,14 @@ pub fn step_block(state: &mut OptimizerState<'_>, statement: &mut Stmt) -> NodeS
         → StmtStep result r w (progress state.old) (progress state.new) (stmt_of statement.old)
         (stmt_of statement.new) }
 {
-    if is_settled_block(statement) {
-        return NodeStep::Kept;
+    match statement {
+        Stmt::Block(block) => match reduced_block(block.get_mut()) {
+            Some(made) => {
+                put_made(state, statement, made);
+                NodeStep::Rewritten
+            }
+            None => NodeStep::Kept,
+        },
+        _ => NodeStep::Kept,
     }
-    rewrite_block(state, statement);
-    NodeStep::Rewritten
 }

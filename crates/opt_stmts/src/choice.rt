@@ -1,5 +1,5 @@
-//! The rules at an `if` whose parts are optimised already, in its place. A test by reference says whether a rule
-//! fires; where none does nothing is moved, and no memory is taken.
+//! The rules at an `if` whose parts are optimised already, in its place. Where none fires nothing is moved, and no
+//! memory is taken.
 
 mod choice;
 mod nested;

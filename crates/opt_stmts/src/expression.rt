@@ -2,8 +2,7 @@
 
 #![tactic(auto, using(ast_types::specs::Reading::shapes))]
 
-ghost use Rattle.std.specs.Prelude.{◌≡◌, true, false, Bool};
-ghost use Rattle.opt_stmts.specs.Firing.{Fires};
+ghost use Rattle.std.specs.Prelude.{◌≡◌, true, Bool, MatchOption, is_none};
 ghost use Rattle.opt_known.specs.State.{progress};
 ghost use Rattle.theory_meaning.specs.Engine.{Engine};
 ghost use Rattle.theory_meaning.specs.Tree.{BlockExpr, ExprStmt, FnCall};
@@ -13,8 +12,9 @@ ghost use Rattle.opt_stmts.specs.SettledStatements as settled;
 ghost use Rattle.opt_steps.specs.NodeSteps.{StmtDecided, StmtStep};
 
 use crate::choice::is_empty;
-use ast_nodes::put_stmt;
-use opt_steps::{NodeStep, OptimizerState, note_fired, step_of};
+use crate::made::put_made;
+use ast_nodes::put_expr;
+use opt_steps::{NodeStep, OptimizerState, step_of};
 use rhai_ast::{Expr, FnCallExpr, Stmt, StmtBlock, Take};
 use rhai_base::{Boxed, Position};
 
@@ -46,50 +46,23 @@ fn stays(expr: &Expr) -> bool
     }
 }
 
-/// Whether an expression statement stays.
-fn is_settled_expression(statement: &Stmt) -> bool
-    ensures { result ≡ settled.is_settled_expression (stmt_of statement.now) }
+/// The statement that an expression is by itself, if it does not stay: it is taken out then.
+fn reduced_expression(expr: &mut Expr) -> Option<Stmt>
+    ensures answer { is_none result ≡ settled.stays (expr_of expr.old) }
+    ensures made { MatchOption result (expr.new ≡ expr.old) (λ s.
+        (o w : Bool) → StmtRewrite o w (ExprStmt (expr_of expr.old)) (stmt_of s)) }
 {
-    match statement {
-        Stmt::Expr(expr) => stays(expr.get()),
-        _ => true,
+    if stays(expr) {
+        return None;
     }
-}
-
-/// What the statement of an expression that does not stay is rewritten to.
-fn reduce_expression(expr: Expr) -> Stmt
-    requires { settled.stays (expr_of expr) ≡ false }
-    ensures { (o w : Bool) → StmtRewrite o w (ExprStmt (expr_of expr)) (stmt_of result) }
-{
-    match expr {
-        Expr::Stmt(block) => statement_of_braces(block),
-        Expr::FnCall(call, pos) => statement_of_call(call, pos),
-        // braces or a call, as was asked by reference before it was taken out
-        _ => unreachable!(),
+    match expr.take() {
+        Expr::Stmt(block) => Some(statement_of_braces(block)),
+        Expr::FnCall(call, pos) => Some(statement_of_call(call, pos)),
+        other => {
+            put_expr(expr, other);
+            None
+        }
     }
-}
-
-fn reduced_expression(statement: Stmt) -> Stmt
-    requires { settled.is_settled_expression (stmt_of statement) ≡ false }
-    ensures { (o w : Bool) → StmtRewrite o w (stmt_of statement) (stmt_of result) }
-{
-    match statement {
-        Stmt::Expr(expr) => reduce_expression(expr.into_inner()),
-        // an expression statement, as was asked by reference before it was taken out
-        _ => unreachable!(),
-    }
-}
-
-/// Takes out an expression statement that does not stay, and puts in its place what it is rewritten to.
-#[inline(never)]
-fn rewrite_expression(state: &mut OptimizerState<'_>, statement: &mut Stmt)
-    requires { settled.is_settled_expression (stmt_of statement.now) ≡ false }
-    ensures { (r : Engine) (w : Bool)
-        → Fires r w (progress state.old) (progress state.new) (stmt_of statement.old) (stmt_of statement.new) }
-{
-    note_fired(state);
-    let made = reduced_expression(statement.take());
-    put_stmt(statement, made);
 }
 
 /// Whether it is braces that hold something.
@@ -98,16 +71,6 @@ fn holds_some(expr: &Expr) -> bool
 {
     match expr {
         Expr::Stmt(block) => !is_empty(block.get()),
-        _ => false,
-    }
-}
-
-/// Whether it is an expression statement over braces that hold something.
-fn is_over_braces(statement: &Stmt) -> bool
-    ensures { result ≡ settled.is_over_braces (stmt_of statement.now) }
-{
-    match statement {
-        Stmt::Expr(expr) => holds_some(expr.get()),
         _ => false,
     }
 }
@@ -125,12 +88,19 @@ pub fn step_expression(
         → StmtStep result r is_wanted (progress state.old) (progress state.new) (stmt_of statement.old)
         (stmt_of statement.new) }
 {
-    if is_settled_expression(statement) {
-        return NodeStep::Kept;
+    match statement {
+        Stmt::Expr(expr) => {
+            let reopens = holds_some(expr.get()) && !is_wanted;
+            match reduced_expression(expr.get_mut()) {
+                Some(made) => {
+                    put_made(state, statement, made);
+                    step_of(reopens)
+                }
+                None => NodeStep::Kept,
+            }
+        }
+        _ => NodeStep::Kept,
     }
-    let reopens = is_over_braces(statement) && !is_wanted;
-    rewrite_expression(state, statement);
-    step_of(reopens)
 }
 
 /// Opens an expression statement over braces that hold something, whose parts were not gone over: it becomes a block, and
@@ -141,9 +111,19 @@ pub fn open_braces(state: &mut OptimizerState<'_>, statement: &mut Stmt) -> bool
         → StmtDecided result r w (progress state.old) (progress state.new) (stmt_of statement.old)
         (stmt_of statement.new) }
 {
-    if !is_over_braces(statement) {
-        return false;
+    match statement {
+        Stmt::Expr(expr) => {
+            if !holds_some(expr.get()) {
+                return false;
+            }
+            match reduced_expression(expr.get_mut()) {
+                Some(made) => {
+                    put_made(state, statement, made);
+                    true
+                }
+                None => false,
+            }
+        }
+        _ => false,
     }
-    rewrite_expression(state, statement);
-    true
 }

@@ -6,6 +6,7 @@ mod block;
 mod choice;
 mod expression;
 mod loops;
+mod made;
 mod try_catch;
 
 pub use assign::{step_assignment, step_share};

@@ -26,16 +26,6 @@ fn are_internally_pure(statements: &[Stmt]) -> bool
     true
 }
 
-/// Whether a `try` stays.
-fn is_settled_try(statement: &Stmt) -> bool
-    ensures { result ≡ settled.is_settled_try (stmt_of statement.now) }
-{
-    match statement {
-        Stmt::TryCatch(flow, _) => !are_internally_pure(flow.get().body.statements()),
-        _ => true,
-    }
-}
-
 /// A `try` over a body that is pure inside does nothing.
 fn pure_try(state: &mut OptimizerState<'_>, statement: &mut Stmt)
     requires { settled.is_settled_try (stmt_of statement.now) ≡ false }
@@ -53,9 +43,14 @@ pub fn step_try(state: &mut OptimizerState<'_>, statement: &mut Stmt) -> NodeSte
         → StmtStep result r w (progress state.old) (progress state.new) (stmt_of statement.old)
         (stmt_of statement.new) }
 {
-    if is_settled_try(statement) {
-        return NodeStep::Kept;
+    match statement {
+        Stmt::TryCatch(flow, _) => {
+            if !are_internally_pure(flow.get().body.statements()) {
+                return NodeStep::Kept;
+            }
+            pure_try(state, statement);
+            NodeStep::Rewritten
+        }
+        _ => NodeStep::Kept,
     }
-    pure_try(state, statement);
-    NodeStep::Rewritten
 }

@@ -2,13 +2,13 @@
 
 #![tactic(auto, using(ast_types::specs::Reading::shapes))]
 
-ghost use Rattle.std.specs.Prelude.{◌≡◌, true, false, Bool, Some, length, is_none};
+ghost use Rattle.std.specs.Prelude.{◌≡◌, true, false, not, Bool, [], Some, MatchOption};
 ghost use Rattle.base_engine.specs.EngineInfo.{engine_of};
 ghost use Rattle.opt_known.specs.State.{progress};
-ghost use Rattle.theory_meaning.specs.Engine.{Engine};
-ghost use Rattle.ast_types.specs.Reading.{callee_of, expr_of, exprs_of, mark_by, mark_of, stmt_of};
-ghost use Rattle.rhai_base.specs.Builtin.{operator_of};
-ghost use Rattle.opt_stmts.specs.Firing.{Fires, answer};
+ghost use Rattle.theory_meaning.specs.Tree.{Variable};
+ghost use Rattle.ast_types.specs.Reading.{expr_of, exprs_of, mark_of, stmt_of};
+ghost use Rattle.opt_stmts.specs.Assigning.{Takes, assignment_of, call_of};
+ghost use Rattle.opt_stmts.specs.Firing.{FiresIf, answer};
 ghost use Rattle.opt_stmts.specs.SettledAssignments as settled;
 ghost use Rattle.opt_steps.specs.NodeSteps.{StmtStep};
 
@@ -17,7 +17,7 @@ use ast_nodes::put_expr;
 use base_engine::EngineInfo;
 use opt_steps::{NodeStep, OptimizerState, note_fired};
 use rhai_ast::{BinaryExpr, Expr, FnCallExpr, Stmt, Take};
-use rhai_base::{OpAssignment, Seq, Token};
+use rhai_base::{OpAssignment, Position, Token};
 
 /// Whether an expression is this name alone.
 fn is_name(name: &str, expr: &Expr) -> bool
@@ -32,24 +32,16 @@ fn is_name(name: &str, expr: &Expr) -> bool
     }
 }
 
-/// Whether a call's operator has an `op=`, which the host does not override.
-fn may_assign(info: &EngineInfo, call: &FnCallExpr) -> bool
-    ensures { result ≡ settled.may_assign (engine_of info.now) (callee_of call.now).token }
+/// The `op=` of an operator, if it has one that the host does not override.
+fn own_assignment(info: &EngineInfo, op: Token, pos: Position) -> Option<OpAssignment>
+    ensures { MatchOption result (settled.may_assign (engine_of info.now) (mark_of (Some op)) ≡ false) (λ a.
+        (a.op ≡ op) × (settled.may_assign (engine_of info.now) (mark_of (Some op)) ≡ true)) }
 {
-    match call.op_token {
-        Some(op) => has_own_assignment(info, op),
-        None => false,
+    let form = op.convert_to_op_assignment()?;
+    if info.has_any_override(form.literal_syntax()) {
+        return None;
     }
-}
-
-/// Whether an operator has an `op=`, which the host does not override.
-fn has_own_assignment(info: &EngineInfo, op: Token) -> bool
-    ensures { result ≡ settled.may_assign (engine_of info.now) (mark_of (Some op)) }
-{
-    match op.convert_to_op_assignment() {
-        Some(form) => !info.has_any_override(form.literal_syntax()),
-        None => false,
-    }
+    Some(OpAssignment::new_op_assignment_from_base_token(&op, pos))
 }
 
 /// Whether the operands are this name, and an expression that leaves names as they are.
@@ -62,116 +54,81 @@ fn are_name_and_value(name: &str, operands: &[Expr]) -> bool
     }
 }
 
-/// Whether an expression is an operation on this name that may assign to it.
-fn operates_on(info: &EngineInfo, name: &str, expr: &Expr) -> bool
-    ensures { result ≡ settled.operates_on (engine_of info.now) name.now (expr_of expr.now) }
+/// Takes `e` out of a call `x op e` on this name that may assign to it, with the `op=` that it becomes.
+fn take_operand(
+    info: &EngineInfo,
+    name: &str,
+    call: &mut FnCallExpr,
+    pos: Position,
+) -> Option<(OpAssignment, Expr)>
+    ensures { Takes result (engine_of info.now) (Variable [] name.now) (call_of call.old) (call_of call.new) }
+{
+    let op = call.op_token?;
+    if !are_name_and_value(name, call.args.as_slice()) {
+        return None;
+    }
+    let assignment = own_assignment(info, op, pos)?;
+    let value = call.args.get_mut(1)?;
+    Some((assignment, value.take()))
+}
+
+/// Takes `e` out of an expression `x op e`, if it is one.
+fn take_value(
+    info: &EngineInfo,
+    name: &str,
+    expr: &mut Expr,
+    pos: Position,
+) -> Option<(OpAssignment, Expr)>
+    ensures { Takes result (engine_of info.now) (Variable [] name.now) (expr_of expr.old) (expr_of expr.new) }
 {
     match expr {
-        Expr::FnCall(call, _) => {
-            let call = call.get();
-            are_name_and_value(name, call.args.as_slice()) && may_assign(info, call)
-        }
-        _ => false,
-    }
-}
-
-/// Whether what is assigned to a name is an operation on it that may assign to it.
-fn assigns_itself(info: &EngineInfo, sides: &BinaryExpr) -> bool
-    ensures { result ≡ settled.assigns_itself (engine_of info.now) (expr_of sides.now.lhs) (expr_of sides.now.rhs) }
-{
-    match &sides.lhs {
-        Expr::Variable(parts, _, _) => {
-            let (_, name, namespace) = parts.get();
-            namespace.is_empty() && operates_on(info, name.as_str(), &sides.rhs)
-        }
-        _ => false,
-    }
-}
-
-/// Whether an assignment is straight.
-fn is_straight(operation: &OpAssignment) -> bool
-    ensures { result ≡ is_none (operator_of operation.now.op) }
-{
-    !operation.is_op_assignment()
-}
-
-/// Whether an assignment stays.
-fn is_settled_assignment(info: &EngineInfo, statement: &Stmt) -> bool
-    ensures { result ≡ settled.is_settled_assignment (engine_of info.now) (stmt_of statement.now) }
-{
-    match statement {
-        Stmt::Assignment(parts) => {
-            let (operation, sides) = parts.get();
-            !is_straight(operation) || !assigns_itself(info, sides)
-        }
-        _ => true,
-    }
-}
-
-/// The operator that a call applies, if it is one of an operator.
-fn operator_called(expr: &Expr) -> Option<Token>
-    ensures { mark_of result ≡ settled.token_called (expr_of expr.now) }
-{
-    match expr {
-        Expr::FnCall(call, _) => call.get().op_token,
+        Expr::FnCall(call, _) => take_operand(info, name, call.get_mut(), pos),
         _ => None,
     }
 }
 
-/// The second operand of a call, which is taken out.
-fn take_second(expr: &mut Expr) -> Expr
-    requires { settled.has_operation (expr_of expr.now) ≡ true }
-    ensures { settled.second_operand (expr_of expr.old) ≡ Some (expr_of result) }
+/// Takes `e` out of the right side, if it is an operation on the name on the left that may assign to it.
+fn take_assigned(
+    info: &EngineInfo,
+    sides: &mut BinaryExpr,
+    pos: Position,
+) -> Option<(OpAssignment, Expr)>
+    ensures left { sides.new.lhs ≡ sides.old.lhs }
+    ensures right { Takes result (engine_of info.now) (expr_of sides.old.lhs) (expr_of sides.old.rhs)
+        (expr_of sides.new.rhs) }
 {
-    match expr {
-        Expr::FnCall(call, _) => take_item(&mut call.get_mut().args),
-        // a call of an operator, as was asked by reference
-        _ => unreachable!(),
-    }
-}
-
-fn take_item(operands: &mut Seq<Expr>) -> Expr
-    requires { length operands.now ≡ 2 }
-    ensures { settled.second (exprs_of operands.old) ≡ Some (expr_of result) }
-{
-    match operands.get_mut(1) {
-        Some(operand) => operand.take(),
-        // it has two operands, as was asked by reference
-        None => unreachable!(),
-    }
-}
-
-/// Assigns by the operator of the right side, whose second operand becomes the value. The position stays.
-fn assign_by_operator(operation: &mut OpAssignment, value: &mut Expr)
-    requires { settled.has_operation (expr_of value.now) ≡ true }
-    ensures operator { mark_by (operator_of operation.new.op) ≡ settled.token_called (expr_of value.old) }
-    ensures value { settled.second_operand (expr_of value.old) ≡ Some (expr_of value.new) }
-{
-    match operator_called(value) {
-        Some(op) => {
-            *operation = OpAssignment::new_op_assignment_from_base_token(&op, operation.position());
-            let operand = take_second(value);
-            put_expr(value, operand);
+    match &sides.lhs {
+        Expr::Variable(parts, _, _) if parts.get().2.is_empty() => {
+            take_value(info, parts.get().1.as_str(), &mut sides.rhs, pos)
         }
-        // a call of an operator, as was asked by reference
-        None => unreachable!(),
+        _ => None,
     }
 }
 
-/// `x = x op e` is `x op= e`.
-fn self_assign(state: &mut OptimizerState<'_>, statement: &mut Stmt)
-    requires { settled.holds_operation (stmt_of statement.now) ≡ true }
-    ensures { (r : Engine) (w : Bool) → settled.is_settled_assignment r (stmt_of statement.old) ≡ false
-        → Fires r w (progress state.old) (progress state.new) (stmt_of statement.old) (stmt_of statement.new) }
+/// `x = x op e` is `x op= e`. Whether it was one; the position stays.
+fn self_assign(
+    info: &EngineInfo,
+    state: &mut OptimizerState<'_>,
+    operation: &mut OpAssignment,
+    sides: &mut BinaryExpr,
+) -> bool
+    ensures answer { not result
+        ≡ settled.is_settled_assignment (engine_of info.now) (assignment_of operation.old sides.old) }
+    ensures step { (w : Bool)
+        → FiresIf result (engine_of info.now) w (progress state.old) (progress state.new)
+        (assignment_of operation.old sides.old) (assignment_of operation.new sides.new) }
 {
-    note_fired(state);
-    match statement {
-        Stmt::Assignment(parts) => {
-            let (operation, sides) = parts.get_mut();
-            assign_by_operator(operation, &mut sides.rhs);
+    if operation.is_op_assignment() {
+        return false;
+    }
+    match take_assigned(info, sides, operation.position()) {
+        Some((assignment, value)) => {
+            note_fired(state);
+            *operation = assignment;
+            put_expr(&mut sides.rhs, value);
+            true
         }
-        // an assignment, as was asked by reference
-        _ => unreachable!(),
+        None => false,
     }
 }
 
@@ -187,9 +144,15 @@ pub fn step_assignment(
         → StmtStep result (engine_of info.now) w (progress state.old) (progress state.new) (stmt_of statement.old)
         (stmt_of statement.new) }
 {
-    if is_settled_assignment(info, statement) {
-        return NodeStep::Kept;
+    match statement {
+        Stmt::Assignment(parts) => {
+            let (operation, sides) = parts.get_mut();
+            if self_assign(info, state, operation, sides) {
+                NodeStep::Rewritten
+            } else {
+                NodeStep::Kept
+            }
+        }
+        _ => NodeStep::Kept,
     }
-    self_assign(state, statement);
-    NodeStep::Rewritten
 }

@@ -2,9 +2,10 @@
 
 #![tactic(auto, using(ast_types::specs::Reading::shapes, crate::proofs::Names::steps))]
 
-ghost use Rattle.std.specs.Prelude.{◌≡◌, ◌&&◌, not, true, false, Bool, is_some};
+ghost use Rattle.std.specs.Prelude.{◌≡◌, ◌&&◌, not, true, Bool, is_some};
 ghost use Rattle.opt_known.specs.State.{known_of, progress};
 ghost use Rattle.theory_meaning.specs.Engine.{Engine};
+ghost use Rattle.theory_meaning.specs.Tree.{Share};
 ghost use Rattle.ast_types.specs.Reading.{shared_names, stmt_of};
 ghost use Rattle.theory_rewriting.specs.Known.{look, unknown};
 ghost use Rattle.opt_stmts.specs.Firing.{Fires, answer};
@@ -13,7 +14,7 @@ ghost use Rattle.opt_steps.specs.NodeSteps.{StmtStep};
 
 use opt_steps::{NodeStep, OptimizerState, note_fired, put_nothing};
 use rhai_ast::Stmt;
-use rhai_base::{Ident, Seq};
+use rhai_base::{Boxed, Ident, Seq};
 use std::alloc::Global;
 use std::mem::replace;
 use std::num::NonZeroUsize;
@@ -40,26 +41,6 @@ fn knows_some(state: &OptimizerState<'_>, names: &[SharedName]) -> bool
     false
 }
 
-/// Whether shared names stay, where there are some.
-fn is_settled_share(state: &OptimizerState<'_>, statement: &Stmt) -> bool
-    ensures { result ≡ settled.is_settled_share (known_of state.now.entries) (stmt_of statement.now) }
-{
-    match statement {
-        Stmt::Share(names) => !knows_some(state, names.get().as_slice()),
-        _ => true,
-    }
-}
-
-/// Whether nothing is shared.
-fn shares_nothing(statement: &Stmt) -> bool
-    ensures { result ≡ settled.shares_nothing (stmt_of statement.now) }
-{
-    match statement {
-        Stmt::Share(names) => names.get().is_empty(),
-        _ => false,
-    }
-}
-
 /// Names that are known as constants go, in the memory of their list.
 fn keep_unknown(alloc: Global, state: &OptimizerState<'_>, names: &mut Seq<SharedName>)
     ensures { shared_names names.new ≡ unknown (known_of state.now.entries) (shared_names names.old) }
@@ -70,20 +51,14 @@ fn keep_unknown(alloc: Global, state: &OptimizerState<'_>, names: &mut Seq<Share
 }
 
 /// Of shared names those that are known go.
-fn share_known(state: &mut OptimizerState<'_>, statement: &mut Stmt)
-    requires { settled.is_settled_share (known_of state.now.entries) (stmt_of statement.now) ≡ false }
+fn share_known(state: &mut OptimizerState<'_>, names: &mut Boxed<Seq<SharedName>>)
+    requires { settled.knows_some (known_of state.now.entries) (shared_names names.now) ≡ true }
     ensures { (r : Engine) (w : Bool)
-        → Fires r w (progress state.old) (progress state.new) (stmt_of statement.old) (stmt_of statement.new) }
+        → Fires r w (progress state.old) (progress state.new) (Share (shared_names names.old))
+        (Share (shared_names names.new)) }
 {
     note_fired(state);
-    match statement {
-        Stmt::Share(names) => {
-            let alloc = names.allocator();
-            keep_unknown(alloc, state, names.get_mut());
-        }
-        // shared names, as was asked by reference
-        _ => unreachable!(),
-    }
+    keep_unknown(names.allocator(), state, names.get_mut());
 }
 
 /// Where nothing is shared nothing is left.
@@ -106,13 +81,18 @@ pub fn step_share(state: &mut OptimizerState<'_>, statement: &mut Stmt) -> NodeS
         → StmtStep result r w (progress state.old) (progress state.new) (stmt_of statement.old)
         (stmt_of statement.new) }
 {
-    if shares_nothing(statement) {
-        share_nothing(state, statement);
-        return NodeStep::Rewritten;
+    match statement {
+        Stmt::Share(names) => {
+            if names.get().is_empty() {
+                share_nothing(state, statement);
+                return NodeStep::Rewritten;
+            }
+            if !knows_some(state, names.get().as_slice()) {
+                return NodeStep::Kept;
+            }
+            share_known(state, names);
+            NodeStep::Rewritten
+        }
+        _ => NodeStep::Kept,
     }
-    if is_settled_share(state, statement) {
-        return NodeStep::Kept;
-    }
-    share_known(state, statement);
-    NodeStep::Rewritten
 }

@@ -3,18 +3,21 @@
 
 #![tactic(auto, using(ast_types::specs::Reading::shapes))]
 
-ghost use Rattle.std.specs.Prelude.{◌≡◌, ◌&&◌, IfOk, Some, false, Bool};
+ghost use Rattle.std.specs.Prelude.{◌≡◌, ◌&&◌, IfOk, Some, Bool};
 ghost use Rattle.theory_meaning.specs.Constants as constants;
 ghost use Rattle.theory_meaning.specs.Tree.{If, no_stmts};
-ghost use Rattle.theory_meaning.specs.Tree as tree;
 ghost use Rattle.ast_types.specs.Reading.{expr_of, stmt_of, stmts_of};
 ghost use Rattle.theory_rewriting.specs.Rules as rules;
 ghost use Rattle.theory_rewriting.specs.Steps.{StmtRewrite};
+ghost use Rattle.opt_stmts.specs.ChoiceSteps.{ReducesIf};
+ghost use Rattle.opt_stmts.specs.Flows.{if_of};
 ghost use Rattle.opt_stmts.specs.SettledChoices as settled;
 
-use ast_nodes::{block_statement, blocks_of, expression_statement, followed_by_nothing};
+use crate::made::take_block;
+use ast_nodes::{block_statement, expression_statement, followed_by_nothing};
 use opt_folding::constant_bool;
-use rhai_ast::{Expr, FlowControl, Stmt, StmtBlock};
+use opt_steps::{NodeStep, step_of};
+use rhai_ast::{Expr, FlowControl, Stmt, StmtBlock, Take};
 use rhai_base::{OutOfMemory, Position};
 use std::alloc::Global;
 
@@ -64,68 +67,54 @@ fn if_without_blocks(
     condition_alone(alloc, expr, pos, wanted)
 }
 
-fn chosen(decided: bool, body: StmtBlock, branch: StmtBlock) -> StmtBlock
-    ensures { stmts_of result.block ≡ rules.chosen decided (stmts_of body.block) (stmts_of branch.block) }
+/// The block that a decided condition chooses, taken out.
+fn chosen(alloc: Global, decided: bool, flow: &mut FlowControl) -> StmtBlock
+    ensures { stmts_of result.block
+        ≡ rules.chosen decided (stmts_of flow.old.body.block) (stmts_of flow.old.branch.block) }
 {
-    if decided { body } else { branch }
+    if decided {
+        take_block(alloc, &mut flow.body)
+    } else {
+        take_block(alloc, &mut flow.branch)
+    }
 }
 
 /// An `if` over a constant is the block that it chooses.
-fn if_decided(
-    alloc: Global,
-    decided: bool,
-    body: StmtBlock,
-    branch: StmtBlock,
-) -> Result<Stmt, OutOfMemory>
-    ensures { IfOk result (λ s.
-        (o w : Bool) (e : tree.Expr) → constants.constant_bool e ≡ Some decided
-        → StmtRewrite o w (If e (stmts_of body.block) (stmts_of branch.block)) (stmt_of s)) }
+fn if_decided(alloc: Global, decided: bool, flow: &mut FlowControl) -> Result<Stmt, OutOfMemory>
+    requires { constants.constant_bool (expr_of flow.now.expr) ≡ Some decided }
+    ensures { IfOk result (λ s. (o w : Bool) → StmtRewrite o w (if_of flow.old) (stmt_of s)) }
 {
-    block_or_noop(alloc, chosen(decided, body, branch))
+    let block = chosen(alloc, decided, flow);
+    block_or_noop(alloc, block)
 }
 
 /// Whether an `if` has no statements.
-pub(crate) fn has_no_statements(flow: &FlowControl) -> bool
+fn has_no_statements(flow: &FlowControl) -> bool
     ensures { result
         ≡ settled.is_empty (stmts_of flow.now.body.block) && settled.is_empty (stmts_of flow.now.branch.block) }
 {
     is_empty(&flow.body) && is_empty(&flow.branch)
 }
 
-/// Whether an `if` stays.
-pub(crate) fn is_settled_if(flow: &FlowControl) -> bool
-    ensures { result
-        ≡ settled.is_settled_if (expr_of flow.now.expr) (stmts_of flow.now.body.block)
-        (stmts_of flow.now.branch.block) }
-{
-    if has_no_statements(flow) {
-        return false;
-    }
-    constant_bool(&flow.expr).is_none()
-}
-
-/// An `if` that does not stay.
-pub(crate) fn reduce_if(
+/// What an `if` becomes that has no statements or whose condition decides it, and what came of it. What it is made of
+/// is taken out then.
+pub(crate) fn reduced_if(
     alloc: Global,
-    flow: FlowControl,
+    flow: &mut FlowControl,
     pos: Position,
     wanted: bool,
-) -> Result<Stmt, OutOfMemory>
-    requires { settled.is_settled_if (expr_of flow.expr) (stmts_of flow.body.block) (stmts_of flow.branch.block)
-        ≡ false }
-    ensures { IfOk result (λ s.
-        StmtRewrite (settled.opens_if wanted (stmts_of flow.body.block) (stmts_of flow.branch.block)) wanted
-        (If (expr_of flow.expr) (stmts_of flow.body.block) (stmts_of flow.branch.block)) (stmt_of s)) }
+) -> Result<Option<(Stmt, NodeStep)>, OutOfMemory>
+    ensures { IfOk result (λ made. ReducesIf made wanted flow.old flow.new) }
 {
-    if has_no_statements(&flow) {
-        return if_without_blocks(alloc, flow.expr, pos, wanted);
+    if has_no_statements(flow) {
+        let made = if_without_blocks(alloc, flow.expr.take(), pos, wanted)?;
+        return Ok(Some((made, step_of(wanted))));
     }
     match constant_bool(&flow.expr) {
         Some(decided) => {
-            let (body, branch) = blocks_of(flow);
-            if_decided(alloc, decided, body, branch)
+            let made = if_decided(alloc, decided, flow)?;
+            Ok(Some((made, NodeStep::Rewritten)))
         }
-        // it is decided, as was asked before it was taken out: what decides it is taken apart with it
-        None => unreachable!(),
+        None => Ok(None),
     }
 }

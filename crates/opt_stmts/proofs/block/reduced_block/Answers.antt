@@ -1,15 +1,20 @@
-use Rattle.std.proofs.Common.{◌≡◌, true, false, refl, sym, ap, ◌∙◌}
-use Rattle.ast_types.specs.declared.block.StmtBlock.{StmtBlock}
+use Rattle.std.proofs.Common.{sym, ap}
 use Rattle.theory_meaning.specs.Tree.{Block}
-use Rattle.ast_types.specs.Reading.{stmt_of, stmts_of, stmt_of-Block}
-use Rattle.ast_types.proofs.Cases.{stmt_cases}
 use Rattle.opt_steps.proofs.Stepping.{stmt_rewrite_as}
-use Rattle.opt_stmts.proofs.OtherStatements.{no_block}
+use Rattle.std.proofs.Common.{refl}
+use Rattle.opt_stmts.proofs.Shapes.{first-alone, none-there}
 use Rattle.opt_stmts.proofs.block.reduced_block.Goals as goal
 
-pub returns : goal.returns
-returns c =
-    λ o w. stmt_rewrite_as (ap stmt_of c.in-Block.is ∙ stmt_of-Block _ ∙ ap (λ (b : StmtBlock). Block (stmts_of b.block)) (sym c.into_inner.ensures)) refl (c.reduce_block.ensures o w)
+pub block_of_statement-requires : goal.block_of_statement-requires
+block_of_statement-requires c =
+    let there = rw c.statements_mut.ensures.value at c.in-Some.ensures.value in
+    rw c.take.ensures.taken (first-alone c.args.block.now.block c.in-Some.statement.now (sym (rw c.statements.ensures at c.if-are_settled.ensures)) there.0 there.1).0
 
-pub unreachable-requires : goal.unreachable-requires
-unreachable-requires c = let h : true ≡ false = no_block (stmt_cases c.args.statement) c.in_default.not-Block ∙ c.requires in cc
+pub returns-in-Some-clause-made : goal.returns-in-Some-clause-made
+returns-in-Some-clause-made c =
+    let there = rw c.statements_mut.ensures.value at c.in-Some.ensures.value in
+    λ o w. stmt_rewrite_as (ap Block (first-alone c.args.block.now.block c.in-Some.statement.now (sym (rw c.statements.ensures at c.if-are_settled.ensures)) there.0 there.1).1) refl ((rw c.take.ensures.taken at c.block_of_statement.ensures) o w)
+
+pub returns-in-None-clause-made : goal.returns-in-None-clause-made
+returns-in-None-clause-made c =
+    λ o w. stmt_rewrite_as (ap Block (none-there c.args.block.now.block (rw c.statements_mut.ensures.value at c.in-None.ensures.value))) refl (c.block_empty.ensures o w)

@@ -1,15 +1,13 @@
-use Rattle.std.proofs.Common.{◌≡◌, true, false, refl, sym, ap, ◌∙◌}
+use Rattle.std.proofs.Common.{ap, ◌∙◌}
 use Rattle.ast_types.specs.declared.expr.Expr.{Expr}
-use Rattle.theory_meaning.specs.Tree.{ExprStmt}
-use Rattle.ast_types.specs.Reading.{expr_of, stmt_of, stmt_of-Expr}
-use Rattle.ast_types.proofs.Cases.{stmt_cases}
-use Rattle.opt_steps.proofs.Stepping.{stmt_rewrite_as}
-use Rattle.opt_stmts.proofs.OtherStatements.{no_expression}
+use Rattle.ast_types.specs.Reading.{expr_of}
+use Rattle.ast_types.proofs.Cases.{expr_cases}
+use Rattle.opt_stmts.specs.SettledStatements.{stays}
+use Rattle.opt_stmts.proofs.OtherStatements.{stays_as_statement}
 use Rattle.opt_stmts.proofs.expression.reduced_expression.Goals as goal
 
-pub returns : goal.returns
-returns c =
-    λ o w. stmt_rewrite_as (ap stmt_of c.in-Expr.is ∙ stmt_of-Expr _ ∙ ap (λ (e : Expr). ExprStmt (expr_of e)) (sym c.into_inner.ensures)) refl (c.reduce_expression.ensures o w)
-
-pub unreachable-requires : goal.unreachable-requires
-unreachable-requires c = let h : true ≡ false = no_expression (stmt_cases c.args.statement) c.in_default.not-Expr ∙ c.requires in cc
+pub returns-in_default : goal.returns-in_default
+returns-in_default c = record {
+  answer = stays_as_statement (expr_cases c.take.result) c.in_default.not-Stmt c.in_default.not-FnCall ∙ ap (λ (e : Expr). stays (expr_of e)) c.take.ensures.taken;
+  made = c.put_expr.ensures ∙ c.take.ensures.taken;
+}

@@ -1,20 +1,26 @@
-use Rattle.std.proofs.Common.{◌≡◌, rules, true, false, sym, ap, ◌∙◌}
+use Rattle.std.proofs.Common.{not, sym, ap, ◌∙◌}
+use Rattle.base_engine.specs.EngineInfo.{engine_of}
+use Rattle.ast_types.specs.declared.expr.Expr.{Expr}
+use Rattle.ast_types.specs.Reading.{expr_of}
 use Rattle.rhai_base.specs.Builtin.{operator_of}
 use Rattle.theory_meaning.specs.Tree.{Assignment}
-use Rattle.ast_types.specs.Reading.{shapes, expr_of, stmt_of, stmt_of-Assignment}
-use Rattle.ast_types.proofs.Cases.{stmt_cases}
-use Rattle.base_tokens.specs.declared.op_assignment.OpAssignment.{OpAssignment}
-use Rattle.ast_types.specs.declared.expr.BinaryExpr.{BinaryExpr}
-use Rattle.opt_stmts.proofs.Assigning.{self_assigned_as}
-use Rattle.opt_stmts.proofs.OtherAssignments.{holds_none}
+use Rattle.opt_stmts.specs.SettledAssignments.{is_settled_assignment}
+use Rattle.opt_stmts.proofs.Assigning.{assigns, self_assigned, straight}
+use Rattle.opt_stmts.proofs.FiredStatements.{fires_as}
 use Rattle.opt_stmts.proofs.assign.assignment.self_assign.Goals as goal
 
-pub unreachable-requires : goal.unreachable-requires
-unreachable-requires c = let h : false ≡ true = holds_none (stmt_cases c.args.statement.now) c.in_default.not-Assignment ∙ c.requires in cc
+pub returns-in-Some-clause-answer : goal.returns-in-Some-clause-answer
+returns-in-Some-clause-answer c =
+    let r = engine_of c.args.info.now in
+    let l = expr_of c.args.sides.now.lhs in
+    let e = expr_of c.args.sides.now.rhs in
+    ap not (sym (assigns r l e _ _ c.in-Some.ensures.right)) ∙ ap (λ o. is_settled_assignment r (Assignment o l e)) (sym (straight c.args.operation.now.op c.if-is_op_assignment.ensures))
 
-pub returns : goal.returns
-returns c =
-    λ r w h. self_assigned_as (operator_of c.get_mut.result.now.0.op) (operator_of c.assign_by_operator.new.operation.op) (expr_of c.get_mut.result.now.1.lhs) (expr_of c.get_mut.result.now.1.rhs) (expr_of c.assign_by_operator.new.value)
-    (ap stmt_of c.in-Assignment.is ∙ stmt_of-Assignment _ ∙ ap (λ (p : OpAssignment × BinaryExpr). Assignment (operator_of p.0.op) (expr_of p.1.lhs) (expr_of p.1.rhs)) (sym (c.get_mut.ensures.value ∙ c.in-Assignment.parts-is)))
-    (search (rules, shapes))
-    c.note_fired.ensures.dirty c.note_fired.ensures.known h c.assign_by_operator.ensures.operator c.assign_by_operator.ensures.value
+pub returns-in-Some-clause-step : goal.returns-in-Some-clause-step
+returns-in-Some-clause-step c =
+    let l = expr_of c.args.sides.now.lhs in
+    let e = expr_of c.args.sides.now.rhs in
+    let v = expr_of c.in-Some.value in
+    let o = operator_of c.in-Some.assignment.op in
+    let made = ap (λ (z : Expr). Assignment o (expr_of z) (expr_of c.put_expr.new.place)) c.in-Some.ensures.left ∙ ap (λ (z : Expr). Assignment o l (expr_of z)) c.put_expr.ensures in
+    λ w. fires_as (ap (λ z. Assignment z l e) (straight c.args.operation.now.op c.if-is_op_assignment.ensures)) made (self_assigned l e v o c.in-Some.ensures.right c.note_fired.ensures.dirty c.note_fired.ensures.known)

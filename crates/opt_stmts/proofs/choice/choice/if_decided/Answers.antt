@@ -9,5 +9,5 @@ use Rattle.opt_stmts.proofs.choice.choice.if_decided.Goals as goal
 
 pub returns : goal.returns
 returns c =
-    let P : Stmt → Type 0 = λ s. stmt_of s ≡ block_or_noop (stmts_of c.chosen.result.block) in
-    IfOk-weaker _ P _ (λ s x o w e h. stmt_rewrite_as refl (x ∙ ap block_or_noop c.chosen.ensures) (record { rule = λ k. if_decided h; keeps = λ i. keeps_chosen _ _ _ _ })) c.block_or_noop.ensures
+    let P : Stmt → Type 0 = λ s. stmt_of s ≡ block_or_noop (stmts_of c.chosen-block.result.block) in
+    IfOk-weaker _ P _ (λ s x o w. stmt_rewrite_as refl (x ∙ ap block_or_noop c.chosen-block.ensures) (record { rule = λ k. if_decided c.requires; keeps = λ i. keeps_chosen _ _ _ _ })) c.block_or_noop.ensures

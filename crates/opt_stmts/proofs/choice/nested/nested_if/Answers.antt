@@ -1,16 +1,23 @@
-use Rattle.std.proofs.Common.{ap, ◌∙◌}
+use Rattle.std.proofs.Common.{sym, ap, ◌∙◌}
 use Rattle.ast_types.specs.declared.block.StmtBlock.{StmtBlock}
 use Rattle.ast_types.specs.declared.expr.Expr.{Expr}
-use Rattle.theory_meaning.specs.Tree.{And, expr, no_exprs}
+use Rattle.theory_meaning.specs.Tree.{And, If, expr, no_exprs, no_stmts}
 use Rattle.ast_types.specs.Reading.{expr_of, stmts_of}
-use Rattle.opt_stmts.proofs.Nesting.{nests_alone, nested_made}
+use Rattle.opt_stmts.specs.SettledChoices.{is_bare_if_alone}
+use Rattle.opt_stmts.proofs.Nesting.{nested_made}
 use Rattle.opt_stmts.proofs.choice.nested.nested_if.Goals as goal
 
-pub take_inner-inner-requires : goal.take_inner-inner-requires
-take_inner-inner-requires c = nests_alone (expr_of c.args.flow.now.expr) (stmts_of c.args.flow.now.body.block) (stmts_of c.args.flow.now.branch.block) c.requires.nests
+pub returns-in_ok-joined-in-Some-clause-answer : goal.returns-in_ok-joined-in-Some-clause-answer
+returns-in_ok-joined-in-Some-clause-answer c = sym (ap is_bare_if_alone c.in-Some.ensures)
 
-pub returns : goal.returns
-returns c =
-    let inner = expr_of c.take_inner-inner.result in
-    let condition = ap expr_of c.put_expr.ensures ∙ c.in_ok-condition.ensures ∙ ap (λ (e : Expr). And (expr (expr_of e) (expr inner no_exprs))) (c.take.ensures.taken ∙ c.take_inner-inner.ensures.condition) in
-    λ w. nested_made w (expr_of c.args.flow.now.expr) inner _ _ _ c.requires.nests c.requires.undecided c.requires.alone c.take_inner-inner.ensures.inner condition (ap (λ (b : StmtBlock). stmts_of b.block) c.take_inner-inner.ensures.branch)
+pub returns-in_ok-joined-in-Some-clause-rule : goal.returns-in_ok-joined-in-Some-clause-rule
+returns-in_ok-joined-in-Some-clause-rule c =
+    let inner = expr_of c.in-Some.inner in
+    let joined = ap expr_of c.put_expr.ensures ∙ c.in_ok-joined-in-Some.ensures ∙ ap (λ (e : Expr). And (expr (expr_of e) (expr inner no_exprs))) c.take.ensures.taken in
+    nested_made (expr_of c.args.condition.now) inner _ c.requires.undecided c.requires.alone c.in-Some.ensures joined
+
+pub returns-in-None-clause-answer : goal.returns-in-None-clause-answer
+returns-in-None-clause-answer c = sym c.in-None.ensures.0
+
+pub returns-in-None-clause-rule : goal.returns-in-None-clause-rule
+returns-in-None-clause-rule c = ap (λ (b : StmtBlock). If (expr_of c.args.condition.now) (stmts_of b.block) no_stmts) c.in-None.ensures.1

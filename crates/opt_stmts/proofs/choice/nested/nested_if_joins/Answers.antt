@@ -1,20 +1,24 @@
-use Rattle.std.proofs.Common.{Bool, false, ap}
-use Rattle.std.proofs.lemmas.Result.{on_ok_weaker}
+use Rattle.std.proofs.Common.{not, ◌&&◌, sym, ap, ◌∙◌}
 use Rattle.ast_types.specs.declared.block.StmtBlock.{StmtBlock}
-use Rattle.theory_meaning.specs.Tree.{If}
-use Rattle.ast_types.specs.Reading.{expr_of, stmts_of}
-use Rattle.theory_rewriting.specs.Steps.{StmtRewrite}
-use Rattle.opt_stmts.specs.Nested.{Joins, if_of}
-use Rattle.opt_stmts.proofs.Nesting.{nests_alone, joins_made}
+use Rattle.theory_meaning.specs.Tree.{And, If, no_stmts}
+use Rattle.ast_types.specs.Reading.{expr_of, exprs_of, stmts_of}
+use Rattle.opt_stmts.specs.SettledChoices.{is_bare_if_alone}
+use Rattle.opt_stmts.proofs.Ends.{pushed}
+use Rattle.opt_stmts.proofs.Nesting.{joins_made, joins_or_not}
 use Rattle.opt_stmts.proofs.choice.nested.nested_if_joins.Goals as goal
 
-pub take_inner-inner-requires : goal.take_inner-inner-requires
-take_inner-inner-requires c = nests_alone (expr_of c.args.flow.now.expr) (stmts_of c.args.flow.now.body.block) (stmts_of c.args.flow.now.branch.block) c.requires.nests
+pub returns-then-ends_false-clause-answer : goal.returns-then-ends_false-clause-answer
+returns-then-ends_false-clause-answer c = ap (λ b. not b && is_bare_if_alone (stmts_of c.args.body.now.block)) (rw c.as_slice.ensures at c.if-ends_false.ensures)
 
-pub returns : goal.returns
-returns c =
-    let inner = c.take_inner-inner in
-    let joined : Joins (expr_of inner.new.flow.expr) (expr_of inner.result) (expr_of c.push_operand.new.condition)
-    → (w : Bool) → StmtRewrite false w (if_of c.args.flow.now) (If (expr_of c.push_operand.new.condition) (stmts_of inner.new.flow.body.block) (stmts_of inner.new.flow.branch.block)) =
-    λ q w. joins_made w (expr_of c.args.flow.now.expr) (expr_of inner.result) _ _ _ _ c.requires.nests (ap expr_of inner.ensures.condition) q inner.ensures.inner (ap (λ (b : StmtBlock). stmts_of b.block) inner.ensures.branch) in
-    on_ok_weaker _ joined c.push_operand.ensures
+pub returns-in_ok-push-in-Some-clause-answer : goal.returns-in_ok-push-in-Some-clause-answer
+returns-in_ok-push-in-Some-clause-answer c = joins_or_not (exprs_of c.args.operands.now) (stmts_of c.args.body.now.block) _ (rw c.as_slice.ensures at c.if-ends_false.ensures) (sym (ap is_bare_if_alone c.in-Some.ensures))
+
+pub returns-in_ok-push-in-Some-clause-rule : goal.returns-in_ok-push-in-Some-clause-rule
+returns-in_ok-push-in-Some-clause-rule c =
+    joins_made (exprs_of c.args.operands.now) (expr_of c.in-Some.inner) _ (sym (rw c.as_slice.ensures at c.if-ends_false.ensures)) c.in-Some.ensures (ap exprs_of c.in_ok-push-in-Some.ensures.ok ∙ pushed _ _)
+
+pub returns-in-None-clause-answer : goal.returns-in-None-clause-answer
+returns-in-None-clause-answer c = joins_or_not (exprs_of c.args.operands.now) (stmts_of c.args.body.now.block) _ (rw c.as_slice.ensures at c.if-ends_false.ensures) (sym c.in-None.ensures.0)
+
+pub returns-in-None-clause-rule : goal.returns-in-None-clause-rule
+returns-in-None-clause-rule c = ap (λ (b : StmtBlock). If (And (exprs_of c.args.operands.now)) (stmts_of b.block) no_stmts) c.in-None.ensures.1

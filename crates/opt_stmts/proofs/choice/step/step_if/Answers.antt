@@ -1,18 +1,39 @@
-use Rattle.std.proofs.Common.{false, refl, sym, ap, ◌∙◌}
-use Rattle.opt_steps.specs.NodeSteps.{step_by}
-use Rattle.opt_steps.proofs.Stepping.{stmt_put, stmt_stays}
-use Rattle.opt_stmts.proofs.Settled.{if_settled}
-use Rattle.opt_stmts.proofs.Shapes.{if_reduced}
+use Rattle.std.proofs.Common.{◌≡◌, true, false, sym, ap, ◌∙◌}
+use Rattle.ast_types.specs.declared.stmt.FlowControl.{FlowControl}
+use Rattle.ast_types.specs.Reading.{expr_of, stmt_of, stmts_of, stmt_of-If}
+use Rattle.ast_types.proofs.Cases.{stmt_cases}
+use Rattle.opt_steps.proofs.Stepping.{stmt_put, stmt_rewrite_as}
+use Rattle.opt_stmts.specs.Flows.{if_of}
+use Rattle.opt_stmts.specs.SettledChoices.{is_nest}
+use Rattle.opt_stmts.proofs.FiredStatements.{fires_by}
+use Rattle.opt_stmts.proofs.OtherChoices.{no_if}
+use Rattle.opt_stmts.proofs.Settled.{if_kept}
 use Rattle.opt_stmts.proofs.choice.step.step_if.Goals as goal
 
-pub returns-then-not-is_settled-clause-step : goal.returns-then-not-is_settled-clause-step
-returns-then-not-is_settled-clause-step c = λ r.
-    stmt_put r _ c.args.is_wanted _ _ _ _ _ (c.step_of.ensures ∙ ap step_by c.reopens-reopens.ensures) c.in_ok-rewrite.ensures.dirty c.in_ok-rewrite.ensures.known c.in_ok-rewrite.ensures.rewritten
+pub returns-then-not-branch-clause-step : goal.returns-then-not-branch-clause-step
+returns-then-not-branch-clause-step c =
+    let f = c.get_mut.result.now in
+    let x = ap stmt_of c.in-If.is ∙ stmt_of-If _ _ ∙ ap (λ (f : FlowControl). if_of f) (sym (c.get_mut.ensures.value ∙ c.in-If.flow-is)) in
+    let q = rw c.in-None.is at c.in_ok-made-in-If.ensures in
+    let same = c.get_mut-in-None.ensures.value ∙ q.1 in
+    let joined = c.in_ok-join_ifs-in-None.ensures in
+    λ r. if_kept (expr_of f.expr) (stmts_of f.body.block) (stmts_of f.branch.block) x
+    (stmt_of-If _ _ ∙ (rw c.if-not-branch.true at joined.rule) ∙ ap (λ (g : FlowControl). if_of g) same ∙ sym x) q.0
+    (ap (λ (g : FlowControl). is_nest (if_of g)) (sym same) ∙ sym joined.answer ∙ c.if-not-branch.true)
 
-pub returns-then-is_nest-clause-step : goal.returns-then-is_nest-clause-step
-returns-then-is_nest-clause-step c = λ r.
-    stmt_put r false c.args.is_wanted _ _ _ _ (step_by false) refl c.in_ok-join_nest.ensures.dirty c.in_ok-join_nest.ensures.known (c.in_ok-join_nest.ensures.rewritten c.args.is_wanted)
+pub returns-in-Some-clause-step : goal.returns-in-Some-clause-step
+returns-in-Some-clause-step c =
+    let x = ap stmt_of c.in-If.is ∙ stmt_of-If _ _ ∙ ap (λ (f : FlowControl). if_of f) (sym (c.get_mut.ensures.value ∙ c.in-If.flow-is)) in
+    let q = rw c.in-Some.is at c.in_ok-made-in-If.ensures in
+    λ r. stmt_put r _ c.args.is_wanted _ _ _ _ _ q.1 c.put_made.ensures.dirty c.put_made.ensures.known (stmt_rewrite_as x (ap stmt_of c.put_made.ensures.made) q.2)
 
-pub returns-clause-step : goal.returns-clause-step
-returns-clause-step c = λ r.
-    stmt_stays (if_reduced r _ c.requires (sym c.if-not-is_settled.ensures)) (if_settled _ _ c.requires (sym c.if-not-is_settled.ensures) (sym c.if-is_nest.ensures))
+pub returns-else-not-branch-clause-step : goal.returns-else-not-branch-clause-step
+returns-else-not-branch-clause-step c =
+    let x = ap stmt_of c.in-If.is ∙ stmt_of-If _ _ ∙ ap (λ (f : FlowControl). if_of f) (sym (c.get_mut.ensures.value ∙ c.in-If.flow-is)) in
+    let q = rw c.in-None.is at c.in_ok-made-in-If.ensures in
+    let same = c.get_mut-in-None.ensures.value ∙ q.1 in
+    λ r. fires_by c.note_fired.ensures.dirty c.note_fired.ensures.known
+    (stmt_rewrite_as (x ∙ ap (λ (g : FlowControl). if_of g) (sym same)) (stmt_of-If _ _) ((rw c.if-not-branch.false at c.in_ok-join_ifs-in-None.ensures.rule) c.args.is_wanted))
+
+pub returns-in_default : goal.returns-in_default
+returns-in_default c = absurd (let z : false ≡ true = no_if (stmt_cases c.args.statement.now) c.in_default.not-If ∙ c.requires in cc)
