@@ -28,11 +28,7 @@ fn unless_unit(value: Option<&Dynamic>) -> Option<&Dynamic>
 }
 
 /// The value that a name may become where it stands, lent: a base stays a place, and no guard becomes a literal unit.
-fn known_there<'s>(
-    state: &'s OptimizerState<'_>,
-    expr: &Expr,
-    place: Place,
-) -> Option<&'s Dynamic>
+fn known_there<'s>(state: &'s OptimizerState<'_>, expr: &Expr, place: Place) -> Option<&'s Dynamic>
     ensures { option_map value_of (option_copied result)
         ≡ settled.known_there (place_of place) (progress state.now).known (expr_of expr.now) }
 {

@@ -120,12 +120,7 @@ fn move_from_array(
     }
 }
 
-fn move_from(
-    access: ChainType,
-    value: &mut Dynamic,
-    argument: &Expr,
-    unit: bool,
-) -> Option<Dynamic>
+fn move_from(access: ChainType, value: &mut Dynamic, argument: &Expr, unit: bool) -> Option<Dynamic>
     ensures moved { IfSome result (λ v.
         (r : Engine) (optional : Bool)
         → answers.allowed unit
@@ -141,12 +136,7 @@ fn move_from(
 }
 
 /// The part of a constant that a step answers, moved out of its place; where there is none, all stays.
-pub fn move_part(
-    access: ChainType,
-    base: &mut Expr,
-    argument: &Expr,
-    unit: bool,
-) -> Option<Dynamic>
+pub fn move_part(access: ChainType, base: &mut Expr, argument: &Expr, unit: bool) -> Option<Dynamic>
     ensures moved { IfSome result (λ v.
         (r : Engine) (optional : Bool)
         → answers.allowed unit
