@@ -1,3 +1,4 @@
+pub mod ByKind
 pub mod Closed
 pub mod Deciding
 pub mod Firing

@@ -1,7 +1,7 @@
 -- A sweep over a list of statements, from its end.
 use Rattle.std.specs.Prelude.{◌≡◌, List, Bool, true, false, cond, ◌&&◌, ◌||◌, not, Option, Some, None, if◌then◌else◌}
 use Rattle.theory_meaning.specs.Queries.{is_pure, is_internally_pure, are_internally_pure, is_noop}
-use Rattle.theory_meaning.specs.Tree.{Expr, Variable, Stmt, Noop, ExprStmt, Return, no_expr, an_expr, Stmts, no_stmts, stmt}
+use Rattle.theory_meaning.specs.Tree.{Expr, Variable, BlockExpr, Stmt, Noop, While, Do, For, Var, Assignment, TryCatch, ExprStmt, Return, Import, Export, no_expr, an_expr, Stmts, no_stmts, stmt}
 use Rattle.theory_rewriting.specs.Clear.{AreClear}
 use Rattle.theory_rewriting.specs.Exports.{exports_nothing, stmt_exports_nothing}
 use Rattle.theory_rewriting.specs.Known.{Known}
@@ -31,6 +31,18 @@ is_lone _ = false
 -- pure inside a list, and it exports nothing
 abbrev pub is_quiet : Stmt → Bool
 is_quiet s = is_internally_pure s && stmt_exports_nothing s
+
+-- it may be pure inside a list though it is not pure: it adds names, or is an expression in braces
+abbrev pub is_in_braces : Expr → Bool
+is_in_braces (BlockExpr ss) = true
+is_in_braces _ = false
+
+abbrev pub differs_inside : Stmt → Bool
+differs_inside (Var constant exported x e) = true
+differs_inside (Import e x) = true
+differs_inside (Export x y) = true
+differs_inside (ExprStmt e) = is_in_braces e
+differs_inside _ = false
 
 -- inside a list, before quiet ones (the first test)
 abbrev pub goes_inside : ListKind → Bool → Stmt → Bool
@@ -71,6 +83,17 @@ returns_nothing (Inside b) s = false
 abbrev pub bared : Stmt → Stmt
 bared (Return throws exported (an_expr e)) = ExprStmt e
 bared s = s
+
+-- it may be surely unit, by its kind
+abbrev pub may_be_unit : Stmt → Bool
+may_be_unit Noop = true
+may_be_unit (Var constant exported x e) = true
+may_be_unit (Assignment op l e) = true
+may_be_unit (TryCatch x a b) = true
+may_be_unit (While e b) = true
+may_be_unit (Do negated exported e b) = true
+may_be_unit (For x i e b) = true
+may_be_unit _ = false
 
 -- as the last one it goes behind unit, and else does nothing: by which rules
 abbrev pub fades_as : Fading → ListKind → Stmt → Bool

@@ -3,7 +3,6 @@
 
 mod behind;
 mod closing;
-mod list;
 mod mark;
 mod passes;
 mod questions;
@@ -11,6 +10,7 @@ mod rules;
 mod steps;
 mod swept;
 
+pub use closing::is_wanted_at;
 pub use mark::ListMark;
 pub use passes::sweep;
 pub use swept::Swept;

@@ -10,10 +10,9 @@ use crate::steps::{decide, go_last};
 use crate::swept::Swept;
 use ast_types::Stmt;
 use rhai_base::Seq;
-use std::alloc::Global;
 
 /// Decides each statement of a list, from its end.
-fn decide_all(alloc: Global, mark: ListMark, list: &mut Seq<Stmt>) -> Behind
+fn decide_all(mark: ListMark, list: &mut Seq<Stmt>) -> Behind
     ensures { Decided (mark_of mark) list.old list.new result }
 {
     let mut at = list.len();
@@ -26,18 +25,18 @@ fn decide_all(alloc: Global, mark: ListMark, list: &mut Seq<Stmt>) -> Behind
     };
     while at > 0 {
         at -= 1;
-        behind = decide(alloc, mark, list, at, behind);
+        behind = decide(mark, list, at, behind);
     }
     behind
 }
 
 /// One sweep over a list, from its end. It takes no memory, and where nothing goes it moves nothing.
-pub fn sweep(alloc: Global, mark: ListMark, list: &mut Seq<Stmt>) -> Swept
+pub fn sweep(mark: ListMark, list: &mut Seq<Stmt>) -> Swept
     ensures { Sweeps (mark_of mark) list.old list.new result }
 {
-    let behind = decide_all(alloc, mark, list);
+    let behind = decide_all(mark, list);
     if let Some(fading) = behind.fading {
-        go_last(alloc, fading, list, 0);
+        go_last(fading, list, 0);
         return Swept {
             has_changed: true,
             is_bared: false,
@@ -45,7 +44,7 @@ pub fn sweep(alloc: Global, mark: ListMark, list: &mut Seq<Stmt>) -> Swept
         };
     }
     if behind.has_changed {
-        let moved = close_up(alloc, mark.is_wanted(), list);
+        let moved = close_up(mark.is_wanted(), list);
         return Swept {
             has_changed: true,
             is_bared: behind.is_bared,

@@ -2,10 +2,11 @@
 
 #![tactic(auto, using(ast_types::specs::Reading::shapes))]
 
-ghost use Rattle.std.specs.Prelude.{◌≡◌};
+ghost use Rattle.std.specs.Prelude.{◌≡◌, ◌&&◌, false};
 ghost use Rattle.theory_meaning.specs.Queries as queries;
 ghost use Rattle.ast_types.specs.Reading.{expr_of, stmt_of};
 ghost use Rattle.theory_rewriting.specs.Rules as rules;
+ghost use Rattle.theory_rewriting.specs.SurelyUnit as unit;
 ghost use Rattle.opt_lists.specs.Marks.{mark_of};
 ghost use Rattle.opt_lists.specs.Sweep as spec;
 
@@ -53,13 +54,45 @@ pub(crate) fn is_quiet(statement: &Stmt) -> bool
     statement.is_internally_pure() && exports_nothing(statement)
 }
 
-/// Does it go inside a list? The flag: all that follow are quiet.
+/// Is it of a kind that may be pure inside a list though it is not pure?
+fn differs_inside(statement: &Stmt) -> bool
+    ensures { result ≡ spec.differs_inside (stmt_of statement.now) }
+{
+    match statement {
+        Stmt::Var(_, _, _) | Stmt::Import(_, _) | Stmt::Export(_, _) => true,
+        Stmt::Expr(expr) => is_in_braces(expr.get()),
+        _ => false,
+    }
+}
+
+fn is_in_braces(expr: &Expr) -> bool
+    ensures { result ≡ spec.is_in_braces (expr_of expr.now) }
+{
+    match expr {
+        Expr::Stmt(_) => true,
+        _ => false,
+    }
+}
+
+/// Is one that is not pure so inside a list? Its kind is asked first, so that most are not gone over again.
+fn is_pure_inside(statement: &Stmt) -> bool
+    requires { queries.is_pure (stmt_of statement.now) ≡ false }
+    ensures { result ≡ queries.is_internally_pure (stmt_of statement.now) }
+{
+    if !differs_inside(statement) {
+        return false;
+    }
+    statement.is_internally_pure()
+}
+
+/// Does one that is not pure go inside a list? The flag: all that follow are quiet.
 fn goes_inside(mark: ListMark, are_quiet: bool, statement: &Stmt) -> bool
+    requires { queries.is_pure (stmt_of statement.now) ≡ false }
     ensures { result ≡ spec.goes_inside (mark_of mark) are_quiet (stmt_of statement.now) }
 {
     match mark {
         ListMark::Whole => false,
-        ListMark::Inside { is_wanted: _ } => are_quiet && statement.is_internally_pure(),
+        ListMark::Inside { is_wanted: _ } => are_quiet && is_pure_inside(statement),
     }
 }
 
@@ -129,11 +162,38 @@ pub(crate) fn return_fades(mark: ListMark, statement: &Stmt) -> Option<Fading>
     }
 }
 
+/// Is it of a kind that may be surely unit?
+fn may_be_unit(statement: &Stmt) -> bool
+    ensures { result ≡ spec.may_be_unit (stmt_of statement.now) }
+{
+    match statement {
+        Stmt::Noop(_)
+        | Stmt::Var(_, _, _)
+        | Stmt::Assignment(_)
+        | Stmt::TryCatch(_, _)
+        | Stmt::While(_, _)
+        | Stmt::Do(_, _, _)
+        | Stmt::For(_, _) => true,
+        _ => false,
+    }
+}
+
+/// Is it pure in such a list, and surely unit? Its kind is asked first, so that most are not gone over.
+fn is_pure_unit(mark: ListMark, statement: &Stmt) -> bool
+    ensures { result
+        ≡ rules.is_pure_in (mark_of mark) (stmt_of statement.now) && unit.is_surely_unit (stmt_of statement.now) }
+{
+    if !may_be_unit(statement) {
+        return false;
+    }
+    is_pure_in(mark, statement) && is_surely_unit(statement)
+}
+
 /// Does one go behind unit as the last one, and else do nothing, since it is pure and surely unit?
 pub(crate) fn unit_fades(mark: ListMark, statement: &Stmt) -> Option<Fading>
     ensures { result ≡ spec.unit_fades (mark_of mark) (stmt_of statement.now) }
 {
-    if is_pure_in(mark, statement) && is_surely_unit(statement) {
+    if is_pure_unit(mark, statement) {
         Some(Fading::LastUnit)
     } else {
         None
@@ -144,5 +204,5 @@ pub(crate) fn unit_fades(mark: ListMark, statement: &Stmt) -> Option<Fading>
 pub(crate) fn fades_aloud(mark: ListMark, statement: &Stmt) -> bool
     ensures { result ≡ spec.fades_aloud (mark_of mark) (stmt_of statement.now) }
 {
-    is_pure_in(mark, statement) && is_surely_unit(statement) && !is_quiet(statement)
+    is_pure_unit(mark, statement) && !is_quiet(statement)
 }

@@ -3,7 +3,7 @@
 
 #![tactic(auto, using(ast_types::specs::Reading::shapes))]
 
-ghost use Rattle.std.specs.Prelude.{◌≡◌, ◌<◌, ◌≤◌, ◌+◌, ◌-◌, ◌&&◌, true, false, ℕ, length, take, drop, slice_index_or};
+ghost use Rattle.std.specs.Prelude.{◌≡◌, ◌<◌, ◌+◌, ◌-◌, ◌&&◌, true, false, ℕ, length, take, drop, slice_index_or};
 ghost use Rattle.theory_meaning.specs.Queries as queries;
 ghost use Rattle.ast_types.specs.Reading.{stmt_of};
 ghost use Rattle.theory_rewriting.specs.Context.{ListKind, Whole, wanted};
@@ -14,21 +14,20 @@ ghost use Rattle.opt_lists.specs.Sweep as spec;
 ghost use Rattle.opt_lists.specs.declared.behind.Fading.TheVariants as fading_kind;
 
 use crate::behind::Behind;
-use crate::list::{cut_behind, put_nothing, shorten};
 use crate::mark::ListMark;
 use ast_nodes::put_stmt;
 use ast_types::Stmt;
 use rhai_ast::StmtQueries;
 use rhai_base::{Position, Seq};
-use std::alloc::Global;
 use std::mem::replace;
 
 fn mark_at(list: &mut Seq<Stmt>, at: usize)
     requires { at < length list.old }
     ensures { MarkedAt at list.old list.new }
 {
-    let pos = list.as_slice()[at].position();
-    put_nothing(list, at, pos);
+    let going = &mut list.as_mut_slice()[at];
+    let pos = going.position();
+    put_stmt(going, Stmt::Noop(pos));
 }
 
 fn changed(behind: Behind) -> Behind
@@ -90,14 +89,16 @@ pub(crate) fn pure_inside_goes(
 }
 
 /// Those behind a statement that leaves the list go.
-pub(crate) fn after_leave(alloc: Global, list: &mut Seq<Stmt>, at: usize)
+pub(crate) fn after_leave(list: &mut Seq<Stmt>, at: usize)
     requires inside { at < length list.old }
     requires leaves { (d : Stmt) → queries.is_control_flow_break (stmt_of (slice_index_or list.old at d)) ≡ true }
     ensures cut { list.new ≡ take (at + 1) list.old }
     ensures rule { (m : ListKind) → spec.is_nothing (kept m (drop (at + 1) list.old)) ≡ false
         → Fires m at list.old list.new }
 {
-    cut_behind(alloc, list, at);
+    let len = list.len();
+    prove!(at < len);
+    list.truncate(at + 1);
 }
 
 /// The expression of a `return`, as a statement.
@@ -139,21 +140,21 @@ pub(crate) fn last_return(list: &mut Seq<Stmt>, at: usize)
 }
 
 /// A last `return;` of a script or a function goes behind unit: behind so many statements.
-pub(crate) fn last_return_goes(alloc: Global, list: &mut Seq<Stmt>, len: usize)
+pub(crate) fn last_return_goes(list: &mut Seq<Stmt>, len: usize)
     ensures first { list.new ≡ take len list.old }
     ensures rule { (m : ListKind) → spec.FadesAlone m fading_kind.LastReturn (kept m (drop len list.old))
         → FiresBehindUnit m len list.old list.new }
 {
-    shorten(alloc, list, len);
+    list.truncate(len);
 }
 
 /// A last statement that is pure and surely unit goes behind unit: behind so many statements.
-pub(crate) fn last_unit_goes(alloc: Global, list: &mut Seq<Stmt>, len: usize)
+pub(crate) fn last_unit_goes(list: &mut Seq<Stmt>, len: usize)
     ensures first { list.new ≡ take len list.old }
     ensures rule { (m : ListKind) → spec.FadesAlone m fading_kind.LastUnit (kept m (drop len list.old))
         → FiresBehindUnit m len list.old list.new }
 {
-    shorten(alloc, list, len);
+    list.truncate(len);
 }
 
 /// Behind anything else a last `return;` does nothing.

@@ -23,7 +23,6 @@ use ast_types::Stmt;
 use opt_queries::is_surely_unit;
 use rhai_ast::StmtQueries;
 use rhai_base::Seq;
-use std::alloc::Global;
 
 /// A statement goes by a rule, since its value is not wanted.
 fn go(mark: ListMark, going: Going, list: &mut Seq<Stmt>, at: usize, behind: Behind) -> Behind
@@ -70,23 +69,23 @@ fn keep_last(mark: ListMark, list: &mut Seq<Stmt>, at: usize, behind: Behind) ->
 }
 
 /// Those behind a statement that leaves the list go, where any are kept.
-fn leave_none_behind(alloc: Global, list: &mut Seq<Stmt>, at: usize, is_last: bool)
+fn leave_none_behind(list: &mut Seq<Stmt>, at: usize, is_last: bool)
     requires inside { at < length list.old }
     requires leaves { (d : Stmt) → queries.is_control_flow_break (stmt_of (slice_index_or list.old at d)) ≡ true }
     ensures { list.new ≡ cut is_last at list.old }
 {
     if !is_last {
-        after_leave(alloc, list, at);
+        after_leave(list, at);
     }
 }
 
 /// A statement leaves the list: those behind it go. A `return e` of a script or a function becomes `e`.
-fn leave(alloc: Global, mark: ListMark, list: &mut Seq<Stmt>, at: usize, behind: Behind) -> Behind
+fn leave(mark: ListMark, list: &mut Seq<Stmt>, at: usize, behind: Behind) -> Behind
     requires inside { at < length list.old }
     requires leaves { (d : Stmt) → queries.is_control_flow_break (stmt_of (slice_index_or list.old at d)) ≡ true }
     ensures { Step (mark_of mark) at list.old list.new behind result }
 {
-    leave_none_behind(alloc, list, at, behind.is_last);
+    leave_none_behind(list, at, behind.is_last);
     let statement = &list.as_slice()[at];
     if returns_value(mark, statement) {
         last_return(list, at);
@@ -124,12 +123,12 @@ fn left_by(mark: ListMark, statement: &Stmt, behind: Behind) -> Behind
 }
 
 /// The last one goes behind unit: behind so many statements.
-pub(crate) fn go_last(alloc: Global, fading: Fading, list: &mut Seq<Stmt>, len: usize)
+pub(crate) fn go_last(fading: Fading, list: &mut Seq<Stmt>, len: usize)
     ensures { list.new ≡ take len list.old }
 {
     match fading {
-        Fading::LastReturn => last_return_goes(alloc, list, len),
-        Fading::LastUnit => last_unit_goes(alloc, list, len),
+        Fading::LastReturn => last_return_goes(list, len),
+        Fading::LastUnit => last_unit_goes(list, len),
     }
 }
 
@@ -149,13 +148,7 @@ fn end_in_noop(fading: Fading, list: &mut Seq<Stmt>)
 }
 
 /// A statement stays before one that fades: behind unit that one goes, else it does nothing.
-fn stay_before_fading(
-    alloc: Global,
-    fading: Fading,
-    list: &mut Seq<Stmt>,
-    at: usize,
-    behind: Behind,
-) -> Behind
+fn stay_before_fading(fading: Fading, list: &mut Seq<Stmt>, at: usize, behind: Behind) -> Behind
     requires inside { at < length list.old }
     requires fades { behind.fading ≡ Some fading }
     requires stays { (d : Stmt) → queries.is_control_flow_break (stmt_of (slice_index_or list.old at d)) ≡ false }
@@ -165,7 +158,7 @@ fn stay_before_fading(
 {
     let last = list.len() - 1;
     if is_surely_unit(&list.as_slice()[at]) {
-        go_last(alloc, fading, list, at + 1);
+        go_last(fading, list, at + 1);
     } else if list.as_slice()[last].is_noop() {
         return kept_before(behind);
     } else {
@@ -201,19 +194,13 @@ fn kept_before(behind: Behind) -> Behind
 }
 
 /// Decides the statement at a place of a list; those behind it are decided.
-pub(crate) fn decide(
-    alloc: Global,
-    mark: ListMark,
-    list: &mut Seq<Stmt>,
-    at: usize,
-    behind: Behind,
-) -> Behind
+pub(crate) fn decide(mark: ListMark, list: &mut Seq<Stmt>, at: usize, behind: Behind) -> Behind
     requires { at < length list.old }
     ensures { Step (mark_of mark) at list.old list.new behind result }
 {
     let statement = &list.as_slice()[at];
     if statement.is_control_flow_break() {
-        return leave(alloc, mark, list, at, behind);
+        return leave(mark, list, at, behind);
     }
     if behind.is_last && mark.is_wanted() {
         return keep_last(mark, list, at, behind);
@@ -222,7 +209,7 @@ pub(crate) fn decide(
         return go(mark, going, list, at, behind);
     }
     if let Some(fading) = behind.fading {
-        return stay_before_fading(alloc, fading, list, at, behind);
+        return stay_before_fading(fading, list, at, behind);
     }
     kept_before(behind)
 }

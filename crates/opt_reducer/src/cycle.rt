@@ -17,11 +17,11 @@ ghost use Rattle.theory_rewriting.specs.Steps.{Anywhere, ExprRun, ExprsRun, Pair
 
 use crate::blocks::flatten;
 use crate::leaf::is_leaf;
-use crate::lists::{is_wanted_at, note, sweep_before, sweep_list};
+use crate::lists::{note, sweep_before, sweep_list};
 use crate::names::{declare, keeps_names, push_catch_name, push_loop_names};
 use base_engine::EngineInfo;
 use bitflags::Flags;
-use opt_lists::ListMark;
+use opt_lists::{ListMark, is_wanted_at};
 use opt_rules::{OptimizerState, Place, decide_stmt, reduce_expr, reduce_stmt};
 use rhai_ast::{
     BinaryExpr, ChainType, Expr, FlowControl, FnCallExpr, Stmt, StmtBlock, SwitchBlock,
@@ -768,10 +768,10 @@ impl<'a> Optimizer<'a> {
             (stmts_of statements.old) (stmts_of statements.new)) }
     {
         flatten(state, statements, mark)?;
-        sweep_before(self.alloc, state, statements, mark);
+        sweep_before(state, statements, mark);
         loop {
             self.list(state, statements, mark)?;
-            if !sweep_list(self.alloc, state, statements, mark) {
+            if !sweep_list(state, statements, mark) {
                 return Ok(());
             }
         }

@@ -2,11 +2,10 @@
 
 #![tactic(auto, using(ast_types::specs::Reading::shapes))]
 
-ghost use Rattle.std.specs.Prelude.{◌≡◌, ◌<◌, ◌+◌, ◌||◌, length, drop};
+ghost use Rattle.std.specs.Prelude.{◌≡◌, ◌||◌};
 ghost use Rattle.opt_known.specs.State.{progress};
 ghost use Rattle.theory_meaning.specs.Engine.{Engine};
 ghost use Rattle.ast_types.specs.Reading.{stmts_of};
-ghost use Rattle.theory_rewriting.specs.Context as rewriting;
 ghost use Rattle.theory_rewriting.specs.Steps.{ListPassed, SweepRun};
 ghost use Rattle.opt_lists.specs.Marks.{mark_of};
 
@@ -14,15 +13,6 @@ use opt_lists::{ListMark, sweep};
 use opt_rules::OptimizerState;
 use rhai_ast::Stmt;
 use rhai_base::Seq;
-use std::alloc::Global;
-
-/// Whether the value of the statement at a place is wanted.
-pub(crate) fn is_wanted_at(wanted: bool, statements: &[Stmt], at: usize) -> bool
-    requires { at < length statements.now }
-    ensures { result ≡ rewriting.wanted_before wanted (stmts_of (drop (at + 1) statements.now)) }
-{
-    wanted && at + 1 == statements.len()
-}
 
 /// Notes whether something has changed.
 pub(crate) fn note(state: &mut OptimizerState<'_>, has_changed: bool)
@@ -36,7 +26,6 @@ pub(crate) fn note(state: &mut OptimizerState<'_>, has_changed: bool)
 
 /// Sweeps a list from its end. It says whether the last statement is the expression of a `return` now.
 pub(crate) fn sweep_list(
-    alloc: Global,
     state: &mut OptimizerState<'_>,
     statements: &mut Seq<Stmt>,
     mark: ListMark,
@@ -44,7 +33,7 @@ pub(crate) fn sweep_list(
     ensures { SweepRun (mark_of mark) result (progress state.old) (progress state.new) (stmts_of statements.old)
         (stmts_of statements.new) }
 {
-    let swept = sweep(alloc, mark, statements);
+    let swept = sweep(mark, statements);
     note(state, swept.has_changed);
     swept.is_bared
 }
@@ -52,7 +41,6 @@ pub(crate) fn sweep_list(
 /// Sweeps a script's own list before its statements are gone over, so that the expression of a last `return` is gone
 /// over once, as what it becomes.
 pub(crate) fn sweep_before(
-    alloc: Global,
     state: &mut OptimizerState<'_>,
     statements: &mut Seq<Stmt>,
     mark: ListMark,
@@ -63,7 +51,7 @@ pub(crate) fn sweep_before(
 {
     match mark {
         ListMark::Whole => {
-            sweep_list(alloc, state, statements, mark);
+            sweep_list(state, statements, mark);
         }
         ListMark::Inside { is_wanted: _ } => {}
     }

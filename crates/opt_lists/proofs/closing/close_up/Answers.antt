@@ -15,4 +15,4 @@ loop-at-preserved c =
     ]
 
 pub returns-clause-closed : goal.returns-clause-closed
-returns-clause-closed c = closing_end c.loop-at.invariant (omega (arith, c.len-at-end.ensures)) c.shorten.ensures
+returns-clause-closed c = closing_end c.loop-at.invariant (omega (arith, c.len-at-end.ensures)) c.truncate.ensures

@@ -3,4 +3,4 @@ use Rattle.opt_lists.proofs.Firing.{last_goes_fires}
 use Rattle.opt_lists.proofs.rules.last_unit_goes.Goals as goal
 
 pub returns-clause-rule : goal.returns-clause-rule
-returns-clause-rule c = λ m z. last_goes_fires c.args.list.now _ c.args.len LastUnit m c.shorten.ensures z
+returns-clause-rule c = λ m z. last_goes_fires c.args.list.now _ c.args.len LastUnit m c.truncate.ensures z
