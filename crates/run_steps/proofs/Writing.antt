@@ -25,7 +25,7 @@ use Rattle.run_steps.specs.Placing.{root_value, root_stuck, constant_end}
 use Rattle.run_state.specs.Runs.{Setting, Task, Acting, Over, Halting, env, run_of, stopped, stop_of, Goes, Stops, Leads, given}
 use Rattle.run_state.specs.State.{store_of}
 use Rattle.run_state.specs.Variables.{IsMissing, IsLatest}
-use Rattle.run_state.proofs.Goes.{goes_as, goes_then, stops_by, stops_then, value_goes, value_stops}
+use Rattle.run_state.proofs.Goes.{goes_as, goes_then, leads_then, stops_by, stops_then, value_goes, value_stops}
 use Rattle.run_steps.proofs.Placing.{constant_value, fails, latest_value, read_goes, read_stops}
 use Rattle.run_state.proofs.Variables.{found-latest, found-missing, get-latest, put-latest, set-latest}
 
@@ -206,3 +206,19 @@ module _ (here : Setting) (must : Bool) (w : Value) (s : State) where
 
   pub to_place : (r : act.Root) → Goes here (Acting (Write must r w)) s (Acting (write_place must (record { root = r; keys = [] }) w)) s
   to_place r = record { turns = omega arith; runs = λ d le. root_itself r d }
+
+-- ---- writes to roots
+
+module _ (here : Setting) (w : Value) (s : State) where
+  pub unrooted_write : (x : Text) (r : Result Unit Interrupt) → Leads here (Acting (write_place true (record { root = OfName x; keys = [] }) w)) s r s (λ z. given UnitV) → Leads here (Acting (Write true (OfName x) w)) s r s (λ z. given UnitV)
+  unrooted_write x r q = leads_then here s r (λ z. given UnitV) (to_place here true w s (OfName x)) q
+
+  module _ (x : Text) (i : ℕ) (l : IsLatest x s.scope.items i) (g : Entry) (e : g ≡ get_or s.scope.items i g) (s' : State) (v : Dynamic) (a : s'.scope.items ≡ set s.scope.items i (record g { value = v })) (b : s'.this ≡ s.this) (c : s'.calls ≡ s.calls) (t : s'.turns ≡ s.turns) where
+    pub name_replaced : is_constant (kind_meant g.kind) ≡ false → w ≡ value_of v → Goes here (Acting (Write true (OfName x) w)) s (given UnitV) s'
+    name_replaced h k = goes_then here (to_place here true w s (OfName x)) (written_at here true s [] w x i l g e s' v a b c t h (ap Some k))
+
+    pub constant_refused : v ≡ g.value → is_constant (kind_meant g.kind) ≡ true → Stops here (Acting (Write true (OfName x) w)) s (Stuck why.WriteToConstant) s'
+    constant_refused k h = stops_then here s' (Stuck why.WriteToConstant) (to_place here true w s (OfName x)) (constant_at here true s [] w x i l g e s' v a b c t (Err (Stuck why.WriteToConstant)) k h refl)
+
+  pub this_replaced : (v v' : Dynamic) (s' : State) → s.this ≡ Some v → w ≡ value_of v' → s'.this ≡ Some v' → s'.scope.items ≡ s.scope.items → s'.calls ≡ s.calls → s'.turns ≡ s.turns → Goes here (Acting (Write true OfThis w)) s (given UnitV) s'
+  this_replaced v v' s' h k e0 e1 e2 e3 = goes_then here (to_place here true w s OfThis) (this_written here true s [] w v v' s' h (ap Some k) e0 e1 e2 e3)

@@ -17,7 +17,6 @@ ghost use Rattle.theory_meaning.specs.Chains as chains;
 
 use crate::nodes::{Root, asks_assigning, assigning_name, assigning_operator};
 use crate::steps::machine::Machine;
-use crate::steps::placing::Place;
 use rhai_base::{Dynamic, OpAssignment, Seq, Token};
 use run_host::Host;
 use run_state::{Interrupt, State};
@@ -57,8 +56,10 @@ impl<'a, H: Host> Machine<'a, H> {
         ensures { Runs (setting H.answers H.modules self.now)
             (Acting (Write true (root_meant root.entry) (value_of value))) state.old result state.new }
     {
-        let keys = Seq::new(self.alloc);
-        self.write_place(state, true, &Place { root, keys }, value)?;
+        match root {
+            Root::Name(name) => self.write_name(state, name.as_str(), value)?,
+            Root::This => self.write_this(state, value)?,
+        }
         Ok(Dynamic::Unit)
     }
 

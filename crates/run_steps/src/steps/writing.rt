@@ -5,7 +5,7 @@
 ghost use Rattle.std.specs.Prelude.{◌≡◌, true, map};
 ghost use Rattle.rhai_base.specs.Reading.{value_of};
 ghost use Rattle.rhai_base.specs.Value.{UnitV, Value};
-ghost use Rattle.theory_meaning.specs.Act.{OfName, OfThis};
+ghost use Rattle.theory_meaning.specs.Act.{OfName, OfThis, Write};
 ghost use Rattle.run_places.specs.Reading.{key_meant};
 ghost use Rattle.run_state.specs.declared.state.State.{State};
 ghost use Rattle.run_steps.specs.Setting.{setting};
@@ -23,6 +23,39 @@ use run_places::{PlaceKey, along, replace_along};
 use run_state::{Interrupt, State};
 
 impl<'a, H: Host> Machine<'a, H> {
+    /// Gives a variable another value, in its latest entry. A constant is stuck.
+    pub(crate) fn write_name(
+        &self,
+        state: &mut State,
+        name: &str,
+        value: Dynamic,
+    ) -> Result<(), Interrupt>
+        ensures { Leads (setting H.answers H.modules self.now)
+            (Acting (Write true (OfName name.now) (value_of value))) state.old result state.new (λ z. given UnitV) }
+    {
+        let Some(place) = position(state.scope.as_slice(), name) else {
+            return self.write_in_constant(true, name, &[]);
+        };
+        let variable = &mut state.scope[place];
+        if variable.kind.is_constant() {
+            return Err(Interrupt::Stuck(Stuck::WriteToConstant));
+        }
+        variable.value = value;
+        Ok(())
+    }
+
+    /// Gives `this` another value.
+    pub(crate) fn write_this(&self, state: &mut State, value: Dynamic) -> Result<(), Interrupt>
+        ensures { Leads (setting H.answers H.modules self.now) (Acting (Write true OfThis (value_of value)))
+            state.old result state.new (λ z. given UnitV) }
+    {
+        let Some(this) = &mut state.this else {
+            return Err(Interrupt::Stuck(Stuck::UnboundThis));
+        };
+        *this = value;
+        Ok(())
+    }
+
     /// Puts a value at a place, and adds the last entry where it is missing. A constant stays as it is; one that must
     /// be written is stuck.
     pub fn write_place(
