@@ -12,16 +12,13 @@ use Rattle.theory_meaning.specs.Places as places
 use Rattle.theory_meaning.specs.Shape.{is_chain}
 use Rattle.theory_meaning.specs.Tree as tree
 use Rattle.run_steps.specs.declared.nodes.links.Rest.{Rest}
-use Rattle.run_steps.specs.declared.steps.placing.Current.{Current}
 use Rattle.run_state.specs.declared.state.Interrupt.{Interrupt}
 use Rattle.run_state.specs.declared.state.Interrupt.TheVariants.{Stuck}
 use Rattle.run_state.specs.declared.state.State.{State}
 use Rattle.run_host.specs.declared.report.Stuck.TheVariants as why
-use Rattle.run_steps.specs.Chaining.{StepsOn}
 use Rattle.run_steps.specs.Links.{rest_steps}
-use Rattle.run_steps.specs.Placing.{current_in, read_base}
-use Rattle.run_state.specs.Runs.{Setting, Acting, Leads, given}
-use Rattle.run_state.specs.State.{store_of}
+use Rattle.run_steps.specs.Placing.{read_base}
+use Rattle.run_state.specs.Runs.{Setting, Task, Acting, Goes, Leads, Stops, given}
 use Rattle.run_steps.specs.LeftSides.{part_core}
 use Rattle.run_state.proofs.Goes.{leads_then}
 use Rattle.rhai_ast.specs.Nodes.{is_dot}
@@ -57,15 +54,16 @@ module _ (here : Setting) (loop : Bool) (l : tree.Expr) (rest : Rest) (o : Optio
       pub part_called : true ≡ called → Assigns (part_core loop l rest) (Err (Stuck why.NoPlace)) s
       part_called g = subst (λ t. Assigns t (Err (Stuck why.NoPlace)) s) (λ i. part_by_tests (e i) (f i) (g i)) nowhere_here
 
-      module _ (g : false ≡ called) (s1 : State) where
+      module _ (g : false ≡ called) where
         abbrev on_part : places.Current → Act
         on_part c = meaning.assign_steps here.world o v (rest_steps loop rest) c
 
         part_as : (x : Result Unit Interrupt) (s2 : State) → Leads here (Acting (read_base r on_part)) s x s2 (λ z. given UnitV) → Assigns (part_core loop l rest) x s2
         part_as x s2 q = subst (λ t. Assigns t x s2) (λ i. part_by_tests (e i) (f i) (g i)) q
 
-        pub part_stops : (x : Interrupt) → StepsOn here (λ next. read_base r next) s (Err x) s1 → Assigns (part_core loop l rest) (Err x) s1
-        part_stops x q = part_as (Err x) s1 (q on_part)
+        pub part_stops : (x : Interrupt) → Stops here (Acting (read_base r on_part)) s x s → Assigns (part_core loop l rest) (Err x) s
+        part_stops x q = part_as (Err x) s q
 
-        pub part_runs : (c : Current) (s2 : State) (x : Result Unit Interrupt) → StepsOn here (λ next. read_base r next) s (Ok c) s1 → Leads here (Acting (on_part (current_in here (store_of s1) c))) s1 x s2 (λ z. given UnitV) → Assigns (part_core loop l rest) x s2
-        part_runs c s2 x q n = part_as x s2 (leads_then here s2 x (λ z. given UnitV) (q on_part) n)
+        -- by what is left to assign to
+        pub part_runs : (f : Task) (s2 : State) (x : Result Unit Interrupt) → Goes here (Acting (read_base r on_part)) s f s → Leads here f s x s2 (λ z. given UnitV) → Assigns (part_core loop l rest) x s2
+        part_runs f s2 x q n = part_as x s2 (leads_then here s2 x (λ z. given UnitV) q n)

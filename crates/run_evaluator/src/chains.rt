@@ -8,11 +8,11 @@ ghost use Rattle.run_steps.specs.Chaining.{access_meant, StepsOn};
 ghost use Rattle.run_steps.specs.Links.{rest_steps, step_core};
 ghost use Rattle.run_steps.specs.Setting.{setting};
 ghost use Rattle.run_state.specs.Evaluating.{Runs, RunsCore};
-ghost use Rattle.run_steps.specs.Placing.{current_in};
+ghost use Rattle.run_steps.specs.Placing.{current_in, read_base};
+ghost use Rattle.run_steps.specs.Variables.{root_meant};
 ghost use Rattle.run_state.specs.Runs.{Acting};
 ghost use Rattle.run_state.specs.State.{store_of};
 ghost use Rattle.theory_meaning.specs.Chains as chains;
-ghost use Rattle.theory_meaning.specs.Desugar as desugar;
 ghost use Rattle.theory_meaning.specs.Meaning as meaning;
 ghost use Rattle.run_steps.specs.Chaining as spec;
 ghost use Rattle.rhai_ast.specs.Nodes.{is_dot};
@@ -24,8 +24,8 @@ use rhai_base::{ASTFlags, Dynamic};
 use run_host::{Host, Stuck};
 use run_state::{Interrupt, State};
 use run_steps::{
-    Access, Current, PropertyNames, Rest, direct_value, index_step, is_callable, is_chain,
-    property_step, root_of,
+    Access, Current, PropertyNames, Rest, Root, direct_root, direct_value, follow_root, index_step,
+    is_callable, is_chain, property_step, root_of,
 };
 
 impl<'a, H: Host> Evaluator<'a, H> {
@@ -47,30 +47,37 @@ impl<'a, H: Host> Evaluator<'a, H> {
         if !is_chain(chain, options, &sides.rhs) {
             return Err(Interrupt::Stuck(Stuck::WrongKind));
         }
-        let base = self.base(state, &sides.lhs)?;
         let rest = Rest {
             chain,
             options,
             right: &sides.rhs,
         };
-        self.steps(state, rest, base)
+        match root_of(&sides.lhs) {
+            Some(root) => self.from_root(state, root, rest),
+            None => {
+                let base = self.expr(state, &sides.lhs)?;
+                self.steps(state, rest, Current::Loose(base))
+            }
+        }
     }
 
-    /// The base of a chain: a place, or a value.
+    /// A chain from a name or `this`, followed by reference as far as its steps run nothing.
     #[cycle(evaluate)]
-    fn base<'e>(&self, state: &mut State, expr: &'e Expr) -> Result<Current<'e>, Interrupt>
+    fn from_root(&self, state: &mut State, root: Root, rest: Rest) -> Result<Dynamic, Interrupt>
         ensures { let here = setting H.answers H.modules self.now.machine in
-            StepsOn here
-            (λ next.
-            meaning.at_base here.world
-            (desugar.based (desugar.root_of (expr_of expr.now))
-            (desugar.core_expr self.now.in_loop (expr_of expr.now)))
-            next)
+            Runs here
+            (Acting
+            (read_base (root_meant root.entry)
+            (λ c. meaning.steps here.world (rest_steps self.now.in_loop rest.entry) c)))
             state.old result state.new }
     {
-        match root_of(expr) {
-            Some(root) => self.machine.at_root(state, root),
-            None => Ok(Current::Loose(self.expr(state, expr)?)),
+        if let Some(value) = direct_root(&self.machine, state, root, rest)? {
+            return Ok(value);
+        }
+        let (place, left) = follow_root(&self.machine, state, root, rest)?;
+        match left {
+            Some(rest) => self.steps(state, rest, Current::At(place)),
+            None => Ok(self.machine.place_value(state, &place)?),
         }
     }
 
@@ -84,17 +91,17 @@ impl<'a, H: Host> Evaluator<'a, H> {
             (current_in here (store_of state.old) current.entry)))
             state.old result state.new }
     {
-        if let Some(value) = direct_value(&self.machine, state, rest, &current)? {
-            return Ok(value);
-        }
         let link = rest.link();
         let Some(access) = self.reach(state, rest, &current)? else {
             return Ok(Dynamic::Unit);
         };
         let current = self.applied(state, access, current)?;
-        match link.rest {
-            Some(rest) => self.steps(state, rest, current),
-            None => Ok(self.machine.current_value(state, current)?),
+        let Some(rest) = link.rest else {
+            return Ok(self.machine.current_value(state, current)?);
+        };
+        match direct_value(&self.machine, state, rest, &current)? {
+            Some(value) => Ok(value),
+            None => self.steps(state, rest, current),
         }
     }
 

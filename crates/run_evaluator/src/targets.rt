@@ -26,8 +26,8 @@ use rhai_base::{ASTFlags, Dynamic, ImmutableString, OpAssignment, Seq, Token};
 use run_host::{Host, Stuck};
 use run_state::{Interrupt, State};
 use run_steps::{
-    Access, Current, Rest, assign_index, assign_property, assigning_operator, ends_in_call,
-    is_chain, root_of, set_at,
+    Access, Current, Rest, assign_index, assign_place, assign_property, assigning_operator,
+    ends_in_call, follow_root, is_chain, root_of, set_at,
 };
 
 impl<'a, H: Host> Evaluator<'a, H> {
@@ -62,8 +62,11 @@ impl<'a, H: Host> Evaluator<'a, H> {
         ) {
             return Err(Interrupt::Stuck(Stuck::NoPlace));
         }
-        let current = self.machine.at_root(state, root)?;
-        self.assign_steps(state, op, rest, value, current)
+        let (place, left) = follow_root(&self.machine, state, root, rest)?;
+        match left {
+            Some(rest) => self.assign_steps(state, op, rest, value, Current::At(place)),
+            None => assign_place(&self.machine, state, op, place, value),
+        }
     }
 
     /// Assigns to the part that what is left of a chain leads to, from what the chain has come to. A chain that ends

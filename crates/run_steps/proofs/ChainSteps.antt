@@ -35,12 +35,12 @@ use Rattle.run_state.specs.declared.state.State.{State}
 use Rattle.run_host.specs.declared.report.Stuck.TheVariants as why
 use Rattle.run_steps.specs.Chaining.{StepsOn, HasAccess, Reaches, access_meant, chain_core, head_of, method_core}
 use Rattle.run_steps.specs.Links.{link_steps, rest_steps, step_core, steps_on}
-use Rattle.run_state.specs.Evaluating.{RunsCore, RunsExprs}
+use Rattle.run_state.specs.Evaluating.{RunsCore, RunsExpr, RunsExprs}
 use Rattle.run_steps.specs.Placing.{current_in, made, place_in, read_base}
 use Rattle.run_state.specs.Runs.{Setting, Acting, Goes, Leads, Runs, given}
 use Rattle.run_state.specs.State.{store_of}
 use Rattle.run_steps.proofs.Callees.{count_exprs_of}
-use Rattle.run_state.proofs.Goes.{goes_as, goes_then, leads_then, stops_then}
+use Rattle.run_state.proofs.Goes.{goes_as, goes_then, leads_then, stops_then, value_goes, value_stops}
 use Rattle.rhai_ast.specs.Nodes.{is_dot}
 use Rattle.ast_types.proofs.OtherKinds.{NoProperty, NoMethod}
 
@@ -57,17 +57,22 @@ module _ (here : Setting) (loop dot : Bool) (k : tree.ChainFlags) (l r : tree.Ex
   chain_is b h = ap (λ c. cond c (core.Chain base_here steps_here) core.Ill) h
 
   module _ (s s1 : State) (h : is_chain dot k r ≡ true) where
-    pub chain_runs : (c : Current) (s2 : State) (o : Result Dynamic Interrupt) → StepsOn here (λ next. at_base here.world base_here next) s (Ok c) s1 → Runs here (Acting (meaning.steps here.world steps_here (current_in here (store_of s1) c))) s1 o s2 → RunsCore here (chain_core loop dot k l r) s o s2
-    chain_runs c s2 o q n = subst (λ e. RunsCore here e s o s2) (sym (chain_is true h)) (leads_then here s2 o (λ v. given (value_of v)) (q (λ d. meaning.steps here.world steps_here d)) n)
+    abbrev on_base : places.Current → Act
+    on_base c = meaning.steps here.world steps_here c
 
--- ---- the base
+    chain_by : (x : Option act.Root) (o : Result Dynamic Interrupt) (s2 : State) → x ≡ root_of l → Runs here (Acting (at_base here.world (based x (core_expr loop l)) on_base)) s o s2 → RunsCore here (chain_core loop dot k l r) s o s2
+    chain_by x o s2 e q = subst (λ c. RunsCore here c s o s2) (sym (chain_is true h)) (subst (λ y. Runs here (Acting (at_base here.world (based y (core_expr loop l)) on_base)) s o s2) e q)
 
-module _ (here : Setting) (loop : Bool) (e : tree.Expr) (s s1 : State) where
-  abbrev on_base : Option act.Root → (places.Current → Act) → Act
-  on_base o next = at_base here.world (based o (core_expr loop e)) next
+    -- from a name or `this`
+    pub chain_from_root : (x : act.Root) (o : Result Dynamic Interrupt) → Some x ≡ root_of l → Runs here (Acting (read_base x on_base)) s o s1 → RunsCore here (chain_core loop dot k l r) s o s1
+    chain_from_root x o e q = chain_by (Some x) o s1 e q
 
-  pub base_place : (r : act.Root) (x : Result Current Interrupt) → Some r ≡ root_of e → StepsOn here (λ next. read_base r next) s x s1 → StepsOn here (on_base (root_of e)) s x s1
-  base_place r x h q = subst (λ o. StepsOn here (on_base o) s x s1) h q
+    -- from a value
+    pub chain_stops : (x : Interrupt) → None ≡ root_of l → RunsExpr here loop l s (Err x) s1 → RunsCore here (chain_core loop dot k l r) s (Err x) s1
+    chain_stops x e q = chain_by None (Err x) s1 e (value_stops here _ (λ v. on_base (places.without_place v)) s s1 x q)
+
+    pub chain_from_value : (v : Dynamic) (s2 : State) (o : Result Dynamic Interrupt) → None ≡ root_of l → RunsExpr here loop l s (Ok v) s1 → Runs here (Acting (on_base (places.without_place (value_of v)))) s1 o s2 → RunsCore here (chain_core loop dot k l r) s o s2
+    chain_from_value v s2 o e q n = chain_by None o s2 e (leads_then here s2 o (λ u. given (value_of u)) (value_goes here (λ u. on_base (places.without_place u)) q) n)
 
 -- ---- one step
 

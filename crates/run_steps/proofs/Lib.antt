@@ -4,6 +4,7 @@ pub mod ChainLinks
 pub mod ChainSteps
 pub mod Chaining
 pub mod Following
+pub mod FollowingSides
 pub mod Forms
 pub mod LeftSides
 pub mod Modules

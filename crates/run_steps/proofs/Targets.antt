@@ -133,7 +133,7 @@ module _ (here : Setting) (o : Option Operator) (v : Value) (a : Access) (cur : 
 
 module _ (here : Setting) (loop : Bool) (rest : Rest) (l : Link) (h : rest_steps loop rest ≡ link_steps loop rest l) (op : Option Operator) (v : Value) where
   -- what an assignment does after a step's argument
-  abbrev assign_on : Option Rest → chains.Access → places.Current → Act
+  abbrev pub assign_on : Option Rest → chains.Access → places.Current → Act
   assign_on None a d = assign_last here.world op v a d
   assign_on (Some r) a d = chains.applied here.world a d (λ x. meaning.assign_steps here.world op v (rest_steps loop r) x)
 
@@ -141,7 +141,7 @@ module _ (here : Setting) (loop : Bool) (rest : Rest) (l : Link) (h : rest_steps
   assign_by None c = refl
   assign_by (Some r) c = refl
 
-  assign_are : (c : places.Current) → meaning.assign_steps here.world op v (rest_steps loop rest) c ≡ first_step here loop rest l h (head_of (rest_steps loop rest)) c (assign_on l.rest)
+  pub assign_are : (c : places.Current) → meaning.assign_steps here.world op v (rest_steps loop rest) c ≡ first_step here loop rest l h (head_of (rest_steps loop rest)) c (assign_on l.rest)
   assign_are c = ap (λ sts. meaning.assign_steps here.world op v sts c) h ∙ assign_by l.rest c ∙ ap (λ p. first_step here loop rest l h p c (assign_on l.rest)) (sym (head_is here loop rest l h))
 
   module _ (c : Current) (s s1 : State) where

@@ -38,6 +38,10 @@ root_stuck OfThis = UnboundThis
 abbrev pub value_at : Setting → Store → places.Place → Option Value
 value_at here st p = at_index (root_value here st p.root) (λ v. along v p.keys)
 
+-- what stands there, or unit
+abbrev pub or_unit_at : Setting → Store → places.Place → Value
+or_unit_at here st p = or_unit (value_at here st p)
+
 -- why nothing stands there
 abbrev pub stuck_by : Option Value → act.Root → act.Stuck
 stuck_by None r = root_stuck r

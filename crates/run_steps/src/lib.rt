@@ -6,7 +6,10 @@ mod nodes;
 mod receivers;
 mod steps;
 
-pub use chains::{assign_index, assign_property, direct_value, index_step, property_step, set_at};
+pub use chains::{
+    assign_index, assign_place, assign_property, direct_root, direct_value, follow_root,
+    index_step, property_step, set_at,
+};
 pub use nodes::{
     LeftSide, Rest, Root, assigning_operator, catch_name, ends_in_call, insert, is_callable,
     is_chain, is_map, operator_called, qualified, root_of, two_operands,

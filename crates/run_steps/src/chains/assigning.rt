@@ -9,7 +9,8 @@ ghost use Rattle.rhai_base.specs.Builtin.{operator_of};
 ghost use Rattle.run_steps.specs.Operators.{StandsFor};
 ghost use Rattle.run_steps.specs.Chaining.{access_meant, names_meant};
 ghost use Rattle.run_steps.specs.Setting.{setting};
-ghost use Rattle.run_steps.specs.Placing.{current_in};
+ghost use Rattle.run_steps.specs.Direct.{assign_at};
+ghost use Rattle.run_steps.specs.Placing.{current_in, or_unit_at, place_meant};
 ghost use Rattle.run_state.specs.Runs.{Acting, Leads, given};
 ghost use Rattle.run_state.specs.State.{store_of};
 ghost use Rattle.run_steps.specs.Targets.{Changes};
@@ -18,10 +19,34 @@ ghost use Rattle.theory_meaning.specs.Chains as chains;
 
 use crate::chains::finding::{find_index, find_property, found_value};
 use crate::chains::setting::set_at;
-use crate::{Access, Current, Machine, PropertyNames};
-use rhai_base::{Dynamic, Token};
+use crate::nodes::assigning_operator;
+use crate::{Access, Current, Machine, Place, PropertyNames};
+use rhai_base::{Dynamic, OpAssignment, Token};
 use run_host::Host;
 use run_state::{Interrupt, State};
+
+/// Assigns to what stands at a place, which an operator reads first.
+pub fn assign_place<H: Host>(
+    machine: &Machine<H>,
+    state: &mut State,
+    op: &OpAssignment,
+    place: Place,
+    value: Dynamic,
+) -> Result<(), Interrupt>
+    ensures { let here = setting H.answers H.modules machine.now in
+        Leads here
+        (Acting
+        (assign_at here.world (operator_of op.now.op) (value_of value) (place_meant place.entry)
+        (or_unit_at here (store_of state.old) (place_meant place.entry))))
+        state.old result state.new (λ z. given UnitV) }
+{
+    let Some(token) = assigning_operator(op) else {
+        return machine.write_place(state, true, &place, value);
+    };
+    let old = machine.place_value(state, &place)?;
+    let written = machine.assigned(state, token, old, value)?;
+    machine.write_place(state, true, &place, written)
+}
 
 /// Assigns to a property by an operator.
 pub fn assign_property<H: Host>(

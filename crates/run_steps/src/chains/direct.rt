@@ -5,20 +5,22 @@
 
 ghost use Rattle.std.specs.Prelude.{◌≡◌, IfOk, IfSome, Some};
 ghost use Rattle.run_steps.specs.Direct.{Comes, ComesFrom, IsIndex, StepsTo};
-ghost use Rattle.run_steps.specs.Placing.{current_in, root_value};
+ghost use Rattle.run_steps.specs.Links.{rest_steps};
+ghost use Rattle.run_steps.specs.Placing.{current_in, read_base, root_value};
 ghost use Rattle.run_steps.specs.Setting.{setting};
 ghost use Rattle.run_places.specs.Reading.{part_value};
 ghost use Rattle.run_steps.specs.Variables.{root_meant};
+ghost use Rattle.run_state.specs.Runs.{Acting, Goes, given};
 ghost use Rattle.run_state.specs.State.{store_of};
+ghost use Rattle.theory_meaning.specs.Meaning as meaning;
 ghost use Rattle.rhai_base.specs.Reading.{value_of};
 ghost use Rattle.rhai_base.specs.Value.{IntV};
 ghost use Rattle.rhai_ast.specs.declared.walker.node.ChainType.TheVariants as chain_type;
 
 use crate::nodes::{Rest, Root, root_of};
 use crate::{Current, Machine, Place};
-use bitflags::Flags;
 use rhai_ast::{ChainType, Expr};
-use rhai_base::{ASTFlags, Dynamic, INT, Seq};
+use rhai_base::{Dynamic, INT, Seq};
 use run_host::Host;
 use run_places::{Part, element, entry};
 use run_state::State;
@@ -49,7 +51,30 @@ pub fn direct_value<H: Host>(
     }
 }
 
-/// The part of a value that what is left of a chain leads to.
+/// The value that a chain comes to from its base, if no step of it runs anything. `None` says nothing.
+pub fn direct_root<H: Host>(
+    machine: &Machine<H>,
+    state: &State,
+    root: Root,
+    rest: Rest,
+) -> Result<Option<Dynamic>, AllocError>
+    ensures { let here = setting H.answers H.modules machine.now in
+        IfOk result (λ o. IfSome o (λ v.
+        (loop : _)
+        → Goes here
+        (Acting (read_base (root_meant root.entry) (λ c. meaning.steps here.world (rest_steps loop rest.entry) c)))
+        state.now (given (value_of v)) state.now)) }
+{
+    let Ok(value) = machine.root_value(state, root) else {
+        return Ok(None);
+    };
+    match part_of(machine, state, value, rest) {
+        Some(part) => Ok(Some(part.to_value()?)),
+        None => Ok(None),
+    }
+}
+
+/// The part of a value that what is left of a chain leads to. What has parts is no unit, so no `?` ends the chain there.
 fn part_of<'v, H: Host>(
     machine: &Machine<H>,
     state: &State,
@@ -59,9 +84,6 @@ fn part_of<'v, H: Host>(
     ensures { let here = setting H.answers H.modules machine.now in
         IfSome result (λ part. ComesFrom here state.now rest.entry (value_of value.now) (part_value part)) }
 {
-    if rest.options.contains(ASTFlags::NEGATED) {
-        return None;
-    }
     let link = rest.link();
     let part = step_of(machine, state, value, rest.chain, link.argument)?;
     match link.rest {
@@ -126,7 +148,7 @@ fn element_of<'v, H: Host>(
 }
 
 /// The index that an integer is, or a name of one.
-fn index_of<H: Host>(machine: &Machine<H>, state: &State, argument: &Expr) -> Option<INT>
+pub(crate) fn index_of<H: Host>(machine: &Machine<H>, state: &State, argument: &Expr) -> Option<INT>
     ensures { let here = setting H.answers H.modules machine.now in
         IfSome result (λ i. IsIndex here state.now argument.now i) }
 {

@@ -112,6 +112,15 @@ impl<'a, H: Host> Machine<'a, H> {
         }
     }
 
+    /// A copy of what stands at a place; unit where nothing does.
+    pub fn place_value(&self, state: &State, place: &Place) -> Result<Dynamic, AllocError>
+        ensures { IfOk result (λ v.
+            value_of v
+            ≡ (spec.current_in (setting H.answers H.modules self.now) (store_of state.now) (kind.At place.now)).value) }
+    {
+        self.place_part(state, place).to_value()
+    }
+
     /// What a chain has come to; unit where nothing stands at the place.
     pub fn current_part<'s>(&'s self, state: &'s State, current: &'s Current) -> Part<'s>
         ensures { part_value result
@@ -130,7 +139,7 @@ impl<'a, H: Host> Machine<'a, H> {
             ≡ (spec.current_in (setting H.answers H.modules self.now) (store_of state.now) current.entry).value) }
     {
         match current {
-            Current::At(place) => self.place_part(state, &place).to_value(),
+            Current::At(place) => self.place_value(state, &place),
             Current::Loose(value) => Ok(value),
         }
     }
@@ -142,7 +151,7 @@ impl<'a, H: Host> Machine<'a, H> {
             ≡ (spec.current_in (setting H.answers H.modules self.now) (store_of state.now) current.now).value) }
     {
         match current {
-            Current::At(place) => self.place_part(state, place).to_value(),
+            Current::At(place) => self.place_value(state, place),
             Current::Loose(value) => value.clone(),
         }
     }

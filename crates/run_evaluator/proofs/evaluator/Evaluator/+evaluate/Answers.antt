@@ -59,7 +59,7 @@ use Rattle.run_state.proofs.Rounds.{loop_start}
 use Rattle.run_state.proofs.Loops.{round_runs, round_turns, endless_stops, endless_ends, endless_next, while_stops, while_stuck, guard_late, guard_over, guard_leaves, guard_ends, guard_falls, guard_next, loop_always, loop_when, do_stops, do_ends, do_guard_stops, do_guard_stuck, do_over, do_next}
 use Rattle.run_evaluator.proofs.Maps.{map_runs, map_stops, members_start, members_stop, members_next, members_end}
 use Rattle.run_evaluator.proofs.MethodSteps.{back_runs, back_stops, call_stops as method_call_stops, found_fits, found_runs, missing_asks, word_given, word_passed, word_stopped}
-use Rattle.run_steps.proofs.ChainSteps.{applied_stops, chain_runs, member_stuck, method_given, method_reached, method_stops, method_stuck, reach_gone, reach_runs, steps_end, steps_more, steps_stop, steps_unit}
+use Rattle.run_steps.proofs.ChainSteps.{applied_stops, chain_from_root, chain_from_value, chain_stops, member_stuck, method_given, method_reached, method_stops, method_stuck, reach_gone, reach_runs, steps_end, steps_more, steps_stop, steps_unit}
 use Rattle.run_evaluator.proofs.evaluator.Evaluator.+evaluate.Goals as goal
 use Rattle.rhai_ast.specs.Nodes.{is_dot}
 use Rattle.run_evaluator.proofs.evaluator.Evaluator.+evaluate.Goals.{reach-else-contains-via-then-contains+else-is_unit_at, reach-else-contains-via-else-contains}
@@ -69,8 +69,7 @@ pub exprs-loop-expr-init : goal.exprs-loop-expr-init
 exprs-loop-expr-init g t c = rw c.in_ok-values.ensures (args_start _ _ _ _)
 
 pub exprs-returns-in_err-value : goal.exprs-returns-in_err-value
-exprs-returns-in_err-value g t c = let p = err_from_is_err_and c.from_residual-in_err-value.result c.from_residual-in_err-value.ensures.1 in
-    rw (p.1, p.2) (args_stop _ _ _ _ _ _ _ _ _ _ c.loop-expr-test.true c.expr-item.is c.loop-expr.invariant c.in_err-value.ensures)
+exprs-returns-in_err-value g t c = let p = err_from_is_err_and c.from_residual-in_err-value.result c.from_residual-in_err-value.ensures.1 in rw (p.1, p.2) (args_stop _ _ _ _ _ _ _ _ _ _ c.loop-expr-test.true c.expr-item.is c.loop-expr.invariant c.in_err-value.ensures)
 
 pub exprs-loop-expr-preserved : goal.exprs-loop-expr-preserved
 exprs-loop-expr-preserved g t c = rw c.in_ok-push.ensures.ok (args_next _ _ _ _ _ _ _ _ _ _ c.loop-expr-test.true c.expr-item.is c.loop-expr.invariant c.in_ok-value.ensures)
@@ -83,8 +82,7 @@ pub statements-loop-statement-init : goal.statements-loop-statement-init
 statements-loop-statement-init g t c = stmts_start _ _ _ _
 
 pub statements-returns-in_err-value : goal.statements-returns-in_err-value
-statements-returns-in_err-value g t c = let p = err_from_is_err_and c.from_residual.result c.from_residual.ensures.1 in
-    rw (p.1, p.2) (stmts_stop _ _ _ _ _ _ _ _ _ c.loop-statement-test.true c.statement-item.is c.loop-statement.invariant _ c.in_err-value.ensures)
+statements-returns-in_err-value g t c = let p = err_from_is_err_and c.from_residual.result c.from_residual.ensures.1 in rw (p.1, p.2) (stmts_stop _ _ _ _ _ _ _ _ _ c.loop-statement-test.true c.statement-item.is c.loop-statement.invariant _ c.in_err-value.ensures)
 
 pub statements-loop-statement-preserved : goal.statements-loop-statement-preserved
 statements-loop-statement-preserved g t c = stmts_next _ _ _ _ _ _ _ _ _ c.loop-statement-test.true c.statement-item.is c.loop-statement.invariant _ c.in_ok-value.ensures
@@ -92,7 +90,6 @@ statements-loop-statement-preserved g t c = stmts_next _ _ _ _ _ _ _ _ _ c.loop-
 pub statements-returns : goal.statements-returns
 statements-returns g t c = stmts_end _ _ _ _ _ _ _ (omega arith) c.loop-statement.invariant
 
--- calls
 -- braces
 pub block-returns : goal.block-returns
 block-returns g t c =
@@ -106,8 +103,7 @@ pub both-loop-operand-init : goal.both-loop-operand-init
 both-loop-operand-init g t c = operands_start _ _ _ _ _
 
 pub both-returns-in_err-expr : goal.both-returns-in_err-expr
-both-returns-in_err-expr g t c = let p = err_from_is_err_and c.from_residual.result c.from_residual.ensures.1 in
-    rw (p.1, p.2) (both_stops _ _ _ _ _ _ _ _ c.loop-operand-test.true c.operand-item.is c.loop-operand.invariant _ c.in_err-expr.ensures)
+both-returns-in_err-expr g t c = let p = err_from_is_err_and c.from_residual.result c.from_residual.ensures.1 in rw (p.1, p.2) (both_stops _ _ _ _ _ _ _ _ c.loop-operand-test.true c.operand-item.is c.loop-operand.invariant _ c.in_err-expr.ensures)
 
 pub both-returns-then-not-branch : goal.both-returns-then-not-branch
 both-returns-then-not-branch g t c = both_false _ _ _ _ _ _ _ _ c.loop-operand-test.true c.operand-item.is c.loop-operand.invariant _ _ c.in_ok-expr.ensures (rw c.in_ok-truth.was at c.truth.ensures) c.if-not-branch.true
@@ -131,16 +127,13 @@ pub first_some-returns : goal.first_some-returns
 first_some-returns g t c = first_end _ _ _ _ _ _ (omega arith) c.loop-operand.invariant
 
 pub both-returns-in_err-truth : goal.both-returns-in_err-truth
-both-returns-in_err-truth g t c = let p = err_from_is_err_and c.from_residual-in_err-truth.result c.from_residual-in_err-truth.ensures.1 in
-    rw (p.1, p.2) (both_stuck _ _ _ _ _ _ _ _ c.loop-operand-test.true c.operand-item.is c.loop-operand.invariant _ _ c.in_ok-expr.ensures (rw c.in_err-truth.was at c.truth.ensures))
+both-returns-in_err-truth g t c = let p = err_from_is_err_and c.from_residual-in_err-truth.result c.from_residual-in_err-truth.ensures.1 in rw (p.1, p.2) (both_stuck _ _ _ _ _ _ _ _ c.loop-operand-test.true c.operand-item.is c.loop-operand.invariant _ _ c.in_ok-expr.ensures (rw c.in_err-truth.was at c.truth.ensures))
 
 pub either-returns-in_err-expr : goal.either-returns-in_err-expr
-either-returns-in_err-expr g t c = let p = err_from_is_err_and c.from_residual.result c.from_residual.ensures.1 in
-    rw (p.1, p.2) (either_stops _ _ _ _ _ _ _ _ c.loop-operand-test.true c.operand-item.is c.loop-operand.invariant _ c.in_err-expr.ensures)
+either-returns-in_err-expr g t c = let p = err_from_is_err_and c.from_residual.result c.from_residual.ensures.1 in rw (p.1, p.2) (either_stops _ _ _ _ _ _ _ _ c.loop-operand-test.true c.operand-item.is c.loop-operand.invariant _ c.in_err-expr.ensures)
 
 pub either-returns-in_err-truth : goal.either-returns-in_err-truth
-either-returns-in_err-truth g t c = let p = err_from_is_err_and c.from_residual-in_err-truth.result c.from_residual-in_err-truth.ensures.1 in
-    rw (p.1, p.2) (either_stuck _ _ _ _ _ _ _ _ c.loop-operand-test.true c.operand-item.is c.loop-operand.invariant _ _ c.in_ok-expr.ensures (rw c.in_err-truth.was at c.truth.ensures))
+either-returns-in_err-truth g t c = let p = err_from_is_err_and c.from_residual-in_err-truth.result c.from_residual-in_err-truth.ensures.1 in rw (p.1, p.2) (either_stuck _ _ _ _ _ _ _ _ c.loop-operand-test.true c.operand-item.is c.loop-operand.invariant _ _ c.in_ok-expr.ensures (rw c.in_err-truth.was at c.truth.ensures))
 
 pub either-returns-then-branch : goal.either-returns-then-branch
 either-returns-then-branch g t c = either_true _ _ _ _ _ _ _ _ c.loop-operand-test.true c.operand-item.is c.loop-operand.invariant _ _ c.in_ok-expr.ensures (rw c.in_ok-truth.was at c.truth.ensures) c.if-branch.true
@@ -149,8 +142,7 @@ pub either-loop-operand-preserved : goal.either-loop-operand-preserved
 either-loop-operand-preserved g t c = either_next _ _ _ _ _ _ _ _ c.loop-operand-test.true c.operand-item.is c.loop-operand.invariant _ _ c.in_ok-expr.ensures (rw c.in_ok-truth.was at c.truth.ensures) c.if-branch.false
 
 pub first_some-returns-in_err-expr : goal.first_some-returns-in_err-expr
-first_some-returns-in_err-expr g t c = let p = err_from_is_err_and c.from_residual.result c.from_residual.ensures.1 in
-    rw (p.1, p.2) (first_stops _ _ _ _ _ _ _ _ c.loop-operand-test.true c.operand-item.is c.loop-operand.invariant _ c.in_err-expr.ensures)
+first_some-returns-in_err-expr g t c = let p = err_from_is_err_and c.from_residual.result c.from_residual.ensures.1 in rw (p.1, p.2) (first_stops _ _ _ _ _ _ _ _ c.loop-operand-test.true c.operand-item.is c.loop-operand.invariant _ c.in_err-expr.ensures)
 
 pub first_some-returns-in-Some : goal.first_some-returns-in-Some
 first_some-returns-in-Some g t c = first_value _ _ _ _ _ _ _ _ c.loop-operand-test.true c.operand-item.is c.loop-operand.invariant _ _ c.in_ok-expr.ensures (rw c.in-Some.is at c.some_value.ensures)
@@ -159,8 +151,7 @@ pub members-loop-member-init : goal.members-loop-member-init
 members-loop-member-init g t c = rw c.new-map.ensures (members_start _ _ _ _)
 
 pub members-returns-in_err-value : goal.members-returns-in_err-value
-members-returns-in_err-value g t c = let p = err_from_is_err_and c.from_residual.result c.from_residual.ensures.1 in
-    rw (p.1, p.2) (members_stop _ _ _ _ _ _ _ _ _ c.loop-member-test.true c.member-item.is c.loop-member.invariant _ c.in_err-value.ensures)
+members-returns-in_err-value g t c = let p = err_from_is_err_and c.from_residual.result c.from_residual.ensures.1 in rw (p.1, p.2) (members_stop _ _ _ _ _ _ _ _ _ c.loop-member-test.true c.member-item.is c.loop-member.invariant _ c.in_err-value.ensures)
 
 pub members-loop-member-preserved : goal.members-loop-member-preserved
 members-loop-member-preserved g t c = members_next _ _ _ _ _ _ _ _ _ c.loop-member-test.true c.member-item.is c.loop-member.invariant _ _ c.in_ok-value.ensures c.in_ok-insert.ensures
@@ -178,12 +169,10 @@ pub first_some-loop-operand-preserved : goal.first_some-loop-operand-preserved
 first_some-loop-operand-preserved g t c = first_next _ _ _ _ _ _ _ _ c.loop-operand-test.true c.operand-item.is c.loop-operand.invariant _ c.in_ok-expr.ensures (rw c.in_default.is at c.some_value.ensures)
 
 pub choice-returns-in_err-expr : goal.choice-returns-in_err-expr
-choice-returns-in_err-expr g t c = let p = err_from_is_err_and c.from_residual.result c.from_residual.ensures.1 in
-    rw (p.1, p.2) (condition_stops (setting g.H.Host.answers g.H.Host.modules c.args.self.now.machine) c.args.self.now.in_loop (expr_of c.args.flow.now.expr) (stmts_of c.args.flow.now.body.block) (stmts_of c.args.flow.now.branch.block) c.args.state.now c.expr.new.state _ c.in_err-expr.ensures)
+choice-returns-in_err-expr g t c = let p = err_from_is_err_and c.from_residual.result c.from_residual.ensures.1 in rw (p.1, p.2) (condition_stops (setting g.H.Host.answers g.H.Host.modules c.args.self.now.machine) c.args.self.now.in_loop (expr_of c.args.flow.now.expr) (stmts_of c.args.flow.now.body.block) (stmts_of c.args.flow.now.branch.block) c.args.state.now c.expr.new.state _ c.in_err-expr.ensures)
 
 pub choice-returns-in_err-truth : goal.choice-returns-in_err-truth
-choice-returns-in_err-truth g t c = let p = err_from_is_err_and c.from_residual-in_err-truth.result c.from_residual-in_err-truth.ensures.1 in
-    rw (p.1, p.2) (condition_stuck (setting g.H.Host.answers g.H.Host.modules c.args.self.now.machine) c.args.self.now.in_loop (expr_of c.args.flow.now.expr) (stmts_of c.args.flow.now.body.block) (stmts_of c.args.flow.now.branch.block) c.args.state.now c.expr.new.state c.in_ok-expr.field-0 _ c.in_ok-expr.ensures (rw c.in_err-truth.was at c.truth.ensures))
+choice-returns-in_err-truth g t c = let p = err_from_is_err_and c.from_residual-in_err-truth.result c.from_residual-in_err-truth.ensures.1 in rw (p.1, p.2) (condition_stuck (setting g.H.Host.answers g.H.Host.modules c.args.self.now.machine) c.args.self.now.in_loop (expr_of c.args.flow.now.expr) (stmts_of c.args.flow.now.body.block) (stmts_of c.args.flow.now.branch.block) c.args.state.now c.expr.new.state c.in_ok-expr.field-0 _ c.in_ok-expr.ensures (rw c.in_err-truth.was at c.truth.ensures))
 
 pub choice-returns-then-branch : goal.choice-returns-then-branch
 choice-returns-then-branch g t c = body_runs (setting g.H.Host.answers g.H.Host.modules c.args.self.now.machine) c.args.self.now.in_loop (expr_of c.args.flow.now.expr) (stmts_of c.args.flow.now.body.block) (stmts_of c.args.flow.now.branch.block) c.args.state.now c.expr.new.state c.in_ok-expr.field-0 c.in_ok-truth.field-0 c.block.new.state c.block.result c.in_ok-expr.ensures (rw c.in_ok-truth.was at c.truth.ensures) c.if-branch.true c.block.ensures
@@ -192,8 +181,7 @@ pub choice-returns-else-branch : goal.choice-returns-else-branch
 choice-returns-else-branch g t c = branch_runs (setting g.H.Host.answers g.H.Host.modules c.args.self.now.machine) c.args.self.now.in_loop (expr_of c.args.flow.now.expr) (stmts_of c.args.flow.now.body.block) (stmts_of c.args.flow.now.branch.block) c.args.state.now c.expr.new.state c.in_ok-expr.field-0 c.in_ok-truth.field-0 c.block-else-branch.new.state c.block-else-branch.result c.in_ok-expr.ensures (rw c.in_ok-truth.was at c.truth.ensures) c.if-branch.false c.block-else-branch.ensures
 
 pub endless-returns-in_err-value : goal.endless-returns-in_err-value
-endless-returns-in_err-value g t c = let p = err_from_is_err_and c.from_residual.result c.from_residual.ensures.1 in
-    rw (p.1, p.2) (endless_stops (setting g.H.Host.answers g.H.Host.modules c.args.self.now.machine) (body_of (setting g.H.Host.answers g.H.Host.modules c.args.self.now.machine) (stmts_of c.args.body.now.block)) c.args.state.now c.loop-value.state c.round.new.state c.loop-value.invariant _ c.in_err-value.ensures.round)
+endless-returns-in_err-value g t c = let p = err_from_is_err_and c.from_residual.result c.from_residual.ensures.1 in rw (p.1, p.2) (endless_stops (setting g.H.Host.answers g.H.Host.modules c.args.self.now.machine) (body_of (setting g.H.Host.answers g.H.Host.modules c.args.self.now.machine) (stmts_of c.args.body.now.block)) c.args.state.now c.loop-value.state c.round.new.state c.loop-value.invariant _ c.in_err-value.ensures.round)
 
 pub endless-returns-in-Some : goal.endless-returns-in-Some
 endless-returns-in-Some g t c = endless_ends (setting g.H.Host.answers g.H.Host.modules c.args.self.now.machine) (body_of (setting g.H.Host.answers g.H.Host.modules c.args.self.now.machine) (stmts_of c.args.body.now.block)) c.args.state.now c.loop-value.state c.round.new.state c.loop-value.invariant c.in-Some.value (rw c.in-Some.is at c.in_ok-value.ensures.round)
@@ -202,23 +190,19 @@ pub endless-loop-value-preserved : goal.endless-loop-value-preserved
 endless-loop-value-preserved g t c = endless_next (setting g.H.Host.answers g.H.Host.modules c.args.self.now.machine) (body_of (setting g.H.Host.answers g.H.Host.modules c.args.self.now.machine) (stmts_of c.args.body.now.block)) c.args.state.now c.loop-value.state c.round.new.state c.loop-value.invariant (rw c.in_default.is at c.in_ok-value.ensures.round) c.in_ok-value.ensures.turns
 
 pub guarded-returns-in_err-expr : goal.guarded-returns-in_err-expr
-guarded-returns-in_err-expr g t c = let p = err_from_is_err_and c.from_residual.result c.from_residual.ensures.1 in
-    rw (p.1, p.2) (while_stops (setting g.H.Host.answers g.H.Host.modules c.args.self.now.machine) (core_expr c.args.self.now.in_loop (expr_of c.args.guard.now)) (body_of (setting g.H.Host.answers g.H.Host.modules c.args.self.now.machine) (stmts_of c.args.body.now.block)) c.args.state.now c.loop-holds.state c.expr.new.state c.loop-holds.invariant _ c.in_err-expr.ensures)
+guarded-returns-in_err-expr g t c = let p = err_from_is_err_and c.from_residual.result c.from_residual.ensures.1 in rw (p.1, p.2) (while_stops (setting g.H.Host.answers g.H.Host.modules c.args.self.now.machine) (core_expr c.args.self.now.in_loop (expr_of c.args.guard.now)) (body_of (setting g.H.Host.answers g.H.Host.modules c.args.self.now.machine) (stmts_of c.args.body.now.block)) c.args.state.now c.loop-holds.state c.expr.new.state c.loop-holds.invariant _ c.in_err-expr.ensures)
 
 pub guarded-returns-in_err-holds : goal.guarded-returns-in_err-holds
-guarded-returns-in_err-holds g t c = let p = err_from_is_err_and c.from_residual-in_err-holds.result c.from_residual-in_err-holds.ensures.1 in
-    rw (p.1, p.2) (while_stuck (setting g.H.Host.answers g.H.Host.modules c.args.self.now.machine) (core_expr c.args.self.now.in_loop (expr_of c.args.guard.now)) (body_of (setting g.H.Host.answers g.H.Host.modules c.args.self.now.machine) (stmts_of c.args.body.now.block)) c.args.state.now c.loop-holds.state c.expr.new.state c.loop-holds.invariant c.in_ok-expr.field-0 c.in_ok-expr.ensures _ (rw c.in_err-holds.was at c.truth.ensures))
+guarded-returns-in_err-holds g t c = let p = err_from_is_err_and c.from_residual-in_err-holds.result c.from_residual-in_err-holds.ensures.1 in rw (p.1, p.2) (while_stuck (setting g.H.Host.answers g.H.Host.modules c.args.self.now.machine) (core_expr c.args.self.now.in_loop (expr_of c.args.guard.now)) (body_of (setting g.H.Host.answers g.H.Host.modules c.args.self.now.machine) (stmts_of c.args.body.now.block)) c.args.state.now c.loop-holds.state c.expr.new.state c.loop-holds.invariant c.in_ok-expr.field-0 c.in_ok-expr.ensures _ (rw c.in_err-holds.was at c.truth.ensures))
 
 pub guarded-returns-in_err-goes_on : goal.guarded-returns-in_err-goes_on
-guarded-returns-in_err-goes_on g t c = let p = err_from_is_err_and c.from_residual-in_err-goes_on.result c.from_residual-in_err-goes_on.ensures.1 in
-    rw (p.1, p.2) (guard_late (setting g.H.Host.answers g.H.Host.modules c.args.self.now.machine) (core_expr c.args.self.now.in_loop (expr_of c.args.guard.now)) (body_of (setting g.H.Host.answers g.H.Host.modules c.args.self.now.machine) (stmts_of c.args.body.now.block)) c.args.state.now c.loop-holds.state c.expr.new.state c.loop-holds.invariant c.in_ok-expr.field-0 c.in_ok-expr.ensures c.in_ok-holds.holds (rw c.in_ok-holds.was at c.truth.ensures) c.goes_on.new.self _ c.in_err-goes_on.ensures)
+guarded-returns-in_err-goes_on g t c = let p = err_from_is_err_and c.from_residual-in_err-goes_on.result c.from_residual-in_err-goes_on.ensures.1 in rw (p.1, p.2) (guard_late (setting g.H.Host.answers g.H.Host.modules c.args.self.now.machine) (core_expr c.args.self.now.in_loop (expr_of c.args.guard.now)) (body_of (setting g.H.Host.answers g.H.Host.modules c.args.self.now.machine) (stmts_of c.args.body.now.block)) c.args.state.now c.loop-holds.state c.expr.new.state c.loop-holds.invariant c.in_ok-expr.field-0 c.in_ok-expr.ensures c.in_ok-holds.holds (rw c.in_ok-holds.was at c.truth.ensures) c.goes_on.new.self _ c.in_err-goes_on.ensures)
 
 pub guarded-returns-then-not-branch : goal.guarded-returns-then-not-branch
 guarded-returns-then-not-branch g t c = guard_over (setting g.H.Host.answers g.H.Host.modules c.args.self.now.machine) (core_expr c.args.self.now.in_loop (expr_of c.args.guard.now)) (body_of (setting g.H.Host.answers g.H.Host.modules c.args.self.now.machine) (stmts_of c.args.body.now.block)) c.args.state.now c.loop-holds.state c.expr.new.state c.loop-holds.invariant c.in_ok-expr.field-0 c.in_ok-expr.ensures c.in_ok-holds.holds (rw c.in_ok-holds.was at c.truth.ensures) c.goes_on.new.self c.in_ok-goes_on.field-0 c.in_ok-goes_on.ensures c.if-not-branch.true
 
 pub guarded-returns-in_err-value : goal.guarded-returns-in_err-value
-guarded-returns-in_err-value g t c = let p = err_from_is_err_and c.from_residual-in_err-value.result c.from_residual-in_err-value.ensures.1 in
-    rw (p.1, p.2) (guard_leaves (setting g.H.Host.answers g.H.Host.modules c.args.self.now.machine) (core_expr c.args.self.now.in_loop (expr_of c.args.guard.now)) (body_of (setting g.H.Host.answers g.H.Host.modules c.args.self.now.machine) (stmts_of c.args.body.now.block)) c.args.state.now c.loop-holds.state c.expr.new.state c.loop-holds.invariant c.in_ok-expr.field-0 c.in_ok-expr.ensures c.in_ok-holds.holds (rw c.in_ok-holds.was at c.truth.ensures) c.goes_on.new.self c.in_ok-goes_on.field-0 c.in_ok-goes_on.ensures c.block.new.state c.block.result c.if-not-branch.false ((rw c.inside_loop-inside.ensures at c.block.ensures) false) _ c.in_err-value.ensures)
+guarded-returns-in_err-value g t c = let p = err_from_is_err_and c.from_residual-in_err-value.result c.from_residual-in_err-value.ensures.1 in rw (p.1, p.2) (guard_leaves (setting g.H.Host.answers g.H.Host.modules c.args.self.now.machine) (core_expr c.args.self.now.in_loop (expr_of c.args.guard.now)) (body_of (setting g.H.Host.answers g.H.Host.modules c.args.self.now.machine) (stmts_of c.args.body.now.block)) c.args.state.now c.loop-holds.state c.expr.new.state c.loop-holds.invariant c.in_ok-expr.field-0 c.in_ok-expr.ensures c.in_ok-holds.holds (rw c.in_ok-holds.was at c.truth.ensures) c.goes_on.new.self c.in_ok-goes_on.field-0 c.in_ok-goes_on.ensures c.block.new.state c.block.result c.if-not-branch.false ((rw c.inside_loop-inside.ensures at c.block.ensures) false) _ c.in_err-value.ensures)
 
 pub guarded-returns-in-Some : goal.guarded-returns-in-Some
 guarded-returns-in-Some g t c = guard_ends (setting g.H.Host.answers g.H.Host.modules c.args.self.now.machine) (core_expr c.args.self.now.in_loop (expr_of c.args.guard.now)) (body_of (setting g.H.Host.answers g.H.Host.modules c.args.self.now.machine) (stmts_of c.args.body.now.block)) c.args.state.now c.loop-holds.state c.expr.new.state c.loop-holds.invariant c.in_ok-expr.field-0 c.in_ok-expr.ensures c.in_ok-holds.holds (rw c.in_ok-holds.was at c.truth.ensures) c.goes_on.new.self c.in_ok-goes_on.field-0 c.in_ok-goes_on.ensures c.block.new.state c.block.result c.if-not-branch.false ((rw c.inside_loop-inside.ensures at c.block.ensures) false) c.in-Some.value (rw c.in-Some.is at c.in_ok-value.ensures)
@@ -236,19 +220,16 @@ pub while_loop-returns-else-is_unit : goal.while_loop-returns-else-is_unit
 while_loop-returns-else-is_unit g t c = loop_when (setting g.H.Host.answers g.H.Host.modules c.args.self.now.machine) (expr_of c.args.flow.now.expr) (core_expr c.args.self.now.in_loop (expr_of c.args.flow.now.expr)) (core_stmts true (stmts_of c.args.flow.now.body.block)) c.args.state.now c.guarded.new.state c.guarded.result (sym c.is_unit.ensures ∙ c.if-is_unit.false) c.guarded.ensures
 
 pub repeated-returns-in_err-value : goal.repeated-returns-in_err-value
-repeated-returns-in_err-value g t c = let p = err_from_is_err_and c.from_residual.result c.from_residual.ensures.1 in
-    rw (p.1, p.2) (do_stops (setting g.H.Host.answers g.H.Host.modules c.args.self.now.machine) c.args.until (core_expr c.args.self.now.in_loop (expr_of c.args.flow.now.expr)) (body_of (setting g.H.Host.answers g.H.Host.modules c.args.self.now.machine) (stmts_of c.args.flow.now.body.block)) c.args.state.now c.loop-value.state c.round.new.state c.loop-value.invariant _ c.in_err-value.ensures.round)
+repeated-returns-in_err-value g t c = let p = err_from_is_err_and c.from_residual.result c.from_residual.ensures.1 in rw (p.1, p.2) (do_stops (setting g.H.Host.answers g.H.Host.modules c.args.self.now.machine) c.args.until (core_expr c.args.self.now.in_loop (expr_of c.args.flow.now.expr)) (body_of (setting g.H.Host.answers g.H.Host.modules c.args.self.now.machine) (stmts_of c.args.flow.now.body.block)) c.args.state.now c.loop-value.state c.round.new.state c.loop-value.invariant _ c.in_err-value.ensures.round)
 
 pub repeated-returns-in-Some : goal.repeated-returns-in-Some
 repeated-returns-in-Some g t c = do_ends (setting g.H.Host.answers g.H.Host.modules c.args.self.now.machine) c.args.until (core_expr c.args.self.now.in_loop (expr_of c.args.flow.now.expr)) (body_of (setting g.H.Host.answers g.H.Host.modules c.args.self.now.machine) (stmts_of c.args.flow.now.body.block)) c.args.state.now c.loop-value.state c.round.new.state c.loop-value.invariant c.in-Some.value (rw c.in-Some.is at c.in_ok-value.ensures.round)
 
 pub repeated-returns-in_err-expr : goal.repeated-returns-in_err-expr
-repeated-returns-in_err-expr g t c = let p = err_from_is_err_and c.from_residual-in_err-expr.result c.from_residual-in_err-expr.ensures.1 in
-    rw (p.1, p.2) (do_guard_stops (setting g.H.Host.answers g.H.Host.modules c.args.self.now.machine) c.args.until (core_expr c.args.self.now.in_loop (expr_of c.args.flow.now.expr)) (body_of (setting g.H.Host.answers g.H.Host.modules c.args.self.now.machine) (stmts_of c.args.flow.now.body.block)) c.args.state.now c.loop-value.state c.round.new.state c.loop-value.invariant (rw c.in_default.is at c.in_ok-value.ensures.round) c.expr.new.state _ c.in_err-expr.ensures)
+repeated-returns-in_err-expr g t c = let p = err_from_is_err_and c.from_residual-in_err-expr.result c.from_residual-in_err-expr.ensures.1 in rw (p.1, p.2) (do_guard_stops (setting g.H.Host.answers g.H.Host.modules c.args.self.now.machine) c.args.until (core_expr c.args.self.now.in_loop (expr_of c.args.flow.now.expr)) (body_of (setting g.H.Host.answers g.H.Host.modules c.args.self.now.machine) (stmts_of c.args.flow.now.body.block)) c.args.state.now c.loop-value.state c.round.new.state c.loop-value.invariant (rw c.in_default.is at c.in_ok-value.ensures.round) c.expr.new.state _ c.in_err-expr.ensures)
 
 pub repeated-returns-in_err-truth : goal.repeated-returns-in_err-truth
-repeated-returns-in_err-truth g t c = let p = err_from_is_err_and c.from_residual-in_err-truth.result c.from_residual-in_err-truth.ensures.1 in
-    rw (p.1, p.2) (do_guard_stuck (setting g.H.Host.answers g.H.Host.modules c.args.self.now.machine) c.args.until (core_expr c.args.self.now.in_loop (expr_of c.args.flow.now.expr)) (body_of (setting g.H.Host.answers g.H.Host.modules c.args.self.now.machine) (stmts_of c.args.flow.now.body.block)) c.args.state.now c.loop-value.state c.round.new.state c.loop-value.invariant (rw c.in_default.is at c.in_ok-value.ensures.round) c.expr.new.state c.in_ok-expr.field-0 c.in_ok-expr.ensures _ (rw c.in_err-truth.was at c.truth.ensures))
+repeated-returns-in_err-truth g t c = let p = err_from_is_err_and c.from_residual-in_err-truth.result c.from_residual-in_err-truth.ensures.1 in rw (p.1, p.2) (do_guard_stuck (setting g.H.Host.answers g.H.Host.modules c.args.self.now.machine) c.args.until (core_expr c.args.self.now.in_loop (expr_of c.args.flow.now.expr)) (body_of (setting g.H.Host.answers g.H.Host.modules c.args.self.now.machine) (stmts_of c.args.flow.now.body.block)) c.args.state.now c.loop-value.state c.round.new.state c.loop-value.invariant (rw c.in_default.is at c.in_ok-value.ensures.round) c.expr.new.state c.in_ok-expr.field-0 c.in_ok-expr.ensures _ (rw c.in_err-truth.was at c.truth.ensures))
 
 pub repeated-returns-then-ends_at : goal.repeated-returns-then-ends_at
 repeated-returns-then-ends_at g t c = do_over (setting g.H.Host.answers g.H.Host.modules c.args.self.now.machine) c.args.until (core_expr c.args.self.now.in_loop (expr_of c.args.flow.now.expr)) (body_of (setting g.H.Host.answers g.H.Host.modules c.args.self.now.machine) (stmts_of c.args.flow.now.body.block)) c.args.state.now c.loop-value.state c.round.new.state c.loop-value.invariant (rw c.in_default.is at c.in_ok-value.ensures.round) c.expr.new.state c.in_ok-expr.field-0 c.in_ok-expr.ensures c.in_ok-truth.field-0 (rw c.in_ok-truth.was at c.truth.ensures) (c.ends_at.ensures.0 c.if-ends_at.true)
@@ -305,12 +286,10 @@ pub arm-returns-in_default : goal.arm-returns-in_default
 arm-returns-in_default g t c = arm_missing (setting g.H.Host.answers g.H.Host.modules c.args.self.now.machine) c.args.self.now.in_loop c.args.arms.now c.args.place c.args.state.now (arm_past c.args.arms.now c.args.place c.in_default.ensures.lookup.0)
 
 pub arm-returns-in_err-expr : goal.arm-returns-in_err-expr
-arm-returns-in_err-expr g t c = let p = err_from_is_err_and c.from_residual.result c.from_residual.ensures.1 in
-    rw (p.1, p.2) (arm_stops (setting g.H.Host.answers g.H.Host.modules c.args.self.now.machine) c.args.self.now.in_loop c.args.arms.now c.args.place c.args.state.now c.in-Some.arm.now (arm_there c.args.arms.now c.args.place c.in-Some.arm.now c.in-Some.ensures.lookup.0 c.in-Some.ensures.lookup.1) c.expr.new.state _ c.in_err-expr.ensures)
+arm-returns-in_err-expr g t c = let p = err_from_is_err_and c.from_residual.result c.from_residual.ensures.1 in rw (p.1, p.2) (arm_stops (setting g.H.Host.answers g.H.Host.modules c.args.self.now.machine) c.args.self.now.in_loop c.args.arms.now c.args.place c.args.state.now c.in-Some.arm.now (arm_there c.args.arms.now c.args.place c.in-Some.arm.now c.in-Some.ensures.lookup.0 c.in-Some.ensures.lookup.1) c.expr.new.state _ c.in_err-expr.ensures)
 
 pub arm-returns-in_err-truth : goal.arm-returns-in_err-truth
-arm-returns-in_err-truth g t c = let p = err_from_is_err_and c.from_residual-in_err-truth.result c.from_residual-in_err-truth.ensures.1 in
-    rw (p.1, p.2) (arm_stuck (setting g.H.Host.answers g.H.Host.modules c.args.self.now.machine) c.args.self.now.in_loop c.args.arms.now c.args.place c.args.state.now c.in-Some.arm.now (arm_there c.args.arms.now c.args.place c.in-Some.arm.now c.in-Some.ensures.lookup.0 c.in-Some.ensures.lookup.1) c.expr.new.state c.in_ok-expr.field-0 c.in_ok-expr.ensures _ (rw c.in_err-truth.was at c.truth.ensures))
+arm-returns-in_err-truth g t c = let p = err_from_is_err_and c.from_residual-in_err-truth.result c.from_residual-in_err-truth.ensures.1 in rw (p.1, p.2) (arm_stuck (setting g.H.Host.answers g.H.Host.modules c.args.self.now.machine) c.args.self.now.in_loop c.args.arms.now c.args.place c.args.state.now c.in-Some.arm.now (arm_there c.args.arms.now c.args.place c.in-Some.arm.now c.in-Some.ensures.lookup.0 c.in-Some.ensures.lookup.1) c.expr.new.state c.in_ok-expr.field-0 c.in_ok-expr.ensures _ (rw c.in_err-truth.was at c.truth.ensures))
 
 pub arm-returns-then-not-branch : goal.arm-returns-then-not-branch
 arm-returns-then-not-branch g t c = arm_false (setting g.H.Host.answers g.H.Host.modules c.args.self.now.machine) c.args.self.now.in_loop c.args.arms.now c.args.place c.args.state.now c.in-Some.arm.now (arm_there c.args.arms.now c.args.place c.in-Some.arm.now c.in-Some.ensures.lookup.0 c.in-Some.ensures.lookup.1) c.expr.new.state c.in_ok-expr.field-0 c.in_ok-expr.ensures c.in_ok-truth.field-0 (rw c.in_ok-truth.was at c.truth.ensures) c.if-not-branch.true
@@ -319,8 +298,7 @@ pub arm-returns : goal.arm-returns
 arm-returns g t c = arm_true (setting g.H.Host.answers g.H.Host.modules c.args.self.now.machine) c.args.self.now.in_loop c.args.arms.now c.args.place c.args.state.now c.in-Some.arm.now (arm_there c.args.arms.now c.args.place c.in-Some.arm.now c.in-Some.ensures.lookup.0 c.in-Some.ensures.lookup.1) c.expr.new.state c.in_ok-expr.field-0 c.in_ok-expr.ensures c.in_ok-truth.field-0 c.expr-2.new.state c.in_ok-expr-2.field-0 (rw c.in_ok-truth.was at c.truth.ensures) c.if-not-branch.false c.in_ok-expr-2.ensures
 
 pub arm-returns-in_err-expr-2 : goal.arm-returns-in_err-expr-2
-arm-returns-in_err-expr-2 g t c = let p = err_from_is_err_and c.from_residual-in_err-expr-2.result c.from_residual-in_err-expr-2.ensures.1 in
-    rw (p.1, p.2) (arm_leaves (setting g.H.Host.answers g.H.Host.modules c.args.self.now.machine) c.args.self.now.in_loop c.args.arms.now c.args.place c.args.state.now c.in-Some.arm.now (arm_there c.args.arms.now c.args.place c.in-Some.arm.now c.in-Some.ensures.lookup.0 c.in-Some.ensures.lookup.1) c.expr.new.state c.in_ok-expr.field-0 c.in_ok-expr.ensures c.in_ok-truth.field-0 c.expr-2.new.state _ (rw c.in_ok-truth.was at c.truth.ensures) c.if-not-branch.false c.in_err-expr-2.ensures)
+arm-returns-in_err-expr-2 g t c = let p = err_from_is_err_and c.from_residual-in_err-expr-2.result c.from_residual-in_err-expr-2.ensures.1 in rw (p.1, p.2) (arm_leaves (setting g.H.Host.answers g.H.Host.modules c.args.self.now.machine) c.args.self.now.in_loop c.args.arms.now c.args.place c.args.state.now c.in-Some.arm.now (arm_there c.args.arms.now c.args.place c.in-Some.arm.now c.in-Some.ensures.lookup.0 c.in-Some.ensures.lookup.1) c.expr.new.state c.in_ok-expr.field-0 c.in_ok-expr.ensures c.in_ok-truth.field-0 c.expr-2.new.state _ (rw c.in_ok-truth.was at c.truth.ensures) c.if-not-branch.false c.in_err-expr-2.ensures)
 
 pub default_arm-returns-in-None : goal.default_arm-returns-in-None
 default_arm-returns-in-None g t c = rw c.in-Some.is (default_missing (setting g.H.Host.answers g.H.Host.modules c.args.self.now.machine) c.args.self.now.in_loop c.args.arms.now c.in-Some.place c.args.state.now (arm_past c.args.arms.now c.in-Some.place c.in-None.ensures.lookup.0))
@@ -329,8 +307,7 @@ pub default_arm-returns-in-Some-get : goal.default_arm-returns-in-Some-get
 default_arm-returns-in-Some-get g t c = rw c.in-Some.is (default_runs (setting g.H.Host.answers g.H.Host.modules c.args.self.now.machine) c.args.self.now.in_loop c.args.arms.now c.in-Some.place c.in-Some-get.arm.now c.args.state.now c.expr.new.state c.expr.result (arm_there c.args.arms.now c.in-Some.place c.in-Some-get.arm.now c.in-Some-get.ensures.lookup.0 c.in-Some-get.ensures.lookup.1) c.expr.ensures)
 
 pub choose-returns-in_err-value : goal.choose-returns-in_err-value
-choose-returns-in_err-value g t c = let p = err_from_is_err_and c.from_residual.result c.from_residual.ensures.1 in
-    rw (p.1, p.2) (arms_stop (setting g.H.Host.answers g.H.Host.modules c.args.self.now.machine) (arms_here (setting g.H.Host.answers g.H.Host.modules c.args.self.now.machine) c.args.self.now.in_loop (arms_of (expressions_of c.args.table.now))) (table_of c.args.table.now) (value_of c.args.subject.now) c.args.state.now c.chosen_arm.new.state _ c.in_err-value.ensures)
+choose-returns-in_err-value g t c = let p = err_from_is_err_and c.from_residual.result c.from_residual.ensures.1 in rw (p.1, p.2) (arms_stop (setting g.H.Host.answers g.H.Host.modules c.args.self.now.machine) (arms_here (setting g.H.Host.answers g.H.Host.modules c.args.self.now.machine) c.args.self.now.in_loop (arms_of (expressions_of c.args.table.now))) (table_of c.args.table.now) (value_of c.args.subject.now) c.args.state.now c.chosen_arm.new.state _ c.in_err-value.ensures)
 
 pub choose-returns-in-Some : goal.choose-returns-in-Some
 choose-returns-in-Some g t c = arms_end (setting g.H.Host.answers g.H.Host.modules c.args.self.now.machine) (arms_here (setting g.H.Host.answers g.H.Host.modules c.args.self.now.machine) c.args.self.now.in_loop (arms_of (expressions_of c.args.table.now))) (table_of c.args.table.now) (value_of c.args.subject.now) c.args.state.now c.chosen_arm.new.state c.in-Some.value (rw c.in-Some.is at c.in_ok-value.ensures)
@@ -339,8 +316,7 @@ pub choose-returns-in-None : goal.choose-returns-in-None
 choose-returns-in-None g t c = arms_default (setting g.H.Host.answers g.H.Host.modules c.args.self.now.machine) (arms_here (setting g.H.Host.answers g.H.Host.modules c.args.self.now.machine) c.args.self.now.in_loop (arms_of (expressions_of c.args.table.now))) (table_of c.args.table.now) (value_of c.args.subject.now) c.args.state.now c.chosen_arm.new.state c.default_arm.new.state c.default_arm.result (rw c.in-None.is at c.in_ok-value.ensures) (rw c.as_slice.ensures at c.default_arm.ensures)
 
 pub first_arm-returns-in_err-value : goal.first_arm-returns-in_err-value
-first_arm-returns-in_err-value g t c = let p = err_from_is_err_and c.from_residual.result c.from_residual.ensures.1 in
-    rw (p.1, p.2) (places_stops (setting g.H.Host.answers g.H.Host.modules c.args.self.now.machine) c.args.self.now.in_loop c.args.arms.now c.args.places.now (drop c.loop-place.place-index c.args.places.now) (drop (c.loop-place.place-index + 1) c.args.places.now) (get_or c.args.places.now c.loop-place.place-index 0) c.args.state.now c.loop-place.state c.arm.new.state (drop_more c.args.places.now c.loop-place.place-index 0 c.loop-place-test.true) c.loop-place.invariant _ c.in_err-value.ensures)
+first_arm-returns-in_err-value g t c = let p = err_from_is_err_and c.from_residual.result c.from_residual.ensures.1 in rw (p.1, p.2) (places_stops (setting g.H.Host.answers g.H.Host.modules c.args.self.now.machine) c.args.self.now.in_loop c.args.arms.now c.args.places.now (drop c.loop-place.place-index c.args.places.now) (drop (c.loop-place.place-index + 1) c.args.places.now) (get_or c.args.places.now c.loop-place.place-index 0) c.args.state.now c.loop-place.state c.arm.new.state (drop_more c.args.places.now c.loop-place.place-index 0 c.loop-place-test.true) c.loop-place.invariant _ c.in_err-value.ensures)
 
 pub first_arm-returns-in-Some : goal.first_arm-returns-in-Some
 first_arm-returns-in-Some g t c = places_ends (setting g.H.Host.answers g.H.Host.modules c.args.self.now.machine) c.args.self.now.in_loop c.args.arms.now c.args.places.now (drop c.loop-place.place-index c.args.places.now) (drop (c.loop-place.place-index + 1) c.args.places.now) (get_or c.args.places.now c.loop-place.place-index 0) c.args.state.now c.loop-place.state c.arm.new.state (drop_more c.args.places.now c.loop-place.place-index 0 c.loop-place-test.true) c.loop-place.invariant c.in-Some.value (rw c.in-Some.is at c.in_ok-value.ensures)
@@ -355,8 +331,7 @@ pub assignment-returns-in_default : goal.assignment-returns-in_default
 assignment-returns-in_default g t c = assign_stuck (setting g.H.Host.answers g.H.Host.modules c.args.self.now.machine) c.args.self.now.in_loop (operator_of c.args.op.now.op) (expr_of c.args.sides.now.lhs) (expr_of c.args.sides.now.rhs) c.args.state.now c.in_default.ensures.side
 
 pub assignment-returns-in_err-value : goal.assignment-returns-in_err-value
-assignment-returns-in_err-value g t c = let p = err_from_is_err_and c.from_residual.result c.from_residual.ensures.1 in
-    rw (p.1, p.2) (assign_stops (setting g.H.Host.answers g.H.Host.modules c.args.self.now.machine) c.args.self.now.in_loop (operator_of c.args.op.now.op) (expr_of c.args.sides.now.lhs) (expr_of c.args.sides.now.rhs) c.args.state.now c.in-Some.ensures.side.0 c.expr.new.state _ c.in_err-value.ensures)
+assignment-returns-in_err-value g t c = let p = err_from_is_err_and c.from_residual.result c.from_residual.ensures.1 in rw (p.1, p.2) (assign_stops (setting g.H.Host.answers g.H.Host.modules c.args.self.now.machine) c.args.self.now.in_loop (operator_of c.args.op.now.op) (expr_of c.args.sides.now.lhs) (expr_of c.args.sides.now.rhs) c.args.state.now c.in-Some.ensures.side.0 c.expr.new.state _ c.in_err-value.ensures)
 
 pub assignment-returns : goal.assignment-returns
 assignment-returns g t c = assign_runs (setting g.H.Host.answers g.H.Host.modules c.args.self.now.machine) c.args.self.now.in_loop (operator_of c.args.op.now.op) (expr_of c.args.sides.now.lhs) (expr_of c.args.sides.now.rhs) c.args.state.now c.in-Some.ensures.side.0 c.expr.new.state (side_core c.args.self.now.in_loop c.in-Some.side) c.in_ok-value.value c.assign.new.state c.assign.result (c.in-Some.ensures.side.1 c.args.self.now.in_loop) c.in_ok-value.ensures c.assign.ensures
@@ -365,8 +340,7 @@ pub assign-returns-in_ok-assign_part-in-Part : goal.assign-returns-in_ok-assign_
 assign-returns-in_ok-assign_part-in-Part g t c = rw c.in-Part.is (unit_value _ _ _ _ c.in_ok-assign_part-in-Part.ensures)
 
 pub try_catch-returns-in_err-caught : goal.try_catch-returns-in_err-caught
-try_catch-returns-in_err-caught g t c = let p = err_from_is_err_and c.from_residual.result c.from_residual.ensures.1 in
-    rw (p.1, p.2) (try_stops (setting g.H.Host.answers g.H.Host.modules c.args.self.now.machine) c.args.self.now.in_loop (expr_of c.args.flow.now.expr) (stmts_of c.args.flow.now.body.block) (stmts_of c.args.flow.now.branch.block) (option_copied c.in-Some.name) (sym c.in-Some.ensures) c.args.state.now c.block.new.state c.block.result c.block.ensures _ (rw c.in_err-caught.was at c.body_ended.ensures))
+try_catch-returns-in_err-caught g t c = let p = err_from_is_err_and c.from_residual.result c.from_residual.ensures.1 in rw (p.1, p.2) (try_stops (setting g.H.Host.answers g.H.Host.modules c.args.self.now.machine) c.args.self.now.in_loop (expr_of c.args.flow.now.expr) (stmts_of c.args.flow.now.body.block) (stmts_of c.args.flow.now.branch.block) (option_copied c.in-Some.name) (sym c.in-Some.ensures) c.args.state.now c.block.new.state c.block.result c.block.ensures _ (rw c.in_err-caught.was at c.body_ended.ensures))
 
 pub try_catch-returns-in-None : goal.try_catch-returns-in-None
 try_catch-returns-in-None g t c = try_ends (setting g.H.Host.answers g.H.Host.modules c.args.self.now.machine) c.args.self.now.in_loop (expr_of c.args.flow.now.expr) (stmts_of c.args.flow.now.body.block) (stmts_of c.args.flow.now.branch.block) (option_copied c.in-Some.name) (sym c.in-Some.ensures) c.args.state.now c.block.new.state c.block.result c.block.ensures (rw (c.in_ok-caught.was, c.in-None.is) at c.body_ended.ensures)
@@ -385,8 +359,7 @@ pub map-returns : goal.map-returns
 map-returns g t c = map_runs (setting g.H.Host.answers g.H.Host.modules c.args.self.now.machine) c.args.self.now.in_loop (pairs_of c.args.literal.now.0) (keys_of c.args.literal.now.1) c.args.state.now c.members.new.state c.in_ok-members.field-0 ((rw c.as_slice.ensures at c.in_ok-is_map.ensures) ∙ c.if-not-branch.false) (rw c.as_slice-2.ensures at c.in_ok-members.ensures)
 
 pub map-returns-in_err-members : goal.map-returns-in_err-members
-map-returns-in_err-members g t c = let p = err_from_is_err_and c.from_residual-in_err-members.result c.from_residual-in_err-members.ensures.1 in
-    rw (p.1, p.2) (map_stops (setting g.H.Host.answers g.H.Host.modules c.args.self.now.machine) c.args.self.now.in_loop (pairs_of c.args.literal.now.0) (keys_of c.args.literal.now.1) c.args.state.now c.members.new.state _ ((rw c.as_slice.ensures at c.in_ok-is_map.ensures) ∙ c.if-not-branch.false) (rw c.as_slice-2.ensures at c.in_err-members.ensures))
+map-returns-in_err-members g t c = let p = err_from_is_err_and c.from_residual-in_err-members.result c.from_residual-in_err-members.ensures.1 in rw (p.1, p.2) (map_stops (setting g.H.Host.answers g.H.Host.modules c.args.self.now.machine) c.args.self.now.in_loop (pairs_of c.args.literal.now.0) (keys_of c.args.literal.now.1) c.args.state.now c.members.new.state _ ((rw c.as_slice.ensures at c.in_ok-is_map.ensures) ∙ c.if-not-branch.false) (rw c.as_slice-2.ensures at c.in_err-members.ensures))
 
 pub expr-returns-in-FnCall : goal.expr-returns-in-FnCall
 expr-returns-in-FnCall g t c = call_of_expr (setting g.H.Host.answers g.H.Host.modules c.args.self.now.machine) c.args.self.now.in_loop c.args.state.now c.call.new.state c.args.expr.now c.in-FnCall.call c.get-in-FnCall.result.now c.in-FnCall.field-1 c.call.result c.in-FnCall.is c.get-in-FnCall.ensures c.call.ensures
@@ -443,8 +416,7 @@ for_round-returns g t c =
     λ k e. for_round_runs (setting g.H.Host.answers g.H.Host.modules c.args.self.now.machine) (counted (counter_of c.args.parts.now.1) k (Named c.args.parts.now.0.name IsVariable (value_of c.args.item) (body_of (setting g.H.Host.answers g.H.Host.modules c.args.self.now.machine) (stmts_of c.args.parts.now.2.body.block)))) c.args.state.now c.take_turn.new.self ended left c.len-names.result c.in_ok-take_turn.field-0 c.for_body-ended.result c.round_ended.result c.in_ok-take_turn.ensures (omega (arith, c.len-names.ensures, c.take_turn.new.self.scope.ok.0)) (c.for_body-ended.ensures k e) (record { scope = c.truncate.ensures.items; this = refl; calls = refl; turns = refl }) c.round_ended.ensures
 
 pub for_each-returns-in_err-value : goal.for_each-returns-in_err-value
-for_each-returns-in_err-value g t c = let p = err_from_is_err_and c.from_residual.result c.from_residual.ensures.1 in
-    rw (p.1, p.2) (each_stops (setting g.H.Host.answers g.H.Host.modules c.args.self.now.machine) c.args.parts.now.0.name (counter_of c.args.parts.now.1) (body_of (setting g.H.Host.answers g.H.Host.modules c.args.self.now.machine) (stmts_of c.args.parts.now.2.body.block)) c.args.items c.loop-item.rest c.next.new.self c.in-Some.item c.loop-item.count c.args.state.now c.loop-item.state c.for_round.new.state c.in-Some.ensures c.loop-item.invariant _ c.in_err-value.ensures)
+for_each-returns-in_err-value g t c = let p = err_from_is_err_and c.from_residual.result c.from_residual.ensures.1 in rw (p.1, p.2) (each_stops (setting g.H.Host.answers g.H.Host.modules c.args.self.now.machine) c.args.parts.now.0.name (counter_of c.args.parts.now.1) (body_of (setting g.H.Host.answers g.H.Host.modules c.args.self.now.machine) (stmts_of c.args.parts.now.2.body.block)) c.args.items c.loop-item.rest c.next.new.self c.in-Some.item c.loop-item.count c.args.state.now c.loop-item.state c.for_round.new.state c.in-Some.ensures c.loop-item.invariant _ c.in_err-value.ensures)
 
 pub for_each-returns-in-Some-2 : goal.for_each-returns-in-Some-2
 for_each-returns-in-Some-2 g t c = each_ends (setting g.H.Host.answers g.H.Host.modules c.args.self.now.machine) c.args.parts.now.0.name (counter_of c.args.parts.now.1) (body_of (setting g.H.Host.answers g.H.Host.modules c.args.self.now.machine) (stmts_of c.args.parts.now.2.body.block)) c.args.items c.loop-item.rest c.next.new.self c.in-Some.item c.loop-item.count c.args.state.now c.loop-item.state c.for_round.new.state c.in-Some.ensures c.loop-item.invariant c.in-Some-2.value (λ k e. rw c.in-Some-2.is at (c.in_ok-value.ensures k e))
@@ -456,8 +428,7 @@ pub for_loop-returns-in-Ok : goal.for_loop-returns-in-Ok
 for_loop-returns-in-Ok g t c = for_array (setting g.H.Host.answers g.H.Host.modules c.args.self.now.machine) c.args.parts.now.0.name (counter_of c.args.parts.now.1) (body_of (setting g.H.Host.answers g.H.Host.modules c.args.self.now.machine) (stmts_of c.args.parts.now.2.body.block)) c.args.self.now.in_loop (expr_of c.args.parts.now.2.expr) c.args.state.now c.expr.new.state c.for_each.new.state c.in_ok-expr.field-0 c.for_each.result c.in_ok-expr.ensures c.in-Ok.items c.in-Ok.ensures c.for_each.ensures
 
 pub first_range-returns-in_err-value : goal.first_range-returns-in_err-value
-first_range-returns-in_err-value g t c = let p = err_from_is_err_and c.from_residual.result c.from_residual.ensures.1 in
-    rw (p.1, p.2) (ranges_stops (setting g.H.Host.answers g.H.Host.modules c.args.self.now.machine) c.args.self.now.in_loop c.args.arms.now (value_of c.args.subject.now) (map range_of c.args.ranges.now) (map range_of (drop c.loop-range.range-index c.args.ranges.now)) (map range_of (drop (c.loop-range.range-index + 1) c.args.ranges.now)) (range_of (get_or c.args.ranges.now c.loop-range.range-index no_range)) c.args.state.now c.loop-range.state c.range_arm.new.state (range_at c.args.ranges.now c.loop-range.range-index c.loop-range-test.true) c.loop-range.invariant _ c.in_err-value.ensures)
+first_range-returns-in_err-value g t c = let p = err_from_is_err_and c.from_residual.result c.from_residual.ensures.1 in rw (p.1, p.2) (ranges_stops (setting g.H.Host.answers g.H.Host.modules c.args.self.now.machine) c.args.self.now.in_loop c.args.arms.now (value_of c.args.subject.now) (map range_of c.args.ranges.now) (map range_of (drop c.loop-range.range-index c.args.ranges.now)) (map range_of (drop (c.loop-range.range-index + 1) c.args.ranges.now)) (range_of (get_or c.args.ranges.now c.loop-range.range-index no_range)) c.args.state.now c.loop-range.state c.range_arm.new.state (range_at c.args.ranges.now c.loop-range.range-index c.loop-range-test.true) c.loop-range.invariant _ c.in_err-value.ensures)
 
 pub first_range-returns-in-Some : goal.first_range-returns-in-Some
 first_range-returns-in-Some g t c = ranges_ends (setting g.H.Host.answers g.H.Host.modules c.args.self.now.machine) c.args.self.now.in_loop c.args.arms.now (value_of c.args.subject.now) (map range_of c.args.ranges.now) (map range_of (drop c.loop-range.range-index c.args.ranges.now)) (map range_of (drop (c.loop-range.range-index + 1) c.args.ranges.now)) (range_of (get_or c.args.ranges.now c.loop-range.range-index no_range)) c.args.state.now c.loop-range.state c.range_arm.new.state (range_at c.args.ranges.now c.loop-range.range-index c.loop-range-test.true) c.loop-range.invariant c.in-Some.value (rw c.in-Some.is at c.in_ok-value.ensures)
@@ -475,8 +446,7 @@ pub for_count-returns-in_err-value : goal.for_count-returns-in_err-value
 for_count-returns-in_err-value g t c =
     let fits : SFits w64 c.args.first = search rules in
     let same = to_z-of_z w64 c.args.first fits in
-    let p = err_from_is_err_and c.from_residual.result c.from_residual.ensures.1 in
-    rw (p.1, p.2) (range_stops (setting g.H.Host.answers g.H.Host.modules c.args.self.now.machine) c.args.parts.now.0.name (counter_of c.args.parts.now.1) (body_of (setting g.H.Host.answers g.H.Host.modules c.args.self.now.machine) (stmts_of c.args.parts.now.2.body.block)) c.args.first c.args.rounds c.loop-index.index c.nth-item.result c.loop-index.count c.args.state.now c.loop-index.state c.for_round.new.state c.loop-index-test.true (ap value_of (rw same at c.nth-item.ensures) ∙ value_of-Int _) (rw same at c.loop-index.invariant) _ c.in_err-value.ensures)
+    let p = err_from_is_err_and c.from_residual.result c.from_residual.ensures.1 in rw (p.1, p.2) (range_stops (setting g.H.Host.answers g.H.Host.modules c.args.self.now.machine) c.args.parts.now.0.name (counter_of c.args.parts.now.1) (body_of (setting g.H.Host.answers g.H.Host.modules c.args.self.now.machine) (stmts_of c.args.parts.now.2.body.block)) c.args.first c.args.rounds c.loop-index.index c.nth-item.result c.loop-index.count c.args.state.now c.loop-index.state c.for_round.new.state c.loop-index-test.true (ap value_of (rw same at c.nth-item.ensures) ∙ value_of-Int _) (rw same at c.loop-index.invariant) _ c.in_err-value.ensures)
 
 pub for_count-returns-in-Some : goal.for_count-returns-in-Some
 for_count-returns-in-Some g t c =
@@ -515,8 +485,7 @@ pub call-returns-then-not-is_callable : goal.call-returns-then-not-is_callable
 call-returns-then-not-is_callable g t c = call_stuck (setting g.H.Host.answers g.H.Host.modules c.args.self.now.machine) c.args.self.now.in_loop c.args.call.now c.args.state.now (sym c.is_callable.ensures ∙ c.if-not-is_callable.true)
 
 pub call-returns-in_err-args : goal.call-returns-in_err-args
-call-returns-in_err-args g t c = let p = err_from_is_err_and c.from_residual.result c.from_residual.ensures.1 in
-    rw (p.1, p.2) (call_stops (setting g.H.Host.answers g.H.Host.modules c.args.self.now.machine) c.args.self.now.in_loop c.args.call.now c.args.state.now (sym c.is_callable.ensures ∙ c.if-not-is_callable.false) c.exprs.new.state _ (rw c.as_slice-2.ensures at c.in_err-args.ensures))
+call-returns-in_err-args g t c = let p = err_from_is_err_and c.from_residual.result c.from_residual.ensures.1 in rw (p.1, p.2) (call_stops (setting g.H.Host.answers g.H.Host.modules c.args.self.now.machine) c.args.self.now.in_loop c.args.call.now c.args.state.now (sym c.is_callable.ensures ∙ c.if-not-is_callable.false) c.exprs.new.state _ (rw c.as_slice-2.ensures at c.in_err-args.ensures))
 
 pub call-returns : goal.call-returns
 call-returns g t c = call_runs (setting g.H.Host.answers g.H.Host.modules c.args.self.now.machine) c.args.self.now.in_loop c.args.call.now c.args.state.now (sym c.is_callable.ensures ∙ c.if-not-is_callable.false) c.exprs.new.state c.in_ok-args.args c.called.new.state c.called.result (rw c.as_slice-2.ensures at c.in_ok-args.ensures) c.called.ensures
@@ -531,21 +500,18 @@ operator-returns-in-Some g t c = λ o h. rw c.in-Some.ensures.operands (c.binary
 
 pub operator-returns-in_err-args-in-None : goal.operator-returns-in_err-args-in-None
 operator-returns-in_err-args-in-None g t c = λ o h.
-    let p = err_from_is_err_and c.from_residual.result c.from_residual.ensures.1 in
-    rw (p.1, p.2) (operands_stop (setting g.H.Host.answers g.H.Host.modules c.args.self.now.machine) c.args.self.now.in_loop o c.args.operands.now c.args.state.now c.exprs.new.state _ c.in_err-args-in-None.ensures)
+    let p = err_from_is_err_and c.from_residual.result c.from_residual.ensures.1 in rw (p.1, p.2) (operands_stop (setting g.H.Host.answers g.H.Host.modules c.args.self.now.machine) c.args.self.now.in_loop o c.args.operands.now c.args.state.now c.exprs.new.state _ c.in_err-args-in-None.ensures)
 
 pub operator-returns-in_ok-args-in-None : goal.operator-returns-in_ok-args-in-None
 operator-returns-in_ok-args-in-None g t c = λ o h. operands_run (setting g.H.Host.answers g.H.Host.modules c.args.self.now.machine) c.args.self.now.in_loop o c.args.operands.now c.args.state.now c.exprs.new.state _ c.operate.new.state c.operate.result c.in_ok-args-in-None.ensures (c.operate.ensures o h)
 
 pub binary-returns-in_err-left : goal.binary-returns-in_err-left
 binary-returns-in_err-left g t c = λ o h.
-    let p = err_from_is_err_and c.from_residual.result c.from_residual.ensures.1 in
-    rw (p.1, p.2) (left_stops (setting g.H.Host.answers g.H.Host.modules c.args.self.now.machine) c.args.self.now.in_loop o c.args.x.now c.args.y.now c.args.state.now _ _ c.in_err-left.ensures)
+    let p = err_from_is_err_and c.from_residual.result c.from_residual.ensures.1 in rw (p.1, p.2) (left_stops (setting g.H.Host.answers g.H.Host.modules c.args.self.now.machine) c.args.self.now.in_loop o c.args.x.now c.args.y.now c.args.state.now _ _ c.in_err-left.ensures)
 
 pub binary-returns-in_err-right : goal.binary-returns-in_err-right
 binary-returns-in_err-right g t c = λ o h.
-    let p = err_from_is_err_and c.from_residual-in_err-right.result c.from_residual-in_err-right.ensures.1 in
-    rw (p.1, p.2) (right_stops (setting g.H.Host.answers g.H.Host.modules c.args.self.now.machine) c.args.self.now.in_loop o c.args.x.now c.args.y.now c.args.state.now _ _ c.in_ok-left.ensures _ _ c.in_err-right.ensures)
+    let p = err_from_is_err_and c.from_residual-in_err-right.result c.from_residual-in_err-right.ensures.1 in rw (p.1, p.2) (right_stops (setting g.H.Host.answers g.H.Host.modules c.args.self.now.machine) c.args.self.now.in_loop o c.args.x.now c.args.y.now c.args.state.now _ _ c.in_ok-left.ensures _ _ c.in_err-right.ensures)
 
 pub binary-returns : goal.binary-returns
 binary-returns g t c = λ o h. two_run (setting g.H.Host.answers g.H.Host.modules c.args.self.now.machine) c.args.self.now.in_loop o c.args.x.now c.args.y.now c.args.state.now _ _ c.in_ok-left.ensures _ _ c.operate_two.new.state c.operate_two.result c.in_ok-right.ensures (c.operate_two.ensures o h)
@@ -566,8 +532,7 @@ pub call_word-returns-then-is_call : goal.call_word-returns-then-is_call
 call_word-returns-then-is_call g t c = word_points (setting g.H.Host.answers g.H.Host.modules c.args.self.now.machine) c.args.captures c.args.name.now (map value_of c.args.args) (word_meant c.of-word.result) (c.of-word.ensures ∙ ap calls.word c.as_str.ensures) c.args.state.now c.call_pointed.new.state c.call_pointed.result (sym c.is_call.ensures ∙ c.if-is_call.true) c.call_pointed.ensures
 
 pub call_word-returns-in_err-value : goal.call_word-returns-in_err-value
-call_word-returns-in_err-value g t c = let p = err_from_is_err_and c.from_residual-in_err-value.result c.from_residual-in_err-value.ensures.1 in
-    rw (p.1, p.2) (word_stops (setting g.H.Host.answers g.H.Host.modules c.args.self.now.machine) c.args.captures c.args.name.now (map value_of c.args.args) (word_meant c.of-word.result) (c.of-word.ensures ∙ ap calls.word c.as_str.ensures) c.args.state.now (sym c.is_to_host.ensures ∙ c.if-is_to_host.false) (sym c.is_call.ensures ∙ c.if-is_call.false) _ ((rw c.as_slice.ensures at c.in_err-value.ensures) c.args.state.now (call_named (setting g.H.Host.answers g.H.Host.modules c.args.self.now.machine).world c.args.captures c.args.name.now (map value_of c.args.args))))
+call_word-returns-in_err-value g t c = let p = err_from_is_err_and c.from_residual-in_err-value.result c.from_residual-in_err-value.ensures.1 in rw (p.1, p.2) (word_stops (setting g.H.Host.answers g.H.Host.modules c.args.self.now.machine) c.args.captures c.args.name.now (map value_of c.args.args) (word_meant c.of-word.result) (c.of-word.ensures ∙ ap calls.word c.as_str.ensures) c.args.state.now (sym c.is_to_host.ensures ∙ c.if-is_to_host.false) (sym c.is_call.ensures ∙ c.if-is_call.false) _ ((rw c.as_slice.ensures at c.in_err-value.ensures) c.args.state.now (call_named (setting g.H.Host.answers g.H.Host.modules c.args.self.now.machine).world c.args.captures c.args.name.now (map value_of c.args.args))))
 
 pub call_word-returns-in-Some : goal.call_word-returns-in-Some
 call_word-returns-in-Some g t c = word_gives (setting g.H.Host.answers g.H.Host.modules c.args.self.now.machine) c.args.captures c.args.name.now (map value_of c.args.args) (word_meant c.of-word.result) (c.of-word.ensures ∙ ap calls.word c.as_str.ensures) c.args.state.now (sym c.is_to_host.ensures ∙ c.if-is_to_host.false) (sym c.is_call.ensures ∙ c.if-is_call.false) c.in-Some.value ((rw (c.as_slice.ensures, c.in-Some.is) at c.in_ok-value.ensures) c.args.state.now (call_named (setting g.H.Host.answers g.H.Host.modules c.args.self.now.machine).world c.args.captures c.args.name.now (map value_of c.args.args)))
@@ -598,8 +563,7 @@ pub call_named-returns-in_err-value-in-Some : goal.call_named-returns-in_err-val
 call_named-returns-in_err-value-in-Some g t c = let p = err_from_is_err_and c.from_residual-in_err-value-in-Some.result c.from_residual-in_err-value-in-Some.ensures.1 in
     let fs = c.args.self.now.machine.functions.now.functions in
     let same : key c.in_ok-clone.field-0 c.len.result None ≡ key c.args.name.now (length (map value_of c.args.args)) None = λ i. key (c.in_ok-clone.ensures.cases i) ((c.len.ensures ∙ sym (length-map c.args.args value_of)) i) None in
-    let found : Some c.deref.result.now ≡ find_by definition_key (key c.args.name.now (length (map value_of c.args.args)) None) fs = ap Some c.deref.ensures ∙ subst (λ k. Some c.in-Some.function.now.value ≡ find_by definition_key k fs) same c.in-Some.ensures in
-    rw (p.1, p.2) (call_runs_function (setting g.H.Host.answers g.H.Host.modules c.args.self.now.machine) fs refl refl c.args.captures c.args.name.now (map value_of c.args.args) c.deref.result.now c.args.state.now c.invoke.new.state (Err _) found c.in_err-value-in-Some.ensures)
+    let found : Some c.deref.result.now ≡ find_by definition_key (key c.args.name.now (length (map value_of c.args.args)) None) fs = ap Some c.deref.ensures ∙ subst (λ k. Some c.in-Some.function.now.value ≡ find_by definition_key k fs) same c.in-Some.ensures in rw (p.1, p.2) (call_runs_function (setting g.H.Host.answers g.H.Host.modules c.args.self.now.machine) fs refl refl c.args.captures c.args.name.now (map value_of c.args.args) c.deref.result.now c.args.state.now c.invoke.new.state (Err _) found c.in_err-value-in-Some.ensures)
 
 pub call_named-invoke-requires : goal.call_named-invoke-requires
 call_named-invoke-requires g t c =
@@ -639,29 +603,46 @@ invoke-statements-ended-requires g t c =
     search rules
 
 -- chains
-pub chain-returns : goal.chain-returns
-chain-returns g t c = chain_runs (setting g.H.Host.answers g.H.Host.modules c.args.self.now.machine) c.args.self.now.in_loop (is_dot c.args.chain) (chain_flags c.args.options) (expr_of c.args.sides.now.lhs) (expr_of c.args.sides.now.rhs) c.args.state.now c.base.new.state (sym c.is_chain.ensures ∙ c.if-not-is_chain.false) c.in_ok-base.base c.steps.new.state c.steps.result c.in_ok-base.ensures c.steps.ensures
+pub chain-returns-in-Some : goal.chain-returns-in-Some
+chain-returns-in-Some g t c = chain_from_root (setting g.H.Host.answers g.H.Host.modules c.args.self.now.machine) c.args.self.now.in_loop (is_dot c.args.chain) (chain_flags c.args.options) (expr_of c.args.sides.now.lhs) (expr_of c.args.sides.now.rhs) c.args.state.now c.from_root.new.state (sym c.is_chain.ensures ∙ c.if-not-is_chain.false) (root_meant c.in-Some.root) c.from_root.result c.in-Some.ensures c.from_root.ensures
+
+pub chain-returns-in_err-base-in-None : goal.chain-returns-in_err-base-in-None
+chain-returns-in_err-base-in-None g t c = let p = err_from_is_err_and c.from_residual.result c.from_residual.ensures.1 in rw (p.1, p.2) (chain_stops (setting g.H.Host.answers g.H.Host.modules c.args.self.now.machine) c.args.self.now.in_loop (is_dot c.args.chain) (chain_flags c.args.options) (expr_of c.args.sides.now.lhs) (expr_of c.args.sides.now.rhs) c.args.state.now c.expr.new.state (sym c.is_chain.ensures ∙ c.if-not-is_chain.false) _ c.in-None.ensures c.in_err-base-in-None.ensures)
+
+pub chain-returns-in_ok-base-in-None : goal.chain-returns-in_ok-base-in-None
+chain-returns-in_ok-base-in-None g t c = chain_from_value (setting g.H.Host.answers g.H.Host.modules c.args.self.now.machine) c.args.self.now.in_loop (is_dot c.args.chain) (chain_flags c.args.options) (expr_of c.args.sides.now.lhs) (expr_of c.args.sides.now.rhs) c.args.state.now c.expr.new.state (sym c.is_chain.ensures ∙ c.if-not-is_chain.false) c.in_ok-base-in-None.base c.steps.new.state c.steps.result c.in-None.ensures c.in_ok-base-in-None.ensures c.steps.ensures
+
+pub from_root-returns-in-Some : goal.from_root-returns-in-Some
+from_root-returns-in-Some g t c = (rw c.in-Some.is at c.in_ok-value.ensures) c.args.self.now.in_loop
+
+pub from_root-returns-in_err-place : goal.from_root-returns-in_err-place
+from_root-returns-in_err-place g t c = let p = err_from_is_err_and c.from_residual-in_err-place.result c.from_residual-in_err-place.ensures.1 in rw (p.1, p.2) (c.in_err-place.ensures.reads c.args.self.now.in_loop)
+
+pub from_root-returns-in-Some-left : goal.from_root-returns-in-Some-left
+from_root-returns-in-Some-left g t c = leads_then (setting g.H.Host.answers g.H.Host.modules c.args.self.now.machine) c.steps.new.state c.steps.result (λ v. given (value_of v)) (rw c.in-Some-left.is at (c.in_ok-place.ensures.reads c.args.self.now.in_loop)) c.steps.ensures
+
+pub from_root-returns-in_ok-place_value-in-None : goal.from_root-returns-in_ok-place_value-in-None
+from_root-returns-in_ok-place_value-in-None g t c = rw c.in_ok-place_value-in-None.ensures (rw c.in-None.is at (c.in_ok-place.ensures.reads c.args.self.now.in_loop))
 
 pub steps-returns-in_err-access : goal.steps-returns-in_err-access
-steps-returns-in_err-access g t c = let p = err_from_is_err_and c.from_residual-in_err-access.result c.from_residual-in_err-access.ensures.1 in
-    rw (p.1, p.2) (steps_stop (setting g.H.Host.answers g.H.Host.modules c.args.self.now.machine) c.args.self.now.in_loop c.args.rest c.link-link.result (c.link-link.ensures.steps c.args.self.now.in_loop) c.args.current c.args.state.now c.reach.new.state _ c.in_err-access.ensures)
+steps-returns-in_err-access g t c = let p = err_from_is_err_and c.from_residual.result c.from_residual.ensures.1 in rw (p.1, p.2) (steps_stop (setting g.H.Host.answers g.H.Host.modules c.args.self.now.machine) c.args.self.now.in_loop c.args.rest c.link-link.result (c.link-link.ensures.steps c.args.self.now.in_loop) c.args.current c.args.state.now c.reach.new.state _ c.in_err-access.ensures)
 
-pub steps-returns-in-Some : goal.steps-returns-in-Some
-steps-returns-in-Some g t c =
-    subst (λ o. IfSome o (λ v. (loop : Bool) → Comes (setting g.H.Host.answers g.H.Host.modules c.args.self.now.machine) c.args.state.now loop c.args.rest (current_in (setting g.H.Host.answers g.H.Host.modules c.args.self.now.machine) (store_of c.args.state.now) c.args.current) (value_of v))) c.in-Some.is c.in_ok-value.ensures c.args.self.now.in_loop
-
-pub steps-returns-in_default-2 : goal.steps-returns-in_default-2
-steps-returns-in_default-2 g t c = steps_unit (setting g.H.Host.answers g.H.Host.modules c.args.self.now.machine) c.args.self.now.in_loop c.args.rest c.link-link.result (c.link-link.ensures.steps c.args.self.now.in_loop) c.args.current c.args.state.now c.reach.new.state (rw c.in_default-2.is at c.in_ok-access.ensures)
+pub steps-returns-in_default : goal.steps-returns-in_default
+steps-returns-in_default g t c = steps_unit (setting g.H.Host.answers g.H.Host.modules c.args.self.now.machine) c.args.self.now.in_loop c.args.rest c.link-link.result (c.link-link.ensures.steps c.args.self.now.in_loop) c.args.current c.args.state.now c.reach.new.state (rw c.in_default.is at c.in_ok-access.ensures)
 
 pub steps-returns-in_err-current : goal.steps-returns-in_err-current
-steps-returns-in_err-current g t c = let p = err_from_is_err_and c.from_residual-in_err-current.result c.from_residual-in_err-current.ensures.1 in
-    rw (p.1, p.2) (applied_stops (setting g.H.Host.answers g.H.Host.modules c.args.self.now.machine) c.args.self.now.in_loop c.args.rest c.link-link.result (c.link-link.ensures.steps c.args.self.now.in_loop) c.args.current c.args.state.now c.reach.new.state c.in-Some-2.access (rw c.in-Some-2.is at c.in_ok-access.ensures) c.applied.new.state _ c.in_err-current.ensures)
+steps-returns-in_err-current g t c = let p = err_from_is_err_and c.from_residual-in_err-current.result c.from_residual-in_err-current.ensures.1 in rw (p.1, p.2) (applied_stops (setting g.H.Host.answers g.H.Host.modules c.args.self.now.machine) c.args.self.now.in_loop c.args.rest c.link-link.result (c.link-link.ensures.steps c.args.self.now.in_loop) c.args.current c.args.state.now c.reach.new.state c.in-Some.access (rw c.in-Some.is at c.in_ok-access.ensures) c.applied.new.state _ c.in_err-current.ensures)
 
-pub steps-returns-in-Some-rest : goal.steps-returns-in-Some-rest
-steps-returns-in-Some-rest g t c = steps_more (setting g.H.Host.answers g.H.Host.modules c.args.self.now.machine) c.args.self.now.in_loop c.args.rest c.link-link.result (c.link-link.ensures.steps c.args.self.now.in_loop) c.args.current c.args.state.now c.reach.new.state c.in-Some-2.access (rw c.in-Some-2.is at c.in_ok-access.ensures) c.applied.new.state c.in_ok-current.current c.in_ok-current.ensures c.in-Some-rest.rest c.steps.new.state c.steps.result c.in-Some-rest.is c.steps.ensures
+pub steps-returns-in_default-rest : goal.steps-returns-in_default-rest
+steps-returns-in_default-rest g t c = steps_end (setting g.H.Host.answers g.H.Host.modules c.args.self.now.machine) c.args.self.now.in_loop c.args.rest c.link-link.result (c.link-link.ensures.steps c.args.self.now.in_loop) c.args.current c.args.state.now c.reach.new.state c.in-Some.access (rw c.in-Some.is at c.in_ok-access.ensures) c.applied.new.state c.in_ok-current.current c.in_ok-current.ensures c.in_ok-current_value.field-0 c.in_default-rest.is c.in_ok-current_value.ensures
 
-pub steps-returns-in_ok-current_value-in-None : goal.steps-returns-in_ok-current_value-in-None
-steps-returns-in_ok-current_value-in-None g t c = steps_end (setting g.H.Host.answers g.H.Host.modules c.args.self.now.machine) c.args.self.now.in_loop c.args.rest c.link-link.result (c.link-link.ensures.steps c.args.self.now.in_loop) c.args.current c.args.state.now c.reach.new.state c.in-Some-2.access (rw c.in-Some-2.is at c.in_ok-access.ensures) c.applied.new.state c.in_ok-current.current c.in_ok-current.ensures c.in_ok-current_value-in-None.field-0 c.in-None.is c.in_ok-current_value-in-None.ensures
+pub steps-returns-in-Some-2 : goal.steps-returns-in-Some-2
+steps-returns-in-Some-2 g t c =
+    let there = subst (λ o. IfSome o (λ v. (loop : Bool) → Comes (setting g.H.Host.answers g.H.Host.modules c.args.self.now.machine) c.applied.new.state loop c.in-Some-rest.rest (current_in (setting g.H.Host.answers g.H.Host.modules c.args.self.now.machine) (store_of c.applied.new.state) c.in_ok-current.current) (value_of v))) c.in-Some-2.is c.in_ok-value.ensures c.args.self.now.in_loop in
+    steps_more (setting g.H.Host.answers g.H.Host.modules c.args.self.now.machine) c.args.self.now.in_loop c.args.rest c.link-link.result (c.link-link.ensures.steps c.args.self.now.in_loop) c.args.current c.args.state.now c.reach.new.state c.in-Some.access (rw c.in-Some.is at c.in_ok-access.ensures) c.applied.new.state c.in_ok-current.current c.in_ok-current.ensures c.in-Some-rest.rest c.applied.new.state (Ok c.in-Some-2.value) c.in-Some-rest.is there
+
+pub steps-returns-in-None : goal.steps-returns-in-None
+steps-returns-in-None g t c = steps_more (setting g.H.Host.answers g.H.Host.modules c.args.self.now.machine) c.args.self.now.in_loop c.args.rest c.link-link.result (c.link-link.ensures.steps c.args.self.now.in_loop) c.args.current c.args.state.now c.reach.new.state c.in-Some.access (rw c.in-Some.is at c.in_ok-access.ensures) c.applied.new.state c.in_ok-current.current c.in_ok-current.ensures c.in-Some-rest.rest c.steps.new.state c.steps.result c.in-Some-rest.is c.steps.ensures
 
 pub reach-returns-in_err-refreshed : goal.reach-returns-in_err-refreshed
 reach-returns-in_err-refreshed g t c = let p = err_from_is_err_and c.from_residual-in_err-refreshed.result c.from_residual-in_err-refreshed.ensures.1 in
@@ -669,8 +650,7 @@ reach-returns-in_err-refreshed g t c = let p = err_from_is_err_and c.from_residu
     elim c.else-contains.branch [
       | reach-else-contains-via-then-contains+else-is_unit_at w ↦ ap (λ b. b && is_unit (current_in (setting g.H.Host.answers g.H.Host.modules c.args.self.now.machine) (store_of c.args.state.now) c.args.current.now).value) (sym (c.contains.ensures tt) ∙ w.if-contains.true) ∙ sym w.is_unit_at.ensures ∙ w.if-is_unit_at.false
       | reach-else-contains-via-else-contains w ↦ ap (λ b. b && is_unit (current_in (setting g.H.Host.answers g.H.Host.modules c.args.self.now.machine) (store_of c.args.state.now) c.args.current.now).value) (sym (c.contains.ensures tt) ∙ w.if-contains.false)
-    ] in
-    rw (p.1, p.2) (reach_gone (setting g.H.Host.answers g.H.Host.modules c.args.self.now.machine) c.args.self.now.in_loop c.args.rest c.link-link.result (c.link-link.ensures.steps c.args.self.now.in_loop) c.args.current.now c.args.state.now goes_on c.access.new.state c.in_ok-access.access c.in_ok-access.ensures _ c.in_err-refreshed.ensures)
+    ] in rw (p.1, p.2) (reach_gone (setting g.H.Host.answers g.H.Host.modules c.args.self.now.machine) c.args.self.now.in_loop c.args.rest c.link-link.result (c.link-link.ensures.steps c.args.self.now.in_loop) c.args.current.now c.args.state.now goes_on c.access.new.state c.in_ok-access.access c.in_ok-access.ensures _ c.in_err-refreshed.ensures)
 
 pub reach-returns : goal.reach-returns
 reach-returns g t c =
@@ -685,8 +665,7 @@ pub method_access-returns-then-not-is_callable : goal.method_access-returns-then
 method_access-returns-then-not-is_callable g t c = method_stuck (setting g.H.Host.answers g.H.Host.modules c.args.self.now.machine) c.args.self.now.in_loop c.args.call.now c.args.state.now (sym c.is_callable.ensures ∙ c.if-not-is_callable.true)
 
 pub method_access-returns-in_err-args : goal.method_access-returns-in_err-args
-method_access-returns-in_err-args g t c = let p = err_from_is_err_and c.from_residual.result c.from_residual.ensures.1 in
-    rw (p.1, p.2) (method_stops (setting g.H.Host.answers g.H.Host.modules c.args.self.now.machine) c.args.self.now.in_loop c.args.call.now c.args.state.now (sym c.is_callable.ensures ∙ c.if-not-is_callable.false) c.exprs.new.state _ (rw c.as_slice.ensures at c.in_err-args.ensures))
+method_access-returns-in_err-args g t c = let p = err_from_is_err_and c.from_residual.result c.from_residual.ensures.1 in rw (p.1, p.2) (method_stops (setting g.H.Host.answers g.H.Host.modules c.args.self.now.machine) c.args.self.now.in_loop c.args.call.now c.args.state.now (sym c.is_callable.ensures ∙ c.if-not-is_callable.false) c.exprs.new.state _ (rw c.as_slice.ensures at c.in_err-args.ensures))
 
 pub method_access-returns : goal.method_access-returns
 method_access-returns g t c = method_given (setting g.H.Host.answers g.H.Host.modules c.args.self.now.machine) c.args.self.now.in_loop c.args.call.now c.args.state.now (sym c.is_callable.ensures ∙ c.if-not-is_callable.false) c.exprs.new.state c.in_ok-args.args (rw c.as_slice.ensures at c.in_ok-args.ensures)
@@ -701,8 +680,7 @@ pub call_receiver-returns : goal.call_receiver-returns
 call_receiver-returns g t c = leads_then (setting g.H.Host.answers g.H.Host.modules c.args.self.now.machine) c.call_named.new.state c.call_named.result (λ v. given (value_of v)) (c.in_ok-name.ensures (setting g.H.Host.answers g.H.Host.modules c.args.self.now.machine) false c.args.state.now) c.call_named.ensures
 
 pub method-returns-in_err-value-2 : goal.method-returns-in_err-value-2
-method-returns-in_err-value-2 g t c = let p = err_from_is_err_and c.from_residual-in_err-value-2.result c.from_residual-in_err-value-2.ensures.1 in
-    rw (p.1, p.2) (word_stopped (setting g.H.Host.answers g.H.Host.modules c.args.self.now.machine) c.args.name.now (map value_of c.args.args) (word_meant c.of-word.result) (c.of-word.ensures ∙ ap calls.word c.as_str.ensures) c.args.current c.args.state.now c.in_ok-receiver.receiver c.in_ok-receiver.ensures (sym c.is_call.ensures ∙ c.if-is_call.false) _ (rw c.as_slice-2.ensures at c.in_err-value-2.ensures))
+method-returns-in_err-value-2 g t c = let p = err_from_is_err_and c.from_residual-in_err-value-2.result c.from_residual-in_err-value-2.ensures.1 in rw (p.1, p.2) (word_stopped (setting g.H.Host.answers g.H.Host.modules c.args.self.now.machine) c.args.name.now (map value_of c.args.args) (word_meant c.of-word.result) (c.of-word.ensures ∙ ap calls.word c.as_str.ensures) c.args.current c.args.state.now c.in_ok-receiver.receiver c.in_ok-receiver.ensures (sym c.is_call.ensures ∙ c.if-is_call.false) _ (rw c.as_slice-2.ensures at c.in_err-value-2.ensures))
 
 pub method-returns-in-Some : goal.method-returns-in-Some
 method-returns-in-Some g t c = word_given (setting g.H.Host.answers g.H.Host.modules c.args.self.now.machine) c.args.name.now (map value_of c.args.args) (word_meant c.of-word.result) (c.of-word.ensures ∙ ap calls.word c.as_str.ensures) c.args.current c.args.state.now c.in_ok-receiver.receiver c.in_ok-receiver.ensures (sym c.is_call.ensures ∙ c.if-is_call.false) c.in-Some.value (rw (c.as_slice-2.ensures, c.in-Some.is) at c.in_ok-value-2.ensures)
@@ -745,23 +723,23 @@ assign_part-returns-in_default g t c = part_unplaced (setting g.H.Host.answers g
 pub assign_part-returns-then-ends_in_call : goal.assign_part-returns-then-ends_in_call
 assign_part-returns-then-ends_in_call g t c = part_called (setting g.H.Host.answers g.H.Host.modules c.args.self.now.machine) c.args.self.now.in_loop (expr_of c.args.base.now) c.args.rest (operator_of c.args.op.now.op) (value_of c.args.value) c.args.state.now (sym c.if-not-is_chain.false ∙ c.is_chain.ensures) (root_meant c.in-Some.root) c.in-Some.ensures (sym c.if-ends_in_call.true ∙ c.ends_in_call.ensures ∙ ap (λ b. ends_in_call (is_dot c.args.rest.chain) b (expr_of c.args.rest.right.now)) (c.contains.ensures tt))
 
-pub assign_part-returns-in_err-current : goal.assign_part-returns-in_err-current
-assign_part-returns-in_err-current g t c = let p = err_from_is_err_and c.from_residual.result c.from_residual.ensures.1 in
-    rw (p.1, p.2) (part_stops (setting g.H.Host.answers g.H.Host.modules c.args.self.now.machine) c.args.self.now.in_loop (expr_of c.args.base.now) c.args.rest (operator_of c.args.op.now.op) (value_of c.args.value) c.args.state.now (sym c.if-not-is_chain.false ∙ c.is_chain.ensures) (root_meant c.in-Some.root) c.in-Some.ensures (sym c.if-ends_in_call.false ∙ c.ends_in_call.ensures ∙ ap (λ b. ends_in_call (is_dot c.args.rest.chain) b (expr_of c.args.rest.right.now)) (c.contains.ensures tt)) c.args.state.now _ c.in_err-current.ensures)
+pub assign_part-returns-in_err-place : goal.assign_part-returns-in_err-place
+assign_part-returns-in_err-place g t c = let p = err_from_is_err_and c.from_residual.result c.from_residual.ensures.1 in rw (p.1, p.2) (part_stops (setting g.H.Host.answers g.H.Host.modules c.args.self.now.machine) c.args.self.now.in_loop (expr_of c.args.base.now) c.args.rest (operator_of c.args.op.now.op) (value_of c.args.value) c.args.state.now (sym c.if-not-is_chain.false ∙ c.is_chain.ensures) (root_meant c.in-Some.root) c.in-Some.ensures (sym c.if-ends_in_call.false ∙ c.ends_in_call.ensures ∙ ap (λ b. ends_in_call (is_dot c.args.rest.chain) b (expr_of c.args.rest.right.now)) (c.contains.ensures tt)) _ (c.in_err-place.ensures.assigns c.args.self.now.in_loop (operator_of c.args.op.now.op) (value_of c.args.value)))
 
-pub assign_part-returns : goal.assign_part-returns
-assign_part-returns g t c = part_runs (setting g.H.Host.answers g.H.Host.modules c.args.self.now.machine) c.args.self.now.in_loop (expr_of c.args.base.now) c.args.rest (operator_of c.args.op.now.op) (value_of c.args.value) c.args.state.now (sym c.if-not-is_chain.false ∙ c.is_chain.ensures) (root_meant c.in-Some.root) c.in-Some.ensures (sym c.if-ends_in_call.false ∙ c.ends_in_call.ensures ∙ ap (λ b. ends_in_call (is_dot c.args.rest.chain) b (expr_of c.args.rest.right.now)) (c.contains.ensures tt)) c.args.state.now c.in_ok-current.current c.assign_steps.new.state c.assign_steps.result c.in_ok-current.ensures c.assign_steps.ensures
+pub assign_part-returns-in-Some-left : goal.assign_part-returns-in-Some-left
+assign_part-returns-in-Some-left g t c = part_runs (setting g.H.Host.answers g.H.Host.modules c.args.self.now.machine) c.args.self.now.in_loop (expr_of c.args.base.now) c.args.rest (operator_of c.args.op.now.op) (value_of c.args.value) c.args.state.now (sym c.if-not-is_chain.false ∙ c.is_chain.ensures) (root_meant c.in-Some.root) c.in-Some.ensures (sym c.if-ends_in_call.false ∙ c.ends_in_call.ensures ∙ ap (λ b. ends_in_call (is_dot c.args.rest.chain) b (expr_of c.args.rest.right.now)) (c.contains.ensures tt)) _ c.assign_steps.new.state c.assign_steps.result (rw c.in-Some-left.is at (c.in_ok-place.ensures.assigns c.args.self.now.in_loop (operator_of c.args.op.now.op) (value_of c.args.value))) c.assign_steps.ensures
+
+pub assign_part-returns-in-None : goal.assign_part-returns-in-None
+assign_part-returns-in-None g t c = part_runs (setting g.H.Host.answers g.H.Host.modules c.args.self.now.machine) c.args.self.now.in_loop (expr_of c.args.base.now) c.args.rest (operator_of c.args.op.now.op) (value_of c.args.value) c.args.state.now (sym c.if-not-is_chain.false ∙ c.is_chain.ensures) (root_meant c.in-Some.root) c.in-Some.ensures (sym c.if-ends_in_call.false ∙ c.ends_in_call.ensures ∙ ap (λ b. ends_in_call (is_dot c.args.rest.chain) b (expr_of c.args.rest.right.now)) (c.contains.ensures tt)) _ c.assign_place.new.state c.assign_place.result (rw c.in-None.is at (c.in_ok-place.ensures.assigns c.args.self.now.in_loop (operator_of c.args.op.now.op) (value_of c.args.value))) c.assign_place.ensures
 
 pub assign_steps-returns-in_err-access : goal.assign_steps-returns-in_err-access
-assign_steps-returns-in_err-access g t c = let p = err_from_is_err_and c.from_residual.result c.from_residual.ensures.1 in
-    rw (p.1, p.2) (target_stops (setting g.H.Host.answers g.H.Host.modules c.args.self.now.machine) c.args.self.now.in_loop c.args.rest c.link-link.result (c.link-link.ensures.steps c.args.self.now.in_loop) (operator_of c.args.op.now.op) (value_of c.args.value) c.args.current c.args.state.now c.reach.new.state _ c.in_err-access.ensures)
+assign_steps-returns-in_err-access g t c = let p = err_from_is_err_and c.from_residual.result c.from_residual.ensures.1 in rw (p.1, p.2) (target_stops (setting g.H.Host.answers g.H.Host.modules c.args.self.now.machine) c.args.self.now.in_loop c.args.rest c.link-link.result (c.link-link.ensures.steps c.args.self.now.in_loop) (operator_of c.args.op.now.op) (value_of c.args.value) c.args.current c.args.state.now c.reach.new.state _ c.in_err-access.ensures)
 
 pub assign_steps-returns-in_default : goal.assign_steps-returns-in_default
 assign_steps-returns-in_default g t c = target_unit (setting g.H.Host.answers g.H.Host.modules c.args.self.now.machine) c.args.self.now.in_loop c.args.rest c.link-link.result (c.link-link.ensures.steps c.args.self.now.in_loop) (operator_of c.args.op.now.op) (value_of c.args.value) c.args.current c.args.state.now c.reach.new.state (rw c.in_default.is at c.in_ok-access.ensures)
 
 pub assign_steps-returns-in_err-current-in-Some-rest : goal.assign_steps-returns-in_err-current-in-Some-rest
-assign_steps-returns-in_err-current-in-Some-rest g t c = let p = err_from_is_err_and c.from_residual-in_err-current-in-Some-rest.result c.from_residual-in_err-current-in-Some-rest.ensures.1 in
-    rw (p.1, p.2) (target_applied_stops (setting g.H.Host.answers g.H.Host.modules c.args.self.now.machine) c.args.self.now.in_loop c.args.rest c.link-link.result (c.link-link.ensures.steps c.args.self.now.in_loop) (operator_of c.args.op.now.op) (value_of c.args.value) c.args.current c.args.state.now c.reach.new.state c.in-Some.access (rw c.in-Some.is at c.in_ok-access.ensures) c.applied.new.state c.in-Some-rest.rest c.in-Some-rest.is _ c.in_err-current-in-Some-rest.ensures)
+assign_steps-returns-in_err-current-in-Some-rest g t c = let p = err_from_is_err_and c.from_residual-in_err-current-in-Some-rest.result c.from_residual-in_err-current-in-Some-rest.ensures.1 in rw (p.1, p.2) (target_applied_stops (setting g.H.Host.answers g.H.Host.modules c.args.self.now.machine) c.args.self.now.in_loop c.args.rest c.link-link.result (c.link-link.ensures.steps c.args.self.now.in_loop) (operator_of c.args.op.now.op) (value_of c.args.value) c.args.current c.args.state.now c.reach.new.state c.in-Some.access (rw c.in-Some.is at c.in_ok-access.ensures) c.applied.new.state c.in-Some-rest.rest c.in-Some-rest.is _ c.in_err-current-in-Some-rest.ensures)
 
 pub assign_steps-returns-in_ok-current-in-Some-rest : goal.assign_steps-returns-in_ok-current-in-Some-rest
 assign_steps-returns-in_ok-current-in-Some-rest g t c = target_more (setting g.H.Host.answers g.H.Host.modules c.args.self.now.machine) c.args.self.now.in_loop c.args.rest c.link-link.result (c.link-link.ensures.steps c.args.self.now.in_loop) (operator_of c.args.op.now.op) (value_of c.args.value) c.args.current c.args.state.now c.reach.new.state c.in-Some.access (rw c.in-Some.is at c.in_ok-access.ensures) c.applied.new.state c.in-Some-rest.rest c.in-Some-rest.is c.in_ok-current-in-Some-rest.current c.assign_steps.new.state c.assign_steps.result c.in_ok-current-in-Some-rest.ensures c.assign_steps.ensures
@@ -779,15 +757,13 @@ pub assign_last-returns-in-Index : goal.assign_last-returns-in-Index
 assign_last-returns-in-Index g t c = rw c.in-Index.is (c.assign_index.ensures _ c.in-Some.ensures)
 
 pub assign_last-returns-in_err-changed_method-in-Method : goal.assign_last-returns-in_err-changed_method-in-Method
-assign_last-returns-in_err-changed_method-in-Method g t c = let p = err_from_is_err_and c.from_residual.result c.from_residual.ensures.1 in
-    rw (p.1, p.2, c.in-Method.is) (last_stops (setting g.H.Host.answers g.H.Host.modules c.args.self.now.machine) (operator_of c.args.op.now.op) (value_of c.args.value) (reached.Method c.in-Method.name c.in-Method.args) c.args.current c.args.state.now c.in-Some.token c.in-Some.ensures _ c.changed_method.new.state c.in_err-changed_method-in-Method.ensures)
+assign_last-returns-in_err-changed_method-in-Method g t c = let p = err_from_is_err_and c.from_residual.result c.from_residual.ensures.1 in rw (p.1, p.2, c.in-Method.is) (last_stops (setting g.H.Host.answers g.H.Host.modules c.args.self.now.machine) (operator_of c.args.op.now.op) (value_of c.args.value) (reached.Method c.in-Method.name c.in-Method.args) c.args.current c.args.state.now c.in-Some.token c.in-Some.ensures _ c.changed_method.new.state c.in_err-changed_method-in-Method.ensures)
 
 pub assign_last-returns-in_ok-changed_method-in-Method : goal.assign_last-returns-in_ok-changed_method-in-Method
 assign_last-returns-in_ok-changed_method-in-Method g t c = rw c.in-Method.is (last_nowhere (setting g.H.Host.answers g.H.Host.modules c.args.self.now.machine) (operator_of c.args.op.now.op) (value_of c.args.value) (reached.Method c.in-Method.name c.in-Method.args) c.args.current c.args.state.now c.in-Some.token c.in-Some.ensures c.in-Method.name.now (map value_of c.in-Method.args) refl c.in_ok-changed_method-in-Method.field-0 c.changed_method.new.state c.in_ok-changed_method-in-Method.ensures)
 
 pub changed_method-returns-in_err-read : goal.changed_method-returns-in_err-read
-changed_method-returns-in_err-read g t c o h = let p = err_from_is_err_and c.from_residual.result c.from_residual.ensures.1 in
-    rw (p.1, p.2) (read_ends (setting g.H.Host.answers g.H.Host.modules c.args.self.now.machine) _ _ _ o (value_of c.args.value) _ c.in_err-read.ensures)
+changed_method-returns-in_err-read g t c o h = let p = err_from_is_err_and c.from_residual.result c.from_residual.ensures.1 in rw (p.1, p.2) (read_ends (setting g.H.Host.answers g.H.Host.modules c.args.self.now.machine) _ _ _ o (value_of c.args.value) _ c.in_err-read.ensures)
 
 pub changed_method-returns : goal.changed_method-returns
 changed_method-returns g t c o h = read_changes (setting g.H.Host.answers g.H.Host.modules c.args.self.now.machine) _ c.in_ok-read.read c.args.state.now c.method.new.state c.in_ok-read.ensures o (value_of c.args.value) c.assigned.result c.assigned.new.state (value_of c.in_ok-old.old) c.in_ok-old.ensures (c.assigned.ensures o h)

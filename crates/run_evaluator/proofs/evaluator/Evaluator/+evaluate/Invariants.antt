@@ -169,10 +169,10 @@ decreases-for_body g l = level l.self.now.depth (bodies_weight (functions_of l.s
 
 -- chains
 abbrev pub decreases-chain : goal.decreases-chain
-decreases-chain g l = level l.self.now.depth (bodies_weight (functions_of l.self.now.machine.functions.now)) + 9 * (expr_weight (expr_of l.sides.now.lhs) + expr_weight (expr_of l.sides.now.rhs)) + 10
+decreases-chain g l = level l.self.now.depth (bodies_weight (functions_of l.self.now.machine.functions.now)) + 9 * (expr_weight (expr_of l.sides.now.lhs) + expr_weight (expr_of l.sides.now.rhs)) + 11
 
-abbrev pub decreases-base : goal.decreases-base
-decreases-base g l = level l.self.now.depth (bodies_weight (functions_of l.self.now.machine.functions.now)) + 9 * expr_weight (expr_of l.expr.now) + 2
+abbrev pub decreases-from_root : goal.decreases-from_root
+decreases-from_root g l = level l.self.now.depth (bodies_weight (functions_of l.self.now.machine.functions.now)) + 9 * expr_weight (expr_of l.rest.right.now) + 10
 
 abbrev pub decreases-steps : goal.decreases-steps
 decreases-steps g l = level l.self.now.depth (bodies_weight (functions_of l.self.now.machine.functions.now)) + 9 * expr_weight (expr_of l.rest.right.now) + 9

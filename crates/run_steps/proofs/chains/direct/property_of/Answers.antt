@@ -9,7 +9,10 @@ use Rattle.run_steps.proofs.chains.direct.property_of.Goals as goal
 
 pub returns-in-Map : goal.returns-in-Map
 returns-in-Map c = λ here s.
-    property_steps here s c.args.argument.now (property_names c.in-Property.names) (value_of c.args.value.now) (part_value c.entry.result) (fields (members_of c.in-Map.members))
-    (ap expr_of c.in-Property.is ∙ expr_of-Property _ _)
-    (ap value_of c.in-Map.is ∙ value_of-Map _)
-    (c.entry.ensures ∙ ap (λ n. elements.entry (fields (members_of c.in-Map.members)) n.2) c.get.ensures)
+    record {
+      key = _;
+      step = property_steps here s c.args.argument.now (property_names c.in-Property.names) (value_of c.args.value.now) (part_value c.entry.result) (fields (members_of c.in-Map.members))
+          (ap expr_of c.in-Property.is ∙ expr_of-Property _ _)
+          (ap value_of c.in-Map.is ∙ value_of-Map _)
+          (c.entry.ensures ∙ ap (λ n. elements.entry (fields (members_of c.in-Map.members)) n.2) c.get.ensures);
+    }
