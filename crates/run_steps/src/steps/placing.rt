@@ -73,22 +73,6 @@ impl<'a, H: Host> Machine<'a, H> {
         }
     }
 
-    /// A chain's base that is a name or `this`.
-    pub fn at_root<'e>(&self, state: &State, root: Root<'e>) -> Result<Current<'e>, Interrupt>
-        ensures { let here = setting H.answers H.modules self.now in
-            (next : _)
-            → Leads here (Acting (spec.read_base (root_meant root.entry) next)) state.now result state.now (λ c.
-            Acting (next (spec.current_in here (store_of state.now) c))) }
-    {
-        match self.root_value(state, root) {
-            Ok(_) => Ok(Current::At(Place {
-                root,
-                keys: Seq::new(self.alloc),
-            })),
-            Err(stuck) => Err(Interrupt::Stuck(stuck)),
-        }
-    }
-
     /// What stands at a place.
     pub fn standing<'s>(&'s self, state: &'s State, place: &Place) -> Result<Part<'s>, Stuck>
         ensures { spec.HasPart (setting H.answers H.modules self.now) (store_of state.now) (spec.place_meant place.now)
