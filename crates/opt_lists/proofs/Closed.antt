@@ -2,12 +2,12 @@
 use Rattle.std.proofs.Common.{◌≡◌, ℕ, zero, suc, Bool, true, false, cond, [], ◌∷◌, length, get_or, set, refl, sym, ap, ◌∙◌, arith}
 use Rattle.std.specs.Prelude.{◌&&◌, not}
 use Rattle.ast_types.specs.declared.stmt.Stmt as declared_stmt
-use Rattle.theory_meaning.specs.Queries.{is_pure, is_noop, is_control_flow_break}
+use Rattle.theory_meaning.specs.Queries.{is_noop, is_control_flow_break}
 use Rattle.theory_meaning.specs.Tree.{Stmt, Noop, Stmts, no_stmts, stmt}
 use Rattle.ast_types.specs.Reading.{stmt_of, stmts_of}
 use Rattle.theory_rewriting.specs.Context.{wanted_before}
 use Rattle.opt_lists.specs.Steps.{Declared}
-use Rattle.opt_lists.specs.Sweep.{is_nothing, closed_up}
+use Rattle.opt_lists.specs.Sweep.{is_nothing, is_pure_by_itself, closed_up}
 use Rattle.opt_lists.proofs.Sweeping.{no}
 
 and_false : (a : Bool) → a && false ≡ false
@@ -18,7 +18,7 @@ pub and_true : (a : Bool) → a && true ≡ a
 and_true true = refl
 and_true false = refl
 
-pub unmarked : (s : Stmt) → is_pure s ≡ false → is_noop s ≡ false
+pub unmarked : (s : Stmt) → is_pure_by_itself s ≡ false → is_noop s ≡ false
 unmarked Noop h = no (sym h)
 unmarked _ h = refl
 

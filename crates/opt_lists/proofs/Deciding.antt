@@ -8,12 +8,12 @@ use Rattle.ast_types.specs.declared.stmt.Stmt.TheVariants.{Noop as noop_at}
 use Rattle.ast_types.specs.declared.stmt.Stmt.TheVariants as stmt_kind
 use Rattle.ast_types.specs.declared.expr.Expr as declared_expr
 use Rattle.base_tokens.specs.declared.flags.ASTFlags.{ASTFlags}
-use Rattle.theory_meaning.specs.Queries.{is_pure, is_internally_pure, is_noop, is_control_flow_break}
+use Rattle.theory_meaning.specs.Queries.{is_internally_pure, is_noop, is_control_flow_break}
 use Rattle.theory_meaning.specs.Tree.{Stmt, Noop, Return, no_expr, an_expr, Stmts, no_stmts, stmt}
 use Rattle.ast_types.specs.Reading.{stmt_of, stmts_of, breaks, is_exported, stmt_of-Noop, stmt_of-Expr, stmt_of-Return}
-use Rattle.theory_rewriting.specs.Context.{ListKind, Whole, Inside, wanted}
+use Rattle.theory_rewriting.specs.Context.{ListContext, behind, ListKind, Whole, Inside, wanted}
 use Rattle.theory_rewriting.specs.Exports.{stmt_exports_nothing}
-use Rattle.theory_rewriting.specs.Normal.{AreSwept}
+use Rattle.theory_rewriting.specs.Normal.{AreNormalEach, AreSwept}
 use Rattle.theory_rewriting.specs.Rules.{is_pure_in}
 use Rattle.theory_rewriting.specs.SurelyUnit.{is_surely_unit}
 use Rattle.opt_lists.specs.declared.behind.Behind.{Behind}
@@ -22,11 +22,11 @@ use Rattle.opt_lists.specs.declared.behind.Fading.TheVariants as fading_kind
 use Rattle.opt_lists.specs.declared.behind.Going.{Going}
 use Rattle.opt_lists.specs.declared.behind.Going.TheVariants as going_kind
 use Rattle.opt_lists.specs.Steps.{Declared, kept, headed, cut, MarkedAt, Step}
-use Rattle.opt_lists.specs.Sweep.{is_lone, is_quiet, AreQuiet, goes_as, goes_by, goes_inside, returns_value, whole_returns_value, returns_nothing, bared, fades_as, return_fades, unit_fades, fades_aloud, FadesAlone, is_nothing, DecidedTo, closed_up}
+use Rattle.opt_lists.specs.Sweep.{is_lone, holds_nothing, is_pure_by_itself, is_pure_unit, is_quiet, AreQuiet, HearsQuiet, goes_as, goes_by, goes_inside, returns_value, whole_returns_value, returns_nothing, bared, fades_as, return_fades, unit_fades, fades_aloud, FadesAlone, is_nothing, DecidedTo, closed_up}
 use Rattle.opt_lists.proofs.Closed.{and_true, unmarked, leaving-unmarked, closed-stays, closed-alone, closed-goes, nothing-is, nothing-behind, unwanted-before, unwanted-at, tail-is, tail-put}
 use Rattle.opt_lists.proofs.Idle.{not_idle}
-use Rattle.opt_lists.proofs.Sweeping.{no, none_some, all_of, decided_goes, decided_stays, decided_leaves, decided_bares, decided_fades, decided_noop, decided_quiets}
-use Rattle.opt_lists.proofs.Settling.{StaysBy, stays_by, none_before, loud_before, none_last, quiet_last, noop_settled, none_leaving, loud_leaving}
+use Rattle.opt_lists.proofs.Sweeping.{no, none_some, all_of, both, second, decided_goes, decided_stays, decided_leaves, decided_bares, decided_fades, decided_noop, decided_quiets}
+use Rattle.opt_lists.proofs.Settling.{StaysBy, stays_by, unwanted_normal, none_before, loud_before, none_last, quiet_last, noop_settled, none_leaving, loud_leaving}
 
 -- ---- items of lists
 
@@ -71,17 +71,17 @@ taken false false true going_kind.Lone h = absurd cc
 taken false false true going_kind.PureInside h = refl
 taken false false false g h = none_some h
 
-by_its_rule : (g : Going) (m : ListKind) (b : Bool) (s : Stmt) → by_rule (is_pure s) (is_lone s) (goes_inside m b s) g ≡ goes_as g m b s
-by_its_rule going_kind.Pure m b s = refl
-by_its_rule going_kind.Lone m b s = refl
-by_its_rule going_kind.PureInside m b s = refl
+by_its_rule : (g : Going) (m : ListKind) (b : Bool) (s : Stmt) → by_rule (is_pure_by_itself s) (is_lone s) (goes_inside m b s) g ≡ true → goes_as g m b s ≡ true
+by_its_rule going_kind.Pure m b s h = second (holds_nothing s) h
+by_its_rule going_kind.Lone m b s h = h
+by_its_rule going_kind.PureInside m b s h = h
 
 pub goes_so : (g : Going) (m : ListKind) (b : Bool) (s : Stmt) → goes_by m b s ≡ Some g → goes_as g m b s ≡ true
-goes_so g m b s h = sym (by_its_rule g m b s) ∙ taken (is_pure s) (is_lone s) (goes_inside m b s) g h
+goes_so g m b s h = by_its_rule g m b s (taken (is_pure_by_itself s) (is_lone s) (goes_inside m b s) g h)
 
 -- spelled otherwise
-pub decided_as : {m : ListKind} {b : Behind} {ss ss' rest rest' : Stmts} → ss' ≡ ss → rest' ≡ rest → DecidedTo m b ss rest → DecidedTo m b ss' rest'
-decided_as {m = m} {b = b} {ss = ss} {rest' = rest'} e h f = subst (λ z. DecidedTo m b z rest') (sym e) (subst (λ z. DecidedTo m b ss z) (sym h) f)
+pub decided_as : {m : ListKind} {n : ℕ} {b : Behind} {ss ss' rest rest' : Stmts} → ss' ≡ ss → rest' ≡ rest → DecidedTo m n b ss rest → DecidedTo m n b ss' rest'
+decided_as {m = m} {n = n} {b = b} {ss = ss} {rest' = rest'} e h f = subst (λ z. DecidedTo m n b z rest') (sym e) (subst (λ z. DecidedTo m n b ss z) (sym h) f)
 
 -- cut behind an item
 pub cut-item : (xs : Declared) (n : ℕ) (s : declared_stmt.Stmt) → n < length xs → s ≡ get_or xs n s → drop n (take (n + 1) xs) ≡ s ∷ []
@@ -121,10 +121,10 @@ step_marked {m = m} {n = n} {xs = xs} {new = new} {b = b} g lt p w q =
 abbrev SettlesBehind : ListKind → ℕ → Declared → Behind → declared_stmt.Stmt → Type 0
 SettlesBehind m n xs b s =
     let rest = kept m (drop (n + 1) xs) in
-    (ss : Stmts) → DecidedTo m b ss rest → b.has_changed ≡ false → (rest ≡ no_stmts → wanted m ≡ false) × AreSwept m (is_surely_unit (stmt_of s)) rest
+    (ss : Stmts) → DecidedTo m (n + 1) b ss rest → b.has_changed ≡ false → (k : ListContext) → AreNormalEach k m rest → (rest ≡ no_stmts → wanted m ≡ false) × AreSwept m (is_surely_unit (stmt_of s)) rest
 
 step_kept : {m : ListKind} {n : ℕ} {xs : Declared} {b : Behind} (s : declared_stmt.Stmt) → n < length xs → s ≡ get_or xs n s → is_control_flow_break (stmt_of s) ≡ false → goes_by m b.is_quiet (stmt_of s) ≡ None → SettlesBehind m n xs b s → Step m n xs xs b (record { is_last = false; fading = None; is_quiet = false; has_changed = b.has_changed; is_bared = b.is_bared })
-step_kept {m = m} {n = n} {xs = xs} {b = b} s lt h q g behind = record {
+step_kept {m = m} {n = n} {xs = xs} {b = b} s lt h q g settles = record {
   front = refl;
   long = lt;
   same = λ z. (z, refl);
@@ -134,14 +134,14 @@ step_kept {m = m} {n = n} {xs = xs} {b = b} s lt h q g behind = record {
       (λ _. not_idle (stmt_of s) y.acts)
       (λ x z. none_some z)
       (λ z. no z)
-      (λ z. loud_before (stmt_of s) (kept m (drop (n + 1) xs)) y.inside (f.hears z))
-      (λ z _ u. let a = behind ss f z in (λ k ss' r. none_before q y (f.hears z) a.0 r, a.1)));
+      (λ _ z k e. let a = settles ss f z (behind (stmt_of s) k) e.1 in loud_before (stmt_of s) (kept m (drop (n + 1) xs)) y.inside (unwanted_normal k m (stmt_of s) (kept m (drop (n + 1) xs)) e a.0) (f.hears (omega arith) z _ e.1))
+      (λ z _ k e u. let a = settles ss f z (behind (stmt_of s) k) e.1 in (λ j ss' r. none_before q y (unwanted_normal k m (stmt_of s) (kept m (drop (n + 1) xs)) e a.0) (f.hears (omega arith) z _ e.1) a.0 r, a.1)));
 }
 
 -- none behind it fades
 pub step_stays : {m : ListKind} {n : ℕ} {xs : Declared} {b : Behind} (s : declared_stmt.Stmt) → n < length xs → s ≡ get_or xs n s → is_control_flow_break (stmt_of s) ≡ false → goes_by m b.is_quiet (stmt_of s) ≡ None → b.is_last && wanted m ≡ false → b.fading ≡ None → Step m n xs xs b (record { is_last = false; fading = None; is_quiet = false; has_changed = b.has_changed; is_bared = b.is_bared })
 step_stays {m = m} {n = n} {xs = xs} {b = b} s lt h q g w e =
-    step_kept s lt h q g (λ ss f z. (λ none. sym (ap (λ l. l && wanted m) (f.last ∙ ap is_nothing none)) ∙ w, f.settled z e (is_surely_unit (stmt_of s))))
+    step_kept s lt h q g (λ ss f z k n. (λ none. sym (ap (λ l. l && wanted m) (f.last ∙ ap is_nothing none)) ∙ w, f.settled z e k n (is_surely_unit (stmt_of s))))
 
 -- ---- the last one of a wanted list, which stays
 
@@ -155,15 +155,20 @@ last-kept m s ys w q = ap (λ z. closed_up (wanted m) (stmt s z)) q ∙ ap (λ z
 quiet-alone : (s : Stmt) → is_quiet s ≡ true → AreQuiet (stmt s no_stmts)
 quiet-alone s z = all_of (is_internally_pure s) (stmt_exports_nothing s) z (λ p q. (and_true (is_internally_pure s) ∙ p, and_true (stmt_exports_nothing s) ∙ q))
 
+-- so it is pure and surely unit
+unit_pure : (m : ListKind) (s : Stmt) → is_pure_unit m s ≡ true → is_pure_in m s && is_surely_unit s ≡ true
+unit_pure m s h = all_of (holds_nothing s && is_pure_in m s) (is_surely_unit s) h (λ p u. both (second (holds_nothing s) p) u)
+
 unit-fades : (m : ListKind) (s : Stmt) (x : Fading) → unit_fades m s ≡ Some x → fades_as x m s ≡ true
-unit-fades m s x h = only x (is_pure_in m s && is_surely_unit s) refl h where
-  only : (x : Fading) (b : Bool) → (is_pure_in m s && is_surely_unit s) ≡ b → (if b then Some fading_kind.LastUnit else None) ≡ Some x → fades_as x m s ≡ true
-  only fading_kind.LastUnit true e h = e
+unit-fades m s x h = only x (is_pure_unit m s) refl h where
+  only : (x : Fading) (b : Bool) → is_pure_unit m s ≡ b → (if b then Some fading_kind.LastUnit else None) ≡ Some x → fades_as x m s ≡ true
+  only fading_kind.LastUnit true e h = unit_pure m s e
   only fading_kind.LastReturn true e h = absurd cc
   only x false e h = none_some h
 
-pub step_last : {m : ListKind} {n : ℕ} {xs : Declared} {b : Behind} (s : declared_stmt.Stmt) → n < length xs → s ≡ get_or xs n s → is_control_flow_break (stmt_of s) ≡ false → b.is_last ≡ true → wanted m ≡ true → Step m n xs xs b (record { is_last = false; fading = unit_fades m (stmt_of s); is_quiet = is_quiet (stmt_of s); has_changed = b.has_changed; is_bared = b.is_bared })
-step_last {m = m} {n = n} {xs = xs} {b = b} s lt h q l w = record {
+-- nothing before it asks whether it is quiet
+pub step_last : {m : ListKind} {n : ℕ} {xs : Declared} {b : Behind} (s : declared_stmt.Stmt) (quiet : Bool) → (quiet ≡ true → is_quiet (stmt_of s) ≡ true) → (0 < n → quiet ≡ is_quiet (stmt_of s)) → n < length xs → s ≡ get_or xs n s → is_control_flow_break (stmt_of s) ≡ false → b.is_last ≡ true → wanted m ≡ true → Step m n xs xs b (record { is_last = false; fading = unit_fades m (stmt_of s); is_quiet = quiet; has_changed = b.has_changed; is_bared = b.is_bared })
+step_last {m = m} {n = n} {xs = xs} {b = b} s quiet a o lt h q l w = record {
   front = refl;
   long = lt;
   same = λ z. (z, refl);
@@ -173,12 +178,12 @@ step_last {m = m} {n = n} {xs = xs} {b = b} s lt h q l w = record {
       let nothing : kept m rest ≡ no_stmts = ap (closed_up (wanted m)) none in
       let here : kept m (drop n xs) ≡ stmt (stmt_of s) (kept m rest) = ap (kept m) (item xs n s lt h) ∙ last-kept m (stmt_of s) rest w none ∙ sym (ap (stmt (stmt_of s)) nothing) in
       let alone : stmt (stmt_of s) (kept m rest) ≡ stmt (stmt_of s) no_stmts = ap (stmt (stmt_of s)) nothing in
-      decided_as (headed-item xs n s ss lt h) here (decided_stays (unit_fades m (stmt_of s)) (is_quiet (stmt_of s)) f q
+      decided_as (headed-item xs n s ss lt h) here (decided_stays (unit_fades m (stmt_of s)) quiet f q
       (λ z. no (sym z ∙ l))
       (λ x z. (w, (stmt_of s, alone, unit-fades m (stmt_of s) x z)))
-      (λ z. subst AreQuiet (sym alone) (quiet-alone (stmt_of s) z))
-      (λ z. quiet_last (stmt_of s) (kept m rest))
-      (λ z e u. subst (AreSwept m u) (sym alone) (λ k ss' r. none_last q w e r, tt)));
+      (λ z. subst AreQuiet (sym alone) (quiet-alone (stmt_of s) (a z)))
+      (λ y z k e. subst (λ v. HearsQuiet m v (stmt (stmt_of s) (kept m rest))) (sym (o y)) (quiet_last (stmt_of s) (kept m rest)))
+      (λ z e k v u. subst (AreSwept m u) (sym alone) (λ j ss' r. none_last q w e v.0 r, tt)));
 }
 
 loud-acts : (s : Stmt) → is_quiet s ≡ false → is_noop s ≡ false
@@ -186,7 +191,7 @@ loud-acts Noop h = no (sym h)
 loud-acts _ h = refl
 
 loud : (m : ListKind) (s : Stmt) → fades_aloud m s ≡ true → (fades_as fading_kind.LastUnit m s ≡ true) × (is_noop s ≡ false)
-loud m s h = all_of (is_pure_in m s && is_surely_unit s) (not (is_quiet s)) h (λ p q. (p, loud-acts s (not-true-is (is_quiet s) q))) where
+loud m s h = all_of (is_pure_unit m s) (not (is_quiet s)) h (λ p q. (unit_pure m s p, loud-acts s (not-true-is (is_quiet s) q))) where
   not-true-is : (b : Bool) → not b ≡ true → b ≡ false
   not-true-is true h = no h
   not-true-is false h = refl
@@ -210,7 +215,7 @@ step_quiets {m = m} {n = n} {xs = xs} {new = new} {b = b} s lt h p l w q =
           ap (kept m) (drop-set xs n d lt)
           ∙ ap (λ z. closed_up (wanted m) (stmt z (stmts_of rest))) (stmt_of-Noop p.position)
           ∙ last-kept m Noop rest w none in
-          decided_as (headed-item xs n s ss lt h) marked (decided_quiets (subst (λ z. DecidedTo m b ss z) nothing f) w (loud m (stmt_of s) q).0 (loud m (stmt_of s) q).1);
+          decided_as (headed-item xs n s ss lt h) marked (decided_quiets (subst (λ z. DecidedTo m (n + 1) b ss z) nothing f) w (loud m (stmt_of s) q).0 (loud m (stmt_of s) q).1);
     })
 
 -- ---- one that leaves the list
@@ -257,7 +262,7 @@ step_leaves {m = m} {n = n} {xs = xs} {new = new} {b = b} s lt h e q r =
 
 -- ---- a last `return e`
 
-bares-at : {b : Behind} {ss rest : Stmts} (m : ListKind) (s : Stmt) → returns_value m s ≡ true → DecidedTo m b ss rest → DecidedTo m (record { is_last = false; fading = None; is_quiet = false; has_changed = true; is_bared = true }) (stmt s ss) (stmt (bared s) no_stmts)
+bares-at : {n : ℕ} {b : Behind} {ss rest : Stmts} (m : ListKind) (s : Stmt) → returns_value m s ≡ true → DecidedTo m (n + 1) b ss rest → DecidedTo m n (record { is_last = false; fading = None; is_quiet = false; has_changed = true; is_bared = true }) (stmt s ss) (stmt (bared s) no_stmts)
 bares-at Whole (Return false exported (an_expr e)) h f = decided_bares f
 bares-at Whole (Return false exported no_expr) h f = no h
 bares-at Whole (Return true exported e) h f = no h
@@ -290,7 +295,7 @@ step_bares {m = m} {n = n} {xs = xs} {new = new} {b = b} s x lt h e q r =
 
 -- ---- the one behind fades
 
-pub step_fades : {m : ListKind} {n : ℕ} {xs new : Declared} {b : Behind} (x : Fading) (s : declared_stmt.Stmt) → n < length xs → s ≡ get_or xs n s → new ≡ take (n + 1) xs → b.fading ≡ Some x → is_surely_unit (stmt_of s) ≡ true → is_pure (stmt_of s) ≡ false → Step m n xs new b (record { is_last = false; fading = None; is_quiet = false; has_changed = true; is_bared = false })
+pub step_fades : {m : ListKind} {n : ℕ} {xs new : Declared} {b : Behind} (x : Fading) (s : declared_stmt.Stmt) → n < length xs → s ≡ get_or xs n s → new ≡ take (n + 1) xs → b.fading ≡ Some x → is_surely_unit (stmt_of s) ≡ true → is_pure_by_itself (stmt_of s) ≡ false → Step m n xs new b (record { is_last = false; fading = None; is_quiet = false; has_changed = true; is_bared = false })
 step_fades {m = m} {n = n} {xs = xs} {new = new} {b = b} x s lt h e z u p =
     let after : Behind = record { is_last = false; fading = None; is_quiet = false; has_changed = true; is_bared = false } in
     subst (λ y. Step m n xs y b after) (sym e) (record {
@@ -324,7 +329,7 @@ noop-is _ h = no h
 -- a statement that may be something else than unit stays before a last `Noop`
 pub step_before_noop : {m : ListKind} {n : ℕ} {xs : Declared} {b : Behind} (x : Fading) (s t : declared_stmt.Stmt) → n < length xs → s ≡ get_or xs n s → t ≡ get_or xs (length xs - 1) t → b.fading ≡ Some x → is_noop (stmt_of t) ≡ true → is_surely_unit (stmt_of s) ≡ false → is_control_flow_break (stmt_of s) ≡ false → goes_by m b.is_quiet (stmt_of s) ≡ None → Step m n xs xs b (record { is_last = false; fading = None; is_quiet = false; has_changed = b.has_changed; is_bared = b.is_bared })
 step_before_noop {m = m} {n = n} {xs = xs} {b = b} x s t lt h i z y u q g =
-    step_kept s lt h q g (λ ss f _.
+    step_kept s lt h q g (λ ss f _ _ _.
     let w = (f.fading x z).0 in
     let t' = (f.fading x z).1.0 in
     let only : kept m (drop (n + 1) xs) ≡ stmt t' no_stmts = (f.fading x z).1.1 in
@@ -344,7 +349,7 @@ noop-kept m xs n t p w e =
     let place : drop n (set xs (length xs - 1) x) ≡ set ys k x = ap (λ v. drop n (set xs v x)) there ∙ drop-set-add n xs k x in
     ap (kept m) place ∙ ap (λ v. closed_up v (stmts_of (set ys k x))) w ∙ tail-put ys k t x count only ∙ ap (λ v. stmt v no_stmts) (stmt_of-Noop p)
 
-pub step_noop : {m : ListKind} {n : ℕ} {xs new : Declared} {b : Behind} (x : Fading) (s t : declared_stmt.Stmt) (p : Position) → n < length xs → s ≡ get_or xs n s → t ≡ get_or xs (length xs - 1) t → new ≡ set xs (length xs - 1) (noop_at p) → b.fading ≡ Some x → is_noop (stmt_of t) ≡ false → is_control_flow_break (stmt_of s) ≡ false → is_pure (stmt_of s) ≡ false → Step m n xs new b (record { is_last = false; fading = None; is_quiet = false; has_changed = true; is_bared = false })
+pub step_noop : {m : ListKind} {n : ℕ} {xs new : Declared} {b : Behind} (x : Fading) (s t : declared_stmt.Stmt) (p : Position) → n < length xs → s ≡ get_or xs n s → t ≡ get_or xs (length xs - 1) t → new ≡ set xs (length xs - 1) (noop_at p) → b.fading ≡ Some x → is_noop (stmt_of t) ≡ false → is_control_flow_break (stmt_of s) ≡ false → is_pure_by_itself (stmt_of s) ≡ false → Step m n xs new b (record { is_last = false; fading = None; is_quiet = false; has_changed = true; is_bared = false })
 step_noop {m = m} {n = n} {xs = xs} {new = new} {b = b} x s t p lt h i e z y q u =
     let after : Behind = record { is_last = false; fading = None; is_quiet = false; has_changed = true; is_bared = false } in
     let j = length xs - 1 in

@@ -1,6 +1,7 @@
 pub mod ByKind
 pub mod Closed
 pub mod Deciding
+pub mod Emptied
 pub mod Firing
 pub mod Idle
 pub mod Kept

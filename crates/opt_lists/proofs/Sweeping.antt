@@ -1,7 +1,7 @@
 -- What each decision of a sweep does to what is kept.
-use Rattle.std.proofs.Common.{◌≡◌, List, Bool, true, false, Option, Some, None, refl, sym, ◌∙◌, subst}
+use Rattle.std.proofs.Common.{◌≡◌, ◌<◌, ℕ, ◌+◌, List, Bool, true, false, Option, Some, None, refl, sym, ◌∙◌, subst}
 use Rattle.std.specs.Prelude.{◌&&◌, ◌||◌, not}
-use Rattle.theory_meaning.specs.Queries.{is_pure, is_internally_pure, is_noop, is_control_flow_break}
+use Rattle.theory_meaning.specs.Queries.{is_pure, is_noop, is_control_flow_break}
 use Rattle.theory_meaning.specs.Tree.{Expr, Variable, Stmt, Noop, Var, ExprStmt, BreakLoop, Return, no_expr, an_expr, Stmts, no_stmts, stmt}
 use Rattle.theory_rewriting.specs.Clear.{AreClear}
 use Rattle.theory_rewriting.specs.Known.{Known}
@@ -11,7 +11,7 @@ use Rattle.theory_rewriting.specs.Evals.{keeps_names}
 use Rattle.theory_rewriting.specs.Residue.{when}
 use Rattle.theory_rewriting.specs.Context.{Context, ListContext, behind, known_behind, ListKind, Whole, Inside, wanted, wanted_before}
 use Rattle.theory_rewriting.specs.Reducible.{is_idle, ends_in_return}
-use Rattle.theory_rewriting.specs.Normal.{AreSwept}
+use Rattle.theory_rewriting.specs.Normal.{AreNormalEach, AreSwept}
 use Rattle.theory_rewriting.specs.Rewriting.{RestTo, same_stmts, then_stmts, by_list_rule, in_tail}
 use Rattle.theory_rewriting.specs.Rules as rule
 use Rattle.theory_rewriting.specs.Rules.{is_pure_in, ListRule}
@@ -21,7 +21,7 @@ use Rattle.opt_lists.specs.declared.behind.Fading.{Fading}
 use Rattle.opt_lists.specs.declared.behind.Fading.TheVariants as fading_kind
 use Rattle.opt_lists.specs.declared.behind.Going.{Going}
 use Rattle.opt_lists.specs.declared.behind.Going.TheVariants as going_kind
-use Rattle.opt_lists.specs.Sweep.{is_lone, goes_as, returns_value, returns_nothing, fades_as, is_nothing, returns_at_end, keeps_none, keeps, skips, keeps_noop, keeps_bared, IsSwept, AreQuiet, HearsQuiet, FadesAlone, DecidedTo}
+use Rattle.opt_lists.specs.Sweep.{is_lone, holds_nothing, is_inside_by_itself, goes_as, returns_value, returns_nothing, fades_as, is_nothing, returns_at_end, keeps_none, keeps, skips, keeps_noop, keeps_bared, IsSwept, AreQuiet, HearsQuiet, FadesAlone, DecidedTo}
 
 pub no : {A : Type 0} → false ≡ true → A
 no h = absurd (let z : false ≡ true = h in cc)
@@ -32,6 +32,12 @@ none_some {B = B} {x = x} h = absurd (let z : None ≡ Some x = h in cc)
 pub all_of : {A : Type 0} (a b : Bool) → a && b ≡ true → (a ≡ true → b ≡ true → A) → A
 all_of true b h f = f refl h
 all_of false b h f = no h
+
+pub both : {a b : Bool} → a ≡ true → b ≡ true → a && b ≡ true
+both p q = λ i. p i && q i
+
+pub second : (a : Bool) {b : Bool} → a && b ≡ true → b ≡ true
+second a {b = b} h = all_of a b h (λ p q. q)
 
 -- ---- rules
 
@@ -44,7 +50,7 @@ goes_rule : {k : Context} {u : Bool} (g : Going) (m : ListKind) (b : Bool) (s : 
 goes_rule going_kind.Pure m b s rest w p h = rule.pure_goes w h
 goes_rule going_kind.Lone m b s rest w p h = lone_rule s rest w h
 goes_rule going_kind.PureInside Whole b s rest w p h = no h
-goes_rule going_kind.PureInside (Inside i) b s rest w p h = all_of b (is_internally_pure s) h (λ x q. rule.pure_inside_goes w q (p x).0 (p x).1)
+goes_rule going_kind.PureInside (Inside i) b s rest w p h = all_of b (is_inside_by_itself s) h (λ x q. rule.pure_inside_goes w (second (holds_nothing s) q) (p x).0 (p x).1)
 
 nothing_goes_rule : {k : Context} (m : ListKind) (t : Stmt) → returns_nothing m t ≡ true → ListRule k m true (stmt t no_stmts) no_stmts
 nothing_goes_rule Whole (Return false exported no_expr) h = rule.last_return_goes
@@ -71,10 +77,10 @@ noop_rule fading_kind.LastUnit m t h n = all_of (is_pure_in m t) _ h (λ p q. ru
 -- ---- derivations
 
 -- one more rule after a rewriting of those behind
-then_rule : {m : ListKind} {b : Behind} {s : Stmt} {ss rest new : Stmts} → DecidedTo m b ss rest → ((k : Context) (u : Bool) → ListRule k m u (stmt s rest) new) → (k : ListContext) (u d : Bool) → RestTo k m u d true (stmt s ss) new
+then_rule : {m : ListKind} {n : ℕ} {b : Behind} {s : Stmt} {ss rest new : Stmts} → DecidedTo m n b ss rest → ((k : Context) (u : Bool) → ListRule k m u (stmt s rest) new) → (k : ListContext) (u d : Bool) → RestTo k m u d true (stmt s ss) new
 then_rule {s = s} f r k u d = then_stmts (in_tail (f.to (behind s k) (is_surely_unit s) d)) (by_list_rule (r k.context u))
 
-behind_it : {m : ListKind} {b : Behind} {ss rest : Stmts} (s : Stmt) → DecidedTo m b ss rest → (k : ListContext) (u d : Bool) → RestTo k m u d (b.has_changed || d) (stmt s ss) (stmt s rest)
+behind_it : {m : ListKind} {n : ℕ} {b : Behind} {ss rest : Stmts} (s : Stmt) → DecidedTo m n b ss rest → (k : ListContext) (u d : Bool) → RestTo k m u d (b.has_changed || d) (stmt s ss) (stmt s rest)
 behind_it s f k u d = in_tail (f.to (behind s k) (is_surely_unit s) d)
 
 -- ---- what is left to decide in what is kept
@@ -129,7 +135,7 @@ swept_more m s (stmt t rest) h i z = record {
 
 -- ---- nothing yet
 
-pub decided_start : {m : ListKind} → DecidedTo m (record { is_last = true; fading = None; is_quiet = true; has_changed = false; is_bared = false }) no_stmts no_stmts
+pub decided_start : {m : ListKind} {n : ℕ} → DecidedTo m n (record { is_last = true; fading = None; is_quiet = true; has_changed = false; is_bared = false }) no_stmts no_stmts
 decided_start {m = m} = record {
   to = λ k u d. same_stmts;
   kept = keeps_none;
@@ -139,8 +145,8 @@ decided_start {m = m} = record {
   last = refl;
   fading = λ x h. none_some h;
   quiet = λ h. (refl, refl);
-  hears = λ z w e h. refl;
-  settled = λ z e u. tt;
+  hears = λ y z k j w e h. refl;
+  settled = λ z e k j u. tt;
 }
 
 -- ---- a statement that goes, since its value is not wanted
@@ -163,9 +169,9 @@ goes_clear : (g : Going) (m : ListKind) (b : Bool) (s : Stmt) (rest : Stmts) (ks
 goes_clear going_kind.Pure m b s rest ks p h c = subst (λ l. AreClear l rest) (pure_declares s ks h) (claimed (pure_keeps s h) c)
 goes_clear going_kind.Lone m b s rest ks p h c = subst (λ l. AreClear l rest) (lone_declares s ks h) (claimed (lone_keeps s h) c)
 goes_clear going_kind.PureInside Whole b s rest ks p h c = no h
-goes_clear going_kind.PureInside (Inside i) b s rest ks p h c = all_of b (is_internally_pure s) h (λ x q. pure_clear ks rest (p x).0)
+goes_clear going_kind.PureInside (Inside i) b s rest ks p h c = all_of b (is_inside_by_itself s) h (λ x q. pure_clear ks rest (p x).0)
 
-pub decided_goes : {m : ListKind} {b : Behind} {s : Stmt} {ss rest : Stmts} (g : Going) → DecidedTo m b ss rest → wanted_before (wanted m) rest ≡ false → goes_as g m b.is_quiet s ≡ true → DecidedTo m (record { is_last = b.is_last; fading = b.fading; is_quiet = b.is_quiet; has_changed = true; is_bared = b.is_bared }) (stmt s ss) rest
+pub decided_goes : {m : ListKind} {n : ℕ} {b : Behind} {s : Stmt} {ss rest : Stmts} (g : Going) → DecidedTo m (n + 1) b ss rest → wanted_before (wanted m) rest ≡ false → goes_as g m b.is_quiet s ≡ true → DecidedTo m n (record { is_last = b.is_last; fading = b.fading; is_quiet = b.is_quiet; has_changed = true; is_bared = b.is_bared }) (stmt s ss) rest
 decided_goes {m = m} {b = b} {s = s} {rest = rest} g f w h = record {
   to = then_rule f (λ k u. goes_rule g m b.is_quiet s rest w f.quiet h);
   kept = skips f.kept;
@@ -175,13 +181,13 @@ decided_goes {m = m} {b = b} {s = s} {rest = rest} g f w h = record {
   last = f.last;
   fading = f.fading;
   quiet = f.quiet;
-  hears = λ z. no (sym z);
+  hears = λ y z. no (sym z);
   settled = λ z. no (sym z);
 }
 
 -- ---- a statement that stays, and does not leave the list
 
-pub decided_stays : {m : ListKind} {b : Behind} {s : Stmt} {ss rest : Stmts} (fades : Option Fading) (quiet : Bool) → DecidedTo m b ss rest → is_control_flow_break s ≡ false → (b.is_last ≡ false → is_idle s ≡ false) → ((x : Fading) → fades ≡ Some x → FadesAlone m x (stmt s rest)) → (quiet ≡ true → AreQuiet (stmt s rest)) → (b.has_changed ≡ false → HearsQuiet m quiet (stmt s rest)) → (b.has_changed ≡ false → fades ≡ None → (u : Bool) → AreSwept m u (stmt s rest)) → DecidedTo m (record { is_last = false; fading = fades; is_quiet = quiet; has_changed = b.has_changed; is_bared = b.is_bared }) (stmt s ss) (stmt s rest)
+pub decided_stays : {m : ListKind} {n : ℕ} {b : Behind} {s : Stmt} {ss rest : Stmts} (fades : Option Fading) (quiet : Bool) → DecidedTo m (n + 1) b ss rest → is_control_flow_break s ≡ false → (b.is_last ≡ false → is_idle s ≡ false) → ((x : Fading) → fades ≡ Some x → FadesAlone m x (stmt s rest)) → (quiet ≡ true → AreQuiet (stmt s rest)) → (0 < n → b.has_changed ≡ false → (k : ListContext) → AreNormalEach k m (stmt s rest) → HearsQuiet m quiet (stmt s rest)) → (b.has_changed ≡ false → fades ≡ None → (k : ListContext) → AreNormalEach k m (stmt s rest) → (u : Bool) → AreSwept m u (stmt s rest)) → DecidedTo m n (record { is_last = false; fading = fades; is_quiet = quiet; has_changed = b.has_changed; is_bared = b.is_bared }) (stmt s ss) (stmt s rest)
 decided_stays {m = m} {b = b} {s = s} {rest = rest} fades quiet f h i g p o a = record {
   to = behind_it s f;
   kept = keeps f.kept;
@@ -205,7 +211,7 @@ leaves_to true l (stmt t rest) e h p = then_stmts p (by_list_rule (rule.after_le
 leaves_to false false (stmt t rest) e h p = then_stmts p (by_list_rule (rule.after_leave h))
 leaves_to false true (stmt t rest) e h p = no (sym e)
 
-pub decided_leaves : {m : ListKind} {b : Behind} {s : Stmt} {ss rest : Stmts} (fades : Option Fading) → DecidedTo m b ss rest → is_control_flow_break s ≡ true → returns_value m s ≡ false → ((x : Fading) → fades ≡ Some x → FadesAlone m x (stmt s no_stmts)) → HearsQuiet m false (stmt s no_stmts) → (fades ≡ None → (u : Bool) → AreSwept m u (stmt s no_stmts)) → DecidedTo m (record { is_last = false; fading = fades; is_quiet = false; has_changed = b.has_changed || not b.is_last; is_bared = false }) (stmt s ss) (stmt s no_stmts)
+pub decided_leaves : {m : ListKind} {n : ℕ} {b : Behind} {s : Stmt} {ss rest : Stmts} (fades : Option Fading) → DecidedTo m (n + 1) b ss rest → is_control_flow_break s ≡ true → returns_value m s ≡ false → ((x : Fading) → fades ≡ Some x → FadesAlone m x (stmt s no_stmts)) → HearsQuiet m false (stmt s no_stmts) → (fades ≡ None → (u : Bool) → AreSwept m u (stmt s no_stmts)) → DecidedTo m n (record { is_last = false; fading = fades; is_quiet = false; has_changed = b.has_changed || not b.is_last; is_bared = false }) (stmt s ss) (stmt s no_stmts)
 decided_leaves {m = m} {b = b} {s = s} {rest = rest} fades f h r g o a = record {
   to = λ k u d. leaves_to b.has_changed b.is_last rest f.last h (behind_it s f k u d);
   kept = keeps keeps_none;
@@ -215,8 +221,8 @@ decided_leaves {m = m} {b = b} {s = s} {rest = rest} fades f h r g o a = record 
   last = refl;
   fading = g;
   quiet = λ x. no x;
-  hears = λ z. o;
-  settled = λ z. a;
+  hears = λ y z k j. o;
+  settled = λ z e k j. a e;
 }
 
 -- a last `return e` becomes `e`
@@ -225,7 +231,7 @@ bares_to : {k : ListContext} {u d d1 exported : Bool} {e : Expr} {ss : Stmts} (r
 bares_to no_stmts p = then_stmts p (by_list_rule rule.last_return)
 bares_to (stmt t rest) p = then_stmts p (then_stmts (by_list_rule (rule.after_leave refl)) (by_list_rule rule.last_return))
 
-pub decided_bares : {b : Behind} {exported : Bool} {e : Expr} {ss rest : Stmts} → DecidedTo Whole b ss rest → DecidedTo Whole (record { is_last = false; fading = None; is_quiet = false; has_changed = true; is_bared = true }) (stmt (Return false exported (an_expr e)) ss) (stmt (ExprStmt e) no_stmts)
+pub decided_bares : {n : ℕ} {b : Behind} {exported : Bool} {e : Expr} {ss rest : Stmts} → DecidedTo Whole (n + 1) b ss rest → DecidedTo Whole n (record { is_last = false; fading = None; is_quiet = false; has_changed = true; is_bared = true }) (stmt (Return false exported (an_expr e)) ss) (stmt (ExprStmt e) no_stmts)
 decided_bares {b = b} {exported = exported} {e = e} {rest = rest} f = record {
   to = λ k u d. bares_to rest (behind_it (Return false exported (an_expr e)) f k u d);
   kept = keeps_bared;
@@ -235,7 +241,7 @@ decided_bares {b = b} {exported = exported} {e = e} {rest = rest} f = record {
   last = refl;
   fading = λ x h. none_some h;
   quiet = λ h. no h;
-  hears = λ z. no (sym z);
+  hears = λ y z. no (sym z);
   settled = λ z. no (sym z);
 }
 
@@ -248,7 +254,7 @@ pub noop_at : {k : Context} {v : Bool} {t : Stmt} {rest : Stmts} (x : Fading) (m
 noop_at {k = k} {v = v} {t = t} x m e h n = subst (λ y. ListRule k m v y (stmt Noop no_stmts)) (sym e) (noop_rule x m t h n)
 
 -- behind a statement that is surely unit it goes
-pub decided_fades : {m : ListKind} {b : Behind} {s : Stmt} {ss rest : Stmts} (x : Fading) → DecidedTo m b ss rest → b.fading ≡ Some x → is_surely_unit s ≡ true → DecidedTo m (record { is_last = false; fading = None; is_quiet = false; has_changed = true; is_bared = false }) (stmt s ss) (stmt s no_stmts)
+pub decided_fades : {m : ListKind} {n : ℕ} {b : Behind} {s : Stmt} {ss rest : Stmts} (x : Fading) → DecidedTo m (n + 1) b ss rest → b.fading ≡ Some x → is_surely_unit s ≡ true → DecidedTo m n (record { is_last = false; fading = None; is_quiet = false; has_changed = true; is_bared = false }) (stmt s ss) (stmt s no_stmts)
 decided_fades {m = m} {s = s} x f h q = record {
   to = λ k u d. then_stmts (behind_it s f k u d) (in_tail (by_list_rule (fades_at x m q (f.fading x h))));
   kept = keeps keeps_none;
@@ -258,12 +264,12 @@ decided_fades {m = m} {s = s} x f h q = record {
   last = refl;
   fading = λ x h. none_some h;
   quiet = λ h. no h;
-  hears = λ z. no (sym z);
+  hears = λ y z. no (sym z);
   settled = λ z. no (sym z);
 }
 
 -- behind another one it does nothing
-pub decided_noop : {m : ListKind} {b : Behind} {s t : Stmt} {ss rest : Stmts} (x : Fading) → DecidedTo m b ss rest → b.fading ≡ Some x → rest ≡ stmt t no_stmts → is_noop t ≡ false → is_control_flow_break s ≡ false → is_idle s ≡ false → DecidedTo m (record { is_last = false; fading = None; is_quiet = false; has_changed = true; is_bared = false }) (stmt s ss) (stmt s (stmt Noop no_stmts))
+pub decided_noop : {m : ListKind} {n : ℕ} {b : Behind} {s t : Stmt} {ss rest : Stmts} (x : Fading) → DecidedTo m (n + 1) b ss rest → b.fading ≡ Some x → rest ≡ stmt t no_stmts → is_noop t ≡ false → is_control_flow_break s ≡ false → is_idle s ≡ false → DecidedTo m n (record { is_last = false; fading = None; is_quiet = false; has_changed = true; is_bared = false }) (stmt s ss) (stmt s (stmt Noop no_stmts))
 decided_noop {m = m} {s = s} {t = t} x f h e n q i =
     let z = f.fading x h in
     let faded : fades_as x m t ≡ true = subst (λ y. fades_as x m y ≡ true) (let p = z.1.1 in cc) z.1.2 in
@@ -276,7 +282,7 @@ decided_noop {m = m} {s = s} {t = t} x f h e n q i =
       last = refl;
       fading = λ x h. none_some h;
       quiet = λ h. no h;
-      hears = λ z. no (sym z);
+      hears = λ y z. no (sym z);
       settled = λ z. no (sym z);
     }
 
@@ -286,7 +292,7 @@ noop-fades Whole fading_kind.LastUnit h = refl
 noop-fades (Inside b) fading_kind.LastUnit h = refl
 noop-fades m fading_kind.LastReturn h = absurd cc
 
-pub decided_quiets : {m : ListKind} {b : Behind} {s : Stmt} {ss : Stmts} → DecidedTo m b ss no_stmts → wanted m ≡ true → fades_as fading_kind.LastUnit m s ≡ true → is_noop s ≡ false → DecidedTo m (record { is_last = false; fading = Some fading_kind.LastUnit; is_quiet = true; has_changed = true; is_bared = false }) (stmt s ss) (stmt Noop no_stmts)
+pub decided_quiets : {m : ListKind} {n : ℕ} {b : Behind} {s : Stmt} {ss : Stmts} → DecidedTo m (n + 1) b ss no_stmts → wanted m ≡ true → fades_as fading_kind.LastUnit m s ≡ true → is_noop s ≡ false → DecidedTo m n (record { is_last = false; fading = Some fading_kind.LastUnit; is_quiet = true; has_changed = true; is_bared = false }) (stmt s ss) (stmt Noop no_stmts)
 decided_quiets {m = m} {s = s} f w h n = record {
   to = then_rule f (λ k u. noop_rule fading_kind.LastUnit m s h n);
   kept = keeps_noop;
@@ -296,12 +302,12 @@ decided_quiets {m = m} {s = s} f w h n = record {
   last = refl;
   fading = λ y e. (w, (Noop, refl, noop-fades m y e));
   quiet = λ z. (refl, refl);
-  hears = λ z. no (sym z);
+  hears = λ y z. no (sym z);
   settled = λ z. no (sym z);
 }
 
 -- at the start of a list it goes
-pub decided_ends : {m : ListKind} {b : Behind} {ss rest : Stmts} (x : Fading) → DecidedTo m b ss rest → b.fading ≡ Some x → (k : ListContext) (d : Bool) → RestTo k m true d true ss no_stmts
+pub decided_ends : {m : ListKind} {n : ℕ} {b : Behind} {ss rest : Stmts} (x : Fading) → DecidedTo m n b ss rest → b.fading ≡ Some x → (k : ListContext) (d : Bool) → RestTo k m true d true ss no_stmts
 decided_ends {m = m} x f h k d = then_stmts (f.to k true d) (by_list_rule (fades_at x m refl (f.fading x h)))
 
 pub swept_empty : (m : ListKind) → IsSwept m no_stmts

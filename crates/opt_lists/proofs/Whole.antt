@@ -11,7 +11,7 @@ use Rattle.theory_meaning.specs.Tree.{Stmts}
 use Rattle.ast_types.specs.Reading.{stmts_of}
 use Rattle.theory_rewriting.specs.Clear.{AreClear}
 use Rattle.theory_rewriting.specs.Context.{open_list, under, ListKind}
-use Rattle.theory_rewriting.specs.Normal.{AreSwept}
+use Rattle.theory_rewriting.specs.Normal.{AreNormalEach, AreSwept}
 use Rattle.theory_rewriting.specs.Rewriting.{RestTo, same_stmts}
 use Rattle.theory_rewriting.proofs.Flags.{stmts_kept}
 use Rattle.opt_lists.specs.declared.behind.Behind.{Behind}
@@ -103,7 +103,7 @@ sweeps_same {m = m} {old = old} {now = now} {b = b} p f h =
       bared = λ z. no (sym h ∙ p.decided.bared z);
       same = λ z. (e, refl);
       moved = λ z. no z;
-      settled = λ z. subst (AreSwept m true) back (p.decided.settled h f true);
+      settled = λ z k n. subst (AreSwept m true) back (p.decided.settled h f k (subst (AreNormalEach k m) (sym back) n) true);
     }
 
 pub sweeps_closed : {m : ListKind} {old now new : Declared} {b : Behind} (n : ℕ) → Decided m old now b → b.has_changed ≡ true → stmts_of new ≡ kept m now → n ≡ length new → Sweeps m old new (record { has_changed = true; is_bared = b.is_bared; moved = n })

@@ -7,7 +7,7 @@ use Rattle.theory_meaning.specs.Tree.{Stmts, stmt}
 use Rattle.ast_types.specs.Reading.{stmt_of, stmts_of}
 use Rattle.theory_rewriting.specs.Clear.{AreClear}
 use Rattle.theory_rewriting.specs.Known.{Known}
-use Rattle.theory_rewriting.specs.Normal.{AreSwept}
+use Rattle.theory_rewriting.specs.Normal.{AreNormalEach, AreSwept}
 use Rattle.theory_rewriting.specs.Context.{Context, ListContext, ListKind, wanted}
 use Rattle.theory_rewriting.specs.Rewriting.{RestTo}
 use Rattle.theory_rewriting.specs.Rules.{ListRule}
@@ -54,7 +54,7 @@ pub record Step (m : ListKind) (at : ℕ) (old new : Declared) (b b' : Behind) :
   pub front : take at new ≡ take at old
   pub long : at < length new
   pub same : b'.has_changed ≡ false → (b.has_changed ≡ false) × (new ≡ old)
-  pub to : (ss : Stmts) → DecidedTo m b ss (kept m (drop (at + 1) old)) → DecidedTo m b' (headed (drop at old) ss) (kept m (drop at new))
+  pub to : (ss : Stmts) → DecidedTo m (at + 1) b ss (kept m (drop (at + 1) old)) → DecidedTo m at b' (headed (drop at old) ss) (kept m (drop at new))
 
 -- a list has been decided down to a place
 pub record SoFar (m : ListKind) (at : ℕ) (all now : Declared) (b : Behind) : Type 0 where
@@ -62,16 +62,16 @@ pub record SoFar (m : ListKind) (at : ℕ) (all now : Declared) (b : Behind) : T
   pub long : at ≤ length now
   pub front : take at now ≡ take at all
   pub same : b.has_changed ≡ false → now ≡ all
-  pub decided : DecidedTo m b (stmts_of (drop at all)) (kept m (drop at now))
+  pub decided : DecidedTo m at b (stmts_of (drop at all)) (kept m (drop at now))
 
 -- the whole list has, and what goes is marked
 pub record Decided (m : ListKind) (old new : Declared) (b : Behind) : Type 0 where
   pub same : b.has_changed ≡ false → new ≡ old
-  pub decided : DecidedTo m b (stmts_of old) (kept m new)
+  pub decided : DecidedTo m 0 b (stmts_of old) (kept m new)
 
 -- what a sweep promises: a derivation in every context, that nothing is left of what it decides, which statements are kept, that no `if`
--- tests a known name where none did, and how many it moved; where it changes nothing, that no rule of lists applies but that by which a
--- block gives way
+-- tests a known name where none did, and how many it moved; where it changes nothing and each statement is in normal form, that no rule of
+-- lists applies but that by which a block gives way
 pub record Sweeps (m : ListKind) (old new : Declared) (s : Swept) : Type 0 where
   pub to : (k : ListContext) (d : Bool) → RestTo k m true d (s.has_changed || d) (stmts_of old) (stmts_of new)
   pub swept : IsSwept m (stmts_of new)
@@ -80,4 +80,4 @@ pub record Sweeps (m : ListKind) (old new : Declared) (s : Swept) : Type 0 where
   pub bared : s.is_bared ≡ true → s.has_changed ≡ true
   pub same : s.has_changed ≡ false → (new ≡ old) × (s.moved ≡ 0)
   pub moved : s.has_changed ≡ true → s.moved ≡ length new
-  pub settled : s.has_changed ≡ false → AreSwept m true (stmts_of new)
+  pub settled : s.has_changed ≡ false → (k : ListContext) → AreNormalEach k m (stmts_of new) → AreSwept m true (stmts_of new)

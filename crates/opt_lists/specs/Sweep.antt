@@ -1,11 +1,11 @@
 -- A sweep over a list of statements, from its end.
-use Rattle.std.specs.Prelude.{◌≡◌, List, Bool, true, false, cond, ◌&&◌, ◌||◌, not, Option, Some, None, if◌then◌else◌}
+use Rattle.std.specs.Prelude.{◌≡◌, ◌<◌, ℕ, List, Bool, true, false, cond, ◌&&◌, ◌||◌, not, Option, Some, None, if◌then◌else◌}
 use Rattle.theory_meaning.specs.Queries.{is_pure, is_internally_pure, are_internally_pure, is_noop}
-use Rattle.theory_meaning.specs.Tree.{Expr, Variable, BlockExpr, Stmt, Noop, While, Do, For, Var, Assignment, TryCatch, ExprStmt, Return, Import, Export, no_expr, an_expr, Stmts, no_stmts, stmt}
+use Rattle.theory_meaning.specs.Tree.{Expr, Variable, BlockExpr, Stmt, Noop, If, While, Do, For, Var, Assignment, Block, TryCatch, ExprStmt, Return, Import, Export, no_expr, an_expr, Stmts, no_stmts, stmt}
 use Rattle.theory_rewriting.specs.Clear.{AreClear}
 use Rattle.theory_rewriting.specs.Exports.{exports_nothing, stmt_exports_nothing}
 use Rattle.theory_rewriting.specs.Known.{Known}
-use Rattle.theory_rewriting.specs.Normal.{AreSwept}
+use Rattle.theory_rewriting.specs.Normal.{AreNormalEach, AreSwept}
 use Rattle.theory_rewriting.specs.Context.{ListContext, ListKind, Whole, Inside, wanted, wanted_before}
 use Rattle.theory_rewriting.specs.Reducible.{goes_on_after_leaving, idles, ends_in_return}
 use Rattle.theory_rewriting.specs.Rewriting.{RestTo}
@@ -18,6 +18,10 @@ use Rattle.opt_lists.specs.declared.behind.Going.{Going}
 use Rattle.opt_lists.specs.declared.behind.Going.TheVariants as going_kind
 
 -- ---- what a statement is by itself
+
+abbrev pub is_nothing : Stmts → Bool
+is_nothing no_stmts = true
+is_nothing (stmt s ss) = false
 
 abbrev pub is_name : Expr → Bool
 is_name (Variable ns x) = true
@@ -44,15 +48,31 @@ differs_inside (Export x y) = true
 differs_inside (ExprStmt e) = is_in_braces e
 differs_inside _ = false
 
+-- its lists are empty; that of a `while` is not asked, which is pure by its condition alone
+abbrev pub holds_nothing : Stmt → Bool
+holds_nothing (If e a b) = is_nothing a && is_nothing b
+holds_nothing (Do negated exported e b) = is_nothing b
+holds_nothing (For x i e b) = is_nothing b
+holds_nothing (Block ss) = is_nothing ss
+holds_nothing (TryCatch x a b) = is_nothing a && is_nothing b
+holds_nothing _ = true
+
+-- pure, as is told without going through a list in it: in normal form, where its value is not wanted, nothing else is pure
+abbrev pub is_pure_by_itself : Stmt → Bool
+is_pure_by_itself s = holds_nothing s && is_pure s
+
+abbrev pub is_inside_by_itself : Stmt → Bool
+is_inside_by_itself s = holds_nothing s && is_internally_pure s
+
 -- inside a list, before quiet ones (the first test)
 abbrev pub goes_inside : ListKind → Bool → Stmt → Bool
 goes_inside Whole b s = false
-goes_inside (Inside w) b s = b && is_internally_pure s
+goes_inside (Inside w) b s = b && is_inside_by_itself s
 
 -- by which rule it goes where its value is not wanted; the first test is whether all that follow are quiet
 abbrev pub goes_by : ListKind → Bool → Stmt → Option Going
 goes_by m b s =
-    if is_pure s then Some going_kind.Pure
+    if is_pure_by_itself s then Some going_kind.Pure
     else if is_lone s then Some going_kind.Lone
     else if goes_inside m b s then Some going_kind.PureInside
     else None
@@ -103,18 +123,18 @@ fades_as fading_kind.LastUnit m s = is_pure_in m s && is_surely_unit s
 abbrev pub return_fades : ListKind → Stmt → Option Fading
 return_fades m s = if returns_nothing m s then Some fading_kind.LastReturn else None
 
+-- pure in such a list and surely unit, as is told without going through a list in it
+abbrev pub is_pure_unit : ListKind → Stmt → Bool
+is_pure_unit m s = holds_nothing s && is_pure_in m s && is_surely_unit s
+
 abbrev pub unit_fades : ListKind → Stmt → Option Fading
-unit_fades m s = if is_pure_in m s && is_surely_unit s then Some fading_kind.LastUnit else None
+unit_fades m s = if is_pure_unit m s then Some fading_kind.LastUnit else None
 
 -- it fades by the second of these, and it exports or reads what is before it
 abbrev pub fades_aloud : ListKind → Stmt → Bool
-fades_aloud m s = is_pure_in m s && is_surely_unit s && not (is_quiet s)
+fades_aloud m s = is_pure_unit m s && not (is_quiet s)
 
 -- ---- what is kept of a list
-
-abbrev pub is_nothing : Stmts → Bool
-is_nothing no_stmts = true
-is_nothing (stmt s ss) = false
 
 -- of a script's or a function's list: the last statement returns an expression
 abbrev pub returns_at_end : ListKind → Stmts → Bool
@@ -143,13 +163,14 @@ AreQuiet ss = (are_internally_pure ss ≡ true) × (exports_nothing ss ≡ true)
 abbrev pub FadesAlone : ListKind → Fading → Stmts → Type 0
 FadesAlone m x rest = (wanted m ≡ true) × ((t : Stmt) × (rest ≡ stmt t no_stmts) × (fades_as x m t ≡ true))
 
--- the test says so where these statements are quiet, inside a list
+-- the test says so where these statements are quiet, inside a list; where nothing stands before them it is not asked
 abbrev pub HearsQuiet : ListKind → Bool → Stmts → Type 0
 HearsQuiet m quiet rest = (w : Bool) → m ≡ Inside w → AreQuiet rest → quiet ≡ true
 
--- these statements are decided, from their end: the rest of them is kept. Where nothing has changed, no rule of lists applies at one that is
--- kept but that by which a block gives way; one that fades is to be decided where it is known what stands before it
-pub record DecidedTo (m : ListKind) (b : Behind) (ss rest : Stmts) : Type 0 where
+-- these statements, from a place of a list on, are decided: the rest of them is kept. Where nothing has changed and each is in normal form, no
+-- rule of lists applies at one that is kept but that by which a block gives way; one that fades is to be decided where it is known what stands
+-- before it
+pub record DecidedTo (m : ListKind) (at : ℕ) (b : Behind) (ss rest : Stmts) : Type 0 where
   pub to : (k : ListContext) (u d : Bool) → RestTo k m u d (b.has_changed || d) ss rest
   pub kept : Keeps b.is_bared ss rest
   pub clear : b.is_bared ≡ false → (ks : List Known) → AreClear ks ss → AreClear ks rest
@@ -158,8 +179,8 @@ pub record DecidedTo (m : ListKind) (b : Behind) (ss rest : Stmts) : Type 0 wher
   pub last : b.is_last ≡ is_nothing rest
   pub fading : (x : Fading) → b.fading ≡ Some x → FadesAlone m x rest
   pub quiet : b.is_quiet ≡ true → AreQuiet rest
-  pub hears : b.has_changed ≡ false → HearsQuiet m b.is_quiet rest
-  pub settled : b.has_changed ≡ false → b.fading ≡ None → (u : Bool) → AreSwept m u rest
+  pub hears : 0 < at → b.has_changed ≡ false → (k : ListContext) → AreNormalEach k m rest → HearsQuiet m b.is_quiet rest
+  pub settled : b.has_changed ≡ false → b.fading ≡ None → (k : ListContext) → AreNormalEach k m rest → (u : Bool) → AreSwept m u rest
 
 -- ---- a list in which what goes is marked by a `Noop` whose value is not wanted
 

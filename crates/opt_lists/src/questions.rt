@@ -2,17 +2,15 @@
 
 #![tactic(auto, using(ast_types::specs::Reading::shapes))]
 
-ghost use Rattle.std.specs.Prelude.{◌≡◌, ◌&&◌, false};
-ghost use Rattle.theory_meaning.specs.Queries as queries;
-ghost use Rattle.ast_types.specs.Reading.{expr_of, stmt_of};
+ghost use Rattle.std.specs.Prelude.{◌≡◌, false};
+ghost use Rattle.ast_types.specs.Reading.{expr_of, stmt_of, stmts_of};
 ghost use Rattle.theory_rewriting.specs.Rules as rules;
-ghost use Rattle.theory_rewriting.specs.SurelyUnit as unit;
 ghost use Rattle.opt_lists.specs.Marks.{mark_of};
 ghost use Rattle.opt_lists.specs.Sweep as spec;
 
 use crate::behind::{Fading, Going};
 use crate::mark::ListMark;
-use ast_types::{Expr, Stmt};
+use ast_types::{Expr, Stmt, StmtBlock};
 use bitflags::Flags;
 use opt_queries::{exports_nothing, is_surely_unit};
 use rhai_ast::StmtQueries;
@@ -35,6 +33,37 @@ fn is_name(expr: &Expr) -> bool
         Expr::Variable(_, _, _) => true,
         _ => false,
     }
+}
+
+/// Has a block no statements?
+fn is_nothing(block: &StmtBlock) -> bool
+    ensures { result ≡ spec.is_nothing (stmts_of block.now.block) }
+{
+    block.is_empty()
+}
+
+/// Are its lists empty? That of a `while` is not asked, which is pure by its condition alone.
+fn holds_nothing(statement: &Stmt) -> bool
+    ensures { result ≡ spec.holds_nothing (stmt_of statement.now) }
+{
+    match statement {
+        Stmt::If(flow, _) | Stmt::TryCatch(flow, _) => {
+            let flow = flow.get();
+            is_nothing(&flow.body) && is_nothing(&flow.branch)
+        }
+        Stmt::Do(flow, _, _) => is_nothing(&flow.get().body),
+        Stmt::For(parts, _) => is_nothing(&parts.get().2.body),
+        Stmt::Block(block) => is_nothing(block.get()),
+        _ => true,
+    }
+}
+
+/// Is it pure, as is told without going through a list in it? In normal form, where its value is not wanted, nothing else
+/// is pure.
+fn is_pure_by_itself(statement: &Stmt) -> bool
+    ensures { result ≡ spec.is_pure_by_itself (stmt_of statement.now) }
+{
+    holds_nothing(statement) && statement.is_pure()
 }
 
 /// Is it pure in such a list? A list inside takes away the names that it adds.
@@ -74,10 +103,10 @@ fn is_in_braces(expr: &Expr) -> bool
     }
 }
 
-/// Is one that is not pure so inside a list? Its kind is asked first, so that most are not gone over again.
+/// Is one that is not pure by itself so inside a list? Its kind is asked first, so that most are not gone over again.
 fn is_pure_inside(statement: &Stmt) -> bool
-    requires { queries.is_pure (stmt_of statement.now) ≡ false }
-    ensures { result ≡ queries.is_internally_pure (stmt_of statement.now) }
+    requires { spec.is_pure_by_itself (stmt_of statement.now) ≡ false }
+    ensures { result ≡ spec.is_inside_by_itself (stmt_of statement.now) }
 {
     if !differs_inside(statement) {
         return false;
@@ -85,9 +114,9 @@ fn is_pure_inside(statement: &Stmt) -> bool
     statement.is_internally_pure()
 }
 
-/// Does one that is not pure go inside a list? The flag: all that follow are quiet.
+/// Does one that is not pure by itself go inside a list? The flag: all that follow are quiet.
 fn goes_inside(mark: ListMark, are_quiet: bool, statement: &Stmt) -> bool
-    requires { queries.is_pure (stmt_of statement.now) ≡ false }
+    requires { spec.is_pure_by_itself (stmt_of statement.now) ≡ false }
     ensures { result ≡ spec.goes_inside (mark_of mark) are_quiet (stmt_of statement.now) }
 {
     match mark {
@@ -100,7 +129,7 @@ fn goes_inside(mark: ListMark, are_quiet: bool, statement: &Stmt) -> bool
 pub(crate) fn goes_by(mark: ListMark, are_quiet: bool, statement: &Stmt) -> Option<Going>
     ensures { result ≡ spec.goes_by (mark_of mark) are_quiet (stmt_of statement.now) }
 {
-    if statement.is_pure() {
+    if is_pure_by_itself(statement) {
         return Some(Going::Pure);
     }
     if is_lone(statement) {
@@ -178,15 +207,15 @@ fn may_be_unit(statement: &Stmt) -> bool
     }
 }
 
-/// Is it pure in such a list, and surely unit? Its kind is asked first, so that most are not gone over.
+/// Is it pure in such a list, as is told without going through a list in it, and surely unit? Its kind is asked first, so
+/// that most are not gone over.
 fn is_pure_unit(mark: ListMark, statement: &Stmt) -> bool
-    ensures { result
-        ≡ rules.is_pure_in (mark_of mark) (stmt_of statement.now) && unit.is_surely_unit (stmt_of statement.now) }
+    ensures { result ≡ spec.is_pure_unit (mark_of mark) (stmt_of statement.now) }
 {
     if !may_be_unit(statement) {
         return false;
     }
-    is_pure_in(mark, statement) && is_surely_unit(statement)
+    holds_nothing(statement) && is_pure_in(mark, statement) && is_surely_unit(statement)
 }
 
 /// Does one go behind unit as the last one, and else do nothing, since it is pure and surely unit?

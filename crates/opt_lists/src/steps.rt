@@ -39,6 +39,17 @@ fn go(mark: ListMark, going: Going, list: &mut Seq<Stmt>, at: usize, behind: Beh
     }
 }
 
+/// Is it quiet? Where nothing stands before it that is not asked: a statement in others is asked once, not at each depth.
+fn is_heard_quiet(at: usize, statement: &Stmt) -> bool
+    ensures quiet { result ≡ true → spec.is_quiet (stmt_of statement.now) ≡ true }
+    ensures heard { 0 < at → result ≡ spec.is_quiet (stmt_of statement.now) }
+{
+    if at == 0 {
+        return false;
+    }
+    is_quiet(statement)
+}
+
 /// A statement stays, as the last one of a list whose value is wanted. One that exports and is unit does nothing at once,
 /// so that what is before it may go.
 fn keep_last(mark: ListMark, list: &mut Seq<Stmt>, at: usize, behind: Behind) -> Behind
@@ -62,7 +73,7 @@ fn keep_last(mark: ListMark, list: &mut Seq<Stmt>, at: usize, behind: Behind) ->
     Behind {
         is_last: false,
         fading: unit_fades(mark, statement),
-        is_quiet: is_quiet(statement),
+        is_quiet: is_heard_quiet(at, statement),
         has_changed: behind.has_changed,
         is_bared: behind.is_bared,
     }

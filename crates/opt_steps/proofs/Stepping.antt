@@ -25,7 +25,7 @@ pub expr_stays : {r : Engine} {p : Place} {s : Progress} {e : Expr} → IsReduce
 expr_stays h a u n = record { same = refl; state = refl; answers = a; reduced = λ g. h; unknown = u; settled = λ g. n }
 
 pub stmt_stays : {r : Engine} {s : Progress} {x : Stmt} → IsReducedNode r (OfStmt x) → NoStmtRule (here r s) x → StmtKept r s s x x
-stmt_stays h n = record { same = refl; state = refl; reduced = h; settled = n }
+stmt_stays h n = record { same = refl; state = refl; reduced = h; settled = λ w g. n }
 
 -- ---- what a rule made took a node's place
 

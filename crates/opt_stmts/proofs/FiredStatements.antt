@@ -2,11 +2,10 @@
 use Rattle.std.proofs.Common.{◌≡◌, Bool, true, false, Some, refl, sym, subst}
 use Rattle.theory_meaning.specs.Constants.{constant_bool}
 use Rattle.theory_meaning.specs.Engine.{Engine}
-use Rattle.theory_meaning.specs.Tree.{Expr, UnitConstant, Stmt, Noop, While, TryCatch, Stmts}
+use Rattle.theory_meaning.specs.Tree.{Expr, UnitConstant, Stmt, Noop, While, TryCatch, Stmts, no_stmts, stmt}
 use Rattle.theory_rewriting.specs.Rules as rule
 use Rattle.theory_rewriting.specs.Steps.{Progress, here, StmtRewrite}
 use Rattle.theory_rewriting.proofs.Keeping.{keeps_loop}
-use Rattle.opt_steps.proofs.Places.{not-false}
 use Rattle.opt_stmts.specs.Firing.{Fires}
 use Rattle.opt_stmts.proofs.FiredAssignments.{fires, gone}
 use Rattle.opt_stmts.specs.SettledStatements.{decided_loop, is_settled_try}
@@ -18,7 +17,8 @@ fires_by {r = r} {s = s} d k q = fires d k (q.rule (here r s)) (q.keeps refl)
 -- ---- `try`
 
 pub tried : {r : Engine} {w : Bool} {s s' : Progress} {x' : Stmt} (x : Stmt) → is_settled_try x ≡ false → s'.is_dirty ≡ true → s'.known ≡ s.known → x' ≡ Noop → Fires r w s s' x x'
-tried (TryCatch x a b) h d k i = gone d k i (rule.pure_try (not-false _ h))
+tried (TryCatch x no_stmts b) h d k i = gone d k i (rule.pure_try refl)
+tried (TryCatch x (stmt s a) b) h d k i = absurd cc
 tried _ h d k i = absurd cc
 
 -- ---- loops

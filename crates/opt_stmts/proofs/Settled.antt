@@ -5,33 +5,47 @@ use Rattle.rhai_base.specs.Operators.{Operator}
 use Rattle.rhai_base.specs.Value.{Text, Value, same_text}
 use Rattle.theory_meaning.specs.Constants.{constant_bool}
 use Rattle.theory_meaning.specs.Engine.{Engine, overrides_any, assigning}
-use Rattle.theory_meaning.specs.Queries.{are_internally_pure}
-use Rattle.theory_meaning.specs.Tree.{Callee, OfOperator, Expr, And, Stmt, If, While, Assignment, Block, TryCatch, ExprStmt, Share, Stmts}
-use Rattle.theory_rewriting.specs.Context.{Context, knowing}
+use Rattle.theory_meaning.specs.Queries.{is_internally_pure, are_internally_pure}
+use Rattle.theory_meaning.specs.Tree.{Callee, OfOperator, Expr, And, Stmt, If, While, Assignment, Block, TryCatch, ExprStmt, Share, Stmts, no_stmts, stmt}
+use Rattle.theory_rewriting.specs.Context.{Context, ListContext, Inside, open_list, behind, knowing}
 use Rattle.theory_rewriting.specs.Known.{Known, look, unless_known, unknown}
+use Rattle.theory_rewriting.specs.Normal.{IsNormal, StmtHasNormalParts}
 use Rattle.theory_rewriting.specs.Operands.{is_and, ends_false}
+use Rattle.theory_rewriting.specs.Rewriting.{RestTo, by_list_rule, in_tail}
 use Rattle.theory_rewriting.specs.Rules as rule
 use Rattle.theory_rewriting.specs.Rules.{StmtRule}
 use Rattle.theory_rewriting.specs.SelfAssign.{has_op_assignment, leaves_names}
 use Rattle.theory_rewriting.specs.Answering.{is_that}
 use Rattle.theory_rewriting.specs.Residue.{IsReducedNode}
+use Rattle.theory_rewriting.specs.SurelyUnit.{is_surely_unit}
 use Rattle.theory_rewriting.specs.Steps.{Progress, here, NoStmtRule, StmtKept}
 use Rattle.theory_meaning.specs.Walk.{OfStmt}
-use Rattle.opt_steps.proofs.Stepping.{stmt_stays}
 use Rattle.opt_steps.proofs.Places.{not-true}
 use Rattle.opt_stmts.specs.SettledAssignments.{knows_some, shares_nothing, has_form, is_open, is_settled_assignment}
-use Rattle.opt_stmts.specs.SettledChoices.{is_settled_if, goes_on, nests}
+use Rattle.opt_stmts.specs.SettledChoices.{is_empty, is_settled_if, goes_on, nests}
 use Rattle.opt_stmts.specs.SettledStatements.{are_settled, stays}
 use Rattle.opt_stmts.proofs.Choosing.{settled_if}
+
+first_of : (a b : Bool) → a && b ≡ true → a ≡ true
+first_of true b h = refl
+first_of false b h = h
+
+second_of : (a b : Bool) → a && b ≡ true → b ≡ true
+second_of true b h = h
+second_of false b h = absurd cc
 
 both : (a b : Bool) → a ≡ true → b ≡ true → a && b ≡ true
 both true b h i = i
 both false b h i = absurd cc
 
--- a statement that is spelled so stays
+-- a statement that is spelled so stays, where its parts are in normal form
+kept_if : {r : Engine} {s : Progress} {x x' : Stmt} (y : Stmt) → x ≡ y → x' ≡ x → IsReducedNode r (OfStmt y) → ((w : Bool) → StmtHasNormalParts (here r s) w y → NoStmtRule (here r s) y) → StmtKept r s s x x'
+kept_if {r = r} {s = s} {x = x} {x' = x'} y e i h n =
+    subst (λ a. StmtKept r s s x a) (sym i) (subst (λ a. StmtKept r s s a a) (sym e) (record { same = refl; state = refl; reduced = h; settled = n }))
+
+-- or whatever they are
 kept_as : {r : Engine} {s : Progress} {x x' : Stmt} (y : Stmt) → x ≡ y → x' ≡ x → IsReducedNode r (OfStmt y) → NoStmtRule (here r s) y → StmtKept r s s x x'
-kept_as {r = r} {s = s} {x = x} {x' = x'} y e i h n =
-    subst (λ a. StmtKept r s s x a) (sym i) (subst (λ a. StmtKept r s s a a) (sym e) (stmt_stays h n))
+kept_as y e i h n = kept_if y e i h (λ w g. n)
 
 -- and so does what is known
 pub kept_when : {r : Engine} {s s' : Progress} {x x' : Stmt} → s' ≡ s → StmtKept r s s x x' → StmtKept r s s' x x'
@@ -66,11 +80,26 @@ while_kept e b y i h = kept_as (While e b) y i (ap (is_that false) h) (λ w x' q
 
 -- ---- `try`
 
-try_rules : {k : Context} {w : Bool} {x' : Stmt} (x : Expr) (a b : Stmts) → not (are_internally_pure a) ≡ true → StmtRule k w (TryCatch x a b) x' → ⊥
-try_rules x a b h (rule.pure_try p) = let z : false ≡ true = ap not (sym p) ∙ h in cc
+-- what stands behind the first one is in normal form too
+tail_of : {s : Stmt} {ss ss' : Stmts} → stmt s ss' ≡ stmt s ss → ss' ≡ ss
+tail_of h = cc
 
-pub try_kept : {r : Engine} {s : Progress} {x x' : Stmt} (t : Expr) (a b : Stmts) → x ≡ TryCatch t a b → x' ≡ x → not (are_internally_pure a) ≡ true → StmtKept r s s x x'
-try_kept t a b y i h = kept_as (TryCatch t a b) y i tt (λ w x' q. try_rules t a b h q)
+-- of a list in normal form whose value is not wanted the last one would go if it were pure inside
+pure_body : (k : ListContext) (u : Bool) (ss : Stmts) → IsNormal (RestTo k (Inside false) u) ss → are_internally_pure ss ≡ true → is_empty ss ≡ true
+pure_body k u no_stmts n p = refl
+pure_body k u (stmt s no_stmts) n p =
+    let goes : RestTo k (Inside false) u false true (stmt s no_stmts) no_stmts = by_list_rule (rule.pure_inside_goes refl (first_of (is_internally_pure s) true p) refl refl) in
+    let z : no_stmts ≡ stmt s no_stmts = n false true no_stmts goes in
+    absurd cc
+pure_body k u (stmt s (stmt t ss)) n p =
+    let z : is_empty (stmt t ss) ≡ true = pure_body (behind s k) (is_surely_unit s) (stmt t ss) (λ d d' x r. tail_of (n d d' (stmt s x) (in_tail r))) (second_of (is_internally_pure s) (are_internally_pure (stmt t ss)) p) in
+    absurd cc
+
+try_rules : {k j : Context} {w : Bool} {x' : Stmt} (x : Expr) (a b : Stmts) → not (is_empty a) ≡ true → IsNormal (RestTo (open_list j) (Inside false) true) a → StmtRule k w (TryCatch x a b) x' → ⊥
+try_rules {j = j} x a b h n (rule.pure_try p) = let z : false ≡ true = ap not (sym (pure_body (open_list j) true a n p)) ∙ h in cc
+
+pub try_kept : {r : Engine} {s : Progress} {x x' : Stmt} (t : Expr) (a b : Stmts) → x ≡ TryCatch t a b → x' ≡ x → not (is_empty a) ≡ true → StmtKept r s s x x'
+try_kept t a b y i h = kept_if (TryCatch t a b) y i tt (λ v g w x' q. try_rules t a b h g.0 q)
 
 -- ---- an `if`
 

@@ -1,7 +1,7 @@
 -- Statements at which no rule fires, their parts being reduced.
 use Rattle.std.specs.Prelude.{Bool, true, false, not, ◌&&◌, cond, Option, None}
 use Rattle.theory_meaning.specs.Constants.{constant_bool}
-use Rattle.theory_meaning.specs.Queries.{are_internally_pure, is_block_dependent}
+use Rattle.theory_meaning.specs.Queries.{is_block_dependent}
 use Rattle.opt_stmts.specs.SettledChoices.{is_empty}
 use Rattle.opt_steps.specs.declared.step.NodeStep.{NodeStep}
 use Rattle.opt_steps.specs.declared.step.NodeStep.TheVariants as step
@@ -70,6 +70,7 @@ abbrev pub is_try : Stmt → Bool
 is_try (TryCatch x a b) = true
 is_try _ = false
 
+-- in normal form a body that is pure inside is empty
 abbrev pub is_settled_try : Stmt → Bool
-is_settled_try (TryCatch x a b) = not (are_internally_pure a)
+is_settled_try (TryCatch x a b) = not (is_empty a)
 is_settled_try _ = true

@@ -1,32 +1,21 @@
 //! The rule at a `try`.
 
-#![tactic(auto, using(ast_types::specs::Reading::shapes, ast_types::proofs::ItemLists::steps))]
+#![tactic(auto, using(ast_types::specs::Reading::shapes))]
 
 ghost use Rattle.std.specs.Prelude.{◌≡◌, true, false, Bool};
 ghost use Rattle.opt_known.specs.State.{progress};
 ghost use Rattle.theory_meaning.specs.Engine.{Engine};
-ghost use Rattle.theory_meaning.specs.Queries as queries;
-ghost use Rattle.ast_types.specs.Reading.{stmt_of, stmts_of};
+ghost use Rattle.ast_types.specs.Reading.{stmt_of};
 ghost use Rattle.opt_stmts.specs.Firing.{Fires, answer};
 ghost use Rattle.opt_stmts.specs.SettledStatements as settled;
 ghost use Rattle.opt_steps.specs.NodeSteps.{StmtStep};
 
+use crate::choice::is_empty;
 use opt_steps::{NodeStep, OptimizerState, put_nothing};
-use rhai_ast::{Stmt, StmtQueries};
+use rhai_ast::Stmt;
 
-/// Whether statements are all pure, but for names that their list takes away.
-fn are_internally_pure(statements: &[Stmt]) -> bool
-    ensures { result ≡ queries.are_internally_pure (stmts_of statements.now) }
-{
-    for statement in statements {
-        if !statement.is_internally_pure() {
-            return false;
-        }
-    }
-    true
-}
-
-/// A `try` over a body that is pure inside does nothing.
+/// A `try` over a body that is pure inside does nothing. Such a body is empty, once it is in normal form: what is in it
+/// went with its list.
 fn pure_try(state: &mut OptimizerState<'_>, statement: &mut Stmt)
     requires { settled.is_settled_try (stmt_of statement.now) ≡ false }
     ensures { (r : Engine) (w : Bool)
@@ -45,7 +34,7 @@ pub fn step_try(state: &mut OptimizerState<'_>, statement: &mut Stmt) -> NodeSte
 {
     match statement {
         Stmt::TryCatch(flow, _) => {
-            if !are_internally_pure(flow.get().body.statements()) {
+            if !is_empty(&flow.get().body) {
                 return NodeStep::Kept;
             }
             pure_try(state, statement);

@@ -126,4 +126,4 @@ pub table_rewritten : {s s1 s2 : Progress} {x x1 x2 : Stmt} → x1 ≡ x → s1 
 table_rewritten {s1 = s1} {s2 = s2} {x = x} {x2 = x2} h k q r w = subst (λ y. StmtStep step.Rewritten r w y s2 x x2) k (subst (λ y. StmtStep step.Rewritten r w s1 s2 y x2) h (q.0 r w, q.1))
 
 pub switch_kept : {s s1 s2 : Progress} {x x1 x2 : Stmt} → is_switch x ≡ true → choice_at x ≡ Several → x1 ≡ x → s1 ≡ s → TableStep IsSmall false s1 s2 x1 x2 → (r : Engine) (w : Bool) → StmtStep step.Kept r w s s2 x x2
-switch_kept {s = s} {x = x} i c h k q r w = record { same = q.0 ∙ h; state = q.1.0 ∙ k; reduced = undecided r x i c; settled = no_rule (here r s) x i c (subst IsSmall h q.1.1) }
+switch_kept {s = s} {x = x} i c h k q r w = record { same = q.0 ∙ h; state = q.1.0 ∙ k; reduced = undecided r x i c; settled = λ w g. no_rule (here r s) x i c (subst IsSmall h q.1.1) }

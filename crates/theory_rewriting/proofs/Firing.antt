@@ -143,7 +143,9 @@ stmt_kept {r = r} {w = w} {s = s} {s1 = s1} {x = x} {x1 = x1} {x2 = x2} f q =
       clear = λ i h. f.keeps.clear s.known h;
       lighter = λ i. absurd cc;
       known = f.known;
-      normal = λ i h. stmt_normal x1 (subst (StmtHasNormalParts (here r s) w) (flag.stmt_kept f.to i).1 h) (subst (λ ks. NoStmtRule (knowing r ks) x1) f.known q.settled);
+      normal = λ i h.
+          let g = subst (StmtHasNormalParts (here r s) w) (flag.stmt_kept f.to i).1 h in
+          stmt_normal x1 g (subst (λ ks. StmtHasNormalParts (knowing r ks) w x1 → NoStmtRule (knowing r ks) x1) f.known (q.settled w) g);
     } in
     subst (λ t. StmtReduced r w false s t x x2) (sym q.state) (subst (λ a. StmtReduced r w false s s1 x a) (sym q.same) z)
 

@@ -404,8 +404,9 @@ list_done {r = r} {m = m} {s = s} {s1 = s1} {ss2 = ss2} {ss3 = ss3} f p z =
       known = z.known ∙ p.known ∙ f.known;
       normal = λ h.
           let y = flag.stmts_kept (z.to (here r s)) h in
-          subst (IsNormal (RestTo (open_list (here r s)) m true)) y.1
-          (list_normal ss2 (knows (λ k. AreNormalEach (open_list k) m ss2) f.known (p.normal y.0)) (subst (AreSwept m true) (sym y.1) (z.settled h)) p.flat);
+          let each = knows (λ k. AreNormalEach (open_list k) m ss2) f.known (p.normal y.0) in
+          let swept = z.settled h (open_list (here r s)) (subst (AreNormalEach (open_list (here r s)) m) y.1 each) in
+          subst (IsNormal (RestTo (open_list (here r s)) m true)) y.1 (list_normal ss2 each (subst (AreSwept m true) (sym y.1) swept) p.flat);
     }
 
 -- ---- loops and names

@@ -210,7 +210,7 @@ pub record SweepRun (m : ListKind) (bared : Bool) (s s' : Progress) (ss ss' : St
   pub never_idles : idles ss' ≡ false
   pub returns_nothing : m ≡ Whole → ends_in_return ss' ≡ false
   pub lighter : bared ≡ true → weight ss' < weight ss
-  pub settled : s'.is_dirty ≡ false → AreSwept m true ss'
+  pub settled : s'.is_dirty ≡ false → (k : ListContext) → AreNormalEach k m ss' → AreSwept m true ss'
   pub known : s'.known ≡ s.known
 
 -- a list where names are variables that are forgotten behind it
@@ -390,7 +390,7 @@ pub record StmtKept (r : Engine) (s s' : Progress) (x x' : Stmt) : Type 0 where
   pub same : x' ≡ x
   pub state : s' ≡ s
   pub reduced : IsReducedNode r (OfStmt x)
-  pub settled : NoStmtRule (here r s) x
+  pub settled : (w : Bool) → StmtHasNormalParts (here r s) w x → NoStmtRule (here r s) x
 
 -- ---- what a rule makes of a node, wherever that stands
 
