@@ -1,8 +1,10 @@
 -- A list that is rewritten in its own memory, an item at a time: the first n are done, the others are to come.
-use Rattle.std.proofs.Common.{◌≡◌, ◌<◌, ◌≤◌, ℕ, ◌+◌, Bool, true, false, ◌||◌, List, [], ◌∷◌, ◌++◌, length, get_or, set, take, drop, refl, sym, ap, ◌∙◌, subst, arith, append_assoc, append-nil}
-use Rattle.std.proofs.lemmas.List.{drop_more, drop_all, take_all, take_more_set, drop-set-lt, length-set}
+use Rattle.std.proofs.Common.{◌≡◌, ◌<◌, ◌≤◌, ℕ, suc, ◌+◌, Bool, true, false, ◌&&◌, ◌||◌, List, [], ◌∷◌, ◌++◌, length, get_or, set, take, drop, refl, sym, ap, ◌∙◌, subst, arith, append_assoc, append-nil}
+use Rattle.std.proofs.lemmas.List.{drop_more, drop_all, take_all, take_more_set, drop-set-lt, get_or-set_same, length-set}
 use Rattle.ast_types.specs.declared.expr.Expr as declared_expr
 use Rattle.ast_types.specs.declared.stmt.Stmt as declared_stmt
+use Rattle.ast_types.specs.declared.stmt.Stmt.TheVariants.{Noop as noop_at}
+use Rattle.ast_types.specs.Defaults.{nowhere}
 use Rattle.theory_meaning.specs.Engine.{Engine}
 use Rattle.ast_types.specs.Reading.{expr_of, exprs_of, pairs_of, arms_of, stmt_of, stmts_of}
 use Rattle.ast_types.specs.declared.expr.BinaryExpr.{BinaryExpr}
@@ -14,7 +16,8 @@ use Rattle.theory_meaning.specs.Walk.{total, over_pairs}
 use Rattle.theory_rewriting.specs.Context.{ListContext, ListKind, wanted, wanted_before}
 use Rattle.theory_rewriting.specs.Rewriting.{RestTo, same_stmts}
 use Rattle.theory_rewriting.specs.Steps.{Progress, Anywhere, ExprRun, ExprsRun, PairsRun, ArmRun, ArmsRun, EachRun, UnknownRun}
-use Rattle.opt_reducer.specs.Going.{Going, going, item_goes, ItemGoes}
+use Rattle.theory_rewriting.specs.Evals.{keeps_names}
+use Rattle.opt_reducer.specs.Going.{Going, going, known_at, item_goes, ItemGoes}
 use Rattle.theory_rewriting.proofs.Running.{exprs_none_run, exprs_more_run, pairs_none_run, pairs_more_run, arms_none_run, arms_more_run, each_more_run, each_ends_run, unknown_none_run, unknown_more_run, beside}
 use Rattle.theory_meaning.specs.Weight.{own_weight, expr_weight, exprs_weight, stmt_weight, weight}
 
@@ -182,3 +185,16 @@ stmts_by r m = record {
 pub record EachUpTo (r : Engine) (m : ListKind) (s u : Progress) (g : Going) (all here : List declared_stmt.Stmt) (n : ℕ) : Type 0 where
   pub fresh : IsFresh u
   pub to : UpTo stmts_weigh (StmtItems r m) (going true s u) g all here n
+
+known_behind_it : (b : Bool) (here : List declared_stmt.Stmt) (n : ℕ) (y : declared_stmt.Stmt) → n < length here → known_at b (set here n y) (n + 1) ≡ b && keeps_names (stmt_of y)
+known_behind_it b here n y lt =
+    let next : n + 1 ≡ suc n = omega arith in
+    ap (known_at b (set here n y)) next ∙ ap (λ x. b && keeps_names (stmt_of x)) (get_or-set_same here n y (noop_at nowhere) lt)
+
+-- one more is done
+pub each_next : {r : Engine} {m : ListKind} {s u s1 u1 s2 u2 : Progress} {all here : List declared_stmt.Stmt} {n : ℕ} {w known : Bool} {x : declared_stmt.Stmt} (b : Bool) (y : declared_stmt.Stmt) → n < length here → known ≡ known_at b here n → EachUpTo r m s u (going (known_at b here n) s1 u1) all here n → x ≡ get_or here n x → w ≡ wanted_before (wanted m) (stmts_of (drop (n + 1) here)) → ItemGoes r w (going known s1 u1) (going (known && keeps_names (stmt_of y)) s2 u2) (stmt_of x) (stmt_of y) → EachUpTo r m s u (going (known_at known (set here n y) (n + 1)) s2 u2) all (set here n y) (n + 1)
+each_next {r = r} {m = m} {s = s} {u = u} {s1 = s1} {u1 = u1} {s2 = s2} {u2 = u2} {all = all} {here = here} {n = n} {w = w} {known = known} {x = x} b y lt k p h v i =
+    let after : Going = going (known && keeps_names (stmt_of y)) s2 u2 in
+    let now : ItemGoes r w (going (known_at b here n) s1 u1) after (stmt_of x) (stmt_of y) = subst (λ z. ItemGoes r w (going z s1 u1) after (stmt_of x) (stmt_of y)) k i in
+    subst (λ z. EachUpTo r m s u (going z s2 u2) all (set here n y) (n + 1)) (sym (known_behind_it known here n y lt))
+    (record { fresh = p.fresh; to = up_next y (stmts_by r m) p.to (omega (arith, lt, p.to.len)) h (stmt_item v now) })

@@ -1,5 +1,9 @@
 -- A list while it is gone over: under the names known, and behind a call of `eval` under none.
-use Rattle.std.specs.Prelude.{◌≡◌, Bool, true, false}
+use Rattle.std.specs.Prelude.{◌≡◌, ℕ, zero, suc, Bool, true, false, ◌&&◌, List, slice_index_or}
+use Rattle.ast_types.specs.Defaults.{nowhere}
+use Rattle.ast_types.specs.declared.stmt.Stmt as declared_stmt
+use Rattle.ast_types.specs.declared.stmt.Stmt.TheVariants.{Noop as noop_at}
+use Rattle.ast_types.specs.Reading.{stmt_of}
 use Rattle.theory_meaning.specs.Engine.{Engine}
 use Rattle.theory_meaning.specs.Tree.{Stmt}
 use Rattle.theory_rewriting.specs.Evals.{keeps_names}
@@ -13,6 +17,11 @@ pub record Going : Type 0 where
 
 abbrev pub going : Bool → Progress → Progress → Going
 going b s u = record { are_known = b; state = s; unknown = u }
+
+-- whether names are known at a place: they were at the one before, and its statement calls no `eval`
+abbrev pub known_at : Bool → List declared_stmt.Stmt → ℕ → Bool
+known_at b xs zero = b
+known_at b xs (suc n) = b && keeps_names (stmt_of (slice_index_or xs n (noop_at nowhere)))
 
 -- a statement of the list
 abbrev pub item_goes : Bool → Engine → Bool → Going → Going → Stmt → Stmt → Type 0

@@ -2,7 +2,7 @@
 
 #![tactic(auto, using(ast_types::specs::Reading::shapes))]
 
-ghost use Rattle.std.specs.Prelude.{◌≡◌, Bool, IfOk, IsTrue, OnOk, true, false};
+ghost use Rattle.std.specs.Prelude.{◌≡◌, ◌&&◌, Bool, IfOk, IsTrue, OnOk, true, false};
 ghost use Rattle.opt_known.specs.State.{progress};
 ghost use Rattle.ast_types.specs.Reading.{arms_of, breaks, callee_of, cases_of, counter_of, expr_of, expressions_of, exprs_of, maybe_of, pairs_of, stmt_of, stmts_of, subject_of, table_of};
 ghost use Rattle.theory_meaning.specs.Shape.{catch_name};
@@ -13,12 +13,13 @@ ghost use Rattle.opt_reducer.specs.Parts.{StmtOnce, record_of};
 ghost use Rattle.opt_steps.specs.Places.{place_of};
 ghost use Rattle.rhai_ast.specs.Nodes.{is_dot};
 ghost use Rattle.theory_rewriting.specs.Context.{Inside};
+ghost use Rattle.theory_rewriting.specs.Evals.{keeps_names};
 ghost use Rattle.theory_rewriting.specs.Steps.{Anywhere, ExprRun, ExprsRun, PairsRun, MaybeRun, SidesRun, LinkRun, StepsRun, ArgumentRun, TargetRun, LoopRun, ArmRun, ArmsRun, SubjectRun, HasReducedSubject, ForRun, AssignRun, TryRun, is_chain_node, ExprPartsRun, StmtRun, StmtPartsRun, EachRun, ListRun, StmtsRun};
 
 use crate::blocks::flatten;
 use crate::leaf::is_leaf;
 use crate::lists::{note, sweep_before, sweep_list};
-use crate::names::{declare, keeps_names, push_catch_name, push_loop_names};
+use crate::names::{are_known_at, declare, push_catch_name, push_loop_names};
 use base_engine::EngineInfo;
 use bitflags::Flags;
 use opt_lists::{ListMark, is_wanted_at};
@@ -683,8 +684,7 @@ impl<'a> Optimizer<'a> {
         self.block(state, &mut flow.branch, is_wanted)
     }
 
-    /// A statement of a list, and then what it declares; behind a call of `eval` it is gone over where no name is
-    /// known. Whether names are known behind it.
+    /// A statement of a list, and then what it declares; behind a call of `eval` it is gone over where no name is known.
     #[cycle(optimize)]
     fn item(
         &self,
@@ -693,19 +693,19 @@ impl<'a> Optimizer<'a> {
         are_known: bool,
         statement: &mut Stmt,
         is_wanted: bool,
-    ) -> Result<bool, OutOfMemory>
-        ensures { IfOk result (λ known.
-            ItemGoes (record_of self.now) is_wanted (going are_known (progress state.old) (progress unknown.old))
-            (going known (progress state.new) (progress unknown.new)) (stmt_of statement.old)
-            (stmt_of statement.new)) }
+    ) -> Result<(), OutOfMemory>
+        ensures { OnOk result
+            (ItemGoes (record_of self.now) is_wanted (going are_known (progress state.old) (progress unknown.old))
+            (going (are_known && keeps_names (stmt_of statement.new)) (progress state.new) (progress unknown.new))
+            (stmt_of statement.old) (stmt_of statement.new)) }
     {
         if !are_known {
             self.stmt(unknown, statement, is_wanted)?;
-            return Ok(false);
+            return Ok(());
         }
         self.stmt(state, statement, is_wanted)?;
         declare(self.alloc, state, statement)?;
-        Ok(keeps_names(statement))
+        Ok(())
     }
 
     /// Each statement of a list once, in their order.
@@ -724,11 +724,12 @@ impl<'a> Optimizer<'a> {
         let mut are_known = true;
         for at in 0..statements.len() {
             let is_wanted = is_wanted_at(mark.is_wanted(), statements.as_slice(), at);
+            are_known = are_known_at(are_known, statements.as_slice(), at);
             let Some(statement) = statements.get_mut(at) else {
                 // it is below the length, which does not change
                 unreachable!()
             };
-            are_known = self.item(state, &mut unknown, are_known, statement, is_wanted)?;
+            self.item(state, &mut unknown, are_known, statement, is_wanted)?;
         }
         note(state, unknown.is_dirty());
         Ok(())

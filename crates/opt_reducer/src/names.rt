@@ -2,7 +2,7 @@
 
 #![tactic(auto, using(ast_types::specs::Reading::shapes))]
 
-ghost use Rattle.std.specs.Prelude.{◌≡◌, ◌∷◌, ◌++◌, IfOk, OnOk};
+ghost use Rattle.std.specs.Prelude.{◌≡◌, ◌≤◌, ◌∷◌, ◌++◌, length, IfOk, OnOk};
 ghost use Rattle.std.specs.Cow.{cow_value};
 ghost use Rattle.std.specs.Option.{option_map};
 ghost use Rattle.rhai_base.specs.Reading.{value_of};
@@ -11,6 +11,7 @@ ghost use Rattle.opt_known.specs.State.{progress};
 ghost use Rattle.ast_types.specs.Reading.{counter_of, expr_of, is_const, stmt_of};
 ghost use Rattle.theory_meaning.specs.Shape.{catch_name};
 ghost use Rattle.theory_rewriting.specs.Steps.{variable, loop_front, catch_front};
+ghost use Rattle.opt_reducer.specs.Going.{known_at};
 ghost use Rattle.opt_reducer.specs.Parts.{declared_value};
 ghost use Rattle.theory_rewriting.specs.Context.{known_behind};
 ghost use Rattle.theory_rewriting.specs.Evals as evals;
@@ -85,10 +86,22 @@ pub(crate) fn declare(
 }
 
 /// Do names stay known behind a statement? Behind a call of `eval` they do not.
-pub(crate) fn keeps_names(statement: &Stmt) -> bool
+fn keeps_names(statement: &Stmt) -> bool
     ensures { result ≡ evals.keeps_names (stmt_of statement.now) }
 {
     calls_no_eval(statement) || statement.is_pure()
+}
+
+/// Are names known at a place of a list? They were at the one before, whose statement is asked here: the last one of a list
+/// never is, so that conditions which are joined are not gone over at each depth.
+pub(crate) fn are_known_at(are_known: bool, statements: &[Stmt], at: usize) -> bool
+    requires { at ≤ length statements.now }
+    ensures { result ≡ known_at are_known statements.now at }
+{
+    if at == 0 {
+        return are_known;
+    }
+    are_known && keeps_names(&statements[at - 1])
 }
 
 /// Notes a name of which nothing is known.

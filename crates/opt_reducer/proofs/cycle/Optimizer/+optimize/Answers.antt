@@ -1,4 +1,4 @@
-use Rattle.std.proofs.Common.{rules, ◌||◌, List, Option, refl, sym, ap, ◌∙◌, subst, arith}
+use Rattle.std.proofs.Common.{◌≡◌, ◌<◌, rules, ◌||◌, List, length, Option, refl, sym, ap, ◌∙◌, subst, arith}
 use Rattle.std.proofs.lemmas.Result.{on_ok_weaker}
 use Rattle.std.specs.declared.num.NonZeroUsize.{NonZeroUsize}
 use Rattle.opt_known.specs.State.{progress}
@@ -22,7 +22,7 @@ use Rattle.opt_reducer.proofs.Flattening.{flat_pass}
 use Rattle.opt_reducer.proofs.Parts.{expr_as, stmt_as, table_written, for_as, maybe_from, maybe_same, sides_dot_at, sides_index_at, link_dot_at, link_index_at, steps_as, argument_spelled, target_as, no_chain, no_method, expr_stays, stmt_stays, counted, forgotten, subject_written, arms_written, subject_kept, subject_none, arms_kept, condition_kept, open_still, undecided, once_by, once_done}
 use Rattle.theory_rewriting.specs.Steps.{HasReducedSubject}
 use Rattle.opt_reducer.specs.Parts.{record_of}
-use Rattle.opt_reducer.proofs.UpTo.{up_next, up_end, exprs_by, pairs_by, arms_by, stmts_by, stmt_item}
+use Rattle.opt_reducer.proofs.UpTo.{up_next, up_end, exprs_by, pairs_by, arms_by, stmts_by, each_next}
 use Rattle.opt_reducer.proofs.cycle.Optimizer.+optimize.Goals as goal
 
 -- an expression
@@ -312,14 +312,12 @@ pub item-returns-then-not-are_known : goal.item-returns-then-not-are_known
 item-returns-then-not-are_known t c = rw c.if-not-are_known.true ((refl, refl), c.in_ok-stmt.ensures)
 
 pub item-returns : goal.item-returns
-item-returns t c = rw c.if-not-are_known.false ((c.keeps_names.ensures, refl), item_run c.in_ok-stmt-2.ensures c.in_ok-declare.ensures.0 c.in_ok-declare.ensures.1)
+item-returns t c = rw c.if-not-are_known.false ((refl, refl), item_run c.in_ok-stmt-2.ensures c.in_ok-declare.ensures.0 c.in_ok-declare.ensures.1)
 
 pub each-loop-at-preserved : goal.each-loop-at-preserved
 each-loop-at-preserved t c =
-    record {
-      fresh = c.loop-at.invariant.fresh;
-      to = up_next c.item.new.statement (stmts_by _ _) c.loop-at.invariant.to (omega (arith, c.len-at-end.ensures, c.loop-at-test.true)) c.in-Some.ensures.value.1 (stmt_item (rw (c.is_wanted.ensures, c.as_slice.ensures) at c.is_wanted_at-is_wanted.ensures) c.in_ok-are_known.ensures);
-    }
+    let lt : c.loop-at.at < length c.loop-at.statements = omega (arith, c.len-at-end.ensures, c.loop-at-test.true, c.loop-at.invariant.to.len) in
+    each_next c.loop-at.are_known c.item.new.statement lt (rw c.as_slice-in-loop-at.ensures at c.are_known_at-are_known.ensures) c.loop-at.invariant c.in-Some.ensures.value.1 (rw (c.is_wanted.ensures, c.as_slice.ensures) at c.is_wanted_at-is_wanted.ensures) c.in_ok-item.ensures
 
 pub each-returns : goal.each-returns
 each-returns t c =

@@ -8,7 +8,7 @@ use Rattle.opt_reducer.specs.Parts.{record_of}
 use Rattle.theory_rewriting.specs.Steps.{StmtPassed, ListPassed}
 use Rattle.theory_meaning.specs.Weight.{own_weight, expr_weight, exprs_weight, stmt_weight, weight}
 use Rattle.opt_reducer.proofs.UpTo.{UpTo, exprs_weigh, ExprItems, pairs_weigh, PairItems, arms_weigh, ArmItems, EachUpTo}
-use Rattle.opt_reducer.specs.Going.{going}
+use Rattle.opt_reducer.specs.Going.{going, known_at}
 use Rattle.opt_reducer.proofs.cycle.Optimizer.+optimize.Given as goal
 
 abbrev pub decreases-expr : goal.decreases-expr
@@ -147,7 +147,7 @@ abbrev pub decreases-stmt-loop : goal.decreases-stmt-loop
 decreases-stmt-loop l = stmt_weight (stmt_of l.statement)
 
 abbrev pub invariant-each-loop-at : goal.invariant-each-loop-at
-invariant-each-loop-at l = EachUpTo (record_of l.self) (mark_of l.mark) (progress l.initial.state) (progress l.initial.unknown) (going l.are_known (progress l.state) (progress l.unknown)) l.initial.statements l.statements l.at
+invariant-each-loop-at l = EachUpTo (record_of l.self) (mark_of l.mark) (progress l.initial.state) (progress l.initial.unknown) (going (known_at l.are_known l.statements l.at) (progress l.state) (progress l.unknown)) l.initial.statements l.statements l.at
 
 abbrev pub invariant-stmt_block-loop-state : goal.invariant-stmt_block-loop-state
 invariant-stmt_block-loop-state l = ListPassed (record_of l.self) (mark_of l.mark) (progress l.fn.state) (progress l.state) (stmts_of l.fn.statements) (stmts_of l.statements)
