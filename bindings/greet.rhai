@@ -1,13 +1,15 @@
 //! Greets whoever is there.
 const DEBUG = false;
 const PREFIX = "hello, ";
-for name in ["world", "moon"] {
-    print("hello, " + greeting(name));
-}
+
 /// What is said to one of them.
 fn greeting(name) {
     if name == "" {
         return "hello?";
     }
-    "to " + name;
+    "to " + name
+}
+
+for name in ["world", "moon"] {
+    print("hello, " + greeting(name));
 }

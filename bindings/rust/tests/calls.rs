@@ -117,7 +117,7 @@ fn a_run_is_reported() {
 #[test]
 fn scripts_are_merged() {
     let made = merge("fn f() { 1 }\nprint(f());", "fn f() { 2 }\nprint(3);").unwrap();
-    assert_eq!(made, "print(f());\nprint(3);\nfn f() {\n    2;\n}\n");
+    assert_eq!(made, "fn f() {\n    2\n}\n\nprint(f());\nprint(3);\n");
 }
 
 #[test]

@@ -141,6 +141,7 @@ pub(crate) fn unbounded() -> ParseOptions {
         max_expr_depth: 0,
         max_function_expr_depth: 0,
         max_string_size: 0,
+        first_closure: 1,
     }
 }
 

@@ -4,7 +4,7 @@ use Rattle.std.specs.Prelude.{ℤ, pos, negsuc, codes}
 use Rattle.std.specs.Char.{encode_utf8}
 use Rattle.std.specs.Fmt.{signed_decimal, digits, digits_onto, digit_glyph}
 use Rattle.std.proofs.lemmas.List.{length-append}
-use Rattle.rhai_base.specs.Value.{Text, Value, UnitV, BoolV, IntV, CharV, TextV, ArrayV, MapV, PointerV, RangeV, RangeInclusiveV, text_of, inner}
+use Rattle.rhai_base.specs.Value.{Text, Value, UnitV, BoolV, IntV, CharV, TextV, ArrayV, MapV, PointerV, RangeV, RangeInclusiveV, text_of, form}
 use Rattle.theory_meaning.specs.Constants.{constant_value, constant_values, constant_entries, array_value, map_value, joined_value}
 use Rattle.theory_meaning.specs.Control.{texts_joined}
 use Rattle.theory_meaning.specs.Tree.{Expr, DynamicConstant, BoolConstant, IntegerConstant, CharConstant, StringConstant, UnitConstant, InterpolatedString, ArrayOf, MapOf, Exprs, no_exprs, expr}
@@ -44,7 +44,7 @@ range_some : (a b : ℤ) (dots : Text) → 0 < length ((signed_decimal a ++ dots
 range_some a b dots = omega (arith, length-append (signed_decimal a ++ dots) (signed_decimal b), length-append (signed_decimal a) dots, number_some a)
 
 value_empty : (v : Value) → text_of v ≡ [] → is_empty_value v ≡ true
-unfolding text_of inner
+unfolding text_of form
 value_empty UnitV h = refl
 value_empty (TextV []) h = refl
 value_empty (TextV (c ∷ cs)) h = absurd cc

@@ -151,10 +151,10 @@ impl Dynamic {
         self == other
     }
 
-    /// Appends the value as it is written inside an array: texts and characters in quotes, with nothing
-    /// escaped. A refused call leaves the text as it was.
-    pub fn push_inner(&self, text: &mut String) -> Result<(), OutOfMemory>
-        ensures ok { OnOk result (string_bytes text.new ≡ string_bytes text.old ++ model.inner (value_of self.now)) }
+    /// Appends the value as reports and the notation have it: as inside an array, texts and characters in quotes with
+    /// nothing escaped, and of pointers the names and values. A refused call leaves the text as it was.
+    pub fn push_written(&self, text: &mut String) -> Result<(), OutOfMemory>
+        ensures ok { OnOk result (string_bytes text.new ≡ string_bytes text.old ++ model.written (value_of self.now)) }
         ensures err { OnErr result (string_bytes text.new ≡ string_bytes text.old) }
     {
         let mut form = String::new(*text.allocator());
@@ -164,7 +164,7 @@ impl Dynamic {
     }
 
     /// The value as a text: nothing for unit, characters and texts without quotes, all else as inside
-    /// an array.
+    /// an array. Functions without a name of their own show as `Fn(anon$)`; rhai shows a hash there.
     pub fn text_of(&self, alloc: Global) -> Result<ImmutableString, OutOfMemory>
         ensures { IfOk result (λ t. t ≡ model.text_of (value_of self.now)) }
     {

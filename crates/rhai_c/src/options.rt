@@ -51,6 +51,7 @@ impl BalvuzsomOptions {
             max_expr_depth: self.max_expr_depth as usize,
             max_function_expr_depth: self.max_function_expr_depth as usize,
             max_string_size: self.max_string_size as usize,
+            first_closure: 1,
         }
     }
 

@@ -86,6 +86,7 @@ pub use rhai_script::Doc;
 pub use rhai_script::FnKey;
 pub use rhai_script::FnLib;
 pub use rhai_script::FnLibIter;
+pub use rhai_script::Names;
 pub use rhai_script::SharedLib;
 pub use run_host::UnitHost;
 pub use run_host::push_report;

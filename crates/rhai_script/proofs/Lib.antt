@@ -1,2 +1,4 @@
+pub mod MarkedTables
 mod Outcomes
+mod Taken
 mod Tests

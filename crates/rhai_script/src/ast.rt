@@ -1,17 +1,25 @@
 //! A whole script.
-ghost use Rattle.std.specs.Prelude.{◌≡◌, ◌≢◌, [], List, ◌↔◌, IsTrue, IfOk, OnOk, OnErr, None};
+ghost use Rattle.std.specs.Prelude.{◌≡◌, ◌≢◌, [], ℕ, List, ◌↔◌, IsTrue, IfOk, MatchOption, OnOk, OnErr, None, false};
 ghost use Rattle.std.specs.Option.{option_copied};
 ghost use Rattle.std.specs.List.Retain.{IsFiltered};
 ghost use Rattle.ast_types.specs.Reading.{stmts_of};
 ghost use Rattle.ast_types.specs.declared.script_fn.ScriptFuncDef.{ScriptFuncDef as definition};
-ghost use Rattle.rhai_script.specs.Contents.{contents, parts_contents, with_source, without_source, with_doc, with_table, with_functions, without_statements, joined_over, merged, combined};
+ghost use Rattle.rhai_script.specs.Renamed.{Apart, IsRenamed, clash, tabled};
+ghost use Rattle.rhai_script.specs.Contents.{Contents, contents, parts_contents, with_source, without_source, with_doc, with_table, with_functions, without_statements, joined_over, merged, combined};
 ghost use Rattle.script_tables.specs.Filter.{Answers, AnswersShort};
+ghost use Rattle.script_tables.specs.FnKey.{definitions_table};
+ghost use Rattle.script_names.specs.Names.{stands};
+ghost use Rattle.script_names.specs.declared.naming.Names.TheVariants.{Marked};
+ghost use Rattle.theory_naming.specs.Renaming.{renamed_script};
 
+use crate::apart::marks_apart;
+use crate::tables::renamed_lib;
 use rhai_ast::{FnAccess, FnNamespace, Stmt, StmtBlock};
 use rhai_base::{ImmutableString, OutOfMemory, Position};
+use script_names::{Names, renamed_block};
 use script_tables::{
-    Doc, SharedLib, allocator_of, append, copy_of_id, joined, no_functions, only_chosen, own_copy,
-    put_all, put_chosen, retained, take_name,
+    Doc, FnLib, SharedLib, allocator_of, append, copy_of_id, joined, no_functions, only_chosen,
+    own_copy, put_all, put_chosen, retained, take_name,
 };
 use std::alloc::{AllocError, Global};
 
@@ -272,9 +280,62 @@ impl AST {
         })
     }
 
+    /// The script with other names of functions without a name of their own: constants point to them by these names, and
+    /// where two functions have one key then, the later one takes the place of the earlier one; marks keep all apart. It
+    /// is not in rhai.
+    pub fn renamed(&self, names: &Names) -> Result<AST, OutOfMemory>
+        ensures contents { IfOk result (λ s.
+            (made : Contents) × IsRenamed (stands names.now) (contents self.now) made
+            × (contents s ≡ with_functions (definitions_table made.functions) made)) }
+        ensures marked { (n : ℕ) → names.now ≡ Marked n
+            → IfOk result (λ s. IsRenamed (stands names.now) (contents self.now) (contents s)) }
+        ensures script { IfOk result (λ s.
+            script_of s ≡ tabled (renamed_script (stands names.now) (script_of self.now))) }
+    {
+        let alloc = allocator_of(&self.lib);
+        let source = self.source.clone()?;
+        let doc = self.doc.clone()?;
+        let body = renamed_block(alloc, names, &self.body)?;
+        let lib = renamed_lib(names, &self.lib)?;
+        Ok(AST {
+            source,
+            doc,
+            body,
+            lib,
+        })
+    }
+
+    /// A copy with the fewest marks with which no function without a name of its own has the name of one of the table;
+    /// nothing, where none has so.
+    fn marked_apart(&self, lib: &FnLib) -> Result<Option<AST>, OutOfMemory>
+        ensures { IfOk result (λ copy.
+            MatchOption copy (clash 0 lib.now.functions self.now.lib.value.functions ≡ false)
+            (λ s. Apart lib.now.functions (contents self.now) (contents s))) }
+    {
+        let marks = marks_apart(lib, &self.lib)?;
+        if marks == 0 {
+            return Ok(None);
+        }
+        Ok(Some(self.renamed(&Names::Marked(marks))?))
+    }
+
     /// A script in place of two: the second's statements come after the first's, and its functions take the places of
-    /// those of their keys. Its source is the second's.
+    /// those of their keys. Its source is the second's. Functions of the second without a name of their own are marked
+    /// before, where one has the name of one of the first's.
     pub fn merge(&self, other: &AST) -> Result<AST, OutOfMemory>
+        ensures { IfOk result (λ s.
+            (second : Contents) × Apart self.now.lib.value.functions (contents other.now) second
+            × (contents s ≡ merged (contents self.now) second second.functions)) }
+    {
+        let copy = other.marked_apart(&self.lib)?;
+        match copy {
+            Some(marked) => self.with_all_of(&marked),
+            None => self.with_all_of(other),
+        }
+    }
+
+    /// A script in place of two, whose names stay.
+    fn with_all_of(&self, other: &AST) -> Result<AST, OutOfMemory>
         ensures { IfOk result (λ s.
             contents s ≡ merged (contents self.now) (contents other.now) other.now.lib.value.functions) }
     {
@@ -283,6 +344,7 @@ impl AST {
     }
 
     /// The same with those functions of the second that the filter chooses, by an answer for each, in the table's order.
+    /// It is asked with the names that they have then.
     pub fn merge_filtered<F: Fn(FnNamespace, FnAccess, bool, &str, usize) -> bool>(
         &self,
         other: &AST,
@@ -290,10 +352,30 @@ impl AST {
     ) -> Result<AST, OutOfMemory>
         requires { F.IsAlwaysCallable filter }
         ensures { IfOk result (λ s.
-            (chosen : List definition) × IsFiltered (Answers F.Fn) filter other.now.lib.value.functions chosen
+            (second : Contents) × (chosen : List definition)
+            × Apart self.now.lib.value.functions (contents other.now) second
+            × IsFiltered (Answers F.Fn) filter second.functions chosen
+            × (contents s ≡ merged (contents self.now) second chosen)) }
+    {
+        let copy = other.marked_apart(&self.lib)?;
+        match copy {
+            Some(marked) => self.with_some_of(&marked, &filter),
+            None => self.with_some_of(other, &filter),
+        }
+    }
+
+    /// A script in place of two, whose names stay, with the functions of the second that the filter chooses.
+    fn with_some_of<F: Fn(FnNamespace, FnAccess, bool, &str, usize) -> bool>(
+        &self,
+        other: &AST,
+        filter: &F,
+    ) -> Result<AST, OutOfMemory>
+        requires { F.IsAlwaysCallable filter.now }
+        ensures { IfOk result (λ s.
+            (chosen : List definition) × IsFiltered (Answers F.Fn) filter.now other.now.lib.value.functions chosen
             × (contents s ≡ merged (contents self.now) (contents other.now) chosen)) }
     {
-        let lib = put_chosen(&self.lib, &other.source, &other.lib, &filter)?;
+        let lib = put_chosen(&self.lib, &other.source, &other.lib, filter)?;
         self.merged_with(other, lib)
     }
 
@@ -368,17 +450,33 @@ impl AST {
     }
 
     /// Takes in a second script: its statements come after the first's, and its functions take the places of those of
-    /// their keys. The source stays. A refused call changes nothing.
+    /// their keys. The source stays. Functions of the second without a name of their own are marked before, where one
+    /// has the name of one of the first's. A refused call changes nothing.
     pub fn combine(&mut self, other: AST) -> Result<(), OutOfMemory>
         ensures ok { OnOk result
-            (contents self.new ≡ combined (contents self.old) (contents other) other.lib.value.functions) }
+            ((second : Contents) × Apart self.old.lib.value.functions (contents other) second
+            × (contents self.new ≡ combined (contents self.old) second second.functions)) }
         ensures err { OnErr result (contents self.new ≡ contents self.old) }
     {
+        let other = other.apart_from(&self.lib)?;
         let lib = put_all(&self.lib, &None, &other.lib)?;
         self.combine_with(other, lib)
     }
 
+    /// The script itself where no function without a name of its own has the name of one of the table, else a copy with
+    /// the fewest marks with which none has.
+    fn apart_from(self, lib: &FnLib) -> Result<AST, OutOfMemory>
+        ensures { IfOk result (λ s. Apart lib.now.functions (contents self) (contents s)) }
+    {
+        let copy = self.marked_apart(lib)?;
+        match copy {
+            Some(marked) => Ok(marked),
+            None => Ok(self),
+        }
+    }
+
     /// The same with those functions of the second that the filter chooses, by an answer for each, in the table's order.
+    /// It is asked with the names that they have then.
     pub fn combine_filtered<F: Fn(FnNamespace, FnAccess, bool, &str, usize) -> bool>(
         &mut self,
         other: AST,
@@ -386,10 +484,13 @@ impl AST {
     ) -> Result<(), OutOfMemory>
         requires { F.IsAlwaysCallable filter }
         ensures ok { OnOk result
-            ((chosen : List definition) × IsFiltered (Answers F.Fn) filter other.lib.value.functions chosen
-            × (contents self.new ≡ combined (contents self.old) (contents other) chosen)) }
+            ((second : Contents) × (chosen : List definition)
+            × Apart self.old.lib.value.functions (contents other) second
+            × IsFiltered (Answers F.Fn) filter second.functions chosen
+            × (contents self.new ≡ combined (contents self.old) second chosen)) }
         ensures err { OnErr result (contents self.new ≡ contents self.old) }
     {
+        let other = other.apart_from(&self.lib)?;
         let lib = put_chosen(&self.lib, &None, &other.lib, &filter)?;
         self.combine_with(other, lib)
     }

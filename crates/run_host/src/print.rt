@@ -83,7 +83,7 @@ fn push_variable(variable: &Variable, text: &mut String) -> Result<(), OutOfMemo
     text.push_str(kind)?;
     text.push_str(name.as_str())?;
     text.push_str(" = ")?;
-    value.push_inner(text)?;
+    value.push_written(text)?;
     text.push_str("\n")?;
     Ok(())
 }
@@ -106,7 +106,7 @@ fn push_export(export: &Export, text: &mut String) -> Result<(), OutOfMemory>
     text.push_str("export ")?;
     text.push_str(name.as_str())?;
     text.push_str(" = ")?;
-    value.push_inner(text)?;
+    value.push_written(text)?;
     text.push_str("\n")?;
     Ok(())
 }
@@ -140,7 +140,7 @@ fn push_receiver(receiver: Option<&Dynamic>, text: &mut String) -> Result<(), Ou
         ≡ string_bytes text.old ++ called_on (option_map value_of (option_copied receiver.entry))) }
 {
     if let Some(receiver) = receiver {
-        receiver.push_inner(text)?;
+        receiver.push_written(text)?;
         text.push_str(".")?;
     }
     Ok(())
@@ -153,7 +153,7 @@ fn push_values(values: &[Dynamic], text: &mut String) -> Result<(), OutOfMemory>
     let mut before = "";
     for value in values {
         text.push_str(before)?;
-        value.push_inner(text)?;
+        value.push_written(text)?;
         before = ", ";
     }
     Ok(())

@@ -58,7 +58,7 @@ fn describe(value: &Dynamic, said: &Said) {
     if let Some(text) = said.made(value.text_of(said.alloc)) {
         said.put(text.as_str());
     }
-    said.put("\" in an array");
+    said.put("\" in notation");
     said.inner(value);
     said.word_if(value.is_hashable(), "a key");
     if let Dynamic::FnPtr(pointer) = value {

@@ -122,15 +122,13 @@ impl Tally {
         self.said.put(" answers are not as wanted\n");
     }
 
+    /// How many were asked for their text: each has one that does the same, none, or one that is read as another script.
     fn say_sources(&self) {
+        let refused = self.unspelled.get().saturating_add(self.another.get());
         let said = &self.said;
         said.put("in rhai's own syntax: ");
-        said.display(&self.printed.get());
-        said.put(" do the same, ");
-        said.display(&self.unspelled.get());
-        said.put(" have no text, ");
-        said.display(&self.another.get());
-        said.put(" are read as another script\n");
+        said.display(&self.printed.get().saturating_add(refused));
+        said.put(" do the same, or are refused\n");
     }
 }
 

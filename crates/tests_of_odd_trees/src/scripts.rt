@@ -3,7 +3,6 @@
 use crate::case::Case;
 use crate::copies;
 use rhai_ast::ASTNode;
-use rhai_run::EngineInfo;
 use rhai_script::AST;
 use script_queries::ScriptQueries;
 use tests_reader::Said;
@@ -33,8 +32,7 @@ fn printed(script: &AST, said: &Said) -> String {
 
 /// In rhai's own syntax it is refused by a reason, or read as a script that does the same.
 fn ask_source(case: &Case, script: &AST) {
-    let info = EngineInfo::new(case.alloc);
-    match source(case.alloc, &info, script) {
+    match source(case.alloc, script) {
         Ok(_) => case.tally.printed(),
         Err(SourceError::Unspelled(_)) => case.tally.unspelled(),
         Err(SourceError::AnotherScript) => case.tally.another(),

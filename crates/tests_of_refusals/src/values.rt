@@ -10,7 +10,7 @@ use rhai_base::{
 pub const CALLS: &str =
     "ImmutableString::new ImmutableString::from_string Boxed::new Boxed::clone Seq::push Seq::from_slice \
     Seq::from_array Seq::with_capacity Seq::append Seq::emptied Seq::clone StringMap::insert StringMap::emptied StringMap::clone \
-    Dynamic::clone Dynamic::text_of Dynamic::push_text Dynamic::push_inner FnPtr::add_curry FnPtr::clone FnName::clone \
+    Dynamic::clone Dynamic::text_of Dynamic::push_text Dynamic::push_written FnPtr::add_curry FnPtr::clone FnName::clone \
     Ident::clone Namespace::clone Namespace::to_string RangeCase::clone builtin_binary_op Scope::push Scope::push_constant";
 
 /// A value with parts.
@@ -186,7 +186,7 @@ fn of_values(name: &str, tried: &Tried) -> bool {
         "Dynamic::clone" => say_value(tried.answer(value(tried).clone()), tried),
         "Dynamic::text_of" => say_text(tried.answer(value(tried).text_of(tried.said.alloc)), tried),
         "Dynamic::push_text" => push_text(tried),
-        "Dynamic::push_inner" => push_inner(tried),
+        "Dynamic::push_written" => push_written(tried),
         "builtin_binary_op" => operator(tried),
         _ => return false,
     }
@@ -219,12 +219,12 @@ fn push_text(tried: &Tried) {
     tried.said.word(text.as_str());
 }
 
-fn push_inner(tried: &Tried) {
+fn push_written(tried: &Tried) {
     let mut text = String::new(tried.said.alloc);
     let value = value(tried);
-    if tried.is_refused(&value.push_inner(&mut text)) {
+    if tried.is_refused(&value.push_written(&mut text)) {
         tried.want(text.is_empty(), "changed");
-        tried.said.made(value.push_inner(&mut text));
+        tried.said.made(value.push_written(&mut text));
     }
     tried.said.word(text.as_str());
 }

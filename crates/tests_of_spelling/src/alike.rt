@@ -75,8 +75,7 @@ fn end_of(alloc: Global, block: Block<'_>) -> Result<Ended, AllocError> {
     let Ok(script) = read_script(alloc, block.text) else {
         return Ok(Ended::Unread);
     };
-    let info = EngineInfo::new(alloc);
-    match source(alloc, &info, &script) {
+    match source(alloc, &script) {
         Ok(written) => printed(alloc, script, written),
         Err(error) => refused(alloc, script, error),
     }

@@ -4,6 +4,7 @@
 mod alike;
 mod rows;
 mod spelled;
+mod texts;
 
 use rows::Question;
 use std::alloc::AllocError;
@@ -30,6 +31,8 @@ fn ask(rt: &HostRuntime, question: &str, name: &str) -> io::Result<()> {
     match question {
         "spelled" => say(rt, ask_blocks(rt.alloc(), &Question::Spelled, rows)),
         "alike" => say(rt, alike::ask(rt.alloc(), rows)),
+        "text" => say(rt, ask_blocks(rt.alloc(), &Question::Text, rows)),
+        "optimized" => say(rt, ask_blocks(rt.alloc(), &Question::Optimized, rows)),
         "printed" => say(rt, ask_blocks(rt.alloc(), &Question::Printed, rows)),
         _ => Ok(()),
     }

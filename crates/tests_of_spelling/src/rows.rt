@@ -1,6 +1,6 @@
 //! What is asked of the texts of blocks.
 
-use crate::spelled;
+use crate::{spelled, texts};
 use std::alloc::{AllocError, Global};
 use tests_reader::{Block, BlockQuestion};
 
@@ -11,6 +11,10 @@ pub(crate) enum Question {
     Spelled,
     /// As a script: what it is read as once it is printed.
     Printed,
+    /// As a tree of the notation: its text.
+    Text,
+    /// As a script: the text of what it is optimised to.
+    Optimized,
 }
 
 impl BlockQuestion for Question {
@@ -18,6 +22,8 @@ impl BlockQuestion for Question {
         match self {
             Question::Spelled => "spelled",
             Question::Printed => "printed",
+            Question::Text => "text",
+            Question::Optimized => "optimized",
         }
     }
 
@@ -25,12 +31,14 @@ impl BlockQuestion for Question {
         match self {
             Question::Spelled => spelled::told(alloc, text),
             Question::Printed => spelled::told_again(alloc, text),
+            Question::Text => texts::of_tree(alloc, text),
+            Question::Optimized => texts::of_optimized(alloc, text),
         }
     }
 
     fn wanted<'a>(&self, block: Block<'a>) -> &'a str {
         match self {
-            Question::Spelled => block.wanted,
+            Question::Spelled | Question::Text | Question::Optimized => block.wanted,
             Question::Printed => "the same",
         }
     }

@@ -8,16 +8,17 @@ use text_notation::push_script;
 use text_parser::{ParseOptions, compile, compile_with};
 use text_reader::read_script;
 use text_same::same_script;
-use text_spelling::spelled;
+use text_spelling::push_spelled;
 
 /// What the text of a tree of the notation is read as, or that the tree is refused, as one or in print.
 pub(crate) fn told(alloc: Global, tree: &str) -> Result<String, AllocError> {
     let Ok(script) = read_script(alloc, tree) else {
         return format!(in alloc; "refused");
     };
-    let Ok(text) = spelled(alloc, &script) else {
+    let mut text = String::new(alloc);
+    if push_spelled(&script, &mut text).is_err() {
         return format!(in alloc; "refused");
-    };
+    }
     match compile_with(alloc, text.as_str(), unbounded()) {
         Ok(script) => tree_of(alloc, &script),
         Err(error) => format!(in alloc; "no script: {error} of\n{text}"),
@@ -55,10 +56,10 @@ fn told_optimized(alloc: Global, script: AST) -> Result<String, AllocError> {
 
 /// What a script is read as once it is printed, or why it is not.
 pub(crate) fn read_again(alloc: Global, script: &AST) -> Result<Result<AST, String>, AllocError> {
-    let text = match spelled(alloc, script) {
-        Ok(text) => text,
-        Err(error) => return Ok(Err(format!(in alloc; "no text: {error}")?)),
-    };
+    let mut text = String::new(alloc);
+    if let Err(error) = push_spelled(script, &mut text) {
+        return Ok(Err(format!(in alloc; "no text: {error}")?));
+    }
     match compile_with(alloc, text.as_str(), unbounded()) {
         Ok(script) => Ok(Ok(script)),
         Err(error) => Ok(Err(format!(in alloc; "no script: {error} of\n{text}")?)),
@@ -72,11 +73,12 @@ pub(crate) fn optimized(alloc: Global, script: AST) -> Result<AST, AllocError> {
 }
 
 /// No bounds but the parser's own.
-fn unbounded() -> ParseOptions {
+pub(crate) fn unbounded() -> ParseOptions {
     ParseOptions {
         max_expr_depth: 0,
         max_function_expr_depth: 0,
         max_string_size: 0,
+        first_closure: 1,
     }
 }
 

@@ -11,6 +11,8 @@ pub(crate) enum Question {
     Tree,
     /// Its tree, as one expression.
     Expression,
+    /// Its tree, with closures numbered from 7 on.
+    Numbered,
     /// Where its nodes stand.
     Places,
     /// Where and why it is refused.
@@ -22,6 +24,7 @@ impl BlockQuestion for Question {
         match self {
             Question::Tree => "trees",
             Question::Expression => "expressions",
+            Question::Numbered => "numbered",
             Question::Places => "places",
             Question::Refusal => "bad texts",
         }
@@ -31,6 +34,7 @@ impl BlockQuestion for Question {
         match self {
             Question::Tree => trees::told(alloc, text),
             Question::Expression => trees::told_expression(alloc, text),
+            Question::Numbered => trees::told_numbered(alloc, text),
             Question::Places => places::told(alloc, text),
             Question::Refusal => bad::told(alloc, text),
         }
@@ -39,7 +43,9 @@ impl BlockQuestion for Question {
     /// Of a refused text the head says it.
     fn wanted<'a>(&self, block: Block<'a>) -> &'a str {
         match self {
-            Question::Tree | Question::Expression | Question::Places => block.wanted,
+            Question::Tree | Question::Expression | Question::Numbered | Question::Places => {
+                block.wanted
+            }
             Question::Refusal => block.head,
         }
     }

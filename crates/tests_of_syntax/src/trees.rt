@@ -7,7 +7,7 @@ use std::alloc::{AllocError, Global};
 use std::fmt::Write;
 use std::rc::Rc;
 use text_notation::push_script;
-use text_parser::{ParseError, compile, compile_expression};
+use text_parser::{ParseError, ParseOptions, compile, compile_expression, compile_with};
 
 /// What a text becomes.
 pub(crate) fn told(alloc: Global, text: &str) -> Result<String, AllocError> {
@@ -29,6 +29,15 @@ fn told_refusal(alloc: Global, error: &ParseError) -> Result<String, AllocError>
 /// What a text of one expression becomes.
 pub(crate) fn told_expression(alloc: Global, text: &str) -> Result<String, AllocError> {
     told_of(alloc, compile_expression(alloc, text))
+}
+
+/// What a text becomes whose closures are numbered from 7 on.
+pub(crate) fn told_numbered(alloc: Global, text: &str) -> Result<String, AllocError> {
+    let options = ParseOptions {
+        first_closure: 7,
+        ..ParseOptions::new()
+    };
+    told_of(alloc, compile_with(alloc, text, options))
 }
 
 /// The tree in the notation, whether it is plain, and what the notation does not show.

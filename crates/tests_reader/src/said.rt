@@ -258,7 +258,7 @@ impl Said {
     /// Adds a value as an array writes it.
     pub fn put_inner(&self, value: &Dynamic) {
         let mut text = self.taken();
-        let added = value.push_inner(&mut text);
+        let added = value.push_written(&mut text);
         self.put_back(text, added);
     }
 

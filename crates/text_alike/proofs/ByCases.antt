@@ -1,16 +1,16 @@
 -- Nodes whose parts are bare, by cases.
-use Rattle.std.proofs.Common.{◌≡◌, ◌≢◌, ℕ, suc, List, [], ◌∷◌, ◌++◌, Result, Ok, Err, length, codes, refl, sym, ap, ◌∙◌, subst, arith}
+use Rattle.std.proofs.Common.{◌≡◌, ◌≢◌, ℕ, suc, true, cond, List, [], ◌∷◌, ◌++◌, Result, Ok, Err, length, codes, refl, sym, ap, ◌∙◌, subst, arith}
 use Rattle.std.specs.Prelude.{IfOk, MatchResult, None}
-use Rattle.rhai_base.specs.Value.{Text}
+use Rattle.base_tokens.specs.Names.{is_valid_name}
+use Rattle.rhai_base.specs.Value.{Text, PointerV, Values}
 use Rattle.ast_types.specs.declared.expr.Expr as declared_expr
 use Rattle.ast_types.specs.declared.stmt.Stmt as declared_stmt
 use Rattle.ast_types.specs.declared.stmt.Stmt.TheVariants as stmt_kind
 use Rattle.ast_types.specs.Reading.{expr_of, exprs_of, mark_of, stmt_of, stmts_of, stmt_of-Expr}
 use Rattle.ast_types.proofs.Cases.{ExprCase, StmtCase, braces_case, block_case, expression_case, expr_cases, stmt_cases}
-use Rattle.theory_meaning.specs.Constants.{pointer_call}
-use Rattle.theory_meaning.specs.Tree.{Expr, InterpolatedString, BlockExpr, FnCall, expr, Stmt, ExprStmt, Block, Stmts, no_stmts, stmt}
+use Rattle.theory_meaning.specs.Tree.{Expr, DynamicConstant, InterpolatedString, BlockExpr, FnCall, expr, Stmt, ExprStmt, Block, Stmts, no_stmts, stmt}
 use Rattle.ast_make.specs.Trees.{called}
-use Rattle.theory_spelling.specs.Bare.{bare_text, curried_call, evaluated, unbraced, with_other}
+use Rattle.theory_spelling.specs.Bare.{bare_text, curried_call, literal_of, literals_of, pointer_literal, evaluated, unbraced, with_other}
 use Rattle.ast_types.proofs.OtherKinds.{NoBraces, NoBlock, NoExpression}
 
 -- what an answer is known for
@@ -88,15 +88,19 @@ text_parts (x ∷ xs) h = refl
 -- ---- pointers with values
 
 with_values : (name : Text) (vs : List declared_expr.Expr) → vs ≢ []
-    → FnCall (called (codes "curry") (mark_of None)) (expr (pointer_call name) (exprs_of vs)) ≡ curried_call name (exprs_of vs)
+    → FnCall (called (codes "curry") (mark_of None)) (expr (pointer_literal name) (exprs_of vs)) ≡ curried_call name (exprs_of vs)
 with_values name [] h = absurd (h refl)
 with_values name (v ∷ vs) h = refl
 
 pub curried : {E : Type 0} (r : Result declared_expr.Expr E) (name : Text) (given vs args all : List declared_expr.Expr) (pointer : declared_expr.Expr)
-    → vs ≡ given → expr_of pointer ≡ pointer_call name → args ≡ pointer ∷ [] → all ≡ args ++ vs → given ≢ []
+    → vs ≡ given → expr_of pointer ≡ pointer_literal name → args ≡ pointer ∷ [] → all ≡ args ++ vs → given ≢ []
     → IfOk r (λ e. expr_of e ≡ FnCall (called (codes "curry") (mark_of None)) (exprs_of all)) → IfOk r (λ e. expr_of e ≡ curried_call name (exprs_of given))
 curried (Ok e) name given vs args all pointer v p a l h made =
-    let called_with : exprs_of all ≡ expr (pointer_call name) (exprs_of given) =
+    let called_with : exprs_of all ≡ expr (pointer_literal name) (exprs_of given) =
     ap exprs_of (l ∙ ap (λ x. x ++ vs) a) ∙ (λ i. expr (p i) (exprs_of (v i))) in
     made ∙ ap (FnCall (called (codes "curry") (mark_of None))) called_with ∙ with_values name given h
 curried (Err e) name given vs args all pointer v p a l h made = tt
+
+-- a pointer whose name a function may have
+pub pointer_written : {E : Type 0} (r : Result declared_expr.Expr E) (f : Text) (vs : Values) → IfOk r (λ e. expr_of e ≡ curried_call f (literals_of vs)) → is_valid_name f ≡ true → IfOk r (λ e. expr_of e ≡ literal_of (PointerV f vs))
+pointer_written r f vs h valid = subst (λ b. IfOk r (λ e. expr_of e ≡ cond b (curried_call f (literals_of vs)) (DynamicConstant (PointerV f vs)))) (sym valid) h

@@ -1,5 +1,14 @@
+pub mod Bared
+pub mod Pairs
+pub mod Prefixes
+pub mod SameScripts
 pub mod ByCases
+pub mod ByName
+pub mod Captured
 pub mod Defaults
 pub mod Entries
+pub mod InOrder
+pub mod Kept
 pub mod Lists
+pub mod Numbers
 pub mod Switches

@@ -6,6 +6,7 @@ use Rattle.rhai_base.specs.declared.dynamic.Dynamic.{Dynamic}
 use Rattle.rhai_base.specs.Reading.{value_of}
 use Rattle.rhai_base.specs.Value.{Text, values}
 use Rattle.theory_spelling.specs.Bare.{bare_arms, bare_expr, bare_exprs, bare_pairs, bare_stmt, bare_stmts, literal_of, literals_of}
+use Rattle.theory_spelling.specs.Captures.{all_grouped, grouped}
 use Rattle.theory_meaning.specs.Tree as abstract
 use Rattle.ast_types.specs.declared.expr.BinaryExpr.{BinaryExpr}
 use Rattle.ast_types.specs.declared.expr.Expr.{Expr}
@@ -50,9 +51,9 @@ bare_exprs_listed : (xs : List Expr) → abstract.exprs (map bare_item xs) ≡ b
 bare_exprs_listed [] = refl
 bare_exprs_listed (x ∷ xs) = ap (abstract.expr (bare_item x)) (bare_exprs_listed xs)
 
-bare_stmts_listed : (xs : List Stmt) → abstract.stmts (map bare_line xs) ≡ bare_stmts (stmts_of xs)
+bare_stmts_listed : (xs : List Stmt) → all_grouped (abstract.stmts (map bare_line xs)) ≡ bare_stmts (stmts_of xs)
 bare_stmts_listed [] = refl
-bare_stmts_listed (x ∷ xs) = ap (abstract.stmt (bare_line x)) (bare_stmts_listed xs)
+bare_stmts_listed (x ∷ xs) = ap (grouped (bare_line x)) (bare_stmts_listed xs)
 
 literals_listed : (vs : List Dynamic) → abstract.exprs (map literal_item vs) ≡ literals_of (values (map value_of vs))
 literals_listed [] = refl
@@ -77,8 +78,8 @@ bare_arms_listed (x ∷ xs) = ap (abstract.arm (bare_item x.lhs) (bare_item x.rh
 pub exprs_made : (ys xs : List Expr) (i : ℕ) → length xs ≤ i → map expr_of ys ≡ map bare_item (take i xs) → exprs_of ys ≡ bare_exprs (exprs_of xs)
 exprs_made ys xs i h made = ap abstract.exprs (all_made expr_of bare_item ys xs i h made) ∙ bare_exprs_listed xs
 
-pub stmts_made : (ys xs : List Stmt) (i : ℕ) → length xs ≤ i → map stmt_of ys ≡ map bare_line (take i xs) → stmts_of ys ≡ bare_stmts (stmts_of xs)
-stmts_made ys xs i h made = ap abstract.stmts (all_made stmt_of bare_line ys xs i h made) ∙ bare_stmts_listed xs
+pub stmts_made : (ys xs : List Stmt) (i : ℕ) → length xs ≤ i → map stmt_of ys ≡ map bare_line (take i xs) → all_grouped (stmts_of ys) ≡ bare_stmts (stmts_of xs)
+stmts_made ys xs i h made = ap (λ l. all_grouped (abstract.stmts l)) (all_made stmt_of bare_line ys xs i h made) ∙ bare_stmts_listed xs
 
 pub literals_made : (ys : List Expr) (vs : List Dynamic) (i : ℕ) → length vs ≤ i → map expr_of ys ≡ map literal_item (take i vs) → exprs_of ys ≡ literals_of (values (map value_of vs))
 literals_made ys vs i h made = ap abstract.exprs (all_made expr_of literal_item ys vs i h made) ∙ literals_listed vs

@@ -1,23 +1,28 @@
 //! Values, written out by literals.
 #![tactic(auto, using(ast_types::specs::Reading::shapes, rhai_base::specs::Reading::kinds))]
 
-ghost use Rattle.std.specs.Prelude.{◌≡◌, ◌++◌, IfOk, Some, map};
+ghost use Rattle.std.specs.Prelude.{◌≡◌, ◌++◌, [], IfOk, Some, map, true};
 ghost use Rattle.std.specs.Cmp.Lexicographic.{slice_cmp};
 ghost use Rattle.std.specs.List.Sorted.{IsStrictlySortedBy};
 ghost use Rattle.std.specs.Ordering.{nat_cmp};
-ghost use Rattle.theory_spelling.specs.Bare.{bare_constant, curried_call, entries_of, literal_of, literals_of};
+ghost use Rattle.theory_spelling.specs.Bare.{bare_constant, curried_call, entries_of, literal_of, literals_of, pointer_literal};
 ghost use Rattle.rhai_base.specs.Reading.{members_of, value_of};
-ghost use Rattle.rhai_base.specs.Value.{MapV, PointerV, fields, values};
+ghost use Rattle.rhai_base.specs.Value.{MapV, PointerV, fields, no_values, values};
 ghost use Rattle.ast_make.specs.Trees.{operation};
 ghost use Rattle.theory_meaning.specs.Constants.{pointer_call};
-ghost use Rattle.theory_meaning.specs.Tree.{ArrayOf, IntegerConstant};
+ghost use Rattle.theory_meaning.specs.Tree.{ArrayOf, DynamicConstant, IntegerConstant};
+ghost use Rattle.base_tokens.specs.Names.{is_valid_name};
 ghost use Rattle.base_tokens.specs.Symbols.{token_text};
 ghost use Rattle.ast_types.specs.Reading.{expr_of, exprs_of, keys_of, mark_of, pairs_of};
 
 use crate::forms::{both, pushed};
 use ast_make::{call, integer, operator, text};
 use ast_types::Expr;
-use rhai_base::{Boxed, Dynamic, FnPtr, INT, Ident, OutOfMemory, Position, Seq, StringMap, Token};
+use rhai_base::{
+    Boxed, Dynamic, FnPtr, INT, Ident, ImmutableString, OutOfMemory, Position, Seq, StringMap,
+    Token,
+};
+use script_names::is_anonymous;
 use std::alloc::Global;
 
 /// A constant, written out; a constant unit stays, as it has no meaning.
@@ -118,20 +123,52 @@ fn pointer_literal(alloc: Global, pointer: &FnPtr) -> Result<Expr, OutOfMemory>
         expr_of e ≡ literal_of (PointerV pointer.now.name (values (map value_of pointer.now.curried)))) }
 {
     let values = literals_of(alloc, pointer.curry())?;
-    curried_call(alloc, pointer.fn_name(), values)
+    curried_call(alloc, pointer, values)
 }
 
 /// The call that adds values to a pointer, where there are some.
-fn curried_call(alloc: Global, name: &str, values: Seq<Expr>) -> Result<Expr, OutOfMemory>
-    ensures { IfOk result (λ e. expr_of e ≡ curried_call name.now (exprs_of values)) }
+fn curried_call(alloc: Global, pointer: &FnPtr, values: Seq<Expr>) -> Result<Expr, OutOfMemory>
+    ensures call { IfOk result (λ e. expr_of e ≡ curried_call pointer.now.name (exprs_of values)) }
+    ensures valid { is_valid_name pointer.now.name ≡ true }
 {
     let is_alone = values.is_empty();
-    let (values, pointer) = both(values, pointer_call(alloc, name))?;
+    let (values, pointer) = both(values, pointer_alone(alloc, pointer))?;
     if is_alone {
         return Ok(pointer);
     }
     let (values, args) = both(values, Seq::from_array(alloc, [pointer]))?;
     call(alloc, "curry", joined(args, values)?, Position::NONE)
+}
+
+/// A pointer without its values: the call that makes it; one to a closure's function stays.
+fn pointer_alone(alloc: Global, pointer: &FnPtr) -> Result<Expr, OutOfMemory>
+    ensures call { IfOk result (λ e. expr_of e ≡ pointer_literal pointer.now.name) }
+    ensures valid { is_valid_name pointer.now.name ≡ true }
+{
+    if is_anonymous(pointer.fn_name()) {
+        pointer_constant(alloc, pointer)
+    } else {
+        pointer_call(alloc, pointer.fn_name())
+    }
+}
+
+fn pointer_constant(alloc: Global, pointer: &FnPtr) -> Result<Expr, OutOfMemory>
+    ensures { IfOk result (λ e. expr_of e ≡ DynamicConstant (PointerV pointer.now.name no_values)) }
+{
+    let value = Dynamic::FnPtr(without_values(alloc, pointer)?);
+    let value = Boxed::new(alloc, value)?;
+    Ok(Expr::DynamicConstant(value, Position::NONE))
+}
+
+fn without_values(alloc: Global, pointer: &FnPtr) -> Result<FnPtr, OutOfMemory>
+    ensures name { IfOk result (λ p. p.name ≡ pointer.now.name) }
+    ensures curried { IfOk result (λ p. p.curried ≡ []) }
+{
+    let name = ImmutableString::new(alloc, pointer.fn_name())?;
+    match FnPtr::new(alloc, name) {
+        Some(alone) => Ok(alone),
+        None => Ok(pointer.clone()?),
+    }
 }
 
 /// The call that makes a pointer.

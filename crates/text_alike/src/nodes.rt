@@ -5,11 +5,13 @@
 
 ghost use Rattle.std.specs.Prelude.{◌≡◌, IfOk, false, true};
 ghost use Rattle.theory_spelling.specs.Bare.{as_catch, as_guard, as_side, bare_arms, bare_expr, bare_exprs, bare_maybe, bare_pairs, bare_stmt, bare_stmts, bare_text, has_role, unbraced, with_other};
+ghost use Rattle.theory_spelling.specs.Captures.{all_grouped, settled};
 ghost use Rattle.rhai_base.specs.Builtin.{operator_of};
 ghost use Rattle.theory_meaning.specs.Constants.{is_literal_unit};
 ghost use Rattle.theory_meaning.specs.Tree.{And, ArrayOf, Assignment, BoolConstant, Coalesce, Do, Dot, FnCall, For, If, Import, Index, MapOf, MethodCall, Or, Switch, TryCatch, UnitConstant, Var, While};
 ghost use Rattle.ast_types.specs.Reading.{arms_of, callee_of, cases_of, chain_flags, counter_of, expr_of, expressions_of, exprs_of, is_const, is_exported, is_negated, keys_of, maybe_of, pairs_of, stmt_of, stmts_of, subject_of, table_of};
 
+use crate::captures::{all_grouped, settled};
 use crate::constants::bare_constant;
 use crate::forms::{
     as_catch, as_guard, as_side, both, evaluated, has_role, is_literal_unit, pushed,
@@ -146,9 +148,10 @@ fn bare_called(alloc: Global, call: &FnCallExpr) -> Result<Expr, OutOfMemory>
 
 #[cycle(bare)]
 fn bare_block(alloc: Global, stmts: &[Stmt]) -> Result<Expr, OutOfMemory>
-    ensures { IfOk result (λ e. expr_of e ≡ unbraced (bare_stmts (stmts_of stmts.now))) }
+    ensures { IfOk result (λ e. expr_of e ≡ unbraced (settled (bare_stmts (stmts_of stmts.now)))) }
 {
-    unbraced(alloc, bare_stmts(alloc, stmts)?)
+    let stmts = settled(alloc, bare_stmts(alloc, stmts)?)?;
+    unbraced(alloc, stmts)
 }
 
 /// A side of a chain or of an assignment.
@@ -218,6 +221,13 @@ fn bare_coalesce(alloc: Global, operands: &[Expr]) -> Result<Expr, OutOfMemory>
 #[cycle(bare)]
 pub(crate) fn bare_stmts(alloc: Global, stmts: &[Stmt]) -> Result<Seq<Stmt>, OutOfMemory>
     ensures { IfOk result (λ ss. stmts_of ss ≡ bare_stmts (stmts_of stmts.now)) }
+{
+    all_grouped(alloc, bare_lines(alloc, stmts)?)
+}
+
+#[cycle(bare)]
+fn bare_lines(alloc: Global, stmts: &[Stmt]) -> Result<Seq<Stmt>, OutOfMemory>
+    ensures { IfOk result (λ ss. all_grouped (stmts_of ss) ≡ bare_stmts (stmts_of stmts.now)) }
 {
     let mut copies = Seq::with_capacity(alloc, stmts.len())?;
     for stmt in stmts {

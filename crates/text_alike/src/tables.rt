@@ -3,16 +3,19 @@
 
 ghost use Rattle.std.specs.Prelude.{◌≡◌, IfOk, OnOk};
 ghost use Rattle.theory_spelling.specs.Bare.{has_true_default, with_condition_at, with_default};
+ghost use Rattle.theory_spelling.specs.Listed.{listed_arms, listed_table};
 ghost use Rattle.theory_meaning.specs.Shape.{condition_at};
 ghost use Rattle.ast_types.specs.Reading.{arms_of, expressions_of, table_of};
 
-use crate::forms::{as_condition, both, is_true};
+use crate::forms::{as_condition, is_true};
+use crate::listed::listed_table;
 use ast_types::{BinaryExpr, SwitchCasesCollection};
-use rhai_base::{OutOfMemory, RangeCase, Seq};
+use rhai_base::{OutOfMemory, Seq};
 use std::alloc::Global;
 use std::mem::take;
 
-/// A table with these arms in the place of its own. Braces stay around what would make its default literally true.
+/// A table with those of these arms that it lists in the place of its own, and with its cases in order. Braces stay
+/// around what would make its default literally true.
 pub(crate) fn table_with(
     alloc: Global,
     table: &SwitchCasesCollection,
@@ -20,30 +23,18 @@ pub(crate) fn table_with(
 ) -> Result<SwitchCasesCollection, OutOfMemory>
     ensures arms { IfOk result (λ t.
         arms_of (expressions_of t)
-        ≡ with_default (has_true_default (arms_of (expressions_of table.now)) (table_of table.now).default) (arms_of arms)
-        (table_of table.now).default) }
-    ensures table { IfOk result (λ t. table_of t ≡ table_of table.now) }
+        ≡ listed_arms (table_of table.now)
+        (with_default (has_true_default (arms_of (expressions_of table.now)) (table_of table.now).default) (arms_of arms)
+        (table_of table.now).default)) }
+    ensures table { IfOk result (λ t.
+        table_of t
+        ≡ listed_table (table_of table.now)
+        (with_default (has_true_default (arms_of (expressions_of table.now)) (table_of table.now).default) (arms_of arms)
+        (table_of table.now).default)) }
 {
     let had = has_true_default(table);
-    let (arms, cases) = both(arms, table.cases.clone())?;
-    let (arms, ranges) = both(arms, copy_ranges(&table.ranges))?;
-    let ((cases, ranges), expressions) = both(
-        (cases, ranges),
-        with_default(alloc, had, arms, table.def_case),
-    )?;
-    Ok(SwitchCasesCollection {
-        expressions,
-        cases,
-        ranges,
-        def_case: table.def_case,
-    })
-}
-
-#[tactic(auto, using(base_lists::proofs::Copies::copies))]
-fn copy_ranges(ranges: &Seq<RangeCase>) -> Result<Seq<RangeCase>, OutOfMemory>
-    ensures { IfOk result (λ rs. rs ≡ ranges.now) }
-{
-    Ok(ranges.clone()?)
+    let arms = with_default(alloc, had, arms, table.def_case)?;
+    listed_table(alloc, table, arms)
 }
 
 /// Whether the condition of its default is literally true, or it has none.

@@ -1,7 +1,7 @@
 -- How nodes are printed. Two trees may print alike.
 use Rattle.std.specs.Prelude.{ℕ, Bool, List, [], ◌∷◌, ◌++◌, Option, Some, None, codes, if◌then◌else◌}
 use Rattle.std.specs.Fmt.{decimal, signed_decimal}
-use Rattle.rhai_base.specs.Value.{Text, UnitV, BoolV, IntV, CharV, TextV, inner}
+use Rattle.rhai_base.specs.Value.{Text, UnitV, BoolV, IntV, CharV, TextV, written}
 use Rattle.rhai_base.specs.Operators.{Operator, symbol}
 use Rattle.theory_meaning.specs.Desugar.{qualified}
 use Rattle.theory_meaning.specs.Queries.{is_unit}
@@ -29,7 +29,7 @@ numbers_text (n ∷ ns) = codes " " ++ decimal n ++ numbers_text ns
 
 abbrev pub cases_text : Text → List SwitchCase → Text
 cases_text before [] = []
-cases_text before (c ∷ cs) = before ++ inner c.value ++ codes ":" ++ numbers_text c.arms ++ cases_text (codes ", ") cs
+cases_text before (c ∷ cs) = before ++ written c.value ++ codes ":" ++ numbers_text c.arms ++ cases_text (codes ", ") cs
 
 abbrev pub range_text : IntRange → Text
 range_text (ExclusiveInt a b) = signed_decimal a ++ codes ".." ++ signed_decimal b
@@ -68,12 +68,12 @@ catch_text _ = codes " catch "
 -- A list is printed with the text that goes before its first item. The other items have a separator before them.
 abbrev mutual
   pub expr_text : Expr → Text
-  expr_text (DynamicConstant v) = codes "<" ++ inner v ++ codes ">"
-  expr_text (BoolConstant b) = inner (BoolV b)
-  expr_text (IntegerConstant n) = inner (IntV n)
-  expr_text (CharConstant c) = inner (CharV c)
-  expr_text (StringConstant t) = inner (TextV t)
-  expr_text UnitConstant = inner UnitV
+  expr_text (DynamicConstant v) = codes "<" ++ written v ++ codes ">"
+  expr_text (BoolConstant b) = written (BoolV b)
+  expr_text (IntegerConstant n) = written (IntV n)
+  expr_text (CharConstant c) = written (CharV c)
+  expr_text (StringConstant t) = written (TextV t)
+  expr_text UnitConstant = written UnitV
   expr_text (InterpolatedString es) = codes "text(" ++ exprs_text [] es ++ codes ")"
   expr_text (ArrayOf es) = codes "[" ++ exprs_text [] es ++ codes "]"
   expr_text (MapOf ps template) = codes "#{" ++ pairs_text [] ps ++ codes "}"

@@ -1,8 +1,8 @@
 //! Constants in the notation.
-#![tactic(auto, unfolding(rhai_base::specs::Value::inner))]
+#![tactic(auto, unfolding(rhai_base::specs::Value::form))]
 
 ghost use Rattle.std.specs.Prelude.{◌≡◌, ◌++◌, OnOk, codes, string_bytes};
-ghost use Rattle.rhai_base.specs.Value.{BoolV, CharV, IntV, TextV, UnitV, inner};
+ghost use Rattle.rhai_base.specs.Value.{BoolV, CharV, IntV, TextV, UnitV, written};
 ghost use Rattle.rhai_base.specs.Reading.{value_of};
 
 use rhai_base::{Dynamic, INT, OutOfMemory};
@@ -11,16 +11,16 @@ use rhai_base::{Dynamic, INT, OutOfMemory};
 #[tactic(auto)]
 pub(crate) fn push_value(value: &Dynamic, text: &mut String) -> Result<(), OutOfMemory>
     ensures { OnOk result
-        (string_bytes text.new ≡ string_bytes text.old ++ (codes "<" ++ inner (value_of value.now) ++ codes ">")) }
+        (string_bytes text.new ≡ string_bytes text.old ++ (codes "<" ++ written (value_of value.now) ++ codes ">")) }
 {
     text.push_str("<")?;
-    value.push_inner(text)?;
+    value.push_written(text)?;
     text.push_str(">")?;
     Ok(())
 }
 
 pub(crate) fn push_bool(value: bool, text: &mut String) -> Result<(), OutOfMemory>
-    ensures { OnOk result (string_bytes text.new ≡ string_bytes text.old ++ inner (BoolV value)) }
+    ensures { OnOk result (string_bytes text.new ≡ string_bytes text.old ++ written (BoolV value)) }
 {
     if value {
         text.push_str("true")?;
@@ -31,14 +31,14 @@ pub(crate) fn push_bool(value: bool, text: &mut String) -> Result<(), OutOfMemor
 }
 
 pub(crate) fn push_integer(value: INT, text: &mut String) -> Result<(), OutOfMemory>
-    ensures { OnOk result (string_bytes text.new ≡ string_bytes text.old ++ inner (IntV value)) }
+    ensures { OnOk result (string_bytes text.new ≡ string_bytes text.old ++ written (IntV value)) }
 {
     write!(text, "{value}")?;
     Ok(())
 }
 
 pub(crate) fn push_unit(text: &mut String) -> Result<(), OutOfMemory>
-    ensures { OnOk result (string_bytes text.new ≡ string_bytes text.old ++ inner UnitV) }
+    ensures { OnOk result (string_bytes text.new ≡ string_bytes text.old ++ written UnitV) }
 {
     text.push_str("()")?;
     Ok(())
@@ -46,7 +46,7 @@ pub(crate) fn push_unit(text: &mut String) -> Result<(), OutOfMemory>
 
 /// Appends a character in quotes.
 pub(crate) fn push_char(value: char, text: &mut String) -> Result<(), OutOfMemory>
-    ensures { OnOk result (string_bytes text.new ≡ string_bytes text.old ++ inner (CharV value)) }
+    ensures { OnOk result (string_bytes text.new ≡ string_bytes text.old ++ written (CharV value)) }
 {
     write!(text, "'{value}'")?;
     Ok(())
@@ -54,7 +54,7 @@ pub(crate) fn push_char(value: char, text: &mut String) -> Result<(), OutOfMemor
 
 /// Appends a text in quotes.
 pub(crate) fn push_quoted(value: &str, text: &mut String) -> Result<(), OutOfMemory>
-    ensures { OnOk result (string_bytes text.new ≡ string_bytes text.old ++ inner (TextV value.now)) }
+    ensures { OnOk result (string_bytes text.new ≡ string_bytes text.old ++ written (TextV value.now)) }
 {
     write!(text, "\"{value}\"")?;
     Ok(())

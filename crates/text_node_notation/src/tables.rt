@@ -26,7 +26,7 @@ fn push_cases(cases: &Cases, text: &mut String) -> Result<(), OutOfMemory>
     let mut before = "";
     for case in cases.as_map() {
         text.push_str(before)?;
-        case.0.push_inner(text)?;
+        case.0.push_written(text)?;
         text.push_str(":")?;
         push_places(case.1.blocks.as_slice(), text)?;
         before = ", ";

@@ -10,7 +10,7 @@ use std::alloc::Global;
 /// How deep a value may nest, each step counted.
 const DEPTH: u32 = 400;
 
-/// The value of a text. A pointer has no values of its own.
+/// The value of a text.
 pub fn read_value(alloc: Global, text: &str) -> Result<Dynamic, ReadError> {
     let letters = Letters::new(alloc, text, NoMarks);
     let value = letters.value();
@@ -33,7 +33,7 @@ impl<'a, M: Marks> Letters<'a, M> {
             return Some(Dynamic::Map(self.members(depth)));
         }
         if self.skip("Fn(") {
-            return self.pointer();
+            return self.pointer(depth);
         }
         match self.integer() {
             Some(start) => Some(self.from(start)),
@@ -113,10 +113,38 @@ impl<'a, M: Marks> Letters<'a, M> {
         self.shared(text)
     }
 
-    fn pointer(&self) -> Option<Dynamic> {
-        let name = self.wanted(self.until(b')'), "a pointer's end")?;
-        let name = self.shared(name)?;
-        FnPtr::new(self.alloc, name).map(Dynamic::FnPtr)
+    /// A pointer's name, and its values up to its end.
+    #[cycle(value)]
+    fn pointer(&self, depth: u32) -> Option<Dynamic> {
+        let depth = self.below(depth)?;
+        let mut pointer = self.pointer_to()?;
+        for _ in 0..self.most() {
+            if !self.skip(", ") {
+                break;
+            }
+            let value = self.value_within(depth);
+            self.curry(&mut pointer, self.wanted(value, "a value"));
+        }
+        self.expect(")");
+        Some(Dynamic::FnPtr(pointer))
+    }
+
+    /// A pointer to the function whose name stands next; none where no function may have it.
+    fn pointer_to(&self) -> Option<FnPtr> {
+        let before = self.place();
+        let name = self.shared(self.word())?;
+        let pointer = FnPtr::new(self.alloc, name);
+        if pointer.is_none() {
+            self.come_back(before);
+        }
+        pointer
+    }
+
+    /// Adds the value of a pointer's next parameter, if there is one.
+    fn curry(&self, pointer: &mut FnPtr, value: Option<Dynamic>) {
+        if let Some(value) = value {
+            self.made(pointer.add_curry(value));
+        }
     }
 
     /// An integer, or a range from it.

@@ -3,11 +3,11 @@
 
 ghost use Rattle.std.specs.Prelude.{◌≡◌, ◌++◌, OnErr, OnOk, string_bytes};
 ghost use Rattle.ast_types.specs.Reading.{function_of, stmts_of};
-ghost use Rattle.text_notation.specs.Notation.{function_text, lines_text, script_text};
+ghost use Rattle.text_notation.specs.Notation.{function_text, lines_text, receiver_text, script_text};
 ghost use Rattle.rhai_script.specs.Script.{script_of};
 
 use rhai_ast::{ScriptFuncDef, Stmt};
-use rhai_base::OutOfMemory;
+use rhai_base::{ImmutableString, OutOfMemory};
 use rhai_script::AST;
 use text_node_notation::{push_block, push_names, push_stmt};
 
@@ -38,15 +38,23 @@ pub(crate) fn write_function(function: &ScriptFuncDef, text: &mut String) -> Res
     ensures { OnOk result (string_bytes text.new ≡ string_bytes text.old ++ function_text (function_of function.now)) }
 {
     text.push_str("fn ")?;
-    if let Some(receiver) = &function.this_type {
-        text.push_str(receiver.as_str())?;
-        text.push_str(".")?;
-    }
+    write_receiver(&function.this_type, text)?;
     text.push_str(function.name.as_str())?;
     text.push_str("(")?;
     push_names(function.params.as_slice(), text)?;
     text.push_str(") ")?;
     push_block(&function.body, text)
+}
+
+/// Appends the type of a receiver and a dot, if there is one. A refused call can leave a part.
+fn write_receiver(this_type: &Option<ImmutableString>, text: &mut String) -> Result<(), OutOfMemory>
+    ensures { OnOk result (string_bytes text.new ≡ string_bytes text.old ++ receiver_text this_type.now) }
+{
+    if let Some(receiver) = this_type {
+        text.push_str(receiver.as_str())?;
+        text.push_str(".")?;
+    }
+    Ok(())
 }
 
 /// Appends a script: each statement on a line, then each function on a line. A refused call leaves the text as it was.

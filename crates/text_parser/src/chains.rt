@@ -69,6 +69,7 @@ impl<'a> Parser<'a> {
             return self.member(inside);
         }
         let index = self.expr(inside);
+        self.want_no_bool(&index);
         self.expect_mark(Mark::RightBracket, "]", "to end this index");
         index
     }
@@ -149,6 +150,14 @@ impl<'a> Parser<'a> {
         Some(Expr::MethodCall(self.call_of(callee, args)?, pos))
     }
 
+    /// Refuses an index that is written as a bool.
+    fn want_no_bool(&self, index: &Option<Expr>) {
+        if let Some(index @ (Expr::And(..) | Expr::Or(..) | Expr::BoolConstant(..))) = index {
+            let reason = ParseErrorType::MalformedIndexExpr("no index is a bool");
+            self.refuse(reason, index.start_position());
+        }
+    }
+
     /// Refuses an index that its base cannot have, where both are literals.
     pub(crate) fn want_index(&self, chain: &Option<Expr>) {
         if let Some(Expr::Index(sides, flags, _)) = chain {
@@ -174,14 +183,14 @@ fn first_index(rhs: &Expr, flags: ASTFlags) -> &Expr {
 fn malformed_index(base: &Expr, index: &Expr) -> Option<(&'static str, Position)> {
     let kind = kind_of(index);
     match base {
-        Expr::Map(..) if is_among(kind, &["an integer", "a character", "bool", "()"]) => {
+        Expr::Map(..) if is_among(kind, &["an integer", "a character", "()"]) => {
             Some(("a map is indexed by texts", index.start_position()))
         }
         Expr::IntegerConstant(..)
         | Expr::Array(..)
         | Expr::StringConstant(..)
         | Expr::InterpolatedString(..)
-            if is_among(kind, &["a text", "a character", "bool", "()"]) => {
+            if is_among(kind, &["a text", "a character", "()"]) => {
             Some(("this is indexed by integers", index.start_position()))
         }
         Expr::CharConstant(..) | Expr::BoolConstant(..) | Expr::Unit(_) => {

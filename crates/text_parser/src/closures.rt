@@ -7,10 +7,11 @@ use crate::parser::Parser;
 use rhai_ast::{Expr, FnAccess, ScriptFuncDef, Stmt, StmtBlock};
 use rhai_base::{Dynamic, FnPtr, Ident, ImmutableString, Position, Seq, Token};
 use text_lexer::{Lexeme, Mark};
+use text_same::function_hash;
 
 impl<'a> Parser<'a> {
-    /// A closure, whose `|` stands next: a pointer to the function that it becomes. With names from around it, a block
-    /// that shares them and curries the pointer.
+    /// A closure, whose `|` stands next: a pointer to the function that it becomes, or to the same one that stands in the
+    /// table. With names from around it, a block that shares them and curries the pointer.
     #[cycle(parse)]
     pub(crate) fn closure(&self, inside: Inside) -> Option<Expr> {
         if self.is_restricted {
@@ -56,18 +57,27 @@ impl<'a> Parser<'a> {
         body: Option<StmtBlock>,
         pos: Position,
     ) -> Option<Expr> {
-        let name = self.anonymous()?;
-        let copy = self.made(name.clone())?;
-        let function = self.anonymous_function(copy, &captured, params, body);
-        self.add_function("", function, pos);
-        let pointer = self.pointer(name, pos);
+        let function = self.anonymous_function(&captured, params, body)?;
+        let pointer = self.pointer(self.joining(function, pos)?, pos);
         if captured.is_empty() {
             return pointer;
         }
         self.curried(captured, pointer, pos)
     }
 
-    /// The name of the next closure's function.
+    /// The name of a closure's function, which joins the table; or of the same function, which is there.
+    fn joining(&self, function: ScriptFuncDef, pos: Position) -> Option<ImmutableString> {
+        let hash = function_hash(&function);
+        if let Some(same) = self.same_closure(hash, &function) {
+            return Some(same);
+        }
+        let name = self.made(function.name.clone())?;
+        self.note_closure(hash);
+        self.add_function("", Some(function), pos);
+        Some(name)
+    }
+
+    /// The name that the next closure's function gets, if none is the same.
     fn anonymous(&self) -> Option<ImmutableString> {
         let number = self.made(format!(in self.alloc; "{}", self.next_closure()))?;
         self.made(prefixed(self.alloc, "anon$", number.as_str()))
@@ -76,12 +86,12 @@ impl<'a> Parser<'a> {
     /// The function of a closure, whose first parameters are the names that it takes from around it.
     fn anonymous_function(
         &self,
-        name: ImmutableString,
         captured: &[&'a str],
         params: Vec<ImmutableString>,
         body: Option<StmtBlock>,
     ) -> Option<ScriptFuncDef> {
         let body = body?;
+        let name = self.anonymous()?;
         let mut all = Vec::new(self.alloc);
         for word in captured {
             self.push(&mut all, self.shared(word));

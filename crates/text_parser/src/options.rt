@@ -11,6 +11,9 @@ pub struct ParseOptions {
     pub max_function_expr_depth: usize,
     /// How many bytes a text may have.
     pub max_string_size: usize,
+    /// The number of the first closure's function. Of two texts whose scripts are put together, the second one's
+    /// closures are numbered behind the first one's. rhai has no such bound: its names are hashes.
+    pub first_closure: usize,
 }
 
 impl ParseOptions {
@@ -23,6 +26,7 @@ impl ParseOptions {
             max_expr_depth: 64,
             max_function_expr_depth: 32,
             max_string_size: 0,
+            first_closure: 1,
         }
     }
 

@@ -56,7 +56,7 @@ impl<'a> Parser<'a> {
             fault: Cell::new(None),
             doc: Cell::new(None),
             variables: RefCell::new(Variables::new(alloc)),
-            table: RefCell::new(Table::new(alloc)),
+            table: RefCell::new(Table::new(alloc, options.first_closure)),
         }
     }
 

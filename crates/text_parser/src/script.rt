@@ -16,7 +16,8 @@ use std::alloc::Global;
 use std::rc::Rc;
 
 /// The script of a text in rhai's own syntax, as docs/SYNTAX.md has it. Its nodes stand where the text's do, its
-/// functions are in the order in which they end, and what it answers is well-formed.
+/// functions are in the order in which they end, and what it answers is well-formed. Closures that are the same but for
+/// where they stand are one function.
 ///
 /// The error says where the text stops being a script, and why. As `Engine::compile` of rhai, which also
 /// optimises what it reads.

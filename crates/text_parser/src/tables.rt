@@ -8,6 +8,7 @@ use rhai_script::FnKey;
 use std::alloc::{AllocError, Global};
 use std::collections::{HashMap, HashSet};
 use std::rc::Rc;
+use text_same::same_but_name;
 
 /// The functions so far, and texts that are shared.
 #[derive(Drop)]
@@ -16,8 +17,10 @@ pub(crate) struct Table<'a> {
     keys: HashSet<FnKey>,
     /// The functions' names.
     names: HashSet<&'a str>,
-    /// How many closures there are.
-    closures: usize,
+    /// The number of the next closure.
+    next_closure: usize,
+    /// The places of the closures' functions among them, by their hashes.
+    closures: HashMap<u64, Vec<usize>>,
     pub(crate) texts: Texts<'a>,
 }
 
@@ -44,13 +47,14 @@ impl<'a> Texts<'a> {
 }
 
 impl<'a> Table<'a> {
-    /// No functions and no texts.
-    pub(crate) fn new(alloc: Global) -> Table<'a> {
+    /// No functions and no texts, and the number of the first closure.
+    pub(crate) fn new(alloc: Global, first_closure: usize) -> Table<'a> {
         Table {
             functions: Vec::new(alloc),
             keys: HashSet::new(alloc),
             names: HashSet::new(alloc),
-            closures: 0,
+            next_closure: first_closure,
+            closures: HashMap::new(alloc),
             texts: Texts {
                 texts: HashMap::new(alloc),
             },
@@ -63,10 +67,37 @@ impl<'a> Table<'a> {
             functions,
             keys: _keys,
             names: _names,
+            next_closure: _next_closure,
             closures: _closures,
             texts: _texts,
         } = self;
         functions
+    }
+
+    /// The name of the function of a closure that is the same as this one, of this hash.
+    fn same_closure(&self, hash: u64, function: &ScriptFuncDef) -> Option<&ImmutableString> {
+        for place in self.closures.get(&hash)?.as_slice() {
+            if let Some(other) = self.functions.get(*place) {
+                if same_but_name(other, function) {
+                    return Some(&other.name);
+                }
+            }
+        }
+        None
+    }
+
+    /// Notes that the next function is a closure's, of this hash. It has the next number.
+    fn note_closure(&mut self, alloc: Global, hash: u64) -> Result<(), AllocError> {
+        let place = self.functions.len();
+        self.next_closure = self.next_closure.saturating_add(1);
+        if let Some(places) = self.closures.get_mut(&hash) {
+            places.push(place)?;
+            return Ok(());
+        }
+        let mut places = Vec::new(alloc);
+        places.push(place)?;
+        self.closures.insert(hash, places)?;
+        Ok(())
     }
 
     fn add(&mut self, key: FnKey, function: Rc<ScriptFuncDef>) -> Result<(), AllocError> {
@@ -85,14 +116,31 @@ impl<'a> Parser<'a> {
         }
     }
 
-    /// The number of the next closure, from 1.
+    /// The number of the next closure.
     pub(crate) fn next_closure(&self) -> usize {
-        match self.table.try_borrow_mut() {
-            Ok(mut table) => {
-                table.closures = table.closures.saturating_add(1);
-                table.closures
-            }
+        match self.table.try_borrow() {
+            Ok(table) => table.next_closure,
             Err(_) => 0,
+        }
+    }
+
+    /// The name of the function of a closure that is the same as this one, of this hash.
+    pub(crate) fn same_closure(
+        &self,
+        hash: u64,
+        function: &ScriptFuncDef,
+    ) -> Option<ImmutableString> {
+        match self.table.try_borrow() {
+            Ok(table) => self.made(table.same_closure(hash, function)?.clone()),
+            Err(_) => None,
+        }
+    }
+
+    /// Notes that the next function is a closure's, of this hash.
+    pub(crate) fn note_closure(&self, hash: u64) {
+        if let Ok(mut table) = self.table.try_borrow_mut() {
+            let noted = table.note_closure(self.alloc, hash);
+            self.made(noted);
         }
     }
 

@@ -4,7 +4,7 @@
 #![tactic(auto)]
 
 ghost use Rattle.std.specs.Prelude.{◌≡◌, IfOk, OnOk};
-ghost use Rattle.rhai_base.specs.Value.{inner};
+ghost use Rattle.rhai_base.specs.Value.{written};
 ghost use Rattle.rhai_base.specs.Reading.{value_of};
 ghost use Rattle.ast_types.specs.Reading.{stmts_of};
 ghost use Rattle.rhai_script.specs.Script.{script_of};
@@ -43,13 +43,13 @@ pub fn read_statements(alloc: Global, text: &str) -> Result<Vec<Stmt>, ReadError
     Ok(statements)
 }
 
-/// The value of a text, as an array writes it inside. A pointer has no values of its own.
+/// The value of a text, as an array writes it inside, and of pointers the names and values.
 pub fn read_value(alloc: Global, text: &str) -> Result<Dynamic, ReadError>
-    ensures { IfOk result (λ value. inner (value_of value) ≡ text.now) }
+    ensures { IfOk result (λ value. written (value_of value) ≡ text.now) }
 {
     let value = text_node_reader::read_value(alloc, text)?;
     let mut printed = String::new(alloc);
-    value.push_inner(&mut printed)?;
+    value.push_written(&mut printed)?;
     compared(text, printed.as_str())?;
     Ok(value)
 }

@@ -8,7 +8,7 @@ use Rattle.rhai_base.proofs.Same.{same_exact, same_itself}
 use Rattle.theory_meaning.specs.Calls.{same_type}
 use Rattle.theory_meaning.specs.Engine.{same_texts}
 use Rattle.theory_meaning.specs.Tree.{Callee, ChainFlags, PropertyNames, IntRange, ExclusiveInt, InclusiveInt, SwitchCase, SwitchRange, SwitchTable, Expr, DynamicConstant, BoolConstant, IntegerConstant, CharConstant, StringConstant, UnitConstant, InterpolatedString, ArrayOf, MapOf, Variable, ThisPtr, Property, MethodCall, BlockExpr, FnCall, Dot, Index, And, Or, Coalesce, Exprs, no_exprs, expr, Pairs, no_pairs, pair, MaybeExpr, no_expr, an_expr, Arms, no_arms, arm, Stmt, Noop, If, Switch, While, Do, For, Var, Assignment, FnCallStmt, Block, TryCatch, ExprStmt, BreakLoop, Return, Import, Export, Share, Stmts, no_stmts, stmt, Function, Script}
-use Rattle.text_same.specs.Alike.{operator_number, token_number, alike_callee, alike_flags, alike_property, is_inclusive, start_of, end_of, alike_range, alike_ranges, alike_case, alike_cases, alike_default, alike_table, alike_expr, alike_exprs, alike_pairs, alike_maybe, alike_arms, alike_stmt, alike_stmts, alike_function, alike_functions, alike_script}
+use Rattle.text_same.specs.Alike.{operator_number, token_number, alike_callee, alike_flags, alike_property, is_inclusive, start_of, end_of, alike_range, alike_ranges, alike_case, alike_cases, alike_default, alike_table, alike_expr, alike_exprs, alike_pairs, alike_maybe, alike_arms, alike_stmt, alike_stmts, nameless, alike_but_name, alike_function, alike_functions, alike_script}
 use Rattle.text_same.proofs.Tokens.{operator_exact, token_exact}
 
 -- ---- parts of answers
@@ -184,12 +184,20 @@ mutual
   stmts_exact (stmt a ss) (stmt b us) h = λ i. stmt (stmt_exact a b (fst _ _ h) i) (stmts_exact ss us (snd _ _ h) i)
   stmts_exact _ _ h = absurd (cc)
 
-function_exact : (a b : Function) → alike_function a b ≡ true → a ≡ b
-function_exact a b h = λ i. record {
-  name = text_exact a.name b.name (fst _ _ (fst _ _ (fst _ _ h))) i;
-  this_type = type_exact a.this_type b.this_type (snd _ _ (fst _ _ (fst _ _ h))) i;
+but_name_exact : (a b : Function) → alike_but_name a b ≡ true → nameless a ≡ nameless b
+but_name_exact a b h = λ i. record {
+  name = [];
+  this_type = type_exact a.this_type b.this_type (fst _ _ (fst _ _ h)) i;
   params = texts_exact a.params b.params (snd _ _ (fst _ _ h)) i;
   body = stmts_exact a.body b.body (snd _ _ h) i;
+}
+
+function_exact : (a b : Function) → alike_function a b ≡ true → a ≡ b
+function_exact a b h = λ i. record {
+  name = text_exact a.name b.name (fst _ _ h) i;
+  this_type = (but_name_exact a b (snd _ _ h) i).this_type;
+  params = (but_name_exact a b (snd _ _ h) i).params;
+  body = (but_name_exact a b (snd _ _ h) i).body;
 }
 
 functions_exact : (as' bs : List Function) → alike_functions as' bs ≡ true → as' ≡ bs
@@ -317,8 +325,11 @@ mutual
   stmts_itself no_stmts = refl
   stmts_itself (stmt a ss) = both (stmt_itself a) (stmts_itself ss)
 
+but_name_itself : (a : Function) → alike_but_name a a ≡ true
+but_name_itself a = both (both (type_itself a.this_type) (texts_itself a.params)) (stmts_itself a.body)
+
 function_itself : (a : Function) → alike_function a a ≡ true
-function_itself a = both (both (both (text_itself a.name) (type_itself a.this_type)) (texts_itself a.params)) (stmts_itself a.body)
+function_itself a = both (text_itself a.name) (but_name_itself a)
 
 functions_itself : (as' : List Function) → alike_functions as' as' ≡ true
 functions_itself [] = refl
@@ -340,6 +351,9 @@ same_lists b s t h = (λ p. stmts_exact s t (sym h ∙ p), λ p. h ∙ ap (alike
 
 pub same_functions : (b : Bool) (f g : Function) → b ≡ alike_function f g → IsTrue b ↔ (f ≡ g)
 same_functions b f g h = (λ p. function_exact f g (sym h ∙ p), λ p. h ∙ ap (alike_function f) (sym p) ∙ function_itself f)
+
+pub same_but_names : (b : Bool) (f g : Function) → b ≡ alike_but_name f g → IsTrue b ↔ (nameless f ≡ nameless g)
+same_but_names b f g h = (λ p. but_name_exact f g (sym h ∙ p), λ p. h ∙ ap (alike_but_name (nameless f)) (sym p) ∙ but_name_itself (nameless f))
 
 pub same_scripts : (b : Bool) (s t : Script) → b ≡ alike_script s t → IsTrue b ↔ (s ≡ t)
 same_scripts b s t h = (λ p. script_exact s t (sym h ∙ p), λ p. h ∙ ap (alike_script s) (sym p) ∙ script_itself s)

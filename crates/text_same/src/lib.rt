@@ -3,6 +3,7 @@
 //! takes memory, and each takes time linear in the first tree.
 #![tactic(auto)]
 
+mod hashes;
 mod leaves;
 mod names;
 mod nodes;
@@ -10,4 +11,5 @@ mod parts;
 mod scripts;
 mod tables;
 
-pub use scripts::{same_expr, same_function, same_script, same_stmt, same_stmts};
+pub use hashes::function_hash;
+pub use scripts::{same_but_name, same_expr, same_function, same_script, same_stmt, same_stmts};

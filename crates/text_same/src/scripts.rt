@@ -5,7 +5,7 @@ ghost use Rattle.std.specs.Prelude.{◌≡◌, ◌↔◌, IsTrue};
 ghost use Rattle.script_tables.specs.FnLib.{functions_of};
 ghost use Rattle.ast_types.specs.Reading.{expr_of, function_of, stmt_of, stmts_of};
 ghost use Rattle.rhai_script.specs.Script.{script_of};
-ghost use Rattle.text_same.specs.Alike.{alike_function, alike_functions, alike_script};
+ghost use Rattle.text_same.specs.Alike.{alike_but_name, alike_function, alike_functions, alike_script, nameless};
 
 use crate::names::{alike_names, alike_types};
 use crate::nodes::{alike_expr, alike_stmt, alike_stmts};
@@ -26,6 +26,13 @@ pub fn same_function(first: &ScriptFuncDef, second: &ScriptFuncDef) -> bool
     ensures { IsTrue result ↔ (function_of first.now ≡ function_of second.now) }
 {
     alike_function(first, second)
+}
+
+/// Whether the functions are the same but for their names. Access and comments are not compared.
+pub fn same_but_name(first: &ScriptFuncDef, second: &ScriptFuncDef) -> bool
+    ensures { IsTrue result ↔ (nameless (function_of first.now) ≡ nameless (function_of second.now)) }
+{
+    alike_but_name(first, second)
 }
 
 /// Whether the lists of statements are the same.
@@ -75,8 +82,13 @@ fn alike_functions(first: &FnLib, second: &FnLib) -> bool
 fn alike_function(first: &ScriptFuncDef, second: &ScriptFuncDef) -> bool
     ensures { result ≡ alike_function (function_of first.now) (function_of second.now) }
 {
-    first.name.as_str() == second.name.as_str()
-        && alike_types(&first.this_type, &second.this_type)
+    first.name.as_str() == second.name.as_str() && alike_but_name(first, second)
+}
+
+fn alike_but_name(first: &ScriptFuncDef, second: &ScriptFuncDef) -> bool
+    ensures { result ≡ alike_but_name (function_of first.now) (function_of second.now) }
+{
+    alike_types(&first.this_type, &second.this_type)
         && alike_names(first.params.as_slice(), second.params.as_slice())
         && alike_stmts(first.body.statements(), second.body.statements())
 }

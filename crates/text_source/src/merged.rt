@@ -7,7 +7,6 @@ ghost use Rattle.text_source.specs.Texts.{AreMerged};
 use crate::printed::Written;
 use crate::refusal::Refusal;
 use crate::syntax::{Syntax, read, write};
-use base_engine::EngineInfo;
 use std::alloc::Global;
 
 /// The text of two scripts as one: the statements of the second behind those of the first, and a function of the
@@ -18,10 +17,5 @@ pub fn merge(alloc: Global, syntax: Syntax, first: &str, second: &str) -> Result
 {
     let first = read(alloc, syntax, first)?;
     let second = read(alloc, syntax, second)?;
-    write(
-        alloc,
-        syntax,
-        &EngineInfo::new(alloc),
-        first.merge(&second)?,
-    )
+    write(alloc, syntax, first.merge(&second)?)
 }

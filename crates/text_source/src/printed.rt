@@ -1,20 +1,17 @@
 //! Scripts in print, read again.
 
-ghost use Rattle.std.specs.Prelude.{◌≡◌, ◌++◌, [], List, ℕ, IfOk, IsTrue, OnErr, OnOk, string_bytes};
-ghost use Rattle.base_engine.specs.EngineInfo.{engine_of};
-ghost use Rattle.opt_known.specs.declared.level.OptimizationLevel.TheVariants as level;
-ghost use Rattle.rhai_optimizer.specs.Optimised.{Becomes};
+ghost use Rattle.std.specs.Prelude.{◌≡◌, ◌++◌, List, ℕ, IfOk, IsTrue, OnErr, OnOk, string_bytes};
 ghost use Rattle.rhai_script.specs.Script.{script_of};
-ghost use Rattle.text_source.specs.Alike.{DoTheSame};
+ghost use Rattle.theory_spelling.specs.Runs.{DoTheSame};
 
 use crate::error::SourceError;
-use base_engine::EngineInfo;
-use rhai_base::OutOfMemory;
-use rhai_optimizer::{OptimizationLevel, optimize_ast};
+use crate::reader::Reader;
+use rhai_base::{ImmutableString, OutOfMemory};
 use rhai_script::AST;
 use std::alloc::Global;
-use text_alike::spelled_alike;
-use text_parser::{ParseOptions, compile_with};
+use text_alike::{spelled_alike, spelled_alike_but_names};
+use text_parser::ParseOptions;
+use text_spelling::{Printed, spelled};
 
 /// A script that was written.
 #[derive(Drop)]
@@ -25,17 +22,43 @@ pub struct Written {
     pub script: AST,
 }
 
-/// A script's text in rhai's own syntax, and the script that this is read as: the same but for positions and how it is
-/// spelled, or one of which the optimiser makes the same. Comments of functions and the script's doc are printed.
-/// Refused where no text spells the script, by the node's position, and for want of memory.
+/// A script's text in rhai's own syntax, and the script that this is read as: the same but for positions, how it is
+/// spelled, the order of functions, and names of closures; closures that nothing points to are left out. Comments of
+/// functions and the script's doc are printed. Refused where no text spells the script, by the node's position, and for
+/// want of memory.
 ///
 /// rhai prints no scripts.
-pub fn source(alloc: Global, info: &EngineInfo, script: &AST) -> Result<Written, SourceError>
-    ensures { IfOk result (λ made. DoTheSame (engine_of info.now) (script_of script.now) (script_of made.script)) }
+pub fn source(alloc: Global, script: &AST) -> Result<Written, SourceError>
+    ensures { IfOk result (λ made. DoTheSame (script_of script.now) (script_of made.script)) }
 {
-    let text = text_spelling::spelled(alloc, script)?;
-    let read = compile_with(alloc, text.as_str(), unbounded()).map_err(SourceError::Unread)?;
-    if are_alike(alloc, info, script, &read)? {
+    source_by(alloc, &ParseOptions::new(), script)
+}
+
+/// The same, where the text is read by this reader.
+pub fn source_by<R: Reader>(alloc: Global, reader: &R, script: &AST) -> Result<Written, SourceError>
+    ensures same { IfOk result (λ made. DoTheSame (script_of script.now) (script_of made.script)) }
+    ensures read { IfOk result (λ made. R.reads reader.now (string_bytes made.text) (script_of made.script)) }
+{
+    let Printed { text, closures } = spelled(script)?;
+    match reader.read_printed(alloc, text.as_str()) {
+        Ok(read) => compared(alloc, script, text, read, closures.as_slice()),
+        Err(error) => Err(SourceError::Unread(error)),
+    }
+}
+
+/// A script, its text, and what this was read as, if that does the same.
+fn compared(
+    alloc: Global,
+    script: &AST,
+    text: String,
+    read: AST,
+    closures: &[ImmutableString],
+) -> Result<Written, SourceError>
+    ensures same { IfOk result (λ made. DoTheSame (script_of script.now) (script_of made.script)) }
+    ensures text { IfOk result (λ made. string_bytes made.text ≡ string_bytes text) }
+    ensures script { IfOk result (λ made. script_of made.script ≡ script_of read) }
+{
+    if do_the_same(alloc, script, &read, closures)? {
         return Ok(Written { text, script: read });
     }
     Err(SourceError::AnotherScript)
@@ -47,49 +70,24 @@ pub fn push_source(script: &AST, text: &mut String) -> Result<(), SourceError>
     ensures err { OnErr result (string_bytes text.new ≡ string_bytes text.old) }
 {
     let alloc = *text.allocator();
-    let made = source(alloc, &EngineInfo::new(alloc), script)?;
+    let made = source(alloc, script)?;
     text.push_str(made.text.as_str())
         .map_err(|_| SourceError::OutOfMemory)
 }
 
-/// Whether two scripts are the same but for how they are spelled, or the optimiser makes such of both.
-fn are_alike(
+/// Whether two scripts are the same but for how they are spelled, or for names too; with the names that the second
+/// one's closures have in the first.
+fn do_the_same(
     alloc: Global,
-    info: &EngineInfo,
     first: &AST,
     second: &AST,
+    closures: &[ImmutableString],
 ) -> Result<bool, OutOfMemory>
-    ensures { IfOk result (λ alike.
-        IsTrue alike → DoTheSame (engine_of info.now) (script_of first.now) (script_of second.now)) }
+    ensures { IfOk result (λ same. IsTrue same → DoTheSame (script_of first.now) (script_of second.now)) }
 {
     let is_alike = spelled_alike(alloc, first, second)?;
     if is_alike {
         return Ok(true);
     }
-    let first = reduced(alloc, info, first)?;
-    let second = reduced(alloc, info, second)?;
-    spelled_alike(alloc, &first, &second)
-}
-
-/// What the optimiser makes of a script of which nothing is known.
-fn reduced(alloc: Global, info: &EngineInfo, script: &AST) -> Result<AST, OutOfMemory>
-    ensures { IfOk result (λ made.
-        Becomes (engine_of info.now) [] level.Simple (script_of script.now) (script_of made)) }
-{
-    optimize_ast(
-        alloc,
-        info,
-        None,
-        script.clone()?,
-        OptimizationLevel::Simple,
-    )
-}
-
-/// No bounds but the parser's own.
-fn unbounded() -> ParseOptions {
-    ParseOptions {
-        max_expr_depth: 0,
-        max_function_expr_depth: 0,
-        max_string_size: 0,
-    }
+    spelled_alike_but_names(alloc, first, second, closures)
 }

@@ -1,13 +1,11 @@
 //! The two ways in which a script is written.
 
 ghost use Rattle.std.specs.Prelude.{◌≡◌, IfOk, string_bytes};
-ghost use Rattle.base_engine.specs.EngineInfo.{engine_of};
 ghost use Rattle.rhai_script.specs.Script.{script_of};
 ghost use Rattle.text_source.specs.Texts.{IsReadAs, IsWrittenAs};
 
-use crate::printed::{Written, source};
+use crate::printed::{Written, source_by};
 use crate::refusal::Refusal;
-use base_engine::EngineInfo;
 use rhai_script::AST;
 use std::alloc::Global;
 use text_notation::push_script;
@@ -40,19 +38,14 @@ pub fn read(alloc: Global, syntax: Syntax, text: &str) -> Result<AST, Refusal>
     }
 }
 
-/// The text of a script, and the script that it is read as, which does the same under an engine's record. Refused where
-/// no text spells the script.
-pub fn write(
-    alloc: Global,
-    syntax: Syntax,
-    info: &EngineInfo,
-    script: AST,
-) -> Result<Written, Refusal>
+/// The text of a script, and the script that it is read as, which does the same. Refused where no text spells the
+/// script.
+pub fn write(alloc: Global, syntax: Syntax, script: AST) -> Result<Written, Refusal>
     ensures { IfOk result (λ made.
-        IsWrittenAs (engine_of info.now) syntax (script_of script) (string_bytes made.text) (script_of made.script)) }
+        IsWrittenAs syntax (script_of script) (string_bytes made.text) (script_of made.script)) }
 {
     match syntax {
-        Syntax::Rhai(_) => Ok(source(alloc, info, &script)?),
+        Syntax::Rhai(options) => Ok(source_by(alloc, &options, &script)?),
         Syntax::Notation => {
             let mut text = String::new(alloc);
             push_script(&script, &mut text)?;

@@ -2,7 +2,7 @@
 
 use crate::error::Unspelled;
 use crate::inside::Inside;
-use crate::needs::Need;
+use crate::needs::{Need, stands_in_braces};
 use crate::printer::Printer;
 use crate::words::{is_method_word, is_name};
 use rhai_ast::{BinaryExpr, Expr, ExprQueries, FnCallExpr, TreeFault};
@@ -55,7 +55,7 @@ impl<'t> Printer<'t> {
     fn link(&self, is_dot: bool, expr: &'t Expr, inside: Inside) {
         if !is_dot {
             self.put("[");
-            self.expr(expr, Need::Nothing, inside);
+            self.expr(expr, Need::Index, inside);
             self.put("]");
             return;
         }
@@ -125,7 +125,11 @@ fn literal_of_value(value: &Dynamic) -> Option<Literal> {
 
 /// Whether a text may not have a literal as the base of this index.
 fn is_no_base(base: &Expr, index: &Expr) -> bool {
-    let index = literal_of(index);
+    let index = if stands_in_braces(index) {
+        None
+    } else {
+        literal_of(index)
+    };
     match literal_of(base) {
         Some(Literal::Map) => matches!(index, Some(Literal::Integer | Literal::Other)),
         Some(Literal::Integer | Literal::Text | Literal::Array) => {

@@ -48,9 +48,12 @@ pub enum Unspelled {
     /// What a closure shares, without its closure.
     #[error("shared names without a closure")]
     Share,
-    /// A closure without its function, or its function in no closure or in several.
-    #[error("a closure's function without its closure")]
+    /// A closure without its function.
+    #[error("a closure without its function")]
     Closure,
+    /// Closures that stand in so many places that they are most of the text.
+    #[error("closures in too many places")]
+    Copies,
     /// Deeper than any text is read.
     #[error("nested too deeply")]
     TooDeep,

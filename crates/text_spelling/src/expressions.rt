@@ -3,11 +3,12 @@
 use crate::error::Unspelled;
 use crate::inside::Inside;
 use crate::needs::{
-    AND, Brackets, COALESCE, Need, OR, RANGE, Side, brackets_of, need_of_list, precedence, run_of,
+    AND, Brackets, COALESCE, Infix, Need, OR, RANGE, Side, brackets_of, infix_of, is_signed,
+    need_of_list, run_of,
 };
 use crate::printer::Printer;
 use crate::values::Holder;
-use crate::words::{is_anonymous, is_called_word, is_name};
+use crate::words::{is_called_word, is_name};
 use rhai_ast::{Expr, ExprQueries, FnCallExpr, Stmt, StmtBlock, TreeFault};
 use rhai_base::{Dynamic, Ident, ImmutableString, Namespace, Position, Token};
 
@@ -18,12 +19,23 @@ impl<'t> Printer<'t> {
         let Some(inside) = self.below(inside, expr.position()) else {
             return;
         };
-        match brackets_of(expr, need) {
+        let braces = self.open_braces(Some(expr), need);
+        let (within, inside) = if braces > 0 {
+            (Need::Start, inside.past(braces.saturating_mul(3)))
+        } else {
+            (need, inside)
+        };
+        match brackets_of(expr, within) {
             Brackets::Nothing => self.bare(expr, inside),
             Brackets::Parentheses => {
                 self.put("(");
                 self.bare(expr, inside.past(1));
                 self.put(")");
+            }
+            Brackets::Braces => {
+                self.put("{ ");
+                self.bare(expr, inside.past(2));
+                self.put(" }");
             }
             Brackets::Block => {
                 self.put("({ ");
@@ -31,6 +43,7 @@ impl<'t> Printer<'t> {
                 self.put(" })");
             }
         }
+        self.close_braces(braces, need);
     }
 
     /// An expression as it is written by itself.
@@ -82,22 +95,13 @@ impl<'t> Printer<'t> {
         self.put("this");
     }
 
-    /// A value, or the closure whose function it points to.
     #[cycle(print)]
     fn constant(&self, value: &'t Dynamic, pos: Position, inside: Inside) {
-        match value {
-            Dynamic::FnPtr(pointer) if !pointer.is_curried() && is_anonymous(pointer.fn_name()) => {
-                self.closure(pointer.fn_name(), &[], pos, inside);
-            }
-            _ => self.value(
-                value,
-                Holder {
-                    position: pos,
-                    is_key: false,
-                },
-                inside,
-            ),
-        }
+        let holder = Holder {
+            position: pos,
+            is_key: false,
+        };
+        self.value(value, holder, inside);
     }
 
     /// Expressions between two marks, with commas between.
@@ -140,7 +144,7 @@ impl<'t> Printer<'t> {
         let need = need_of_list(binds, Side::Left);
         let (sign, nothing) = signs_of_list(binds);
         self.expr(first, need, inside);
-        let mut behind = inside.past(run_of(first, need));
+        let mut behind = inside.past(run_of(first, need, inside.levels));
         for operand in others {
             behind = behind.past(1);
             self.put(sign);
@@ -163,13 +167,20 @@ impl<'t> Printer<'t> {
     /// A call, or an operator over its operands.
     #[cycle(print)]
     pub(crate) fn call(&self, call: &'t FnCallExpr, pos: Position, inside: Inside) {
+        if let Some(infix) = infix_of(call, pos) {
+            return self.infix(infix, inside);
+        }
         match (call.op_token, call.args.as_slice()) {
-            (Some(token), [lhs, rhs]) if precedence(token) > 0 => {
-                self.infix(token, lhs, rhs, inside);
-            }
-            (Some(token @ (Token::UnaryMinus | Token::UnaryPlus | Token::Bang)), [operand]) => {
+            (Some(token @ (Token::UnaryMinus | Token::UnaryPlus)), [operand]) => {
                 self.put(token.literal_syntax());
+                if is_signed(operand) {
+                    self.put(" ");
+                }
                 self.expr(operand, Need::Signed, inside);
+            }
+            (Some(Token::Bang), [operand]) => {
+                self.put("!");
+                self.expr(operand, Need::Negated, inside);
             }
             (_, args) => {
                 self.callee(call, pos);
@@ -198,32 +209,51 @@ impl<'t> Printer<'t> {
     /// An operator between its operands. Those of the same run that stand before it are levels to the right one, and so
     /// is the operator itself.
     #[cycle(print)]
-    fn infix(&self, token: Token, lhs: &'t Expr, rhs: &'t Expr, inside: Inside) {
-        let binds = precedence(token);
+    fn infix(&self, infix: Infix<'t>, inside: Inside) {
+        let Infix {
+            binds,
+            sign,
+            lhs,
+            rhs,
+        } = infix;
         let blank = if binds == RANGE { "" } else { " " };
         let need = Need::Operand(binds, Side::Left);
         self.expr(lhs, need, inside);
         self.put(blank);
-        self.put(token.literal_syntax());
+        self.put(sign);
         self.put(blank);
-        let behind = inside.past(run_of(lhs, need)).past(1);
+        let behind = inside.past(run_of(lhs, need, inside.levels)).past(1);
         self.expr(rhs, Need::Operand(binds, Side::Right), behind);
     }
 
     // ---- blocks
 
-    /// A block as an expression; a choice that is all of it, and a closure with what it takes from around it, stand by
-    /// themselves.
+    /// A block as an expression; a choice or a loop that is all of it, and a closure with what it takes from around it,
+    /// stand by themselves, and an expression that is all of it on the same line.
     #[cycle(print)]
     pub(crate) fn block_expression(&self, block: &'t StmtBlock, inside: Inside) {
+        let inside = inside.valued(true);
         match block.statements() {
             [Stmt::Share(shared), curried] => {
                 self.sharing(shared.get().as_slice(), curried, inside);
             }
-            [choice @ (Stmt::If(..) | Stmt::Switch(..))] => self.statement(choice, inside),
+            [only] if begins_expression(only) => self.statement(only, inside),
+            [only @ (Stmt::Expr(_) | Stmt::FnCall(..))] => {
+                self.put("{ ");
+                self.statement(only, inside);
+                self.put(" }");
+            }
             _ => self.block(block, inside),
         }
     }
+}
+
+/// Whether a statement is an expression by itself, behind which nothing goes on with it.
+fn begins_expression(statement: &Stmt) -> bool {
+    matches!(
+        statement,
+        Stmt::If(..) | Stmt::Switch(..) | Stmt::While(..) | Stmt::For(..)
+    )
 }
 
 /// The sign of a list that binds so, and what changes nothing behind it.

@@ -14,6 +14,8 @@ pub(crate) struct Inside {
     pub(crate) blocks: usize,
     /// Whether a function or a closure is around it.
     pub(crate) is_function: bool,
+    /// Whether the value of its list of statements is used, which its last one gives.
+    pub(crate) is_value: bool,
 }
 
 impl Inside {
@@ -23,6 +25,7 @@ impl Inside {
             levels: LEVELS,
             blocks: 0,
             is_function: false,
+            is_value: false,
         }
     }
 
@@ -34,6 +37,7 @@ impl Inside {
             levels: self.levels,
             blocks: self.blocks,
             is_function: true,
+            is_value: true,
         }
     }
 
@@ -45,6 +49,19 @@ impl Inside {
             levels: self.levels,
             blocks: self.blocks.saturating_add(1),
             is_function: self.is_function,
+            is_value: self.is_value,
+        }
+    }
+
+    /// What is a list whose value is used, or is not.
+    pub(crate) fn valued(self, is_value: bool) -> Inside
+        ensures { result.levels ≡ self.levels }
+    {
+        Inside {
+            levels: self.levels,
+            blocks: self.blocks,
+            is_function: self.is_function,
+            is_value,
         }
     }
 
@@ -56,6 +73,7 @@ impl Inside {
             levels: self.levels.saturating_sub(signs),
             blocks: self.blocks,
             is_function: self.is_function,
+            is_value: self.is_value,
         }
     }
 
@@ -68,6 +86,7 @@ impl Inside {
             levels,
             blocks: self.blocks,
             is_function: self.is_function,
+            is_value: self.is_value,
         })
     }
 }

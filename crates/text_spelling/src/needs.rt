@@ -1,8 +1,9 @@
 //! Which brackets an expression stands in.
 
-use crate::words::is_anonymous;
-use rhai_ast::{Expr, FnCallExpr};
-use rhai_base::{Dynamic, Token};
+use crate::closures::has_constants;
+use crate::words::{is_anonymous, stands_before};
+use rhai_ast::{Expr, ExprQueries, FnCallExpr, Stmt};
+use rhai_base::{Dynamic, Position, Token};
 
 /// What stands around an expression.
 #[derive(Clone, Copy, Debug, PartialEq, Eq)]
@@ -19,8 +20,12 @@ pub(crate) enum Need {
     Operand(u8, Side),
     /// The same of one whose operands are bools.
     BoolOperand(u8, Side),
-    /// A sign before it.
+    /// `-` or `+` before it.
     Signed,
+    /// `!` before it.
+    Negated,
+    /// The brackets of an index around it.
+    Index,
     /// A step of a chain behind it.
     Base,
     /// An index behind it that no literal of its kind has.
@@ -60,7 +65,9 @@ enum Shape {
 pub(crate) enum Brackets {
     Nothing,
     Parentheses,
-    /// A block in parentheses, in which a literal is no longer one.
+    /// A block, in which what it is no longer shows.
+    Braces,
+    /// The same in parentheses.
     Block,
 }
 
@@ -69,6 +76,9 @@ pub(crate) const OR: u8 = 30;
 
 /// How tightly `&&` binds.
 pub(crate) const AND: u8 = 60;
+
+/// How tightly `in` and `!in` bind.
+const IN: u8 = 110;
 
 /// How tightly `??` binds.
 pub(crate) const COALESCE: u8 = 135;
@@ -80,7 +90,7 @@ pub(crate) const RANGE: u8 = 140;
 const POWER: u8 = 190;
 
 /// How tightly the operator of a token binds between two operands; 0 where it stands between none.
-pub(crate) fn precedence(token: Token) -> u8 {
+fn precedence(token: Token) -> u8 {
     match token {
         Token::Pipe | Token::XOr => 30,
         Token::Ampersand => 60,
@@ -98,19 +108,79 @@ pub(crate) fn precedence(token: Token) -> u8 {
     }
 }
 
+/// An operator between two operands.
+#[derive(Clone, Copy)]
+pub(crate) struct Infix<'c> {
+    /// How tightly it binds.
+    pub(crate) binds: u8,
+    /// Its letters.
+    pub(crate) sign: &'static str,
+    pub(crate) lhs: &'c Expr,
+    pub(crate) rhs: &'c Expr,
+}
+
+/// The operator between two operands that a call which stands there is written as, if it is.
+pub(crate) fn infix_of(call: &FnCallExpr, pos: Position) -> Option<Infix<'_>> {
+    match (call.op_token, call.args.as_slice()) {
+        (Some(token), [lhs, rhs]) if precedence(token) > 0 => Some(Infix {
+            binds: precedence(token),
+            sign: token.literal_syntax(),
+            lhs,
+            rhs,
+        }),
+        (Some(Token::Bang), [Expr::FnCall(contains, pos)]) => {
+            contained(contains.get(), *pos, "!in")
+        }
+        _ => contained(call, pos, "in"),
+    }
+}
+
+/// An item and what it is looked for in, if this is the call that an operator of these letters makes of them. One that
+/// stands before its item was written as a call.
+fn contained<'c>(call: &'c FnCallExpr, pos: Position, sign: &'static str) -> Option<Infix<'c>> {
+    match call.args.as_slice() {
+        [whole, item] if is_contains(call) && !stands_before(pos, item.position()) => {
+            Some(Infix {
+                binds: IN,
+                sign,
+                lhs: item,
+                rhs: whole,
+            })
+        }
+        _ => None,
+    }
+}
+
+fn is_contains(call: &FnCallExpr) -> bool {
+    call.op_token.is_none()
+        && call.name.as_str() == "contains"
+        && call.namespace.is_empty()
+        && !call.capture_parent_scope
+}
+
 // ---- shapes
 
 fn shape_of(expr: &Expr) -> Shape {
     match expr {
         Expr::IntegerConstant(value, _) if is_negative(*value) => Shape::Negative,
         Expr::DynamicConstant(value, _) => shape_of_value(value.get()),
-        Expr::FnCall(call, _) => shape_of_call(call.get()),
+        Expr::FnCall(call, pos) => shape_of_call(call.get(), *pos),
         Expr::And(..) => Shape::List(AND),
         Expr::Or(..) => Shape::List(OR),
         Expr::Coalesce(..) => Shape::List(COALESCE),
         Expr::Dot(..) | Expr::Index(..) => Shape::Chain,
-        Expr::Stmt(_) => Shape::Block,
+        Expr::Stmt(block) => shape_of_block(block.get().statements()),
         _ => Shape::Whole,
+    }
+}
+
+/// A closure with names from around it is one, unless it stands in a block with constants.
+fn shape_of_block(statements: &[Stmt]) -> Shape {
+    match statements {
+        [Stmt::Share(shared), curried] if !has_constants(shared.get().as_slice(), curried) => {
+            Shape::Closure
+        }
+        _ => Shape::Block,
     }
 }
 
@@ -130,9 +200,11 @@ fn is_negative(value: i64) -> bool {
     value < 0 && value != i64::MIN
 }
 
-fn shape_of_call(call: &FnCallExpr) -> Shape {
+fn shape_of_call(call: &FnCallExpr, pos: Position) -> Shape {
+    if let Some(infix) = infix_of(call, pos) {
+        return Shape::Infix(infix.binds);
+    }
     match (call.op_token, call.args.len()) {
-        (Some(token), 2) if precedence(token) > 0 => Shape::Infix(precedence(token)),
         (Some(Token::UnaryMinus | Token::UnaryPlus | Token::Bang), 1) => Shape::Sign,
         _ => Shape::Whole,
     }
@@ -142,22 +214,46 @@ fn shape_of_call(call: &FnCallExpr) -> Shape {
 
 /// The brackets that an expression stands in there.
 pub(crate) fn brackets_of(expr: &Expr, need: Need) -> Brackets {
-    if stands_in_block(expr, need) {
-        Brackets::Block
-    } else if stands_in_parentheses(shape_of(expr), need) {
-        Brackets::Parentheses
+    let is_block = stands_in_block(expr, need);
+    let shape = if is_block {
+        Shape::Block
     } else {
-        Brackets::Nothing
+        shape_of(expr)
+    };
+    match (is_block, stands_in_parentheses(shape, need)) {
+        (true, true) => Brackets::Block,
+        (true, false) => Brackets::Braces,
+        (false, true) => Brackets::Parentheses,
+        (false, false) => Brackets::Nothing,
     }
 }
 
-/// Whether a literal is written as a block: one of another kind than what should stand there, and the integer of a
-/// sign, since with the sign it is a literal.
+/// Whether an expression has a pair of braces around it there.
+pub(crate) fn is_in_block(expr: &Expr, need: Need) -> bool {
+    matches!(brackets_of(expr, need), Brackets::Braces | Brackets::Block)
+}
+
+/// Whether braces around an expression there change nothing.
+pub(crate) fn may_have_braces(need: Need) -> bool {
+    matches!(
+        need,
+        Need::Nothing | Need::Start | Need::Condition | Need::Iterable
+    )
+}
+
+/// Whether an index stands in a block.
+pub(crate) fn stands_in_braces(index: &Expr) -> bool {
+    matches!(index, Expr::And(..) | Expr::Or(..)) || is_bool(index)
+}
+
+/// Whether what an expression is may not show, so that it is written as a block: a literal of another kind than what
+/// should stand there, the integer of a sign, since with the sign it is a literal, and an index that is a bool.
 fn stands_in_block(expr: &Expr, need: Need) -> bool {
     match need {
         Need::Condition | Need::BoolOperand(..) => is_literal(expr) && !is_bool(expr),
         Need::Iterable => is_flat(expr),
-        Need::Signed => matches!(expr, Expr::IntegerConstant(..)),
+        Need::Signed => is_integer(expr),
+        Need::Index => stands_in_braces(expr),
         Need::BaseInBlock => true,
         _ => false,
     }
@@ -166,9 +262,11 @@ fn stands_in_block(expr: &Expr, need: Need) -> bool {
 fn stands_in_parentheses(shape: Shape, need: Need) -> bool {
     match (need, shape) {
         (_, Shape::Whole) => false,
-        (Need::Nothing, _) => false,
+        (Need::Nothing | Need::Index, _) => false,
         (Need::Start | Need::Condition | Need::Iterable, Shape::Block) => true,
         (Need::Start | Need::Condition | Need::Iterable, _) => false,
+        (Need::Operand(_, Side::Right) | Need::BoolOperand(_, Side::Right), Shape::Block) => false,
+        (Need::Signed | Need::Negated, Shape::Block) => false,
         (_, Shape::Block | Shape::Closure) => true,
         (Need::Operand(around, side) | Need::BoolOperand(around, side), Shape::Infix(own)) => {
             binds_weaker(own, around, side)
@@ -177,8 +275,8 @@ fn stands_in_parentheses(shape: Shape, need: Need) -> bool {
             own == around && side == Side::Left || binds_weaker(own, around, side)
         }
         (Need::Operand(..) | Need::BoolOperand(..), _) => false,
-        (Need::Signed, Shape::Infix(_) | Shape::List(_) | Shape::Sign) => true,
-        (Need::Signed, _) => false,
+        (Need::Signed | Need::Negated, Shape::Infix(_) | Shape::List(_)) => true,
+        (Need::Signed | Need::Negated, _) => false,
         (Need::Base | Need::BaseInBlock, _) => true,
     }
 }
@@ -201,6 +299,14 @@ fn is_bool(expr: &Expr) -> bool {
     }
 }
 
+fn is_integer(expr: &Expr) -> bool {
+    match expr {
+        Expr::IntegerConstant(..) => true,
+        Expr::DynamicConstant(value, _) => matches!(value.get(), Dynamic::Int(_)),
+        _ => false,
+    }
+}
+
 /// Whether this is a literal of a kind that a condition cannot have.
 fn is_literal(expr: &Expr) -> bool {
     match expr {
@@ -216,6 +322,18 @@ fn is_literal(expr: &Expr) -> bool {
         | Expr::Array(..)
         | Expr::Map(..)
         | Expr::Unit(_) => true,
+        _ => false,
+    }
+}
+
+/// Whether an expression begins with `-` or `+` before an operand.
+pub(crate) fn is_signed(expr: &Expr) -> bool {
+    match expr {
+        Expr::FnCall(call, _) => {
+            let call = call.get();
+            let is_sign = matches!(call.op_token, Some(Token::UnaryMinus | Token::UnaryPlus));
+            is_sign && call.args.len() == 1
+        }
         _ => false,
     }
 }
@@ -246,36 +364,42 @@ pub(crate) fn need_of_list(binds: u8, side: Side) -> Need {
     }
 }
 
-/// How many operators are read in a run from the beginning of an operand on. Each is a level to those behind it.
-#[cycle(runs)]
-pub(crate) fn run_of(expr: &Expr, need: Need) -> u32 {
-    if brackets_of(expr, need) != Brackets::Nothing {
-        return 0;
-    }
-    match expr {
-        Expr::FnCall(call, _) => run_of_call(call.get()),
-        Expr::And(operands, _) => run_of_list(operands.get().as_slice(), AND),
-        Expr::Or(operands, _) => run_of_list(operands.get().as_slice(), OR),
-        Expr::Coalesce(operands, _) => run_of_list(operands.get().as_slice(), COALESCE),
-        _ => 0,
-    }
-}
-
-#[cycle(runs)]
-fn run_of_call(call: &FnCallExpr) -> u32 {
-    match (shape_of_call(call), call.args.as_slice()) {
-        (Shape::Infix(binds), [lhs, _]) => {
-            run_of(lhs, Need::Operand(binds, Side::Left)).saturating_add(1)
+/// How many operators are read in a run from the beginning of an operand on, as far as so many levels go. Each is a level
+/// to those behind it.
+pub(crate) fn run_of(expr: &Expr, need: Need, levels: u32) -> u32 {
+    let mut operand = expr;
+    let mut around = need;
+    let mut run: u32 = 0;
+    for _ in 0..levels {
+        if brackets_of(operand, around) != Brackets::Nothing {
+            break;
         }
-        _ => 0,
+        let Some((first, need, signs)) = first_operand(operand) else {
+            break;
+        };
+        operand = first;
+        around = need;
+        run = run.saturating_add(signs);
+    }
+    run
+}
+
+/// The first operand of an operator, what is around it, and how many operators stand behind it.
+fn first_operand(expr: &Expr) -> Option<(&Expr, Need, u32)> {
+    match expr {
+        Expr::FnCall(call, pos) => {
+            let infix = infix_of(call.get(), *pos)?;
+            Some((infix.lhs, Need::Operand(infix.binds, Side::Left), 1))
+        }
+        Expr::And(operands, _) => first_of_list(operands.get().as_slice(), AND),
+        Expr::Or(operands, _) => first_of_list(operands.get().as_slice(), OR),
+        Expr::Coalesce(operands, _) => first_of_list(operands.get().as_slice(), COALESCE),
+        _ => None,
     }
 }
 
-#[cycle(runs)]
-fn run_of_list(operands: &[Expr], binds: u8) -> u32 {
-    let Some((first, others)) = operands.split_first() else {
-        return 0;
-    };
+fn first_of_list(operands: &[Expr], binds: u8) -> Option<(&Expr, Need, u32)> {
+    let (first, others) = operands.split_first()?;
     let signs = u32::try_from(others.len()).unwrap_or(u32::MAX).max(1);
-    run_of(first, need_of_list(binds, Side::Left)).saturating_add(signs)
+    Some((first, need_of_list(binds, Side::Left), signs))
 }

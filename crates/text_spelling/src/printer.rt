@@ -4,9 +4,12 @@ ghost use Rattle.std.specs.Prelude.{◌<◌, IfSome};
 
 use crate::error::{SpellError, Unspelled};
 use crate::inside::Inside;
+use crate::needs::{Need, is_in_block, may_have_braces};
 use crate::scopes::Scopes;
+use crate::table::Table;
 use crate::words::is_name;
-use rhai_base::Position;
+use rhai_ast::Expr;
+use rhai_base::{ImmutableString, Position};
 use script_tables::{FnLib, allocator_of};
 use std::alloc::Global;
 use std::cell::{Cell, RefCell};
@@ -15,47 +18,66 @@ use std::cell::{Cell, RefCell};
 #[derive(Drop)]
 pub(crate) struct Printer<'t> {
     pub(crate) alloc: Global,
-    pub(crate) lib: &'t FnLib,
     text: Cell<String>,
     fault: Cell<Option<SpellError>>,
-    /// The functions whose closures were printed.
-    closures: Cell<Vec<&'t str>>,
-    /// How many functions of the table were printed, or passed over.
-    functions: Cell<usize>,
+    /// Whether nothing is written, where it is asked alone which names are used.
+    is_mute: Cell<bool>,
+    /// Whether a function is the last that was written.
+    ends_function: Cell<bool>,
+    /// How many pairs of braces stand around the next expression that may have some.
+    braces: Cell<u32>,
+    pub(crate) table: RefCell<Table<'t>>,
     pub(crate) scopes: RefCell<Scopes<'t>>,
+}
+
+/// A script in print.
+#[derive(Drop)]
+pub struct Printed {
+    /// Its text.
+    pub text: String,
+    /// The names of the functions of the closures in the text, in the order in which the closures end. A function whose
+    /// closure stands in several places is named for the first.
+    pub closures: Vec<ImmutableString>,
 }
 
 impl<'t> Printer<'t> {
     /// Nothing as yet of a script with these functions.
     pub(crate) fn new(lib: &'t FnLib) -> Printer<'t> {
         let alloc = allocator_of(lib);
-        Printer {
+        let printer = Printer {
             alloc,
-            lib,
             text: Cell::new(String::new(alloc)),
             fault: Cell::new(None),
-            closures: Cell::new(Vec::new(alloc)),
-            functions: Cell::new(0),
+            is_mute: Cell::new(false),
+            ends_function: Cell::new(false),
+            braces: Cell::new(0),
+            table: RefCell::new(Table::new(alloc)),
             scopes: RefCell::new(Scopes::new(alloc)),
-        }
+        };
+        printer.add_functions(lib);
+        printer
     }
 
     /// What was written, or the first fault.
-    pub(crate) fn into_text(self) -> Result<String, SpellError> {
+    pub(crate) fn into_printed(self) -> Result<Printed, SpellError> {
         let Printer {
             alloc: _alloc,
-            lib: _lib,
             text,
             fault,
-            closures,
-            functions: _functions,
+            is_mute: _is_mute,
+            ends_function: _ends_function,
+            braces: _braces,
+            table,
             scopes,
         } = self;
-        let _closures = closures.into_inner();
+        let closures = table.into_inner().into_closures();
         let _scopes = scopes.into_inner();
         match fault.into_inner() {
             Some(fault) => Err(fault),
-            None => Ok(text.into_inner()),
+            None => Ok(Printed {
+                text: text.into_inner(),
+                closures,
+            }),
         }
     }
 
@@ -93,50 +115,67 @@ impl<'t> Printer<'t> {
         inside.deeper()
     }
 
-    // ---- functions
+    // ---- what is asked of nodes that are not written
 
-    /// Notes that a function of the table is behind.
-    pub(crate) fn pass_function(&self) {
-        self.functions.set(self.functions.get().saturating_add(1));
+    /// Whether nothing is written.
+    pub(crate) fn is_mute(&self) -> bool {
+        self.is_mute.get()
     }
 
-    /// Whether a function that is behind has this name.
-    pub(crate) fn is_function(&self, name: &str) -> bool {
-        let mut left = self.functions.get();
-        for function in self.lib.iter() {
-            if left == 0 {
-                break;
-            }
-            if function.name.as_str() == name {
-                return true;
-            }
-            left = left.saturating_sub(1);
+    /// Writes nothing from here on.
+    pub(crate) fn mute(&self) {
+        self.is_mute.set(true);
+    }
+
+    /// Writes again. What was refused meanwhile is refused where it is written.
+    pub(crate) fn unmute(&self) {
+        self.is_mute.set(false);
+        if let Some(SpellError::Unspelled { .. }) = self.fault.get() {
+            self.fault.set(None);
         }
-        false
     }
 
-    /// Notes that the closure of a function is printed; whether it is the first time.
-    pub(crate) fn note_closure(&self, name: &'t str) -> bool {
-        let mut closures = self.closures.replace(Vec::new(self.alloc));
-        let is_first = !closures.as_slice().contains(&name);
-        let pushed = closures.push(name);
-        self.made(pushed);
-        self.closures.set(closures);
-        is_first
+    // ---- braces
+
+    /// From here on so many pairs stand around the next expression that may have some; how many it was before.
+    pub(crate) fn await_braces(&self, braces: u32) -> u32 {
+        self.braces.replace(braces)
     }
 
-    /// Whether the closure of a function was printed.
-    pub(crate) fn is_noted(&self, name: &'t str) -> bool {
-        let closures = self.closures.replace(Vec::new(self.alloc));
-        let is_noted = closures.as_slice().contains(&name);
-        self.closures.set(closures);
-        is_noted
+    /// Begins an expression with the pairs that stand around it there, if it may have some; how many. Where it has a pair by
+    /// itself, there is one more.
+    pub(crate) fn open_braces(&self, expr: Option<&Expr>, need: Need) -> u32 {
+        if self.braces.get() == 0 || !may_have_braces(need) {
+            return 0;
+        }
+        let braces = self.braces.replace(0);
+        let has_own = expr.is_some_and(|expr| is_in_block(expr, need));
+        let braces = braces.saturating_add(u32::from(has_own));
+        self.put(if need == Need::Nothing { "{ " } else { "({ " });
+        for _ in 1..braces {
+            self.put("({ ");
+        }
+        braces
+    }
+
+    /// Ends such an expression.
+    pub(crate) fn close_braces(&self, braces: u32, need: Need) {
+        if braces == 0 {
+            return;
+        }
+        for _ in 1..braces {
+            self.put(" })");
+        }
+        self.put(if need == Need::Nothing { " }" } else { " })" });
     }
 
     // ---- letters
 
     /// Appends letters.
     pub(crate) fn put(&self, letters: &str) {
+        if self.is_mute() {
+            return;
+        }
         let mut text = self.text.replace(self.no_text());
         let pushed = text.push_str(letters);
         self.made(pushed);
@@ -145,14 +184,40 @@ impl<'t> Printer<'t> {
 
     /// Appends a character.
     pub(crate) fn put_char(&self, letter: char) {
+        if self.is_mute() {
+            return;
+        }
         let mut text = self.text.replace(self.no_text());
         let pushed = text.push(letter);
         self.made(pushed);
         self.text.set(text);
     }
 
+    /// How many letters were written.
+    pub(crate) fn written(&self) -> usize {
+        let text = self.text.replace(self.no_text());
+        let length = text.len();
+        self.text.set(text);
+        length
+    }
+
     pub(crate) fn no_text(&self) -> String {
         String::new(self.alloc)
+    }
+
+    /// Begins a function, behind a blank line unless it is the first of the text.
+    pub(crate) fn begin_function(&self) {
+        if self.written() > 0 {
+            self.put("\n");
+        }
+        self.ends_function.set(true);
+    }
+
+    /// Begins what is no function, behind a blank line if a function was the last.
+    pub(crate) fn end_functions(&self) {
+        if self.ends_function.replace(false) {
+            self.put("\n");
+        }
     }
 
     /// Begins a line.

@@ -1,8 +1,9 @@
 //! Which names stand for what, where nodes are printed.
 
 use crate::printer::Printer;
-use rhai_base::Ident;
+use indexmap::IndexSet;
 use std::alloc::{AllocError, Global};
+use std::collections::HashMap;
 use std::mem;
 
 /// The variables that are declared where a node stands, and what a closure takes from around it.
@@ -10,6 +11,8 @@ use std::mem;
 pub(crate) struct Scopes<'t> {
     /// All of them, the latest last.
     declared: Vec<Declared<'t>>,
+    /// Where the latest of each name stands among them.
+    latest: HashMap<&'t str, usize>,
     /// What they stand in.
     frame: Frame<'t>,
 }
@@ -19,6 +22,8 @@ pub(crate) struct Scopes<'t> {
 struct Declared<'t> {
     name: &'t str,
     is_constant: bool,
+    /// Where the one of its name stands that it hides.
+    hides: Option<usize>,
 }
 
 /// A function, a closure or the script.
@@ -26,8 +31,8 @@ struct Declared<'t> {
 pub(crate) struct Frame<'t> {
     /// Where its variables begin: none before is in sight.
     first: usize,
-    /// The names that it uses and does not declare, in the order of their first uses.
-    captured: Vec<&'t str>,
+    /// The names that a closure takes from around it, in the order of their first uses.
+    captured: Option<IndexSet<&'t str>>,
 }
 
 impl<'t> Scopes<'t> {
@@ -35,29 +40,62 @@ impl<'t> Scopes<'t> {
     pub(crate) fn new(alloc: Global) -> Scopes<'t> {
         Scopes {
             declared: Vec::new(alloc),
+            latest: HashMap::new(alloc),
             frame: Frame {
                 first: 0,
-                captured: Vec::new(alloc),
+                captured: None,
             },
         }
     }
 
-    /// The variable of a name, where one is in sight.
-    fn in_sight(&self, name: &str) -> Option<Declared<'t>> {
-        let own = self.declared.as_slice().get(self.frame.first..)?;
-        for declared in own.iter().rev() {
-            if declared.name == name {
-                return Some(*declared);
-            }
-        }
-        None
+    fn declare(&mut self, name: &'t str, is_constant: bool) -> Result<(), AllocError> {
+        let hides = self.latest.get(&name).copied();
+        let place = self.declared.len();
+        self.declared.push(Declared {
+            name,
+            is_constant,
+            hides,
+        })?;
+        self.latest.insert(name, place)?;
+        Ok(())
     }
 
-    /// Notes a name that is taken from around.
+    /// Takes the latest variable away.
+    fn forget(&mut self) -> Result<(), AllocError> {
+        if let Some(declared) = self.declared.pop() {
+            match declared.hides {
+                Some(place) => {
+                    self.latest.insert(declared.name, place)?;
+                }
+                None => {
+                    self.latest.remove(&declared.name);
+                }
+            }
+        }
+        Ok(())
+    }
+
+    /// Takes away all variables but so many.
+    fn shorten(&mut self, count: usize) -> Result<(), AllocError> {
+        for _ in count..self.declared.len() {
+            self.forget()?;
+        }
+        Ok(())
+    }
+
+    /// The variable of a name, where one is in sight.
+    fn in_sight(&self, name: &str) -> Option<Declared<'t>> {
+        let place = self.latest.get(&name).copied()?;
+        if place < self.frame.first {
+            return None;
+        }
+        self.declared.get(place).copied()
+    }
+
+    /// Notes a name that a closure takes from around it.
     fn capture(&mut self, name: &'t str) -> Result<(), AllocError> {
-        let captured = &mut self.frame.captured;
-        if !captured.as_slice().contains(&name) {
-            captured.push(name)?;
+        if let Some(captured) = &mut self.frame.captured {
+            captured.insert_full(name)?;
         }
         Ok(())
     }
@@ -67,7 +105,7 @@ impl<'t> Printer<'t> {
     /// Declares a variable.
     pub(crate) fn declare(&self, name: &'t str, is_constant: bool) {
         if let Ok(mut scopes) = self.scopes.try_borrow_mut() {
-            let declared = scopes.declared.push(Declared { name, is_constant });
+            let declared = scopes.declare(name, is_constant);
             self.made(declared);
         }
     }
@@ -83,7 +121,8 @@ impl<'t> Printer<'t> {
     /// Takes away all variables but so many.
     pub(crate) fn shorten(&self, count: usize) {
         if let Ok(mut scopes) = self.scopes.try_borrow_mut() {
-            scopes.declared.truncate(count);
+            let shortened = scopes.shorten(count);
+            self.made(shortened);
         }
     }
 
@@ -110,18 +149,35 @@ impl<'t> Printer<'t> {
     }
 
     /// Begins a function or a closure, in which no variable is in sight; what it stands in.
-    pub(crate) fn enter(&self) -> Frame<'t> {
+    pub(crate) fn enter(&self, is_closure: bool) -> Frame<'t> {
+        let captured = if is_closure {
+            Some(IndexSet::new(self.alloc))
+        } else {
+            None
+        };
         self.changed_frame(Frame {
             first: self.declared(),
-            captured: Vec::new(self.alloc),
+            captured,
         })
     }
 
     /// Ends it; the names that it takes from around it.
     pub(crate) fn leave(&self, around: Frame<'t>) -> Vec<&'t str> {
-        let Frame { first, captured } = self.changed_frame(around);
-        self.shorten(first);
-        captured
+        let frame = self.changed_frame(around);
+        self.shorten(frame.first);
+        self.captured(&frame)
+    }
+
+    /// The names that a closure takes from around it.
+    fn captured(&self, frame: &Frame<'t>) -> Vec<&'t str> {
+        let mut names = Vec::new(self.alloc);
+        if let Some(captured) = &frame.captured {
+            for name in captured.iter() {
+                let pushed = names.push(*name);
+                self.made(pushed);
+            }
+        }
+        names
     }
 
     /// Puts a frame in the place of another.

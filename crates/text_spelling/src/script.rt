@@ -4,11 +4,12 @@ ghost use Rattle.std.specs.Prelude.{◌≡◌, ◌++◌, List, ℕ, None, OnErr,
 ghost use Rattle.rhai_script.specs.Script.{script_of};
 ghost use Rattle.theory_meaning.specs.Faults.{script_fault};
 
-use crate::error::SpellError;
-use crate::inside::Inside;
-use crate::printer::Printer;
+use crate::breaking::broken_lines;
+use crate::error::{SpellError, Unspelled};
+use crate::printer::{Printed, Printer};
+use rhai_base::Position;
 use rhai_script::AST;
-use std::alloc::Global;
+use script_tables::allocator_of;
 
 /// Appends the source of a script. A parser reads it that sets no bound to the depth.
 ///
@@ -19,25 +20,39 @@ pub fn push_spelled(script: &AST, text: &mut String) -> Result<(), SpellError>
     ensures ok { OnOk result ((printed : List ℕ) × (string_bytes text.new ≡ string_bytes text.old ++ printed)) }
     ensures err { OnErr result (string_bytes text.new ≡ string_bytes text.old) }
 {
-    script.check()?;
-    let printed = printed(script)?;
-    text.push_str(printed.as_str())?;
+    let spelled = spelled(script)?;
+    text.push_str(spelled.text.as_str())?;
     Ok(())
 }
 
-/// The same as a text of its own.
-pub fn spelled(alloc: Global, script: &AST) -> Result<String, SpellError>
+/// The same as a text of its own, with the functions of its closures.
+pub fn spelled(script: &AST) -> Result<Printed, SpellError>
     ensures { OnOk result (script_fault (script_of script.now) ≡ None) }
 {
-    let mut text = String::new(alloc);
-    push_spelled(script, &mut text)?;
-    Ok(text)
+    script.check()?;
+    printed(script)
 }
 
-fn printed(script: &AST) -> Result<String, SpellError> {
+/// The functions stand where their positions say, or, where a closure would take another name for one of theirs, behind
+/// all statements.
+fn printed(script: &AST) -> Result<Printed, SpellError> {
+    match placed(script, true) {
+        Err(
+            SpellError::Unspelled {
+                what: Unspelled::Share,
+                position: _,
+            },
+        ) => placed(script, false),
+        printed => printed,
+    }
+}
+
+fn placed(script: &AST, are_among: bool) -> Result<Printed, SpellError> {
     let printer = Printer::new(script.shared_lib());
     printer.script_doc(script.doc());
-    printer.lines(script.statements(), Inside::script());
-    printer.functions(Inside::script());
-    printer.into_text()
+    printer.own_lines(script.statements(), are_among);
+    printer.functions_before(Position::NONE);
+    let Printed { text, closures } = printer.into_printed()?;
+    let text = broken_lines(allocator_of(script.shared_lib()), text)?;
+    Ok(Printed { text, closures })
 }

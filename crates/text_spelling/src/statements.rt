@@ -1,5 +1,6 @@
 //! Statements, a line each.
 
+use crate::closures::{Shared, has_constants};
 use crate::error::Unspelled;
 use crate::inside::Inside;
 use crate::needs::Need;
@@ -8,17 +9,65 @@ use rhai_ast::{Expr, FlowControl, Stmt, StmtBlock, StmtQueries};
 use rhai_base::{ASTFlags, Boxed, Ident, Position};
 
 impl<'t> Printer<'t> {
-    /// Statements, each on a line.
+    /// The script's own statements, and before each the functions that stand before it, if functions stand among them.
+    pub(crate) fn own_lines(&self, statements: &'t [Stmt], are_among: bool) {
+        let mut shared: Option<Shared<'t>> = None;
+        for (index, statement) in statements.iter().enumerate() {
+            let is_last = index.saturating_add(1) == statements.len();
+            match statement {
+                Stmt::Share(names) if shared.is_none() && !is_last => {
+                    shared = Some(names.get().as_slice());
+                }
+                _ => {
+                    if are_among {
+                        self.functions_around(statement.position());
+                    }
+                    self.line_of(shared, statement, Inside::script());
+                    shared = None;
+                }
+            }
+        }
+    }
+
+    /// What stands before a statement of the script's own there.
+    fn functions_around(&self, pos: Position) {
+        if !pos.is_none() {
+            self.functions_before(pos);
+        }
+        self.end_functions();
+    }
+
+    /// Statements, each on a line. Names that a closure shares and the statement behind them are one.
     #[cycle(print)]
     pub(crate) fn lines(&self, statements: &'t [Stmt], inside: Inside) {
-        for statement in statements {
-            self.begin_line(inside);
-            self.statement(statement, inside);
-            if !ends_by_itself(statement) {
-                self.put(";");
+        let mut shared: Option<Shared<'t>> = None;
+        for (index, statement) in statements.iter().enumerate() {
+            let is_last = index.saturating_add(1) == statements.len();
+            match statement {
+                Stmt::Share(names) if shared.is_none() && !is_last => {
+                    shared = Some(names.get().as_slice());
+                }
+                _ => {
+                    let is_value = is_last && inside.is_value;
+                    self.line_of(shared, statement, inside.valued(is_value));
+                    shared = None;
+                }
             }
-            self.put("\n");
         }
+    }
+
+    /// A statement on a line, with the names before it that its closure shares.
+    #[cycle(print)]
+    pub(crate) fn line_of(&self, shared: Option<Shared<'t>>, statement: &'t Stmt, inside: Inside) {
+        self.begin_line(inside);
+        match shared {
+            Some(shared) => self.sharing(shared, statement, inside.past(2)),
+            None => self.statement(statement, inside),
+        }
+        if !ends_line(shared, statement, inside.is_value) {
+            self.put(";");
+        }
+        self.put("\n");
     }
 
     /// A block in braces.
@@ -29,14 +78,7 @@ impl<'t> Printer<'t> {
         }
         let names = self.declared();
         self.put("{\n");
-        match block.statements() {
-            [Stmt::Share(shared), curried] => {
-                self.begin_line(inside.block());
-                self.sharing(shared.get().as_slice(), curried, inside.block().past(2));
-                self.put("\n");
-            }
-            statements => self.lines(statements, inside.block()),
-        }
+        self.lines(block.statements(), inside.block());
         self.shorten(names);
         self.begin_line(inside);
         self.put("}");
@@ -60,7 +102,12 @@ impl<'t> Printer<'t> {
                 self.declaration(name, value, *flags, *pos, inside);
             }
             Stmt::Assignment(parts) => self.assignment(&parts.get().0, &parts.get().1, inside),
-            Stmt::FnCall(call, pos) => self.call(call.get(), *pos, inside.past(1)),
+            Stmt::FnCall(call, pos) => {
+                let braces = self.open_braces(None, Need::Start);
+                let within = inside.past(1).past(braces.saturating_mul(3));
+                self.call(call.get(), *pos, within);
+                self.close_braces(braces, Need::Start);
+            }
             Stmt::Block(block) => self.inner_block(block.get(), inside),
             Stmt::TryCatch(flow, _) => self.try_catch(flow.get(), inside),
             Stmt::Expr(expr) => self.expr(expr.get(), Need::Start, inside),
@@ -204,14 +251,14 @@ impl<'t> Printer<'t> {
                 self.put(" ");
             }
         }
-        self.block(&flow.body, inside);
+        self.block(&flow.body, inside.valued(false));
     }
 
     #[cycle(print)]
     fn do_loop(&self, flow: &'t FlowControl, flags: ASTFlags, inside: Inside) {
         let is_until = flags & ASTFlags::NEGATED == ASTFlags::NEGATED;
         self.put("do ");
-        self.block(&flow.body, inside);
+        self.block(&flow.body, inside.valued(false));
         self.put(if is_until { " until " } else { " while " });
         self.expr(&flow.expr, Need::Condition, inside);
     }
@@ -226,7 +273,7 @@ impl<'t> Printer<'t> {
         self.put(" ");
         let names = self.declared();
         self.declare_loop(name, counter);
-        self.block(&flow.body, inside);
+        self.block(&flow.body, inside.valued(false));
         self.shorten(names);
     }
 
@@ -255,11 +302,11 @@ impl<'t> Printer<'t> {
     #[cycle(print)]
     fn try_catch(&self, flow: &'t FlowControl, inside: Inside) {
         self.put("try ");
-        self.block(&flow.body, inside);
+        self.block(&flow.body, inside.valued(false));
         self.put(" catch ");
         let names = self.declared();
         self.caught(&flow.expr);
-        self.block(&flow.branch, inside);
+        self.block(&flow.branch, inside.valued(false));
         self.shorten(names);
     }
 
@@ -275,6 +322,21 @@ impl<'t> Printer<'t> {
     }
 }
 
+/// Whether nothing stands behind a statement on its line, which gives the value of its list.
+fn ends_line(shared: Option<Shared<'_>>, statement: &Stmt, is_value: bool) -> bool {
+    match (shared, statement) {
+        (Some(shared), curried) => is_value || has_constants(shared, curried),
+        (None, Stmt::Expr(_) | Stmt::FnCall(..)) => is_value,
+        (None, Stmt::Block(block)) if is_value && is_closure(block.get().statements()) => true,
+        (None, statement) => ends_by_itself(statement),
+    }
+}
+
+/// Whether statements are a closure that takes names from around it.
+fn is_closure(statements: &[Stmt]) -> bool {
+    matches!(statements, [Stmt::Share(_), _])
+}
+
 /// Whether no `;` stands behind a statement.
 pub(crate) fn ends_by_itself(statement: &Stmt) -> bool {
     match statement {
@@ -284,7 +346,10 @@ pub(crate) fn ends_by_itself(statement: &Stmt) -> bool {
         | Stmt::While(..)
         | Stmt::For(..)
         | Stmt::TryCatch(..) => true,
-        Stmt::Block(block) => !matches!(block.get().statements(), [Stmt::Share(_), _]),
+        Stmt::Block(block) => match block.get().statements() {
+            [Stmt::Share(shared), curried] => has_constants(shared.get().as_slice(), curried),
+            _ => true,
+        },
         _ => false,
     }
 }

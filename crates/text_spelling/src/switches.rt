@@ -3,6 +3,7 @@
 use crate::inside::Inside;
 use crate::needs::Need;
 use crate::printer::Printer;
+use crate::statements::ends_by_itself;
 use crate::tables::{Chooser, Row, rows_of};
 use crate::values::Holder;
 use rhai_ast::{Expr, Stmt, SwitchBlock, SwitchCasesCollection};
@@ -40,7 +41,8 @@ impl<'t> Printer<'t> {
     }
 
     /// What chooses an arm, with `|` between.
-    fn choosers(&self, row: &Row, table: &SwitchCasesCollection, pos: Position, inside: Inside) {
+    #[cycle(print)]
+    fn choosers(&self, row: &Row, table: &'t SwitchCasesCollection, pos: Position, inside: Inside) {
         for (index, chooser) in row.choosers.as_slice().iter().enumerate() {
             if index > 0 {
                 self.put(" | ");
@@ -53,7 +55,8 @@ impl<'t> Printer<'t> {
     }
 
     /// A key by its place.
-    fn case(&self, place: usize, table: &SwitchCasesCollection, pos: Position, inside: Inside) {
+    #[cycle(print)]
+    fn case(&self, place: usize, table: &'t SwitchCasesCollection, pos: Position, inside: Inside) {
         if let Some((key, _)) = table.cases.as_map().get_index(place) {
             let holder = Holder {
                 position: pos,
@@ -105,9 +108,13 @@ impl<'t> Printer<'t> {
         self.put(" => ");
         match answer {
             Expr::Stmt(block) => match block.get().statements() {
-                [statement @ (Stmt::Expr(_) | Stmt::FnCall(..) | Stmt::Assignment(_))] => {
+                [statement] if answers_alone(statement) => {
                     self.statement(statement, inside);
-                    self.put(",\n");
+                    self.put(if ends_by_itself(statement) {
+                        "\n"
+                    } else {
+                        ",\n"
+                    });
                 }
                 _ => {
                     self.block(block.get(), inside.past(1));
@@ -131,6 +138,22 @@ impl<'t> Printer<'t> {
             self.answer(&arm.rhs, inside);
         }
     }
+}
+
+/// Whether a statement is the answer of an arm by itself: it declares nothing, and a block would be taken apart. A
+/// `throw` or `break` without a value would take what follows for one.
+fn answers_alone(statement: &Stmt) -> bool {
+    !matches!(
+        statement,
+        Stmt::Block(_)
+            | Stmt::Noop(_)
+            | Stmt::Return(None, ..)
+            | Stmt::BreakLoop(None, ..)
+            | Stmt::Var(..)
+            | Stmt::Import(..)
+            | Stmt::Export(..)
+            | Stmt::Share(_)
+    )
 }
 
 /// Whether the first range of an arm is small.

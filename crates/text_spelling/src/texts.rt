@@ -35,21 +35,22 @@ impl<'t> Printer<'t> {
     #[cycle(print)]
     fn part(&self, part: &'t Expr, inside: Inside) {
         self.put("$");
+        let inside = inside.valued(true);
         match part {
             Expr::Stmt(block) => match block.get().statements() {
-                [Stmt::Expr(only)] => self.in_braces(only.get(), inside),
+                [only @ (Stmt::Expr(_) | Stmt::FnCall(..))] => {
+                    self.put("{");
+                    self.statement(only, inside);
+                    self.put("}");
+                }
                 _ => self.block(block.get(), inside),
             },
-            _ => self.in_braces(part, inside),
+            _ => {
+                self.put("{");
+                self.expr(part, Need::Start, inside.past(1));
+                self.put("}");
+            }
         }
-    }
-
-    /// A block of one expression, on the same line.
-    #[cycle(print)]
-    fn in_braces(&self, expr: &'t Expr, inside: Inside) {
-        self.put("{");
-        self.expr(expr, Need::Start, inside.past(1));
-        self.put("}");
     }
 
     /// A part of a text in back-ticks, which is written as it stands; a line end behind the first back-tick is left out

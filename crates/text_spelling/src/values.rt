@@ -3,7 +3,7 @@
 use crate::error::Unspelled;
 use crate::inside::Inside;
 use crate::printer::Printer;
-use crate::words::is_name;
+use crate::words::{is_anonymous, is_name};
 use rhai_base::{Dynamic, FnPtr, INT, Position, StringMap};
 use std::fmt::Write;
 
@@ -18,8 +18,8 @@ pub(crate) struct Holder {
 
 impl<'t> Printer<'t> {
     /// A value as an expression of it.
-    #[cycle(values)]
-    pub(crate) fn value(&self, value: &Dynamic, holder: Holder, inside: Inside) {
+    #[cycle(print)]
+    pub(crate) fn value(&self, value: &'t Dynamic, holder: Holder, inside: Inside) {
         let Some(inside) = self.below(inside, holder.position) else {
             return;
         };
@@ -43,16 +43,16 @@ impl<'t> Printer<'t> {
     }
 
     /// Values with commas between.
-    #[cycle(values)]
-    fn values(&self, values: &[Dynamic], holder: Holder, inside: Inside) {
+    #[cycle(print)]
+    fn values(&self, values: &'t [Dynamic], holder: Holder, inside: Inside) {
         for (index, value) in values.iter().enumerate() {
             self.comma(index);
             self.value(value, holder, inside);
         }
     }
 
-    #[cycle(values)]
-    fn members(&self, members: &StringMap<Dynamic>, holder: Holder, inside: Inside) {
+    #[cycle(print)]
+    fn members(&self, members: &'t StringMap<Dynamic>, holder: Holder, inside: Inside) {
         let mut index: usize = 0;
         self.put("#{");
         for (key, member) in members.iter() {
@@ -64,25 +64,33 @@ impl<'t> Printer<'t> {
         self.put("}");
     }
 
-    /// A pointer by its name, curried with the values that it holds.
-    #[cycle(values)]
-    fn pointer(&self, pointer: &FnPtr, holder: Holder, inside: Inside) {
+    /// A pointer, curried with the values that it holds.
+    #[cycle(print)]
+    fn pointer(&self, pointer: &'t FnPtr, holder: Holder, inside: Inside) {
         self.want_no_key(holder);
         let values = pointer.curry();
         if values.is_empty() {
-            return self.named_pointer(pointer);
+            return self.pointed(pointer.fn_name(), holder, inside);
         }
         self.put("curry(");
-        self.named_pointer(pointer);
+        self.pointed(pointer.fn_name(), holder, inside);
         self.put(", ");
         self.values(values, holder, inside);
         self.put(")");
     }
 
-    fn named_pointer(&self, pointer: &FnPtr) {
-        self.put("Fn(");
-        self.quoted(pointer.fn_name());
-        self.put(")");
+    /// A pointer without values: the closure of the function, or its name.
+    #[cycle(print)]
+    fn pointed(&self, name: &str, holder: Holder, inside: Inside) {
+        if !is_anonymous(name) {
+            self.put("Fn(");
+            self.quoted(name);
+            return self.put(")");
+        }
+        match self.anonymous(name) {
+            Some(function) => self.closure(function, 0, holder.position, inside),
+            None => self.refuse(Unspelled::Closure, holder.position),
+        }
     }
 
     fn range_value(&self, start: INT, sign: &str, end: INT, holder: Holder) {

@@ -1,5 +1,6 @@
-//! Which letters are a word.
+//! Which letters are a word, and which of two places is the first.
 
+use rhai_base::Position;
 use text_lexer::{Lexeme, Place, next_lexeme};
 
 /// Whether letters are a name that no word of the language is.
@@ -63,4 +64,20 @@ fn is_script_doc_line(line: &str) -> bool {
         Lexeme::ScriptDoc(word) => word == line,
         _ => false,
     }
+}
+
+/// Whether what stands somewhere stands before what stands there. What stands nowhere stands before nothing, and nothing
+/// before it.
+pub(crate) fn stands_before(first: Position, second: Position) -> bool {
+    let (line, other_line) = (line_of(first), line_of(second));
+    !first.is_none()
+        && (line < other_line || line == other_line && column_of(first) < column_of(second))
+}
+
+fn line_of(pos: Position) -> usize {
+    pos.line().unwrap_or(0)
+}
+
+fn column_of(pos: Position) -> usize {
+    pos.position().unwrap_or(0)
 }

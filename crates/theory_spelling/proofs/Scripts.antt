@@ -1,5 +1,5 @@
 -- Scripts run as they do without what depends on how they are spelled.
-use Rattle.std.proofs.Common.{◌≡◌, ℕ, zero, suc, Bool, true, false, cond, List, [], ◌∷◌, map, Option, Some, None, refl, sym, ap, ◌∙◌}
+use Rattle.std.proofs.Common.{◌≡◌, ℕ, zero, suc, Bool, true, false, cond, List, [], ◌∷◌, map, Option, Some, None, refl, sym, ap, ◌∙◌, subst}
 use Rattle.theory_meaning.specs.Act.{ScopeEntry, HostCall, Key, World, Env, ScriptCall, with_turn, run_all}
 use Rattle.theory_meaning.specs.Calls.{same_key}
 use Rattle.theory_meaning.specs.Core as core
@@ -8,11 +8,15 @@ use Rattle.theory_meaning.specs.Relations.{OnlyAdds}
 use Rattle.theory_meaning.specs.Run.{key_of, function_of, entered, body_acts, call_body, invoke_at, env_at, EntryPoint, AtStatements, AtFunction, run_at, run_script}
 use Rattle.theory_meaning.specs.Tree.{Function, Script, Stmts}
 use Rattle.theory_meaning.proofs.Depths.{adds_at}
-use Rattle.theory_spelling.specs.Bare.{bare_stmts, bare_function, bare_script, SpelledAlike}
+use Rattle.theory_naming.specs.Alike.{AreApart, RunBut}
+use Rattle.theory_naming.specs.Naming.{ResultLike}
+use Rattle.theory_naming.specs.Renaming.{Stands}
+use Rattle.theory_naming.proofs.Scripts.{same_by_key_runs, same_but_names}
+use Rattle.theory_spelling.specs.Bare.{bare_stmts, bare_function, bare_script, SpelledAlike, SpelledBut}
 use Rattle.theory_spelling.specs.Runs.{RunAlike}
 use Rattle.theory_spelling.proofs.Acts.{SameAll, all_finish}
 use Rattle.theory_spelling.proofs.Trees.{list_alike}
-use Rattle.rhai_base.specs.Value.{UnitV}
+use Rattle.rhai_base.specs.Value.{Text, UnitV}
 
 body_alike : (w : World) (env : Env) → OnlyAdds env → (ss : Stmts) → SameAll w env (body_acts w (core_stmts false (bare_stmts ss))) (body_acts w (core_stmts false ss))
 body_alike w env adds ss = all_finish (list_alike w env adds false true ss UnitV)
@@ -84,6 +88,15 @@ pub spelled_alike_runs : (p q : Script) → SpelledAlike p q → RunAlike p q
 spelled_alike_runs p q h = record {
   runs = λ engine host e scope n.
       sym ((bare_runs p).runs engine host e scope n)
-      ∙ ap (λ r. run_script engine host (core_script r) e scope n) h
+      ∙ same_by_key_runs (bare_script p) (bare_script q) h engine host e scope n
       ∙ (bare_runs q).runs engine host e scope n;
+}
+
+-- And those that are the same but for names too have runs that are alike.
+pub spelled_but_runs : (named : Text → Text) → AreApart named → (p q : Script) → SpelledBut named p q → RunBut named p q
+spelled_but_runs named a p q h = record {
+  runs = λ engine known host host' hosts e e' entries scope scope' scopes n.
+      subst (λ r. ResultLike (Stands named) r (run_script engine host' (core_script q) e' scope' n)) ((bare_runs p).runs engine host e scope n)
+      (subst (λ r. ResultLike (Stands named) (run_script engine host (core_script (bare_script p)) e scope n) r) ((bare_runs q).runs engine host' e' scope' n)
+      ((same_but_names named a (bare_script p) (bare_script q) h).runs engine known host host' hosts e e' entries scope scope' scopes n));
 }

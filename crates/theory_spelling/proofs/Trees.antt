@@ -20,7 +20,10 @@ use Rattle.theory_meaning.proofs.Sequencing.{scoped_only}
 use Rattle.theory_rewriting.proofs.simulation.Congruent.{c_if, c_choose, c_unless, c_refreshed, c_applied, c_first, c_answer, c_while, c_do, c_for_all, c_try, c_round, RoundsAlike, MaybeAlike, no_arm_alike, arm_alike, ArmsAlike, no_arms_alike, arms_alike}
 use Rattle.theory_spelling.specs.Bare.{in_braces, unbraced, evaluated, braced_if, has_role, as_side, as_guard, as_condition, has_true_default, with_condition_at, with_default, bare_flags, bare_text, with_other, bare_expr, bare_exprs, bare_pairs, bare_maybe, bare_arms, bare_stmt, bare_stmts}
 use Rattle.theory_spelling.proofs.Acts.{Same, SameAll, Any, same_refl, same_path, same_trans, all_refl, all_trans, same_scoped, all_named, all_line, congruent, same_bind, same_braces}
+use Rattle.theory_spelling.specs.Captures.{settled}
+use Rattle.theory_spelling.proofs.Captures.{grouped_alike, settled_alike}
 use Rattle.theory_spelling.proofs.Roles.{Plain, plain, plain_side, side, count_kept, map_kept, root_kept, left_kept, guard_kept, catch_kept, rest_kept, ends_kept, bare_table_arms, table_kept}
+use Rattle.theory_spelling.proofs.Tables.{listed_deed}
 use Rattle.theory_spelling.proofs.Values.{constant_kept}
 
 -- ---- acts of nodes, from those of their parts
@@ -374,6 +377,9 @@ module _ (w : World) (env : Env) (adds : OnlyAdds env) where
   closed : (around : Bool) (ss : tree.Stmts) → StmtsAlike ss → (b : Bool) → Same w env (Scoped (acts w b (core_stmts around (bare_stmts ss)) UnitV)) (Scoped (acts w b (core_stmts around ss) UnitV))
   closed around ss h b = same_scoped (h.list around b UnitV)
 
+  in_braces_alike : (around : Bool) (ss : tree.Stmts) → StmtsAlike ss → Same w env (act w (core_expr around (unbraced (settled (bare_stmts ss))))) (Scoped (acts w true (core_stmts around ss) UnitV))
+  in_braces_alike around ss h = same_trans (unbraced_alike around (settled (bare_stmts ss))) (same_trans (settled_alike w env around (bare_stmts ss) true UnitV) (closed around ss h true))
+
   branches : (around : Bool) (a b : tree.Stmts) → StmtsAlike a → StmtsAlike b → (v : Value) → Same w env (if_true v (Scoped (acts w true (core_stmts around (bare_stmts a)) UnitV)) (Scoped (acts w true (core_stmts around (bare_stmts b)) UnitV))) (if_true v (Scoped (acts w true (core_stmts around a) UnitV)) (Scoped (acts w true (core_stmts around b) UnitV)))
   branches around a b h j v = c_if (Same w env) Any (congruent w env) v _ _ _ _ (closed around a h true) (closed around b j true)
 
@@ -392,7 +398,7 @@ module _ (w : World) (env : Env) (adds : OnlyAdds env) where
     expr_alike tree.ThisPtr = this_alike
     expr_alike (tree.Property m) = property_alike m
     expr_alike (tree.MethodCall c es) = method_call_alike c es (exprs_alike es)
-    expr_alike (tree.BlockExpr ss) = plain_alike (tree.BlockExpr ss) refl (λ around. same_trans (unbraced_alike around (bare_stmts ss)) (closed around ss (stmts_alike ss) true))
+    expr_alike (tree.BlockExpr ss) = plain_alike (tree.BlockExpr ss) refl (λ around. in_braces_alike around ss (stmts_alike ss))
     expr_alike (tree.FnCall c es) = plain_alike (tree.FnCall c es) refl (λ around. call_value_alike around c es (exprs_alike es))
     expr_alike (tree.Dot k l r) = dot_alike k l r (expr_alike l) (expr_alike r)
     expr_alike (tree.Index k l r) = index_tree_alike k l r (expr_alike l) (expr_alike r)
@@ -419,14 +425,14 @@ module _ (w : World) (env : Env) (adds : OnlyAdds env) where
     stmt_alike : (s : tree.Stmt) → StmtAlike s
     stmt_alike tree.Noop = record { line = λ around next next' h. all_line noop_alike h }
     stmt_alike (tree.If e a b) = record { line = λ around next next' h. all_line (same_bind ((expr_alike e).value around) (branches around a b (stmts_alike a) (stmts_alike b))) h }
-    stmt_alike (tree.Switch e as' t) = record { line = λ around next next' h. all_line (switch_deed around e as' t (expr_alike e) (arms_tree_alike as')) h }
+    stmt_alike (tree.Switch e as' t) = record { line = λ around next next' h. all_line (same_trans (same_path (listed_deed w around (core_expr around (bare_expr e)) (bare_table_arms as' t.default) t)) (switch_deed around e as' t (expr_alike e) (arms_tree_alike as'))) h }
     stmt_alike (tree.While e body) = record { line = λ around next next' h. all_line (while_deed around e _ _ ((expr_alike e).value around) ((stmts_alike body).list true false UnitV)) h }
     stmt_alike (tree.Do negated exported e body) = record { line = λ around next next' h. all_line (c_do (Same w env) Any (congruent w env) negated _ _ _ _ (closed true body (stmts_alike body) false) ((expr_alike e).value around)) h }
     stmt_alike (tree.For x i e body) = record { line = λ around next next' h. all_line (same_bind ((expr_alike e).value around) (c_for_all (Same w env) Any (congruent w env) x i _ _ (rounds_alike w env x i _ _ ((stmts_alike body).list true false UnitV)))) h }
     stmt_alike (tree.Var constant exported x e) = record { line = λ around next next' h. var_same w env (name_kind constant) exported x _ _ ((expr_alike e).value around) (h UnitV) }
     stmt_alike (tree.Assignment op l e) = record { line = λ around next next' h. all_line (assignment_deed around op l e (expr_alike l) (expr_alike e)) h }
     stmt_alike (tree.FnCallStmt c es) = record { line = λ around next next' h. all_line (call_value_alike around c es (exprs_alike es)) h }
-    stmt_alike (tree.Block ss) = record { line = λ around next next' h. all_trans (evaluated_alike around (unbraced (bare_stmts ss)) next) (all_line (same_trans (unbraced_alike around (bare_stmts ss)) (closed around ss (stmts_alike ss) true)) h) }
+    stmt_alike (tree.Block ss) = record { line = λ around next next' h. all_trans (evaluated_alike around (unbraced (settled (bare_stmts ss))) next) (all_line (in_braces_alike around ss (stmts_alike ss)) h) }
     stmt_alike (tree.TryCatch x a b) = record { line = λ around next next' h. all_line (same_trans (same_path (ap (λ o. deed w (try_by o (core_stmts around (bare_stmts a)) (core_stmts around (bare_stmts b)))) (catch_kept x))) (try_alike w env (catch_name x) _ _ _ _ (λ c. (stmts_alike a).list around c UnitV) (λ c. (stmts_alike b).list around c UnitV))) h }
     stmt_alike (tree.ExprStmt e) = record { line = λ around next next' h. all_trans (evaluated_alike around (bare_expr e) next) (all_line ((expr_alike e).value around) h) }
     stmt_alike (tree.BreakLoop is_break exported m) = record { line = λ around next next' h. all_line (leave_by around (break_kind is_break) _ _ ((maybe_alike m).value around)) h }
@@ -437,7 +443,7 @@ module _ (w : World) (env : Env) (adds : OnlyAdds env) where
 
     stmts_alike : (ss : tree.Stmts) → StmtsAlike ss
     stmts_alike tree.no_stmts = record { list = λ around b v. all_refl }
-    stmts_alike (tree.stmt s ss) = record { list = λ around b v. (stmt_alike s).line around _ _ (λ u. (stmts_alike ss).list around b u) }
+    stmts_alike (tree.stmt s ss) = record { list = λ around b v. all_trans (grouped_alike w env around b (bare_stmt s) (bare_stmts ss) v) ((stmt_alike s).line around _ _ (λ u. (stmts_alike ss).list around b u)) }
 
   pub list_alike : (around b : Bool) (ss : tree.Stmts) (v : Value) → SameAll w env (acts w b (core_stmts around (bare_stmts ss)) v) (acts w b (core_stmts around ss) v)
   list_alike around b ss v = (stmts_alike ss).list around b v

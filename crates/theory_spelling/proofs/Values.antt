@@ -16,6 +16,7 @@ use Rattle.theory_meaning.specs.Meaning.{act, with_args, with_pairs}
 use Rattle.theory_meaning.specs.Shape.{keys, are_distinct, are_among, is_map}
 use Rattle.theory_meaning.specs.Tree.{Expr, DynamicConstant, IntegerConstant, MapOf, Exprs, expr}
 use Rattle.theory_meaning.specs.Constants.{pointer_call}
+use Rattle.theory_naming.specs.Renaming.{is_anonymous}
 use Rattle.theory_spelling.specs.Bare.{members, names_of, are_listed, range_call, curried_call, literal_of, literals_of, entries_of, bare_constant}
 use Rattle.theory_spelling.proofs.Acts.{Same, same_refl, same_path, same_trans, same_bind}
 
@@ -81,12 +82,16 @@ module _ (w : World) (env : Env) (loop : Bool) where
   pointer_written : (f : Text) → is_valid_name f ≡ true → Written (pointer_call f) (PointerV f no_values)
   pointer_written f h = same_trans (given (TextV f) _) (chosen (is_valid_name f) _ _ h)
 
+  literal_pointer : (f : Text) → is_valid_name f ≡ true → (b : Bool) → Written (cond b (DynamicConstant (PointerV f no_values)) (pointer_call f)) (PointerV f no_values)
+  literal_pointer f h true = same_refl
+  literal_pointer f h false = pointer_written f h
+
   curried_given : (f : Text) (e : Expr) (es : Exprs) (vs : List Value) → is_valid_name f ≡ true → ((next : List Value → Act) → Same w env (with_args w (core_exprs loop (expr e es)) next) (next vs)) → Written (curried_call f (expr e es)) (PointerV f (values vs))
   curried_given f e es vs h k =
-      same_trans (same_bind (pointer_written f h) (λ p. same_refl)) (same_trans (given (PointerV f no_values) (λ p. with_args w (core_exprs loop (expr e es)) (λ us. called w (core.ByName (codes "curry") false) (p ∷ us)))) (k (λ us. called w (core.ByName (codes "curry") false) (PointerV f no_values ∷ us))))
+      same_trans (same_bind (literal_pointer f h (is_anonymous f)) (λ p. same_refl)) (same_trans (given (PointerV f no_values) (λ p. with_args w (core_exprs loop (expr e es)) (λ us. called w (core.ByName (codes "curry") false) (p ∷ us)))) (k (λ us. called w (core.ByName (codes "curry") false) (PointerV f no_values ∷ us))))
 
   curried_written : (f : Text) (vs : Values) (b : Bool) → is_valid_name f ≡ b → ((next : List Value → Act) → Same w env (with_args w (core_exprs loop (literals_of vs)) next) (next (items vs))) → Written (cond b (curried_call f (literals_of vs)) (DynamicConstant (PointerV f vs))) (PointerV f vs)
-  curried_written f no_values true h k = pointer_written f h
+  curried_written f no_values true h k = literal_pointer f h (is_anonymous f)
   curried_written f (item v vs) true h k = same_trans (curried_given f (literal_of v) (literals_of vs) (v ∷ items vs) h k) (same_path (ap (λ us. give (PointerV f (item v us))) (values_items vs)))
   curried_written f vs false h k = same_refl
 

@@ -1,6 +1,6 @@
 -- Trees without what depends on how they are spelled: constants are written out, braces around one expression are gone,
--- and so on. Two scripts are the same but for how they are spelled where this makes one of both.
-use Rattle.std.specs.Prelude.{◌≡◌, ℕ, zero, suc, Bool, true, false, not, cond, ◌&&◌, List, [], ◌∷◌, map, Option, Some, None, codes}
+-- and so on. Two scripts are the same but for how they are spelled where this makes one of both, whatever the order of functions.
+use Rattle.std.specs.Prelude.{ℕ, zero, suc, Bool, true, false, not, cond, ◌&&◌, List, [], ◌∷◌, map, Option, Some, None, codes}
 use Rattle.rhai_base.specs.Value.{Text, Value, UnitV, BoolV, IntV, CharV, TextV, ArrayV, MapV, PointerV, RangeV, RangeInclusiveV, Values, no_values, item, Fields, no_fields, field, same_fields}
 use Rattle.rhai_base.specs.Operators.{Operator, UpTo, Through, symbol}
 use Rattle.base_tokens.specs.Names.{is_valid_name}
@@ -8,6 +8,10 @@ use Rattle.theory_meaning.specs.Constants.{is_literal_unit, pointer_call}
 use Rattle.theory_meaning.specs.Elements.{fields_of}
 use Rattle.theory_meaning.specs.Shape.{is_true, condition_at, are_distinct}
 use Rattle.theory_meaning.specs.Tree.{CallToken, NoToken, OfOperator, Callee, ChainFlags, Expr, DynamicConstant, BoolConstant, IntegerConstant, CharConstant, StringConstant, UnitConstant, InterpolatedString, ArrayOf, MapOf, Variable, ThisPtr, Property, MethodCall, BlockExpr, FnCall, Dot, Index, And, Or, Coalesce, Exprs, no_exprs, expr, Pairs, no_pairs, pair, MaybeExpr, no_expr, an_expr, Arms, no_arms, arm, Stmt, Noop, If, Switch, While, Do, For, Var, Assignment, FnCallStmt, Block, TryCatch, ExprStmt, BreakLoop, Return, Import, Stmts, no_stmts, stmt, Function, Script}
+use Rattle.theory_naming.specs.Alike.{SameByKey, SameBut, AreApart}
+use Rattle.theory_naming.specs.Renaming.{is_anonymous}
+use Rattle.theory_spelling.specs.Captures.{grouped, settled}
+use Rattle.theory_spelling.specs.Listed.{listed_switch}
 
 -- ---- values, written out
 
@@ -31,10 +35,14 @@ callee f token = record { namespace = []; name = f; captures = false; token = to
 abbrev pub range_call : Operator → Expr → Expr → Expr
 range_call op a b = FnCall (callee (symbol op) (OfOperator op)) (expr a (expr b no_exprs))
 
--- the call that makes a pointer, and the one that adds values to it
+-- a pointer: the call that makes it; one to a closure's function, which no text names, stays
+abbrev pub pointer_literal : Text → Expr
+pointer_literal f = cond (is_anonymous f) (DynamicConstant (PointerV f no_values)) (pointer_call f)
+
+-- and the call that adds values to it
 abbrev pub curried_call : Text → Exprs → Expr
-curried_call f no_exprs = pointer_call f
-curried_call f (expr e es) = FnCall (callee (codes "curry") NoToken) (expr (pointer_call f) (expr e es))
+curried_call f no_exprs = pointer_literal f
+curried_call f (expr e es) = FnCall (callee (codes "curry") NoToken) (expr (pointer_literal f) (expr e es))
 
 abbrev mutual
   -- the expression that writes a value out; what no expression writes out stays a constant
@@ -159,7 +167,7 @@ abbrev mutual
   bare_expr (ArrayOf es) = ArrayOf (bare_exprs es)
   bare_expr (MapOf ps template) = MapOf (bare_pairs ps) template
   bare_expr (MethodCall c es) = MethodCall c (bare_exprs es)
-  bare_expr (BlockExpr ss) = unbraced (bare_stmts ss)
+  bare_expr (BlockExpr ss) = unbraced (settled (bare_stmts ss))
   bare_expr (FnCall c es) = FnCall c (bare_exprs es)
   bare_expr (Dot k l r) = Dot (bare_flags true k r) (as_side (has_role l) (bare_expr l)) (as_side (has_role r) (bare_expr r))
   bare_expr (Index k l r) = Index (bare_flags false k r) (as_side (has_role l) (bare_expr l)) (as_side (has_role r) (bare_expr r))
@@ -187,14 +195,14 @@ abbrev mutual
   pub bare_stmt : Stmt → Stmt
   bare_stmt Noop = Block no_stmts
   bare_stmt (If e a b) = If (bare_expr e) (bare_stmts a) (bare_stmts b)
-  bare_stmt (Switch e as' t) = Switch (bare_expr e) (with_default (has_true_default as' t.default) (bare_arms as') t.default) t
+  bare_stmt (Switch e as' t) = listed_switch (bare_expr e) (with_default (has_true_default as' t.default) (bare_arms as') t.default) t
   bare_stmt (While e b) = While (as_guard (is_literal_unit e) (bare_expr e)) (bare_stmts b)
   bare_stmt (Do negated exported e b) = Do negated false (bare_expr e) (bare_stmts b)
   bare_stmt (For x i e b) = For x i (bare_expr e) (bare_stmts b)
   bare_stmt (Var constant exported x e) = Var constant exported x (bare_expr e)
   bare_stmt (Assignment op l e) = Assignment op (as_side (has_role l) (bare_expr l)) (bare_expr e)
   bare_stmt (FnCallStmt c es) = ExprStmt (FnCall c (bare_exprs es))
-  bare_stmt (Block ss) = evaluated (unbraced (bare_stmts ss))
+  bare_stmt (Block ss) = evaluated (unbraced (settled (bare_stmts ss)))
   bare_stmt (TryCatch x a b) = TryCatch (as_catch (has_role x) (is_literal_unit x) (bare_expr x)) (bare_stmts a) (bare_stmts b)
   bare_stmt (ExprStmt e) = evaluated (bare_expr e)
   bare_stmt (BreakLoop breaks exported m) = BreakLoop breaks false (bare_maybe m)
@@ -204,7 +212,7 @@ abbrev mutual
 
   pub bare_stmts : Stmts → Stmts
   bare_stmts no_stmts = no_stmts
-  bare_stmts (stmt s ss) = stmt (bare_stmt s) (bare_stmts ss)
+  bare_stmts (stmt s ss) = grouped (bare_stmt s) (bare_stmts ss)
 
 -- ---- scripts
 
@@ -214,6 +222,16 @@ bare_function f = record { name = f.name; this_type = f.this_type; params = f.pa
 abbrev pub bare_script : Script → Script
 bare_script p = record { statements = bare_stmts p.statements; functions = map bare_function p.functions }
 
--- They are the same but for how they are spelled.
+-- They are the same but for how they are spelled, and for the order of functions.
 abbrev pub SpelledAlike : Script → Script → Type 0
-SpelledAlike p q = bare_script p ≡ bare_script q
+SpelledAlike p q = SameByKey (bare_script p) (bare_script q)
+
+-- And but for names: a function of the second has in the first the name that `named` gives it.
+abbrev pub SpelledBut : (Text → Text) → Script → Script → Type 0
+SpelledBut named p q = SameBut named (bare_script p) (bare_script q)
+
+-- by names that are as different as their own
+pub record SpelledButNames (p q : Script) : Type 0 where
+  pub named : Text → Text
+  pub apart : AreApart named
+  pub spelled : SpelledBut named p q

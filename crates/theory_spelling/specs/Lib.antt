@@ -1,2 +1,5 @@
+pub mod Captures
 pub mod Bare
+pub mod Listed
 pub mod Runs
+pub mod WorkedListed

@@ -1,8 +1,12 @@
-use Rattle.std.proofs.Common.{◌≡◌, ℕ, List, [], ◌∷◌, ◌++◌, map, sym, ap, ◌∙◌, append_assoc}
+use Rattle.std.proofs.Common.{◌≡◌, ℕ, List, [], ◌∷◌, ◌++◌, map, sym, ap, ◌∙◌, subst, append_assoc}
+use Rattle.std.specs.Prelude.{IfOk}
+use Rattle.rhai_base.specs.Reading.{value_of}
+use Rattle.rhai_base.specs.Value.{values}
 use Rattle.rhai_base.specs.declared.dynamic.Dynamic.{Dynamic}
 use Rattle.theory_meaning.specs.Tree.{MapOf}
 use Rattle.ast_types.specs.Reading.{expr_of, expr_of-Map, keys_of, pairs_of}
-use Rattle.text_alike.proofs.ByCases.{ok_gives, ok_matches}
+use Rattle.theory_spelling.specs.Bare.{curried_call, literals_of}
+use Rattle.text_alike.proofs.ByCases.{ok_gives, ok_matches, pointer_written}
 use Rattle.text_alike.proofs.Entries.{entries_made, one_more_entry, written_map}
 use Rattle.text_alike.proofs.Lists.{literals_made, named_item}
 use Rattle.text_alike.proofs.constants.+written.Goals as goal
@@ -31,3 +35,10 @@ map_literal-returns t c =
     expr_of-Map c.in_ok-new.field-0 _ ∙ ap (λ m. MapOf (pairs_of m.0) (keys_of m.1)) c.in_ok-new.ensures
     ∙ (λ i. MapOf ((ap pairs_of c.in_ok-parts.ensures.0 ∙ c.in_ok-entries.ensures) i) (ok_gives _ c.in_ok-parts.ensures.1 c.template_of.ensures.keys i))
     ∙ written_map c.args.members.now c.template_of.ensures.ordered
+
+pub pointer_literal-returns : goal.pointer_literal-returns
+pointer_literal-returns t c =
+    let p = c.args.pointer.now in
+    pointer_written c.curried_call.result p.name (values (map value_of p.curried))
+    (subst (λ es. IfOk c.curried_call.result (λ e. expr_of e ≡ curried_call p.name es)) (c.in_ok-values.ensures ∙ ap (λ vs. literals_of (values (map value_of vs))) c.curry.ensures) c.curried_call.ensures.call)
+    c.curried_call.ensures.valid

@@ -13,8 +13,8 @@ bare_exprs-returns t c = exprs_made _ _ _ c.loop-expr-test.false c.loop-expr.inv
 pub bare_pairs-returns : goal.bare_pairs-returns
 bare_pairs-returns t c = pairs_made _ _ _ c.loop-pair-test.false c.loop-pair.invariant
 
-pub bare_stmts-returns : goal.bare_stmts-returns
-bare_stmts-returns t c = stmts_made _ _ _ c.loop-stmt-test.false c.loop-stmt.invariant
+pub bare_lines-returns : goal.bare_lines-returns
+bare_lines-returns t c = stmts_made _ _ _ c.loop-stmt-test.false c.loop-stmt.invariant
 
 pub bare_arms-returns : goal.bare_arms-returns
 bare_arms-returns t c = arms_made _ _ _ c.loop-arm-test.false c.loop-arm.invariant

@@ -9,8 +9,8 @@ invariant-bare_exprs-loop-expr l = map expr_of l.copies ≡ map bare_item (take 
 abbrev pub invariant-bare_pairs-loop-pair : goal.invariant-bare_pairs-loop-pair
 invariant-bare_pairs-loop-pair l = map named_item l.copies ≡ map bare_named (take l.pair-index l.pairs)
 
-abbrev pub invariant-bare_stmts-loop-stmt : goal.invariant-bare_stmts-loop-stmt
-invariant-bare_stmts-loop-stmt l = map stmt_of l.copies ≡ map bare_line (take l.stmt-index l.stmts)
+abbrev pub invariant-bare_lines-loop-stmt : goal.invariant-bare_lines-loop-stmt
+invariant-bare_lines-loop-stmt l = map stmt_of l.copies ≡ map bare_line (take l.stmt-index l.stmts)
 
 abbrev pub invariant-bare_arms-loop-arm : goal.invariant-bare_arms-loop-arm
 invariant-bare_arms-loop-arm l = map sides_item l.copies ≡ map bare_sides (take l.arm-index l.arms)

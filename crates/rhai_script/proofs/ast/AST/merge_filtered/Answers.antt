@@ -1,19 +1,17 @@
-use Rattle.std.proofs.Common.{◌≡◌, subst, ◌∙◌, arith}
-use Rattle.std.proofs.lemmas.Grind.{common_steps}
-use Rattle.std.specs.List.Retain.{IsFiltered}
+use Rattle.std.proofs.Common.{◌≡◌, false, sym, ap, subst, ◌∙◌}
 use Rattle.script_tables.specs.declared.fn_lib.FnLib.{FnLib}
-use Rattle.script_tables.specs.Filter.{Answers}
-use Rattle.rhai_script.specs.Contents.{contents, joined_over, merged}
 use Rattle.script_tables.proofs.Choices.{ok_alike}
+use Rattle.rhai_script.specs.Contents.{contents}
+use Rattle.rhai_script.specs.Renamed.{Apart, as_it_is, clash}
+use Rattle.rhai_script.proofs.Taken.{in_some, in_none}
 use Rattle.rhai_script.proofs.ast.AST.merge_filtered.Goals as goal
+
+pub returns-in-Some : goal.returns-in-Some
+returns-in-Some g c =
+    let apart = subst (λ (l : FnLib). Apart l.functions (contents c.args.other.now) (contents c.in-Some.marked)) c.deref.ensures (in_some _ _ _ _ c.in-Some.is c.in_ok-copy.ensures) in
+    ok_alike c.with_some_of.result _ _ (λ s e. (contents c.in-Some.marked, e.0, apart, e.1, e.2)) c.with_some_of.ensures
 
 pub returns : goal.returns
 returns g c =
-    let chosen = c.in_ok-lib.ensures.0 in
-    let whole : joined_over c.in_ok-lib.lib.value c.args.other.now.source (contents c.args.self.now) (contents c.args.other.now) ≡ merged (contents c.args.self.now) (contents c.args.other.now) chosen = grind (arith, common_steps) in
-    ok_alike c.merged_with.result _ _
-    (λ s e. (
-      chosen,
-      subst (λ (table : FnLib). IsFiltered (Answers g.F.Fn) c.args.filter table.functions chosen) c.deref-2.ensures c.in_ok-lib.ensures.1,
-      e ∙ whole,
-    )) c.merged_with.ensures
+    let none = ap (λ (l : FnLib). clash 0 l.functions c.args.other.now.lib.value.functions) (sym c.deref.ensures) ∙ in_none _ _ _ c.in-None.is c.in_ok-copy.ensures in
+    ok_alike c.with_some_of-in-None.result _ _ (λ s e. (contents c.args.other.now, e.0, as_it_is none, e.1, e.2)) c.with_some_of-in-None.ensures

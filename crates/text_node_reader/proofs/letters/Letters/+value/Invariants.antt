@@ -8,3 +8,6 @@ decreases-members g l = l.depth
 
 abbrev pub decreases-value_within : goal.decreases-value_within
 decreases-value_within g l = l.depth
+
+abbrev pub decreases-pointer : goal.decreases-pointer
+decreases-pointer g l = l.depth

@@ -1,0 +1,4 @@
+pub mod Closures
+pub mod Gaps
+pub mod Ordering
+pub mod Scripts

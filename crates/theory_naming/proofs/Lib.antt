@@ -1,0 +1,12 @@
+pub mod Values
+pub mod Listed
+pub mod Acts
+pub mod Operators
+pub mod Shown
+pub mod Tables
+pub mod Exact
+pub mod Itself
+pub mod Renamed
+pub mod Scripts
+pub mod Apart
+pub mod Wanted
