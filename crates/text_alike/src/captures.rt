@@ -5,14 +5,14 @@ ghost use Rattle.std.specs.Prelude.{◌≡◌, ◌++◌, ◌∷◌, [], IfOk, Ma
 ghost use Rattle.std.specs.Option.{option_map};
 ghost use Rattle.theory_spelling.specs.Captures as captures;
 ghost use Rattle.theory_meaning.specs.Tree.{Block, ExprStmt, FnCall, Share};
-ghost use Rattle.ast_types.specs.Reading.{callee_of, expr_of, exprs_of, pairs_of, shared_names, stmt_of, stmts_of};
+ghost use Rattle.ast_types.specs.Reading.{callee_of, expr_of, exprs_of, mark_of, pairs_of, shared_names, stmt_of, stmts_of};
 ghost use Rattle.text_alike.specs.Closures.{closure_of};
 
 use crate::forms::{both, pushed};
 use ast_make::{block_stmt, expr_stmt};
 use ast_types::{Expr, FnCallExpr, Stmt, StmtBlock};
 use bitflags::Flags;
-use rhai_base::{ASTFlags, Boxed, Ident, OutOfMemory, Position, Seq, Span};
+use rhai_base::{ASTFlags, Boxed, Ident, OutOfMemory, Position, Seq, Span, Token};
 use std::alloc::Global;
 use std::num::NonZeroUsize;
 
@@ -40,7 +40,7 @@ fn turned(stmts: Seq<Stmt>) -> Seq<Stmt>
     Seq::from_vec(items)
 }
 
-/// Whether it begins with `false &&`.
+/// Whether it is an integer, or begins with `false &&`.
 fn does_nothing(stmt: &Stmt) -> bool
     ensures { result ≡ captures.does_nothing (stmt_of stmt.now) }
 {
@@ -54,6 +54,7 @@ fn is_never(expr: &Expr) -> bool
     ensures { result ≡ captures.does_nothing (ExprStmt (expr_of expr.now)) }
 {
     match expr {
+        Expr::IntegerConstant(_, _) => true,
         Expr::And(operands, _) => begins_false(operands.get().as_slice()),
         _ => false,
     }
@@ -134,7 +135,41 @@ pub(crate) fn all_grouped(alloc: Global, stmts: Seq<Stmt>) -> Result<Seq<Stmt>, 
 
 // ---- constants in front of a closure
 
-/// Whether it is a literal, which runs nothing.
+/// Whether it is a range between two integers.
+fn is_range(call: &FnCallExpr) -> bool
+    ensures { result ≡ captures.is_given (FnCall (callee_of call.now) (exprs_of call.now.args)) }
+{
+    is_range_sign(call.op_token) && are_two_integers(call.args.as_slice())
+}
+
+fn is_range_sign(token: Option<Token>) -> bool
+    ensures { result ≡ captures.is_range_sign (mark_of token) }
+{
+    match token {
+        Some(Token::ExclusiveRange) | Some(Token::InclusiveRange) => true,
+        _ => false,
+    }
+}
+
+fn are_two_integers(args: &[Expr]) -> bool
+    ensures { result ≡ captures.are_two_integers (exprs_of args.now) }
+{
+    match args {
+        [from, to] => is_integer(from) && is_integer(to),
+        _ => false,
+    }
+}
+
+fn is_integer(expr: &Expr) -> bool
+    ensures { result ≡ captures.is_integer (expr_of expr.now) }
+{
+    match expr {
+        Expr::IntegerConstant(_, _) => true,
+        _ => false,
+    }
+}
+
+/// Whether it is a literal or a range, which run nothing.
 #[cycle(given)]
 fn is_given(expr: &Expr) -> bool
     ensures { result ≡ captures.is_given (expr_of expr.now) }
@@ -146,7 +181,8 @@ fn is_given(expr: &Expr) -> bool
         Expr::CharConstant(_, _) | Expr::StringConstant(_, _) | Expr::Unit(_) => true,
         Expr::Array(items, _) => are_given(items.get().as_slice()),
         Expr::Map(map, _) => have_given(map.get().0.as_slice()),
-        Expr::InterpolatedString(_, _) | Expr::Stmt(_) | Expr::FnCall(_, _) => false,
+        Expr::FnCall(call, _) => is_range(call.get()),
+        Expr::InterpolatedString(_, _) | Expr::Stmt(_) => false,
         Expr::Variable(_, _, _) | Expr::ThisPtr(_) | Expr::Property(_, _) => false,
         Expr::MethodCall(_, _) | Expr::Dot(_, _, _) | Expr::Index(_, _, _) => false,
         Expr::And(_, _) | Expr::Or(_, _) | Expr::Coalesce(_, _) => false,

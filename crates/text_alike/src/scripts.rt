@@ -7,13 +7,14 @@ ghost use Rattle.script_tables.specs.FnKey.{key_meant};
 ghost use Rattle.theory_meaning.specs.Act.{Key};
 ghost use Rattle.theory_meaning.specs.Calls.{key};
 ghost use Rattle.theory_meaning.specs.Plain.{all_true};
+ghost use Rattle.theory_meaning.specs.Tree.{Block};
 ghost use Rattle.theory_meaning.specs.Walk.{over_stmts};
 ghost use Rattle.theory_naming.specs.Alike.{AreCovered, AreKeyed, AreThere, AreWanted, IsCovered, IsWanted, function_at, key_at};
 ghost use Rattle.theory_naming.specs.Renaming.{calls_by_name};
 ghost use Rattle.theory_naming.specs.Renaming as renaming;
-ghost use Rattle.theory_spelling.specs.Bare.{SpelledAlike, SpelledButNames, bare_function, bare_stmts};
+ghost use Rattle.theory_spelling.specs.Bare.{SpelledAlike, SpelledButNames, bare_function, bare_stmts, emptied, is_empty_block, is_one_empty};
 ghost use Rattle.rhai_script.specs.Script.{script_of};
-ghost use Rattle.ast_types.specs.Reading.{function_of, stmts_of};
+ghost use Rattle.ast_types.specs.Reading.{function_of, stmt_of, stmts_of};
 ghost use Rattle.text_alike.specs.Scripts.{ArePairs, HasKey, bare_table};
 
 use crate::closures::{Closures, are_by_name, closures_of, is_unread};
@@ -314,13 +315,50 @@ fn renamed_function_alike(
     Ok(same_function(&first, &second))
 }
 
+/// A body of one empty block has no statements.
+fn emptied(alloc: Global, stmts: Seq<Stmt>) -> Seq<Stmt>
+    ensures { stmts_of result ≡ emptied (stmts_of stmts) }
+{
+    if is_one_empty(stmts.as_slice()) {
+        return Seq::new(alloc);
+    }
+    stmts
+}
+
+fn is_one_empty(stmts: &[Stmt]) -> bool
+    ensures { result ≡ is_one_empty (stmts_of stmts.now) }
+{
+    match stmts {
+        [only] => is_empty_block(only),
+        _ => false,
+    }
+}
+
+fn is_empty_block(stmt: &Stmt) -> bool
+    ensures { result ≡ is_empty_block (stmt_of stmt.now) }
+{
+    match stmt {
+        Stmt::Block(block) => is_empty(block.get().statements()),
+        _ => false,
+    }
+}
+
+fn is_empty(stmts: &[Stmt]) -> bool
+    ensures { result ≡ is_empty_block (Block (stmts_of stmts.now)) }
+{
+    match stmts {
+        [] => true,
+        _ => false,
+    }
+}
+
 fn bare_function(alloc: Global, function: &ScriptFuncDef) -> Result<ScriptFuncDef, OutOfMemory>
     ensures { IfOk result (λ f. function_of f ≡ bare_function (function_of function.now)) }
 {
     let name = function.name.clone()?;
     let this_type = function.this_type.clone()?;
     let params = function.params.clone()?;
-    let statements = bare_stmts(alloc, function.body.statements())?;
+    let statements = emptied(alloc, bare_stmts(alloc, function.body.statements())?);
     Ok(ScriptFuncDef {
         body: StmtBlock::new_with_span(statements.into_vec(), Span::NONE),
         name,

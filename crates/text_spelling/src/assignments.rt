@@ -8,13 +8,11 @@ use rhai_ast::{BinaryExpr, Expr, ExprQueries};
 use rhai_base::{ASTFlags, OpAssignment, Position};
 
 impl<'t> Printer<'t> {
-    /// An assignment. No braces stand around what is assigned to.
+    /// An assignment.
     #[cycle(print)]
     pub(crate) fn assignment(&self, sign: &OpAssignment, sides: &'t BinaryExpr, inside: Inside) {
         self.want_place(&sides.lhs);
-        let braces = self.await_braces(0);
         self.expr(&sides.lhs, Need::Start, inside);
-        self.await_braces(braces);
         self.sign(sign);
         self.expr(&sides.rhs, Need::Nothing, inside);
     }

@@ -29,18 +29,16 @@ impl<'t> Printer<'t> {
         let params = function.params.as_slice();
         let names = params.get(..taken).unwrap_or(&[]);
         if !self.is_mute() {
-            let around = self.await_braces(0);
             let unread = self.names_to_take(function, names, pos, inside);
             let is_copy = self.begin_closure(function.name.as_str(), pos);
-            self.await_braces(self.braces_of(function));
             self.written_closure(function, names, unread, pos, inside);
             self.end_closure(&function.name, is_copy);
-            self.await_braces(around);
         }
         self.use_all(names);
     }
 
-    /// A closure, whose body begins with a statement that takes names from around it, and reads none.
+    /// A closure, whose body begins with a statement that takes these names from around it, and reads none; and with a
+    /// number, where others that were begun before are the same.
     #[cycle(print)]
     fn written_closure(
         &self,
@@ -51,14 +49,17 @@ impl<'t> Printer<'t> {
         inside: Inside,
     ) {
         let own = own_params(function, names);
+        let others = self.count_begun(function);
         let around = self.enter(true);
         self.put("|");
         self.params(own, pos);
         self.put("| ");
-        if unread.is_empty() {
+        if unread.is_empty() && others == 0 {
             self.closure_body(&function.body, inside.function());
         } else {
-            self.taking_body(&function.body, unread, pos, inside.function());
+            self.put("{\n");
+            self.in_front(unread, others, pos, inside.block());
+            self.body_behind(&function.body, inside.function().past(1));
         }
         let captured = self.leave(around);
         if !are_names(captured.as_slice(), names) {
@@ -103,23 +104,24 @@ impl<'t> Printer<'t> {
         }
     }
 
-    /// A body behind a statement that takes these names from around the closure, and reads none.
-    #[cycle(print)]
-    fn taking_body(
+    /// What says nothing in front of a body: a statement that names these, and reads none; a number, where so many others
+    /// are the same.
+    fn in_front(
         &self,
-        body: &'t StmtBlock,
         unread: &'t [ImmutableString],
+        others: u32,
         pos: Position,
         inside: Inside,
     ) {
-        let names = self.declared();
-        self.put("{\n");
-        self.begin_line(inside.block());
-        self.unread(unread, pos, inside);
-        self.lines(body.statements(), inside.block());
-        self.shorten(names);
-        self.begin_line(inside);
-        self.put("}");
+        if !unread.is_empty() {
+            self.begin_line(inside);
+            self.unread(unread, pos, inside);
+        }
+        if others > 0 {
+            self.begin_line(inside);
+            self.integer(i64::from(others).saturating_add(1));
+            self.put(";\n");
+        }
     }
 
     /// The statement that names these, and reads none. Each is a level to those behind it.
@@ -135,6 +137,20 @@ impl<'t> Printer<'t> {
         }
         self.put(";\n");
         self.use_all(names);
+    }
+
+    /// The statements of a body and its end. One without any has an empty block.
+    #[cycle(print)]
+    fn body_behind(&self, body: &'t StmtBlock, inside: Inside) {
+        let names = self.declared();
+        self.lines(body.statements(), inside.block());
+        if body.is_empty() {
+            self.begin_line(inside.block());
+            self.put("{}\n");
+        }
+        self.shorten(names);
+        self.begin_line(inside);
+        self.put("}");
     }
 
     /// Notes that names are used.
@@ -165,10 +181,7 @@ impl<'t> Printer<'t> {
             return self.refuse(Unspelled::Share, pos);
         }
         if args.len() == shared.len() {
-            let braces = self.open_braces(None, Need::Start);
-            let within = inside.past(braces.saturating_mul(3));
-            self.closure(function, args.len(), pos, within);
-            self.close_braces(braces, Need::Start);
+            self.closure(function, args.len(), pos, inside);
         } else {
             self.with_constants(function, args, pos, inside);
         }

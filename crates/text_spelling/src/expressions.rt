@@ -19,13 +19,7 @@ impl<'t> Printer<'t> {
         let Some(inside) = self.below(inside, expr.position()) else {
             return;
         };
-        let braces = self.open_braces(Some(expr), need);
-        let (within, inside) = if braces > 0 {
-            (Need::Start, inside.past(braces.saturating_mul(3)))
-        } else {
-            (need, inside)
-        };
-        match brackets_of(expr, within) {
+        match brackets_of(expr, need) {
             Brackets::Nothing => self.bare(expr, inside),
             Brackets::Parentheses => {
                 self.put("(");
@@ -43,7 +37,6 @@ impl<'t> Printer<'t> {
                 self.put(" })");
             }
         }
-        self.close_braces(braces, need);
     }
 
     /// An expression as it is written by itself.

@@ -21,7 +21,7 @@
 //! | `share n`, and `curry(<Fn(anon$1)>, n)` behind it | `|x| n + x` |
 //! | what a closure takes from around it and is known | `{ const A = 1; |x| A + b + x }` |
 //! | names that a closure shares, of which its body takes others or in another order | `|x| { false && n && m; x }` |
-//! | another function `anon$2` that is the same as `anon$1` | with braces around the first expression: `|x| ({ x })` |
+//! | a second and a third function `anon$N` that is the same as a first one | `|x| { 2; x }`, `|x| { 3; x }` |
 //!
 //! A closure's function without a pointer to it is left out. All else that no text spells is refused: `Unspelled` has
 //! the reasons.

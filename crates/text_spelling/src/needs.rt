@@ -228,19 +228,6 @@ pub(crate) fn brackets_of(expr: &Expr, need: Need) -> Brackets {
     }
 }
 
-/// Whether an expression has a pair of braces around it there.
-pub(crate) fn is_in_block(expr: &Expr, need: Need) -> bool {
-    matches!(brackets_of(expr, need), Brackets::Braces | Brackets::Block)
-}
-
-/// Whether braces around an expression there change nothing.
-pub(crate) fn may_have_braces(need: Need) -> bool {
-    matches!(
-        need,
-        Need::Nothing | Need::Start | Need::Condition | Need::Iterable
-    )
-}
-
 /// Whether an index stands in a block.
 pub(crate) fn stands_in_braces(index: &Expr) -> bool {
     matches!(index, Expr::And(..) | Expr::Or(..)) || is_bool(index)

@@ -4,11 +4,9 @@ ghost use Rattle.std.specs.Prelude.{◌<◌, IfSome};
 
 use crate::error::{SpellError, Unspelled};
 use crate::inside::Inside;
-use crate::needs::{Need, is_in_block, may_have_braces};
 use crate::scopes::Scopes;
 use crate::table::Table;
 use crate::words::is_name;
-use rhai_ast::Expr;
 use rhai_base::{ImmutableString, Position};
 use script_tables::{FnLib, allocator_of};
 use std::alloc::Global;
@@ -24,8 +22,6 @@ pub(crate) struct Printer<'t> {
     is_mute: Cell<bool>,
     /// Whether a function is the last that was written.
     ends_function: Cell<bool>,
-    /// How many pairs of braces stand around the next expression that may have some.
-    braces: Cell<u32>,
     pub(crate) table: RefCell<Table<'t>>,
     pub(crate) scopes: RefCell<Scopes<'t>>,
 }
@@ -50,7 +46,6 @@ impl<'t> Printer<'t> {
             fault: Cell::new(None),
             is_mute: Cell::new(false),
             ends_function: Cell::new(false),
-            braces: Cell::new(0),
             table: RefCell::new(Table::new(alloc)),
             scopes: RefCell::new(Scopes::new(alloc)),
         };
@@ -66,7 +61,6 @@ impl<'t> Printer<'t> {
             fault,
             is_mute: _is_mute,
             ends_function: _ends_function,
-            braces: _braces,
             table,
             scopes,
         } = self;
@@ -133,40 +127,6 @@ impl<'t> Printer<'t> {
         if let Some(SpellError::Unspelled { .. }) = self.fault.get() {
             self.fault.set(None);
         }
-    }
-
-    // ---- braces
-
-    /// From here on so many pairs stand around the next expression that may have some; how many it was before.
-    pub(crate) fn await_braces(&self, braces: u32) -> u32 {
-        self.braces.replace(braces)
-    }
-
-    /// Begins an expression with the pairs that stand around it there, if it may have some; how many. Where it has a pair by
-    /// itself, there is one more.
-    pub(crate) fn open_braces(&self, expr: Option<&Expr>, need: Need) -> u32 {
-        if self.braces.get() == 0 || !may_have_braces(need) {
-            return 0;
-        }
-        let braces = self.braces.replace(0);
-        let has_own = expr.is_some_and(|expr| is_in_block(expr, need));
-        let braces = braces.saturating_add(u32::from(has_own));
-        self.put(if need == Need::Nothing { "{ " } else { "({ " });
-        for _ in 1..braces {
-            self.put("({ ");
-        }
-        braces
-    }
-
-    /// Ends such an expression.
-    pub(crate) fn close_braces(&self, braces: u32, need: Need) {
-        if braces == 0 {
-            return;
-        }
-        for _ in 1..braces {
-            self.put(" })");
-        }
-        self.put(if need == Need::Nothing { " }" } else { " })" });
     }
 
     // ---- letters

@@ -102,12 +102,7 @@ impl<'t> Printer<'t> {
                 self.declaration(name, value, *flags, *pos, inside);
             }
             Stmt::Assignment(parts) => self.assignment(&parts.get().0, &parts.get().1, inside),
-            Stmt::FnCall(call, pos) => {
-                let braces = self.open_braces(None, Need::Start);
-                let within = inside.past(1).past(braces.saturating_mul(3));
-                self.call(call.get(), *pos, within);
-                self.close_braces(braces, Need::Start);
-            }
+            Stmt::FnCall(call, pos) => self.call(call.get(), *pos, inside.past(1)),
             Stmt::Block(block) => self.inner_block(block.get(), inside),
             Stmt::TryCatch(flow, _) => self.try_catch(flow.get(), inside),
             Stmt::Expr(expr) => self.expr(expr.get(), Need::Start, inside),

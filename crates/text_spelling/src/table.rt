@@ -34,8 +34,8 @@ pub(crate) struct Table<'t> {
     copy: Option<usize>,
     /// By hash, functions whose closures were begun, of several that are the same the first one.
     begun: HashMap<u64, Vec<Begun<'t>>>,
-    /// How many pairs of braces tell these functions' closures apart, by the functions' names.
-    braces: HashMap<&'t str, u32>,
+    /// How many functions that are the same were begun before these, by their names.
+    others: HashMap<&'t str, u32>,
 }
 
 /// A function whose closure was begun.
@@ -59,7 +59,7 @@ impl<'t> Table<'t> {
             copied: 0,
             copy: None,
             begun: HashMap::new(alloc),
-            braces: HashMap::new(alloc),
+            others: HashMap::new(alloc),
         }
     }
 
@@ -103,19 +103,19 @@ impl<'t> Table<'t> {
         Ok(())
     }
 
-    /// How many pairs of braces tell the closure of a function from those that were begun before.
-    fn braces_of(&mut self, alloc: Global, function: &'t ScriptFuncDef) -> Result<u32, AllocError> {
+    /// How many functions that are the same as this one were begun before it, but for their names.
+    fn others(&mut self, alloc: Global, function: &'t ScriptFuncDef) -> Result<u32, AllocError> {
         let name = function.name.as_str();
-        if let Some(braces) = self.braces.get(&name) {
-            return Ok(*braces);
+        if let Some(others) = self.others.get(&name) {
+            return Ok(*others);
         }
-        let braces = self.count_begun(alloc, function)?;
-        self.braces.insert(name, braces)?;
-        Ok(braces)
+        let others = self.begin(alloc, function)?;
+        self.others.insert(name, others)?;
+        Ok(others)
     }
 
-    /// How many functions were begun that are the same as this one, which is counted.
-    fn count_begun(
+    /// How many functions were begun that are the same as this one, which is begun too.
+    fn begin(
         &mut self,
         alloc: Global,
         function: &'t ScriptFuncDef,
@@ -151,7 +151,7 @@ impl<'t> Table<'t> {
             copied: _copied,
             copy: _copy,
             begun: _begun,
-            braces: _braces,
+            others: _others,
         } = self;
         ended
     }
@@ -229,12 +229,12 @@ impl<'t> Printer<'t> {
         is_copy
     }
 
-    /// How many pairs of braces tell the closure of a function from those that were begun before.
-    pub(crate) fn braces_of(&self, function: &'t ScriptFuncDef) -> u32 {
+    /// How many functions that are the same as this one were begun before it.
+    pub(crate) fn count_begun(&self, function: &'t ScriptFuncDef) -> u32 {
         match self.table.try_borrow_mut() {
             Ok(mut table) => {
-                let braces = table.braces_of(self.alloc, function);
-                self.made(braces).unwrap_or(0)
+                let others = table.others(self.alloc, function);
+                self.made(others).unwrap_or(0)
             }
             Err(_) => 0,
         }

@@ -1,22 +1,23 @@
 -- Lists with a `share` run alike: nothing behind it is run.
-use Rattle.std.proofs.Common.{◌≡◌, ℕ, ◌-◌, Bool, true, false, cond, List, [], ◌∷◌, ◌++◌, length, drop, Option, Some, None, refl, sym, ap, ◌∙◌, arith, length-append, append_assoc}
+use Rattle.std.proofs.Common.{◌≡◌, ℕ, ℤ, ◌-◌, Bool, true, false, cond, List, [], ◌∷◌, ◌++◌, length, drop, Option, Some, None, refl, sym, ap, ◌∙◌, arith, length-append, append_assoc}
 use Rattle.std.proofs.lemmas.Bool.{and_parts}
 use Rattle.std.specs.Prelude.{if◌then◌else◌}
 use Rattle.std.specs.Option.{option_map}
-use Rattle.rhai_base.specs.Value.{Text, Value, UnitV, BoolV, IntV, CharV, TextV, ArrayV, MapV, is_unit, values}
+use Rattle.rhai_base.specs.Operators.{UpTo, Through, computed, binary}
+use Rattle.rhai_base.specs.Value.{Text, Value, UnitV, BoolV, IntV, CharV, TextV, ArrayV, MapV, RangeV, RangeInclusiveV, is_unit, values}
 use Rattle.theory_meaning.specs.Act.{ScopeEntry, IsConstant, World, Env, Store, IsStuck, WrongKind, Halted, At, Act, Fail, Scoped, Named, run_all, leave, restore}
 use Rattle.theory_meaning.specs.ActForms.{give, ◌>>=◌}
 use Rattle.theory_meaning.specs.Core as core
-use Rattle.theory_meaning.specs.Desugar.{core_expr, core_exprs, core_pairs, core_stmts}
+use Rattle.theory_meaning.specs.Desugar.{callee_by, core_expr, core_exprs, core_pairs, core_stmts}
 use Rattle.theory_meaning.specs.Elements.{fields_of}
 use Rattle.theory_meaning.specs.Meaning.{act, with_args, with_pairs, acts}
-use Rattle.theory_meaning.specs.Shape.{is_map}
-use Rattle.theory_meaning.specs.Tree.{Expr, DynamicConstant, BoolConstant, IntegerConstant, CharConstant, StringConstant, UnitConstant, ArrayOf, MapOf, And, Exprs, no_exprs, expr, Pairs, no_pairs, pair, Stmt, Var, Block, ExprStmt, Share, Stmts, no_stmts, stmt}
+use Rattle.theory_meaning.specs.Shape.{is_map, is_callable}
+use Rattle.theory_meaning.specs.Tree.{CallToken, OfOperator, Callee, Expr, DynamicConstant, BoolConstant, IntegerConstant, CharConstant, StringConstant, UnitConstant, ArrayOf, MapOf, FnCall, And, Exprs, no_exprs, expr, Pairs, no_pairs, pair, Stmt, Var, Block, ExprStmt, Share, Stmts, no_stmts, stmt}
 use Rattle.theory_meaning.proofs.Preserves.{keeps_refl, restore_keeps}
-use Rattle.theory_spelling.specs.Captures.{shared, does_nothing, grouped, is_given, are_given, have_given, with_known, is_known, closure_in, captured, settled_by, settled}
+use Rattle.theory_spelling.specs.Captures.{shared, does_nothing, grouped, is_range_sign, is_integer, are_two_integers, is_given, are_given, have_given, with_known, is_known, closure_in, captured, settled_by, settled}
 use Rattle.theory_spelling.proofs.Acts.{Same, SameAll, same_refl, same_trans, same_bind, all_refl, all_line}
 
-restore_self : (es : List ScopeEntry) → restore es es ≡ es
+pub restore_self : (es : List ScopeEntry) → restore es es ≡ es
 restore_self es = restore_keeps (keeps_refl es)
 
 drop_front : (more es : List ScopeEntry) → drop (length more) (more ++ es) ≡ es
@@ -63,6 +64,33 @@ module _ (w : World) (env : Env) (around : Bool) where
   map_given true ps (one_is_stuck h) = is_stuck (h _)
   map_given false ps h = is_stuck same_refl
 
+  abbrev two : Expr → Expr → core.Exprs
+  two a b = core.expr (core_expr around a) (core.expr (core_expr around b) core.no_exprs)
+
+  until_given : (b : Bool) (from to : ℤ) → AtOnce (act w (cond b (core.FnCall (core.OnOperator UpTo) (two (IntegerConstant from) (IntegerConstant to))) core.Ill))
+  unfolding computed binary
+  until_given true from to = gives (RangeV from to) (record { at = λ s t. refl })
+  until_given false from to = is_stuck same_refl
+
+  through_given : (b : Bool) (from to : ℤ) → AtOnce (act w (cond b (core.FnCall (core.OnOperator Through) (two (IntegerConstant from) (IntegerConstant to))) core.Ill))
+  unfolding computed binary
+  through_given true from to = gives (RangeInclusiveV from to) (record { at = λ s t. refl })
+  through_given false from to = is_stuck same_refl
+
+  range_by : (b : Bool) (c : Callee) (k : CallToken) (from to : ℤ) → is_range_sign k ≡ true → AtOnce (act w (cond b (core.FnCall (callee_by c k) (two (IntegerConstant from) (IntegerConstant to))) core.Ill))
+  range_by b c (OfOperator UpTo) from to h = until_given b from to
+  range_by b c (OfOperator Through) from to h = through_given b from to
+  range_by b c _ from to h = absurd (cc)
+
+  two_given : (b : Bool) (c : Callee) (k : CallToken) (from to : Expr) → is_range_sign k ≡ true → is_integer from ≡ true → is_integer to ≡ true → AtOnce (act w (cond b (core.FnCall (callee_by c k) (two from to)) core.Ill))
+  two_given b c k (IntegerConstant from) (IntegerConstant to) h i j = range_by b c k from to h
+  two_given b c k (IntegerConstant from) _ h i j = absurd (cc)
+  two_given b c k _ to h i j = absurd (cc)
+
+  range_given : (c : Callee) (es : Exprs) → is_range_sign c.token ≡ true → are_two_integers es ≡ true → AtOnce (act w (core_expr around (FnCall c es)))
+  range_given c (expr from (expr to no_exprs)) h k = let y = and_parts (is_integer from) (is_integer to) k in two_given (is_callable c 2) c c.token from to h y.0 y.1
+  range_given c _ h k = absurd (cc)
+
   one_more : {V : Type 0} (make : Value → V) (a : Act) (rest : (List V → Act) → Act) → AtOnce a → AllAtOnce rest → AllAtOnce (λ next. a >>= λ v. rest (λ vs. next (make v ∷ vs)))
   one_more make a rest (gives v h) (all_give vs k) = all_give (make v ∷ vs) (λ next. same_trans (with_value _ h) (k _))
   one_more make a rest (gives v h) (one_is_stuck k) = one_is_stuck (λ next. same_trans (with_value _ h) (k _))
@@ -78,6 +106,7 @@ module _ (w : World) (env : Env) (around : Bool) where
     given UnitConstant h = gives UnitV same_refl
     given (ArrayOf es) h = array_given es (all_given es h)
     given (MapOf ps template) h = map_given (is_map template ps) (core_pairs around ps) (each_given ps h)
+    given (FnCall c es) h = let y = and_parts (is_range_sign c.token) (are_two_integers es) h in range_given c es y.0 y.1
     given _ h = absurd (cc)
 
     all_given : (es : Exprs) → are_given es ≡ true → AllAtOnce (with_args w (core_exprs around es))
@@ -153,6 +182,7 @@ module _ (w : World) (env : Env) (around : Bool) where
   -- ---- a list
 
   nothing_alike : (b : Bool) (s t : Stmt) (ss : Stmts) (v : Value) → SameAll w env (acts w b (core_stmts around (cond (does_nothing s) (stmt t ss) (stmt s (stmt t ss)))) v) (acts w b (core_stmts around (stmt s (stmt t ss))) v)
+  nothing_alike b (ExprStmt (IntegerConstant n)) t ss v = record { at = λ s t. refl }
   nothing_alike b (ExprStmt (And (expr (BoolConstant false) es))) t ss v = record { at = λ s t. refl }
   nothing_alike b _ t ss v = all_refl
 

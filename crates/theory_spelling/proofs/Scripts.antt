@@ -1,20 +1,22 @@
 -- Scripts run as they do without what depends on how they are spelled.
 use Rattle.std.proofs.Common.{◌≡◌, ℕ, zero, suc, Bool, true, false, cond, List, [], ◌∷◌, map, Option, Some, None, refl, sym, ap, ◌∙◌, subst}
-use Rattle.theory_meaning.specs.Act.{ScopeEntry, HostCall, Key, World, Env, ScriptCall, with_turn, run_all}
+use Rattle.theory_meaning.specs.Act.{ScopeEntry, HostCall, Key, World, Env, ScriptCall, Gives, Ended, At, with_turn, run_all}
 use Rattle.theory_meaning.specs.Calls.{same_key}
 use Rattle.theory_meaning.specs.Core as core
 use Rattle.theory_meaning.specs.Desugar.{core_function, core_script, core_stmts}
 use Rattle.theory_meaning.specs.Relations.{OnlyAdds}
 use Rattle.theory_meaning.specs.Run.{key_of, function_of, entered, body_acts, call_body, invoke_at, env_at, EntryPoint, AtStatements, AtFunction, run_at, run_script}
-use Rattle.theory_meaning.specs.Tree.{Function, Script, Stmts}
+use Rattle.theory_meaning.specs.Meaning.{acts}
+use Rattle.theory_meaning.specs.Tree.{Function, Script, Block, Stmts, no_stmts, stmt}
 use Rattle.theory_meaning.proofs.Depths.{adds_at}
 use Rattle.theory_naming.specs.Alike.{AreApart, RunBut}
 use Rattle.theory_naming.specs.Naming.{ResultLike}
 use Rattle.theory_naming.specs.Renaming.{Stands}
 use Rattle.theory_naming.proofs.Scripts.{same_by_key_runs, same_but_names}
-use Rattle.theory_spelling.specs.Bare.{bare_stmts, bare_function, bare_script, SpelledAlike, SpelledBut}
+use Rattle.theory_spelling.specs.Bare.{bare_stmts, is_one_empty, bare_function, bare_script, SpelledAlike, SpelledBut}
 use Rattle.theory_spelling.specs.Runs.{RunAlike}
-use Rattle.theory_spelling.proofs.Acts.{SameAll, all_finish}
+use Rattle.theory_spelling.proofs.Acts.{SameAll, all_refl, all_trans, all_finish}
+use Rattle.theory_spelling.proofs.Captures.{restore_self}
 use Rattle.theory_spelling.proofs.Trees.{list_alike}
 use Rattle.rhai_base.specs.Value.{Text, UnitV}
 
@@ -22,6 +24,14 @@ body_alike : (w : World) (env : Env) → OnlyAdds env → (ss : Stmts) → SameA
 body_alike w env adds ss = all_finish (list_alike w env adds false true ss UnitV)
 
 -- ---- functions
+
+emptied_by : (w : World) (env : Env) (b : Bool) (ss : Stmts) → is_one_empty ss ≡ b → SameAll w env (acts w true (core_stmts false (cond b no_stmts ss)) UnitV) (acts w true (core_stmts false ss) UnitV)
+emptied_by w env false ss h = all_refl
+emptied_by w env true (stmt (Block no_stmts) no_stmts) h = record { at = λ s t. ap (λ es. At (Ended (Gives UnitV)) (record s { scope = es }) t) (sym (restore_self s.scope)) }
+emptied_by w env true _ h = absurd (cc)
+
+function_alike : (w : World) (env : Env) → OnlyAdds env → (f : Function) → SameAll w env (body_acts w (core_function (bare_function f)).body) (body_acts w (core_function f).body)
+function_alike w env adds f = all_trans (all_finish (emptied_by w env (is_one_empty (bare_stmts f.body)) (bare_stmts f.body) refl)) (body_alike w env adds f.body)
 
 abbrev old : List Function → List core.Function
 old fs = map core_function fs
@@ -49,7 +59,7 @@ find (f ∷ fs) k = found_or (same_key (key_of (core_function f)) k) f _ _ (find
 module _ (w : World) (fs : List Function) where
   call_alike : (env : Env) → OnlyAdds env → {o o' : Option core.Function} → Found o o' → (a : ScriptCall) (scope : List ScopeEntry) (calls : List HostCall) (t : ℕ) → call_body true w env o a scope calls t ≡ call_body true w env o' a scope calls t
   call_alike env adds not_found a scope calls t = refl
-  call_alike env adds (found f) a scope calls t = λ i. with_turn t (entered true (core_function f) a scope calls) (λ st t1. (body_alike w env adds f.body).at st t1 i)
+  call_alike env adds (found f) a scope calls t = λ i. with_turn t (entered true (core_function f) a scope calls) (λ st t1. (function_alike w env adds f).at st t1 i)
 
   -- calls at each depth
   env_path : (d : ℕ) → ((a : ScriptCall) (scope : List ScopeEntry) (calls : List HostCall) (t : ℕ) → invoke_at true w (new fs) d a scope calls t ≡ invoke_at true w (old fs) d a scope calls t) → env_at true w (new fs) d ≡ env_at true w (old fs) d

@@ -216,8 +216,20 @@ abbrev mutual
 
 -- ---- scripts
 
+abbrev pub is_empty_block : Stmt → Bool
+is_empty_block (Block no_stmts) = true
+is_empty_block _ = false
+
+abbrev pub is_one_empty : Stmts → Bool
+is_one_empty (stmt s no_stmts) = is_empty_block s
+is_one_empty _ = false
+
+-- a body of one empty block has no statements
+abbrev pub emptied : Stmts → Stmts
+emptied ss = cond (is_one_empty ss) no_stmts ss
+
 abbrev pub bare_function : Function → Function
-bare_function f = record { name = f.name; this_type = f.this_type; params = f.params; body = bare_stmts f.body }
+bare_function f = record { name = f.name; this_type = f.this_type; params = f.params; body = emptied (bare_stmts f.body) }
 
 abbrev pub bare_script : Script → Script
 bare_script p = record { statements = bare_stmts p.statements; functions = map bare_function p.functions }

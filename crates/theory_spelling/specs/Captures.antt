@@ -1,9 +1,10 @@
 -- How a closure takes names from around it: `share`, and the statement behind it that hands them to its function.
 use Rattle.std.specs.Prelude.{Bool, true, false, not, cond, ◌&&◌, List, [], ◌∷◌, Option, Some, None, if◌then◌else◌}
 use Rattle.std.specs.Option.{option_map}
+use Rattle.rhai_base.specs.Operators.{UpTo, Through}
 use Rattle.rhai_base.specs.Value.{Text, same_text}
 use Rattle.theory_meaning.specs.Shape.{is_none}
-use Rattle.theory_meaning.specs.Tree.{Expr, DynamicConstant, BoolConstant, IntegerConstant, CharConstant, StringConstant, UnitConstant, ArrayOf, MapOf, Variable, FnCall, And, Exprs, no_exprs, expr, Pairs, no_pairs, pair, Stmt, Var, Block, ExprStmt, Share, Stmts, no_stmts, stmt}
+use Rattle.theory_meaning.specs.Tree.{CallToken, OfOperator, Expr, DynamicConstant, BoolConstant, IntegerConstant, CharConstant, StringConstant, UnitConstant, ArrayOf, MapOf, Variable, FnCall, And, Exprs, no_exprs, expr, Pairs, no_pairs, pair, Stmt, Var, Block, ExprStmt, Share, Stmts, no_stmts, stmt}
 
 -- ---- a list
 
@@ -18,8 +19,9 @@ abbrev pub begins_false : Exprs → Bool
 begins_false no_exprs = false
 begins_false (expr e es) = is_false e
 
--- whether it begins with `false &&`
+-- whether it is an integer, or begins with `false &&`
 abbrev pub does_nothing : Stmt → Bool
+does_nothing (ExprStmt (IntegerConstant n)) = true
 does_nothing (ExprStmt (And es)) = begins_false es
 does_nothing _ = false
 
@@ -40,7 +42,20 @@ all_grouped (stmt s ss) = grouped s (all_grouped ss)
 
 -- ---- constants in front of a closure that takes them
 
--- a literal, which runs nothing: its value is there at once, or it has no meaning
+abbrev pub is_range_sign : CallToken → Bool
+is_range_sign (OfOperator UpTo) = true
+is_range_sign (OfOperator Through) = true
+is_range_sign _ = false
+
+abbrev pub is_integer : Expr → Bool
+is_integer (IntegerConstant n) = true
+is_integer _ = false
+
+abbrev pub are_two_integers : Exprs → Bool
+are_two_integers (expr a (expr b no_exprs)) = is_integer a && is_integer b
+are_two_integers _ = false
+
+-- a literal or a range, which runs nothing: its value is there at once, or it has no meaning
 abbrev mutual
   pub is_given : Expr → Bool
   is_given (DynamicConstant v) = true
@@ -51,6 +66,7 @@ abbrev mutual
   is_given UnitConstant = true
   is_given (ArrayOf es) = are_given es
   is_given (MapOf ps template) = have_given ps
+  is_given (FnCall c es) = is_range_sign c.token && are_two_integers es
   is_given _ = false
 
   pub are_given : Exprs → Bool

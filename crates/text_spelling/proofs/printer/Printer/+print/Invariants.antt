@@ -20,6 +20,9 @@ decreases-block l = l.inside.levels * 16 + 7
 abbrev pub decreases-block_expression : goal.decreases-block_expression
 decreases-block_expression l = l.inside.levels * 16 + 8
 
+abbrev pub decreases-body_behind : goal.decreases-body_behind
+decreases-body_behind l = l.inside.levels * 16 + 7
+
 abbrev pub decreases-bracketed : goal.decreases-bracketed
 decreases-bracketed l = l.inside.levels * 16 + 1
 
@@ -148,9 +151,6 @@ decreases-known l = l.inside.levels * 16 + 1
 
 abbrev pub decreases-with_constants : goal.decreases-with_constants
 decreases-with_constants l = l.inside.levels * 16 + 2
-
-abbrev pub decreases-taking_body : goal.decreases-taking_body
-decreases-taking_body l = l.inside.levels * 16 + 7
 
 abbrev pub decreases-written_closure : goal.decreases-written_closure
 decreases-written_closure l = l.inside.levels * 16 + 9
