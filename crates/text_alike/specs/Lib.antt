@@ -1,4 +1,5 @@
 pub mod Closures
+pub mod Dressed
 pub mod Gaps
 pub mod Ordering
 pub mod Scripts

@@ -265,7 +265,10 @@ fn has_key(
 }
 
 /// The key of a function by this name.
-fn key_named(name: ImmutableString, function: &ScriptFuncDef) -> Result<FnKey, OutOfMemory>
+pub(crate) fn key_named(
+    name: ImmutableString,
+    function: &ScriptFuncDef,
+) -> Result<FnKey, OutOfMemory>
     ensures { IfOk result (λ k. key_meant k ≡ key name (length function.now.params) function.now.this_type) }
 {
     let this_type = function.this_type.clone()?;

@@ -1,7 +1,9 @@
 //! Scripts in print, read again.
 
 ghost use Rattle.std.specs.Prelude.{◌≡◌, ◌++◌, List, ℕ, IfOk, IsTrue, OnErr, OnOk, string_bytes};
+ghost use Rattle.rhai_script.specs.Contents.{contents};
 ghost use Rattle.rhai_script.specs.Script.{script_of};
+ghost use Rattle.text_alike.specs.Dressed.{DressedAlike};
 ghost use Rattle.theory_spelling.specs.Runs.{DoTheSame};
 
 use crate::error::SourceError;
@@ -9,7 +11,7 @@ use crate::reader::Reader;
 use rhai_base::{ImmutableString, OutOfMemory};
 use rhai_script::AST;
 use std::alloc::Global;
-use text_alike::{spelled_alike, spelled_alike_but_names};
+use text_alike::{dressed_alike, spelled_alike, spelled_alike_but_names};
 use text_parser::ParseOptions;
 use text_spelling::{Printed, spelled};
 
@@ -23,13 +25,14 @@ pub struct Written {
 }
 
 /// A script's text in rhai's own syntax, and the script that this is read as: the same but for positions, how it is
-/// spelled, the order of functions, and names of closures; closures that nothing points to are left out. Comments of
-/// functions and the script's doc are printed. Refused where no text spells the script, by the node's position, and for
-/// want of memory.
+/// spelled, the order of functions, and names of closures; closures that nothing points to are left out. The script's
+/// doc, and access and comments of functions that have names of their own, are the same. Refused where no text spells
+/// the script, by the node's position, and for want of memory.
 ///
 /// rhai prints no scripts.
 pub fn source(alloc: Global, script: &AST) -> Result<Written, SourceError>
-    ensures { IfOk result (λ made. DoTheSame (script_of script.now) (script_of made.script)) }
+    ensures same { IfOk result (λ made. DoTheSame (script_of script.now) (script_of made.script)) }
+    ensures dressed { IfOk result (λ made. DressedAlike (contents script.now) (contents made.script)) }
 {
     source_by(alloc, &ParseOptions::new(), script)
 }
@@ -37,6 +40,7 @@ pub fn source(alloc: Global, script: &AST) -> Result<Written, SourceError>
 /// The same, where the text is read by this reader.
 pub fn source_by<R: Reader>(alloc: Global, reader: &R, script: &AST) -> Result<Written, SourceError>
     ensures same { IfOk result (λ made. DoTheSame (script_of script.now) (script_of made.script)) }
+    ensures dressed { IfOk result (λ made. DressedAlike (contents script.now) (contents made.script)) }
     ensures read { IfOk result (λ made. R.reads reader.now (string_bytes made.text) (script_of made.script)) }
 {
     let Printed { text, closures } = spelled(script)?;
@@ -55,10 +59,12 @@ fn compared(
     closures: &[ImmutableString],
 ) -> Result<Written, SourceError>
     ensures same { IfOk result (λ made. DoTheSame (script_of script.now) (script_of made.script)) }
+    ensures dressed { IfOk result (λ made. DressedAlike (contents script.now) (contents made.script)) }
     ensures text { IfOk result (λ made. string_bytes made.text ≡ string_bytes text) }
     ensures script { IfOk result (λ made. script_of made.script ≡ script_of read) }
 {
-    if do_the_same(alloc, script, &read, closures)? {
+    let is_same = do_the_same(alloc, script, &read, closures)?;
+    if is_same && dressed_alike(script, &read)? {
         return Ok(Written { text, script: read });
     }
     Err(SourceError::AnotherScript)

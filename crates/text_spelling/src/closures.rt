@@ -7,8 +7,9 @@ use crate::printer::Printer;
 use crate::statements::ends_by_itself;
 use crate::words::is_anonymous;
 use rhai_ast::{Expr, ExprQueries, FnCallExpr, ScriptFuncDef, Stmt, StmtBlock, StmtQueries};
-use rhai_base::{Dynamic, Ident, ImmutableString, Position};
+use rhai_base::{ASTFlags, Dynamic, Ident, ImmutableString, Position};
 use std::num::NonZeroUsize;
+use text_same::same_expr;
 
 /// The names that a closure takes from around it, with indices of which nothing is claimed.
 pub(crate) type Shared<'s> = &'s [(Ident, Option<NonZeroUsize>)];
@@ -98,7 +99,7 @@ impl<'t> Printer<'t> {
         match body.statements() {
             [statement] if stands_alone(statement) => self.statement(statement, inside),
             [Stmt::Share(shared), curried] if !has_constants(shared.get().as_slice(), curried) => {
-                self.sharing(shared.get().as_slice(), curried, inside.past(2));
+                self.sharing(&[], shared.get().as_slice(), curried, inside.past(2));
             }
             _ => self.block(body, inside),
         }
@@ -106,13 +107,7 @@ impl<'t> Printer<'t> {
 
     /// What says nothing in front of a body: a statement that names these, and reads none; a number, where so many others
     /// are the same.
-    fn in_front(
-        &self,
-        unread: &'t [ImmutableString],
-        others: u32,
-        pos: Position,
-        inside: Inside,
-    ) {
+    fn in_front(&self, unread: &'t [ImmutableString], others: u32, pos: Position, inside: Inside) {
         if !unread.is_empty() {
             self.begin_line(inside);
             self.unread(unread, pos, inside);
@@ -160,18 +155,18 @@ impl<'t> Printer<'t> {
         }
     }
 
-    /// A closure that takes these names from around it: the statement that hands them to its function.
+    /// A closure that takes these names from around it: the statement that hands them to its function. In front of it may
+    /// stand the constants of a block that it ends.
     #[cycle(print)]
-    pub(crate) fn sharing(&self, shared: Shared<'t>, curried: &'t Stmt, inside: Inside) {
-        match call_of(curried) {
-            Some((call, pos)) => self.capturing(shared, call, pos, inside),
-            None => self.refuse(Unspelled::Share, curried.position()),
-        }
-    }
-
-    #[cycle(print)]
-    fn capturing(&self, shared: Shared<'t>, call: &'t FnCallExpr, pos: Position, inside: Inside) {
-        let Some((name, args)) = curried_by(call) else {
+    pub(crate) fn sharing(
+        &self,
+        front: &'t [Stmt],
+        shared: Shared<'t>,
+        curried: &'t Stmt,
+        inside: Inside,
+    ) {
+        let pos = curried.position();
+        let Some((name, args)) = curried_by(curried) else {
             return self.refuse(Unspelled::Share, pos);
         };
         let Some(function) = self.anonymous(name) else {
@@ -180,36 +175,79 @@ impl<'t> Printer<'t> {
         if !are_taken(function.params.as_slice(), args, shared) {
             return self.refuse(Unspelled::Share, pos);
         }
-        if args.len() == shared.len() {
+        if args.len() == shared.len() && front.is_empty() {
             self.closure(function, args.len(), pos, inside);
         } else {
-            self.with_constants(function, args, pos, inside);
+            self.with_constants(front, function, args, pos, inside);
         }
     }
 
-    /// A closure in a block that declares those constants that it takes from around it and that are known.
+    /// A closure in a block that declares those constants that it takes from around it and that are known: the ones in
+    /// front of it, if there are any.
     #[cycle(print)]
     fn with_constants(
+        &self,
+        front: &'t [Stmt],
+        function: &'t ScriptFuncDef,
+        args: &'t [Expr],
+        pos: Position,
+        inside: Inside,
+    ) {
+        let Some(within) = self.below(inside.block(), pos) else {
+            return;
+        };
+        let names = self.declared();
+        self.put("{\n");
+        if front.is_empty() {
+            self.known_ones(function, args, pos, within);
+        } else {
+            self.lines(front, within.valued(false));
+        }
+        self.begin_line(within);
+        self.closure(function, args.len(), pos, within.past(1));
+        self.put(if inside.is_value { "\n" } else { ";\n" });
+        self.shorten(names);
+        self.begin_line(inside);
+        self.put("}");
+    }
+
+    /// The constants among what is handed to a function.
+    #[cycle(print)]
+    fn known_ones(
         &self,
         function: &'t ScriptFuncDef,
         args: &'t [Expr],
         pos: Position,
         inside: Inside,
     ) {
-        let names = self.declared();
-        let within = inside.block();
-        self.put("{\n");
         for (param, arg) in function.params.as_slice().iter().zip(args) {
             if arg.is_constant() {
-                self.known(param, arg, pos, within);
+                self.known(param, arg, pos, inside);
             }
         }
-        self.begin_line(within);
-        self.closure(function, args.len(), pos, within.past(2));
-        self.put(if inside.is_value { "\n" } else { ";\n" });
-        self.shorten(names);
-        self.begin_line(inside);
-        self.put("}");
+    }
+
+    /// Whether a closure and what is in front of it are all of a block: nothing, or constants of literals, among them those
+    /// that it takes and that are known.
+    pub(crate) fn is_whole_block(&self, front: &[Stmt], curried: &Stmt) -> bool {
+        front.is_empty()
+            || front.iter().all(is_literal_constant) && self.takes_declared(front, curried)
+    }
+
+    /// Whether each constant that is handed to a closure's function is declared by these.
+    fn takes_declared(&self, front: &[Stmt], curried: &Stmt) -> bool {
+        let Some((name, args)) = curried_by(curried) else {
+            return false;
+        };
+        let Some(function) = self.anonymous(name) else {
+            return false;
+        };
+        for (param, arg) in function.params.as_slice().iter().zip(args) {
+            if arg.is_constant() && !is_declared(front, param, arg) {
+                return false;
+            }
+        }
+        true
     }
 
     /// A constant that a closure takes from around it.
@@ -228,8 +266,17 @@ impl<'t> Printer<'t> {
 /// Whether a closure that takes these names from around it stands in a block of its own.
 pub(crate) fn has_constants(shared: Shared<'_>, curried: &Stmt) -> bool {
     match call_of(curried) {
-        Some((call, _)) => call.args.len() != shared.len().saturating_add(1),
+        Some(call) => call.args.len() != shared.len().saturating_add(1),
         None => false,
+    }
+}
+
+/// What stands in front of a closure that ends a list and takes names from around it, these names, and its statement.
+pub(crate) fn closure_at_end(statements: &[Stmt]) -> Option<(&[Stmt], Shared<'_>, &Stmt)> {
+    let (curried, others) = statements.split_last()?;
+    match others.split_last()? {
+        (Stmt::Share(shared), front) => Some((front, shared.get().as_slice(), curried)),
+        _ => None,
     }
 }
 
@@ -261,19 +308,20 @@ fn are_names(names: &[&str], wanted: &[ImmutableString]) -> bool {
 }
 
 /// The call that is all of a statement.
-fn call_of(statement: &Stmt) -> Option<(&FnCallExpr, Position)> {
+fn call_of(statement: &Stmt) -> Option<&FnCallExpr> {
     match statement {
-        Stmt::FnCall(call, pos) => Some((call.get(), *pos)),
+        Stmt::FnCall(call, _) => Some(call.get()),
         Stmt::Expr(expr) => match expr.get() {
-            Expr::FnCall(call, pos) => Some((call.get(), *pos)),
+            Expr::FnCall(call, _) => Some(call.get()),
             _ => None,
         },
         _ => None,
     }
 }
 
-/// The name of the function of a closure to which a call hands arguments, and these.
-fn curried_by(call: &FnCallExpr) -> Option<(&str, &[Expr])> {
+/// The name of the function of a closure to which a statement hands arguments, and these.
+fn curried_by(statement: &Stmt) -> Option<(&str, &[Expr])> {
+    let call = call_of(statement)?;
     let (pointer, args) = call.args.as_slice().split_first()?;
     if call.name.as_str() != "curry" || !call.namespace.is_empty() {
         return None;
@@ -328,4 +376,31 @@ fn anonymous_pointer(expr: &Expr) -> Option<&str> {
         },
         _ => None,
     }
+}
+
+/// Whether a statement is a constant of a literal.
+fn is_literal_constant(statement: &Stmt) -> bool {
+    match statement {
+        Stmt::Var(parts, flags, _) => {
+            let is_own = *flags & ASTFlags::EXPORTED != ASTFlags::EXPORTED;
+            is_own
+                && *flags & ASTFlags::CONSTANT == ASTFlags::CONSTANT
+                && parts.get().1.is_constant()
+        }
+        _ => false,
+    }
+}
+
+/// Whether the last declaration of a name among these gives it this value.
+fn is_declared(statements: &[Stmt], name: &ImmutableString, value: &Expr) -> bool {
+    let mut is_so = false;
+    for statement in statements {
+        if let Stmt::Var(parts, ..) = statement {
+            let (own, given, _) = parts.get();
+            if own.as_str() == name.as_str() {
+                is_so = same_expr(given, value);
+            }
+        }
+    }
+    is_so
 }

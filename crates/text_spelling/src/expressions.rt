@@ -1,5 +1,6 @@
 //! Expressions.
 
+use crate::closures::closure_at_end;
 use crate::error::Unspelled;
 use crate::inside::Inside;
 use crate::needs::{
@@ -226,10 +227,12 @@ impl<'t> Printer<'t> {
     #[cycle(print)]
     pub(crate) fn block_expression(&self, block: &'t StmtBlock, inside: Inside) {
         let inside = inside.valued(true);
+        if let Some((front, shared, curried)) = closure_at_end(block.statements())
+            && self.is_whole_block(front, curried)
+        {
+            return self.sharing(front, shared, curried, inside);
+        }
         match block.statements() {
-            [Stmt::Share(shared), curried] => {
-                self.sharing(shared.get().as_slice(), curried, inside);
-            }
             [only] if begins_expression(only) => self.statement(only, inside),
             [only @ (Stmt::Expr(_) | Stmt::FnCall(..))] => {
                 self.put("{ ");

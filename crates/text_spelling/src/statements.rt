@@ -1,6 +1,6 @@
 //! Statements, a line each.
 
-use crate::closures::{Shared, has_constants};
+use crate::closures::{Shared, closure_at_end, has_constants};
 use crate::error::Unspelled;
 use crate::inside::Inside;
 use crate::needs::Need;
@@ -61,7 +61,7 @@ impl<'t> Printer<'t> {
     pub(crate) fn line_of(&self, shared: Option<Shared<'t>>, statement: &'t Stmt, inside: Inside) {
         self.begin_line(inside);
         match shared {
-            Some(shared) => self.sharing(shared, statement, inside.past(2)),
+            Some(shared) => self.sharing(&[], shared, statement, inside.past(2)),
             None => self.statement(statement, inside),
         }
         if !ends_line(shared, statement, inside.is_value) {
@@ -117,9 +117,9 @@ impl<'t> Printer<'t> {
     /// A block as a statement, or a closure that takes names from around it.
     #[cycle(print)]
     fn inner_block(&self, block: &'t StmtBlock, inside: Inside) {
-        match block.statements() {
-            [Stmt::Share(shared), curried] => {
-                self.sharing(shared.get().as_slice(), curried, inside.past(1));
+        match closure_at_end(block.statements()) {
+            Some((front, shared, curried)) if self.is_whole_block(front, curried) => {
+                self.sharing(front, shared, curried, inside.past(1));
             }
             _ => self.block(block, inside),
         }

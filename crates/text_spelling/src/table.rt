@@ -115,11 +115,7 @@ impl<'t> Table<'t> {
     }
 
     /// How many functions were begun that are the same as this one, which is begun too.
-    fn begin(
-        &mut self,
-        alloc: Global,
-        function: &'t ScriptFuncDef,
-    ) -> Result<u32, AllocError> {
+    fn begin(&mut self, alloc: Global, function: &'t ScriptFuncDef) -> Result<u32, AllocError> {
         let hash = function_hash(function);
         let begun = Begun { function, count: 1 };
         let Some(others) = self.begun.get_mut(&hash) else {

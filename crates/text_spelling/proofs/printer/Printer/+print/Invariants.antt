@@ -29,9 +29,6 @@ decreases-bracketed l = l.inside.levels * 16 + 1
 abbrev pub decreases-call : goal.decreases-call
 decreases-call l = l.inside.levels * 16 + 2
 
-abbrev pub decreases-capturing : goal.decreases-capturing
-decreases-capturing l = l.inside.levels * 16 + 3
-
 abbrev pub decreases-carried : goal.decreases-carried
 decreases-carried l = l.inside.levels * 16 + 1
 
@@ -145,6 +142,9 @@ decreases-case l = l.inside.levels * 16 + 4
 
 abbrev pub decreases-choosers : goal.decreases-choosers
 decreases-choosers l = l.inside.levels * 16 + 5
+
+abbrev pub decreases-known_ones : goal.decreases-known_ones
+decreases-known_ones l = l.inside.levels * 16 + 2
 
 abbrev pub decreases-known : goal.decreases-known
 decreases-known l = l.inside.levels * 16 + 1
