@@ -1,6 +1,5 @@
 pub mod Names
 pub mod Paths
-pub mod WorkedNames
 pub mod Symbols
 pub mod Tokens
 pub mod Positions

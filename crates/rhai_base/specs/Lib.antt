@@ -4,4 +4,3 @@ pub mod Operators
 pub mod Builtin
 pub mod Ranges
 pub mod Upward
-pub mod WorkedOperators

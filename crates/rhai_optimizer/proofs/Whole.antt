@@ -23,11 +23,11 @@ use Rattle.theory_rewriting.specs.Scripts.{captures_nothing, known_at_top, known
 use Rattle.theory_rewriting.proofs.Finishing.{finished_stays}
 use Rattle.theory_rewriting.proofs.Irreducible.{body_irreducible}
 use Rattle.theory_rewriting.specs.Kept.{Keeps}
-use Rattle.theory_rewriting.specs.Refines.{RefinesWhere}
-use Rattle.theory_rewriting.proofs.soundness.Following.{keeps_then, refines_then}
-use Rattle.theory_rewriting.proofs.soundness.Kept.{captures_nothing_still, script_keeps}
-use Rattle.theory_rewriting.proofs.soundness.Start.{agrees_inside}
-use Rattle.theory_rewriting.proofs.soundness.Whole.{functions_same, optimised_refines, script_refines}
+use Rattle.theory_soundness.specs.Refines.{RefinesWhere}
+use Rattle.theory_soundness.proofs.soundness.Following.{keeps_then, refines_then}
+use Rattle.theory_rewriting.proofs.kept.Kept.{captures_nothing_still, script_keeps}
+use Rattle.theory_soundness.proofs.soundness.Start.{agrees_inside}
+use Rattle.theory_soundness.proofs.soundness.Whole.{functions_same, optimised_refines, script_refines}
 use Rattle.opt_queries.specs.Walks.{capture_walk, listing}
 use Rattle.script_tables.specs.FnKey.{definition_key, definitions_table}
 use Rattle.script_tables.specs.Table.{key_of, put_by, put_all_by, table_of, are_distinct}

@@ -14,7 +14,7 @@ use Rattle.theory_rewriting.specs.Finished.{IsFinished, IsFinishedScript}
 use Rattle.theory_rewriting.specs.Kept.{Keeps}
 use Rattle.theory_rewriting.specs.Passes.{PassesWithin}
 use Rattle.theory_rewriting.specs.Reducible.{IsIrreducibleScript}
-use Rattle.theory_rewriting.specs.Refines.{RefinesWhere}
+use Rattle.theory_soundness.specs.Refines.{RefinesWhere}
 use Rattle.theory_rewriting.specs.Rewriting.{StmtsTo}
 use Rattle.theory_rewriting.specs.Scripts.{captures_nothing, known_at_top, known_inside}
 use Rattle.theory_rewriting.specs.Steps.{IsReducedBody}

@@ -6,11 +6,13 @@ use Rattle.opt_known.specs.declared.level.OptimizationLevel.{OptimizationLevel}
 use Rattle.theory_meaning.specs.Engine.{Engine}
 use Rattle.theory_meaning.specs.Faults.{script_fault}
 use Rattle.theory_meaning.specs.Tree.{Script}
-use Rattle.theory_rewriting.specs.Refines.{RefinesWhere}
+use Rattle.theory_soundness.specs.Refines.{RefinesWhere}
 use Rattle.theory_rewriting.specs.Scripts.{known_at_top}
 use Rattle.theory_spelling.specs.Bare.{SpelledButNames}
-use Rattle.theory_spelling.specs.Runs.{DoTheSame, refined}
-use Rattle.theory_spelling.proofs.Following.{refined_by, renamed_do_the_same}
+use Rattle.theory_spelling.specs.Runs.{DoTheSame}
+use Rattle.theory_spelling.proofs.Scripts.{renamed_do_the_same}
+use Rattle.text_source.specs.Refined.{refined}
+use Rattle.text_source.proofs.Following.{refined_by}
 use Rattle.rhai_optimizer.specs.Optimised.{Optimised}
 use Rattle.rhai_script.specs.Contents.{Contents, meant}
 use Rattle.rhai_script.specs.Script.{script_of}

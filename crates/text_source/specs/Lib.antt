@@ -1,1 +1,2 @@
+pub mod Refined
 pub mod Texts

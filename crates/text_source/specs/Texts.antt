@@ -6,12 +6,13 @@ use Rattle.theory_meaning.specs.Engine.{Engine}
 use Rattle.theory_meaning.specs.Faults.{script_fault}
 use Rattle.theory_meaning.specs.Tree.{Script}
 use Rattle.theory_rewriting.specs.Scripts.{known_at_top}
-use Rattle.theory_spelling.specs.Runs.{DoTheSame, Refined}
+use Rattle.theory_spelling.specs.Runs.{DoTheSame}
 use Rattle.text_notation.specs.Notation.{script_text}
 use Rattle.rhai_optimizer.specs.Optimised.{Becomes}
 use Rattle.text_reader.specs.Texts.{AreLinesOf}
 use Rattle.rhai_script.specs.Contents.{Contents, meant, merged}
 use Rattle.rhai_script.specs.Renamed.{Apart}
+use Rattle.text_source.specs.Refined.{Refined}
 use Rattle.text_source.specs.declared.syntax.Syntax.{Syntax}
 use Rattle.text_source.specs.declared.syntax.Syntax.TheVariants as syntax
 

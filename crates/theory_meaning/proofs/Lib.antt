@@ -15,3 +15,4 @@ pub mod ModuleLaws
 pub mod LiteralLaws
 pub mod FaultLaws
 pub mod Rows
+pub mod Congruent

@@ -9,10 +9,8 @@ pub mod Clearing
 pub mod Running
 pub mod Keeping
 pub mod Weights
-pub mod simulation
-pub mod acts
 pub mod rules
-pub mod soundness
+pub mod kept
 pub mod Finishing
 pub mod Reaching
 pub mod Passing

@@ -12,7 +12,7 @@ use Rattle.theory_rewriting.specs.Rewriting.{StmtsTo, same_stmts, then_stmts, fl
 use Rattle.theory_rewriting.specs.Scripts.{naming_all, FunctionsTo, no_functions, functions}
 use Rattle.theory_rewriting.proofs.Finishing.{body_decided}
 use Rattle.theory_rewriting.proofs.Weights.{stmts_fall}
-use Rattle.theory_rewriting.proofs.soundness.WellFormed.{stmts_well}
+use Rattle.theory_rewriting.proofs.kept.WellFormed.{stmts_well}
 
 abbrev Reached : Context → Stmts → Type 0
 Reached k ss = (ss' : Stmts) × StmtsTo k Whole true true ss ss' × IsIrreducibleBody k.engine ss'

@@ -1,7 +1,5 @@
 pub mod Lasting
 pub mod Obligation
-pub mod Constants
-pub mod Blocks
 pub mod Given
 pub mod Logic
 pub mod Texts

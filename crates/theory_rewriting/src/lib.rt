@@ -1,2 +1,2 @@
-//! What may be rewritten to what, and the proof that it keeps what a script does: definitions and proofs alone.
+//! What may be rewritten to what, and what that keeps of the trees: weights, what lasts, normal forms. Definitions and proofs alone.
 #![tactic(auto)]

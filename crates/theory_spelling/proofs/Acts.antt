@@ -5,7 +5,7 @@ use Rattle.theory_meaning.specs.Act.{EntryKind, Store, World, Env, Act, Scoped, 
 use Rattle.theory_meaning.specs.ActForms.{give, ◌>>=◌, then_line}
 use Rattle.theory_meaning.specs.Relations.{OnlyAdds}
 use Rattle.theory_meaning.proofs.Sequencing.{line_same, line_unit, scoped_only}
-use Rattle.theory_rewriting.proofs.simulation.Congruent.{Congruent, c_bind}
+use Rattle.theory_meaning.proofs.Congruent.{Congruent, c_bind}
 
 pub record Same (w : World) (env : Env) (a b : Act) : Type 0 where
   pub at : (s : Store) (t : ℕ) → run w env a s t ≡ run w env b s t

@@ -5,4 +5,3 @@ pub mod Values
 pub mod Captures
 pub mod Trees
 pub mod Scripts
-pub mod Following

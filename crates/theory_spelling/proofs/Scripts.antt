@@ -13,8 +13,8 @@ use Rattle.theory_naming.specs.Alike.{AreApart, RunBut}
 use Rattle.theory_naming.specs.Naming.{ResultLike}
 use Rattle.theory_naming.specs.Renaming.{Stands}
 use Rattle.theory_naming.proofs.Scripts.{same_by_key_runs, same_but_names}
-use Rattle.theory_spelling.specs.Bare.{bare_stmts, is_one_empty, bare_function, bare_script, SpelledAlike, SpelledBut}
-use Rattle.theory_spelling.specs.Runs.{RunAlike}
+use Rattle.theory_spelling.specs.Bare.{bare_stmts, is_one_empty, bare_function, bare_script, SpelledAlike, SpelledBut, SpelledButNames}
+use Rattle.theory_spelling.specs.Runs.{RunAlike, DoTheSame, alike, alike_but_names}
 use Rattle.theory_spelling.proofs.Acts.{SameAll, all_refl, all_trans, all_finish}
 use Rattle.theory_spelling.proofs.Captures.{restore_self}
 use Rattle.theory_spelling.proofs.Trees.{list_alike}
@@ -28,7 +28,9 @@ body_alike w env adds ss = all_finish (list_alike w env adds false true ss UnitV
 emptied_by : (w : World) (env : Env) (b : Bool) (ss : Stmts) → is_one_empty ss ≡ b → SameAll w env (acts w true (core_stmts false (cond b no_stmts ss)) UnitV) (acts w true (core_stmts false ss) UnitV)
 emptied_by w env false ss h = all_refl
 emptied_by w env true (stmt (Block no_stmts) no_stmts) h = record { at = λ s t. ap (λ es. At (Ended (Gives UnitV)) (record s { scope = es }) t) (sym (restore_self s.scope)) }
-emptied_by w env true _ h = absurd (cc)
+emptied_by w env true (stmt s no_stmts) h = absurd (cc)
+emptied_by w env true (stmt s (stmt t ss)) h = absurd (cc)
+emptied_by w env true no_stmts h = absurd (cc)
 
 function_alike : (w : World) (env : Env) → OnlyAdds env → (f : Function) → SameAll w env (body_acts w (core_function (bare_function f)).body) (body_acts w (core_function f).body)
 function_alike w env adds f = all_trans (all_finish (emptied_by w env (is_one_empty (bare_stmts f.body)) (bare_stmts f.body) refl)) (body_alike w env adds f.body)
@@ -110,3 +112,10 @@ spelled_but_runs named a p q h = record {
       (subst (λ r. ResultLike (Stands named) (run_script engine host (core_script (bare_script p)) e scope n) r) ((bare_runs q).runs engine host' e' scope' n)
       ((same_but_names named a (bare_script p) (bare_script q) h).runs engine known host host' hosts e e' entries scope scope' scopes n));
 }
+
+-- So they do the same.
+pub spelled_do_the_same : (p q : Script) → SpelledAlike p q → DoTheSame p q
+spelled_do_the_same p q h = alike (spelled_alike_runs p q h)
+
+pub renamed_do_the_same : (p q : Script) → SpelledButNames p q → DoTheSame p q
+renamed_do_the_same p q h = alike_but_names h.named (spelled_but_runs h.named h.apart p q h.spelled)

@@ -17,7 +17,7 @@ use Rattle.theory_meaning.specs.Relations.{OnlyAdds}
 use Rattle.theory_meaning.specs.Shape.{is_unit, is_callable, is_map, is_table, is_left_side, catch_name}
 use Rattle.theory_meaning.specs.Tree as tree
 use Rattle.theory_meaning.proofs.Sequencing.{scoped_only}
-use Rattle.theory_rewriting.proofs.simulation.Congruent.{c_if, c_choose, c_unless, c_refreshed, c_applied, c_first, c_answer, c_while, c_do, c_for_all, c_try, c_round, RoundsAlike, MaybeAlike, no_arm_alike, arm_alike, ArmsAlike, no_arms_alike, arms_alike}
+use Rattle.theory_meaning.proofs.Congruent.{c_if, c_choose, c_unless, c_refreshed, c_applied, c_first, c_answer, c_while, c_do, c_for_all, c_try, c_round, RoundsAlike, MaybeAlike, no_arm_alike, arm_alike, ArmsAlike, no_arms_alike, arms_alike}
 use Rattle.theory_spelling.specs.Bare.{in_braces, unbraced, evaluated, braced_if, has_role, as_side, as_guard, as_condition, has_true_default, with_condition_at, with_default, bare_flags, bare_text, with_other, bare_expr, bare_exprs, bare_pairs, bare_maybe, bare_arms, bare_stmt, bare_stmts}
 use Rattle.theory_spelling.proofs.Acts.{Same, SameAll, Any, same_refl, same_path, same_trans, all_refl, all_trans, same_scoped, all_named, all_line, congruent, same_bind, same_braces}
 use Rattle.theory_spelling.specs.Captures.{settled}

@@ -18,5 +18,7 @@ pub mod TreeTests
 pub mod WorkedCalls
 pub mod WorkedHosts
 pub mod WorkedNames
+pub mod WorkedOperators
 pub mod WorkedRuns
 pub mod WorkedTrees
+pub mod WorkedWords

@@ -13,10 +13,10 @@ use Rattle.run_host.specs.Entries.{start_scope}
 use Rattle.run_host.specs.Report.{ReportsRun}
 use Rattle.run_host.specs.Print.{report_text}
 use Rattle.tool_samples.specs.ProgramHost.{program_host}
-use Rattle.theory_rewriting.specs.Refines.{Refines}
-use Rattle.theory_rewriting.specs.Reports.{Follows}
-use Rattle.theory_rewriting.proofs.simulation.Agreement.{agrees_nothing}
-use Rattle.theory_rewriting.proofs.soundness.Reports.{refines_reports}
+use Rattle.theory_soundness.specs.Refines.{Refines}
+use Rattle.theory_soundness.specs.Reports.{Follows}
+use Rattle.theory_soundness.proofs.simulation.Agreement.{agrees_nothing}
+use Rattle.theory_soundness.proofs.soundness.Reports.{refines_reports}
 use Rattle.tool_program.specs.Words.{reported}
 
 -- a host answers as it does

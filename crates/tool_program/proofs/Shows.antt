@@ -15,8 +15,8 @@ use Rattle.rhai_script.specs.Contents.{Contents, contents, meant}
 use Rattle.rhai_script.specs.Script.{script_of}
 use Rattle.rhai_script.specs.declared.ast.AST.{AST}
 use Rattle.base_engine.specs.EngineInfo.{nothing_set}
-use Rattle.theory_rewriting.specs.Refines.{Refines, RefinesWhere}
-use Rattle.theory_rewriting.proofs.simulation.Agreement.{agrees_nothing}
+use Rattle.theory_soundness.specs.Refines.{Refines, RefinesWhere}
+use Rattle.theory_soundness.proofs.simulation.Agreement.{agrees_nothing}
 use Rattle.rhai_optimizer.specs.Optimised.{given, Optimised}
 use Rattle.rhai_optimizer.specs.Source.{source_of}
 use Rattle.rhai_optimizer.proofs.Whole.{table_meant}

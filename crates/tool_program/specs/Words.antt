@@ -12,8 +12,8 @@ use Rattle.script_tables.specs.Table.{table_of}
 use Rattle.rhai_optimizer.specs.Optimised.{IsReducedScript}
 use Rattle.theory_rewriting.specs.Kept.{Keeps}
 use Rattle.theory_rewriting.specs.Reducible.{IsIrreducibleScript}
-use Rattle.theory_rewriting.specs.Refines.{Refines}
-use Rattle.theory_rewriting.specs.Reports.{Follows}
+use Rattle.theory_soundness.specs.Refines.{Refines}
+use Rattle.theory_soundness.specs.Reports.{Follows}
 use Rattle.theory_meaning.specs.Faults.{IsWellFormedScript}
 use Rattle.tool_samples.specs.declared.builtin.BuiltinScript.{BuiltinScript}
 use Rattle.tool_program.specs.declared.request.Request.{Request}

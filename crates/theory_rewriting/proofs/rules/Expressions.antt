@@ -1,16 +1,8 @@
 -- The rules of expressions: a lemma each, of the rule's name.
-use Rattle.std.proofs.Common.{◌≡◌, ◌≤◌, Bool, List, Some, true, refl, sym, ap, subst, arith}
+use Rattle.std.proofs.Common.{◌≡◌, ◌≤◌, Bool, List, Some, true, refl, arith}
 use Rattle.rhai_base.specs.Value.{Value, UnitV, ArrayV, PointerV, values}
-use Rattle.theory_meaning.specs.Act.{Gives, Ended, At}
-use Rattle.theory_meaning.specs.ActForms.{give}
-use Rattle.theory_meaning.specs.Constants.{array_value, constant_values, constant_for}
-use Rattle.theory_meaning.specs.Core as core
-use Rattle.theory_meaning.specs.Desugar.{core_expr}
-use Rattle.theory_meaning.specs.Shape.{is_callable}
-use Rattle.theory_meaning.specs.Meaning.{act}
-use Rattle.theory_meaning.specs.Relations.{here}
-use Rattle.theory_meaning.specs.Tree.{Callee, Expr, DynamicConstant, UnitConstant, ArrayOf, BlockExpr, FnCall, Exprs, count_exprs, ExprStmt, FnCallStmt, no_stmts, stmt}
-use Rattle.theory_meaning.proofs.Sequencing.{leave_same}
+use Rattle.theory_meaning.specs.Constants.{constant_values, constant_for}
+use Rattle.theory_meaning.specs.Tree.{Callee, Expr, DynamicConstant, UnitConstant, ArrayOf, BlockExpr, FnCall, Exprs, ExprStmt, FnCallStmt, no_stmts, stmt}
 use Rattle.theory_meaning.specs.Walk.{Node, Around, whole, throughout, over_expr}
 use Rattle.theory_rewriting.specs.Context.{Context}
 use Rattle.theory_rewriting.specs.Folding.{folded}
@@ -18,10 +10,6 @@ use Rattle.theory_rewriting.specs.Rules as rule
 use Rattle.theory_rewriting.specs.Rules.{ExprRule}
 use Rattle.theory_meaning.specs.Weight.{expr_weight}
 use Rattle.theory_rewriting.proofs.Plain.{is_plain_value, folded_plain}
-use Rattle.theory_rewriting.proofs.simulation.Setting.{Setting, Start, world, run_from}
-use Rattle.theory_rewriting.proofs.simulation.Simulation.{Simulates, simulates_equal, simulates_or_stuck}
-use Rattle.theory_rewriting.proofs.rules.Blocks.{scoped_deed}
-use Rattle.theory_rewriting.proofs.rules.Constants.{OrWrong, or_stuck, constant_means, Given, expr_given, call_given}
 use Rattle.theory_rewriting.proofs.rules.Logic as logic
 use Rattle.theory_rewriting.proofs.rules.Texts as text
 use Rattle.theory_rewriting.proofs.rules.Words as word
@@ -35,30 +23,24 @@ pub array_of_constants : {k : Context} {es : Exprs} {vs : List Value} → consta
 array_of_constants {k = k} {es = es} {vs = vs} h = record {
   lighter = omega arith;
   keeps = λ P l lasts h. (lasts.constant (ArrayV (values vs)) refl, tt);
-  sound = λ c. simulates_or_stuck (λ m. or_stuck _ _ m.store m.turns (array_given c m) here);
-} where
-  array_given : (c : Setting k) (m : Start k) → OrWrong (run_from c m (act (world c) (core_expr c.in_loop (ArrayOf es)))) (At (Ended (Gives (ArrayV (values vs)))) m.store m.turns) m.store m.turns
-  array_given c m = subst (λ o. Given (world c) m.env c.in_loop o (run_from c m (act (world c) (core_expr c.in_loop (ArrayOf es)))) m.store m.turns) (ap array_value h) (expr_given (world c) m.env c.in_loop (ArrayOf es) m.store m.turns)
+}
 
 pub braces_empty : {k : Context} → ExprObligation k (BlockExpr no_stmts) UnitConstant
 braces_empty = record {
   lighter = omega arith;
   keeps = λ P l lasts h. (lasts.value UnitV, tt);
-  sound = λ c. simulates_equal (λ m. leave_same m.store (Gives UnitV) m.turns);
 }
 
 pub braces_of_expression : {k : Context} {e : Expr} → ExprObligation k (BlockExpr (stmt (ExprStmt e) no_stmts)) e
 braces_of_expression {e = e} = record {
   lighter = omega arith;
   keeps = λ P l lasts h. h.1.0.1;
-  sound = λ c. simulates_equal (λ m. scoped_deed (world c) m.env c.in_loop m.adds (core.Evaluate (core_expr c.in_loop e)) m.store m.turns);
 }
 
 pub braces_of_call : {k : Context} {f : Callee} {es : Exprs} → ExprObligation k (BlockExpr (stmt (FnCallStmt f es) no_stmts)) (FnCall f es)
 braces_of_call {f = f} {es = es} = record {
   lighter = omega arith;
   keeps = λ P l lasts h. (lasts.call f es h.1.0.0, h.1.0.1);
-  sound = λ c. simulates_equal (λ m. scoped_deed (world c) m.env c.in_loop m.adds (core.Evaluate (core_expr c.in_loop (FnCall f es))) m.store m.turns);
 }
 
 -- ---- an operator that folds
@@ -73,16 +55,10 @@ pub constant_keeps : (P : Around → Node → Type 0) (l : Bool) → Lasting P l
 constant_keeps P l lasts (PointerV f vs) p = absurd cc
 constant_keeps P l lasts v p = (lasts.constant v p, tt)
 
-pub call_folds : {k : Context} (c : Setting k) (f : Callee) (es : Exprs) (v : Value) → folded k.engine f es ≡ Some v → Simulates c (act (world c) (core_expr c.in_loop (FnCall f es))) (act (world c) (core_expr c.in_loop (constant_for v)))
-call_folds {k = k} c f es v h =
-    subst (λ x. Simulates c (act (world c) (core_expr c.in_loop (FnCall f es))) (act (world c) x)) (sym (constant_means c.in_loop v (folded_plain k.engine f es v h)))
-    (simulates_or_stuck {b = give v} (λ m. or_stuck _ _ m.store m.turns (call_given (world c) m.env c.in_loop (is_callable f (count_exprs es)) f f.token es v m.store m.turns h) here))
-
 pub operator_folds : {k : Context} {c : Callee} {es : Exprs} {v : Value} → folded k.engine c es ≡ Some v → ExprObligation k (FnCall c es) (constant_for v)
 operator_folds {k = k} {c = c} {es = es} {v = v} q = record {
   lighter = omega (arith, constant_light v (folded_plain k.engine c es v q));
   keeps = λ P l lasts h. constant_keeps P l lasts v (folded_plain k.engine c es v q);
-  sound = λ s. call_folds s c es v q;
 }
 
 -- ---- every rule

@@ -1,36 +1,20 @@
 -- The rule by which an arm that no list names forgets its answer.
-use Rattle.std.proofs.Common.{◌≡◌, ℕ, zero, suc, ◌+◌, ◌≤◌, Bool, true, false, List, [], ◌∷◌, Option, Some, None, refl, sym, ap, ◌∙◌, subst, arith}
-use Rattle.std.specs.Prelude.{◌&&◌, ◌==◌, nat_lt, slice_get}
+use Rattle.std.proofs.Common.{◌≡◌, ℕ, zero, suc, ◌+◌, ◌≤◌, Bool, true, false, List, [], ◌∷◌, Option, Some, None, refl, sym, ap, ◌∙◌, arith}
+use Rattle.std.specs.Prelude.{◌&&◌, ◌==◌, nat_lt}
 use Rattle.std.proofs.lemmas.Bool.{or_parts}
 use Rattle.std.proofs.lemmas.Bool.Decides.{Decides-eqb}
-use Rattle.rhai_base.specs.Value.{Value}
 use Rattle.base_tokens.specs.Names.{are_all}
-use Rattle.theory_meaning.specs.Act.{Act}
 use Rattle.theory_meaning.specs.Constants.{is_literal_unit}
-use Rattle.theory_meaning.specs.Control.{try_arm, first_arm, answer_of, default_of, chosen, switch_on}
-use Rattle.theory_meaning.specs.Core as core
-use Rattle.theory_meaning.specs.Desugar.{core_expr, core_arms}
 use Rattle.theory_meaning.specs.Shape.{names_arm, condition_at, case_fits, spares, default_fits, is_table}
 use Rattle.theory_meaning.specs.Tree.{SwitchTable, Expr, UnitConstant, ArrayOf, BlockExpr, FnCall, Arms, no_arms, arm, count_arms, Switch}
-use Rattle.theory_meaning.specs.Walk.{Node, Around, arm_of_default, listed}
+use Rattle.theory_meaning.specs.Walk.{Node, Around, listed}
 use Rattle.theory_meaning.specs.Weight.{expr_weight}
 use Rattle.theory_rewriting.specs.Context.{Context}
 use Rattle.theory_rewriting.specs.Tables.{arm_of, forgotten}
-use Rattle.theory_rewriting.proofs.simulation.Setting.{Setting}
-use Rattle.theory_rewriting.proofs.simulation.Simulation.{Simulates, simulates_refl}
-use Rattle.theory_rewriting.proofs.simulation.Forms.{simulates_bind, stmt_of_deed}
-use Rattle.theory_rewriting.proofs.rules.Arms.{AllArms, all_chosen, all_default, ArmHolds, all_hold, arms_weight}
+use Rattle.theory_rewriting.proofs.rules.Arms.{AllArms, ArmHolds, all_hold, arms_weight}
 use Rattle.theory_rewriting.proofs.rules.Lasting.{same_switch}
 use Rattle.theory_rewriting.proofs.rules.Obligation.{StmtObligation}
-use Rattle.theory_rewriting.proofs.rules.Switches.{acts_of, of_arm, arm_found}
-use Rattle.theory_rewriting.proofs.rules.Tables.{meant_again, held_again}
-
-others_stay : (as' : Arms) (j i : ℕ) → (i ≡ j → ⊥) → arm_of (forgotten as' j) i ≡ arm_of as' i
-others_stay no_arms j i h = refl
-others_stay (arm c a as') zero zero h = absurd (h refl)
-others_stay (arm c a as') zero (suc i) h = refl
-others_stay (arm c a as') (suc j) zero h = refl
-others_stay (arm c a as') (suc j) (suc i) h = others_stay as' j i (λ e. h (ap suc e))
+use Rattle.theory_rewriting.proofs.rules.Tables.{held_again}
 
 count_stays : (as' : Arms) (j : ℕ) → count_arms (forgotten as' j) ≡ count_arms as'
 count_stays no_arms j = refl
@@ -51,7 +35,7 @@ unit_lighter (BlockExpr ss) h = omega arith
 unit_lighter (FnCall c es) h = omega arith
 unit_lighter _ h = omega arith
 
-abbrev answer_weight : Option (Expr × Expr) → ℕ
+abbrev pub answer_weight : Option (Expr × Expr) → ℕ
 answer_weight None = 1
 answer_weight (Some p) = expr_weight p.1
 
@@ -64,30 +48,15 @@ default_stays : (as' : Arms) (j : ℕ) (t : SwitchTable) (o : Option ℕ) → de
 default_stays as' j t None = refl
 default_stays as' j t (Some d) = λ i. nat_lt d (count_stays as' j i) && condition_stays as' j d i && spares d t
 
-table_stays : (as' : Arms) (j : ℕ) (t : SwitchTable) → is_table (forgotten as' j) t ≡ is_table as' t
+pub table_stays : (as' : Arms) (j : ℕ) (t : SwitchTable) → is_table (forgotten as' j) t ≡ is_table as' t
 table_stays as' j t = λ i. are_all (case_fits (count_stays as' j i)) t.cases && are_all (λ r. nat_lt r.arm (count_stays as' j i)) t.ranges && default_stays as' j t t.default i
 
 -- an arm that no list names is none of those listed
-unnamed : (j : ℕ) (is : List ℕ) → names_arm j is ≡ false → AllArms (λ i. i ≡ j → ⊥) is
+pub unnamed : (j : ℕ) (is : List ℕ) → names_arm j is ≡ false → AllArms (λ i. i ≡ j → ⊥) is
 unnamed j [] h = tt
 unnamed j (i ∷ is) h =
     let z = or_parts (j == i) (names_arm j is) h in
     ((λ e. let y : true ≡ false = sym ((Decides-eqb j i).1 (sym e)) ∙ z.0 in absurd cc), unnamed j is z.1)
-
-module _ {k : Context} (c : Setting k) (as' : Arms) (j : ℕ) where
-  same_slot : (i : ℕ) → (i ≡ j → ⊥) → slice_get (acts_of c (forgotten as' j)) i ≡ slice_get (acts_of c as') i
-  same_slot i h = arm_found c (forgotten as' j) i ∙ ap (of_arm c) (others_stay as' j i h) ∙ sym (arm_found c as' i)
-
-  same_first : (is : List ℕ) (n n' : Act) → AllArms (λ i. i ≡ j → ⊥) is → n ≡ n' → first_arm (acts_of c (forgotten as' j)) is n ≡ first_arm (acts_of c as') is n'
-  same_first [] n n' h e = e
-  same_first (i ∷ is) n n' h e = λ x. try_arm (same_slot i h.0 x) (same_first is n n' h.1 e x)
-
-  same_default : (o : Option ℕ) → AllArms (λ i. i ≡ j → ⊥) (arm_of_default o) → default_of (acts_of c (forgotten as' j)) o ≡ default_of (acts_of c as') o
-  same_default None h = refl
-  same_default (Some d) h = ap answer_of (same_slot d h.0)
-
-  same_switch_on : (t : SwitchTable) (v : Value) → AllArms (λ i. i ≡ j → ⊥) (listed t) → switch_on (acts_of c (forgotten as' j)) t v ≡ switch_on (acts_of c as') t v
-  same_switch_on t v h = same_first (chosen t v) _ _ (all_chosen (λ i. i ≡ j → ⊥) t v h) (same_default t.default (all_default (λ i. i ≡ j → ⊥) t h))
 
 module _ (P : Around → Node → Type 0) (l : Bool) where
   holds_still : (as' : Arms) (j i : ℕ) → (i ≡ j → ⊥) → ArmHolds P l as' i → ArmHolds P l (forgotten as' j) i
@@ -108,6 +77,4 @@ switch_forgets {e = e} {as' = as'} {t = t} {c = d} {a = a} j q u n =
     record {
       lighter = omega (arith, weight_moves as' j, m, unit_lighter a u);
       keeps = λ P l lasts z. (lasts.again (same_switch x) z.0, (z.1.0, held_again P l (forgotten as' j) (listed t) (hold_still P l as' j (listed t) (unnamed j (listed t) n) (all_hold P l as' (listed t) z.1.1))));
-      sound = λ c. stmt_of_deed (meant_again c (is_table as' t) (is_table (forgotten as' j) t) (core.Switch (core_expr c.in_loop e) (core_arms c.in_loop as') t) (core.Switch (core_expr c.in_loop e) (core_arms c.in_loop (forgotten as' j)) t) x
-          (simulates_bind simulates_refl (λ v. subst (λ b. Simulates c (switch_on (acts_of c as') t v) b) (sym (same_switch_on c as' j t v (unnamed j (listed t) n))) simulates_refl)));
     }

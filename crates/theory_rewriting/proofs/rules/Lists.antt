@@ -8,10 +8,6 @@ use Rattle.theory_rewriting.specs.Context.{Context, ListKind, wanted}
 use Rattle.theory_rewriting.specs.Rules as rule
 use Rattle.theory_rewriting.specs.Rules.{spliced, ListRule}
 use Rattle.theory_meaning.specs.Weight.{own_weight, weight}
-use Rattle.theory_rewriting.proofs.simulation.Setting.{world}
-use Rattle.theory_rewriting.proofs.simulation.Simulation.{all_equal}
-use Rattle.theory_rewriting.proofs.simulation.Lists.{list_of_all}
-use Rattle.theory_rewriting.proofs.rules.Blocks.{braces_go}
 use Rattle.theory_rewriting.proofs.rules.Lasting.{Lasting}
 use Rattle.theory_rewriting.proofs.rules.LastUnit as unit
 use Rattle.theory_rewriting.proofs.rules.Leaving as leaving
@@ -34,7 +30,6 @@ pub block_gives_way : {k : Context} {m : ListKind} {u : Bool} {ss back : Stmts} 
 block_gives_way {m = m} {ss = ss} {back = back} q = record {
   lighter = omega (arith, spliced_light (wanted m) ss back);
   keeps = λ P l lasts h. spliced_keeps P l lasts (wanted m) ss back h.0.1 h.1;
-  sound = λ c v h. list_of_all m (all_equal (λ n. braces_go (world c) n.env c.in_loop n.adds (wanted m) ss back q v n.store n.turns));
 }
 
 -- ---- every rule

@@ -1,4 +1,4 @@
-use Rattle.theory_spelling.proofs.Following.{spelled_do_the_same}
+use Rattle.theory_spelling.proofs.Scripts.{spelled_do_the_same}
 use Rattle.rhai_script.specs.Script.{script_of}
 use Rattle.text_source.proofs.Doing.{same_but_names}
 use Rattle.text_source.proofs.printed.do_the_same.Goals as goal

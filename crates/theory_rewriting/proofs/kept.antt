@@ -1,0 +1,5 @@
+pub mod Standing
+pub mod Lasting
+pub mod WellFormed
+pub mod OperatorCalls
+pub mod Kept

@@ -1,0 +1,4 @@
+pub mod simulation
+pub mod acts
+pub mod rules
+pub mod soundness

@@ -1,0 +1,10 @@
+pub mod Behind
+pub mod Derivation
+pub mod Scripts
+pub mod Congruence
+pub mod Apart
+pub mod Capturing
+pub mod Start
+pub mod Whole
+pub mod Following
+pub mod Reports

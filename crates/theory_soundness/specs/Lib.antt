@@ -1,0 +1,2 @@
+pub mod Refines
+pub mod Reports

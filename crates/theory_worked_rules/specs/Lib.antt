@@ -1,0 +1,17 @@
+pub mod WorkedWeights
+pub mod WorkedReducible
+pub mod WorkedClosure
+pub mod WorkedScopes
+pub mod WorkedRewrites
+pub mod WorkedNodes
+pub mod WorkedConditions
+pub mod WorkedTables
+pub mod WorkedSwitches
+pub mod WorkedConstants
+pub mod WorkedKnown
+pub mod WorkedLists
+pub mod WorkedListConditions
+pub mod WorkedQueries
+pub mod WorkedModules
+pub mod WorkedPromises
+pub mod WorkedRefines
