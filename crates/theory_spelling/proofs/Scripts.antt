@@ -28,7 +28,9 @@ body_alike w env adds ss = all_finish (list_alike w env adds false true ss UnitV
 emptied_by : (w : World) (env : Env) (b : Bool) (ss : Stmts) → is_one_empty ss ≡ b → SameAll w env (acts w true (core_stmts false (cond b no_stmts ss)) UnitV) (acts w true (core_stmts false ss) UnitV)
 emptied_by w env false ss h = all_refl
 emptied_by w env true (stmt (Block no_stmts) no_stmts) h = record { at = λ s t. ap (λ es. At (Ended (Gives UnitV)) (record s { scope = es }) t) (sym (restore_self s.scope)) }
-emptied_by w env true _ h = absurd (cc)
+emptied_by w env true (stmt s no_stmts) h = absurd (cc)
+emptied_by w env true (stmt s (stmt t ss)) h = absurd (cc)
+emptied_by w env true no_stmts h = absurd (cc)
 
 function_alike : (w : World) (env : Env) → OnlyAdds env → (f : Function) → SameAll w env (body_acts w (core_function (bare_function f)).body) (body_acts w (core_function f).body)
 function_alike w env adds f = all_trans (all_finish (emptied_by w env (is_one_empty (bare_stmts f.body)) (bare_stmts f.body) refl)) (body_alike w env adds f.body)
