@@ -52,12 +52,17 @@ fn is_dressed(first: &FnLib, function: &ScriptFuncDef) -> Result<bool, OutOfMemo
     }
     let key = key_named(function.name.clone()?, function)?;
     match first.get(&key) {
-        Some(other) => Ok(
-            is_access(other.access, function.access)
-                && are_comments(&other.comments, &function.comments),
-        ),
+        Some(other) => Ok(has_dress(other, function)),
         None => Ok(false),
     }
+}
+
+/// Whether two functions have the same access and comments.
+fn has_dress(first: &ScriptFuncDef, second: &ScriptFuncDef) -> bool
+    ensures access { IsTrue result → first.now.access ≡ second.now.access }
+    ensures comments { IsTrue result → first.now.comments ≡ second.now.comments }
+{
+    is_access(first.access, second.access) && are_comments(&first.comments, &second.comments)
 }
 
 fn is_access(first: FnAccess, second: FnAccess) -> bool
