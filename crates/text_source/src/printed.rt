@@ -13,7 +13,7 @@ use rhai_script::AST;
 use std::alloc::Global;
 use text_alike::{dressed_alike, spelled_alike, spelled_alike_but_names};
 use text_parser::ParseOptions;
-use text_spelling::{Printed, spelled};
+use text_spelling::{Printed, spelled, spelled_in_order};
 
 /// A script that was written.
 #[derive(Drop)]
@@ -43,7 +43,26 @@ pub fn source_by<R: Reader>(alloc: Global, reader: &R, script: &AST) -> Result<W
     ensures dressed { IfOk result (λ made. DressedAlike (contents script.now) (contents made.script)) }
     ensures read { IfOk result (λ made. R.reads reader.now (string_bytes made.text) (script_of made.script)) }
 {
-    let Printed { text, closures } = spelled(script)?;
+    match read_back(alloc, reader, script, spelled(script)?) {
+        Err(SourceError::AnotherScript) => {
+            read_back(alloc, reader, script, spelled_in_order(script)?)
+        }
+        made => made,
+    }
+}
+
+/// A script, and what its text is read as, if that does the same.
+fn read_back<R: Reader>(
+    alloc: Global,
+    reader: &R,
+    script: &AST,
+    printed: Printed,
+) -> Result<Written, SourceError>
+    ensures same { IfOk result (λ made. DoTheSame (script_of script.now) (script_of made.script)) }
+    ensures dressed { IfOk result (λ made. DressedAlike (contents script.now) (contents made.script)) }
+    ensures read { IfOk result (λ made. R.reads reader.now (string_bytes made.text) (script_of made.script)) }
+{
+    let Printed { text, closures } = printed;
     match reader.read_printed(alloc, text.as_str()) {
         Ok(read) => compared(alloc, script, text, read, closures.as_slice()),
         Err(error) => Err(SourceError::Unread(error)),

@@ -8,6 +8,7 @@ use crate::statements::ends_by_itself;
 use crate::words::is_anonymous;
 use rhai_ast::{Expr, ExprQueries, FnCallExpr, ScriptFuncDef, Stmt, StmtBlock, StmtQueries};
 use rhai_base::{ASTFlags, Dynamic, Ident, ImmutableString, Position};
+use script_tables::FnLib;
 use std::num::NonZeroUsize;
 use text_same::same_expr;
 
@@ -15,6 +16,17 @@ use text_same::same_expr;
 pub(crate) type Shared<'s> = &'s [(Ident, Option<NonZeroUsize>)];
 
 impl<'t> Printer<'t> {
+    /// A statement that runs nothing for each closure's function of a table, in its order.
+    pub(crate) fn closures_in_order(&self, lib: &'t FnLib) {
+        for function in lib.iter() {
+            if is_anonymous(function.name.as_str()) {
+                self.put("false && (");
+                self.closure(function, 0, Position::NONE, Inside::script());
+                self.put(");\n");
+            }
+        }
+    }
+
     /// The closure of a function, so many of whose first parameters are names that it takes from around it.
     #[cycle(print)]
     pub(crate) fn closure(

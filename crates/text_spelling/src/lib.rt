@@ -50,4 +50,4 @@ mod words;
 
 pub use error::{SpellError, Unspelled};
 pub use printer::Printed;
-pub use script::{push_spelled, spelled};
+pub use script::{push_spelled, spelled, spelled_in_order};

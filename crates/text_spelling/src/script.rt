@@ -30,26 +30,38 @@ pub fn spelled(script: &AST) -> Result<Printed, SpellError>
     ensures { OnOk result (script_fault (script_of script.now) ≡ None) }
 {
     script.check()?;
-    printed(script)
+    printed(script, false)
+}
+
+/// The same, behind statements that run nothing and name the functions of closures in the order of the script's table. So
+/// they have these names again when the text is read, where they are numbered in this order.
+pub fn spelled_in_order(script: &AST) -> Result<Printed, SpellError>
+    ensures { OnOk result (script_fault (script_of script.now) ≡ None) }
+{
+    script.check()?;
+    printed(script, true)
 }
 
 /// The functions stand where their positions say, or, where a closure would take another name for one of theirs, behind
 /// all statements.
-fn printed(script: &AST) -> Result<Printed, SpellError> {
-    match placed(script, true) {
+fn printed(script: &AST, is_in_order: bool) -> Result<Printed, SpellError> {
+    match placed(script, is_in_order, true) {
         Err(
             SpellError::Unspelled {
                 what: Unspelled::Share,
                 position: _,
             },
-        ) => placed(script, false),
+        ) => placed(script, is_in_order, false),
         printed => printed,
     }
 }
 
-fn placed(script: &AST, are_among: bool) -> Result<Printed, SpellError> {
+fn placed(script: &AST, is_in_order: bool, are_among: bool) -> Result<Printed, SpellError> {
     let printer = Printer::new(script.shared_lib());
     printer.script_doc(script.doc());
+    if is_in_order {
+        printer.closures_in_order(script.shared_lib());
+    }
     printer.own_lines(script.statements(), are_among);
     printer.functions_before(Position::NONE);
     let Printed { text, closures } = printer.into_printed()?;
