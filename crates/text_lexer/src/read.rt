@@ -62,8 +62,14 @@ fn begun_with(first: u8, start: Place<'_>) -> (Lexeme<'_>, Place<'_>) {
         b'0'..=b'9' => number_at(start),
         b'a'..=b'z' | b'A'..=b'Z' | b'_' => word_at(start),
         b'`' => back_tick_at(start),
-        b'#' => raw_at(start).unwrap_or(symbol_at(start)),
-        b'/' => doc_at(start).unwrap_or(symbol_at(start)),
+        b'#' => match raw_at(start) {
+            Some(found) => found,
+            None => symbol_at(start),
+        },
+        b'/' => match doc_at(start) {
+            Some(found) => found,
+            None => symbol_at(start),
+        },
         _ => symbol_at(start),
     }
 }
