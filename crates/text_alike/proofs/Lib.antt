@@ -6,7 +6,7 @@ pub mod ByCases
 pub mod ByName
 pub mod Captured
 pub mod Defaults
-pub mod Dressed
+pub mod Dresses
 pub mod Entries
 pub mod InOrder
 pub mod Kept

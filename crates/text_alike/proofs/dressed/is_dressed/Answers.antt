@@ -1,6 +1,6 @@
 use Rattle.std.proofs.Common.{◌≡◌, ap, ◌∙◌, Some, length}
 use Rattle.theory_meaning.specs.Calls.{key}
-use Rattle.text_alike.proofs.Dressed.{dressed_one}
+use Rattle.text_alike.proofs.Dresses.{dressed_one}
 use Rattle.text_alike.proofs.dressed.is_dressed.Goals as goal
 
 pub returns-in-Some : goal.returns-in-Some
