@@ -5,10 +5,11 @@ use Rattle.std.specs.Prelude.{IfOk, if◌then◌else◌, reverse}
 use Rattle.std.proofs.lemmas.List.{reverse-append, reverse-reverse}
 use Rattle.rhai_base.specs.Value.{Text, same_text}
 use Rattle.theory_meaning.specs.Tree as abstract
-use Rattle.theory_meaning.specs.Tree.{no_stmts, stmt, Block, ExprStmt, Share}
-use Rattle.theory_spelling.specs.Captures.{are_known, captured, closure_in, does_nothing, grouped, handed, is_called, is_false, is_known, is_share, put, put_each, put_in_call, settled, settled_by, shared, with_known, without}
-use Rattle.ast_types.proofs.Cases.{ExprCase, StmtCase, expr_cases, stmt_cases, and_case, block_case, bool_constant_case, call_case, expression_case, share_case, var_case, variable_case}
-use Rattle.ast_types.proofs.OtherKinds.{NoAnd, NoBlock, NoBool, NoCall, NoExpression, NoShare, NoVar, NoVariable}
+use Rattle.theory_meaning.specs.Tree.{expr, no_stmts, stmt, Block, ExprStmt, Share}
+use Rattle.theory_spelling.specs.Bare.{is_empty_block, is_one_empty}
+use Rattle.theory_spelling.specs.Captures.{are_known, are_two_integers, captured, closure_in, does_nothing, grouped, handed, is_called, is_false, is_integer, is_known, is_share, put, put_each, put_in_call, settled, settled_by, shared, with_known, without}
+use Rattle.ast_types.proofs.Cases.{ExprCase, StmtCase, expr_cases, stmt_cases, and_case, block_case, bool_constant_case, call_case, expression_case, integer_constant_case, share_case, var_case, variable_case}
+use Rattle.ast_types.proofs.OtherKinds.{NoAnd, NoBlock, NoBool, NoCall, NoExpression, NoInteger, NoShare, NoVar, NoVariable}
 use Rattle.ast_types.specs.declared.expr.Expr.{Expr}
 use Rattle.ast_types.specs.declared.stmt.Stmt.{Stmt}
 use Rattle.ast_types.specs.Reading.{expr_of, exprs_of, stmt_of, stmts_of}
@@ -100,6 +101,31 @@ pub other_closure : {d : Stmt} {s : abstract.Stmt} → StmtCase d s → NoShare 
 other_closure (share_case xs) h t = absurd (h xs refl)
 other_closure _ h t = refl
 
+-- ---- lists of another length
+
+pub few_integers : (es : List Expr) → length es < 2 → false ≡ are_two_integers (exprs_of es)
+few_integers [] h = refl
+few_integers (e ∷ []) h = refl
+few_integers (e ∷ f ∷ es) h = absurd (omega (arith))
+
+three_integers : (d e f : abstract.Expr) (es : abstract.Exprs) → false ≡ are_two_integers (expr d (expr e (expr f es)))
+three_integers d e f es = refl
+
+pub more_integers : (es : List Expr) → 3 ≤ length es → false ≡ are_two_integers (exprs_of es)
+more_integers [] h = absurd (omega (arith))
+more_integers (d ∷ []) h = absurd (omega (arith))
+more_integers (d ∷ e ∷ []) h = absurd (omega (arith))
+more_integers (d ∷ e ∷ f ∷ es) h = three_integers (expr_of d) (expr_of e) (expr_of f) (exprs_of es)
+
+pub several_empty : (ss : List Stmt) → 2 ≤ length ss → false ≡ is_one_empty (stmts_of ss)
+several_empty [] h = absurd (omega (arith))
+several_empty (s ∷ []) h = absurd (omega (arith))
+several_empty (s ∷ t ∷ ss) h = refl
+
+pub some_empty : (ss : List Stmt) → 1 ≤ length ss → false ≡ is_empty_block (Block (stmts_of ss))
+some_empty [] h = absurd (omega (arith))
+some_empty (s ∷ ss) h = refl
+
 -- ---- nodes of other kinds
 
 pub no_block_closure : {d : Stmt} {s : abstract.Stmt} → StmtCase d s → NoBlock d → None ≡ closure_in s
@@ -114,9 +140,18 @@ pub no_expression_does : {d : Stmt} {s : abstract.Stmt} → StmtCase d s → NoE
 no_expression_does (expression_case e) h = absurd (h e refl)
 no_expression_does _ h = refl
 
-pub no_and_does : {d : Expr} {e : abstract.Expr} → ExprCase d e → NoAnd d → false ≡ does_nothing (ExprStmt e)
-no_and_does (and_case xs p) h = absurd (h xs p refl)
-no_and_does _ h = refl
+pub no_and_does : {d : Expr} {e : abstract.Expr} → ExprCase d e → NoAnd d → NoInteger d → false ≡ does_nothing (ExprStmt e)
+no_and_does (and_case xs p) h k = absurd (h xs p refl)
+no_and_does (integer_constant_case n p) h k = absurd (k n p refl)
+no_and_does _ h k = refl
+
+pub no_integer : {d : Expr} {e : abstract.Expr} → ExprCase d e → NoInteger d → false ≡ is_integer e
+no_integer (integer_constant_case n p) h = absurd (h n p refl)
+no_integer _ h = refl
+
+pub no_block_empty : {d : Stmt} {s : abstract.Stmt} → StmtCase d s → NoBlock d → false ≡ is_empty_block s
+no_block_empty (block_case b) h = absurd (h b refl)
+no_block_empty _ h = refl
 
 pub no_bool_false : {d : Expr} {e : abstract.Expr} → ExprCase d e → NoBool d → false ≡ is_false e
 no_bool_false (bool_constant_case b p) h = absurd (h b p refl)

@@ -307,7 +307,7 @@ fn renamed_function_alike(
         ≡ renaming.renamed_function (stands names.now) (bare_function (function_of second.now))) }
     ensures by_name { IfOk result (λ alike.
         IsTrue alike
-        → over_stmts (all_true calls_by_name) (bare_stmts (stmts_of second.now.body.block)) ≡ true) }
+        → over_stmts (all_true calls_by_name) (bare_function (function_of second.now)).body ≡ true) }
 {
     let second = bare_function(alloc, second)?;
     if !are_by_name(second.body.statements()) {
