@@ -252,7 +252,9 @@ fn stands_in_parentheses(shape: Shape, need: Need) -> bool {
         (Need::Nothing | Need::Index, _) => false,
         (Need::Start | Need::Condition | Need::Iterable, Shape::Block) => true,
         (Need::Start | Need::Condition | Need::Iterable, _) => false,
-        (Need::Operand(_, Side::Right) | Need::BoolOperand(_, Side::Right), Shape::Block) => false,
+        // A brace behind a range's sign says that its end is left out.
+        (Need::Operand(around, Side::Right), Shape::Block) => around == RANGE,
+        (Need::BoolOperand(_, Side::Right), Shape::Block) => false,
         (Need::Signed | Need::Negated, Shape::Block) => false,
         (_, Shape::Block | Shape::Closure) => true,
         (Need::Operand(around, side) | Need::BoolOperand(around, side), Shape::Infix(own)) => {
