@@ -15,9 +15,9 @@ use Rattle.theory_rewriting.specs.Steps.{Progress, here, Place, is_chain_node}
 use Rattle.theory_rewriting.proofs.Keeping.{keeps_unit}
 use Rattle.ast_types.specs.declared.expr.BinaryExpr.{BinaryExpr}
 use Rattle.ast_types.specs.declared.expr.Expr as declared
-use Rattle.opt_steps.specs.NodeSteps.{ExprStep}
-use Rattle.opt_steps.specs.Standing.{may_stand}
-use Rattle.opt_steps.proofs.Stepping.{expr_stays}
+use Rattle.opt_base.specs.NodeSteps.{ExprStep}
+use Rattle.opt_base.specs.Standing.{may_stand}
+use Rattle.opt_base.proofs.Stepping.{expr_stays}
 use Rattle.opt_chains.specs.Answers.{constant_answer, known_answer, allowed}
 use Rattle.opt_chains.specs.Chains.{ends_in_unit, value_answer, chain_of, IsMoved, IsTaken, IsQuiet, PartStep, IsQuietChain, ChainStep}
 use Rattle.opt_chains.specs.Literals.{allowed_part, literal_answer}

@@ -22,7 +22,7 @@ use Rattle.theory_rewriting.proofs.Keeping.{keeps_constant_of}
 use Rattle.theory_rewriting.proofs.Reducing.{root_of_value, unit_of_value}
 use Rattle.theory_rewriting.proofs.rules.Equality.{text_is}
 use Rattle.theory_meaning.proofs.PureTrees.{split}
-use Rattle.opt_steps.specs.Standing.{may_stand}
+use Rattle.opt_base.specs.Standing.{may_stand}
 use Rattle.opt_chains.specs.Answers.{whole_value, has_no_token, is_empty, is_bare, method_answer, member_answer, answer_at, constant_answer, entry_of, known_answer}
 use Rattle.opt_chains.specs.Literals.{integer_of, element_for, entry_for, property_for, literal_part}
 use Rattle.opt_chains.specs.Onward.{argument, onward, Rewrites}

@@ -18,7 +18,7 @@ use Rattle.theory_rewriting.specs.Rewriting.{BaseTo, base, by_expr_rule}
 use Rattle.theory_rewriting.specs.Rules as rule
 use Rattle.theory_rewriting.specs.Rules.{StepRule, ExprRule}
 use Rattle.theory_rewriting.specs.Steps.{Place, MayBecome, NoExprRule}
-use Rattle.opt_steps.specs.Standing.{may_stand}
+use Rattle.opt_base.specs.Standing.{may_stand}
 use Rattle.opt_chains.specs.Answers.{whole_value, method_answer, word_answer, answer_at, constant_answer, entry_of, known_answer, allowed}
 use Rattle.opt_chains.specs.Literals.{integer_of, element_for, entry_for, allowed_part, literal_part, literal_answer}
 use Rattle.opt_chains.specs.Chains.{ends_in_unit}

@@ -14,8 +14,8 @@ use Rattle.theory_rewriting.specs.Known.{Known}
 use Rattle.theory_rewriting.specs.Parts.{link}
 use Rattle.theory_rewriting.specs.Residue.{IsReducedExpr, ExprParts, when}
 use Rattle.theory_rewriting.specs.Steps.{Place, Anywhere, AsBase, AsGuard, MayBecome, KeepsExprParts}
-use Rattle.opt_steps.specs.Standing.{may_stand}
-use Rattle.opt_steps.proofs.Places.{stands}
+use Rattle.opt_base.specs.Standing.{may_stand}
+use Rattle.opt_base.proofs.Places.{stands}
 use Rattle.opt_chains.specs.Onward.{argument, onward}
 use Rattle.opt_chains.proofs.ChainParts.{IsPart}
 

@@ -11,7 +11,7 @@ use Rattle.theory_rewriting.specs.Known.{Known}
 use Rattle.theory_rewriting.specs.Normal.{HasNormalParts}
 use Rattle.theory_rewriting.specs.Parts.{constant_of, link}
 use Rattle.theory_rewriting.specs.Steps.{AnswersNone, NoExprRule, Place}
-use Rattle.opt_steps.specs.Standing.{may_stand}
+use Rattle.opt_base.specs.Standing.{may_stand}
 use Rattle.ast_types.specs.declared.expr.BinaryExpr.{BinaryExpr}
 use Rattle.ast_types.specs.declared.expr.Expr as declared
 use Rattle.opt_chains.specs.Answers.{constant_answer, known_answer, allowed}

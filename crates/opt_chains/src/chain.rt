@@ -4,4 +4,4 @@ mod chain;
 mod onward;
 
 pub use chain::step_chain;
-pub use opt_steps::{OptimizerState, Place};
+pub use opt_base::{OptimizerState, Place};

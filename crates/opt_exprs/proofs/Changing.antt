@@ -15,9 +15,9 @@ use Rattle.theory_rewriting.specs.Residue.{IsReducedNode}
 use Rattle.theory_rewriting.specs.Rules as rule
 use Rattle.theory_rewriting.specs.Rules.{ExprRule}
 use Rattle.theory_rewriting.specs.Steps.{Place, Anywhere, AsBase, AsGuard, MayBecome, KeepsExprParts}
-use Rattle.opt_steps.proofs.Places.{not-true}
-use Rattle.opt_steps.proofs.Listed.{Listed, answers, reduced, clear}
-use Rattle.opt_steps.proofs.Passing.{Changes}
+use Rattle.opt_base.proofs.Places.{not-true}
+use Rattle.opt_base.proofs.Listed.{Listed, answers, reduced, clear}
+use Rattle.opt_base.proofs.Passing.{Changes}
 use Rattle.opt_exprs.specs.declared.operands.operation.Operation.{Operation}
 use Rattle.opt_exprs.specs.declared.operands.operation.Operation.TheVariants as operation
 use Rattle.opt_exprs.specs.Operands.{Declared, node_of, Change, OneGoes, follows, is_unit_value, goes_on, decides, goes_before}

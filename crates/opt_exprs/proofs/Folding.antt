@@ -16,11 +16,11 @@ use Rattle.theory_rewriting.specs.Rewriting.{ExprsTo}
 use Rattle.theory_rewriting.specs.Residue.{IsReducedNode, ExprParts}
 use Rattle.theory_rewriting.specs.Steps.{Progress, here, Place, NoExprRule, AnswersNone, ExprKept, ExprRewrite}
 use Rattle.theory_rewriting.proofs.Keeping.{keeps_constant, may_be_constant}
-use Rattle.opt_steps.specs.Folded.{FoldsConstant}
-use Rattle.opt_steps.specs.NodeSteps.{ExprStep, Puts}
-use Rattle.opt_steps.proofs.Stepping.{expr_put}
-use Rattle.opt_steps.specs.Passes.{NodePass, ExprPass}
-use Rattle.opt_steps.proofs.Passing.{rule_passes, pass_put}
+use Rattle.opt_base.specs.Folded.{FoldsConstant}
+use Rattle.opt_base.specs.NodeSteps.{ExprStep, Puts}
+use Rattle.opt_base.proofs.Stepping.{expr_put}
+use Rattle.opt_base.specs.Passes.{NodePass, ExprPass}
+use Rattle.opt_base.proofs.Passing.{rule_passes, pass_put}
 use Rattle.opt_exprs.specs.Parts.{is_interpolated, is_map, any_changes, parts_change, NodeChange, Folds}
 use Rattle.opt_exprs.proofs.EmptyParts.{no_part_changes}
 
@@ -108,5 +108,5 @@ text_passed f r p = let z = f r p in rule_passes z.0 z.1
 pub text_changed : {s s1 s2 : Progress} {e e1 e2 : Expr} → Folds false s s1 e e1 → s2.is_dirty ≡ true → s2.known ≡ s1.known → NodePass e1 e2 → (r : Engine) (p : Place) → ExprPass r p s s2 e e2
 text_changed {e2 = e2} f d k q r p = pass_put d (k ∙ ap (λ (z : Progress). z.known) f.1) (subst (λ z. NodePass z e2) f.2 q)
 
-pub text_same : {s s1 : Progress} {e e1 e2 : Expr} → is_interpolated e ≡ true → Folds false s s1 e e1 → NodeChange false e1 e2 → (r : Engine) (p : Place) → ExprKept r p s s1 e e2
-text_same {s = s} {s1 = s1} {e = e} {e2 = e2} h f c r p = text-kept s s1 e e2 h f.0 (sym (ap parts_change f.2) ∙ c.1) f.1 (c.0 ∙ f.2) r p
+pub ast_same : {s s1 : Progress} {e e1 e2 : Expr} → is_interpolated e ≡ true → Folds false s s1 e e1 → NodeChange false e1 e2 → (r : Engine) (p : Place) → ExprKept r p s s1 e e2
+ast_same {s = s} {s1 = s1} {e = e} {e2 = e2} h f c r p = text-kept s s1 e e2 h f.0 (sym (ap parts_change f.2) ∙ c.1) f.1 (c.0 ∙ f.2) r p

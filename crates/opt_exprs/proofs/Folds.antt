@@ -22,9 +22,9 @@ use Rattle.theory_rewriting.proofs.Firing.{stmt_fired_by}
 use Rattle.theory_rewriting.specs.Steps.{Progress, here, Place, KeepsStmtParts, StmtKept}
 use Rattle.theory_rewriting.proofs.Keeping.{keeps_constant_of, may_be_constant_of}
 use Rattle.theory_rewriting.proofs.Plain.{is_plain_value, folded_plain}
-use Rattle.opt_steps.specs.declared.step.NodeStep.TheVariants as step
-use Rattle.opt_steps.specs.NodeSteps.{ExprStep, StmtStep}
-use Rattle.opt_steps.proofs.Stepping.{expr_stays, stmt_stays}
+use Rattle.opt_base.specs.declared.step.NodeStep.TheVariants as step
+use Rattle.opt_base.specs.NodeSteps.{ExprStep, StmtStep}
+use Rattle.opt_base.proofs.Stepping.{expr_stays, stmt_stays}
 use Rattle.opt_exprs.specs.Holding.{Holds, HoldsStatement}
 use Rattle.opt_exprs.specs.Words.{only, type_of, is_shared, pointer_named, curried, is_pointer, word_value, value_by, call_value, expr_value, statement_value, is_call, is_call_statement}
 use Rattle.opt_exprs.proofs.Arguments.{first_of, alone}

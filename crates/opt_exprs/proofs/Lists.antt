@@ -5,7 +5,7 @@ use Rattle.std.proofs.lemmas.List.{drop_more}
 use Rattle.ast_types.specs.declared.expr.Expr as declared_expr
 use Rattle.theory_meaning.specs.Tree.{Exprs, count_exprs}
 use Rattle.ast_types.specs.Reading.{exprs_of}
-use Rattle.opt_steps.specs.Passes.{InTurn}
+use Rattle.opt_base.specs.Passes.{InTurn}
 
 pub or_false : (a b : Bool) → a ≡ false → b ≡ false → a || b ≡ false
 or_false true b h i = absurd cc

@@ -4,8 +4,8 @@ use Rattle.std.proofs.lemmas.List.{append_assoc, append-nil, drop_all, take_more
 use Rattle.ast_types.specs.declared.expr.Expr as declared_expr
 use Rattle.theory_meaning.specs.Tree.{Expr, Exprs, no_exprs, expr}
 use Rattle.ast_types.specs.Reading.{expr_of, exprs_of}
-use Rattle.opt_steps.specs.Passes.{InTurn, no_change, one_more}
-use Rattle.opt_steps.proofs.Passing.{turn_then, turns_pass}
+use Rattle.opt_base.specs.Passes.{InTurn, no_change, one_more}
+use Rattle.opt_base.proofs.Passing.{turn_then, turns_pass}
 use Rattle.opt_exprs.specs.declared.operands.operation.Operation.{Operation}
 use Rattle.opt_exprs.specs.declared.operands.operation.Operation.TheVariants as operation
 use Rattle.opt_exprs.specs.Operands.{Declared, node_of, OneGoes, NoneGoes, follows, goes_on, decides, goes_before, GoBefore, NoneIs, Ends, OperandsPass, NoOperandGoes, NodeChange}

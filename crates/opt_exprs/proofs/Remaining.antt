@@ -9,7 +9,7 @@ use Rattle.ast_types.specs.declared.expr.Expr as declared_expr
 use Rattle.ast_types.specs.Reading.{expr_of, exprs_of}
 use Rattle.theory_rewriting.specs.Answering.{is_that, is_some_value}
 use Rattle.theory_rewriting.specs.Operands.{OperandsTo, in_other_operands, passing_goes, after_deciding_go, pure_before_deciding_goes, CoalesceTo, in_other_options, unit_goes, after_some_go}
-use Rattle.opt_steps.proofs.Places.{not-true}
+use Rattle.opt_base.proofs.Places.{not-true}
 use Rattle.opt_exprs.specs.declared.operands.operation.Operation.{Operation}
 use Rattle.opt_exprs.specs.declared.operands.operation.Operation.TheVariants as operation
 use Rattle.opt_exprs.specs.Operands.{Declared, Change, NoneGoes, is_unit_value, goes_on, decides, goes_before, NoneIs}

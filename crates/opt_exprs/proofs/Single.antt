@@ -13,10 +13,10 @@ use Rattle.theory_rewriting.specs.Rules as rule
 use Rattle.theory_rewriting.specs.Rules.{ExprRule}
 use Rattle.theory_rewriting.specs.Steps.{Progress, Place, Anywhere, AsBase, AsGuard, MayBecome, AnswersNone, ExprRewrite, KeepsExprParts}
 use Rattle.theory_rewriting.proofs.Keeping.{keeps_unit, keeps_and, keeps_or, keeps_coalesce}
-use Rattle.opt_steps.specs.Standing.{may_stand}
-use Rattle.opt_steps.proofs.Places.{stands}
-use Rattle.opt_steps.proofs.Stepping.{expr_rewrite_as, expr_stays}
-use Rattle.opt_steps.specs.Passes.{PassStep}
+use Rattle.opt_base.specs.Standing.{may_stand}
+use Rattle.opt_base.proofs.Places.{stands}
+use Rattle.opt_base.proofs.Stepping.{expr_rewrite_as, expr_stays}
+use Rattle.opt_base.specs.Passes.{PassStep}
 use Rattle.opt_exprs.specs.declared.operands.nodes.Outcome.TheVariants as outcome
 use Rattle.opt_exprs.specs.declared.operands.operation.Operation.{Operation}
 use Rattle.opt_exprs.specs.declared.operands.operation.Operation.TheVariants as operation

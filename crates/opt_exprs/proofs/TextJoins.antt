@@ -9,9 +9,9 @@ use Rattle.ast_types.specs.Reading.{expr_of, exprs_of}
 use Rattle.theory_rewriting.specs.Operands.{TextTo, in_other_parts, texts_join, empty_goes}
 use Rattle.theory_rewriting.specs.Rules as rule
 use Rattle.theory_rewriting.specs.Steps.{Place, Anywhere, AsBase, AsGuard, MayBecome, KeepsExprParts}
-use Rattle.opt_steps.specs.Passes.{InTurn, no_change, one_more}
-use Rattle.opt_steps.proofs.Listed.{Listed, answers, reduced}
-use Rattle.opt_steps.proofs.Passing.{Changes, turn_then, turns_pass}
+use Rattle.opt_base.specs.Passes.{InTurn, no_change, one_more}
+use Rattle.opt_base.proofs.Listed.{Listed, answers, reduced}
+use Rattle.opt_base.proofs.Passing.{Changes, turn_then, turns_pass}
 use Rattle.opt_exprs.specs.Parts.{Declared, is_text, written, is_empty_text, is_empty_value, is_empty_part, first_goes, first_joins, any_changes, AreTexts, Joins, PutText, JoinedAt, Nowhere, PartsChange, NodeChange}
 use Rattle.opt_exprs.proofs.Lists.{or_false, item, turn_as, went, by_length}
 

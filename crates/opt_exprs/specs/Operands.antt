@@ -14,8 +14,8 @@ use Rattle.theory_rewriting.specs.Answering.{is_always, is_some_value, follows_d
 use Rattle.theory_rewriting.specs.Operands.{OperandsTo, CoalesceTo}
 use Rattle.theory_rewriting.specs.Residue.{IsReducedNode}
 use Rattle.theory_rewriting.specs.Steps.{Place, ExprRewrite}
-use Rattle.opt_steps.specs.Standing.{may_stand}
-use Rattle.opt_steps.specs.Passes.{InTurn, NodePass}
+use Rattle.opt_base.specs.Standing.{may_stand}
+use Rattle.opt_base.specs.Passes.{InTurn, NodePass}
 use Rattle.opt_exprs.specs.declared.operands.nodes.Outcome.{Outcome}
 use Rattle.opt_exprs.specs.declared.operands.nodes.Outcome.TheVariants as outcome
 use Rattle.opt_exprs.specs.declared.operands.operation.Operation.{Operation}

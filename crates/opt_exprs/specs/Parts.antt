@@ -9,8 +9,8 @@ use Rattle.ast_types.specs.Reading.{expr_of, exprs_of}
 use Rattle.theory_rewriting.specs.Operands.{TextTo}
 use Rattle.theory_rewriting.specs.Residue.{ExprParts}
 use Rattle.theory_rewriting.specs.Steps.{Progress, Place}
-use Rattle.opt_steps.specs.NodeSteps.{ExprStep}
-use Rattle.opt_steps.specs.Passes.{InTurn, NodePass}
+use Rattle.opt_base.specs.NodeSteps.{ExprStep}
+use Rattle.opt_base.specs.Passes.{InTurn, NodePass}
 
 abbrev pub Declared : Type 0
 Declared = List declared_expr.Expr

@@ -12,7 +12,7 @@ use crate::behind::{Fading, Going};
 use crate::mark::ListMark;
 use ast_types::{Expr, Stmt, StmtBlock};
 use bitflags::Flags;
-use opt_queries::{exports_nothing, is_surely_unit};
+use opt_base::{exports_nothing, is_surely_unit};
 use rhai_ast::StmtQueries;
 use rhai_base::ASTFlags;
 

@@ -20,7 +20,7 @@ use crate::rules::{
     lone_goes, pure_goes, pure_inside_goes,
 };
 use ast_types::Stmt;
-use opt_queries::is_surely_unit;
+use opt_base::is_surely_unit;
 use rhai_ast::StmtQueries;
 use rhai_base::Seq;
 

@@ -33,9 +33,9 @@ use Rattle.theory_rewriting.specs.Rewriting.{StmtTo, same_expr, same_stmt}
 use Rattle.theory_rewriting.specs.Steps.{Anywhere, ExprRun, ArmsRun, Progress, is_chain_node, is_method, variable, catch_front, StepsRun, ArgumentRun, ChainRun, TargetRun, MaybeRun, SidesRun, LinkRun, ForRun, ExprPartsRun, StmtPartsRun, StmtReduced, StmtPassed, StmtRun, SubjectRun, HasReducedSubject}
 use Rattle.theory_rewriting.specs.Normal.{IsNormal, HasNormalParts, StmtHasNormalParts}
 use Rattle.theory_rewriting.specs.Residue.{ExprParts, StmtParts}
-use Rattle.opt_known.specs.State.{known_entry, known_of}
+use Rattle.opt_base.specs.State.{known_entry, known_of}
 use Rattle.opt_rules.proofs.Kept.{nothing_left}
-use Rattle.opt_steps.specs.NodeSteps.{StmtDecided}
+use Rattle.opt_base.specs.NodeSteps.{StmtDecided}
 use Rattle.std.proofs.lemmas.List.{length-map, drop-map}
 use Rattle.opt_reducer.specs.Parts.{StaysAnywhere, declared_value, StmtOnce}
 use Rattle.theory_rewriting.proofs.Firing.{expr_done, expr_kept, expr_start, stmt_then, stmt_pass, stmt_again_falls, stmt_done}

@@ -3,7 +3,7 @@
 #![tactic(auto, using(ast_types::specs::Reading::shapes))]
 
 ghost use Rattle.std.specs.Prelude.{◌≡◌, OnOk, true, false};
-ghost use Rattle.opt_known.specs.State.{progress};
+ghost use Rattle.opt_base.specs.State.{progress};
 ghost use Rattle.ast_types.specs.Reading.{stmt_of, stmts_of};
 ghost use Rattle.theory_meaning.specs.Queries as queries;
 ghost use Rattle.theory_meaning.specs.Tree.{Block, no_stmts, stmt};

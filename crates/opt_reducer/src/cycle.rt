@@ -3,14 +3,14 @@
 #![tactic(auto, using(ast_types::specs::Reading::shapes))]
 
 ghost use Rattle.std.specs.Prelude.{◌≡◌, ◌&&◌, Bool, IfOk, IsTrue, OnOk, true, false};
-ghost use Rattle.opt_known.specs.State.{progress};
+ghost use Rattle.opt_base.specs.State.{progress};
 ghost use Rattle.ast_types.specs.Reading.{arms_of, breaks, callee_of, cases_of, counter_of, expr_of, expressions_of, exprs_of, maybe_of, pairs_of, stmt_of, stmts_of, subject_of, table_of};
 ghost use Rattle.theory_meaning.specs.Shape.{catch_name};
 ghost use Rattle.theory_meaning.specs.Tree.{If};
 ghost use Rattle.opt_lists.specs.Marks.{mark_of};
 ghost use Rattle.opt_reducer.specs.Going.{ItemGoes, going};
 ghost use Rattle.opt_reducer.specs.Parts.{StmtOnce, record_of};
-ghost use Rattle.opt_steps.specs.Places.{place_of};
+ghost use Rattle.opt_base.specs.Places.{place_of};
 ghost use Rattle.rhai_ast.specs.Nodes.{is_dot};
 ghost use Rattle.theory_rewriting.specs.Context.{Inside};
 ghost use Rattle.theory_rewriting.specs.Evals.{keeps_names};

@@ -6,8 +6,8 @@ ghost use Rattle.std.specs.Prelude.{◌≡◌, ◌≤◌, ◌∷◌, ◌++◌, l
 ghost use Rattle.std.specs.Cow.{cow_value};
 ghost use Rattle.std.specs.Option.{option_map};
 ghost use Rattle.rhai_base.specs.Reading.{value_of};
-ghost use Rattle.opt_known.specs.Bindings.{read};
-ghost use Rattle.opt_known.specs.State.{progress};
+ghost use Rattle.opt_base.specs.Bindings.{read};
+ghost use Rattle.opt_base.specs.State.{progress};
 ghost use Rattle.ast_types.specs.Reading.{counter_of, expr_of, is_const, stmt_of};
 ghost use Rattle.theory_meaning.specs.Shape.{catch_name};
 ghost use Rattle.theory_rewriting.specs.Steps.{variable, loop_front, catch_front};
@@ -18,7 +18,7 @@ ghost use Rattle.theory_rewriting.specs.Evals as evals;
 
 use ast_nodes::owned;
 use bitflags::Flags;
-use opt_queries::calls_no_eval;
+use opt_base::calls_no_eval;
 use opt_rules::OptimizerState;
 use rhai_ast::{Expr, Literals, Stmt, StmtQueries};
 use rhai_base::{ASTFlags, Dynamic, Ident, ImmutableString, OutOfMemory};

@@ -3,7 +3,7 @@
 #![tactic(auto, using(ast_types::specs::Reading::shapes))]
 
 ghost use Rattle.std.specs.Prelude.{IfOk};
-ghost use Rattle.opt_known.specs.State.{progress};
+ghost use Rattle.opt_base.specs.State.{progress};
 ghost use Rattle.ast_types.specs.Reading.{stmts_of};
 ghost use Rattle.opt_reducer.specs.Parts.{record_of};
 ghost use Rattle.opt_reducer.specs.Pass.{PassRun};

@@ -10,10 +10,10 @@ use Rattle.theory_rewriting.specs.Known.{Known}
 use Rattle.theory_rewriting.specs.Rules as rule
 use Rattle.theory_rewriting.specs.Rules.{ExprRule, StmtRule}
 use Rattle.theory_rewriting.specs.Steps.{Place, Anywhere, AsBase, AsGuard, Progress, NoExprRule, NoStmtRule, StmtKept}
-use Rattle.opt_steps.specs.NodeSteps.{ExprStep}
-use Rattle.opt_steps.specs.Standing.{may_stand}
+use Rattle.opt_base.specs.NodeSteps.{ExprStep}
+use Rattle.opt_base.specs.Standing.{may_stand}
 use Rattle.ast_types.proofs.OtherKinds.{NoArray, NoBraces, NoCall, NoVariable, NoAnd, NoOr, NoCoalesce, NoDot, NoIndex, NoText, NoMap, NoIf, NoBlock, NoExpression, NoCallStatement, NoWhile, NoAssignment, NoTry, NoSwitch, NoShare}
-use Rattle.opt_steps.proofs.Stepping.{expr_stays, stmt_stays}
+use Rattle.opt_base.proofs.Stepping.{expr_stays, stmt_stays}
 use Rattle.opt_rules.specs.Settled.{known_value, is_call_statement, is_settled, is_settled_in_braces}
 
 pub others_stay : (p : Place) {x : declared_expr.Expr} {e : Expr} → ExprCase x e → NoBraces x → is_settled p e ≡ true

@@ -17,8 +17,8 @@ use Rattle.theory_rewriting.specs.Rules.{ExprRule}
 use Rattle.theory_rewriting.specs.Steps.{Progress, here, Place, Anywhere, AsBase, AsGuard, MayBecome}
 use Rattle.theory_rewriting.proofs.Keeping.{keeps_constant}
 use Rattle.theory_rewriting.proofs.Reducing.{root_of_value, unit_of_value, unit_for_value}
-use Rattle.opt_steps.specs.NodeSteps.{Puts, ExprStep}
-use Rattle.opt_steps.proofs.Stepping.{expr_stays}
+use Rattle.opt_base.specs.NodeSteps.{Puts, ExprStep}
+use Rattle.opt_base.proofs.Stepping.{expr_stays}
 use Rattle.opt_rules.specs.Settled.{is_variable, unless_unit, known_there, known_value}
 
 valid_of : (b : Bool) (f : Text) → (if b then Some (PointerV f no_values) else None) ≡ Some (PointerV f no_values) → b ≡ true

@@ -6,10 +6,10 @@ use Rattle.base_tokens.specs.declared.error.OutOfMemory.{OutOfMemory}
 use Rattle.theory_meaning.specs.Engine.{Engine}
 use Rattle.theory_meaning.specs.Tree.{Expr, Stmt}
 use Rattle.theory_rewriting.specs.Steps.{Progress, Place}
-use Rattle.opt_steps.specs.declared.step.NodeStep.{NodeStep}
-use Rattle.opt_steps.specs.NodeSteps.{ExprStep, StmtDecided, StmtStep}
-use Rattle.opt_steps.specs.Passes.{PassStep}
-use Rattle.opt_steps.proofs.Passing.{step_passes}
+use Rattle.opt_base.specs.declared.step.NodeStep.{NodeStep}
+use Rattle.opt_base.specs.NodeSteps.{ExprStep, StmtDecided, StmtStep}
+use Rattle.opt_base.specs.Passes.{PassStep}
+use Rattle.opt_base.proofs.Passing.{step_passes}
 use Rattle.opt_switch.specs.Deciding.{Decided}
 
 pub step_here : (r : Engine) (p : Place) (s s' : Progress) (e e' : Expr) (o : Result Bool OutOfMemory) → IfOk o (λ fired. ExprStep fired r p s s' e e') → IfOk o (λ fired. PassStep fired r p s s' e e')

@@ -17,11 +17,11 @@ use Rattle.theory_rewriting.specs.Rules as rule
 use Rattle.theory_rewriting.specs.Rules.{ExprRule}
 use Rattle.theory_rewriting.specs.Steps.{Progress, Place, Anywhere, AsBase, AsGuard, MayBecome, ExprRewrite}
 use Rattle.theory_rewriting.proofs.Keeping.{keeps_constant, keeps_unit, keeps_braced, keeps_braced_call, may_be_constant}
-use Rattle.opt_steps.specs.Folded.{FoldsConstant}
-use Rattle.opt_steps.specs.NodeSteps.{Puts, ExprStep}
-use Rattle.opt_steps.specs.Standing.{is_root, may_stand}
-use Rattle.opt_steps.proofs.Places.{not-false, not-true, stands}
-use Rattle.opt_steps.proofs.Stepping.{expr_stays}
+use Rattle.opt_base.specs.Folded.{FoldsConstant}
+use Rattle.opt_base.specs.NodeSteps.{Puts, ExprStep}
+use Rattle.opt_base.specs.Standing.{is_root, may_stand}
+use Rattle.opt_base.proofs.Places.{not-false, not-true, stands}
+use Rattle.opt_base.proofs.Stepping.{expr_stays}
 use Rattle.opt_rules.specs.Settled.{known_value, is_array, is_braces, value_of_array, is_settled_braces, is_settled, Becomes}
 use Rattle.opt_rules.proofs.Kept.{call_stands}
 

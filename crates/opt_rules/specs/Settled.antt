@@ -7,7 +7,7 @@ use Rattle.theory_meaning.specs.Constants.{array_value, constant_values}
 use Rattle.theory_meaning.specs.Tree.{Expr, ArrayOf, UnitConstant, Variable, BlockExpr, Stmt, ExprStmt, FnCallStmt, Stmts, no_stmts, stmt}
 use Rattle.theory_meaning.specs.Queries.{is_eval}
 use Rattle.theory_rewriting.specs.Known.{Known}
-use Rattle.opt_steps.specs.Standing.{may_stand}
+use Rattle.opt_base.specs.Standing.{may_stand}
 use Rattle.theory_rewriting.specs.Steps.{Place, Anywhere, AsBase, AsGuard, ExprRewrite}
 pub use Rattle.theory_rewriting.specs.Clear.{known_value}
 

@@ -3,18 +3,18 @@
 #![tactic(auto, using(ast_types::specs::Reading::shapes))]
 
 ghost use Rattle.std.specs.Prelude.{◌≡◌, IfOk, true};
-ghost use Rattle.opt_known.specs.State.{progress};
+ghost use Rattle.opt_base.specs.State.{progress};
 ghost use Rattle.ast_types.specs.Reading.{expr_of, stmt_of, stmts_of};
 ghost use Rattle.theory_meaning.specs.Engine.{Engine};
 ghost use Rattle.theory_meaning.specs.Tree.{BlockExpr, ExprStmt, no_stmts, stmt};
-ghost use Rattle.opt_steps.specs.NodeSteps.{ExprStep};
-ghost use Rattle.opt_steps.specs.Places.{place_of};
+ghost use Rattle.opt_base.specs.NodeSteps.{ExprStep};
+ghost use Rattle.opt_base.specs.Places.{place_of};
 ghost use Rattle.opt_rules.specs.Settled as settled;
 ghost use Rattle.opt_rules.specs.Settled.{Becomes};
 ghost use Rattle.theory_rewriting.specs.Steps as steps;
 
 use ast_nodes::put_expr;
-use opt_steps::{OptimizerState, Place, fold_constant, may_be_unit, may_stand, note_fired};
+use opt_base::{OptimizerState, Place, fold_constant, may_be_unit, may_stand, note_fired};
 use rhai_ast::{Expr, Stmt, StmtBlock, StmtQueries, Take};
 use rhai_base::{OutOfMemory, Span};
 use std::alloc::Global;

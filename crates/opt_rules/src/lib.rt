@@ -6,4 +6,4 @@ mod names;
 mod nodes;
 
 pub use nodes::{decide_stmt, reduce_expr, reduce_stmt};
-pub use opt_steps::{OptimizerState, Place};
+pub use opt_base::{OptimizerState, Place};

@@ -5,14 +5,14 @@
 ghost use Rattle.std.specs.Prelude.{◌≡◌, IfOk, true};
 ghost use Rattle.std.specs.Option.{option_copied, option_map};
 ghost use Rattle.rhai_base.specs.Reading.{value_of};
-ghost use Rattle.opt_known.specs.State.{progress};
+ghost use Rattle.opt_base.specs.State.{progress};
 ghost use Rattle.ast_types.specs.Reading.{expr_of};
 ghost use Rattle.theory_meaning.specs.Engine.{Engine};
-ghost use Rattle.opt_steps.specs.NodeSteps.{ExprStep};
-ghost use Rattle.opt_steps.specs.Places.{place_of};
+ghost use Rattle.opt_base.specs.NodeSteps.{ExprStep};
+ghost use Rattle.opt_base.specs.Places.{place_of};
 ghost use Rattle.opt_rules.specs.Settled as settled;
 
-use opt_steps::{OptimizerState, Place, known_value, put_constant};
+use opt_base::{OptimizerState, Place, known_value, put_constant};
 use rhai_ast::Expr;
 use rhai_base::{Dynamic, OutOfMemory};
 use std::alloc::Global;

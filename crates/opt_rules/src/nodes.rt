@@ -4,21 +4,21 @@
 #![tactic(auto, using(ast_types::specs::Reading::shapes))]
 
 ghost use Rattle.std.specs.Prelude.{◌≡◌, OnOk, IfOk};
-ghost use Rattle.opt_known.specs.State.{progress};
+ghost use Rattle.opt_base.specs.State.{progress};
 ghost use Rattle.theory_meaning.specs.Engine.{Engine};
 ghost use Rattle.ast_types.specs.Reading.{expr_of, stmt_of};
 ghost use Rattle.base_engine.specs.EngineInfo.{engine_of};
-ghost use Rattle.opt_steps.specs.Passes.{PassStep};
-ghost use Rattle.opt_steps.specs.NodeSteps.{StmtDecided, StmtStep};
-ghost use Rattle.opt_steps.specs.Places.{place_of};
+ghost use Rattle.opt_base.specs.Passes.{PassStep};
+ghost use Rattle.opt_base.specs.NodeSteps.{StmtDecided, StmtStep};
+ghost use Rattle.opt_base.specs.Places.{place_of};
 ghost use Rattle.theory_rewriting.specs.Steps.{ExprReduced, StmtReduced};
 
 use crate::expressions::{array_of_constants, step_braces};
 use crate::names::step_name;
 use base_engine::EngineInfo;
+use opt_base::{NodeStep, OptimizerState, Place};
 use opt_chains::step_chain;
 use opt_exprs::{step_call, step_call_statement, step_map, step_operands, step_text};
-use opt_steps::{NodeStep, OptimizerState, Place};
 use opt_stmts::{
     decide_if, open_braces, step_assignment, step_block, step_expression, step_if, step_share,
     step_try, step_while,

@@ -16,7 +16,7 @@ use Rattle.theory_rewriting.specs.Rules as rule
 use Rattle.theory_rewriting.specs.SelfAssign.{has_op_assignment, leaves_names}
 use Rattle.theory_rewriting.specs.Steps.{Progress}
 use Rattle.theory_rewriting.proofs.rules.Equality.{text_is}
-use Rattle.opt_steps.proofs.Places.{not-true}
+use Rattle.opt_base.proofs.Places.{not-true}
 use Rattle.opt_stmts.specs.Assigning.{Operates, operates, Takes}
 use Rattle.opt_stmts.specs.Firing.{Fires}
 use Rattle.opt_stmts.specs.SettledAssignments.{is_name, may_assign, are_name_and_value, operates_on, assigns_itself}

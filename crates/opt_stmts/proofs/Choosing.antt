@@ -8,9 +8,9 @@ use Rattle.theory_rewriting.specs.Rules as rule
 use Rattle.theory_rewriting.specs.Rules.{block_or_noop, condition_alone}
 use Rattle.theory_rewriting.specs.Steps.{StmtRewrite}
 use Rattle.theory_rewriting.proofs.Keeping.{keeps_condition}
-use Rattle.opt_steps.proofs.Places.{not-true}
-use Rattle.opt_steps.specs.declared.step.NodeStep.{NodeStep}
-use Rattle.opt_steps.specs.NodeSteps.{step_by}
+use Rattle.opt_base.proofs.Places.{not-true}
+use Rattle.opt_base.specs.declared.step.NodeStep.{NodeStep}
+use Rattle.opt_base.specs.NodeSteps.{step_by}
 use Rattle.opt_stmts.specs.ChoiceSteps.{answer, answer_by}
 use Rattle.opt_stmts.specs.SettledChoices.{is_empty, is_settled_if, is_settled, is_nest, opens_if, reopens}
 

@@ -9,7 +9,7 @@ use Rattle.rhai_base.specs.Value.{Text, Value}
 use Rattle.theory_meaning.specs.Tree.{Share}
 use Rattle.ast_types.specs.Reading.{shared_names}
 use Rattle.theory_rewriting.specs.Known.{Known, look, unless_known, unknown}
-use Rattle.opt_steps.specs.declared.step.NodeStep.TheVariants as step
+use Rattle.opt_base.specs.declared.step.NodeStep.TheVariants as step
 use Rattle.opt_stmts.specs.Firing.{answer}
 use Rattle.opt_stmts.specs.SettledAssignments.{knows_some, shares_nothing, is_settled_share}
 

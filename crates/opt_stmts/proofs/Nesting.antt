@@ -9,7 +9,7 @@ use Rattle.theory_meaning.specs.Tree.{Expr, And, Exprs, no_exprs, expr, Stmt, If
 use Rattle.ast_types.specs.Reading.{expr_of, stmt_of, stmts_of}
 use Rattle.theory_rewriting.specs.Operands.{with_last, is_and, ends_false}
 use Rattle.theory_rewriting.specs.Rules as rule
-use Rattle.opt_steps.proofs.Stepping.{stmt_rewrite_as}
+use Rattle.opt_base.proofs.Stepping.{stmt_rewrite_as}
 use Rattle.opt_stmts.specs.Flows.{Joined}
 use Rattle.opt_stmts.specs.SettledChoices.{is_empty, goes_on, is_bare_if, is_bare_if_alone, nests}
 use Rattle.opt_stmts.proofs.ChoiceParts.{keeps_nested, keeps_joined}

@@ -20,7 +20,7 @@ use Rattle.theory_rewriting.specs.Residue.{IsReducedNode}
 use Rattle.theory_rewriting.specs.SurelyUnit.{is_surely_unit}
 use Rattle.theory_rewriting.specs.Steps.{Progress, here, NoStmtRule, StmtKept}
 use Rattle.theory_meaning.specs.Walk.{OfStmt}
-use Rattle.opt_steps.proofs.Places.{not-true}
+use Rattle.opt_base.proofs.Places.{not-true}
 use Rattle.opt_stmts.specs.SettledAssignments.{knows_some, shares_nothing, has_form, is_open, is_settled_assignment}
 use Rattle.opt_stmts.specs.SettledChoices.{is_empty, is_settled_if, goes_on, nests}
 use Rattle.opt_stmts.specs.SettledStatements.{are_settled, stays}

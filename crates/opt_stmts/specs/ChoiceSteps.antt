@@ -5,9 +5,9 @@ use Rattle.ast_types.specs.declared.stmt.Stmt as declared_stmt
 use Rattle.theory_meaning.specs.Tree.{Stmt}
 use Rattle.ast_types.specs.Reading.{stmt_of}
 use Rattle.theory_rewriting.specs.Steps.{StmtRewrite}
-use Rattle.opt_steps.specs.declared.step.NodeStep.{NodeStep}
-use Rattle.opt_steps.specs.declared.step.NodeStep.TheVariants as step
-use Rattle.opt_steps.specs.NodeSteps.{step_by}
+use Rattle.opt_base.specs.declared.step.NodeStep.{NodeStep}
+use Rattle.opt_base.specs.declared.step.NodeStep.TheVariants as step
+use Rattle.opt_base.specs.NodeSteps.{step_by}
 use Rattle.opt_stmts.specs.Flows.{if_of}
 use Rattle.opt_stmts.specs.SettledChoices.{is_settled, is_nest, reopens}
 

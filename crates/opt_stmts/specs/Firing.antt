@@ -2,8 +2,8 @@
 use Rattle.std.specs.Prelude.{◌≡◌, Bool, true, false}
 use Rattle.theory_meaning.specs.Engine.{Engine}
 use Rattle.theory_meaning.specs.Tree.{Stmt}
-use Rattle.opt_steps.specs.declared.step.NodeStep.{NodeStep}
-use Rattle.opt_steps.specs.declared.step.NodeStep.TheVariants as step
+use Rattle.opt_base.specs.declared.step.NodeStep.{NodeStep}
+use Rattle.opt_base.specs.declared.step.NodeStep.TheVariants as step
 use Rattle.theory_rewriting.specs.Steps.{Progress, StmtFired, KeepsStmtParts}
 
 -- what it made has parts that are reduced

@@ -3,9 +3,9 @@ use Rattle.std.specs.Prelude.{Bool, true, false, not, ◌&&◌, cond, Option, No
 use Rattle.theory_meaning.specs.Constants.{constant_bool}
 use Rattle.theory_meaning.specs.Queries.{is_block_dependent}
 use Rattle.opt_stmts.specs.SettledChoices.{is_empty}
-use Rattle.opt_steps.specs.declared.step.NodeStep.{NodeStep}
-use Rattle.opt_steps.specs.declared.step.NodeStep.TheVariants as step
-use Rattle.opt_steps.specs.NodeSteps.{step_by}
+use Rattle.opt_base.specs.declared.step.NodeStep.{NodeStep}
+use Rattle.opt_base.specs.declared.step.NodeStep.TheVariants as step
+use Rattle.opt_base.specs.NodeSteps.{step_by}
 use Rattle.theory_meaning.specs.Tree.{Expr, BlockExpr, FnCall, Stmt, While, Block, TryCatch, ExprStmt, Stmts, no_stmts, stmt}
 
 -- ---- blocks

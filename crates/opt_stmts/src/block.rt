@@ -4,17 +4,17 @@
 
 ghost use Rattle.std.specs.Prelude.{◌≡◌, true, false, Bool, MatchOption, is_none};
 ghost use Rattle.opt_stmts.specs.Firing.{answer};
-ghost use Rattle.opt_known.specs.State.{progress};
+ghost use Rattle.opt_base.specs.State.{progress};
 ghost use Rattle.theory_meaning.specs.Engine.{Engine};
 ghost use Rattle.theory_meaning.specs.Queries as queries;
 ghost use Rattle.theory_meaning.specs.Tree.{Block, no_stmts, stmt};
 ghost use Rattle.ast_types.specs.Reading.{stmt_of, stmts_of};
 ghost use Rattle.theory_rewriting.specs.Steps.{StmtRewrite};
 ghost use Rattle.opt_stmts.specs.SettledStatements as settled;
-ghost use Rattle.opt_steps.specs.NodeSteps.{StmtStep};
+ghost use Rattle.opt_base.specs.NodeSteps.{StmtStep};
 
 use crate::made::put_made;
-use opt_steps::{NodeStep, OptimizerState};
+use opt_base::{NodeStep, OptimizerState};
 use rhai_ast::{Stmt, StmtBlock, StmtQueries, Take};
 use rhai_base::Position;
 

@@ -3,18 +3,18 @@
 #![tactic(auto, using(ast_types::specs::Reading::shapes))]
 
 ghost use Rattle.std.specs.Prelude.{◌≡◌, true, Bool, MatchOption, is_none};
-ghost use Rattle.opt_known.specs.State.{progress};
+ghost use Rattle.opt_base.specs.State.{progress};
 ghost use Rattle.theory_meaning.specs.Engine.{Engine};
 ghost use Rattle.theory_meaning.specs.Tree.{BlockExpr, ExprStmt, FnCall};
 ghost use Rattle.ast_types.specs.Reading.{callee_of, expr_of, exprs_of, stmt_of, stmts_of};
 ghost use Rattle.theory_rewriting.specs.Steps.{StmtRewrite};
 ghost use Rattle.opt_stmts.specs.SettledStatements as settled;
-ghost use Rattle.opt_steps.specs.NodeSteps.{StmtDecided, StmtStep};
+ghost use Rattle.opt_base.specs.NodeSteps.{StmtDecided, StmtStep};
 
 use crate::choice::is_empty;
 use crate::made::put_made;
 use ast_nodes::put_expr;
-use opt_steps::{NodeStep, OptimizerState, step_of};
+use opt_base::{NodeStep, OptimizerState, step_of};
 use rhai_ast::{Expr, FnCallExpr, Stmt, StmtBlock, Take};
 use rhai_base::{Boxed, Position};
 

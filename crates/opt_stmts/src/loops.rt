@@ -4,16 +4,15 @@
 
 ghost use Rattle.std.specs.Prelude.{◌≡◌, true, false, Bool, Some, is_none};
 ghost use Rattle.opt_stmts.specs.Firing.{Fires, answer};
-ghost use Rattle.opt_known.specs.State.{progress};
+ghost use Rattle.opt_base.specs.State.{progress};
 ghost use Rattle.theory_meaning.specs.Engine.{Engine};
 ghost use Rattle.theory_meaning.specs.Constants as constants;
 ghost use Rattle.ast_types.specs.Reading.{expr_of, stmt_of};
 ghost use Rattle.opt_stmts.specs.Flows.{loop_of};
 ghost use Rattle.opt_stmts.specs.SettledStatements as settled;
-ghost use Rattle.opt_steps.specs.NodeSteps.{StmtStep};
+ghost use Rattle.opt_base.specs.NodeSteps.{StmtStep};
 
-use opt_folding::constant_bool;
-use opt_steps::{NodeStep, OptimizerState, put_nothing, put_unit};
+use opt_base::{NodeStep, OptimizerState, constant_bool, put_nothing, put_unit};
 use rhai_ast::{FlowControl, Stmt};
 
 /// A `while` over true is a `loop`.

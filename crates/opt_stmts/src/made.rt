@@ -1,10 +1,10 @@
 //! Blocks that are taken out, and what a rule made in the place of a statement.
 
 ghost use Rattle.std.specs.Prelude.{◌≡◌, [], true};
-ghost use Rattle.opt_known.specs.State.{progress};
+ghost use Rattle.opt_base.specs.State.{progress};
 
 use ast_nodes::put_stmt;
-use opt_steps::{OptimizerState, note_fired};
+use opt_base::{OptimizerState, note_fired};
 use rhai_ast::{Stmt, StmtBlock};
 use std::alloc::Global;
 use std::mem::replace;

@@ -3,15 +3,15 @@
 #![tactic(auto, using(ast_types::specs::Reading::shapes))]
 
 ghost use Rattle.std.specs.Prelude.{◌≡◌, true, false, Bool};
-ghost use Rattle.opt_known.specs.State.{progress};
+ghost use Rattle.opt_base.specs.State.{progress};
 ghost use Rattle.theory_meaning.specs.Engine.{Engine};
 ghost use Rattle.ast_types.specs.Reading.{stmt_of};
 ghost use Rattle.opt_stmts.specs.Firing.{Fires, answer};
 ghost use Rattle.opt_stmts.specs.SettledStatements as settled;
-ghost use Rattle.opt_steps.specs.NodeSteps.{StmtStep};
+ghost use Rattle.opt_base.specs.NodeSteps.{StmtStep};
 
 use crate::choice::is_empty;
-use opt_steps::{NodeStep, OptimizerState, put_nothing};
+use opt_base::{NodeStep, OptimizerState, put_nothing};
 use rhai_ast::Stmt;
 
 /// A `try` over a body that is pure inside does nothing. Such a body is empty, once it is in normal form: what is in it

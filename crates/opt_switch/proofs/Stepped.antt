@@ -26,8 +26,8 @@ use Rattle.theory_rewriting.specs.Steps.{Progress, here, StmtFired, KeepsStmtPar
 use Rattle.theory_rewriting.proofs.Firing.{stmt_fired_by}
 use Rattle.theory_rewriting.proofs.rules.Narrowed.{listed_kept}
 use Rattle.theory_rewriting.proofs.rules.Shrunk.{listed_still}
-use Rattle.opt_steps.specs.declared.step.NodeStep.TheVariants as step
-use Rattle.opt_steps.specs.NodeSteps.{StmtStep}
+use Rattle.opt_base.specs.declared.step.NodeStep.TheVariants as step
+use Rattle.opt_base.specs.NodeSteps.{StmtStep}
 use Rattle.opt_switch.specs.declared.choice.Choice.TheVariants.{Several}
 use Rattle.opt_switch.specs.Deciding.{choice_at}
 use Rattle.opt_switch.specs.Forgetting.{marked, forgets, loses_answers}

@@ -8,7 +8,7 @@ ghost use Rattle.ast_types.specs.Reading.{arms_of, expr_of, expressions_of, tabl
 ghost use Rattle.theory_rewriting.specs.Tables as tables;
 ghost use Rattle.theory_rewriting.specs.Shrinking as shrinking;
 
-use opt_folding::constant_bool;
+use opt_base::constant_bool;
 use rhai_ast::{BinaryExpr, Expr, SwitchCasesCollection, Take};
 use rhai_base::Seq;
 

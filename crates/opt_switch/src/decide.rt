@@ -5,7 +5,7 @@
 ghost use Rattle.std.specs.Prelude.{◌≡◌, Bool, IfOk, Some};
 ghost use Rattle.std.specs.Option.{option_map};
 ghost use Rattle.rhai_base.specs.Reading.{value_of};
-ghost use Rattle.opt_known.specs.State.{progress};
+ghost use Rattle.opt_base.specs.State.{progress};
 ghost use Rattle.theory_meaning.specs.Constants as constants;
 ghost use Rattle.theory_meaning.specs.Engine.{Engine};
 ghost use Rattle.theory_meaning.specs.Tree.{ExprStmt};
@@ -17,7 +17,7 @@ ghost use Rattle.opt_switch.specs.Steps.{switch_of};
 use crate::arms::{take_answer, take_arm, take_default};
 use crate::choice::{Choice, choice_for};
 use ast_nodes::{block_statement, expression_statement, if_answers, put_stmt};
-use opt_steps::{OptimizerState, note_fired};
+use opt_base::{OptimizerState, note_fired};
 use rhai_ast::{Expr, Literals, Stmt, StmtBlock, StmtQueries, SwitchBlock, SwitchCasesCollection};
 use rhai_base::{Dynamic, OutOfMemory, Position};
 use std::alloc::Global;

@@ -3,15 +3,15 @@
 #![tactic(auto, using(ast_types::specs::Reading::shapes))]
 
 ghost use Rattle.std.specs.Prelude.{◌≡◌, Bool, IfOk, true};
-ghost use Rattle.opt_known.specs.State.{progress};
+ghost use Rattle.opt_base.specs.State.{progress};
 ghost use Rattle.theory_meaning.specs.Engine.{Engine};
 ghost use Rattle.ast_types.specs.Reading.{stmt_of};
-ghost use Rattle.opt_steps.specs.NodeSteps.{StmtStep};
+ghost use Rattle.opt_base.specs.NodeSteps.{StmtStep};
 ghost use Rattle.opt_switch.specs.Steps as steps;
 
 use crate::decide::decide_switch;
 use crate::tables::step_table;
-use opt_steps::{NodeStep, OptimizerState};
+use opt_base::{NodeStep, OptimizerState};
 use rhai_ast::Stmt;
 use rhai_base::OutOfMemory;
 use std::alloc::Global;

@@ -5,7 +5,7 @@
 ghost use Rattle.std.specs.Prelude.{◌≡◌, IfOk, true};
 ghost use Rattle.rhai_base.specs.Reading.{value_of};
 ghost use Rattle.rhai_base.specs.Value.{is_hashable};
-ghost use Rattle.opt_known.specs.State.{progress};
+ghost use Rattle.opt_base.specs.State.{progress};
 ghost use Rattle.theory_meaning.specs.Control.{case_for};
 ghost use Rattle.ast_types.specs.Reading.{arms_of, expressions_of, stmt_of, table_of};
 ghost use Rattle.theory_rewriting.specs.Narrowing as narrowing;
@@ -17,7 +17,7 @@ use crate::narrow::{narrows, only_cases, only_ranges};
 use crate::shrink::{has_ranges, shrink_cases, shrink_ranges, shrinks};
 use ast_nodes::case_list;
 use indexmap::IndexMap;
-use opt_steps::{OptimizerState, note_fired};
+use opt_base::{OptimizerState, note_fired};
 use rhai_ast::{Literals, Stmt, SwitchBlock, SwitchCasesCollection};
 use rhai_base::{Cases, Dynamic, OutOfMemory, Seq};
 use std::alloc::Global;

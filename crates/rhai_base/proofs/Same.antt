@@ -61,8 +61,8 @@ bool_same : (a : Bool) → same_bool a a ≡ true
 bool_same true = refl
 bool_same false = refl
 
-text_same : (a : Text) → same_text a a ≡ true
-text_same a = (bytes_eq-Decides a a).1 refl
+ast_same : (a : Text) → same_text a a ≡ true
+ast_same a = (bytes_eq-Decides a a).1 refl
 
 mutual
   pub same_itself : (v : Value) → same v v ≡ true
@@ -70,10 +70,10 @@ mutual
   same_itself (BoolV a) = bool_same a
   same_itself (IntV a) = int_same a
   same_itself (CharV a) = (unsigned_Decides a a).1 refl
-  same_itself (TextV a) = text_same a
+  same_itself (TextV a) = ast_same a
   same_itself (ArrayV a) = items_same a
   same_itself (MapV a) = fields_same a
-  same_itself (PointerV f a) = both _ _ (text_same f) (items_same a)
+  same_itself (PointerV f a) = both _ _ (ast_same f) (items_same a)
   same_itself (RangeV a b) = both _ _ (int_same a) (int_same b)
   same_itself (RangeInclusiveV a b) = both _ _ (int_same a) (int_same b)
 
@@ -83,7 +83,7 @@ mutual
 
   fields_same : (fs : Fields) → same_fields fs fs ≡ true
   fields_same no_fields = refl
-  fields_same (field k v fs) = both _ _ (both _ _ (text_same k) (same_itself v)) (fields_same fs)
+  fields_same (field k v fs) = both _ _ (both _ _ (ast_same k) (same_itself v)) (fields_same fs)
 
 equal_tests : (a b : Bool) → (a ≡ true → b ≡ true) → (b ≡ true → a ≡ true) → a ≡ b
 equal_tests true b f g = sym (f refl)

@@ -1,13 +1,13 @@
 -- What options ask for, and what calls answer.
 use Rattle.std.specs.Prelude.{◌≡◌, ℕ}
 use Rattle.rhai_base.specs.Value.{Text}
-use Rattle.opt_known.specs.declared.level.OptimizationLevel.{OptimizationLevel}
-use Rattle.opt_known.specs.declared.level.OptimizationLevel.TheVariants as level
+use Rattle.opt_base.specs.declared.level.OptimizationLevel.{OptimizationLevel}
+use Rattle.opt_base.specs.declared.level.OptimizationLevel.TheVariants as level
 use Rattle.theory_meaning.specs.Engine.{Engine}
 use Rattle.theory_meaning.specs.Tree.{Script}
-use Rattle.text_source.specs.Texts.{AreMerged, BecomesText, IsReadAs}
-use Rattle.text_source.specs.declared.syntax.Syntax.{Syntax}
-use Rattle.text_source.specs.declared.syntax.Syntax.TheVariants as syntax
+use Rattle.syntax_source.specs.Texts.{AreMerged, BecomesText, IsReadAs}
+use Rattle.syntax_source.specs.declared.syntax.Syntax.{Syntax}
+use Rattle.syntax_source.specs.declared.syntax.Syntax.TheVariants as syntax
 use Rattle.rhai_c.specs.declared.options.BalvuzsomOptions.{BalvuzsomOptions}
 
 -- the syntax that a number stands for

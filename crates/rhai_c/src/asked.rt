@@ -12,7 +12,7 @@ use run_host::{UnitHost, push_report};
 use std::alloc::{AllocError, Global};
 use std::fmt::Write;
 use std::str;
-use text_source::{OptimizedText, Written, constants, merge, optimize_text, read};
+use syntax_source::{OptimizedText, Written, constants, merge, optimize_text, read};
 use tool_findings::findings;
 
 /// The text of an optimised script.

@@ -11,7 +11,7 @@ use crate::codes::Failure;
 use crate::options::BalvuzsomOptions;
 use crate::room::{BalvuzsomRefusal, answered, refused};
 use std::alloc::Global;
-use text_source::VERSION;
+use syntax_source::VERSION;
 
 /// The text of a script, optimised; `known` declares constants, on which it may rest. The script that it is read as does
 /// what the one that the source is read as does.

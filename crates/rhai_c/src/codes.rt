@@ -5,7 +5,7 @@ ghost use Rattle.std.specs.Prelude.{◌<ℤ◌, pos};
 use rhai_base::{OutOfMemory, Position};
 use std::alloc::AllocError;
 use std::fmt::{self, Display, Write};
-use text_source::{Refusal, Why};
+use syntax_source::{Refusal, Why};
 
 /// Why a call does not answer.
 #[derive(Debug, Drop)]

@@ -5,8 +5,8 @@ ghost use Rattle.rhai_c.specs.Options.{IsLevel, IsSyntax};
 
 use crate::codes::Failure;
 use rhai_optimizer::OptimizationLevel;
-use text_parser::ParseOptions;
-use text_source::Syntax;
+use syntax_parser::ParseOptions;
+use syntax_source::Syntax;
 
 /// What a caller may choose.
 #[repr(C)]

@@ -1,10 +1,10 @@
 //! Shows built-in scripts before and after the optimiser, and runs them.
 #![tactic(auto)]
 
+use demo::run_words;
 use std::process::ExitCode;
 use std::rt::Env;
 use std::{env, io};
-use tool_program::run_words;
 
 fn main(rt: HostRuntime) -> ExitCode {
     let words = match arguments(&rt) {

@@ -28,13 +28,13 @@ use Rattle.theory_soundness.proofs.soundness.Following.{keeps_then, refines_then
 use Rattle.theory_rewriting.proofs.kept.Kept.{captures_nothing_still, script_keeps}
 use Rattle.theory_soundness.proofs.soundness.Start.{agrees_inside}
 use Rattle.theory_soundness.proofs.soundness.Whole.{functions_same, optimised_refines, script_refines}
-use Rattle.opt_queries.specs.Walks.{capture_walk, listing}
+use Rattle.opt_base.specs.Walks.{capture_walk, listing}
 use Rattle.script_tables.specs.FnKey.{definition_key, definitions_table}
 use Rattle.script_tables.specs.Table.{key_of, put_by, put_all_by, table_of, are_distinct}
 use Rattle.script_tables.proofs.Laws.{own_table}
 use Rattle.script_tables.proofs.Tables.{map-put_all, are_distinct-put}
-use Rattle.opt_known.specs.declared.level.OptimizationLevel.{OptimizationLevel}
-use Rattle.opt_known.specs.declared.level.OptimizationLevel.TheVariants as level
+use Rattle.opt_base.specs.declared.level.OptimizationLevel.{OptimizationLevel}
+use Rattle.opt_base.specs.declared.level.OptimizationLevel.TheVariants as level
 use Rattle.rhai_script.specs.Contents.{Contents, meant}
 use Rattle.rhai_optimizer.specs.Functions.{header_of, FunctionsRun, no_functions}
 use Rattle.rhai_optimizer.specs.Optimised.{optimises_nothing, AreReducedBodies, Becomes, BodiesAgain, BodiesRun, IsReducedScript, Optimised, PartsOnce, PartsOptimised, PartsReduced, PassesCounted}

@@ -19,10 +19,10 @@ use Rattle.theory_rewriting.specs.Rewriting.{StmtsTo}
 use Rattle.theory_rewriting.specs.Scripts.{captures_nothing, known_at_top, known_inside}
 use Rattle.theory_rewriting.specs.Steps.{IsReducedBody}
 use Rattle.ast_types.specs.Reading.{stmts_of}
-use Rattle.opt_queries.specs.Walks.{listing}
+use Rattle.opt_base.specs.Walks.{listing}
 use Rattle.script_tables.specs.FnKey.{definitions_table}
-use Rattle.opt_known.specs.declared.level.OptimizationLevel.{OptimizationLevel}
-use Rattle.opt_known.specs.declared.level.OptimizationLevel.TheVariants as level
+use Rattle.opt_base.specs.declared.level.OptimizationLevel.{OptimizationLevel}
+use Rattle.opt_base.specs.declared.level.OptimizationLevel.TheVariants as level
 use Rattle.rhai_script.specs.Contents.{Contents, meant}
 use Rattle.rhai_optimizer.specs.Functions.{header_of, FunctionsRun}
 use Rattle.rhai_optimizer.specs.Passes.{Counts}

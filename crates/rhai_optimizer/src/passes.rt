@@ -3,12 +3,12 @@
 #![tactic(auto, using(ast_types::specs::Reading::shapes))]
 
 ghost use Rattle.std.specs.Prelude.{◌≡◌, IfOk, false};
-ghost use Rattle.opt_known.specs.State.{progress};
+ghost use Rattle.opt_base.specs.State.{progress};
 ghost use Rattle.rhai_optimizer.specs.Passes.{PassesRun};
 ghost use Rattle.ast_types.specs.Reading.{stmts_of};
 ghost use Rattle.opt_reducer.specs.Parts.{record_of};
 
-use opt_known::OptimizerState;
+use opt_base::OptimizerState;
 use opt_reducer::Optimizer;
 use rhai_ast::Stmt;
 use rhai_base::{OutOfMemory, Seq};

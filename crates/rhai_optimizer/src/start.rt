@@ -6,13 +6,13 @@ ghost use Rattle.std.specs.Prelude.{◌≡◌, ◌∷◌, None, OnOk, Some, cond
 ghost use Rattle.std.specs.Map.Iter.{deref};
 ghost use Rattle.std.specs.Option.{option_map};
 ghost use Rattle.rhai_base.specs.Reading.{value_of};
-ghost use Rattle.opt_known.specs.Bindings.{read};
-ghost use Rattle.opt_known.specs.State.{progress};
+ghost use Rattle.opt_base.specs.Bindings.{read};
+ghost use Rattle.opt_base.specs.State.{progress};
 ghost use Rattle.rhai_optimizer.specs.Scopes.{constants_onto, given_onto, known_onto};
 ghost use Rattle.base_engine.specs.EngineInfo.{engine_of};
 
 use base_engine::EngineInfo;
-use opt_known::OptimizerState;
+use opt_base::OptimizerState;
 use rhai_base::{Dynamic, ImmutableString, OutOfMemory, Scope};
 use std::alloc::Global;
 use std::borrow::Cow;

@@ -3,13 +3,13 @@
 use crate::asked::{ask_optimised, ask_script, read};
 use crate::case::{Case, Run};
 use crate::scripts;
+use demo::ProgramHost;
 use rhai_base::{Boxed, OutOfMemory, Scope};
 use rhai_optimizer::{OptimizationLevel, optimize_ast, optimize_counted, optimize_into_ast};
 use rhai_run::{EngineInfo, RunEnd, RunReport, Stuck, plain_run};
 use rhai_script::AST;
 use run_host::push_report;
 use tests_reader::{Said, Script, parting};
-use tool_samples::ProgramHost;
 
 /// How many turns a run has.
 const TURNS: u64 = 20;

@@ -2,12 +2,12 @@
 
 use crate::case::Case;
 use crate::copies;
+use notation_print::{push_lines, push_script};
 use rhai_ast::ASTNode;
 use rhai_script::AST;
 use script_queries::ScriptQueries;
+use syntax_source::{SourceError, source};
 use tests_reader::Said;
-use text_notation::{push_lines, push_script};
-use text_source::{SourceError, source};
 
 /// Asks all of a script: how it is printed in both syntaxes, what it has, a walk over it, what becomes of its copies.
 pub fn ask(case: &Case, script: &AST) {

@@ -1,9 +1,9 @@
 //! What a host answers.
 
 use crate::tried::Tried;
+use demo::ProgramHost;
 use rhai_base::{ImmutableString, OutOfMemory, Seq};
 use run_host::{Host, HostAnswer, HostCall, ask};
-use tool_samples::ProgramHost;
 
 /// The calls.
 pub const CALLS: &str = "ask ProgramHost::answer ProgramHost::module_value ProgramHost::module";

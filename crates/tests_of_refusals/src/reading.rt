@@ -1,7 +1,7 @@
 //! Texts that are read.
 
 use crate::tried::Tried;
-use text_reader::{ReadError, read_script, read_statements, read_value};
+use notation_read::{ReadError, read_script, read_statements, read_value};
 
 /// The calls.
 pub const CALLS: &str = "read_script read_statements read_value";

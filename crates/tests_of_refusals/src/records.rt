@@ -2,6 +2,8 @@
 
 use crate::scripts::{made, say_made, source};
 use crate::tried::Tried;
+use demo::{BuiltinScript, ProgramHost};
+use notation_print::{Notation, push_lines, push_script};
 use rhai_base::{Dynamic, Fault, OutOfMemory, Scope, Token};
 use rhai_optimizer::{
     OptimizationLevel, OptimizerState, optimize_ast, optimize_counted, optimize_into_ast,
@@ -12,8 +14,6 @@ use run_host::push_report;
 use std::alloc::Global;
 use std::borrow::Cow;
 use std::fmt::Write;
-use text_notation::{Notation, push_lines, push_script};
-use tool_samples::{BuiltinScript, ProgramHost};
 
 /// The calls.
 pub const CALLS: &str =

@@ -2,12 +2,12 @@
 
 use crate::trees;
 use crate::tried::{Tried, is_among};
+use notation_print::push_script;
 use rhai_ast::ScriptFuncDef;
 use rhai_base::{Boxed, OutOfMemory};
 use rhai_script::{AST, Doc, FnLib, SharedLib};
 use std::rc::Rc;
 use tests_reader::Script;
-use text_notation::push_script;
 
 /// The calls.
 pub const CALLS: &str =

@@ -1,10 +1,9 @@
 //! The program: a refused request ends with status 1, and what was written is a beginning of the answer.
 
 use crate::tried::Tried;
+use demo::{BuiltinScript, both_reports, run_words};
 use rhai_optimizer::OptimizationLevel;
 use std::io;
-use tool_program::{both_reports, run_words};
-use tool_samples::BuiltinScript;
 
 /// The calls.
 pub const CALLS: &str = "run_words/list run_words/show run_words/run both_reports";

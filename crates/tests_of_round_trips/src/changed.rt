@@ -6,8 +6,8 @@ use crate::texts::add;
 use rhai_optimizer::OptimizationLevel;
 use rhai_run::EngineInfo;
 use std::alloc::{AllocError, Global};
+use syntax_source::constants;
 use tests_reader::{Block, blocks_of};
-use text_source::constants;
 
 /// The levels that differ.
 static LEVELS: [OptimizationLevel; 2] = [OptimizationLevel::None, OptimizationLevel::Full];

@@ -8,9 +8,9 @@ use rhai_run::EngineInfo;
 use rhai_script::AST;
 use std::alloc::{AllocError, Global};
 use std::fmt::Write;
+use syntax_parser::compile;
+use syntax_source::{Refusal, Syntax, Why, merge};
 use tests_reader::{Block, blocks_of};
-use text_parser::compile;
-use text_source::{Refusal, Syntax, Why, merge};
 
 /// With how many texts each is merged.
 const REACH: usize = 16;

@@ -1,12 +1,12 @@
 //! Runs of scripts.
 
 use crate::trips::kept;
+use demo::ProgramHost;
 use rhai_base::{Dynamic, ImmutableString, OutOfMemory, Scope};
 use rhai_run::{EngineInfo, plain_run};
 use rhai_script::AST;
 use run_host::push_report;
 use std::alloc::{AllocError, Global};
-use tool_samples::ProgramHost;
 
 /// How many turns a run has.
 const TURNS: u64 = 300;

@@ -5,9 +5,9 @@ use crate::trips::trip_of;
 use rhai_run::EngineInfo;
 use rhai_script::AST;
 use std::alloc::{AllocError, Global};
+use syntax_parser::compile;
+use syntax_source::constants;
 use tests_reader::{Block, blocks_of};
-use text_parser::compile;
-use text_source::constants;
 
 /// Says what comes of the texts of these blocks.
 pub(crate) fn ask(alloc: Global, rows: &str) -> Result<String, AllocError> {

@@ -6,7 +6,7 @@ use rhai_optimizer::{OptimizationLevel, optimize_ast};
 use rhai_run::EngineInfo;
 use rhai_script::AST;
 use std::alloc::{AllocError, Global};
-use text_source::{Refusal, SourceError, Syntax, Why, Written, optimize_text, source};
+use syntax_source::{Refusal, SourceError, Syntax, Why, Written, optimize_text, source};
 
 /// What comes of a script at a level.
 #[derive(Drop)]

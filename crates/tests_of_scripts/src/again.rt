@@ -5,6 +5,7 @@ use crate::given::Given;
 use crate::long::numbered_text;
 use crate::nodes::places;
 use crate::scripts::printed;
+use demo::BuiltinScript;
 use rhai_ast::ScriptFuncDef;
 use rhai_base::{Boxed, OutOfMemory, Scope};
 use rhai_optimizer::{OptimizationLevel, optimize_counted};
@@ -12,7 +13,6 @@ use rhai_run::EngineInfo;
 use rhai_script::AST;
 use std::rc::Rc;
 use tests_reader::{Said, Script, split};
-use tool_samples::BuiltinScript;
 
 /// What a script is optimised to, and how many passes are made over its statements.
 pub fn counted(

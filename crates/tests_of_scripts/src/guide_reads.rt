@@ -1,10 +1,10 @@
 //! The pieces of docs/GUIDE.md on scripts from text.
 
+use notation_print::{Notation, push_script};
+use notation_read::{ReadError, read_script};
 use rhai_base::OutOfMemory;
 use std::alloc::Global;
 use std::fmt::Write;
-use text_notation::{Notation, push_script};
-use text_reader::{ReadError, read_script};
 
 /// A script of two statements and a function.
 const TEXT: &str = "let x = 40\ncall log(answer(x))\nfn answer(n) { +(n, 2) }\n";

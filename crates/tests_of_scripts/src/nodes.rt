@@ -2,7 +2,8 @@
 
 use crate::again;
 use crate::record::say_value;
-use opt_folding::{constant_bool, folded};
+use notation_print::push_lines;
+use opt_base::{constant_bool, folded};
 use opt_rules::{Place, reduce_expr, reduce_stmt};
 use rhai_ast::{ASTNode, Expr, FnCallExpr, NodeQueries, Stmt, walk_statements};
 use rhai_base::Position;
@@ -11,7 +12,6 @@ use rhai_run::EngineInfo;
 use rhai_script::{AST, FnLib};
 use std::rc::Rc;
 use tests_reader::{Said, Script};
-use text_notation::push_lines;
 
 pub fn answer(question: &str, info: &EngineInfo, text: &str, said: &Said) {
     match question {

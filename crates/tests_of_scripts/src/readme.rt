@@ -1,6 +1,7 @@
 //! A sum is optimised and run, over the crates one by one. The example of the README, `example_first`, is over
 //! `rhai_lang` alone.
 
+use notation_print::push_script;
 use rhai_ast::{Expr, FnCallExpr, Stmt};
 use rhai_base::{Boxed, ImmutableString, Namespace, OutOfMemory, Position, Scope, Seq, Token};
 use rhai_optimizer::{OptimizationLevel, optimize_into_ast};
@@ -8,7 +9,6 @@ use rhai_run::{EngineInfo, plain_run};
 use rhai_script::AST;
 use run_host::{UnitHost, push_report};
 use std::alloc::Global;
-use text_notation::push_script;
 
 /// `40 + 2;`, as a parser would build it.
 fn sum(alloc: Global) -> Result<Stmt, OutOfMemory> {

@@ -1,13 +1,13 @@
 //! What is read back of what is printed, and what is said of a text that is not read.
 
 use crate::scripts::printed;
+use demo::BuiltinScript;
+use notation_read::{ReadError, read_script, read_statements, read_value};
 use rhai_ast::{FnAccess, ScriptFuncDef, StmtQueries};
 use rhai_script::{AST, FnLib};
 use std::alloc::Global;
 use std::rc::Rc;
 use tests_reader::Said;
-use text_reader::{ReadError, read_script, read_statements, read_value};
-use tool_samples::BuiltinScript;
 
 pub fn answer(question: &str, text: &str, said: &Said) {
     match question {

@@ -1,11 +1,11 @@
 //! Reports of runs that are stuck, in print, and what the program's host answers.
 
 use crate::record::say_value;
+use demo::ProgramHost;
 use rhai_base::{Dynamic, Seq};
 use rhai_run::{Host, HostAnswer, HostCall, RunEnd, RunReport, Stuck};
 use run_host::push_report;
 use tests_reader::{Said, split};
-use tool_samples::ProgramHost;
 
 pub fn answer(question: &str, text: &str, said: &Said) {
     match question {

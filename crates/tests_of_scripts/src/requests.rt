@@ -1,11 +1,10 @@
 //! What the program answers to words, and how it ends where a write or a flush is refused.
 
 use crate::scripts::level_named;
+use demo::{BuiltinScript, Request, both_reports, run_words};
 use std::alloc::Global;
 use std::str;
 use tests_reader::{Said, Stops, Told};
-use tool_program::{Request, both_reports, run_words};
-use tool_samples::BuiltinScript;
 
 pub fn answer(question: &str, text: &str, said: &Said) {
     match question {

@@ -4,6 +4,8 @@
 use crate::given::{Given, read_given};
 use crate::nodes::{places, places_read};
 use crate::{again, functions, long, names, nodes, reads, shown};
+use demo::ProgramHost;
+use notation_print::push_script;
 use rhai_ast::{FnAccess, FnNamespace, Stmt, StmtQueries};
 use rhai_base::{Boxed, OutOfMemory};
 use rhai_optimizer::{OptimizationLevel, optimize_into_ast};
@@ -11,8 +13,6 @@ use rhai_run::{RunReport, plain_run};
 use rhai_script::AST;
 use run_host::push_report;
 use tests_reader::{Said, Script, parting, split};
-use text_notation::push_script;
-use tool_samples::ProgramHost;
 
 /// What stands between what a run is given and the script, and between two scripts.
 const BETWEEN: &str = "----\n";

@@ -1,10 +1,10 @@
 //! What `{}` and `{:?}` print.
 
+use notation_print::Notation;
+use notation_read::read_script;
 use rhai_ast::Stmt;
 use rhai_script::AST;
 use tests_reader::Said;
-use text_notation::Notation;
-use text_reader::read_script;
 
 /// A script by `{}`; then by `{:?}` its functions, its statements and some of their parts.
 pub fn answer(text: &str, said: &Said) {

@@ -2,16 +2,16 @@
 //! optimised to.
 
 use crate::spelled::{optimized, read_again};
+use demo::ProgramHost;
+use notation_read::read_script;
 use rhai_base::{OutOfMemory, Scope};
 use rhai_run::{EngineInfo, plain_run};
 use rhai_script::AST;
 use run_host::push_report;
 use std::alloc::{AllocError, Global};
 use std::fmt::Write;
+use syntax_source::{SourceError, Written, push_source, source};
 use tests_reader::{Block, blocks_of};
-use text_reader::read_script;
-use text_source::{SourceError, Written, push_source, source};
-use tool_samples::ProgramHost;
 
 /// How many turns a run has.
 const TURNS: u64 = 50;

@@ -1,14 +1,14 @@
 //! Scripts in print, read again.
 
+use ast_same::same_script;
+use notation_print::push_script;
+use notation_read::read_script;
 use rhai_optimizer::{OptimizationLevel, optimize_ast};
 use rhai_run::EngineInfo;
 use rhai_script::AST;
 use std::alloc::{AllocError, Global};
-use text_notation::push_script;
-use text_parser::{ParseOptions, compile, compile_with};
-use text_reader::read_script;
-use text_same::same_script;
-use text_spelling::push_spelled;
+use syntax_parser::{ParseOptions, compile, compile_with};
+use syntax_print::push_spelled;
 
 /// What the text of a tree of the notation is read as, or that the tree is refused, as one or in print.
 pub(crate) fn told(alloc: Global, tree: &str) -> Result<String, AllocError> {

@@ -1,12 +1,12 @@
 //! Texts of scripts.
 
 use crate::spelled::{optimized, unbounded};
+use notation_read::read_script;
 use rhai_script::AST;
 use std::alloc::{AllocError, Global};
 use std::fmt::Write;
-use text_parser::{compile, compile_with};
-use text_reader::read_script;
-use text_spelling::{push_spelled, spelled};
+use syntax_parser::{compile, compile_with};
+use syntax_print::{push_spelled, spelled};
 
 /// The text of a tree of the notation, and behind it the functions of its closures.
 pub(crate) fn of_tree(alloc: Global, tree: &str) -> Result<String, AllocError> {

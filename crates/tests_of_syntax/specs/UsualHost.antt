@@ -2,7 +2,7 @@
 use Rattle.std.specs.Prelude.{None, true, false, pos, codes, if◌then◌else◌, ◌||◌}
 use Rattle.rhai_base.specs.Value.{BoolV, IntV, same_text}
 use Rattle.theory_meaning.specs.Act.{HostCall, Answer, Answers}
-use Rattle.tool_samples.specs.ProgramHost.{program_answer}
+use Rattle.demo.specs.ProgramHost.{program_answer}
 
 abbrev pub usual_answer : HostCall → Answer
 usual_answer c =

@@ -2,7 +2,7 @@
 
 use crate::places::line_and_column;
 use std::alloc::{AllocError, Global};
-use text_parser::{ParseError, ParseErrorType, compile};
+use syntax_parser::{ParseError, ParseErrorType, compile};
 
 /// Line, column and the name of the reason, by which a text is refused.
 pub(crate) fn told(alloc: Global, text: &str) -> Result<String, AllocError> {

@@ -3,8 +3,8 @@
 
 use rhai_base::Position;
 use std::alloc::{AllocError, Global};
+use syntax_parser::compile;
 use tests_reader::blocks_of;
-use text_parser::compile;
 
 /// How many texts were asked, and how many of them were refused where they have no place.
 #[derive(Clone, Copy)]

@@ -7,7 +7,7 @@ use script_queries::ScriptQueries;
 use std::alloc::{AllocError, Global};
 use std::cell::Cell;
 use std::fmt::Write;
-use text_parser::compile;
+use syntax_parser::compile;
 
 /// The places of a text's nodes, in the order of a walk.
 pub(crate) fn told(alloc: Global, text: &str) -> Result<String, AllocError> {

@@ -8,8 +8,8 @@ use rhai_script::AST;
 use run_host::push_report;
 use std::alloc::{AllocError, Global};
 use std::fmt::Write;
+use syntax_parser::compile;
 use tests_reader::{Block, blocks_of};
-use text_parser::compile;
 
 /// How many turns a run has.
 const TURNS: u64 = 500;

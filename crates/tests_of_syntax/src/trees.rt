@@ -1,13 +1,13 @@
 //! The trees of scripts.
 
 use crate::places::line_and_column;
+use notation_print::push_script;
 use rhai_ast::{FnAccess, ScriptFuncDef};
 use rhai_script::AST;
 use std::alloc::{AllocError, Global};
 use std::fmt::Write;
 use std::rc::Rc;
-use text_notation::push_script;
-use text_parser::{ParseError, ParseOptions, compile, compile_expression, compile_with};
+use syntax_parser::{ParseError, ParseOptions, compile, compile_expression, compile_with};
 
 /// What a text becomes.
 pub(crate) fn told(alloc: Global, text: &str) -> Result<String, AllocError> {

@@ -5,10 +5,10 @@ ghost use Rattle.rhai_base.specs.Reading.{value_of};
 ghost use Rattle.theory_meaning.specs.Act.{Answers};
 ghost use Rattle.run_host.specs.Host.{answer_meant};
 
+use demo::ProgramHost;
 use rhai_base::{Dynamic, ImmutableString, OutOfMemory};
 use run_host::{Host, HostAnswer, HostCall};
 use std::alloc::Global;
-use tool_samples::ProgramHost;
 
 /// Answers by the name alone that a length is 3, that all is contained, and that what is not built in is neither less
 /// nor more; what else is asked as the program's host does.
@@ -16,7 +16,7 @@ pub(crate) struct UsualHost;
 
 impl Host for UsualHost {
     ghost use Rattle.tests_of_syntax.specs.UsualHost.{usual_answer};
-    ghost use Rattle.tool_samples.specs.ProgramHost.{program_modules};
+    ghost use Rattle.demo.specs.ProgramHost.{program_modules};
 
     ghost answers = { λ host past call. usual_answer call };
 

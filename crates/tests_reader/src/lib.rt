@@ -1,4 +1,4 @@
-//! Reads what is asked for tests, by text_node_reader, and what a run is given. Asks the questions of rows, and takes
+//! Reads what is asked for tests, by notation_read, and what a run is given. Asks the questions of rows, and takes
 //! what is said to them.
 #![tactic(auto)]
 
@@ -14,8 +14,8 @@ mod stops;
 
 pub use blocks::{Block, BlockQuestion, ask_blocks, blocks_of};
 pub use following::parting;
+pub use notation_read::Script;
 pub use questions::{Answers, ask_all};
 pub use rows::{AnswerRow, read_answer, read_binding};
 pub use said::{Said, split};
 pub use stops::{Stops, Told};
-pub use text_node_reader::Script;

@@ -1,9 +1,9 @@
 //! Words before nodes that no printed text shows.
 
+use notation_read::Marks;
 use rhai_ast::{Expr, FnCallExpr, Stmt, Take};
 use rhai_base::{ASTFlags, Boxed, ImmutableString, OutOfMemory, Position, StringMap, Token};
 use std::alloc::Global;
-use text_node_reader::Marks;
 
 /// Before what stands alone as at the right of a `.`
 const ALONE: &str = "alone ";

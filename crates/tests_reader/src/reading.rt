@@ -2,9 +2,9 @@
 
 use crate::odd::{Odd, link_of};
 use crate::said::Said;
+use notation_read::{ReadError, Script, parse_value, read_lines, read_parts};
 use rhai_ast::{Expr, Stmt};
 use rhai_base::{Boxed, Dynamic, FnPtr};
-use text_node_reader::{ReadError, Script, read_lines, read_parts, read_value};
 
 impl Said {
     /// What was read, or a copy of it.
@@ -55,8 +55,8 @@ impl Said {
     /// `Fn(f) with 1`.
     pub fn value_of(&self, text: &str) -> Option<Dynamic> {
         let mut value = match text.strip_suffix(" with 1") {
-            Some(text) => self.curried(self.read(read_value(self.alloc, text))?),
-            None => self.read(read_value(self.alloc, text))?,
+            Some(text) => self.curried(self.read(parse_value(self.alloc, text))?),
+            None => self.read(parse_value(self.alloc, text))?,
         };
         if self.copies {
             value = self.copied(&value)?;

@@ -1,11 +1,11 @@
 //! What is said to a question.
 
+use notation_read::ReadError;
 use rhai_base::{Boxed, Dynamic, ImmutableString, Position};
 use std::alloc::Global;
 use std::cell::Cell;
 use std::fmt::{Debug, Display, Write};
 use std::rc::Rc;
-use text_node_reader::ReadError;
 
 /// Why a text is not what is asked about.
 #[derive(Clone, Copy)]

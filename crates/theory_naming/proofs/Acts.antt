@@ -1,116 +1,26 @@
 -- Acts that run alike but for names.
-use Rattle.std.proofs.Common.{◌≡◌, ℕ, zero, suc, ◌+◌, ◌-◌, ℤ, Bool, true, false, not, cond, ◌&&◌, List, [], ◌∷◌, ◌++◌, length, drop, map, Option, Some, None, refl, ap, sym, subst, ◌∙◌}
-use Rattle.std.specs.Prelude.{option_map, codes, slice_get}
-use Rattle.rhai_base.specs.Value.{Text, Value, TextV, same_text}
-use Rattle.theory_meaning.specs.Engine.{Engine, constant_named}
-use Rattle.theory_meaning.specs.Act.{EntryKind, IsConstant, ScopeEntry, is_constant, is_name, is_alias, HostCall, Answer, Host, Key, World, Store, Stuck, IsStuck, OutOfTurns, Unbound, WriteToConstant, UnboundThis, Again, Ending, Leaves, Outcome, Result, Root, OfName, OfThis, ScriptCall, Act, Stop, Fail, Then, Turn, Read, Write, Resolve, AskHost, Invoke, Loop, Scoped, Acts, Only, Do, Named, Finish, Env, and_then, with_turn, found, put, module_name, resolved, read, read_this, write_at, write, write_this, restore, leave, call_then, returned, returned_outcome, on_again, rounds, run, run_all}
-use Rattle.theory_naming.specs.Naming.{OptionOf, both_none, both_some, ListOf, both_empty, both_more, Like, unit_like, bool_like, int_like, char_like, text_like, array_like, map_like, pointer_like, range_like, inclusive_like, Likes, MaybeLike, EntryLike, entry_like, HostName, CallLike, call_like, AnswerLike, answers_like, throws_like, HostLike, StoreLike, ExitLike, returns_like, breaks_like, continues_like, throw_like, again_like, EndingLike, gives_like, leaves_like, OutcomeLike, ended_like, halted_like, ResultLike, at_like, KeyLike, ScriptCallLike, script_call_like}
-use Rattle.theory_naming.proofs.Values.{length_kept, append_like, if_like, map_both, slice_like, type_kept, types_kept, unit_kept, truth_kept, items_like, values_like, element_like, entry_kept, along_like, with_along_like, character_like, bit_like, chosen_kept, same_kept, with_entries_like}
-use Rattle.theory_naming.specs.Naming.{as_it_is, as_a_function, key_like, ComputedLike, no_entry_like, is_like, overflows_like, CurrentLike, current_like, AccessLike, of_property_like, of_index_like, of_method_like, CalleeLike, operator_like, qualified_like, by_name_like, IsFn, Total, none_like, no_fields_like, PairLike, named_like, ExprLike, ill_like, constant_like, interpolated_like, array_of_like, map_of_like, variable_like, module_variable_like, module_of_like, this_like, block_expr_like, call_expr_like, fn_like, chain_like, and_like, or_like, coalesce_like, ExprsLike, no_exprs_like, expr_like, PairsLike, no_pairs_like, pair_like, BaseLike, on_place_like, on_value_like, StepLike, ill_step_like, property_like, index_like, method_like, StepsLike, last_like, more_like, TargetLike, ill_target_like, nowhere_like, to_root_like, to_part_like, GuardLike, always_like, when_like, ArmsLike, no_arms_like, arm_like, unlisted_like, DeedLike, ill_deed_like, noop_like, if_deed_like, switch_like, while_like, do_like, for_like, assignment_like, block_like, try_like, evaluate_like, discard_like, leave_like, StmtLike, var_like, does_like, StmtsLike, no_stmts_like, stmt_like, FunctionLike, function_like, ScriptLike, EntryPointLike, at_statements_like, at_function_like}
-use Rattle.std.specs.Prelude.{◌||◌, if◌then◌else◌, pos, ◌+ℤ◌, ◌^◌, nat_lt}
+use Rattle.std.proofs.Common.{◌≡◌, ℕ, zero, suc, ◌+◌, ◌-◌, ℤ, Bool, true, false, not, cond, ◌&&◌, List, [], ◌∷◌, ◌++◌, length, Option, Some, None, refl, sym, subst}
+use Rattle.std.specs.Prelude.{option_map, codes, slice_get, ◌||◌, if◌then◌else◌, pos, ◌+ℤ◌, ◌^◌, nat_lt}
+use Rattle.rhai_base.specs.Value.{Text, Value, TextV, same_text, type_name, text_of, PointerV, values}
+use Rattle.theory_meaning.specs.Engine.{Engine, constant_named, has_override, is_open, built_in, has_entry, assigning, mapped_name, mapped_type_name}
+use Rattle.theory_meaning.specs.Act.{EntryKind, IsConstant, ScopeEntry, is_constant, is_name, HostCall, Answer, Host, Key, World, Store, Stuck, IsStuck, Unbound, WriteToConstant, UnboundThis, Again, Ending, Leaves, Root, OfName, OfThis, ScriptCall, Act, Stop, Fail, Then, Turn, Read, Write, Resolve, AskHost, Invoke, Loop, Scoped, Acts, Only, Do, Named, Finish, Env, found, resolved, read, read_this, write_at, write, write_this, rounds, run, run_all, IsVariable, WrongKind, NoPlace, UnknownModule, CounterTooLarge, IsExport}
+use Rattle.theory_naming.specs.Naming.{OptionOf, both_none, both_some, ListOf, both_empty, both_more, Like, unit_like, bool_like, int_like, char_like, text_like, array_like, map_like, pointer_like, range_like, inclusive_like, Likes, MaybeLike, EntryLike, entry_like, HostName, CallLike, call_like, AnswerLike, answers_like, throws_like, HostLike, StoreLike, ExitLike, returns_like, breaks_like, continues_like, throw_like, again_like, EndingLike, gives_like, leaves_like, ended_like, halted_like, ResultLike, at_like, KeyLike, ScriptCallLike, script_call_like, as_it_is, as_a_function, key_like, ComputedLike, no_entry_like, is_like, overflows_like, CurrentLike, current_like, AccessLike, of_property_like, of_index_like, of_method_like, CalleeLike, operator_like, qualified_like, by_name_like, IsFn, Total, none_like, no_fields_like, PairLike, named_like, ExprLike, ill_like, constant_like, interpolated_like, array_of_like, map_of_like, variable_like, module_variable_like, module_of_like, this_like, block_expr_like, call_expr_like, fn_like, chain_like, and_like, or_like, coalesce_like, ExprsLike, no_exprs_like, expr_like, PairsLike, no_pairs_like, pair_like, BaseLike, on_place_like, on_value_like, StepLike, ill_step_like, property_like, index_like, method_like, StepsLike, last_like, more_like, TargetLike, ill_target_like, nowhere_like, to_root_like, to_part_like, GuardLike, always_like, when_like, ArmsLike, no_arms_like, arm_like, unlisted_like, DeedLike, ill_deed_like, noop_like, if_deed_like, switch_like, while_like, do_like, for_like, assignment_like, block_like, try_like, evaluate_like, discard_like, leave_like, StmtLike, var_like, does_like, StmtsLike, no_stmts_like, stmt_like}
+use Rattle.theory_naming.proofs.Values.{length_kept, append_like, if_like, map_both, type_kept, types_kept, unit_kept, truth_kept, items_like, values_like, element_like, entry_kept, along_like, with_along_like, character_like, bit_like, chosen_kept, same_kept, with_entries_like}
 use Rattle.base_tokens.specs.Names.{is_valid_name}
-use Rattle.rhai_base.specs.Value.{type_name, text_of, PointerV, values}
 use Rattle.rhai_base.specs.Operators.{Operator, Computed, NoEntry, symbol, computed, is_range}
-use Rattle.theory_meaning.specs.Act.{IsVariable, WrongKind, NoPlace, UnknownModule, CounterTooLarge}
 use Rattle.theory_meaning.specs.ActForms.{give, unit, throw, value_then, ◌>>=◌, each_value, then_line, choose, truth, branch, if_true, on_throw, end_round, again_then, of_constant, answered, ask_host, ask_method}
-use Rattle.theory_meaning.specs.Engine.{has_override, is_open, built_in, has_entry, assigning, mapped_name, mapped_type_name}
 use Rattle.theory_meaning.specs.Calls.{of_table, operate, assigned, pointer_to, curried, has_key, key, call_named, call_pointer, Word, ToHost, TypeOf, IsShared, Fn, Curry, CallFn, NoWord, word, call_word, within, called}
 use Rattle.theory_meaning.specs.Chains.{Access, or_throw, ask_for, property, index, after_method, method_key, to_method, value_alone, method, applied, unless_unit, set_by_host, set_element, set_property, set_index, set_at, assign_last, assign_root}
 use Rattle.theory_meaning.specs.Control.{texts_joined, ArmActs, try_arm, first_arm, answer_of, default_of, chosen, switch_on, round, while_guarded, do_loop, counted, for_each, for_count, for_all, named, end_branch, try_of}
-use Rattle.theory_meaning.specs.Core.{Callee, ByName, ExitKind, Breaking, Continuing, Returning, Throwing, Expr, Exprs, Pairs, Base, Step, Steps, Target, Guard, Arms, Deed, Stmt, Stmts, Function, Script}
-use Rattle.theory_meaning.specs.Act.{IsExport}
-use Rattle.theory_meaning.specs.Calls.{same_key}
-use Rattle.theory_meaning.specs.Run.{key_of, function_of, bind, seen, entered, body_acts, call_body, invoke_at, env_at, world_of, EntryPoint, run_at, run_script}
+use Rattle.theory_meaning.specs.Core.{Callee, ByName, ExitKind, Breaking, Continuing, Returning, Throwing, Expr, Exprs, Pairs, Base, Step, Steps, Target, Guard, Arms, Deed, Stmt, Stmts}
+use Rattle.theory_meaning.specs.Run.{body_acts}
 use Rattle.theory_meaning.specs.Meaning.{exit, wanted_value, text, module_known, module_at, exporting, act, with_args, with_pairs, both, either, first_some, at_base, access, steps, assign_steps, assign, arm_acts, loop, deed, line, acts}
 use Rattle.theory_meaning.specs.Places.{Place, Current, or_no_place, read_place, write_place, refreshed, put_back}
 use Rattle.theory_meaning.specs.Shape.{names_arm}
 use Rattle.theory_meaning.specs.Tree.{PropertyNames, SwitchTable}
 use Rattle.theory_meaning.specs.Walk.{listed, arm_of_default}
 use Rattle.theory_naming.proofs.Listed.{AreListed, chosen_listed, default_listed, next_named, first_named, not_named}
-
-drop_like : {A : Type 0} {R : A → A → Type 0} (n : ℕ) {xs ys : List A} → ListOf R xs ys → ListOf R (drop n xs) (drop n ys)
-drop_like zero h = h
-drop_like (suc n) both_empty = both_empty
-drop_like (suc n) (both_more h k) = drop_like n k
-
-module _ {N : Text → Text → Type 0} where
-  -- ---- scopes
-
-  restore_like : {es fs gs hs : List ScopeEntry} → ListOf (EntryLike N) es fs → ListOf (EntryLike N) gs hs → ListOf (EntryLike N) (restore es gs) (restore fs hs)
-  restore_like {es = es} {fs = fs} {gs = gs} {hs = hs} h k =
-      subst (λ n. ListOf (EntryLike N) (restore es gs) (drop n hs)) (λ i. length_kept k i - length_kept h i) (drop_like (length gs - length es) k)
-
-  module_kept : {v w : Value} → Like N v w → module_name v ≡ module_name w
-  module_kept unit_like = refl
-  module_kept (bool_like b) = refl
-  module_kept (int_like n) = refl
-  module_kept (char_like c) = refl
-  module_kept (text_like t) = refl
-  module_kept (array_like h) = refl
-  module_kept (map_like h) = refl
-  module_kept (pointer_like n h) = refl
-  module_kept (range_like a b) = refl
-  module_kept (inclusive_like a b) = refl
-
-  resolved_kept : {es fs : List ScopeEntry} → ListOf (EntryLike N) es fs → (a : Text) → resolved es a ≡ resolved fs a
-  resolved_kept both_empty a = refl
-  resolved_kept (both_more (entry_like x k h) r) a = λ i. cond (is_alias k && same_text x a) (module_kept h i) (resolved_kept r a i)
-
-  or_found : (b : Bool) {e f : ScopeEntry} {o p : Option ScopeEntry} → EntryLike N e f → OptionOf (EntryLike N) o p → OptionOf (EntryLike N) (cond b (Some e) o) (cond b (Some f) p)
-  or_found true h k = both_some h
-  or_found false h k = k
-
-  or_put : (b : Bool) {es fs gs hs : List ScopeEntry} → ListOf (EntryLike N) es fs → ListOf (EntryLike N) gs hs → ListOf (EntryLike N) (cond b es gs) (cond b fs hs)
-  or_put true h k = h
-  or_put false h k = k
-
-  put_like : {es fs : List ScopeEntry} → ListOf (EntryLike N) es fs → (x : Text) {v w : Value} → Like N v w → ListOf (EntryLike N) (put es x v) (put fs x w)
-  put_like both_empty x h = both_empty
-  put_like (both_more (entry_like y k j) r) x h = or_put (is_name k && same_text y x) (both_more (entry_like y k h) r) (both_more (entry_like y k j) (put_like r x h))
-
-  -- ---- results
-
-  pub then_like : {r r' : Result} → ResultLike N r r' → (f f' : Ending → Store → ℕ → Result) → ((e e' : Ending) → EndingLike N e e' → (s s' : Store) → StoreLike N s s' → (t : ℕ) → ResultLike N (f e s t) (f' e' s' t)) → ResultLike N (and_then r f) (and_then r' f')
-  then_like (at_like t (ended_like h) s) f f' k = k _ _ h _ _ s t
-  then_like (at_like t (halted_like x) s) f f' k = at_like t (halted_like x) s
-
-  pub turn_like : (t : ℕ) {s s' : Store} → StoreLike N s s' → (f f' : Store → ℕ → Result) → ((t1 : ℕ) → ResultLike N (f s t1) (f' s' t1)) → ResultLike N (with_turn t s f) (with_turn t s' f')
-  turn_like zero h f f' k = at_like zero (halted_like OutOfTurns) h
-  turn_like (suc t) h f f' k = k t
-
-  leave_like' : {es fs : List ScopeEntry} → ListOf (EntryLike N) es fs → {r r' : Result} → ResultLike N r r' → ResultLike N (leave es r) (leave fs r')
-  leave_like' h (at_like t o s) = at_like t o (record { scope = restore_like h s.scope; this = s.this; calls = s.calls })
-
-  called_like : {s s' : Store} → StoreLike N s s' → {r r' : Result} → ResultLike N r r' → (f f' : Value → Option Value → Store → ℕ → Result) → ((v w : Value) → Like N v w → (o p : Option Value) → MaybeLike N o p → (s1 s2 : Store) → StoreLike N s1 s2 → (t : ℕ) → ResultLike N (f v o s1 t) (f' w p s2 t)) → ResultLike N (call_then s r f) (call_then s' r' f')
-  called_like q (at_like t (ended_like (gives_like h)) s) f f' k = k _ _ h _ _ s.this _ _ (record { scope = q.scope; this = q.this; calls = s.calls }) t
-  called_like q (at_like t (ended_like (leaves_like x)) s) f f' k = at_like t (ended_like (leaves_like x)) (record { scope = q.scope; this = q.this; calls = s.calls })
-  called_like q (at_like t (halted_like x) s) f f' k = at_like t (halted_like x) (record { scope = q.scope; this = q.this; calls = s.calls })
-
-  outcome_kept : {o p : Outcome} → OutcomeLike N o p → OutcomeLike N (returned_outcome o) (returned_outcome p)
-  outcome_kept (ended_like (gives_like h)) = ended_like (gives_like h)
-  outcome_kept (ended_like (leaves_like (returns_like h))) = ended_like (gives_like h)
-  outcome_kept (ended_like (leaves_like (throw_like h))) = ended_like (leaves_like (throw_like h))
-  outcome_kept (ended_like (leaves_like (breaks_like h))) = halted_like _
-  outcome_kept (ended_like (leaves_like continues_like)) = halted_like _
-  outcome_kept (ended_like (leaves_like again_like)) = halted_like _
-  outcome_kept (halted_like x) = halted_like x
-
-  pub returned_like : {r r' : Result} → ResultLike N r r' → ResultLike N (returned r) (returned r')
-  returned_like (at_like t o s) = at_like t (outcome_kept o) s
-
-  on_again_like : {e e' : Ending} → EndingLike N e e' → (f f' : Store → ℕ → Result) {s s' : Store} → StoreLike N s s' → (t : ℕ) → ResultLike N (f s t) (f' s' t) → ResultLike N (on_again e f s t) (on_again e' f' s' t)
-  on_again_like (leaves_like again_like) f f' h t k = k
-  on_again_like (gives_like q) f f' h t k = at_like t (ended_like (gives_like q)) h
-  on_again_like (leaves_like (returns_like q)) f f' h t k = at_like t (ended_like (leaves_like (returns_like q))) h
-  on_again_like (leaves_like (breaks_like q)) f f' h t k = at_like t (ended_like (leaves_like (breaks_like q))) h
-  on_again_like (leaves_like continues_like) f f' h t k = at_like t (ended_like (leaves_like continues_like)) h
-  on_again_like (leaves_like (throw_like q)) f f' h t k = at_like t (ended_like (leaves_like (throw_like q))) h
-
-  rounds_like : (n : ℕ) (f f' : Store → ℕ → Result) → ((s s' : Store) → StoreLike N s s' → (t : ℕ) → ResultLike N (f s t) (f' s' t)) → {s s' : Store} → StoreLike N s s' → (t : ℕ) → ResultLike N (rounds n f s t) (rounds n f' s' t)
-  rounds_like zero f f' k h t = then_like (k _ _ h t) _ _ (λ e e' q s s' j t1. on_again_like q _ _ j t1 (at_like t1 (halted_like OutOfTurns) j))
-  rounds_like (suc n) f f' k h t = then_like (k _ _ h t) _ _ (λ e e' q s s' j t1. on_again_like q _ _ j t1 (rounds_like n f f' k j t1))
-
--- ---- acts
+use Rattle.theory_naming.proofs.Scopes.{resolved_kept, or_found, put_like, then_like, turn_like, leave_like', called_like, returned_like, rounds_like}
 
 module _ (N : Text → Text → Type 0) (engine : Engine) (known : (x : Text) → MaybeLike N (constant_named engine.constants x) (constant_named engine.constants x)) (h h' : Host) (hosts : HostLike N h h') (ks ls : List Key) where
   abbrev pub w : World
@@ -816,77 +726,3 @@ module _ (N : Text → Text → Type 0) (engine : Engine) (known : (x : Text) �
 
       pub r_body : {ss rs : Stmts} → StmtsLike N ss rs → Rs (body_acts w ss) (body_acts w' rs)
       r_body h = r_finish (r_acts true h unit_like)
-
--- ---- script calls and whole runs
-
-module _ {N : Text → Text → Type 0} where
-  bind_like : (xs : List Text) {vs ws : List Value} → Likes N vs ws → {es fs : List ScopeEntry} → ListOf (EntryLike N) es fs → ListOf (EntryLike N) (bind xs vs es) (bind xs ws fs)
-  bind_like [] h k = k
-  bind_like (x ∷ xs) both_empty k = k
-  bind_like (x ∷ xs) (both_more h j) k = bind_like xs j (both_more (entry_like x IsVariable h) k)
-
-  seen_like : (b : Bool) {es fs : List ScopeEntry} → ListOf (EntryLike N) es fs → ListOf (EntryLike N) (seen b es) (seen b fs)
-  seen_like true h = h
-  seen_like false h = both_empty
-
-  entered_like : (lends : Bool) {f g : Function} → FunctionLike N f g → {a b : ScriptCall} → ScriptCallLike N a b → {es fs : List ScopeEntry} → ListOf (EntryLike N) es fs → {cs ds : List HostCall} → ListOf (CallLike N) cs ds → StoreLike N (entered lends f a es cs) (entered lends g b fs ds)
-  entered_like lends (function_like f g t xs body) (script_call_like b k o h) j l = record { scope = bind_like xs h (seen_like (lends && b) j); this = o; calls = l }
-
-abbrev is_some : {A : Type 0} → Option A → Bool
-is_some None = false
-is_some (Some a) = true
-
-some_or : (b : Bool) (f : Function) (o : Option Function) → (b || is_some o) ≡ is_some (cond b (Some f) o)
-some_or true f o = refl
-some_or false f o = refl
-
-has_function : (fs : List Function) (k : Key) → has_key (map key_of fs) k ≡ is_some (function_of fs k)
-has_function [] k = refl
-has_function (f ∷ fs) k = ap (λ b. same_key (key_of f) k || b) (has_function fs k) ∙ some_or (same_key (key_of f) k) f (function_of fs k)
-
-both_some_or_none : {A : Type 0} {S : A → A → Type 0} {o p : Option A} → OptionOf S o p → is_some o ≡ is_some p
-both_some_or_none both_none = refl
-both_some_or_none (both_some h) = refl
-
-module _ (N : Text → Text → Type 0) (one : (f f' g g' : Text) → N f f' → N g g' → same_text f g ≡ same_text f' g') (texts : (v v' : Value) → Like N v v' → text_of v ≡ text_of v') (table : (op : Operator) (vs ws : List Value) → Likes N vs ws → ComputedLike N (computed op vs) (computed op ws)) (engine : Engine) (known : (x : Text) → MaybeLike N (constant_named engine.constants x) (constant_named engine.constants x)) (h h' : Host) (hosts : HostLike N h h') where
-  module _ (p q : Script) (like : ScriptLike N p q) where
-    fs : List Function
-    fs = p.functions
-
-    abbrev keys_of : List Function → List Key
-    keys_of gs = map key_of gs
-
-    keys_like : (k l : Key) → KeyLike N k l → has_key (keys_of p.functions) k ≡ has_key (keys_of q.functions) l
-    keys_like k l j = has_function p.functions k ∙ both_some_or_none (like.functions k l j) ∙ sym (has_function q.functions l)
-
-    abbrev v : World
-    v = world_of engine h p.functions
-
-    abbrev v' : World
-    v' = world_of engine h' q.functions
-
-    abbrev Envs : Env → Env → Type 0
-    Envs env env' = EnvLike N engine known h h' hosts (keys_of p.functions) (keys_of q.functions) env env'
-
-    call_body_like : (env env' : Env) → Envs env env' → {o o' : Option Function} → OptionOf (FunctionLike N) o o' → {a b : ScriptCall} → ScriptCallLike N a b → {es es' : List ScopeEntry} → ListOf (EntryLike N) es es' → {cs ds : List HostCall} → ListOf (CallLike N) cs ds → (t : ℕ) → ResultLike N (call_body true v env o a es cs t) (call_body true v' env' o' b es' ds t)
-    call_body_like env env' envs both_none j k l t = at_like t (halted_like (IsStuck Unbound)) (record { scope = both_empty; this = both_none; calls = l })
-    call_body_like env env' envs (both_some (function_like f g n xs body)) j k l t =
-        let s = entered_like true (function_like f g n xs body) j k l in
-        turn_like t s _ _ (λ t1. (r_body N engine known h h' hosts (keys_of p.functions) (keys_of q.functions) env env' envs one texts table keys_like body).at _ _ s t1)
-
-    invoke_like : (d : ℕ) (a b : ScriptCall) → ScriptCallLike N a b → (es es' : List ScopeEntry) → ListOf (EntryLike N) es es' → (cs ds : List HostCall) → ListOf (CallLike N) cs ds → (t : ℕ) → ResultLike N (invoke_at true v p.functions d a es cs t) (invoke_at true v' q.functions d b es' ds t)
-    invoke_like zero a b j es es' k cs ds l t = at_like t (halted_like OutOfTurns) (record { scope = both_empty; this = both_none; calls = l })
-    invoke_like (suc d) a b (script_call_like c n o m) es es' k cs ds l t =
-        call_body_like _ _ (record { rounds = refl; invoke = invoke_like d }) (like.functions _ _ n) (script_call_like c n o m) k l t
-
-    env_like : (d : ℕ) → Envs (env_at true v p.functions d) (env_at true v' q.functions d)
-    env_like d = record { rounds = refl; invoke = invoke_like d }
-
-    at_like_entry : {e e' : EntryPoint} → EntryPointLike N e e' → {es es' : List ScopeEntry} → ListOf (EntryLike N) es es' → (n : ℕ) → ResultLike N (run_at true v p e es n) (run_at true v' q e' es' n)
-    at_like_entry at_statements_like k n = (r_body N engine known h h' hosts (keys_of p.functions) (keys_of q.functions) _ _ (env_like n) one texts table keys_like like.statements).at _ _ (record { scope = k; this = both_none; calls = both_empty }) n
-    at_like_entry (at_function_like m o j) k n = call_body_like _ _ (env_like n) (like.functions _ _ m) (script_call_like false m o j) both_empty both_empty n
-
-  -- The names of functions don't matter, nor their order, nor those that no name stands for.
-  pub names_do_not_matter : (p q : Script) → ScriptLike N p q → (e e' : EntryPoint) → EntryPointLike N e e' → (es es' : List ScopeEntry) → ListOf (EntryLike N) es es' → (n : ℕ) → ResultLike N (run_script engine h p e es n) (run_script engine h' q e' es' n)
-  unfolding run_script
-  names_do_not_matter p q like e e' j es es' k n = at_like_entry p q like j k n

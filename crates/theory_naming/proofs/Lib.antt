@@ -1,6 +1,8 @@
 pub mod Values
 pub mod Listed
+pub mod Scopes
 pub mod Acts
+pub mod Runs
 pub mod Operators
 pub mod Shown
 pub mod Tables

@@ -16,7 +16,7 @@ use Rattle.theory_naming.specs.Alike.{RunBut, AreApart, key_at, function_at, ren
 use Rattle.theory_naming.specs.Naming.{OptionOf, both_none, both_some, KeyLike, key_like, FunctionLike, ScriptLike, StmtsLike}
 use Rattle.theory_naming.specs.Renaming.{Stands, renamed_function}
 use Rattle.theory_naming.proofs.Itself.{tables_by_key}
-use Rattle.theory_naming.proofs.Acts.{names_do_not_matter}
+use Rattle.theory_naming.proofs.Runs.{names_do_not_matter}
 use Rattle.theory_naming.proofs.Operators.{computed_like}
 use Rattle.theory_naming.proofs.Renamed.{stmts_renamed, function_renamed}
 use Rattle.theory_naming.proofs.Shown.{text_kept}

@@ -192,10 +192,10 @@ module _ (w : World) (env : Env) (adds : OnlyAdds env) where
   evaluated_alike loop (tree.BlockExpr ss) next = all_refl
   evaluated_alike loop _ next = all_refl
 
-  text_alike : (loop : Bool) (es : tree.Exprs) → Same w env (act w (core_expr loop (bare_text es))) (with_args w (core_exprs loop es) text)
+  ast_alike : (loop : Bool) (es : tree.Exprs) → Same w env (act w (core_expr loop (bare_text es))) (with_args w (core_exprs loop es) text)
   unfolding texts_joined
-  text_alike loop tree.no_exprs = same_refl
-  text_alike loop (tree.expr e es) = same_refl
+  ast_alike loop tree.no_exprs = same_refl
+  ast_alike loop (tree.expr e es) = same_refl
 
   noop_alike : Same w env (Scoped (Only unit)) unit
   noop_alike = record { at = λ s t. scoped_only w env adds unit s t }
@@ -391,7 +391,7 @@ module _ (w : World) (env : Env) (adds : OnlyAdds env) where
     expr_alike (tree.CharConstant c) = plain_alike (tree.CharConstant c) refl (λ around. same_refl)
     expr_alike (tree.StringConstant t) = plain_alike (tree.StringConstant t) refl (λ around. same_refl)
     expr_alike tree.UnitConstant = plain_alike tree.UnitConstant refl (λ around. same_refl)
-    expr_alike (tree.InterpolatedString es) = plain_alike (tree.InterpolatedString es) refl (λ around. same_trans (text_alike around (bare_exprs es)) ((exprs_alike es).args around _ _ (λ vs. same_refl)))
+    expr_alike (tree.InterpolatedString es) = plain_alike (tree.InterpolatedString es) refl (λ around. same_trans (ast_alike around (bare_exprs es)) ((exprs_alike es).args around _ _ (λ vs. same_refl)))
     expr_alike (tree.ArrayOf es) = plain_alike (tree.ArrayOf es) refl (λ around. (exprs_alike es).args around _ _ (λ vs. same_refl))
     expr_alike (tree.MapOf ps template) = plain_alike (tree.MapOf ps template) refl (λ around. map_value_alike around ps template (pairs_alike ps))
     expr_alike (tree.Variable m x) = variable_alike m x

@@ -3,14 +3,14 @@
 use crate::diff::push_diff;
 use crate::request::{Action, Request};
 use base_engine::EngineInfo;
+use notation_print::push_script;
 use rhai_base::{OutOfMemory, Position, Scope};
 use rhai_run::plain_run;
 use rhai_script::AST;
 use run_host::{UnitHost, push_report};
 use std::alloc::{AllocError, Global};
 use std::fmt::Write;
-use text_notation::push_script;
-use text_source::{OptimizedText, Refusal, Why, entered, optimize_text, read};
+use syntax_source::{OptimizedText, Refusal, Why, entered, optimize_text, read};
 use tool_findings::findings;
 
 /// What is said of a file.

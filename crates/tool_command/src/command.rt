@@ -11,7 +11,7 @@ use rhai_base::OutOfMemory;
 use std::alloc::{AllocError, Global};
 use std::fmt::Display;
 use std::io;
-use text_source::{VERSION, constants};
+use syntax_source::{VERSION, constants};
 
 /// Does what the words ask of files, and answers the status: 0; or 1, where something was found or a script refused; or
 /// 2, for words that ask nothing, a file that cannot be read, a failed write and want of memory. What is asked for goes

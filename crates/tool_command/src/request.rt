@@ -2,7 +2,7 @@
 
 use rhai_optimizer::OptimizationLevel;
 use std::alloc::{AllocError, AllocFailed, Global};
-use text_source::Syntax;
+use syntax_source::Syntax;
 use thiserror::Error;
 
 /// What is done with each file.

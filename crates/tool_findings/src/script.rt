@@ -4,7 +4,7 @@ use crate::finding::{Finding, FindingKind};
 use crate::look::Look;
 use crate::names::Names;
 use base_engine::EngineInfo;
-use opt_queries::captures_nothing;
+use opt_base::captures_nothing;
 use rhai_ast::{ScriptFuncDef, Stmt, TreeFault};
 use rhai_base::{ImmutableString, OutOfMemory, Position};
 use rhai_script::AST;

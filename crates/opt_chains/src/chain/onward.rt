@@ -6,14 +6,14 @@ ghost use Rattle.std.specs.Prelude.{◌≡◌};
 ghost use Rattle.std.specs.Option.{option_map};
 ghost use Rattle.ast_types.specs.Reading.{breaks, expr_of};
 ghost use Rattle.theory_meaning.specs.Tree.{UnitConstant};
-ghost use Rattle.opt_steps.specs.Places.{place_of};
-ghost use Rattle.opt_steps.specs.Standing as standing;
+ghost use Rattle.opt_base.specs.Places.{place_of};
+ghost use Rattle.opt_base.specs.Standing as standing;
 ghost use Rattle.opt_chains.specs.Onward as onward;
 ghost use Rattle.opt_chains.specs.Onward.{GoesOn};
 
 use ast_nodes::put_expr;
 use bitflags::Flags;
-use opt_steps::{Place, may_be_unit};
+use opt_base::{Place, may_be_unit};
 use rhai_ast::{Expr, Take};
 use rhai_base::ASTFlags;
 

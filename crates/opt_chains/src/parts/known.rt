@@ -7,14 +7,14 @@ ghost use Rattle.std.specs.Option.{option_map};
 ghost use Rattle.rhai_base.specs.Reading.{value_of};
 ghost use Rattle.ast_types.specs.Reading.{expr_of};
 ghost use Rattle.theory_meaning.specs.Constants as constants;
-ghost use Rattle.opt_known.specs.State.{progress};
+ghost use Rattle.opt_base.specs.State.{progress};
 ghost use Rattle.theory_rewriting.specs.Answering as answering;
 ghost use Rattle.theory_rewriting.specs.Clear as clear;
 ghost use Rattle.opt_chains.specs.Answers as answers;
 ghost use Rattle.rhai_ast.specs.Nodes.{is_dot};
 
 use crate::parts::answers::property_of_constant;
-use opt_steps::{OptimizerState, known_value};
+use opt_base::{OptimizerState, known_value};
 use rhai_ast::{ChainType, Expr, Literals};
 use rhai_base::{Dynamic, ImmutableString, OutOfMemory};
 use std::alloc::Global;

@@ -17,7 +17,7 @@ ghost use Rattle.opt_exprs.specs.Words as words;
 use crate::calls::answers::{is_shared_value, pointer_to_value, type_of_value};
 use ast_nodes::{are_constant, owned};
 use base_engine::EngineInfo;
-use opt_folding::folded;
+use opt_base::folded;
 use rhai_ast::{Expr, FnCallExpr, Literals};
 use rhai_base::{Dynamic, FnPtr, OutOfMemory};
 use std::alloc::Global;

@@ -5,14 +5,14 @@
 ghost use Rattle.std.specs.Prelude.{◌≡◌, IfOk, OnOk};
 ghost use Rattle.rhai_base.specs.Reading.{value_of};
 ghost use Rattle.theory_meaning.specs.Tree.{DynamicConstant, ExprStmt};
-ghost use Rattle.opt_known.specs.State.{progress};
+ghost use Rattle.opt_base.specs.State.{progress};
 ghost use Rattle.ast_types.specs.Reading.{expr_of, stmt_of};
 ghost use Rattle.theory_rewriting.specs.Parts as parts;
 ghost use Rattle.opt_exprs.specs.Holding.{Holds, HoldsStatement};
 ghost use Rattle.opt_exprs.specs.Words as words;
 
 use ast_nodes::{expression_statement, put_expr, put_stmt};
-use opt_steps::{OptimizerState, note_fired};
+use opt_base::{OptimizerState, note_fired};
 use rhai_ast::{Expr, ExprQueries, Literals, Stmt, StmtQueries};
 use rhai_base::{Boxed, Dynamic, OutOfMemory, Position};
 use std::alloc::Global;

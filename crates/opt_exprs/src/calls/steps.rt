@@ -6,17 +6,17 @@
 ghost use Rattle.std.specs.Prelude.{◌≡◌, IfOk, Bool, true};
 ghost use Rattle.std.specs.Option.{option_map};
 ghost use Rattle.rhai_base.specs.Reading.{value_of};
-ghost use Rattle.opt_known.specs.State.{progress};
+ghost use Rattle.opt_base.specs.State.{progress};
 ghost use Rattle.ast_types.specs.Reading.{expr_of, stmt_of};
 ghost use Rattle.base_engine.specs.EngineInfo.{engine_of};
 ghost use Rattle.theory_rewriting.specs.Steps.{Place};
-ghost use Rattle.opt_steps.specs.NodeSteps.{ExprStep, StmtStep};
+ghost use Rattle.opt_base.specs.NodeSteps.{ExprStep, StmtStep};
 ghost use Rattle.opt_exprs.specs.Words as words;
 
 use crate::calls::calls::call_value;
 use crate::calls::putting::{call_statement_folds, hold_value};
 use base_engine::EngineInfo;
-use opt_steps::{NodeStep, OptimizerState};
+use opt_base::{NodeStep, OptimizerState};
 use rhai_ast::{Expr, Stmt};
 use rhai_base::{Dynamic, OutOfMemory};
 use std::alloc::Global;

@@ -4,13 +4,13 @@
 
 ghost use Rattle.std.specs.Prelude.{◌≡◌, ◌∷◌, [], MatchOption, true, false};
 ghost use Rattle.ast_types.specs.Reading.{expr_of};
-ghost use Rattle.opt_steps.specs.Places.{place_of};
-ghost use Rattle.opt_steps.specs.Standing as standing;
+ghost use Rattle.opt_base.specs.Places.{place_of};
+ghost use Rattle.opt_base.specs.Standing as standing;
 ghost use Rattle.opt_exprs.specs.Operands as spec;
 ghost use Rattle.opt_exprs.specs.Operands.{Becomes};
 
 use crate::operands::operation::Operation;
-use opt_steps::{Place, may_be_unit, may_stand};
+use opt_base::{Place, may_be_unit, may_stand};
 use rhai_ast::{Expr, Take};
 use rhai_base::{Position, Seq};
 

@@ -5,10 +5,10 @@
 
 ghost use Rattle.std.specs.Prelude.{◌≡◌, true};
 ghost use Rattle.theory_meaning.specs.Engine.{Engine};
-ghost use Rattle.opt_known.specs.State.{progress};
-ghost use Rattle.opt_steps.specs.Passes.{PassStep};
+ghost use Rattle.opt_base.specs.State.{progress};
+ghost use Rattle.opt_base.specs.Passes.{PassStep};
 ghost use Rattle.ast_types.specs.Reading.{expr_of, exprs_of};
-ghost use Rattle.opt_steps.specs.Places.{place_of};
+ghost use Rattle.opt_base.specs.Places.{place_of};
 ghost use Rattle.opt_exprs.specs.Operands as spec;
 ghost use Rattle.opt_exprs.specs.Operands.{ComesOf};
 
@@ -16,7 +16,7 @@ use crate::operands::few::of_few;
 use crate::operands::operation::Operation;
 use crate::operands::pass::operands_change;
 use ast_nodes::put_expr;
-use opt_steps::{OptimizerState, Place, note_fired};
+use opt_base::{OptimizerState, Place, note_fired};
 use rhai_ast::Expr;
 use rhai_base::{Position, Seq};
 

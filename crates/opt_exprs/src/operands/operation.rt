@@ -8,7 +8,7 @@ ghost use Rattle.ast_types.specs.Reading.{expr_of};
 ghost use Rattle.theory_rewriting.specs.Answering as answering;
 ghost use Rattle.opt_exprs.specs.Operands as spec;
 
-use opt_folding::constant_bool;
+use opt_base::constant_bool;
 use rhai_ast::{Expr, ExprQueries};
 
 /// An operator that asks its operands one after another.

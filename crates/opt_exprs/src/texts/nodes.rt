@@ -4,16 +4,16 @@
 
 ghost use Rattle.std.specs.Prelude.{◌≡◌, IfOk, true};
 ghost use Rattle.theory_meaning.specs.Engine.{Engine};
-ghost use Rattle.opt_known.specs.State.{progress};
-ghost use Rattle.opt_steps.specs.Passes.{PassStep};
+ghost use Rattle.opt_base.specs.State.{progress};
+ghost use Rattle.opt_base.specs.Passes.{PassStep};
 ghost use Rattle.ast_types.specs.Reading.{expr_of};
 ghost use Rattle.theory_rewriting.specs.Steps.{Place};
-ghost use Rattle.opt_steps.specs.NodeSteps.{ExprStep};
+ghost use Rattle.opt_base.specs.NodeSteps.{ExprStep};
 ghost use Rattle.opt_exprs.specs.Parts as spec;
 ghost use Rattle.opt_exprs.specs.Parts.{Folds, NodeChange};
 
 use crate::texts::joining::text_changes;
-use opt_steps::{OptimizerState, fold_constant, note_fired};
+use opt_base::{OptimizerState, fold_constant, note_fired};
 use rhai_ast::Expr;
 use rhai_base::OutOfMemory;
 use std::alloc::Global;

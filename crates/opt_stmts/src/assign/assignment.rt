@@ -4,18 +4,18 @@
 
 ghost use Rattle.std.specs.Prelude.{◌≡◌, true, false, not, Bool, [], Some, MatchOption};
 ghost use Rattle.base_engine.specs.EngineInfo.{engine_of};
-ghost use Rattle.opt_known.specs.State.{progress};
+ghost use Rattle.opt_base.specs.State.{progress};
 ghost use Rattle.theory_meaning.specs.Tree.{Variable};
 ghost use Rattle.ast_types.specs.Reading.{expr_of, exprs_of, mark_of, stmt_of};
 ghost use Rattle.opt_stmts.specs.Assigning.{Takes, assignment_of, call_of};
 ghost use Rattle.opt_stmts.specs.Firing.{FiresIf, answer};
 ghost use Rattle.opt_stmts.specs.SettledAssignments as settled;
-ghost use Rattle.opt_steps.specs.NodeSteps.{StmtStep};
+ghost use Rattle.opt_base.specs.NodeSteps.{StmtStep};
 
 use crate::assign::leaves_names::leaves_names;
 use ast_nodes::put_expr;
 use base_engine::EngineInfo;
-use opt_steps::{NodeStep, OptimizerState, note_fired};
+use opt_base::{NodeStep, OptimizerState, note_fired};
 use rhai_ast::{BinaryExpr, Expr, FnCallExpr, Stmt, Take};
 use rhai_base::{OpAssignment, Position, Token};
 

@@ -3,16 +3,16 @@
 #![tactic(auto, using(ast_types::specs::Reading::shapes, crate::proofs::Names::steps))]
 
 ghost use Rattle.std.specs.Prelude.{◌≡◌, ◌&&◌, not, true, Bool, is_some};
-ghost use Rattle.opt_known.specs.State.{known_of, progress};
+ghost use Rattle.opt_base.specs.State.{known_of, progress};
 ghost use Rattle.theory_meaning.specs.Engine.{Engine};
 ghost use Rattle.theory_meaning.specs.Tree.{Share};
 ghost use Rattle.ast_types.specs.Reading.{shared_names, stmt_of};
 ghost use Rattle.theory_rewriting.specs.Known.{look, unknown};
 ghost use Rattle.opt_stmts.specs.Firing.{Fires, answer};
 ghost use Rattle.opt_stmts.specs.SettledAssignments as settled;
-ghost use Rattle.opt_steps.specs.NodeSteps.{StmtStep};
+ghost use Rattle.opt_base.specs.NodeSteps.{StmtStep};
 
-use opt_steps::{NodeStep, OptimizerState, note_fired, put_nothing};
+use opt_base::{NodeStep, OptimizerState, note_fired, put_nothing};
 use rhai_ast::Stmt;
 use rhai_base::{Boxed, Ident, Seq};
 use std::alloc::Global;

@@ -15,8 +15,7 @@ ghost use Rattle.opt_stmts.specs.SettledChoices as settled;
 
 use crate::made::take_block;
 use ast_nodes::{block_statement, expression_statement, followed_by_nothing};
-use opt_folding::constant_bool;
-use opt_steps::{NodeStep, step_of};
+use opt_base::{NodeStep, constant_bool, step_of};
 use rhai_ast::{Expr, FlowControl, Stmt, StmtBlock, Take};
 use rhai_base::{OutOfMemory, Position};
 use std::alloc::Global;

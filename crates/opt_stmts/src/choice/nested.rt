@@ -13,7 +13,7 @@ ghost use Rattle.opt_stmts.specs.SettledChoices as settled;
 use crate::choice::choice::is_empty;
 use crate::made::take_block;
 use ast_nodes::{only_statement, put_expr};
-use opt_folding::constant_bool;
+use opt_base::constant_bool;
 use rhai_ast::{Expr, ExprQueries, FlowControl, Stmt, StmtBlock, Take};
 use rhai_base::{Boxed, OutOfMemory, Position, Seq};
 use std::alloc::Global;

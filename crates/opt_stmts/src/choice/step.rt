@@ -3,17 +3,17 @@
 #![tactic(auto, using(ast_types::specs::Reading::shapes))]
 
 ghost use Rattle.std.specs.Prelude.{◌≡◌, IfOk, not, true};
-ghost use Rattle.opt_known.specs.State.{progress};
+ghost use Rattle.opt_base.specs.State.{progress};
 ghost use Rattle.theory_meaning.specs.Engine.{Engine};
 ghost use Rattle.ast_types.specs.Reading.{stmt_of};
 ghost use Rattle.opt_stmts.specs.SettledChoices as settled;
 ghost use Rattle.opt_stmts.specs.ChoiceSteps.{answer};
-ghost use Rattle.opt_steps.specs.NodeSteps.{StmtDecided, StmtStep};
+ghost use Rattle.opt_base.specs.NodeSteps.{StmtDecided, StmtStep};
 
 use crate::choice::choice::reduced_if;
 use crate::choice::nested::join_ifs;
 use crate::made::put_made;
-use opt_steps::{NodeStep, OptimizerState, note_fired};
+use opt_base::{NodeStep, OptimizerState, note_fired};
 use rhai_ast::Stmt;
 use rhai_base::OutOfMemory;
 use std::alloc::Global;

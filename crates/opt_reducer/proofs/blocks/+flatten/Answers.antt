@@ -2,7 +2,7 @@ use Rattle.std.proofs.Common.{refl, sym, ap, ◌∙◌, arith}
 use Rattle.std.proofs.lemmas.Result.{on_ok_weaker}
 use Rattle.opt_reducer.proofs.Flattening.{flattens_noop, flattens_block, flattens_push, flattens_as, giving-block, moves_start, moves_next, moves_end, empty-stmts_of, differ}
 use Rattle.theory_meaning.specs.Weight.{stmt_weight}
-use Rattle.opt_known.specs.State.{known_of}
+use Rattle.opt_base.specs.State.{known_of}
 use Rattle.opt_reducer.proofs.blocks.+flatten.Goals as goal
 use Rattle.opt_reducer.proofs.blocks.+flatten.Goals.{block_gives_way-else-is_wanted-via-then-is_wanted+else-is_empty, block_gives_way-else-is_wanted-via-else-is_wanted}
 

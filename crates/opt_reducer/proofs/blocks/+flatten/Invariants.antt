@@ -1,5 +1,5 @@
 use Rattle.std.proofs.Common.{◌+◌, ◌*◌, length}
-use Rattle.opt_known.specs.State.{progress}
+use Rattle.opt_base.specs.State.{progress}
 use Rattle.ast_types.specs.Reading.{stmt_of, stmts_of}
 use Rattle.theory_meaning.specs.Weight.{stmt_weight, weight}
 use Rattle.opt_reducer.proofs.Flattening.{MovesSoFar}

@@ -1,6 +1,6 @@
 use Rattle.std.proofs.Common.{refl}
 use Rattle.std.proofs.lemmas.Result.{on_ok_weaker}
-use Rattle.opt_known.specs.State.{known_of}
+use Rattle.opt_base.specs.State.{known_of}
 use Rattle.opt_reducer.proofs.Parts.{noted_as, declares_nothing}
 use Rattle.opt_reducer.proofs.names.declare.Goals as goal
 

@@ -1,11 +1,11 @@
 use Rattle.std.proofs.Common.{Bool}
 use Rattle.std.proofs.lemmas.Result.{IfOk-weaker}
-use Rattle.opt_known.specs.State.{progress}
+use Rattle.opt_base.specs.State.{progress}
 use Rattle.theory_meaning.specs.Engine.{Engine}
 use Rattle.ast_types.specs.Reading.{expr_of}
 use Rattle.theory_rewriting.specs.Steps.{Place}
-use Rattle.opt_steps.specs.Folded.{FoldsConstant}
-use Rattle.opt_steps.specs.NodeSteps.{ExprStep}
+use Rattle.opt_base.specs.Folded.{FoldsConstant}
+use Rattle.opt_base.specs.NodeSteps.{ExprStep}
 use Rattle.opt_rules.proofs.Shapes.{array_step}
 use Rattle.opt_rules.proofs.expressions.array_of_constants.Goals as goal
 

@@ -1,6 +1,6 @@
 use Rattle.std.proofs.Common.{refl}
 use Rattle.ast_types.proofs.Cases.{expr_cases}
-use Rattle.opt_steps.specs.Places.{place_of}
+use Rattle.opt_base.specs.Places.{place_of}
 use Rattle.opt_rules.proofs.Kept.{others_stay}
 use Rattle.opt_rules.proofs.expressions.braces_become.Goals as goal
 

@@ -1,7 +1,7 @@
 use Rattle.std.proofs.Common.{refl, sym, ◌∙◌}
 use Rattle.ast_types.specs.Reading.{expr_of-Unit}
-use Rattle.opt_steps.specs.Places.{place_of}
-use Rattle.opt_steps.proofs.Stepping.{expr_rewrite_as}
+use Rattle.opt_base.specs.Places.{place_of}
+use Rattle.opt_base.proofs.Stepping.{expr_rewrite_as}
 use Rattle.opt_rules.proofs.Shapes.{empty_becomes}
 use Rattle.opt_rules.proofs.expressions.braces_empty.Goals as goal
 

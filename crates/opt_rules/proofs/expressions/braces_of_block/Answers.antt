@@ -1,5 +1,5 @@
 use Rattle.std.proofs.Common.{◌<◌, refl, subst}
-use Rattle.opt_steps.specs.Places.{place_of}
+use Rattle.opt_base.specs.Places.{place_of}
 use Rattle.opt_rules.proofs.Shapes.{many_stay}
 use Rattle.opt_rules.proofs.expressions.braces_of_block.Goals as goal
 

@@ -4,7 +4,7 @@ use Rattle.ast_types.specs.declared.stmt.Stmt.{Stmt}
 use Rattle.ast_types.proofs.Cases.{stmt_cases}
 use Rattle.theory_meaning.specs.Queries.{is_block_dependent}
 use Rattle.theory_meaning.specs.Tree.{BlockExpr, no_stmts, stmt}
-use Rattle.opt_steps.proofs.Stepping.{expr_rewrite_as}
+use Rattle.opt_base.proofs.Stepping.{expr_rewrite_as}
 use Rattle.opt_rules.specs.Settled.{is_call_statement}
 use Rattle.opt_rules.proofs.Kept.{no_call_statement}
 use Rattle.opt_rules.proofs.Shapes.{call_becomes}

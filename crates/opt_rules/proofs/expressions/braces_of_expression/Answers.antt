@@ -1,7 +1,7 @@
 use Rattle.std.proofs.Common.{refl, sym, ap, ◌∙◌}
 use Rattle.ast_types.specs.Reading.{expr_of}
-use Rattle.opt_steps.specs.Places.{place_of}
-use Rattle.opt_steps.proofs.Stepping.{expr_rewrite_as}
+use Rattle.opt_base.specs.Places.{place_of}
+use Rattle.opt_base.proofs.Stepping.{expr_rewrite_as}
 use Rattle.opt_rules.proofs.Shapes.{expression_becomes}
 use Rattle.opt_rules.proofs.expressions.braces_of_expression.Goals as goal
 

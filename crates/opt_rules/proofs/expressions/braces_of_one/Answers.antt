@@ -1,6 +1,6 @@
 use Rattle.std.proofs.Common.{refl}
 use Rattle.ast_types.proofs.Cases.{stmt_cases}
-use Rattle.opt_steps.specs.Places.{place_of}
+use Rattle.opt_base.specs.Places.{place_of}
 use Rattle.opt_rules.proofs.Kept.{settled_in_braces}
 use Rattle.opt_rules.proofs.expressions.braces_of_one.Goals as goal
 

@@ -1,6 +1,6 @@
 use Rattle.std.proofs.Common.{refl, ap}
 use Rattle.ast_types.specs.Reading.{expr_of}
-use Rattle.opt_steps.proofs.Stepping.{expr_put, expr_rewrite_as}
+use Rattle.opt_base.proofs.Stepping.{expr_put, expr_rewrite_as}
 use Rattle.opt_rules.proofs.Shapes.{braces_stay}
 use Rattle.opt_rules.proofs.expressions.step_braces.Goals as goal
 

@@ -1,5 +1,5 @@
 use Rattle.theory_rewriting.proofs.Firing.{expr_start, expr_kept}
-use Rattle.opt_steps.proofs.Passing.{expr_passed, expr_pass_falls}
+use Rattle.opt_base.proofs.Passing.{expr_passed, expr_pass_falls}
 use Rattle.opt_rules.proofs.nodes.reduce_expr.Goals as goal
 
 pub loop-init : goal.loop-init

@@ -1,9 +1,9 @@
 use Rattle.base_engine.specs.EngineInfo.{engine_of}
-use Rattle.opt_known.specs.State.{progress}
+use Rattle.opt_base.specs.State.{progress}
 use Rattle.ast_types.specs.Reading.{expr_of}
 use Rattle.theory_meaning.specs.Weight.{expr_weight}
 use Rattle.theory_rewriting.specs.Steps.{ExprSoFar}
-use Rattle.opt_steps.specs.Places.{place_of}
+use Rattle.opt_base.specs.Places.{place_of}
 use Rattle.opt_rules.proofs.nodes.reduce_expr.Given as goal
 
 abbrev pub invariant-loop : goal.invariant-loop

@@ -1,5 +1,5 @@
 use Rattle.base_engine.specs.EngineInfo.{engine_of}
-use Rattle.opt_known.specs.State.{progress}
+use Rattle.opt_base.specs.State.{progress}
 use Rattle.ast_types.specs.Reading.{stmt_of}
 use Rattle.theory_meaning.specs.Weight.{stmt_weight}
 use Rattle.theory_rewriting.specs.Steps.{StmtSoFar}

@@ -1,6 +1,6 @@
 use Rattle.base_engine.specs.EngineInfo.{engine_of}
 use Rattle.ast_types.proofs.Cases.{expr_cases}
-use Rattle.opt_steps.proofs.Passing.{step_passes}
+use Rattle.opt_base.proofs.Passing.{step_passes}
 use Rattle.opt_rules.proofs.Kept.{nothing_left}
 use Rattle.opt_rules.proofs.Passing.{step_here, step_under, step_at, step_anywhere, pass_anywhere}
 use Rattle.opt_rules.proofs.nodes.step_expr.Goals as goal

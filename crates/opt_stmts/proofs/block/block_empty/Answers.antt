@@ -2,7 +2,7 @@ use Rattle.std.proofs.Common.{refl}
 use Rattle.theory_rewriting.specs.Rules.{block_empty}
 use Rattle.ast_types.specs.Reading.{stmt_of-Noop}
 use Rattle.theory_rewriting.proofs.Keeping.{keeps_noop}
-use Rattle.opt_steps.proofs.Stepping.{stmt_rewrite_as}
+use Rattle.opt_base.proofs.Stepping.{stmt_rewrite_as}
 use Rattle.opt_stmts.proofs.block.block_empty.Goals as goal
 
 pub returns : goal.returns

@@ -1,6 +1,6 @@
 use Rattle.std.proofs.Common.{sym, ap}
 use Rattle.theory_meaning.specs.Tree.{Block}
-use Rattle.opt_steps.proofs.Stepping.{stmt_rewrite_as}
+use Rattle.opt_base.proofs.Stepping.{stmt_rewrite_as}
 use Rattle.std.proofs.Common.{refl}
 use Rattle.opt_stmts.proofs.Shapes.{first-alone, none-there}
 use Rattle.opt_stmts.proofs.block.reduced_block.Goals as goal

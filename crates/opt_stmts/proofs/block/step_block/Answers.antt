@@ -3,7 +3,7 @@ use Rattle.ast_types.specs.declared.block.StmtBlock.{StmtBlock}
 use Rattle.theory_meaning.specs.Tree.{Block}
 use Rattle.ast_types.specs.Reading.{stmt_of, stmts_of, stmt_of-Block}
 use Rattle.ast_types.proofs.Cases.{stmt_cases}
-use Rattle.opt_steps.proofs.Stepping.{stmt_rewrite_as}
+use Rattle.opt_base.proofs.Stepping.{stmt_rewrite_as}
 use Rattle.opt_stmts.proofs.FiredStatements.{fires_by}
 use Rattle.opt_stmts.proofs.OtherStatements.{no_block}
 use Rattle.opt_stmts.proofs.block.step_block.Goals as goal

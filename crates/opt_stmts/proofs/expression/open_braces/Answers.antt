@@ -3,7 +3,7 @@ use Rattle.ast_types.specs.declared.expr.Expr.{Expr}
 use Rattle.theory_meaning.specs.Tree.{ExprStmt}
 use Rattle.ast_types.specs.Reading.{expr_of, stmt_of, stmt_of-Expr}
 use Rattle.ast_types.proofs.Cases.{stmt_cases}
-use Rattle.opt_steps.proofs.Stepping.{rewrite_decided, stmt_rewrite_as}
+use Rattle.opt_base.proofs.Stepping.{rewrite_decided, stmt_rewrite_as}
 use Rattle.opt_stmts.proofs.OtherStatements.{not_over_braces}
 use Rattle.opt_stmts.proofs.expression.open_braces.Goals as goal
 

@@ -2,7 +2,7 @@ use Rattle.std.proofs.Common.{refl, ◌∙◌}
 use Rattle.ast_types.specs.Reading.{stmts_of, stmt_of-Block, stmt_of-Noop}
 use Rattle.theory_rewriting.specs.Rules.{statement_of_braces}
 use Rattle.theory_rewriting.proofs.Keeping.{keeps_braces}
-use Rattle.opt_steps.proofs.Stepping.{stmt_rewrite_as}
+use Rattle.opt_base.proofs.Stepping.{stmt_rewrite_as}
 use Rattle.opt_stmts.proofs.Choosing.{block_or_noop-none, block_or_noop-some}
 use Rattle.opt_stmts.proofs.expression.statement_of_braces.Goals as goal
 

@@ -2,7 +2,7 @@ use Rattle.std.proofs.Common.{refl}
 use Rattle.theory_rewriting.specs.Rules.{statement_of_call}
 use Rattle.ast_types.specs.Reading.{stmt_of-FnCall}
 use Rattle.theory_rewriting.proofs.Keeping.{keeps_call}
-use Rattle.opt_steps.proofs.Stepping.{stmt_rewrite_as}
+use Rattle.opt_base.proofs.Stepping.{stmt_rewrite_as}
 use Rattle.opt_stmts.proofs.expression.statement_of_call.Goals as goal
 
 pub returns : goal.returns

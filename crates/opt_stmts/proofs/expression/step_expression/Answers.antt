@@ -3,7 +3,7 @@ use Rattle.ast_types.specs.declared.expr.Expr.{Expr}
 use Rattle.theory_meaning.specs.Tree.{ExprStmt}
 use Rattle.ast_types.specs.Reading.{shapes, expr_of, stmt_of, stmt_of-Expr}
 use Rattle.ast_types.proofs.Cases.{stmt_cases}
-use Rattle.opt_steps.proofs.Stepping.{stmt_put, stmt_rewrite_as}
+use Rattle.opt_base.proofs.Stepping.{stmt_put, stmt_rewrite_as}
 use Rattle.opt_stmts.proofs.OtherStatements.{no_expression}
 use Rattle.opt_stmts.proofs.Settled.{expression_kept}
 use Rattle.opt_stmts.proofs.expression.step_expression.Goals as goal

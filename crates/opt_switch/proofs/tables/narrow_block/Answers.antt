@@ -2,7 +2,7 @@ use Rattle.std.proofs.Common.{◌≡◌, Some, refl, sym, ap, ◌∙◌, subst}
 use Rattle.ast_types.specs.declared.switch.SwitchBlock.{SwitchBlock}
 use Rattle.rhai_base.specs.declared.dynamic.Dynamic.{Dynamic}
 use Rattle.rhai_base.specs.Reading.{value_of}
-use Rattle.opt_known.specs.State.{progress}
+use Rattle.opt_base.specs.State.{progress}
 use Rattle.theory_meaning.specs.Constants.{constant_value}
 use Rattle.ast_types.specs.Reading.{arms_of, cases_of, expr_of, expressions_of, subject_of, table_of}
 use Rattle.opt_switch.specs.Steps.{switch_of, IsNarrowOver, IsNarrow, TableStep}

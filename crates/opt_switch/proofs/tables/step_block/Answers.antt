@@ -1,6 +1,6 @@
 use Rattle.std.proofs.Common.{◌≡◌, true, false}
 use Rattle.std.proofs.lemmas.Result.{IfOk-weaker}
-use Rattle.opt_known.specs.State.{progress}
+use Rattle.opt_base.specs.State.{progress}
 use Rattle.ast_types.specs.Reading.{arms_of, cases_of, expr_of, expressions_of, subject_of, table_of}
 use Rattle.opt_switch.specs.Steps.{switch_of, Forgets, IsNarrow, IsShrunk, HasForgotten}
 use Rattle.opt_switch.proofs.Stepped.{shrink_step, forget_step, kept_then, table_alone, arms_alone, with_table}

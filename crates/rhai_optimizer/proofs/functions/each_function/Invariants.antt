@@ -1,7 +1,7 @@
 use Rattle.std.proofs.Common.{◌≡◌, map}
 use Rattle.std.specs.Rc.{rc_value}
 use Rattle.std.specs.Vec.Iter.{into_iter_items}
-use Rattle.opt_known.specs.State.{progress}
+use Rattle.opt_base.specs.State.{progress}
 use Rattle.opt_reducer.specs.Parts.{record_of}
 use Rattle.rhai_optimizer.proofs.Bodies.{Done}
 use Rattle.rhai_optimizer.proofs.functions.each_function.Given as goal

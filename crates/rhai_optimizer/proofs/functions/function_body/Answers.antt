@@ -1,5 +1,5 @@
 use Rattle.std.proofs.Common.{◌-◌, drop, length, refl, ap, ◌∙◌}
-use Rattle.opt_known.specs.State.{progress}
+use Rattle.opt_base.specs.State.{progress}
 use Rattle.theory_rewriting.specs.Known.{shadow_all}
 use Rattle.rhai_optimizer.proofs.Bodies.{body_run, unshadowed}
 use Rattle.opt_reducer.proofs.Parts.{counted, forgotten}

@@ -5,8 +5,8 @@ use Rattle.std.specs.declared.rc.Rc.{Rc}
 use Rattle.ast_types.specs.declared.script_fn.ScriptFuncDef.{ScriptFuncDef}
 use Rattle.std.specs.Map.Iter.{deref}
 use Rattle.std.specs.Option.{option_map}
-use Rattle.opt_queries.specs.Walks.{listing}
-use Rattle.opt_known.specs.State.{known_of}
+use Rattle.opt_base.specs.Walks.{listing}
+use Rattle.opt_base.specs.State.{known_of}
 use Rattle.theory_rewriting.specs.Scripts.{known_inside}
 use Rattle.opt_reducer.specs.Parts.{record_of}
 use Rattle.rhai_optimizer.specs.Scopes.{start_of}

@@ -2,8 +2,8 @@ use Rattle.std.proofs.Common.{sym, ◌∙◌}
 use Rattle.std.proofs.lemmas.Result.{on_ok_weaker}
 use Rattle.std.specs.Map.Iter.{deref}
 use Rattle.std.specs.Option.{option_map}
-use Rattle.opt_queries.specs.Walks.{listing}
-use Rattle.opt_known.specs.State.{progress}
+use Rattle.opt_base.specs.Walks.{listing}
+use Rattle.opt_base.specs.State.{progress}
 use Rattle.opt_reducer.specs.Parts.{record_of}
 use Rattle.rhai_optimizer.proofs.Scopes.{nothing_inside, pushed_inside}
 use Rattle.rhai_optimizer.proofs.functions.push_inside.Goals as goal

@@ -1,5 +1,5 @@
 use Rattle.std.proofs.Common.{◌≡◌, drop}
-use Rattle.opt_known.specs.State.{progress}
+use Rattle.opt_base.specs.State.{progress}
 use Rattle.theory_rewriting.specs.Known.{shadow_all}
 use Rattle.rhai_optimizer.proofs.functions.push_params.Given as goal
 

@@ -2,7 +2,7 @@ use Rattle.std.proofs.Common.{◌≡◌, List, [], Option, ap, ◌∙◌}
 use Rattle.std.specs.Map.Iter.{deref}
 use Rattle.std.specs.Option.{option_map}
 use Rattle.base_engine.specs.EngineInfo.{engine_of}
-use Rattle.opt_known.specs.State.{known_of}
+use Rattle.opt_base.specs.State.{known_of}
 use Rattle.rhai_base.specs.Value.{Text}
 use Rattle.rhai_base.specs.declared.dynamic.Dynamic.{Dynamic}
 use Rattle.rhai_base.specs.declared.scope.Scope.{Scope}

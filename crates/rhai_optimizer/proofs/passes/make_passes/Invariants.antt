@@ -1,4 +1,4 @@
-use Rattle.opt_known.specs.State.{progress}
+use Rattle.opt_base.specs.State.{progress}
 use Rattle.theory_meaning.specs.Weight.{weight}
 use Rattle.ast_types.specs.Reading.{stmts_of}
 use Rattle.opt_reducer.specs.Parts.{record_of}

@@ -1,6 +1,6 @@
 use Rattle.std.proofs.Common.{◌≡◌}
 use Rattle.base_engine.specs.EngineInfo.{constants_of, engine_of}
-use Rattle.opt_known.specs.State.{progress}
+use Rattle.opt_base.specs.State.{progress}
 use Rattle.rhai_optimizer.specs.Scopes.{constants_onto}
 use Rattle.rhai_optimizer.proofs.start.push_constants.Given as goal
 

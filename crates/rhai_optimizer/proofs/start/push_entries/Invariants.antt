@@ -1,5 +1,5 @@
 use Rattle.std.proofs.Common.{◌≡◌}
-use Rattle.opt_known.specs.State.{progress}
+use Rattle.opt_base.specs.State.{progress}
 use Rattle.rhai_optimizer.specs.Scopes.{known_onto}
 use Rattle.rhai_optimizer.proofs.start.push_entries.Given as goal
 

@@ -1,8 +1,8 @@
 use Rattle.std.proofs.Common.{refl}
 use Rattle.ast_types.proofs.Cases.{expr_cases}
 use Rattle.base_engine.specs.EngineInfo.{engine_of}
-use Rattle.opt_known.specs.State.{progress}
-use Rattle.opt_steps.specs.Places.{place_of}
+use Rattle.opt_base.specs.State.{progress}
+use Rattle.opt_base.specs.Places.{place_of}
 use Rattle.opt_chains.proofs.OtherChains.{quiet_otherwise}
 use Rattle.opt_chains.proofs.chain.chain.chain_answer.Goals as goal
 

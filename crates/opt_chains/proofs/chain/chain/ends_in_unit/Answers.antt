@@ -1,5 +1,5 @@
 use Rattle.ast_types.proofs.Cases.{expr_cases}
-use Rattle.opt_steps.specs.Places.{place_of}
+use Rattle.opt_base.specs.Places.{place_of}
 use Rattle.opt_chains.proofs.OtherChains.{ends_nowhere}
 use Rattle.opt_chains.proofs.chain.chain.ends_in_unit.Goals as goal
 

@@ -1,7 +1,7 @@
 use Rattle.base_engine.specs.EngineInfo.{engine_of}
-use Rattle.opt_known.specs.State.{progress}
+use Rattle.opt_base.specs.State.{progress}
 use Rattle.ast_types.specs.Reading.{chain_flags}
-use Rattle.opt_steps.specs.Places.{place_of}
+use Rattle.opt_base.specs.Places.{place_of}
 use Rattle.rhai_ast.specs.Nodes.{is_dot}
 use Rattle.opt_chains.proofs.Chains.{moved_step}
 use Rattle.opt_chains.proofs.chain.chain.first_answer.Goals as goal

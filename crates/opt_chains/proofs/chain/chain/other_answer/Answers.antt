@@ -2,9 +2,9 @@ use Rattle.std.proofs.Common.{sym, ap, ◌∙◌}
 use Rattle.std.specs.Option.{option_map}
 use Rattle.std.proofs.lemmas.Result.{IfOk-weaker}
 use Rattle.base_engine.specs.EngineInfo.{engine_of}
-use Rattle.opt_known.specs.State.{progress}
+use Rattle.opt_base.specs.State.{progress}
 use Rattle.ast_types.specs.Reading.{chain_flags}
-use Rattle.opt_steps.specs.Places.{place_of}
+use Rattle.opt_base.specs.Places.{place_of}
 use Rattle.rhai_base.specs.Reading.{value_of}
 use Rattle.rhai_ast.specs.Nodes.{is_dot}
 use Rattle.opt_chains.proofs.Chains.{value_step, taken_step}

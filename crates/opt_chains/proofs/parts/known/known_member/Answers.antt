@@ -1,6 +1,6 @@
 use Rattle.ast_types.proofs.Cases.{expr_cases}
 use Rattle.ast_types.specs.Reading.{expr_of}
-use Rattle.opt_known.specs.State.{progress}
+use Rattle.opt_base.specs.State.{progress}
 use Rattle.opt_chains.proofs.OtherParts.{no_known_property}
 use Rattle.opt_chains.proofs.parts.known.known_member.Goals as goal
 

@@ -1,5 +1,5 @@
 use Rattle.std.proofs.Common.{refl, arith}
-use Rattle.opt_steps.specs.Places.{place_of}
+use Rattle.opt_base.specs.Places.{place_of}
 use Rattle.opt_exprs.proofs.Single.{one_becomes, many_stay}
 use Rattle.opt_exprs.proofs.operands.few.of_few.Goals as goal
 

@@ -1,7 +1,7 @@
 use Rattle.std.proofs.Common.{true, false, refl, sym, ◌∙◌}
 use Rattle.ast_types.specs.Reading.{expr_of-BoolConstant, expr_of-Unit}
-use Rattle.opt_steps.specs.Places.{place_of}
-use Rattle.opt_steps.proofs.Stepping.{expr_rewrite_as}
+use Rattle.opt_base.specs.Places.{place_of}
+use Rattle.opt_base.proofs.Stepping.{expr_rewrite_as}
 use Rattle.opt_exprs.specs.declared.operands.operation.Operation.TheVariants as operation
 use Rattle.opt_exprs.proofs.Single.{bool_stands, none}
 use Rattle.opt_exprs.proofs.operands.few.of_none.Goals as goal

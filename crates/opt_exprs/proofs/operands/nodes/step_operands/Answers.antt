@@ -1,7 +1,7 @@
 use Rattle.std.proofs.Common.{refl, ap}
 use Rattle.ast_types.specs.Reading.{expr_of}
-use Rattle.opt_steps.proofs.Passing.{pass_put, rewrite_passes}
-use Rattle.opt_steps.proofs.Stepping.{expr_rewrite_as}
+use Rattle.opt_base.proofs.Passing.{pass_put, rewrite_passes}
+use Rattle.opt_base.proofs.Stepping.{expr_rewrite_as}
 use Rattle.opt_exprs.proofs.Single.{operands_stay}
 use Rattle.opt_exprs.proofs.operands.nodes.step_operands.Goals as goal
 use Rattle.opt_exprs.proofs.operands.nodes.step_operands.Goals.{in-Fewer, in-Becomes}

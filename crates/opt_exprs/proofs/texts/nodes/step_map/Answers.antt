@@ -1,10 +1,10 @@
 use Rattle.std.proofs.Common.{Bool}
 use Rattle.std.proofs.lemmas.Result.{IfOk-weaker}
-use Rattle.opt_known.specs.State.{progress}
+use Rattle.opt_base.specs.State.{progress}
 use Rattle.theory_meaning.specs.Engine.{Engine}
 use Rattle.ast_types.specs.Reading.{expr_of}
 use Rattle.theory_rewriting.specs.Steps.{Place}
-use Rattle.opt_steps.specs.NodeSteps.{ExprStep}
+use Rattle.opt_base.specs.NodeSteps.{ExprStep}
 use Rattle.opt_exprs.specs.Parts.{Folds}
 use Rattle.opt_exprs.proofs.Folding.{map_step}
 use Rattle.opt_exprs.proofs.texts.nodes.step_map.Goals as goal

@@ -1,4 +1,4 @@
-use Rattle.opt_exprs.proofs.Folding.{text_passed, text_changed, text_same}
+use Rattle.opt_exprs.proofs.Folding.{text_passed, text_changed, ast_same}
 use Rattle.opt_exprs.proofs.texts.nodes.step_text.Goals as goal
 
 pub returns-then-branch : goal.returns-then-branch
@@ -14,4 +14,4 @@ pub returns : goal.returns
 returns c =
     let q = rw c.if-branch.false at c.in_ok-text_folds.ensures in
     let n = rw c.if-branch-2.false at c.in_ok-change_text.ensures in
-    text_same c.requires q n
+    ast_same c.requires q n

@@ -1,8 +1,8 @@
 use Rattle.std.proofs.Common.{Bool}
 use Rattle.std.proofs.lemmas.Result.{IfOk-weaker}
-use Rattle.opt_known.specs.State.{progress}
+use Rattle.opt_base.specs.State.{progress}
 use Rattle.ast_types.specs.Reading.{expr_of}
-use Rattle.opt_steps.specs.Folded.{FoldsConstant}
+use Rattle.opt_base.specs.Folded.{FoldsConstant}
 use Rattle.opt_exprs.specs.Parts.{Folds}
 use Rattle.opt_exprs.proofs.Folding.{text_folded}
 use Rattle.opt_exprs.proofs.texts.nodes.text_folds.Goals as goal

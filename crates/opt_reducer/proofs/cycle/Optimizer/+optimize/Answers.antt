@@ -1,7 +1,7 @@
 use Rattle.std.proofs.Common.{◌≡◌, ◌<◌, rules, ◌||◌, List, length, Option, refl, sym, ap, ◌∙◌, subst, arith}
 use Rattle.std.proofs.lemmas.Result.{on_ok_weaker}
 use Rattle.std.specs.declared.num.NonZeroUsize.{NonZeroUsize}
-use Rattle.opt_known.specs.State.{progress}
+use Rattle.opt_base.specs.State.{progress}
 use Rattle.base_tokens.specs.declared.op_assignment.OpAssignment.{OpAssignment}
 use Rattle.base_tokens.specs.declared.ident.Ident.{Ident}
 use Rattle.rhai_base.specs.declared.dynamic.Dynamic.{Dynamic}

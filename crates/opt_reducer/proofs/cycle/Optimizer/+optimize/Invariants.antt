@@ -1,5 +1,5 @@
 use Rattle.std.proofs.Common.{◌+◌, ◌*◌}
-use Rattle.opt_known.specs.State.{progress}
+use Rattle.opt_base.specs.State.{progress}
 use Rattle.ast_types.specs.Reading.{subject_of, cases_of, expressions_of, arms_of, expr_of, exprs_of, pairs_of, maybe_of, stmt_of, stmts_of}
 use Rattle.theory_rewriting.proofs.rules.Arms.{arms_weight}
 use Rattle.theory_meaning.specs.Walk.{total, over_pairs, over_maybe}

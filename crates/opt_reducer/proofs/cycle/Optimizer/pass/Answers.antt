@@ -1,5 +1,5 @@
 use Rattle.std.proofs.Common.{sym, ap, subst}
-use Rattle.opt_known.specs.State.{known_of, progress}
+use Rattle.opt_base.specs.State.{known_of, progress}
 use Rattle.ast_types.specs.Reading.{stmts_of}
 use Rattle.opt_reducer.specs.Parts.{record_of}
 use Rattle.opt_reducer.specs.Pass.{PassRun}

@@ -1,6 +1,6 @@
 use Rattle.std.proofs.Common.{rules, ap, ◌∙◌}
 use Rattle.std.proofs.lemmas.Fn.{filter_same}
-use Rattle.opt_known.specs.State.{known_of}
+use Rattle.opt_base.specs.State.{known_of}
 use Rattle.ast_types.specs.Reading.{shared_names}
 use Rattle.theory_rewriting.specs.Known.{unknown}
 use Rattle.opt_stmts.proofs.Names.{is_unknown, left}

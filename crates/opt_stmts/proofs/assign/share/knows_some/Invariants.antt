@@ -1,5 +1,5 @@
 use Rattle.std.proofs.Common.{◌≡◌, drop}
-use Rattle.opt_known.specs.State.{known_of}
+use Rattle.opt_base.specs.State.{known_of}
 use Rattle.ast_types.specs.Reading.{shared_names}
 use Rattle.opt_stmts.specs.SettledAssignments.{knows_some}
 use Rattle.opt_stmts.proofs.assign.share.knows_some.Given as goal

@@ -1,7 +1,7 @@
 use Rattle.std.proofs.Common.{List, Option, ap, ◌∙◌}
 use Rattle.std.specs.declared.num.NonZeroUsize.{NonZeroUsize}
 use Rattle.base_tokens.specs.declared.ident.Ident.{Ident}
-use Rattle.opt_known.specs.State.{known_of}
+use Rattle.opt_base.specs.State.{known_of}
 use Rattle.ast_types.specs.Reading.{shared_names}
 use Rattle.theory_rewriting.specs.Known.{unknown}
 use Rattle.opt_stmts.proofs.FiredAssignments.{shared}

@@ -2,7 +2,7 @@ use Rattle.std.proofs.Common.{◌≡◌, rules, true, false, ◌&&◌, not, refl
 use Rattle.ast_types.specs.Reading.{shapes, shared_names, stmt_of, stmt_of-Share}
 use Rattle.ast_types.proofs.Cases.{stmt_cases}
 use Rattle.theory_meaning.specs.Tree.{Share}
-use Rattle.opt_known.specs.State.{known_of}
+use Rattle.opt_base.specs.State.{known_of}
 use Rattle.opt_stmts.specs.Firing.{answer}
 use Rattle.opt_stmts.specs.SettledAssignments.{shares_nothing, is_settled_share}
 use Rattle.opt_stmts.proofs.FiredStatements.{fires_as}

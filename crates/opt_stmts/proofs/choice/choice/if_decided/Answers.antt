@@ -4,7 +4,7 @@ use Rattle.ast_types.specs.declared.stmt.Stmt.{Stmt}
 use Rattle.ast_types.specs.Reading.{stmt_of, stmts_of}
 use Rattle.theory_rewriting.specs.Rules.{if_decided, block_or_noop}
 use Rattle.theory_rewriting.proofs.Keeping.{keeps_chosen}
-use Rattle.opt_steps.proofs.Stepping.{stmt_rewrite_as}
+use Rattle.opt_base.proofs.Stepping.{stmt_rewrite_as}
 use Rattle.opt_stmts.proofs.choice.choice.if_decided.Goals as goal
 
 pub returns : goal.returns

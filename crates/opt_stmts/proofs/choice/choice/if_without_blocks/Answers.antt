@@ -3,7 +3,7 @@ use Rattle.std.proofs.lemmas.Result.{IfOk-weaker}
 use Rattle.ast_types.specs.declared.stmt.Stmt.{Stmt}
 use Rattle.ast_types.specs.Reading.{expr_of, stmt_of}
 use Rattle.theory_rewriting.specs.Rules.{condition_alone}
-use Rattle.opt_steps.proofs.Stepping.{stmt_rewrite_as}
+use Rattle.opt_base.proofs.Stepping.{stmt_rewrite_as}
 use Rattle.opt_stmts.proofs.Choosing.{bare_if}
 use Rattle.opt_stmts.proofs.choice.choice.if_without_blocks.Goals as goal
 

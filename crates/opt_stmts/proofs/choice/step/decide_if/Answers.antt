@@ -2,7 +2,7 @@ use Rattle.std.proofs.Common.{refl, sym, ap, ◌∙◌}
 use Rattle.ast_types.specs.declared.stmt.FlowControl.{FlowControl}
 use Rattle.ast_types.specs.Reading.{stmt_of, stmt_of-If}
 use Rattle.ast_types.proofs.Cases.{stmt_cases}
-use Rattle.opt_steps.proofs.Stepping.{rewrite_decided, stmt_rewrite_as}
+use Rattle.opt_base.proofs.Stepping.{rewrite_decided, stmt_rewrite_as}
 use Rattle.opt_stmts.specs.Flows.{if_of}
 use Rattle.opt_stmts.proofs.OtherChoices.{stays}
 use Rattle.opt_stmts.proofs.choice.step.decide_if.Goals as goal

@@ -2,7 +2,7 @@ use Rattle.std.proofs.Common.{◌≡◌, true, false, sym, ap, ◌∙◌}
 use Rattle.ast_types.specs.declared.stmt.FlowControl.{FlowControl}
 use Rattle.ast_types.specs.Reading.{expr_of, stmt_of, stmts_of, stmt_of-If}
 use Rattle.ast_types.proofs.Cases.{stmt_cases}
-use Rattle.opt_steps.proofs.Stepping.{stmt_put, stmt_rewrite_as}
+use Rattle.opt_base.proofs.Stepping.{stmt_put, stmt_rewrite_as}
 use Rattle.opt_stmts.specs.Flows.{if_of}
 use Rattle.opt_stmts.specs.SettledChoices.{is_nest}
 use Rattle.opt_stmts.proofs.FiredStatements.{fires_by}

@@ -1,0 +1,9 @@
+pub mod Leaving
+pub mod Switches
+pub mod Among
+pub mod ProgramHosts
+pub mod Listing
+pub mod Runs
+pub mod Shows
+pub mod Turns
+pub mod Writes

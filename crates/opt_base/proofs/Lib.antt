@@ -1,0 +1,14 @@
+pub mod Stack
+pub mod Maps
+pub mod Tokens
+pub mod Undecided
+pub mod Listed
+pub mod Roots
+pub mod Passing
+pub mod Places
+pub mod Stepping
+pub mod Unknown
+pub mod WholeParts
+pub mod NoneBelow
+pub mod Functions
+pub mod Others

@@ -1,0 +1,9 @@
+pub mod Bindings
+pub mod State
+pub mod Folded
+pub mod NodeSteps
+pub mod Passes
+pub mod Places
+pub mod Standing
+pub mod Whole
+pub mod Walks

@@ -1,2 +1,0 @@
-pub mod Stack
-pub mod Maps

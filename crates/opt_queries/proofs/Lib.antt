@@ -1,3 +1,0 @@
-pub mod NoneBelow
-pub mod Listed
-pub mod Others

@@ -1,6 +1,0 @@
-use Rattle.ast_types.proofs.Cases.{expr_cases}
-use Rattle.opt_steps.proofs.Unknown.{no_known_value}
-use Rattle.opt_steps.proofs.known.known_value.Goals as goal
-
-pub returns-in_default : goal.returns-in_default
-returns-in_default c = no_known_value _ (expr_cases c.args.expr.now) c.in_default.not-Variable

@@ -1,6 +1,0 @@
-pub mod Folded
-pub mod NodeSteps
-pub mod Passes
-pub mod Places
-pub mod Standing
-pub mod Whole

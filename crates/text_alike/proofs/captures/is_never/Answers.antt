@@ -1,6 +1,0 @@
-use Rattle.ast_types.proofs.Cases.{expr_cases}
-use Rattle.text_alike.proofs.Captured.{no_and_does}
-use Rattle.text_alike.proofs.captures.is_never.Goals as goal
-
-pub returns-in_default : goal.returns-in_default
-returns-in_default c = no_and_does (expr_cases c.args.expr.now) c.in_default.not-And c.in_default.not-IntegerConstant

@@ -1,6 +1,0 @@
-use Rattle.ast_types.proofs.Cases.{expr_cases}
-use Rattle.text_same.proofs.Others.{other_char}
-use Rattle.text_same.proofs.leaves.is_char.Goals as goal
-
-pub returns-in_default : goal.returns-in_default
-returns-in_default c = other_char (expr_cases c.args.second.now) c.in_default.not-CharConstant c.args.value

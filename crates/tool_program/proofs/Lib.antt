@@ -1,5 +1,0 @@
-pub mod Listing
-pub mod Runs
-pub mod Shows
-pub mod Turns
-pub mod Writes

@@ -1,4 +1,0 @@
-use Rattle.tool_program.proofs.program.run_words.Goals as goal
-
-pub returns-in-None-clause-usage : goal.returns-in-None-clause-usage
-returns-in-None-clause-usage g c = c.put_usage.ensures.usage

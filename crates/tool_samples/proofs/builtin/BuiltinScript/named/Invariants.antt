@@ -1,6 +1,0 @@
-use Rattle.std.proofs.Common.{◌≡◌, drop}
-use Rattle.tool_samples.specs.BuiltinScripts.{all_scripts, script_among, script_named}
-use Rattle.tool_samples.proofs.builtin.BuiltinScript.named.Given as goal
-
-abbrev pub invariant-loop-script : goal.invariant-loop-script
-invariant-loop-script l = (l.script-items ≡ all_scripts) × (script_among (drop l.script-index all_scripts) l.name ≡ script_named l.name)

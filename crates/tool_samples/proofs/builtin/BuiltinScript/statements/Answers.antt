@@ -1,6 +1,0 @@
-use Rattle.std.proofs.Common.{rules}
-use Rattle.ast_types.specs.Reading.{shapes}
-use Rattle.tool_samples.proofs.builtin.BuiltinScript.statements.Goals as goal
-
-pub returns-in-Empty : goal.returns-in-Empty
-returns-in-Empty c = search (rules, shapes)

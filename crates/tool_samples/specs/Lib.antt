@@ -1,2 +1,0 @@
-pub mod BuiltinScripts
-pub mod ProgramHost
