@@ -13,6 +13,7 @@ use Rattle.theory_rewriting.specs.Rules as rule
 use Rattle.theory_rewriting.specs.Rules.{ExprRule}
 use Rattle.theory_rewriting.specs.Steps.{Progress, here, Place, is_chain_node}
 use Rattle.theory_rewriting.proofs.Keeping.{keeps_unit}
+use Rattle.theory_rewriting.proofs.rules.Chains.{linked}
 use Rattle.ast_types.specs.declared.expr.BinaryExpr.{BinaryExpr}
 use Rattle.ast_types.specs.declared.expr.Expr as declared
 use Rattle.opt_base.specs.NodeSteps.{ExprStep}
@@ -43,7 +44,7 @@ module _ (r : Engine) (p : Place) (s s' : Progress) (e' : Expr) (d : s'.is_dirty
       let a = both_true (may_stand p UnitConstant) _ h in
       let b = both_true f.negated (is_unit_expr l) a.1 in
       subst (λ x. ExprStep true r p s s' (link dot f l m) x) (sym i)
-      (record { rule = subst (λ y. ExprRule (here r s) (link dot f y m) UnitConstant) (unit_is l b.1) (rule.unit_ends dot f m b.0); stays = in_place p dot f l m UnitConstant a.0; fired = d; known = k }, keeps_unit _)
+      (record { rule = subst (λ y. ExprRule (here r s) (link dot f y m) UnitConstant) (unit_is l b.1) (linked dot (rule.unit_ends b.0)); stays = in_place p dot f l m UnitConstant a.0; fired = d; known = k }, keeps_unit _)
 
   pub unit_ends : (e : Expr) → ends_in_unit p e ≡ true → ExprStep true r p s s' e e'
   unit_ends (Dot f l m) h = chain_ends true f l m h

@@ -16,10 +16,11 @@ use Rattle.theory_rewriting.specs.Indexing.{expr_at, pair_for, or_unit}
 use Rattle.theory_rewriting.specs.Known.{Known}
 use Rattle.theory_rewriting.specs.Parts.{constant_of, named, link}
 use Rattle.theory_rewriting.specs.Rules as rule
-use Rattle.theory_rewriting.specs.Rules.{StepRule, ExprRule}
+use Rattle.theory_rewriting.specs.Rules.{StepRule, ChainRule}
 use Rattle.theory_rewriting.specs.Steps.{Place}
 use Rattle.theory_rewriting.proofs.Keeping.{keeps_constant_of}
 use Rattle.theory_rewriting.proofs.Reducing.{root_of_value, unit_of_value}
+use Rattle.theory_rewriting.proofs.rules.Chains.{linked}
 use Rattle.theory_rewriting.proofs.rules.Equality.{text_is}
 use Rattle.theory_meaning.proofs.PureTrees.{split}
 use Rattle.opt_base.specs.Standing.{may_stand}
@@ -36,15 +37,15 @@ pub record Answers (k : Context) (dot : Bool) (f : ChainFlags) (e a part : Expr)
   pub rule : StepRule k dot f e a part
 
 -- the chain becomes that, or goes on from it
-chain_rule : {k : Context} {dot : Bool} {f : ChainFlags} {e a part b : Expr} {g : Expr → Expr} → StepRule k dot f e a part → StepCase f.breaks b a g → ExprRule k (link dot f e b) (g part)
-chain_rule {dot = dot} h alone = rule.step_answers dot h
-chain_rule {dot = dot} h (first next m a r q) = rule.chain_goes_on dot next m r q h
+chain_rule : {k : Context} {dot : Bool} {f : ChainFlags} {e a part b : Expr} {g : Expr → Expr} → StepRule k dot f e a part → StepCase f.breaks b a g → ChainRule k dot f e b (g part)
+chain_rule h alone = rule.step_answers h
+chain_rule h (first next m a r q) = rule.chain_goes_on next m r q h
 
 -- it takes the place of the base and of that step
 pub rewrites : {r : Engine} {ks : List Known} (p : Place) (dot : Bool) (f : ChainFlags) (e b part : Expr) → Answers (knowing r ks) dot f e (argument f.breaks b) part → may_stand p (onward f.breaks b part) ≡ true → Rewrites r ks p (link dot f e b) (onward f.breaks b part)
 rewrites p dot f e b part h s =
     let c = step_cases f.breaks b in
-    record { rule = chain_rule h.rule c; stays = stands_there p dot f e b (onward f.breaks b part) s; keeps = keeps_step dot f e part c h.fits h.is_part }
+    record { rule = linked dot (chain_rule h.rule c); stays = stands_there p dot f e b (onward f.breaks b part) s; keeps = keeps_step dot f e part c h.fits h.is_part }
 
 none_is : {A B : Type 0} {v : B} → None ≡ Some v → A
 none_is {v = v} h = absurd (let z : None ≡ Some v = h in cc)
@@ -192,22 +193,22 @@ module _ (r : Engine) (ks : List Known) (p : Place) (f : ChainFlags) where
   abbrev Knows : Bool → Expr → Expr → Value → Type 0
   Knows dot e b v = Rewrites r ks p (link dot f e b) (onward f.breaks b (constant_of v))
 
-  known_by : (dot : Bool) (e b : Expr) (v : Value) → constant_of v ≡ onward f.breaks b (constant_of v) → may_stand p (onward f.breaks b (constant_of v)) ≡ true → ExprRule (knowing r ks) (link dot f e b) (constant_of v) → Knows dot e b v
+  known_by : (dot : Bool) (e b : Expr) (v : Value) → constant_of v ≡ onward f.breaks b (constant_of v) → may_stand p (onward f.breaks b (constant_of v)) ≡ true → ChainRule (knowing r ks) dot f e b (constant_of v) → Knows dot e b v
   known_by dot e b v q s h =
       let m : may_stand p (constant_of v) ≡ true = subst (λ x. may_stand p x ≡ true) (sym q) s in
-      subst (Rewrites r ks p (link dot f e b)) q (record { rule = h; stays = stands_there p dot f e b (constant_of v) m; keeps = keeps_constant_of (link dot f e b) v })
+      subst (Rewrites r ks p (link dot f e b)) q (record { rule = linked dot h; stays = stands_there p dot f e b (constant_of v) m; keeps = keeps_constant_of (link dot f e b) v })
 
   known_property : (ns : List Text) (x : Text) (q : PropertyNames) (v : Value) (o : Option Value) → known_value ks (Variable ns x) ≡ o → property_of o q.name ≡ Some v → may_stand p (onward f.breaks (Property q) (constant_of v)) ≡ true → Knows true (Variable ns x) (Property q) v
   known_property [] x q v (Some (MapV fs)) h y s =
       let i = some_is (entry fs q.name) v y in
-      known_by true (Variable [] x) (Property q) v (onward_property f.breaks q (constant_of v)) s (subst (λ z. ExprRule (knowing r ks) (Dot f (Variable [] x) (Property q)) (constant_of z)) i (rule.known_property fs h))
+      known_by true (Variable [] x) (Property q) v (onward_property f.breaks q (constant_of v)) s (subst (λ z. ChainRule (knowing r ks) true f (Variable [] x) (Property q) (constant_of z)) i (rule.known_property fs h))
   known_property (n ∷ ns) x q v (Some (MapV fs)) h y s = none_is h
   known_property ns x q v _ h y s = none_is y
 
   known_entry : (ns : List Text) (x : Text) (b : Expr) (v : Value) (o u : Option Value) → known_value ks (Variable ns x) ≡ o → constant_value b ≡ u → entry_of o u ≡ Some v → may_stand p (onward f.breaks b (constant_of v)) ≡ true → Knows false (Variable ns x) b v
   known_entry [] x b v (Some (MapV fs)) (Some (TextV y)) h i q s =
       let z = some_is (entry fs y) v q in
-      known_by false (Variable [] x) b v (onward_constant f.breaks b (constant_of v) (TextV y) i) s (subst (λ w. ExprRule (knowing r ks) (Index f (Variable [] x) b) (constant_of w)) z (rule.known_entry fs y h i))
+      known_by false (Variable [] x) b v (onward_constant f.breaks b (constant_of v) (TextV y) i) s (subst (λ w. ChainRule (knowing r ks) false f (Variable [] x) b (constant_of w)) z (rule.known_entry fs y h i))
   known_entry (n ∷ ns) x b v (Some (MapV fs)) (Some (TextV y)) h i q s = none_is h
   known_entry ns x b v _ _ h i q s = none_is q
 

@@ -16,7 +16,7 @@ use Rattle.theory_rewriting.specs.Normal.{IsNormal, HasNormalParts}
 use Rattle.theory_rewriting.specs.Parts.{constant_of, named, link}
 use Rattle.theory_rewriting.specs.Rewriting.{BaseTo, base, by_expr_rule}
 use Rattle.theory_rewriting.specs.Rules as rule
-use Rattle.theory_rewriting.specs.Rules.{StepRule, ExprRule}
+use Rattle.theory_rewriting.specs.Rules.{StepRule, ChainRule}
 use Rattle.theory_rewriting.specs.Steps.{Place, MayBecome, NoExprRule}
 use Rattle.opt_base.specs.Standing.{may_stand}
 use Rattle.opt_chains.specs.Answers.{whole_value, method_answer, word_answer, answer_at, constant_answer, entry_of, known_answer, allowed}
@@ -123,12 +123,6 @@ module _ {r : Engine} {ks : List Known} {p : Place} {dot : Bool} {f : ChainFlags
 word_is : (r : Engine) (optional : Bool) (v w : Value) (c : Text) → word_answer r v c ≡ Some w → (optional && is_unit v) ≡ false → method_answer r optional v (named c false) no_exprs ≡ Some w
 word_is r optional v w c h n = ap (λ x. if not x then word_answer r v c else None) n ∙ h
 
--- a chain at which this is refused
-abbrev Refuses : Engine → List Known → Place → Expr → Expr → Type 0
-Refuses r ks p (Dot f e b) e' = Still r ks p true f e b → MayBecome p (Dot f e b) e' → ⊥
-Refuses r ks p (Index f e b) e' = Still r ks p false f e b → MayBecome p (Index f e b) e' → ⊥
-Refuses r ks p _ e' = Unit {0}
-
 reads_alone : {r : Engine} {ks : List Known} {dot : Bool} {f : ChainFlags} {e a e' : Expr} → StepRule (knowing r ks) dot f e a e' → Reads f.breaks a a (λ x. x)
 reads_alone {f = f} (rule.property_of_constant {p = q} fs h) = reads_property f.breaks q
 reads_alone {f = f} (rule.index_of_constant {i = i} v j u h q x) = reads_constant f.breaks i j q
@@ -148,18 +142,14 @@ module _ {r : Engine} {ks : List Known} {p : Place} where
   step_refused {f = f} (rule.type_of_method v h n) s i m = by_constant s i v _ h (word_is r f.negated v (TextV (mapped_type_name r v)) (codes "type_of") refl n) m
   step_refused {f = f} (rule.is_shared_method v h n) s i m = by_constant s i v _ h (word_is r f.negated v (BoolV false) (codes "is_shared") refl n) m
 
-refuses : {r : Engine} {ks : List Known} (p : Place) {x e' : Expr} → ExprRule (knowing r ks) x e' → Refuses r ks p x e'
-refuses p (rule.unit_ends true f b n) = λ s m. not_ended s n refl m
-refuses p (rule.unit_ends false f b n) = λ s m. not_ended s n refl m
-refuses p (rule.step_answers true h) = λ s m. step_refused h s (reads_alone h) m
-refuses p (rule.step_answers false h) = λ s m. step_refused h s (reads_alone h) m
-refuses p (rule.chain_goes_on true next {f = f} {a = a} n t q h) = λ s m. step_refused h s (reads_first f.breaks next n a t q) m
-refuses p (rule.chain_goes_on false next {f = f} {a = a} n t q h) = λ s m. step_refused h s (reads_first f.breaks next n a t q) m
-refuses p (rule.known_property {f = f} {p = q} fs h) = λ s m. by_known s (reads_property f.breaks q) (entry fs q.name) (ap (λ o. property_of o q.name) h) m
-refuses p (rule.known_entry {f = f} {i = i} fs y h q) = λ s m. by_known s (reads_constant f.breaks i _ q) (entry fs y) (ap (λ o. entry_of o (constant_value i)) h ∙ ap (entry_of (Some (MapV fs))) q) m
-refuses p _ = tt
+  refused_rule : {dot : Bool} {f : ChainFlags} {e b e' : Expr} → ChainRule (knowing r ks) dot f e b e' → Still r ks p dot f e b → MayBecome p (link dot f e b) e' → ⊥
+  refused_rule (rule.unit_ends n) s m = not_ended s n refl m
+  refused_rule (rule.step_answers h) s m = step_refused h s (reads_alone h) m
+  refused_rule {f = f} (rule.chain_goes_on next {a = a} n t q h) s m = step_refused h s (reads_first f.breaks next n a t q) m
+  refused_rule {f = f} (rule.known_property {p = q} fs h) s m = by_known s (reads_property f.breaks q) (entry fs q.name) (ap (λ o. property_of o q.name) h) m
+  refused_rule {f = f} (rule.known_entry {i = i} fs y h q) s m = by_known s (reads_constant f.breaks i _ q) (entry fs y) (ap (λ o. entry_of o (constant_value i)) h ∙ ap (entry_of (Some (MapV fs))) q) m
 
 module _ (r : Engine) (ks : List Known) (p : Place) where
   pub no_rule : (dot : Bool) (f : ChainFlags) (e b : Expr) → allowed (may_stand p (onward f.breaks b UnitConstant)) (constant_answer r dot f.negated e (argument f.breaks b)) ≡ None → allowed (may_stand p (onward f.breaks b UnitConstant)) (known_answer ks dot e b) ≡ None → literal_answer (may_stand p (onward f.breaks b UnitConstant)) dot e (argument f.breaks b) ≡ None → ends_in_unit p (link dot f e b) ≡ false → HasNormalParts (knowing r ks) (link dot f e b) → NoExprRule (knowing r ks) p (link dot f e b)
-  no_rule true f e b c n l u h e' q m = refuses p q (record { constants = c; names = n; literals = l; ends = u; normal = h.0 }) m
-  no_rule false f e b c n l u h e' q m = refuses p q (record { constants = c; names = n; literals = l; ends = u; normal = h.0 }) m
+  no_rule true f e b c n l u h e' (rule.dot_rule q) m = refused_rule q (record { constants = c; names = n; literals = l; ends = u; normal = h.0 }) m
+  no_rule false f e b c n l u h e' (rule.index_rule q) m = refused_rule q (record { constants = c; names = n; literals = l; ends = u; normal = h.0 }) m

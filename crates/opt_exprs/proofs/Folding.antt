@@ -82,12 +82,6 @@ no_rule : {k : Context} {e e' : Expr} → ExprRule k e e' → Unfolded k e → �
 no_rule (rule.text_changes q) u = no_part_changes u.0 u.1 q
 no_rule (rule.text_folds vs q) u = let folds = ap joined_value q in let none = u.2 in absurd cc
 no_rule (rule.map_of_constants vs q) u = let folds = ap map_value q in absurd cc
-no_rule (rule.unit_ends true g r n) u = u
-no_rule (rule.unit_ends false g r n) u = u
-no_rule (rule.step_answers true q) u = u
-no_rule (rule.step_answers false q) u = u
-no_rule (rule.chain_goes_on true next g r n q) u = u
-no_rule (rule.chain_goes_on false next g r n q) u = u
 no_rule _ u = u
 
 text-kept : (s s' : Progress) (e e' : Expr) → is_interpolated e ≡ true → ((r : Engine) → ExprParts r e → constant_value e ≡ None) → parts_change e ≡ false → s' ≡ s → e' ≡ e → (r : Engine) (p : Place) → ExprKept r p s s' e e'

@@ -211,12 +211,6 @@ expr_rule_folds (rule.type_of_folds v h) = (_, by_type_of v h)
 expr_rule_folds (rule.is_shared_folds v h) = (_, by_is_shared v h)
 expr_rule_folds (rule.fn_folds f h valid) = (_, by_fn f h valid)
 expr_rule_folds (rule.curry_folds f us vs h q) = (_, by_curry f us vs h q)
-expr_rule_folds (rule.unit_ends true g r n) = tt
-expr_rule_folds (rule.unit_ends false g r n) = tt
-expr_rule_folds (rule.step_answers true q) = tt
-expr_rule_folds (rule.step_answers false q) = tt
-expr_rule_folds (rule.chain_goes_on true next g r n q) = tt
-expr_rule_folds (rule.chain_goes_on false next g r n q) = tt
 expr_rule_folds _ = tt
 
 stmt_rule_folds : {k : Context} {w : Bool} {c : Callee} {es : Exprs} {x' : Stmt} → StmtRule k w (FnCallStmt c es) x' → (v : Value) × Folds k.engine c es v

@@ -111,12 +111,6 @@ no_rule p rule.or_of_none s m = few_stay p _ _ refl refl s.1 m
 no_rule p (rule.coalesce_changes q h) s m = s.0 _ (q, h)
 no_rule p rule.coalesce_of_one s m = few_stay p _ _ refl refl s.1 m
 no_rule p rule.coalesce_of_none s m = few_stay p _ _ refl refl s.1 m
-no_rule p (rule.unit_ends true g r n) s m = s
-no_rule p (rule.unit_ends false g r n) s m = s
-no_rule p (rule.step_answers true q) s m = s
-no_rule p (rule.step_answers false q) s m = s
-no_rule p (rule.chain_goes_on true next g r n q) s m = s
-no_rule p (rule.chain_goes_on false next g r n q) s m = s
 no_rule p _ s m = s
 
 pub operands_stay : {r : Engine} {p : Place} {s : Progress} {e e' : Expr} → has_operation e ≡ true → ComesOf outcome.Kept p e e' → PassStep false r p s s e e'

@@ -52,12 +52,6 @@ has_expr_rules _ = false
 
 expr_ruled : {k : Context} {e e' : Expr} → ExprRule k e e' → has_expr_rules e ≡ true
 expr_ruled (rule.array_of_constants h) = refl
-expr_ruled (rule.unit_ends true g r n) = refl
-expr_ruled (rule.unit_ends false g r n) = refl
-expr_ruled (rule.step_answers true q) = refl
-expr_ruled (rule.step_answers false q) = refl
-expr_ruled (rule.chain_goes_on true next g r n q) = refl
-expr_ruled (rule.chain_goes_on false next g r n q) = refl
 expr_ruled _ = refl
 
 abbrev has_stmt_rules : Stmt → Bool

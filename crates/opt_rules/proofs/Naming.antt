@@ -76,12 +76,6 @@ name_rules p {k = k} (rule.known_name {x = x} v i) h m =
     let z : None ≡ Some v = h ∙ known_becomes p k.known x v (constant_of v) i (root_of_value v) (unit_of_value v) m in cc
 name_rules p {k = k} (rule.known_pointer {x = x} f i q) h m =
     let z : None ≡ Some (PointerV f no_values) = h ∙ known_becomes p k.known x (PointerV f no_values) (pointer_call f) i refl refl m in cc
-name_rules p (rule.unit_ends true g r n) h m = h
-name_rules p (rule.unit_ends false g r n) h m = h
-name_rules p (rule.step_answers true q) h m = h
-name_rules p (rule.step_answers false q) h m = h
-name_rules p (rule.chain_goes_on true next g r n q) h m = h
-name_rules p (rule.chain_goes_on false next g r n q) h m = h
 name_rules p _ h m = h
 
 pub name_stays : {p : Place} {s : Progress} (e : Expr) → is_variable e ≡ true → None ≡ known_there p s.known e → (r : Engine) → ExprStep false r p s s e e

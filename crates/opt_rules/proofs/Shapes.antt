@@ -62,12 +62,6 @@ Unfolded _ = ⊥
 
 array_rules : {k : Context} {e e' : Expr} → ExprRule k e e' → Unfolded e → ⊥
 array_rules (rule.array_of_constants {vs = vs} i) h = let z : None ≡ Some vs = sym h ∙ i in cc
-array_rules (rule.unit_ends true g r n) h = h
-array_rules (rule.unit_ends false g r n) h = h
-array_rules (rule.step_answers true q) h = h
-array_rules (rule.step_answers false q) h = h
-array_rules (rule.chain_goes_on true next g r n q) h = h
-array_rules (rule.chain_goes_on false next g r n q) h = h
 array_rules _ h = h
 
 array_stays : {s : Progress} (e : Expr) → is_array e ≡ true → ((r : Engine) → ExprParts r e → is_constant e ≡ false) → (r : Engine) (p : Place) → ExprStep false r p s s e e
@@ -146,12 +140,6 @@ braces_rules : (p : Place) {k : Context} {e e' : Expr} → ExprRule k e e' → S
 braces_rules p rule.braces_empty h m = let z : false ≡ true = ap not (sym (may_become p no_stmts UnitConstant m)) ∙ h in cc
 braces_rules p (rule.braces_of_expression {e}) h m = let z : false ≡ true = ap not (sym (may_become p (stmt (ExprStmt e) no_stmts) e m)) ∙ h in cc
 braces_rules p (rule.braces_of_call i) h m = let z : false ≡ true = sym i ∙ h in cc
-braces_rules p (rule.unit_ends true g r n) h m = h
-braces_rules p (rule.unit_ends false g r n) h m = h
-braces_rules p (rule.step_answers true q) h m = h
-braces_rules p (rule.step_answers false q) h m = h
-braces_rules p (rule.chain_goes_on true next g r n q) h m = h
-braces_rules p (rule.chain_goes_on false next g r n q) h m = h
 braces_rules p _ h m = h
 
 kept : {p : Place} {s : Progress} (e : Expr) → is_braces e ≡ true → is_settled p e ≡ true → (r : Engine) → ExprStep false r p s s e e

@@ -11,7 +11,7 @@ use Rattle.theory_rewriting.specs.Normal.{IsNormal, HasNormalParts, StmtHasNorma
 use Rattle.theory_rewriting.specs.Parts.{link}
 use Rattle.theory_rewriting.specs.Rewriting.{ExprTo, same_expr, then_expr, by_expr_rule, in_text, in_array, in_map, in_braces, in_call, in_stray_method, in_chain, in_and, in_or, in_coalesce, ExprsTo, exprs_none, exprs_more, PairsTo, pairs_none, pairs_more, ChainTo, in_dot, in_index, BaseTo, base, ArgumentTo, same_argument, in_method, in_brackets, StepsTo, same_steps, last_method, last_index, more_dot, more_index, TargetTo, same_target, in_target, GuardTo, guard, MaybeTo, maybe_none, maybe_some, ArmsTo, arms_none, arms_more, StmtTo, same_stmt, then_stmt, by_stmt_rule, in_if, in_switch, in_while, in_do, in_for, in_var, in_assignment, in_block, in_try, in_expression, in_call_statement, in_break, in_return, in_import, RestTo, same_stmts, then_stmts, by_list_rule, in_head, in_tail, flag_forgotten}
 use Rattle.theory_rewriting.specs.Rules as rule
-use Rattle.theory_rewriting.specs.Rules.{ExprRule, StmtRule, ListRule}
+use Rattle.theory_rewriting.specs.Rules.{ChainRule, ExprRule, StmtRule, ListRule}
 use Rattle.theory_rewriting.specs.Steps.{Place, Anywhere, AsBase, AsGuard, NoExprRule, NoStmtRule, IsNormalAt, is_chain_node, is_method}
 use Rattle.theory_rewriting.specs.SurelyUnit.{is_surely_unit}
 use Rattle.theory_rewriting.proofs.Reducing.{root_for_value, root_of_value}
@@ -152,12 +152,7 @@ is_literal (BoolConstant b) = true
 is_literal _ = false
 
 literal_has_no_rule : {k : Context} {e e' : Expr} → ExprRule k e e' → is_literal e ≡ false
-literal_has_no_rule (rule.unit_ends true f r h) = refl
-literal_has_no_rule (rule.unit_ends false f r h) = refl
-literal_has_no_rule (rule.step_answers true s) = refl
-literal_has_no_rule (rule.step_answers false s) = refl
-literal_has_no_rule (rule.chain_goes_on true next m r h s) = refl
-literal_has_no_rule (rule.chain_goes_on false next m r h s) = refl
+literal_has_no_rule (rule.array_of_constants h) = refl
 literal_has_no_rule _ = refl
 
 no : {A : Type 0} → true ≡ false → A
@@ -225,6 +220,13 @@ link_root : (dot : Bool) (m : ChainFlags) (l r : Expr) → root_of (link dot m l
 link_root true m l r = refl
 link_root false m l r = refl
 
+chain_root : {k : Context} {dot : Bool} {f : ChainFlags} {e a e' : Expr} → ChainRule k dot f e a e' → root_of e' ≡ None
+chain_root (rule.unit_ends q) = refl
+chain_root (rule.step_answers s) = (step_rule s).answer
+chain_root (rule.chain_goes_on next {e' = e'} m r q s) = link_root next m e' r
+chain_root (rule.known_property {p = p} fs q) = root_of_value (entry fs p.name)
+chain_root (rule.known_entry fs y q t) = root_of_value (entry fs y)
+
 -- a rule makes a place of a node by taking it out of a part, in which nothing is left to do
 place_made : {k : Context} {o x : Expr} (r : Root) → HasNormalParts k o → root_of o ≡ None → ExprRule k o x → root_of x ≡ Some r → IsNormal (ExprTo k) x
 place_made {x = x} r h i rule.braces_of_expression j = braced_normal x h
@@ -232,13 +234,10 @@ place_made r h i (rule.operator_folds {v = v} q) j = no_place (root_for_value v)
 place_made r h i rule.and_of_one j = first_normal h
 place_made r h i rule.or_of_one j = first_normal h
 place_made r h i rule.coalesce_of_one j = first_normal h
-place_made r h i (rule.unit_ends dot f x q) j = no_place refl j
-place_made r h i (rule.step_answers dot s) j = no_place (step_rule s).answer j
-place_made r h i (rule.chain_goes_on dot next m b q s) j = no_place (link_root next m _ b) j
+place_made r h i (rule.dot_rule s) j = no_place (chain_root s) j
+place_made r h i (rule.index_rule s) j = no_place (chain_root s) j
 place_made r h i (rule.known_name v q) j = no_place i refl
 place_made r h i (rule.known_pointer f q t) j = no_place i refl
-place_made r h i (rule.known_property {p = p} fs q) j = no_place (root_of_value (entry fs p.name)) j
-place_made r h i (rule.known_entry fs y q t) j = no_place (root_of_value (entry fs y)) j
 place_made r h i _ j = no_place refl j
 
 base_rule : {k : Context} (o x : Expr) → HasNormalParts k o → NoExprRule k AsBase o → root_of o ≡ None → ExprRule k o x → Apart k root_of o x

@@ -196,7 +196,7 @@ property_goes f e p x (Some (MapV fs)) v q h g = g fs q (let z : Some (entry fs 
 property_goes f e p x _ v q h g = none_is h
 
 index_goes : {k : Context} (f : ChainFlags) (e i : Expr) (o u : Option Value) (v : Value) → constant_value e ≡ o → constant_value i ≡ u → index_of o u ≡ Some v → ExprGoes k (is_unit v) (Index f e i)
-index_goes f e i (Some a) (Some b) v q r h = (constant_of v, rule.step_answers false (rule.index_of_constant a b v q r h), root_of_value v, λ u. unit_of_value v ∙ u)
+index_goes f e i (Some a) (Some b) v q r h = (constant_of v, rule.index_rule (rule.step_answers (rule.index_of_constant a b v q r h)), root_of_value v, λ u. unit_of_value v ∙ u)
 index_goes f e i (Some a) None v q r h = none_is h
 index_goes f e i None u v q r h = none_is h
 
@@ -204,7 +204,7 @@ index_goes f e i None u v q r h = none_is h
 pub constant_chain_goes : {k : Context} (e : Expr) (v : Value) → chain_answer e ≡ Some v → ExprGoes k (is_unit v) e
 constant_chain_goes (Dot f e (Property p)) v h =
     property_goes f e (Property p) p.name (constant_value e) v refl (asked f.negated _ v h) (λ fs q r.
-    (constant_of (entry fs p.name), rule.step_answers true (rule.property_of_constant fs q), root_of_value (entry fs p.name), λ u. unit_of_value (entry fs p.name) ∙ ap is_unit r ∙ u))
+    (constant_of (entry fs p.name), rule.dot_rule (rule.step_answers (rule.property_of_constant fs q)), root_of_value (entry fs p.name), λ u. unit_of_value (entry fs p.name) ∙ ap is_unit r ∙ u))
 constant_chain_goes (Index f e i) v h = index_goes f e i (constant_value e) (constant_value i) v refl refl (asked f.negated _ v h)
 constant_chain_goes _ v h = none_is h
 

@@ -69,6 +69,17 @@ pub data StepRule (k : Context) : (dot : Bool) → ChainFlags → Expr → Expr 
   type_of_method : {f : ChainFlags} {e : Expr} (v : Value) → constant_value e ≡ Some v → (f.negated && is_unit v) ≡ false → StepRule k true f e (MethodCall (named (codes "type_of") false) no_exprs) (StringConstant (mapped_type_name k.engine v))
   is_shared_method : {f : ChainFlags} {e : Expr} (v : Value) → constant_value e ≡ Some v → (f.negated && is_unit v) ≡ false → StepRule k true f e (MethodCall (named (codes "is_shared") false) no_exprs) (BoolConstant false)
 
+-- of a chain over a base, by what stands behind it
+pub data ChainRule (k : Context) : (dot : Bool) → ChainFlags → Expr → Expr → Expr → Type 0 where
+  -- past a `?` a unit ends the chain with unit
+  unit_ends : {dot : Bool} {f : ChainFlags} {a : Expr} → f.negated ≡ true → ChainRule k dot f UnitConstant a UnitConstant
+  -- a chain of one step is what the step answers; a longer one goes on from that
+  step_answers : {dot : Bool} {f : ChainFlags} {e a e' : Expr} → StepRule k dot f e a e' → ChainRule k dot f e a e'
+  chain_goes_on : {dot : Bool} (next : Bool) {f : ChainFlags} {e a e' : Expr} (m : ChainFlags) (r : Expr) → f.breaks ≡ false → StepRule k dot f e a e' → ChainRule k dot f e (link next m a r) (link next m e' r)
+  -- a part of a name that is known as a constant map
+  known_property : {f : ChainFlags} {x : Text} {p : PropertyNames} (fs : Fields) → look k.known x ≡ Some (MapV fs) → ChainRule k true f (Variable [] x) (Property p) (constant_of (entry fs p.name))
+  known_entry : {f : ChainFlags} {x : Text} {i : Expr} (fs : Fields) (y : Text) → look k.known x ≡ Some (MapV fs) → constant_value i ≡ Some (TextV y) → ChainRule k false f (Variable [] x) i (constant_of (entry fs y))
+
 -- of expressions
 pub data ExprRule (k : Context) : Expr → Expr → Type 0 where
   -- an array of constants is its value
@@ -101,17 +112,13 @@ pub data ExprRule (k : Context) : Expr → Expr → Type 0 where
   is_shared_folds : {captures : Bool} {e : Expr} (v : Value) → constant_value e ≡ Some v → ExprRule k (FnCall (named (codes "is_shared") captures) (expr e no_exprs)) (BoolConstant false)
   fn_folds : {captures : Bool} {e : Expr} (f : Text) → constant_value e ≡ Some (TextV f) → is_valid_name f ≡ true → ExprRule k (FnCall (named (codes "Fn") captures) (expr e no_exprs)) (DynamicConstant (PointerV f (values [])))
   curry_folds : {captures : Bool} {e : Expr} {es : Exprs} (f : Text) (us : Values) (vs : List Value) → constant_value e ≡ Some (PointerV f us) → constant_values es ≡ Some vs → ExprRule k (FnCall (named (codes "curry") captures) (expr e es)) (DynamicConstant (PointerV f (values (items us ++ vs))))
-  -- past a `?` a unit ends the chain with unit
-  unit_ends : (dot : Bool) (f : ChainFlags) (r : Expr) → f.negated ≡ true → ExprRule k (link dot f UnitConstant r) UnitConstant
-  -- a chain of one step is what the step answers; a longer one goes on from that
-  step_answers : (dot : Bool) {f : ChainFlags} {e a e' : Expr} → StepRule k dot f e a e' → ExprRule k (link dot f e a) e'
-  chain_goes_on : (dot next : Bool) {f : ChainFlags} {e a e' : Expr} (m : ChainFlags) (r : Expr) → f.breaks ≡ false → StepRule k dot f e a e' → ExprRule k (link dot f e (link next m a r)) (link next m e' r)
-  -- a name that is known as a constant is its value; of a constant map a part
+  -- of a chain
+  dot_rule : {f : ChainFlags} {e a e' : Expr} → ChainRule k true f e a e' → ExprRule k (Dot f e a) e'
+  index_rule : {f : ChainFlags} {e a e' : Expr} → ChainRule k false f e a e' → ExprRule k (Index f e a) e'
+  -- a name that is known as a constant is its value
   known_name : {x : Text} (v : Value) → look k.known x ≡ Some v → ExprRule k (Variable [] x) (constant_of v)
   -- a pointer without values may be the call that makes it
   known_pointer : {x : Text} (f : Text) → look k.known x ≡ Some (PointerV f (values [])) → is_valid_name f ≡ true → ExprRule k (Variable [] x) (pointer_call f)
-  known_property : {f : ChainFlags} {x : Text} {p : PropertyNames} (fs : Fields) → look k.known x ≡ Some (MapV fs) → ExprRule k (Dot f (Variable [] x) (Property p)) (constant_of (entry fs p.name))
-  known_entry : {f : ChainFlags} {x : Text} {i : Expr} (fs : Fields) (y : Text) → look k.known x ≡ Some (MapV fs) → constant_value i ≡ Some (TextV y) → ExprRule k (Index f (Variable [] x) i) (constant_of (entry fs y))
 
 -- of statements; w: whether the statement's value is wanted
 pub data StmtRule (k : Context) (w : Bool) : Stmt → Stmt → Type 0 where

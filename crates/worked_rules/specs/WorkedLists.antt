@@ -10,7 +10,7 @@ use Rattle.theory_meaning.specs.Tree.{Expr, DynamicConstant, StringConstant, Boo
 use Rattle.theory_meaning.specs.WorkedForms.{int, nothing_set, joining, ran, ends, i, op, call}
 use Rattle.theory_rewriting.specs.Context.{Inside, noting, under, open_list}
 use Rattle.theory_rewriting.specs.Rewriting.{RestTo, then_stmts, by_expr_rule, by_stmt_rule, by_list_rule, in_expression, in_block, in_head, in_tail}
-use Rattle.theory_rewriting.specs.Rules.{StmtRule, known_name, known_property, known_entry, nested_if, nested_if_joins, share_known, share_nothing, after_leave, pure_goes, lone_goes, pure_inside_goes, last_return, last_return_goes, last_return_noop, last_unit_goes, last_unit_noop, self_assign, known_pointer}
+use Rattle.theory_rewriting.specs.Rules.{StmtRule, known_name, known_property, known_entry, nested_if, nested_if_joins, share_known, share_nothing, after_leave, pure_goes, lone_goes, pure_inside_goes, last_return, last_return_goes, last_return_noop, last_unit_goes, last_unit_noop, self_assign, known_pointer, dot_rule, index_rule}
 use Rattle.worked_rules.specs.WorkedNodes.{dot, index, property}
 use Rattle.worked_rules.specs.WorkedRewrites.{Row, f, asks_f}
 
@@ -66,12 +66,12 @@ map = DynamicConstant (MapV (field (codes "a") (i 1) no_fields))
 -- const m = #{a: 1}; m.a
 known_property_row : Row (const "m" map ∷ show (Dot dot (var "m") (property "a")) ∷ []) (const "m" map ∷ show (int 1) ∷ []) (ends_with (WithValue (i 1)) (constant "m" (MapV (field (codes "a") (i 1) no_fields)) ∷ []) [])
 unfolding ran
-known_property_row = (in_tail (in_head (in_expression (by_expr_rule (known_property (field (codes "a") (i 1) no_fields) refl)))), refl, refl)
+known_property_row = (in_tail (in_head (in_expression (by_expr_rule (dot_rule (known_property (field (codes "a") (i 1) no_fields) refl))))), refl, refl)
 
 -- const m = #{a: 1}; m["b"]
 known_entry_row : Row (const "m" map ∷ show (Index index (var "m") (StringConstant (codes "b"))) ∷ []) (const "m" map ∷ show UnitConstant ∷ []) (ends_with (WithValue UnitV) (constant "m" (MapV (field (codes "a") (i 1) no_fields)) ∷ []) [])
 unfolding ran
-known_entry_row = (in_tail (in_head (in_expression (by_expr_rule (known_entry (field (codes "a") (i 1) no_fields) (codes "b") refl refl)))), refl, refl)
+known_entry_row = (in_tail (in_head (in_expression (by_expr_rule (index_rule (known_entry (field (codes "a") (i 1) no_fields) (codes "b") refl refl))))), refl, refl)
 
 -- ---- statements
 

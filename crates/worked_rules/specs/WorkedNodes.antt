@@ -13,7 +13,7 @@ use Rattle.theory_rewriting.specs.Context.{under}
 use Rattle.theory_rewriting.specs.Operands.{passing_goes, after_deciding_go, pure_before_deciding_goes, in_other_operands, unit_goes, after_some_go, texts_join, empty_goes, in_other_parts}
 use Rattle.theory_rewriting.specs.Parts.{named}
 use Rattle.theory_rewriting.specs.Rewriting.{by_expr_rule, by_stmt_rule, in_expression, in_head}
-use Rattle.theory_rewriting.specs.Rules.{StmtRule, call_statement_folds, and_changes, or_changes, coalesce_changes, and_of_one, or_of_one, coalesce_of_one, text_changes, text_folds, map_of_constants, type_of_folds, is_shared_folds, fn_folds, curry_folds, unit_ends, step_answers, chain_goes_on, property_of_constant, index_of_constant, element_of_array, property_of_map, entry_of_map, type_of_method, is_shared_method, while_false, while_true, pure_try, switch_answers, switch_is_if, switch_defaults, switch_narrows, switch_shrinks, switch_forgets, and_of_none, or_of_none, coalesce_of_none}
+use Rattle.theory_rewriting.specs.Rules.{StmtRule, call_statement_folds, and_changes, or_changes, coalesce_changes, and_of_one, or_of_one, coalesce_of_one, text_changes, text_folds, map_of_constants, type_of_folds, is_shared_folds, fn_folds, curry_folds, unit_ends, step_answers, chain_goes_on, property_of_constant, index_of_constant, element_of_array, property_of_map, entry_of_map, type_of_method, is_shared_method, while_false, while_true, pure_try, switch_answers, switch_is_if, switch_defaults, switch_narrows, switch_shrinks, switch_forgets, and_of_none, or_of_none, coalesce_of_none, dot_rule, index_rule}
 use Rattle.worked_rules.specs.WorkedRewrites.{Row, f, asks_f}
 
 -- one expression as a statement
@@ -172,71 +172,71 @@ curry_statement_row = (in_head (by_stmt_rule (call_statement_folds (curry_folds 
 -- ()?.a, ()?[f()]
 unit_dot_row : ExprRow (Dot safe UnitConstant (property "a")) UnitConstant UnitV []
 unfolding ran
-unit_dot_row = (in_head (in_expression (by_expr_rule (unit_ends true _ _ refl))), refl, refl)
+unit_dot_row = (in_head (in_expression (by_expr_rule (dot_rule (unit_ends refl)))), refl, refl)
 
 unit_index_row : ExprRow (Index safe_index UnitConstant ask) UnitConstant UnitV []
 unfolding ran
-unit_index_row = (in_head (in_expression (by_expr_rule (unit_ends false _ _ refl))), refl, refl)
+unit_index_row = (in_head (in_expression (by_expr_rule (index_rule (unit_ends refl)))), refl, refl)
 
 -- a constant map's entry, and one that is missing
 property_row : ExprRow (Dot dot (DynamicConstant (MapV (field (codes "a") (i 1) no_fields))) (property "a")) (int 1) (i 1) []
 unfolding ran
-property_row = (in_head (in_expression (by_expr_rule (step_answers true (property_of_constant (field (codes "a") (i 1) no_fields) refl)))), refl, refl)
+property_row = (in_head (in_expression (by_expr_rule (dot_rule (step_answers (property_of_constant (field (codes "a") (i 1) no_fields) refl))))), refl, refl)
 
 missing_row : ExprRow (Dot dot (DynamicConstant (MapV (field (codes "a") (i 1) no_fields))) (property "b")) UnitConstant UnitV []
 unfolding ran
-missing_row = (in_head (in_expression (by_expr_rule (step_answers true (property_of_constant (field (codes "a") (i 1) no_fields) refl)))), refl, refl)
+missing_row = (in_head (in_expression (by_expr_rule (dot_rule (step_answers (property_of_constant (field (codes "a") (i 1) no_fields) refl))))), refl, refl)
 
 -- a constant array's element, a bit, and a character
 element_row : ExprRow (Index index (DynamicConstant (ArrayV (values (i 1 ∷ i 2 ∷ [])))) (int 1)) (int 2) (i 2) []
 unfolding ran
-element_row = (in_head (in_expression (by_expr_rule (step_answers false (index_of_constant (ArrayV (values (i 1 ∷ i 2 ∷ []))) (i 1) (i 2) refl refl refl)))), refl, refl)
+element_row = (in_head (in_expression (by_expr_rule (index_rule (step_answers (index_of_constant (ArrayV (values (i 1 ∷ i 2 ∷ []))) (i 1) (i 2) refl refl refl))))), refl, refl)
 
 bit_row : ExprRow (Index index (int 2) (int 1)) t (BoolV true) []
 unfolding ran
-bit_row = (in_head (in_expression (by_expr_rule (step_answers false (index_of_constant (i 2) (i 1) (BoolV true) refl refl refl)))), refl, refl)
+bit_row = (in_head (in_expression (by_expr_rule (index_rule (step_answers (index_of_constant (i 2) (i 1) (BoolV true) refl refl refl))))), refl, refl)
 
 -- [1, true && false][1]
 array_row : ExprRow (Index index (ArrayOf (exprs (int 1 ∷ And (exprs (t ∷ n ∷ [])) ∷ []))) (int 1)) (And (exprs (t ∷ n ∷ []))) (BoolV false) []
 unfolding ran
-array_row = (in_head (in_expression (by_expr_rule (step_answers false (element_of_array (pos 1) 1 refl refl refl refl)))), refl, refl)
+array_row = (in_head (in_expression (by_expr_rule (index_rule (step_answers (element_of_array (pos 1) 1 refl refl refl refl))))), refl, refl)
 
 -- #{a: 1, b: 2}.b, #{a: 1}["c"]
 map_property_row : ExprRow (Dot dot (MapOf (pairs ((codes "a", int 1) ∷ (codes "b", int 2) ∷ [])) (codes "a" ∷ codes "b" ∷ [])) (property "b")) (int 2) (i 2) []
 unfolding ran
-map_property_row = (in_head (in_expression (by_expr_rule (step_answers true (property_of_map refl)))), refl, refl)
+map_property_row = (in_head (in_expression (by_expr_rule (dot_rule (step_answers (property_of_map refl))))), refl, refl)
 
 map_entry_row : ExprRow (Index index (MapOf (pairs ((codes "a", int 1) ∷ [])) (codes "a" ∷ [])) (text "c")) UnitConstant UnitV []
 unfolding ran
-map_entry_row = (in_head (in_expression (by_expr_rule (step_answers false (entry_of_map (codes "c") refl refl)))), refl, refl)
+map_entry_row = (in_head (in_expression (by_expr_rule (index_rule (step_answers (entry_of_map (codes "c") refl refl))))), refl, refl)
 
 -- 1.type_of(), ().is_shared()
 type_of_method_row : ExprRow (Dot dot (int 1) (MethodCall (named (codes "type_of") false) (exprs []))) (text "i64") (TextV (codes "i64")) []
 unfolding ran
-type_of_method_row = (in_head (in_expression (by_expr_rule (step_answers true (type_of_method (i 1) refl refl)))), refl, refl)
+type_of_method_row = (in_head (in_expression (by_expr_rule (dot_rule (step_answers (type_of_method (i 1) refl refl))))), refl, refl)
 
 is_shared_method_row : ExprRow (Dot dot UnitConstant (MethodCall (named (codes "is_shared") false) (exprs []))) n (BoolV false) []
 unfolding ran
-is_shared_method_row = (in_head (in_expression (by_expr_rule (step_answers true (is_shared_method UnitV refl refl)))), refl, refl)
+is_shared_method_row = (in_head (in_expression (by_expr_rule (dot_rule (step_answers (is_shared_method UnitV refl refl))))), refl, refl)
 
 -- #{a: "xy"}.a[0]: the chain goes on from "xy"
 property_first_row : ExprRow (Dot dot (DynamicConstant (MapV (field (codes "a") (TextV (codes "xy")) no_fields))) (Index index (property "a") (int 0))) (Index index (text "xy") (int 0)) (CharV 120) []
 unfolding ran character
-property_first_row = (in_head (in_expression (by_expr_rule (chain_goes_on true false index (int 0) refl (property_of_constant (field (codes "a") (TextV (codes "xy")) no_fields) refl)))), refl, refl)
+property_first_row = (in_head (in_expression (by_expr_rule (dot_rule (chain_goes_on false index (int 0) refl (property_of_constant (field (codes "a") (TextV (codes "xy")) no_fields) refl))))), refl, refl)
 
 -- [5][0].is_shared()
 index_first_row : ExprRow (Index dot (DynamicConstant (ArrayV (values (i 5 ∷ [])))) (Dot dot (int 0) (MethodCall (named (codes "is_shared") false) (exprs [])))) (Dot dot (int 5) (MethodCall (named (codes "is_shared") false) (exprs []))) (BoolV false) []
 unfolding ran
-index_first_row = (in_head (in_expression (by_expr_rule (chain_goes_on false true dot (MethodCall (named (codes "is_shared") false) (exprs [])) refl (index_of_constant (ArrayV (values (i 5 ∷ []))) (i 0) (i 5) refl refl refl)))), refl, refl)
+index_first_row = (in_head (in_expression (by_expr_rule (index_rule (chain_goes_on true dot (MethodCall (named (codes "is_shared") false) (exprs [])) refl (index_of_constant (ArrayV (values (i 5 ∷ []))) (i 0) (i 5) refl refl refl))))), refl, refl)
 
 -- 1.type_of().is_shared(), 1.is_shared().type_of()
 type_of_first_row : ExprRow (Dot dot (int 1) (Dot dot (MethodCall (named (codes "type_of") false) (exprs [])) (MethodCall (named (codes "is_shared") false) (exprs [])))) (Dot dot (text "i64") (MethodCall (named (codes "is_shared") false) (exprs []))) (BoolV false) []
 unfolding ran
-type_of_first_row = (in_head (in_expression (by_expr_rule (chain_goes_on true true dot (MethodCall (named (codes "is_shared") false) (exprs [])) refl (type_of_method (i 1) refl refl)))), refl, refl)
+type_of_first_row = (in_head (in_expression (by_expr_rule (dot_rule (chain_goes_on true dot (MethodCall (named (codes "is_shared") false) (exprs [])) refl (type_of_method (i 1) refl refl))))), refl, refl)
 
 is_shared_first_row : ExprRow (Dot dot (int 1) (Dot dot (MethodCall (named (codes "is_shared") false) (exprs [])) (MethodCall (named (codes "type_of") false) (exprs [])))) (Dot dot n (MethodCall (named (codes "type_of") false) (exprs []))) (TextV (codes "bool")) []
 unfolding ran
-is_shared_first_row = (in_head (in_expression (by_expr_rule (chain_goes_on true true dot (MethodCall (named (codes "type_of") false) (exprs [])) refl (is_shared_method (i 1) refl refl)))), refl, refl)
+is_shared_first_row = (in_head (in_expression (by_expr_rule (dot_rule (chain_goes_on true dot (MethodCall (named (codes "type_of") false) (exprs [])) refl (is_shared_method (i 1) refl refl))))), refl, refl)
 
 -- [#{a: true && false}, 2][0].a: from a literal whose parts are pure the chain goes on too
 abbrev both : Expr
@@ -247,17 +247,17 @@ map_of x e = MapOf (pairs ((codes x, e) ∷ [])) (codes x ∷ [])
 
 array_first_row : ExprRow (Index dot (ArrayOf (exprs (map_of "a" both ∷ int 2 ∷ []))) (Dot dot (int 0) (property "a"))) (Dot dot (map_of "a" both) (property "a")) (BoolV false) []
 unfolding ran
-array_first_row = (in_head (in_expression (by_expr_rule (chain_goes_on false true dot (property "a") refl (element_of_array (pos 0) 0 refl refl refl refl)))), refl, refl)
+array_first_row = (in_head (in_expression (by_expr_rule (index_rule (chain_goes_on true dot (property "a") refl (element_of_array (pos 0) 0 refl refl refl refl))))), refl, refl)
 
 -- #{a: [true && false]}.a[0]
 map_property_first_row : ExprRow (Dot dot (map_of "a" (ArrayOf (exprs (both ∷ [])))) (Index index (property "a") (int 0))) (Index index (ArrayOf (exprs (both ∷ []))) (int 0)) (BoolV false) []
 unfolding ran
-map_property_first_row = (in_head (in_expression (by_expr_rule (chain_goes_on true false index (int 0) refl (property_of_map refl)))), refl, refl)
+map_property_first_row = (in_head (in_expression (by_expr_rule (dot_rule (chain_goes_on false index (int 0) refl (property_of_map refl))))), refl, refl)
 
 -- #{a: 1}["b"]?.c: a missing entry is unit
 map_entry_first_row : ExprRow (Index dot (map_of "a" (int 1)) (Dot safe (text "b") (property "c"))) (Dot safe UnitConstant (property "c")) UnitV []
 unfolding ran
-map_entry_first_row = (in_head (in_expression (by_expr_rule (chain_goes_on false true safe (property "c") refl (entry_of_map (codes "b") refl refl)))), refl, refl)
+map_entry_first_row = (in_head (in_expression (by_expr_rule (index_rule (chain_goes_on true safe (property "c") refl (entry_of_map (codes "b") refl refl))))), refl, refl)
 
 -- ---- loops and `try`
 

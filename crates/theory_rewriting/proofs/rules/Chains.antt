@@ -4,6 +4,7 @@ use Rattle.rhai_base.specs.Value.{UnitV}
 use Rattle.theory_meaning.specs.Tree.{ChainFlags, Expr, UnitConstant}
 use Rattle.theory_rewriting.specs.Context.{Context}
 use Rattle.theory_rewriting.specs.Parts.{link}
+use Rattle.theory_rewriting.specs.Rules.{ChainRule, ExprRule, dot_rule, index_rule}
 use Rattle.theory_rewriting.proofs.rules.Given.{heavy}
 use Rattle.theory_rewriting.proofs.rules.Steps.{StepObligation}
 use Rattle.theory_rewriting.proofs.rules.Obligation.{ExprObligation}
@@ -30,6 +31,11 @@ module _ (P : Around → Node → Type 0) (l : Bool) (lasts : Lasting P l) where
   base_stood false f e r h = h.1.0
 
 -- ---- the rules
+
+-- as a rule of expressions
+pub linked : {k : Context} (dot : Bool) {f : ChainFlags} {e a e' : Expr} → ChainRule k dot f e a e' → ExprRule k (link dot f e a) e'
+linked true s = dot_rule s
+linked false s = index_rule s
 
 pub unit_ends : {k : Context} (dot : Bool) (f : ChainFlags) (r : Expr) → f.negated ≡ true → ExprObligation k (link dot f UnitConstant r) UnitConstant
 unit_ends dot f r n = record {

@@ -2,12 +2,13 @@
 use Rattle.std.proofs.Common.{◌≡◌, ◌≤◌, Bool, List, Some, true, refl, arith}
 use Rattle.rhai_base.specs.Value.{Value, UnitV, ArrayV, PointerV, values}
 use Rattle.theory_meaning.specs.Constants.{constant_values, constant_for}
-use Rattle.theory_meaning.specs.Tree.{Callee, Expr, DynamicConstant, UnitConstant, ArrayOf, BlockExpr, FnCall, Exprs, ExprStmt, FnCallStmt, no_stmts, stmt}
+use Rattle.theory_meaning.specs.Tree.{ChainFlags, Callee, Expr, DynamicConstant, UnitConstant, ArrayOf, BlockExpr, FnCall, Exprs, ExprStmt, FnCallStmt, no_stmts, stmt}
 use Rattle.theory_meaning.specs.Walk.{Node, Around, whole, throughout, over_expr}
 use Rattle.theory_rewriting.specs.Context.{Context}
 use Rattle.theory_rewriting.specs.Folding.{folded}
+use Rattle.theory_rewriting.specs.Parts.{link}
 use Rattle.theory_rewriting.specs.Rules as rule
-use Rattle.theory_rewriting.specs.Rules.{ExprRule}
+use Rattle.theory_rewriting.specs.Rules.{ChainRule, ExprRule}
 use Rattle.theory_meaning.specs.Weight.{expr_weight}
 use Rattle.theory_rewriting.proofs.Plain.{is_plain_value, folded_plain}
 use Rattle.theory_rewriting.proofs.rules.Logic as logic
@@ -63,6 +64,13 @@ operator_folds {k = k} {c = c} {es = es} {v = v} q = record {
 
 -- ---- every rule
 
+pub chain_rule : {k : Context} {dot : Bool} {f : ChainFlags} {e a e' : Expr} → ChainRule k dot f e a e' → ExprObligation k (link dot f e a) e'
+chain_rule (rule.unit_ends h) = chain.unit_ends _ _ _ h
+chain_rule (rule.step_answers s) = chain.step_answers _ (step_rule s)
+chain_rule (rule.chain_goes_on next m r q s) = chain.chain_goes_on _ next m r q (step_rule s)
+chain_rule (rule.known_property fs h) = names.known_property fs h
+chain_rule (rule.known_entry fs y h q) = names.known_entry fs y h q
+
 pub expr_rule : {k : Context} {e e' : Expr} → ExprRule k e e' → ExprObligation k e e'
 expr_rule (rule.array_of_constants h) = array_of_constants h
 expr_rule rule.braces_empty = braces_empty
@@ -85,10 +93,8 @@ expr_rule (rule.type_of_folds v h) = word.type_of_folds v h
 expr_rule (rule.is_shared_folds v h) = word.is_shared_folds v h
 expr_rule (rule.fn_folds f h j) = word.fn_folds f h j
 expr_rule (rule.curry_folds f us vs h j) = word.curry_folds f us vs h j
-expr_rule (rule.unit_ends dot f r h) = chain.unit_ends dot f r h
-expr_rule (rule.step_answers dot s) = chain.step_answers dot (step_rule s)
-expr_rule (rule.chain_goes_on dot next m r q s) = chain.chain_goes_on dot next m r q (step_rule s)
+expr_rule (rule.dot_rule s) = chain_rule s
+expr_rule (rule.index_rule s) = chain_rule s
 expr_rule (rule.known_name v h) = names.known_name v h
 expr_rule (rule.known_pointer f h q) = names.known_pointer f h q
-expr_rule (rule.known_property fs h) = names.known_property fs h
-expr_rule (rule.known_entry fs y h q) = names.known_entry fs y h q
+

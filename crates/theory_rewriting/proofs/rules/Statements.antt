@@ -128,12 +128,6 @@ call_light (rule.type_of_folds {e = e} v q) h = omega (arith, expr_heavy e)
 call_light (rule.is_shared_folds {e = e} v q) h = omega (arith, expr_heavy e)
 call_light (rule.fn_folds {e = e} f q n) h = omega (arith, expr_heavy e)
 call_light (rule.curry_folds {e = e} f us vs q n) h = omega (arith, expr_heavy e)
-call_light (rule.unit_ends true f r n) h = absurd cc
-call_light (rule.unit_ends false f r n) h = absurd cc
-call_light (rule.step_answers true s) h = absurd cc
-call_light (rule.step_answers false s) h = absurd cc
-call_light (rule.chain_goes_on true next m r n s) h = absurd cc
-call_light (rule.chain_goes_on false next m r n s) h = absurd cc
 call_light _ h = absurd cc
 
 pub call_statement_folds : {k : Context} {w : Bool} {c : Callee} {es : Exprs} {e : Expr} → ExprRule k (FnCall c es) e → StmtObligation k w (FnCallStmt c es) (ExprStmt e)
