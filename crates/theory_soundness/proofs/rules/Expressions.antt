@@ -97,4 +97,3 @@ expr_rule (rule.dot_rule s) = chain_rule s
 expr_rule (rule.index_rule s) = chain_rule s
 expr_rule (rule.known_name v h) = names.known_name v h
 expr_rule (rule.known_pointer f h q) = names.known_pointer f h q
-
