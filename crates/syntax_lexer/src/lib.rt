@@ -9,10 +9,12 @@ mod place;
 mod raw;
 mod read;
 mod symbols;
+mod variables;
 mod words;
 mod written;
 
 pub use lexeme::{Keyword, Lexeme, Mark, Misread};
 pub use place::Place;
 pub use read::{Lexed, next_lexeme};
+pub use variables::{Frame, Variables};
 pub use written::{Piece, Written};

@@ -7,13 +7,12 @@ use crate::inside::Inside;
 use crate::nodes::joined;
 use crate::options::ParseOptions;
 use crate::tables::Table;
-use crate::variables::Variables;
 use rhai_ast::ScriptFuncDef;
 use rhai_base::{Boxed, Ident, ImmutableString, Position, Seq, Token};
 use std::alloc::Global;
 use std::cell::{Cell, RefCell};
 use std::rc::Rc;
-use syntax_lexer::{Keyword, Lexed, Lexeme, Mark, Misread, Place, next_lexeme};
+use syntax_lexer::{Keyword, Lexed, Lexeme, Mark, Misread, Place, Variables, next_lexeme};
 
 /// What is left of a text, what was read of it for the whole script, and its first fault. What is not passed on from
 /// node to node stands in cells, so that nodes are read by `&self`. Behind a fault nothing is left of the text.
@@ -28,7 +27,7 @@ pub(crate) struct Parser<'a> {
     fault: Cell<Option<ParseError>>,
     /// The script's doc text.
     doc: Cell<Option<String>>,
-    pub(crate) variables: RefCell<Variables<'a>>,
+    pub(crate) variables: Variables<'a>,
     pub(crate) table: RefCell<Table<'a>>,
 }
 
@@ -55,7 +54,7 @@ impl<'a> Parser<'a> {
             next: Cell::new(None),
             fault: Cell::new(None),
             doc: Cell::new(None),
-            variables: RefCell::new(Variables::new(alloc)),
+            variables: Variables::new(alloc),
             table: RefCell::new(Table::new(alloc, options.first_closure)),
         }
     }
@@ -165,10 +164,9 @@ impl<'a> Parser<'a> {
             next: _next,
             fault,
             doc,
-            variables,
+            variables: _variables,
             table,
         } = self;
-        let _variables = variables.into_inner();
         let functions = table.into_inner().into_functions();
         let doc = doc.into_inner();
         match fault.into_inner() {

@@ -38,7 +38,6 @@ mod inside;
 mod marks;
 mod needs;
 mod printer;
-mod scopes;
 mod script;
 mod statements;
 mod switches;
@@ -46,6 +45,7 @@ mod table;
 mod tables;
 mod texts;
 mod values;
+mod variables;
 mod words;
 
 pub use error::{SpellError, Unspelled};

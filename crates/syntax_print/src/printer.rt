@@ -4,13 +4,13 @@ ghost use Rattle.std.specs.Prelude.{◌<◌, IfSome};
 
 use crate::error::{SpellError, Unspelled};
 use crate::inside::Inside;
-use crate::scopes::Scopes;
 use crate::table::Table;
 use crate::words::is_name;
 use rhai_base::{ImmutableString, Position};
 use script_tables::{FnLib, allocator_of};
 use std::alloc::Global;
 use std::cell::{Cell, RefCell};
+use syntax_lexer::Variables;
 
 /// What was written so far, and the first fault, in cells, so that nodes are printed by `&self`.
 #[derive(Drop)]
@@ -23,7 +23,7 @@ pub(crate) struct Printer<'t> {
     /// Whether a function is the last that was written.
     ends_function: Cell<bool>,
     pub(crate) table: RefCell<Table<'t>>,
-    pub(crate) scopes: RefCell<Scopes<'t>>,
+    pub(crate) variables: Variables<'t>,
 }
 
 /// A script in print.
@@ -47,7 +47,7 @@ impl<'t> Printer<'t> {
             is_mute: Cell::new(false),
             ends_function: Cell::new(false),
             table: RefCell::new(Table::new(alloc)),
-            scopes: RefCell::new(Scopes::new(alloc)),
+            variables: Variables::new(alloc),
         };
         printer.add_functions(lib);
         printer
@@ -62,10 +62,9 @@ impl<'t> Printer<'t> {
             is_mute: _is_mute,
             ends_function: _ends_function,
             table,
-            scopes,
+            variables: _variables,
         } = self;
         let closures = table.into_inner().into_closures();
-        let _scopes = scopes.into_inner();
         match fault.into_inner() {
             Some(fault) => Err(fault),
             None => Ok(Printed {

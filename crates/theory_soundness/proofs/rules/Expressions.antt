@@ -1,5 +1,5 @@
 -- The rules of expressions: a lemma each, of the rule's name.
-use Rattle.std.proofs.Common.{◌≡◌, List, Some, sym, ap, subst}
+use Rattle.std.proofs.Common.{◌≡◌, List, Some, sym, ap, subst, Bool}
 use Rattle.rhai_base.specs.Value.{Value, UnitV, ArrayV, values}
 use Rattle.theory_meaning.specs.Act.{Gives, Ended, At}
 use Rattle.theory_meaning.specs.ActForms.{give}
