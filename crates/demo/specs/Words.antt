@@ -10,7 +10,7 @@ use Rattle.opt_base.specs.declared.level.OptimizationLevel.TheVariants as level
 use Rattle.base_engine.specs.EngineInfo.{nothing_set}
 use Rattle.script_tables.specs.Table.{table_of}
 use Rattle.rhai_optimizer.specs.Optimised.{IsReducedScript}
-use Rattle.theory_rewriting.specs.Kept.{Keeps}
+use Rattle.theory_soundness.specs.Kept.{Keeps}
 use Rattle.theory_rewriting.specs.Reducible.{IsIrreducibleScript}
 use Rattle.theory_soundness.specs.Refines.{Refines}
 use Rattle.theory_soundness.specs.Reports.{Follows}

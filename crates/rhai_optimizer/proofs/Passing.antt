@@ -9,10 +9,10 @@ use Rattle.ast_types.specs.declared.stmt.Stmt.{Stmt}
 use Rattle.theory_rewriting.specs.Context.{Context, Whole, knowing, open_list}
 use Rattle.theory_rewriting.specs.Known.{Known}
 use Rattle.theory_rewriting.specs.Finished.{IsFinished}
-use Rattle.theory_rewriting.specs.Passes.{Setting, no_pass, one_more, Passes, last_pass, ScriptPasses, PassesWithin}
+use Rattle.theory_soundness.specs.Passes.{Setting, no_pass, one_more, Passes, last_pass, ScriptPasses, PassesWithin}
 use Rattle.theory_rewriting.specs.Rewriting.{StmtsTo, RestTo}
 use Rattle.theory_rewriting.specs.Steps.{Progress, IsReducedBody}
-use Rattle.theory_rewriting.proofs.Passing.{passes_are_bounded, script_passes_to}
+use Rattle.theory_soundness.proofs.Passing.{passes_are_bounded, script_passes_to}
 use Rattle.theory_rewriting.proofs.Flags.{stmts_kept}
 use Rattle.theory_rewriting.proofs.Normal.{list_normal}
 use Rattle.theory_rewriting.proofs.Weights.{stmts_fall}

@@ -20,12 +20,12 @@ use Rattle.theory_rewriting.specs.Known.{Known}
 use Rattle.theory_rewriting.specs.Reducible.{AreIrreducibleBodies, IsIrreducibleScript}
 use Rattle.theory_rewriting.specs.Rewriting.{StmtsTo, same_stmts}
 use Rattle.theory_rewriting.specs.Scripts.{captures_nothing, known_at_top, known_in_bodies, known_inside, MayKnow, nothing_known, none_capture, FunctionsTo, OptimisedTo, ScriptTo}
-use Rattle.theory_rewriting.proofs.Finishing.{finished_stays}
-use Rattle.theory_rewriting.proofs.Irreducible.{body_irreducible}
-use Rattle.theory_rewriting.specs.Kept.{Keeps}
+use Rattle.theory_soundness.proofs.Finishing.{finished_stays}
+use Rattle.theory_soundness.proofs.Irreducible.{body_irreducible}
+use Rattle.theory_soundness.specs.Kept.{Keeps}
 use Rattle.theory_soundness.specs.Refines.{RefinesWhere}
 use Rattle.theory_soundness.proofs.soundness.Following.{keeps_then, refines_then}
-use Rattle.theory_rewriting.proofs.kept.Kept.{captures_nothing_still, script_keeps}
+use Rattle.theory_soundness.proofs.kept.Kept.{captures_nothing_still, script_keeps}
 use Rattle.theory_soundness.proofs.soundness.Start.{agrees_inside}
 use Rattle.theory_soundness.proofs.soundness.Whole.{functions_same, optimised_refines, script_refines}
 use Rattle.opt_base.specs.Walks.{capture_walk, listing}

@@ -11,8 +11,8 @@ use Rattle.theory_meaning.specs.Faults.{IsWellFormedScript}
 use Rattle.theory_meaning.specs.Tree.{Function, Script, Stmts}
 use Rattle.theory_rewriting.specs.Context.{Whole, knowing}
 use Rattle.theory_rewriting.specs.Finished.{IsFinished, IsFinishedScript}
-use Rattle.theory_rewriting.specs.Kept.{Keeps}
-use Rattle.theory_rewriting.specs.Passes.{PassesWithin}
+use Rattle.theory_soundness.specs.Kept.{Keeps}
+use Rattle.theory_soundness.specs.Passes.{PassesWithin}
 use Rattle.theory_rewriting.specs.Reducible.{IsIrreducibleScript}
 use Rattle.theory_soundness.specs.Refines.{RefinesWhere}
 use Rattle.theory_rewriting.specs.Rewriting.{StmtsTo}

@@ -4,7 +4,7 @@ use Rattle.theory_meaning.specs.Engine.{Engine}
 use Rattle.theory_meaning.specs.Tree.{Stmts}
 use Rattle.theory_rewriting.specs.Context.{Context, knowing}
 use Rattle.theory_rewriting.specs.Finished.{IsFinished}
-use Rattle.theory_rewriting.specs.Passes.{Setting, ScriptPasses}
+use Rattle.theory_soundness.specs.Passes.{Setting, ScriptPasses}
 use Rattle.theory_rewriting.specs.Steps.{Progress, IsReducedBody}
 
 -- the number of the passes that were made; it stays at the greatest that a `u64` holds

@@ -10,8 +10,3 @@ pub mod Running
 pub mod Keeping
 pub mod Weights
 pub mod rules
-pub mod kept
-pub mod Finishing
-pub mod Reaching
-pub mod Passing
-pub mod Irreducible

@@ -23,5 +23,3 @@ pub mod Scripts
 pub mod Normal
 pub mod Finished
 pub mod Steps
-pub mod Passes
-pub mod Kept

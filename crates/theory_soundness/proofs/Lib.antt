@@ -1,3 +1,8 @@
+pub mod kept
+pub mod Finishing
+pub mod Reaching
+pub mod Passing
+pub mod Irreducible
 pub mod simulation
 pub mod acts
 pub mod rules

@@ -1,2 +1,4 @@
+pub mod Passes
+pub mod Kept
 pub mod Refines
 pub mod Reports

@@ -8,7 +8,7 @@ use Rattle.theory_meaning.specs.Run.{End, WithValue, WithThrown, WithoutTurns, R
 use Rattle.theory_meaning.specs.Tree.{Stmts, ExprStmt, Block, no_stmts, stmts}
 use Rattle.theory_meaning.specs.WorkedForms.{int, i}
 use Rattle.theory_rewriting.specs.Context.{Context}
-use Rattle.theory_rewriting.specs.Passes.{last_pass, no_pass, ScriptPasses, PassesWithin}
+use Rattle.theory_soundness.specs.Passes.{last_pass, no_pass, ScriptPasses, PassesWithin}
 use Rattle.theory_soundness.specs.Reports.{Follows, ReportsFollow}
 use Rattle.theory_rewriting.specs.Rewriting.{same_stmts}
 

@@ -27,8 +27,8 @@ use Rattle.theory_soundness.proofs.rules.Lists.{list_rule}
 use Rattle.theory_soundness.proofs.soundness.Behind.{tail_sound}
 use Rattle.theory_soundness.proofs.rules.Tables.{meant_again}
 use Rattle.theory_soundness.proofs.soundness.Congruence.{Any, congruent, InsideAlike, StepAlike, step_refl, index_alike, method_alike, StepsAlike, steps_refl, last_alike, more_alike, chain_alike, target_alike, switch_alike, body_alike, rounds_alike, try_alike}
-use Rattle.theory_rewriting.proofs.kept.Lasting.{same_count, same_keys, rest_fits, calls_fit, target_fits}
-use Rattle.theory_rewriting.proofs.kept.Standing.{table_stays}
+use Rattle.theory_soundness.proofs.kept.Lasting.{same_count, same_keys, rest_fits, calls_fit, target_fits}
+use Rattle.theory_soundness.proofs.kept.Standing.{table_stays}
 
 -- ---- nodes whose parts are rewritten
 

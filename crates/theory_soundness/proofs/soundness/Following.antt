@@ -4,7 +4,7 @@ use Rattle.theory_meaning.specs.Act.{Store, Ending, Stuck, IsStuck, Ended, Halte
 use Rattle.theory_meaning.specs.Engine.{Engine}
 use Rattle.theory_meaning.specs.Tree.{Function, Script}
 use Rattle.theory_meaning.proofs.Preserves.{begins_trans}
-use Rattle.theory_rewriting.specs.Kept.{AreNoHeavier, Keeps}
+use Rattle.theory_soundness.specs.Kept.{AreNoHeavier, Keeps}
 use Rattle.theory_rewriting.specs.Known.{Known}
 use Rattle.theory_soundness.specs.Refines.{EndsSo, RunRefines, RefinesWhere}
 

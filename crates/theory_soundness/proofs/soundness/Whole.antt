@@ -19,7 +19,7 @@ use Rattle.theory_rewriting.specs.Scripts.{captures_nothing, known_at_top, known
 use Rattle.theory_soundness.proofs.soundness.Apart.{AllApart, apart_finish, BodiesApart, same_script}
 use Rattle.theory_soundness.proofs.soundness.Capturing.{is_apart, list_apart}
 use Rattle.theory_soundness.proofs.soundness.Derivation.{stmts_sound}
-use Rattle.theory_rewriting.proofs.kept.Kept.{captures_nothing_still}
+use Rattle.theory_soundness.proofs.kept.Kept.{captures_nothing_still}
 use Rattle.theory_soundness.proofs.soundness.Scripts.{setting_in, FunctionsTo as FunctionsSimulate, FunctionTo as FunctionSimulates, no_functions as none_simulate, functions as more_simulate, function, KnownInside, inside_nothing, ScriptTo as ScriptSimulates, run_refines}
 use Rattle.theory_soundness.proofs.soundness.Start.{agrees_inside}
 

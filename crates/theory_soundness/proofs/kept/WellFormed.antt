@@ -12,7 +12,7 @@ use Rattle.theory_rewriting.specs.Rewriting.{StmtsTo}
 use Rattle.theory_rewriting.specs.Parts.{constant_of, link}
 use Rattle.theory_rewriting.proofs.Plain.{is_plain_value}
 use Rattle.theory_rewriting.proofs.rules.Lasting.{SameNode, same_call, same_call_statement, same_and, same_or, same_coalesce, same_switch, same_map, same_method, same_dot, same_index, same_assignment, same_try, same_break, Lasting}
-use Rattle.theory_rewriting.proofs.kept.Lasting.{stmts_keep}
+use Rattle.theory_soundness.proofs.kept.Lasting.{stmts_keep}
 
 constant_faultless : (l : Bool) (v : Value) → is_plain_value v ≡ true → IsFaultless (whole l) (OfExpr (constant_for v))
 constant_faultless l (PointerV f vs) p = absurd cc

@@ -3,7 +3,7 @@ use Rattle.std.proofs.Common.{◌≡◌, ℕ, ◌+◌, ◌≤◌, true, refl, sy
 use Rattle.theory_meaning.specs.Tree.{Stmts, no_stmts, stmt}
 use Rattle.theory_meaning.specs.Weight.{weight}
 use Rattle.theory_rewriting.specs.Context.{Context, Whole}
-use Rattle.theory_rewriting.specs.Passes.{Setting, no_pass, one_more, Passes, last_pass, ScriptPasses, PassesAreBounded}
+use Rattle.theory_soundness.specs.Passes.{Setting, no_pass, one_more, Passes, last_pass, ScriptPasses, PassesAreBounded}
 use Rattle.theory_rewriting.specs.Rewriting.{StmtsTo, same_stmts, then_stmts, flag_forgotten}
 use Rattle.theory_rewriting.proofs.Flags.{stmts_kept}
 use Rattle.theory_rewriting.proofs.Weights.{stmts_fall}

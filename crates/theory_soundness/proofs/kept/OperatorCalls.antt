@@ -11,7 +11,7 @@ use Rattle.theory_rewriting.specs.Rewriting.{StmtsTo}
 use Rattle.theory_rewriting.specs.Parts.{constant_of, link}
 use Rattle.theory_rewriting.proofs.Plain.{is_plain_value}
 use Rattle.theory_rewriting.proofs.rules.Lasting.{SameNode, same_call, same_call_statement, same_and, same_or, same_coalesce, same_text, same_while, same_share, same_switch, same_map, same_method, same_dot, same_index, same_do, same_for, same_var, same_assignment, same_try, same_break, same_return, same_import, Lasting}
-use Rattle.theory_rewriting.proofs.kept.Lasting.{stmts_keep}
+use Rattle.theory_soundness.proofs.kept.Lasting.{stmts_keep}
 
 -- a constant is no call
 constant_callless : (v : Value) → is_plain_value v ≡ true → CallsOperator (OfExpr (constant_for v))

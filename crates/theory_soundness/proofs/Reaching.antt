@@ -10,9 +10,9 @@ use Rattle.theory_rewriting.specs.Finished.{IrreducibleIsReached}
 use Rattle.theory_rewriting.specs.Reducible.{IsIrreducibleBody, AreIrreducibleBodies}
 use Rattle.theory_rewriting.specs.Rewriting.{StmtsTo, same_stmts, then_stmts, flag_forgotten}
 use Rattle.theory_rewriting.specs.Scripts.{naming_all, FunctionsTo, no_functions, functions}
-use Rattle.theory_rewriting.proofs.Finishing.{body_decided}
+use Rattle.theory_soundness.proofs.Finishing.{body_decided}
 use Rattle.theory_rewriting.proofs.Weights.{stmts_fall}
-use Rattle.theory_rewriting.proofs.kept.WellFormed.{stmts_well}
+use Rattle.theory_soundness.proofs.kept.WellFormed.{stmts_well}
 
 abbrev Reached : Context → Stmts → Type 0
 Reached k ss = (ss' : Stmts) × StmtsTo k Whole true true ss ss' × IsIrreducibleBody k.engine ss'

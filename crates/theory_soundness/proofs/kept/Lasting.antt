@@ -9,7 +9,7 @@ use Rattle.theory_meaning.specs.Walk.{Node, OfExpr, Role, Rest, Around, left_rol
 use Rattle.theory_rewriting.specs.Context.{Context, ListKind, ListContext}
 use Rattle.theory_rewriting.specs.Rewriting.{ExprTo, same_expr, then_expr, by_expr_rule, in_text, in_array, in_map, in_braces, in_call, in_stray_method, in_chain, in_and, in_or, in_coalesce, ExprsTo, exprs_none, exprs_more, PairsTo, pairs_none, pairs_more, ChainTo, in_dot, in_index, BaseTo, base, ArgumentTo, same_argument, in_method, in_brackets, StepsTo, same_steps, last_method, last_index, more_dot, more_index, TargetTo, same_target, in_target, GuardTo, guard, MaybeTo, maybe_none, maybe_some, ArmsTo, arms_none, arms_more, StmtTo, same_stmt, then_stmt, by_stmt_rule, in_if, in_switch, in_while, in_do, in_for, in_var, in_assignment, in_block, in_try, in_expression, in_call_statement, in_break, in_return, in_import, RestTo, same_stmts, then_stmts, by_list_rule, in_head, in_tail, flag_forgotten}
 use Rattle.theory_rewriting.proofs.rules.Lasting.{same_array, same_braces, same_call, same_if, same_block, same_expression, same_call_statement, same_and, same_or, same_coalesce, same_text, same_while, same_switch, same_map, same_method, same_dot, same_index, same_do, same_for, same_var, same_assignment, same_try, same_break, same_return, same_import, Lasting}
-use Rattle.theory_rewriting.proofs.kept.Standing.{table_stays}
+use Rattle.theory_soundness.proofs.kept.Standing.{table_stays}
 use Rattle.theory_rewriting.proofs.rules.Expressions.{expr_rule}
 use Rattle.theory_rewriting.proofs.rules.Statements.{stmt_rule}
 use Rattle.theory_rewriting.proofs.rules.Lists.{list_rule}

@@ -13,7 +13,7 @@ use Rattle.theory_meaning.specs.Weight.{weight}
 use Rattle.theory_meaning.proofs.PureTrees.{split}
 use Rattle.theory_meaning.proofs.Walk.{Alongside, stmts_alongside, every_throughout}
 use Rattle.theory_rewriting.specs.Context.{Context, ListKind, ListContext}
-use Rattle.theory_rewriting.specs.Kept.{AreNoHeavier, Keeps}
+use Rattle.theory_soundness.specs.Kept.{AreNoHeavier, Keeps}
 use Rattle.theory_rewriting.specs.Known.{Known}
 use Rattle.theory_rewriting.specs.Parts.{constant_of, link}
 use Rattle.theory_rewriting.specs.Rewriting.{RestTo}
@@ -21,9 +21,9 @@ use Rattle.theory_rewriting.specs.Scripts.{Captures, is_capturing, captures_noth
 use Rattle.theory_rewriting.proofs.Plain.{is_plain_value}
 use Rattle.theory_rewriting.proofs.Weights.{stmts_fall}
 use Rattle.theory_rewriting.proofs.rules.Lasting.{SameNode, same_call, same_assignment, Lasting}
-use Rattle.theory_rewriting.proofs.kept.Lasting.{stmts_keep}
-use Rattle.theory_rewriting.proofs.kept.OperatorCalls.{calls_stay}
-use Rattle.theory_rewriting.proofs.kept.WellFormed.{stmts_well}
+use Rattle.theory_soundness.proofs.kept.Lasting.{stmts_keep}
+use Rattle.theory_soundness.proofs.kept.OperatorCalls.{calls_stay}
+use Rattle.theory_soundness.proofs.kept.WellFormed.{stmts_well}
 
 -- ---- a test of every node, and where it stands
 
