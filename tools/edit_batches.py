@@ -1,7 +1,8 @@
 """Tries edits of a crate many at once: one edit for each function, and one check of these functions.
 
-A contract stands whatever a body does, so edits of different functions do not disturb each other. Each edit of a batch must
-be told by a goal of its own function; one that is not is tried alone, over the whole crate."""
+A contract stands whatever a body does, so edits of different functions do not disturb each other, and the proofs of all other
+functions are left open. Each edit of a batch must be told by a goal of its own function; one that is not is tried alone, over
+the whole crate."""
 
 import os
 import pathlib
@@ -11,16 +12,21 @@ import subprocess
 import sys
 import tempfile
 
-from edit_places import function_at
+from edit_places import function_at, functions_of, homes_of
 
 PARTS = ("src", "specs", "proofs", "c")
 # How many edits go into one check.
 MOST = 40
 # `names`: only since a proof file names what the edit took away, which says nothing of the contract.
 REFUSED, NAMES, ACCEPTED, LIMIT, BAD = "refused", "names", "accepted", "limit", "bad"
+# How the last line begins where the prover met a limit; what it says of functions stands all the same.
+NO_VERDICT = "rattle: no verdict"
 # What the prover says where it could not read a text, so that no contract was tried.
 UNREAD = re.compile(r"is not in scope|has no field|is no name|expected the end|cannot continue")
 GONE = re.compile(r"proofs/.*(has no field|is not in scope|has no `|was not admitted)")
+
+# A goal that may hold all the same.
+LIMITED = re.compile(r"stopped at its own limit")
 
 
 def kit():
@@ -29,6 +35,54 @@ def kit():
     if not found:
         sys.exit("there is no rt")
     return pathlib.Path(found).resolve().parent.parent
+
+
+# ---- proofs that are left open
+
+# What is called has this for a proof: what calls it is proved by its contract, which `rt ci` has proved.
+OPEN = """use Rattle.{module}.{{statement}}
+
+pub {name}_spec : {{M : Type 1}} → statement M
+{name}_spec = ?
+"""
+WRITTEN = ("Answers.antt", "Invariants.antt", "Proof.antt")
+
+
+def leave_open(copy, crate, turned):
+    """Leaves the proofs of a crate open but those of the functions that are turned, by their folders below proofs/."""
+    proofs = copy / "proofs"
+    written = {str(file.parent.relative_to(proofs)) for file in proofs.rglob("*.antt") if file.name in WRITTEN}
+    homes = homes_of(copy)
+    plain = {folder for file in sorted((copy / "src").rglob("*.rt")) for folder in folders_of(crate, copy, file, homes)}
+    for folder in (written | plain) - turned:
+        cycle = folder.rpartition("/")[2].startswith("+")
+        if cycle and any(folder.endswith(it) for it in turned):
+            continue
+        name, module = folder.rpartition("/")[2], f"{crate}.proofs.{folder.replace('/', '.')}"
+        for file in WRITTEN:
+            (proofs / folder / file).unlink(missing_ok=True)
+        put(proofs / folder / "Proof.antt", OPEN.format(module=module if cycle else module + ".Statement", name=name))
+
+
+def folders_of(crate, copy, file, homes):
+    """The folders below proofs/ of the functions of a file; of one in a cycle there is none."""
+    for path, cycle in functions_of(crate, str(file.relative_to(copy)), file.read_text(), homes):
+        if not cycle:
+            yield below_crate(path).replace("::", "/")
+
+
+def put(file, text):
+    file.parent.mkdir(parents=True, exist_ok=True)
+    file.write_text(text)
+
+
+def folder_of(path, cycle):
+    return "+" + cycle if cycle else below_crate(path).replace("::", "/")
+
+
+def below_crate(path):
+    """A function as `--only` takes it."""
+    return path.split("::", 1)[1]
 
 
 # ---- edits
@@ -41,14 +95,14 @@ class Edit:
         self.crate, self.name = crate, f"{crate}/{file.name.removesuffix('.md').removesuffix('.edit')}"
         self.text = file.read_text()
         self.pairs, self.functions, self.fault = list(pairs_of(self.text)), set(), None
-        texts = {}
+        texts, homes = {}, homes_of(top / "crates" / crate)
         for path, old, new in self.pairs:
             text = texts[path] if path in texts else read(top, crate, path)
             if text.count(old) != 1:
                 self.fault = f"its old text stands {text.count(old)} times in {path}"
                 return
             place = text.index(old) + min(first_difference(old, new), len(old) - 1)
-            self.functions.add(function_at(crate, path, text, place) if path.startswith("src/") else None)
+            self.functions.add(function_at(crate, path, text, place, homes) if path.startswith("src/") else None)
             texts[path] = text.replace(old, new)
         self.fault = None if self.pairs else "it has no pair of lines"
 
@@ -203,8 +257,9 @@ class Room:
     def __exit__(self, *_):
         shutil.rmtree(self.folder, ignore_errors=True)
 
-    def check(self, texts, only):
-        """What a check of the crate with these texts says, and its status."""
+    def check(self, texts, turned):
+        """What a check of the crate with these texts says, and its status: of the functions that are turned alone, where
+        there are any."""
         copy = self.folder / "crate"
         shutil.rmtree(copy, ignore_errors=True)
         for part in PARTS:
@@ -212,7 +267,10 @@ class Room:
                 shutil.copytree(self.crate / part, copy / part)
         for path, text in texts.items():
             (copy / path).write_text(text)
-        words = [*self.words, "--incremental", self.folder / "kept", *(it for name in only for it in ("--only", name))]
+        words = [*self.words, "--incremental", self.folder / "kept"]
+        if turned:
+            leave_open(copy, self.crate.name, {folder_of(*it) for it in turned})
+            words += ["--allow-holes", *(word for path, _ in sorted(turned) for word in ("--only", below_crate(path)))]
         with open(self.folder / "said", "w+", errors="replace") as said:
             status, seconds = measured(words, copy, said, subprocess.STDOUT)
             said.seek(0)
@@ -225,27 +283,31 @@ class Room:
 # ---- what a check tells
 
 
-def below_crate(path):
-    """A function as `--only` takes it."""
-    return path.split("::", 1)[1]
-
-
 def own_goals(text, path, cycle):
-    """The errors at goals of a function."""
-    at = "+" + cycle if cycle else below_crate(path).replace("::", "/")
+    """The errors at goals of a function, each with the line behind it, in which a name that is gone may stand."""
+    at = folder_of(path, cycle)
     module = re.compile(rf"[.]{re.escape(at.replace('/', '.'))}[.`]")
-    errors = (line for line in text.splitlines() if ": error" in line)
-    return [line for line in errors if f"/{at}/" in line or module.search(line)]
+    lines = [*text.splitlines(), ""]
+    errors = ((line, after) for line, after in zip(lines, lines[1:]) if ": error" in line)
+    return [line + after for line, after in errors if f"/{at}/" in line or module.search(line)]
 
 
 def by_goals(goals):
     """What errors at goals tell."""
-    telling = [line for line in goals if not GONE.search(line)]
-    return (REFUSED, telling[0]) if telling else (NAMES, goals[0])
+    telling = [line for line in goals if not GONE.search(line) and not LIMITED.search(line)]
+    if telling:
+        return REFUSED, telling[0]
+    limited = [line for line in goals if LIMITED.search(line)]
+    return (LIMIT, limited[0]) if limited else (NAMES, goals[0])
 
 
 def last_line(text):
     return text.rstrip().split("\n")[-1]
+
+
+def why_unread(text):
+    """Why a check did not reach the prover."""
+    return next((line for line in text.splitlines() if "error" in line), last_line(text))[:160]
 
 
 def told_in_batch(edit, text):
@@ -256,11 +318,14 @@ def told_in_batch(edit, text):
         # (the last two words, should its module be spelled otherwise)
         ends = [it for name, it in verdicts.items() if name.split("::")[-2:] == path.split("::")[-2:]]
         verdict = verdicts.get(path) or (ends[0] if len(ends) == 1 else "")
-        if verdict.startswith("no proof"):
+        goals = own_goals(text, path, cycle)
+        gone = [line for line in goals if GONE.search(line)]
+        if verdict.startswith("no proof: expected answers") and not gone:
             return REFUSED, f"{path}: {verdict}"
-        goals = own_goals(text, path, cycle) if verdict.startswith("not proved") else []
+        if verdict.startswith("no proof: expected answers") and told is None:
+            told = NAMES, gone[0]
         goals = [line for line in goals if not re.match(r"(\./)?src/", line)]
-        if goals and (told is None or told[0] == NAMES):
+        if verdict.startswith("not proved") and goals and (told is None or told[0] == NAMES):
             told = by_goals(goals)
     return told
 
@@ -306,8 +371,9 @@ class Tries:
         texts = {}
         for edit in edits:
             texts = edit.put_into(self.top, texts)
-        text, _ = self.room.check(texts, sorted({below_crate(path) for it in edits for path, _ in it.functions}))
-        if not last_line(text).startswith("only="):
+        text, _ = self.room.check(texts, {function for it in edits for function in it.functions})
+        if not last_line(text).startswith(("only=", NO_VERDICT)):
+            self.tell(f"{len(edits)} edits together: {why_unread(text)}")
             if len(edits) > 1:
                 self.batch(edits[: len(edits) // 2])
                 self.batch(edits[len(edits) // 2 :])

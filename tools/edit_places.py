@@ -3,20 +3,40 @@
 import re
 
 FUNCTION = re.compile(r"^( *)(?:pub(?:\([^)]*\))? )?(?:const )?(?:unsafe )?(?:extern \"C\" )?fn (\w+)", re.M)
+TYPE = re.compile(r"^(?:pub(?:\([^)]*\))? )?(?:struct|enum|trait) (\w+)", re.M)
 CLAUSE = re.compile(r"\s*(requires|ensures|ghost|invariant|decreases)\b")
 CYCLE = re.compile(r"#\[cycle\((\w+)\)\]")
 # File names that are no module of their own.
 ROOTS = ("lib", "main", "mod")
 
 
-def function_at(crate, file, text, place):
-    """The path of the function whose body holds the place, and the name of its cycle if it is in one; else None."""
+def function_at(crate, file, text, place, homes):
+    """The path of the function whose body holds the place, and the name of its cycle if it is in one; else None. A type's
+    own methods stand where the type does, of which `homes` has the modules."""
     holding = [it for it in FUNCTION.finditer(text) if holds(body_of(text, it), place)]
     if not holding:
         return None
     found = holding[-1]
-    modules = [it for it in file.removeprefix("src/").removesuffix(".rt").split("/") if it not in ROOTS]
-    return "::".join([crate, *modules, *impl_of(text, found), found[2]]), cycle_of(text, found)
+    words = impl_of(text, found)
+    modules = homes[words[0]] if words and words[0] in homes else modules_of(file)
+    return "::".join([crate, *modules, *words, found[2]]), cycle_of(text, found)
+
+
+def functions_of(crate, file, text, homes):
+    """The paths and cycles of a file's functions that have a body."""
+    bodies = (body_of(text, it) for it in FUNCTION.finditer(text))
+    return {function_at(crate, file, text, body[0], homes) for body in bodies if body} - {None}
+
+
+def modules_of(file):
+    """The modules that a file of src/ is."""
+    return [it for it in file.removeprefix("src/").removesuffix(".rt").split("/") if it not in ROOTS]
+
+
+def homes_of(folder):
+    """By type of a crate the modules in which it stands."""
+    files = sorted((folder / "src").rglob("*.rt"))
+    return {name: modules_of(str(it.relative_to(folder))) for it in files for name in TYPE.findall(it.read_text())}
 
 
 def holds(body, place):
@@ -31,7 +51,7 @@ def body_of(text, found):
         if opened is not None:
             if line == margin + "}":
                 return opened, ends
-        elif begins == found.start() and line.endswith(";"):
+        elif line.endswith(";"):
             return None
         elif begins == found.start() and line.endswith("}"):
             return begins + line.find("{"), ends

@@ -1,7 +1,8 @@
 #!/usr/bin/env python3
 """Tries wrong bodies: the edits crates/*/must-fail/NAME.edit.md, each of which the prover must refuse.
 
-    python3 tools/edits.py gate           those of tools/wrong_bodies.txt, and those in turn by the number of the commit
+    python3 tools/edits.py gate           those of tools/wrong_bodies.txt, and those in turn by the number of the commit: of both
+                                          what was refused when it was last tried
     python3 tools/edits.py try NAME..     these, or all of these crates
     python3 tools/edits.py stale [N]      those that were not tried at these sources; of N crates, the lowest first
     python3 tools/edits.py                none
@@ -124,6 +125,11 @@ def write_kept(kept):
     KEPT.write_text("".join(f"{name} {made} {outcome} {seconds:.1f}\n" for name, made, outcome, seconds in rows))
 
 
+def was_refused(name, kept):
+    """Whether an edit was refused when it was last tried, at whichever sources."""
+    return name in kept and kept[name][1] in (REFUSED, NAMES)
+
+
 def is_fresh(name, kept):
     """Whether an edit was refused at the sources as they stand."""
     return name in kept and kept[name][:2] == (sum_of(name), REFUSED)
@@ -149,8 +155,12 @@ def shares(kept):
 
 
 def commit_number():
-    ran = subprocess.run(["git", "rev-list", "--count", "HEAD"], cwd=TOP, stdout=subprocess.PIPE, text=True, check=True)
-    return int(ran.stdout)
+    """How many commits lead here; 0 where git does not say."""
+    try:
+        ran = subprocess.run(["git", "rev-list", "--count", "HEAD"], cwd=TOP, capture_output=True, text=True, check=False)
+    except OSError:
+        return 0
+    return int(ran.stdout) if ran.returncode == 0 else 0
 
 
 # ---- tries
@@ -203,7 +213,9 @@ def group_of(name):
 
 def said_of(names, told):
     """What is said of a wrong body for which these edits stand."""
-    if all(told.get(it) == REFUSED for it in names):
+    if not all(it in told for it in names):
+        return "not tried"
+    if all(told[it] == REFUSED for it in names):
         return "refused"
     return "refused, by a name alone" if all(told.get(it) in (REFUSED, NAMES) for it in names) else "NOT REFUSED"
 
@@ -213,7 +225,7 @@ def gate(run):
     faults, kept, turn = faults_of_list(), read_kept(), commit_number() % SHARES
     here = shares(kept)
     in_turn = {it for it in edits() if here.get(edits()[it].crate) == turn}
-    failed = run.all_of(in_each_gate() | in_turn)
+    failed = run.all_of({it for it in in_each_gate() | in_turn if was_refused(it, kept)})
     for what, names in named()[WRONG_BODIES]:
         print(said_of(names, run.told), f"{what} ({', '.join(names)})", sep=": ")
     for what in [*faults, *(f"{name}: {run.told.get(name, 'not tried')}" for name in failed)]:
