@@ -1,6 +1,6 @@
 """Makes the library for C and Rust, and tests what stands over it: bindings/rust, bindings/c, bindings/python.
 
-    python3 tools/bindings.py          makes the library by `rt lib`, which proves what is not proved yet and keeps it
+    python3 tools/bindings.py          makes the library by `rt lib`, which proves what `tools/install.py library` has not
     python3 tools/bindings.py built    makes it over the libraries that `rt ci` has left, which it proved
 
 The last line is 'N passed, M failed'. It needs cargo, a C compiler and Python; and 10 seconds, once the library stands."""
@@ -111,27 +111,31 @@ def is_wanted(text):
 
 
 def of_c(room):
-    """The two programs in C."""
+    """The three programs in C."""
     heap = f"{kit()}/c/liblibc_c.a"
-    compiler = [os.environ.get("CC", "cc"), "-O2", "-Wall", "-Wextra"]
+    compiler = [os.environ.get("CC", "cc"), "-O2", "-Wall", "-Wextra", "-pthread"]
     results = []
-    for name in ("example", "rooms"):
+    for name in ("example", "rooms", "stacks"):
         source = f"{ROOT}/bindings/c/{name}.c"
         results.append(said(*compiler, source, ARCHIVE, heap, "-o", f"{room}/{name}") is not None)
     results.append(is_wanted(said(f"{room}/example", SCRIPT)))
     # what the C library keeps at hand for a thread would count as held
     counted = {**os.environ, "GLIBC_TUNABLES": "glibc.malloc.tcache_count=0"}
-    passed, failed = counts(said(f"{room}/rooms", env=counted))
-    return passed + sum(results), failed + len(results) - sum(results) + (passed == 0)
+    for words, how in (([f"{room}/rooms"], {"env": counted}), ([f"{room}/stacks"], {})):
+        passed, failed = counts(said(*words, **how))
+        results += [True] * passed + [False] * (failed + (passed == 0))
+    return sum(results), len(results) - sum(results)
 
 
 def of_python(room):
-    """The module in Python over a shared object."""
+    """The module in Python over a shared object, and its tests."""
     heap, made = f"{kit()}/c/liblibc_c.a", f"{room}/balvuzsom.so"
     whole = ["-Wl,--whole-archive", ARCHIVE, "-Wl,--no-whole-archive", heap]
     is_linked = said(os.environ.get("CC", "cc"), "-shared", "-o", made, *whole) is not None
-    is_well = is_linked and is_wanted(said(sys.executable, f"{ROOT}/bindings/python/balvuzsom.py", made, SCRIPT))
-    return int(is_well), int(not is_well)
+    python = [sys.executable, "-B"]
+    is_well = is_linked and is_wanted(said(*python, f"{ROOT}/bindings/python/balvuzsom.py", made, SCRIPT))
+    passed, failed = counts(said(*python, f"{ROOT}/bindings/python/tests.py", made))
+    return passed + is_well, failed + (not is_well) + (passed == 0)
 
 
 def main():

@@ -1,7 +1,7 @@
 """Writes docs/CALLS.md: what rhai_lang passes on to users, by the sources.
 
     python3 tools/calls.py          writes the page
-    python3 tools/calls.py check    ends with status 1 where the page is not what would be written
+    python3 tools/calls.py check    says whether the page is what would be written; the last line is 'N passed, M failed'
 
 Sources are read by their indentation: an item begins in the first column, what it holds four columns further in. Names
 are followed through `pub use` to the file that defines them; contracts are left out."""
@@ -193,7 +193,15 @@ def page():
     return "\n".join(parts)
 
 
+def check():
+    """Whether the page is what would be written."""
+    is_well = PAGE.exists() and PAGE.read_text(encoding="utf-8") == page()
+    print("docs/CALLS.md is as the sources are" if is_well else "docs/CALLS.md is stale: python3 tools/calls.py writes it")
+    print(f"{int(is_well)} passed, {int(not is_well)} failed")
+    return is_well
+
+
 if __name__ == "__main__":
     if sys.argv[1:] == ["check"]:
-        sys.exit(None if PAGE.exists() and PAGE.read_text(encoding="utf-8") == page() else "docs/CALLS.md is stale")
+        sys.exit(not check())
     PAGE.write_text(page(), encoding="utf-8")

@@ -4,6 +4,7 @@
 #include "balvuzsom.h"
 
 #include <malloc.h>
+#include <pthread.h>
 #include <stdio.h>
 #include <stdlib.h>
 #include <string.h>
@@ -58,6 +59,43 @@ static int64_t code_of(const uint8_t *source, size_t length, struct balvuzsom_op
     return balvuzsom_optimize(source, length, source, 0, &options, room, sizeof room, &refusal);
 }
 
+/* Whether a call refuses the options, and gives the reason with this word, at no place. */
+static int refuses(call asked, struct balvuzsom_options options, const char *word) {
+    struct balvuzsom_refusal refusal = {7, 7, 7};
+    uint8_t room[256] = {0}, none = 0;
+    int64_t code = asked(&none, 0, &none, 0, &options, room, sizeof room - 1, &refusal);
+    return code == BALVUZSOM_OPTIONS_REFUSED && refusal.line == 0 && refusal.column == 0 &&
+           refusal.length == strlen((const char *)room) && strstr((const char *)room, word) != NULL;
+}
+
+/* Whether each call refuses options that are none. */
+static int all_refuse(struct balvuzsom_options options, const char *word) {
+    return refuses(balvuzsom_optimize, options, word) && refuses(balvuzsom_check, options, word) &&
+           refuses(balvuzsom_run, options, word) && refuses(balvuzsom_merge, options, word);
+}
+
+/* Whether a run of a script reports this. */
+static int reports(const char *source, const char *wanted) {
+    struct balvuzsom_options options = BALVUZSOM_OPTIONS;
+    struct balvuzsom_refusal refusal;
+    uint8_t room[1024];
+    const uint8_t *text = (const uint8_t *)source;
+    int64_t length = balvuzsom_run(text, strlen(source), text, 0, &options, room, sizeof room, &refusal);
+    return length == (int64_t)strlen(wanted) && memcmp(room, wanted, strlen(wanted)) == 0;
+}
+
+/* Scripts whose texts would be lines and parts of a report. */
+static void forged_reports(void) {
+    want(reports("print(\"a\\n\\tcall\\tboom\");\nthrow \"x\\nend\\tvalue\\t1\\x01\";",
+                 "end\tthrown\t\"x\\nend\\tvalue\\t1\\u0001\"\nturns left\t1000\n"
+                 "call\tprint\t\"a\\n\\tcall\\tboom\"\n"),
+         "a report that no text forges");
+    want(reports("let a = #{\"k\\n\": 'x'}; a.f([1, ()]); 1..3",
+                 "end\tvalue\t1..3\nturns left\t1000\nvariable\ta\t#{\"k\\n\": 'x'}\n"
+                 "method\tf\t#{\"k\\n\": 'x'}\t[1, ()]\n"),
+         "a report of a method");
+}
+
 /* Whether a source is refused by a code, with rhai's bounds and with none. */
 static int is_refused(const uint8_t *source, size_t length, int64_t code) {
     struct balvuzsom_options options = BALVUZSOM_OPTIONS, unbounded = BALVUZSOM_OPTIONS;
@@ -81,10 +119,13 @@ static void odd_sources(void) {
         free(brackets);
     }
     options.size--;
-    want(code_of(zero, 1, options) == BALVUZSOM_OPTIONS_REFUSED, "options of another size");
+    want(all_refuse(options, "48"), "options of another size");
     options.size++;
     options.level = 3;
-    want(code_of(zero, 1, options) == BALVUZSOM_OPTIONS_REFUSED, "a level that is none");
+    want(all_refuse(options, "level"), "a level that is none");
+    options.level = 1;
+    options.flags = 2;
+    want(all_refuse(options, "flags"), "flags that are none");
 }
 
 static void many_calls(int times) {
@@ -102,6 +143,20 @@ static void many_calls(int times) {
     want(mallinfo2().uordblks == held, "many calls leave no memory behind");
 }
 
+/* Asks odd sources on a stack that is large enough for any. */
+static void *ask_odd(void *nothing) {
+    odd_sources();
+    return nothing;
+}
+
+static int with_odd_sources(void) {
+    pthread_t thread;
+    pthread_attr_t made;
+    pthread_attr_init(&made);
+    pthread_attr_setstacksize(&made, (size_t)64 << 20);
+    return pthread_create(&thread, &made, ask_odd, NULL) == 0 && pthread_join(thread, NULL) == 0;
+}
+
 int main(int count, char **words) {
     const char *script = "const A = 2 * 3;\nif A == 6 { print(A + 1); }\nfn f() { b }\n";
     want(stays_in_room(balvuzsom_optimize, script, ""), "optimize");
@@ -111,7 +166,8 @@ int main(int count, char **words) {
     want(stays_in_room(balvuzsom_check, script, ""), "check");
     want(stays_in_room(balvuzsom_run, script, ""), "run");
     want(stays_in_room(balvuzsom_merge, script, script), "merge");
-    odd_sources();
+    want(with_odd_sources(), "a thread");
+    forged_reports();
     many_calls(count > 1 ? atoi(words[1]) : 10000);
     printf("%u passed, %u failed\n", passed, failed);
     return failed != 0;

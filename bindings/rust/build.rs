@@ -1,4 +1,4 @@
-//! Links the library that `rt lib` makes in `crates/rhai_c`, and the heap of the kit that made it. It proves nothing.
+//! Links the library `crates/rhai_c/out/librhai_c.a`, and the heap of the kit that made it. It proves nothing.
 
 use std::env;
 use std::path::{Path, PathBuf};
@@ -14,7 +14,7 @@ fn main() {
     link(
         &library,
         "rhai_c",
-        "make it by `rt lib` in the folder crates/rhai_c, or name it in BALVUZSOM_LIBRARY",
+        "make it by `python3 tools/install.py library`, or name it in BALVUZSOM_LIBRARY",
     );
     link(
         &heap,

@@ -1,7 +1,8 @@
 //! The calls of the library: all that is unsafe here. What the library owes is proved; what a caller owes it is said at
 //! each `unsafe`.
 
-use crate::{Error, Level, Options, Syntax};
+use crate::stack::{on_own, Need};
+use crate::{End, Error, Level, Options, Report, Syntax};
 
 /// `struct balvuzsom_options` of bindings/c/balvuzsom.h.
 #[repr(C)]
@@ -82,34 +83,45 @@ extern "C" {
 }
 
 pub(crate) fn optimize(source: &str, options: &Options) -> Result<String, Error> {
-    asked(
-        balvuzsom_optimize,
-        source,
-        &options.constants,
-        &raw(options, 0),
-    )
+    answered(balvuzsom_optimize, source, &options.constants, options)
 }
 
 pub(crate) fn check(source: &str, options: &Options) -> Result<String, Error> {
-    asked(
-        balvuzsom_check,
-        source,
-        &options.constants,
-        &raw(options, 0),
-    )
-}
-
-pub(crate) fn run(source: &str, turns: u64, options: &Options) -> Result<String, Error> {
-    asked(
-        balvuzsom_run,
-        source,
-        &options.constants,
-        &raw(options, turns),
-    )
+    answered(balvuzsom_check, source, &options.constants, options)
 }
 
 pub(crate) fn merge(first: &str, second: &str, options: &Options) -> Result<String, Error> {
-    asked(balvuzsom_merge, first, second, &raw(options, 0))
+    answered(balvuzsom_merge, first, second, options)
+}
+
+/// What a call answers on a stack of its own.
+fn answered(call: Call, first: &str, second: &str, options: &Options) -> Result<String, Error> {
+    let (bytes, raw) = (Need::of(first, second).bytes(0), raw(options, 0));
+    on_own(bytes, || asked(call, first, second, &raw))?
+}
+
+/// What a run does. It has as many of its turns as there is a stack for: if it ends within these, so it does with more.
+pub(crate) fn run(source: &str, turns: u64, options: &Options) -> Result<Report, Error> {
+    let need = Need::of_run(source, options);
+    let mut given = turns.min(need.most_turns());
+    loop {
+        let raw = raw(options, given);
+        let work = || asked(balvuzsom_run, source, &options.constants, &raw);
+        match on_own(need.bytes(given), work) {
+            Ok(answer) => return reported(answer?, given, turns - given),
+            Err(error) if given == 0 => return Err(error),
+            Err(_) => given /= 2,
+        }
+    }
+}
+
+/// The report of a run that was given some of its turns, and not the others.
+fn reported(text: String, given: u64, others: u64) -> Result<Report, Error> {
+    let report = Report::new(text);
+    if others > 0 && report.end() == End::OutOfTurns {
+        return Err(Error::no_stack_for_turns(given));
+    }
+    Ok(report.with_more(others))
 }
 
 pub(crate) fn version() -> String {
@@ -143,7 +155,7 @@ fn raw(options: &Options, turns: u64) -> RawOptions {
 fn asked(call: Call, first: &str, second: &str, options: &RawOptions) -> Result<String, Error> {
     let mut room = first.len() + second.len() + 1024;
     loop {
-        let (answer, wanted) = asked_once(call, first, second, options, room);
+        let (answer, wanted) = asked_once(call, first, second, options, room_of(room)?);
         if wanted <= room as u64 {
             return answer;
         }
@@ -151,19 +163,28 @@ fn asked(call: Call, first: &str, second: &str, options: &RawOptions) -> Result<
     }
 }
 
-/// Makes a call with so much room. What it answers, as far as there was room, and how much room that wants.
+/// So many bytes to be written.
+fn room_of(length: usize) -> Result<Vec<u8>, Error> {
+    let mut room = Vec::new();
+    room.try_reserve_exact(length)
+        .map_err(|_| Error::no_memory())?;
+    room.resize(length, 0);
+    Ok(room)
+}
+
+/// Makes a call with a room, on a stack that is large enough. What it answers, as far as there was room, and how much room that wants.
 fn asked_once(
     call: Call,
     first: &str,
     second: &str,
     options: &RawOptions,
-    room: usize,
+    mut room: Vec<u8>,
 ) -> (Result<String, Error>, u64) {
-    let mut room = vec![0; room];
     let mut refusal = RawRefusal::default();
     // SAFETY: each pointer with a length is that of a slice that is lent for the call: texts and options to be read, the
     // room and the refusal to be written, and none overlaps another. No slice of Rust has a null pointer. The room's
-    // bytes are initialised, and any bytes may be written there. The library keeps none of the pointers.
+    // bytes are initialised, and any bytes may be written there. The library keeps none of the pointers. The stack is large
+    // enough, since `on_own` has made it so.
     let code = unsafe {
         call(
             first.as_ptr(),
@@ -193,5 +214,5 @@ fn asked_once(
 /// The text of so many bytes, as far as the room has them.
 fn text_of(mut room: Vec<u8>, length: u64) -> String {
     room.truncate(usize::try_from(length).unwrap_or(usize::MAX));
-    String::from_utf8_lossy(&room).into_owned()
+    String::from_utf8(room).unwrap_or_else(|it| String::from_utf8_lossy(it.as_bytes()).into_owned())
 }

@@ -14,7 +14,11 @@ pub enum ErrorKind {
     NoText,
     /// There was no memory.
     OutOfMemory,
-    /// The library is of another version.
+    /// There is no stack for it: no thread has as much, or the turns of a run are more than any stack is enough for.
+    Stack,
+    /// The library has none with this size, level and flags. Of options made here it is another version that says so.
+    Options,
+    /// The library answers by a code that is none: it is of another version.
     Version,
 }
 
@@ -30,6 +34,7 @@ pub struct Error {
 impl Error {
     pub(crate) fn new(code: i64, line: u32, column: u32, reason: String) -> Error {
         let kind = match code {
+            -1 => ErrorKind::Options,
             -3 => ErrorKind::Constants,
             -4 => ErrorKind::NoScript,
             -5 => ErrorKind::NoText,
@@ -42,6 +47,31 @@ impl Error {
             column,
             reason,
         }
+    }
+
+    /// An error of this kind that stands nowhere.
+    fn of(kind: ErrorKind, reason: String) -> Error {
+        Error {
+            kind,
+            line: 0,
+            column: 0,
+            reason,
+        }
+    }
+
+    pub(crate) fn no_memory() -> Error {
+        Error::of(ErrorKind::OutOfMemory, "out of memory".to_string())
+    }
+
+    pub(crate) fn no_stack(bytes: u64) -> Error {
+        let reason = format!("no stack of {bytes} bytes can be made");
+        Error::of(ErrorKind::Stack, reason)
+    }
+
+    pub(crate) fn no_stack_for_turns(turns: u64) -> Error {
+        let reason =
+            format!("the run takes more than {turns} turns, and there is no stack for more");
+        Error::of(ErrorKind::Stack, reason)
     }
 
     /// The kind.

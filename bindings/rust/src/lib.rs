@@ -4,6 +4,9 @@
 //! variables and the same calls of the host, within the same number of turns. That is proved of the library that this
 //! crate links; nothing proves this crate, which only calls it.
 //!
+//! A call works on a thread of its own, whose stack is large enough for all that its texts and options may make of it; so
+//! no call takes much of the caller's. Where there is no such thread, it is refused by [`ErrorKind::Stack`].
+//!
 //! ```
 //! let text = balvuzsom::optimize("const N = 2 * 21; print(N);", &balvuzsom::Options::default())?;
 //! assert_eq!(text, "const N = 42;\nprint(42);\n");
@@ -16,10 +19,11 @@ mod calls;
 mod error;
 mod options;
 mod report;
+mod stack;
 
 pub use error::{Error, ErrorKind};
 pub use options::{Level, Options, Syntax};
-pub use report::{End, Report};
+pub use report::{Call, End, Report};
 
 use std::fmt;
 
@@ -47,14 +51,16 @@ pub fn check_with(source: &str, options: &Options) -> Vec<Finding> {
 }
 
 /// What a run of a script does within so many turns, where each call of the host is answered by unit. A round of a loop
-/// and a call of a function of the script take a turn; calls within calls take some kilobytes of the stack each.
+/// and a call of a function of the script take a turn. Each turn may take some of the stack, more in longer scripts and in
+/// those with functions: a run that goes on beyond the turns that the largest stack is enough for is refused by
+/// [`ErrorKind::Stack`].
 pub fn run(source: &str, turns: u64) -> Result<Report, Error> {
     run_with(source, turns, &Options::default())
 }
 
 /// The same with options: a run sees their constants.
 pub fn run_with(source: &str, turns: u64, options: &Options) -> Result<Report, Error> {
-    calls::run(source, turns, options).map(Report::new)
+    calls::run(source, turns, options)
 }
 
 /// The second script behind the first, its functions in the place of those with the same name and as many parameters.

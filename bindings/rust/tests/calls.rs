@@ -1,8 +1,8 @@
 //! Calls of the library, from safe Rust.
 
 use balvuzsom::{
-    check, check_with, merge, optimize, run, run_with, version, End, ErrorKind, Finding, Level,
-    Options, Syntax,
+    check, check_with, merge, optimize, run, run_with, version, Call, End, ErrorKind, Finding,
+    Level, Options, Syntax,
 };
 
 fn simple(source: &str) -> String {
@@ -95,7 +95,12 @@ fn a_run_is_reported() {
     let report = run("let a = 1; print(a + 1); a", 10).unwrap();
     assert_eq!(report.end(), End::Value("1".to_string()));
     assert_eq!(report.turns_left(), 10);
-    assert_eq!(report.calls().collect::<Vec<_>>(), ["print(2)"]);
+    let call = Call {
+        name: "print",
+        receiver: None,
+        arguments: vec!["2"],
+    };
+    assert_eq!(report.calls().collect::<Vec<_>>(), [call]);
     assert_eq!(report.variables().collect::<Vec<_>>(), [("a", "1")]);
     assert_eq!(run("loop {}", 10).unwrap().end(), End::OutOfTurns);
     assert_eq!(
@@ -104,7 +109,7 @@ fn a_run_is_reported() {
     );
     assert_eq!(
         run("x", 10).unwrap().end(),
-        End::Stuck("1 Unbound".to_string())
+        End::Stuck("Unbound".to_string())
     );
     let options = Options {
         constants: "const x = 7;".to_string(),
@@ -112,6 +117,29 @@ fn a_run_is_reported() {
     };
     let report = run_with("fn f() { x } f()", 10, &options).unwrap();
     assert_eq!(report.end(), End::Value("7".to_string()));
+}
+
+#[test]
+fn no_text_of_a_script_forges_a_report() {
+    let text = r#""\n\tcall\tboom\nend\tvalue\t1""#;
+    let source = format!("const A = {text};\nprint(A, '\\t');\nA.f();\nexport A as b;\nthrow A;");
+    let report = run(&source, 10).unwrap();
+    assert_eq!(report.end(), End::Thrown(text.to_string()));
+    assert_eq!(report.turns_left(), 10);
+    assert_eq!(report.constants().collect::<Vec<_>>(), [("A", text)]);
+    assert_eq!(report.exports().collect::<Vec<_>>(), [("b", text)]);
+    assert_eq!(report.variables().count(), 0);
+    let called = Call {
+        name: "print",
+        receiver: None,
+        arguments: vec![text, r"'\t'"],
+    };
+    let method = Call {
+        name: "f",
+        receiver: Some(text),
+        arguments: vec![],
+    };
+    assert_eq!(report.calls().collect::<Vec<_>>(), [called, method]);
 }
 
 #[test]

@@ -8,12 +8,13 @@ use crate::options::BalvuzsomOptions;
 use base_engine::EngineInfo;
 use rhai_base::{Position, Scope};
 use rhai_run::plain_run;
-use run_host::{UnitHost, push_report};
+use run_host::UnitHost;
 use std::alloc::{AllocError, Global};
 use std::fmt::Write;
 use std::str;
 use syntax_source::{OptimizedText, Written, constants, merge, optimize_text, read};
 use tool_findings::findings;
+use tool_report::push_parts;
 
 /// The text of an optimised script.
 pub(crate) fn optimized(
@@ -24,7 +25,7 @@ pub(crate) fn optimized(
 ) -> Result<String, Failure>
     ensures { IfOk result (λ text. IsOptimized options.now source.now (string_bytes text)) }
 {
-    let (syntax, level) = (options.syntax()?, options.level()?);
+    let (syntax, level) = options.chosen()?;
     let source = text_of(source)?;
     let info = record_of(alloc, known)?;
     let OptimizedText { text, .. } = optimize_text(alloc, syntax, source, &info, level)?;
@@ -38,8 +39,8 @@ pub(crate) fn checked(
     known: &[u8],
     options: &BalvuzsomOptions,
 ) -> Result<String, Failure> {
-    let (syntax, source) = (options.syntax()?, text_of(source)?);
-    let script = read(alloc, syntax, source)?;
+    let (syntax, _) = options.chosen()?;
+    let script = read(alloc, syntax, text_of(source)?)?;
     let info = record_of(alloc, known)?;
     let mut text = String::new(alloc);
     for finding in &findings(alloc, &script, &info)? {
@@ -56,13 +57,13 @@ pub(crate) fn reported(
     known: &[u8],
     options: &BalvuzsomOptions,
 ) -> Result<String, Failure> {
-    let (syntax, source) = (options.syntax()?, text_of(source)?);
-    let script = read(alloc, syntax, source)?;
+    let (syntax, _) = options.chosen()?;
+    let script = read(alloc, syntax, text_of(source)?)?;
     let info = record_of(alloc, known)?;
     let scope = Scope::new(alloc);
     let report = plain_run(alloc, &script, &info, &UnitHost, &scope, options.turns)?;
     let mut text = String::new(alloc);
-    push_report(&report, &mut text)?;
+    push_parts(&report, &mut text)?;
     Ok(text)
 }
 
@@ -75,7 +76,7 @@ pub(crate) fn merged(
 ) -> Result<String, Failure>
     ensures { IfOk result (λ text. IsMerged options.now first.now second.now (string_bytes text)) }
 {
-    let syntax = options.syntax()?;
+    let (syntax, _) = options.chosen()?;
     let (first, second) = (text_of(first)?, text_of(second)?);
     let Written { text, .. } = merge(alloc, syntax, first, second)?;
     Ok(text)

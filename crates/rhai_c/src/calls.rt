@@ -7,7 +7,6 @@ ghost use Rattle.rhai_c.specs.Options.{IsMerged, IsOptimized};
 ghost use Rattle.rhai_c.specs.Room.{IsAnswered};
 
 use crate::asked::{checked, merged, optimized, reported};
-use crate::codes::Failure;
 use crate::options::BalvuzsomOptions;
 use crate::room::{BalvuzsomRefusal, answered, refused};
 use std::alloc::Global;
@@ -24,7 +23,7 @@ pub extern "C" fn balvuzsom_optimize(
     room: &mut [u8],
     refusal: &mut BalvuzsomRefusal,
 ) -> i64
-    ensures { IsAnswered (IsOptimized options.now source.now) room.old room.new result }
+    ensures { IsAnswered (IsOptimized options.now source.now) room.old room.new refusal.new result }
 {
     match optimized(alloc, source, known, options) {
         Ok(text) => answered(text.as_str(), room, refusal),
@@ -42,12 +41,16 @@ pub extern "C" fn balvuzsom_check(
     room: &mut [u8],
     refusal: &mut BalvuzsomRefusal,
 ) -> i64
-    ensures { IsAnswered (λ _. ⊤) room.old room.new result }
+    ensures { IsAnswered (λ _. ⊤) room.old room.new refusal.new result }
 {
-    put_answer(alloc, checked(alloc, source, known, options), room, refusal)
+    match checked(alloc, source, known, options) {
+        Ok(text) => answered(text.as_str(), room, refusal),
+        Err(why) => refused(alloc, &why, room, refusal),
+    }
 }
 
-/// What a run of a script reports, with a host that answers each call by unit, under a record of the known constants.
+/// What a run of a script reports, with a host that answers each call by unit, under a record of the known constants: a
+/// line for each thing, with a tab between its parts.
 #[unsafe(no_mangle)]
 pub extern "C" fn balvuzsom_run(
     alloc: Global,
@@ -57,14 +60,12 @@ pub extern "C" fn balvuzsom_run(
     room: &mut [u8],
     refusal: &mut BalvuzsomRefusal,
 ) -> i64
-    ensures { IsAnswered (λ _. ⊤) room.old room.new result }
+    ensures { IsAnswered (λ _. ⊤) room.old room.new refusal.new result }
 {
-    put_answer(
-        alloc,
-        reported(alloc, source, known, options),
-        room,
-        refusal,
-    )
+    match reported(alloc, source, known, options) {
+        Ok(text) => answered(text.as_str(), room, refusal),
+        Err(why) => refused(alloc, &why, room, refusal),
+    }
 }
 
 /// The text of two scripts as one.
@@ -77,7 +78,7 @@ pub extern "C" fn balvuzsom_merge(
     room: &mut [u8],
     refusal: &mut BalvuzsomRefusal,
 ) -> i64
-    ensures { IsAnswered (IsMerged options.now first.now second.now) room.old room.new result }
+    ensures { IsAnswered (IsMerged options.now first.now second.now) room.old room.new refusal.new result }
 {
     match merged(alloc, first, second, options) {
         Ok(text) => answered(text.as_str(), room, refusal),
@@ -88,21 +89,7 @@ pub extern "C" fn balvuzsom_merge(
 /// The version of the library, as `0.1.0`.
 #[unsafe(no_mangle)]
 pub extern "C" fn balvuzsom_version(room: &mut [u8], refusal: &mut BalvuzsomRefusal) -> i64
-    ensures { IsAnswered (λ _. ⊤) room.old room.new result }
+    ensures { IsAnswered (λ _. ⊤) room.old room.new refusal.new result }
 {
     answered(VERSION, room, refusal)
-}
-
-fn put_answer(
-    alloc: Global,
-    answer: Result<String, Failure>,
-    room: &mut [u8],
-    refusal: &mut BalvuzsomRefusal,
-) -> i64
-    ensures { IsAnswered (λ _. ⊤) room.old room.new result }
-{
-    match answer {
-        Ok(text) => answered(text.as_str(), room, refusal),
-        Err(why) => refused(alloc, &why, room, refusal),
-    }
 }

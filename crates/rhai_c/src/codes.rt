@@ -1,6 +1,7 @@
 //! Why a call does not answer, and its number.
 
-ghost use Rattle.std.specs.Prelude.{◌<ℤ◌, pos};
+ghost use Rattle.std.specs.Prelude.{◌≡◌, ◌<ℤ◌, pos};
+ghost use Rattle.rhai_c.specs.Codes.{code_meant, refused_code, stands_at};
 
 use rhai_base::{OutOfMemory, Position};
 use std::alloc::AllocError;
@@ -10,8 +11,12 @@ use syntax_source::{Refusal, Why};
 /// Why a call does not answer.
 #[derive(Debug, Drop)]
 pub(crate) enum Failure {
-    /// The options are none that this library knows.
-    Options,
+    /// The options are those of another version.
+    Size,
+    /// There is no such level.
+    Level,
+    /// There are no such flags.
+    Flags,
     /// A text is not in UTF-8.
     Bytes,
     /// The constants are refused.
@@ -26,10 +31,11 @@ impl Failure {
     /// Its number for a caller: -1 for options, -2 for bytes that are no text, -3 for constants, -4 for a text that is
     /// no script, -5 for a script that has no text, -6 for want of memory.
     pub(crate) fn code(&self) -> i64
-        ensures { result <ℤ pos 0 }
+        ensures negative { result <ℤ pos 0 }
+        ensures code { result ≡ code_meant self.now }
     {
         match self {
-            Failure::Options => -1,
+            Failure::Size | Failure::Level | Failure::Flags => -1,
             Failure::Bytes => -2,
             Failure::Constants(refusal) => code_of(refusal, -3),
             Failure::Text(refusal) => code_of(refusal, -4),
@@ -38,10 +44,16 @@ impl Failure {
     }
 
     /// Where it stands in its text.
-    pub(crate) fn position(&self) -> Position {
+    pub(crate) fn position(&self) -> Position
+        ensures { result ≡ stands_at self.now }
+    {
         match self {
             Failure::Constants(refusal) | Failure::Text(refusal) => refusal.position,
-            Failure::Options | Failure::Bytes | Failure::OutOfMemory => Position::NONE,
+            Failure::Size
+            | Failure::Level
+            | Failure::Flags
+            | Failure::Bytes
+            | Failure::OutOfMemory => Position::NONE,
         }
     }
 }
@@ -49,7 +61,8 @@ impl Failure {
 /// The number of a refusal, where that of another one is this.
 fn code_of(refusal: &Refusal, otherwise: i64) -> i64
     requires { otherwise <ℤ pos 0 }
-    ensures { result <ℤ pos 0 }
+    ensures negative { result <ℤ pos 0 }
+    ensures code { result ≡ refused_code otherwise refusal.now.why }
 {
     match &refusal.why {
         Why::OutOfMemory => -6,
@@ -62,7 +75,9 @@ fn code_of(refusal: &Refusal, otherwise: i64) -> i64
 impl Display for Failure {
     fn fmt<W: Write>(&self, f: &mut fmt::Formatter<W>) -> fmt::Result {
         match self {
-            Failure::Options => f.write_str("these options are of another version"),
+            Failure::Size => f.write_str("the options should have a size of 48"),
+            Failure::Level => f.write_str("there is no such level: 0, 1 and 2 are"),
+            Failure::Flags => f.write_str("there are no such flags: 0 and 1 are"),
             Failure::Bytes => f.write_str("the text is not in UTF-8"),
             Failure::Constants(refusal) | Failure::Text(refusal) => write!(f, "{}", refusal.why),
             Failure::OutOfMemory => f.write_str("out of memory"),

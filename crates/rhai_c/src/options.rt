@@ -32,17 +32,37 @@ pub struct BalvuzsomOptions {
 const SIZE: u64 = 48;
 
 impl BalvuzsomOptions {
-    /// How texts are written. Refused where the struct is another one.
-    pub(crate) fn syntax(&self) -> Result<Syntax, Failure>
-        ensures { IfOk result (IsSyntax self.now.flags) }
+    /// How texts are written, and how much is optimised. Refused where the struct is another one, or has a level or flags
+    /// that are none.
+    pub(crate) fn chosen(&self) -> Result<(Syntax, OptimizationLevel), Failure>
+        ensures syntax { IfOk result (λ c. IsSyntax self.now.flags c.0) }
+        ensures level { IfOk result (λ c. IsLevel self.now.level c.1) }
     {
         if self.size != SIZE {
-            return Err(Failure::Options);
+            return Err(Failure::Size);
         }
+        let level = self.level()?;
+        Ok((self.syntax()?, level))
+    }
+
+    fn level(&self) -> Result<OptimizationLevel, Failure>
+        ensures { IfOk result (IsLevel self.now.level) }
+    {
+        match self.level {
+            0 => Ok(OptimizationLevel::None),
+            1 => Ok(OptimizationLevel::Simple),
+            2 => Ok(OptimizationLevel::Full),
+            _ => Err(Failure::Level),
+        }
+    }
+
+    fn syntax(&self) -> Result<Syntax, Failure>
+        ensures { IfOk result (IsSyntax self.now.flags) }
+    {
         match self.flags {
             0 => Ok(Syntax::Rhai(self.bounds())),
             1 => Ok(Syntax::Notation),
-            _ => Err(Failure::Options),
+            _ => Err(Failure::Flags),
         }
     }
 
@@ -52,18 +72,6 @@ impl BalvuzsomOptions {
             max_function_expr_depth: self.max_function_expr_depth as usize,
             max_string_size: self.max_string_size as usize,
             first_closure: 1,
-        }
-    }
-
-    /// How much is optimised.
-    pub(crate) fn level(&self) -> Result<OptimizationLevel, Failure>
-        ensures { IfOk result (IsLevel self.now.level) }
-    {
-        match self.level {
-            0 => Ok(OptimizationLevel::None),
-            1 => Ok(OptimizationLevel::Simple),
-            2 => Ok(OptimizationLevel::Full),
-            _ => Err(Failure::Options),
         }
     }
 }

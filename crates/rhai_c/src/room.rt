@@ -1,7 +1,8 @@
 //! What is written into a caller's room.
 
 ghost use Rattle.std.specs.Prelude.{◌≡◌};
-ghost use Rattle.rhai_c.specs.Room.{IsAnswered, IsRefused, put_in};
+ghost use Rattle.rhai_c.specs.Codes.{code_meant, stands_at};
+ghost use Rattle.rhai_c.specs.Room.{IsAnswered, IsRefused, put_in, shown};
 
 use crate::codes::Failure;
 use std::alloc::Global;
@@ -28,15 +29,20 @@ fn put(text: &[u8], room: &mut [u8])
 
 /// Answers with a text.
 pub(crate) fn answered(text: &str, room: &mut [u8], refusal: &mut BalvuzsomRefusal) -> i64
-    ensures { IsAnswered (λ said. said ≡ text.now) room.old room.new result }
+    ensures { IsAnswered (λ said. said ≡ text.now) room.old room.new refusal.new result }
 {
-    put(text.as_bytes(), room);
-    *refusal = BalvuzsomRefusal {
-        line: 0,
-        column: 0,
-        length: 0,
-    };
-    i64::try_from(text.len()).unwrap_or(-6)
+    match i64::try_from(text.len()) {
+        Ok(length) => {
+            put(text.as_bytes(), room);
+            *refusal = BalvuzsomRefusal {
+                line: 0,
+                column: 0,
+                length: 0,
+            };
+            length
+        }
+        Err(_) => because("out of memory", &Failure::OutOfMemory, room, refusal),
+    }
 }
 
 /// Answers with a code, and its reason.
@@ -46,7 +52,8 @@ pub(crate) fn refused(
     room: &mut [u8],
     refusal: &mut BalvuzsomRefusal,
 ) -> i64
-    ensures { IsRefused room.old room.new result }
+    ensures refused { IsRefused (stands_at why.now) room.old room.new refusal.new result }
+    ensures code { result ≡ code_meant why.now }
 {
     match format!(in alloc; "{why}") {
         Ok(reason) => because(reason.as_str(), why, room, refusal),
@@ -55,19 +62,22 @@ pub(crate) fn refused(
 }
 
 fn because(reason: &str, why: &Failure, room: &mut [u8], refusal: &mut BalvuzsomRefusal) -> i64
-    ensures { IsRefused room.old room.new result }
+    ensures refused { IsRefused (stands_at why.now) room.old room.new refusal.new result }
+    ensures code { result ≡ code_meant why.now }
 {
     put(reason.as_bytes(), room);
     *refusal = BalvuzsomRefusal {
         line: small(why.position().line()),
         column: small(why.position().position()),
-        length: u64::try_from(reason.len()).unwrap_or(u64::MAX),
+        length: reason.len() as u64,
     };
     why.code()
 }
 
 /// A line or a column; 0 for none.
-fn small(number: Option<usize>) -> u32 {
+fn small(number: Option<usize>) -> u32
+    ensures { result ≡ shown number }
+{
     match number {
         Some(number) => u32::try_from(number).unwrap_or(u32::MAX),
         None => 0,

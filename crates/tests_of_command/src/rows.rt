@@ -13,9 +13,9 @@ pub(crate) fn ask(alloc: Global, rows: &str) -> Result<String, AllocError> {
     let mut said = String::new(alloc);
     let (mut met, mut cuts): (usize, usize) = (0, 0);
     for block in blocks_of(alloc, rows)? {
-        let whole = tell(alloc, block, usize::MAX)?;
+        let (whole, written) = tell(alloc, block, usize::MAX)?;
         let cut = cuts_of(alloc, block, &whole)?;
-        let told = text_of(alloc, &whole)?;
+        let told = text_of(alloc, &whole, written.as_str())?;
         if told.as_str().trim() == block.wanted.trim() && cut.is_some() {
             met = met.saturating_add(1);
             cuts = cuts.saturating_add(cut.unwrap_or(0));
@@ -27,20 +27,18 @@ pub(crate) fn ask(alloc: Global, rows: &str) -> Result<String, AllocError> {
     Ok(said)
 }
 
-/// What the command tells where either side has room for so many bytes.
-fn tell(alloc: Global, block: Block<'_>, room: usize) -> Result<Told, AllocError> {
+/// What the command tells where either side has room for so many bytes, and what it writes to files.
+fn tell(alloc: Global, block: Block<'_>, room: usize) -> Result<(Told, String), AllocError> {
     let mut words = Vec::new(alloc);
     for word in block.head.split_whitespace() {
         words.push(String::from_str(alloc, word)?)?;
     }
-    let mut shelf = Shelf {
-        alloc,
-        text: block.text,
-    };
+    let mut shelf = Shelf::new(alloc, block.text);
     let mut out = Stops::new(alloc, room, true);
     let mut err = Stops::new(alloc, room, true);
     let status = run_words(alloc, words.as_slice(), &mut shelf, &mut out, &mut err);
-    Ok(Told { status, out, err })
+    let written = String::from_str(alloc, shelf.written())?;
+    Ok((Told { status, out, err }, written))
 }
 
 /// In how many cases there was less room, some forty of a long answer, if each of them ended with status 2 and wrote a
@@ -50,7 +48,7 @@ fn cuts_of(alloc: Global, block: Block<'_>, whole: &Told) -> Result<Option<usize
     let mut cuts: usize = 0;
     for room in (0..most).step_by(most / 40 + 1) {
         cuts = cuts.saturating_add(1);
-        let cut = tell(alloc, block, room)?;
+        let (cut, _) = tell(alloc, block, room)?;
         if cut.status != 2 || !cut.begins(whole) {
             return Ok(None);
         }
@@ -58,12 +56,15 @@ fn cuts_of(alloc: Global, block: Block<'_>, whole: &Told) -> Result<Option<usize
     Ok(Some(cuts))
 }
 
-fn text_of(alloc: Global, told: &Told) -> Result<String, AllocError> {
+/// What was told in print, with `\r` as these two letters.
+fn text_of(alloc: Global, told: &Told, written: &str) -> Result<String, AllocError> {
     let out = str::from_utf8(told.out.taken.as_slice()).unwrap_or("no text");
     let err = str::from_utf8(told.err.taken.as_slice()).unwrap_or("no text");
     let mut text = format!(in alloc; "status {}\n{out}", told.status)?;
     for line in err.lines() {
-        writeln!(text, "! {line}")?;
+        let space = if line.is_empty() { "" } else { " " };
+        writeln!(text, "!{space}{line}")?;
     }
-    Ok(text)
+    text.push_str(written)?;
+    text.as_str().replace(alloc, "\r", "\\r")
 }

@@ -1,26 +1,34 @@
 //! What is answered of a file.
 
+use crate::constants::push_idle;
 use crate::diff::push_diff;
-use crate::request::{Action, Request};
-use base_engine::EngineInfo;
+use crate::line_ends::ended_as;
+use crate::marks::push_mark;
+use crate::places::{push_json, push_place};
+use crate::request::{Action, Target};
+use crate::runs::{Stop, has_value, run, stopped_at};
+use crate::stack::turns_borne;
+use crate::task::Task;
 use notation_print::push_script;
-use rhai_base::{OutOfMemory, Position, Scope};
-use rhai_run::plain_run;
+use rhai_base::{OutOfMemory, Position};
 use rhai_script::AST;
-use run_host::{UnitHost, push_report};
+use run_host::RunEnd;
 use std::alloc::{AllocError, Global};
-use std::fmt::Write;
-use syntax_source::{OptimizedText, Refusal, Why, entered, optimize_text, read};
+use std::fmt::{Display, Write};
+use syntax_source::{OptimizedText, Refusal, Why, optimize_text, read};
 use tool_findings::findings;
+use tool_report::push_parts;
 
 /// What is said of a file.
 #[derive(Drop)]
 pub(crate) struct Answer {
     /// What is asked for.
     pub(crate) said: String,
-    /// Why it is not.
-    pub(crate) refused: String,
-    /// Whether something was found or refused.
+    /// What is said beside it: why it is not there, where a run stops, what is idle.
+    pub(crate) noted: String,
+    /// The text that is to be written to a file.
+    pub(crate) made: Option<String>,
+    /// Whether something was found or refused, or a run stopped.
     pub(crate) is_found: bool,
 }
 
@@ -28,126 +36,176 @@ impl Answer {
     fn new(alloc: Global) -> Answer {
         Answer {
             said: String::new(alloc),
-            refused: String::new(alloc),
+            noted: String::new(alloc),
+            made: None,
             is_found: false,
         }
     }
 }
 
-/// What a request is answered for the text of a file of this name, under this record.
-pub(crate) fn answered(
-    alloc: Global,
-    request: &Request<'_>,
-    info: &EngineInfo,
-    name: &str,
-    text: &str,
-) -> Result<Answer, OutOfMemory> {
-    let mut answer = Answer::new(alloc);
-    match said(alloc, request, info, name, text, &mut answer) {
-        Ok(()) => Ok(answer),
-        Err(
-            Refusal {
-                why: Why::OutOfMemory,
-                ..
-            },
-        ) => Err(OutOfMemory),
-        Err(Refusal { why, position }) => {
-            let mut refused = Answer::new(alloc);
-            push_place(name, position, &mut refused.refused)?;
-            writeln!(refused.refused, "{why}")?;
-            refused.is_found = true;
-            Ok(refused)
+/// A file that is asked about.
+#[derive(Clone, Copy)]
+pub(crate) struct Question<'q, 'a> {
+    pub(crate) task: &'q Task<'a>,
+    pub(crate) name: &'q str,
+    pub(crate) text: &'q str,
+}
+
+impl<'q, 'a> Question<'q, 'a> {
+    /// What is answered.
+    pub(crate) fn answered(&self) -> Result<Answer, OutOfMemory> {
+        let alloc = self.task.alloc;
+        let mut answer = Answer::new(alloc);
+        match self.ask(&mut answer) {
+            Ok(()) => Ok(answer),
+            Err(
+                Refusal {
+                    why: Why::OutOfMemory,
+                    ..
+                },
+            ) => Err(OutOfMemory),
+            Err(refusal) => Ok(self.refused(&refusal)?),
         }
     }
-}
 
-fn said(
-    alloc: Global,
-    request: &Request<'_>,
-    info: &EngineInfo,
-    name: &str,
-    text: &str,
-    answer: &mut Answer,
-) -> Result<(), Refusal> {
-    match request.action {
-        Action::Optimize => said_optimized(alloc, request, info, name, text, answer),
-        Action::Check => said_found(alloc, request, info, name, text, answer),
-        Action::Run => said_run(alloc, request, info, text, answer),
-        Action::Tree => {
-            let script = read(alloc, request.syntax, text)?;
-            Ok(push_script(&script, &mut answer.said)?)
+    fn refused(&self, refusal: &Refusal) -> Result<Answer, AllocError> {
+        let mut refused = Answer::new(self.task.alloc);
+        if self.task.request.json {
+            self.find(refusal.position, &refusal.why, &mut refused)?;
+        } else {
+            self.note(refusal.position, &refusal.why, &mut refused)?;
+        }
+        Ok(refused)
+    }
+
+    fn ask(&self, answer: &mut Answer) -> Result<(), Refusal> {
+        match self.task.request.action {
+            Action::Optimize => self.optimize(answer),
+            Action::Check => self.check(answer),
+            Action::Run => self.run(answer),
+            Action::Tree => {
+                let script = self.script()?;
+                Ok(push_script(&script, &mut answer.said)?)
+            }
         }
     }
-}
 
-fn said_optimized(
-    alloc: Global,
-    request: &Request<'_>,
-    info: &EngineInfo,
-    name: &str,
-    text: &str,
-    answer: &mut Answer,
-) -> Result<(), Refusal> {
-    let OptimizedText { text: made, .. } = optimize_text(
-        alloc,
-        request.syntax,
-        text,
-        info,
-        request.level,
-    )?;
-    if request.diff {
-        Ok(push_diff(alloc, name, text, made.as_str(), &mut answer.said)?)
-    } else {
-        Ok(answer.said.push_str(made.as_str())?)
+    fn script(&self) -> Result<AST, Refusal> {
+        read(self.task.alloc, self.task.request.syntax, self.text)
     }
-}
 
-fn said_found(
-    alloc: Global,
-    request: &Request<'_>,
-    info: &EngineInfo,
-    name: &str,
-    text: &str,
-    answer: &mut Answer,
-) -> Result<(), Refusal> {
-    let script = read(alloc, request.syntax, text)?;
-    for finding in &findings(alloc, &script, info)? {
-        push_place(name, finding.position, &mut answer.said)?;
-        writeln!(answer.said, "{finding}")?;
+    fn optimize(&self, answer: &mut Answer) -> Result<(), Refusal> {
+        let alloc = self.task.alloc;
+        let request = &self.task.request;
+        let info = &self.task.info;
+        let OptimizedText { given, text, .. } = optimize_text(
+            alloc,
+            request.syntax,
+            self.text,
+            info,
+            request.level,
+        )?;
+        push_idle(self.name, &given, info, &mut answer.noted)?;
+        let made = ended_as(alloc, request.syntax, self.text, text)?;
+        if request.diff {
+            push_diff(alloc, self.name, self.text, made.as_str(), &mut answer.said)?;
+        }
+        match request.target {
+            Target::Out if !request.diff => answer.said.push_str(made.as_str())?,
+            Target::File(_) => answer.made = Some(made),
+            Target::InPlace if made.as_str() != self.text => answer.made = Some(made),
+            Target::Out | Target::InPlace => {}
+        }
+        Ok(())
+    }
+
+    fn check(&self, answer: &mut Answer) -> Result<(), Refusal> {
+        let script = self.script()?;
+        let info = &self.task.info;
+        push_idle(self.name, &script, info, &mut answer.noted)?;
+        for finding in &findings(self.task.alloc, &script, info)? {
+            self.find(finding.position, finding, answer)?;
+        }
+        Ok(())
+    }
+
+    /// Says what was found at a place.
+    fn find<T: Display>(
+        &self,
+        position: Position,
+        what: &T,
+        answer: &mut Answer,
+    ) -> Result<(), AllocError> {
         answer.is_found = true;
-    }
-    Ok(())
-}
-
-fn said_run(
-    alloc: Global,
-    request: &Request<'_>,
-    info: &EngineInfo,
-    text: &str,
-    answer: &mut Answer,
-) -> Result<(), Refusal> {
-    let script = run_script(alloc, request, text)?;
-    let scope = Scope::new(alloc);
-    let report = plain_run(alloc, &script, info, &UnitHost, &scope, request.turns)?;
-    Ok(push_report(&report, &mut answer.said)?)
-}
-
-/// The script whose statements are run.
-fn run_script(alloc: Global, request: &Request<'_>, text: &str) -> Result<AST, Refusal> {
-    let script = read(alloc, request.syntax, text)?;
-    match request.entry {
-        Some(name) => entered(alloc, &script, name),
-        None => Ok(script),
-    }
-}
-
-/// Where something stands: `FILE:LINE:COLUMN: `, or `FILE: ` of what stands nowhere.
-fn push_place(name: &str, position: Position, to: &mut String) -> Result<(), AllocError> {
-    match position.line() {
-        None => write!(to, "{name}: "),
-        Some(line) => {
-            let column = position.position().unwrap_or(0);
-            write!(to, "{name}:{line}:{column}: ")
+        if self.task.request.json {
+            return push_json(self.task.alloc, self.name, position, what, &mut answer.said);
         }
+        self.put(position, what, &mut answer.said)
+    }
+
+    /// Notes beside the answer what was found at a place.
+    fn note<T: Display>(
+        &self,
+        position: Position,
+        what: &T,
+        answer: &mut Answer,
+    ) -> Result<(), AllocError> {
+        answer.is_found = true;
+        self.put(position, what, &mut answer.noted)
+    }
+
+    /// Appends what is said of a place, and the line with a mark under it.
+    fn put<T: Display>(
+        &self,
+        position: Position,
+        what: &T,
+        to: &mut String,
+    ) -> Result<(), AllocError> {
+        push_place(self.name, position, to)?;
+        writeln!(to, "{what}")?;
+        push_mark(self.text, position, to)
+    }
+
+    fn run(&self, answer: &mut Answer) -> Result<(), Refusal> {
+        let script = self.script()?;
+        push_idle(self.name, &script, &self.task.info, &mut answer.noted)?;
+        let Some(entry) = &self.task.entry else {
+            return Ok(self.report(&script, None, answer)?);
+        };
+        match entry.of(&script)? {
+            Some((entered, place)) => Ok(self.report(&entered, Some(place), answer)?),
+            None => Ok(self.note(Position::NONE, &entry.missing(), answer)?),
+        }
+    }
+
+    /// Runs statements, reports, and notes where the run stops: at this place, or at the statement that it does not get
+    /// past.
+    fn report(
+        &self,
+        script: &AST,
+        place: Option<Position>,
+        answer: &mut Answer,
+    ) -> Result<(), OutOfMemory> {
+        let (alloc, info) = (self.task.alloc, &self.task.info);
+        let turns = self.task.request.turns;
+        let borne = turns_borne(alloc, script, turns)?;
+        let mut report = run(alloc, script, info, borne)?;
+        if report.run_end != RunEnd::OutOfTurns {
+            let spared = turns.saturating_sub(borne);
+            report.turns_left = report.turns_left.saturating_add(spared);
+        }
+        push_parts(&report, &mut answer.said)?;
+        if has_value(&report) {
+            return Ok(());
+        }
+        let position = match place {
+            Some(place) => place,
+            None => stopped_at(alloc, script, info, borne)?,
+        };
+        let stop = Stop {
+            end: &report.run_end,
+            borne: (borne < turns).then_some(borne),
+        };
+        Ok(self.note(position, &stop, answer)?)
     }
 }

@@ -2,12 +2,22 @@
 #![tactic(auto)]
 
 mod answer;
+mod bad_value;
 mod command;
+mod constants;
 mod diff;
+mod entry;
 mod files;
-mod help;
+mod folders;
+mod line_ends;
+mod marks;
+mod places;
+mod reach;
 mod request;
+mod runs;
+mod stack;
+mod task;
+mod words;
 
 pub use command::run_words;
-pub use files::Files;
-pub use request::{Action, Request, WordsError};
+pub use files::{Files, Found};
